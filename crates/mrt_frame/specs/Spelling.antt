@@ -1,0 +1,55 @@
+-- How the records of a file are spelled (RFC 6396, section 2), and the law that a file is cut into exactly the records
+-- that it spells.
+use Rattle.std.specs.Prelude.{◌≡◌, ◌↔◌, ℕ, ◌+◌, ◌^◌, ◌<◌, ◌≤◌, IsTrue, List, [], ◌∷◌, ◌++◌, length}
+use Rattle.mrt_frame.specs.declared.header.At.{At}
+use Rattle.mrt_frame.specs.Records.{Record, End, Well, HeadCut, TooManyBytes, Oversize, BodyCut, is_read, kind_in, subtype_in, length_in, behind, start, cut}
+
+-- twelve octets are the header of this record; their first four, its timestamp, are free
+pub record IsHeader (header : List ℕ) (r : Record) : Type 0 where
+  pub octets : length header ≡ 12
+  pub kind : kind_in header ≡ r.kind
+  pub subtype : subtype_in header ≡ r.subtype
+  pub len : length_in header ≡ length r.body
+
+-- the octets are the record, spelled as its header and its body, and then the rest
+pub record Spells (octets : List ℕ) (r : Record) (rest : List ℕ) : Type 0 where
+  pub header : List ℕ
+  pub is_header : IsHeader header r
+  pub spelled : octets ≡ header ++ r.body ++ rest
+
+-- the record ends within the bound on a file, and it is not too long if it is one that is read
+pub record IsWithin (r : Record) : Type 0 where
+  pub file : r.at.offset + 12 + length r.body ≤ 2 ^ 40
+  pub body : IsTrue (is_read r.kind r.subtype) → length r.body ≤ 2 ^ 26
+
+-- where the record would end whose header stands at this place
+abbrev pub end_in : At → List ℕ → ℕ
+end_in at octets = at.offset + 12 + length_in octets
+
+-- no record stands at this place, for this reason
+abbrev pub IsEnd : At → List ℕ → End → Type 0
+IsEnd at octets Well = octets ≡ []
+IsEnd at octets (HeadCut a) = (a ≡ at) × (0 < length octets) × (length octets < 12)
+IsEnd at octets TooManyBytes = (12 ≤ length octets) × (2 ^ 40 < end_in at octets)
+IsEnd at octets (Oversize a) =
+    (a ≡ at) × (12 ≤ length octets) × (end_in at octets ≤ 2 ^ 40) × IsTrue (is_read (kind_in octets) (subtype_in octets)) × (2 ^ 26 < length_in octets)
+IsEnd at octets (BodyCut a) =
+    (a ≡ at) × (12 ≤ length octets) × (end_in at octets ≤ 2 ^ 40) × (IsTrue (is_read (kind_in octets) (subtype_in octets)) → length_in octets ≤ 2 ^ 26) × (length octets < 12 + length_in octets)
+
+-- from this place on, the octets spell these records one behind the other, and then there is this end
+abbrev pub AreSpelled : At → List ℕ → List Record → End → Type 0
+AreSpelled at octets [] end = IsEnd at octets end
+AreSpelled at octets (r ∷ records) end =
+    (rest : List ℕ) × (r.at ≡ at) × IsWithin r × Spells octets r rest × AreSpelled (behind r) rest records end
+
+-- a file is cut into these records with this end exactly if it spells them and then has this end
+abbrev pub SpellingLaw : Type 0
+SpellingLaw =
+    (octets : List ℕ) (records : List Record) (end : End) →
+    (cut octets ≡ record { records = records; end = end }) ↔ AreSpelled start octets records end
+
+-- what a file spells is one list of records, with one end
+abbrev pub OneReadingLaw : Type 0
+OneReadingLaw =
+    (octets : List ℕ) (records others : List Record) (end other : End) →
+    AreSpelled start octets records end → AreSpelled start octets others other → (records ≡ others) × (end ≡ other)

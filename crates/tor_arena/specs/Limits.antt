@@ -1,0 +1,6 @@
+-- How many things of one kind there may be.
+use Rattle.std.specs.Prelude.{ℕ}
+
+-- 2 ^ 28, more than any input within the limits of the product has of one kind
+abbrev pub most_places : ℕ
+most_places = 268435456

@@ -1,0 +1,34 @@
+use crate::list::List;
+
+/// The end of an edge that is the provider: the lower or the higher number of its two.
+#[derive(Clone, Copy, Debug, PartialEq, Eq)]
+pub enum End {
+    Low,
+    High,
+}
+
+/// The label of an edge: which end is the provider, or that the two are peers.
+#[derive(Clone, Copy, Debug, PartialEq, Eq)]
+pub enum Label {
+    Low,
+    High,
+    Peer,
+}
+
+/// Where three consecutive systems of a walk stand on a path.
+#[derive(Clone, Copy, Debug, PartialEq, Eq)]
+pub struct Link {
+    /// The number of the path, from 1.
+    pub path: u32,
+    /// The place on the path, from 1, of the middle one of the three.
+    pub at: u32,
+}
+
+/// A walk over autonomous systems, with a link for each three consecutive ones of it.
+#[derive(Debug, Drop)]
+pub struct Walk {
+    /// The AS numbers, in order.
+    pub ases: List<u32>,
+    /// The links, in the order of the threes that they are for.
+    pub links: List<Link>,
+}

@@ -1,0 +1,12 @@
+ghost use Rattle.std.specs.Prelude.{◌≡◌, length, take, drop, min};
+
+/// Copies as many of the bytes as fit to the front of the buffer, and answers how many.
+pub(crate) fn copy_front(buf: &mut [u8], bytes: &[u8]) -> usize
+    ensures count { result ≡ min (length buf.old) (length bytes.now) }
+    ensures front { take result buf.new ≡ take result bytes.now }
+    ensures rest { drop result buf.new ≡ drop result buf.old }
+{
+    let count = buf.len().min(bytes.len());
+    buf[..count].copy_from_slice(&bytes[..count]);
+    count
+}
