@@ -19,8 +19,8 @@ no_octet : (at : At) (end : End) → IsEnd at [] end → Well ≡ end
 no_octet at Well is = refl
 no_octet at (HeadCut a) is = absurd (omega (arith, is.1))
 no_octet at TooManyBytes is = absurd (omega (arith, is.0))
-no_octet at (Oversize a) is = absurd (omega (arith, is.1))
-no_octet at (BodyCut a) is = absurd (omega (arith, is.1))
+no_octet at (Oversize a) is = absurd (omega (arith, is.1.header))
+no_octet at (BodyCut a) is = absurd (omega (arith, is.1.header))
 
 pub holds_then : (n : ℕ) (at : At) (octets : List ℕ) (r : Record) (rest : List ℕ) → next_of at octets ≡ Holds r rest → cut_within (suc n) at octets ≡ onto r (cut_within n (behind r) rest)
 unfolding cut_within

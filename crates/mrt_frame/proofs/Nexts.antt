@@ -59,10 +59,10 @@ body_is at octets whole =
     by_tests true long short f l s = (whole, ltb-true _ _ f)
     by_tests false true short f l s =
         let p = and_parts (is_read (kind_in octets) (subtype_in octets)) (ltb (2 ^ 26) (length_in octets)) l in
-        (refl, whole, ltb-false _ _ f, p.0, ltb-true _ _ p.1)
+        (refl, record { header = whole; file = ltb-false _ _ f }, p.0, ltb-true _ _ p.1)
     by_tests false false true f l s =
         let cut : length (drop 12 octets) < length_in octets = ltb-true _ _ s in
-        (refl, whole, ltb-false _ _ f, (λ read. ltb-false _ _ (not_both (is_read (kind_in octets) (subtype_in octets)) (ltb (2 ^ 26) (length_in octets)) l read)), omega (arith, length-drop 12 octets))
+        (refl, record { header = whole; file = ltb-false _ _ f }, (λ read. ltb-false _ _ (not_both (is_read (kind_in octets) (subtype_in octets)) (ltb (2 ^ 26) (length_in octets)) l read)), omega (arith, length-drop 12 octets))
     by_tests false false false f l s =
         holds_is at octets whole (ltb-false _ _ f) (λ read. ltb-false _ _ (not_both (is_read (kind_in octets) (subtype_in octets)) (ltb (2 ^ 26) (length_in octets)) l read)) (ltb-false _ _ s)
 
@@ -114,10 +114,10 @@ is_next at octets (Ends Well) is = ap (next_of at) is
 is_next at octets (Ends (HeadCut a)) is = head_cut at a octets is.0 is.1 is.2
 is_next at octets (Ends TooManyBytes) is = whole_header at octets is.0 ∙ rw (lt-ltb (2 ^ 40) (at.offset + 12 + length_in octets) is.1) refl
 is_next at octets (Ends (Oversize a)) is =
-    whole_header at octets is.1
-    ∙ rw (le-ltb (2 ^ 40) (at.offset + 12 + length_in octets) is.2, and_from (is_read (kind_in octets) (subtype_in octets)) (ltb (2 ^ 26) (length_in octets)) is.3 (lt-ltb (2 ^ 26) (length_in octets) is.4)) (ap (λ (p : At). Ends (Oversize p)) (sym is.0))
+    whole_header at octets is.1.header
+    ∙ rw (le-ltb (2 ^ 40) (at.offset + 12 + length_in octets) is.1.file, and_from (is_read (kind_in octets) (subtype_in octets)) (ltb (2 ^ 26) (length_in octets)) is.2 (lt-ltb (2 ^ 26) (length_in octets) is.3)) (ap (λ (p : At). Ends (Oversize p)) (sym is.0))
 is_next at octets (Ends (BodyCut a)) is =
     let short : length (drop 12 octets) < length_in octets = omega (arith, length-drop 12 octets) in
-    whole_header at octets is.1
-    ∙ rw (le-ltb (2 ^ 40) (at.offset + 12 + length_in octets) is.2, small_enough (kind_in octets) (subtype_in octets) (length_in octets) is.3, lt-ltb (length (drop 12 octets)) (length_in octets) short) (ap (λ (p : At). Ends (BodyCut p)) (sym is.0))
+    whole_header at octets is.1.header
+    ∙ rw (le-ltb (2 ^ 40) (at.offset + 12 + length_in octets) is.1.file, small_enough (kind_in octets) (subtype_in octets) (length_in octets) is.2, lt-ltb (length (drop 12 octets)) (length_in octets) short) (ap (λ (p : At). Ends (BodyCut p)) (sym is.0))
 is_next at octets (Holds r rest) is = ap (next_of at) is.spelled.spelled ∙ holds_next at r is.spelled.header rest is.placed is.within is.spelled.is_header

@@ -22,19 +22,23 @@ pub record IsWithin (r : Record) : Type 0 where
   pub file : r.at.offset + 12 + length r.body ≤ 2 ^ 40
   pub body : IsTrue (is_read r.kind r.subtype) → length r.body ≤ 2 ^ 26
 
--- where the record would end whose header stands at this place
-abbrev pub end_in : At → List ℕ → ℕ
-end_in at octets = at.offset + 12 + length_in octets
+-- a whole header stands at this place, and its record would end within the bound on a file
+pub record IsNear (at : At) (octets : List ℕ) : Type 0 where
+  pub header : 12 ≤ length octets
+  pub file : at.offset + 12 + length_in octets ≤ 2 ^ 40
+
+-- the header that stands in front is that of a record that is read
+abbrev pub IsRead : List ℕ → Type 0
+IsRead octets = IsTrue (is_read (kind_in octets) (subtype_in octets))
 
 -- no record stands at this place, for this reason
 abbrev pub IsEnd : At → List ℕ → End → Type 0
 IsEnd at octets Well = octets ≡ []
 IsEnd at octets (HeadCut a) = (a ≡ at) × (0 < length octets) × (length octets < 12)
-IsEnd at octets TooManyBytes = (12 ≤ length octets) × (2 ^ 40 < end_in at octets)
-IsEnd at octets (Oversize a) =
-    (a ≡ at) × (12 ≤ length octets) × (end_in at octets ≤ 2 ^ 40) × IsTrue (is_read (kind_in octets) (subtype_in octets)) × (2 ^ 26 < length_in octets)
+IsEnd at octets TooManyBytes = (12 ≤ length octets) × (2 ^ 40 < at.offset + 12 + length_in octets)
+IsEnd at octets (Oversize a) = (a ≡ at) × IsNear at octets × IsRead octets × (2 ^ 26 < length_in octets)
 IsEnd at octets (BodyCut a) =
-    (a ≡ at) × (12 ≤ length octets) × (end_in at octets ≤ 2 ^ 40) × (IsTrue (is_read (kind_in octets) (subtype_in octets)) → length_in octets ≤ 2 ^ 26) × (length octets < 12 + length_in octets)
+    (a ≡ at) × IsNear at octets × (IsRead octets → length_in octets ≤ 2 ^ 26) × (length octets < 12 + length_in octets)
 
 -- from this place on, the octets spell these records one behind the other, and then there is this end
 abbrev pub AreSpelled : At → List ℕ → List Record → End → Type 0
@@ -42,7 +46,8 @@ AreSpelled at octets [] end = IsEnd at octets end
 AreSpelled at octets (r ∷ records) end =
     (rest : List ℕ) × (r.at ≡ at) × IsWithin r × Spells octets r rest × AreSpelled (behind r) rest records end
 
--- a file is cut into these records with this end exactly if it spells them and then has this end
+-- a file is cut into these records with this end exactly if it spells them and then has this end; with the end Well, it
+-- is their spelling and nothing else
 abbrev pub SpellingLaw : Type 0
 SpellingLaw =
     (octets : List ℕ) (records : List Record) (end : End) →

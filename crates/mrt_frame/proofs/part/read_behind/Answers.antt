@@ -1,4 +1,4 @@
-use Rattle.std.proofs.Common.{◌≡◌, ◌≤◌, ◌+◌, ◌-◌, length, take, drop, ◌∙◌, arith, sym}
+use Rattle.std.proofs.Common.{◌≡◌, ◌≤◌, ◌+◌, ◌-◌, length, take, drop, arith, sym}
 use Rattle.std.proofs.lemmas.List.{length-take}
 use Rattle.mrt_frame.proofs.Parts.{written_behind, resized_front}
 use Rattle.mrt_frame.proofs.part.read_behind.Goals as goal
@@ -10,7 +10,7 @@ returns-clause-taken g c =
     let start = c.len-start.result in
     let count = c.in_ok-count.count in
     let size : start ≡ length old = omega arith in
-    let front : take start c.deref_mut.result.now ≡ old = resized_front old c.deref_mut.result.now _ start c.args.most size (c.deref_mut.ensures.value ∙ c.in_ok-resize.ensures.items) in
+    let front : take start c.deref_mut.result.now ≡ old = resized_front old c.resize.new.self.items c.deref_mut.result.now _ start c.args.most size c.deref_mut.ensures.value c.in_ok-resize.ensures.items in
     let within : start + count ≤ c.resize.new.self.len =
     omega (arith, c.in_ok-count.ensures.bound.0, c.in_ok-resize.ensures.len, c.read.auto.buf, c.deref_mut.ensures.len, length-take (length c.deref_mut.result.now - start) (drop start c.deref_mut.result.now)) in (
       take count buf,
