@@ -1,3 +1,4 @@
 pub mod Contents
 pub mod Lent
 pub mod Limits
+pub mod RowLists

@@ -4,6 +4,7 @@ ghost use Rattle.std.proofs.Math.Dec.{lit≤};
 use crate::arena::{Arena, PushRefused};
 use crate::index::Index;
 use crate::list::List;
+use crate::rows::{RowRefused, Rows};
 use std::marker::Model;
 use std::test::Fail;
 
@@ -96,5 +97,20 @@ fn a_list(rt: HostRuntime) -> Result<(), Fail> {
     assert_eq!(rt; list.as_slice(), [1, 2].as_slice());
     list.clear();
     assert!(rt; list.is_empty());
+    Ok(())
+}
+
+#[test]
+fn small_rows(rt: HostRuntime) -> Result<(), Fail> {
+    let mut rows: Rows<Seat, u32> = Rows::new(rt.alloc());
+    let first = rows.push_row(&[1, 2])?;
+    let second = rows.push_row(&[])?;
+    assert_eq!(rt; rows.push_row(&[3]), Err(RowRefused::Full));
+    assert_eq!(rt; rows.row(first), [1, 2].as_slice());
+    assert!(rt; rows.row(second).is_empty());
+    rows.cut_to(1);
+    assert_eq!(rt; rows.len(), 1);
+    rows.push_row(&[4])?;
+    assert_eq!(rt; rows.row(second), [4].as_slice());
     Ok(())
 }

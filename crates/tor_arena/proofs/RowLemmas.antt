@@ -1,0 +1,91 @@
+-- Rows and their ends.
+use Rattle.std.proofs.Common.{◌≡◌, ◌∙◌, ◌+◌, ◌-◌, ◌<◌, ◌≤◌, ℕ, zero, suc, List, [], ◌∷◌, ◌++◌, take, drop, length, refl, sym, ap, ap₂, arith, slice_get, slice_index, Some, length-drop}
+use Rattle.std.proofs.lemmas.List.{take_all, take-append-le, drop-append-le, take-take, drop-take}
+use Rattle.std.proofs.Math.Seq.{drop-append_seam}
+use Rattle.tor_arena.specs.RowLists.{Rises, between, last_end, rows_from}
+
+pub Rises-le : (most start : ℕ) (ends : List ℕ) → Rises most start ends → start ≤ most
+Rises-le most start [] r = r
+Rises-le most start (e ∷ es) r = let below = Rises-le most e es r.1 in let first = r.0 in omega (arith, below, first)
+
+-- a row begins no later than it ends, and ends within the items
+pub Rises-at : (most start : ℕ) (ends : List ℕ) (k : ℕ) → Rises most start ends → k < length ends
+    → (last_end start (take k ends) ≤ slice_index ends k) × (slice_index ends k ≤ most)
+Rises-at most start [] k r lt = absurd (omega arith)
+Rises-at most start (e ∷ es) zero r lt = (r.0, Rises-le most e es r.1)
+Rises-at most start (e ∷ es) (suc k) r lt = Rises-at most e es k r.1 (omega arith)
+
+pub last_end-take : (start : ℕ) (ends : List ℕ) (k : ℕ) → k < length ends → last_end start (take (suc k) ends) ≡ slice_index ends k
+last_end-take start [] k lt = absurd (omega arith)
+last_end-take start (e ∷ es) zero lt = refl
+last_end-take start (e ∷ es) (suc k) lt = last_end-take e es k (omega arith)
+
+pub last_end-push : (start : ℕ) (ends : List ℕ) (e : ℕ) → last_end start (ends ++ e ∷ []) ≡ e
+last_end-push start [] e = refl
+last_end-push start (x ∷ xs) e = last_end-push x xs e
+
+pub Rises-push : (most more start : ℕ) (ends : List ℕ) (e : ℕ) → Rises most start ends → last_end start ends ≤ e → e ≤ more → Rises more start (ends ++ e ∷ [])
+Rises-push most more start [] e r low high = (low, high)
+Rises-push most more start (x ∷ xs) e r low high = (r.0, Rises-push most more x xs e r.1 low high)
+
+-- the first rows end within the items
+pub last_end-le : (most start : ℕ) (ends : List ℕ) (k : ℕ) → Rises most start ends → last_end start (take k ends) ≤ most
+last_end-le most start ends zero r = Rises-le most start ends r
+last_end-le most start [] (suc k) r = r
+last_end-le most start (e ∷ es) (suc k) r = last_end-le most e es k r.1
+
+-- and rise to their own end
+pub Rises-take : (most start : ℕ) (ends : List ℕ) (k : ℕ) → Rises most start ends → Rises (last_end start (take k ends)) start (take k ends)
+Rises-take most start ends zero r = omega arith
+Rises-take most start [] (suc k) r = omega arith
+Rises-take most start (e ∷ es) (suc k) r = (r.0, Rises-take most e es k r.1)
+
+module _ {T : Type 0} where
+  pub length-rows_from : (items : List T) (start : ℕ) (ends : List ℕ) → length (rows_from items start ends) ≡ length ends
+  length-rows_from items start [] = refl
+  length-rows_from items start (e ∷ es) = ap suc (length-rows_from items e es)
+
+  pub slice_get-rows_from : (items : List T) (start : ℕ) (ends : List ℕ) (k : ℕ) → k < length ends
+      → slice_get (rows_from items start ends) k ≡ Some (between items (last_end start (take k ends)) (slice_index ends k))
+  slice_get-rows_from items start [] k lt = absurd (omega arith)
+  slice_get-rows_from items start (e ∷ es) zero lt = refl
+  slice_get-rows_from items start (e ∷ es) (suc k) lt = slice_get-rows_from items e es k (omega arith)
+
+  between-old : (items row : List T) (start end : ℕ) → start ≤ end → end ≤ length items → between (items ++ row) start end ≡ between items start end
+  between-old items row start end low high =
+      let rest = length-drop start items in
+      ap (take (end - start)) (drop-append-le start items row (omega arith))
+      ∙ take-append-le (end - start) (drop start items) row (omega (arith, rest))
+
+  between-new : (items row : List T) (start : ℕ) → start ≡ length items → between (items ++ row) start (length items + length row) ≡ row
+  between-new items row start is =
+      ap₂ take refl (ap (λ k. drop k (items ++ row)) is ∙ drop-append_seam items row) ∙ take_all (length items + length row - start) row (omega arith)
+
+  -- a row that is added last
+  pub rows_from-push : (items row : List T) (start : ℕ) (ends : List ℕ) → Rises (length items) start ends → last_end start ends ≡ length items
+      → rows_from (items ++ row) start (ends ++ (length items + length row) ∷ []) ≡ rows_from items start ends ++ row ∷ []
+  rows_from-push items row start [] r at = ap (λ t. t ∷ []) (between-new items row start at)
+  rows_from-push items row start (e ∷ es) r at =
+      ap₂ (λ t ts. t ∷ ts) (between-old items row start e r.0 (Rises-le (length items) e es r.1)) (rows_from-push items row e es r.1 at)
+
+  between-cut : (items : List T) (cut start end : ℕ) → start ≤ end → end ≤ cut → between (take cut items) start end ≡ between items start end
+  between-cut items cut start end low high =
+      let whole : start + (cut - start) ≡ cut = omega (arith, low, high) in
+      ap (λ n. take (end - start) (drop start (take n items))) (sym whole) ∙ ap (take (end - start)) (drop-take start (cut - start) items)
+      ∙ take-take (end - start) (cut - start) (drop start items) (omega (arith, low, high))
+
+  rows_from-cut : (items : List T) (cut start : ℕ) (ends : List ℕ) → Rises cut start ends → rows_from (take cut items) start ends ≡ rows_from items start ends
+  rows_from-cut items cut start [] r = refl
+  rows_from-cut items cut start (e ∷ es) r =
+      ap₂ (λ t ts. t ∷ ts) (between-cut items cut start e r.0 (Rises-le cut e es r.1)) (rows_from-cut items cut e es r.1)
+
+  rows_from-first : (items : List T) (start : ℕ) (ends : List ℕ) (k : ℕ) → rows_from items start (take k ends) ≡ take k (rows_from items start ends)
+  rows_from-first items start ends zero = refl
+  rows_from-first items start [] (suc k) = refl
+  rows_from-first items start (e ∷ es) (suc k) = ap (λ ts. between items start e ∷ ts) (rows_from-first items e es k)
+
+  -- the first rows, where the items behind them are cut
+  pub rows_from-take : (items : List T) (start : ℕ) (ends : List ℕ) (k : ℕ) → Rises (length items) start ends
+      → rows_from (take (last_end start (take k ends)) items) start (take k ends) ≡ take k (rows_from items start ends)
+  rows_from-take items start ends k r =
+      rows_from-cut items (last_end start (take k ends)) start (take k ends) (Rises-take (length items) start ends k r) ∙ rows_from-first items start ends k
