@@ -22,13 +22,13 @@ no_octet at TooManyBytes is = absurd (omega (arith, is.0))
 no_octet at (Oversize a) is = absurd (omega (arith, is.1.header))
 no_octet at (BodyCut a) is = absurd (omega (arith, is.1.header))
 
-pub holds_then : (n : ℕ) (at : At) (octets : List ℕ) (r : Record) (rest : List ℕ) → next_of at octets ≡ Holds r rest → cut_within (suc n) at octets ≡ onto r (cut_within n (behind r) rest)
+pub unrolled : (n : ℕ) (at : At) (octets : List ℕ) (r : Record) (rest : List ℕ) → next_of at octets ≡ Holds r rest → cut_within (suc n) at octets ≡ onto r (cut_within n (behind r) rest)
 unfolding cut_within
-holds_then n at octets r rest is = rw (is, cut_within) refl
+unrolled n at octets r rest is = rw (is, cut_within) refl
 
-pub ends_then : (n : ℕ) (at : At) (octets : List ℕ) (end : End) → next_of at octets ≡ Ends end → cut_within (suc n) at octets ≡ record { records = []; end = end }
+pub ends_with : (n : ℕ) (at : At) (octets : List ℕ) (end : End) → next_of at octets ≡ Ends end → cut_within (suc n) at octets ≡ record { records = []; end = end }
 unfolding cut_within
-ends_then n at octets end is = rw (is, cut_within) refl
+ends_with n at octets end is = rw (is, cut_within) refl
 
 abbrev AreOf : At → List ℕ → Cut → Type 0
 AreOf at octets c = AreSpelled at octets c.records c.end
@@ -41,10 +41,10 @@ cut_is zero at (octet ∷ octets) le = absurd (omega arith)
 cut_is (suc n) at octets le = by_next (next_of at octets) refl (next_is at octets) (λ a o h. cut_is n a o h)
   where
     by_next : (next : Next) → next_of at octets ≡ next → IsNext at octets (next_of at octets) → ((a : At) (o : List ℕ) → length o ≤ n → AreOf a o (cut_within n a o)) → AreOf at octets (cut_within (suc n) at octets)
-    by_next (Ends end) is there later = subst (AreOf at octets) (sym (ends_then n at octets end is)) (subst (IsNext at octets) is there)
+    by_next (Ends end) is there later = subst (AreOf at octets) (sym (ends_with n at octets end is)) (subst (IsNext at octets) is there)
     by_next (Holds r rest) is there later =
         let s : StandsAt at octets r rest = subst (IsNext at octets) is there in
-        subst (AreOf at octets) (sym (holds_then n at octets r rest is)) (rest, s.placed, s.within, s.spelled, later (behind r) rest (omega (arith, fewer octets r rest s.spelled)))
+        subst (AreOf at octets) (sym (unrolled n at octets r rest is)) (rest, s.placed, s.within, s.spelled, later (behind r) rest (omega (arith, fewer octets r rest s.spelled)))
 
 -- what is spelled is cut so
 is_cut : (n : ℕ) (at : At) (octets : List ℕ) (records : List Record) (end : End) → length octets ≤ n → AreSpelled at octets records end → cut_within n at octets ≡ record { records = records; end = end }
@@ -52,9 +52,9 @@ unfolding cut_within
 is_cut zero at (octet ∷ octets) records end le is = absurd (omega arith)
 is_cut zero at [] [] end le is = ap (λ (e : End). record { records = []; end = e }) (no_octet at end is)
 is_cut zero at [] (r ∷ records) end le is = absurd (omega (arith, fewer [] r is.0 is.3))
-is_cut (suc n) at octets [] end le is = ends_then n at octets end (is_next at octets (Ends end) is)
+is_cut (suc n) at octets [] end le is = ends_with n at octets end (is_next at octets (Ends end) is)
 is_cut (suc n) at octets (r ∷ records) end le is =
-    holds_then n at octets r is.0 (is_next at octets (Holds r is.0) (record { placed = is.1; within = is.2; spelled = is.3 }))
+    unrolled n at octets r is.0 (is_next at octets (Holds r is.0) (record { placed = is.1; within = is.2; spelled = is.3 }))
     ∙ ap (onto r) (is_cut n (behind r) is.0 records end (omega (arith, fewer octets r is.0 is.3)) is.4)
 
 pub spelling_law : SpellingLaw

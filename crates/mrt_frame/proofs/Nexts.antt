@@ -77,12 +77,12 @@ next_is at (octet ∷ octets) = by_test (ltb (length (octet ∷ octets)) 12) ref
 
 -- the other way: the tests, by what stands there
 
-head_cut : (at a : At) (octets : List ℕ) → a ≡ at → 0 < length octets → length octets < 12 → next_of at octets ≡ Ends (HeadCut a)
+pub head_cut : (at a : At) (octets : List ℕ) → a ≡ at → 0 < length octets → length octets < 12 → next_of at octets ≡ Ends (HeadCut a)
 head_cut at a [] is some few = absurd (omega arith)
 head_cut at a (octet ∷ octets) is some few = rw (lt-ltb (length (octet ∷ octets)) 12 few) (ap (λ (p : At). Ends (HeadCut p)) (sym is))
 
 -- where a record that is read is not too long, the second test is false
-small_enough : (kind subtype len : ℕ) → (IsTrue (is_read kind subtype) → len ≤ 2 ^ 26) → (is_read kind subtype && ltb (2 ^ 26) len) ≡ false
+pub small_enough : (kind subtype len : ℕ) → (IsTrue (is_read kind subtype) → len ≤ 2 ^ 26) → (is_read kind subtype && ltb (2 ^ 26) len) ≡ false
 small_enough kind subtype len small = by_test (is_read kind subtype) small
   where
     by_test : (read : Bool) → (IsTrue read → len ≤ 2 ^ 26) → (read && ltb (2 ^ 26) len) ≡ false

@@ -1,0 +1,269 @@
+-- The records of a file, whose routes are taken in one after the other.
+use Rattle.std.proofs.Common.{◌≡◌, ◌==◌, Bool, true, false, cond, ◌&&◌, ◌||◌, option_map, length-append, ℕ, zero, suc, ◌+◌, ◌≤◌, List, [], ◌∷◌, ◌++◌, length, take, Option, Some, None, IfSome, Result, Ok, Err, refl, sym, ap, ap₂, subst, ◌∙◌, arith, append_assoc}
+use Rattle.std.specs.Result.{result_ok}
+use Rattle.std.proofs.lemmas.List.{append-nil, take-append-le}
+use Rattle.std.proofs.Math.Seq.{take-append-add}
+use Rattle.rib_v2.specs.PeerTable.{peers_of}
+use Rattle.mrt_frame.specs.declared.header.At.{At}
+use Rattle.mrt_frame.specs.Records.{Record, Cut, End, Well, HeadCut, TooManyBytes, Oversize, BodyCut, Ends, Holds, is_read, behind, next_of, start, cut_within}
+use Rattle.mrt_frame.specs.declared.error.FrameError.{FrameError}
+use Rattle.mrt_frame.specs.declared.error.FrameError.TheVariants as frame
+use Rattle.mrt_frame.specs.Frames.{PassesOver, FindsNext, StopsWith, end_of_error}
+use Rattle.mrt_frame.proofs.Cuts.{shorter, unrolled, ends_with}
+use Rattle.tor_io.specs.Contents.{Files}
+use Rattle.path_attrs.specs.Fields.{◌>>=◌}
+use Rattle.path_clean.specs.declared.cleaned.Sets.{Sets}
+use Rattle.path_attrs.specs.declared.fault.RibFault.{RibFault}
+use Rattle.dump_read.specs.declared.error.LimitKind.{LimitKind}
+use Rattle.dump_read.specs.Routes.{Route, routes_of, peers_behind, is_table_dump, is_peer_table, is_rib}
+use Rattle.dump_read.specs.declared.error.Fault.TheVariants as fault
+use Rattle.dump_read.specs.declared.records.Unread.{Unread}
+use Rattle.dump_read.specs.declared.records.Unread.TheVariants as unread
+use Rattle.dump_read.specs.declared.taking.Untaken.TheVariants as untaken
+use Rattle.dump_read.specs.Seen.{of_end, of_taking, of_octets, end_told}
+use Rattle.dump_read.specs.Refusals.{TakesRead, TakesSomeRead, IsUnread, of_frame, of_unread}
+use Rattle.dump_read.specs.Reading.{Reading, FileEnd, Broken, end_of, onto, reading_of, reading_from, file_reading}
+use Rattle.dump_read.specs.Taking.{Taken, take_route, take_routes, Takes, TakesSome}
+use Rattle.dump_read.proofs.Takings.{take_routes-append, no_entry, nothing_read}
+
+-- where the octets of the file are told: the routes that were taken in so far, and those of the records that are left
+pub record Goes (sets : Sets) (octets : List ℕ) (left : Option (List ℕ)) (at : At) (peers : Option ℕ) (old new : Taken) : Type 0 where
+  pub fuel : ℕ
+  pub rest : List ℕ
+  pub front : List Route
+  pub is_left : left ≡ Some rest
+  pub enough : length rest ≤ fuel
+  pub so_far : Takes sets old front new
+  pub routes : (file_reading octets).routes ≡ front ++ (reading_from peers (cut_within fuel at rest)).routes
+  pub end : (file_reading octets).end ≡ (reading_from peers (cut_within fuel at rest)).end
+
+abbrev pub GoesOf : Sets → Option (List ℕ) → Option (List ℕ) → At → Option ℕ → Taken → Taken → Type 0
+GoesOf sets None left at peers old new = Unit {0}
+GoesOf sets (Some octets) left at peers old new = Goes sets octets left at peers old new
+
+pub starts : (sets : Sets) (left : Option (List ℕ)) (old : Taken) → GoesOf sets left left start None old old
+starts sets None old = tt
+starts sets (Some octets) old = record { fuel = length octets; rest = octets; front = []; is_left = refl; enough = omega arith; so_far = no_entry sets old; routes = refl; end = refl }
+
+-- ---- records that aren't read give nothing
+
+-- a reading from so many peers on, through one record
+through : (peers : Option ℕ) (r : Record) (c : Cut) → reading_from peers (record { records = r ∷ c.records; end = c.end }) ≡ onto r.at (routes_of peers r) (reading_from (peers_behind peers r) c)
+unfolding reading_of
+through peers r c = refl
+
+unread_parts : (t d b c e : Bool) → (t || (d && (b || c || e))) ≡ false → (t ≡ false) × ((d && b) ≡ false) × ((d && (c || e)) ≡ false)
+unread_parts true d b c e h = absurd cc
+unread_parts false false b c e h = (refl, refl, refl)
+unread_parts false true true c e h = absurd cc
+unread_parts false true false true e h = absurd cc
+unread_parts false true false false true h = absurd cc
+unread_parts false true false false false h = (refl, refl, refl)
+
+parts_of : (r : Record) → is_read r.kind r.subtype ≡ false → (is_table_dump r.kind r.subtype ≡ false) × (is_peer_table r.kind r.subtype ≡ false) × (is_rib r.kind r.subtype ≡ false)
+parts_of r unread = unread_parts (is_table_dump r.kind r.subtype) (r.kind == 13) (r.subtype == 1) (r.subtype == 2) (r.subtype == 4) unread
+
+same_peers : (peers : Option ℕ) (r : Record) → is_peer_table r.kind r.subtype ≡ false → peers_behind peers r ≡ peers
+same_peers peers r is = ap (λ b. cond b (option_map (λ table. table.count) (result_ok (peers_of r.body))) peers) is
+
+-- a record that isn't read changes nothing of the reading
+skipped : (peers : Option ℕ) (r : Record) (c : Cut) → is_read r.kind r.subtype ≡ false → reading_from peers (record { records = r ∷ c.records; end = c.end }) ≡ reading_from peers c
+skipped peers r c unread =
+    let parts = parts_of r unread in
+    through peers r c ∙ ap (λ read. onto r.at read (reading_from (peers_behind peers r) c)) (nothing_read peers r parts.0 parts.1 parts.2)
+    ∙ ap (λ p. reading_from p c) (same_peers peers r parts.1)
+
+-- where the records from a place on were passed over up to another, the reading is the same from there
+record Passed (peers : Option ℕ) (whole : Reading) (place : At) (reached : List ℕ) : Type 0 where
+  fuel : ℕ
+  enough : length reached ≤ fuel
+  same : whole ≡ reading_from peers (cut_within fuel place reached)
+
+passes_over : (peers : Option ℕ) (records : List Record) (fuel : ℕ) (at : At) (octets : List ℕ) (place : At) (reached : List ℕ) → PassesOver records at octets place reached → length octets ≤ fuel
+    → Passed peers (reading_from peers (cut_within fuel at octets)) place reached
+passes_over peers [] fuel at octets place reached over le = record {
+  fuel = fuel;
+  enough = subst (λ (t : List ℕ). length t ≤ fuel) (sym over.1) le;
+  same = ap₂ (λ a (t : List ℕ). reading_from peers (cut_within fuel a t)) (sym over.0) (sym over.1);
+}
+passes_over peers (r ∷ records) zero at octets place reached over le = absurd (omega (arith, shorter at octets r over.0 over.1))
+passes_over peers (r ∷ records) (suc fuel) at octets place reached over le =
+    let further = passes_over peers records fuel (behind r) over.0 place reached over.3 (omega (arith, shorter at octets r over.0 over.1)) in
+    record {
+      fuel = further.fuel;
+      enough = further.enough;
+      same = ap (reading_from peers) (unrolled fuel at octets r over.0 over.1) ∙ skipped peers r (cut_within fuel (behind r) over.0) over.2 ∙ further.same;
+    }
+
+-- ---- the next record
+
+-- the reading goes on with this record, and behind it with what is left
+record Found (peers : Option ℕ) (whole : Reading) (r : Record) (left : Option (List ℕ)) : Type 0 where
+  fuel : ℕ
+  rest : List ℕ
+  is_left : left ≡ Some rest
+  enough : length rest ≤ fuel
+  same : whole ≡ onto r.at (routes_of peers r) (reading_from (peers_behind peers r) (cut_within fuel (behind r) rest))
+
+found_behind : (peers : Option ℕ) (whole : Reading) (fuel : ℕ) (reached : List ℕ) (r : Record) (rest : List ℕ) (left : Option (List ℕ)) → next_of r.at reached ≡ Holds r rest → left ≡ Some rest
+    → length reached ≤ fuel → whole ≡ reading_from peers (cut_within fuel r.at reached) → Found peers whole r left
+found_behind peers whole zero reached r rest left stands leaves le same = absurd (omega (arith, shorter r.at reached r rest stands))
+found_behind peers whole (suc fuel) reached r rest left stands leaves le same = record {
+  fuel = fuel;
+  rest = rest;
+  is_left = leaves;
+  enough = omega (arith, shorter r.at reached r rest stands);
+  same = same ∙ ap (reading_from peers) (unrolled fuel r.at reached r rest stands) ∙ through peers r (cut_within fuel (behind r) rest);
+}
+
+found : (peers : Option ℕ) (fuel : ℕ) (at : At) (octets : List ℕ) (r : Record) (left : Option (List ℕ)) → FindsNext at octets r left → length octets ≤ fuel
+    → Found peers (reading_from peers (cut_within fuel at octets)) r left
+found peers fuel at octets r left finds le =
+    let passed = passes_over peers finds.passes.0 fuel at octets r.at finds.reached finds.passes.1 le in
+    found_behind peers (reading_from peers (cut_within fuel at octets)) passed.fuel finds.reached r finds.rest left finds.stands finds.leaves passed.enough passed.same
+
+pub goes_on : (sets : Sets) (left₀ left left' : Option (List ℕ)) (at : At) (peers peers' : Option ℕ) (r : Record) (old mid new : Taken) → GoesOf sets left₀ left at peers old mid
+    → IfSome left (λ octets. FindsNext at octets r left') → TakesRead sets mid (routes_of peers r) new → peers' ≡ peers_behind peers r → GoesOf sets left₀ left' (behind r) peers' old new
+goes_on sets None left left' at peers peers' r old mid new goes finds takes after = tt
+goes_on sets (Some octets) left left' at peers peers' r old mid new goes finds takes after =
+    let finds' : FindsNext at goes.rest r left' = subst (λ o. IfSome o (λ b. FindsNext at b r left')) goes.is_left finds in
+    let f = found peers goes.fuel at goes.rest r left' finds' goes.enough in
+    let further = reading_from (peers_behind peers r) (cut_within f.fuel (behind r) f.rest) in
+    let same : reading_from peers (cut_within goes.fuel at goes.rest) ≡ record { routes = takes.0 ++ further.routes; end = further.end } = f.same ∙ ap (λ read. onto r.at read further) takes.1 in
+    record {
+      fuel = f.fuel;
+      rest = f.rest;
+      front = goes.front ++ takes.0;
+      is_left = f.is_left;
+      enough = f.enough;
+      so_far = take_routes-append sets old mid goes.front takes.0 goes.so_far ∙ takes.2;
+      routes = goes.routes ∙ ap (λ reading. goes.front ++ reading.routes) same ∙ sym (append_assoc goes.front takes.0 further.routes)
+          ∙ ap (λ p. (goes.front ++ takes.0) ++ (reading_from p (cut_within f.fuel (behind r) f.rest)).routes) (sym after);
+      end = goes.end ∙ ap (λ reading. reading.end) same ∙ ap (λ p. (reading_from p (cut_within f.fuel (behind r) f.rest)).end) (sym after);
+    }
+
+-- ---- the end
+
+ended : (fuel : ℕ) (place : At) (reached : List ℕ) (end : End) → length reached ≤ fuel → next_of place reached ≡ Ends end → cut_within fuel place reached ≡ record { records = []; end = end }
+unfolding cut_within
+ended zero place [] end le stands = ap (λ e. record { records = []; end = e }) (well end stands)
+  where
+    well : (e : End) → Ends Well ≡ Ends e → Well ≡ e
+    well e is = cc
+ended zero place (octet ∷ octets) end le stands = absurd (omega arith)
+ended (suc fuel) place reached end le stands = ends_with fuel place reached end stands
+
+at_end : (peers : Option ℕ) (end : End) → reading_from peers (record { records = []; end = end }) ≡ record { routes = []; end = end_of end }
+unfolding reading_of
+at_end peers end = refl
+
+-- all routes were taken in, and the reading ends so
+all_taken : (sets : Sets) (d : ℕ) (old new : Taken) (octets : List ℕ) (end : FileEnd) → Takes sets old (file_reading octets).routes new → (file_reading octets).end ≡ end
+    → of_octets sets d old octets ≡ of_end d end new
+all_taken sets d old new octets end takes is =
+    ap (λ taking. of_taking d taking >>= λ all. of_end d (file_reading octets).end all) takes ∙ ap (λ e. of_end d e new) is
+
+pub ends : (sets : Sets) (d : ℕ) (left₀ left : Option (List ℕ)) (at : At) (peers : Option ℕ) (old new : Taken) (end : End) → GoesOf sets left₀ left at peers old new
+    → IfSome left (λ octets. StopsWith at octets end) → IfSome left₀ (λ octets. of_octets sets d old octets ≡ of_end d (end_of end) new)
+ends sets d None left at peers old new end goes stops = tt
+ends sets d (Some octets) left at peers old new end goes stops =
+    let s : StopsWith at goes.rest end = subst (λ o. IfSome o (λ b. StopsWith at b end)) goes.is_left stops in
+    let passed = passes_over peers s.passes.0 goes.fuel at goes.rest s.place s.reached s.passes.1 goes.enough in
+    let same : reading_from peers (cut_within goes.fuel at goes.rest) ≡ record { routes = []; end = end_of end } =
+    passed.same ∙ ap (reading_from peers) (ended passed.fuel s.place s.reached end passed.enough s.stands) ∙ at_end peers end in
+    all_taken sets d old new octets (end_of end)
+    (ap (take_routes sets old) (goes.routes ∙ ap (λ reading. goes.front ++ reading.routes) same ∙ append-nil goes.front) ∙ goes.so_far)
+    (goes.end ∙ ap (λ reading. reading.end) same)
+
+-- ---- a record that is not taken in
+
+stops_in : (sets : Sets) (old : Taken) (routes rest : List Route) (kind : LimitKind) → take_routes sets old routes ≡ Err kind → take_routes sets old (routes ++ rest) ≡ Err kind
+unfolding take_routes
+stops_in sets old [] rest kind is = absurd cc
+stops_in sets old (route ∷ routes) rest kind is = by (take_route sets old route) is (λ further. stops_in sets further routes rest kind)
+  where
+    by : (one : Result Taken LimitKind) → (one >>= λ further. take_routes sets further routes) ≡ Err kind
+        → ((further : Taken) → take_routes sets further routes ≡ Err kind → take_routes sets further (routes ++ rest) ≡ Err kind)
+        → (one >>= λ further. take_routes sets further (routes ++ rest)) ≡ Err kind
+    by (Ok further) is ih = ih further is
+    by (Err k) is ih = is
+
+pub breaks : (sets : Sets) (d : ℕ) (left₀ left left' : Option (List ℕ)) (at : At) (peers : Option ℕ) (r : Record) (old mid : Taken) (why : Unread) → GoesOf sets left₀ left at peers old mid
+    → IfSome left (λ octets. FindsNext at octets r left') → IsUnread sets mid (routes_of peers r) why
+    → IfSome (end_told d (of_unread d r.at why)) (λ end. IfSome left₀ (λ octets. of_octets sets d old octets ≡ Err end))
+breaks sets d None left left' at peers r old mid (unread.Fault broken) goes finds is = tt
+breaks sets d None left left' at peers r old mid (unread.Untaken (untaken.Limit kind)) goes finds is = tt
+breaks sets d None left left' at peers r old mid (unread.Untaken untaken.NoMemory) goes finds is = tt
+breaks sets d (Some octets) left left' at peers r old mid (unread.Fault broken) goes finds is =
+    let finds' : FindsNext at goes.rest r left' = subst (λ o. IfSome o (λ b. FindsNext at b r left')) goes.is_left finds in
+    let f = found peers goes.fuel at goes.rest r left' finds' goes.enough in
+    let further = reading_from (peers_behind peers r) (cut_within f.fuel (behind r) f.rest) in
+    let same = f.same ∙ ap (λ read. onto r.at read further) is in
+    all_taken sets d old mid octets (Broken r.at (fault.Rib broken))
+    (ap (take_routes sets old) (goes.routes ∙ ap (λ reading. goes.front ++ reading.routes) same ∙ append-nil goes.front) ∙ goes.so_far)
+    (goes.end ∙ ap (λ reading. reading.end) same)
+breaks sets d (Some octets) left left' at peers r old mid (unread.Untaken (untaken.Limit kind)) goes finds is =
+    let finds' : FindsNext at goes.rest r left' = subst (λ o. IfSome o (λ b. FindsNext at b r left')) goes.is_left finds in
+    let f = found peers goes.fuel at goes.rest r left' finds' goes.enough in
+    let further = reading_from (peers_behind peers r) (cut_within f.fuel (behind r) f.rest) in
+    let same = f.same ∙ ap (λ read. onto r.at read further) is.1 in
+    ap (λ taking. of_taking d taking >>= λ all. of_end d (file_reading octets).end all)
+    (ap (take_routes sets old) (goes.routes ∙ ap (λ reading. goes.front ++ reading.routes) same)
+    ∙ take_routes-append sets old mid goes.front (is.0 ++ further.routes) goes.so_far ∙ stops_in sets mid is.0 further.routes kind is.2)
+breaks sets d (Some octets) left left' at peers r old mid (unread.Untaken untaken.NoMemory) goes finds is = tt
+
+-- ---- what was taken in of a file that was not read to its end
+
+front_of : (sets : Sets) (old new : Taken) (front more : List Route) (n : ℕ) → n ≤ length more → Takes sets old (front ++ take n more) new → TakesSome sets old (front ++ more) new
+front_of sets old new front more n le takes = (
+  length front + n,
+  omega (arith, length-append front more),
+  ap (take_routes sets old) (take-append-add front more n) ∙ takes,
+)
+
+pub some_so_far : (sets : Sets) (left₀ left : Option (List ℕ)) (at : At) (peers : Option ℕ) (old new : Taken) → GoesOf sets left₀ left at peers old new
+    → IfSome left₀ (λ octets. TakesSome sets old (file_reading octets).routes new)
+some_so_far sets None left at peers old new goes = tt
+some_so_far sets (Some octets) left at peers old new goes =
+    subst (λ (routes : List Route). TakesSome sets old routes new) (sym goes.routes)
+    (front_of sets old new goes.front (reading_from peers (cut_within goes.fuel at goes.rest)).routes 0 (omega arith)
+    (ap (take_routes sets old) (append-nil goes.front) ∙ goes.so_far))
+
+some_of : (sets : Sets) (old mid new : Taken) (front : List Route) (at : At) (read : Result (List Route) RibFault) (further : Reading) → Takes sets old front mid
+    → TakesSomeRead sets mid read new → TakesSome sets old (front ++ (onto at read further).routes) new
+some_of sets old mid new front at (Ok routes) further so_far some =
+    front_of sets old new front (routes ++ further.routes) some.0 (omega (arith, some.1, length-append routes further.routes))
+    (ap (λ (t : List Route). take_routes sets old (front ++ t)) (take-append-le some.0 routes further.routes some.1) ∙ take_routes-append sets old mid front (take some.0 routes) so_far ∙ some.2)
+some_of sets old mid new front at (Err broken) further so_far some =
+    front_of sets old new front [] 0 (omega arith) (ap (take_routes sets old) (append-nil front) ∙ so_far ∙ ap (λ (t : Taken). Ok t) (sym some))
+
+pub some_with : (sets : Sets) (left₀ left left' : Option (List ℕ)) (at : At) (peers : Option ℕ) (r : Record) (old mid new : Taken) → GoesOf sets left₀ left at peers old mid
+    → IfSome left (λ octets. FindsNext at octets r left') → TakesSomeRead sets mid (routes_of peers r) new → IfSome left₀ (λ octets. TakesSome sets old (file_reading octets).routes new)
+some_with sets None left left' at peers r old mid new goes finds some = tt
+some_with sets (Some octets) left left' at peers r old mid new goes finds some =
+    let finds' : FindsNext at goes.rest r left' = subst (λ o. IfSome o (λ b. FindsNext at b r left')) goes.is_left finds in
+    let f = found peers goes.fuel at goes.rest r left' finds' goes.enough in
+    let further = reading_from (peers_behind peers r) (cut_within f.fuel (behind r) f.rest) in
+    subst (λ (routes : List Route). TakesSome sets old routes new) (sym (goes.routes ∙ ap (λ reading. goes.front ++ reading.routes) f.same))
+    (some_of sets old mid new goes.front r.at (routes_of peers r) further goes.so_far some)
+
+-- an error that tells an end of the records tells the end of the dump
+pub frame_told : (sets : Sets) (d : ℕ) (left₀ left : Option (List ℕ)) (at : At) (peers : Option ℕ) (old new : Taken) (e : FrameError) → GoesOf sets left₀ left at peers old new
+    → IfSome (end_of_error e) (λ end. IfSome left (λ octets. StopsWith at octets end))
+    → IfSome (end_told d (of_frame d e)) (λ end. IfSome left₀ (λ octets. of_octets sets d old octets ≡ Err end))
+frame_told sets d left₀ left at peers old new (frame.HeadCut a) goes stops = ends sets d left₀ left at peers old new (HeadCut a) goes stops
+frame_told sets d left₀ left at peers old new (frame.BodyCut a) goes stops = ends sets d left₀ left at peers old new (BodyCut a) goes stops
+frame_told sets d left₀ left at peers old new (frame.Oversize a) goes stops = ends sets d left₀ left at peers old new (Oversize a) goes stops
+frame_told sets d left₀ left at peers old new frame.TooManyBytes goes stops = ends sets d left₀ left at peers old new TooManyBytes goes stops
+frame_told sets d left₀ left at peers old new frame.ReadFault goes stops = tt
+frame_told sets d left₀ left at peers old new frame.NoMemory goes stops = tt
+
+-- before any route
+pub none_so_far : (sets : Sets) (old : Taken) (told : Option Files) (name : List ℕ)
+    → IfSome told (λ files. IfSome (files name) (λ octets. TakesSome sets old (file_reading octets).routes old))
+none_so_far sets old None name = tt
+none_so_far sets old (Some files) name = by (files name)
+  where
+    by : (file : Option (List ℕ)) → IfSome file (λ octets. TakesSome sets old (file_reading octets).routes old)
+    by None = tt
+    by (Some octets) = (0, omega arith, no_entry sets old)

@@ -1,0 +1,5 @@
+pub mod Routes
+pub mod Reading
+pub mod Taking
+pub mod Seen
+pub mod Refusals

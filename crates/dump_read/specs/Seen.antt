@@ -1,0 +1,48 @@
+-- What a dump gives to what was taken in before it, or the first end in the order of reading: a fault of a record comes
+-- before any of its routes, and a limit at the route that meets it.
+use Rattle.std.specs.Prelude.{ℕ, List, Option, Some, None, Result, Ok, Err}
+use Rattle.path_attrs.specs.Fields.{◌>>=◌}
+use Rattle.path_clean.specs.declared.cleaned.Sets.{Sets}
+use Rattle.dump_read.specs.declared.error.Place.{Place}
+use Rattle.dump_read.specs.declared.error.Fault.{Fault}
+use Rattle.dump_read.specs.declared.error.LimitKind.{LimitKind}
+use Rattle.dump_read.specs.declared.error.LimitKind.TheVariants.{Bytes}
+use Rattle.dump_read.specs.declared.error.DumpError.{DumpError}
+use Rattle.dump_read.specs.declared.error.DumpError.TheVariants as error
+use Rattle.dump_read.specs.Reading.{FileEnd, Whole, Broken, TooLong, file_reading}
+use Rattle.dump_read.specs.Taking.{Taken, take_routes}
+
+pub data End : Type 0 where
+  -- the dump of this number, from 1, isn't there
+  Absent : ℕ → End
+  -- a record has a fault
+  Malformed : Place → Fault → End
+  -- a limit is met in the dump of this number
+  Limit : LimitKind → ℕ → End
+
+-- how the reading of the dump of this number ends, when its routes are taken in
+abbrev pub of_end : ℕ → FileEnd → Taken → Result Taken End
+of_end dump Whole taken = Ok taken
+of_end dump (Broken at fault) taken = Err (Malformed (record { dump = dump; at = at }) fault)
+of_end dump TooLong taken = Err (Limit Bytes dump)
+
+abbrev pub of_taking : ℕ → Result Taken LimitKind → Result Taken End
+of_taking dump (Ok taken) = Ok taken
+of_taking dump (Err kind) = Err (Limit kind dump)
+
+-- the routes of the file, and then its end
+abbrev pub of_octets : Sets → ℕ → Taken → List ℕ → Result Taken End
+of_octets sets dump taken octets =
+    of_taking dump (take_routes sets taken (file_reading octets).routes) >>= λ all. of_end dump (file_reading octets).end all
+
+-- the same of a file that may be absent
+abbrev pub of_file : Sets → ℕ → Taken → Option (List ℕ) → Result Taken End
+of_file sets dump taken None = Err (Absent dump)
+of_file sets dump taken (Some octets) = of_octets sets dump taken octets
+
+-- the end that an error tells
+abbrev pub end_told : ℕ → DumpError → Option End
+end_told dump (error.Malformed place fault) = Some (Malformed place fault)
+end_told dump (error.Limit kind) = Some (Limit kind dump)
+end_told dump error.ReadFault = None
+end_told dump error.NoMemory = None

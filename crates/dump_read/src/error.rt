@@ -1,0 +1,46 @@
+use mrt_frame::At;
+use path_attrs::RibFault;
+
+/// Where a fault stands: the number of the dump, from 1, and the place of the record in it.
+#[derive(Clone, Copy, Debug, PartialEq, Eq)]
+pub struct Place {
+    pub dump: u64,
+    pub at: At,
+}
+
+/// What is wrong with a record.
+#[derive(Clone, Copy, Debug, PartialEq, Eq)]
+pub enum Fault {
+    /// Its header is cut.
+    HeadCut,
+    /// Its body is cut.
+    BodyCut,
+    /// It is one that is read, and its body has more than 2 ^ 26 octets.
+    Oversize,
+    /// The first fault of its body.
+    Rib(RibFault),
+}
+
+/// What there is too much of.
+#[derive(Clone, Copy, Debug, PartialEq, Eq)]
+pub enum LimitKind {
+    /// Distinct paths.
+    Paths,
+    /// Numbers on the distinct paths, in sum.
+    Numbers,
+    /// Bytes of a dump.
+    Bytes,
+}
+
+/// Why a dump was not read to its end.
+#[derive(Clone, Copy, Debug, PartialEq, Eq)]
+pub enum DumpError {
+    /// A record has a fault.
+    Malformed(Place, Fault),
+    /// A limit is met.
+    Limit(LimitKind),
+    /// A call on the shelf failed.
+    ReadFault,
+    /// Memory ran out.
+    NoMemory,
+}

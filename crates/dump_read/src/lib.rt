@@ -1,0 +1,13 @@
+//! One dump: its records, their routes, and what of them is taken in.
+#![tactic(auto)]
+
+mod error;
+mod reading;
+mod records;
+mod taking;
+
+pub use error::{DumpError, Fault, LimitKind, Place};
+pub use reading::read_dump;
+
+#[cfg(test)]
+mod tests;

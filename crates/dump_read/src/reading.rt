@@ -1,0 +1,117 @@
+ghost use Rattle.std.specs.Prelude.{◌≡◌, ◌≢◌, ◌≤◌, Ok, Err, OnOk, OnErr, IfErr, IfSome, IsErrOf};
+ghost use Rattle.tor_io.specs.Counts.{Rose};
+ghost use Rattle.tor_io.specs.Contents.{LacksFile};
+ghost use Rattle.dump_read.specs.Reading.{file_reading};
+ghost use Rattle.dump_read.specs.Taking.{TakesSome};
+ghost use Rattle.dump_read.specs.Seen.{of_octets, of_file, end_told};
+ghost use Rattle.dump_read.specs.Refusals.{taken_of, of_frame, of_unread, IsOfDump};
+
+use crate::error::{DumpError, Fault, LimitKind, Place};
+use crate::records::{Unread, take_record};
+use crate::taking::Untaken;
+use mrt_frame::{At, FrameError, Frames};
+use path_clean::{Asides, PathTable, Sets};
+use std::alloc::Global;
+use tor_io::{OpenRefused, Shelf};
+
+// The error that an error of the records is.
+fn of_frame(dump: u64, error: FrameError) -> DumpError
+    ensures { result ≡ of_frame dump error }
+{
+    match error {
+        FrameError::HeadCut(at) => DumpError::Malformed(Place { dump, at }, Fault::HeadCut),
+        FrameError::BodyCut(at) => DumpError::Malformed(Place { dump, at }, Fault::BodyCut),
+        FrameError::Oversize(at) => DumpError::Malformed(Place { dump, at }, Fault::Oversize),
+        FrameError::TooManyBytes => DumpError::Limit(LimitKind::Bytes),
+        FrameError::ReadFault => DumpError::ReadFault,
+        FrameError::NoMemory => DumpError::NoMemory,
+    }
+}
+
+// The error for which the record at this place was not taken in.
+fn of_unread(dump: u64, at: At, unread: Unread) -> DumpError
+    ensures { result ≡ of_unread dump at unread }
+{
+    match unread {
+        Unread::Fault(fault) => DumpError::Malformed(Place { dump, at }, Fault::Rib(fault)),
+        Unread::Untaken(Untaken::Limit(kind)) => DumpError::Limit(kind),
+        Unread::Untaken(Untaken::NoMemory) => DumpError::NoMemory,
+    }
+}
+
+// Takes in the routes of the open file.
+fn read_records<H: Shelf>(
+    alloc: Global,
+    shelf: &mut H,
+    dump: u64,
+    sets: Sets,
+    table: &mut PathTable,
+    asides: &mut Asides,
+) -> Result<(), DumpError>
+    ensures read { OnOk result (IfSome (H.left shelf.old) (λ octets.
+        of_octets sets dump (taken_of table.old asides.old) octets ≡ Ok (taken_of table.new asides.new))) }
+    ensures stopped { IfErr result (λ e. IfSome (end_told dump e) (λ end. IfSome (H.left shelf.old) (λ octets.
+        of_octets sets dump (taken_of table.old asides.old) octets ≡ Err end))) }
+    ensures some { OnErr result (IfSome (H.left shelf.old) (λ octets.
+        TakesSome sets (taken_of table.old asides.old) (file_reading octets).routes (taken_of table.new asides.new))) }
+    ensures place { IfErr result (IsOfDump dump) }
+
+    ensures files { H.files shelf.new ≡ H.files shelf.old }
+    ensures later { H.faults shelf.old ≤ H.faults shelf.new }
+    ensures failed { IsErrOf result DumpError.ReadFault → Rose (H.faults shelf.old) (H.faults shelf.new) }
+    ensures quiet { result ≢ Err DumpError.ReadFault → H.faults shelf.new ≡ H.faults shelf.old }
+    ensures steady { H.steady shelf.old → H.steady shelf.new }
+    ensures steady_reads { H.steady shelf.old → result ≢ Err DumpError.ReadFault }
+{
+    let mut peers = None;
+    let mut frames = Frames::over(alloc, shelf);
+    'records: loop {
+        let found = match frames.next() {
+            Ok(Some(found)) => found,
+            Ok(None) => return Ok(()),
+            Err(error) => return Err(of_frame(dump, error)),
+        };
+        match take_record(alloc, sets, &found, peers, table, asides) {
+            Ok(behind) => peers = behind,
+            Err(unread) => return Err(of_unread(dump, found.at, unread)),
+        }
+    }
+}
+
+/// Reads a dump, and takes its routes in order into the table and the counts. `dump` is its number, from 1.
+///
+/// Malformed and Limit: the first end in the order of reading. ReadFault: a call on the shelf failed, as an open does at
+/// a name that isn't there. NoMemory: memory ran out. After an error the table and the counts hold some of the first
+/// routes of the file.
+pub fn read_dump<H: Shelf>(
+    alloc: Global,
+    shelf: &mut H,
+    name: &str,
+    dump: u64,
+    sets: Sets,
+    table: &mut PathTable,
+    asides: &mut Asides,
+) -> Result<(), DumpError>
+    // What is taken in, and where the reading ends.
+    ensures read { OnOk result (IfSome (H.files shelf.old) (λ files.
+        of_file sets dump (taken_of table.old asides.old) (files name.now) ≡ Ok (taken_of table.new asides.new))) }
+    ensures stopped { IfErr result (λ e. IfSome (end_told dump e) (λ end. IfSome (H.files shelf.old) (λ files.
+        of_file sets dump (taken_of table.old asides.old) (files name.now) ≡ Err end))) }
+    ensures some { OnErr result (IfSome (H.files shelf.old) (λ files. IfSome (files name.now) (λ octets.
+        TakesSome sets (taken_of table.old asides.old) (file_reading octets).routes (taken_of table.new asides.new)))) }
+    ensures place { IfErr result (IsOfDump dump) }
+
+    // The shelf.
+    ensures files { H.files shelf.new ≡ H.files shelf.old }
+    ensures later { H.faults shelf.old ≤ H.faults shelf.new }
+    ensures failed { IsErrOf result DumpError.ReadFault → Rose (H.faults shelf.old) (H.faults shelf.new) }
+    ensures quiet { result ≢ Err DumpError.ReadFault → H.faults shelf.new ≡ H.faults shelf.old }
+    ensures steady { H.steady shelf.old → H.steady shelf.new }
+    ensures steady_failed { H.steady shelf.old → IsErrOf result DumpError.ReadFault → LacksFile (H.files shelf.old) name.now }
+{
+    match shelf.open_file(name) {
+        Ok(()) => read_records(alloc, shelf, dump, sets, table, asides),
+        Err(OpenRefused::Failed) => Err(DumpError::ReadFault),
+        Err(OpenRefused::NoMemory) => Err(DumpError::NoMemory),
+    }
+}

@@ -1,0 +1,68 @@
+ghost use Rattle.std.specs.Prelude.{◌≡◌, Ok, Err, OnOk, OnErr, IfErr};
+ghost use Rattle.dump_read.specs.Routes.{of_entries};
+ghost use Rattle.dump_read.specs.Taking.{take_route, take_routes};
+ghost use Rattle.dump_read.specs.Refusals.{IsLimit, taken_of};
+
+use crate::error::LimitKind;
+use path_attrs::{Attrs, Width};
+use path_clean::{AddRefused, Asides, Cleaned, PathTable, Sets, clean};
+use rib_v2::Entry;
+use std::alloc::Global;
+use tor_arena::NoMemory;
+
+/// Why a route was not taken in.
+#[derive(Clone, Copy, Debug, PartialEq, Eq)]
+pub(crate) enum Untaken {
+    Limit(LimitKind),
+    NoMemory,
+}
+
+impl From<NoMemory> for Untaken {
+    ghost use Rattle.std.specs.Prelude.{◌≡◌};
+    ghost use Rattle.dump_read.specs.declared.taking.Untaken.{Untaken};
+
+    ghost from_gives = { λ _ e. e ≡ Untaken.NoMemory };
+
+    fn from(_: NoMemory) -> Untaken {
+        Untaken::NoMemory
+    }
+}
+
+impl From<AddRefused> for Untaken {
+    ghost use Rattle.std.specs.Prelude.{◌≡◌};
+    ghost use Rattle.dump_read.specs.Refusals.{of_add};
+
+    ghost from_gives = { λ refused e. e ≡ of_add refused };
+
+    fn from(refused: AddRefused) -> Untaken {
+        match refused {
+            AddRefused::TooManyPaths => Untaken::Limit(LimitKind::Paths),
+            AddRefused::TooManyNumbers => Untaken::Limit(LimitKind::Numbers),
+            AddRefused::NoMemory => Untaken::NoMemory,
+        }
+    }
+}
+
+/// Takes in one route. A route that isn't taken leaves the table and the counts as they were.
+pub(crate) fn take(
+    alloc: Global,
+    sets: Sets,
+    width: Width,
+    attrs: &Attrs<'_>,
+    table: &mut PathTable,
+    asides: &mut Asides,
+) -> Result<(), Untaken>
+    ensures taken { OnOk result (take_route sets (taken_of table.old asides.old) (record { attrs = attrs.now; width = width })
+        ≡ Ok (taken_of table.new asides.new)) }
+    ensures limit { IfErr result (IsLimit (take_route sets (taken_of table.old asides.old) (record { attrs = attrs.now; width = width }))) }
+    ensures table { OnErr result (table.new ≡ table.old) }
+    ensures asides { OnErr result (asides.new ≡ asides.old) }
+{
+    match clean(alloc, sets, attrs, width)? {
+        Cleaned::Path(path) => {
+            table.add(path.as_slice())?;
+        }
+        Cleaned::Aside(cause) => asides.add(cause),
+    }
+    Ok(())
+}

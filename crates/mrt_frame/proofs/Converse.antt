@@ -1,0 +1,167 @@
+-- From what a call of `next` says of its file to what the file says of the answer.
+use Rattle.std.proofs.Common.{◌≡◌, ℕ, ◌⊎◌, inl, inr, true, false, List, [], ◌∷◌, Option, Some, None, Ok, Err, IfSome, refl, sym, ap, subst, ◌∙◌}
+use Rattle.std.proofs.Math.Path.{ap₂}
+use Rattle.std.specs.Prelude.{IsErrOf}
+use Rattle.mrt_frame.specs.declared.error.FrameError.{FrameError}
+use Rattle.mrt_frame.specs.declared.error.FrameError.TheVariants as errors
+use Rattle.mrt_frame.specs.declared.cursor.Record as lent
+use Rattle.mrt_frame.specs.declared.header.At.{At}
+use Rattle.mrt_frame.specs.declared.header.Header.{Header}
+use Rattle.mrt_frame.specs.Frames.{PassesOver, FindsNext, StopsWith, end_of_error, record_of}
+use Rattle.mrt_frame.specs.Records.{Record, Next, End, Well, HeadCut, TooManyBytes, Oversize, BodyCut, Ends, Holds, is_read, behind, next_of}
+use Rattle.mrt_frame.specs.Steps.{Answer, Gives, HasFailed, seen}
+
+-- nothing that is passed over
+abbrev IsLast : Next → Type 0
+IsLast (Ends end) = Unit {0}
+IsLast (Holds r rest) = is_read r.kind r.subtype ≡ true
+
+not_last : (next : Next) (r : Record) (rest : List ℕ) → next ≡ Holds r rest → is_read r.kind r.subtype ≡ false → IsLast next → ⊥
+not_last next r rest is not last = let read : is_read r.kind r.subtype ≡ true = subst IsLast is last in cc
+
+same_record : (q r : Record) (rest others : List ℕ) → Holds q rest ≡ Holds r others → q ≡ r
+same_record q r rest others is = cc
+
+same_rest : (q r : Record) (rest others : List ℕ) → Holds q rest ≡ Holds r others → rest ≡ others
+same_rest q r rest others is = cc
+
+-- what stands behind the records that are passed over is one
+one_next : (records others : List Record) (at : At) (octets : List ℕ) (a : At) (o : List ℕ) (b : At) (p : List ℕ) → PassesOver records at octets a o → PassesOver others at octets b p
+    → IsLast (next_of a o) → IsLast (next_of b p) → next_of a o ≡ next_of b p
+one_next [] [] at octets a o b p first second last also = ap₂ next_of first.0 first.1 ∙ sym (ap₂ next_of second.0 second.1)
+one_next [] (q ∷ others) at octets a o b p first second last also = absurd (not_last (next_of a o) q second.0 (ap₂ next_of first.0 first.1 ∙ second.1) second.2 last)
+one_next (r ∷ records) [] at octets a o b p first second last also = absurd (not_last (next_of b p) r first.0 (ap₂ next_of second.0 second.1 ∙ first.1) first.2 also)
+one_next (r ∷ records) (q ∷ others) at octets a o b p first second last also =
+    let both : Holds q second.0 ≡ Holds r first.0 = sym second.1 ∙ first.1 in
+    let more : PassesOver others (behind r) first.0 b p =
+    subst (λ (t : List ℕ). PassesOver others (behind r) t b p) (same_rest q r second.0 first.0 both) (subst (λ (x : Record). PassesOver others (behind x) second.0 b p) (same_record q r second.0 first.0 both) second.3) in
+    one_next records others (behind r) first.0 a o b p first.3 more last also
+
+last_found : (r : Record) (rest : List ℕ) (next : Next) → next ≡ Holds r rest → is_read r.kind r.subtype ≡ true → IsLast next
+last_found r rest next is read = subst IsLast (sym is) read
+
+last_end : (end : End) (next : Next) → next ≡ Ends end → IsLast next
+last_end end next is = subst IsLast (sym is) tt
+
+found_once : (at : At) (octets : List ℕ) (q r : Record) (left other : Option (List ℕ)) → FindsNext at octets q left → FindsNext at octets r other → q ≡ r
+found_once at octets q r left other f g =
+    let both = one_next f.passes.0 g.passes.0 at octets q.at f.reached r.at g.reached f.passes.1 g.passes.1 (last_found q f.rest _ f.stands f.read) (last_found r g.rest _ g.stands g.read) in
+    same_record q r f.rest g.rest (sym f.stands ∙ both ∙ g.stands)
+
+same_end : (x y : End) → Ends x ≡ Ends y → x ≡ y
+same_end x y is = cc
+
+stopped_once : (at : At) (octets : List ℕ) (x y : End) → StopsWith at octets x → StopsWith at octets y → x ≡ y
+stopped_once at octets x y s t =
+    let both = one_next s.passes.0 t.passes.0 at octets s.place s.reached t.place t.reached s.passes.1 t.passes.1 (last_end x _ s.stands) (last_end y _ t.stands) in
+    same_end x y (sym s.stands ∙ both ∙ t.stands)
+
+apart : (r : Record) (rest : List ℕ) (end : End) → Holds r rest ≡ Ends end → ⊥
+apart r rest end is = cc
+
+not_both : (at : At) (octets : List ℕ) (r : Record) (left : Option (List ℕ)) (end : End) → FindsNext at octets r left → StopsWith at octets end → ⊥
+not_both at octets r left end f s =
+    let both = one_next f.passes.0 s.passes.0 at octets r.at f.reached s.place s.reached f.passes.1 s.passes.1 (last_found r f.rest _ f.stands f.read) (last_end end _ s.stands) in
+    apart r f.rest end (sym f.stands ∙ both ∙ s.stands)
+
+-- the file bears the answer out
+abbrev pub Tells : Answer → At → List ℕ → Option (List ℕ) → Type 0
+Tells (Ok (Some lent)) at octets left = FindsNext at octets (seen lent) left
+Tells (Ok None) at octets left = StopsWith at octets Well
+Tells (Err e) at octets left = IfSome (end_of_error e) (λ end. StopsWith at octets end)
+
+pub record Converse (result : Answer) (at : At) (octets : List ℕ) : Type 0 where
+  pub record_is_given : (r : Record) (rest : List ℕ) → FindsNext at octets r (Some rest) → Gives result r ⊎ HasFailed result
+  pub end_is_none : StopsWith at octets Well → (result ≡ Ok None) ⊎ HasFailed result
+  pub stop_is_told : (e : FrameError) (end : End) → end_of_error e ≡ Some end → StopsWith at octets end → IsErrOf result e ⊎ HasFailed result
+
+well_is_no_error : (e : FrameError) → end_of_error e ≡ Some Well → ⊥
+well_is_no_error (errors.HeadCut at) is = cc
+well_is_no_error (errors.BodyCut at) is = cc
+well_is_no_error (errors.Oversize at) is = cc
+well_is_no_error errors.TooManyBytes is = cc
+well_is_no_error errors.ReadFault is = cc
+well_is_no_error errors.NoMemory is = cc
+
+same_some : (x y : End) → Some x ≡ Some y → x ≡ y
+same_some x y is = cc
+
+-- the answer that its own error is, where that tells no end
+no_end : (e : FrameError) → end_of_error e ≡ None → HasFailed (Err e)
+no_end (errors.HeadCut at) is = absurd cc
+no_end (errors.BodyCut at) is = absurd cc
+no_end (errors.Oversize at) is = absurd cc
+no_end errors.TooManyBytes is = absurd cc
+no_end errors.ReadFault is = inl refl
+no_end errors.NoMemory is = inr refl
+
+abbrev of_end : End → FrameError
+of_end Well = errors.NoMemory
+of_end (HeadCut at) = errors.HeadCut at
+of_end TooManyBytes = errors.TooManyBytes
+of_end (Oversize at) = errors.Oversize at
+of_end (BodyCut at) = errors.BodyCut at
+
+error_of_end : (e : FrameError) (end : End) → end_of_error e ≡ Some end → e ≡ of_end end
+error_of_end (errors.HeadCut at) end is = ap of_end (same_some (HeadCut at) end is)
+error_of_end (errors.BodyCut at) end is = ap of_end (same_some (BodyCut at) end is)
+error_of_end (errors.Oversize at) end is = ap of_end (same_some (Oversize at) end is)
+error_of_end errors.TooManyBytes end is = ap of_end (same_some TooManyBytes end is)
+error_of_end errors.ReadFault end is = absurd cc
+error_of_end errors.NoMemory end is = absurd cc
+
+-- an error is known by the end that it tells
+one_error : (e other : FrameError) (end : End) → end_of_error e ≡ Some end → end_of_error other ≡ Some end → e ≡ other
+one_error e other end is also = error_of_end e end is ∙ sym (error_of_end other end also)
+
+of_error : (e : FrameError) (at : At) (octets : List ℕ) (told : Option End) → end_of_error e ≡ told → IfSome told (λ end. StopsWith at octets end) → Converse (Err e) at octets
+of_error e at octets None is tells = record {
+  record_is_given = λ r rest f. inr (no_end e is);
+  end_is_none = λ s. inr (no_end e is);
+  stop_is_told = λ other end told s. inr (no_end e is);
+}
+of_error e at octets (Some end) is tells = record {
+  record_is_given = λ r rest f. absurd (not_both at octets r (Some rest) end f tells);
+  end_is_none = λ s. absurd (well_is_no_error e (is ∙ ap (λ (x : End). Some x) (stopped_once at octets end Well tells s)));
+  stop_is_told = λ other last told s. inl (ap (λ (x : FrameError). Err x) (one_error e other last (is ∙ ap (λ (x : End). Some x) (stopped_once at octets end last tells s)) told));
+}
+
+pub converse : (result : Answer) (at : At) (octets : List ℕ) (left : Option (List ℕ)) → Tells result at octets left → Converse result at octets
+converse (Ok (Some lent)) at octets left tells = record {
+  record_is_given = λ r rest f. inl (found_once at octets (seen lent) r left (Some rest) tells f);
+  end_is_none = λ s. absurd (not_both at octets (seen lent) left Well tells s);
+  stop_is_told = λ e end told s. absurd (not_both at octets (seen lent) left end tells s);
+}
+converse (Ok None) at octets left tells = record {
+  record_is_given = λ r rest f. absurd (not_both at octets r (Some rest) Well f tells);
+  end_is_none = λ s. inl refl;
+  stop_is_told = λ e end told s. absurd (well_is_no_error e (told ∙ ap (λ (x : End). Some x) (stopped_once at octets end Well s tells)));
+}
+converse (Err e) at octets left tells = of_error e at octets (end_of_error e) refl tells
+
+-- the same where the octets are told
+pub record Conversely (result : Answer) (before : Option (List ℕ)) (at : At) : Type 0 where
+  pub record_is_given : IfSome before (λ octets. (r : Record) (rest : List ℕ) → FindsNext at octets r (Some rest) → Gives result r ⊎ HasFailed result)
+  pub end_is_none : IfSome before (λ octets. StopsWith at octets Well → (result ≡ Ok None) ⊎ HasFailed result)
+  pub stop_is_told : IfSome before (λ octets. (e : FrameError) (end : End) → end_of_error e ≡ Some end → StopsWith at octets end → IsErrOf result e ⊎ HasFailed result)
+
+pub conversely : (result : Answer) (before : Option (List ℕ)) (at : At) (left : Option (List ℕ)) → IfSome before (λ octets. Tells result at octets left) → Conversely result before at
+conversely result None at left tells = record { record_is_given = tt; end_is_none = tt; stop_is_told = tt }
+conversely result (Some octets) at left tells =
+    let c = converse result at octets left tells in
+    record { record_is_given = c.record_is_given; end_is_none = c.end_is_none; stop_is_told = c.stop_is_told }
+
+-- an error says of the octets what they say where it tells an end
+pub of_octets : (told : Option End) (before : Option (List ℕ)) (at : At) → IfSome told (λ end. IfSome before (λ octets. StopsWith at octets end)) → IfSome before (λ octets. IfSome told (λ end. StopsWith at octets end))
+of_octets None None at h = tt
+of_octets None (Some octets) at h = tt
+of_octets (Some end) None at h = tt
+of_octets (Some end) (Some octets) at h = h
+
+-- the record that is lent is the one that was found
+pub same_seen : (at : At) (header : Header) (body : List ℕ) (r : lent.Record) → r.at ≡ at → r.kind ≡ header.kind → r.subtype ≡ header.subtype → r.body.now ≡ body → record_of at header body ≡ seen r
+same_seen at header body r place kind subtype octets =
+    ap (λ (a : At). record_of a header body) (sym place)
+    ∙ ap (λ k. record { at = r.at; kind = k; subtype = header.subtype; body = body }) (sym kind)
+    ∙ ap (λ s. record { at = r.at; kind = r.kind; subtype = s; body = body }) (sym subtype)
+    ∙ ap (λ (b : List ℕ). record { at = r.at; kind = r.kind; subtype = r.subtype; body = b }) (sym octets)

@@ -1,0 +1,155 @@
+use Rattle.std.proofs.Common.{◌≡◌, ◌≤◌, Bool, true, false, Result, Ok, Err, None, Some, IfOk, IfSome, rules, arith, refl, sym, ap, subst, ◌∙◌}
+use Rattle.std.specs.Prelude.{IfNone}
+use Rattle.std.proofs.Math.Path.{ap₂}
+use Rattle.mrt_frame.specs.declared.error.FrameError.{FrameError}
+use Rattle.mrt_frame.specs.declared.header.At.{At}
+use Rattle.mrt_frame.specs.Records.{Record, Well, behind, is_read}
+use Rattle.mrt_frame.specs.declared.cursor.Cursor.{Cursor}
+use Rattle.mrt_frame.specs.declared.error.FrameError.TheVariants.{ReadFault}
+use Rattle.mrt_frame.specs.declared.frames.Frames.{Frames}
+use Rattle.mrt_frame.specs.Frames.{FindsNext, StopsWith, IfFault, record_of, end_of_error}
+use Rattle.mrt_frame.specs.Steps.{Answer, HasMoved, seen}
+use Rattle.mrt_frame.proofs.Converse.{Tells, conversely, same_seen, of_octets}
+use Rattle.mrt_frame.proofs.frames.Frames+H.next.Goals as goal
+
+pub returns-in_err-advance : goal.returns-in_err-advance
+returns-in_err-advance g c =
+    let shelf = g.H.Shelf in
+    let e = c.in_err-advance.field-0.0 in
+    let is : ◌≡◌ {A = Answer} (Err e) c.from_residual.result = search rules in
+    let facts = c.in_err-advance.ensures in
+    let old = c.args.self.now in
+    let place = old.cursor.next in
+    let before = shelf.left old.shelf.now in
+    let new : Frames g.row.H.Denot Cursor = record { shelf = record old.shelf { now = c.advance.new.shelf }; cursor = c.advance.new.self } in
+    let tells : IfSome before (λ octets. Tells (Err e) place octets None) = of_octets (end_of_error e) before place facts.stopped in
+    let given = conversely c.from_residual.result before place None (subst (λ (r : Answer). IfSome before (λ octets. Tells r place octets None)) is tells) in
+    let moved : HasMoved shelf old (Err e) new = record {
+      same_reference = refl;
+      files = facts.files;
+      stands = tt;
+      next = tt;
+      rises = tt;
+      live = tt;
+      ended = tt;
+      at_end = tt;
+      broken = broken c.advance.new.self.live e facts.live.0;
+      later = facts.later;
+      quiet = facts.quiet;
+      failed = λ read. facts.failed (same_error e read);
+      steady = facts.steady;
+    } in (
+      (refl, (λ _. tt), subst (λ (r : Answer). HasMoved shelf old r new) is moved),
+      record {
+        ends = tt;
+        kind = subst (λ (r : Answer). IfOk r (λ found. IfSome found (λ r. is_read r.kind r.subtype ≡ true))) is tt;
+        onward = subst (λ (r : Answer). IfOk r (λ found. IfSome found (λ r. place.offset ≤ r.at.offset))) is tt;
+        end = subst (λ (r : Answer). IfOk r (λ found. IfNone found (IfSome before (λ octets. StopsWith place octets Well)))) is tt;
+        stopped = subst (λ (r : Answer). IfFault r (λ end. IfSome before (λ octets. StopsWith place octets end))) is facts.stopped;
+        record_is_given = given.record_is_given;
+        end_is_none = given.end_is_none;
+        stop_is_told = given.stop_is_told;
+        steady_reads = λ s read. facts.steady_reads s (same_error e (is ∙ read));
+      },
+    )
+  where
+    broken : (live : Bool) (e : FrameError) → (live ≡ true → ◌≡◌ {A = Result Bool FrameError} (Err e) (Ok true)) → live ≡ false
+    broken false e h = refl
+    broken true e h = let yes : ◌≡◌ {A = Result Bool FrameError} (Err e) (Ok true) = h refl in absurd cc
+
+    same_error : (e : FrameError) → ◌≡◌ {A = Answer} (Err e) (Err ReadFault) → ◌≡◌ {A = Result Bool FrameError} (Err e) (Err ReadFault)
+    same_error e is = ap (λ (x : FrameError). Err x) (error_is e is)
+      where
+        error_is : (e : FrameError) → ◌≡◌ {A = Answer} (Err e) (Err ReadFault) → e ≡ ReadFault
+        error_is e is = cc
+
+pub returns-then-branch : goal.returns-then-branch
+returns-then-branch g c =
+    let shelf = g.H.Shelf in
+    let ok : ◌≡◌ {A = Result Bool FrameError} (Ok c.in_ok-advance.field-0) (Ok true) = ap (λ (b : Bool). Ok b) c.if-branch.true in
+    let facts = c.in_ok-advance.ensures in
+    let place = c.args.self.now.cursor.next in
+    let cursor = c.advance.new.self in
+    let left = shelf.left c.advance.new.shelf in
+    let before = shelf.left c.args.self.now.shelf.now in
+    let lent = c.record.result in
+    let same : record_of cursor.at cursor.header cursor.body.items ≡ seen lent =
+    same_seen cursor.at cursor.header cursor.body.items lent c.record.ensures.at c.record.ensures.kind c.record.ensures.subtype c.record.ensures.body in
+    let stands : IfSome before (λ octets. FindsNext place octets (seen lent) left) = subst (λ (r : Record). IfSome before (λ octets. FindsNext place octets r left)) same (facts.record ok) in
+    let given = conversely (Ok (Some lent)) before place left stands in (
+      (
+        refl,
+        (λ _. tt),
+        record {
+          same_reference = refl;
+          files = facts.files;
+          stands = stands;
+          next = facts.next ok ∙ ap behind same;
+          rises = omega (arith, ap (λ (a : At). a.offset) (facts.next ok), facts.onward ok);
+          live = facts.live.1 ok;
+          ended = tt;
+          at_end = tt;
+          broken = tt;
+          later = facts.later;
+          quiet = λ _. facts.quiet tt;
+          failed = λ is. absurd cc;
+          steady = facts.steady;
+        },
+      ),
+      record {
+        ends = tt;
+        kind = ap₂ is_read c.record.ensures.kind c.record.ensures.subtype ∙ facts.kind ok;
+        onward = subst (λ (a : At). place.offset ≤ a.offset) (sym c.record.ensures.at) (facts.onward ok);
+        end = tt;
+        stopped = tt;
+        record_is_given = given.record_is_given;
+        end_is_none = given.end_is_none;
+        stop_is_told = given.stop_is_told;
+        steady_reads = λ _ is. absurd cc;
+      },
+    )
+
+pub returns-else-branch : goal.returns-else-branch
+returns-else-branch g c =
+    let shelf = g.H.Shelf in
+    let no : ◌≡◌ {A = Result Bool FrameError} (Ok c.in_ok-advance.field-0) (Ok false) = ap (λ (b : Bool). Ok b) c.if-branch.false in
+    let facts = c.in_ok-advance.ensures in
+    let place = c.args.self.now.cursor.next in
+    let left = shelf.left c.advance.new.shelf in
+    let before = shelf.left c.args.self.now.shelf.now in
+    let given = conversely (Ok None) before place left (facts.end no) in (
+      (
+        refl,
+        (λ _. tt),
+        record {
+          same_reference = refl;
+          files = facts.files;
+          stands = tt;
+          next = tt;
+          rises = tt;
+          live = tt;
+          ended = not_live c.advance.new.self.live c.in_ok-advance.field-0 c.if-branch.false facts.live.0;
+          at_end = facts.at_end no;
+          broken = tt;
+          later = facts.later;
+          quiet = λ _. facts.quiet tt;
+          failed = λ is. absurd cc;
+          steady = facts.steady;
+        },
+      ),
+      record {
+        ends = tt;
+        kind = tt;
+        onward = tt;
+        end = facts.end no;
+        stopped = tt;
+        record_is_given = given.record_is_given;
+        end_is_none = given.end_is_none;
+        stop_is_told = given.stop_is_told;
+        steady_reads = λ _ is. absurd cc;
+      },
+    )
+  where
+    not_live : (live found : Bool) → found ≡ false → (live ≡ true → ◌≡◌ {A = Result Bool FrameError} (Ok found) (Ok true)) → live ≡ false
+    not_live false found is h = refl
+    not_live true found is h = let yes : ◌≡◌ {A = Result Bool FrameError} (Ok found) (Ok true) = h refl in absurd cc

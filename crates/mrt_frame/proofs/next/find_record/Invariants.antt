@@ -1,0 +1,19 @@
+use Rattle.std.proofs.Common.{◌≡◌, ◌≤◌, ◌-◌, ◌+◌, ◌^◌}
+use Rattle.mrt_frame.proofs.Passing.{HasPassed}
+use Rattle.mrt_frame.proofs.next.find_record.Given as goal
+
+abbrev pub invariant-records : goal.invariant-records
+invariant-records g l =
+    let shelf = g.H.Shelf in
+    record {
+      files : shelf.files l.shelf ≡ shelf.files l.fn.shelf;
+      passed : HasPassed (shelf.left l.fn.shelf) l.fn.start (shelf.left l.shelf) l.at;
+      onward : l.fn.start.offset ≤ l.at.offset;
+      numbered : l.at.number ≤ l.at.offset + 1;
+      near : l.at.offset ≤ 2 ^ 40;
+      quiet : shelf.faults l.shelf ≡ shelf.faults l.fn.shelf;
+      steady : shelf.steady l.fn.shelf → shelf.steady l.shelf;
+    }
+
+abbrev pub decreases-records : goal.decreases-records
+decreases-records g l = 2 ^ 40 - l.at.offset

@@ -1,0 +1,17 @@
+use Rattle.std.proofs.Common.{◌≡◌, ◌≤◌, ◌-◌}
+use Rattle.mrt_frame.specs.Part.{Skips}
+use Rattle.mrt_frame.proofs.part.skip_part.Given as goal
+
+abbrev pub invariant-parts : goal.invariant-parts
+invariant-parts g l =
+    let shelf = g.H.Shelf in
+    record {
+      files : shelf.files l.shelf ≡ shelf.files l.fn.shelf;
+      skipped : Skips (shelf.left l.fn.shelf) l.passed (shelf.left l.shelf);
+      no_more : l.passed ≤ l.wanted;
+      quiet : shelf.faults l.shelf ≡ shelf.faults l.fn.shelf;
+      steady : shelf.steady l.fn.shelf → shelf.steady l.shelf;
+    }
+
+abbrev pub decreases-parts : goal.decreases-parts
+decreases-parts g l = l.wanted - l.passed

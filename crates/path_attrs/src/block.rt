@@ -1,0 +1,80 @@
+ghost use Rattle.std.specs.Prelude.{◌≡◌, ◌<◌, ◌≤◌, length, IfOk, IfSome, option_map};
+ghost use Rattle.path_attrs.specs.Fields.{Gives};
+ghost use Rattle.path_attrs.specs.Attributes.{Attribute, attribute, attributes_of, first_value};
+
+use crate::fields::{number16, octet, octets};
+use std::marker::Model;
+
+/// A block of octets that is no list of whole attributes.
+#[derive(Clone, Copy, Debug, PartialEq, Eq)]
+pub struct AttrCut;
+
+/// The flag of an attribute whose length has two octets.
+const EXTENDED: u8 = 0x10;
+
+/// The path attributes of a block in order, each a type code and a value.
+#[derive(Debug, Drop)]
+pub struct Attrs<'a> {
+    block: &'a [u8],
+}
+
+impl<'a> Model for Attrs<'a> {
+    ghost use Rattle.std.specs.Prelude.{List, IsOk};
+    ghost use Rattle.path_attrs.specs.Attributes.{Attribute, attributes_in, attributes_of};
+
+    ghost Value = { List Attribute };
+
+    ghost view = { λ attrs. attributes_in attrs.block.now };
+
+    ghost invariant = { λ attrs. IsOk (attributes_of attrs.block.now) };
+}
+
+impl Attrs<'_> {
+    /// The value of the first attribute of a type code. None exactly where no attribute has the code. It takes no memory.
+    pub fn first(&self, code: u8) -> Option<&[u8]>
+        ensures first { option_map (λ value. value.now) result ≡ first_value code self.now }
+        ensures within { IfSome result (λ value. length value.now ≤ 65535) }
+    {
+        let mut rest = self.block;
+        'attributes: while let Ok((found, value, behind)) = attribute_of(rest) {
+            if found == code {
+                return Some(value);
+            }
+            rest = behind;
+        }
+        None
+    }
+}
+
+// The attribute at the front: its type code and its value, and the octets behind it.
+#[tactic(auto, unfolding(crate::specs::Attributes::attribute))]
+fn attribute_of(bytes: &[u8]) -> Result<(u8, &[u8], &[u8]), AttrCut>
+    ensures within { IfOk result (λ x. length x.1.now ≤ 65535) }
+    ensures shorter { IfOk result (λ x. length x.2.now < length bytes.now) }
+    ensures gives { Gives (λ x. (record { code = x.0; value = x.1.now }, x.2.now)) result (attribute bytes.now) }
+{
+    let (flags, rest) = octet(bytes, AttrCut)?;
+    let (code, rest) = octet(rest, AttrCut)?;
+    if flags & EXTENDED == 0 {
+        let (len, rest) = octet(rest, AttrCut)?;
+        let (value, rest) = octets(rest, usize::from(len), AttrCut)?;
+        Ok((code, value, rest))
+    } else {
+        let (len, rest) = number16(rest, AttrCut)?;
+        let (value, rest) = octets(rest, usize::from(len), AttrCut)?;
+        Ok((code, value, rest))
+    }
+}
+
+/// The attributes of a block (RFC 4271, section 4.3). AttrCut exactly where the block is no list of whole attributes. It takes
+/// no memory.
+pub fn attributes(block: &[u8]) -> Result<Attrs<'_>, AttrCut>
+    ensures { result ≡ attributes_of block.now }
+{
+    let mut rest = block;
+    'attributes: while !rest.is_empty() {
+        let (_, _, behind) = attribute_of(rest)?;
+        rest = behind;
+    }
+    Ok(Attrs { block })
+}

@@ -1,0 +1,17 @@
+//! Path attributes (RFC 4271, section 4.3) and the segments of an AS_PATH.
+#![tactic(auto)]
+
+mod as_path;
+mod block;
+mod fault;
+mod fields;
+mod laws;
+
+pub use as_path::{SegKind, Segment, Width, segments};
+pub use block::{AttrCut, Attrs, attributes};
+pub use fault::RibFault;
+pub use fields::{number16, octet, octets};
+pub use laws::{block_law, value_law};
+
+#[cfg(test)]
+mod tests;

@@ -1,0 +1,6 @@
+mod Vectors
+pub mod Distinct
+pub mod Judged
+pub mod ChainLemmas
+pub mod TableLemmas
+pub mod CountingLemmas

@@ -1,0 +1,189 @@
+-- A table of paths with their times, when a path is added.
+use Rattle.std.proofs.Common.{◌≡◌, ◌≢◌, ℕ, zero, suc, ◌+◌, ◌^◌, ◌<◌, ◌≤◌, Bool, true, false, not, cond, ◌&&◌, ◌||◌, leb, List, [], ◌∷◌, ◌++◌, length, get_or, set, slice_get, Some, None, option_map, bytes_eq, refl, sym, ap, ap₂, ◌∙◌, arith, length-append}
+use Rattle.std.specs.Prelude.{sum_by, nat_le}
+use Rattle.std.specs.List.{list_any, list_all}
+use Rattle.std.proofs.lemmas.Bool.{both_ways, le-leb, leb-true, and_parts}
+use Rattle.std.proofs.lemmas.Slice.Eq.{bytes_eq-Decides}
+use Rattle.std.proofs.lemmas.List.{length-set}
+use Rattle.std.proofs.lemmas.List.Folds.{list_all-append}
+use Rattle.std.proofs.lemmas.List.Sums.{sum_by-append, sum_by-cons}
+use Rattle.path_clean.specs.Paths.{is_cleaned}
+use Rattle.path_clean.specs.Counts.{one_more}
+use Rattle.path_clean.specs.Chains.{row_at}
+use Rattle.path_clean.specs.Rows.{Counted, paths_of, numbers_in, none_twice}
+use Rattle.path_clean.specs.Inside.{counted_by, IsTable}
+use Rattle.path_clean.specs.Table.{place_of, with_path}
+
+pub eq_true : (x y : List ℕ) → bytes_eq x y ≡ true → x ≡ y
+eq_true x y e = (bytes_eq-Decides x y).0 e
+
+pub eq_self : (x y : List ℕ) → x ≡ y → bytes_eq x y ≡ true
+eq_self x y e = (bytes_eq-Decides x y).1 e
+
+-- the table's rows, as paths and as times
+
+pub length-counted_by : (paths : List (List ℕ)) (times : List ℕ) → length times ≡ length paths → length (counted_by paths times) ≡ length paths
+length-counted_by [] times same = refl
+length-counted_by (p ∷ ps) [] same = absurd (omega arith)
+length-counted_by (p ∷ ps) (n ∷ ns) same = ap suc (length-counted_by ps ns (omega arith))
+
+pub paths_of-counted_by : (paths : List (List ℕ)) (times : List ℕ) → length times ≡ length paths → paths_of (counted_by paths times) ≡ paths
+paths_of-counted_by [] times same = refl
+paths_of-counted_by (p ∷ ps) [] same = absurd (omega arith)
+paths_of-counted_by (p ∷ ps) (n ∷ ns) same = ap (λ (t : List (List ℕ)). p ∷ t) (paths_of-counted_by ps ns (omega arith))
+
+pub numbers_in-counted_by : (paths : List (List ℕ)) (times : List ℕ) → length times ≡ length paths → numbers_in (counted_by paths times) ≡ sum_by length paths
+numbers_in-counted_by [] times same = refl
+numbers_in-counted_by (p ∷ ps) [] same = absurd (omega arith)
+numbers_in-counted_by (p ∷ ps) (n ∷ ns) same =
+    sum_by-cons (λ row. length row.path) (record { path = p; times = n }) (counted_by ps ns) ∙ ap (λ k. length p + k) (numbers_in-counted_by ps ns (omega arith)) ∙ sym (sum_by-cons length p ps)
+
+pub times-counted_by : (paths : List (List ℕ)) (times : List ℕ) (k : ℕ) → length times ≡ length paths → k < length paths
+    → option_map (λ row. row.times) (slice_get (counted_by paths times) k) ≡ Some (get_or times k 0)
+times-counted_by [] times k same lt = absurd (omega arith)
+times-counted_by (p ∷ ps) [] k same lt = absurd (omega arith)
+times-counted_by (p ∷ ps) (n ∷ ns) zero same lt = refl
+times-counted_by (p ∷ ps) (n ∷ ns) (suc k) same lt = times-counted_by ps ns k (omega arith) (omega arith)
+
+pub some-at : (times : List ℕ) (k : ℕ) → list_all (nat_le 1) times ≡ true → k < length times → 1 ≤ get_or times k 0
+some-at [] k all lt = absurd (omega arith)
+some-at (n ∷ ns) zero all lt = leb-true 1 n (and_parts (leb 1 n) (list_all (nat_le 1) ns) all).0
+some-at (n ∷ ns) (suc k) all lt = some-at ns k (and_parts (leb 1 n) (list_all (nat_le 1) ns) all).1 (omega arith)
+
+-- a path that is there
+
+abbrev pub again : List ℕ → ℕ → List ℕ
+again times k = set times k (one_more (get_or times k 0))
+
+any-at : (paths : List (List ℕ)) (p : List ℕ) (k : ℕ) → k < length paths → row_at paths k ≡ p → list_any (λ other. bytes_eq other p) paths ≡ true
+any-at [] p k lt is = absurd (omega arith)
+any-at (x ∷ xs) p zero lt is = ap (λ b. b || list_any (λ other. bytes_eq other p) xs) (eq_self x p is)
+any-at (x ∷ xs) p (suc k) lt is = by (bytes_eq x p) (any-at xs p k (omega arith) is)
+  where
+    by : (b : Bool) → list_any (λ other. bytes_eq other p) xs ≡ true → (b || list_any (λ other. bytes_eq other p) xs) ≡ true
+    by true ih = refl
+    by false ih = ih
+
+pub none-any : (paths : List (List ℕ)) (p : List ℕ) → ((k : ℕ) → k < length paths → row_at paths k ≢ p) → list_any (λ other. bytes_eq other p) paths ≡ false
+none-any [] p none = refl
+none-any (x ∷ xs) p none = by (bytes_eq x p) refl (none-any xs p (λ k lt. none (suc k) (omega arith)))
+  where
+    by : (b : Bool) → bytes_eq x p ≡ b → list_any (λ other. bytes_eq other p) xs ≡ false → (b || list_any (λ other. bytes_eq other p) xs) ≡ false
+    by true e ih = absurd (none 0 (omega arith) (eq_true x p e))
+    by false e ih = ih
+
+-- the parts of a list in which no path stands twice
+once-parts : (x : List ℕ) (xs : List (List ℕ)) → none_twice (x ∷ xs) ≡ true → (list_any (λ other. bytes_eq other x) xs ≡ false) × (none_twice xs ≡ true)
+once-parts x xs h = by (list_any (λ other. bytes_eq other x) xs) refl h
+  where
+    by : (b : Bool) → list_any (λ other. bytes_eq other x) xs ≡ b → (not b && none_twice xs) ≡ true → (list_any (λ other. bytes_eq other x) xs ≡ false) × (none_twice xs ≡ true)
+    by true e h = absurd cc
+    by false e h = (e, h)
+
+pub record IsAgain (paths : List (List ℕ)) (times path : List ℕ) (k : ℕ) : Type 0 where
+  pub place : place_of (counted_by paths times) path ≡ Some k
+  pub rows : counted_by paths (again times k) ≡ with_path (counted_by paths times) path
+
+pub again-at : (paths : List (List ℕ)) (times path : List ℕ) (k : ℕ) → length times ≡ length paths → none_twice paths ≡ true → k < length paths → row_at paths k ≡ path
+    → IsAgain paths times path k
+again-at [] times path k same once lt is = absurd (omega arith)
+again-at (x ∷ xs) [] path k same once lt is = absurd (omega arith)
+again-at (x ∷ xs) (n ∷ ns) path zero same once lt is =
+    let e = eq_self x path is in record {
+      place = ap (λ b. cond b (Some 0) (option_map suc (place_of (counted_by xs ns) path))) e;
+      rows = sym (ap (λ b. cond b (record { path = x; times = one_more n } ∷ counted_by xs ns) (record { path = x; times = n } ∷ with_path (counted_by xs ns) path)) e);
+    }
+again-at (x ∷ xs) (n ∷ ns) path (suc k) same once lt is =
+    let parts = once-parts x xs once in
+    by (again-at xs ns path k (omega arith) parts.1 (omega arith) is) (bytes_eq x path) refl parts.0
+  where
+    by : IsAgain xs ns path k → (b : Bool) → bytes_eq x path ≡ b → list_any (λ other. bytes_eq other x) xs ≡ false → IsAgain (x ∷ xs) (n ∷ ns) path (suc k)
+    by ih true e none = absurd (both_ways (list_any (λ other. bytes_eq other x) xs) none (any-at xs x k (omega arith) (is ∙ sym (eq_true x path e))))
+    by ih false e none = record {
+      place = ap (λ b. cond b (Some 0) (option_map suc (place_of (counted_by xs ns) path))) e ∙ ap (option_map suc) ih.place;
+      rows = ap (λ (t : List Counted). record { path = x; times = n } ∷ t) ih.rows
+          ∙ sym (ap (λ b. cond b (record { path = x; times = one_more n } ∷ counted_by xs ns) (record { path = x; times = n } ∷ with_path (counted_by xs ns) path)) e);
+    }
+
+some-again : (times : List ℕ) (k : ℕ) → list_all (nat_le 1) times ≡ true → list_all (nat_le 1) (again times k) ≡ true
+some-again [] k all = refl
+some-again (n ∷ ns) zero all =
+    let parts = and_parts (leb 1 n) (list_all (nat_le 1) ns) all in
+    let most : 1 ≤ one_more n = omega arith in
+    ap₂ (λ a b. a && b) (le-leb 1 (one_more n) most) parts.1
+some-again (n ∷ ns) (suc k) all =
+    let parts = and_parts (leb 1 n) (list_all (nat_le 1) ns) all in
+    ap₂ (λ a b. a && b) parts.0 (some-again ns k parts.1)
+
+pub IsTable-again : (limit numbers : ℕ) (paths : List (List ℕ)) (times : List ℕ) (k : ℕ) → IsTable limit numbers paths times → IsTable limit numbers paths (again times k)
+IsTable-again limit numbers paths times k t = record {
+  bound = t.bound;
+  few = t.few;
+  same = length-set times k (one_more (get_or times k 0)) ∙ t.same;
+  sum = t.sum;
+  short = t.short;
+  clean = t.clean;
+  once = t.once;
+  some = some-again times k t.some;
+}
+
+-- a path that is new
+
+pub record IsLast (paths : List (List ℕ)) (times path : List ℕ) : Type 0 where
+  pub place : place_of (counted_by paths times) path ≡ None
+  pub rows : counted_by (paths ++ path ∷ []) (times ++ 1 ∷ []) ≡ with_path (counted_by paths times) path
+
+pub last-at : (paths : List (List ℕ)) (times path : List ℕ) → length times ≡ length paths → list_any (λ other. bytes_eq other path) paths ≡ false → IsLast paths times path
+last-at [] [] path same none = record { place = refl; rows = refl }
+last-at [] (n ∷ ns) path same none = absurd (omega arith)
+last-at (x ∷ xs) [] path same none = absurd (omega arith)
+last-at (x ∷ xs) (n ∷ ns) path same none = by (λ h. last-at xs ns path (omega arith) h) (bytes_eq x path) refl none
+  where
+    by : (list_any (λ other. bytes_eq other path) xs ≡ false → IsLast xs ns path) → (b : Bool) → bytes_eq x path ≡ b → (b || list_any (λ other. bytes_eq other path) xs) ≡ false
+        → IsLast (x ∷ xs) (n ∷ ns) path
+    by ih true e h = absurd cc
+    by ih false e h = record {
+      place = ap (λ b. cond b (Some 0) (option_map suc (place_of (counted_by xs ns) path))) e ∙ ap (option_map suc) (ih h).place;
+      rows = ap (λ (t : List Counted). record { path = x; times = n } ∷ t) (ih h).rows
+          ∙ sym (ap (λ b. cond b (record { path = x; times = one_more n } ∷ counted_by xs ns) (record { path = x; times = n } ∷ with_path (counted_by xs ns) path)) e);
+    }
+
+any-append : (paths : List (List ℕ)) (p x : List ℕ) → list_any (λ other. bytes_eq other x) (paths ++ p ∷ []) ≡ (list_any (λ other. bytes_eq other x) paths || bytes_eq p x)
+any-append [] p x = or-false (bytes_eq p x)
+  where
+    or-false : (b : Bool) → (b || false) ≡ b
+    or-false true = refl
+    or-false false = refl
+any-append (y ∷ ys) p x = by (bytes_eq y x) (any-append ys p x)
+  where
+    by : (b : Bool) → list_any (λ other. bytes_eq other x) (ys ++ p ∷ []) ≡ (list_any (λ other. bytes_eq other x) ys || bytes_eq p x)
+        → (b || list_any (λ other. bytes_eq other x) (ys ++ p ∷ [])) ≡ ((b || list_any (λ other. bytes_eq other x) ys) || bytes_eq p x)
+    by true ih = refl
+    by false ih = ih
+
+once-push : (paths : List (List ℕ)) (p : List ℕ) → none_twice paths ≡ true → list_any (λ other. bytes_eq other p) paths ≡ false → none_twice (paths ++ p ∷ []) ≡ true
+once-push [] p once none = refl
+once-push (x ∷ xs) p once none =
+    let parts = once-parts x xs once in by (λ h. once-push xs p parts.1 h) (bytes_eq x p) (bytes_eq p x) refl refl parts.0 none
+  where
+    by : (list_any (λ other. bytes_eq other p) xs ≡ false → none_twice (xs ++ p ∷ []) ≡ true) → (b c : Bool) → bytes_eq x p ≡ b → bytes_eq p x ≡ c
+        → list_any (λ other. bytes_eq other x) xs ≡ false → (b || list_any (λ other. bytes_eq other p) xs) ≡ false → none_twice (x ∷ (xs ++ p ∷ [])) ≡ true
+    by ih true c e f first h = absurd cc
+    by ih false true e f first h = absurd (both_ways (bytes_eq x p) e (eq_self x p (sym (eq_true p x f))))
+    by ih false false e f first h = ap₂ (λ a b. not a && b) (any-append xs p x ∙ ap₂ (λ a b. a || b) first f) (ih h)
+
+pub IsTable-push : (limit numbers : ℕ) (paths : List (List ℕ)) (times path : List ℕ) → IsTable limit numbers paths times → length paths < limit → numbers + length path ≤ 2 ^ 26
+    → is_cleaned path ≡ true → list_any (λ other. bytes_eq other path) paths ≡ false → IsTable limit (numbers + length path) (paths ++ path ∷ []) (times ++ 1 ∷ [])
+IsTable-push limit numbers paths times path t room short clean none =
+    let more = length-append paths (path ∷ []) in
+    let many = length-append times (1 ∷ []) in
+    let same = t.same in record {
+      bound = t.bound;
+      few = omega (arith, more, room);
+      same = omega (arith, more, many, same);
+      sum = ap (λ n. n + length path) t.sum ∙ sym (sum_by-append length paths (path ∷ []) ∙ ap (λ n. sum_by length paths + n) (sum_by-cons length path [] ∙ omega arith));
+      short = short;
+      clean = list_all-append is_cleaned paths (path ∷ []) ∙ ap₂ (λ a b. a && (b && true)) t.clean clean;
+      once = once-push paths path t.once none;
+      some = list_all-append (nat_le 1) times (1 ∷ []) ∙ ap (λ a. a && true) t.some;
+    }

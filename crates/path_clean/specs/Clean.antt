@@ -1,0 +1,94 @@
+-- What a route's AS_PATH is cleaned to. The first rule that sets the route aside decides.
+use Rattle.std.specs.Prelude.{◌≡◌, ℕ, ◌==◌, Bool, true, false, not, ◌&&◌, nat_lt, nat_eq, List, [], ◌∷◌, length, take, Option, Some, None, if◌then◌else◌}
+use Rattle.std.specs.List.{list_any, list_all, flat_map, before_first, dedup}
+use Rattle.path_attrs.specs.Attributes.{Attribute, first_value}
+use Rattle.path_attrs.specs.Segments.{segments_of}
+use Rattle.path_attrs.specs.declared.as_path.Width.{Width}
+use Rattle.path_attrs.specs.declared.as_path.SegKind.{SegKind}
+use Rattle.path_attrs.specs.declared.as_path.SegKind.TheVariants.{Set, Sequence, ConfedSequence, ConfedSet}
+use Rattle.path_attrs.specs.declared.as_path.Segment.{Segment}
+use Rattle.path_clean.specs.declared.cleaned.Sets.{Sets}
+use Rattle.path_clean.specs.declared.cleaned.Sets.TheVariants.{Cut, Skip}
+use Rattle.path_clean.specs.declared.cleaned.Cause.{Cause}
+use Rattle.path_clean.specs.declared.cleaned.Cause.TheVariants.{NoPath, BadSegments, Confed, Reserved, Loop, Short}
+use Rattle.path_clean.specs.declared.cleaned.Cleaned.{Cleaned}
+use Rattle.path_clean.specs.declared.cleaned.Cleaned.TheVariants.{Path, Aside}
+use Rattle.path_clean.specs.Paths.{is_reserved, is_distinct, is_cleaned}
+
+-- the type code of AS_PATH (RFC 4271, section 5.1.2)
+abbrev pub as_path : ℕ
+as_path = 2
+
+abbrev pub is_set : SegKind → Bool
+is_set Set = true
+is_set Sequence = false
+is_set ConfedSequence = false
+is_set ConfedSet = false
+
+-- a segment of a confederation: AS_CONFED_SEQUENCE or AS_CONFED_SET (RFC 5065, section 3)
+abbrev pub is_confed : SegKind → Bool
+is_confed Set = false
+is_confed Sequence = false
+is_confed ConfedSequence = true
+is_confed ConfedSet = true
+
+-- the members are all equal
+abbrev pub are_equal : List ℕ → Bool
+are_equal [] = true
+are_equal (x ∷ xs) = list_all (λ y. y == x) xs
+
+-- an AS_SET whose members differ
+abbrev pub is_mixed_set : Segment → Bool
+is_mixed_set s = is_set s.kind && not (are_equal s.ases)
+
+-- the ASes that a segment stands for: an AS_SET whose members are all equal stands for that one AS
+abbrev pub ases_of : Segment → List ℕ
+ases_of s = if is_set s.kind then take 1 s.ases else s.ases
+
+-- what stands before the first AS_SET whose members differ, with equal neighbours merged into one (RFC 4271, section 5.1.2: an
+-- AS may put its number there more than once)
+abbrev pub merged_path : List Segment → List ℕ
+merged_path segments = dedup nat_eq (flat_map ases_of (before_first is_mixed_set segments))
+
+abbrev pub is_skip : Sets → Bool
+is_skip Cut = false
+is_skip Skip = true
+
+-- a reserved number is left; an AS stands there twice; fewer than two ASes are left
+abbrev pub judged : List ℕ → Cleaned
+judged path =
+    if list_any is_reserved path then Aside Reserved
+    else if not (is_distinct path) then Aside Loop
+    else if nat_lt (length path) 2 then Aside Short
+    else Path path
+
+-- a segment of a confederation; with `skip`, an AS_SET whose members differ; else the path before the first such set is judged
+abbrev pub clean_segments : Sets → List Segment → Cleaned
+clean_segments sets segments =
+    if list_any (λ s. is_confed s.kind) segments then Aside Confed
+    else if is_skip sets && list_any is_mixed_set segments then Aside Cause.Sets
+    else judged (merged_path segments)
+
+-- the value is malformed (RFC 7606, section 7.2)
+abbrev pub clean_value : Sets → Option (List Segment) → Cleaned
+clean_value sets None = Aside BadSegments
+clean_value sets (Some segments) = clean_segments sets segments
+
+-- there is no AS_PATH
+abbrev pub clean_attribute : Sets → Width → Option (List ℕ) → Cleaned
+clean_attribute sets width None = Aside NoPath
+clean_attribute sets width (Some value) = clean_value sets (segments_of width value)
+
+-- the first AS_PATH counts
+abbrev pub clean_of : Sets → Width → List Attribute → Cleaned
+clean_of sets width attrs = clean_attribute sets width (first_value as_path attrs)
+
+-- what is cleaned to a path has at least two ASes, all distinct, none reserved
+abbrev pub PathsAreClean : Type 0
+PathsAreClean = (sets : Sets) (width : Width) (attrs : List Attribute) (path : List ℕ) → clean_of sets width attrs ≡ Path path → is_cleaned path ≡ true
+
+-- a clean path that is spelled as one AS_SEQUENCE comes out as it stands
+abbrev pub CleanPathsStay : Type 0
+CleanPathsStay = (sets : Sets) (width : Width) (attrs : List Attribute) (value path : List ℕ)
+    → first_value as_path attrs ≡ Some value → segments_of width value ≡ Some (record { kind = Sequence; ases = path } ∷ []) → is_cleaned path ≡ true
+    → clean_of sets width attrs ≡ Path path

@@ -1,0 +1,39 @@
+-- How many routes were set aside for each cause.
+use Rattle.std.specs.Prelude.{ℕ, ◌+◌, ◌-◌, ◌^◌, min}
+use Rattle.path_clean.specs.declared.cleaned.Cause.{Cause}
+use Rattle.path_clean.specs.declared.cleaned.Cause.TheVariants.{NoPath, BadSegments, Confed, Sets, Reserved, Loop, Short}
+
+pub record Counts : Type 0 where
+  pub no_path : ℕ
+  pub bad_segments : ℕ
+  pub confed : ℕ
+  pub sets : ℕ
+  pub reserved : ℕ
+  pub loop : ℕ
+  pub short : ℕ
+
+abbrev pub no_counts : Counts
+no_counts = record { no_path = 0; bad_segments = 0; confed = 0; sets = 0; reserved = 0; loop = 0; short = 0 }
+
+abbrev pub count_of : Cause → Counts → ℕ
+count_of NoPath counts = counts.no_path
+count_of BadSegments counts = counts.bad_segments
+count_of Confed counts = counts.confed
+count_of Sets counts = counts.sets
+count_of Reserved counts = counts.reserved
+count_of Loop counts = counts.loop
+count_of Short counts = counts.short
+
+-- one more, where a count stops at 2 ^ 64 - 1
+abbrev pub one_more : ℕ → ℕ
+one_more n = min (n + 1) (2 ^ 64 - 1)
+
+-- the same with one more route set aside for the cause
+abbrev pub counted_one : Cause → Counts → Counts
+counted_one NoPath counts = record counts { no_path = one_more counts.no_path }
+counted_one BadSegments counts = record counts { bad_segments = one_more counts.bad_segments }
+counted_one Confed counts = record counts { confed = one_more counts.confed }
+counted_one Sets counts = record counts { sets = one_more counts.sets }
+counted_one Reserved counts = record counts { reserved = one_more counts.reserved }
+counted_one Loop counts = record counts { loop = one_more counts.loop }
+counted_one Short counts = record counts { short = one_more counts.short }

@@ -1,0 +1,20 @@
+//! The laws. Each is the contract of a function that does nothing.
+
+ghost use Rattle.path_clean.specs.Clean.{PathsAreClean, CleanPathsStay};
+ghost use Rattle.path_clean.specs.Table.{CountingLaw};
+
+/// What is cleaned to a path has at least two ASes, all distinct, none reserved.
+pub fn paths_are_clean()
+    ensures { PathsAreClean }
+{}
+
+/// A clean path that is spelled as one AS_SEQUENCE comes out as it stands.
+pub fn clean_paths_stay()
+    ensures { CleanPathsStay }
+{}
+
+/// Counting paths one after the other, from nothing, gives the distinct ones in order of first appearance, each with how often it
+/// stands there, up to 2^64 - 1.
+pub fn counting()
+    ensures { CountingLaw }
+{}

@@ -1,0 +1,19 @@
+//! AS paths that are cleaned, and the table of the distinct ones.
+#![tactic(auto)]
+
+mod asides;
+mod chain;
+mod cleaned;
+mod cleaning;
+mod distinct_rows;
+mod laws;
+mod table;
+
+pub use asides::Asides;
+pub use cleaned::{Cause, Cleaned, Sets, is_cleaned};
+pub use cleaning::clean;
+pub use laws::{clean_paths_stay, counting, paths_are_clean};
+pub use table::{AddRefused, Added, PathTable};
+
+#[cfg(test)]
+mod tests;

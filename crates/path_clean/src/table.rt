@@ -1,0 +1,137 @@
+ghost use Rattle.std.specs.Prelude.{◌≡◌, ◌+◌, ◌<◌, ◌≤◌, ◌^◌, ◌↔◌, [], length, option_map, slice_get, sum_by, IsTrue, IsSome, IsNone, IsOk, IfOk, OnOk, OnErr};
+ghost use Rattle.std.specs.List.{list_all};
+ghost use Rattle.path_clean.specs.Paths.{is_cleaned};
+ghost use Rattle.path_clean.specs.Rows.{paths_of, numbers_in, none_twice};
+ghost use Rattle.path_clean.specs.Table.{place_of, with_path, Names};
+
+use crate::distinct_rows::IndexedPaths;
+use std::alloc::Global;
+use std::marker::Model;
+use tor_arena::{Index, PathId, Rows};
+
+/// The most numbers that the distinct paths of a table have in sum.
+const MAX_NUMBERS: usize = 1 << 26;
+
+/// Where a path that was added stands.
+#[derive(Clone, Copy, Debug, PartialEq, Eq)]
+pub enum Added {
+    /// It stood there before.
+    Known(PathId),
+    /// It is new, and stands last.
+    New(PathId),
+}
+
+/// Why a path was not added.
+#[derive(Clone, Copy, Debug, PartialEq, Eq)]
+pub enum AddRefused {
+    /// The path is new, and as many paths are there as the table may have.
+    TooManyPaths,
+    /// The path is new, and with it the paths would have more than 2^26 numbers in sum.
+    TooManyNumbers,
+    /// Memory ran out.
+    NoMemory,
+}
+
+/// The distinct paths in order of first appearance, each with its times, which is how often it was added.
+#[derive(Drop)]
+pub struct PathTable {
+    paths: IndexedPaths,
+    counts: Vec<u64>,
+    // how many numbers the paths have in sum
+    numbers: usize,
+    max_paths: u32,
+}
+
+impl Model for PathTable {
+    ghost use Rattle.path_clean.specs.Rows.{Table};
+    ghost use Rattle.path_clean.specs.Inside.{counted_by, IsTable};
+
+    ghost Value = { Table };
+
+    ghost view = { λ table. record { limit = table.max_paths; rows = counted_by table.paths table.counts.items } };
+
+    ghost invariant = { λ table. IsTable table.max_paths table.numbers table.paths table.counts.items };
+}
+
+impl PathTable {
+    /// No paths, and room for at most `max_paths` of them, 1 to 8388608. It takes no memory.
+    pub fn new(alloc: Global, max_paths: u32) -> PathTable
+        requires some { 1 ≤ max_paths }
+        requires most { max_paths ≤ 8388608 }
+        ensures limit { result.limit ≡ max_paths }
+        ensures empty { result.rows ≡ [] }
+    {
+        PathTable {
+            paths: IndexedPaths::new(alloc),
+            counts: Vec::new(alloc),
+            numbers: 0,
+            max_paths,
+        }
+    }
+
+    /// Adds a clean path. A known one gains one in its times, up to 2^64 - 1, takes no memory and is never refused. A new one goes
+    /// last with times 1. TooManyPaths exactly where it is new and as many paths are there as may be. TooManyNumbers exactly where
+    /// it is new, fewer are there, and the lengths would sum above 2^26. NoMemory where memory ran out. All three leave the table
+    /// as it was.
+    pub fn add(&mut self, path: &[u32]) -> Result<Added, AddRefused>
+        requires { IsTrue (is_cleaned path.now) }
+        ensures added { OnOk result (self.new.rows ≡ with_path self.old.rows path.now) }
+        ensures answer { IfOk result (Names self.old.rows path.now) }
+        ensures known { IsSome (place_of self.old.rows path.now) → IsOk result }
+        ensures paths { (result ≡ Err AddRefused.TooManyPaths) ↔ ((place_of self.old.rows path.now ≡ None) × (length self.old.rows ≡ self.old.limit)) }
+        ensures numbers { (result ≡ Err AddRefused.TooManyNumbers) ↔ ((place_of self.old.rows path.now ≡ None) × (length self.old.rows < self.old.limit)
+            × (2 ^ 26 < numbers_in self.old.rows + length path.now)) }
+        ensures limit { self.new.limit ≡ self.old.limit }
+        ensures unchanged { OnErr result (self.new.rows ≡ self.old.rows) }
+    {
+        if let Some(id) = self.paths.find(path) {
+            let times = &mut self.counts[id.place()];
+            *times = times.saturating_add(1);
+            return Ok(Added::Known(id));
+        }
+        if self.counts.len() == self.max_paths as usize {
+            return Err(AddRefused::TooManyPaths);
+        }
+        if path.len() > MAX_NUMBERS - self.numbers {
+            return Err(AddRefused::TooManyNumbers);
+        }
+        if self.counts.reserve(1).is_err() {
+            return Err(AddRefused::NoMemory);
+        }
+        let Ok(id) = self.paths.push(path) else {
+            return Err(AddRefused::NoMemory);
+        };
+        self.counts.push_reserved(1);
+        self.numbers += path.len();
+        Ok(Added::New(id))
+    }
+
+    /// The paths in order: each is clean, no two are the same, and they have at most 2^26 numbers in sum. It takes no memory.
+    pub fn rows(&self) -> &Rows<PathId, u32>
+        ensures paths { result.now ≡ paths_of self.now.rows }
+        ensures clean { IsTrue (list_all is_cleaned result.now) }
+        ensures once { IsTrue (none_twice result.now) }
+        ensures numbers { numbers_in self.now.rows ≤ 2 ^ 26 }
+        ensures sum { sum_by length result.now ≡ numbers_in self.now.rows }
+    {
+        self.paths.rows()
+    }
+
+    /// How often the path of an index, which has to be there, was added: at least once, and up to 2^64 - 1. It takes no memory.
+    pub fn times(&self, id: PathId) -> u64
+        requires { id < length self.now.rows }
+        ensures times { option_map (λ row. row.times) (slice_get self.now.rows id) ≡ Some result }
+        ensures some { 1 ≤ result }
+    {
+        self.counts[id.place()]
+    }
+
+    /// How many paths there are, at most as many as may be. It takes no memory.
+    pub fn len(&self) -> usize
+        ensures length { result ≡ length self.now.rows }
+        ensures few { length self.now.rows ≤ self.now.limit }
+        ensures limit { self.now.limit ≤ 8388608 }
+    {
+        self.counts.len()
+    }
+}

@@ -1,0 +1,191 @@
+use crate::{AddRefused, Added, Asides, Cause, Cleaned, PathTable, Sets, clean, is_cleaned};
+use path_attrs::{Width, attributes};
+use std::alloc::{AllocError, Global};
+use std::test::Fail;
+use tor_arena::{Index, PathId};
+
+/// A block of attributes, with AS numbers of two octets, and what it is cleaned to.
+struct Case {
+    block: &'static [u8],
+    cut: Want,
+    skip: Want,
+}
+
+enum Want {
+    Path(&'static [u32]),
+    Aside(Cause),
+}
+
+static CASES: [Case; 14] = [
+    // 10 10 20 20 30
+    Case {
+        block: &[0x40, 2, 12, 2, 5, 0, 10, 0, 10, 0, 20, 0, 20, 0, 30],
+        cut: Want::Path(&[10, 20, 30]),
+        skip: Want::Path(&[10, 20, 30]),
+    },
+    // 10 20 10
+    Case {
+        block: &[0x40, 2, 8, 2, 3, 0, 10, 0, 20, 0, 10],
+        cut: Want::Aside(Cause::Loop),
+        skip: Want::Aside(Cause::Loop),
+    },
+    // 10 10
+    Case {
+        block: &[0x40, 2, 6, 2, 2, 0, 10, 0, 10],
+        cut: Want::Aside(Cause::Short),
+        skip: Want::Aside(Cause::Short),
+    },
+    // no segment
+    Case {
+        block: &[0x40, 2, 0],
+        cut: Want::Aside(Cause::Short),
+        skip: Want::Aside(Cause::Short),
+    },
+    // 10 0 10
+    Case {
+        block: &[0x40, 2, 8, 2, 3, 0, 10, 0, 0, 0, 10],
+        cut: Want::Aside(Cause::Reserved),
+        skip: Want::Aside(Cause::Reserved),
+    },
+    // 10 23456
+    Case {
+        block: &[0x40, 2, 6, 2, 2, 0, 10, 91, 160],
+        cut: Want::Aside(Cause::Reserved),
+        skip: Want::Aside(Cause::Reserved),
+    },
+    // 10 64512
+    Case {
+        block: &[0x40, 2, 6, 2, 2, 0, 10, 252, 0],
+        cut: Want::Aside(Cause::Reserved),
+        skip: Want::Aside(Cause::Reserved),
+    },
+    // 10 20 {30 40} 50
+    Case {
+        block: &[
+            0x40, 2, 16, 2, 2, 0, 10, 0, 20, 1, 2, 0, 30, 0, 40, 2, 1, 0, 50,
+        ],
+        cut: Want::Path(&[10, 20]),
+        skip: Want::Aside(Cause::Sets),
+    },
+    // 10 20 {30 30}
+    Case {
+        block: &[0x40, 2, 12, 2, 2, 0, 10, 0, 20, 1, 2, 0, 30, 0, 30],
+        cut: Want::Path(&[10, 20, 30]),
+        skip: Want::Path(&[10, 20, 30]),
+    },
+    // {10 20} 30
+    Case {
+        block: &[0x40, 2, 10, 1, 2, 0, 10, 0, 20, 2, 1, 0, 30],
+        cut: Want::Aside(Cause::Short),
+        skip: Want::Aside(Cause::Sets),
+    },
+    // 10 20 {30 40} 0
+    Case {
+        block: &[
+            0x40, 2, 16, 2, 2, 0, 10, 0, 20, 1, 2, 0, 30, 0, 40, 2, 1, 0, 0,
+        ],
+        cut: Want::Path(&[10, 20]),
+        skip: Want::Aside(Cause::Sets),
+    },
+    // (64512) 10 20
+    Case {
+        block: &[0x40, 2, 10, 3, 1, 252, 0, 2, 2, 0, 10, 0, 20],
+        cut: Want::Aside(Cause::Confed),
+        skip: Want::Aside(Cause::Confed),
+    },
+    // ORIGIN alone
+    Case {
+        block: &[0x40, 1, 1, 0],
+        cut: Want::Aside(Cause::NoPath),
+        skip: Want::Aside(Cause::NoPath),
+    },
+    // a segment of count zero
+    Case {
+        block: &[0x40, 2, 2, 2, 0],
+        cut: Want::Aside(Cause::BadSegments),
+        skip: Want::Aside(Cause::BadSegments),
+    },
+];
+
+fn is_wanted(cleaned: &Cleaned, want: &Want) -> bool {
+    match (cleaned, want) {
+        (Cleaned::Path(path), Want::Path(wanted)) => path.as_slice() == *wanted,
+        (Cleaned::Aside(cause), Want::Aside(wanted)) => cause == wanted,
+        _ => false,
+    }
+}
+
+#[test]
+fn cleans(rt: HostRuntime) -> Result<(), Fail> {
+    for case in &CASES {
+        let attrs = attributes(case.block).ok().ok_or("whole")?;
+        for (sets, want) in [(Sets::Cut, &case.cut), (Sets::Skip, &case.skip)] {
+            let cleaned = clean(rt.alloc(), sets, &attrs, Width::Two)?;
+            assert!(rt; is_wanted(&cleaned, want), "{sets:?} of {:?}", case.block);
+        }
+    }
+    Ok(())
+}
+
+/// One AS_SEQUENCE of the numbers 1 to 69 and the last.
+fn long_block(alloc: Global, last: u8) -> Result<Vec<u8>, AllocError> {
+    let mut block = Vec::from_slice(alloc, &[0x40, 2, 142, 2, 70])?;
+    for number in 1..70 {
+        block.extend_from_slice(&[0, number])?;
+    }
+    block.extend_from_slice(&[0, last])?;
+    Ok(block)
+}
+
+#[test]
+fn long_paths_are_cleaned(rt: HostRuntime) -> Result<(), Fail> {
+    for (last, is_path) in [(70, true), (1, false)] {
+        let block = long_block(rt.alloc(), last)?;
+        let attrs = attributes(&block).ok().ok_or("whole")?;
+        let cleaned = clean(rt.alloc(), Sets::Cut, &attrs, Width::Two)?;
+        assert_eq!(rt; matches!(cleaned, Cleaned::Path(_)), is_path);
+        assert_eq!(rt; matches!(cleaned, Cleaned::Aside(Cause::Loop)), !is_path);
+    }
+    Ok(())
+}
+
+/// Paths that are added to a table of at most two, and where each then stands.
+static ADDS: [(&'static [u32], Result<usize, AddRefused>); 4] = [
+    (&[30, 40, 20, 10, 50, 60], Ok(0)),
+    (&[10, 20, 30, 40], Ok(1)),
+    (&[50, 60, 10, 20], Err(AddRefused::TooManyPaths)),
+    (&[10, 20, 30, 40], Ok(1)),
+];
+
+fn place_of(added: Added) -> usize {
+    match added {
+        Added::Known(id) => id.place(),
+        Added::New(id) => id.place(),
+    }
+}
+
+#[test]
+fn a_table_of_two_paths(rt: HostRuntime) -> Result<(), Fail> {
+    let mut table = PathTable::new(rt.alloc(), 2);
+    for (path, wanted) in ADDS {
+        assert!(rt; is_cleaned(path));
+        assert_eq!(rt; table.add(path).map(place_of), wanted);
+    }
+    let id = PathId::from_place(1).ok_or("a place")?;
+    assert_eq!(rt; table.len(), 2);
+    assert_eq!(rt; table.times(id), 2);
+    assert_eq!(rt; table.rows().len(), 2);
+    assert_eq!(rt; table.rows().row(id), [10, 20, 30, 40].as_slice());
+    Ok(())
+}
+
+#[test]
+fn asides_are_counted(rt: HostRuntime) {
+    let mut asides = Asides::new();
+    asides.add(Cause::Sets);
+    asides.add(Cause::Sets);
+    asides.add(Cause::Loop);
+    assert_eq!(rt; asides.get(Cause::Sets), 2);
+    assert_eq!(rt; asides.get(Cause::Loop), 1);
+    assert_eq!(rt; asides.get(Cause::Short), 0);
+}

@@ -1,0 +1,9 @@
+//! The body of a TABLE_DUMP record (RFC 6396, section 4.2).
+#![tactic(auto)]
+
+mod route;
+
+pub use route::read_v1;
+
+#[cfg(test)]
+mod tests;

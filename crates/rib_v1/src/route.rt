@@ -1,0 +1,43 @@
+ghost use Rattle.std.specs.Prelude.{◌≡◌, ◌≢◌, ◌⊎◌};
+ghost use Rattle.rib_v1.specs.TableDump.{address_octets, route_of};
+
+use path_attrs::{Attrs, RibFault, attributes, number16, octet, octets};
+
+/// The subtype of IPv4.
+const IPV4: u16 = 1;
+
+// How many octets an address has.
+fn octets_of_address(subtype: u16) -> usize
+    ensures { result ≡ address_octets subtype }
+{
+    if subtype == IPV4 { 4 } else { 16 }
+}
+
+/// The path attributes of the route of a TABLE_DUMP record (RFC 6396, section 4.2), or the first fault of its body in the order
+/// of the fields. Subtype 1 is IPv4, 2 is IPv6. It takes no memory.
+#[tactic(auto, unfolding(crate::specs::TableDump::route_of))]
+pub fn read_v1(subtype: u16, body: &[u8]) -> Result<Attrs<'_>, RibFault>
+    requires { (subtype ≡ 1) ⊎ (subtype ≡ 2) }
+    ensures route { result ≡ route_of subtype body.now }
+    ensures never { (result ≢ Err RibFault.NoPeerTable) × (result ≢ Err RibFault.PeerRange) }
+{
+    let address_len = octets_of_address(subtype);
+    let (_view, rest) = octets(body, 2, RibFault::Cut)?;
+    let (_sequence, rest) = octets(rest, 2, RibFault::Cut)?;
+    let (_prefix, rest) = octets(rest, address_len, RibFault::Cut)?;
+    let (prefix_len, rest) = octet(rest, RibFault::Cut)?;
+    if usize::from(prefix_len) > 8 * address_len {
+        return Err(RibFault::PrefixLong);
+    }
+    let (_status, rest) = octets(rest, 1, RibFault::Cut)?;
+    let (_time, rest) = octets(rest, 4, RibFault::Cut)?;
+    let (_peer_ip, rest) = octets(rest, address_len, RibFault::Cut)?;
+    let (_peer_as, rest) = octets(rest, 2, RibFault::Cut)?;
+    let (len, rest) = number16(rest, RibFault::Cut)?;
+    let (block, rest) = octets(rest, usize::from(len), RibFault::Cut)?;
+    let attrs = attributes(block)?;
+    if !rest.is_empty() {
+        return Err(RibFault::Tail);
+    }
+    Ok(attrs)
+}

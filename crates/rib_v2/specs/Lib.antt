@@ -1,0 +1,2 @@
+pub mod PeerTable
+pub mod Rib

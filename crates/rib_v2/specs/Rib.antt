@@ -1,0 +1,56 @@
+-- The bodies of RIB_IPV4_UNICAST and RIB_IPV6_UNICAST records, subtypes 2 and 4 (RFC 6396, sections 4.3.2 and 4.3.4).
+use Rattle.std.specs.Prelude.{◌≡◌, ℕ, zero, suc, ◌+◌, ◌*◌, ◌/◌, ◌==◌, nat_lt, nat_le, List, [], ◌∷◌, length, Option, Some, None, Result, Ok, Err, if◌then◌else◌}
+use Rattle.path_attrs.specs.declared.fault.RibFault.{RibFault}
+use Rattle.path_attrs.specs.declared.fault.RibFault.TheVariants.{Cut, Tail, PrefixLong, NoPeerTable, PeerRange, AttrCut}
+use Rattle.path_attrs.specs.Fields.{◌>>=◌, octets, number, check, or_fault}
+use Rattle.path_attrs.specs.Attributes.{attributes_of}
+use Rattle.rib_v2.specs.declared.error.RibError.{RibError}
+use Rattle.rib_v2.specs.declared.error.RibError.TheVariants.{Fault, NoMemory}
+use Rattle.rib_v2.specs.declared.rib.Entry.{Entry}
+
+-- how many octets an address has
+abbrev pub address_octets : ℕ → ℕ
+address_octets subtype = if subtype == 2 then 4 else 16
+
+-- the count of entries, and the octets behind it; a prefix is no longer than an address, and stands in whole octets
+unfoldable pub head : ℕ → List ℕ → Result (ℕ × List ℕ) RibFault
+head subtype body = do
+  sequence ← octets Cut 4 body
+  prefix_length ← number Cut 1 sequence.1
+  fits ← check PrefixLong (nat_le prefix_length.0 (8 * address_octets subtype))
+  prefix ← octets Cut ((prefix_length.0 + 7) / 8) prefix_length.1
+  number Cut 2 prefix.1
+
+-- one entry, and the octets behind it, where the peer table has so many peers
+unfoldable pub entry : ℕ → List ℕ → Result (Entry × List ℕ) RibFault
+entry peer_count bytes = do
+  peer_index ← number Cut 2 bytes
+  in_range ← check PeerRange (nat_lt peer_index.0 peer_count)
+  originated ← octets Cut 4 peer_index.1
+  attribute_length ← number Cut 2 originated.1
+  block ← octets Cut attribute_length.0 attribute_length.1
+  attributes ← or_fault AttrCut (attributes_of block.0)
+  Ok (record { peer = peer_index.0; attrs = attributes }, block.1)
+
+-- so many entries, and nothing behind them
+unfoldable pub entries_of : ℕ → ℕ → List ℕ → Result (List Entry) RibFault
+entries_of peer_count zero bytes = do
+  end ← check Tail (length bytes == 0)
+  Ok []
+entries_of peer_count (suc count) bytes = do
+  first ← entry peer_count bytes
+  others ← entries_of peer_count count first.1
+  Ok (first.0 ∷ others)
+
+-- the entries, or the first fault in the order of the fields; the peer table is there or not before any field
+unfoldable pub rib_of : ℕ → Option ℕ → List ℕ → Result (List Entry) RibFault
+rib_of subtype None body = Err NoPeerTable
+rib_of subtype (Some peer_count) body = do
+  entry_count ← head subtype body
+  entries_of peer_count entry_count.0 entry_count.1
+
+-- the answer is what reading gives, or memory ran out
+abbrev pub IsAnswer : Result (List Entry) RibError → Result (List Entry) RibFault → Type 0
+IsAnswer (Ok entries) read = read ≡ Ok entries
+IsAnswer (Err (Fault fault)) read = read ≡ Err fault
+IsAnswer (Err NoMemory) read = Unit {0}

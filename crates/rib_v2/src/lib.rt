@@ -1,0 +1,13 @@
+//! The bodies of TABLE_DUMP_V2 records (RFC 6396, section 4.3): peer tables and RIBs.
+#![tactic(auto)]
+
+mod error;
+mod peer_table;
+mod rib;
+
+pub use error::RibError;
+pub use peer_table::{Peers, read_peers};
+pub use rib::{Entry, read_rib};
+
+#[cfg(test)]
+mod tests;

@@ -1,0 +1,17 @@
+use Rattle.std.proofs.Common.{◌≡◌, take, Ok}
+use Rattle.std.specs.Prelude.{IfSome}
+use Rattle.dump_read.specs.Refusals.{taken_of}
+use Rattle.tor_app.specs.Seen.{seen_from}
+use Rattle.tor_app.proofs.reading.read_dumps.Given as goal
+
+-- the dumps so far were read to their ends, and no call on the shelf failed
+abbrev pub invariant-loop-place : goal.invariant-loop-place
+invariant-loop-place g l =
+    let shelf = g.H.Shelf in
+    record {
+      seen : IfSome (shelf.files l.fn.shelf) (λ files.
+          seen_from l.sets 1 (taken_of l.fn.table l.fn.asides) (take l.place l.dumps) files ≡ Ok (taken_of l.table l.asides));
+      files : shelf.files l.shelf ≡ shelf.files l.fn.shelf;
+      quiet : shelf.faults l.shelf ≡ shelf.faults l.fn.shelf;
+      steady : shelf.steady l.fn.shelf → shelf.steady l.shelf;
+    }

@@ -1,0 +1,172 @@
+ghost use Rattle.std.specs.Prelude.{◌≡◌, ◌≤◌, Ok, IfOk, IfErr, IfSome, IsNone, IsErrAnd, OnOk, OnErr, string_bytes};
+ghost use Rattle.tor_io.specs.Counts.{Rose};
+ghost use Rattle.tor_words.specs.Given.{settings_given};
+ghost use Rattle.tor_app.specs.Seen.{seen, outcome};
+ghost use Rattle.tor_app.specs.Answer.{Lists};
+ghost use Rattle.tor_app.specs.Refusals.{note_in, Answers, IsNoMemory, IsRefusal, IsReadFault, IsOfWords, IsStopIn, ListsSeen};
+
+use crate::listing::list_text;
+use crate::notes::{limit_note, malformed_note, read_fault_note};
+use crate::reading::{Stopped, read_dumps};
+use crate::status::Status;
+use dump_read::DumpError;
+use path_clean::{Asides, PathTable};
+use std::alloc::{AllocError, Global};
+use tor_arena::List;
+use tor_io::Shelf;
+use tor_words::{Name, Settings, WordsRefused, settings_of};
+
+/// Why there is no text to write.
+#[derive(Drop)]
+pub(crate) enum Refusal {
+    Words(WordsRefused),
+    Dumps(Stopped),
+    NoMemory,
+}
+
+/// What a note says.
+#[derive(Drop)]
+pub(crate) enum Note {
+    /// What its status says by itself.
+    Plain,
+    Words(List<u8>),
+    Text(String),
+}
+
+/// The status of a run, and its note.
+#[derive(Drop)]
+pub(crate) struct Answer {
+    pub status: Status,
+    pub note: Note,
+}
+
+impl Answer {
+    /// The answer of a status whose note has no part of its own.
+    pub fn plain(status: Status) -> Answer
+        ensures status { result.status ≡ status }
+        ensures note { result.note ≡ Note.Plain }
+    {
+        Answer {
+            status,
+            note: Note::Plain,
+        }
+    }
+
+    // The answer with this note, unless memory ran out for it.
+    fn noted(status: Status, text: Result<String, AllocError>) -> Answer
+        ensures said { IfOk text (λ t. (result.status ≡ status) × (note_in result ≡ string_bytes t)) }
+        ensures memory { OnErr text (IsNoMemory result) }
+    {
+        match text {
+            Ok(text) => Answer {
+                status,
+                note: Note::Text(text),
+            },
+            Err(AllocError) => Answer::plain(Status::NoMemory),
+        }
+    }
+
+    /// The octets of the note.
+    pub fn note(&self) -> &[u8]
+        ensures { result.now ≡ note_in self.now }
+    {
+        match &self.note {
+            Note::Plain => self.status.plain_note(),
+            Note::Words(text) => text.as_slice(),
+            Note::Text(text) => text.as_bytes(),
+        }
+    }
+}
+
+// The answer where the reading of the dumps stopped.
+#[tactic(auto, using(crate::proofs::Notings::says))]
+fn answer_to_stop(alloc: Global, stopped: Stopped) -> Answer
+    ensures { Answers (Refusal.Dumps stopped) result }
+{
+    let dump = stopped.dump;
+    match stopped.error {
+        DumpError::Malformed(place, fault) => {
+            Answer::noted(Status::Malformed, malformed_note(alloc, place, fault))
+        }
+        DumpError::Limit(kind) => Answer::noted(Status::Limit, limit_note(alloc, kind, dump)),
+        DumpError::ReadFault => Answer::noted(Status::ReadFault, read_fault_note(alloc, dump)),
+        DumpError::NoMemory => Answer::plain(Status::NoMemory),
+    }
+}
+
+/// The answer where there is no text to write.
+pub(crate) fn answer_to(alloc: Global, refusal: Refusal) -> Answer
+    ensures { Answers refusal result }
+{
+    match refusal {
+        Refusal::Words(WordsRefused::Usage(text)) => Answer {
+            status: Status::Usage,
+            note: Note::Words(text),
+        },
+        Refusal::Dumps(stopped) => answer_to_stop(alloc, stopped),
+        Refusal::Words(WordsRefused::NoMemory) | Refusal::NoMemory => {
+            Answer::plain(Status::NoMemory)
+        }
+    }
+}
+
+// The list text of the dumps that the settings name. All memory is taken here.
+fn dumps_text<H: Shelf>(
+    alloc: Global,
+    settings: &Settings,
+    shelf: &mut H,
+) -> Result<String, Refusal>
+    requires some { 1 ≤ settings.now.max_paths }
+    requires most { settings.now.max_paths ≤ 8388608 }
+    ensures text { IfOk result (λ text. IfSome (H.files shelf.old) (λ files. ListsSeen (seen settings.now files) (string_bytes text))) }
+    ensures refused { IfErr result (IsStopIn settings.now (H.files shelf.old) (H.steady shelf.old)) }
+
+    ensures files { H.files shelf.new ≡ H.files shelf.old }
+    ensures later { H.faults shelf.old ≤ H.faults shelf.new }
+    ensures quiet { OnOk result (H.faults shelf.new ≡ H.faults shelf.old) }
+    ensures failed { IfErr result (λ r. IsReadFault r → Rose (H.faults shelf.old) (H.faults shelf.new)) }
+    ensures quiet_stop { IfErr result (λ r. (IsReadFault r → ⊥) → H.faults shelf.new ≡ H.faults shelf.old) }
+    ensures steady { H.steady shelf.old → H.steady shelf.new }
+{
+    let mut table = PathTable::new(alloc, settings.max_paths);
+    let mut asides = Asides::new();
+    match read_dumps(
+        alloc,
+        shelf,
+        settings.dumps.as_slice(),
+        settings.sets,
+        &mut table,
+        &mut asides,
+    ) {
+        Ok(()) => match list_text(alloc, &table) {
+            Ok(text) => Ok(text),
+            Err(AllocError) => Err(Refusal::NoMemory),
+        },
+        Err(stopped) => Err(Refusal::Dumps(stopped)),
+    }
+}
+
+/// The text that the words ask for. All memory is taken here.
+pub(crate) fn text_of<H: Shelf>(
+    alloc: Global,
+    words: &List<Name>,
+    shelf: &mut H,
+) -> Result<String, Refusal>
+    ensures text { IfOk result (λ text. IfSome (H.files shelf.old) (λ files. Lists (outcome words.now files) (string_bytes text))) }
+    ensures refused { IfErr result (IsRefusal words.now (H.files shelf.old) (H.steady shelf.old)) }
+
+    ensures settled { IsNone (settings_given words.now) → IsErrAnd result IsOfWords }
+
+    ensures untouched { IfErr result (λ r. IsOfWords r → shelf.new ≡ shelf.old) }
+    ensures files { H.files shelf.new ≡ H.files shelf.old }
+    ensures later { H.faults shelf.old ≤ H.faults shelf.new }
+    ensures quiet { OnOk result (H.faults shelf.new ≡ H.faults shelf.old) }
+    ensures failed { IfErr result (λ r. IsReadFault r → Rose (H.faults shelf.old) (H.faults shelf.new)) }
+    ensures quiet_stop { IfErr result (λ r. (IsReadFault r → ⊥) → H.faults shelf.new ≡ H.faults shelf.old) }
+    ensures steady { H.steady shelf.old → H.steady shelf.new }
+{
+    match settings_of(alloc, words) {
+        Ok(settings) => dumps_text(alloc, &settings, shelf),
+        Err(refused) => Err(Refusal::Words(refused)),
+    }
+}

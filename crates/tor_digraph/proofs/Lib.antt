@@ -1,0 +1,10 @@
+pub mod Chains
+pub mod Closings
+pub mod Few
+pub mod Gets
+pub mod Growths
+pub mod Leavings
+pub mod Spreads
+pub mod Steps
+pub mod Vectors
+pub mod Ways

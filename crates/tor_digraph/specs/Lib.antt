@@ -1,0 +1,9 @@
+pub mod ArcsFrom
+pub mod Back
+pub mod Closing
+pub mod Found
+pub mod Leaving
+pub mod Links
+pub mod Reached
+pub mod Search
+pub mod Walks

@@ -1,0 +1,72 @@
+ghost use Rattle.std.specs.Prelude.{◌≡◌, ◌+◌, ◌<◌, ◌↔◌, List, Some, slice_get, length, IfOk, IfSome, IsNone};
+ghost use Rattle.tor_digraph.specs.Found.{IsFound, IsFalling, HasTreeArcs, IsTree};
+ghost use Rattle.tor_digraph.specs.Walks.{IsWay};
+ghost use Rattle.tor_digraph.specs.Back.{IsBack};
+
+use crate::found::Found;
+use std::alloc::Global;
+use tor_arena::{Arena, Index, List, NoMemory};
+
+/// A walk of arcs.
+#[derive(Debug, Drop)]
+pub struct Way<N, A> {
+    /// The nodes, from the start of the walk to its end.
+    pub nodes: List<N>,
+    /// The arcs that lead from each node to the next, so one fewer.
+    pub arcs: List<A>,
+}
+
+/// Steps back from a node, the last of them from the root.
+#[derive(Drop)]
+struct Back<N, A> {
+    root: N,
+    steps: List<(N, A)>,
+}
+
+/// Goes back from a node that was found to the one from which the search came to it first.
+fn go_back<N: Index, A: Index>(
+    alloc: Global,
+    found: &Arena<N, Found<N, A>>,
+    node: N,
+) -> Result<Back<N, A>, NoMemory>
+    requires found { IsFound N.place_of found.now.items node }
+    requires falls { IsFalling N.place_of found.now.items }
+    ensures root { IfOk result (λ b. slice_get found.now.items (N.place_of b.root) ≡ Some Found.Start) }
+    ensures back { IfOk result (λ b. (arcs : List (N × N)) → HasTreeArcs N.place_of A.place_of arcs found.now.items → IsBack A.place_of arcs b.root node b.steps) }
+{
+    let mut root = node;
+    let mut steps = List::new(alloc);
+    while let Found::Along { tail, arc, .. } = *found.get(root) {
+        steps.push((root, arc))?;
+        root = tail;
+    }
+    Ok(Back { root, steps })
+}
+
+/// The same steps, the other way round.
+fn turn_round<N: Index, A: Index>(alloc: Global, back: Back<N, A>) -> Result<Way<N, A>, NoMemory>
+    ensures { IfOk result (λ w. (arcs : List (N × N)) (end : N) → IsBack A.place_of arcs back.root end back.steps → IsWay A.place_of arcs back.root end w.nodes w.arcs) }
+{
+    let Back { root, mut steps } = back;
+    let mut nodes = List::new(alloc);
+    let mut arcs = List::new(alloc);
+    nodes.push(root)?;
+    while let Some(step) = steps.pop() {
+        nodes.push(step.0)?;
+        arcs.push(step.1)?;
+    }
+    Ok(Way { nodes, arcs })
+}
+
+/// A walk to a node that was found, from the start of its search tree.
+pub(crate) fn way_to<N: Index, A: Index>(
+    alloc: Global,
+    found: &Arena<N, Found<N, A>>,
+    node: N,
+) -> Result<Way<N, A>, NoMemory>
+    requires found { IsFound N.place_of found.now.items node }
+    requires falls { IsFalling N.place_of found.now.items }
+    ensures { IfOk result (λ w. (arcs : List (N × N)) (start : N) → IsTree N.place_of A.place_of arcs start found.now.items → IsWay A.place_of arcs start node w.nodes w.arcs) }
+{
+    turn_round(alloc, go_back(alloc, found, node)?)
+}

@@ -1,0 +1,63 @@
+-- The settings that words give.
+use Rattle.std.specs.Prelude.{ℕ, ◌==◌, Bool, true, false, List, [], ◌∷◌, length, Option, Some, None}
+use Rattle.std.specs.Prelude.{option_map, option_and_then, unwrap_or, if◌then◌else◌, codes}
+use Rattle.std.specs.Str.{bytes_eq}
+use Rattle.std.specs.Str.Parse.{digits_value, without_leading_plus}
+use Rattle.clap.specs.ValueTests.{is_unsigned_in}
+use Rattle.clap.specs.Words.{Kinds, Row, Text, all_of, first_of, fault_of, matches_of}
+use Rattle.path_clean.specs.declared.cleaned.Sets.{Sets}
+use Rattle.path_clean.specs.declared.cleaned.Sets.TheVariants.{Cut, Skip}
+use Rattle.tor_words.specs.declared.settings.Settings.{Settings}
+use Rattle.tor_words.specs.TorCommand.{tor_command}
+
+-- ---- values
+
+-- the number that a text names, if it is one within the bounds
+abbrev pub number_in : ℕ → ℕ → Text → Option ℕ
+number_in low high text =
+    if is_unsigned_in low high text then Some (digits_value 10 (without_leading_plus text)) else None
+
+-- the same, or the default where the option isn't there
+abbrev pub number_or : ℕ → ℕ → ℕ → Option Text → Option ℕ
+number_or low high default None = Some default
+number_or low high default (Some text) = number_in low high text
+
+-- what becomes of sets: `cut` or `skip`, and cut where the option isn't there
+abbrev pub sets_or_cut : Option Text → Option Sets
+sets_or_cut None = Some Cut
+sets_or_cut (Some text) =
+    if bytes_eq text (codes "cut") then Some Cut
+    else if bytes_eq text (codes "skip") then Some Skip else None
+
+-- whether a flag is set
+abbrev pub is_true_text : Option Text → Bool
+is_true_text None = false
+is_true_text (Some text) = bytes_eq text (codes "true")
+
+-- ---- settings
+
+-- the dumps in the order of the words
+abbrev pub dumps_in : List Row → List Text
+dumps_in rows = unwrap_or (all_of (codes "dump") rows) []
+
+-- whether the words ask for a list, and name a dump
+abbrev pub asks_in : List Row → Bool
+asks_in rows = if is_true_text (first_of (codes "list") rows) then (if length (dumps_in rows) == 0 then false else true) else false
+
+-- the settings that these matches give, if their values are some
+abbrev pub settings_in : List Row → Option Settings
+settings_in rows =
+    if asks_in rows then
+    option_and_then (λ sets. option_map (λ most. record { sets = sets; max_paths = most; dumps = dumps_in rows })
+    (number_or 1 8388608 8388608 (first_of (codes "max-paths") rows)))
+    (sets_or_cut (first_of (codes "as-sets") rows))
+    else None
+
+-- the same where clap finds no fault, and nothing where it does
+abbrev pub unless_fault : Kinds → Option Settings → Option Settings
+unless_fault [] settings = settings
+unless_fault (kind ∷ kinds) settings = None
+
+-- the settings that the words give, where clap takes them
+unfoldable pub settings_given : List Text → Option Settings
+settings_given words = unless_fault (fault_of tor_command words) (settings_in (matches_of tor_command words))

@@ -1,0 +1,33 @@
+-- The command line of `tor`, as clap reads it: `tor [--list] [--as-sets VALUE] [--max-paths NUMBER] [DUMP ..]`.
+use Rattle.std.specs.Prelude.{ℕ, codes, Some, true}
+use Rattle.clap.specs.Words.{App, Rule, Text, new_app, new_rule, with_rule}
+use Rattle.clap.specs.Simple.{on_top}
+use Rattle.clap.specs.Lexer.{usize_max}
+use Rattle.clap.specs.declared.builder.value_parser.ValueParser.TheVariants as vp
+use Rattle.clap.specs.declared.builder.action.ArgAction.TheVariants.{Set, SetTrue}
+
+-- an option with one value
+abbrev pub option_rule : Text → Rule
+option_rule name = record (new_rule name) { long = Some name; action = Some Set }
+
+-- an option whose value is a number within these bounds
+abbrev pub number_rule : Text → ℕ → ℕ → Rule
+number_rule name low high = record (option_rule name) { parser = Some (vp.Unsigned low high) }
+
+abbrev pub flag_rule : Text → Rule
+flag_rule name = record (new_rule name) { long = Some name; action = Some SetTrue }
+
+-- the last words, of which there may be any number
+abbrev pub rest_rule : Text → Rule
+rest_rule name = record (new_rule name) {
+  range = Some (record { start_inclusive = 1; end_inclusive = usize_max });
+}
+
+unfoldable pub tor_command : App
+tor_command =
+    with_rule (with_rule (with_rule (with_rule
+    (on_top (λ s. record s { no_binary_name = true }) (new_app (codes "tor")))
+    (flag_rule (codes "list")))
+    (option_rule (codes "as-sets")))
+    (number_rule (codes "max-paths") 1 8388608))
+    (rest_rule (codes "dump"))

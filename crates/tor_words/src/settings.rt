@@ -1,0 +1,100 @@
+//! The settings of a run.
+ghost use Rattle.std.specs.Prelude.{◌≡◌, ◌≤◌, IfOk, IfErr, Some, None, map, option_map};
+ghost use Rattle.clap.specs.Words.{found_of, rows_of, first_of};
+ghost use Rattle.tor_words.specs.Given.{settings_in, settings_given, dumps_in};
+ghost use Rattle.tor_words.specs.Refused.{IsUsage, SaysUsage};
+
+use crate::command::command;
+use crate::name::Name;
+use crate::refused::{WordsRefused, refusal, usage};
+use crate::values::{is_true_text, number_or, sets_or_cut};
+use clap::ArgMatches;
+use path_clean::Sets;
+use std::alloc::Global;
+use tor_arena::{List, NoMemory};
+
+/// What a run of `tor` is asked for: the list of the distinct paths of dumps.
+#[derive(Debug, Drop)]
+pub struct Settings {
+    /// What becomes of sets in AS_PATHs.
+    pub sets: Sets,
+    /// The most distinct paths, from 1 to 8388608.
+    pub max_paths: u32,
+    /// The names of the dumps, one at least, in the order in which they are read.
+    pub dumps: List<Name>,
+}
+
+// The first value of an option.
+fn first<'a>(matches: &ArgMatches<'a>, id: &str) -> Option<&'a str>
+    ensures { option_map (λ s. s.now) result ≡ first_of id.now (rows_of (found_of matches.now)) }
+{
+    matches.get_str(id)
+}
+
+// Copies of the texts.
+pub(crate) fn names_of(alloc: Global, texts: &[&str]) -> Result<List<Name>, NoMemory>
+    ensures { IfOk result (λ names. names ≡ map (λ t. t.now) texts.now) }
+{
+    let mut names = List::new(alloc);
+    for text in texts {
+        names.push(Name::from_text(alloc, text)?)?;
+    }
+    Ok(names)
+}
+
+fn dumps_in(alloc: Global, matches: &ArgMatches) -> Result<List<Name>, NoMemory>
+    ensures { IfOk result (λ names. names ≡ dumps_in (rows_of (found_of matches.now))) }
+{
+    match matches.get_strs("dump") {
+        Some(texts) => names_of(alloc, texts),
+        None => Ok(List::new(alloc)),
+    }
+}
+
+// The settings that the matches give, if their values are some.
+fn settings_in(alloc: Global, matches: &ArgMatches) -> Result<Settings, WordsRefused>
+    ensures ok { IfOk result (λ s. settings_in (rows_of (found_of matches.now)) ≡ Some s) }
+    ensures err { IfErr result (λ e. IsUsage e → settings_in (rows_of (found_of matches.now)) ≡ None) }
+    ensures text { IfErr result SaysUsage }
+    ensures some { IfOk result (λ s. 1 ≤ s.max_paths) }
+    ensures most { IfOk result (λ s. s.max_paths ≤ 8388608) }
+{
+    if !is_true_text(first(matches, "list")) {
+        return Err(usage(alloc, "tor --list is what there is so far\n"));
+    }
+    let Ok(dumps) = dumps_in(alloc, matches) else {
+        return Err(WordsRefused::NoMemory);
+    };
+    if dumps.is_empty() {
+        return Err(usage(alloc, "no dump is named\n"));
+    }
+    let Some(sets) = sets_or_cut(first(matches, "as-sets")) else {
+        return Err(usage(alloc, "--as-sets takes cut or skip\n"));
+    };
+    let Some(max_paths) = number_or(first(matches, "max-paths"), 1, 8_388_608, 8_388_608) else {
+        return Err(usage(alloc, "--max-paths takes a number from 1 to 8388608\n"));
+    };
+    Ok(Settings {
+        sets,
+        max_paths: max_paths as u32,
+        dumps,
+    })
+}
+
+/// The settings that the words after the program's name give, by clap's meaning of the command. Usage comes exactly
+/// where they give none.
+pub fn settings_of(alloc: Global, words: &List<Name>) -> Result<Settings, WordsRefused>
+    ensures given { IfOk result (λ s. settings_given words.now ≡ Some s) }
+    ensures refused { IfErr result (λ e. IsUsage e → settings_given words.now ≡ None) }
+    ensures text { IfErr result SaysUsage }
+    ensures some { IfOk result (λ s. 1 ≤ s.max_paths) }
+    ensures most { IfOk result (λ s. s.max_paths ≤ 8388608) }
+{
+    let Ok(command) = command(alloc) else {
+        return Err(WordsRefused::NoMemory);
+    };
+    match command.try_get_matches_from(words.as_slice()) {
+        Ok(matches) => settings_in(alloc, &matches),
+        Err(error) => Err(refusal(alloc, &error)),
+    }
+}
