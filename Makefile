@@ -1,5 +1,6 @@
-# `make` proves and builds bin/tor, and lists the paths of a sample; `make test` is the whole gate.
-.PHONY: all test clean
+# `make` proves and builds bin/tor, and lists the paths of a sample; `make test` is the whole gate; `make samples` compares
+# the lists of two real dumps with what other readers give.
+.PHONY: all test samples clean FORCE
 
 all: bin/tor
 	bin/tor --list samples/two-paths.mrt
@@ -13,8 +14,14 @@ bin/tor: FORCE
 test:
 	rt ci
 
+samples: bin/tor
+	for dump in samples/openbgpd.table samples/frr.routes-mrt; do \
+		bin/tor --list $$dump | cmp - $$dump.list.txt || exit 1; \
+		bin/tor --list --as-sets skip $$dump | cmp - $$dump.skip.txt || exit 1; \
+	done
+	@echo "the lists are the same"
+
 clean:
 	rm -rf bin crates/*/out
 
-.PHONY: FORCE
 FORCE:
