@@ -1,5 +1,6 @@
 use mrt_frame::At;
 use path_attrs::RibFault;
+use thiserror::Error;
 
 /// Where a fault stands: the number of the dump, from 1, and the place of the record in it.
 #[derive(Clone, Copy, Debug, PartialEq, Eq)]
@@ -33,14 +34,18 @@ pub enum LimitKind {
 }
 
 /// Why a dump was not read to its end.
-#[derive(Clone, Copy, Debug, PartialEq, Eq)]
+#[derive(Clone, Copy, Debug, PartialEq, Eq, Error)]
 pub enum DumpError {
     /// A record has a fault.
+    #[error("record {} of dump {} has a fault", .0.at.number, .0.dump)]
     Malformed(Place, Fault),
     /// A limit is met.
+    #[error("a limit is met")]
     Limit(LimitKind),
     /// A call on the shelf failed.
+    #[error("a call on the shelf failed")]
     ReadFault,
     /// Memory ran out.
+    #[error("memory ran out")]
     NoMemory,
 }
