@@ -29,6 +29,7 @@ impl Model for IndexedPaths {
 }
 
 impl IndexedPaths {
+    /// No paths. It takes no memory.
     pub fn new(alloc: Global) -> IndexedPaths
         ensures { result ≡ [] }
     {
