@@ -1,4 +1,10 @@
+pub mod Checking
 pub mod Contents
+pub mod Evidence
+pub mod Graph
+pub mod Laws
 pub mod Lent
 pub mod Limits
+pub mod Relationship
 pub mod RowLists
+pub mod Selection

@@ -1,0 +1,108 @@
+//! The laws of the definitions in `specs/`. Each is the contract of a function.
+
+ghost use Rattle.std.specs.Prelude.{◌≡◌};
+ghost use Rattle.tor_arena.specs.Laws.{ServingLaw, RelaxingLaw, PeeringLaw, ReadingLaw, RefutingLaw, ShowingLaw, ClosureLaw, AllowedLaw, ConsistencyLaw, RankLaw, CycleLaw, KeepingLaw, MarkingLaw, ForcedLaw, SelectionLaw, KeptLaw, AllKeptLaw, GraphRulesLaw};
+
+use crate::index::Index;
+
+/// The index of an index's own place, which is that index again. It takes no memory.
+pub fn same_index<I: Index>(index: I) -> Option<I>
+    ensures { result ≡ Some index }
+{
+    I::from_place(index.place())
+}
+
+/// Where the ASes of each path are distinct, an orientation serves the paths exactly if it carries
+/// each "x over y" on to "y over z" along every triple x, y, z (Di Battista, Patrignani and
+/// Pizzonia 2003).
+pub fn serving_law()
+    ensures { ServingLaw }
+{}
+
+/// A peering may be read in any way, also as a peering: paths that are valley-free stay so.
+pub fn relaxing_law()
+    ensures { RelaxingLaw }
+{}
+
+/// Where paths are valley-free under labels, each orientation that has the providers of the edges
+/// that are no peerings serves them.
+pub fn peering_law()
+    ensures { PeeringLaw }
+{}
+
+/// Whether an orientation serves paths is decided by their edges alone.
+pub fn reading_law()
+    ensures { ReadingLaw }
+{}
+
+/// A walk that refutes leaves no orientation that serves.
+pub fn refuting_law()
+    ensures { RefutingLaw }
+{}
+
+/// A shown order holds in every orientation that serves.
+pub fn showing_law()
+    ensures { ShowingLaw }
+{}
+
+/// An orientation that serves and is changed to agree with a consistent closure serves.
+pub fn closure_law()
+    ensures { ClosureLaw }
+{}
+
+/// No order of a consistent closure is ruled out by the orientations that serve.
+pub fn allowed_law()
+    ensures { AllowedLaw }
+{}
+
+/// A closure that does not hold the other order of its start is consistent.
+pub fn consistency_law()
+    ensures { ConsistencyLaw }
+{}
+
+/// Numbers of orders that never fall along a triple, and differ for opposite orders, give an
+/// orientation that serves (Aspvall, Plass and Tarjan 1979).
+pub fn rank_law()
+    ensures { RankLaw }
+{}
+
+/// A walk from an order to its opposite and one back make a walk that refutes.
+pub fn cycle_law()
+    ensures { CycleLaw }
+{}
+
+/// Where each lost path is refuted and each kept path is valley-free, exactly the right paths are
+/// kept.
+pub fn keeping_law()
+    ensures { KeepingLaw }
+{}
+
+/// Where the marks hold, exactly the forced edges are marked so.
+pub fn marking_law()
+    ensures { MarkingLaw }
+{}
+
+/// No forced edge is a peering.
+pub fn forced_law()
+    ensures { ForcedLaw }
+{}
+
+/// Which paths are kept is determined.
+pub fn selection_law()
+    ensures { SelectionLaw }
+{}
+
+/// Some orientation serves the kept paths.
+pub fn kept_law()
+    ensures { KeptLaw }
+{}
+
+/// All paths are kept exactly if one orientation serves all.
+pub fn all_kept_law()
+    ensures { AllKeptLaw }
+{}
+
+/// What meets the rules on the graph is valid.
+pub fn graph_rules_law()
+    ensures { GraphRulesLaw }
+{}
