@@ -1,5 +1,5 @@
 -- How many routes were set aside for each cause.
-use Rattle.std.specs.Prelude.{ℕ, ◌+◌, ◌-◌, ◌^◌, min}
+use Rattle.std.specs.Prelude.{ℕ, List, ◌+◌, ◌-◌, ◌^◌, min, slice_index}
 use Rattle.path_clean.specs.declared.cleaned.Cause.{Cause}
 use Rattle.path_clean.specs.declared.cleaned.Cause.TheVariants.{NoPath, BadSegments, Confed, Sets, Reserved, Loop, Short}
 
@@ -14,6 +14,18 @@ pub record Counts : Type 0 where
 
 abbrev pub no_counts : Counts
 no_counts = record { no_path = 0; bad_segments = 0; confed = 0; sets = 0; reserved = 0; loop = 0; short = 0 }
+
+-- seven numbers as counts, in the order of the causes
+abbrev pub counts_from : List ℕ → Counts
+counts_from numbers = record {
+  no_path = slice_index numbers 0;
+  bad_segments = slice_index numbers 1;
+  confed = slice_index numbers 2;
+  sets = slice_index numbers 3;
+  reserved = slice_index numbers 4;
+  loop = slice_index numbers 5;
+  short = slice_index numbers 6;
+}
 
 abbrev pub count_of : Cause → Counts → ℕ
 count_of NoPath counts = counts.no_path

@@ -1,5 +1,5 @@
 ghost use Rattle.std.specs.Prelude.{◌≡◌};
-ghost use Rattle.path_clean.specs.Counts.{no_counts, count_of, counted_one};
+ghost use Rattle.path_clean.specs.Counts.{no_counts, count_of, counted_one, counts_from};
 
 use crate::cleaned::Cause;
 use std::marker::Model;
@@ -45,6 +45,21 @@ impl Asides {
             reserved: 0,
             repeated: 0,
             short: 0,
+        }
+    }
+
+    /// These counts, in the order of the causes. It takes no memory.
+    pub fn from_counts(counts: [u64; 7]) -> Asides
+        ensures { result ≡ counts_from counts }
+    {
+        Asides {
+            no_path: counts[0],
+            bad_segments: counts[1],
+            confed: counts[2],
+            sets: counts[3],
+            reserved: counts[4],
+            repeated: counts[5],
+            short: counts[6],
         }
     }
 

@@ -189,3 +189,20 @@ fn asides_are_counted(rt: HostRuntime) {
     assert_eq!(rt; asides.get(Cause::Loop), 1);
     assert_eq!(rt; asides.get(Cause::Short), 0);
 }
+
+#[test]
+fn asides_of_counts(rt: HostRuntime) {
+    let asides = Asides::from_counts([1, 2, 3, 4, 5, 6, 7]);
+    let counts = [
+        (Cause::NoPath, 1),
+        (Cause::BadSegments, 2),
+        (Cause::Confed, 3),
+        (Cause::Sets, 4),
+        (Cause::Reserved, 5),
+        (Cause::Loop, 6),
+        (Cause::Short, 7),
+    ];
+    for (cause, count) in counts {
+        assert_eq!(rt; asides.get(cause), count);
+    }
+}

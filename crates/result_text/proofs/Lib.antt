@@ -1,0 +1,11 @@
+mod Vectors
+mod Digits
+mod Words
+mod Fields
+mod Loops
+mod Parts
+mod Lines
+mod Machine
+mod LineFeeds
+mod Verdicts
+mod Places

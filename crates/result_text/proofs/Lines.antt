@@ -1,0 +1,342 @@
+-- A line that is read is spelled as it was written, and what was written is read again.
+use Rattle.std.proofs.Common.{◌≡◌, ℕ, List, [], ◌∷◌, ◌++◌, Option, Some, None, refl, sym, ap, subst, ◌∙◌, append_assoc, inl, inr}
+use Rattle.std.specs.Prelude.{codes}
+use Rattle.std.specs.Fmt.{decimal}
+use Rattle.std.specs.List.{AllByRecursion}
+use Rattle.tor_arena.specs.declared.walk.Label.{Label}
+use Rattle.tor_arena.specs.declared.walk.Label.TheVariants as label
+use Rattle.tor_arena.specs.declared.walk.Link.{Link}
+use Rattle.tor_arena.specs.declared.walk.Walk.{Walk}
+use Rattle.path_clean.specs.declared.cleaned.Sets.{Sets}
+use Rattle.path_clean.specs.declared.cleaned.Sets.TheVariants as sets
+use Rattle.path_clean.specs.declared.cleaned.Cause.{Cause}
+use Rattle.path_clean.specs.declared.cleaned.Cause.TheVariants as cause
+use Rattle.result_text.specs.declared.file.Fate.{Fate}
+use Rattle.result_text.specs.declared.file.Fate.TheVariants as fate
+use Rattle.result_text.specs.declared.file.EdgeMark.{EdgeMark}
+use Rattle.result_text.specs.declared.file.EdgeMark.TheVariants as mark
+use Rattle.result_text.specs.declared.line.Line.{Line}
+use Rattle.result_text.specs.declared.line.Line.TheVariants as line
+use Rattle.result_text.specs.Text.{numbers, links, sets_name, cause_name, label_name, mark_name, line_text}
+use Rattle.result_text.specs.Ranges.{IsU32, IsU64, AreU32, LinkFits, WalkFits, LineFits}
+use Rattle.result_text.specs.Reading.{u64_at, u32_at, before, both, list_at, link_at, on_word, name_at, sets_at, cause_at, label_at, mark_at, walk_from, walk_at, sets_line_at, ratio_at, aside_from, aside_at, kept_from, kept_at, lost_from, lost_at, edge_from, edge_at, why_at, probe_from, probe_at, end_from, end_at, line_at}
+use Rattle.result_text.proofs.Fields.{some_is, on_word_takes, Reads, ReadsAs, before_reads, both_reads, mapped_reads, NoDigit, EndsList, u64_reads, u32_reads, numbers_reads, links_reads}
+
+-- ---- fields with the byte behind them
+
+abbrev with : {X : Type 0} → (X → List ℕ) → ℕ → X → List ℕ
+with spell c x = spell x ++ c ∷ []
+
+u64_bar : Reads ℕ IsU64 (with decimal 124) (before 124 u64_at)
+u64_bar = before_reads ℕ IsU64 decimal NoDigit u64_at 124 u64_reads (λ rest. refl)
+
+u64_end : Reads ℕ IsU64 (with decimal 10) (before 10 u64_at)
+u64_end = before_reads ℕ IsU64 decimal NoDigit u64_at 10 u64_reads (λ rest. refl)
+
+u32_bar : Reads ℕ IsU32 (with decimal 124) (before 124 u32_at)
+u32_bar = before_reads ℕ IsU32 decimal NoDigit u32_at 124 u32_reads (λ rest. refl)
+
+u32_end : Reads ℕ IsU32 (with decimal 10) (before 10 u32_at)
+u32_end = before_reads ℕ IsU32 decimal NoDigit u32_at 10 u32_reads (λ rest. refl)
+
+numbers_bar : Reads (List ℕ) AreU32 (with numbers 124) (before 124 (list_at u32_at))
+numbers_bar = before_reads (List ℕ) AreU32 numbers EndsList (list_at u32_at) 124 numbers_reads (λ rest. (refl, refl, refl))
+
+numbers_end : Reads (List ℕ) AreU32 (with numbers 10) (before 10 (list_at u32_at))
+numbers_end = before_reads (List ℕ) AreU32 numbers EndsList (list_at u32_at) 10 numbers_reads (λ rest. (refl, refl, refl))
+
+links_end : Reads (List Link) (AllByRecursion LinkFits) (with links 10) (before 10 (list_at link_at))
+links_end = before_reads (List Link) (AllByRecursion LinkFits) links EndsList (list_at link_at) 10 links_reads (λ rest. (refl, refl, refl))
+
+-- ---- names
+
+abbrev Any : {X : Type 0} → X → Type 0
+Any x = Unit {0}
+
+-- each name stands beside the value that it spells
+names_take : {X : Type 0} (spell : X → List ℕ) (table : List (List ℕ × X)) (bytes : List ℕ) (x : X × List ℕ) → AllByRecursion (λ e. e.0 ≡ spell e.1) table
+    → name_at table bytes ≡ Some x → bytes ≡ spell x.0 ++ x.1
+names_take spell [] bytes x all e = absurd cc
+names_take {X} spell (entry ∷ table) bytes x all e =
+    elim (on_word_takes entry.0 (λ rest. Some (entry.1, rest)) (name_at table) bytes x e) [
+      | inl t ↦ subst (λ (y : X × List ℕ). bytes ≡ spell y.0 ++ y.1) (some_is (entry.1, t.0) x t.2) (t.1 ∙ ap (λ (w : List ℕ). w ++ t.0) all.0)
+      | inr t ↦ names_take spell table bytes x all.1 t
+    ]
+
+sets_takes : (bytes : List ℕ) (x : Sets × List ℕ) → sets_at bytes ≡ Some x → bytes ≡ with sets_name 10 x.0 ++ x.1
+unfolding sets_at
+sets_takes bytes x e = names_take (with sets_name 10) ((codes "cut\n", sets.Cut) ∷ (codes "skip\n", sets.Skip) ∷ []) bytes x (refl, (refl, tt)) e
+
+sets_again : (x : Sets) (rest : List ℕ) → sets_at (with sets_name 10 x ++ rest) ≡ Some (x, rest)
+unfolding sets_at
+sets_again sets.Cut rest = refl
+sets_again sets.Skip rest = refl
+
+sets_reads : Reads Sets Any (with sets_name 10) sets_at
+sets_reads = record { takes = λ bytes x e. (tt, sets_takes bytes x e); again = λ x rest fits. sets_again x rest }
+
+cause_takes : (bytes : List ℕ) (x : Cause × List ℕ) → cause_at bytes ≡ Some x → bytes ≡ with cause_name 124 x.0 ++ x.1
+unfolding cause_at
+cause_takes bytes x e = names_take (with cause_name 124) ((codes "nopath|", cause.NoPath) ∷ (codes "badsegments|", cause.BadSegments) ∷ (codes "confed|", cause.Confed) ∷ (codes "sets|", cause.Sets) ∷ (codes "reserved|", cause.Reserved) ∷ (codes "loop|", cause.Loop) ∷ (codes "short|", cause.Short) ∷ []) bytes x (refl, (refl, (refl, (refl, (refl, (refl, (refl, tt))))))) e
+
+cause_again : (x : Cause) (rest : List ℕ) → cause_at (with cause_name 124 x ++ rest) ≡ Some (x, rest)
+unfolding cause_at
+cause_again cause.NoPath rest = refl
+cause_again cause.BadSegments rest = refl
+cause_again cause.Confed rest = refl
+cause_again cause.Sets rest = refl
+cause_again cause.Reserved rest = refl
+cause_again cause.Loop rest = refl
+cause_again cause.Short rest = refl
+
+cause_reads : Reads Cause Any (with cause_name 124) cause_at
+cause_reads = record { takes = λ bytes x e. (tt, cause_takes bytes x e); again = λ x rest fits. cause_again x rest }
+
+label_takes : (bytes : List ℕ) (x : Label × List ℕ) → label_at bytes ≡ Some x → bytes ≡ with label_name 124 x.0 ++ x.1
+unfolding label_at
+label_takes bytes x e = names_take (with label_name 124) ((codes "low|", label.Low) ∷ (codes "high|", label.High) ∷ (codes "peer|", label.Peer) ∷ []) bytes x (refl, (refl, (refl, tt))) e
+
+label_again : (x : Label) (rest : List ℕ) → label_at (with label_name 124 x ++ rest) ≡ Some (x, rest)
+unfolding label_at
+label_again label.Low rest = refl
+label_again label.High rest = refl
+label_again label.Peer rest = refl
+
+label_reads : Reads Label Any (with label_name 124) label_at
+label_reads = record { takes = λ bytes x e. (tt, label_takes bytes x e); again = λ x rest fits. label_again x rest }
+
+mark_takes : (bytes : List ℕ) (x : EdgeMark × List ℕ) → mark_at bytes ≡ Some x → bytes ≡ with mark_name 124 x.0 ++ x.1
+unfolding mark_at
+mark_takes bytes x e = names_take (with mark_name 124) ((codes "forced|", mark.Forced) ∷ (codes "open|", mark.Loose) ∷ []) bytes x (refl, (refl, tt)) e
+
+mark_again : (x : EdgeMark) (rest : List ℕ) → mark_at (with mark_name 124 x ++ rest) ≡ Some (x, rest)
+unfolding mark_at
+mark_again mark.Forced rest = refl
+mark_again mark.Loose rest = refl
+
+mark_reads : Reads EdgeMark Any (with mark_name 124) mark_at
+mark_reads = record { takes = λ bytes x e. (tt, mark_takes bytes x e); again = λ x rest fits. mark_again x rest }
+
+-- ---- walks
+
+abbrev walk_text : Walk → List ℕ
+walk_text w = with numbers 124 w.ases ++ with links 10 w.links
+
+walk_reads : Reads Walk WalkFits walk_text walk_at
+unfolding walk_at
+walk_reads =
+    let parts = both_reads (List ℕ) (List Link) AreU32 (AllByRecursion LinkFits) (with numbers 124) (with links 10) (before 124 (list_at u32_at)) (before 10 (list_at link_at)) numbers_bar links_end in
+    let whole = mapped_reads (List ℕ × List Link) Walk (λ z. AreU32 z.0 × AllByRecursion LinkFits z.1) (λ z. with numbers 124 z.0 ++ with links 10 z.1) (both (before 124 (list_at u32_at)) (before 10 (list_at link_at))) walk_from parts in
+    record {
+      takes = λ bytes w e.
+          let t = whole.takes bytes w e in
+          (subst WalkFits (sym t.1) t.2, t.3 ∙ ap (λ (v : Walk). walk_text v ++ w.1) (sym t.1));
+      again = λ w rest fits. whole.again (w.ases, w.links) rest fits;
+    }
+
+-- ---- lines, behind their first word
+
+-- A reader of the lines that begin with this word: what it reads is spelled so behind the word.
+record ReadsLine (X : Type 0) (word : List ℕ) (f : X → Line) (Fits : X → Type 0) (spell : X → List ℕ) (read : List ℕ → Option (Line × List ℕ)) : Type 0 where
+  reads : ReadsAs X Line f Fits spell read
+  text : (x : X) → line_text (f x) ≡ word ++ spell x
+  fits : (x : X) → Fits x → LineFits (f x)
+
+line_takes_by : {X : Type 0} {word : List ℕ} {f : X → Line} {Fits : X → Type 0} {spell : X → List ℕ} {read : List ℕ → Option (Line × List ℕ)} → ReadsLine X word f Fits spell read
+    → (bytes rest : List ℕ) (y : Line × List ℕ) → bytes ≡ word ++ rest → read rest ≡ Some y → LineFits y.0 × (bytes ≡ line_text y.0 ++ y.1)
+line_takes_by {X} {word} {f} {Fits} {spell} {read} r bytes rest y w e =
+    let t = r.reads.takes rest y e in
+    let text : line_text y.0 ≡ word ++ spell t.0 = ap line_text t.1 ∙ r.text t.0 in
+    (subst LineFits (sym t.1) (r.fits t.0 t.2), w ∙ ap (λ (z : List ℕ). word ++ z) t.3 ∙ sym (append_assoc word (spell t.0) y.1) ∙ ap (λ (z : List ℕ). z ++ y.1) (sym text))
+
+line_again_by : {X : Type 0} {word : List ℕ} {f : X → Line} {Fits : X → Type 0} {spell : X → List ℕ} {read : List ℕ → Option (Line × List ℕ)} → ReadsLine X word f Fits spell read
+    → (x : X) (rest : List ℕ) → Fits x → ((bytes : List ℕ) → line_at (word ++ bytes) ≡ read bytes) → line_at (line_text (f x) ++ rest) ≡ Some (f x, rest)
+line_again_by {X} {word} {f} {Fits} {spell} {read} r x rest fits goes =
+    ap line_at (ap (λ (z : List ℕ). z ++ rest) (r.text x) ∙ append_assoc word (spell x) rest) ∙ goes (spell x ++ rest) ∙ r.reads.again x rest fits
+
+-- ---- each kind
+
+ratio_line : ReadsLine ℕ (codes "ratio|") (λ n. line.Ratio n) IsU32 (with decimal 10) ratio_at
+unfolding ratio_at line_text
+ratio_line = record { reads = mapped_reads ℕ Line IsU32 (with decimal 10) (before 10 u32_at) (λ n. line.Ratio n) u32_end; text = λ n. refl; fits = λ n h. h }
+
+sets_line : ReadsLine Sets (codes "sets|") (λ s. line.Sets s) Any (with sets_name 10) sets_line_at
+unfolding sets_line_at line_text
+sets_line = record { reads = mapped_reads Sets Line Any (with sets_name 10) sets_at (λ s. line.Sets s) sets_reads; text = λ s. refl; fits = λ s h. h }
+
+abbrev Both : {X Y : Type 0} → (X → Type 0) → (Y → Type 0) → X × Y → Type 0
+Both F G z = F z.0 × G z.1
+
+abbrev then : {X Y : Type 0} → (X → List ℕ) → (Y → List ℕ) → X × Y → List ℕ
+then s t z = s z.0 ++ t z.1
+
+aside_line : ReadsLine (Cause × ℕ) (codes "aside|") aside_from (Both Any IsU64) (then (with cause_name 124) (with decimal 10)) aside_at
+unfolding aside_at line_text
+aside_line =
+    let parts = both_reads Cause ℕ Any IsU64 (with cause_name 124) (with decimal 10) cause_at (before 10 u64_at) cause_reads u64_end in
+    record {
+      reads = mapped_reads (Cause × ℕ) Line (Both Any IsU64) (then (with cause_name 124) (with decimal 10)) (both cause_at (before 10 u64_at)) aside_from parts;
+      text = λ z. simp append_assoc;
+      fits = λ z h. h.1;
+    }
+
+kept_line : ReadsLine (ℕ × List ℕ) (codes "kept|") kept_from (Both IsU64 AreU32) (then (with decimal 124) (with numbers 10)) kept_at
+unfolding kept_at line_text
+kept_line =
+    let parts = both_reads ℕ (List ℕ) IsU64 AreU32 (with decimal 124) (with numbers 10) (before 124 u64_at) (before 10 (list_at u32_at)) u64_bar numbers_end in
+    record {
+      reads = mapped_reads (ℕ × List ℕ) Line (Both IsU64 AreU32) (then (with decimal 124) (with numbers 10)) (both (before 124 u64_at) (before 10 (list_at u32_at))) kept_from parts;
+      text = λ z. simp append_assoc;
+      fits = λ z h. (h.0, h.1, tt);
+    }
+
+lost_line : ReadsLine (ℕ × (List ℕ × Walk)) (codes "lost|") lost_from (Both IsU64 (Both AreU32 WalkFits)) (then (with decimal 124) (then (with numbers 124) walk_text)) lost_at
+unfolding lost_at line_text
+lost_line =
+    let second = both_reads (List ℕ) Walk AreU32 WalkFits (with numbers 124) walk_text (before 124 (list_at u32_at)) walk_at numbers_bar walk_reads in
+    let parts = both_reads ℕ (List ℕ × Walk) IsU64 (Both AreU32 WalkFits) (with decimal 124) (then (with numbers 124) walk_text) (before 124 u64_at) (both (before 124 (list_at u32_at)) walk_at) u64_bar second in
+    record {
+      reads = mapped_reads (ℕ × (List ℕ × Walk)) Line (Both IsU64 (Both AreU32 WalkFits)) (then (with decimal 124) (then (with numbers 124) walk_text)) (both (before 124 u64_at) (both (before 124 (list_at u32_at)) walk_at)) lost_from parts;
+      text = λ z. simp append_assoc;
+      fits = λ z h. (h.0, h.1.0, h.1.1);
+    }
+
+edge_line : ReadsLine (ℕ × (ℕ × (Label × (EdgeMark × ℕ)))) (codes "edge|") edge_from (Both IsU32 (Both IsU32 (Both Any (Both Any IsU64))))
+    (then (with decimal 124) (then (with decimal 124) (then (with label_name 124) (then (with mark_name 124) (with decimal 10))))) edge_at
+unfolding edge_at line_text
+edge_line =
+    let r4 = both_reads EdgeMark ℕ Any IsU64 (with mark_name 124) (with decimal 10) mark_at (before 10 u64_at) mark_reads u64_end in
+    let r3 = both_reads Label (EdgeMark × ℕ) Any (Both Any IsU64) (with label_name 124) (then (with mark_name 124) (with decimal 10)) label_at (both mark_at (before 10 u64_at)) label_reads r4 in
+    let r2 = both_reads ℕ (Label × (EdgeMark × ℕ)) IsU32 (Both Any (Both Any IsU64)) (with decimal 124) (then (with label_name 124) (then (with mark_name 124) (with decimal 10))) (before 124 u32_at) (both label_at (both mark_at (before 10 u64_at))) u32_bar r3 in
+    let r1 = both_reads ℕ (ℕ × (Label × (EdgeMark × ℕ))) IsU32 (Both IsU32 (Both Any (Both Any IsU64))) (with decimal 124) (then (with decimal 124) (then (with label_name 124) (then (with mark_name 124) (with decimal 10)))) (before 124 u32_at) (both (before 124 u32_at) (both label_at (both mark_at (before 10 u64_at)))) u32_bar r2 in
+    record {
+      reads = mapped_reads (ℕ × (ℕ × (Label × (EdgeMark × ℕ)))) Line (Both IsU32 (Both IsU32 (Both Any (Both Any IsU64)))) (then (with decimal 124) (then (with decimal 124) (then (with label_name 124) (then (with mark_name 124) (with decimal 10))))) (both (before 124 u32_at) (both (before 124 u32_at) (both label_at (both mark_at (before 10 u64_at))))) edge_from r1;
+      text = λ z. simp append_assoc;
+      fits = λ z h. (h.0, h.1.0, h.1.1.1.1);
+    }
+
+why_line : ReadsLine Walk (codes "why|") (λ w. line.Why w) WalkFits walk_text why_at
+unfolding why_at line_text
+why_line = record { reads = mapped_reads Walk Line WalkFits walk_text walk_at (λ w. line.Why w) walk_reads; text = λ w. simp append_assoc; fits = λ w h. h }
+
+probe_line : ReadsLine (ℕ × ℕ) (codes "open|") probe_from (Both IsU32 IsU32) (then (with decimal 124) (with decimal 10)) probe_at
+unfolding probe_at line_text
+probe_line =
+    let parts = both_reads ℕ ℕ IsU32 IsU32 (with decimal 124) (with decimal 10) (before 124 u32_at) (before 10 u32_at) u32_bar u32_end in
+    record {
+      reads = mapped_reads (ℕ × ℕ) Line (Both IsU32 IsU32) (then (with decimal 124) (with decimal 10)) (both (before 124 u32_at) (before 10 u32_at)) probe_from parts;
+      text = λ z. simp append_assoc;
+      fits = λ z h. h;
+    }
+
+end_line : ReadsLine (ℕ × (ℕ × (ℕ × (ℕ × ℕ)))) (codes "end|") end_from (Both IsU64 (Both IsU64 (Both IsU64 (Both IsU64 IsU64))))
+    (then (with decimal 124) (then (with decimal 124) (then (with decimal 124) (then (with decimal 124) (with decimal 10))))) end_at
+unfolding end_at line_text
+end_line =
+    let r4 = both_reads ℕ ℕ IsU64 IsU64 (with decimal 124) (with decimal 10) (before 124 u64_at) (before 10 u64_at) u64_bar u64_end in
+    let r3 = both_reads ℕ (ℕ × ℕ) IsU64 (Both IsU64 IsU64) (with decimal 124) (then (with decimal 124) (with decimal 10)) (before 124 u64_at) (both (before 124 u64_at) (before 10 u64_at)) u64_bar r4 in
+    let r2 = both_reads ℕ (ℕ × (ℕ × ℕ)) IsU64 (Both IsU64 (Both IsU64 IsU64)) (with decimal 124) (then (with decimal 124) (then (with decimal 124) (with decimal 10))) (before 124 u64_at) (both (before 124 u64_at) (both (before 124 u64_at) (before 10 u64_at))) u64_bar r3 in
+    let r1 = both_reads ℕ (ℕ × (ℕ × (ℕ × ℕ))) IsU64 (Both IsU64 (Both IsU64 (Both IsU64 IsU64))) (with decimal 124) (then (with decimal 124) (then (with decimal 124) (then (with decimal 124) (with decimal 10)))) (before 124 u64_at) (both (before 124 u64_at) (both (before 124 u64_at) (both (before 124 u64_at) (before 10 u64_at)))) u64_bar r2 in
+    record {
+      reads = mapped_reads (ℕ × (ℕ × (ℕ × (ℕ × ℕ)))) Line (Both IsU64 (Both IsU64 (Both IsU64 (Both IsU64 IsU64)))) (then (with decimal 124) (then (with decimal 124) (then (with decimal 124) (then (with decimal 124) (with decimal 10))))) (both (before 124 u64_at) (both (before 124 u64_at) (both (before 124 u64_at) (both (before 124 u64_at) (before 10 u64_at))))) end_from r1;
+      text = λ z. simp append_assoc;
+      fits = λ z h. (h.0, h.1.0, h.1.1.0, h.1.1.1.0, h.1.1.1.1);
+    }
+
+-- ---- all lines
+
+-- what is read behind the words from each on
+abbrev Reader : Type 0
+Reader = List ℕ → Option (Line × List ℕ)
+
+abbrev from_9 : Reader
+from_9 bytes = on_word (codes "end|") end_at (λ _. None) bytes
+
+abbrev from_8 : Reader
+from_8 bytes = on_word (codes "ratio|") ratio_at from_9 bytes
+
+abbrev from_7 : Reader
+from_7 bytes = on_word (codes "sets|") sets_line_at from_8 bytes
+
+abbrev from_6 : Reader
+from_6 bytes = on_word (codes "tor|1\n") (λ rest. Some (line.Version, rest)) from_7 bytes
+
+abbrev from_5 : Reader
+from_5 bytes = on_word (codes "aside|") aside_at from_6 bytes
+
+abbrev from_4 : Reader
+from_4 bytes = on_word (codes "lost|") lost_at from_5 bytes
+
+abbrev from_3 : Reader
+from_3 bytes = on_word (codes "open|") probe_at from_4 bytes
+
+abbrev from_2 : Reader
+from_2 bytes = on_word (codes "why|") why_at from_3 bytes
+
+abbrev from_1 : Reader
+from_1 bytes = on_word (codes "edge|") edge_at from_2 bytes
+
+abbrev from_0 : Reader
+from_0 bytes = on_word (codes "kept|") kept_at from_1 bytes
+
+abbrev Taken : List ℕ → Line × List ℕ → Type 0
+Taken bytes y = LineFits y.0 × (bytes ≡ line_text y.0 ++ y.1)
+
+version_taken : (bytes rest : List ℕ) (y : Line × List ℕ) → bytes ≡ codes "tor|1\n" ++ rest → (let s : Option (Line × List ℕ) = Some (line.Version, rest) in s) ≡ Some y → Taken bytes y
+unfolding line_text
+version_taken bytes rest y w e = subst (Taken bytes) (some_is (line.Version, rest) y e) (tt, w)
+
+take_9 : (bytes : List ℕ) (y : Line × List ℕ) → from_9 bytes ≡ Some y → Taken bytes y
+take_9 bytes y e = elim (on_word_takes (codes "end|") end_at (λ _. None) bytes y e) [ inl t ↦ line_takes_by end_line bytes t.0 y t.1 t.2 | inr t ↦ absurd cc ]
+
+take_8 : (bytes : List ℕ) (y : Line × List ℕ) → from_8 bytes ≡ Some y → Taken bytes y
+take_8 bytes y e = elim (on_word_takes (codes "ratio|") ratio_at from_9 bytes y e) [ inl t ↦ line_takes_by ratio_line bytes t.0 y t.1 t.2 | inr t ↦ take_9 bytes y t ]
+
+take_7 : (bytes : List ℕ) (y : Line × List ℕ) → from_7 bytes ≡ Some y → Taken bytes y
+take_7 bytes y e = elim (on_word_takes (codes "sets|") sets_line_at from_8 bytes y e) [ inl t ↦ line_takes_by sets_line bytes t.0 y t.1 t.2 | inr t ↦ take_8 bytes y t ]
+
+take_6 : (bytes : List ℕ) (y : Line × List ℕ) → from_6 bytes ≡ Some y → Taken bytes y
+take_6 bytes y e = elim (on_word_takes (codes "tor|1\n") (λ rest. Some (line.Version, rest)) from_7 bytes y e) [ inl t ↦ version_taken bytes t.0 y t.1 t.2 | inr t ↦ take_7 bytes y t ]
+
+take_5 : (bytes : List ℕ) (y : Line × List ℕ) → from_5 bytes ≡ Some y → Taken bytes y
+take_5 bytes y e = elim (on_word_takes (codes "aside|") aside_at from_6 bytes y e) [ inl t ↦ line_takes_by aside_line bytes t.0 y t.1 t.2 | inr t ↦ take_6 bytes y t ]
+
+take_4 : (bytes : List ℕ) (y : Line × List ℕ) → from_4 bytes ≡ Some y → Taken bytes y
+take_4 bytes y e = elim (on_word_takes (codes "lost|") lost_at from_5 bytes y e) [ inl t ↦ line_takes_by lost_line bytes t.0 y t.1 t.2 | inr t ↦ take_5 bytes y t ]
+
+take_3 : (bytes : List ℕ) (y : Line × List ℕ) → from_3 bytes ≡ Some y → Taken bytes y
+take_3 bytes y e = elim (on_word_takes (codes "open|") probe_at from_4 bytes y e) [ inl t ↦ line_takes_by probe_line bytes t.0 y t.1 t.2 | inr t ↦ take_4 bytes y t ]
+
+take_2 : (bytes : List ℕ) (y : Line × List ℕ) → from_2 bytes ≡ Some y → Taken bytes y
+take_2 bytes y e = elim (on_word_takes (codes "why|") why_at from_3 bytes y e) [ inl t ↦ line_takes_by why_line bytes t.0 y t.1 t.2 | inr t ↦ take_3 bytes y t ]
+
+take_1 : (bytes : List ℕ) (y : Line × List ℕ) → from_1 bytes ≡ Some y → Taken bytes y
+take_1 bytes y e = elim (on_word_takes (codes "edge|") edge_at from_2 bytes y e) [ inl t ↦ line_takes_by edge_line bytes t.0 y t.1 t.2 | inr t ↦ take_2 bytes y t ]
+
+take_0 : (bytes : List ℕ) (y : Line × List ℕ) → from_0 bytes ≡ Some y → Taken bytes y
+take_0 bytes y e = elim (on_word_takes (codes "kept|") kept_at from_1 bytes y e) [ inl t ↦ line_takes_by kept_line bytes t.0 y t.1 t.2 | inr t ↦ take_1 bytes y t ]
+
+pub line_takes : (bytes : List ℕ) (y : Line × List ℕ) → line_at bytes ≡ Some y → LineFits y.0 × (bytes ≡ line_text y.0 ++ y.1)
+unfolding line_at
+line_takes bytes y e = take_0 bytes y e
+
+path_again : (times : ℕ) (path : List ℕ) (f : Fate) (rest : List ℕ) → LineFits (line.Path (record { times = times; path = path; fate = f }))
+    → line_at (line_text (line.Path (record { times = times; path = path; fate = f })) ++ rest) ≡ Some (line.Path (record { times = times; path = path; fate = f }), rest)
+unfolding line_at
+path_again times path fate.Kept rest fits = line_again_by kept_line (times, path) rest (fits.0, fits.1) (λ bytes. refl)
+path_again times path (fate.Lost w) rest fits = line_again_by lost_line (times, (path, w)) rest (fits.0, (fits.1, fits.2)) (λ bytes. refl)
+
+pub line_again : (l : Line) (rest : List ℕ) → LineFits l → line_at (line_text l ++ rest) ≡ Some (l, rest)
+unfolding line_at line_text
+line_again line.Version rest fits = refl
+line_again (line.Sets s) rest fits = line_again_by sets_line s rest tt (λ bytes. refl)
+line_again (line.Ratio n) rest fits = line_again_by ratio_line n rest fits (λ bytes. refl)
+line_again (line.Aside c n) rest fits = line_again_by aside_line (c, n) rest (tt, fits) (λ bytes. refl)
+line_again (line.Path p) rest fits = path_again p.times p.path p.fate rest fits
+line_again (line.Edge e) rest fits = line_again_by edge_line (e.low, (e.high, (e.label, (e.mark, e.support)))) rest (fits.0, (fits.1, (tt, (tt, fits.2)))) (λ bytes. refl)
+line_again (line.Why w) rest fits = line_again_by why_line w rest fits (λ bytes. refl)
+line_again (line.Probe p) rest fits = line_again_by probe_line (p.over, p.under) rest fits (λ bytes. refl)
+line_again (line.End t) rest fits = line_again_by end_line (t.kept, (t.lost, (t.edges, (t.forced, t.peers)))) rest (fits.0, (fits.1, (fits.2, (fits.3, fits.4)))) (λ bytes. refl)
+
+pub line_reads : Reads Line LineFits line_text line_at
+line_reads = record { takes = line_takes; again = line_again }

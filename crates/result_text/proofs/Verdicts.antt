@@ -1,0 +1,382 @@
+-- What is read so far begins a text; where reading ends, it is the text, or its bad line is named.
+use Rattle.std.proofs.Common.{◌≡◌, ℕ, zero, suc, ◌+◌, ◌<◌, ◌≤◌, Bool, cond, eqb, List, [], ◌∷◌, ◌++◌, length, map, take, drop, Option, Some, None, refl, sym, ap, subst, ◌∙◌, append_assoc, arith}
+use Rattle.std.specs.Prelude.{◌≢◌, slice_set, option_map, IsSomeAnd}
+use Rattle.std.specs.List.{AllByRecursion}
+use Rattle.std.proofs.lemmas.List.{append-nil, take-append-drop, length-append, length-take-le}
+use Rattle.std.proofs.lemmas.List.Concat.{flat_map-append}
+use Rattle.path_clean.specs.declared.cleaned.Cause.{Cause}
+use Rattle.path_clean.specs.declared.cleaned.Cause.TheVariants as cause
+use Rattle.path_clean.specs.Counts.{counts_from}
+use Rattle.result_text.specs.declared.file.ResultFile.{ResultFile}
+use Rattle.result_text.specs.declared.line.Line.{Line}
+use Rattle.result_text.specs.declared.line.Line.TheVariants as line
+use Rattle.result_text.specs.declared.draft.Draft.{Draft}
+use Rattle.result_text.specs.declared.draft.Place.{Place}
+use Rattle.result_text.specs.declared.draft.Place.TheVariants as place
+use Rattle.result_text.specs.Text.{fields, fields_of, line_text, head_lines, body_lines, lines_of, text_of_lines, text}
+use Rattle.result_text.specs.Ranges.{IsU64, PathFits, EdgeFits, WalkFits, ProbeFits, LineFits, CountsFit, IsInRange}
+use Rattle.result_text.specs.Grammar.{IsTextOf, IsText, BeginsText, first_lines, GoesWell, IsBadLine}
+use Rattle.result_text.specs.Reading.{◌>>=◌, line_at}
+use Rattle.result_text.specs.Order.{cause_index, after_head, takes_path, takes_edge, takes_why, takes_probe, is_head, step, start, file_of, finished, next_at}
+use Rattle.result_text.proofs.Fields.{bind_some, some_is, if_some}
+use Rattle.result_text.proofs.Lines.{line_takes, line_again}
+use Rattle.result_text.proofs.Machine.{run, run_append, done, runs_to_end, sofar, no_sections, Placed, step_steps, seven_of}
+use Rattle.result_text.proofs.LineFeeds.{line_first, lines_first}
+
+-- ---- elements
+
+all_push : {X : Type 0} (P : X → Type 0) (xs : List X) (x : X) → AllByRecursion P xs → P x → AllByRecursion P (xs ++ x ∷ [])
+all_push P [] x all h = (h, tt)
+all_push P (y ∷ xs) x all h = (all.0, all_push P xs x all.1 h)
+
+all_append : {X : Type 0} (P : X → Type 0) (xs ys : List X) → AllByRecursion P xs → AllByRecursion P ys → AllByRecursion P (xs ++ ys)
+all_append P [] ys all h = h
+all_append P (x ∷ xs) ys all h = (all.0, all_append P xs ys all.1 h)
+
+pub all_front : {X : Type 0} (P : X → Type 0) (xs ys : List X) → AllByRecursion P (xs ++ ys) → AllByRecursion P xs
+all_front P [] ys all = tt
+all_front P (x ∷ xs) ys all = (all.0, all_front P xs ys all.1)
+
+all_map : {X Y : Type 0} (P : X → Type 0) (Q : Y → Type 0) (f : X → Y) (xs : List X) → ((x : X) → P x → Q (f x)) → AllByRecursion P xs → AllByRecursion Q (map f xs)
+all_map P Q f [] h all = tt
+all_map P Q f (x ∷ xs) h all = (h x all.0, all_map P Q f xs h all.1)
+
+-- the lines of a result in range are in range
+pub lines_fit : (f : ResultFile) → IsInRange f → AllByRecursion LineFits (lines_of f)
+lines_fit f r =
+    let a = r.asides in
+    let last : AllByRecursion LineFits (line.End f.totals ∷ []) = (r.totals, tt) in
+    let four = all_append LineFits (map (λ p. line.Probe p) f.probes) (line.End f.totals ∷ []) (all_map ProbeFits LineFits (λ p. line.Probe p) f.probes (λ x h. h) r.probes) last in
+    let three = all_append LineFits (map (λ w. line.Why w) f.whys) (map (λ p. line.Probe p) f.probes ++ line.End f.totals ∷ []) (all_map WalkFits LineFits (λ w. line.Why w) f.whys (λ x h. h) r.whys) four in
+    let two = all_append LineFits (map (λ e. line.Edge e) f.edges) (map (λ w. line.Why w) f.whys ++ (map (λ p. line.Probe p) f.probes ++ line.End f.totals ∷ [])) (all_map EdgeFits LineFits (λ e. line.Edge e) f.edges (λ x h. h) r.edges) three in
+    let body : AllByRecursion LineFits (body_lines f) = all_append LineFits (map (λ p. line.Path p) f.paths) (map (λ e. line.Edge e) f.edges ++ (map (λ w. line.Why w) f.whys ++ (map (λ p. line.Probe p) f.probes ++ line.End f.totals ∷ []))) (all_map PathFits LineFits (λ p. line.Path p) f.paths (λ x h. h) r.paths) two in
+    (tt, (tt, (r.ratio, (a.0, (a.1, (a.2, (a.3, (a.4, (a.5, (a.6, body))))))))))
+
+-- ---- ranges, step by step
+
+counts_fit_at : (c : Cause) (n x0 x1 x2 x3 x4 x5 x6 : ℕ) → IsU64 n → CountsFit (counts_from (x0 ∷ x1 ∷ x2 ∷ x3 ∷ x4 ∷ x5 ∷ x6 ∷ [])) → CountsFit (counts_from (slice_set (x0 ∷ x1 ∷ x2 ∷ x3 ∷ x4 ∷ x5 ∷ x6 ∷ []) (cause_index c) n))
+counts_fit_at cause.NoPath n x0 x1 x2 x3 x4 x5 x6 h a = (h, a.1, a.2, a.3, a.4, a.5, a.6)
+counts_fit_at cause.BadSegments n x0 x1 x2 x3 x4 x5 x6 h a = (a.0, h, a.2, a.3, a.4, a.5, a.6)
+counts_fit_at cause.Confed n x0 x1 x2 x3 x4 x5 x6 h a = (a.0, a.1, h, a.3, a.4, a.5, a.6)
+counts_fit_at cause.Sets n x0 x1 x2 x3 x4 x5 x6 h a = (a.0, a.1, a.2, h, a.4, a.5, a.6)
+counts_fit_at cause.Reserved n x0 x1 x2 x3 x4 x5 x6 h a = (a.0, a.1, a.2, a.3, h, a.5, a.6)
+counts_fit_at cause.Loop n x0 x1 x2 x3 x4 x5 x6 h a = (a.0, a.1, a.2, a.3, a.4, h, a.6)
+counts_fit_at cause.Short n x0 x1 x2 x3 x4 x5 x6 h a = (a.0, a.1, a.2, a.3, a.4, a.5, h)
+
+counts_fit : (c : Cause) (n : ℕ) (counts : List ℕ) → length counts ≡ 7 → IsU64 n → CountsFit (counts_from counts) → CountsFit (counts_from (slice_set counts (cause_index c) n))
+counts_fit c n counts seven h a =
+    let s = seven_of counts seven in
+    subst (λ (xs : List ℕ). CountsFit (counts_from xs) → CountsFit (counts_from (slice_set xs (cause_index c) n))) (sym s.is) (counts_fit_at c n s.a s.b s.c s.d s.e s.f s.g h) a
+
+changed : (b : Bool) (new e : Draft) → IsInRange (file_of new) → cond b (Some new) None ≡ Some e → IsInRange (file_of e)
+changed b new e r s =
+    let g = if_some b (Some new) e s in
+    subst (λ (x : Draft). IsInRange (file_of x)) (some_is new e g.1) r
+
+step_in_range : (d e : Draft) (l : Line) → length d.counts ≡ 7 → IsInRange (file_of d) → LineFits l → step d l ≡ Some e → IsInRange (file_of e)
+step_in_range d e line.Version seven r h s = changed (is_head 0 d.place) (record d { place = after_head 1 }) e r s
+step_in_range d e (line.Sets x) seven r h s = changed (is_head 1 d.place) (record d { sets = x; place = after_head 2 }) e (record { ratio = r.ratio; asides = r.asides; paths = r.paths; edges = r.edges; whys = r.whys; probes = r.probes; totals = r.totals }) s
+step_in_range d e (line.Ratio n) seven r h s = changed (is_head 2 d.place) (record d { ratio = n; place = after_head 3 }) e (record { ratio = h; asides = r.asides; paths = r.paths; edges = r.edges; whys = r.whys; probes = r.probes; totals = r.totals }) s
+step_in_range d e (line.Aside c n) seven r h s = changed (is_head (3 + cause_index c) d.place) (record d { counts = slice_set d.counts (cause_index c) n; place = after_head (3 + cause_index c + 1) }) e (record { ratio = r.ratio; asides = counts_fit c n d.counts seven h r.asides; paths = r.paths; edges = r.edges; whys = r.whys; probes = r.probes; totals = r.totals }) s
+step_in_range d e (line.Path x) seven r h s = changed (takes_path d.place) (record d { place = place.Paths; paths = d.paths ++ x ∷ [] }) e (record { ratio = r.ratio; asides = r.asides; paths = all_push PathFits d.paths x r.paths h; edges = r.edges; whys = r.whys; probes = r.probes; totals = r.totals }) s
+step_in_range d e (line.Edge x) seven r h s = changed (takes_edge d.place) (record d { place = place.Edges; edges = d.edges ++ x ∷ [] }) e (record { ratio = r.ratio; asides = r.asides; paths = r.paths; edges = all_push EdgeFits d.edges x r.edges h; whys = r.whys; probes = r.probes; totals = r.totals }) s
+step_in_range d e (line.Why x) seven r h s = changed (takes_why d.place) (record d { place = place.Whys; whys = d.whys ++ x ∷ [] }) e (record { ratio = r.ratio; asides = r.asides; paths = r.paths; edges = r.edges; whys = all_push WalkFits d.whys x r.whys h; probes = r.probes; totals = r.totals }) s
+step_in_range d e (line.Probe x) seven r h s = changed (takes_probe d.place) (record d { place = place.Probes; probes = d.probes ++ x ∷ [] }) e (record { ratio = r.ratio; asides = r.asides; paths = r.paths; edges = r.edges; whys = r.whys; probes = all_push ProbeFits d.probes x r.probes h; totals = r.totals }) s
+step_in_range d e (line.End x) seven r h s = changed (takes_probe d.place) (record d { place = place.End; totals = x }) e (record { ratio = r.ratio; asides = r.asides; paths = r.paths; edges = r.edges; whys = r.whys; probes = r.probes; totals = h }) s
+
+-- ---- drafts that reading can come to
+
+pub record Reached (d : Draft) : Type 0 where
+  pub seven : length d.counts ≡ 7
+  pub placed : Placed d.place d
+  pub in_range : IsInRange (file_of d)
+  pub ran : run start (sofar d) ≡ Some d
+  pub fit : AllByRecursion LineFits (sofar d)
+
+pub start_reached : Reached start
+start_reached = record {
+  seven = refl;
+  placed = (refl, refl, refl, refl);
+  in_range = record { ratio = omega arith; asides = (omega arith, omega arith, omega arith, omega arith, omega arith, omega arith, omega arith); paths = tt; edges = tt; whys = tt; probes = tt; totals = (omega arith, omega arith, omega arith, omega arith, omega arith) };
+  ran = refl;
+  fit = tt;
+}
+
+pub step_reached : (d e : Draft) (l : Line) → Reached d → LineFits l → step d l ≡ Some e → Reached e × (sofar e ≡ sofar d ++ l ∷ [])
+step_reached d e l r h s =
+    let t = step_steps d e l r.seven r.placed s in
+    let ran : run start (sofar d ++ l ∷ []) ≡ Some e = run_append start (sofar d) (l ∷ []) ∙ rw (r.ran, s) refl in (
+      record {
+        seven = t.seven;
+        placed = t.placed;
+        in_range = step_in_range d e l r.seven r.in_range h s;
+        ran = ap (run start) t.more ∙ ran;
+        fit = subst (AllByRecursion LineFits) (sym t.more) (all_push LineFits (sofar d) l r.fit h);
+      },
+      t.more,
+    )
+
+regroup : (h a b c d e : List Line) → h ++ (a ++ (b ++ (c ++ (d ++ e)))) ≡ (h ++ ((a ++ (b ++ (c ++ d))) ++ [])) ++ e
+regroup h a b c d e = simp (append-nil, append_assoc)
+
+regroup_all : (h a b c d e : List Line) → h ++ (a ++ (b ++ (c ++ (d ++ e)))) ≡ h ++ ((a ++ (b ++ (c ++ d))) ++ e)
+regroup_all h a b c d e = simp append_assoc
+
+body_parts : (d : Draft) → lines_of (file_of d) ≡ sofar (record d { place = place.Paths }) ++ line.End d.totals ∷ []
+body_parts d = regroup (head_lines (file_of d)) (map (λ p. line.Path p) d.paths) (map (λ e. line.Edge e) d.edges) (map (λ w. line.Why w) d.whys) (map (λ p. line.Probe p) d.probes) (line.End d.totals ∷ [])
+
+whole_parts : (d : Draft) → lines_of (file_of d) ≡ sofar (record d { place = place.End })
+whole_parts d = regroup_all (head_lines (file_of d)) (map (λ p. line.Path p) d.paths) (map (λ e. line.Edge e) d.edges) (map (λ w. line.Why w) d.whys) (map (λ p. line.Probe p) d.probes) (line.End d.totals ∷ [])
+
+-- the lines so far are the first lines of the draft's own result
+goes_on : (p : Place) (d : Draft) → Placed p d → (more : List Line) × (lines_of (file_of d) ≡ sofar (record d { place = p }) ++ more)
+goes_on (place.Head n) d h =
+    let nothing = no_sections d h.0 h.1 h.2 h.3 in
+    let head = head_lines (file_of d) in
+    let front : sofar (record d { place = place.Head n }) ≡ take n head = ap (λ (x : List Line). take n head ++ (x ++ [])) nothing ∙ append-nil (take n head) in (
+      drop n head ++ body_lines (file_of d),
+      ap (λ (x : List Line). x ++ body_lines (file_of d)) (sym (take-append-drop n head)) ∙ append_assoc (take n head) (drop n head) (body_lines (file_of d)) ∙ ap (λ (x : List Line). x ++ (drop n head ++ body_lines (file_of d))) (sym front),
+    )
+goes_on place.Paths d h = (line.End d.totals ∷ [], body_parts d)
+goes_on place.Edges d h = (line.End d.totals ∷ [], body_parts d)
+goes_on place.Whys d h = (line.End d.totals ∷ [], body_parts d)
+goes_on place.Probes d h = (line.End d.totals ∷ [], body_parts d)
+goes_on place.End d h = ([], whole_parts d ∙ sym (append-nil (sofar (record d { place = place.End }))))
+
+-- ---- texts that begin alike
+
+nothing_at : line_at [] ≡ None
+unfolding line_at
+nothing_at = refl
+
+no_line : (l : Line) (more : List ℕ) → LineFits l → [] ≡ line_text l ++ more → ⊥
+no_line l more fits e =
+    let some : None ≡ Some (l, more) = sym nothing_at ∙ ap line_at e ∙ line_again l more fits in
+    absurd (none_some (l, more) some)
+  where
+    none_some : (x : Line × List ℕ) → (let none : Option (Line × List ℕ) = None in none) ≡ Some x → ⊥
+    none_some x e = absurd cc
+
+-- where the lines of a text go on behind these lines
+lines_begin : (ls fs : List Line) (rest : List ℕ) → AllByRecursion LineFits ls → AllByRecursion LineFits fs → text_of_lines fs ≡ text_of_lines ls ++ rest
+    → (more : List Line) × (fs ≡ ls ++ more) × (text_of_lines more ≡ rest)
+lines_begin [] fs rest a b e = (fs, refl, e)
+lines_begin (l ∷ ls) [] rest a b e = absurd (no_line l (text_of_lines ls ++ rest) a.0 (e ∙ append_assoc (line_text l) (text_of_lines ls) rest))
+lines_begin (l ∷ ls) (f ∷ fs) rest a b e =
+    let left = line_again f (text_of_lines fs) b.0 in
+    let right = line_again l (text_of_lines ls ++ rest) a.0 in
+    let regrouped : line_text f ++ text_of_lines fs ≡ line_text l ++ (text_of_lines ls ++ rest) = e ∙ append_assoc (line_text l) (text_of_lines ls) rest in
+    let pair : (f, text_of_lines fs) ≡ (l, text_of_lines ls ++ rest) = some_is (f, text_of_lines fs) (l, text_of_lines ls ++ rest) (sym left ∙ ap line_at regrouped ∙ right) in
+    let t = lines_begin ls fs rest a.1 b.1 (ap (λ (p : Line × List ℕ). p.1) pair) in
+    (t.0, ap (λ (p : Line × List ℕ). p.0 ∷ fs) pair ∙ ap (λ (x : List Line). l ∷ x) t.1, t.2)
+
+all_back : {X : Type 0} (P : X → Type 0) (xs ys : List X) → AllByRecursion P (xs ++ ys) → AllByRecursion P ys
+all_back P [] ys all = all
+all_back P (x ∷ xs) ys all = all_back P xs ys all.1
+
+map_some : {A B : Type 0} (f : A → B) (o : Option A) (y : B) → option_map f o ≡ Some y → (x : A) × (o ≡ Some x) × (f x ≡ y)
+map_some f (Some x) y e = (x, refl, some_is (f x) y e)
+map_some f None y e = absurd cc
+
+-- the first lines are the first lines of themselves, and the bytes go on behind them
+first_again : (n : ℕ) (bytes front more : List ℕ) → first_lines n bytes ≡ Some front → first_lines n (front ++ more) ≡ Some front
+first_again zero bytes front more e = e
+first_again (suc n) [] front more e = absurd cc
+first_again (suc n) (b ∷ bytes) front more e =
+    let m = cond (eqb b 10) n (suc n) in
+    let t = map_some (λ (f : List ℕ). b ∷ f) (first_lines m bytes) front e in
+    let rest = first_again m bytes t.0 more t.1 in
+    let one : first_lines (suc n) ((b ∷ t.0) ++ more) ≡ Some (b ∷ t.0) = ap (option_map (λ (f : List ℕ). b ∷ f)) rest in
+    subst (λ (f : List ℕ). first_lines (suc n) (f ++ more) ≡ Some f) t.2 one
+
+first_rest : (n : ℕ) (bytes front : List ℕ) → first_lines n bytes ≡ Some front → (rest : List ℕ) × (bytes ≡ front ++ rest)
+first_rest zero bytes front e = (bytes, ap (λ (f : List ℕ). f ++ bytes) (some_is [] front e))
+first_rest (suc n) [] front e = absurd cc
+first_rest (suc n) (b ∷ bytes) front e =
+    let m = cond (eqb b 10) n (suc n) in
+    let t = map_some (λ (f : List ℕ). b ∷ f) (first_lines m bytes) front e in
+    let more = first_rest m bytes t.0 t.1 in
+    (more.0, ap (λ (x : List ℕ). b ∷ x) more.1 ∙ ap (λ (f : List ℕ). f ++ more.0) t.2)
+
+-- ---- lines that go well
+
+goes_well : (ls more : List Line) (rest : List ℕ) (f : ResultFile) → IsInRange f → AllByRecursion LineFits ls → lines_of f ≡ ls ++ more → GoesWell (length ls) (text_of_lines ls ++ rest)
+goes_well ls more rest f in_range fit e =
+    let count : length ls + 0 ≡ length ls = omega arith in
+    let front : first_lines (length ls) (text_of_lines ls ++ rest) ≡ Some (text_of_lines ls ++ []) = ap (λ (k : ℕ). first_lines k (text_of_lines ls ++ rest)) (sym count) ∙ lines_first ls rest 0 fit in
+    let spelled : (text_of_lines ls ++ []) ++ text_of_lines more ≡ text f = ap (λ (x : List ℕ). x ++ text_of_lines more) (append-nil (text_of_lines ls)) ∙ sym (flat_map-append line_text ls more) ∙ ap text_of_lines (sym e) in
+    let begins : BeginsText (text_of_lines ls ++ []) = (text_of_lines more, (f, record { in_range = in_range; spelled = spelled })) in
+    subst (λ (o : Option (List ℕ)). IsSomeAnd o BeginsText) (sym front) begins
+
+well_before : (d : Draft) (rest : List ℕ) → Reached d → (m : ℕ) → m ≤ length (sofar d) → GoesWell m (text_of_lines (sofar d) ++ rest)
+well_before d rest r m le =
+    let ls = take m (sofar d) in
+    let ms = drop m (sofar d) in
+    let split : ls ++ ms ≡ sofar d = take-append-drop m (sofar d) in
+    let on = goes_on d.place d r.placed in
+    let whole : lines_of (file_of d) ≡ ls ++ (ms ++ on.0) = on.1 ∙ ap (λ (x : List Line). x ++ on.0) (sym split) ∙ append_assoc ls ms on.0 in
+    let fit : AllByRecursion LineFits ls = all_front LineFits ls ms (subst (AllByRecursion LineFits) (sym split) r.fit) in
+    let well = goes_well ls (ms ++ on.0) (text_of_lines ms ++ rest) (file_of d) r.in_range fit whole in
+    let bytes : text_of_lines ls ++ (text_of_lines ms ++ rest) ≡ text_of_lines (sofar d) ++ rest = sym (append_assoc (text_of_lines ls) (text_of_lines ms) rest) ∙ ap (λ (x : List ℕ). x ++ rest) (sym (flat_map-append line_text ls ms) ∙ ap text_of_lines split) in
+    subst (λ (k : ℕ). GoesWell k (text_of_lines (sofar d) ++ rest)) (length-take-le m (sofar d) le) (subst (λ (x : List ℕ). GoesWell (length ls) x) bytes well)
+
+-- ---- where a text can't go on
+
+-- no line that comes next may come here
+abbrev pub Stops : Draft → List ℕ → Type 0
+Stops d rest = (l : Line) (after : List ℕ) → line_at rest ≡ Some (l, after) → step d l ≡ None
+
+none_is_some : {A : Type 0} (x : A) → (let none : Option A = None in none) ≡ Some x → ⊥
+none_is_some x e = absurd cc
+
+-- a result whose lines begin with those so far goes on from the draft
+runs_on : (d : Draft) (f : ResultFile) (more : List Line) → Reached d → lines_of f ≡ sofar d ++ more → run d more ≡ Some (done f)
+runs_on d f more r e =
+    let whole : run start (sofar d ++ more) ≡ run d more = run_append start (sofar d) more ∙ rw r.ran refl in
+    sym whole ∙ ap (run start) (sym e) ∙ runs_to_end f
+
+no_step : (d : Draft) (rest after : List ℕ) (l : Line) (ms : List Line) (f : ResultFile) → Stops d rest → LineFits l → rest ≡ line_text l ++ after → run d (l ∷ ms) ≡ Some (done f) → ⊥
+no_step d rest after l ms f stops fits e runs =
+    let none : step d l ≡ None = stops l after (ap line_at e ∙ line_again l after fits) in
+    let stopped : run d (l ∷ ms) ≡ None = rw none refl in
+    none_is_some (done f) (sym stopped ∙ runs)
+
+no_text : (d : Draft) (rest : List ℕ) → Reached d → Stops d rest → (rest ≡ [] → finished d ≡ None) → IsText (text_of_lines (sofar d) ++ rest) → ⊥
+no_text d rest r stops unfinished t =
+    let f = t.0 in
+    let b = lines_begin (sofar d) (lines_of f) rest r.fit (lines_fit f t.1.in_range) (sym t.1.spelled) in
+    let runs = runs_on d f b.0 r b.1 in
+    let fit = all_back LineFits (sofar d) b.0 (subst (AllByRecursion LineFits) b.1 (lines_fit f t.1.in_range)) in
+    by_more b.0 fit b.2 runs
+  where
+    by_more : (more : List Line) → AllByRecursion LineFits more → text_of_lines more ≡ rest → run d more ≡ Some (done t.0) → ⊥
+    by_more [] fit e runs =
+        let ended : finished (done t.0) ≡ None = ap finished (sym (some_is d (done t.0) runs)) ∙ unfinished (sym e) in
+        none_is_some (file_of (done t.0)) (sym ended)
+    by_more (l ∷ ms) fit e runs = no_step d rest (text_of_lines ms) l ms t.0 stops fit.0 (sym e) runs
+
+no_next : (d : Draft) (rest : List ℕ) → Reached d → Stops d rest → GoesWell (length (sofar d) + 1) (text_of_lines (sofar d) ++ rest) → ⊥
+no_next d rest r stops well =
+    by_first (first_lines 1 rest) refl (subst (λ (o : Option (List ℕ)). IsSomeAnd o BeginsText) (lines_first (sofar d) rest 1 r.fit) well)
+  where
+    by_more : (front more : List ℕ) (f : ResultFile) (ms : List Line) → first_lines 1 rest ≡ Some front → AllByRecursion LineFits ms → text_of_lines ms ≡ front ++ more → run d ms ≡ Some (done f) → ⊥
+    by_more front more f [] is fit e runs = none_is_some front (ap (first_lines 1) e ∙ first_again 1 rest front more is)
+    by_more front more f (l ∷ ms) is fit e runs =
+        let one : first_lines 1 (line_text l ++ text_of_lines ms) ≡ Some (line_text l ++ []) = line_first l (text_of_lines ms) 0 fit.0 in
+        let same : front ≡ line_text l ++ [] = some_is front (line_text l ++ []) (sym (first_again 1 rest front more is) ∙ ap (first_lines 1) (sym e) ∙ one) in
+        let behind = first_rest 1 rest front is in
+        let spelled : rest ≡ line_text l ++ behind.0 = behind.1 ∙ ap (λ (x : List ℕ). x ++ behind.0) (same ∙ append-nil (line_text l)) in
+        no_step d rest behind.0 l ms f stops fit.0 spelled runs
+
+    by_first : (o : Option (List ℕ)) → first_lines 1 rest ≡ o → IsSomeAnd (option_map (λ f. text_of_lines (sofar d) ++ f) o) BeginsText → ⊥
+    by_first None is h = h
+    by_first (Some front) is h =
+        let f = h.1.0 in
+        let t = h.1.1 in
+        let b = lines_begin (sofar d) (lines_of f) (front ++ h.0) r.fit (lines_fit f t.in_range) (sym t.spelled ∙ append_assoc (text_of_lines (sofar d)) front h.0) in
+        by_more front h.0 f b.0 is (all_back LineFits (sofar d) b.0 (subst (AllByRecursion LineFits) b.1 (lines_fit f t.in_range))) b.2 (runs_on d f b.0 r b.1)
+
+-- ---- what reading comes to
+
+pub bad_line : (d : Draft) (bytes rest : List ℕ) → Reached d → bytes ≡ text_of_lines (sofar d) ++ rest → Stops d rest → (rest ≡ [] → finished d ≡ None) → IsBadLine (length (sofar d) + 1) bytes
+bad_line d bytes rest r e stops unfinished = subst (IsBadLine (length (sofar d) + 1)) (sym e) (record {
+  outside = no_text d rest r stops unfinished;
+  bad = no_next d rest r stops;
+  least = λ m less. well_before d rest r m (omega arith);
+})
+
+finished_at : (p : Place) (d : Draft) (f : ResultFile) → finished (record d { place = p }) ≡ Some f → (p ≡ place.End) × (file_of d ≡ f)
+finished_at (place.Head n) d f e = absurd cc
+finished_at place.Paths d f e = absurd cc
+finished_at place.Edges d f e = absurd cc
+finished_at place.Whys d f e = absurd cc
+finished_at place.Probes d f e = absurd cc
+finished_at place.End d f e = (refl, some_is (file_of d) f e)
+
+pub is_text : (d : Draft) (bytes : List ℕ) (f : ResultFile) → Reached d → bytes ≡ text_of_lines (sofar d) ++ [] → finished d ≡ Some f → IsTextOf f bytes
+is_text d bytes f r e ends =
+    let t = finished_at d.place d f ends in
+    let all : sofar d ≡ lines_of (file_of d) = ap (λ (p : Place). sofar (record d { place = p })) t.0 ∙ sym (whole_parts d) in
+    subst (λ (g : ResultFile). IsTextOf g bytes) t.1 (record { in_range = r.in_range; spelled = e ∙ append-nil (text_of_lines (sofar d)) ∙ ap text_of_lines all })
+
+-- ---- each text has one value
+
+pub one_value : (f g : ResultFile) → IsInRange f → IsInRange g → text f ≡ text g → f ≡ g
+one_value f g r s e =
+    let b = lines_begin (lines_of g) (lines_of f) [] (lines_fit g s) (lines_fit f r) (e ∙ sym (append-nil (text g))) in
+    let fit = all_back LineFits (lines_of g) b.0 (subst (AllByRecursion LineFits) b.1 (lines_fit f r)) in
+    let none : b.0 ≡ [] = no_lines b.0 fit b.2 in
+    let same : lines_of f ≡ lines_of g = b.1 ∙ ap (λ (x : List Line). lines_of g ++ x) none ∙ append-nil (lines_of g) in
+    let ends : done f ≡ done g = some_is (done f) (done g) (sym (runs_to_end f) ∙ ap (run start) same ∙ runs_to_end g) in
+    ap file_of ends
+  where
+    no_lines : (ls : List Line) → AllByRecursion LineFits ls → text_of_lines ls ≡ [] → ls ≡ []
+    no_lines [] fit e = refl
+    no_lines (l ∷ ls) fit e = absurd (no_line l (text_of_lines ls) fit.0 (sym e))
+
+-- ---- the loop over the lines
+
+pub record Progress (d : Draft) (bytes rest : List ℕ) (read : ℕ) : Type 0 where
+  pub reached : Reached d
+  pub spelled : bytes ≡ text_of_lines (sofar d) ++ rest
+  pub count : length (sofar d) ≡ read
+
+line_long : (l : Line) → 0 < length (line_text l)
+unfolding line_text
+line_long l = omega (arith, length-append (fields (fields_of l)) (10 ∷ []))
+
+lines_long : (ls : List Line) → length ls ≤ length (text_of_lines ls)
+lines_long [] = omega arith
+lines_long (l ∷ ls) = omega (arith, line_long l, lines_long ls, length-append (line_text l) (text_of_lines ls))
+
+pub few_lines : (d : Draft) (bytes rest : List ℕ) (read : ℕ) → Progress d bytes rest read → read + length rest ≤ length bytes
+few_lines d bytes rest read p = omega (arith, lines_long (sofar d), p.count, ap length p.spelled, length-append (text_of_lines (sofar d)) rest)
+
+next_parts : (d e : Draft) (rest after : List ℕ) → next_at d rest ≡ Some (e, after) → (l : Line) × (line_at rest ≡ Some (l, after)) × (step d l ≡ Some e)
+unfolding next_at
+next_parts d e rest after n =
+    let a = bind_some (line_at rest) (λ x. step d x.0 >>= λ e. Some (e, x.1)) (e, after) n in
+    let b = bind_some (step d a.0.0) (λ e. Some (e, a.0.1)) (e, after) a.2 in
+    let pair : (b.0, a.0.1) ≡ (e, after) = some_is (b.0, a.0.1) (e, after) b.2 in
+    (a.0.0, a.1 ∙ ap (λ (r : List ℕ). Some (a.0.0, r)) (ap (λ (p : Draft × List ℕ). p.1) pair), b.1 ∙ ap (λ (x : Draft). Some x) (ap (λ (p : Draft × List ℕ). p.0) pair))
+
+pub next_shorter : (d e : Draft) (rest after : List ℕ) → next_at d rest ≡ Some (e, after) → length after < length rest
+next_shorter d e rest after n =
+    let t = next_parts d e rest after n in
+    let r = line_takes rest (t.0, after) t.1 in
+    omega (arith, ap length r.1, line_long t.0, length-append (line_text t.0) after)
+
+pub progress_starts : (bytes : List ℕ) → Progress start bytes bytes 0
+progress_starts bytes = record { reached = start_reached; spelled = refl; count = refl }
+
+pub progress_goes_on : (d e : Draft) (bytes rest after : List ℕ) (read : ℕ) → Progress d bytes rest read → next_at d rest ≡ Some (e, after) → Progress e bytes after (read + 1)
+progress_goes_on d e bytes rest after read p n =
+    let t = next_parts d e rest after n in
+    let r = line_takes rest (t.0, after) t.1 in
+    let s = step_reached d e t.0 p.reached r.0 t.2 in
+    let lines : text_of_lines (sofar e) ≡ text_of_lines (sofar d) ++ line_text t.0 = ap text_of_lines s.1 ∙ flat_map-append line_text (sofar d) (t.0 ∷ []) ∙ ap (λ (x : List ℕ). text_of_lines (sofar d) ++ x) (append-nil (line_text t.0)) in
+    record {
+      reached = s.0;
+      spelled = p.spelled ∙ ap (λ (x : List ℕ). text_of_lines (sofar d) ++ x) r.1 ∙ sym (append_assoc (text_of_lines (sofar d)) (line_text t.0) after) ∙ ap (λ (x : List ℕ). x ++ after) (sym lines);
+      count = ap length s.1 ∙ length-append (sofar d) (t.0 ∷ []) ∙ ap (λ (k : ℕ). k + 1) p.count;
+    }
+
+stops_where_none : (d : Draft) (rest : List ℕ) → next_at d rest ≡ None → Stops d rest
+unfolding next_at
+stops_where_none d rest n l after e = by_step (step d l) (sym (rw e refl) ∙ n)
+  where
+    by_step : (o : Option Draft) → (o >>= λ e. let s : Option (Draft × List ℕ) = Some (e, after) in s) ≡ None → o ≡ None
+    by_step (Some x) h = absurd cc
+    by_step None h = refl
+
+pub stopped : (d : Draft) (bytes rest : List ℕ) (read : ℕ) → Progress d bytes rest read → length rest ≢ 0 → next_at d rest ≡ None → IsBadLine (read + 1) bytes
+stopped d bytes rest read p some n =
+    subst (λ (k : ℕ). IsBadLine (k + 1) bytes) p.count (bad_line d bytes rest p.reached p.spelled (stops_where_none d rest n) (λ e. absurd (some (ap length e))))
+
+pub unfinished : (d : Draft) (bytes rest : List ℕ) (read : ℕ) → Progress d bytes rest read → rest ≡ [] → finished d ≡ None → IsBadLine (read + 1) bytes
+unfinished d bytes rest read p e n =
+    let stops : Stops d rest = λ l after s. absurd (none_is_some (l, after) (sym nothing_at ∙ ap line_at (sym e) ∙ s)) in
+    subst (λ (k : ℕ). IsBadLine (k + 1) bytes) p.count (bad_line d bytes rest p.reached p.spelled stops (λ _. n))
+
+pub whole_text : (d : Draft) (bytes rest : List ℕ) (read : ℕ) (f : ResultFile) → Progress d bytes rest read → rest ≡ [] → finished d ≡ Some f → IsTextOf f bytes
+whole_text d bytes rest read f p e ends = is_text d bytes f p.reached (p.spelled ∙ ap (λ (x : List ℕ). text_of_lines (sofar d) ++ x) e) ends

@@ -1,0 +1,7 @@
+pub mod Text
+pub mod Ranges
+pub mod Grammar
+pub mod Refusal
+pub mod Reading
+pub mod Order
+pub mod Numbering

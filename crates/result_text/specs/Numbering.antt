@@ -1,0 +1,55 @@
+-- On which line of its text each thing of a result stands. Lines are counted from 1, and so are the paths, edges,
+-- walks and open lines of a result.
+use Rattle.std.specs.Prelude.{◌≡◌, ℕ, ◌+◌, ◌≤◌, length, take, Some, slice_get}
+use Rattle.path_clean.specs.declared.cleaned.Cause.{Cause}
+use Rattle.path_clean.specs.Counts.{count_of}
+use Rattle.tor_arena.specs.declared.walk.Walk.{Walk}
+use Rattle.result_text.specs.declared.file.PathLine.{PathLine}
+use Rattle.result_text.specs.declared.file.EdgeLine.{EdgeLine}
+use Rattle.result_text.specs.declared.file.ProbeLine.{ProbeLine}
+use Rattle.result_text.specs.declared.file.ResultFile.{ResultFile}
+use Rattle.result_text.specs.declared.line.Line.{Line}
+use Rattle.result_text.specs.declared.line.Line.TheVariants as line
+use Rattle.result_text.specs.Text.{lines_of, text_of_lines, text}
+use Rattle.result_text.specs.Order.{cause_index}
+use Rattle.result_text.specs.Grammar.{first_lines}
+
+abbrev pub ratio_line : ℕ
+ratio_line = 3
+
+abbrev pub aside_line : Cause → ℕ
+aside_line cause = 4 + cause_index cause
+
+abbrev pub path_line : ℕ → ℕ
+path_line number = 10 + number
+
+abbrev pub edge_line : ResultFile → ℕ → ℕ
+edge_line file number = 10 + length file.paths + number
+
+abbrev pub why_line : ResultFile → ℕ → ℕ
+why_line file number = 10 + length file.paths + length file.edges + number
+
+abbrev pub probe_line : ResultFile → ℕ → ℕ
+probe_line file number = 10 + length file.paths + length file.edges + length file.whys + number
+
+abbrev pub last_line : ResultFile → ℕ
+last_line file = 11 + length file.paths + length file.edges + length file.whys + length file.probes
+
+-- the line of this number
+abbrev pub IsLine : ResultFile → ℕ → Line → Type 0
+IsLine file number l = (place : ℕ) × (number ≡ place + 1) × (slice_get (lines_of file) place ≡ Some l)
+
+-- the numbers above are those of the lines
+pub record IsNumbered (file : ResultFile) : Type 0 where
+  pub ratio : IsLine file ratio_line (line.Ratio file.ratio)
+  pub asides : (cause : Cause) → IsLine file (aside_line cause) (line.Aside cause (count_of cause file.asides))
+  pub paths : (place : ℕ) (path : PathLine) → slice_get file.paths place ≡ Some path → IsLine file (path_line (place + 1)) (line.Path path)
+  pub edges : (place : ℕ) (edge : EdgeLine) → slice_get file.edges place ≡ Some edge → IsLine file (edge_line file (place + 1)) (line.Edge edge)
+  pub whys : (place : ℕ) (walk : Walk) → slice_get file.whys place ≡ Some walk → IsLine file (why_line file (place + 1)) (line.Why walk)
+  pub probes : (place : ℕ) (probe : ProbeLine) → slice_get file.probes place ≡ Some probe → IsLine file (probe_line file (place + 1)) (line.Probe probe)
+  pub last : IsLine file (last_line file) (line.End file.totals)
+  pub count : length (lines_of file) ≡ last_line file
+
+-- the first lines of the text, each with its line feed, are the texts of the first lines
+abbrev pub LinesAreOfText : ResultFile → Type 0
+LinesAreOfText file = (count : ℕ) → count ≤ last_line file → first_lines count (text file) ≡ Some (text_of_lines (take count (lines_of file)))

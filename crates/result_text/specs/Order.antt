@@ -1,0 +1,107 @@
+-- In which order lines come: what is read so far, and what may come next.
+use Rattle.std.specs.Prelude.{◌≡◌, ℕ, ◌+◌, Bool, true, false, List, [], ◌∷◌, ◌++◌, Option, Some, None, Result, Ok, Err, nat_lt, ◌==◌, slice_set, if◌then◌else◌}
+use Rattle.path_clean.specs.declared.cleaned.Cause.{Cause}
+use Rattle.path_clean.specs.declared.cleaned.Cause.TheVariants as cause
+use Rattle.path_clean.specs.declared.cleaned.Sets.TheVariants as sets
+use Rattle.path_clean.specs.Counts.{counts_from}
+use Rattle.result_text.specs.declared.error.LineError.{LineError}
+use Rattle.result_text.specs.declared.file.ResultFile.{ResultFile}
+use Rattle.result_text.specs.declared.line.Line.{Line}
+use Rattle.result_text.specs.declared.line.Line.TheVariants as line
+use Rattle.result_text.specs.declared.draft.Draft.{Draft}
+use Rattle.result_text.specs.declared.draft.Place.{Place}
+use Rattle.result_text.specs.declared.draft.Place.TheVariants as place
+use Rattle.result_text.specs.Reading.{◌>>=◌, Fails, line_at}
+
+-- the place among the seven counts
+abbrev pub cause_index : Cause → ℕ
+cause_index cause.NoPath = 0
+cause_index cause.BadSegments = 1
+cause_index cause.Confed = 2
+cause_index cause.Sets = 3
+cause_index cause.Reserved = 4
+cause_index cause.Loop = 5
+cause_index cause.Short = 6
+
+-- where n of the ten first lines are read
+abbrev pub is_head : ℕ → Place → Bool
+is_head n (place.Head m) = m == n
+is_head n _ = false
+
+abbrev pub after_head : ℕ → Place
+after_head n = if nat_lt n 10 then place.Head n else place.Paths
+
+abbrev pub takes_path : Place → Bool
+takes_path place.Paths = true
+takes_path _ = false
+
+abbrev pub takes_edge : Place → Bool
+takes_edge place.Edges = true
+takes_edge p = takes_path p
+
+abbrev pub takes_why : Place → Bool
+takes_why place.Whys = true
+takes_why p = takes_edge p
+
+abbrev pub takes_probe : Place → Bool
+takes_probe place.Probes = true
+takes_probe p = takes_why p
+
+-- the n-th of the ten first lines, which changes the draft so
+abbrev pub pass_head : ℕ → Draft → Draft → Option Draft
+pass_head n old new = if is_head n old.place then Some (record new { place = after_head (n + 1) }) else None
+
+-- the draft with one more line, if the line may come next
+abbrev pub step : Draft → Line → Option Draft
+step d line.Version = pass_head 0 d d
+step d (line.Sets s) = pass_head 1 d (record d { sets = s })
+step d (line.Ratio n) = pass_head 2 d (record d { ratio = n })
+step d (line.Aside c n) = pass_head (3 + cause_index c) d (record d { counts = slice_set d.counts (cause_index c) n })
+step d (line.Path p) = if takes_path d.place then Some (record d { place = place.Paths; paths = d.paths ++ p ∷ [] }) else None
+step d (line.Edge e) = if takes_edge d.place then Some (record d { place = place.Edges; edges = d.edges ++ e ∷ [] }) else None
+step d (line.Why w) = if takes_why d.place then Some (record d { place = place.Whys; whys = d.whys ++ w ∷ [] }) else None
+step d (line.Probe p) = if takes_probe d.place then Some (record d { place = place.Probes; probes = d.probes ++ p ∷ [] }) else None
+step d (line.End t) = if takes_probe d.place then Some (record d { place = place.End; totals = t }) else None
+
+-- a call left the draft so, unless memory ran out
+abbrev pub Steps : {X : Type 0} → Result X LineError → Draft → Option Draft → Type 0
+Steps (Ok x) new next = next ≡ Some new
+Steps (Err e) new next = Fails e next
+
+abbrev pub start : Draft
+start = record {
+  place = place.Head 0;
+  sets = sets.Cut;
+  ratio = 0;
+  counts = 0 ∷ 0 ∷ 0 ∷ 0 ∷ 0 ∷ 0 ∷ 0 ∷ [];
+  paths = [];
+  edges = [];
+  whys = [];
+  probes = [];
+  totals = record { kept = 0; lost = 0; edges = 0; forced = 0; peers = 0 };
+}
+
+abbrev pub file_of : Draft → ResultFile
+file_of d = record {
+  sets = d.sets;
+  ratio = d.ratio;
+  asides = counts_from d.counts;
+  paths = d.paths;
+  edges = d.edges;
+  whys = d.whys;
+  probes = d.probes;
+  totals = d.totals;
+}
+
+abbrev pub finished : Draft → Option ResultFile
+finished d = elim d.place [
+  | place.End ↦ Some (file_of d)
+  | _ ↦ None
+]
+
+-- the draft with the line at the front of the bytes, and the bytes behind that
+unfoldable pub next_at : Draft → List ℕ → Option (Draft × List ℕ)
+next_at d bytes = do
+  x ← line_at bytes
+  e ← step d x.0
+  Some (e, x.1)

@@ -1,0 +1,197 @@
+-- Reading from left to right: a value, and the bytes behind it.
+use Rattle.std.specs.Prelude.{◌≡◌, ℕ, zero, suc, ◌+◌, ◌-◌, ◌*◌, ◌^◌, Bool, true, ◌&&◌, ◌||◌, List, [], ◌∷◌, ◌++◌, length, Option, Some, None, Result, Ok, Err, codes, nat_lt, nat_le, ◌==◌, if◌then◌else◌}
+use Rattle.tor_arena.specs.declared.walk.Label.{Label}
+use Rattle.tor_arena.specs.declared.walk.Label.TheVariants as label
+use Rattle.tor_arena.specs.declared.walk.Link.{Link}
+use Rattle.tor_arena.specs.declared.walk.Walk.{Walk}
+use Rattle.path_clean.specs.declared.cleaned.Sets.{Sets}
+use Rattle.path_clean.specs.declared.cleaned.Sets.TheVariants as sets
+use Rattle.path_clean.specs.declared.cleaned.Cause.{Cause}
+use Rattle.path_clean.specs.declared.cleaned.Cause.TheVariants as cause
+use Rattle.result_text.specs.declared.file.Fate.TheVariants as fate
+use Rattle.result_text.specs.declared.file.EdgeMark.{EdgeMark}
+use Rattle.result_text.specs.declared.file.EdgeMark.TheVariants as mark
+use Rattle.result_text.specs.declared.line.Line.{Line}
+use Rattle.result_text.specs.declared.line.Line.TheVariants as line
+use Rattle.result_text.specs.declared.error.LineError.{LineError}
+use Rattle.result_text.specs.declared.error.LineError.TheVariants as errors
+
+infixl 10 ◌>>=◌
+abbrev pub ◌>>=◌ : {A B : Type 0} → Option A → (A → Option B) → Option B
+(Some x) >>= f = f x
+None >>= f = None
+
+-- What a function returned, seen by view, is what reading gives, unless memory ran out.
+abbrev pub Fails : {Y : Type 0} → LineError → Option Y → Type 0
+Fails errors.NoMemory read = Unit {0}
+Fails errors.Bad read = read ≡ None
+
+abbrev pub Gives : {X Y : Type 0} → (X → Y) → Result X LineError → Option Y → Type 0
+Gives view (Ok x) read = read ≡ Some (view x)
+Gives view (Err e) read = Fails e read
+
+-- the bytes behind a word
+abbrev pub word_at : List ℕ → List ℕ → Option (List ℕ)
+word_at [] bytes = Some bytes
+word_at (c ∷ cs) [] = None
+word_at (c ∷ cs) (b ∷ bytes) = if b == c then word_at cs bytes else None
+
+-- one reader behind a word, and another where the word isn't there
+abbrev pub on_word : {X : Type 0} → List ℕ → (List ℕ → Option X) → (List ℕ → Option X) → List ℕ → Option X
+on_word word read other bytes = elim (word_at word bytes) [ Some rest ↦ read rest | None ↦ other bytes ]
+
+-- ---- numbers
+
+abbrev pub is_digit : ℕ → Bool
+is_digit b = nat_le 48 b && nat_le b 57
+
+-- one more digit, if the number stays below 2 ^ 64
+abbrev pub with_digit : ℕ → ℕ → Option ℕ
+with_digit n digit = if nat_lt (n * 10 + digit) (2 ^ 64) then Some (n * 10 + digit) else None
+
+-- the digit at the front
+unfoldable pub digit_at : List ℕ → Option (ℕ × List ℕ)
+digit_at [] = None
+digit_at (b ∷ bytes) = if is_digit b then Some (b - 48, bytes) else None
+
+-- a number that goes on behind the digits of n
+unfoldable pub digits_at : ℕ → List ℕ → Option (ℕ × List ℕ)
+digits_at n [] = Some (n, [])
+digits_at n (b ∷ bytes) = if is_digit b then (with_digit n (b - 48) >>= λ m. digits_at m bytes) else Some (n, b ∷ bytes)
+
+-- a 0 has no digits behind it
+unfoldable pub u64_at : List ℕ → Option (ℕ × List ℕ)
+u64_at bytes = do
+  first ← digit_at bytes
+  if first.0 == 0 then Some (0, first.1) else digits_at first.0 first.1
+
+abbrev pub below : ℕ → ℕ × List ℕ → Option (ℕ × List ℕ)
+below limit x = if nat_lt x.0 limit then Some x else None
+
+unfoldable pub u32_at : List ℕ → Option (ℕ × List ℕ)
+u32_at bytes = u64_at bytes >>= below (2 ^ 32)
+
+-- a value, and behind it this byte
+abbrev pub before : {X : Type 0} → ℕ → (List ℕ → Option (X × List ℕ)) → List ℕ → Option (X × List ℕ)
+before c read bytes = do
+  x ← read bytes
+  rest ← word_at (c ∷ []) x.1
+  Some (x.0, rest)
+
+-- one after the other
+abbrev pub both : {X Y : Type 0} → (List ℕ → Option (X × List ℕ)) → (List ℕ → Option (Y × List ℕ)) → List ℕ → Option ((X × Y) × List ℕ)
+both read_x read_y bytes = do
+  x ← read_x bytes
+  y ← read_y x.1
+  Some ((x.0, y.0), y.1)
+
+abbrev pub mapped : {X Y : Type 0} → (X → Y) → (List ℕ → Option (X × List ℕ)) → List ℕ → Option (Y × List ℕ)
+mapped f read bytes = do
+  x ← read bytes
+  Some (f x.0, x.1)
+
+-- ---- lists
+
+-- further members, each behind a space, at most so many
+unfoldable pub others_at : {X : Type 0} → (List ℕ → Option (X × List ℕ)) → ℕ → List ℕ → Option (List X × List ℕ)
+others_at member zero bytes = Some ([], bytes)
+others_at member (suc k) bytes = on_word (32 ∷ []) (λ rest. member rest >>= λ x. others_at member k x.1 >>= λ xs. Some (x.0 ∷ xs.0, xs.1)) (λ rest. Some ([], rest)) bytes
+
+-- what was read before, and what is read now
+abbrev pub with_front : {X : Type 0} → List X → Option (List X × List ℕ) → Option (List X × List ℕ)
+with_front front read = read >>= λ x. Some (front ++ x.0, x.1)
+
+-- a field ends at a bar, at a line feed, and with the bytes
+abbrev pub field_ends : List ℕ → Bool
+field_ends [] = true
+field_ends (b ∷ bytes) = b == 124 || b == 10
+
+-- an empty field is an empty list; else the list has as many members as the bytes give
+unfoldable pub list_at : {X : Type 0} → (List ℕ → Option (X × List ℕ)) → List ℕ → Option (List X × List ℕ)
+list_at member bytes = if field_ends bytes then Some ([], bytes) else (do
+  x ← member bytes
+  with_front (x.0 ∷ []) (others_at member (length x.1) x.1))
+
+abbrev pub link_from : ℕ × ℕ → Link
+link_from p = record { path = p.0; at = p.1 }
+
+unfoldable pub link_at : List ℕ → Option (Link × List ℕ)
+link_at bytes = mapped link_from (both (before 58 u32_at) u32_at) bytes
+
+-- ---- names
+
+abbrev pub name_at : {X : Type 0} → List (List ℕ × X) → List ℕ → Option (X × List ℕ)
+name_at [] bytes = None
+name_at (entry ∷ more) bytes = on_word entry.0 (λ rest. Some (entry.1, rest)) (name_at more) bytes
+
+unfoldable pub sets_at : List ℕ → Option (Sets × List ℕ)
+sets_at bytes = name_at ((codes "cut\n", sets.Cut) ∷ (codes "skip\n", sets.Skip) ∷ []) bytes
+
+unfoldable pub cause_at : List ℕ → Option (Cause × List ℕ)
+cause_at bytes = name_at ((codes "nopath|", cause.NoPath) ∷ (codes "badsegments|", cause.BadSegments) ∷ (codes "confed|", cause.Confed) ∷ (codes "sets|", cause.Sets)
+    ∷ (codes "reserved|", cause.Reserved) ∷ (codes "loop|", cause.Loop) ∷ (codes "short|", cause.Short) ∷ []) bytes
+
+unfoldable pub label_at : List ℕ → Option (Label × List ℕ)
+label_at bytes = name_at ((codes "low|", label.Low) ∷ (codes "high|", label.High) ∷ (codes "peer|", label.Peer) ∷ []) bytes
+
+unfoldable pub mark_at : List ℕ → Option (EdgeMark × List ℕ)
+mark_at bytes = name_at ((codes "forced|", mark.Forced) ∷ (codes "open|", mark.Loose) ∷ []) bytes
+
+-- ---- lines, behind their first word
+
+abbrev pub aside_from : Cause × ℕ → Line
+aside_from x = line.Aside x.0 x.1
+
+unfoldable pub aside_at : List ℕ → Option (Line × List ℕ)
+aside_at bytes = mapped aside_from (both cause_at (before 10 u64_at)) bytes
+
+abbrev pub walk_from : List ℕ × List Link → Walk
+walk_from x = record { ases = x.0; links = x.1 }
+
+-- a walk ends its line
+unfoldable pub walk_at : List ℕ → Option (Walk × List ℕ)
+walk_at bytes = mapped walk_from (both (before 124 (list_at u32_at)) (before 10 (list_at link_at))) bytes
+
+abbrev pub kept_from : ℕ × List ℕ → Line
+kept_from x = line.Path (record { times = x.0; path = x.1; fate = fate.Kept })
+
+unfoldable pub kept_at : List ℕ → Option (Line × List ℕ)
+kept_at bytes = mapped kept_from (both (before 124 u64_at) (before 10 (list_at u32_at))) bytes
+
+abbrev pub lost_from : ℕ × (List ℕ × Walk) → Line
+lost_from x = line.Path (record { times = x.0; path = x.1.0; fate = fate.Lost x.1.1 })
+
+unfoldable pub lost_at : List ℕ → Option (Line × List ℕ)
+lost_at bytes = mapped lost_from (both (before 124 u64_at) (both (before 124 (list_at u32_at)) walk_at)) bytes
+
+abbrev pub edge_from : ℕ × (ℕ × (Label × (EdgeMark × ℕ))) → Line
+edge_from x = line.Edge (record { low = x.0; high = x.1.0; label = x.1.1.0; mark = x.1.1.1.0; support = x.1.1.1.1 })
+
+unfoldable pub edge_at : List ℕ → Option (Line × List ℕ)
+edge_at bytes = mapped edge_from (both (before 124 u32_at) (both (before 124 u32_at) (both label_at (both mark_at (before 10 u64_at))))) bytes
+
+unfoldable pub why_at : List ℕ → Option (Line × List ℕ)
+why_at bytes = mapped (λ w. line.Why w) walk_at bytes
+
+abbrev pub probe_from : ℕ × ℕ → Line
+probe_from x = line.Probe (record { over = x.0; under = x.1 })
+
+unfoldable pub probe_at : List ℕ → Option (Line × List ℕ)
+probe_at bytes = mapped probe_from (both (before 124 u32_at) (before 10 u32_at)) bytes
+
+abbrev pub end_from : ℕ × (ℕ × (ℕ × (ℕ × ℕ))) → Line
+end_from x = line.End (record { kept = x.0; lost = x.1.0; edges = x.1.1.0; forced = x.1.1.1.0; peers = x.1.1.1.1 })
+
+unfoldable pub end_at : List ℕ → Option (Line × List ℕ)
+end_at bytes = mapped end_from (both (before 124 u64_at) (both (before 124 u64_at) (both (before 124 u64_at) (both (before 124 u64_at) (before 10 u64_at))))) bytes
+
+unfoldable pub sets_line_at : List ℕ → Option (Line × List ℕ)
+sets_line_at bytes = mapped (λ s. line.Sets s) sets_at bytes
+
+unfoldable pub ratio_at : List ℕ → Option (Line × List ℕ)
+ratio_at bytes = mapped (λ n. line.Ratio n) (before 10 u32_at) bytes
+
+-- a line, by its first word
+unfoldable pub line_at : List ℕ → Option (Line × List ℕ)
+line_at bytes = on_word (codes "kept|") kept_at (on_word (codes "edge|") edge_at (on_word (codes "why|") why_at (on_word (codes "open|") probe_at (on_word (codes "lost|") lost_at
+    (on_word (codes "aside|") aside_at (on_word (codes "tor|1\n") (λ rest. Some (line.Version, rest)) (on_word (codes "sets|") sets_line_at (on_word (codes "ratio|") ratio_at (on_word (codes "end|") end_at (λ _. None)))))))))) bytes

@@ -1,0 +1,116 @@
+-- The one text of a result.
+use Rattle.std.specs.Prelude.{ℕ, List, [], ◌∷◌, ◌++◌, map, codes}
+use Rattle.std.specs.Fmt.{decimal}
+use Rattle.std.specs.List.{flat_map, join_with_byte}
+use Rattle.tor_arena.specs.declared.walk.Label.{Label}
+use Rattle.tor_arena.specs.declared.walk.Label.TheVariants as label
+use Rattle.tor_arena.specs.declared.walk.Link.{Link}
+use Rattle.path_clean.specs.declared.cleaned.Sets.{Sets}
+use Rattle.path_clean.specs.declared.cleaned.Sets.TheVariants as sets
+use Rattle.path_clean.specs.declared.cleaned.Cause.{Cause}
+use Rattle.path_clean.specs.declared.cleaned.Cause.TheVariants as cause
+use Rattle.path_clean.specs.Counts.{Counts}
+use Rattle.result_text.specs.declared.file.Fate.{Fate}
+use Rattle.result_text.specs.declared.file.Fate.TheVariants as fate
+use Rattle.result_text.specs.declared.file.EdgeMark.{EdgeMark}
+use Rattle.result_text.specs.declared.file.EdgeMark.TheVariants as mark
+use Rattle.result_text.specs.declared.file.ResultFile.{ResultFile}
+use Rattle.result_text.specs.declared.line.Line.{Line}
+use Rattle.result_text.specs.declared.line.Line.TheVariants as line
+
+-- ---- fields
+
+-- fields, joined by a bar
+abbrev pub fields : List (List ℕ) → List ℕ
+fields parts = join_with_byte 124 parts
+
+-- the members of a list behind the first, each behind a space
+abbrev pub others : {X : Type 0} → (X → List ℕ) → List X → List ℕ
+others member xs = flat_map (λ x. 32 ∷ member x) xs
+
+-- the members of a list, joined by one space
+abbrev pub spaced : {X : Type 0} → (X → List ℕ) → List X → List ℕ
+spaced member [] = []
+spaced member (x ∷ xs) = member x ++ others member xs
+
+abbrev pub numbers : List ℕ → List ℕ
+numbers ns = spaced decimal ns
+
+-- a path's number, a colon, and a place on it
+abbrev pub link : Link → List ℕ
+link l = decimal l.path ++ 58 ∷ decimal l.at
+
+abbrev pub links : List Link → List ℕ
+links ls = spaced link ls
+
+abbrev pub sets_name : Sets → List ℕ
+sets_name sets.Cut = codes "cut"
+sets_name sets.Skip = codes "skip"
+
+abbrev pub cause_name : Cause → List ℕ
+cause_name cause.NoPath = codes "nopath"
+cause_name cause.BadSegments = codes "badsegments"
+cause_name cause.Confed = codes "confed"
+cause_name cause.Sets = codes "sets"
+cause_name cause.Reserved = codes "reserved"
+cause_name cause.Loop = codes "loop"
+cause_name cause.Short = codes "short"
+
+abbrev pub label_name : Label → List ℕ
+label_name label.Low = codes "low"
+label_name label.High = codes "high"
+label_name label.Peer = codes "peer"
+
+abbrev pub mark_name : EdgeMark → List ℕ
+mark_name mark.Forced = codes "forced"
+mark_name mark.Loose = codes "open"
+
+-- ---- lines
+
+abbrev pub path_fields : ℕ → List ℕ → Fate → List (List ℕ)
+path_fields times path fate.Kept = codes "kept" ∷ decimal times ∷ numbers path ∷ []
+path_fields times path (fate.Lost w) = codes "lost" ∷ decimal times ∷ numbers path ∷ numbers w.ases ∷ links w.links ∷ []
+
+abbrev pub fields_of : Line → List (List ℕ)
+fields_of line.Version = codes "tor" ∷ codes "1" ∷ []
+fields_of (line.Sets s) = codes "sets" ∷ sets_name s ∷ []
+fields_of (line.Ratio n) = codes "ratio" ∷ decimal n ∷ []
+fields_of (line.Aside c n) = codes "aside" ∷ cause_name c ∷ decimal n ∷ []
+fields_of (line.Path p) = path_fields p.times p.path p.fate
+fields_of (line.Edge e) = codes "edge" ∷ decimal e.low ∷ decimal e.high ∷ label_name e.label ∷ mark_name e.mark ∷ decimal e.support ∷ []
+fields_of (line.Why w) = codes "why" ∷ numbers w.ases ∷ links w.links ∷ []
+fields_of (line.Probe p) = codes "open" ∷ decimal p.over ∷ decimal p.under ∷ []
+fields_of (line.End t) = codes "end" ∷ decimal t.kept ∷ decimal t.lost ∷ decimal t.edges ∷ decimal t.forced ∷ decimal t.peers ∷ []
+
+-- a line, with the line feed that ends it
+unfoldable pub line_text : Line → List ℕ
+line_text l = fields (fields_of l) ++ 10 ∷ []
+
+-- ---- the whole
+
+abbrev pub aside_lines : Counts → List Line
+aside_lines c =
+    line.Aside cause.NoPath c.no_path
+    ∷ line.Aside cause.BadSegments c.bad_segments
+    ∷ line.Aside cause.Confed c.confed
+    ∷ line.Aside cause.Sets c.sets
+    ∷ line.Aside cause.Reserved c.reserved
+    ∷ line.Aside cause.Loop c.loop
+    ∷ line.Aside cause.Short c.short
+    ∷ []
+
+-- the lines of a result, in order
+abbrev pub head_lines : ResultFile → List Line
+head_lines file = line.Version ∷ line.Sets file.sets ∷ line.Ratio file.ratio ∷ aside_lines file.asides
+
+abbrev pub body_lines : ResultFile → List Line
+body_lines file = map (λ p. line.Path p) file.paths ++ (map (λ e. line.Edge e) file.edges ++ (map (λ w. line.Why w) file.whys ++ (map (λ p. line.Probe p) file.probes ++ line.End file.totals ∷ [])))
+
+abbrev pub lines_of : ResultFile → List Line
+lines_of file = head_lines file ++ body_lines file
+
+abbrev pub text_of_lines : List Line → List ℕ
+text_of_lines ls = flat_map line_text ls
+
+abbrev pub text : ResultFile → List ℕ
+text file = text_of_lines (lines_of file)

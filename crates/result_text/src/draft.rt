@@ -1,0 +1,273 @@
+ghost use Rattle.std.specs.Prelude.{◌≡◌, ◌<◌};
+ghost use Rattle.result_text.specs.declared.line.Line.TheVariants as line;
+ghost use Rattle.result_text.specs.Order.{cause_index, is_head, after_head, takes_path, takes_edge, takes_why, takes_probe, pass_head, step, Steps, start, finished};
+
+use crate::error::LineError;
+use crate::file::{EdgeLine, PathLine, ProbeLine, ResultFile, Totals};
+use crate::line::Line;
+use path_clean::{Asides, Cause, Sets};
+use std::alloc::Global;
+use tor_arena::{List, Walk};
+
+/// What may come next in a text.
+#[derive(Clone, Copy, Debug, PartialEq, Eq)]
+pub enum Place {
+    /// So many of the ten first lines are read.
+    Head(u8),
+    /// A path line, or a line of a later section.
+    Paths,
+    /// An edge line, or a line of a later section.
+    Edges,
+    /// A why line, or a line of a later section.
+    Whys,
+    /// An open line, or the last line.
+    Probes,
+    /// Nothing.
+    End,
+}
+
+/// What is read of a result so far.
+#[derive(Debug, Drop)]
+pub struct Draft {
+    pub place: Place,
+    pub sets: Sets,
+    pub ratio: u32,
+    pub counts: [u64; 7],
+    pub paths: List<PathLine>,
+    pub edges: List<EdgeLine>,
+    pub whys: List<Walk>,
+    pub probes: List<ProbeLine>,
+    pub totals: Totals,
+}
+
+// The place among the seven counts.
+fn index_of(cause: Cause) -> u8
+    ensures value { result ≡ cause_index cause }
+    ensures below { result < 7 }
+{
+    match cause {
+        Cause::NoPath => 0,
+        Cause::BadSegments => 1,
+        Cause::Confed => 2,
+        Cause::Sets => 3,
+        Cause::Reserved => 4,
+        Cause::Loop => 5,
+        Cause::Short => 6,
+    }
+}
+
+impl Place {
+    // Whether so many of the ten first lines are read.
+    fn is_head(self, count: u8) -> bool
+        ensures { result ≡ is_head count self }
+    {
+        match self {
+            Place::Head(read) => read == count,
+            Place::Paths | Place::Edges | Place::Whys | Place::Probes | Place::End => false,
+        }
+    }
+
+    // What may come next where so many of the first lines are read.
+    fn after_head(count: u8) -> Place
+        ensures { result ≡ after_head count }
+    {
+        if count < 10 {
+            Place::Head(count)
+        } else {
+            Place::Paths
+        }
+    }
+
+    // Whether a path line may come next.
+    fn takes_path(self) -> bool
+        ensures { result ≡ takes_path self }
+    {
+        match self {
+            Place::Paths => true,
+            Place::Head(_) | Place::Edges | Place::Whys | Place::Probes | Place::End => false,
+        }
+    }
+
+    // Whether an edge line may come next.
+    fn takes_edge(self) -> bool
+        ensures { result ≡ takes_edge self }
+    {
+        match self {
+            Place::Paths | Place::Edges => true,
+            Place::Head(_) | Place::Whys | Place::Probes | Place::End => false,
+        }
+    }
+
+    // Whether a why line may come next.
+    fn takes_why(self) -> bool
+        ensures { result ≡ takes_why self }
+    {
+        match self {
+            Place::Paths | Place::Edges | Place::Whys => true,
+            Place::Head(_) | Place::Probes | Place::End => false,
+        }
+    }
+
+    // Whether an open line may come next, or the last line.
+    fn takes_probe(self) -> bool
+        ensures { result ≡ takes_probe self }
+    {
+        match self {
+            Place::Paths | Place::Edges | Place::Whys | Place::Probes => true,
+            Place::Head(_) | Place::End => false,
+        }
+    }
+}
+
+impl Draft {
+    /// Nothing is read. It takes no memory.
+    pub fn new(alloc: Global) -> Draft
+        ensures { result ≡ start }
+    {
+        Draft {
+            place: Place::Head(0),
+            sets: Sets::Cut,
+            ratio: 0,
+            counts: [0, 0, 0, 0, 0, 0, 0],
+            paths: List::new(alloc),
+            edges: List::new(alloc),
+            whys: List::new(alloc),
+            probes: List::new(alloc),
+            totals: Totals {
+                kept: 0,
+                lost: 0,
+                edges: 0,
+                forced: 0,
+                peers: 0,
+            },
+        }
+    }
+
+    // Passes over the line behind the `count` first ones.
+    fn pass_head(&mut self, count: u8) -> Result<(), LineError>
+        requires { count < 10 }
+        ensures { Steps result self.new (pass_head count self.old self.old) }
+    {
+        if !self.place.is_head(count) {
+            return Err(LineError::Bad);
+        }
+        self.place = Place::after_head(count + 1);
+        Ok(())
+    }
+
+    fn add_sets(&mut self, sets: Sets) -> Result<(), LineError>
+        ensures { Steps result self.new (step self.old (line.Sets sets)) }
+    {
+        self.pass_head(1)?;
+        self.sets = sets;
+        Ok(())
+    }
+
+    fn add_ratio(&mut self, ratio: u32) -> Result<(), LineError>
+        ensures { Steps result self.new (step self.old (line.Ratio ratio)) }
+    {
+        self.pass_head(2)?;
+        self.ratio = ratio;
+        Ok(())
+    }
+
+    fn add_aside(&mut self, cause: Cause, count: u64) -> Result<(), LineError>
+        ensures { Steps result self.new (step self.old (line.Aside cause count)) }
+    {
+        let index = index_of(cause);
+        self.pass_head(3 + index)?;
+        self.counts[index as usize] = count;
+        Ok(())
+    }
+
+    fn add_path(&mut self, path: PathLine) -> Result<(), LineError>
+        ensures { Steps result self.new (step self.old (line.Path path)) }
+    {
+        if !self.place.takes_path() {
+            return Err(LineError::Bad);
+        }
+        self.paths.push(path)?;
+        self.place = Place::Paths;
+        Ok(())
+    }
+
+    fn add_edge(&mut self, edge: EdgeLine) -> Result<(), LineError>
+        ensures { Steps result self.new (step self.old (line.Edge edge)) }
+    {
+        if !self.place.takes_edge() {
+            return Err(LineError::Bad);
+        }
+        self.edges.push(edge)?;
+        self.place = Place::Edges;
+        Ok(())
+    }
+
+    fn add_why(&mut self, walk: Walk) -> Result<(), LineError>
+        ensures { Steps result self.new (step self.old (line.Why walk)) }
+    {
+        if !self.place.takes_why() {
+            return Err(LineError::Bad);
+        }
+        self.whys.push(walk)?;
+        self.place = Place::Whys;
+        Ok(())
+    }
+
+    fn add_probe(&mut self, probe: ProbeLine) -> Result<(), LineError>
+        ensures { Steps result self.new (step self.old (line.Probe probe)) }
+    {
+        if !self.place.takes_probe() {
+            return Err(LineError::Bad);
+        }
+        self.probes.push(probe)?;
+        self.place = Place::Probes;
+        Ok(())
+    }
+
+    fn add_end(&mut self, totals: Totals) -> Result<(), LineError>
+        ensures { Steps result self.new (step self.old (line.End totals)) }
+    {
+        if !self.place.takes_probe() {
+            return Err(LineError::Bad);
+        }
+        self.totals = totals;
+        self.place = Place::End;
+        Ok(())
+    }
+
+    /// Adds a line, if it may come next. After an error the draft is of no use.
+    pub fn add(&mut self, line: Line) -> Result<(), LineError>
+        ensures { Steps result self.new (step self.old line) }
+    {
+        match line {
+            Line::Version => self.pass_head(0),
+            Line::Sets(sets) => self.add_sets(sets),
+            Line::Ratio(ratio) => self.add_ratio(ratio),
+            Line::Aside(cause, count) => self.add_aside(cause, count),
+            Line::Path(path) => self.add_path(path),
+            Line::Edge(edge) => self.add_edge(edge),
+            Line::Why(walk) => self.add_why(walk),
+            Line::Probe(probe) => self.add_probe(probe),
+            Line::End(totals) => self.add_end(totals),
+        }
+    }
+
+    /// The result, if its last line is read.
+    pub fn finish(self) -> Option<ResultFile>
+        ensures { result ≡ finished self }
+    {
+        match self.place {
+            Place::End => Some(ResultFile {
+                sets: self.sets,
+                ratio: self.ratio,
+                asides: Asides::from_counts(self.counts),
+                paths: self.paths,
+                edges: self.edges,
+                whys: self.whys,
+                probes: self.probes,
+                totals: self.totals,
+            }),
+            Place::Head(_) | Place::Paths | Place::Edges | Place::Whys | Place::Probes => None,
+        }
+    }
+}

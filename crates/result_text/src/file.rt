@@ -1,0 +1,81 @@
+use path_clean::{Asides, Sets};
+use tor_arena::{Label, List, Walk};
+
+/// What became of a path.
+#[derive(Debug, Drop)]
+pub enum Fate {
+    /// It is kept.
+    Kept,
+    /// It is lost, and the walk shows that no orientation serves it with the paths kept before it.
+    Lost(Walk),
+}
+
+/// A distinct path.
+#[derive(Debug, Drop)]
+pub struct PathLine {
+    /// How often it stood in the dumps.
+    pub times: u64,
+    /// Its AS numbers, in order.
+    pub path: List<u32>,
+    pub fate: Fate,
+}
+
+/// Whether the label of an edge could be another one.
+#[derive(Clone, Copy, Debug, PartialEq, Eq)]
+pub enum EdgeMark {
+    /// It is the same under every orientation that serves the kept paths.
+    Forced,
+    /// It could be another one.
+    Loose,
+}
+
+/// An edge, which is a pair of neighbours.
+#[derive(Clone, Copy, Debug, PartialEq, Eq)]
+pub struct EdgeLine {
+    /// The lower of its two AS numbers.
+    pub low: u32,
+    /// The higher one.
+    pub high: u32,
+    pub label: Label,
+    pub mark: EdgeMark,
+    /// How many kept paths hold it.
+    pub support: u64,
+}
+
+/// A guess "over is the provider of under" that leads to no contradiction, written as an open line.
+#[derive(Clone, Copy, Debug, PartialEq, Eq)]
+pub struct ProbeLine {
+    pub over: u32,
+    pub under: u32,
+}
+
+/// What the last line counts.
+#[derive(Clone, Copy, Debug, PartialEq, Eq)]
+pub struct Totals {
+    /// Kept paths.
+    pub kept: u64,
+    /// Lost paths.
+    pub lost: u64,
+    /// Edges.
+    pub edges: u64,
+    /// Edges with the mark forced.
+    pub forced: u64,
+    /// Edges with the label peer.
+    pub peers: u64,
+}
+
+/// What a result says. Nothing is asked of it but the ranges of its numbers: what makes a result right is for others to say.
+#[derive(Debug, Drop)]
+pub struct ResultFile {
+    pub sets: Sets,
+    /// The greatest ratio of degrees between peers.
+    pub ratio: u32,
+    pub asides: Asides,
+    /// The distinct paths, in order of first appearance.
+    pub paths: List<PathLine>,
+    pub edges: List<EdgeLine>,
+    /// Walks that show why edges are forced.
+    pub whys: List<Walk>,
+    pub probes: List<ProbeLine>,
+    pub totals: Totals,
+}

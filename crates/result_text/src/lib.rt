@@ -1,0 +1,22 @@
+//! The text of a result, both ways.
+#![tactic(auto)]
+
+mod draft;
+mod error;
+mod file;
+mod laws;
+mod line;
+mod line_reading;
+mod numbers;
+mod parsing;
+mod printing;
+mod reading;
+
+pub use error::ParseError;
+pub use file::{EdgeLine, EdgeMark, Fate, PathLine, ProbeLine, ResultFile, Totals};
+pub use laws::{line_numbers, one_value, parse_printed, print_parsed};
+pub use parsing::parse;
+pub use printing::print;
+
+#[cfg(test)]
+mod tests;

@@ -1,0 +1,17 @@
+use crate::file::{EdgeLine, PathLine, ProbeLine, Totals};
+use path_clean::{Cause, Sets};
+use tor_arena::Walk;
+
+/// One line of a text, by its kind.
+#[derive(Debug, Drop)]
+pub enum Line {
+    Version,
+    Sets(Sets),
+    Ratio(u32),
+    Aside(Cause, u64),
+    Path(PathLine),
+    Edge(EdgeLine),
+    Why(Walk),
+    Probe(ProbeLine),
+    End(Totals),
+}

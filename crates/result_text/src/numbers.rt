@@ -1,0 +1,96 @@
+//! Numbers and lists as text.
+
+ghost use Rattle.std.specs.Prelude.{◌≡◌, ◌≤◌, ◌++◌, drop, OnOk};
+ghost use Rattle.std.specs.Fmt.{decimal};
+ghost use Rattle.std.specs.List.{AllByRecursion};
+ghost use Rattle.result_text.specs.Ranges.{AreU32, LinkFits};
+ghost use Rattle.result_text.specs.Text.{numbers, link, links, others};
+
+use tor_arena::{Link, List, NoMemory};
+
+// Writes a number in decimal at the end of the buffer, and answers where it begins.
+fn write_digits(n: u64, digits: &mut [u8; 20]) -> usize
+    ensures within { result ≤ 20 }
+    ensures digits { drop result digits.new ≡ decimal n }
+{
+    let mut start = 20;
+    let mut front = n;
+    'digits: while front >= 10 {
+        start -= 1;
+        digits[start] = b'0' + (front % 10) as u8;
+        front /= 10;
+    }
+    start -= 1;
+    digits[start] = b'0' + front as u8;
+    start
+}
+
+/// Puts a number at the end, in decimal.
+pub fn put_number(out: &mut List<u8>, n: u64) -> Result<(), NoMemory>
+    ensures { OnOk result (out.new ≡ out.old ++ decimal n) }
+{
+    let mut digits = [0u8; 20];
+    let start = write_digits(n, &mut digits);
+    out.extend_from_slice(&digits[start..])
+}
+
+// Puts the numbers at the end, each behind a space.
+fn put_other_numbers(out: &mut List<u8>, ns: &[u32]) -> Result<(), NoMemory>
+    ensures { OnOk result (out.new ≡ out.old ++ others decimal ns.now) }
+{
+    for n in ns {
+        out.push(b' ')?;
+        put_number(out, u64::from(*n))?;
+    }
+    Ok(())
+}
+
+/// Puts the numbers at the end, joined by spaces.
+pub fn put_numbers(out: &mut List<u8>, ns: &[u32]) -> Result<(), NoMemory>
+    ensures spelled { OnOk result (out.new ≡ out.old ++ numbers ns.now) }
+    ensures fits { OnOk result (AreU32 ns.now) }
+{
+    match ns {
+        [] => Ok(()),
+        [first, others @ ..] => {
+            put_number(out, u64::from(*first))?;
+            put_other_numbers(out, others)
+        }
+    }
+}
+
+// Puts a link at the end.
+fn put_link(out: &mut List<u8>, l: Link) -> Result<(), NoMemory>
+    ensures spelled { OnOk result (out.new ≡ out.old ++ link l) }
+    ensures fits { OnOk result (LinkFits l) }
+{
+    put_number(out, u64::from(l.path))?;
+    out.push(b':')?;
+    put_number(out, u64::from(l.at))
+}
+
+// Puts the links at the end, each behind a space.
+fn put_other_links(out: &mut List<u8>, ls: &[Link]) -> Result<(), NoMemory>
+    ensures spelled { OnOk result (out.new ≡ out.old ++ others link ls.now) }
+    ensures fits { OnOk result (AllByRecursion LinkFits ls.now) }
+{
+    for l in ls {
+        out.push(b' ')?;
+        put_link(out, *l)?;
+    }
+    Ok(())
+}
+
+/// Puts the links at the end, joined by spaces.
+pub fn put_links(out: &mut List<u8>, ls: &[Link]) -> Result<(), NoMemory>
+    ensures spelled { OnOk result (out.new ≡ out.old ++ links ls.now) }
+    ensures fits { OnOk result (AllByRecursion LinkFits ls.now) }
+{
+    match ls {
+        [] => Ok(()),
+        [first, others @ ..] => {
+            put_link(out, *first)?;
+            put_other_links(out, others)
+        }
+    }
+}

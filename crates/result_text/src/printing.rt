@@ -1,0 +1,279 @@
+ghost use Rattle.std.specs.Prelude.{◌≡◌, ◌++◌, ◌∷◌, [], OnOk, IfOk, map};
+ghost use Rattle.std.specs.Fmt.{decimal};
+ghost use Rattle.result_text.specs.declared.line.Line.TheVariants as line;
+ghost use Rattle.std.specs.List.{AllByRecursion};
+ghost use Rattle.result_text.specs.Grammar.{IsTextOf};
+ghost use Rattle.result_text.specs.Ranges.{IsU32, CountsFit, LineFits, PathFits, EdgeFits, WalkFits, ProbeFits, TotalsFit};
+ghost use Rattle.result_text.specs.Text.{text, text_of_lines, line_text, sets_name, cause_name, label_name, mark_name, numbers, links, aside_lines};
+
+use crate::file::{EdgeLine, EdgeMark, Fate, PathLine, ProbeLine, ResultFile, Totals};
+use crate::numbers::{put_links, put_number, put_numbers};
+use path_clean::{Asides, Cause, Sets};
+use std::alloc::Global;
+use tor_arena::{Label, List, NoMemory, Walk};
+
+// Each function puts something at the end, lines with their line feed.
+fn put_bar(out: &mut List<u8>) -> Result<(), NoMemory>
+    ensures { OnOk result (out.new ≡ out.old ++ 124 ∷ []) }
+{
+    out.push(b'|')
+}
+
+fn put_line_end(out: &mut List<u8>) -> Result<(), NoMemory>
+    ensures { OnOk result (out.new ≡ out.old ++ 10 ∷ []) }
+{
+    out.push(b'\n')
+}
+
+#[tactic(auto, unfolding(crate::specs::Text::line_text))]
+fn put_sets(out: &mut List<u8>, sets: Sets) -> Result<(), NoMemory>
+    ensures { OnOk result (out.new ≡ out.old ++ line_text (line.Sets sets)) }
+{
+    match sets {
+        Sets::Cut => out.extend_from_slice(b"sets|cut\n"),
+        Sets::Skip => out.extend_from_slice(b"sets|skip\n"),
+    }
+}
+
+#[tactic(auto, unfolding(crate::specs::Text::line_text))]
+fn put_ratio(out: &mut List<u8>, ratio: u32) -> Result<(), NoMemory>
+    ensures spelled { OnOk result (out.new ≡ out.old ++ line_text (line.Ratio ratio)) }
+    ensures fits { OnOk result (LineFits (line.Ratio ratio)) }
+{
+    out.extend_from_slice(b"ratio|")?;
+    put_number(out, u64::from(ratio))?;
+    put_line_end(out)
+}
+
+fn put_cause(out: &mut List<u8>, cause: Cause) -> Result<(), NoMemory>
+    ensures { OnOk result (out.new ≡ out.old ++ cause_name cause) }
+{
+    match cause {
+        Cause::NoPath => out.extend_from_slice(b"nopath"),
+        Cause::BadSegments => out.extend_from_slice(b"badsegments"),
+        Cause::Confed => out.extend_from_slice(b"confed"),
+        Cause::Sets => out.extend_from_slice(b"sets"),
+        Cause::Reserved => out.extend_from_slice(b"reserved"),
+        Cause::Loop => out.extend_from_slice(b"loop"),
+        Cause::Short => out.extend_from_slice(b"short"),
+    }
+}
+
+#[tactic(auto, unfolding(crate::specs::Text::line_text))]
+fn put_aside(out: &mut List<u8>, cause: Cause, count: u64) -> Result<(), NoMemory>
+    ensures spelled { OnOk result (out.new ≡ out.old ++ line_text (line.Aside cause count)) }
+    ensures fits { OnOk result (LineFits (line.Aside cause count)) }
+{
+    out.extend_from_slice(b"aside|")?;
+    put_cause(out, cause)?;
+    put_bar(out)?;
+    put_number(out, count)?;
+    put_line_end(out)
+}
+
+fn put_asides(out: &mut List<u8>, asides: &Asides) -> Result<(), NoMemory>
+    ensures spelled { OnOk result (out.new ≡ out.old ++ text_of_lines (aside_lines asides.now)) }
+    ensures fits { OnOk result (CountsFit asides.now) }
+{
+    put_aside(out, Cause::NoPath, asides.get(Cause::NoPath))?;
+    put_aside(out, Cause::BadSegments, asides.get(Cause::BadSegments))?;
+    put_aside(out, Cause::Confed, asides.get(Cause::Confed))?;
+    put_aside(out, Cause::Sets, asides.get(Cause::Sets))?;
+    put_aside(out, Cause::Reserved, asides.get(Cause::Reserved))?;
+    put_aside(out, Cause::Loop, asides.get(Cause::Loop))?;
+    put_aside(out, Cause::Short, asides.get(Cause::Short))
+}
+
+// A walk as two fields: its ASes, and its links.
+fn put_walk(out: &mut List<u8>, walk: &Walk) -> Result<(), NoMemory>
+    ensures spelled { OnOk result (out.new ≡ out.old ++ numbers walk.now.ases ++ 124 ∷ links walk.now.links) }
+    ensures fits { OnOk result (WalkFits walk.now) }
+{
+    put_numbers(out, walk.ases.as_slice())?;
+    put_bar(out)?;
+    put_links(out, walk.links.as_slice())
+}
+
+#[tactic(auto, unfolding(crate::specs::Text::line_text))]
+fn put_path(out: &mut List<u8>, path: &PathLine) -> Result<(), NoMemory>
+    ensures spelled { OnOk result (out.new ≡ out.old ++ line_text (line.Path path.now)) }
+    ensures fits { OnOk result (PathFits path.now) }
+{
+    match &path.fate {
+        Fate::Kept => {
+            out.extend_from_slice(b"kept|")?;
+            put_number(out, path.times)?;
+            put_bar(out)?;
+            put_numbers(out, path.path.as_slice())?;
+        }
+        Fate::Lost(walk) => {
+            out.extend_from_slice(b"lost|")?;
+            put_number(out, path.times)?;
+            put_bar(out)?;
+            put_numbers(out, path.path.as_slice())?;
+            put_bar(out)?;
+            put_walk(out, walk)?;
+        }
+    }
+    put_line_end(out)
+}
+
+fn put_label(out: &mut List<u8>, label: Label) -> Result<(), NoMemory>
+    ensures { OnOk result (out.new ≡ out.old ++ label_name label) }
+{
+    match label {
+        Label::Low => out.extend_from_slice(b"low"),
+        Label::High => out.extend_from_slice(b"high"),
+        Label::Peer => out.extend_from_slice(b"peer"),
+    }
+}
+
+fn put_mark(out: &mut List<u8>, mark: EdgeMark) -> Result<(), NoMemory>
+    ensures { OnOk result (out.new ≡ out.old ++ mark_name mark) }
+{
+    match mark {
+        EdgeMark::Forced => out.extend_from_slice(b"forced"),
+        EdgeMark::Loose => out.extend_from_slice(b"open"),
+    }
+}
+
+// The fields of a label and a mark, and the bars around them.
+fn put_label_and_mark(out: &mut List<u8>, label: Label, mark: EdgeMark) -> Result<(), NoMemory>
+    ensures { OnOk result (out.new ≡ out.old ++ 124 ∷ label_name label ++ 124 ∷ mark_name mark ++ 124 ∷ []) }
+{
+    put_bar(out)?;
+    put_label(out, label)?;
+    put_bar(out)?;
+    put_mark(out, mark)?;
+    put_bar(out)
+}
+
+#[tactic(auto, unfolding(crate::specs::Text::line_text))]
+fn put_edge(out: &mut List<u8>, edge: &EdgeLine) -> Result<(), NoMemory>
+    ensures spelled { OnOk result (out.new ≡ out.old ++ line_text (line.Edge edge.now)) }
+    ensures fits { OnOk result (EdgeFits edge.now) }
+{
+    out.extend_from_slice(b"edge|")?;
+    put_number(out, u64::from(edge.low))?;
+    put_bar(out)?;
+    put_number(out, u64::from(edge.high))?;
+    put_label_and_mark(out, edge.label, edge.mark)?;
+    put_number(out, edge.support)?;
+    put_line_end(out)
+}
+
+#[tactic(auto, unfolding(crate::specs::Text::line_text))]
+fn put_why(out: &mut List<u8>, walk: &Walk) -> Result<(), NoMemory>
+    ensures spelled { OnOk result (out.new ≡ out.old ++ line_text (line.Why walk.now)) }
+    ensures fits { OnOk result (WalkFits walk.now) }
+{
+    out.extend_from_slice(b"why|")?;
+    put_walk(out, walk)?;
+    put_line_end(out)
+}
+
+#[tactic(auto, unfolding(crate::specs::Text::line_text))]
+fn put_probe(out: &mut List<u8>, probe: &ProbeLine) -> Result<(), NoMemory>
+    ensures spelled { OnOk result (out.new ≡ out.old ++ line_text (line.Probe probe.now)) }
+    ensures fits { OnOk result (ProbeFits probe.now) }
+{
+    out.extend_from_slice(b"open|")?;
+    put_number(out, u64::from(probe.over))?;
+    put_bar(out)?;
+    put_number(out, u64::from(probe.under))?;
+    put_line_end(out)
+}
+
+// A count, and the bar behind it.
+fn put_count(out: &mut List<u8>, count: u64) -> Result<(), NoMemory>
+    ensures { OnOk result (out.new ≡ out.old ++ (decimal count ++ 124 ∷ [])) }
+{
+    put_number(out, count)?;
+    put_bar(out)
+}
+
+#[tactic(auto, unfolding(crate::specs::Text::line_text))]
+fn put_end(out: &mut List<u8>, totals: &Totals) -> Result<(), NoMemory>
+    ensures spelled { OnOk result (out.new ≡ out.old ++ line_text (line.End totals.now)) }
+    ensures fits { OnOk result (TotalsFit totals.now) }
+{
+    out.extend_from_slice(b"end|")?;
+    put_count(out, totals.kept)?;
+    put_count(out, totals.lost)?;
+    put_count(out, totals.edges)?;
+    put_count(out, totals.forced)?;
+    put_number(out, totals.peers)?;
+    put_line_end(out)
+}
+
+#[tactic(auto, unfolding(crate::specs::Text::line_text))]
+fn put_version(out: &mut List<u8>) -> Result<(), NoMemory>
+    ensures { OnOk result (out.new ≡ out.old ++ line_text line.Version) }
+{
+    out.extend_from_slice(b"tor|1\n")
+}
+
+// The ten first lines.
+fn put_head(out: &mut List<u8>, file: &ResultFile) -> Result<(), NoMemory>
+    ensures spelled { OnOk result (out.new ≡ out.old ++ text_of_lines (line.Version ∷ line.Sets file.now.sets ∷ line.Ratio file.now.ratio ∷ aside_lines file.now.asides)) }
+    ensures fits { OnOk result (IsU32 file.now.ratio × CountsFit file.now.asides) }
+{
+    put_version(out)?;
+    put_sets(out, file.sets)?;
+    put_ratio(out, file.ratio)?;
+    put_asides(out, &file.asides)
+}
+
+fn put_paths(out: &mut List<u8>, paths: &[PathLine]) -> Result<(), NoMemory>
+    ensures spelled { OnOk result (out.new ≡ out.old ++ text_of_lines (map (λ p. line.Path p) paths.now)) }
+    ensures fits { OnOk result (AllByRecursion PathFits paths.now) }
+{
+    for path in paths {
+        put_path(out, path)?;
+    }
+    Ok(())
+}
+
+fn put_edges(out: &mut List<u8>, edges: &[EdgeLine]) -> Result<(), NoMemory>
+    ensures spelled { OnOk result (out.new ≡ out.old ++ text_of_lines (map (λ e. line.Edge e) edges.now)) }
+    ensures fits { OnOk result (AllByRecursion EdgeFits edges.now) }
+{
+    for edge in edges {
+        put_edge(out, edge)?;
+    }
+    Ok(())
+}
+
+fn put_whys(out: &mut List<u8>, whys: &[Walk]) -> Result<(), NoMemory>
+    ensures spelled { OnOk result (out.new ≡ out.old ++ text_of_lines (map (λ w. line.Why w) whys.now)) }
+    ensures fits { OnOk result (AllByRecursion WalkFits whys.now) }
+{
+    for walk in whys {
+        put_why(out, walk)?;
+    }
+    Ok(())
+}
+
+fn put_probes(out: &mut List<u8>, probes: &[ProbeLine]) -> Result<(), NoMemory>
+    ensures spelled { OnOk result (out.new ≡ out.old ++ text_of_lines (map (λ p. line.Probe p) probes.now)) }
+    ensures fits { OnOk result (AllByRecursion ProbeFits probes.now) }
+{
+    for probe in probes {
+        put_probe(out, probe)?;
+    }
+    Ok(())
+}
+
+/// The one text of a result. Its numbers are in the ranges of their types, as those of every result are.
+pub fn print(alloc: Global, file: &ResultFile) -> Result<List<u8>, NoMemory>
+    ensures { IfOk result (λ out. IsTextOf file.now out) }
+{
+    let mut out = List::new(alloc);
+    put_head(&mut out, file)?;
+    put_paths(&mut out, file.paths.as_slice())?;
+    put_edges(&mut out, file.edges.as_slice())?;
+    put_whys(&mut out, file.whys.as_slice())?;
+    put_probes(&mut out, file.probes.as_slice())?;
+    put_end(&mut out, &file.totals)?;
+    Ok(out)
+}

@@ -1,0 +1,223 @@
+//! Words, numbers and lists, read from the front of the bytes. Each reader answers the value and the
+//! bytes behind it.
+
+ghost use Rattle.std.specs.Prelude.{◌≡◌, ◌∷◌, [], length, option_map};
+ghost use Rattle.std.specs.Option.{option_copied};
+ghost use Rattle.result_text.specs.Reading.{Gives, word_at, digit_at, digits_at, with_digit, u64_at, u32_at, before, others_at, with_front, list_at, link_at, is_digit, field_ends};
+
+use crate::error::LineError;
+use std::alloc::Global;
+use tor_arena::{Link, List};
+
+/// The bytes behind a word, if they begin with it.
+pub fn after<'a>(word: &[u8], bytes: &'a [u8]) -> Option<&'a [u8]>
+    ensures { option_copied result ≡ word_at word.now bytes.now }
+{
+    bytes.strip_prefix(word)
+}
+
+// The bytes behind this byte, if they begin with it.
+fn behind(byte: u8, bytes: &[u8]) -> Option<&[u8]>
+    ensures { option_copied result ≡ word_at (byte ∷ []) bytes.now }
+{
+    match bytes {
+        [first, rest @ ..] if *first == byte => Some(rest),
+        _ => None,
+    }
+}
+
+// The same, where the byte has to stand there.
+fn past(byte: u8, bytes: &[u8]) -> Result<&[u8], LineError>
+    ensures { Gives (λ x. x.now) result (word_at (byte ∷ []) bytes.now) }
+{
+    match behind(byte, bytes) {
+        Some(rest) => Ok(rest),
+        None => Err(LineError::Bad),
+    }
+}
+
+// Whether the byte is a decimal digit.
+fn is_digit(byte: u8) -> bool
+    ensures { result ≡ is_digit byte }
+{
+    b'0' <= byte && byte <= b'9'
+}
+
+// The digit at the front.
+#[tactic(auto, unfolding(crate::specs::Reading::digit_at))]
+fn digit_of(bytes: &[u8]) -> Option<(u8, &[u8])>
+    ensures { option_map (λ x. (x.0, x.1.now)) result ≡ digit_at bytes.now }
+{
+    match bytes {
+        [first, rest @ ..] if is_digit(*first) => Some((*first - b'0', rest)),
+        _ => None,
+    }
+}
+
+// The number with one more digit.
+fn with_digit(front: u64, digit: u8) -> Result<u64, LineError>
+    ensures { Gives (λ n. n) result (with_digit front digit) }
+{
+    let Some(tens) = front.checked_mul(10) else {
+        return Err(LineError::Bad);
+    };
+    match tens.checked_add(u64::from(digit)) {
+        Some(number) => Ok(number),
+        None => Err(LineError::Bad),
+    }
+}
+
+// The digits that follow those of `front`.
+fn digits_of(front: u64, bytes: &[u8]) -> Result<(u64, &[u8]), LineError>
+    ensures { Gives (λ x. (x.0, x.1.now)) result (digits_at front bytes.now) }
+{
+    let mut number = front;
+    let mut rest = bytes;
+    'digits: while let Some((digit, others)) = digit_of(rest) {
+        number = with_digit(number, digit)?;
+        rest = others;
+    }
+    Ok((number, rest))
+}
+
+// A number: a 0 has no digits behind it.
+#[tactic(auto, unfolding(crate::specs::Reading::u64_at))]
+fn u64_of(bytes: &[u8]) -> Result<(u64, &[u8]), LineError>
+    ensures { Gives (λ x. (x.0, x.1.now)) result (u64_at bytes.now) }
+{
+    match digit_of(bytes) {
+        Some((0, rest)) => Ok((0, rest)),
+        Some((first, rest)) => digits_of(u64::from(first), rest),
+        None => Err(LineError::Bad),
+    }
+}
+
+// A number below 2^32.
+#[tactic(auto, unfolding(crate::specs::Reading::u32_at))]
+fn u32_of(bytes: &[u8]) -> Result<(u32, &[u8]), LineError>
+    ensures { Gives (λ x. (x.0, x.1.now)) result (u32_at bytes.now) }
+{
+    let (number, rest) = u64_of(bytes)?;
+    match u32::try_from(number) {
+        Ok(number) => Ok((number, rest)),
+        Err(_) => Err(LineError::Bad),
+    }
+}
+
+/// A number, and behind it this byte.
+pub fn u64_before(byte: u8, bytes: &[u8]) -> Result<(u64, &[u8]), LineError>
+    ensures { Gives (λ x. (x.0, x.1.now)) result (before byte u64_at bytes.now) }
+{
+    let (number, rest) = u64_of(bytes)?;
+    let rest = past(byte, rest)?;
+    Ok((number, rest))
+}
+
+/// A number below 2^32, and behind it this byte.
+pub fn u32_before(byte: u8, bytes: &[u8]) -> Result<(u32, &[u8]), LineError>
+    ensures { Gives (λ x. (x.0, x.1.now)) result (before byte u32_at bytes.now) }
+{
+    let (number, rest) = u32_of(bytes)?;
+    let rest = past(byte, rest)?;
+    Ok((number, rest))
+}
+
+// Whether a field is over.
+fn field_ends(bytes: &[u8]) -> bool
+    ensures { result ≡ field_ends bytes.now }
+{
+    match bytes {
+        [first, ..] => *first == b'|' || *first == b'\n',
+        [] => true,
+    }
+}
+
+// The numbers that follow those of `front`, each behind a space.
+fn other_numbers(front: List<u32>, bytes: &[u8]) -> Result<(List<u32>, &[u8]), LineError>
+    ensures { Gives (λ x. (x.0, x.1.now)) result
+        (with_front front (others_at u32_at (length bytes.now) bytes.now)) }
+{
+    let mut numbers = front;
+    let mut rest = bytes;
+    'members: while let Some(others) = behind(b' ', rest) {
+        let (number, after) = u32_of(others)?;
+        numbers.push(number)?;
+        rest = after;
+    }
+    Ok((numbers, rest))
+}
+
+// A list of numbers.
+#[tactic(auto, unfolding(crate::specs::Reading::list_at))]
+fn numbers_of(alloc: Global, bytes: &[u8]) -> Result<(List<u32>, &[u8]), LineError>
+    ensures { Gives (λ x. (x.0, x.1.now)) result (list_at u32_at bytes.now) }
+{
+    let mut front = List::new(alloc);
+    if field_ends(bytes) {
+        return Ok((front, bytes));
+    }
+    let (first, rest) = u32_of(bytes)?;
+    front.push(first)?;
+    other_numbers(front, rest)
+}
+
+/// A list of numbers, and behind it this byte.
+pub fn numbers_before(
+    alloc: Global,
+    byte: u8,
+    bytes: &[u8],
+) -> Result<(List<u32>, &[u8]), LineError>
+    ensures { Gives (λ x. (x.0, x.1.now)) result (before byte (list_at u32_at) bytes.now) }
+{
+    let (numbers, rest) = numbers_of(alloc, bytes)?;
+    let rest = past(byte, rest)?;
+    Ok((numbers, rest))
+}
+
+// A link.
+#[tactic(auto, unfolding(crate::specs::Reading::link_at))]
+fn link_of(bytes: &[u8]) -> Result<(Link, &[u8]), LineError>
+    ensures { Gives (λ x. (x.0, x.1.now)) result (link_at bytes.now) }
+{
+    let (path, rest) = u32_before(b':', bytes)?;
+    let (at, rest) = u32_of(rest)?;
+    Ok((Link { path, at }, rest))
+}
+
+// The links that follow those of `front`, each behind a space.
+fn other_links(front: List<Link>, bytes: &[u8]) -> Result<(List<Link>, &[u8]), LineError>
+    ensures { Gives (λ x. (x.0, x.1.now)) result
+        (with_front front (others_at link_at (length bytes.now) bytes.now)) }
+{
+    let mut links = front;
+    let mut rest = bytes;
+    'members: while let Some(others) = behind(b' ', rest) {
+        let (link, after) = link_of(others)?;
+        links.push(link)?;
+        rest = after;
+    }
+    Ok((links, rest))
+}
+
+// A list of links.
+#[tactic(auto, unfolding(crate::specs::Reading::list_at))]
+fn links_of(alloc: Global, bytes: &[u8]) -> Result<(List<Link>, &[u8]), LineError>
+    ensures { Gives (λ x. (x.0, x.1.now)) result (list_at link_at bytes.now) }
+{
+    let mut front = List::new(alloc);
+    if field_ends(bytes) {
+        return Ok((front, bytes));
+    }
+    let (first, rest) = link_of(bytes)?;
+    front.push(first)?;
+    other_links(front, rest)
+}
+
+/// A list of links, and behind it this byte.
+pub fn links_before(alloc: Global, byte: u8, bytes: &[u8]) -> Result<(List<Link>, &[u8]), LineError>
+    ensures { Gives (λ x. (x.0, x.1.now)) result (before byte (list_at link_at) bytes.now) }
+{
+    let (links, rest) = links_of(alloc, bytes)?;
+    let rest = past(byte, rest)?;
+    Ok((links, rest))
+}

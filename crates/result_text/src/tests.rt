@@ -1,0 +1,460 @@
+use crate::{
+    EdgeLine, EdgeMark, Fate, ParseError, PathLine, ProbeLine, ResultFile, Totals, parse,
+    parse_printed, print, print_parsed,
+};
+use path_clean::{Asides, Sets};
+use std::alloc::Global;
+use std::test::Fail;
+use tor_arena::{Label, Link, List, NoMemory, Walk};
+
+/// A text in two pieces, and its bad line, if it has one.
+struct Case {
+    head: &'static str,
+    body: &'static str,
+    bad_line: Option<u64>,
+}
+
+const HEAD: &str =
+    "tor|1\nsets|cut\nratio|60\naside|nopath|0\naside|badsegments|0\naside|confed|0\naside|sets|0\naside|reserved|0\naside|loop|0\naside|short|0\n";
+
+const ASIDES: &str =
+    "aside|nopath|0\naside|badsegments|0\naside|confed|0\naside|sets|0\naside|reserved|0\naside|loop|0\naside|short|0\nend|0|0|0|0|0\n";
+
+static CASES: [Case; 36] = [
+    // an empty dump
+    Case {
+        head: HEAD,
+        body: "end|0|0|0|0|0\n",
+        bad_line: None,
+    },
+    // one edge
+    Case {
+        head: HEAD,
+        body: "kept|1|10 20\nedge|10|20|peer|open|1\nend|1|0|1|0|1\n",
+        bad_line: None,
+    },
+    // there and back
+    Case {
+        head: HEAD,
+        body: "kept|1|10 20 30\nkept|1|30 20 10\nedge|10|20|peer|open|2\nedge|20|30|low|open|2\nopen|30|20\nend|2|0|2|0|1\n",
+        bad_line: None,
+    },
+    // one edge at ratio 0
+    Case {
+        head: "tor|1\nsets|cut\nratio|0\n",
+        body: "aside|nopath|0\naside|badsegments|0\naside|confed|0\naside|sets|0\naside|reserved|0\naside|loop|0\naside|short|0\nkept|1|10 20\nedge|10|20|low|open|1\nopen|20|10\nend|1|0|1|0|0\n",
+        bad_line: None,
+    },
+    // a dump as real ones are
+    Case {
+        head: "tor|1\nsets|cut\nratio|60\naside|nopath|0\naside|badsegments|0\naside|confed|0\naside|sets|0\naside|reserved|1\naside|loop|0\naside|short|0\n",
+        body: "kept|1|6939 174 3356 1299 8220 3333\nkept|2|397213 1299 8220 3333\nkept|1|6939 3356 2906\nkept|1|397213 1299 3356 2906\nkept|1|8220 1299 3356 6939 174\nlost|1|8220 3333 1299 3356|1299 3356 6939 174 3356 1299 8220 3333 1299 3356|5:3 5:4 1:2 1:3 1:4 1:5 6:2 6:3\nedge|174|6939|high|open|2\nedge|174|3356|low|open|1\nedge|1299|3356|high|forced|3\nedge|1299|8220|low|forced|3\nedge|3333|8220|high|forced|2\nedge|1299|397213|low|forced|2\nedge|3356|6939|peer|open|2\nedge|2906|3356|high|open|2\nedge|1299|3333|low|open|0\nwhy|1299 3356 6939 174 3356 1299|5:3 5:4 1:2 1:3\nwhy|3356 1299 8220|1:4\nwhy|1299 8220 3333|1:5\nwhy|3356 1299 397213|4:2\nopen|3356|174\nopen|2906|3356\nopen|3333|1299\nend|5|1|9|4|1\n",
+        bad_line: None,
+    },
+    // a ratio above what a right result has
+    Case {
+        head: "tor|1\nsets|cut\nratio|1000001\n",
+        body: ASIDES,
+        bad_line: None,
+    },
+    // a path without ASes
+    Case {
+        head: HEAD,
+        body: "kept|1|\nend|0|0|0|0|0\n",
+        bad_line: None,
+    },
+    // walks without ASes and links
+    Case {
+        head: HEAD,
+        body: "lost|0|||\nwhy||\nend|0|0|0|0|0\n",
+        bad_line: None,
+    },
+    // the other sets, and the greatest numbers
+    Case {
+        head: "tor|1\nsets|skip\nratio|4294967295\n",
+        body: "aside|nopath|1\naside|badsegments|2\naside|confed|3\naside|sets|4\naside|reserved|5\naside|loop|6\naside|short|18446744073709551615\nend|0|0|0|0|18446744073709551615\n",
+        bad_line: None,
+    },
+    // one more line feed
+    Case {
+        head: HEAD,
+        body: "end|0|0|0|0|0\n\n",
+        bad_line: Some(12),
+    },
+    // no last line
+    Case {
+        head: HEAD,
+        body: "",
+        bad_line: Some(11),
+    },
+    // lines exchanged
+    Case {
+        head: HEAD,
+        body: "edge|10|20|peer|open|1\nkept|1|10 20\nend|1|0|1|0|1\n",
+        bad_line: Some(12),
+    },
+    // a ratio above its type
+    Case {
+        head: "tor|1\nsets|cut\nratio|4294967296\n",
+        body: ASIDES,
+        bad_line: Some(3),
+    },
+    // nothing
+    Case {
+        head: "",
+        body: "",
+        bad_line: Some(1),
+    },
+    // bytes behind the last line feed
+    Case {
+        head: HEAD,
+        body: "end|0|0|0|0|0\nx",
+        bad_line: Some(12),
+    },
+    // no last line feed
+    Case {
+        head: HEAD,
+        body: "end|0|0|0|0|0",
+        bad_line: Some(11),
+    },
+    // a second last line
+    Case {
+        head: HEAD,
+        body: "end|0|0|0|0|0\nend|0|0|0|0|0\n",
+        bad_line: Some(12),
+    },
+    // a leading zero
+    Case {
+        head: "tor|1\nsets|cut\nratio|060\n",
+        body: ASIDES,
+        bad_line: Some(3),
+    },
+    // zero twice
+    Case {
+        head: "tor|1\nsets|cut\nratio|00\n",
+        body: ASIDES,
+        bad_line: Some(3),
+    },
+    // a sign
+    Case {
+        head: "tor|1\nsets|cut\nratio|+60\n",
+        body: ASIDES,
+        bad_line: Some(3),
+    },
+    // no number
+    Case {
+        head: "tor|1\nsets|cut\nratio|\n",
+        body: ASIDES,
+        bad_line: Some(3),
+    },
+    // another version
+    Case {
+        head: "tor|2\nsets|cut\nratio|60\n",
+        body: ASIDES,
+        bad_line: Some(1),
+    },
+    // a carriage return
+    Case {
+        head: "tor|1\nsets|cut\r\nratio|60\n",
+        body: ASIDES,
+        bad_line: Some(2),
+    },
+    // another word for the sets
+    Case {
+        head: "tor|1\nsets|keep\nratio|60\n",
+        body: ASIDES,
+        bad_line: Some(2),
+    },
+    // a count above its type
+    Case {
+        head: "tor|1\nsets|cut\nratio|60\naside|nopath|18446744073709551616\n",
+        body: "end|0|0|0|0|0\n",
+        bad_line: Some(4),
+    },
+    // causes exchanged
+    Case {
+        head: "tor|1\nsets|cut\nratio|60\naside|nopath|0\naside|confed|0\naside|badsegments|0\n",
+        body: "end|0|0|0|0|0\n",
+        bad_line: Some(5),
+    },
+    // a cause too few
+    Case {
+        head: "tor|1\nsets|cut\nratio|60\naside|nopath|0\naside|badsegments|0\naside|confed|0\naside|sets|0\naside|reserved|0\naside|loop|0\n",
+        body: "end|0|0|0|0|0\n",
+        bad_line: Some(10),
+    },
+    // two spaces, a space in front, a space at the end
+    Case {
+        head: HEAD,
+        body: "kept|1|10  20\nend|1|0|0|0|0\n",
+        bad_line: Some(11),
+    },
+    Case {
+        head: HEAD,
+        body: "kept|1| 10 20\nend|1|0|0|0|0\n",
+        bad_line: Some(11),
+    },
+    Case {
+        head: HEAD,
+        body: "kept|1|10 20 \nend|1|0|0|0|0\n",
+        bad_line: Some(11),
+    },
+    // a field too few, and one too many
+    Case {
+        head: HEAD,
+        body: "edge|10|20|peer|open\nend|0|0|0|0|0\n",
+        bad_line: Some(11),
+    },
+    Case {
+        head: HEAD,
+        body: "open|10|20|\nend|0|0|0|0|0\n",
+        bad_line: Some(11),
+    },
+    // a link that isn't whole
+    Case {
+        head: HEAD,
+        body: "why|10 20 30|1\nend|0|0|0|0|0\n",
+        bad_line: Some(11),
+    },
+    // a number above its type on a path
+    Case {
+        head: HEAD,
+        body: "kept|1|10 4294967296\nend|1|0|0|0|0\n",
+        bad_line: Some(11),
+    },
+    // an open line before a why line
+    Case {
+        head: HEAD,
+        body: "open|10|20\nwhy||\nend|0|0|0|0|0\n",
+        bad_line: Some(12),
+    },
+    // a line of another kind
+    Case {
+        head: HEAD,
+        body: "given|10|20\nend|0|0|0|0|0\n",
+        bad_line: Some(11),
+    },
+];
+
+/// The line that `parse` names.
+fn named(error: ParseError) -> Option<u64> {
+    match error {
+        ParseError::BadLine(line) => Some(line),
+        ParseError::NoMemory => None,
+    }
+}
+
+#[test]
+fn texts_and_bad_lines(rt: HostRuntime) -> Result<(), Fail> {
+    for case in &CASES {
+        let mut text = List::new(rt.alloc());
+        text.extend_from_slice(case.head.as_bytes())?;
+        text.extend_from_slice(case.body.as_bytes())?;
+        match parse(rt.alloc(), text.as_slice()) {
+            Ok(file) => {
+                assert_eq!(rt; case.bad_line, None);
+                let again = print(rt.alloc(), &file)?;
+                assert_eq!(rt; again.as_slice(), text.as_slice());
+            }
+            Err(error) => assert_eq!(rt; named(error), case.bad_line),
+        }
+    }
+    Ok(())
+}
+
+const THREE_PATHS: &str =
+    "tor|1\nsets|cut\nratio|60\naside|nopath|0\naside|badsegments|0\naside|confed|0\naside|sets|0\naside|reserved|0\naside|loop|0\naside|short|0\nkept|1|30 40 20 10 50 60\nkept|1|10 20 30 40\nlost|1|50 60 10 20|10 20 30 40 20 10 50 60 10 20|2:2 2:3 1:2 1:3 1:4 1:5 3:2 3:3\nedge|30|40|high|open|2\nedge|20|40|peer|open|1\nedge|10|20|high|forced|2\nedge|10|50|low|forced|1\nedge|50|60|low|forced|1\nedge|20|30|high|open|1\nedge|10|60|low|open|0\nwhy|10 20 30 40 20 10|2:2 2:3 1:2 1:3\nwhy|20 10 50|1:4\nwhy|10 50 60|1:5\nopen|20|30\nopen|60|10\nend|2|1|7|3|1\n";
+
+static EDGES: [EdgeLine; 7] = [
+    EdgeLine {
+        low: 30,
+        high: 40,
+        label: Label::High,
+        mark: EdgeMark::Loose,
+        support: 2,
+    },
+    EdgeLine {
+        low: 20,
+        high: 40,
+        label: Label::Peer,
+        mark: EdgeMark::Loose,
+        support: 1,
+    },
+    EdgeLine {
+        low: 10,
+        high: 20,
+        label: Label::High,
+        mark: EdgeMark::Forced,
+        support: 2,
+    },
+    EdgeLine {
+        low: 10,
+        high: 50,
+        label: Label::Low,
+        mark: EdgeMark::Forced,
+        support: 1,
+    },
+    EdgeLine {
+        low: 50,
+        high: 60,
+        label: Label::Low,
+        mark: EdgeMark::Forced,
+        support: 1,
+    },
+    EdgeLine {
+        low: 20,
+        high: 30,
+        label: Label::High,
+        mark: EdgeMark::Loose,
+        support: 1,
+    },
+    EdgeLine {
+        low: 10,
+        high: 60,
+        label: Label::Low,
+        mark: EdgeMark::Loose,
+        support: 0,
+    },
+];
+
+static PROBES: [ProbeLine; 2] = [
+    ProbeLine {
+        over: 20,
+        under: 30,
+    },
+    ProbeLine {
+        over: 60,
+        under: 10,
+    },
+];
+
+fn link(path: u32, at: u32) -> Link {
+    Link { path, at }
+}
+
+fn numbers(alloc: Global, items: &[u32]) -> Result<List<u32>, NoMemory> {
+    let mut list = List::new(alloc);
+    list.extend_from_slice(items)?;
+    Ok(list)
+}
+
+fn walk(alloc: Global, ases: &[u32], links: &[Link]) -> Result<Walk, NoMemory> {
+    let ases = numbers(alloc, ases)?;
+    let mut list = List::new(alloc);
+    list.extend_from_slice(links)?;
+    Ok(Walk { ases, links: list })
+}
+
+fn paths(alloc: Global) -> Result<List<PathLine>, NoMemory> {
+    let shown = walk(
+        alloc,
+        &[10, 20, 30, 40, 20, 10, 50, 60, 10, 20],
+        &[
+            link(2, 2),
+            link(2, 3),
+            link(1, 2),
+            link(1, 3),
+            link(1, 4),
+            link(1, 5),
+            link(3, 2),
+            link(3, 3),
+        ],
+    )?;
+    let mut list = List::new(alloc);
+    list.push(PathLine {
+        times: 1,
+        path: numbers(alloc, &[30, 40, 20, 10, 50, 60])?,
+        fate: Fate::Kept,
+    })?;
+    list.push(PathLine {
+        times: 1,
+        path: numbers(alloc, &[10, 20, 30, 40])?,
+        fate: Fate::Kept,
+    })?;
+    list.push(PathLine {
+        times: 1,
+        path: numbers(alloc, &[50, 60, 10, 20])?,
+        fate: Fate::Lost(shown),
+    })?;
+    Ok(list)
+}
+
+fn whys(alloc: Global) -> Result<List<Walk>, NoMemory> {
+    let mut list = List::new(alloc);
+    list.push(walk(
+        alloc,
+        &[10, 20, 30, 40, 20, 10],
+        &[link(2, 2), link(2, 3), link(1, 2), link(1, 3)],
+    )?)?;
+    list.push(walk(alloc, &[20, 10, 50], &[link(1, 4)])?)?;
+    list.push(walk(alloc, &[10, 50, 60], &[link(1, 5)])?)?;
+    Ok(list)
+}
+
+fn three_paths(alloc: Global) -> Result<ResultFile, NoMemory> {
+    let mut edges = List::new(alloc);
+    edges.extend_from_slice(&EDGES)?;
+    let mut probes = List::new(alloc);
+    probes.extend_from_slice(&PROBES)?;
+    Ok(ResultFile {
+        sets: Sets::Cut,
+        ratio: 60,
+        asides: Asides::new(),
+        paths: paths(alloc)?,
+        edges,
+        whys: whys(alloc)?,
+        probes,
+        totals: Totals {
+            kept: 2,
+            lost: 1,
+            edges: 7,
+            forced: 3,
+            peers: 1,
+        },
+    })
+}
+
+#[test]
+fn three_paths_are_printed(rt: HostRuntime) -> Result<(), Fail> {
+    let file = three_paths(rt.alloc())?;
+    let text = print(rt.alloc(), &file)?;
+    assert_eq!(rt; text.as_slice(), THREE_PATHS.as_bytes());
+    let again = parse_printed(rt.alloc(), &file)?;
+    let text = print(rt.alloc(), &again)?;
+    assert_eq!(rt; text.as_slice(), THREE_PATHS.as_bytes());
+    Ok(())
+}
+
+fn is_walk(walk: &Walk, other: &Walk) -> bool {
+    walk.ases.as_slice() == other.ases.as_slice() && walk.links.as_slice() == other.links.as_slice()
+}
+
+fn is_path(path: &PathLine, other: &PathLine) -> bool {
+    let fate = match (&path.fate, &other.fate) {
+        (Fate::Kept, Fate::Kept) => true,
+        (Fate::Lost(walk), Fate::Lost(shown)) => is_walk(walk, shown),
+        _ => false,
+    };
+    fate && path.times == other.times && path.path.as_slice() == other.path.as_slice()
+}
+
+#[test]
+fn three_paths_are_read(rt: HostRuntime) -> Result<(), Fail> {
+    let file = parse(rt.alloc(), THREE_PATHS.as_bytes())?;
+    let wanted = three_paths(rt.alloc())?;
+    assert_eq!(rt; file.ratio, 60);
+    assert_eq!(rt; file.edges.as_slice(), EDGES.as_slice());
+    assert_eq!(rt; file.probes.as_slice(), PROBES.as_slice());
+    assert_eq!(rt; file.totals, wanted.totals);
+    assert_eq!(rt; file.paths.len(), 3);
+    for (path, other) in file.paths.as_slice().iter().zip(wanted.paths.as_slice()) {
+        assert!(rt; is_path(path, other));
+    }
+    assert_eq!(rt; file.whys.len(), 3);
+    for (walk, other) in file.whys.as_slice().iter().zip(wanted.whys.as_slice()) {
+        assert!(rt; is_walk(walk, other));
+    }
+    let again = print_parsed(rt.alloc(), THREE_PATHS.as_bytes())?;
+    assert_eq!(rt; again.as_slice(), THREE_PATHS.as_bytes());
+    Ok(())
+}
