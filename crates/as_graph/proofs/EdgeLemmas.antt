@@ -1,0 +1,43 @@
+-- Edges in a list, and the counts of their ends.
+use Rattle.std.proofs.Common.{◌≡◌, ℕ, ◌+◌, ◌<◌, ◌≤◌, ◌^◌, inl, inr, false, cond, List, [], ◌∷◌, ◌++◌, length, get_or, sym, ap, ◌∙◌, subst, arith, nat_eq, Some, slice_get, position, if◌then◌else◌, eqb-true, length-append}
+use Rattle.std.specs.List.{position_or_len}
+use Rattle.std.proofs.lemmas.Bool.{cases_Bool, ltb-true, ne_eqb}
+use Rattle.std.proofs.lemmas.Option.{cond_some, slice_get-get_or}
+use Rattle.std.proofs.lemmas.List.Sums.{passes_at_first, sum_by_push, count_by-le-length}
+use Rattle.std.proofs.lemmas.List.Elements.{All-push}
+use Rattle.tor_arena.specs.Graph.{Edge, is_same}
+use Rattle.tor_arena.proofs.Edges.{same_edge}
+use Rattle.as_graph.specs.Inside.{holds, count_of, CountsOneMore, IsTable}
+
+-- an edge stands where it is found
+pub placed : (e : Edge) (es : List Edge) (i : ℕ) → position (is_same e) es ≡ Some i → slice_get es i ≡ Some e
+placed e es i h =
+    let p = cond_some _ _ _ h in
+    let lt : position_or_len (is_same e) es < length es = ltb-true _ _ p.0 in
+    let there = same_edge e (get_or es (position_or_len (is_same e) es) (0, 0)) (passes_at_first (is_same e) es (0, 0) lt) in
+    subst (λ k. slice_get es k ≡ Some e) p.1 (slice_get-get_or es (position_or_len (is_same e) es) (0, 0) lt ∙ ap (λ (f : Edge). Some f) (sym there))
+
+pub counted_few : (es : List Edge) (counts : List (ℕ × ℕ)) (a : ℕ) → IsTable es counts → count_of counts a ≤ length es
+counted_few es counts a h = let e = h.degrees a in let le = count_by-le-length (holds a) es in omega (arith, e, le)
+
+-- an edge more has two ends more
+ends_of : (a low high : ℕ) → low < high → (if nat_eq low a then 1 else 0) + (if nat_eq high a then 1 else 0) ≡ cond (holds a (low, high)) 1 0
+ends_of a low high lt =
+    elim (cases_Bool (nat_eq low a)) [
+      | inl t ↦ let apart : nat_eq high a ≡ false = ne_eqb high a (λ e. let s : low ≡ a = eqb-true low a t in omega arith) in rw (t, apart)
+      | inr f ↦ elim (cases_Bool (nat_eq high a)) [ inl u ↦ rw (f, u) | inr g ↦ rw (f, g) ]
+    ]
+
+pub IsTable-push : (es : List Edge) (counts once twice : List (ℕ × ℕ)) (low high : ℕ) → IsTable es counts → low < high → length es < 2 ^ 26 →
+    CountsOneMore counts low once → CountsOneMore once high twice → IsTable (es ++ (low, high) ∷ []) twice
+IsTable-push es counts once twice low high h lt room first second = record {
+  ordered = All-push (λ (e : Edge). e.0 < e.1) es (low, high) h.ordered lt;
+  few = let n = length-append es ((low, high) ∷ []) in omega (arith, n, room);
+  degrees = λ a.
+      let c = sum_by_push (λ e. cond (holds a e) 1 0) es (low, high) in
+      let e = h.degrees a in
+      let f = first a in
+      let s = second a in
+      let two = ends_of a low high lt in
+      omega (arith, c, e, f, s, two);
+}

@@ -1,0 +1,8 @@
+mod Vectors
+pub mod BuildLemmas
+pub mod CountLemmas
+pub mod Distinct
+pub mod EdgeLemmas
+pub mod Falling
+pub mod Labelled
+pub mod StepLemmas

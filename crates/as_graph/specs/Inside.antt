@@ -1,0 +1,79 @@
+-- What the fields of a graph hold.
+use Rattle.std.specs.Prelude.{◌≡◌, ℕ, ◌+◌, ◌<◌, ◌≤◌, ◌^◌, ◌||◌, ◌==◌, Bool, List, [], ◌∷◌, ◌++◌, All, length, map, sum_by, count_by, slice_index_or, unwrap_or, nat_eq, if◌then◌else◌}
+use Rattle.std.specs.List.{list_any}
+use Rattle.std.specs.Map.{lookup}
+use Rattle.tor_arena.specs.declared.walk.End.{End}
+use Rattle.tor_arena.specs.Relationship.{AllDistinct}
+use Rattle.tor_arena.specs.Graph.{Edge, is_same, edges}
+use Rattle.as_graph.specs.declared.step.Step.{Step}
+use Rattle.as_graph.specs.Steps.{AreSteps}
+
+-- ---- edges and degrees
+
+abbrev pub holds : ℕ → Edge → Bool
+holds a e = (e.0 == a) || (e.1 == a)
+
+-- what is counted for an AS
+abbrev pub count_of : List (ℕ × ℕ) → ℕ → ℕ
+count_of counts a = unwrap_or (lookup (nat_eq a) counts) 0
+
+-- the counts are how many of the edges hold each AS
+abbrev pub AreDegrees : List Edge → List (ℕ × ℕ) → Type 0
+AreDegrees es counts = (a : ℕ) → count_of counts a ≡ count_by (holds a) es
+
+-- one more is counted for this AS, and none for any other
+abbrev pub CountsOneMore : List (ℕ × ℕ) → ℕ → List (ℕ × ℕ) → Type 0
+CountsOneMore counts end more = (a : ℕ) → count_of more a ≡ count_of counts a + (if nat_eq end a then 1 else 0)
+
+-- each edge has its lower number first, and there are few enough to be numbered
+pub record IsTable (es : List Edge) (counts : List (ℕ × ℕ)) : Type 0 where
+  pub ordered : All (λ (e : Edge). e.0 < e.1) es
+  pub few : length es ≤ 2 ^ 26
+  pub degrees : AreDegrees es counts
+
+-- the edges with one more, which goes last unless it is there
+abbrev pub with_edge : List Edge → Edge → List Edge
+with_edge es e = if list_any (is_same e) es then es else es ++ e ∷ []
+
+-- the edges with all of these
+abbrev pub with_edges : List Edge → List Edge → List Edge
+with_edges es [] = es
+with_edges es (e ∷ more) = with_edges (with_edge es e) more
+
+-- ---- paths told by their steps
+
+abbrev pub as_at : Edge → End → ℕ
+as_at e End.Low = e.0
+as_at e End.High = e.1
+
+abbrev pub other : End → End
+other End.Low = End.High
+other End.High = End.Low
+
+-- the AS from which a step goes, and the one that it reaches
+abbrev pub left_as : List Edge → Step → ℕ
+left_as es step = as_at (slice_index_or es step.edge (0, 0)) step.left
+
+abbrev pub next_as : List Edge → Step → ℕ
+next_as es step = as_at (slice_index_or es step.edge (0, 0)) (other step.left)
+
+abbrev pub path_by : List Edge → List Step → List ℕ
+path_by es [] = []
+path_by es (step ∷ steps) = left_as es step ∷ map (next_as es) (step ∷ steps)
+
+-- ---- a graph
+
+-- the paths have these steps, one list for each
+abbrev pub HaveSteps : List Edge → List (List ℕ) → List (List Step) → Type 0
+HaveSteps es [] [] = Unit {0}
+HaveSteps es [] (steps ∷ rows) = ⊥
+HaveSteps es (path ∷ paths) [] = ⊥
+HaveSteps es (path ∷ paths) (steps ∷ rows) = AreSteps es path steps × HaveSteps es paths rows
+
+pub record IsGraph (es : List Edge) (rows : List (List Step)) (paths : List (List ℕ)) : Type 0 where
+  pub same : es ≡ edges paths
+  pub stepped : HaveSteps es paths rows
+  pub several : All (λ path. 2 ≤ length path) paths
+  pub apart : All AllDistinct paths
+  pub few : length paths ≤ 2 ^ 23
+  pub short : sum_by length paths ≤ 2 ^ 26

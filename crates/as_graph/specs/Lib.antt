@@ -1,0 +1,4 @@
+pub mod Inside
+pub mod Paths
+pub mod Slopes
+pub mod Steps

@@ -1,0 +1,81 @@
+ghost use Rattle.std.specs.Prelude.{◌≡◌, ◌≢◌, ◌+◌, ◌<◌, ◌≤◌, ◌^◌, ◌++◌, ◌∷◌, [], All, length, sum_by, IfOk, OnOk};
+ghost use Rattle.tor_arena.specs.Relationship.{AllDistinct};
+ghost use Rattle.tor_arena.specs.Graph.{edge_of, edges_on};
+ghost use Rattle.as_graph.specs.Steps.{IsStep, AreSteps};
+ghost use Rattle.as_graph.specs.Inside.{with_edge, with_edges};
+
+use crate::edge_table::EdgeTable;
+use crate::graph::AsGraph;
+use crate::step::Step;
+use std::alloc::Global;
+use tor_arena::{End, Index, List, NoMemory, PathId, RowRefused, Rows};
+
+/// The graph of the paths. Each has to have at least two ASes, all distinct, and there may be at most 2^23 of them, with at most
+/// 2^26 numbers in sum.
+pub fn build(alloc: Global, paths: &Rows<PathId, u32>) -> Result<AsGraph, NoMemory>
+    requires several { All (λ path. 2 ≤ length path) paths.now }
+    requires apart { All AllDistinct paths.now }
+    requires few { length paths.now ≤ 2 ^ 23 }
+    requires short { sum_by length paths.now ≤ 2 ^ 26 }
+    ensures { IfOk result (λ graph. graph ≡ paths.now) }
+{
+    let mut table = EdgeTable::new(alloc);
+    let mut rows = Rows::new(alloc);
+    let mut steps = List::new(alloc);
+    for place in 0..paths.len() {
+        let path = PathId::from_place(place).unwrap();
+        steps.clear();
+        add_steps(&mut table, &mut steps, paths.row(path))?;
+        add_row(&mut rows, steps.as_slice())?;
+    }
+    Ok(AsGraph { table, rows })
+}
+
+/// Adds a row, where there are not too many.
+fn add_row(rows: &mut Rows<PathId, Step>, steps: &[Step]) -> Result<(), NoMemory>
+    requires { length rows.old < 2 ^ 28 }
+    ensures { OnOk result (rows.new ≡ rows.old ++ steps.now ∷ []) }
+{
+    match rows.push_row(steps) {
+        Ok(_) => Ok(()),
+        Err(RowRefused::NoMemory) => Err(NoMemory),
+        Err(RowRefused::Full) => unreachable!(),
+    }
+}
+
+/// Adds the edges of a path, and its steps, where there are no others.
+fn add_steps(table: &mut EdgeTable, steps: &mut List<Step>, path: &[u32]) -> Result<(), NoMemory>
+    requires apart { AllDistinct path.now }
+    requires room { length table.old + length path.now ≤ 2 ^ 26 }
+    requires empty { steps.old ≡ [] }
+    ensures edges { OnOk result (table.new ≡ with_edges table.old (edges_on path.now)) }
+    ensures steps { OnOk result (AreSteps table.new path.now steps.new) }
+{
+    for at in 1..path.len() {
+        let step = add_step(table, path[at - 1], path[at])?;
+        steps.push(step)?;
+    }
+    Ok(())
+}
+
+/// Adds the edge of two ASes, and answers the step from the first to the second.
+fn add_step(table: &mut EdgeTable, from: u32, to: u32) -> Result<Step, NoMemory>
+    requires apart { from ≢ to }
+    requires room { length table.old < 2 ^ 26 }
+    ensures edge { OnOk result (table.new ≡ with_edge table.old (edge_of from to)) }
+    ensures step { IfOk result (λ step. IsStep table.new from to step) }
+{
+    if from < to {
+        let edge = table.add(from, to)?;
+        Ok(Step {
+            edge,
+            left: End::Low,
+        })
+    } else {
+        let edge = table.add(to, from)?;
+        Ok(Step {
+            edge,
+            left: End::High,
+        })
+    }
+}

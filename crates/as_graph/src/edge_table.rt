@@ -1,0 +1,105 @@
+ghost use Rattle.std.specs.Prelude.{◌≡◌, ◌+◌, ◌<◌, ◌≤◌, ◌^◌, ◌↔◌, [], length, slice_get, count_by, IsNone, IsFalse, IfSome, IfOk, OnOk, OnErr};
+ghost use Rattle.std.specs.List.{list_any};
+ghost use Rattle.indexmap.specs.IndexMap.{spare};
+ghost use Rattle.tor_arena.specs.Graph.{is_same};
+ghost use Rattle.as_graph.specs.Inside.{holds, with_edge, count_of, CountsOneMore};
+
+use indexmap::{IndexMap, IndexSet};
+use std::alloc::Global;
+use std::marker::Model;
+use tor_arena::{EdgeId, Index, NoMemory};
+
+/// Edges in order of first appearance, each once, with the degrees of their ends.
+#[derive(Drop)]
+pub(crate) struct EdgeTable {
+    pairs: IndexSet<(u32, u32)>,
+    // for each end of an edge, how many edges have it
+    counts: IndexMap<u32, u32>,
+}
+
+impl Model for EdgeTable {
+    ghost use Rattle.std.specs.Prelude.{List};
+    ghost use Rattle.tor_arena.specs.Graph.{Edge};
+    ghost use Rattle.as_graph.specs.Inside.{IsTable};
+
+    ghost Value = { List Edge };
+
+    ghost view = { λ table. table.pairs.keys };
+
+    ghost invariant = { λ table. IsTable table.pairs.keys table.counts.entries };
+}
+
+impl EdgeTable {
+    /// No edges. It takes no memory.
+    pub fn new(alloc: Global) -> EdgeTable
+        ensures { result ≡ [] }
+    {
+        EdgeTable {
+            pairs: IndexSet::new(alloc),
+            counts: IndexMap::new(alloc),
+        }
+    }
+
+    /// How many edges there are. It takes no memory.
+    pub fn len(&self) -> usize
+        ensures { result ≡ length self.now }
+    {
+        self.pairs.len()
+    }
+
+    /// The two ends of an edge. It takes no memory.
+    pub fn get(&self, id: EdgeId) -> (u32, u32)
+        requires { id < length self.now }
+        ensures pair { slice_get self.now id ≡ Some result }
+        ensures order { result.0 < result.1 }
+    {
+        self.pairs[id.place()]
+    }
+
+    /// The edge with these two ends. It takes no memory.
+    pub fn find(&self, low: u32, high: u32) -> Option<EdgeId>
+        ensures edge { IfSome result (λ id. slice_get self.now id ≡ Some (low, high)) }
+        ensures none { IsNone result ↔ IsFalse (list_any (is_same (low, high)) self.now) }
+    {
+        let place = self.pairs.get_index_of(&(low, high))?;
+        EdgeId::from_place(place)
+    }
+
+    /// How many of the edges have an end. It takes no memory.
+    pub fn degree(&self, end: u32) -> u64
+        ensures { result ≡ count_by (holds end) self.now }
+    {
+        self.counts.get(&end).copied().unwrap_or(0) as u64
+    }
+
+    /// The edge with these two ends, which goes last if it is new. For want of memory nothing changes.
+    pub fn add(&mut self, low: u32, high: u32) -> Result<EdgeId, NoMemory>
+        requires order { low < high }
+        requires room { length self.old < 2 ^ 26 }
+        ensures ok { OnOk result (self.new ≡ with_edge self.old (low, high)) }
+        ensures edge { IfOk result (λ id. slice_get self.new id ≡ Some (low, high)) }
+        ensures err { OnErr result (self.new ≡ self.old) }
+    {
+        self.counts.reserve(2)?;
+        let (place, is_new) = self.pairs.insert_full((low, high))?;
+        if is_new {
+            count_end(&mut self.counts, low);
+            count_end(&mut self.counts, high);
+        }
+        Ok(EdgeId::from_place(place).unwrap())
+    }
+}
+
+/// Counts one more edge with this end, for which there is room.
+fn count_end(counts: &mut IndexMap<u32, u32>, end: u32)
+    requires room { 0 < spare counts.old }
+    requires few { count_of counts.old.entries end ≤ 2 ^ 26 }
+    ensures counted { CountsOneMore counts.old.entries end counts.new.entries }
+    ensures spare { spare counts.old ≤ spare counts.new + 1 }
+{
+    let count = counts.get(&end).copied().unwrap_or(0);
+    match counts.insert(end, count + 1) {
+        Ok(_) => {}
+        Err(_) => unreachable!(),
+    }
+}

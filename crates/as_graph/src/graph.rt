@@ -1,0 +1,125 @@
+ghost use Rattle.std.specs.Prelude.{◌≡◌, ◌≢◌, ◌+◌, ◌<◌, ◌≤◌, ◌^◌, ◌↔◌, All, length, map, sum_by, slice_get, IsTrue, IsFalse, IsNone, IfSome, IfOk};
+ghost use Rattle.std.specs.List.{AllPairs};
+ghost use Rattle.tor_arena.specs.Relationship.{ValleyFree, AllDistinct};
+ghost use Rattle.tor_arena.specs.Graph.{edge_of, edges, degree, support, labelling};
+ghost use Rattle.as_graph.specs.Paths.{path_at, paths_at, is_edge};
+ghost use Rattle.as_graph.specs.Steps.{AreSteps};
+
+use crate::counting::count_steps;
+use crate::edge_table::EdgeTable;
+use crate::per_edge::Labels;
+use crate::step::Step;
+use crate::valley::is_valley_free;
+use std::alloc::Global;
+use std::marker::Model;
+use tor_arena::{EdgeId, List, NoMemory, PathId, Rows};
+
+/// An edge: two neighbours on some path, the lower number and the higher.
+#[derive(Clone, Copy, Debug, PartialEq, Eq)]
+pub struct Edge {
+    pub low: u32,
+    pub high: u32,
+}
+
+/// The graph of a list of paths, seen as that list: each has at least two ASes, all distinct.
+#[derive(Drop)]
+pub struct AsGraph {
+    pub(crate) table: EdgeTable,
+    // for each path, its steps
+    pub(crate) rows: Rows<PathId, Step>,
+}
+
+impl Model for AsGraph {
+    ghost use Rattle.std.specs.Prelude.{ℕ, List, map};
+    ghost use Rattle.as_graph.specs.Inside.{IsGraph, path_by};
+
+    ghost Value = { List (List ℕ) };
+
+    ghost view = { λ graph. map (path_by graph.table) graph.rows };
+
+    ghost invariant = { λ graph. IsGraph graph.table graph.rows (map (path_by graph.table) graph.rows) };
+}
+
+impl AsGraph {
+    /// What is true of every graph: its paths have at least two ASes each, all distinct; there are at most 2^23 of them, with at
+    /// most 2^26 numbers in sum, and so fewer than 2^26 edges. It takes no memory.
+    pub fn facts(&self)
+        ensures several { All (λ path. 2 ≤ length path) self.now }
+        ensures apart { All AllDistinct self.now }
+        ensures paths { length self.now ≤ 2 ^ 23 }
+        ensures numbers { sum_by length self.now ≤ 2 ^ 26 }
+        ensures edges { length (edges self.now) < 2 ^ 26 }
+    {
+        let _ = &self.table;
+    }
+
+    /// How many edges there are, fewer than 2^26. It takes no memory.
+    pub fn edge_count(&self) -> usize
+        ensures count { result ≡ length (edges self.now) }
+        ensures few { length (edges self.now) < 2 ^ 26 }
+    {
+        self.facts();
+        self.table.len()
+    }
+
+    /// The edge of an index, which has to be there. Edges stand in order of first appearance along the paths. It takes no memory.
+    pub fn edge(&self, id: EdgeId) -> Edge
+        requires { id < length (edges self.now) }
+        ensures pair { slice_get (edges self.now) id ≡ Some (result.low, result.high) }
+        ensures order { result.low < result.high }
+    {
+        let (low, high) = self.table.get(id);
+        Edge { low, high }
+    }
+
+    /// The edge of two ASes. None exactly where they are no edge. It takes no memory.
+    pub fn edge_between(&self, a: u32, b: u32) -> Option<EdgeId>
+        ensures edge { IfSome result (λ id. slice_get (edges self.now) id ≡ Some (edge_of a b)) }
+        ensures none { IsNone result ↔ IsFalse (is_edge self.now a b) }
+    {
+        self.table.find(a.min(b), a.max(b))
+    }
+
+    /// How many edges hold an AS, 0 for one that is not there. It takes no memory.
+    pub fn degree(&self, a: u32) -> u64
+        ensures { result ≡ degree self.now a }
+    {
+        self.table.degree(a)
+    }
+
+    /// The steps of a path, which has to be there, in order: one step for each two neighbours. It takes no memory.
+    pub fn steps(&self, path: PathId) -> &[Step]
+        requires { path < length self.now }
+        ensures steps { AreSteps (edges self.now) (path_at self.now path) result.now }
+        ensures count { length result.now + 1 ≡ length (path_at self.now path) }
+        ensures inside { All (λ step. step.edge < length (edges self.now)) result.now }
+    {
+        self.rows.row(path)
+    }
+
+    /// How many of the kept paths hold each edge, in the order of the edges. The kept paths have to be there, no two the same.
+    pub fn support(&self, alloc: Global, kept: &[PathId]) -> Result<List<u32>, NoMemory>
+        requires there { All (λ path. path < length self.now) kept.now }
+        requires once { AllPairs ◌≢◌ kept.now }
+        ensures { IfOk result (λ counts. counts ≡ map (support (paths_at self.now kept.now)) (edges self.now)) }
+    {
+        self.facts();
+        let mut counts = Vec::new(alloc);
+        counts.resize(self.edge_count(), 0)?;
+        for path in kept {
+            count_steps(&mut counts, self.steps(*path));
+        }
+        Ok(List::from_vec(counts))
+    }
+
+    /// Whether a path, which has to be there, is valley-free under the labels, one for each edge: its steps go up to providers,
+    /// then across at most one peering, then down to customers. It takes no memory.
+    pub fn valley_free(&self, labels: &Labels, path: PathId) -> bool
+        requires labels { length labels.now ≡ length (edges self.now) }
+        requires there { path < length self.now }
+        ensures { IsTrue result ↔ ValleyFree (labelling (edges self.now) labels.now) (path_at self.now path) }
+    {
+        self.facts();
+        is_valley_free(self.steps(path), labels.as_slice())
+    }
+}

@@ -1,0 +1,18 @@
+//! The graph of the autonomous systems that are neighbours on some path: its edges in order, degrees, the steps of each path, how
+//! many paths hold each edge, and which paths are valley-free under labels of the edges.
+#![tactic(auto)]
+
+mod building;
+mod counting;
+mod edge_table;
+mod graph;
+mod per_edge;
+mod step;
+#[cfg(test)]
+mod tests;
+mod valley;
+
+pub use building::build;
+pub use graph::{AsGraph, Edge};
+pub use per_edge::{Labels, Orientation};
+pub use step::Step;

@@ -1,0 +1,10 @@
+use tor_arena::{EdgeId, End};
+
+/// A step of a path, from one AS to the next.
+#[derive(Clone, Copy, Debug, PartialEq, Eq)]
+pub struct Step {
+    /// The edge of the two.
+    pub edge: EdgeId,
+    /// The end of the edge from which the step goes.
+    pub left: End,
+}

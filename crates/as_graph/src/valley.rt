@@ -1,0 +1,48 @@
+ghost use Rattle.std.specs.Prelude.{◌≡◌, ◌↔◌, ◌<◌, ℕ, All, List, length, IsTrue};
+ghost use Rattle.tor_arena.specs.Relationship.{Labelling, slopes, ValleyFree};
+ghost use Rattle.as_graph.specs.Slopes.{is_up, is_down, step_slope, slopes_by};
+
+use crate::step::Step;
+use tor_arena::{End, Index, Label};
+
+/// Whether the path with these steps is valley-free under the labels.
+pub(crate) fn is_valley_free(steps: &[Step], labels: &[Label]) -> bool
+    requires { All (λ s. s.edge < length labels.now) steps.now }
+    ensures { (L : Labelling) (path : List ℕ) → slopes L path ≡ slopes_by labels.now steps.now → IsTrue result ↔ ValleyFree L path }
+{
+    let mut falling = false;
+    for step in steps {
+        let label = labels[step.edge.place()];
+        if goes_down(label, step.left) {
+            falling = true;
+            continue;
+        }
+        if falling {
+            return false;
+        }
+        falling = !goes_up(label, step.left);
+    }
+    true
+}
+
+/// Whether the step from this end of an edge with this label goes to a provider.
+fn goes_up(label: Label, left: End) -> bool
+    ensures { result ≡ is_up (step_slope label left) }
+{
+    match (label, left) {
+        (Label::Low, End::High) => true,
+        (Label::High, End::Low) => true,
+        _ => false,
+    }
+}
+
+/// Whether the step from this end of an edge with this label goes to a customer.
+fn goes_down(label: Label, left: End) -> bool
+    ensures { result ≡ is_down (step_slope label left) }
+{
+    match (label, left) {
+        (Label::Low, End::Low) => true,
+        (Label::High, End::High) => true,
+        _ => false,
+    }
+}
