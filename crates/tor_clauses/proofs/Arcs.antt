@@ -1,0 +1,69 @@
+-- The arcs of triples: two for each, in order.
+use Rattle.std.proofs.Common.{◌≡◌, ℕ, zero, suc, ◌*◌, ◌/◌, ◌<◌, ◌⊎◌, inl, inr, List, [], ◌∷◌, Some, length, take, flat_map, refl, sym, ap, ◌∙◌, subst, arith}
+use Rattle.std.specs.Prelude.{slice_get}
+use Rattle.tor_arena.specs.Graph.{Edge}
+use Rattle.tor_digraph.specs.Walks.{HasArc}
+use Rattle.tor_digraph.proofs.Gets.{slice_get-some}
+use Rattle.tor_clauses.specs.declared.triple.Triple.{Triple}
+use Rattle.tor_clauses.specs.Literals.{opposite_node}
+use Rattle.tor_clauses.specs.Triples.{arc_of, partner_of, arcs_of}
+use Rattle.tor_clauses.specs.ClauseLaws.{PartnerLaw}
+use Rattle.tor_clauses.proofs.Members.{In, In-get, get-In, flat_map-In, In-flat_map}
+use Rattle.tor_clauses.proofs.Sames.{turned_arc, turned_arc_twice, partner-turned}
+
+pub length-arcs : (ts : List Triple) → length (flat_map arcs_of ts) ≡ length ts * 2
+length-arcs [] = refl
+length-arcs (t ∷ ts) = let h = length-arcs ts in omega (arith, h)
+
+pub take-arcs : (n : ℕ) (ts : List Triple) → take (n * 2) (flat_map arcs_of ts) ≡ flat_map arcs_of (take n ts)
+take-arcs zero ts = refl
+take-arcs (suc n) [] = let e : suc n * 2 ≡ suc (suc (n * 2)) = omega arith in rw e refl
+take-arcs (suc n) (t ∷ ts) =
+    let e : suc n * 2 ≡ suc (suc (n * 2)) = omega arith in
+    ap (λ k. take k (flat_map arcs_of (t ∷ ts))) e ∙ ap (λ (l : List Edge). arc_of t ∷ partner_of t ∷ l) (take-arcs n ts)
+
+-- the triple of an arc
+pub record IsTripleOf (ts : List Triple) (k : ℕ) (a : Edge) : Type 0 where
+  pub t : Triple
+  pub there : slice_get ts (k / 2) ≡ Some t
+  pub is : (a ≡ arc_of t) ⊎ (a ≡ partner_of t)
+
+some_same : {X : Type 0} {a b : X} → Some a ≡ Some b → b ≡ a
+some_same e = cc
+
+pub triple_at : (ts : List Triple) (k : ℕ) (a : Edge) → slice_get (flat_map arcs_of ts) k ≡ Some a → IsTripleOf ts k a
+triple_at [] k a h = absurd (cc h)
+triple_at (t ∷ ts) zero a h = record { t = t; there = refl; is = inl (some_same h) }
+triple_at (t ∷ ts) (suc zero) a h = record { t = t; there = refl; is = inr (some_same h) }
+triple_at (t ∷ ts) (suc (suc k)) a h =
+    let r = triple_at ts k a h in
+    let e : suc (suc k) / 2 ≡ suc (k / 2) = omega arith in
+    record { t = r.t; there = ap (slice_get (t ∷ ts)) e ∙ r.there; is = r.is }
+
+-- ---- partners
+
+turned-In : (a : Edge) (t : Triple) → In a (arcs_of t) → In (turned_arc a) (arcs_of t)
+turned-In a t (inl e) = inr (inl (sym (partner-turned t) ∙ ap turned_arc e))
+turned-In a t (inr (inl e)) = inl (sym (turned_arc_twice (arc_of t)) ∙ ap turned_arc (partner-turned t ∙ e))
+turned-In a t (inr (inr h)) = absurd h
+
+pub partners : (ts : List Triple) (l m : ℕ) → HasArc (flat_map arcs_of ts) l m → HasArc (flat_map arcs_of ts) (opposite_node m) (opposite_node l)
+partners ts l m h =
+    let r = flat_map-In arcs_of (l, m) ts (get-In (flat_map arcs_of ts) h.0 (l, m) h.1) in
+    In-get (turned_arc (l, m)) (flat_map arcs_of ts) (In-flat_map arcs_of r.0 (turned_arc (l, m)) ts r.1 (turned-In (l, m) r.0 r.2))
+
+pub partner_law : PartnerLaw
+partner_law graph f fits l m h =
+    subst (λ arcs. HasArc arcs (opposite_node m) (opposite_node l)) (sym fits.arcs) (partners f.triples l m (subst (λ arcs. HasArc arcs l m) fits.arcs h))
+
+-- the arc at a place is one of the two of the triple at half the place
+pub triple_named : (ts : List Triple) (arcs : List Edge) (k : ℕ) (t : Triple) → arcs ≡ flat_map arcs_of ts → k < length arcs → slice_get ts (k / 2) ≡ Some t →
+    (slice_get arcs k ≡ Some (arc_of t)) ⊎ (slice_get arcs k ≡ Some (partner_of t))
+triple_named ts arcs k t e below there =
+    let a = slice_get-some arcs k below in
+    let r = triple_at ts k a.0 (subst (λ l. slice_get l k ≡ Some a.0) e a.1) in
+    let same : t ≡ r.t = some_same (sym r.there ∙ there) in
+    elim r.is [
+      | inl f ↦ inl (a.1 ∙ ap Some (f ∙ ap arc_of (sym same)))
+      | inr f ↦ inr (a.1 ∙ ap Some (f ∙ ap partner_of (sym same)))
+    ]

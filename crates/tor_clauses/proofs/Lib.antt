@@ -1,0 +1,16 @@
+pub mod Adding
+pub mod Arcs
+pub mod Cuts
+pub mod Distincts
+pub mod Fews
+pub mod Kept
+pub mod Knowns
+pub mod LiteralLemmas
+pub mod Members
+pub mod Models
+pub mod Overs
+pub mod Prefixes
+pub mod Sames
+pub mod Standings
+pub mod StepTriples
+pub mod Vectors

@@ -1,0 +1,9 @@
+use Rattle.std.proofs.Common.{All, length, take, ◌-◌}
+use Rattle.tor_clauses.specs.Tables.{IsKept}
+use Rattle.tor_clauses.proofs.triple_table.TripleTable.are_kept.Given as goal
+
+abbrev pub invariant-loop-place : goal.invariant-loop-place
+invariant-loop-place l = All (IsKept l.ends) (take l.place l.self)
+
+abbrev pub decreases-loop-place : goal.decreases-loop-place
+decreases-loop-place l = length l.self - l.place

@@ -1,0 +1,68 @@
+-- What clauses are seen as, and when they fit a graph.
+use Rattle.std.specs.Prelude.{◌≡◌, ℕ, ◌+◌, ◌*◌, ◌<◌, ◌≤◌, ◌==◌, List, All, length, map, take, flat_map, count_by}
+use Rattle.std.specs.List.{list_any}
+use Rattle.tor_arena.specs.declared.walk.End.{End}
+use Rattle.tor_arena.specs.declared.walk.Link.{Link}
+use Rattle.tor_arena.specs.Relationship.{Serves}
+use Rattle.tor_arena.specs.Graph.{edges, orientation}
+use Rattle.tor_arena.specs.Evidence.{Numbered, Fits}
+use Rattle.tor_digraph.specs.Walks.{Net, IsArc, first_part}
+use Rattle.as_graph.specs.Paths.{path_at, paths_at}
+use Rattle.tor_clauses.specs.declared.triple.Triple.{Triple}
+use Rattle.tor_clauses.specs.declared.clauses.ClauseMark.{ClauseMark}
+use Rattle.tor_clauses.specs.Literals.{lit_of, Says, Holds}
+use Rattle.tor_clauses.specs.Triples.{arcs_of, triples_of}
+
+-- the paths that were added, each as its place in the graph, their distinct triples, and the implication graph of these
+pub record Formula : Type 0 where
+  pub paths : List ℕ
+  pub triples : List Triple
+  pub net : Net ℕ
+
+-- the formula is that of its paths in the graph
+pub record FitsGraph (graph : List (List ℕ)) (f : Formula) : Type 0 where
+  pub there : All (λ path. path < length graph) f.paths
+  pub triples : f.triples ≡ triples_of graph f.paths
+  -- two nodes for each edge, and two arcs for each triple, in order
+  pub nodes : f.net.nodes ≡ length (edges graph) * 2
+  pub arcs : f.net.arcs ≡ flat_map arcs_of f.triples
+
+-- ---- going back
+
+-- the first paths and triples, by these counts, with the arcs of these triples
+abbrev pub first_of : Formula → ClauseMark → Formula
+first_of f mark = record {
+  paths = take mark.paths f.paths;
+  triples = take mark.triples f.triples;
+  net = first_part f.net f.net.nodes (mark.triples * 2);
+}
+
+-- so many of the paths, and all triples that are named by these
+pub record IsMark (f : Formula) (mark : ClauseMark) : Type 0 where
+  pub paths : mark.paths ≤ length f.paths
+  pub triples : mark.triples ≡ count_by (λ t. list_any (λ path. path == t.path) (take mark.paths f.paths)) f.triples
+
+-- ---- what holds
+
+-- the graph's paths at these places are valley-free where its edges have these providers
+abbrev pub IsServed : List (List ℕ) → List ℕ → List End → Type 0
+IsServed graph paths ends = Serves (orientation (edges graph) ends) (paths_at graph paths)
+
+-- no arc leads from a literal that holds to one that does not
+abbrev pub IsModel : Formula → List End → Type 0
+IsModel f ends = (k l m : ℕ) → IsArc f.net.arcs k l m → Holds ends (lit_of l) → Holds ends (lit_of m)
+
+-- ---- what an arc stands for
+
+-- the paths at these places of the graph, each numbered by its place there from 1
+abbrev pub numbered : List (List ℕ) → List ℕ → Numbered
+numbered graph paths = map (λ path. (path + 1, path_at graph path)) paths
+
+-- one literal says "x over y", the other "y over z", and the link names where x, y, z stand on one of the paths
+pub record IsLinkOf (graph : List (List ℕ)) (paths : List ℕ) (link : Link) (l m : ℕ) : Type 0 where
+  pub x : ℕ
+  pub y : ℕ
+  pub z : ℕ
+  pub tail : Says (edges graph) (lit_of l) x y
+  pub head : Says (edges graph) (lit_of m) y z
+  pub fits : Fits (numbered graph paths) link x y z

@@ -1,0 +1,5 @@
+pub mod ClauseLaws
+pub mod Formulas
+pub mod Literals
+pub mod Tables
+pub mod Triples

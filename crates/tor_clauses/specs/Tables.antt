@@ -1,0 +1,47 @@
+-- What the fields of clauses hold, and what one more triple makes of them.
+use Rattle.std.specs.Prelude.{◌≡◌, ℕ, ◌<◌, ◌≤◌, ◌^◌, List, [], ◌∷◌, ◌++◌, All, length, map, take, flat_map, if◌then◌else◌}
+use Rattle.std.specs.List.{list_any}
+use Rattle.tor_arena.specs.declared.walk.End.{End}
+use Rattle.tor_clauses.specs.declared.triple.Triple.{Triple}
+use Rattle.tor_clauses.specs.Literals.{Holds}
+use Rattle.tor_clauses.specs.Triples.{arc_of, arcs_of, is_same_triple, triples_on}
+use Rattle.tor_clauses.specs.Formulas.{Formula}
+
+-- the literals of a triple have nodes
+abbrev pub HasNodes : Triple → Type 0
+HasNodes t = (t.first.edge < 2 ^ 27) × (t.second.edge < 2 ^ 27)
+
+-- each triple is known by the nodes of its first and second literal
+pub record IsKnown (known : List (ℕ × ℕ)) (triples : List Triple) : Type 0 where
+  pub keys : known ≡ map arc_of triples
+  pub nodes : All HasNodes triples
+  pub few : length triples ≤ 2 ^ 27
+
+-- the triples with one more, which goes last unless it is there
+abbrev pub with_triple : List Triple → Triple → List Triple
+with_triple ts t = if list_any (is_same_triple t) ts then ts else ts ++ t ∷ []
+
+-- the triples with all of these
+abbrev pub with_triples : List Triple → List Triple → List Triple
+with_triples ts [] = ts
+with_triples ts (t ∷ more) = with_triples (with_triple ts t) more
+
+-- the formula with these triples and their arcs
+abbrev pub having : Formula → List Triple → Formula
+having f ts = record f { triples = ts; net = record f.net { arcs = flat_map arcs_of ts } }
+
+-- ---- adding a path
+
+-- with no more of these triples of the path there are too many to be numbered
+abbrev pub IsRoomy : List (List ℕ) → ℕ → List Triple → Type 0
+IsRoomy graph path ts = (k : ℕ) → length (with_triples ts (take k (triples_on graph path))) ≤ 2 ^ 26
+
+-- the second formula has all of the first at its front
+abbrev pub IsFirst : Formula → Formula → Type 0
+IsFirst f g = (length f.triples ≤ length g.triples) × (g ≡ having f g.triples) × (f.triples ≡ take (length f.triples) g.triples)
+
+-- ---- what holds
+
+-- the second literal of the triple holds if its first does
+abbrev pub IsKept : List End → Triple → Type 0
+IsKept ends t = Holds ends t.first → Holds ends t.second

@@ -1,0 +1,274 @@
+ghost use Rattle.std.specs.Prelude.{◌≡◌, ℕ, ◌+◌, ◌*◌, ◌/◌, ◌<◌, ◌≤◌, ◌^◌, ◌↔◌, ◌⊎◌, ◌∷◌, ◌++◌, [], List, All, length, flat_map, slice_get, IsTrue, IfOk, OnOk, OnErr};
+ghost use Rattle.tor_arena.specs.Relationship.{AllDistinct};
+ghost use Rattle.tor_arena.specs.Graph.{edges};
+ghost use Rattle.tor_digraph.specs.Walks.{IsArc, HasArc};
+ghost use Rattle.tor_clauses.specs.Literals.{opposite_node, node_of};
+ghost use Rattle.tor_clauses.specs.Triples.{arc_of, partner_of, arcs_of, triples_on};
+ghost use Rattle.tor_clauses.specs.Tables.{HasNodes, with_triple, with_triples, having, IsRoomy, IsFirst};
+ghost use Rattle.tor_clauses.specs.Formulas.{FitsGraph, IsMark, first_of, IsServed, IsModel, IsLinkOf};
+
+use crate::lit::Lit;
+use crate::triple::Triple;
+use crate::triple_table::TripleTable;
+use as_graph::{AsGraph, Orientation};
+use std::alloc::Global;
+use std::marker::Model;
+use tor_arena::{ArcId, Index, Link, NoMemory, NodeId, PathId};
+use tor_digraph::{Digraph, GraphMark, GraphRefused};
+
+/// How many paths and triples there are, for a later `undo_to`.
+#[derive(Clone, Copy, Debug, PartialEq, Eq)]
+pub struct ClauseMark {
+    /// How many paths there are.
+    pub paths: usize,
+    /// How many triples there are.
+    pub triples: usize,
+}
+
+/// The paths that were added, in order, their distinct triples, a triple and its reverse counted as one, and the digraph of the
+/// implications: two nodes for each edge of a graph, one for each order of its ends, and two arcs for each triple.
+#[derive(Drop)]
+pub struct Clauses {
+    paths: Vec<PathId>,
+    table: TripleTable,
+    digraph: Digraph<NodeId, ArcId>,
+}
+
+impl Model for Clauses {
+    ghost use Rattle.std.specs.Prelude.{◌≡◌, flat_map};
+    ghost use Rattle.tor_clauses.specs.Triples.{arcs_of};
+    ghost use Rattle.tor_clauses.specs.Formulas.{Formula};
+
+    ghost Value = { Formula };
+
+    ghost view = { λ c. record { paths = c.paths.items; triples = c.table; net = c.digraph } };
+
+    ghost invariant = { λ c. c.digraph.arcs ≡ flat_map arcs_of c.table };
+}
+
+impl Clauses {
+    /// No paths and no triples, for this graph.
+    pub fn new(alloc: Global, graph: &AsGraph) -> Result<Clauses, NoMemory>
+        ensures paths { IfOk result (λ clauses. clauses.paths ≡ []) }
+        ensures triples { IfOk result (λ clauses. clauses.triples ≡ []) }
+        ensures fits { IfOk result (FitsGraph graph.now) }
+    {
+        let mut digraph = Digraph::new(alloc);
+        match digraph.add_nodes(graph.edge_count() * 2) {
+            Ok(()) => {}
+            Err(GraphRefused::Full) => unreachable!(),
+            Err(GraphRefused::NoMemory) => return Err(NoMemory),
+        }
+        Ok(Clauses {
+            paths: Vec::new(alloc),
+            table: TripleTable::new(alloc),
+            digraph,
+        })
+    }
+
+    /// What is true of all clauses: the arcs are those of the triples, two for each, in order, and each has a partner from the
+    /// negation of its head to the negation of its tail. It takes no memory.
+    pub fn facts(&self)
+        ensures arcs { self.now.net.arcs ≡ flat_map arcs_of self.now.triples }
+        ensures partners { (l m : ℕ) → HasArc self.now.net.arcs l m → HasArc self.now.net.arcs (opposite_node m) (opposite_node l) }
+    {
+        let _ = &self.table;
+    }
+
+    /// Adds a path of the graph that the clauses fit. It goes last in the list of paths, and its triples that are new go last in
+    /// the list of triples. They still fit the graph. For want of memory nothing changes.
+    pub fn add_path(&mut self, graph: &AsGraph, path: PathId) -> Result<(), NoMemory>
+        requires fits { FitsGraph graph.now self.old }
+        requires there { path < length graph.now }
+        ensures paths { OnOk result (self.new.paths ≡ self.old.paths ++ path ∷ []) }
+        ensures fits { FitsGraph graph.now self.new }
+        ensures mark { IsMark self.new (record { paths = length self.old.paths; triples = length self.old.triples }) }
+        ensures prefix { first_of self.new (record { paths = length self.old.paths; triples = length self.old.triples }) ≡ self.old }
+        ensures err { OnErr result (self.new ≡ self.old) }
+    {
+        self.grow(graph, path)
+    }
+
+    /// Adds a path and its triples that are new. For want of memory nothing changes.
+    fn grow(&mut self, graph: &AsGraph, path: PathId) -> Result<(), NoMemory>
+        requires fits { FitsGraph graph.now self.old }
+        requires there { path < length graph.now }
+        ensures paths { OnOk result (self.new.paths ≡ self.old.paths ++ path ∷ []) }
+        ensures fits { OnOk result (FitsGraph graph.now self.new) }
+        ensures err { OnErr result (self.new ≡ self.old) }
+    {
+        graph.facts();
+        let mark = self.mark();
+        self.paths.push(path)?;
+        match self.add_triples(graph, path) {
+            Ok(()) => Ok(()),
+            Err(NoMemory) => {
+                self.cut_to(mark);
+                Err(NoMemory)
+            }
+        }
+    }
+
+    /// Adds the triples of a path that are new, or, for want of memory, some of them.
+    fn add_triples(&mut self, graph: &AsGraph, path: PathId) -> Result<(), NoMemory>
+        requires nodes { self.old.net.nodes ≡ length (edges graph.now) * 2 }
+        requires there { path < length graph.now }
+        requires few { IsRoomy graph.now path self.old.triples }
+        ensures ok { OnOk result (self.new ≡ having self.old (with_triples self.old.triples (triples_on graph.now path))) }
+        ensures err { OnErr result (IsFirst self.old self.new) }
+    {
+        self.facts();
+        graph.facts();
+        let steps = graph.steps(path);
+        let mut next = 1;
+        while next < steps.len() {
+            self.add_triple(Triple {
+                path,
+                at: next as u32 + 1,
+                first: Lit::of_step(&steps[next - 1]),
+                second: Lit::of_step(&steps[next]),
+            })?;
+            next += 1;
+        }
+        Ok(())
+    }
+
+    /// Adds a triple and its arcs, unless it or its reverse is there. For want of memory nothing changes.
+    fn add_triple(&mut self, triple: Triple) -> Result<(), NoMemory>
+        requires nodes { HasNodes triple }
+        requires first { triple.first.edge * 2 + 1 < self.old.net.nodes }
+        requires second { triple.second.edge * 2 + 1 < self.old.net.nodes }
+        requires few { length self.old.triples < 2 ^ 27 }
+        ensures ok { OnOk result (self.new ≡ having self.old (with_triple self.old.triples triple)) }
+        ensures err { OnErr result (self.new ≡ self.old) }
+    {
+        if self.table.has(&triple) {
+            return Ok(());
+        }
+        let count = self.table.len();
+        self.table.push(triple)?;
+        match add_arcs(&mut self.digraph, triple) {
+            Ok(()) => Ok(()),
+            Err(NoMemory) => {
+                self.table.cut_to(count);
+                Err(NoMemory)
+            }
+        }
+    }
+
+    /// Takes away all but the first paths and triples, by these counts.
+    fn cut_to(&mut self, mark: ClauseMark)
+        requires paths { mark.paths ≤ length self.old.paths }
+        requires triples { mark.triples ≤ length self.old.triples }
+        ensures { self.new ≡ first_of self.old mark }
+    {
+        prove!(mark.triples <= self.table.len());
+        let nodes = self.digraph.node_count();
+        self.digraph.undo_to(GraphMark {
+            nodes,
+            arcs: mark.triples * 2,
+        });
+        self.table.cut_to(mark.triples);
+        self.paths.truncate(mark.paths);
+    }
+
+    /// How many paths and triples there are, for a later `undo_to`. It takes no memory.
+    pub fn mark(&self) -> ClauseMark
+        ensures { result ≡ record { paths = length self.now.paths; triples = length self.now.triples } }
+    {
+        ClauseMark {
+            paths: self.paths.len(),
+            triples: self.table.len(),
+        }
+    }
+
+    /// Takes away all but the first paths and triples, by these counts, with the arcs of the triples. There have to be so many
+    /// paths, and the triples have to be all that are named by one of these paths. It takes no memory.
+    pub fn undo_to(&mut self, mark: ClauseMark)
+        requires { IsMark self.old mark }
+        ensures first { self.new ≡ first_of self.old mark }
+        ensures fits { (graph : List (List ℕ)) → FitsGraph graph self.old → FitsGraph graph self.new }
+    {
+        self.cut_to(mark);
+    }
+
+    /// Whether an orientation, with one end for each edge of the graph that the clauses fit, serves their paths: exactly if no arc
+    /// leads from a literal that holds to one that does not. It takes no memory.
+    pub fn holds(&self, graph: &AsGraph, orientation: &Orientation) -> bool
+        requires fits { FitsGraph graph.now self.now }
+        requires ends { length orientation.now ≡ length (edges graph.now) }
+        ensures serves { IsTrue result ↔ IsServed graph.now self.now.paths orientation.now }
+        ensures model { IsTrue result ↔ IsModel self.now orientation.now }
+    {
+        graph.facts();
+        self.table.are_kept(orientation.as_slice())
+    }
+
+    /// The digraph of the implications. It takes no memory.
+    pub fn digraph(&self) -> &Digraph<NodeId, ArcId>
+        ensures { result.now ≡ self.now.net }
+    {
+        &self.digraph
+    }
+
+    /// The triple of an arc, which has to be there: the arc is the one from its first literal to its second, or the partner of
+    /// that. It takes no memory.
+    pub fn triple_of(&self, arc: ArcId) -> Triple
+        requires { arc < length self.now.net.arcs }
+        ensures triple { slice_get self.now.triples (arc / 2) ≡ Some result }
+        ensures arc { (slice_get self.now.net.arcs arc ≡ Some (arc_of result)) ⊎ (slice_get self.now.net.arcs arc ≡ Some (partner_of result)) }
+    {
+        self.table.get(arc.place() / 2)
+    }
+
+    /// Where the triple of an arc, which has to be there, stands: the number of its path, from 1, and the place of its middle AS.
+    /// The arc goes from the literal "x over y" to the literal "y over z", where x, y, z stand there in this order or from right
+    /// to left. It takes no memory.
+    pub fn link_of(&self, arc: ArcId) -> Link
+        requires { arc < length self.now.net.arcs }
+        ensures link { (t : Triple) → slice_get self.now.triples (arc / 2) ≡ Some t → result ≡ record { path = t.path + 1; at = t.at } }
+        ensures fits { (graph : List (List ℕ)) (l m : ℕ) → All AllDistinct graph → FitsGraph graph self.now → IsArc self.now.net.arcs arc l m → IsLinkOf graph self.now.paths result l m }
+    {
+        let triple = self.triple_of(arc);
+        Link {
+            path: triple.path.place() as u32 + 1,
+            at: triple.at,
+        }
+    }
+}
+
+/// Adds the two arcs of a triple, both or, for want of memory, none.
+fn add_arcs(digraph: &mut Digraph<NodeId, ArcId>, triple: Triple) -> Result<(), NoMemory>
+    requires nodes { HasNodes triple }
+    requires first { triple.first.edge * 2 + 1 < digraph.old.nodes }
+    requires second { triple.second.edge * 2 + 1 < digraph.old.nodes }
+    requires few { length digraph.old.arcs + 2 ≤ 2 ^ 28 }
+    ensures ok { OnOk result (digraph.new ≡ record digraph.old { arcs = digraph.old.arcs ++ arcs_of triple }) }
+    ensures err { OnErr result (digraph.new ≡ digraph.old) }
+{
+    let mark = digraph.mark();
+    add_arc(digraph, triple.first, triple.second)?;
+    match add_arc(digraph, triple.second.not(), triple.first.not()) {
+        Ok(()) => Ok(()),
+        Err(NoMemory) => {
+            digraph.undo_to(mark);
+            Err(NoMemory)
+        }
+    }
+}
+
+/// Adds the arc from one literal to another. For want of memory nothing changes.
+fn add_arc(digraph: &mut Digraph<NodeId, ArcId>, tail: Lit, head: Lit) -> Result<(), NoMemory>
+    requires nodes { (tail.edge < 2 ^ 27) × (head.edge < 2 ^ 27) }
+    requires tail { node_of tail < digraph.old.nodes }
+    requires head { node_of head < digraph.old.nodes }
+    requires few { length digraph.old.arcs < 2 ^ 28 }
+    ensures ok { OnOk result (digraph.new ≡ record digraph.old { arcs = digraph.old.arcs ++ (node_of tail, node_of head) ∷ [] }) }
+    ensures err { OnErr result (digraph.new ≡ digraph.old) }
+{
+    match digraph.add_arc(tail.node(), head.node()) {
+        Ok(_) => Ok(()),
+        Err(GraphRefused::Full) => unreachable!(),
+        Err(GraphRefused::NoMemory) => Err(NoMemory),
+    }
+}

@@ -1,0 +1,144 @@
+ghost use Rattle.std.specs.Prelude.{◌≡◌, ◌<◌, length, IfOk, OnOk};
+ghost use Rattle.tor_clauses.specs.Formulas.{FitsGraph};
+
+use crate::{ClauseMark, Clauses, Lit};
+use as_graph::{AsGraph, Orientation, build};
+use std::alloc::Global;
+use std::test::Fail;
+use tor_arena::{EdgeId, End, Index, PathId, Rows};
+
+fn one_path(alloc: Global) -> Result<AsGraph, Fail>
+    ensures { IfOk result (λ graph. 0 < length graph) }
+{
+    let mut rows = Rows::new(alloc);
+    rows.push_row(&[10, 20, 30])?;
+    Ok(build(alloc, &rows)?)
+}
+
+fn path(place: usize) -> PathId
+    requires { place < 3 }
+    ensures { result ≡ place }
+{
+    PathId::from_place(place).unwrap()
+}
+
+fn literal(place: usize, over: End) -> Lit
+    requires { place < 3 }
+    ensures { result ≡ record { edge = place; over = over } }
+{
+    Lit {
+        edge: EdgeId::from_place(place).unwrap(),
+        over,
+    }
+}
+
+#[test]
+fn literals_and_nodes(rt: HostRuntime) -> Result<(), Fail> {
+    let low = literal(2, End::Low);
+    let high = literal(2, End::High);
+    assert_eq!(rt; low.not(), high);
+    assert_eq!(rt; high.not(), low);
+    assert_eq!(rt; low.node().place(), 4);
+    assert_eq!(rt; high.node().place(), 5);
+    assert_eq!(rt; Lit::of_node(low.node()), low);
+    assert_eq!(rt; Lit::of_node(high.node()), high);
+    Ok(())
+}
+
+fn begun(alloc: Global, graph: &AsGraph) -> Result<Clauses, Fail>
+    ensures { IfOk result (FitsGraph graph.now) }
+{
+    Ok(Clauses::new(alloc, graph)?)
+}
+
+fn with_path(alloc: Global, graph: &AsGraph, path: PathId) -> Result<Clauses, Fail>
+    requires { path < length graph.now }
+    ensures { IfOk result (FitsGraph graph.now) }
+{
+    let mut clauses = begun(alloc, graph)?;
+    clauses.add_path(graph, path)?;
+    Ok(clauses)
+}
+
+/// Whether the clauses of the first path hold under these providers, one for each edge.
+fn holds_on(alloc: Global, graph: &AsGraph, ends: &[End]) -> Result<Option<bool>, Fail>
+    requires { 0 < length graph.now }
+{
+    let clauses = with_path(alloc, graph, path(0))?;
+    answer(alloc, graph, &clauses, ends)
+}
+
+fn answer(
+    alloc: Global,
+    graph: &AsGraph,
+    clauses: &Clauses,
+    ends: &[End],
+) -> Result<Option<bool>, Fail>
+    requires { FitsGraph graph.now clauses.now }
+{
+    if ends.len() != graph.edge_count() {
+        return Ok(None);
+    }
+    let orientation = Orientation::from_ends(alloc, ends)?;
+    Ok(Some(clauses.holds(graph, &orientation)))
+}
+
+fn holds_under(alloc: Global, ends: &[End]) -> Result<Option<bool>, Fail> {
+    let graph = one_path(alloc)?;
+    holds_on(alloc, &graph, ends)
+}
+
+#[test]
+fn holds_where_the_path_is_served(rt: HostRuntime) -> Result<(), Fail> {
+    let up = holds_under(rt.alloc(), &[End::High, End::High])?;
+    let valley = holds_under(rt.alloc(), &[End::Low, End::High])?;
+    assert_eq!(rt; up, Some(true));
+    assert_eq!(rt; valley, Some(false));
+    Ok(())
+}
+
+fn three_paths(alloc: Global) -> Result<AsGraph, Fail>
+    ensures { IfOk result (λ graph. 2 < length graph) }
+{
+    let mut rows = Rows::new(alloc);
+    rows.push_row(&[10, 20, 30])?;
+    rows.push_row(&[30, 20, 10])?;
+    rows.push_row(&[20, 30, 40])?;
+    Ok(build(alloc, &rows)?)
+}
+
+/// Adds a path and goes back.
+fn add_and_undo(graph: &AsGraph, clauses: &mut Clauses, path: PathId) -> Result<(), Fail>
+    requires fits { FitsGraph graph.now clauses.old }
+    requires there { path < length graph.now }
+    ensures { OnOk result (clauses.new ≡ clauses.old) }
+{
+    let mark = clauses.mark();
+    clauses.add_path(graph, path)?;
+    clauses.undo_to(mark);
+    Ok(())
+}
+
+/// How many paths and triples there are after a path and its reverse, and again after a third path and an undo.
+fn marks(alloc: Global, graph: &AsGraph) -> Result<(ClauseMark, ClauseMark), Fail>
+    requires { 2 < length graph.now }
+{
+    let mut clauses = with_path(alloc, graph, path(0))?;
+    clauses.add_path(graph, path(1))?;
+    let before = clauses.mark();
+    add_and_undo(graph, &mut clauses, path(2))?;
+    Ok((before, clauses.mark()))
+}
+
+fn marks_of_three(alloc: Global) -> Result<(ClauseMark, ClauseMark), Fail> {
+    let graph = three_paths(alloc)?;
+    marks(alloc, &graph)
+}
+
+#[test]
+fn a_reverse_is_no_new_triple_and_an_undo_goes_back(rt: HostRuntime) -> Result<(), Fail> {
+    let (before, after) = marks_of_three(rt.alloc())?;
+    assert_eq!(rt; (before.paths, before.triples), (2, 1));
+    assert_eq!(rt; (after.paths, after.triples), (2, 1));
+    Ok(())
+}

@@ -1,0 +1,14 @@
+use crate::lit::Lit;
+use tor_arena::PathId;
+
+/// Three consecutive ASes x, y, z of a path: the first literal, "x over y", implies the second, "y over z", and the negation of
+/// the second implies the negation of the first.
+#[derive(Clone, Copy, Debug, PartialEq, Eq)]
+pub struct Triple {
+    /// The path on which they stand.
+    pub path: PathId,
+    /// The place on the path, from 1, of the middle one.
+    pub at: u32,
+    pub first: Lit,
+    pub second: Lit,
+}

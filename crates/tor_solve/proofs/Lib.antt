@@ -1,0 +1,4 @@
+mod Arcs
+mod Classing
+mod Leadings
+mod Refutation

@@ -1,0 +1,4 @@
+pub mod Laws
+pub mod Leading
+pub mod Solving
+pub mod Verdicts

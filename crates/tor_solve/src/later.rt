@@ -1,0 +1,77 @@
+ghost use Rattle.std.specs.Prelude.{◌≡◌, ℕ, ◌+◌, ◌*◌, ◌<◌, ◌≤◌, ◌^◌, length, ◌↔◌, IsTrue, IfOk, IfSome, IfNone};
+ghost use Rattle.tor_clauses.specs.Literals.{node_of, lit_of};
+ghost use Rattle.tor_solve.specs.Solving.{IsClash, IsLater, AreLater};
+
+use as_graph::Orientation;
+use std::alloc::Global;
+use tor_arena::{EdgeId, End, Index, List, NoMemory, NodeId};
+use tor_clauses::Lit;
+use tor_components::Components;
+
+/// The node of an edge's literal that says that this end is over the other. It takes no memory.
+pub(crate) fn node_at(edge: EdgeId, over: End) -> NodeId
+    requires { edge < 2 ^ 27 }
+    ensures node { result ≡ node_of (record { edge = edge; over = over }) }
+    ensures literal { lit_of result ≡ record { edge = edge; over = over } }
+{
+    Lit { edge, over }.node()
+}
+
+/// Whether the two literals of an edge have one class. It takes no memory.
+fn has_clash(parts: &Components<NodeId>, edge: EdgeId) -> bool
+    requires there { edge * 2 + 1 < length parts.now.of }
+    requires few { edge < 2 ^ 26 }
+    ensures { IsTrue result ↔ IsClash parts.now.of edge }
+{
+    let low = parts.class_of(node_at(edge, End::Low));
+    let high = parts.class_of(node_at(edge, End::High));
+    low == high
+}
+
+/// The first edge, if any, whose two literals have one class. It takes no memory.
+pub(crate) fn clash(parts: &Components<NodeId>, count: usize) -> Option<EdgeId>
+    requires there { count * 2 ≤ length parts.now.of }
+    requires few { count ≤ 2 ^ 26 }
+    ensures some { IfSome result (λ edge. (edge < count) × IsClash parts.now.of edge) }
+    ensures none { IfNone result ((edge : ℕ) → edge < count → IsClash parts.now.of edge → ⊥) }
+{
+    for place in 0..count {
+        let edge = EdgeId::from_place(place).unwrap();
+        if has_clash(parts, edge) {
+            return Some(edge);
+        }
+    }
+    None
+}
+
+/// The end of an edge whose literal is the later of the two. It takes no memory.
+fn later_end(parts: &Components<NodeId>, edge: EdgeId) -> End
+    requires there { edge * 2 + 1 < length parts.now.of }
+    requires few { edge < 2 ^ 26 }
+    requires apart { IsClash parts.now.of edge → ⊥ }
+    ensures { IsLater parts.now.of (record { edge = edge; over = result }) }
+{
+    let low = parts.class_of(node_at(edge, End::Low));
+    let high = parts.class_of(node_at(edge, End::High));
+    if high < low { End::Low } else { End::High }
+}
+
+/// The orientation in which of each edge the later literal holds.
+pub(crate) fn later_ends(
+    alloc: Global,
+    parts: &Components<NodeId>,
+    count: usize,
+) -> Result<Orientation, NoMemory>
+    requires there { count * 2 ≤ length parts.now.of }
+    requires few { count ≤ 2 ^ 26 }
+    requires apart { (edge : ℕ) → edge < count → IsClash parts.now.of edge → ⊥ }
+    ensures many { IfOk result (λ ends. length ends ≡ count) }
+    ensures later { IfOk result (λ ends. AreLater parts.now.of ends) }
+{
+    let mut ends = List::new(alloc);
+    for place in 0..count {
+        let edge = EdgeId::from_place(place).unwrap();
+        ends.push(later_end(parts, edge))?;
+    }
+    Orientation::from_ends(alloc, ends.as_slice())
+}

@@ -1,0 +1,44 @@
+ghost use Rattle.std.specs.Prelude.{◌≡◌, ◌↔◌, length, IfOk};
+ghost use Rattle.tor_arena.specs.Graph.{edges};
+ghost use Rattle.tor_arena.specs.Evidence.{Refutes};
+ghost use Rattle.tor_arena.specs.Selection.{IsServable};
+ghost use Rattle.as_graph.specs.Paths.{paths_at};
+ghost use Rattle.tor_clauses.specs.Formulas.{FitsGraph, IsServed, numbered};
+ghost use Rattle.tor_solve.specs.Verdicts.{IfModel, IfWalk, IsRefuted};
+
+use crate::later::{clash, later_ends};
+use crate::verdict::Verdict;
+use crate::walking::walk_round;
+use as_graph::AsGraph;
+use std::alloc::Global;
+use tor_arena::NoMemory;
+use tor_clauses::{Clauses, model_law, partner_law};
+use tor_components::components;
+
+/// Whether some orientation serves the paths of clauses that fit the graph: such an orientation, or a walk that refutes.
+///
+/// Where an order of two neighbours and its opposite lead to each other, the walk goes round from the one to the other and back.
+/// Otherwise the order of the later strong component holds (Aspvall, Plass and Tarjan 1979).
+pub fn solve(alloc: Global, graph: &AsGraph, clauses: &Clauses) -> Result<Verdict, NoMemory>
+    requires { FitsGraph graph.now clauses.now }
+    ensures many { IfOk result (λ verdict. IfModel verdict (λ ends. length ends ≡ length (edges graph.now))) }
+    ensures model { IfOk result (λ verdict. IfModel verdict (λ ends. IsServed graph.now clauses.now.paths ends)) }
+    ensures walk { IfOk result (λ verdict. IfWalk verdict (λ walk. Refutes (numbered graph.now clauses.now.paths) walk)) }
+    ensures exact { IfOk result (λ verdict. IsRefuted verdict ↔ (IsServable (paths_at graph.now clauses.now.paths) → ⊥)) }
+{
+    graph.facts();
+    model_law();
+    partner_law();
+    let count = clauses.digraph().node_count() / 2;
+    let parts = components(alloc, clauses.digraph())?;
+    match clash(&parts, count) {
+        Some(edge) => {
+            let walk = walk_round(alloc, graph, clauses, edge)?;
+            Ok(Verdict::Walk(walk))
+        }
+        None => {
+            let ends = later_ends(alloc, &parts, count)?;
+            Ok(Verdict::Model(ends))
+        }
+    }
+}

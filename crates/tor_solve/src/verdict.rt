@@ -1,0 +1,11 @@
+use as_graph::Orientation;
+use tor_arena::Walk;
+
+/// What a solver finds of the paths of clauses.
+#[derive(Debug, Drop)]
+pub enum Verdict {
+    /// An orientation that serves them.
+    Model(Orientation),
+    /// A walk that refutes, so that no orientation serves them.
+    Walk(Walk),
+}
