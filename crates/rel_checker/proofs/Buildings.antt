@@ -1,0 +1,313 @@
+-- What two consecutive steps carry along and bar, and how the rows come to have it.
+use Rattle.std.proofs.Common.{◌≡◌, ◌↔◌, ◌⊎◌, inl, inr, ℕ, ◌+◌, ◌-◌, ◌<◌, ◌≤◌, Bool, true, false, List, [], ◌∷◌, ◌++◌, Some, length, slice_get, slice_index, slice_index_or, refl, sym, ap, ◌∙◌, subst, arith, Contains, length-set, nat_eq}
+use Rattle.std.proofs.lemmas.Bool.{cases_lt, cases_Bool, eqb-true, eq-eqb, both_ways}
+use Rattle.std.proofs.lemmas.Option.{get_or_from_slice_get, slice_get-get_or}
+use Rattle.std.proofs.lemmas.List.Elements.{Contains-push, Contains-push_cases, Contains-append_left}
+use Rattle.tor_arena.specs.Evidence.{TripleAt, IsTriple}
+use Rattle.tor_arena.proofs.Places.{StandAt-from_index, index-from_StandAt}
+use Rattle.rel_checker.specs.Neighbours.{HasNext, IsInside, with_next}
+use Rattle.rel_checker.specs.Turning.{TurnsTo, Carries, Bars, IsBuilt, IsStep, with_carried, with_barred, TripleBefore, IsProper}
+use Rattle.rel_checker.proofs.Gets.{slice_get-lt, slice_get-set_cases, slice_get-set_other, slice_get-set_same}
+
+-- ---- one more in a row
+
+pub length-with_next : (rows : List (List ℕ)) (a b : ℕ) → length (with_next rows a b) ≡ length rows
+length-with_next rows a b = length-set rows a (slice_index_or rows a [] ++ b ∷ [])
+
+next_cases : (rows : List (List ℕ)) (a b i j : ℕ) → a < length rows → HasNext (with_next rows a b) i j → HasNext rows i j ⊎ ((i ≡ a) × (j ≡ b))
+next_cases rows a b i j lt h =
+    elim (slice_get-set_cases rows a (slice_index_or rows a [] ++ b ∷ []) i h.0 h.1) [
+      | inl p ↦ elim (Contains-push_cases (slice_index_or rows a []) b j (subst (λ l. Contains l j) p.1 h.2)) [
+        | inl c ↦ inl (slice_index_or rows a [], subst (λ k. slice_get rows k ≡ Some (slice_index_or rows a [])) (sym p.0) (slice_get-get_or rows a [] lt), c)
+        | inr e ↦ inr (p.0, sym e)
+      ]
+      | inr p ↦ inl (h.0, p.1, h.2)
+    ]
+
+next_kept : (rows : List (List ℕ)) (a b i j : ℕ) → a < length rows → HasNext rows i j → HasNext (with_next rows a b) i j
+next_kept rows a b i j lt h =
+    elim (cases_Bool (nat_eq i a)) [
+      | inl t ↦
+          let e = eqb-true i a t in
+          let row : slice_index_or rows a [] ≡ h.0 = get_or_from_slice_get rows a h.0 [] (subst (λ k. slice_get rows k ≡ Some h.0) e h.1) in (
+            slice_index_or rows a [] ++ b ∷ [],
+            subst (λ k. slice_get (with_next rows a b) k ≡ Some (slice_index_or rows a [] ++ b ∷ [])) (sym e) (slice_get-set_same rows a (slice_index_or rows a [] ++ b ∷ []) lt),
+            Contains-append_left (slice_index_or rows a []) (b ∷ []) j (subst (λ l. Contains l j) (sym row) h.2),
+          )
+      | inr n ↦ (h.0, slice_get-set_other rows a (slice_index_or rows a [] ++ b ∷ []) i (λ e. both_ways (nat_eq i a) n (eq-eqb i a e)) ∙ h.1, h.2)
+    ]
+
+next_last : (rows : List (List ℕ)) (a b i j : ℕ) → a < length rows → i ≡ a → j ≡ b → HasNext (with_next rows a b) i j
+next_last rows a b i j lt e e' =
+    subst (λ k. HasNext (with_next rows a b) k j) (sym e) (subst (λ k. HasNext (with_next rows a b) a k) (sym e')
+    (slice_index_or rows a [] ++ b ∷ [], slice_get-set_same rows a (slice_index_or rows a [] ++ b ∷ []) lt, Contains-push (slice_index_or rows a []) b))
+
+-- ---- the triple of two consecutive steps
+
+abbrev pub Also : ℕ → ℕ → ℕ → ℕ → ℕ → ℕ → Type 0
+Also p q r x y z = ((x ≡ p) × (y ≡ q) × (z ≡ r)) ⊎ ((x ≡ r) × (y ≡ q) × (z ≡ p))
+
+module _ (orders : List (ℕ × ℕ)) where
+  turns_to : (k x y u v : ℕ) → x ≡ u → y ≡ v → TurnsTo orders k x y → TurnsTo orders k u v
+  turns_to k x y u v e e' h = subst (λ w. TurnsTo orders k u w) e' (subst (λ w. TurnsTo orders k w y) e h)
+
+  carries_cases : (p q r i j : ℕ) → Carries orders (Also p q r) i j → (TurnsTo orders i p q × TurnsTo orders j q r) ⊎ (TurnsTo orders i r q × TurnsTo orders j q p)
+  carries_cases p q r i j (x, y, z, ti, tj, inl e) = inl (turns_to i x y p q e.0 e.1 ti, turns_to j y z q r e.1 e.2 tj)
+  carries_cases p q r i j (x, y, z, ti, tj, inr e) = inr (turns_to i x y r q e.0 e.1 ti, turns_to j y z q p e.1 e.2 tj)
+
+  bars_cases : (p q r i j : ℕ) → Bars orders (Also p q r) i j → (TurnsTo orders i p q × TurnsTo orders j r q) ⊎ (TurnsTo orders i r q × TurnsTo orders j p q)
+  bars_cases p q r i j (x, y, z, ti, tj, inl e) = inl (turns_to i x y p q e.0 e.1 ti, turns_to j z y r q e.2 e.1 tj)
+  bars_cases p q r i j (x, y, z, ti, tj, inr e) = inr (turns_to i x y r q e.0 e.1 ti, turns_to j z y p q e.2 e.1 tj)
+
+module _ (orders : List (ℕ × ℕ)) (proper : IsProper orders) (T T' : ℕ → ℕ → ℕ → Type 0) (p q r : ℕ) (exact : (x y z : ℕ) → T' x y z ↔ (T x y z ⊎ Also p q r x y z)) where
+  carries_wider : (i j : ℕ) → Carries orders T i j → Carries orders T' i j
+  carries_wider i j (x, y, z, ti, tj, t) = (x, y, z, ti, tj, (exact x y z).1 (inl t))
+
+  carries_split : (i j : ℕ) → Carries orders T' i j → Carries orders T i j ⊎ ((TurnsTo orders i p q × TurnsTo orders j q r) ⊎ (TurnsTo orders i r q × TurnsTo orders j q p))
+  carries_split i j (x, y, z, ti, tj, t) = elim ((exact x y z).0 t) [ inl h ↦ inl (x, y, z, ti, tj, h) | inr h ↦ inr (carries_cases orders p q r i j (x, y, z, ti, tj, h)) ]
+
+  bars_wider : (i j : ℕ) → Bars orders T i j → Bars orders T' i j
+  bars_wider i j (x, y, z, ti, tj, t) = (x, y, z, ti, tj, (exact x y z).1 (inl t))
+
+  bars_split : (i j : ℕ) → Bars orders T' i j → Bars orders T i j ⊎ ((TurnsTo orders i p q × TurnsTo orders j r q) ⊎ (TurnsTo orders i r q × TurnsTo orders j p q))
+  bars_split i j (x, y, z, ti, tj, t) = elim ((exact x y z).0 t) [ inl h ↦ inl (x, y, z, ti, tj, h) | inr h ↦ inr (bars_cases orders p q r i j (x, y, z, ti, tj, h)) ]
+
+  there : T' p q r
+  there = (exact p q r).1 (inr (inl (refl, refl, refl)))
+
+  back : T' r q p
+  back = (exact r q p).1 (inr (inr (refl, refl, refl)))
+
+  -- where the rows gain nothing, none is carried along
+  none_carried : (rows : List (List ℕ)) → ((i j : ℕ) → HasNext rows i j ↔ Carries orders T i j) →
+      ((i j : ℕ) → (TurnsTo orders i p q × TurnsTo orders j q r) ⊎ (TurnsTo orders i r q × TurnsTo orders j q p) → ⊥) →
+      (i j : ℕ) → HasNext rows i j ↔ Carries orders T' i j
+  none_carried rows h none i j = (
+    λ n. carries_wider i j ((h i j).0 n),
+    λ c. elim (carries_split i j c) [ inl d ↦ (h i j).1 d | inr d ↦ absurd (none i j d) ],
+  )
+
+  none_barred : (rows : List (List ℕ)) → ((i j : ℕ) → HasNext rows i j ↔ Bars orders T i j) →
+      ((i j : ℕ) → (TurnsTo orders i p q × TurnsTo orders j r q) ⊎ (TurnsTo orders i r q × TurnsTo orders j p q) → ⊥) →
+      (i j : ℕ) → HasNext rows i j ↔ Bars orders T' i j
+  none_barred rows h none i j = (
+    λ n. bars_wider i j ((h i j).0 n),
+    λ c. elim (bars_split i j c) [ inl d ↦ (h i j).1 d | inr d ↦ absurd (none i j d) ],
+  )
+
+  -- two steps up, or down
+  one_carried : (rows : List (List ℕ)) (a b : ℕ) → a < length rows → ((i j : ℕ) → HasNext rows i j ↔ Carries orders T i j) →
+      Carries orders T' a b →
+      ((i j : ℕ) → (TurnsTo orders i p q × TurnsTo orders j q r) ⊎ (TurnsTo orders i r q × TurnsTo orders j q p) → (i ≡ a) × (j ≡ b)) →
+      (i j : ℕ) → HasNext (with_next rows a b) i j ↔ Carries orders T' i j
+  one_carried rows a b lt h new only i j = (
+    λ n. elim (next_cases rows a b i j lt n) [
+      | inl m ↦ carries_wider i j ((h i j).0 m)
+      | inr e ↦ subst (λ k. Carries orders T' k j) (sym e.0) (subst (λ k. Carries orders T' a k) (sym e.1) new)
+    ],
+    λ c. elim (carries_split i j c) [
+      | inl d ↦ next_kept rows a b i j lt ((h i j).1 d)
+      | inr d ↦ let e = only i j d in next_last rows a b i j lt e.0 e.1
+    ],
+  )
+
+  -- a peak
+  two_barred : (rows : List (List ℕ)) (a b : ℕ) → a < length rows → b < length rows → ((i j : ℕ) → HasNext rows i j ↔ Bars orders T i j) →
+      Bars orders T' a b → Bars orders T' b a →
+      ((i j : ℕ) → (TurnsTo orders i p q × TurnsTo orders j r q) ⊎ (TurnsTo orders i r q × TurnsTo orders j p q) → ((i ≡ a) × (j ≡ b)) ⊎ ((i ≡ b) × (j ≡ a))) →
+      (i j : ℕ) → HasNext (with_next (with_next rows a b) b a) i j ↔ Bars orders T' i j
+  two_barred rows a b lt lt' h new new' only i j =
+      let more = with_next rows a b in
+      let within : b < length more = omega (arith, length-with_next rows a b) in (
+        λ n. elim (next_cases more b a i j within n) [
+          | inl m ↦ elim (next_cases rows a b i j lt m) [
+            | inl o ↦ bars_wider i j ((h i j).0 o)
+            | inr e ↦ subst (λ k. Bars orders T' k j) (sym e.0) (subst (λ k. Bars orders T' a k) (sym e.1) new)
+          ]
+          | inr e ↦ subst (λ k. Bars orders T' k j) (sym e.0) (subst (λ k. Bars orders T' b k) (sym e.1) new')
+        ],
+        λ c. elim (bars_split i j c) [
+          | inl d ↦ next_kept more b a i j within (next_kept rows a b i j lt ((h i j).1 d))
+          | inr d ↦ elim (only i j d) [
+            | inl e ↦ next_kept more b a i j within (next_last rows a b i j lt e.0 e.1)
+            | inr e ↦ next_last more b a i j within e.0 e.1
+          ]
+        ],
+      )
+
+  pub built_more : (first second : ℕ) (up up' : Bool) (carried barred : List (List ℕ)) → IsStep orders first up p q → IsStep orders second up' q r →
+      first < length carried → second < length carried → IsBuilt orders T carried barred →
+      IsBuilt orders T' (with_carried up up' first second carried) (with_barred up up' first second barred)
+  built_more first second true true carried barred s s' lt lt' b = record {
+    carried_many = length-with_next carried first second ∙ b.carried_many;
+    barred_many = b.barred_many;
+    carries = one_carried carried first second lt b.carries (p, q, r, s, s', there) (λ i j d. elim d [
+      | inl t ↦ (proper.one i first p q t.0 s, proper.one j second q r t.1 s')
+      | inr t ↦ absurd (proper.way i second r q t.0 s')
+    ]);
+    bars = none_barred barred b.bars (λ i j d. elim d [
+      | inl t ↦ proper.way j second r q t.1 s'
+      | inr t ↦ proper.way i second r q t.0 s'
+    ]);
+  }
+  built_more first second false false carried barred s s' lt lt' b = record {
+    carried_many = length-with_next carried second first ∙ b.carried_many;
+    barred_many = b.barred_many;
+    carries = one_carried carried second first lt' b.carries (r, q, p, s', s, back) (λ i j d. elim d [
+      | inl t ↦ absurd (proper.way i first p q t.0 s)
+      | inr t ↦ (proper.one i second r q t.0 s', proper.one j first q p t.1 s)
+    ]);
+    bars = none_barred barred b.bars (λ i j d. elim d [
+      | inl t ↦ proper.way i first p q t.0 s
+      | inr t ↦ proper.way j first p q t.1 s
+    ]);
+  }
+  built_more first second true false carried barred s s' lt lt' b = record {
+    carried_many = b.carried_many;
+    barred_many = length-with_next (with_next barred first second) second first ∙ length-with_next barred first second ∙ b.barred_many;
+    carries = none_carried carried b.carries (λ i j d. elim d [
+      | inl t ↦ proper.way j second q r t.1 s'
+      | inr t ↦ proper.way j first q p t.1 s
+    ]);
+    bars = two_barred barred first second (omega (arith, b.carried_many, b.barred_many)) (omega (arith, b.carried_many, b.barred_many)) b.bars (p, q, r, s, s', there) (r, q, p, s', s, back) (λ i j d. elim d [
+      | inl t ↦ inl (proper.one i first p q t.0 s, proper.one j second r q t.1 s')
+      | inr t ↦ inr (proper.one i second r q t.0 s', proper.one j first p q t.1 s)
+    ]);
+  }
+  built_more first second false true carried barred s s' lt lt' b = record {
+    carried_many = b.carried_many;
+    barred_many = b.barred_many;
+    carries = none_carried carried b.carries (λ i j d. elim d [
+      | inl t ↦ proper.way i first p q t.0 s
+      | inr t ↦ proper.way i second r q t.0 s'
+    ]);
+    bars = none_barred barred b.bars (λ i j d. elim d [
+      | inl t ↦ proper.way i first p q t.0 s
+      | inr t ↦ proper.way i second r q t.0 s'
+    ]);
+  }
+
+-- the same triples
+pub built_same : (orders : List (ℕ × ℕ)) (T T' : ℕ → ℕ → ℕ → Type 0) (carried barred : List (List ℕ)) → ((x y z : ℕ) → T x y z ↔ T' x y z) → IsBuilt orders T carried barred → IsBuilt orders T' carried barred
+built_same orders T T' carried barred same b = record {
+  carried_many = b.carried_many;
+  barred_many = b.barred_many;
+  carries = λ i j. (
+    λ n. let c = (b.carries i j).0 n in (c.0, c.1, c.2, c.3, c.4, (same c.0 c.1 c.2).0 c.5),
+    λ c. (b.carries i j).1 (c.0, c.1, c.2, c.3, c.4, (same c.0 c.1 c.2).1 c.5),
+  );
+  bars = λ i j. (
+    λ n. let c = (b.bars i j).0 n in (c.0, c.1, c.2, c.3, c.4, (same c.0 c.1 c.2).0 c.5),
+    λ c. (b.bars i j).1 (c.0, c.1, c.2, c.3, c.4, (same c.0 c.1 c.2).1 c.5),
+  );
+}
+
+-- ---- triples of a path, place by place
+
+pub before_begin : (paths : List (List ℕ)) (path : List ℕ) (end : ℕ) → end ≤ 2 → (x y z : ℕ) → IsTriple paths x y z ↔ TripleBefore paths path end x y z
+before_begin paths path end few x y z = (
+  λ t. inl t,
+  λ t. elim t [ inl h ↦ h | inr h ↦ absurd (too_early h.0 h.1 h.2) ],
+)
+  where
+    too_early : (at : ℕ) → at < end → TripleAt path at x y z → ⊥
+    too_early at lt (inl s) = let w = (index-from_StandAt path at x y z s).0 in omega arith
+    too_early at lt (inr s) = let w = (index-from_StandAt path at z y x s).0 in omega arith
+
+pub before_more : (paths : List (List ℕ)) (path : List ℕ) (at : ℕ) → 2 ≤ at → at < length path → (x y z : ℕ) →
+    TripleBefore paths path (at + 1) x y z ↔ (TripleBefore paths path at x y z ⊎ Also (slice_index path (at - 2)) (slice_index path (at - 1)) (slice_index path at) x y z)
+before_more paths path at two within x y z = (
+  λ t. elim t [
+    | inl h ↦ inl (inl h)
+    | inr h ↦ elim (cases_lt h.0 at) [
+      | inl lt ↦ inl (inr (h.0, lt, h.2))
+      | inr ge ↦ let lt = h.1 in let e : h.0 ≡ at = omega arith in inr (here (subst (λ k. TripleAt path k x y z) e h.2))
+    ]
+  ],
+  λ t. elim t [
+    | inl h ↦ elim h [ inl g ↦ inl g | inr g ↦ let lt = g.1 in inr (g.0, omega arith, g.2) ]
+    | inr h ↦ inr (at, omega arith, stands h)
+  ],
+)
+  where
+    here : TripleAt path at x y z → Also (slice_index path (at - 2)) (slice_index path (at - 1)) (slice_index path at) x y z
+    here (inl s) = let w = index-from_StandAt path at x y z s in inl (sym w.2, sym w.3, sym w.4)
+    here (inr s) = let w = index-from_StandAt path at z y x s in inr (sym w.4, sym w.3, sym w.2)
+
+    stands : Also (slice_index path (at - 2)) (slice_index path (at - 1)) (slice_index path at) x y z → TripleAt path at x y z
+    stands (inl e) = inl (StandAt-from_index path at x y z two within (sym e.0) (sym e.1) (sym e.2))
+    stands (inr e) = inr (StandAt-from_index path at z y x two within (sym e.2) (sym e.1) (sym e.0))
+
+pub before_end : (paths : List (List ℕ)) (path : List ℕ) (end : ℕ) → length path ≤ end → (x y z : ℕ) → TripleBefore paths path end x y z ↔ IsTriple (paths ++ path ∷ []) x y z
+before_end paths path end all x y z = (
+  λ t. elim t [
+    | inl h ↦ (h.0, Contains-append_left paths (path ∷ []) h.0 h.1, h.2)
+    | inr h ↦ (path, Contains-push paths path, (h.0, h.2))
+  ],
+  λ t. elim (Contains-push_cases paths path t.0 t.1) [
+    | inl c ↦ inl (t.0, c, t.2)
+    | inr e ↦ let u = subst (λ l. TripleAt l t.2.0 x y z) (sym e) t.2.1 in inr (t.2.0, early t.2.0 u, u)
+  ],
+)
+  where
+    early : (at : ℕ) → TripleAt path at x y z → at < end
+    early at (inl s) = let w = (index-from_StandAt path at x y z s).1 in omega arith
+    early at (inr s) = let w = (index-from_StandAt path at z y x s).1 in omega arith
+
+-- ---- one place more on a path
+
+length-with_carried : (up up' : Bool) (first second : ℕ) (rows : List (List ℕ)) → length (with_carried up up' first second rows) ≡ length rows
+length-with_carried true true first second rows = length-with_next rows first second
+length-with_carried false false first second rows = length-with_next rows second first
+length-with_carried true false first second rows = refl
+length-with_carried false true first second rows = refl
+
+length-with_barred : (up up' : Bool) (first second : ℕ) (rows : List (List ℕ)) → length (with_barred up up' first second rows) ≡ length rows
+length-with_barred true true first second rows = refl
+length-with_barred false false first second rows = refl
+length-with_barred true false first second rows = length-with_next (with_next rows first second) second first ∙ length-with_next rows first second
+length-with_barred false true first second rows = refl
+
+pub many_carried : (up up' : Bool) (first second n : ℕ) (rows new : List (List ℕ)) → new ≡ with_carried up up' first second rows → length rows ≡ n → length new ≡ n
+many_carried up up' first second n rows new e h = ap length e ∙ length-with_carried up up' first second rows ∙ h
+
+pub many_barred : (up up' : Bool) (first second n : ℕ) (rows new : List (List ℕ)) → new ≡ with_barred up up' first second rows → length rows ≡ n → length new ≡ n
+many_barred up up' first second n rows new e h = ap length e ∙ length-with_barred up up' first second rows ∙ h
+
+pub step_on : (orders : List (ℕ × ℕ)) (path : List ℕ) (edge at : ℕ) (up : Bool) → 2 ≤ at → IsStep orders edge up (slice_index path (at - 1)) (slice_index path at) →
+    IsStep orders edge up (slice_index path (at + 1 - 2)) (slice_index path (at + 1 - 1))
+step_on orders path edge at up two s =
+    let e : at - 1 ≡ at + 1 - 2 = omega arith in
+    let e' : at ≡ at + 1 - 1 = omega arith in
+    subst (λ k. IsStep orders edge up (slice_index path k) (slice_index path (at + 1 - 1))) e (subst (λ k. IsStep orders edge up (slice_index path (at - 1)) (slice_index path k)) e' s)
+
+-- the rows of the triples before the next place, and of the one there
+pub path_more : (orders : List (ℕ × ℕ)) (path : List ℕ) (at first second : ℕ) (up up' : Bool) (carried barred carried' barred' : List (List ℕ)) → IsProper orders → 2 ≤ at → at < length path →
+    IsStep orders first up (slice_index path (at - 2)) (slice_index path (at - 1)) → IsStep orders second up' (slice_index path (at - 1)) (slice_index path at) →
+    first < length carried → second < length carried → carried' ≡ with_carried up up' first second carried → barred' ≡ with_barred up up' first second barred →
+    (paths : List (List ℕ)) → IsBuilt orders (TripleBefore paths path at) carried barred → IsBuilt orders (TripleBefore paths path (at + 1)) carried' barred'
+path_more orders path at first second up up' carried barred carried' barred' proper two within s s' lt lt' e e' paths b =
+    subst (λ l. IsBuilt orders (TripleBefore paths path (at + 1)) l barred') (sym e) (subst (λ l. IsBuilt orders (TripleBefore paths path (at + 1)) (with_carried up up' first second carried) l) (sym e')
+    (built_more orders proper (TripleBefore paths path at) (TripleBefore paths path (at + 1)) (slice_index path (at - 2)) (slice_index path (at - 1)) (slice_index path at) (before_more paths path at two within)
+    first second up up' carried barred s s' lt lt' b))
+
+pub path_begin : (orders : List (ℕ × ℕ)) (path : List ℕ) (carried barred : List (List ℕ)) (paths : List (List ℕ)) → IsBuilt orders (IsTriple paths) carried barred → IsBuilt orders (TripleBefore paths path 2) carried barred
+path_begin orders path carried barred paths b = built_same orders (IsTriple paths) (TripleBefore paths path 2) carried barred (before_begin paths path 2 (omega arith)) b
+
+pub path_end : (orders : List (ℕ × ℕ)) (path : List ℕ) (end : ℕ) (carried barred : List (List ℕ)) → length path ≤ end → (paths : List (List ℕ)) → IsBuilt orders (TripleBefore paths path end) carried barred → IsBuilt orders (IsTriple (paths ++ path ∷ [])) carried barred
+path_end orders path end carried barred all paths b = built_same orders (TripleBefore paths path end) (IsTriple (paths ++ path ∷ [])) carried barred (before_end paths path end all) b
+
+-- ---- what stands in the rows
+
+pub inside_carried : (orders : List (ℕ × ℕ)) (T : ℕ → ℕ → ℕ → Type 0) (carried barred : List (List ℕ)) → IsBuilt orders T carried barred → IsInside carried
+inside_carried orders T carried barred b i j h =
+    let c = (b.carries i j).0 h in
+    omega (arith, slice_get-lt orders j (c.1, c.2) c.4, b.carried_many)
+
+pub inside_barred : (orders : List (ℕ × ℕ)) (T : ℕ → ℕ → ℕ → Type 0) (carried barred : List (List ℕ)) → IsBuilt orders T carried barred → IsInside barred
+inside_barred orders T carried barred b i j h =
+    let c = (b.bars i j).0 h in
+    omega (arith, slice_get-lt orders j (c.2, c.1) c.4, b.barred_many)
+
+pub turning_within : (orders : List (ℕ × ℕ)) (T : ℕ → ℕ → ℕ → Type 0) (carried barred : List (List ℕ)) (k x y : ℕ) → IsBuilt orders T carried barred → TurnsTo orders k x y → k < length carried
+turning_within orders T carried barred k x y b t = omega (arith, slice_get-lt orders k (x, y) t, b.carried_many)

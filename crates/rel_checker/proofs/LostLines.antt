@@ -1,0 +1,45 @@
+-- What the rule on lost walks asks of a line, as code finds it.
+use Rattle.std.proofs.Common.{◌≡◌, ◌↔◌, ℕ, ◌+◌, ◌<◌, List, [], ◌∷◌, ◌++◌, length, take, get_or, Some, slice_get, sym, ap, ap₂, ◌∙◌, subst, arith}
+use Rattle.std.proofs.lemmas.List.{take-map, length-take-le}
+use Rattle.std.proofs.lemmas.Option.{slice_get-get_or}
+use Rattle.tor_arena.specs.declared.walk.Walk.{Walk}
+use Rattle.tor_arena.specs.Evidence.{Refutes}
+use Rattle.tor_arena.specs.Checking.{kept_of}
+use Rattle.result_text.specs.declared.file.Fate.TheVariants.{Lost}
+use Rattle.result_text.specs.declared.file.PathLine.{PathLine}
+use Rattle.result_text.specs.declared.file.ResultFile.{ResultFile}
+use Rattle.rel_checker.specs.File.{kept_before, walk_of}
+use Rattle.rel_checker.specs.Naming.{nameable}
+use Rattle.rel_checker.specs.Rules.{LostRefuted, Asks}
+
+-- the line is kept, or its walk refutes over the paths of the kept lines before it and its own
+abbrev pub IsRight : List PathLine → PathLine → Type 0
+IsRight before line = (walk : Walk) → line.fate ≡ Lost walk → Refutes (nameable before (Some line)) walk
+
+named_before : (file : ResultFile) (k : ℕ) (line : PathLine) → k < length file.paths →
+    nameable (take k file.paths) (Some line) ≡ kept_before file k ++ (k + 1, line.path) ∷ []
+named_before file k line within =
+    let n : length (take k file.paths) ≡ k = length-take-le k file.paths (omega arith) in
+    ap₂ (λ A i. A ++ (i + 1, line.path) ∷ [])
+    (ap₂ kept_of (sym (take-map (λ (p : PathLine). p.path) k file.paths)) (sym (take-map (λ (p : PathLine). walk_of p.fate) k file.paths))) n
+
+-- the lines are those of the file
+pub asks_lost : (file : ResultFile) (lines : List PathLine) (k : ℕ) (line : PathLine) → lines ≡ file.paths → k < length lines → line ≡ get_or lines k line →
+    (k < length file.paths) × (IsRight (take k lines) line ↔ Asks file LostRefuted k)
+asks_lost file lines k line same within is =
+    let r = go (rw same at within) (rw same at is) in
+    (rw same at within, (λ h. r.0 (rw same at h), λ asks. rw same (r.1 asks)))
+  where
+    some : {a b : PathLine} → Some a ≡ Some b → a ≡ b
+    some e = cc
+
+    go : k < length file.paths → line ≡ get_or file.paths k line → IsRight (take k file.paths) line ↔ Asks file LostRefuted k
+    go within is =
+        let at : slice_get file.paths k ≡ Some line = slice_get-get_or file.paths k line within ∙ ap (λ p. Some p) (sym is) in
+        let named = named_before file k line within in (
+          λ right other at' walk lost.
+              let e : line ≡ other = some (sym at ∙ at') in
+              let l : line.fate ≡ Lost walk = ap (λ (p : PathLine). p.fate) e ∙ lost in
+              subst (λ (p : PathLine). Refutes (kept_before file k ++ (k + 1, p.path) ∷ []) walk) e (subst (λ A. Refutes A walk) named (right walk l)),
+          λ asks walk lost. subst (λ A. Refutes A walk) (sym named) (asks line at walk lost),
+        )

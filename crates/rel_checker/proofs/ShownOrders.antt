@@ -1,0 +1,83 @@
+-- The order that a walk shows, as code finds it.
+use Rattle.std.proofs.Common.{◌≡◌, ◌↔◌, ℕ, zero, suc, ◌+◌, ◌<◌, List, [], ◌∷◌, ◌++◌, get_or, length, take, Some, slice_get, refl, sym, ap, ◌∙◌, subst, arith}
+use Rattle.std.proofs.lemmas.Grind.{flat_map-append}
+use Rattle.std.proofs.lemmas.List.{take_more}
+use Rattle.std.proofs.lemmas.Option.{slice_get-get_or}
+use Rattle.tor_arena.specs.declared.walk.Walk.{Walk}
+use Rattle.tor_arena.specs.Evidence.{Numbered, EndsWith, Shows}
+use Rattle.result_text.specs.declared.file.PathLine.{PathLine}
+use Rattle.result_text.specs.declared.file.ResultFile.{ResultFile}
+use Rattle.rel_checker.specs.File.{last_two, orders_of}
+use Rattle.rel_checker.specs.Naming.{kept_among}
+use Rattle.rel_checker.specs.Rules.{OrdersShown, Asks}
+use Rattle.rel_checker.proofs.WalkLaws.{last_two-from_ends}
+
+-- fewer than two
+pub last_two-few : (ases : List ℕ) → length ases < 2 → last_two ases ≡ []
+last_two-few [] lt = refl
+last_two-few (a ∷ []) lt = refl
+last_two-few (a ∷ b ∷ ases) lt = absurd (omega arith)
+
+pub last_two-at : (ases : List ℕ) (k : ℕ) → length ases ≡ k + 2 → last_two ases ≡ (get_or ases k 0, get_or ases (k + 1) 0) ∷ []
+last_two-at [] k e = absurd (omega arith)
+last_two-at (a ∷ []) k e = absurd (omega arith)
+last_two-at (a ∷ b ∷ []) k e = let n : k ≡ 0 = omega arith in rw n refl
+last_two-at (a ∷ b ∷ c ∷ ases) zero e = absurd (omega arith)
+last_two-at (a ∷ b ∷ c ∷ ases) (suc k) e =
+    let n : suc k + 1 ≡ suc (k + 1) = omega arith in
+    rw n (last_two-at (b ∷ c ∷ ases) k (omega arith))
+
+pub ends-from_last_two : (ases : List ℕ) (a b : ℕ) → last_two ases ≡ (a, b) ∷ [] → EndsWith ases a b
+ends-from_last_two [] a b e = absurd cc
+ends-from_last_two (c ∷ []) a b e = absurd cc
+ends-from_last_two (c ∷ d ∷ []) a b e = ([], two (ap (λ l. get_or l 0 (0, 0)) e))
+  where
+    two : ◌≡◌ {A = ℕ × ℕ} (c, d) (a, b) → c ∷ d ∷ [] ≡ a ∷ b ∷ []
+    two e = let f = ap (λ (p : ℕ × ℕ). p.0) e in let g = ap (λ (p : ℕ × ℕ). p.1) e in cc
+ends-from_last_two (c ∷ d ∷ f ∷ ases) a b e =
+    let r = ends-from_last_two (d ∷ f ∷ ases) a b e in
+    (c ∷ r.0, ap (λ (l : List ℕ). c ∷ l) r.1)
+
+-- what a walk shows is the order of its last two
+pub shows_last : (A : Numbered) (shown : List (ℕ × ℕ)) (w : Walk) (over under a b : ℕ) → last_two w.ases ≡ (over, under) ∷ [] → Shows A shown w a b → Shows A shown w over under
+shows_last A shown w over under a b e s =
+    let same = ap (λ l. get_or l 0 (0, 0)) (sym (last_two-from_ends w.ases a b s.ends) ∙ e) in
+    subst (λ (p : ℕ × ℕ). Shows A shown w p.0 p.1) same s
+
+pub shows_none : (A : Numbered) (shown : List (ℕ × ℕ)) (w : Walk) (a b : ℕ) → last_two w.ases ≡ [] → Shows A shown w a b → ⊥
+shows_none A shown w a b e s =
+    let n = ap length (sym (last_two-from_ends w.ases a b s.ends) ∙ e) in
+    absurd (omega arith)
+
+-- ---- the why lines that a loop has passed, and the next. The lines are those of the file, and the orders are those that the
+-- lines before the next show
+
+module _ (file : ResultFile) (whys : List Walk) (k : ℕ) (walk : Walk) (same : whys ≡ file.whys) (within : k < length whys) (is : walk ≡ get_or whys k walk) where
+  in_file : k < length file.whys
+  in_file = rw same at within
+
+  is_it : walk ≡ get_or file.whys k walk
+  is_it = rw same at is
+
+  pub orders_more : (shown shown' : List (ℕ × ℕ)) (a b : ℕ) → shown ≡ orders_of (take k file.whys) → shown' ≡ shown ++ (a, b) ∷ [] → EndsWith walk.ases a b →
+      shown' ≡ orders_of (take (k + 1) file.whys)
+  orders_more shown shown' a b before more ends =
+      let orders = orders_of (take k file.whys) in
+      let e = last_two-from_ends walk.ases a b ends in
+      more ∙ ap (λ l. l ++ (a, b) ∷ []) before ∙ sym (ap orders_of (take_more file.whys k walk in_file) ∙
+      flat_map-append (λ (w : Walk). last_two w.ases) (take k file.whys) (get_or file.whys k walk ∷ []) ∙
+      ap (λ (w : Walk). orders ++ (last_two w.ases ++ [])) (sym is_it) ∙ ap (λ l. orders ++ (l ++ [])) e)
+
+  pub asks_shown : (lines : List PathLine) (shown : List (ℕ × ℕ)) → lines ≡ file.paths → shown ≡ orders_of (take k file.whys) →
+      (k < length file.whys) × (((a b : ℕ) × Shows (kept_among lines) shown walk a b) ↔ Asks file OrdersShown k)
+  asks_shown lines shown paths before =
+      let at : slice_get file.whys k ≡ Some walk = slice_get-get_or file.whys k walk in_file ∙ ap (λ w. Some w) (sym is_it) in (
+        in_file,
+        (
+          λ h other at'. subst (λ (w : Walk). (a b : ℕ) × Shows (kept_among file.paths) (orders_of (take k file.whys)) w a b) (some (sym at ∙ at')) (rw (paths, before) at h),
+          λ asks. rw (paths, before) (asks walk at),
+        ),
+      )
+    where
+      some : {a b : Walk} → Some a ≡ Some b → a ≡ b
+      some e = cc

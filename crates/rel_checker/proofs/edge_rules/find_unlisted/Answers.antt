@@ -1,0 +1,9 @@
+use Rattle.std.proofs.Common.{rules, sym, ◌∙◌}
+use Rattle.rel_checker.specs.Rules.{Rule, IsMet}
+use Rattle.rel_checker.proofs.Listing.{listed}
+use Rattle.rel_checker.proofs.edge_rules.find_unlisted.Goals as goal
+
+pub returns-clause-listed : goal.returns-clause-listed
+returns-clause-listed c =
+    let met : IsMet c.args.file.now Rule.EdgesListed = search rules in
+    listed c.args.file.now met ∙ sym c.requires

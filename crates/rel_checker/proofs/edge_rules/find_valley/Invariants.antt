@@ -1,0 +1,6 @@
+use Rattle.std.proofs.Common.{ℕ, ◌<◌}
+use Rattle.rel_checker.specs.Rules.{Rule, Asks}
+use Rattle.rel_checker.proofs.edge_rules.find_valley.Given as goal
+
+abbrev pub invariant-loop-place : goal.invariant-loop-place
+invariant-loop-place l = (j : ℕ) → j < l.place → Asks l.file Rule.KeptValleyFree j

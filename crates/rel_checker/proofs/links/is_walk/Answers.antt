@@ -1,0 +1,50 @@
+use Rattle.std.proofs.Common.{◌≡◌, ◌<◌, length, get_or, refl, ap, arith}
+use Rattle.std.proofs.lemmas.Bool.{false≢true, both_ways}
+use Rattle.std.proofs.lemmas.List.{get_or_default}
+use Rattle.std.specs.Option.{option_copied}
+use Rattle.tor_arena.specs.declared.walk.Link.{Link}
+use Rattle.tor_arena.proofs.Places.{IsLinked-from_index, index-from_IsLinked}
+use Rattle.rel_checker.specs.Naming.{nameable}
+use Rattle.rel_checker.proofs.Linking.{links_more}
+use Rattle.rel_checker.proofs.links.is_walk.Goals as goal
+
+abbrev no_link : Link
+no_link = record { path = 0; at = 0 }
+
+pub returns-then-ases-links : goal.returns-then-ases-links
+returns-then-ases-links c = (
+  λ t. absurd (false≢true t),
+  λ f.
+      let w = c.args.walk.now in
+      let n = (index-from_IsLinked (nameable c.args.lines.now (option_copied c.args.next)) w.ases w.links f).0 in
+      let a : length c.as_slice-ases.result.now ≡ length w.ases = ap length c.as_slice-ases.ensures in
+      let l : length c.as_slice-links.result.now ≡ length w.links = ap length c.as_slice-links.ensures in
+      absurd (omega arith),
+)
+
+pub returns-then-not-link_fits : goal.returns-then-not-link_fits
+returns-then-not-link_fits c = (
+  λ t. absurd (false≢true t),
+  λ f.
+      let w = c.args.walk.now in
+      let l : length c.as_slice-links.result.now ≡ length w.links = ap length c.as_slice-links.ensures in
+      let fits = (index-from_IsLinked (nameable c.args.lines.now (option_copied c.args.next)) w.ases w.links f).1 c.loop-i.i no_link (omega arith) in
+      absurd (both_ways c.link_fits.result c.if-not-link_fits.true (c.link_fits.ensures.1 (rw (c.as_slice-ases.ensures, c.as_slice-links.ensures) fits))),
+)
+
+pub loop-i-preserved : goal.loop-i-preserved
+loop-i-preserved c =
+    let links = c.as_slice-links.result.now in
+    let within : c.loop-i.i < length links = omega arith in
+    links_more (nameable c.args.lines.now (option_copied c.args.next)) c.as_slice-ases.result.now links c.loop-i.i (get_or links c.loop-i.i no_link) c.loop-i.invariant within
+    (get_or_default links c.loop-i.i no_link (get_or links c.loop-i.i no_link) within) (c.link_fits.ensures.0 c.if-not-link_fits.false)
+
+pub returns : goal.returns
+returns c = (
+  λ t.
+      let w = c.args.walk.now in
+      let h = IsLinked-from_index (nameable c.args.lines.now (option_copied c.args.next)) c.as_slice-ases.result.now c.as_slice-links.result.now (omega arith)
+      (λ k d lt. c.loop-i.invariant k d (omega arith)) in
+      rw (c.as_slice-ases.ensures, c.as_slice-links.ensures) at h,
+  λ f. refl,
+)

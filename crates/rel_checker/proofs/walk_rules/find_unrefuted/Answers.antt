@@ -1,0 +1,19 @@
+use Rattle.std.proofs.lemmas.Bool.{both_ways}
+use Rattle.rel_checker.specs.Rules.{LostRefuted}
+use Rattle.rel_checker.proofs.LostLines.{asks_lost}
+use Rattle.rel_checker.proofs.Passing.{asks_more}
+use Rattle.rel_checker.proofs.walk_rules.find_unrefuted.Goals as goal
+
+pub returns-then-not-is_lost_rightly : goal.returns-then-not-is_lost_rightly
+returns-then-not-is_lost_rightly c =
+    let k = asks_lost c.args.file.now c.as_slice-lines.result.now c.loop-place.place c.index-lines-place.result c.as_slice-lines.ensures c.loop-place-test.true c.index-lines-place.is in
+    record {
+      within = k.0;
+      breach = λ asks. both_ways c.is_lost_rightly.result c.if-not-is_lost_rightly.true (c.is_lost_rightly.ensures.1 (k.1.1 asks));
+      before = c.loop-place.invariant;
+    }
+
+pub loop-place-preserved : goal.loop-place-preserved
+loop-place-preserved c =
+    let k = asks_lost c.args.file.now c.as_slice-lines.result.now c.loop-place.place c.index-lines-place.result c.as_slice-lines.ensures c.loop-place-test.true c.index-lines-place.is in
+    asks_more c.args.file.now LostRefuted c.loop-place.place c.loop-place.invariant (k.1.0 (c.is_lost_rightly.ensures.0 c.if-not-is_lost_rightly.false))

@@ -1,0 +1,85 @@
+-- What a result says, as lists that the definitions of relationships speak of.
+use Rattle.std.specs.Prelude.{ℕ, ◌+◌, Bool, true, false, List, [], ◌∷◌, length, map, flat_map, take, Option, Some, None}
+use Rattle.tor_arena.specs.declared.walk.Walk.{Walk}
+use Rattle.tor_arena.specs.Relationship.{Labelling}
+use Rattle.tor_arena.specs.Graph.{Edge}
+use Rattle.tor_arena.specs.Evidence.{Numbered}
+use Rattle.tor_arena.specs.Checking.{Claim, kept_of, claimed_labels}
+use Rattle.result_text.specs.declared.file.Fate.{Fate}
+use Rattle.result_text.specs.declared.file.Fate.TheVariants.{Kept, Lost}
+use Rattle.result_text.specs.declared.file.EdgeMark.{EdgeMark}
+use Rattle.result_text.specs.declared.file.EdgeMark.TheVariants.{Forced, Loose}
+use Rattle.result_text.specs.declared.file.EdgeLine.{EdgeLine}
+use Rattle.result_text.specs.declared.file.ResultFile.{ResultFile}
+
+-- ---- paths
+
+abbrev pub its_paths : ResultFile → List (List ℕ)
+its_paths file = map (λ p. p.path) file.paths
+
+-- the walk that refutes a path; a kept path has none
+abbrev pub walk_of : Fate → Option Walk
+walk_of Kept = None
+walk_of (Lost walk) = Some walk
+
+abbrev pub its_walks : ResultFile → List (Option Walk)
+its_walks file = map (λ p. walk_of p.fate) file.paths
+
+-- the kept paths among the first k, each with its number
+abbrev pub kept_before : ResultFile → ℕ → Numbered
+kept_before file k = kept_of (take k (its_paths file)) (take k (its_walks file))
+
+-- all kept paths, each with its number
+abbrev pub its_kept : ResultFile → Numbered
+its_kept file = kept_of (its_paths file) (its_walks file)
+
+-- ---- edges
+
+abbrev pub is_forced : EdgeMark → Bool
+is_forced Forced = true
+is_forced Loose = false
+
+abbrev pub claim_of : EdgeLine → Claim
+claim_of e = record { low = e.low; high = e.high; label = e.label; forced = is_forced e.mark }
+
+abbrev pub its_claims : ResultFile → List Claim
+its_claims file = map claim_of file.edges
+
+abbrev pub its_edges : ResultFile → List Edge
+its_edges file = map (λ e. (e.low, e.high)) file.edges
+
+abbrev pub its_labels : ResultFile → Labelling
+its_labels file = claimed_labels (its_claims file)
+
+-- ---- evidence
+
+-- the order that a walk shows: its last two ASes
+abbrev pub last_two : List ℕ → List (ℕ × ℕ)
+last_two [] = []
+last_two (a ∷ []) = []
+last_two (a ∷ b ∷ []) = (a, b) ∷ []
+last_two (a ∷ b ∷ c ∷ ases) = last_two (b ∷ c ∷ ases)
+
+abbrev pub orders_of : List Walk → List (ℕ × ℕ)
+orders_of whys = flat_map (λ w. last_two w.ases) whys
+
+abbrev pub its_probes : ResultFile → List (ℕ × ℕ)
+its_probes file = map (λ p. (p.over, p.under)) file.probes
+
+-- ---- numbers of lines, from 1. The places are from 0
+
+-- ten lines stand before the paths
+abbrev pub path_line : ℕ → ℕ
+path_line k = 11 + k
+
+abbrev pub edge_line : ResultFile → ℕ → ℕ
+edge_line file k = 11 + length file.paths + k
+
+abbrev pub why_line : ResultFile → ℕ → ℕ
+why_line file k = 11 + length file.paths + length file.edges + k
+
+abbrev pub open_line : ResultFile → ℕ → ℕ
+open_line file k = 11 + length file.paths + length file.edges + length file.whys + k
+
+abbrev pub last_line : ResultFile → ℕ
+last_line file = 11 + length file.paths + length file.edges + length file.whys + length file.probes

@@ -1,0 +1,14 @@
+pub mod Against
+pub mod ComingBack
+pub mod File
+pub mod Naming
+pub mod Neighbours
+pub mod Rules
+pub mod Serving
+pub mod Showing
+pub mod Spreading
+pub mod Steps
+pub mod Tables
+pub mod Turning
+pub mod Valid
+pub mod Verdict

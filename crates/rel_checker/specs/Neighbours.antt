@@ -1,0 +1,19 @@
+-- For each edge a row of other edges, and what is reached from an edge along the rows.
+use Rattle.std.specs.Prelude.{◌≡◌, ℕ, ◌<◌, List, [], ◌∷◌, ◌++◌, length, Some, Contains, slice_get, slice_set, slice_index_or}
+
+-- j stands in the row of i
+abbrev pub HasNext : List (List ℕ) → ℕ → ℕ → Type 0
+HasNext rows i j = (row : List ℕ) × (slice_get rows i ≡ Some row) × Contains row j
+
+-- what stands in a row has a row
+abbrev pub IsInside : List (List ℕ) → Type 0
+IsInside rows = (i j : ℕ) → HasNext rows i j → j < length rows
+
+-- the rows with j behind the others in the row of i
+abbrev pub with_next : List (List ℕ) → ℕ → ℕ → List (List ℕ)
+with_next rows i j = slice_set rows i (slice_index_or rows i [] ++ j ∷ [])
+
+-- what is reached from start along the rows
+pub data Leads (rows : List (List ℕ)) (start : ℕ) : ℕ → Type 0 where
+  here : Leads rows start start
+  onward : {i j : ℕ} → Leads rows start i → HasNext rows i j → Leads rows start j

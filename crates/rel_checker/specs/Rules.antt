@@ -1,0 +1,159 @@
+-- The rules that a result has to meet. Each asks something of some of its lines, one by one.
+use Rattle.std.specs.Prelude.{◌≡◌, ℕ, ◌+◌, ◌-◌, ◌<◌, ◌≤◌, ◌^◌, Bool, true, IsTrue, [], ◌∷◌, ◌++◌, length, max, take, Some, Contains, slice_get, sum_by, count_by, nat_lt, not, if◌then◌else◌}
+use Rattle.tor_arena.specs.declared.walk.Label.{Label}
+use Rattle.tor_arena.specs.declared.walk.Label.TheVariants as label
+use Rattle.tor_arena.specs.declared.walk.Walk.{Walk}
+use Rattle.tor_arena.specs.Relationship.{ValleyFree}
+use Rattle.tor_arena.specs.Graph.{edges, support}
+use Rattle.tor_arena.specs.Evidence.{paths_of, Refutes, Shows}
+use Rattle.tor_arena.specs.Checking.{Claim, IsBorneOut, IsProbe}
+use Rattle.path_clean.specs.Paths.{is_cleaned}
+use Rattle.result_text.specs.declared.file.Fate.{Fate}
+use Rattle.result_text.specs.declared.file.Fate.TheVariants.{Kept, Lost}
+use Rattle.result_text.specs.declared.file.PathLine.{PathLine}
+use Rattle.result_text.specs.declared.file.EdgeLine.{EdgeLine}
+use Rattle.result_text.specs.declared.file.Totals.{Totals}
+use Rattle.result_text.specs.declared.file.ResultFile.{ResultFile}
+use Rattle.rel_checker.specs.File.{its_paths, kept_before, its_kept, is_forced, its_claims, its_edges, its_labels, orders_of, its_probes, path_line, edge_line, why_line, open_line, last_line}
+
+-- the rules about the file alone, in the order in which they are tried
+pub data Rule : Type 0 where
+  RatioBounded PathsCleaned PathsDistinct LostRefuted EdgesListed KeptValleyFree SupportCounted OrdersShown MarksBorneOut TotalsRight : Rule
+
+-- the number that a verdict names
+abbrev pub number_of : Rule → ℕ
+number_of RatioBounded = 1
+number_of PathsCleaned = 2
+number_of PathsDistinct = 3
+number_of LostRefuted = 4
+number_of EdgesListed = 5
+number_of KeptValleyFree = 6
+number_of SupportCounted = 7
+number_of OrdersShown = 8
+number_of MarksBorneOut = 9
+number_of TotalsRight = 10
+
+-- ---- what the rules ask
+
+-- a path line: its path is clean, it was seen, and with it there are at most 2 ^ 23 paths, of at most 2 ^ 26 numbers in sum
+pub record IsSound (file : ResultFile) (k : ℕ) (line : PathLine) : Type 0 where
+  pub cleaned : IsTrue (is_cleaned line.path)
+  pub seen : 1 ≤ line.times
+  pub few : k < 2 ^ 23
+  pub numbers : sum_by length (take (k + 1) (its_paths file)) ≤ 2 ^ 26
+
+-- no earlier path is the same
+abbrev pub IsNew : ResultFile → ℕ → PathLine → Type 0
+IsNew file k line = Contains (take k (its_paths file)) line.path → ⊥
+
+-- a lost path's walk refutes over the paths kept before it and its own, whose number is its place from 1
+abbrev pub IsLostRightly : ResultFile → ℕ → PathLine → Type 0
+IsLostRightly file k line =
+    (walk : Walk) → line.fate ≡ Lost walk → Refutes (kept_before file k ++ (k + 1, line.path) ∷ []) walk
+
+-- a kept path is valley-free under the labels
+abbrev pub IsServed : ResultFile → PathLine → Type 0
+IsServed file line = line.fate ≡ Kept → ValleyFree (its_labels file) line.path
+
+-- the support is the number of kept paths that hold the edge
+abbrev pub IsCounted : ResultFile → EdgeLine → Type 0
+IsCounted file line = line.support ≡ support (paths_of (its_kept file)) (line.low, line.high)
+
+-- a why line shows an order over the kept paths, from the orders that the lines before it show
+abbrev pub IsShown : ResultFile → ℕ → Walk → Type 0
+IsShown file k walk = (a b : ℕ) × Shows (its_kept file) (orders_of (take k file.whys)) walk a b
+
+-- the mark of an edge line is borne out by the why lines and the open lines
+abbrev pub IsMarkedRightly : ResultFile → Claim → Type 0
+IsMarkedRightly file claim = IsBorneOut (paths_of (its_kept file)) (orders_of file.whys) (its_probes file) claim
+
+-- an open line serves for an edge for which no earlier one serves
+abbrev pub IsServing : ResultFile → ℕ → ℕ × ℕ → Type 0
+IsServing file k probe = IsProbe (paths_of (its_kept file)) (its_claims file) (take k (its_probes file)) probe
+
+abbrev pub is_kept : Fate → Bool
+is_kept Kept = true
+is_kept (Lost walk) = not true
+
+abbrev pub is_peer : Label → Bool
+is_peer label.Low = not true
+is_peer label.High = not true
+is_peer label.Peer = true
+
+-- what the last line has to say
+abbrev pub right_totals : ResultFile → Totals
+right_totals file = record {
+  kept = count_by (λ p. is_kept p.fate) file.paths;
+  lost = count_by (λ p. not (is_kept p.fate)) file.paths;
+  edges = length file.edges;
+  forced = count_by (λ e. is_forced e.mark) file.edges;
+  peers = count_by (λ e. is_peer e.label) file.edges;
+}
+
+-- ---- the rules, line by line
+
+-- of how many lines a rule asks something
+abbrev pub count_for : ResultFile → Rule → ℕ
+count_for file RatioBounded = 1
+count_for file PathsCleaned = length file.paths
+count_for file PathsDistinct = length file.paths
+count_for file LostRefuted = length file.paths
+count_for file EdgesListed = max (length file.edges) (length (edges (its_paths file)))
+count_for file KeptValleyFree = length file.paths
+count_for file SupportCounted = length file.edges
+count_for file OrdersShown = length file.whys
+count_for file MarksBorneOut = length file.edges + length file.probes
+count_for file TotalsRight = 1
+
+-- what it asks of the line in place k of these. An edge that is absent counts as a line behind the others
+abbrev pub Asks : ResultFile → Rule → ℕ → Type 0
+Asks file RatioBounded k = file.ratio ≤ 1000000
+Asks file PathsCleaned k = (line : PathLine) → slice_get file.paths k ≡ Some line → IsSound file k line
+Asks file PathsDistinct k = (line : PathLine) → slice_get file.paths k ≡ Some line → IsNew file k line
+Asks file LostRefuted k = (line : PathLine) → slice_get file.paths k ≡ Some line → IsLostRightly file k line
+Asks file EdgesListed k = slice_get (its_edges file) k ≡ slice_get (edges (its_paths file)) k
+Asks file KeptValleyFree k = (line : PathLine) → slice_get file.paths k ≡ Some line → IsServed file line
+Asks file SupportCounted k = (line : EdgeLine) → slice_get file.edges k ≡ Some line → IsCounted file line
+Asks file OrdersShown k = (walk : Walk) → slice_get file.whys k ≡ Some walk → IsShown file k walk
+Asks file MarksBorneOut k =
+    ((claim : Claim) → slice_get (its_claims file) k ≡ Some claim → IsMarkedRightly file claim) ×
+    ((probe : ℕ × ℕ) → length file.edges ≤ k → slice_get (its_probes file) (k - length file.edges) ≡ Some probe → IsServing file (k - length file.edges) probe)
+Asks file TotalsRight k = file.totals ≡ right_totals file
+
+-- the number of that line in the file
+abbrev pub line_for : ResultFile → Rule → ℕ → ℕ
+line_for file RatioBounded k = 3
+line_for file PathsCleaned k = path_line k
+line_for file PathsDistinct k = path_line k
+line_for file LostRefuted k = path_line k
+line_for file EdgesListed k = edge_line file k
+line_for file KeptValleyFree k = path_line k
+line_for file SupportCounted k = edge_line file k
+line_for file OrdersShown k = why_line file k
+line_for file MarksBorneOut k = if nat_lt k (length file.edges) then edge_line file k else open_line file (k - length file.edges)
+line_for file TotalsRight k = last_line file
+
+-- ---- verdicts
+
+-- each line meets the rule
+abbrev pub IsMet : ResultFile → Rule → Type 0
+IsMet file rule = (k : ℕ) → k < count_for file rule → Asks file rule k
+
+-- all rules are met
+abbrev pub Accepts : ResultFile → Type 0
+Accepts file = (rule : Rule) → IsMet file rule
+
+-- the line in place k is the first that breaks the rule
+pub record BreaksFirst (file : ResultFile) (rule : Rule) (k : ℕ) : Type 0 where
+  pub within : k < count_for file rule
+  pub breach : Asks file rule k → ⊥
+  pub before : (j : ℕ) → j < k → Asks file rule j
+
+-- the line and the number are those of the least rule that is broken
+pub record IsRefused (file : ResultFile) (line number : ℕ) : Type 0 where
+  pub rule : Rule
+  pub named : number ≡ number_of rule
+  pub place : ℕ
+  pub numbered : line ≡ line_for file rule place
+  pub first : BreaksFirst file rule place
+  pub earlier : (other : Rule) → number_of other < number_of rule → IsMet file other

@@ -1,0 +1,41 @@
+-- The edges that a table holds, in the order in which they were added, and counts for them.
+use Rattle.std.specs.Prelude.{◌≡◌, ℕ, ◌+◌, ◌<◌, Bool, true, false, List, [], ◌∷◌, ◌++◌, length, map, filter, slice_index, slice_index_or, if◌then◌else◌}
+use Rattle.std.specs.List.{list_any}
+use Rattle.tor_arena.specs.Relationship.{Labelling}
+use Rattle.tor_arena.specs.Graph.{Edge, is_same, labelling}
+use Rattle.path_clean.specs.declared.table.Added.{Added}
+use Rattle.path_clean.specs.declared.table.Added.TheVariants.{Known, New}
+use Rattle.result_text.specs.declared.file.EdgeLine.{EdgeLine}
+use Rattle.result_text.specs.declared.file.PathLine.{PathLine}
+use Rattle.rel_checker.specs.Rules.{is_kept}
+
+-- a new edge goes last, and one that is there is not added again
+abbrev pub with_edge : List Edge → Edge → List Edge
+with_edge es e = if list_any (is_same e) es then es else es ++ e ∷ []
+
+-- the edge in a place
+abbrev pub edge_at : List Edge → ℕ → Edge
+edge_at es k = slice_index_or es k (0, 0)
+
+-- each edge has a count, which has gone up by this
+abbrev pub HaveRisen : List Edge → (Edge → ℕ) → List ℕ → List ℕ → Type 0
+HaveRisen es more old new =
+    (length new ≡ length old) × ((k : ℕ) → k < length es → slice_index new k ≡ slice_index old k + more (edge_at es k))
+
+-- each edge has a count, which is this
+abbrev pub AreCounts : List Edge → (Edge → ℕ) → List ℕ → Type 0
+AreCounts es many counts =
+    (length counts ≡ length es) × ((k : ℕ) → k < length es → slice_index counts k ≡ many (edge_at es k))
+
+-- the kept paths of the lines
+abbrev pub kept_in : List PathLine → List (List ℕ)
+kept_in lines = map (λ p. p.path) (filter (λ p. is_kept p.fate) lines)
+
+-- the path was not there before
+abbrev pub is_new : Added → Bool
+is_new (Known id) = false
+is_new (New id) = true
+
+-- the labelling that edge lines give
+abbrev pub labels_in : List EdgeLine → Labelling
+labels_in lines = labelling (map (λ e. (e.low, e.high)) lines) (map (λ e. e.label) lines)

@@ -1,0 +1,16 @@
+-- What the checker's answer means.
+use Rattle.std.specs.Prelude.{ℕ, Option, Some, None}
+use Rattle.rel_checker.specs.declared.answer.Answer.{Answer}
+use Rattle.rel_checker.specs.declared.answer.Answer.TheVariants.{Yes, No}
+use Rattle.result_text.specs.declared.file.ResultFile.{ResultFile}
+use Rattle.rel_checker.specs.Rules.{Rule, IsMet, Accepts, BreaksFirst, IsRefused}
+
+-- yes exactly if all rules are met, else the least rule that is broken and its first line
+abbrev pub Judges : ResultFile → Answer → Type 0
+Judges file Yes = Accepts file
+Judges file (No line rule) = IsRefused file line rule
+
+-- the place of the first line that breaks the rule, or none where it is met
+abbrev pub Finds : ResultFile → Rule → Option ℕ → Type 0
+Finds file rule None = IsMet file rule
+Finds file rule (Some k) = BreaksFirst file rule k

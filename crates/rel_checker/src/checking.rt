@@ -1,0 +1,126 @@
+ghost use Rattle.std.specs.Prelude.{◌≡◌, ◌+◌, ◌≤◌, ◌^◌, length, Some, IfOk};
+ghost use Rattle.tor_arena.specs.Graph.{edges};
+ghost use Rattle.rel_checker.specs.File.{its_paths, its_edges};
+ghost use Rattle.rel_checker.specs.Rules.{Rule, PathsCleaned, PathsDistinct, LostRefuted, EdgesListed, KeptValleyFree, SupportCounted, OrdersShown, MarksBorneOut, TotalsRight};
+ghost use Rattle.rel_checker.specs.Steps.{MetUpTo, Settles};
+ghost use Rattle.rel_checker.specs.Valid.{Valid};
+ghost use Rattle.rel_checker.specs.Verdict.{Judges};
+
+use crate::answer::Answer;
+use crate::edge_rules::{find_miscounted, find_unlisted, find_valley, list_edges};
+use crate::edge_table::EdgeTable;
+use crate::line_numbers::{edge_line, last_line, mark_line, path_line, why_line};
+use crate::mark_rules::find_unmarked;
+use crate::path_rules::{find_repeated, find_unclean};
+use crate::totals::right_totals;
+use crate::walk_rules::{find_unrefuted, find_unshown};
+use result_text::ResultFile;
+use std::alloc::Global;
+use tor_arena::NoMemory;
+
+/// The most that the ratio of degrees of a peering may be.
+const MAX_RATIO: u32 = 1_000_000;
+
+/// Whether the file meets the rules on a result alone: the ratio, clean and distinct paths, walks that refute each lost path, the
+/// edges, valley-free kept paths, supports, why lines, marks and totals. Yes exactly if all are met, and the file is then valid. No
+/// names the least rule that is broken, 1 to 10, and its first line, from 1. The file may have at most 2^40 lines besides its first
+/// ten and its last. NoMemory where memory ran out.
+pub fn check_file(alloc: Global, file: &ResultFile) -> Result<Answer, NoMemory>
+    requires lines { length file.now.paths + length file.now.edges + length file.now.whys + length file.now.probes ≤ 2 ^ 40 }
+    ensures verdict { IfOk result (Judges file.now) }
+    ensures valid { result ≡ Ok Answer.Yes → Valid file.now }
+{
+    if let Some(answer) = check_paths(alloc, file)? {
+        return Ok(answer);
+    }
+    let table = list_edges(alloc, file)?;
+    if let Some(answer) = check_edges(alloc, file, &table)? {
+        return Ok(answer);
+    }
+    if let Some(answer) = check_evidence(alloc, file, &table)? {
+        return Ok(answer);
+    }
+    Ok(check_totals(file))
+}
+
+/// The rules on the head and on the paths.
+fn check_paths(alloc: Global, file: &ResultFile) -> Result<Option<Answer>, NoMemory>
+    requires lines { length file.now.paths + length file.now.edges + length file.now.whys + length file.now.probes ≤ 2 ^ 40 }
+    ensures { IfOk result (Settles file.now 4) }
+{
+    if file.ratio > MAX_RATIO {
+        return Ok(Some(no(3, 1)));
+    }
+    if let Some(place) = find_unclean(alloc, file)? {
+        return Ok(Some(no(path_line(place), 2)));
+    }
+    if let Some(place) = find_repeated(alloc, file)? {
+        return Ok(Some(no(path_line(place), 3)));
+    }
+    match find_unrefuted(file) {
+        Some(place) => Ok(Some(no(path_line(place), 4))),
+        None => Ok(None),
+    }
+}
+
+/// The rules on the edges.
+fn check_edges(
+    alloc: Global,
+    file: &ResultFile,
+    table: &EdgeTable,
+) -> Result<Option<Answer>, NoMemory>
+    requires lines { length file.now.paths + length file.now.edges + length file.now.whys + length file.now.probes ≤ 2 ^ 40 }
+    requires met { MetUpTo file.now 4 }
+    requires table { table.now ≡ edges (its_paths file.now) }
+    ensures { IfOk result (Settles file.now 7) }
+{
+    if let Some(place) = find_unlisted(file, table) {
+        return Ok(Some(no(edge_line(file, place), 5)));
+    }
+    if let Some(place) = find_valley(file, table) {
+        return Ok(Some(no(path_line(place), 6)));
+    }
+    match find_miscounted(alloc, file, table)? {
+        Some(place) => Ok(Some(no(edge_line(file, place), 7))),
+        None => Ok(None),
+    }
+}
+
+/// The rules on why lines, marks and open lines.
+fn check_evidence(
+    alloc: Global,
+    file: &ResultFile,
+    table: &EdgeTable,
+) -> Result<Option<Answer>, NoMemory>
+    requires lines { length file.now.paths + length file.now.edges + length file.now.whys + length file.now.probes ≤ 2 ^ 40 }
+    requires met { MetUpTo file.now 7 }
+    requires table { table.now ≡ edges (its_paths file.now) }
+    ensures { IfOk result (Settles file.now 9) }
+{
+    if let Some(place) = find_unshown(alloc, file)? {
+        return Ok(Some(no(why_line(file, place), 8)));
+    }
+    match find_unmarked(alloc, file, table)? {
+        Some(place) => Ok(Some(no(mark_line(file, place), 9))),
+        None => Ok(None),
+    }
+}
+
+/// The rule on the last line.
+fn check_totals(file: &ResultFile) -> Answer
+    requires lines { length file.now.paths + length file.now.edges + length file.now.whys + length file.now.probes ≤ 2 ^ 40 }
+    requires met { MetUpTo file.now 9 }
+    ensures { Judges file.now result }
+{
+    if file.totals == right_totals(file) {
+        Answer::Yes
+    } else {
+        no(last_line(file), 10)
+    }
+}
+
+fn no(line: u64, rule: u8) -> Answer
+    ensures { result ≡ Answer.No line rule }
+{
+    Answer::No { line, rule }
+}

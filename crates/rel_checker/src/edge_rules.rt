@@ -1,0 +1,96 @@
+ghost use Rattle.std.specs.Prelude.{◌≡◌, ◌↔◌, fold, map, slice_get, IsTrue, IfOk, IfNone, OnOk};
+ghost use Rattle.tor_arena.specs.Graph.{edges_on, edges};
+ghost use Rattle.rel_checker.specs.File.{its_paths, its_edges};
+ghost use Rattle.rel_checker.specs.Rules.{Rule, IsMet};
+ghost use Rattle.rel_checker.specs.Tables.{with_edge};
+ghost use Rattle.rel_checker.specs.Verdict.{Finds};
+
+use crate::edge_table::EdgeTable;
+use crate::supports::count_kept;
+use crate::valleys::is_served;
+use result_text::{EdgeLine, ResultFile};
+use std::alloc::Global;
+use tor_arena::NoMemory;
+
+/// The edges of the paths, in order of first appearance.
+pub(crate) fn list_edges(alloc: Global, file: &ResultFile) -> Result<EdgeTable, NoMemory>
+    ensures { IfOk result (λ table. table ≡ edges (its_paths file.now)) }
+{
+    let mut table = EdgeTable::new(alloc);
+    for line in file.paths.as_slice() {
+        add_steps(&mut table, line.path.as_slice())?;
+    }
+    Ok(table)
+}
+
+/// Adds the edges along a path.
+fn add_steps(table: &mut EdgeTable, path: &[u32]) -> Result<(), NoMemory>
+    ensures { OnOk result (table.new ≡ fold with_edge table.old (edges_on path.now)) }
+{
+    let mut rest = path;
+    'steps: while let [a, b, ..] = rest {
+        table.add(*a, *b)?;
+        rest = &rest[1..];
+    }
+    Ok(())
+}
+
+/// The first place in which the edge lines and the edges of the paths differ. It takes no memory.
+pub(crate) fn find_unlisted(file: &ResultFile, table: &EdgeTable) -> Option<usize>
+    requires { table.now ≡ edges (its_paths file.now) }
+    ensures found { Finds file.now Rule.EdgesListed result }
+    ensures listed { IfNone result (its_edges file.now ≡ table.now) }
+{
+    let lines = file.edges.as_slice();
+    let count = lines.len().max(table.len());
+    for place in 0..count {
+        if !is_listed(lines, table, place) {
+            return Some(place);
+        }
+    }
+    None
+}
+
+/// Whether the edge line in a place names the edge in that place, or there is neither.
+fn is_listed(lines: &[EdgeLine], table: &EdgeTable, place: usize) -> bool
+    ensures { IsTrue result ↔ (slice_get (map (λ e. (e.low, e.high)) lines.now) place ≡ slice_get table.now place) }
+{
+    match (lines.get(place), table.get(place)) {
+        (Some(line), Some((low, high))) => line.low == low && line.high == high,
+        (None, None) => true,
+        _ => false,
+    }
+}
+
+/// The first edge line whose support is not the number of kept paths that hold the edge.
+pub(crate) fn find_miscounted(
+    alloc: Global,
+    file: &ResultFile,
+    table: &EdgeTable,
+) -> Result<Option<usize>, NoMemory>
+    requires table { table.now ≡ its_edges file.now }
+    requires clean { IsMet file.now Rule.PathsCleaned }
+    ensures { IfOk result (Finds file.now Rule.SupportCounted) }
+{
+    let counts = count_kept(alloc, file, table)?;
+    for (place, line) in file.edges.as_slice().iter().enumerate() {
+        if line.support != counts[place] {
+            return Ok(Some(place));
+        }
+    }
+    Ok(None)
+}
+
+/// The first kept path that is not valley-free under the labels. It takes no memory.
+pub(crate) fn find_valley(file: &ResultFile, table: &EdgeTable) -> Option<usize>
+    requires { table.now ≡ its_edges file.now }
+    ensures { Finds file.now Rule.KeptValleyFree result }
+{
+    let edges = file.edges.as_slice();
+    for (place, line) in file.paths.as_slice().iter().enumerate() {
+        if !is_served(edges, table, line) {
+            return Some(place);
+        }
+    }
+    None
+}

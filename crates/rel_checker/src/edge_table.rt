@@ -1,0 +1,70 @@
+ghost use Rattle.std.specs.Prelude.{◌≡◌, ◌↔◌, ◌<◌, ℕ, [], Contains, Some, IsTrue, length, slice_get, OnOk, OnErr, MatchOption};
+ghost use Rattle.std.specs.List.{IsDistinct};
+ghost use Rattle.tor_arena.specs.Graph.{edge_of, is_same};
+ghost use Rattle.rel_checker.specs.Tables.{with_edge, edge_at};
+
+use indexmap::IndexSet;
+use std::alloc::Global;
+use std::marker::Model;
+use tor_arena::NoMemory;
+
+/// Edges in the order in which they were added, each once. An edge is found by its two ASes, in either order.
+#[derive(Drop)]
+pub(crate) struct EdgeTable {
+    edges: IndexSet<(u32, u32)>,
+}
+
+impl Model for EdgeTable {
+    ghost use Rattle.std.specs.Prelude.{List};
+    ghost use Rattle.std.specs.List.{IsDistinct};
+    ghost use Rattle.tor_arena.specs.Graph.{Edge, is_same};
+
+    ghost Value = { List Edge };
+
+    ghost view = { λ table. table.edges.keys };
+
+    ghost invariant = { λ table. IsDistinct is_same table.edges.keys };
+}
+
+impl EdgeTable {
+    /// No edges. It takes no memory.
+    pub fn new(alloc: Global) -> EdgeTable
+        ensures { result ≡ [] }
+    {
+        EdgeTable {
+            edges: IndexSet::new(alloc),
+        }
+    }
+
+    /// Adds the edge between two ASes, unless it is there.
+    pub fn add(&mut self, a: u32, b: u32) -> Result<(), NoMemory>
+        ensures ok { OnOk result (self.new ≡ with_edge self.old (edge_of a b)) }
+        ensures err { OnErr result (self.new ≡ self.old) }
+    {
+        self.edges.insert((a.min(b), a.max(b)))?;
+        Ok(())
+    }
+
+    /// How many edges there are. It takes no memory.
+    pub fn len(&self) -> usize
+        ensures length { result ≡ length self.now }
+        ensures once { IsDistinct is_same self.now }
+    {
+        self.edges.len()
+    }
+
+    /// The edge in a place, from 0, if there is one. It takes no memory.
+    pub fn get(&self, place: usize) -> Option<(u32, u32)>
+        ensures { result ≡ slice_get self.now place }
+    {
+        self.edges.get_index(place).copied()
+    }
+
+    /// The place of the edge between two ASes. It takes no memory.
+    pub fn place(&self, a: u32, b: u32) -> Option<usize>
+        ensures found { MatchOption result (Contains self.now (edge_of a b) → ⊥) (λ k. slice_get self.now k ≡ Some (edge_of a b)) }
+        ensures only { (k : ℕ) → k < length self.now → IsTrue (is_same (edge_of a b) (edge_at self.now k)) ↔ (result ≡ Some k) }
+    {
+        self.edges.get_index_of(&(a.min(b), a.max(b)))
+    }
+}

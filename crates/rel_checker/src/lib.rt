@@ -1,0 +1,36 @@
+//! The checker of results: whether a result file, whoever wrote it, meets the rules.
+#![tactic(auto)]
+
+mod against;
+mod answer;
+mod checking;
+mod clean_paths;
+mod consistency;
+mod edge_rules;
+mod edge_table;
+mod laws;
+mod line_numbers;
+mod links;
+mod mark_rules;
+mod neighbours;
+mod orders;
+mod path_rules;
+mod serving;
+mod showing;
+mod shown;
+mod spreading;
+mod supports;
+#[cfg(test)]
+mod tests;
+mod totals;
+mod turning;
+mod turns;
+mod valleys;
+mod walk_rules;
+#[cfg(test)]
+mod walk_tests;
+
+pub use against::check_against;
+pub use answer::Answer;
+pub use checking::check_file;
+pub use laws::acceptance_law;

@@ -1,0 +1,61 @@
+//! The numbers of lines, from 1, of what stands in a place, from 0.
+
+ghost use Rattle.std.specs.Prelude.{◌≡◌, ◌+◌, ◌-◌, ◌<◌, ◌≤◌, ◌^◌, length};
+ghost use Rattle.rel_checker.specs.File as said;
+ghost use Rattle.rel_checker.specs.Rules.{MarksBorneOut, line_for};
+
+use result_text::ResultFile;
+
+/// Ten lines stand before the paths.
+pub(crate) fn path_line(place: usize) -> u64
+    requires { place ≤ 2 ^ 41 }
+    ensures { result ≡ said.path_line place }
+{
+    11 + place as u64
+}
+
+/// Behind the paths stand the edges.
+pub(crate) fn edge_line(file: &ResultFile, place: usize) -> u64
+    requires { length file.now.paths + place ≤ 2 ^ 41 }
+    ensures { result ≡ said.edge_line file.now place }
+{
+    path_line(file.paths.len()) + place as u64
+}
+
+/// Behind the edges stand the why lines.
+pub(crate) fn why_line(file: &ResultFile, place: usize) -> u64
+    requires { length file.now.paths + length file.now.edges + place ≤ 2 ^ 41 }
+    ensures { result ≡ said.why_line file.now place }
+{
+    edge_line(file, file.edges.len()) + place as u64
+}
+
+/// Behind the why lines stand the open lines.
+pub(crate) fn open_line(file: &ResultFile, place: usize) -> u64
+    requires { length file.now.paths + length file.now.edges + length file.now.whys + place ≤ 2 ^ 41 }
+    ensures { result ≡ said.open_line file.now place }
+{
+    why_line(file, file.whys.len()) + place as u64
+}
+
+/// The lines with marks are the edge lines and the open lines.
+pub(crate) fn mark_line(file: &ResultFile, place: usize) -> u64
+    requires lines { length file.now.paths + length file.now.edges + length file.now.whys + length file.now.probes ≤ 2 ^ 40 }
+    requires place { place < length file.now.edges + length file.now.probes }
+    ensures { result ≡ line_for file.now MarksBorneOut place }
+{
+    let edges = file.edges.len();
+    if place < edges {
+        edge_line(file, place)
+    } else {
+        open_line(file, place - edges)
+    }
+}
+
+/// The last line stands behind the open lines.
+pub(crate) fn last_line(file: &ResultFile) -> u64
+    requires { length file.now.paths + length file.now.edges + length file.now.whys + length file.now.probes ≤ 2 ^ 40 }
+    ensures { result ≡ said.last_line file.now }
+{
+    open_line(file, file.probes.len())
+}

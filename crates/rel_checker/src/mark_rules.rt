@@ -1,0 +1,80 @@
+//! The rule on marks: each mark is borne out, and each open line serves for an edge.
+
+ghost use Rattle.std.specs.Prelude.{◌≡◌, ◌+◌, ◌≤◌, ◌^◌, length, IfOk};
+ghost use Rattle.tor_arena.specs.Limits.{most_places};
+ghost use Rattle.rel_checker.specs.File.{its_edges, its_probes, orders_of};
+ghost use Rattle.rel_checker.specs.Rules.{Rule, IsMet};
+ghost use Rattle.rel_checker.specs.Verdict.{Finds};
+ghost use Rattle.rel_checker.specs.Turning.{turned_orders, kept_lines};
+ghost use Rattle.rel_checker.specs.Serving.{IsCovered, IsShownBy, First, MarkedAt, is_borne};
+
+use crate::consistency::find_useless;
+use crate::edge_table::EdgeTable;
+use crate::serving::cover_all;
+use crate::showing::list_shown;
+use crate::turning::Turns;
+use result_text::{EdgeLine, EdgeMark, ResultFile};
+use std::alloc::Global;
+use tor_arena::{Arena, EdgeId, Index, Label, NoMemory};
+
+/// Whether the mark of an edge is borne out, by whether an order of it is shown, and whether an
+/// open line leads to its other order.
+fn is_borne_out(line: &EdgeLine, shown: bool, covered: bool) -> bool
+    ensures { result ≡ is_borne line.now.mark line.now.label shown covered }
+{
+    match (line.mark, line.label) {
+        (EdgeMark::Forced, _) => shown,
+        (EdgeMark::Loose, Label::Peer) => true,
+        (EdgeMark::Loose, _) => covered,
+    }
+}
+
+/// The place of the first edge line whose mark is not borne out.
+fn find_unborne(
+    file: &ResultFile,
+    shown: &Arena<EdgeId, bool>,
+    marks: &Arena<EdgeId, usize>,
+) -> Option<usize>
+    requires few { length file.now.edges ≤ most_places }
+    requires many { length shown.now.items ≡ length file.now.edges }
+    requires marks { length marks.now.items ≡ length file.now.edges }
+    requires shown { IsShownBy file.now.edges (orders_of file.now.whys) shown.now.items }
+    requires covered { IsCovered (kept_lines file.now.paths) (turned_orders file.now.edges) (its_probes file.now) marks.now.items 1 }
+    ensures { First (MarkedAt file.now) (length file.now.edges) result }
+{
+    for (k, line) in file.edges.as_slice().iter().enumerate() {
+        let Some(edge) = EdgeId::from_place(k) else {
+            unreachable!();
+        };
+        let covered = *marks.get(edge) == 1;
+        if !is_borne_out(line, *shown.get(edge), covered) {
+            return Some(k);
+        }
+    }
+    None
+}
+
+/// The place of the first line that breaks the rule on marks: edge lines, and then open lines.
+pub(crate) fn find_unmarked(
+    alloc: Global,
+    file: &ResultFile,
+    table: &EdgeTable,
+) -> Result<Option<usize>, NoMemory>
+    requires lines { length file.now.paths + length file.now.edges + length file.now.whys + length file.now.probes ≤ 2 ^ 40 }
+    requires table { table.now ≡ its_edges file.now }
+    requires cleaned { IsMet file.now Rule.PathsCleaned }
+    requires listed { IsMet file.now Rule.EdgesListed }
+    requires served { IsMet file.now Rule.KeptValleyFree }
+    ensures { IfOk result (Finds file.now Rule.MarksBorneOut) }
+{
+    let turns = Turns::of_file(alloc, file, table)?;
+    let cover = cover_all(alloc, file, table, &turns)?;
+    let shown = list_shown(alloc, file, table)?;
+    if let Some(place) = find_unborne(file, &shown, &cover.marks) {
+        return Ok(Some(place));
+    }
+    match find_useless(alloc, file, table, &turns, cover.idle)? {
+        Some(place) => Ok(Some(file.edges.len() + place)),
+        None => Ok(None),
+    }
+}

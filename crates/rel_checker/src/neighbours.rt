@@ -1,0 +1,54 @@
+ghost use Rattle.std.specs.Prelude.{◌≡◌, ◌<◌, ◌≤◌, [], Some, length, replicate, slice_get, OnOk, IfOk};
+ghost use Rattle.tor_arena.specs.Limits.{most_places};
+ghost use Rattle.rel_checker.specs.Neighbours.{with_next};
+
+use std::alloc::Global;
+use std::marker::Model;
+use tor_arena::{Arena, EdgeId, List, NoMemory};
+
+/// For each edge a row of other edges.
+#[derive(Drop)]
+pub(crate) struct Neighbours {
+    rows: Arena<EdgeId, List<EdgeId>>,
+}
+
+impl Model for Neighbours {
+    ghost use Rattle.std.specs.Prelude.{List, ℕ};
+
+    ghost Value = { List (List ℕ) };
+
+    ghost view = { λ neighbours. neighbours.rows.items };
+}
+
+impl Neighbours {
+    /// Empty rows, one for each of so many edges.
+    pub fn new(alloc: Global, count: usize) -> Result<Neighbours, NoMemory>
+        requires { count ≤ most_places }
+        ensures { IfOk result (λ rows. rows ≡ replicate count []) }
+    {
+        let mut rows = Arena::new(alloc);
+        for _ in 0..count {
+            match rows.push(List::new(alloc)) {
+                Ok(_) => {}
+                Err(_) => return Err(NoMemory),
+            }
+        }
+        Ok(Neighbours { rows })
+    }
+
+    /// Puts an edge behind the others in a row.
+    pub fn add(&mut self, from: EdgeId, to: EdgeId) -> Result<(), NoMemory>
+        requires { from < length self.old }
+        ensures { OnOk result (self.new ≡ with_next self.old from to) }
+    {
+        self.rows.get_mut(from).push(to)
+    }
+
+    /// The row of an edge. It takes no memory.
+    pub fn of(&self, edge: EdgeId) -> &[EdgeId]
+        requires { edge < length self.now }
+        ensures { slice_get self.now edge ≡ Some result.now }
+    {
+        self.rows.get(edge).as_slice()
+    }
+}

@@ -1,0 +1,72 @@
+ghost use Rattle.std.specs.Prelude.{◌≡◌, ◌≤◌, ◌^◌, ℕ, [], ◌∷◌, length, count_by, slice_index, IsTrue, IfOk, if◌then◌else◌};
+ghost use Rattle.tor_arena.specs.Evidence.{paths_of};
+ghost use Rattle.tor_arena.specs.Graph.{edge_of, is_same, edges_on, support};
+ghost use Rattle.path_clean.specs.Paths.{is_distinct};
+ghost use Rattle.rel_checker.specs.File.{its_kept};
+ghost use Rattle.rel_checker.specs.Rules.{Rule, IsMet, is_kept};
+ghost use Rattle.rel_checker.specs.Tables.{HaveRisen, AreCounts, kept_in};
+
+use crate::edge_table::EdgeTable;
+use result_text::{Fate, PathLine, ResultFile};
+use std::alloc::Global;
+use tor_arena::NoMemory;
+
+/// How many kept paths hold each edge of the table.
+pub(crate) fn count_kept(
+    alloc: Global,
+    file: &ResultFile,
+    table: &EdgeTable,
+) -> Result<Vec<u64>, NoMemory>
+    requires { IsMet file.now Rule.PathsCleaned }
+    ensures { IfOk result (λ counts. AreCounts table.now (support (paths_of (its_kept file.now))) counts.items) }
+{
+    let mut counts = vec![in alloc; 0; table.len()]?;
+    for line in file.paths.as_slice() {
+        count_line(table, line, &mut counts);
+    }
+    Ok(counts)
+}
+
+/// Counts a path once at each of its edges, if it is kept.
+fn count_line(table: &EdgeTable, line: &PathLine, counts: &mut Vec<u64>)
+    requires same { length counts.old.items ≡ length table.now }
+    requires distinct { IsTrue (is_distinct line.now.path) }
+    requires short { length line.now.path ≤ 2 ^ 26 }
+    requires few { (k : ℕ) → slice_index counts.old.items k ≤ 2 ^ 23 }
+    ensures { HaveRisen table.now (support (kept_in (line.now ∷ []))) counts.old.items counts.new.items }
+{
+    if is_kept_line(line) {
+        count_steps(table, line.path.as_slice(), counts);
+    }
+}
+
+pub(crate) fn is_kept_line(line: &PathLine) -> bool
+    ensures { result ≡ is_kept line.now.fate }
+{
+    matches!(line.fate, Fate::Kept)
+}
+
+/// Counts each step of a path at its edge.
+fn count_steps(table: &EdgeTable, path: &[u32], counts: &mut Vec<u64>)
+    requires same { length counts.old.items ≡ length table.now }
+    requires short { length path.now ≤ 2 ^ 26 }
+    requires few { (k : ℕ) → slice_index counts.old.items k ≤ 2 ^ 23 }
+    ensures { HaveRisen table.now (λ e. count_by (is_same e) (edges_on path.now)) counts.old.items counts.new.items }
+{
+    let mut rest = path;
+    'steps: while let [a, b, ..] = rest {
+        count_step(table, *a, *b, counts);
+        rest = &rest[1..];
+    }
+}
+
+/// Counts the step between two ASes at its edge.
+fn count_step(table: &EdgeTable, a: u32, b: u32, counts: &mut Vec<u64>)
+    requires same { length counts.old.items ≡ length table.now }
+    requires few { (k : ℕ) → slice_index counts.old.items k ≤ 2 ^ 63 }
+    ensures { HaveRisen table.now (λ e. if is_same (edge_of a b) e then 1 else 0) counts.old.items counts.new.items }
+{
+    if let Some(place) = table.place(a, b) {
+        counts[place] += 1;
+    }
+}

@@ -1,0 +1,129 @@
+use crate::{Answer, check_against, check_file};
+use path_clean::{Asides, Cause, PathTable, is_cleaned};
+use result_text::{ResultFile, parse};
+use std::process::Abort;
+use std::test::Fail;
+
+/// The result over the paths 30 40 20 10 50 60, 10 20 30 40 and 50 60 10 20.
+const THREE_PATHS: &str =
+    "tor|1\nsets|cut\nratio|60\naside|nopath|0\naside|badsegments|0\naside|confed|0\naside|sets|0\naside|reserved|0\naside|loop|0\naside|short|0\nkept|1|30 40 20 10 50 60\nkept|1|10 20 30 40\nlost|1|50 60 10 20|10 20 30 40 20 10 50 60 10 20|2:2 2:3 1:2 1:3 1:4 1:5 3:2 3:3\nedge|30|40|high|open|2\nedge|20|40|peer|open|1\nedge|10|20|high|forced|2\nedge|10|50|low|forced|1\nedge|50|60|low|forced|1\nedge|20|30|high|open|1\nedge|10|60|low|open|0\nwhy|10 20 30 40 20 10|2:2 2:3 1:2 1:3\nwhy|20 10 50|1:4\nwhy|10 50 60|1:5\nopen|20|30\nopen|60|10\nend|2|1|7|3|1\n";
+
+/// The result with another line in place of one, by its number from 1.
+fn with_line(
+    rt: &(impl Abort + AllocGlobal),
+    number: usize,
+    line: &str,
+) -> Result<ResultFile, Fail> {
+    let mut text = String::new(rt.alloc());
+    for (place, old) in THREE_PATHS.lines().enumerate() {
+        let new = if place + 1 == number { line } else { old };
+        write!(text, "{new}\n")?;
+    }
+    Ok(parse(rt.alloc(), text.as_bytes())?)
+}
+
+/// What is answered to a file of a few lines.
+fn answer_to(rt: &(impl Abort + AllocGlobal), file: &ResultFile) -> Result<Answer, Fail> {
+    assert!(rt; file.paths.len() < 100);
+    assert!(rt; file.edges.len() < 100);
+    assert!(rt; file.whys.len() < 100);
+    assert!(rt; file.probes.len() < 100);
+    Ok(check_file(rt.alloc(), file)?)
+}
+
+#[test]
+fn the_right_file(rt: HostRuntime) -> Result<(), Fail> {
+    let file = parse(rt.alloc(), THREE_PATHS.as_bytes())?;
+    assert_eq!(rt; answer_to(&rt, &file)?, Answer::Yes);
+    Ok(())
+}
+
+/// Which line and rule is named where one line is another.
+const CHANGES: [(usize, &str, u64, u8); 13] = [
+    (3, "ratio|1000001", 3, 1),
+    (11, "kept|0|30 40 20 10 50 60", 11, 2),
+    (12, "kept|1|10 20 23456 40", 12, 2),
+    (12, "kept|1|30 40 20 10 50 60", 12, 3),
+    (
+        13,
+        "lost|1|50 60 10 20|10 20 30 40 20 10 50 60 10 20|2:2 2:3 1:2 1:3 1:4 1:5 3:2 2:3",
+        13,
+        4,
+    ),
+    (14, "edge|30|50|high|open|2", 14, 5),
+    (14, "edge|30|40|low|open|2", 11, 6),
+    (17, "edge|10|50|low|forced|2", 17, 7),
+    (21, "why|20 30|", 21, 8),
+    (16, "edge|10|20|high|open|2", 16, 9),
+    (25, "open|10|60", 20, 9),
+    (15, "edge|20|40|low|open|1", 26, 10),
+    (26, "end|2|1|7|3|2", 26, 10),
+];
+
+#[test]
+fn one_line_is_another(rt: HostRuntime) -> Result<(), Fail> {
+    for (number, text, line, rule) in CHANGES {
+        let file = with_line(&rt, number, text)?;
+        assert_eq!(rt; answer_to(&rt, &file)?, Answer::No { line, rule });
+    }
+    Ok(())
+}
+
+/// The table of paths that the file names.
+fn seen(rt: &(impl Abort + AllocGlobal), paths: &[&[u32]]) -> Result<PathTable, Fail> {
+    let mut table = PathTable::new(rt.alloc(), 10);
+    for path in paths {
+        assert!(rt; is_cleaned(path));
+        table.add(path)?;
+    }
+    Ok(table)
+}
+
+const FIRST: &[u32] = &[30, 40, 20, 10, 50, 60];
+
+const SECOND: &[u32] = &[10, 20, 30, 40];
+
+const THIRD: &[u32] = &[50, 60, 10, 20];
+
+fn answer_beside(
+    rt: &(impl Abort + AllocGlobal),
+    table: &PathTable,
+    asides: &Asides,
+) -> Result<Answer, Fail> {
+    let file = parse(rt.alloc(), THREE_PATHS.as_bytes())?;
+    assert!(rt; file.paths.len() < 100);
+    Ok(check_against(&file, table, asides))
+}
+
+#[test]
+fn dumps_that_agree(rt: HostRuntime) -> Result<(), Fail> {
+    let table = seen(&rt, &[FIRST, SECOND, THIRD])?;
+    assert_eq!(rt; answer_beside(&rt, &table, &Asides::new())?, Answer::Yes);
+    Ok(())
+}
+
+/// The line at which the dumps of these paths differ from the file.
+fn differs_at(
+    rt: &(impl Abort + AllocGlobal),
+    paths: &[&[u32]],
+    asides: &Asides,
+    line: u64,
+) -> Result<(), Fail> {
+    let table = seen(rt, paths)?;
+    assert_eq!(rt;
+        answer_beside(rt, &table, asides)?,
+        Answer::No { line, rule: 11 }
+    );
+    Ok(())
+}
+
+#[test]
+fn dumps_that_differ(rt: HostRuntime) -> Result<(), Fail> {
+    let none = Asides::new();
+    differs_at(&rt, &[FIRST, SECOND], &none, 13)?;
+    differs_at(&rt, &[FIRST, SECOND, SECOND, THIRD], &none, 12)?;
+    differs_at(&rt, &[FIRST, SECOND, THIRD, &[10, 60]], &none, 14)?;
+    let mut loops = Asides::new();
+    loops.add(Cause::Loop);
+    differs_at(&rt, &[FIRST, SECOND], &loops, 9)
+}

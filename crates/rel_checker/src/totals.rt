@@ -1,0 +1,63 @@
+ghost use Rattle.std.specs.Prelude.{◌≡◌, count_by, length, not};
+ghost use Rattle.rel_checker.specs.File.{is_forced};
+ghost use Rattle.rel_checker.specs.Rules.{is_kept, is_peer, right_totals};
+
+use result_text::{EdgeLine, EdgeMark, Fate, PathLine, ResultFile, Totals};
+use tor_arena::Label;
+
+/// What the last line has to say: the numbers of kept lines, lost lines, edge lines, those marked forced, and those with label peer.
+pub(crate) fn right_totals(file: &ResultFile) -> Totals
+    ensures { result ≡ right_totals file.now }
+{
+    let paths = file.paths.as_slice();
+    let edges = file.edges.as_slice();
+    Totals {
+        kept: kept_lines(paths),
+        lost: lost_lines(paths),
+        edges: edges.len() as u64,
+        forced: forced_lines(edges),
+        peers: peer_lines(edges),
+    }
+}
+
+fn kept_lines(lines: &[PathLine]) -> u64
+    ensures { result ≡ count_by (λ line. is_kept line.fate) lines.now }
+{
+    lines.iter().filter(|line| is_kept(&line.fate)).count() as u64
+}
+
+fn lost_lines(lines: &[PathLine]) -> u64
+    ensures { result ≡ count_by (λ line. not (is_kept line.fate)) lines.now }
+{
+    lines.iter().filter(|line| !is_kept(&line.fate)).count() as u64
+}
+
+fn forced_lines(lines: &[EdgeLine]) -> u64
+    ensures { result ≡ count_by (λ line. is_forced line.mark) lines.now }
+{
+    lines.iter().filter(|line| is_forced(line.mark)).count() as u64
+}
+
+fn peer_lines(lines: &[EdgeLine]) -> u64
+    ensures { result ≡ count_by (λ line. is_peer line.label) lines.now }
+{
+    lines.iter().filter(|line| is_peer(line.label)).count() as u64
+}
+
+fn is_kept(fate: &Fate) -> bool
+    ensures { result ≡ is_kept fate.now }
+{
+    matches!(fate, Fate::Kept)
+}
+
+fn is_forced(mark: EdgeMark) -> bool
+    ensures { result ≡ is_forced mark }
+{
+    matches!(mark, EdgeMark::Forced)
+}
+
+fn is_peer(label: Label) -> bool
+    ensures { result ≡ is_peer label }
+{
+    matches!(label, Label::Peer)
+}

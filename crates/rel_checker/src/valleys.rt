@@ -1,0 +1,57 @@
+ghost use Rattle.std.specs.Prelude.{◌≡◌, ◌↔◌, min, max, map, IsTrue};
+ghost use Rattle.tor_arena.specs.Relationship.{Labelling, is_over, ValleyFree};
+ghost use Rattle.result_text.specs.declared.file.Fate.TheVariants.{Kept};
+ghost use Rattle.rel_checker.specs.Tables.{labels_in};
+
+use crate::edge_table::EdgeTable;
+use crate::supports::is_kept_line;
+use result_text::{EdgeLine, PathLine};
+use tor_arena::Label;
+
+/// Whether a path is valley-free under the labels of the edge lines, if it is kept. It takes no memory.
+pub(crate) fn is_served(edges: &[EdgeLine], table: &EdgeTable, line: &PathLine) -> bool
+    requires { table.now ≡ map (λ e. (e.low, e.high)) edges.now }
+    ensures { IsTrue result ↔ (line.now.fate ≡ Kept → ValleyFree (labels_in edges.now) line.now.path) }
+{
+    !is_kept_line(line) || is_valley_free(edges, table, line.path.as_slice())
+}
+
+/// Whether the steps of a path go up and then down, with at most one flat one between. It falls from the first that doesn't go up.
+fn is_valley_free(edges: &[EdgeLine], table: &EdgeTable, path: &[u32]) -> bool
+    requires { table.now ≡ map (λ e. (e.low, e.high)) edges.now }
+    ensures { IsTrue result ↔ ValleyFree (labels_in edges.now) path.now }
+{
+    let mut falling = false;
+    let mut rest = path;
+    'steps: while let [a, b, ..] = rest {
+        let label = label_between(edges, table, *a, *b);
+        if falling && !is_provider(label, *a, *b) {
+            return false;
+        }
+        falling = !is_provider(label, *b, *a);
+        rest = &rest[1..];
+    }
+    true
+}
+
+/// The label of the edge between two ASes, which is peer where there is no such edge.
+fn label_between(edges: &[EdgeLine], table: &EdgeTable, a: u32, b: u32) -> Label
+    requires { table.now ≡ map (λ e. (e.low, e.high)) edges.now }
+    ensures { result ≡ labels_in edges.now (min a b) (max a b) }
+{
+    match table.place(a, b) {
+        Some(place) => edges[place].label,
+        None => Label::Peer,
+    }
+}
+
+/// Whether a is the provider of b, where the edge between them has the label.
+fn is_provider(label: Label, a: u32, b: u32) -> bool
+    ensures { (L : Labelling) → L (min a b) (max a b) ≡ label → result ≡ is_over L a b }
+{
+    match label {
+        Label::Low => a < b,
+        Label::High => b < a,
+        Label::Peer => false,
+    }
+}
