@@ -72,9 +72,9 @@ IsLimited words told = IfSome told (λ files. (kind : LimitKind) × (dump : ℕ)
 abbrev pub IsAbsent : List (List ℕ) → Option Files → Type 0
 IsAbsent words told = IfSome told (λ files. (dump : ℕ) × (outcome words files ≡ Some (Err (Absent dump))))
 
--- a sink gained the note of a status whole, if its count of faults didn't rise, and else a front of it
-pub record IsNoted (words : List (List ℕ)) (told : Option Files) (steady : Type 0) (s : Status) (before now : ℕ) (old new : Option (List ℕ)) : Type 0 where
+-- a sink gained a note such as this whole, if its count of faults didn't rise, and else a front of it
+pub record IsNoted (Such : List ℕ → Type 0) (before now : ℕ) (old new : Option (List ℕ)) : Type 0 where
   pub text : List ℕ
-  pub is_note : IsNote words told steady s text
+  pub is_note : Such text
   pub whole : IsQuiet before now → new ≡ append_known old text
   pub front : GainsPrefix old new text

@@ -52,8 +52,8 @@ impl Answer {
         }
     }
 
-    // The answer with this note, unless memory ran out for it.
-    fn noted(status: Status, text: Result<String, AllocError>) -> Answer
+    /// The answer with this note, unless memory ran out for it.
+    pub fn noted(status: Status, text: Result<String, AllocError>) -> Answer
         ensures said { IfOk text (λ t. (result.status ≡ status) × (note_in result ≡ string_bytes t)) }
         ensures memory { OnErr text (IsNoMemory result) }
     {

@@ -1,5 +1,5 @@
 ghost use Rattle.std.specs.Prelude.{◌≡◌, IfOk, string_bytes};
-ghost use Rattle.tor_app.specs.Notes.{rib_word, fault_word, limit_word, malformed_note, limit_note, read_fault_note};
+ghost use Rattle.tor_app.specs.Notes.{rib_word, fault_word, limit_word, malformed_note, limit_note, result_note, read_fault_note};
 
 use dump_read::{Fault, LimitKind, Place};
 use path_attrs::RibFault;
@@ -65,7 +65,14 @@ pub(crate) fn limit_note(alloc: Global, kind: LimitKind, dump: u64) -> Result<St
     format!(in alloc; "limit|{word}|{dump}\n")
 }
 
-/// The note of a failed read of the dump of this number.
+/// The note of a result file that is too long.
+pub(crate) fn result_note(alloc: Global) -> Result<String, AllocError>
+    ensures { IfOk result (λ text. string_bytes text ≡ result_note) }
+{
+    String::from_str(alloc, "limit|result|0\n")
+}
+
+/// The note of a failed read of the dump of this number, or at 0 of the result file.
 pub(crate) fn read_fault_note(alloc: Global, dump: u64) -> Result<String, AllocError>
     ensures { IfOk result (λ text. string_bytes text ≡ read_fault_note dump) }
 {

@@ -54,7 +54,7 @@ settings_in rows =
     else None
 
 -- the same where clap finds no fault, and nothing where it does
-abbrev pub unless_fault : Kinds → Option Settings → Option Settings
+abbrev pub unless_fault : {X : Type 0} → Kinds → Option X → Option X
 unless_fault [] settings = settings
 unless_fault (kind ∷ kinds) settings = None
 

@@ -1,7 +1,8 @@
-//! The command, as clap takes it.
+//! The commands, as clap takes them.
 ghost use Rattle.std.specs.Prelude.{◌≡◌, IfOk, codes, false};
 ghost use Rattle.clap.specs.Words.{app_of, rule_of};
 ghost use Rattle.tor_words.specs.TorCommand.{tor_command, option_rule, number_rule, flag_rule, rest_rule};
+ghost use Rattle.tor_words.specs.TorcheckCommand.{torcheck_command, needed_rule};
 
 use clap::builder::ValueParser;
 use clap::{Arg, ArgAction, Command};
@@ -35,6 +36,13 @@ fn rest<'a>(alloc: Global, name: &'a str) -> Arg<'a>
     Arg::new(alloc, name).num_args(1..)
 }
 
+fn needed<'a>(alloc: Global, name: &'a str) -> Arg<'a>
+    ensures rule { rule_of result ≡ needed_rule name.now }
+    ensures local { result.global ≡ false }
+{
+    Arg::new(alloc, name).required(true)
+}
+
 /// The command line of `tor`.
 pub(crate) fn command<'a>(alloc: Global) -> Result<Command<'a>, AllocError>
     ensures { IfOk result (λ c. app_of c ≡ tor_command) }
@@ -45,4 +53,14 @@ pub(crate) fn command<'a>(alloc: Global) -> Result<Command<'a>, AllocError>
     let dumps = rest(alloc, "dump");
     let tor = Command::new(alloc, "tor").no_binary_name(true);
     tor.arg(list)?.arg(sets)?.arg(most)?.arg(dumps)
+}
+
+/// The command line of `torcheck`.
+pub(crate) fn check_command<'a>(alloc: Global) -> Result<Command<'a>, AllocError>
+    ensures { IfOk result (λ c. app_of c ≡ torcheck_command) }
+{
+    let file = needed(alloc, "result");
+    let dumps = rest(alloc, "dump");
+    let torcheck = Command::new(alloc, "torcheck").no_binary_name(true);
+    torcheck.arg(file)?.arg(dumps)
 }

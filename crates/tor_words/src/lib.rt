@@ -1,6 +1,7 @@
 //! What the words of a command line ask for.
 #![tactic(auto)]
 
+mod check_settings;
 mod command;
 mod name;
 mod refused;
@@ -9,6 +10,7 @@ mod settings;
 mod tests;
 mod values;
 
+pub use check_settings::{CheckSettings, check_settings_of};
 pub use name::Name;
 pub use refused::WordsRefused;
 pub use settings::{Settings, settings_of};

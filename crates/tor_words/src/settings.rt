@@ -24,14 +24,14 @@ pub struct Settings {
     pub dumps: List<Name>,
 }
 
-// The first value of an option.
-fn first<'a>(matches: &ArgMatches<'a>, id: &str) -> Option<&'a str>
+/// The first value of an option.
+pub(crate) fn first<'a>(matches: &ArgMatches<'a>, id: &str) -> Option<&'a str>
     ensures { option_map (λ s. s.now) result ≡ first_of id.now (rows_of (found_of matches.now)) }
 {
     matches.get_str(id)
 }
 
-// Copies of the texts.
+/// Copies of the texts.
 pub(crate) fn names_of(alloc: Global, texts: &[&str]) -> Result<List<Name>, NoMemory>
     ensures { IfOk result (λ names. names ≡ map (λ t. t.now) texts.now) }
 {
@@ -42,7 +42,8 @@ pub(crate) fn names_of(alloc: Global, texts: &[&str]) -> Result<List<Name>, NoMe
     Ok(names)
 }
 
-fn dumps_in(alloc: Global, matches: &ArgMatches) -> Result<List<Name>, NoMemory>
+/// The names of the dumps.
+pub(crate) fn dumps_in(alloc: Global, matches: &ArgMatches) -> Result<List<Name>, NoMemory>
     ensures { IfOk result (λ names. names ≡ dumps_in (rows_of (found_of matches.now))) }
 {
     match matches.get_strs("dump") {

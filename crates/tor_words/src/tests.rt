@@ -1,5 +1,5 @@
-use crate::WordsRefused;
 use crate::settings::{names_of, settings_of};
+use crate::{WordsRefused, check_settings_of};
 use path_clean::Sets;
 use std::alloc::Global;
 use std::test::Fail;
@@ -58,5 +58,34 @@ fn refuses_words(rt: HostRuntime) {
     ];
     for words in &cases {
         assert_eq!(rt; asked(rt.alloc(), words), Err(2));
+    }
+}
+
+// What words give to a check: the result's name and the number of dumps, or the exit status that refuses them.
+fn asked_to_check(alloc: Global, texts: &[&str], name: &str) -> Result<(bool, usize), u8> {
+    let Ok(words) = names_of(alloc, texts) else {
+        return Err(9);
+    };
+    match check_settings_of(alloc, &words) {
+        Ok(settings) => Ok((settings.result.as_text() == name, settings.dumps.len())),
+        Err(WordsRefused::Usage(_)) => Err(2),
+        Err(WordsRefused::NoMemory) => Err(7),
+    }
+}
+
+#[test]
+fn takes_words_of_a_check(rt: HostRuntime) {
+    let cases: [(&[&str], &str, usize); 4] = [
+        (&["r"], "r", 0),
+        (&["r", "d", "d"], "r", 2),
+        (&["--", "--help", "d"], "--help", 1),
+        (&["", "-"], "", 1),
+    ];
+    for (words, name, dumps) in cases {
+        assert_eq!(rt; asked_to_check(rt.alloc(), words, name), Ok((true, dumps)));
+    }
+    let refused: [&[&str]; 4] = [&[], &["--list", "r"], &["r", "-x"], &["--help"]];
+    for words in refused {
+        assert_eq!(rt; asked_to_check(rt.alloc(), words, "r"), Err(2));
     }
 }

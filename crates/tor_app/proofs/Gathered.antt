@@ -1,0 +1,31 @@
+-- Bytes that are gathered from what a shelf has left.
+use Rattle.std.proofs.Common.{◌≡◌, ℕ, ◌<◌, ◌^◌, List, ◌++◌, length, Option, Some, None, sym, ap, ◌∙◌, append_assoc, arith}
+use Rattle.std.specs.Prelude.{IfSome}
+use Rattle.std.proofs.lemmas.List.{append-nil, length-append}
+use Rattle.std.specs.Io.KnownBytes.{prepend_known, IsAtEnd}
+use Rattle.tor_app.specs.Judging.{IsLong}
+
+-- one part more
+pub gathered_more : (before mid now : Option (List ℕ)) (bytes part new : List ℕ) → before ≡ prepend_known bytes mid → mid ≡ prepend_known part now → new ≡ bytes ++ part
+    → before ≡ prepend_known new now
+gathered_more before mid None bytes part new is more gains = is ∙ ap (prepend_known bytes) more
+gathered_more before mid (Some rest) bytes part new is more gains =
+    is ∙ ap (prepend_known bytes) more ∙ ap (λ (t : List ℕ). Some t) (sym (append_assoc bytes part rest)) ∙ ap (λ (t : List ℕ). Some (t ++ rest)) (sym gains)
+
+-- all is gathered where nothing is left
+pub gathered_all : (before now : Option (List ℕ)) (bytes : List ℕ) → before ≡ prepend_known bytes now → IsAtEnd now → IfSome before (λ left. left ≡ bytes)
+gathered_all None now bytes is end = tt
+gathered_all (Some left) None bytes is end = absurd cc
+gathered_all (Some left) (Some rest) bytes is end = some_is left (bytes ++ rest) is ∙ ap (λ (t : List ℕ). bytes ++ t) end ∙ append-nil bytes
+  where
+    some_is : (x y : List ℕ) → Some x ≡ Some y → x ≡ y
+    some_is x y e = cc
+
+-- too much is there where too much is gathered
+pub gathered_long : (before now : Option (List ℕ)) (bytes : List ℕ) → before ≡ prepend_known bytes now → 2 ^ 31 < length bytes → IfSome before IsLong
+gathered_long None now bytes is more = tt
+gathered_long (Some left) None bytes is more = absurd cc
+gathered_long (Some left) (Some rest) bytes is more = omega (arith, ap length (some_is left (bytes ++ rest) is), length-append bytes rest, more)
+  where
+    some_is : (x y : List ℕ) → Some x ≡ Some y → x ≡ y
+    some_is x y e = cc

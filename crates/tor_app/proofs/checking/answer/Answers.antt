@@ -1,0 +1,7 @@
+use Rattle.tor_app.proofs.Unjudgings.{unjudged_note}
+use Rattle.tor_app.proofs.checking.answer.Goals as goal
+
+pub returns-in-Err-clause-note : goal.returns-in-Err-clause-note
+returns-in-Err-clause-note g c =
+    let shelf = g.H.Shelf in
+    unjudged_note c.args.words.now (shelf.files c.args.shelf.now) (shelf.steady c.args.shelf.now) c.in-Err.unjudged c.answer_to_unjudged.result c.in-Err.ensures.unjudged c.answer_to_unjudged.ensures

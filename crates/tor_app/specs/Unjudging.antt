@@ -1,0 +1,87 @@
+-- Why there is no verdict, and the answer then.
+use Rattle.std.specs.Prelude.{◌≡◌, ◌≤◌, ◌-◌, ℕ, List, length, take, Option, None, Some, IfSome, IsOk, Err}
+use Rattle.tor_io.specs.Contents.{Files}
+use Rattle.result_text.specs.declared.file.ResultFile.{ResultFile}
+use Rattle.rel_checker.specs.declared.answer.Answer.TheVariants.{No}
+use Rattle.dump_read.specs.declared.error.DumpError.{DumpError}
+use Rattle.dump_read.specs.declared.error.DumpError.TheVariants as error
+use Rattle.dump_read.specs.Seen.{End, Absent, Malformed, Limit}
+use Rattle.tor_words.specs.declared.check_settings.CheckSettings.{CheckSettings}
+use Rattle.tor_words.specs.declared.refused.WordsRefused.TheVariants as refused
+use Rattle.tor_words.specs.Refused.{HasUsageLine}
+use Rattle.tor_words.specs.CheckGiven.{check_settings_given}
+use Rattle.tor_app.specs.declared.status.Status.TheVariants as status
+use Rattle.tor_app.specs.declared.answer.Answer.{Answer}
+use Rattle.tor_app.specs.declared.answer.Refusal.{Refusal}
+use Rattle.tor_app.specs.declared.answer.Refusal.TheVariants as refusal
+use Rattle.tor_app.specs.declared.result_file.Unread.TheVariants as unread
+use Rattle.tor_app.specs.declared.judging.Ruling.{Ruling}
+use Rattle.tor_app.specs.declared.judging.Ruling.TheVariants as ruling
+use Rattle.tor_app.specs.declared.judging.Unjudged.{Unjudged}
+use Rattle.tor_app.specs.declared.judging.Unjudged.TheVariants as unjudged
+use Rattle.tor_app.specs.Notes.{read_fault_note, result_note}
+use Rattle.tor_app.specs.Refusals.{Says, Answers, IsNoMemory, IsReadFault, IsOfWords}
+use Rattle.tor_app.specs.Judging.{BreaksRule, IsAccepted, IsLongFile, IsResult, seen_for}
+
+-- the ruling is that of the rules 0 to 10
+abbrev pub IsRuling : List ℕ → Ruling → Type 0
+IsRuling bytes (ruling.Broken line rule) = BreaksRule bytes (No line rule)
+IsRuling bytes (ruling.Met file) = IsAccepted file bytes
+
+-- the bytes meet the rules 0 to 10, and the dumps, where the files are told, have this end
+abbrev pub EndsWith : List ℕ → List (List ℕ) → Option Files → End → Type 0
+EndsWith bytes dumps told end =
+    IfSome told (λ files. (file : ResultFile) × IsAccepted file bytes × (seen_for file dumps files ≡ Err end))
+
+-- the reading of the dumps stopped at this one for this
+abbrev pub StopsAt : List ℕ → List (List ℕ) → Option Files → Type 0 → ℕ → DumpError → Type 0
+StopsAt bytes dumps told steady dump (error.Malformed place fault) = EndsWith bytes dumps told (Malformed place fault)
+StopsAt bytes dumps told steady dump (error.Limit kind) = EndsWith bytes dumps told (Limit kind dump)
+StopsAt bytes dumps told steady dump error.ReadFault =
+    (1 ≤ dump) × (dump ≤ length dumps)
+    × IfSome told (λ files. (file : ResultFile) × IsAccepted file bytes × IsOk (seen_for file (take (dump - 1) dumps) files))
+    × (steady → EndsWith bytes dumps told (Absent dump))
+StopsAt bytes dumps told steady dump error.NoMemory = Unit {0}
+
+-- there is no verdict on these bytes for this
+abbrev pub IsRefusedBy : List ℕ → List (List ℕ) → Option Files → Type 0 → Refusal → Type 0
+IsRefusedBy bytes dumps told steady (refusal.Words w) = ⊥
+IsRefusedBy bytes dumps told steady (refusal.Dumps stopped) = StopsAt bytes dumps told steady stopped.dump stopped.error
+IsRefusedBy bytes dumps told steady refusal.NoMemory = Unit {0}
+
+-- there is no verdict on the result file of these settings for this
+abbrev pub IsUnjudgedIn : CheckSettings → Option Files → Type 0 → Unjudged → Type 0
+IsUnjudgedIn settings told steady (unjudged.Result unread.Failed) = steady → IfSome told (λ files. files settings.result ≡ None)
+IsUnjudgedIn settings told steady (unjudged.Result unread.TooLong) = IfSome told (λ files. IsLongFile (files settings.result))
+IsUnjudgedIn settings told steady (unjudged.Result unread.NoMemory) = Unit {0}
+IsUnjudgedIn settings told steady (unjudged.Refused why) =
+    (bytes : List ℕ) × IfSome told (λ files. IsResult settings files bytes) × IsRefusedBy bytes settings.dumps told steady why
+
+-- the words give settings, and with these there is no verdict for this
+abbrev pub IsUnjudgedGiven : List (List ℕ) → Option Files → Type 0 → Unjudged → Type 0
+IsUnjudgedGiven words told steady u =
+    (settings : CheckSettings) × (check_settings_given words ≡ Some settings) × IsUnjudgedIn settings told steady u
+
+-- there is no verdict for this, by what the words and the files give
+abbrev pub IsUnjudged : List (List ℕ) → Option Files → Type 0 → Unjudged → Type 0
+IsUnjudged words told steady (unjudged.Refused (refusal.Words (refused.Usage text))) = (check_settings_given words ≡ None) × HasUsageLine text
+IsUnjudged words told steady (unjudged.Refused (refusal.Words refused.NoMemory)) = Unit {0}
+IsUnjudged words told steady (unjudged.Refused (refusal.Dumps stopped)) = IsUnjudgedGiven words told steady (unjudged.Refused (refusal.Dumps stopped))
+IsUnjudged words told steady (unjudged.Refused refusal.NoMemory) = Unit {0}
+IsUnjudged words told steady (unjudged.Result why) = IsUnjudgedGiven words told steady (unjudged.Result why)
+
+-- a read failed
+abbrev pub IsFailedRead : Unjudged → Type 0
+IsFailedRead (unjudged.Result why) = why ≡ unread.Failed
+IsFailedRead (unjudged.Refused why) = IsReadFault why
+
+-- the words are none, or memory ran out for them
+abbrev pub IsOfCheckWords : Unjudged → Type 0
+IsOfCheckWords (unjudged.Result why) = ⊥
+IsOfCheckWords (unjudged.Refused why) = IsOfWords why
+
+abbrev pub AnswersUnjudged : Unjudged → Answer → Type 0
+AnswersUnjudged (unjudged.Result unread.Failed) answer = Says status.ReadFault (read_fault_note 0) answer
+AnswersUnjudged (unjudged.Result unread.TooLong) answer = Says status.Limit result_note answer
+AnswersUnjudged (unjudged.Result unread.NoMemory) answer = IsNoMemory answer
+AnswersUnjudged (unjudged.Refused why) answer = Answers why answer

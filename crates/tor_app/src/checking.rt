@@ -1,0 +1,162 @@
+ghost use Rattle.std.specs.Prelude.{◌≡◌, ◌≢◌, ◌≤◌, ◌⊎◌, Some, IfSome, IsNone, ℕ};
+ghost use Rattle.tor_io.specs.Counts.{Rose, IsQuiet, HasCause};
+ghost use Rattle.tor_io.specs.Contents.{Files, GainsPrefix};
+ghost use Rattle.dump_read.specs.declared.error.Place.{Place};
+ghost use Rattle.dump_read.specs.declared.error.Fault.{Fault as FaultKind};
+ghost use Rattle.dump_read.specs.declared.error.LimitKind.{LimitKind as Quantity};
+ghost use Rattle.dump_read.specs.Seen.{Absent, Malformed as MalformedAt, Limit as LimitOf};
+ghost use Rattle.tor_words.specs.CheckGiven.{check_settings_given};
+ghost use Rattle.std.specs.Io.KnownBytes.{append_known};
+ghost use Rattle.tor_app.specs.Notes.{plain_note};
+ghost use Rattle.tor_app.specs.Answer.{IsNoted};
+ghost use Rattle.tor_app.specs.Refusals.{note_in};
+ghost use Rattle.tor_app.specs.Judging.{NoResult, TooLong, Ends, Gives, IsVouched, CanBeJudged};
+ghost use Rattle.tor_app.specs.CheckAnswer.{GainsVerdict, GainsNo, GainsSome, LeadsToMalformed, LeadsToLimit, LeadsToAbsent, IsCheckNote, verdict_text, status_of};
+
+use crate::answer::Answer;
+use crate::judging::{answer_to_unjudged, verdict_of};
+use crate::status::Status;
+use crate::verdicts::{status_of, verdict_text};
+use rel_checker::{Answer as Verdict, acceptance_law};
+use result_text::one_value;
+use std::alloc::Global;
+use tor_arena::List;
+use tor_io::{Failed, Shelf, Sink, write_all};
+use tor_words::Name;
+
+/// Writes the verdict. All memory is taken before.
+fn tell<O: Sink>(alloc: Global, verdict: Verdict, out: &mut O) -> Answer
+    ensures status { (result.status ≡ status_of verdict) ⊎ ((result.status ≡ Status.WriteFault) ⊎ (result.status ≡ Status.NoMemory)) }
+    ensures told { result.status ≡ status_of verdict → O.held out.new ≡ append_known (O.held out.old) (verdict_text verdict) }
+    ensures cut_off { result.status ≡ Status.WriteFault → GainsPrefix (O.held out.old) (O.held out.new) (verdict_text verdict) }
+    ensures nothing { result.status ≡ Status.NoMemory → out.new ≡ out.old }
+    ensures note { note_in result ≡ plain_note result.status }
+    ensures write_fault { result.status ≡ Status.WriteFault → Rose (O.faults out.old) (O.faults out.new) }
+    ensures later { O.faults out.old ≤ O.faults out.new }
+    ensures no_lost_write { result.status ≢ Status.WriteFault → O.faults out.new ≡ O.faults out.old }
+{
+    let status = status_of(verdict);
+    let Ok(text) = verdict_text(alloc, verdict) else {
+        return Answer::plain(Status::NoMemory);
+    };
+    match write_all(out, text.as_bytes()) {
+        Ok(()) => Answer::plain(status),
+        Err(Failed) => Answer::plain(Status::WriteFault),
+    }
+}
+
+/// The run without its note: what it answers doesn't depend on where the note goes.
+fn answer<H: Shelf, O: Sink>(
+    alloc: Global,
+    words: &List<Name>,
+    shelf: &mut H,
+    out: &mut O,
+) -> Answer
+    // What is written.
+    ensures done { result.status ≡ Status.Done →
+        GainsVerdict words.now (H.files shelf.old) Verdict.Yes (O.held out.old) (O.held out.new) }
+    ensures no { result.status ≡ Status.No → GainsNo words.now (H.files shelf.old) (O.held out.old) (O.held out.new) }
+    ensures cut_off { result.status ≡ Status.WriteFault →
+        GainsSome words.now (H.files shelf.old) (O.held out.old) (O.held out.new) }
+    ensures nothing { result.status ≢ Status.Done → result.status ≢ Status.No → result.status ≢ Status.WriteFault →
+        out.new ≡ out.old }
+
+    // Why it is answered.
+    ensures note { IsCheckNote words.now (H.files shelf.old) (H.steady shelf.old) result.status (note_in result) }
+    ensures usage { result.status ≡ Status.Usage → IsNone (check_settings_given words.now) }
+    ensures always_usage { IsNone (check_settings_given words.now) →
+        (result.status ≡ Status.Usage) ⊎ (result.status ≡ Status.NoMemory) }
+    ensures read_fault { result.status ≡ Status.ReadFault → Rose (H.faults shelf.old) (H.faults shelf.new) }
+    ensures write_fault { result.status ≡ Status.WriteFault → Rose (O.faults out.old) (O.faults out.new) }
+
+    // What is left in the objects.
+    ensures untouched { result.status ≡ Status.Usage → shelf.new ≡ shelf.old }
+    ensures files { H.files shelf.new ≡ H.files shelf.old }
+    ensures steady { H.steady shelf.old → H.steady shelf.new }
+    ensures shelf_later { H.faults shelf.old ≤ H.faults shelf.new }
+    ensures out_later { O.faults out.old ≤ O.faults out.new }
+    ensures no_lost_read { result.status ≢ Status.ReadFault → result.status ≢ Status.NoMemory →
+        H.faults shelf.new ≡ H.faults shelf.old }
+    ensures no_lost_write { result.status ≢ Status.WriteFault → O.faults out.new ≡ O.faults out.old }
+{
+    match verdict_of(alloc, words, shelf) {
+        Ok(verdict) => tell(alloc, verdict, out),
+        Err(unjudged) => answer_to_unjudged(alloc, unjudged),
+    }
+}
+
+/// Runs `torcheck`: the words name a result file, and maybe the dumps that it has to agree with. Done says yes. The answer
+/// is Done, No, Usage, Malformed, ReadFault, WriteFault, Limit or NoMemory; `docs/PROMISES.md` has each promise by name.
+pub fn check<H: Shelf, O: Sink, E: Sink>(
+    alloc: Global,
+    words: &List<Name>,
+    shelf: &mut H,
+    out: &mut O,
+    err: &mut E,
+) -> Status
+    // What is written to out: the verdict at Done and No, a front of it at WriteFault, and else nothing.
+    ensures done { result ≡ Status.Done →
+        GainsVerdict words.now (H.files shelf.old) Verdict.Yes (O.held out.old) (O.held out.new) }
+    ensures no { result ≡ Status.No → GainsNo words.now (H.files shelf.old) (O.held out.old) (O.held out.new) }
+    ensures cut_off { result ≡ Status.WriteFault →
+        GainsSome words.now (H.files shelf.old) (O.held out.old) (O.held out.new) }
+    ensures nothing { result ≢ Status.Done → result ≢ Status.No → result ≢ Status.WriteFault → out.new ≡ out.old }
+
+    // What a yes has shown.
+    ensures valid { result ≡ Status.Done → IfSome (H.files shelf.old) (IsVouched words.now) }
+
+    // When each status may come.
+    ensures usage { result ≡ Status.Usage → IsNone (check_settings_given words.now) }
+    ensures malformed { result ≡ Status.Malformed → LeadsToMalformed words.now (H.files shelf.old) }
+    ensures limit { result ≡ Status.Limit → LeadsToLimit words.now (H.files shelf.old) }
+    ensures read_fault { result ≡ Status.ReadFault → Rose (H.faults shelf.old) (H.faults shelf.new) }
+    ensures steady_read_fault { H.steady shelf.old → result ≡ Status.ReadFault →
+        LeadsToAbsent words.now (H.files shelf.old) }
+    ensures write_fault { result ≡ Status.WriteFault → Rose (O.faults out.old) (O.faults out.new) }
+
+    // When each status has to come, or NoMemory.
+    ensures always_usage { IsNone (check_settings_given words.now) → (result ≡ Status.Usage) ⊎ (result ≡ Status.NoMemory) }
+    ensures always_judged { (files : Files) → H.files shelf.old ≡ Some files → CanBeJudged words.now files →
+        IsQuiet (H.faults shelf.old) (H.faults shelf.new) ⊎ H.steady shelf.old →
+        IsQuiet (O.faults out.old) (O.faults out.new) →
+        ((result ≡ Status.Done) ⊎ (result ≡ Status.No)) ⊎ (result ≡ Status.NoMemory) }
+    ensures always_malformed { (files : Files) (place : Place) (fault : FaultKind) → H.files shelf.old ≡ Some files →
+        Gives words.now files (Ends (MalformedAt place fault)) →
+        IsQuiet (H.faults shelf.old) (H.faults shelf.new) ⊎ H.steady shelf.old →
+        (result ≡ Status.Malformed) ⊎ (result ≡ Status.NoMemory) }
+    ensures always_limit { (files : Files) (kind : Quantity) (dump : ℕ) → H.files shelf.old ≡ Some files →
+        Gives words.now files (Ends (LimitOf kind dump)) →
+        IsQuiet (H.faults shelf.old) (H.faults shelf.new) ⊎ H.steady shelf.old →
+        (result ≡ Status.Limit) ⊎ (result ≡ Status.NoMemory) }
+    ensures always_too_long { (files : Files) → H.files shelf.old ≡ Some files → Gives words.now files TooLong →
+        IsQuiet (H.faults shelf.old) (H.faults shelf.new) ⊎ H.steady shelf.old →
+        (result ≡ Status.Limit) ⊎ (result ≡ Status.NoMemory) }
+    ensures always_absent { (files : Files) (dump : ℕ) → H.files shelf.old ≡ Some files →
+        Gives words.now files (Ends (Absent dump)) → (result ≡ Status.ReadFault) ⊎ (result ≡ Status.NoMemory) }
+    ensures always_no_result { (files : Files) → H.files shelf.old ≡ Some files → Gives words.now files NoResult →
+        (result ≡ Status.ReadFault) ⊎ (result ≡ Status.NoMemory) }
+
+    // What is left in the objects: the files as they were, no count lowered, at Usage no call made on the shelf,
+    // and no failed call passed over.
+    ensures untouched { result ≡ Status.Usage → shelf.new ≡ shelf.old }
+    ensures files { H.files shelf.new ≡ H.files shelf.old }
+    ensures steady { H.steady shelf.old → H.steady shelf.new }
+    ensures shelf_later { H.faults shelf.old ≤ H.faults shelf.new }
+    ensures out_later { O.faults out.old ≤ O.faults out.new }
+    ensures err_later { E.faults err.old ≤ E.faults err.new }
+    ensures no_lost_read { result ≢ Status.ReadFault → result ≢ Status.NoMemory →
+        H.faults shelf.new ≡ H.faults shelf.old }
+    ensures no_lost_write { result ≢ Status.WriteFault → O.faults out.new ≡ O.faults out.old }
+
+    // What is written to err: the status' note, or a front of it where err failed; at Done and No nothing.
+    ensures note { IsNoted (IsCheckNote words.now (H.files shelf.old) (H.steady shelf.old) result)
+        (E.faults err.old) (E.faults err.new) (E.held err.old) (E.held err.new) }
+    ensures silent { (result ≡ Status.Done) ⊎ (result ≡ Status.No) → E.held err.new ≡ E.held err.old }
+{
+    // Two laws that the promises rest on: a text has one value, and what meets all rules is valid.
+    one_value();
+    acceptance_law();
+    let answer = answer(alloc, words, shelf, out);
+    let _ = write_all(err, answer.note());
+    answer.status
+}

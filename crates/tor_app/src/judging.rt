@@ -1,0 +1,185 @@
+//! The verdict on a result file.
+ghost use Rattle.std.specs.Prelude.{◌≡◌, ◌≢◌, ◌≤◌, ◌-◌, ◌^◌, Err, IfOk, IfErr, OnOk, IfSome, IsNone, IsErrAnd, IsOk, length, take};
+ghost use Rattle.tor_io.specs.Counts.{Rose};
+ghost use Rattle.dump_read.specs.declared.error.DumpError.TheVariants.{ReadFault as read_failed};
+ghost use Rattle.dump_read.specs.Seen.{Absent, end_told};
+ghost use Rattle.tor_words.specs.CheckGiven.{check_settings_given};
+ghost use Rattle.tor_app.specs.Refusals.{IsReadFault};
+ghost use Rattle.tor_app.specs.Judging.{Judged, ComesTo, IsVerdict, JudgesByDumps, seen_for};
+ghost use Rattle.tor_app.specs.CheckAnswer.{LeadsTo};
+ghost use Rattle.tor_app.specs.Unjudging.{IsRuling, IsRefusedBy, IsUnjudged, IsUnjudgedIn, IsFailedRead, IsOfCheckWords, AnswersUnjudged};
+
+use crate::answer::{Answer, Refusal, answer_to};
+use crate::notes::{read_fault_note, result_note};
+use crate::reading::{Stopped, read_dumps};
+use crate::result_file::{Unread, read_result};
+use crate::status::Status;
+use path_clean::{Asides, PathTable};
+use rel_checker::{Answer as Verdict, check_against, check_file};
+use result_text::{ParseError, ResultFile, parse};
+use std::alloc::Global;
+use tor_arena::{List, NoMemory};
+use tor_io::Shelf;
+use tor_words::{CheckSettings, Name, check_settings_of};
+
+/// Why there is no verdict.
+#[derive(Drop)]
+pub(crate) enum Unjudged {
+    /// The result file was not read.
+    Result(Unread),
+    /// The words, the dumps or want of memory, as in a list.
+    Refused(Refusal),
+}
+
+/// What the rules 0 to 10 say of a text.
+#[derive(Drop)]
+pub(crate) enum Ruling {
+    /// The least that is broken, and its first line.
+    Broken { line: u64, rule: u8 },
+    /// All are met, by this result.
+    Met(ResultFile),
+}
+
+/// What the rules 0 to 10 say of the bytes.
+fn ruling_on(alloc: Global, bytes: &[u8]) -> Result<Ruling, NoMemory>
+    requires short { length bytes.now ≤ 2 ^ 31 }
+    ensures { IfOk result (IsRuling bytes.now) }
+{
+    let file = match parse(alloc, bytes) {
+        Ok(file) => file,
+        Err(ParseError::BadLine(line)) => return Ok(Ruling::Broken { line, rule: 0 }),
+        Err(ParseError::NoMemory) => return Err(NoMemory),
+    };
+    match check_file(alloc, &file)? {
+        Verdict::Yes => Ok(Ruling::Met(file)),
+        Verdict::No { line, rule } => Ok(Ruling::Broken { line, rule }),
+    }
+}
+
+/// The verdict of the dumps on a result that meets the rules before: yes where none is named.
+fn judged_by_dumps<H: Shelf>(
+    alloc: Global,
+    shelf: &mut H,
+    file: &ResultFile,
+    dumps: &[Name],
+) -> Result<Verdict, Stopped>
+    requires lines { length file.now.paths ≤ 2 ^ 40 }
+    ensures verdict { IfOk result (λ verdict. IfSome (H.files shelf.old) (λ files. JudgesByDumps file.now dumps.now files verdict)) }
+    ensures stopped { IfErr result (λ e. IfSome (end_told e.dump e.error) (λ end. IfSome (H.files shelf.old) (λ files.
+        seen_for file.now dumps.now files ≡ Err end))) }
+    ensures named { IfErr result (λ e. (1 ≤ e.dump) × (e.dump ≤ length dumps.now)) }
+    ensures before { IfErr result (λ e. IfSome (H.files shelf.old) (λ files. IsOk (seen_for file.now (take (e.dump - 1) dumps.now) files))) }
+
+    ensures files { H.files shelf.new ≡ H.files shelf.old }
+    ensures later { H.faults shelf.old ≤ H.faults shelf.new }
+    ensures failed { IfErr result (λ e. e.error ≡ read_failed → Rose (H.faults shelf.old) (H.faults shelf.new)) }
+    ensures quiet { OnOk result (H.faults shelf.new ≡ H.faults shelf.old) }
+    ensures quiet_stop { IfErr result (λ e. e.error ≢ read_failed → H.faults shelf.new ≡ H.faults shelf.old) }
+    ensures steady { H.steady shelf.old → H.steady shelf.new }
+    ensures steady_failed { H.steady shelf.old → IfErr result (λ e. e.error ≡ read_failed →
+        IfSome (H.files shelf.old) (λ files. seen_for file.now dumps.now files ≡ Err (Absent e.dump))) }
+{
+    if dumps.is_empty() {
+        return Ok(Verdict::Yes);
+    }
+    let mut table = PathTable::new(alloc, 8_388_608);
+    let mut asides = Asides::new();
+    match read_dumps(alloc, shelf, dumps, file.sets, &mut table, &mut asides) {
+        Ok(()) => Ok(check_against(file, &table, &asides)),
+        Err(stopped) => Err(stopped),
+    }
+}
+
+/// The verdict on the bytes of the result file.
+fn judge<H: Shelf>(
+    alloc: Global,
+    shelf: &mut H,
+    bytes: &[u8],
+    dumps: &[Name],
+) -> Result<Verdict, Refusal>
+    requires short { length bytes.now ≤ 2 ^ 31 }
+    ensures verdict { IfOk result (λ verdict. IfSome (H.files shelf.old) (λ files. IsVerdict bytes.now dumps.now files verdict)) }
+    ensures refused { IfErr result (IsRefusedBy bytes.now dumps.now (H.files shelf.old) (H.steady shelf.old)) }
+
+    ensures files { H.files shelf.new ≡ H.files shelf.old }
+    ensures later { H.faults shelf.old ≤ H.faults shelf.new }
+    ensures quiet { OnOk result (H.faults shelf.new ≡ H.faults shelf.old) }
+    ensures failed { IfErr result (λ r. IsReadFault r → Rose (H.faults shelf.old) (H.faults shelf.new)) }
+    ensures quiet_stop { IfErr result (λ r. (IsReadFault r → ⊥) → H.faults shelf.new ≡ H.faults shelf.old) }
+    ensures steady { H.steady shelf.old → H.steady shelf.new }
+{
+    match ruling_on(alloc, bytes) {
+        Ok(Ruling::Broken { line, rule }) => Ok(Verdict::No { line, rule }),
+        Ok(Ruling::Met(file)) => match judged_by_dumps(alloc, shelf, &file, dumps) {
+            Ok(verdict) => Ok(verdict),
+            Err(stopped) => Err(Refusal::Dumps(stopped)),
+        },
+        Err(NoMemory) => Err(Refusal::NoMemory),
+    }
+}
+
+/// The verdict on the result file that the settings name.
+fn judge_file<H: Shelf>(
+    alloc: Global,
+    settings: &CheckSettings,
+    shelf: &mut H,
+) -> Result<Verdict, Unjudged>
+    ensures verdict { IfOk result (λ verdict. IfSome (H.files shelf.old) (λ files. ComesTo settings.now files (Judged verdict))) }
+    ensures unjudged { IfErr result (IsUnjudgedIn settings.now (H.files shelf.old) (H.steady shelf.old)) }
+    ensures no_words { IfErr result (λ u. IsOfCheckWords u → ⊥) }
+
+    ensures files { H.files shelf.new ≡ H.files shelf.old }
+    ensures later { H.faults shelf.old ≤ H.faults shelf.new }
+    ensures quiet { OnOk result (H.faults shelf.new ≡ H.faults shelf.old) }
+    ensures failed { IfErr result (λ u. IsFailedRead u → Rose (H.faults shelf.old) (H.faults shelf.new)) }
+    ensures quiet_stop { IfErr result (λ u. (IsFailedRead u → ⊥) → H.faults shelf.new ≡ H.faults shelf.old) }
+    ensures steady { H.steady shelf.old → H.steady shelf.new }
+{
+    match read_result(alloc, shelf, settings.result.as_text()) {
+        Ok(bytes) => match judge(alloc, shelf, bytes.as_slice(), settings.dumps.as_slice()) {
+            Ok(verdict) => Ok(verdict),
+            Err(refusal) => Err(Unjudged::Refused(refusal)),
+        },
+        Err(unread) => Err(Unjudged::Result(unread)),
+    }
+}
+
+/// The verdict on the result file that the words name.
+pub(crate) fn verdict_of<H: Shelf>(
+    alloc: Global,
+    words: &List<Name>,
+    shelf: &mut H,
+) -> Result<Verdict, Unjudged>
+    ensures verdict { IfOk result (λ verdict. LeadsTo words.now (H.files shelf.old) (Judged verdict)) }
+    ensures unjudged { IfErr result (IsUnjudged words.now (H.files shelf.old) (H.steady shelf.old)) }
+
+    ensures settled { IsNone (check_settings_given words.now) → IsErrAnd result IsOfCheckWords }
+
+    ensures untouched { IfErr result (λ u. IsOfCheckWords u → shelf.new ≡ shelf.old) }
+    ensures files { H.files shelf.new ≡ H.files shelf.old }
+    ensures later { H.faults shelf.old ≤ H.faults shelf.new }
+    ensures quiet { OnOk result (H.faults shelf.new ≡ H.faults shelf.old) }
+    ensures failed { IfErr result (λ u. IsFailedRead u → Rose (H.faults shelf.old) (H.faults shelf.new)) }
+    ensures quiet_stop { IfErr result (λ u. (IsFailedRead u → ⊥) → H.faults shelf.new ≡ H.faults shelf.old) }
+    ensures steady { H.steady shelf.old → H.steady shelf.new }
+{
+    match check_settings_of(alloc, words) {
+        Ok(settings) => judge_file(alloc, &settings, shelf),
+        Err(refused) => Err(Unjudged::Refused(Refusal::Words(refused))),
+    }
+}
+
+/// The answer where there is no verdict.
+#[tactic(auto, using(crate::proofs::Notings::says))]
+pub(crate) fn answer_to_unjudged(alloc: Global, unjudged: Unjudged) -> Answer
+    ensures { AnswersUnjudged unjudged result }
+{
+    match unjudged {
+        Unjudged::Result(Unread::Failed) => {
+            Answer::noted(Status::ReadFault, read_fault_note(alloc, 0))
+        }
+        Unjudged::Result(Unread::TooLong) => Answer::noted(Status::Limit, result_note(alloc)),
+        Unjudged::Result(Unread::NoMemory) => Answer::plain(Status::NoMemory),
+        Unjudged::Refused(refusal) => answer_to(alloc, refusal),
+    }
+}
