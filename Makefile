@@ -1,15 +1,21 @@
-# `make` proves and builds bin/tor, and lists the paths of a sample; `make test` is the whole gate; `make samples` compares
-# the lists of two real dumps with what other readers give.
+# `make` proves and builds bin/tor and bin/torcheck, lists the paths of a sample and checks a result; `make test` is the whole
+# gate; `make samples` compares the lists of two real dumps with what other readers give.
 .PHONY: all test samples clean FORCE
 
-all: bin/tor
+all: bin/tor bin/torcheck
 	bin/tor --list samples/two-paths.mrt
+	bin/torcheck samples/two-paths.result.txt samples/two-paths.mrt
 
 # A program is built only once it is proved, and the kit's build runs it too: so it is run on a sample.
 bin/tor: FORCE
 	cd crates/tor && rt run -- --list "$(CURDIR)/samples/two-paths.mrt" > /dev/null
 	mkdir -p bin
 	cp crates/tor/out/tor bin/tor
+
+bin/torcheck: FORCE
+	cd crates/torcheck && rt run -- "$(CURDIR)/samples/two-paths.result.txt" > /dev/null
+	mkdir -p bin
+	cp crates/torcheck/out/torcheck bin/torcheck
 
 test:
 	rt ci
