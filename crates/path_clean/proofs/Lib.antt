@@ -3,4 +3,5 @@ pub mod Distinct
 pub mod Judged
 pub mod ChainLemmas
 pub mod TableLemmas
+pub mod GraphPaths
 pub mod CountingLemmas

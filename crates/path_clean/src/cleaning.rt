@@ -1,6 +1,6 @@
 ghost use Rattle.std.specs.Prelude.{◌≡◌, ◌==◌, ◌&&◌, IfOk};
 ghost use Rattle.std.specs.List.{flat_map, before_first, list_any, list_all};
-ghost use Rattle.path_clean.specs.Paths.{is_distinct};
+ghost use Rattle.path_clean.specs.Paths.{is_distinct, is_cleaned};
 ghost use Rattle.path_clean.specs.Clean.{are_equal, is_skip, is_mixed_set, is_confed, ases_of, merged_path, judged, clean_segments, clean_of};
 
 use crate::cleaned::{Cause, Cleaned, Sets, are_distinct, has_reserved};
@@ -144,6 +144,17 @@ fn has_no_loop(alloc: Global, path: &[u32]) -> Result<bool, NoMemory>
     } else {
         are_distinct_by_set(alloc, path)
     }
+}
+
+/// Whether a path has at least two ASes, all distinct, none reserved, as `is_cleaned` answers, but fast for long paths too.
+/// NoMemory where memory for that ran out.
+pub fn is_clean_path(alloc: Global, path: &[u32]) -> Result<bool, NoMemory>
+    ensures { IfOk result (λ clean. clean ≡ is_cleaned path.now) }
+{
+    if path.len() < 2 || has_reserved(path) {
+        return Ok(false);
+    }
+    has_no_loop(alloc, path)
 }
 
 fn are_distinct_by_set(alloc: Global, path: &[u32]) -> Result<bool, NoMemory>

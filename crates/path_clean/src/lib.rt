@@ -11,7 +11,7 @@ mod table;
 
 pub use asides::Asides;
 pub use cleaned::{Cause, Cleaned, Sets, is_cleaned};
-pub use cleaning::clean;
+pub use cleaning::{clean, is_clean_path};
 pub use laws::{clean_paths_stay, counting, paths_are_clean};
 pub use table::{AddRefused, Added, PathTable};
 

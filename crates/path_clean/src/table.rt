@@ -1,5 +1,6 @@
-ghost use Rattle.std.specs.Prelude.{◌≡◌, ◌+◌, ◌<◌, ◌≤◌, ◌^◌, ◌↔◌, [], length, option_map, slice_get, sum_by, IsTrue, IsSome, IsNone, IsOk, IfOk, OnOk, OnErr};
+ghost use Rattle.std.specs.Prelude.{◌≡◌, ◌+◌, ◌<◌, ◌≤◌, ◌^◌, ◌↔◌, [], All, length, option_map, slice_get, sum_by, IsTrue, IsSome, IsNone, IsOk, IfOk, OnOk, OnErr};
 ghost use Rattle.std.specs.List.{list_all};
+ghost use Rattle.tor_arena.specs.Relationship.{AllDistinct};
 ghost use Rattle.path_clean.specs.Paths.{is_cleaned};
 ghost use Rattle.path_clean.specs.Rows.{paths_of, numbers_in, none_twice};
 ghost use Rattle.path_clean.specs.Table.{place_of, with_path, Names};
@@ -106,11 +107,15 @@ impl PathTable {
         Ok(Added::New(id))
     }
 
-    /// The paths in order: each is clean, no two are the same, and they have at most 2^26 numbers in sum. It takes no memory.
+    /// The paths in order: each is clean, so it has at least two ASes, all distinct; no two are the same, and they are at most
+    /// 2^23 and have at most 2^26 numbers in sum. It takes no memory.
     pub fn rows(&self) -> &Rows<PathId, u32>
         ensures paths { result.now ≡ paths_of self.now.rows }
         ensures clean { IsTrue (list_all is_cleaned result.now) }
+        ensures several { All (λ path. 2 ≤ length path) result.now }
+        ensures apart { All AllDistinct result.now }
         ensures once { IsTrue (none_twice result.now) }
+        ensures few { length result.now ≤ 2 ^ 23 }
         ensures numbers { numbers_in self.now.rows ≤ 2 ^ 26 }
         ensures sum { sum_by length result.now ≡ numbers_in self.now.rows }
     {

@@ -1,8 +1,10 @@
-use crate::{AddRefused, Added, Asides, Cause, Cleaned, PathTable, Sets, clean, is_cleaned};
+use crate::{
+    AddRefused, Added, Asides, Cause, Cleaned, PathTable, Sets, clean, is_clean_path, is_cleaned,
+};
 use path_attrs::{Width, attributes};
 use std::alloc::{AllocError, Global};
 use std::test::Fail;
-use tor_arena::{Index, PathId};
+use tor_arena::{Index, List, PathId};
 
 /// A block of attributes, with AS numbers of two octets, and what it is cleaned to.
 struct Case {
@@ -176,6 +178,27 @@ fn a_table_of_two_paths(rt: HostRuntime) -> Result<(), Fail> {
     assert_eq!(rt; table.times(id), 2);
     assert_eq!(rt; table.rows().len(), 2);
     assert_eq!(rt; table.rows().row(id), [10, 20, 30, 40].as_slice());
+    Ok(())
+}
+
+#[test]
+fn long_paths_are_clean_without_a_loop(rt: HostRuntime) -> Result<(), Fail> {
+    let mut path = List::new(rt.alloc());
+    for number in 1..=100u32 {
+        path.push(number)?;
+    }
+    assert!(rt; is_clean_path(rt.alloc(), path.as_slice())?);
+    path.push(50)?;
+    assert!(rt; !is_clean_path(rt.alloc(), path.as_slice())?);
+    Ok(())
+}
+
+#[test]
+fn short_paths_are_clean_as_any(rt: HostRuntime) -> Result<(), Fail> {
+    assert!(rt; is_clean_path(rt.alloc(), &[10, 20])?);
+    assert!(rt; !is_clean_path(rt.alloc(), &[10])?);
+    assert!(rt; !is_clean_path(rt.alloc(), &[10, 23456])?);
+    assert!(rt; !is_clean_path(rt.alloc(), &[10, 20, 10])?);
     Ok(())
 }
 

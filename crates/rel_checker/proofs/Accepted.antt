@@ -11,11 +11,9 @@ use Rattle.tor_arena.specs.Graph.{Edge, edges}
 use Rattle.tor_arena.specs.Evidence.{paths_of, kept_from, Show}
 use Rattle.tor_arena.specs.Selection.{IsServable}
 use Rattle.tor_arena.specs.Checking.{Claim, LostAreRefuted, IsBorneOut, ProbesFrom, MeetsGraphRules}
-use Rattle.tor_arena.proofs.Deciding.{AllDistinct-from_test}
-use Rattle.tor_arena.proofs.Deciding as deciding
 use Rattle.tor_arena.proofs.Walks.{refuting_law}
 use Rattle.tor_arena.proofs.Checked.{graph_rules_law}
-use Rattle.path_clean.specs.Paths.{is_distinct, is_reserved, is_cleaned}
+use Rattle.path_clean.proofs.GraphPaths.{apart_if_cleaned}
 use Rattle.result_text.specs.declared.file.Fate.{Fate}
 use Rattle.result_text.specs.declared.file.Fate.TheVariants.{Kept, Lost}
 use Rattle.result_text.specs.declared.file.PathLine.{PathLine}
@@ -48,15 +46,6 @@ same_length f [] = refl
 same_length f (x ∷ xs) = ap suc (same_length f xs)
 
 -- ---- paths
-
-same_test : (path : List ℕ) → deciding.is_distinct path ≡ is_distinct path
-same_test [] = refl
-same_test (a ∷ path) = ap (λ t. not (list_any (λ b. b == a) path) && t) (same_test path)
-
-pub apart_if_cleaned : (path : List ℕ) → IsTrue (is_cleaned path) → AllDistinct path
-apart_if_cleaned path h =
-    let front = (and_parts (nat_le 2 (length path) && is_distinct path) (not (list_any is_reserved path)) h).0 in
-    AllDistinct-from_test path (same_test path ∙ (and_parts (nat_le 2 (length path)) (is_distinct path) front).1)
 
 module _ (file : ResultFile) where
   pub paths_apart : IsMet file PathsCleaned → All AllDistinct (its_paths file)

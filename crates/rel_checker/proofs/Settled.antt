@@ -15,13 +15,11 @@ use Rattle.tor_arena.specs.Graph.{Edge, edge_of, is_same, edges_from, edges_on, 
 use Rattle.tor_arena.specs.Relationship.{Orientation, Labelling, labels_of, label_of, is_low, is_high, is_over, ValleyFree, Serves, AllDistinct}
 use Rattle.tor_arena.specs.Evidence.{IsTriple, TripleAt, kept_from}
 use Rattle.tor_arena.specs.Laws.{AgreesOn}
-use Rattle.tor_arena.proofs.Deciding.{AllDistinct-from_test}
-use Rattle.tor_arena.proofs.Deciding as deciding
 use Rattle.tor_arena.proofs.Edges.{along_each, peering_law}
 use Rattle.tor_arena.proofs.Places.{index-from_StandAt, kept_from-out}
 use Rattle.tor_arena.proofs.Serving.{Apart, Apart-from_distinct, serves_carries}
 use Rattle.tor_arena.proofs.Slopes.{over-low, over-high, over_one_way}
-use Rattle.path_clean.specs.Paths.{is_cleaned, is_distinct}
+use Rattle.path_clean.proofs.GraphPaths.{apart_if_cleaned}
 use Rattle.result_text.specs.declared.file.Fate.{Fate}
 use Rattle.result_text.specs.declared.file.Fate.TheVariants.{Kept, Lost}
 use Rattle.result_text.specs.declared.file.PathLine.{PathLine}
@@ -46,19 +44,9 @@ same_lists (x ∷ xs) (y ∷ ys) h = let e : x ≡ y = same_Some x y (h 0) in le
 
 -- ---- each path has distinct ASes
 
-same_test : (path : List ℕ) → is_distinct path ≡ deciding.is_distinct path
-same_test [] = refl
-same_test (a ∷ path) = ap (λ b. not (list_any (λ y. y == a) path) && b) (same_test path)
-
-distinct_of_cleaned : (path : List ℕ) → IsTrue (is_cleaned path) → AllDistinct path
-distinct_of_cleaned path h =
-    let a = and_parts (nat_le 2 (length path) && is_distinct path) _ h in
-    let b = and_parts (nat_le 2 (length path)) (is_distinct path) a.0 in
-    AllDistinct-from_test path (sym (same_test path) ∙ b.1)
-
 module _ (file : ResultFile) (cleaned : IsMet file PathsCleaned) where
   path_distinct : (k : ℕ) (line : PathLine) → slice_get file.paths k ≡ Some line → AllDistinct line.path
-  path_distinct k line at = distinct_of_cleaned line.path (cleaned k (slice_get-lt file.paths k line at) line at).cleaned
+  path_distinct k line at = apart_if_cleaned line.path (cleaned k (slice_get-lt file.paths k line at) line at).cleaned
 
   pub lines_distinct : All (λ line. AllDistinct line.path) file.paths
   lines_distinct i d lt = path_distinct i (get_or file.paths i d) (slice_get-get_or file.paths i d lt)

@@ -4,7 +4,6 @@
 mod against;
 mod answer;
 mod checking;
-mod clean_paths;
 mod consistency;
 mod edge_rules;
 mod edge_table;

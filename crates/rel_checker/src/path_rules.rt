@@ -6,8 +6,7 @@ ghost use Rattle.rel_checker.specs.Rules.{Rule, IsMet};
 ghost use Rattle.rel_checker.specs.Tables.{is_new};
 ghost use Rattle.rel_checker.specs.Verdict.{Finds};
 
-use crate::clean_paths::is_clean_path;
-use path_clean::{AddRefused, Added, PathTable};
+use path_clean::{AddRefused, Added, PathTable, is_clean_path};
 use result_text::{PathLine, ResultFile};
 use std::alloc::Global;
 use tor_arena::NoMemory;

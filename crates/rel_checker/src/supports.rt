@@ -3,11 +3,12 @@ ghost use Rattle.tor_arena.specs.Evidence.{paths_of};
 ghost use Rattle.tor_arena.specs.Graph.{edge_of, is_same, edges_on, support};
 ghost use Rattle.path_clean.specs.Paths.{is_distinct};
 ghost use Rattle.rel_checker.specs.File.{its_kept};
-ghost use Rattle.rel_checker.specs.Rules.{Rule, IsMet, is_kept};
+ghost use Rattle.rel_checker.specs.Rules.{Rule, IsMet};
 ghost use Rattle.rel_checker.specs.Tables.{HaveRisen, AreCounts, kept_in};
 
 use crate::edge_table::EdgeTable;
-use result_text::{Fate, PathLine, ResultFile};
+use crate::totals::is_kept;
+use result_text::{PathLine, ResultFile};
 use std::alloc::Global;
 use tor_arena::NoMemory;
 
@@ -35,15 +36,9 @@ fn count_line(table: &EdgeTable, line: &PathLine, counts: &mut Vec<u64>)
     requires few { (k : ℕ) → slice_index counts.old.items k ≤ 2 ^ 23 }
     ensures { HaveRisen table.now (support (kept_in (line.now ∷ []))) counts.old.items counts.new.items }
 {
-    if is_kept_line(line) {
+    if is_kept(&line.fate) {
         count_steps(table, line.path.as_slice(), counts);
     }
-}
-
-pub(crate) fn is_kept_line(line: &PathLine) -> bool
-    ensures { result ≡ is_kept line.now.fate }
-{
-    matches!(line.fate, Fate::Kept)
 }
 
 /// Counts each step of a path at its edge.

@@ -44,7 +44,7 @@ fn peer_lines(lines: &[EdgeLine]) -> u64
     lines.iter().filter(|line| is_peer(line.label)).count() as u64
 }
 
-fn is_kept(fate: &Fate) -> bool
+pub(crate) fn is_kept(fate: &Fate) -> bool
     ensures { result ≡ is_kept fate.now }
 {
     matches!(fate, Fate::Kept)

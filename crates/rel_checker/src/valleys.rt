@@ -4,7 +4,7 @@ ghost use Rattle.result_text.specs.declared.file.Fate.TheVariants.{Kept};
 ghost use Rattle.rel_checker.specs.Tables.{labels_in};
 
 use crate::edge_table::EdgeTable;
-use crate::supports::is_kept_line;
+use crate::totals::is_kept;
 use result_text::{EdgeLine, PathLine};
 use tor_arena::Label;
 
@@ -13,7 +13,7 @@ pub(crate) fn is_served(edges: &[EdgeLine], table: &EdgeTable, line: &PathLine) 
     requires { table.now ≡ map (λ e. (e.low, e.high)) edges.now }
     ensures { IsTrue result ↔ (line.now.fate ≡ Kept → ValleyFree (labels_in edges.now) line.now.path) }
 {
-    !is_kept_line(line) || is_valley_free(edges, table, line.path.as_slice())
+    !is_kept(&line.fate) || is_valley_free(edges, table, line.path.as_slice())
 }
 
 /// Whether the steps of a path go up and then down, with at most one flat one between. It falls from the first that doesn't go up.

@@ -1,7 +1,10 @@
-use Rattle.std.proofs.Common.{◌≤◌, ◌^◌, length, ◌∙◌, ap, sym, subst}
+use Rattle.std.proofs.Common.{◌≤◌, ◌^◌, IsTrue, length, ◌∙◌, ap, sym, subst, arith}
 use Rattle.std.specs.Prelude.{sum_by}
+use Rattle.std.specs.List.{list_all}
+use Rattle.path_clean.specs.Paths.{is_cleaned}
 use Rattle.path_clean.specs.Rows.{paths_of, numbers_in}
 use Rattle.path_clean.proofs.TableLemmas.{paths_of-counted_by, numbers_in-counted_by}
+use Rattle.path_clean.proofs.GraphPaths.{several, apart}
 use Rattle.path_clean.proofs.table.PathTable.rows.Goals as goal
 
 pub returns-clause-paths : goal.returns-clause-paths
@@ -19,3 +22,16 @@ returns-clause-numbers c =
 pub returns-clause-sum : goal.returns-clause-sum
 returns-clause-sum c =
     ap (sum_by length) c.rows.ensures ∙ sym (numbers_in-counted_by c.self.inside.paths c.self.inside.counts.items c.self.invariant.same) ∙ ap (λ t. numbers_in t.rows) c.self.view_is
+
+pub returns-clause-several : goal.returns-clause-several
+returns-clause-several c = several _ (subst (λ paths. IsTrue (list_all is_cleaned paths)) (sym c.rows.ensures) c.self.invariant.clean)
+
+pub returns-clause-apart : goal.returns-clause-apart
+returns-clause-apart c = apart _ (subst (λ paths. IsTrue (list_all is_cleaned paths)) (sym c.rows.ensures) c.self.invariant.clean)
+
+pub returns-clause-few : goal.returns-clause-few
+returns-clause-few c =
+    let same = ap length c.rows.ensures in
+    let few = c.self.invariant.few in
+    let bound = c.self.invariant.bound in
+    omega (arith, same, few, bound)
