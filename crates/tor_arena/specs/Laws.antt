@@ -1,15 +1,34 @@
 -- The laws of the definitions, each proved as the contract of a function in src/laws.rt.
 use Rattle.std.specs.Prelude.{◌≡◌, ◌≢◌, ◌↔◌, ℕ, ◌<◌, ◌≤◌, Bool, List, [], ◌∷◌, ◌++◌, map, Option, is_none, All, Contains, IsTrue, if◌then◌else◌, nat_lt}
+use Rattle.std.specs.List.{AllPairs}
 use Rattle.tor_arena.specs.declared.walk.End.{End}
 use Rattle.tor_arena.specs.declared.walk.Label.{Label}
 use Rattle.tor_arena.specs.Relationship.{Orientation, Labelling, labels_of, is_over, ValleyFree, Serves, AllDistinct}
 use Rattle.tor_arena.specs.declared.walk.Walk.{Walk}
 use Rattle.tor_arena.specs.declared.walk.Link.{Link}
-use Rattle.tor_arena.specs.Graph.{Edge, edges, SameOn}
-use Rattle.tor_arena.specs.Evidence.{IsTriple, Numbered, paths_of, IsLinked, Refutes, Show, Closure, IsConsistent}
+use Rattle.tor_arena.specs.Graph.{Edge, edge_of, edges, SameOn}
+use Rattle.tor_arena.specs.Evidence.{IsTriple, HasPair, Numbered, paths_of, IsLinked, Refutes, Show, Closure, IsConsistent}
 use Rattle.tor_arena.specs.Selection.{IsServable, Keeps, IsForced}
 use Rattle.std.specs.List.{items_where_true}
 use Rattle.tor_arena.specs.Checking.{LostAreRefuted, kept_of, Claim, MarksHold, MeetsGraphRules}
+
+-- a, b stand one behind the other on one of the paths
+abbrev pub AreNeighbours : List (List ℕ) → ℕ → ℕ → Type 0
+AreNeighbours paths a b = (path : List ℕ) × Contains paths path × HasPair path a b
+
+-- no edge stands twice among the edges, which are those of neighbours
+abbrev pub EdgeLaw : Type 0
+EdgeLaw =
+    (paths : List (List ℕ)) →
+    AllPairs ◌≢◌ (edges paths) ×
+    ((e : Edge) → Contains (edges paths) e ↔ ((a b : ℕ) × AreNeighbours paths a b × (e ≡ edge_of a b)))
+
+-- what stands behind `front` on its path, and the paths behind that one, add edges at the end alone: so edges stand in order of
+-- first appearance
+abbrev pub EdgeOrderLaw : Type 0
+EdgeOrderLaw =
+    (paths : List (List ℕ)) (front back : List ℕ) (more : List (List ℕ)) →
+    (later : List Edge) × (edges (paths ++ (front ++ back) ∷ more) ≡ edges (paths ++ front ∷ []) ++ later)
 
 -- where x is over y, y is over z, at each triple of the paths
 abbrev pub CarriesOn : Orientation → List (List ℕ) → Type 0

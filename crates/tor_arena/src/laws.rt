@@ -1,7 +1,7 @@
 //! The laws of the definitions in `specs/`. Each is the contract of a function.
 
 ghost use Rattle.std.specs.Prelude.{◌≡◌};
-ghost use Rattle.tor_arena.specs.Laws.{ServingLaw, RelaxingLaw, PeeringLaw, ReadingLaw, RefutingLaw, ShowingLaw, ClosureLaw, AllowedLaw, ConsistencyLaw, RankLaw, CycleLaw, KeepingLaw, MarkingLaw, ForcedLaw, SelectionLaw, KeptLaw, AllKeptLaw, GraphRulesLaw};
+ghost use Rattle.tor_arena.specs.Laws.{EdgeLaw, EdgeOrderLaw, ServingLaw, RelaxingLaw, PeeringLaw, ReadingLaw, RefutingLaw, ShowingLaw, ClosureLaw, AllowedLaw, ConsistencyLaw, RankLaw, CycleLaw, KeepingLaw, MarkingLaw, ForcedLaw, SelectionLaw, KeptLaw, AllKeptLaw, GraphRulesLaw};
 
 use crate::index::Index;
 
@@ -11,6 +11,16 @@ pub fn same_index<I: Index>(index: I) -> Option<I>
 {
     I::from_place(index.place())
 }
+
+/// Each edge stands once among the edges of paths, which are the pairs of neighbours on them.
+pub fn edge_law()
+    ensures { EdgeLaw }
+{}
+
+/// Reading on along the paths adds edges at the end alone: each stands where it first appears.
+pub fn edge_order_law()
+    ensures { EdgeOrderLaw }
+{}
 
 /// Where the ASes of each path are distinct, an orientation serves the paths exactly if it carries
 /// each "x over y" on to "y over z" along every triple x, y, z (Di Battista, Patrignani and
