@@ -2,7 +2,9 @@ ghost use Rattle.std.specs.Prelude.{◌<◌, ℕ};
 ghost use Rattle.std.proofs.Math.Dec.{lit≤};
 
 use crate::arena::{Arena, PushRefused};
+use crate::ids::{ArcId, AsId, EdgeId, NodeId, PathId, TripleId};
 use crate::index::Index;
+use crate::laws::same_index;
 use crate::list::List;
 use crate::rows::{RowRefused, Rows};
 use std::marker::Model;
@@ -112,5 +114,28 @@ fn small_rows(rt: HostRuntime) -> Result<(), Fail> {
     assert_eq!(rt; rows.len(), 1);
     rows.push_row(&[4])?;
     assert_eq!(rt; rows.row(second), [4].as_slice());
+    Ok(())
+}
+
+/// Whether 2^28 - 1 is the last place with an index of this kind, which its place leads to again.
+fn ends_below_2_to_28<I: Index>() -> bool {
+    match I::from_place((1 << 28) - 1) {
+        Some(last) => {
+            last.place() == (1 << 28) - 1
+                && same_index(last) == Some(last)
+                && I::from_place(1 << 28).is_none()
+        }
+        None => false,
+    }
+}
+
+#[test]
+fn six_kinds_of_index(rt: HostRuntime) -> Result<(), Fail> {
+    assert!(rt; ends_below_2_to_28::<AsId>());
+    assert!(rt; ends_below_2_to_28::<EdgeId>());
+    assert!(rt; ends_below_2_to_28::<PathId>());
+    assert!(rt; ends_below_2_to_28::<TripleId>());
+    assert!(rt; ends_below_2_to_28::<NodeId>());
+    assert!(rt; ends_below_2_to_28::<ArcId>());
     Ok(())
 }
