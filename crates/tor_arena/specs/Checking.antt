@@ -1,4 +1,5 @@
 -- What a checker asks of the lines of a result: which paths are lost, which orders are shown, which edges are open.
+-- These rules are this project's own (docs/FORMATS.md).
 use Rattle.std.specs.Prelude.{◌≡◌, ◌⊎◌, ℕ, ◌+◌, Bool, List, [], ◌∷◌, ◌++◌, map, Option, Some, None, is_none, All, Any, Contains, IsTrue, IsFalse, ⊤}
 use Rattle.tor_arena.specs.declared.walk.Label.{Label}
 use Rattle.tor_arena.specs.declared.walk.Walk.{Walk}

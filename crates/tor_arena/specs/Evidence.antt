@@ -1,4 +1,6 @@
 -- What shows that an order of two neighbours follows, or that no orientation serves.
+-- Walks follow the implications along triples (Di Battista, Patrignani and Pizzonia 2003), so they are paths of the implication
+-- graph (Aspvall, Plass and Tarjan 1979). The form of the evidence is this project's own.
 use Rattle.std.specs.Prelude.{◌≡◌, ◌≢◌, ℕ, ◌+◌, ◌⊎◌, Bool, true, false, List, [], ◌∷◌, ◌++◌, length, map, Contains, ⊤}
 use Rattle.tor_arena.specs.declared.walk.Link.{Link}
 use Rattle.tor_arena.specs.declared.walk.Walk.{Walk}

@@ -1,4 +1,4 @@
--- The edges of a list of paths, and how many each AS has.
+-- The annotated AS graph (Gao 2001) of a list of paths: its edges, how many each AS has, and what annotates them.
 use Rattle.std.specs.Prelude.{◌≡◌, All, ℕ, Bool, not, ◌&&◌, ◌||◌, ◌==◌, List, [], ◌∷◌, min, max, filter, flat_map, count_by, if◌then◌else◌}
 use Rattle.std.specs.List.{list_any}
 use Rattle.tor_arena.specs.declared.walk.End.{End}
