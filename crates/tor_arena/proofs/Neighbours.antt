@@ -85,7 +85,7 @@ module _ (paths : List (List ℕ)) where
   pub neighbours-edge : (a b : ℕ) → AreNeighbours paths a b → Contains (edges paths) (edge_of a b)
   neighbours-edge a b (path, c, (before, after, e)) =
       let each = All-from_recursion (λ p. AllByRecursion (Contains (edges paths)) (edges_on p)) paths
-          (along_each (Contains (edges paths)) paths (All-contains_itself (edges paths))) in
+      (along_each (Contains (edges paths)) paths (All-contains_itself (edges paths))) in
       let here = All-contains (λ p. AllByRecursion (Contains (edges paths)) (edges_on p)) paths path each c in
       at_pair (Contains (edges paths)) before a b after (subst (λ p. AllByRecursion (Contains (edges paths)) (edges_on p)) e here)
 
@@ -118,11 +118,11 @@ edge_order_law paths front back more =
     let behind = flat_map edges_on more in
     let on = edges_on-front front back in
     let whole : flat_map edges_on (paths ++ (front ++ back) ∷ more) ≡ (before ++ edges_on front) ++ (on.0 ++ behind) =
-        flat_map-append edges_on paths ((front ++ back) ∷ more) ∙
-        ap (λ (l : List Edge). before ++ (l ++ behind)) on.1 ∙
-        ap (λ (l : List Edge). before ++ l) (append_assoc (edges_on front) on.0 behind) ∙
-        sym (append_assoc before (edges_on front) (on.0 ++ behind)) in
+    flat_map-append edges_on paths ((front ++ back) ∷ more) ∙
+    ap (λ (l : List Edge). before ++ (l ++ behind)) on.1 ∙
+    ap (λ (l : List Edge). before ++ l) (append_assoc (edges_on front) on.0 behind) ∙
+    sym (append_assoc before (edges_on front) (on.0 ++ behind)) in
     let start : flat_map edges_on (paths ++ front ∷ []) ≡ before ++ edges_on front =
-        flat_map-append edges_on paths (front ∷ []) ∙ ap (λ (l : List Edge). before ++ l) (append-nil (edges_on front)) in
+    flat_map-append edges_on paths (front ∷ []) ∙ ap (λ (l : List Edge). before ++ l) (append-nil (edges_on front)) in
     let r = distinct-front (before ++ edges_on front) (on.0 ++ behind) in
     (r.0, ap distinct whole ∙ r.1 ∙ ap (λ (es : List Edge). distinct es ++ r.0) (sym start))

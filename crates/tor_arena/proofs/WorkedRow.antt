@@ -79,7 +79,7 @@ link path at = record { path = path; at = at }
 abbrev numbered : Numbered
 numbered = (1, first) ∷ (2, second) ∷ (3, third) ∷ []
 
--- a link to each of the three paths, where the triple is read forwards or backwards
+-- a link, where the triple is read from left to right
 fits_forwards : (n : ℕ) (path before : List ℕ) (x y z : ℕ) (after : List ℕ) → Contains numbered (n, path) → path ≡ before ++ (x ∷ y ∷ z ∷ after) →
     Fits numbered (link n (length before + 2)) x y z
 fits_forwards n path before x y z after c e = (path, c, inl (record { before = before; after = after; whole = e; place = refl }))
@@ -92,6 +92,10 @@ in_second = (1, lit< tt, refl)
 
 in_third : Contains numbered (3, third)
 in_third = (2, lit< tt, refl)
+
+-- a link that is read from right to left: 40 30 20 on 10 20 30 40
+fits_backwards : Fits numbered (link 2 3) 40 30 20
+fits_backwards = (second, in_second, inr (record { before = 10 ∷ []; after = []; whole = refl; place = refl }))
 
 abbrev lost_walk : Walk
 lost_walk = record {
