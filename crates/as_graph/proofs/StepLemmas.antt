@@ -4,10 +4,11 @@ use Rattle.std.proofs.lemmas.Bool.{cases_Bool, ltb-true, ltb-false}
 use Rattle.std.proofs.lemmas.Option.{get_or_from_slice_get, slice_get_within}
 use Rattle.std.proofs.lemmas.List.{take_all}
 use Rattle.std.proofs.lemmas.List.Elements.{All-nil, All-cons, All-head, All-tail}
+use Rattle.tor_arena.specs.Relationship.{opposite}
 use Rattle.tor_arena.specs.Graph.{Edge, edge_of, edges_from, edges_on}
 use Rattle.as_graph.specs.declared.step.Step.{Step}
 use Rattle.as_graph.specs.Steps.{end_left, IsStep, AreStepsFrom, AreSteps}
-use Rattle.as_graph.specs.Inside.{with_edge, with_edges, as_at, other, left_as, next_as, path_by, HaveSteps}
+use Rattle.as_graph.specs.Inside.{with_edge, with_edges, as_at, left_as, next_as, path_by, HaveSteps}
 use Rattle.as_graph.proofs.Distinct.{with_edges-push, stays, length-with_edges, length-edges_from}
 
 -- ---- more edges
@@ -114,7 +115,7 @@ left_here a b =
       | inr f ↦ let le = ltb-false a b f in rw f (omega (arith, le))
     ]
 
-next_here : (a b : ℕ) → as_at (edge_of a b) (other (end_left a b)) ≡ b
+next_here : (a b : ℕ) → as_at (edge_of a b) (opposite (end_left a b)) ≡ b
 next_here a b =
     elim (cases_Bool (nat_lt a b)) [
       | inl t ↦ let lt = ltb-true a b t in rw t (omega (arith, lt))
@@ -125,7 +126,7 @@ pub left_as-step : (es : List Edge) (a b : ℕ) (step : Step) → IsStep es a b 
 left_as-step es a b step h = ap₂ as_at (get_or_from_slice_get es step.edge (edge_of a b) (0, 0) h.0) h.1 ∙ left_here a b
 
 pub next_as-step : (es : List Edge) (a b : ℕ) (step : Step) → IsStep es a b step → next_as es step ≡ b
-next_as-step es a b step h = ap₂ (λ (e : Edge) end. as_at e (other end)) (get_or_from_slice_get es step.edge (edge_of a b) (0, 0) h.0) h.1 ∙ next_here a b
+next_as-step es a b step h = ap₂ (λ (e : Edge) end. as_at e (opposite end)) (get_or_from_slice_get es step.edge (edge_of a b) (0, 0) h.0) h.1 ∙ next_here a b
 
 nexts : (es : List Edge) (a : ℕ) (path : List ℕ) (steps : List Step) → AreStepsFrom es a path steps → map (next_as es) steps ≡ path
 nexts es a [] [] h = refl

@@ -3,7 +3,7 @@ use Rattle.std.specs.Prelude.{◌≡◌, ℕ, ◌+◌, ◌<◌, ◌≤◌, ◌^�
 use Rattle.std.specs.List.{list_any}
 use Rattle.std.specs.Map.{lookup}
 use Rattle.tor_arena.specs.declared.walk.End.{End}
-use Rattle.tor_arena.specs.Relationship.{AllDistinct}
+use Rattle.tor_arena.specs.Relationship.{opposite, AllDistinct}
 use Rattle.tor_arena.specs.Graph.{Edge, is_same, edges}
 use Rattle.as_graph.specs.declared.step.Step.{Step}
 use Rattle.as_graph.specs.Steps.{AreSteps}
@@ -46,16 +46,12 @@ abbrev pub as_at : Edge → End → ℕ
 as_at e End.Low = e.0
 as_at e End.High = e.1
 
-abbrev pub other : End → End
-other End.Low = End.High
-other End.High = End.Low
-
 -- the AS from which a step goes, and the one that it reaches
 abbrev pub left_as : List Edge → Step → ℕ
 left_as es step = as_at (slice_index_or es step.edge (0, 0)) step.left
 
 abbrev pub next_as : List Edge → Step → ℕ
-next_as es step = as_at (slice_index_or es step.edge (0, 0)) (other step.left)
+next_as es step = as_at (slice_index_or es step.edge (0, 0)) (opposite step.left)
 
 abbrev pub path_by : List Edge → List Step → List ℕ
 path_by es [] = []

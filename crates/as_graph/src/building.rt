@@ -11,7 +11,7 @@ use std::alloc::Global;
 use tor_arena::{End, Index, List, NoMemory, PathId, RowRefused, Rows};
 
 /// The graph of the paths. Each has to have at least two ASes, all distinct, and there may be at most 2^23 of them, with at most
-/// 2^26 numbers in sum.
+/// 2^26 numbers in sum. The only error is that memory ran out.
 pub fn build(alloc: Global, paths: &Rows<PathId, u32>) -> Result<AsGraph, NoMemory>
     requires several { All (λ path. 2 ≤ length path) paths.now }
     requires apart { All AllDistinct paths.now }

@@ -17,7 +17,9 @@ use tor_arena::{EdgeId, List, NoMemory, PathId, Rows};
 /// An edge: two neighbours on some path, the lower number and the higher.
 #[derive(Clone, Copy, Debug, PartialEq, Eq)]
 pub struct Edge {
+    /// The lower number.
     pub low: u32,
+    /// The higher number.
     pub high: u32,
 }
 
@@ -98,6 +100,7 @@ impl AsGraph {
     }
 
     /// How many of the kept paths hold each edge, in the order of the edges. The kept paths have to be there, no two the same.
+    /// The only error is that memory ran out.
     pub fn support(&self, alloc: Global, kept: &[PathId]) -> Result<List<u32>, NoMemory>
         requires there { All (λ path. path < length self.now) kept.now }
         requires once { AllPairs ◌≢◌ kept.now }

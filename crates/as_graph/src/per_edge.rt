@@ -20,7 +20,7 @@ impl Model for Orientation {
 }
 
 impl Orientation {
-    /// The orientation that gives the edges these providers.
+    /// The orientation that gives the edges these providers. The only error is that memory ran out.
     pub fn from_ends(alloc: Global, ends: &[End]) -> Result<Orientation, NoMemory>
         ensures { IfOk result (λ orientation. orientation ≡ ends.now) }
     {
@@ -60,7 +60,7 @@ impl Model for Labels {
 }
 
 impl Labels {
-    /// The labels of the edges, from a list of them.
+    /// The labels of the edges, from a list of them. The only error is that memory ran out.
     pub fn from_labels(alloc: Global, labels: &[Label]) -> Result<Labels, NoMemory>
         ensures { IfOk result (λ made. made ≡ labels.now) }
     {

@@ -29,20 +29,18 @@ pub(crate) fn is_valley_free(steps: &[Step], labels: &[Label]) -> bool
 fn goes_up(label: Label, left: End) -> bool
     ensures { result ≡ is_up (step_slope label left) }
 {
-    match (label, left) {
-        (Label::Low, End::High) => true,
-        (Label::High, End::Low) => true,
-        _ => false,
-    }
+    matches!(
+        (label, left),
+        (Label::Low, End::High) | (Label::High, End::Low)
+    )
 }
 
 /// Whether the step from this end of an edge with this label goes to a customer.
 fn goes_down(label: Label, left: End) -> bool
     ensures { result ≡ is_down (step_slope label left) }
 {
-    match (label, left) {
-        (Label::Low, End::Low) => true,
-        (Label::High, End::High) => true,
-        _ => false,
-    }
+    matches!(
+        (label, left),
+        (Label::Low, End::Low) | (Label::High, End::High)
+    )
 }

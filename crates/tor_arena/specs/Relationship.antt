@@ -22,6 +22,11 @@ label_of End.High = Label.High
 abbrev pub labels_of : Orientation → Labelling
 labels_of O low high = label_of (O low high)
 
+-- the other end of an edge
+abbrev pub opposite : End → End
+opposite End.Low = End.High
+opposite End.High = End.Low
+
 abbrev pub is_low : Label → Bool
 is_low Label.Low = true
 is_low Label.High = false
