@@ -12,6 +12,7 @@ use Rattle.tor_arena.specs.Selection.{Keeps, IsForced}
 use Rattle.tor_arena.specs.Checking.{LostAreRefuted, Claim, IsBorneOut, MarksHold, MeetsGraphRules}
 use Rattle.tor_arena.proofs.Closures.{consistency_law}
 use Rattle.tor_arena.proofs.Checked.{keeping_law, marking_law}
+use Rattle.tor_arena.proofs.Forcing.{implied_law, unheld_law}
 use Rattle.tor_arena.proofs.Deciding.{is_distinct, AllDistinct-from_test, no_valley_iff, EachTriple, goes_on, Closure-within}
 use Rattle.std.proofs.lemmas.Bool.{false≢true, both_ways, cases_Bool}
 use Rattle.std.specs.List.{list_any}
@@ -338,6 +339,21 @@ loose_30_40 : IsForced kept 30 40 → ⊥
 loose_30_40 f =
     false≢true ((marking_law labels kept_numbered claims whys probes all_distinct valley_free marks_hold
     (record { low = 30; high = 40; label = Label.High; forced = false }) (0, lit< tt, refl) (lit< tt) refl).1 f)
+
+-- {10, 60} is on no kept path; and "20 over 10" is in the closure of "10 over 20"
+unheld_10_60 : IsForced kept 10 60 → ⊥
+unheld_10_60 = unheld_law kept 10 60 (providers, served) (not_in (edges kept) (10, 60) refl)
+
+implied_20_10 : (O : Orientation) → Serves O kept → is_over (labels_of O) 20 10 ≡ true
+implied_20_10 O serves = implied_law O kept 20 10 (λ e. omega arith) closed serves
+  where
+    closed : Closure kept 10 20 20 10
+    closed =
+        carry (carry (carry (carry start
+        (second, (1, lit< tt, refl), (2, inl (record { before = []; after = 40 ∷ []; whole = refl; place = refl }))))
+        (second, (1, lit< tt, refl), (3, inl (record { before = 10 ∷ []; after = []; whole = refl; place = refl }))))
+        (first, (0, lit< tt, refl), (2, inl (record { before = []; after = 10 ∷ 50 ∷ 60 ∷ []; whole = refl; place = refl }))))
+        (first, (0, lit< tt, refl), (3, inl (record { before = 30 ∷ []; after = 50 ∷ 60 ∷ []; whole = refl; place = refl })))
 
 -- row three paths: all rules on the graph are met
 all_paths_distinct : All AllDistinct all

@@ -90,6 +90,24 @@ AllowedLaw =
 abbrev pub ConsistencyLaw : Type 0
 ConsistencyLaw = (paths : List (List ℕ)) (a b : ℕ) → (Closure paths a b b a → ⊥) → IsConsistent paths a b
 
+-- ---- forced edges, by closures
+
+-- an order that stands in the closure of its opposite holds in each orientation that serves
+abbrev pub ImpliedLaw : Type 0
+ImpliedLaw =
+    (O : Orientation) (paths : List (List ℕ)) (a b : ℕ) → a ≢ b → Closure paths b a a b → Serves O paths → IsTrue (is_over (labels_of O) a b)
+
+-- where some orientation serves, an edge is not forced if neither order stands in the closure of the other
+abbrev pub LooseLaw : Type 0
+LooseLaw =
+    (paths : List (List ℕ)) (low high : ℕ) → All AllDistinct paths → IsServable paths → low < high →
+    (Closure paths low high high low → ⊥) → (Closure paths high low low high → ⊥) → IsForced paths low high → ⊥
+
+-- nor is an edge that no path holds
+abbrev pub UnheldLaw : Type 0
+UnheldLaw =
+    (paths : List (List ℕ)) (low high : ℕ) → IsServable paths → (Contains (edges paths) (low, high) → ⊥) → IsForced paths low high → ⊥
+
 -- ---- what components of the implications give. The order "x over y" is a literal, "y over x" its negation, and a triple
 -- x, y, z is the arc from "x over y" to "y over z"
 

@@ -1,7 +1,7 @@
 //! The laws of the definitions in `specs/`. Each is the contract of a function.
 
 ghost use Rattle.std.specs.Prelude.{◌≡◌};
-ghost use Rattle.tor_arena.specs.Laws.{EdgeLaw, EdgeOrderLaw, ServingLaw, RelaxingLaw, PeeringLaw, ReadingLaw, RefutingLaw, ShowingLaw, ClosureLaw, AllowedLaw, ConsistencyLaw, RankLaw, CycleLaw, KeepingLaw, MarkingLaw, ForcedLaw, SelectionLaw, KeptLaw, AllKeptLaw, GraphRulesLaw};
+ghost use Rattle.tor_arena.specs.Laws.{EdgeLaw, EdgeOrderLaw, ServingLaw, RelaxingLaw, PeeringLaw, ReadingLaw, RefutingLaw, ShowingLaw, ClosureLaw, AllowedLaw, ConsistencyLaw, ImpliedLaw, LooseLaw, UnheldLaw, RankLaw, CycleLaw, KeepingLaw, MarkingLaw, ForcedLaw, SelectionLaw, KeptLaw, AllKeptLaw, GraphRulesLaw};
 
 use crate::index::Index;
 
@@ -68,6 +68,22 @@ pub fn allowed_law()
 /// A closure that does not hold the other order of its start is consistent.
 pub fn consistency_law()
     ensures { ConsistencyLaw }
+{}
+
+/// An order in the closure of its opposite holds in every orientation that serves.
+pub fn implied_law()
+    ensures { ImpliedLaw }
+{}
+
+/// Where some orientation serves, an edge is not forced if neither of its orders is in the closure
+/// of the other.
+pub fn loose_law()
+    ensures { LooseLaw }
+{}
+
+/// Where some orientation serves, an edge that no path holds is not forced.
+pub fn unheld_law()
+    ensures { UnheldLaw }
 {}
 
 /// Numbers of orders that never fall along a triple, and differ for opposite orders, give an
