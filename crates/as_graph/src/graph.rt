@@ -21,6 +21,7 @@ pub struct Edge {
     pub low: u32,
     /// The higher number.
     pub high: u32,
+    ghost ordered: { low < high },
 }
 
 /// The graph of a list of paths, seen as that list: each has at least two ASes, all distinct.

@@ -64,6 +64,7 @@ fn edges_and_degrees(rt: HostRuntime) -> Result<(), Fail> {
     assert_eq!(rt; graph.edge_count(), 7);
     for place in 0..7 {
         let (low, high) = EDGES[place];
+        assert!(rt; low < high);
         assert_eq!(rt; graph.edge(edge(place)), Edge { low, high });
         assert_eq!(rt; graph.edge_between(high, low), Some(edge(place)));
     }
