@@ -69,11 +69,12 @@ high_end : (e : End) → is_high (label_of e) ≡ true → e ≡ End.High
 high_end End.Low h = absurd (false≢true h)
 high_end End.High h = refl
 
-over_low : (O : Orientation) (low high : ℕ) → low < high → is_over (labels_of O) low high ≡ true → O low high ≡ End.Low
+-- the end that is over the other
+pub over_low : (O : Orientation) (low high : ℕ) → low < high → is_over (labels_of O) low high ≡ true → O low high ≡ End.Low
 over_low O low high lt o =
     elim (over_parts (labels_of O) low high o) [ inl p ↦ low_end (O low high) p.1 | inr p ↦ absurd (omega arith) ]
 
-over_high : (O : Orientation) (low high : ℕ) → low < high → is_over (labels_of O) high low ≡ true → O low high ≡ End.High
+pub over_high : (O : Orientation) (low high : ℕ) → low < high → is_over (labels_of O) high low ≡ true → O low high ≡ End.High
 over_high O low high lt o =
     elim (over_parts (labels_of O) high low o) [ inl p ↦ absurd (omega arith) | inr p ↦ high_end (O low high) p.1 ]
 
