@@ -1,8 +1,8 @@
 -- What the earlier rules give of a file: its edges, and that there is no valley.
-use Rattle.std.proofs.Common.{◌≡◌, ◌⊎◌, inl, inr, ℕ, zero, suc, ◌+◌, ◌-◌, ◌<◌, ◌≤◌, max, Bool, true, false, not, IsTrue, List, [], ◌∷◌, ◌++◌, Some, None, is_none, length, map, flat_map, filter, take, sum_by, get_or, slice_get, slice_index, refl, sym, ap, ◌∙◌, subst, arith, All, Contains, ◌==◌, ◌&&◌, nat_le, length-append, eq-eqb}
+use Rattle.std.proofs.Common.{◌≡◌, ◌⊎◌, inl, inr, ℕ, zero, suc, ◌+◌, ◌-◌, ◌<◌, ◌≤◌, max, Bool, true, false, not, List, [], ◌∷◌, ◌++◌, Some, None, is_none, length, map, flat_map, filter, take, sum_by, get_or, slice_get, slice_index, refl, sym, ap, ◌∙◌, subst, arith, All, Contains, length-append, eq-eqb}
 use Rattle.std.proofs.Math.Dec.{lit≤}
-use Rattle.std.specs.List.{list_any, AllByRecursion}
-use Rattle.std.proofs.lemmas.Bool.{false≢true, cases_lt, cases_Bool, cases_order, and_parts, both_ways}
+use Rattle.std.specs.List.{AllByRecursion}
+use Rattle.std.proofs.lemmas.Bool.{false≢true, cases_lt, cases_Bool, cases_order, both_ways}
 use Rattle.std.proofs.lemmas.Option.{same_Some, slice_get-get_or, slice_get_past, get_or_from_slice_get}
 use Rattle.std.proofs.lemmas.List.{length-map, take_all}
 use Rattle.std.proofs.lemmas.List.Elements.{All-contains_itself, All-cons, All-nil, All-head, All-tail}
