@@ -1,5 +1,5 @@
 #!/usr/bin/env bash
-# Times of `tor_components::components` over digraphs of two sizes.
+# Times of `tor_components::components` over digraphs of four sizes.
 #   bench/components.sh
 # A small program is made beside a copy of the crates, proved, built and run, and then thrown away. It prints processor time.
 set -euo pipefail
@@ -117,10 +117,15 @@ fn measured(
 }
 
 fn main(rt: HostRuntime) -> Result<()> {
-    for turn in 0..4usize {
-        let forward = turn >= 2;
-        let tenths = if turn % 2 == 0 { 1 } else { 10 };
-        if let Some(times) = measured(&rt, rt.alloc(), forward, tenths * 30_000, tenths * 200_000) {
+    for turn in 0..8usize {
+        let forward = turn >= 4;
+        let scale = match turn % 4 {
+            0 => 1,
+            1 => 10,
+            2 => 20,
+            _ => 40,
+        };
+        if let Some(times) = measured(&rt, rt.alloc(), forward, scale * 30_000, scale * 200_000) {
             println!(rt; "turn {turn}: built in {} us, {} components in {} us", times.building, times.count, times.sorting)?;
         }
     }
