@@ -56,6 +56,13 @@ impl AsGraph {
         let _ = &self.table;
     }
 
+    /// How many paths there are, at most 2^23. It takes no memory.
+    pub fn path_count(&self) -> usize
+        ensures { result ≡ length self.now }
+    {
+        self.rows.len()
+    }
+
     /// How many edges there are, fewer than 2^26. It takes no memory.
     pub fn edge_count(&self) -> usize
         ensures count { result ≡ length (edges self.now) }
