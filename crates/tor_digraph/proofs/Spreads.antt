@@ -3,12 +3,12 @@ use Rattle.std.proofs.Common.{◌≡◌, ℕ, zero, suc, ◌+◌, ◌<◌, ◌�
 use Rattle.std.specs.Prelude.{slice_get, replicate, ◌↔◌, Result, OnOk, OnErr, IfOk, Contains}
 use Rattle.std.proofs.lemmas.List.{length-replicate}
 use Rattle.std.proofs.lemmas.Option.{same_Some}
-use Rattle.tor_digraph.specs.Walks.{HasArc, Reaches, here, along}
+use Rattle.tor_digraph.specs.Walks.{HasArc, Reaches, here, along, IsWay}
 use Rattle.tor_digraph.specs.Links.{IsLatest}
 use Rattle.tor_digraph.specs.Closing.{Has}
-use Rattle.tor_digraph.specs.Found.{IsSeen, IsFound}
+use Rattle.tor_digraph.specs.Found.{IsSeen, IsFound, IsRoot, IsForest, IsTree, LeadsFromRoot}
 use Rattle.tor_digraph.specs.Search.{IsSearch, IsGrowth}
-use Rattle.tor_digraph.specs.Reached.{Reach, IsKept, IsSpread, IsGrown, IsReach, IsBlank}
+use Rattle.tor_digraph.specs.Reached.{Reach, IsKept, IsSpread, IsGrown, IsReach, IsBlank, LeadsFromStart, LeadsFromSome}
 use Rattle.tor_digraph.specs.declared.found.Found.{Found}
 use Rattle.tor_digraph.specs.declared.found.Found.TheVariants.{No, Start, Along}
 use Rattle.tor_digraph.specs.declared.found.Open.{Open}
@@ -174,6 +174,17 @@ module _ {N A : Type 0} (place : N → ℕ) (spot : A → ℕ) (arcs : List (N �
   pub grown-reach_ok : {T E : Type 0} (r : Result T E) (count : ℕ) (start : N) (old new : Reach N A) → IsBlank place count old → OnOk r (IsSpread place spot count arcs new) → OnOk r (IsGrown arcs start old.nodes new.nodes) → OnOk r ((x : N) → slice_get new.found (place x) ≡ Some Start → (slice_get old.found (place x) ≡ Some Start) ⊎ (x ≡ start)) → OnOk r (IsReach place spot arcs start new)
   grown-reach_ok (Ok t) count start old new b s w root = grown-reach count start old new b s w root
   grown-reach_ok (Err e) count start old new b s w root = s
+
+module _ {N A : Type 0} (place : N → ℕ) (spot : A → ℕ) (found : List (Found N A)) (nodes : List N) (v : Reach N A) (x : N) (over : List N) (steps : List A) where
+  pub way-start_of : record { nodes = nodes; found = found } ≡ v → LeadsFromRoot place spot found x over steps → LeadsFromStart place spot v x over steps
+  way-start_of e w arcs start r =
+      let tree = subst (λ (z : Reach N A). IsTree place spot arcs start z.found) (sym e) r.tree in
+      subst (λ s. IsWay spot arcs s x over steps) (tree.root w.0 w.1) (w.2 arcs tree.along)
+
+  pub way-some_of : record { nodes = nodes; found = found } ≡ v → LeadsFromRoot place spot found x over steps → LeadsFromSome place spot v x over steps
+  way-some_of e w count arcs r =
+      let forest = subst (λ (z : Reach N A). IsForest place spot count arcs z.found) (sym e) r.forest in
+      (w.0, subst (λ (z : Reach N A). IsRoot place z.found w.0) e w.1, w.2 arcs forest.along)
 
 pub if_ok_weaker : {T E : Type 0} {P Q : T → Type 0} (r : Result T E) → ((x : T) → P x → Q x) → IfOk r P → IfOk r Q
 if_ok_weaker (Ok x) f h = f x h

@@ -1,7 +1,7 @@
 -- How a search found nodes: the trees of a depth-first search (Tarjan, Depth-first search and linear graph
 -- algorithms, 1972).
-use Rattle.std.specs.Prelude.{◌≡◌, ℕ, ◌+◌, List, Option, Some, None, slice_get, length}
-use Rattle.tor_digraph.specs.Walks.{IsArc}
+use Rattle.std.specs.Prelude.{◌≡◌, ℕ, ◌+◌, ◌⊎◌, List, Option, Some, None, slice_get, length}
+use Rattle.tor_digraph.specs.Walks.{IsArc, IsWay}
 use Rattle.tor_digraph.specs.declared.found.Found.{Found}
 use Rattle.tor_digraph.specs.declared.found.Found.TheVariants.{No, Start, Along}
 
@@ -20,6 +20,14 @@ module _ {N A : Type 0} where
   -- the node was found
   abbrev pub IsFound : (N → ℕ) → List (Found N A) → N → Type 0
   IsFound place found x = (f : Found N A) × (slice_get found (place x) ≡ Some f) × IsSeen f
+
+  -- a search began at the node
+  abbrev pub IsRoot : (N → ℕ) → List (Found N A) → N → Type 0
+  IsRoot place found x = slice_get found (place x) ≡ Some Start
+
+  -- none became a root but start
+  abbrev pub HasRootsOf : (N → ℕ) → N → List (Found N A) → List (Found N A) → Type 0
+  HasRootsOf place start old new = (x : N) → IsRoot place new x → IsRoot place old x ⊎ (x ≡ start)
 
   -- each arc of the trees is an arc of the digraph, from a node that was found one arc earlier
   abbrev pub HasTreeArcs : (N → ℕ) → (A → ℕ) → List (N × N) → List (Found N A) → Type 0
@@ -42,4 +50,9 @@ module _ {N A : Type 0} where
   -- one search tree, from start
   pub record IsTree (place : N → ℕ) (spot : A → ℕ) (arcs : List (N × N)) (start : N) (found : List (Found N A)) : Type 0 where
     pub along : HasTreeArcs place spot arcs found
-    pub root : (x : N) → slice_get found (place x) ≡ Some Start → x ≡ start
+    pub root : (x : N) → IsRoot place found x → x ≡ start
+
+  -- along the trees these arcs lead over these nodes from a root to the node
+  abbrev pub LeadsFromRoot : (N → ℕ) → (A → ℕ) → List (Found N A) → N → List N → List A → Type 0
+  LeadsFromRoot place spot found node nodes steps = (root : N) × IsRoot place found root
+      × ((arcs : List (N × N)) → HasTreeArcs place spot arcs found → IsWay spot arcs root node nodes steps)

@@ -1,8 +1,8 @@
 -- What is reached from a node, or from several.
 use Rattle.std.specs.Prelude.{◌≡◌, ℕ, ◌<◌, ◌≤◌, ◌↔◌, [], List, Some, slice_get, length, Contains}
-use Rattle.tor_digraph.specs.Walks.{HasArc, Reaches}
+use Rattle.tor_digraph.specs.Walks.{HasArc, Reaches, IsWay}
 use Rattle.tor_digraph.specs.Closing.{Has, IsOnce, IsClosing}
-use Rattle.tor_digraph.specs.Found.{IsFound, IsFalling, IsForest, IsTree}
+use Rattle.tor_digraph.specs.Found.{IsFound, IsRoot, IsFalling, IsForest, IsTree}
 use Rattle.tor_digraph.specs.declared.found.Found.{Found}
 
 -- the nodes that were reached, in the order in which a search left them for good, and how it found each node
@@ -24,6 +24,15 @@ pub record IsSpread {N A : Type 0} (place : N → ℕ) (spot : A → ℕ) (count
   pub heads : (x y : N) → Contains r.nodes x → HasArc arcs x y → Contains r.nodes y
   pub order : IsClosing arcs r.nodes
   pub forest : IsForest place spot count arcs r.found
+
+-- these arcs lead over these nodes from the start of the search to the node
+abbrev pub LeadsFromStart : {N A : Type 0} → (N → ℕ) → (A → ℕ) → Reach N A → N → List N → List A → Type 0
+LeadsFromStart {N} {A} place spot r node nodes steps = (arcs : List (N × N)) (start : N) → IsReach place spot arcs start r → IsWay spot arcs start node nodes steps
+
+-- the same of several starts: from one of those at which a search began
+abbrev pub LeadsFromSome : {N A : Type 0} → (N → ℕ) → (A → ℕ) → Reach N A → N → List N → List A → Type 0
+LeadsFromSome {N} {A} place spot r node nodes steps = (count : ℕ) (arcs : List (N × N)) → IsSpread place spot count arcs r →
+    (start : N) × IsRoot place r.found start × IsWay spot arcs start node nodes steps
 
 -- the old nodes are followed by nodes that start reaches, and start is among them all
 pub record IsGrown {N : Type 0} (arcs : List (N × N)) (start : N) (old new : List N) : Type 0 where

@@ -1,6 +1,6 @@
 ghost use Rattle.std.specs.Prelude.{◌≡◌, ℕ, ◌⊎◌, ◌+◌, ◌<◌, ◌≤◌, ◌↔◌, ◌++◌, ◌∷◌, [], List, Some, slice_get, length, OnOk, OnErr, IfOk, IfSome, IsNone, IsTrue, Contains};
-ghost use Rattle.tor_digraph.specs.Walks.{IsWay};
 ghost use Rattle.tor_digraph.specs.Closing.{IsOnce};
+ghost use Rattle.tor_digraph.specs.Found.{IsRoot, HasRootsOf};
 
 use crate::digraph::Digraph;
 use crate::found::{Found, Open};
@@ -32,7 +32,7 @@ impl<N: Index, A: Index> Model for Reached<N, A> {
 }
 
 impl<N: Index, A: Index> Reached<N, A> {
-    ghost use Rattle.tor_digraph.specs.Reached.{IsSpread, IsGrown, IsBlank, IsReach};
+    ghost use Rattle.tor_digraph.specs.Reached.{IsSpread, IsGrown, IsBlank, LeadsFromStart, LeadsFromSome};
 
     /// No node. It takes no memory.
     pub fn new(alloc: Global) -> Reached<N, A>
@@ -77,19 +77,18 @@ impl<N: Index, A: Index> Reached<N, A> {
         self.nodes
     }
 
-    /// A walk from the start to the node, by the arcs of the digraph that was searched. None
-    /// exactly where no walk leads to the node.
+    /// A walk from the start, or from one of several, to the node, by the arcs of the digraph that
+    /// was searched. None exactly where no walk leads to the node. The only error is that memory
+    /// ran out.
     pub fn walk_to(&self, alloc: Global, node: N) -> Result<Option<Way<N, A>>, NoMemory>
         ensures none { IfOk result (λ w. IsNone w ↔ (Contains self.now.nodes node → ⊥)) }
-        ensures way { IfOk result (λ w. IfSome w (λ way. (arcs : List (N × N)) (start : N) → IsReach N.place_of A.place_of arcs start self.now → IsWay A.place_of arcs start node way.nodes way.arcs)) }
+        ensures way { IfOk result (λ w. IfSome w (λ way. LeadsFromStart N.place_of A.place_of self.now node way.nodes way.arcs)) }
+        ensures spread { IfOk result (λ w. IfSome w (λ way. LeadsFromSome N.place_of A.place_of self.now node way.nodes way.arcs)) }
     {
         if !self.has(node) {
             return Ok(None);
         }
-        match way_to(alloc, &self.found, node) {
-            Ok(way) => Ok(Some(way)),
-            Err(NoMemory) => Err(NoMemory),
-        }
+        Ok(Some(way_to(alloc, &self.found, node)?))
     }
 
     /// Adds what is reached from `start`.
@@ -98,7 +97,7 @@ impl<N: Index, A: Index> Reached<N, A> {
         requires spread { IsSpread N.place_of A.place_of graph.now.nodes graph.now.arcs self.old }
         ensures spread { OnOk result (IsSpread N.place_of A.place_of graph.now.nodes graph.now.arcs self.new) }
         ensures grown { OnOk result (IsGrown graph.now.arcs start self.old.nodes self.new.nodes) }
-        ensures root { OnOk result ((x : N) → slice_get self.new.found (N.place_of x) ≡ Some Found.Start → (slice_get self.old.found (N.place_of x) ≡ Some Found.Start) ⊎ (x ≡ start)) }
+        ensures root { OnOk result (HasRootsOf N.place_of start self.old.found self.new.found) }
         ensures err { OnErr result (self.new.nodes ≡ []) }
     {
         if self.has(start) {
@@ -167,6 +166,7 @@ impl<N: Index, A: Index> Digraph<N, A> {
     pub fn reach_none(&self, alloc: Global) -> Result<Reached<N, A>, NoMemory>
         ensures nodes { IfOk result (λ r. r.nodes ≡ []) }
         ensures spread { IfOk result (λ r. IsSpread N.place_of A.place_of self.now.nodes self.now.arcs r) }
+        ensures roots { IfOk result (λ r. (x : N) → IsRoot N.place_of r.found x → ⊥) }
     {
         let mut reached = Reached::new(alloc);
         reached.reset(self.node_count())?;
@@ -181,6 +181,7 @@ impl<N: Index, A: Index> Digraph<N, A> {
         requires spread { IsSpread N.place_of A.place_of self.now.nodes self.now.arcs reached.old }
         ensures spread { OnOk result (IsSpread N.place_of A.place_of self.now.nodes self.now.arcs reached.new) }
         ensures grown { OnOk result (IsGrown self.now.arcs start reached.old.nodes reached.new.nodes) }
+        ensures roots { OnOk result (HasRootsOf N.place_of start reached.old.found reached.new.found) }
         ensures err { OnErr result (reached.new.nodes ≡ []) }
     {
         reached.grow(self, start)

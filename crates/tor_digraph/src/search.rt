@@ -1,6 +1,6 @@
 ghost use Rattle.std.specs.Prelude.{◌≡◌, ◌⊎◌, ◌<◌, ◌≤◌, ◌++◌, ◌∷◌, [], List, Some, slice_get, length, OnOk};
 ghost use Rattle.tor_digraph.specs.Search.{IsSearch, IsGrowth, IsLater, work};
-ghost use Rattle.tor_digraph.specs.Found.{IsFound};
+ghost use Rattle.tor_digraph.specs.Found.{IsFound, HasRootsOf};
 
 use crate::digraph::Digraph;
 use crate::found::{Found, Open};
@@ -89,7 +89,7 @@ pub(crate) fn explore<N: Index, A: Index>(
     ensures search { OnOk result (IsSearch N.place_of A.place_of graph.now.arcs found.new.items nodes.new []) }
     ensures growth { OnOk result (IsGrowth {A = A} graph.now.arcs start nodes.old nodes.new []) }
     ensures found { OnOk result (IsFound N.place_of found.new.items start) }
-    ensures starts { OnOk result ((x : N) → slice_get found.new.items (N.place_of x) ≡ Some Found.Start → (slice_get found.old.items (N.place_of x) ≡ Some Found.Start) ⊎ (x ≡ start)) }
+    ensures starts { OnOk result (HasRootsOf N.place_of start found.old.items found.new.items) }
 {
     prove!(graph.node_count() <= N::LIMIT);
     let next = graph.first_arc(start);

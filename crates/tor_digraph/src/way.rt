@@ -1,5 +1,5 @@
 ghost use Rattle.std.specs.Prelude.{◌≡◌, ◌+◌, ◌<◌, ◌↔◌, List, Some, slice_get, length, IfOk, IfSome, IsNone};
-ghost use Rattle.tor_digraph.specs.Found.{IsFound, IsFalling, HasTreeArcs, IsTree};
+ghost use Rattle.tor_digraph.specs.Found.{IsFound, IsRoot, IsFalling, HasTreeArcs, LeadsFromRoot};
 ghost use Rattle.tor_digraph.specs.Walks.{IsWay};
 ghost use Rattle.tor_digraph.specs.Back.{IsBack};
 
@@ -31,7 +31,7 @@ fn go_back<N: Index, A: Index>(
 ) -> Result<Back<N, A>, NoMemory>
     requires found { IsFound N.place_of found.now.items node }
     requires falls { IsFalling N.place_of found.now.items }
-    ensures root { IfOk result (λ b. slice_get found.now.items (N.place_of b.root) ≡ Some Found.Start) }
+    ensures root { IfOk result (λ b. IsRoot N.place_of found.now.items b.root) }
     ensures back { IfOk result (λ b. (arcs : List (N × N)) → HasTreeArcs N.place_of A.place_of arcs found.now.items → IsBack A.place_of arcs b.root node b.steps) }
 {
     let mut root = node;
@@ -66,7 +66,7 @@ pub(crate) fn way_to<N: Index, A: Index>(
 ) -> Result<Way<N, A>, NoMemory>
     requires found { IsFound N.place_of found.now.items node }
     requires falls { IsFalling N.place_of found.now.items }
-    ensures { IfOk result (λ w. (arcs : List (N × N)) (start : N) → IsTree N.place_of A.place_of arcs start found.now.items → IsWay A.place_of arcs start node w.nodes w.arcs) }
+    ensures { IfOk result (λ w. LeadsFromRoot N.place_of A.place_of found.now.items node w.nodes w.arcs) }
 {
     turn_round(alloc, go_back(alloc, found, node)?)
 }

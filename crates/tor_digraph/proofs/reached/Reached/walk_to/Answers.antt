@@ -1,8 +1,8 @@
-use Rattle.std.proofs.Common.{sym, subst}
-use Rattle.tor_digraph.specs.Reached.{IsReach}
+use Rattle.tor_digraph.proofs.Spreads.{way-start_of, way-some_of}
 use Rattle.tor_digraph.proofs.reached.Reached.walk_to.Goals as goal
 
-pub returns-in-Ok-clause-way : goal.returns-in-Ok-clause-way
-returns-in-Ok-clause-way g c = λ arcs start r.
-    let r' = subst (λ z. IsReach g.N.Index.place_of g.A.Index.place_of arcs start z) (sym c.self.view_is) r in
-    c.in-Ok.ensures arcs start r'.tree
+pub returns-clause-way : goal.returns-clause-way
+returns-clause-way g c = way-start_of g.N.Index.place_of g.A.Index.place_of c.self.inside.found.items c.self.inside.nodes c.args.self.now c.args.node _ _ c.self.view_is c.in_ok-way_to.ensures
+
+pub returns-clause-spread : goal.returns-clause-spread
+returns-clause-spread g c = way-some_of g.N.Index.place_of g.A.Index.place_of c.self.inside.found.items c.self.inside.nodes c.args.self.now c.args.node _ _ c.self.view_is c.in_ok-way_to.ensures
