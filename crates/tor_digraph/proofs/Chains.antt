@@ -3,7 +3,7 @@ use Rattle.std.proofs.Common.{◌≡◌, ◌≢◌, ℕ, zero, suc, ◌+◌, ◌
 use Rattle.std.specs.Prelude.{slice_get, replicate}
 use Rattle.std.proofs.lemmas.List.{length_push, length-take-le}
 use Rattle.tor_digraph.specs.Walks.{IsArc, IsInside}
-use Rattle.tor_digraph.specs.Links.{IsLatest, IsLinked}
+use Rattle.tor_digraph.specs.Links.{IsLatest, IsChained}
 use Rattle.tor_digraph.proofs.Gets.{slice_get-push_old, slice_get-push_cases, slice_get-push_last, slice_get-lt, slice_get-take, slice_get-take_back, slice_get-set_cases, slice_get-replicate, slice_get-append_cases}
 
 take-fewer : {X : Type 0} (m n : ℕ) (xs : List X) → m ≤ n → take m (take n xs) ≡ take m xs
@@ -37,7 +37,7 @@ module _ {N A : Type 0} (spot : A → ℕ) where
       same-arc q = let at : slice_get arcs m ≡ Some (u, l.1.0) = subst (λ i. slice_get arcs i ≡ Some (u, l.1.0)) q l.1.1 in cc
 
 module _ {N A : Type 0} (place : N → ℕ) (spot : A → ℕ) (one : (u v : N) → place u ≡ place v → u ≡ v) (first : List (Option A)) (arcs : List (N × N)) (links : List (Option A)) where
-  pub linked-add : (t h : N) (a : A) (r : Option A) → IsLinked place spot first arcs links → place t < length first → place h < length first → spot a ≡ length arcs → slice_get first (place t) ≡ Some r → IsLinked place spot (set first (place t) (Some a)) (arcs ++ (t, h) ∷ []) (links ++ r ∷ [])
+  pub linked-add : (t h : N) (a : A) (r : Option A) → IsChained place spot first arcs links → place t < length first → place h < length first → spot a ≡ length arcs → slice_get first (place t) ≡ Some r → IsChained place spot (set first (place t) (Some a)) (arcs ++ (t, h) ∷ []) (links ++ r ∷ [])
   linked-add t h a r l t-in h-in a-is was = record {
     as_many = grind (arith, length_push (arcs) (t, h), length_push links r, l.as_many);
     tails = λ k u v is. rw (length-set first (place t) (Some a)) (elim (slice_get-push_cases arcs (t, h) k (u, v) is) [ inl q ↦ l.tails k u v q | inr q ↦ subst (λ x. place x < length first) (sym (ap (λ p. p.0) q.1)) t-in ]);
@@ -72,13 +72,13 @@ module _ {N A : Type 0} (place : N → ℕ) (spot : A → ℕ) (one : (u v : N) 
           ]
 
   -- the same, of lists that were made step by step
-  pub linked-add_made : (t h : N) (a : A) (r : Option A) → IsLinked place spot first arcs links → place t < length first → place h < length first
+  pub linked-add_made : (t h : N) (a : A) (r : Option A) → IsChained place spot first arcs links → place t < length first → place h < length first
       → (arcs' : List (N × N)) (links' : List (Option A)) → arcs' ≡ arcs → links' ≡ links → spot a ≡ length arcs' → slice_get first (place t) ≡ Some r
-      → (first'' : List (Option A)) (arcs'' : List (N × N)) (links'' : List (Option A)) → first'' ≡ set first (place t) (Some a) → arcs'' ≡ arcs' ++ (t, h) ∷ [] → links'' ≡ links' ++ r ∷ [] → IsLinked place spot first'' arcs'' links''
+      → (first'' : List (Option A)) (arcs'' : List (N × N)) (links'' : List (Option A)) → first'' ≡ set first (place t) (Some a) → arcs'' ≡ arcs' ++ (t, h) ∷ [] → links'' ≡ links' ++ r ∷ [] → IsChained place spot first'' arcs'' links''
   linked-add_made t h a r l t-in h-in arcs' links' e-arcs e-links a-is was first'' arcs'' links'' e-first'' e-arcs'' e-links'' =
       rw (e-first'', e-arcs'', e-links'', e-arcs, e-links) (linked-add t h a r l t-in h-in (a-is ∙ ap length e-arcs) was)
 
-  pub linked-drop : (m : ℕ) (t h : N) (r : Option A) → IsLinked place spot first arcs links → length arcs ≡ m + 1 → IsArc arcs m t h → slice_get links m ≡ Some r → IsLinked place spot (set first (place t) r) (take m arcs) (take m links)
+  pub linked-drop : (m : ℕ) (t h : N) (r : Option A) → IsChained place spot first arcs links → length arcs ≡ m + 1 → IsArc arcs m t h → slice_get links m ≡ Some r → IsChained place spot (set first (place t) r) (take m arcs) (take m links)
   linked-drop m t h r l n last at = record {
     as_many = (let many : length links ≡ length arcs = l.as_many in let a : length (take m arcs) ≡ m = length-take-le m arcs (omega arith) in let b : length (take m links) ≡ m = length-take-le m links (omega arith) in omega arith);
     tails = λ k u v is. rw (length-set first (place t) r) (l.tails k u v (slice_get-take m arcs k (u, v) is).1);
@@ -91,16 +91,16 @@ module _ {N A : Type 0} (place : N → ℕ) (spot : A → ℕ) (one : (u v : N) 
   }
 
   -- the last of the first m + 1 arcs is taken away, its tail knows the one before it again
-  pub linked-drop_made : (n m : ℕ) (t h : N) (r : Option A) (all : List (N × N)) (rest : List (Option A)) → n ≡ m + 1 → n ≤ length all → arcs ≡ take n all → links ≡ take n rest → IsLinked place spot first arcs links → IsArc all m t h → slice_get rest m ≡ Some r
-      → (first' : List (Option A)) → first' ≡ set first (place t) r → IsLinked place spot first' (take m all) (take m rest)
+  pub linked-drop_made : (n m : ℕ) (t h : N) (r : Option A) (all : List (N × N)) (rest : List (Option A)) → n ≡ m + 1 → n ≤ length all → arcs ≡ take n all → links ≡ take n rest → IsChained place spot first arcs links → IsArc all m t h → slice_get rest m ≡ Some r
+      → (first' : List (Option A)) → first' ≡ set first (place t) r → IsChained place spot first' (take m all) (take m rest)
   linked-drop_made n m t h r all rest is-n le e-arcs e-links l last at first' e-first = rw e-first
-      (subst (λ z. IsLinked place spot (set first (place t) r) z (take m rest)) (ap (take m) e-arcs ∙ take-fewer m n all (omega arith))
-      (subst (λ z. IsLinked place spot (set first (place t) r) (take m arcs) z) (ap (take m) e-links ∙ take-fewer m n rest (omega arith))
+      (subst (λ z. IsChained place spot (set first (place t) r) z (take m rest)) (ap (take m) e-arcs ∙ take-fewer m n all (omega arith))
+      (subst (λ z. IsChained place spot (set first (place t) r) (take m arcs) z) (ap (take m) e-links ∙ take-fewer m n rest (omega arith))
       (linked-drop m t h r l (ap length e-arcs ∙ length-take-le n all le ∙ is-n)
       (rw e-arcs (slice_get-take_back n all m (t, h) (omega arith) last))
       (rw e-links (slice_get-take_back n rest m r (omega arith) at)))))
 
-  pub linked-more_nodes : (n : ℕ) → IsLinked place spot first arcs links → IsLinked place spot (first ++ replicate n None) arcs links
+  pub linked-more_nodes : (n : ℕ) → IsChained place spot first arcs links → IsChained place spot (first ++ replicate n None) arcs links
   linked-more_nodes n l = record {
     as_many = l.as_many;
     tails = λ k u v is. (let old : place u < length first = l.tails k u v is in rw (length-append first (replicate n None)) (omega arith));
@@ -112,7 +112,7 @@ module _ {N A : Type 0} (place : N → ℕ) (spot : A → ℕ) (one : (u v : N) 
     before = l.before;
   }
 
-  pub linked-fewer_nodes : (m : ℕ) → IsLinked place spot first arcs links → m ≤ length first → IsInside place (record { nodes = m; arcs = arcs }) → IsLinked place spot (take m first) arcs links
+  pub linked-fewer_nodes : (m : ℕ) → IsChained place spot first arcs links → m ≤ length first → IsInside place (record { nodes = m; arcs = arcs }) → IsChained place spot (take m first) arcs links
   linked-fewer_nodes m l le inside = record {
     as_many = l.as_many;
     tails = λ k u v is. rw (length-take-le m first le) (inside.tails k u v is);
@@ -123,8 +123,8 @@ module _ {N A : Type 0} (place : N → ℕ) (spot : A → ℕ) (one : (u v : N) 
 
 module _ {N A : Type 0} (place : N → ℕ) (spot : A → ℕ) (one : (u v : N) → place u ≡ place v → u ≡ v) where
   -- the first arcs alone are chained, so nodes without them can go too
-  pub linked-undo : (first first' : List (Option A)) (arcs arcs' was : List (N × N)) (links links' : List (Option A)) (left n m : ℕ) → left ≡ n → IsLinked place spot first (take left arcs) (take left links) → m ≤ length first → arcs ≡ was → IsInside place (record { nodes = m; arcs = take n was })
-      → first' ≡ take m first → arcs' ≡ take n arcs → links' ≡ take n links → IsLinked place spot first' arcs' links'
+  pub linked-undo : (first first' : List (Option A)) (arcs arcs' was : List (N × N)) (links links' : List (Option A)) (left n m : ℕ) → left ≡ n → IsChained place spot first (take left arcs) (take left links) → m ≤ length first → arcs ≡ was → IsInside place (record { nodes = m; arcs = take n was })
+      → first' ≡ take m first → arcs' ≡ take n arcs → links' ≡ take n links → IsChained place spot first' arcs' links'
   linked-undo first first' arcs arcs' was links links' left n m is-n l le e-was inside e-first e-arcs e-links = rw (e-first, e-arcs, e-links)
-      (linked-fewer_nodes place spot one first (take n arcs) (take n links) m (subst (λ k. IsLinked place spot first (take k arcs) (take k links)) is-n l) le
+      (linked-fewer_nodes place spot one first (take n arcs) (take n links) m (subst (λ k. IsChained place spot first (take k arcs) (take k links)) is-n l) le
       (subst (λ z. IsInside place (record { nodes = m; arcs = take n z })) (sym e-was) inside))

@@ -8,10 +8,11 @@ use Rattle.tor_digraph.specs.Links.{IsLatest}
 use Rattle.tor_digraph.specs.Closing.{Has}
 use Rattle.tor_digraph.specs.Found.{IsSeen, IsFound, IsRoot, IsForest, IsTree, LeadsFromRoot}
 use Rattle.tor_digraph.specs.Search.{IsSearch, IsGrowth}
-use Rattle.tor_digraph.specs.Reached.{Reach, IsKept, IsSpread, IsGrown, IsReach, IsBlank, LeadsFromStart, LeadsFromSome}
+use Rattle.tor_digraph.specs.Reached.{Reach, AreSeen, IsSpread, IsGrown, IsReach, IsBlank, LeadsFromStart, LeadsFromSome}
 use Rattle.tor_digraph.specs.declared.found.Found.{Found}
 use Rattle.tor_digraph.specs.declared.found.Found.TheVariants.{No, Start, Along}
 use Rattle.tor_digraph.specs.declared.found.Open.{Open}
+use Rattle.tor_digraph.specs.declared.way.Way.{Way}
 use Rattle.tor_digraph.proofs.Gets.{has-from_Contains, Contains-from_has, slice_get-lt, slice_get-some, slice_get-set_cases, slice_get-set_same, slice_get-take, slice_get-replicate, slice_get-append_cases}
 use Rattle.tor_digraph.proofs.Few.{few}
 use Rattle.tor_digraph.proofs.Steps.{search-open, seen-not_no, has-cases}
@@ -26,7 +27,7 @@ module _ {N A : Type 0} (place : N → ℕ) (spot : A → ℕ) (one : (u v : N) 
       (subst (λ z. IsSearch place spot arcs (set found (place s) Start) nodes z) (sym (e ∙ ap (λ z. z ++ (record { node = s; next = r }) ∷ []) e-empty))
       (search-open place spot one arcs found nodes [] s Start r w absent tt refl (λ i o at. (let bad : None ≡ Some o = at in cc)) latest (λ t a d q. (let bad : Start ≡ Along t a d = q in cc))))
 
-  pub kept-search : (found : List (Found N A)) (nodes : List N) (count : ℕ) (v : Reach N A) → IsKept place nodes found → record { nodes = nodes; found = found } ≡ v → IsSpread place spot count arcs v → IsSearch place spot arcs found nodes []
+  pub kept-search : (found : List (Found N A)) (nodes : List N) (count : ℕ) (v : Reach N A) → AreSeen place nodes found → record { nodes = nodes; found = found } ≡ v → IsSpread place spot count arcs v → IsSearch place spot arcs found nodes []
   kept-search found nodes count v k e spread = let s = subst (λ z. IsSpread place spot count arcs z) (sym e) spread in record {
     seen = λ x f. inl (k.seen x f);
     nodes_seen = k.nodes_seen;
@@ -41,7 +42,7 @@ module _ {N A : Type 0} (place : N → ℕ) (spot : A → ℕ) (one : (u v : N) 
     tree = s.forest.along;
   }
 
-  pub search-kept : (found : List (Found N A)) (nodes : List N) → IsSearch place spot arcs found nodes [] → IsKept place nodes found
+  pub search-kept : (found : List (Found N A)) (nodes : List N) → IsSearch place spot arcs found nodes [] → AreSeen place nodes found
   search-kept found nodes s = record {
     seen = λ x f. elim (s.seen x f) [ inl h ↦ h | inr h ↦ (let bad : None ≡ Some h.1 = h.2 in cc) ];
     nodes_seen = s.nodes_seen;
@@ -86,11 +87,11 @@ module _ {N A : Type 0} (place : N → ℕ) where
   seen-same : (f e : Found N A) → f ≡ e → IsSeen e → f ≡ No → ⊥
   seen-same f e p s q = subst IsSeen (sym p ∙ q) s
 
-  pub kept-has : (found : List (Found N A)) (nodes : List N) (v : Reach N A) (x : N) (f : Found N A) → IsKept place nodes found → record { nodes = nodes; found = found } ≡ v → slice_get found (place x) ≡ Some f → (f ≡ No → ⊥) ↔ Contains v.nodes x
+  pub kept-has : (found : List (Found N A)) (nodes : List N) (v : Reach N A) (x : N) (f : Found N A) → AreSeen place nodes found → record { nodes = nodes; found = found } ≡ v → slice_get found (place x) ≡ Some f → (f ≡ No → ⊥) ↔ Contains v.nodes x
   kept-has found nodes v x f k e at = subst (λ z. (f ≡ No → ⊥) ↔ Contains z.nodes x) e
       ((λ h. Contains-from_has nodes x (k.seen x (f, at, seen-not_no f h))), (λ h. (let w = k.nodes_seen x (has-from_Contains nodes x h) in seen-same f w.0 (same_Some f w.0 (sym at ∙ w.1)) w.2)))
 
-  pub kept-has_not : (found : List (Found N A)) (nodes : List N) (v : Reach N A) (x : N) → IsKept place nodes found → record { nodes = nodes; found = found } ≡ v → length found ≤ place x → Contains v.nodes x → ⊥
+  pub kept-has_not : (found : List (Found N A)) (nodes : List N) (v : Reach N A) (x : N) → AreSeen place nodes found → record { nodes = nodes; found = found } ≡ v → length found ≤ place x → Contains v.nodes x → ⊥
   kept-has_not found nodes v x k e le h = let w = k.nodes_seen x (has-from_Contains nodes x (subst (λ z. Contains z.nodes x) (sym e) h)) in let below : place x < length found = slice_get-lt found (place x) w.0 w.1 in omega arith
 
   no-or-seen : (f : Found N A) → (f ≡ No) ⊎ IsSeen f
@@ -98,13 +99,13 @@ module _ {N A : Type 0} (place : N → ℕ) where
   no-or-seen Start = inr tt
   no-or-seen (Along t a d) = inr tt
 
-  pub kept-absent : (found : List (Found N A)) (nodes : List N) (v : Reach N A) (x : N) → IsKept place nodes found → record { nodes = nodes; found = found } ≡ v → place x < length found → (Has v.nodes x → ⊥) → slice_get found (place x) ≡ Some No
+  pub kept-absent : (found : List (Found N A)) (nodes : List N) (v : Reach N A) (x : N) → AreSeen place nodes found → record { nodes = nodes; found = found } ≡ v → place x < length found → (Has v.nodes x → ⊥) → slice_get found (place x) ≡ Some No
   kept-absent found nodes v x k e lt h = let w = slice_get-some found (place x) lt in elim (no-or-seen w.0) [
     | inl q ↦ w.1 ∙ ap Some q
     | inr q ↦ absurd (h (subst (λ z. Has z.nodes x) e (k.seen x (w.0, w.1, q))))
   ]
 
-  pub kept-nothing : (found : List (Found N A)) (nodes : List N) → found ≡ [] → nodes ≡ [] → IsKept place nodes found
+  pub kept-nothing : (found : List (Found N A)) (nodes : List N) → found ≡ [] → nodes ≡ [] → AreSeen place nodes found
   kept-nothing found nodes e-found e-nodes = rw (e-found, e-nodes) (record {
     seen = λ x f. (let bad : None ≡ Some f.0 = f.1 in cc);
     nodes_seen = λ x h. (let bad : None ≡ Some x = h.1 in cc);
@@ -130,7 +131,7 @@ module _ {N A : Type 0} (place : N → ℕ) where
   pub blank-cut : (found : List (Found N A)) (m : ℕ) → ((x : N) → IsFound place found x → ⊥) → (x : N) → IsFound place (take m found) x → ⊥
   blank-cut found m none x f = none x (f.0, (slice_get-take m found (place x) f.0 f.1).1, f.2)
 
-  pub blank-kept : (found : List (Found N A)) (nodes : List N) → nodes ≡ [] → ((x : N) → IsFound place found x → ⊥) → IsKept place nodes found
+  pub blank-kept : (found : List (Found N A)) (nodes : List N) → nodes ≡ [] → ((x : N) → IsFound place found x → ⊥) → AreSeen place nodes found
   blank-kept found nodes e none = rw e (record {
     seen = λ x f. absurd (none x f);
     nodes_seen = λ x h. (let bad : None ≡ Some x = h.1 in cc);
@@ -175,13 +176,13 @@ module _ {N A : Type 0} (place : N → ℕ) (spot : A → ℕ) (arcs : List (N �
   grown-reach_ok (Ok t) count start old new b s w root = grown-reach count start old new b s w root
   grown-reach_ok (Err e) count start old new b s w root = s
 
-module _ {N A : Type 0} (place : N → ℕ) (spot : A → ℕ) (found : List (Found N A)) (nodes : List N) (v : Reach N A) (x : N) (over : List N) (steps : List A) where
-  pub way-start_of : record { nodes = nodes; found = found } ≡ v → LeadsFromRoot place spot found x over steps → LeadsFromStart place spot v x over steps
+module _ {N A : Type 0} (place : N → ℕ) (spot : A → ℕ) (found : List (Found N A)) (nodes : List N) (v : Reach N A) (x : N) (way : Way N A) where
+  pub way-start_of : record { nodes = nodes; found = found } ≡ v → LeadsFromRoot place spot found x way.nodes way.arcs → LeadsFromStart place spot v x way
   way-start_of e w arcs start r =
       let tree = subst (λ (z : Reach N A). IsTree place spot arcs start z.found) (sym e) r.tree in
-      subst (λ s. IsWay spot arcs s x over steps) (tree.root w.0 w.1) (w.2 arcs tree.along)
+      subst (λ s. IsWay spot arcs s x way.nodes way.arcs) (tree.root w.0 w.1) (w.2 arcs tree.along)
 
-  pub way-some_of : record { nodes = nodes; found = found } ≡ v → LeadsFromRoot place spot found x over steps → LeadsFromSome place spot v x over steps
+  pub way-some_of : record { nodes = nodes; found = found } ≡ v → LeadsFromRoot place spot found x way.nodes way.arcs → LeadsFromSome place spot v x way
   way-some_of e w count arcs r =
       let forest = subst (λ (z : Reach N A). IsForest place spot count arcs z.found) (sym e) r.forest in
       (w.0, subst (λ (z : Reach N A). IsRoot place z.found w.0) e w.1, w.2 arcs forest.along)
@@ -191,5 +192,5 @@ if_ok_weaker (Ok x) f h = f x h
 if_ok_weaker (Err e) f h = h
 
 -- there are at most as many nodes as places
-pub kept-few : {N A : Type 0} (place : N → ℕ) → ((u v : N) → place u ≡ place v → u ≡ v) → (found : List (Found N A)) (nodes : List N) → IsKept place nodes found → length nodes ≤ length found
+pub kept-few : {N A : Type 0} (place : N → ℕ) → ((u v : N) → place u ≡ place v → u ≡ v) → (found : List (Found N A)) (nodes : List N) → AreSeen place nodes found → length nodes ≤ length found
 kept-few place one found nodes k = few place nodes (length found) (λ i j x y lt a b e. (let same : i ≡ j = k.once i j x a (b ∙ ap Some (sym (one x y e))) in omega arith)) (λ i x at. (let w = k.nodes_seen x (i, at) in slice_get-lt found (place x) w.0 w.1))

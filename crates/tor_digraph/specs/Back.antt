@@ -1,4 +1,4 @@
--- Steps back along a search tree.
+-- Steps back along a search tree. These words are the search's own: no reader of a public clause needs them.
 use Rattle.std.specs.Prelude.{◌≡◌, ℕ, ◌+◌, List, [], Some, slice_get, length}
 use Rattle.tor_digraph.specs.Walks.{IsArc}
 

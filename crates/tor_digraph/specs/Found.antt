@@ -1,5 +1,5 @@
 -- How a search found nodes: the trees of a depth-first search (Tarjan, Depth-first search and linear graph
--- algorithms, 1972).
+-- algorithms, 1972). These words are the search's own: a reader of a public clause needs only IsRoot and HasRootsOf.
 use Rattle.std.specs.Prelude.{◌≡◌, ℕ, ◌+◌, ◌⊎◌, List, Option, Some, None, slice_get, length}
 use Rattle.tor_digraph.specs.Walks.{IsArc, IsWay}
 use Rattle.tor_digraph.specs.declared.found.Found.{Found}

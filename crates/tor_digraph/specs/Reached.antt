@@ -4,6 +4,7 @@ use Rattle.tor_digraph.specs.Walks.{HasArc, Reaches, IsWay}
 use Rattle.tor_digraph.specs.Closing.{Has, IsOnce, IsClosing}
 use Rattle.tor_digraph.specs.Found.{IsFound, IsRoot, IsFalling, IsForest, IsTree}
 use Rattle.tor_digraph.specs.declared.found.Found.{Found}
+use Rattle.tor_digraph.specs.declared.way.Way.{Way}
 
 -- the nodes that were reached, in the order in which a search left them for good, and how it found each node
 pub record Reach (N A : Type 0) : Type 0 where
@@ -25,14 +26,15 @@ pub record IsSpread {N A : Type 0} (place : N → ℕ) (spot : A → ℕ) (count
   pub order : IsClosing arcs r.nodes
   pub forest : IsForest place spot count arcs r.found
 
--- these arcs lead over these nodes from the start of the search to the node
-abbrev pub LeadsFromStart : {N A : Type 0} → (N → ℕ) → (A → ℕ) → Reach N A → N → List N → List A → Type 0
-LeadsFromStart {N} {A} place spot r node nodes steps = (arcs : List (N × N)) (start : N) → IsReach place spot arcs start r → IsWay spot arcs start node nodes steps
+module _ {N A : Type 0} (place : N → ℕ) (spot : A → ℕ) (r : Reach N A) (node : N) (way : Way N A) where
+  -- the way leads to the node from the start of the search
+  abbrev pub LeadsFromStart : Type 0
+  LeadsFromStart = (arcs : List (N × N)) (start : N) → IsReach place spot arcs start r → IsWay spot arcs start node way.nodes way.arcs
 
--- the same of several starts: from one of those at which a search began
-abbrev pub LeadsFromSome : {N A : Type 0} → (N → ℕ) → (A → ℕ) → Reach N A → N → List N → List A → Type 0
-LeadsFromSome {N} {A} place spot r node nodes steps = (count : ℕ) (arcs : List (N × N)) → IsSpread place spot count arcs r →
-    (start : N) × IsRoot place r.found start × IsWay spot arcs start node nodes steps
+  -- the same of several starts: from one of those at which a search began
+  abbrev pub LeadsFromSome : Type 0
+  LeadsFromSome = (count : ℕ) (arcs : List (N × N)) → IsSpread place spot count arcs r →
+      (start : N) × IsRoot place r.found start × IsWay spot arcs start node way.nodes way.arcs
 
 -- the old nodes are followed by nodes that start reaches, and start is among them all
 pub record IsGrown {N : Type 0} (arcs : List (N × N)) (start : N) (old new : List N) : Type 0 where
@@ -41,7 +43,7 @@ pub record IsGrown {N : Type 0} (arcs : List (N × N)) (start : N) (old new : Li
   pub has_start : Contains new start
 
 -- the nodes are those that were found, and each found along an arc is one arc farther than its tail
-pub record IsKept {N A : Type 0} (place : N → ℕ) (nodes : List N) (found : List (Found N A)) : Type 0 where
+pub record AreSeen {N A : Type 0} (place : N → ℕ) (nodes : List N) (found : List (Found N A)) : Type 0 where
   pub seen : (x : N) → IsFound place found x → Has nodes x
   pub nodes_seen : (x : N) → Has nodes x → IsFound place found x
   pub once : IsOnce nodes

@@ -1,4 +1,5 @@
 -- A search under way: the nodes that it has left for good, and those that it still looks along.
+-- These words are the search's own: no reader of a public clause needs them.
 use Rattle.std.specs.Prelude.{◌≡◌, ℕ, ◌+◌, ◌<◌, ◌≤◌, ◌⊎◌, List, Option, Some, None, slice_get, length, sum_by}
 use Rattle.tor_digraph.specs.Walks.{IsArc, HasArc, Reaches}
 use Rattle.tor_digraph.specs.Closing.{Has, IsClosing}
@@ -52,6 +53,15 @@ module _ {N A : Type 0} where
   -- at most so many steps are left
   abbrev pub work : (A → ℕ) → ℕ → List (Found N A) → List (Open N A) → ℕ
   work spot m found stack = sum_by (steps_left m) found + sum_by (λ o. steps_of spot o.next) stack
+
+  -- these have less work left than the old ones
+  abbrev pub IsLess : (A → ℕ) → List (N × N) → List (Found N A) → List (Open N A) → List (Found N A) → List (Open N A) → Type 0
+  IsLess spot arcs old_found old_stack found stack = work spot (length arcs) found stack < work spot (length arcs) old_found old_stack
+
+  -- what grew from some start until the old ones has grown from it until these
+  abbrev pub GrowsOn : List (N × N) → List N → List (Open N A) → List N → List (Open N A) → Type 0
+  GrowsOn arcs old_nodes old_stack nodes stack = (start : N) (old : List N) →
+      IsGrowth arcs start old old_nodes old_stack → IsGrowth arcs start old nodes stack
 
   -- what was found stays found, and no further node is a start
   pub record IsLater (place : N → ℕ) (old new : List (Found N A)) : Type 0 where

@@ -50,13 +50,13 @@ pub struct Digraph<N: Index, A: Index> {
 impl<N: Index, A: Index> Model for Digraph<N, A> {
     ghost use Rattle.std.specs.Prelude.{length};
     ghost use Rattle.tor_digraph.specs.Walks.{Net};
-    ghost use Rattle.tor_digraph.specs.Links.{IsLinked};
+    ghost use Rattle.tor_digraph.specs.Links.{IsChained};
 
     ghost Value = { Net N };
 
     ghost view = { λ g. record { nodes = length g.first.items; arcs = g.ends.items } };
 
-    ghost invariant = { λ g. IsLinked N.place_of A.place_of g.first.items g.ends.items g.links.items };
+    ghost invariant = { λ g. IsChained N.place_of A.place_of g.first.items g.ends.items g.links.items };
 }
 
 impl<N: Index, A: Index> Digraph<N, A> {

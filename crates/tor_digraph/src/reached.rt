@@ -22,13 +22,13 @@ pub struct Reached<N: Index, A: Index> {
 }
 
 impl<N: Index, A: Index> Model for Reached<N, A> {
-    ghost use Rattle.tor_digraph.specs.Reached.{Reach, IsKept};
+    ghost use Rattle.tor_digraph.specs.Reached.{Reach, AreSeen};
 
     ghost Value = { Reach N A };
 
     ghost view = { λ r. record { nodes = r.nodes; found = r.found.items } };
 
-    ghost invariant = { λ r. IsKept N.place_of r.nodes r.found.items };
+    ghost invariant = { λ r. AreSeen N.place_of r.nodes r.found.items };
 }
 
 impl<N: Index, A: Index> Reached<N, A> {
@@ -82,8 +82,8 @@ impl<N: Index, A: Index> Reached<N, A> {
     /// ran out.
     pub fn walk_to(&self, alloc: Global, node: N) -> Result<Option<Way<N, A>>, NoMemory>
         ensures none { IfOk result (λ w. IsNone w ↔ (Contains self.now.nodes node → ⊥)) }
-        ensures way { IfOk result (λ w. IfSome w (λ way. LeadsFromStart N.place_of A.place_of self.now node way.nodes way.arcs)) }
-        ensures spread { IfOk result (λ w. IfSome w (λ way. LeadsFromSome N.place_of A.place_of self.now node way.nodes way.arcs)) }
+        ensures way { IfOk result (λ w. IfSome w (LeadsFromStart N.place_of A.place_of self.now node)) }
+        ensures spread { IfOk result (λ w. IfSome w (LeadsFromSome N.place_of A.place_of self.now node)) }
     {
         if !self.has(node) {
             return Ok(None);
@@ -141,7 +141,7 @@ impl<N: Index, A: Index> Reached<N, A> {
 impl<N: Index, A: Index> Digraph<N, A> {
     ghost use Rattle.tor_digraph.specs.Reached.{IsReach, IsSpread, IsGrown};
 
-    /// What is reached from `start`, which has to be there.
+    /// What is reached from `start`, which has to be there. The only error is that memory ran out.
     pub fn reach(&self, alloc: Global, start: N) -> Result<Reached<N, A>, NoMemory>
         requires { N.place_of start < self.now.nodes }
         ensures { IfOk result (λ r. IsReach N.place_of A.place_of self.now.arcs start r) }
@@ -162,7 +162,8 @@ impl<N: Index, A: Index> Digraph<N, A> {
         reached.grow(self, start)
     }
 
-    /// What is reached from no node: none. `reach_more` goes on from it.
+    /// What is reached from no node: none. `reach_more` goes on from it. The only error is that
+    /// memory ran out.
     pub fn reach_none(&self, alloc: Global) -> Result<Reached<N, A>, NoMemory>
         ensures nodes { IfOk result (λ r. r.nodes ≡ []) }
         ensures spread { IfOk result (λ r. IsSpread N.place_of A.place_of self.now.nodes self.now.arcs r) }

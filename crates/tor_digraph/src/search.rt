@@ -1,5 +1,5 @@
 ghost use Rattle.std.specs.Prelude.{◌≡◌, ◌⊎◌, ◌<◌, ◌≤◌, ◌++◌, ◌∷◌, [], List, Some, slice_get, length, OnOk};
-ghost use Rattle.tor_digraph.specs.Search.{IsSearch, IsGrowth, IsLater, work};
+ghost use Rattle.tor_digraph.specs.Search.{IsSearch, IsGrowth, IsLater, IsLess, GrowsOn};
 ghost use Rattle.tor_digraph.specs.Found.{IsFound, HasRootsOf};
 
 use crate::digraph::Digraph;
@@ -20,8 +20,8 @@ fn step<N: Index, A: Index>(
     ensures many { length found.new.items ≡ graph.now.nodes }
     ensures search { OnOk result (IsSearch N.place_of A.place_of graph.now.arcs found.new.items nodes.new stack.new) }
     ensures later { OnOk result (IsLater N.place_of found.old.items found.new.items) }
-    ensures less { OnOk result (work A.place_of (length graph.now.arcs) found.new.items stack.new < work A.place_of (length graph.now.arcs) found.old.items (stack.old ++ top ∷ [])) }
-    ensures growth { OnOk result ((start : N) (old : List N) → IsGrowth graph.now.arcs start old nodes.old (stack.old ++ top ∷ []) → IsGrowth graph.now.arcs start old nodes.new stack.new) }
+    ensures less { OnOk result (IsLess A.place_of graph.now.arcs found.old.items (stack.old ++ top ∷ []) found.new.items stack.new) }
+    ensures growth { OnOk result (GrowsOn graph.now.arcs nodes.old (stack.old ++ top ∷ []) nodes.new stack.new) }
 {
     match top.next {
         None => nodes.push(top.node),
@@ -65,7 +65,7 @@ fn search<N: Index, A: Index>(
     ensures many { length found.new.items ≡ graph.now.nodes }
     ensures search { OnOk result (IsSearch N.place_of A.place_of graph.now.arcs found.new.items nodes.new []) }
     ensures later { OnOk result (IsLater N.place_of found.old.items found.new.items) }
-    ensures growth { OnOk result ((start : N) (old : List N) → IsGrowth graph.now.arcs start old nodes.old stack.old → IsGrowth {A = A} graph.now.arcs start old nodes.new []) }
+    ensures growth { OnOk result (GrowsOn graph.now.arcs nodes.old stack.old nodes.new []) }
 {
     while let Some(top) = stack.pop() {
         step(graph, top, found, nodes, stack)?;

@@ -1,5 +1,5 @@
 use Rattle.std.proofs.Common.{◌≡◌, ◌≤◌, length, take}
-use Rattle.tor_digraph.specs.Links.{IsLinked}
+use Rattle.tor_digraph.specs.Links.{IsChained}
 use Rattle.tor_digraph.proofs.digraph.Digraph.undo_to.Given as goal
 
 abbrev pub invariant-loop-left : goal.invariant-loop-left
@@ -8,7 +8,7 @@ invariant-loop-left g l = record {
   within : l.left ≤ length l.self-inside.ends.items;
   ends : l.self-inside.ends.items ≡ l.fn.self.arcs;
   nodes : length l.self-inside.first.items ≡ l.fn.self.nodes;
-  linked : IsLinked g.N.Index.place_of g.A.Index.place_of l.self-inside.first.items (take l.left l.self-inside.ends.items) (take l.left l.self-inside.links.items);
+  linked : IsChained g.N.Index.place_of g.A.Index.place_of l.self-inside.first.items (take l.left l.self-inside.ends.items) (take l.left l.self-inside.links.items);
 }
 
 abbrev pub decreases-loop-left : goal.decreases-loop-left
