@@ -10,6 +10,7 @@ use tor_digraph::{Digraph, GraphRefused, Reached};
 
 /// The strong components in topological order: two nodes have the same class exactly if each
 /// reaches the other, no arc leads to a lesser class, and each number below the count is a class.
+/// The only error is that memory ran out.
 ///
 /// It searches twice, as Kosaraju and Sharir do: first along the arcs from each node, then
 /// against them from each node in the order opposite to that in which the first search left them.
@@ -88,9 +89,7 @@ fn class_all<N: Index, A: Index>(
     classes.push_copies(0, graph.node_count())?;
     let mut reached = other.reach_none(alloc)?;
     let mut count = 0;
-    let mut left = order.len();
-    while left > 0 {
-        left -= 1;
+    for left in (0..order.len()).rev() {
         let root = order[left];
         if !reached.has(root) {
             add_class(other, root, &mut reached, &mut classes, count)?;

@@ -13,6 +13,3 @@ invariant-loop-left g l = record {
   classed : IsClassed g.N.Index.place_of l.graph.arcs l.reached.nodes l.classes.items l.count;
   room : l.count + l.left ≤ length l.order;
 }
-
-abbrev pub decreases-loop-left : goal.decreases-loop-left
-decreases-loop-left g l = l.left
