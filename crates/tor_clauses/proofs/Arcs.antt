@@ -7,7 +7,6 @@ use Rattle.tor_digraph.proofs.Gets.{slice_get-some}
 use Rattle.tor_clauses.specs.declared.triple.Triple.{Triple}
 use Rattle.tor_clauses.specs.Literals.{opposite_node}
 use Rattle.tor_clauses.specs.Triples.{arc_of, partner_of, arcs_of}
-use Rattle.tor_clauses.specs.ClauseLaws.{PartnerLaw}
 use Rattle.tor_clauses.proofs.Members.{In, In-get, get-In, flat_map-In, In-flat_map}
 use Rattle.tor_clauses.proofs.Sames.{turned_arc, turned_arc_twice, partner-turned}
 
@@ -51,10 +50,6 @@ pub partners : (ts : List Triple) (l m : ℕ) → HasArc (flat_map arcs_of ts) l
 partners ts l m h =
     let r = flat_map-In arcs_of (l, m) ts (get-In (flat_map arcs_of ts) h.0 (l, m) h.1) in
     In-get (turned_arc (l, m)) (flat_map arcs_of ts) (In-flat_map arcs_of r.0 (turned_arc (l, m)) ts r.1 (turned-In (l, m) r.0 r.2))
-
-pub partner_law : PartnerLaw
-partner_law graph f fits l m h =
-    subst (λ arcs. HasArc arcs (opposite_node m) (opposite_node l)) (sym fits.arcs) (partners f.triples l m (subst (λ arcs. HasArc arcs l m) fits.arcs h))
 
 -- the arc at a place is one of the two of the triple at half the place
 pub triple_named : (ts : List Triple) (arcs : List Edge) (k : ℕ) (t : Triple) → arcs ≡ flat_map arcs_of ts → k < length arcs → slice_get ts (k / 2) ≡ Some t →

@@ -1,11 +1,11 @@
 -- Lists without the items that are the same as an earlier one.
-use Rattle.std.proofs.Common.{◌≡◌, ◌⊎◌, inl, inr, Bool, true, false, not, List, [], ◌∷◌, ◌++◌, ◌||◌, filter, refl, sym, ap, ◌∙◌, subst, append_assoc, cond}
-use Rattle.std.specs.Prelude.{if◌then◌else◌}
+use Rattle.std.proofs.Common.{◌≡◌, ℕ, zero, suc, Some, ◌⊎◌, inl, inr, Bool, true, false, not, List, [], ◌∷◌, ◌++◌, ◌||◌, filter, refl, sym, ap, ◌∙◌, subst, append_assoc, cond}
+use Rattle.std.specs.Prelude.{if◌then◌else◌, slice_get}
 use Rattle.std.specs.List.{list_any}
 use Rattle.std.proofs.lemmas.Bool.{false≢true, cases_Bool, both_ways, or_parts, not-true, not_from_false, false_from_ne_true}
 use Rattle.std.proofs.lemmas.List.{append-nil}
 use Rattle.std.proofs.lemmas.List.Elements.{filter-append}
-use Rattle.tor_clauses.proofs.Members.{In, In-append_left, In-filter, filter-In, In-list_any, list_any-In}
+use Rattle.tor_clauses.proofs.Members.{In, get-In, In-append_left, In-filter, filter-In, In-list_any, list_any-In}
 
 module _ {X : Type 0} (same : X → X → Bool) where
   abbrev pub distinct_by : List X → List X
@@ -42,6 +42,23 @@ module _ {X : Type 0} (same : X → X → Bool) where
     (λ y h. not-true (same x y) (filter-In (λ z. not (same x z)) y (distinct_by xs) h).1),
     apart-filter (λ z. not (same x z)) (distinct_by xs) (apart-distinct xs),
   )
+
+  -- so none stands at two places
+  pub apart-once : ((x y : X) → same x y ≡ true → same y x ≡ true) → (xs : List X) → Apart xs → (j k : ℕ) (x y : X) →
+      slice_get xs j ≡ Some x → slice_get xs k ≡ Some y → same x y ≡ true → j ≡ k
+  apart-once turned [] a j k x y h g t = absurd (cc h)
+  apart-once turned (z ∷ xs) a zero zero x y h g t = refl
+  apart-once turned (z ∷ xs) a zero (suc k) x y h g t =
+      absurd (both_ways (same z y) (a.0 y (get-In xs k y g)) (subst (λ w. same w y ≡ true) (sym (some_same h)) t))
+    where
+      some_same : Some z ≡ Some x → z ≡ x
+      some_same e = cc
+  apart-once turned (z ∷ xs) a (suc j) zero x y h g t =
+      absurd (both_ways (same z x) (a.0 x (get-In xs j x h)) (turned x z (subst (λ w. same x w ≡ true) (sym (some_same g)) t)))
+    where
+      some_same : Some z ≡ Some y → z ≡ y
+      some_same e = cc
+  apart-once turned (z ∷ xs) a (suc j) (suc k) x y h g t = ap suc (apart-once turned xs a.1 j k x y h g t)
 
   -- ---- more items
 

@@ -2,8 +2,8 @@ pub mod Adding
 pub mod Arcs
 pub mod Cuts
 pub mod Distincts
+pub mod Exacts
 pub mod Fews
-pub mod Kept
 pub mod Knowns
 pub mod LiteralLemmas
 pub mod Members
@@ -11,6 +11,7 @@ pub mod Models
 pub mod Overs
 pub mod Prefixes
 pub mod Sames
+pub mod Satisfied
 pub mod Standings
 pub mod StepTriples
 pub mod Vectors

@@ -1,6 +1,7 @@
 -- Triples with the same two implications.
-use Rattle.std.proofs.Common.{◌≡◌, ℕ, ◌⊎◌, inl, inr, true, List, [], ◌∷◌, ◌++◌, filter, refl, sym, ap, ap₂, ◌∙◌, subst, ◌==◌, eq-eqb, not}
+use Rattle.std.proofs.Common.{◌≡◌, ℕ, Some, ◌⊎◌, inl, inr, true, List, [], ◌∷◌, ◌++◌, filter, refl, sym, ap, ap₂, ◌∙◌, subst, ◌==◌, eq-eqb, not}
 use Rattle.std.proofs.lemmas.Bool.{or_cases, or_left, or_right, and_from}
+use Rattle.std.specs.Prelude.{slice_get}
 use Rattle.tor_arena.specs.Graph.{Edge, is_same}
 use Rattle.tor_arena.proofs.Edges.{same_edge}
 use Rattle.tor_clauses.specs.declared.triple.Triple.{Triple}
@@ -9,7 +10,7 @@ use Rattle.tor_clauses.specs.Triples.{arc_of, partner_of, arcs_of, is_same_tripl
 use Rattle.tor_clauses.specs.Tables.{with_triple, with_triples}
 use Rattle.tor_clauses.proofs.LiteralLemmas.{opposite_node-node, opposite_node_twice}
 use Rattle.tor_clauses.proofs.Members.{In}
-use Rattle.tor_clauses.proofs.Distincts.{distinct_by, with_one, with_all, Apart, apart-distinct, distinct-In, In-distinct, IsMore, more-all, all-distinct, all-push}
+use Rattle.tor_clauses.proofs.Distincts.{distinct_by, with_one, with_all, Apart, apart-distinct, apart-once, distinct-In, In-distinct, IsMore, more-all, all-distinct, all-push}
 
 abbrev arc : ℕ → ℕ → Edge
 arc m n = (m, n)
@@ -108,6 +109,9 @@ In-triple t ts h =
 
 pub triples-apart : (ts : List Triple) → Apart is_same_triple (distinct_triples ts)
 triples-apart ts = subst (Apart is_same_triple) (sym (distinct_is ts)) (apart-distinct is_same_triple ts)
+
+pub triples-once : (ts : List Triple) (j k : ℕ) (t u : Triple) → slice_get (distinct_triples ts) j ≡ Some t → slice_get (distinct_triples ts) k ≡ Some u → Same t u → j ≡ k
+triples-once ts j k t u h g s = apart-once is_same_triple same_turned (distinct_triples ts) (triples-apart ts) j k t u h g (test-from_Same t u s)
 
 pub triples-more : (more ts : List Triple) → IsMore is_same_triple ts more (with_triples ts more)
 triples-more more ts = subst (IsMore is_same_triple ts more) (sym (all_is more ts)) (more-all is_same_triple more ts)

@@ -1,4 +1,4 @@
--- All triples are kept exactly if no arc leads from a literal that holds to one that does not.
+-- All triples are satisfied exactly if no arc leads from a literal that holds to one that does not.
 use Rattle.std.proofs.Common.{◌≡◌, ℕ, ◌/◌, ◌<◌, ◌⊎◌, inl, inr, List, [], ◌∷◌, Some, length, refl, sym, ap, ◌∙◌, subst, arith, All}
 use Rattle.std.specs.Prelude.{slice_get}
 use Rattle.std.proofs.lemmas.List.Elements.{All-from_recursion}
@@ -11,7 +11,7 @@ use Rattle.tor_clauses.specs.declared.lit.Lit.{Lit}
 use Rattle.tor_clauses.specs.declared.triple.Triple.{Triple}
 use Rattle.tor_clauses.specs.Literals.{opposite, negated, node_of, lit_of, Holds}
 use Rattle.tor_clauses.specs.Triples.{arc_of, arcs_of}
-use Rattle.tor_clauses.specs.Tables.{IsKept}
+use Rattle.tor_clauses.specs.Tables.{IsSatisfied}
 use Rattle.tor_clauses.specs.Formulas.{Formula, FitsGraph, IsModel}
 use Rattle.tor_clauses.proofs.Members.{In, In-get, get-In, All-In, In-flat_map}
 use Rattle.tor_clauses.proofs.LiteralLemmas.{lit_of_node}
@@ -44,7 +44,7 @@ module _ (graph : List (List ℕ)) (f : Formula) (ends : List End) (apart : All 
   pub within : (t : Triple) → In t f.triples → (t.first.edge < length ends) × (t.second.edge < length ends)
   within t h = let w = triple_within graph f apart fits t h in (omega (arith, w.0, same), omega (arith, w.1, same))
 
-  partner_kept : (t : Triple) → In t f.triples → IsKept ends t → Holds ends (negated t.second) → Holds ends (negated t.first)
+  partner_kept : (t : Triple) → In t f.triples → IsSatisfied ends t → Holds ends (negated t.second) → Holds ends (negated t.first)
   partner_kept t i k h = elim (either ends t.first (within t i).0) [
     | inl one ↦ absurd (not_both ends t.second (k one) h)
     | inr other ↦ other
@@ -56,11 +56,11 @@ module _ (graph : List (List ℕ)) (f : Formula) (ends : List End) (apart : All 
   from_node : (l : ℕ) (m : Lit) → l ≡ node_of m → Holds ends m → Holds ends (lit_of l)
   from_node l m e h = subst (Holds ends) (sym (ap lit_of e ∙ lit_of_node m)) h
 
-  pub model_from_kept : All (IsKept ends) f.triples → IsModel f ends
-  model_from_kept all k l m arc h =
+  pub model_from_satisfied : All (IsSatisfied ends) f.triples → IsModel f ends
+  model_from_satisfied all k l m arc h =
       let r = triple_at f.triples k (l, m) (subst (λ arcs. slice_get arcs k ≡ Some (l, m)) fits.arcs arc) in
       let i = get-In f.triples (k / 2) r.t r.there in
-      let kept = All-In (IsKept ends) f.triples all r.t i in
+      let kept = All-In (IsSatisfied ends) f.triples all r.t i in
       elim r.is [
         | inl e ↦ from_node m r.t.second (ap (λ (a : Edge). a.1) e) (kept (at_node l r.t.first (ap (λ (a : Edge). a.0) e) h))
         | inr e ↦ from_node m (negated r.t.first) (ap (λ (a : Edge). a.1) e)
@@ -71,8 +71,8 @@ module _ (graph : List (List ℕ)) (f : Formula) (ends : List End) (apart : All 
   all_by P [] h = tt
   all_by P (t ∷ ts) h = (h t (inl refl), all_by P ts (λ u i. h u (inr i)))
 
-  pub kept_from_model : IsModel f ends → All (IsKept ends) f.triples
-  kept_from_model model = All-from_recursion (IsKept ends) f.triples (all_by (IsKept ends) f.triples (λ t i h.
+  pub satisfied_from_model : IsModel f ends → All (IsSatisfied ends) f.triples
+  satisfied_from_model model = All-from_recursion (IsSatisfied ends) f.triples (all_by (IsSatisfied ends) f.triples (λ t i h.
       let there = In-flat_map arcs_of t (arc_of t) f.triples i (inl refl) in
       let a = In-get (arc_of t) f.net.arcs (subst (In (arc_of t)) (sym fits.arcs) there) in
       at_node (node_of t.second) t.second refl (model a.0 (node_of t.first) (node_of t.second) a.1 (from_node (node_of t.first) t.first refl h))))

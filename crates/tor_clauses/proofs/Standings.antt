@@ -110,6 +110,14 @@ module _ (graph : List (List ℕ)) (f : Formula) (apart : All AllDistinct graph)
       (edge-In graph (path_at graph path) (s.before ++ (x ∷ [])) y z s.after (path-In path h) (s.whole ∙ sym (append_assoc s.before (x ∷ []) (y ∷ z ∷ s.after))))
       (apart_next s.before x y z s.after (subst AllDistinct s.whole (path-apart path h)))
 
+  pub says_both : (path at x y z : ℕ) → In path f.paths → TripleAt (path_at graph path) at x y z →
+      Says (edges graph) (over (edges graph) x y) x y × Says (edges graph) (over (edges graph) y z) y z
+  says_both path at x y z h (inl s) = (says_first path at x y z h s, says_second path at x y z h s)
+  says_both path at x y z h (inr s) = (turned_says y x (says_second path at z y x h s), turned_says z y (says_first path at z y x h s))
+    where
+      turned_says : (b a : ℕ) → Says (edges graph) (over (edges graph) b a) b a → Says (edges graph) (over (edges graph) a b) a b
+      turned_says b a s = subst (λ l. Says (edges graph) l a b) (sym (over-turned (edges graph) b a s.two)) (Says-negated (edges graph) (over (edges graph) b a) b a s)
+
   -- the literals of a triple are those of edges
   pub triple_within : (t : Triple) → In t f.triples → (t.first.edge < length (edges graph)) × (t.second.edge < length (edges graph))
   triple_within t h =

@@ -1,11 +1,14 @@
 -- The laws of clauses that fit a graph, each proved as the contract of a function in src/laws.rt.
-use Rattle.std.specs.Prelude.{◌≡◌, ◌↔◌, ℕ, List, All, length, take, ◌≤◌}
+use Rattle.std.specs.Prelude.{◌≡◌, ◌↔◌, ◌⊎◌, ℕ, List, Some, All, length, take, slice_get, ◌≤◌}
 use Rattle.tor_arena.specs.declared.walk.End.{End}
 use Rattle.tor_arena.specs.Relationship.{AllDistinct}
 use Rattle.tor_arena.specs.Graph.{edges}
+use Rattle.tor_arena.specs.Evidence.{IsTriple}
 use Rattle.tor_digraph.specs.Walks.{HasArc}
-use Rattle.tor_clauses.specs.Literals.{opposite_node}
-use Rattle.tor_clauses.specs.Formulas.{Formula, FitsGraph, IsServed, IsModel, IsMark, first_of}
+use Rattle.as_graph.specs.Paths.{paths_at}
+use Rattle.tor_clauses.specs.declared.triple.Triple.{Triple}
+use Rattle.tor_clauses.specs.Triples.{arc_of, partner_of}
+use Rattle.tor_clauses.specs.Formulas.{Formula, FitsGraph, IsServed, IsModel, IsMark, IsArcOf, first_of}
 
 -- the paths are served exactly if no arc leads from a literal that holds to one that does not
 abbrev pub ModelLaw : Type 0
@@ -13,11 +16,18 @@ ModelLaw =
     (graph : List (List ℕ)) (f : Formula) (ends : List End) → All AllDistinct graph → FitsGraph graph f →
     length ends ≡ length (edges graph) → IsServed graph f.paths ends ↔ IsModel f ends
 
--- each arc has a partner from the negation of its head to the negation of its tail
-abbrev pub PartnerLaw : Type 0
-PartnerLaw =
-    (graph : List (List ℕ)) (f : Formula) → FitsGraph graph f →
-    (l m : ℕ) → HasArc f.net.arcs l m → HasArc f.net.arcs (opposite_node m) (opposite_node l)
+-- the arcs are exactly those of the triples of the paths, and each triple stands once
+pub record HasExactArcs (graph : List (List ℕ)) (f : Formula) : Type 0 where
+  -- each triple of the paths has an arc
+  pub all : (x y z : ℕ) → IsTriple (paths_at graph f.paths) x y z → (l m : ℕ) × IsArcOf graph l m x y z × HasArc f.net.arcs l m
+  -- each arc is that of a triple of the paths
+  pub only : (l m : ℕ) → HasArc f.net.arcs l m → (x y z : ℕ) × IsArcOf graph l m x y z × IsTriple (paths_at graph f.paths) x y z
+  -- triples at two places are not the same, nor is one the reverse of the other
+  pub once : (j k : ℕ) (t u : Triple) → slice_get f.triples j ≡ Some t → slice_get f.triples k ≡ Some u →
+      (arc_of t ≡ arc_of u) ⊎ (arc_of t ≡ partner_of u) → j ≡ k
+
+abbrev pub ArcLaw : Type 0
+ArcLaw = (graph : List (List ℕ)) (f : Formula) → All AllDistinct graph → FitsGraph graph f → HasExactArcs graph f
 
 -- clauses are the first part, by their own counts, of those that have their paths first
 abbrev pub PrefixLaw : Type 0

@@ -1,9 +1,10 @@
--- What clauses are seen as, and when they fit a graph.
+-- What clauses are seen as, and when they fit a graph: the two-literal clauses of Di Battista, Patrignani and Pizzonia
+-- (2003).
 use Rattle.std.specs.Prelude.{◌≡◌, ℕ, ◌+◌, ◌*◌, ◌<◌, ◌≤◌, ◌==◌, List, All, length, map, take, flat_map, count_by}
 use Rattle.std.specs.List.{list_any}
 use Rattle.tor_arena.specs.declared.walk.End.{End}
 use Rattle.tor_arena.specs.declared.walk.Link.{Link}
-use Rattle.tor_arena.specs.Relationship.{Serves}
+use Rattle.tor_arena.specs.Relationship.{AllDistinct, Serves}
 use Rattle.tor_arena.specs.Graph.{edges, orientation}
 use Rattle.tor_arena.specs.Evidence.{Numbered, Fits}
 use Rattle.tor_digraph.specs.Walks.{Net, IsArc, first_part}
@@ -58,6 +59,11 @@ IsModel f ends = (k l m : ℕ) → IsArc f.net.arcs k l m → Holds ends (lit_of
 abbrev pub numbered : List (List ℕ) → List ℕ → Numbered
 numbered graph paths = map (λ path. (path + 1, path_at graph path)) paths
 
+-- the first node is that of a literal that says "x over y", and the second that of one that says "y over z"
+pub record IsArcOf (graph : List (List ℕ)) (l m x y z : ℕ) : Type 0 where
+  pub tail : Says (edges graph) (lit_of l) x y
+  pub head : Says (edges graph) (lit_of m) y z
+
 -- one literal says "x over y", the other "y over z", and the link names where x, y, z stand on one of the paths
 pub record IsLinkOf (graph : List (List ℕ)) (paths : List ℕ) (link : Link) (l m : ℕ) : Type 0 where
   pub x : ℕ
@@ -66,3 +72,8 @@ pub record IsLinkOf (graph : List (List ℕ)) (paths : List ℕ) (link : Link) (
   pub tail : Says (edges graph) (lit_of l) x y
   pub head : Says (edges graph) (lit_of m) y z
   pub fits : Fits (numbered graph paths) link x y z
+
+-- the link is one of the arc at this place, in each graph that the formula fits
+abbrev pub IsLinkOfArc : Formula → ℕ → Link → Type 0
+IsLinkOfArc f arc link = (graph : List (List ℕ)) (l m : ℕ) → All AllDistinct graph → FitsGraph graph f →
+    IsArc f.net.arcs arc l m → IsLinkOf graph f.paths link l m

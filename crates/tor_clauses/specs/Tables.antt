@@ -42,6 +42,6 @@ IsFirst f g = (length f.triples ≤ length g.triples) × (g ≡ having f g.tripl
 
 -- ---- what holds
 
--- the second literal of the triple holds if its first does
-abbrev pub IsKept : List End → Triple → Type 0
-IsKept ends t = Holds ends t.first → Holds ends t.second
+-- the clause of the triple is satisfied: its second literal holds if its first does
+abbrev pub IsSatisfied : List End → Triple → Type 0
+IsSatisfied ends t = Holds ends t.first → Holds ends t.second

@@ -5,7 +5,7 @@ ghost use Rattle.tor_digraph.specs.Walks.{IsArc, HasArc};
 ghost use Rattle.tor_clauses.specs.Literals.{opposite_node, node_of};
 ghost use Rattle.tor_clauses.specs.Triples.{arc_of, partner_of, arcs_of, triples_on};
 ghost use Rattle.tor_clauses.specs.Tables.{HasNodes, with_triple, with_triples, having, IsRoomy, IsFirst};
-ghost use Rattle.tor_clauses.specs.Formulas.{FitsGraph, IsMark, first_of, IsServed, IsModel, IsLinkOf};
+ghost use Rattle.tor_clauses.specs.Formulas.{FitsGraph, IsMark, first_of, IsServed, IsModel, IsLinkOfArc};
 
 use crate::lit::Lit;
 use crate::triple::Triple;
@@ -47,7 +47,7 @@ impl Model for Clauses {
 }
 
 impl Clauses {
-    /// No paths and no triples, for this graph.
+    /// No paths and no triples, for this graph. The only error is that memory ran out.
     pub fn new(alloc: Global, graph: &AsGraph) -> Result<Clauses, NoMemory>
         ensures paths { IfOk result (λ clauses. clauses.paths ≡ []) }
         ensures triples { IfOk result (λ clauses. clauses.triples ≡ []) }
@@ -120,15 +120,13 @@ impl Clauses {
         self.facts();
         graph.facts();
         let steps = graph.steps(path);
-        let mut next = 1;
-        while next < steps.len() {
+        for next in 1..steps.len() {
             self.add_triple(Triple {
                 path,
                 at: next as u32 + 1,
                 first: Lit::of_step(&steps[next - 1]),
                 second: Lit::of_step(&steps[next]),
             })?;
-            next += 1;
         }
         Ok(())
     }
@@ -164,10 +162,9 @@ impl Clauses {
     {
         prove!(mark.triples <= self.table.len());
         let nodes = self.digraph.node_count();
-        self.digraph.undo_to(GraphMark {
-            nodes,
-            arcs: mark.triples * 2,
-        });
+        let arcs = mark.triples * 2;
+        prove!(arcs <= self.digraph.arc_count());
+        self.digraph.undo_to(GraphMark { nodes, arcs });
         self.table.cut_to(mark.triples);
         self.paths.truncate(mark.paths);
     }
@@ -201,7 +198,7 @@ impl Clauses {
         ensures model { IsTrue result ↔ IsModel self.now orientation.now }
     {
         graph.facts();
-        self.table.are_kept(orientation.as_slice())
+        self.table.are_satisfied(orientation.as_slice())
     }
 
     /// The digraph of the implications. It takes no memory.
@@ -227,7 +224,7 @@ impl Clauses {
     pub fn link_of(&self, arc: ArcId) -> Link
         requires { arc < length self.now.net.arcs }
         ensures link { (t : Triple) → slice_get self.now.triples (arc / 2) ≡ Some t → result ≡ record { path = t.path + 1; at = t.at } }
-        ensures fits { (graph : List (List ℕ)) (l m : ℕ) → All AllDistinct graph → FitsGraph graph self.now → IsArc self.now.net.arcs arc l m → IsLinkOf graph self.now.paths result l m }
+        ensures fits { IsLinkOfArc self.now arc result }
     {
         let triple = self.triple_of(arc);
         Link {

@@ -11,6 +11,6 @@ mod triple;
 mod triple_table;
 
 pub use clauses::{ClauseMark, Clauses};
-pub use laws::{model_law, partner_law, prefix_law};
+pub use laws::{arc_law, model_law, prefix_law};
 pub use lit::Lit;
 pub use triple::Triple;

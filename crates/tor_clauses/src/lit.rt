@@ -7,6 +7,7 @@ use tor_arena::{EdgeId, End, Index, NodeId};
 /// A literal: one end of an edge is over the other, which is to say its provider.
 #[derive(Clone, Copy, Debug, PartialEq, Eq)]
 pub struct Lit {
+    /// The edge whose two ends are ordered.
     pub edge: EdgeId,
     /// The end that is over the other.
     pub over: End,

@@ -9,6 +9,8 @@ pub struct Triple {
     pub path: PathId,
     /// The place on the path, from 1, of the middle one.
     pub at: u32,
+    /// That x is over y.
     pub first: Lit,
+    /// That y is over z.
     pub second: Lit,
 }

@@ -2,7 +2,7 @@ ghost use Rattle.std.specs.Prelude.{◌≡◌, ◌<◌, ◌≤◌, ◌↔◌, �
 ghost use Rattle.std.specs.List.{list_any};
 ghost use Rattle.tor_clauses.specs.Literals.{Holds};
 ghost use Rattle.tor_clauses.specs.Triples.{is_same_triple};
-ghost use Rattle.tor_clauses.specs.Tables.{HasNodes, IsKept};
+ghost use Rattle.tor_clauses.specs.Tables.{HasNodes, IsSatisfied};
 
 use crate::lit::Lit;
 use crate::triple::Triple;
@@ -76,15 +76,15 @@ impl TripleTable {
         self.known.contains(&(second, first))
     }
 
-    /// Whether each triple is kept by the providers of the edges: its second literal holds if its first does, and so for the
+    /// Whether the providers of the edges satisfy each triple: its second literal holds if its first does, and so for the
     /// negations of the second and the first. It takes no memory.
-    pub fn are_kept(&self, ends: &[End]) -> bool
+    pub fn are_satisfied(&self, ends: &[End]) -> bool
         requires { All (λ t. (t.first.edge < length ends.now) × (t.second.edge < length ends.now)) self.now }
-        ensures { IsTrue result ↔ All (IsKept ends.now) self.now }
+        ensures { IsTrue result ↔ All (IsSatisfied ends.now) self.now }
     {
         let mut place = 0;
         while place < self.len() {
-            if !is_kept(&self.get(place), ends) {
+            if !is_satisfied(&self.get(place), ends) {
                 return false;
             }
             place += 1;
@@ -117,11 +117,11 @@ impl TripleTable {
     }
 }
 
-/// Whether the second literal of a triple holds if its first does.
-fn is_kept(triple: &Triple, ends: &[End]) -> bool
+/// Whether the clause of a triple is satisfied: its second literal holds if its first does.
+fn is_satisfied(triple: &Triple, ends: &[End]) -> bool
     requires first { triple.now.first.edge < length ends.now }
     requires second { triple.now.second.edge < length ends.now }
-    ensures { IsTrue result ↔ IsKept ends.now triple.now }
+    ensures { IsTrue result ↔ IsSatisfied ends.now triple.now }
 {
     !holds(triple.first, ends) || holds(triple.second, ends)
 }

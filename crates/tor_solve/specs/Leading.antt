@@ -29,3 +29,7 @@ KeepsPairs old new = (u v : ℕ) → HasPair old.ases u v → HasPair new.ases u
 -- these arcs, by their places, lead over these nodes from one to the other
 abbrev pub IsPlainWay : List (ℕ × ℕ) → ℕ → ℕ → List ℕ → List ℕ → Type 0
 IsPlainWay arcs from to nodes steps = IsWay (λ step. step) arcs from to nodes steps
+
+-- the walk has gone on along these nodes and arcs, from whichever node to another they lead
+abbrev pub GoesAlong : List (List ℕ) → Formula → List ℕ → List ℕ → Walk → Walk → Type 0
+GoesAlong graph f nodes steps old new = (from to : ℕ) → IsPlainWay f.net.arcs from to nodes steps → GoesOn graph f old new from to

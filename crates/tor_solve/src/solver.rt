@@ -12,10 +12,11 @@ use crate::walking::walk_round;
 use as_graph::AsGraph;
 use std::alloc::Global;
 use tor_arena::NoMemory;
-use tor_clauses::{Clauses, model_law, partner_law};
+use tor_clauses::{Clauses, model_law};
 use tor_components::components;
 
-/// Whether some orientation serves the paths of clauses that fit the graph: such an orientation, or a walk that refutes.
+/// Whether some orientation serves the paths of clauses that fit the graph: such an orientation, or a walk that refutes. The
+/// only error is that memory ran out.
 ///
 /// Where an order of two neighbours and its opposite lead to each other, the walk goes round from the one to the other and back.
 /// Otherwise the order of the later strong component holds (Aspvall, Plass and Tarjan 1979).
@@ -28,7 +29,7 @@ pub fn solve(alloc: Global, graph: &AsGraph, clauses: &Clauses) -> Result<Verdic
 {
     graph.facts();
     model_law();
-    partner_law();
+    clauses.facts();
     let count = clauses.digraph().node_count() / 2;
     let parts = components(alloc, clauses.digraph())?;
     match clash(&parts, count) {

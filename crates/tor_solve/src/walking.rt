@@ -5,7 +5,7 @@ ghost use Rattle.tor_arena.specs.Evidence.{Refutes};
 ghost use Rattle.tor_digraph.specs.Walks.{IsArc, Reaches};
 ghost use Rattle.tor_clauses.specs.Literals.{node_of, lit_of, Says};
 ghost use Rattle.tor_clauses.specs.Formulas.{FitsGraph, numbered};
-ghost use Rattle.tor_solve.specs.Leading.{GoesOn, KeepsPairs, IsPlainWay};
+ghost use Rattle.tor_solve.specs.Leading.{GoesOn, GoesAlong, KeepsPairs, IsPlainWay};
 
 use crate::later::node_at;
 use as_graph::AsGraph;
@@ -51,7 +51,7 @@ fn follow(
 ) -> Result<(), NoMemory>
     requires fits { FitsGraph graph.now clauses.now }
     requires way { (from to : ℕ) × IsPlainWay clauses.now.net.arcs from to way.now.nodes way.now.arcs }
-    ensures leads { OnOk result ((from to : ℕ) → IsPlainWay clauses.now.net.arcs from to way.now.nodes way.now.arcs → GoesOn graph.now clauses.now walk.old walk.new from to) }
+    ensures leads { OnOk result (GoesAlong graph.now clauses.now way.now.nodes way.now.arcs walk.old walk.new) }
     ensures kept { OnOk result (KeepsPairs walk.old walk.new) }
 {
     for arc in way.arcs.as_slice() {

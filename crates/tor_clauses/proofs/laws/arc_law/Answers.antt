@@ -1,5 +1,5 @@
-use Rattle.tor_clauses.proofs.Arcs
-use Rattle.tor_clauses.proofs.laws.partner_law.Goals as goal
+use Rattle.tor_clauses.proofs.Exacts
+use Rattle.tor_clauses.proofs.laws.arc_law.Goals as goal
 
 pub returns : goal.returns
-returns c = Arcs.partner_law
+returns c = Exacts.arc_law

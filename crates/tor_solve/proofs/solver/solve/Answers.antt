@@ -19,7 +19,7 @@ served c =
     let twice : f.net.nodes ≡ length ends * 2 = omega (arith, all, c.requires.nodes) in
     let inside = subst (IsInside (λ n. n)) c.digraph.ensures c.node_count-count.ensures.inside in
     let parts = subst (λ n. IsComponents (λ n. n) n c.in_ok-parts.parts) c.digraph-2.ensures c.in_ok-parts.ensures in
-    let model : IsModel f ends = later_model f c.in_ok-parts.parts ends twice inside parts (c.partner_law.ensures c.args.graph.now f c.requires) c.in_ok-ends-in-None.ensures.later in
+    let model : IsModel f ends = later_model f c.in_ok-parts.parts ends twice inside parts c.facts-2.ensures.partners c.in_ok-ends-in-None.ensures.later in
     (c.model_law.ensures c.args.graph.now f ends c.facts.ensures.apart c.requires all).1 model
 
 pub returns-clause-model : goal.returns-clause-model

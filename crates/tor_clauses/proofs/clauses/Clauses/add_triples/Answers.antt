@@ -9,7 +9,7 @@ use Rattle.tor_clauses.proofs.StepTriples.{triple_by, triple_by_steps, triples_b
 use Rattle.tor_clauses.proofs.clauses.Clauses.add_triples.Goals as goal
 
 pub loop-next-init : goal.loop-next-init
-loop-next-init c = (added_none c.args.self.now c.facts.ensures.arcs, omega arith)
+loop-next-init c = added_none c.args.self.now c.facts.ensures.arcs
 
 abbrev triple_with : ℕ → ℕ → Lit → Lit → Triple
 triple_with path at l m = record { path = path; at = at; first = l; second = m }
@@ -17,7 +17,7 @@ triple_with path at l m = record { path = path; at = at; first = l; second = m }
 pub loop-next-preserved : goal.loop-next-preserved
 loop-next-preserved c =
     let k = c.loop-next.next - 1 in
-    let from : 1 ≤ c.loop-next.next = c.loop-next.invariant.1 in
+    let from : 1 ≤ c.loop-next.next = omega arith in
     let next : suc k ≡ c.loop-next.next = omega (arith, from) in
     let s : slice_get c.steps-steps.result.now k ≡ Some c.index-steps-next.result =
     get_from_or c.steps-steps.result.now k c.index-steps-next.result (omega (arith, from, c.loop-next-test.true)) c.index-steps-next.is in
@@ -30,16 +30,16 @@ loop-next-preserved c =
     ap (λ n. triple_by c.args.path n c.index-steps-next.result c.index-steps-next-in-loop-next.result) at ∙
     ap₂ (triple_with c.args.path (c.loop-next.next + 1)) (sym c.of_step.ensures) (sym c.of_step-in-loop-next.ensures) in
     let one = added_one c.args.self.now c.loop-next.self c.add_triple.new.self (triples_on c.args.graph.now c.args.path) k
-    (triple_with c.args.path (c.loop-next.next + 1) c.of_step.result c.of_step-in-loop-next.result) c.loop-next.invariant.0 (there ∙ ap Some is) c.in_ok-add_triple.ensures.ok in
+    (triple_with c.args.path (c.loop-next.next + 1) c.of_step.result c.of_step-in-loop-next.result) c.loop-next.invariant (there ∙ ap Some is) c.in_ok-add_triple.ensures.ok in
     let e : k + 1 ≡ c.loop-next.next + 1 - 1 = omega (arith, from) in
-    (subst (λ n. c.add_triple.new.self ≡ having c.args.self.now (with_triples c.args.self.now.triples (take n (triples_on c.args.graph.now c.args.path)))) e one, omega arith)
+    subst (λ n. c.add_triple.new.self ≡ having c.args.self.now (with_triples c.args.self.now.triples (take n (triples_on c.args.graph.now c.args.path)))) e one
 
 pub returns-in_err-add_triple-clause-err : goal.returns-in_err-add_triple-clause-err
 returns-in_err-add_triple-clause-err c =
     on_err c.from_residual.result (subst (IsFirst c.args.self.now) (sym c.in_err-add_triple.ensures.err)
-    (added_first c.args.self.now c.loop-next.self (take (c.loop-next.next - 1) (triples_on c.args.graph.now c.args.path)) c.loop-next.invariant.0))
+    (added_first c.args.self.now c.loop-next.self (take (c.loop-next.next - 1) (triples_on c.args.graph.now c.args.path)) c.loop-next.invariant))
 
 pub returns-clause-ok : goal.returns-clause-ok
 returns-clause-ok c =
     let short = triples_by_steps c.args.graph.now c.args.path c.steps-steps.result.now c.steps-steps.ensures.steps in
-    added_all c.args.self.now c.loop-next.self (triples_on c.args.graph.now c.args.path) (c.loop-next.next - 1) (omega (arith, short, c.loop-next-test.false)) c.loop-next.invariant.0
+    added_all c.args.self.now c.loop-next.self (triples_on c.args.graph.now c.args.path) (c.loop-next.next - 1) (omega (arith, short, c.loop-next-test.false)) c.loop-next.invariant

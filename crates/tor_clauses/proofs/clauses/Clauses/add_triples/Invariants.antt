@@ -1,11 +1,7 @@
-use Rattle.std.proofs.Common.{◌≡◌, ◌≤◌, ◌-◌, length, take}
+use Rattle.std.proofs.Common.{◌≡◌, ◌-◌, take}
 use Rattle.tor_clauses.specs.Triples.{triples_on}
 use Rattle.tor_clauses.specs.Tables.{with_triples, having}
 use Rattle.tor_clauses.proofs.clauses.Clauses.add_triples.Given as goal
 
 abbrev pub invariant-loop-next : goal.invariant-loop-next
-invariant-loop-next l =
-    (l.self ≡ having l.initial.self (with_triples l.initial.self.triples (take (l.next - 1) (triples_on l.graph l.path)))) × (1 ≤ l.next)
-
-abbrev pub decreases-loop-next : goal.decreases-loop-next
-decreases-loop-next l = length l.steps - l.next
+invariant-loop-next l = l.self ≡ having l.initial.self (with_triples l.initial.self.triples (take (l.next - 1) (triples_on l.graph l.path)))
