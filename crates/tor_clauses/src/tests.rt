@@ -1,11 +1,11 @@
 ghost use Rattle.std.specs.Prelude.{◌≡◌, ◌<◌, length, IfOk, OnOk};
 ghost use Rattle.tor_clauses.specs.Formulas.{FitsGraph};
 
-use crate::{ClauseMark, Clauses, Lit};
+use crate::{ClauseMark, Clauses, Lit, Triple};
 use as_graph::{AsGraph, Orientation, build};
 use std::alloc::Global;
 use std::test::Fail;
-use tor_arena::{EdgeId, End, Index, PathId, Rows};
+use tor_arena::{ArcId, EdgeId, End, Index, Link, PathId, Rows};
 
 fn one_path(alloc: Global) -> Result<AsGraph, Fail>
     ensures { IfOk result (λ graph. 0 < length graph) }
@@ -119,26 +119,68 @@ fn add_and_undo(graph: &AsGraph, clauses: &mut Clauses, path: PathId) -> Result<
     Ok(())
 }
 
-/// How many paths and triples there are after a path and its reverse, and again after a third path and an undo.
-fn marks(alloc: Global, graph: &AsGraph) -> Result<(ClauseMark, ClauseMark), Fail>
+/// What is compared before and after an undo: the counts, and the triple and the link of the first arc.
+#[derive(Drop)]
+struct State {
+    mark: ClauseMark,
+    triple: Triple,
+    link: Link,
+}
+
+fn state_of(clauses: &Clauses) -> Option<State> {
+    if clauses.digraph().arc_count() == 0 {
+        return None;
+    }
+    let arc = ArcId::from_place(0)?;
+    Some(State {
+        mark: clauses.mark(),
+        triple: clauses.triple_of(arc),
+        link: clauses.link_of(arc),
+    })
+}
+
+/// The states after a path and its reverse, and again after a third path and an undo.
+fn states(alloc: Global, graph: &AsGraph) -> Result<(Option<State>, Option<State>), Fail>
     requires { 2 < length graph.now }
 {
     let mut clauses = with_path(alloc, graph, path(0))?;
     clauses.add_path(graph, path(1))?;
-    let before = clauses.mark();
+    let before = state_of(&clauses);
     add_and_undo(graph, &mut clauses, path(2))?;
-    Ok((before, clauses.mark()))
+    Ok((before, state_of(&clauses)))
 }
 
-fn marks_of_three(alloc: Global) -> Result<(ClauseMark, ClauseMark), Fail> {
+fn states_of_three(alloc: Global) -> Result<(Option<State>, Option<State>), Fail> {
     let graph = three_paths(alloc)?;
-    marks(alloc, &graph)
+    states(alloc, &graph)
+}
+
+/// Whether there are two paths and one triple, that of the first path, whose edges 10 20 and 20 30 come first.
+fn is_expected(state: &Option<State>) -> bool {
+    match state {
+        Some(state) => {
+            state.mark
+                == ClauseMark {
+                    paths: 2,
+                    triples: 1,
+                }
+                && state.triple
+                    == Triple {
+                        path: path(0),
+                        at: 2,
+                        first: literal(0, End::Low),
+                        second: literal(1, End::Low),
+                    }
+                && state.link == Link { path: 1, at: 2 }
+        }
+        None => false,
+    }
 }
 
 #[test]
 fn a_reverse_is_no_new_triple_and_an_undo_goes_back(rt: HostRuntime) -> Result<(), Fail> {
-    let (before, after) = marks_of_three(rt.alloc())?;
-    assert_eq!(rt; (before.paths, before.triples), (2, 1));
-    assert_eq!(rt; (after.paths, after.triples), (2, 1));
+    let (before, after) = states_of_three(rt.alloc())?;
+    assert!(rt; is_expected(&before));
+    assert!(rt; is_expected(&after));
     Ok(())
 }
