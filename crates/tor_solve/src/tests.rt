@@ -5,7 +5,7 @@ use crate::{Verdict, solve};
 use as_graph::{AsGraph, build};
 use std::alloc::Global;
 use std::test::Fail;
-use tor_arena::{Index, PathId, Rows};
+use tor_arena::{Index, PathId, Rows, Walk};
 use tor_clauses::Clauses;
 
 fn three_paths(alloc: Global) -> Result<AsGraph, Fail>
@@ -40,66 +40,100 @@ fn clauses_of(alloc: Global, graph: &AsGraph, count: usize) -> Result<Clauses, F
     Ok(clauses)
 }
 
-/// Whether the answer is an orientation that serves, or else a walk with fewer links than ASes.
-fn has_model(alloc: Global, graph: &AsGraph, clauses: &Clauses) -> Result<bool, Fail>
+#[derive(Clone, Copy, Debug, PartialEq, Eq)]
+enum Outcome {
+    // an orientation under which the clauses hold
+    Served,
+    // a walk as it has to be
+    Refuted,
+    Wrong,
+}
+
+/// Whether a walk has two fewer links than ASes, ends with the two ASes with which it begins, and has them turned round somewhere.
+fn is_refuting(walk: &Walk) -> bool {
+    let ases = walk.ases.as_slice();
+    let count = ases.len();
+    if count < 2 {
+        return false;
+    }
+    let (first, second) = (ases[0], ases[1]);
+    let mut turns = false;
+    for place in 1..count {
+        if ases[place - 1] == second && ases[place] == first {
+            turns = true;
+        }
+    }
+    turns && walk.links.len() == count - 2 && ases[count - 2] == first && ases[count - 1] == second
+}
+
+fn answer(alloc: Global, graph: &AsGraph, clauses: &Clauses) -> Result<Outcome, Fail>
     requires { FitsGraph graph.now clauses.now }
 {
     match solve(alloc, graph, clauses)? {
-        Verdict::Model(ends) => Ok(clauses.holds(graph, &ends)),
-        Verdict::Walk(walk) => Ok(walk.ases.len() <= walk.links.len()),
+        Verdict::Model(ends) => {
+            if clauses.holds(graph, &ends) {
+                return Ok(Outcome::Served);
+            }
+        }
+        Verdict::Walk(walk) => {
+            if is_refuting(&walk) {
+                return Ok(Outcome::Refuted);
+            }
+        }
     }
+    Ok(Outcome::Wrong)
 }
 
-/// The same of the first paths of a graph, so many.
-fn first_have_model(alloc: Global, graph: &AsGraph, count: usize) -> Result<bool, Fail>
+/// The answer for the first paths of a graph, so many.
+fn answer_for_first(alloc: Global, graph: &AsGraph, count: usize) -> Result<Outcome, Fail>
     requires { count ≤ length graph.now }
 {
     let clauses = clauses_of(alloc, graph, count)?;
-    has_model(alloc, graph, &clauses)
+    answer(alloc, graph, &clauses)
 }
 
-fn some_of_three_have_model(alloc: Global, count: usize) -> Result<bool, Fail>
+fn answer_for_some_of_three(alloc: Global, count: usize) -> Result<Outcome, Fail>
     requires { count ≤ 3 }
 {
     let graph = three_paths(alloc)?;
-    first_have_model(alloc, &graph, count)
+    answer_for_first(alloc, &graph, count)
 }
 
-fn there_and_back_have_model(alloc: Global) -> Result<bool, Fail> {
+fn answer_for_there_and_back(alloc: Global) -> Result<Outcome, Fail> {
     let graph = there_and_back(alloc)?;
-    first_have_model(alloc, &graph, 2)
+    answer_for_first(alloc, &graph, 2)
 }
 
-fn no_path_has_model(alloc: Global) -> Result<bool, Fail> {
+fn answer_for_no_path(alloc: Global) -> Result<Outcome, Fail> {
     let rows = Rows::new(alloc);
     let graph = build(alloc, &rows)?;
-    first_have_model(alloc, &graph, 0)
+    answer_for_first(alloc, &graph, 0)
 }
 
 #[test]
 fn three_paths_are_refuted(rt: HostRuntime) -> Result<(), Fail> {
-    let is_served = some_of_three_have_model(rt.alloc(), 3)?;
-    assert!(rt; !is_served);
+    let answer = answer_for_some_of_three(rt.alloc(), 3)?;
+    assert_eq!(rt; answer, Outcome::Refuted);
     Ok(())
 }
 
 #[test]
 fn two_of_them_are_served(rt: HostRuntime) -> Result<(), Fail> {
-    let is_served = some_of_three_have_model(rt.alloc(), 2)?;
-    assert!(rt; is_served);
+    let answer = answer_for_some_of_three(rt.alloc(), 2)?;
+    assert_eq!(rt; answer, Outcome::Served);
     Ok(())
 }
 
 #[test]
 fn a_path_and_its_reverse_are_served(rt: HostRuntime) -> Result<(), Fail> {
-    let is_served = there_and_back_have_model(rt.alloc())?;
-    assert!(rt; is_served);
+    let answer = answer_for_there_and_back(rt.alloc())?;
+    assert_eq!(rt; answer, Outcome::Served);
     Ok(())
 }
 
 #[test]
 fn no_path_is_served(rt: HostRuntime) -> Result<(), Fail> {
-    let is_served = no_path_has_model(rt.alloc())?;
-    assert!(rt; is_served);
+    let answer = answer_for_no_path(rt.alloc())?;
+    assert_eq!(rt; answer, Outcome::Served);
     Ok(())
 }
