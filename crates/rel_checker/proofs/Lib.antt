@@ -28,6 +28,7 @@ pub mod Showings
 pub mod ShownOrders
 pub mod Soundness
 pub mod SupportLemmas
+pub mod Thinnings
 pub mod TotalLemmas
 pub mod Turnings
 pub mod ValleyLemmas

@@ -21,6 +21,7 @@ mod spreading;
 mod supports;
 #[cfg(test)]
 mod tests;
+mod thinning;
 mod totals;
 mod turning;
 mod turns;

@@ -1,4 +1,4 @@
-ghost use Rattle.std.specs.Prelude.{◌≡◌, ◌<◌, ◌≤◌, [], Some, length, replicate, slice_get, OnOk, IfOk};
+ghost use Rattle.std.specs.Prelude.{◌≡◌, ◌<◌, ◌≤◌, [], Some, length, replicate, slice_get, slice_set, OnOk, IfOk};
 ghost use Rattle.tor_arena.specs.Limits.{most_places};
 ghost use Rattle.rel_checker.specs.Neighbours.{with_next};
 
@@ -50,5 +50,20 @@ impl Neighbours {
         ensures { slice_get self.now edge ≡ Some result.now }
     {
         self.rows.get(edge).as_slice()
+    }
+
+    /// How many rows there are. It takes no memory.
+    pub fn len(&self) -> usize
+        ensures { result ≡ length self.now }
+    {
+        self.rows.len()
+    }
+
+    /// Puts another row in place of the row of an edge. It takes no memory.
+    pub fn put(&mut self, edge: EdgeId, row: List<EdgeId>)
+        requires { edge < length self.old }
+        ensures { self.new ≡ slice_set self.old edge row }
+    {
+        self.rows.put(edge, row);
     }
 }

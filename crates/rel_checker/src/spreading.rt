@@ -25,8 +25,8 @@ fn mark(
     found.push(edge)
 }
 
-/// Comes to each edge of a row.
-fn mark_each(
+/// Comes to each edge of a row, and notes each one once that is new to the round.
+pub(crate) fn mark_each(
     row: &[EdgeId],
     round: usize,
     marks: &mut Arena<EdgeId, usize>,

@@ -10,6 +10,7 @@ ghost use Rattle.rel_checker.specs.Turning.{turned_orders, edges_of, IsBuilt, Is
 
 use crate::edge_table::EdgeTable;
 use crate::neighbours::Neighbours;
+use crate::thinning::thin_out;
 use result_text::{EdgeLine, Fate, PathLine, ResultFile};
 use std::alloc::Global;
 use tor_arena::{EdgeId, Index, Label, NoMemory};
@@ -141,6 +142,8 @@ impl Turns {
         for line in file.paths.as_slice() {
             turns.note_line(lines, table, line)?;
         }
+        thin_out(alloc, &mut turns.carried)?;
+        thin_out(alloc, &mut turns.barred)?;
         Ok(turns)
     }
 }
