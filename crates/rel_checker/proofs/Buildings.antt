@@ -14,7 +14,7 @@ use Rattle.rel_checker.proofs.Gets.{slice_get-lt, slice_get-set_cases, slice_get
 pub length-with_next : (rows : List (List ℕ)) (a b : ℕ) → length (with_next rows a b) ≡ length rows
 length-with_next rows a b = length-set rows a (slice_index_or rows a [] ++ b ∷ [])
 
-next_cases : (rows : List (List ℕ)) (a b i j : ℕ) → a < length rows → HasNext (with_next rows a b) i j → HasNext rows i j ⊎ ((i ≡ a) × (j ≡ b))
+pub next_cases : (rows : List (List ℕ)) (a b i j : ℕ) → a < length rows → HasNext (with_next rows a b) i j → HasNext rows i j ⊎ ((i ≡ a) × (j ≡ b))
 next_cases rows a b i j lt h =
     elim (slice_get-set_cases rows a (slice_index_or rows a [] ++ b ∷ []) i h.0 h.1) [
       | inl p ↦ elim (Contains-push_cases (slice_index_or rows a []) b j (subst (λ l. Contains l j) p.1 h.2)) [

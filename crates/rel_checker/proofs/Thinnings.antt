@@ -2,10 +2,11 @@
 use Rattle.std.proofs.Common.{◌≡◌, ◌↔◌, inl, inr, ℕ, ◌+◌, ◌<◌, ◌≤◌, List, [], ◌++◌, Some, Bool, nat_eq, length, set, get_or, slice_get, sym, ap, ◌∙◌, subst, arith, All, Contains}
 use Rattle.std.proofs.lemmas.Bool.{cases_Bool, eqb-true, eq-eqb, both_ways}
 use Rattle.std.proofs.lemmas.Option.{slice_get-get_or, same_Some}
-use Rattle.rel_checker.specs.Neighbours.{HasNext}
+use Rattle.rel_checker.specs.Neighbours.{HasNext, IsInside, with_next}
 use Rattle.rel_checker.specs.Spreading.{IsMarked, Marks}
 use Rattle.rel_checker.specs.Turning.{IsBuilt}
 use Rattle.rel_checker.proofs.Gets.{All-get, slice_get-set_cases, slice_get-set_other, slice_get-set_same}
+use Rattle.rel_checker.proofs.Buildings.{next_cases, length-with_next}
 use Rattle.rel_checker.proofs.Consistencies.{unmarked_below}
 
 -- a round that no edge bears yet notes exactly the edges of the row
@@ -59,3 +60,12 @@ built_rows orders T carried barred carried' barred' b m m' s s' = record {
   carries = λ i j. (λ h. (b.carries i j).0 ((s i j).0 h), λ c. (s i j).1 ((b.carries i j).1 c));
   bars = λ i j. (λ h. (b.bars i j).0 ((s' i j).0 h), λ c. (s' i j).1 ((b.bars i j).1 c));
 }
+
+-- ---- rows that are added to one by one
+
+pub inside_next : (rows rows' : List (List ℕ)) (a b : ℕ) → rows' ≡ with_next rows a b → a < length rows → b < length rows → IsInside rows → IsInside rows'
+inside_next rows rows' a b e lt lt' inside = rw e (λ i j h.
+    elim (next_cases rows a b i j lt h) [
+      | inl o ↦ (let w = inside i j o in omega (arith, w, length-with_next rows a b))
+      | inr n ↦ (let is = n.1 in omega (arith, is, lt', length-with_next rows a b))
+    ])

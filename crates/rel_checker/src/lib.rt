@@ -21,6 +21,8 @@ mod spreading;
 mod supports;
 #[cfg(test)]
 mod tests;
+#[cfg(test)]
+mod thin_tests;
 mod thinning;
 mod totals;
 mod turning;
