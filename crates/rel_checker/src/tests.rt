@@ -39,10 +39,11 @@ fn the_right_file(rt: HostRuntime) -> Result<(), Fail> {
 }
 
 /// Which line and rule is named where one line is another.
-const CHANGES: [(usize, &str, u64, u8); 13] = [
+const CHANGES: [(usize, &str, u64, u8); 17] = [
     (3, "ratio|1000001", 3, 1),
     (11, "kept|0|30 40 20 10 50 60", 11, 2),
     (12, "kept|1|10 20 23456 40", 12, 2),
+    (12, "kept|1|10 20 10 40", 12, 2),
     (12, "kept|1|30 40 20 10 50 60", 12, 3),
     (
         13,
@@ -51,11 +52,19 @@ const CHANGES: [(usize, &str, u64, u8); 13] = [
         4,
     ),
     (14, "edge|30|50|high|open|2", 14, 5),
+    (
+        20,
+        "edge|10|60|low|open|0\nedge|10|70|low|open|0",
+        21,
+        5,
+    ),
     (14, "edge|30|40|low|open|2", 11, 6),
     (17, "edge|10|50|low|forced|2", 17, 7),
     (21, "why|20 30|", 21, 8),
     (16, "edge|10|20|high|open|2", 16, 9),
     (25, "open|10|60", 20, 9),
+    (24, "open|10|20", 24, 9),
+    (25, "open|60|10\nopen|20|30", 26, 9),
     (15, "edge|20|40|low|open|1", 26, 10),
     (26, "end|2|1|7|3|2", 26, 10),
 ];
