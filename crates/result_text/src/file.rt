@@ -17,6 +17,7 @@ pub struct PathLine {
     pub times: u64,
     /// Its AS numbers, in order.
     pub path: List<u32>,
+    /// Whether it is kept, and what refutes it if not.
     pub fate: Fate,
 }
 
@@ -36,7 +37,9 @@ pub struct EdgeLine {
     pub low: u32,
     /// The higher one.
     pub high: u32,
+    /// Which of the two is the provider, or that they are peers.
     pub label: Label,
+    /// Whether the label could be another one.
     pub mark: EdgeMark,
     /// How many kept paths hold it.
     pub support: u64,
@@ -45,7 +48,9 @@ pub struct EdgeLine {
 /// A guess "over is the provider of under" that leads to no contradiction, written as an open line.
 #[derive(Clone, Copy, Debug, PartialEq, Eq)]
 pub struct ProbeLine {
+    /// The AS number of the provider.
     pub over: u32,
+    /// The AS number of the customer.
     pub under: u32,
 }
 
@@ -67,15 +72,20 @@ pub struct Totals {
 /// What a result says. Nothing is asked of it but the ranges of its numbers: what makes a result right is for others to say.
 #[derive(Debug, Drop)]
 pub struct ResultFile {
+    /// What became of an AS_SET whose members differ.
     pub sets: Sets,
     /// The greatest ratio of degrees between peers.
     pub ratio: u32,
+    /// How many routes were set aside, by cause.
     pub asides: Asides,
     /// The distinct paths, in order of first appearance.
     pub paths: List<PathLine>,
+    /// The edges of the paths, in order of first appearance.
     pub edges: List<EdgeLine>,
     /// Walks that show why edges are forced.
     pub whys: List<Walk>,
+    /// Guesses that show that edges are open.
     pub probes: List<ProbeLine>,
+    /// What the last line counts.
     pub totals: Totals,
 }

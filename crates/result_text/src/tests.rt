@@ -17,6 +17,13 @@ struct Case {
 const HEAD: &str =
     "tor|1\nsets|cut\nratio|60\naside|nopath|0\naside|badsegments|0\naside|confed|0\naside|sets|0\naside|reserved|0\naside|loop|0\naside|short|0\n";
 
+/// A result without lines of any list, and one with a path without ASes.
+const NO_LINES: &str =
+    "tor|1\nsets|cut\nratio|60\naside|nopath|0\naside|badsegments|0\naside|confed|0\naside|sets|0\naside|reserved|0\naside|loop|0\naside|short|0\nend|0|0|0|0|0\n";
+
+const ONE_EMPTY_PATH: &str =
+    "tor|1\nsets|cut\nratio|60\naside|nopath|0\naside|badsegments|0\naside|confed|0\naside|sets|0\naside|reserved|0\naside|loop|0\naside|short|0\nkept|1|\nend|0|0|0|0|0\n";
+
 const ASIDES: &str =
     "aside|nopath|0\naside|badsegments|0\naside|confed|0\naside|sets|0\naside|reserved|0\naside|loop|0\naside|short|0\nend|0|0|0|0|0\n";
 
@@ -256,9 +263,24 @@ fn texts_and_bad_lines(rt: HostRuntime) -> Result<(), Fail> {
                 let again = print(rt.alloc(), &file)?;
                 assert_eq!(rt; again.as_slice(), text.as_slice());
             }
-            Err(error) => assert_eq!(rt; named(error), case.bad_line),
+            Err(error) => {
+                assert!(rt; case.bad_line.is_some());
+                assert_eq!(rt; named(error), case.bad_line)
+            }
         }
     }
+    Ok(())
+}
+
+/// How many paths the result has whose text this is.
+fn path_count(alloc: Global, text: &str) -> Result<usize, ParseError> {
+    Ok(parse(alloc, text.as_bytes())?.paths.len())
+}
+
+#[test]
+fn no_path_and_a_path_without_ases(rt: HostRuntime) -> Result<(), Fail> {
+    assert_eq!(rt; path_count(rt.alloc(), NO_LINES)?, 0);
+    assert_eq!(rt; path_count(rt.alloc(), ONE_EMPTY_PATH)?, 1);
     Ok(())
 }
 
