@@ -7,8 +7,8 @@ use Rattle.tor_arena.proofs.Places.{kept_from-in, kept_from-out}
 use Rattle.result_text.specs.declared.file.Fate.{Fate}
 use Rattle.result_text.specs.declared.file.Fate.TheVariants.{Kept, Lost}
 use Rattle.result_text.specs.declared.file.PathLine.{PathLine}
-use Rattle.rel_checker.specs.File.{walk_of}
-use Rattle.rel_checker.specs.Naming.{kept_among, nameable}
+use Rattle.rel_checker.specs.File.{kept_among, walk_of}
+use Rattle.rel_checker.specs.Naming.{nameable}
 use Rattle.rel_checker.proofs.WalkLaws.{paths_in, walks_in}
 
 abbrev flags_in : List PathLine → List Bool

@@ -8,7 +8,7 @@ use Rattle.tor_arena.specs.Evidence.{Numbered, EndsWith, Shows}
 use Rattle.result_text.specs.declared.file.PathLine.{PathLine}
 use Rattle.result_text.specs.declared.file.ResultFile.{ResultFile}
 use Rattle.rel_checker.specs.File.{last_two, orders_of}
-use Rattle.rel_checker.specs.Naming.{kept_among}
+use Rattle.rel_checker.specs.File.{kept_among}
 use Rattle.rel_checker.specs.Rules.{OrdersShown, Asks}
 use Rattle.rel_checker.proofs.WalkLaws.{last_two-from_ends}
 

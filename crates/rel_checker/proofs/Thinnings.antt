@@ -1,9 +1,9 @@
 -- Rows in which each edge stands once have the same edges.
-use Rattle.std.proofs.Common.{◌≡◌, ◌↔◌, inl, inr, ℕ, ◌+◌, ◌<◌, ◌≤◌, List, [], ◌++◌, Some, Bool, nat_eq, length, set, get_or, slice_get, sym, ap, ◌∙◌, subst, arith, All, Contains}
+use Rattle.std.proofs.Common.{◌≡◌, ◌↔◌, inl, inr, ℕ, ◌<◌, ◌≤◌, List, [], ◌++◌, Some, nat_eq, length, set, get_or, slice_get, sym, ap, ◌∙◌, subst, arith, All, Contains}
 use Rattle.std.proofs.lemmas.Bool.{cases_Bool, eqb-true, eq-eqb, both_ways}
 use Rattle.std.proofs.lemmas.Option.{slice_get-get_or, same_Some}
 use Rattle.rel_checker.specs.Neighbours.{HasNext, IsInside, with_next}
-use Rattle.rel_checker.specs.Spreading.{IsMarked, Marks}
+use Rattle.rel_checker.specs.Spreading.{Marks}
 use Rattle.rel_checker.specs.Turning.{IsBuilt}
 use Rattle.rel_checker.proofs.Gets.{All-get, slice_get-set_cases, slice_get-set_other, slice_get-set_same}
 use Rattle.rel_checker.proofs.Buildings.{next_cases, length-with_next}

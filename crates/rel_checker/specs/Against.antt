@@ -1,9 +1,12 @@
--- What a result has to agree with where dumps are named: the counts, and the distinct paths in order with their times.
+-- What a result has to agree with where dumps are named: the counts, and the distinct paths in order with their times. This is
+-- rule 11 of docs/FORMATS.md.
 use Rattle.std.specs.Prelude.{◌≡◌, ℕ, ◌+◌, ◌-◌, ◌<◌, ◌≤◌, List, [], ◌∷◌, map, slice_get}
 use Rattle.path_clean.specs.Counts.{Counts}
 use Rattle.path_clean.specs.Rows.{Counted}
 use Rattle.result_text.specs.declared.file.PathLine.{PathLine}
 use Rattle.result_text.specs.declared.file.ResultFile.{ResultFile}
+use Rattle.path_clean.specs.declared.cleaned.Cause.TheVariants.{NoPath}
+use Rattle.result_text.specs.Numbering.{aside_line}
 use Rattle.rel_checker.specs.declared.answer.Answer.{Answer}
 use Rattle.rel_checker.specs.declared.answer.Answer.TheVariants.{Yes, No}
 
@@ -18,7 +21,7 @@ row_of line = record { path = line.path; times = line.times }
 abbrev pub its_rows : ResultFile → List Counted
 its_rows file = map row_of file.paths
 
--- the lines of the counts, the seven from line 4 on, and behind them the path lines agree. A path that is absent counts as a
+-- the lines of the counts, the seven from that of the first cause on, and behind them the path lines agree. A path that is absent counts as a
 -- line behind the others
 pub record Agrees (file : ResultFile) (rows : List Counted) (counts : Counts) (k : ℕ) : Type 0 where
   pub count : k < 7 → slice_get (in_order file.asides) k ≡ slice_get (in_order counts) k
@@ -28,7 +31,7 @@ pub record Agrees (file : ResultFile) (rows : List Counted) (counts : Counts) (k
 pub record Departs (file : ResultFile) (rows : List Counted) (counts : Counts) (line rule : ℕ) : Type 0 where
   pub named : rule ≡ 11
   pub place : ℕ
-  pub numbered : line ≡ 4 + place
+  pub numbered : line ≡ aside_line NoPath + place
   pub breach : Agrees file rows counts place → ⊥
   pub before : (j : ℕ) → j < place → Agrees file rows counts j
 

@@ -1,5 +1,5 @@
 -- What a result says, as lists that the definitions of relationships speak of.
-use Rattle.std.specs.Prelude.{ℕ, ◌+◌, Bool, true, false, List, [], ◌∷◌, length, map, flat_map, take, Option, Some, None}
+use Rattle.std.specs.Prelude.{ℕ, ◌+◌, ◌≤◌, ◌^◌, Bool, true, false, List, [], ◌∷◌, length, map, flat_map, take, Option, Some, None}
 use Rattle.tor_arena.specs.declared.walk.Walk.{Walk}
 use Rattle.tor_arena.specs.Relationship.{Labelling}
 use Rattle.tor_arena.specs.Graph.{Edge}
@@ -10,7 +10,9 @@ use Rattle.result_text.specs.declared.file.Fate.TheVariants.{Kept, Lost}
 use Rattle.result_text.specs.declared.file.EdgeMark.{EdgeMark}
 use Rattle.result_text.specs.declared.file.EdgeMark.TheVariants.{Forced, Loose}
 use Rattle.result_text.specs.declared.file.EdgeLine.{EdgeLine}
+use Rattle.result_text.specs.declared.file.PathLine.{PathLine}
 use Rattle.result_text.specs.declared.file.ResultFile.{ResultFile}
+use Rattle.result_text.specs.Numbering as numbering
 
 -- ---- paths
 
@@ -29,9 +31,13 @@ its_walks file = map (λ p. walk_of p.fate) file.paths
 abbrev pub kept_before : ResultFile → ℕ → Numbered
 kept_before file k = kept_of (take k (its_paths file)) (take k (its_walks file))
 
+-- the paths of the kept lines among these, each with its number
+abbrev pub kept_among : List PathLine → Numbered
+kept_among lines = kept_of (map (λ p. p.path) lines) (map (λ p. walk_of p.fate) lines)
+
 -- all kept paths, each with its number
 abbrev pub its_kept : ResultFile → Numbered
-its_kept file = kept_of (its_paths file) (its_walks file)
+its_kept file = kept_among file.paths
 
 -- ---- edges
 
@@ -68,18 +74,21 @@ its_probes file = map (λ p. (p.over, p.under)) file.probes
 
 -- ---- numbers of lines, from 1. The places are from 0
 
--- ten lines stand before the paths
 abbrev pub path_line : ℕ → ℕ
-path_line k = 11 + k
+path_line k = numbering.path_line (k + 1)
 
 abbrev pub edge_line : ResultFile → ℕ → ℕ
-edge_line file k = 11 + length file.paths + k
+edge_line file k = numbering.edge_line file (k + 1)
 
 abbrev pub why_line : ResultFile → ℕ → ℕ
-why_line file k = 11 + length file.paths + length file.edges + k
+why_line file k = numbering.why_line file (k + 1)
 
 abbrev pub open_line : ResultFile → ℕ → ℕ
-open_line file k = 11 + length file.paths + length file.edges + length file.whys + k
+open_line file k = numbering.probe_line file (k + 1)
 
 abbrev pub last_line : ResultFile → ℕ
-last_line file = 11 + length file.paths + length file.edges + length file.whys + length file.probes
+last_line file = numbering.last_line file
+
+-- there are at most 2 ^ 40 lines besides the first ten and the last
+abbrev pub HasFewLines : ResultFile → Type 0
+HasFewLines file = length file.paths + length file.edges + length file.whys + length file.probes ≤ 2 ^ 40

@@ -1,5 +1,7 @@
--- The rules that a result has to meet. Each asks something of some of its lines, one by one.
-use Rattle.std.specs.Prelude.{◌≡◌, ℕ, ◌+◌, ◌-◌, ◌<◌, ◌≤◌, ◌^◌, Bool, true, IsTrue, [], ◌∷◌, ◌++◌, length, max, take, Some, Contains, slice_get, sum_by, count_by, nat_lt, not, if◌then◌else◌}
+-- The rules that a result has to meet, which are this project's own (docs/FORMATS.md, "The rules of a result"). Each asks
+-- something of some of its lines, one by one. That a path is valley-free is the notion of L. Gao, "On inferring autonomous system
+-- relationships in the Internet", 2001.
+use Rattle.std.specs.Prelude.{◌≡◌, ℕ, ◌+◌, ◌-◌, ◌<◌, ◌≤◌, ◌^◌, Bool, true, false, IsTrue, [], ◌∷◌, ◌++◌, length, max, take, Some, Contains, slice_get, sum_by, count_by, nat_lt, not, if◌then◌else◌}
 use Rattle.tor_arena.specs.declared.walk.Label.{Label}
 use Rattle.tor_arena.specs.declared.walk.Label.TheVariants as label
 use Rattle.tor_arena.specs.declared.walk.Walk.{Walk}
@@ -14,6 +16,7 @@ use Rattle.result_text.specs.declared.file.PathLine.{PathLine}
 use Rattle.result_text.specs.declared.file.EdgeLine.{EdgeLine}
 use Rattle.result_text.specs.declared.file.Totals.{Totals}
 use Rattle.result_text.specs.declared.file.ResultFile.{ResultFile}
+use Rattle.result_text.specs.Numbering.{ratio_line}
 use Rattle.rel_checker.specs.File.{its_paths, kept_before, its_kept, is_forced, its_claims, its_edges, its_labels, orders_of, its_probes, path_line, edge_line, why_line, open_line, last_line}
 
 -- the rules about the file alone, in the order in which they are tried
@@ -73,11 +76,11 @@ IsServing file k probe = IsProbe (paths_of (its_kept file)) (its_claims file) (t
 
 abbrev pub is_kept : Fate → Bool
 is_kept Kept = true
-is_kept (Lost walk) = not true
+is_kept (Lost walk) = false
 
 abbrev pub is_peer : Label → Bool
-is_peer label.Low = not true
-is_peer label.High = not true
+is_peer label.Low = false
+is_peer label.High = false
 is_peer label.Peer = true
 
 -- what the last line has to say
@@ -122,7 +125,7 @@ Asks file TotalsRight k = file.totals ≡ right_totals file
 
 -- the number of that line in the file
 abbrev pub line_for : ResultFile → Rule → ℕ → ℕ
-line_for file RatioBounded k = 3
+line_for file RatioBounded k = ratio_line
 line_for file PathsCleaned k = path_line k
 line_for file PathsDistinct k = path_line k
 line_for file LostRefuted k = path_line k

@@ -4,7 +4,7 @@ use Rattle.tor_arena.specs.declared.walk.Label.{Label}
 use Rattle.tor_arena.specs.declared.walk.Label.TheVariants as label
 use Rattle.tor_arena.specs.Graph.{Edge}
 use Rattle.tor_arena.specs.Limits.{most_places}
-use Rattle.tor_arena.specs.Evidence.{IsTriple, Closure}
+use Rattle.tor_arena.specs.Evidence.{Closure, IsConsistent}
 use Rattle.tor_arena.specs.Checking.{Claim, OtherOrder}
 use Rattle.result_text.specs.declared.file.EdgeMark.{EdgeMark}
 use Rattle.result_text.specs.declared.file.EdgeMark.TheVariants.{Forced, Loose}
@@ -13,7 +13,7 @@ use Rattle.result_text.specs.declared.file.ResultFile.{ResultFile}
 use Rattle.rel_checker.specs.File.{claim_of, its_claims, its_probes}
 use Rattle.rel_checker.specs.Spreading.{IsMarked}
 use Rattle.rel_checker.specs.Rules.{IsServing, IsMarkedRightly}
-use Rattle.rel_checker.specs.Turning.{TurnsTo, edges_of, turned_orders, kept_lines, IsBuilt, IsProper, IsSettled, AreApart}
+use Rattle.rel_checker.specs.Turning.{TurnsTo, edges_of, turned_orders, kept_lines, IsBuiltFor, IsProper, IsSettled, AreApart}
 
 -- the edge is open, and no peering
 abbrev pub is_wanted : EdgeMark → Label → Bool
@@ -37,14 +37,22 @@ pub record Gains (kept : List (List ℕ)) (claims : List Claim) (earlier : List 
   pub reached : Closure kept p.0 p.1 over under
   pub new : All (λ q. Closure kept q.0 q.1 over under → ⊥) earlier
 
--- the round came to exactly the edges to whose turned orders one of the probes leads
+-- the round came to exactly the edges to whose turned orders one of the open lines leads
 abbrev pub IsCovered : List (List ℕ) → List (ℕ × ℕ) → List (ℕ × ℕ) → List ℕ → ℕ → Type 0
 IsCovered kept orders probes marks round =
     (k x y : ℕ) → TurnsTo orders k x y → IsMarked marks round k ↔ Any (λ p. Closure kept p.0 p.1 x y) probes
 
+-- the same in round 1, for the kept paths and the edges of a file
+abbrev pub Covers : ResultFile → List (ℕ × ℕ) → List ℕ → Type 0
+Covers file probes marks = IsCovered (kept_lines file.paths) (turned_orders file.edges) probes marks 1
+
 -- the order is one against a label
 abbrev pub Turned : List (ℕ × ℕ) → ℕ × ℕ → Type 0
 Turned orders p = (k : ℕ) × TurnsTo orders k p.0 p.1
+
+-- it is one against a label, and its closure is consistent
+abbrev pub CanTurn : ResultFile → ℕ × ℕ → Type 0
+CanTurn file p = Turned (turned_orders file.edges) p × IsConsistent (kept_lines file.paths) p.0 p.1
 
 -- open line k gains
 abbrev pub GainsAt : ResultFile → ℕ → Type 0
@@ -88,4 +96,4 @@ pub record IsLaidOut (file : ResultFile) (table : List Edge) (carried barred : L
   pub apart : AreApart file.edges
   pub proper : IsProper (turned_orders file.edges)
   pub settled : IsSettled (turned_orders file.edges) (kept_lines file.paths)
-  pub built : IsBuilt (turned_orders file.edges) (IsTriple (kept_lines file.paths)) carried barred
+  pub built : IsBuiltFor file.edges (kept_lines file.paths) carried barred

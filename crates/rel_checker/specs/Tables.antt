@@ -17,7 +17,7 @@ with_edge es e = if list_any (is_same e) es then es else es ++ e ∷ []
 abbrev pub edge_at : List Edge → ℕ → Edge
 edge_at es k = slice_index_or es k (0, 0)
 
--- each edge has a count, which has gone up by this
+-- the count of each edge has gone up by this
 abbrev pub HaveRisen : List Edge → (Edge → ℕ) → List ℕ → List ℕ → Type 0
 HaveRisen es more old new =
     (length new ≡ length old) × ((k : ℕ) → k < length es → slice_index new k ≡ slice_index old k + more (edge_at es k))

@@ -1,4 +1,6 @@
--- Which edges turn round together. An edge that turns gets the order that its label does not have.
+-- Which orders imply which. Each edge has one order against its label; that the edge turns means that it has this order. Edge i
+-- carries edge j where, along a kept path, the order against i's label implies the order against j's label, and bars it where it
+-- forbids that order. So the closure of an order against a label is read off the edges alone.
 use Rattle.std.specs.Prelude.{◌≡◌, ◌⊎◌, ◌↔◌, ℕ, ◌+◌, ◌<◌, Bool, true, false, List, ◌++◌, [], ◌∷◌, length, map, Some, All, Contains, slice_get, slice_index}
 use Rattle.tor_arena.specs.declared.walk.Label.{Label}
 use Rattle.tor_arena.specs.declared.walk.Label.TheVariants as label
@@ -8,8 +10,7 @@ use Rattle.result_text.specs.declared.file.Fate.{Fate}
 use Rattle.result_text.specs.declared.file.Fate.TheVariants.{Kept, Lost}
 use Rattle.result_text.specs.declared.file.EdgeLine.{EdgeLine}
 use Rattle.result_text.specs.declared.file.PathLine.{PathLine}
-use Rattle.tor_arena.specs.Checking.{kept_of}
-use Rattle.rel_checker.specs.File.{walk_of}
+use Rattle.rel_checker.specs.File.{kept_among}
 use Rattle.rel_checker.specs.Neighbours.{HasNext, with_next}
 
 -- ---- orders
@@ -50,6 +51,10 @@ pub record IsBuilt (orders : List (ℕ × ℕ)) (T : ℕ → ℕ → ℕ → Typ
   pub carries : (i j : ℕ) → HasNext carried i j ↔ Carries orders T i j
   pub bars : (i j : ℕ) → HasNext barred i j ↔ Bars orders T i j
 
+-- the rows are built for the triples of these paths
+abbrev pub IsBuiltFor : List EdgeLine → List (List ℕ) → List (List ℕ) → List (List ℕ) → Type 0
+IsBuiltFor lines paths carried barred = IsBuilt (turned_orders lines) (IsTriple paths) carried barred
+
 -- ---- steps of a path
 
 -- a step of a path: it goes up along an edge that would have to turn to have it go down, or goes down already
@@ -81,7 +86,7 @@ with_kept paths path (Lost walk) = paths
 
 -- the kept paths of these lines
 abbrev pub kept_lines : List PathLine → List (List ℕ)
-kept_lines lines = paths_of (kept_of (map (λ p. p.path) lines) (map (λ p. walk_of p.fate) lines))
+kept_lines lines = paths_of (kept_among lines)
 
 -- ---- what the earlier rules give
 

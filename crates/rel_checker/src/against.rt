@@ -1,6 +1,4 @@
-ghost use Rattle.std.specs.Prelude.{◌≡◌, ◌+◌, ◌<◌, ◌≤◌, ◌^◌, ◌∷◌, [], ◌↔◌, ℕ, IsTrue, length, slice_get, MatchOption};
-ghost use Rattle.path_clean.specs.Counts.{count_of};
-ghost use Rattle.path_clean.specs.Rows.{paths_of};
+ghost use Rattle.std.specs.Prelude.{◌≡◌, ◌+◌, ◌<◌, ◌≤◌, ◌^◌, ◌↔◌, IsTrue, length, slice_get, MatchOption};
 ghost use Rattle.rel_checker.specs.Against.{in_order, its_rows, JudgesAgainst, Differs};
 
 use crate::answer::Answer;

@@ -1,7 +1,6 @@
-ghost use Rattle.std.specs.Prelude.{◌≡◌, ◌+◌, ◌≤◌, ◌^◌, length, Some, IfOk};
+ghost use Rattle.std.specs.Prelude.{◌≡◌, Some, IfOk};
 ghost use Rattle.tor_arena.specs.Graph.{edges};
-ghost use Rattle.rel_checker.specs.File.{its_paths, its_edges};
-ghost use Rattle.rel_checker.specs.Rules.{Rule, PathsCleaned, PathsDistinct, LostRefuted, EdgesListed, KeptValleyFree, SupportCounted, OrdersShown, MarksBorneOut, TotalsRight};
+ghost use Rattle.rel_checker.specs.File.{its_paths, HasFewLines};
 ghost use Rattle.rel_checker.specs.Steps.{MetUpTo, Settles};
 ghost use Rattle.rel_checker.specs.Valid.{Valid};
 ghost use Rattle.rel_checker.specs.Verdict.{Judges};
@@ -26,7 +25,7 @@ const MAX_RATIO: u32 = 1_000_000;
 /// names the least rule that is broken, 1 to 10, and its first line, from 1. The file may have at most 2^40 lines besides its first
 /// ten and its last. NoMemory where memory ran out.
 pub fn check_file(alloc: Global, file: &ResultFile) -> Result<Answer, NoMemory>
-    requires lines { length file.now.paths + length file.now.edges + length file.now.whys + length file.now.probes ≤ 2 ^ 40 }
+    requires lines { HasFewLines file.now }
     ensures verdict { IfOk result (Judges file.now) }
     ensures valid { result ≡ Ok Answer.Yes → Valid file.now }
 {
@@ -45,7 +44,7 @@ pub fn check_file(alloc: Global, file: &ResultFile) -> Result<Answer, NoMemory>
 
 /// The rules on the head and on the paths.
 fn check_paths(alloc: Global, file: &ResultFile) -> Result<Option<Answer>, NoMemory>
-    requires lines { length file.now.paths + length file.now.edges + length file.now.whys + length file.now.probes ≤ 2 ^ 40 }
+    requires lines { HasFewLines file.now }
     ensures { IfOk result (Settles file.now 4) }
 {
     if file.ratio > MAX_RATIO {
@@ -69,7 +68,7 @@ fn check_edges(
     file: &ResultFile,
     table: &EdgeTable,
 ) -> Result<Option<Answer>, NoMemory>
-    requires lines { length file.now.paths + length file.now.edges + length file.now.whys + length file.now.probes ≤ 2 ^ 40 }
+    requires lines { HasFewLines file.now }
     requires met { MetUpTo file.now 4 }
     requires table { table.now ≡ edges (its_paths file.now) }
     ensures { IfOk result (Settles file.now 7) }
@@ -92,7 +91,7 @@ fn check_evidence(
     file: &ResultFile,
     table: &EdgeTable,
 ) -> Result<Option<Answer>, NoMemory>
-    requires lines { length file.now.paths + length file.now.edges + length file.now.whys + length file.now.probes ≤ 2 ^ 40 }
+    requires lines { HasFewLines file.now }
     requires met { MetUpTo file.now 7 }
     requires table { table.now ≡ edges (its_paths file.now) }
     ensures { IfOk result (Settles file.now 9) }
@@ -108,7 +107,7 @@ fn check_evidence(
 
 /// The rule on the last line.
 fn check_totals(file: &ResultFile) -> Answer
-    requires lines { length file.now.paths + length file.now.edges + length file.now.whys + length file.now.probes ≤ 2 ^ 40 }
+    requires lines { HasFewLines file.now }
     requires met { MetUpTo file.now 9 }
     ensures { Judges file.now result }
 {

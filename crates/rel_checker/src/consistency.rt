@@ -1,11 +1,9 @@
 //! Whether the closures of open lines are consistent.
 
 ghost use Rattle.std.specs.Prelude.{◌≡◌, ◌<◌, ◌≤◌, ◌↔◌, ℕ, length, All, Any, IsTrue, Some, OnOk, IfOk};
-ghost use Rattle.tor_arena.specs.Evidence.{IsConsistent};
 ghost use Rattle.rel_checker.specs.Neighbours.{HasNext, IsInside};
 ghost use Rattle.rel_checker.specs.Spreading.{IsMarked};
-ghost use Rattle.rel_checker.specs.Turning.{turned_orders, kept_lines};
-ghost use Rattle.rel_checker.specs.Serving.{Turned, IsLaidOut, First, GainsAt, ServesAt};
+ghost use Rattle.rel_checker.specs.Serving.{CanTurn, IsLaidOut, First, GainsAt, ServesAt};
 
 use crate::edge_table::EdgeTable;
 use crate::neighbours::Neighbours;
@@ -71,7 +69,7 @@ fn is_consistent(
     requires below { All (λ m. m < round) marks.old.items }
     ensures many { OnOk result (length marks.new.items ≡ length file.now.edges) }
     ensures below { OnOk result (All (λ m. m ≤ round) marks.new.items) }
-    ensures consistent { IfOk result (λ consistent. IsTrue consistent ↔ (Turned (turned_orders file.now.edges) (probe.now.over, probe.now.under) × IsConsistent (kept_lines file.now.paths) probe.now.over probe.now.under)) }
+    ensures consistent { IfOk result (λ consistent. IsTrue consistent ↔ CanTurn file.now (probe.now.over, probe.now.under)) }
 {
     let lines = file.edges.as_slice();
     let Some(start) = start_of(lines, table, probe) else {

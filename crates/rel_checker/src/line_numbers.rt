@@ -2,6 +2,7 @@
 
 ghost use Rattle.std.specs.Prelude.{◌≡◌, ◌+◌, ◌-◌, ◌<◌, ◌≤◌, ◌^◌, length};
 ghost use Rattle.rel_checker.specs.File as said;
+ghost use Rattle.rel_checker.specs.File.{HasFewLines};
 ghost use Rattle.rel_checker.specs.Rules.{MarksBorneOut, line_for};
 
 use result_text::ResultFile;
@@ -40,7 +41,7 @@ pub(crate) fn open_line(file: &ResultFile, place: usize) -> u64
 
 /// The lines with marks are the edge lines and the open lines.
 pub(crate) fn mark_line(file: &ResultFile, place: usize) -> u64
-    requires lines { length file.now.paths + length file.now.edges + length file.now.whys + length file.now.probes ≤ 2 ^ 40 }
+    requires lines { HasFewLines file.now }
     requires place { place < length file.now.edges + length file.now.probes }
     ensures { result ≡ line_for file.now MarksBorneOut place }
 {
@@ -54,7 +55,7 @@ pub(crate) fn mark_line(file: &ResultFile, place: usize) -> u64
 
 /// The last line stands behind the open lines.
 pub(crate) fn last_line(file: &ResultFile) -> u64
-    requires { length file.now.paths + length file.now.edges + length file.now.whys + length file.now.probes ≤ 2 ^ 40 }
+    requires { HasFewLines file.now }
     ensures { result ≡ said.last_line file.now }
 {
     open_line(file, file.probes.len())

@@ -1,12 +1,11 @@
 //! The rule on marks: each mark is borne out, and each open line serves for an edge.
 
-ghost use Rattle.std.specs.Prelude.{◌≡◌, ◌+◌, ◌≤◌, ◌^◌, length, IfOk};
+ghost use Rattle.std.specs.Prelude.{◌≡◌, ◌+◌, ◌≤◌, length, IfOk};
 ghost use Rattle.tor_arena.specs.Limits.{most_places};
-ghost use Rattle.rel_checker.specs.File.{its_edges, its_probes, orders_of};
+ghost use Rattle.rel_checker.specs.File.{its_edges, its_probes, orders_of, HasFewLines};
 ghost use Rattle.rel_checker.specs.Rules.{Rule, IsMet};
 ghost use Rattle.rel_checker.specs.Verdict.{Finds};
-ghost use Rattle.rel_checker.specs.Turning.{turned_orders, kept_lines};
-ghost use Rattle.rel_checker.specs.Serving.{IsCovered, IsShownBy, First, MarkedAt, is_borne};
+ghost use Rattle.rel_checker.specs.Serving.{Covers, IsShownBy, First, MarkedAt, is_borne};
 
 use crate::consistency::find_useless;
 use crate::edge_table::EdgeTable;
@@ -39,7 +38,7 @@ fn find_unborne(
     requires many { length shown.now.items ≡ length file.now.edges }
     requires marks { length marks.now.items ≡ length file.now.edges }
     requires shown { IsShownBy file.now.edges (orders_of file.now.whys) shown.now.items }
-    requires covered { IsCovered (kept_lines file.now.paths) (turned_orders file.now.edges) (its_probes file.now) marks.now.items 1 }
+    requires covered { Covers file.now (its_probes file.now) marks.now.items }
     ensures { First (MarkedAt file.now) (length file.now.edges) result }
 {
     for (k, line) in file.edges.as_slice().iter().enumerate() {
@@ -60,7 +59,7 @@ pub(crate) fn find_unmarked(
     file: &ResultFile,
     table: &EdgeTable,
 ) -> Result<Option<usize>, NoMemory>
-    requires lines { length file.now.paths + length file.now.edges + length file.now.whys + length file.now.probes ≤ 2 ^ 40 }
+    requires lines { HasFewLines file.now }
     requires table { table.now ≡ its_edges file.now }
     requires cleaned { IsMet file.now Rule.PathsCleaned }
     requires listed { IsMet file.now Rule.EdgesListed }

@@ -5,7 +5,7 @@ ghost use Rattle.tor_arena.specs.Limits.{most_places};
 ghost use Rattle.rel_checker.specs.File.{its_claims, its_probes};
 ghost use Rattle.rel_checker.specs.Spreading.{IsClosed};
 ghost use Rattle.rel_checker.specs.Turning.{turned, turned_orders, edges_of, TurnsTo, kept_lines, AreApart};
-ghost use Rattle.rel_checker.specs.Serving.{is_wanted, IsWantedAt, Gains, IsCovered, IsLaidOut, First, GainsAt, first_of};
+ghost use Rattle.rel_checker.specs.Serving.{is_wanted, IsWantedAt, Gains, Covers, IsLaidOut, First, GainsAt, first_of};
 
 use crate::edge_table::EdgeTable;
 use crate::spreading::spread;
@@ -75,8 +75,8 @@ fn cover_one(
     requires closed { IsClosed turns.now.carried marks.old.items 1 }
     ensures many { OnOk result (length marks.new.items ≡ length file.now.edges) }
     ensures closed { OnOk result (IsClosed turns.now.carried marks.new.items 1) }
-    ensures covered { OnOk result ((earlier : Items (ℕ × ℕ)) → IsCovered (kept_lines file.now.paths) (turned_orders file.now.edges) earlier marks.old.items 1 → IsCovered (kept_lines file.now.paths) (turned_orders file.now.edges) (earlier ++ (probe.now.over, probe.now.under) ∷ []) marks.new.items 1) }
-    ensures gains { IfOk result (λ gains. (earlier : Items (ℕ × ℕ)) → IsCovered (kept_lines file.now.paths) (turned_orders file.now.edges) earlier marks.old.items 1 → IsTrue gains ↔ Gains (kept_lines file.now.paths) (its_claims file.now) earlier (probe.now.over, probe.now.under)) }
+    ensures covered { OnOk result ((earlier : Items (ℕ × ℕ)) → Covers file.now earlier marks.old.items → Covers file.now (earlier ++ (probe.now.over, probe.now.under) ∷ []) marks.new.items) }
+    ensures gains { IfOk result (λ gains. (earlier : Items (ℕ × ℕ)) → Covers file.now earlier marks.old.items → IsTrue gains ↔ Gains (kept_lines file.now.paths) (its_claims file.now) earlier (probe.now.over, probe.now.under)) }
 {
     let lines = file.edges.as_slice();
     let Some(start) = start_of(lines, table, probe) else {
@@ -114,7 +114,7 @@ pub(crate) fn cover_all(
 ) -> Result<Cover, NoMemory>
     requires laid { IsLaidOut file.now table.now turns.now.carried turns.now.barred }
     ensures many { IfOk result (λ cover. length cover.marks.items ≡ length file.now.edges) }
-    ensures covered { IfOk result (λ cover. IsCovered (kept_lines file.now.paths) (turned_orders file.now.edges) (its_probes file.now) cover.marks.items 1) }
+    ensures covered { IfOk result (λ cover. Covers file.now (its_probes file.now) cover.marks.items) }
     ensures idle { IfOk result (λ cover. First (GainsAt file.now) (length file.now.probes) cover.idle) }
 {
     let mut marks = Arena::new(alloc);

@@ -1,6 +1,6 @@
 //! Which edges have an order that a why line shows.
 
-ghost use Rattle.std.specs.Prelude.{◌≡◌, ◌<◌, ◌≤◌, ℕ, ◌++◌, ◌∷◌, [], List as Items, length, OnOk, IfOk};
+ghost use Rattle.std.specs.Prelude.{◌≡◌, ◌<◌, ◌≤◌, ℕ, ◌++◌, ◌∷◌, [], List as Items, length, IfOk};
 ghost use Rattle.tor_arena.specs.Limits.{most_places};
 ghost use Rattle.rel_checker.specs.File.{last_two, orders_of};
 ghost use Rattle.rel_checker.specs.Turning.{edges_of, AreApart};

@@ -1,7 +1,7 @@
 ghost use Rattle.std.specs.Prelude.{◌≡◌, ◌↔◌, ℕ, [], ◌∷◌, None, IsTrue, IfSome, IfNone, MatchOption, Contains, ◌⊎◌};
-ghost use Rattle.tor_arena.specs.Evidence.{BeginsWith, Shows};
+ghost use Rattle.tor_arena.specs.Evidence.{Shows};
 ghost use Rattle.rel_checker.specs.File.{last_two};
-ghost use Rattle.rel_checker.specs.Naming.{kept_among};
+ghost use Rattle.rel_checker.specs.File.{kept_among};
 ghost use Rattle.rel_checker.specs.Showing.{Starts};
 
 use crate::links::is_walk;

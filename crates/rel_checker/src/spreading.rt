@@ -1,9 +1,8 @@
 //! A search along rows of edges, in rounds.
 
-ghost use Rattle.std.specs.Prelude.{◌≡◌, ◌∷◌, [], ◌<◌, ◌≤◌, ℕ, All, length, slice_get, OnOk};
-ghost use Rattle.tor_arena.specs.Limits.{most_places};
+ghost use Rattle.std.specs.Prelude.{◌≡◌, ◌∷◌, [], ◌<◌, All, length, OnOk};
 ghost use Rattle.rel_checker.specs.Neighbours.{IsInside};
-ghost use Rattle.rel_checker.specs.Spreading.{IsMarked, Marks, IsClosed, IsSpread};
+ghost use Rattle.rel_checker.specs.Spreading.{Marks, IsClosed, IsSpread};
 
 use crate::neighbours::Neighbours;
 use tor_arena::{Arena, EdgeId, List, NoMemory};

@@ -52,12 +52,7 @@ const CHANGES: [(usize, &str, u64, u8); 17] = [
         4,
     ),
     (14, "edge|30|50|high|open|2", 14, 5),
-    (
-        20,
-        "edge|10|60|low|open|0\nedge|10|70|low|open|0",
-        21,
-        5,
-    ),
+    (20, "edge|10|60|low|open|0\nedge|10|70|low|open|0", 21, 5),
     (14, "edge|30|40|low|open|2", 11, 6),
     (17, "edge|10|50|low|forced|2", 17, 7),
     (21, "why|20 30|", 21, 8),

@@ -1,4 +1,4 @@
-ghost use Rattle.std.specs.Prelude.{◌≡◌, count_by, length, not};
+ghost use Rattle.std.specs.Prelude.{◌≡◌, count_by, not};
 ghost use Rattle.rel_checker.specs.File.{is_forced};
 ghost use Rattle.rel_checker.specs.Rules.{is_kept, is_peer, right_totals};
 

@@ -1,12 +1,11 @@
 //! Which edges turn round together. An edge that turns gets the order that its label does not
 //! have; a peering is read as if its lower number were the provider.
 
-ghost use Rattle.std.specs.Prelude.{◌≡◌, ◌≢◌, ◌+◌, ◌<◌, ◌≤◌, ℕ, ◌∷◌, ◌++◌, [], List as Items, length, map, All, Contains, OnOk, IfOk};
+ghost use Rattle.std.specs.Prelude.{◌≡◌, ◌≢◌, ◌+◌, ◌<◌, ◌≤◌, ℕ, ◌∷◌, ◌++◌, [], List as Items, length, All, Contains, OnOk, IfOk};
 ghost use Rattle.tor_arena.specs.Limits.{most_places};
 ghost use Rattle.tor_arena.specs.Graph.{edge_of};
 ghost use Rattle.tor_arena.specs.Relationship.{AllDistinct};
-ghost use Rattle.tor_arena.specs.Evidence.{IsTriple};
-ghost use Rattle.rel_checker.specs.Turning.{turned_orders, edges_of, IsBuilt, IsStep, with_carried, with_barred, with_kept, kept_lines, IsListed, IsProper};
+ghost use Rattle.rel_checker.specs.Turning.{turned_orders, edges_of, IsBuiltFor, IsStep, with_carried, with_barred, with_kept, kept_lines, IsListed, IsProper};
 
 use crate::edge_table::EdgeTable;
 use crate::neighbours::Neighbours;
@@ -87,7 +86,7 @@ impl Turns {
         requires barred { length self.old.barred ≡ length lines.now }
         ensures carried { OnOk result (length self.new.carried ≡ length lines.now) }
         ensures barred { OnOk result (length self.new.barred ≡ length lines.now) }
-        ensures built { OnOk result ((paths : Items (Items ℕ)) → IsBuilt (turned_orders lines.now) (IsTriple paths) self.old.carried self.old.barred → IsBuilt (turned_orders lines.now) (IsTriple (paths ++ path.now ∷ [])) self.new.carried self.new.barred) }
+        ensures built { OnOk result ((paths : Items (Items ℕ)) → IsBuiltFor lines.now paths self.old.carried self.old.barred → IsBuiltFor lines.now (paths ++ path.now ∷ []) self.new.carried self.new.barred) }
     {
         if path.len() < 2 {
             return Ok(());
@@ -117,7 +116,7 @@ impl Turns {
         requires barred { length self.old.barred ≡ length lines.now }
         ensures carried { OnOk result (length self.new.carried ≡ length lines.now) }
         ensures barred { OnOk result (length self.new.barred ≡ length lines.now) }
-        ensures built { OnOk result ((paths : Items (Items ℕ)) → IsBuilt (turned_orders lines.now) (IsTriple paths) self.old.carried self.old.barred → IsBuilt (turned_orders lines.now) (IsTriple (with_kept paths line.now.path line.now.fate)) self.new.carried self.new.barred) }
+        ensures built { OnOk result ((paths : Items (Items ℕ)) → IsBuiltFor lines.now paths self.old.carried self.old.barred → IsBuiltFor lines.now (with_kept paths line.now.path line.now.fate) self.new.carried self.new.barred) }
     {
         match &line.fate {
             Fate::Kept => self.note_path(lines, table, line.path.as_slice()),
@@ -132,7 +131,7 @@ impl Turns {
         requires proper { IsProper (turned_orders file.now.edges) }
         requires distinct { All (λ line. AllDistinct line.path) file.now.paths }
         requires listed { All (λ line. IsListed table.now line.path) file.now.paths }
-        ensures { IfOk result (λ turns. IsBuilt (turned_orders file.now.edges) (IsTriple (kept_lines file.now.paths)) turns.carried turns.barred) }
+        ensures { IfOk result (λ turns. IsBuiltFor file.now.edges (kept_lines file.now.paths) turns.carried turns.barred) }
     {
         let lines = file.edges.as_slice();
         let mut turns = Turns {

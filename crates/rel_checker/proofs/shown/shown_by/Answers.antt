@@ -1,5 +1,5 @@
 use Rattle.std.proofs.lemmas.Bool.{both_ways}
-use Rattle.rel_checker.specs.Naming.{kept_among}
+use Rattle.rel_checker.specs.File.{kept_among}
 use Rattle.rel_checker.proofs.ShownOrders.{shows_last, shows_none, ends-from_last_two}
 use Rattle.rel_checker.proofs.shown.shown_by.Goals as goal
 

@@ -1,5 +1,5 @@
 use Rattle.tor_arena.specs.Evidence.{Shows}
-use Rattle.rel_checker.specs.Naming.{kept_among}
+use Rattle.rel_checker.specs.File.{kept_among}
 use Rattle.rel_checker.specs.Rules.{OrdersShown}
 use Rattle.rel_checker.proofs.Passing.{asks_more}
 use Rattle.rel_checker.proofs.ShownOrders.{orders_more, asks_shown}

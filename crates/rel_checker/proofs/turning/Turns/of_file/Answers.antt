@@ -1,4 +1,4 @@
-use Rattle.std.proofs.Common.{◌≤◌, List, ℕ, length, ap, subst, arith, take}
+use Rattle.std.proofs.Common.{◌≤◌, length, ap, subst, arith, take}
 use Rattle.std.proofs.lemmas.List.{take_all}
 use Rattle.tor_arena.specs.Evidence.{IsTriple}
 use Rattle.rel_checker.specs.Turning.{turned_orders, IsBuilt, IsListed, kept_lines}
