@@ -9,8 +9,10 @@ mod settings;
 #[cfg(test)]
 mod tests;
 mod values;
+mod words;
 
 pub use check_settings::{CheckSettings, check_settings_of};
 pub use name::Name;
 pub use refused::WordsRefused;
 pub use settings::{Settings, settings_of};
+pub use words::words_of;
