@@ -1,6 +1,7 @@
 -- Bytes that are gathered from what a shelf has left.
-use Rattle.std.proofs.Common.{◌≡◌, ℕ, ◌<◌, ◌^◌, List, ◌++◌, length, Option, Some, None, sym, ap, ◌∙◌, append_assoc, arith}
+use Rattle.std.proofs.Common.{◌≡◌, ℕ, ◌<◌, ◌^◌, List, ◌++◌, length, drop, Option, Some, None, sym, ap, ap₂, ◌∙◌, append_assoc, arith}
 use Rattle.std.specs.Prelude.{IfSome}
+use Rattle.std.proofs.Math.Seq.{drop-append_seam}
 use Rattle.std.proofs.lemmas.List.{append-nil, length-append}
 use Rattle.std.specs.Io.KnownBytes.{prepend_known, IsAtEnd}
 use Rattle.tor_app.specs.Judging.{IsLong}
@@ -26,6 +27,16 @@ pub gathered_long : (before now : Option (List ℕ)) (bytes : List ℕ) → befo
 gathered_long None now bytes is more = tt
 gathered_long (Some left) None bytes is more = absurd cc
 gathered_long (Some left) (Some rest) bytes is more = omega (arith, ap length (some_is left (bytes ++ rest) is), length-append bytes rest, more)
+  where
+    some_is : (x y : List ℕ) → Some x ≡ Some y → x ≡ y
+    some_is x y e = cc
+
+-- what is left is all behind what is gathered
+pub gathered_rest : (before now : Option (List ℕ)) (bytes : List ℕ) (n : ℕ) → before ≡ prepend_known bytes now → length bytes ≡ n → IfSome before (λ left. now ≡ Some (drop n left))
+gathered_rest None now bytes n is size = tt
+gathered_rest (Some left) None bytes n is size = absurd cc
+gathered_rest (Some left) (Some rest) bytes n is size =
+    ap (λ (t : List ℕ). Some t) (sym (ap₂ drop (sym size) (some_is left (bytes ++ rest) is) ∙ drop-append_seam bytes rest))
   where
     some_is : (x y : List ℕ) → Some x ≡ Some y → x ≡ y
     some_is x y e = cc

@@ -1,5 +1,5 @@
 //! The reading of the result file.
-ghost use Rattle.std.specs.Prelude.{◌≡◌, ◌≢◌, ◌<◌, ◌≤◌, ◌^◌, Err, Some, IfOk, IfSome, IsOk, IsErrOf, length, take};
+ghost use Rattle.std.specs.Prelude.{◌≡◌, ◌≢◌, ◌<◌, ◌≤◌, ◌^◌, ◌+◌, Err, Some, IfOk, OnOk, IfSome, IsOk, IsErrOf, length, take, drop};
 ghost use Rattle.std.specs.Io.KnownBytes.{IsAtEnd, prepend_known};
 ghost use Rattle.tor_io.specs.Counts.{Rose, HasCause};
 ghost use Rattle.tor_io.specs.Contents.{LacksFile};
@@ -72,7 +72,10 @@ fn read_front<H: Shelf>(shelf: &mut H, buffer: &mut [u8], most: usize) -> Result
 fn read_open<H: Shelf>(alloc: Global, shelf: &mut H) -> Result<List<u8>, Unread>
     ensures read { IfOk result (λ bytes. IfSome (H.left shelf.old) (λ left. left ≡ bytes)) }
     ensures short { IfOk result (λ bytes. length bytes ≤ 2 ^ 31) }
+    ensures read_out { OnOk result (IsAtEnd (H.left shelf.new)) }
     ensures long { IsErrOf result Unread.TooLong → IfSome (H.left shelf.old) IsLong }
+    ensures rest { IsErrOf result Unread.TooLong → IfSome (H.left shelf.old) (λ left.
+        H.left shelf.new ≡ Some (drop (2 ^ 31 + 1) left)) }
 
     ensures files { H.files shelf.new ≡ H.files shelf.old }
     ensures later { H.faults shelf.old ≤ H.faults shelf.new }
@@ -103,6 +106,7 @@ pub(crate) fn read_result<H: Shelf>(
 ) -> Result<List<u8>, Unread>
     ensures read { IfOk result (λ bytes. IfSome (H.files shelf.old) (λ files. files name.now ≡ Some bytes)) }
     ensures short { IfOk result (λ bytes. length bytes ≤ 2 ^ 31) }
+    ensures read_out { OnOk result (IsAtEnd (H.left shelf.new)) }
     ensures long { IsErrOf result Unread.TooLong → IfSome (H.files shelf.old) (λ files. IsLongFile (files name.now)) }
 
     ensures files { H.files shelf.new ≡ H.files shelf.old }

@@ -1,6 +1,6 @@
-use Rattle.std.proofs.Common.{◌≡◌, ◌++◌, ℕ, List, length, take, drop, arith, ap, ◌∙◌}
+use Rattle.std.proofs.Common.{◌≡◌, ◌+◌, ◌^◌, ◌++◌, ℕ, List, length, take, drop, arith, ap, ◌∙◌}
 use Rattle.std.proofs.lemmas.List.{length-append, length-take, take_at}
-use Rattle.tor_app.proofs.Gathered.{gathered_more}
+use Rattle.tor_app.proofs.Gathered.{gathered_more, gathered_rest}
 use Rattle.tor_app.proofs.result_file.read_open.Goals as goal
 
 pub parts-preserved : goal.parts-preserved
@@ -20,3 +20,9 @@ parts-preserved g c =
       quiet = c.in_ok-count.ensures.cause.quiet ∙ c.parts.invariant.quiet;
       steady = λ held. c.in_ok-count.ensures.steady (c.parts.invariant.steady held);
     }
+
+pub returns-clause-rest : goal.returns-clause-rest
+returns-clause-rest g c = λ _.
+    let left = g.H.Shelf.left in
+    let size : length c.parts.bytes ≡ 2 ^ 31 + 1 = omega (arith, c.parts.invariant.few, c.parts-test.false, c.len.ensures) in
+    gathered_rest (left c.args.shelf.now) (left c.parts.shelf) c.parts.bytes (2 ^ 31 + 1) c.parts.invariant.taken size
