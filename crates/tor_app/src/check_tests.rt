@@ -1,10 +1,10 @@
 use crate::Status;
 use crate::checking::check;
-use crate::tests::{DUMP, FIRST, NEVER, ONE_EDGE, ROUTE, SECOND, THIRD, words_of};
+use crate::tests::{DUMP, FIRST, NEVER, ONE_EDGE, ROUTE, SECOND, THREE_PATHS, words_of};
 use std::alloc::Global;
 use std::process::Abort;
 use tor_arena::NoMemory;
-use tor_io::{MemShelf, MemSink};
+use tor_io::{MemShelf, MemSink, Shelf};
 
 // The result of three paths.
 static LINES: [&str; 26] = [
@@ -106,13 +106,17 @@ fn shelf_of(alloc: Global, case: &Case<'_, '_>) -> Result<MemShelf, NoMemory> {
 }
 
 // At Usage the note is compared up to the end of what is expected: the command's own text follows.
-fn run(rt: &impl Abort, alloc: Global, case: &Case<'_, '_>) -> Result<(), NoMemory> {
+fn run_over(
+    rt: &impl Abort,
+    alloc: Global,
+    case: &Case<'_, '_>,
+    shelf: &mut MemShelf,
+) -> Result<(), NoMemory> {
     let words = words_of(alloc, case.words)?;
-    let mut shelf = shelf_of(alloc, case)?;
     let mut out = MemSink::new(alloc, 100, case.most.max(1))?;
     out.fail_at(case.failing_write)?;
     let mut err = MemSink::new(alloc, 2000, 2000)?;
-    let status = check(alloc, &words, &mut shelf, &mut out, &mut err);
+    let status = check(alloc, &words, shelf, &mut out, &mut err);
     let text = case.out;
     assert_eq!(rt; status, case.status, "where {text} is expected");
     assert_eq!(rt; out.held(), text.as_bytes(), "where {text} is expected");
@@ -121,6 +125,24 @@ fn run(rt: &impl Abort, alloc: Global, case: &Case<'_, '_>) -> Result<(), NoMemo
     } else {
         assert_eq!(rt; err.held(), case.err.as_bytes(), "where {text} is expected");
     }
+    Ok(())
+}
+
+fn run(rt: &impl Abort, alloc: Global, case: &Case<'_, '_>) -> Result<(), NoMemory> {
+    let mut shelf = shelf_of(alloc, case)?;
+    run_over(rt, alloc, case, &mut shelf)
+}
+
+// Only the calls before the failing one were made: the open behind the run, of a file that is there, is that one.
+fn run_up_to_failing_call(
+    rt: &impl Abort,
+    alloc: Global,
+    case: &Case<'_, '_>,
+) -> Result<(), NoMemory> {
+    let mut shelf = shelf_of(alloc, case)?;
+    run_over(rt, alloc, case, &mut shelf)?;
+    assert!(rt; shelf.open_file("d").is_err());
+    assert!(rt; shelf.open_file("d").is_ok());
     Ok(())
 }
 
@@ -151,23 +173,9 @@ fn tells_verdicts(rt: HostRuntime) {
 #[test]
 fn asks_dumps(rt: HostRuntime) {
     let two: &[&[u8]] = &[&DUMP, &[39], &ROUTE, &FIRST, &DUMP, &[35], &ROUTE, &SECOND];
-    let three: &[&[u8]] = &[
-        &DUMP,
-        &[39],
-        &ROUTE,
-        &FIRST,
-        &DUMP,
-        &[35],
-        &ROUTE,
-        &SECOND,
-        &DUMP,
-        &[35],
-        &ROUTE,
-        &THIRD,
-    ];
     let agrees = Case {
         words: &["r", "d"],
-        dump: three,
+        dump: &[&THREE_PATHS],
         ..judged(0, "", Status::Done, "yes\n")
     };
     let departs = Case {
@@ -181,16 +189,23 @@ fn asks_dumps(rt: HostRuntime) {
         err: "malformed|1|2|43|head-cut\n",
         ..judged(0, "", Status::Malformed, "")
     };
-    // No call is made on the shelf behind those that read the result file.
-    let unasked = Case {
-        words: &["r", "x"],
-        failing_call: 4,
-        ..judged(13, OTHER_LINK, Status::No, "no|13|4\n")
-    };
     assert!(rt; run(&rt, rt.alloc(), &agrees).is_ok());
     assert!(rt; run(&rt, rt.alloc(), &departs).is_ok());
     assert!(rt; run(&rt, rt.alloc(), &broken).is_ok());
-    assert!(rt; run(&rt, rt.alloc(), &unasked).is_ok());
+}
+
+// A rule of 1 to 10 is broken. The result file takes three calls, an open and two reads.
+#[test]
+fn asks_no_dump_at_no(rt: HostRuntime) {
+    for words in [&["r", "d"], &["r", "x"]] {
+        let case = Case {
+            words,
+            dump: &[&THREE_PATHS],
+            failing_call: 4,
+            ..judged(13, OTHER_LINK, Status::No, "no|13|4\n")
+        };
+        assert!(rt; run_up_to_failing_call(&rt, rt.alloc(), &case).is_ok());
+    }
 }
 
 #[test]
@@ -224,4 +239,24 @@ fn tells_why_there_is_none(rt: HostRuntime) {
     for case in &[wordless, absent, unread, absent_dump, cut_short] {
         assert!(rt; run(&rt, rt.alloc(), case).is_ok());
     }
+}
+
+#[test]
+fn tells_failed_dumps(rt: HostRuntime) {
+    // Behind three calls for the result, the open of the dump and two reads of its first record.
+    let unread = Case {
+        words: &["r", "d"],
+        dump: &[&THREE_PATHS],
+        failing_call: 7,
+        err: "read-fault|1\n",
+        ..judged(0, "", Status::ReadFault, "")
+    };
+    let absent_second = Case {
+        words: &["r", "d", "x"],
+        dump: &[&THREE_PATHS],
+        err: "read-fault|2\n",
+        ..judged(0, "", Status::ReadFault, "")
+    };
+    assert!(rt; run(&rt, rt.alloc(), &unread).is_ok());
+    assert!(rt; run(&rt, rt.alloc(), &absent_second).is_ok());
 }
