@@ -2,8 +2,9 @@
 use Rattle.std.proofs.Common.{◌≡◌, ℕ, inl, inr, ◌+◌, ◌*◌, ◌/◌, ◌%◌, ◌<◌, refl, sym, ap, ap₂, ◌∙◌, arith}
 use Rattle.std.proofs.lemmas.Bool.{cases_eq}
 use Rattle.tor_arena.specs.declared.walk.End.{End}
+use Rattle.tor_arena.specs.Relationship.{opposite}
 use Rattle.tor_clauses.specs.declared.lit.Lit.{Lit}
-use Rattle.tor_clauses.specs.Literals.{opposite, negated, side, end_of, node_of, lit_of, opposite_node}
+use Rattle.tor_clauses.specs.Literals.{negated, side, end_of, node_of, lit_of, opposite_node}
 
 pub opposite_twice : (e : End) → opposite (opposite e) ≡ e
 opposite_twice End.Low = refl

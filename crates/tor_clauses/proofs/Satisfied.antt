@@ -4,12 +4,12 @@ use Rattle.std.specs.Prelude.{slice_get}
 use Rattle.std.proofs.lemmas.List.Elements.{All-from_recursion}
 use Rattle.std.specs.List.{AllByRecursion}
 use Rattle.tor_arena.specs.declared.walk.End.{End}
-use Rattle.tor_arena.specs.Relationship.{AllDistinct}
+use Rattle.tor_arena.specs.Relationship.{opposite, AllDistinct}
 use Rattle.tor_arena.specs.Graph.{Edge, edges}
 use Rattle.tor_digraph.proofs.Gets.{slice_get-some}
 use Rattle.tor_clauses.specs.declared.lit.Lit.{Lit}
 use Rattle.tor_clauses.specs.declared.triple.Triple.{Triple}
-use Rattle.tor_clauses.specs.Literals.{opposite, negated, node_of, lit_of, Holds}
+use Rattle.tor_clauses.specs.Literals.{negated, node_of, lit_of, Holds}
 use Rattle.tor_clauses.specs.Triples.{arc_of, arcs_of}
 use Rattle.tor_clauses.specs.Tables.{IsSatisfied}
 use Rattle.tor_clauses.specs.Formulas.{Formula, FitsGraph, IsModel}

@@ -2,13 +2,10 @@
 use Rattle.std.specs.Prelude.{◌≡◌, ◌≢◌, ℕ, ◌+◌, ◌*◌, ◌/◌, ◌%◌, ◌==◌, if◌then◌else◌, List, Some, slice_get}
 use Rattle.std.specs.List.{position_or_len}
 use Rattle.tor_arena.specs.declared.walk.End.{End}
+use Rattle.tor_arena.specs.Relationship.{opposite}
 use Rattle.tor_arena.specs.Graph.{Edge, edge_of, is_same}
 use Rattle.as_graph.specs.Steps.{end_left}
 use Rattle.tor_clauses.specs.declared.lit.Lit.{Lit}
-
-abbrev pub opposite : End → End
-opposite End.Low = End.High
-opposite End.High = End.Low
 
 -- the other end is over this one
 abbrev pub negated : Lit → Lit

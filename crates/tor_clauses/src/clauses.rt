@@ -201,6 +201,13 @@ impl Clauses {
         self.table.are_satisfied(orientation.as_slice())
     }
 
+    /// The paths that were added, in order. It takes no memory.
+    pub fn paths(&self) -> &[PathId]
+        ensures { result.now ≡ self.now.paths }
+    {
+        self.paths.as_slice()
+    }
+
     /// The digraph of the implications. It takes no memory.
     pub fn digraph(&self) -> &Digraph<NodeId, ArcId>
         ensures { result.now ≡ self.now.net }

@@ -4,7 +4,7 @@ use Rattle.std.specs.Prelude.{slice_get}
 use Rattle.std.proofs.lemmas.Bool.{cases_lt}
 use Rattle.tor_arena.specs.declared.walk.End.{End}
 use Rattle.tor_arena.specs.declared.walk.Walk.{Walk}
-use Rattle.tor_arena.specs.Relationship.{Serves}
+use Rattle.tor_arena.specs.Relationship.{opposite, Serves}
 use Rattle.tor_arena.specs.Evidence.{paths_of, Refutes}
 use Rattle.tor_arena.specs.Selection.{IsServable}
 use Rattle.tor_arena.proofs.Walks.{refuting_law}
@@ -12,8 +12,9 @@ use Rattle.tor_digraph.specs.Walks.{HasArc, IsInside}
 use Rattle.tor_digraph.proofs.Gets.{slice_get-push_cases, slice_get-some}
 use Rattle.tor_components.specs.Classes.{Classes, IsComponents}
 use Rattle.as_graph.specs.Paths.{path_at, paths_at}
-use Rattle.tor_clauses.specs.Literals.{opposite, side, end_of, node_of, lit_of, opposite_node}
+use Rattle.tor_clauses.specs.Literals.{side, end_of, node_of, lit_of, opposite_node}
 use Rattle.tor_clauses.specs.Formulas.{Formula, IsModel, numbered}
+use Rattle.tor_clauses.proofs.LiteralLemmas.{opposite_twice}
 use Rattle.tor_solve.specs.Solving.{IsLater, AreLater}
 
 -- none below the next place either
@@ -45,10 +46,6 @@ side_end (suc (suc r)) lt = absurd (omega arith)
 
 node_literal : (n : ℕ) → node_of (lit_of n) ≡ n
 node_literal n = let small : n % 2 < 2 = omega arith in let e = side_end (n % 2) small in omega (arith, e)
-
-opposite_twice : (e : End) → opposite (opposite e) ≡ e
-opposite_twice End.Low = refl
-opposite_twice End.High = refl
 
 same_or_opposite : (e f : End) → (e ≡ f) ⊎ (e ≡ opposite f)
 same_or_opposite End.Low End.Low = inl refl

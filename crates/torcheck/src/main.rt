@@ -3,7 +3,7 @@
 
 use std::env;
 use std::process::ExitCode;
-use tor_app::{Status, code_of_failure, check, words_of};
+use tor_app::{Status, check, code_of_failure, words_of};
 use tor_io::{FileShelf, StdSink};
 
 fn main(rt: HostRuntime) -> ExitCode {
