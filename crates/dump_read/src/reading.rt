@@ -1,4 +1,5 @@
 ghost use Rattle.std.specs.Prelude.{◌≡◌, ◌≢◌, ◌≤◌, Ok, Err, OnOk, OnErr, IfErr, IfSome, IsErrOf};
+ghost use Rattle.std.specs.Io.KnownBytes.{IsAtEnd};
 ghost use Rattle.tor_io.specs.Counts.{Rose};
 ghost use Rattle.tor_io.specs.Contents.{LacksFile};
 ghost use Rattle.dump_read.specs.Reading.{file_reading};
@@ -55,6 +56,7 @@ fn read_records<H: Shelf>(
     ensures some { OnErr result (IfSome (H.left shelf.old) (λ octets.
         TakesSome sets (taken_of table.old asides.old) (file_reading octets).routes (taken_of table.new asides.new))) }
     ensures place { IfErr result (IsOfDump dump) }
+    ensures at_end { OnOk result (IsAtEnd (H.left shelf.new)) }
 
     ensures files { H.files shelf.new ≡ H.files shelf.old }
     ensures later { H.faults shelf.old ≤ H.faults shelf.new }
@@ -101,7 +103,8 @@ pub fn read_dump<H: Shelf>(
         TakesSome sets (taken_of table.old asides.old) (file_reading octets).routes (taken_of table.new asides.new)))) }
     ensures place { IfErr result (IsOfDump dump) }
 
-    // The shelf.
+    // The shelf: after Ok nothing of the file is left unread.
+    ensures at_end { OnOk result (IsAtEnd (H.left shelf.new)) }
     ensures files { H.files shelf.new ≡ H.files shelf.old }
     ensures later { H.faults shelf.old ≤ H.faults shelf.new }
     ensures failed { IsErrOf result DumpError.ReadFault → Rose (H.faults shelf.old) (H.faults shelf.new) }
