@@ -1,7 +1,6 @@
 -- Why there is no verdict, and the note then.
 use Rattle.std.proofs.Common.{◌≡◌, ◌≤◌, ◌^◌, ◌-◌, inl, inr, ℕ, List, length, take, Option, Some, None, refl, sym, ap, subst, ◌∙◌}
-use Rattle.std.specs.Prelude.{◌⊎◌, IfSome, IsOk}
-use Rattle.std.specs.Io.KnownBytes.{IsAtEnd}
+use Rattle.std.specs.Prelude.{IfSome, IsOk}
 use Rattle.tor_io.specs.Contents.{Files}
 use Rattle.result_text.specs.declared.file.ResultFile.{ResultFile}
 use Rattle.rel_checker.specs.declared.answer.Answer.{Answer as Verdict}
@@ -21,7 +20,7 @@ use Rattle.tor_app.specs.declared.judging.Unjudged.TheVariants as unjudged
 use Rattle.tor_app.specs.Notes.{malformed_note, limit_note, read_fault_note, result_note}
 use Rattle.tor_app.specs.Refusals.{AnswersStop, Says, IsNoMemory, note_in, note_text}
 use Rattle.tor_app.specs.Judging.{Outcome, Judged, NoResult, TooLong, Ends, IsAccepted, IsResult, IsVerdict, ComesTo, seen_for}
-use Rattle.tor_app.specs.CheckAnswer.{LeadsTo, HoldsBefore, IsCheckNote, AsksDumps, IsReadOut}
+use Rattle.tor_app.specs.CheckAnswer.{LeadsTo, HoldsBefore, IsCheckNote}
 use Rattle.tor_app.specs.Unjudging.{EndsWith, StopsAt, IsUnjudged, AnswersUnjudged}
 
 -- ---- what the words and the files give, where these are told
@@ -50,19 +49,6 @@ file_judged told after settings bytes name part dumps verdict same_name same_fil
     (subst (λ (o : Option Files). IfSome o (λ files. IsVerdict bytes settings.dumps files verdict)) same_files
     (subst (λ (b : List ℕ). IfSome after (λ files. IsVerdict b settings.dumps files verdict)) same_bytes
     (subst (λ (ds : List (List ℕ)). IfSome after (λ files. IsVerdict part ds files verdict)) same_dumps judged)))
-
--- the file of this name was read, and its bytes asked for dumps or nothing is left
-pub file_read_out : (told : Option Files) (settings : CheckSettings) (bytes name part : List ℕ) (dumps : List (List ℕ)) (left : Option (List ℕ))
-    → name ≡ settings.result → part ≡ bytes → dumps ≡ settings.dumps → IfSome told (λ files. files name ≡ Some bytes) → length bytes ≤ 2 ^ 31
-    → IsAtEnd left ⊎ AsksDumps part dumps → IsReadOut settings told left
-file_read_out told settings bytes name part dumps left same_name same_bytes same_dumps read short (inl end) = inl end
-file_read_out None settings bytes name part dumps left same_name same_bytes same_dumps read short (inr asks) = inr tt
-file_read_out (Some files) settings bytes name part dumps left same_name same_bytes same_dumps read short (inr asks) =
-    inr (
-      bytes,
-      result_is (Some files) settings bytes name same_name read short,
-      subst (λ (ds : List (List ℕ)). AsksDumps bytes ds) same_dumps (subst (λ (b : List ℕ). AsksDumps b dumps) same_bytes asks),
-    )
 
 end_comes : (told : Option Files) (settings : CheckSettings) (bytes : List ℕ) (end : End) → IfSome told (λ files. IsResult settings files bytes)
     → EndsWith bytes settings.dumps told end → IfSome told (λ files. ComesTo settings files (Ends end))

@@ -1,6 +1,6 @@
 -- What a check answers, writes and notes, by what its words and files give.
-use Rattle.std.specs.Prelude.{◌≡◌, ◌≤◌, ◌<◌, ◌⊎◌, ◌-◌, ◌++◌, ◌∷◌, [], ℕ, List, length, take, Option, Some, IfSome, IsOk, codes, decimal}
-use Rattle.std.specs.Io.KnownBytes.{IsAtEnd, append_known}
+use Rattle.std.specs.Prelude.{◌≡◌, ◌≤◌, ◌⊎◌, ◌-◌, ◌++◌, ◌∷◌, [], ℕ, List, length, take, Option, Some, IfSome, IsOk, codes, decimal}
+use Rattle.std.specs.Io.KnownBytes.{append_known}
 use Rattle.tor_io.specs.Contents.{Files, GainsPrefix}
 use Rattle.result_text.specs.declared.file.ResultFile.{ResultFile}
 use Rattle.rel_checker.specs.declared.answer.Answer.{Answer as Verdict}
@@ -99,18 +99,3 @@ IsCheckNote words told steady status.Done text = text ≡ plain_note status.Done
 IsCheckNote words told steady status.No text = text ≡ plain_note status.No
 IsCheckNote words told steady status.WriteFault text = text ≡ plain_note status.WriteFault
 IsCheckNote words told steady status.NoMemory text = text ≡ plain_note status.NoMemory
-
--- ---- what is left unread
-
--- the bytes meet the rules 0 to 10, and dumps are named, so these are read
-abbrev pub AsksDumps : List ℕ → List (List ℕ) → Type 0
-AsksDumps bytes dumps = (0 < length dumps) × ((file : ResultFile) × IsAccepted file bytes)
-
--- nothing is unread, or the dumps were read behind the result file
-abbrev pub IsReadOut : CheckSettings → Option Files → Option (List ℕ) → Type 0
-IsReadOut settings told left =
-    IsAtEnd left ⊎ IfSome told (λ files. (bytes : List ℕ) × IsResult settings files bytes × AsksDumps bytes settings.dumps)
-
--- the same of the settings that the words give
-abbrev pub HasReadOut : List (List ℕ) → Option Files → Option (List ℕ) → Type 0
-HasReadOut words told left = (settings : CheckSettings) × (check_settings_given words ≡ Some settings) × IsReadOut settings told left

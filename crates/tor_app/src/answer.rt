@@ -1,8 +1,9 @@
-ghost use Rattle.std.specs.Prelude.{◌≡◌, ◌≤◌, Ok, IfOk, IfErr, IfSome, IsNone, IsErrAnd, OnOk, OnErr, string_bytes};
+ghost use Rattle.std.specs.Prelude.{◌≡◌, ◌≤◌, ◌<◌, Ok, IfOk, IfErr, IfSome, IsNone, IsErrAnd, OnOk, OnErr, length, string_bytes};
+ghost use Rattle.std.specs.Io.KnownBytes.{IsAtEnd};
 ghost use Rattle.tor_io.specs.Counts.{Rose};
 ghost use Rattle.tor_words.specs.Given.{settings_given};
 ghost use Rattle.tor_app.specs.Seen.{seen, outcome};
-ghost use Rattle.tor_app.specs.Answer.{Lists};
+ghost use Rattle.tor_app.specs.Answer.{Lists, NamesDump};
 ghost use Rattle.tor_app.specs.Refusals.{note_in, Answers, IsNoMemory, IsRefusal, IsReadFault, IsOfWords, IsStopIn, ListsSeen};
 
 use crate::listing::list_text;
@@ -120,6 +121,7 @@ fn dumps_text<H: Shelf>(
     requires most { settings.now.max_paths ≤ 8388608 }
     ensures text { IfOk result (λ text. IfSome (H.files shelf.old) (λ files. ListsSeen (seen settings.now files) (string_bytes text))) }
     ensures refused { IfErr result (IsStopIn settings.now (H.files shelf.old) (H.steady shelf.old)) }
+    ensures read_out { OnOk result (0 < length settings.now.dumps → IsAtEnd (H.left shelf.new)) }
 
     ensures files { H.files shelf.new ≡ H.files shelf.old }
     ensures later { H.faults shelf.old ≤ H.faults shelf.new }
@@ -156,6 +158,7 @@ pub(crate) fn text_of<H: Shelf>(
     ensures refused { IfErr result (IsRefusal words.now (H.files shelf.old) (H.steady shelf.old)) }
 
     ensures settled { IsNone (settings_given words.now) → IsErrAnd result IsOfWords }
+    ensures read_out { OnOk result (NamesDump words.now → IsAtEnd (H.left shelf.new)) }
 
     ensures untouched { IfErr result (λ r. IsOfWords r → shelf.new ≡ shelf.old) }
     ensures files { H.files shelf.new ≡ H.files shelf.old }

@@ -6,12 +6,12 @@ ghost use Rattle.dump_read.specs.declared.error.Fault.{Fault as FaultKind};
 ghost use Rattle.dump_read.specs.declared.error.LimitKind.{LimitKind as Quantity};
 ghost use Rattle.dump_read.specs.Seen.{Absent, Malformed as MalformedAt, Limit as LimitOf};
 ghost use Rattle.tor_words.specs.CheckGiven.{check_settings_given};
-ghost use Rattle.std.specs.Io.KnownBytes.{append_known};
+ghost use Rattle.std.specs.Io.KnownBytes.{IsAtEnd, append_known};
 ghost use Rattle.tor_app.specs.Notes.{plain_note};
 ghost use Rattle.tor_app.specs.Answer.{IsNoted};
 ghost use Rattle.tor_app.specs.Refusals.{note_in};
 ghost use Rattle.tor_app.specs.Judging.{NoResult, TooLong, Ends, Gives, IsVouched, CanBeJudged};
-ghost use Rattle.tor_app.specs.CheckAnswer.{GainsVerdict, GainsNo, GainsSome, HasReadOut, LeadsToMalformed, LeadsToLimit, LeadsToAbsent, IsCheckNote, verdict_text, status_of};
+ghost use Rattle.tor_app.specs.CheckAnswer.{GainsVerdict, GainsNo, GainsSome, LeadsToMalformed, LeadsToLimit, LeadsToAbsent, IsCheckNote, verdict_text, status_of};
 
 use crate::answer::Answer;
 use crate::judging::{answer_to_unjudged, verdict_of};
@@ -70,8 +70,7 @@ fn answer<H: Shelf, O: Sink>(
     ensures write_fault { result.status ≡ Status.WriteFault → Rose (O.faults out.old) (O.faults out.new) }
 
     // What is left in the objects.
-    ensures read_out { (result.status ≡ Status.Done) ⊎ (result.status ≡ Status.No) →
-        HasReadOut words.now (H.files shelf.old) (H.left shelf.new) }
+    ensures read_out { (result.status ≡ Status.Done) ⊎ (result.status ≡ Status.No) → IsAtEnd (H.left shelf.new) }
     ensures untouched { result.status ≡ Status.Usage → shelf.new ≡ shelf.old }
     ensures files { H.files shelf.new ≡ H.files shelf.old }
     ensures steady { H.steady shelf.old → H.steady shelf.new }
@@ -141,10 +140,9 @@ pub fn check<H: Shelf, O: Sink, E: Sink>(
     ensures always_no_result { (files : Files) → H.files shelf.old ≡ Some files → Gives words.now files NoResult →
         (result ≡ Status.ReadFault) ⊎ (result ≡ Status.NoMemory) }
 
-    // What is left in the objects: at Done and No nothing unread where no dump was to be read, the files as they were, no
-    // count lowered, at Usage no call made on the shelf, and no failed call passed over.
-    ensures read_out { (result ≡ Status.Done) ⊎ (result ≡ Status.No) →
-        HasReadOut words.now (H.files shelf.old) (H.left shelf.new) }
+    // What is left in the objects: at Done and No nothing unread, the files as they were, no count lowered, at Usage no
+    // call made on the shelf, and no failed call passed over.
+    ensures read_out { (result ≡ Status.Done) ⊎ (result ≡ Status.No) → IsAtEnd (H.left shelf.new) }
     ensures untouched { result ≡ Status.Usage → shelf.new ≡ shelf.old }
     ensures files { H.files shelf.new ≡ H.files shelf.old }
     ensures steady { H.steady shelf.old → H.steady shelf.new }

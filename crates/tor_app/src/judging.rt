@@ -7,7 +7,7 @@ ghost use Rattle.dump_read.specs.Seen.{Absent, end_told};
 ghost use Rattle.tor_words.specs.CheckGiven.{check_settings_given};
 ghost use Rattle.tor_app.specs.Refusals.{IsReadFault};
 ghost use Rattle.tor_app.specs.Judging.{Judged, ComesTo, IsVerdict, JudgesByDumps, seen_for};
-ghost use Rattle.tor_app.specs.CheckAnswer.{LeadsTo, AsksDumps, IsReadOut, HasReadOut};
+ghost use Rattle.tor_app.specs.CheckAnswer.{LeadsTo};
 ghost use Rattle.tor_app.specs.Unjudging.{IsRuling, IsRefusedBy, IsUnjudged, IsUnjudgedIn, IsFailedRead, IsOfCheckWords, AnswersUnjudged};
 
 use crate::answer::{Answer, Refusal, answer_to};
@@ -70,6 +70,7 @@ fn judged_by_dumps<H: Shelf>(
         seen_for file.now dumps.now files ≡ Err end))) }
     ensures named { IfErr result (λ e. (1 ≤ e.dump) × (e.dump ≤ length dumps.now)) }
     ensures before { IfErr result (λ e. IfSome (H.files shelf.old) (λ files. IsOk (seen_for file.now (take (e.dump - 1) dumps.now) files))) }
+    ensures read_out { OnOk result (IsAtEnd (H.left shelf.old) → IsAtEnd (H.left shelf.new)) }
 
     ensures files { H.files shelf.new ≡ H.files shelf.old }
     ensures later { H.faults shelf.old ≤ H.faults shelf.new }
@@ -102,7 +103,7 @@ fn judge<H: Shelf>(
     requires short { length bytes.now ≤ 2 ^ 31 }
     ensures verdict { IfOk result (λ verdict. IfSome (H.files shelf.old) (λ files. IsVerdict bytes.now dumps.now files verdict)) }
     ensures refused { IfErr result (IsRefusedBy bytes.now dumps.now (H.files shelf.old) (H.steady shelf.old)) }
-    ensures read_out { OnOk result (IsAtEnd (H.left shelf.old) → IsAtEnd (H.left shelf.new) ⊎ AsksDumps bytes.now dumps.now) }
+    ensures read_out { OnOk result (IsAtEnd (H.left shelf.old) → IsAtEnd (H.left shelf.new)) }
 
     ensures files { H.files shelf.new ≡ H.files shelf.old }
     ensures later { H.faults shelf.old ≤ H.faults shelf.new }
@@ -130,7 +131,7 @@ fn judge_file<H: Shelf>(
     ensures verdict { IfOk result (λ verdict. IfSome (H.files shelf.old) (λ files. ComesTo settings.now files (Judged verdict))) }
     ensures unjudged { IfErr result (IsUnjudgedIn settings.now (H.files shelf.old) (H.steady shelf.old)) }
     ensures no_words { IfErr result (λ u. IsOfCheckWords u → ⊥) }
-    ensures read_out { OnOk result (IsReadOut settings.now (H.files shelf.old) (H.left shelf.new)) }
+    ensures read_out { OnOk result (IsAtEnd (H.left shelf.new)) }
 
     ensures files { H.files shelf.new ≡ H.files shelf.old }
     ensures later { H.faults shelf.old ≤ H.faults shelf.new }
@@ -158,7 +159,7 @@ pub(crate) fn verdict_of<H: Shelf>(
     ensures unjudged { IfErr result (IsUnjudged words.now (H.files shelf.old) (H.steady shelf.old)) }
 
     ensures settled { IsNone (check_settings_given words.now) → IsErrAnd result IsOfCheckWords }
-    ensures read_out { OnOk result (HasReadOut words.now (H.files shelf.old) (H.left shelf.new)) }
+    ensures read_out { OnOk result (IsAtEnd (H.left shelf.new)) }
 
     ensures untouched { IfErr result (λ u. IsOfCheckWords u → shelf.new ≡ shelf.old) }
     ensures files { H.files shelf.new ≡ H.files shelf.old }

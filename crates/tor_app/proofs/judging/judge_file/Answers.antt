@@ -1,4 +1,4 @@
-use Rattle.tor_app.proofs.Unjudgings.{file_judged, file_read_out}
+use Rattle.tor_app.proofs.Unjudgings.{file_judged}
 use Rattle.tor_app.proofs.judging.judge_file.Goals as goal
 
 pub returns-in-Ok-judge-clause-verdict : goal.returns-in-Ok-judge-clause-verdict
@@ -6,9 +6,3 @@ returns-in-Ok-judge-clause-verdict g c =
     let files = g.H.Shelf.files in
     file_judged (files c.args.shelf.now) (files c.read_result.new.shelf) c.args.settings.now c.in-Ok.bytes c.as_text.result.now c.as_slice.result.now c.as_slice-in-Ok.result.now _
     c.as_text.ensures c.in-Ok.ensures.files c.as_slice.ensures c.as_slice-in-Ok.ensures c.in-Ok.ensures.read c.in-Ok.ensures.short c.in-Ok-judge.ensures.verdict
-
-pub returns-in-Ok-judge-clause-read_out : goal.returns-in-Ok-judge-clause-read_out
-returns-in-Ok-judge-clause-read_out g c =
-    let shelf = g.H.Shelf in
-    file_read_out (shelf.files c.args.shelf.now) c.args.settings.now c.in-Ok.bytes c.as_text.result.now c.as_slice.result.now c.as_slice-in-Ok.result.now (shelf.left c.judge.new.shelf)
-    c.as_text.ensures c.as_slice.ensures c.as_slice-in-Ok.ensures c.in-Ok.ensures.read c.in-Ok.ensures.short (c.in-Ok-judge.ensures.read_out c.in-Ok.ensures.read_out)

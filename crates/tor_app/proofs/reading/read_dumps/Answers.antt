@@ -42,6 +42,7 @@ loop-place-preserved g c =
     (subst (λ o. IfSome o (λ files. of_file c.args.sets (i + 1) mid (files c.as_text.result.now) ≡ Ok new)) c.loop-place.invariant.files c.in-Ok.ensures.read) in
     record {
       seen = one_more c.args.sets (taken_of c.args.table.now c.args.asides.now) mid new told c.args.dumps.now i name c.loop-place-test.true c.index-dumps-place.is c.loop-place.invariant.seen one;
+      read_out = λ _. c.in-Ok.ensures.at_end;
       files = c.in-Ok.ensures.files ∙ c.loop-place.invariant.files;
       quiet = c.in-Ok.ensures.quiet (λ e. cc) ∙ c.loop-place.invariant.quiet;
       steady = λ s. c.in-Ok.ensures.steady (c.loop-place.invariant.steady s);
