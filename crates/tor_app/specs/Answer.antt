@@ -1,5 +1,5 @@
 -- What a run answers, writes and notes, by what its words and files give.
-use Rattle.std.specs.Prelude.{◌≡◌, ◌≤◌, ◌<◌, ◌-◌, ℕ, List, length, take, Option, Some, IfSome, IsOk, Result, Ok, Err}
+use Rattle.std.specs.Prelude.{◌≡◌, ◌≤◌, ◌-◌, ℕ, List, length, take, Option, Some, IfSome, IsOk, Result, Ok, Err}
 use Rattle.std.specs.Io.KnownBytes.{append_known}
 use Rattle.tor_io.specs.Counts.{IsQuiet}
 use Rattle.tor_io.specs.Contents.{Files, GainsPrefix}
@@ -16,10 +16,6 @@ use Rattle.tor_app.specs.declared.status.Status.TheVariants as status
 use Rattle.tor_app.specs.Notes.{malformed_note, limit_note, read_fault_note, plain_note}
 use Rattle.tor_app.specs.Listing.{listing}
 use Rattle.tor_app.specs.Seen.{nothing, outcome, seen_from}
-
--- the words give settings, and these name a dump
-abbrev pub NamesDump : List (List ℕ) → Type 0
-NamesDump words = (settings : Settings) × (settings_given words ≡ Some settings) × (0 < length settings.dumps)
 
 -- the text is the listing of the distinct paths that the dumps give
 abbrev pub Lists : Option (Result Taken End) → List ℕ → Type 0

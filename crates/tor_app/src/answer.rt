@@ -3,7 +3,7 @@ ghost use Rattle.std.specs.Io.KnownBytes.{IsAtEnd};
 ghost use Rattle.tor_io.specs.Counts.{Rose};
 ghost use Rattle.tor_words.specs.Given.{settings_given};
 ghost use Rattle.tor_app.specs.Seen.{seen, outcome};
-ghost use Rattle.tor_app.specs.Answer.{Lists, NamesDump};
+ghost use Rattle.tor_app.specs.Answer.{Lists};
 ghost use Rattle.tor_app.specs.Refusals.{note_in, Answers, IsNoMemory, IsRefusal, IsReadFault, IsOfWords, IsStopIn, ListsSeen};
 
 use crate::listing::list_text;
@@ -158,7 +158,7 @@ pub(crate) fn text_of<H: Shelf>(
     ensures refused { IfErr result (IsRefusal words.now (H.files shelf.old) (H.steady shelf.old)) }
 
     ensures settled { IsNone (settings_given words.now) → IsErrAnd result IsOfWords }
-    ensures read_out { OnOk result (NamesDump words.now → IsAtEnd (H.left shelf.new)) }
+    ensures read_out { OnOk result (IsAtEnd (H.left shelf.new)) }
 
     ensures untouched { IfErr result (λ r. IsOfWords r → shelf.new ≡ shelf.old) }
     ensures files { H.files shelf.new ≡ H.files shelf.old }

@@ -1,5 +1,5 @@
 //! The settings of a run.
-ghost use Rattle.std.specs.Prelude.{◌≡◌, ◌≤◌, IfOk, IfErr, Some, None, map, option_map};
+ghost use Rattle.std.specs.Prelude.{◌≡◌, ◌<◌, ◌≤◌, IfOk, IfErr, Some, None, length, map, option_map};
 ghost use Rattle.clap.specs.Words.{found_of, rows_of, first_of};
 ghost use Rattle.tor_words.specs.Given.{settings_in, settings_given, dumps_in};
 ghost use Rattle.tor_words.specs.Refused.{IsUsage, SaysUsage};
@@ -59,6 +59,7 @@ fn settings_in(alloc: Global, matches: &ArgMatches) -> Result<Settings, WordsRef
     ensures text { IfErr result SaysUsage }
     ensures some { IfOk result (λ s. 1 ≤ s.max_paths) }
     ensures most { IfOk result (λ s. s.max_paths ≤ 8388608) }
+    ensures named { IfOk result (λ s. 0 < length s.dumps) }
 {
     if !is_true_text(first(matches, "list")) {
         return Err(usage(alloc, "tor --list is what there is so far\n"));
@@ -90,6 +91,7 @@ pub fn settings_of(alloc: Global, words: &List<Name>) -> Result<Settings, WordsR
     ensures text { IfErr result SaysUsage }
     ensures some { IfOk result (λ s. 1 ≤ s.max_paths) }
     ensures most { IfOk result (λ s. s.max_paths ≤ 8388608) }
+    ensures named { IfOk result (λ s. 0 < length s.dumps) }
 {
     let Ok(command) = command(alloc) else {
         return Err(WordsRefused::NoMemory);
