@@ -131,15 +131,22 @@ says_opposite es edge x y s =
     pair : {a b c d : ℕ} → a ≡ c → b ≡ d → ◌≡◌ {A = Edge} (a, b) (c, d)
     pair e f = cc
 
+-- the walk of the two ASes of an order leads to it
+pub begun : (A : Numbered) (es : List Edge) (node x y : ℕ) (w : Walk) → Says es (lit_of node) x y → w ≡ record { ases = x ∷ y ∷ []; links = [] } →
+    (a b : ℕ) → Says es (lit_of node) a b → LeadsTo A es w a b node
+begun A es node x y w says begin a b here u v s =
+    let one = says_one es (lit_of node) x y u v says s in
+    let two = says_one es (lit_of node) x y a b says here in
+    subst (λ n. Leads A w n b u v) two.0 (subst (λ n. Leads A w x n u v) two.1
+    (subst (λ n. Leads A w x y n v) one.0 (subst (λ n. Leads A w x y x n) one.1 (subst (λ z. Leads A z x y x y) (sym begin) (leads_start A x y)))))
+
 -- a walk of two ASes that goes on to their opposite order, and then to their order again, refutes
 pub round : (A : Numbered) (es : List Edge) (edge low high x y : ℕ) (w there back : Walk) → lit_of low ≡ record { edge = edge; over = End.Low } →
     lit_of high ≡ record { edge = edge; over = End.High } → Says es (lit_of low) x y → w ≡ record { ases = x ∷ y ∷ []; links = [] } →
     ((a b : ℕ) → LeadsTo A es w a b low → LeadsTo A es there a b high) → ((a b : ℕ) → LeadsTo A es there a b high → LeadsTo A es back a b low) →
     ((u v : ℕ) → HasPair there.ases u v → HasPair back.ases u v) → Refutes A back
 round A es edge low high x y w there back is_low is_high says begin onward homeward kept =
-    let first : LeadsTo A es w x y low = λ u v s.
-    let one = says_one es (lit_of low) x y u v says s in
-    subst (λ n. Leads A w x y n v) one.0 (subst (λ n. Leads A w x y x n) one.1 (subst (λ z. Leads A z x y x y) (sym begin) (leads_start A x y))) in
+    let first = begun A es low x y w says begin x y says in
     let opposite : Says es (lit_of high) y x =
     subst (λ l. Says es l y x) (sym is_high) (says_opposite es edge x y (subst (λ l. Says es l x y) is_low says)) in
     let middle = onward x y first in

@@ -33,3 +33,9 @@ IsPlainWay arcs from to nodes steps = IsWay (λ step. step) arcs from to nodes s
 -- the walk has gone on along these nodes and arcs, from whichever node to another they lead
 abbrev pub GoesAlong : List (List ℕ) → Formula → List ℕ → List ℕ → Walk → Walk → Type 0
 GoesAlong graph f nodes steps old new = (from to : ℕ) → IsPlainWay f.net.arcs from to nodes steps → GoesOn graph f old new from to
+
+-- the walk leads along these nodes and arcs from the order of the start to that of whichever node they lead to
+abbrev pub LeadsAlong : List (List ℕ) → Formula → ℕ → List ℕ → List ℕ → Walk → Type 0
+LeadsAlong graph f start nodes steps w =
+    (to a b : ℕ) → IsPlainWay f.net.arcs start to nodes steps → Says (edges graph) (lit_of start) a b →
+    LeadsTo (numbered graph f.paths) (edges graph) w a b to

@@ -1,11 +1,11 @@
-ghost use Rattle.std.specs.Prelude.{◌≡◌, ℕ, ◌<◌, ◌*◌, length, OnOk, IfOk};
+ghost use Rattle.std.specs.Prelude.{◌≡◌, ℕ, ◌<◌, ◌*◌, ◌∷◌, [], length, OnOk, IfOk};
 ghost use Rattle.tor_arena.specs.declared.walk.End.{End as Side};
 ghost use Rattle.tor_arena.specs.Graph.{edges};
 ghost use Rattle.tor_arena.specs.Evidence.{Refutes};
 ghost use Rattle.tor_digraph.specs.Walks.{IsArc, Reaches};
 ghost use Rattle.tor_clauses.specs.Literals.{node_of, lit_of, Says};
 ghost use Rattle.tor_clauses.specs.Formulas.{FitsGraph, numbered};
-ghost use Rattle.tor_solve.specs.Leading.{GoesOn, GoesAlong, KeepsPairs, IsPlainWay};
+ghost use Rattle.tor_solve.specs.Leading.{GoesOn, GoesAlong, KeepsPairs, IsPlainWay, LeadsAlong};
 
 use crate::later::node_at;
 use as_graph::AsGraph;
@@ -15,7 +15,7 @@ use tor_clauses::{Clauses, Lit};
 use tor_digraph::Way;
 
 /// The AS that the literal of a node says is over the other, and that other one. It takes no memory.
-fn order(graph: &AsGraph, node: NodeId) -> (u32, u32)
+pub fn order(graph: &AsGraph, node: NodeId) -> (u32, u32)
     requires { (lit_of node).edge < length (edges graph.now) }
     ensures { Says (edges graph.now) (lit_of node) result.0 result.1 }
 {
@@ -82,6 +82,40 @@ fn lead(
     }
 }
 
+/// The walk of two ASes that the literal of a node orders, the one that is over the other first.
+fn begin(alloc: Global, graph: &AsGraph, node: NodeId) -> Result<Walk, NoMemory>
+    requires { (lit_of node).edge < length (edges graph.now) }
+    ensures { IfOk result (λ walk. (x y : ℕ) × Says (edges graph.now) (lit_of node) x y × (walk ≡ record { ases = x ∷ y ∷ []; links = [] })) }
+{
+    let (over, under) = order(graph, node);
+    let mut walk = Walk {
+        ases: List::new(alloc),
+        links: List::new(alloc),
+    };
+    walk.ases.push(over)?;
+    walk.ases.push(under)?;
+    Ok(walk)
+}
+
+/// The walk along the arcs of a way that begins at this node, from the order of its literal to that of the last one. The only
+/// error is that memory ran out.
+pub fn walk_along(
+    alloc: Global,
+    graph: &AsGraph,
+    clauses: &Clauses,
+    start: NodeId,
+    way: &Way<NodeId, ArcId>,
+) -> Result<Walk, NoMemory>
+    requires fits { FitsGraph graph.now clauses.now }
+    requires there { start < clauses.now.net.nodes }
+    requires way { (to : ℕ) × IsPlainWay clauses.now.net.arcs start to way.now.nodes way.now.arcs }
+    ensures { IfOk result (LeadsAlong graph.now clauses.now start way.now.nodes way.now.arcs) }
+{
+    let mut walk = begin(alloc, graph, start)?;
+    follow(graph, clauses, way, &mut walk)?;
+    Ok(walk)
+}
+
 /// The walk from the order in which the lower end of an edge is the provider to the opposite one and back, where arcs lead both
 /// ways.
 pub(crate) fn walk_round(
@@ -99,13 +133,7 @@ pub(crate) fn walk_round(
     graph.facts();
     let low = node_at(edge, End::Low);
     let high = node_at(edge, End::High);
-    let (over, under) = order(graph, low);
-    let mut walk = Walk {
-        ases: List::new(alloc),
-        links: List::new(alloc),
-    };
-    walk.ases.push(over)?;
-    walk.ases.push(under)?;
+    let mut walk = begin(alloc, graph, low)?;
     lead(alloc, graph, clauses, low, high, &mut walk)?;
     lead(alloc, graph, clauses, high, low, &mut walk)?;
     Ok(walk)
