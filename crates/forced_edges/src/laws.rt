@@ -1,0 +1,9 @@
+//! The law of the definitions in `specs/`, as the contract of a function.
+
+ghost use Rattle.forced_edges.specs.ForcedLaws.{ClosureReachLaw};
+
+/// Where the ASes of each path are distinct, the arcs of clauses lead from the node of one order to that of another exactly if the
+/// second order is in the closure of the first along the triples of the paths.
+pub fn closure_reach_law()
+    ensures { ClosureReachLaw }
+{}
