@@ -1,3 +1,4 @@
 pub mod Growing
 pub mod MarkSteps
 pub mod Reaching
+pub mod Vectors
