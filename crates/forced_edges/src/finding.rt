@@ -14,11 +14,11 @@ use tor_solve::{order, walk_along};
 /// What is found of an edge.
 #[derive(Debug, Drop)]
 pub(crate) enum Finding {
-    // it is a peering, or an earlier probe leads to the order against its label
+    /// It is a peering, or an earlier probe leads to the order against its label.
     Open,
-    // the order against its label leads along this walk to that of its label
+    /// The order against its label leads along this walk to that of its label.
     Forced(Walk),
-    // the order against its label does not lead to that of its label, and no earlier probe leads to it
+    /// The order against its label does not lead to that of its label, and no earlier probe leads to it.
     Probed(Probe),
 }
 

@@ -1,5 +1,5 @@
-//! Which edges are forced: all orientations that serve the paths of clauses give them the same provider. Each mark has its
-//! evidence, a walk for a forced edge, and for an open one an order against its label that leads to no contradiction.
+//! Which edges are forced: all orientations that serve the paths of clauses give them the same provider. Walks
+//! bear out the forced marks, and orders that lead to no contradiction bear out the open ones, peerings apart.
 #![tactic(auto)]
 
 mod finding;

@@ -35,7 +35,7 @@ fn add(marks: &mut Marks, finding: Finding) -> Result<(), NoMemory>
 }
 
 /// Marks each edge of the graph that the clauses fit: forced exactly if all orientations that serve the paths of the clauses give
-/// it the same provider. There has to be one label for each edge, and these paths have to be valley-free under them. The walks and
+/// it the same provider. There has to be one label for each edge, and the paths of the clauses have to be valley-free under them. The walks and
 /// probes bear out the marks. The only error is that memory ran out.
 ///
 /// An edge is forced if the order against its label leads along the implications to that of its label; else the order against its

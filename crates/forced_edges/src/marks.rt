@@ -5,7 +5,7 @@ use tor_arena::{List, Walk};
 pub enum Mark {
     /// All orientations that serve give it the same provider.
     Forced,
-    /// Some two give it different providers.
+    /// Some two give it different providers. A result says `open`.
     Loose,
 }
 
@@ -23,7 +23,8 @@ pub struct Probe {
 pub struct Marks {
     /// The mark of each edge.
     pub marks: List<Mark>,
-    /// For each forced edge, in the order of the edges, a walk from the order against its label to that of its label.
+    /// Walks that show an order of the ends of each forced edge, each from the opposite order or from one that an earlier walk
+    /// shows.
     pub whys: List<Walk>,
     /// Orders against the labels of open edges, such that each open edge that is no peering has the order against its label in the
     /// closure of one of them.

@@ -132,6 +132,24 @@ fn marks_of_two_of_three(alloc: Global) -> Result<Marks, Fail> {
     )
 }
 
+fn marks_without_peering(alloc: Global) -> Result<Marks, Fail> {
+    let graph = three_paths(alloc)?;
+    marks_for_first(
+        alloc,
+        &graph,
+        2,
+        &[
+            Label::High,
+            Label::Low,
+            Label::High,
+            Label::Low,
+            Label::Low,
+            Label::High,
+            Label::Low,
+        ],
+    )
+}
+
 fn solved_marks_of_two_of_three(alloc: Global) -> Result<Marks, Fail> {
     let graph = three_paths(alloc)?;
     marks_of_solved(alloc, &graph, 2)
@@ -174,6 +192,14 @@ const OF_THREE_PATHS: [Mark; 7] = [
 #[test]
 fn three_edges_of_two_paths_are_forced(rt: HostRuntime) -> Result<(), Fail> {
     let marks = marks_of_two_of_three(rt.alloc())?;
+    let probes = [probe(30, 40), probe(20, 30), probe(60, 10)];
+    assert!(rt; are(&marks, &OF_THREE_PATHS, 3, &probes));
+    Ok(())
+}
+
+#[test]
+fn an_edge_to_which_a_probe_leads_needs_none(rt: HostRuntime) -> Result<(), Fail> {
+    let marks = marks_without_peering(rt.alloc())?;
     let probes = [probe(30, 40), probe(20, 30), probe(60, 10)];
     assert!(rt; are(&marks, &OF_THREE_PATHS, 3, &probes));
     Ok(())

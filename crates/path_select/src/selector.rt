@@ -33,7 +33,7 @@ impl Model for Selector {
 }
 
 impl Selector {
-    /// Nothing is kept, of this graph. The only error is that memory ran out.
+    /// A selector of this graph that keeps no path. The only error is that memory ran out.
     pub fn new(alloc: Global, graph: &AsGraph) -> Result<Selector, NoMemory>
         ensures nothing { IfOk result (λ selector. selector.paths ≡ []) }
         ensures fits { IfOk result (FitsGraph graph.now) }
@@ -42,9 +42,10 @@ impl Selector {
         Ok(Selector { clauses })
     }
 
-    /// Offers a path of the graph, which has to be there. It is lost exactly where no orientation serves the kept paths together
-    /// with it, with a walk over these that refutes, and else it is kept and goes last. When it is lost, and when memory runs out,
-    /// which is the only error, nothing changes, so it may be offered again.
+    /// Offers a path of the graph, which has to be there; the selector's clauses have to fit the graph, as those of `new` do and
+    /// still do after each offer. It is lost exactly where no orientation serves the kept paths together with it, with a walk over
+    /// these, numbered by their places from 1, that refutes; else it is kept and goes last. When it is lost, and when memory runs
+    /// out, which is the only error, nothing changes, so it may be offered again.
     pub fn offer(&mut self, alloc: Global, graph: &AsGraph, path: PathId) -> Result<Offer, NoMemory>
         requires fits { FitsGraph graph.now self.old }
         requires there { path < length graph.now }
@@ -72,7 +73,7 @@ impl Selector {
         }
     }
 
-    /// The paths that are kept, in the order in which they were offered. It takes no memory.
+    /// The paths that are kept, in the order in which they were offered. Some orientation serves them. It takes no memory.
     pub fn kept(&self) -> &[PathId]
         ensures paths { result.now ≡ self.now.paths }
         ensures served { (graph : List (List ℕ)) → All AllDistinct graph → FitsGraph graph self.now → IsServable (paths_at graph self.now.paths) }

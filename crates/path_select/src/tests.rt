@@ -19,11 +19,13 @@ fn selected(alloc: Global) -> Result<Selection, Fail> {
     Ok(select(alloc, &graph)?)
 }
 
-/// Whether a walk comes back to the order in which it begins, and has two links fewer than ASes.
+/// Whether a walk comes back to the order in which it begins, has two links fewer than ASes, and names the first three paths
+/// alone.
 fn comes_back(walk: &Walk) -> bool {
     let ases = walk.ases.as_slice();
     ases.len().checked_sub(2) == Some(walk.links.len())
         && ases.first_chunk::<2>() == ases.last_chunk::<2>()
+        && walk.links.as_slice().iter().all(|link| link.path <= 3)
 }
 
 #[test]

@@ -34,7 +34,7 @@ IsPlainWay arcs from to nodes steps = IsWay (λ step. step) arcs from to nodes s
 abbrev pub GoesAlong : List (List ℕ) → Formula → List ℕ → List ℕ → Walk → Walk → Type 0
 GoesAlong graph f nodes steps old new = (from to : ℕ) → IsPlainWay f.net.arcs from to nodes steps → GoesOn graph f old new from to
 
--- the walk leads along these nodes and arcs from the order of the start to that of whichever node they lead to
+-- where these nodes and arcs lead from the start to a node, the walk leads from the order of the one to that of the other
 abbrev pub LeadsAlong : List (List ℕ) → Formula → ℕ → List ℕ → List ℕ → Walk → Type 0
 LeadsAlong graph f start nodes steps w =
     (to a b : ℕ) → IsPlainWay f.net.arcs start to nodes steps → Says (edges graph) (lit_of start) a b →

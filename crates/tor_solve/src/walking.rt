@@ -14,7 +14,8 @@ use tor_arena::{ArcId, EdgeId, End, List, NoMemory, NodeId, Walk};
 use tor_clauses::{Clauses, Lit};
 use tor_digraph::Way;
 
-/// The AS that the literal of a node says is over the other, and that other one. It takes no memory.
+/// The AS that the literal of a node says is over the other, and that other one. The node has to be that of an edge of the graph.
+/// It takes no memory.
 pub fn order(graph: &AsGraph, node: NodeId) -> (u32, u32)
     requires { (lit_of node).edge < length (edges graph.now) }
     ensures { Says (edges graph.now) (lit_of node) result.0 result.1 }
@@ -97,8 +98,8 @@ fn begin(alloc: Global, graph: &AsGraph, node: NodeId) -> Result<Walk, NoMemory>
     Ok(walk)
 }
 
-/// The walk along the arcs of a way that begins at this node, from the order of its literal to that of the last one. The only
-/// error is that memory ran out.
+/// A walk over the paths of the clauses from the order of the node at which a way begins to that of its last node. The clauses have
+/// to fit the graph, and the way has to begin at this node in their digraph. The only error is that memory ran out.
 pub fn walk_along(
     alloc: Global,
     graph: &AsGraph,
