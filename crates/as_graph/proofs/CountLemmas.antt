@@ -8,9 +8,9 @@ use Rattle.std.proofs.lemmas.List.Elements.{All-map, All-head, All-tail}
 use Rattle.std.proofs.lemmas.List.Sums.{sum_by-cons, sum_by_push, count_by-le-length}
 use Rattle.std.proofs.lemmas.Map.Keys.{IsDistinct-from_apart}
 use Rattle.std.proofs.lemmas.Map.Steps.{length-le_from_distinct_below}
-use Rattle.tor_arena.specs.Relationship.{AllDistinct}
-use Rattle.tor_arena.specs.Graph.{Edge, edge_of, is_same, edges_from, edges_on, support}
-use Rattle.tor_arena.proofs.Edges.{same_edge}
+use Rattle.tor_arena.specs.Distinct.{AllDistinct}
+use Rattle.relationships.specs.Graph.{Edge, edge_of, is_same, edges_from, edges_on, support}
+use Rattle.relationships.proofs.Edges.{same_edge}
 use Rattle.as_graph.specs.declared.step.Step.{Step}
 use Rattle.as_graph.specs.Paths.{path_at, paths_at}
 use Rattle.as_graph.specs.Steps.{AreStepsFrom, AreSteps}

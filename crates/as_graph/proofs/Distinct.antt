@@ -4,9 +4,9 @@ use Rattle.std.specs.List.{list_any, flat_map, sum_by}
 use Rattle.std.proofs.lemmas.Bool.{cases_Bool}
 use Rattle.std.proofs.lemmas.List.Elements.{All-head, All-tail}
 use Rattle.std.proofs.lemmas.List.Sums.{sum_by-cons}
-use Rattle.tor_arena.specs.Graph.{Edge, is_same, edges_from, edges_on, distinct, edges}
-use Rattle.tor_arena.proofs.Edges.{same_edge}
-use Rattle.tor_arena.proofs.Places.{distinct-push_new, distinct-push_old}
+use Rattle.relationships.specs.Graph.{Edge, is_same, edges_from, edges_on, distinct, edges}
+use Rattle.relationships.proofs.Edges.{same_edge}
+use Rattle.relationships.proofs.Places.{distinct-push_new, distinct-push_old}
 use Rattle.as_graph.specs.Inside.{with_edge, with_edges}
 
 -- ---- with more edges

@@ -5,8 +5,8 @@ use Rattle.std.proofs.lemmas.Bool.{cases_Bool, ltb-true, ne_eqb}
 use Rattle.std.proofs.lemmas.Option.{cond_some, slice_get-get_or}
 use Rattle.std.proofs.lemmas.List.Sums.{passes_at_first, sum_by_push, count_by-le-length}
 use Rattle.std.proofs.lemmas.List.Elements.{All-push}
-use Rattle.tor_arena.specs.Graph.{Edge, is_same}
-use Rattle.tor_arena.proofs.Edges.{same_edge}
+use Rattle.relationships.specs.Graph.{Edge, is_same}
+use Rattle.relationships.proofs.Edges.{same_edge}
 use Rattle.as_graph.specs.Inside.{holds, count_of, CountsOneMore, IsTable}
 
 -- an edge stands where it is found

@@ -1,9 +1,9 @@
 -- A walk over the steps with a flag.
 use Rattle.std.proofs.Common.{◌≡◌, ◌↔◌, ℕ, suc, ◌+◌, ◌<◌, Bool, true, false, not, List, [], ◌∷◌, length, get_or, drop, refl, sym, ap, ◌∙◌, IsTrue, if◌then◌else◌, drop-cons, add-one}
 use Rattle.std.proofs.lemmas.Bool.{false≢true}
-use Rattle.tor_arena.specs.declared.walk.Label.{Label}
-use Rattle.tor_arena.specs.Relationship.{Labelling, Slope, Up, Down, Flat, slopes, ValleyFree}
-use Rattle.tor_arena.proofs.Deciding.{only_down, no_valley, no_valley_iff}
+use Rattle.relationships.specs.declared.label.Label.{Label}
+use Rattle.relationships.specs.Relationship.{Labelling, Slope, Up, Down, Flat, slopes, ValleyFree}
+use Rattle.relationships.proofs.Deciding.{only_down, no_valley, no_valley_iff}
 use Rattle.as_graph.specs.declared.step.Step.{Step}
 use Rattle.as_graph.specs.Slopes.{step_slope, slopes_by, is_up, is_down}
 

@@ -3,11 +3,12 @@ use Rattle.std.proofs.Common.{◌≡◌, ◌≢◌, ℕ, zero, suc, ◌<◌, ◌
 use Rattle.std.specs.List.{list_any}
 use Rattle.std.proofs.lemmas.Bool.{cases_Bool, cases_order, or_parts}
 use Rattle.std.proofs.lemmas.Option.{slice_get_within}
-use Rattle.tor_arena.specs.declared.walk.End.{End}
-use Rattle.tor_arena.specs.declared.walk.Label.{Label}
-use Rattle.tor_arena.specs.Relationship.{Labelling, Slope, is_low, is_high, is_over, slope, slopes_from, slopes, AllDistinct}
-use Rattle.tor_arena.specs.Graph.{Edge, is_same, distinct, orientation, labelling}
-use Rattle.tor_arena.proofs.Slopes.{over-low, over-high, slope-up, slope-down}
+use Rattle.relationships.specs.declared.label.End.{End}
+use Rattle.relationships.specs.declared.label.Label.{Label}
+use Rattle.tor_arena.specs.Distinct.{AllDistinct}
+use Rattle.relationships.specs.Relationship.{Labelling, Slope, is_low, is_high, is_over, slope, slopes_from, slopes}
+use Rattle.relationships.specs.Graph.{Edge, is_same, distinct, orientation, labelling}
+use Rattle.relationships.proofs.Slopes.{over-low, over-high, slope-up, slope-down}
 use Rattle.as_graph.specs.declared.step.Step.{Step}
 use Rattle.as_graph.specs.Steps.{IsStep, AreStepsFrom, AreSteps}
 use Rattle.as_graph.specs.Slopes.{step_slope, slopes_by}

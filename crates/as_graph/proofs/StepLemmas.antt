@@ -4,8 +4,8 @@ use Rattle.std.proofs.lemmas.Bool.{cases_Bool, ltb-true, ltb-false}
 use Rattle.std.proofs.lemmas.Option.{get_or_from_slice_get, slice_get_within}
 use Rattle.std.proofs.lemmas.List.{take_all}
 use Rattle.std.proofs.lemmas.List.Elements.{All-nil, All-cons, All-head, All-tail}
-use Rattle.tor_arena.specs.Relationship.{opposite}
-use Rattle.tor_arena.specs.Graph.{Edge, edge_of, edges_from, edges_on}
+use Rattle.relationships.specs.Relationship.{opposite}
+use Rattle.relationships.specs.Graph.{Edge, edge_of, edges_from, edges_on}
 use Rattle.as_graph.specs.declared.step.Step.{Step}
 use Rattle.as_graph.specs.Steps.{end_left, IsStep, AreStepsFrom, AreSteps}
 use Rattle.as_graph.specs.Inside.{with_edge, with_edges, as_at, left_as, next_as, path_by, HaveSteps}

@@ -2,11 +2,13 @@
 use Rattle.std.proofs.Common.{◌≡◌, ℕ, ◌≤◌, true, false, List, [], ◌∷◌, length, map, refl, All, lit≤, inl}
 use Rattle.std.proofs.lemmas.Bool.{false≢true}
 use Rattle.std.proofs.lemmas.List.Elements.{All-from_recursion}
-use Rattle.tor_arena.specs.declared.walk.End.{End}
-use Rattle.tor_arena.specs.declared.walk.Label.{Label}
-use Rattle.tor_arena.specs.Relationship.{Labelling, is_over, slope, ValleyFree, AllDistinct}
-use Rattle.tor_arena.specs.Graph.{Edge, edges, degree, support, labelling}
-use Rattle.tor_arena.proofs.Deciding.{AllDistinct-from_test, no_valley_iff}
+use Rattle.relationships.specs.declared.label.End.{End}
+use Rattle.relationships.specs.declared.label.Label.{Label}
+use Rattle.tor_arena.specs.Distinct.{AllDistinct}
+use Rattle.relationships.specs.Relationship.{Labelling, is_over, slope, ValleyFree}
+use Rattle.relationships.specs.Graph.{Edge, edges, degree, support, labelling}
+use Rattle.tor_arena.proofs.DistinctLemmas.{AllDistinct-from_test}
+use Rattle.relationships.proofs.Deciding.{no_valley_iff}
 use Rattle.as_graph.specs.declared.step.Step.{Step}
 use Rattle.as_graph.specs.Paths.{path_at, paths_at, is_edge}
 use Rattle.as_graph.specs.Steps.{AreSteps}

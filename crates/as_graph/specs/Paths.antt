@@ -1,7 +1,7 @@
 -- The paths of a graph, by their places.
 use Rattle.std.specs.Prelude.{ℕ, Bool, List, [], map, slice_index_or}
 use Rattle.std.specs.List.{list_any}
-use Rattle.tor_arena.specs.Graph.{edge_of, is_same, edges}
+use Rattle.relationships.specs.Graph.{edge_of, is_same, edges}
 
 abbrev pub path_at : List (List ℕ) → ℕ → List ℕ
 path_at paths place = slice_index_or paths place []

@@ -1,8 +1,8 @@
 -- The slopes of steps, by the labels of their edges.
 use Rattle.std.specs.Prelude.{Bool, true, false, List, map, slice_index_or}
-use Rattle.tor_arena.specs.declared.walk.End.{End}
-use Rattle.tor_arena.specs.declared.walk.Label.{Label}
-use Rattle.tor_arena.specs.Relationship.{Slope, Up, Down, Flat}
+use Rattle.relationships.specs.declared.label.End.{End}
+use Rattle.relationships.specs.declared.label.Label.{Label}
+use Rattle.relationships.specs.Relationship.{Slope, Up, Down, Flat}
 use Rattle.as_graph.specs.declared.step.Step.{Step}
 
 -- the step from one end of an edge with this label

@@ -1,7 +1,7 @@
 -- The steps of a path, each named by its edge and the end from which it goes.
 use Rattle.std.specs.Prelude.{◌≡◌, ℕ, Some, List, [], ◌∷◌, slice_get, nat_lt, if◌then◌else◌}
-use Rattle.tor_arena.specs.declared.walk.End.{End}
-use Rattle.tor_arena.specs.Graph.{Edge, edge_of}
+use Rattle.relationships.specs.declared.label.End.{End}
+use Rattle.relationships.specs.Graph.{Edge, edge_of}
 use Rattle.as_graph.specs.declared.step.Step.{Step}
 
 -- the end of its edge from which a step from a to b goes

@@ -1,6 +1,6 @@
 ghost use Rattle.std.specs.Prelude.{◌≡◌, ◌≢◌, ◌+◌, ◌<◌, ◌≤◌, ◌^◌, ◌++◌, ◌∷◌, [], All, length, sum_by, IfOk, OnOk};
-ghost use Rattle.tor_arena.specs.Relationship.{AllDistinct};
-ghost use Rattle.tor_arena.specs.Graph.{edge_of, edges_on};
+ghost use Rattle.tor_arena.specs.Distinct.{AllDistinct};
+ghost use Rattle.relationships.specs.Graph.{edge_of, edges_on};
 ghost use Rattle.as_graph.specs.Steps.{IsStep, AreSteps};
 ghost use Rattle.as_graph.specs.Inside.{with_edge, with_edges};
 
@@ -8,7 +8,8 @@ use crate::edge_table::EdgeTable;
 use crate::graph::AsGraph;
 use crate::step::Step;
 use std::alloc::Global;
-use tor_arena::{End, Index, List, NoMemory, PathId, RowRefused, Rows};
+use relationships::End;
+use tor_arena::{Index, List, NoMemory, PathId, RowRefused, Rows};
 
 /// The graph of the paths. Each has to have at least two ASes, all distinct, and there may be at most 2^23 of them, with at most
 /// 2^26 numbers in sum. The only error is that memory ran out.

@@ -1,7 +1,7 @@
 ghost use Rattle.std.specs.Prelude.{◌≡◌, ◌+◌, ◌<◌, ◌≤◌, ◌^◌, ◌↔◌, [], length, slice_get, count_by, IsNone, IsFalse, IfSome, IfOk, OnOk, OnErr};
 ghost use Rattle.std.specs.List.{list_any};
 ghost use Rattle.indexmap.specs.IndexMap.{spare};
-ghost use Rattle.tor_arena.specs.Graph.{is_same};
+ghost use Rattle.relationships.specs.Graph.{is_same};
 ghost use Rattle.as_graph.specs.Inside.{holds, with_edge, count_of, CountsOneMore};
 
 use indexmap::{IndexMap, IndexSet};
@@ -19,7 +19,7 @@ pub(crate) struct EdgeTable {
 
 impl Model for EdgeTable {
     ghost use Rattle.std.specs.Prelude.{List};
-    ghost use Rattle.tor_arena.specs.Graph.{Edge};
+    ghost use Rattle.relationships.specs.Graph.{Edge};
     ghost use Rattle.as_graph.specs.Inside.{IsTable};
 
     ghost Value = { List Edge };

@@ -1,7 +1,8 @@
 ghost use Rattle.std.specs.Prelude.{◌≡◌, ◌≢◌, ◌+◌, ◌<◌, ◌≤◌, ◌^◌, ◌↔◌, All, length, map, sum_by, slice_get, IsTrue, IsFalse, IsNone, IfSome, IfOk};
 ghost use Rattle.std.specs.List.{AllPairs};
-ghost use Rattle.tor_arena.specs.Relationship.{ValleyFree, AllDistinct};
-ghost use Rattle.tor_arena.specs.Graph.{edge_of, edges, degree, support, labelling};
+ghost use Rattle.tor_arena.specs.Distinct.{AllDistinct};
+ghost use Rattle.relationships.specs.Relationship.{ValleyFree};
+ghost use Rattle.relationships.specs.Graph.{edge_of, edges, degree, support, labelling};
 ghost use Rattle.as_graph.specs.Paths.{path_at, paths_at, is_edge};
 ghost use Rattle.as_graph.specs.Steps.{AreSteps};
 

@@ -2,7 +2,8 @@ ghost use Rattle.std.specs.Prelude.{◌≡◌, ◌<◌, length, slice_set, IfOk}
 
 use std::alloc::Global;
 use std::marker::Model;
-use tor_arena::{EdgeId, End, Index, Label, NoMemory};
+use relationships::{End, Label};
+use tor_arena::{EdgeId, Index, NoMemory};
 
 /// A provider for each edge, in the order of the edges.
 #[derive(Debug, Drop)]
@@ -12,7 +13,7 @@ pub struct Orientation {
 
 impl Model for Orientation {
     ghost use Rattle.std.specs.Prelude.{List};
-    ghost use Rattle.tor_arena.specs.declared.walk.End.{End};
+    ghost use Rattle.relationships.specs.declared.label.End.{End};
 
     ghost Value = { List End };
 
@@ -52,7 +53,7 @@ pub struct Labels {
 
 impl Model for Labels {
     ghost use Rattle.std.specs.Prelude.{List};
-    ghost use Rattle.tor_arena.specs.declared.walk.Label.{Label};
+    ghost use Rattle.relationships.specs.declared.label.Label.{Label};
 
     ghost Value = { List Label };
 

@@ -1,4 +1,5 @@
-use tor_arena::{EdgeId, End};
+use relationships::End;
+use tor_arena::EdgeId;
 
 /// A step of a path, from one AS to the next.
 #[derive(Clone, Copy, Debug, PartialEq, Eq)]

@@ -3,7 +3,8 @@ ghost use Rattle.std.specs.Prelude.{◌≡◌, ◌<◌, ◌∷◌, [], IfOk};
 use crate::{AsGraph, Edge, Labels, Orientation, Step, build};
 use std::alloc::Global;
 use std::test::Fail;
-use tor_arena::{EdgeId, End, Index, Label, PathId, RowRefused, Rows};
+use relationships::{End, Label};
+use tor_arena::{EdgeId, Index, PathId, RowRefused, Rows};
 
 /// The edges along the three paths, in order.
 static EDGES: [(u32, u32); 7] = [

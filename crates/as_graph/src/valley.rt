@@ -1,9 +1,10 @@
 ghost use Rattle.std.specs.Prelude.{◌≡◌, ◌↔◌, ◌<◌, ℕ, All, List, length, IsTrue};
-ghost use Rattle.tor_arena.specs.Relationship.{Labelling, slopes, ValleyFree};
+ghost use Rattle.relationships.specs.Relationship.{Labelling, slopes, ValleyFree};
 ghost use Rattle.as_graph.specs.Slopes.{is_up, is_down, step_slope, slopes_by};
 
 use crate::step::Step;
-use tor_arena::{End, Index, Label};
+use relationships::{End, Label};
+use tor_arena::Index;
 
 /// Whether the path with these steps is valley-free under the labels.
 pub(crate) fn is_valley_free(steps: &[Step], labels: &[Label]) -> bool

@@ -1,11 +1,11 @@
 -- Lists of claims, orders, walks and probes that grow by one.
 use Rattle.std.proofs.Common.{◌≡◌, ℕ, zero, suc, ◌⊎◌, inl, inr, List, [], ◌∷◌, ◌++◌, Some, length, get_or, refl, sym, ap, ap₂, subst, append_assoc, append-nil, All}
 use Rattle.std.specs.Prelude.{slice_get, Any, Contains}
-use Rattle.tor_arena.specs.declared.walk.Label.{Label}
-use Rattle.tor_arena.specs.declared.walk.Walk.{Walk}
-use Rattle.tor_arena.specs.Graph.{Edge}
-use Rattle.tor_arena.specs.Evidence.{Numbered, Shows, ShowFrom, Closure}
-use Rattle.tor_arena.specs.Checking.{Claim, IsBorneOut, IsProbe, ProbesFrom}
+use Rattle.relationships.specs.declared.label.Label.{Label}
+use Rattle.relationships.specs.declared.walk.Walk.{Walk}
+use Rattle.relationships.specs.Graph.{Edge}
+use Rattle.relationships.specs.Evidence.{Numbered, Shows, ShowFrom, Closure}
+use Rattle.relationships.specs.Checking.{Claim, IsBorneOut, IsProbe, ProbesFrom}
 use Rattle.tor_digraph.proofs.Gets.{has-from_Contains, Contains-from_has, slice_get-push_old, slice_get-push_cases, slice_get-push_last}
 use Rattle.forced_edges.specs.declared.marks.Mark.{Mark}
 use Rattle.forced_edges.specs.Claims.{claim_of, claims_of}

@@ -1,8 +1,8 @@
 -- What marks say of the edges of three paths, worked by hand.
 use Rattle.std.proofs.Common.{◌≡◌, ℕ, Bool, true, false, List, [], ◌∷◌, refl}
-use Rattle.tor_arena.specs.declared.walk.Label.{Label}
-use Rattle.tor_arena.specs.Graph.{edges}
-use Rattle.tor_arena.specs.Checking.{Claim}
+use Rattle.relationships.specs.declared.label.Label.{Label}
+use Rattle.relationships.specs.Graph.{edges}
+use Rattle.relationships.specs.Checking.{Claim}
 use Rattle.forced_edges.specs.declared.marks.Mark.{Mark}
 use Rattle.forced_edges.specs.declared.marks.Probe.{Probe}
 use Rattle.forced_edges.specs.Claims.{claims_of, orders_of}

@@ -1,8 +1,8 @@
 -- What marks say of the edges of a graph, and the probes as pairs.
 use Rattle.std.specs.Prelude.{ℕ, Bool, true, false, List, [], ◌∷◌, map}
-use Rattle.tor_arena.specs.declared.walk.Label.{Label}
-use Rattle.tor_arena.specs.Graph.{Edge}
-use Rattle.tor_arena.specs.Checking.{Claim}
+use Rattle.relationships.specs.declared.label.Label.{Label}
+use Rattle.relationships.specs.Graph.{Edge}
+use Rattle.relationships.specs.Checking.{Claim}
 use Rattle.forced_edges.specs.declared.marks.Mark.{Mark}
 use Rattle.forced_edges.specs.declared.marks.Probe.{Probe}
 

@@ -1,8 +1,8 @@
 -- The law that this crate proves, as the contract of a function in src/laws.rt.
 use Rattle.std.specs.Prelude.{◌↔◌, ℕ, List, All}
-use Rattle.tor_arena.specs.Relationship.{AllDistinct}
-use Rattle.tor_arena.specs.Graph.{edges}
-use Rattle.tor_arena.specs.Evidence.{Closure}
+use Rattle.tor_arena.specs.Distinct.{AllDistinct}
+use Rattle.relationships.specs.Graph.{edges}
+use Rattle.relationships.specs.Evidence.{Closure}
 use Rattle.tor_digraph.specs.Walks.{Reaches}
 use Rattle.as_graph.specs.Paths.{paths_at}
 use Rattle.tor_clauses.specs.Literals.{lit_of, Says}

@@ -1,4 +1,5 @@
-use tor_arena::{List, Walk};
+use relationships::Walk;
+use tor_arena::List;
 
 /// Whether an edge is forced.
 #[derive(Clone, Copy, Debug, PartialEq, Eq)]

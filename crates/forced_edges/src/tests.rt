@@ -1,6 +1,6 @@
 ghost use Rattle.std.specs.Prelude.{◌≡◌, ◌≤◌, ◌∷◌, [], All, length, IfOk, IsTrue};
-ghost use Rattle.tor_arena.specs.Relationship.{ValleyFree};
-ghost use Rattle.tor_arena.specs.Graph.{edges, labelling};
+ghost use Rattle.relationships.specs.Relationship.{ValleyFree};
+ghost use Rattle.relationships.specs.Graph.{edges, labelling};
 ghost use Rattle.as_graph.specs.Paths.{paths_at};
 ghost use Rattle.tor_clauses.specs.Formulas.{FitsGraph};
 
@@ -8,7 +8,8 @@ use crate::{Mark, Marks, Probe, forced};
 use as_graph::{AsGraph, Labels, build};
 use std::alloc::Global;
 use std::test::Fail;
-use tor_arena::{End, Index, Label, List, PathId, Rows};
+use relationships::{End, Label};
+use tor_arena::{Index, List, PathId, Rows};
 use tor_clauses::Clauses;
 use tor_solve::{Verdict, solve};
 

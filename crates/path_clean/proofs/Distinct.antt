@@ -1,7 +1,7 @@
 -- Numbers of which none stands there twice, sought from the end on.
 use Rattle.std.proofs.Common.{◌≡◌, ℕ, zero, suc, ◌-◌, ◌<◌, ◌≤◌, Bool, true, false, not, ◌&&◌, ◌||◌, nat_eq, List, [], ◌∷◌, length, drop, get_or, refl, ap, ◌∙◌, arith, drop-cons}
 use Rattle.std.specs.List.{list_any}
-use Rattle.path_clean.specs.Paths.{is_distinct}
+use Rattle.tor_arena.specs.Distinct.{is_distinct}
 
 -- a part that ends the list and has a number twice
 pub not_distinct : (xs : List ℕ) (k : ℕ) → is_distinct (drop k xs) ≡ false → is_distinct xs ≡ false

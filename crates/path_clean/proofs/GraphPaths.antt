@@ -3,14 +3,9 @@ use Rattle.std.proofs.Common.{◌≡◌, ℕ, ◌≤◌, not, ◌&&◌, ◌==◌
 use Rattle.std.specs.List.{AllByRecursion, list_any, list_all}
 use Rattle.std.proofs.lemmas.Bool.{leb-true, and_parts}
 use Rattle.std.proofs.lemmas.List.Elements.{All-from_recursion}
-use Rattle.tor_arena.specs.Relationship.{AllDistinct}
-use Rattle.tor_arena.proofs.Deciding as deciding
-use Rattle.tor_arena.proofs.Deciding.{AllDistinct-from_test}
-use Rattle.path_clean.specs.Paths.{is_reserved, is_distinct, is_cleaned}
-
-same_test : (path : List ℕ) → deciding.is_distinct path ≡ is_distinct path
-same_test [] = refl
-same_test (a ∷ path) = ap (λ t. not (list_any (λ b. b == a) path) && t) (same_test path)
+use Rattle.tor_arena.specs.Distinct.{AllDistinct, is_distinct}
+use Rattle.tor_arena.proofs.DistinctLemmas.{AllDistinct-from_test}
+use Rattle.path_clean.specs.Paths.{is_reserved, is_cleaned}
 
 front : (path : List ℕ) → IsTrue (is_cleaned path) → IsTrue (nat_le 2 (length path)) × IsTrue (is_distinct path)
 front path h =
@@ -21,7 +16,7 @@ pub several_if_cleaned : (path : List ℕ) → IsTrue (is_cleaned path) → 2 �
 several_if_cleaned path h = leb-true 2 (length path) (front path h).0
 
 pub apart_if_cleaned : (path : List ℕ) → IsTrue (is_cleaned path) → AllDistinct path
-apart_if_cleaned path h = AllDistinct-from_test path (same_test path ∙ (front path h).1)
+apart_if_cleaned path h = AllDistinct-from_test path (front path h).1
 
 each : (P : List ℕ → Type 0) → ((path : List ℕ) → IsTrue (is_cleaned path) → P path) → (paths : List (List ℕ)) → IsTrue (list_all is_cleaned paths) → AllByRecursion P paths
 each P by [] h = tt

@@ -12,7 +12,8 @@ use Rattle.path_clean.specs.declared.cleaned.Sets.TheVariants.{Cut, Skip}
 use Rattle.path_clean.specs.declared.cleaned.Cause.{Cause}
 use Rattle.path_clean.specs.declared.cleaned.Cause.TheVariants.{Confed, Reserved, Loop, Short}
 use Rattle.path_clean.specs.declared.cleaned.Cleaned.TheVariants.{Path, Aside}
-use Rattle.path_clean.specs.Paths.{is_reserved, is_distinct, is_cleaned}
+use Rattle.tor_arena.specs.Distinct.{is_distinct}
+use Rattle.path_clean.specs.Paths.{is_reserved, is_cleaned}
 use Rattle.path_clean.specs.Clean.{as_path, is_skip, is_confed, is_mixed_set, merged_path, judged, clean_segments, clean_value, clean_attribute, PathsAreClean, CleanPathsStay}
 
 long_enough : (n : ℕ) → ltb n 2 ≡ false → leb 2 n ≡ true

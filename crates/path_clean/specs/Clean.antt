@@ -13,7 +13,8 @@ use Rattle.path_clean.specs.declared.cleaned.Cause.{Cause}
 use Rattle.path_clean.specs.declared.cleaned.Cause.TheVariants.{NoPath, BadSegments, Confed, Reserved, Loop, Short}
 use Rattle.path_clean.specs.declared.cleaned.Cleaned.{Cleaned}
 use Rattle.path_clean.specs.declared.cleaned.Cleaned.TheVariants.{Path, Aside}
-use Rattle.path_clean.specs.Paths.{is_reserved, is_distinct, is_cleaned}
+use Rattle.tor_arena.specs.Distinct.{is_distinct}
+use Rattle.path_clean.specs.Paths.{is_reserved, is_cleaned}
 
 -- the type code of AS_PATH (RFC 4271, section 5.1.2)
 abbrev pub as_path : ℕ

@@ -1,6 +1,7 @@
 ghost use Rattle.std.specs.Prelude.{◌≡◌, IsTrue};
 ghost use Rattle.std.specs.List.{list_any};
-ghost use Rattle.path_clean.specs.Paths.{is_reserved, is_distinct, is_cleaned};
+ghost use Rattle.tor_arena.specs.Distinct.{is_distinct};
+ghost use Rattle.path_clean.specs.Paths.{is_reserved, is_cleaned};
 
 use tor_arena::List;
 

@@ -1,6 +1,7 @@
 ghost use Rattle.std.specs.Prelude.{◌≡◌, ◌==◌, ◌&&◌, IfOk};
 ghost use Rattle.std.specs.List.{flat_map, before_first, list_any, list_all};
-ghost use Rattle.path_clean.specs.Paths.{is_distinct, is_cleaned};
+ghost use Rattle.tor_arena.specs.Distinct.{is_distinct};
+ghost use Rattle.path_clean.specs.Paths.{is_cleaned};
 ghost use Rattle.path_clean.specs.Clean.{are_equal, is_skip, is_mixed_set, is_confed, ases_of, merged_path, judged, clean_segments, clean_of};
 
 use crate::cleaned::{Cause, Cleaned, Sets, are_distinct, has_reserved};

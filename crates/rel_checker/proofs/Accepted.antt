@@ -4,14 +4,15 @@ use Rattle.std.specs.List.{AllByRecursion}
 use Rattle.std.proofs.lemmas.Option.{slice_get_within}
 use Rattle.std.proofs.lemmas.List.{map-append}
 use Rattle.std.proofs.lemmas.List.Elements.{All-from_recursion}
-use Rattle.tor_arena.specs.declared.walk.Walk.{Walk}
-use Rattle.tor_arena.specs.Relationship.{ValleyFree, Serves, AllDistinct}
-use Rattle.tor_arena.specs.Graph.{Edge, edges}
-use Rattle.tor_arena.specs.Evidence.{paths_of, kept_from, Show}
-use Rattle.tor_arena.specs.Selection.{IsServable}
-use Rattle.tor_arena.specs.Checking.{Claim, LostAreRefuted, IsBorneOut, ProbesFrom, MeetsGraphRules}
-use Rattle.tor_arena.proofs.Walks.{refuting_law}
-use Rattle.tor_arena.proofs.Checked.{graph_rules_law}
+use Rattle.relationships.specs.declared.walk.Walk.{Walk}
+use Rattle.tor_arena.specs.Distinct.{AllDistinct}
+use Rattle.relationships.specs.Relationship.{ValleyFree, Serves}
+use Rattle.relationships.specs.Graph.{Edge, edges}
+use Rattle.relationships.specs.Evidence.{paths_of, kept_from, Show}
+use Rattle.relationships.specs.Selection.{IsServable}
+use Rattle.relationships.specs.Checking.{Claim, LostAreRefuted, IsBorneOut, ProbesFrom, MeetsGraphRules}
+use Rattle.relationships.proofs.Walks.{refuting_law}
+use Rattle.relationships.proofs.Checked.{graph_rules_law}
 use Rattle.path_clean.proofs.GraphPaths.{apart_if_cleaned}
 use Rattle.result_text.specs.declared.file.Fate.{Fate}
 use Rattle.result_text.specs.declared.file.Fate.TheVariants.{Kept, Lost}

@@ -3,10 +3,10 @@ use Rattle.std.proofs.Common.{◌≡◌, ◌↔◌, ◌⊎◌, inl, inr, ℕ, �
 use Rattle.std.proofs.lemmas.Bool.{false≢true, cases_lt}
 use Rattle.std.proofs.lemmas.List.{length-map}
 use Rattle.std.proofs.lemmas.Option.{same_Some}
-use Rattle.tor_arena.specs.declared.walk.Label.{Label}
-use Rattle.tor_arena.specs.declared.walk.Label.TheVariants as label
-use Rattle.tor_arena.specs.Evidence.{Closure}
-use Rattle.tor_arena.specs.Checking.{IsBorneOut}
+use Rattle.relationships.specs.declared.label.Label.{Label}
+use Rattle.relationships.specs.declared.label.Label.TheVariants as label
+use Rattle.relationships.specs.Evidence.{Closure}
+use Rattle.relationships.specs.Checking.{IsBorneOut}
 use Rattle.result_text.specs.declared.file.EdgeMark.{EdgeMark}
 use Rattle.result_text.specs.declared.file.EdgeMark.TheVariants.{Forced, Loose}
 use Rattle.result_text.specs.declared.file.EdgeLine.{EdgeLine}

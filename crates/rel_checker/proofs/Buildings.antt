@@ -3,8 +3,8 @@ use Rattle.std.proofs.Common.{◌≡◌, ◌↔◌, ◌⊎◌, inl, inr, ℕ, �
 use Rattle.std.proofs.lemmas.Bool.{cases_lt, cases_Bool, eqb-true, eq-eqb, both_ways}
 use Rattle.std.proofs.lemmas.Option.{get_or_from_slice_get, slice_get-get_or}
 use Rattle.std.proofs.lemmas.List.Elements.{Contains-push, Contains-push_cases, Contains-append_left}
-use Rattle.tor_arena.specs.Evidence.{TripleAt, IsTriple}
-use Rattle.tor_arena.proofs.Places.{StandAt-from_index, index-from_StandAt}
+use Rattle.relationships.specs.Evidence.{TripleAt, IsTriple}
+use Rattle.relationships.proofs.Places.{StandAt-from_index, index-from_StandAt}
 use Rattle.rel_checker.specs.Neighbours.{HasNext, IsInside, with_next}
 use Rattle.rel_checker.specs.Turning.{TurnsTo, Carries, Bars, IsBuilt, IsStep, with_carried, with_barred, TripleBefore, IsProper}
 use Rattle.rel_checker.proofs.Gets.{slice_get-lt, slice_get-set_cases, slice_get-set_other, slice_get-set_same}

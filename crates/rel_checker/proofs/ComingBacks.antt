@@ -1,6 +1,6 @@
 -- Two ASes one behind the other, as code finds them.
 use Rattle.std.proofs.Common.{◌≡◌, ℕ, zero, suc, ◌+◌, ◌<◌, List, [], ◌∷◌, ◌++◌, get_or, length, length-append, refl, ap, ◌∙◌, arith}
-use Rattle.tor_arena.specs.Evidence.{HasPair}
+use Rattle.relationships.specs.Evidence.{HasPair}
 
 pub HasPair-from_index : (ases : List ℕ) (x y k : ℕ) → k + 1 < length ases → get_or ases k 0 ≡ x → get_or ases (k + 1) 0 ≡ y → HasPair ases x y
 HasPair-from_index [] x y k lt h₁ h₂ = absurd (omega arith)

@@ -2,7 +2,7 @@
 use Rattle.std.proofs.Common.{◌≡◌, ◌↔◌, inl, inr, ℕ, ◌<◌, ◌≤◌, Bool, false, not, IsTrue, List, get_or, sym, ap, ◌∙◌, arith, All, Any, Contains}
 use Rattle.std.proofs.lemmas.Bool.{false≢true, cases_Bool}
 use Rattle.std.proofs.lemmas.Option.{slice_get-get_or}
-use Rattle.tor_arena.specs.Evidence.{IsTriple, IsConsistent}
+use Rattle.relationships.specs.Evidence.{IsTriple, IsConsistent}
 use Rattle.rel_checker.specs.Neighbours.{HasNext, Leads}
 use Rattle.rel_checker.specs.Spreading.{IsMarked, IsClosed, IsSpread}
 use Rattle.rel_checker.specs.Turning.{TurnsTo, IsBuilt, IsProper, IsSettled}

@@ -7,8 +7,8 @@ use Rattle.std.proofs.lemmas.List.Quantifiers.{position-Some}
 use Rattle.std.proofs.lemmas.Option.{slice_get-get_or, slice_get_within, get_or_from_slice_get, none-some, same_Some}
 use Rattle.std.proofs.lemmas.List.{get_or_default}
 use Rattle.std.proofs.lemmas.Map.Keys.{apart_from_distinct}
-use Rattle.tor_arena.specs.Graph.{Edge, is_same}
-use Rattle.tor_arena.proofs.Edges.{same_edge}
+use Rattle.relationships.specs.Graph.{Edge, is_same}
+use Rattle.relationships.proofs.Edges.{same_edge}
 use Rattle.rel_checker.specs.Tables.{edge_at}
 
 pub is_same-self : (e : Edge) → is_same e e ≡ true

@@ -4,7 +4,7 @@ use Rattle.std.proofs.lemmas.Bool.{cases_Bool}
 use Rattle.std.proofs.lemmas.List.Sums.{sum_by-cons}
 use Rattle.std.proofs.lemmas.List.{take_all}
 use Rattle.std.proofs.lemmas.Option.{slice_get-get_or}
-use Rattle.tor_arena.specs.Graph.{Edge, is_same, edges_from, edges_on, distinct, edges}
+use Rattle.relationships.specs.Graph.{Edge, is_same, edges_from, edges_on, distinct, edges}
 use Rattle.result_text.specs.declared.file.ResultFile.{ResultFile}
 use Rattle.result_text.specs.declared.file.PathLine.{PathLine}
 use Rattle.rel_checker.specs.File.{its_paths}

@@ -2,7 +2,7 @@
 use Rattle.std.proofs.Common.{◌≡◌, ◌↔◌, inl, inr, ℕ, ◌+◌, ◌<◌, Bool, true, false, IsTrue, List, [], ◌∷◌, ◌++◌, Option, Some, None, take, slice_get, refl, sym, ap, ◌∙◌, subst, arith}
 use Rattle.std.proofs.lemmas.Bool.{false≢true, cases_lt, cases_order}
 use Rattle.std.proofs.lemmas.Option.{same_Some}
-use Rattle.tor_arena.specs.Evidence.{IsTriple, IsConsistent}
+use Rattle.relationships.specs.Evidence.{IsTriple, IsConsistent}
 use Rattle.result_text.specs.declared.file.ProbeLine.{ProbeLine}
 use Rattle.result_text.specs.declared.file.ResultFile.{ResultFile}
 use Rattle.rel_checker.specs.File.{its_claims, its_probes}

@@ -1,6 +1,6 @@
 -- The kept paths, line by line.
 use Rattle.std.proofs.Common.{◌≡◌, ℕ, ◌+◌, List, [], ◌∷◌, ◌++◌, map, refl, ap, ◌∙◌, is_none}
-use Rattle.tor_arena.specs.Evidence.{paths_of, kept_from}
+use Rattle.relationships.specs.Evidence.{paths_of, kept_from}
 use Rattle.result_text.specs.declared.file.Fate.{Fate}
 use Rattle.result_text.specs.declared.file.Fate.TheVariants.{Kept, Lost}
 use Rattle.result_text.specs.declared.file.PathLine.{PathLine}

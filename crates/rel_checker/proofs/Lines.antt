@@ -6,8 +6,9 @@ use Rattle.std.proofs.lemmas.List.{map-append, take_more, length-map, get_or-map
 use Rattle.std.proofs.lemmas.List.Elements.{filter-append}
 use Rattle.std.proofs.lemmas.List.Sums.{length-filter, count_by-le-length, sum_by_more}
 use Rattle.std.proofs.lemmas.Option.{slice_get_read, same_Some}
-use Rattle.tor_arena.specs.Evidence.{paths_of, kept_from}
-use Rattle.path_clean.specs.Paths.{is_reserved, is_distinct, is_cleaned}
+use Rattle.relationships.specs.Evidence.{paths_of, kept_from}
+use Rattle.tor_arena.specs.Distinct.{is_distinct}
+use Rattle.path_clean.specs.Paths.{is_reserved, is_cleaned}
 use Rattle.result_text.specs.declared.file.Fate.{Fate}
 use Rattle.result_text.specs.declared.file.Fate.TheVariants.{Kept, Lost}
 use Rattle.result_text.specs.declared.file.PathLine.{PathLine}

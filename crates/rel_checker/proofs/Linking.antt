@@ -2,8 +2,8 @@
 use Rattle.std.proofs.Common.{◌≡◌, ℕ, ◌+◌, ◌<◌, inl, inr, List, get_or, length, ◌∙◌, subst, arith}
 use Rattle.std.proofs.lemmas.Bool.{cases_lt}
 use Rattle.std.proofs.lemmas.List.{get_or_default}
-use Rattle.tor_arena.specs.declared.walk.Link.{Link}
-use Rattle.tor_arena.specs.Evidence.{Numbered, Fits}
+use Rattle.relationships.specs.declared.walk.Link.{Link}
+use Rattle.relationships.specs.Evidence.{Numbered, Fits}
 
 -- the link in this place fits its three ASes
 abbrev pub FitsAt : Numbered → List ℕ → List Link → ℕ → Link → Type 0

@@ -4,9 +4,9 @@ use Rattle.std.specs.List.{list_any}
 use Rattle.std.proofs.lemmas.Bool.{cases_Bool}
 use Rattle.std.proofs.lemmas.List.{length-map}
 use Rattle.std.proofs.lemmas.Option.{none-some, same_Some}
-use Rattle.tor_arena.specs.Graph.{Edge, is_same, edges_on, distinct, edges}
-use Rattle.tor_arena.proofs.Edges.{same_edge}
-use Rattle.tor_arena.proofs.Places.{distinct-push_new, distinct-push_old}
+use Rattle.relationships.specs.Graph.{Edge, is_same, edges_on, distinct, edges}
+use Rattle.relationships.proofs.Edges.{same_edge}
+use Rattle.relationships.proofs.Places.{distinct-push_new, distinct-push_old}
 use Rattle.result_text.specs.declared.file.EdgeLine.{EdgeLine}
 use Rattle.result_text.specs.declared.file.ResultFile.{ResultFile}
 use Rattle.rel_checker.specs.File.{its_paths, its_edges}

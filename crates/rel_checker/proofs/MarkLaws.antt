@@ -2,8 +2,8 @@
 use Rattle.std.proofs.Common.{◌≡◌, ℕ, suc, ◌+◌, ◌-◌, ◌<◌, List, [], ◌∷◌, ◌++◌, length, take, refl, sym, subst, arith, append_assoc, append-nil, All, Some, slice_get}
 use Rattle.std.proofs.lemmas.Option.{slice_get_within}
 use Rattle.std.proofs.lemmas.List.Elements.{All-from_recursion}
-use Rattle.tor_arena.specs.Checking.{Claim, IsBorneOut, IsProbe, ProbesFrom}
-use Rattle.tor_arena.specs.Evidence.{paths_of}
+use Rattle.relationships.specs.Checking.{Claim, IsBorneOut, IsProbe, ProbesFrom}
+use Rattle.relationships.specs.Evidence.{paths_of}
 use Rattle.result_text.specs.declared.file.ResultFile.{ResultFile}
 use Rattle.result_text.specs.declared.file.ProbeLine.{ProbeLine}
 use Rattle.rel_checker.specs.File.{claim_of, its_kept, its_claims, its_probes, orders_of}

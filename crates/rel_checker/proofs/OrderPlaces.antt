@@ -1,10 +1,10 @@
 -- Edge lines, and the orders to which they turn.
 use Rattle.std.proofs.Common.{◌≡◌, ◌≢◌, ◌↔◌, ℕ, ◌<◌, ◌≤◌, min, max, Option, Some, None, IsNone, IfSome, MatchOption, List, length, slice_get, refl, sym, ap, ◌∙◌, subst, arith, Contains}
 use Rattle.std.proofs.lemmas.Option.{same_Some}
-use Rattle.tor_arena.specs.declared.walk.Label.{Label}
-use Rattle.tor_arena.specs.declared.walk.Label.TheVariants as label
+use Rattle.relationships.specs.declared.label.Label.{Label}
+use Rattle.relationships.specs.declared.label.Label.TheVariants as label
 use Rattle.tor_arena.specs.Limits.{most_places}
-use Rattle.tor_arena.specs.Graph.{Edge, edge_of}
+use Rattle.relationships.specs.Graph.{Edge, edge_of}
 use Rattle.result_text.specs.declared.file.EdgeLine.{EdgeLine}
 use Rattle.rel_checker.specs.Turning.{turned_by, turned, turned_orders, edges_of, TurnsTo, IsProper, AreApart}
 use Rattle.rel_checker.proofs.Gets.{slice_get-map, slice_get-unmap, slice_get-lt, All-get, Contains-from_get}

@@ -2,10 +2,10 @@
 use Rattle.std.proofs.Common.{◌≡◌, ◌⊎◌, inl, inr, ℕ, true, false, IsFalse, List, [], ◌∷◌, ◌++◌, Some, map, get_or, slice_get, refl, sym, ap, ◌∙◌, subst, arith, All, Any, Contains}
 use Rattle.std.proofs.lemmas.Bool.{false≢true}
 use Rattle.std.proofs.lemmas.List.Elements.{All-contains, Contains-push, Contains-push_cases, Contains-append_left, Contains-get_or}
-use Rattle.tor_arena.specs.declared.walk.Label.{Label}
-use Rattle.tor_arena.specs.declared.walk.Label.TheVariants as label
-use Rattle.tor_arena.specs.Evidence.{IsTriple, Closure, IsConsistent}
-use Rattle.tor_arena.specs.Checking.{Claim, OtherOrder, IsProbe}
+use Rattle.relationships.specs.declared.label.Label.{Label}
+use Rattle.relationships.specs.declared.label.Label.TheVariants as label
+use Rattle.relationships.specs.Evidence.{IsTriple, Closure, IsConsistent}
+use Rattle.relationships.specs.Checking.{Claim, OtherOrder, IsProbe}
 use Rattle.result_text.specs.declared.file.EdgeMark.{EdgeMark}
 use Rattle.result_text.specs.declared.file.EdgeMark.TheVariants.{Forced, Loose}
 use Rattle.result_text.specs.declared.file.EdgeLine.{EdgeLine}

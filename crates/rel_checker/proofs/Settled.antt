@@ -7,18 +7,19 @@ use Rattle.std.proofs.lemmas.Option.{same_Some, slice_get-get_or, slice_get_past
 use Rattle.std.proofs.lemmas.List.{length-map, take_all}
 use Rattle.std.proofs.lemmas.List.Elements.{All-contains_itself, All-cons, All-nil, All-head, All-tail}
 use Rattle.std.proofs.lemmas.List.Sums.{sum_by-cons}
-use Rattle.tor_arena.specs.declared.walk.End.{End}
-use Rattle.tor_arena.specs.declared.walk.Label.{Label}
-use Rattle.tor_arena.specs.declared.walk.Label.TheVariants as label
+use Rattle.relationships.specs.declared.label.End.{End}
+use Rattle.relationships.specs.declared.label.Label.{Label}
+use Rattle.relationships.specs.declared.label.Label.TheVariants as label
 use Rattle.tor_arena.specs.Limits.{most_places}
-use Rattle.tor_arena.specs.Graph.{Edge, edge_of, is_same, edges_from, edges_on, distinct, edges, labelling}
-use Rattle.tor_arena.specs.Relationship.{Orientation, Labelling, labels_of, label_of, is_low, is_high, is_over, ValleyFree, Serves, AllDistinct}
-use Rattle.tor_arena.specs.Evidence.{IsTriple, TripleAt, kept_from}
-use Rattle.tor_arena.specs.Laws.{AgreesOn}
-use Rattle.tor_arena.proofs.Edges.{along_each, peering_law}
-use Rattle.tor_arena.proofs.Places.{index-from_StandAt, kept_from-out}
-use Rattle.tor_arena.proofs.Serving.{Apart, Apart-from_distinct, serves_carries}
-use Rattle.tor_arena.proofs.Slopes.{over-low, over-high, over_one_way}
+use Rattle.relationships.specs.Graph.{Edge, edge_of, is_same, edges_from, edges_on, distinct, edges, labelling}
+use Rattle.tor_arena.specs.Distinct.{AllDistinct}
+use Rattle.relationships.specs.Relationship.{Orientation, Labelling, labels_of, label_of, is_low, is_high, is_over, ValleyFree, Serves}
+use Rattle.relationships.specs.Evidence.{IsTriple, TripleAt, kept_from}
+use Rattle.relationships.specs.Laws.{AgreesOn}
+use Rattle.relationships.proofs.Edges.{along_each, peering_law}
+use Rattle.relationships.proofs.Places.{index-from_StandAt, kept_from-out}
+use Rattle.relationships.proofs.Serving.{Apart, Apart-from_distinct, serves_carries}
+use Rattle.relationships.proofs.Slopes.{over-low, over-high, over_one_way}
 use Rattle.path_clean.proofs.GraphPaths.{apart_if_cleaned}
 use Rattle.result_text.specs.declared.file.Fate.{Fate}
 use Rattle.result_text.specs.declared.file.Fate.TheVariants.{Kept, Lost}
@@ -30,7 +31,7 @@ use Rattle.rel_checker.specs.Rules.{PathsCleaned, EdgesListed, KeptValleyFree, I
 use Rattle.rel_checker.specs.Turning.{turned_by, turned, turned_orders, edges_of, TurnsTo, kept_lines, IsListed, IsBuilt, IsSettled, AreApart}
 use Rattle.rel_checker.proofs.Gets.{slice_get-lt, slice_get-some, slice_get-map, slice_get-unmap, All-get, Contains-from_get, get_from_Contains}
 use Rattle.rel_checker.specs.Serving.{IsLaidOut}
-use Rattle.tor_arena.specs.Checking.{Claim}
+use Rattle.relationships.specs.Checking.{Claim}
 use Rattle.rel_checker.proofs.OrderPlaces.{pair, proper, turns_of, edge_of-swap}
 use Rattle.rel_checker.proofs.Showings.{two_orders}
 

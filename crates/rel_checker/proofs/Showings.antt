@@ -3,8 +3,8 @@ use Rattle.std.proofs.Common.{◌≡◌, ◌⊎◌, inl, inr, ℕ, suc, ◌-◌,
 use Rattle.std.proofs.lemmas.Bool.{cases_Bool, cases_order, eqb-true, eq-eqb, both_ways}
 use Rattle.std.proofs.lemmas.Option.{same_Some}
 use Rattle.std.proofs.lemmas.List.Elements.{Contains-push, Contains-push_cases, Contains-append_left}
-use Rattle.tor_arena.specs.Graph.{Edge, edge_of}
-use Rattle.tor_arena.specs.declared.walk.Walk.{Walk}
+use Rattle.relationships.specs.Graph.{Edge, edge_of}
+use Rattle.relationships.specs.declared.walk.Walk.{Walk}
 use Rattle.result_text.specs.declared.file.EdgeLine.{EdgeLine}
 use Rattle.rel_checker.specs.File.{last_two, orders_of}
 use Rattle.rel_checker.specs.Turning.{edges_of, AreApart}

@@ -4,9 +4,9 @@ use Rattle.std.specs.List.{list_any}
 use Rattle.std.proofs.lemmas.Bool.{eqb-false, or_parts, and_parts, not-true, cases_Bool, cases_lt, both_ways, false_from_ne_true}
 use Rattle.std.proofs.lemmas.List.{get_or_past, length-replicate, get_or-replicate, length-take}
 use Rattle.std.proofs.lemmas.List.Sums.{sum_by-cons, sum_by-append, count_by-le-length}
-use Rattle.tor_arena.specs.Graph.{Edge, edge_of, is_same, edges_from, edges_on, support}
-use Rattle.tor_arena.proofs.Edges.{same_edge}
-use Rattle.path_clean.specs.Paths.{is_distinct}
+use Rattle.relationships.specs.Graph.{Edge, edge_of, is_same, edges_from, edges_on, support}
+use Rattle.relationships.proofs.Edges.{same_edge}
+use Rattle.tor_arena.specs.Distinct.{is_distinct}
 use Rattle.result_text.specs.declared.file.PathLine.{PathLine}
 use Rattle.rel_checker.specs.Rules.{is_kept}
 use Rattle.rel_checker.specs.Tables.{edge_at, HaveRisen, AreCounts, kept_in}

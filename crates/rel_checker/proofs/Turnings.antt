@@ -1,8 +1,8 @@
 -- Closures by the edges that turn.
 use Rattle.std.proofs.Common.{◌≡◌, ◌↔◌, ◌⊎◌, inl, inr, ℕ, List, sym, ◌∙◌, subst}
 use Rattle.std.proofs.lemmas.Option.{same_Some}
-use Rattle.tor_arena.specs.Evidence.{IsTriple, Closure, start, carry, IsConsistent}
-use Rattle.tor_arena.proofs.Closures.{turn, consistency_law}
+use Rattle.relationships.specs.Evidence.{IsTriple, Closure, start, carry, IsConsistent}
+use Rattle.relationships.proofs.Closures.{turn, consistency_law}
 use Rattle.rel_checker.specs.Neighbours.{HasNext, Leads, here, onward}
 use Rattle.rel_checker.specs.Turning.{TurnsTo, IsBuilt, IsProper, IsSettled}
 

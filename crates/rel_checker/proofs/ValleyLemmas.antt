@@ -3,12 +3,12 @@ use Rattle.std.proofs.Common.{◌≡◌, ◌↔◌, ℕ, zero, suc, ◌+◌, ◌
 use Rattle.std.proofs.lemmas.Bool.{false≢true, cases_Bool, cases_order, both_ways, false_from_ne_true}
 use Rattle.std.proofs.lemmas.List.{get_or-map, length-map}
 use Rattle.std.proofs.lemmas.Option.{none-some, same_Some, slice_get_within, slice_get_read}
-use Rattle.tor_arena.specs.declared.walk.Label.{Label}
-use Rattle.tor_arena.specs.Relationship.{Labelling, is_low, is_high, is_over, Slope, Down, slopes, ValleyFree}
-use Rattle.tor_arena.specs.Graph.{Edge, edge_of, is_same, labelling}
-use Rattle.tor_arena.proofs.Slopes.{slope-down, slope_cases, over_one_way}
-use Rattle.tor_arena.proofs.Deciding.{only_down, no_valley, no_valley_iff}
-use Rattle.tor_arena.specs.Checking.{Claim, claimed_labels}
+use Rattle.relationships.specs.declared.label.Label.{Label}
+use Rattle.relationships.specs.Relationship.{Labelling, is_low, is_high, is_over, Slope, Down, slopes, ValleyFree}
+use Rattle.relationships.specs.Graph.{Edge, edge_of, is_same, labelling}
+use Rattle.relationships.proofs.Slopes.{slope-down, slope_cases, over_one_way}
+use Rattle.relationships.proofs.Deciding.{only_down, no_valley, no_valley_iff}
+use Rattle.relationships.specs.Checking.{Claim, claimed_labels}
 use Rattle.result_text.specs.declared.file.EdgeLine.{EdgeLine}
 use Rattle.result_text.specs.declared.file.Fate.TheVariants.{Kept}
 use Rattle.result_text.specs.declared.file.PathLine.{PathLine}

@@ -1,6 +1,6 @@
 -- The ASes of a walk that refutes.
 use Rattle.std.specs.Prelude.{◌≢◌, ℕ, List}
-use Rattle.tor_arena.specs.Evidence.{HasPair, BeginsWith, EndsWith}
+use Rattle.relationships.specs.Evidence.{HasPair, BeginsWith, EndsWith}
 
 -- it begins with two different ASes x, y, holds y followed at once by x, and ends with x, y
 pub record ComesBack (ases : List ℕ) : Type 0 where

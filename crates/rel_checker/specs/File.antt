@@ -1,10 +1,10 @@
 -- What a result says, as lists that the definitions of relationships speak of.
 use Rattle.std.specs.Prelude.{ℕ, ◌+◌, ◌≤◌, ◌^◌, Bool, true, false, List, [], ◌∷◌, length, map, flat_map, take, Option, Some, None}
-use Rattle.tor_arena.specs.declared.walk.Walk.{Walk}
-use Rattle.tor_arena.specs.Relationship.{Labelling}
-use Rattle.tor_arena.specs.Graph.{Edge}
-use Rattle.tor_arena.specs.Evidence.{Numbered}
-use Rattle.tor_arena.specs.Checking.{Claim, kept_of, claimed_labels}
+use Rattle.relationships.specs.declared.walk.Walk.{Walk}
+use Rattle.relationships.specs.Relationship.{Labelling}
+use Rattle.relationships.specs.Graph.{Edge}
+use Rattle.relationships.specs.Evidence.{Numbered}
+use Rattle.relationships.specs.Checking.{Claim, kept_of, claimed_labels}
 use Rattle.result_text.specs.declared.file.Fate.{Fate}
 use Rattle.result_text.specs.declared.file.Fate.TheVariants.{Kept, Lost}
 use Rattle.result_text.specs.declared.file.EdgeMark.{EdgeMark}

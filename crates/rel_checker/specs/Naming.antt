@@ -1,6 +1,6 @@
 -- Which paths the links of a walk may name.
 use Rattle.std.specs.Prelude.{◌+◌, List, [], ◌∷◌, ◌++◌, length, Option, Some, None}
-use Rattle.tor_arena.specs.Evidence.{Numbered}
+use Rattle.relationships.specs.Evidence.{Numbered}
 use Rattle.result_text.specs.declared.file.PathLine.{PathLine}
 use Rattle.rel_checker.specs.File.{kept_among}
 

@@ -2,13 +2,13 @@
 -- something of some of its lines, one by one. That a path is valley-free is the notion of L. Gao, "On inferring autonomous system
 -- relationships in the Internet", 2001.
 use Rattle.std.specs.Prelude.{◌≡◌, ℕ, ◌+◌, ◌-◌, ◌<◌, ◌≤◌, ◌^◌, Bool, true, false, IsTrue, [], ◌∷◌, ◌++◌, length, max, take, Some, Contains, slice_get, sum_by, count_by, nat_lt, not, if◌then◌else◌}
-use Rattle.tor_arena.specs.declared.walk.Label.{Label}
-use Rattle.tor_arena.specs.declared.walk.Label.TheVariants as label
-use Rattle.tor_arena.specs.declared.walk.Walk.{Walk}
-use Rattle.tor_arena.specs.Relationship.{ValleyFree}
-use Rattle.tor_arena.specs.Graph.{edges, support}
-use Rattle.tor_arena.specs.Evidence.{paths_of, Refutes, Shows}
-use Rattle.tor_arena.specs.Checking.{Claim, IsBorneOut, IsProbe}
+use Rattle.relationships.specs.declared.label.Label.{Label}
+use Rattle.relationships.specs.declared.label.Label.TheVariants as label
+use Rattle.relationships.specs.declared.walk.Walk.{Walk}
+use Rattle.relationships.specs.Relationship.{ValleyFree}
+use Rattle.relationships.specs.Graph.{edges, support}
+use Rattle.relationships.specs.Evidence.{paths_of, Refutes, Shows}
+use Rattle.relationships.specs.Checking.{Claim, IsBorneOut, IsProbe}
 use Rattle.path_clean.specs.Paths.{is_cleaned}
 use Rattle.result_text.specs.declared.file.Fate.{Fate}
 use Rattle.result_text.specs.declared.file.Fate.TheVariants.{Kept, Lost}

@@ -1,11 +1,11 @@
 -- What open lines serve for.
 use Rattle.std.specs.Prelude.{◌≡◌, ◌⊎◌, ◌↔◌, ℕ, ◌<◌, ◌≤◌, Bool, true, false, IsTrue, IsFalse, List, length, take, Option, Some, None, All, Any, Contains, slice_get}
-use Rattle.tor_arena.specs.declared.walk.Label.{Label}
-use Rattle.tor_arena.specs.declared.walk.Label.TheVariants as label
-use Rattle.tor_arena.specs.Graph.{Edge}
+use Rattle.relationships.specs.declared.label.Label.{Label}
+use Rattle.relationships.specs.declared.label.Label.TheVariants as label
+use Rattle.relationships.specs.Graph.{Edge}
 use Rattle.tor_arena.specs.Limits.{most_places}
-use Rattle.tor_arena.specs.Evidence.{Closure, IsConsistent}
-use Rattle.tor_arena.specs.Checking.{Claim, OtherOrder}
+use Rattle.relationships.specs.Evidence.{Closure, IsConsistent}
+use Rattle.relationships.specs.Checking.{Claim, OtherOrder}
 use Rattle.result_text.specs.declared.file.EdgeMark.{EdgeMark}
 use Rattle.result_text.specs.declared.file.EdgeMark.TheVariants.{Forced, Loose}
 use Rattle.result_text.specs.declared.file.EdgeLine.{EdgeLine}

@@ -1,6 +1,6 @@
 -- How a walk that shows an order begins.
 use Rattle.std.specs.Prelude.{ℕ, ◌⊎◌, List, Contains}
-use Rattle.tor_arena.specs.Evidence.{BeginsWith}
+use Rattle.relationships.specs.Evidence.{BeginsWith}
 
 -- with "under over", or with an order that is shown already
 abbrev pub Starts : List ℕ → List (ℕ × ℕ) → ℕ → ℕ → Type 0

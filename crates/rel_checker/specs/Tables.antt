@@ -1,8 +1,8 @@
 -- The edges that a table holds, in the order in which they were added, and counts for them.
 use Rattle.std.specs.Prelude.{◌≡◌, ℕ, ◌+◌, ◌<◌, Bool, true, false, List, [], ◌∷◌, ◌++◌, length, map, filter, slice_index, slice_index_or, if◌then◌else◌}
 use Rattle.std.specs.List.{list_any}
-use Rattle.tor_arena.specs.Relationship.{Labelling}
-use Rattle.tor_arena.specs.Graph.{Edge, is_same, labelling}
+use Rattle.relationships.specs.Relationship.{Labelling}
+use Rattle.relationships.specs.Graph.{Edge, is_same, labelling}
 use Rattle.path_clean.specs.declared.table.Added.{Added}
 use Rattle.path_clean.specs.declared.table.Added.TheVariants.{Known, New}
 use Rattle.result_text.specs.declared.file.EdgeLine.{EdgeLine}

@@ -2,10 +2,10 @@
 -- carries edge j where, along a kept path, the order against i's label implies the order against j's label, and bars it where it
 -- forbids that order. So the closure of an order against a label is read off the edges alone.
 use Rattle.std.specs.Prelude.{◌≡◌, ◌⊎◌, ◌↔◌, ℕ, ◌+◌, ◌<◌, Bool, true, false, List, ◌++◌, [], ◌∷◌, length, map, Some, All, Contains, slice_get, slice_index}
-use Rattle.tor_arena.specs.declared.walk.Label.{Label}
-use Rattle.tor_arena.specs.declared.walk.Label.TheVariants as label
-use Rattle.tor_arena.specs.Graph.{Edge, edge_of}
-use Rattle.tor_arena.specs.Evidence.{TripleAt, IsTriple, paths_of}
+use Rattle.relationships.specs.declared.label.Label.{Label}
+use Rattle.relationships.specs.declared.label.Label.TheVariants as label
+use Rattle.relationships.specs.Graph.{Edge, edge_of}
+use Rattle.relationships.specs.Evidence.{TripleAt, IsTriple, paths_of}
 use Rattle.result_text.specs.declared.file.Fate.{Fate}
 use Rattle.result_text.specs.declared.file.Fate.TheVariants.{Kept, Lost}
 use Rattle.result_text.specs.declared.file.EdgeLine.{EdgeLine}

@@ -1,10 +1,10 @@
 -- What a file that meets all rules has shown.
 use Rattle.std.specs.Prelude.{◌≡◌, ◌≢◌, ◌↔◌, ℕ, ◌++◌, ◌∷◌, [], map, is_none, All, Contains, IsTrue, Some, slice_get}
-use Rattle.tor_arena.specs.declared.walk.Label.TheVariants as label
-use Rattle.tor_arena.specs.declared.walk.Walk.{Walk}
-use Rattle.tor_arena.specs.Relationship.{ValleyFree}
-use Rattle.tor_arena.specs.Evidence.{paths_of}
-use Rattle.tor_arena.specs.Selection.{IsServable, Keeps, IsForced}
+use Rattle.relationships.specs.declared.label.Label.TheVariants as label
+use Rattle.relationships.specs.declared.walk.Walk.{Walk}
+use Rattle.relationships.specs.Relationship.{ValleyFree}
+use Rattle.relationships.specs.Evidence.{paths_of}
+use Rattle.relationships.specs.Selection.{IsServable, Keeps, IsForced}
 use Rattle.result_text.specs.declared.file.Fate.TheVariants.{Lost}
 use Rattle.result_text.specs.declared.file.PathLine.{PathLine}
 use Rattle.result_text.specs.declared.file.EdgeLine.{EdgeLine}

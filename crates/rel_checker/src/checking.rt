@@ -1,5 +1,5 @@
 ghost use Rattle.std.specs.Prelude.{◌≡◌, Some, IfOk};
-ghost use Rattle.tor_arena.specs.Graph.{edges};
+ghost use Rattle.relationships.specs.Graph.{edges};
 ghost use Rattle.rel_checker.specs.File.{its_paths, HasFewLines};
 ghost use Rattle.rel_checker.specs.Steps.{MetUpTo, Settles};
 ghost use Rattle.rel_checker.specs.Valid.{Valid};

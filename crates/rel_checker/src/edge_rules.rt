@@ -1,5 +1,5 @@
 ghost use Rattle.std.specs.Prelude.{◌≡◌, ◌↔◌, fold, map, slice_get, IsTrue, IfOk, IfNone, OnOk};
-ghost use Rattle.tor_arena.specs.Graph.{edges_on, edges};
+ghost use Rattle.relationships.specs.Graph.{edges_on, edges};
 ghost use Rattle.rel_checker.specs.File.{its_paths, its_edges};
 ghost use Rattle.rel_checker.specs.Rules.{Rule, IsMet};
 ghost use Rattle.rel_checker.specs.Tables.{with_edge};

@@ -1,6 +1,6 @@
 ghost use Rattle.std.specs.Prelude.{◌≡◌, ◌↔◌, ◌<◌, ℕ, [], Contains, Some, IsTrue, length, slice_get, OnOk, OnErr, MatchOption};
 ghost use Rattle.std.specs.List.{IsDistinct};
-ghost use Rattle.tor_arena.specs.Graph.{edge_of, is_same};
+ghost use Rattle.relationships.specs.Graph.{edge_of, is_same};
 ghost use Rattle.rel_checker.specs.Tables.{with_edge, edge_at};
 
 use indexmap::IndexSet;
@@ -17,7 +17,7 @@ pub(crate) struct EdgeTable {
 impl Model for EdgeTable {
     ghost use Rattle.std.specs.Prelude.{List};
     ghost use Rattle.std.specs.List.{IsDistinct};
-    ghost use Rattle.tor_arena.specs.Graph.{Edge, is_same};
+    ghost use Rattle.relationships.specs.Graph.{Edge, is_same};
 
     ghost Value = { List Edge };
 

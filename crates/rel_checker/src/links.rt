@@ -1,10 +1,10 @@
 ghost use Rattle.std.specs.Prelude.{◌≡◌, ◌↔◌, ℕ, List, Some, IsTrue, Contains, option_map};
 ghost use Rattle.std.specs.Option.{option_copied};
-ghost use Rattle.tor_arena.specs.Evidence.{StandAt, TripleAt, Fits, IsWalk};
+ghost use Rattle.relationships.specs.Evidence.{StandAt, TripleAt, Fits, IsWalk};
 ghost use Rattle.rel_checker.specs.Naming.{nameable};
 
 use result_text::{Fate, PathLine};
-use tor_arena::{Link, Walk};
+use relationships::{Link, Walk};
 
 /// Whether x, y, z stand in the path one behind the other, y at this place from 1.
 fn stand_at(path: &[u32], at: usize, x: u32, y: u32, z: u32) -> bool

@@ -14,7 +14,8 @@ use crate::showing::list_shown;
 use crate::turning::Turns;
 use result_text::{EdgeLine, EdgeMark, ResultFile};
 use std::alloc::Global;
-use tor_arena::{Arena, EdgeId, Index, Label, NoMemory};
+use relationships::Label;
+use tor_arena::{Arena, EdgeId, Index, NoMemory};
 
 /// Whether the mark of an edge is borne out, by whether an order of it is shown, and whether an
 /// open line leads to its other order.

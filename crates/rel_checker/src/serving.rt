@@ -12,7 +12,8 @@ use crate::spreading::spread;
 use crate::turning::Turns;
 use result_text::{EdgeLine, EdgeMark, ProbeLine, ResultFile};
 use std::alloc::Global;
-use tor_arena::{Arena, EdgeId, Index, Label, List, NoMemory};
+use relationships::Label;
+use tor_arena::{Arena, EdgeId, Index, List, NoMemory};
 
 /// Whether an edge turns to an order.
 fn turns_to(line: &EdgeLine, over: u32, under: u32) -> bool

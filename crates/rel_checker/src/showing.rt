@@ -9,7 +9,8 @@ ghost use Rattle.rel_checker.specs.Serving.{IsShownBy};
 use crate::edge_table::EdgeTable;
 use result_text::{EdgeLine, ResultFile};
 use std::alloc::Global;
-use tor_arena::{Arena, EdgeId, Index, NoMemory, Walk};
+use relationships::Walk;
+use tor_arena::{Arena, EdgeId, Index, NoMemory};
 
 /// Notes that an order of two ASes is shown.
 fn show(

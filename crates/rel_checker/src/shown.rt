@@ -1,5 +1,5 @@
 ghost use Rattle.std.specs.Prelude.{◌≡◌, ◌↔◌, ℕ, [], ◌∷◌, None, IsTrue, IfSome, IfNone, MatchOption, Contains, ◌⊎◌};
-ghost use Rattle.tor_arena.specs.Evidence.{Shows};
+ghost use Rattle.relationships.specs.Evidence.{Shows};
 ghost use Rattle.rel_checker.specs.File.{last_two};
 ghost use Rattle.rel_checker.specs.File.{kept_among};
 ghost use Rattle.rel_checker.specs.Showing.{Starts};
@@ -7,7 +7,7 @@ ghost use Rattle.rel_checker.specs.Showing.{Starts};
 use crate::links::is_walk;
 use crate::orders::Orders;
 use result_text::PathLine;
-use tor_arena::Walk;
+use relationships::Walk;
 
 /// The order that a walk shows: its last two ASes. It takes no memory.
 pub(crate) fn last_two(ases: &[u32]) -> Option<(u32, u32)>

@@ -1,7 +1,7 @@
 ghost use Rattle.std.specs.Prelude.{◌≡◌, ◌≤◌, ◌^◌, ℕ, [], ◌∷◌, length, count_by, slice_index, IsTrue, IfOk, if◌then◌else◌};
-ghost use Rattle.tor_arena.specs.Evidence.{paths_of};
-ghost use Rattle.tor_arena.specs.Graph.{edge_of, is_same, edges_on, support};
-ghost use Rattle.path_clean.specs.Paths.{is_distinct};
+ghost use Rattle.relationships.specs.Evidence.{paths_of};
+ghost use Rattle.relationships.specs.Graph.{edge_of, is_same, edges_on, support};
+ghost use Rattle.tor_arena.specs.Distinct.{is_distinct};
 ghost use Rattle.rel_checker.specs.File.{its_kept};
 ghost use Rattle.rel_checker.specs.Rules.{Rule, IsMet};
 ghost use Rattle.rel_checker.specs.Tables.{HaveRisen, AreCounts, kept_in};

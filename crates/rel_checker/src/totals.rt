@@ -3,7 +3,7 @@ ghost use Rattle.rel_checker.specs.File.{is_forced};
 ghost use Rattle.rel_checker.specs.Rules.{is_kept, is_peer, right_totals};
 
 use result_text::{EdgeLine, EdgeMark, Fate, PathLine, ResultFile, Totals};
-use tor_arena::Label;
+use relationships::Label;
 
 /// What the last line has to say: the numbers of kept lines, lost lines, edge lines, those marked forced, and those with label peer.
 pub(crate) fn right_totals(file: &ResultFile) -> Totals

@@ -3,8 +3,8 @@
 
 ghost use Rattle.std.specs.Prelude.{◌≡◌, ◌≢◌, ◌+◌, ◌<◌, ◌≤◌, ℕ, ◌∷◌, ◌++◌, [], List as Items, length, All, Contains, OnOk, IfOk};
 ghost use Rattle.tor_arena.specs.Limits.{most_places};
-ghost use Rattle.tor_arena.specs.Graph.{edge_of};
-ghost use Rattle.tor_arena.specs.Relationship.{AllDistinct};
+ghost use Rattle.relationships.specs.Graph.{edge_of};
+ghost use Rattle.tor_arena.specs.Distinct.{AllDistinct};
 ghost use Rattle.rel_checker.specs.Turning.{turned_orders, edges_of, IsBuiltFor, IsStep, with_carried, with_barred, with_kept, kept_lines, IsListed, IsProper};
 
 use crate::edge_table::EdgeTable;
@@ -12,7 +12,8 @@ use crate::neighbours::Neighbours;
 use crate::thinning::thin_out;
 use result_text::{EdgeLine, Fate, PathLine, ResultFile};
 use std::alloc::Global;
-use tor_arena::{EdgeId, Index, Label, NoMemory};
+use relationships::Label;
+use tor_arena::{EdgeId, Index, NoMemory};
 
 /// For each edge the edges that turn with it, and those that can't turn where it does.
 #[derive(Drop)]

@@ -1,5 +1,5 @@
 ghost use Rattle.std.specs.Prelude.{◌↔◌, IsTrue};
-ghost use Rattle.tor_arena.specs.Evidence.{HasPair, EndsWith};
+ghost use Rattle.relationships.specs.Evidence.{HasPair, EndsWith};
 ghost use Rattle.rel_checker.specs.ComingBack.{ComesBack};
 
 /// Whether x stands somewhere with y at once behind it.

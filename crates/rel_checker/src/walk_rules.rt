@@ -1,5 +1,5 @@
 ghost use Rattle.std.specs.Prelude.{◌≡◌, ◌↔◌, IsTrue, Some, IfOk};
-ghost use Rattle.tor_arena.specs.Evidence.{Refutes};
+ghost use Rattle.relationships.specs.Evidence.{Refutes};
 ghost use Rattle.result_text.specs.declared.file.Fate.TheVariants.{Lost};
 ghost use Rattle.rel_checker.specs.Naming.{nameable};
 ghost use Rattle.rel_checker.specs.Rules.{LostRefuted, OrdersShown};
@@ -11,7 +11,8 @@ use crate::shown::shown_by;
 use crate::turns::comes_back;
 use result_text::{Fate, PathLine, ResultFile};
 use std::alloc::Global;
-use tor_arena::{NoMemory, Walk};
+use relationships::Walk;
+use tor_arena::NoMemory;
 
 /// Whether the walk refutes over the paths of the kept lines before this line and its own.
 fn refutes(before: &[PathLine], line: &PathLine, walk: &Walk) -> bool

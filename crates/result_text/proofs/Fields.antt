@@ -6,7 +6,7 @@ use Rattle.std.specs.List.{AllByRecursion}
 use Rattle.std.proofs.lemmas.Bool.{ltb-true, leb-true, lt-ltb, le-leb, eqb-true, eqb-false, eq-eqb, ne_eqb, and_parts, and_from}
 use Rattle.std.proofs.lemmas.Fmt.{decimal_digit, decimal_step, decimal_by_steps}
 use Rattle.std.proofs.lemmas.List.{length-append}
-use Rattle.tor_arena.specs.declared.walk.Link.{Link}
+use Rattle.relationships.specs.declared.walk.Link.{Link}
 use Rattle.result_text.specs.Ranges.{IsU32, IsU64, LinkFits}
 use Rattle.result_text.specs.Text.{numbers, link, links, spaced, others}
 use Rattle.result_text.specs.Reading.{◌>>=◌, word_at, on_word, is_digit, with_digit, digit_at, digits_at, u64_at, u32_at, below, before, both, mapped, others_at, with_front, field_ends, list_at, link_from, link_at}

@@ -3,7 +3,7 @@
 use Rattle.std.specs.Prelude.{◌≡◌, ℕ, ◌+◌, ◌≤◌, length, take, Some, slice_get}
 use Rattle.path_clean.specs.declared.cleaned.Cause.{Cause}
 use Rattle.path_clean.specs.Counts.{count_of}
-use Rattle.tor_arena.specs.declared.walk.Walk.{Walk}
+use Rattle.relationships.specs.declared.walk.Walk.{Walk}
 use Rattle.result_text.specs.declared.file.PathLine.{PathLine}
 use Rattle.result_text.specs.declared.file.EdgeLine.{EdgeLine}
 use Rattle.result_text.specs.declared.file.ProbeLine.{ProbeLine}

@@ -1,8 +1,8 @@
 -- The values that the types of a result can hold: every result of the code is in range.
 use Rattle.std.specs.Prelude.{ℕ, ◌<◌, ◌^◌, List}
 use Rattle.std.specs.List.{AllByRecursion}
-use Rattle.tor_arena.specs.declared.walk.Link.{Link}
-use Rattle.tor_arena.specs.declared.walk.Walk.{Walk}
+use Rattle.relationships.specs.declared.walk.Link.{Link}
+use Rattle.relationships.specs.declared.walk.Walk.{Walk}
 use Rattle.path_clean.specs.Counts.{Counts}
 use Rattle.result_text.specs.declared.file.Fate.{Fate}
 use Rattle.result_text.specs.declared.file.Fate.TheVariants as fate

@@ -1,9 +1,9 @@
 -- Reading from left to right: a value, and the bytes behind it.
 use Rattle.std.specs.Prelude.{◌≡◌, ℕ, zero, suc, ◌+◌, ◌-◌, ◌*◌, ◌^◌, Bool, true, ◌&&◌, ◌||◌, List, [], ◌∷◌, ◌++◌, length, Option, Some, None, Result, Ok, Err, codes, nat_lt, nat_le, ◌==◌, if◌then◌else◌}
-use Rattle.tor_arena.specs.declared.walk.Label.{Label}
-use Rattle.tor_arena.specs.declared.walk.Label.TheVariants as label
-use Rattle.tor_arena.specs.declared.walk.Link.{Link}
-use Rattle.tor_arena.specs.declared.walk.Walk.{Walk}
+use Rattle.relationships.specs.declared.label.Label.{Label}
+use Rattle.relationships.specs.declared.label.Label.TheVariants as label
+use Rattle.relationships.specs.declared.walk.Link.{Link}
+use Rattle.relationships.specs.declared.walk.Walk.{Walk}
 use Rattle.path_clean.specs.declared.cleaned.Sets.{Sets}
 use Rattle.path_clean.specs.declared.cleaned.Sets.TheVariants as sets
 use Rattle.path_clean.specs.declared.cleaned.Cause.{Cause}

@@ -7,7 +7,8 @@ use crate::file::{EdgeLine, PathLine, ProbeLine, ResultFile, Totals};
 use crate::line::Line;
 use path_clean::{Asides, Cause, Sets};
 use std::alloc::Global;
-use tor_arena::{List, Walk};
+use relationships::Walk;
+use tor_arena::List;
 
 /// What may come next in a text.
 #[derive(Clone, Copy, Debug, PartialEq, Eq)]

@@ -1,5 +1,6 @@
 use path_clean::{Asides, Sets};
-use tor_arena::{Label, List, Walk};
+use relationships::{Label, Walk};
+use tor_arena::List;
 
 /// What became of a path.
 #[derive(Debug, Drop)]

@@ -1,6 +1,6 @@
 use crate::file::{EdgeLine, PathLine, ProbeLine, Totals};
 use path_clean::{Cause, Sets};
-use tor_arena::Walk;
+use relationships::Walk;
 
 /// One line of a text, by its kind.
 #[derive(Debug, Drop)]

@@ -9,7 +9,7 @@ use crate::line::Line;
 use crate::reading::{after, links_before, numbers_before, u32_before, u64_before};
 use path_clean::{Cause, Sets};
 use std::alloc::Global;
-use tor_arena::{Label, Walk};
+use relationships::{Label, Walk};
 
 // How sets were treated, and the line feed.
 #[tactic(auto, unfolding(crate::specs::Reading::sets_at))]

@@ -6,7 +6,8 @@ ghost use Rattle.std.specs.List.{AllByRecursion};
 ghost use Rattle.result_text.specs.Ranges.{AreU32, LinkFits};
 ghost use Rattle.result_text.specs.Text.{numbers, link, links, others};
 
-use tor_arena::{Link, List, NoMemory};
+use relationships::Link;
+use tor_arena::{List, NoMemory};
 
 // Writes a number in decimal at the end of the buffer, and answers where it begins.
 fn write_digits(n: u64, digits: &mut [u8; 20]) -> usize

@@ -10,7 +10,8 @@ use crate::file::{EdgeLine, EdgeMark, Fate, PathLine, ProbeLine, ResultFile, Tot
 use crate::numbers::{put_links, put_number, put_numbers};
 use path_clean::{Asides, Cause, Sets};
 use std::alloc::Global;
-use tor_arena::{Label, List, NoMemory, Walk};
+use relationships::{Label, Walk};
+use tor_arena::{List, NoMemory};
 
 // Each function puts something at the end, lines with their line feed.
 fn put_bar(out: &mut List<u8>) -> Result<(), NoMemory>

@@ -7,7 +7,8 @@ ghost use Rattle.result_text.specs.Reading.{Gives, word_at, digit_at, digits_at,
 
 use crate::error::LineError;
 use std::alloc::Global;
-use tor_arena::{Link, List};
+use relationships::Link;
+use tor_arena::List;
 
 /// The bytes behind a word, if they begin with it.
 pub fn after<'a>(word: &[u8], bytes: &'a [u8]) -> Option<&'a [u8]>

@@ -5,7 +5,8 @@ use crate::{
 use path_clean::{Asides, Sets};
 use std::alloc::Global;
 use std::test::Fail;
-use tor_arena::{Label, Link, List, NoMemory, Walk};
+use relationships::{Label, Link, Walk};
+use tor_arena::{List, NoMemory};
 
 /// A text in two pieces, and its bad line, if it has one.
 struct Case {

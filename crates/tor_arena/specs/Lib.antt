@@ -1,10 +1,5 @@
-pub mod Checking
 pub mod Contents
-pub mod Evidence
-pub mod Graph
-pub mod Laws
+pub mod Distinct
 pub mod Lent
 pub mod Limits
-pub mod Relationship
 pub mod RowLists
-pub mod Selection

@@ -3,8 +3,7 @@ ghost use Rattle.std.proofs.Math.Dec.{lit≤};
 
 use crate::arena::{Arena, PushRefused};
 use crate::ids::{ArcId, AsId, EdgeId, NodeId, PathId, TripleId};
-use crate::index::Index;
-use crate::laws::same_index;
+use crate::index::{Index, same_index};
 use crate::list::List;
 use crate::rows::{RowRefused, Rows};
 use std::marker::Model;

@@ -1,7 +1,7 @@
 -- The arcs of triples: two for each, in order.
 use Rattle.std.proofs.Common.{◌≡◌, ℕ, zero, suc, ◌*◌, ◌/◌, ◌<◌, ◌⊎◌, inl, inr, List, [], ◌∷◌, Some, length, take, flat_map, refl, sym, ap, ◌∙◌, subst, arith}
 use Rattle.std.specs.Prelude.{slice_get}
-use Rattle.tor_arena.specs.Graph.{Edge}
+use Rattle.relationships.specs.Graph.{Edge}
 use Rattle.tor_digraph.specs.Walks.{HasArc}
 use Rattle.tor_digraph.proofs.Gets.{slice_get-some}
 use Rattle.tor_clauses.specs.declared.triple.Triple.{Triple}

@@ -1,10 +1,10 @@
 -- The arcs of clauses are exactly those of the triples of their paths.
 use Rattle.std.proofs.Common.{◌≡◌, ℕ, ◌+◌, List, ◌∷◌, [], Some, flat_map, refl, sym, ap, subst, All}
 use Rattle.std.specs.Prelude.{slice_get}
-use Rattle.tor_arena.specs.Relationship.{AllDistinct}
-use Rattle.tor_arena.specs.Graph.{edges}
-use Rattle.tor_arena.specs.Evidence.{IsTriple, TripleAt, paths_of}
-use Rattle.tor_arena.proofs.Walks.{triple_of_fit}
+use Rattle.tor_arena.specs.Distinct.{AllDistinct}
+use Rattle.relationships.specs.Graph.{edges}
+use Rattle.relationships.specs.Evidence.{IsTriple, TripleAt, paths_of}
+use Rattle.relationships.proofs.Walks.{triple_of_fit}
 use Rattle.tor_digraph.specs.Walks.{HasArc}
 use Rattle.as_graph.specs.Paths.{path_at, paths_at}
 use Rattle.tor_clauses.specs.Literals.{node_of, over, Says}

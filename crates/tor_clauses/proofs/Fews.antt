@@ -4,7 +4,7 @@ use Rattle.std.specs.Prelude.{slice_get, sum_by, ◌^◌}
 use Rattle.std.proofs.lemmas.Bool.{cases_order, false≢true}
 use Rattle.std.proofs.lemmas.List.{take-take, get_or-take, length-take-le}
 use Rattle.std.proofs.lemmas.List.Sums.{sum_by_more_le}
-use Rattle.tor_arena.specs.Graph.{Edge, edges}
+use Rattle.relationships.specs.Graph.{Edge, edges}
 use Rattle.tor_digraph.proofs.Few.{few}
 use Rattle.as_graph.specs.Paths.{path_at}
 use Rattle.tor_clauses.specs.declared.triple.Triple.{Triple}

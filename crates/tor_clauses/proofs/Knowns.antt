@@ -4,8 +4,8 @@ use Rattle.std.specs.List.{list_any}
 use Rattle.std.proofs.lemmas.Bool.{cases_Bool, both_ways, false_from_ne_true}
 use Rattle.std.proofs.lemmas.List.{take-map, map_push, length_push, length-take-le}
 use Rattle.std.proofs.lemmas.List.Elements.{All-take, All-push}
-use Rattle.tor_arena.specs.Graph.{Edge, is_same}
-use Rattle.tor_arena.proofs.Edges.{same_edge}
+use Rattle.relationships.specs.Graph.{Edge, is_same}
+use Rattle.relationships.proofs.Edges.{same_edge}
 use Rattle.tor_clauses.specs.declared.triple.Triple.{Triple}
 use Rattle.tor_clauses.specs.Triples.{arc_of, partner_of, is_same_triple}
 use Rattle.tor_clauses.specs.Tables.{HasNodes, IsKnown}

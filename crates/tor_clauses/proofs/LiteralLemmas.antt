@@ -1,8 +1,8 @@
 -- Literals, their nodes and negations.
 use Rattle.std.proofs.Common.{◌≡◌, ℕ, inl, inr, ◌+◌, ◌*◌, ◌/◌, ◌%◌, ◌<◌, refl, sym, ap, ap₂, ◌∙◌, arith}
 use Rattle.std.proofs.lemmas.Bool.{cases_eq}
-use Rattle.tor_arena.specs.declared.walk.End.{End}
-use Rattle.tor_arena.specs.Relationship.{opposite}
+use Rattle.relationships.specs.declared.label.End.{End}
+use Rattle.relationships.specs.Relationship.{opposite}
 use Rattle.tor_clauses.specs.declared.lit.Lit.{Lit}
 use Rattle.tor_clauses.specs.Literals.{negated, side, end_of, node_of, lit_of, opposite_node}
 

@@ -1,11 +1,12 @@
 -- The paths are served exactly if no arc leads from a literal that holds to one that does not.
 use Rattle.std.proofs.Common.{◌≡◌, ◌↔◌, ℕ, ◌<◌, List, [], length, All}
 use Rattle.std.proofs.lemmas.List.Elements.{All-map, All-weaker}
-use Rattle.tor_arena.specs.declared.walk.End.{End}
-use Rattle.tor_arena.specs.Relationship.{Orientation, AllDistinct}
-use Rattle.tor_arena.specs.Graph.{Edge, edges, orientation}
-use Rattle.tor_arena.specs.Laws.{CarriesOn}
-use Rattle.tor_arena.proofs.Serving.{serves_carries, carries_serves}
+use Rattle.relationships.specs.declared.label.End.{End}
+use Rattle.tor_arena.specs.Distinct.{AllDistinct}
+use Rattle.relationships.specs.Relationship.{Orientation}
+use Rattle.relationships.specs.Graph.{Edge, edges, orientation}
+use Rattle.relationships.specs.Laws.{CarriesOn}
+use Rattle.relationships.proofs.Serving.{serves_carries, carries_serves}
 use Rattle.as_graph.specs.Paths.{path_at, paths_at}
 use Rattle.tor_clauses.specs.Literals.{lit_of}
 use Rattle.tor_clauses.specs.Formulas.{Formula, FitsGraph, IsServed, IsModel}

@@ -3,11 +3,11 @@ use Rattle.std.proofs.Common.{◌≡◌, ◌≢◌, ℕ, zero, suc, ◌+◌, ◌
 use Rattle.std.specs.Prelude.{slice_get}
 use Rattle.std.specs.List.{position_or_len}
 use Rattle.std.proofs.lemmas.Bool.{cases_Bool, cases_order, false≢true}
-use Rattle.tor_arena.specs.declared.walk.End.{End}
-use Rattle.tor_arena.specs.Relationship.{opposite, label_of, labels_of, is_low, is_high, is_over}
-use Rattle.tor_arena.specs.Graph.{Edge, edge_of, is_same, edges_from, edges_on, distinct, edges, orientation}
-use Rattle.tor_arena.proofs.Edges.{same_edge}
-use Rattle.tor_arena.proofs.Slopes.{over_parts, over-low, over-high}
+use Rattle.relationships.specs.declared.label.End.{End}
+use Rattle.relationships.specs.Relationship.{opposite, label_of, labels_of, is_low, is_high, is_over}
+use Rattle.relationships.specs.Graph.{Edge, edge_of, is_same, edges_from, edges_on, distinct, edges, orientation}
+use Rattle.relationships.proofs.Edges.{same_edge}
+use Rattle.relationships.proofs.Slopes.{over_parts, over-low, over-high}
 use Rattle.tor_digraph.proofs.Gets.{slice_get-lt, slice_get-some}
 use Rattle.as_graph.specs.Steps.{end_left}
 use Rattle.tor_clauses.specs.declared.lit.Lit.{Lit}

@@ -2,8 +2,8 @@
 use Rattle.std.proofs.Common.{◌≡◌, ℕ, Some, ◌⊎◌, inl, inr, true, List, [], ◌∷◌, ◌++◌, filter, refl, sym, ap, ap₂, ◌∙◌, subst, ◌==◌, eq-eqb, not}
 use Rattle.std.proofs.lemmas.Bool.{or_cases, or_left, or_right, and_from}
 use Rattle.std.specs.Prelude.{slice_get}
-use Rattle.tor_arena.specs.Graph.{Edge, is_same}
-use Rattle.tor_arena.proofs.Edges.{same_edge}
+use Rattle.relationships.specs.Graph.{Edge, is_same}
+use Rattle.relationships.proofs.Edges.{same_edge}
 use Rattle.tor_clauses.specs.declared.triple.Triple.{Triple}
 use Rattle.tor_clauses.specs.Literals.{opposite_node}
 use Rattle.tor_clauses.specs.Triples.{arc_of, partner_of, arcs_of, is_same_triple, distinct_triples}

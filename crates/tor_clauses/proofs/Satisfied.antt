@@ -3,9 +3,10 @@ use Rattle.std.proofs.Common.{◌≡◌, ℕ, ◌/◌, ◌<◌, ◌⊎◌, inl, 
 use Rattle.std.specs.Prelude.{slice_get}
 use Rattle.std.proofs.lemmas.List.Elements.{All-from_recursion}
 use Rattle.std.specs.List.{AllByRecursion}
-use Rattle.tor_arena.specs.declared.walk.End.{End}
-use Rattle.tor_arena.specs.Relationship.{opposite, AllDistinct}
-use Rattle.tor_arena.specs.Graph.{Edge, edges}
+use Rattle.relationships.specs.declared.label.End.{End}
+use Rattle.tor_arena.specs.Distinct.{AllDistinct}
+use Rattle.relationships.specs.Relationship.{opposite}
+use Rattle.relationships.specs.Graph.{Edge, edges}
 use Rattle.tor_digraph.proofs.Gets.{slice_get-some}
 use Rattle.tor_clauses.specs.declared.lit.Lit.{Lit}
 use Rattle.tor_clauses.specs.declared.triple.Triple.{Triple}

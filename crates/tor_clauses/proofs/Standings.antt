@@ -3,11 +3,11 @@ use Rattle.std.proofs.Common.{◌≡◌, ℕ, ◌+◌, ◌/◌, ◌<◌, inl, in
 use Rattle.std.specs.Prelude.{slice_get}
 use Rattle.std.proofs.lemmas.List.{length_push}
 use Rattle.std.proofs.lemmas.List.Elements.{Contains-get_or}
-use Rattle.tor_arena.specs.declared.walk.Link.{Link}
-use Rattle.tor_arena.specs.Relationship.{AllDistinct}
-use Rattle.tor_arena.specs.Graph.{Edge, edge_of, edges}
-use Rattle.tor_arena.specs.Evidence.{StandAt, TripleAt, Fits}
-use Rattle.tor_arena.proofs.Walks.{apart_at, apart_next}
+use Rattle.relationships.specs.declared.walk.Link.{Link}
+use Rattle.tor_arena.specs.Distinct.{AllDistinct}
+use Rattle.relationships.specs.Graph.{Edge, edge_of, edges}
+use Rattle.relationships.specs.Evidence.{StandAt, TripleAt, Fits}
+use Rattle.relationships.proofs.Walks.{apart_at, apart_next}
 use Rattle.tor_digraph.specs.Walks.{IsArc, HasArc}
 use Rattle.tor_digraph.proofs.Gets.{slice_get-lt}
 use Rattle.as_graph.specs.Paths.{path_at}

@@ -1,6 +1,6 @@
 -- The triples and arcs of paths that were worked by hand.
 use Rattle.std.proofs.Common.{◌≡◌, ℕ, List, [], ◌∷◌, length, map, flat_map, refl}
-use Rattle.tor_arena.specs.declared.walk.End.{End}
+use Rattle.relationships.specs.declared.label.End.{End}
 use Rattle.tor_clauses.specs.declared.lit.Lit.{Lit}
 use Rattle.tor_clauses.specs.declared.triple.Triple.{Triple}
 use Rattle.tor_clauses.specs.Literals.{opposite_node}

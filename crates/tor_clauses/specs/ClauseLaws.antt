@@ -1,9 +1,9 @@
 -- The laws of clauses that fit a graph, each proved as the contract of a function in src/laws.rt.
 use Rattle.std.specs.Prelude.{◌≡◌, ◌↔◌, ◌⊎◌, ℕ, List, Some, All, length, take, slice_get, ◌≤◌}
-use Rattle.tor_arena.specs.declared.walk.End.{End}
-use Rattle.tor_arena.specs.Relationship.{AllDistinct}
-use Rattle.tor_arena.specs.Graph.{edges}
-use Rattle.tor_arena.specs.Evidence.{IsTriple}
+use Rattle.relationships.specs.declared.label.End.{End}
+use Rattle.tor_arena.specs.Distinct.{AllDistinct}
+use Rattle.relationships.specs.Graph.{edges}
+use Rattle.relationships.specs.Evidence.{IsTriple}
 use Rattle.tor_digraph.specs.Walks.{HasArc}
 use Rattle.as_graph.specs.Paths.{paths_at}
 use Rattle.tor_clauses.specs.declared.triple.Triple.{Triple}

@@ -2,11 +2,12 @@
 -- (2003).
 use Rattle.std.specs.Prelude.{◌≡◌, ℕ, ◌+◌, ◌*◌, ◌<◌, ◌≤◌, ◌==◌, List, All, length, map, take, flat_map, count_by}
 use Rattle.std.specs.List.{list_any}
-use Rattle.tor_arena.specs.declared.walk.End.{End}
-use Rattle.tor_arena.specs.declared.walk.Link.{Link}
-use Rattle.tor_arena.specs.Relationship.{AllDistinct, Serves}
-use Rattle.tor_arena.specs.Graph.{edges, orientation}
-use Rattle.tor_arena.specs.Evidence.{Numbered, Fits}
+use Rattle.relationships.specs.declared.label.End.{End}
+use Rattle.relationships.specs.declared.walk.Link.{Link}
+use Rattle.tor_arena.specs.Distinct.{AllDistinct}
+use Rattle.relationships.specs.Relationship.{Serves}
+use Rattle.relationships.specs.Graph.{edges, orientation}
+use Rattle.relationships.specs.Evidence.{Numbered, Fits}
 use Rattle.tor_digraph.specs.Walks.{Net, IsArc, first_part}
 use Rattle.as_graph.specs.Paths.{path_at, paths_at}
 use Rattle.tor_clauses.specs.declared.triple.Triple.{Triple}

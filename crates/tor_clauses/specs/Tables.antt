@@ -1,7 +1,7 @@
 -- What the fields of clauses hold, and what one more triple makes of them.
 use Rattle.std.specs.Prelude.{◌≡◌, ℕ, ◌<◌, ◌≤◌, ◌^◌, List, [], ◌∷◌, ◌++◌, All, length, map, take, flat_map, if◌then◌else◌}
 use Rattle.std.specs.List.{list_any}
-use Rattle.tor_arena.specs.declared.walk.End.{End}
+use Rattle.relationships.specs.declared.label.End.{End}
 use Rattle.tor_clauses.specs.declared.triple.Triple.{Triple}
 use Rattle.tor_clauses.specs.Literals.{Holds}
 use Rattle.tor_clauses.specs.Triples.{arc_of, arcs_of, is_same_triple, triples_on}

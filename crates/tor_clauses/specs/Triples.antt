@@ -1,7 +1,7 @@
 -- The triples of paths, each three consecutive ASes x, y, z, where "x over y" implies "y over z": the two-literal
 -- clauses of Di Battista, Patrignani and Pizzonia (2003).
 use Rattle.std.specs.Prelude.{ℕ, ◌+◌, Bool, not, ◌||◌, List, [], ◌∷◌, filter, flat_map}
-use Rattle.tor_arena.specs.Graph.{Edge, is_same, edges}
+use Rattle.relationships.specs.Graph.{Edge, is_same, edges}
 use Rattle.as_graph.specs.Paths.{path_at}
 use Rattle.tor_clauses.specs.declared.triple.Triple.{Triple}
 use Rattle.tor_clauses.specs.Literals.{negated, node_of, over}

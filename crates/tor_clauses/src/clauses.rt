@@ -1,6 +1,6 @@
 ghost use Rattle.std.specs.Prelude.{◌≡◌, ℕ, ◌+◌, ◌*◌, ◌/◌, ◌<◌, ◌≤◌, ◌^◌, ◌↔◌, ◌⊎◌, ◌∷◌, ◌++◌, [], List, All, length, flat_map, slice_get, IsTrue, IfOk, OnOk, OnErr};
-ghost use Rattle.tor_arena.specs.Relationship.{AllDistinct};
-ghost use Rattle.tor_arena.specs.Graph.{edges};
+ghost use Rattle.tor_arena.specs.Distinct.{AllDistinct};
+ghost use Rattle.relationships.specs.Graph.{edges};
 ghost use Rattle.tor_digraph.specs.Walks.{IsArc, HasArc};
 ghost use Rattle.tor_clauses.specs.Literals.{opposite_node, node_of};
 ghost use Rattle.tor_clauses.specs.Triples.{arc_of, partner_of, arcs_of, triples_on};
@@ -13,7 +13,8 @@ use crate::triple_table::TripleTable;
 use as_graph::{AsGraph, Orientation};
 use std::alloc::Global;
 use std::marker::Model;
-use tor_arena::{ArcId, Index, Link, NoMemory, NodeId, PathId};
+use relationships::Link;
+use tor_arena::{ArcId, Index, NoMemory, NodeId, PathId};
 use tor_digraph::{Digraph, GraphMark, GraphRefused};
 
 /// How many paths and triples there are, for a later `undo_to`.

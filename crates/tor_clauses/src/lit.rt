@@ -2,7 +2,8 @@ ghost use Rattle.std.specs.Prelude.{◌≡◌, ◌<◌, ◌^◌};
 ghost use Rattle.tor_clauses.specs.Literals.{negated, node_of, lit_of};
 
 use as_graph::Step;
-use tor_arena::{EdgeId, End, Index, NodeId};
+use relationships::End;
+use tor_arena::{EdgeId, Index, NodeId};
 
 /// A literal: one end of an edge is over the other, which is to say its provider.
 #[derive(Clone, Copy, Debug, PartialEq, Eq)]

@@ -5,7 +5,8 @@ use crate::{ClauseMark, Clauses, Lit, Triple};
 use as_graph::{AsGraph, Orientation, build};
 use std::alloc::Global;
 use std::test::Fail;
-use tor_arena::{ArcId, EdgeId, End, Index, Link, PathId, Rows};
+use relationships::{End, Link};
+use tor_arena::{ArcId, EdgeId, Index, PathId, Rows};
 
 fn one_path(alloc: Global) -> Result<AsGraph, Fail>
     ensures { IfOk result (λ graph. 0 < length graph) }

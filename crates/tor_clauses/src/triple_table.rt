@@ -9,7 +9,8 @@ use crate::triple::Triple;
 use indexmap::IndexSet;
 use std::alloc::Global;
 use std::marker::Model;
-use tor_arena::{Arena, End, Index, NoMemory, NodeId, TripleId};
+use relationships::End;
+use tor_arena::{Arena, Index, NoMemory, NodeId, TripleId};
 
 /// Triples in the order in which they were added, to be found by their literals.
 #[derive(Drop)]

@@ -1,7 +1,7 @@
 -- Whether one order leads to another along the triples of the paths, decided arc by arc.
 use Rattle.std.proofs.Common.{◌≡◌, ℕ, zero, suc, ◌+◌, ◌<◌, ◌⊎◌, inl, inr, List, [], ◌∷◌, ◌++◌, length, get_or, refl, sym, ap, subst, arith, ◌==◌}
 use Rattle.std.proofs.lemmas.Bool.{cases_Bool, eqb-true, eq-eqb}
-use Rattle.tor_arena.specs.Evidence.{StandAt, TripleAt, IsTriple, Closure, start, carry}
+use Rattle.relationships.specs.Evidence.{StandAt, TripleAt, IsTriple, Closure, start, carry}
 use Rattle.tor_solve.specs.Laws.{DecidedLaw}
 
 -- the arc from "x over y" to "y over z"

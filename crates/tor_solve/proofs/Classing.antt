@@ -2,12 +2,12 @@
 use Rattle.std.proofs.Common.{◌≡◌, ℕ, zero, suc, ◌+◌, ◌*◌, ◌/◌, ◌%◌, ◌<◌, ◌⊎◌, inl, inr, List, [], ◌∷◌, ◌++◌, Some, length, refl, sym, ap, ◌∙◌, subst, arith}
 use Rattle.std.specs.Prelude.{slice_get}
 use Rattle.std.proofs.lemmas.Bool.{cases_lt}
-use Rattle.tor_arena.specs.declared.walk.End.{End}
-use Rattle.tor_arena.specs.declared.walk.Walk.{Walk}
-use Rattle.tor_arena.specs.Relationship.{opposite, Serves}
-use Rattle.tor_arena.specs.Evidence.{paths_of, Refutes}
-use Rattle.tor_arena.specs.Selection.{IsServable}
-use Rattle.tor_arena.proofs.Walks.{refuting_law}
+use Rattle.relationships.specs.declared.label.End.{End}
+use Rattle.relationships.specs.declared.walk.Walk.{Walk}
+use Rattle.relationships.specs.Relationship.{opposite, Serves}
+use Rattle.relationships.specs.Evidence.{paths_of, Refutes}
+use Rattle.relationships.specs.Selection.{IsServable}
+use Rattle.relationships.proofs.Walks.{refuting_law}
 use Rattle.tor_digraph.specs.Walks.{HasArc, IsInside}
 use Rattle.tor_digraph.proofs.Gets.{slice_get-push_cases, slice_get-some}
 use Rattle.tor_components.specs.Classes.{Classes, IsComponents}

@@ -5,12 +5,12 @@ use Rattle.std.proofs.lemmas.Bool.{cases_lt}
 use Rattle.std.proofs.lemmas.Option.{some_pair_parts}
 use Rattle.tor_digraph.specs.Walks.{IsArc}
 use Rattle.tor_digraph.proofs.Gets.{slice_get-lt, slice_get-some}
-use Rattle.tor_arena.specs.declared.walk.End.{End}
-use Rattle.tor_arena.specs.declared.walk.Link.{Link}
-use Rattle.tor_arena.specs.declared.walk.Walk.{Walk}
-use Rattle.tor_arena.specs.Graph.{Edge, edges}
-use Rattle.tor_arena.specs.Evidence.{Numbered, Fits, IsLinked, HasPair, Refutes}
-use Rattle.tor_arena.proofs.Ranks.{joined}
+use Rattle.relationships.specs.declared.label.End.{End}
+use Rattle.relationships.specs.declared.walk.Link.{Link}
+use Rattle.relationships.specs.declared.walk.Walk.{Walk}
+use Rattle.relationships.specs.Graph.{Edge, edges}
+use Rattle.relationships.specs.Evidence.{Numbered, Fits, IsLinked, HasPair, Refutes}
+use Rattle.relationships.proofs.Ranks.{joined}
 use Rattle.as_graph.specs.Steps.{end_left}
 use Rattle.tor_clauses.specs.declared.lit.Lit.{Lit}
 use Rattle.tor_clauses.specs.Literals.{lit_of, Says}

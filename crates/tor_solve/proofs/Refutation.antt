@@ -2,14 +2,14 @@
 -- opposite orders have the same number only if each leads to the other.
 use Rattle.std.proofs.Common.{◌≡◌, ◌≢◌, ℕ, zero, suc, ◌+◌, ◌*◌, ◌≤◌, ◌⊎◌, inl, inr, List, [], ◌∷◌, refl, sym, ap, subst, arith, All, Contains}
 use Rattle.std.proofs.lemmas.List.Elements.{All-contains}
-use Rattle.tor_arena.specs.declared.walk.Link.{Link}
-use Rattle.tor_arena.specs.declared.walk.Walk.{Walk}
-use Rattle.tor_arena.specs.Relationship.{AllDistinct}
-use Rattle.tor_arena.specs.Evidence.{HasPair, Numbered, paths_of, Refutes, Closure, start, carry}
-use Rattle.tor_arena.specs.Selection.{IsServable}
-use Rattle.tor_arena.specs.Laws.{IsRanked, ranked}
-use Rattle.tor_arena.proofs.Walks.{triple_apart, refuting_law}
-use Rattle.tor_arena.proofs.Ranks.{rank_law}
+use Rattle.relationships.specs.declared.walk.Link.{Link}
+use Rattle.relationships.specs.declared.walk.Walk.{Walk}
+use Rattle.tor_arena.specs.Distinct.{AllDistinct}
+use Rattle.relationships.specs.Evidence.{HasPair, Numbered, paths_of, Refutes, Closure, start, carry}
+use Rattle.relationships.specs.Selection.{IsServable}
+use Rattle.relationships.specs.Laws.{IsRanked, ranked}
+use Rattle.relationships.proofs.Walks.{triple_apart, refuting_law}
+use Rattle.relationships.proofs.Ranks.{rank_law}
 use Rattle.tor_solve.specs.Laws.{RefutationLaw}
 use Rattle.tor_solve.specs.Leading.{Leads}
 use Rattle.tor_solve.proofs.Leadings.{leads_start, with_step, leads_step, HasPair-more, refutes}

@@ -1,9 +1,9 @@
 -- The laws that this crate proves, each as the contract of a function in src/laws.rt.
 use Rattle.std.specs.Prelude.{◌↔◌, ℕ, ◌⊎◌, List, All}
-use Rattle.tor_arena.specs.declared.walk.Walk.{Walk}
-use Rattle.tor_arena.specs.Relationship.{AllDistinct}
-use Rattle.tor_arena.specs.Evidence.{Numbered, paths_of, Refutes, Closure}
-use Rattle.tor_arena.specs.Selection.{IsServable}
+use Rattle.relationships.specs.declared.walk.Walk.{Walk}
+use Rattle.tor_arena.specs.Distinct.{AllDistinct}
+use Rattle.relationships.specs.Evidence.{Numbered, paths_of, Refutes, Closure}
+use Rattle.relationships.specs.Selection.{IsServable}
 
 -- whether a closure holds an order is decided
 abbrev pub DecidedLaw : Type 0

@@ -1,6 +1,6 @@
 -- What the strong components of implications say of the literals (Aspvall, Plass and Tarjan 1979).
 use Rattle.std.specs.Prelude.{◌≡◌, ℕ, ◌<◌, List, slice_get, Some}
-use Rattle.tor_arena.specs.declared.walk.End.{End}
+use Rattle.relationships.specs.declared.label.End.{End}
 use Rattle.tor_clauses.specs.declared.lit.Lit.{Lit}
 use Rattle.tor_clauses.specs.Literals.{negated, node_of}
 

@@ -1,7 +1,7 @@
 -- The two answers of a solver.
 use Rattle.std.specs.Prelude.{List}
-use Rattle.tor_arena.specs.declared.walk.End.{End}
-use Rattle.tor_arena.specs.declared.walk.Walk.{Walk}
+use Rattle.relationships.specs.declared.label.End.{End}
+use Rattle.relationships.specs.declared.walk.Walk.{Walk}
 use Rattle.tor_solve.specs.declared.verdict.Verdict.{Verdict}
 
 -- this of the orientation, where there is one

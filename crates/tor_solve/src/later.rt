@@ -4,7 +4,8 @@ ghost use Rattle.tor_solve.specs.Solving.{IsClash, IsLater, AreLater};
 
 use as_graph::Orientation;
 use std::alloc::Global;
-use tor_arena::{EdgeId, End, Index, List, NoMemory, NodeId};
+use relationships::End;
+use tor_arena::{EdgeId, Index, List, NoMemory, NodeId};
 use tor_clauses::Lit;
 use tor_components::Components;
 

@@ -1,7 +1,7 @@
 ghost use Rattle.std.specs.Prelude.{◌≡◌, ◌↔◌, length, IfOk};
-ghost use Rattle.tor_arena.specs.Graph.{edges};
-ghost use Rattle.tor_arena.specs.Evidence.{Refutes};
-ghost use Rattle.tor_arena.specs.Selection.{IsServable};
+ghost use Rattle.relationships.specs.Graph.{edges};
+ghost use Rattle.relationships.specs.Evidence.{Refutes};
+ghost use Rattle.relationships.specs.Selection.{IsServable};
 ghost use Rattle.as_graph.specs.Paths.{paths_at};
 ghost use Rattle.tor_clauses.specs.Formulas.{FitsGraph, IsServed, numbered};
 ghost use Rattle.tor_solve.specs.Verdicts.{IfModel, IfWalk, IsRefuted};

@@ -5,7 +5,8 @@ use crate::{Verdict, solve};
 use as_graph::{AsGraph, build};
 use std::alloc::Global;
 use std::test::Fail;
-use tor_arena::{Index, PathId, Rows, Walk};
+use relationships::Walk;
+use tor_arena::{Index, PathId, Rows};
 use tor_clauses::Clauses;
 
 fn three_paths(alloc: Global) -> Result<AsGraph, Fail>

@@ -1,5 +1,5 @@
 use as_graph::Orientation;
-use tor_arena::Walk;
+use relationships::Walk;
 
 /// What a solver finds of the paths of clauses.
 #[derive(Debug, Drop)]

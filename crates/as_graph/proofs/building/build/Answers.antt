@@ -1,5 +1,5 @@
 use Rattle.std.proofs.Common.{rules, ◌≡◌, ◌+◌, ◌≤◌, ◌∙◌, ◌++◌, ◌∷◌, [], Some, slice_get, subst, sym, ap}
-use Rattle.tor_arena.specs.Graph.{edges_on}
+use Rattle.relationships.specs.Graph.{edges_on}
 use Rattle.as_graph.specs.Steps.{AreSteps}
 use Rattle.as_graph.specs.Inside.{with_edges}
 use Rattle.as_graph.proofs.BuildLemmas.{IsBuilt, IsBuilt-few, IsBuilt-room, IsBuilt-more, IsBuilt-view, IsBuilt-graph}

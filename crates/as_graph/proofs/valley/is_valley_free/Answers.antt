@@ -1,6 +1,6 @@
 use Rattle.std.proofs.Common.{◌≡◌, ◌+◌, ◌<◌, ◌≤◌, true, false, drop, length, get_or, sym, ap, ◌∙◌, subst, arith, drop_of_length-le}
 use Rattle.std.proofs.lemmas.List.{get_or_default}
-use Rattle.tor_arena.specs.declared.walk.Label.{Label}
+use Rattle.relationships.specs.declared.label.Label.{Label}
 use Rattle.as_graph.specs.declared.step.Step.{Step}
 use Rattle.as_graph.specs.Slopes.{slopes_by, step_slope, is_down}
 use Rattle.as_graph.proofs.Falling.{well, well-stop, well-nil, next_slopes, answer}

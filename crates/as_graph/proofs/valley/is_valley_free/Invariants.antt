@@ -1,5 +1,5 @@
 use Rattle.std.proofs.Common.{◌≡◌, drop}
-use Rattle.tor_arena.proofs.Deciding.{no_valley}
+use Rattle.relationships.proofs.Deciding.{no_valley}
 use Rattle.as_graph.specs.Slopes.{slopes_by}
 use Rattle.as_graph.proofs.Falling.{well}
 use Rattle.as_graph.proofs.valley.is_valley_free.Given as goal

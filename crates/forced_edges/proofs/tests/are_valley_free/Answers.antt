@@ -2,8 +2,8 @@ use Rattle.std.proofs.Common.{rules, ◌≡◌, ◌∙◌, ◌<◌, inl, inr, le
 use Rattle.std.proofs.lemmas.Bool.{cases_lt}
 use Rattle.std.proofs.lemmas.List.{get_or_default}
 use Rattle.std.proofs.lemmas.List.Elements.{All-map}
-use Rattle.tor_arena.specs.Relationship.{ValleyFree}
-use Rattle.tor_arena.specs.Graph.{edges, labelling}
+use Rattle.relationships.specs.Relationship.{ValleyFree}
+use Rattle.relationships.specs.Graph.{edges, labelling}
 use Rattle.as_graph.specs.Paths.{path_at}
 use Rattle.forced_edges.proofs.tests.are_valley_free.Goals as goal
 

@@ -1,6 +1,6 @@
 use Rattle.std.proofs.Common.{ℕ, ◌<◌, get_or}
-use Rattle.tor_arena.specs.Relationship.{ValleyFree}
-use Rattle.tor_arena.specs.Graph.{edges, labelling}
+use Rattle.relationships.specs.Relationship.{ValleyFree}
+use Rattle.relationships.specs.Graph.{edges, labelling}
 use Rattle.as_graph.specs.Paths.{path_at}
 use Rattle.forced_edges.proofs.tests.are_valley_free.Given as goal
 

@@ -1,5 +1,5 @@
 use Rattle.std.proofs.Common.{◌≡◌, length}
-use Rattle.path_clean.specs.Paths.{is_distinct}
+use Rattle.tor_arena.specs.Distinct.{is_distinct}
 use Rattle.path_clean.proofs.cleaned.are_distinct.Given as goal
 
 abbrev pub invariant-numbers : goal.invariant-numbers

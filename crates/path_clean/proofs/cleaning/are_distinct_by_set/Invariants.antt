@@ -2,7 +2,7 @@ use Rattle.std.proofs.Common.{◌≡◌, ◌≤◌, ℕ, true, length, drop, nat
 use Rattle.std.specs.List.{list_any}
 use Rattle.std.specs.Ordering.{nat_cmp}
 use Rattle.std.specs.BTreeSet.{contains}
-use Rattle.path_clean.specs.Paths.{is_distinct}
+use Rattle.tor_arena.specs.Distinct.{is_distinct}
 use Rattle.path_clean.proofs.cleaning.are_distinct_by_set.Given as goal
 
 -- the set has the numbers from here on, and none of them stands there twice

@@ -2,7 +2,7 @@ use Rattle.std.proofs.Common.{get_or, arith, subst, Contains}
 use Rattle.std.proofs.lemmas.Bool.{false≢true}
 use Rattle.std.proofs.lemmas.List.{length-map}
 use Rattle.std.proofs.lemmas.List.Elements.{Contains-get_or}
-use Rattle.tor_arena.specs.Evidence.{IsTriple}
+use Rattle.relationships.specs.Evidence.{IsTriple}
 use Rattle.rel_checker.specs.Turning.{turned, turned_orders, kept_lines}
 use Rattle.rel_checker.proofs.Gets.{slice_get-lt}
 use Rattle.rel_checker.proofs.Buildings.{inside_carried, inside_barred, turning_within}

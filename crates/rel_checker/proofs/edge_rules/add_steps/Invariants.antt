@@ -1,5 +1,5 @@
 use Rattle.std.proofs.Common.{◌≡◌, fold, length}
-use Rattle.tor_arena.specs.Graph.{edges_on}
+use Rattle.relationships.specs.Graph.{edges_on}
 use Rattle.rel_checker.specs.Tables.{with_edge}
 use Rattle.rel_checker.proofs.edge_rules.add_steps.Given as goal
 

@@ -1,5 +1,5 @@
 use Rattle.std.proofs.Common.{◌∙◌, sym, ap, ap₂, fold, take}
-use Rattle.tor_arena.specs.Graph.{edges, edges_on}
+use Rattle.relationships.specs.Graph.{edges, edges_on}
 use Rattle.rel_checker.specs.Tables.{with_edge}
 use Rattle.rel_checker.proofs.Lines.{paths_in, paths-more}
 use Rattle.rel_checker.proofs.Listing.{edges-push}

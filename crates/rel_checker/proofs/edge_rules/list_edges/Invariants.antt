@@ -1,5 +1,5 @@
 use Rattle.std.proofs.Common.{◌≡◌, map, take}
-use Rattle.tor_arena.specs.Graph.{edges}
+use Rattle.relationships.specs.Graph.{edges}
 use Rattle.rel_checker.proofs.edge_rules.list_edges.Given as goal
 
 abbrev pub invariant-loop-line : goal.invariant-loop-line

@@ -2,8 +2,8 @@ use Rattle.std.proofs.Common.{◌≡◌, ◌<◌, length, get_or, refl, ap, arit
 use Rattle.std.proofs.lemmas.Bool.{false≢true, both_ways}
 use Rattle.std.proofs.lemmas.List.{get_or_default}
 use Rattle.std.specs.Option.{option_copied}
-use Rattle.tor_arena.specs.declared.walk.Link.{Link}
-use Rattle.tor_arena.proofs.Places.{IsLinked-from_index, index-from_IsLinked}
+use Rattle.relationships.specs.declared.walk.Link.{Link}
+use Rattle.relationships.proofs.Places.{IsLinked-from_index, index-from_IsLinked}
 use Rattle.rel_checker.specs.Naming.{nameable}
 use Rattle.rel_checker.proofs.Linking.{links_more}
 use Rattle.rel_checker.proofs.links.is_walk.Goals as goal

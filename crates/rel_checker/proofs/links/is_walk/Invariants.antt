@@ -1,6 +1,6 @@
 use Rattle.std.proofs.Common.{ℕ, ◌<◌}
 use Rattle.std.specs.Option.{option_copied}
-use Rattle.tor_arena.specs.declared.walk.Link.{Link}
+use Rattle.relationships.specs.declared.walk.Link.{Link}
 use Rattle.rel_checker.specs.Naming.{nameable}
 use Rattle.rel_checker.proofs.Linking.{FitsAt}
 use Rattle.rel_checker.proofs.links.is_walk.Given as goal

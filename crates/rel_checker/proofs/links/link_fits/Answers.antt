@@ -1,7 +1,7 @@
 use Rattle.std.proofs.Common.{◌≡◌, ℕ, List, Some, None, sym, ap, ◌∙◌, subst}
 use Rattle.std.proofs.lemmas.Bool.{false≢true}
 use Rattle.std.specs.Option.{option_copied}
-use Rattle.tor_arena.specs.Evidence.{TripleAt}
+use Rattle.relationships.specs.Evidence.{TripleAt}
 use Rattle.rel_checker.proofs.links.link_fits.Goals as goal
 
 pub returns-in-Some : goal.returns-in-Some

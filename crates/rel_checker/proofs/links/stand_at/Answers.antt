@@ -1,6 +1,6 @@
 use Rattle.std.proofs.Common.{◌≡◌, ◌↔◌, ℕ, ◌-◌, ◌<◌, ◌≤◌, List, length, get_or, arith, IsTrue, eqb-true, eq-eqb, nat_eq}
-use Rattle.tor_arena.specs.Evidence.{StandAt}
-use Rattle.tor_arena.proofs.Places.{StandAt-from_index, index-from_StandAt}
+use Rattle.relationships.specs.Evidence.{StandAt}
+use Rattle.relationships.proofs.Places.{StandAt-from_index, index-from_StandAt}
 use Rattle.rel_checker.proofs.links.stand_at.Goals as goal
 
 -- where the first two ASes stand there, the third decides

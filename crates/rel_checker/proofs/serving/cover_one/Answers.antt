@@ -1,7 +1,7 @@
 use Rattle.std.proofs.Common.{length, get_or, ap, arith, subst, Contains}
 use Rattle.std.proofs.lemmas.Bool.{false≢true}
 use Rattle.std.proofs.lemmas.List.Elements.{Contains-get_or}
-use Rattle.tor_arena.specs.Evidence.{IsTriple}
+use Rattle.relationships.specs.Evidence.{IsTriple}
 use Rattle.rel_checker.specs.Turning.{turned_orders, kept_lines}
 use Rattle.rel_checker.proofs.Gets.{slice_get-lt}
 use Rattle.rel_checker.proofs.Buildings.{inside_carried, turning_within}

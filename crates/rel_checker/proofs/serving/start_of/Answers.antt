@@ -1,7 +1,7 @@
 use Rattle.std.proofs.Common.{arith}
 use Rattle.std.proofs.lemmas.Bool.{both_ways}
 use Rattle.std.proofs.lemmas.Option.{slice_get-get_or}
-use Rattle.tor_arena.specs.Graph.{edge_of}
+use Rattle.relationships.specs.Graph.{edge_of}
 use Rattle.rel_checker.specs.Turning.{TurnsTo, turned_orders}
 use Rattle.rel_checker.proofs.OrderPlaces.{absent, otherwise, within_lines, turns_of, indexed}
 use Rattle.rel_checker.proofs.serving.start_of.Goals as goal

@@ -1,5 +1,5 @@
 use Rattle.std.proofs.Common.{◌≡◌, Some, slice_get, refl, sym, subst, arith}
-use Rattle.tor_arena.specs.Graph.{edge_of}
+use Rattle.relationships.specs.Graph.{edge_of}
 use Rattle.rel_checker.specs.Turning.{edges_of}
 use Rattle.rel_checker.proofs.OrderPlaces.{within_lines}
 use Rattle.rel_checker.proofs.Showings.{shown-absent, shown-more}

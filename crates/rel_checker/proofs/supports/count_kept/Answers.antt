@@ -1,7 +1,7 @@
 use Rattle.std.proofs.Common.{◌≡◌, ◌∙◌, take, sym, ap, subst, arith}
 use Rattle.std.proofs.lemmas.List.{take_all}
-use Rattle.tor_arena.specs.Graph.{support}
-use Rattle.tor_arena.specs.Evidence.{paths_of}
+use Rattle.relationships.specs.Graph.{support}
+use Rattle.relationships.specs.Evidence.{paths_of}
 use Rattle.rel_checker.specs.File.{its_kept}
 use Rattle.rel_checker.specs.Tables.{AreCounts, kept_in}
 use Rattle.rel_checker.proofs.Lines.{line-among, sound-at, usable-at, kept-lines}

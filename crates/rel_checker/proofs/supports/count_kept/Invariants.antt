@@ -1,5 +1,5 @@
 use Rattle.std.proofs.Common.{take}
-use Rattle.tor_arena.specs.Graph.{support}
+use Rattle.relationships.specs.Graph.{support}
 use Rattle.rel_checker.specs.Tables.{AreCounts, kept_in}
 use Rattle.rel_checker.proofs.supports.count_kept.Given as goal
 

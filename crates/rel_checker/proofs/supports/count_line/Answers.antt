@@ -1,5 +1,5 @@
 use Rattle.std.proofs.Common.{List, ℕ, ◌∙◌, sym, subst, count_by}
-use Rattle.tor_arena.specs.Graph.{is_same, edges_on}
+use Rattle.relationships.specs.Graph.{is_same, edges_on}
 use Rattle.rel_checker.specs.Tables.{HaveRisen}
 use Rattle.rel_checker.proofs.SupportLemmas.{risen-kept}
 use Rattle.rel_checker.proofs.supports.count_line.Goals as goal

@@ -1,7 +1,7 @@
 use Rattle.std.proofs.Common.{◌≡◌, ℕ, true, not, List, get_or, min, max, sym, ap, ap₂, ◌∙◌, arith}
 use Rattle.std.proofs.lemmas.Bool.{both_ways}
 use Rattle.std.proofs.lemmas.List.{take_rest}
-use Rattle.tor_arena.specs.Relationship.{is_over, slopes}
+use Rattle.relationships.specs.Relationship.{is_over, slopes}
 use Rattle.rel_checker.specs.Tables.{labels_in}
 use Rattle.rel_checker.proofs.ValleyLemmas.{well, stop-at, on-at, end-at}
 use Rattle.rel_checker.proofs.valleys.is_valley_free.Goals.{else-falling-via-then-falling+else-not-is_provider, else-falling-via-else-falling}

@@ -1,6 +1,6 @@
 use Rattle.std.proofs.Common.{◌≡◌, length}
-use Rattle.tor_arena.specs.Relationship.{slopes}
-use Rattle.tor_arena.proofs.Deciding.{no_valley}
+use Rattle.relationships.specs.Relationship.{slopes}
+use Rattle.relationships.proofs.Deciding.{no_valley}
 use Rattle.rel_checker.specs.Tables.{labels_in}
 use Rattle.rel_checker.proofs.ValleyLemmas.{well}
 use Rattle.rel_checker.proofs.valleys.is_valley_free.Given as goal

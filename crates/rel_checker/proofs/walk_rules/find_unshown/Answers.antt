@@ -1,4 +1,4 @@
-use Rattle.tor_arena.specs.Evidence.{Shows}
+use Rattle.relationships.specs.Evidence.{Shows}
 use Rattle.rel_checker.specs.File.{kept_among}
 use Rattle.rel_checker.specs.Rules.{OrdersShown}
 use Rattle.rel_checker.proofs.Passing.{asks_more}

@@ -1,5 +1,5 @@
 use Rattle.std.proofs.Common.{◌≡◌, ◌∙◌, ◌*◌, length, ap, subst, arith}
-use Rattle.tor_arena.specs.Graph.{edges, orientation}
+use Rattle.relationships.specs.Graph.{edges, orientation}
 use Rattle.tor_digraph.specs.Walks.{IsInside}
 use Rattle.tor_components.specs.Classes.{IsComponents}
 use Rattle.tor_clauses.specs.Formulas.{IsServed, IsModel}

@@ -1,4 +1,4 @@
-use Rattle.tor_arena.specs.Graph.{edges}
+use Rattle.relationships.specs.Graph.{edges}
 use Rattle.tor_clauses.specs.Formulas.{numbered}
 use Rattle.tor_solve.proofs.Leadings.{round}
 use Rattle.tor_solve.proofs.walking.walk_round.Goals as goal

@@ -1,7 +1,7 @@
 use Rattle.std.proofs.Common.{◌≡◌, ◌∙◌, ◌∷◌, ◌++◌, [], ◌<◌, ◌^◌, length, subst, sym, ap, false, if◌then◌else◌}
 use Rattle.std.specs.List.{list_any}
 use Rattle.std.proofs.lemmas.Bool.{not-true}
-use Rattle.tor_arena.specs.Graph.{Edge, is_same}
+use Rattle.relationships.specs.Graph.{Edge, is_same}
 use Rattle.as_graph.specs.Inside.{IsTable, CountsOneMore}
 use Rattle.as_graph.proofs.EdgeLemmas.{IsTable-push}
 use Rattle.as_graph.proofs.edge_table.EdgeTable.add.Goals as goal

@@ -1,6 +1,6 @@
 use Rattle.std.proofs.Common.{◌≡◌, subst, sym, Some, slice_get, position}
 use Rattle.std.proofs.lemmas.Option.{IfSome_then}
-use Rattle.tor_arena.specs.Graph.{is_same}
+use Rattle.relationships.specs.Graph.{is_same}
 use Rattle.as_graph.proofs.EdgeLemmas.{placed}
 use Rattle.as_graph.proofs.edge_table.EdgeTable.find.Goals as goal
 

@@ -1,5 +1,5 @@
 use Rattle.std.proofs.Common.{◌<◌, ◌^◌, length, subst}
-use Rattle.tor_arena.specs.Graph.{edges}
+use Rattle.relationships.specs.Graph.{edges}
 use Rattle.as_graph.proofs.Distinct.{few_edges}
 use Rattle.as_graph.proofs.graph.AsGraph.facts.Goals as goal
 

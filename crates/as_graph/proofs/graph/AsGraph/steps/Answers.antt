@@ -1,6 +1,6 @@
 use Rattle.std.proofs.Common.{◌≡◌, ◌<◌, ◌≤◌, ◌∙◌, [], All, arith, length, get_or, map, subst, ap}
 use Rattle.std.proofs.lemmas.List.Elements.{All-get_or}
-use Rattle.tor_arena.specs.Graph.{edges}
+use Rattle.relationships.specs.Graph.{edges}
 use Rattle.as_graph.specs.declared.step.Step.{Step}
 use Rattle.as_graph.specs.Inside.{path_by}
 use Rattle.as_graph.specs.Steps.{AreSteps}

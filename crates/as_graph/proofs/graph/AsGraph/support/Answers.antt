@@ -2,8 +2,8 @@ use Rattle.std.proofs.Common.{◌≡◌, ◌<◌, ◌≤◌, ◌^◌, [], length
 use Rattle.std.specs.List.{flat_map}
 use Rattle.std.proofs.lemmas.List.Elements.{All-get_or}
 use Rattle.std.proofs.lemmas.List.Sums.{get_or-le-sum_by}
-use Rattle.tor_arena.specs.Relationship.{AllDistinct}
-use Rattle.tor_arena.specs.Graph.{edges, edges_on}
+use Rattle.tor_arena.specs.Distinct.{AllDistinct}
+use Rattle.relationships.specs.Graph.{edges, edges_on}
 use Rattle.as_graph.specs.Paths.{path_at}
 use Rattle.as_graph.proofs.Labelled.{NoneTwice-distinct}
 use Rattle.as_graph.proofs.CountLemmas.{counts_begin, counts_more, support_small, distinct_below}

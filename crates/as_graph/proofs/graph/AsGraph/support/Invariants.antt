@@ -1,5 +1,5 @@
 use Rattle.std.proofs.Common.{◌≡◌, take}
-use Rattle.tor_arena.specs.Graph.{edges}
+use Rattle.relationships.specs.Graph.{edges}
 use Rattle.as_graph.proofs.CountLemmas.{counts_of}
 use Rattle.as_graph.proofs.graph.AsGraph.support.Given as goal
 

@@ -1,8 +1,9 @@
 use Rattle.std.proofs.Common.{◌≡◌, ◌∙◌, [], get_or, sym, ap}
 use Rattle.std.proofs.lemmas.List.Elements.{All-get_or}
 use Rattle.std.specs.List.{flat_map}
-use Rattle.tor_arena.specs.Relationship.{AllDistinct, slopes}
-use Rattle.tor_arena.specs.Graph.{edges, edges_on, labelling}
+use Rattle.tor_arena.specs.Distinct.{AllDistinct}
+use Rattle.relationships.specs.Relationship.{slopes}
+use Rattle.relationships.specs.Graph.{edges, edges_on, labelling}
 use Rattle.as_graph.specs.Slopes.{slopes_by}
 use Rattle.as_graph.proofs.Labelled.{slopes-steps, NoneTwice-distinct}
 use Rattle.as_graph.proofs.graph.AsGraph.valley_free.Goals as goal

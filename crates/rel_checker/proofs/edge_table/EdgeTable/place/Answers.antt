@@ -1,6 +1,6 @@
 use Rattle.std.proofs.Common.{rules, ◌≡◌, position, subst}
 use Rattle.std.specs.List.{IsDistinct}
-use Rattle.tor_arena.specs.Graph.{edge_of, is_same}
+use Rattle.relationships.specs.Graph.{edge_of, is_same}
 use Rattle.rel_checker.proofs.EdgeTables.{found_from_position, only_from_position}
 use Rattle.rel_checker.proofs.edge_table.EdgeTable.place.Goals as goal
 

@@ -1,6 +1,6 @@
 use Rattle.std.proofs.Common.{◌++◌, ◌∷◌, [], sym, subst}
 use Rattle.std.proofs.lemmas.Result.{on_ok_weaker}
-use Rattle.tor_arena.specs.Evidence.{IsTriple}
+use Rattle.relationships.specs.Evidence.{IsTriple}
 use Rattle.rel_checker.specs.Turning.{turned_orders, IsBuilt, IsListed}
 use Rattle.rel_checker.proofs.turning.Turns.note_line.Goals as goal
 

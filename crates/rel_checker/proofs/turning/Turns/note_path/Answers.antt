@@ -1,5 +1,5 @@
 use Rattle.std.proofs.Common.{◌≡◌, ◌+◌, ◌-◌, ◌<◌, length, slice_index, subst, arith, Contains}
-use Rattle.tor_arena.specs.Graph.{edge_of}
+use Rattle.relationships.specs.Graph.{edge_of}
 use Rattle.rel_checker.specs.Turning.{turned_orders}
 use Rattle.rel_checker.proofs.Buildings.{path_begin, path_more, path_end, step_on, many_carried, many_barred}
 use Rattle.rel_checker.proofs.turning.Turns.note_path.Goals as goal

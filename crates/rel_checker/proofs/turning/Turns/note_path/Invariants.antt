@@ -1,5 +1,5 @@
 use Rattle.std.proofs.Common.{◌≡◌, ℕ, List, ◌-◌, ◌<◌, length, slice_index}
-use Rattle.tor_arena.specs.Evidence.{IsTriple}
+use Rattle.relationships.specs.Evidence.{IsTriple}
 use Rattle.rel_checker.specs.Turning.{turned_orders, IsBuilt, IsStep, TripleBefore}
 use Rattle.rel_checker.proofs.turning.Turns.note_path.Given as goal
 

@@ -1,6 +1,6 @@
 use Rattle.std.proofs.Common.{◌≤◌, length, ap, subst, arith, take}
 use Rattle.std.proofs.lemmas.List.{take_all}
-use Rattle.tor_arena.specs.Evidence.{IsTriple}
+use Rattle.relationships.specs.Evidence.{IsTriple}
 use Rattle.rel_checker.specs.Turning.{turned_orders, IsBuilt, IsListed, kept_lines}
 use Rattle.rel_checker.proofs.Gets.{item_of, take_get, All-get}
 use Rattle.rel_checker.proofs.KeptLines.{kept_more}

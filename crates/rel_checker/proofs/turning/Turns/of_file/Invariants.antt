@@ -1,5 +1,5 @@
 use Rattle.std.proofs.Common.{take}
-use Rattle.tor_arena.specs.Evidence.{IsTriple}
+use Rattle.relationships.specs.Evidence.{IsTriple}
 use Rattle.rel_checker.specs.Turning.{turned_orders, IsBuilt, kept_lines}
 use Rattle.rel_checker.proofs.turning.Turns.of_file.Given as goal
 

@@ -1,5 +1,5 @@
 use Rattle.std.proofs.Common.{ℕ, ◌+◌, sym, ap, subst}
-use Rattle.tor_arena.specs.declared.walk.Link.{Link}
+use Rattle.relationships.specs.declared.walk.Link.{Link}
 use Rattle.tor_clauses.specs.Formulas.{IsLinkOf}
 use Rattle.tor_clauses.proofs.Standings.{link_fits}
 use Rattle.tor_clauses.proofs.clauses.Clauses.link_of.Goals as goal

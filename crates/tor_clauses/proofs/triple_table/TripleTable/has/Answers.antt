@@ -1,6 +1,6 @@
 use Rattle.std.proofs.Common.{◌≡◌, ℕ, ap, ap₂, ◌∙◌, subst}
 use Rattle.std.specs.List.{list_any}
-use Rattle.tor_arena.specs.Graph.{Edge, is_same}
+use Rattle.relationships.specs.Graph.{Edge, is_same}
 use Rattle.tor_clauses.specs.Literals.{node_of}
 use Rattle.tor_clauses.specs.Triples.{arc_of, partner_of}
 use Rattle.tor_clauses.specs.Tables.{IsKnown}

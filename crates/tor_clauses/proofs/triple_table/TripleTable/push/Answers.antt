@@ -1,6 +1,6 @@
 use Rattle.std.proofs.Common.{◌≡◌, ℕ, ◌<◌, ◌^◌, ◌∷◌, ◌++◌, [], length, false, sym, ap, ap₂, ◌∙◌, subst, if◌then◌else◌}
 use Rattle.std.specs.List.{list_any}
-use Rattle.tor_arena.specs.Graph.{Edge, is_same}
+use Rattle.relationships.specs.Graph.{Edge, is_same}
 use Rattle.tor_clauses.specs.Triples.{arc_of, is_same_triple}
 use Rattle.tor_clauses.proofs.Knowns.{known-push}
 use Rattle.tor_clauses.proofs.triple_table.TripleTable.push.Goals as goal

@@ -1,0 +1,13 @@
+pub mod Checked
+pub mod Closures
+pub mod Deciding
+pub mod Edges
+pub mod Forcing
+pub mod Neighbours
+pub mod Places
+pub mod Ranks
+pub mod Selecting
+pub mod Serving
+pub mod Slopes
+pub mod Walks
+pub mod WorkedRow

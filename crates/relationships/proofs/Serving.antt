@@ -1,0 +1,123 @@
+-- The serving law.
+use Rattle.std.proofs.Common.{◌≡◌, ◌≢◌, ℕ, suc, ◌+◌, inl, inr, true, List, [], ◌∷◌, ◌++◌, length, get_or, refl, sym, ap, ◌∙◌, subst, arith, append_assoc, All}
+use Rattle.std.proofs.lemmas.List.Elements.{All-contains, Contains-get_or, All-from_get_or}
+use Rattle.tor_arena.specs.Distinct.{AllDistinct}
+use Rattle.relationships.specs.Relationship.{Orientation, Labelling, labels_of, is_over, Slope, Up, Down, slope, slopes_from, slopes, ValleyFree, Serves}
+use Rattle.relationships.specs.Evidence.{StandAt, TripleAt}
+use Rattle.relationships.specs.Laws.{CarriesOn, ServingLaw}
+use Rattle.relationships.proofs.Slopes.{slope-up, slope-down, over-up, over-down, over_one_of, Falls, Free, Free-from_valley_free, ValleyFree-from_free}
+
+-- behind a down there are only downs
+down_then_down : (pre : List Slope) (s t : Slope) (post : List Slope) → Free (pre ++ (s ∷ t ∷ post)) → s ≡ Down → t ≡ Down
+down_then_down [] s t post (inl p) e = absurd (cc p.0)
+down_then_down [] s t post (inr f) e = f.0
+down_then_down (u ∷ pre) s t post (inl p) e = down_then_down pre s t post p.1 e
+down_then_down (u ∷ pre) s t post (inr f) e = falls_at pre s t post f
+  where
+    falls_at : (pre : List Slope) (s t : Slope) (post : List Slope) → Falls (pre ++ (s ∷ t ∷ post)) → t ≡ Down
+    falls_at [] s t post h = h.1.0
+    falls_at (u ∷ pre) s t post h = falls_at pre s t post h.1
+
+-- before an up there are only ups
+up_before_up : (pre : List Slope) (s t : Slope) (post : List Slope) → Free (pre ++ (s ∷ t ∷ post)) → t ≡ Up → s ≡ Up
+up_before_up [] s t post (inl p) e = p.0
+up_before_up [] s t post (inr f) e = absurd (cc f.0)
+up_before_up (u ∷ pre) s t post (inl p) e = up_before_up pre s t post p.1 e
+up_before_up (u ∷ pre) s t post (inr f) e = absurd (not_up pre s t post f e)
+  where
+    not_up : (pre : List Slope) (s t : Slope) (post : List Slope) → Falls (pre ++ (s ∷ t ∷ post)) → t ≡ Up → ⊥
+    not_up [] s t post h e = cc h.1.0
+    not_up (u ∷ pre) s t post h e = not_up pre s t post h.1 e
+
+-- the two steps of three consecutive ASes, among the steps of their path
+steps_at : (L : Labelling) (a : ℕ) (before : List ℕ) (x y z : ℕ) (after : List ℕ) →
+    (pre : List Slope) × (slopes_from L a (before ++ (x ∷ y ∷ z ∷ after)) ≡ pre ++ (slope L x y ∷ slope L y z ∷ slopes_from L z after))
+steps_at L a [] x y z after = (slope L a x ∷ [], refl)
+steps_at L a (b ∷ before) x y z after =
+    let h = steps_at L b before x y z after in (slope L a b ∷ h.0, ap (λ (l : List Slope). slope L a b ∷ l) h.1)
+
+steps_in : (L : Labelling) (path : List ℕ) (at x y z : ℕ) → StandAt path at x y z →
+    (pre : List Slope) × (post : List Slope) × (slopes L path ≡ pre ++ (slope L x y ∷ slope L y z ∷ post))
+steps_in L path at x y z s =
+    let h = whole_steps s.before in (h.0, slopes_from L z s.after, ap (slopes L) s.whole ∙ h.1)
+  where
+    whole_steps : (before : List ℕ) →
+        (pre : List Slope) × (slopes L (before ++ (x ∷ y ∷ z ∷ s.after)) ≡ pre ++ (slope L x y ∷ slope L y z ∷ slopes_from L z s.after))
+    whole_steps [] = ([], refl)
+    whole_steps (a ∷ before) = steps_at L a before x y z s.after
+
+-- on a valley-free path each "over" is carried on along the triples
+pub carried : (L : Labelling) (path : List ℕ) (at x y z : ℕ) → ValleyFree L path → TripleAt path at x y z → is_over L x y ≡ true → is_over L y z ≡ true
+carried L path at x y z v (inl s) h =
+    let st = steps_in L path at x y z s in
+    let free = subst Free st.2 (Free-from_valley_free L path v) in
+    over-down L y z (down_then_down st.0 (slope L x y) (slope L y z) st.1 free (slope-down L x y h))
+carried L path at x y z v (inr s) h =
+    let st = steps_in L path at z y x s in
+    let free = subst Free st.2 (Free-from_valley_free L path v) in
+    over-up L z y (up_before_up st.0 (slope L z y) (slope L y x) st.1 free (slope-up L y x h))
+
+-- each AS of the path differs from the next
+abbrev pub Apart : ℕ → List ℕ → Type 0
+Apart a [] = Unit {0}
+Apart a (b ∷ path) = (a ≢ b) × Apart b path
+
+pub AllDistinct-tail : (a : ℕ) (path : List ℕ) → AllDistinct (a ∷ path) → AllDistinct path
+AllDistinct-tail a path h = λ i j d lt within. h (suc i) (suc j) d (omega arith) (omega arith)
+
+pub Apart-from_distinct : (a : ℕ) (path : List ℕ) → AllDistinct (a ∷ path) → Apart a path
+Apart-from_distinct a [] h = tt
+Apart-from_distinct a (b ∷ path) h =
+    (h 0 1 a (omega arith) (omega arith), Apart-from_distinct b path (AllDistinct-tail a (b ∷ path) h))
+
+module _ (O : Orientation) where
+  -- each "over" is carried on along the path
+  abbrev Carried : ℕ → List ℕ → Type 0
+  Carried a [] = Unit {0}
+  Carried a (b ∷ []) = Unit {0}
+  Carried a (b ∷ c ∷ path) = (is_over (labels_of O) a b ≡ true → is_over (labels_of O) b c ≡ true) × Carried b (c ∷ path)
+
+  falls_on : (a b : ℕ) (path : List ℕ) → Carried a (b ∷ path) → is_over (labels_of O) a b ≡ true → Falls (slopes_from (labels_of O) b path)
+  falls_on a b [] h o = tt
+  falls_on a b (c ∷ path) h o = (slope-down (labels_of O) b c (h.0 o), falls_on b c path h.1 (h.0 o))
+
+  tail_carried : (a b : ℕ) (path : List ℕ) → Carried a (b ∷ path) → Carried b path
+  tail_carried a b [] h = tt
+  tail_carried a b (c ∷ path) h = h.1
+
+  free_from_carried : (a : ℕ) (path : List ℕ) → Apart a path → Carried a path → Free (slopes_from (labels_of O) a path)
+  free_from_carried a [] ap h = tt
+  free_from_carried a (b ∷ path) ap h =
+      elim (over_one_of O a b ap.0) [
+        | inl o ↦ inr (falls_on a b path h o)
+        | inr o ↦ inl (slope-up (labels_of O) a b o, free_from_carried b path ap.1 (tail_carried a b path h))
+      ]
+
+  carried_from_triples : (a : ℕ) (path before : List ℕ) →
+      ((at x y z : ℕ) → StandAt (before ++ (a ∷ path)) at x y z → is_over (labels_of O) x y ≡ true → is_over (labels_of O) y z ≡ true) → Carried a path
+  carried_from_triples a [] before h = tt
+  carried_from_triples a (b ∷ []) before h = tt
+  carried_from_triples a (b ∷ c ∷ path) before h = (
+    h (length before + 2) a b c (record { before = before; after = path; whole = refl; place = refl }),
+    carried_from_triples b (c ∷ path) (before ++ (a ∷ []))
+        (λ at x y z s. h at x y z (record { before = s.before; after = s.after; whole = sym (append_assoc before (a ∷ []) (b ∷ c ∷ path)) ∙ s.whole; place = s.place })),
+  )
+
+  valley_free_from_triples : (path : List ℕ) → AllDistinct path →
+      ((at x y z : ℕ) → StandAt path at x y z → is_over (labels_of O) x y ≡ true → is_over (labels_of O) y z ≡ true) → ValleyFree (labels_of O) path
+  valley_free_from_triples [] apart h = (0, 0, inl refl)
+  valley_free_from_triples (a ∷ path) apart h =
+      ValleyFree-from_free (labels_of O) (a ∷ path) (free_from_carried a path (Apart-from_distinct a path apart) (carried_from_triples a path [] h))
+
+  pub serves_carries : (paths : List (List ℕ)) → Serves O paths → CarriesOn O paths
+  serves_carries paths s x y z t o =
+      carried (labels_of O) t.0 t.2.0 x y z (All-contains (ValleyFree (labels_of O)) paths t.0 s t.1) t.2.1 o
+
+  pub carries_serves : (paths : List (List ℕ)) → All AllDistinct paths → CarriesOn O paths → Serves O paths
+  carries_serves paths apart c =
+      All-from_get_or (ValleyFree (labels_of O)) paths []
+      (λ i within. valley_free_from_triples (get_or paths i []) (apart i [] within)
+      (λ at x y z s o. c x y z (get_or paths i [], Contains-get_or paths i [] within, (at, inl s)) o))
+
+pub serving_law : ServingLaw
+serving_law O paths apart = (serves_carries O paths, carries_serves O paths apart)

@@ -1,0 +1,124 @@
+//! The laws of the definitions in `specs/`. Each is the contract of a function.
+
+ghost use Rattle.relationships.specs.Laws.{EdgeLaw, EdgeOrderLaw, ServingLaw, RelaxingLaw, PeeringLaw, ReadingLaw, RefutingLaw, ShowingLaw, ClosureLaw, AllowedLaw, ConsistencyLaw, ImpliedLaw, LooseLaw, UnheldLaw, RankLaw, CycleLaw, KeepingLaw, MarkingLaw, ForcedLaw, SelectionLaw, KeptLaw, AllKeptLaw, GraphRulesLaw};
+
+/// Each edge stands once among the edges of paths, which are the pairs of neighbours on them.
+pub fn edge_law()
+    ensures { EdgeLaw }
+{}
+
+/// Reading on along the paths adds edges at the end alone: each stands where it first appears.
+pub fn edge_order_law()
+    ensures { EdgeOrderLaw }
+{}
+
+/// Where the ASes of each path are distinct, an orientation serves the paths exactly if it carries
+/// each "x over y" on to "y over z" along every triple x, y, z (Di Battista, Patrignani and
+/// Pizzonia 2003).
+pub fn serving_law()
+    ensures { ServingLaw }
+{}
+
+/// A peering may be read in any way, also as a peering: paths that are valley-free stay so.
+pub fn relaxing_law()
+    ensures { RelaxingLaw }
+{}
+
+/// Where paths are valley-free under labels, each orientation that has the providers of the edges
+/// that are no peerings serves them.
+pub fn peering_law()
+    ensures { PeeringLaw }
+{}
+
+/// Whether an orientation serves paths is decided by their edges alone.
+pub fn reading_law()
+    ensures { ReadingLaw }
+{}
+
+/// A walk that refutes leaves no orientation that serves.
+pub fn refuting_law()
+    ensures { RefutingLaw }
+{}
+
+/// A shown order holds in every orientation that serves.
+pub fn showing_law()
+    ensures { ShowingLaw }
+{}
+
+/// An orientation that serves and is changed to agree with a consistent closure serves.
+pub fn closure_law()
+    ensures { ClosureLaw }
+{}
+
+/// No order of a consistent closure is ruled out by the orientations that serve.
+pub fn allowed_law()
+    ensures { AllowedLaw }
+{}
+
+/// A closure that does not hold the other order of its start is consistent.
+pub fn consistency_law()
+    ensures { ConsistencyLaw }
+{}
+
+/// An order in the closure of its opposite holds in every orientation that serves.
+pub fn implied_law()
+    ensures { ImpliedLaw }
+{}
+
+/// Where some orientation serves, an edge is not forced if neither of its orders is in the closure
+/// of the other.
+pub fn loose_law()
+    ensures { LooseLaw }
+{}
+
+/// Where some orientation serves, an edge that no path holds is not forced.
+pub fn unheld_law()
+    ensures { UnheldLaw }
+{}
+
+/// Numbers of orders that never fall along a triple, and differ for opposite orders, give an
+/// orientation that serves (Aspvall, Plass and Tarjan 1979).
+pub fn rank_law()
+    ensures { RankLaw }
+{}
+
+/// A walk from an order to its opposite and one back make a walk that refutes.
+pub fn cycle_law()
+    ensures { CycleLaw }
+{}
+
+/// Where each lost path is refuted and each kept path is valley-free, exactly the right paths are
+/// kept.
+pub fn keeping_law()
+    ensures { KeepingLaw }
+{}
+
+/// Where the marks hold, exactly the forced edges are marked so.
+pub fn marking_law()
+    ensures { MarkingLaw }
+{}
+
+/// No forced edge is a peering.
+pub fn forced_law()
+    ensures { ForcedLaw }
+{}
+
+/// Which paths are kept is determined.
+pub fn selection_law()
+    ensures { SelectionLaw }
+{}
+
+/// Some orientation serves the kept paths.
+pub fn kept_law()
+    ensures { KeptLaw }
+{}
+
+/// All paths are kept exactly if one orientation serves all.
+pub fn all_kept_law()
+    ensures { AllKeptLaw }
+{}
+
+/// What meets the rules on the graph is valid.
+pub fn graph_rules_law()
+    ensures { GraphRulesLaw }
+{}
