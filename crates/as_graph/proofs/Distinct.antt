@@ -34,16 +34,16 @@ length-with_edges es (e ∷ more) =
     let h = length-with_edges (with_edge es e) more in let k = length-with_edge es e in omega (arith, h, k)
 
 -- an edge keeps its place
-slice_get-front : (es more : List Edge) (k : ℕ) (e : Edge) → slice_get es k ≡ Some e → slice_get (es ++ more) k ≡ Some e
-slice_get-front [] more k e h = absurd (cc h)
-slice_get-front (x ∷ es) more zero e h = h
-slice_get-front (x ∷ es) more (suc k) e h = slice_get-front es more k e h
+slice_get-prefix : (es more : List Edge) (k : ℕ) (e : Edge) → slice_get es k ≡ Some e → slice_get (es ++ more) k ≡ Some e
+slice_get-prefix [] more k e h = absurd (cc h)
+slice_get-prefix (x ∷ es) more zero e h = h
+slice_get-prefix (x ∷ es) more (suc k) e h = slice_get-prefix es more k e h
 
 pub stays : (es : List Edge) (e : Edge) (k : ℕ) (f : Edge) → slice_get es k ≡ Some f → slice_get (with_edge es e) k ≡ Some f
 stays es e k f h =
     elim (cases_Bool (list_any (is_same e) es)) [
       | inl t ↦ rw (with_edge-same es e t) h
-      | inr n ↦ rw (with_edge-new es e n) (slice_get-front es (e ∷ []) k f h)
+      | inr n ↦ rw (with_edge-new es e n) (slice_get-prefix es (e ∷ []) k f h)
     ]
 
 -- ---- in order of first appearance

@@ -20,21 +20,21 @@ use Rattle.dump_read.specs.declared.error.Fault.TheVariants as fault
 use Rattle.dump_read.specs.declared.records.Unread.{Unread}
 use Rattle.dump_read.specs.declared.records.Unread.TheVariants as unread
 use Rattle.dump_read.specs.declared.taking.Untaken.TheVariants as untaken
-use Rattle.dump_read.specs.Seen.{of_end, of_taking, of_octets, end_told}
+use Rattle.dump_read.specs.Seen.{of_end, of_taking, of_octets, end_known}
 use Rattle.dump_read.specs.Refusals.{TakesRead, TakesSomeRead, IsUnread, of_frame, of_unread}
 use Rattle.dump_read.specs.Reading.{Reading, FileEnd, Broken, end_of, onto, reading_of, reading_from, file_reading}
 use Rattle.dump_read.specs.Taking.{Taken, take_route, take_routes, Takes, TakesSome}
 use Rattle.dump_read.proofs.Takings.{take_routes-append, no_entry, nothing_read}
 
--- where the octets of the file are told: the routes that were taken in so far, and those of the records that are left
+-- where the octets of the file are known: the routes that were taken in so far, and those of the records that are left
 pub record Goes (sets : Sets) (octets : List ℕ) (left : Option (List ℕ)) (at : At) (peers : Option ℕ) (old new : Taken) : Type 0 where
   pub fuel : ℕ
   pub rest : List ℕ
-  pub front : List Route
+  pub prefix : List Route
   pub is_left : left ≡ Some rest
   pub enough : length rest ≤ fuel
-  pub so_far : Takes sets old front new
-  pub routes : (file_reading octets).routes ≡ front ++ (reading_from peers (cut_within fuel at rest)).routes
+  pub so_far : Takes sets old prefix new
+  pub routes : (file_reading octets).routes ≡ prefix ++ (reading_from peers (cut_within fuel at rest)).routes
   pub end : (file_reading octets).end ≡ (reading_from peers (cut_within fuel at rest)).end
 
 abbrev pub GoesOf : Sets → Option (List ℕ) → Option (List ℕ) → At → Option ℕ → Taken → Taken → Type 0
@@ -43,7 +43,7 @@ GoesOf sets (Some octets) left at peers old new = Goes sets octets left at peers
 
 pub starts : (sets : Sets) (left : Option (List ℕ)) (old : Taken) → GoesOf sets left left start None old old
 starts sets None old = tt
-starts sets (Some octets) old = record { fuel = length octets; rest = octets; front = []; is_left = refl; enough = omega arith; so_far = no_entry sets old; routes = refl; end = refl }
+starts sets (Some octets) old = record { fuel = length octets; rest = octets; prefix = []; is_left = refl; enough = omega arith; so_far = no_entry sets old; routes = refl; end = refl }
 
 -- ---- records that aren't read give nothing
 
@@ -133,12 +133,12 @@ goes_on sets (Some octets) left left' at peers peers' r old mid new goes finds t
     record {
       fuel = f.fuel;
       rest = f.rest;
-      front = goes.front ++ takes.0;
+      prefix = goes.prefix ++ takes.0;
       is_left = f.is_left;
       enough = f.enough;
-      so_far = take_routes-append sets old mid goes.front takes.0 goes.so_far ∙ takes.2;
-      routes = goes.routes ∙ ap (λ reading. goes.front ++ reading.routes) same ∙ sym (append_assoc goes.front takes.0 further.routes)
-          ∙ ap (λ p. (goes.front ++ takes.0) ++ (reading_from p (cut_within f.fuel (behind r) f.rest)).routes) (sym after);
+      so_far = take_routes-append sets old mid goes.prefix takes.0 goes.so_far ∙ takes.2;
+      routes = goes.routes ∙ ap (λ reading. goes.prefix ++ reading.routes) same ∙ sym (append_assoc goes.prefix takes.0 further.routes)
+          ∙ ap (λ p. (goes.prefix ++ takes.0) ++ (reading_from p (cut_within f.fuel (behind r) f.rest)).routes) (sym after);
       end = goes.end ∙ ap (λ reading. reading.end) same ∙ ap (λ p. (reading_from p (cut_within f.fuel (behind r) f.rest)).end) (sym after);
     }
 
@@ -172,7 +172,7 @@ ends sets d (Some octets) left at peers old new end goes stops =
     let same : reading_from peers (cut_within goes.fuel at goes.rest) ≡ record { routes = []; end = end_of end } =
     passed.same ∙ ap (reading_from peers) (ended passed.fuel s.place s.reached end passed.enough s.stands) ∙ at_end peers end in
     all_taken sets d old new octets (end_of end)
-    (ap (take_routes sets old) (goes.routes ∙ ap (λ reading. goes.front ++ reading.routes) same ∙ append-nil goes.front) ∙ goes.so_far)
+    (ap (take_routes sets old) (goes.routes ∙ ap (λ reading. goes.prefix ++ reading.routes) same ∙ append-nil goes.prefix) ∙ goes.so_far)
     (goes.end ∙ ap (λ reading. reading.end) same)
 
 -- ---- a record that is not taken in
@@ -190,7 +190,7 @@ stops_in sets old (route ∷ routes) rest kind is = by (take_route sets old rout
 
 pub breaks : (sets : Sets) (d : ℕ) (left₀ left left' : Option (List ℕ)) (at : At) (peers : Option ℕ) (r : Record) (old mid : Taken) (why : Unread) → GoesOf sets left₀ left at peers old mid
     → IfSome left (λ octets. FindsNext at octets r left') → IsUnread sets mid (routes_of peers r) why
-    → IfSome (end_told d (of_unread d r.at why)) (λ end. IfSome left₀ (λ octets. of_octets sets d old octets ≡ Err end))
+    → IfSome (end_known d (of_unread d r.at why)) (λ end. IfSome left₀ (λ octets. of_octets sets d old octets ≡ Err end))
 breaks sets d None left left' at peers r old mid (unread.Fault broken) goes finds is = tt
 breaks sets d None left left' at peers r old mid (unread.Untaken (untaken.Limit kind)) goes finds is = tt
 breaks sets d None left left' at peers r old mid (unread.Untaken untaken.NoMemory) goes finds is = tt
@@ -200,7 +200,7 @@ breaks sets d (Some octets) left left' at peers r old mid (unread.Fault broken) 
     let further = reading_from (peers_behind peers r) (cut_within f.fuel (behind r) f.rest) in
     let same = f.same ∙ ap (λ read. onto r.at read further) is in
     all_taken sets d old mid octets (Broken r.at (fault.Rib broken))
-    (ap (take_routes sets old) (goes.routes ∙ ap (λ reading. goes.front ++ reading.routes) same ∙ append-nil goes.front) ∙ goes.so_far)
+    (ap (take_routes sets old) (goes.routes ∙ ap (λ reading. goes.prefix ++ reading.routes) same ∙ append-nil goes.prefix) ∙ goes.so_far)
     (goes.end ∙ ap (λ reading. reading.end) same)
 breaks sets d (Some octets) left left' at peers r old mid (unread.Untaken (untaken.Limit kind)) goes finds is =
     let finds' : FindsNext at goes.rest r left' = subst (λ o. IfSome o (λ b. FindsNext at b r left')) goes.is_left finds in
@@ -208,17 +208,17 @@ breaks sets d (Some octets) left left' at peers r old mid (unread.Untaken (untak
     let further = reading_from (peers_behind peers r) (cut_within f.fuel (behind r) f.rest) in
     let same = f.same ∙ ap (λ read. onto r.at read further) is.1 in
     ap (λ taking. of_taking d taking >>= λ all. of_end d (file_reading octets).end all)
-    (ap (take_routes sets old) (goes.routes ∙ ap (λ reading. goes.front ++ reading.routes) same)
-    ∙ take_routes-append sets old mid goes.front (is.0 ++ further.routes) goes.so_far ∙ stops_in sets mid is.0 further.routes kind is.2)
+    (ap (take_routes sets old) (goes.routes ∙ ap (λ reading. goes.prefix ++ reading.routes) same)
+    ∙ take_routes-append sets old mid goes.prefix (is.0 ++ further.routes) goes.so_far ∙ stops_in sets mid is.0 further.routes kind is.2)
 breaks sets d (Some octets) left left' at peers r old mid (unread.Untaken untaken.NoMemory) goes finds is = tt
 
 -- ---- what was taken in of a file that was not read to its end
 
-front_of : (sets : Sets) (old new : Taken) (front more : List Route) (n : ℕ) → n ≤ length more → Takes sets old (front ++ take n more) new → TakesSome sets old (front ++ more) new
-front_of sets old new front more n le takes = (
-  length front + n,
-  omega (arith, length-append front more),
-  ap (take_routes sets old) (take-append-add front more n) ∙ takes,
+prefix_of : (sets : Sets) (old new : Taken) (prefix more : List Route) (n : ℕ) → n ≤ length more → Takes sets old (prefix ++ take n more) new → TakesSome sets old (prefix ++ more) new
+prefix_of sets old new prefix more n le takes = (
+  length prefix + n,
+  omega (arith, length-append prefix more),
+  ap (take_routes sets old) (take-append-add prefix more n) ∙ takes,
 )
 
 pub some_so_far : (sets : Sets) (left₀ left : Option (List ℕ)) (at : At) (peers : Option ℕ) (old new : Taken) → GoesOf sets left₀ left at peers old new
@@ -226,16 +226,16 @@ pub some_so_far : (sets : Sets) (left₀ left : Option (List ℕ)) (at : At) (pe
 some_so_far sets None left at peers old new goes = tt
 some_so_far sets (Some octets) left at peers old new goes =
     subst (λ (routes : List Route). TakesSome sets old routes new) (sym goes.routes)
-    (front_of sets old new goes.front (reading_from peers (cut_within goes.fuel at goes.rest)).routes 0 (omega arith)
-    (ap (take_routes sets old) (append-nil goes.front) ∙ goes.so_far))
+    (prefix_of sets old new goes.prefix (reading_from peers (cut_within goes.fuel at goes.rest)).routes 0 (omega arith)
+    (ap (take_routes sets old) (append-nil goes.prefix) ∙ goes.so_far))
 
-some_of : (sets : Sets) (old mid new : Taken) (front : List Route) (at : At) (read : Result (List Route) RibFault) (further : Reading) → Takes sets old front mid
-    → TakesSomeRead sets mid read new → TakesSome sets old (front ++ (onto at read further).routes) new
-some_of sets old mid new front at (Ok routes) further so_far some =
-    front_of sets old new front (routes ++ further.routes) some.0 (omega (arith, some.1, length-append routes further.routes))
-    (ap (λ (t : List Route). take_routes sets old (front ++ t)) (take-append-le some.0 routes further.routes some.1) ∙ take_routes-append sets old mid front (take some.0 routes) so_far ∙ some.2)
-some_of sets old mid new front at (Err broken) further so_far some =
-    front_of sets old new front [] 0 (omega arith) (ap (take_routes sets old) (append-nil front) ∙ so_far ∙ ap (λ (t : Taken). Ok t) (sym some))
+some_of : (sets : Sets) (old mid new : Taken) (prefix : List Route) (at : At) (read : Result (List Route) RibFault) (further : Reading) → Takes sets old prefix mid
+    → TakesSomeRead sets mid read new → TakesSome sets old (prefix ++ (onto at read further).routes) new
+some_of sets old mid new prefix at (Ok routes) further so_far some =
+    prefix_of sets old new prefix (routes ++ further.routes) some.0 (omega (arith, some.1, length-append routes further.routes))
+    (ap (λ (t : List Route). take_routes sets old (prefix ++ t)) (take-append-le some.0 routes further.routes some.1) ∙ take_routes-append sets old mid prefix (take some.0 routes) so_far ∙ some.2)
+some_of sets old mid new prefix at (Err broken) further so_far some =
+    prefix_of sets old new prefix [] 0 (omega arith) (ap (take_routes sets old) (append-nil prefix) ∙ so_far ∙ ap (λ (t : Taken). Ok t) (sym some))
 
 pub some_with : (sets : Sets) (left₀ left left' : Option (List ℕ)) (at : At) (peers : Option ℕ) (r : Record) (old mid new : Taken) → GoesOf sets left₀ left at peers old mid
     → IfSome left (λ octets. FindsNext at octets r left') → TakesSomeRead sets mid (routes_of peers r) new → IfSome left₀ (λ octets. TakesSome sets old (file_reading octets).routes new)
@@ -244,23 +244,23 @@ some_with sets (Some octets) left left' at peers r old mid new goes finds some =
     let finds' : FindsNext at goes.rest r left' = subst (λ o. IfSome o (λ b. FindsNext at b r left')) goes.is_left finds in
     let f = found peers goes.fuel at goes.rest r left' finds' goes.enough in
     let further = reading_from (peers_behind peers r) (cut_within f.fuel (behind r) f.rest) in
-    subst (λ (routes : List Route). TakesSome sets old routes new) (sym (goes.routes ∙ ap (λ reading. goes.front ++ reading.routes) f.same))
-    (some_of sets old mid new goes.front r.at (routes_of peers r) further goes.so_far some)
+    subst (λ (routes : List Route). TakesSome sets old routes new) (sym (goes.routes ∙ ap (λ reading. goes.prefix ++ reading.routes) f.same))
+    (some_of sets old mid new goes.prefix r.at (routes_of peers r) further goes.so_far some)
 
--- an error that tells an end of the records tells the end of the dump
-pub frame_told : (sets : Sets) (d : ℕ) (left₀ left : Option (List ℕ)) (at : At) (peers : Option ℕ) (old new : Taken) (e : FrameError) → GoesOf sets left₀ left at peers old new
+-- an error that knows an end of the records knows the end of the dump
+pub frame_known : (sets : Sets) (d : ℕ) (left₀ left : Option (List ℕ)) (at : At) (peers : Option ℕ) (old new : Taken) (e : FrameError) → GoesOf sets left₀ left at peers old new
     → IfSome (end_of_error e) (λ end. IfSome left (λ octets. StopsWith at octets end))
-    → IfSome (end_told d (of_frame d e)) (λ end. IfSome left₀ (λ octets. of_octets sets d old octets ≡ Err end))
-frame_told sets d left₀ left at peers old new (frame.HeadCut a) goes stops = ends sets d left₀ left at peers old new (HeadCut a) goes stops
-frame_told sets d left₀ left at peers old new (frame.BodyCut a) goes stops = ends sets d left₀ left at peers old new (BodyCut a) goes stops
-frame_told sets d left₀ left at peers old new (frame.Oversize a) goes stops = ends sets d left₀ left at peers old new (Oversize a) goes stops
-frame_told sets d left₀ left at peers old new frame.TooManyBytes goes stops = ends sets d left₀ left at peers old new TooManyBytes goes stops
-frame_told sets d left₀ left at peers old new frame.ReadFault goes stops = tt
-frame_told sets d left₀ left at peers old new frame.NoMemory goes stops = tt
+    → IfSome (end_known d (of_frame d e)) (λ end. IfSome left₀ (λ octets. of_octets sets d old octets ≡ Err end))
+frame_known sets d left₀ left at peers old new (frame.HeadCut a) goes stops = ends sets d left₀ left at peers old new (HeadCut a) goes stops
+frame_known sets d left₀ left at peers old new (frame.BodyCut a) goes stops = ends sets d left₀ left at peers old new (BodyCut a) goes stops
+frame_known sets d left₀ left at peers old new (frame.Oversize a) goes stops = ends sets d left₀ left at peers old new (Oversize a) goes stops
+frame_known sets d left₀ left at peers old new frame.TooManyBytes goes stops = ends sets d left₀ left at peers old new TooManyBytes goes stops
+frame_known sets d left₀ left at peers old new frame.ReadFault goes stops = tt
+frame_known sets d left₀ left at peers old new frame.NoMemory goes stops = tt
 
 -- before any route
-pub none_so_far : (sets : Sets) (old : Taken) (told : Option Files) (name : List ℕ)
-    → IfSome told (λ files. IfSome (files name) (λ octets. TakesSome sets old (file_reading octets).routes old))
+pub none_so_far : (sets : Sets) (old : Taken) (known : Option Files) (name : List ℕ)
+    → IfSome known (λ files. IfSome (files name) (λ octets. TakesSome sets old (file_reading octets).routes old))
 none_so_far sets old None name = tt
 none_so_far sets old (Some files) name = by (files name)
   where

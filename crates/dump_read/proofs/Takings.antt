@@ -24,17 +24,17 @@ use Rattle.dump_read.specs.Refusals.{IsLimit, IsUnread, TakesRead, TakesSomeRead
 use Rattle.dump_read.specs.Taking.{Taken, take_route, take_routes, Takes, TakesSome}
 
 -- what was taken in so far, and then the others
-pub take_routes-append : (sets : Sets) (old mid : Taken) (front rest : List Route) → Takes sets old front mid → take_routes sets old (front ++ rest) ≡ take_routes sets mid rest
+pub take_routes-append : (sets : Sets) (old mid : Taken) (prefix rest : List Route) → Takes sets old prefix mid → take_routes sets old (prefix ++ rest) ≡ take_routes sets mid rest
 unfolding take_routes
 take_routes-append sets old mid [] rest takes = ap (λ t. take_routes sets t rest) (same old mid takes)
   where
     same : (x y : Taken) → ◌≡◌ {A = Result Taken LimitKind} (Ok x) (Ok y) → x ≡ y
     same x y e = cc
-take_routes-append sets old mid (r ∷ front) rest takes = by (take_route sets old r) takes (λ further. take_routes-append sets further mid front rest)
+take_routes-append sets old mid (r ∷ prefix) rest takes = by (take_route sets old r) takes (λ further. take_routes-append sets further mid prefix rest)
   where
-    by : (one : Result Taken LimitKind) → (one >>= λ further. take_routes sets further front) ≡ Ok mid
-        → ((further : Taken) → Takes sets further front mid → take_routes sets further (front ++ rest) ≡ take_routes sets mid rest)
-        → (one >>= λ further. take_routes sets further (front ++ rest)) ≡ take_routes sets mid rest
+    by : (one : Result Taken LimitKind) → (one >>= λ further. take_routes sets further prefix) ≡ Ok mid
+        → ((further : Taken) → Takes sets further prefix mid → take_routes sets further (prefix ++ rest) ≡ take_routes sets mid rest)
+        → (one >>= λ further. take_routes sets further (prefix ++ rest)) ≡ take_routes sets mid rest
     by (Ok further) is ih = ih further is
     by (Err kind) is ih = absurd cc
 
@@ -50,12 +50,12 @@ pub stops : (sets : Sets) (old : Taken) (r : Route) (rest : List Route) (kind : 
 unfolding take_routes
 stops sets old r rest kind is = rw is refl
 
-pub takes_one_more : (sets : Sets) (old mid new : Taken) (front : List Route) (r : Route) → Takes sets old front mid → take_route sets mid r ≡ Ok new → Takes sets old (front ++ r ∷ []) new
-takes_one_more sets old mid new front r takes one = take_routes-append sets old mid front (r ∷ []) takes ∙ one_route sets mid r ∙ one
+pub takes_one_more : (sets : Sets) (old mid new : Taken) (prefix : List Route) (r : Route) → Takes sets old prefix mid → take_route sets mid r ≡ Ok new → Takes sets old (prefix ++ r ∷ []) new
+takes_one_more sets old mid new prefix r takes one = take_routes-append sets old mid prefix (r ∷ []) takes ∙ one_route sets mid r ∙ one
 
-pub stops_behind : (sets : Sets) (old mid : Taken) (front : List Route) (r : Route) (rest : List Route) (kind : LimitKind) → Takes sets old front mid → take_route sets mid r ≡ Err kind
-    → take_routes sets old (front ++ r ∷ rest) ≡ Err kind
-stops_behind sets old mid front r rest kind takes one = take_routes-append sets old mid front (r ∷ rest) takes ∙ stops sets mid r rest kind one
+pub stops_behind : (sets : Sets) (old mid : Taken) (prefix : List Route) (r : Route) (rest : List Route) (kind : LimitKind) → Takes sets old prefix mid → take_route sets mid r ≡ Err kind
+    → take_routes sets old (prefix ++ r ∷ rest) ≡ Err kind
+stops_behind sets old mid prefix r rest kind takes one = take_routes-append sets old mid prefix (r ∷ rest) takes ∙ stops sets mid r rest kind one
 
 -- a route of each entry: those before one, that one, and those behind it
 pub entries_at : (entries : List Entry) (i : ℕ) (e : Entry) → i < length entries → e ≡ get_or entries i e

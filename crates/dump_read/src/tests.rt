@@ -116,7 +116,7 @@ fn reads_dumps(rt: HostRuntime) -> Result<(), Fail> {
 }
 
 #[test]
-fn tells_an_absent_dump(rt: HostRuntime) {
+fn knows_an_absent_dump(rt: HostRuntime) {
     let mut shelf = MemShelf::new(rt.alloc());
     let mut table = PathTable::new(rt.alloc(), 8);
     let mut asides = Asides::new();

@@ -1,18 +1,18 @@
--- A file is cut into the records that it spells.
+-- A file is cut into the records that it encodes.
 use Rattle.std.proofs.Common.{◌≡◌, ℕ, zero, suc, ◌≤◌, ◌<◌, List, [], ◌∷◌, ◌++◌, length, refl, sym, ap, subst, ◌∙◌, arith}
 use Rattle.std.proofs.lemmas.List.{length-append}
 use Rattle.mrt_frame.specs.declared.header.At.{At}
 use Rattle.mrt_frame.specs.Records.{Record, Cut, End, Next, Ends, Holds, Well, HeadCut, TooManyBytes, Oversize, BodyCut, next_of, cut_within, behind, onto, start}
-use Rattle.mrt_frame.specs.Spelling.{Spells, IsEnd, AreSpelled, SpellingLaw, OneReadingLaw}
+use Rattle.mrt_frame.specs.Encoding.{Encodes, IsEnd, AreEncoded, EncodingLaw, OneReadingLaw}
 use Rattle.mrt_frame.proofs.Nexts.{StandsAt, IsNext, next_is, is_next}
 
 -- the octets behind a record are fewer
-fewer : (octets : List ℕ) (r : Record) (rest : List ℕ) → Spells octets r rest → length rest < length octets
+fewer : (octets : List ℕ) (r : Record) (rest : List ℕ) → Encodes octets r rest → length rest < length octets
 fewer octets r rest s =
-    omega (arith, ap length s.spelled, length-append (s.header ++ r.body) rest, length-append s.header r.body, s.is_header.octets)
+    omega (arith, ap length s.encoded, length-append (s.header ++ r.body) rest, length-append s.header r.body, s.is_header.octets)
 
 pub shorter : (at : At) (octets : List ℕ) (r : Record) (rest : List ℕ) → next_of at octets ≡ Holds r rest → length rest < length octets
-shorter at octets r rest is = let stands : StandsAt at octets r rest = subst (IsNext at octets) is (next_is at octets) in fewer octets r rest stands.spelled
+shorter at octets r rest is = let stands : StandsAt at octets r rest = subst (IsNext at octets) is (next_is at octets) in fewer octets r rest stands.encoded
 
 -- nothing but the end stands where no octet is
 no_octet : (at : At) (end : End) → IsEnd at [] end → Well ≡ end
@@ -31,9 +31,9 @@ unfolding cut_within
 ends_with n at octets end is = rw (is, cut_within) refl
 
 abbrev AreOf : At → List ℕ → Cut → Type 0
-AreOf at octets c = AreSpelled at octets c.records c.end
+AreOf at octets c = AreEncoded at octets c.records c.end
 
--- what is cut is spelled
+-- what is cut is encoded
 cut_is : (n : ℕ) (at : At) (octets : List ℕ) → length octets ≤ n → AreOf at octets (cut_within n at octets)
 unfolding cut_within
 cut_is zero at [] le = refl
@@ -44,21 +44,21 @@ cut_is (suc n) at octets le = by_next (next_of at octets) refl (next_is at octet
     by_next (Ends end) is there later = subst (AreOf at octets) (sym (ends_with n at octets end is)) (subst (IsNext at octets) is there)
     by_next (Holds r rest) is there later =
         let s : StandsAt at octets r rest = subst (IsNext at octets) is there in
-        subst (AreOf at octets) (sym (unrolled n at octets r rest is)) (rest, s.placed, s.within, s.spelled, later (behind r) rest (omega (arith, fewer octets r rest s.spelled)))
+        subst (AreOf at octets) (sym (unrolled n at octets r rest is)) (rest, s.placed, s.within, s.encoded, later (behind r) rest (omega (arith, fewer octets r rest s.encoded)))
 
--- what is spelled is cut so
-is_cut : (n : ℕ) (at : At) (octets : List ℕ) (records : List Record) (end : End) → length octets ≤ n → AreSpelled at octets records end → cut_within n at octets ≡ record { records = records; end = end }
+-- what is encoded is cut so
+is_cut : (n : ℕ) (at : At) (octets : List ℕ) (records : List Record) (end : End) → length octets ≤ n → AreEncoded at octets records end → cut_within n at octets ≡ record { records = records; end = end }
 unfolding cut_within
 is_cut zero at (octet ∷ octets) records end le is = absurd (omega arith)
 is_cut zero at [] [] end le is = ap (λ (e : End). record { records = []; end = e }) (no_octet at end is)
 is_cut zero at [] (r ∷ records) end le is = absurd (omega (arith, fewer [] r is.0 is.3))
 is_cut (suc n) at octets [] end le is = ends_with n at octets end (is_next at octets (Ends end) is)
 is_cut (suc n) at octets (r ∷ records) end le is =
-    unrolled n at octets r is.0 (is_next at octets (Holds r is.0) (record { placed = is.1; within = is.2; spelled = is.3 }))
+    unrolled n at octets r is.0 (is_next at octets (Holds r is.0) (record { placed = is.1; within = is.2; encoded = is.3 }))
     ∙ ap (onto r) (is_cut n (behind r) is.0 records end (omega (arith, fewer octets r is.0 is.3)) is.4)
 
-pub spelling_law : SpellingLaw
-spelling_law octets records end = (
+pub encoding_law : EncodingLaw
+encoding_law octets records end = (
   (λ is. subst (AreOf start octets) is (cut_is (length octets) start octets (omega arith))),
   is_cut (length octets) start octets records end (omega arith),
 )

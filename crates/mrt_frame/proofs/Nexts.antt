@@ -1,4 +1,4 @@
--- What stands next at a place, both ways: by the five tests, and by what is spelled there.
+-- What stands next at a place, both ways: by the five tests, and by what is encoded there.
 use Rattle.std.proofs.Common.{◌≡◌, ℕ, ◌+◌, ◌^◌, ◌≤◌, ◌<◌, Bool, true, false, cond, ltb, ◌&&◌, List, [], ◌∷◌, ◌++◌, length, take, drop, refl, sym, ap, ◌∙◌, append_assoc, arith}
 use Rattle.std.specs.Prelude.{IsTrue}
 use Rattle.std.proofs.lemmas.Bool.{lt-ltb, ltb-true, le-ltb, ltb-false, and_parts, and_from}
@@ -6,14 +6,14 @@ use Rattle.std.proofs.lemmas.List.{take-append-drop, length-take, length-drop, l
 use Rattle.std.proofs.Math.Seq.{take-append_seam, drop-append_seam}
 use Rattle.mrt_frame.specs.declared.header.At.{At}
 use Rattle.mrt_frame.specs.Records.{Record, Next, Ends, Holds, Well, HeadCut, TooManyBytes, Oversize, BodyCut, is_read, kind_in, subtype_in, length_in, next_of, next_body}
-use Rattle.mrt_frame.specs.Spelling.{IsHeader, Spells, IsWithin, IsEnd}
-use Rattle.mrt_frame.proofs.HeaderFields.{fields_of_front, fields_of_take}
+use Rattle.mrt_frame.specs.Encoding.{IsHeader, Encodes, IsWithin, IsEnd}
+use Rattle.mrt_frame.proofs.HeaderFields.{fields_of_prefix, fields_of_take}
 
--- this record stands at this place, in front of the rest
+-- this record stands at this place, in prefix of the rest
 pub record StandsAt (at : At) (octets : List ℕ) (r : Record) (rest : List ℕ) : Type 0 where
   pub placed : r.at ≡ at
   pub within : IsWithin r
-  pub spelled : Spells octets r rest
+  pub encoded : Encodes octets r rest
 
 abbrev pub IsNext : At → List ℕ → Next → Type 0
 IsNext at octets (Ends end) = IsEnd at octets end
@@ -38,7 +38,7 @@ holds_is at octets whole near small fits =
     record {
       placed = refl;
       within = record { file = omega arith; body = λ read. omega (arith, small read) };
-      spelled = record {
+      encoded = record {
         header = take 12 octets;
         is_header = record {
           octets = omega (arith, length-take 12 octets);
@@ -46,7 +46,7 @@ holds_is at octets whole near small fits =
           subtype = sym same.subtype;
           len = sym same.len ∙ sym body;
         };
-        spelled = sym (append_assoc (take 12 octets) (take len behind) (drop len behind) ∙ ap (λ (t : List ℕ). take 12 octets ++ t) (take-append-drop len behind) ∙ take-append-drop 12 octets);
+        encoded = sym (append_assoc (take 12 octets) (take len behind) (drop len behind) ∙ ap (λ (t : List ℕ). take 12 octets ++ t) (take-append-drop len behind) ∙ take-append-drop 12 octets);
       };
     }
 
@@ -99,7 +99,7 @@ holds_next at r header rest placed within h =
     let octets = header ++ r.body ++ rest in
     let grouped : octets ≡ header ++ (r.body ++ rest) = append_assoc header r.body rest in
     let whole : 12 ≤ length header = omega (arith, h.octets) in
-    let same = fields_of_front header (r.body ++ rest) whole in
+    let same = fields_of_prefix header (r.body ++ rest) whole in
     ap (next_of at) grouped
     ∙ whole_header at (header ++ (r.body ++ rest)) (omega (arith, length-append header (r.body ++ rest)))
     ∙ ap (λ k. next_body at k (subtype_in (header ++ (r.body ++ rest))) (length_in (header ++ (r.body ++ rest))) (drop 12 (header ++ (r.body ++ rest)))) (same.kind ∙ h.kind)
@@ -120,4 +120,4 @@ is_next at octets (Ends (BodyCut a)) is =
     let short : length (drop 12 octets) < length_in octets = omega (arith, length-drop 12 octets) in
     whole_header at octets is.1.header
     ∙ rw (le-ltb (2 ^ 40) (at.offset + 12 + length_in octets) is.1.file, small_enough (kind_in octets) (subtype_in octets) (length_in octets) is.2, lt-ltb (length (drop 12 octets)) (length_in octets) short) (ap (λ (p : At). Ends (BodyCut p)) (sym is.0))
-is_next at octets (Holds r rest) is = ap (next_of at) is.spelled.spelled ∙ holds_next at r is.spelled.header rest is.placed is.within is.spelled.is_header
+is_next at octets (Holds r rest) is = ap (next_of at) is.encoded.encoded ∙ holds_next at r is.encoded.header rest is.placed is.within is.encoded.is_header

@@ -13,7 +13,7 @@ use Rattle.mrt_frame.proofs.Cuts.{shorter, unrolled}
 pub nothing : (at : At) (octets : List ℕ) → Passes at octets at octets
 nothing at octets = ([], (refl, refl))
 
--- one record more in front
+-- one record more in prefix
 pub one_more : (at : At) (octets : List ℕ) (r : Record) (rest : List ℕ) (place : At) (reached : List ℕ) → next_of at octets ≡ Holds r rest → is_read r.kind r.subtype ≡ false → Passes (behind r) rest place reached → Passes at octets place reached
 one_more at octets r rest place reached is not p = (r ∷ p.0, (rest, is, not, p.1))
 
@@ -32,9 +32,9 @@ abbrev pub NoneIsRead : List Record → Type 0
 NoneIsRead [] = Unit {0}
 NoneIsRead (r ∷ records) = (is_read r.kind r.subtype ≡ false) × NoneIsRead records
 
--- records in front of those of a cut
-abbrev pub in_front : List Record → Cut → Cut
-in_front records c = record { records = records ++ c.records; end = c.end }
+-- records in prefix of those of a cut
+abbrev pub in_prefix : List Record → Cut → Cut
+in_prefix records c = record { records = records ++ c.records; end = c.end }
 
 -- a cut list begins with the records that are passed over, and goes on from behind them
 pub record GoesOn (fuel : ℕ) (at : At) (octets : List ℕ) (place : At) (reached : List ℕ) : Type 0 where
@@ -42,7 +42,7 @@ pub record GoesOn (fuel : ℕ) (at : At) (octets : List ℕ) (place : At) (reach
   pub none : NoneIsRead records
   pub fuel_left : ℕ
   pub enough : length reached ≤ fuel_left
-  pub same : cut_within fuel at octets ≡ in_front records (cut_within fuel_left place reached)
+  pub same : cut_within fuel at octets ≡ in_prefix records (cut_within fuel_left place reached)
 
 over : (records : List Record) (fuel : ℕ) (at : At) (octets : List ℕ) (place : At) (reached : List ℕ) → PassesOver records at octets place reached → length octets ≤ fuel → GoesOn fuel at octets place reached
 over [] fuel at octets place reached p le = record {
@@ -66,7 +66,7 @@ over (r ∷ records) (suc fuel) at octets place reached p le =
 pub passes_over : (fuel : ℕ) (at : At) (octets : List ℕ) (place : At) (reached : List ℕ) → Passes at octets place reached → length octets ≤ fuel → GoesOn fuel at octets place reached
 passes_over fuel at octets place reached p le = over p.0 fuel at octets place reached p.1 le
 
--- the reader passed over records, where the octets are told
+-- the reader passed over records, where the octets are known
 abbrev pub HasPassed : Option (List ℕ) → At → Option (List ℕ) → At → Type 0
 HasPassed None start left at = Unit {0}
 HasPassed (Some octets) start left at = (reached : List ℕ) × (left ≡ Some reached) × Passes start octets at reached

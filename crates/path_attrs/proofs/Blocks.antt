@@ -6,15 +6,15 @@ use Rattle.std.proofs.lemmas.List.{take-append-drop, length-take-le, length-appe
 use Rattle.byteorder.specs.Endian.{big_number}
 use Rattle.path_attrs.specs.declared.block.AttrCut.{AttrCut}
 use Rattle.path_attrs.specs.Fields.{◌>>=◌, octets, number}
-use Rattle.path_attrs.specs.Attributes.{Attribute, cut, length_octets, attribute, attributes_within, attributes_of, attributes_in, first_value, IsSpelled, AreSpelled, BlockLaw}
-use Rattle.path_attrs.proofs.Reading.{number_at, number_spelled, octets_spelled, octets_then, number_then, apart, ok_same}
-use Rattle.path_attrs.proofs.Spellings.{big_number-take, big_number-one, one_octet}
+use Rattle.path_attrs.specs.Attributes.{Attribute, cut, length_octets, attribute, attributes_within, attributes_of, attributes_in, first_value, IsEncoded, AreEncoded, BlockLaw}
+use Rattle.path_attrs.proofs.Reading.{number_at, number_encoded, octets_encoded, octets_then, number_then, apart, ok_same}
+use Rattle.path_attrs.proofs.Encodings.{big_number-take, big_number-one, one_octet}
 
--- the octets begin with an attribute's spelling
+-- the octets begin with an attribute's encoding
 record Begins (a : Attribute) (rest bytes : List ℕ) : Type 0 where
-  front : List ℕ
-  spelled : IsSpelled a front
-  parts : bytes ≡ front ++ rest
+  prefix : List ℕ
+  encoded : IsEncoded a prefix
+  parts : bytes ≡ prefix ++ rest
 
 -- an attribute of fields that are whole
 four_fields : (bytes : List ℕ) → 1 ≤ length bytes → 1 ≤ length (drop 1 bytes)
@@ -29,8 +29,8 @@ four_fields bytes h1 h2 h3 h4 =
     let b3 = drop k b2 in
     let len = big_number k b2 in
     record {
-      front = flags ∷ code ∷ (take k b2 ++ take len b3);
-      spelled = record {
+      prefix = flags ∷ code ∷ (take k b2 ++ take len b3);
+      encoded = record {
         flags = flags;
         len = take k b2;
         width = length-take-le k b2 h3;
@@ -66,27 +66,27 @@ attribute_back bytes a rest is =
     let same = ok_same (record { code = big_number 1 b1; value = take l b3 }, drop l b3) (a, rest) s4.1 in
     subst (λ (x : Attribute × List ℕ). Begins x.0 x.1 bytes) same (four_fields bytes s1.0 s2.0 s3.0 s4.0)
 
--- read from its spelling
-attribute_at : (a : Attribute) (front rest : List ℕ) → IsSpelled a front → attribute (front ++ rest) ≡ Ok (a, rest)
+-- read from its encoding
+attribute_at : (a : Attribute) (prefix rest : List ℕ) → IsEncoded a prefix → attribute (prefix ++ rest) ≡ Ok (a, rest)
 unfolding attribute after_len after_code after_flags
-attribute_at a front rest s =
+attribute_at a prefix rest s =
     let behind = a.value ++ rest in
     let k = length_octets s.flags in
-    let all : front ++ rest ≡ s.flags ∷ a.code ∷ (s.len ++ behind) = ap (λ f. f ++ rest) s.parts ∙ ap (λ t. s.flags ∷ a.code ∷ t) (append_assoc s.len a.value rest) in
+    let all : prefix ++ rest ≡ s.flags ∷ a.code ∷ (s.len ++ behind) = ap (λ f. f ++ rest) s.parts ∙ ap (λ t. s.flags ∷ a.code ∷ t) (append_assoc s.len a.value rest) in
     let flags : number cut 1 (s.flags ∷ a.code ∷ (s.len ++ behind)) ≡ Ok (s.flags, a.code ∷ (s.len ++ behind)) =
     number_at cut 1 (s.flags ∷ a.code ∷ (s.len ++ behind)) (omega arith) ∙ ap (λ x. Ok (x, a.code ∷ (s.len ++ behind))) (big_number-one s.flags (a.code ∷ (s.len ++ behind))) in
     let code : number cut 1 (a.code ∷ (s.len ++ behind)) ≡ Ok (a.code, s.len ++ behind) =
     number_at cut 1 (a.code ∷ (s.len ++ behind)) (omega arith) ∙ ap (λ x. Ok (x, s.len ++ behind)) (big_number-one a.code (s.len ++ behind)) in
-    let len = number_spelled cut k s.len behind (length a.value) s.width s.counts in
-    let value = octets_spelled cut a.value rest in
+    let len = number_encoded cut k s.len behind (length a.value) s.width s.counts in
+    let value = octets_encoded cut a.value rest in
     ap attribute all ∙ ap (λ r. r >>= after_flags) flags ∙ ap (λ r. r >>= after_code s.flags) code ∙ ap (λ r. r >>= after_len a.code) len
     ∙ ap (λ (r : Result (List ℕ × List ℕ) AttrCut). r >>= λ v. Ok (record { code = a.code; value = v.0 }, v.1)) value
 
 pub shorter : (bytes : List ℕ) (a : Attribute) (rest : List ℕ) → attribute bytes ≡ Ok (a, rest) → length rest < length bytes
 shorter bytes a rest is =
     let b = attribute_back bytes a rest is in
-    let two : 2 ≤ length b.front = omega (arith, ap length b.spelled.parts) in
-    let all : length bytes ≡ length b.front + length rest = ap length b.parts ∙ length-append b.front rest in
+    let two : 2 ≤ length b.prefix = omega (arith, ap length b.encoded.parts) in
+    let all : length bytes ≡ length b.prefix + length rest = ap length b.parts ∙ length-append b.prefix rest in
     omega arith
 
 -- the bound does not matter where it is great enough
@@ -121,7 +121,7 @@ pub attributes_of-none : attributes_of [] ≡ Ok []
 unfolding attributes_of attributes_within
 attributes_of-none = refl
 
--- what one attribute at the front changes
+-- what one attribute at the prefix changes
 consed_is_ok : (a : Attribute) (read : Result (List Attribute) AttrCut) → is_ok (read >>= λ others. Ok (a ∷ others)) ≡ is_ok read
 consed_is_ok a (Ok others) = refl
 consed_is_ok a (Err e) = refl
@@ -140,7 +140,7 @@ attributes_in-next bytes a rest is ok =
     consed (Ok others) h = refl
     consed (Err e) h = absurd cc
 
--- where no attribute is at the front, there is none, or the block is cut
+-- where no attribute is at the prefix, there is none, or the block is cut
 pub attributes_in-end : (bytes : List ℕ) (e : AttrCut) → attribute bytes ≡ Err e → attributes_in bytes ≡ []
 unfolding attributes_in
 attributes_in-end [] e is = ap (λ r. result_unwrap_or r []) attributes_of-none
@@ -155,32 +155,32 @@ attributes_in-whole bytes ok = at (attributes_of bytes) ok
     at (Err e) h = absurd cc
 
 -- the law of blocks
-spelled_within : (n : ℕ) (bytes : List ℕ) (attrs : List Attribute) → attributes_within n bytes ≡ Ok attrs → AreSpelled attrs bytes
+encoded_within : (n : ℕ) (bytes : List ℕ) (attrs : List Attribute) → attributes_within n bytes ≡ Ok attrs → AreEncoded attrs bytes
 unfolding attributes_within
-spelled_within n [] attrs is = subst (λ l. AreSpelled l []) (ok_same {E = AttrCut} [] attrs is) refl
-spelled_within zero (x ∷ xs) attrs is = absurd (apart cut attrs is)
-spelled_within (suc n) (x ∷ xs) attrs is = of_first (attribute (x ∷ xs)) refl is (λ rest others h. spelled_within n rest others h)
+encoded_within n [] attrs is = subst (λ l. AreEncoded l []) (ok_same {E = AttrCut} [] attrs is) refl
+encoded_within zero (x ∷ xs) attrs is = absurd (apart cut attrs is)
+encoded_within (suc n) (x ∷ xs) attrs is = of_first (attribute (x ∷ xs)) refl is (λ rest others h. encoded_within n rest others h)
   where
     of_others : (first : Attribute × List ℕ) (read : Result (List Attribute) AttrCut) → attribute (x ∷ xs) ≡ Ok first → attributes_within n first.1 ≡ read → (read >>= λ others. Ok (first.0 ∷ others)) ≡ Ok attrs
-        → ((rest : List ℕ) (others : List Attribute) → attributes_within n rest ≡ Ok others → AreSpelled others rest) → AreSpelled attrs (x ∷ xs)
-    of_others first (Ok others) front behind h hyp =
-        let b = attribute_back (x ∷ xs) first.0 first.1 front in
-        subst (λ l. AreSpelled l (x ∷ xs)) (ok_same {E = AttrCut} (first.0 ∷ others) attrs h) (b.front, first.1, b.spelled, hyp first.1 others behind, b.parts)
-    of_others first (Err e) front behind h hyp = absurd (apart e attrs h)
+        → ((rest : List ℕ) (others : List Attribute) → attributes_within n rest ≡ Ok others → AreEncoded others rest) → AreEncoded attrs (x ∷ xs)
+    of_others first (Ok others) prefix behind h hyp =
+        let b = attribute_back (x ∷ xs) first.0 first.1 prefix in
+        subst (λ l. AreEncoded l (x ∷ xs)) (ok_same {E = AttrCut} (first.0 ∷ others) attrs h) (b.prefix, first.1, b.encoded, hyp first.1 others behind, b.parts)
+    of_others first (Err e) prefix behind h hyp = absurd (apart e attrs h)
 
     of_first : (read : Result (Attribute × List ℕ) AttrCut) → attribute (x ∷ xs) ≡ read → (read >>= λ first. attributes_within n first.1 >>= λ others. Ok (first.0 ∷ others)) ≡ Ok attrs
-        → ((rest : List ℕ) (others : List Attribute) → attributes_within n rest ≡ Ok others → AreSpelled others rest) → AreSpelled attrs (x ∷ xs)
-    of_first (Ok first) front h hyp = of_others first (attributes_within n first.1) front refl h hyp
-    of_first (Err e) front h hyp = absurd (apart e attrs h)
+        → ((rest : List ℕ) (others : List Attribute) → attributes_within n rest ≡ Ok others → AreEncoded others rest) → AreEncoded attrs (x ∷ xs)
+    of_first (Ok first) prefix h hyp = of_others first (attributes_within n first.1) prefix refl h hyp
+    of_first (Err e) prefix h hyp = absurd (apart e attrs h)
 
-of_spelling : (attrs : List Attribute) (bytes : List ℕ) → AreSpelled attrs bytes → attributes_of bytes ≡ Ok attrs
-of_spelling [] bytes s = ap attributes_of s ∙ attributes_of-none
-of_spelling (a ∷ attrs) bytes s =
-    attributes_of-next bytes a s.1 (ap attribute s.4 ∙ attribute_at a s.0 s.1 s.2) ∙ ap (λ (r : Result (List Attribute) AttrCut). r >>= λ others. Ok (a ∷ others)) (of_spelling attrs s.1 s.3)
+of_encoding : (attrs : List Attribute) (bytes : List ℕ) → AreEncoded attrs bytes → attributes_of bytes ≡ Ok attrs
+of_encoding [] bytes s = ap attributes_of s ∙ attributes_of-none
+of_encoding (a ∷ attrs) bytes s =
+    attributes_of-next bytes a s.1 (ap attribute s.4 ∙ attribute_at a s.0 s.1 s.2) ∙ ap (λ (r : Result (List Attribute) AttrCut). r >>= λ others. Ok (a ∷ others)) (of_encoding attrs s.1 s.3)
 
 pub block_law : BlockLaw
 unfolding attributes_of
-block_law block attrs = (spelled_within (length block) block attrs, of_spelling attrs block)
+block_law block attrs = (encoded_within (length block) block attrs, of_encoding attrs block)
 
 -- the ways out of the loop over a block
 pub cut_block : (block rest : List ℕ) (e given : AttrCut) → 0 < length rest → attribute rest ≡ Err e → is_ok (attributes_of rest) ≡ is_ok (attributes_of block) → Err given ≡ attributes_of block
@@ -193,7 +193,7 @@ cut_block block rest e given lt is same = at (attributes_of block) (sym same ∙
 pub whole_block : (block rest : List ℕ) → rest ≡ [] → is_ok (attributes_of rest) ≡ is_ok (attributes_of block) → is_ok (attributes_of block) ≡ true
 whole_block block rest none same = sym same ∙ ap (λ r. is_ok (attributes_of r)) none ∙ ap is_ok attributes_of-none
 
--- the first attribute of a code: at the front, behind it, or nowhere
+-- the first attribute of a code: at the prefix, behind it, or nowhere
 pub first_here : (code : ℕ) (bytes : List ℕ) (a : Attribute) (rest : List ℕ) → attribute bytes ≡ Ok (a, rest) → is_ok (attributes_of bytes) ≡ true → a.code ≡ code → Some a.value ≡ first_value code (attributes_in bytes)
 first_here code bytes a rest is ok same =
     ap (λ b. cond b (Some a.value) (first_value code (attributes_in rest))) (sym (eq-eqb a.code code same)) ∙ sym (ap (first_value code) (attributes_in-next bytes a rest is ok).1)

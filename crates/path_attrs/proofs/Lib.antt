@@ -1,5 +1,5 @@
 pub mod Reading
-pub mod Spellings
+pub mod Encodings
 pub mod Blocks
 pub mod Values
 mod Vectors

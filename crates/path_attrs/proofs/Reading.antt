@@ -6,7 +6,7 @@ use Rattle.std.proofs.Math.Dec.{eqb-suc-zero}
 use Rattle.std.proofs.Math.Seq.{drop-append_seam, take-append_seam}
 use Rattle.byteorder.specs.Endian.{big_number}
 use Rattle.path_attrs.specs.Fields.{◌>>=◌, octets, number}
-use Rattle.path_attrs.proofs.Spellings.{big_number-append}
+use Rattle.path_attrs.proofs.Encodings.{big_number-append}
 
 -- what a field reads where it is whole
 pub octets_at : {E : Type 0} (fault : E) (n : ℕ) (bytes : List ℕ) → n ≤ length bytes → octets fault n bytes ≡ Ok (take n bytes, drop n bytes)
@@ -15,15 +15,15 @@ octets_at fault n bytes h = rw (le-ltb (length bytes) n h) refl
 pub number_at : {E : Type 0} (fault : E) (n : ℕ) (bytes : List ℕ) → n ≤ length bytes → number fault n bytes ≡ Ok (big_number n bytes, drop n bytes)
 number_at fault n bytes h = rw (le-ltb (length bytes) n h) refl
 
--- a field read from its spelling
-pub number_spelled : {E : Type 0} (fault : E) (n : ℕ) (front rest : List ℕ) (x : ℕ) → length front ≡ n → big_number n front ≡ x → number fault n (front ++ rest) ≡ Ok (x, rest)
-number_spelled fault n front rest x len is =
-    number_at fault n (front ++ rest) (omega (arith, length-append front rest))
-    ∙ ap₂ (λ m t. Ok (m, t)) (big_number-append n front rest (omega arith) ∙ is) (subst (λ k. drop k (front ++ rest) ≡ rest) len (drop-append_seam front rest))
+-- a field read from its encoding
+pub number_encoded : {E : Type 0} (fault : E) (n : ℕ) (prefix rest : List ℕ) (x : ℕ) → length prefix ≡ n → big_number n prefix ≡ x → number fault n (prefix ++ rest) ≡ Ok (x, rest)
+number_encoded fault n prefix rest x len is =
+    number_at fault n (prefix ++ rest) (omega (arith, length-append prefix rest))
+    ∙ ap₂ (λ m t. Ok (m, t)) (big_number-append n prefix rest (omega arith) ∙ is) (subst (λ k. drop k (prefix ++ rest) ≡ rest) len (drop-append_seam prefix rest))
 
-pub octets_spelled : {E : Type 0} (fault : E) (front rest : List ℕ) → octets fault (length front) (front ++ rest) ≡ Ok (front, rest)
-octets_spelled fault front rest =
-    octets_at fault (length front) (front ++ rest) (omega (arith, length-append front rest)) ∙ ap₂ (λ x t. Ok (x, t)) (take-append_seam front rest) (drop-append_seam front rest)
+pub octets_encoded : {E : Type 0} (fault : E) (prefix rest : List ℕ) → octets fault (length prefix) (prefix ++ rest) ≡ Ok (prefix, rest)
+octets_encoded fault prefix rest =
+    octets_at fault (length prefix) (prefix ++ rest) (omega (arith, length-append prefix rest)) ∙ ap₂ (λ x t. Ok (x, t)) (take-append_seam prefix rest) (drop-append_seam prefix rest)
 
 pub apart : {A E : Type 0} (e : E) (y : A) → ◌≡◌ {A = Result A E} (Err e) (Ok y) → ⊥
 apart e y h = cc

@@ -8,8 +8,8 @@ use Rattle.path_attrs.specs.declared.as_path.Width.{Width}
 use Rattle.path_attrs.specs.declared.as_path.SegKind.{SegKind}
 use Rattle.path_attrs.specs.declared.as_path.SegKind.TheVariants.{Set, Sequence, ConfedSequence, ConfedSet}
 use Rattle.path_attrs.specs.declared.as_path.Segment.{Segment}
-use Rattle.path_attrs.specs.Segments.{octets_in, code_of, kind_of, numbers, segment_of, segment, segments_within, segments_of, NumbersAreSpelled, SegmentIsSpelled, SegmentsAreSpelled, ValueLaw}
-use Rattle.path_attrs.proofs.Spellings.{big_number-append, big_number-take}
+use Rattle.path_attrs.specs.Segments.{octets_in, code_of, kind_of, numbers, segment_of, segment, segments_within, segments_of, NumbersAreEncoded, SegmentIsEncoded, SegmentsAreEncoded, ValueLaw}
+use Rattle.path_attrs.proofs.Encodings.{big_number-append, big_number-take}
 
 -- the steps of the loop over the numbers of a segment
 pub numbers-step : (n count i : ℕ) (rest so_far all : List ℕ) → i < count → so_far ++ numbers n (count - i) rest ≡ all → (so_far ++ big_number n rest ∷ []) ++ numbers n (count - (i + 1)) (drop n rest) ≡ all
@@ -27,7 +27,7 @@ room-step n count i rest lt room =
     more n k = omega arith
 
 -- numbers and their octets
-numbers-back : (n count : ℕ) (bytes : List ℕ) → n * count ≤ length bytes → NumbersAreSpelled n (numbers n count bytes) (take (n * count) bytes)
+numbers-back : (n count : ℕ) (bytes : List ℕ) → n * count ≤ length bytes → NumbersAreEncoded n (numbers n count bytes) (take (n * count) bytes)
 numbers-back n zero bytes h = let e : n * 0 ≡ 0 = omega arith in ap (λ k. take k bytes) e
 numbers-back n (suc count) bytes h =
     let e : n * suc count ≡ n + n * count = omega arith in (
@@ -43,16 +43,16 @@ numbers-length : (n count : ℕ) (bytes : List ℕ) → length (numbers n count 
 numbers-length n zero bytes = refl
 numbers-length n (suc count) bytes = ap suc (numbers-length n count (drop n bytes))
 
-numbers-at : (n : ℕ) (xs octets rest : List ℕ) → NumbersAreSpelled n xs octets → (length octets ≡ n * length xs) × (numbers n (length xs) (octets ++ rest) ≡ xs)
+numbers-at : (n : ℕ) (xs octets rest : List ℕ) → NumbersAreEncoded n xs octets → (length octets ≡ n * length xs) × (numbers n (length xs) (octets ++ rest) ≡ xs)
 numbers-at n [] octets rest s = (ap length s ∙ (let e : 0 ≡ n * 0 = omega arith in e), refl)
 numbers-at n (x ∷ xs) octets rest s =
-    let front = s.0 in
+    let prefix = s.0 in
     let more = s.1 in
     let behind = numbers-at n xs more rest s.4 in
-    let all : octets ++ rest ≡ front ++ (more ++ rest) = ap (λ o. o ++ rest) s.5 ∙ append_assoc front more rest in
-    let first : big_number n (octets ++ rest) ≡ x = ap (big_number n) all ∙ big_number-append n front (more ++ rest) (omega (arith, s.2)) ∙ s.3 in
-    let left : drop n (octets ++ rest) ≡ more ++ rest = ap (drop n) all ∙ subst (λ k. drop k (front ++ (more ++ rest)) ≡ more ++ rest) s.2 (drop-append_seam front (more ++ rest)) in
-    (omega (arith, ap length s.5, length-append front more, s.2, behind.0), ap₂ (λ y ys. y ∷ ys) first (ap (numbers n (length xs)) left ∙ behind.1))
+    let all : octets ++ rest ≡ prefix ++ (more ++ rest) = ap (λ o. o ++ rest) s.5 ∙ append_assoc prefix more rest in
+    let first : big_number n (octets ++ rest) ≡ x = ap (big_number n) all ∙ big_number-append n prefix (more ++ rest) (omega (arith, s.2)) ∙ s.3 in
+    let left : drop n (octets ++ rest) ≡ more ++ rest = ap (drop n) all ∙ subst (λ k. drop k (prefix ++ (more ++ rest)) ≡ more ++ rest) s.2 (drop-append_seam prefix (more ++ rest)) in
+    (omega (arith, ap length s.5, length-append prefix more, s.2, behind.0), ap₂ (λ y ys. y ∷ ys) first (ap (numbers n (length xs)) left ∙ behind.1))
 
 -- the kinds and their codes
 kind-back : (code : ℕ) (kind : SegKind) → kind_of code ≡ Some kind → code_of kind ≡ code
@@ -86,11 +86,11 @@ kind-at Sequence = refl
 kind-at ConfedSequence = refl
 kind-at ConfedSet = refl
 
--- the octets begin with a segment's spelling
+-- the octets begin with a segment's encoding
 record Begins (width : Width) (s : Segment) (rest bytes : List ℕ) : Type 0 where
-  front : List ℕ
-  spelled : SegmentIsSpelled width s front
-  parts : bytes ≡ front ++ rest
+  prefix : List ℕ
+  encoded : SegmentIsEncoded width s prefix
+  parts : bytes ≡ prefix ++ rest
 
 same_pair : (x y : Segment × List ℕ) → ◌≡◌ {A = Option (Segment × List ℕ)} (Some x) (Some y) → x ≡ y
 same_pair x y h = cc
@@ -106,8 +106,8 @@ kind_then width code count octets s rest (Some kind) t some fits h =
     let n = octets_in width * count in
     subst (λ (x : Segment × List ℕ). Begins width x.0 x.1 (code ∷ count ∷ octets)) (same_pair (segment_of width count octets kind) (s, rest) h)
     (record {
-      front = code ∷ count ∷ take n octets;
-      spelled = record {
+      prefix = code ∷ count ∷ take n octets;
+      encoded = record {
         octets = take n octets;
         some = omega arith;
         ases = numbers-back (octets_in width) count octets fits;
@@ -129,10 +129,10 @@ segment-back width (code ∷ count ∷ octets) s rest is = by_test (ltb 0 count 
         kind_then width code count octets s rest (kind_of code) refl (ltb-true 0 count p.0) (leb-true (octets_in width * count) (length octets) p.1) h
     by_test false t h = absurd (none_apart (s, rest) h)
 
--- read from its spelling
-segment-at : (width : Width) (s : Segment) (front rest : List ℕ) → SegmentIsSpelled width s front → segment width (front ++ rest) ≡ Some (s, rest)
+-- read from its encoding
+segment-at : (width : Width) (s : Segment) (prefix rest : List ℕ) → SegmentIsEncoded width s prefix → segment width (prefix ++ rest) ≡ Some (s, rest)
 unfolding segment
-segment-at width s front rest sp =
+segment-at width s prefix rest sp =
     let w = octets_in width in
     let count = length s.ases in
     let behind = sp.octets ++ rest in
@@ -148,8 +148,8 @@ segment-at width s front rest sp =
 shorter : (width : Width) (bytes : List ℕ) (s : Segment) (rest : List ℕ) → segment width bytes ≡ Some (s, rest) → length rest < length bytes
 shorter width bytes s rest is =
     let b = segment-back width bytes s rest is in
-    let two : 2 ≤ length b.front = omega (arith, ap length b.spelled.parts) in
-    let all : length bytes ≡ length b.front + length rest = ap length b.parts ∙ length-append b.front rest in
+    let two : 2 ≤ length b.prefix = omega (arith, ap length b.encoded.parts) in
+    let all : length bytes ≡ length b.prefix + length rest = ap length b.parts ∙ length-append b.prefix rest in
     omega arith
 
 -- the bound does not matter where it is great enough
@@ -185,34 +185,34 @@ unfolding segments_of segments_within
 segments_of-none width = refl
 
 -- the law of values
-spelled_within : (n : ℕ) (width : Width) (bytes : List ℕ) (found : List Segment) → segments_within n width bytes ≡ Some found → SegmentsAreSpelled width found bytes
+encoded_within : (n : ℕ) (width : Width) (bytes : List ℕ) (found : List Segment) → segments_within n width bytes ≡ Some found → SegmentsAreEncoded width found bytes
 unfolding segments_within
-spelled_within n width [] found is = let same : [] ≡ found = cc in subst (λ l. SegmentsAreSpelled width l []) same refl
-spelled_within zero width (x ∷ xs) found is = absurd cc
-spelled_within (suc n) width (x ∷ xs) found is = of_first (segment width (x ∷ xs)) refl is (λ rest others h. spelled_within n width rest others h)
+encoded_within n width [] found is = let same : [] ≡ found = cc in subst (λ l. SegmentsAreEncoded width l []) same refl
+encoded_within zero width (x ∷ xs) found is = absurd cc
+encoded_within (suc n) width (x ∷ xs) found is = of_first (segment width (x ∷ xs)) refl is (λ rest others h. encoded_within n width rest others h)
   where
     of_others : (first : Segment × List ℕ) (read : Option (List Segment)) → segment width (x ∷ xs) ≡ Some first → segments_within n width first.1 ≡ read → option_map (λ others. first.0 ∷ others) read ≡ Some found
-        → ((rest : List ℕ) (others : List Segment) → segments_within n width rest ≡ Some others → SegmentsAreSpelled width others rest) → SegmentsAreSpelled width found (x ∷ xs)
-    of_others first (Some others) front behind h hyp =
-        let b = segment-back width (x ∷ xs) first.0 first.1 front in
+        → ((rest : List ℕ) (others : List Segment) → segments_within n width rest ≡ Some others → SegmentsAreEncoded width others rest) → SegmentsAreEncoded width found (x ∷ xs)
+    of_others first (Some others) prefix behind h hyp =
+        let b = segment-back width (x ∷ xs) first.0 first.1 prefix in
         let same : first.0 ∷ others ≡ found = cc in
-        subst (λ l. SegmentsAreSpelled width l (x ∷ xs)) same (b.front, first.1, b.spelled, hyp first.1 others behind, b.parts)
-    of_others first None front behind h hyp = absurd cc
+        subst (λ l. SegmentsAreEncoded width l (x ∷ xs)) same (b.prefix, first.1, b.encoded, hyp first.1 others behind, b.parts)
+    of_others first None prefix behind h hyp = absurd cc
 
     of_first : (read : Option (Segment × List ℕ)) → segment width (x ∷ xs) ≡ read
         → option_and_then (λ (first : Segment × List ℕ). option_map (λ others. first.0 ∷ others) (segments_within n width first.1)) read ≡ Some found
-        → ((rest : List ℕ) (others : List Segment) → segments_within n width rest ≡ Some others → SegmentsAreSpelled width others rest) → SegmentsAreSpelled width found (x ∷ xs)
-    of_first (Some first) front h hyp = of_others first (segments_within n width first.1) front refl h hyp
-    of_first None front h hyp = absurd cc
+        → ((rest : List ℕ) (others : List Segment) → segments_within n width rest ≡ Some others → SegmentsAreEncoded width others rest) → SegmentsAreEncoded width found (x ∷ xs)
+    of_first (Some first) prefix h hyp = of_others first (segments_within n width first.1) prefix refl h hyp
+    of_first None prefix h hyp = absurd cc
 
-of_spelling : (width : Width) (found : List Segment) (bytes : List ℕ) → SegmentsAreSpelled width found bytes → segments_of width bytes ≡ Some found
-of_spelling width [] bytes sp = ap (segments_of width) sp ∙ segments_of-none width
-of_spelling width (s ∷ more) bytes sp =
-    segments_of-next width bytes s sp.1 (ap (segment width) sp.4 ∙ segment-at width s sp.0 sp.1 sp.2) ∙ ap (option_map (λ others. s ∷ others)) (of_spelling width more sp.1 sp.3)
+of_encoding : (width : Width) (found : List Segment) (bytes : List ℕ) → SegmentsAreEncoded width found bytes → segments_of width bytes ≡ Some found
+of_encoding width [] bytes sp = ap (segments_of width) sp ∙ segments_of-none width
+of_encoding width (s ∷ more) bytes sp =
+    segments_of-next width bytes s sp.1 (ap (segment width) sp.4 ∙ segment-at width s sp.0 sp.1 sp.2) ∙ ap (option_map (λ others. s ∷ others)) (of_encoding width more sp.1 sp.3)
 
 pub value_law : ValueLaw
 unfolding segments_of
-value_law width value found = (spelled_within (length value) width value found, of_spelling width found value)
+value_law width value found = (encoded_within (length value) width value found, of_encoding width found value)
 
 -- the loop over the segments
 pub segments-step : (width : Width) (bytes : List ℕ) (s : Segment) (rest : List ℕ) (before : List Segment) (all : Option (List Segment)) → Some (s, rest) ≡ segment width bytes

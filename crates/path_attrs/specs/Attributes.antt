@@ -17,7 +17,7 @@ cut = record {}
 abbrev pub length_octets : ℕ → ℕ
 length_octets flags = if bit_and flags 0x10 == 0 then 1 else 2
 
--- the attribute at the front, and the octets behind it
+-- the attribute at the prefix, and the octets behind it
 unfoldable pub attribute : List ℕ → Result (Attribute × List ℕ) AttrCut
 attribute bytes = do
   flags ← number cut 1 bytes
@@ -49,19 +49,19 @@ first_value code [] = None
 first_value code (a ∷ attrs) = if a.code == code then Some a.value else first_value code attrs
 
 -- flags, code, the value's length in as many octets as the flags say, and the value
-pub record IsSpelled (a : Attribute) (bytes : List ℕ) : Type 0 where
+pub record IsEncoded (a : Attribute) (bytes : List ℕ) : Type 0 where
   pub flags : ℕ
   pub len : List ℕ
   pub width : length len ≡ length_octets flags
   pub counts : big_number (length_octets flags) len ≡ length a.value
   pub parts : bytes ≡ flags ∷ a.code ∷ (len ++ a.value)
 
--- the attributes are spelled one behind the other, and nothing else stands there
-abbrev pub AreSpelled : List Attribute → List ℕ → Type 0
-AreSpelled [] bytes = bytes ≡ []
-AreSpelled (a ∷ attrs) bytes =
-    (front : List ℕ) × (rest : List ℕ) × IsSpelled a front × AreSpelled attrs rest × (bytes ≡ front ++ rest)
+-- the attributes are encoded one behind the other, and nothing else stands there
+abbrev pub AreEncoded : List Attribute → List ℕ → Type 0
+AreEncoded [] bytes = bytes ≡ []
+AreEncoded (a ∷ attrs) bytes =
+    (prefix : List ℕ) × (rest : List ℕ) × IsEncoded a prefix × AreEncoded attrs rest × (bytes ≡ prefix ++ rest)
 
--- a block has these attributes exactly if it is their spelling
+-- a block has these attributes exactly if it is their encoding
 abbrev pub BlockLaw : Type 0
-BlockLaw = (block : List ℕ) (attrs : List Attribute) → (attributes_of block ≡ Ok attrs) ↔ AreSpelled attrs block
+BlockLaw = (block : List ℕ) (attrs : List Attribute) → (attributes_of block ≡ Ok attrs) ↔ AreEncoded attrs block

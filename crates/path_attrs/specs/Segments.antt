@@ -38,7 +38,7 @@ abbrev pub segment_of : Width → ℕ → List ℕ → SegKind → Segment × Li
 segment_of width count bytes kind =
     (record { kind = kind; ases = numbers (octets_in width) count bytes }, drop (octets_in width * count) bytes)
 
--- the segment at the front, and the octets behind it: it is not empty, whole, and of a kind that there is
+-- the segment at the prefix, and the octets behind it: it is not empty, whole, and of a kind that there is
 unfoldable pub segment : Width → List ℕ → Option (Segment × List ℕ)
 segment width [] = None
 segment width (code ∷ []) = None
@@ -59,29 +59,29 @@ segments_within (suc n) width (octet ∷ octets) =
 unfoldable pub segments_of : Width → List ℕ → Option (List Segment)
 segments_of width value = segments_within (length value) width value
 
--- the numbers are spelled one behind the other, in n octets each, the highest first
-abbrev pub NumbersAreSpelled : ℕ → List ℕ → List ℕ → Type 0
-NumbersAreSpelled n [] bytes = bytes ≡ []
-NumbersAreSpelled n (x ∷ xs) bytes =
-    (front : List ℕ) × (rest : List ℕ) × (length front ≡ n) × (big_number n front ≡ x)
-    × NumbersAreSpelled n xs rest × (bytes ≡ front ++ rest)
+-- the numbers are encoded one behind the other, in n octets each, the highest first
+abbrev pub NumbersAreEncoded : ℕ → List ℕ → List ℕ → Type 0
+NumbersAreEncoded n [] bytes = bytes ≡ []
+NumbersAreEncoded n (x ∷ xs) bytes =
+    (prefix : List ℕ) × (rest : List ℕ) × (length prefix ≡ n) × (big_number n prefix ≡ x)
+    × NumbersAreEncoded n xs rest × (bytes ≡ prefix ++ rest)
 
 -- the code of the kind, the count of the numbers, which is not zero, and the numbers
-pub record SegmentIsSpelled (width : Width) (s : Segment) (bytes : List ℕ) : Type 0 where
+pub record SegmentIsEncoded (width : Width) (s : Segment) (bytes : List ℕ) : Type 0 where
   pub octets : List ℕ
   pub some : 0 < length s.ases
-  pub ases : NumbersAreSpelled (octets_in width) s.ases octets
+  pub ases : NumbersAreEncoded (octets_in width) s.ases octets
   pub parts : bytes ≡ code_of s.kind ∷ length s.ases ∷ octets
 
--- the segments are spelled one behind the other, and nothing else stands there
-abbrev pub SegmentsAreSpelled : Width → List Segment → List ℕ → Type 0
-SegmentsAreSpelled width [] bytes = bytes ≡ []
-SegmentsAreSpelled width (s ∷ more) bytes =
-    (front : List ℕ) × (rest : List ℕ) × SegmentIsSpelled width s front
-    × SegmentsAreSpelled width more rest × (bytes ≡ front ++ rest)
+-- the segments are encoded one behind the other, and nothing else stands there
+abbrev pub SegmentsAreEncoded : Width → List Segment → List ℕ → Type 0
+SegmentsAreEncoded width [] bytes = bytes ≡ []
+SegmentsAreEncoded width (s ∷ more) bytes =
+    (prefix : List ℕ) × (rest : List ℕ) × SegmentIsEncoded width s prefix
+    × SegmentsAreEncoded width more rest × (bytes ≡ prefix ++ rest)
 
--- a value has these segments exactly if it is their spelling
+-- a value has these segments exactly if it is their encoding
 abbrev pub ValueLaw : Type 0
 ValueLaw =
     (width : Width) (value : List ℕ) (found : List Segment)
-    → (segments_of width value ≡ Some found) ↔ SegmentsAreSpelled width found value
+    → (segments_of width value ≡ Some found) ↔ SegmentsAreEncoded width found value

@@ -88,7 +88,7 @@ clean_of sets width attrs = clean_attribute sets width (first_value as_path attr
 abbrev pub PathsAreClean : Type 0
 PathsAreClean = (sets : Sets) (width : Width) (attrs : List Attribute) (path : List ℕ) → clean_of sets width attrs ≡ Path path → is_cleaned path ≡ true
 
--- a clean path that is spelled as one AS_SEQUENCE comes out as it stands
+-- a clean path that is encoded as one AS_SEQUENCE comes out as it stands
 abbrev pub CleanPathsStay : Type 0
 CleanPathsStay = (sets : Sets) (width : Width) (attrs : List Attribute) (value path : List ℕ)
     → first_value as_path attrs ≡ Some value → segments_of width value ≡ Some (record { kind = Sequence; ases = path } ∷ []) → is_cleaned path ≡ true

@@ -1,4 +1,4 @@
--- What two consecutive steps carry along and bar, and how the rows come to have it.
+-- What two consecutive steps imply along and bar, and how the rows come to have it.
 use Rattle.std.proofs.Common.{◌≡◌, ◌↔◌, ◌⊎◌, inl, inr, ℕ, ◌+◌, ◌-◌, ◌<◌, ◌≤◌, Bool, true, false, List, [], ◌∷◌, ◌++◌, Some, length, slice_get, slice_index, slice_index_or, refl, sym, ap, ◌∙◌, subst, arith, Contains, length-set, nat_eq}
 use Rattle.std.proofs.lemmas.Bool.{cases_lt, cases_Bool, eqb-true, eq-eqb, both_ways}
 use Rattle.std.proofs.lemmas.Option.{get_or_from_slice_get, slice_get-get_or}

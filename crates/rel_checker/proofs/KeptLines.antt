@@ -18,13 +18,13 @@ more_from : (n : ℕ) (lines : List PathLine) (line : PathLine) → lines_from n
 more_from n [] line = last_line n line.times line.path line.fate
 more_from n (first ∷ lines) line = behind (more_from (n + 1) lines line) first.times first.path first.fate
   where
-    front : (path : List ℕ) (paths : List (List ℕ)) (last : List ℕ) (fate : Fate) → path ∷ with_kept paths last fate ≡ with_kept (path ∷ paths) last fate
-    front path paths last Kept = refl
-    front path paths last (Lost walk) = refl
+    prefix : (path : List ℕ) (paths : List (List ℕ)) (last : List ℕ) (fate : Fate) → path ∷ with_kept paths last fate ≡ with_kept (path ∷ paths) last fate
+    prefix path paths last Kept = refl
+    prefix path paths last (Lost walk) = refl
 
     -- what stands before it
     behind : lines_from (n + 1) (lines ++ line ∷ []) ≡ with_kept (lines_from (n + 1) lines) line.path line.fate → (times : ℕ) (path : List ℕ) (fate : Fate) → lines_from n (record { times = times; path = path; fate = fate } ∷ (lines ++ line ∷ [])) ≡ with_kept (lines_from n (record { times = times; path = path; fate = fate } ∷ lines)) line.path line.fate
-    behind rest times path Kept = ap (λ (l : List (List ℕ)). path ∷ l) rest ∙ front path (lines_from (n + 1) lines) line.path line.fate
+    behind rest times path Kept = ap (λ (l : List (List ℕ)). path ∷ l) rest ∙ prefix path (lines_from (n + 1) lines) line.path line.fate
     behind rest times path (Lost walk) = rest
 
 pub kept_more : (lines : List PathLine) (line : PathLine) → kept_lines (lines ++ line ∷ []) ≡ with_kept (kept_lines lines) line.path line.fate

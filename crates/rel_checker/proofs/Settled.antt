@@ -18,7 +18,7 @@ use Rattle.relationships.specs.Evidence.{IsTriple, TripleAt, kept_from}
 use Rattle.relationships.specs.Laws.{AgreesOn}
 use Rattle.relationships.proofs.Edges.{along_each, peering_law}
 use Rattle.relationships.proofs.Places.{index-from_StandAt, kept_from-out}
-use Rattle.relationships.proofs.Serving.{Apart, Apart-from_distinct, serves_carries}
+use Rattle.relationships.proofs.Serving.{Apart, Apart-from_distinct, serves_satisfies}
 use Rattle.relationships.proofs.Slopes.{over-low, over-high, over_one_way}
 use Rattle.path_clean.proofs.GraphPaths.{apart_if_cleaned}
 use Rattle.result_text.specs.declared.file.Fate.{Fate}
@@ -331,7 +331,7 @@ module _ (file : ResultFile) (cleaned : IsMet file PathsCleaned) (listed : IsMet
         let each = subst (IsListed (its_edges file)) w.3 (All-get (λ line. IsListed (its_edges file) line.path) file.paths w.0 w.1 (lines_listed file cleaned listed) w.2) in
         first_two t.0 t.2.0 x y z each t.2.1;
     no_valley = λ x y z i j t ti tj.
-        over_one_way (labels_of O) y z (serves_carries O (kept_lines file.paths) kept_served x y z t (holds i x y ti)) (holds j z y tj);
+        over_one_way (labels_of O) y z (serves_satisfies O (kept_lines file.paths) kept_served x y z t (holds i x y ti)) (holds j z y tj);
   }
     where
       first_two : (path : List ℕ) (at x y z : ℕ) → IsListed (edges_of file.edges) path → TripleAt path at x y z →

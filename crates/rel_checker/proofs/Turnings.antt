@@ -1,7 +1,7 @@
 -- Closures by the edges that turn.
 use Rattle.std.proofs.Common.{◌≡◌, ◌↔◌, ◌⊎◌, inl, inr, ℕ, List, sym, ◌∙◌, subst}
 use Rattle.std.proofs.lemmas.Option.{same_Some}
-use Rattle.relationships.specs.Evidence.{IsTriple, Closure, start, carry, IsConsistent}
+use Rattle.relationships.specs.Evidence.{IsTriple, Closure, start, imply, IsConsistent}
 use Rattle.relationships.proofs.Closures.{turn, consistency_law}
 use Rattle.rel_checker.specs.Neighbours.{HasNext, Leads, here, onward}
 use Rattle.rel_checker.specs.Turning.{TurnsTo, IsBuilt, IsProper, IsSettled}
@@ -10,12 +10,12 @@ use Rattle.rel_checker.specs.Turning.{TurnsTo, IsBuilt, IsProper, IsSettled}
 
 Closure-joined : (paths : List (List ℕ)) (a b c d : ℕ) {y z : ℕ} → Closure paths a b c d → Closure paths c d y z → Closure paths a b y z
 Closure-joined paths a b c d h start = h
-Closure-joined paths a b c d h (carry k t) = carry (Closure-joined paths a b c d h k) t
+Closure-joined paths a b c d h (imply k t) = imply (Closure-joined paths a b c d h k) t
 
 Closure-back : (paths : List (List ℕ)) (a b : ℕ) {y z : ℕ} → Closure paths a b y z → Closure paths z y b a
 Closure-back paths a b start = start
-Closure-back paths a b (carry {x = x} {y = y} {z = z} h t) =
-    Closure-joined paths z y y x (carry start (turn paths x y z t)) (Closure-back paths a b h)
+Closure-back paths a b (imply {x = x} {y = y} {z = z} h t) =
+    Closure-joined paths z y y x (imply start (turn paths x y z t)) (Closure-back paths a b h)
 
 same_order : (orders : List (ℕ × ℕ)) (k x y u v : ℕ) → TurnsTo orders k x y → TurnsTo orders k u v → ◌≡◌ {A = ℕ × ℕ} (x, y) (u, v)
 same_order orders k x y u v h g = same_Some (x, y) (u, v) (sym h ∙ g)
@@ -28,7 +28,7 @@ module _ (orders : List (ℕ × ℕ)) (paths carried barred : List (List ℕ)) (
   reached s a b ts (onward {i = i} {j = j} l n) y z tj =
       let w = (built.carries i j).0 n in
       let from = reached s a b ts l w.0 w.1 w.3 in
-      subst (λ (p : ℕ × ℕ). Closure paths a b p.0 p.1) (same_order orders j w.1 w.2 y z w.4 tj) (carry from w.5)
+      subst (λ (p : ℕ × ℕ). Closure paths a b p.0 p.1) (same_order orders j w.1 w.2 y z w.4 tj) (imply from w.5)
 
   -- of the second edge of a triple
   second_listed : (x y z : ℕ) → IsTriple paths x y z → ((k : ℕ) × TurnsTo orders k z y) ⊎ ((k : ℕ) × TurnsTo orders k y z)
@@ -37,7 +37,7 @@ module _ (orders : List (ℕ × ℕ)) (paths carried barred : List (List ℕ)) (
   -- what follows from an order against a label is such an order too, which turns with the first, or one that a label has
   follows : (s a b : ℕ) → TurnsTo orders s a b → {y z : ℕ} → Closure paths a b y z → ((k : ℕ) × TurnsTo orders k y z × Leads carried s k) ⊎ ((k : ℕ) × TurnsTo orders k z y)
   follows s a b ts start = inl (s, ts, here)
-  follows s a b ts (carry {x = x} {y = y} {z = z} c t) =
+  follows s a b ts (imply {x = x} {y = y} {z = z} c t) =
       elim (follows s a b ts c) [
         | inl h ↦ elim (second_listed x y z t) [
           | inl g ↦ inr g
@@ -63,13 +63,13 @@ module _ (orders : List (ℕ × ℕ)) (paths carried barred : List (List ℕ)) (
       ((k : ℕ) × TurnsTo orders k y z × Leads carried s k) ⊎
       ((x u v i j : ℕ) × TurnsTo orders i x u × Leads carried s i × IsTriple paths x u v × TurnsTo orders j v u × Closure paths u v y z)
   leaves s a b ts start = inl (s, ts, here)
-  leaves s a b ts (carry {x = x} {y = y} {z = z} c t) =
+  leaves s a b ts (imply {x = x} {y = y} {z = z} c t) =
       elim (leaves s a b ts c) [
         | inl h ↦ elim (second_listed x y z t) [
           | inl g ↦ inr (x, y, z, h.0, g.0, h.1, h.2, t, g.1, start)
           | inr g ↦ inl (g.0, g.1, onward h.2 ((built.carries h.0 g.0).1 (x, y, z, h.1, g.1, t)))
         ]
-        | inr (p, u, v, i, j, ti, l, q, tj, k) ↦ inr (p, u, v, i, j, ti, l, q, tj, carry k t)
+        | inr (p, u, v, i, j, ti, l, q, tj, k) ↦ inr (p, u, v, i, j, ti, l, q, tj, imply k t)
       ]
 
   pub consistent_exactly : (s a b : ℕ) → TurnsTo orders s a b →
@@ -77,7 +77,7 @@ module _ (orders : List (ℕ × ℕ)) (paths carried barred : List (List ℕ)) (
   consistent_exactly s a b ts = (
     λ consistent i j li lj n.
         let w = (built.bars i j).0 n in
-        consistent w.1 w.2 (carry (reached s a b ts li w.0 w.1 w.3) w.5) (reached s a b ts lj w.2 w.1 w.4),
+        consistent w.1 w.2 (imply (reached s a b ts li w.0 w.1 w.3) w.5) (reached s a b ts lj w.2 w.1 w.4),
     λ none. consistency_law paths a b (λ c. elim (leaves s a b ts c) [
       | inl h ↦ proper.way s h.0 a b ts h.1
       | inr (x, u, v, i, j, ti, l, q, tj, k) ↦
@@ -88,7 +88,7 @@ module _ (orders : List (ℕ × ℕ)) (paths carried barred : List (List ℕ)) (
   -- from an order that is against no label none follows that is
   pub none_turns : (a b : ℕ) → ((k : ℕ) → TurnsTo orders k a b → ⊥) → {y z : ℕ} → Closure paths a b y z → (k : ℕ) → TurnsTo orders k y z → ⊥
   none_turns a b none start k tk = none k tk
-  none_turns a b none (carry {x = x} {y = y} {z = z} c t) k tk =
+  none_turns a b none (imply {x = x} {y = y} {z = z} c t) k tk =
       elim (settled.listed x y z t) [
         | inl h ↦ none_turns a b none c h.0 h.1
         | inr h ↦ settled.no_valley x y z h.0 k t h.1 tk

@@ -52,7 +52,7 @@ fn step_of(lines: &[EdgeLine], table: &EdgeTable, from: u32, to: u32) -> Step
 }
 
 impl Turns {
-    /// Notes what two consecutive steps of a path carry along or bar.
+    /// Notes what two consecutive steps of a path imply along or bar.
     fn note(&mut self, first: &Step, second: &Step) -> Result<(), NoMemory>
         requires first { first.now.edge < length self.old.carried }
         requires second { second.now.edge < length self.old.carried }
@@ -71,7 +71,7 @@ impl Turns {
         }
     }
 
-    /// Notes what the steps of a path carry along or bar.
+    /// Notes what the steps of a path imply along or bar.
     fn note_path(
         &mut self,
         lines: &[EdgeLine],
@@ -101,7 +101,7 @@ impl Turns {
         Ok(())
     }
 
-    /// Notes what the steps of a line's path carry along or bar, if it is kept.
+    /// Notes what the steps of a line's path imply along or bar, if it is kept.
     fn note_line(
         &mut self,
         lines: &[EdgeLine],
@@ -125,7 +125,7 @@ impl Turns {
         }
     }
 
-    /// What the kept paths carry along and bar.
+    /// What the kept paths imply along and bar.
     pub fn of_file(alloc: Global, file: &ResultFile, table: &EdgeTable) -> Result<Turns, NoMemory>
         requires table { table.now ≡ edges_of file.now.edges }
         requires few { length file.now.edges ≤ most_places }

@@ -3,10 +3,10 @@ use Rattle.std.proofs.Common.{◌≡◌, ◌≢◌, ◌↔◌, ℕ, zero, suc, �
 use Rattle.std.proofs.lemmas.Bool.{cases_Bool, cases_order, and_parts, or_cases, both_ways, eqb-true, eq-eqb}
 use Rattle.relationships.specs.declared.label.End.{End}
 use Rattle.relationships.specs.Relationship.{Orientation, label_of, labels_of, is_low, is_high, is_over}
-use Rattle.relationships.specs.Evidence.{TripleAt, IsTriple, Closure, start, carry, IsConsistent}
-use Rattle.relationships.specs.Laws.{CarriesOn, changed, ClosureLaw, AllowedLaw, ConsistencyLaw}
+use Rattle.relationships.specs.Evidence.{TripleAt, IsTriple, Closure, start, imply, IsConsistent}
+use Rattle.relationships.specs.Laws.{SatisfiesTriples, changed, ClosureLaw, AllowedLaw, ConsistencyLaw}
 use Rattle.relationships.proofs.Slopes.{over_one_way, over-low, over-high, over-same}
-use Rattle.relationships.proofs.Serving.{serves_carries, carries_serves}
+use Rattle.relationships.proofs.Serving.{serves_satisfies, satisfies_serves}
 
 turned : (path : List ℕ) (at x y z : ℕ) → TripleAt path at x y z → TripleAt path at z y x
 turned path at x y z (inl s) = inr s
@@ -47,18 +47,18 @@ module _ (O : Orientation) (paths : List (List ℕ)) (a b : ℕ) (found : ℕ �
       over_found O found y z (λ e. consistent y z c (subst (λ w. Closure paths a b w y) e (subst (λ w. Closure paths a b y w) (sym e) c))) ((exact y z).1 c)
       (elim (cases_Bool (found z y)) [ inl t ↦ absurd (consistent y z c ((exact z y).0 t)) | inr f ↦ f ])
 
-  still_carries : CarriesOn O paths → CarriesOn (changed O found) paths
-  still_carries carries x y z t o =
+  still_carries : SatisfiesTriples O paths → SatisfiesTriples (changed O found) paths
+  still_carries satisfies x y z t o =
       elim (cases_Bool (found x y)) [
-        | inl xy ↦ put_in y z (carry ((exact x y).0 xy) t)
+        | inl xy ↦ put_in y z (imply ((exact x y).0 xy) t)
         | inr no_xy ↦ elim (cases_Bool (found y x)) [
           | inl yx ↦ absurd (over_one_way (labels_of (changed O found)) x y o (put_in y x ((exact y x).0 yx)))
           | inr no_yx ↦
-              let o' = carries x y z t (sym (same_none O found x y no_xy no_yx) ∙ o) in
+              let o' = satisfies x y z t (sym (same_none O found x y no_xy no_yx) ∙ o) in
               elim (cases_Bool (found y z)) [
                 | inl yz ↦ put_in y z ((exact y z).0 yz)
                 | inr no_yz ↦ elim (cases_Bool (found z y)) [
-                  | inl zy ↦ absurd (both_ways (found y x) no_yx ((exact y x).1 (carry ((exact z y).0 zy) (turn paths x y z t))))
+                  | inl zy ↦ absurd (both_ways (found y x) no_yx ((exact y x).1 (imply ((exact z y).0 zy) (turn paths x y z t))))
                   | inr no_zy ↦ same_none O found y z no_yz no_zy ∙ o'
                 ]
               ]
@@ -67,7 +67,7 @@ module _ (O : Orientation) (paths : List (List ℕ)) (a b : ℕ) (found : ℕ �
 
 pub closure_law : ClosureLaw
 closure_law O paths a b found distinct consistent exact serves = (
-  carries_serves (changed O found) paths distinct (still_carries O paths a b found consistent exact (serves_carries O paths serves)),
+  satisfies_serves (changed O found) paths distinct (still_carries O paths a b found consistent exact (serves_satisfies O paths serves)),
   put_in O paths a b found consistent exact,
 )
 
@@ -121,7 +121,7 @@ candidates paths a b = (a, b) ∷ flat_map both paths
 In-candidates : (paths : List (List ℕ)) (a b : ℕ) {y z : ℕ} → Closure paths a b y z → In (y, z) (candidates paths a b)
 unfolding candidates
 In-candidates paths a b start = inl refl
-In-candidates paths a b (carry {x = x} {y = y} {z = z} c t) =
+In-candidates paths a b (imply {x = x} {y = y} {z = z} c t) =
     inr (In-flat paths t.1.0 t.0 (y, z) t.1.1 t.1.2 (In-both_triple t.0 t.2.0 x y z t.2.1))
 
 -- each pair is in or out
@@ -177,13 +177,13 @@ allowed_law O paths a b distinct consistent serves y z c ruled_out =
 
 Closure-joined : (paths : List (List ℕ)) (a b c d : ℕ) {y z : ℕ} → Closure paths a b c d → Closure paths c d y z → Closure paths a b y z
 Closure-joined paths a b c d h start = h
-Closure-joined paths a b c d h (carry k t) = carry (Closure-joined paths a b c d h k) t
+Closure-joined paths a b c d h (imply k t) = imply (Closure-joined paths a b c d h k) t
 
 -- from "y over z" follows "b over a" the other way round
 Closure-back : (paths : List (List ℕ)) (a b : ℕ) {y z : ℕ} → Closure paths a b y z → Closure paths z y b a
 Closure-back paths a b start = start
-Closure-back paths a b (carry {x = x} {y = y} {z = z} h t) =
-    Closure-joined paths z y y x (carry start (turn paths x y z t)) (Closure-back paths a b h)
+Closure-back paths a b (imply {x = x} {y = y} {z = z} h t) =
+    Closure-joined paths z y y x (imply start (turn paths x y z t)) (Closure-back paths a b h)
 
 pub consistency_law : ConsistencyLaw
 consistency_law paths a b not_back y z h k = not_back (Closure-joined paths a b y z h (Closure-back paths a b k))

@@ -6,7 +6,7 @@ use Rattle.std.proofs.lemmas.Bool.{false≢true, and_parts, not-true}
 use Rattle.std.proofs.lemmas.List.Elements.{All-contains, All-from_recursion}
 use Rattle.tor_arena.specs.Distinct.{AllDistinct}
 use Rattle.relationships.specs.Relationship.{Labelling, Slope, Up, Down, Flat, slopes, ValleyFree}
-use Rattle.relationships.specs.Evidence.{StandAt, TripleAt, Closure, start, carry}
+use Rattle.relationships.specs.Evidence.{StandAt, TripleAt, Closure, start, imply}
 use Rattle.relationships.proofs.Slopes.{Falls, Free, Free-from_valley_free, ValleyFree-from_free}
 
 -- ---- valley-free by a walk with a flag
@@ -88,7 +88,7 @@ goes_on test x y z = (not (test x y) || test y z) && (not (test z y) || test y x
 pub Closure-within : (test : ℕ → ℕ → Bool) (paths : List (List ℕ)) (a b : ℕ) → test a b ≡ true →
     All (EachTriple (λ x y z. goes_on test x y z ≡ true)) paths → {y z : ℕ} → Closure paths a b y z → test y z ≡ true
 Closure-within test paths a b h closed start = h
-Closure-within test paths a b h closed (carry {x = x} {y = y} {z = z} c t) =
+Closure-within test paths a b h closed (imply {x = x} {y = y} {z = z} c t) =
     let each = All-contains (EachTriple (λ x y z. goes_on test x y z ≡ true)) paths t.0 closed t.1 in
     let before = Closure-within test paths a b h closed c in
     go t.2.1 each before

@@ -30,14 +30,14 @@ undistinct : (P : Edge → Type 0) (es : List Edge) → AllByRecursion P (distin
 undistinct P [] h = tt
 undistinct P (e ∷ es) h = (h.0, undistinct P es (unfiltered P e (distinct es) h.0 h.1))
 
-front : (P : Edge → Type 0) (es fs : List Edge) → AllByRecursion P (es ++ fs) → AllByRecursion P es × AllByRecursion P fs
-front P [] fs h = (tt, h)
-front P (e ∷ es) fs h = let k = front P es fs h.1 in ((h.0, k.0), k.1)
+prefix : (P : Edge → Type 0) (es fs : List Edge) → AllByRecursion P (es ++ fs) → AllByRecursion P es × AllByRecursion P fs
+prefix P [] fs h = (tt, h)
+prefix P (e ∷ es) fs h = let k = prefix P es fs h.1 in ((h.0, k.0), k.1)
 
 on_each_path : (P : Edge → Type 0) (paths : List (List ℕ)) → AllByRecursion P (flat_map edges_on paths) → AllByRecursion (λ path. AllByRecursion P (edges_on path)) paths
 on_each_path P [] h = tt
 on_each_path P (path ∷ paths) h =
-    let k = front P (edges_on path) (flat_map edges_on paths) h in (k.0, on_each_path P paths k.1)
+    let k = prefix P (edges_on path) (flat_map edges_on paths) h in (k.0, on_each_path P paths k.1)
 
 -- what holds at each edge of the paths holds along each path
 pub along_each : (P : Edge → Type 0) (paths : List (List ℕ)) → All P (edges paths) → AllByRecursion (λ path. AllByRecursion P (edges_on path)) paths

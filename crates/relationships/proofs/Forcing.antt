@@ -7,25 +7,25 @@ use Rattle.relationships.specs.declared.label.End.{End}
 use Rattle.tor_arena.specs.Distinct.{AllDistinct}
 use Rattle.relationships.specs.Relationship.{Orientation, label_of, labels_of, is_low, is_high, is_over, opposite, Serves}
 use Rattle.relationships.specs.Graph.{Edge, is_same, edges, SameOn}
-use Rattle.relationships.specs.Evidence.{Closure, start, carry}
-use Rattle.relationships.specs.Laws.{CarriesOn, ImpliedLaw, LooseLaw, UnheldLaw}
+use Rattle.relationships.specs.Evidence.{Closure, start, imply}
+use Rattle.relationships.specs.Laws.{SatisfiesTriples, ImpliedLaw, LooseLaw, UnheldLaw}
 use Rattle.relationships.proofs.Slopes.{over_one_of, over-low, over-high}
 use Rattle.relationships.proofs.Edges.{same_edge, reading_law}
-use Rattle.relationships.proofs.Serving.{serves_carries}
+use Rattle.relationships.proofs.Serving.{serves_satisfies}
 use Rattle.relationships.proofs.Closures.{consistency_law, allowed_law}
 
 -- ---- what the opposite order implies
 
-closure_carried : (O : Orientation) (paths : List (List ℕ)) (c d : ℕ) → CarriesOn O paths → is_over (labels_of O) c d ≡ true →
+closure_satisfied : (O : Orientation) (paths : List (List ℕ)) (c d : ℕ) → SatisfiesTriples O paths → is_over (labels_of O) c d ≡ true →
     {y z : ℕ} → Closure paths c d y z → is_over (labels_of O) y z ≡ true
-closure_carried O paths c d carries o start = o
-closure_carried O paths c d carries o (carry {x = x} {y = y} {z = z} k t) = carries x y z t (closure_carried O paths c d carries o k)
+closure_satisfied O paths c d satisfies o start = o
+closure_satisfied O paths c d satisfies o (imply {x = x} {y = y} {z = z} k t) = satisfies x y z t (closure_satisfied O paths c d satisfies o k)
 
 pub implied_law : ImpliedLaw
 implied_law O paths a b ne c serves =
     elim (over_one_of O a b ne) [
       | inl o ↦ o
-      | inr o ↦ closure_carried O paths b a (serves_carries O paths serves) o c
+      | inr o ↦ closure_satisfied O paths b a (serves_satisfies O paths serves) o c
     ]
 
 -- ---- an order that does not imply its opposite is not ruled out

@@ -97,32 +97,32 @@ edge_law paths = (
 
 -- ---- their order
 
-distinct-front : (es more : List Edge) → (later : List Edge) × (distinct (es ++ more) ≡ distinct es ++ later)
-distinct-front [] more = (distinct more, refl)
-distinct-front (e ∷ es) more =
-    let r = distinct-front es more in
+distinct-prefix : (es more : List Edge) → (later : List Edge) × (distinct (es ++ more) ≡ distinct es ++ later)
+distinct-prefix [] more = (distinct more, refl)
+distinct-prefix (e ∷ es) more =
+    let r = distinct-prefix es more in
     let kept : Edge → _ = λ f. not (is_same e f) in
     (filter kept r.0, ap (λ (l : List Edge). e ∷ l) (ap (filter kept) r.1 ∙ filter-append kept (distinct es) r.0))
 
-edges_from-front : (a : ℕ) (front back : List ℕ) → (later : List Edge) × (edges_from a (front ++ back) ≡ edges_from a front ++ later)
-edges_from-front a [] back = (edges_from a back, refl)
-edges_from-front a (b ∷ front) back = let r = edges_from-front b front back in (r.0, ap (λ (l : List Edge). edge_of a b ∷ l) r.1)
+edges_from-prefix : (a : ℕ) (prefix back : List ℕ) → (later : List Edge) × (edges_from a (prefix ++ back) ≡ edges_from a prefix ++ later)
+edges_from-prefix a [] back = (edges_from a back, refl)
+edges_from-prefix a (b ∷ prefix) back = let r = edges_from-prefix b prefix back in (r.0, ap (λ (l : List Edge). edge_of a b ∷ l) r.1)
 
-edges_on-front : (front back : List ℕ) → (later : List Edge) × (edges_on (front ++ back) ≡ edges_on front ++ later)
-edges_on-front [] back = (edges_on back, refl)
-edges_on-front (a ∷ front) back = edges_from-front a front back
+edges_on-prefix : (prefix back : List ℕ) → (later : List Edge) × (edges_on (prefix ++ back) ≡ edges_on prefix ++ later)
+edges_on-prefix [] back = (edges_on back, refl)
+edges_on-prefix (a ∷ prefix) back = edges_from-prefix a prefix back
 
 pub edge_order_law : EdgeOrderLaw
-edge_order_law paths front back more =
+edge_order_law paths prefix back more =
     let before = flat_map edges_on paths in
     let behind = flat_map edges_on more in
-    let on = edges_on-front front back in
-    let whole : flat_map edges_on (paths ++ (front ++ back) ∷ more) ≡ (before ++ edges_on front) ++ (on.0 ++ behind) =
-    flat_map-append edges_on paths ((front ++ back) ∷ more) ∙
+    let on = edges_on-prefix prefix back in
+    let whole : flat_map edges_on (paths ++ (prefix ++ back) ∷ more) ≡ (before ++ edges_on prefix) ++ (on.0 ++ behind) =
+    flat_map-append edges_on paths ((prefix ++ back) ∷ more) ∙
     ap (λ (l : List Edge). before ++ (l ++ behind)) on.1 ∙
-    ap (λ (l : List Edge). before ++ l) (append_assoc (edges_on front) on.0 behind) ∙
-    sym (append_assoc before (edges_on front) (on.0 ++ behind)) in
-    let start : flat_map edges_on (paths ++ front ∷ []) ≡ before ++ edges_on front =
-    flat_map-append edges_on paths (front ∷ []) ∙ ap (λ (l : List Edge). before ++ l) (append-nil (edges_on front)) in
-    let r = distinct-front (before ++ edges_on front) (on.0 ++ behind) in
+    ap (λ (l : List Edge). before ++ l) (append_assoc (edges_on prefix) on.0 behind) ∙
+    sym (append_assoc before (edges_on prefix) (on.0 ++ behind)) in
+    let start : flat_map edges_on (paths ++ prefix ∷ []) ≡ before ++ edges_on prefix =
+    flat_map-append edges_on paths (prefix ∷ []) ∙ ap (λ (l : List Edge). before ++ l) (append-nil (edges_on prefix)) in
+    let r = distinct-prefix (before ++ edges_on prefix) (on.0 ++ behind) in
     (r.0, ap distinct whole ∙ r.1 ∙ ap (λ (es : List Edge). distinct es ++ r.0) (sym start))

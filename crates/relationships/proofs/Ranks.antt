@@ -8,7 +8,7 @@ use Rattle.relationships.specs.Relationship.{label_of, labels_of, is_low, is_hig
 use Rattle.relationships.specs.Evidence.{Numbered, Fits, IsLinked, BeginsWith}
 use Rattle.relationships.specs.Laws.{ranked, RankLaw, CycleLaw}
 use Rattle.relationships.proofs.Slopes.{over_one_of, over_parts}
-use Rattle.relationships.proofs.Serving.{carries_serves}
+use Rattle.relationships.proofs.Serving.{satisfies_serves}
 use Rattle.relationships.proofs.Walks.{triple_apart}
 use Rattle.relationships.proofs.Closures.{turn}
 
@@ -47,7 +47,7 @@ module _ (rank : ℕ → ℕ → ℕ) where
 
 pub rank_law : RankLaw
 rank_law paths rank distinct r =
-    carries_serves (ranked rank) paths distinct (λ x y z t o.
+    satisfies_serves (ranked rank) paths distinct (λ x y z t o.
     let back = turn paths x y z t in
     let apart : y ≢ z = λ e. triple_apart back.0 back.2.0 z y x (All-contains AllDistinct paths back.0 distinct back.1) back.2.1 (sym e) in
     let a = r.along x y z t in
@@ -86,7 +86,7 @@ cycle_law A x y before after there back two h begins k ends = record {
 
 -- ---- a walk of arcs is a walk of ASes
 
--- each order is followed by one that a link carries it on to
+-- each order is followed by one that a link satisfies it on to
 abbrev pub IsWay : Numbered → List (ℕ × ℕ) → List Link → Type 0
 IsWay A (p ∷ []) [] = Unit {0}
 IsWay A (p ∷ q ∷ way) (link ∷ links) = (p.1 ≡ q.0) × Fits A link p.0 p.1 q.1 × IsWay A (q ∷ way) links

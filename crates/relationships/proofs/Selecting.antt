@@ -44,13 +44,13 @@ kept_servable kept (path ∷ paths) (false ∷ keeps) h s = kept_servable kept p
 pub kept_law : KeptLaw
 kept_law paths keeps h = kept_servable [] paths keeps h nothing_servable
 
-front_too : {X : Type 0} (P : X → Type 0) (xs ys : List X) → AllByRecursion P (xs ++ ys) → AllByRecursion P xs
-front_too P [] ys h = tt
-front_too P (x ∷ xs) ys h = (h.0, front_too P xs ys h.1)
+prefix_too : {X : Type 0} (P : X → Type 0) (xs ys : List X) → AllByRecursion P (xs ++ ys) → AllByRecursion P xs
+prefix_too P [] ys h = tt
+prefix_too P (x ∷ xs) ys h = (h.0, prefix_too P xs ys h.1)
 
-servable_front : (paths more : List (List ℕ)) → IsServable (paths ++ more) → IsServable paths
-servable_front paths more s =
-    (s.0, All-from_recursion (ValleyFree (labels_of s.0)) paths (front_too (ValleyFree (labels_of s.0)) paths more (recursion_from_All (ValleyFree (labels_of s.0)) (paths ++ more) s.1)))
+servable_prefix : (paths more : List (List ℕ)) → IsServable (paths ++ more) → IsServable paths
+servable_prefix paths more s =
+    (s.0, All-from_recursion (ValleyFree (labels_of s.0)) paths (prefix_too (ValleyFree (labels_of s.0)) paths more (recursion_from_All (ValleyFree (labels_of s.0)) (paths ++ more) s.1)))
 
 all_servable : (kept paths : List (List ℕ)) (keeps : List Bool) → KeepsFrom kept paths keeps → AllByRecursion (λ k. IsTrue k) keeps → IsServable kept → IsServable (kept ++ paths)
 all_servable kept [] keeps h t s = subst IsServable (sym (append-nil kept)) s
@@ -66,7 +66,7 @@ all_true kept (path ∷ paths) [] h s = absurd h
 all_true kept (path ∷ paths) (true ∷ keeps) h s =
     (refl, all_true (kept ++ path ∷ []) paths keeps h.1 (subst IsServable (sym (append_assoc kept (path ∷ []) paths)) s))
 all_true kept (path ∷ paths) (false ∷ keeps) h s =
-    absurd (false≢true (h.0.1 (servable_front (kept ++ path ∷ []) paths (subst IsServable (sym (append_assoc kept (path ∷ []) paths)) s))))
+    absurd (false≢true (h.0.1 (servable_prefix (kept ++ path ∷ []) paths (subst IsServable (sym (append_assoc kept (path ∷ []) paths)) s))))
 
 pub all_kept_law : AllKeptLaw
 all_kept_law paths keeps h = (

@@ -4,7 +4,7 @@ use Rattle.std.proofs.lemmas.List.Elements.{All-contains, Contains-get_or, All-f
 use Rattle.tor_arena.specs.Distinct.{AllDistinct}
 use Rattle.relationships.specs.Relationship.{Orientation, Labelling, labels_of, is_over, Slope, Up, Down, slope, slopes_from, slopes, ValleyFree, Serves}
 use Rattle.relationships.specs.Evidence.{StandAt, TripleAt}
-use Rattle.relationships.specs.Laws.{CarriesOn, ServingLaw}
+use Rattle.relationships.specs.Laws.{SatisfiesTriples, ServingLaw}
 use Rattle.relationships.proofs.Slopes.{slope-up, slope-down, over-up, over-down, over_one_of, Falls, Free, Free-from_valley_free, ValleyFree-from_free}
 
 -- behind a down there are only downs
@@ -109,15 +109,15 @@ module _ (O : Orientation) where
   valley_free_from_triples (a ∷ path) apart h =
       ValleyFree-from_free (labels_of O) (a ∷ path) (free_from_carried a path (Apart-from_distinct a path apart) (carried_from_triples a path [] h))
 
-  pub serves_carries : (paths : List (List ℕ)) → Serves O paths → CarriesOn O paths
-  serves_carries paths s x y z t o =
+  pub serves_satisfies : (paths : List (List ℕ)) → Serves O paths → SatisfiesTriples O paths
+  serves_satisfies paths s x y z t o =
       carried (labels_of O) t.0 t.2.0 x y z (All-contains (ValleyFree (labels_of O)) paths t.0 s t.1) t.2.1 o
 
-  pub carries_serves : (paths : List (List ℕ)) → All AllDistinct paths → CarriesOn O paths → Serves O paths
-  carries_serves paths apart c =
+  pub satisfies_serves : (paths : List (List ℕ)) → All AllDistinct paths → SatisfiesTriples O paths → Serves O paths
+  satisfies_serves paths apart c =
       All-from_get_or (ValleyFree (labels_of O)) paths []
       (λ i within. valley_free_from_triples (get_or paths i []) (apart i [] within)
       (λ at x y z s o. c x y z (get_or paths i [], Contains-get_or paths i [] within, (at, inl s)) o))
 
 pub serving_law : ServingLaw
-serving_law O paths apart = (serves_carries O paths, carries_serves O paths apart)
+serving_law O paths apart = (serves_satisfies O paths, satisfies_serves O paths apart)

@@ -9,7 +9,7 @@ use Rattle.relationships.specs.Relationship.{Orientation, labels_of, is_over, Se
 use Rattle.relationships.specs.Evidence.{TripleAt, IsTriple, Numbered, paths_of, Fits, IsLinked, HasPair, BeginsWith, EndsWith, Refutes, Shows, ShowFrom}
 use Rattle.relationships.specs.Laws.{RefutingLaw, ShowingLaw}
 use Rattle.relationships.proofs.Slopes.{over_one_way, over_one_of}
-use Rattle.relationships.proofs.Serving.{serves_carries, AllDistinct-tail}
+use Rattle.relationships.proofs.Serving.{serves_satisfies, AllDistinct-tail}
 
 pub Contains-paths_of : (A : Numbered) (n : ℕ) (path : List ℕ) → Contains A (n, path) → Contains (paths_of A) path
 Contains-paths_of A n path c =
@@ -55,7 +55,7 @@ module _ (O : Orientation) (A : Numbered) (serves : Serves O (paths_of A)) where
   carried_along x y (z ∷ rest) [] h o (b ∷ before) u v after e = absurd h
   carried_along x y (z ∷ rest) (link ∷ links) h o (b ∷ before) u v after e =
       let e' : y ∷ z ∷ rest ≡ before ++ (u ∷ v ∷ after) = cc in
-      carried_along y z rest links h.1 (serves_carries O (paths_of A) serves x y z (triple_of_fit A link x y z h.0) o) before u v after e'
+      carried_along y z rest links h.1 (serves_satisfies O (paths_of A) serves x y z (triple_of_fit A link x y z h.0) o) before u v after e'
 
   along : (ases : List ℕ) (links : List Link) (x y u v : ℕ) → IsLinked A ases links → BeginsWith ases x y → is_over (labels_of O) x y ≡ true → HasPair ases u v → is_over (labels_of O) u v ≡ true
   along ases links x y u v h b o p =

@@ -8,7 +8,7 @@ use Rattle.relationships.specs.declared.walk.Walk.{Walk}
 use Rattle.tor_arena.specs.Distinct.{AllDistinct, is_distinct}
 use Rattle.relationships.specs.Relationship.{Orientation, Labelling, labels_of, is_over, Up, Down, Flat, slope, slopes, ValleyFree, Serves}
 use Rattle.relationships.specs.Graph.{Edge, edges, degree, support, orientation, labelling}
-use Rattle.relationships.specs.Evidence.{Numbered, Fits, IsLinked, Refutes, Show, Closure, start, carry, IsConsistent}
+use Rattle.relationships.specs.Evidence.{Numbered, Fits, IsLinked, Refutes, Show, Closure, start, imply, IsConsistent}
 use Rattle.relationships.specs.Selection.{Keeps, IsForced}
 use Rattle.relationships.specs.Checking.{LostAreRefuted, Claim, IsBorneOut, MarksHold, MeetsGraphRules}
 use Rattle.relationships.proofs.Closures.{consistency_law}
@@ -246,7 +246,7 @@ consistent_20_30 =
     consistency_law kept 20 30 (λ c. false≢true (Closure-within (among reach_20_30) kept 20 30 refl closed_20_30 c))
 
 reached_30_40 : Closure kept 20 30 30 40
-reached_30_40 = carry start (second, (1, lit< tt, refl), (3, inl (record { before = 10 ∷ []; after = []; whole = refl; place = refl })))
+reached_30_40 = imply start (second, (1, lit< tt, refl), (3, inl (record { before = 10 ∷ []; after = []; whole = refl; place = refl })))
 
 closed_60_10 : All (EachTriple (λ x y z. goes_on (among ((60, 10) ∷ [])) x y z ≡ true)) kept
 closed_60_10 = All-from_recursion (EachTriple (λ x y z. goes_on (among ((60, 10) ∷ [])) x y z ≡ true)) kept
@@ -351,7 +351,7 @@ implied_20_10 O serves = implied_law O kept 20 10 (λ e. omega arith) closed ser
   where
     closed : Closure kept 10 20 20 10
     closed =
-        carry (carry (carry (carry start
+        imply (imply (imply (imply start
         (second, (1, lit< tt, refl), (2, inl (record { before = []; after = 40 ∷ []; whole = refl; place = refl }))))
         (second, (1, lit< tt, refl), (3, inl (record { before = 10 ∷ []; after = []; whole = refl; place = refl }))))
         (first, (0, lit< tt, refl), (2, inl (record { before = []; after = 10 ∷ 50 ∷ 60 ∷ []; whole = refl; place = refl }))))

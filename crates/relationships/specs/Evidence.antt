@@ -87,7 +87,7 @@ Show A walks orders = ShowFrom A [] walks orders
 -- the orders that follow from "a over b" along the triples of the paths: the least set that holds it and is carried on
 pub data Closure (paths : List (List ℕ)) (a b : ℕ) : ℕ → ℕ → Type 0 where
   start : Closure paths a b a b
-  carry : {x y z : ℕ} → Closure paths a b x y → IsTriple paths x y z → Closure paths a b y z
+  imply : {x y z : ℕ} → Closure paths a b x y → IsTriple paths x y z → Closure paths a b y z
 
 -- no two ASes stand in it in both orders
 abbrev pub IsConsistent : List (List ℕ) → ℕ → ℕ → Type 0

@@ -24,21 +24,21 @@ EdgeLaw =
     AllPairs ◌≢◌ (edges paths) ×
     ((e : Edge) → Contains (edges paths) e ↔ ((a b : ℕ) × AreNeighbours paths a b × (e ≡ edge_of a b)))
 
--- what stands behind `front` on its path, and the paths behind that one, add edges at the end alone: so edges stand in order of
+-- what stands behind `prefix` on its path, and the paths behind that one, add edges at the end alone: so edges stand in order of
 -- first appearance
 abbrev pub EdgeOrderLaw : Type 0
 EdgeOrderLaw =
-    (paths : List (List ℕ)) (front back : List ℕ) (more : List (List ℕ)) →
-    (later : List Edge) × (edges (paths ++ (front ++ back) ∷ more) ≡ edges (paths ++ front ∷ []) ++ later)
+    (paths : List (List ℕ)) (prefix back : List ℕ) (more : List (List ℕ)) →
+    (later : List Edge) × (edges (paths ++ (prefix ++ back) ∷ more) ≡ edges (paths ++ prefix ∷ []) ++ later)
 
 -- where x is over y, y is over z, at each triple of the paths
-abbrev pub CarriesOn : Orientation → List (List ℕ) → Type 0
-CarriesOn O paths =
+abbrev pub SatisfiesTriples : Orientation → List (List ℕ) → Type 0
+SatisfiesTriples O paths =
     (x y z : ℕ) → IsTriple paths x y z → IsTrue (is_over (labels_of O) x y) → IsTrue (is_over (labels_of O) y z)
 
 abbrev pub ServingLaw : Type 0
 ServingLaw =
-    (O : Orientation) (paths : List (List ℕ)) → All AllDistinct paths → Serves O paths ↔ CarriesOn O paths
+    (O : Orientation) (paths : List (List ℕ)) → All AllDistinct paths → Serves O paths ↔ SatisfiesTriples O paths
 
 -- the second labelling says what the first says, at each of these edges that the first does not call a peering
 abbrev pub AgreesOn : List Edge → Labelling → Labelling → Type 0

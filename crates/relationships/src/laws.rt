@@ -12,7 +12,7 @@ pub fn edge_order_law()
     ensures { EdgeOrderLaw }
 {}
 
-/// Where the ASes of each path are distinct, an orientation serves the paths exactly if it carries
+/// Where the ASes of each path are distinct, an orientation serves the paths exactly if it satisfies
 /// each "x over y" on to "y over z" along every triple x, y, z (Di Battista, Patrignani and
 /// Pizzonia 2003).
 pub fn serving_law()

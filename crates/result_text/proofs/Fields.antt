@@ -1,4 +1,4 @@
--- A field that is read is spelled as it was written, and what was written is read again.
+-- A field that is read is encoded as it was written, and what was written is read again.
 use Rattle.std.proofs.Common.{◌≡◌, ℕ, zero, suc, ◌+◌, ◌-◌, ◌*◌, ◌/◌, ◌%◌, ◌^◌, ◌<◌, ◌≤◌, Bool, true, false, cond, ltb, leb, eqb, List, [], ◌∷◌, ◌++◌, length, Option, Some, None, refl, sym, ap, subst, ◌∙◌, append_assoc, arith, inl, inr}
 use Rattle.std.specs.Prelude.{◌⊎◌}
 use Rattle.std.specs.Fmt.{decimal}
@@ -9,7 +9,7 @@ use Rattle.std.proofs.lemmas.List.{length-append}
 use Rattle.relationships.specs.declared.walk.Link.{Link}
 use Rattle.result_text.specs.Ranges.{IsU32, IsU64, LinkFits}
 use Rattle.result_text.specs.Text.{numbers, link, links, spaced, others}
-use Rattle.result_text.specs.Reading.{◌>>=◌, word_at, on_word, is_digit, with_digit, digit_at, digits_at, u64_at, u32_at, below, before, both, mapped, others_at, with_front, field_ends, list_at, link_from, link_at}
+use Rattle.result_text.specs.Reading.{◌>>=◌, word_at, on_word, is_digit, with_digit, digit_at, digits_at, u64_at, u32_at, below, before, both, mapped, others_at, with_prefix, field_ends, list_at, link_from, link_at}
 
 -- ---- steps
 
@@ -56,34 +56,34 @@ on_word_none {X} word f g bytes e = ap (λ (o : Option (List ℕ)). elim o as (�
 
 -- ---- readers
 
--- It reads just what is spelled so, whatever follows.
-pub record Reads (X : Type 0) (Fits : X → Type 0) (spell : X → List ℕ) (read : List ℕ → Option (X × List ℕ)) : Type 0 where
-  pub takes : (bytes : List ℕ) (x : X × List ℕ) → read bytes ≡ Some x → Fits x.0 × (bytes ≡ spell x.0 ++ x.1)
-  pub again : (x : X) (rest : List ℕ) → Fits x → read (spell x ++ rest) ≡ Some (x, rest)
+-- It reads just what is encoded so, whatever follows.
+pub record Reads (X : Type 0) (Fits : X → Type 0) (encode : X → List ℕ) (read : List ℕ → Option (X × List ℕ)) : Type 0 where
+  pub takes : (bytes : List ℕ) (x : X × List ℕ) → read bytes ≡ Some x → Fits x.0 × (bytes ≡ encode x.0 ++ x.1)
+  pub again : (x : X) (rest : List ℕ) → Fits x → read (encode x ++ rest) ≡ Some (x, rest)
 
 -- The same, where what follows ends the value.
-pub record ReadsOpen (X : Type 0) (Fits : X → Type 0) (spell : X → List ℕ) (Ends : List ℕ → Type 0) (read : List ℕ → Option (X × List ℕ)) : Type 0 where
-  pub takes : (bytes : List ℕ) (x : X × List ℕ) → read bytes ≡ Some x → Fits x.0 × (bytes ≡ spell x.0 ++ x.1)
-  pub again : (x : X) (rest : List ℕ) → Fits x → Ends rest → read (spell x ++ rest) ≡ Some (x, rest)
+pub record ReadsOpen (X : Type 0) (Fits : X → Type 0) (encode : X → List ℕ) (Ends : List ℕ → Type 0) (read : List ℕ → Option (X × List ℕ)) : Type 0 where
+  pub takes : (bytes : List ℕ) (x : X × List ℕ) → read bytes ≡ Some x → Fits x.0 × (bytes ≡ encode x.0 ++ x.1)
+  pub again : (x : X) (rest : List ℕ) → Fits x → Ends rest → read (encode x ++ rest) ≡ Some (x, rest)
 
 -- The same, where the reader gives f of the value.
-pub record ReadsAs (X Y : Type 0) (f : X → Y) (Fits : X → Type 0) (spell : X → List ℕ) (read : List ℕ → Option (Y × List ℕ)) : Type 0 where
-  pub takes : (bytes : List ℕ) (y : Y × List ℕ) → read bytes ≡ Some y → (x : X) × (y.0 ≡ f x) × Fits x × (bytes ≡ spell x ++ y.1)
-  pub again : (x : X) (rest : List ℕ) → Fits x → read (spell x ++ rest) ≡ Some (f x, rest)
+pub record ReadsAs (X Y : Type 0) (f : X → Y) (Fits : X → Type 0) (encode : X → List ℕ) (read : List ℕ → Option (Y × List ℕ)) : Type 0 where
+  pub takes : (bytes : List ℕ) (y : Y × List ℕ) → read bytes ≡ Some y → (x : X) × (y.0 ≡ f x) × Fits x × (bytes ≡ encode x ++ y.1)
+  pub again : (x : X) (rest : List ℕ) → Fits x → read (encode x ++ rest) ≡ Some (f x, rest)
 
-pub before_reads : (X : Type 0) (Fits : X → Type 0) (spell : X → List ℕ) (Ends : List ℕ → Type 0) (read : List ℕ → Option (X × List ℕ)) (c : ℕ)
-    → ReadsOpen X Fits spell Ends read → ((rest : List ℕ) → Ends (c ∷ rest)) → Reads X Fits (λ x. spell x ++ c ∷ []) (before c read)
-before_reads X Fits spell Ends read c r ends = record {
+pub before_reads : (X : Type 0) (Fits : X → Type 0) (encode : X → List ℕ) (Ends : List ℕ → Type 0) (read : List ℕ → Option (X × List ℕ)) (c : ℕ)
+    → ReadsOpen X Fits encode Ends read → ((rest : List ℕ) → Ends (c ∷ rest)) → Reads X Fits (λ x. encode x ++ c ∷ []) (before c read)
+before_reads X Fits encode Ends read c r ends = record {
   takes = λ bytes x e.
       let a = bind_some (read bytes) (λ y. word_at (c ∷ []) y.1 >>= λ rest. Some (y.0, rest)) x e in
       let b = bind_some (word_at (c ∷ []) a.0.1) (λ rest. Some (a.0.0, rest)) x a.2 in
       let t = r.takes bytes a.0 a.1 in
       let w : a.0.1 ≡ c ∷ b.0 = word_takes (c ∷ []) a.0.1 b.0 b.1 in
       let made : X × List ℕ = (a.0.0, b.0) in
-      let parts : bytes ≡ (spell a.0.0 ++ c ∷ []) ++ b.0 = t.1 ∙ ap (λ (y : List ℕ). spell a.0.0 ++ y) w ∙ sym (append_assoc (spell a.0.0) (c ∷ []) b.0) in
-      subst (λ (y : X × List ℕ). Fits y.0 × (bytes ≡ (spell y.0 ++ c ∷ []) ++ y.1)) (some_is made x b.2) (t.0, parts);
+      let parts : bytes ≡ (encode a.0.0 ++ c ∷ []) ++ b.0 = t.1 ∙ ap (λ (y : List ℕ). encode a.0.0 ++ y) w ∙ sym (append_assoc (encode a.0.0) (c ∷ []) b.0) in
+      subst (λ (y : X × List ℕ). Fits y.0 × (bytes ≡ (encode y.0 ++ c ∷ []) ++ y.1)) (some_is made x b.2) (t.0, parts);
   again = λ x rest fits.
-      let one : read ((spell x ++ c ∷ []) ++ rest) ≡ Some (x, c ∷ rest) = ap read (append_assoc (spell x) (c ∷ []) rest) ∙ r.again x (c ∷ rest) fits (ends rest) in
+      let one : read ((encode x ++ c ∷ []) ++ rest) ≡ Some (x, c ∷ rest) = ap read (append_assoc (encode x) (c ∷ []) rest) ∙ r.again x (c ∷ rest) fits (ends rest) in
       rw (one, word_again (c ∷ []) rest) refl;
 }
 
@@ -214,11 +214,11 @@ comes_to_one n small pos fits rest =
 
 comes_to_more : (n : ℕ) (ds : List ℕ) → 10 ≤ n → ComesTo (n / 10) ds → ComesTo n (ds ++ ((48 + n % 10) ∷ []))
 unfolding digits_at
-comes_to_more n ds large front pos fits rest =
+comes_to_more n ds large prefix pos fits rest =
     let digit : is_digit (48 + n % 10) ≡ true = digit_from (48 + n % 10) (omega arith) (omega arith) in
     let back : n / 10 * 10 + (48 + n % 10 - 48) ≡ n = omega arith in
     let small : ltb n (2 ^ 64) ≡ true = lt-ltb n (2 ^ 64) fits in
-    let one : u64_at ((ds ++ ((48 + n % 10) ∷ [])) ++ rest) ≡ digits_at (n / 10) ((48 + n % 10) ∷ rest) = ap u64_at (append_assoc ds ((48 + n % 10) ∷ []) rest) ∙ front (omega arith) (omega arith) ((48 + n % 10) ∷ rest) in
+    let one : u64_at ((ds ++ ((48 + n % 10) ∷ [])) ++ rest) ≡ digits_at (n / 10) ((48 + n % 10) ∷ rest) = ap u64_at (append_assoc ds ((48 + n % 10) ∷ []) rest) ∙ prefix (omega arith) (omega arith) ((48 + n % 10) ∷ rest) in
     one ∙ rw (digit, back, small) refl
 
 digits_end : (n : ℕ) (rest : List ℕ) → NoDigit rest → digits_at n rest ≡ Some (n, rest)
@@ -257,9 +257,9 @@ abbrev pub EndsList : List ℕ → Type 0
 EndsList rest = (starts_with_digit rest ≡ false) × (starts_with_space rest ≡ false) × (field_ends rest ≡ true)
 
 -- a member ends where no digit stands, and begins with something that doesn't end the field
-pub record IsMember (X : Type 0) (Fits : X → Type 0) (spell : X → List ℕ) (read : List ℕ → Option (X × List ℕ)) : Type 0 where
-  pub reads : ReadsOpen X Fits spell NoDigit read
-  pub first : (x : X) (rest : List ℕ) → Fits x → field_ends (spell x ++ rest) ≡ false
+pub record IsMember (X : Type 0) (Fits : X → Type 0) (encode : X → List ℕ) (read : List ℕ → Option (X × List ℕ)) : Type 0 where
+  pub reads : ReadsOpen X Fits encode NoDigit read
+  pub first : (x : X) (rest : List ℕ) → Fits x → field_ends (encode x ++ rest) ≡ false
 
 others_take : (X : Type 0) (F : X → Type 0) (s : X → List ℕ) (p : List ℕ → Option (X × List ℕ)) → ReadsOpen X F s NoDigit p → (k : ℕ) (bytes : List ℕ) (z : List X × List ℕ)
     → others_at p k bytes ≡ Some z → AllByRecursion F z.0 × (bytes ≡ others s z.0 ++ z.1)
@@ -318,11 +318,11 @@ pub list_reads : (X : Type 0) (F : X → Type 0) (s : X → List ℕ) (p : List 
 unfolding list_at
 list_reads X F s p m = record {
   takes = λ bytes z e.
-      elim (chosen (field_ends bytes) (Some ([], bytes)) (p bytes >>= λ x. with_front (x.0 ∷ []) (others_at p (length x.1) x.1)) (Some z) e) [
+      elim (chosen (field_ends bytes) (Some ([], bytes)) (p bytes >>= λ x. with_prefix (x.0 ∷ []) (others_at p (length x.1) x.1)) (Some z) e) [
         | inl t ↦
             subst (λ (y : List X × List ℕ). AllByRecursion F y.0 × (bytes ≡ spaced s y.0 ++ y.1)) (some_is ([], bytes) z t.1) (tt, refl)
         | inr t ↦
-            let a = bind_some (p bytes) (λ x. with_front (x.0 ∷ []) (others_at p (length x.1) x.1)) z t.1 in
+            let a = bind_some (p bytes) (λ x. with_prefix (x.0 ∷ []) (others_at p (length x.1) x.1)) z t.1 in
             let c = bind_some (others_at p (length a.0.1) a.0.1) (λ xs. Some (a.0.0 ∷ xs.0, xs.1)) z a.2 in
             let one = m.reads.takes bytes a.0 a.1 in
             let more = others_take X F s p m.reads (length a.0.1) a.0.1 c.0 c.1 in
@@ -338,7 +338,7 @@ list_reads X F s p m = record {
 -- what follows the first digit doesn't matter
 first_digit : (n : ℕ) (rest : List ℕ) → n < 2 ^ 64 → starts_with_digit (decimal n ++ rest) ≡ true
 first_digit n rest fits = decimal_by_steps (λ n ds. (rest : List ℕ) → starts_with_digit (ds ++ rest) ≡ true) (λ n small rest. digit_from (48 + n) (omega arith) (omega arith))
-    (λ n ds large front rest. ap starts_with_digit (append_assoc ds ((48 + n % 10) ∷ []) rest) ∙ front ((48 + n % 10) ∷ rest)) n fits rest
+    (λ n ds large prefix rest. ap starts_with_digit (append_assoc ds ((48 + n % 10) ∷ []) rest) ∙ prefix ((48 + n % 10) ∷ rest)) n fits rest
 
 -- a digit doesn't end a field
 digit_goes_on : (bytes : List ℕ) → starts_with_digit bytes ≡ true → field_ends bytes ≡ false
@@ -360,8 +360,8 @@ link_reads =
           let a = bind_some (both (before 58 u32_at) u32_at bytes) (λ x. Some (link_from x.0, x.1)) z e in
           let t = parts.takes bytes a.0 a.1 in
           let made : Link × List ℕ = (link_from a.0.0, a.0.1) in
-          let spelled : bytes ≡ link made.0 ++ made.1 = t.1 ∙ ap (λ (y : List ℕ). y ++ a.0.1) (append_assoc (decimal a.0.0.0) (58 ∷ []) (decimal a.0.0.1)) in
-          subst (λ (y : Link × List ℕ). LinkFits y.0 × (bytes ≡ link y.0 ++ y.1)) (some_is made z a.2) (t.0, spelled);
+          let encoded : bytes ≡ link made.0 ++ made.1 = t.1 ∙ ap (λ (y : List ℕ). y ++ a.0.1) (append_assoc (decimal a.0.0.0) (58 ∷ []) (decimal a.0.0.1)) in
+          subst (λ (y : Link × List ℕ). LinkFits y.0 × (bytes ≡ link y.0 ++ y.1)) (some_is made z a.2) (t.0, encoded);
       again = λ l rest fits ends.
           let regrouped : link l ++ rest ≡ ((decimal l.path ++ 58 ∷ []) ++ decimal l.at) ++ rest = ap (λ (y : List ℕ). y ++ rest) (sym (append_assoc (decimal l.path) (58 ∷ []) (decimal l.at))) in
           ap (λ (y : List ℕ). mapped link_from (both (before 58 u32_at) u32_at) y) regrouped ∙ rw (parts.again (l.path, l.at) rest fits ends) refl;

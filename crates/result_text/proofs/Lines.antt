@@ -1,4 +1,4 @@
--- A line that is read is spelled as it was written, and what was written is read again.
+-- A line that is read is encoded as it was written, and what was written is read again.
 use Rattle.std.proofs.Common.{◌≡◌, ℕ, List, [], ◌∷◌, ◌++◌, Option, Some, None, refl, sym, ap, subst, ◌∙◌, append_assoc, inl, inr}
 use Rattle.std.specs.Prelude.{codes}
 use Rattle.std.specs.Fmt.{decimal}
@@ -25,7 +25,7 @@ use Rattle.result_text.proofs.Fields.{some_is, on_word_takes, Reads, ReadsAs, be
 -- ---- fields with the byte behind them
 
 abbrev with : {X : Type 0} → (X → List ℕ) → ℕ → X → List ℕ
-with spell c x = spell x ++ c ∷ []
+with encode c x = encode x ++ c ∷ []
 
 u64_bar : Reads ℕ IsU64 (with decimal 124) (before 124 u64_at)
 u64_bar = before_reads ℕ IsU64 decimal NoDigit u64_at 124 u64_reads (λ rest. refl)
@@ -53,14 +53,14 @@ links_end = before_reads (List Link) (AllByRecursion LinkFits) links EndsList (l
 abbrev Any : {X : Type 0} → X → Type 0
 Any x = Unit {0}
 
--- each name stands beside the value that it spells
-names_take : {X : Type 0} (spell : X → List ℕ) (table : List (List ℕ × X)) (bytes : List ℕ) (x : X × List ℕ) → AllByRecursion (λ e. e.0 ≡ spell e.1) table
-    → name_at table bytes ≡ Some x → bytes ≡ spell x.0 ++ x.1
-names_take spell [] bytes x all e = absurd cc
-names_take {X} spell (entry ∷ table) bytes x all e =
+-- each name stands beside the value that it encodes
+names_take : {X : Type 0} (encode : X → List ℕ) (table : List (List ℕ × X)) (bytes : List ℕ) (x : X × List ℕ) → AllByRecursion (λ e. e.0 ≡ encode e.1) table
+    → name_at table bytes ≡ Some x → bytes ≡ encode x.0 ++ x.1
+names_take encode [] bytes x all e = absurd cc
+names_take {X} encode (entry ∷ table) bytes x all e =
     elim (on_word_takes entry.0 (λ rest. Some (entry.1, rest)) (name_at table) bytes x e) [
-      | inl t ↦ subst (λ (y : X × List ℕ). bytes ≡ spell y.0 ++ y.1) (some_is (entry.1, t.0) x t.2) (t.1 ∙ ap (λ (w : List ℕ). w ++ t.0) all.0)
-      | inr t ↦ names_take spell table bytes x all.1 t
+      | inl t ↦ subst (λ (y : X × List ℕ). bytes ≡ encode y.0 ++ y.1) (some_is (entry.1, t.0) x t.2) (t.1 ∙ ap (λ (w : List ℕ). w ++ t.0) all.0)
+      | inr t ↦ names_take encode table bytes x all.1 t
     ]
 
 sets_takes : (bytes : List ℕ) (x : Sets × List ℕ) → sets_at bytes ≡ Some x → bytes ≡ with sets_name 10 x.0 ++ x.1
@@ -136,23 +136,23 @@ walk_reads =
 
 -- ---- lines, behind their first word
 
--- A reader of the lines that begin with this word: what it reads is spelled so behind the word.
-record ReadsLine (X : Type 0) (word : List ℕ) (f : X → Line) (Fits : X → Type 0) (spell : X → List ℕ) (read : List ℕ → Option (Line × List ℕ)) : Type 0 where
-  reads : ReadsAs X Line f Fits spell read
-  text : (x : X) → line_text (f x) ≡ word ++ spell x
+-- A reader of the lines that begin with this word: what it reads is encoded so behind the word.
+record ReadsLine (X : Type 0) (word : List ℕ) (f : X → Line) (Fits : X → Type 0) (encode : X → List ℕ) (read : List ℕ → Option (Line × List ℕ)) : Type 0 where
+  reads : ReadsAs X Line f Fits encode read
+  text : (x : X) → line_text (f x) ≡ word ++ encode x
   fits : (x : X) → Fits x → LineFits (f x)
 
-line_takes_by : {X : Type 0} {word : List ℕ} {f : X → Line} {Fits : X → Type 0} {spell : X → List ℕ} {read : List ℕ → Option (Line × List ℕ)} → ReadsLine X word f Fits spell read
+line_takes_by : {X : Type 0} {word : List ℕ} {f : X → Line} {Fits : X → Type 0} {encode : X → List ℕ} {read : List ℕ → Option (Line × List ℕ)} → ReadsLine X word f Fits encode read
     → (bytes rest : List ℕ) (y : Line × List ℕ) → bytes ≡ word ++ rest → read rest ≡ Some y → LineFits y.0 × (bytes ≡ line_text y.0 ++ y.1)
-line_takes_by {X} {word} {f} {Fits} {spell} {read} r bytes rest y w e =
+line_takes_by {X} {word} {f} {Fits} {encode} {read} r bytes rest y w e =
     let t = r.reads.takes rest y e in
-    let text : line_text y.0 ≡ word ++ spell t.0 = ap line_text t.1 ∙ r.text t.0 in
-    (subst LineFits (sym t.1) (r.fits t.0 t.2), w ∙ ap (λ (z : List ℕ). word ++ z) t.3 ∙ sym (append_assoc word (spell t.0) y.1) ∙ ap (λ (z : List ℕ). z ++ y.1) (sym text))
+    let text : line_text y.0 ≡ word ++ encode t.0 = ap line_text t.1 ∙ r.text t.0 in
+    (subst LineFits (sym t.1) (r.fits t.0 t.2), w ∙ ap (λ (z : List ℕ). word ++ z) t.3 ∙ sym (append_assoc word (encode t.0) y.1) ∙ ap (λ (z : List ℕ). z ++ y.1) (sym text))
 
-line_again_by : {X : Type 0} {word : List ℕ} {f : X → Line} {Fits : X → Type 0} {spell : X → List ℕ} {read : List ℕ → Option (Line × List ℕ)} → ReadsLine X word f Fits spell read
+line_again_by : {X : Type 0} {word : List ℕ} {f : X → Line} {Fits : X → Type 0} {encode : X → List ℕ} {read : List ℕ → Option (Line × List ℕ)} → ReadsLine X word f Fits encode read
     → (x : X) (rest : List ℕ) → Fits x → ((bytes : List ℕ) → line_at (word ++ bytes) ≡ read bytes) → line_at (line_text (f x) ++ rest) ≡ Some (f x, rest)
-line_again_by {X} {word} {f} {Fits} {spell} {read} r x rest fits goes =
-    ap line_at (ap (λ (z : List ℕ). z ++ rest) (r.text x) ∙ append_assoc word (spell x) rest) ∙ goes (spell x ++ rest) ∙ r.reads.again x rest fits
+line_again_by {X} {word} {f} {Fits} {encode} {read} r x rest fits goes =
+    ap line_at (ap (λ (z : List ℕ). z ++ rest) (r.text x) ∙ append_assoc word (encode x) rest) ∙ goes (encode x ++ rest) ∙ r.reads.again x rest fits
 
 -- ---- each kind
 

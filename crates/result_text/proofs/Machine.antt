@@ -218,9 +218,9 @@ pub record Stepped (d e : Draft) (l : Line) : Type 0 where
 head_sofar : (d new : Draft) (k : ℕ) (l : Line) (p : Place) → sections_of d ≡ [] → sections_of new ≡ [] → end_part p (file_of new) ≡ [] → head_part p (file_of new) ≡ take k (head_lines (file_of d)) ++ l ∷ []
     → sofar (record new { place = p }) ≡ sofar (record d { place = place.Head k }) ++ l ∷ []
 head_sofar d new k l p s t en h =
-    let front = head_part p (file_of new) in
+    let prefix = head_part p (file_of new) in
     let old = take k (head_lines (file_of d)) in
-    ap (λ (x : List Line). front ++ (x ++ end_part p (file_of new))) t ∙ ap (λ (x : List Line). front ++ x) en ∙ append-nil front ∙ h
+    ap (λ (x : List Line). prefix ++ (x ++ end_part p (file_of new))) t ∙ ap (λ (x : List Line). prefix ++ x) en ∙ append-nil prefix ∙ h
     ∙ sym (ap (λ (x : List Line). (old ++ (x ++ [])) ++ l ∷ []) s ∙ ap (λ (x : List Line). x ++ l ∷ []) (append-nil old))
 
 head_place : (k : ℕ) (p : Place) → is_head k p ≡ true → p ≡ place.Head k

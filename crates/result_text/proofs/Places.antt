@@ -16,7 +16,7 @@ use Rattle.result_text.specs.Ranges.{LineFits, IsInRange}
 use Rattle.result_text.specs.Grammar.{first_lines}
 use Rattle.result_text.specs.Numbering.{IsLine, IsNumbered, LinesAreOfText, aside_line}
 use Rattle.result_text.proofs.LineFeeds.{lines_first}
-use Rattle.result_text.proofs.Verdicts.{lines_fit, all_front}
+use Rattle.result_text.proofs.Verdicts.{lines_fit, all_prefix}
 
 get_left : {X : Type 0} (xs ys : List X) (k : ℕ) (x : X) → slice_get xs k ≡ Some x → slice_get (xs ++ ys) k ≡ Some x
 get_left [] ys k x e = absurd cc
@@ -92,7 +92,7 @@ lines_are_of_text file r n le =
     let ms = drop n (lines_of file) in
     let split : ls ++ ms ≡ lines_of file = take-append-drop n (lines_of file) in
     let count : length ls ≡ n = length-take-le n (lines_of file) (omega (arith, (numbered file).count)) in
-    let fit : AllByRecursion LineFits ls = all_front LineFits ls ms (subst (AllByRecursion LineFits) (sym split) (lines_fit file r)) in
+    let fit : AllByRecursion LineFits ls = all_prefix LineFits ls ms (subst (AllByRecursion LineFits) (sym split) (lines_fit file r)) in
     let parts : text file ≡ text_of_lines ls ++ text_of_lines ms = ap text_of_lines (sym split) ∙ flat_map-append line_text ls ms in
     let same : length ls + 0 ≡ n = omega (arith, count) in
     ap (first_lines n) parts ∙ ap (λ (k : ℕ). first_lines k (text_of_lines ls ++ text_of_lines ms)) (sym same) ∙ lines_first ls (text_of_lines ms) 0 fit ∙ ap (λ (x : List ℕ). Some x) (append-nil (text_of_lines ls))

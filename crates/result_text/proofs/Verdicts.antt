@@ -33,9 +33,9 @@ all_append : {X : Type 0} (P : X → Type 0) (xs ys : List X) → AllByRecursion
 all_append P [] ys all h = h
 all_append P (x ∷ xs) ys all h = (all.0, all_append P xs ys all.1 h)
 
-pub all_front : {X : Type 0} (P : X → Type 0) (xs ys : List X) → AllByRecursion P (xs ++ ys) → AllByRecursion P xs
-all_front P [] ys all = tt
-all_front P (x ∷ xs) ys all = (all.0, all_front P xs ys all.1)
+pub all_prefix : {X : Type 0} (P : X → Type 0) (xs ys : List X) → AllByRecursion P (xs ++ ys) → AllByRecursion P xs
+all_prefix P [] ys all = tt
+all_prefix P (x ∷ xs) ys all = (all.0, all_prefix P xs ys all.1)
 
 all_map : {X Y : Type 0} (P : X → Type 0) (Q : Y → Type 0) (f : X → Y) (xs : List X) → ((x : X) → P x → Q (f x)) → AllByRecursion P xs → AllByRecursion Q (map f xs)
 all_map P Q f [] h all = tt
@@ -133,9 +133,9 @@ goes_on : (p : Place) (d : Draft) → Placed p d → (more : List Line) × (line
 goes_on (place.Head n) d h =
     let nothing = no_sections d h.0 h.1 h.2 h.3 in
     let head = head_lines (file_of d) in
-    let front : sofar (record d { place = place.Head n }) ≡ take n head = ap (λ (x : List Line). take n head ++ (x ++ [])) nothing ∙ append-nil (take n head) in (
+    let prefix : sofar (record d { place = place.Head n }) ≡ take n head = ap (λ (x : List Line). take n head ++ (x ++ [])) nothing ∙ append-nil (take n head) in (
       drop n head ++ body_lines (file_of d),
-      ap (λ (x : List Line). x ++ body_lines (file_of d)) (sym (take-append-drop n head)) ∙ append_assoc (take n head) (drop n head) (body_lines (file_of d)) ∙ ap (λ (x : List Line). x ++ (drop n head ++ body_lines (file_of d))) (sym front),
+      ap (λ (x : List Line). x ++ body_lines (file_of d)) (sym (take-append-drop n head)) ∙ append_assoc (take n head) (drop n head) (body_lines (file_of d)) ∙ ap (λ (x : List Line). x ++ (drop n head ++ body_lines (file_of d))) (sym prefix),
     )
 goes_on place.Paths d h = (line.End d.totals ∷ [], body_parts d)
 goes_on place.Edges d h = (line.End d.totals ∷ [], body_parts d)
@@ -179,22 +179,22 @@ map_some f (Some x) y e = (x, refl, some_is (f x) y e)
 map_some f None y e = absurd cc
 
 -- the first lines are the first lines of themselves, and the bytes go on behind them
-first_again : (n : ℕ) (bytes front more : List ℕ) → first_lines n bytes ≡ Some front → first_lines n (front ++ more) ≡ Some front
-first_again zero bytes front more e = e
-first_again (suc n) [] front more e = absurd cc
-first_again (suc n) (b ∷ bytes) front more e =
+first_again : (n : ℕ) (bytes prefix more : List ℕ) → first_lines n bytes ≡ Some prefix → first_lines n (prefix ++ more) ≡ Some prefix
+first_again zero bytes prefix more e = e
+first_again (suc n) [] prefix more e = absurd cc
+first_again (suc n) (b ∷ bytes) prefix more e =
     let m = cond (eqb b 10) n (suc n) in
-    let t = map_some (λ (f : List ℕ). b ∷ f) (first_lines m bytes) front e in
+    let t = map_some (λ (f : List ℕ). b ∷ f) (first_lines m bytes) prefix e in
     let rest = first_again m bytes t.0 more t.1 in
     let one : first_lines (suc n) ((b ∷ t.0) ++ more) ≡ Some (b ∷ t.0) = ap (option_map (λ (f : List ℕ). b ∷ f)) rest in
     subst (λ (f : List ℕ). first_lines (suc n) (f ++ more) ≡ Some f) t.2 one
 
-first_rest : (n : ℕ) (bytes front : List ℕ) → first_lines n bytes ≡ Some front → (rest : List ℕ) × (bytes ≡ front ++ rest)
-first_rest zero bytes front e = (bytes, ap (λ (f : List ℕ). f ++ bytes) (some_is [] front e))
-first_rest (suc n) [] front e = absurd cc
-first_rest (suc n) (b ∷ bytes) front e =
+first_rest : (n : ℕ) (bytes prefix : List ℕ) → first_lines n bytes ≡ Some prefix → (rest : List ℕ) × (bytes ≡ prefix ++ rest)
+first_rest zero bytes prefix e = (bytes, ap (λ (f : List ℕ). f ++ bytes) (some_is [] prefix e))
+first_rest (suc n) [] prefix e = absurd cc
+first_rest (suc n) (b ∷ bytes) prefix e =
     let m = cond (eqb b 10) n (suc n) in
-    let t = map_some (λ (f : List ℕ). b ∷ f) (first_lines m bytes) front e in
+    let t = map_some (λ (f : List ℕ). b ∷ f) (first_lines m bytes) prefix e in
     let more = first_rest m bytes t.0 t.1 in
     (more.0, ap (λ (x : List ℕ). b ∷ x) more.1 ∙ ap (λ (f : List ℕ). f ++ more.0) t.2)
 
@@ -203,10 +203,10 @@ first_rest (suc n) (b ∷ bytes) front e =
 goes_well : (ls more : List Line) (rest : List ℕ) (f : ResultFile) → IsInRange f → AllByRecursion LineFits ls → lines_of f ≡ ls ++ more → GoesWell (length ls) (text_of_lines ls ++ rest)
 goes_well ls more rest f in_range fit e =
     let count : length ls + 0 ≡ length ls = omega arith in
-    let front : first_lines (length ls) (text_of_lines ls ++ rest) ≡ Some (text_of_lines ls ++ []) = ap (λ (k : ℕ). first_lines k (text_of_lines ls ++ rest)) (sym count) ∙ lines_first ls rest 0 fit in
-    let spelled : (text_of_lines ls ++ []) ++ text_of_lines more ≡ text f = ap (λ (x : List ℕ). x ++ text_of_lines more) (append-nil (text_of_lines ls)) ∙ sym (flat_map-append line_text ls more) ∙ ap text_of_lines (sym e) in
-    let begins : BeginsText (text_of_lines ls ++ []) = (text_of_lines more, (f, record { in_range = in_range; spelled = spelled })) in
-    subst (λ (o : Option (List ℕ)). IsSomeAnd o BeginsText) (sym front) begins
+    let prefix : first_lines (length ls) (text_of_lines ls ++ rest) ≡ Some (text_of_lines ls ++ []) = ap (λ (k : ℕ). first_lines k (text_of_lines ls ++ rest)) (sym count) ∙ lines_first ls rest 0 fit in
+    let encoded : (text_of_lines ls ++ []) ++ text_of_lines more ≡ text f = ap (λ (x : List ℕ). x ++ text_of_lines more) (append-nil (text_of_lines ls)) ∙ sym (flat_map-append line_text ls more) ∙ ap text_of_lines (sym e) in
+    let begins : BeginsText (text_of_lines ls ++ []) = (text_of_lines more, (f, record { in_range = in_range; encoded = encoded })) in
+    subst (λ (o : Option (List ℕ)). IsSomeAnd o BeginsText) (sym prefix) begins
 
 well_before : (d : Draft) (rest : List ℕ) → Reached d → (m : ℕ) → m ≤ length (sofar d) → GoesWell m (text_of_lines (sofar d) ++ rest)
 well_before d rest r m le =
@@ -215,7 +215,7 @@ well_before d rest r m le =
     let split : ls ++ ms ≡ sofar d = take-append-drop m (sofar d) in
     let on = goes_on d.place d r.placed in
     let whole : lines_of (file_of d) ≡ ls ++ (ms ++ on.0) = on.1 ∙ ap (λ (x : List Line). x ++ on.0) (sym split) ∙ append_assoc ls ms on.0 in
-    let fit : AllByRecursion LineFits ls = all_front LineFits ls ms (subst (AllByRecursion LineFits) (sym split) r.fit) in
+    let fit : AllByRecursion LineFits ls = all_prefix LineFits ls ms (subst (AllByRecursion LineFits) (sym split) r.fit) in
     let well = goes_well ls (ms ++ on.0) (text_of_lines ms ++ rest) (file_of d) r.in_range fit whole in
     let bytes : text_of_lines ls ++ (text_of_lines ms ++ rest) ≡ text_of_lines (sofar d) ++ rest = sym (append_assoc (text_of_lines ls) (text_of_lines ms) rest) ∙ ap (λ (x : List ℕ). x ++ rest) (sym (flat_map-append line_text ls ms) ∙ ap text_of_lines split) in
     subst (λ (k : ℕ). GoesWell k (text_of_lines (sofar d) ++ rest)) (length-take-le m (sofar d) le) (subst (λ (x : List ℕ). GoesWell (length ls) x) bytes well)
@@ -244,7 +244,7 @@ no_step d rest after l ms f stops fits e runs =
 no_text : (d : Draft) (rest : List ℕ) → Reached d → Stops d rest → (rest ≡ [] → finished d ≡ None) → IsText (text_of_lines (sofar d) ++ rest) → ⊥
 no_text d rest r stops unfinished t =
     let f = t.0 in
-    let b = lines_begin (sofar d) (lines_of f) rest r.fit (lines_fit f t.1.in_range) (sym t.1.spelled) in
+    let b = lines_begin (sofar d) (lines_of f) rest r.fit (lines_fit f t.1.in_range) (sym t.1.encoded) in
     let runs = runs_on d f b.0 r b.1 in
     let fit = all_back LineFits (sofar d) b.0 (subst (AllByRecursion LineFits) b.1 (lines_fit f t.1.in_range)) in
     by_more b.0 fit b.2 runs
@@ -259,22 +259,22 @@ no_next : (d : Draft) (rest : List ℕ) → Reached d → Stops d rest → GoesW
 no_next d rest r stops well =
     by_first (first_lines 1 rest) refl (subst (λ (o : Option (List ℕ)). IsSomeAnd o BeginsText) (lines_first (sofar d) rest 1 r.fit) well)
   where
-    by_more : (front more : List ℕ) (f : ResultFile) (ms : List Line) → first_lines 1 rest ≡ Some front → AllByRecursion LineFits ms → text_of_lines ms ≡ front ++ more → run d ms ≡ Some (done f) → ⊥
-    by_more front more f [] is fit e runs = none_is_some front (ap (first_lines 1) e ∙ first_again 1 rest front more is)
-    by_more front more f (l ∷ ms) is fit e runs =
+    by_more : (prefix more : List ℕ) (f : ResultFile) (ms : List Line) → first_lines 1 rest ≡ Some prefix → AllByRecursion LineFits ms → text_of_lines ms ≡ prefix ++ more → run d ms ≡ Some (done f) → ⊥
+    by_more prefix more f [] is fit e runs = none_is_some prefix (ap (first_lines 1) e ∙ first_again 1 rest prefix more is)
+    by_more prefix more f (l ∷ ms) is fit e runs =
         let one : first_lines 1 (line_text l ++ text_of_lines ms) ≡ Some (line_text l ++ []) = line_first l (text_of_lines ms) 0 fit.0 in
-        let same : front ≡ line_text l ++ [] = some_is front (line_text l ++ []) (sym (first_again 1 rest front more is) ∙ ap (first_lines 1) (sym e) ∙ one) in
-        let behind = first_rest 1 rest front is in
-        let spelled : rest ≡ line_text l ++ behind.0 = behind.1 ∙ ap (λ (x : List ℕ). x ++ behind.0) (same ∙ append-nil (line_text l)) in
-        no_step d rest behind.0 l ms f stops fit.0 spelled runs
+        let same : prefix ≡ line_text l ++ [] = some_is prefix (line_text l ++ []) (sym (first_again 1 rest prefix more is) ∙ ap (first_lines 1) (sym e) ∙ one) in
+        let behind = first_rest 1 rest prefix is in
+        let encoded : rest ≡ line_text l ++ behind.0 = behind.1 ∙ ap (λ (x : List ℕ). x ++ behind.0) (same ∙ append-nil (line_text l)) in
+        no_step d rest behind.0 l ms f stops fit.0 encoded runs
 
     by_first : (o : Option (List ℕ)) → first_lines 1 rest ≡ o → IsSomeAnd (option_map (λ f. text_of_lines (sofar d) ++ f) o) BeginsText → ⊥
     by_first None is h = h
-    by_first (Some front) is h =
+    by_first (Some prefix) is h =
         let f = h.1.0 in
         let t = h.1.1 in
-        let b = lines_begin (sofar d) (lines_of f) (front ++ h.0) r.fit (lines_fit f t.in_range) (sym t.spelled ∙ append_assoc (text_of_lines (sofar d)) front h.0) in
-        by_more front h.0 f b.0 is (all_back LineFits (sofar d) b.0 (subst (AllByRecursion LineFits) b.1 (lines_fit f t.in_range))) b.2 (runs_on d f b.0 r b.1)
+        let b = lines_begin (sofar d) (lines_of f) (prefix ++ h.0) r.fit (lines_fit f t.in_range) (sym t.encoded ∙ append_assoc (text_of_lines (sofar d)) prefix h.0) in
+        by_more prefix h.0 f b.0 is (all_back LineFits (sofar d) b.0 (subst (AllByRecursion LineFits) b.1 (lines_fit f t.in_range))) b.2 (runs_on d f b.0 r b.1)
 
 -- ---- what reading comes to
 
@@ -297,7 +297,7 @@ pub is_text : (d : Draft) (bytes : List ℕ) (f : ResultFile) → Reached d → 
 is_text d bytes f r e ends =
     let t = finished_at d.place d f ends in
     let all : sofar d ≡ lines_of (file_of d) = ap (λ (p : Place). sofar (record d { place = p })) t.0 ∙ sym (whole_parts d) in
-    subst (λ (g : ResultFile). IsTextOf g bytes) t.1 (record { in_range = r.in_range; spelled = e ∙ append-nil (text_of_lines (sofar d)) ∙ ap text_of_lines all })
+    subst (λ (g : ResultFile). IsTextOf g bytes) t.1 (record { in_range = r.in_range; encoded = e ∙ append-nil (text_of_lines (sofar d)) ∙ ap text_of_lines all })
 
 -- ---- each text has one value
 
@@ -318,7 +318,7 @@ one_value f g r s e =
 
 pub record Progress (d : Draft) (bytes rest : List ℕ) (read : ℕ) : Type 0 where
   pub reached : Reached d
-  pub spelled : bytes ≡ text_of_lines (sofar d) ++ rest
+  pub encoded : bytes ≡ text_of_lines (sofar d) ++ rest
   pub count : length (sofar d) ≡ read
 
 line_long : (l : Line) → 0 < length (line_text l)
@@ -330,7 +330,7 @@ lines_long [] = omega arith
 lines_long (l ∷ ls) = omega (arith, line_long l, lines_long ls, length-append (line_text l) (text_of_lines ls))
 
 pub few_lines : (d : Draft) (bytes rest : List ℕ) (read : ℕ) → Progress d bytes rest read → read + length rest ≤ length bytes
-few_lines d bytes rest read p = omega (arith, lines_long (sofar d), p.count, ap length p.spelled, length-append (text_of_lines (sofar d)) rest)
+few_lines d bytes rest read p = omega (arith, lines_long (sofar d), p.count, ap length p.encoded, length-append (text_of_lines (sofar d)) rest)
 
 next_parts : (d e : Draft) (rest after : List ℕ) → next_at d rest ≡ Some (e, after) → (l : Line) × (line_at rest ≡ Some (l, after)) × (step d l ≡ Some e)
 unfolding next_at
@@ -347,7 +347,7 @@ next_shorter d e rest after n =
     omega (arith, ap length r.1, line_long t.0, length-append (line_text t.0) after)
 
 pub progress_starts : (bytes : List ℕ) → Progress start bytes bytes 0
-progress_starts bytes = record { reached = start_reached; spelled = refl; count = refl }
+progress_starts bytes = record { reached = start_reached; encoded = refl; count = refl }
 
 pub progress_goes_on : (d e : Draft) (bytes rest after : List ℕ) (read : ℕ) → Progress d bytes rest read → next_at d rest ≡ Some (e, after) → Progress e bytes after (read + 1)
 progress_goes_on d e bytes rest after read p n =
@@ -357,7 +357,7 @@ progress_goes_on d e bytes rest after read p n =
     let lines : text_of_lines (sofar e) ≡ text_of_lines (sofar d) ++ line_text t.0 = ap text_of_lines s.1 ∙ flat_map-append line_text (sofar d) (t.0 ∷ []) ∙ ap (λ (x : List ℕ). text_of_lines (sofar d) ++ x) (append-nil (line_text t.0)) in
     record {
       reached = s.0;
-      spelled = p.spelled ∙ ap (λ (x : List ℕ). text_of_lines (sofar d) ++ x) r.1 ∙ sym (append_assoc (text_of_lines (sofar d)) (line_text t.0) after) ∙ ap (λ (x : List ℕ). x ++ after) (sym lines);
+      encoded = p.encoded ∙ ap (λ (x : List ℕ). text_of_lines (sofar d) ++ x) r.1 ∙ sym (append_assoc (text_of_lines (sofar d)) (line_text t.0) after) ∙ ap (λ (x : List ℕ). x ++ after) (sym lines);
       count = ap length s.1 ∙ length-append (sofar d) (t.0 ∷ []) ∙ ap (λ (k : ℕ). k + 1) p.count;
     }
 
@@ -371,12 +371,12 @@ stops_where_none d rest n l after e = by_step (step d l) (sym (rw e refl) ∙ n)
 
 pub stopped : (d : Draft) (bytes rest : List ℕ) (read : ℕ) → Progress d bytes rest read → length rest ≢ 0 → next_at d rest ≡ None → IsBadLine (read + 1) bytes
 stopped d bytes rest read p some n =
-    subst (λ (k : ℕ). IsBadLine (k + 1) bytes) p.count (bad_line d bytes rest p.reached p.spelled (stops_where_none d rest n) (λ e. absurd (some (ap length e))))
+    subst (λ (k : ℕ). IsBadLine (k + 1) bytes) p.count (bad_line d bytes rest p.reached p.encoded (stops_where_none d rest n) (λ e. absurd (some (ap length e))))
 
 pub unfinished : (d : Draft) (bytes rest : List ℕ) (read : ℕ) → Progress d bytes rest read → rest ≡ [] → finished d ≡ None → IsBadLine (read + 1) bytes
 unfinished d bytes rest read p e n =
     let stops : Stops d rest = λ l after s. absurd (none_is_some (l, after) (sym nothing_at ∙ ap line_at (sym e) ∙ s)) in
-    subst (λ (k : ℕ). IsBadLine (k + 1) bytes) p.count (bad_line d bytes rest p.reached p.spelled stops (λ _. n))
+    subst (λ (k : ℕ). IsBadLine (k + 1) bytes) p.count (bad_line d bytes rest p.reached p.encoded stops (λ _. n))
 
 pub whole_text : (d : Draft) (bytes rest : List ℕ) (read : ℕ) (f : ResultFile) → Progress d bytes rest read → rest ≡ [] → finished d ≡ Some f → IsTextOf f bytes
-whole_text d bytes rest read f p e ends = is_text d bytes f p.reached (p.spelled ∙ ap (λ (x : List ℕ). text_of_lines (sofar d) ++ x) e) ends
+whole_text d bytes rest read f p e ends = is_text d bytes f p.reached (p.encoded ∙ ap (λ (x : List ℕ). text_of_lines (sofar d) ++ x) e) ends

@@ -99,7 +99,7 @@ finished d = elim d.place [
   | _ ↦ None
 ]
 
--- the draft with the line at the front of the bytes, and the bytes behind that
+-- the draft with the line at the prefix of the bytes, and the bytes behind that
 unfoldable pub next_at : Draft → List ℕ → Option (Draft × List ℕ)
 next_at d bytes = do
   x ← line_at bytes

@@ -49,7 +49,7 @@ is_digit b = nat_le 48 b && nat_le b 57
 abbrev pub with_digit : ℕ → ℕ → Option ℕ
 with_digit n digit = if nat_lt (n * 10 + digit) (2 ^ 64) then Some (n * 10 + digit) else None
 
--- the digit at the front
+-- the digit at the prefix
 unfoldable pub digit_at : List ℕ → Option (ℕ × List ℕ)
 digit_at [] = None
 digit_at (b ∷ bytes) = if is_digit b then Some (b - 48, bytes) else None
@@ -98,8 +98,8 @@ others_at member zero bytes = Some ([], bytes)
 others_at member (suc k) bytes = on_word (32 ∷ []) (λ rest. member rest >>= λ x. others_at member k x.1 >>= λ xs. Some (x.0 ∷ xs.0, xs.1)) (λ rest. Some ([], rest)) bytes
 
 -- what was read before, and what is read now
-abbrev pub with_front : {X : Type 0} → List X → Option (List X × List ℕ) → Option (List X × List ℕ)
-with_front front read = read >>= λ x. Some (front ++ x.0, x.1)
+abbrev pub with_prefix : {X : Type 0} → List X → Option (List X × List ℕ) → Option (List X × List ℕ)
+with_prefix prefix read = read >>= λ x. Some (prefix ++ x.0, x.1)
 
 -- a field ends at a bar, at a line feed, and with the bytes
 abbrev pub field_ends : List ℕ → Bool
@@ -110,7 +110,7 @@ field_ends (b ∷ bytes) = b == 124 || b == 10
 unfoldable pub list_at : {X : Type 0} → (List ℕ → Option (X × List ℕ)) → List ℕ → Option (List X × List ℕ)
 list_at member bytes = if field_ends bytes then Some ([], bytes) else (do
   x ← member bytes
-  with_front (x.0 ∷ []) (others_at member (length x.1) x.1))
+  with_prefix (x.0 ∷ []) (others_at member (length x.1) x.1))
 
 abbrev pub link_from : ℕ × ℕ → Link
 link_from p = record { path = p.0; at = p.1 }

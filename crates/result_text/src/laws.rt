@@ -1,4 +1,4 @@
-//! The laws: two that do nothing but carry their contracts, and the two round trips.
+//! The laws: two that do nothing but imply their contracts, and the two round trips.
 
 ghost use Rattle.std.specs.Prelude.{◌≡◌, IfOk};
 ghost use Rattle.result_text.specs.declared.file.ResultFile.{ResultFile};

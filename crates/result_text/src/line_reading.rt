@@ -1,4 +1,4 @@
-//! Lines, read from the front of the bytes, each with its line feed.
+//! Lines, read from the prefix of the bytes, each with its line feed.
 
 ghost use Rattle.std.specs.Prelude.{◌≡◌};
 ghost use Rattle.result_text.specs.Reading.{Gives, sets_at, cause_at, label_at, mark_at, walk_at, sets_line_at, ratio_at, aside_at, kept_at, lost_at, edge_at, why_at, probe_at, end_at, line_at};
@@ -207,7 +207,7 @@ fn end_of(bytes: &[u8]) -> Result<(Line, &[u8]), LineError>
     Ok((Line::End(totals), rest))
 }
 
-/// The line at the front, by its first word.
+/// The line at the prefix, by its first word.
 #[tactic(auto, unfolding(crate::specs::Reading::line_at))]
 pub fn line_of(alloc: Global, bytes: &[u8]) -> Result<(Line, &[u8]), LineError>
     ensures { Gives (λ x. (x.0, x.1.now)) result (line_at bytes.now) }

@@ -15,14 +15,14 @@ fn write_digits(n: u64, digits: &mut [u8; 20]) -> usize
     ensures digits { drop result digits.new ≡ decimal n }
 {
     let mut start = 20;
-    let mut front = n;
-    'digits: while front >= 10 {
+    let mut prefix = n;
+    'digits: while prefix >= 10 {
         start -= 1;
-        digits[start] = b'0' + (front % 10) as u8;
-        front /= 10;
+        digits[start] = b'0' + (prefix % 10) as u8;
+        prefix /= 10;
     }
     start -= 1;
-    digits[start] = b'0' + front as u8;
+    digits[start] = b'0' + prefix as u8;
     start
 }
 
@@ -48,7 +48,7 @@ fn put_other_numbers(out: &mut List<u8>, ns: &[u32]) -> Result<(), NoMemory>
 
 /// Puts the numbers at the end, joined by spaces.
 pub fn put_numbers(out: &mut List<u8>, ns: &[u32]) -> Result<(), NoMemory>
-    ensures spelled { OnOk result (out.new ≡ out.old ++ numbers ns.now) }
+    ensures encoded { OnOk result (out.new ≡ out.old ++ numbers ns.now) }
     ensures fits { OnOk result (AreU32 ns.now) }
 {
     match ns {
@@ -62,7 +62,7 @@ pub fn put_numbers(out: &mut List<u8>, ns: &[u32]) -> Result<(), NoMemory>
 
 // Puts a link at the end.
 fn put_link(out: &mut List<u8>, l: Link) -> Result<(), NoMemory>
-    ensures spelled { OnOk result (out.new ≡ out.old ++ link l) }
+    ensures encoded { OnOk result (out.new ≡ out.old ++ link l) }
     ensures fits { OnOk result (LinkFits l) }
 {
     put_number(out, u64::from(l.path))?;
@@ -72,7 +72,7 @@ fn put_link(out: &mut List<u8>, l: Link) -> Result<(), NoMemory>
 
 // Puts the links at the end, each behind a space.
 fn put_other_links(out: &mut List<u8>, ls: &[Link]) -> Result<(), NoMemory>
-    ensures spelled { OnOk result (out.new ≡ out.old ++ others link ls.now) }
+    ensures encoded { OnOk result (out.new ≡ out.old ++ others link ls.now) }
     ensures fits { OnOk result (AllByRecursion LinkFits ls.now) }
 {
     for l in ls {
@@ -84,7 +84,7 @@ fn put_other_links(out: &mut List<u8>, ls: &[Link]) -> Result<(), NoMemory>
 
 /// Puts the links at the end, joined by spaces.
 pub fn put_links(out: &mut List<u8>, ls: &[Link]) -> Result<(), NoMemory>
-    ensures spelled { OnOk result (out.new ≡ out.old ++ links ls.now) }
+    ensures encoded { OnOk result (out.new ≡ out.old ++ links ls.now) }
     ensures fits { OnOk result (AllByRecursion LinkFits ls.now) }
 {
     match ls {

@@ -10,7 +10,7 @@ use crate::file::ResultFile;
 use crate::line_reading::line_of;
 use std::alloc::Global;
 
-// Reads the line at the front into the draft, and answers what stands behind it.
+// Reads the line at the prefix into the draft, and answers what stands behind it.
 #[tactic(auto, unfolding(crate::specs::Order::next_at))]
 fn next_line<'a>(alloc: Global, draft: &mut Draft, bytes: &'a [u8]) -> Result<&'a [u8], LineError>
     ensures { MatchResult result

@@ -38,7 +38,7 @@ fn put_sets(out: &mut List<u8>, sets: Sets) -> Result<(), NoMemory>
 
 #[tactic(auto, unfolding(crate::specs::Text::line_text))]
 fn put_ratio(out: &mut List<u8>, ratio: u32) -> Result<(), NoMemory>
-    ensures spelled { OnOk result (out.new ≡ out.old ++ line_text (line.Ratio ratio)) }
+    ensures encoded { OnOk result (out.new ≡ out.old ++ line_text (line.Ratio ratio)) }
     ensures fits { OnOk result (LineFits (line.Ratio ratio)) }
 {
     out.extend_from_slice(b"ratio|")?;
@@ -62,7 +62,7 @@ fn put_cause(out: &mut List<u8>, cause: Cause) -> Result<(), NoMemory>
 
 #[tactic(auto, unfolding(crate::specs::Text::line_text))]
 fn put_aside(out: &mut List<u8>, cause: Cause, count: u64) -> Result<(), NoMemory>
-    ensures spelled { OnOk result (out.new ≡ out.old ++ line_text (line.Aside cause count)) }
+    ensures encoded { OnOk result (out.new ≡ out.old ++ line_text (line.Aside cause count)) }
     ensures fits { OnOk result (LineFits (line.Aside cause count)) }
 {
     out.extend_from_slice(b"aside|")?;
@@ -73,7 +73,7 @@ fn put_aside(out: &mut List<u8>, cause: Cause, count: u64) -> Result<(), NoMemor
 }
 
 fn put_asides(out: &mut List<u8>, asides: &Asides) -> Result<(), NoMemory>
-    ensures spelled { OnOk result (out.new ≡ out.old ++ text_of_lines (aside_lines asides.now)) }
+    ensures encoded { OnOk result (out.new ≡ out.old ++ text_of_lines (aside_lines asides.now)) }
     ensures fits { OnOk result (CountsFit asides.now) }
 {
     put_aside(out, Cause::NoPath, asides.get(Cause::NoPath))?;
@@ -87,7 +87,7 @@ fn put_asides(out: &mut List<u8>, asides: &Asides) -> Result<(), NoMemory>
 
 // A walk as two fields: its ASes, and its links.
 fn put_walk(out: &mut List<u8>, walk: &Walk) -> Result<(), NoMemory>
-    ensures spelled { OnOk result (out.new ≡ out.old ++ numbers walk.now.ases ++ 124 ∷ links walk.now.links) }
+    ensures encoded { OnOk result (out.new ≡ out.old ++ numbers walk.now.ases ++ 124 ∷ links walk.now.links) }
     ensures fits { OnOk result (WalkFits walk.now) }
 {
     put_numbers(out, walk.ases.as_slice())?;
@@ -97,7 +97,7 @@ fn put_walk(out: &mut List<u8>, walk: &Walk) -> Result<(), NoMemory>
 
 #[tactic(auto, unfolding(crate::specs::Text::line_text))]
 fn put_path(out: &mut List<u8>, path: &PathLine) -> Result<(), NoMemory>
-    ensures spelled { OnOk result (out.new ≡ out.old ++ line_text (line.Path path.now)) }
+    ensures encoded { OnOk result (out.new ≡ out.old ++ line_text (line.Path path.now)) }
     ensures fits { OnOk result (PathFits path.now) }
 {
     match &path.fate {
@@ -151,7 +151,7 @@ fn put_label_and_mark(out: &mut List<u8>, label: Label, mark: EdgeMark) -> Resul
 
 #[tactic(auto, unfolding(crate::specs::Text::line_text))]
 fn put_edge(out: &mut List<u8>, edge: &EdgeLine) -> Result<(), NoMemory>
-    ensures spelled { OnOk result (out.new ≡ out.old ++ line_text (line.Edge edge.now)) }
+    ensures encoded { OnOk result (out.new ≡ out.old ++ line_text (line.Edge edge.now)) }
     ensures fits { OnOk result (EdgeFits edge.now) }
 {
     out.extend_from_slice(b"edge|")?;
@@ -165,7 +165,7 @@ fn put_edge(out: &mut List<u8>, edge: &EdgeLine) -> Result<(), NoMemory>
 
 #[tactic(auto, unfolding(crate::specs::Text::line_text))]
 fn put_why(out: &mut List<u8>, walk: &Walk) -> Result<(), NoMemory>
-    ensures spelled { OnOk result (out.new ≡ out.old ++ line_text (line.Why walk.now)) }
+    ensures encoded { OnOk result (out.new ≡ out.old ++ line_text (line.Why walk.now)) }
     ensures fits { OnOk result (WalkFits walk.now) }
 {
     out.extend_from_slice(b"why|")?;
@@ -175,7 +175,7 @@ fn put_why(out: &mut List<u8>, walk: &Walk) -> Result<(), NoMemory>
 
 #[tactic(auto, unfolding(crate::specs::Text::line_text))]
 fn put_probe(out: &mut List<u8>, probe: &ProbeLine) -> Result<(), NoMemory>
-    ensures spelled { OnOk result (out.new ≡ out.old ++ line_text (line.Probe probe.now)) }
+    ensures encoded { OnOk result (out.new ≡ out.old ++ line_text (line.Probe probe.now)) }
     ensures fits { OnOk result (ProbeFits probe.now) }
 {
     out.extend_from_slice(b"open|")?;
@@ -195,7 +195,7 @@ fn put_count(out: &mut List<u8>, count: u64) -> Result<(), NoMemory>
 
 #[tactic(auto, unfolding(crate::specs::Text::line_text))]
 fn put_end(out: &mut List<u8>, totals: &Totals) -> Result<(), NoMemory>
-    ensures spelled { OnOk result (out.new ≡ out.old ++ line_text (line.End totals.now)) }
+    ensures encoded { OnOk result (out.new ≡ out.old ++ line_text (line.End totals.now)) }
     ensures fits { OnOk result (TotalsFit totals.now) }
 {
     out.extend_from_slice(b"end|")?;
@@ -216,7 +216,7 @@ fn put_version(out: &mut List<u8>) -> Result<(), NoMemory>
 
 // The ten first lines.
 fn put_head(out: &mut List<u8>, file: &ResultFile) -> Result<(), NoMemory>
-    ensures spelled { OnOk result (out.new ≡ out.old ++ text_of_lines (line.Version ∷ line.Sets file.now.sets ∷ line.Ratio file.now.ratio ∷ aside_lines file.now.asides)) }
+    ensures encoded { OnOk result (out.new ≡ out.old ++ text_of_lines (line.Version ∷ line.Sets file.now.sets ∷ line.Ratio file.now.ratio ∷ aside_lines file.now.asides)) }
     ensures fits { OnOk result (IsU32 file.now.ratio × CountsFit file.now.asides) }
 {
     put_version(out)?;
@@ -226,7 +226,7 @@ fn put_head(out: &mut List<u8>, file: &ResultFile) -> Result<(), NoMemory>
 }
 
 fn put_paths(out: &mut List<u8>, paths: &[PathLine]) -> Result<(), NoMemory>
-    ensures spelled { OnOk result (out.new ≡ out.old ++ text_of_lines (map (λ p. line.Path p) paths.now)) }
+    ensures encoded { OnOk result (out.new ≡ out.old ++ text_of_lines (map (λ p. line.Path p) paths.now)) }
     ensures fits { OnOk result (AllByRecursion PathFits paths.now) }
 {
     for path in paths {
@@ -236,7 +236,7 @@ fn put_paths(out: &mut List<u8>, paths: &[PathLine]) -> Result<(), NoMemory>
 }
 
 fn put_edges(out: &mut List<u8>, edges: &[EdgeLine]) -> Result<(), NoMemory>
-    ensures spelled { OnOk result (out.new ≡ out.old ++ text_of_lines (map (λ e. line.Edge e) edges.now)) }
+    ensures encoded { OnOk result (out.new ≡ out.old ++ text_of_lines (map (λ e. line.Edge e) edges.now)) }
     ensures fits { OnOk result (AllByRecursion EdgeFits edges.now) }
 {
     for edge in edges {
@@ -246,7 +246,7 @@ fn put_edges(out: &mut List<u8>, edges: &[EdgeLine]) -> Result<(), NoMemory>
 }
 
 fn put_whys(out: &mut List<u8>, whys: &[Walk]) -> Result<(), NoMemory>
-    ensures spelled { OnOk result (out.new ≡ out.old ++ text_of_lines (map (λ w. line.Why w) whys.now)) }
+    ensures encoded { OnOk result (out.new ≡ out.old ++ text_of_lines (map (λ w. line.Why w) whys.now)) }
     ensures fits { OnOk result (AllByRecursion WalkFits whys.now) }
 {
     for walk in whys {
@@ -256,7 +256,7 @@ fn put_whys(out: &mut List<u8>, whys: &[Walk]) -> Result<(), NoMemory>
 }
 
 fn put_probes(out: &mut List<u8>, probes: &[ProbeLine]) -> Result<(), NoMemory>
-    ensures spelled { OnOk result (out.new ≡ out.old ++ text_of_lines (map (λ p. line.Probe p) probes.now)) }
+    ensures encoded { OnOk result (out.new ≡ out.old ++ text_of_lines (map (λ p. line.Probe p) probes.now)) }
     ensures fits { OnOk result (AllByRecursion ProbeFits probes.now) }
 {
     for probe in probes {

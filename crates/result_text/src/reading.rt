@@ -1,9 +1,9 @@
-//! Words, numbers and lists, read from the front of the bytes. Each reader answers the value and the
+//! Words, numbers and lists, read from the prefix of the bytes. Each reader answers the value and the
 //! bytes behind it.
 
 ghost use Rattle.std.specs.Prelude.{◌≡◌, ◌∷◌, [], length, option_map};
 ghost use Rattle.std.specs.Option.{option_copied};
-ghost use Rattle.result_text.specs.Reading.{Gives, word_at, digit_at, digits_at, with_digit, u64_at, u32_at, before, others_at, with_front, list_at, link_at, is_digit, field_ends};
+ghost use Rattle.result_text.specs.Reading.{Gives, word_at, digit_at, digits_at, with_digit, u64_at, u32_at, before, others_at, with_prefix, list_at, link_at, is_digit, field_ends};
 
 use crate::error::LineError;
 use std::alloc::Global;
@@ -44,7 +44,7 @@ fn is_digit(byte: u8) -> bool
     b'0' <= byte && byte <= b'9'
 }
 
-// The digit at the front.
+// The digit at the prefix.
 #[tactic(auto, unfolding(crate::specs::Reading::digit_at))]
 fn digit_of(bytes: &[u8]) -> Option<(u8, &[u8])>
     ensures { option_map (λ x. (x.0, x.1.now)) result ≡ digit_at bytes.now }
@@ -56,10 +56,10 @@ fn digit_of(bytes: &[u8]) -> Option<(u8, &[u8])>
 }
 
 // The number with one more digit.
-fn with_digit(front: u64, digit: u8) -> Result<u64, LineError>
-    ensures { Gives (λ n. n) result (with_digit front digit) }
+fn with_digit(prefix: u64, digit: u8) -> Result<u64, LineError>
+    ensures { Gives (λ n. n) result (with_digit prefix digit) }
 {
-    let Some(tens) = front.checked_mul(10) else {
+    let Some(tens) = prefix.checked_mul(10) else {
         return Err(LineError::Bad);
     };
     match tens.checked_add(u64::from(digit)) {
@@ -68,11 +68,11 @@ fn with_digit(front: u64, digit: u8) -> Result<u64, LineError>
     }
 }
 
-// The digits that follow those of `front`.
-fn digits_of(front: u64, bytes: &[u8]) -> Result<(u64, &[u8]), LineError>
-    ensures { Gives (λ x. (x.0, x.1.now)) result (digits_at front bytes.now) }
+// The digits that follow those of `prefix`.
+fn digits_of(prefix: u64, bytes: &[u8]) -> Result<(u64, &[u8]), LineError>
+    ensures { Gives (λ x. (x.0, x.1.now)) result (digits_at prefix bytes.now) }
 {
-    let mut number = front;
+    let mut number = prefix;
     let mut rest = bytes;
     'digits: while let Some((digit, others)) = digit_of(rest) {
         number = with_digit(number, digit)?;
@@ -133,12 +133,12 @@ fn field_ends(bytes: &[u8]) -> bool
     }
 }
 
-// The numbers that follow those of `front`, each behind a space.
-fn other_numbers(front: List<u32>, bytes: &[u8]) -> Result<(List<u32>, &[u8]), LineError>
+// The numbers that follow those of `prefix`, each behind a space.
+fn other_numbers(prefix: List<u32>, bytes: &[u8]) -> Result<(List<u32>, &[u8]), LineError>
     ensures { Gives (λ x. (x.0, x.1.now)) result
-        (with_front front (others_at u32_at (length bytes.now) bytes.now)) }
+        (with_prefix prefix (others_at u32_at (length bytes.now) bytes.now)) }
 {
-    let mut numbers = front;
+    let mut numbers = prefix;
     let mut rest = bytes;
     'members: while let Some(others) = behind(b' ', rest) {
         let (number, after) = u32_of(others)?;
@@ -153,13 +153,13 @@ fn other_numbers(front: List<u32>, bytes: &[u8]) -> Result<(List<u32>, &[u8]), L
 fn numbers_of(alloc: Global, bytes: &[u8]) -> Result<(List<u32>, &[u8]), LineError>
     ensures { Gives (λ x. (x.0, x.1.now)) result (list_at u32_at bytes.now) }
 {
-    let mut front = List::new(alloc);
+    let mut prefix = List::new(alloc);
     if field_ends(bytes) {
-        return Ok((front, bytes));
+        return Ok((prefix, bytes));
     }
     let (first, rest) = u32_of(bytes)?;
-    front.push(first)?;
-    other_numbers(front, rest)
+    prefix.push(first)?;
+    other_numbers(prefix, rest)
 }
 
 /// A list of numbers, and behind it this byte.
@@ -185,12 +185,12 @@ fn link_of(bytes: &[u8]) -> Result<(Link, &[u8]), LineError>
     Ok((Link { path, at }, rest))
 }
 
-// The links that follow those of `front`, each behind a space.
-fn other_links(front: List<Link>, bytes: &[u8]) -> Result<(List<Link>, &[u8]), LineError>
+// The links that follow those of `prefix`, each behind a space.
+fn other_links(prefix: List<Link>, bytes: &[u8]) -> Result<(List<Link>, &[u8]), LineError>
     ensures { Gives (λ x. (x.0, x.1.now)) result
-        (with_front front (others_at link_at (length bytes.now) bytes.now)) }
+        (with_prefix prefix (others_at link_at (length bytes.now) bytes.now)) }
 {
-    let mut links = front;
+    let mut links = prefix;
     let mut rest = bytes;
     'members: while let Some(others) = behind(b' ', rest) {
         let (link, after) = link_of(others)?;
@@ -205,13 +205,13 @@ fn other_links(front: List<Link>, bytes: &[u8]) -> Result<(List<Link>, &[u8]), L
 fn links_of(alloc: Global, bytes: &[u8]) -> Result<(List<Link>, &[u8]), LineError>
     ensures { Gives (λ x. (x.0, x.1.now)) result (list_at link_at bytes.now) }
 {
-    let mut front = List::new(alloc);
+    let mut prefix = List::new(alloc);
     if field_ends(bytes) {
-        return Ok((front, bytes));
+        return Ok((prefix, bytes));
     }
     let (first, rest) = link_of(bytes)?;
-    front.push(first)?;
-    other_links(front, rest)
+    prefix.push(first)?;
+    other_links(prefix, rest)
 }
 
 /// A list of links, and behind it this byte.

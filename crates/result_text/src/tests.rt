@@ -191,7 +191,7 @@ static CASES: [Case; 36] = [
         body: "end|0|0|0|0|0\n",
         bad_line: Some(10),
     },
-    // two spaces, a space in front, a space at the end
+    // two spaces, a space in prefix, a space at the end
     Case {
         head: HEAD,
         body: "kept|1|10  20\nend|1|0|0|0|0\n",

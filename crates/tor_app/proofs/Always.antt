@@ -14,54 +14,54 @@ use Rattle.tor_app.specs.CheckAnswer.{LeadsTo, LeadsToMalformed, LeadsToLimit, L
 use Rattle.tor_app.proofs.Comings.{OneValue, status_for, one_status}
 
 -- why a status came
-pub record Cause (words : List (List ℕ)) (told : Option Files) (steady : Type 0) (s : Status) (read_before read_now written_before written_now : ℕ) : Type 0 where
-  pub done : s ≡ status.Done → LeadsTo words told (Judged Yes)
-  pub refused : s ≡ status.No → (line : ℕ) × (rule : ℕ) × LeadsTo words told (Judged (No line rule))
-  pub cut_off : s ≡ status.WriteFault → (verdict : Verdict) × LeadsTo words told (Judged verdict)
+pub record Cause (words : List (List ℕ)) (known : Option Files) (steady : Type 0) (s : Status) (read_before read_now written_before written_now : ℕ) : Type 0 where
+  pub done : s ≡ status.Done → LeadsTo words known (Judged Yes)
+  pub refused : s ≡ status.No → (line : ℕ) × (rule : ℕ) × LeadsTo words known (Judged (No line rule))
+  pub cut_off : s ≡ status.WriteFault → (verdict : Verdict) × LeadsTo words known (Judged verdict)
   pub usage : s ≡ status.Usage → IsNone (check_settings_given words)
-  pub malformed : s ≡ status.Malformed → LeadsToMalformed words told
-  pub limit : s ≡ status.Limit → LeadsToLimit words told
+  pub malformed : s ≡ status.Malformed → LeadsToMalformed words known
+  pub limit : s ≡ status.Limit → LeadsToLimit words known
   pub read_fault : s ≡ status.ReadFault → Rose read_before read_now
-  pub steady_read_fault : steady → s ≡ status.ReadFault → LeadsToAbsent words told
+  pub steady_read_fault : steady → s ≡ status.ReadFault → LeadsToAbsent words known
   pub write_fault : s ≡ status.WriteFault → Rose written_before written_now
 
 -- what the note of a status says of the words and the files
-note_malformed : (words : List (List ℕ)) (told : Option Files) (steady : Type 0) (s : Status) (text : List ℕ) → IsCheckNote words told steady s text → s ≡ status.Malformed → LeadsToMalformed words told
-note_malformed words told steady s text note is = by (subst (λ (t : Status). IsCheckNote words told steady t text) is note)
+note_malformed : (words : List (List ℕ)) (known : Option Files) (steady : Type 0) (s : Status) (text : List ℕ) → IsCheckNote words known steady s text → s ≡ status.Malformed → LeadsToMalformed words known
+note_malformed words known steady s text note is = by (subst (λ (t : Status). IsCheckNote words known steady t text) is note)
   where
-    by : IsCheckNote words told steady status.Malformed text → LeadsToMalformed words told
+    by : IsCheckNote words known steady status.Malformed text → LeadsToMalformed words known
     by is = (is.0, is.1, is.3)
 
-note_limit : (words : List (List ℕ)) (told : Option Files) (steady : Type 0) (s : Status) (text : List ℕ) → IsCheckNote words told steady s text → s ≡ status.Limit → LeadsToLimit words told
-note_limit words told steady s text note is = by (subst (λ (t : Status). IsCheckNote words told steady t text) is note)
+note_limit : (words : List (List ℕ)) (known : Option Files) (steady : Type 0) (s : Status) (text : List ℕ) → IsCheckNote words known steady s text → s ≡ status.Limit → LeadsToLimit words known
+note_limit words known steady s text note is = by (subst (λ (t : Status). IsCheckNote words known steady t text) is note)
   where
-    by : IsCheckNote words told steady status.Limit text → LeadsToLimit words told
+    by : IsCheckNote words known steady status.Limit text → LeadsToLimit words known
     by (inl long) = inl long.1
     by (inr why) = inr (why.0, why.1, why.3)
 
-note_absent : (words : List (List ℕ)) (told : Option Files) (steady : Type 0) (s : Status) (text : List ℕ) → IsCheckNote words told steady s text → steady → s ≡ status.ReadFault → LeadsToAbsent words told
-note_absent words told steady s text note held is = by (subst (λ (t : Status). IsCheckNote words told steady t text) is note)
+note_absent : (words : List (List ℕ)) (known : Option Files) (steady : Type 0) (s : Status) (text : List ℕ) → IsCheckNote words known steady s text → steady → s ≡ status.ReadFault → LeadsToAbsent words known
+note_absent words known steady s text note held is = by (subst (λ (t : Status). IsCheckNote words known steady t text) is note)
   where
-    or_dump : (dump : ℕ) → FailedAtResult words told steady dump ⊎ FailedAtDump words told steady dump → LeadsToAbsent words told
+    or_dump : (dump : ℕ) → FailedAtResult words known steady dump ⊎ FailedAtDump words known steady dump → LeadsToAbsent words known
     or_dump dump (inl why) = inl (why.absent held)
     or_dump dump (inr why) = inr (dump, why.absent held)
 
-    by : IsCheckNote words told steady status.ReadFault text → LeadsToAbsent words told
+    by : IsCheckNote words known steady status.ReadFault text → LeadsToAbsent words known
     by why = or_dump why.0 why.2
 
-pub cause_of : (words : List (List ℕ)) (told : Option Files) (steady : Type 0) (s : Status) (text : List ℕ) (old new : Option (List ℕ)) (rb rn wb wn : ℕ)
-    → (s ≡ status.Done → GainsVerdict words told Yes old new) → (s ≡ status.No → GainsNo words told old new) → (s ≡ status.WriteFault → GainsSome words told old new)
-    → (s ≡ status.Usage → IsNone (check_settings_given words)) → IsCheckNote words told steady s text → (s ≡ status.ReadFault → Rose rb rn) → (s ≡ status.WriteFault → Rose wb wn)
-    → Cause words told steady s rb rn wb wn
-cause_of words told steady s text old new rb rn wb wn done refused cut_off usage note read_fault write_fault = record {
+pub cause_of : (words : List (List ℕ)) (known : Option Files) (steady : Type 0) (s : Status) (text : List ℕ) (old new : Option (List ℕ)) (rb rn wb wn : ℕ)
+    → (s ≡ status.Done → GainsVerdict words known Yes old new) → (s ≡ status.No → GainsNo words known old new) → (s ≡ status.WriteFault → GainsSome words known old new)
+    → (s ≡ status.Usage → IsNone (check_settings_given words)) → IsCheckNote words known steady s text → (s ≡ status.ReadFault → Rose rb rn) → (s ≡ status.WriteFault → Rose wb wn)
+    → Cause words known steady s rb rn wb wn
+cause_of words known steady s text old new rb rn wb wn done refused cut_off usage note read_fault write_fault = record {
   done = λ is. (done is).0;
   refused = λ is. ((refused is).0, (refused is).1, (refused is).2.0);
   cut_off = λ is. ((cut_off is).0, (cut_off is).1);
   usage = usage;
-  malformed = note_malformed words told steady s text note;
-  limit = note_limit words told steady s text note;
+  malformed = note_malformed words known steady s text note;
+  limit = note_limit words known steady s text note;
   read_fault = read_fault;
-  steady_read_fault = note_absent words told steady s text note;
+  steady_read_fault = note_absent words known steady s text note;
   write_fault = write_fault;
 }
 
@@ -108,16 +108,16 @@ no_verdict_status : (s : Status) (verdict : Verdict) → s ≢ status.Done → s
 no_verdict_status s Yes not_done not_no is = not_done is
 no_verdict_status s (No line rule) not_done not_no is = not_no is
 
--- what comes where the files are told
-pub always_there : OneValue → (words : List (List ℕ)) (told : Option Files) (files : Files) (steady : Type 0) (s : Status) (rb rn wb wn : ℕ) (x : Outcome) → Cause words told steady s rb rn wb wn
-    → told ≡ Some files → Gives words files x → status_for x ≢ status.Done → status_for x ≢ status.No → IsQuiet rb rn ⊎ steady → (s ≡ status_for x) ⊎ (s ≡ status.NoMemory)
-always_there law words told files steady s rb rn wb wn x cause is gives not_done not_no well =
+-- what comes where the files are known
+pub always_there : OneValue → (words : List (List ℕ)) (known : Option Files) (files : Files) (steady : Type 0) (s : Status) (rb rn wb wn : ℕ) (x : Outcome) → Cause words known steady s rb rn wb wn
+    → known ≡ Some files → Gives words files x → status_for x ≢ status.Done → status_for x ≢ status.No → IsQuiet rb rn ⊎ steady → (s ≡ status_for x) ⊎ (s ≡ status.NoMemory)
+always_there law words known files steady s rb rn wb wn x cause is gives not_done not_no well =
     let known : Cause words (Some files) steady s rb rn wb wn = subst (λ (o : Option Files). Cause words o steady s rb rn wb wn) is cause in
     by_outcome law words files steady s rb rn wb wn x known gives (λ v h. no_verdict_status (status_for x) v not_done not_no h) (reads law words files steady s rb rn wb wn x known gives well)
 
-pub always_absent : OneValue → (words : List (List ℕ)) (told : Option Files) (files : Files) (steady : Type 0) (s : Status) (rb rn wb wn : ℕ) (x : Outcome) → Cause words told steady s rb rn wb wn
-    → told ≡ Some files → Gives words files x → status_for x ≡ status.ReadFault → (s ≡ status.ReadFault) ⊎ (s ≡ status.NoMemory)
-always_absent law words told files steady s rb rn wb wn x cause is gives absent =
+pub always_absent : OneValue → (words : List (List ℕ)) (known : Option Files) (files : Files) (steady : Type 0) (s : Status) (rb rn wb wn : ℕ) (x : Outcome) → Cause words known steady s rb rn wb wn
+    → known ≡ Some files → Gives words files x → status_for x ≡ status.ReadFault → (s ≡ status.ReadFault) ⊎ (s ≡ status.NoMemory)
+always_absent law words known files steady s rb rn wb wn x cause is gives absent =
     let known : Cause words (Some files) steady s rb rn wb wn = subst (λ (o : Option Files). Cause words o steady s rb rn wb wn) is cause in
     subst (λ (t : Status). (s ≡ t) ⊎ (s ≡ status.NoMemory)) absent
     (by_outcome law words files steady s rb rn wb wn x known gives

@@ -27,7 +27,7 @@ abbrev pub OneValue : Type 0
 OneValue = (file other : ResultFile) → IsInRange file → IsInRange other → text file ≡ text other → file ≡ other
 
 same_file : OneValue → (bytes : List ℕ) (f g : ResultFile) → IsTextOf f bytes → IsTextOf g bytes → f ≡ g
-same_file law bytes f g a b = law f g a.in_range b.in_range (sym a.spelled ∙ b.spelled)
+same_file law bytes f g a b = law f g a.in_range b.in_range (sym a.encoded ∙ b.encoded)
 
 some_is : {X : Type 0} (o : Option X) (x y : X) → o ≡ Some x → o ≡ Some y → x ≡ y
 some_is {X = X} o x y p q = by x y (sym p ∙ q)
@@ -203,6 +203,6 @@ vouched law words files gives = by gives.2.2
       agrees = agrees judged.0 gives.0.dumps files judged.2;
     }
 
-pub vouched_told : AcceptanceLaw → (words : List (List ℕ)) (told : Option Files) → LeadsTo words told (Judged Yes) → IfSome told (IsVouched words)
-vouched_told law words None leads = tt
-vouched_told law words (Some files) leads = vouched law words files leads
+pub vouched_known : AcceptanceLaw → (words : List (List ℕ)) (known : Option Files) → LeadsTo words known (Judged Yes) → IfSome known (IsVouched words)
+vouched_known law words None leads = tt
+vouched_known law words (Some files) leads = vouched law words files leads

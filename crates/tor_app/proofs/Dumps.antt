@@ -7,24 +7,24 @@ use Rattle.path_clean.specs.declared.cleaned.Sets.{Sets}
 use Rattle.tor_io.specs.Contents.{Files, LacksFile}
 use Rattle.dump_read.specs.declared.error.DumpError.{DumpError}
 use Rattle.dump_read.specs.Taking.{Taken}
-use Rattle.dump_read.specs.Seen.{End, Absent, of_file, end_told}
+use Rattle.dump_read.specs.Seen.{End, Absent, of_file, end_known}
 use Rattle.tor_app.specs.Seen.{seen_from}
 
 -- the first dumps, and then the others
-seen_from-append : (sets : Sets) (d : ℕ) (old mid : Taken) (front rest : List (List ℕ)) (files : Files) → seen_from sets d old front files ≡ Ok mid
-    → seen_from sets d old (front ++ rest) files ≡ seen_from sets (d + length front) mid rest files
+seen_from-append : (sets : Sets) (d : ℕ) (old mid : Taken) (prefix rest : List (List ℕ)) (files : Files) → seen_from sets d old prefix files ≡ Ok mid
+    → seen_from sets d old (prefix ++ rest) files ≡ seen_from sets (d + length prefix) mid rest files
 seen_from-append sets d old mid [] rest files is =
     ap₂ (λ n t. seen_from sets n t rest files) (omega arith) (same old mid is)
   where
     same : (x y : Taken) → ◌≡◌ {A = Result Taken End} (Ok x) (Ok y) → x ≡ y
     same x y e = cc
-seen_from-append sets d old mid (name ∷ front) rest files is =
-    by (of_file sets d old (files name)) is (λ further h. seen_from-append sets (d + 1) further mid front rest files h)
+seen_from-append sets d old mid (name ∷ prefix) rest files is =
+    by (of_file sets d old (files name)) is (λ further h. seen_from-append sets (d + 1) further mid prefix rest files h)
     ∙ ap (λ n. seen_from sets n mid rest files) (omega arith)
   where
-    by : (one : Result Taken End) → (one >>= λ further. seen_from sets (d + 1) further front files) ≡ Ok mid
-        → ((further : Taken) → seen_from sets (d + 1) further front files ≡ Ok mid → seen_from sets (d + 1) further (front ++ rest) files ≡ seen_from sets (d + 1 + length front) mid rest files)
-        → (one >>= λ further. seen_from sets (d + 1) further (front ++ rest) files) ≡ seen_from sets (d + 1 + length front) mid rest files
+    by : (one : Result Taken End) → (one >>= λ further. seen_from sets (d + 1) further prefix files) ≡ Ok mid
+        → ((further : Taken) → seen_from sets (d + 1) further prefix files ≡ Ok mid → seen_from sets (d + 1) further (prefix ++ rest) files ≡ seen_from sets (d + 1 + length prefix) mid rest files)
+        → (one >>= λ further. seen_from sets (d + 1) further (prefix ++ rest) files) ≡ seen_from sets (d + 1 + length prefix) mid rest files
     by (Ok further) h ih = ih further h
     by (Err end) h ih = absurd cc
 
@@ -43,9 +43,9 @@ one_dump sets d mid new name files is = rw is refl
 no_further : (sets : Sets) (d : ℕ) (mid : Taken) (name : List ℕ) (rest : List (List ℕ)) (files : Files) (end : End) → of_file sets d mid (files name) ≡ Err end → seen_from sets d mid (name ∷ rest) files ≡ Err end
 no_further sets d mid name rest files end is = rw is refl
 
-pub one_more : (sets : Sets) (old mid new : Taken) (told : Option Files) (names : List (List ℕ)) (i : ℕ) (name : List ℕ) → i < length names → name ≡ get_or names i name
-    → IfSome told (λ files. seen_from sets 1 old (take i names) files ≡ Ok mid) → IfSome told (λ files. of_file sets (i + 1) mid (files name) ≡ Ok new)
-    → IfSome told (λ files. seen_from sets 1 old (take (i + 1) names) files ≡ Ok new)
+pub one_more : (sets : Sets) (old mid new : Taken) (known : Option Files) (names : List (List ℕ)) (i : ℕ) (name : List ℕ) → i < length names → name ≡ get_or names i name
+    → IfSome known (λ files. seen_from sets 1 old (take i names) files ≡ Ok mid) → IfSome known (λ files. of_file sets (i + 1) mid (files name) ≡ Ok new)
+    → IfSome known (λ files. seen_from sets 1 old (take (i + 1) names) files ≡ Ok new)
 one_more sets old mid new None names i name lt is before one = tt
 one_more sets old mid new (Some files) names i name lt is before one =
     ap (λ (t : List (List ℕ)). seen_from sets 1 old t files) (take_more names i name lt ∙ ap (λ (x : List ℕ). take i names ++ x ∷ []) (sym is))
@@ -62,11 +62,11 @@ stops_at sets old mid names i name files end lt is before one =
     ∙ ap (λ n. seen_from sets n mid (name ∷ drop (suc i) names) files) (omega (arith, length_of names i lt))
     ∙ no_further sets (i + 1) mid name (drop (suc i) names) files end one
 
-pub stops : (sets : Sets) (old mid : Taken) (told : Option Files) (names : List (List ℕ)) (i : ℕ) (name : List ℕ) (e : DumpError) → i < length names → name ≡ get_or names i name
-    → IfSome told (λ files. seen_from sets 1 old (take i names) files ≡ Ok mid)
-    → IfSome (end_told (i + 1) e) (λ end. IfSome told (λ files. of_file sets (i + 1) mid (files name) ≡ Err end))
-    → IfSome (end_told (i + 1) e) (λ end. IfSome told (λ files. seen_from sets 1 old names files ≡ Err end))
-stops sets old mid told names i name e lt is before one = by told (end_told (i + 1) e) before one
+pub stops : (sets : Sets) (old mid : Taken) (known : Option Files) (names : List (List ℕ)) (i : ℕ) (name : List ℕ) (e : DumpError) → i < length names → name ≡ get_or names i name
+    → IfSome known (λ files. seen_from sets 1 old (take i names) files ≡ Ok mid)
+    → IfSome (end_known (i + 1) e) (λ end. IfSome known (λ files. of_file sets (i + 1) mid (files name) ≡ Err end))
+    → IfSome (end_known (i + 1) e) (λ end. IfSome known (λ files. seen_from sets 1 old names files ≡ Err end))
+stops sets old mid known names i name e lt is before one = by known (end_known (i + 1) e) before one
   where
     by : (t : Option Files) (o : Option End) → IfSome t (λ files. seen_from sets 1 old (take i names) files ≡ Ok mid)
         → IfSome o (λ end. IfSome t (λ files. of_file sets (i + 1) mid (files name) ≡ Err end)) → IfSome o (λ end. IfSome t (λ files. seen_from sets 1 old names files ≡ Err end))
@@ -75,17 +75,17 @@ stops sets old mid told names i name e lt is before one = by told (end_told (i +
     by (Some files) (Some end) b h = stops_at sets old mid names i name files end lt is b h
 
 -- the dumps before it were read
-pub read_before : (sets : Sets) (old mid : Taken) (told : Option Files) (names : List (List ℕ)) (i : ℕ) → IfSome told (λ files. seen_from sets 1 old (take i names) files ≡ Ok mid)
-    → IfSome told (λ files. IsOk (seen_from sets 1 old (take ((i + 1) - 1) names) files))
+pub read_before : (sets : Sets) (old mid : Taken) (known : Option Files) (names : List (List ℕ)) (i : ℕ) → IfSome known (λ files. seen_from sets 1 old (take i names) files ≡ Ok mid)
+    → IfSome known (λ files. IsOk (seen_from sets 1 old (take ((i + 1) - 1) names) files))
 read_before sets old mid None names i before = tt
 read_before sets old mid (Some files) names i before =
     let same : (i + 1) - 1 ≡ i = omega arith in
     subst (λ n. IsOk (seen_from sets 1 old (take n names) files)) (sym same) (subst (λ r. IsOk r) (sym before) refl)
 
 -- a dump that isn't there
-pub absent : (sets : Sets) (old mid : Taken) (told : Option Files) (names : List (List ℕ)) (i : ℕ) (name : List ℕ) → i < length names → name ≡ get_or names i name
-    → IfSome told (λ files. seen_from sets 1 old (take i names) files ≡ Ok mid) → LacksFile told name
-    → IfSome told (λ files. seen_from sets 1 old names files ≡ Err (Absent (i + 1)))
+pub absent : (sets : Sets) (old mid : Taken) (known : Option Files) (names : List (List ℕ)) (i : ℕ) (name : List ℕ) → i < length names → name ≡ get_or names i name
+    → IfSome known (λ files. seen_from sets 1 old (take i names) files ≡ Ok mid) → LacksFile known name
+    → IfSome known (λ files. seen_from sets 1 old names files ≡ Err (Absent (i + 1)))
 absent sets old mid None names i name lt is before lacks = tt
 absent sets old mid (Some files) names i name lt is before lacks =
     stops_at sets old mid names i name files (Absent (i + 1)) lt is before (ap (of_file sets (i + 1) mid) lacks)

@@ -37,4 +37,4 @@ body_has file =
 pub few_lines : (file : ResultFile) (bytes : List ℕ) → IsTextOf file bytes → length bytes ≤ 2 ^ 31
     → length file.paths + length file.edges + length file.whys + length file.probes ≤ 2 ^ 40
 few_lines file bytes is short =
-    omega (arith, body_has file, length-append (head_lines file) (body_lines file), lines_have_some (lines_of file), ap length is.spelled, short)
+    omega (arith, body_has file, length-append (head_lines file) (body_lines file), lines_have_some (lines_of file), ap length is.encoded, short)

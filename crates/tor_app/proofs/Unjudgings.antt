@@ -23,66 +23,66 @@ use Rattle.tor_app.specs.Judging.{Outcome, Judged, NoResult, TooLong, Ends, IsAc
 use Rattle.tor_app.specs.CheckAnswer.{LeadsTo, HoldsBefore, IsCheckNote}
 use Rattle.tor_app.specs.Unjudging.{EndsWith, StopsAt, IsUnjudged, AnswersUnjudged}
 
--- ---- what the words and the files give, where these are told
+-- ---- what the words and the files give, where these are known
 
-leads : (words : List (List ℕ)) (told : Option Files) (settings : CheckSettings) (x : Outcome) → check_settings_given words ≡ Some settings
-    → IfSome told (λ files. ComesTo settings files x) → LeadsTo words told x
+leads : (words : List (List ℕ)) (known : Option Files) (settings : CheckSettings) (x : Outcome) → check_settings_given words ≡ Some settings
+    → IfSome known (λ files. ComesTo settings files x) → LeadsTo words known x
 leads words None settings x given comes = tt
 leads words (Some files) settings x given comes = (settings, given, comes)
 
-result_is : (told : Option Files) (settings : CheckSettings) (bytes name : List ℕ) → name ≡ settings.result → IfSome told (λ files. files name ≡ Some bytes) → length bytes ≤ 2 ^ 31
-    → IfSome told (λ files. IsResult settings files bytes)
+result_is : (known : Option Files) (settings : CheckSettings) (bytes name : List ℕ) → name ≡ settings.result → IfSome known (λ files. files name ≡ Some bytes) → length bytes ≤ 2 ^ 31
+    → IfSome known (λ files. IsResult settings files bytes)
 result_is None settings bytes name same read short = tt
 result_is (Some files) settings bytes name same read short = record { there = ap files (sym same) ∙ read; short = short }
 
-verdict_comes : (told : Option Files) (settings : CheckSettings) (bytes : List ℕ) (verdict : Verdict) → IfSome told (λ files. IsResult settings files bytes)
-    → IfSome told (λ files. IsVerdict bytes settings.dumps files verdict) → IfSome told (λ files. ComesTo settings files (Judged verdict))
+verdict_comes : (known : Option Files) (settings : CheckSettings) (bytes : List ℕ) (verdict : Verdict) → IfSome known (λ files. IsResult settings files bytes)
+    → IfSome known (λ files. IsVerdict bytes settings.dumps files verdict) → IfSome known (λ files. ComesTo settings files (Judged verdict))
 verdict_comes None settings bytes verdict is judged = tt
 verdict_comes (Some files) settings bytes verdict is judged = (bytes, is, judged)
 
 -- the file of this name was read, and its bytes were judged
-pub file_judged : (told after : Option Files) (settings : CheckSettings) (bytes name part : List ℕ) (dumps : List (List ℕ)) (verdict : Verdict)
-    → name ≡ settings.result → after ≡ told → part ≡ bytes → dumps ≡ settings.dumps → IfSome told (λ files. files name ≡ Some bytes) → length bytes ≤ 2 ^ 31
-    → IfSome after (λ files. IsVerdict part dumps files verdict) → IfSome told (λ files. ComesTo settings files (Judged verdict))
-file_judged told after settings bytes name part dumps verdict same_name same_files same_bytes same_dumps read short judged =
-    verdict_comes told settings bytes verdict (result_is told settings bytes name same_name read short)
+pub file_judged : (known after : Option Files) (settings : CheckSettings) (bytes name part : List ℕ) (dumps : List (List ℕ)) (verdict : Verdict)
+    → name ≡ settings.result → after ≡ known → part ≡ bytes → dumps ≡ settings.dumps → IfSome known (λ files. files name ≡ Some bytes) → length bytes ≤ 2 ^ 31
+    → IfSome after (λ files. IsVerdict part dumps files verdict) → IfSome known (λ files. ComesTo settings files (Judged verdict))
+file_judged known after settings bytes name part dumps verdict same_name same_files same_bytes same_dumps read short judged =
+    verdict_comes known settings bytes verdict (result_is known settings bytes name same_name read short)
     (subst (λ (o : Option Files). IfSome o (λ files. IsVerdict bytes settings.dumps files verdict)) same_files
     (subst (λ (b : List ℕ). IfSome after (λ files. IsVerdict b settings.dumps files verdict)) same_bytes
     (subst (λ (ds : List (List ℕ)). IfSome after (λ files. IsVerdict part ds files verdict)) same_dumps judged)))
 
-end_comes : (told : Option Files) (settings : CheckSettings) (bytes : List ℕ) (end : End) → IfSome told (λ files. IsResult settings files bytes)
-    → EndsWith bytes settings.dumps told end → IfSome told (λ files. ComesTo settings files (Ends end))
+end_comes : (known : Option Files) (settings : CheckSettings) (bytes : List ℕ) (end : End) → IfSome known (λ files. IsResult settings files bytes)
+    → EndsWith bytes settings.dumps known end → IfSome known (λ files. ComesTo settings files (Ends end))
 end_comes None settings bytes end is ends = tt
 end_comes (Some files) settings bytes end is ends = (bytes, ends.0, is, ends.1, ends.2)
 
-holds_before : (told : Option Files) (settings : CheckSettings) (bytes : List ℕ) (dump : ℕ) → IfSome told (λ files. IsResult settings files bytes)
-    → IfSome told (λ files. (file : ResultFile) × IsAccepted file bytes × IsOk (seen_for file (take (dump - 1) settings.dumps) files)) → IfSome told (λ files. HoldsBefore settings files dump)
+holds_before : (known : Option Files) (settings : CheckSettings) (bytes : List ℕ) (dump : ℕ) → IfSome known (λ files. IsResult settings files bytes)
+    → IfSome known (λ files. (file : ResultFile) × IsAccepted file bytes × IsOk (seen_for file (take (dump - 1) settings.dumps) files)) → IfSome known (λ files. HoldsBefore settings files dump)
 holds_before None settings bytes dump is holds = tt
 holds_before (Some files) settings bytes dump is holds = (bytes, holds.0, is, holds.1, holds.2)
 
 -- ---- notes
 
-no_memory : (words : List (List ℕ)) (told : Option Files) (steady : Type 0) (answer : Answer) → IsNoMemory answer → IsCheckNote words told steady answer.status (note_in answer)
-no_memory words told steady answer is =
-    subst (λ (s : Status). IsCheckNote words told steady s (note_text s answer.note)) (sym is.0) (ap (note_text status.NoMemory) is.1)
+no_memory : (words : List (List ℕ)) (known : Option Files) (steady : Type 0) (answer : Answer) → IsNoMemory answer → IsCheckNote words known steady answer.status (note_in answer)
+no_memory words known steady answer is =
+    subst (λ (s : Status). IsCheckNote words known steady s (note_text s answer.note)) (sym is.0) (ap (note_text status.NoMemory) is.1)
 
-says_note : (words : List (List ℕ)) (told : Option Files) (steady : Type 0) (s : Status) (text : List ℕ) (answer : Answer) → IsCheckNote words told steady s text → Says s text answer
-    → IsCheckNote words told steady answer.status (note_in answer)
-says_note words told steady s text answer note (inl said) =
-    subst (λ (t : Status). IsCheckNote words told steady t (note_in answer)) (sym said.0) (subst (λ (n : List ℕ). IsCheckNote words told steady s n) (sym said.1) note)
-says_note words told steady s text answer note (inr memory) = no_memory words told steady answer memory
+says_note : (words : List (List ℕ)) (known : Option Files) (steady : Type 0) (s : Status) (text : List ℕ) (answer : Answer) → IsCheckNote words known steady s text → Says s text answer
+    → IsCheckNote words known steady answer.status (note_in answer)
+says_note words known steady s text answer note (inl said) =
+    subst (λ (t : Status). IsCheckNote words known steady t (note_in answer)) (sym said.0) (subst (λ (n : List ℕ). IsCheckNote words known steady s n) (sym said.1) note)
+says_note words known steady s text answer note (inr memory) = no_memory words known steady answer memory
 
-stop_note : (words : List (List ℕ)) (told : Option Files) (steady : Type 0) (settings : CheckSettings) (bytes : List ℕ) (dump : ℕ) (e : DumpError) (answer : Answer)
-    → check_settings_given words ≡ Some settings → IfSome told (λ files. IsResult settings files bytes) → StopsAt bytes settings.dumps told steady dump e
-    → AnswersStop dump e answer → IsCheckNote words told steady answer.status (note_in answer)
-stop_note words told steady settings bytes dump (error.Malformed place fault) answer given is stops says =
-    says_note words told steady status.Malformed (malformed_note place fault) answer
-    (place, fault, refl, leads words told settings (Ends (Malformed place fault)) given (end_comes told settings bytes (Malformed place fault) is stops)) says
-stop_note words told steady settings bytes dump (error.Limit kind) answer given is stops says =
-    says_note words told steady status.Limit (limit_note kind dump) answer
-    (inr (kind, dump, refl, leads words told settings (Ends (Limit kind dump)) given (end_comes told settings bytes (Limit kind dump) is stops))) says
-stop_note words told steady settings bytes dump error.ReadFault answer given is stops says =
-    says_note words told steady status.ReadFault (read_fault_note dump) answer (
+stop_note : (words : List (List ℕ)) (known : Option Files) (steady : Type 0) (settings : CheckSettings) (bytes : List ℕ) (dump : ℕ) (e : DumpError) (answer : Answer)
+    → check_settings_given words ≡ Some settings → IfSome known (λ files. IsResult settings files bytes) → StopsAt bytes settings.dumps known steady dump e
+    → AnswersStop dump e answer → IsCheckNote words known steady answer.status (note_in answer)
+stop_note words known steady settings bytes dump (error.Malformed place fault) answer given is stops says =
+    says_note words known steady status.Malformed (malformed_note place fault) answer
+    (place, fault, refl, leads words known settings (Ends (Malformed place fault)) given (end_comes known settings bytes (Malformed place fault) is stops)) says
+stop_note words known steady settings bytes dump (error.Limit kind) answer given is stops says =
+    says_note words known steady status.Limit (limit_note kind dump) answer
+    (inr (kind, dump, refl, leads words known settings (Ends (Limit kind dump)) given (end_comes known settings bytes (Limit kind dump) is stops))) says
+stop_note words known steady settings bytes dump error.ReadFault answer given is stops says =
+    says_note words known steady status.ReadFault (read_fault_note dump) answer (
       dump,
       refl,
       inr (record {
@@ -90,23 +90,23 @@ stop_note words told steady settings bytes dump error.ReadFault answer given is 
         given = given;
         from_one = stops.0;
         named = stops.1;
-        before = holds_before told settings bytes dump is stops.2;
-        absent = λ held. leads words told settings (Ends (Absent dump)) given (end_comes told settings bytes (Absent dump) is (stops.3 held));
+        before = holds_before known settings bytes dump is stops.2;
+        absent = λ held. leads words known settings (Ends (Absent dump)) given (end_comes known settings bytes (Absent dump) is (stops.3 held));
       }),
     ) says
-stop_note words told steady settings bytes dump error.NoMemory answer given is stops says = no_memory words told steady answer says
+stop_note words known steady settings bytes dump error.NoMemory answer given is stops says = no_memory words known steady answer says
 
-pub unjudged_note : (words : List (List ℕ)) (told : Option Files) (steady : Type 0) (u : Unjudged) (answer : Answer) → IsUnjudged words told steady u → AnswersUnjudged u answer
-    → IsCheckNote words told steady answer.status (note_in answer)
-unjudged_note words told steady (unjudged.Result unread.Failed) answer why says =
-    says_note words told steady status.ReadFault (read_fault_note 0) answer
-    (0, refl, inl (record { number = refl; settings = why.0; given = why.1; absent = λ held. leads words told why.0 NoResult why.1 (why.2 held) })) says
-unjudged_note words told steady (unjudged.Result unread.TooLong) answer why says =
-    says_note words told steady status.Limit result_note answer (inl (refl, leads words told why.0 TooLong why.1 why.2)) says
-unjudged_note words told steady (unjudged.Result unread.NoMemory) answer why says = no_memory words told steady answer says
-unjudged_note words told steady (unjudged.Refused (refusal.Words (refused.Usage text))) answer why says =
-    says_note words told steady status.Usage text answer why.1 (inl says)
-unjudged_note words told steady (unjudged.Refused (refusal.Words refused.NoMemory)) answer why says = no_memory words told steady answer says
-unjudged_note words told steady (unjudged.Refused (refusal.Dumps stopped)) answer why says =
-    stop_note words told steady why.0 why.2.0 stopped.dump stopped.error answer why.1 why.2.1 why.2.2 says
-unjudged_note words told steady (unjudged.Refused refusal.NoMemory) answer why says = no_memory words told steady answer says
+pub unjudged_note : (words : List (List ℕ)) (known : Option Files) (steady : Type 0) (u : Unjudged) (answer : Answer) → IsUnjudged words known steady u → AnswersUnjudged u answer
+    → IsCheckNote words known steady answer.status (note_in answer)
+unjudged_note words known steady (unjudged.Result unread.Failed) answer why says =
+    says_note words known steady status.ReadFault (read_fault_note 0) answer
+    (0, refl, inl (record { number = refl; settings = why.0; given = why.1; absent = λ held. leads words known why.0 NoResult why.1 (why.2 held) })) says
+unjudged_note words known steady (unjudged.Result unread.TooLong) answer why says =
+    says_note words known steady status.Limit result_note answer (inl (refl, leads words known why.0 TooLong why.1 why.2)) says
+unjudged_note words known steady (unjudged.Result unread.NoMemory) answer why says = no_memory words known steady answer says
+unjudged_note words known steady (unjudged.Refused (refusal.Words (refused.Usage text))) answer why says =
+    says_note words known steady status.Usage text answer why.1 (inl says)
+unjudged_note words known steady (unjudged.Refused (refusal.Words refused.NoMemory)) answer why says = no_memory words known steady answer says
+unjudged_note words known steady (unjudged.Refused (refusal.Dumps stopped)) answer why says =
+    stop_note words known steady why.0 why.2.0 stopped.dump stopped.error answer why.1 why.2.1 why.2.2 says
+unjudged_note words known steady (unjudged.Refused refusal.NoMemory) answer why says = no_memory words known steady answer says

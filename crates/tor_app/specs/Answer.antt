@@ -25,56 +25,56 @@ Lists given text = (taken : Taken) × (given ≡ Some (Ok taken)) × (text ≡ l
 abbrev pub GainsListing : Option (Result Taken End) → Option (List ℕ) → Option (List ℕ) → Type 0
 GainsListing given old new = (text : List ℕ) × Lists given text × (new ≡ append_known old text)
 
--- a sink gained a front of that text
-abbrev pub GainsFront : Option (Result Taken End) → Option (List ℕ) → Option (List ℕ) → Type 0
-GainsFront given old new = (text : List ℕ) × Lists given text × GainsPrefix old new text
+-- a sink gained a prefix of that text
+abbrev pub GainsPrefix : Option (Result Taken End) → Option (List ℕ) → Option (List ℕ) → Type 0
+GainsPrefix given old new = (text : List ℕ) × Lists given text × GainsPrefix old new text
 
--- what the words and the files give, where these are told, is this end
+-- what the words and the files give, where these are known, is this end
 abbrev pub IsEnd : List (List ℕ) → Option Files → End → Type 0
-IsEnd words told end = IfSome told (λ files. outcome words files ≡ Some (Err end))
+IsEnd words known end = IfSome known (λ files. outcome words files ≡ Some (Err end))
 
 -- the dumps before this one have no end
 abbrev pub ReadBefore : Settings → Option Files → ℕ → Type 0
-ReadBefore settings told dump =
-    IfSome told (λ files. IsOk (seen_from settings.sets 1 (nothing settings.max_paths) (take (dump - 1) settings.dumps) files))
+ReadBefore settings known dump =
+    IfSome known (λ files. IsOk (seen_from settings.sets 1 (nothing settings.max_paths) (take (dump - 1) settings.dumps) files))
 
 -- a read of one of the dumps failed, and those before it have no end; over a steady shelf it isn't there
-pub record FailedAt (words : List (List ℕ)) (told : Option Files) (steady : Type 0) (dump : ℕ) : Type 0 where
+pub record FailedAt (words : List (List ℕ)) (known : Option Files) (steady : Type 0) (dump : ℕ) : Type 0 where
   pub settings : Settings
   pub given : settings_given words ≡ Some settings
   pub from_one : 1 ≤ dump
   pub named : dump ≤ length settings.dumps
-  pub before : ReadBefore settings told dump
-  pub absent : steady → IsEnd words told (Absent dump)
+  pub before : ReadBefore settings known dump
+  pub absent : steady → IsEnd words known (Absent dump)
 
 -- the note of a status, with the place or the quantity of the end that the words and the files give
 abbrev pub IsNote : List (List ℕ) → Option Files → Type 0 → Status → List ℕ → Type 0
-IsNote words told steady status.Usage text = HasUsageLine text
-IsNote words told steady status.Malformed text =
-    (place : Place) × (fault : Fault) × (text ≡ malformed_note place fault) × IsEnd words told (Malformed place fault)
-IsNote words told steady status.Limit text =
-    (kind : LimitKind) × (dump : ℕ) × (text ≡ limit_note kind dump) × IsEnd words told (Limit kind dump)
-IsNote words told steady status.ReadFault text = (dump : ℕ) × (text ≡ read_fault_note dump) × FailedAt words told steady dump
-IsNote words told steady status.Done text = text ≡ plain_note status.Done
-IsNote words told steady status.No text = text ≡ plain_note status.No
-IsNote words told steady status.WriteFault text = text ≡ plain_note status.WriteFault
-IsNote words told steady status.NoMemory text = text ≡ plain_note status.NoMemory
+IsNote words known steady status.Usage text = HasUsageLine text
+IsNote words known steady status.Malformed text =
+    (place : Place) × (fault : Fault) × (text ≡ malformed_note place fault) × IsEnd words known (Malformed place fault)
+IsNote words known steady status.Limit text =
+    (kind : LimitKind) × (dump : ℕ) × (text ≡ limit_note kind dump) × IsEnd words known (Limit kind dump)
+IsNote words known steady status.ReadFault text = (dump : ℕ) × (text ≡ read_fault_note dump) × FailedAt words known steady dump
+IsNote words known steady status.Done text = text ≡ plain_note status.Done
+IsNote words known steady status.No text = text ≡ plain_note status.No
+IsNote words known steady status.WriteFault text = text ≡ plain_note status.WriteFault
+IsNote words known steady status.NoMemory text = text ≡ plain_note status.NoMemory
 
--- what the words and the files give, where these are told, is a fault of a record
+-- what the words and the files give, where these are known, is a fault of a record
 abbrev pub IsMalformed : List (List ℕ) → Option Files → Type 0
-IsMalformed words told = IfSome told (λ files. (place : Place) × (fault : Fault) × (outcome words files ≡ Some (Err (Malformed place fault))))
+IsMalformed words known = IfSome known (λ files. (place : Place) × (fault : Fault) × (outcome words files ≡ Some (Err (Malformed place fault))))
 
 -- it is a limit
 abbrev pub IsLimited : List (List ℕ) → Option Files → Type 0
-IsLimited words told = IfSome told (λ files. (kind : LimitKind) × (dump : ℕ) × (outcome words files ≡ Some (Err (Limit kind dump))))
+IsLimited words known = IfSome known (λ files. (kind : LimitKind) × (dump : ℕ) × (outcome words files ≡ Some (Err (Limit kind dump))))
 
 -- it is a dump that isn't there
 abbrev pub IsAbsent : List (List ℕ) → Option Files → Type 0
-IsAbsent words told = IfSome told (λ files. (dump : ℕ) × (outcome words files ≡ Some (Err (Absent dump))))
+IsAbsent words known = IfSome known (λ files. (dump : ℕ) × (outcome words files ≡ Some (Err (Absent dump))))
 
--- a sink gained a note such as this whole, if its count of faults didn't rise, and else a front of it
+-- a sink gained a note such as this whole, if its count of faults didn't rise, and else a prefix of it
 pub record IsNoted (Such : List ℕ → Type 0) (before now : ℕ) (old new : Option (List ℕ)) : Type 0 where
   pub text : List ℕ
   pub is_note : Such text
   pub whole : IsQuiet before now → new ≡ append_known old text
-  pub front : GainsPrefix old new text
+  pub prefix : GainsPrefix old new text

@@ -17,9 +17,9 @@ use Rattle.tor_app.specs.declared.status.Status.TheVariants as status
 use Rattle.tor_app.specs.Notes.{malformed_note, limit_note, read_fault_note, result_note, plain_note}
 use Rattle.tor_app.specs.Judging.{Outcome, Judged, NoResult, TooLong, Ends, Gives, IsResult, IsAccepted, seen_for}
 
--- what the words and the files give, where these are told
+-- what the words and the files give, where these are known
 abbrev pub LeadsTo : List (List ℕ) → Option Files → Outcome → Type 0
-LeadsTo words told outcome = IfSome told (λ files. Gives words files outcome)
+LeadsTo words known outcome = IfSome known (λ files. Gives words files outcome)
 
 -- ---- out
 
@@ -39,29 +39,29 @@ status_of (verdict.No line rule) = status.No
 
 -- a sink gained the text of this verdict, which is the one that the words and the files give
 abbrev pub GainsVerdict : List (List ℕ) → Option Files → Verdict → Option (List ℕ) → Option (List ℕ) → Type 0
-GainsVerdict words told answer old new = LeadsTo words told (Judged answer) × (new ≡ append_known old (verdict_text answer))
+GainsVerdict words known answer old new = LeadsTo words known (Judged answer) × (new ≡ append_known old (verdict_text answer))
 
 -- the text of a verdict that is no
 abbrev pub GainsNo : List (List ℕ) → Option Files → Option (List ℕ) → Option (List ℕ) → Type 0
-GainsNo words told old new = (line : ℕ) × (rule : ℕ) × GainsVerdict words told (verdict.No line rule) old new
+GainsNo words known old new = (line : ℕ) × (rule : ℕ) × GainsVerdict words known (verdict.No line rule) old new
 
--- a front of the text of the verdict
+-- a prefix of the text of the verdict
 abbrev pub GainsSome : List (List ℕ) → Option Files → Option (List ℕ) → Option (List ℕ) → Type 0
-GainsSome words told old new = (answer : Verdict) × LeadsTo words told (Judged answer) × GainsPrefix old new (verdict_text answer)
+GainsSome words known old new = (answer : Verdict) × LeadsTo words known (Judged answer) × GainsPrefix old new (verdict_text answer)
 
 -- ---- statuses
 
--- what the words and the files give, where these are told, is a fault of a record
+-- what the words and the files give, where these are known, is a fault of a record
 abbrev pub LeadsToMalformed : List (List ℕ) → Option Files → Type 0
-LeadsToMalformed words told = (place : Place) × (fault : Fault) × LeadsTo words told (Ends (Malformed place fault))
+LeadsToMalformed words known = (place : Place) × (fault : Fault) × LeadsTo words known (Ends (Malformed place fault))
 
 -- it is a limit
 abbrev pub LeadsToLimit : List (List ℕ) → Option Files → Type 0
-LeadsToLimit words told = LeadsTo words told TooLong ⊎ ((kind : LimitKind) × (dump : ℕ) × LeadsTo words told (Ends (Limit kind dump)))
+LeadsToLimit words known = LeadsTo words known TooLong ⊎ ((kind : LimitKind) × (dump : ℕ) × LeadsTo words known (Ends (Limit kind dump)))
 
 -- it is a file that isn't there
 abbrev pub LeadsToAbsent : List (List ℕ) → Option Files → Type 0
-LeadsToAbsent words told = LeadsTo words told NoResult ⊎ ((dump : ℕ) × LeadsTo words told (Ends (Absent dump)))
+LeadsToAbsent words known = LeadsTo words known NoResult ⊎ ((dump : ℕ) × LeadsTo words known (Ends (Absent dump)))
 
 -- the rules 0 to 10 are met, and the dumps before this one have no end
 abbrev pub HoldsBefore : CheckSettings → Files → ℕ → Type 0
@@ -69,33 +69,33 @@ HoldsBefore settings files dump =
     (bytes : List ℕ) × (file : ResultFile) × IsResult settings files bytes × IsAccepted file bytes × IsOk (seen_for file (take (dump - 1) settings.dumps) files)
 
 -- a read of the result file failed, where the number is 0; over a steady shelf it isn't there
-pub record FailedAtResult (words : List (List ℕ)) (told : Option Files) (steady : Type 0) (dump : ℕ) : Type 0 where
+pub record FailedAtResult (words : List (List ℕ)) (known : Option Files) (steady : Type 0) (dump : ℕ) : Type 0 where
   pub number : dump ≡ 0
   pub settings : CheckSettings
   pub given : check_settings_given words ≡ Some settings
-  pub absent : steady → LeadsTo words told NoResult
+  pub absent : steady → LeadsTo words known NoResult
 
 -- a read of one of the dumps failed, the rules 0 to 10 are met, and the dumps before it have no end; over a steady shelf it
 -- isn't there
-pub record FailedAtDump (words : List (List ℕ)) (told : Option Files) (steady : Type 0) (dump : ℕ) : Type 0 where
+pub record FailedAtDump (words : List (List ℕ)) (known : Option Files) (steady : Type 0) (dump : ℕ) : Type 0 where
   pub settings : CheckSettings
   pub given : check_settings_given words ≡ Some settings
   pub from_one : 1 ≤ dump
   pub named : dump ≤ length settings.dumps
-  pub before : IfSome told (λ files. HoldsBefore settings files dump)
-  pub absent : steady → LeadsTo words told (Ends (Absent dump))
+  pub before : IfSome known (λ files. HoldsBefore settings files dump)
+  pub absent : steady → LeadsTo words known (Ends (Absent dump))
 
 -- the note of a status, with the place or the quantity of what the words and the files give
 abbrev pub IsCheckNote : List (List ℕ) → Option Files → Type 0 → Status → List ℕ → Type 0
-IsCheckNote words told steady status.Usage text = HasUsageLine text
-IsCheckNote words told steady status.Malformed text =
-    (place : Place) × (fault : Fault) × (text ≡ malformed_note place fault) × LeadsTo words told (Ends (Malformed place fault))
-IsCheckNote words told steady status.Limit text =
-    ((text ≡ result_note) × LeadsTo words told TooLong)
-    ⊎ ((kind : LimitKind) × (dump : ℕ) × (text ≡ limit_note kind dump) × LeadsTo words told (Ends (Limit kind dump)))
-IsCheckNote words told steady status.ReadFault text =
-    (dump : ℕ) × (text ≡ read_fault_note dump) × (FailedAtResult words told steady dump ⊎ FailedAtDump words told steady dump)
-IsCheckNote words told steady status.Done text = text ≡ plain_note status.Done
-IsCheckNote words told steady status.No text = text ≡ plain_note status.No
-IsCheckNote words told steady status.WriteFault text = text ≡ plain_note status.WriteFault
-IsCheckNote words told steady status.NoMemory text = text ≡ plain_note status.NoMemory
+IsCheckNote words known steady status.Usage text = HasUsageLine text
+IsCheckNote words known steady status.Malformed text =
+    (place : Place) × (fault : Fault) × (text ≡ malformed_note place fault) × LeadsTo words known (Ends (Malformed place fault))
+IsCheckNote words known steady status.Limit text =
+    ((text ≡ result_note) × LeadsTo words known TooLong)
+    ⊎ ((kind : LimitKind) × (dump : ℕ) × (text ≡ limit_note kind dump) × LeadsTo words known (Ends (Limit kind dump)))
+IsCheckNote words known steady status.ReadFault text =
+    (dump : ℕ) × (text ≡ read_fault_note dump) × (FailedAtResult words known steady dump ⊎ FailedAtDump words known steady dump)
+IsCheckNote words known steady status.Done text = text ≡ plain_note status.Done
+IsCheckNote words known steady status.No text = text ≡ plain_note status.No
+IsCheckNote words known steady status.WriteFault text = text ≡ plain_note status.WriteFault
+IsCheckNote words known steady status.NoMemory text = text ≡ plain_note status.NoMemory

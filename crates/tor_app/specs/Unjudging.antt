@@ -28,47 +28,47 @@ abbrev pub IsRuling : List ℕ → Ruling → Type 0
 IsRuling bytes (ruling.Broken line rule) = BreaksRule bytes (No line rule)
 IsRuling bytes (ruling.Met file) = IsAccepted file bytes
 
--- the bytes meet the rules 0 to 10, and the dumps, where the files are told, have this end
+-- the bytes meet the rules 0 to 10, and the dumps, where the files are known, have this end
 abbrev pub EndsWith : List ℕ → List (List ℕ) → Option Files → End → Type 0
-EndsWith bytes dumps told end =
-    IfSome told (λ files. (file : ResultFile) × IsAccepted file bytes × (seen_for file dumps files ≡ Err end))
+EndsWith bytes dumps known end =
+    IfSome known (λ files. (file : ResultFile) × IsAccepted file bytes × (seen_for file dumps files ≡ Err end))
 
 -- the reading of the dumps stopped at this one for this
 abbrev pub StopsAt : List ℕ → List (List ℕ) → Option Files → Type 0 → ℕ → DumpError → Type 0
-StopsAt bytes dumps told steady dump (error.Malformed place fault) = EndsWith bytes dumps told (Malformed place fault)
-StopsAt bytes dumps told steady dump (error.Limit kind) = EndsWith bytes dumps told (Limit kind dump)
-StopsAt bytes dumps told steady dump error.ReadFault =
+StopsAt bytes dumps known steady dump (error.Malformed place fault) = EndsWith bytes dumps known (Malformed place fault)
+StopsAt bytes dumps known steady dump (error.Limit kind) = EndsWith bytes dumps known (Limit kind dump)
+StopsAt bytes dumps known steady dump error.ReadFault =
     (1 ≤ dump) × (dump ≤ length dumps)
-    × IfSome told (λ files. (file : ResultFile) × IsAccepted file bytes × IsOk (seen_for file (take (dump - 1) dumps) files))
-    × (steady → EndsWith bytes dumps told (Absent dump))
-StopsAt bytes dumps told steady dump error.NoMemory = Unit {0}
+    × IfSome known (λ files. (file : ResultFile) × IsAccepted file bytes × IsOk (seen_for file (take (dump - 1) dumps) files))
+    × (steady → EndsWith bytes dumps known (Absent dump))
+StopsAt bytes dumps known steady dump error.NoMemory = Unit {0}
 
 -- there is no verdict on these bytes for this
 abbrev pub IsRefusedBy : List ℕ → List (List ℕ) → Option Files → Type 0 → Refusal → Type 0
-IsRefusedBy bytes dumps told steady (refusal.Words w) = ⊥
-IsRefusedBy bytes dumps told steady (refusal.Dumps stopped) = StopsAt bytes dumps told steady stopped.dump stopped.error
-IsRefusedBy bytes dumps told steady refusal.NoMemory = Unit {0}
+IsRefusedBy bytes dumps known steady (refusal.Words w) = ⊥
+IsRefusedBy bytes dumps known steady (refusal.Dumps stopped) = StopsAt bytes dumps known steady stopped.dump stopped.error
+IsRefusedBy bytes dumps known steady refusal.NoMemory = Unit {0}
 
 -- there is no verdict on the result file of these settings for this
 abbrev pub IsUnjudgedIn : CheckSettings → Option Files → Type 0 → Unjudged → Type 0
-IsUnjudgedIn settings told steady (unjudged.Result unread.Failed) = steady → IfSome told (λ files. files settings.result ≡ None)
-IsUnjudgedIn settings told steady (unjudged.Result unread.TooLong) = IfSome told (λ files. IsLongFile (files settings.result))
-IsUnjudgedIn settings told steady (unjudged.Result unread.NoMemory) = Unit {0}
-IsUnjudgedIn settings told steady (unjudged.Refused why) =
-    (bytes : List ℕ) × IfSome told (λ files. IsResult settings files bytes) × IsRefusedBy bytes settings.dumps told steady why
+IsUnjudgedIn settings known steady (unjudged.Result unread.Failed) = steady → IfSome known (λ files. files settings.result ≡ None)
+IsUnjudgedIn settings known steady (unjudged.Result unread.TooLong) = IfSome known (λ files. IsLongFile (files settings.result))
+IsUnjudgedIn settings known steady (unjudged.Result unread.NoMemory) = Unit {0}
+IsUnjudgedIn settings known steady (unjudged.Refused why) =
+    (bytes : List ℕ) × IfSome known (λ files. IsResult settings files bytes) × IsRefusedBy bytes settings.dumps known steady why
 
 -- the words give settings, and with these there is no verdict for this
 abbrev pub IsUnjudgedGiven : List (List ℕ) → Option Files → Type 0 → Unjudged → Type 0
-IsUnjudgedGiven words told steady u =
-    (settings : CheckSettings) × (check_settings_given words ≡ Some settings) × IsUnjudgedIn settings told steady u
+IsUnjudgedGiven words known steady u =
+    (settings : CheckSettings) × (check_settings_given words ≡ Some settings) × IsUnjudgedIn settings known steady u
 
 -- there is no verdict for this, by what the words and the files give
 abbrev pub IsUnjudged : List (List ℕ) → Option Files → Type 0 → Unjudged → Type 0
-IsUnjudged words told steady (unjudged.Refused (refusal.Words (refused.Usage text))) = (check_settings_given words ≡ None) × HasUsageLine text
-IsUnjudged words told steady (unjudged.Refused (refusal.Words refused.NoMemory)) = Unit {0}
-IsUnjudged words told steady (unjudged.Refused (refusal.Dumps stopped)) = IsUnjudgedGiven words told steady (unjudged.Refused (refusal.Dumps stopped))
-IsUnjudged words told steady (unjudged.Refused refusal.NoMemory) = Unit {0}
-IsUnjudged words told steady (unjudged.Result why) = IsUnjudgedGiven words told steady (unjudged.Result why)
+IsUnjudged words known steady (unjudged.Refused (refusal.Words (refused.Usage text))) = (check_settings_given words ≡ None) × HasUsageLine text
+IsUnjudged words known steady (unjudged.Refused (refusal.Words refused.NoMemory)) = Unit {0}
+IsUnjudged words known steady (unjudged.Refused (refusal.Dumps stopped)) = IsUnjudgedGiven words known steady (unjudged.Refused (refusal.Dumps stopped))
+IsUnjudged words known steady (unjudged.Refused refusal.NoMemory) = Unit {0}
+IsUnjudged words known steady (unjudged.Result why) = IsUnjudgedGiven words known steady (unjudged.Result why)
 
 -- a read failed
 abbrev pub IsFailedRead : Unjudged → Type 0

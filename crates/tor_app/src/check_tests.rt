@@ -147,7 +147,7 @@ fn run_up_to_failing_call(
 }
 
 #[test]
-fn tells_verdicts(rt: HostRuntime) {
+fn knows_verdicts(rt: HostRuntime) {
     let cases: [Case<'_, '_>; 9] = [
         judged(0, "", Status::Done, "yes\n"),
         judged(13, OTHER_LINK, Status::No, "no|13|4\n"),
@@ -209,7 +209,7 @@ fn asks_no_dump_at_no(rt: HostRuntime) {
 }
 
 #[test]
-fn tells_why_there_is_none(rt: HostRuntime) {
+fn knows_why_there_is_none(rt: HostRuntime) {
     let wordless = Case {
         words: &[],
         err: "usage\n",
@@ -242,7 +242,7 @@ fn tells_why_there_is_none(rt: HostRuntime) {
 }
 
 #[test]
-fn tells_failed_dumps(rt: HostRuntime) {
+fn knows_failed_dumps(rt: HostRuntime) {
     // Behind three calls for the result, the open of the dump and two reads of its first record.
     let unread = Case {
         words: &["r", "d"],

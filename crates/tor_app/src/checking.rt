@@ -27,7 +27,7 @@ use tor_words::Name;
 /// Writes the verdict. All memory is taken before.
 fn tell<O: Sink>(alloc: Global, verdict: Verdict, out: &mut O) -> Answer
     ensures status { (result.status ≡ status_of verdict) ⊎ ((result.status ≡ Status.WriteFault) ⊎ (result.status ≡ Status.NoMemory)) }
-    ensures told { result.status ≡ status_of verdict → O.held out.new ≡ append_known (O.held out.old) (verdict_text verdict) }
+    ensures known { result.status ≡ status_of verdict → O.held out.new ≡ append_known (O.held out.old) (verdict_text verdict) }
     ensures cut_off { result.status ≡ Status.WriteFault → GainsPrefix (O.held out.old) (O.held out.new) (verdict_text verdict) }
     ensures nothing { result.status ≡ Status.NoMemory → out.new ≡ out.old }
     ensures note { note_in result ≡ plain_note result.status }
@@ -98,7 +98,7 @@ pub fn check<H: Shelf, O: Sink, E: Sink>(
     out: &mut O,
     err: &mut E,
 ) -> Status
-    // What is written to out: the verdict at Done and No, a front of it at WriteFault, and else nothing.
+    // What is written to out: the verdict at Done and No, a prefix of it at WriteFault, and else nothing.
     ensures done { result ≡ Status.Done →
         GainsVerdict words.now (H.files shelf.old) Verdict.Yes (O.held out.old) (O.held out.new) }
     ensures no { result ≡ Status.No → GainsNo words.now (H.files shelf.old) (O.held out.old) (O.held out.new) }
@@ -153,7 +153,7 @@ pub fn check<H: Shelf, O: Sink, E: Sink>(
         H.faults shelf.new ≡ H.faults shelf.old }
     ensures no_lost_write { result ≢ Status.WriteFault → O.faults out.new ≡ O.faults out.old }
 
-    // What is written to err: the status' note, or a front of it where err failed; at Done and No nothing.
+    // What is written to err: the status' note, or a prefix of it where err failed; at Done and No nothing.
     ensures note { IsNoted (IsCheckNote words.now (H.files shelf.old) (H.steady shelf.old) result)
         (E.faults err.old) (E.faults err.new) (E.held err.old) (E.held err.new) }
     ensures silent { (result ≡ Status.Done) ⊎ (result ≡ Status.No) → E.held err.new ≡ E.held err.old }

@@ -51,8 +51,8 @@ impl From<AllocError> for Unread {
     }
 }
 
-/// Reads once, at most so many bytes, to the front of the buffer. It answers how many came.
-fn read_front<H: Shelf>(shelf: &mut H, buffer: &mut [u8], most: usize) -> Result<usize, Failed>
+/// Reads once, at most so many bytes, to the prefix of the buffer. It answers how many came.
+fn read_prefix<H: Shelf>(shelf: &mut H, buffer: &mut [u8], most: usize) -> Result<usize, Failed>
     requires some { 0 < most }
     requires room { most ≤ length buffer.old }
     ensures bound { IfOk result (λ n. n ≤ most) }
@@ -89,7 +89,7 @@ fn read_open<H: Shelf>(alloc: Global, shelf: &mut H) -> Result<List<u8>, Unread>
     let mut bytes = List::new(alloc);
     'parts: while bytes.len() <= MOST {
         let most = STEP.min(MOST + 1 - bytes.len());
-        let count = read_front(shelf, buffer.as_mut_slice(), most)?;
+        let count = read_prefix(shelf, buffer.as_mut_slice(), most)?;
         if count == 0 {
             return Ok(bytes);
         }

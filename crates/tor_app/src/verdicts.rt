@@ -27,7 +27,7 @@ fn no_text(alloc: Global, line: u64, rule: u8) -> Result<String, AllocError>
 pub(crate) fn status_of(verdict: Verdict) -> Status
     ensures status { result ≡ status_of verdict }
     ensures whole { result ≢ Status.WriteFault }
-    ensures told { result ≢ Status.NoMemory }
+    ensures known { result ≢ Status.NoMemory }
 {
     match verdict {
         Verdict::Yes => Status::Done,

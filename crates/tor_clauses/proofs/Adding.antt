@@ -78,8 +78,8 @@ pub grown : {T E : Type 0} (r : Result T E) (graph : List (List ℕ)) (f now : F
     FitsGraph graph now × IsMark now (record { paths = length f.paths; triples = length f.triples }) × (first_of now (record { paths = length f.paths; triples = length f.triples }) ≡ f)
 grown (Ok x) graph f now path fits h now_fits e =
     let l : length now.paths ≡ length f.paths + 1 = ap length h ∙ length_push f.paths path in
-    let front : f.paths ≡ take (length f.paths) now.paths = sym (ap (take (length f.paths)) h ∙ take_at f.paths (path ∷ []) (length f.paths) refl) in
-    let p = prefix_law graph f now fits now_fits (omega (arith, l)) front in
+    let prefix : f.paths ≡ take (length f.paths) now.paths = sym (ap (take (length f.paths)) h ∙ take_at f.paths (path ∷ []) (length f.paths) refl) in
+    let p = prefix_law graph f now fits now_fits (omega (arith, l)) prefix in
     (now_fits, p.0, sym p.1)
 grown (Err x) graph f now path fits h now_fits e =
     let fits' = subst (FitsGraph graph) (sym e) fits in

@@ -123,14 +123,14 @@ pub same_formula : {ps qs : List ℕ} {ts us : List Triple} {n m : ℕ} {from to
 same_formula h i j k = cc
 
 pub prefix_law : PrefixLaw
-prefix_law graph f g fits gits le front =
+prefix_law graph f g fits gits le prefix =
     let n = length f.paths in
-    let ts : f.triples ≡ triples_of graph (take n g.paths) = fits.triples ∙ ap (triples_of graph) front in
+    let ts : f.triples ≡ triples_of graph (take n g.paths) = fits.triples ∙ ap (triples_of graph) prefix in
     let count : length f.triples ≡ count_by (λ t. list_any (λ path. path == t.path) (take n g.paths)) g.triples =
     ap length ts ∙ sym (counted graph (take n g.paths) (drop n g.paths)) ∙
     ap (count_by (λ t. list_any (λ path. path == t.path) (take n g.paths))) (ap (triples_of graph) (take-append-drop n g.paths) ∙ sym gits.triples) in
     let cut : f.triples ≡ take (length f.triples) g.triples = ts ∙ sym (ap (λ k. take k g.triples) (ap length ts) ∙ cut_triples graph g n gits) in (
       record { paths = le; triples = count },
-      same_formula front cut (fits.nodes ∙ sym gits.nodes)
+      same_formula prefix cut (fits.nodes ∙ sym gits.nodes)
           (fits.arcs ∙ ap (flat_map arcs_of) cut ∙ sym (ap (take (length f.triples * 2)) gits.arcs ∙ take-arcs (length f.triples) g.triples)),
     )

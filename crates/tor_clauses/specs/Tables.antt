@@ -36,7 +36,7 @@ having f ts = record f { triples = ts; net = record f.net { arcs = flat_map arcs
 abbrev pub IsRoomy : List (List ℕ) → ℕ → List Triple → Type 0
 IsRoomy graph path ts = (k : ℕ) → length (with_triples ts (take k (triples_on graph path))) ≤ 2 ^ 26
 
--- the second formula has all of the first at its front
+-- the second formula has all of the first at its prefix
 abbrev pub IsFirst : Formula → Formula → Type 0
 IsFirst f g = (length f.triples ≤ length g.triples) × (g ≡ having f g.triples) × (f.triples ≡ take (length f.triples) g.triples)
 

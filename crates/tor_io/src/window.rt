@@ -1,6 +1,6 @@
 ghost use Rattle.std.specs.Prelude.{◌≡◌, ◌≤◌, length, drop, vec_len};
 
-use crate::copy_front::copy_front;
+use crate::copy_prefix::copy_prefix;
 use crate::retry;
 use std::alloc::{AllocError, Global};
 use std::io;
@@ -49,12 +49,12 @@ impl Window {
         Ok(())
     }
 
-    /// Moves as many of the bytes as fit to the front of `buf`, and answers how many.
+    /// Moves as many of the bytes as fit to the prefix of `buf`, and answers how many.
     pub(crate) fn give(&mut self, buf: &mut [u8]) -> usize
         ensures bound { result ≤ length buf.old }
         ensures rest { drop result buf.new ≡ drop result buf.old }
     {
-        let count = copy_front(buf, &self.bytes[self.start..self.end]);
+        let count = copy_prefix(buf, &self.bytes[self.start..self.end]);
         self.start += count;
         count
     }

@@ -1,7 +1,7 @@
 -- Whether one order leads to another along the triples of the paths, decided arc by arc.
 use Rattle.std.proofs.Common.{◌≡◌, ℕ, zero, suc, ◌+◌, ◌<◌, ◌⊎◌, inl, inr, List, [], ◌∷◌, ◌++◌, length, get_or, refl, sym, ap, subst, arith, ◌==◌}
 use Rattle.std.proofs.lemmas.Bool.{cases_Bool, eqb-true, eq-eqb}
-use Rattle.relationships.specs.Evidence.{StandAt, TripleAt, IsTriple, Closure, start, carry}
+use Rattle.relationships.specs.Evidence.{StandAt, TripleAt, IsTriple, Closure, start, imply}
 use Rattle.tor_solve.specs.Laws.{DecidedLaw}
 
 -- the arc from "x over y" to "y over z"
@@ -140,7 +140,7 @@ via_decided (e ∷ es) a b y z = one_of (via_decided es a b y z) (via_decided es
 
 joined : (paths : List (List ℕ)) (a b c d : ℕ) {y z : ℕ} → Closure paths a b c d → Closure paths c d y z → Closure paths a b y z
 joined paths a b c d h start = h
-joined paths a b c d h (carry k t) = carry (joined paths a b c d h k) t
+joined paths a b c d h (imply k t) = imply (joined paths a b c d h k) t
 
 via_closure : (paths : List (List ℕ)) (es : List Arc) → ((x y z : ℕ) → In x y z es → IsTriple paths x y z) → (a b y z : ℕ) → Via es a b y z → Closure paths a b y z
 via_closure paths [] triples a b y z (e, f) = subst (λ u. Closure paths a b y u) f (subst (λ u. Closure paths a b u b) e start)
@@ -148,12 +148,12 @@ via_closure paths (e ∷ es) triples a b y z (inl v) = via_closure paths es (λ 
 via_closure paths (e ∷ es) triples a b y z (inr (v, w)) =
     let rest : (x y z : ℕ) → In x y z es → IsTriple paths x y z = λ x y z h. triples x y z (inr h) in
     joined paths a b e.1 e.2
-    (carry (via_closure paths es rest a b e.0 e.1 v) (triples e.0 e.1 e.2 (inl (refl, refl, refl))))
+    (imply (via_closure paths es rest a b e.0 e.1 v) (triples e.0 e.1 e.2 (inl (refl, refl, refl))))
     (via_closure paths es rest e.1 e.2 y z w)
 
 closure_via : (paths : List (List ℕ)) (a b : ℕ) {y z : ℕ} → Closure paths a b y z → Via (arcs_of paths) a b y z
 closure_via paths a b start = via_start (arcs_of paths) a b
-closure_via paths a b (carry {x = x} {y = y} {z = z} c t) =
+closure_via paths a b (imply {x = x} {y = y} {z = z} c t) =
     via_step (arcs_of paths) a b x y z (has_arc paths x y z t) (closure_via paths a b c)
 
 pub decided_law : DecidedLaw

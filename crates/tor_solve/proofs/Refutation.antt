@@ -5,7 +5,7 @@ use Rattle.std.proofs.lemmas.List.Elements.{All-contains}
 use Rattle.relationships.specs.declared.walk.Link.{Link}
 use Rattle.relationships.specs.declared.walk.Walk.{Walk}
 use Rattle.tor_arena.specs.Distinct.{AllDistinct}
-use Rattle.relationships.specs.Evidence.{HasPair, Numbered, paths_of, Refutes, Closure, start, carry}
+use Rattle.relationships.specs.Evidence.{HasPair, Numbered, paths_of, Refutes, Closure, start, imply}
 use Rattle.relationships.specs.Selection.{IsServable}
 use Rattle.relationships.specs.Laws.{IsRanked, ranked}
 use Rattle.relationships.proofs.Walks.{triple_apart, refuting_law}
@@ -101,7 +101,7 @@ module _ (paths : List (List ℕ)) where
   -- where no orders turn, the numbers are ranks
   are_ranks : ((x y z : ℕ) → In x y z (arcs_of paths) → Turns x y → ⊥) → IsRanked paths (code (arcs_of paths))
   are_ranks none = record {
-    along = λ x y z t. code_rises (arcs_of paths) x y y z (λ a b c. carry c t);
+    along = λ x y z t. code_rises (arcs_of paths) x y y z (λ a b c. imply c t);
     apart = λ x y z t e.
         let arc = has_arc paths x y z t in
         let h = code_same (arcs_of paths) x y y x e x y z arc in
@@ -126,7 +126,7 @@ record Onward (A : Numbered) (w : Walk) (a b y z : ℕ) : Type 0 where
 
 go_on : (A : Numbered) (w : Walk) (a b c d : ℕ) → Leads A w a b c d → {y z : ℕ} → Closure (paths_of A) c d y z → Onward A w a b y z
 go_on A w a b c d h start = record { further = w; leads = h; kept = λ u v p. p }
-go_on A w a b c d h (carry {x = x} {y = y} {z = z} k t) = one_more (go_on A w a b c d h k)
+go_on A w a b c d h (imply {x = x} {y = y} {z = z} k t) = one_more (go_on A w a b c d h k)
   where
     one_more : Onward A w a b x y → Onward A w a b y z
     one_more g =

@@ -5,7 +5,7 @@ use Rattle.mrt_frame.specs.Reader.{shelf_of, next_place}
 use Rattle.mrt_frame.specs.Frames.{StopsWith}
 use Rattle.mrt_frame.specs.Steps.{seen}
 use Rattle.dump_read.specs.Refusals.{taken_of, count_of}
-use Rattle.dump_read.proofs.Goings.{GoesOf, starts, goes_on, ends, breaks, some_so_far, some_with, frame_told}
+use Rattle.dump_read.proofs.Goings.{GoesOf, starts, goes_on, ends, breaks, some_so_far, some_with, frame_known}
 use Rattle.dump_read.proofs.reading.read_records.Goals as goal
 
 pub records-init : goal.records-init
@@ -31,7 +31,7 @@ returns-in-Ok-None-clause-read g c =
 pub returns-in-Err-clause-stopped : goal.returns-in-Err-clause-stopped
 returns-in-Err-clause-stopped g c =
     let left = g.H.Shelf.left in
-    rw c.of_frame.ensures (frame_told c.args.sets c.args.dump (left c.args.shelf.now) (left (shelf_of c.records.frames)) (next_place c.records.frames) (count_of c.records.peers)
+    rw c.of_frame.ensures (frame_known c.args.sets c.args.dump (left c.args.shelf.now) (left (shelf_of c.records.frames)) (next_place c.records.frames) (count_of c.records.peers)
     (taken_of c.args.table.now c.args.asides.now) (taken_of c.records.table c.records.asides) c.in-Err.error c.records.invariant.goes c.in-Err.ensures.stopped)
 
 pub returns-in-Err-clause-some : goal.returns-in-Err-clause-some

@@ -5,13 +5,13 @@ use Rattle.dump_read.specs.Seen.{Absent, Malformed, Limit}
 use Rattle.tor_app.specs.Judging.{Ends}
 use Rattle.tor_app.specs.Refusals.{note_in}
 use Rattle.tor_app.proofs.Always.{always_absent, always_there, cause_of}
-use Rattle.tor_app.proofs.Comings.{vouched_told}
+use Rattle.tor_app.proofs.Comings.{vouched_known}
 use Rattle.tor_app.proofs.Prefixes.{all_if_quiet, either_way}
 use Rattle.tor_app.proofs.checking.check.Goals as goal
 
 pub returns-clause-valid : goal.returns-clause-valid
 returns-clause-valid g c = λ is.
-    vouched_told c.acceptance_law.ensures c.args.words.now (g.H.Shelf.files c.args.shelf.now) (c.answer-answer.ensures.done is).0
+    vouched_known c.acceptance_law.ensures c.args.words.now (g.H.Shelf.files c.args.shelf.now) (c.answer-answer.ensures.done is).0
 
 pub returns-clause-always_malformed : goal.returns-clause-always_malformed
 returns-clause-always_malformed g c = λ files place fault is gives well.
@@ -61,5 +61,5 @@ returns-clause-note g c =
       is_note = c.answer-answer.ensures.note;
       whole = λ quiet. all_if_quiet c.write_all.result (faults c.args.err.now) (faults c.write_all.new.sink) old new text c.write_all.ensures.cause c.write_all.ensures.all quiet
           ∙ ap (append_known old) c.note.ensures;
-      front = subst (λ t. GainsPrefix old new t) c.note.ensures (either_way c.write_all.result old new text c.write_all.ensures.all c.write_all.ensures.prefix);
+      prefix = subst (λ t. GainsPrefix old new t) c.note.ensures (either_way c.write_all.result old new text c.write_all.ensures.all c.write_all.ensures.prefix);
     }

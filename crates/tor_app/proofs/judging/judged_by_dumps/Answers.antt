@@ -9,12 +9,12 @@ use Rattle.tor_app.proofs.judging.judged_by_dumps.Goals as goal
 
 pub returns-in-Ok-clause-verdict : goal.returns-in-Ok-clause-verdict
 returns-in-Ok-clause-verdict g c =
-    let told = g.H.Shelf.files c.args.shelf.now in
+    let known = g.H.Shelf.files c.args.shelf.now in
     let file = c.args.file.now in
     let dumps = c.args.dumps.now in
     let taken : Taken = taken_of c.read_dumps.new.table c.read_dumps.new.asides in
     let some : 0 < length dumps = search rules in
     let start : taken_of c.new-table.result c.new-asides.result ≡ nothing 8388608 = search rules in
-    let seen : IfSome told (λ files. seen_for file dumps files ≡ Ok taken) =
-    subst (λ (t : Taken). IfSome told (λ files. seen_from file.sets 1 t dumps files ≡ Ok taken)) start c.in-Ok.ensures.read in
-    some_dumps told file dumps taken _ some seen c.check_against.ensures.verdict
+    let seen : IfSome known (λ files. seen_for file dumps files ≡ Ok taken) =
+    subst (λ (t : Taken). IfSome known (λ files. seen_from file.sets 1 t dumps files ≡ Ok taken)) start c.in-Ok.ensures.read in
+    some_dumps known file dumps taken _ some seen c.check_against.ensures.verdict

@@ -2,46 +2,46 @@ use Rattle.std.proofs.Common.{◌≡◌, ◌+◌, ◌∙◌, ℕ, List, Ok, Err,
 use Rattle.std.specs.Prelude.{IfSome}
 use Rattle.tor_io.specs.Contents.{LacksFile}
 use Rattle.dump_read.specs.Refusals.{taken_of}
-use Rattle.dump_read.specs.Seen.{end_told, of_file}
+use Rattle.dump_read.specs.Seen.{end_known, of_file}
 use Rattle.tor_app.proofs.Dumps.{absent, one_more, stops}
 use Rattle.tor_app.proofs.reading.read_dumps.Goals as goal
 
 pub returns-in-Err-clause-stopped : goal.returns-in-Err-clause-stopped
 returns-in-Err-clause-stopped g c =
-    let told = g.H.Shelf.files c.args.shelf.now in
+    let known = g.H.Shelf.files c.args.shelf.now in
     let i = c.loop-place.place in
     let name = c.index-dumps-place.result in
     let mid = taken_of c.loop-place.table c.loop-place.asides in
-    let one : IfSome (end_told (i + 1) c.in-Err.error) (λ end. IfSome told (λ files. of_file c.args.sets (i + 1) mid (files name) ≡ Err end)) =
-    subst (λ (n : List ℕ). IfSome (end_told (i + 1) c.in-Err.error) (λ end. IfSome told (λ files. of_file c.args.sets (i + 1) mid (files n) ≡ Err end))) c.as_text.ensures
-    (subst (λ o. IfSome (end_told (i + 1) c.in-Err.error) (λ end. IfSome o (λ files. of_file c.args.sets (i + 1) mid (files c.as_text.result.now) ≡ Err end))) c.loop-place.invariant.files
+    let one : IfSome (end_known (i + 1) c.in-Err.error) (λ end. IfSome known (λ files. of_file c.args.sets (i + 1) mid (files name) ≡ Err end)) =
+    subst (λ (n : List ℕ). IfSome (end_known (i + 1) c.in-Err.error) (λ end. IfSome known (λ files. of_file c.args.sets (i + 1) mid (files n) ≡ Err end))) c.as_text.ensures
+    (subst (λ o. IfSome (end_known (i + 1) c.in-Err.error) (λ end. IfSome o (λ files. of_file c.args.sets (i + 1) mid (files c.as_text.result.now) ≡ Err end))) c.loop-place.invariant.files
     c.in-Err.ensures.stopped) in
-    stops c.args.sets (taken_of c.args.table.now c.args.asides.now) mid told c.args.dumps.now i name c.in-Err.error c.loop-place-test.true c.index-dumps-place.is c.loop-place.invariant.seen one
+    stops c.args.sets (taken_of c.args.table.now c.args.asides.now) mid known c.args.dumps.now i name c.in-Err.error c.loop-place-test.true c.index-dumps-place.is c.loop-place.invariant.seen one
 
 pub returns-in-Err-clause-steady_failed : goal.returns-in-Err-clause-steady_failed
 returns-in-Err-clause-steady_failed g c = λ steady is.
-    let told = g.H.Shelf.files c.args.shelf.now in
+    let known = g.H.Shelf.files c.args.shelf.now in
     let i = c.loop-place.place in
     let name = c.index-dumps-place.result in
-    let lacks : LacksFile told name =
-    subst (λ (n : List ℕ). LacksFile told n) c.as_text.ensures
+    let lacks : LacksFile known name =
+    subst (λ (n : List ℕ). LacksFile known n) c.as_text.ensures
     (subst (λ o. LacksFile o c.as_text.result.now) c.loop-place.invariant.files
     (c.in-Err.ensures.steady_failed (c.loop-place.invariant.steady steady) (ap (λ x. Err x) is))) in
-    absent c.args.sets (taken_of c.args.table.now c.args.asides.now) (taken_of c.loop-place.table c.loop-place.asides) told c.args.dumps.now i name
+    absent c.args.sets (taken_of c.args.table.now c.args.asides.now) (taken_of c.loop-place.table c.loop-place.asides) known c.args.dumps.now i name
     c.loop-place-test.true c.index-dumps-place.is c.loop-place.invariant.seen lacks
 
 pub loop-place-preserved : goal.loop-place-preserved
 loop-place-preserved g c =
-    let told = g.H.Shelf.files c.args.shelf.now in
+    let known = g.H.Shelf.files c.args.shelf.now in
     let i = c.loop-place.place in
     let name = c.index-dumps-place.result in
     let mid = taken_of c.loop-place.table c.loop-place.asides in
     let new = taken_of c.read_dump.new.table c.read_dump.new.asides in
-    let one : IfSome told (λ files. of_file c.args.sets (i + 1) mid (files name) ≡ Ok new) =
-    subst (λ (n : List ℕ). IfSome told (λ files. of_file c.args.sets (i + 1) mid (files n) ≡ Ok new)) c.as_text.ensures
+    let one : IfSome known (λ files. of_file c.args.sets (i + 1) mid (files name) ≡ Ok new) =
+    subst (λ (n : List ℕ). IfSome known (λ files. of_file c.args.sets (i + 1) mid (files n) ≡ Ok new)) c.as_text.ensures
     (subst (λ o. IfSome o (λ files. of_file c.args.sets (i + 1) mid (files c.as_text.result.now) ≡ Ok new)) c.loop-place.invariant.files c.in-Ok.ensures.read) in
     record {
-      seen = one_more c.args.sets (taken_of c.args.table.now c.args.asides.now) mid new told c.args.dumps.now i name c.loop-place-test.true c.index-dumps-place.is c.loop-place.invariant.seen one;
+      seen = one_more c.args.sets (taken_of c.args.table.now c.args.asides.now) mid new known c.args.dumps.now i name c.loop-place-test.true c.index-dumps-place.is c.loop-place.invariant.seen one;
       read_out = λ _. c.in-Ok.ensures.at_end;
       files = c.in-Ok.ensures.files ∙ c.loop-place.invariant.files;
       quiet = c.in-Ok.ensures.quiet (λ e. cc) ∙ c.loop-place.invariant.quiet;

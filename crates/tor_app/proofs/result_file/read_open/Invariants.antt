@@ -2,7 +2,7 @@ use Rattle.std.proofs.Common.{◌≡◌, ◌≤◌, ◌-◌, ◌+◌, ◌^◌, l
 use Rattle.std.specs.Io.KnownBytes.{prepend_known}
 use Rattle.tor_app.proofs.result_file.read_open.Given as goal
 
--- the bytes so far stood in front of what is left, and no call on the shelf failed
+-- the bytes so far stood in prefix of what is left, and no call on the shelf failed
 abbrev pub invariant-parts : goal.invariant-parts
 invariant-parts g l =
     let shelf = g.H.Shelf in

@@ -9,7 +9,7 @@ use Rattle.mrt_frame.specs.declared.error.FrameError.TheVariants.{ReadFault}
 use Rattle.mrt_frame.specs.declared.frames.Frames.{Frames}
 use Rattle.mrt_frame.specs.Frames.{FindsNext, StopsWith, IfFault, record_of, end_of_error}
 use Rattle.mrt_frame.specs.Steps.{Answer, HasMoved, seen}
-use Rattle.mrt_frame.proofs.Converse.{Tells, conversely, same_seen, of_octets}
+use Rattle.mrt_frame.proofs.Converse.{Knows, conversely, same_seen, of_octets}
 use Rattle.mrt_frame.proofs.frames.Frames+H.next.Goals as goal
 
 pub returns-in_err-advance : goal.returns-in_err-advance
@@ -22,8 +22,8 @@ returns-in_err-advance g c =
     let place = old.cursor.next in
     let before = shelf.left old.shelf.now in
     let new : Frames g.row.H.Denot Cursor = record { shelf = record old.shelf { now = c.advance.new.shelf }; cursor = c.advance.new.self } in
-    let tells : IfSome before (λ octets. Tells (Err e) place octets None) = of_octets (end_of_error e) before place facts.stopped in
-    let given = conversely c.from_residual.result before place None (subst (λ (r : Answer). IfSome before (λ octets. Tells r place octets None)) is tells) in
+    let knows : IfSome before (λ octets. Knows (Err e) place octets None) = of_octets (end_of_error e) before place facts.stopped in
+    let given = conversely c.from_residual.result before place None (subst (λ (r : Answer). IfSome before (λ octets. Knows r place octets None)) is knows) in
     let moved : HasMoved shelf old (Err e) new = record {
       same_reference = refl;
       files = facts.files;
@@ -48,7 +48,7 @@ returns-in_err-advance g c =
         stopped = subst (λ (r : Answer). IfFault r (λ end. IfSome before (λ octets. StopsWith place octets end))) is facts.stopped;
         record_is_given = given.record_is_given;
         end_is_none = given.end_is_none;
-        stop_is_told = given.stop_is_told;
+        stop_is_known = given.stop_is_known;
         steady_reads = λ s read. facts.steady_reads s (same_error e (is ∙ read));
       },
     )
@@ -104,7 +104,7 @@ returns-then-branch g c =
         stopped = tt;
         record_is_given = given.record_is_given;
         end_is_none = given.end_is_none;
-        stop_is_told = given.stop_is_told;
+        stop_is_known = given.stop_is_known;
         steady_reads = λ _ is. absurd cc;
       },
     )
@@ -145,7 +145,7 @@ returns-else-branch g c =
         stopped = tt;
         record_is_given = given.record_is_given;
         end_is_none = given.end_is_none;
-        stop_is_told = given.stop_is_told;
+        stop_is_known = given.stop_is_known;
         steady_reads = λ _ is. absurd cc;
       },
     )

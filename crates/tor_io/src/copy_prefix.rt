@@ -1,9 +1,9 @@
 ghost use Rattle.std.specs.Prelude.{◌≡◌, length, take, drop, min};
 
-/// Copies as many of the bytes as fit to the front of the buffer, and answers how many.
-pub(crate) fn copy_front(buf: &mut [u8], bytes: &[u8]) -> usize
+/// Copies as many of the bytes as fit to the prefix of the buffer, and answers how many.
+pub(crate) fn copy_prefix(buf: &mut [u8], bytes: &[u8]) -> usize
     ensures count { result ≡ min (length buf.old) (length bytes.now) }
-    ensures front { take result buf.new ≡ take result bytes.now }
+    ensures prefix { take result buf.new ≡ take result bytes.now }
     ensures rest { drop result buf.new ≡ drop result buf.old }
 {
     let count = buf.len().min(bytes.len());

@@ -1,5 +1,5 @@
--- How the records of a file are spelled (RFC 6396, section 2), and the law that a file is cut into exactly the records
--- that it spells.
+-- How the records of a file are encoded (RFC 6396, section 2), and the law that a file is cut into exactly the records
+-- that it encodes.
 use Rattle.std.specs.Prelude.{◌≡◌, ◌↔◌, ℕ, ◌+◌, ◌^◌, ◌<◌, ◌≤◌, IsTrue, List, [], ◌∷◌, ◌++◌, length}
 use Rattle.mrt_frame.specs.declared.header.At.{At}
 use Rattle.mrt_frame.specs.Records.{Record, End, Well, HeadCut, TooManyBytes, Oversize, BodyCut, is_read, kind_in, subtype_in, length_in, behind, start, cut}
@@ -11,11 +11,11 @@ pub record IsHeader (header : List ℕ) (r : Record) : Type 0 where
   pub subtype : subtype_in header ≡ r.subtype
   pub len : length_in header ≡ length r.body
 
--- the octets are the record, spelled as its header and its body, and then the rest
-pub record Spells (octets : List ℕ) (r : Record) (rest : List ℕ) : Type 0 where
+-- the octets are the record, encoded as its header and its body, and then the rest
+pub record Encodes (octets : List ℕ) (r : Record) (rest : List ℕ) : Type 0 where
   pub header : List ℕ
   pub is_header : IsHeader header r
-  pub spelled : octets ≡ header ++ r.body ++ rest
+  pub encoded : octets ≡ header ++ r.body ++ rest
 
 -- the record ends within the bound on a file, and it is not too long if it is one that is read
 pub record IsWithin (r : Record) : Type 0 where
@@ -27,7 +27,7 @@ pub record IsNear (at : At) (octets : List ℕ) : Type 0 where
   pub header : 12 ≤ length octets
   pub file : at.offset + 12 + length_in octets ≤ 2 ^ 40
 
--- the header that stands in front is that of a record that is read
+-- the header that stands in prefix is that of a record that is read
 abbrev pub IsRead : List ℕ → Type 0
 IsRead octets = IsTrue (is_read (kind_in octets) (subtype_in octets))
 
@@ -40,21 +40,21 @@ IsEnd at octets (Oversize a) = (a ≡ at) × IsNear at octets × IsRead octets �
 IsEnd at octets (BodyCut a) =
     (a ≡ at) × IsNear at octets × (IsRead octets → length_in octets ≤ 2 ^ 26) × (length octets < 12 + length_in octets)
 
--- from this place on, the octets spell these records one behind the other, and then there is this end
-abbrev pub AreSpelled : At → List ℕ → List Record → End → Type 0
-AreSpelled at octets [] end = IsEnd at octets end
-AreSpelled at octets (r ∷ records) end =
-    (rest : List ℕ) × (r.at ≡ at) × IsWithin r × Spells octets r rest × AreSpelled (behind r) rest records end
+-- from this place on, the octets encode these records one behind the other, and then there is this end
+abbrev pub AreEncoded : At → List ℕ → List Record → End → Type 0
+AreEncoded at octets [] end = IsEnd at octets end
+AreEncoded at octets (r ∷ records) end =
+    (rest : List ℕ) × (r.at ≡ at) × IsWithin r × Encodes octets r rest × AreEncoded (behind r) rest records end
 
--- a file is cut into these records with this end exactly if it spells them and then has this end; with the end Well, it
--- is their spelling and nothing else
-abbrev pub SpellingLaw : Type 0
-SpellingLaw =
+-- a file is cut into these records with this end exactly if it encodes them and then has this end; with the end Well, it
+-- is their encoding and nothing else
+abbrev pub EncodingLaw : Type 0
+EncodingLaw =
     (octets : List ℕ) (records : List Record) (end : End) →
-    (cut octets ≡ record { records = records; end = end }) ↔ AreSpelled start octets records end
+    (cut octets ≡ record { records = records; end = end }) ↔ AreEncoded start octets records end
 
--- what a file spells is one list of records, with one end
+-- what a file encodes is one list of records, with one end
 abbrev pub OneReadingLaw : Type 0
 OneReadingLaw =
     (octets : List ℕ) (records others : List Record) (end other : End) →
-    AreSpelled start octets records end → AreSpelled start octets others other → (records ≡ others) × (end ≡ other)
+    AreEncoded start octets records end → AreEncoded start octets others other → (records ≡ others) × (end ≡ other)
