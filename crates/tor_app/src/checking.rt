@@ -25,7 +25,7 @@ use tor_io::{Failed, Shelf, Sink, write_all};
 use tor_words::Name;
 
 /// Writes the verdict. All memory is taken before.
-fn tell<O: Sink>(alloc: Global, verdict: Verdict, out: &mut O) -> Answer
+fn write_verdict<O: Sink>(alloc: Global, verdict: Verdict, out: &mut O) -> Answer
     ensures status { (result.status ≡ status_of verdict) ⊎ ((result.status ≡ Status.WriteFault) ⊎ (result.status ≡ Status.NoMemory)) }
     ensures known { result.status ≡ status_of verdict → O.held out.new ≡ append_known (O.held out.old) (verdict_text verdict) }
     ensures cut_off { result.status ≡ Status.WriteFault → GainsPrefix (O.held out.old) (O.held out.new) (verdict_text verdict) }
@@ -82,7 +82,7 @@ fn answer<H: Shelf, O: Sink>(
     ensures no_lost_write { result.status ≢ Status.WriteFault → O.faults out.new ≡ O.faults out.old }
 {
     match verdict_of(alloc, keys, words, shelf) {
-        Ok(verdict) => tell(alloc, verdict, out),
+        Ok(verdict) => write_verdict(alloc, verdict, out),
         Err(unjudged) => answer_to_unjudged(alloc, unjudged),
     }
 }
