@@ -8,7 +8,8 @@ use Rattle.mrt_frame.specs.declared.cursor.Record as lent
 use Rattle.mrt_frame.specs.declared.header.At.{At}
 use Rattle.mrt_frame.specs.declared.header.Header.{Header}
 use Rattle.mrt_frame.specs.Frames.{PassesOver, FindsNext, StopsWith, end_of_error, record_of}
-use Rattle.mrt_frame.specs.Records.{Record, Next, End, Well, HeadCut, TooManyBytes, Oversize, BodyCut, Ends, Holds, is_read, behind, next_of}
+use Rattle.mrt_frame.specs.Kinds.{is_read}
+use Rattle.mrt_frame.specs.Records.{Record, Next, End, Well, HeadCut, TooManyBytes, Oversize, BodyCut, Ends, Holds, behind, next_of}
 use Rattle.mrt_frame.specs.Steps.{Answer, Gives, HasFailed, seen}
 
 -- nothing that is passed over

@@ -7,7 +7,8 @@ use Rattle.mrt_frame.specs.declared.header.At.{At}
 use Rattle.mrt_frame.specs.declared.header.Header.{Header}
 use Rattle.mrt_frame.specs.Frames.{PassesOver, Passes, FindsNext, StopsWith, record_of}
 use Rattle.mrt_frame.specs.Part.{Skips, TakesHeader}
-use Rattle.mrt_frame.specs.Records.{Record, Cut, End, Ends, Holds, BodyCut, is_read, behind, next_of, cut_within}
+use Rattle.mrt_frame.specs.Kinds.{is_read}
+use Rattle.mrt_frame.specs.Records.{Record, Cut, End, Ends, Holds, BodyCut, behind, next_of, cut_within}
 use Rattle.mrt_frame.proofs.Cuts.{shorter, unrolled}
 
 pub nothing : (at : At) (octets : List ℕ) → Passes at octets at octets

@@ -3,7 +3,8 @@ use Rattle.std.specs.Prelude.{IfNone}
 use Rattle.std.proofs.Math.Path.{ap₂}
 use Rattle.mrt_frame.specs.declared.error.FrameError.{FrameError}
 use Rattle.mrt_frame.specs.declared.header.At.{At}
-use Rattle.mrt_frame.specs.Records.{Record, Well, behind, is_read}
+use Rattle.mrt_frame.specs.Kinds.{is_read}
+use Rattle.mrt_frame.specs.Records.{Record, Well, behind}
 use Rattle.mrt_frame.specs.declared.cursor.Cursor.{Cursor}
 use Rattle.mrt_frame.specs.declared.error.FrameError.TheVariants.{ReadFault}
 use Rattle.mrt_frame.specs.declared.frames.Frames.{Frames}
