@@ -35,7 +35,8 @@ one_next (r ∷ records) [] at octets a o b p first second last also = absurd (n
 one_next (r ∷ records) (q ∷ others) at octets a o b p first second last also =
     let both : Holds q second.0 ≡ Holds r first.0 = sym second.1 ∙ first.1 in
     let more : PassesOver others (behind r) first.0 b p =
-    subst (λ (t : List ℕ). PassesOver others (behind r) t b p) (same_rest q r second.0 first.0 both) (subst (λ (x : Record). PassesOver others (behind x) second.0 b p) (same_record q r second.0 first.0 both) second.3) in
+    subst (λ (t : List ℕ). PassesOver others (behind r) t b p) (same_rest q r second.0 first.0 both)
+    (subst (λ (x : Record). PassesOver others (behind x) second.0 b p) (same_record q r second.0 first.0 both) second.3) in
     one_next records others (behind r) first.0 a o b p first.3 more last also
 
 last_found : (r : Record) (rest : List ℕ) (next : Next) → next ≡ Holds r rest → is_read r.kind r.subtype ≡ true → IsLast next
@@ -153,7 +154,8 @@ conversely result (Some octets) at left knows =
     record { record_is_given = c.record_is_given; end_is_none = c.end_is_none; stop_is_known = c.stop_is_known }
 
 -- an error says of the octets what they say where it knows an end
-pub of_octets : (known : Option End) (before : Option (List ℕ)) (at : At) → IfSome known (λ end. IfSome before (λ octets. StopsWith at octets end)) → IfSome before (λ octets. IfSome known (λ end. StopsWith at octets end))
+pub of_octets : (known : Option End) (before : Option (List ℕ)) (at : At) → IfSome known (λ end. IfSome before (λ octets. StopsWith at octets end))
+    → IfSome before (λ octets. IfSome known (λ end. StopsWith at octets end))
 of_octets None None at h = tt
 of_octets None (Some octets) at h = tt
 of_octets (Some end) None at h = tt

@@ -27,7 +27,7 @@ returns-in_err-advance g c =
     let given = conversely c.from_residual.result before place None (subst (λ (r : Answer). IfSome before (λ octets. Knows r place octets None)) is knows) in
     let moved : HasMoved shelf old (Err e) new = record {
       same_reference = refl;
-      files = facts.files;
+      leaves = record { files = facts.files; later = facts.later; quiet = facts.quiet; failed = λ read. facts.failed (same_error e read); steady = facts.steady };
       stands = tt;
       next = tt;
       rises = tt;
@@ -35,10 +35,6 @@ returns-in_err-advance g c =
       ended = tt;
       at_end = tt;
       broken = broken c.advance.new.self.live e facts.live.0;
-      later = facts.later;
-      quiet = facts.quiet;
-      failed = λ read. facts.failed (same_error e read);
-      steady = facts.steady;
     } in (
       (refl, (λ _. tt), subst (λ (r : Answer). HasMoved shelf old r new) is moved),
       record {
@@ -83,7 +79,7 @@ returns-then-branch g c =
         (λ _. tt),
         record {
           same_reference = refl;
-          files = facts.files;
+          leaves = record { files = facts.files; later = facts.later; quiet = λ _. facts.quiet tt; failed = λ is. absurd cc; steady = facts.steady };
           stands = stands;
           next = facts.next ok ∙ ap behind same;
           rises = omega (arith, ap (λ (a : At). a.offset) (facts.next ok), facts.onward ok);
@@ -91,10 +87,6 @@ returns-then-branch g c =
           ended = tt;
           at_end = tt;
           broken = tt;
-          later = facts.later;
-          quiet = λ _. facts.quiet tt;
-          failed = λ is. absurd cc;
-          steady = facts.steady;
         },
       ),
       record {
@@ -124,7 +116,7 @@ returns-else-branch g c =
         (λ _. tt),
         record {
           same_reference = refl;
-          files = facts.files;
+          leaves = record { files = facts.files; later = facts.later; quiet = λ _. facts.quiet tt; failed = λ is. absurd cc; steady = facts.steady };
           stands = tt;
           next = tt;
           rises = tt;
@@ -132,10 +124,6 @@ returns-else-branch g c =
           ended = not_live c.advance.new.self.live c.in_ok-advance.field-0 c.if-branch.false facts.live.0;
           at_end = facts.at_end no;
           broken = tt;
-          later = facts.later;
-          quiet = λ _. facts.quiet tt;
-          failed = λ is. absurd cc;
-          steady = facts.steady;
         },
       ),
       record {
