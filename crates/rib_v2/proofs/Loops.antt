@@ -15,12 +15,14 @@ none_left : (count i : ℕ) → count ≤ i → count - i ≡ 0
 none_left count i le = omega arith
 
 -- one peer more
-pub peers-step : (count i : ℕ) (bytes rest : List ℕ) (all : Result (List ℕ) RibFault) → i < count → behind_peer bytes ≡ Ok rest → behind_peers (count - i) bytes ≡ all → behind_peers (count - (i + 1)) rest ≡ all
+pub peers-step : (count i : ℕ) (bytes rest : List ℕ) (all : Result (List ℕ) RibFault) → i < count → behind_peer bytes ≡ Ok rest → behind_peers (count - i) bytes ≡ all
+    → behind_peers (count - (i + 1)) rest ≡ all
 unfolding behind_peers
 peers-step count i bytes rest all lt is same =
     sym (ap (λ k. behind_peers k bytes) (one_less count i lt) ∙ ap (λ (r : Result (List ℕ) RibFault). r >>= behind_peers (count - (i + 1))) is) ∙ same
 
-pub peers-fault : (count i : ℕ) (bytes : List ℕ) (fault : RibFault) (all : Result (List ℕ) RibFault) → i < count → behind_peer bytes ≡ Err fault → behind_peers (count - i) bytes ≡ all → all ≡ Err fault
+pub peers-fault : (count i : ℕ) (bytes : List ℕ) (fault : RibFault) (all : Result (List ℕ) RibFault) → i < count → behind_peer bytes ≡ Err fault
+    → behind_peers (count - i) bytes ≡ all → all ≡ Err fault
 unfolding behind_peers
 peers-fault count i bytes fault all lt is same =
     sym same ∙ ap (λ k. behind_peers k bytes) (one_less count i lt) ∙ ap (λ (r : Result (List ℕ) RibFault). r >>= behind_peers (count - (i + 1))) is
