@@ -4,7 +4,7 @@ ghost use Rattle.tor_arena.specs.Distinct.{AllDistinct};
 ghost use Rattle.path_clean.specs.Limits.{max_paths, max_numbers};
 ghost use Rattle.path_clean.specs.Paths.{is_cleaned};
 ghost use Rattle.path_clean.specs.Rows.{paths_of, numbers_in, none_twice};
-ghost use Rattle.path_clean.specs.Table.{place_of, with_path, Names};
+ghost use Rattle.path_clean.specs.Table.{place_of, with_path, Names, IsPathTooMany, HasNumbersTooMany};
 
 use crate::distinct_rows::IndexedPaths;
 use std::alloc::Global;
@@ -85,9 +85,8 @@ impl PathTable {
         ensures added { OnOk result (self.new.rows ≡ with_path self.old.rows path.now) }
         ensures answer { IfOk result (Names self.old.rows path.now) }
         ensures known { IsSome (place_of self.old.rows path.now) → IsOk result }
-        ensures paths { (result ≡ Err AddRefused.TooManyPaths) ↔ ((place_of self.old.rows path.now ≡ None) × (length self.old.rows ≡ self.old.limit)) }
-        ensures numbers { (result ≡ Err AddRefused.TooManyNumbers) ↔ ((place_of self.old.rows path.now ≡ None) × (length self.old.rows < self.old.limit)
-            × (max_numbers < numbers_in self.old.rows + length path.now)) }
+        ensures paths { (result ≡ Err AddRefused.TooManyPaths) ↔ IsPathTooMany self.old path.now }
+        ensures numbers { (result ≡ Err AddRefused.TooManyNumbers) ↔ HasNumbersTooMany self.old path.now }
         ensures limit { self.new.limit ≡ self.old.limit }
         ensures unchanged { OnErr result (self.new.rows ≡ self.old.rows) }
     {

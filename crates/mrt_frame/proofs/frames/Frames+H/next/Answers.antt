@@ -10,7 +10,7 @@ use Rattle.mrt_frame.specs.declared.error.FrameError.TheVariants.{ReadFault}
 use Rattle.mrt_frame.specs.declared.frames.Frames.{Frames}
 use Rattle.mrt_frame.specs.Frames.{FindsNext, StopsWith, IfFault, record_of, end_of_error}
 use Rattle.mrt_frame.specs.Steps.{Answer, HasMoved, seen}
-use Rattle.mrt_frame.proofs.Converse.{Knows, conversely, same_seen, of_octets}
+use Rattle.mrt_frame.proofs.Converse.{Matches, conversely, same_seen, of_octets}
 use Rattle.mrt_frame.proofs.frames.Frames+H.next.Goals as goal
 
 pub returns-in_err-advance : goal.returns-in_err-advance
@@ -23,8 +23,8 @@ returns-in_err-advance g c =
     let place = old.cursor.next in
     let before = shelf.left old.shelf.now in
     let new : Frames g.row.H.Denot Cursor = record { shelf = record old.shelf { now = c.advance.new.shelf }; cursor = c.advance.new.self } in
-    let knows : IfSome before (λ octets. Knows (Err e) place octets None) = of_octets (end_of_error e) before place facts.stopped in
-    let given = conversely c.from_residual.result before place None (subst (λ (r : Answer). IfSome before (λ octets. Knows r place octets None)) is knows) in
+    let matches : IfSome before (λ octets. Matches (Err e) place octets None) = of_octets (end_of_error e) before place facts.stopped in
+    let given = conversely c.from_residual.result before place None (subst (λ (r : Answer). IfSome before (λ octets. Matches r place octets None)) is matches) in
     let moved : HasMoved shelf old (Err e) new = record {
       same_reference = refl;
       leaves = record { files = facts.files; later = facts.later; quiet = facts.quiet; failed = λ read. facts.failed (same_error e read); steady = facts.steady };
@@ -45,7 +45,7 @@ returns-in_err-advance g c =
         stopped = subst (λ (r : Answer). IfFault r (λ end. IfSome before (λ octets. StopsWith place octets end))) is facts.stopped;
         record_is_given = given.record_is_given;
         end_is_none = given.end_is_none;
-        stop_is_known = given.stop_is_known;
+        stop_is_error = given.stop_is_error;
         steady_reads = λ s read. facts.steady_reads s (same_error e (is ∙ read));
       },
     )
@@ -97,7 +97,7 @@ returns-then-branch g c =
         stopped = tt;
         record_is_given = given.record_is_given;
         end_is_none = given.end_is_none;
-        stop_is_known = given.stop_is_known;
+        stop_is_error = given.stop_is_error;
         steady_reads = λ _ is. absurd cc;
       },
     )
@@ -134,7 +134,7 @@ returns-else-branch g c =
         stopped = tt;
         record_is_given = given.record_is_given;
         end_is_none = given.end_is_none;
-        stop_is_known = given.stop_is_known;
+        stop_is_error = given.stop_is_error;
         steady_reads = λ _ is. absurd cc;
       },
     )
