@@ -10,7 +10,7 @@ use Rattle.mrt_frame.specs.Records.{Record, Next, Ends, Holds, Well, HeadCut, To
 use Rattle.mrt_frame.specs.Encoding.{IsHeader, Encodes, IsWithin, IsEnd}
 use Rattle.mrt_frame.proofs.HeaderFields.{fields_of_prefix, fields_of_take}
 
--- this record stands at this place, in prefix of the rest
+-- this record stands at this place, before the rest
 pub record StandsAt (at : At) (octets : List ℕ) (r : Record) (rest : List ℕ) : Type 0 where
   pub placed : r.at ≡ at
   pub within : IsWithin r

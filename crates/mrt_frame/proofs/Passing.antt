@@ -14,7 +14,7 @@ use Rattle.mrt_frame.proofs.Cuts.{shorter, unrolled}
 pub nothing : (at : At) (octets : List ℕ) → Passes at octets at octets
 nothing at octets = ([], (refl, refl))
 
--- one record more in prefix
+-- one record more before them
 pub one_more : (at : At) (octets : List ℕ) (r : Record) (rest : List ℕ) (place : At) (reached : List ℕ) → next_of at octets ≡ Holds r rest → is_read r.kind r.subtype ≡ false
     → Passes (behind r) rest place reached → Passes at octets place reached
 one_more at octets r rest place reached is not p = (r ∷ p.0, (rest, is, not, p.1))
@@ -36,9 +36,9 @@ abbrev pub NoneIsRead : List Record → Type 0
 NoneIsRead [] = Unit {0}
 NoneIsRead (r ∷ records) = (is_read r.kind r.subtype ≡ false) × NoneIsRead records
 
--- records in prefix of those of a cut
-abbrev pub in_prefix : List Record → Cut → Cut
-in_prefix records c = record { records = records ++ c.records; end = c.end }
+-- records before those of a cut
+abbrev pub with_before : List Record → Cut → Cut
+with_before records c = record { records = records ++ c.records; end = c.end }
 
 -- a cut list begins with the records that are passed over, and goes on from behind them
 pub record GoesOn (fuel : ℕ) (at : At) (octets : List ℕ) (place : At) (reached : List ℕ) : Type 0 where
@@ -46,7 +46,7 @@ pub record GoesOn (fuel : ℕ) (at : At) (octets : List ℕ) (place : At) (reach
   pub none : NoneIsRead records
   pub fuel_left : ℕ
   pub enough : length reached ≤ fuel_left
-  pub same : cut_within fuel at octets ≡ in_prefix records (cut_within fuel_left place reached)
+  pub same : cut_within fuel at octets ≡ with_before records (cut_within fuel_left place reached)
 
 over : (records : List Record) (fuel : ℕ) (at : At) (octets : List ℕ) (place : At) (reached : List ℕ) → PassesOver records at octets place reached → length octets ≤ fuel
     → GoesOn fuel at octets place reached
