@@ -12,10 +12,10 @@ use Rattle.path_clean.specs.declared.cleaned.Sets.{Sets}
 use Rattle.path_clean.specs.declared.cleaned.Sets.TheVariants as sets
 use Rattle.path_clean.specs.declared.cleaned.Cause.{Cause}
 use Rattle.path_clean.specs.declared.cleaned.Cause.TheVariants as cause
-use Rattle.result_text.specs.declared.file.Fate.{Fate}
-use Rattle.result_text.specs.declared.file.Fate.TheVariants as fate
-use Rattle.result_text.specs.declared.file.EdgeMark.{EdgeMark}
-use Rattle.result_text.specs.declared.file.EdgeMark.TheVariants as mark
+use Rattle.relationships.specs.declared.fate.Fate.{Fate}
+use Rattle.relationships.specs.declared.fate.Fate.TheVariants as fate
+use Rattle.relationships.specs.declared.mark.Mark.{Mark}
+use Rattle.relationships.specs.declared.mark.Mark.TheVariants as mark
 use Rattle.result_text.specs.declared.line.Line.{Line}
 use Rattle.result_text.specs.declared.line.Line.TheVariants as line
 use Rattle.result_text.specs.Text.{fields, numbers, link, links, spaced, others, sets_name, cause_name, label_name, mark_name, path_fields, fields_of, line_text, text_of_lines}
@@ -87,7 +87,7 @@ feedless_label label.Low = refl
 feedless_label label.High = refl
 feedless_label label.Peer = refl
 
-feedless_mark : (m : EdgeMark) → feedless (mark_name m) ≡ true
+feedless_mark : (m : Mark) → feedless (mark_name m) ≡ true
 feedless_mark mark.Forced = refl
 feedless_mark mark.Loose = refl
 

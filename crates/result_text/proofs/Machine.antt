@@ -9,7 +9,7 @@ use Rattle.path_clean.specs.Counts.{Counts}
 use Rattle.result_text.specs.declared.file.ResultFile.{ResultFile}
 use Rattle.result_text.specs.declared.file.PathLine.{PathLine}
 use Rattle.result_text.specs.declared.file.EdgeLine.{EdgeLine}
-use Rattle.result_text.specs.declared.file.ProbeLine.{ProbeLine}
+use Rattle.relationships.specs.declared.mark.Probe.{Probe}
 use Rattle.result_text.specs.declared.file.Totals.{Totals}
 use Rattle.relationships.specs.declared.walk.Walk.{Walk}
 use Rattle.result_text.specs.declared.line.Line.{Line}
@@ -91,13 +91,13 @@ whys_run d (w ∷ ws) more t =
     let one : run d (line.Why w ∷ (map (λ w. line.Why w) ws ++ more)) ≡ run (record d { place = place.Whys; whys = d.whys ++ w ∷ [] }) (map (λ w. line.Why w) ws ++ more) = rw t refl in
     (next.0, next.1, one ∙ next.2 ∙ ap (λ (xs : List Walk). run (record d { place = next.0; whys = xs }) more) (append_assoc d.whys (w ∷ []) ws))
 
-probes_run : (d : Draft) (ps : List ProbeLine) (more : List Line) → takes_probe d.place ≡ true
+probes_run : (d : Draft) (ps : List Probe) (more : List Line) → takes_probe d.place ≡ true
     → (q : Place) × (takes_probe q ≡ true) × (run d (map (λ p. line.Probe p) ps ++ more) ≡ run (record d { place = q; probes = d.probes ++ ps }) more)
-probes_run d [] more t = (d.place, t, ap (λ (ps : List ProbeLine). run (record d { probes = ps }) more) (sym (append-nil d.probes)))
+probes_run d [] more t = (d.place, t, ap (λ (ps : List Probe). run (record d { probes = ps }) more) (sym (append-nil d.probes)))
 probes_run d (p ∷ ps) more t =
     let next = probes_run (record d { place = place.Probes; probes = d.probes ++ p ∷ [] }) ps more refl in
     let one : run d (line.Probe p ∷ (map (λ p. line.Probe p) ps ++ more)) ≡ run (record d { place = place.Probes; probes = d.probes ++ p ∷ [] }) (map (λ p. line.Probe p) ps ++ more) = rw t refl in
-    (next.0, next.1, one ∙ next.2 ∙ ap (λ (xs : List ProbeLine). run (record d { place = next.0; probes = xs }) more) (append_assoc d.probes (p ∷ []) ps))
+    (next.0, next.1, one ∙ next.2 ∙ ap (λ (xs : List Probe). run (record d { place = next.0; probes = xs }) more) (append_assoc d.probes (p ∷ []) ps))
 
 -- where the ten first lines are read
 headed : ResultFile → Draft
@@ -139,7 +139,7 @@ runs_to_end f =
 -- ---- what is read so far
 
 -- the lines of the sections
-abbrev pub sections : List PathLine → List EdgeLine → List Walk → List ProbeLine → List Line
+abbrev pub sections : List PathLine → List EdgeLine → List Walk → List Probe → List Line
 sections ps es ws os = map (λ p. line.Path p) ps ++ (map (λ e. line.Edge e) es ++ (map (λ w. line.Why w) ws ++ map (λ p. line.Probe p) os))
 
 abbrev pub sections_of : Draft → List Line
@@ -177,16 +177,16 @@ Placed-elsewhere place.End q d h = h
 pub no_sections : (d : Draft) → d.paths ≡ [] → d.edges ≡ [] → d.whys ≡ [] → d.probes ≡ [] → sections_of d ≡ []
 no_sections d p e w o = rw (p, e, w, o) refl
 
-path_section : (ps : List PathLine) (es : List EdgeLine) (ws : List Walk) (os : List ProbeLine) (x : PathLine) → es ≡ [] → ws ≡ [] → os ≡ [] → sections (ps ++ x ∷ []) es ws os ≡ sections ps es ws os ++ line.Path x ∷ []
+path_section : (ps : List PathLine) (es : List EdgeLine) (ws : List Walk) (os : List Probe) (x : PathLine) → es ≡ [] → ws ≡ [] → os ≡ [] → sections (ps ++ x ∷ []) es ws os ≡ sections ps es ws os ++ line.Path x ∷ []
 path_section ps es ws os x e w o = rw (e, w, o) (append-nil (map (λ p. line.Path p) (ps ++ x ∷ [])) ∙ map_push (λ p. line.Path p) ps x ∙ ap (λ (ls : List Line). ls ++ line.Path x ∷ []) (sym (append-nil (map (λ p. line.Path p) ps))))
 
-edge_section : (ps : List PathLine) (es : List EdgeLine) (ws : List Walk) (os : List ProbeLine) (x : EdgeLine) → ws ≡ [] → os ≡ [] → sections ps (es ++ x ∷ []) ws os ≡ sections ps es ws os ++ line.Edge x ∷ []
+edge_section : (ps : List PathLine) (es : List EdgeLine) (ws : List Walk) (os : List Probe) (x : EdgeLine) → ws ≡ [] → os ≡ [] → sections ps (es ++ x ∷ []) ws os ≡ sections ps es ws os ++ line.Edge x ∷ []
 edge_section ps es ws os x w o =
     let a = map (λ p. line.Path p) ps in
     rw (w, o) (ap (λ (ls : List Line). a ++ ls) (append-nil (map (λ e. line.Edge e) (es ++ x ∷ [])) ∙ map_push (λ e. line.Edge e) es x ∙ ap (λ (ls : List Line). ls ++ line.Edge x ∷ []) (sym (append-nil (map (λ e. line.Edge e) es))))
     ∙ sym (append_assoc a (map (λ e. line.Edge e) es ++ []) (line.Edge x ∷ [])))
 
-why_section : (ps : List PathLine) (es : List EdgeLine) (ws : List Walk) (os : List ProbeLine) (x : Walk) → os ≡ [] → sections ps es (ws ++ x ∷ []) os ≡ sections ps es ws os ++ line.Why x ∷ []
+why_section : (ps : List PathLine) (es : List EdgeLine) (ws : List Walk) (os : List Probe) (x : Walk) → os ≡ [] → sections ps es (ws ++ x ∷ []) os ≡ sections ps es ws os ++ line.Why x ∷ []
 why_section ps es ws os x o =
     let a = map (λ p. line.Path p) ps in
     let b = map (λ e. line.Edge e) es in
@@ -197,7 +197,7 @@ why_section ps es ws os x o =
     two : (a b c d : List Line) → a ++ (b ++ (c ++ d)) ≡ (a ++ (b ++ c)) ++ d
     two a b c d = simp append_assoc
 
-probe_section : (ps : List PathLine) (es : List EdgeLine) (ws : List Walk) (os : List ProbeLine) (x : ProbeLine) → sections ps es ws (os ++ x ∷ []) ≡ sections ps es ws os ++ line.Probe x ∷ []
+probe_section : (ps : List PathLine) (es : List EdgeLine) (ws : List Walk) (os : List Probe) (x : Probe) → sections ps es ws (os ++ x ∷ []) ≡ sections ps es ws os ++ line.Probe x ∷ []
 probe_section ps es ws os x =
     let a = map (λ p. line.Path p) ps in
     let b = map (λ e. line.Edge e) es in
@@ -360,10 +360,10 @@ why_stepped place.Whys d x t h seven = record { seven = seven; placed = h; more 
 why_stepped place.Probes d x t h seven = absurd cc
 why_stepped place.End d x t h seven = absurd cc
 
-probe_added : (d : Draft) (x : ProbeLine) → sofar (record d { place = place.Probes; probes = d.probes ++ x ∷ [] }) ≡ sofar (record d { place = place.Probes }) ++ line.Probe x ∷ []
+probe_added : (d : Draft) (x : Probe) → sofar (record d { place = place.Probes; probes = d.probes ++ x ∷ [] }) ≡ sofar (record d { place = place.Probes }) ++ line.Probe x ∷ []
 probe_added d x = body_more (head_lines (file_of d)) (sections_of d) (sections d.paths d.edges d.whys (d.probes ++ x ∷ [])) (line.Probe x) (probe_section d.paths d.edges d.whys d.probes x)
 
-probe_stepped : (p : Place) (d : Draft) (x : ProbeLine) → takes_probe p ≡ true → Placed p d → length d.counts ≡ 7 → Stepped (record d { place = p }) (record d { place = place.Probes; probes = d.probes ++ x ∷ [] }) (line.Probe x)
+probe_stepped : (p : Place) (d : Draft) (x : Probe) → takes_probe p ≡ true → Placed p d → length d.counts ≡ 7 → Stepped (record d { place = p }) (record d { place = place.Probes; probes = d.probes ++ x ∷ [] }) (line.Probe x)
 probe_stepped (place.Head n) d x t h seven = absurd cc
 probe_stepped place.Paths d x t h seven = record { seven = seven; placed = tt; more = probe_added d x }
 probe_stepped place.Edges d x t h seven = record { seven = seven; placed = tt; more = probe_added d x }

@@ -7,8 +7,8 @@ use Rattle.relationships.specs.declared.walk.Walk.{Walk}
 use Rattle.path_clean.specs.declared.cleaned.Sets.TheVariants as sets
 use Rattle.path_clean.specs.declared.cleaned.Cause.TheVariants as cause
 use Rattle.path_clean.specs.Counts.{no_counts}
-use Rattle.result_text.specs.declared.file.Fate.TheVariants as fate
-use Rattle.result_text.specs.declared.file.EdgeMark.TheVariants as mark
+use Rattle.relationships.specs.declared.fate.Fate.TheVariants as fate
+use Rattle.relationships.specs.declared.mark.Mark.TheVariants as mark
 use Rattle.result_text.specs.declared.file.PathLine.{PathLine}
 use Rattle.result_text.specs.declared.file.EdgeLine.{EdgeLine}
 use Rattle.result_text.specs.declared.file.Totals.{Totals}

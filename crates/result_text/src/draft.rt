@@ -3,11 +3,11 @@ ghost use Rattle.result_text.specs.declared.line.Line.TheVariants as line;
 ghost use Rattle.result_text.specs.Order.{cause_index, is_head, after_head, takes_path, takes_edge, takes_why, takes_probe, pass_head, step, Steps, start, finished};
 
 use crate::error::LineError;
-use crate::file::{EdgeLine, PathLine, ProbeLine, ResultFile, Totals};
+use crate::file::{EdgeLine, PathLine, ResultFile, Totals};
 use crate::line::Line;
 use path_clean::{Asides, Cause, Sets};
 use std::alloc::Global;
-use relationships::Walk;
+use relationships::{Probe, Walk};
 use tor_arena::List;
 
 /// What may come next in a text.
@@ -37,7 +37,7 @@ pub struct Draft {
     pub paths: List<PathLine>,
     pub edges: List<EdgeLine>,
     pub whys: List<Walk>,
-    pub probes: List<ProbeLine>,
+    pub probes: List<Probe>,
     pub totals: Totals,
 }
 
@@ -214,7 +214,7 @@ impl Draft {
         Ok(())
     }
 
-    fn add_probe(&mut self, probe: ProbeLine) -> Result<(), LineError>
+    fn add_probe(&mut self, probe: Probe) -> Result<(), LineError>
         ensures { Steps result self.new (step self.old (line.Probe probe)) }
     {
         if !self.place.takes_probe() {
