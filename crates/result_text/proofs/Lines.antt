@@ -77,7 +77,9 @@ sets_reads = record { takes = λ bytes x e. (tt, sets_takes bytes x e); again = 
 
 cause_takes : (bytes : List ℕ) (x : Cause × List ℕ) → cause_at bytes ≡ Some x → bytes ≡ with cause_name 124 x.0 ++ x.1
 unfolding cause_at
-cause_takes bytes x e = names_take (with cause_name 124) ((codes "nopath|", cause.NoPath) ∷ (codes "badsegments|", cause.BadSegments) ∷ (codes "confed|", cause.Confed) ∷ (codes "sets|", cause.Sets) ∷ (codes "reserved|", cause.Reserved) ∷ (codes "loop|", cause.Loop) ∷ (codes "short|", cause.Short) ∷ []) bytes x (refl, (refl, (refl, (refl, (refl, (refl, (refl, tt))))))) e
+cause_takes bytes x e = names_take (with cause_name 124) ((codes "nopath|", cause.NoPath) ∷ (codes "badsegments|", cause.BadSegments) ∷ (codes "confed|", cause.Confed) ∷
+    (codes "sets|", cause.Sets) ∷ (codes "reserved|", cause.Reserved) ∷ (codes "loop|", cause.Loop) ∷ (codes "short|", cause.Short) ∷ []) bytes x
+    (refl, (refl, (refl, (refl, (refl, (refl, (refl, tt))))))) e
 
 cause_again : (x : Cause) (rest : List ℕ) → cause_at (with cause_name 124 x ++ rest) ≡ Some (x, rest)
 unfolding cause_at
@@ -126,7 +128,8 @@ walk_reads : Reads Walk WalkFits walk_text walk_at
 unfolding walk_at
 walk_reads =
     let parts = both_reads (List ℕ) (List Link) AreU32 (AllByRecursion LinkFits) (with numbers 124) (with links 10) (before 124 (list_at u32_at)) (before 10 (list_at link_at)) numbers_bar links_end in
-    let whole = mapped_reads (List ℕ × List Link) Walk (λ z. AreU32 z.0 × AllByRecursion LinkFits z.1) (λ z. with numbers 124 z.0 ++ with links 10 z.1) (both (before 124 (list_at u32_at)) (before 10 (list_at link_at))) walk_from parts in
+    let whole = mapped_reads (List ℕ × List Link) Walk (λ z. AreU32 z.0 × AllByRecursion LinkFits z.1) (λ z. with numbers 124 z.0 ++ with links 10 z.1)
+    (both (before 124 (list_at u32_at)) (before 10 (list_at link_at))) walk_from parts in
     record {
       takes = λ bytes w e.
           let t = whole.takes bytes w e in
@@ -194,9 +197,11 @@ lost_line : ReadsLine (ℕ × (List ℕ × Walk)) (codes "lost|") lost_from (Bot
 unfolding lost_at line_text
 lost_line =
     let second = both_reads (List ℕ) Walk AreU32 WalkFits (with numbers 124) walk_text (before 124 (list_at u32_at)) walk_at numbers_bar walk_reads in
-    let parts = both_reads ℕ (List ℕ × Walk) IsU64 (Both AreU32 WalkFits) (with decimal 124) (then (with numbers 124) walk_text) (before 124 u64_at) (both (before 124 (list_at u32_at)) walk_at) u64_bar second in
+    let parts = both_reads ℕ (List ℕ × Walk) IsU64 (Both AreU32 WalkFits) (with decimal 124) (then (with numbers 124) walk_text) (before 124 u64_at)
+    (both (before 124 (list_at u32_at)) walk_at) u64_bar second in
     record {
-      reads = mapped_reads (ℕ × (List ℕ × Walk)) Line (Both IsU64 (Both AreU32 WalkFits)) (then (with decimal 124) (then (with numbers 124) walk_text)) (both (before 124 u64_at) (both (before 124 (list_at u32_at)) walk_at)) lost_from parts;
+      reads = mapped_reads (ℕ × (List ℕ × Walk)) Line (Both IsU64 (Both AreU32 WalkFits)) (then (with decimal 124) (then (with numbers 124) walk_text))
+          (both (before 124 u64_at) (both (before 124 (list_at u32_at)) walk_at)) lost_from parts;
       text = λ z. simp append_assoc;
       fits = λ z h. (h.0, h.1.0, h.1.1);
     }
@@ -207,10 +212,15 @@ unfolding edge_at line_text
 edge_line =
     let r4 = both_reads Mark ℕ Any IsU64 (with mark_name 124) (with decimal 10) mark_at (before 10 u64_at) mark_reads u64_end in
     let r3 = both_reads Label (Mark × ℕ) Any (Both Any IsU64) (with label_name 124) (then (with mark_name 124) (with decimal 10)) label_at (both mark_at (before 10 u64_at)) label_reads r4 in
-    let r2 = both_reads ℕ (Label × (Mark × ℕ)) IsU32 (Both Any (Both Any IsU64)) (with decimal 124) (then (with label_name 124) (then (with mark_name 124) (with decimal 10))) (before 124 u32_at) (both label_at (both mark_at (before 10 u64_at))) u32_bar r3 in
-    let r1 = both_reads ℕ (ℕ × (Label × (Mark × ℕ))) IsU32 (Both IsU32 (Both Any (Both Any IsU64))) (with decimal 124) (then (with decimal 124) (then (with label_name 124) (then (with mark_name 124) (with decimal 10)))) (before 124 u32_at) (both (before 124 u32_at) (both label_at (both mark_at (before 10 u64_at)))) u32_bar r2 in
+    let r2 = both_reads ℕ (Label × (Mark × ℕ)) IsU32 (Both Any (Both Any IsU64)) (with decimal 124)
+    (then (with label_name 124) (then (with mark_name 124) (with decimal 10))) (before 124 u32_at) (both label_at (both mark_at (before 10 u64_at))) u32_bar r3 in
+    let r1 = both_reads ℕ (ℕ × (Label × (Mark × ℕ))) IsU32 (Both IsU32 (Both Any (Both Any IsU64))) (with decimal 124)
+    (then (with decimal 124) (then (with label_name 124) (then (with mark_name 124) (with decimal 10)))) (before 124 u32_at)
+    (both (before 124 u32_at) (both label_at (both mark_at (before 10 u64_at)))) u32_bar r2 in
     record {
-      reads = mapped_reads (ℕ × (ℕ × (Label × (Mark × ℕ)))) Line (Both IsU32 (Both IsU32 (Both Any (Both Any IsU64)))) (then (with decimal 124) (then (with decimal 124) (then (with label_name 124) (then (with mark_name 124) (with decimal 10))))) (both (before 124 u32_at) (both (before 124 u32_at) (both label_at (both mark_at (before 10 u64_at))))) edge_from r1;
+      reads = mapped_reads (ℕ × (ℕ × (Label × (Mark × ℕ)))) Line (Both IsU32 (Both IsU32 (Both Any (Both Any IsU64))))
+          (then (with decimal 124) (then (with decimal 124) (then (with label_name 124) (then (with mark_name 124) (with decimal 10)))))
+          (both (before 124 u32_at) (both (before 124 u32_at) (both label_at (both mark_at (before 10 u64_at))))) edge_from r1;
       text = λ z. simp append_assoc;
       fits = λ z h. (h.0, h.1.0, h.1.1.1.1);
     }
@@ -234,11 +244,17 @@ end_line : ReadsLine (ℕ × (ℕ × (ℕ × (ℕ × ℕ)))) (codes "end|") end_
 unfolding end_at line_text
 end_line =
     let r4 = both_reads ℕ ℕ IsU64 IsU64 (with decimal 124) (with decimal 10) (before 124 u64_at) (before 10 u64_at) u64_bar u64_end in
-    let r3 = both_reads ℕ (ℕ × ℕ) IsU64 (Both IsU64 IsU64) (with decimal 124) (then (with decimal 124) (with decimal 10)) (before 124 u64_at) (both (before 124 u64_at) (before 10 u64_at)) u64_bar r4 in
-    let r2 = both_reads ℕ (ℕ × (ℕ × ℕ)) IsU64 (Both IsU64 (Both IsU64 IsU64)) (with decimal 124) (then (with decimal 124) (then (with decimal 124) (with decimal 10))) (before 124 u64_at) (both (before 124 u64_at) (both (before 124 u64_at) (before 10 u64_at))) u64_bar r3 in
-    let r1 = both_reads ℕ (ℕ × (ℕ × (ℕ × ℕ))) IsU64 (Both IsU64 (Both IsU64 (Both IsU64 IsU64))) (with decimal 124) (then (with decimal 124) (then (with decimal 124) (then (with decimal 124) (with decimal 10)))) (before 124 u64_at) (both (before 124 u64_at) (both (before 124 u64_at) (both (before 124 u64_at) (before 10 u64_at)))) u64_bar r2 in
+    let r3 = both_reads ℕ (ℕ × ℕ) IsU64 (Both IsU64 IsU64) (with decimal 124) (then (with decimal 124) (with decimal 10)) (before 124 u64_at)
+    (both (before 124 u64_at) (before 10 u64_at)) u64_bar r4 in
+    let r2 = both_reads ℕ (ℕ × (ℕ × ℕ)) IsU64 (Both IsU64 (Both IsU64 IsU64)) (with decimal 124) (then (with decimal 124) (then (with decimal 124) (with decimal 10)))
+    (before 124 u64_at) (both (before 124 u64_at) (both (before 124 u64_at) (before 10 u64_at))) u64_bar r3 in
+    let r1 = both_reads ℕ (ℕ × (ℕ × (ℕ × ℕ))) IsU64 (Both IsU64 (Both IsU64 (Both IsU64 IsU64))) (with decimal 124)
+    (then (with decimal 124) (then (with decimal 124) (then (with decimal 124) (with decimal 10)))) (before 124 u64_at)
+    (both (before 124 u64_at) (both (before 124 u64_at) (both (before 124 u64_at) (before 10 u64_at)))) u64_bar r2 in
     record {
-      reads = mapped_reads (ℕ × (ℕ × (ℕ × (ℕ × ℕ)))) Line (Both IsU64 (Both IsU64 (Both IsU64 (Both IsU64 IsU64)))) (then (with decimal 124) (then (with decimal 124) (then (with decimal 124) (then (with decimal 124) (with decimal 10))))) (both (before 124 u64_at) (both (before 124 u64_at) (both (before 124 u64_at) (both (before 124 u64_at) (before 10 u64_at))))) end_from r1;
+      reads = mapped_reads (ℕ × (ℕ × (ℕ × (ℕ × ℕ)))) Line (Both IsU64 (Both IsU64 (Both IsU64 (Both IsU64 IsU64))))
+          (then (with decimal 124) (then (with decimal 124) (then (with decimal 124) (then (with decimal 124) (with decimal 10)))))
+          (both (before 124 u64_at) (both (before 124 u64_at) (both (before 124 u64_at) (both (before 124 u64_at) (before 10 u64_at))))) end_from r1;
       text = λ z. simp append_assoc;
       fits = λ z h. (h.0, h.1.0, h.1.1.0, h.1.1.1.0, h.1.1.1.1);
     }

@@ -71,7 +71,8 @@ empty_walk_text : line_text (line.Why (record { ases = []; links = [] })) ≡ co
 unfolding line_text
 empty_walk_text = refl
 
-forced_text : line_text (line.Edge (record { low = 1; high = 4294967295; label = label.High; mark = mark.Forced; support = 18446744073709551615 })) ≡ codes "edge|1|4294967295|high|forced|18446744073709551615\n"
+forced_text : line_text (line.Edge (record { low = 1; high = 4294967295; label = label.High; mark = mark.Forced; support = 18446744073709551615 })) ≡ codes
+    "edge|1|4294967295|high|forced|18446744073709551615\n"
 unfolding line_text digits
 forced_text = refl
 

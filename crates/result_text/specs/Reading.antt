@@ -136,14 +136,14 @@ sets_at bytes = name_at ((codes "cut\n", sets.Cut) ∷ (codes "skip\n", sets.Ski
 unfoldable pub cause_at : List ℕ → Option (Cause × List ℕ)
 cause_at bytes =
     name_at (
-      (codes "nopath|", cause.NoPath)
-      ∷ (codes "badsegments|", cause.BadSegments)
-      ∷ (codes "confed|", cause.Confed)
-      ∷ (codes "sets|", cause.Sets)
-      ∷ (codes "reserved|", cause.Reserved)
-      ∷ (codes "loop|", cause.Loop)
-      ∷ (codes "short|", cause.Short)
-      ∷ []) bytes
+    (codes "nopath|", cause.NoPath)
+    ∷ (codes "badsegments|", cause.BadSegments)
+    ∷ (codes "confed|", cause.Confed)
+    ∷ (codes "sets|", cause.Sets)
+    ∷ (codes "reserved|", cause.Reserved)
+    ∷ (codes "loop|", cause.Loop)
+    ∷ (codes "short|", cause.Short)
+    ∷ []) bytes
 
 unfoldable pub label_at : List ℕ → Option (Label × List ℕ)
 label_at bytes = name_at ((codes "low|", label.Low) ∷ (codes "high|", label.High) ∷ (codes "peer|", label.Peer) ∷ []) bytes

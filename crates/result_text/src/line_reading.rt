@@ -8,8 +8,8 @@ use crate::file::{EdgeLine, PathLine, Totals};
 use crate::line::Line;
 use crate::reading::{after, links_before, numbers_before, u32_before, u64_before};
 use path_clean::{Cause, Sets};
-use std::alloc::Global;
 use relationships::{Fate, Label, Mark, Probe, Walk};
+use std::alloc::Global;
 
 // How sets were treated, and the line feed.
 #[tactic(auto, unfolding(crate::specs::Reading::sets_at))]

@@ -9,8 +9,8 @@ ghost use Rattle.result_text.specs.Text.{text, text_of_lines, line_text, sets_na
 use crate::file::{EdgeLine, PathLine, ResultFile, Totals};
 use crate::numbers::{put_links, put_number, put_numbers};
 use path_clean::{Asides, Cause, Sets};
-use std::alloc::Global;
 use relationships::{Fate, Label, Mark, Probe, Walk};
+use std::alloc::Global;
 use tor_arena::{List, NoMemory};
 
 // Each function puts something at the end, lines with their line feed.

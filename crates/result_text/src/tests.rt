@@ -1,11 +1,11 @@
 use crate::{
-    EdgeLine, Mark, Fate, ParseError, PathLine, Probe, ResultFile, Totals, parse,
-    parse_printed, print, print_parsed,
+    EdgeLine, Fate, Mark, ParseError, PathLine, Probe, ResultFile, Totals, parse, parse_printed,
+    print, print_parsed,
 };
 use path_clean::{Asides, Sets};
+use relationships::{Label, Link, Walk};
 use std::alloc::Global;
 use std::test::Fail;
-use relationships::{Label, Link, Walk};
 use tor_arena::{List, NoMemory};
 
 /// A text in two pieces, and its bad line, if it has one.
