@@ -4,7 +4,7 @@ use Rattle.tor_arena.specs.declared.memory.NoMemory.{NoMemory}
 use Rattle.result_text.specs.declared.file.ResultFile.{ResultFile}
 use Rattle.rel_checker.specs.declared.answer.Answer.{Answer}
 use Rattle.rel_checker.specs.declared.answer.Answer.TheVariants.{Yes}
-use Rattle.rel_checker.specs.Rules.{LostRefuted, OrdersShown, MarksBorneOut}
+use Rattle.rel_checker.specs.declared.rule.Rule.TheVariants.{LostRefuted, OrdersShown, MarksBorneOut}
 use Rattle.rel_checker.specs.Steps.{Settles}
 use Rattle.rel_checker.specs.Valid.{Valid, AcceptanceLaw}
 use Rattle.rel_checker.specs.Verdict.{Judges}

@@ -14,13 +14,15 @@ use Rattle.relationships.specs.Checking.{Claim, LostAreRefuted, IsBorneOut, Prob
 use Rattle.relationships.proofs.Walks.{refuting_law}
 use Rattle.relationships.proofs.Checked.{graph_rules_law}
 use Rattle.path_clean.proofs.GraphPaths.{apart_if_cleaned}
-use Rattle.result_text.specs.declared.file.Fate.{Fate}
-use Rattle.result_text.specs.declared.file.Fate.TheVariants.{Kept, Lost}
+use Rattle.relationships.specs.declared.fate.Fate.{Fate}
+use Rattle.relationships.specs.declared.fate.Fate.TheVariants.{Kept, Lost}
 use Rattle.result_text.specs.declared.file.PathLine.{PathLine}
 use Rattle.result_text.specs.declared.file.EdgeLine.{EdgeLine}
 use Rattle.result_text.specs.declared.file.ResultFile.{ResultFile}
-use Rattle.rel_checker.specs.File.{its_paths, its_walks, walk_of, kept_before, its_kept, claim_of, its_claims, its_edges, its_labels, orders_of, its_probes}
-use Rattle.rel_checker.specs.Rules.{Accepts, PathsCleaned, LostRefuted, EdgesListed, KeptValleyFree, IsMet}
+use Rattle.relationships.specs.Fates.{walk_of}
+use Rattle.rel_checker.specs.File.{its_paths, its_walks, kept_before, its_kept, claim_on, its_claims, its_edges, its_labels, shown_orders, its_probes}
+use Rattle.rel_checker.specs.declared.rule.Rule.TheVariants.{PathsCleaned, LostRefuted, EdgesListed, KeptValleyFree}
+use Rattle.rel_checker.specs.Rules.{Accepts, IsMet}
 use Rattle.rel_checker.specs.Valid.{Valid}
 
 -- ---- lists, place by place
@@ -89,14 +91,14 @@ module _ (file : ResultFile) where
       refuting_law (kept_before file k ++ (k + 1, line.path) ∷ []) walk (met k (slice_get_within file.paths k line at) line at walk is) s.0
       (subst (Serves s.0) (sym same) s.1)
 
-claim_at : (lines : List EdgeLine) (line : EdgeLine) (k : ℕ) → k < length lines → get_or lines k line ≡ line → Contains (map claim_of lines) (claim_of line)
+claim_at : (lines : List EdgeLine) (line : EdgeLine) (k : ℕ) → k < length lines → get_or lines k line ≡ line → Contains (map claim_on lines) (claim_on line)
 claim_at [] line k lt e = absurd (omega arith)
-claim_at (other ∷ lines) line zero lt e = (0, omega arith, ap claim_of e)
+claim_at (other ∷ lines) line zero lt e = (0, omega arith, ap claim_on e)
 claim_at (other ∷ lines) line (suc k) lt e = let r = claim_at lines line k (omega arith) e in (suc r.0, omega (arith, r.1), r.2)
 
 -- the rules on the graph, from the rules line by line
-pub graph_rules : (file : ResultFile) → Accepts file → LostAreRefuted (its_paths file) (its_walks file) → Show (its_kept file) file.whys (orders_of file.whys) →
-    All (IsBorneOut (paths_of (its_kept file)) (orders_of file.whys) (its_probes file)) (its_claims file) →
+pub graph_rules : (file : ResultFile) → Accepts file → LostAreRefuted (its_paths file) (its_walks file) → Show (its_kept file) file.whys (shown_orders file.whys) →
+    All (IsBorneOut (paths_of (its_kept file)) (shown_orders file.whys) (its_probes file)) (its_claims file) →
     ProbesFrom (paths_of (its_kept file)) (its_claims file) [] (its_probes file) →
     MeetsGraphRules (its_paths file) (its_walks file) (its_claims file) file.whys (its_probes file)
 graph_rules file accepts lost shown marks probes = record {
@@ -104,15 +106,15 @@ graph_rules file accepts lost shown marks probes = record {
   lost = lost;
   each_edge = same_pairs file.edges ∙ edges_listed file (accepts EdgesListed);
   valley_free = kept_valley_free file (accepts KeptValleyFree);
-  marks = record { orders = orders_of file.whys; shown = shown; marks = marks; probes_serve = probes };
+  marks = record { orders = shown_orders file.whys; shown = shown; marks = marks; probes_serve = probes };
 }
   where
-    same_pairs : (lines : List EdgeLine) → map {B = Edge} (λ (c : Claim). (c.low, c.high)) (map claim_of lines) ≡ map {B = Edge} (λ (e : EdgeLine). (e.low, e.high)) lines
+    same_pairs : (lines : List EdgeLine) → map {B = Edge} (λ (c : Claim). (c.low, c.high)) (map claim_on lines) ≡ map {B = Edge} (λ (e : EdgeLine). (e.low, e.high)) lines
     same_pairs [] = refl
     same_pairs (line ∷ lines) = ap (λ (es : List Edge). (line.low, line.high) ∷ es) (same_pairs lines)
 
-pub valid : (file : ResultFile) → Accepts file → LostAreRefuted (its_paths file) (its_walks file) → Show (its_kept file) file.whys (orders_of file.whys) →
-    All (IsBorneOut (paths_of (its_kept file)) (orders_of file.whys) (its_probes file)) (its_claims file) →
+pub valid : (file : ResultFile) → Accepts file → LostAreRefuted (its_paths file) (its_walks file) → Show (its_kept file) file.whys (shown_orders file.whys) →
+    All (IsBorneOut (paths_of (its_kept file)) (shown_orders file.whys) (its_probes file)) (its_claims file) →
     ProbesFrom (paths_of (its_kept file)) (its_claims file) [] (its_probes file) → Valid file
 valid file accepts lost shown marks probes =
     let law = graph_rules_law (its_paths file) (its_walks file) (its_claims file) file.whys (its_probes file) (graph_rules file accepts lost shown marks probes) in
@@ -120,6 +122,6 @@ valid file accepts lost shown marks probes =
       valley_free = kept_valley_free file (accepts KeptValleyFree);
       lost = lost_unserved file (accepts LostRefuted);
       kept = law.0;
-      forced = λ line i. law.1 (claim_of line) (claim_at file.edges line i.0 i.1 i.2);
-      no_peering = λ line i. law.2 (claim_of line) (claim_at file.edges line i.0 i.1 i.2);
+      forced = λ line i. law.1 (claim_on line) (claim_at file.edges line i.0 i.1 i.2);
+      no_peering = λ line i. law.2 (claim_on line) (claim_at file.edges line i.0 i.1 i.2);
     }

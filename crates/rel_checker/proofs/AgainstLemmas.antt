@@ -37,7 +37,8 @@ module _ (rows : List Counted) (all : List (List ℕ)) (k id t : ℕ) (row : Lis
   pub row_is : (path : List ℕ) (times : ℕ) → row ≡ path → t ≡ times → slice_get rows k ≡ Some (record { path = path; times = times })
   row_is path times p e =
       let at : slice_get (paths_of rows) k ≡ Some path = ap (λ (l : List (List ℕ)). slice_get l k) (sym whole) ∙ ap (slice_get all) (sym is) ∙ read ∙ ap (λ (l : List ℕ). Some l) p in
-      let times_at : option_map (λ (row : Counted). row.times) (slice_get rows k) ≡ Some times = ap (λ i. option_map (λ (row : Counted). row.times) (slice_get rows i)) (sym is) ∙ seen ∙ ap (λ (n : ℕ). Some n) e in
+      let times_at : option_map (λ (row : Counted). row.times) (slice_get rows k) ≡ Some times = ap (λ i. option_map (λ (row : Counted). row.times) (slice_get rows i)) (sym is) ∙ seen
+      ∙ ap (λ (n : ℕ). Some n) e in
       row_parts rows k path times at times_at
 
   pub times_were : (path : List ℕ) (times : ℕ) → slice_get rows k ≡ Some (record { path = path; times = times }) → t ≡ times

@@ -7,22 +7,24 @@ use Rattle.relationships.specs.declared.label.Label.{Label}
 use Rattle.relationships.specs.declared.label.Label.TheVariants as label
 use Rattle.relationships.specs.Evidence.{Closure}
 use Rattle.relationships.specs.Checking.{IsBorneOut}
-use Rattle.result_text.specs.declared.file.EdgeMark.{EdgeMark}
-use Rattle.result_text.specs.declared.file.EdgeMark.TheVariants.{Forced, Loose}
+use Rattle.relationships.specs.declared.mark.Mark.{Mark}
+use Rattle.relationships.specs.declared.mark.Mark.TheVariants.{Forced, Loose}
 use Rattle.result_text.specs.declared.file.EdgeLine.{EdgeLine}
-use Rattle.result_text.specs.declared.file.ProbeLine.{ProbeLine}
+use Rattle.relationships.specs.declared.mark.Probe.{Probe}
 use Rattle.result_text.specs.declared.file.ResultFile.{ResultFile}
-use Rattle.rel_checker.specs.File.{is_forced, claim_of, its_probes, orders_of}
-use Rattle.rel_checker.specs.Rules.{MarksBorneOut, Asks}
+use Rattle.relationships.specs.Marking.{is_forced}
+use Rattle.rel_checker.specs.File.{claim_on, its_probes, shown_orders}
+use Rattle.rel_checker.specs.declared.rule.Rule.TheVariants.{MarksBorneOut}
+use Rattle.rel_checker.specs.Rules.{Asks}
 use Rattle.rel_checker.specs.Verdict.{Finds}
-use Rattle.rel_checker.specs.Turning.{turned_by, turned, turned_orders, kept_lines}
+use Rattle.rel_checker.specs.Flipping.{flipped_by, flipped, flipped_orders, kept_lines}
 use Rattle.rel_checker.specs.Serving.{IsCovered, IsShownBy, First, MarkedAt, ServesAt, is_borne}
 use Rattle.rel_checker.proofs.Gets.{slice_get-lt, slice_get-map, slice_get-unmap}
 
 -- the two tests decide
-borne_exactly : (kept : List (List ℕ)) (orders probes : List (ℕ × ℕ)) (low high : ℕ) (mark : EdgeMark) (l : Label) (shown covered : Bool) →
+borne_exactly : (kept : List (List ℕ)) (orders probes : List (ℕ × ℕ)) (low high : ℕ) (mark : Mark) (l : Label) (shown covered : Bool) →
     IsTrue shown ↔ (Contains orders (low, high) ⊎ Contains orders (high, low)) →
-    IsTrue covered ↔ Any (λ p. Closure kept p.0 p.1 (turned_by l low high).0 (turned_by l low high).1) probes →
+    IsTrue covered ↔ Any (λ p. Closure kept p.0 p.1 (flipped_by l low high).0 (flipped_by l low high).1) probes →
     IsTrue (is_borne mark l shown covered) ↔ IsBorneOut kept orders probes (record { low = low; high = high; label = l; forced = is_forced mark })
 borne_exactly kept orders probes low high Forced l shown covered s v = (
   λ t. inl (refl, s.0 t),
@@ -57,21 +59,22 @@ borne_exactly kept orders probes low high Loose label.High shown covered s v = (
 )
 
 module _ (file : ResultFile) where
-  pub marked_at : (marks : List ℕ) (shown : List Bool) (k mark : ℕ) (line : EdgeLine) (is_shown covered : Bool) → slice_get file.edges k ≡ Some line → slice_get shown k ≡ Some is_shown → slice_get marks k ≡ Some mark →
-      IsTrue covered ↔ (mark ≡ 1) → IsShownBy file.edges (orders_of file.whys) shown → IsCovered (kept_lines file.paths) (turned_orders file.edges) (its_probes file) marks 1 →
+  pub marked_at : (rounds : List ℕ) (shown : List Bool) (k round : ℕ) (line : EdgeLine) (is_shown covered : Bool) → slice_get file.edges k ≡ Some line → slice_get shown k ≡ Some is_shown
+      → slice_get rounds k ≡ Some round →
+      IsTrue covered ↔ (round ≡ 1) → IsShownBy file.edges (shown_orders file.whys) shown → IsCovered (kept_lines file.paths) (flipped_orders file.edges) (its_probes file) rounds 1 →
       IsTrue (is_borne line.mark line.label is_shown covered) ↔ MarkedAt file k
-  marked_at marks shown k mark line is_shown covered at at_shown at_mark test by_shown by_marks =
-      let s : IsTrue is_shown ↔ (Contains (orders_of file.whys) (line.low, line.high) ⊎ Contains (orders_of file.whys) (line.high, line.low)) = (
+  marked_at rounds shown k round line is_shown covered at at_shown at_round test by_shown by_rounds =
+      let s : IsTrue is_shown ↔ (Contains (shown_orders file.whys) (line.low, line.high) ⊎ Contains (shown_orders file.whys) (line.high, line.low)) = (
         λ t. (by_shown k line at).0 (at_shown ∙ ap (λ b. Some b) t),
         λ h. same_Some is_shown true (sym at_shown ∙ (by_shown k line at).1 h),
       ) in
-      let turns = slice_get-map turned file.edges k line at in
-      let v : IsTrue covered ↔ Any (λ p. Closure (kept_lines file.paths) p.0 p.1 (turned line).0 (turned line).1) (its_probes file) = (
-        λ t. (by_marks k (turned line).0 (turned line).1 turns).0 (at_mark ∙ ap (λ m. Some m) (test.0 t)),
-        λ a. test.1 (same_Some mark 1 (sym at_mark ∙ (by_marks k (turned line).0 (turned line).1 turns).1 a)),
+      let flips = slice_get-map flipped file.edges k line at in
+      let v : IsTrue covered ↔ Any (λ p. Closure (kept_lines file.paths) p.0 p.1 (flipped line).0 (flipped line).1) (its_probes file) = (
+        λ t. (by_rounds k (flipped line).0 (flipped line).1 flips).0 (at_round ∙ ap (λ m. Some m) (test.0 t)),
+        λ a. test.1 (same_Some round 1 (sym at_round ∙ (by_rounds k (flipped line).0 (flipped line).1 flips).1 a)),
       ) in
-      let b = borne_exactly (kept_lines file.paths) (orders_of file.whys) (its_probes file) line.low line.high line.mark line.label is_shown covered s v in (
-        λ t line' at'. subst (λ l. IsBorneOut (kept_lines file.paths) (orders_of file.whys) (its_probes file) (claim_of l)) (same_Some line line' (sym at ∙ at')) (b.0 t),
+      let b = borne_exactly (kept_lines file.paths) (shown_orders file.whys) (its_probes file) line.low line.high line.mark line.label is_shown covered s v in (
+        λ t line' at'. subst (λ l. IsBorneOut (kept_lines file.paths) (shown_orders file.whys) (its_probes file) (claim_on l)) (same_Some line line' (sym at ∙ at')) (b.0 t),
         λ m. b.1 (m line at),
       )
 
@@ -79,27 +82,27 @@ module _ (file : ResultFile) where
 
   asks_edge : (k : ℕ) → k < length file.edges → MarkedAt file k → Asks file MarksBorneOut k
   asks_edge k lt m = (
-    λ claim at. (let w = slice_get-unmap claim_of file.edges k claim at in subst (λ c. IsBorneOut (kept_lines file.paths) (orders_of file.whys) (its_probes file) c) w.2 (m w.0 w.1)),
-    λ probe le at. absurd (omega arith),
+    λ claim at. (let w = slice_get-unmap claim_on file.edges k claim at in subst (λ c. IsBorneOut (kept_lines file.paths) (shown_orders file.whys) (its_probes file) c) w.2 (m w.0 w.1)),
+    λ le probe at. absurd (omega arith),
   )
 
   edge_asked : (k : ℕ) → Asks file MarksBorneOut k → MarkedAt file k
-  edge_asked k a line at = a.0 (claim_of line) (slice_get-map claim_of file.edges k line at)
+  edge_asked k a line at = a.0 (claim_on line) (slice_get-map claim_on file.edges k line at)
 
   asks_open : (k j : ℕ) → k ≡ length file.edges + j → ServesAt file j → Asks file MarksBorneOut k
   asks_open k j e s = (
-    λ claim at. (let w = slice_get-unmap claim_of file.edges k claim at in let lt = slice_get-lt file.edges k w.0 w.1 in absurd (omega arith)),
-    λ probe le. (let same : j ≡ k - length file.edges = omega arith in subst (ServesAt file) same s probe),
+    λ claim at. (let w = slice_get-unmap claim_on file.edges k claim at in let lt = slice_get-lt file.edges k w.0 w.1 in absurd (omega arith)),
+    λ le. (let same : j ≡ k - length file.edges = omega arith in subst (ServesAt file) same s),
   )
 
   open_asked : (k j : ℕ) → k ≡ length file.edges + j → Asks file MarksBorneOut k → ServesAt file j
   open_asked k j e a =
       let same : k - length file.edges ≡ j = omega arith in
       let le : length file.edges ≤ k = omega arith in
-      subst (ServesAt file) same (λ p at. a.1 p le at)
+      subst (ServesAt file) same (a.1 le)
 
   many_lines : length (its_probes file) ≡ length file.probes
-  many_lines = length-map file.probes (λ (p : ProbeLine). (p.over, p.under))
+  many_lines = length-map file.probes (λ (p : Probe). (p.over, p.under))
 
   pub none_breaks : First (MarkedAt file) (length file.edges) None → First (ServesAt file) (length file.probes) None → Finds file MarksBorneOut None
   none_breaks edges opens k lt = elim (cases_lt k (length file.edges)) [

@@ -1,4 +1,4 @@
--- What two consecutive steps imply along and bar, and how the rows come to have it.
+-- What two consecutive steps imply and rule out, and how the rows come to have it.
 use Rattle.std.proofs.Common.{◌≡◌, ◌↔◌, ◌⊎◌, inl, inr, ℕ, ◌+◌, ◌-◌, ◌<◌, ◌≤◌, Bool, true, false, List, [], ◌∷◌, ◌++◌, Some, length, slice_get, slice_index, slice_index_or, refl, sym, ap, ◌∙◌, subst, arith, Contains, length-set, nat_eq}
 use Rattle.std.proofs.lemmas.Bool.{cases_lt, cases_Bool, eqb-true, eq-eqb, both_ways}
 use Rattle.std.proofs.lemmas.Option.{get_or_from_slice_get, slice_get-get_or}
@@ -6,7 +6,7 @@ use Rattle.std.proofs.lemmas.List.Elements.{Contains-push, Contains-push_cases, 
 use Rattle.relationships.specs.Evidence.{TripleAt, IsTriple}
 use Rattle.relationships.proofs.Places.{StandAt-from_index, index-from_StandAt}
 use Rattle.rel_checker.specs.Neighbours.{HasNext, IsInside, with_next}
-use Rattle.rel_checker.specs.Turning.{TurnsTo, Carries, Bars, IsBuilt, IsStep, with_carried, with_barred, TripleBefore, IsProper}
+use Rattle.rel_checker.specs.Flipping.{FlipsTo, Implies, Conflicts, IsBuilt, IsStep, with_implied, with_conflicting, TripleBefore, IsProper}
 use Rattle.rel_checker.proofs.Gets.{slice_get-lt, slice_get-set_cases, slice_get-set_other, slice_get-set_same}
 
 -- ---- one more in a row
@@ -48,29 +48,29 @@ abbrev pub Also : ℕ → ℕ → ℕ → ℕ → ℕ → ℕ → Type 0
 Also p q r x y z = ((x ≡ p) × (y ≡ q) × (z ≡ r)) ⊎ ((x ≡ r) × (y ≡ q) × (z ≡ p))
 
 module _ (orders : List (ℕ × ℕ)) where
-  turns_to : (k x y u v : ℕ) → x ≡ u → y ≡ v → TurnsTo orders k x y → TurnsTo orders k u v
-  turns_to k x y u v e e' h = subst (λ w. TurnsTo orders k u w) e' (subst (λ w. TurnsTo orders k w y) e h)
+  flips_to : (k x y u v : ℕ) → x ≡ u → y ≡ v → FlipsTo orders k x y → FlipsTo orders k u v
+  flips_to k x y u v e e' h = subst (λ w. FlipsTo orders k u w) e' (subst (λ w. FlipsTo orders k w y) e h)
 
-  carries_cases : (p q r i j : ℕ) → Carries orders (Also p q r) i j → (TurnsTo orders i p q × TurnsTo orders j q r) ⊎ (TurnsTo orders i r q × TurnsTo orders j q p)
-  carries_cases p q r i j (x, y, z, ti, tj, inl e) = inl (turns_to i x y p q e.0 e.1 ti, turns_to j y z q r e.1 e.2 tj)
-  carries_cases p q r i j (x, y, z, ti, tj, inr e) = inr (turns_to i x y r q e.0 e.1 ti, turns_to j y z q p e.1 e.2 tj)
+  implies_cases : (p q r i j : ℕ) → Implies orders (Also p q r) i j → (FlipsTo orders i p q × FlipsTo orders j q r) ⊎ (FlipsTo orders i r q × FlipsTo orders j q p)
+  implies_cases p q r i j (x, y, z, ti, tj, inl e) = inl (flips_to i x y p q e.0 e.1 ti, flips_to j y z q r e.1 e.2 tj)
+  implies_cases p q r i j (x, y, z, ti, tj, inr e) = inr (flips_to i x y r q e.0 e.1 ti, flips_to j y z q p e.1 e.2 tj)
 
-  bars_cases : (p q r i j : ℕ) → Bars orders (Also p q r) i j → (TurnsTo orders i p q × TurnsTo orders j r q) ⊎ (TurnsTo orders i r q × TurnsTo orders j p q)
-  bars_cases p q r i j (x, y, z, ti, tj, inl e) = inl (turns_to i x y p q e.0 e.1 ti, turns_to j z y r q e.2 e.1 tj)
-  bars_cases p q r i j (x, y, z, ti, tj, inr e) = inr (turns_to i x y r q e.0 e.1 ti, turns_to j z y p q e.2 e.1 tj)
+  conflicts_cases : (p q r i j : ℕ) → Conflicts orders (Also p q r) i j → (FlipsTo orders i p q × FlipsTo orders j r q) ⊎ (FlipsTo orders i r q × FlipsTo orders j p q)
+  conflicts_cases p q r i j (x, y, z, ti, tj, inl e) = inl (flips_to i x y p q e.0 e.1 ti, flips_to j z y r q e.2 e.1 tj)
+  conflicts_cases p q r i j (x, y, z, ti, tj, inr e) = inr (flips_to i x y r q e.0 e.1 ti, flips_to j z y p q e.2 e.1 tj)
 
 module _ (orders : List (ℕ × ℕ)) (proper : IsProper orders) (T T' : ℕ → ℕ → ℕ → Type 0) (p q r : ℕ) (exact : (x y z : ℕ) → T' x y z ↔ (T x y z ⊎ Also p q r x y z)) where
-  carries_wider : (i j : ℕ) → Carries orders T i j → Carries orders T' i j
-  carries_wider i j (x, y, z, ti, tj, t) = (x, y, z, ti, tj, (exact x y z).1 (inl t))
+  implies_wider : (i j : ℕ) → Implies orders T i j → Implies orders T' i j
+  implies_wider i j (x, y, z, ti, tj, t) = (x, y, z, ti, tj, (exact x y z).1 (inl t))
 
-  carries_split : (i j : ℕ) → Carries orders T' i j → Carries orders T i j ⊎ ((TurnsTo orders i p q × TurnsTo orders j q r) ⊎ (TurnsTo orders i r q × TurnsTo orders j q p))
-  carries_split i j (x, y, z, ti, tj, t) = elim ((exact x y z).0 t) [ inl h ↦ inl (x, y, z, ti, tj, h) | inr h ↦ inr (carries_cases orders p q r i j (x, y, z, ti, tj, h)) ]
+  implies_split : (i j : ℕ) → Implies orders T' i j → Implies orders T i j ⊎ ((FlipsTo orders i p q × FlipsTo orders j q r) ⊎ (FlipsTo orders i r q × FlipsTo orders j q p))
+  implies_split i j (x, y, z, ti, tj, t) = elim ((exact x y z).0 t) [ inl h ↦ inl (x, y, z, ti, tj, h) | inr h ↦ inr (implies_cases orders p q r i j (x, y, z, ti, tj, h)) ]
 
-  bars_wider : (i j : ℕ) → Bars orders T i j → Bars orders T' i j
-  bars_wider i j (x, y, z, ti, tj, t) = (x, y, z, ti, tj, (exact x y z).1 (inl t))
+  conflicts_wider : (i j : ℕ) → Conflicts orders T i j → Conflicts orders T' i j
+  conflicts_wider i j (x, y, z, ti, tj, t) = (x, y, z, ti, tj, (exact x y z).1 (inl t))
 
-  bars_split : (i j : ℕ) → Bars orders T' i j → Bars orders T i j ⊎ ((TurnsTo orders i p q × TurnsTo orders j r q) ⊎ (TurnsTo orders i r q × TurnsTo orders j p q))
-  bars_split i j (x, y, z, ti, tj, t) = elim ((exact x y z).0 t) [ inl h ↦ inl (x, y, z, ti, tj, h) | inr h ↦ inr (bars_cases orders p q r i j (x, y, z, ti, tj, h)) ]
+  conflicts_split : (i j : ℕ) → Conflicts orders T' i j → Conflicts orders T i j ⊎ ((FlipsTo orders i p q × FlipsTo orders j r q) ⊎ (FlipsTo orders i r q × FlipsTo orders j p q))
+  conflicts_split i j (x, y, z, ti, tj, t) = elim ((exact x y z).0 t) [ inl h ↦ inl (x, y, z, ti, tj, h) | inr h ↦ inr (conflicts_cases orders p q r i j (x, y, z, ti, tj, h)) ]
 
   there : T' p q r
   there = (exact p q r).1 (inr (inl (refl, refl, refl)))
@@ -78,55 +78,55 @@ module _ (orders : List (ℕ × ℕ)) (proper : IsProper orders) (T T' : ℕ →
   back : T' r q p
   back = (exact r q p).1 (inr (inr (refl, refl, refl)))
 
-  -- where the rows gain nothing, none is carried along
-  none_carried : (rows : List (List ℕ)) → ((i j : ℕ) → HasNext rows i j ↔ Carries orders T i j) →
-      ((i j : ℕ) → (TurnsTo orders i p q × TurnsTo orders j q r) ⊎ (TurnsTo orders i r q × TurnsTo orders j q p) → ⊥) →
-      (i j : ℕ) → HasNext rows i j ↔ Carries orders T' i j
-  none_carried rows h none i j = (
-    λ n. carries_wider i j ((h i j).0 n),
-    λ c. elim (carries_split i j c) [ inl d ↦ (h i j).1 d | inr d ↦ absurd (none i j d) ],
+  -- where the rows gain nothing, no edge is implied
+  none_implied : (rows : List (List ℕ)) → ((i j : ℕ) → HasNext rows i j ↔ Implies orders T i j) →
+      ((i j : ℕ) → (FlipsTo orders i p q × FlipsTo orders j q r) ⊎ (FlipsTo orders i r q × FlipsTo orders j q p) → ⊥) →
+      (i j : ℕ) → HasNext rows i j ↔ Implies orders T' i j
+  none_implied rows h none i j = (
+    λ n. implies_wider i j ((h i j).0 n),
+    λ c. elim (implies_split i j c) [ inl d ↦ (h i j).1 d | inr d ↦ absurd (none i j d) ],
   )
 
-  none_barred : (rows : List (List ℕ)) → ((i j : ℕ) → HasNext rows i j ↔ Bars orders T i j) →
-      ((i j : ℕ) → (TurnsTo orders i p q × TurnsTo orders j r q) ⊎ (TurnsTo orders i r q × TurnsTo orders j p q) → ⊥) →
-      (i j : ℕ) → HasNext rows i j ↔ Bars orders T' i j
-  none_barred rows h none i j = (
-    λ n. bars_wider i j ((h i j).0 n),
-    λ c. elim (bars_split i j c) [ inl d ↦ (h i j).1 d | inr d ↦ absurd (none i j d) ],
+  none_conflicting : (rows : List (List ℕ)) → ((i j : ℕ) → HasNext rows i j ↔ Conflicts orders T i j) →
+      ((i j : ℕ) → (FlipsTo orders i p q × FlipsTo orders j r q) ⊎ (FlipsTo orders i r q × FlipsTo orders j p q) → ⊥) →
+      (i j : ℕ) → HasNext rows i j ↔ Conflicts orders T' i j
+  none_conflicting rows h none i j = (
+    λ n. conflicts_wider i j ((h i j).0 n),
+    λ c. elim (conflicts_split i j c) [ inl d ↦ (h i j).1 d | inr d ↦ absurd (none i j d) ],
   )
 
   -- two steps up, or down
-  one_carried : (rows : List (List ℕ)) (a b : ℕ) → a < length rows → ((i j : ℕ) → HasNext rows i j ↔ Carries orders T i j) →
-      Carries orders T' a b →
-      ((i j : ℕ) → (TurnsTo orders i p q × TurnsTo orders j q r) ⊎ (TurnsTo orders i r q × TurnsTo orders j q p) → (i ≡ a) × (j ≡ b)) →
-      (i j : ℕ) → HasNext (with_next rows a b) i j ↔ Carries orders T' i j
-  one_carried rows a b lt h new only i j = (
+  one_implied : (rows : List (List ℕ)) (a b : ℕ) → a < length rows → ((i j : ℕ) → HasNext rows i j ↔ Implies orders T i j) →
+      Implies orders T' a b →
+      ((i j : ℕ) → (FlipsTo orders i p q × FlipsTo orders j q r) ⊎ (FlipsTo orders i r q × FlipsTo orders j q p) → (i ≡ a) × (j ≡ b)) →
+      (i j : ℕ) → HasNext (with_next rows a b) i j ↔ Implies orders T' i j
+  one_implied rows a b lt h new only i j = (
     λ n. elim (next_cases rows a b i j lt n) [
-      | inl m ↦ carries_wider i j ((h i j).0 m)
-      | inr e ↦ subst (λ k. Carries orders T' k j) (sym e.0) (subst (λ k. Carries orders T' a k) (sym e.1) new)
+      | inl m ↦ implies_wider i j ((h i j).0 m)
+      | inr e ↦ subst (λ k. Implies orders T' k j) (sym e.0) (subst (λ k. Implies orders T' a k) (sym e.1) new)
     ],
-    λ c. elim (carries_split i j c) [
+    λ c. elim (implies_split i j c) [
       | inl d ↦ next_kept rows a b i j lt ((h i j).1 d)
       | inr d ↦ let e = only i j d in next_last rows a b i j lt e.0 e.1
     ],
   )
 
   -- a peak
-  two_barred : (rows : List (List ℕ)) (a b : ℕ) → a < length rows → b < length rows → ((i j : ℕ) → HasNext rows i j ↔ Bars orders T i j) →
-      Bars orders T' a b → Bars orders T' b a →
-      ((i j : ℕ) → (TurnsTo orders i p q × TurnsTo orders j r q) ⊎ (TurnsTo orders i r q × TurnsTo orders j p q) → ((i ≡ a) × (j ≡ b)) ⊎ ((i ≡ b) × (j ≡ a))) →
-      (i j : ℕ) → HasNext (with_next (with_next rows a b) b a) i j ↔ Bars orders T' i j
-  two_barred rows a b lt lt' h new new' only i j =
+  two_conflicting : (rows : List (List ℕ)) (a b : ℕ) → a < length rows → b < length rows → ((i j : ℕ) → HasNext rows i j ↔ Conflicts orders T i j) →
+      Conflicts orders T' a b → Conflicts orders T' b a →
+      ((i j : ℕ) → (FlipsTo orders i p q × FlipsTo orders j r q) ⊎ (FlipsTo orders i r q × FlipsTo orders j p q) → ((i ≡ a) × (j ≡ b)) ⊎ ((i ≡ b) × (j ≡ a))) →
+      (i j : ℕ) → HasNext (with_next (with_next rows a b) b a) i j ↔ Conflicts orders T' i j
+  two_conflicting rows a b lt lt' h new new' only i j =
       let more = with_next rows a b in
       let within : b < length more = omega (arith, length-with_next rows a b) in (
         λ n. elim (next_cases more b a i j within n) [
           | inl m ↦ elim (next_cases rows a b i j lt m) [
-            | inl o ↦ bars_wider i j ((h i j).0 o)
-            | inr e ↦ subst (λ k. Bars orders T' k j) (sym e.0) (subst (λ k. Bars orders T' a k) (sym e.1) new)
+            | inl o ↦ conflicts_wider i j ((h i j).0 o)
+            | inr e ↦ subst (λ k. Conflicts orders T' k j) (sym e.0) (subst (λ k. Conflicts orders T' a k) (sym e.1) new)
           ]
-          | inr e ↦ subst (λ k. Bars orders T' k j) (sym e.0) (subst (λ k. Bars orders T' b k) (sym e.1) new')
+          | inr e ↦ subst (λ k. Conflicts orders T' k j) (sym e.0) (subst (λ k. Conflicts orders T' b k) (sym e.1) new')
         ],
-        λ c. elim (bars_split i j c) [
+        λ c. elim (conflicts_split i j c) [
           | inl d ↦ next_kept more b a i j within (next_kept rows a b i j lt ((h i j).1 d))
           | inr d ↦ elim (only i j d) [
             | inl e ↦ next_kept more b a i j within (next_last rows a b i j lt e.0 e.1)
@@ -135,70 +135,72 @@ module _ (orders : List (ℕ × ℕ)) (proper : IsProper orders) (T T' : ℕ →
         ],
       )
 
-  pub built_more : (first second : ℕ) (up up' : Bool) (carried barred : List (List ℕ)) → IsStep orders first up p q → IsStep orders second up' q r →
-      first < length carried → second < length carried → IsBuilt orders T carried barred →
-      IsBuilt orders T' (with_carried up up' first second carried) (with_barred up up' first second barred)
-  built_more first second true true carried barred s s' lt lt' b = record {
-    carried_many = length-with_next carried first second ∙ b.carried_many;
-    barred_many = b.barred_many;
-    carries = one_carried carried first second lt b.carries (p, q, r, s, s', there) (λ i j d. elim d [
+  pub built_more : (first second : ℕ) (up up' : Bool) (implied conflicting : List (List ℕ)) → IsStep orders first up p q → IsStep orders second up' q r →
+      first < length implied → second < length implied → IsBuilt orders T implied conflicting →
+      IsBuilt orders T' (with_implied up up' first second implied) (with_conflicting up up' first second conflicting)
+  built_more first second true true implied conflicting s s' lt lt' b = record {
+    implied_many = length-with_next implied first second ∙ b.implied_many;
+    conflicting_many = b.conflicting_many;
+    implies = one_implied implied first second lt b.implies (p, q, r, s, s', there) (λ i j d. elim d [
       | inl t ↦ (proper.one i first p q t.0 s, proper.one j second q r t.1 s')
-      | inr t ↦ absurd (proper.way i second r q t.0 s')
+      | inr t ↦ absurd (proper.no_opposite i second r q t.0 s')
     ]);
-    bars = none_barred barred b.bars (λ i j d. elim d [
-      | inl t ↦ proper.way j second r q t.1 s'
-      | inr t ↦ proper.way i second r q t.0 s'
+    conflicts = none_conflicting conflicting b.conflicts (λ i j d. elim d [
+      | inl t ↦ proper.no_opposite j second r q t.1 s'
+      | inr t ↦ proper.no_opposite i second r q t.0 s'
     ]);
   }
-  built_more first second false false carried barred s s' lt lt' b = record {
-    carried_many = length-with_next carried second first ∙ b.carried_many;
-    barred_many = b.barred_many;
-    carries = one_carried carried second first lt' b.carries (r, q, p, s', s, back) (λ i j d. elim d [
-      | inl t ↦ absurd (proper.way i first p q t.0 s)
+  built_more first second false false implied conflicting s s' lt lt' b = record {
+    implied_many = length-with_next implied second first ∙ b.implied_many;
+    conflicting_many = b.conflicting_many;
+    implies = one_implied implied second first lt' b.implies (r, q, p, s', s, back) (λ i j d. elim d [
+      | inl t ↦ absurd (proper.no_opposite i first p q t.0 s)
       | inr t ↦ (proper.one i second r q t.0 s', proper.one j first q p t.1 s)
     ]);
-    bars = none_barred barred b.bars (λ i j d. elim d [
-      | inl t ↦ proper.way i first p q t.0 s
-      | inr t ↦ proper.way j first p q t.1 s
+    conflicts = none_conflicting conflicting b.conflicts (λ i j d. elim d [
+      | inl t ↦ proper.no_opposite i first p q t.0 s
+      | inr t ↦ proper.no_opposite j first p q t.1 s
     ]);
   }
-  built_more first second true false carried barred s s' lt lt' b = record {
-    carried_many = b.carried_many;
-    barred_many = length-with_next (with_next barred first second) second first ∙ length-with_next barred first second ∙ b.barred_many;
-    carries = none_carried carried b.carries (λ i j d. elim d [
-      | inl t ↦ proper.way j second q r t.1 s'
-      | inr t ↦ proper.way j first q p t.1 s
+  built_more first second true false implied conflicting s s' lt lt' b = record {
+    implied_many = b.implied_many;
+    conflicting_many = length-with_next (with_next conflicting first second) second first ∙ length-with_next conflicting first second ∙ b.conflicting_many;
+    implies = none_implied implied b.implies (λ i j d. elim d [
+      | inl t ↦ proper.no_opposite j second q r t.1 s'
+      | inr t ↦ proper.no_opposite j first q p t.1 s
     ]);
-    bars = two_barred barred first second (omega (arith, b.carried_many, b.barred_many)) (omega (arith, b.carried_many, b.barred_many)) b.bars (p, q, r, s, s', there) (r, q, p, s', s, back) (λ i j d. elim d [
-      | inl t ↦ inl (proper.one i first p q t.0 s, proper.one j second r q t.1 s')
-      | inr t ↦ inr (proper.one i second r q t.0 s', proper.one j first p q t.1 s)
-    ]);
+    conflicts = two_conflicting conflicting first second (omega (arith, b.implied_many, b.conflicting_many)) (omega (arith, b.implied_many, b.conflicting_many)) b.conflicts
+        (p, q, r, s, s', there) (r, q, p, s', s, back) (λ i j d. elim d [
+          | inl t ↦ inl (proper.one i first p q t.0 s, proper.one j second r q t.1 s')
+          | inr t ↦ inr (proper.one i second r q t.0 s', proper.one j first p q t.1 s)
+        ]);
   }
-  built_more first second false true carried barred s s' lt lt' b = record {
-    carried_many = b.carried_many;
-    barred_many = b.barred_many;
-    carries = none_carried carried b.carries (λ i j d. elim d [
-      | inl t ↦ proper.way i first p q t.0 s
-      | inr t ↦ proper.way i second r q t.0 s'
+  built_more first second false true implied conflicting s s' lt lt' b = record {
+    implied_many = b.implied_many;
+    conflicting_many = b.conflicting_many;
+    implies = none_implied implied b.implies (λ i j d. elim d [
+      | inl t ↦ proper.no_opposite i first p q t.0 s
+      | inr t ↦ proper.no_opposite i second r q t.0 s'
     ]);
-    bars = none_barred barred b.bars (λ i j d. elim d [
-      | inl t ↦ proper.way i first p q t.0 s
-      | inr t ↦ proper.way i second r q t.0 s'
+    conflicts = none_conflicting conflicting b.conflicts (λ i j d. elim d [
+      | inl t ↦ proper.no_opposite i first p q t.0 s
+      | inr t ↦ proper.no_opposite i second r q t.0 s'
     ]);
   }
 
 -- the same triples
-pub built_same : (orders : List (ℕ × ℕ)) (T T' : ℕ → ℕ → ℕ → Type 0) (carried barred : List (List ℕ)) → ((x y z : ℕ) → T x y z ↔ T' x y z) → IsBuilt orders T carried barred → IsBuilt orders T' carried barred
-built_same orders T T' carried barred same b = record {
-  carried_many = b.carried_many;
-  barred_many = b.barred_many;
-  carries = λ i j. (
-    λ n. let c = (b.carries i j).0 n in (c.0, c.1, c.2, c.3, c.4, (same c.0 c.1 c.2).0 c.5),
-    λ c. (b.carries i j).1 (c.0, c.1, c.2, c.3, c.4, (same c.0 c.1 c.2).1 c.5),
+pub built_same : (orders : List (ℕ × ℕ)) (T T' : ℕ → ℕ → ℕ → Type 0) (implied conflicting : List (List ℕ)) → ((x y z : ℕ) → T x y z ↔ T' x y z) → IsBuilt orders T implied conflicting
+    → IsBuilt orders T' implied conflicting
+built_same orders T T' implied conflicting same b = record {
+  implied_many = b.implied_many;
+  conflicting_many = b.conflicting_many;
+  implies = λ i j. (
+    λ n. let c = (b.implies i j).0 n in (c.0, c.1, c.2, c.3, c.4, (same c.0 c.1 c.2).0 c.5),
+    λ c. (b.implies i j).1 (c.0, c.1, c.2, c.3, c.4, (same c.0 c.1 c.2).1 c.5),
   );
-  bars = λ i j. (
-    λ n. let c = (b.bars i j).0 n in (c.0, c.1, c.2, c.3, c.4, (same c.0 c.1 c.2).0 c.5),
-    λ c. (b.bars i j).1 (c.0, c.1, c.2, c.3, c.4, (same c.0 c.1 c.2).1 c.5),
+  conflicts = λ i j. (
+    λ n. let c = (b.conflicts i j).0 n in (c.0, c.1, c.2, c.3, c.4, (same c.0 c.1 c.2).0 c.5),
+    λ c. (b.conflicts i j).1 (c.0, c.1, c.2, c.3, c.4, (same c.0 c.1 c.2).1 c.5),
   );
 }
 
@@ -256,23 +258,23 @@ before_end paths path end all x y z = (
 
 -- ---- one place more on a path
 
-length-with_carried : (up up' : Bool) (first second : ℕ) (rows : List (List ℕ)) → length (with_carried up up' first second rows) ≡ length rows
-length-with_carried true true first second rows = length-with_next rows first second
-length-with_carried false false first second rows = length-with_next rows second first
-length-with_carried true false first second rows = refl
-length-with_carried false true first second rows = refl
+length-with_implied : (up up' : Bool) (first second : ℕ) (rows : List (List ℕ)) → length (with_implied up up' first second rows) ≡ length rows
+length-with_implied true true first second rows = length-with_next rows first second
+length-with_implied false false first second rows = length-with_next rows second first
+length-with_implied true false first second rows = refl
+length-with_implied false true first second rows = refl
 
-length-with_barred : (up up' : Bool) (first second : ℕ) (rows : List (List ℕ)) → length (with_barred up up' first second rows) ≡ length rows
-length-with_barred true true first second rows = refl
-length-with_barred false false first second rows = refl
-length-with_barred true false first second rows = length-with_next (with_next rows first second) second first ∙ length-with_next rows first second
-length-with_barred false true first second rows = refl
+length-with_conflicting : (up up' : Bool) (first second : ℕ) (rows : List (List ℕ)) → length (with_conflicting up up' first second rows) ≡ length rows
+length-with_conflicting true true first second rows = refl
+length-with_conflicting false false first second rows = refl
+length-with_conflicting true false first second rows = length-with_next (with_next rows first second) second first ∙ length-with_next rows first second
+length-with_conflicting false true first second rows = refl
 
-pub many_carried : (up up' : Bool) (first second n : ℕ) (rows new : List (List ℕ)) → new ≡ with_carried up up' first second rows → length rows ≡ n → length new ≡ n
-many_carried up up' first second n rows new e h = ap length e ∙ length-with_carried up up' first second rows ∙ h
+pub many_implied : (up up' : Bool) (first second n : ℕ) (rows new : List (List ℕ)) → new ≡ with_implied up up' first second rows → length rows ≡ n → length new ≡ n
+many_implied up up' first second n rows new e h = ap length e ∙ length-with_implied up up' first second rows ∙ h
 
-pub many_barred : (up up' : Bool) (first second n : ℕ) (rows new : List (List ℕ)) → new ≡ with_barred up up' first second rows → length rows ≡ n → length new ≡ n
-many_barred up up' first second n rows new e h = ap length e ∙ length-with_barred up up' first second rows ∙ h
+pub many_conflicting : (up up' : Bool) (first second n : ℕ) (rows new : List (List ℕ)) → new ≡ with_conflicting up up' first second rows → length rows ≡ n → length new ≡ n
+many_conflicting up up' first second n rows new e h = ap length e ∙ length-with_conflicting up up' first second rows ∙ h
 
 pub step_on : (orders : List (ℕ × ℕ)) (path : List ℕ) (edge at : ℕ) (up : Bool) → 2 ≤ at → IsStep orders edge up (slice_index path (at - 1)) (slice_index path at) →
     IsStep orders edge up (slice_index path (at + 1 - 2)) (slice_index path (at + 1 - 1))
@@ -282,32 +284,38 @@ step_on orders path edge at up two s =
     subst (λ k. IsStep orders edge up (slice_index path k) (slice_index path (at + 1 - 1))) e (subst (λ k. IsStep orders edge up (slice_index path (at - 1)) (slice_index path k)) e' s)
 
 -- the rows of the triples before the next place, and of the one there
-pub path_more : (orders : List (ℕ × ℕ)) (path : List ℕ) (at first second : ℕ) (up up' : Bool) (carried barred carried' barred' : List (List ℕ)) → IsProper orders → 2 ≤ at → at < length path →
+pub path_more : (orders : List (ℕ × ℕ)) (path : List ℕ) (at first second : ℕ) (up up' : Bool) (implied conflicting implied' conflicting' : List (List ℕ)) → IsProper orders → 2 ≤ at
+    → at < length path →
     IsStep orders first up (slice_index path (at - 2)) (slice_index path (at - 1)) → IsStep orders second up' (slice_index path (at - 1)) (slice_index path at) →
-    first < length carried → second < length carried → carried' ≡ with_carried up up' first second carried → barred' ≡ with_barred up up' first second barred →
-    (paths : List (List ℕ)) → IsBuilt orders (TripleBefore paths path at) carried barred → IsBuilt orders (TripleBefore paths path (at + 1)) carried' barred'
-path_more orders path at first second up up' carried barred carried' barred' proper two within s s' lt lt' e e' paths b =
-    subst (λ l. IsBuilt orders (TripleBefore paths path (at + 1)) l barred') (sym e) (subst (λ l. IsBuilt orders (TripleBefore paths path (at + 1)) (with_carried up up' first second carried) l) (sym e')
-    (built_more orders proper (TripleBefore paths path at) (TripleBefore paths path (at + 1)) (slice_index path (at - 2)) (slice_index path (at - 1)) (slice_index path at) (before_more paths path at two within)
-    first second up up' carried barred s s' lt lt' b))
+    first < length implied → second < length implied → implied' ≡ with_implied up up' first second implied → conflicting' ≡ with_conflicting up up' first second conflicting →
+    (paths : List (List ℕ)) → IsBuilt orders (TripleBefore paths path at) implied conflicting → IsBuilt orders (TripleBefore paths path (at + 1)) implied' conflicting'
+path_more orders path at first second up up' implied conflicting implied' conflicting' proper two within s s' lt lt' e e' paths b =
+    subst (λ l. IsBuilt orders (TripleBefore paths path (at + 1)) l conflicting') (sym e)
+    (subst (λ l. IsBuilt orders (TripleBefore paths path (at + 1)) (with_implied up up' first second implied) l) (sym e')
+    (built_more orders proper (TripleBefore paths path at) (TripleBefore paths path (at + 1)) (slice_index path (at - 2)) (slice_index path (at - 1)) (slice_index path at)
+    (before_more paths path at two within)
+    first second up up' implied conflicting s s' lt lt' b))
 
-pub path_begin : (orders : List (ℕ × ℕ)) (path : List ℕ) (carried barred : List (List ℕ)) (paths : List (List ℕ)) → IsBuilt orders (IsTriple paths) carried barred → IsBuilt orders (TripleBefore paths path 2) carried barred
-path_begin orders path carried barred paths b = built_same orders (IsTriple paths) (TripleBefore paths path 2) carried barred (before_begin paths path 2 (omega arith)) b
+pub path_begin : (orders : List (ℕ × ℕ)) (path : List ℕ) (implied conflicting : List (List ℕ)) (paths : List (List ℕ)) → IsBuilt orders (IsTriple paths) implied conflicting
+    → IsBuilt orders (TripleBefore paths path 2) implied conflicting
+path_begin orders path implied conflicting paths b = built_same orders (IsTriple paths) (TripleBefore paths path 2) implied conflicting (before_begin paths path 2 (omega arith)) b
 
-pub path_end : (orders : List (ℕ × ℕ)) (path : List ℕ) (end : ℕ) (carried barred : List (List ℕ)) → length path ≤ end → (paths : List (List ℕ)) → IsBuilt orders (TripleBefore paths path end) carried barred → IsBuilt orders (IsTriple (paths ++ path ∷ [])) carried barred
-path_end orders path end carried barred all paths b = built_same orders (TripleBefore paths path end) (IsTriple (paths ++ path ∷ [])) carried barred (before_end paths path end all) b
+pub path_end : (orders : List (ℕ × ℕ)) (path : List ℕ) (end : ℕ) (implied conflicting : List (List ℕ)) → length path ≤ end → (paths : List (List ℕ))
+    → IsBuilt orders (TripleBefore paths path end) implied conflicting → IsBuilt orders (IsTriple (paths ++ path ∷ [])) implied conflicting
+path_end orders path end implied conflicting all paths b = built_same orders (TripleBefore paths path end) (IsTriple (paths ++ path ∷ [])) implied conflicting (before_end paths path end all) b
 
 -- ---- what stands in the rows
 
-pub inside_carried : (orders : List (ℕ × ℕ)) (T : ℕ → ℕ → ℕ → Type 0) (carried barred : List (List ℕ)) → IsBuilt orders T carried barred → IsInside carried
-inside_carried orders T carried barred b i j h =
-    let c = (b.carries i j).0 h in
-    omega (arith, slice_get-lt orders j (c.1, c.2) c.4, b.carried_many)
+pub inside_implied : (orders : List (ℕ × ℕ)) (T : ℕ → ℕ → ℕ → Type 0) (implied conflicting : List (List ℕ)) → IsBuilt orders T implied conflicting → IsInside implied
+inside_implied orders T implied conflicting b i j h =
+    let c = (b.implies i j).0 h in
+    omega (arith, slice_get-lt orders j (c.1, c.2) c.4, b.implied_many)
 
-pub inside_barred : (orders : List (ℕ × ℕ)) (T : ℕ → ℕ → ℕ → Type 0) (carried barred : List (List ℕ)) → IsBuilt orders T carried barred → IsInside barred
-inside_barred orders T carried barred b i j h =
-    let c = (b.bars i j).0 h in
-    omega (arith, slice_get-lt orders j (c.2, c.1) c.4, b.barred_many)
+pub inside_conflicting : (orders : List (ℕ × ℕ)) (T : ℕ → ℕ → ℕ → Type 0) (implied conflicting : List (List ℕ)) → IsBuilt orders T implied conflicting → IsInside conflicting
+inside_conflicting orders T implied conflicting b i j h =
+    let c = (b.conflicts i j).0 h in
+    omega (arith, slice_get-lt orders j (c.2, c.1) c.4, b.conflicting_many)
 
-pub turning_within : (orders : List (ℕ × ℕ)) (T : ℕ → ℕ → ℕ → Type 0) (carried barred : List (List ℕ)) (k x y : ℕ) → IsBuilt orders T carried barred → TurnsTo orders k x y → k < length carried
-turning_within orders T carried barred k x y b t = omega (arith, slice_get-lt orders k (x, y) t, b.carried_many)
+pub flipping_within : (orders : List (ℕ × ℕ)) (T : ℕ → ℕ → ℕ → Type 0) (implied conflicting : List (List ℕ)) (k x y : ℕ) → IsBuilt orders T implied conflicting → FlipsTo orders k x y
+    → k < length implied
+flipping_within orders T implied conflicting k x y b t = omega (arith, slice_get-lt orders k (x, y) t, b.implied_many)

@@ -8,7 +8,8 @@ use Rattle.relationships.specs.Graph.{Edge, is_same, edges_from, edges_on, disti
 use Rattle.result_text.specs.declared.file.ResultFile.{ResultFile}
 use Rattle.result_text.specs.declared.file.PathLine.{PathLine}
 use Rattle.rel_checker.specs.File.{its_paths}
-use Rattle.rel_checker.specs.Rules.{PathsCleaned, IsMet}
+use Rattle.rel_checker.specs.declared.rule.Rule.TheVariants.{PathsCleaned}
+use Rattle.rel_checker.specs.Rules.{IsMet}
 use Rattle.rel_checker.proofs.Accepted.{same_length}
 
 filter_shorter : (p : Edge → Bool) (es : List Edge) → length (filter p es) ≤ length es
@@ -49,7 +50,8 @@ pub few_listed : (file : ResultFile) → IsMet file PathsCleaned → length (edg
 few_listed file met = by_paths file.paths refl
   where
     by_paths : (lines : List PathLine) → file.paths ≡ lines → length (edges (its_paths file)) ≤ 2 ^ 26
-    by_paths [] is = let none = few_edges (its_paths file) in let e : sum_by length (its_paths file) ≡ 0 = ap (λ (l : List PathLine). sum_by length (map (λ (p : PathLine). p.path) l)) is in omega (arith, none, e)
+    by_paths [] is = let none = few_edges (its_paths file) in let e : sum_by length (its_paths file) ≡ 0 = ap (λ (l : List PathLine). sum_by length (map (λ (p : PathLine). p.path) l)) is in
+        omega (arith, none, e)
     by_paths (line ∷ lines) is =
         let count : length file.paths ≡ suc (length lines) = ap length is in
         let last = slice_get-get_or file.paths (length lines) line (omega (arith, count)) in

@@ -3,13 +3,13 @@ use Rattle.std.proofs.Common.{◌≡◌, ◌↔◌, inl, inr, ℕ, ◌+◌, ◌<
 use Rattle.std.proofs.lemmas.Bool.{false≢true, cases_lt, cases_order}
 use Rattle.std.proofs.lemmas.Option.{same_Some}
 use Rattle.relationships.specs.Evidence.{IsTriple, IsConsistent}
-use Rattle.result_text.specs.declared.file.ProbeLine.{ProbeLine}
+use Rattle.relationships.specs.declared.mark.Probe.{Probe}
 use Rattle.result_text.specs.declared.file.ResultFile.{ResultFile}
 use Rattle.rel_checker.specs.File.{its_claims, its_probes}
-use Rattle.rel_checker.specs.Turning.{turned_orders, kept_lines, IsBuilt, IsProper, IsSettled}
-use Rattle.rel_checker.specs.Serving.{Turned, Gains, GainsAt, ServesAt, First, first_of}
+use Rattle.rel_checker.specs.Flipping.{IsFlipped, flipped_orders, kept_lines, IsBuilt, IsProper, IsSettled}
+use Rattle.rel_checker.specs.Serving.{Gains, GainsAt, ServesAt, First, first_of}
 use Rattle.rel_checker.proofs.Gets.{slice_get-map, take_get}
-use Rattle.rel_checker.proofs.Servings.{probe_of_gains, gains_of_probe, gains_turned}
+use Rattle.rel_checker.proofs.Servings.{probe_of_gains, gains_of_probe, gains_flipped}
 
 pub first_more : (P : ℕ → Type 0) (k : ℕ) (first : Option ℕ) (holds : Bool) → First P k first → IsTrue holds ↔ P k → First P (k + 1) (first_of first k holds)
 first_more P k (Some j) holds h exact = let lt = h.0 in (omega arith, h.1, h.2)
@@ -22,17 +22,17 @@ below_and P k h p j lt = elim (cases_lt j k) [ inl less ↦ h j less | inr ge �
 
 -- ---- open lines
 
-abbrev pub order_of : ProbeLine → ℕ × ℕ
+abbrev pub order_of : Probe → ℕ × ℕ
 order_of p = (p.over, p.under)
 
 module _ (file : ResultFile) where
-  pub probe_at : (k : ℕ) (line : ProbeLine) → slice_get file.probes k ≡ Some line → slice_get (its_probes file) k ≡ Some (line.over, line.under)
+  pub probe_at : (k : ℕ) (line : Probe) → slice_get file.probes k ≡ Some line → slice_get (its_probes file) k ≡ Some (line.over, line.under)
   probe_at k line at = slice_get-map order_of file.probes k line at
 
-  pub probes_more : (k : ℕ) (line : ProbeLine) → slice_get file.probes k ≡ Some line → take (k + 1) (its_probes file) ≡ take k (its_probes file) ++ (line.over, line.under) ∷ []
+  pub probes_more : (k : ℕ) (line : Probe) → slice_get file.probes k ≡ Some line → take (k + 1) (its_probes file) ≡ take k (its_probes file) ++ (line.over, line.under) ∷ []
   probes_more k line at = take_get (its_probes file) k (line.over, line.under) (probe_at k line at)
 
-  pub gains_at : (k : ℕ) (line : ProbeLine) (gains : Bool) → slice_get file.probes k ≡ Some line →
+  pub gains_at : (k : ℕ) (line : Probe) (gains : Bool) → slice_get file.probes k ≡ Some line →
       IsTrue gains ↔ Gains (kept_lines file.paths) (its_claims file) (take k (its_probes file)) (line.over, line.under) → IsTrue gains ↔ GainsAt file k
   gains_at k line gains at exact = (
     λ t p at'. subst (Gains (kept_lines file.paths) (its_claims file) (take k (its_probes file))) (same_Some (line.over, line.under) p (sym (probe_at k line at) ∙ at')) (exact.0 t),
@@ -57,15 +57,16 @@ module _ (file : ResultFile) where
       let same = same_Some j k e in
       (subst (λ i. i < n) same h.0, λ s. h.1 (subst (GainsAt file) (sym same) (λ p at. gains_of_probe (kept_lines file.paths) (its_claims file) (take k (its_probes file)) p (s p at))))
 
-  pub serves_here : (k : ℕ) (line : ProbeLine) → slice_get file.probes k ≡ Some line → GainsAt file k → IsConsistent (kept_lines file.paths) line.over line.under → ServesAt file k
+  pub serves_here : (k : ℕ) (line : Probe) → slice_get file.probes k ≡ Some line → GainsAt file k → IsConsistent (kept_lines file.paths) line.over line.under → ServesAt file k
   serves_here k line at gains consistent p at' =
       let same = same_Some (line.over, line.under) p (sym (probe_at k line at) ∙ at') in
       probe_of_gains (kept_lines file.paths) (its_claims file) (take k (its_probes file)) p (gains p at') (subst (λ (q : ℕ × ℕ). IsConsistent (kept_lines file.paths) q.0 q.1) same consistent)
 
-  pub fails_here : (carried barred : List (List ℕ)) → IsBuilt (turned_orders file.edges) (IsTriple (kept_lines file.paths)) carried barred → IsProper (turned_orders file.edges) → IsSettled (turned_orders file.edges) (kept_lines file.paths) →
-      (k : ℕ) (line : ProbeLine) (consistent : Bool) → slice_get file.probes k ≡ Some line → consistent ≡ false →
-      IsTrue consistent ↔ (Turned (turned_orders file.edges) (line.over, line.under) × IsConsistent (kept_lines file.paths) line.over line.under) → ServesAt file k → ⊥
-  fails_here carried barred built proper settled k line consistent at no' exact serves =
+  pub fails_here : (implied conflicting : List (List ℕ)) → IsBuilt (flipped_orders file.edges) (IsTriple (kept_lines file.paths)) implied conflicting → IsProper (flipped_orders file.edges)
+      → IsSettled (flipped_orders file.edges) (kept_lines file.paths) →
+      (k : ℕ) (line : Probe) (consistent : Bool) → slice_get file.probes k ≡ Some line → consistent ≡ false →
+      IsTrue consistent ↔ (IsFlipped (flipped_orders file.edges) line.over line.under × IsConsistent (kept_lines file.paths) line.over line.under) → ServesAt file k → ⊥
+  fails_here implied conflicting built proper settled k line consistent at no' exact serves =
       let s = serves (line.over, line.under) (probe_at k line at) in
-      gains_turned file.edges (kept_lines file.paths) carried barred built proper settled (take k (its_probes file)) (line.over, line.under)
+      gains_flipped file.edges (kept_lines file.paths) implied conflicting built proper settled (take k (its_probes file)) (line.over, line.under)
       (λ i t. false≢true (sym no' ∙ exact.1 ((i, t), s.consistent))) (gains_of_probe (kept_lines file.paths) (its_claims file) (take k (its_probes file)) (line.over, line.under) s)

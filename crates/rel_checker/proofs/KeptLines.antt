@@ -1,11 +1,11 @@
 -- The kept paths, line by line.
 use Rattle.std.proofs.Common.{◌≡◌, ℕ, ◌+◌, List, [], ◌∷◌, ◌++◌, map, refl, ap, ◌∙◌, is_none}
 use Rattle.relationships.specs.Evidence.{paths_of, kept_from}
-use Rattle.result_text.specs.declared.file.Fate.{Fate}
-use Rattle.result_text.specs.declared.file.Fate.TheVariants.{Kept, Lost}
+use Rattle.relationships.specs.declared.fate.Fate.{Fate}
+use Rattle.relationships.specs.declared.fate.Fate.TheVariants.{Kept, Lost}
 use Rattle.result_text.specs.declared.file.PathLine.{PathLine}
-use Rattle.rel_checker.specs.File.{walk_of}
-use Rattle.rel_checker.specs.Turning.{with_kept, kept_lines}
+use Rattle.relationships.specs.Fates.{walk_of}
+use Rattle.rel_checker.specs.Flipping.{with_kept, kept_lines}
 
 abbrev lines_from : ℕ → List PathLine → List (List ℕ)
 lines_from n lines = paths_of (kept_from n (map (λ (p : PathLine). p.path) lines) (map is_none (map (λ (p : PathLine). walk_of p.fate) lines)))
@@ -23,7 +23,9 @@ more_from n (first ∷ lines) line = behind (more_from (n + 1) lines line) first
     prefix path paths last (Lost walk) = refl
 
     -- what stands before it
-    behind : lines_from (n + 1) (lines ++ line ∷ []) ≡ with_kept (lines_from (n + 1) lines) line.path line.fate → (times : ℕ) (path : List ℕ) (fate : Fate) → lines_from n (record { times = times; path = path; fate = fate } ∷ (lines ++ line ∷ [])) ≡ with_kept (lines_from n (record { times = times; path = path; fate = fate } ∷ lines)) line.path line.fate
+    behind : lines_from (n + 1) (lines ++ line ∷ []) ≡ with_kept (lines_from (n + 1) lines) line.path line.fate → (times : ℕ) (path : List ℕ) (fate : Fate)
+        → lines_from n (record { times = times; path = path; fate = fate } ∷ (lines ++ line ∷ [])) ≡ with_kept (lines_from n (record { times = times; path = path; fate = fate } ∷ lines))
+        line.path line.fate
     behind rest times path Kept = ap (λ (l : List (List ℕ)). path ∷ l) rest ∙ prefix path (lines_from (n + 1) lines) line.path line.fate
     behind rest times path (Lost walk) = rest
 

@@ -30,6 +30,6 @@ pub mod Soundness
 pub mod SupportLemmas
 pub mod Thinnings
 pub mod TotalLemmas
-pub mod Turnings
+pub mod Flippings
 pub mod ValleyLemmas
 pub mod WalkLaws

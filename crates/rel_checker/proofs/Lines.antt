@@ -9,12 +9,15 @@ use Rattle.std.proofs.lemmas.Option.{slice_get_read, same_Some}
 use Rattle.relationships.specs.Evidence.{paths_of, kept_from}
 use Rattle.tor_arena.specs.Distinct.{is_distinct}
 use Rattle.path_clean.specs.Paths.{is_reserved, is_cleaned}
-use Rattle.result_text.specs.declared.file.Fate.{Fate}
-use Rattle.result_text.specs.declared.file.Fate.TheVariants.{Kept, Lost}
+use Rattle.relationships.specs.declared.fate.Fate.{Fate}
+use Rattle.relationships.specs.declared.fate.Fate.TheVariants.{Kept, Lost}
 use Rattle.result_text.specs.declared.file.PathLine.{PathLine}
 use Rattle.result_text.specs.declared.file.ResultFile.{ResultFile}
-use Rattle.rel_checker.specs.File.{its_paths, its_kept, walk_of}
-use Rattle.rel_checker.specs.Rules.{is_kept, PathsCleaned, IsSound, IsMet}
+use Rattle.relationships.specs.Fates.{walk_of}
+use Rattle.rel_checker.specs.File.{its_paths, its_kept}
+use Rattle.relationships.specs.Fates.{is_kept}
+use Rattle.rel_checker.specs.declared.rule.Rule.TheVariants.{PathsCleaned}
+use Rattle.rel_checker.specs.Rules.{IsSound, IsMet}
 use Rattle.rel_checker.specs.Tables.{kept_in}
 
 -- the paths of the lines

@@ -5,12 +5,14 @@ use Rattle.std.proofs.lemmas.Option.{slice_get-get_or}
 use Rattle.relationships.specs.declared.walk.Walk.{Walk}
 use Rattle.relationships.specs.Evidence.{Refutes}
 use Rattle.relationships.specs.Checking.{kept_of}
-use Rattle.result_text.specs.declared.file.Fate.TheVariants.{Lost}
+use Rattle.relationships.specs.declared.fate.Fate.TheVariants.{Lost}
 use Rattle.result_text.specs.declared.file.PathLine.{PathLine}
 use Rattle.result_text.specs.declared.file.ResultFile.{ResultFile}
-use Rattle.rel_checker.specs.File.{kept_before, walk_of}
+use Rattle.relationships.specs.Fates.{walk_of}
+use Rattle.rel_checker.specs.File.{kept_before}
 use Rattle.rel_checker.specs.Naming.{nameable}
-use Rattle.rel_checker.specs.Rules.{LostRefuted, Asks}
+use Rattle.rel_checker.specs.declared.rule.Rule.TheVariants.{LostRefuted}
+use Rattle.rel_checker.specs.Rules.{Asks}
 
 -- the line is kept, or its walk refutes over the paths of the kept lines before it and its own
 abbrev pub IsRight : List PathLine → PathLine → Type 0

@@ -5,22 +5,23 @@ use Rattle.std.proofs.lemmas.List.Elements.{All-from_recursion}
 use Rattle.relationships.specs.Checking.{Claim, IsBorneOut, IsProbe, ProbesFrom}
 use Rattle.relationships.specs.Evidence.{paths_of}
 use Rattle.result_text.specs.declared.file.ResultFile.{ResultFile}
-use Rattle.result_text.specs.declared.file.ProbeLine.{ProbeLine}
-use Rattle.rel_checker.specs.File.{claim_of, its_kept, its_claims, its_probes, orders_of}
-use Rattle.rel_checker.specs.Rules.{MarksBorneOut, IsMet}
+use Rattle.relationships.specs.declared.mark.Probe.{Probe}
+use Rattle.rel_checker.specs.File.{claim_on, its_kept, its_claims, its_probes, shown_orders}
+use Rattle.rel_checker.specs.declared.rule.Rule.TheVariants.{MarksBorneOut}
+use Rattle.rel_checker.specs.Rules.{IsMet}
 use Rattle.rel_checker.proofs.Accepted.{each_at, same_length}
 
 pub marks_are_borne_out : (file : ResultFile) → IsMet file MarksBorneOut →
-    All (IsBorneOut (paths_of (its_kept file)) (orders_of file.whys) (its_probes file)) (its_claims file)
+    All (IsBorneOut (paths_of (its_kept file)) (shown_orders file.whys) (its_probes file)) (its_claims file)
 marks_are_borne_out file met =
-    All-from_recursion (IsBorneOut (paths_of (its_kept file)) (orders_of file.whys) (its_probes file)) (its_claims file)
-    (each_at (IsBorneOut (paths_of (its_kept file)) (orders_of file.whys) (its_probes file)) (its_claims file)
+    All-from_recursion (IsBorneOut (paths_of (its_kept file)) (shown_orders file.whys) (its_probes file)) (its_claims file)
+    (each_at (IsBorneOut (paths_of (its_kept file)) (shown_orders file.whys) (its_probes file)) (its_claims file)
     (λ k claim at. (met k (within k claim at)).0 claim at))
   where
     within : (k : ℕ) (claim : Claim) → slice_get (its_claims file) k ≡ Some claim → k < length file.edges + length file.probes
     within k claim at =
         let lt = slice_get_within (its_claims file) k claim at in
-        let same = same_length claim_of file.edges in
+        let same = same_length claim_on file.edges in
         omega (arith, lt, same)
 
 -- from the open lines that came before, and each that is still to come behind those
@@ -40,8 +41,8 @@ probes_serve file met = probes_from (paths_of (its_kept file)) (its_claims file)
     each : (k : ℕ) (p : ℕ × ℕ) → slice_get (its_probes file) k ≡ Some p → IsProbe (paths_of (its_kept file)) (its_claims file) (take k (its_probes file)) p
     each k p at =
         let lt = slice_get_within (its_probes file) k p at in
-        let same = same_length {Y = ℕ × ℕ} (λ (q : ProbeLine). (q.over, q.under)) file.probes in
+        let same = same_length {Y = ℕ × ℕ} (λ (q : Probe). (q.over, q.under)) file.probes in
         let back : length file.edges + k - length file.edges ≡ k = omega arith in
         let at_back : slice_get (its_probes file) (length file.edges + k - length file.edges) ≡ Some p = subst (λ n. slice_get (its_probes file) n ≡ Some p) (sym back) at in
         subst (λ n. IsProbe (paths_of (its_kept file)) (its_claims file) (take n (its_probes file)) p) back
-        ((met (length file.edges + k) (omega (arith, lt, same))).1 p (omega arith) at_back)
+        ((met (length file.edges + k) (omega (arith, lt, same))).1 (omega arith) p at_back)

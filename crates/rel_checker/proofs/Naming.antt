@@ -4,10 +4,11 @@ use Rattle.std.proofs.lemmas.Bool.{false≢true}
 use Rattle.std.proofs.lemmas.List.{get_or-map, length-map, get_or_default}
 use Rattle.std.proofs.lemmas.List.Elements.{Contains-push, Contains-push_cases, Contains-append_left}
 use Rattle.relationships.proofs.Places.{kept_from-in, kept_from-out}
-use Rattle.result_text.specs.declared.file.Fate.{Fate}
-use Rattle.result_text.specs.declared.file.Fate.TheVariants.{Kept, Lost}
+use Rattle.relationships.specs.declared.fate.Fate.{Fate}
+use Rattle.relationships.specs.declared.fate.Fate.TheVariants.{Kept, Lost}
 use Rattle.result_text.specs.declared.file.PathLine.{PathLine}
-use Rattle.rel_checker.specs.File.{kept_among, walk_of}
+use Rattle.relationships.specs.Fates.{walk_of}
+use Rattle.rel_checker.specs.File.{kept_among}
 use Rattle.rel_checker.specs.Naming.{nameable}
 use Rattle.rel_checker.proofs.WalkLaws.{paths_in, walks_in}
 

@@ -12,7 +12,8 @@ use Rattle.path_clean.specs.Table.{place_of, with_path, Names}
 use Rattle.result_text.specs.declared.file.PathLine.{PathLine}
 use Rattle.result_text.specs.declared.file.ResultFile.{ResultFile}
 use Rattle.rel_checker.specs.File.{its_paths}
-use Rattle.rel_checker.specs.Rules.{PathsDistinct, Asks, IsSound, IsNew, BreaksFirst}
+use Rattle.rel_checker.specs.declared.rule.Rule.TheVariants.{PathsDistinct}
+use Rattle.rel_checker.specs.Rules.{Asks, IsSound, IsNew, BreaksFirst}
 use Rattle.rel_checker.specs.Tables.{is_new}
 use Rattle.rel_checker.proofs.Lines.{before-more, at-place, numbers-more, take-paths}
 use Rattle.path_clean.proofs.TableLemmas.{eq_true, eq_self}

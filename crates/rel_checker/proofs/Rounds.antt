@@ -4,17 +4,17 @@ use Rattle.std.proofs.lemmas.Bool.{cases_lt, cases_Bool, eqb-true}
 use Rattle.std.proofs.lemmas.Option.{get_or_from_slice_get, same_Some}
 use Rattle.std.proofs.lemmas.List.Elements.{Contains-push, Contains-append_left, Contains-append_right, Contains-append_cases}
 use Rattle.std.proofs.lemmas.List.Sums.{sum_by-set}
-use Rattle.rel_checker.specs.Neighbours.{HasNext, Leads, here, onward}
-use Rattle.rel_checker.specs.Spreading.{IsMarked, unmarked, Marks, Search, IsClosed, IsSpread}
+use Rattle.rel_checker.specs.Neighbours.{HasNext, Reaches, here, onward}
+use Rattle.rel_checker.specs.Searching.{IsVisited, unvisited, Visits, Search, IsClosed, IsSearched}
 use Rattle.rel_checker.proofs.Gets.{get_from_Contains, Contains-from_get, Contains-none, Contains-one, slice_get-lt, slice_get-some, slice_get-push_old, slice_get-set_cases, slice_get-set_other, slice_get-set_same}
 
 -- ---- marks
 
-pub marks-none : (round : ℕ) (marks found : List ℕ) → Marks round [] marks marks found found
-marks-none round marks found = record {
+pub rounds-none : (round : ℕ) (rounds found : List ℕ) → Visits round [] rounds rounds found found
+rounds-none round rounds found = record {
   added = [];
   more = sym (append-nil found);
-  marked = λ k c. absurd (Contains-none k c);
+  visited = λ k c. absurd (Contains-none k c);
   from = λ k c. absurd (Contains-none k c);
   others = λ k v at. inl at;
   kept = λ k h. h;
@@ -22,11 +22,11 @@ marks-none round marks found = record {
   fewer = omega arith;
 }
 
-pub marks-old : (round k : ℕ) (marks found : List ℕ) → IsMarked marks round k → Marks round (k ∷ []) marks marks found found
-marks-old round k marks found h = record {
+pub rounds-old : (round k : ℕ) (rounds found : List ℕ) → IsVisited rounds round k → Visits round (k ∷ []) rounds rounds found found
+rounds-old round k rounds found h = record {
   added = [];
   more = sym (append-nil found);
-  marked = λ j c. subst (IsMarked marks round) (Contains-one k j c) h;
+  visited = λ j c. subst (IsVisited rounds round) (Contains-one k j c) h;
   from = λ j c. absurd (Contains-none j c);
   others = λ j v at. inl at;
   kept = λ j m. m;
@@ -34,44 +34,44 @@ marks-old round k marks found h = record {
   fewer = omega arith;
 }
 
-unmarked_less : (round k m : ℕ) (marks : List ℕ) → slice_get marks k ≡ Some m → m ≢ round → unmarked round (set marks k round) + 1 ≡ unmarked round marks
-unmarked_less round k m marks at ne =
+unvisited_less : (round k m : ℕ) (rounds : List ℕ) → slice_get rounds k ≡ Some m → m ≢ round → unvisited round (set rounds k round) + 1 ≡ unvisited round rounds
+unvisited_less round k m rounds at ne =
     let f : ℕ → ℕ = λ n. if nat_eq n round then 0 else 1 in
-    let lt = slice_get-lt marks k m at in
-    let s = sum_by-set f marks k round 0 lt in
+    let lt = slice_get-lt rounds k m at in
+    let s = sum_by-set f rounds k round 0 lt in
     let differs : nat_eq m round ≡ false = elim (cases_Bool (nat_eq m round)) [ inl t ↦ absurd (ne (eqb-true m round t)) | inr n ↦ n ] in
-    let one : f (get_or marks k 0) ≡ 1 = ap f (get_or_from_slice_get marks k m 0 at) ∙ ap (λ b. if b then 0 else 1) differs in
+    let one : f (get_or rounds k 0) ≡ 1 = ap f (get_or_from_slice_get rounds k m 0 at) ∙ ap (λ b. if b then 0 else 1) differs in
     let none : f round ≡ 0 = ap (λ b. if b then 0 else 1) (eq-eqb round round refl) in
     omega (arith, s, one, none)
 
-pub marks-new : (round k m : ℕ) (marks new found found' : List ℕ) → slice_get marks k ≡ Some m → m ≢ round → new ≡ set marks k round → found' ≡ found ++ k ∷ [] →
-    Marks round (k ∷ []) marks new found found'
-marks-new round k m marks new found found' at ne e e' = rw (e, e') (record {
+pub rounds-new : (round k m : ℕ) (rounds new found found' : List ℕ) → slice_get rounds k ≡ Some m → m ≢ round → new ≡ set rounds k round → found' ≡ found ++ k ∷ [] →
+    Visits round (k ∷ []) rounds new found found'
+rounds-new round k m rounds new found found' at ne e e' = rw (e, e') (record {
   added = k ∷ [];
   more = refl;
-  marked = λ j c. subst (IsMarked (set marks k round) round) (Contains-one k j c) here_now;
+  visited = λ j c. subst (IsVisited (set rounds k round) round) (Contains-one k j c) here_now;
   from = λ j c. let same = Contains-one k j c in (
     c,
-    λ h. ne (same_Some m round (sym at ∙ subst (IsMarked marks round) (sym same) h)),
-    subst (IsMarked (set marks k round) round) same here_now,
+    λ h. ne (same_Some m round (sym at ∙ subst (IsVisited rounds round) (sym same) h)),
+    subst (IsVisited (set rounds k round) round) same here_now,
   );
-  others = λ j v h. elim (slice_get-set_cases marks k round j v h) [
+  others = λ j v h. elim (slice_get-set_cases rounds k round j v h) [
     | inl p ↦ inr (p.1, subst (Contains (k ∷ [])) (sym p.0) (Contains-push [] k))
     | inr p ↦ inl p.1
   ];
-  kept = λ j h. slice_get-set_other marks k round j (λ q. ne (same_Some m round (sym at ∙ subst (IsMarked marks round) q h))) ∙ h;
-  many = length-set marks k round;
-  fewer = omega (arith, unmarked_less round k m marks at ne, length-append found (k ∷ []));
+  kept = λ j h. slice_get-set_other rounds k round j (λ q. ne (same_Some m round (sym at ∙ subst (IsVisited rounds round) q h))) ∙ h;
+  many = length-set rounds k round;
+  fewer = omega (arith, unvisited_less round k m rounds at ne, length-append found (k ∷ []));
 })
   where
-    here_now : IsMarked (set marks k round) round k
-    here_now = slice_get-set_same marks k round (slice_get-lt marks k m at)
+    here_now : IsVisited (set rounds k round) round k
+    here_now = slice_get-set_same rounds k round (slice_get-lt rounds k m at)
 
-pub marks-more : (round : ℕ) (seen more old mid new f f' f'' : List ℕ) → Marks round seen old mid f f' → Marks round more mid new f' f'' → Marks round (seen ++ more) old new f f''
-marks-more round seen more old mid new f f' f'' a b = record {
+pub rounds-more : (round : ℕ) (seen more old mid new f f' f'' : List ℕ) → Visits round seen old mid f f' → Visits round more mid new f' f'' → Visits round (seen ++ more) old new f f''
+rounds-more round seen more old mid new f f' f'' a b = record {
   added = a.added ++ b.added;
   more = b.more ∙ ap (λ l. l ++ b.added) a.more ∙ append_assoc f a.added b.added;
-  marked = λ k c. elim (Contains-append_cases seen more k c) [ inl h ↦ b.kept k (a.marked k h) | inr h ↦ b.marked k h ];
+  visited = λ k c. elim (Contains-append_cases seen more k c) [ inl h ↦ b.kept k (a.visited k h) | inr h ↦ b.visited k h ];
   from = λ k c. elim (Contains-append_cases a.added b.added k c) [
     | inl h ↦ let w = a.from k h in (Contains-append_left seen more k w.0, w.1, b.kept k w.2)
     | inr h ↦ let w = b.from k h in (Contains-append_right seen more k w.0, λ m. w.1 (a.kept k m), w.2)
@@ -90,13 +90,13 @@ marks-more round seen more old mid new f f' f'' a b = record {
 
 -- ---- the search
 
-pub search-start : (rows : List (List ℕ)) (start round : ℕ) (old new found found' : List ℕ) → found ≡ [] → Marks round (start ∷ []) old new found found' → Search rows start round old new found' 0
+pub search-start : (rows : List (List ℕ)) (start round : ℕ) (old new found found' : List ℕ) → found ≡ [] → Visits round (start ∷ []) old new found found' → Search rows start round old new found' 0
 search-start rows start round old new found found' e m =
     let is : found' ≡ m.added = m.more ∙ ap (λ l. l ++ m.added) e in record {
-      begun = m.marked start (Contains-push [] start);
+      begun = m.visited start (Contains-push [] start);
       reached = λ k c.
           let w = m.from k (subst (λ l. Contains l k) is c) in
-          (subst (Leads rows start) (Contains-one start k w.0) here, w.1, w.2);
+          (subst (Reaches rows start) (Contains-one start k w.0) here, w.1, w.2);
       followed = λ i k lt. absurd (omega arith);
       others = λ k v at. elim (m.others k v at) [ inl h ↦ inl h | inr h ↦ inr (h.0, subst (λ l. Contains l k) (sym is) h.1) ];
       kept = m.kept;
@@ -105,7 +105,7 @@ search-start rows start round old new found found' e m =
     }
 
 pub search-more : (rows : List (List ℕ)) (start round next k : ℕ) (old mid new found found' row : List ℕ) → Search rows start round old mid found next →
-    slice_get found next ≡ Some k → slice_get rows k ≡ Some row → Marks round row mid new found found' → Search rows start round old new found' (next + 1)
+    slice_get found next ≡ Some k → slice_get rows k ≡ Some row → Visits round row mid new found found' → Search rows start round old new found' (next + 1)
 search-more rows start round next k old mid new found found' row s at its_row m = record {
   begun = m.kept start s.begun;
   reached = λ j c. elim (Contains-append_cases found m.added j (subst (λ l. Contains l j) m.more c)) [
@@ -121,7 +121,7 @@ search-more rows start round next k old mid new found found' row s at its_row m 
         let e : i ≡ next = omega arith in
         let same : k ≡ j = same_Some k j (sym (old_at next k at) ∙ subst (λ n. slice_get found' n ≡ Some j) e at_i) in
         let row_same : row ≡ h.0 = same_Some row h.0 (sym its_row ∙ ap (slice_get rows) same ∙ h.1) in
-        m.marked l (subst (λ r. Contains r l) (sym row_same) h.2)
+        m.visited l (subst (λ r. Contains r l) (sym row_same) h.2)
   ];
   others = λ j v h. elim (m.others j v h) [
     | inl g ↦ elim (s.others j v g) [
@@ -144,7 +144,7 @@ search-more rows start round next k old mid new found found' row s at its_row m 
         w.1 ∙ sym (old_at n w.0 w.1) ∙ e
 
 pub search-end : (rows : List (List ℕ)) (start round next : ℕ) (old new found : List ℕ) → IsClosed rows old round → Search rows start round old new found next → length found ≤ next →
-    IsSpread rows start round old new found
+    IsSearched rows start round old new found
 search-end rows start round next old new found closed s done = record {
   exact = λ k. (λ h. came k h, λ h. elim h [ inl o ↦ s.kept k o | inr l ↦ comes l ]);
   noted = λ k. (λ c. let w = s.reached k c in (w.2, w.1), λ h. elim (s.others k round h.0) [ inl o ↦ absurd (h.1 o) | inr o ↦ o.1 ]);
@@ -152,22 +152,22 @@ search-end rows start round next old new found closed s done = record {
   many = s.many;
 }
   where
-    came : (k : ℕ) → IsMarked new round k → IsMarked old round k ⊎ Leads rows start k
+    came : (k : ℕ) → IsVisited new round k → IsVisited old round k ⊎ Reaches rows start k
     came k h = elim (s.others k round h) [ inl o ↦ inl o | inr o ↦ inr (s.reached k o.1).0 ]
 
-    new_closed : (i j : ℕ) → IsMarked new round i → HasNext rows i j → IsMarked new round j
+    new_closed : (i j : ℕ) → IsVisited new round i → HasNext rows i j → IsVisited new round j
     new_closed i j h n = elim (s.others i round h) [
       | inl o ↦ s.kept j (closed i j o n)
       | inr o ↦ let w = get_from_Contains found i o.1 in s.followed w.0 i (omega (arith, slice_get-lt found w.0 i w.1)) w.1 j n
     ]
 
-    comes : {k : ℕ} → Leads rows start k → IsMarked new round k
+    comes : {k : ℕ} → Reaches rows start k → IsVisited new round k
     comes here = s.begun
     comes (onward {i = i} {j = j} l n) = new_closed i j (comes l) n
 
--- what a spread leaves is closed again
-pub closed-spread : (rows : List (List ℕ)) (start round : ℕ) (old new found : List ℕ) → IsClosed rows old round → IsSpread rows start round old new found → IsClosed rows new round
-closed-spread rows start round old new found closed s i j h n =
+-- what a search leaves is closed again
+pub closed-reach : (rows : List (List ℕ)) (start round : ℕ) (old new found : List ℕ) → IsClosed rows old round → IsSearched rows start round old new found → IsClosed rows new round
+closed-reach rows start round old new found closed s i j h n =
     elim ((s.exact i).0 h) [
       | inl o ↦ (s.exact j).1 (inl (closed i j o n))
       | inr l ↦ (s.exact j).1 (inr (onward l n))

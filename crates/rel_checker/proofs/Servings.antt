@@ -1,4 +1,4 @@
--- What open lines serve for: which turned orders their closures have, and which of them are new.
+-- What open lines serve for: which flipped orders their closures have, and which of them are new.
 use Rattle.std.proofs.Common.{◌≡◌, ◌⊎◌, inl, inr, ℕ, true, false, IsFalse, List, [], ◌∷◌, ◌++◌, Some, map, get_or, slice_get, refl, sym, ap, ◌∙◌, subst, arith, All, Any, Contains}
 use Rattle.std.proofs.lemmas.Bool.{false≢true}
 use Rattle.std.proofs.lemmas.List.Elements.{All-contains, Contains-push, Contains-push_cases, Contains-append_left, Contains-get_or}
@@ -6,16 +6,17 @@ use Rattle.relationships.specs.declared.label.Label.{Label}
 use Rattle.relationships.specs.declared.label.Label.TheVariants as label
 use Rattle.relationships.specs.Evidence.{IsTriple, Closure, IsConsistent}
 use Rattle.relationships.specs.Checking.{Claim, OtherOrder, IsProbe}
-use Rattle.result_text.specs.declared.file.EdgeMark.{EdgeMark}
-use Rattle.result_text.specs.declared.file.EdgeMark.TheVariants.{Forced, Loose}
+use Rattle.relationships.specs.declared.mark.Mark.{Mark}
+use Rattle.relationships.specs.declared.mark.Mark.TheVariants.{Forced, Loose}
 use Rattle.result_text.specs.declared.file.EdgeLine.{EdgeLine}
-use Rattle.rel_checker.specs.File.{is_forced, claim_of}
-use Rattle.rel_checker.specs.Neighbours.{Leads}
-use Rattle.rel_checker.specs.Spreading.{IsMarked, IsSpread}
-use Rattle.rel_checker.specs.Turning.{turned_by, turned, turned_orders, TurnsTo, IsBuilt, IsProper, IsSettled}
+use Rattle.relationships.specs.Marking.{is_forced}
+use Rattle.rel_checker.specs.File.{claim_on}
+use Rattle.rel_checker.specs.Neighbours.{Reaches}
+use Rattle.rel_checker.specs.Searching.{IsVisited, IsSearched}
+use Rattle.rel_checker.specs.Flipping.{flipped_by, flipped, flipped_orders, FlipsTo, IsBuilt, IsProper, IsSettled}
 use Rattle.rel_checker.specs.Serving.{is_wanted, IsWantedAt, Gains, IsCovered}
 use Rattle.rel_checker.proofs.Gets.{get_from_Contains, Contains-from_get, slice_get-map, slice_get-unmap}
-use Rattle.rel_checker.proofs.Turnings.{leads_exactly, none_turns}
+use Rattle.rel_checker.proofs.Flippings.{reaches_exactly, none_flips}
 
 -- ---- any of a list
 
@@ -41,110 +42,111 @@ module _ {X : Type 0} (P : X → Type 0) where
 
 -- ---- the other order
 
-wanted_label : (mark : EdgeMark) (l : Label) → is_wanted mark l ≡ true → (mark ≡ Loose) × ((l ≡ label.Low) ⊎ (l ≡ label.High))
+wanted_label : (mark : Mark) (l : Label) → is_wanted mark l ≡ true → (mark ≡ Loose) × ((l ≡ label.Low) ⊎ (l ≡ label.High))
 wanted_label Forced l h = absurd (false≢true h)
 wanted_label Loose label.Low h = (refl, inl refl)
 wanted_label Loose label.High h = (refl, inr refl)
 wanted_label Loose label.Peer h = absurd (false≢true h)
 
--- an edge that is wanted turns to its other order
-pub other_of_turned : (line : EdgeLine) (x y : ℕ) → is_wanted line.mark line.label ≡ true → turned line ≡ (x, y) → OtherOrder (claim_of line) x y
-other_of_turned line x y wanted e =
+-- an edge that is wanted flips to its other order
+pub other_of_flipped : (line : EdgeLine) (x y : ℕ) → is_wanted line.mark line.label ≡ true → flipped line ≡ (x, y) → OtherOrder (claim_on line) x y
+other_of_flipped line x y wanted e =
     elim (wanted_label line.mark line.label wanted).1 [
-      | inl low ↦ let h = sym e ∙ ap (λ l. turned_by l line.low line.high) low in inl (low, ap (λ (p : ℕ × ℕ). p.0) h, ap (λ (p : ℕ × ℕ). p.1) h)
-      | inr high ↦ let h = sym e ∙ ap (λ l. turned_by l line.low line.high) high in inr (high, ap (λ (p : ℕ × ℕ). p.0) h, ap (λ (p : ℕ × ℕ). p.1) h)
+      | inl low ↦ let h = sym e ∙ ap (λ l. flipped_by l line.low line.high) low in inl (low, ap (λ (p : ℕ × ℕ). p.0) h, ap (λ (p : ℕ × ℕ). p.1) h)
+      | inr high ↦ let h = sym e ∙ ap (λ l. flipped_by l line.low line.high) high in inr (high, ap (λ (p : ℕ × ℕ). p.0) h, ap (λ (p : ℕ × ℕ). p.1) h)
     ]
 
 pub open_of_wanted : (line : EdgeLine) → is_wanted line.mark line.label ≡ true → IsFalse (is_forced line.mark)
 open_of_wanted line wanted = ap is_forced (wanted_label line.mark line.label wanted).0
 
-pub turned_of_other : (line : EdgeLine) (x y : ℕ) → OtherOrder (claim_of line) x y → turned line ≡ (x, y)
-turned_of_other line x y (inl o) = ap (λ l. turned_by l line.low line.high) o.0 ∙ pair (sym o.1) (sym o.2)
+pub flipped_of_other : (line : EdgeLine) (x y : ℕ) → OtherOrder (claim_on line) x y → flipped line ≡ (x, y)
+flipped_of_other line x y (inl o) = ap (λ l. flipped_by l line.low line.high) o.0 ∙ pair (sym o.1) (sym o.2)
   where
     pair : {a b c d : ℕ} → a ≡ c → b ≡ d → ◌≡◌ {A = ℕ × ℕ} (a, b) (c, d)
     pair e f = cc
-turned_of_other line x y (inr o) = ap (λ l. turned_by l line.low line.high) o.0 ∙ pair (sym o.1) (sym o.2)
+flipped_of_other line x y (inr o) = ap (λ l. flipped_by l line.low line.high) o.0 ∙ pair (sym o.1) (sym o.2)
   where
     pair : {a b c d : ℕ} → a ≡ c → b ≡ d → ◌≡◌ {A = ℕ × ℕ} (a, b) (c, d)
     pair e f = cc
 
-wanted_loose : (mark : EdgeMark) (l : Label) → is_forced mark ≡ false → (l ≡ label.Low) ⊎ (l ≡ label.High) → is_wanted mark l ≡ true
+wanted_loose : (mark : Mark) (l : Label) → is_forced mark ≡ false → (l ≡ label.Low) ⊎ (l ≡ label.High) → is_wanted mark l ≡ true
 wanted_loose Forced l f h = absurd (false≢true (sym f))
 wanted_loose Loose l f (inl e) = ap (is_wanted Loose) e
 wanted_loose Loose l f (inr e) = ap (is_wanted Loose) e
 
-pub wanted_of_other : (line : EdgeLine) (x y : ℕ) → IsFalse (is_forced line.mark) → OtherOrder (claim_of line) x y → is_wanted line.mark line.label ≡ true
+pub wanted_of_other : (line : EdgeLine) (x y : ℕ) → IsFalse (is_forced line.mark) → OtherOrder (claim_on line) x y → is_wanted line.mark line.label ≡ true
 wanted_of_other line x y f (inl o) = wanted_loose line.mark line.label f (inl o.0)
 wanted_of_other line x y f (inr o) = wanted_loose line.mark line.label f (inr o.0)
 
 -- ---- cover
 
-module _ (lines : List EdgeLine) (kept carried barred : List (List ℕ)) (built : IsBuilt (turned_orders lines) (IsTriple kept) carried barred) (proper : IsProper (turned_orders lines)) (settled : IsSettled (turned_orders lines) kept) where
-  pub covered-none : (earlier : List (ℕ × ℕ)) (p : ℕ × ℕ) (marks : List ℕ) (round : ℕ) → ((k : ℕ) → TurnsTo (turned_orders lines) k p.0 p.1 → ⊥) →
-      IsCovered kept (turned_orders lines) earlier marks round → IsCovered kept (turned_orders lines) (earlier ++ p ∷ []) marks round
-  covered-none earlier p marks round none covered k x y t = (
+module _ (lines : List EdgeLine) (kept implied conflicting : List (List ℕ)) (built : IsBuilt (flipped_orders lines) (IsTriple kept) implied conflicting)
+    (proper : IsProper (flipped_orders lines)) (settled : IsSettled (flipped_orders lines) kept) where
+  pub covered-none : (earlier : List (ℕ × ℕ)) (p : ℕ × ℕ) (rounds : List ℕ) (round : ℕ) → ((k : ℕ) → FlipsTo (flipped_orders lines) k p.0 p.1 → ⊥) →
+      IsCovered kept (flipped_orders lines) earlier rounds round → IsCovered kept (flipped_orders lines) (earlier ++ p ∷ []) rounds round
+  covered-none earlier p rounds round none covered k x y t = (
     λ m. Any-push_old (λ q. Closure kept q.0 q.1 x y) earlier p ((covered k x y t).0 m),
     λ a. elim (Any-push_cases (λ q. Closure kept q.0 q.1 x y) earlier p a) [
       | inl h ↦ (covered k x y t).1 h
-      | inr h ↦ absurd (none_turns (turned_orders lines) kept carried barred built proper settled p.0 p.1 none h k t)
+      | inr h ↦ absurd (none_flips (flipped_orders lines) kept implied conflicting built proper settled p.0 p.1 none h k t)
     ],
   )
 
-  pub covered-more : (earlier : List (ℕ × ℕ)) (p : ℕ × ℕ) (start round : ℕ) (old new found : List ℕ) → TurnsTo (turned_orders lines) start p.0 p.1 → IsSpread carried start round old new found →
-      IsCovered kept (turned_orders lines) earlier old round → IsCovered kept (turned_orders lines) (earlier ++ p ∷ []) new round
-  covered-more earlier p start round old new found ts spread covered k x y t = (
-    λ m. elim ((spread.exact k).0 m) [
+  pub covered-more : (earlier : List (ℕ × ℕ)) (p : ℕ × ℕ) (start round : ℕ) (old new found : List ℕ) → FlipsTo (flipped_orders lines) start p.0 p.1 → IsSearched implied start round old new found →
+      IsCovered kept (flipped_orders lines) earlier old round → IsCovered kept (flipped_orders lines) (earlier ++ p ∷ []) new round
+  covered-more earlier p start round old new found ts reach covered k x y t = (
+    λ m. elim ((reach.exact k).0 m) [
       | inl o ↦ Any-push_old (λ q. Closure kept q.0 q.1 x y) earlier p ((covered k x y t).0 o)
-      | inr l ↦ Any-push_last (λ q. Closure kept q.0 q.1 x y) earlier p ((leads_exactly (turned_orders lines) kept carried barred built proper settled start p.0 p.1 k x y ts t).0 l)
+      | inr l ↦ Any-push_last (λ q. Closure kept q.0 q.1 x y) earlier p ((reaches_exactly (flipped_orders lines) kept implied conflicting built proper settled start p.0 p.1 k x y ts t).0 l)
     ],
     λ a. elim (Any-push_cases (λ q. Closure kept q.0 q.1 x y) earlier p a) [
-      | inl h ↦ (spread.exact k).1 (inl ((covered k x y t).1 h))
-      | inr h ↦ (spread.exact k).1 (inr ((leads_exactly (turned_orders lines) kept carried barred built proper settled start p.0 p.1 k x y ts t).1 h))
+      | inl h ↦ (reach.exact k).1 (inl ((covered k x y t).1 h))
+      | inr h ↦ (reach.exact k).1 (inr ((reaches_exactly (flipped_orders lines) kept implied conflicting built proper settled start p.0 p.1 k x y ts t).1 h))
     ],
   )
 
-  pub gains_of : (earlier : List (ℕ × ℕ)) (p : ℕ × ℕ) (start round : ℕ) (old new found : List ℕ) → TurnsTo (turned_orders lines) start p.0 p.1 → IsSpread carried start round old new found →
-      IsCovered kept (turned_orders lines) earlier old round → Any (IsWantedAt lines) found → Gains kept (map claim_of lines) earlier p
-  gains_of earlier p start round old new found ts spread covered (i, k, lt, is, (line, at, wanted)) =
-      let t : TurnsTo (turned_orders lines) k (turned line).0 (turned line).1 = slice_get-map turned lines k line at in
-      let fresh = (spread.noted k).0 (i, lt, is) in
-      let led : Leads carried start k = elim ((spread.exact k).0 fresh.0) [ inl o ↦ absurd (fresh.1 o) | inr l ↦ l ] in
+  pub gains_of : (earlier : List (ℕ × ℕ)) (p : ℕ × ℕ) (start round : ℕ) (old new found : List ℕ) → FlipsTo (flipped_orders lines) start p.0 p.1 → IsSearched implied start round old new found →
+      IsCovered kept (flipped_orders lines) earlier old round → Any (IsWantedAt lines) found → Gains kept (map claim_on lines) earlier p
+  gains_of earlier p start round old new found ts reach covered (i, k, lt, is, (line, at, wanted)) =
+      let t : FlipsTo (flipped_orders lines) k (flipped line).0 (flipped line).1 = slice_get-map flipped lines k line at in
+      let fresh = (reach.noted k).0 (i, lt, is) in
+      let led : Reaches implied start k = elim ((reach.exact k).0 fresh.0) [ inl o ↦ absurd (fresh.1 o) | inr l ↦ l ] in
       record {
-        claim = claim_of line;
-        claimed = Contains-from_get (map claim_of lines) k (claim_of line) (slice_get-map claim_of lines k line at);
+        claim = claim_on line;
+        claimed = Contains-from_get (map claim_on lines) k (claim_on line) (slice_get-map claim_on lines k line at);
         is_open = open_of_wanted line wanted;
-        over = (turned line).0;
-        under = (turned line).1;
-        other = other_of_turned line (turned line).0 (turned line).1 wanted refl;
-        reached = (leads_exactly (turned_orders lines) kept carried barred built proper settled start p.0 p.1 k (turned line).0 (turned line).1 ts t).0 led;
-        new = All-not (λ q. Closure kept q.0 q.1 (turned line).0 (turned line).1) earlier (λ a. fresh.1 ((covered k (turned line).0 (turned line).1 t).1 a));
+        over = (flipped line).0;
+        under = (flipped line).1;
+        other = other_of_flipped line (flipped line).0 (flipped line).1 wanted refl;
+        reached = (reaches_exactly (flipped_orders lines) kept implied conflicting built proper settled start p.0 p.1 k (flipped line).0 (flipped line).1 ts t).0 led;
+        new = All-not (λ q. Closure kept q.0 q.1 (flipped line).0 (flipped line).1) earlier (λ a. fresh.1 ((covered k (flipped line).0 (flipped line).1 t).1 a));
       }
 
   -- the line of the edge that is gained
-  gained : (earlier : List (ℕ × ℕ)) (p : ℕ × ℕ) (g : Gains kept (map claim_of lines) earlier p) →
-      (k : ℕ) × (line : EdgeLine) × (slice_get lines k ≡ Some line) × TurnsTo (turned_orders lines) k g.over g.under × (is_wanted line.mark line.label ≡ true)
+  gained : (earlier : List (ℕ × ℕ)) (p : ℕ × ℕ) (g : Gains kept (map claim_on lines) earlier p) →
+      (k : ℕ) × (line : EdgeLine) × (slice_get lines k ≡ Some line) × FlipsTo (flipped_orders lines) k g.over g.under × (is_wanted line.mark line.label ≡ true)
   gained earlier p g =
-      let c = get_from_Contains (map claim_of lines) g.claim g.claimed in
-      let l = slice_get-unmap claim_of lines c.0 g.claim c.1 in
+      let c = get_from_Contains (map claim_on lines) g.claim g.claimed in
+      let l = slice_get-unmap claim_on lines c.0 g.claim c.1 in
       let other = subst (λ w. OtherOrder w g.over g.under) (sym l.2) g.other in
       let open' = subst (λ (w : Claim). IsFalse w.forced) (sym l.2) g.is_open in
-      (c.0, l.0, l.1, slice_get-map turned lines c.0 l.0 l.1 ∙ ap (λ (q : ℕ × ℕ). Some q) (turned_of_other l.0 g.over g.under other), wanted_of_other l.0 g.over g.under open' other)
+      (c.0, l.0, l.1, slice_get-map flipped lines c.0 l.0 l.1 ∙ ap (λ (q : ℕ × ℕ). Some q) (flipped_of_other l.0 g.over g.under other), wanted_of_other l.0 g.over g.under open' other)
 
-  pub finds_of : (earlier : List (ℕ × ℕ)) (p : ℕ × ℕ) (start round : ℕ) (old new found : List ℕ) → TurnsTo (turned_orders lines) start p.0 p.1 → IsSpread carried start round old new found →
-      IsCovered kept (turned_orders lines) earlier old round → Gains kept (map claim_of lines) earlier p → Any (IsWantedAt lines) found
-  finds_of earlier p start round old new found ts spread covered g =
+  pub finds_of : (earlier : List (ℕ × ℕ)) (p : ℕ × ℕ) (start round : ℕ) (old new found : List ℕ) → FlipsTo (flipped_orders lines) start p.0 p.1 → IsSearched implied start round old new found →
+      IsCovered kept (flipped_orders lines) earlier old round → Gains kept (map claim_on lines) earlier p → Any (IsWantedAt lines) found
+  finds_of earlier p start round old new found ts reach covered g =
       let w = gained earlier p g in
       let k = w.0 in
       let t = w.3 in
-      let led = (leads_exactly (turned_orders lines) kept carried barred built proper settled start p.0 p.1 k g.over g.under ts t).1 g.reached in
-      let unmarked : IsMarked old round k → ⊥ = λ m. let a = (covered k g.over g.under t).0 m in All-contains (λ q. Closure kept q.0 q.1 g.over g.under → ⊥) earlier a.1 g.new (a.0, a.2, a.3) a.4 in
-      Any-from (IsWantedAt lines) found k ((spread.noted k).1 ((spread.exact k).1 (inr led), unmarked)) (w.1, w.2, w.4)
+      let led = (reaches_exactly (flipped_orders lines) kept implied conflicting built proper settled start p.0 p.1 k g.over g.under ts t).1 g.reached in
+      let unvisited : IsVisited old round k → ⊥ = λ m. let a = (covered k g.over g.under t).0 m in All-contains (λ q. Closure kept q.0 q.1 g.over g.under → ⊥) earlier a.1 g.new (a.0, a.2, a.3) a.4 in
+      Any-from (IsWantedAt lines) found k ((reach.noted k).1 ((reach.exact k).1 (inr led), unvisited)) (w.1, w.2, w.4)
 
   -- an order against no label gains nothing
-  pub gains_turned : (earlier : List (ℕ × ℕ)) (p : ℕ × ℕ) → ((k : ℕ) → TurnsTo (turned_orders lines) k p.0 p.1 → ⊥) → Gains kept (map claim_of lines) earlier p → ⊥
-  gains_turned earlier p none g =
+  pub gains_flipped : (earlier : List (ℕ × ℕ)) (p : ℕ × ℕ) → ((k : ℕ) → FlipsTo (flipped_orders lines) k p.0 p.1 → ⊥) → Gains kept (map claim_on lines) earlier p → ⊥
+  gains_flipped earlier p none g =
       let w = gained earlier p g in
-      none_turns (turned_orders lines) kept carried barred built proper settled p.0 p.1 none g.reached w.0 w.3
+      none_flips (flipped_orders lines) kept implied conflicting built proper settled p.0 p.1 none g.reached w.0 w.3
 
 -- an open line serves exactly if it gains and its closure is consistent
 pub probe_of_gains : (kept : List (List ℕ)) (claims : List Claim) (earlier : List (ℕ × ℕ)) (p : ℕ × ℕ) → Gains kept claims earlier p → IsConsistent kept p.0 p.1 → IsProbe kept claims earlier p

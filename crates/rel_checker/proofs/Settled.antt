@@ -21,18 +21,20 @@ use Rattle.relationships.proofs.Places.{index-from_StandAt, kept_from-out}
 use Rattle.relationships.proofs.Serving.{Apart, Apart-from_distinct, serves_satisfies}
 use Rattle.relationships.proofs.Slopes.{over-low, over-high, over_one_way}
 use Rattle.path_clean.proofs.GraphPaths.{apart_if_cleaned}
-use Rattle.result_text.specs.declared.file.Fate.{Fate}
-use Rattle.result_text.specs.declared.file.Fate.TheVariants.{Kept, Lost}
+use Rattle.relationships.specs.declared.fate.Fate.{Fate}
+use Rattle.relationships.specs.declared.fate.Fate.TheVariants.{Kept, Lost}
 use Rattle.result_text.specs.declared.file.PathLine.{PathLine}
 use Rattle.result_text.specs.declared.file.EdgeLine.{EdgeLine}
 use Rattle.result_text.specs.declared.file.ResultFile.{ResultFile}
-use Rattle.rel_checker.specs.File.{walk_of, its_paths, its_edges, its_labels, claim_of}
-use Rattle.rel_checker.specs.Rules.{PathsCleaned, EdgesListed, KeptValleyFree, IsMet}
-use Rattle.rel_checker.specs.Turning.{turned_by, turned, turned_orders, edges_of, TurnsTo, kept_lines, IsListed, IsBuilt, IsSettled, AreApart}
+use Rattle.relationships.specs.Fates.{walk_of}
+use Rattle.rel_checker.specs.File.{its_paths, its_edges, its_labels, claim_on}
+use Rattle.rel_checker.specs.declared.rule.Rule.TheVariants.{PathsCleaned, EdgesListed, KeptValleyFree}
+use Rattle.rel_checker.specs.Rules.{IsMet}
+use Rattle.rel_checker.specs.Flipping.{flipped_by, flipped, flipped_orders, edges_of, FlipsTo, kept_lines, IsListed, IsBuilt, IsSettled, AreApart}
 use Rattle.rel_checker.proofs.Gets.{slice_get-lt, slice_get-some, slice_get-map, slice_get-unmap, All-get, Contains-from_get, get_from_Contains}
 use Rattle.rel_checker.specs.Serving.{IsLaidOut}
 use Rattle.relationships.specs.Checking.{Claim}
-use Rattle.rel_checker.proofs.OrderPlaces.{pair, proper, turns_of, edge_of-swap}
+use Rattle.rel_checker.proofs.OrderPlaces.{pair, proper, flips_of, edge_of-swap}
 use Rattle.rel_checker.proofs.Showings.{two_orders}
 
 -- ---- lists
@@ -162,7 +164,8 @@ listed_on es (a ∷ path) h k lt =
     let e : k + 1 ≡ suc k = omega arith in
     subst (λ i. Contains es (edge_of (slice_index (a ∷ path) k) (slice_index (a ∷ path) i))) (sym e) (listed_from (Contains es) a path k h (omega arith))
 
-listed_each : (es : List Edge) (lines : List PathLine) → AllByRecursion (λ path. AllByRecursion (Contains es) (edges_on path)) (map (λ (p : PathLine). p.path) lines) → All (λ line. IsListed es line.path) lines
+listed_each : (es : List Edge) (lines : List PathLine) → AllByRecursion (λ path. AllByRecursion (Contains es) (edges_on path)) (map (λ (p : PathLine). p.path) lines)
+    → All (λ line. IsListed es line.path) lines
 listed_each es [] h = All-nil (λ line. IsListed es line.path)
 listed_each es (line ∷ lines) h = All-cons (λ line. IsListed es line.path) line lines (listed_on es line.path h.0) (listed_each es lines h.1)
 
@@ -262,23 +265,26 @@ reading L low high = read (L low high)
 reading_agrees : (L : Labelling) (es : List Edge) → AgreesOn es L (labels_of (reading L))
 reading_agrees L es = λ k d within. (λ h. rw h, λ h. rw h)
 
--- where an edge would turn to y over x, its label has x over y
-holds_by : (O : Orientation) (low high x y : ℕ) (l : Label) → low < high → O low high ≡ read l → turned_by l low high ≡ (y, x) → is_over (labels_of O) x y ≡ true
+-- where an edge would flip to y over x, its label has x over y
+holds_by : (O : Orientation) (low high x y : ℕ) (l : Label) → low < high → O low high ≡ read l → flipped_by l low high ≡ (y, x) → is_over (labels_of O) x y ≡ true
 holds_by O low high x y label.Low lt e t =
     let h : ◌≡◌ {A = ℕ × ℕ} (high, low) (y, x) = t in
-    subst (λ w. is_over (labels_of O) w y ≡ true) (ap (λ (p : ℕ × ℕ). p.1) h) (subst (λ w. is_over (labels_of O) low w ≡ true) (ap (λ (p : ℕ × ℕ). p.0) h) (over-low (labels_of O) low high lt (ap (λ v. is_low (label_of v)) e)))
+    subst (λ w. is_over (labels_of O) w y ≡ true) (ap (λ (p : ℕ × ℕ). p.1) h)
+    (subst (λ w. is_over (labels_of O) low w ≡ true) (ap (λ (p : ℕ × ℕ). p.0) h) (over-low (labels_of O) low high lt (ap (λ v. is_low (label_of v)) e)))
 holds_by O low high x y label.High lt e t =
     let h : ◌≡◌ {A = ℕ × ℕ} (low, high) (y, x) = t in
-    subst (λ w. is_over (labels_of O) w y ≡ true) (ap (λ (p : ℕ × ℕ). p.1) h) (subst (λ w. is_over (labels_of O) high w ≡ true) (ap (λ (p : ℕ × ℕ). p.0) h) (over-high (labels_of O) low high lt (ap (λ v. is_high (label_of v)) e)))
+    subst (λ w. is_over (labels_of O) w y ≡ true) (ap (λ (p : ℕ × ℕ). p.1) h)
+    (subst (λ w. is_over (labels_of O) high w ≡ true) (ap (λ (p : ℕ × ℕ). p.0) h) (over-high (labels_of O) low high lt (ap (λ v. is_high (label_of v)) e)))
 holds_by O low high x y label.Peer lt e t =
     let h : ◌≡◌ {A = ℕ × ℕ} (high, low) (y, x) = t in
-    subst (λ w. is_over (labels_of O) w y ≡ true) (ap (λ (p : ℕ × ℕ). p.1) h) (subst (λ w. is_over (labels_of O) low w ≡ true) (ap (λ (p : ℕ × ℕ). p.0) h) (over-low (labels_of O) low high lt (ap (λ v. is_low (label_of v)) e)))
+    subst (λ w. is_over (labels_of O) w y ≡ true) (ap (λ (p : ℕ × ℕ). p.1) h)
+    (subst (λ w. is_over (labels_of O) low w ≡ true) (ap (λ (p : ℕ × ℕ). p.0) h) (over-low (labels_of O) low high lt (ap (λ v. is_low (label_of v)) e)))
 
--- an edge turns to one of the orders of its two ASes
-turns_either : (l : Label) (low high x y : ℕ) → edge_of x y ≡ (low, high) → (turned_by l low high ≡ (x, y)) ⊎ (turned_by l low high ≡ (y, x))
-turns_either label.Low low high x y e = elim (two_orders x y low high e) [ inl h ↦ inr (pair (sym (ap (λ (p : ℕ × ℕ). p.1) h)) (sym (ap (λ (p : ℕ × ℕ). p.0) h))) | inr h ↦ inl (sym h) ]
-turns_either label.High low high x y e = elim (two_orders x y low high e) [ inl h ↦ inl (sym h) | inr h ↦ inr (pair (sym (ap (λ (p : ℕ × ℕ). p.1) h)) (sym (ap (λ (p : ℕ × ℕ). p.0) h))) ]
-turns_either label.Peer low high x y e = elim (two_orders x y low high e) [ inl h ↦ inr (pair (sym (ap (λ (p : ℕ × ℕ). p.1) h)) (sym (ap (λ (p : ℕ × ℕ). p.0) h))) | inr h ↦ inl (sym h) ]
+-- an edge flips to one of the orders of its two ASes
+flips_either : (l : Label) (low high x y : ℕ) → edge_of x y ≡ (low, high) → (flipped_by l low high ≡ (x, y)) ⊎ (flipped_by l low high ≡ (y, x))
+flips_either label.Low low high x y e = elim (two_orders x y low high e) [ inl h ↦ inr (pair (sym (ap (λ (p : ℕ × ℕ). p.1) h)) (sym (ap (λ (p : ℕ × ℕ). p.0) h))) | inr h ↦ inl (sym h) ]
+flips_either label.High low high x y e = elim (two_orders x y low high e) [ inl h ↦ inl (sym h) | inr h ↦ inr (pair (sym (ap (λ (p : ℕ × ℕ). p.1) h)) (sym (ap (λ (p : ℕ × ℕ). p.0) h))) ]
+flips_either label.Peer low high x y e = elim (two_orders x y low high e) [ inl h ↦ inr (pair (sym (ap (λ (p : ℕ × ℕ). p.1) h)) (sym (ap (λ (p : ℕ × ℕ). p.0) h))) | inr h ↦ inl (sym h) ]
 
 module _ (file : ResultFile) (cleaned : IsMet file PathsCleaned) (listed : IsMet file EdgesListed) (served : IsMet file KeptValleyFree) where
   abbrev O : Orientation
@@ -297,63 +303,65 @@ module _ (file : ResultFile) (cleaned : IsMet file PathsCleaned) (listed : IsMet
 
   label_of_line : (k : ℕ) (line : EdgeLine) → slice_get file.edges k ≡ Some line → its_labels file line.low line.high ≡ line.label
   label_of_line k line at =
-      let claims = map claim_of file.edges in
-      let c = slice_get-map claim_of file.edges k line at in
-      let e = slice_get-map (λ (c : Claim). (c.low, c.high)) claims k (claim_of line) c in
-      let l = slice_get-map (λ (c : Claim). c.label) claims k (claim_of line) c in
+      let claims = map claim_on file.edges in
+      let c = slice_get-map claim_on file.edges k line at in
+      let e = slice_get-map (λ (c : Claim). (c.low, c.high)) claims k (claim_on line) c in
+      let l = slice_get-map (λ (c : Claim). c.label) claims k (claim_on line) c in
       let same : map (λ (c : Claim). (c.low, c.high)) claims ≡ edges_of file.edges = same_edges file.edges in
       label_at (map (λ (c : Claim). (c.low, c.high)) claims) (map (λ (c : Claim). c.label) claims) k line.low line.high line.label (subst Once (sym same) its_once) e l
     where
-      same_edges : (lines : List EdgeLine) → map (λ (c : Claim). (c.low, c.high)) (map claim_of lines) ≡ edges_of lines
+      same_edges : (lines : List EdgeLine) → map (λ (c : Claim). (c.low, c.high)) (map claim_on lines) ≡ edges_of lines
       same_edges [] = refl
       same_edges (line ∷ lines) = ap (λ (l : List Edge). (line.low, line.high) ∷ l) (same_edges lines)
 
-  holds : (k x y : ℕ) → TurnsTo (turned_orders file.edges) k y x → is_over (labels_of O) x y ≡ true
+  holds : (k x y : ℕ) → FlipsTo (flipped_orders file.edges) k y x → is_over (labels_of O) x y ≡ true
   holds k x y t =
-      let w = slice_get-unmap turned file.edges k (y, x) t in
+      let w = slice_get-unmap flipped file.edges k (y, x) t in
       let lt = All-get (λ (l : EdgeLine). l.low < l.high) file.edges k w.0 (edges_apart file cleaned listed).rising w.1 in
       holds_by O w.0.low w.0.high x y w.0.label lt (ap read (label_of_line k w.0 w.1)) w.2
 
   -- two neighbours on a kept path are the ends of an edge line
-  neighbours : (x y : ℕ) → Contains (edges_of file.edges) (edge_of x y) → ((k : ℕ) × TurnsTo (turned_orders file.edges) k x y) ⊎ ((k : ℕ) × TurnsTo (turned_orders file.edges) k y x)
+  neighbours : (x y : ℕ) → Contains (edges_of file.edges) (edge_of x y) → ((k : ℕ) × FlipsTo (flipped_orders file.edges) k x y) ⊎ ((k : ℕ) × FlipsTo (flipped_orders file.edges) k y x)
   neighbours x y c =
       let at = get_from_Contains (edges_of file.edges) (edge_of x y) c in
       let w = slice_get-unmap (λ (e : EdgeLine). (e.low, e.high)) file.edges at.0 (edge_of x y) at.1 in
-      elim (turns_either w.0.label w.0.low w.0.high x y (sym w.2)) [
-        | inl t ↦ inl (at.0, turns_of file.edges at.0 x y w.0 w.1 t)
-        | inr t ↦ inr (at.0, turns_of file.edges at.0 y x w.0 w.1 t)
+      elim (flips_either w.0.label w.0.low w.0.high x y (sym w.2)) [
+        | inl t ↦ inl (at.0, flips_of file.edges at.0 x y w.0 w.1 t)
+        | inr t ↦ inr (at.0, flips_of file.edges at.0 y x w.0 w.1 t)
       ]
 
-  pub settled : IsSettled (turned_orders file.edges) (kept_lines file.paths)
+  pub settled : IsSettled (flipped_orders file.edges) (kept_lines file.paths)
   settled = record {
     listed = λ x y z t.
         let w = kept_line file.paths t.0 t.1 in
         let each = subst (IsListed (its_edges file)) w.3 (All-get (λ line. IsListed (its_edges file) line.path) file.paths w.0 w.1 (lines_listed file cleaned listed) w.2) in
         first_two t.0 t.2.0 x y z each t.2.1;
-    no_valley = λ x y z i j t ti tj.
+    no_valley = λ x y z t (i, ti) (j, tj).
         over_one_way (labels_of O) y z (serves_satisfies O (kept_lines file.paths) kept_served x y z t (holds i x y ti)) (holds j z y tj);
   }
     where
       first_two : (path : List ℕ) (at x y z : ℕ) → IsListed (edges_of file.edges) path → TripleAt path at x y z →
-          ((k : ℕ) × TurnsTo (turned_orders file.edges) k x y) ⊎ ((k : ℕ) × TurnsTo (turned_orders file.edges) k y x)
+          ((k : ℕ) × FlipsTo (flipped_orders file.edges) k x y) ⊎ ((k : ℕ) × FlipsTo (flipped_orders file.edges) k y x)
       first_two path at x y z each (inl s) =
           let w = index-from_StandAt path at x y z s in
           let two = w.0 in
           let within = w.1 in
           let e : at - 2 + 1 ≡ at - 1 = omega arith in
           let c = each (at - 2) (omega arith) in
-          neighbours x y (subst (λ v. Contains (edges_of file.edges) (edge_of v y)) w.2 (subst (λ v. Contains (edges_of file.edges) (edge_of (slice_index path (at - 2)) v)) (ap (slice_index path) e ∙ w.3) c))
+          neighbours x y (subst (λ v. Contains (edges_of file.edges) (edge_of v y)) w.2
+          (subst (λ v. Contains (edges_of file.edges) (edge_of (slice_index path (at - 2)) v)) (ap (slice_index path) e ∙ w.3) c))
       first_two path at x y z each (inr s) =
           let w = index-from_StandAt path at z y x s in
           let two = w.0 in
           let within = w.1 in
           let e : at - 1 + 1 ≡ at = omega arith in
           let c = each (at - 1) (omega arith) in
-          let c' = subst (λ v. Contains (edges_of file.edges) (edge_of v x)) w.3 (subst (λ v. Contains (edges_of file.edges) (edge_of (slice_index path (at - 1)) v)) (ap (slice_index path) e ∙ w.4) c) in
+          let c' = subst (λ v. Contains (edges_of file.edges) (edge_of v x)) w.3
+          (subst (λ v. Contains (edges_of file.edges) (edge_of (slice_index path (at - 1)) v)) (ap (slice_index path) e ∙ w.4) c) in
           neighbours x y (subst (Contains (edges_of file.edges)) (edge_of-swap y x) c')
 
-  pub laid : (carried barred : List (List ℕ)) → IsBuilt (turned_orders file.edges) (IsTriple (kept_lines file.paths)) carried barred → IsLaidOut file (its_edges file) carried barred
-  laid carried barred built = record {
+  pub laid : (implied conflicting : List (List ℕ)) → IsBuilt (flipped_orders file.edges) (IsTriple (kept_lines file.paths)) implied conflicting → IsLaidOut file (its_edges file) implied conflicting
+  laid implied conflicting built = record {
     listed = refl;
     few = edges_few file cleaned listed;
     apart = edges_apart file cleaned listed;

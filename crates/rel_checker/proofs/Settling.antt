@@ -2,7 +2,9 @@
 use Rattle.std.proofs.Common.{◌≡◌, ℕ, ◌+◌, ◌≤◌, ◌∙◌, refl, sym, ap, subst, arith, Option, Some, None, inl, inr, ◌==◌, if◌then◌else◌}
 use Rattle.std.proofs.lemmas.Bool.{cases_order}
 use Rattle.result_text.specs.declared.file.ResultFile.{ResultFile}
-use Rattle.rel_checker.specs.Rules.{Rule, RatioBounded, PathsCleaned, PathsDistinct, LostRefuted, EdgesListed, KeptValleyFree, SupportCounted, OrdersShown, MarksBorneOut, TotalsRight, number_of, line_for, IsMet, Accepts, BreaksFirst, IsRefused}
+use Rattle.rel_checker.specs.declared.rule.Rule.{Rule}
+use Rattle.rel_checker.specs.declared.rule.Rule.TheVariants.{RatioBounded, PathsCleaned, PathsDistinct, LostRefuted, EdgesListed, KeptValleyFree, SupportCounted, OrdersShown, MarksBorneOut, TotalsRight}
+use Rattle.rel_checker.specs.Rules.{number_of, line_for, IsMet, Accepts, BreaksFirst, IsRefused}
 use Rattle.rel_checker.specs.Steps.{MetUpTo}
 use Rattle.rel_checker.specs.Verdict.{Judges, Finds}
 use Rattle.rel_checker.specs.declared.answer.Answer.{Answer}

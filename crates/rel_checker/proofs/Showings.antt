@@ -6,8 +6,8 @@ use Rattle.std.proofs.lemmas.List.Elements.{Contains-push, Contains-push_cases, 
 use Rattle.relationships.specs.Graph.{Edge, edge_of}
 use Rattle.relationships.specs.declared.walk.Walk.{Walk}
 use Rattle.result_text.specs.declared.file.EdgeLine.{EdgeLine}
-use Rattle.rel_checker.specs.File.{last_two, orders_of}
-use Rattle.rel_checker.specs.Turning.{edges_of, AreApart}
+use Rattle.rel_checker.specs.File.{last_two, shown_orders}
+use Rattle.rel_checker.specs.Flipping.{edges_of, AreApart}
 use Rattle.rel_checker.specs.Serving.{IsShownBy}
 use Rattle.rel_checker.proofs.Gets.{slice_get-map, slice_get-set_cases, slice_get-set_other, slice_get-set_same, All-get, Contains-from_get}
 use Rattle.rel_checker.proofs.OrderPlaces.{pair, edge_of-rising, edge_of-falling}
@@ -54,7 +54,8 @@ module _ (lines : List EdgeLine) (ok : AreApart lines) where
     | inr same ↦ inr (subst (Contains (orders ++ (a, b) ∷ [])) same (Contains-push orders (a, b)))
   ]
 
-  pub shown-absent : (orders : List (ℕ × ℕ)) (a b : ℕ) (shown : List Bool) → (Contains (edges_of lines) (edge_of a b) → ⊥) → IsShownBy lines orders shown → IsShownBy lines (orders ++ (a, b) ∷ []) shown
+  pub shown-absent : (orders : List (ℕ × ℕ)) (a b : ℕ) (shown : List Bool) → (Contains (edges_of lines) (edge_of a b) → ⊥) → IsShownBy lines orders shown
+      → IsShownBy lines (orders ++ (a, b) ∷ []) shown
   shown-absent orders a b shown none h k line at = (
     λ t. still_one orders (a, b) line ((h k line at).0 t),
     λ one. elim (one_cases orders a b k line at one) [
@@ -101,6 +102,6 @@ last_two-is (a ∷ b ∷ d ∷ ases) le =
     last_two-is (b ∷ d ∷ ases) (omega arith) ∙
     ap (λ (p : ℕ × ℕ). p ∷ []) (pair (ap (slice_index (a ∷ b ∷ d ∷ ases)) (sym e)) (ap (slice_index (a ∷ b ∷ d ∷ ases)) (sym e')))
 
-pub orders_more : (whys : List Walk) (w : Walk) → orders_of (whys ++ w ∷ []) ≡ orders_of whys ++ last_two w.ases
+pub orders_more : (whys : List Walk) (w : Walk) → shown_orders (whys ++ w ∷ []) ≡ shown_orders whys ++ last_two w.ases
 orders_more [] w = append-nil (last_two w.ases)
-orders_more (v ∷ whys) w = ap (λ l. last_two v.ases ++ l) (orders_more whys w) ∙ sym (append_assoc (last_two v.ases) (orders_of whys) (last_two w.ases))
+orders_more (v ∷ whys) w = ap (λ l. last_two v.ases ++ l) (orders_more whys w) ∙ sym (append_assoc (last_two v.ases) (shown_orders whys) (last_two w.ases))

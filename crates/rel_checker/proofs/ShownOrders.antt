@@ -7,9 +7,10 @@ use Rattle.relationships.specs.declared.walk.Walk.{Walk}
 use Rattle.relationships.specs.Evidence.{Numbered, EndsWith, Shows}
 use Rattle.result_text.specs.declared.file.PathLine.{PathLine}
 use Rattle.result_text.specs.declared.file.ResultFile.{ResultFile}
-use Rattle.rel_checker.specs.File.{last_two, orders_of}
+use Rattle.rel_checker.specs.File.{last_two, shown_orders}
 use Rattle.rel_checker.specs.File.{kept_among}
-use Rattle.rel_checker.specs.Rules.{OrdersShown, Asks}
+use Rattle.rel_checker.specs.declared.rule.Rule.TheVariants.{OrdersShown}
+use Rattle.rel_checker.specs.Rules.{Asks}
 use Rattle.rel_checker.proofs.WalkLaws.{last_two-from_ends}
 
 -- fewer than two
@@ -59,22 +60,22 @@ module _ (file : ResultFile) (whys : List Walk) (k : ℕ) (walk : Walk) (same : 
   is_it : walk ≡ get_or file.whys k walk
   is_it = rw same at is
 
-  pub orders_more : (shown shown' : List (ℕ × ℕ)) (a b : ℕ) → shown ≡ orders_of (take k file.whys) → shown' ≡ shown ++ (a, b) ∷ [] → EndsWith walk.ases a b →
-      shown' ≡ orders_of (take (k + 1) file.whys)
+  pub orders_more : (shown shown' : List (ℕ × ℕ)) (a b : ℕ) → shown ≡ shown_orders (take k file.whys) → shown' ≡ shown ++ (a, b) ∷ [] → EndsWith walk.ases a b →
+      shown' ≡ shown_orders (take (k + 1) file.whys)
   orders_more shown shown' a b before more ends =
-      let orders = orders_of (take k file.whys) in
+      let orders = shown_orders (take k file.whys) in
       let e = last_two-from_ends walk.ases a b ends in
-      more ∙ ap (λ l. l ++ (a, b) ∷ []) before ∙ sym (ap orders_of (take_more file.whys k walk in_file) ∙
+      more ∙ ap (λ l. l ++ (a, b) ∷ []) before ∙ sym (ap shown_orders (take_more file.whys k walk in_file) ∙
       flat_map-append (λ (w : Walk). last_two w.ases) (take k file.whys) (get_or file.whys k walk ∷ []) ∙
       ap (λ (w : Walk). orders ++ (last_two w.ases ++ [])) (sym is_it) ∙ ap (λ l. orders ++ (l ++ [])) e)
 
-  pub asks_shown : (lines : List PathLine) (shown : List (ℕ × ℕ)) → lines ≡ file.paths → shown ≡ orders_of (take k file.whys) →
+  pub asks_shown : (lines : List PathLine) (shown : List (ℕ × ℕ)) → lines ≡ file.paths → shown ≡ shown_orders (take k file.whys) →
       (k < length file.whys) × (((a b : ℕ) × Shows (kept_among lines) shown walk a b) ↔ Asks file OrdersShown k)
   asks_shown lines shown paths before =
       let at : slice_get file.whys k ≡ Some walk = slice_get-get_or file.whys k walk in_file ∙ ap (λ w. Some w) (sym is_it) in (
         in_file,
         (
-          λ h other at'. subst (λ (w : Walk). (a b : ℕ) × Shows (kept_among file.paths) (orders_of (take k file.whys)) w a b) (some (sym at ∙ at')) (rw (paths, before) at h),
+          λ h other at'. subst (λ (w : Walk). (a b : ℕ) × Shows (kept_among file.paths) (shown_orders (take k file.whys)) w a b) (some (sym at ∙ at')) (rw (paths, before) at h),
           λ asks. rw (paths, before) (asks walk at),
         ),
       )

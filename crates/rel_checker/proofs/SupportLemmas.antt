@@ -8,19 +8,19 @@ use Rattle.relationships.specs.Graph.{Edge, edge_of, is_same, edges_from, edges_
 use Rattle.relationships.proofs.Edges.{same_edge}
 use Rattle.tor_arena.specs.Distinct.{is_distinct}
 use Rattle.result_text.specs.declared.file.PathLine.{PathLine}
-use Rattle.rel_checker.specs.Rules.{is_kept}
+use Rattle.relationships.specs.Fates.{is_kept}
 use Rattle.rel_checker.specs.Tables.{edge_at, HaveRisen, AreCounts, kept_in}
 use Rattle.rel_checker.proofs.Lines.{kept-more, kept-few}
 use Rattle.rel_checker.proofs.EdgeTables.{is_same-self}
 
-turned : (e f : Edge) → is_same e f ≡ true → is_same f e ≡ true
-turned e f t = rw (same_edge e f t) (is_same-self f)
+flipped : (e f : Edge) → is_same e f ≡ true → is_same f e ≡ true
+flipped e f t = rw (same_edge e f t) (is_same-self f)
 
-pub same-turned : (e f : Edge) → is_same e f ≡ is_same f e
-same-turned e f =
+pub same-flipped : (e f : Edge) → is_same e f ≡ is_same f e
+same-flipped e f =
     elim (cases_Bool (is_same e f)) [
-      | inl t ↦ t ∙ sym (turned e f t)
-      | inr n ↦ n ∙ sym (false_from_ne_true (is_same f e) (λ t. absurd (both_ways (is_same e f) n (turned f e t))))
+      | inl t ↦ t ∙ sym (flipped e f t)
+      | inr n ↦ n ∙ sym (false_from_ne_true (is_same f e) (λ t. absurd (both_ways (is_same e f) n (flipped f e t))))
     ]
 
 -- ---- the steps of a path
@@ -42,8 +42,8 @@ underway-step es old counts next path a b rest before risen = record {
       let more = risen.1 k within in
       let all = before.so_far k within in
       let split = sum_by-cons (λ f. if is_same e f then 1 else 0) (edge_of a b) (edges_from b rest) in
-      let turn : one (is_same e (edge_of a b)) ≡ one (is_same (edge_of a b) e) = ap one (same-turned e (edge_of a b)) in
-      omega (arith, more, all, split, turn);
+      let flip : one (is_same e (edge_of a b)) ≡ one (is_same (edge_of a b) e) = ap one (same-flipped e (edge_of a b)) in
+      omega (arith, more, all, split, flip);
 }
 
 few-from : (a : ℕ) (path : List ℕ) → length (edges_from a path) ≤ length path
@@ -118,7 +118,8 @@ once-from e a (b ∷ path) distinct =
       | inr n ↦
           let rest = once-from e b path parts.1 in
           let here : one (is_same e (edge_of a b)) ≡ 0 = ap one n in
-          let all : one (is_same e (edge_of a b) || list_any (is_same e) (edges_from b path)) ≡ one (list_any (is_same e) (edges_from b path)) = ap (λ s. one (s || list_any (is_same e) (edges_from b path))) n in
+          let all : one (is_same e (edge_of a b) || list_any (is_same e) (edges_from b path)) ≡ one (list_any (is_same e) (edges_from b path)) =
+          ap (λ s. one (s || list_any (is_same e) (edges_from b path))) n in
           omega (arith, split, rest, here, all)
     ]
 

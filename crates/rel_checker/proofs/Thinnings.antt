@@ -3,25 +3,26 @@ use Rattle.std.proofs.Common.{◌≡◌, ◌↔◌, inl, inr, ℕ, ◌<◌, ◌�
 use Rattle.std.proofs.lemmas.Bool.{cases_Bool, eqb-true, eq-eqb, both_ways}
 use Rattle.std.proofs.lemmas.Option.{slice_get-get_or, same_Some}
 use Rattle.rel_checker.specs.Neighbours.{HasNext, IsInside, with_next}
-use Rattle.rel_checker.specs.Spreading.{Marks}
-use Rattle.rel_checker.specs.Turning.{IsBuilt}
+use Rattle.rel_checker.specs.Searching.{Visits}
+use Rattle.rel_checker.specs.Flipping.{IsBuilt}
 use Rattle.rel_checker.proofs.Gets.{All-get, slice_get-set_cases, slice_get-set_other, slice_get-set_same}
 use Rattle.rel_checker.proofs.Buildings.{next_cases, length-with_next}
-use Rattle.rel_checker.proofs.Consistencies.{unmarked_below}
+use Rattle.rel_checker.proofs.Consistencies.{unvisited_below}
 
 -- a round that no edge bears yet notes exactly the edges of the row
-noted_exactly : (round : ℕ) (row old new none found : List ℕ) → All (λ m. m < round) old → none ≡ [] → Marks round row old new none found → (j : ℕ) → Contains found j ↔ Contains row j
+noted_exactly : (round : ℕ) (row old new none found : List ℕ) → All (λ m. m < round) old → none ≡ [] → Visits round row old new none found → (j : ℕ) → Contains found j ↔ Contains row j
 noted_exactly round row old new none found below e m j =
     let is : found ≡ m.added = m.more ∙ ap (λ l. l ++ m.added) e in (
       λ c. (m.from j (subst (λ l. Contains l j) is c)).0,
-      λ c. elim (m.others j round (m.marked j c)) [
-        | inl h ↦ absurd (unmarked_below old round below j h)
+      λ c. elim (m.others j round (m.visited j c)) [
+        | inl h ↦ absurd (unvisited_below old round below j h)
         | inr h ↦ subst (λ l. Contains l j) (sym is) h.1
       ],
     )
 
 -- with such a row in place of the old one, each row has the same edges
-put_exactly : (rows : List (List ℕ)) (edge : ℕ) (row once : List ℕ) → edge < length rows → slice_get rows edge ≡ Some row → ((j : ℕ) → Contains once j ↔ Contains row j) → (i j : ℕ) → HasNext (set rows edge once) i j ↔ HasNext rows i j
+put_exactly : (rows : List (List ℕ)) (edge : ℕ) (row once : List ℕ) → edge < length rows → slice_get rows edge ≡ Some row → ((j : ℕ) → Contains once j ↔ Contains row j) → (i j : ℕ)
+    → HasNext (set rows edge once) i j ↔ HasNext rows i j
 put_exactly rows edge row once lt at same i j = (
   λ h. elim (slice_get-set_cases rows edge once i h.0 h.1) [
     | inl p ↦ (row, subst (λ k. slice_get rows k ≡ Some row) (sym p.0) at, (same j).0 (subst (λ l. Contains l j) p.1 h.2))
@@ -36,7 +37,8 @@ put_exactly rows edge row once lt at same i j = (
   ],
 )
 
-pub thinned : (first rows rows' : List (List ℕ)) (edge round : ℕ) (row old new none once : List ℕ) → edge < length rows → slice_get rows edge ≡ Some row → All (λ m. m < round) old → none ≡ [] → Marks round row old new none once →
+pub thinned : (first rows rows' : List (List ℕ)) (edge round : ℕ) (row old new none once : List ℕ) → edge < length rows → slice_get rows edge ≡ Some row → All (λ m. m < round) old
+    → none ≡ [] → Visits round row old new none once →
     rows' ≡ set rows edge once → ((i j : ℕ) → HasNext rows i j ↔ HasNext first i j) → (i j : ℕ) → HasNext rows' i j ↔ HasNext first i j
 thinned first rows rows' edge round row old new none once lt at below e m put same i j =
     let one = put_exactly rows edge row once lt at (noted_exactly round row old new none once below e m) i j in (
@@ -44,21 +46,22 @@ thinned first rows rows' edge round row old new none once lt at below e m put sa
       λ h. subst (λ l. HasNext l i j) (sym put) (one.1 ((same i j).1 h)),
     )
 
-pub below_marks : (round : ℕ) (row old new found found' : List ℕ) → All (λ m. m < round) old → Marks round row old new found found' → All (λ m. m ≤ round) new
-below_marks round row old new found found' below m i d lt =
+pub below_rounds : (round : ℕ) (row old new found found' : List ℕ) → All (λ m. m < round) old → Visits round row old new found found' → All (λ m. m ≤ round) new
+below_rounds round row old new found found' below m i d lt =
     elim (m.others i (get_or new i d) (slice_get-get_or new i d lt)) [
       | inl o ↦ (let less = All-get (λ m. m < round) old i (get_or new i d) below o in omega arith)
       | inr e ↦ (let is = e.0 in omega arith)
     ]
 
 -- rows that have the same edges are built as well
-pub built_rows : (orders : List (ℕ × ℕ)) (T : ℕ → ℕ → ℕ → Type 0) (carried barred carried' barred' : List (List ℕ)) → IsBuilt orders T carried barred → length carried' ≡ length carried → length barred' ≡ length barred →
-    ((i j : ℕ) → HasNext carried' i j ↔ HasNext carried i j) → ((i j : ℕ) → HasNext barred' i j ↔ HasNext barred i j) → IsBuilt orders T carried' barred'
-built_rows orders T carried barred carried' barred' b m m' s s' = record {
-  carried_many = m ∙ b.carried_many;
-  barred_many = m' ∙ b.barred_many;
-  carries = λ i j. (λ h. (b.carries i j).0 ((s i j).0 h), λ c. (s i j).1 ((b.carries i j).1 c));
-  bars = λ i j. (λ h. (b.bars i j).0 ((s' i j).0 h), λ c. (s' i j).1 ((b.bars i j).1 c));
+pub built_rows : (orders : List (ℕ × ℕ)) (T : ℕ → ℕ → ℕ → Type 0) (implied conflicting implied' conflicting' : List (List ℕ)) → IsBuilt orders T implied conflicting
+    → length implied' ≡ length implied → length conflicting' ≡ length conflicting →
+    ((i j : ℕ) → HasNext implied' i j ↔ HasNext implied i j) → ((i j : ℕ) → HasNext conflicting' i j ↔ HasNext conflicting i j) → IsBuilt orders T implied' conflicting'
+built_rows orders T implied conflicting implied' conflicting' b m m' s s' = record {
+  implied_many = m ∙ b.implied_many;
+  conflicting_many = m' ∙ b.conflicting_many;
+  implies = λ i j. (λ h. (b.implies i j).0 ((s i j).0 h), λ c. (s i j).1 ((b.implies i j).1 c));
+  conflicts = λ i j. (λ h. (b.conflicts i j).0 ((s' i j).0 h), λ c. (s' i j).1 ((b.conflicts i j).1 c));
 }
 
 -- ---- rows that are added to one by one

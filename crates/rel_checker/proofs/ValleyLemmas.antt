@@ -10,14 +10,15 @@ use Rattle.relationships.proofs.Slopes.{slope-down, slope_cases, over_one_way}
 use Rattle.relationships.proofs.Deciding.{only_down, no_valley, no_valley_iff}
 use Rattle.relationships.specs.Checking.{Claim, claimed_labels}
 use Rattle.result_text.specs.declared.file.EdgeLine.{EdgeLine}
-use Rattle.result_text.specs.declared.file.Fate.TheVariants.{Kept}
+use Rattle.relationships.specs.declared.fate.Fate.TheVariants.{Kept}
 use Rattle.result_text.specs.declared.file.PathLine.{PathLine}
 use Rattle.result_text.specs.declared.file.ResultFile.{ResultFile}
-use Rattle.rel_checker.specs.File.{claim_of}
-use Rattle.rel_checker.specs.Rules.{KeptValleyFree, Asks, IsServed, BreaksFirst}
+use Rattle.rel_checker.specs.File.{claim_on}
+use Rattle.rel_checker.specs.declared.rule.Rule.TheVariants.{KeptValleyFree}
+use Rattle.rel_checker.specs.Rules.{Asks, IsServed, BreaksFirst}
 use Rattle.rel_checker.specs.Tables.{edge_at, labels_in}
 use Rattle.rel_checker.proofs.Lines.{IsLine, before-more, at-place}
-use Rattle.rel_checker.proofs.SupportLemmas.{same-turned}
+use Rattle.rel_checker.proofs.SupportLemmas.{same-flipped}
 
 -- ---- the label of an edge
 
@@ -25,16 +26,16 @@ labelling-at : (es : List Edge) (labels : List Label) (low high k : ℕ) (d : La
     ((j : ℕ) → j < k → is_same (low, high) (edge_at es j) ≡ false) → labelling es labels low high ≡ get_or labels k d
 labelling-at [] labels low high k d within same here before = absurd (omega (arith, within))
 labelling-at (e ∷ es) [] low high k d within same here before = absurd (omega (arith, same))
-labelling-at (e ∷ es) (l ∷ labels) low high zero d within same here before = rw (same-turned e (low, high), here) refl
+labelling-at (e ∷ es) (l ∷ labels) low high zero d within same here before = rw (same-flipped e (low, high), here) refl
 labelling-at (e ∷ es) (l ∷ labels) low high (suc k) d within same here before =
-    rw (same-turned e (low, high), before 0 (omega arith))
+    rw (same-flipped e (low, high), before 0 (omega arith))
     (labelling-at es labels low high k d (omega (arith, within)) (omega (arith, same)) here (λ j lt. before (suc j) (omega (arith, lt))))
 
 labelling-none : (es : List Edge) (labels : List Label) (low high : ℕ) → ((j : ℕ) → j < length es → is_same (low, high) (edge_at es j) ≡ false) → labelling es labels low high ≡ Label.Peer
 labelling-none [] labels low high none = refl
 labelling-none (e ∷ es) [] low high none = refl
 labelling-none (e ∷ es) (l ∷ labels) low high none =
-    rw (same-turned e (low, high), none 0 (omega arith)) (labelling-none es labels low high (λ j lt. none (suc j) (omega (arith, lt))))
+    rw (same-flipped e (low, high), none 0 (omega arith)) (labelling-none es labels low high (λ j lt. none (suc j) (omega (arith, lt))))
 
 abbrev Only : List Edge → Edge → Option ℕ → Type 0
 Only es e r = (k : ℕ) → k < length es → IsTrue (is_same e (edge_at es k)) ↔ (r ≡ Some k)
@@ -142,7 +143,8 @@ well-down : (falling : Bool) (ss : List Slope) → well falling (Down ∷ ss) �
 well-down true ss = refl
 well-down false ss = refl
 
-pub well-on : (L : Labelling) (a b : ℕ) (rest : List ℕ) (falling : Bool) → (falling ≡ true → is_over L a b ≡ true) → well falling (slopes L (a ∷ b ∷ rest)) ≡ well (not (is_over L b a)) (slopes L (b ∷ rest))
+pub well-on : (L : Labelling) (a b : ℕ) (rest : List ℕ) (falling : Bool) → (falling ≡ true → is_over L a b ≡ true)
+    → well falling (slopes L (a ∷ b ∷ rest)) ≡ well (not (is_over L b a)) (slopes L (b ∷ rest))
 well-on L a b rest falling goes =
     elim (cases_Bool falling) [
       | inl t ↦ let down = goes t in
@@ -173,7 +175,8 @@ stop-at L path (a ∷ b ∷ rest) falling provider two falls other is so_far = (
       absurd (both_ways (no_valley (slopes L path)) valley ((no_valley_iff L path).1 v)),
 )
 
-pub on-at : (L : Labelling) (rest : List ℕ) (falling up : Bool) → 2 ≤ length rest → (falling ≡ true → is_over L (get_or rest 0 0) (get_or rest 1 0) ≡ true) → up ≡ is_over L (get_or rest 1 0) (get_or rest 0 0) →
+pub on-at : (L : Labelling) (rest : List ℕ) (falling up : Bool) → 2 ≤ length rest → (falling ≡ true → is_over L (get_or rest 0 0) (get_or rest 1 0) ≡ true)
+    → up ≡ is_over L (get_or rest 1 0) (get_or rest 0 0) →
     well (not up) (slopes L (drop 1 rest)) ≡ well falling (slopes L rest)
 on-at L [] falling up two goes is = absurd (omega (arith, two))
 on-at L (a ∷ []) falling up two goes is = absurd (omega (arith, two))
@@ -188,15 +191,15 @@ end-at L path rest falling short so_far = (
 
 -- ---- the labels of a file
 
-pairs-same : (lines : List EdgeLine) → map (λ (c : Claim). (c.low, c.high)) (map claim_of lines) ≡ edges_in lines
+pairs-same : (lines : List EdgeLine) → map (λ (c : Claim). (c.low, c.high)) (map claim_on lines) ≡ edges_in lines
 pairs-same [] = refl
 pairs-same (line ∷ lines) = ap (λ (es : List Edge). (line.low, line.high) ∷ es) (pairs-same lines)
 
-marks-same : (lines : List EdgeLine) → map (λ (c : Claim). c.label) (map claim_of lines) ≡ marks_in lines
+marks-same : (lines : List EdgeLine) → map (λ (c : Claim). c.label) (map claim_on lines) ≡ marks_in lines
 marks-same [] = refl
 marks-same (line ∷ lines) = ap (λ (ls : List Label). line.label ∷ ls) (marks-same lines)
 
-labels-same : (lines : List EdgeLine) → claimed_labels (map claim_of lines) ≡ labels_in lines
+labels-same : (lines : List EdgeLine) → claimed_labels (map claim_on lines) ≡ labels_in lines
 labels-same lines = ap₂ labelling (pairs-same lines) (marks-same lines)
 
 -- ---- the kept paths, up to a place

@@ -5,12 +5,14 @@ use Rattle.std.proofs.lemmas.List.{take-map}
 use Rattle.relationships.specs.declared.walk.Walk.{Walk}
 use Rattle.relationships.specs.Evidence.{Numbered, kept_from, Refutes, Shows, Show, ShowFrom, EndsWith}
 use Rattle.relationships.specs.Checking.{LostFrom, LostAreRefuted}
-use Rattle.result_text.specs.declared.file.Fate.{Fate}
-use Rattle.result_text.specs.declared.file.Fate.TheVariants.{Kept, Lost}
+use Rattle.relationships.specs.declared.fate.Fate.{Fate}
+use Rattle.relationships.specs.declared.fate.Fate.TheVariants.{Kept, Lost}
 use Rattle.result_text.specs.declared.file.PathLine.{PathLine}
 use Rattle.result_text.specs.declared.file.ResultFile.{ResultFile}
-use Rattle.rel_checker.specs.File.{its_paths, its_walks, its_kept, walk_of, last_two, orders_of}
-use Rattle.rel_checker.specs.Rules.{LostRefuted, OrdersShown, IsMet}
+use Rattle.relationships.specs.Fates.{walk_of}
+use Rattle.rel_checker.specs.File.{its_paths, its_walks, its_kept, last_two, shown_orders}
+use Rattle.rel_checker.specs.declared.rule.Rule.TheVariants.{LostRefuted, OrdersShown}
+use Rattle.rel_checker.specs.Rules.{IsMet}
 
 abbrev pub paths_in : List PathLine → List (List ℕ)
 paths_in lines = map (λ (p : PathLine). p.path) lines
@@ -94,20 +96,20 @@ last_two-from_ends ases a b e = ap last_two e.1 ∙ last_two-from_end e.0 a b
 
 abbrev EachShown : Numbered → List (ℕ × ℕ) → List Walk → Type 0
 EachShown A shown walks =
-    (k : ℕ) (walk : Walk) → slice_get walks k ≡ Some walk → (a b : ℕ) × Shows A (shown ++ orders_of (take k walks)) walk a b
+    (k : ℕ) (walk : Walk) → slice_get walks k ≡ Some walk → (a b : ℕ) × Shows A (shown ++ shown_orders (take k walks)) walk a b
 
-show_from : (A : Numbered) (shown : List (ℕ × ℕ)) (walks : List Walk) → EachShown A shown walks → ShowFrom A shown walks (orders_of walks)
+show_from : (A : Numbered) (shown : List (ℕ × ℕ)) (walks : List Walk) → EachShown A shown walks → ShowFrom A shown walks (shown_orders walks)
 show_from A shown [] h = tt
 show_from A shown (w ∷ walks) h =
     let (a, b, s) = h zero w refl in
     let last = last_two-from_ends w.ases a b s.ends in
     let rest = show_from A (shown ++ (a, b) ∷ []) walks (λ k walk at.
     let r = h (suc k) walk at in
-    let same : shown ++ (last_two w.ases ++ orders_of (take k walks)) ≡ (shown ++ (a, b) ∷ []) ++ orders_of (take k walks) =
-    ap (λ l. shown ++ (l ++ orders_of (take k walks))) last ∙ sym (append_assoc shown ((a, b) ∷ []) (orders_of (take k walks))) in
+    let same : shown ++ (last_two w.ases ++ shown_orders (take k walks)) ≡ (shown ++ (a, b) ∷ []) ++ shown_orders (take k walks) =
+    ap (λ l. shown ++ (l ++ shown_orders (take k walks))) last ∙ sym (append_assoc shown ((a, b) ∷ []) (shown_orders (take k walks))) in
     subst (λ l. (a b : ℕ) × Shows A l walk a b) same r) in
     let first = subst (λ l. Shows A l w a b) (append-nil shown) s in
-    subst (ShowFrom A shown (w ∷ walks)) (sym (ap (λ l. l ++ orders_of walks) last)) (first, rest)
+    subst (ShowFrom A shown (w ∷ walks)) (sym (ap (λ l. l ++ shown_orders walks) last)) (first, rest)
 
-pub orders_are_shown : (file : ResultFile) → IsMet file OrdersShown → Show (its_kept file) file.whys (orders_of file.whys)
+pub orders_are_shown : (file : ResultFile) → IsMet file OrdersShown → Show (its_kept file) file.whys (shown_orders file.whys)
 orders_are_shown file met = show_from (its_kept file) [] file.whys (λ k walk at. met k (slice_get_within file.whys k walk at) walk at)

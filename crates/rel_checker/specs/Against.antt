@@ -21,8 +21,8 @@ row_of line = record { path = line.path; times = line.times }
 abbrev pub its_rows : ResultFile → List Counted
 its_rows file = map row_of file.paths
 
--- the lines of the counts, the seven from that of the first cause on, and behind them the path lines agree. A path that is absent counts as a
--- line behind the others
+-- the lines of the counts, the seven from that of the first cause on, and behind them the path lines agree. A path that is absent
+-- counts as a line behind the others
 pub record Agrees (file : ResultFile) (rows : List Counted) (counts : Counts) (k : ℕ) : Type 0 where
   pub count : k < 7 → slice_get (in_order file.asides) k ≡ slice_get (in_order counts) k
   pub path : 7 ≤ k → slice_get (its_rows file) (k - 7) ≡ slice_get rows (k - 7)

@@ -1,14 +1,12 @@
 -- What a result says, as lists that the definitions of relationships speak of.
-use Rattle.std.specs.Prelude.{ℕ, ◌+◌, ◌≤◌, ◌^◌, Bool, true, false, List, [], ◌∷◌, length, map, flat_map, take, Option, Some, None}
+use Rattle.std.specs.Prelude.{ℕ, ◌+◌, ◌≤◌, ◌^◌, List, [], ◌∷◌, length, map, flat_map, take, Option}
 use Rattle.relationships.specs.declared.walk.Walk.{Walk}
 use Rattle.relationships.specs.Relationship.{Labelling}
 use Rattle.relationships.specs.Graph.{Edge}
 use Rattle.relationships.specs.Evidence.{Numbered}
 use Rattle.relationships.specs.Checking.{Claim, kept_of, claimed_labels}
-use Rattle.result_text.specs.declared.file.Fate.{Fate}
-use Rattle.result_text.specs.declared.file.Fate.TheVariants.{Kept, Lost}
-use Rattle.result_text.specs.declared.file.EdgeMark.{EdgeMark}
-use Rattle.result_text.specs.declared.file.EdgeMark.TheVariants.{Forced, Loose}
+use Rattle.relationships.specs.Fates.{walk_of}
+use Rattle.relationships.specs.Marking.{claim_of, orders_of}
 use Rattle.result_text.specs.declared.file.EdgeLine.{EdgeLine}
 use Rattle.result_text.specs.declared.file.PathLine.{PathLine}
 use Rattle.result_text.specs.declared.file.ResultFile.{ResultFile}
@@ -19,11 +17,7 @@ use Rattle.result_text.specs.Numbering as numbering
 abbrev pub its_paths : ResultFile → List (List ℕ)
 its_paths file = map (λ p. p.path) file.paths
 
--- the walk that refutes a path; a kept path has none
-abbrev pub walk_of : Fate → Option Walk
-walk_of Kept = None
-walk_of (Lost walk) = Some walk
-
+-- the walks that refute them; a kept path has none
 abbrev pub its_walks : ResultFile → List (Option Walk)
 its_walks file = map (λ p. walk_of p.fate) file.paths
 
@@ -41,15 +35,12 @@ its_kept file = kept_among file.paths
 
 -- ---- edges
 
-abbrev pub is_forced : EdgeMark → Bool
-is_forced Forced = true
-is_forced Loose = false
-
-abbrev pub claim_of : EdgeLine → Claim
-claim_of e = record { low = e.low; high = e.high; label = e.label; forced = is_forced e.mark }
+-- what an edge line says of its edge
+abbrev pub claim_on : EdgeLine → Claim
+claim_on line = claim_of (line.low, line.high) line.label line.mark
 
 abbrev pub its_claims : ResultFile → List Claim
-its_claims file = map claim_of file.edges
+its_claims file = map claim_on file.edges
 
 abbrev pub its_edges : ResultFile → List Edge
 its_edges file = map (λ e. (e.low, e.high)) file.edges
@@ -66,11 +57,12 @@ last_two (a ∷ []) = []
 last_two (a ∷ b ∷ []) = (a, b) ∷ []
 last_two (a ∷ b ∷ c ∷ ases) = last_two (b ∷ c ∷ ases)
 
-abbrev pub orders_of : List Walk → List (ℕ × ℕ)
-orders_of whys = flat_map (λ w. last_two w.ases) whys
+-- the orders that the walks show
+abbrev pub shown_orders : List Walk → List (ℕ × ℕ)
+shown_orders whys = flat_map (λ w. last_two w.ases) whys
 
 abbrev pub its_probes : ResultFile → List (ℕ × ℕ)
-its_probes file = map (λ p. (p.over, p.under)) file.probes
+its_probes file = orders_of file.probes
 
 -- ---- numbers of lines, from 1. The places are from 0
 

@@ -6,9 +6,9 @@ pub mod Neighbours
 pub mod Rules
 pub mod Serving
 pub mod Showing
-pub mod Spreading
+pub mod Searching
 pub mod Steps
 pub mod Tables
-pub mod Turning
+pub mod Flipping
 pub mod Valid
 pub mod Verdict

@@ -14,6 +14,6 @@ abbrev pub with_next : List (List ℕ) → ℕ → ℕ → List (List ℕ)
 with_next rows i j = slice_set rows i (slice_index_or rows i [] ++ j ∷ [])
 
 -- what is reached from start along the rows
-pub data Leads (rows : List (List ℕ)) (start : ℕ) : ℕ → Type 0 where
-  here : Leads rows start start
-  onward : {i j : ℕ} → Leads rows start i → HasNext rows i j → Leads rows start j
+pub data Reaches (rows : List (List ℕ)) (start : ℕ) : ℕ → Type 0 where
+  here : Reaches rows start start
+  onward : {i j : ℕ} → Reaches rows start i → HasNext rows i j → Reaches rows start j

@@ -1,7 +1,7 @@
 -- The rules that a result has to meet, which are this project's own (docs/FORMATS.md, "The rules of a result"). Each asks
 -- something of some of its lines, one by one. That a path is valley-free is the notion of L. Gao, "On inferring autonomous system
 -- relationships in the Internet", 2001.
-use Rattle.std.specs.Prelude.{◌≡◌, ℕ, ◌+◌, ◌-◌, ◌<◌, ◌≤◌, ◌^◌, Bool, true, false, IsTrue, [], ◌∷◌, ◌++◌, length, max, take, Some, Contains, slice_get, sum_by, count_by, nat_lt, not, if◌then◌else◌}
+use Rattle.std.specs.Prelude.{◌≡◌, ℕ, ◌+◌, ◌-◌, ◌<◌, ◌≤◌, ◌^◌, Bool, true, false, IsTrue, List, [], ◌∷◌, ◌++◌, length, max, take, Some, Contains, slice_get, sum_by, count_by, nat_lt, not, if◌then◌else◌}
 use Rattle.relationships.specs.declared.label.Label.{Label}
 use Rattle.relationships.specs.declared.label.Label.TheVariants as label
 use Rattle.relationships.specs.declared.walk.Walk.{Walk}
@@ -10,18 +10,18 @@ use Rattle.relationships.specs.Graph.{edges, support}
 use Rattle.relationships.specs.Evidence.{paths_of, Refutes, Shows}
 use Rattle.relationships.specs.Checking.{Claim, IsBorneOut, IsProbe}
 use Rattle.path_clean.specs.Paths.{is_cleaned}
-use Rattle.result_text.specs.declared.file.Fate.{Fate}
-use Rattle.result_text.specs.declared.file.Fate.TheVariants.{Kept, Lost}
+use Rattle.relationships.specs.declared.fate.Fate.TheVariants.{Kept, Lost}
 use Rattle.result_text.specs.declared.file.PathLine.{PathLine}
 use Rattle.result_text.specs.declared.file.EdgeLine.{EdgeLine}
 use Rattle.result_text.specs.declared.file.Totals.{Totals}
 use Rattle.result_text.specs.declared.file.ResultFile.{ResultFile}
 use Rattle.result_text.specs.Numbering.{ratio_line}
-use Rattle.rel_checker.specs.File.{its_paths, kept_before, its_kept, is_forced, its_claims, its_edges, its_labels, orders_of, its_probes, path_line, edge_line, why_line, open_line, last_line}
-
--- the rules about the file alone, in the order in which they are tried
-pub data Rule : Type 0 where
-  RatioBounded PathsCleaned PathsDistinct LostRefuted EdgesListed KeptValleyFree SupportCounted OrdersShown MarksBorneOut TotalsRight : Rule
+use Rattle.relationships.specs.Marking.{is_forced}
+use Rattle.relationships.specs.Fates.{is_kept}
+use Rattle.rel_checker.specs.declared.rule.Rule.{Rule}
+use Rattle.rel_checker.specs.declared.rule.Rule.TheVariants.{RatioBounded, PathsCleaned, PathsDistinct, LostRefuted, EdgesListed}
+use Rattle.rel_checker.specs.declared.rule.Rule.TheVariants.{KeptValleyFree, SupportCounted, OrdersShown, MarksBorneOut, TotalsRight}
+use Rattle.rel_checker.specs.File.{its_paths, kept_before, its_kept, its_claims, its_edges, its_labels, shown_orders, its_probes, path_line, edge_line, why_line, open_line, last_line}
 
 -- the number that a verdict names
 abbrev pub number_of : Rule → ℕ
@@ -64,19 +64,15 @@ IsCounted file line = line.support ≡ support (paths_of (its_kept file)) (line.
 
 -- a why line shows an order over the kept paths, from the orders that the lines before it show
 abbrev pub IsShown : ResultFile → ℕ → Walk → Type 0
-IsShown file k walk = (a b : ℕ) × Shows (its_kept file) (orders_of (take k file.whys)) walk a b
+IsShown file k walk = (a b : ℕ) × Shows (its_kept file) (shown_orders (take k file.whys)) walk a b
 
 -- the mark of an edge line is borne out by the why lines and the open lines
 abbrev pub IsMarkedRightly : ResultFile → Claim → Type 0
-IsMarkedRightly file claim = IsBorneOut (paths_of (its_kept file)) (orders_of file.whys) (its_probes file) claim
+IsMarkedRightly file claim = IsBorneOut (paths_of (its_kept file)) (shown_orders file.whys) (its_probes file) claim
 
 -- an open line serves for an edge for which no earlier one serves
 abbrev pub IsServing : ResultFile → ℕ → ℕ × ℕ → Type 0
 IsServing file k probe = IsProbe (paths_of (its_kept file)) (its_claims file) (take k (its_probes file)) probe
-
-abbrev pub is_kept : Fate → Bool
-is_kept Kept = true
-is_kept (Lost walk) = false
 
 abbrev pub is_peer : Label → Bool
 is_peer label.Low = false
@@ -108,19 +104,30 @@ count_for file OrdersShown = length file.whys
 count_for file MarksBorneOut = length file.edges + length file.probes
 count_for file TotalsRight = 1
 
--- what it asks of the line in place k of these. An edge that is absent counts as a line behind the others
+-- the line in place k, if there is one, has P
+abbrev pub ForSome : {X : Type 0} → List X → ℕ → (X → Type 0) → Type 0
+ForSome {X} lines k P = (line : X) → slice_get lines k ≡ Some line → P line
+
+-- of the lines with marks the first are the edge lines, and behind them the others are the open lines
+abbrev pub AsksOfMarks : ResultFile → ℕ → Type 0
+AsksOfMarks file k = ForSome (its_claims file) k (IsMarkedRightly file)
+
+abbrev pub AsksOfProbes : ResultFile → ℕ → Type 0
+AsksOfProbes file k =
+    let place = k - length file.edges in
+    length file.edges ≤ k → ForSome (its_probes file) place (IsServing file place)
+
+-- what a rule asks of the line in place k of these. An edge that is absent counts as a line behind the others
 abbrev pub Asks : ResultFile → Rule → ℕ → Type 0
 Asks file RatioBounded k = file.ratio ≤ 1000000
-Asks file PathsCleaned k = (line : PathLine) → slice_get file.paths k ≡ Some line → IsSound file k line
-Asks file PathsDistinct k = (line : PathLine) → slice_get file.paths k ≡ Some line → IsNew file k line
-Asks file LostRefuted k = (line : PathLine) → slice_get file.paths k ≡ Some line → IsLostRightly file k line
+Asks file PathsCleaned k = ForSome file.paths k (IsSound file k)
+Asks file PathsDistinct k = ForSome file.paths k (IsNew file k)
+Asks file LostRefuted k = ForSome file.paths k (IsLostRightly file k)
 Asks file EdgesListed k = slice_get (its_edges file) k ≡ slice_get (edges (its_paths file)) k
-Asks file KeptValleyFree k = (line : PathLine) → slice_get file.paths k ≡ Some line → IsServed file line
-Asks file SupportCounted k = (line : EdgeLine) → slice_get file.edges k ≡ Some line → IsCounted file line
-Asks file OrdersShown k = (walk : Walk) → slice_get file.whys k ≡ Some walk → IsShown file k walk
-Asks file MarksBorneOut k =
-    ((claim : Claim) → slice_get (its_claims file) k ≡ Some claim → IsMarkedRightly file claim) ×
-    ((probe : ℕ × ℕ) → length file.edges ≤ k → slice_get (its_probes file) (k - length file.edges) ≡ Some probe → IsServing file (k - length file.edges) probe)
+Asks file KeptValleyFree k = ForSome file.paths k (IsServed file)
+Asks file SupportCounted k = ForSome file.edges k (IsCounted file)
+Asks file OrdersShown k = ForSome file.whys k (IsShown file k)
+Asks file MarksBorneOut k = AsksOfMarks file k × AsksOfProbes file k
 Asks file TotalsRight k = file.totals ≡ right_totals file
 
 -- the number of that line in the file

@@ -2,7 +2,8 @@
 use Rattle.std.specs.Prelude.{ℕ, ◌≤◌, Option, Some, None}
 use Rattle.result_text.specs.declared.file.ResultFile.{ResultFile}
 use Rattle.rel_checker.specs.declared.answer.Answer.{Answer}
-use Rattle.rel_checker.specs.Rules.{Rule, number_of, IsMet}
+use Rattle.rel_checker.specs.declared.rule.Rule.{Rule}
+use Rattle.rel_checker.specs.Rules.{number_of, IsMet}
 use Rattle.rel_checker.specs.Verdict.{Judges}
 
 -- the rules up to this number are met

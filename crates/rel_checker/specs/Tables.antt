@@ -7,7 +7,7 @@ use Rattle.path_clean.specs.declared.table.Added.{Added}
 use Rattle.path_clean.specs.declared.table.Added.TheVariants.{Known, New}
 use Rattle.result_text.specs.declared.file.EdgeLine.{EdgeLine}
 use Rattle.result_text.specs.declared.file.PathLine.{PathLine}
-use Rattle.rel_checker.specs.Rules.{is_kept}
+use Rattle.relationships.specs.Fates.{is_kept}
 
 -- a new edge goes last, and one that is there is not added again
 abbrev pub with_edge : List Edge → Edge → List Edge

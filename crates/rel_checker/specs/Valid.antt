@@ -5,11 +5,12 @@ use Rattle.relationships.specs.declared.walk.Walk.{Walk}
 use Rattle.relationships.specs.Relationship.{ValleyFree}
 use Rattle.relationships.specs.Evidence.{paths_of}
 use Rattle.relationships.specs.Selection.{IsServable, Keeps, IsForced}
-use Rattle.result_text.specs.declared.file.Fate.TheVariants.{Lost}
+use Rattle.relationships.specs.declared.fate.Fate.TheVariants.{Lost}
 use Rattle.result_text.specs.declared.file.PathLine.{PathLine}
 use Rattle.result_text.specs.declared.file.EdgeLine.{EdgeLine}
 use Rattle.result_text.specs.declared.file.ResultFile.{ResultFile}
-use Rattle.rel_checker.specs.File.{its_paths, its_walks, kept_before, its_kept, is_forced, its_labels}
+use Rattle.relationships.specs.Marking.{is_forced}
+use Rattle.rel_checker.specs.File.{its_paths, its_walks, kept_before, its_kept, its_labels}
 use Rattle.rel_checker.specs.Rules.{Accepts}
 
 pub record Valid (file : ResultFile) : Type 0 where
@@ -21,7 +22,8 @@ pub record Valid (file : ResultFile) : Type 0 where
   -- the kept lines are exactly those that selection in order keeps
   pub kept : Keeps (its_paths file) (map is_none (its_walks file))
   -- an edge is marked forced exactly if all orientations that serve the kept paths give it the same provider
-  pub forced : (line : EdgeLine) → Contains file.edges line → IsTrue (is_forced line.mark) ↔ IsForced (paths_of (its_kept file)) line.low line.high
+  pub forced : (line : EdgeLine) → Contains file.edges line →
+      IsTrue (is_forced line.mark) ↔ IsForced (paths_of (its_kept file)) line.low line.high
   -- and then it is no peering
   pub no_peering : (line : EdgeLine) → Contains file.edges line → IsTrue (is_forced line.mark) → line.label ≢ label.Peer
 

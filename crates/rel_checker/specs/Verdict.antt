@@ -3,7 +3,8 @@ use Rattle.std.specs.Prelude.{ℕ, Option, Some, None}
 use Rattle.rel_checker.specs.declared.answer.Answer.{Answer}
 use Rattle.rel_checker.specs.declared.answer.Answer.TheVariants.{Yes, No}
 use Rattle.result_text.specs.declared.file.ResultFile.{ResultFile}
-use Rattle.rel_checker.specs.Rules.{Rule, IsMet, Accepts, BreaksFirst, IsRefused}
+use Rattle.rel_checker.specs.declared.rule.Rule.{Rule}
+use Rattle.rel_checker.specs.Rules.{IsMet, Accepts, BreaksFirst, IsRefused}
 
 -- yes exactly if all rules are met, else the least rule that is broken and its first line
 abbrev pub Judges : ResultFile → Answer → Type 0

@@ -1,6 +1,7 @@
 ghost use Rattle.std.specs.Prelude.{◌≡◌, Some, IfOk};
 ghost use Rattle.relationships.specs.Graph.{edges};
 ghost use Rattle.rel_checker.specs.File.{its_paths, HasFewLines};
+ghost use Rattle.rel_checker.specs.Rules.{number_of};
 ghost use Rattle.rel_checker.specs.Steps.{MetUpTo, Settles};
 ghost use Rattle.rel_checker.specs.Valid.{Valid};
 ghost use Rattle.rel_checker.specs.Verdict.{Judges};
@@ -11,10 +12,12 @@ use crate::edge_table::EdgeTable;
 use crate::line_numbers::{edge_line, last_line, mark_line, path_line, why_line};
 use crate::mark_rules::find_unmarked;
 use crate::path_rules::{find_repeated, find_unclean};
+use crate::rule::Rule;
 use crate::totals::right_totals;
 use crate::walk_rules::{find_unrefuted, find_unshown};
 use result_text::ResultFile;
 use std::alloc::Global;
+use std::collections::hash_map::RandomState;
 use tor_arena::NoMemory;
 
 /// The most that the ratio of degrees of a peering may be.
@@ -23,8 +26,8 @@ const MAX_RATIO: u32 = 1_000_000;
 /// Whether the file meets the rules on a result alone: the ratio, clean and distinct paths, walks that refute each lost path, the
 /// edges, valley-free kept paths, supports, why lines, marks and totals. Yes exactly if all are met, and the file is then valid. No
 /// names the least rule that is broken, 1 to 10, and its first line, from 1. The file may have at most 2^40 lines besides its first
-/// ten and its last. NoMemory where memory ran out.
-pub fn check_file(alloc: Global, file: &ResultFile) -> Result<Answer, NoMemory>
+/// ten and its last. The keys are those of its hash tables, and the answer doesn't depend on them. NoMemory where memory ran out.
+pub fn check_file(alloc: Global, keys: RandomState, file: &ResultFile) -> Result<Answer, NoMemory>
     requires lines { HasFewLines file.now }
     ensures verdict { IfOk result (Judges file.now) }
     ensures valid { result ≡ Ok Answer.Yes → Valid file.now }
@@ -32,11 +35,11 @@ pub fn check_file(alloc: Global, file: &ResultFile) -> Result<Answer, NoMemory>
     if let Some(answer) = check_paths(alloc, file)? {
         return Ok(answer);
     }
-    let table = list_edges(alloc, file)?;
+    let table = list_edges(alloc, keys, file)?;
     if let Some(answer) = check_edges(alloc, file, &table)? {
         return Ok(answer);
     }
-    if let Some(answer) = check_evidence(alloc, file, &table)? {
+    if let Some(answer) = check_evidence(alloc, keys, file, &table)? {
         return Ok(answer);
     }
     Ok(check_totals(file))
@@ -48,16 +51,16 @@ fn check_paths(alloc: Global, file: &ResultFile) -> Result<Option<Answer>, NoMem
     ensures { IfOk result (Settles file.now 4) }
 {
     if file.ratio > MAX_RATIO {
-        return Ok(Some(no(3, 1)));
+        return Ok(Some(no(3, Rule::RatioBounded)));
     }
     if let Some(place) = find_unclean(alloc, file)? {
-        return Ok(Some(no(path_line(place), 2)));
+        return Ok(Some(no(path_line(place), Rule::PathsCleaned)));
     }
     if let Some(place) = find_repeated(alloc, file)? {
-        return Ok(Some(no(path_line(place), 3)));
+        return Ok(Some(no(path_line(place), Rule::PathsDistinct)));
     }
     match find_unrefuted(file) {
-        Some(place) => Ok(Some(no(path_line(place), 4))),
+        Some(place) => Ok(Some(no(path_line(place), Rule::LostRefuted))),
         None => Ok(None),
     }
 }
@@ -74,13 +77,13 @@ fn check_edges(
     ensures { IfOk result (Settles file.now 7) }
 {
     if let Some(place) = find_unlisted(file, table) {
-        return Ok(Some(no(edge_line(file, place), 5)));
+        return Ok(Some(no(edge_line(file, place), Rule::EdgesListed)));
     }
     if let Some(place) = find_valley(file, table) {
-        return Ok(Some(no(path_line(place), 6)));
+        return Ok(Some(no(path_line(place), Rule::KeptValleyFree)));
     }
     match find_miscounted(alloc, file, table)? {
-        Some(place) => Ok(Some(no(edge_line(file, place), 7))),
+        Some(place) => Ok(Some(no(edge_line(file, place), Rule::SupportCounted))),
         None => Ok(None),
     }
 }
@@ -88,6 +91,7 @@ fn check_edges(
 /// The rules on why lines, marks and open lines.
 fn check_evidence(
     alloc: Global,
+    keys: RandomState,
     file: &ResultFile,
     table: &EdgeTable,
 ) -> Result<Option<Answer>, NoMemory>
@@ -96,11 +100,11 @@ fn check_evidence(
     requires table { table.now ≡ edges (its_paths file.now) }
     ensures { IfOk result (Settles file.now 9) }
 {
-    if let Some(place) = find_unshown(alloc, file)? {
-        return Ok(Some(no(why_line(file, place), 8)));
+    if let Some(place) = find_unshown(alloc, keys, file)? {
+        return Ok(Some(no(why_line(file, place), Rule::OrdersShown)));
     }
     match find_unmarked(alloc, file, table)? {
-        Some(place) => Ok(Some(no(mark_line(file, place), 9))),
+        Some(place) => Ok(Some(no(mark_line(file, place), Rule::MarksBorneOut))),
         None => Ok(None),
     }
 }
@@ -114,12 +118,16 @@ fn check_totals(file: &ResultFile) -> Answer
     if file.totals == right_totals(file) {
         Answer::Yes
     } else {
-        no(last_line(file), 10)
+        no(last_line(file), Rule::TotalsRight)
     }
 }
 
-fn no(line: u64, rule: u8) -> Answer
-    ensures { result ≡ Answer.No line rule }
+/// The answer that a line breaks a rule.
+fn no(line: u64, rule: Rule) -> Answer
+    ensures { result ≡ Answer.No line (number_of rule) }
 {
-    Answer::No { line, rule }
+    Answer::No {
+        line,
+        rule: rule.number(),
+    }
 }

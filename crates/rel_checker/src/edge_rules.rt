@@ -1,7 +1,8 @@
 ghost use Rattle.std.specs.Prelude.{◌≡◌, ◌↔◌, fold, map, slice_get, IsTrue, IfOk, IfNone, OnOk};
 ghost use Rattle.relationships.specs.Graph.{edges_on, edges};
 ghost use Rattle.rel_checker.specs.File.{its_paths, its_edges};
-ghost use Rattle.rel_checker.specs.Rules.{Rule, IsMet};
+ghost use Rattle.rel_checker.specs.declared.rule.Rule.{Rule};
+ghost use Rattle.rel_checker.specs.Rules.{IsMet};
 ghost use Rattle.rel_checker.specs.Tables.{with_edge};
 ghost use Rattle.rel_checker.specs.Verdict.{Finds};
 
@@ -10,13 +11,18 @@ use crate::supports::count_kept;
 use crate::valleys::is_served;
 use result_text::{EdgeLine, ResultFile};
 use std::alloc::Global;
+use std::collections::hash_map::RandomState;
 use tor_arena::NoMemory;
 
 /// The edges of the paths, in order of first appearance.
-pub(crate) fn list_edges(alloc: Global, file: &ResultFile) -> Result<EdgeTable, NoMemory>
+pub(crate) fn list_edges(
+    alloc: Global,
+    keys: RandomState,
+    file: &ResultFile,
+) -> Result<EdgeTable, NoMemory>
     ensures { IfOk result (λ table. table ≡ edges (its_paths file.now)) }
 {
-    let mut table = EdgeTable::new(alloc);
+    let mut table = EdgeTable::new(alloc, keys);
     for line in file.paths.as_slice() {
         add_steps(&mut table, line.path.as_slice())?;
     }

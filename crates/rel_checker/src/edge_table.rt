@@ -5,13 +5,15 @@ ghost use Rattle.rel_checker.specs.Tables.{with_edge, edge_at};
 
 use indexmap::IndexSet;
 use std::alloc::Global;
+use std::collections::hash_map::RandomState;
 use std::marker::Model;
 use tor_arena::NoMemory;
 
-/// Edges in the order in which they were added, each once. An edge is found by its two ASes, in either order.
+/// Edges in the order in which they were added, each once. An edge is found by its two ASes, in either order. The hash table's keys
+/// are random, since whoever wrote the file chose its edges.
 #[derive(Drop)]
 pub(crate) struct EdgeTable {
-    edges: IndexSet<(u32, u32)>,
+    edges: IndexSet<(u32, u32), RandomState>,
 }
 
 impl Model for EdgeTable {
@@ -28,11 +30,11 @@ impl Model for EdgeTable {
 
 impl EdgeTable {
     /// No edges. It takes no memory.
-    pub fn new(alloc: Global) -> EdgeTable
+    pub fn new(alloc: Global, keys: RandomState) -> EdgeTable
         ensures { result ≡ [] }
     {
         EdgeTable {
-            edges: IndexSet::new(alloc),
+            edges: IndexSet::with_hasher(alloc, keys),
         }
     }
 

@@ -4,9 +4,11 @@
 mod against;
 mod answer;
 mod checking;
+mod closed_walks;
 mod consistency;
 mod edge_rules;
 mod edge_table;
+mod flipping;
 mod laws;
 mod line_numbers;
 mod links;
@@ -14,10 +16,11 @@ mod mark_rules;
 mod neighbours;
 mod orders;
 mod path_rules;
+mod rule;
+mod searching;
 mod serving;
 mod showing;
 mod shown;
-mod spreading;
 mod supports;
 #[cfg(test)]
 mod tests;
@@ -25,8 +28,6 @@ mod tests;
 mod thin_tests;
 mod thinning;
 mod totals;
-mod turning;
-mod turns;
 mod valleys;
 mod walk_rules;
 #[cfg(test)]

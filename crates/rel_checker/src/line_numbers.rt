@@ -3,7 +3,8 @@
 ghost use Rattle.std.specs.Prelude.{◌≡◌, ◌+◌, ◌-◌, ◌<◌, ◌≤◌, ◌^◌, length};
 ghost use Rattle.rel_checker.specs.File as said;
 ghost use Rattle.rel_checker.specs.File.{HasFewLines};
-ghost use Rattle.rel_checker.specs.Rules.{MarksBorneOut, line_for};
+ghost use Rattle.rel_checker.specs.declared.rule.Rule.TheVariants.{MarksBorneOut};
+ghost use Rattle.rel_checker.specs.Rules.{line_for};
 
 use result_text::ResultFile;
 

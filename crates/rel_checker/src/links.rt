@@ -3,10 +3,10 @@ ghost use Rattle.std.specs.Option.{option_copied};
 ghost use Rattle.relationships.specs.Evidence.{StandAt, TripleAt, Fits, IsWalk};
 ghost use Rattle.rel_checker.specs.Naming.{nameable};
 
-use result_text::{Fate, PathLine};
 use relationships::{Link, Walk};
+use result_text::{Fate, PathLine};
 
-/// Whether x, y, z stand in the path one behind the other, y at this place from 1.
+/// Whether x, y, z stand in the path one behind the other, with y as its `at`-th AS, from 1.
 fn stand_at(path: &[u32], at: usize, x: u32, y: u32, z: u32) -> bool
     ensures { IsTrue result ↔ StandAt path.now at x y z }
 {
@@ -22,7 +22,7 @@ fn stand_at(path: &[u32], at: usize, x: u32, y: u32, z: u32) -> bool
     path[at] == z
 }
 
-/// Whether x, y, z are a triple of the path, y at this place from 1.
+/// Whether x, y, z are a triple of the path, with y as its `at`-th AS, from 1.
 fn fits(path: &[u32], at: usize, x: u32, y: u32, z: u32) -> bool
     ensures { IsTrue result ↔ TripleAt path.now at x y z }
 {
@@ -64,7 +64,7 @@ fn path_named<'a>(
     }
 }
 
-/// Whether the link names one of these paths, and a place on it where x, y, z are a triple.
+/// Whether the link names one of these paths, and where on it x, y, z are a triple.
 fn link_fits(
     lines: &[PathLine],
     next: Option<&PathLine>,

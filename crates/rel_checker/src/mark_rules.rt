@@ -2,30 +2,31 @@
 
 ghost use Rattle.std.specs.Prelude.{◌≡◌, ◌+◌, ◌≤◌, length, IfOk};
 ghost use Rattle.tor_arena.specs.Limits.{most_places};
-ghost use Rattle.rel_checker.specs.File.{its_edges, its_probes, orders_of, HasFewLines};
-ghost use Rattle.rel_checker.specs.Rules.{Rule, IsMet};
+ghost use Rattle.rel_checker.specs.File.{its_edges, its_probes, shown_orders, HasFewLines};
+ghost use Rattle.rel_checker.specs.declared.rule.Rule.{Rule};
+ghost use Rattle.rel_checker.specs.Rules.{IsMet};
 ghost use Rattle.rel_checker.specs.Verdict.{Finds};
 ghost use Rattle.rel_checker.specs.Serving.{Covers, IsShownBy, First, MarkedAt, is_borne};
 
 use crate::consistency::find_useless;
 use crate::edge_table::EdgeTable;
+use crate::flipping::Flips;
 use crate::serving::cover_all;
 use crate::showing::list_shown;
-use crate::turning::Turns;
-use result_text::{EdgeLine, EdgeMark, ResultFile};
-use std::alloc::Global;
 use relationships::Label;
+use result_text::{EdgeLine, Mark, ResultFile};
+use std::alloc::Global;
 use tor_arena::{Arena, EdgeId, Index, NoMemory};
 
 /// Whether the mark of an edge is borne out, by whether an order of it is shown, and whether an
-/// open line leads to its other order.
+/// open line's closure has its other order.
 fn is_borne_out(line: &EdgeLine, shown: bool, covered: bool) -> bool
     ensures { result ≡ is_borne line.now.mark line.now.label shown covered }
 {
     match (line.mark, line.label) {
-        (EdgeMark::Forced, _) => shown,
-        (EdgeMark::Loose, Label::Peer) => true,
-        (EdgeMark::Loose, _) => covered,
+        (Mark::Forced, _) => shown,
+        (Mark::Loose, Label::Peer) => true,
+        (Mark::Loose, _) => covered,
     }
 }
 
@@ -33,20 +34,20 @@ fn is_borne_out(line: &EdgeLine, shown: bool, covered: bool) -> bool
 fn find_unborne(
     file: &ResultFile,
     shown: &Arena<EdgeId, bool>,
-    marks: &Arena<EdgeId, usize>,
+    rounds: &Arena<EdgeId, usize>,
 ) -> Option<usize>
     requires few { length file.now.edges ≤ most_places }
     requires many { length shown.now.items ≡ length file.now.edges }
-    requires marks { length marks.now.items ≡ length file.now.edges }
-    requires shown { IsShownBy file.now.edges (orders_of file.now.whys) shown.now.items }
-    requires covered { Covers file.now (its_probes file.now) marks.now.items }
+    requires rounds { length rounds.now.items ≡ length file.now.edges }
+    requires shown { IsShownBy file.now.edges (shown_orders file.now.whys) shown.now.items }
+    requires covered { Covers file.now (its_probes file.now) rounds.now.items }
     ensures { First (MarkedAt file.now) (length file.now.edges) result }
 {
     for (k, line) in file.edges.as_slice().iter().enumerate() {
         let Some(edge) = EdgeId::from_place(k) else {
             unreachable!();
         };
-        let covered = *marks.get(edge) == 1;
+        let covered = *rounds.get(edge) == 1;
         if !is_borne_out(line, *shown.get(edge), covered) {
             return Some(k);
         }
@@ -67,13 +68,13 @@ pub(crate) fn find_unmarked(
     requires served { IsMet file.now Rule.KeptValleyFree }
     ensures { IfOk result (Finds file.now Rule.MarksBorneOut) }
 {
-    let turns = Turns::of_file(alloc, file, table)?;
-    let cover = cover_all(alloc, file, table, &turns)?;
+    let flips = Flips::of_file(alloc, file, table)?;
+    let cover = cover_all(alloc, file, table, &flips)?;
     let shown = list_shown(alloc, file, table)?;
-    if let Some(place) = find_unborne(file, &shown, &cover.marks) {
+    if let Some(place) = find_unborne(file, &shown, &cover.rounds) {
         return Ok(Some(place));
     }
-    match find_useless(alloc, file, table, &turns, cover.idle)? {
+    match find_useless(alloc, file, table, &flips, cover.idle)? {
         Some(place) => Ok(Some(file.edges.len() + place)),
         None => Ok(None),
     }

@@ -2,13 +2,15 @@ ghost use Rattle.std.specs.Prelude.{◌≡◌, ◌↔◌, ◌++◌, ◌∷◌, [
 
 use indexmap::IndexSet;
 use std::alloc::Global;
+use std::collections::hash_map::RandomState;
 use std::marker::Model;
 use tor_arena::NoMemory;
 
-/// Orders of two ASes in the order in which they were added, each with the provider first.
+/// Orders of two ASes in the order in which they were added, each with the provider first. The hash table's keys are random, since
+/// whoever wrote the file chose the orders.
 #[derive(Drop)]
 pub(crate) struct Orders {
-    pairs: IndexSet<(u32, u32)>,
+    pairs: IndexSet<(u32, u32), RandomState>,
 }
 
 impl Model for Orders {
@@ -21,11 +23,11 @@ impl Model for Orders {
 
 impl Orders {
     /// No orders. It takes no memory.
-    pub fn new(alloc: Global) -> Orders
+    pub fn new(alloc: Global, keys: RandomState) -> Orders
         ensures { result ≡ [] }
     {
         Orders {
-            pairs: IndexSet::new(alloc),
+            pairs: IndexSet::with_hasher(alloc, keys),
         }
     }
 

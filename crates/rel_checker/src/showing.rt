@@ -2,14 +2,14 @@
 
 ghost use Rattle.std.specs.Prelude.{◌≡◌, ◌<◌, ◌≤◌, ℕ, ◌++◌, ◌∷◌, [], List as Items, length, IfOk};
 ghost use Rattle.tor_arena.specs.Limits.{most_places};
-ghost use Rattle.rel_checker.specs.File.{last_two, orders_of};
-ghost use Rattle.rel_checker.specs.Turning.{edges_of, AreApart};
+ghost use Rattle.rel_checker.specs.File.{last_two, shown_orders};
+ghost use Rattle.rel_checker.specs.Flipping.{edges_of, AreApart};
 ghost use Rattle.rel_checker.specs.Serving.{IsShownBy};
 
 use crate::edge_table::EdgeTable;
+use relationships::Walk;
 use result_text::{EdgeLine, ResultFile};
 use std::alloc::Global;
-use relationships::Walk;
 use tor_arena::{Arena, EdgeId, Index, NoMemory};
 
 /// Notes that an order of two ASes is shown.
@@ -62,7 +62,7 @@ pub(crate) fn list_shown(
     requires few { length file.now.edges ≤ most_places }
     requires apart { AreApart file.now.edges }
     ensures many { IfOk result (λ shown. length shown.items ≡ length file.now.edges) }
-    ensures shown { IfOk result (λ shown. IsShownBy file.now.edges (orders_of file.now.whys) shown.items) }
+    ensures shown { IfOk result (λ shown. IsShownBy file.now.edges (shown_orders file.now.whys) shown.items) }
 {
     let mut shown = Arena::new(alloc);
     shown.push_copies(false, file.edges.len())?;

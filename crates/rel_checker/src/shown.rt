@@ -6,8 +6,8 @@ ghost use Rattle.rel_checker.specs.Showing.{Starts};
 
 use crate::links::is_walk;
 use crate::orders::Orders;
-use result_text::PathLine;
 use relationships::Walk;
+use result_text::PathLine;
 
 /// The order that a walk shows: its last two ASes. It takes no memory.
 pub(crate) fn last_two(ases: &[u32]) -> Option<(u32, u32)>

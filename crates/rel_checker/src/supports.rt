@@ -3,7 +3,8 @@ ghost use Rattle.relationships.specs.Evidence.{paths_of};
 ghost use Rattle.relationships.specs.Graph.{edge_of, is_same, edges_on, support};
 ghost use Rattle.tor_arena.specs.Distinct.{is_distinct};
 ghost use Rattle.rel_checker.specs.File.{its_kept};
-ghost use Rattle.rel_checker.specs.Rules.{Rule, IsMet};
+ghost use Rattle.rel_checker.specs.declared.rule.Rule.{Rule};
+ghost use Rattle.rel_checker.specs.Rules.{IsMet};
 ghost use Rattle.rel_checker.specs.Tables.{HaveRisen, AreCounts, kept_in};
 
 use crate::edge_table::EdgeTable;

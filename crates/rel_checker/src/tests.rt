@@ -1,6 +1,7 @@
 use crate::{Answer, check_against, check_file};
 use path_clean::{Asides, Cause, PathTable, is_cleaned};
 use result_text::{ResultFile, parse};
+use std::collections::hash_map::RandomState;
 use std::process::Abort;
 use std::test::Fail;
 
@@ -28,7 +29,7 @@ fn answer_to(rt: &(impl Abort + AllocGlobal), file: &ResultFile) -> Result<Answe
     assert!(rt; file.edges.len() < 100);
     assert!(rt; file.whys.len() < 100);
     assert!(rt; file.probes.len() < 100);
-    Ok(check_file(rt.alloc(), file)?)
+    Ok(check_file(rt.alloc(), RandomState::new(rt)?, file)?)
 }
 
 #[test]

@@ -5,7 +5,7 @@ ghost use Rattle.tor_arena.specs.Limits.{most_places};
 ghost use Rattle.rel_checker.specs.Neighbours.{HasNext, IsInside};
 
 use crate::neighbours::Neighbours;
-use crate::spreading::mark_each;
+use crate::searching::visit_each;
 use std::alloc::Global;
 use tor_arena::{Arena, EdgeId, Index, List, NoMemory};
 
@@ -17,14 +17,14 @@ pub(crate) fn thin_out(alloc: Global, rows: &mut Neighbours) -> Result<(), NoMem
     ensures many { OnOk result (length rows.new ≡ length rows.old) }
     ensures same { OnOk result ((i j : ℕ) → HasNext rows.new i j ↔ HasNext rows.old i j) }
 {
-    let mut marks = Arena::new(alloc);
-    marks.push_copies(0, rows.len())?;
+    let mut rounds = Arena::new(alloc);
+    rounds.push_copies(0, rows.len())?;
     for place in 0..rows.len() {
         let Some(edge) = EdgeId::from_place(place) else {
             unreachable!();
         };
         let mut once = List::new(alloc);
-        mark_each(rows.of(edge), place + 1, &mut marks, &mut once)?;
+        visit_each(rows.of(edge), place + 1, &mut rounds, &mut once)?;
         rows.put(edge, once);
     }
     Ok(())

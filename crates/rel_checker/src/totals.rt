@@ -1,9 +1,10 @@
 ghost use Rattle.std.specs.Prelude.{◌≡◌, count_by, not};
-ghost use Rattle.rel_checker.specs.File.{is_forced};
-ghost use Rattle.rel_checker.specs.Rules.{is_kept, is_peer, right_totals};
+ghost use Rattle.relationships.specs.Marking.{is_forced};
+ghost use Rattle.relationships.specs.Fates.{is_kept};
+ghost use Rattle.rel_checker.specs.Rules.{is_peer, right_totals};
 
-use result_text::{EdgeLine, EdgeMark, Fate, PathLine, ResultFile, Totals};
 use relationships::Label;
+use result_text::{EdgeLine, Fate, Mark, PathLine, ResultFile, Totals};
 
 /// What the last line has to say: the numbers of kept lines, lost lines, edge lines, those marked forced, and those with label peer.
 pub(crate) fn right_totals(file: &ResultFile) -> Totals
@@ -50,10 +51,10 @@ pub(crate) fn is_kept(fate: &Fate) -> bool
     matches!(fate, Fate::Kept)
 }
 
-fn is_forced(mark: EdgeMark) -> bool
+fn is_forced(mark: Mark) -> bool
     ensures { result ≡ is_forced mark }
 {
-    matches!(mark, EdgeMark::Forced)
+    matches!(mark, Mark::Forced)
 }
 
 fn is_peer(label: Label) -> bool

@@ -1,12 +1,12 @@
 ghost use Rattle.std.specs.Prelude.{◌≡◌, ◌↔◌, min, max, map, IsTrue};
 ghost use Rattle.relationships.specs.Relationship.{Labelling, is_over, ValleyFree};
-ghost use Rattle.result_text.specs.declared.file.Fate.TheVariants.{Kept};
+ghost use Rattle.relationships.specs.declared.fate.Fate.TheVariants.{Kept};
 ghost use Rattle.rel_checker.specs.Tables.{labels_in};
 
 use crate::edge_table::EdgeTable;
 use crate::totals::is_kept;
-use result_text::{EdgeLine, PathLine};
 use relationships::Label;
+use result_text::{EdgeLine, PathLine};
 
 /// Whether a path is valley-free under the labels of the edge lines, if it is kept. It takes no memory.
 pub(crate) fn is_served(edges: &[EdgeLine], table: &EdgeTable, line: &PathLine) -> bool

@@ -1,17 +1,18 @@
 ghost use Rattle.std.specs.Prelude.{◌≡◌, ◌↔◌, IsTrue, Some, IfOk};
 ghost use Rattle.relationships.specs.Evidence.{Refutes};
-ghost use Rattle.result_text.specs.declared.file.Fate.TheVariants.{Lost};
+ghost use Rattle.relationships.specs.declared.fate.Fate.TheVariants.{Lost};
 ghost use Rattle.rel_checker.specs.Naming.{nameable};
-ghost use Rattle.rel_checker.specs.Rules.{LostRefuted, OrdersShown};
+ghost use Rattle.rel_checker.specs.declared.rule.Rule.TheVariants.{LostRefuted, OrdersShown};
 ghost use Rattle.rel_checker.specs.Verdict.{Finds};
 
+use crate::closed_walks::comes_back;
 use crate::links::is_walk;
 use crate::orders::Orders;
 use crate::shown::shown_by;
-use crate::turns::comes_back;
+use relationships::Walk;
 use result_text::{Fate, PathLine, ResultFile};
 use std::alloc::Global;
-use relationships::Walk;
+use std::collections::hash_map::RandomState;
 use tor_arena::NoMemory;
 
 /// Whether the walk refutes over the paths of the kept lines before this line and its own.
@@ -45,12 +46,16 @@ pub(crate) fn find_unrefuted(file: &ResultFile) -> Option<usize>
 }
 
 /// The place of the first why line that shows no order, or one of two ASes of which an earlier line shows an order.
-pub(crate) fn find_unshown(alloc: Global, file: &ResultFile) -> Result<Option<usize>, NoMemory>
+pub(crate) fn find_unshown(
+    alloc: Global,
+    keys: RandomState,
+    file: &ResultFile,
+) -> Result<Option<usize>, NoMemory>
     ensures { IfOk result (Finds file.now OrdersShown) }
 {
     let lines = file.paths.as_slice();
     let whys = file.whys.as_slice();
-    let mut shown = Orders::new(alloc);
+    let mut shown = Orders::new(alloc, keys);
     for (place, walk) in whys.iter().enumerate() {
         let Some((over, under)) = shown_by(lines, &shown, walk) else {
             return Ok(Some(place));

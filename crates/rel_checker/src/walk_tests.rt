@@ -1,5 +1,6 @@
 use crate::walk_rules::{find_unrefuted, find_unshown};
 use result_text::{ResultFile, parse};
+use std::collections::hash_map::RandomState;
 use std::process::Abort;
 use std::test::Fail;
 
@@ -32,7 +33,10 @@ fn is_unshown_at(
     place: Option<usize>,
 ) -> Result<(), Fail> {
     let file = file_of(rt, PATHS, whys)?;
-    assert_eq!(rt; find_unshown(rt.alloc(), &file)?, place);
+    assert_eq!(rt;
+        find_unshown(rt.alloc(), RandomState::new(rt)?, &file)?,
+        place
+    );
     Ok(())
 }
 

@@ -14,14 +14,24 @@ pub record Written (n prefix start : ℕ) (digits : List ℕ) : Type 0 where
 
 pub room : (n prefix start : ℕ) (digits : List ℕ) → n < 2 ^ 64 → Written n prefix start digits → 1 ≤ start
 room n prefix start digits fits w =
-    omega (arith, w.within, w.all, length-decimal-le 20 n (omega arith) (omega arith) fits, decimal_nonempty prefix w.fits, ap length w.encoded, length-append (decimal prefix) (drop start digits), length-drop start digits)
+    omega (
+      arith,
+      w.within,
+      w.all,
+      length-decimal-le 20 n (omega arith) (omega arith) fits,
+      decimal_nonempty prefix w.fits,
+      ap length w.encoded,
+      length-append (decimal prefix) (drop start digits),
+      length-drop start digits,
+    )
 
 put : (digits : List ℕ) (start d : ℕ) → 1 ≤ start → start ≤ 20 → length digits ≡ 20 → drop (start - 1) (slice_set digits (start - 1) d) ≡ d ∷ drop start digits
 put digits start d room within all =
     let next : start - 1 + 1 ≡ start = omega arith in
     drop-set digits (start - 1) d (omega arith) ∙ ap (λ (k : ℕ). d ∷ drop k digits) next
 
-pub one_more : (n prefix start : ℕ) (digits : List ℕ) → n < 2 ^ 64 → Written n prefix start digits → 10 ≤ prefix → decimal n ≡ decimal (prefix / 10) ++ drop (start - 1) (slice_set digits (start - 1) (48 + prefix % 10))
+pub one_more : (n prefix start : ℕ) (digits : List ℕ) → n < 2 ^ 64 → Written n prefix start digits → 10 ≤ prefix
+    → decimal n ≡ decimal (prefix / 10) ++ drop (start - 1) (slice_set digits (start - 1) (48 + prefix % 10))
 one_more n prefix start digits fits w large =
     let d = 48 + prefix % 10 in
     w.encoded ∙ ap (λ (ds : List ℕ). ds ++ drop start digits) (decimal_step prefix large w.fits) ∙ append_assoc (decimal (prefix / 10)) (d ∷ []) (drop start digits)

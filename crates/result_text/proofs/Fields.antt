@@ -218,7 +218,8 @@ comes_to_more n ds large prefix pos fits rest =
     let digit : is_digit (48 + n % 10) ≡ true = digit_from (48 + n % 10) (omega arith) (omega arith) in
     let back : n / 10 * 10 + (48 + n % 10 - 48) ≡ n = omega arith in
     let small : ltb n (2 ^ 64) ≡ true = lt-ltb n (2 ^ 64) fits in
-    let one : u64_at ((ds ++ ((48 + n % 10) ∷ [])) ++ rest) ≡ digits_at (n / 10) ((48 + n % 10) ∷ rest) = ap u64_at (append_assoc ds ((48 + n % 10) ∷ []) rest) ∙ prefix (omega arith) (omega arith) ((48 + n % 10) ∷ rest) in
+    let one : u64_at ((ds ++ ((48 + n % 10) ∷ [])) ++ rest) ≡ digits_at (n / 10) ((48 + n % 10) ∷ rest) = ap u64_at (append_assoc ds ((48 + n % 10) ∷ []) rest)
+    ∙ prefix (omega arith) (omega arith) ((48 + n % 10) ∷ rest) in
     one ∙ rw (digit, back, small) refl
 
 digits_end : (n : ℕ) (rest : List ℕ) → NoDigit rest → digits_at n rest ≡ Some (n, rest)
@@ -309,7 +310,8 @@ unfolding list_at
 list_again X F s p m [] rest fits ends = rw ends.2 refl
 list_again X F s p m (x ∷ xs) rest fits ends =
     let more_is : field_ends ((s x ++ others s xs) ++ rest) ≡ false = ap field_ends (append_assoc (s x) (others s xs) rest) ∙ m.first x (others s xs ++ rest) fits.0 in
-    let one : p ((s x ++ others s xs) ++ rest) ≡ Some (x, others s xs ++ rest) = ap p (append_assoc (s x) (others s xs) rest) ∙ m.reads.again x (others s xs ++ rest) fits.0 (others_end s xs rest ends.0) in
+    let one : p ((s x ++ others s xs) ++ rest) ≡ Some (x, others s xs ++ rest) = ap p (append_assoc (s x) (others s xs) rest)
+    ∙ m.reads.again x (others s xs ++ rest) fits.0 (others_end s xs rest ends.0) in
     let long : length xs ≤ length (others s xs ++ rest) = omega (arith, length_others s xs, length-append (others s xs) rest) in
     let more : others_at p (length (others s xs ++ rest)) (others s xs ++ rest) ≡ Some (xs, rest) = others_again X F s p m.reads xs (length (others s xs ++ rest)) rest long fits.1 ends in
     rw (more_is, one, more) refl
@@ -370,7 +372,8 @@ link_reads =
 pub link_member : IsMember Link LinkFits link link_at
 link_member = record {
   reads = link_reads;
-  first = λ l rest fits. ap field_ends (append_assoc (decimal l.path) (58 ∷ decimal l.at) rest) ∙ digit_goes_on (decimal l.path ++ (58 ∷ decimal l.at ++ rest)) (first_digit l.path (58 ∷ decimal l.at ++ rest) (omega (arith, fits.0)));
+  first = λ l rest fits. ap field_ends (append_assoc (decimal l.path) (58 ∷ decimal l.at) rest)
+      ∙ digit_goes_on (decimal l.path ++ (58 ∷ decimal l.at ++ rest)) (first_digit l.path (58 ∷ decimal l.at ++ rest) (omega (arith, fits.0)));
 }
 
 pub numbers_reads : ReadsOpen (List ℕ) (AllByRecursion IsU32) numbers EndsList (list_at u32_at)
@@ -380,5 +383,6 @@ pub links_reads : ReadsOpen (List Link) (AllByRecursion LinkFits) links EndsList
 links_reads = list_reads Link LinkFits link link_at link_member
 
 -- a reader takes nothing from behind
-pub shorter : {X : Type 0} (F : X → Type 0) (s : X → List ℕ) (p : List ℕ → Option (X × List ℕ)) → ReadsOpen X F s NoDigit p → (bytes : List ℕ) (x : X) (rest : List ℕ) → p bytes ≡ Some (x, rest) → length rest ≤ length bytes
+pub shorter : {X : Type 0} (F : X → Type 0) (s : X → List ℕ) (p : List ℕ → Option (X × List ℕ)) → ReadsOpen X F s NoDigit p → (bytes : List ℕ) (x : X) (rest : List ℕ)
+    → p bytes ≡ Some (x, rest) → length rest ≤ length bytes
 shorter F s p r bytes x rest e = omega (arith, ap length (r.takes bytes (x, rest) e).1, length-append (s x) rest)

@@ -12,10 +12,10 @@ use Rattle.path_clean.specs.declared.cleaned.Sets.{Sets}
 use Rattle.path_clean.specs.declared.cleaned.Sets.TheVariants as sets
 use Rattle.path_clean.specs.declared.cleaned.Cause.{Cause}
 use Rattle.path_clean.specs.declared.cleaned.Cause.TheVariants as cause
-use Rattle.result_text.specs.declared.file.Fate.{Fate}
-use Rattle.result_text.specs.declared.file.Fate.TheVariants as fate
-use Rattle.result_text.specs.declared.file.EdgeMark.{EdgeMark}
-use Rattle.result_text.specs.declared.file.EdgeMark.TheVariants as mark
+use Rattle.relationships.specs.declared.fate.Fate.{Fate}
+use Rattle.relationships.specs.declared.fate.Fate.TheVariants as fate
+use Rattle.relationships.specs.declared.mark.Mark.{Mark}
+use Rattle.relationships.specs.declared.mark.Mark.TheVariants as mark
 use Rattle.result_text.specs.declared.line.Line.{Line}
 use Rattle.result_text.specs.declared.line.Line.TheVariants as line
 use Rattle.result_text.specs.Text.{fields, numbers, link, links, spaced, others, sets_name, cause_name, label_name, mark_name, path_fields, fields_of, line_text, text_of_lines}
@@ -59,7 +59,8 @@ feedless_numbers : (ns : List ℕ) → AreU32 ns → feedless (numbers ns) ≡ t
 feedless_numbers ns all = feedless_spaced IsU32 decimal ns (λ n h. feedless_decimal n (omega arith)) all
 
 feedless_links : (ls : List Link) → AllByRecursion LinkFits ls → feedless (links ls) ≡ true
-feedless_links ls all = feedless_spaced LinkFits link ls (λ l h. feedless_append (decimal l.path) (58 ∷ decimal l.at) (feedless_decimal l.path (omega (arith, h.0))) (feedless_decimal l.at (omega (arith, h.1)))) all
+feedless_links ls all = feedless_spaced LinkFits link ls (λ l h. feedless_append (decimal l.path) (58 ∷ decimal l.at) (feedless_decimal l.path (omega (arith, h.0)))
+    (feedless_decimal l.at (omega (arith, h.1)))) all
 
 AreFeedless : List (List ℕ) → Type 0
 AreFeedless parts = AllByRecursion (λ p. feedless p ≡ true) parts
@@ -87,7 +88,7 @@ feedless_label label.Low = refl
 feedless_label label.High = refl
 feedless_label label.Peer = refl
 
-feedless_mark : (m : EdgeMark) → feedless (mark_name m) ≡ true
+feedless_mark : (m : Mark) → feedless (mark_name m) ≡ true
 feedless_mark mark.Forced = refl
 feedless_mark mark.Loose = refl
 
@@ -101,10 +102,28 @@ parts_feedless (line.Sets s) h = (refl, (feedless_sets s, tt))
 parts_feedless (line.Ratio n) h = (refl, (feedless_decimal n (omega (arith, h)), tt))
 parts_feedless (line.Aside c n) h = (refl, (feedless_cause c, (feedless_decimal n h, tt)))
 parts_feedless (line.Path p) h = path_feedless p.times p.path p.fate h.0 h.1 h.2
-parts_feedless (line.Edge e) h = (refl, (feedless_decimal e.low (omega (arith, h.0)), (feedless_decimal e.high (omega (arith, h.1)), (feedless_label e.label, (feedless_mark e.mark, (feedless_decimal e.support h.2, tt))))))
+parts_feedless (line.Edge e) h = (
+  refl,
+  (
+    feedless_decimal e.low (omega (arith, h.0)),
+    (
+      feedless_decimal e.high (omega (arith, h.1)),
+      (feedless_label e.label, (feedless_mark e.mark, (feedless_decimal e.support h.2, tt))),
+    ),
+  ),
+)
 parts_feedless (line.Why w) h = (refl, (feedless_numbers w.ases h.0, (feedless_links w.links h.1, tt)))
 parts_feedless (line.Probe p) h = (refl, (feedless_decimal p.over (omega (arith, h.0)), (feedless_decimal p.under (omega (arith, h.1)), tt)))
-parts_feedless (line.End t) h = (refl, (feedless_decimal t.kept h.0, (feedless_decimal t.lost h.1, (feedless_decimal t.edges h.2, (feedless_decimal t.forced h.3, (feedless_decimal t.peers h.4, tt))))))
+parts_feedless (line.End t) h = (
+  refl,
+  (
+    feedless_decimal t.kept h.0,
+    (
+      feedless_decimal t.lost h.1,
+      (feedless_decimal t.edges h.2, (feedless_decimal t.forced h.3, (feedless_decimal t.peers h.4, tt))),
+    ),
+  ),
+)
 
 -- ---- the first lines
 
@@ -127,7 +146,8 @@ option_map_same : {A : Type 0} (f : A → A) (o : Option A) → ((x : A) → f x
 option_map_same f (Some x) h = ap (λ y. Some y) (h x)
 option_map_same f None h = refl
 
-pub lines_first : (ls : List Line) (more : List ℕ) (n : ℕ) → AllByRecursion LineFits ls → first_lines (length ls + n) (text_of_lines ls ++ more) ≡ option_map (λ f. text_of_lines ls ++ f) (first_lines n more)
+pub lines_first : (ls : List Line) (more : List ℕ) (n : ℕ) → AllByRecursion LineFits ls → first_lines (length ls + n) (text_of_lines ls ++ more) ≡ option_map
+    (λ f. text_of_lines ls ++ f) (first_lines n more)
 lines_first [] more n all =
     let e : length {A = Line} [] + n ≡ n = omega arith in
     rw e (sym (option_map_same (λ (f : List ℕ). [] ++ f) (first_lines n more) (λ x. refl)))

@@ -1,5 +1,5 @@
 -- A line that is read is encoded as it was written, and what was written is read again.
-use Rattle.std.proofs.Common.{◌≡◌, ℕ, List, [], ◌∷◌, ◌++◌, Option, Some, None, refl, sym, ap, subst, ◌∙◌, append_assoc, inl, inr}
+use Rattle.std.proofs.Common.{◌≡◌, ℕ, List, [], ◌∷◌, ◌++◌, Option, Some, None, drop, refl, sym, ap, subst, ◌∙◌, append_assoc, inl, inr}
 use Rattle.std.specs.Prelude.{codes}
 use Rattle.std.specs.Fmt.{decimal}
 use Rattle.std.specs.List.{AllByRecursion}
@@ -11,15 +11,15 @@ use Rattle.path_clean.specs.declared.cleaned.Sets.{Sets}
 use Rattle.path_clean.specs.declared.cleaned.Sets.TheVariants as sets
 use Rattle.path_clean.specs.declared.cleaned.Cause.{Cause}
 use Rattle.path_clean.specs.declared.cleaned.Cause.TheVariants as cause
-use Rattle.result_text.specs.declared.file.Fate.{Fate}
-use Rattle.result_text.specs.declared.file.Fate.TheVariants as fate
-use Rattle.result_text.specs.declared.file.EdgeMark.{EdgeMark}
-use Rattle.result_text.specs.declared.file.EdgeMark.TheVariants as mark
+use Rattle.relationships.specs.declared.fate.Fate.{Fate}
+use Rattle.relationships.specs.declared.fate.Fate.TheVariants as fate
+use Rattle.relationships.specs.declared.mark.Mark.{Mark}
+use Rattle.relationships.specs.declared.mark.Mark.TheVariants as mark
 use Rattle.result_text.specs.declared.line.Line.{Line}
 use Rattle.result_text.specs.declared.line.Line.TheVariants as line
 use Rattle.result_text.specs.Text.{numbers, links, sets_name, cause_name, label_name, mark_name, line_text}
 use Rattle.result_text.specs.Ranges.{IsU32, IsU64, AreU32, LinkFits, WalkFits, LineFits}
-use Rattle.result_text.specs.Reading.{u64_at, u32_at, before, both, list_at, link_at, on_word, name_at, sets_at, cause_at, label_at, mark_at, walk_from, walk_at, sets_line_at, ratio_at, aside_from, aside_at, kept_from, kept_at, lost_from, lost_at, edge_from, edge_at, why_at, probe_from, probe_at, end_from, end_at, line_at}
+use Rattle.result_text.specs.Reading.{u64_at, u32_at, before, both, list_at, link_at, on_word, name_at, sets_at, cause_at, label_at, mark_at, walk_from, walk_at, sets_line_at, ratio_at, aside_from, aside_at, kept_from, kept_at, lost_from, lost_at, edge_from, edge_at, why_at, probe_from, probe_at, end_from, end_at, version_at, line_readers, by_word, line_at}
 use Rattle.result_text.proofs.Fields.{some_is, on_word_takes, Reads, ReadsAs, before_reads, both_reads, mapped_reads, NoDigit, EndsList, u64_reads, u32_reads, numbers_reads, links_reads}
 
 -- ---- fields with the byte behind them
@@ -77,7 +77,9 @@ sets_reads = record { takes = λ bytes x e. (tt, sets_takes bytes x e); again = 
 
 cause_takes : (bytes : List ℕ) (x : Cause × List ℕ) → cause_at bytes ≡ Some x → bytes ≡ with cause_name 124 x.0 ++ x.1
 unfolding cause_at
-cause_takes bytes x e = names_take (with cause_name 124) ((codes "nopath|", cause.NoPath) ∷ (codes "badsegments|", cause.BadSegments) ∷ (codes "confed|", cause.Confed) ∷ (codes "sets|", cause.Sets) ∷ (codes "reserved|", cause.Reserved) ∷ (codes "loop|", cause.Loop) ∷ (codes "short|", cause.Short) ∷ []) bytes x (refl, (refl, (refl, (refl, (refl, (refl, (refl, tt))))))) e
+cause_takes bytes x e = names_take (with cause_name 124) ((codes "nopath|", cause.NoPath) ∷ (codes "badsegments|", cause.BadSegments) ∷ (codes "confed|", cause.Confed) ∷
+    (codes "sets|", cause.Sets) ∷ (codes "reserved|", cause.Reserved) ∷ (codes "loop|", cause.Loop) ∷ (codes "short|", cause.Short) ∷ []) bytes x
+    (refl, (refl, (refl, (refl, (refl, (refl, (refl, tt))))))) e
 
 cause_again : (x : Cause) (rest : List ℕ) → cause_at (with cause_name 124 x ++ rest) ≡ Some (x, rest)
 unfolding cause_at
@@ -105,16 +107,16 @@ label_again label.Peer rest = refl
 label_reads : Reads Label Any (with label_name 124) label_at
 label_reads = record { takes = λ bytes x e. (tt, label_takes bytes x e); again = λ x rest fits. label_again x rest }
 
-mark_takes : (bytes : List ℕ) (x : EdgeMark × List ℕ) → mark_at bytes ≡ Some x → bytes ≡ with mark_name 124 x.0 ++ x.1
+mark_takes : (bytes : List ℕ) (x : Mark × List ℕ) → mark_at bytes ≡ Some x → bytes ≡ with mark_name 124 x.0 ++ x.1
 unfolding mark_at
 mark_takes bytes x e = names_take (with mark_name 124) ((codes "forced|", mark.Forced) ∷ (codes "open|", mark.Loose) ∷ []) bytes x (refl, (refl, tt)) e
 
-mark_again : (x : EdgeMark) (rest : List ℕ) → mark_at (with mark_name 124 x ++ rest) ≡ Some (x, rest)
+mark_again : (x : Mark) (rest : List ℕ) → mark_at (with mark_name 124 x ++ rest) ≡ Some (x, rest)
 unfolding mark_at
 mark_again mark.Forced rest = refl
 mark_again mark.Loose rest = refl
 
-mark_reads : Reads EdgeMark Any (with mark_name 124) mark_at
+mark_reads : Reads Mark Any (with mark_name 124) mark_at
 mark_reads = record { takes = λ bytes x e. (tt, mark_takes bytes x e); again = λ x rest fits. mark_again x rest }
 
 -- ---- walks
@@ -126,7 +128,8 @@ walk_reads : Reads Walk WalkFits walk_text walk_at
 unfolding walk_at
 walk_reads =
     let parts = both_reads (List ℕ) (List Link) AreU32 (AllByRecursion LinkFits) (with numbers 124) (with links 10) (before 124 (list_at u32_at)) (before 10 (list_at link_at)) numbers_bar links_end in
-    let whole = mapped_reads (List ℕ × List Link) Walk (λ z. AreU32 z.0 × AllByRecursion LinkFits z.1) (λ z. with numbers 124 z.0 ++ with links 10 z.1) (both (before 124 (list_at u32_at)) (before 10 (list_at link_at))) walk_from parts in
+    let whole = mapped_reads (List ℕ × List Link) Walk (λ z. AreU32 z.0 × AllByRecursion LinkFits z.1) (λ z. with numbers 124 z.0 ++ with links 10 z.1)
+    (both (before 124 (list_at u32_at)) (before 10 (list_at link_at))) walk_from parts in
     record {
       takes = λ bytes w e.
           let t = whole.takes bytes w e in
@@ -194,23 +197,30 @@ lost_line : ReadsLine (ℕ × (List ℕ × Walk)) (codes "lost|") lost_from (Bot
 unfolding lost_at line_text
 lost_line =
     let second = both_reads (List ℕ) Walk AreU32 WalkFits (with numbers 124) walk_text (before 124 (list_at u32_at)) walk_at numbers_bar walk_reads in
-    let parts = both_reads ℕ (List ℕ × Walk) IsU64 (Both AreU32 WalkFits) (with decimal 124) (then (with numbers 124) walk_text) (before 124 u64_at) (both (before 124 (list_at u32_at)) walk_at) u64_bar second in
+    let parts = both_reads ℕ (List ℕ × Walk) IsU64 (Both AreU32 WalkFits) (with decimal 124) (then (with numbers 124) walk_text) (before 124 u64_at)
+    (both (before 124 (list_at u32_at)) walk_at) u64_bar second in
     record {
-      reads = mapped_reads (ℕ × (List ℕ × Walk)) Line (Both IsU64 (Both AreU32 WalkFits)) (then (with decimal 124) (then (with numbers 124) walk_text)) (both (before 124 u64_at) (both (before 124 (list_at u32_at)) walk_at)) lost_from parts;
+      reads = mapped_reads (ℕ × (List ℕ × Walk)) Line (Both IsU64 (Both AreU32 WalkFits)) (then (with decimal 124) (then (with numbers 124) walk_text))
+          (both (before 124 u64_at) (both (before 124 (list_at u32_at)) walk_at)) lost_from parts;
       text = λ z. simp append_assoc;
       fits = λ z h. (h.0, h.1.0, h.1.1);
     }
 
-edge_line : ReadsLine (ℕ × (ℕ × (Label × (EdgeMark × ℕ)))) (codes "edge|") edge_from (Both IsU32 (Both IsU32 (Both Any (Both Any IsU64))))
+edge_line : ReadsLine (ℕ × (ℕ × (Label × (Mark × ℕ)))) (codes "edge|") edge_from (Both IsU32 (Both IsU32 (Both Any (Both Any IsU64))))
     (then (with decimal 124) (then (with decimal 124) (then (with label_name 124) (then (with mark_name 124) (with decimal 10))))) edge_at
 unfolding edge_at line_text
 edge_line =
-    let r4 = both_reads EdgeMark ℕ Any IsU64 (with mark_name 124) (with decimal 10) mark_at (before 10 u64_at) mark_reads u64_end in
-    let r3 = both_reads Label (EdgeMark × ℕ) Any (Both Any IsU64) (with label_name 124) (then (with mark_name 124) (with decimal 10)) label_at (both mark_at (before 10 u64_at)) label_reads r4 in
-    let r2 = both_reads ℕ (Label × (EdgeMark × ℕ)) IsU32 (Both Any (Both Any IsU64)) (with decimal 124) (then (with label_name 124) (then (with mark_name 124) (with decimal 10))) (before 124 u32_at) (both label_at (both mark_at (before 10 u64_at))) u32_bar r3 in
-    let r1 = both_reads ℕ (ℕ × (Label × (EdgeMark × ℕ))) IsU32 (Both IsU32 (Both Any (Both Any IsU64))) (with decimal 124) (then (with decimal 124) (then (with label_name 124) (then (with mark_name 124) (with decimal 10)))) (before 124 u32_at) (both (before 124 u32_at) (both label_at (both mark_at (before 10 u64_at)))) u32_bar r2 in
+    let r4 = both_reads Mark ℕ Any IsU64 (with mark_name 124) (with decimal 10) mark_at (before 10 u64_at) mark_reads u64_end in
+    let r3 = both_reads Label (Mark × ℕ) Any (Both Any IsU64) (with label_name 124) (then (with mark_name 124) (with decimal 10)) label_at (both mark_at (before 10 u64_at)) label_reads r4 in
+    let r2 = both_reads ℕ (Label × (Mark × ℕ)) IsU32 (Both Any (Both Any IsU64)) (with decimal 124)
+    (then (with label_name 124) (then (with mark_name 124) (with decimal 10))) (before 124 u32_at) (both label_at (both mark_at (before 10 u64_at))) u32_bar r3 in
+    let r1 = both_reads ℕ (ℕ × (Label × (Mark × ℕ))) IsU32 (Both IsU32 (Both Any (Both Any IsU64))) (with decimal 124)
+    (then (with decimal 124) (then (with label_name 124) (then (with mark_name 124) (with decimal 10)))) (before 124 u32_at)
+    (both (before 124 u32_at) (both label_at (both mark_at (before 10 u64_at)))) u32_bar r2 in
     record {
-      reads = mapped_reads (ℕ × (ℕ × (Label × (EdgeMark × ℕ)))) Line (Both IsU32 (Both IsU32 (Both Any (Both Any IsU64)))) (then (with decimal 124) (then (with decimal 124) (then (with label_name 124) (then (with mark_name 124) (with decimal 10))))) (both (before 124 u32_at) (both (before 124 u32_at) (both label_at (both mark_at (before 10 u64_at))))) edge_from r1;
+      reads = mapped_reads (ℕ × (ℕ × (Label × (Mark × ℕ)))) Line (Both IsU32 (Both IsU32 (Both Any (Both Any IsU64))))
+          (then (with decimal 124) (then (with decimal 124) (then (with label_name 124) (then (with mark_name 124) (with decimal 10)))))
+          (both (before 124 u32_at) (both (before 124 u32_at) (both label_at (both mark_at (before 10 u64_at))))) edge_from r1;
       text = λ z. simp append_assoc;
       fits = λ z h. (h.0, h.1.0, h.1.1.1.1);
     }
@@ -234,91 +244,55 @@ end_line : ReadsLine (ℕ × (ℕ × (ℕ × (ℕ × ℕ)))) (codes "end|") end_
 unfolding end_at line_text
 end_line =
     let r4 = both_reads ℕ ℕ IsU64 IsU64 (with decimal 124) (with decimal 10) (before 124 u64_at) (before 10 u64_at) u64_bar u64_end in
-    let r3 = both_reads ℕ (ℕ × ℕ) IsU64 (Both IsU64 IsU64) (with decimal 124) (then (with decimal 124) (with decimal 10)) (before 124 u64_at) (both (before 124 u64_at) (before 10 u64_at)) u64_bar r4 in
-    let r2 = both_reads ℕ (ℕ × (ℕ × ℕ)) IsU64 (Both IsU64 (Both IsU64 IsU64)) (with decimal 124) (then (with decimal 124) (then (with decimal 124) (with decimal 10))) (before 124 u64_at) (both (before 124 u64_at) (both (before 124 u64_at) (before 10 u64_at))) u64_bar r3 in
-    let r1 = both_reads ℕ (ℕ × (ℕ × (ℕ × ℕ))) IsU64 (Both IsU64 (Both IsU64 (Both IsU64 IsU64))) (with decimal 124) (then (with decimal 124) (then (with decimal 124) (then (with decimal 124) (with decimal 10)))) (before 124 u64_at) (both (before 124 u64_at) (both (before 124 u64_at) (both (before 124 u64_at) (before 10 u64_at)))) u64_bar r2 in
+    let r3 = both_reads ℕ (ℕ × ℕ) IsU64 (Both IsU64 IsU64) (with decimal 124) (then (with decimal 124) (with decimal 10)) (before 124 u64_at)
+    (both (before 124 u64_at) (before 10 u64_at)) u64_bar r4 in
+    let r2 = both_reads ℕ (ℕ × (ℕ × ℕ)) IsU64 (Both IsU64 (Both IsU64 IsU64)) (with decimal 124) (then (with decimal 124) (then (with decimal 124) (with decimal 10)))
+    (before 124 u64_at) (both (before 124 u64_at) (both (before 124 u64_at) (before 10 u64_at))) u64_bar r3 in
+    let r1 = both_reads ℕ (ℕ × (ℕ × (ℕ × ℕ))) IsU64 (Both IsU64 (Both IsU64 (Both IsU64 IsU64))) (with decimal 124)
+    (then (with decimal 124) (then (with decimal 124) (then (with decimal 124) (with decimal 10)))) (before 124 u64_at)
+    (both (before 124 u64_at) (both (before 124 u64_at) (both (before 124 u64_at) (before 10 u64_at)))) u64_bar r2 in
     record {
-      reads = mapped_reads (ℕ × (ℕ × (ℕ × (ℕ × ℕ)))) Line (Both IsU64 (Both IsU64 (Both IsU64 (Both IsU64 IsU64)))) (then (with decimal 124) (then (with decimal 124) (then (with decimal 124) (then (with decimal 124) (with decimal 10))))) (both (before 124 u64_at) (both (before 124 u64_at) (both (before 124 u64_at) (both (before 124 u64_at) (before 10 u64_at))))) end_from r1;
+      reads = mapped_reads (ℕ × (ℕ × (ℕ × (ℕ × ℕ)))) Line (Both IsU64 (Both IsU64 (Both IsU64 (Both IsU64 IsU64))))
+          (then (with decimal 124) (then (with decimal 124) (then (with decimal 124) (then (with decimal 124) (with decimal 10)))))
+          (both (before 124 u64_at) (both (before 124 u64_at) (both (before 124 u64_at) (both (before 124 u64_at) (before 10 u64_at))))) end_from r1;
       text = λ z. simp append_assoc;
       fits = λ z h. (h.0, h.1.0, h.1.1.0, h.1.1.1.0, h.1.1.1.1);
     }
 
 -- ---- all lines
 
--- what is read behind the words from each on
-abbrev Reader : Type 0
-Reader = List ℕ → Option (Line × List ℕ)
-
-abbrev from_9 : Reader
-from_9 bytes = on_word (codes "end|") end_at (λ _. None) bytes
-
-abbrev from_8 : Reader
-from_8 bytes = on_word (codes "ratio|") ratio_at from_9 bytes
-
-abbrev from_7 : Reader
-from_7 bytes = on_word (codes "sets|") sets_line_at from_8 bytes
-
-abbrev from_6 : Reader
-from_6 bytes = on_word (codes "tor|1\n") (λ rest. Some (line.Version, rest)) from_7 bytes
-
-abbrev from_5 : Reader
-from_5 bytes = on_word (codes "aside|") aside_at from_6 bytes
-
-abbrev from_4 : Reader
-from_4 bytes = on_word (codes "lost|") lost_at from_5 bytes
-
-abbrev from_3 : Reader
-from_3 bytes = on_word (codes "open|") probe_at from_4 bytes
-
-abbrev from_2 : Reader
-from_2 bytes = on_word (codes "why|") why_at from_3 bytes
-
-abbrev from_1 : Reader
-from_1 bytes = on_word (codes "edge|") edge_at from_2 bytes
-
-abbrev from_0 : Reader
-from_0 bytes = on_word (codes "kept|") kept_at from_1 bytes
-
 abbrev Taken : List ℕ → Line × List ℕ → Type 0
 Taken bytes y = LineFits y.0 × (bytes ≡ line_text y.0 ++ y.1)
 
-version_taken : (bytes rest : List ℕ) (y : Line × List ℕ) → bytes ≡ codes "tor|1\n" ++ rest → (let s : Option (Line × List ℕ) = Some (line.Version, rest) in s) ≡ Some y → Taken bytes y
+-- what a reader reads behind its word is taken
+abbrev Takes : List ℕ × (List ℕ → Option (Line × List ℕ)) → Type 0
+Takes entry = (bytes rest : List ℕ) (y : Line × List ℕ) → bytes ≡ entry.0 ++ rest → entry.1 rest ≡ Some y → Taken bytes y
+
+version_takes : Takes (codes "tor|1\n", version_at)
 unfolding line_text
-version_taken bytes rest y w e = subst (Taken bytes) (some_is (line.Version, rest) y e) (tt, w)
+version_takes bytes rest y w e = subst (Taken bytes) (some_is (line.Version, rest) y e) (tt, w)
 
-take_9 : (bytes : List ℕ) (y : Line × List ℕ) → from_9 bytes ≡ Some y → Taken bytes y
-take_9 bytes y e = elim (on_word_takes (codes "end|") end_at (λ _. None) bytes y e) [ inl t ↦ line_takes_by end_line bytes t.0 y t.1 t.2 | inr t ↦ absurd cc ]
+by_word_takes : (readers : List (List ℕ × (List ℕ → Option (Line × List ℕ)))) (bytes : List ℕ) (y : Line × List ℕ) → AllByRecursion Takes readers
+    → by_word readers bytes ≡ Some y → Taken bytes y
+by_word_takes [] bytes y all e = absurd cc
+by_word_takes (entry ∷ more) bytes y all e =
+    elim (on_word_takes entry.0 entry.1 (by_word more) bytes y e) [
+      | inl t ↦ all.0 bytes t.0 y t.1 t.2
+      | inr t ↦ by_word_takes more bytes y all.1 t
+    ]
 
-take_8 : (bytes : List ℕ) (y : Line × List ℕ) → from_8 bytes ≡ Some y → Taken bytes y
-take_8 bytes y e = elim (on_word_takes (codes "ratio|") ratio_at from_9 bytes y e) [ inl t ↦ line_takes_by ratio_line bytes t.0 y t.1 t.2 | inr t ↦ take_9 bytes y t ]
+-- those behind the first five, and all
+later_take : AllByRecursion Takes (drop 5 line_readers)
+later_take =
+    (line_takes_by aside_line, (version_takes, (line_takes_by sets_line, (line_takes_by ratio_line, (line_takes_by end_line, tt)))))
 
-take_7 : (bytes : List ℕ) (y : Line × List ℕ) → from_7 bytes ≡ Some y → Taken bytes y
-take_7 bytes y e = elim (on_word_takes (codes "sets|") sets_line_at from_8 bytes y e) [ inl t ↦ line_takes_by sets_line bytes t.0 y t.1 t.2 | inr t ↦ take_8 bytes y t ]
-
-take_6 : (bytes : List ℕ) (y : Line × List ℕ) → from_6 bytes ≡ Some y → Taken bytes y
-take_6 bytes y e = elim (on_word_takes (codes "tor|1\n") (λ rest. Some (line.Version, rest)) from_7 bytes y e) [ inl t ↦ version_taken bytes t.0 y t.1 t.2 | inr t ↦ take_7 bytes y t ]
-
-take_5 : (bytes : List ℕ) (y : Line × List ℕ) → from_5 bytes ≡ Some y → Taken bytes y
-take_5 bytes y e = elim (on_word_takes (codes "aside|") aside_at from_6 bytes y e) [ inl t ↦ line_takes_by aside_line bytes t.0 y t.1 t.2 | inr t ↦ take_6 bytes y t ]
-
-take_4 : (bytes : List ℕ) (y : Line × List ℕ) → from_4 bytes ≡ Some y → Taken bytes y
-take_4 bytes y e = elim (on_word_takes (codes "lost|") lost_at from_5 bytes y e) [ inl t ↦ line_takes_by lost_line bytes t.0 y t.1 t.2 | inr t ↦ take_5 bytes y t ]
-
-take_3 : (bytes : List ℕ) (y : Line × List ℕ) → from_3 bytes ≡ Some y → Taken bytes y
-take_3 bytes y e = elim (on_word_takes (codes "open|") probe_at from_4 bytes y e) [ inl t ↦ line_takes_by probe_line bytes t.0 y t.1 t.2 | inr t ↦ take_4 bytes y t ]
-
-take_2 : (bytes : List ℕ) (y : Line × List ℕ) → from_2 bytes ≡ Some y → Taken bytes y
-take_2 bytes y e = elim (on_word_takes (codes "why|") why_at from_3 bytes y e) [ inl t ↦ line_takes_by why_line bytes t.0 y t.1 t.2 | inr t ↦ take_3 bytes y t ]
-
-take_1 : (bytes : List ℕ) (y : Line × List ℕ) → from_1 bytes ≡ Some y → Taken bytes y
-take_1 bytes y e = elim (on_word_takes (codes "edge|") edge_at from_2 bytes y e) [ inl t ↦ line_takes_by edge_line bytes t.0 y t.1 t.2 | inr t ↦ take_2 bytes y t ]
-
-take_0 : (bytes : List ℕ) (y : Line × List ℕ) → from_0 bytes ≡ Some y → Taken bytes y
-take_0 bytes y e = elim (on_word_takes (codes "kept|") kept_at from_1 bytes y e) [ inl t ↦ line_takes_by kept_line bytes t.0 y t.1 t.2 | inr t ↦ take_1 bytes y t ]
+all_take : AllByRecursion Takes line_readers
+all_take =
+    (line_takes_by kept_line, (line_takes_by edge_line, (line_takes_by why_line, (line_takes_by probe_line, (line_takes_by lost_line, later_take)))))
 
 pub line_takes : (bytes : List ℕ) (y : Line × List ℕ) → line_at bytes ≡ Some y → LineFits y.0 × (bytes ≡ line_text y.0 ++ y.1)
 unfolding line_at
-line_takes bytes y e = take_0 bytes y e
+line_takes bytes y e = by_word_takes line_readers bytes y all_take e
 
 path_again : (times : ℕ) (path : List ℕ) (f : Fate) (rest : List ℕ) → LineFits (line.Path (record { times = times; path = path; fate = f }))
     → line_at (line_text (line.Path (record { times = times; path = path; fate = f })) ++ rest) ≡ Some (line.Path (record { times = times; path = path; fate = f }), rest)

@@ -9,14 +9,14 @@ use Rattle.path_clean.specs.Counts.{Counts}
 use Rattle.result_text.specs.declared.file.ResultFile.{ResultFile}
 use Rattle.result_text.specs.declared.file.PathLine.{PathLine}
 use Rattle.result_text.specs.declared.file.EdgeLine.{EdgeLine}
-use Rattle.result_text.specs.declared.file.ProbeLine.{ProbeLine}
+use Rattle.relationships.specs.declared.mark.Probe.{Probe}
 use Rattle.result_text.specs.declared.file.Totals.{Totals}
 use Rattle.relationships.specs.declared.walk.Walk.{Walk}
 use Rattle.result_text.specs.declared.line.Line.{Line}
 use Rattle.result_text.specs.declared.line.Line.TheVariants as line
 use Rattle.result_text.specs.declared.draft.Draft.{Draft}
-use Rattle.result_text.specs.declared.draft.Place.{Place}
-use Rattle.result_text.specs.declared.draft.Place.TheVariants as place
+use Rattle.result_text.specs.declared.draft.Section.{Section}
+use Rattle.result_text.specs.declared.draft.Section.TheVariants as section
 use Rattle.result_text.specs.Text.{head_lines, body_lines, lines_of}
 use Rattle.result_text.specs.Reading.{◌>>=◌}
 use Rattle.result_text.specs.Order.{cause_index, is_head, after_head, takes_path, takes_edge, takes_why, takes_probe, pass_head, step, start, file_of}
@@ -43,7 +43,7 @@ listed c = c.no_path ∷ c.bad_segments ∷ c.confed ∷ c.sets ∷ c.reserved �
 -- the draft of a result that is read
 abbrev pub done : ResultFile → Draft
 done f = record {
-  place = place.End;
+  section = section.End;
   sets = f.sets;
   ratio = f.ratio;
   counts = listed f.asides;
@@ -54,55 +54,57 @@ done f = record {
   totals = f.totals;
 }
 
-edge_takes_why : (q : Place) → takes_edge q ≡ true → takes_why q ≡ true
-edge_takes_why (place.Head n) t = absurd cc
-edge_takes_why place.Paths t = refl
-edge_takes_why place.Edges t = refl
-edge_takes_why place.Whys t = refl
-edge_takes_why place.Probes t = absurd cc
-edge_takes_why place.End t = absurd cc
+edge_takes_why : (q : Section) → takes_edge q ≡ true → takes_why q ≡ true
+edge_takes_why (section.Head n) t = absurd cc
+edge_takes_why section.Paths t = refl
+edge_takes_why section.Edges t = refl
+edge_takes_why section.Whys t = refl
+edge_takes_why section.Probes t = absurd cc
+edge_takes_why section.End t = absurd cc
 
-why_takes_probe : (q : Place) → takes_why q ≡ true → takes_probe q ≡ true
-why_takes_probe (place.Head n) t = absurd cc
-why_takes_probe place.Paths t = refl
-why_takes_probe place.Edges t = refl
-why_takes_probe place.Whys t = refl
-why_takes_probe place.Probes t = refl
-why_takes_probe place.End t = absurd cc
+why_takes_probe : (q : Section) → takes_why q ≡ true → takes_probe q ≡ true
+why_takes_probe (section.Head n) t = absurd cc
+why_takes_probe section.Paths t = refl
+why_takes_probe section.Edges t = refl
+why_takes_probe section.Whys t = refl
+why_takes_probe section.Probes t = refl
+why_takes_probe section.End t = absurd cc
 
 -- a section goes through
-paths_run : (d : Draft) (ps : List PathLine) (more : List Line) → run (record d { place = place.Paths }) (map (λ p. line.Path p) ps ++ more) ≡ run (record d { place = place.Paths; paths = d.paths ++ ps }) more
-paths_run d [] more = ap (λ (ps : List PathLine). run (record d { place = place.Paths; paths = ps }) more) (sym (append-nil d.paths))
-paths_run d (p ∷ ps) more = paths_run (record d { paths = d.paths ++ p ∷ [] }) ps more ∙ ap (λ (qs : List PathLine). run (record d { place = place.Paths; paths = qs }) more) (append_assoc d.paths (p ∷ []) ps)
+paths_run : (d : Draft) (ps : List PathLine) (more : List Line) → run (record d { section = section.Paths }) (map (λ p. line.Path p) ps ++ more) ≡ run
+    (record d { section = section.Paths; paths = d.paths ++ ps }) more
+paths_run d [] more = ap (λ (ps : List PathLine). run (record d { section = section.Paths; paths = ps }) more) (sym (append-nil d.paths))
+paths_run d (p ∷ ps) more = paths_run (record d { paths = d.paths ++ p ∷ [] }) ps more ∙ ap
+    (λ (qs : List PathLine). run (record d { section = section.Paths; paths = qs }) more) (append_assoc d.paths (p ∷ []) ps)
 
-edges_run : (d : Draft) (es : List EdgeLine) (more : List Line) → takes_edge d.place ≡ true
-    → (q : Place) × (takes_edge q ≡ true) × (run d (map (λ e. line.Edge e) es ++ more) ≡ run (record d { place = q; edges = d.edges ++ es }) more)
-edges_run d [] more t = (d.place, t, ap (λ (es : List EdgeLine). run (record d { edges = es }) more) (sym (append-nil d.edges)))
+edges_run : (d : Draft) (es : List EdgeLine) (more : List Line) → takes_edge d.section ≡ true
+    → (q : Section) × (takes_edge q ≡ true) × (run d (map (λ e. line.Edge e) es ++ more) ≡ run (record d { section = q; edges = d.edges ++ es }) more)
+edges_run d [] more t = (d.section, t, ap (λ (es : List EdgeLine). run (record d { edges = es }) more) (sym (append-nil d.edges)))
 edges_run d (e ∷ es) more t =
-    let next = edges_run (record d { place = place.Edges; edges = d.edges ++ e ∷ [] }) es more refl in
-    let one : run d (line.Edge e ∷ (map (λ e. line.Edge e) es ++ more)) ≡ run (record d { place = place.Edges; edges = d.edges ++ e ∷ [] }) (map (λ e. line.Edge e) es ++ more) = rw t refl in
-    (next.0, next.1, one ∙ next.2 ∙ ap (λ (xs : List EdgeLine). run (record d { place = next.0; edges = xs }) more) (append_assoc d.edges (e ∷ []) es))
+    let next = edges_run (record d { section = section.Edges; edges = d.edges ++ e ∷ [] }) es more refl in
+    let one : run d (line.Edge e ∷ (map (λ e. line.Edge e) es ++ more)) ≡ run (record d { section = section.Edges; edges = d.edges ++ e ∷ [] }) (map (λ e. line.Edge e) es ++ more) = rw t refl in
+    (next.0, next.1, one ∙ next.2 ∙ ap (λ (xs : List EdgeLine). run (record d { section = next.0; edges = xs }) more) (append_assoc d.edges (e ∷ []) es))
 
-whys_run : (d : Draft) (ws : List Walk) (more : List Line) → takes_why d.place ≡ true
-    → (q : Place) × (takes_why q ≡ true) × (run d (map (λ w. line.Why w) ws ++ more) ≡ run (record d { place = q; whys = d.whys ++ ws }) more)
-whys_run d [] more t = (d.place, t, ap (λ (ws : List Walk). run (record d { whys = ws }) more) (sym (append-nil d.whys)))
+whys_run : (d : Draft) (ws : List Walk) (more : List Line) → takes_why d.section ≡ true
+    → (q : Section) × (takes_why q ≡ true) × (run d (map (λ w. line.Why w) ws ++ more) ≡ run (record d { section = q; whys = d.whys ++ ws }) more)
+whys_run d [] more t = (d.section, t, ap (λ (ws : List Walk). run (record d { whys = ws }) more) (sym (append-nil d.whys)))
 whys_run d (w ∷ ws) more t =
-    let next = whys_run (record d { place = place.Whys; whys = d.whys ++ w ∷ [] }) ws more refl in
-    let one : run d (line.Why w ∷ (map (λ w. line.Why w) ws ++ more)) ≡ run (record d { place = place.Whys; whys = d.whys ++ w ∷ [] }) (map (λ w. line.Why w) ws ++ more) = rw t refl in
-    (next.0, next.1, one ∙ next.2 ∙ ap (λ (xs : List Walk). run (record d { place = next.0; whys = xs }) more) (append_assoc d.whys (w ∷ []) ws))
+    let next = whys_run (record d { section = section.Whys; whys = d.whys ++ w ∷ [] }) ws more refl in
+    let one : run d (line.Why w ∷ (map (λ w. line.Why w) ws ++ more)) ≡ run (record d { section = section.Whys; whys = d.whys ++ w ∷ [] }) (map (λ w. line.Why w) ws ++ more) = rw t refl in
+    (next.0, next.1, one ∙ next.2 ∙ ap (λ (xs : List Walk). run (record d { section = next.0; whys = xs }) more) (append_assoc d.whys (w ∷ []) ws))
 
-probes_run : (d : Draft) (ps : List ProbeLine) (more : List Line) → takes_probe d.place ≡ true
-    → (q : Place) × (takes_probe q ≡ true) × (run d (map (λ p. line.Probe p) ps ++ more) ≡ run (record d { place = q; probes = d.probes ++ ps }) more)
-probes_run d [] more t = (d.place, t, ap (λ (ps : List ProbeLine). run (record d { probes = ps }) more) (sym (append-nil d.probes)))
+probes_run : (d : Draft) (ps : List Probe) (more : List Line) → takes_probe d.section ≡ true
+    → (q : Section) × (takes_probe q ≡ true) × (run d (map (λ p. line.Probe p) ps ++ more) ≡ run (record d { section = q; probes = d.probes ++ ps }) more)
+probes_run d [] more t = (d.section, t, ap (λ (ps : List Probe). run (record d { probes = ps }) more) (sym (append-nil d.probes)))
 probes_run d (p ∷ ps) more t =
-    let next = probes_run (record d { place = place.Probes; probes = d.probes ++ p ∷ [] }) ps more refl in
-    let one : run d (line.Probe p ∷ (map (λ p. line.Probe p) ps ++ more)) ≡ run (record d { place = place.Probes; probes = d.probes ++ p ∷ [] }) (map (λ p. line.Probe p) ps ++ more) = rw t refl in
-    (next.0, next.1, one ∙ next.2 ∙ ap (λ (xs : List ProbeLine). run (record d { place = next.0; probes = xs }) more) (append_assoc d.probes (p ∷ []) ps))
+    let next = probes_run (record d { section = section.Probes; probes = d.probes ++ p ∷ [] }) ps more refl in
+    let one : run d (line.Probe p ∷ (map (λ p. line.Probe p) ps ++ more)) ≡ run (record d { section = section.Probes; probes = d.probes ++ p ∷ [] }) (map (λ p. line.Probe p) ps ++ more) = rw t refl in
+    (next.0, next.1, one ∙ next.2 ∙ ap (λ (xs : List Probe). run (record d { section = next.0; probes = xs }) more) (append_assoc d.probes (p ∷ []) ps))
 
 -- where the ten first lines are read
 headed : ResultFile → Draft
 headed f = record {
-  place = place.Paths;
+  section = section.Paths;
   sets = f.sets;
   ratio = f.ratio;
   counts = listed f.asides;
@@ -128,76 +130,81 @@ runs_to_end f =
     let d1 : Draft = record d0 { paths = f.paths } in
     let a = paths_run d0 f.paths m1 in
     let b = edges_run d1 f.edges m2 refl in
-    let d2 : Draft = record d1 { place = b.0; edges = f.edges } in
+    let d2 : Draft = record d1 { section = b.0; edges = f.edges } in
     let c = whys_run d2 f.whys m3 (edge_takes_why b.0 b.1) in
-    let d3 : Draft = record d2 { place = c.0; whys = f.whys } in
+    let d3 : Draft = record d2 { section = c.0; whys = f.whys } in
     let d = probes_run d3 f.probes m4 (why_takes_probe c.0 c.1) in
-    let d4 : Draft = record d3 { place = d.0; probes = f.probes } in
+    let d4 : Draft = record d3 { section = d.0; probes = f.probes } in
     let last : run d4 m4 ≡ Some (done f) = rw d.1 refl in
     head_run f (body_lines f) ∙ a ∙ b.2 ∙ c.2 ∙ d.2 ∙ last
 
 -- ---- what is read so far
 
 -- the lines of the sections
-abbrev pub sections : List PathLine → List EdgeLine → List Walk → List ProbeLine → List Line
+abbrev pub sections : List PathLine → List EdgeLine → List Walk → List Probe → List Line
 sections ps es ws os = map (λ p. line.Path p) ps ++ (map (λ e. line.Edge e) es ++ (map (λ w. line.Why w) ws ++ map (λ p. line.Probe p) os))
 
 abbrev pub sections_of : Draft → List Line
 sections_of d = sections d.paths d.edges d.whys d.probes
 
-abbrev pub head_part : Place → ResultFile → List Line
-head_part (place.Head n) f = take n (head_lines f)
+abbrev pub head_part : Section → ResultFile → List Line
+head_part (section.Head n) f = take n (head_lines f)
 head_part _ f = head_lines f
 
-abbrev pub end_part : Place → ResultFile → List Line
-end_part place.End f = line.End f.totals ∷ []
+abbrev pub end_part : Section → ResultFile → List Line
+end_part section.End f = line.End f.totals ∷ []
 end_part _ f = []
 
 -- the lines that are read so far
 abbrev pub sofar : Draft → List Line
-sofar d = head_part d.place (file_of d) ++ (sections_of d ++ end_part d.place (file_of d))
+sofar d = head_part d.section (file_of d) ++ (sections_of d ++ end_part d.section (file_of d))
 
 -- the sections that are still to come are empty
-abbrev pub Placed : Place → Draft → Type 0
-Placed (place.Head n) d = (d.paths ≡ []) × (d.edges ≡ []) × (d.whys ≡ []) × (d.probes ≡ [])
-Placed place.Paths d = (d.edges ≡ []) × (d.whys ≡ []) × (d.probes ≡ [])
-Placed place.Edges d = (d.whys ≡ []) × (d.probes ≡ [])
-Placed place.Whys d = d.probes ≡ []
-Placed place.Probes d = Unit {0}
-Placed place.End d = Unit {0}
+abbrev pub Placed : Section → Draft → Type 0
+Placed (section.Head n) d = (d.paths ≡ []) × (d.edges ≡ []) × (d.whys ≡ []) × (d.probes ≡ [])
+Placed section.Paths d = (d.edges ≡ []) × (d.whys ≡ []) × (d.probes ≡ [])
+Placed section.Edges d = (d.whys ≡ []) × (d.probes ≡ [])
+Placed section.Whys d = d.probes ≡ []
+Placed section.Probes d = Unit {0}
+Placed section.End d = Unit {0}
 
-Placed-elsewhere : (p q : Place) (d : Draft) → Placed p d → Placed p (record d { place = q })
-Placed-elsewhere (place.Head n) q d h = h
-Placed-elsewhere place.Paths q d h = h
-Placed-elsewhere place.Edges q d h = h
-Placed-elsewhere place.Whys q d h = h
-Placed-elsewhere place.Probes q d h = h
-Placed-elsewhere place.End q d h = h
+Placed-elsewhere : (p q : Section) (d : Draft) → Placed p d → Placed p (record d { section = q })
+Placed-elsewhere (section.Head n) q d h = h
+Placed-elsewhere section.Paths q d h = h
+Placed-elsewhere section.Edges q d h = h
+Placed-elsewhere section.Whys q d h = h
+Placed-elsewhere section.Probes q d h = h
+Placed-elsewhere section.End q d h = h
 
 pub no_sections : (d : Draft) → d.paths ≡ [] → d.edges ≡ [] → d.whys ≡ [] → d.probes ≡ [] → sections_of d ≡ []
 no_sections d p e w o = rw (p, e, w, o) refl
 
-path_section : (ps : List PathLine) (es : List EdgeLine) (ws : List Walk) (os : List ProbeLine) (x : PathLine) → es ≡ [] → ws ≡ [] → os ≡ [] → sections (ps ++ x ∷ []) es ws os ≡ sections ps es ws os ++ line.Path x ∷ []
-path_section ps es ws os x e w o = rw (e, w, o) (append-nil (map (λ p. line.Path p) (ps ++ x ∷ [])) ∙ map_push (λ p. line.Path p) ps x ∙ ap (λ (ls : List Line). ls ++ line.Path x ∷ []) (sym (append-nil (map (λ p. line.Path p) ps))))
+path_section : (ps : List PathLine) (es : List EdgeLine) (ws : List Walk) (os : List Probe) (x : PathLine) → es ≡ [] → ws ≡ [] → os ≡ []
+    → sections (ps ++ x ∷ []) es ws os ≡ sections ps es ws os ++ line.Path x ∷ []
+path_section ps es ws os x e w o = rw (e, w, o) (append-nil (map (λ p. line.Path p) (ps ++ x ∷ [])) ∙ map_push (λ p. line.Path p) ps x
+    ∙ ap (λ (ls : List Line). ls ++ line.Path x ∷ []) (sym (append-nil (map (λ p. line.Path p) ps))))
 
-edge_section : (ps : List PathLine) (es : List EdgeLine) (ws : List Walk) (os : List ProbeLine) (x : EdgeLine) → ws ≡ [] → os ≡ [] → sections ps (es ++ x ∷ []) ws os ≡ sections ps es ws os ++ line.Edge x ∷ []
+edge_section : (ps : List PathLine) (es : List EdgeLine) (ws : List Walk) (os : List Probe) (x : EdgeLine) → ws ≡ [] → os ≡ []
+    → sections ps (es ++ x ∷ []) ws os ≡ sections ps es ws os ++ line.Edge x ∷ []
 edge_section ps es ws os x w o =
     let a = map (λ p. line.Path p) ps in
-    rw (w, o) (ap (λ (ls : List Line). a ++ ls) (append-nil (map (λ e. line.Edge e) (es ++ x ∷ [])) ∙ map_push (λ e. line.Edge e) es x ∙ ap (λ (ls : List Line). ls ++ line.Edge x ∷ []) (sym (append-nil (map (λ e. line.Edge e) es))))
+    rw (w, o) (ap (λ (ls : List Line). a ++ ls) (append-nil (map (λ e. line.Edge e) (es ++ x ∷ [])) ∙ map_push (λ e. line.Edge e) es x
+    ∙ ap (λ (ls : List Line). ls ++ line.Edge x ∷ []) (sym (append-nil (map (λ e. line.Edge e) es))))
     ∙ sym (append_assoc a (map (λ e. line.Edge e) es ++ []) (line.Edge x ∷ [])))
 
-why_section : (ps : List PathLine) (es : List EdgeLine) (ws : List Walk) (os : List ProbeLine) (x : Walk) → os ≡ [] → sections ps es (ws ++ x ∷ []) os ≡ sections ps es ws os ++ line.Why x ∷ []
+why_section : (ps : List PathLine) (es : List EdgeLine) (ws : List Walk) (os : List Probe) (x : Walk) → os ≡ [] → sections ps es (ws ++ x ∷ []) os ≡ sections ps es ws os ++ line.Why x ∷ []
 why_section ps es ws os x o =
     let a = map (λ p. line.Path p) ps in
     let b = map (λ e. line.Edge e) es in
     let c = map (λ w. line.Why w) ws in
-    rw o (ap (λ (ls : List Line). a ++ (b ++ ls)) (append-nil (map (λ w. line.Why w) (ws ++ x ∷ [])) ∙ map_push (λ w. line.Why w) ws x ∙ ap (λ (ls : List Line). ls ++ line.Why x ∷ []) (sym (append-nil c)))
+    rw o (ap (λ (ls : List Line). a ++ (b ++ ls)) (append-nil (map (λ w. line.Why w) (ws ++ x ∷ [])) ∙ map_push (λ w. line.Why w) ws x
+    ∙ ap (λ (ls : List Line). ls ++ line.Why x ∷ []) (sym (append-nil c)))
     ∙ two a b (c ++ []) (line.Why x ∷ []))
   where
     two : (a b c d : List Line) → a ++ (b ++ (c ++ d)) ≡ (a ++ (b ++ c)) ++ d
     two a b c d = simp append_assoc
 
-probe_section : (ps : List PathLine) (es : List EdgeLine) (ws : List Walk) (os : List ProbeLine) (x : ProbeLine) → sections ps es ws (os ++ x ∷ []) ≡ sections ps es ws os ++ line.Probe x ∷ []
+probe_section : (ps : List PathLine) (es : List EdgeLine) (ws : List Walk) (os : List Probe) (x : Probe) → sections ps es ws (os ++ x ∷ []) ≡ sections ps es ws os ++ line.Probe x ∷ []
 probe_section ps es ws os x =
     let a = map (λ p. line.Path p) ps in
     let b = map (λ e. line.Edge e) es in
@@ -210,26 +217,27 @@ probe_section ps es ws os x =
 -- e is d with one more line
 pub record Stepped (d e : Draft) (l : Line) : Type 0 where
   pub seven : length e.counts ≡ 7
-  pub placed : Placed e.place e
+  pub placed : Placed e.section e
   pub more : sofar e ≡ sofar d ++ l ∷ []
 
 -- ---- the ten first lines
 
-head_sofar : (d new : Draft) (k : ℕ) (l : Line) (p : Place) → sections_of d ≡ [] → sections_of new ≡ [] → end_part p (file_of new) ≡ [] → head_part p (file_of new) ≡ take k (head_lines (file_of d)) ++ l ∷ []
-    → sofar (record new { place = p }) ≡ sofar (record d { place = place.Head k }) ++ l ∷ []
+head_sofar : (d new : Draft) (k : ℕ) (l : Line) (p : Section) → sections_of d ≡ [] → sections_of new ≡ [] → end_part p (file_of new) ≡ []
+    → head_part p (file_of new) ≡ take k (head_lines (file_of d)) ++ l ∷ []
+    → sofar (record new { section = p }) ≡ sofar (record d { section = section.Head k }) ++ l ∷ []
 head_sofar d new k l p s t en h =
     let prefix = head_part p (file_of new) in
     let old = take k (head_lines (file_of d)) in
     ap (λ (x : List Line). prefix ++ (x ++ end_part p (file_of new))) t ∙ ap (λ (x : List Line). prefix ++ x) en ∙ append-nil prefix ∙ h
     ∙ sym (ap (λ (x : List Line). (old ++ (x ++ [])) ++ l ∷ []) s ∙ ap (λ (x : List Line). x ++ l ∷ []) (append-nil old))
 
-head_place : (k : ℕ) (p : Place) → is_head k p ≡ true → p ≡ place.Head k
-head_place k (place.Head n) t = ap (λ (m : ℕ). place.Head m) (eqb-true n k t)
-head_place k place.Paths t = absurd cc
-head_place k place.Edges t = absurd cc
-head_place k place.Whys t = absurd cc
-head_place k place.Probes t = absurd cc
-head_place k place.End t = absurd cc
+head_section : (k : ℕ) (p : Section) → is_head k p ≡ true → p ≡ section.Head k
+head_section k (section.Head n) t = ap (λ (m : ℕ). section.Head m) (eqb-true n k t)
+head_section k section.Paths t = absurd cc
+head_section k section.Edges t = absurd cc
+head_section k section.Whys t = absurd cc
+head_section k section.Probes t = absurd cc
+head_section k section.End t = absurd cc
 
 -- the new draft differs in what its first lines say
 record ChangesHead (d new : Draft) (k : ℕ) (l : Line) : Type 0 where
@@ -239,23 +247,24 @@ record ChangesHead (d new : Draft) (k : ℕ) (l : Line) : Type 0 where
   probes : new.probes ≡ d.probes
   seven : length new.counts ≡ 7
   ends : end_part (after_head (k + 1)) (file_of new) ≡ []
-  placed : Placed (place.Head k) new → Placed (after_head (k + 1)) new
+  placed : Placed (section.Head k) new → Placed (after_head (k + 1)) new
   head : head_part (after_head (k + 1)) (file_of new) ≡ take k (head_lines (file_of d)) ++ l ∷ []
 
-head_stepped : (k : ℕ) (d new e : Draft) (l : Line) → ChangesHead d new k l → Placed d.place d → pass_head k d new ≡ Some e → Stepped d e l
+head_stepped : (k : ℕ) (d new e : Draft) (l : Line) → ChangesHead d new k l → Placed d.section d → pass_head k d new ≡ Some e → Stepped d e l
 head_stepped k d new e l c placed s =
-    let g = if_some (is_head k d.place) (Some (record new { place = after_head (k + 1) })) e s in
-    let at : d.place ≡ place.Head k = head_place k d.place g.0 in
-    let h : Placed (place.Head k) d = subst (λ (p : Place). Placed p d) at placed in
+    let g = if_some (is_head k d.section) (Some (record new { section = after_head (k + 1) })) e s in
+    let at : d.section ≡ section.Head k = head_section k d.section g.0 in
+    let h : Placed (section.Head k) d = subst (λ (p : Section). Placed p d) at placed in
     let old : sections_of d ≡ [] = no_sections d h.0 h.1 h.2 h.3 in
-    let hn : Placed (place.Head k) new = (c.paths ∙ h.0, c.edges ∙ h.1, c.whys ∙ h.2, c.probes ∙ h.3) in
+    let hn : Placed (section.Head k) new = (c.paths ∙ h.0, c.edges ∙ h.1, c.whys ∙ h.2, c.probes ∙ h.3) in
     let fresh : sections_of new ≡ [] = no_sections new hn.0 hn.1 hn.2 hn.3 in
-    let made : Stepped (record d { place = place.Head k }) (record new { place = after_head (k + 1) }) l = record {
+    let made : Stepped (record d { section = section.Head k }) (record new { section = after_head (k + 1) }) l = record {
       seven = c.seven;
       placed = Placed-elsewhere (after_head (k + 1)) (after_head (k + 1)) new (c.placed hn);
       more = head_sofar d new k l (after_head (k + 1)) old fresh c.ends c.head;
     } in
-    subst (λ (x : Draft). Stepped d x l) (some_is (record new { place = after_head (k + 1) }) e g.1) (subst (λ (p : Place). Stepped (record d { place = p }) (record new { place = after_head (k + 1) }) l) (sym at) made)
+    subst (λ (x : Draft). Stepped d x l) (some_is (record new { section = after_head (k + 1) }) e g.1)
+    (subst (λ (p : Section). Stepped (record d { section = p }) (record new { section = after_head (k + 1) }) l) (sym at) made)
 
 pub record Seven (counts : List ℕ) : Type 0 where
   pub a : ℕ
@@ -280,7 +289,8 @@ seven_of (a ∷ b ∷ c ∷ d ∷ e ∷ f ∷ g ∷ x ∷ xs) h = absurd (omega 
 
 -- what setting one of seven counts does to the lines
 abbrev SetsCount : Draft → Cause → ℕ → List ℕ → Type 0
-SetsCount d c n counts = (head_part (after_head (3 + cause_index c + 1)) (file_of (record d { counts = slice_set counts (cause_index c) n })) ≡ take (3 + cause_index c) (head_lines (file_of (record d { counts = counts }))) ++ line.Aside c n ∷ [])
+SetsCount d c n counts = (head_part (after_head (3 + cause_index c + 1)) (file_of (record d { counts = slice_set counts (cause_index c) n })) ≡ take (3 + cause_index c)
+    (head_lines (file_of (record d { counts = counts }))) ++ line.Aside c n ∷ [])
     × (length (slice_set counts (cause_index c) n) ≡ 7)
 
 sets_count_at : (d : Draft) (c : Cause) (n x0 x1 x2 x3 x4 x5 x6 : ℕ) → SetsCount d c n (x0 ∷ x1 ∷ x2 ∷ x3 ∷ x4 ∷ x5 ∷ x6 ∷ [])
@@ -297,7 +307,7 @@ sets_count d c n h =
     let s = seven_of d.counts h in
     subst (SetsCount d c n) (sym s.is) (sets_count_at d c n s.a s.b s.c s.d s.e s.f s.g)
 
-aside_placed : (c : Cause) (new : Draft) → Placed (place.Head (3 + cause_index c)) new → Placed (after_head (3 + cause_index c + 1)) new
+aside_placed : (c : Cause) (new : Draft) → Placed (section.Head (3 + cause_index c)) new → Placed (after_head (3 + cause_index c + 1)) new
 aside_placed cause.NoPath new h = h
 aside_placed cause.BadSegments new h = h
 aside_placed cause.Confed new h = h
@@ -326,58 +336,64 @@ body_more h s t l e = ap (λ (x : List Line). h ++ (x ++ [])) e ∙ regroup h s 
 end_more : (h s : List Line) (l : Line) → h ++ (s ++ l ∷ []) ≡ (h ++ (s ++ [])) ++ l ∷ []
 end_more h s l = simp (append-nil, append_assoc)
 
-path_stepped : (p : Place) (d : Draft) (x : PathLine) → takes_path p ≡ true → Placed p d → length d.counts ≡ 7 → Stepped (record d { place = p }) (record d { place = place.Paths; paths = d.paths ++ x ∷ [] }) (line.Path x)
-path_stepped (place.Head n) d x t h seven = absurd cc
-path_stepped place.Paths d x t h seven = record {
+path_stepped : (p : Section) (d : Draft) (x : PathLine) → takes_path p ≡ true → Placed p d → length d.counts ≡ 7
+    → Stepped (record d { section = p }) (record d { section = section.Paths; paths = d.paths ++ x ∷ [] }) (line.Path x)
+path_stepped (section.Head n) d x t h seven = absurd cc
+path_stepped section.Paths d x t h seven = record {
   seven = seven;
   placed = h;
   more = body_more (head_lines (file_of d)) (sections_of d) (sections (d.paths ++ x ∷ []) d.edges d.whys d.probes) (line.Path x) (path_section d.paths d.edges d.whys d.probes x h.0 h.1 h.2);
 }
-path_stepped place.Edges d x t h seven = absurd cc
-path_stepped place.Whys d x t h seven = absurd cc
-path_stepped place.Probes d x t h seven = absurd cc
-path_stepped place.End d x t h seven = absurd cc
+path_stepped section.Edges d x t h seven = absurd cc
+path_stepped section.Whys d x t h seven = absurd cc
+path_stepped section.Probes d x t h seven = absurd cc
+path_stepped section.End d x t h seven = absurd cc
 
-edge_added : (d : Draft) (x : EdgeLine) → d.whys ≡ [] → d.probes ≡ [] → sofar (record d { place = place.Edges; edges = d.edges ++ x ∷ [] }) ≡ sofar (record d { place = place.Edges }) ++ line.Edge x ∷ []
+edge_added : (d : Draft) (x : EdgeLine) → d.whys ≡ [] → d.probes ≡ [] → sofar (record d { section = section.Edges; edges = d.edges ++ x ∷ [] }) ≡ sofar
+    (record d { section = section.Edges }) ++ line.Edge x ∷ []
 edge_added d x w o = body_more (head_lines (file_of d)) (sections_of d) (sections d.paths (d.edges ++ x ∷ []) d.whys d.probes) (line.Edge x) (edge_section d.paths d.edges d.whys d.probes x w o)
 
-edge_stepped : (p : Place) (d : Draft) (x : EdgeLine) → takes_edge p ≡ true → Placed p d → length d.counts ≡ 7 → Stepped (record d { place = p }) (record d { place = place.Edges; edges = d.edges ++ x ∷ [] }) (line.Edge x)
-edge_stepped (place.Head n) d x t h seven = absurd cc
-edge_stepped place.Paths d x t h seven = record { seven = seven; placed = (h.1, h.2); more = edge_added d x h.1 h.2 }
-edge_stepped place.Edges d x t h seven = record { seven = seven; placed = h; more = edge_added d x h.0 h.1 }
-edge_stepped place.Whys d x t h seven = absurd cc
-edge_stepped place.Probes d x t h seven = absurd cc
-edge_stepped place.End d x t h seven = absurd cc
+edge_stepped : (p : Section) (d : Draft) (x : EdgeLine) → takes_edge p ≡ true → Placed p d → length d.counts ≡ 7
+    → Stepped (record d { section = p }) (record d { section = section.Edges; edges = d.edges ++ x ∷ [] }) (line.Edge x)
+edge_stepped (section.Head n) d x t h seven = absurd cc
+edge_stepped section.Paths d x t h seven = record { seven = seven; placed = (h.1, h.2); more = edge_added d x h.1 h.2 }
+edge_stepped section.Edges d x t h seven = record { seven = seven; placed = h; more = edge_added d x h.0 h.1 }
+edge_stepped section.Whys d x t h seven = absurd cc
+edge_stepped section.Probes d x t h seven = absurd cc
+edge_stepped section.End d x t h seven = absurd cc
 
-why_added : (d : Draft) (x : Walk) → d.probes ≡ [] → sofar (record d { place = place.Whys; whys = d.whys ++ x ∷ [] }) ≡ sofar (record d { place = place.Whys }) ++ line.Why x ∷ []
+why_added : (d : Draft) (x : Walk) → d.probes ≡ [] → sofar (record d { section = section.Whys; whys = d.whys ++ x ∷ [] }) ≡ sofar (record d { section = section.Whys }) ++ line.Why x ∷ []
 why_added d x o = body_more (head_lines (file_of d)) (sections_of d) (sections d.paths d.edges (d.whys ++ x ∷ []) d.probes) (line.Why x) (why_section d.paths d.edges d.whys d.probes x o)
 
-why_stepped : (p : Place) (d : Draft) (x : Walk) → takes_why p ≡ true → Placed p d → length d.counts ≡ 7 → Stepped (record d { place = p }) (record d { place = place.Whys; whys = d.whys ++ x ∷ [] }) (line.Why x)
-why_stepped (place.Head n) d x t h seven = absurd cc
-why_stepped place.Paths d x t h seven = record { seven = seven; placed = h.2; more = why_added d x h.2 }
-why_stepped place.Edges d x t h seven = record { seven = seven; placed = h.1; more = why_added d x h.1 }
-why_stepped place.Whys d x t h seven = record { seven = seven; placed = h; more = why_added d x h }
-why_stepped place.Probes d x t h seven = absurd cc
-why_stepped place.End d x t h seven = absurd cc
+why_stepped : (p : Section) (d : Draft) (x : Walk) → takes_why p ≡ true → Placed p d → length d.counts ≡ 7
+    → Stepped (record d { section = p }) (record d { section = section.Whys; whys = d.whys ++ x ∷ [] }) (line.Why x)
+why_stepped (section.Head n) d x t h seven = absurd cc
+why_stepped section.Paths d x t h seven = record { seven = seven; placed = h.2; more = why_added d x h.2 }
+why_stepped section.Edges d x t h seven = record { seven = seven; placed = h.1; more = why_added d x h.1 }
+why_stepped section.Whys d x t h seven = record { seven = seven; placed = h; more = why_added d x h }
+why_stepped section.Probes d x t h seven = absurd cc
+why_stepped section.End d x t h seven = absurd cc
 
-probe_added : (d : Draft) (x : ProbeLine) → sofar (record d { place = place.Probes; probes = d.probes ++ x ∷ [] }) ≡ sofar (record d { place = place.Probes }) ++ line.Probe x ∷ []
+probe_added : (d : Draft) (x : Probe) → sofar (record d { section = section.Probes; probes = d.probes ++ x ∷ [] }) ≡ sofar (record d { section = section.Probes }) ++ line.Probe x ∷ []
 probe_added d x = body_more (head_lines (file_of d)) (sections_of d) (sections d.paths d.edges d.whys (d.probes ++ x ∷ [])) (line.Probe x) (probe_section d.paths d.edges d.whys d.probes x)
 
-probe_stepped : (p : Place) (d : Draft) (x : ProbeLine) → takes_probe p ≡ true → Placed p d → length d.counts ≡ 7 → Stepped (record d { place = p }) (record d { place = place.Probes; probes = d.probes ++ x ∷ [] }) (line.Probe x)
-probe_stepped (place.Head n) d x t h seven = absurd cc
-probe_stepped place.Paths d x t h seven = record { seven = seven; placed = tt; more = probe_added d x }
-probe_stepped place.Edges d x t h seven = record { seven = seven; placed = tt; more = probe_added d x }
-probe_stepped place.Whys d x t h seven = record { seven = seven; placed = tt; more = probe_added d x }
-probe_stepped place.Probes d x t h seven = record { seven = seven; placed = tt; more = probe_added d x }
-probe_stepped place.End d x t h seven = absurd cc
+probe_stepped : (p : Section) (d : Draft) (x : Probe) → takes_probe p ≡ true → Placed p d → length d.counts ≡ 7
+    → Stepped (record d { section = p }) (record d { section = section.Probes; probes = d.probes ++ x ∷ [] }) (line.Probe x)
+probe_stepped (section.Head n) d x t h seven = absurd cc
+probe_stepped section.Paths d x t h seven = record { seven = seven; placed = tt; more = probe_added d x }
+probe_stepped section.Edges d x t h seven = record { seven = seven; placed = tt; more = probe_added d x }
+probe_stepped section.Whys d x t h seven = record { seven = seven; placed = tt; more = probe_added d x }
+probe_stepped section.Probes d x t h seven = record { seven = seven; placed = tt; more = probe_added d x }
+probe_stepped section.End d x t h seven = absurd cc
 
-end_stepped : (p : Place) (d : Draft) (x : Totals) → takes_probe p ≡ true → Placed p d → length d.counts ≡ 7 → Stepped (record d { place = p }) (record d { place = place.End; totals = x }) (line.End x)
-end_stepped (place.Head n) d x t h seven = absurd cc
-end_stepped place.Paths d x t h seven = record { seven = seven; placed = tt; more = end_more (head_lines (file_of d)) (sections_of d) (line.End x) }
-end_stepped place.Edges d x t h seven = record { seven = seven; placed = tt; more = end_more (head_lines (file_of d)) (sections_of d) (line.End x) }
-end_stepped place.Whys d x t h seven = record { seven = seven; placed = tt; more = end_more (head_lines (file_of d)) (sections_of d) (line.End x) }
-end_stepped place.Probes d x t h seven = record { seven = seven; placed = tt; more = end_more (head_lines (file_of d)) (sections_of d) (line.End x) }
-end_stepped place.End d x t h seven = absurd cc
+end_stepped : (p : Section) (d : Draft) (x : Totals) → takes_probe p ≡ true → Placed p d → length d.counts ≡ 7
+    → Stepped (record d { section = p }) (record d { section = section.End; totals = x }) (line.End x)
+end_stepped (section.Head n) d x t h seven = absurd cc
+end_stepped section.Paths d x t h seven = record { seven = seven; placed = tt; more = end_more (head_lines (file_of d)) (sections_of d) (line.End x) }
+end_stepped section.Edges d x t h seven = record { seven = seven; placed = tt; more = end_more (head_lines (file_of d)) (sections_of d) (line.End x) }
+end_stepped section.Whys d x t h seven = record { seven = seven; placed = tt; more = end_more (head_lines (file_of d)) (sections_of d) (line.End x) }
+end_stepped section.Probes d x t h seven = record { seven = seven; placed = tt; more = end_more (head_lines (file_of d)) (sections_of d) (line.End x) }
+end_stepped section.End d x t h seven = absurd cc
 
 -- ---- any line
 
@@ -386,7 +402,7 @@ body_step b d new e l made s =
     let g = if_some b (Some new) e s in
     subst (λ (x : Draft). Stepped d x l) (some_is new e g.1) (made g.0)
 
-pub step_steps : (d e : Draft) (l : Line) → length d.counts ≡ 7 → Placed d.place d → step d l ≡ Some e → Stepped d e l
+pub step_steps : (d e : Draft) (l : Line) → length d.counts ≡ 7 → Placed d.section d → step d l ≡ Some e → Stepped d e l
 step_steps d e line.Version seven placed s =
     head_stepped 0 d d e line.Version (record { paths = refl; edges = refl; whys = refl; probes = refl; seven = seven; ends = refl; placed = λ h. h; head = refl }) placed s
 step_steps d e (line.Sets x) seven placed s =
@@ -396,9 +412,23 @@ step_steps d e (line.Ratio n) seven placed s =
 step_steps d e (line.Aside c n) seven placed s =
     let set = sets_count d c n seven in
     let new : Draft = record d { counts = slice_set d.counts (cause_index c) n } in
-    head_stepped (3 + cause_index c) d new e (line.Aside c n) (record { paths = refl; edges = refl; whys = refl; probes = refl; seven = set.1; ends = aside_ends c (file_of new); placed = aside_placed c new; head = set.0 }) placed s
-step_steps d e (line.Path x) seven placed s = body_step (takes_path d.place) d (record d { place = place.Paths; paths = d.paths ++ x ∷ [] }) e (line.Path x) (λ t. path_stepped d.place d x t placed seven) s
-step_steps d e (line.Edge x) seven placed s = body_step (takes_edge d.place) d (record d { place = place.Edges; edges = d.edges ++ x ∷ [] }) e (line.Edge x) (λ t. edge_stepped d.place d x t placed seven) s
-step_steps d e (line.Why x) seven placed s = body_step (takes_why d.place) d (record d { place = place.Whys; whys = d.whys ++ x ∷ [] }) e (line.Why x) (λ t. why_stepped d.place d x t placed seven) s
-step_steps d e (line.Probe x) seven placed s = body_step (takes_probe d.place) d (record d { place = place.Probes; probes = d.probes ++ x ∷ [] }) e (line.Probe x) (λ t. probe_stepped d.place d x t placed seven) s
-step_steps d e (line.End x) seven placed s = body_step (takes_probe d.place) d (record d { place = place.End; totals = x }) e (line.End x) (λ t. end_stepped d.place d x t placed seven) s
+    head_stepped (3 + cause_index c) d new e (line.Aside c n) (record {
+      paths = refl;
+      edges = refl;
+      whys = refl;
+      probes = refl;
+      seven = set.1;
+      ends =
+          aside_ends c (file_of new);
+      placed = aside_placed c new;
+      head = set.0;
+    }) placed s
+step_steps d e (line.Path x) seven placed s = body_step (takes_path d.section) d (record d { section = section.Paths; paths = d.paths ++ x ∷ [] }) e (line.Path x)
+    (λ t. path_stepped d.section d x t placed seven) s
+step_steps d e (line.Edge x) seven placed s = body_step (takes_edge d.section) d (record d { section = section.Edges; edges = d.edges ++ x ∷ [] }) e (line.Edge x)
+    (λ t. edge_stepped d.section d x t placed seven) s
+step_steps d e (line.Why x) seven placed s = body_step (takes_why d.section) d (record d { section = section.Whys; whys = d.whys ++ x ∷ [] }) e (line.Why x)
+    (λ t. why_stepped d.section d x t placed seven) s
+step_steps d e (line.Probe x) seven placed s = body_step (takes_probe d.section) d (record d { section = section.Probes; probes = d.probes ++ x ∷ [] }) e (line.Probe x)
+    (λ t. probe_stepped d.section d x t placed seven) s
+step_steps d e (line.End x) seven placed s = body_step (takes_probe d.section) d (record d { section = section.End; totals = x }) e (line.End x) (λ t. end_stepped d.section d x t placed seven) s

@@ -95,4 +95,5 @@ lines_are_of_text file r n le =
     let fit : AllByRecursion LineFits ls = all_prefix LineFits ls ms (subst (AllByRecursion LineFits) (sym split) (lines_fit file r)) in
     let parts : text file ≡ text_of_lines ls ++ text_of_lines ms = ap text_of_lines (sym split) ∙ flat_map-append line_text ls ms in
     let same : length ls + 0 ≡ n = omega (arith, count) in
-    ap (first_lines n) parts ∙ ap (λ (k : ℕ). first_lines k (text_of_lines ls ++ text_of_lines ms)) (sym same) ∙ lines_first ls (text_of_lines ms) 0 fit ∙ ap (λ (x : List ℕ). Some x) (append-nil (text_of_lines ls))
+    ap (first_lines n) parts ∙ ap (λ (k : ℕ). first_lines k (text_of_lines ls ++ text_of_lines ms)) (sym same) ∙ lines_first ls (text_of_lines ms) 0 fit
+    ∙ ap (λ (x : List ℕ). Some x) (append-nil (text_of_lines ls))

@@ -7,8 +7,8 @@ use Rattle.relationships.specs.declared.walk.Walk.{Walk}
 use Rattle.path_clean.specs.declared.cleaned.Sets.TheVariants as sets
 use Rattle.path_clean.specs.declared.cleaned.Cause.TheVariants as cause
 use Rattle.path_clean.specs.Counts.{no_counts}
-use Rattle.result_text.specs.declared.file.Fate.TheVariants as fate
-use Rattle.result_text.specs.declared.file.EdgeMark.TheVariants as mark
+use Rattle.relationships.specs.declared.fate.Fate.TheVariants as fate
+use Rattle.relationships.specs.declared.mark.Mark.TheVariants as mark
 use Rattle.result_text.specs.declared.file.PathLine.{PathLine}
 use Rattle.result_text.specs.declared.file.EdgeLine.{EdgeLine}
 use Rattle.result_text.specs.declared.file.Totals.{Totals}
@@ -71,7 +71,8 @@ empty_walk_text : line_text (line.Why (record { ases = []; links = [] })) ≡ co
 unfolding line_text
 empty_walk_text = refl
 
-forced_text : line_text (line.Edge (record { low = 1; high = 4294967295; label = label.High; mark = mark.Forced; support = 18446744073709551615 })) ≡ codes "edge|1|4294967295|high|forced|18446744073709551615\n"
+forced_text : line_text (line.Edge (record { low = 1; high = 4294967295; label = label.High; mark = mark.Forced; support = 18446744073709551615 })) ≡ codes
+    "edge|1|4294967295|high|forced|18446744073709551615\n"
 unfolding line_text digits
 forced_text = refl
 

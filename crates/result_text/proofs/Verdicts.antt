@@ -11,8 +11,8 @@ use Rattle.result_text.specs.declared.file.ResultFile.{ResultFile}
 use Rattle.result_text.specs.declared.line.Line.{Line}
 use Rattle.result_text.specs.declared.line.Line.TheVariants as line
 use Rattle.result_text.specs.declared.draft.Draft.{Draft}
-use Rattle.result_text.specs.declared.draft.Place.{Place}
-use Rattle.result_text.specs.declared.draft.Place.TheVariants as place
+use Rattle.result_text.specs.declared.draft.Section.{Section}
+use Rattle.result_text.specs.declared.draft.Section.TheVariants as section
 use Rattle.result_text.specs.Text.{fields, fields_of, line_text, head_lines, body_lines, lines_of, text_of_lines, text}
 use Rattle.result_text.specs.Ranges.{IsU64, PathFits, EdgeFits, WalkFits, ProbeFits, LineFits, CountsFit, IsInRange}
 use Rattle.result_text.specs.Grammar.{IsTextOf, IsText, BeginsText, first_lines, GoesWell, IsBadLine}
@@ -47,14 +47,19 @@ lines_fit f r =
     let a = r.asides in
     let last : AllByRecursion LineFits (line.End f.totals ∷ []) = (r.totals, tt) in
     let four = all_append LineFits (map (λ p. line.Probe p) f.probes) (line.End f.totals ∷ []) (all_map ProbeFits LineFits (λ p. line.Probe p) f.probes (λ x h. h) r.probes) last in
-    let three = all_append LineFits (map (λ w. line.Why w) f.whys) (map (λ p. line.Probe p) f.probes ++ line.End f.totals ∷ []) (all_map WalkFits LineFits (λ w. line.Why w) f.whys (λ x h. h) r.whys) four in
-    let two = all_append LineFits (map (λ e. line.Edge e) f.edges) (map (λ w. line.Why w) f.whys ++ (map (λ p. line.Probe p) f.probes ++ line.End f.totals ∷ [])) (all_map EdgeFits LineFits (λ e. line.Edge e) f.edges (λ x h. h) r.edges) three in
-    let body : AllByRecursion LineFits (body_lines f) = all_append LineFits (map (λ p. line.Path p) f.paths) (map (λ e. line.Edge e) f.edges ++ (map (λ w. line.Why w) f.whys ++ (map (λ p. line.Probe p) f.probes ++ line.End f.totals ∷ []))) (all_map PathFits LineFits (λ p. line.Path p) f.paths (λ x h. h) r.paths) two in
+    let three = all_append LineFits (map (λ w. line.Why w) f.whys) (map (λ p. line.Probe p) f.probes ++ line.End f.totals ∷ [])
+    (all_map WalkFits LineFits (λ w. line.Why w) f.whys (λ x h. h) r.whys) four in
+    let two = all_append LineFits (map (λ e. line.Edge e) f.edges) (map (λ w. line.Why w) f.whys ++ (map (λ p. line.Probe p) f.probes ++ line.End f.totals ∷ []))
+    (all_map EdgeFits LineFits (λ e. line.Edge e) f.edges (λ x h. h) r.edges) three in
+    let body : AllByRecursion LineFits (body_lines f) = all_append LineFits (map (λ p. line.Path p) f.paths)
+    (map (λ e. line.Edge e) f.edges ++ (map (λ w. line.Why w) f.whys ++ (map (λ p. line.Probe p) f.probes ++ line.End f.totals ∷ [])))
+    (all_map PathFits LineFits (λ p. line.Path p) f.paths (λ x h. h) r.paths) two in
     (tt, (tt, (r.ratio, (a.0, (a.1, (a.2, (a.3, (a.4, (a.5, (a.6, body))))))))))
 
 -- ---- ranges, step by step
 
-counts_fit_at : (c : Cause) (n x0 x1 x2 x3 x4 x5 x6 : ℕ) → IsU64 n → CountsFit (counts_from (x0 ∷ x1 ∷ x2 ∷ x3 ∷ x4 ∷ x5 ∷ x6 ∷ [])) → CountsFit (counts_from (slice_set (x0 ∷ x1 ∷ x2 ∷ x3 ∷ x4 ∷ x5 ∷ x6 ∷ []) (cause_index c) n))
+counts_fit_at : (c : Cause) (n x0 x1 x2 x3 x4 x5 x6 : ℕ) → IsU64 n → CountsFit (counts_from (x0 ∷ x1 ∷ x2 ∷ x3 ∷ x4 ∷ x5 ∷ x6 ∷ []))
+    → CountsFit (counts_from (slice_set (x0 ∷ x1 ∷ x2 ∷ x3 ∷ x4 ∷ x5 ∷ x6 ∷ []) (cause_index c) n))
 counts_fit_at cause.NoPath n x0 x1 x2 x3 x4 x5 x6 h a = (h, a.1, a.2, a.3, a.4, a.5, a.6)
 counts_fit_at cause.BadSegments n x0 x1 x2 x3 x4 x5 x6 h a = (a.0, h, a.2, a.3, a.4, a.5, a.6)
 counts_fit_at cause.Confed n x0 x1 x2 x3 x4 x5 x6 h a = (a.0, a.1, h, a.3, a.4, a.5, a.6)
@@ -74,21 +79,30 @@ changed b new e r s =
     subst (λ (x : Draft). IsInRange (file_of x)) (some_is new e g.1) r
 
 step_in_range : (d e : Draft) (l : Line) → length d.counts ≡ 7 → IsInRange (file_of d) → LineFits l → step d l ≡ Some e → IsInRange (file_of e)
-step_in_range d e line.Version seven r h s = changed (is_head 0 d.place) (record d { place = after_head 1 }) e r s
-step_in_range d e (line.Sets x) seven r h s = changed (is_head 1 d.place) (record d { sets = x; place = after_head 2 }) e (record { ratio = r.ratio; asides = r.asides; paths = r.paths; edges = r.edges; whys = r.whys; probes = r.probes; totals = r.totals }) s
-step_in_range d e (line.Ratio n) seven r h s = changed (is_head 2 d.place) (record d { ratio = n; place = after_head 3 }) e (record { ratio = h; asides = r.asides; paths = r.paths; edges = r.edges; whys = r.whys; probes = r.probes; totals = r.totals }) s
-step_in_range d e (line.Aside c n) seven r h s = changed (is_head (3 + cause_index c) d.place) (record d { counts = slice_set d.counts (cause_index c) n; place = after_head (3 + cause_index c + 1) }) e (record { ratio = r.ratio; asides = counts_fit c n d.counts seven h r.asides; paths = r.paths; edges = r.edges; whys = r.whys; probes = r.probes; totals = r.totals }) s
-step_in_range d e (line.Path x) seven r h s = changed (takes_path d.place) (record d { place = place.Paths; paths = d.paths ++ x ∷ [] }) e (record { ratio = r.ratio; asides = r.asides; paths = all_push PathFits d.paths x r.paths h; edges = r.edges; whys = r.whys; probes = r.probes; totals = r.totals }) s
-step_in_range d e (line.Edge x) seven r h s = changed (takes_edge d.place) (record d { place = place.Edges; edges = d.edges ++ x ∷ [] }) e (record { ratio = r.ratio; asides = r.asides; paths = r.paths; edges = all_push EdgeFits d.edges x r.edges h; whys = r.whys; probes = r.probes; totals = r.totals }) s
-step_in_range d e (line.Why x) seven r h s = changed (takes_why d.place) (record d { place = place.Whys; whys = d.whys ++ x ∷ [] }) e (record { ratio = r.ratio; asides = r.asides; paths = r.paths; edges = r.edges; whys = all_push WalkFits d.whys x r.whys h; probes = r.probes; totals = r.totals }) s
-step_in_range d e (line.Probe x) seven r h s = changed (takes_probe d.place) (record d { place = place.Probes; probes = d.probes ++ x ∷ [] }) e (record { ratio = r.ratio; asides = r.asides; paths = r.paths; edges = r.edges; whys = r.whys; probes = all_push ProbeFits d.probes x r.probes h; totals = r.totals }) s
-step_in_range d e (line.End x) seven r h s = changed (takes_probe d.place) (record d { place = place.End; totals = x }) e (record { ratio = r.ratio; asides = r.asides; paths = r.paths; edges = r.edges; whys = r.whys; probes = r.probes; totals = h }) s
+step_in_range d e line.Version seven r h s = changed (is_head 0 d.section) (record d { section = after_head 1 }) e r s
+step_in_range d e (line.Sets x) seven r h s = changed (is_head 1 d.section) (record d { sets = x; section = after_head 2 }) e
+    (record { ratio = r.ratio; asides = r.asides; paths = r.paths; edges = r.edges; whys = r.whys; probes = r.probes; totals = r.totals }) s
+step_in_range d e (line.Ratio n) seven r h s = changed (is_head 2 d.section) (record d { ratio = n; section = after_head 3 }) e
+    (record { ratio = h; asides = r.asides; paths = r.paths; edges = r.edges; whys = r.whys; probes = r.probes; totals = r.totals }) s
+step_in_range d e (line.Aside c n) seven r h s = changed (is_head (3 + cause_index c) d.section)
+    (record d { counts = slice_set d.counts (cause_index c) n; section = after_head (3 + cause_index c + 1) }) e
+    (record { ratio = r.ratio; asides = counts_fit c n d.counts seven h r.asides; paths = r.paths; edges = r.edges; whys = r.whys; probes = r.probes; totals = r.totals }) s
+step_in_range d e (line.Path x) seven r h s = changed (takes_path d.section) (record d { section = section.Paths; paths = d.paths ++ x ∷ [] }) e
+    (record { ratio = r.ratio; asides = r.asides; paths = all_push PathFits d.paths x r.paths h; edges = r.edges; whys = r.whys; probes = r.probes; totals = r.totals }) s
+step_in_range d e (line.Edge x) seven r h s = changed (takes_edge d.section) (record d { section = section.Edges; edges = d.edges ++ x ∷ [] }) e
+    (record { ratio = r.ratio; asides = r.asides; paths = r.paths; edges = all_push EdgeFits d.edges x r.edges h; whys = r.whys; probes = r.probes; totals = r.totals }) s
+step_in_range d e (line.Why x) seven r h s = changed (takes_why d.section) (record d { section = section.Whys; whys = d.whys ++ x ∷ [] }) e
+    (record { ratio = r.ratio; asides = r.asides; paths = r.paths; edges = r.edges; whys = all_push WalkFits d.whys x r.whys h; probes = r.probes; totals = r.totals }) s
+step_in_range d e (line.Probe x) seven r h s = changed (takes_probe d.section) (record d { section = section.Probes; probes = d.probes ++ x ∷ [] }) e
+    (record { ratio = r.ratio; asides = r.asides; paths = r.paths; edges = r.edges; whys = r.whys; probes = all_push ProbeFits d.probes x r.probes h; totals = r.totals }) s
+step_in_range d e (line.End x) seven r h s = changed (takes_probe d.section) (record d { section = section.End; totals = x }) e
+    (record { ratio = r.ratio; asides = r.asides; paths = r.paths; edges = r.edges; whys = r.whys; probes = r.probes; totals = h }) s
 
 -- ---- drafts that reading can come to
 
 pub record Reached (d : Draft) : Type 0 where
   pub seven : length d.counts ≡ 7
-  pub placed : Placed d.place d
+  pub placed : Placed d.section d
   pub in_range : IsInRange (file_of d)
   pub ran : run start (sofar d) ≡ Some d
   pub fit : AllByRecursion LineFits (sofar d)
@@ -97,7 +111,15 @@ pub start_reached : Reached start
 start_reached = record {
   seven = refl;
   placed = (refl, refl, refl, refl);
-  in_range = record { ratio = omega arith; asides = (omega arith, omega arith, omega arith, omega arith, omega arith, omega arith, omega arith); paths = tt; edges = tt; whys = tt; probes = tt; totals = (omega arith, omega arith, omega arith, omega arith, omega arith) };
+  in_range = record {
+    ratio = omega arith;
+    asides = (omega arith, omega arith, omega arith, omega arith, omega arith, omega arith, omega arith);
+    paths = tt;
+    edges = tt;
+    whys = tt;
+    probes = tt;
+    totals = (omega arith, omega arith, omega arith, omega arith, omega arith);
+  };
   ran = refl;
   fit = tt;
 }
@@ -122,26 +144,29 @@ regroup h a b c d e = simp (append-nil, append_assoc)
 regroup_all : (h a b c d e : List Line) → h ++ (a ++ (b ++ (c ++ (d ++ e)))) ≡ h ++ ((a ++ (b ++ (c ++ d))) ++ e)
 regroup_all h a b c d e = simp append_assoc
 
-body_parts : (d : Draft) → lines_of (file_of d) ≡ sofar (record d { place = place.Paths }) ++ line.End d.totals ∷ []
-body_parts d = regroup (head_lines (file_of d)) (map (λ p. line.Path p) d.paths) (map (λ e. line.Edge e) d.edges) (map (λ w. line.Why w) d.whys) (map (λ p. line.Probe p) d.probes) (line.End d.totals ∷ [])
+body_parts : (d : Draft) → lines_of (file_of d) ≡ sofar (record d { section = section.Paths }) ++ line.End d.totals ∷ []
+body_parts d = regroup (head_lines (file_of d)) (map (λ p. line.Path p) d.paths) (map (λ e. line.Edge e) d.edges) (map (λ w. line.Why w) d.whys)
+    (map (λ p. line.Probe p) d.probes) (line.End d.totals ∷ [])
 
-whole_parts : (d : Draft) → lines_of (file_of d) ≡ sofar (record d { place = place.End })
-whole_parts d = regroup_all (head_lines (file_of d)) (map (λ p. line.Path p) d.paths) (map (λ e. line.Edge e) d.edges) (map (λ w. line.Why w) d.whys) (map (λ p. line.Probe p) d.probes) (line.End d.totals ∷ [])
+whole_parts : (d : Draft) → lines_of (file_of d) ≡ sofar (record d { section = section.End })
+whole_parts d = regroup_all (head_lines (file_of d)) (map (λ p. line.Path p) d.paths) (map (λ e. line.Edge e) d.edges) (map (λ w. line.Why w) d.whys)
+    (map (λ p. line.Probe p) d.probes) (line.End d.totals ∷ [])
 
 -- the lines so far are the first lines of the draft's own result
-goes_on : (p : Place) (d : Draft) → Placed p d → (more : List Line) × (lines_of (file_of d) ≡ sofar (record d { place = p }) ++ more)
-goes_on (place.Head n) d h =
+goes_on : (p : Section) (d : Draft) → Placed p d → (more : List Line) × (lines_of (file_of d) ≡ sofar (record d { section = p }) ++ more)
+goes_on (section.Head n) d h =
     let nothing = no_sections d h.0 h.1 h.2 h.3 in
     let head = head_lines (file_of d) in
-    let prefix : sofar (record d { place = place.Head n }) ≡ take n head = ap (λ (x : List Line). take n head ++ (x ++ [])) nothing ∙ append-nil (take n head) in (
+    let prefix : sofar (record d { section = section.Head n }) ≡ take n head = ap (λ (x : List Line). take n head ++ (x ++ [])) nothing ∙ append-nil (take n head) in (
       drop n head ++ body_lines (file_of d),
-      ap (λ (x : List Line). x ++ body_lines (file_of d)) (sym (take-append-drop n head)) ∙ append_assoc (take n head) (drop n head) (body_lines (file_of d)) ∙ ap (λ (x : List Line). x ++ (drop n head ++ body_lines (file_of d))) (sym prefix),
+      ap (λ (x : List Line). x ++ body_lines (file_of d)) (sym (take-append-drop n head)) ∙ append_assoc (take n head) (drop n head) (body_lines (file_of d))
+          ∙ ap (λ (x : List Line). x ++ (drop n head ++ body_lines (file_of d))) (sym prefix),
     )
-goes_on place.Paths d h = (line.End d.totals ∷ [], body_parts d)
-goes_on place.Edges d h = (line.End d.totals ∷ [], body_parts d)
-goes_on place.Whys d h = (line.End d.totals ∷ [], body_parts d)
-goes_on place.Probes d h = (line.End d.totals ∷ [], body_parts d)
-goes_on place.End d h = ([], whole_parts d ∙ sym (append-nil (sofar (record d { place = place.End }))))
+goes_on section.Paths d h = (line.End d.totals ∷ [], body_parts d)
+goes_on section.Edges d h = (line.End d.totals ∷ [], body_parts d)
+goes_on section.Whys d h = (line.End d.totals ∷ [], body_parts d)
+goes_on section.Probes d h = (line.End d.totals ∷ [], body_parts d)
+goes_on section.End d h = ([], whole_parts d ∙ sym (append-nil (sofar (record d { section = section.End }))))
 
 -- ---- texts that begin alike
 
@@ -203,8 +228,10 @@ first_rest (suc n) (b ∷ bytes) prefix e =
 goes_well : (ls more : List Line) (rest : List ℕ) (f : ResultFile) → IsInRange f → AllByRecursion LineFits ls → lines_of f ≡ ls ++ more → GoesWell (length ls) (text_of_lines ls ++ rest)
 goes_well ls more rest f in_range fit e =
     let count : length ls + 0 ≡ length ls = omega arith in
-    let prefix : first_lines (length ls) (text_of_lines ls ++ rest) ≡ Some (text_of_lines ls ++ []) = ap (λ (k : ℕ). first_lines k (text_of_lines ls ++ rest)) (sym count) ∙ lines_first ls rest 0 fit in
-    let encoded : (text_of_lines ls ++ []) ++ text_of_lines more ≡ text f = ap (λ (x : List ℕ). x ++ text_of_lines more) (append-nil (text_of_lines ls)) ∙ sym (flat_map-append line_text ls more) ∙ ap text_of_lines (sym e) in
+    let prefix : first_lines (length ls) (text_of_lines ls ++ rest) ≡ Some (text_of_lines ls ++ []) = ap (λ (k : ℕ). first_lines k (text_of_lines ls ++ rest)) (sym count)
+    ∙ lines_first ls rest 0 fit in
+    let encoded : (text_of_lines ls ++ []) ++ text_of_lines more ≡ text f = ap (λ (x : List ℕ). x ++ text_of_lines more) (append-nil (text_of_lines ls))
+    ∙ sym (flat_map-append line_text ls more) ∙ ap text_of_lines (sym e) in
     let begins : BeginsText (text_of_lines ls ++ []) = (text_of_lines more, (f, record { in_range = in_range; encoded = encoded })) in
     subst (λ (o : Option (List ℕ)). IsSomeAnd o BeginsText) (sym prefix) begins
 
@@ -213,11 +240,12 @@ well_before d rest r m le =
     let ls = take m (sofar d) in
     let ms = drop m (sofar d) in
     let split : ls ++ ms ≡ sofar d = take-append-drop m (sofar d) in
-    let on = goes_on d.place d r.placed in
+    let on = goes_on d.section d r.placed in
     let whole : lines_of (file_of d) ≡ ls ++ (ms ++ on.0) = on.1 ∙ ap (λ (x : List Line). x ++ on.0) (sym split) ∙ append_assoc ls ms on.0 in
     let fit : AllByRecursion LineFits ls = all_prefix LineFits ls ms (subst (AllByRecursion LineFits) (sym split) r.fit) in
     let well = goes_well ls (ms ++ on.0) (text_of_lines ms ++ rest) (file_of d) r.in_range fit whole in
-    let bytes : text_of_lines ls ++ (text_of_lines ms ++ rest) ≡ text_of_lines (sofar d) ++ rest = sym (append_assoc (text_of_lines ls) (text_of_lines ms) rest) ∙ ap (λ (x : List ℕ). x ++ rest) (sym (flat_map-append line_text ls ms) ∙ ap text_of_lines split) in
+    let bytes : text_of_lines ls ++ (text_of_lines ms ++ rest) ≡ text_of_lines (sofar d) ++ rest = sym (append_assoc (text_of_lines ls) (text_of_lines ms) rest)
+    ∙ ap (λ (x : List ℕ). x ++ rest) (sym (flat_map-append line_text ls ms) ∙ ap text_of_lines split) in
     subst (λ (k : ℕ). GoesWell k (text_of_lines (sofar d) ++ rest)) (length-take-le m (sofar d) le) (subst (λ (x : List ℕ). GoesWell (length ls) x) bytes well)
 
 -- ---- where a text can't go on
@@ -259,7 +287,8 @@ no_next : (d : Draft) (rest : List ℕ) → Reached d → Stops d rest → GoesW
 no_next d rest r stops well =
     by_first (first_lines 1 rest) refl (subst (λ (o : Option (List ℕ)). IsSomeAnd o BeginsText) (lines_first (sofar d) rest 1 r.fit) well)
   where
-    by_more : (prefix more : List ℕ) (f : ResultFile) (ms : List Line) → first_lines 1 rest ≡ Some prefix → AllByRecursion LineFits ms → text_of_lines ms ≡ prefix ++ more → run d ms ≡ Some (done f) → ⊥
+    by_more : (prefix more : List ℕ) (f : ResultFile) (ms : List Line) → first_lines 1 rest ≡ Some prefix → AllByRecursion LineFits ms → text_of_lines ms ≡ prefix ++ more
+        → run d ms ≡ Some (done f) → ⊥
     by_more prefix more f [] is fit e runs = none_is_some prefix (ap (first_lines 1) e ∙ first_again 1 rest prefix more is)
     by_more prefix more f (l ∷ ms) is fit e runs =
         let one : first_lines 1 (line_text l ++ text_of_lines ms) ≡ Some (line_text l ++ []) = line_first l (text_of_lines ms) 0 fit.0 in
@@ -285,18 +314,18 @@ bad_line d bytes rest r e stops unfinished = subst (IsBadLine (length (sofar d) 
   least = λ m less. well_before d rest r m (omega arith);
 })
 
-finished_at : (p : Place) (d : Draft) (f : ResultFile) → finished (record d { place = p }) ≡ Some f → (p ≡ place.End) × (file_of d ≡ f)
-finished_at (place.Head n) d f e = absurd cc
-finished_at place.Paths d f e = absurd cc
-finished_at place.Edges d f e = absurd cc
-finished_at place.Whys d f e = absurd cc
-finished_at place.Probes d f e = absurd cc
-finished_at place.End d f e = (refl, some_is (file_of d) f e)
+finished_at : (p : Section) (d : Draft) (f : ResultFile) → finished (record d { section = p }) ≡ Some f → (p ≡ section.End) × (file_of d ≡ f)
+finished_at (section.Head n) d f e = absurd cc
+finished_at section.Paths d f e = absurd cc
+finished_at section.Edges d f e = absurd cc
+finished_at section.Whys d f e = absurd cc
+finished_at section.Probes d f e = absurd cc
+finished_at section.End d f e = (refl, some_is (file_of d) f e)
 
 pub is_text : (d : Draft) (bytes : List ℕ) (f : ResultFile) → Reached d → bytes ≡ text_of_lines (sofar d) ++ [] → finished d ≡ Some f → IsTextOf f bytes
 is_text d bytes f r e ends =
-    let t = finished_at d.place d f ends in
-    let all : sofar d ≡ lines_of (file_of d) = ap (λ (p : Place). sofar (record d { place = p })) t.0 ∙ sym (whole_parts d) in
+    let t = finished_at d.section d f ends in
+    let all : sofar d ≡ lines_of (file_of d) = ap (λ (p : Section). sofar (record d { section = p })) t.0 ∙ sym (whole_parts d) in
     subst (λ (g : ResultFile). IsTextOf g bytes) t.1 (record { in_range = r.in_range; encoded = e ∙ append-nil (text_of_lines (sofar d)) ∙ ap text_of_lines all })
 
 -- ---- each text has one value
@@ -354,7 +383,8 @@ progress_goes_on d e bytes rest after read p n =
     let t = next_parts d e rest after n in
     let r = line_takes rest (t.0, after) t.1 in
     let s = step_reached d e t.0 p.reached r.0 t.2 in
-    let lines : text_of_lines (sofar e) ≡ text_of_lines (sofar d) ++ line_text t.0 = ap text_of_lines s.1 ∙ flat_map-append line_text (sofar d) (t.0 ∷ []) ∙ ap (λ (x : List ℕ). text_of_lines (sofar d) ++ x) (append-nil (line_text t.0)) in
+    let lines : text_of_lines (sofar e) ≡ text_of_lines (sofar d) ++ line_text t.0 = ap text_of_lines s.1 ∙ flat_map-append line_text (sofar d) (t.0 ∷ [])
+    ∙ ap (λ (x : List ℕ). text_of_lines (sofar d) ++ x) (append-nil (line_text t.0)) in
     record {
       reached = s.0;
       encoded = p.encoded ∙ ap (λ (x : List ℕ). text_of_lines (sofar d) ++ x) r.1 ∙ sym (append_assoc (text_of_lines (sofar d)) (line_text t.0) after) ∙ ap (λ (x : List ℕ). x ++ after) (sym lines);

@@ -6,7 +6,7 @@ use Rattle.path_clean.specs.Counts.{count_of}
 use Rattle.relationships.specs.declared.walk.Walk.{Walk}
 use Rattle.result_text.specs.declared.file.PathLine.{PathLine}
 use Rattle.result_text.specs.declared.file.EdgeLine.{EdgeLine}
-use Rattle.result_text.specs.declared.file.ProbeLine.{ProbeLine}
+use Rattle.relationships.specs.declared.mark.Probe.{Probe}
 use Rattle.result_text.specs.declared.file.ResultFile.{ResultFile}
 use Rattle.result_text.specs.declared.line.Line.{Line}
 use Rattle.result_text.specs.declared.line.Line.TheVariants as line
@@ -46,7 +46,7 @@ pub record IsNumbered (file : ResultFile) : Type 0 where
   pub paths : (place : ℕ) (path : PathLine) → slice_get file.paths place ≡ Some path → IsLine file (path_line (place + 1)) (line.Path path)
   pub edges : (place : ℕ) (edge : EdgeLine) → slice_get file.edges place ≡ Some edge → IsLine file (edge_line file (place + 1)) (line.Edge edge)
   pub whys : (place : ℕ) (walk : Walk) → slice_get file.whys place ≡ Some walk → IsLine file (why_line file (place + 1)) (line.Why walk)
-  pub probes : (place : ℕ) (probe : ProbeLine) → slice_get file.probes place ≡ Some probe → IsLine file (probe_line file (place + 1)) (line.Probe probe)
+  pub probes : (place : ℕ) (probe : Probe) → slice_get file.probes place ≡ Some probe → IsLine file (probe_line file (place + 1)) (line.Probe probe)
   pub last : IsLine file (last_line file) (line.End file.totals)
   pub count : length (lines_of file) ≡ last_line file
 

@@ -9,8 +9,8 @@ use Rattle.result_text.specs.declared.file.ResultFile.{ResultFile}
 use Rattle.result_text.specs.declared.line.Line.{Line}
 use Rattle.result_text.specs.declared.line.Line.TheVariants as line
 use Rattle.result_text.specs.declared.draft.Draft.{Draft}
-use Rattle.result_text.specs.declared.draft.Place.{Place}
-use Rattle.result_text.specs.declared.draft.Place.TheVariants as place
+use Rattle.result_text.specs.declared.draft.Section.{Section}
+use Rattle.result_text.specs.declared.draft.Section.TheVariants as section
 use Rattle.result_text.specs.Reading.{◌>>=◌, Fails, line_at}
 
 -- the place among the seven counts
@@ -24,32 +24,32 @@ cause_index cause.Loop = 5
 cause_index cause.Short = 6
 
 -- where n of the ten first lines are read
-abbrev pub is_head : ℕ → Place → Bool
-is_head n (place.Head m) = m == n
+abbrev pub is_head : ℕ → Section → Bool
+is_head n (section.Head m) = m == n
 is_head n _ = false
 
-abbrev pub after_head : ℕ → Place
-after_head n = if nat_lt n 10 then place.Head n else place.Paths
+abbrev pub after_head : ℕ → Section
+after_head n = if nat_lt n 10 then section.Head n else section.Paths
 
-abbrev pub takes_path : Place → Bool
-takes_path place.Paths = true
+abbrev pub takes_path : Section → Bool
+takes_path section.Paths = true
 takes_path _ = false
 
-abbrev pub takes_edge : Place → Bool
-takes_edge place.Edges = true
+abbrev pub takes_edge : Section → Bool
+takes_edge section.Edges = true
 takes_edge p = takes_path p
 
-abbrev pub takes_why : Place → Bool
-takes_why place.Whys = true
+abbrev pub takes_why : Section → Bool
+takes_why section.Whys = true
 takes_why p = takes_edge p
 
-abbrev pub takes_probe : Place → Bool
-takes_probe place.Probes = true
+abbrev pub takes_probe : Section → Bool
+takes_probe section.Probes = true
 takes_probe p = takes_why p
 
 -- the n-th of the ten first lines, which changes the draft so
 abbrev pub pass_head : ℕ → Draft → Draft → Option Draft
-pass_head n old new = if is_head n old.place then Some (record new { place = after_head (n + 1) }) else None
+pass_head n old new = if is_head n old.section then Some (record new { section = after_head (n + 1) }) else None
 
 -- the draft with one more line, if the line may come next
 abbrev pub step : Draft → Line → Option Draft
@@ -57,11 +57,11 @@ step d line.Version = pass_head 0 d d
 step d (line.Sets s) = pass_head 1 d (record d { sets = s })
 step d (line.Ratio n) = pass_head 2 d (record d { ratio = n })
 step d (line.Aside c n) = pass_head (3 + cause_index c) d (record d { counts = slice_set d.counts (cause_index c) n })
-step d (line.Path p) = if takes_path d.place then Some (record d { place = place.Paths; paths = d.paths ++ p ∷ [] }) else None
-step d (line.Edge e) = if takes_edge d.place then Some (record d { place = place.Edges; edges = d.edges ++ e ∷ [] }) else None
-step d (line.Why w) = if takes_why d.place then Some (record d { place = place.Whys; whys = d.whys ++ w ∷ [] }) else None
-step d (line.Probe p) = if takes_probe d.place then Some (record d { place = place.Probes; probes = d.probes ++ p ∷ [] }) else None
-step d (line.End t) = if takes_probe d.place then Some (record d { place = place.End; totals = t }) else None
+step d (line.Path p) = if takes_path d.section then Some (record d { section = section.Paths; paths = d.paths ++ p ∷ [] }) else None
+step d (line.Edge e) = if takes_edge d.section then Some (record d { section = section.Edges; edges = d.edges ++ e ∷ [] }) else None
+step d (line.Why w) = if takes_why d.section then Some (record d { section = section.Whys; whys = d.whys ++ w ∷ [] }) else None
+step d (line.Probe p) = if takes_probe d.section then Some (record d { section = section.Probes; probes = d.probes ++ p ∷ [] }) else None
+step d (line.End t) = if takes_probe d.section then Some (record d { section = section.End; totals = t }) else None
 
 -- a call left the draft so, unless memory ran out
 abbrev pub Steps : {X : Type 0} → Result X LineError → Draft → Option Draft → Type 0
@@ -70,7 +70,7 @@ Steps (Err e) new next = Fails e next
 
 abbrev pub start : Draft
 start = record {
-  place = place.Head 0;
+  section = section.Head 0;
   sets = sets.Cut;
   ratio = 0;
   counts = 0 ∷ 0 ∷ 0 ∷ 0 ∷ 0 ∷ 0 ∷ 0 ∷ [];
@@ -94,8 +94,8 @@ file_of d = record {
 }
 
 abbrev pub finished : Draft → Option ResultFile
-finished d = elim d.place [
-  | place.End ↦ Some (file_of d)
+finished d = elim d.section [
+  | section.End ↦ Some (file_of d)
   | _ ↦ None
 ]
 

@@ -4,11 +4,11 @@ use Rattle.std.specs.List.{AllByRecursion}
 use Rattle.relationships.specs.declared.walk.Link.{Link}
 use Rattle.relationships.specs.declared.walk.Walk.{Walk}
 use Rattle.path_clean.specs.Counts.{Counts}
-use Rattle.result_text.specs.declared.file.Fate.{Fate}
-use Rattle.result_text.specs.declared.file.Fate.TheVariants as fate
+use Rattle.relationships.specs.declared.fate.Fate.{Fate}
+use Rattle.relationships.specs.declared.fate.Fate.TheVariants as fate
 use Rattle.result_text.specs.declared.file.PathLine.{PathLine}
 use Rattle.result_text.specs.declared.file.EdgeLine.{EdgeLine}
-use Rattle.result_text.specs.declared.file.ProbeLine.{ProbeLine}
+use Rattle.relationships.specs.declared.mark.Probe.{Probe}
 use Rattle.result_text.specs.declared.file.Totals.{Totals}
 use Rattle.result_text.specs.declared.file.ResultFile.{ResultFile}
 use Rattle.result_text.specs.declared.line.Line.{Line}
@@ -39,7 +39,7 @@ PathFits p = IsU64 p.times × AreU32 p.path × FateFits p.fate
 abbrev pub EdgeFits : EdgeLine → Type 0
 EdgeFits e = IsU32 e.low × IsU32 e.high × IsU64 e.support
 
-abbrev pub ProbeFits : ProbeLine → Type 0
+abbrev pub ProbeFits : Probe → Type 0
 ProbeFits p = IsU32 p.over × IsU32 p.under
 
 abbrev pub TotalsFit : Totals → Type 0

@@ -8,9 +8,9 @@ use Rattle.path_clean.specs.declared.cleaned.Sets.{Sets}
 use Rattle.path_clean.specs.declared.cleaned.Sets.TheVariants as sets
 use Rattle.path_clean.specs.declared.cleaned.Cause.{Cause}
 use Rattle.path_clean.specs.declared.cleaned.Cause.TheVariants as cause
-use Rattle.result_text.specs.declared.file.Fate.TheVariants as fate
-use Rattle.result_text.specs.declared.file.EdgeMark.{EdgeMark}
-use Rattle.result_text.specs.declared.file.EdgeMark.TheVariants as mark
+use Rattle.relationships.specs.declared.fate.Fate.TheVariants as fate
+use Rattle.relationships.specs.declared.mark.Mark.{Mark}
+use Rattle.relationships.specs.declared.mark.Mark.TheVariants as mark
 use Rattle.result_text.specs.declared.line.Line.{Line}
 use Rattle.result_text.specs.declared.line.Line.TheVariants as line
 use Rattle.result_text.specs.declared.error.LineError.{LineError}
@@ -39,6 +39,11 @@ word_at (c ∷ cs) (b ∷ bytes) = if b == c then word_at cs bytes else None
 -- one reader behind a word, and another where the word isn't there
 abbrev pub on_word : {X : Type 0} → List ℕ → (List ℕ → Option X) → (List ℕ → Option X) → List ℕ → Option X
 on_word word read other bytes = elim (word_at word bytes) [ Some rest ↦ read rest | None ↦ other bytes ]
+
+-- the first of the readers whose word is there, each beside its word
+abbrev pub by_word : {X : Type 0} → List (List ℕ × (List ℕ → Option X)) → List ℕ → Option X
+by_word [] bytes = None
+by_word (entry ∷ more) bytes = on_word entry.0 entry.1 (by_word more) bytes
 
 -- ---- numbers
 
@@ -95,7 +100,8 @@ mapped f read bytes = do
 -- further members, each behind a space, at most so many
 unfoldable pub others_at : {X : Type 0} → (List ℕ → Option (X × List ℕ)) → ℕ → List ℕ → Option (List X × List ℕ)
 others_at member zero bytes = Some ([], bytes)
-others_at member (suc k) bytes = on_word (32 ∷ []) (λ rest. member rest >>= λ x. others_at member k x.1 >>= λ xs. Some (x.0 ∷ xs.0, xs.1)) (λ rest. Some ([], rest)) bytes
+others_at member (suc k) bytes =
+    on_word (32 ∷ []) (λ rest. member rest >>= λ x. others_at member k x.1 >>= λ xs. Some (x.0 ∷ xs.0, xs.1)) (λ rest. Some ([], rest)) bytes
 
 -- what was read before, and what is read now
 abbrev pub with_prefix : {X : Type 0} → List X → Option (List X × List ℕ) → Option (List X × List ℕ)
@@ -128,13 +134,21 @@ unfoldable pub sets_at : List ℕ → Option (Sets × List ℕ)
 sets_at bytes = name_at ((codes "cut\n", sets.Cut) ∷ (codes "skip\n", sets.Skip) ∷ []) bytes
 
 unfoldable pub cause_at : List ℕ → Option (Cause × List ℕ)
-cause_at bytes = name_at ((codes "nopath|", cause.NoPath) ∷ (codes "badsegments|", cause.BadSegments) ∷ (codes "confed|", cause.Confed) ∷ (codes "sets|", cause.Sets)
-    ∷ (codes "reserved|", cause.Reserved) ∷ (codes "loop|", cause.Loop) ∷ (codes "short|", cause.Short) ∷ []) bytes
+cause_at bytes =
+    name_at (
+    (codes "nopath|", cause.NoPath)
+    ∷ (codes "badsegments|", cause.BadSegments)
+    ∷ (codes "confed|", cause.Confed)
+    ∷ (codes "sets|", cause.Sets)
+    ∷ (codes "reserved|", cause.Reserved)
+    ∷ (codes "loop|", cause.Loop)
+    ∷ (codes "short|", cause.Short)
+    ∷ []) bytes
 
 unfoldable pub label_at : List ℕ → Option (Label × List ℕ)
 label_at bytes = name_at ((codes "low|", label.Low) ∷ (codes "high|", label.High) ∷ (codes "peer|", label.Peer) ∷ []) bytes
 
-unfoldable pub mark_at : List ℕ → Option (EdgeMark × List ℕ)
+unfoldable pub mark_at : List ℕ → Option (Mark × List ℕ)
 mark_at bytes = name_at ((codes "forced|", mark.Forced) ∷ (codes "open|", mark.Loose) ∷ []) bytes
 
 -- ---- lines, behind their first word
@@ -164,11 +178,12 @@ lost_from x = line.Path (record { times = x.0; path = x.1.0; fate = fate.Lost x.
 unfoldable pub lost_at : List ℕ → Option (Line × List ℕ)
 lost_at bytes = mapped lost_from (both (before 124 u64_at) (both (before 124 (list_at u32_at)) walk_at)) bytes
 
-abbrev pub edge_from : ℕ × (ℕ × (Label × (EdgeMark × ℕ))) → Line
+abbrev pub edge_from : ℕ × (ℕ × (Label × (Mark × ℕ))) → Line
 edge_from x = line.Edge (record { low = x.0; high = x.1.0; label = x.1.1.0; mark = x.1.1.1.0; support = x.1.1.1.1 })
 
 unfoldable pub edge_at : List ℕ → Option (Line × List ℕ)
-edge_at bytes = mapped edge_from (both (before 124 u32_at) (both (before 124 u32_at) (both label_at (both mark_at (before 10 u64_at))))) bytes
+edge_at bytes =
+    mapped edge_from (both (before 124 u32_at) (both (before 124 u32_at) (both label_at (both mark_at (before 10 u64_at))))) bytes
 
 unfoldable pub why_at : List ℕ → Option (Line × List ℕ)
 why_at bytes = mapped (λ w. line.Why w) walk_at bytes
@@ -183,7 +198,9 @@ abbrev pub end_from : ℕ × (ℕ × (ℕ × (ℕ × ℕ))) → Line
 end_from x = line.End (record { kept = x.0; lost = x.1.0; edges = x.1.1.0; forced = x.1.1.1.0; peers = x.1.1.1.1 })
 
 unfoldable pub end_at : List ℕ → Option (Line × List ℕ)
-end_at bytes = mapped end_from (both (before 124 u64_at) (both (before 124 u64_at) (both (before 124 u64_at) (both (before 124 u64_at) (before 10 u64_at))))) bytes
+end_at bytes =
+    let count = before 124 u64_at in
+    mapped end_from (both count (both count (both count (both count (before 10 u64_at))))) bytes
 
 unfoldable pub sets_line_at : List ℕ → Option (Line × List ℕ)
 sets_line_at bytes = mapped (λ s. line.Sets s) sets_at bytes
@@ -191,7 +208,25 @@ sets_line_at bytes = mapped (λ s. line.Sets s) sets_at bytes
 unfoldable pub ratio_at : List ℕ → Option (Line × List ℕ)
 ratio_at bytes = mapped (λ n. line.Ratio n) (before 10 u32_at) bytes
 
+-- the first line has its word alone
+abbrev pub version_at : List ℕ → Option (Line × List ℕ)
+version_at bytes = Some (line.Version, bytes)
+
+-- the readers of the lines, each beside the first word of its line
+abbrev pub line_readers : List (List ℕ × (List ℕ → Option (Line × List ℕ)))
+line_readers =
+    (codes "kept|", kept_at)
+    ∷ (codes "edge|", edge_at)
+    ∷ (codes "why|", why_at)
+    ∷ (codes "open|", probe_at)
+    ∷ (codes "lost|", lost_at)
+    ∷ (codes "aside|", aside_at)
+    ∷ (codes "tor|1\n", version_at)
+    ∷ (codes "sets|", sets_line_at)
+    ∷ (codes "ratio|", ratio_at)
+    ∷ (codes "end|", end_at)
+    ∷ []
+
 -- a line, by its first word
 unfoldable pub line_at : List ℕ → Option (Line × List ℕ)
-line_at bytes = on_word (codes "kept|") kept_at (on_word (codes "edge|") edge_at (on_word (codes "why|") why_at (on_word (codes "open|") probe_at (on_word (codes "lost|") lost_at
-    (on_word (codes "aside|") aside_at (on_word (codes "tor|1\n") (λ rest. Some (line.Version, rest)) (on_word (codes "sets|") sets_line_at (on_word (codes "ratio|") ratio_at (on_word (codes "end|") end_at (λ _. None)))))))))) bytes
+line_at bytes = by_word line_readers bytes

@@ -3,16 +3,16 @@ ghost use Rattle.result_text.specs.declared.line.Line.TheVariants as line;
 ghost use Rattle.result_text.specs.Order.{cause_index, is_head, after_head, takes_path, takes_edge, takes_why, takes_probe, pass_head, step, Steps, start, finished};
 
 use crate::error::LineError;
-use crate::file::{EdgeLine, PathLine, ProbeLine, ResultFile, Totals};
+use crate::file::{EdgeLine, PathLine, ResultFile, Totals};
 use crate::line::Line;
 use path_clean::{Asides, Cause, Sets};
+use relationships::{Probe, Walk};
 use std::alloc::Global;
-use relationships::Walk;
 use tor_arena::List;
 
 /// What may come next in a text.
 #[derive(Clone, Copy, Debug, PartialEq, Eq)]
-pub enum Place {
+pub enum Section {
     /// So many of the ten first lines are read.
     Head(u8),
     /// A path line, or a line of a later section.
@@ -30,14 +30,14 @@ pub enum Place {
 /// What is read of a result so far.
 #[derive(Debug, Drop)]
 pub struct Draft {
-    pub place: Place,
+    pub section: Section,
     pub sets: Sets,
     pub ratio: u32,
     pub counts: [u64; 7],
     pub paths: List<PathLine>,
     pub edges: List<EdgeLine>,
     pub whys: List<Walk>,
-    pub probes: List<ProbeLine>,
+    pub probes: List<Probe>,
     pub totals: Totals,
 }
 
@@ -57,25 +57,26 @@ fn index_of(cause: Cause) -> u8
     }
 }
 
-impl Place {
+impl Section {
     // Whether so many of the ten first lines are read.
     fn is_head(self, count: u8) -> bool
         ensures { result ≡ is_head count self }
     {
         match self {
-            Place::Head(read) => read == count,
-            Place::Paths | Place::Edges | Place::Whys | Place::Probes | Place::End => false,
+            Section::Head(read) => read == count,
+            Section::Paths | Section::Edges | Section::Whys | Section::Probes | Section::End =>
+                false,
         }
     }
 
     // What may come next where so many of the first lines are read.
-    fn after_head(count: u8) -> Place
+    fn after_head(count: u8) -> Section
         ensures { result ≡ after_head count }
     {
         if count < 10 {
-            Place::Head(count)
+            Section::Head(count)
         } else {
-            Place::Paths
+            Section::Paths
         }
     }
 
@@ -84,8 +85,9 @@ impl Place {
         ensures { result ≡ takes_path self }
     {
         match self {
-            Place::Paths => true,
-            Place::Head(_) | Place::Edges | Place::Whys | Place::Probes | Place::End => false,
+            Section::Paths => true,
+            Section::Head(_) | Section::Edges | Section::Whys | Section::Probes | Section::End =>
+                false,
         }
     }
 
@@ -94,8 +96,8 @@ impl Place {
         ensures { result ≡ takes_edge self }
     {
         match self {
-            Place::Paths | Place::Edges => true,
-            Place::Head(_) | Place::Whys | Place::Probes | Place::End => false,
+            Section::Paths | Section::Edges => true,
+            Section::Head(_) | Section::Whys | Section::Probes | Section::End => false,
         }
     }
 
@@ -104,8 +106,8 @@ impl Place {
         ensures { result ≡ takes_why self }
     {
         match self {
-            Place::Paths | Place::Edges | Place::Whys => true,
-            Place::Head(_) | Place::Probes | Place::End => false,
+            Section::Paths | Section::Edges | Section::Whys => true,
+            Section::Head(_) | Section::Probes | Section::End => false,
         }
     }
 
@@ -114,8 +116,8 @@ impl Place {
         ensures { result ≡ takes_probe self }
     {
         match self {
-            Place::Paths | Place::Edges | Place::Whys | Place::Probes => true,
-            Place::Head(_) | Place::End => false,
+            Section::Paths | Section::Edges | Section::Whys | Section::Probes => true,
+            Section::Head(_) | Section::End => false,
         }
     }
 }
@@ -126,7 +128,7 @@ impl Draft {
         ensures { result ≡ start }
     {
         Draft {
-            place: Place::Head(0),
+            section: Section::Head(0),
             sets: Sets::Cut,
             ratio: 0,
             counts: [0, 0, 0, 0, 0, 0, 0],
@@ -149,10 +151,10 @@ impl Draft {
         requires { count < 10 }
         ensures { Steps result self.new (pass_head count self.old self.old) }
     {
-        if !self.place.is_head(count) {
+        if !self.section.is_head(count) {
             return Err(LineError::Bad);
         }
-        self.place = Place::after_head(count + 1);
+        self.section = Section::after_head(count + 1);
         Ok(())
     }
 
@@ -184,55 +186,55 @@ impl Draft {
     fn add_path(&mut self, path: PathLine) -> Result<(), LineError>
         ensures { Steps result self.new (step self.old (line.Path path)) }
     {
-        if !self.place.takes_path() {
+        if !self.section.takes_path() {
             return Err(LineError::Bad);
         }
         self.paths.push(path)?;
-        self.place = Place::Paths;
+        self.section = Section::Paths;
         Ok(())
     }
 
     fn add_edge(&mut self, edge: EdgeLine) -> Result<(), LineError>
         ensures { Steps result self.new (step self.old (line.Edge edge)) }
     {
-        if !self.place.takes_edge() {
+        if !self.section.takes_edge() {
             return Err(LineError::Bad);
         }
         self.edges.push(edge)?;
-        self.place = Place::Edges;
+        self.section = Section::Edges;
         Ok(())
     }
 
     fn add_why(&mut self, walk: Walk) -> Result<(), LineError>
         ensures { Steps result self.new (step self.old (line.Why walk)) }
     {
-        if !self.place.takes_why() {
+        if !self.section.takes_why() {
             return Err(LineError::Bad);
         }
         self.whys.push(walk)?;
-        self.place = Place::Whys;
+        self.section = Section::Whys;
         Ok(())
     }
 
-    fn add_probe(&mut self, probe: ProbeLine) -> Result<(), LineError>
+    fn add_probe(&mut self, probe: Probe) -> Result<(), LineError>
         ensures { Steps result self.new (step self.old (line.Probe probe)) }
     {
-        if !self.place.takes_probe() {
+        if !self.section.takes_probe() {
             return Err(LineError::Bad);
         }
         self.probes.push(probe)?;
-        self.place = Place::Probes;
+        self.section = Section::Probes;
         Ok(())
     }
 
     fn add_end(&mut self, totals: Totals) -> Result<(), LineError>
         ensures { Steps result self.new (step self.old (line.End totals)) }
     {
-        if !self.place.takes_probe() {
+        if !self.section.takes_probe() {
             return Err(LineError::Bad);
         }
         self.totals = totals;
-        self.place = Place::End;
+        self.section = Section::End;
         Ok(())
     }
 
@@ -257,8 +259,8 @@ impl Draft {
     pub fn finish(self) -> Option<ResultFile>
         ensures { result ≡ finished self }
     {
-        match self.place {
-            Place::End => Some(ResultFile {
+        match self.section {
+            Section::End => Some(ResultFile {
                 sets: self.sets,
                 ratio: self.ratio,
                 asides: Asides::from_counts(self.counts),
@@ -268,7 +270,8 @@ impl Draft {
                 probes: self.probes,
                 totals: self.totals,
             }),
-            Place::Head(_) | Place::Paths | Place::Edges | Place::Whys | Place::Probes => None,
+            Section::Head(_) | Section::Paths | Section::Edges | Section::Whys | Section::Probes =>
+                None,
         }
     }
 }

@@ -1,15 +1,6 @@
 use path_clean::{Asides, Sets};
-use relationships::{Label, Walk};
+use relationships::{Fate, Label, Mark, Probe, Walk};
 use tor_arena::List;
-
-/// What became of a path.
-#[derive(Debug, Drop)]
-pub enum Fate {
-    /// It is kept.
-    Kept,
-    /// It is lost, and the walk shows that no orientation serves it with the paths kept before it.
-    Lost(Walk),
-}
 
 /// A distinct path.
 #[derive(Debug, Drop)]
@@ -22,15 +13,6 @@ pub struct PathLine {
     pub fate: Fate,
 }
 
-/// Whether the label of an edge could be another one.
-#[derive(Clone, Copy, Debug, PartialEq, Eq)]
-pub enum EdgeMark {
-    /// It is the same under every orientation that serves the kept paths.
-    Forced,
-    /// It could be another one.
-    Loose,
-}
-
 /// An edge, which is a pair of neighbours.
 #[derive(Clone, Copy, Debug, PartialEq, Eq)]
 pub struct EdgeLine {
@@ -41,18 +23,9 @@ pub struct EdgeLine {
     /// Which of the two is the provider, or that they are peers.
     pub label: Label,
     /// Whether the label could be another one.
-    pub mark: EdgeMark,
+    pub mark: Mark,
     /// How many kept paths hold it.
     pub support: u64,
-}
-
-/// A guess "over is the provider of under" that leads to no contradiction, written as an open line.
-#[derive(Clone, Copy, Debug, PartialEq, Eq)]
-pub struct ProbeLine {
-    /// The AS number of the provider.
-    pub over: u32,
-    /// The AS number of the customer.
-    pub under: u32,
 }
 
 /// What the last line counts.
@@ -85,8 +58,8 @@ pub struct ResultFile {
     pub edges: List<EdgeLine>,
     /// Walks that show why edges are forced.
     pub whys: List<Walk>,
-    /// Guesses that show that edges are open.
-    pub probes: List<ProbeLine>,
+    /// Orders that show that edges are open, each written as an open line.
+    pub probes: List<Probe>,
     /// What the last line counts.
     pub totals: Totals,
 }

@@ -13,10 +13,11 @@ mod printing;
 mod reading;
 
 pub use error::ParseError;
-pub use file::{EdgeLine, EdgeMark, Fate, PathLine, ProbeLine, ResultFile, Totals};
+pub use file::{EdgeLine, PathLine, ResultFile, Totals};
 pub use laws::{line_numbers, one_value, parse_printed, print_parsed};
 pub use parsing::parse;
 pub use printing::print;
+pub use relationships::{Fate, Mark, Probe};
 
 #[cfg(test)]
 mod tests;

@@ -1,6 +1,6 @@
-use crate::file::{EdgeLine, PathLine, ProbeLine, Totals};
+use crate::file::{EdgeLine, PathLine, Totals};
 use path_clean::{Cause, Sets};
-use relationships::Walk;
+use relationships::{Probe, Walk};
 
 /// One line of a text, by its kind.
 #[derive(Debug, Drop)]
@@ -12,6 +12,6 @@ pub enum Line {
     Path(PathLine),
     Edge(EdgeLine),
     Why(Walk),
-    Probe(ProbeLine),
+    Probe(Probe),
     End(Totals),
 }

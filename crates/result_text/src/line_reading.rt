@@ -4,12 +4,12 @@ ghost use Rattle.std.specs.Prelude.{◌≡◌};
 ghost use Rattle.result_text.specs.Reading.{Gives, sets_at, cause_at, label_at, mark_at, walk_at, sets_line_at, ratio_at, aside_at, kept_at, lost_at, edge_at, why_at, probe_at, end_at, line_at};
 
 use crate::error::LineError;
-use crate::file::{EdgeLine, EdgeMark, Fate, PathLine, ProbeLine, Totals};
+use crate::file::{EdgeLine, PathLine, Totals};
 use crate::line::Line;
 use crate::reading::{after, links_before, numbers_before, u32_before, u64_before};
 use path_clean::{Cause, Sets};
+use relationships::{Fate, Label, Mark, Probe, Walk};
 use std::alloc::Global;
-use relationships::{Label, Walk};
 
 // How sets were treated, and the line feed.
 #[tactic(auto, unfolding(crate::specs::Reading::sets_at))]
@@ -67,13 +67,13 @@ fn label_of(bytes: &[u8]) -> Result<(Label, &[u8]), LineError>
 
 // A mark, and the bar behind it.
 #[tactic(auto, unfolding(crate::specs::Reading::mark_at))]
-fn mark_of(bytes: &[u8]) -> Result<(EdgeMark, &[u8]), LineError>
+fn mark_of(bytes: &[u8]) -> Result<(Mark, &[u8]), LineError>
     ensures { Gives (λ x. (x.0, x.1.now)) result (mark_at bytes.now) }
 {
     if let Some(rest) = after(b"forced|", bytes) {
-        Ok((EdgeMark::Forced, rest))
+        Ok((Mark::Forced, rest))
     } else if let Some(rest) = after(b"open|", bytes) {
-        Ok((EdgeMark::Loose, rest))
+        Ok((Mark::Loose, rest))
     } else {
         Err(LineError::Bad)
     }
@@ -184,7 +184,7 @@ fn probe_of(bytes: &[u8]) -> Result<(Line, &[u8]), LineError>
 {
     let (over, rest) = u32_before(b'|', bytes)?;
     let (under, rest) = u32_before(b'\n', rest)?;
-    Ok((Line::Probe(ProbeLine { over, under }), rest))
+    Ok((Line::Probe(Probe { over, under }), rest))
 }
 
 // The last line.

@@ -6,11 +6,11 @@ ghost use Rattle.result_text.specs.Grammar.{IsTextOf};
 ghost use Rattle.result_text.specs.Ranges.{IsU32, CountsFit, LineFits, PathFits, EdgeFits, WalkFits, ProbeFits, TotalsFit};
 ghost use Rattle.result_text.specs.Text.{text, text_of_lines, line_text, sets_name, cause_name, label_name, mark_name, numbers, links, aside_lines};
 
-use crate::file::{EdgeLine, EdgeMark, Fate, PathLine, ProbeLine, ResultFile, Totals};
+use crate::file::{EdgeLine, PathLine, ResultFile, Totals};
 use crate::numbers::{put_links, put_number, put_numbers};
 use path_clean::{Asides, Cause, Sets};
+use relationships::{Fate, Label, Mark, Probe, Walk};
 use std::alloc::Global;
-use relationships::{Label, Walk};
 use tor_arena::{List, NoMemory};
 
 // Each function puts something at the end, lines with their line feed.
@@ -129,17 +129,17 @@ fn put_label(out: &mut List<u8>, label: Label) -> Result<(), NoMemory>
     }
 }
 
-fn put_mark(out: &mut List<u8>, mark: EdgeMark) -> Result<(), NoMemory>
+fn put_mark(out: &mut List<u8>, mark: Mark) -> Result<(), NoMemory>
     ensures { OnOk result (out.new ≡ out.old ++ mark_name mark) }
 {
     match mark {
-        EdgeMark::Forced => out.extend_from_slice(b"forced"),
-        EdgeMark::Loose => out.extend_from_slice(b"open"),
+        Mark::Forced => out.extend_from_slice(b"forced"),
+        Mark::Loose => out.extend_from_slice(b"open"),
     }
 }
 
 // The fields of a label and a mark, and the bars around them.
-fn put_label_and_mark(out: &mut List<u8>, label: Label, mark: EdgeMark) -> Result<(), NoMemory>
+fn put_label_and_mark(out: &mut List<u8>, label: Label, mark: Mark) -> Result<(), NoMemory>
     ensures { OnOk result (out.new ≡ out.old ++ 124 ∷ label_name label ++ 124 ∷ mark_name mark ++ 124 ∷ []) }
 {
     put_bar(out)?;
@@ -174,7 +174,7 @@ fn put_why(out: &mut List<u8>, walk: &Walk) -> Result<(), NoMemory>
 }
 
 #[tactic(auto, unfolding(crate::specs::Text::line_text))]
-fn put_probe(out: &mut List<u8>, probe: &ProbeLine) -> Result<(), NoMemory>
+fn put_probe(out: &mut List<u8>, probe: &Probe) -> Result<(), NoMemory>
     ensures encoded { OnOk result (out.new ≡ out.old ++ line_text (line.Probe probe.now)) }
     ensures fits { OnOk result (ProbeFits probe.now) }
 {
@@ -255,7 +255,7 @@ fn put_whys(out: &mut List<u8>, whys: &[Walk]) -> Result<(), NoMemory>
     Ok(())
 }
 
-fn put_probes(out: &mut List<u8>, probes: &[ProbeLine]) -> Result<(), NoMemory>
+fn put_probes(out: &mut List<u8>, probes: &[Probe]) -> Result<(), NoMemory>
     ensures encoded { OnOk result (out.new ≡ out.old ++ text_of_lines (map (λ p. line.Probe p) probes.now)) }
     ensures fits { OnOk result (AllByRecursion ProbeFits probes.now) }
 {

@@ -6,8 +6,8 @@ ghost use Rattle.std.specs.Option.{option_copied};
 ghost use Rattle.result_text.specs.Reading.{Gives, word_at, digit_at, digits_at, with_digit, u64_at, u32_at, before, others_at, with_prefix, list_at, link_at, is_digit, field_ends};
 
 use crate::error::LineError;
-use std::alloc::Global;
 use relationships::Link;
+use std::alloc::Global;
 use tor_arena::List;
 
 /// The bytes behind a word, if they begin with it.

@@ -1,11 +1,11 @@
 use crate::{
-    EdgeLine, EdgeMark, Fate, ParseError, PathLine, ProbeLine, ResultFile, Totals, parse,
-    parse_printed, print, print_parsed,
+    EdgeLine, Fate, Mark, ParseError, PathLine, Probe, ResultFile, Totals, parse, parse_printed,
+    print, print_parsed,
 };
 use path_clean::{Asides, Sets};
+use relationships::{Label, Link, Walk};
 use std::alloc::Global;
 use std::test::Fail;
-use relationships::{Label, Link, Walk};
 use tor_arena::{List, NoMemory};
 
 /// A text in two pieces, and its bad line, if it has one.
@@ -293,59 +293,59 @@ static EDGES: [EdgeLine; 7] = [
         low: 30,
         high: 40,
         label: Label::High,
-        mark: EdgeMark::Loose,
+        mark: Mark::Loose,
         support: 2,
     },
     EdgeLine {
         low: 20,
         high: 40,
         label: Label::Peer,
-        mark: EdgeMark::Loose,
+        mark: Mark::Loose,
         support: 1,
     },
     EdgeLine {
         low: 10,
         high: 20,
         label: Label::High,
-        mark: EdgeMark::Forced,
+        mark: Mark::Forced,
         support: 2,
     },
     EdgeLine {
         low: 10,
         high: 50,
         label: Label::Low,
-        mark: EdgeMark::Forced,
+        mark: Mark::Forced,
         support: 1,
     },
     EdgeLine {
         low: 50,
         high: 60,
         label: Label::Low,
-        mark: EdgeMark::Forced,
+        mark: Mark::Forced,
         support: 1,
     },
     EdgeLine {
         low: 20,
         high: 30,
         label: Label::High,
-        mark: EdgeMark::Loose,
+        mark: Mark::Loose,
         support: 1,
     },
     EdgeLine {
         low: 10,
         high: 60,
         label: Label::Low,
-        mark: EdgeMark::Loose,
+        mark: Mark::Loose,
         support: 0,
     },
 ];
 
-static PROBES: [ProbeLine; 2] = [
-    ProbeLine {
+static PROBES: [Probe; 2] = [
+    Probe {
         over: 20,
         under: 30,
     },
-    ProbeLine {
+    Probe {
         over: 60,
         under: 10,
     },

@@ -1,5 +1,5 @@
 use Rattle.std.proofs.Common.{refl, arith}
-use Rattle.rel_checker.specs.Rules.{PathsCleaned, EdgesListed, KeptValleyFree, SupportCounted}
+use Rattle.rel_checker.specs.declared.rule.Rule.TheVariants.{PathsCleaned, EdgesListed, KeptValleyFree, SupportCounted}
 use Rattle.rel_checker.proofs.Settling.{next_met, judged, refused, found_none, found_some}
 use Rattle.rel_checker.proofs.checking.check_edges.Goals as goal
 

@@ -15,7 +15,8 @@ returns-then-not-branch c =
     let file = c.args.file.now in
     let at = read_of c.as_slice-probe-items.result.now file.probes c.loop-k.k _ c.as_slice-probe-items.ensures c.loop-k-test.true in (
       omega (arith, c.loop-k-test.true, ap length c.as_slice-probe-items.ensures),
-      fails_here file c.args.turns.now.carried c.args.turns.now.barred c.requires.laid.built c.requires.laid.proper c.requires.laid.settled c.loop-k.k _ c.in_ok-is_consistent.field-0 at c.if-not-branch.true c.in_ok-is_consistent.ensures.consistent,
+      fails_here file c.args.flips.now.implied c.args.flips.now.conflicting c.requires.laid.built c.requires.laid.proper c.requires.laid.settled c.loop-k.k _ c.in_ok-is_consistent.field-0 at
+          c.if-not-branch.true c.in_ok-is_consistent.ensures.consistent,
       c.loop-k.invariant.serve,
     )
 

@@ -1,5 +1,6 @@
 use Rattle.std.proofs.Common.{rules, sym, ◌∙◌}
-use Rattle.rel_checker.specs.Rules.{Rule, IsMet}
+use Rattle.rel_checker.specs.declared.rule.Rule.{Rule}
+use Rattle.rel_checker.specs.Rules.{IsMet}
 use Rattle.rel_checker.proofs.Listing.{listed}
 use Rattle.rel_checker.proofs.edge_rules.find_unlisted.Goals as goal
 

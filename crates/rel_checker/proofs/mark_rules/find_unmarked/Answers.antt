@@ -20,8 +20,8 @@ of_file-requires-clause-listed c = rw c.requires.table (lines_listed c.args.file
 pub cover_all-requires : goal.cover_all-requires
 cover_all-requires c =
     let file = c.args.file.now in
-    let turns = c.in_ok-turns.turns in
-    record { laid = rw c.requires.table (laid file c.requires.cleaned c.requires.listed c.requires.served turns.carried turns.barred c.in_ok-turns.ensures) }
+    let flips = c.in_ok-flips.flips in
+    record { laid = rw c.requires.table (laid file c.requires.cleaned c.requires.listed c.requires.served flips.implied flips.conflicting c.in_ok-flips.ensures) }
 
 pub list_shown-requires-clause-apart : goal.list_shown-requires-clause-apart
 list_shown-requires-clause-apart c = edges_apart c.args.file.now c.requires.cleaned c.requires.listed
@@ -29,8 +29,8 @@ list_shown-requires-clause-apart c = edges_apart c.args.file.now c.requires.clea
 pub find_useless-requires-clause-laid : goal.find_useless-requires-clause-laid
 find_useless-requires-clause-laid c =
     let file = c.args.file.now in
-    let turns = c.in_ok-turns.turns in
-    rw c.requires.table (laid file c.requires.cleaned c.requires.listed c.requires.served turns.carried turns.barred c.in_ok-turns.ensures)
+    let flips = c.in_ok-flips.flips in
+    rw c.requires.table (laid file c.requires.cleaned c.requires.listed c.requires.served flips.implied flips.conflicting c.in_ok-flips.ensures)
 
 pub returns-in-Some : goal.returns-in-Some
 returns-in-Some c = edge_breaks c.args.file.now c.in-Some.place c.in-Some.ensures

@@ -1,6 +1,6 @@
 use Rattle.std.proofs.Common.{◌≡◌, Some, slice_get, refl, sym, subst, arith}
 use Rattle.relationships.specs.Graph.{edge_of}
-use Rattle.rel_checker.specs.Turning.{edges_of}
+use Rattle.rel_checker.specs.Flipping.{edges_of}
 use Rattle.rel_checker.proofs.OrderPlaces.{within_lines}
 use Rattle.rel_checker.proofs.Showings.{shown-absent, shown-more}
 use Rattle.rel_checker.proofs.showing.show.Goals as goal
@@ -25,4 +25,5 @@ returns-clause-shown c = λ orders h.
     let lines = c.args.lines.now in
     let at = subst (λ k. slice_get (edges_of lines) k ≡ Some (edge_of c.args.over c.args.under)) (sym c.in-Some-from_place.ensures.some) (rw c.requires.table at c.in-Some.ensures.found) in
     let within = within_lines lines c.in-Some-from_place.edge (edge_of c.args.over c.args.under) at in
-    shown-more lines c.requires.apart orders c.args.over c.args.under c.in-Some-from_place.edge c.args.shown.now.items c.put.new.self.items at (omega (arith, within, c.requires.many)) c.put.ensures.items h
+    shown-more lines c.requires.apart orders c.args.over c.args.under c.in-Some-from_place.edge c.args.shown.now.items c.put.new.self.items at (omega (arith, within, c.requires.many))
+    c.put.ensures.items h

@@ -6,6 +6,6 @@ abbrev pub invariant-loop-place : goal.invariant-loop-place
 invariant-loop-place l = record {
   many : length l.rows ≡ length l.fn.rows;
   same : (i j : ℕ) → HasNext l.rows i j ↔ HasNext l.fn.rows i j;
-  marked : length l.marks.items ≡ length l.fn.rows;
-  below : All (λ m. m ≤ l.place) l.marks.items;
+  visited : length l.rounds.items ≡ length l.fn.rows;
+  below : All (λ m. m ≤ l.place) l.rounds.items;
 }

@@ -1,5 +1,5 @@
 use Rattle.std.proofs.lemmas.Bool.{both_ways}
-use Rattle.rel_checker.specs.Rules.{LostRefuted}
+use Rattle.rel_checker.specs.declared.rule.Rule.TheVariants.{LostRefuted}
 use Rattle.rel_checker.proofs.LostLines.{asks_lost}
 use Rattle.rel_checker.proofs.Passing.{asks_more}
 use Rattle.rel_checker.proofs.walk_rules.find_unrefuted.Goals as goal

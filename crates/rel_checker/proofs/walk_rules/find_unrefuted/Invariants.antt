@@ -1,5 +1,6 @@
 use Rattle.std.proofs.Common.{ℕ, ◌<◌}
-use Rattle.rel_checker.specs.Rules.{LostRefuted, Asks}
+use Rattle.rel_checker.specs.declared.rule.Rule.TheVariants.{LostRefuted}
+use Rattle.rel_checker.specs.Rules.{Asks}
 use Rattle.rel_checker.proofs.walk_rules.find_unrefuted.Given as goal
 
 -- the lines before this one meet the rule

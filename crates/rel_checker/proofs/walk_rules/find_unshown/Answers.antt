@@ -1,6 +1,6 @@
 use Rattle.relationships.specs.Evidence.{Shows}
 use Rattle.rel_checker.specs.File.{kept_among}
-use Rattle.rel_checker.specs.Rules.{OrdersShown}
+use Rattle.rel_checker.specs.declared.rule.Rule.TheVariants.{OrdersShown}
 use Rattle.rel_checker.proofs.Passing.{asks_more}
 use Rattle.rel_checker.proofs.ShownOrders.{orders_more, asks_shown}
 use Rattle.rel_checker.proofs.walk_rules.find_unshown.Goals as goal

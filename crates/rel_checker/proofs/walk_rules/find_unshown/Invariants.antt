@@ -1,11 +1,12 @@
 use Rattle.std.proofs.Common.{◌≡◌, ℕ, ◌<◌, take}
-use Rattle.rel_checker.specs.File.{orders_of}
-use Rattle.rel_checker.specs.Rules.{OrdersShown, Asks}
+use Rattle.rel_checker.specs.File.{shown_orders}
+use Rattle.rel_checker.specs.declared.rule.Rule.TheVariants.{OrdersShown}
+use Rattle.rel_checker.specs.Rules.{Asks}
 use Rattle.rel_checker.proofs.walk_rules.find_unshown.Given as goal
 
 -- the lines before this one meet the rule, and the set has the orders that they show
 abbrev pub invariant-loop-place : goal.invariant-loop-place
 invariant-loop-place l = record {
   met : (k : ℕ) → k < l.place → Asks l.file OrdersShown k;
-  orders : l.shown ≡ orders_of (take l.place l.file.whys);
+  orders : l.shown ≡ shown_orders (take l.place l.file.whys);
 }

@@ -9,19 +9,22 @@ use Rattle.result_text.proofs.reading.other_numbers.Goals as goal
 
 pub members-smaller : goal.members-smaller
 members-smaller c =
-    space_shorter c.members.rest.now c.in-Some.others.now c.in_ok-number.after.now (sym c.in-Some.ensures) (shorter IsU32 decimal u32_at u32_reads c.in-Some.others.now c.in_ok-number.number c.in_ok-number.after.now c.in_ok-number.ensures)
+    space_shorter c.members.rest.now c.in-Some.others.now c.in_ok-number.after.now (sym c.in-Some.ensures)
+    (shorter IsU32 decimal u32_at u32_reads c.in-Some.others.now c.in_ok-number.number c.in_ok-number.after.now c.in_ok-number.ensures)
 
 pub members-preserved : goal.members-preserved
 members-preserved c =
     let i = c.members.invariant in
-    rw c.in_ok-push.ensures.ok (list_goes_on u32_at c.members.numbers i.0 c.members.rest.now c.in-Some.others.now c.in_ok-number.after.now c.in_ok-number.number (with_prefix c.args.prefix (others_at u32_at (length c.args.bytes.now) c.args.bytes.now)) i.1 (sym c.in-Some.ensures) c.in_ok-number.ensures
+    rw c.in_ok-push.ensures.ok (list_goes_on u32_at c.members.numbers i.0 c.members.rest.now c.in-Some.others.now c.in_ok-number.after.now c.in_ok-number.number
+    (with_prefix c.args.prefix (others_at u32_at (length c.args.bytes.now) c.args.bytes.now)) i.1 (sym c.in-Some.ensures) c.in_ok-number.ensures
     (shorter IsU32 decimal u32_at u32_reads c.in-Some.others.now c.in_ok-number.number c.in_ok-number.after.now c.in_ok-number.ensures) i.2)
 
 pub returns-in_err-number : goal.returns-in_err-number
 returns-in_err-number c =
     let i = c.members.invariant in
     let p = err_from_is_err_and c.from_residual.result c.from_residual.ensures.1 in
-    rw (p.1, p.2) (list_fails u32_at c.members.numbers i.0 c.members.rest.now c.in-Some.others.now (with_prefix c.args.prefix (others_at u32_at (length c.args.bytes.now) c.args.bytes.now)) c.in_err-number.field-0.0 i.1 (sym c.in-Some.ensures) c.in_err-number.ensures i.2)
+    rw (p.1, p.2) (list_fails u32_at c.members.numbers i.0 c.members.rest.now c.in-Some.others.now
+    (with_prefix c.args.prefix (others_at u32_at (length c.args.bytes.now) c.args.bytes.now)) c.in_err-number.field-0.0 i.1 (sym c.in-Some.ensures) c.in_err-number.ensures i.2)
 
 pub returns : goal.returns
 returns c =

@@ -1,0 +1,115 @@
+-- Which orders imply which. Each edge has one order against its label; that the edge flips means that it has this order. Edge i
+-- implies edge j where, along a kept path, the order against i's label implies the order against j's label, and conflicts with it
+-- where it rules that order out. So the closure of an order against a label is read off the edges alone.
+use Rattle.std.specs.Prelude.{◌≡◌, ◌⊎◌, ◌↔◌, ℕ, ◌+◌, ◌<◌, Bool, true, false, List, ◌++◌, [], ◌∷◌, length, map, Some, All, Contains, slice_get, slice_index}
+use Rattle.relationships.specs.declared.label.Label.{Label}
+use Rattle.relationships.specs.declared.label.Label.TheVariants as label
+use Rattle.relationships.specs.Graph.{Edge, edge_of}
+use Rattle.relationships.specs.Evidence.{TripleAt, IsTriple, paths_of}
+use Rattle.relationships.specs.declared.fate.Fate.{Fate}
+use Rattle.relationships.specs.declared.fate.Fate.TheVariants.{Kept, Lost}
+use Rattle.result_text.specs.declared.file.EdgeLine.{EdgeLine}
+use Rattle.result_text.specs.declared.file.PathLine.{PathLine}
+use Rattle.rel_checker.specs.File.{kept_among}
+use Rattle.rel_checker.specs.Neighbours.{HasNext, with_next}
+
+-- ---- orders
+
+-- the order of an edge against its label, the provider first. A peering is read as if its lower number were the provider
+abbrev pub flipped_by : Label → ℕ → ℕ → ℕ × ℕ
+flipped_by label.Low low high = (high, low)
+flipped_by label.High low high = (low, high)
+flipped_by label.Peer low high = (high, low)
+
+abbrev pub flipped : EdgeLine → ℕ × ℕ
+flipped line = flipped_by line.label line.low line.high
+
+abbrev pub flipped_orders : List EdgeLine → List (ℕ × ℕ)
+flipped_orders lines = map flipped lines
+
+abbrev pub edges_of : List EdgeLine → List Edge
+edges_of lines = map (λ e. (e.low, e.high)) lines
+
+-- where edge k flips, x is over y
+abbrev pub FlipsTo : List (ℕ × ℕ) → ℕ → ℕ → ℕ → Type 0
+FlipsTo orders k x y = slice_get orders k ≡ Some (x, y)
+
+-- x over y is the order of some edge against its label
+abbrev pub IsFlipped : List (ℕ × ℕ) → ℕ → ℕ → Type 0
+IsFlipped orders x y = (k : ℕ) × FlipsTo orders k x y
+
+-- ---- what flips with what. A set of triples is told by T
+
+-- along a triple edge j flips where edge i flips
+abbrev pub Implies : List (ℕ × ℕ) → (ℕ → ℕ → ℕ → Type 0) → ℕ → ℕ → Type 0
+Implies orders T i j = (x y z : ℕ) × FlipsTo orders i x y × FlipsTo orders j y z × T x y z
+
+-- along a triple edge j can't flip where edge i flips
+abbrev pub Conflicts : List (ℕ × ℕ) → (ℕ → ℕ → ℕ → Type 0) → ℕ → ℕ → Type 0
+Conflicts orders T i j = (x y z : ℕ) × FlipsTo orders i x y × FlipsTo orders j z y × T x y z
+
+-- the rows have exactly the edges that each edge implies, and those with which it conflicts
+pub record IsBuilt (orders : List (ℕ × ℕ)) (T : ℕ → ℕ → ℕ → Type 0) (implied conflicting : List (List ℕ)) : Type 0 where
+  pub implied_many : length implied ≡ length orders
+  pub conflicting_many : length conflicting ≡ length orders
+  pub implies : (i j : ℕ) → HasNext implied i j ↔ Implies orders T i j
+  pub conflicts : (i j : ℕ) → HasNext conflicting i j ↔ Conflicts orders T i j
+
+-- the rows are built for the triples of these paths
+abbrev pub IsBuiltFor : List EdgeLine → List (List ℕ) → List (List ℕ) → List (List ℕ) → Type 0
+IsBuiltFor lines paths implied conflicting = IsBuilt (flipped_orders lines) (IsTriple paths) implied conflicting
+
+-- ---- steps of a path
+
+-- a step of a path: it goes up along an edge that would have to flip to have it go down, or goes down already
+abbrev pub IsStep : List (ℕ × ℕ) → ℕ → Bool → ℕ → ℕ → Type 0
+IsStep orders edge true x y = FlipsTo orders edge x y
+IsStep orders edge false x y = FlipsTo orders edge y x
+
+-- the rows after two consecutive steps: both up, both down, or a peak
+abbrev pub with_implied : Bool → Bool → ℕ → ℕ → List (List ℕ) → List (List ℕ)
+with_implied true true first second rows = with_next rows first second
+with_implied false false first second rows = with_next rows second first
+with_implied true false first second rows = rows
+with_implied false true first second rows = rows
+
+abbrev pub with_conflicting : Bool → Bool → ℕ → ℕ → List (List ℕ) → List (List ℕ)
+with_conflicting true false first second rows = with_next (with_next rows first second) second first
+with_conflicting false true first second rows = rows
+with_conflicting true true first second rows = rows
+with_conflicting false false first second rows = rows
+
+-- the triples of the paths, and those of one path more at the places below `end`
+abbrev pub TripleBefore : List (List ℕ) → List ℕ → ℕ → ℕ → ℕ → ℕ → Type 0
+TripleBefore paths path end x y z = IsTriple paths x y z ⊎ ((at : ℕ) × (at < end) × TripleAt path at x y z)
+
+-- the paths, and one more where it is kept
+abbrev pub with_kept : List (List ℕ) → List ℕ → Fate → List (List ℕ)
+with_kept paths path Kept = paths ++ path ∷ []
+with_kept paths path (Lost walk) = paths
+
+-- the kept paths of these lines
+abbrev pub kept_lines : List PathLine → List (List ℕ)
+kept_lines lines = paths_of (kept_among lines)
+
+-- ---- what the earlier rules give
+
+-- each two neighbours on the path are an edge
+abbrev pub IsListed : List Edge → List ℕ → Type 0
+IsListed es path = (k : ℕ) → k + 1 < length path → Contains es (edge_of (slice_index path k) (slice_index path (k + 1)))
+
+-- each edge flips to an order of its own, and none to the opposite
+pub record IsProper (orders : List (ℕ × ℕ)) : Type 0 where
+  pub one : (i j x y : ℕ) → FlipsTo orders i x y → FlipsTo orders j x y → i ≡ j
+  pub no_opposite : (i j x y : ℕ) → FlipsTo orders i x y → FlipsTo orders j y x → ⊥
+
+-- the first two ASes of a triple are an edge, so one of their orders is against its label. And no triple is a valley under the
+-- labels, which have the middle AS over one of the others: its orders over both are not both against the labels
+pub record IsSettled (orders : List (ℕ × ℕ)) (paths : List (List ℕ)) : Type 0 where
+  pub listed : (x y z : ℕ) → IsTriple paths x y z → IsFlipped orders x y ⊎ IsFlipped orders y x
+  pub no_valley : (x y z : ℕ) → IsTriple paths x y z → IsFlipped orders y x → IsFlipped orders y z → ⊥
+
+-- no edge stands twice, and the lower number comes first
+pub record AreApart (lines : List EdgeLine) : Type 0 where
+  pub rising : All (λ line. line.low < line.high) lines
+  pub once : (i j : ℕ) (e : Edge) → slice_get (edges_of lines) i ≡ Some e → slice_get (edges_of lines) j ≡ Some e → i ≡ j
