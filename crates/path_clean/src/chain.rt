@@ -2,9 +2,8 @@ ghost use Rattle.std.specs.Prelude.{◌≡◌, ◌≢◌, ◌<◌, ◌≤◌, �
 ghost use Rattle.path_clean.specs.Chains.{mixed, path_hash, row_at, IsChained, IsIndexed};
 
 use indexmap::IndexMap;
-use std::collections::hash_map::RandomState;
 use std::hash::BuildHasher;
-use tor_arena::{Index, PathId, Rows};
+use tor_arena::{Index, Keys, PathId, Rows};
 
 /// The row of a place.
 fn row_of(rows: &Rows<PathId, u32>, place: usize) -> &[u32]
@@ -47,7 +46,7 @@ pub(crate) fn find_row(
 }
 
 /// The number with which the hashes of a table begin.
-pub(crate) fn seed_of(keys: RandomState) -> u64 {
+pub(crate) fn seed_of(keys: Keys) -> u64 {
     keys.hash_one(0u8)
 }
 

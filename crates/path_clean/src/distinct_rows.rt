@@ -4,9 +4,8 @@ ghost use Rattle.path_clean.specs.Chains.{row_at};
 use crate::chain::{find_row, hash_of, seed_of};
 use indexmap::IndexMap;
 use std::alloc::Global;
-use std::collections::hash_map::RandomState;
 use std::marker::Model;
-use tor_arena::{Index, NoMemory, PathId, Rows};
+use tor_arena::{Index, Keys, NoMemory, PathId, Rows};
 
 /// Paths in the order in which they were added, with an index by hash.
 #[derive(Drop)]
@@ -34,7 +33,7 @@ impl Model for IndexedPaths {
 
 impl IndexedPaths {
     /// No paths. It takes no memory.
-    pub fn new(alloc: Global, keys: RandomState) -> IndexedPaths
+    pub fn new(alloc: Global, keys: Keys) -> IndexedPaths
         ensures { result ≡ [] }
     {
         IndexedPaths {

@@ -8,9 +8,8 @@ ghost use Rattle.path_clean.specs.Table.{place_of, with_path, Names, IsPathTooMa
 
 use crate::distinct_rows::IndexedPaths;
 use std::alloc::Global;
-use std::collections::hash_map::RandomState;
 use std::marker::Model;
-use tor_arena::{Index, PathId, Rows};
+use tor_arena::{Index, Keys, PathId, Rows};
 
 /// How many distinct paths a table may have.
 pub const MAX_PATHS: u32 = 1 << 23;
@@ -62,7 +61,7 @@ impl Model for PathTable {
 impl PathTable {
     /// No paths, and room for at most `limit` of them, 1 to MAX_PATHS. The keys say how paths are hashed, and change nothing
     /// but the time. It takes no memory.
-    pub fn new(alloc: Global, keys: RandomState, limit: u32) -> PathTable
+    pub fn new(alloc: Global, keys: Keys, limit: u32) -> PathTable
         requires some { 1 ≤ limit }
         requires most { limit ≤ max_paths }
         ensures limit { result.limit ≡ limit }

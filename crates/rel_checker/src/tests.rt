@@ -1,9 +1,9 @@
 use crate::{Answer, check_against, check_file};
 use path_clean::{Asides, Cause, PathTable, is_cleaned};
 use result_text::{ResultFile, parse};
-use std::collections::hash_map::RandomState;
 use std::process::Abort;
 use std::test::Fail;
+use tor_arena::Keys;
 
 /// The result over the paths 30 40 20 10 50 60, 10 20 30 40 and 50 60 10 20.
 const THREE_PATHS: &str =
@@ -29,7 +29,7 @@ fn answer_to(rt: &(impl Abort + AllocGlobal), file: &ResultFile) -> Result<Answe
     assert!(rt; file.edges.len() < 100);
     assert!(rt; file.whys.len() < 100);
     assert!(rt; file.probes.len() < 100);
-    Ok(check_file(rt.alloc(), RandomState::new(rt)?, file)?)
+    Ok(check_file(rt.alloc(), Keys::new(rt), file)?)
 }
 
 #[test]
