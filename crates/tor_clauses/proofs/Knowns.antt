@@ -1,9 +1,9 @@
 -- Triples known by the pair of nodes that each shares with its reverse.
-use Rattle.std.proofs.Common.{◌≡◌, ℕ, ◌<◌, ◌≤◌, ◌⊎◌, inl, inr, Bool, true, false, not, List, [], ◌∷◌, ◌++◌, length, map, take, refl, sym, ap, ap₂, ◌∙◌, subst, arith, ◌^◌, ltb, lt-ltb, le-ltb, if◌then◌else◌, ◌||◌}
+use Rattle.std.proofs.Common.{◌≡◌, ℕ, ◌≤◌, ◌⊎◌, inl, inr, Bool, true, false, not, List, [], ◌∷◌, ◌++◌, length, map, take, refl, sym, ap, ap₂, ◌∙◌, subst, arith, ltb, lt-ltb, le-ltb, if◌then◌else◌, ◌||◌}
 use Rattle.std.specs.List.{list_any}
 use Rattle.std.proofs.lemmas.Bool.{cases_Bool, cases_order, false_from_ne_true, both_ways, not-true, not-false}
-use Rattle.std.proofs.lemmas.List.{take-map, map_push, length_push, length-take-le}
-use Rattle.std.proofs.lemmas.List.Elements.{All-take, All-push}
+use Rattle.std.proofs.lemmas.List.{take-map, length-take-le}
+use Rattle.std.proofs.lemmas.List.Elements.{All-take}
 use Rattle.relationships.specs.Graph.{Edge, is_same}
 use Rattle.relationships.proofs.Edges.{same_edge}
 use Rattle.tor_clauses.specs.declared.triple.Triple.{Triple}
@@ -92,23 +92,6 @@ pub added-none : (t : Triple) (ts ts' : List Triple) (new : Bool) → new ≡ no
 added-none t ts ts' new n e is = subst (IsAdded t ts ts') (sym e) (not-false (list_any (is_same_triple t) ts) (sym n ∙ e), is)
 
 -- ---- one more triple, and fewer
-
-pub known-push : (t : Triple) (keys keys' : List Edge) (ts ts' : List Triple) → IsKnown keys ts → HasNodes t → list_any (is_same_triple t) ts ≡ false → length ts < 2 ^ 27 →
-    keys' ≡ (if list_any (is_same (key_of t)) keys then keys else keys ++ key_of t ∷ []) → ts' ≡ ts ++ t ∷ [] → IsKnown keys' ts'
-known-push t keys keys' ts ts' k nodes new room e f =
-    let g : keys' ≡ keys ++ key_of t ∷ [] = e ∙ ap (λ b. if b then keys else keys ++ key_of t ∷ []) (known_test t keys ts k ∙ new) in
-    let l = length_push ts t in
-    subst (IsKnown keys') (sym f) (record {
-      keys = g ∙ ap (λ (l : List Edge). l ++ key_of t ∷ []) k.keys ∙ sym (map_push key_of ts t);
-      nodes = All-push HasNodes ts t k.nodes nodes;
-      few = omega (arith, l, room);
-    })
-
--- a triple that is there already
-pub known-same : (t : Triple) (keys keys' : List Edge) (ts : List Triple) → IsKnown keys ts → list_any (is_same_triple t) ts ≡ true →
-    keys' ≡ (if list_any (is_same (key_of t)) keys then keys else keys ++ key_of t ∷ []) → IsKnown keys' ts
-known-same t keys keys' ts k there e =
-    subst (λ l. IsKnown l ts) (sym (e ∙ ap (λ b. if b then keys else keys ++ key_of t ∷ []) (known_test t keys ts k ∙ there))) k
 
 pub known-cut : (n : ℕ) (keys keys' : List Edge) (ts ts' : List Triple) → IsKnown keys ts → n ≤ length ts → keys' ≡ take n keys → ts' ≡ take n ts → IsKnown keys' ts'
 known-cut n keys keys' ts ts' k le e f =
