@@ -13,7 +13,7 @@ trap 'rm -rf "$copy"' EXIT
 cp "$top/HANDLES" "$copy"
 mkdir "$copy/crates"
 for crate in tor_arena tor_digraph tor_components as_graph tor_clauses tor_solve path_select forced_edges path_attrs path_clean result_text; do
-    cp -r "$top/crates/$crate" "$copy/crates"
+    tar -C "$top/crates" --exclude=out -cf - "$crate" | tar -C "$copy/crates" -xf -
     grep "^$crate:" "$top/crates.txt" >> "$copy/crates.txt"
 done
 echo 'label_bench: tor_arena as_graph tor_clauses path_select forced_edges path_clean result_text anyhow' >> "$copy/crates.txt"
@@ -256,6 +256,32 @@ fn with_ours(
     })
 }
 
+/// What is printed.
+#[derive(Clone, Copy)]
+struct Numbers {
+    building: u128,
+    selecting: u128,
+    marking: u128,
+    paths: usize,
+    lost: usize,
+    other_fates: usize,
+    triples: usize,
+    edges: usize,
+    forced: usize,
+    other_marks: usize,
+    walks: usize,
+    longest: usize,
+    ases: u64,
+    probes: usize,
+}
+
+/// What is printed, and the result with our fates and marks.
+#[derive(Drop)]
+struct Outcome {
+    numbers: Numbers,
+    text: List<u8>,
+}
+
 /// The number of ASes of the longest walk, and of all walks.
 fn lengths(walks: &[Walk]) -> (usize, u64) {
     let mut longest = 0;
@@ -267,35 +293,69 @@ fn lengths(walks: &[Walk]) -> (usize, u64) {
     (longest, sum)
 }
 
+fn numbers_of(file: &ResultFile, all: &Findings) -> Numbers {
+    let (other_fates, lost) = fates_of(file.paths.as_slice(), all.offers.as_slice());
+    let (other_marks, forced) = marks_of(file.edges.as_slice(), all.marks.marks.as_slice());
+    let (longest, ases) = lengths(all.marks.whys.as_slice());
+    Numbers {
+        building: all.building,
+        selecting: all.selecting,
+        marking: all.marking,
+        paths: all.offers.len(),
+        lost,
+        other_fates,
+        triples: all.triples,
+        edges: all.marks.marks.len(),
+        forced,
+        other_marks,
+        walks: all.marks.whys.len(),
+        longest,
+        ases,
+        probes: all.marks.probes.len(),
+    }
+}
+
+fn text_of(alloc: Global, file: &ResultFile, numbers: Numbers) -> Option<Outcome> {
+    match print(alloc, file) {
+        Ok(text) => Some(Outcome { numbers, text }),
+        Err(_) => None,
+    }
+}
+
+fn outcome_with(alloc: Global, file: ResultFile, all: Findings) -> Option<Outcome> {
+    let numbers = numbers_of(&file, &all);
+    match with_ours(alloc, file, all.offers, all.marks) {
+        Ok(ours) => text_of(alloc, &ours, numbers),
+        Err(_) => None,
+    }
+}
+
+fn outcome_of(clock: &impl CpuClock, alloc: Global, file: ResultFile) -> Option<Outcome> {
+    match measured(clock, alloc, &file) {
+        Ok(Some(all)) => outcome_with(alloc, file, all),
+        _ => None,
+    }
+}
+
+fn outcome_over(clock: &impl CpuClock, alloc: Global, bytes: &[u8]) -> Option<Outcome> {
+    match parse(alloc, bytes) {
+        Ok(file) => outcome_of(clock, alloc, file),
+        Err(_) => None,
+    }
+}
+
 fn main(rt: HostRuntime) -> Result<()> {
     let args = env::args(&rt)?;
     let mut words = args.skip(1);
-    let Some(from) = words.next() else {
-        return Ok(());
-    };
-    let Some(to) = words.next() else {
+    let (Some(from), Some(to)) = (words.next(), words.next()) else {
         return Ok(());
     };
     let bytes = fs::read(&rt, from.as_str())?;
-    let Ok(file) = parse(rt.alloc(), bytes.as_slice()) else {
-        println!(rt; "no result")?;
+    let Some(Outcome { numbers, text }) = outcome_over(&rt, rt.alloc(), bytes.as_slice()) else {
         return Ok(());
     };
-    let Ok(Some(all)) = measured(&rt, rt.alloc(), &file) else {
-        println!(rt; "no marks")?;
-        return Ok(());
-    };
-    let (others, lost) = fates_of(file.paths.as_slice(), all.offers.as_slice());
-    println!(rt; "graph {} us, selection {} us: {} paths, {lost} lost ({others} other fates), {} triples", all.building, all.selecting, all.offers.len(), all.triples)?;
-    let (others, forced) = marks_of(file.edges.as_slice(), all.marks.marks.as_slice());
-    let (longest, sum) = lengths(all.marks.whys.as_slice());
-    println!(rt; "marks {} us: {} edges, {forced} forced ({others} other marks), {} walks of {sum} ASes, the longest of {longest}, {} probes", all.marking, all.marks.marks.len(), all.marks.whys.len(), all.marks.probes.len())?;
-    let Ok(file) = with_ours(rt.alloc(), file, all.offers, all.marks) else {
-        return Ok(());
-    };
-    let Ok(text) = print(rt.alloc(), &file) else {
-        return Ok(());
-    };
+    println!(rt; "graph {} us, selection {} us: {} paths, {} lost ({} other fates), {} triples", numbers.building, numbers.selecting, numbers.paths, numbers.lost, numbers.other_fates, numbers.triples)?;
+    println!(rt; "marks {} us: {} edges, {} forced ({} other marks), {} walks of {} ASes, the longest of {}, {} probes", numbers.marking, numbers.edges, numbers.forced, numbers.other_marks, numbers.walks, numbers.ases, numbers.longest, numbers.probes)?;
     fs::write(&rt, to.as_str(), text.as_slice())?;
     Ok(())
 }

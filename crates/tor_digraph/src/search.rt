@@ -4,13 +4,14 @@ ghost use Rattle.tor_digraph.specs.Found.{IsFound, HasRootsOf};
 
 use crate::digraph::Digraph;
 use crate::found::{Found, Open};
-use tor_arena::{Arena, Index, List, NoMemory};
+use crate::trace::Trace;
+use tor_arena::{Index, List, NoMemory};
 
 /// Looks along the next arc of a node, or leaves the node for good.
 fn step<N: Index, A: Index>(
     graph: &Digraph<N, A>,
     top: Open<N, A>,
-    found: &mut Arena<N, Found<N, A>>,
+    found: &mut Trace<N, A>,
     nodes: &mut List<N>,
     stack: &mut List<Open<N, A>>,
 ) -> Result<(), NoMemory>
@@ -55,7 +56,7 @@ fn step<N: Index, A: Index>(
 /// Looks along all arcs of the nodes on the stack, and of the nodes that are found so.
 fn search<N: Index, A: Index>(
     graph: &Digraph<N, A>,
-    found: &mut Arena<N, Found<N, A>>,
+    found: &mut Trace<N, A>,
     nodes: &mut List<N>,
     stack: &mut List<Open<N, A>>,
 ) -> Result<(), NoMemory>
@@ -77,7 +78,7 @@ fn search<N: Index, A: Index>(
 pub(crate) fn explore<N: Index, A: Index>(
     graph: &Digraph<N, A>,
     start: N,
-    found: &mut Arena<N, Found<N, A>>,
+    found: &mut Trace<N, A>,
     nodes: &mut List<N>,
     stack: &mut List<Open<N, A>>,
 ) -> Result<(), NoMemory>

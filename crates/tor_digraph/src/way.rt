@@ -4,8 +4,9 @@ ghost use Rattle.tor_digraph.specs.Walks.{IsWay};
 ghost use Rattle.tor_digraph.specs.Back.{IsBack};
 
 use crate::found::Found;
+use crate::trace::Trace;
 use std::alloc::Global;
-use tor_arena::{Arena, Index, List, NoMemory};
+use tor_arena::{Index, List, NoMemory};
 
 /// A walk of arcs.
 #[derive(Debug, Drop)]
@@ -26,7 +27,7 @@ struct Back<N, A> {
 /// Goes back from a node that was found to the one from which the search came to it first.
 fn go_back<N: Index, A: Index>(
     alloc: Global,
-    found: &Arena<N, Found<N, A>>,
+    found: &Trace<N, A>,
     node: N,
 ) -> Result<Back<N, A>, NoMemory>
     requires found { IsFound N.place_of found.now.items node }
@@ -61,7 +62,7 @@ fn turn_round<N: Index, A: Index>(alloc: Global, back: Back<N, A>) -> Result<Way
 /// A walk to a node that was found, from the start of its search tree.
 pub(crate) fn way_to<N: Index, A: Index>(
     alloc: Global,
-    found: &Arena<N, Found<N, A>>,
+    found: &Trace<N, A>,
     node: N,
 ) -> Result<Way<N, A>, NoMemory>
     requires found { IsFound N.place_of found.now.items node }

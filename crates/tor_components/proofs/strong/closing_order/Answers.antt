@@ -2,7 +2,7 @@ use Rattle.std.proofs.Common.{◌≡◌, inl, inr, subst, arith}
 use Rattle.std.specs.Prelude.{IfSome}
 use Rattle.std.proofs.lemmas.Bool.{cases_lt}
 use Rattle.tor_digraph.specs.Closing.{Has}
-use Rattle.tor_digraph.proofs.Gets.{has-from_Contains}
+use Rattle.tor_digraph.proofs.Gets.{has-from_Contains, Contains-from_has}
 use Rattle.tor_components.proofs.Orders.{grown-old}
 use Rattle.tor_components.proofs.strong.closing_order.Goals as goal
 
@@ -16,3 +16,7 @@ loop-place-preserved g c = record {
         subst (λ z. Has c.reach_more.new.reached.nodes z) (g.met.N.Index.is_one c.unwrap-node.result x same) (has-from_Contains c.reach_more.new.reached.nodes c.unwrap-node.result c.in_ok-reach_more.ensures.grown.has_start))
   ];
 }
+
+pub returns-clause-inside : goal.returns-clause-inside
+returns-clause-inside g c = λ x h.
+    c.loop-place.invariant.spread.inside x (Contains-from_has c.loop-place.reached.nodes x (subst (λ z. Has z x) c.into_nodes.ensures.nodes h))

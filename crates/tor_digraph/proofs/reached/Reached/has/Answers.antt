@@ -1,11 +1,12 @@
 use Rattle.std.proofs.Common.{arith}
 use Rattle.std.proofs.lemmas.Bool.{false≢true}
-use Rattle.tor_digraph.proofs.Spreads.{kept-has, kept-has_not}
+use Rattle.tor_digraph.proofs.Spreads.{kept-has_not}
+use Rattle.tor_digraph.proofs.Traces.{kept_seen}
 use Rattle.tor_digraph.proofs.reached.Reached.has.Goals as goal
 
 pub returns-then-place-len : goal.returns-then-place-len
 returns-then-place-len g c =
-    let w = kept-has g.N.Index.place_of c.self.inside.found.items c.self.inside.nodes c.args.self.now c.args.node c.get.result.now c.self.invariant c.self.view_is c.get.ensures in
+    let w = kept_seen g.N.Index.place_of c.self.inside.found.items c.args.node c.self.inside.nodes c.args.self.now c.self.invariant c.self.view_is in
     ((λ t. w.0 (c.is_seen.ensures.0 t)), (λ h. c.is_seen.ensures.1 (w.1 h)))
 
 pub returns-else-place-len : goal.returns-else-place-len

@@ -23,19 +23,19 @@ loop-node-preserved g c = record {
 }
 
 pub invariant_of-self : goal.invariant_of-self
-invariant_of-self g c = blank-kept g.N.Index.place_of c.push_copies.new.self.items c.pop.new.self c.in_default.ensures.1
-    (blank-copies g.N.Index.place_of c.push_copies.result c.loop-node.self-inside.found.items c.push_copies.new.self.items _ c.push_copies.ensures.ok c.push_copies.ensures.err
+invariant_of-self g c = blank-kept g.N.Index.place_of c.push_none.new.self.items c.pop.new.self c.in_default.ensures.1
+    (blank-copies g.N.Index.place_of c.push_none.result c.loop-node.self-inside.found.items c.push_none.new.self.items _ c.push_none.ensures.ok c.push_none.ensures.err
     (blank-done g.N.Index.place_of c.loop-node.self-inside.found.items c.loop-node.self-inside.nodes c.in_default.ensures.0 c.loop-node.invariant.seen))
 
 pub returns-then-count-had-clause-blank : goal.returns-then-count-had-clause-blank
-returns-then-count-had-clause-blank g c = on_ok_weaker c.push_copies.result
+returns-then-count-had-clause-blank g c = on_ok_weaker c.push_none.result
     (λ e. record {
       none = c.in_default.ensures.1;
       many = ap length e ∙ length-copies c.loop-node.self-inside.found.items _ c.args.count _ (let had : length c.loop-node.self-inside.found.items < c.args.count = omega arith in omega arith);
       not_found = rw e (blank-more g.N.Index.place_of c.loop-node.self-inside.found.items _
           (blank-done g.N.Index.place_of c.loop-node.self-inside.found.items c.loop-node.self-inside.nodes c.in_default.ensures.0 c.loop-node.invariant.seen));
     })
-    c.push_copies.ensures.ok
+    c.push_none.ensures.ok
 
 pub invariant_of-self-2 : goal.invariant_of-self-2
 invariant_of-self-2 g c = blank-kept g.N.Index.place_of c.cut_to.new.self.items c.pop.new.self c.in_default.ensures.1
