@@ -7,8 +7,8 @@ use Rattle.relationships.specs.Graph.{Edge}
 use Rattle.relationships.specs.Evidence.{Numbered, Shows, ShowFrom, Closure}
 use Rattle.relationships.specs.Checking.{Claim, IsBorneOut, IsProbe, ProbesFrom}
 use Rattle.tor_digraph.proofs.Gets.{has-from_Contains, Contains-from_has, slice_get-push_old, slice_get-push_cases, slice_get-push_last}
-use Rattle.forced_edges.specs.declared.marks.Mark.{Mark}
-use Rattle.forced_edges.specs.Claims.{claim_of, claims_of}
+use Rattle.relationships.specs.declared.mark.Mark.{Mark}
+use Rattle.relationships.specs.Marking.{claim_of, claims_of}
 
 -- ---- members
 

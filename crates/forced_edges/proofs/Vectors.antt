@@ -3,9 +3,9 @@ use Rattle.std.proofs.Common.{◌≡◌, ℕ, Bool, true, false, List, [], ◌�
 use Rattle.relationships.specs.declared.label.Label.{Label}
 use Rattle.relationships.specs.Graph.{edges}
 use Rattle.relationships.specs.Checking.{Claim}
-use Rattle.forced_edges.specs.declared.marks.Mark.{Mark}
-use Rattle.forced_edges.specs.declared.marks.Probe.{Probe}
-use Rattle.forced_edges.specs.Claims.{claims_of, orders_of}
+use Rattle.relationships.specs.declared.mark.Mark.{Mark}
+use Rattle.relationships.specs.declared.mark.Probe.{Probe}
+use Rattle.relationships.specs.Marking.{claims_of, orders_of}
 
 abbrev three : List (List ℕ)
 three = (30 ∷ 40 ∷ 20 ∷ 10 ∷ 50 ∷ 60 ∷ []) ∷ (10 ∷ 20 ∷ 30 ∷ 40 ∷ []) ∷ (50 ∷ 60 ∷ 10 ∷ 20 ∷ []) ∷ []

@@ -9,7 +9,7 @@ use as_graph::{AsGraph, Labels, build};
 use std::alloc::Global;
 use std::test::Fail;
 use relationships::{End, Label};
-use tor_arena::{Index, List, PathId, Rows};
+use tor_arena::{Index, Keys, List, PathId, Rows};
 use tor_clauses::Clauses;
 use tor_solve::{Verdict, solve};
 
@@ -130,28 +130,28 @@ fn one_row(alloc: Global) -> Result<Rows<PathId, u32>, Fail>
     Ok(rows)
 }
 
-fn three_paths(alloc: Global) -> Result<AsGraph, Fail> {
+fn three_paths(alloc: Global, keys: Keys) -> Result<AsGraph, Fail> {
     let rows = three_rows(alloc)?;
-    Ok(build(alloc, &rows)?)
+    Ok(build(alloc, keys, &rows)?)
 }
 
-fn one_path(alloc: Global) -> Result<AsGraph, Fail> {
+fn one_path(alloc: Global, keys: Keys) -> Result<AsGraph, Fail> {
     let rows = one_row(alloc)?;
-    Ok(build(alloc, &rows)?)
+    Ok(build(alloc, keys, &rows)?)
 }
 
-fn no_path(alloc: Global) -> Result<AsGraph, Fail> {
+fn no_path(alloc: Global, keys: Keys) -> Result<AsGraph, Fail> {
     let rows = Rows::new(alloc);
-    Ok(build(alloc, &rows)?)
+    Ok(build(alloc, keys, &rows)?)
 }
 
 /// Clauses of the first paths of the graph, so many.
-fn clauses_of(alloc: Global, graph: &AsGraph, count: usize) -> Result<Clauses, Fail>
+fn clauses_of(alloc: Global, keys: Keys, graph: &AsGraph, count: usize) -> Result<Clauses, Fail>
     requires { count ≤ length graph.now }
     ensures { IfOk result (FitsGraph graph.now) }
 {
     graph.facts();
-    let mut clauses = Clauses::new(alloc, graph)?;
+    let mut clauses = Clauses::new(alloc, keys, graph)?;
     for place in 0..count {
         clauses.add_path(graph, PathId::from_place(place).unwrap())?;
     }
@@ -204,11 +204,11 @@ fn marks_with(
 }
 
 /// The marks of a case.
-fn marks_of(alloc: Global, graph: &AsGraph, case: &Case) -> Result<Marks, Fail> {
+fn marks_of(alloc: Global, keys: Keys, graph: &AsGraph, case: &Case) -> Result<Marks, Fail> {
     if case.kept > graph.path_count() {
         return Err(Fail::from("so many paths"));
     }
-    let clauses = clauses_of(alloc, graph, case.kept)?;
+    let clauses = clauses_of(alloc, keys, graph, case.kept)?;
     marks_with(alloc, graph, &clauses, case.labels)
 }
 
@@ -219,10 +219,10 @@ fn is_met(case: &Case, marks: &Marks) -> bool {
 }
 
 /// How many of the cases are met.
-fn met(alloc: Global, graph: &AsGraph, cases: &[Case]) -> Result<usize, Fail> {
+fn met(alloc: Global, keys: Keys, graph: &AsGraph, cases: &[Case]) -> Result<usize, Fail> {
     let mut count: usize = 0;
     for case in cases {
-        if is_met(case, &marks_of(alloc, graph, case)?) {
+        if is_met(case, &marks_of(alloc, keys, graph, case)?) {
             count = count.saturating_add(1);
         }
     }
@@ -263,25 +263,25 @@ fn solved_marks(alloc: Global, graph: &AsGraph, clauses: &Clauses) -> Result<Mar
 }
 
 /// The marks of the first two paths under the labels of an orientation that serves them.
-fn solved_marks_of_two(alloc: Global, graph: &AsGraph) -> Result<Marks, Fail> {
+fn solved_marks_of_two(alloc: Global, keys: Keys, graph: &AsGraph) -> Result<Marks, Fail> {
     if graph.path_count() < 2 {
         return Err(Fail::from("two paths"));
     }
-    let clauses = clauses_of(alloc, graph, 2)?;
+    let clauses = clauses_of(alloc, keys, graph, 2)?;
     solved_marks(alloc, graph, &clauses)
 }
 
 #[test]
 fn three_edges_of_two_paths_are_forced(rt: HostRuntime) -> Result<(), Fail> {
-    let graph = three_paths(rt.alloc())?;
-    assert_eq!(rt; met(rt.alloc(), &graph, &OF_THREE_PATHS)?, 2);
+    let graph = three_paths(rt.alloc(), Keys::new(&rt))?;
+    assert_eq!(rt; met(rt.alloc(), Keys::new(&rt), &graph, &OF_THREE_PATHS)?, 2);
     Ok(())
 }
 
 #[test]
 fn the_same_are_forced_under_other_labels(rt: HostRuntime) -> Result<(), Fail> {
-    let graph = three_paths(rt.alloc())?;
-    let marks = solved_marks_of_two(rt.alloc(), &graph)?;
+    let graph = three_paths(rt.alloc(), Keys::new(&rt))?;
+    let marks = solved_marks_of_two(rt.alloc(), Keys::new(&rt), &graph)?;
     assert!(rt; marks.marks.as_slice() == MARKS_OF_TWO);
     assert_eq!(rt; marks.whys.len(), 3);
     Ok(())
@@ -289,14 +289,14 @@ fn the_same_are_forced_under_other_labels(rt: HostRuntime) -> Result<(), Fail> {
 
 #[test]
 fn one_edge_is_open(rt: HostRuntime) -> Result<(), Fail> {
-    let graph = one_path(rt.alloc())?;
-    assert_eq!(rt; met(rt.alloc(), &graph, &OF_ONE_PATH)?, 2);
+    let graph = one_path(rt.alloc(), Keys::new(&rt))?;
+    assert_eq!(rt; met(rt.alloc(), Keys::new(&rt), &graph, &OF_ONE_PATH)?, 2);
     Ok(())
 }
 
 #[test]
 fn no_path_has_no_marks(rt: HostRuntime) -> Result<(), Fail> {
-    let graph = no_path(rt.alloc())?;
-    assert_eq!(rt; met(rt.alloc(), &graph, &OF_NO_PATH)?, 1);
+    let graph = no_path(rt.alloc(), Keys::new(&rt))?;
+    assert_eq!(rt; met(rt.alloc(), Keys::new(&rt), &graph, &OF_NO_PATH)?, 1);
     Ok(())
 }

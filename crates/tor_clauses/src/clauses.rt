@@ -13,7 +13,7 @@ use as_graph::{AsGraph, Orientation};
 use std::alloc::Global;
 use std::marker::Model;
 use relationships::Link;
-use tor_arena::{ArcId, Index, NoMemory, NodeId, PathId};
+use tor_arena::{ArcId, Index, Keys, NoMemory, NodeId, PathId};
 use tor_digraph::{Digraph, GraphMark, GraphRefused};
 
 /// How many paths and triples there are, for a later `undo_to`.
@@ -47,8 +47,8 @@ impl Model for Clauses {
 }
 
 impl Clauses {
-    /// No paths and no triples, for this graph. The only error is that memory ran out.
-    pub fn new(alloc: Global, graph: &AsGraph) -> Result<Clauses, NoMemory>
+    /// No paths and no triples, for this graph; the table of triples is made with the keys. The only error is that memory ran out.
+    pub fn new(alloc: Global, keys: Keys, graph: &AsGraph) -> Result<Clauses, NoMemory>
         ensures paths { IfOk result (λ clauses. clauses.paths ≡ []) }
         ensures triples { IfOk result (λ clauses. clauses.triples ≡ []) }
         ensures fits { IfOk result (FitsGraph graph.now) }
@@ -61,7 +61,7 @@ impl Clauses {
         }
         Ok(Clauses {
             paths: Vec::new(alloc),
-            table: TripleTable::new(alloc),
+            table: TripleTable::new(alloc, keys),
             digraph,
         })
     }

@@ -6,14 +6,14 @@ use as_graph::{AsGraph, Orientation, build};
 use std::alloc::Global;
 use std::test::Fail;
 use relationships::{End, Link};
-use tor_arena::{ArcId, EdgeId, Index, PathId, Rows};
+use tor_arena::{ArcId, EdgeId, Index, Keys, PathId, Rows};
 
-fn one_path(alloc: Global) -> Result<AsGraph, Fail>
+fn one_path(alloc: Global, keys: Keys) -> Result<AsGraph, Fail>
     ensures { IfOk result (λ graph. 0 < length graph) }
 {
     let mut rows = Rows::new(alloc);
     rows.push_row(&[10, 20, 30])?;
-    Ok(build(alloc, &rows)?)
+    Ok(build(alloc, keys, &rows)?)
 }
 
 fn path(place: usize) -> PathId
@@ -46,26 +46,26 @@ fn literals_and_nodes(rt: HostRuntime) -> Result<(), Fail> {
     Ok(())
 }
 
-fn begun(alloc: Global, graph: &AsGraph) -> Result<Clauses, Fail>
+fn begun(alloc: Global, keys: Keys, graph: &AsGraph) -> Result<Clauses, Fail>
     ensures { IfOk result (FitsGraph graph.now) }
 {
-    Ok(Clauses::new(alloc, graph)?)
+    Ok(Clauses::new(alloc, keys, graph)?)
 }
 
-fn with_path(alloc: Global, graph: &AsGraph, path: PathId) -> Result<Clauses, Fail>
+fn with_path(alloc: Global, keys: Keys, graph: &AsGraph, path: PathId) -> Result<Clauses, Fail>
     requires { path < length graph.now }
     ensures { IfOk result (FitsGraph graph.now) }
 {
-    let mut clauses = begun(alloc, graph)?;
+    let mut clauses = begun(alloc, keys, graph)?;
     clauses.add_path(graph, path)?;
     Ok(clauses)
 }
 
 /// Whether the clauses of the first path hold under these providers, one for each edge.
-fn holds_on(alloc: Global, graph: &AsGraph, ends: &[End]) -> Result<Option<bool>, Fail>
+fn holds_on(alloc: Global, keys: Keys, graph: &AsGraph, ends: &[End]) -> Result<Option<bool>, Fail>
     requires { 0 < length graph.now }
 {
-    let clauses = with_path(alloc, graph, path(0))?;
+    let clauses = with_path(alloc, keys, graph, path(0))?;
     answer(alloc, graph, &clauses, ends)
 }
 
@@ -84,28 +84,28 @@ fn answer(
     Ok(Some(clauses.holds(graph, &orientation)))
 }
 
-fn holds_under(alloc: Global, ends: &[End]) -> Result<Option<bool>, Fail> {
-    let graph = one_path(alloc)?;
-    holds_on(alloc, &graph, ends)
+fn holds_under(alloc: Global, keys: Keys, ends: &[End]) -> Result<Option<bool>, Fail> {
+    let graph = one_path(alloc, keys)?;
+    holds_on(alloc, keys, &graph, ends)
 }
 
 #[test]
 fn holds_where_the_path_is_served(rt: HostRuntime) -> Result<(), Fail> {
-    let up = holds_under(rt.alloc(), &[End::High, End::High])?;
-    let valley = holds_under(rt.alloc(), &[End::Low, End::High])?;
+    let up = holds_under(rt.alloc(), Keys::new(&rt), &[End::High, End::High])?;
+    let valley = holds_under(rt.alloc(), Keys::new(&rt), &[End::Low, End::High])?;
     assert_eq!(rt; up, Some(true));
     assert_eq!(rt; valley, Some(false));
     Ok(())
 }
 
-fn three_paths(alloc: Global) -> Result<AsGraph, Fail>
+fn three_paths(alloc: Global, keys: Keys) -> Result<AsGraph, Fail>
     ensures { IfOk result (λ graph. 2 < length graph) }
 {
     let mut rows = Rows::new(alloc);
     rows.push_row(&[10, 20, 30])?;
     rows.push_row(&[30, 20, 10])?;
     rows.push_row(&[20, 30, 40])?;
-    Ok(build(alloc, &rows)?)
+    Ok(build(alloc, keys, &rows)?)
 }
 
 /// Adds a path and goes back.
@@ -141,19 +141,19 @@ fn state_of(clauses: &Clauses) -> Option<State> {
 }
 
 /// The states after a path and its reverse, and again after a third path and an undo.
-fn states(alloc: Global, graph: &AsGraph) -> Result<(Option<State>, Option<State>), Fail>
+fn states(alloc: Global, keys: Keys, graph: &AsGraph) -> Result<(Option<State>, Option<State>), Fail>
     requires { 2 < length graph.now }
 {
-    let mut clauses = with_path(alloc, graph, path(0))?;
+    let mut clauses = with_path(alloc, keys, graph, path(0))?;
     clauses.add_path(graph, path(1))?;
     let before = state_of(&clauses);
     add_and_undo(graph, &mut clauses, path(2))?;
     Ok((before, state_of(&clauses)))
 }
 
-fn states_of_three(alloc: Global) -> Result<(Option<State>, Option<State>), Fail> {
-    let graph = three_paths(alloc)?;
-    states(alloc, &graph)
+fn states_of_three(alloc: Global, keys: Keys) -> Result<(Option<State>, Option<State>), Fail> {
+    let graph = three_paths(alloc, keys)?;
+    states(alloc, keys, &graph)
 }
 
 /// Whether there are two paths and one triple, that of the first path, whose edges 10 20 and 20 30 come first.
@@ -180,7 +180,7 @@ fn is_expected(state: &Option<State>) -> bool {
 
 #[test]
 fn a_reverse_is_no_new_triple_and_an_undo_goes_back(rt: HostRuntime) -> Result<(), Fail> {
-    let (before, after) = states_of_three(rt.alloc())?;
+    let (before, after) = states_of_three(rt.alloc(), Keys::new(&rt))?;
     assert!(rt; is_expected(&before));
     assert!(rt; is_expected(&after));
     Ok(())

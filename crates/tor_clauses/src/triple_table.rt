@@ -7,14 +7,14 @@ use indexmap::IndexSet;
 use std::alloc::Global;
 use std::marker::Model;
 use relationships::End;
-use tor_arena::{Arena, Index, NoMemory, NodeId, TripleId};
+use tor_arena::{Arena, Index, Keys, NoMemory, NodeId, TripleId};
 
 /// Triples in the order in which they were added, to be found by their literals.
 #[derive(Drop)]
 pub(crate) struct TripleTable {
     triples: Arena<TripleId, Triple>,
     // for each triple the pair of nodes that it shares with its reverse
-    known: IndexSet<(NodeId, NodeId)>,
+    known: IndexSet<(NodeId, NodeId), Keys>,
 }
 
 impl Model for TripleTable {
@@ -30,13 +30,13 @@ impl Model for TripleTable {
 }
 
 impl TripleTable {
-    /// No triples. It takes no memory.
-    pub fn new(alloc: Global) -> TripleTable
+    /// No triples, in a table with these keys. It takes no memory.
+    pub fn new(alloc: Global, keys: Keys) -> TripleTable
         ensures { result ≡ [] }
     {
         TripleTable {
             triples: Arena::new(alloc),
-            known: IndexSet::new(alloc),
+            known: IndexSet::with_hasher(alloc, keys),
         }
     }
 

@@ -6,35 +6,35 @@ use as_graph::{AsGraph, build};
 use std::alloc::Global;
 use std::test::Fail;
 use relationships::Walk;
-use tor_arena::{Index, PathId, Rows};
+use tor_arena::{Index, Keys, PathId, Rows};
 use tor_clauses::Clauses;
 
-fn three_paths(alloc: Global) -> Result<AsGraph, Fail>
+fn three_paths(alloc: Global, keys: Keys) -> Result<AsGraph, Fail>
     ensures { IfOk result (λ graph. length graph ≡ 3) }
 {
     let mut rows = Rows::new(alloc);
     rows.push_row(&[30, 40, 20, 10, 50, 60])?;
     rows.push_row(&[10, 20, 30, 40])?;
     rows.push_row(&[50, 60, 10, 20])?;
-    Ok(build(alloc, &rows)?)
+    Ok(build(alloc, keys, &rows)?)
 }
 
-fn there_and_back(alloc: Global) -> Result<AsGraph, Fail>
+fn there_and_back(alloc: Global, keys: Keys) -> Result<AsGraph, Fail>
     ensures { IfOk result (λ graph. length graph ≡ 2) }
 {
     let mut rows = Rows::new(alloc);
     rows.push_row(&[10, 20, 30])?;
     rows.push_row(&[30, 20, 10])?;
-    Ok(build(alloc, &rows)?)
+    Ok(build(alloc, keys, &rows)?)
 }
 
 /// Clauses of the first paths of the graph, so many.
-fn clauses_of(alloc: Global, graph: &AsGraph, count: usize) -> Result<Clauses, Fail>
+fn clauses_of(alloc: Global, keys: Keys, graph: &AsGraph, count: usize) -> Result<Clauses, Fail>
     requires { count ≤ length graph.now }
     ensures { IfOk result (FitsGraph graph.now) }
 {
     graph.facts();
-    let mut clauses = Clauses::new(alloc, graph)?;
+    let mut clauses = Clauses::new(alloc, keys, graph)?;
     for place in 0..count {
         clauses.add_path(graph, PathId::from_place(place).unwrap())?;
     }
@@ -86,55 +86,55 @@ fn answer(alloc: Global, graph: &AsGraph, clauses: &Clauses) -> Result<Outcome, 
 }
 
 /// The answer for the first paths of a graph, so many.
-fn answer_for_first(alloc: Global, graph: &AsGraph, count: usize) -> Result<Outcome, Fail>
+fn answer_for_first(alloc: Global, keys: Keys, graph: &AsGraph, count: usize) -> Result<Outcome, Fail>
     requires { count ≤ length graph.now }
 {
-    let clauses = clauses_of(alloc, graph, count)?;
+    let clauses = clauses_of(alloc, keys, graph, count)?;
     answer(alloc, graph, &clauses)
 }
 
-fn answer_for_some_of_three(alloc: Global, count: usize) -> Result<Outcome, Fail>
+fn answer_for_some_of_three(alloc: Global, keys: Keys, count: usize) -> Result<Outcome, Fail>
     requires { count ≤ 3 }
 {
-    let graph = three_paths(alloc)?;
-    answer_for_first(alloc, &graph, count)
+    let graph = three_paths(alloc, keys)?;
+    answer_for_first(alloc, keys, &graph, count)
 }
 
-fn answer_for_there_and_back(alloc: Global) -> Result<Outcome, Fail> {
-    let graph = there_and_back(alloc)?;
-    answer_for_first(alloc, &graph, 2)
+fn answer_for_there_and_back(alloc: Global, keys: Keys) -> Result<Outcome, Fail> {
+    let graph = there_and_back(alloc, keys)?;
+    answer_for_first(alloc, keys, &graph, 2)
 }
 
-fn answer_for_no_path(alloc: Global) -> Result<Outcome, Fail> {
+fn answer_for_no_path(alloc: Global, keys: Keys) -> Result<Outcome, Fail> {
     let rows = Rows::new(alloc);
-    let graph = build(alloc, &rows)?;
-    answer_for_first(alloc, &graph, 0)
+    let graph = build(alloc, keys, &rows)?;
+    answer_for_first(alloc, keys, &graph, 0)
 }
 
 #[test]
 fn three_paths_are_refuted(rt: HostRuntime) -> Result<(), Fail> {
-    let answer = answer_for_some_of_three(rt.alloc(), 3)?;
+    let answer = answer_for_some_of_three(rt.alloc(), Keys::new(&rt), 3)?;
     assert_eq!(rt; answer, Outcome::Refuted);
     Ok(())
 }
 
 #[test]
 fn two_of_them_are_served(rt: HostRuntime) -> Result<(), Fail> {
-    let answer = answer_for_some_of_three(rt.alloc(), 2)?;
+    let answer = answer_for_some_of_three(rt.alloc(), Keys::new(&rt), 2)?;
     assert_eq!(rt; answer, Outcome::Served);
     Ok(())
 }
 
 #[test]
 fn a_path_and_its_reverse_are_served(rt: HostRuntime) -> Result<(), Fail> {
-    let answer = answer_for_there_and_back(rt.alloc())?;
+    let answer = answer_for_there_and_back(rt.alloc(), Keys::new(&rt))?;
     assert_eq!(rt; answer, Outcome::Served);
     Ok(())
 }
 
 #[test]
 fn no_path_is_served(rt: HostRuntime) -> Result<(), Fail> {
-    let answer = answer_for_no_path(rt.alloc())?;
+    let answer = answer_for_no_path(rt.alloc(), Keys::new(&rt))?;
     assert_eq!(rt; answer, Outcome::Served);
     Ok(())
 }
