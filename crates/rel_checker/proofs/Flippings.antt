@@ -2,7 +2,7 @@
 use Rattle.std.proofs.Common.{◌≡◌, ◌↔◌, ◌⊎◌, inl, inr, ℕ, List, sym, ◌∙◌, subst}
 use Rattle.std.proofs.lemmas.Option.{same_Some}
 use Rattle.relationships.specs.Evidence.{IsTriple, Closure, start, imply, IsConsistent}
-use Rattle.relationships.proofs.Closures.{turn, consistency_law}
+use Rattle.relationships.proofs.Closures.{reversed_triple, consistency_law}
 use Rattle.rel_checker.specs.Neighbours.{HasNext, Reaches, here, onward}
 use Rattle.rel_checker.specs.Flipping.{FlipsTo, IsBuilt, IsProper, IsSettled}
 
@@ -15,7 +15,7 @@ Closure-joined paths a b c d h (imply k t) = imply (Closure-joined paths a b c d
 Closure-back : (paths : List (List ℕ)) (a b : ℕ) {y z : ℕ} → Closure paths a b y z → Closure paths z y b a
 Closure-back paths a b start = start
 Closure-back paths a b (imply {x = x} {y = y} {z = z} h t) =
-    Closure-joined paths z y y x (imply start (turn paths x y z t)) (Closure-back paths a b h)
+    Closure-joined paths z y y x (imply start (reversed_triple paths x y z t)) (Closure-back paths a b h)
 
 same_order : (orders : List (ℕ × ℕ)) (k x y u v : ℕ) → FlipsTo orders k x y → FlipsTo orders k u v → ◌≡◌ {A = ℕ × ℕ} (x, y) (u, v)
 same_order orders k x y u v h g = same_Some (x, y) (u, v) (sym h ∙ g)
@@ -33,7 +33,7 @@ module _ (orders : List (ℕ × ℕ)) (paths implied conflicting : List (List �
 
   -- of the second edge of a triple
   second_listed : (x y z : ℕ) → IsTriple paths x y z → ((k : ℕ) × FlipsTo orders k z y) ⊎ ((k : ℕ) × FlipsTo orders k y z)
-  second_listed x y z t = settled.listed z y x (turn paths x y z t)
+  second_listed x y z t = settled.listed z y x (reversed_triple paths x y z t)
 
   -- what follows from an order against a label is such an order too, which flips with the first, or one that a label has
   follows : (s a b : ℕ) → FlipsTo orders s a b → {y z : ℕ} → Closure paths a b y z → ((k : ℕ) × FlipsTo orders k y z × Reaches implied s k) ⊎ ((k : ℕ) × FlipsTo orders k z y)

@@ -8,12 +8,12 @@ use Rattle.relationships.specs.Laws.{SatisfiesTriples, changed, ClosureLaw, Allo
 use Rattle.relationships.proofs.Slopes.{over_one_way, over-low, over-high, over-same}
 use Rattle.relationships.proofs.Serving.{serves_satisfies, satisfies_serves}
 
-turned : (path : List ℕ) (at x y z : ℕ) → TripleAt path at x y z → TripleAt path at z y x
-turned path at x y z (inl s) = inr s
-turned path at x y z (inr s) = inl s
+reversed : (path : List ℕ) (at x y z : ℕ) → TripleAt path at x y z → TripleAt path at z y x
+reversed path at x y z (inl s) = inr s
+reversed path at x y z (inr s) = inl s
 
-pub turn : (paths : List (List ℕ)) (x y z : ℕ) → IsTriple paths x y z → IsTriple paths z y x
-turn paths x y z t = (t.0, t.1, (t.2.0, turned t.0 t.2.0 x y z t.2.1))
+pub reversed_triple : (paths : List (List ℕ)) (x y z : ℕ) → IsTriple paths x y z → IsTriple paths z y x
+reversed_triple paths x y z t = (t.0, t.1, (t.2.0, reversed t.0 t.2.0 x y z t.2.1))
 
 -- what the change leaves at two ASes
 module _ (O : Orientation) (found : ℕ → ℕ → Bool) where
@@ -47,8 +47,8 @@ module _ (O : Orientation) (paths : List (List ℕ)) (a b : ℕ) (found : ℕ �
       over_found O found y z (λ e. consistent y z c (subst (λ w. Closure paths a b w y) e (subst (λ w. Closure paths a b y w) (sym e) c))) ((exact y z).1 c)
       (elim (cases_Bool (found z y)) [ inl t ↦ absurd (consistent y z c ((exact z y).0 t)) | inr f ↦ f ])
 
-  still_carries : SatisfiesTriples O paths → SatisfiesTriples (changed O found) paths
-  still_carries satisfies x y z t o =
+  still_satisfies : SatisfiesTriples O paths → SatisfiesTriples (changed O found) paths
+  still_satisfies satisfies x y z t o =
       elim (cases_Bool (found x y)) [
         | inl xy ↦ put_in y z (imply ((exact x y).0 xy) t)
         | inr no_xy ↦ elim (cases_Bool (found y x)) [
@@ -58,7 +58,7 @@ module _ (O : Orientation) (paths : List (List ℕ)) (a b : ℕ) (found : ℕ �
               elim (cases_Bool (found y z)) [
                 | inl yz ↦ put_in y z ((exact y z).0 yz)
                 | inr no_yz ↦ elim (cases_Bool (found z y)) [
-                  | inl zy ↦ absurd (both_ways (found y x) no_yx ((exact y x).1 (imply ((exact z y).0 zy) (turn paths x y z t))))
+                  | inl zy ↦ absurd (both_ways (found y x) no_yx ((exact y x).1 (imply ((exact z y).0 zy) (reversed_triple paths x y z t))))
                   | inr no_zy ↦ same_none O found y z no_yz no_zy ∙ o'
                 ]
               ]
@@ -67,7 +67,7 @@ module _ (O : Orientation) (paths : List (List ℕ)) (a b : ℕ) (found : ℕ �
 
 pub closure_law : ClosureLaw
 closure_law O paths a b found distinct consistent exact serves = (
-  satisfies_serves (changed O found) paths distinct (still_carries O paths a b found consistent exact (serves_satisfies O paths serves)),
+  satisfies_serves (changed O found) paths distinct (still_satisfies O paths a b found consistent exact (serves_satisfies O paths serves)),
   put_in O paths a b found consistent exact,
 )
 
@@ -183,7 +183,7 @@ Closure-joined paths a b c d h (imply k t) = imply (Closure-joined paths a b c d
 Closure-back : (paths : List (List ℕ)) (a b : ℕ) {y z : ℕ} → Closure paths a b y z → Closure paths z y b a
 Closure-back paths a b start = start
 Closure-back paths a b (imply {x = x} {y = y} {z = z} h t) =
-    Closure-joined paths z y y x (imply start (turn paths x y z t)) (Closure-back paths a b h)
+    Closure-joined paths z y y x (imply start (reversed_triple paths x y z t)) (Closure-back paths a b h)
 
 pub consistency_law : ConsistencyLaw
 consistency_law paths a b not_back y z h k = not_back (Closure-joined paths a b y z h (Closure-back paths a b k))

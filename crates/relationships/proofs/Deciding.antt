@@ -84,7 +84,7 @@ each_triple P path at x y z h s = each_triple_at P s.before x y z s.after (subst
 abbrev pub goes_on : (ℕ → ℕ → Bool) → ℕ → ℕ → ℕ → Bool
 goes_on test x y z = (not (test x y) || test y z) && (not (test z y) || test y x)
 
--- a set that holds the start and is carried on holds the whole closure
+-- a set that holds the start and is satisfied on holds the whole closure
 pub Closure-within : (test : ℕ → ℕ → Bool) (paths : List (List ℕ)) (a b : ℕ) → test a b ≡ true →
     All (EachTriple (λ x y z. goes_on test x y z ≡ true)) paths → {y z : ℕ} → Closure paths a b y z → test y z ≡ true
 Closure-within test paths a b h closed start = h

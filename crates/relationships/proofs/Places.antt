@@ -149,20 +149,20 @@ listed_each O (e ∷ es) =
 
 -- each orientation is that of a list of ends, at the edges
 pub listed : (O : Orientation) (es : List Edge) → SameOn es O (orientation es (map (λ (e : Edge). O e.0 e.1) es))
-listed O es = All-from_recursion (λ (f : Edge). O f.0 f.1 ≡ orientation es (map (λ (e : Edge). O e.0 e.1) es) f.0 f.1) es (turned es (listed_each O es))
+listed O es = All-from_recursion (λ (f : Edge). O f.0 f.1 ≡ orientation es (map (λ (e : Edge). O e.0 e.1) es) f.0 f.1) es (reversed es (listed_each O es))
   where
-    turned : (fs : List Edge) → AllByRecursion (λ (f : Edge). orientation es (map (λ (e : Edge). O e.0 e.1) es) f.0 f.1 ≡ O f.0 f.1) fs →
+    reversed : (fs : List Edge) → AllByRecursion (λ (f : Edge). orientation es (map (λ (e : Edge). O e.0 e.1) es) f.0 f.1 ≡ O f.0 f.1) fs →
         AllByRecursion (λ (f : Edge). O f.0 f.1 ≡ orientation es (map (λ (e : Edge). O e.0 e.1) es) f.0 f.1) fs
-    turned [] h = tt
-    turned (f ∷ fs) h = (sym h.0, turned fs h.1)
+    reversed [] h = tt
+    reversed (f ∷ fs) h = (sym h.0, reversed fs h.1)
 
 pub listed_serves : (O : Orientation) (paths : List (List ℕ)) → Serves O paths → Serves (orientation (edges paths) (map (λ (e : Edge). O e.0 e.1) (edges paths))) paths
 listed_serves O paths s = reading_law O (orientation (edges paths) (map (λ (e : Edge). O e.0 e.1) (edges paths))) paths (listed O (edges paths)) s
 
 -- ---- an edge more
 
-same_turned : (e f : Edge) → is_same e f ≡ true → is_same f e ≡ true
-same_turned e f t = let h = same_edge e f t in subst (λ (g : Edge). is_same g e ≡ true) h (rw (eq-eqb e.0 e.0 refl, eq-eqb e.1 e.1 refl))
+same_reversed : (e f : Edge) → is_same e f ≡ true → is_same f e ≡ true
+same_reversed e f t = let h = same_edge e f t in subst (λ (g : Edge). is_same g e ≡ true) h (rw (eq-eqb e.0 e.0 refl, eq-eqb e.1 e.1 refl))
 
 or_parts : (s t : Bool) → (s || t) ≡ false → (s ≡ false) × (t ≡ false)
 or_parts true t h = absurd (false≢true (sym h))
@@ -181,7 +181,7 @@ distinct-push_new [] e h = refl
 distinct-push_new (x ∷ es) e h =
     let p = or_parts (is_same e x) (list_any (is_same e) es) h in
     let apart : is_same x e ≡ false =
-    elim (cases_Bool (is_same x e)) [ inl t ↦ absurd (both_ways (is_same e x) p.0 (same_turned x e t)) | inr n ↦ n ] in
+    elim (cases_Bool (is_same x e)) [ inl t ↦ absurd (both_ways (is_same e x) p.0 (same_reversed x e t)) | inr n ↦ n ] in
     ap (λ (l : List Edge). x ∷ l) (ap (filter (λ f. not (is_same x f))) (distinct-push_new es e p.1) ∙ kept_last x (distinct es) e apart)
 
 pub distinct-push_old : (es : List Edge) (e : Edge) → list_any (is_same e) es ≡ true → distinct (es ++ e ∷ []) ≡ distinct es
@@ -191,7 +191,7 @@ distinct-push_old (x ∷ es) e h =
       | inl t ↦ ap (λ (l : List Edge). x ∷ filter (λ f. not (is_same x f)) l) (distinct-push_old es e t)
       | inr n ↦
           let same : is_same e x ≡ true = first_of_or (is_same e x) (list_any (is_same e) es) h n in
-          ap (λ (l : List Edge). x ∷ l) (ap (filter (λ f. not (is_same x f))) (distinct-push_new es e n) ∙ dropped_last x (distinct es) e (same_turned e x same))
+          ap (λ (l : List Edge). x ∷ l) (ap (filter (λ f. not (is_same x f))) (distinct-push_new es e n) ∙ dropped_last x (distinct es) e (same_reversed e x same))
     ]
   where
     first_of_or : (s t : Bool) → (s || t) ≡ true → t ≡ false → s ≡ true

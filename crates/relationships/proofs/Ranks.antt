@@ -10,7 +10,7 @@ use Rattle.relationships.specs.Laws.{ranked, RankLaw, CycleLaw}
 use Rattle.relationships.proofs.Slopes.{over_one_of, over_parts}
 use Rattle.relationships.proofs.Serving.{satisfies_serves}
 use Rattle.relationships.proofs.Walks.{triple_apart}
-use Rattle.relationships.proofs.Closures.{turn}
+use Rattle.relationships.proofs.Closures.{reversed_triple}
 
 module _ (rank : ℕ → ℕ → ℕ) where
   low_ranked : (low high : ℕ) → is_low (label_of (ranked rank low high)) ≡ true → rank high low < rank low high
@@ -48,7 +48,7 @@ module _ (rank : ℕ → ℕ → ℕ) where
 pub rank_law : RankLaw
 rank_law paths rank distinct r =
     satisfies_serves (ranked rank) paths distinct (λ x y z t o.
-    let back = turn paths x y z t in
+    let back = reversed_triple paths x y z t in
     let apart : y ≢ z = λ e. triple_apart back.0 back.2.0 z y x (All-contains AllDistinct paths back.0 distinct back.1) back.2.1 (sym e) in
     let a = r.along x y z t in
     let b = r.along z y x back in
@@ -75,7 +75,7 @@ cycle_law A x y before after there back two h begins k ends = record {
   two = two;
   walk = joined A before y x after there back h k;
   begins = (begins_on before begins.0 begins.1);
-  turns = (before, after, refl);
+  flips = (before, after, refl);
   ends = (before ++ ends.0, ap (λ l. before ++ l) ends.1 ∙ sym (append_assoc before ends.0 (x ∷ y ∷ [])));
 }
   where
@@ -87,16 +87,16 @@ cycle_law A x y before after there back two h begins k ends = record {
 -- ---- a walk of arcs is a walk of ASes
 
 -- each order is followed by one that a link satisfies it on to
-abbrev pub IsWay : Numbered → List (ℕ × ℕ) → List Link → Type 0
-IsWay A (p ∷ []) [] = Unit {0}
-IsWay A (p ∷ q ∷ way) (link ∷ links) = (p.1 ≡ q.0) × Fits A link p.0 p.1 q.1 × IsWay A (q ∷ way) links
-IsWay A _ _ = ⊥
+abbrev pub AreConsecutive : Numbered → List (ℕ × ℕ) → List Link → Type 0
+AreConsecutive A (p ∷ []) [] = Unit {0}
+AreConsecutive A (p ∷ q ∷ orders) (link ∷ links) = (p.1 ≡ q.0) × Fits A link p.0 p.1 q.1 × AreConsecutive A (q ∷ orders) links
+AreConsecutive A _ _ = ⊥
 
 -- the first AS, and then the second of each order
-pub linked_way : (A : Numbered) (p : ℕ × ℕ) (way : List (ℕ × ℕ)) (links : List Link) → IsWay A (p ∷ way) links →
-    IsLinked A (p.0 ∷ p.1 ∷ map (λ (q : ℕ × ℕ). q.1) way) links
-linked_way A p [] [] h = tt
-linked_way A p [] (l ∷ links) h = absurd h
-linked_way A p (q ∷ way) [] h = absurd h
-linked_way A p (q ∷ way) (l ∷ links) h =
-    (h.1, subst (λ x. IsLinked A (x ∷ q.1 ∷ map (λ (r : ℕ × ℕ). r.1) way) links) (sym h.0) (linked_way A q way links h.2))
+pub linked_orders : (A : Numbered) (p : ℕ × ℕ) (orders : List (ℕ × ℕ)) (links : List Link) → AreConsecutive A (p ∷ orders) links →
+    IsLinked A (p.0 ∷ p.1 ∷ map (λ (q : ℕ × ℕ). q.1) orders) links
+linked_orders A p [] [] h = tt
+linked_orders A p [] (l ∷ links) h = absurd h
+linked_orders A p (q ∷ orders) [] h = absurd h
+linked_orders A p (q ∷ orders) (l ∷ links) h =
+    (h.1, subst (λ x. IsLinked A (x ∷ q.1 ∷ map (λ (r : ℕ × ℕ). r.1) orders) links) (sym h.0) (linked_orders A q orders links h.2))

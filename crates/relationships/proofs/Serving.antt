@@ -46,13 +46,13 @@ steps_in L path at x y z s =
     whole_steps [] = ([], refl)
     whole_steps (a ∷ before) = steps_at L a before x y z s.after
 
--- on a valley-free path each "over" is carried on along the triples
-pub carried : (L : Labelling) (path : List ℕ) (at x y z : ℕ) → ValleyFree L path → TripleAt path at x y z → is_over L x y ≡ true → is_over L y z ≡ true
-carried L path at x y z v (inl s) h =
+-- on a valley-free path each "over" is satisfied on along the triples
+pub satisfied : (L : Labelling) (path : List ℕ) (at x y z : ℕ) → ValleyFree L path → TripleAt path at x y z → is_over L x y ≡ true → is_over L y z ≡ true
+satisfied L path at x y z v (inl s) h =
     let st = steps_in L path at x y z s in
     let free = subst Free st.2 (Free-from_valley_free L path v) in
     over-down L y z (down_then_down st.0 (slope L x y) (slope L y z) st.1 free (slope-down L x y h))
-carried L path at x y z v (inr s) h =
+satisfied L path at x y z v (inr s) h =
     let st = steps_in L path at z y x s in
     let free = subst Free st.2 (Free-from_valley_free L path v) in
     over-up L z y (up_before_up st.0 (slope L z y) (slope L y x) st.1 free (slope-up L y x h))
@@ -71,35 +71,35 @@ Apart-from_distinct a (b ∷ path) h =
     (h 0 1 a (omega arith) (omega arith), Apart-from_distinct b path (AllDistinct-tail a (b ∷ path) h))
 
 module _ (O : Orientation) where
-  -- each "over" is carried on along the path
-  abbrev Carried : ℕ → List ℕ → Type 0
-  Carried a [] = Unit {0}
-  Carried a (b ∷ []) = Unit {0}
-  Carried a (b ∷ c ∷ path) = (is_over (labels_of O) a b ≡ true → is_over (labels_of O) b c ≡ true) × Carried b (c ∷ path)
+  -- each "over" is satisfied on along the path
+  abbrev Satisfied : ℕ → List ℕ → Type 0
+  Satisfied a [] = Unit {0}
+  Satisfied a (b ∷ []) = Unit {0}
+  Satisfied a (b ∷ c ∷ path) = (is_over (labels_of O) a b ≡ true → is_over (labels_of O) b c ≡ true) × Satisfied b (c ∷ path)
 
-  falls_on : (a b : ℕ) (path : List ℕ) → Carried a (b ∷ path) → is_over (labels_of O) a b ≡ true → Falls (slopes_from (labels_of O) b path)
+  falls_on : (a b : ℕ) (path : List ℕ) → Satisfied a (b ∷ path) → is_over (labels_of O) a b ≡ true → Falls (slopes_from (labels_of O) b path)
   falls_on a b [] h o = tt
   falls_on a b (c ∷ path) h o = (slope-down (labels_of O) b c (h.0 o), falls_on b c path h.1 (h.0 o))
 
-  tail_carried : (a b : ℕ) (path : List ℕ) → Carried a (b ∷ path) → Carried b path
-  tail_carried a b [] h = tt
-  tail_carried a b (c ∷ path) h = h.1
+  tail_satisfied : (a b : ℕ) (path : List ℕ) → Satisfied a (b ∷ path) → Satisfied b path
+  tail_satisfied a b [] h = tt
+  tail_satisfied a b (c ∷ path) h = h.1
 
-  free_from_carried : (a : ℕ) (path : List ℕ) → Apart a path → Carried a path → Free (slopes_from (labels_of O) a path)
-  free_from_carried a [] ap h = tt
-  free_from_carried a (b ∷ path) ap h =
+  free_from_satisfied : (a : ℕ) (path : List ℕ) → Apart a path → Satisfied a path → Free (slopes_from (labels_of O) a path)
+  free_from_satisfied a [] ap h = tt
+  free_from_satisfied a (b ∷ path) ap h =
       elim (over_one_of O a b ap.0) [
         | inl o ↦ inr (falls_on a b path h o)
-        | inr o ↦ inl (slope-up (labels_of O) a b o, free_from_carried b path ap.1 (tail_carried a b path h))
+        | inr o ↦ inl (slope-up (labels_of O) a b o, free_from_satisfied b path ap.1 (tail_satisfied a b path h))
       ]
 
-  carried_from_triples : (a : ℕ) (path before : List ℕ) →
-      ((at x y z : ℕ) → StandAt (before ++ (a ∷ path)) at x y z → is_over (labels_of O) x y ≡ true → is_over (labels_of O) y z ≡ true) → Carried a path
-  carried_from_triples a [] before h = tt
-  carried_from_triples a (b ∷ []) before h = tt
-  carried_from_triples a (b ∷ c ∷ path) before h = (
+  satisfied_from_triples : (a : ℕ) (path before : List ℕ) →
+      ((at x y z : ℕ) → StandAt (before ++ (a ∷ path)) at x y z → is_over (labels_of O) x y ≡ true → is_over (labels_of O) y z ≡ true) → Satisfied a path
+  satisfied_from_triples a [] before h = tt
+  satisfied_from_triples a (b ∷ []) before h = tt
+  satisfied_from_triples a (b ∷ c ∷ path) before h = (
     h (length before + 2) a b c (record { before = before; after = path; whole = refl; place = refl }),
-    carried_from_triples b (c ∷ path) (before ++ (a ∷ []))
+    satisfied_from_triples b (c ∷ path) (before ++ (a ∷ []))
         (λ at x y z s. h at x y z (record { before = s.before; after = s.after; whole = sym (append_assoc before (a ∷ []) (b ∷ c ∷ path)) ∙ s.whole; place = s.place })),
   )
 
@@ -107,11 +107,11 @@ module _ (O : Orientation) where
       ((at x y z : ℕ) → StandAt path at x y z → is_over (labels_of O) x y ≡ true → is_over (labels_of O) y z ≡ true) → ValleyFree (labels_of O) path
   valley_free_from_triples [] apart h = (0, 0, inl refl)
   valley_free_from_triples (a ∷ path) apart h =
-      ValleyFree-from_free (labels_of O) (a ∷ path) (free_from_carried a path (Apart-from_distinct a path apart) (carried_from_triples a path [] h))
+      ValleyFree-from_free (labels_of O) (a ∷ path) (free_from_satisfied a path (Apart-from_distinct a path apart) (satisfied_from_triples a path [] h))
 
   pub serves_satisfies : (paths : List (List ℕ)) → Serves O paths → SatisfiesTriples O paths
   serves_satisfies paths s x y z t o =
-      carried (labels_of O) t.0 t.2.0 x y z (All-contains (ValleyFree (labels_of O)) paths t.0 s t.1) t.2.1 o
+      satisfied (labels_of O) t.0 t.2.0 x y z (All-contains (ValleyFree (labels_of O)) paths t.0 s t.1) t.2.1 o
 
   pub satisfies_serves : (paths : List (List ℕ)) → All AllDistinct paths → SatisfiesTriples O paths → Serves O paths
   satisfies_serves paths apart c =

@@ -46,29 +46,29 @@ ends_too (b ∷ before) (c ∷ before') u v after x y e =
     let e' : before ++ (u ∷ v ∷ after) ≡ before' ++ (x ∷ y ∷ []) = cc in ends_too before before' u v after x y e'
 
 module _ (O : Orientation) (A : Numbered) (serves : Serves O (paths_of A)) where
-  -- along a walk each "over" is carried on
-  carried_along : (x y : ℕ) (rest : List ℕ) (links : List Link) → IsLinked A (x ∷ y ∷ rest) links → is_over (labels_of O) x y ≡ true →
+  -- along a walk each "over" is satisfied on
+  satisfied_along : (x y : ℕ) (rest : List ℕ) (links : List Link) → IsLinked A (x ∷ y ∷ rest) links → is_over (labels_of O) x y ≡ true →
       (before : List ℕ) (u v : ℕ) (after : List ℕ) → x ∷ y ∷ rest ≡ before ++ (u ∷ v ∷ after) → is_over (labels_of O) u v ≡ true
-  carried_along x y rest links h o [] u v after e =
+  satisfied_along x y rest links h o [] u v after e =
       let e₁ : x ≡ u = cc in let e₂ : y ≡ v = cc in subst (λ w. is_over (labels_of O) w v ≡ true) e₁ (subst (λ w. is_over (labels_of O) x w ≡ true) e₂ o)
-  carried_along x y [] links h o (b ∷ before) u v after e = absurd (too_short x y b before u v after e)
-  carried_along x y (z ∷ rest) [] h o (b ∷ before) u v after e = absurd h
-  carried_along x y (z ∷ rest) (link ∷ links) h o (b ∷ before) u v after e =
+  satisfied_along x y [] links h o (b ∷ before) u v after e = absurd (too_short x y b before u v after e)
+  satisfied_along x y (z ∷ rest) [] h o (b ∷ before) u v after e = absurd h
+  satisfied_along x y (z ∷ rest) (link ∷ links) h o (b ∷ before) u v after e =
       let e' : y ∷ z ∷ rest ≡ before ++ (u ∷ v ∷ after) = cc in
-      carried_along y z rest links h.1 (serves_satisfies O (paths_of A) serves x y z (triple_of_fit A link x y z h.0) o) before u v after e'
+      satisfied_along y z rest links h.1 (serves_satisfies O (paths_of A) serves x y z (triple_of_fit A link x y z h.0) o) before u v after e'
 
   along : (ases : List ℕ) (links : List Link) (x y u v : ℕ) → IsLinked A ases links → BeginsWith ases x y → is_over (labels_of O) x y ≡ true → HasPair ases u v → is_over (labels_of O) u v ≡ true
   along ases links x y u v h b o p =
-      carried_along x y b.0 links (subst (λ l. IsLinked A l links) b.1 h) o p.0 u v p.1 (sym b.1 ∙ p.2)
+      satisfied_along x y b.0 links (subst (λ l. IsLinked A l links) b.1 h) o p.0 u v p.1 (sym b.1 ∙ p.2)
 
   refuted : (w : Walk) → Refutes A w → ⊥
   refuted w r =
       elim (over_one_of O r.x r.y r.two) [
-        | inl o ↦ over_one_way (labels_of O) r.x r.y o (along w.ases w.links r.x r.y r.y r.x r.walk r.begins o r.turns)
+        | inl o ↦ over_one_way (labels_of O) r.x r.y o (along w.ases w.links r.x r.y r.y r.x r.walk r.begins o r.flips)
         | inr o ↦
-            let back = rest_linked A r.turns.0 r.y r.x r.turns.1 w.links (subst (λ l. IsLinked A l w.links) r.turns.2 r.walk) in
-            let end = ends_too r.turns.0 r.ends.0 r.y r.x r.turns.1 r.x r.y (sym r.turns.2 ∙ r.ends.1) in
-            over_one_way (labels_of O) r.x r.y (carried_along r.y r.x r.turns.1 back.0 back.1 o end.0 r.x r.y [] end.1) o
+            let back = rest_linked A r.flips.0 r.y r.x r.flips.1 w.links (subst (λ l. IsLinked A l w.links) r.flips.2 r.walk) in
+            let end = ends_too r.flips.0 r.ends.0 r.y r.x r.flips.1 r.x r.y (sym r.flips.2 ∙ r.ends.1) in
+            over_one_way (labels_of O) r.x r.y (satisfied_along r.y r.x r.flips.1 back.0 back.1 o end.0 r.x r.y [] end.1) o
       ]
 
 pub refuting_law : RefutingLaw

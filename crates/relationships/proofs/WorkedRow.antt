@@ -137,7 +137,7 @@ lost_refuted = record {
   two = λ e. omega arith;
   walk = lost_linked;
   begins = (30 ∷ 40 ∷ 20 ∷ 10 ∷ 50 ∷ 60 ∷ 10 ∷ 20 ∷ [], refl);
-  turns = (10 ∷ 20 ∷ 30 ∷ 40 ∷ [], 50 ∷ 60 ∷ 10 ∷ 20 ∷ [], refl);
+  flips = (10 ∷ 20 ∷ 30 ∷ 40 ∷ [], 50 ∷ 60 ∷ 10 ∷ 20 ∷ [], refl);
   ends = (10 ∷ 20 ∷ 30 ∷ 40 ∷ 20 ∷ 10 ∷ 50 ∷ 60 ∷ [], refl);
 }
 

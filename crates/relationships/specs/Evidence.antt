@@ -64,7 +64,7 @@ pub record Refutes (A : Numbered) (w : Walk) : Type 0 where
   pub two : x ≢ y
   pub walk : IsWalk A w
   pub begins : BeginsWith w.ases x y
-  pub turns : HasPair w.ases y x
+  pub flips : HasPair w.ases y x
   pub ends : EndsWith w.ases x y
 
 -- the walk shows "a over b", where the orders in `shown` are shown already
@@ -84,7 +84,7 @@ ShowFrom A shown _ _ = ⊥
 abbrev pub Show : Numbered → List Walk → List (ℕ × ℕ) → Type 0
 Show A walks orders = ShowFrom A [] walks orders
 
--- the orders that follow from "a over b" along the triples of the paths: the least set that holds it and is carried on
+-- the orders that follow from "a over b" along the triples of the paths: the least set that holds it and is satisfied on
 pub data Closure (paths : List (List ℕ)) (a b : ℕ) : ℕ → ℕ → Type 0 where
   start : Closure paths a b a b
   imply : {x y z : ℕ} → Closure paths a b x y → IsTriple paths x y z → Closure paths a b y z

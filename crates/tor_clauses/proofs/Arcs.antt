@@ -8,7 +8,7 @@ use Rattle.tor_clauses.specs.declared.triple.Triple.{Triple}
 use Rattle.tor_clauses.specs.Literals.{opposite_node}
 use Rattle.tor_clauses.specs.Triples.{arc_of, partner_of, arcs_of}
 use Rattle.tor_clauses.proofs.Members.{In, In-get, get-In, flat_map-In, In-flat_map}
-use Rattle.tor_clauses.proofs.Sames.{turned_arc, turned_arc_twice, partner-turned}
+use Rattle.tor_clauses.proofs.Sames.{reversed_arc, reversed_arc_twice, partner-reversed}
 
 pub length-arcs : (ts : List Triple) → length (flat_map arcs_of ts) ≡ length ts * 2
 length-arcs [] = refl
@@ -41,15 +41,15 @@ triple_at (t ∷ ts) (suc (suc k)) a h =
 
 -- ---- partners
 
-turned-In : (a : Edge) (t : Triple) → In a (arcs_of t) → In (turned_arc a) (arcs_of t)
-turned-In a t (inl e) = inr (inl (sym (partner-turned t) ∙ ap turned_arc e))
-turned-In a t (inr (inl e)) = inl (sym (turned_arc_twice (arc_of t)) ∙ ap turned_arc (partner-turned t ∙ e))
-turned-In a t (inr (inr h)) = absurd h
+reversed-In : (a : Edge) (t : Triple) → In a (arcs_of t) → In (reversed_arc a) (arcs_of t)
+reversed-In a t (inl e) = inr (inl (sym (partner-reversed t) ∙ ap reversed_arc e))
+reversed-In a t (inr (inl e)) = inl (sym (reversed_arc_twice (arc_of t)) ∙ ap reversed_arc (partner-reversed t ∙ e))
+reversed-In a t (inr (inr h)) = absurd h
 
 pub partners : (ts : List Triple) (l m : ℕ) → HasArc (flat_map arcs_of ts) l m → HasArc (flat_map arcs_of ts) (opposite_node m) (opposite_node l)
 partners ts l m h =
     let r = flat_map-In arcs_of (l, m) ts (get-In (flat_map arcs_of ts) h.0 (l, m) h.1) in
-    In-get (turned_arc (l, m)) (flat_map arcs_of ts) (In-flat_map arcs_of r.0 (turned_arc (l, m)) ts r.1 (turned-In (l, m) r.0 r.2))
+    In-get (reversed_arc (l, m)) (flat_map arcs_of ts) (In-flat_map arcs_of r.0 (reversed_arc (l, m)) ts r.1 (reversed-In (l, m) r.0 r.2))
 
 -- the arc at a place is one of the two of the triple at half the place
 pub triple_named : (ts : List Triple) (arcs : List Edge) (k : ℕ) (t : Triple) → arcs ≡ flat_map arcs_of ts → k < length arcs → slice_get ts (k / 2) ≡ Some t →

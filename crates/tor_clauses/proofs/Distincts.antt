@@ -46,19 +46,19 @@ module _ {X : Type 0} (same : X → X → Bool) where
   -- so none stands at two places
   pub apart-once : ((x y : X) → same x y ≡ true → same y x ≡ true) → (xs : List X) → Apart xs → (j k : ℕ) (x y : X) →
       slice_get xs j ≡ Some x → slice_get xs k ≡ Some y → same x y ≡ true → j ≡ k
-  apart-once turned [] a j k x y h g t = absurd (cc h)
-  apart-once turned (z ∷ xs) a zero zero x y h g t = refl
-  apart-once turned (z ∷ xs) a zero (suc k) x y h g t =
+  apart-once reversed [] a j k x y h g t = absurd (cc h)
+  apart-once reversed (z ∷ xs) a zero zero x y h g t = refl
+  apart-once reversed (z ∷ xs) a zero (suc k) x y h g t =
       absurd (both_ways (same z y) (a.0 y (get-In xs k y g)) (subst (λ w. same w y ≡ true) (sym (some_same h)) t))
     where
       some_same : Some z ≡ Some x → z ≡ x
       some_same e = cc
-  apart-once turned (z ∷ xs) a (suc j) zero x y h g t =
-      absurd (both_ways (same z x) (a.0 x (get-In xs j x h)) (turned x z (subst (λ w. same x w ≡ true) (sym (some_same g)) t)))
+  apart-once reversed (z ∷ xs) a (suc j) zero x y h g t =
+      absurd (both_ways (same z x) (a.0 x (get-In xs j x h)) (reversed x z (subst (λ w. same x w ≡ true) (sym (some_same g)) t)))
     where
       some_same : Some z ≡ Some y → z ≡ y
       some_same e = cc
-  apart-once turned (z ∷ xs) a (suc j) (suc k) x y h g t = ap suc (apart-once turned xs a.1 j k x y h g t)
+  apart-once reversed (z ∷ xs) a (suc j) (suc k) x y h g t = ap suc (apart-once reversed xs a.1 j k x y h g t)
 
   -- ---- more items
 
@@ -96,7 +96,7 @@ module _ {X : Type 0} (same : X → X → Bool) where
 
   module _
       (itself : (x : X) → same x x ≡ true)
-      (turned : (x y : X) → same x y ≡ true → same y x ≡ true)
+      (reversed : (x y : X) → same x y ≡ true → same y x ≡ true)
       (chained : (x y z : X) → same x y ≡ true → same y z ≡ true → same x z ≡ true) where
     -- each item has the same one among the distinct ones
     pub In-distinct : (x : X) (xs : List X) → In x xs → (y : X) × In y (distinct_by xs) × (same y x ≡ true)
@@ -113,7 +113,7 @@ module _ {X : Type 0} (same : X → X → Bool) where
     any-distinct x xs t =
         let k = list_any-In (same x) xs t in
         let r = In-distinct k.0 xs k.1 in
-        In-list_any (same x) r.0 (distinct_by xs) r.1 (chained x k.0 r.0 k.2 (turned r.0 k.0 r.2))
+        In-list_any (same x) r.0 (distinct_by xs) r.1 (chained x k.0 r.0 k.2 (reversed r.0 k.0 r.2))
 
     any-undistinct : (x : X) (xs : List X) → list_any (same x) xs ≡ false → list_any (same x) (distinct_by xs) ≡ false
     any-undistinct x xs n = false_from_ne_true (list_any (same x) (distinct_by xs)) (λ t.
@@ -132,7 +132,7 @@ module _ {X : Type 0} (same : X → X → Bool) where
     push_new [] e h = refl
     push_new (x ∷ xs) e h =
         let p = or_parts (same e x) (list_any (same e) xs) h in
-        let apart : same x e ≡ false = false_from_ne_true (same x e) (λ t. both_ways (same e x) p.0 (turned x e t)) in
+        let apart : same x e ≡ false = false_from_ne_true (same x e) (λ t. both_ways (same e x) p.0 (reversed x e t)) in
         ap (λ (l : List X). x ∷ l) (ap (filter (λ f. not (same x f))) (push_new xs e p.1) ∙ kept_last x (distinct_by xs) e apart)
 
     push_old : (xs : List X) (e : X) → list_any (same e) xs ≡ true → distinct_by (xs ++ e ∷ []) ≡ distinct_by xs
@@ -142,7 +142,7 @@ module _ {X : Type 0} (same : X → X → Bool) where
           | inl t ↦ ap (λ (l : List X). x ∷ filter (λ f. not (same x f)) l) (push_old xs e t)
           | inr n ↦
               let one : same e x ≡ true = first_of_or (same e x) (list_any (same e) xs) h n in
-              ap (λ (l : List X). x ∷ l) (ap (filter (λ f. not (same x f))) (push_new xs e n) ∙ dropped_last x (distinct_by xs) e (turned e x one))
+              ap (λ (l : List X). x ∷ l) (ap (filter (λ f. not (same x f))) (push_new xs e n) ∙ dropped_last x (distinct_by xs) e (reversed e x one))
         ]
       where
         first_of_or : (s t : Bool) → (s || t) ≡ true → t ≡ false → s ≡ true

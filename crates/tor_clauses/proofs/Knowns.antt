@@ -11,7 +11,7 @@ use Rattle.tor_clauses.specs.Literals.{opposite_node}
 use Rattle.tor_clauses.specs.Triples.{arc_of, partner_of, is_same_triple}
 use Rattle.tor_clauses.specs.Tables.{HasNodes, IsKnown, IsAdded, key_of}
 use Rattle.tor_clauses.proofs.LiteralLemmas.{opposite_node_twice}
-use Rattle.tor_clauses.proofs.Sames.{Same, Same-from_test, test-from_Same, edge_same, partner_same, partner_arc, turned_arc, turned_arc_twice, partner-turned}
+use Rattle.tor_clauses.proofs.Sames.{Same, Same-from_test, test-from_Same, edge_same, partner_same, partner_arc, reversed_arc, reversed_arc_twice, partner-reversed}
 
 abbrev lesser : Edge → Edge → Edge
 lesser e f = if ltb f.0 e.0 then f else e
@@ -19,14 +19,14 @@ lesser e f = if ltb f.0 e.0 then f else e
 -- ---- the lesser of a pair and its reverse is that of the reverse
 
 -- a pair that begins as its reverse is its reverse
-turned_alike : (e : Edge) → (turned_arc e).0 ≡ e.0 → turned_arc e ≡ e
-turned_alike e h = ap₂ pair h (ap opposite_node (sym h) ∙ opposite_node_twice e.1)
+reversed_alike : (e : Edge) → (reversed_arc e).0 ≡ e.0 → reversed_arc e ≡ e
+reversed_alike e h = ap₂ pair h (ap opposite_node (sym h) ∙ opposite_node_twice e.1)
   where
     pair : ℕ → ℕ → Edge
     pair m n = (m, n)
 
-lesser_turned : (e f : Edge) → (f.0 ≡ e.0 → f ≡ e) → lesser f e ≡ lesser e f
-lesser_turned e f alike = elim (cases_order e.0 f.0) [
+lesser_reversed : (e f : Edge) → (f.0 ≡ e.0 → f ≡ e) → lesser f e ≡ lesser e f
+lesser_reversed e f alike = elim (cases_order e.0 f.0) [
   | inl same ↦ (let le : f.0 ≤ e.0 = omega (arith, same) in let ge : e.0 ≤ f.0 = omega (arith, same) in rw (le-ltb e.0 f.0 le, le-ltb f.0 e.0 ge) (alike (sym same)))
   | inr other ↦ elim other [
     | inl lt ↦ (let le : e.0 ≤ f.0 = omega (arith, lt) in rw (lt-ltb e.0 f.0 lt, le-ltb f.0 e.0 le) refl)
@@ -38,13 +38,13 @@ lesser_one : (e f : Edge) → (lesser e f ≡ e) ⊎ (lesser e f ≡ f)
 lesser_one e f = elim (cases_Bool (ltb f.0 e.0)) [ inl t ↦ inr (rw t refl) | inr n ↦ inl (rw n refl) ]
 
 reverse_alike : (t : Triple) → (partner_of t).0 ≡ (arc_of t).0 → partner_of t ≡ arc_of t
-reverse_alike t h = sym (partner-turned t) ∙ turned_alike (arc_of t) (ap (λ (e : Edge). e.0) (partner-turned t) ∙ h)
+reverse_alike t h = sym (partner-reversed t) ∙ reversed_alike (arc_of t) (ap (λ (e : Edge). e.0) (partner-reversed t) ∙ h)
 
 -- ---- triples are the same exactly if their keys are
 
 key_same : (t u : Triple) → Same t u → key_of t ≡ key_of u
 key_same t u (inl e) = ap₂ lesser e (partner_arc t u e)
-key_same t u (inr e) = ap₂ lesser e (partner_same t u e) ∙ lesser_turned (arc_of u) (partner_of u) (reverse_alike u)
+key_same t u (inr e) = ap₂ lesser e (partner_same t u e) ∙ lesser_reversed (arc_of u) (partner_of u) (reverse_alike u)
 
 same_key : (t u : Triple) → key_of t ≡ key_of u → Same t u
 same_key t u e = elim (lesser_one (arc_of t) (partner_of t)) [
@@ -53,16 +53,16 @@ same_key t u e = elim (lesser_one (arc_of t) (partner_of t)) [
     | inr b ↦ inr (sym a ∙ e ∙ b)
   ]
   | inr a ↦ elim (lesser_one (arc_of u) (partner_of u)) [
-    | inl b ↦ inr (turned t u (sym a ∙ e ∙ b))
-    | inr b ↦ inl (turned_both t u (sym a ∙ e ∙ b))
+    | inl b ↦ inr (reversed t u (sym a ∙ e ∙ b))
+    | inr b ↦ inl (reversed_both t u (sym a ∙ e ∙ b))
   ]
 ]
   where
-    turned : (t u : Triple) → partner_of t ≡ arc_of u → arc_of t ≡ partner_of u
-    turned t u h = sym (partner_same u t (sym h))
+    reversed : (t u : Triple) → partner_of t ≡ arc_of u → arc_of t ≡ partner_of u
+    reversed t u h = sym (partner_same u t (sym h))
 
-    turned_both : (t u : Triple) → partner_of t ≡ partner_of u → arc_of t ≡ arc_of u
-    turned_both t u h = sym (turned_arc_twice (arc_of t)) ∙ ap turned_arc (partner-turned t ∙ h ∙ sym (partner-turned u)) ∙ turned_arc_twice (arc_of u)
+    reversed_both : (t u : Triple) → partner_of t ≡ partner_of u → arc_of t ≡ arc_of u
+    reversed_both t u h = sym (reversed_arc_twice (arc_of t)) ∙ ap reversed_arc (partner-reversed t ∙ h ∙ sym (partner-reversed u)) ∙ reversed_arc_twice (arc_of u)
 
 same_test : (t u : Triple) → is_same (key_of t) (key_of u) ≡ is_same_triple t u
 same_test t u = elim (cases_Bool (is_same_triple t u)) [

@@ -25,15 +25,15 @@ distinct_edges (e ∷ es) = ap (λ (l : List Edge). e ∷ filter (λ f. not (is_
 pub edges-apart : (graph : List (List ℕ)) → Apart is_same (edges graph)
 edges-apart graph = subst (Apart is_same) (sym (distinct_edges (flat_map edges_on graph))) (apart-distinct is_same (flat_map edges_on graph))
 
-edge_turned : (e f : Edge) → is_same e f ≡ true → is_same f e ≡ true
-edge_turned e f h = edge_same f e (sym (same_edge e f h))
+edge_reversed : (e f : Edge) → is_same e f ≡ true → is_same f e ≡ true
+edge_reversed e f h = edge_same f e (sym (same_edge e f h))
 
 edge_chained : (e f g : Edge) → is_same e f ≡ true → is_same f g ≡ true → is_same e g ≡ true
 edge_chained e f g h k = edge_same e g (same_edge e f h ∙ same_edge f g k)
 
 In-distinct_edges : (e : Edge) (es : List Edge) → In e es → In e (distinct es)
 In-distinct_edges e es h =
-    let r = In-distinct is_same (λ f. edge_same f f refl) edge_turned edge_chained e es h in
+    let r = In-distinct is_same (λ f. edge_same f f refl) edge_reversed edge_chained e es h in
     subst (λ f. In f (distinct es)) (same_edge r.0 e r.2) (subst (In r.0) (sym (distinct_edges es)) r.1)
 
 edge_along : (a : ℕ) (before : List ℕ) (x y : ℕ) (after : List ℕ) → In (edge_of x y) (edges_from a (before ++ (x ∷ y ∷ after)))
@@ -75,13 +75,13 @@ place_is (f ∷ es) (suc k) e a h =
     rw n (omega (arith, i))
   where
     other : (is_same e f ≡ true) ⊎ (is_same e f ≡ false) → is_same e f ≡ false
-    other (inl t) = absurd (false≢true (sym (a.0 e (get-In es k e h)) ∙ edge_turned e f t))
+    other (inl t) = absurd (false≢true (sym (a.0 e (get-In es k e h)) ∙ edge_reversed e f t))
     other (inr n) = n
 
 -- ---- the two orders
 
-pub end_turned : (x y : ℕ) → x ≢ y → end_left y x ≡ opposite (end_left x y)
-end_turned x y ne = elim (cases_order x y) [
+pub end_reversed : (x y : ℕ) → x ≢ y → end_left y x ≡ opposite (end_left x y)
+end_reversed x y ne = elim (cases_order x y) [
   | inl e ↦ absurd (ne e)
   | inr o ↦ elim o [
     | inl lt ↦ rw (lt-ltb x y lt, le-ltb y x (omega (arith, lt))) refl
@@ -92,14 +92,14 @@ end_turned x y ne = elim (cases_order x y) [
 abbrev edge_with : ℕ → ℕ → Edge
 edge_with a b = (a, b)
 
-pub edge_turn : (x y : ℕ) → edge_of y x ≡ edge_of x y
-edge_turn x y = let e : min y x ≡ min x y = omega arith in let f : max y x ≡ max x y = omega arith in ap₂ edge_with e f
+pub edge_reverse : (x y : ℕ) → edge_of y x ≡ edge_of x y
+edge_reverse x y = let e : min y x ≡ min x y = omega arith in let f : max y x ≡ max x y = omega arith in ap₂ edge_with e f
 
 abbrev lit_with : ℕ → End → Lit
 lit_with k e = record { edge = k; over = e }
 
-pub over-turned : (es : List Edge) (x y : ℕ) → x ≢ y → over es y x ≡ negated (over es x y)
-over-turned es x y ne = ap₂ lit_with (ap (λ e. position_or_len (is_same e) es) (edge_turn x y)) (end_turned x y ne)
+pub over-reversed : (es : List Edge) (x y : ℕ) → x ≢ y → over es y x ≡ negated (over es x y)
+over-reversed es x y ne = ap₂ lit_with (ap (λ e. position_or_len (is_same e) es) (edge_reverse x y)) (end_reversed x y ne)
 
 pub Says-over : (es : List Edge) (x y : ℕ) → In (edge_of x y) es → x ≢ y → Says es (over es x y) x y
 Says-over es x y h ne = record { edge = place_found (edge_of x y) es h; end = refl; two = ne }
@@ -107,8 +107,8 @@ Says-over es x y h ne = record { edge = place_found (edge_of x y) es h; end = re
 -- the negation says the other order
 pub Says-negated : (es : List Edge) (l : Lit) (x y : ℕ) → Says es l x y → Says es (negated l) y x
 Says-negated es l x y s = record {
-  edge = s.edge ∙ ap Some (sym (edge_turn x y));
-  end = ap opposite s.end ∙ sym (end_turned x y s.two);
+  edge = s.edge ∙ ap Some (sym (edge_reverse x y));
+  end = ap opposite s.end ∙ sym (end_reversed x y s.two);
   two = λ e. s.two (sym e);
 }
 

@@ -16,7 +16,7 @@ use Rattle.tor_clauses.specs.Formulas.{Formula, FitsGraph, IsMark, first_of}
 use Rattle.tor_clauses.specs.ClauseLaws.{PrefixLaw}
 use Rattle.tor_clauses.proofs.Members.{In, In-flat_map, flat_map-In, In-list_any, list_any-In}
 use Rattle.tor_clauses.proofs.Distincts.{IsMore}
-use Rattle.tor_clauses.proofs.Sames.{triple-In, In-triple, triples-more, with_triples-distinct, same_turned}
+use Rattle.tor_clauses.proofs.Sames.{triple-In, In-triple, triples-more, with_triples-distinct, same_reversed}
 use Rattle.tor_clauses.proofs.Arcs.{take-arcs}
 
 -- ---- which path names a triple
@@ -79,7 +79,7 @@ module _ (graph : List (List ℕ)) where
       let here : In t (triples_on graph k.0) = subst (λ q. In t (triples_on graph q)) e r.2 in
       let u = In-triple t (flat_map (triples_on graph) ps) (In-flat_map (triples_on graph) k.0 t ps k.1 here) in
       both_ways (list_any (is_same_triple t) (triples_of graph ps)) new
-      (In-list_any (is_same_triple t) u.0 (triples_of graph ps) u.1 (same_turned u.0 t u.2)))
+      (In-list_any (is_same_triple t) u.0 (triples_of graph ps) u.1 (same_reversed u.0 t u.2)))
 
   counted : (ps qs : List ℕ) → count_by (is_named ps) (triples_of graph (ps ++ qs)) ≡ length (triples_of graph ps)
   counted ps qs =

@@ -16,14 +16,14 @@ abbrev arc : ℕ → ℕ → Edge
 arc m n = (m, n)
 
 -- the arc of the partner
-abbrev pub turned_arc : Edge → Edge
-turned_arc a = (opposite_node a.1, opposite_node a.0)
+abbrev pub reversed_arc : Edge → Edge
+reversed_arc a = (opposite_node a.1, opposite_node a.0)
 
-pub turned_arc_twice : (a : Edge) → turned_arc (turned_arc a) ≡ a
-turned_arc_twice a = ap₂ arc (opposite_node_twice a.0) (opposite_node_twice a.1)
+pub reversed_arc_twice : (a : Edge) → reversed_arc (reversed_arc a) ≡ a
+reversed_arc_twice a = ap₂ arc (opposite_node_twice a.0) (opposite_node_twice a.1)
 
-pub partner-turned : (t : Triple) → turned_arc (arc_of t) ≡ partner_of t
-partner-turned t = ap₂ arc (opposite_node-node t.second) (opposite_node-node t.first)
+pub partner-reversed : (t : Triple) → reversed_arc (arc_of t) ≡ partner_of t
+partner-reversed t = ap₂ arc (opposite_node-node t.second) (opposite_node-node t.first)
 
 itself_edge : (e : Edge) → is_same e e ≡ true
 itself_edge e = and_from (e.0 == e.0) (e.1 == e.1) (eq-eqb e.0 e.0 refl) (eq-eqb e.1 e.1 refl)
@@ -47,16 +47,16 @@ test-from_Same t u (inl e) = or_left (is_same (arc_of t) (arc_of u)) (is_same (a
 test-from_Same t u (inr e) = or_right (is_same (arc_of t) (arc_of u)) (is_same (arc_of t) (partner_of u)) (edge_same (arc_of t) (partner_of u) e)
 
 pub partner_same : (t u : Triple) → arc_of t ≡ partner_of u → partner_of t ≡ arc_of u
-partner_same t u e = sym (partner-turned t) ∙ ap turned_arc (e ∙ sym (partner-turned u)) ∙ turned_arc_twice (arc_of u)
+partner_same t u e = sym (partner-reversed t) ∙ ap reversed_arc (e ∙ sym (partner-reversed u)) ∙ reversed_arc_twice (arc_of u)
 
 pub partner_arc : (t u : Triple) → arc_of t ≡ arc_of u → partner_of t ≡ partner_of u
-partner_arc t u e = sym (partner-turned t) ∙ ap turned_arc e ∙ partner-turned u
+partner_arc t u e = sym (partner-reversed t) ∙ ap reversed_arc e ∙ partner-reversed u
 
 pub same_itself : (t : Triple) → is_same_triple t t ≡ true
 same_itself t = test-from_Same t t (inl refl)
 
-pub same_turned : (t u : Triple) → is_same_triple t u ≡ true → is_same_triple u t ≡ true
-same_turned t u h = elim (Same-from_test t u h) [
+pub same_reversed : (t u : Triple) → is_same_triple t u ≡ true → is_same_triple u t ≡ true
+same_reversed t u h = elim (Same-from_test t u h) [
   | inl e ↦ test-from_Same u t (inl (sym e))
   | inr e ↦ test-from_Same u t (inr (sym (partner_same t u e)))
 ]
@@ -97,21 +97,21 @@ with_triples-push more ts t =
 pub with_triples-distinct : (more ts : List Triple) → with_triples (distinct_triples ts) more ≡ distinct_triples (ts ++ more)
 with_triples-distinct more ts =
     all_is more (distinct_triples ts) ∙ ap (λ (l : List Triple). with_all is_same_triple l more) (distinct_is ts) ∙
-    all-distinct is_same_triple same_itself same_turned same_chained more ts ∙ sym (distinct_is (ts ++ more))
+    all-distinct is_same_triple same_itself same_reversed same_chained more ts ∙ sym (distinct_is (ts ++ more))
 
 pub triple-In : (t : Triple) (ts : List Triple) → In t (distinct_triples ts) → In t ts
 triple-In t ts h = distinct-In is_same_triple t ts (subst (In t) (distinct_is ts) h)
 
 pub In-triple : (t : Triple) (ts : List Triple) → In t ts → (u : Triple) × In u (distinct_triples ts) × (is_same_triple u t ≡ true)
 In-triple t ts h =
-    let r = In-distinct is_same_triple same_itself same_turned same_chained t ts h in
+    let r = In-distinct is_same_triple same_itself same_reversed same_chained t ts h in
     (r.0, subst (In r.0) (sym (distinct_is ts)) r.1, r.2)
 
 pub triples-apart : (ts : List Triple) → Apart is_same_triple (distinct_triples ts)
 triples-apart ts = subst (Apart is_same_triple) (sym (distinct_is ts)) (apart-distinct is_same_triple ts)
 
 pub triples-once : (ts : List Triple) (j k : ℕ) (t u : Triple) → slice_get (distinct_triples ts) j ≡ Some t → slice_get (distinct_triples ts) k ≡ Some u → Same t u → j ≡ k
-triples-once ts j k t u h g s = apart-once is_same_triple same_turned (distinct_triples ts) (triples-apart ts) j k t u h g (test-from_Same t u s)
+triples-once ts j k t u h g s = apart-once is_same_triple same_reversed (distinct_triples ts) (triples-apart ts) j k t u h g (test-from_Same t u s)
 
 pub triples-more : (more ts : List Triple) → IsMore is_same_triple ts more (with_triples ts more)
 triples-more more ts = subst (IsMore is_same_triple ts more) (sym (all_is more ts)) (more-all is_same_triple more ts)

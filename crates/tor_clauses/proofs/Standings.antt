@@ -20,7 +20,7 @@ use Rattle.tor_clauses.proofs.Members.{In, In-get, get-In, In-flat_map, flat_map
 use Rattle.tor_clauses.proofs.LiteralLemmas.{lit_of_node}
 use Rattle.tor_clauses.proofs.Sames.{triple-In, In-triple, Same-arc, Same-partner}
 use Rattle.tor_clauses.proofs.Arcs.{triple_at}
-use Rattle.tor_clauses.proofs.Overs.{edge-In, over-turned, Says-over, Says-negated}
+use Rattle.tor_clauses.proofs.Overs.{edge-In, over-reversed, Says-over, Says-negated}
 
 some_same : {X : Type 0} {a b : X} → Some a ≡ Some b → a ≡ b
 some_same e = cc
@@ -113,10 +113,10 @@ module _ (graph : List (List ℕ)) (f : Formula) (apart : All AllDistinct graph)
   pub says_both : (path at x y z : ℕ) → In path f.paths → TripleAt (path_at graph path) at x y z →
       Says (edges graph) (over (edges graph) x y) x y × Says (edges graph) (over (edges graph) y z) y z
   says_both path at x y z h (inl s) = (says_first path at x y z h s, says_second path at x y z h s)
-  says_both path at x y z h (inr s) = (turned_says y x (says_second path at z y x h s), turned_says z y (says_first path at z y x h s))
+  says_both path at x y z h (inr s) = (reversed_says y x (says_second path at z y x h s), reversed_says z y (says_first path at z y x h s))
     where
-      turned_says : (b a : ℕ) → Says (edges graph) (over (edges graph) b a) b a → Says (edges graph) (over (edges graph) a b) a b
-      turned_says b a s = subst (λ l. Says (edges graph) l a b) (sym (over-turned (edges graph) b a s.two)) (Says-negated (edges graph) (over (edges graph) b a) b a s)
+      reversed_says : (b a : ℕ) → Says (edges graph) (over (edges graph) b a) b a → Says (edges graph) (over (edges graph) a b) a b
+      reversed_says b a s = subst (λ l. Says (edges graph) l a b) (sym (over-reversed (edges graph) b a s.two)) (Says-negated (edges graph) (over (edges graph) b a) b a s)
 
   -- the literals of a triple are those of edges
   pub triple_within : (t : Triple) → In t f.triples → (t.first.edge < length (edges graph)) × (t.second.edge < length (edges graph))
@@ -183,8 +183,8 @@ module _ (graph : List (List ℕ)) (f : Formula) (apart : All AllDistinct graph)
       HasArc f.net.arcs (node_of (over (edges graph) x y)) (node_of (over (edges graph) y z))
   arc_there path at x y z h (inl s) = has_arc path (triple_of (edges graph) path at x y z) h (In-stands (edges graph) path (path_at graph path) at x y z s) (arc_of (triple_of (edges graph) path at x y z)) (λ u e. Same-arc u (triple_of (edges graph) path at x y z) e)
   arc_there path at x y z h (inr s) =
-      let one : over (edges graph) x y ≡ negated (over (edges graph) y x) = over-turned (edges graph) y x (says_second path at z y x h s).two in
-      let two : over (edges graph) y z ≡ negated (over (edges graph) z y) = over-turned (edges graph) z y (says_first path at z y x h s).two in
+      let one : over (edges graph) x y ≡ negated (over (edges graph) y x) = over-reversed (edges graph) y x (says_second path at z y x h s).two in
+      let two : over (edges graph) y z ≡ negated (over (edges graph) z y) = over-reversed (edges graph) z y (says_first path at z y x h s).two in
       subst (λ l. HasArc f.net.arcs (node_of l) (node_of (over (edges graph) y z))) (sym one)
       (subst (λ l. HasArc f.net.arcs (node_of (negated (over (edges graph) y x))) (node_of l)) (sym two)
       (has_arc path (triple_of (edges graph) path at z y x) h (In-stands (edges graph) path (path_at graph path) at z y x s) (partner_of (triple_of (edges graph) path at z y x))

@@ -3,7 +3,7 @@ ghost use Rattle.relationships.specs.Graph.{edges};
 ghost use Rattle.tor_clauses.specs.Literals.{node_of};
 ghost use Rattle.tor_clauses.specs.Triples.{arcs_of};
 ghost use Rattle.tor_clauses.specs.Tables.{HasNodes, with_triple, with_triples_on, with_arc, having, IsRoomy, IsFirst};
-ghost use Rattle.tor_clauses.specs.Turning.{HasPartners};
+ghost use Rattle.tor_clauses.specs.Flipping.{HasPartners};
 ghost use Rattle.tor_clauses.specs.Formulas.{FitsGraph, IsMark, mark_of, first_of, IsServed, IsModel, IsArcOfTriple, IsLinkOfTriple, IsLinkOfArc};
 
 use crate::lit::Lit;

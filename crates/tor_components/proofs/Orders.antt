@@ -55,8 +55,8 @@ module _ {N : Type 0} (arcs : List (N × N)) (nodes : List N) (closing : IsClosi
       subst (λ z. Reaches arcs z x) (same_Some w.node root (sym w.at_top ∙ subst (λ k. slice_get nodes k ≡ Some root) (sym top) at)) w.back
 
 module _ {N : Type 0} (arcs back : List (N × N)) (from : (x y : N) → HasArc arcs x y → HasArc back y x) (to : (x y : N) → HasArc back y x → HasArc arcs x y) where
-  pub turned : (y x : N) → Reaches back y x → Reaches arcs x y
-  turned y x w = go w
+  pub reversed : (y x : N) → Reaches back y x → Reaches arcs x y
+  reversed y x w = go w
     where
       go : {x : N} → Reaches back y x → Reaches arcs x y
       go here = here
@@ -78,7 +78,7 @@ module _ {N : Type 0} (place : N → ℕ) (arcs back : List (N × N)) (from : (x
     (fresh : Has old root → ⊥) (once : IsOnce new) (grown : IsGrown back root old new) where
   -- a node that is new reaches the root, and the root reaches it
   to-root : (x : N) → Reaches back root x → Reaches arcs x root
-  to-root x r = turned arcs back from to root x r
+  to-root x r = reversed arcs back from to root x r
 
   from-root : (x : N) → (Has old x → ⊥) → Reaches back root x → Reaches arcs root x
   from-root x out r = root-reaches arcs nodes closing i root x placed at (to-root x r)

@@ -30,7 +30,7 @@ pub record IsClassed {N : Type 0} (place : N → ℕ) (arcs : List (N × N)) (no
   pub same : (x y : N) (k : ℕ) → Has nodes x → Has nodes y → IsClass place of x k → IsClass place of y k → Reaches arcs x y
   pub order : (x y : N) (j k : ℕ) → Has nodes y → HasArc arcs x y → IsClass place of x j → IsClass place of y k → j ≤ k
 
--- the arcs of the one are those of the other, turned round
+-- the arcs of the one are those of the other, reversed round
 pub record IsReversed {N : Type 0} (net other : Net N) : Type 0 where
   pub nodes : other.nodes ≡ net.nodes
   pub from : (x y : N) → HasArc net.arcs x y → HasArc other.arcs y x

@@ -1,6 +1,6 @@
 ghost use Rattle.std.specs.Prelude.{◌≡◌, ◌≢◌, ℕ, ◌+◌, ◌<◌, ◌≤◌, List, Some, slice_get, length, OnOk, IfOk};
 ghost use Rattle.tor_digraph.specs.Closing.{Has, IsClosing};
-ghost use Rattle.tor_digraph.specs.Reached.{IsSpread, IsGrown};
+ghost use Rattle.tor_digraph.specs.Reached.{IsSearched, IsGrown};
 ghost use Rattle.tor_components.specs.Classes.{IsClass, IsComponents, IsReversed};
 
 use crate::class::Components;
@@ -44,7 +44,7 @@ fn closing_order<N: Index, A: Index>(
     Ok(reached.into_nodes())
 }
 
-/// The digraph with each arc turned round.
+/// The digraph with each arc reversed round.
 fn reversed<N: Index, A: Index>(
     alloc: Global,
     graph: &Digraph<N, A>,
@@ -109,9 +109,9 @@ fn add_class<N: Index, A: Index>(
 ) -> Result<(), NoMemory>
     requires root { N.place_of root < graph.now.nodes }
     requires many { length classes.old.items ≡ graph.now.nodes }
-    requires spread { IsSpread N.place_of A.place_of graph.now.nodes graph.now.arcs reached.old }
+    requires searched { IsSearched N.place_of A.place_of graph.now.nodes graph.now.arcs reached.old }
     ensures many { length classes.new.items ≡ graph.now.nodes }
-    ensures spread { OnOk result (IsSpread N.place_of A.place_of graph.now.nodes graph.now.arcs reached.new) }
+    ensures searched { OnOk result (IsSearched N.place_of A.place_of graph.now.nodes graph.now.arcs reached.new) }
     ensures grown { OnOk result (IsGrown graph.now.arcs root reached.old.nodes reached.new.nodes) }
     ensures marked { OnOk result ((x : N) → Has reached.new.nodes x → (Has reached.old.nodes x → ⊥) → IsClass N.place_of classes.new.items x class) }
     ensures kept { OnOk result ((x : N) → Has reached.old.nodes x → slice_get classes.new.items (N.place_of x) ≡ slice_get classes.old.items (N.place_of x)) }

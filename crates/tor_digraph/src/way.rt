@@ -45,7 +45,7 @@ fn go_back<N: Index, A: Index>(
 }
 
 /// The same steps, the other way round.
-fn turn_round<N: Index, A: Index>(alloc: Global, back: Back<N, A>) -> Result<Way<N, A>, NoMemory>
+fn reversed<N: Index, A: Index>(alloc: Global, back: Back<N, A>) -> Result<Way<N, A>, NoMemory>
     ensures { IfOk result (λ w. (arcs : List (N × N)) (end : N) → IsBack A.place_of arcs back.root end back.steps → IsWay A.place_of arcs back.root end w.nodes w.arcs) }
 {
     let Back { root, mut steps } = back;
@@ -69,5 +69,5 @@ pub(crate) fn way_to<N: Index, A: Index>(
     requires falls { IsFalling N.place_of found.now.items }
     ensures { IfOk result (λ w. LeadsFromRoot N.place_of A.place_of found.now.items node w.nodes w.arcs) }
 {
-    turn_round(alloc, go_back(alloc, found, node)?)
+    reversed(alloc, go_back(alloc, found, node)?)
 }

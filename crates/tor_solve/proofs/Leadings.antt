@@ -42,7 +42,7 @@ HasPair-more ases more u v p = (p.0, p.1 ++ more, ap (λ l. l ++ more) p.2 ∙ a
 
 -- a walk that comes back to its start by the opposite refutes
 pub refutes : (A : Numbered) (w : Walk) (x y : ℕ) → x ≢ y → Leads A w x y x y → HasPair w.ases y x → Refutes A w
-refutes A w x y two h turns = record { x = x; y = y; two = two; walk = h.walk; begins = h.begins; turns = turns; ends = h.ends }
+refutes A w x y two h flips = record { x = x; y = y; two = two; walk = h.walk; begins = h.begins; flips = flips; ends = h.ends }
 
 -- ---- along arcs
 
@@ -150,9 +150,9 @@ round A es edge low high x y w there back is_low is_high says begin onward homew
     let opposite : Says es (lit_of high) y x =
     subst (λ l. Says es l y x) (sym is_high) (says_opposite es edge x y (subst (λ l. Says es l x y) is_low says)) in
     let middle = onward x y first in
-    let turn = middle y x opposite in
+    let flip = middle y x opposite in
     let end = homeward x y middle x y says in
-    refutes A back x y says.two end (kept y x (turn.ends.0, [], turn.ends.1))
+    refutes A back x y says.two end (kept y x (flip.ends.0, [], flip.ends.1))
 
 -- two ASes as code begins a walk
 pub made_walk : (x y : ℕ) (none one two : List ℕ) (links : List Link) → none ≡ [] → one ≡ none ++ x ∷ [] → two ≡ one ++ y ∷ [] → links ≡ [] →

@@ -71,35 +71,35 @@ module _ (paths : List (List ℕ)) where
           (subst (λ u. (Closure paths f.0 u y z → Closure paths f.0 u y' z') × (Closure paths u f.0 y' z' → Closure paths u f.0 y z)) q h)
 
   -- each of the two orders leads to the other
-  abbrev Turns : ℕ → ℕ → Type 0
-  Turns x y = Closure paths x y y x × Closure paths y x x y
+  abbrev Flips : ℕ → ℕ → Type 0
+  Flips x y = Closure paths x y y x × Closure paths y x x y
 
-  -- two orders of one of these arcs that turn, or none
-  turning : (es : List Arc) →
-      ((x y z : ℕ) × In x y z es × Turns x y) ⊎ ((x y z : ℕ) → In x y z es → Turns x y → ⊥)
-  turning [] = inr (λ x y z h t. h)
-  turning (e ∷ es) = one_of (decided_law paths e.0 e.1 e.1 e.0) (decided_law paths e.1 e.0 e.0 e.1) (turning es)
+  -- two orders of one of these arcs that flip, or none
+  flipping : (es : List Arc) →
+      ((x y z : ℕ) × In x y z es × Flips x y) ⊎ ((x y z : ℕ) → In x y z es → Flips x y → ⊥)
+  flipping [] = inr (λ x y z h t. h)
+  flipping (e ∷ es) = one_of (decided_law paths e.0 e.1 e.1 e.0) (decided_law paths e.1 e.0 e.0 e.1) (flipping es)
     where
-      moved : (x y : ℕ) → e.0 ≡ x → e.1 ≡ y → Turns x y → Turns e.0 e.1
-      moved x y p q t = subst (λ u. Turns u e.1) (sym p) (subst (λ u. Turns x u) (sym q) t)
+      moved : (x y : ℕ) → e.0 ≡ x → e.1 ≡ y → Flips x y → Flips e.0 e.1
+      moved x y p q t = subst (λ u. Flips u e.1) (sym p) (subst (λ u. Flips x u) (sym q) t)
 
-      none : (Turns e.0 e.1 → ⊥) → ((x y z : ℕ) → In x y z es → Turns x y → ⊥) → (x y z : ℕ) → In x y z (e ∷ es) → Turns x y → ⊥
+      none : (Flips e.0 e.1 → ⊥) → ((x y z : ℕ) → In x y z es → Flips x y → ⊥) → (x y z : ℕ) → In x y z (e ∷ es) → Flips x y → ⊥
       none n ns x y z (inl h) t = n (moved x y h.0 h.1 t)
       none n ns x y z (inr h) t = ns x y z h t
 
       Found : List Arc → Type 0
-      Found es = (x y z : ℕ) × In x y z es × Turns x y
+      Found es = (x y z : ℕ) × In x y z es × Flips x y
 
       one_of : Closure paths e.0 e.1 e.1 e.0 ⊎ (Closure paths e.0 e.1 e.1 e.0 → ⊥) → Closure paths e.1 e.0 e.0 e.1 ⊎ (Closure paths e.1 e.0 e.0 e.1 → ⊥) →
-          ((x y z : ℕ) × In x y z es × Turns x y) ⊎ ((x y z : ℕ) → In x y z es → Turns x y → ⊥) →
-          ((x y z : ℕ) × In x y z (e ∷ es) × Turns x y) ⊎ ((x y z : ℕ) → In x y z (e ∷ es) → Turns x y → ⊥)
+          ((x y z : ℕ) × In x y z es × Flips x y) ⊎ ((x y z : ℕ) → In x y z es → Flips x y → ⊥) →
+          ((x y z : ℕ) × In x y z (e ∷ es) × Flips x y) ⊎ ((x y z : ℕ) → In x y z (e ∷ es) → Flips x y → ⊥)
       one_of (inl t) (inl b) rest = inl (e.0, e.1, e.2, inl (refl, refl, refl), (t, b))
       one_of d d' (inl (x, y, z, h, t)) = inl (x, y, z, inr h, t)
       one_of (inr n) d (inr ns) = inr (none (λ t. n t.0) ns)
       one_of (inl t) (inr n) (inr ns) = inr (none (λ t. n t.1) ns)
 
-  -- where no orders turn, the numbers are ranks
-  are_ranks : ((x y z : ℕ) → In x y z (arcs_of paths) → Turns x y → ⊥) → IsRanked paths (code (arcs_of paths))
+  -- where no orders flip, the numbers are ranks
+  are_ranks : ((x y z : ℕ) → In x y z (arcs_of paths) → Flips x y → ⊥) → IsRanked paths (code (arcs_of paths))
   are_ranks none = record {
     along = λ x y z t. code_rises (arcs_of paths) x y y z (λ a b c. imply c t);
     apart = λ x y z t e.
@@ -138,7 +138,7 @@ go_on A w a b c d h (imply {x = x} {y = y} {z = z} k t) = one_more (go_on A w a 
           kept = λ u v p. HasPair-more g.further.ases (z ∷ []) u v (g.kept u v p);
         }
 
-refuting_walk : (A : Numbered) (x y : ℕ) → x ≢ y → Turns (paths_of A) x y → (w : Walk) × Refutes A w
+refuting_walk : (A : Numbered) (x y : ℕ) → x ≢ y → Flips (paths_of A) x y → (w : Walk) × Refutes A w
 refuting_walk A x y two t =
     let first : Walk = record { ases = x ∷ y ∷ []; links = [] } in
     let there = go_on A first x y x y (leads_start A x y) t.0 in
@@ -147,7 +147,7 @@ refuting_walk A x y two t =
 
 -- some orientation serves, or some walk refutes
 pub decision : (A : Numbered) → All AllDistinct (paths_of A) → IsServable (paths_of A) ⊎ ((w : Walk) × Refutes A w)
-decision A distinct = elim (turning (paths_of A) (arcs_of (paths_of A))) [
+decision A distinct = elim (flipping (paths_of A) (arcs_of (paths_of A))) [
   | inl (x, y, z, h, t) ↦
       let triple = is_triple (paths_of A) x y z h in
       let two = triple_apart triple.0 triple.2.0 x y z (All-contains AllDistinct (paths_of A) triple.0 distinct triple.1) triple.2.1 in

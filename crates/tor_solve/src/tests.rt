@@ -58,13 +58,13 @@ fn is_refuting(walk: &Walk) -> bool {
         return false;
     }
     let (first, second) = (ases[0], ases[1]);
-    let mut turns = false;
+    let mut flips = false;
     for place in 1..count {
         if ases[place - 1] == second && ases[place] == first {
-            turns = true;
+            flips = true;
         }
     }
-    turns && walk.links.len() == count - 2 && ases[count - 2] == first && ases[count - 1] == second
+    flips && walk.links.len() == count - 2 && ases[count - 2] == first && ases[count - 1] == second
 }
 
 fn answer(alloc: Global, graph: &AsGraph, clauses: &Clauses) -> Result<Outcome, Fail>

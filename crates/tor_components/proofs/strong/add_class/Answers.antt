@@ -8,7 +8,7 @@ split_at-requires g c = grown-longer c.args.graph.now.arcs c.args.root c.args.re
 
 pub mark-requires : goal.mark-requires
 mark-requires g c = λ x h. subst (λ n. g.N.Index.place_of x < n) (sym c.requires.many)
-    (c.in_ok-reach_more.ensures.spread.inside x (Contains-from_has c.reach_more.new.reached.nodes x (fresh-has c.args.graph.now.arcs c.args.root c.args.reached.now.nodes c.reach_more.new.reached.nodes c.in_ok-reach_more.ensures.grown c.nodes-had.result.now c.nodes.result.now _ c.nodes-had.ensures.nodes c.nodes.ensures.nodes c.split_at.ensures.back x h)))
+    (c.in_ok-reach_more.ensures.searched.inside x (Contains-from_has c.reach_more.new.reached.nodes x (fresh-has c.args.graph.now.arcs c.args.root c.args.reached.now.nodes c.reach_more.new.reached.nodes c.in_ok-reach_more.ensures.grown c.nodes-had.result.now c.nodes.result.now _ c.nodes-had.ensures.nodes c.nodes.ensures.nodes c.split_at.ensures.back x h)))
 
 pub returns-clause-marked : goal.returns-clause-marked
 returns-clause-marked g c = λ x h o. c.mark.ensures.marked x

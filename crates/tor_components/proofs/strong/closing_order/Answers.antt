@@ -8,7 +8,7 @@ use Rattle.tor_components.proofs.strong.closing_order.Goals as goal
 
 pub loop-place-preserved : goal.loop-place-preserved
 loop-place-preserved g c = record {
-  spread = c.in_ok-reach_more.ensures.spread;
+  searched = c.in_ok-reach_more.ensures.searched;
   all = λ x lt. elim (cases_lt (g.N.Index.place_of x) c.loop-place.place) [
     | inl less ↦ grown-old c.args.graph.now.arcs c.unwrap-node.result c.loop-place.reached.nodes c.reach_more.new.reached.nodes x c.in_ok-reach_more.ensures.grown (c.loop-place.invariant.all x less)
     | inr le ↦ (let e : g.N.Index.place_of c.unwrap-node.result ≡ c.loop-place.place = subst (λ o. IfSome o (λ i. g.N.Index.place_of i ≡ c.loop-place.place)) c.unwrap-node.ensures c.from_place.ensures.some in
@@ -19,4 +19,4 @@ loop-place-preserved g c = record {
 
 pub returns-clause-inside : goal.returns-clause-inside
 returns-clause-inside g c = λ x h.
-    c.loop-place.invariant.spread.inside x (Contains-from_has c.loop-place.reached.nodes x (subst (λ z. Has z x) c.into_nodes.ensures.nodes h))
+    c.loop-place.invariant.searched.inside x (Contains-from_has c.loop-place.reached.nodes x (subst (λ z. Has z x) c.into_nodes.ensures.nodes h))

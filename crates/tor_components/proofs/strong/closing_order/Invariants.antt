@@ -1,10 +1,10 @@
 use Rattle.std.proofs.Common.{◌<◌}
 use Rattle.tor_digraph.specs.Closing.{Has}
-use Rattle.tor_digraph.specs.Reached.{IsSpread}
+use Rattle.tor_digraph.specs.Reached.{IsSearched}
 use Rattle.tor_components.proofs.strong.closing_order.Given as goal
 
 abbrev pub invariant-loop-place : goal.invariant-loop-place
 invariant-loop-place g l = record {
-  spread : IsSpread g.N.Index.place_of g.A.Index.place_of l.graph.nodes l.graph.arcs l.reached;
+  searched : IsSearched g.N.Index.place_of g.A.Index.place_of l.graph.nodes l.graph.arcs l.reached;
   all : (x : g.row.N.Denot) → g.N.Index.place_of x < l.place → Has l.reached.nodes x;
 }

@@ -1,5 +1,5 @@
 use Rattle.std.proofs.lemmas.Result.{on_ok_weaker}
-use Rattle.tor_digraph.proofs.Spreads.{search-start, growth-start, start-found, start-starts}
+use Rattle.tor_digraph.proofs.Searches.{search-start, growth-start, start-found, start-starts}
 use Rattle.tor_digraph.proofs.search.explore.Goals as goal
 
 pub search-requires-clause-search : goal.search-requires-clause-search

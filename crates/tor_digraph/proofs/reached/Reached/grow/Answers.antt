@@ -2,19 +2,19 @@ use Rattle.std.proofs.Common.{◌<◌, length, sym, ◌∙◌, ap, subst}
 use Rattle.std.proofs.lemmas.Bool.{false≢true}
 use Rattle.tor_digraph.specs.Reached.{IsGrown}
 use Rattle.tor_digraph.proofs.Gets.{Contains-from_has}
-use Rattle.tor_digraph.proofs.Spreads.{kept-search, kept-absent, search-kept, search-spread, growth-grown}
+use Rattle.tor_digraph.proofs.Searches.{kept-search, kept-absent, search-kept, search-searched, growth-grown}
 use Rattle.tor_digraph.proofs.reached.Reached.grow.Goals as goal
 
 pub explore-done-requires-clause-search : goal.explore-done-requires-clause-search
-explore-done-requires-clause-search g c = kept-search g.N.Index.place_of g.A.Index.place_of g.met.N.Index.is_one c.args.graph.now.arcs c.self.inside.found.items c.self.inside.nodes c.args.graph.now.nodes c.args.self.now c.self.invariant c.self.view_is c.requires.spread
+explore-done-requires-clause-search g c = kept-search g.N.Index.place_of g.A.Index.place_of g.met.N.Index.is_one c.args.graph.now.arcs c.self.inside.found.items c.self.inside.nodes c.args.graph.now.nodes c.args.self.now c.self.invariant c.self.view_is c.requires.searched
 
 pub explore-done-requires-clause-absent : goal.explore-done-requires-clause-absent
 explore-done-requires-clause-absent g c = kept-absent g.N.Index.place_of c.self.inside.found.items c.self.inside.nodes c.args.self.now c.args.start c.self.invariant c.self.view_is
-    (subst (λ n. g.N.Index.place_of c.args.start < n) (sym (ap (λ z. length z.found) c.self.view_is ∙ c.requires.spread.forest.many)) c.requires.start)
+    (subst (λ n. g.N.Index.place_of c.args.start < n) (sym (ap (λ z. length z.found) c.self.view_is ∙ c.requires.searched.forest.many)) c.requires.start)
     (λ h. false≢true (sym c.if-has.false ∙ c.has.ensures.1 (Contains-from_has c.args.self.now.nodes c.args.start h)))
 
-pub returns-in-Ok-clause-spread : goal.returns-in-Ok-clause-spread
-returns-in-Ok-clause-spread g c = search-spread g.N.Index.place_of g.A.Index.place_of g.met.N.Index.is_one c.args.graph.now.arcs _ _ c.args.graph.now.nodes c.in-Ok.ensures.search c.explore-done.ensures.many
+pub returns-in-Ok-clause-searched : goal.returns-in-Ok-clause-searched
+returns-in-Ok-clause-searched g c = search-searched g.N.Index.place_of g.A.Index.place_of g.met.N.Index.is_one c.args.graph.now.arcs _ _ c.args.graph.now.nodes c.in-Ok.ensures.search c.explore-done.ensures.many
 
 pub returns-in-Ok-clause-grown : goal.returns-in-Ok-clause-grown
 returns-in-Ok-clause-grown g c = subst (λ v. IsGrown c.args.graph.now.arcs c.args.start v.nodes c.explore-done.new.nodes) c.self.view_is

@@ -1,6 +1,6 @@
 use Rattle.std.proofs.Common.{arith}
 use Rattle.std.proofs.lemmas.Bool.{false≢true}
-use Rattle.tor_digraph.proofs.Spreads.{kept-has_not}
+use Rattle.tor_digraph.proofs.Searches.{kept-has_not}
 use Rattle.tor_digraph.proofs.Traces.{kept_seen}
 use Rattle.tor_digraph.proofs.reached.Reached.has.Goals as goal
 

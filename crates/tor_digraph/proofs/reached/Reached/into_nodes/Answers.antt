@@ -1,6 +1,6 @@
 use Rattle.std.proofs.Common.{◌≤◌, length, subst, arith}
 use Rattle.tor_digraph.specs.Closing.{IsOnce}
-use Rattle.tor_digraph.proofs.Spreads.{kept-few}
+use Rattle.tor_digraph.proofs.Searches.{kept-few}
 use Rattle.tor_digraph.proofs.reached.Reached.into_nodes.Goals as goal
 
 pub prove-unreachable-requires : goal.prove-unreachable-requires

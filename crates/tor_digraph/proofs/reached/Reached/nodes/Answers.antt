@@ -1,5 +1,5 @@
 use Rattle.std.proofs.Common.{◌≤◌, length, arith}
-use Rattle.tor_digraph.proofs.Spreads.{kept-few}
+use Rattle.tor_digraph.proofs.Searches.{kept-few}
 use Rattle.tor_digraph.proofs.reached.Reached.nodes.Goals as goal
 
 pub prove-unreachable-requires : goal.prove-unreachable-requires

@@ -4,7 +4,7 @@ use Rattle.std.proofs.lemmas.Result.{on_ok_weaker}
 use Rattle.tor_digraph.specs.Closing.{Has}
 use Rattle.tor_digraph.proofs.Gets.{slice_get-lt}
 use Rattle.tor_digraph.proofs.Steps.{has-old, has-last}
-use Rattle.tor_digraph.proofs.Spreads.{length-copies, blank-pop, blank-done, blank-copies, blank-kept, blank-cut, blank-more}
+use Rattle.tor_digraph.proofs.Searches.{length-copies, blank-pop, blank-done, blank-copies, blank-kept, blank-cut, blank-more}
 use Rattle.tor_digraph.proofs.reached.Reached.reset.Goals as goal
 
 pub loop-node-init : goal.loop-node-init

@@ -8,7 +8,7 @@ use Rattle.tor_digraph.specs.Links.{IsLatest}
 use Rattle.tor_digraph.specs.Closing.{Has}
 use Rattle.tor_digraph.specs.Found.{IsSeen, IsFound, IsRoot, IsForest, IsTree, LeadsFromRoot}
 use Rattle.tor_digraph.specs.Search.{IsSearch, IsGrowth}
-use Rattle.tor_digraph.specs.Reached.{Reach, AreSeen, IsSpread, IsGrown, IsReach, IsBlank, LeadsFromStart, LeadsFromSome}
+use Rattle.tor_digraph.specs.Reached.{Reach, AreSeen, IsSearched, IsGrown, IsReach, IsBlank, LeadsFromStart, LeadsFromSome}
 use Rattle.tor_digraph.specs.declared.found.Found.{Found}
 use Rattle.tor_digraph.specs.declared.found.Found.TheVariants.{No, Start, Along}
 use Rattle.tor_digraph.specs.declared.found.Open.{Open}
@@ -27,8 +27,8 @@ module _ {N A : Type 0} (place : N → ℕ) (spot : A → ℕ) (one : (u v : N) 
       (subst (λ z. IsSearch place spot arcs (set found (place s) Start) nodes z) (sym (e ∙ ap (λ z. z ++ (record { node = s; next = r }) ∷ []) e-empty))
       (search-open place spot one arcs found nodes [] s Start r w absent tt refl (λ i o at. (let bad : None ≡ Some o = at in cc)) latest (λ t a d q. (let bad : Start ≡ Along t a d = q in cc))))
 
-  pub kept-search : (found : List (Found N A)) (nodes : List N) (count : ℕ) (v : Reach N A) → AreSeen place nodes found → record { nodes = nodes; found = found } ≡ v → IsSpread place spot count arcs v → IsSearch place spot arcs found nodes []
-  kept-search found nodes count v k e spread = let s = subst (λ z. IsSpread place spot count arcs z) (sym e) spread in record {
+  pub kept-search : (found : List (Found N A)) (nodes : List N) (count : ℕ) (v : Reach N A) → AreSeen place nodes found → record { nodes = nodes; found = found } ≡ v → IsSearched place spot count arcs v → IsSearch place spot arcs found nodes []
+  kept-search found nodes count v k e searched = let s = subst (λ z. IsSearched place spot count arcs z) (sym e) searched in record {
     seen = λ x f. inl (k.seen x f);
     nodes_seen = k.nodes_seen;
     depths = λ i o at. (let bad : None ≡ Some o = at in cc);
@@ -50,8 +50,8 @@ module _ {N A : Type 0} (place : N → ℕ) (spot : A → ℕ) (one : (u v : N) 
     falls = λ x t a d at. (s.tree x t a d at).1;
   }
 
-  pub search-spread : (found : List (Found N A)) (nodes : List N) (count : ℕ) → IsSearch place spot arcs found nodes [] → length found ≡ count → IsSpread place spot count arcs (record { nodes = nodes; found = found })
-  search-spread found nodes count s many = let k = search-kept found nodes s in record {
+  pub search-searched : (found : List (Found N A)) (nodes : List N) (count : ℕ) → IsSearch place spot arcs found nodes [] → length found ≡ count → IsSearched place spot count arcs (record { nodes = nodes; found = found })
+  search-searched found nodes count s many = let k = search-kept found nodes s in record {
     inside = λ x h. (let f = k.nodes_seen x (has-from_Contains nodes x h) in subst (λ n. place x < n) many (slice_get-lt found (place x) f.0 f.1));
     heads = λ x y h arc. Contains-from_has nodes y (k.seen y (s.heads x y (has-from_Contains nodes x h) arc));
     order = s.order;
@@ -147,8 +147,8 @@ module _ {N A : Type 0} (place : N → ℕ) where
   blank-copies (Err e) found new n ok err none = rw err none
 
 module _ {N A : Type 0} (place : N → ℕ) (spot : A → ℕ) (arcs : List (N × N)) where
-  pub blank-spread : (count : ℕ) (v : Reach N A) → IsBlank place count v → IsSpread place spot count arcs v
-  blank-spread count v b = record {
+  pub blank-searched : (count : ℕ) (v : Reach N A) → IsBlank place count v → IsSearched place spot count arcs v
+  blank-searched count v b = record {
     inside = λ x h. absurd (none x (has-from_Contains v.nodes x h));
     heads = λ x y h. absurd (none x (has-from_Contains v.nodes x h));
     order = record { once = λ i j x at. absurd (none x (i, at)); exits = λ k x at. absurd (none x (k, at)) };
@@ -158,21 +158,21 @@ module _ {N A : Type 0} (place : N → ℕ) (spot : A → ℕ) (arcs : List (N �
       none : (x : N) → Has v.nodes x → ⊥
       none x h = let bad : None ≡ Some x = subst (λ z. slice_get z h.0 ≡ Some x) b.none h.1 in cc
 
-  pub spread-closed : (count : ℕ) (v : Reach N A) → IsSpread place spot count arcs v → (x y : N) → Has v.nodes x → HasArc arcs x y → Has v.nodes y
-  spread-closed count v s x y h arc = has-from_Contains v.nodes y (s.heads x y (Contains-from_has v.nodes x h) arc)
+  pub searched-closed : (count : ℕ) (v : Reach N A) → IsSearched place spot count arcs v → (x y : N) → Has v.nodes x → HasArc arcs x y → Has v.nodes y
+  searched-closed count v s x y h arc = has-from_Contains v.nodes y (s.heads x y (Contains-from_has v.nodes x h) arc)
 
-  spread-walk : (count : ℕ) (v : Reach N A) → IsSpread place spot count arcs v → {x y : N} → Contains v.nodes x → Reaches arcs x y → Contains v.nodes y
-  spread-walk count v s h here = h
-  spread-walk count v s h (along {b} {c} p arc) = s.heads b c (spread-walk count v s h p) arc
+  searched-walk : (count : ℕ) (v : Reach N A) → IsSearched place spot count arcs v → {x y : N} → Contains v.nodes x → Reaches arcs x y → Contains v.nodes y
+  searched-walk count v s h here = h
+  searched-walk count v s h (along {b} {c} p arc) = s.heads b c (searched-walk count v s h p) arc
 
-  pub grown-reach : (count : ℕ) (start : N) (old new : Reach N A) → IsBlank place count old → IsSpread place spot count arcs new → IsGrown arcs start old.nodes new.nodes → ((x : N) → slice_get new.found (place x) ≡ Some Start → (slice_get old.found (place x) ≡ Some Start) ⊎ (x ≡ start)) → IsReach place spot arcs start new
+  pub grown-reach : (count : ℕ) (start : N) (old new : Reach N A) → IsBlank place count old → IsSearched place spot count arcs new → IsGrown arcs start old.nodes new.nodes → ((x : N) → slice_get new.found (place x) ≡ Some Start → (slice_get old.found (place x) ≡ Some Start) ⊎ (x ≡ start)) → IsReach place spot arcs start new
   grown-reach count start old new b s w root = record {
-    exact = λ x. ((λ h. (let at = has-from_Contains new.nodes x h in w.more at.0 x (rw b.none (omega arith)) at.1)), (λ r. spread-walk count new s w.has_start r));
+    exact = λ x. ((λ h. (let at = has-from_Contains new.nodes x h in w.more at.0 x (rw b.none (omega arith)) at.1)), (λ r. searched-walk count new s w.has_start r));
     once = s.order.once;
     tree = record { along = s.forest.along; root = λ x at. elim (root x at) [ inl p ↦ absurd (b.not_found x (Start, p, tt)) | inr p ↦ p ] };
   }
 
-  pub grown-reach_ok : {T E : Type 0} (r : Result T E) (count : ℕ) (start : N) (old new : Reach N A) → IsBlank place count old → OnOk r (IsSpread place spot count arcs new) → OnOk r (IsGrown arcs start old.nodes new.nodes) → OnOk r ((x : N) → slice_get new.found (place x) ≡ Some Start → (slice_get old.found (place x) ≡ Some Start) ⊎ (x ≡ start)) → OnOk r (IsReach place spot arcs start new)
+  pub grown-reach_ok : {T E : Type 0} (r : Result T E) (count : ℕ) (start : N) (old new : Reach N A) → IsBlank place count old → OnOk r (IsSearched place spot count arcs new) → OnOk r (IsGrown arcs start old.nodes new.nodes) → OnOk r ((x : N) → slice_get new.found (place x) ≡ Some Start → (slice_get old.found (place x) ≡ Some Start) ⊎ (x ≡ start)) → OnOk r (IsReach place spot arcs start new)
   grown-reach_ok (Ok t) count start old new b s w root = grown-reach count start old new b s w root
   grown-reach_ok (Err e) count start old new b s w root = s
 
