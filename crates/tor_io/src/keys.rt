@@ -12,9 +12,9 @@ impl RandomSource for FixedBytes {
     }
 }
 
-/// Keys for tables that are found by hashing: from this source, and fixed ones where it gives none. No answer of a table
-/// depends on them, only its speed at keys that someone has chosen for it. The error is none that a source of fixed bytes
-/// makes. It takes no memory.
+/// Keys by which tables hash: from this source, or fixed ones where it gives none. No answer of a table depends on them,
+/// only its speed where someone has chosen what is looked up in it. No error is to be expected, since fixed bytes don't
+/// fail, but no clause says so. It takes no memory.
 pub fn table_keys<R: RandomSource>(source: &R) -> io::Result<RandomState> {
     match RandomState::new(source) {
         Ok(keys) => Ok(keys),
