@@ -1,9 +1,7 @@
 -- The records of a file, whose routes are taken in one after the other.
-use Rattle.std.proofs.Common.{◌≡◌, ◌==◌, Bool, true, false, cond, ◌&&◌, ◌||◌, option_map, length-append, ℕ, zero, suc, ◌+◌, ◌≤◌, List, [], ◌∷◌, ◌++◌, length, take, Option, Some, None, IfSome, Result, Ok, Err, refl, sym, ap, ap₂, subst, ◌∙◌, arith, append_assoc}
-use Rattle.std.specs.Result.{result_ok}
+use Rattle.std.proofs.Common.{◌≡◌, false, length-append, ℕ, zero, suc, ◌+◌, ◌≤◌, List, [], ◌∷◌, ◌++◌, length, take, Option, Some, None, IfSome, Result, Ok, Err, refl, sym, ap, ap₂, subst, ◌∙◌, arith, append_assoc}
 use Rattle.std.proofs.lemmas.List.{append-nil, take-append-le}
 use Rattle.std.proofs.Math.Seq.{take-append-add}
-use Rattle.rib_v2.specs.PeerTable.{peers_of}
 use Rattle.mrt_frame.specs.declared.header.At.{At}
 use Rattle.mrt_frame.specs.Kinds.{kind_of, is_read}
 use Rattle.mrt_frame.specs.declared.record_kind.RecordKind.{RecordKind}

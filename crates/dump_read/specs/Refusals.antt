@@ -2,8 +2,6 @@
 use Rattle.std.specs.Prelude.{◌≡◌, ℕ, List, Option, option_map, Result, Ok, Err}
 use Rattle.path_clean.specs.declared.table.AddRefused.{AddRefused}
 use Rattle.path_clean.specs.declared.table.AddRefused.TheVariants.{TooManyPaths, TooManyNumbers, NoMemory}
-use Rattle.path_clean.specs.Rows.{Table}
-use Rattle.path_clean.specs.Counts.{Counts}
 use Rattle.dump_read.specs.declared.error.LimitKind.{LimitKind}
 use Rattle.dump_read.specs.declared.error.LimitKind.TheVariants.{Paths, Numbers, Bytes}
 use Rattle.dump_read.specs.declared.error.Fault.TheVariants as fault
@@ -23,9 +21,6 @@ use Rattle.path_clean.specs.declared.cleaned.Sets.{Sets}
 use Rattle.rib_v2.specs.declared.peer_table.Peers.{Peers}
 use Rattle.rib_v2.specs.declared.error.RibError.{RibError}
 use Rattle.rib_v2.specs.declared.error.RibError.TheVariants as rib
-
-abbrev pub taken_of : Table → Counts → Taken
-taken_of table counts = record { table = table; counts = counts }
 
 abbrev pub of_add : AddRefused → Untaken
 of_add TooManyPaths = untaken.Limit Paths

@@ -5,17 +5,14 @@ use Rattle.path_clean.specs.declared.cleaned.Sets.{Sets}
 use Rattle.path_clean.specs.declared.cleaned.Cleaned.{Cleaned}
 use Rattle.path_clean.specs.declared.cleaned.Cleaned.TheVariants.{Path, Aside}
 use Rattle.path_clean.specs.Clean.{clean_of}
-use Rattle.path_clean.specs.Counts.{Counts, counted_one}
+use Rattle.path_clean.specs.Counts.{counted_one}
 use Rattle.path_clean.specs.Limits.{max_numbers}
 use Rattle.path_clean.specs.Rows.{Table, numbers_in}
 use Rattle.path_clean.specs.Table.{place_of, with_path}
 use Rattle.dump_read.specs.declared.error.LimitKind.{LimitKind}
 use Rattle.dump_read.specs.declared.error.LimitKind.TheVariants.{Paths, Numbers}
 use Rattle.dump_read.specs.Routes.{Route}
-
-pub record Taken : Type 0 where
-  pub table : Table
-  pub counts : Counts
+pub use Rattle.dump_read.specs.declared.taking.Taken.{Taken}
 
 -- the table with one path more
 abbrev pub with_one : Table → List ℕ → Table

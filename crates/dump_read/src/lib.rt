@@ -8,6 +8,7 @@ mod taking;
 
 pub use error::{DumpError, Fault, LimitKind, Place};
 pub use reading::read_dump;
+pub use taking::Taken;
 
 #[cfg(test)]
 mod tests;

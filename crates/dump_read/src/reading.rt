@@ -5,13 +5,13 @@ ghost use Rattle.tor_io.specs.Contents.{LacksFile};
 ghost use Rattle.dump_read.specs.Reading.{file_reading};
 ghost use Rattle.dump_read.specs.Taking.{TakesSome};
 ghost use Rattle.dump_read.specs.Seen.{of_octets, of_file, end_named};
-ghost use Rattle.dump_read.specs.Refusals.{taken_of, of_frame, of_unread, IsOfDump};
+ghost use Rattle.dump_read.specs.Refusals.{of_frame, of_unread, IsOfDump};
 
 use crate::error::{DumpError, Fault, LimitKind, Place};
 use crate::records::{Unread, take_record};
-use crate::taking::Untaken;
+use crate::taking::{Taken, Untaken};
 use mrt_frame::{At, FrameError, Frames};
-use path_clean::{Asides, PathTable, Sets};
+use path_clean::Sets;
 use std::alloc::Global;
 use tor_io::{OpenRefused, Shelf};
 
@@ -46,15 +46,14 @@ fn read_records<H: Shelf>(
     shelf: &mut H,
     dump: u64,
     sets: Sets,
-    table: &mut PathTable,
-    asides: &mut Asides,
+    taken: &mut Taken,
 ) -> Result<(), DumpError>
     ensures read { OnOk result (IfSome (H.left shelf.old) (λ octets.
-        of_octets sets dump (taken_of table.old asides.old) octets ≡ Ok (taken_of table.new asides.new))) }
+        of_octets sets dump taken.old octets ≡ Ok taken.new)) }
     ensures stopped { IfErr result (λ e. IfSome (end_named dump e) (λ end. IfSome (H.left shelf.old) (λ octets.
-        of_octets sets dump (taken_of table.old asides.old) octets ≡ Err end))) }
+        of_octets sets dump taken.old octets ≡ Err end))) }
     ensures some { OnErr result (IfSome (H.left shelf.old) (λ octets.
-        TakesSome sets (taken_of table.old asides.old) (file_reading octets).routes (taken_of table.new asides.new))) }
+        TakesSome sets taken.old (file_reading octets).routes taken.new)) }
     ensures place { IfErr result (IsOfDump dump) }
     ensures at_end { OnOk result (IsAtEnd (H.left shelf.new)) }
 
@@ -73,34 +72,33 @@ fn read_records<H: Shelf>(
             Ok(None) => return Ok(()),
             Err(error) => return Err(of_frame(dump, error)),
         };
-        match take_record(alloc, sets, &found, peers, table, asides) {
+        match take_record(alloc, sets, &found, peers, taken) {
             Ok(behind) => peers = behind,
             Err(unread) => return Err(of_unread(dump, found.at, unread)),
         }
     }
 }
 
-/// Reads a dump, and takes its routes in order into the table and the counts. `dump` is its number, from 1.
+/// Reads a dump, and takes in its routes in order. `dump` is its number, from 1.
 ///
 /// Malformed and Limit: the first end in the order of reading. ReadFault: a call on the shelf failed, as an open does at
-/// a name that isn't there. NoMemory: memory ran out. After an error the table and the counts hold some of the first
-/// routes of the file.
+/// a name that isn't there. NoMemory: memory ran out. After an error some of the first routes of the file are
+/// taken in.
 pub fn read_dump<H: Shelf>(
     alloc: Global,
     shelf: &mut H,
     name: &str,
     dump: u64,
     sets: Sets,
-    table: &mut PathTable,
-    asides: &mut Asides,
+    taken: &mut Taken,
 ) -> Result<(), DumpError>
     // What is taken in, and where the reading ends.
     ensures read { OnOk result (IfSome (H.files shelf.old) (λ files.
-        of_file sets dump (taken_of table.old asides.old) (files name.now) ≡ Ok (taken_of table.new asides.new))) }
+        of_file sets dump taken.old (files name.now) ≡ Ok taken.new)) }
     ensures stopped { IfErr result (λ e. IfSome (end_named dump e) (λ end. IfSome (H.files shelf.old) (λ files.
-        of_file sets dump (taken_of table.old asides.old) (files name.now) ≡ Err end))) }
+        of_file sets dump taken.old (files name.now) ≡ Err end))) }
     ensures some { OnErr result (IfSome (H.files shelf.old) (λ files. IfSome (files name.now) (λ octets.
-        TakesSome sets (taken_of table.old asides.old) (file_reading octets).routes (taken_of table.new asides.new)))) }
+        TakesSome sets taken.old (file_reading octets).routes taken.new))) }
     ensures place { IfErr result (IsOfDump dump) }
 
     // The shelf: after Ok nothing of the file is left unread.
@@ -113,7 +111,7 @@ pub fn read_dump<H: Shelf>(
     ensures steady_failed { H.steady shelf.old → IsErrOf result DumpError.ReadFault → LacksFile (H.files shelf.old) name.now }
 {
     match shelf.open_file(name) {
-        Ok(()) => read_records(alloc, shelf, dump, sets, table, asides),
+        Ok(()) => read_records(alloc, shelf, dump, sets, taken),
         Err(OpenRefused::Failed) => Err(DumpError::ReadFault),
         Err(OpenRefused::NoMemory) => Err(DumpError::NoMemory),
     }

@@ -2,12 +2,12 @@ ghost use Rattle.std.specs.Prelude.{◌≡◌, ◌⊎◌, Ok, OnOk, OnErr, IfOk,
 ghost use Rattle.mrt_frame.specs.Steps.{seen};
 ghost use Rattle.dump_read.specs.Routes.{of_entries, routes_in_table_dump, routes_in_rib, routes_of, peers_behind};
 ghost use Rattle.dump_read.specs.Taking.{take_routes, Takes, TakesSome};
-ghost use Rattle.dump_read.specs.Refusals.{taken_of, count_of, IsLimit, IsUnread, TakesRead, TakesSomeRead};
+ghost use Rattle.dump_read.specs.Refusals.{count_of, IsLimit, IsUnread, TakesRead, TakesSomeRead};
 
-use crate::taking::{Untaken, take};
+use crate::taking::{Taken, Untaken, take};
 use mrt_frame::{Record, RecordKind};
 use path_attrs::{RibFault, Width};
-use path_clean::{Asides, PathTable, Sets};
+use path_clean::Sets;
 use rib_v1::read_v1;
 use rib_v2::{Entry, Peers, RibError, read_peers, read_rib};
 use std::alloc::Global;
@@ -60,15 +60,14 @@ fn take_entries(
     alloc: Global,
     sets: Sets,
     entries: &[Entry<'_>],
-    table: &mut PathTable,
-    asides: &mut Asides,
+    taken: &mut Taken,
 ) -> Result<(), Untaken>
-    ensures taken { OnOk result (Takes sets (taken_of table.old asides.old) (of_entries entries.now) (taken_of table.new asides.new)) }
-    ensures limit { IfErr result (IsLimit (take_routes sets (taken_of table.old asides.old) (of_entries entries.now))) }
-    ensures some { OnErr result (TakesSome sets (taken_of table.old asides.old) (of_entries entries.now) (taken_of table.new asides.new)) }
+    ensures taken { OnOk result (Takes sets taken.old (of_entries entries.now) taken.new) }
+    ensures limit { IfErr result (IsLimit (take_routes sets taken.old (of_entries entries.now))) }
+    ensures some { OnErr result (TakesSome sets taken.old (of_entries entries.now) taken.new) }
 {
     for entry in entries {
-        take(alloc, sets, Width::Four, &entry.attrs, table, asides)?;
+        take(alloc, sets, Width::Four, &entry.attrs, taken)?;
     }
     Ok(())
 }
@@ -77,20 +76,16 @@ fn take_entries(
 fn take_table_dump(
     alloc: Global,
     sets: Sets,
-    subtype: u16,
-    body: &[u8],
-    table: &mut PathTable,
-    asides: &mut Asides,
+    found: &Record<'_>,
+    taken: &mut Taken,
 ) -> Result<(), Unread>
-    requires { (subtype ≡ 1) ⊎ (subtype ≡ 2) }
-    ensures taken { OnOk result (TakesRead sets (taken_of table.old asides.old) (routes_in_table_dump subtype body.now)
-        (taken_of table.new asides.new)) }
-    ensures unread { IfErr result (IsUnread sets (taken_of table.old asides.old) (routes_in_table_dump subtype body.now)) }
-    ensures some { OnErr result (TakesSomeRead sets (taken_of table.old asides.old) (routes_in_table_dump subtype body.now)
-        (taken_of table.new asides.new)) }
+    requires { (found.now.subtype ≡ 1) ⊎ (found.now.subtype ≡ 2) }
+    ensures taken { OnOk result (TakesRead sets taken.old (routes_in_table_dump found.now.subtype found.now.body.now) taken.new) }
+    ensures unread { IfErr result (IsUnread sets taken.old (routes_in_table_dump found.now.subtype found.now.body.now)) }
+    ensures some { OnErr result (TakesSomeRead sets taken.old (routes_in_table_dump found.now.subtype found.now.body.now) taken.new) }
 {
-    let attrs = read_v1(subtype, body)?;
-    take(alloc, sets, Width::Two, &attrs, table, asides)?;
+    let attrs = read_v1(found.subtype, found.body)?;
+    take(alloc, sets, Width::Two, &attrs, taken)?;
     Ok(())
 }
 
@@ -98,21 +93,18 @@ fn take_table_dump(
 fn take_rib(
     alloc: Global,
     sets: Sets,
-    subtype: u16,
+    found: &Record<'_>,
     peers: Option<Peers>,
-    body: &[u8],
-    table: &mut PathTable,
-    asides: &mut Asides,
+    taken: &mut Taken,
 ) -> Result<(), Unread>
-    requires { (subtype ≡ 2) ⊎ (subtype ≡ 4) }
-    ensures taken { OnOk result (TakesRead sets (taken_of table.old asides.old) (routes_in_rib (count_of peers) subtype body.now)
-        (taken_of table.new asides.new)) }
-    ensures unread { IfErr result (IsUnread sets (taken_of table.old asides.old) (routes_in_rib (count_of peers) subtype body.now)) }
-    ensures some { OnErr result (TakesSomeRead sets (taken_of table.old asides.old) (routes_in_rib (count_of peers) subtype body.now)
-        (taken_of table.new asides.new)) }
+    requires { (found.now.subtype ≡ 2) ⊎ (found.now.subtype ≡ 4) }
+    ensures taken { OnOk result (TakesRead sets taken.old (routes_in_rib (count_of peers) found.now.subtype found.now.body.now) taken.new) }
+    ensures unread { IfErr result (IsUnread sets taken.old (routes_in_rib (count_of peers) found.now.subtype found.now.body.now)) }
+    ensures some { OnErr result (TakesSomeRead sets taken.old (routes_in_rib (count_of peers) found.now.subtype found.now.body.now)
+        taken.new) }
 {
-    let entries = read_rib(alloc, subtype, peers.as_ref(), body)?;
-    take_entries(alloc, sets, entries.as_slice(), table, asides)?;
+    let entries = read_rib(alloc, found.subtype, peers.as_ref(), found.body)?;
+    take_entries(alloc, sets, entries.as_slice(), taken)?;
     Ok(())
 }
 
@@ -122,24 +114,21 @@ pub(crate) fn take_record(
     sets: Sets,
     found: &Record<'_>,
     peers: Option<Peers>,
-    table: &mut PathTable,
-    asides: &mut Asides,
+    taken: &mut Taken,
 ) -> Result<Option<Peers>, Unread>
     ensures peers { IfOk result (λ after. count_of after ≡ peers_behind (count_of peers) (seen found.now)) }
-    ensures taken { OnOk result (TakesRead sets (taken_of table.old asides.old) (routes_of (count_of peers) (seen found.now))
-        (taken_of table.new asides.new)) }
-    ensures unread { IfErr result (IsUnread sets (taken_of table.old asides.old) (routes_of (count_of peers) (seen found.now))) }
-    ensures some { OnErr result (TakesSomeRead sets (taken_of table.old asides.old) (routes_of (count_of peers) (seen found.now))
-        (taken_of table.new asides.new)) }
+    ensures taken { OnOk result (TakesRead sets taken.old (routes_of (count_of peers) (seen found.now)) taken.new) }
+    ensures unread { IfErr result (IsUnread sets taken.old (routes_of (count_of peers) (seen found.now))) }
+    ensures some { OnErr result (TakesSomeRead sets taken.old (routes_of (count_of peers) (seen found.now)) taken.new) }
 {
     match RecordKind::of(found.kind, found.subtype) {
         Some(RecordKind::TableDump) => {
-            take_table_dump(alloc, sets, found.subtype, found.body, table, asides)?;
+            take_table_dump(alloc, sets, found, taken)?;
             Ok(peers)
         }
         Some(RecordKind::PeerTable) => Ok(Some(read_peers(found.body)?)),
         Some(RecordKind::Rib) => {
-            take_rib(alloc, sets, found.subtype, peers, found.body, table, asides)?;
+            take_rib(alloc, sets, found, peers, taken)?;
             Ok(peers)
         }
         None => Ok(peers),

@@ -1,7 +1,7 @@
 ghost use Rattle.std.specs.Prelude.{◌≡◌, Ok, Err, OnOk, OnErr, IfErr};
 ghost use Rattle.dump_read.specs.Routes.{of_entries};
 ghost use Rattle.dump_read.specs.Taking.{take_route, take_routes};
-ghost use Rattle.dump_read.specs.Refusals.{IsLimit, taken_of};
+ghost use Rattle.dump_read.specs.Refusals.{IsLimit};
 
 use crate::error::LimitKind;
 use path_attrs::{Attrs, Width};
@@ -9,6 +9,13 @@ use path_clean::{AddRefused, Asides, Cleaned, PathTable, Sets, clean};
 use rib_v2::Entry;
 use std::alloc::Global;
 use tor_arena::NoMemory;
+
+/// What is taken in of dumps: the distinct paths with their times, and how many routes are set aside for each cause.
+#[derive(Drop)]
+pub struct Taken {
+    pub table: PathTable,
+    pub counts: Asides,
+}
 
 /// Why a route was not taken in.
 #[derive(Clone, Copy, Debug, PartialEq, Eq)]
@@ -43,26 +50,23 @@ impl From<AddRefused> for Untaken {
     }
 }
 
-/// Takes in one route. A route that isn't taken leaves the table and the counts as they were.
+/// Takes in one route. A route that isn't taken changes nothing.
 pub(crate) fn take(
     alloc: Global,
     sets: Sets,
     width: Width,
     attrs: &Attrs<'_>,
-    table: &mut PathTable,
-    asides: &mut Asides,
+    taken: &mut Taken,
 ) -> Result<(), Untaken>
-    ensures taken { OnOk result (take_route sets (taken_of table.old asides.old) (record { attrs = attrs.now; width = width })
-        ≡ Ok (taken_of table.new asides.new)) }
-    ensures limit { IfErr result (IsLimit (take_route sets (taken_of table.old asides.old) (record { attrs = attrs.now; width = width }))) }
-    ensures table { OnErr result (table.new ≡ table.old) }
-    ensures asides { OnErr result (asides.new ≡ asides.old) }
+    ensures taken { OnOk result (take_route sets taken.old (record { attrs = attrs.now; width = width }) ≡ Ok taken.new) }
+    ensures limit { IfErr result (IsLimit (take_route sets taken.old (record { attrs = attrs.now; width = width }))) }
+    ensures unchanged { OnErr result (taken.new ≡ taken.old) }
 {
     match clean(alloc, sets, attrs, width)? {
         Cleaned::Path(path) => {
-            table.add(path.as_slice())?;
+            taken.table.add(path.as_slice())?;
         }
-        Cleaned::Aside(cause) => asides.add(cause),
+        Cleaned::Aside(cause) => taken.counts.add(cause),
     }
     Ok(())
 }

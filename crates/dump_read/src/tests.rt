@@ -1,4 +1,7 @@
-use crate::{DumpError, Fault, LimitKind, Place, read_dump};
+ghost use Rattle.std.specs.Prelude.{◌≡◌, ◌≤◌};
+ghost use Rattle.path_clean.specs.Limits.{max_paths};
+
+use crate::{DumpError, Fault, LimitKind, Place, Taken, read_dump};
 use mrt_frame::At;
 use path_attrs::RibFault;
 use path_clean::{Asides, Cause, PathTable, Sets};
@@ -56,6 +59,18 @@ fn joined(alloc: Global, pieces: &[&[u8]]) -> Result<Vec<u8>, AllocError> {
     Ok(octets)
 }
 
+// Nothing, with room for so many paths.
+fn nothing_taken(alloc: Global, keys: Keys, limit: u32) -> Taken
+    requires some { 1 ≤ limit }
+    requires most { limit ≤ max_paths }
+    ensures { limit ≡ result.table.limit }
+{
+    Taken {
+        table: PathTable::new(alloc, keys, limit),
+        counts: Asides::new(),
+    }
+}
+
 // Whether the path 10 20 is the only one, of one route.
 fn has_one_edge(table: &PathTable) -> bool {
     match PathId::from_place(0) {
@@ -92,25 +107,16 @@ fn reads_dumps(rt: HostRuntime) -> Result<(), Fail> {
             true,
         ),
     ];
-    for (pieces, most, answer, taken) in &cases {
+    for (pieces, most, answer, one_edge) in &cases {
         let mut shelf = MemShelf::new(rt.alloc());
         shelf.put("d", &joined(rt.alloc(), pieces)?)?;
-        let mut table = PathTable::new(rt.alloc(), Keys::new(&rt), (*most).clamp(1, 8));
-        let mut asides = Asides::new();
-        let read = read_dump(
-            rt.alloc(),
-            &mut shelf,
-            "d",
-            1,
-            Sets::Cut,
-            &mut table,
-            &mut asides,
-        );
+        let mut taken = nothing_taken(rt.alloc(), Keys::new(&rt), (*most).clamp(1, 8));
+        let read = read_dump(rt.alloc(), &mut shelf, "d", 1, Sets::Cut, &mut taken);
         assert_eq!(rt; read, *answer);
-        assert_eq!(rt; has_one_edge(&table), *taken);
-        let set_aside = u64::from(table.len() == 0 && read.is_ok());
-        assert_eq!(rt; asides.get(Cause::NoPath), set_aside);
-        assert_eq!(rt; asides.get(Cause::BadSegments), set_aside);
+        assert_eq!(rt; has_one_edge(&taken.table), *one_edge);
+        let set_aside = u64::from(taken.table.len() == 0 && read.is_ok());
+        assert_eq!(rt; taken.counts.get(Cause::NoPath), set_aside);
+        assert_eq!(rt; taken.counts.get(Cause::BadSegments), set_aside);
     }
     Ok(())
 }
@@ -118,17 +124,8 @@ fn reads_dumps(rt: HostRuntime) -> Result<(), Fail> {
 #[test]
 fn an_absent_dump_is_a_read_fault(rt: HostRuntime) -> Result<(), Fail> {
     let mut shelf = MemShelf::new(rt.alloc());
-    let mut table = PathTable::new(rt.alloc(), Keys::new(&rt), 8);
-    let mut asides = Asides::new();
-    let read = read_dump(
-        rt.alloc(),
-        &mut shelf,
-        "d",
-        1,
-        Sets::Cut,
-        &mut table,
-        &mut asides,
-    );
+    let mut taken = nothing_taken(rt.alloc(), Keys::new(&rt), 8);
+    let read = read_dump(rt.alloc(), &mut shelf, "d", 1, Sets::Cut, &mut taken);
     assert_eq!(rt; read, Err(DumpError::ReadFault));
     Ok(())
 }

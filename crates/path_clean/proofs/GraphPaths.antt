@@ -1,5 +1,5 @@
 -- Clean paths are such as a graph may be built of.
-use Rattle.std.proofs.Common.{◌≡◌, ℕ, ◌≤◌, not, ◌&&◌, ◌==◌, nat_le, IsTrue, List, [], ◌∷◌, All, length, refl, ap, ◌∙◌}
+use Rattle.std.proofs.Common.{ℕ, ◌≤◌, not, ◌&&◌, nat_le, IsTrue, List, [], ◌∷◌, All, length}
 use Rattle.std.specs.List.{AllByRecursion, list_any, list_all}
 use Rattle.std.proofs.lemmas.Bool.{leb-true, and_parts}
 use Rattle.std.proofs.lemmas.List.Elements.{All-from_recursion}

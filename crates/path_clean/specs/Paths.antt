@@ -1,5 +1,5 @@
 -- Paths that are clean.
-use Rattle.std.specs.Prelude.{ℕ, ◌==◌, Bool, true, not, ◌&&◌, ◌||◌, nat_le, List, [], ◌∷◌, length}
+use Rattle.std.specs.Prelude.{ℕ, ◌==◌, Bool, not, ◌&&◌, ◌||◌, nat_le, List, length}
 use Rattle.std.specs.List.{list_any}
 use Rattle.tor_arena.specs.Distinct.{is_distinct}
 

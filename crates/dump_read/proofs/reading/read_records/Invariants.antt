@@ -1,6 +1,6 @@
 use Rattle.std.proofs.Common.{◌≡◌, ◌-◌, ◌^◌, true}
 use Rattle.mrt_frame.specs.Reader.{shelf_of, reference_of, next_place, is_live}
-use Rattle.dump_read.specs.Refusals.{taken_of, count_of}
+use Rattle.dump_read.specs.Refusals.{count_of}
 use Rattle.dump_read.proofs.Goings.{GoesOf}
 use Rattle.dump_read.proofs.reading.read_records.Given as goal
 
@@ -10,7 +10,7 @@ invariant-records g l =
     record {
       same_reference : reference_of l.frames ≡ reference_of l.initial.frames;
       live : is_live l.frames ≡ true;
-      goes : GoesOf l.sets (shelf.left l.fn.shelf) (shelf.left (shelf_of l.frames)) (next_place l.frames) (count_of l.peers) (taken_of l.fn.table l.fn.asides) (taken_of l.table l.asides);
+      goes : GoesOf l.sets (shelf.left l.fn.shelf) (shelf.left (shelf_of l.frames)) (next_place l.frames) (count_of l.peers) l.fn.taken l.taken;
       files : shelf.files (shelf_of l.frames) ≡ shelf.files l.fn.shelf;
       quiet : shelf.faults (shelf_of l.frames) ≡ shelf.faults l.fn.shelf;
       steady : shelf.steady l.fn.shelf → shelf.steady (shelf_of l.frames);

@@ -1,4 +1,4 @@
-use Rattle.std.proofs.Common.{◌≡◌, ◌≢◌, ◌≤◌, ◌<◌, ℕ, length}
+use Rattle.std.proofs.Common.{◌≢◌, ◌≤◌, ◌<◌, ℕ, length}
 use Rattle.path_clean.specs.Chains.{EndsInHash, path_hash, row_at}
 use Rattle.path_clean.proofs.chain.find_row.Given as goal
 
