@@ -13,7 +13,7 @@ use Rattle.rel_checker.specs.Valid.{AcceptanceLaw}
 use Rattle.rel_checker.specs.Against.{in_order, its_rows, JudgesAgainst}
 use Rattle.path_clean.specs.Counts.{Counts}
 use Rattle.path_clean.specs.Rows.{Counted}
-use Rattle.dump_read.specs.Taking.{Taken}
+use Rattle.dump_read.specs.declared.taking.Taken.{Taken}
 use Rattle.dump_read.specs.Seen.{End, Absent, Malformed, Limit}
 use Rattle.tor_words.specs.declared.check_settings.CheckSettings.{CheckSettings}
 use Rattle.tor_words.specs.CheckGiven.{check_settings_given}

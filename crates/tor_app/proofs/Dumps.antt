@@ -6,7 +6,7 @@ use Rattle.path_attrs.specs.Fields.{◌>>=◌}
 use Rattle.path_clean.specs.declared.cleaned.Sets.{Sets}
 use Rattle.tor_io.specs.Contents.{Files, LacksFile}
 use Rattle.dump_read.specs.declared.error.DumpError.{DumpError}
-use Rattle.dump_read.specs.Taking.{Taken}
+use Rattle.dump_read.specs.declared.taking.Taken.{Taken}
 use Rattle.dump_read.specs.Seen.{End, Absent, of_file, end_named}
 use Rattle.tor_app.specs.Seen.{seen_from}
 

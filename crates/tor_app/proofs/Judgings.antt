@@ -5,7 +5,7 @@ use Rattle.tor_io.specs.Contents.{Files}
 use Rattle.result_text.specs.declared.file.ResultFile.{ResultFile}
 use Rattle.rel_checker.specs.declared.answer.Answer.{Answer as Verdict}
 use Rattle.rel_checker.specs.Against.{JudgesAgainst}
-use Rattle.dump_read.specs.Taking.{Taken}
+use Rattle.dump_read.specs.declared.taking.Taken.{Taken}
 use Rattle.tor_app.specs.Judging.{JudgesByDumps, seen_for}
 
 -- the dumps gave this, and the result was compared with it

@@ -6,7 +6,7 @@ use Rattle.tor_io.specs.Contents.{Files, GainsPrefix}
 use Rattle.dump_read.specs.declared.error.Place.{Place}
 use Rattle.dump_read.specs.declared.error.Fault.{Fault}
 use Rattle.dump_read.specs.declared.error.LimitKind.{LimitKind}
-use Rattle.dump_read.specs.Taking.{Taken}
+use Rattle.dump_read.specs.declared.taking.Taken.{Taken}
 use Rattle.dump_read.specs.Seen.{End, Absent, Malformed, Limit}
 use Rattle.tor_words.specs.declared.settings.Settings.{Settings}
 use Rattle.tor_words.specs.Refused.{HasUsageLine}

@@ -8,7 +8,7 @@ use Rattle.rel_checker.specs.declared.answer.Answer.TheVariants.{Yes, No}
 use Rattle.rel_checker.specs.Rules.{Accepts, IsRefused}
 use Rattle.rel_checker.specs.Valid.{Valid}
 use Rattle.rel_checker.specs.Against.{its_rows, JudgesAgainst}
-use Rattle.dump_read.specs.Taking.{Taken}
+use Rattle.dump_read.specs.declared.taking.Taken.{Taken}
 use Rattle.dump_read.specs.Seen.{End}
 use Rattle.tor_words.specs.declared.check_settings.CheckSettings.{CheckSettings}
 use Rattle.tor_words.specs.CheckGiven.{check_settings_given}

@@ -8,10 +8,9 @@ ghost use Rattle.tor_app.specs.Refusals.{note_in, Answers, IsNoMemory, IsRefusal
 
 use crate::listing::list_text;
 use crate::notes::{limit_note, malformed_note, read_fault_note};
-use crate::reading::{Stopped, read_dumps};
+use crate::reading::{Stopped, nothing_taken, read_dumps};
 use crate::status::Status;
 use dump_read::DumpError;
-use path_clean::{Asides, PathTable};
 use std::alloc::{AllocError, Global};
 use tor_arena::{Keys, List};
 use tor_io::Shelf;
@@ -131,17 +130,15 @@ fn dumps_text<H: Shelf>(
     ensures quiet_stop { IfErr result (λ r. (IsReadFault r → ⊥) → H.faults shelf.new ≡ H.faults shelf.old) }
     ensures steady { H.steady shelf.old → H.steady shelf.new }
 {
-    let mut table = PathTable::new(alloc, keys, settings.max_paths);
-    let mut asides = Asides::new();
+    let mut taken = nothing_taken(alloc, keys, settings.max_paths);
     match read_dumps(
         alloc,
         shelf,
         settings.dumps.as_slice(),
         settings.sets,
-        &mut table,
-        &mut asides,
+        &mut taken,
     ) {
-        Ok(()) => match list_text(alloc, &table) {
+        Ok(()) => match list_text(alloc, &taken.table) {
             Ok(text) => Ok(text),
             Err(AllocError) => Err(Refusal::NoMemory),
         },

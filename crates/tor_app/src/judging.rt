@@ -12,10 +12,10 @@ ghost use Rattle.tor_app.specs.Unjudging.{IsRuling, IsRefusedBy, IsUnjudged, IsU
 
 use crate::answer::{Answer, Refusal, answer_to};
 use crate::notes::{read_fault_note, result_note};
-use crate::reading::{Stopped, read_dumps};
+use crate::reading::{Stopped, nothing_taken, read_dumps};
 use crate::result_file::{Unread, read_result};
 use crate::status::Status;
-use path_clean::{Asides, PathTable};
+use path_clean::MAX_PATHS;
 use rel_checker::{Answer as Verdict, check_against, check_file};
 use result_text::{ParseError, ResultFile, parse};
 use std::alloc::Global;
@@ -86,10 +86,9 @@ fn judged_by_dumps<H: Shelf>(
     if dumps.is_empty() {
         return Ok(Verdict::Yes);
     }
-    let mut table = PathTable::new(alloc, keys, 8_388_608);
-    let mut asides = Asides::new();
-    match read_dumps(alloc, shelf, dumps, file.sets, &mut table, &mut asides) {
-        Ok(()) => Ok(check_against(file, &table, &asides)),
+    let mut taken = nothing_taken(alloc, keys, MAX_PATHS);
+    match read_dumps(alloc, shelf, dumps, file.sets, &mut taken) {
+        Ok(()) => Ok(check_against(file, &taken.table, &taken.counts)),
         Err(stopped) => Err(stopped),
     }
 }

@@ -1,7 +1,6 @@
 use Rattle.std.proofs.Common.{◌≡◌, ◌<◌, length, rules, Ok, subst}
 use Rattle.std.specs.Prelude.{IfSome}
-use Rattle.dump_read.specs.Refusals.{taken_of}
-use Rattle.dump_read.specs.Taking.{Taken}
+use Rattle.dump_read.specs.declared.taking.Taken.{Taken}
 use Rattle.tor_app.specs.Judging.{seen_for}
 use Rattle.tor_app.specs.Seen.{nothing, seen_from}
 use Rattle.tor_app.proofs.Judgings.{some_dumps}
@@ -12,9 +11,8 @@ returns-in-Ok-clause-verdict g c =
     let known = g.H.Shelf.files c.args.shelf.now in
     let file = c.args.file.now in
     let dumps = c.args.dumps.now in
-    let taken : Taken = taken_of c.read_dumps.new.table c.read_dumps.new.asides in
+    let taken : Taken = c.read_dumps.new.taken in
     let some : 0 < length dumps = search rules in
-    let start : taken_of c.new-table.result c.new-asides.result ≡ nothing 8388608 = search rules in
     let seen : IfSome known (λ files. seen_for file dumps files ≡ Ok taken) =
-    subst (λ (t : Taken). IfSome known (λ files. seen_from file.sets 1 t dumps files ≡ Ok taken)) start c.in-Ok.ensures.read in
+    subst (λ (t : Taken). IfSome known (λ files. seen_from file.sets 1 t dumps files ≡ Ok taken)) c.nothing_taken-taken.ensures c.in-Ok.ensures.read in
     some_dumps known file dumps taken _ some seen c.check_against.ensures.verdict

@@ -1,7 +1,6 @@
 use Rattle.std.proofs.Common.{◌≡◌, ◌<◌, take, Ok}
 use Rattle.std.specs.Prelude.{IfSome}
 use Rattle.std.specs.Io.KnownBytes.{IsAtEnd}
-use Rattle.dump_read.specs.Refusals.{taken_of}
 use Rattle.tor_app.specs.Seen.{seen_from}
 use Rattle.tor_app.proofs.reading.read_dumps.Given as goal
 
@@ -11,7 +10,7 @@ invariant-loop-place g l =
     let shelf = g.H.Shelf in
     record {
       seen : IfSome (shelf.files l.fn.shelf) (λ files.
-          seen_from l.sets 1 (taken_of l.fn.table l.fn.asides) (take l.place l.dumps) files ≡ Ok (taken_of l.table l.asides));
+          seen_from l.sets 1 l.fn.taken (take l.place l.dumps) files ≡ Ok l.taken);
       read_out : 0 < l.place → IsAtEnd (shelf.left l.shelf);
       files : shelf.files l.shelf ≡ shelf.files l.fn.shelf;
       quiet : shelf.faults l.shelf ≡ shelf.faults l.fn.shelf;
