@@ -6,9 +6,9 @@ ghost use Rattle.tor_clauses.specs.Formulas.{FitsGraph};
 
 use crate::{Mark, Marks, Probe, forced};
 use as_graph::{AsGraph, Labels, build};
+use relationships::{End, Label};
 use std::alloc::Global;
 use std::test::Fail;
-use relationships::{End, Label};
 use tor_arena::{Index, Keys, List, PathId, Rows};
 use tor_clauses::Clauses;
 use tor_solve::{Verdict, solve};
@@ -274,7 +274,10 @@ fn solved_marks_of_two(alloc: Global, keys: Keys, graph: &AsGraph) -> Result<Mar
 #[test]
 fn three_edges_of_two_paths_are_forced(rt: HostRuntime) -> Result<(), Fail> {
     let graph = three_paths(rt.alloc(), Keys::new(&rt))?;
-    assert_eq!(rt; met(rt.alloc(), Keys::new(&rt), &graph, &OF_THREE_PATHS)?, 2);
+    assert_eq!(rt;
+        met(rt.alloc(), Keys::new(&rt), &graph, &OF_THREE_PATHS)?,
+        2
+    );
     Ok(())
 }
 

@@ -10,9 +10,9 @@ use crate::lit::Lit;
 use crate::triple::Triple;
 use crate::triple_table::TripleTable;
 use as_graph::{AsGraph, Orientation};
+use relationships::Link;
 use std::alloc::Global;
 use std::marker::Model;
-use relationships::Link;
 use tor_arena::{ArcId, Index, Keys, NoMemory, NodeId, PathId};
 use tor_digraph::{Digraph, GraphMark, GraphRefused};
 

@@ -3,9 +3,9 @@ ghost use Rattle.tor_clauses.specs.Formulas.{FitsGraph};
 
 use crate::{ClauseMark, Clauses, Lit, Triple};
 use as_graph::{AsGraph, Orientation, build};
+use relationships::{End, Link};
 use std::alloc::Global;
 use std::test::Fail;
-use relationships::{End, Link};
 use tor_arena::{ArcId, EdgeId, Index, Keys, PathId, Rows};
 
 fn one_path(alloc: Global, keys: Keys) -> Result<AsGraph, Fail>
@@ -141,7 +141,11 @@ fn state_of(clauses: &Clauses) -> Option<State> {
 }
 
 /// The states after a path and its reverse, and again after a third path and an undo.
-fn states(alloc: Global, keys: Keys, graph: &AsGraph) -> Result<(Option<State>, Option<State>), Fail>
+fn states(
+    alloc: Global,
+    keys: Keys,
+    graph: &AsGraph,
+) -> Result<(Option<State>, Option<State>), Fail>
     requires { 2 < length graph.now }
 {
     let mut clauses = with_path(alloc, keys, graph, path(0))?;

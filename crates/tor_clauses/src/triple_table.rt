@@ -4,9 +4,9 @@ ghost use Rattle.tor_clauses.specs.Tables.{HasNodes, IsSatisfied, IsAdded, key_o
 use crate::lit::Lit;
 use crate::triple::Triple;
 use indexmap::IndexSet;
+use relationships::End;
 use std::alloc::Global;
 use std::marker::Model;
-use relationships::End;
 use tor_arena::{Arena, Index, Keys, NoMemory, NodeId, TripleId};
 
 /// Triples in the order in which they were added, to be found by their literals.

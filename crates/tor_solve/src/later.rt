@@ -3,8 +3,8 @@ ghost use Rattle.tor_clauses.specs.Literals.{node_of, lit_of};
 ghost use Rattle.tor_solve.specs.Solving.{IsClash, IsLater, AreLater};
 
 use as_graph::Orientation;
-use std::alloc::Global;
 use relationships::End;
+use std::alloc::Global;
 use tor_arena::{EdgeId, Index, List, NoMemory, NodeId};
 use tor_clauses::Lit;
 use tor_components::Components;

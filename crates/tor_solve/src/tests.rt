@@ -3,9 +3,9 @@ ghost use Rattle.tor_clauses.specs.Formulas.{FitsGraph};
 
 use crate::{Verdict, solve};
 use as_graph::{AsGraph, build};
+use relationships::Walk;
 use std::alloc::Global;
 use std::test::Fail;
-use relationships::Walk;
 use tor_arena::{Index, Keys, PathId, Rows};
 use tor_clauses::Clauses;
 
@@ -86,7 +86,12 @@ fn answer(alloc: Global, graph: &AsGraph, clauses: &Clauses) -> Result<Outcome, 
 }
 
 /// The answer for the first paths of a graph, so many.
-fn answer_for_first(alloc: Global, keys: Keys, graph: &AsGraph, count: usize) -> Result<Outcome, Fail>
+fn answer_for_first(
+    alloc: Global,
+    keys: Keys,
+    graph: &AsGraph,
+    count: usize,
+) -> Result<Outcome, Fail>
     requires { count ≤ length graph.now }
 {
     let clauses = clauses_of(alloc, keys, graph, count)?;
