@@ -3,6 +3,7 @@ use path_clean::{Asides, Cause, PathTable, is_cleaned};
 use result_text::{ResultFile, parse};
 use std::collections::hash_map::RandomState;
 use std::process::Abort;
+use std::random::RandomSource;
 use std::test::Fail;
 
 /// The result over the paths 30 40 20 10 50 60, 10 20 30 40 and 50 60 10 20.
@@ -24,12 +25,16 @@ fn with_line(
 }
 
 /// What is answered to a file of a few lines.
-fn answer_to(rt: &(impl Abort + AllocGlobal), file: &ResultFile) -> Result<Answer, Fail> {
+fn answer_to(
+    rt: &(impl Abort + AllocGlobal + RandomSource),
+    file: &ResultFile,
+) -> Result<Answer, Fail> {
     assert!(rt; file.paths.len() < 100);
     assert!(rt; file.edges.len() < 100);
     assert!(rt; file.whys.len() < 100);
     assert!(rt; file.probes.len() < 100);
-    Ok(check_file(rt.alloc(), RandomState::new(rt)?, file)?)
+    let keys = RandomState::new(rt)?;
+    Ok(check_file(rt.alloc(), keys, file)?)
 }
 
 #[test]

@@ -2,6 +2,7 @@ use crate::walk_rules::{find_unrefuted, find_unshown};
 use result_text::{ResultFile, parse};
 use std::collections::hash_map::RandomState;
 use std::process::Abort;
+use std::random::RandomSource;
 use std::test::Fail;
 
 const HEAD: &str =
@@ -28,13 +29,14 @@ fn is_unrefuted_at(
 }
 
 fn is_unshown_at(
-    rt: &(impl Abort + AllocGlobal),
+    rt: &(impl Abort + AllocGlobal + RandomSource),
     whys: &str,
     place: Option<usize>,
 ) -> Result<(), Fail> {
+    let keys = RandomState::new(rt)?;
     let file = file_of(rt, PATHS, whys)?;
     assert_eq!(rt;
-        find_unshown(rt.alloc(), RandomState::new(rt)?, &file)?,
+        find_unshown(rt.alloc(), keys, &file)?,
         place
     );
     Ok(())
