@@ -7,20 +7,20 @@ ghost use Rattle.as_graph.specs.Inside.{with_edge, with_edges};
 use crate::edge_table::EdgeTable;
 use crate::graph::AsGraph;
 use crate::step::Step;
-use std::alloc::Global;
 use relationships::End;
-use tor_arena::{Index, List, NoMemory, PathId, RowRefused, Rows};
+use std::alloc::Global;
+use tor_arena::{Index, Keys, List, NoMemory, PathId, RowRefused, Rows};
 
 /// The graph of the paths. Each has to have at least two ASes, all distinct, and there may be at most 2^23 of them, with at most
-/// 2^26 numbers in sum. The only error is that memory ran out.
-pub fn build(alloc: Global, paths: &Rows<PathId, u32>) -> Result<AsGraph, NoMemory>
+/// 2^26 numbers in sum. Its tables are made with the keys. The only error is that memory ran out.
+pub fn build(alloc: Global, keys: Keys, paths: &Rows<PathId, u32>) -> Result<AsGraph, NoMemory>
     requires several { All (λ path. 2 ≤ length path) paths.now }
     requires apart { All AllDistinct paths.now }
     requires few { length paths.now ≤ 2 ^ 23 }
     requires short { sum_by length paths.now ≤ 2 ^ 26 }
     ensures { IfOk result (λ graph. graph ≡ paths.now) }
 {
-    let mut table = EdgeTable::new(alloc);
+    let mut table = EdgeTable::new(alloc, keys);
     let mut rows = Rows::new(alloc);
     let mut steps = List::new(alloc);
     for place in 0..paths.len() {

@@ -7,14 +7,14 @@ ghost use Rattle.as_graph.specs.Inside.{holds, with_edge, count_of, CountsOneMor
 use indexmap::{IndexMap, IndexSet};
 use std::alloc::Global;
 use std::marker::Model;
-use tor_arena::{EdgeId, Index, NoMemory};
+use tor_arena::{EdgeId, Index, Keys, NoMemory};
 
 /// Edges in order of first appearance, each once, with the degrees of their ends.
 #[derive(Drop)]
 pub(crate) struct EdgeTable {
-    pairs: IndexSet<(u32, u32)>,
+    pairs: IndexSet<(u32, u32), Keys>,
     // for each end of an edge, how many edges have it
-    counts: IndexMap<u32, u32>,
+    counts: IndexMap<u32, u32, Keys>,
 }
 
 impl Model for EdgeTable {
@@ -30,13 +30,13 @@ impl Model for EdgeTable {
 }
 
 impl EdgeTable {
-    /// No edges. It takes no memory.
-    pub fn new(alloc: Global) -> EdgeTable
+    /// No edges, in tables with these keys. It takes no memory.
+    pub fn new(alloc: Global, keys: Keys) -> EdgeTable
         ensures { result ≡ [] }
     {
         EdgeTable {
-            pairs: IndexSet::new(alloc),
-            counts: IndexMap::new(alloc),
+            pairs: IndexSet::with_hasher(alloc, keys),
+            counts: IndexMap::with_hasher(alloc, keys),
         }
     }
 
@@ -91,7 +91,7 @@ impl EdgeTable {
 }
 
 /// Counts one more edge with this end, for which there is room.
-fn count_end(counts: &mut IndexMap<u32, u32>, end: u32)
+fn count_end(counts: &mut IndexMap<u32, u32, Keys>, end: u32)
     requires room { 0 < spare counts.old }
     requires few { count_of counts.old.entries end ≤ 2 ^ 26 }
     ensures counted { CountsOneMore counts.old.entries end counts.new.entries }

@@ -1,8 +1,8 @@
 ghost use Rattle.std.specs.Prelude.{◌≡◌, ◌<◌, length, slice_set, IfOk};
 
+use relationships::{End, Label};
 use std::alloc::Global;
 use std::marker::Model;
-use relationships::{End, Label};
 use tor_arena::{EdgeId, Index, NoMemory};
 
 /// A provider for each edge, in the order of the edges.

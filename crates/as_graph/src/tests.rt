@@ -1,10 +1,10 @@
 ghost use Rattle.std.specs.Prelude.{◌≡◌, ◌<◌, ◌∷◌, [], IfOk};
 
 use crate::{AsGraph, Edge, Labels, Orientation, Step, build};
+use relationships::{End, Label};
 use std::alloc::Global;
 use std::test::Fail;
-use relationships::{End, Label};
-use tor_arena::{EdgeId, Index, PathId, RowRefused, Rows};
+use tor_arena::{EdgeId, Index, Keys, PathId, RowRefused, Rows};
 
 /// The edges along the three paths, in order.
 static EDGES: [(u32, u32); 7] = [
@@ -38,11 +38,11 @@ fn three_paths(alloc: Global) -> Result<Rows<PathId, u32>, RowRefused>
     Ok(rows)
 }
 
-fn three_path_graph(alloc: Global) -> Result<AsGraph, Fail>
+fn three_path_graph(alloc: Global, keys: Keys) -> Result<AsGraph, Fail>
     ensures { IfOk result (λ graph. graph ≡ (30 ∷ 40 ∷ 20 ∷ 10 ∷ 50 ∷ 60 ∷ []) ∷ (10 ∷ 20 ∷ 30 ∷ 40 ∷ []) ∷ (50 ∷ 60 ∷ 10 ∷ 20 ∷ []) ∷ []) }
 {
     let rows = three_paths(alloc)?;
-    Ok(build(alloc, &rows)?)
+    Ok(build(alloc, keys, &rows)?)
 }
 
 fn path(place: usize) -> PathId
@@ -61,7 +61,7 @@ fn edge(place: usize) -> EdgeId
 
 #[test]
 fn edges_and_degrees(rt: HostRuntime) -> Result<(), Fail> {
-    let graph = three_path_graph(rt.alloc())?;
+    let graph = three_path_graph(rt.alloc(), Keys::new(&rt))?;
     assert_eq!(rt; graph.edge_count(), 7);
     for place in 0..7 {
         let (low, high) = EDGES[place];
@@ -87,7 +87,7 @@ fn step(place: usize, left: End) -> Step
 
 #[test]
 fn steps_and_support(rt: HostRuntime) -> Result<(), Fail> {
-    let graph = three_path_graph(rt.alloc())?;
+    let graph = three_path_graph(rt.alloc(), Keys::new(&rt))?;
     let steps = [
         step(0, End::Low),
         step(1, End::High),
@@ -101,17 +101,17 @@ fn steps_and_support(rt: HostRuntime) -> Result<(), Fail> {
     Ok(())
 }
 
-fn short_path_graph(alloc: Global) -> Result<AsGraph, Fail>
+fn short_path_graph(alloc: Global, keys: Keys) -> Result<AsGraph, Fail>
     ensures { IfOk result (λ graph. graph ≡ (10 ∷ 20 ∷ 30 ∷ []) ∷ []) }
 {
     let mut rows = Rows::new(alloc);
     rows.push_row(&[10, 20, 30])?;
-    Ok(build(alloc, &rows)?)
+    Ok(build(alloc, keys, &rows)?)
 }
 
 #[test]
 fn at_most_one_flat_step(rt: HostRuntime) -> Result<(), Fail> {
-    let graph = short_path_graph(rt.alloc())?;
+    let graph = short_path_graph(rt.alloc(), Keys::new(&rt))?;
     let mut labels = Labels::from_labels(rt.alloc(), &[Label::Peer, Label::Peer])?;
     assert!(rt; !graph.valley_free(&labels, path(0)));
     labels.set(edge(0), Label::High);

@@ -5,6 +5,8 @@ pub mod Edges
 pub mod Forcing
 pub mod Neighbours
 pub mod Places
+pub mod PreferredRow
+pub mod Preferring
 pub mod Ranks
 pub mod Selecting
 pub mod Serving

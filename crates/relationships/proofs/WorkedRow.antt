@@ -19,22 +19,22 @@ use Rattle.relationships.proofs.Deciding.{no_valley_iff, EachTriple, goes_on, Cl
 use Rattle.std.proofs.lemmas.Bool.{false≢true, both_ways, cases_Bool}
 use Rattle.std.specs.List.{list_any}
 
-abbrev first : List ℕ
+abbrev pub first : List ℕ
 first = 30 ∷ 40 ∷ 20 ∷ 10 ∷ 50 ∷ 60 ∷ []
 
-abbrev second : List ℕ
+abbrev pub second : List ℕ
 second = 10 ∷ 20 ∷ 30 ∷ 40 ∷ []
 
 abbrev third : List ℕ
 third = 50 ∷ 60 ∷ 10 ∷ 20 ∷ []
 
-abbrev kept : List (List ℕ)
+abbrev pub kept : List (List ℕ)
 kept = first ∷ second ∷ []
 
-abbrev all : List (List ℕ)
+abbrev pub all : List (List ℕ)
 all = first ∷ second ∷ third ∷ []
 
-abbrev its_edges : List Edge
+abbrev pub its_edges : List Edge
 its_edges = (30, 40) ∷ (20, 40) ∷ (10, 20) ∷ (10, 50) ∷ (50, 60) ∷ (20, 30) ∷ (10, 60) ∷ []
 
 edges_found : edges all ≡ its_edges
@@ -47,10 +47,10 @@ supports : map (support kept) its_edges ≡ 2 ∷ 1 ∷ 2 ∷ 1 ∷ 1 ∷ 1 ∷ 
 supports = refl
 
 -- the providers of one orientation that serves the kept paths, and the labels
-abbrev providers : Orientation
+abbrev pub providers : Orientation
 providers = orientation its_edges (End.High ∷ End.Low ∷ End.High ∷ End.Low ∷ End.Low ∷ End.High ∷ End.Low ∷ [])
 
-abbrev labels : Labelling
+abbrev pub labels : Labelling
 labels = labelling its_edges (Label.High ∷ Label.Peer ∷ Label.High ∷ Label.Low ∷ Label.Low ∷ Label.High ∷ Label.Low ∷ [])
 
 first_slopes : slopes labels first ≡ Up ∷ Flat ∷ Down ∷ Down ∷ Down ∷ []
@@ -69,7 +69,7 @@ second_valley_free : ValleyFree labels second
 unfolding slope is_over
 second_valley_free = (3, 0, inl refl)
 
-served : Serves providers kept
+pub served : Serves providers kept
 unfolding slope is_over
 served = All-from_recursion (ValleyFree (labels_of providers)) kept ((2, 3, inl refl), ((3, 0, inl refl), tt))
 

@@ -1,5 +1,5 @@
 -- The laws of the definitions, each proved as the contract of a function in src/laws.rt.
-use Rattle.std.specs.Prelude.{◌≡◌, ◌≢◌, ◌↔◌, ℕ, ◌<◌, ◌≤◌, Bool, List, [], ◌∷◌, ◌++◌, map, Option, is_none, All, Contains, IsTrue, if◌then◌else◌, nat_lt}
+use Rattle.std.specs.Prelude.{◌≡◌, ◌≢◌, ◌↔◌, ℕ, ◌<◌, ◌≤◌, Bool, List, [], ◌∷◌, ◌++◌, map, min, max, ◌*◌, Option, is_none, All, Contains, IsTrue, if◌then◌else◌, nat_lt}
 use Rattle.std.specs.List.{AllPairs}
 use Rattle.relationships.specs.declared.label.End.{End}
 use Rattle.relationships.specs.declared.label.Label.{Label}
@@ -7,7 +7,8 @@ use Rattle.tor_arena.specs.Distinct.{AllDistinct}
 use Rattle.relationships.specs.Relationship.{Orientation, Labelling, labels_of, is_over, ValleyFree, Serves}
 use Rattle.relationships.specs.declared.walk.Walk.{Walk}
 use Rattle.relationships.specs.declared.walk.Link.{Link}
-use Rattle.relationships.specs.Graph.{Edge, edge_of, edges, SameOn}
+use Rattle.relationships.specs.Graph.{Edge, edge_of, edges, support, SameOn}
+use Rattle.relationships.specs.Preference.{IsPreferred, IsRelabelled, with_peer}
 use Rattle.relationships.specs.Evidence.{IsTriple, HasPair, Numbered, paths_of, IsLinked, Refutes, Show, Closure, IsConsistent}
 use Rattle.relationships.specs.Selection.{IsServable, Keeps, IsForced}
 use Rattle.std.specs.List.{items_where_true}
@@ -177,3 +178,26 @@ GraphRulesLaw =
     Keeps paths (map is_none walks) ×
     ((c : Claim) → Contains claims c → IsTrue c.forced ↔ IsForced (paths_of (kept_of paths walks)) c.low c.high) ×
     ((c : Claim) → Contains claims c → IsTrue c.forced → c.label ≢ Label.Peer)
+
+-- ---- preference
+
+-- where some orientation serves, the preferred one does
+abbrev pub PreferenceLaw : Type 0
+PreferenceLaw =
+    (kept : List (List ℕ)) (wanted : Edge → End) (order : List Edge) (O : Orientation) → IsServable kept → IsPreferred kept wanted order O →
+    ((e : Edge) → Contains (edges kept) e → Contains order e) → Serves O kept
+
+-- the peerings leave each kept path valley-free
+abbrev pub RelabellingLaw : Type 0
+RelabellingLaw =
+    (degree : ℕ → ℕ) (ratio : ℕ) (kept : List (List ℕ)) (es : List Edge) (O : Orientation) (last : Labelling) → Serves O kept →
+    IsRelabelled degree ratio kept es (labels_of O) last → ((e : Edge) → Contains (edges kept) e → Contains es e) → All (ValleyFree last) kept
+
+-- no further edge of a kept path, with ends alike in degree, could become a peering
+abbrev pub MaximalLaw : Type 0
+MaximalLaw =
+    (degree : ℕ → ℕ) (ratio : ℕ) (kept : List (List ℕ)) (es : List Edge) (O : Orientation) (last : Labelling) →
+    IsRelabelled degree ratio kept es (labels_of O) last → ((e : Edge) → Contains (edges kept) e → Contains es e) →
+    (e : Edge) → Contains es e → last e.0 e.1 ≢ Label.Peer → 0 < support kept e →
+    max (degree e.0) (degree e.1) ≤ ratio * min (degree e.0) (degree e.1) →
+    All (ValleyFree (with_peer last e)) kept → ⊥

@@ -4,5 +4,6 @@ pub mod Fates
 pub mod Graph
 pub mod Laws
 pub mod Marking
+pub mod Preference
 pub mod Relationship
 pub mod Selection

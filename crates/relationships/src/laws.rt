@@ -1,6 +1,6 @@
 //! The laws of the definitions in `specs/`. Each is the contract of a function.
 
-ghost use Rattle.relationships.specs.Laws.{EdgeLaw, EdgeOrderLaw, ServingLaw, RelaxingLaw, PeeringLaw, ReadingLaw, RefutingLaw, ShowingLaw, ClosureLaw, AllowedLaw, ConsistencyLaw, ImpliedLaw, LooseLaw, UnheldLaw, RankLaw, CycleLaw, KeepingLaw, MarkingLaw, ForcedLaw, SelectionLaw, KeptLaw, AllKeptLaw, GraphRulesLaw};
+ghost use Rattle.relationships.specs.Laws.{EdgeLaw, EdgeOrderLaw, ServingLaw, RelaxingLaw, PeeringLaw, ReadingLaw, RefutingLaw, ShowingLaw, ClosureLaw, AllowedLaw, ConsistencyLaw, ImpliedLaw, LooseLaw, UnheldLaw, RankLaw, CycleLaw, KeepingLaw, MarkingLaw, ForcedLaw, SelectionLaw, KeptLaw, AllKeptLaw, GraphRulesLaw, PreferenceLaw, RelabellingLaw, MaximalLaw};
 
 /// Each edge stands once among the edges of paths, which are the pairs of neighbours on them.
 pub fn edge_law()
@@ -121,4 +121,19 @@ pub fn all_kept_law()
 /// What meets the rules on the graph is valid.
 pub fn graph_rules_law()
     ensures { GraphRulesLaw }
+{}
+
+/// Where some orientation serves, the preferred one does.
+pub fn preference_law()
+    ensures { PreferenceLaw }
+{}
+
+/// The peerings leave each kept path valley-free.
+pub fn relabelling_law()
+    ensures { RelabellingLaw }
+{}
+
+/// No further edge of a kept path, with ends alike in degree, could become a peering.
+pub fn maximal_law()
+    ensures { MaximalLaw }
 {}

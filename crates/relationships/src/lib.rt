@@ -13,8 +13,8 @@ pub use label::{End, Label};
 pub use laws::{
     all_kept_law, allowed_law, closure_law, consistency_law, cycle_law, edge_law, edge_order_law,
     forced_law, graph_rules_law, implied_law, keeping_law, kept_law, loose_law, marking_law,
-    peering_law, rank_law, reading_law, refuting_law, relaxing_law, selection_law, serving_law,
-    showing_law, unheld_law,
+    maximal_law, peering_law, preference_law, rank_law, reading_law, refuting_law, relabelling_law,
+    relaxing_law, selection_law, serving_law, showing_law, unheld_law,
 };
 pub use mark::{Mark, Probe};
 pub use walk::{Link, Walk};

@@ -10,7 +10,7 @@ use Rattle.tor_words.specs.CheckGiven.{check_settings_given}
 use Rattle.tor_app.specs.declared.status.Status.{Status}
 use Rattle.tor_app.specs.declared.status.Status.TheVariants as status
 use Rattle.tor_app.specs.Judging.{Outcome, Judged, NoResult, TooLong, Ends, Gives}
-use Rattle.tor_app.specs.CheckAnswer.{LeadsTo, LeadsToMalformed, LeadsToLimit, LeadsToAbsent, FailedAtResult, FailedAtDump, IsCheckNote, GainsVerdict, GainsNo, GainsSome, status_of}
+use Rattle.tor_app.specs.CheckAnswer.{LeadsTo, LeadsToMalformed, LeadsToLimit, LeadsToAbsent, FailedAtResult, FailedAtDump, IsCheckNote, GainsVerdict, GainsNo, GainsVerdictPrefix, status_of}
 use Rattle.tor_app.proofs.Comings.{OneValue, status_for, one_status}
 
 -- why a status came
@@ -50,7 +50,7 @@ note_absent words known steady s text note held is = by (subst (λ (t : Status).
     by why = or_dump why.0 why.2
 
 pub cause_of : (words : List (List ℕ)) (known : Option Files) (steady : Type 0) (s : Status) (text : List ℕ) (old new : Option (List ℕ)) (rb rn wb wn : ℕ)
-    → (s ≡ status.Done → GainsVerdict words known Yes old new) → (s ≡ status.No → GainsNo words known old new) → (s ≡ status.WriteFault → GainsSome words known old new)
+    → (s ≡ status.Done → GainsVerdict words known Yes old new) → (s ≡ status.No → GainsNo words known old new) → (s ≡ status.WriteFault → GainsVerdictPrefix words known old new)
     → (s ≡ status.Usage → IsNone (check_settings_given words)) → IsCheckNote words known steady s text → (s ≡ status.ReadFault → Rose rb rn) → (s ≡ status.WriteFault → Rose wb wn)
     → Cause words known steady s rb rn wb wn
 cause_of words known steady s text old new rb rn wb wn done refused cut_off usage note read_fault write_fault = record {

@@ -26,8 +26,8 @@ abbrev pub GainsListing : Option (Result Taken End) → Option (List ℕ) → Op
 GainsListing given old new = (text : List ℕ) × Lists given text × (new ≡ append_known old text)
 
 -- a sink gained a prefix of that text
-abbrev pub GainsPrefix : Option (Result Taken End) → Option (List ℕ) → Option (List ℕ) → Type 0
-GainsPrefix given old new = (text : List ℕ) × Lists given text × GainsPrefix old new text
+abbrev pub GainsListingPrefix : Option (Result Taken End) → Option (List ℕ) → Option (List ℕ) → Type 0
+GainsListingPrefix given old new = (text : List ℕ) × Lists given text × GainsPrefix old new text
 
 -- what the words and the files give, where these are known, is this end
 abbrev pub IsEnd : List (List ℕ) → Option Files → End → Type 0

@@ -46,8 +46,8 @@ abbrev pub GainsNo : List (List ℕ) → Option Files → Option (List ℕ) → 
 GainsNo words known old new = (line : ℕ) × (rule : ℕ) × GainsVerdict words known (verdict.No line rule) old new
 
 -- a prefix of the text of the verdict
-abbrev pub GainsSome : List (List ℕ) → Option Files → Option (List ℕ) → Option (List ℕ) → Type 0
-GainsSome words known old new = (answer : Verdict) × LeadsTo words known (Judged answer) × GainsPrefix old new (verdict_text answer)
+abbrev pub GainsVerdictPrefix : List (List ℕ) → Option Files → Option (List ℕ) → Option (List ℕ) → Type 0
+GainsVerdictPrefix words known old new = (answer : Verdict) × LeadsTo words known (Judged answer) × GainsPrefix old new (verdict_text answer)
 
 -- ---- statuses
 

@@ -13,7 +13,7 @@ use crate::status::Status;
 use dump_read::DumpError;
 use path_clean::{Asides, PathTable};
 use std::alloc::{AllocError, Global};
-use tor_arena::List;
+use tor_arena::{Keys, List};
 use tor_io::Shelf;
 use tor_words::{Name, Settings, WordsRefused, settings_of};
 
@@ -114,6 +114,7 @@ pub(crate) fn answer_to(alloc: Global, refusal: Refusal) -> Answer
 // The list text of the dumps that the settings name. All memory is taken here.
 fn dumps_text<H: Shelf>(
     alloc: Global,
+    keys: Keys,
     settings: &Settings,
     shelf: &mut H,
 ) -> Result<String, Refusal>
@@ -130,7 +131,7 @@ fn dumps_text<H: Shelf>(
     ensures quiet_stop { IfErr result (λ r. (IsReadFault r → ⊥) → H.faults shelf.new ≡ H.faults shelf.old) }
     ensures steady { H.steady shelf.old → H.steady shelf.new }
 {
-    let mut table = PathTable::new(alloc, settings.max_paths);
+    let mut table = PathTable::new(alloc, keys, settings.max_paths);
     let mut asides = Asides::new();
     match read_dumps(
         alloc,
@@ -151,6 +152,7 @@ fn dumps_text<H: Shelf>(
 /// The text that the words ask for. All memory is taken here.
 pub(crate) fn text_of<H: Shelf>(
     alloc: Global,
+    keys: Keys,
     words: &List<Name>,
     shelf: &mut H,
 ) -> Result<String, Refusal>
@@ -169,7 +171,7 @@ pub(crate) fn text_of<H: Shelf>(
     ensures steady { H.steady shelf.old → H.steady shelf.new }
 {
     match settings_of(alloc, words) {
-        Ok(settings) => dumps_text(alloc, &settings, shelf),
+        Ok(settings) => dumps_text(alloc, keys, &settings, shelf),
         Err(refused) => Err(Refusal::Words(refused)),
     }
 }

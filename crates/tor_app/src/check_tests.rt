@@ -3,7 +3,7 @@ use crate::checking::check;
 use crate::tests::{DUMP, FIRST, NEVER, ONE_EDGE, ROUTE, SECOND, THREE_PATHS, words_of};
 use std::alloc::Global;
 use std::process::Abort;
-use tor_arena::NoMemory;
+use tor_arena::{Keys, NoMemory};
 use tor_io::{MemShelf, MemSink, Shelf};
 
 // The result of three paths.
@@ -109,6 +109,7 @@ fn shelf_of(alloc: Global, case: &Case<'_, '_>) -> Result<MemShelf, NoMemory> {
 fn run_over(
     rt: &impl Abort,
     alloc: Global,
+    keys: Keys,
     case: &Case<'_, '_>,
     shelf: &mut MemShelf,
 ) -> Result<(), NoMemory> {
@@ -116,7 +117,7 @@ fn run_over(
     let mut out = MemSink::new(alloc, 100, case.most.max(1))?;
     out.fail_at(case.failing_write)?;
     let mut err = MemSink::new(alloc, 2000, 2000)?;
-    let status = check(alloc, &words, shelf, &mut out, &mut err);
+    let status = check(alloc, keys, &words, shelf, &mut out, &mut err);
     let text = case.out;
     assert_eq!(rt; status, case.status, "where {text} is expected");
     assert_eq!(rt; out.held(), text.as_bytes(), "where {text} is expected");
@@ -128,19 +129,20 @@ fn run_over(
     Ok(())
 }
 
-fn run(rt: &impl Abort, alloc: Global, case: &Case<'_, '_>) -> Result<(), NoMemory> {
+fn run(rt: &impl Abort, alloc: Global, keys: Keys, case: &Case<'_, '_>) -> Result<(), NoMemory> {
     let mut shelf = shelf_of(alloc, case)?;
-    run_over(rt, alloc, case, &mut shelf)
+    run_over(rt, alloc, keys, case, &mut shelf)
 }
 
 // Only the calls before the failing one were made: the open behind the run, of a file that is there, is that one.
 fn run_up_to_failing_call(
     rt: &impl Abort,
     alloc: Global,
+    keys: Keys,
     case: &Case<'_, '_>,
 ) -> Result<(), NoMemory> {
     let mut shelf = shelf_of(alloc, case)?;
-    run_over(rt, alloc, case, &mut shelf)?;
+    run_over(rt, alloc, keys, case, &mut shelf)?;
     assert!(rt; shelf.open_file("d").is_err());
     assert!(rt; shelf.open_file("d").is_ok());
     Ok(())
@@ -166,7 +168,7 @@ fn knows_verdicts(rt: HostRuntime) {
         judged(26, "end|2|1|7|3|2", Status::No, "no|26|10\n"),
     ];
     for case in &cases {
-        assert!(rt; run(&rt, rt.alloc(), case).is_ok());
+        assert!(rt; run(&rt, rt.alloc(), Keys::new(&rt), case).is_ok());
     }
 }
 
@@ -189,9 +191,9 @@ fn asks_dumps(rt: HostRuntime) {
         err: "malformed|1|2|43|head-cut\n",
         ..judged(0, "", Status::Malformed, "")
     };
-    assert!(rt; run(&rt, rt.alloc(), &agrees).is_ok());
-    assert!(rt; run(&rt, rt.alloc(), &departs).is_ok());
-    assert!(rt; run(&rt, rt.alloc(), &broken).is_ok());
+    assert!(rt; run(&rt, rt.alloc(), Keys::new(&rt), &agrees).is_ok());
+    assert!(rt; run(&rt, rt.alloc(), Keys::new(&rt), &departs).is_ok());
+    assert!(rt; run(&rt, rt.alloc(), Keys::new(&rt), &broken).is_ok());
 }
 
 // A rule of 1 to 10 is broken. The result file takes three calls, an open and two reads.
@@ -204,7 +206,7 @@ fn asks_no_dump_at_no(rt: HostRuntime) {
             failing_call: 4,
             ..judged(13, OTHER_LINK, Status::No, "no|13|4\n")
         };
-        assert!(rt; run_up_to_failing_call(&rt, rt.alloc(), &case).is_ok());
+        assert!(rt; run_up_to_failing_call(&rt, rt.alloc(), Keys::new(&rt), &case).is_ok());
     }
 }
 
@@ -237,7 +239,7 @@ fn knows_why_there_is_none(rt: HostRuntime) {
         ..judged(0, "", Status::WriteFault, "yes")
     };
     for case in &[wordless, absent, unread, absent_dump, cut_short] {
-        assert!(rt; run(&rt, rt.alloc(), case).is_ok());
+        assert!(rt; run(&rt, rt.alloc(), Keys::new(&rt), case).is_ok());
     }
 }
 
@@ -257,6 +259,6 @@ fn knows_failed_dumps(rt: HostRuntime) {
         err: "read-fault|2\n",
         ..judged(0, "", Status::ReadFault, "")
     };
-    assert!(rt; run(&rt, rt.alloc(), &unread).is_ok());
-    assert!(rt; run(&rt, rt.alloc(), &absent_second).is_ok());
+    assert!(rt; run(&rt, rt.alloc(), Keys::new(&rt), &unread).is_ok());
+    assert!(rt; run(&rt, rt.alloc(), Keys::new(&rt), &absent_second).is_ok());
 }

@@ -11,7 +11,7 @@ ghost use Rattle.tor_app.specs.Notes.{plain_note};
 ghost use Rattle.tor_app.specs.Answer.{IsNoted};
 ghost use Rattle.tor_app.specs.Refusals.{note_in};
 ghost use Rattle.tor_app.specs.Judging.{NoResult, TooLong, Ends, Gives, IsVouched, CanBeJudged};
-ghost use Rattle.tor_app.specs.CheckAnswer.{GainsVerdict, GainsNo, GainsSome, LeadsToMalformed, LeadsToLimit, LeadsToAbsent, IsCheckNote, verdict_text, status_of};
+ghost use Rattle.tor_app.specs.CheckAnswer.{GainsVerdict, GainsNo, GainsVerdictPrefix, LeadsToMalformed, LeadsToLimit, LeadsToAbsent, IsCheckNote, verdict_text, status_of};
 
 use crate::answer::Answer;
 use crate::judging::{answer_to_unjudged, verdict_of};
@@ -20,12 +20,12 @@ use crate::verdicts::{status_of, verdict_text};
 use rel_checker::{Answer as Verdict, acceptance_law};
 use result_text::one_value;
 use std::alloc::Global;
-use tor_arena::List;
+use tor_arena::{Keys, List};
 use tor_io::{Failed, Shelf, Sink, write_all};
 use tor_words::Name;
 
 /// Writes the verdict. All memory is taken before.
-fn tell<O: Sink>(alloc: Global, verdict: Verdict, out: &mut O) -> Answer
+fn write_verdict<O: Sink>(alloc: Global, verdict: Verdict, out: &mut O) -> Answer
     ensures status { (result.status ≡ status_of verdict) ⊎ ((result.status ≡ Status.WriteFault) ⊎ (result.status ≡ Status.NoMemory)) }
     ensures known { result.status ≡ status_of verdict → O.held out.new ≡ append_known (O.held out.old) (verdict_text verdict) }
     ensures cut_off { result.status ≡ Status.WriteFault → GainsPrefix (O.held out.old) (O.held out.new) (verdict_text verdict) }
@@ -48,6 +48,7 @@ fn tell<O: Sink>(alloc: Global, verdict: Verdict, out: &mut O) -> Answer
 /// The run without its note: what it answers doesn't depend on where the note goes.
 fn answer<H: Shelf, O: Sink>(
     alloc: Global,
+    keys: Keys,
     words: &List<Name>,
     shelf: &mut H,
     out: &mut O,
@@ -57,7 +58,7 @@ fn answer<H: Shelf, O: Sink>(
         GainsVerdict words.now (H.files shelf.old) Verdict.Yes (O.held out.old) (O.held out.new) }
     ensures no { result.status ≡ Status.No → GainsNo words.now (H.files shelf.old) (O.held out.old) (O.held out.new) }
     ensures cut_off { result.status ≡ Status.WriteFault →
-        GainsSome words.now (H.files shelf.old) (O.held out.old) (O.held out.new) }
+        GainsVerdictPrefix words.now (H.files shelf.old) (O.held out.old) (O.held out.new) }
     ensures nothing { result.status ≢ Status.Done → result.status ≢ Status.No → result.status ≢ Status.WriteFault →
         out.new ≡ out.old }
 
@@ -80,8 +81,8 @@ fn answer<H: Shelf, O: Sink>(
         H.faults shelf.new ≡ H.faults shelf.old }
     ensures no_lost_write { result.status ≢ Status.WriteFault → O.faults out.new ≡ O.faults out.old }
 {
-    match verdict_of(alloc, words, shelf) {
-        Ok(verdict) => tell(alloc, verdict, out),
+    match verdict_of(alloc, keys, words, shelf) {
+        Ok(verdict) => write_verdict(alloc, verdict, out),
         Err(unjudged) => answer_to_unjudged(alloc, unjudged),
     }
 }
@@ -93,6 +94,7 @@ fn answer<H: Shelf, O: Sink>(
 /// NoMemory: memory ran out, before anything went to out. `docs/PROMISES.md` has each promise by name.
 pub fn check<H: Shelf, O: Sink, E: Sink>(
     alloc: Global,
+    keys: Keys,
     words: &List<Name>,
     shelf: &mut H,
     out: &mut O,
@@ -103,7 +105,7 @@ pub fn check<H: Shelf, O: Sink, E: Sink>(
         GainsVerdict words.now (H.files shelf.old) Verdict.Yes (O.held out.old) (O.held out.new) }
     ensures no { result ≡ Status.No → GainsNo words.now (H.files shelf.old) (O.held out.old) (O.held out.new) }
     ensures cut_off { result ≡ Status.WriteFault →
-        GainsSome words.now (H.files shelf.old) (O.held out.old) (O.held out.new) }
+        GainsVerdictPrefix words.now (H.files shelf.old) (O.held out.old) (O.held out.new) }
     ensures nothing { result ≢ Status.Done → result ≢ Status.No → result ≢ Status.WriteFault → out.new ≡ out.old }
 
     // What a yes has shown.
@@ -161,7 +163,7 @@ pub fn check<H: Shelf, O: Sink, E: Sink>(
     // Two laws that the promises rest on: a text has one value, and what meets all rules is valid.
     one_value();
     acceptance_law();
-    let answer = answer(alloc, words, shelf, out);
+    let answer = answer(alloc, keys, words, shelf, out);
     let _ = write_all(err, answer.note());
     answer.status
 }

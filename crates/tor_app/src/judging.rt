@@ -19,7 +19,7 @@ use path_clean::{Asides, PathTable};
 use rel_checker::{Answer as Verdict, check_against, check_file};
 use result_text::{ParseError, ResultFile, parse};
 use std::alloc::Global;
-use tor_arena::{List, NoMemory};
+use tor_arena::{Keys, List, NoMemory};
 use tor_io::Shelf;
 use tor_words::{CheckSettings, Name, check_settings_of};
 
@@ -42,7 +42,7 @@ pub(crate) enum Ruling {
 }
 
 /// What the rules 0 to 10 say of the bytes.
-fn ruling_on(alloc: Global, bytes: &[u8]) -> Result<Ruling, NoMemory>
+fn ruling_on(alloc: Global, keys: Keys, bytes: &[u8]) -> Result<Ruling, NoMemory>
     requires short { length bytes.now ≤ 2 ^ 31 }
     ensures { IfOk result (IsRuling bytes.now) }
 {
@@ -51,7 +51,7 @@ fn ruling_on(alloc: Global, bytes: &[u8]) -> Result<Ruling, NoMemory>
         Err(ParseError::BadLine(line)) => return Ok(Ruling::Broken { line, rule: 0 }),
         Err(ParseError::NoMemory) => return Err(NoMemory),
     };
-    match check_file(alloc, &file)? {
+    match check_file(alloc, keys, &file)? {
         Verdict::Yes => Ok(Ruling::Met(file)),
         Verdict::No { line, rule } => Ok(Ruling::Broken { line, rule }),
     }
@@ -60,6 +60,7 @@ fn ruling_on(alloc: Global, bytes: &[u8]) -> Result<Ruling, NoMemory>
 /// The verdict of the dumps on a result that meets the rules before: yes where none is named.
 fn judged_by_dumps<H: Shelf>(
     alloc: Global,
+    keys: Keys,
     shelf: &mut H,
     file: &ResultFile,
     dumps: &[Name],
@@ -85,7 +86,7 @@ fn judged_by_dumps<H: Shelf>(
     if dumps.is_empty() {
         return Ok(Verdict::Yes);
     }
-    let mut table = PathTable::new(alloc, 8_388_608);
+    let mut table = PathTable::new(alloc, keys, 8_388_608);
     let mut asides = Asides::new();
     match read_dumps(alloc, shelf, dumps, file.sets, &mut table, &mut asides) {
         Ok(()) => Ok(check_against(file, &table, &asides)),
@@ -96,6 +97,7 @@ fn judged_by_dumps<H: Shelf>(
 /// The verdict on the bytes of the result file.
 fn judge<H: Shelf>(
     alloc: Global,
+    keys: Keys,
     shelf: &mut H,
     bytes: &[u8],
     dumps: &[Name],
@@ -112,9 +114,9 @@ fn judge<H: Shelf>(
     ensures quiet_stop { IfErr result (λ r. (IsReadFault r → ⊥) → H.faults shelf.new ≡ H.faults shelf.old) }
     ensures steady { H.steady shelf.old → H.steady shelf.new }
 {
-    match ruling_on(alloc, bytes) {
+    match ruling_on(alloc, keys, bytes) {
         Ok(Ruling::Broken { line, rule }) => Ok(Verdict::No { line, rule }),
-        Ok(Ruling::Met(file)) => match judged_by_dumps(alloc, shelf, &file, dumps) {
+        Ok(Ruling::Met(file)) => match judged_by_dumps(alloc, keys, shelf, &file, dumps) {
             Ok(verdict) => Ok(verdict),
             Err(stopped) => Err(Refusal::Dumps(stopped)),
         },
@@ -125,6 +127,7 @@ fn judge<H: Shelf>(
 /// The verdict on the result file that the settings name.
 fn judge_file<H: Shelf>(
     alloc: Global,
+    keys: Keys,
     settings: &CheckSettings,
     shelf: &mut H,
 ) -> Result<Verdict, Unjudged>
@@ -141,7 +144,13 @@ fn judge_file<H: Shelf>(
     ensures steady { H.steady shelf.old → H.steady shelf.new }
 {
     match read_result(alloc, shelf, settings.result.as_text()) {
-        Ok(bytes) => match judge(alloc, shelf, bytes.as_slice(), settings.dumps.as_slice()) {
+        Ok(bytes) => match judge(
+            alloc,
+            keys,
+            shelf,
+            bytes.as_slice(),
+            settings.dumps.as_slice(),
+        ) {
             Ok(verdict) => Ok(verdict),
             Err(refusal) => Err(Unjudged::Refused(refusal)),
         },
@@ -152,6 +161,7 @@ fn judge_file<H: Shelf>(
 /// The verdict on the result file that the words name.
 pub(crate) fn verdict_of<H: Shelf>(
     alloc: Global,
+    keys: Keys,
     words: &List<Name>,
     shelf: &mut H,
 ) -> Result<Verdict, Unjudged>
@@ -170,7 +180,7 @@ pub(crate) fn verdict_of<H: Shelf>(
     ensures steady { H.steady shelf.old → H.steady shelf.new }
 {
     match check_settings_of(alloc, words) {
-        Ok(settings) => judge_file(alloc, &settings, shelf),
+        Ok(settings) => judge_file(alloc, keys, &settings, shelf),
         Err(refused) => Err(Unjudged::Refused(Refusal::Words(refused))),
     }
 }

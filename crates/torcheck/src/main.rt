@@ -4,6 +4,7 @@
 use std::env;
 use std::process::ExitCode;
 use tor_app::{Status, check, code_of_failure, words_of};
+use tor_arena::Keys;
 use tor_io::{FileShelf, StdSink};
 
 fn main(rt: HostRuntime) -> ExitCode {
@@ -17,6 +18,7 @@ fn main(rt: HostRuntime) -> ExitCode {
     let mut out = StdSink::new(rt.stdout());
     let mut err = StdSink::new(rt.stderr());
     let alloc = rt.alloc();
+    let keys = Keys::new(&rt);
     let mut shelf = FileShelf::new(rt);
-    ExitCode::from(check(alloc, &words, &mut shelf, &mut out, &mut err).code())
+    ExitCode::from(check(alloc, keys, &words, &mut shelf, &mut out, &mut err).code())
 }
