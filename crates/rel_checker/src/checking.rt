@@ -17,8 +17,7 @@ use crate::totals::right_totals;
 use crate::walk_rules::{find_unrefuted, find_unshown};
 use result_text::ResultFile;
 use std::alloc::Global;
-use std::collections::hash_map::RandomState;
-use tor_arena::NoMemory;
+use tor_arena::{Keys, NoMemory};
 
 /// The most that the ratio of degrees of a peering may be.
 const MAX_RATIO: u32 = 1_000_000;
@@ -27,7 +26,7 @@ const MAX_RATIO: u32 = 1_000_000;
 /// edges, valley-free kept paths, supports, why lines, marks and totals. Yes exactly if all are met, and the file is then valid. No
 /// names the least rule that is broken, 1 to 10, and its first line, from 1. The file may have at most 2^40 lines besides its first
 /// ten and its last. The keys are those of its hash tables, and the answer doesn't depend on them. NoMemory where memory ran out.
-pub fn check_file(alloc: Global, keys: RandomState, file: &ResultFile) -> Result<Answer, NoMemory>
+pub fn check_file(alloc: Global, keys: Keys, file: &ResultFile) -> Result<Answer, NoMemory>
     requires lines { HasFewLines file.now }
     ensures verdict { IfOk result (Judges file.now) }
     ensures valid { result ≡ Ok Answer.Yes → Valid file.now }
@@ -91,7 +90,7 @@ fn check_edges(
 /// The rules on why lines, marks and open lines.
 fn check_evidence(
     alloc: Global,
-    keys: RandomState,
+    keys: Keys,
     file: &ResultFile,
     table: &EdgeTable,
 ) -> Result<Option<Answer>, NoMemory>

@@ -11,13 +11,12 @@ use crate::supports::count_kept;
 use crate::valleys::is_served;
 use result_text::{EdgeLine, ResultFile};
 use std::alloc::Global;
-use std::collections::hash_map::RandomState;
-use tor_arena::NoMemory;
+use tor_arena::{Keys, NoMemory};
 
 /// The edges of the paths, in order of first appearance.
 pub(crate) fn list_edges(
     alloc: Global,
-    keys: RandomState,
+    keys: Keys,
     file: &ResultFile,
 ) -> Result<EdgeTable, NoMemory>
     ensures { IfOk result (λ table. table ≡ edges (its_paths file.now)) }

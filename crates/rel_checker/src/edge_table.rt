@@ -5,15 +5,14 @@ ghost use Rattle.rel_checker.specs.Tables.{with_edge, edge_at};
 
 use indexmap::IndexSet;
 use std::alloc::Global;
-use std::collections::hash_map::RandomState;
 use std::marker::Model;
-use tor_arena::NoMemory;
+use tor_arena::{Keys, NoMemory};
 
 /// Edges in the order in which they were added, each once. An edge is found by its two ASes, in either order. The hash table's keys
 /// are random, since whoever wrote the file chose its edges.
 #[derive(Drop)]
 pub(crate) struct EdgeTable {
-    edges: IndexSet<(u32, u32), RandomState>,
+    edges: IndexSet<(u32, u32), Keys>,
 }
 
 impl Model for EdgeTable {
@@ -30,7 +29,7 @@ impl Model for EdgeTable {
 
 impl EdgeTable {
     /// No edges. It takes no memory.
-    pub fn new(alloc: Global, keys: RandomState) -> EdgeTable
+    pub fn new(alloc: Global, keys: Keys) -> EdgeTable
         ensures { result ≡ [] }
     {
         EdgeTable {

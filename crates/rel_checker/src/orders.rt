@@ -2,15 +2,14 @@ ghost use Rattle.std.specs.Prelude.{◌≡◌, ◌↔◌, ◌++◌, ◌∷◌, [
 
 use indexmap::IndexSet;
 use std::alloc::Global;
-use std::collections::hash_map::RandomState;
 use std::marker::Model;
-use tor_arena::NoMemory;
+use tor_arena::{Keys, NoMemory};
 
 /// Orders of two ASes in the order in which they were added, each with the provider first. The hash table's keys are random, since
 /// whoever wrote the file chose the orders.
 #[derive(Drop)]
 pub(crate) struct Orders {
-    pairs: IndexSet<(u32, u32), RandomState>,
+    pairs: IndexSet<(u32, u32), Keys>,
 }
 
 impl Model for Orders {
@@ -23,7 +22,7 @@ impl Model for Orders {
 
 impl Orders {
     /// No orders. It takes no memory.
-    pub fn new(alloc: Global, keys: RandomState) -> Orders
+    pub fn new(alloc: Global, keys: Keys) -> Orders
         ensures { result ≡ [] }
     {
         Orders {

@@ -1,10 +1,10 @@
 use crate::{Answer, check_against, check_file};
 use path_clean::{Asides, Cause, PathTable, is_cleaned};
 use result_text::{ResultFile, parse};
-use std::collections::hash_map::RandomState;
 use std::process::Abort;
 use std::random::RandomSource;
 use std::test::Fail;
+use tor_arena::Keys;
 
 /// The result over the paths 30 40 20 10 50 60, 10 20 30 40 and 50 60 10 20.
 const THREE_PATHS: &str =
@@ -33,7 +33,7 @@ fn answer_to(
     assert!(rt; file.edges.len() < 100);
     assert!(rt; file.whys.len() < 100);
     assert!(rt; file.probes.len() < 100);
-    let keys = RandomState::new(rt)?;
+    let keys = Keys::new(rt);
     Ok(check_file(rt.alloc(), keys, file)?)
 }
 

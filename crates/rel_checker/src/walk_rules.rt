@@ -12,8 +12,7 @@ use crate::shown::shown_by;
 use relationships::Walk;
 use result_text::{Fate, PathLine, ResultFile};
 use std::alloc::Global;
-use std::collections::hash_map::RandomState;
-use tor_arena::NoMemory;
+use tor_arena::{Keys, NoMemory};
 
 /// Whether the walk refutes over the paths of the kept lines before this line and its own.
 fn refutes(before: &[PathLine], line: &PathLine, walk: &Walk) -> bool
@@ -48,7 +47,7 @@ pub(crate) fn find_unrefuted(file: &ResultFile) -> Option<usize>
 /// The place of the first why line that shows no order, or one of two ASes of which an earlier line shows an order.
 pub(crate) fn find_unshown(
     alloc: Global,
-    keys: RandomState,
+    keys: Keys,
     file: &ResultFile,
 ) -> Result<Option<usize>, NoMemory>
     ensures { IfOk result (Finds file.now OrdersShown) }

@@ -1,9 +1,9 @@
 use crate::walk_rules::{find_unrefuted, find_unshown};
 use result_text::{ResultFile, parse};
-use std::collections::hash_map::RandomState;
 use std::process::Abort;
 use std::random::RandomSource;
 use std::test::Fail;
+use tor_arena::Keys;
 
 const HEAD: &str =
     "tor|1\nsets|cut\nratio|60\naside|nopath|0\naside|badsegments|0\naside|confed|0\naside|sets|0\naside|reserved|0\naside|loop|0\naside|short|0\n";
@@ -33,7 +33,7 @@ fn is_unshown_at(
     whys: &str,
     place: Option<usize>,
 ) -> Result<(), Fail> {
-    let keys = RandomState::new(rt)?;
+    let keys = Keys::new(rt);
     let file = file_of(rt, PATHS, whys)?;
     assert_eq!(rt;
         find_unshown(rt.alloc(), keys, &file)?,
