@@ -5,7 +5,10 @@ use Rattle.std.proofs.lemmas.List.{append-nil, take-append-le}
 use Rattle.std.proofs.Math.Seq.{take-append-add}
 use Rattle.rib_v2.specs.PeerTable.{peers_of}
 use Rattle.mrt_frame.specs.declared.header.At.{At}
-use Rattle.mrt_frame.specs.Records.{Record, Cut, End, Well, HeadCut, TooManyBytes, Oversize, BodyCut, Ends, Holds, is_read, behind, next_of, start, cut_within}
+use Rattle.mrt_frame.specs.Kinds.{kind_of, is_read}
+use Rattle.mrt_frame.specs.declared.record_kind.RecordKind.{RecordKind}
+use Rattle.std.specs.Prelude.{is_some}
+use Rattle.mrt_frame.specs.Records.{Record, Cut, End, Well, HeadCut, TooManyBytes, Oversize, BodyCut, Ends, Holds, behind, next_of, start, cut_within}
 use Rattle.mrt_frame.specs.declared.error.FrameError.{FrameError}
 use Rattle.mrt_frame.specs.declared.error.FrameError.TheVariants as frame
 use Rattle.mrt_frame.specs.Frames.{PassesOver, FindsNext, StopsWith, end_of_error}
@@ -15,16 +18,16 @@ use Rattle.path_attrs.specs.Fields.{◌>>=◌}
 use Rattle.path_clean.specs.declared.cleaned.Sets.{Sets}
 use Rattle.path_attrs.specs.declared.fault.RibFault.{RibFault}
 use Rattle.dump_read.specs.declared.error.LimitKind.{LimitKind}
-use Rattle.dump_read.specs.Routes.{Route, routes_of, peers_behind, is_table_dump, is_peer_table, is_rib}
+use Rattle.dump_read.specs.Routes.{Route, routes_in, routes_of, peers_after, peers_behind}
 use Rattle.dump_read.specs.declared.error.Fault.TheVariants as fault
 use Rattle.dump_read.specs.declared.records.Unread.{Unread}
 use Rattle.dump_read.specs.declared.records.Unread.TheVariants as unread
 use Rattle.dump_read.specs.declared.taking.Untaken.TheVariants as untaken
-use Rattle.dump_read.specs.Seen.{of_end, of_taking, of_octets, end_known}
+use Rattle.dump_read.specs.Seen.{of_end, of_taking, of_octets, end_named}
 use Rattle.dump_read.specs.Refusals.{TakesRead, TakesSomeRead, IsUnread, of_frame, of_unread}
 use Rattle.dump_read.specs.Reading.{Reading, FileEnd, Broken, end_of, onto, reading_of, reading_from, file_reading}
 use Rattle.dump_read.specs.Taking.{Taken, take_route, take_routes, Takes, TakesSome}
-use Rattle.dump_read.proofs.Takings.{take_routes-append, no_entry, nothing_read}
+use Rattle.dump_read.proofs.Takings.{take_routes-append, no_entry}
 
 -- where the octets of the file are known: the routes that were taken in so far, and those of the records that are left
 pub record Goes (sets : Sets) (octets : List ℕ) (left : Option (List ℕ)) (at : At) (peers : Option ℕ) (old new : Taken) : Type 0 where
@@ -52,26 +55,21 @@ through : (peers : Option ℕ) (r : Record) (c : Cut) → reading_from peers (re
 unfolding reading_of
 through peers r c = refl
 
-unread_parts : (t d b c e : Bool) → (t || (d && (b || c || e))) ≡ false → (t ≡ false) × ((d && b) ≡ false) × ((d && (c || e)) ≡ false)
-unread_parts true d b c e h = absurd cc
-unread_parts false false b c e h = (refl, refl, refl)
-unread_parts false true true c e h = absurd cc
-unread_parts false true false true e h = absurd cc
-unread_parts false true false false true h = absurd cc
-unread_parts false true false false false h = (refl, refl, refl)
+none_in : (kind : Option RecordKind) (peers : Option ℕ) (subtype : ℕ) (body : List ℕ) → is_some kind ≡ false → routes_in kind peers subtype body ≡ Ok []
+none_in None peers subtype body unread = refl
+none_in (Some kind) peers subtype body unread = absurd cc
 
-parts_of : (r : Record) → is_read r.kind r.subtype ≡ false → (is_table_dump r.kind r.subtype ≡ false) × (is_peer_table r.kind r.subtype ≡ false) × (is_rib r.kind r.subtype ≡ false)
-parts_of r unread = unread_parts (is_table_dump r.kind r.subtype) (r.kind == 13) (r.subtype == 1) (r.subtype == 2) (r.subtype == 4) unread
-
-same_peers : (peers : Option ℕ) (r : Record) → is_peer_table r.kind r.subtype ≡ false → peers_behind peers r ≡ peers
-same_peers peers r is = ap (λ b. cond b (option_map (λ table. table.count) (result_ok (peers_of r.body))) peers) is
+same_peers : (kind : Option RecordKind) (peers : Option ℕ) (body : List ℕ) → is_some kind ≡ false → peers_after kind peers body ≡ peers
+same_peers None peers body unread = refl
+same_peers (Some kind) peers body unread = absurd cc
 
 -- a record that isn't read changes nothing of the reading
-skipped : (peers : Option ℕ) (r : Record) (c : Cut) → is_read r.kind r.subtype ≡ false → reading_from peers (record { records = r ∷ c.records; end = c.end }) ≡ reading_from peers c
+skipped : (peers : Option ℕ) (r : Record) (c : Cut) → is_read r.kind r.subtype ≡ false
+    → reading_from peers (record { records = r ∷ c.records; end = c.end }) ≡ reading_from peers c
 skipped peers r c unread =
-    let parts = parts_of r unread in
-    through peers r c ∙ ap (λ read. onto r.at read (reading_from (peers_behind peers r) c)) (nothing_read peers r parts.0 parts.1 parts.2)
-    ∙ ap (λ p. reading_from p c) (same_peers peers r parts.1)
+    through peers r c
+    ∙ ap (λ read. onto r.at read (reading_from (peers_behind peers r) c)) (none_in (kind_of r.kind r.subtype) peers r.subtype r.body unread)
+    ∙ ap (λ p. reading_from p c) (same_peers (kind_of r.kind r.subtype) peers r.body unread)
 
 -- where the records from a place on were passed over up to another, the reading is the same from there
 record Passed (peers : Option ℕ) (whole : Reading) (place : At) (reached : List ℕ) : Type 0 where
@@ -190,7 +188,7 @@ stops_in sets old (route ∷ routes) rest kind is = by (take_route sets old rout
 
 pub breaks : (sets : Sets) (d : ℕ) (left₀ left left' : Option (List ℕ)) (at : At) (peers : Option ℕ) (r : Record) (old mid : Taken) (why : Unread) → GoesOf sets left₀ left at peers old mid
     → IfSome left (λ octets. FindsNext at octets r left') → IsUnread sets mid (routes_of peers r) why
-    → IfSome (end_known d (of_unread d r.at why)) (λ end. IfSome left₀ (λ octets. of_octets sets d old octets ≡ Err end))
+    → IfSome (end_named d (of_unread d r.at why)) (λ end. IfSome left₀ (λ octets. of_octets sets d old octets ≡ Err end))
 breaks sets d None left left' at peers r old mid (unread.Fault broken) goes finds is = tt
 breaks sets d None left left' at peers r old mid (unread.Untaken (untaken.Limit kind)) goes finds is = tt
 breaks sets d None left left' at peers r old mid (unread.Untaken untaken.NoMemory) goes finds is = tt
@@ -247,16 +245,16 @@ some_with sets (Some octets) left left' at peers r old mid new goes finds some =
     subst (λ (routes : List Route). TakesSome sets old routes new) (sym (goes.routes ∙ ap (λ reading. goes.prefix ++ reading.routes) f.same))
     (some_of sets old mid new goes.prefix r.at (routes_of peers r) further goes.so_far some)
 
--- an error that knows an end of the records knows the end of the dump
-pub frame_known : (sets : Sets) (d : ℕ) (left₀ left : Option (List ℕ)) (at : At) (peers : Option ℕ) (old new : Taken) (e : FrameError) → GoesOf sets left₀ left at peers old new
+-- an error that names an end of the records names the end of the dump
+pub frame_named : (sets : Sets) (d : ℕ) (left₀ left : Option (List ℕ)) (at : At) (peers : Option ℕ) (old new : Taken) (e : FrameError) → GoesOf sets left₀ left at peers old new
     → IfSome (end_of_error e) (λ end. IfSome left (λ octets. StopsWith at octets end))
-    → IfSome (end_known d (of_frame d e)) (λ end. IfSome left₀ (λ octets. of_octets sets d old octets ≡ Err end))
-frame_known sets d left₀ left at peers old new (frame.HeadCut a) goes stops = ends sets d left₀ left at peers old new (HeadCut a) goes stops
-frame_known sets d left₀ left at peers old new (frame.BodyCut a) goes stops = ends sets d left₀ left at peers old new (BodyCut a) goes stops
-frame_known sets d left₀ left at peers old new (frame.Oversize a) goes stops = ends sets d left₀ left at peers old new (Oversize a) goes stops
-frame_known sets d left₀ left at peers old new frame.TooManyBytes goes stops = ends sets d left₀ left at peers old new TooManyBytes goes stops
-frame_known sets d left₀ left at peers old new frame.ReadFault goes stops = tt
-frame_known sets d left₀ left at peers old new frame.NoMemory goes stops = tt
+    → IfSome (end_named d (of_frame d e)) (λ end. IfSome left₀ (λ octets. of_octets sets d old octets ≡ Err end))
+frame_named sets d left₀ left at peers old new (frame.HeadCut a) goes stops = ends sets d left₀ left at peers old new (HeadCut a) goes stops
+frame_named sets d left₀ left at peers old new (frame.BodyCut a) goes stops = ends sets d left₀ left at peers old new (BodyCut a) goes stops
+frame_named sets d left₀ left at peers old new (frame.Oversize a) goes stops = ends sets d left₀ left at peers old new (Oversize a) goes stops
+frame_named sets d left₀ left at peers old new frame.TooManyBytes goes stops = ends sets d left₀ left at peers old new TooManyBytes goes stops
+frame_named sets d left₀ left at peers old new frame.ReadFault goes stops = tt
+frame_named sets d left₀ left at peers old new frame.NoMemory goes stops = tt
 
 -- before any route
 pub none_so_far : (sets : Sets) (old : Taken) (known : Option Files) (name : List ℕ)

@@ -1,5 +1,5 @@
 -- Routes that are taken in one after the other.
-use Rattle.std.proofs.Common.{◌≡◌, true, false, cond, Option, ℕ, zero, suc, ◌+◌, ◌<◌, List, [], ◌∷◌, ◌++◌, length, take, drop, get_or, Result, Ok, Err, refl, sym, ap, subst, ◌∙◌, arith}
+use Rattle.std.proofs.Common.{◌≡◌, true, false, cond, Option, Some, None, ℕ, zero, suc, ◌+◌, ◌<◌, List, [], ◌∷◌, ◌++◌, length, take, drop, get_or, Result, Ok, Err, refl, sym, ap, subst, ◌∙◌, arith}
 use Rattle.std.proofs.lemmas.List.{take-map, map-append, length-map, take_more}
 use Rattle.path_attrs.specs.Fields.{◌>>=◌}
 use Rattle.path_clean.specs.declared.cleaned.Sets.{Sets}
@@ -10,12 +10,12 @@ use Rattle.rib_v2.specs.declared.error.RibError.{RibError}
 use Rattle.rib_v2.specs.declared.error.RibError.TheVariants as rib
 use Rattle.rib_v2.specs.Rib.{IsAnswer}
 use Rattle.dump_read.specs.declared.records.Unread.TheVariants as unread
-use Rattle.rib_v1.specs.TableDump.{route_of}
-use Rattle.rib_v2.specs.Rib.{rib_of}
 use Rattle.rib_v2.specs.PeerTable.{peers_of}
 use Rattle.rib_v2.specs.declared.peer_table.Peers.{Peers}
+use Rattle.mrt_frame.specs.Kinds.{kind_of}
+use Rattle.mrt_frame.specs.declared.record_kind.RecordKind.TheVariants.{PeerTable}
 use Rattle.mrt_frame.specs.Records.{Record}
-use Rattle.dump_read.specs.Routes.{Route, of_entries, of_table_dump, of_table_dump_read, of_rib_read, of_peer_table_read, is_table_dump, is_peer_table, is_rib, routes_of}
+use Rattle.dump_read.specs.Routes.{Route, of_entries, of_table_dump, of_table_dump_read, of_rib_read, of_peer_table_read, routes_in, routes_of}
 use Rattle.rib_v2.specs.declared.rib.Entry.{Entry}
 use Rattle.path_attrs.specs.declared.as_path.Width.TheVariants.{Two, Four}
 use Rattle.dump_read.specs.declared.taking.Untaken.{Untaken}
@@ -135,22 +135,12 @@ pub none_read : (sets : Sets) (old new : Taken) (read : Result (List Entry) RibF
 none_read sets old new (Ok entries) same = (0, omega arith, no_entry sets old ∙ ap (λ (t : Taken). Ok t) (sym same))
 none_read sets old new (Err fault) same = same
 
-pub peer_table_taken : (sets : Sets) (old : Taken) (peers : Option ℕ) (r : Record) (table : Peers) → is_table_dump r.kind r.subtype ≡ false → is_peer_table r.kind r.subtype ≡ true
+-- the kind of a record is known, and with it what its body gives
+
+pub peer_table_taken : (sets : Sets) (old : Taken) (peers : Option ℕ) (r : Record) (table : Peers) → kind_of r.kind r.subtype ≡ Some PeerTable
     → Ok table ≡ peers_of r.body → TakesRead sets old (routes_of peers r) old
-peer_table_taken sets old peers r table other is read = (
-  [],
-  ap (λ b. cond b (of_table_dump_read (route_of r.subtype r.body)) (cond (is_peer_table r.kind r.subtype) (of_peer_table_read (peers_of r.body)) (cond (is_rib r.kind r.subtype) (of_rib_read (rib_of r.subtype peers r.body)) (Ok [])))) other
-      ∙ ap (λ b. cond b (of_peer_table_read (peers_of r.body)) (cond (is_rib r.kind r.subtype) (of_rib_read (rib_of r.subtype peers r.body)) (Ok []))) is
-      ∙ ap of_peer_table_read (sym read),
-  no_entry sets old,
-)
+peer_table_taken sets old peers r table is read =
+    ([], ap (λ kind. routes_in kind peers r.subtype r.body) is ∙ ap of_peer_table_read (sym read), no_entry sets old)
 
-pub nothing_read : (peers : Option ℕ) (r : Record) → is_table_dump r.kind r.subtype ≡ false → is_peer_table r.kind r.subtype ≡ false → is_rib r.kind r.subtype ≡ false → routes_of peers r ≡ Ok []
-nothing_read peers r other neither nor =
-    ap (λ b. cond b (of_table_dump_read (route_of r.subtype r.body)) (cond (is_peer_table r.kind r.subtype) (of_peer_table_read (peers_of r.body)) (cond (is_rib r.kind r.subtype) (of_rib_read (rib_of r.subtype peers r.body)) (Ok [])))) other
-    ∙ ap (λ b. cond b (of_peer_table_read (peers_of r.body)) (cond (is_rib r.kind r.subtype) (of_rib_read (rib_of r.subtype peers r.body)) (Ok []))) neither
-    ∙ ap (λ b. cond b (of_rib_read (rib_of r.subtype peers r.body)) (Ok [])) nor
-
-pub nothing_taken : (sets : Sets) (old : Taken) (peers : Option ℕ) (r : Record) → is_table_dump r.kind r.subtype ≡ false → is_peer_table r.kind r.subtype ≡ false → is_rib r.kind r.subtype ≡ false
-    → TakesRead sets old (routes_of peers r) old
-nothing_taken sets old peers r other neither nor = ([], nothing_read peers r other neither nor, no_entry sets old)
+pub nothing_taken : (sets : Sets) (old : Taken) (peers : Option ℕ) (r : Record) → kind_of r.kind r.subtype ≡ None → TakesRead sets old (routes_of peers r) old
+nothing_taken sets old peers r is = ([], ap (λ kind. routes_in kind peers r.subtype r.body) is, no_entry sets old)

@@ -34,7 +34,7 @@ unfoldable pub reading_of : Option ℕ → List Record → End → Reading
 reading_of peers [] end = record { routes = []; end = end_of end }
 reading_of peers (r ∷ records) end = onto r.at (routes_of peers r) (reading_of (peers_behind peers r) records end)
 
--- from records on, where so many peers are known
+-- from records on, where the last peer table before them has so many peers
 abbrev pub reading_from : Option ℕ → Cut → Reading
 reading_from peers c = reading_of peers c.records c.end
 

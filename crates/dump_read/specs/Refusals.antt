@@ -57,7 +57,8 @@ TakesSomeRead sets old (Err fault) new = new ≡ old
 -- the fault is that of the reading, the limit that of the taking; memory may always run out
 abbrev pub IsUnread : Sets → Taken → Result (List Route) RibFault → Unread → Type 0
 IsUnread sets old read (unread.Fault fault) = read ≡ Err fault
-IsUnread sets old read (unread.Untaken (untaken.Limit kind)) = (routes : List Route) × (read ≡ Ok routes) × (take_routes sets old routes ≡ Err kind)
+IsUnread sets old read (unread.Untaken (untaken.Limit kind)) =
+    (routes : List Route) × (read ≡ Ok routes) × (take_routes sets old routes ≡ Err kind)
 IsUnread sets old read (unread.Untaken untaken.NoMemory) = Unit {0}
 
 -- the error of a dump that an error of its records is
@@ -69,7 +70,7 @@ of_frame dump frame.TooManyBytes = error.Limit Bytes
 of_frame dump frame.ReadFault = error.ReadFault
 of_frame dump frame.NoMemory = error.NoMemory
 
--- the error of a dump that the record at this place was not taken in for
+-- the error of a dump for which the record that stands there was not taken in
 abbrev pub of_unread : ℕ → At → Unread → DumpError
 of_unread dump at (unread.Fault broken) = error.Malformed (record { dump = dump; at = at }) (fault.Rib broken)
 of_unread dump at (unread.Untaken (untaken.Limit kind)) = error.Limit kind

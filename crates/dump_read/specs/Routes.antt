@@ -1,5 +1,5 @@
 -- What a record of a dump gives (RFC 6396, sections 4.2 and 4.3).
-use Rattle.std.specs.Prelude.{ℕ, ◌==◌, Bool, ◌&&◌, ◌||◌, List, [], ◌∷◌, map, Option, option_map, Result, Ok, if◌then◌else◌}
+use Rattle.std.specs.Prelude.{ℕ, List, [], ◌∷◌, map, Option, Some, None, option_map, Result, Ok}
 use Rattle.std.specs.Result.{result_ok}
 use Rattle.path_attrs.specs.declared.fault.RibFault.{RibFault}
 use Rattle.path_attrs.specs.declared.as_path.Width.{Width}
@@ -12,23 +12,14 @@ use Rattle.rib_v2.specs.declared.peer_table.Peers.{Peers}
 use Rattle.rib_v2.specs.PeerTable.{peers_of}
 use Rattle.rib_v2.specs.Rib.{rib_of}
 use Rattle.mrt_frame.specs.Records.{Record}
+use Rattle.mrt_frame.specs.Kinds.{kind_of}
+use Rattle.mrt_frame.specs.declared.record_kind.RecordKind.{RecordKind}
+use Rattle.mrt_frame.specs.declared.record_kind.RecordKind.TheVariants.{TableDump, PeerTable, Rib}
 
 -- the path attributes of a route, and how many octets an AS number has in them
 pub record Route : Type 0 where
   pub attrs : List Attribute
   pub width : Width
-
--- TABLE_DUMP, IPv4 or IPv6
-abbrev pub is_table_dump : ℕ → ℕ → Bool
-is_table_dump kind subtype = (kind == 12) && ((subtype == 1) || (subtype == 2))
-
--- PEER_INDEX_TABLE of TABLE_DUMP_V2
-abbrev pub is_peer_table : ℕ → ℕ → Bool
-is_peer_table kind subtype = (kind == 13) && (subtype == 1)
-
--- RIB_IPV4_UNICAST or RIB_IPV6_UNICAST of TABLE_DUMP_V2
-abbrev pub is_rib : ℕ → ℕ → Bool
-is_rib kind subtype = (kind == 13) && ((subtype == 2) || (subtype == 4))
 
 -- one route whose numbers have two octets
 abbrev pub of_table_dump : List Attribute → List Route
@@ -48,16 +39,32 @@ of_rib_read read = read >>= λ entries. Ok (of_entries entries)
 abbrev pub of_peer_table_read : Result Peers RibFault → Result (List Route) RibFault
 of_peer_table_read read = read >>= λ table. Ok []
 
--- the routes of a record, where the last peer table before it in the file has so many peers, or the first fault of its
--- body. A record that isn't read gives none.
-abbrev pub routes_of : Option ℕ → Record → Result (List Route) RibFault
-routes_of peers r =
-    if is_table_dump r.kind r.subtype then of_table_dump_read (route_of r.subtype r.body)
-    else if is_peer_table r.kind r.subtype then of_peer_table_read (peers_of r.body)
-    else if is_rib r.kind r.subtype then of_rib_read (rib_of r.subtype peers r.body)
-    else Ok []
+-- the routes of the body of a TABLE_DUMP record
+abbrev pub routes_in_table_dump : (subtype : ℕ) → (body : List ℕ) → Result (List Route) RibFault
+routes_in_table_dump subtype body = of_table_dump_read (route_of subtype body)
 
--- how many peers the last peer table has, behind this record
+-- the same of a RIB, where the last peer table before it in the file has so many peers
+abbrev pub routes_in_rib : (peers : Option ℕ) → (subtype : ℕ) → (body : List ℕ) → Result (List Route) RibFault
+routes_in_rib peers subtype body = of_rib_read (rib_of subtype peers body)
+
+-- the routes of a body, where the last peer table before it in the file has so many peers, or the first fault of the body.
+-- One that isn't read gives none.
+abbrev pub routes_in : Option RecordKind → Option ℕ → (subtype : ℕ) → (body : List ℕ) → Result (List Route) RibFault
+routes_in (Some TableDump) peers subtype body = routes_in_table_dump subtype body
+routes_in (Some PeerTable) peers subtype body = of_peer_table_read (peers_of body)
+routes_in (Some Rib) peers subtype body = routes_in_rib peers subtype body
+routes_in None peers subtype body = Ok []
+
+-- how many peers the last peer table has, behind this body
+abbrev pub peers_after : Option RecordKind → Option ℕ → (body : List ℕ) → Option ℕ
+peers_after (Some TableDump) peers body = peers
+peers_after (Some PeerTable) peers body = option_map (λ table. table.count) (result_ok (peers_of body))
+peers_after (Some Rib) peers body = peers
+peers_after None peers body = peers
+
+-- the same of a record
+abbrev pub routes_of : Option ℕ → Record → Result (List Route) RibFault
+routes_of peers r = routes_in (kind_of r.kind r.subtype) peers r.subtype r.body
+
 abbrev pub peers_behind : Option ℕ → Record → Option ℕ
-peers_behind peers r =
-    if is_peer_table r.kind r.subtype then option_map (λ table. table.count) (result_ok (peers_of r.body)) else peers
+peers_behind peers r = peers_after (kind_of r.kind r.subtype) peers r.body

@@ -40,9 +40,9 @@ abbrev pub of_file : Sets → ℕ → Taken → Option (List ℕ) → Result Tak
 of_file sets dump taken None = Err (Absent dump)
 of_file sets dump taken (Some octets) = of_octets sets dump taken octets
 
--- the end that an error knows
-abbrev pub end_known : ℕ → DumpError → Option End
-end_known dump (error.Malformed place fault) = Some (Malformed place fault)
-end_known dump (error.Limit kind) = Some (Limit kind dump)
-end_known dump error.ReadFault = None
-end_known dump error.NoMemory = None
+-- the end that an error names
+abbrev pub end_named : ℕ → DumpError → Option End
+end_named dump (error.Malformed place fault) = Some (Malformed place fault)
+end_named dump (error.Limit kind) = Some (Limit kind dump)
+end_named dump error.ReadFault = None
+end_named dump error.NoMemory = None

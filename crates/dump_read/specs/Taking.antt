@@ -1,11 +1,12 @@
 -- What is taken in, route by route: distinct paths with their times, and counts of the routes that are set aside.
-use Rattle.std.specs.Prelude.{◌≡◌, ◌≤◌, ◌+◌, ◌^◌, ◌==◌, ◌&&◌, nat_lt, ℕ, List, [], ◌∷◌, length, take, is_some, Result, Ok, Err, if◌then◌else◌}
+use Rattle.std.specs.Prelude.{◌≡◌, ◌≤◌, ◌+◌, ◌==◌, ◌&&◌, nat_lt, Bool, ℕ, List, [], ◌∷◌, length, take, is_some, Result, Ok, Err, if◌then◌else◌}
 use Rattle.path_attrs.specs.Fields.{◌>>=◌}
 use Rattle.path_clean.specs.declared.cleaned.Sets.{Sets}
 use Rattle.path_clean.specs.declared.cleaned.Cleaned.{Cleaned}
 use Rattle.path_clean.specs.declared.cleaned.Cleaned.TheVariants.{Path, Aside}
 use Rattle.path_clean.specs.Clean.{clean_of}
 use Rattle.path_clean.specs.Counts.{Counts, counted_one}
+use Rattle.path_clean.specs.Limits.{max_numbers}
 use Rattle.path_clean.specs.Rows.{Table, numbers_in}
 use Rattle.path_clean.specs.Table.{place_of, with_path}
 use Rattle.dump_read.specs.declared.error.LimitKind.{LimitKind}
@@ -20,13 +21,17 @@ pub record Taken : Type 0 where
 abbrev pub with_one : Table → List ℕ → Table
 with_one table path = record table { rows = with_path table.rows path }
 
--- a path is counted, unless it is new and a limit is met: as many distinct paths as may be are there; or fewer are, and with
--- it the lengths would sum above 2 ^ 26
+-- fewer distinct paths are there than may be, and with this one they would have too many numbers in sum
+abbrev pub has_too_many_numbers : Table → List ℕ → Bool
+has_too_many_numbers table path =
+    nat_lt (length table.rows) table.limit && nat_lt max_numbers (numbers_in table.rows + length path)
+
+-- a path is counted, unless it is new and a limit is met: of distinct paths, or of their numbers
 abbrev pub take_path : Taken → List ℕ → Result Taken LimitKind
 take_path taken path =
     if is_some (place_of taken.table.rows path) then Ok (record taken { table = with_one taken.table path })
     else if length taken.table.rows == taken.table.limit then Err Paths
-    else if nat_lt (length taken.table.rows) taken.table.limit && nat_lt (2 ^ 26) (numbers_in taken.table.rows + length path) then Err Numbers
+    else if has_too_many_numbers taken.table path then Err Numbers
     else Ok (record taken { table = with_one taken.table path })
 
 abbrev pub take_cleaned : Taken → Cleaned → Result Taken LimitKind

@@ -2,7 +2,7 @@ use mrt_frame::At;
 use path_attrs::RibFault;
 use thiserror::Error;
 
-/// Where a fault stands: the number of the dump, from 1, and the place of the record in it.
+/// Where a fault stands: the number of the dump, from 1, and where the record stands in it.
 #[derive(Clone, Copy, Debug, PartialEq, Eq)]
 pub struct Place {
     pub dump: u64,
@@ -16,7 +16,7 @@ pub enum Fault {
     HeadCut,
     /// Its body is cut.
     BodyCut,
-    /// It is one that is read, and its body has more than 2 ^ 26 octets.
+    /// It is one that is read, and its body has more octets than such a one may have.
     Oversize,
     /// The first fault of its body.
     Rib(RibFault),

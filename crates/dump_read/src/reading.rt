@@ -4,7 +4,7 @@ ghost use Rattle.tor_io.specs.Counts.{Rose};
 ghost use Rattle.tor_io.specs.Contents.{LacksFile};
 ghost use Rattle.dump_read.specs.Reading.{file_reading};
 ghost use Rattle.dump_read.specs.Taking.{TakesSome};
-ghost use Rattle.dump_read.specs.Seen.{of_octets, of_file, end_known};
+ghost use Rattle.dump_read.specs.Seen.{of_octets, of_file, end_named};
 ghost use Rattle.dump_read.specs.Refusals.{taken_of, of_frame, of_unread, IsOfDump};
 
 use crate::error::{DumpError, Fault, LimitKind, Place};
@@ -29,7 +29,7 @@ fn of_frame(dump: u64, error: FrameError) -> DumpError
     }
 }
 
-// The error for which the record at this place was not taken in.
+// The error for which the record that stands there was not taken in.
 fn of_unread(dump: u64, at: At, unread: Unread) -> DumpError
     ensures { result ≡ of_unread dump at unread }
 {
@@ -51,7 +51,7 @@ fn read_records<H: Shelf>(
 ) -> Result<(), DumpError>
     ensures read { OnOk result (IfSome (H.left shelf.old) (λ octets.
         of_octets sets dump (taken_of table.old asides.old) octets ≡ Ok (taken_of table.new asides.new))) }
-    ensures stopped { IfErr result (λ e. IfSome (end_known dump e) (λ end. IfSome (H.left shelf.old) (λ octets.
+    ensures stopped { IfErr result (λ e. IfSome (end_named dump e) (λ end. IfSome (H.left shelf.old) (λ octets.
         of_octets sets dump (taken_of table.old asides.old) octets ≡ Err end))) }
     ensures some { OnErr result (IfSome (H.left shelf.old) (λ octets.
         TakesSome sets (taken_of table.old asides.old) (file_reading octets).routes (taken_of table.new asides.new))) }
@@ -97,7 +97,7 @@ pub fn read_dump<H: Shelf>(
     // What is taken in, and where the reading ends.
     ensures read { OnOk result (IfSome (H.files shelf.old) (λ files.
         of_file sets dump (taken_of table.old asides.old) (files name.now) ≡ Ok (taken_of table.new asides.new))) }
-    ensures stopped { IfErr result (λ e. IfSome (end_known dump e) (λ end. IfSome (H.files shelf.old) (λ files.
+    ensures stopped { IfErr result (λ e. IfSome (end_named dump e) (λ end. IfSome (H.files shelf.old) (λ files.
         of_file sets dump (taken_of table.old asides.old) (files name.now) ≡ Err end))) }
     ensures some { OnErr result (IfSome (H.files shelf.old) (λ files. IfSome (files name.now) (λ octets.
         TakesSome sets (taken_of table.old asides.old) (file_reading octets).routes (taken_of table.new asides.new)))) }

@@ -1,24 +1,16 @@
-ghost use Rattle.std.specs.Prelude.{◌≡◌, ◌⊎◌, Ok, IsTrue, OnOk, OnErr, IfOk, IfErr, option_map};
+ghost use Rattle.std.specs.Prelude.{◌≡◌, ◌⊎◌, Ok, OnOk, OnErr, IfOk, IfErr};
 ghost use Rattle.mrt_frame.specs.Steps.{seen};
-ghost use Rattle.rib_v1.specs.TableDump.{route_of};
-ghost use Rattle.rib_v2.specs.Rib.{rib_of};
-ghost use Rattle.dump_read.specs.Routes.{is_table_dump, is_peer_table, is_rib, of_table_dump_read, of_rib_read, of_entries, routes_of, peers_behind};
+ghost use Rattle.dump_read.specs.Routes.{of_entries, routes_in_table_dump, routes_in_rib, routes_of, peers_behind};
 ghost use Rattle.dump_read.specs.Taking.{take_routes, Takes, TakesSome};
 ghost use Rattle.dump_read.specs.Refusals.{taken_of, count_of, IsLimit, IsUnread, TakesRead, TakesSomeRead};
 
 use crate::taking::{Untaken, take};
-use mrt_frame::Record;
+use mrt_frame::{Record, RecordKind};
 use path_attrs::{RibFault, Width};
 use path_clean::{Asides, PathTable, Sets};
 use rib_v1::read_v1;
 use rib_v2::{Entry, Peers, RibError, read_peers, read_rib};
 use std::alloc::Global;
-
-/// The type TABLE_DUMP.
-const TABLE_DUMP: u16 = 12;
-
-/// The type TABLE_DUMP_V2.
-const TABLE_DUMP_V2: u16 = 13;
 
 /// Why a record was not taken in.
 #[derive(Clone, Copy, Debug, PartialEq, Eq)]
@@ -63,26 +55,6 @@ impl From<RibError> for Unread {
     }
 }
 
-fn is_table_dump(kind: u16, subtype: u16) -> bool
-    ensures test { result ≡ is_table_dump kind subtype }
-    ensures subtype { IsTrue result → (subtype ≡ 1) ⊎ (subtype ≡ 2) }
-{
-    kind == TABLE_DUMP && (subtype == 1 || subtype == 2)
-}
-
-fn is_peer_table(kind: u16, subtype: u16) -> bool
-    ensures { result ≡ is_peer_table kind subtype }
-{
-    kind == TABLE_DUMP_V2 && subtype == 1
-}
-
-fn is_rib(kind: u16, subtype: u16) -> bool
-    ensures test { result ≡ is_rib kind subtype }
-    ensures subtype { IsTrue result → (subtype ≡ 2) ⊎ (subtype ≡ 4) }
-{
-    kind == TABLE_DUMP_V2 && (subtype == 2 || subtype == 4)
-}
-
 // Takes in the routes of entries, in order.
 fn take_entries(
     alloc: Global,
@@ -111,9 +83,11 @@ fn take_table_dump(
     asides: &mut Asides,
 ) -> Result<(), Unread>
     requires { (subtype ≡ 1) ⊎ (subtype ≡ 2) }
-    ensures taken { OnOk result (TakesRead sets (taken_of table.old asides.old) (of_table_dump_read (route_of subtype body.now)) (taken_of table.new asides.new)) }
-    ensures unread { IfErr result (IsUnread sets (taken_of table.old asides.old) (of_table_dump_read (route_of subtype body.now))) }
-    ensures some { OnErr result (TakesSomeRead sets (taken_of table.old asides.old) (of_table_dump_read (route_of subtype body.now)) (taken_of table.new asides.new)) }
+    ensures taken { OnOk result (TakesRead sets (taken_of table.old asides.old) (routes_in_table_dump subtype body.now)
+        (taken_of table.new asides.new)) }
+    ensures unread { IfErr result (IsUnread sets (taken_of table.old asides.old) (routes_in_table_dump subtype body.now)) }
+    ensures some { OnErr result (TakesSomeRead sets (taken_of table.old asides.old) (routes_in_table_dump subtype body.now)
+        (taken_of table.new asides.new)) }
 {
     let attrs = read_v1(subtype, body)?;
     take(alloc, sets, Width::Two, &attrs, table, asides)?;
@@ -125,17 +99,19 @@ fn take_rib(
     alloc: Global,
     sets: Sets,
     subtype: u16,
-    peers: Option<&Peers>,
+    peers: Option<Peers>,
     body: &[u8],
     table: &mut PathTable,
     asides: &mut Asides,
 ) -> Result<(), Unread>
     requires { (subtype ≡ 2) ⊎ (subtype ≡ 4) }
-    ensures taken { OnOk result (TakesRead sets (taken_of table.old asides.old) (of_rib_read (rib_of subtype (option_map (λ p. p.now.count) peers.entry) body.now)) (taken_of table.new asides.new)) }
-    ensures unread { IfErr result (IsUnread sets (taken_of table.old asides.old) (of_rib_read (rib_of subtype (option_map (λ p. p.now.count) peers.entry) body.now))) }
-    ensures some { OnErr result (TakesSomeRead sets (taken_of table.old asides.old) (of_rib_read (rib_of subtype (option_map (λ p. p.now.count) peers.entry) body.now)) (taken_of table.new asides.new)) }
+    ensures taken { OnOk result (TakesRead sets (taken_of table.old asides.old) (routes_in_rib (count_of peers) subtype body.now)
+        (taken_of table.new asides.new)) }
+    ensures unread { IfErr result (IsUnread sets (taken_of table.old asides.old) (routes_in_rib (count_of peers) subtype body.now)) }
+    ensures some { OnErr result (TakesSomeRead sets (taken_of table.old asides.old) (routes_in_rib (count_of peers) subtype body.now)
+        (taken_of table.new asides.new)) }
 {
-    let entries = read_rib(alloc, subtype, peers, body)?;
+    let entries = read_rib(alloc, subtype, peers.as_ref(), body)?;
     take_entries(alloc, sets, entries.as_slice(), table, asides)?;
     Ok(())
 }
@@ -150,27 +126,22 @@ pub(crate) fn take_record(
     asides: &mut Asides,
 ) -> Result<Option<Peers>, Unread>
     ensures peers { IfOk result (λ after. count_of after ≡ peers_behind (count_of peers) (seen found.now)) }
-    ensures taken { OnOk result (TakesRead sets (taken_of table.old asides.old) (routes_of (count_of peers) (seen found.now)) (taken_of table.new asides.new)) }
+    ensures taken { OnOk result (TakesRead sets (taken_of table.old asides.old) (routes_of (count_of peers) (seen found.now))
+        (taken_of table.new asides.new)) }
     ensures unread { IfErr result (IsUnread sets (taken_of table.old asides.old) (routes_of (count_of peers) (seen found.now))) }
-    ensures some { OnErr result (TakesSomeRead sets (taken_of table.old asides.old) (routes_of (count_of peers) (seen found.now)) (taken_of table.new asides.new)) }
+    ensures some { OnErr result (TakesSomeRead sets (taken_of table.old asides.old) (routes_of (count_of peers) (seen found.now))
+        (taken_of table.new asides.new)) }
 {
-    if is_table_dump(found.kind, found.subtype) {
-        take_table_dump(alloc, sets, found.subtype, found.body, table, asides)?;
-        Ok(peers)
-    } else if is_peer_table(found.kind, found.subtype) {
-        Ok(Some(read_peers(found.body)?))
-    } else if is_rib(found.kind, found.subtype) {
-        take_rib(
-            alloc,
-            sets,
-            found.subtype,
-            peers.as_ref(),
-            found.body,
-            table,
-            asides,
-        )?;
-        Ok(peers)
-    } else {
-        Ok(peers)
+    match RecordKind::of(found.kind, found.subtype) {
+        Some(RecordKind::TableDump) => {
+            take_table_dump(alloc, sets, found.subtype, found.body, table, asides)?;
+            Ok(peers)
+        }
+        Some(RecordKind::PeerTable) => Ok(Some(read_peers(found.body)?)),
+        Some(RecordKind::Rib) => {
+            take_rib(alloc, sets, found.subtype, peers, found.body, table, asides)?;
+            Ok(peers)
+        }
+        None => Ok(peers),
     }
 }

@@ -4,7 +4,7 @@ use path_attrs::RibFault;
 use path_clean::{Asides, Cause, PathTable, Sets};
 use std::alloc::{AllocError, Global};
 use std::test::Fail;
-use tor_arena::{Index, PathId};
+use tor_arena::{Index, Keys, PathId};
 use tor_io::MemShelf;
 
 // A TABLE_DUMP record of the path 10 20.
@@ -95,7 +95,7 @@ fn reads_dumps(rt: HostRuntime) -> Result<(), Fail> {
     for (pieces, most, answer, taken) in &cases {
         let mut shelf = MemShelf::new(rt.alloc());
         shelf.put("d", &joined(rt.alloc(), pieces)?)?;
-        let mut table = PathTable::new(rt.alloc(), (*most).clamp(1, 8));
+        let mut table = PathTable::new(rt.alloc(), Keys::new(&rt), (*most).clamp(1, 8));
         let mut asides = Asides::new();
         let read = read_dump(
             rt.alloc(),
@@ -116,9 +116,9 @@ fn reads_dumps(rt: HostRuntime) -> Result<(), Fail> {
 }
 
 #[test]
-fn knows_an_absent_dump(rt: HostRuntime) {
+fn an_absent_dump_is_a_read_fault(rt: HostRuntime) -> Result<(), Fail> {
     let mut shelf = MemShelf::new(rt.alloc());
-    let mut table = PathTable::new(rt.alloc(), 8);
+    let mut table = PathTable::new(rt.alloc(), Keys::new(&rt), 8);
     let mut asides = Asides::new();
     let read = read_dump(
         rt.alloc(),
@@ -130,4 +130,5 @@ fn knows_an_absent_dump(rt: HostRuntime) {
         &mut asides,
     );
     assert_eq!(rt; read, Err(DumpError::ReadFault));
+    Ok(())
 }

@@ -13,21 +13,135 @@ use tor_arena::{Index, List, PathId, Rows};
 use tor_clauses::Clauses;
 use tor_solve::{Verdict, solve};
 
-fn three_paths(alloc: Global) -> Result<AsGraph, Fail>
-    ensures { IfOk result (λ graph. graph ≡ (30 ∷ 40 ∷ 20 ∷ 10 ∷ 50 ∷ 60 ∷ []) ∷ (10 ∷ 20 ∷ 30 ∷ 40 ∷ []) ∷ (50 ∷ 60 ∷ 10 ∷ 20 ∷ []) ∷ []) }
+/// Labels of the edges of a graph under which its first paths, so many, are valley-free, and what is marked for these paths.
+struct Case {
+    kept: usize,
+    labels: &'static [Label],
+    marks: &'static [Mark],
+    whys: usize,
+    probes: &'static [Probe],
+}
+
+const MARKS_OF_TWO: &[Mark] = &[
+    Mark::Loose,
+    Mark::Loose,
+    Mark::Forced,
+    Mark::Forced,
+    Mark::Forced,
+    Mark::Loose,
+    Mark::Loose,
+];
+
+const PROBES_OF_TWO: &[Probe] = &[
+    Probe {
+        over: 30,
+        under: 40,
+    },
+    Probe {
+        over: 20,
+        under: 30,
+    },
+    Probe {
+        over: 60,
+        under: 10,
+    },
+];
+
+static OF_THREE_PATHS: [Case; 2] = [
+    // with a peering
+    Case {
+        kept: 2,
+        labels: &[
+            Label::High,
+            Label::Peer,
+            Label::High,
+            Label::Low,
+            Label::Low,
+            Label::High,
+            Label::Low,
+        ],
+        marks: MARKS_OF_TWO,
+        whys: 3,
+        probes: PROBES_OF_TWO,
+    },
+    // without it: a probe leads to the order against the second label
+    Case {
+        kept: 2,
+        labels: &[
+            Label::High,
+            Label::Low,
+            Label::High,
+            Label::Low,
+            Label::Low,
+            Label::High,
+            Label::Low,
+        ],
+        marks: MARKS_OF_TWO,
+        whys: 3,
+        probes: PROBES_OF_TWO,
+    },
+];
+
+static OF_ONE_PATH: [Case; 2] = [
+    // a peering needs no probe
+    Case {
+        kept: 1,
+        labels: &[Label::Peer],
+        marks: &[Mark::Loose],
+        whys: 0,
+        probes: &[],
+    },
+    // an edge of no kept path
+    Case {
+        kept: 0,
+        labels: &[Label::Low],
+        marks: &[Mark::Loose],
+        whys: 0,
+        probes: &[Probe {
+            over: 20,
+            under: 10,
+        }],
+    },
+];
+
+static OF_NO_PATH: [Case; 1] = [Case {
+    kept: 0,
+    labels: &[],
+    marks: &[],
+    whys: 0,
+    probes: &[],
+}];
+
+fn three_rows(alloc: Global) -> Result<Rows<PathId, u32>, Fail>
+    ensures { IfOk result (λ rows. rows ≡ (30 ∷ 40 ∷ 20 ∷ 10 ∷ 50 ∷ 60 ∷ []) ∷ (10 ∷ 20 ∷ 30 ∷ 40 ∷ []) ∷ (50 ∷ 60 ∷ 10 ∷ 20 ∷ []) ∷ []) }
 {
     let mut rows = Rows::new(alloc);
     rows.push_row(&[30, 40, 20, 10, 50, 60])?;
     rows.push_row(&[10, 20, 30, 40])?;
     rows.push_row(&[50, 60, 10, 20])?;
-    Ok(build(alloc, &rows)?)
+    Ok(rows)
 }
 
-fn one_path(alloc: Global) -> Result<AsGraph, Fail>
-    ensures { IfOk result (λ graph. graph ≡ (10 ∷ 20 ∷ []) ∷ []) }
+fn one_row(alloc: Global) -> Result<Rows<PathId, u32>, Fail>
+    ensures { IfOk result (λ rows. rows ≡ (10 ∷ 20 ∷ []) ∷ []) }
 {
     let mut rows = Rows::new(alloc);
     rows.push_row(&[10, 20])?;
+    Ok(rows)
+}
+
+fn three_paths(alloc: Global) -> Result<AsGraph, Fail> {
+    let rows = three_rows(alloc)?;
+    Ok(build(alloc, &rows)?)
+}
+
+fn one_path(alloc: Global) -> Result<AsGraph, Fail> {
+    let rows = one_row(alloc)?;
+    Ok(build(alloc, &rows)?)
+}
+
+fn no_path(alloc: Global) -> Result<AsGraph, Fail> {
+    let rows = Rows::new(alloc);
     Ok(build(alloc, &rows)?)
 }
 
@@ -77,160 +191,112 @@ fn marks_under(
     Ok(forced(alloc, graph, clauses, labels)?)
 }
 
-/// The marks for the clauses of the first paths of the graph, so many, under these labels.
-fn marks_for_first(
+fn marks_with(
     alloc: Global,
     graph: &AsGraph,
-    count: usize,
+    clauses: &Clauses,
     labels: &[Label],
 ) -> Result<Marks, Fail>
-    requires { count ≤ length graph.now }
+    requires { FitsGraph graph.now clauses.now }
 {
-    let clauses = clauses_of(alloc, graph, count)?;
     let labels = Labels::from_labels(alloc, labels)?;
-    marks_under(alloc, graph, &clauses, &labels)
+    marks_under(alloc, graph, clauses, &labels)
+}
+
+/// The marks of a case.
+fn marks_of(alloc: Global, graph: &AsGraph, case: &Case) -> Result<Marks, Fail> {
+    if case.kept > graph.path_count() {
+        return Err(Fail::from("so many paths"));
+    }
+    let clauses = clauses_of(alloc, graph, case.kept)?;
+    marks_with(alloc, graph, &clauses, case.labels)
+}
+
+fn is_met(case: &Case, marks: &Marks) -> bool {
+    marks.marks.as_slice() == case.marks
+        && marks.whys.len() == case.whys
+        && marks.probes.as_slice() == case.probes
+}
+
+/// How many of the cases are met.
+fn met(alloc: Global, graph: &AsGraph, cases: &[Case]) -> Result<usize, Fail> {
+    let mut count: usize = 0;
+    for case in cases {
+        if is_met(case, &marks_of(alloc, graph, case)?) {
+            count = count.saturating_add(1);
+        }
+    }
+    Ok(count)
+}
+
+fn label_of(end: End) -> Label {
+    match end {
+        End::Low => Label::Low,
+        End::High => Label::High,
+    }
+}
+
+/// The labels of an orientation.
+fn labels_of(alloc: Global, ends: &[End]) -> Result<Labels, Fail> {
+    let mut labels = List::new(alloc);
+    for end in ends {
+        labels.push(label_of(*end))?;
+    }
+    Ok(Labels::from_labels(alloc, labels.as_slice())?)
 }
 
 /// The labels of an orientation that serves the paths of the clauses.
 fn solved_labels(alloc: Global, graph: &AsGraph, clauses: &Clauses) -> Result<Labels, Fail>
     requires { FitsGraph graph.now clauses.now }
 {
-    let mut labels = List::new(alloc);
-    if let Verdict::Model(ends) = solve(alloc, graph, clauses)? {
-        for end in ends.as_slice() {
-            labels.push(match end {
-                End::Low => Label::Low,
-                End::High => Label::High,
-            })?;
-        }
+    match solve(alloc, graph, clauses)? {
+        Verdict::Model(ends) => labels_of(alloc, ends.as_slice()),
+        Verdict::Walk(_) => Err(Fail::from("an orientation")),
     }
-    Ok(Labels::from_labels(alloc, labels.as_slice())?)
 }
 
-fn marks_of_solved(alloc: Global, graph: &AsGraph, count: usize) -> Result<Marks, Fail>
-    requires { count ≤ length graph.now }
+fn solved_marks(alloc: Global, graph: &AsGraph, clauses: &Clauses) -> Result<Marks, Fail>
+    requires { FitsGraph graph.now clauses.now }
 {
-    let clauses = clauses_of(alloc, graph, count)?;
-    let labels = solved_labels(alloc, graph, &clauses)?;
-    marks_under(alloc, graph, &clauses, &labels)
+    let labels = solved_labels(alloc, graph, clauses)?;
+    marks_under(alloc, graph, clauses, &labels)
 }
 
-fn marks_of_two_of_three(alloc: Global) -> Result<Marks, Fail> {
-    let graph = three_paths(alloc)?;
-    marks_for_first(
-        alloc,
-        &graph,
-        2,
-        &[
-            Label::High,
-            Label::Peer,
-            Label::High,
-            Label::Low,
-            Label::Low,
-            Label::High,
-            Label::Low,
-        ],
-    )
+/// The marks of the first two paths under the labels of an orientation that serves them.
+fn solved_marks_of_two(alloc: Global, graph: &AsGraph) -> Result<Marks, Fail> {
+    if graph.path_count() < 2 {
+        return Err(Fail::from("two paths"));
+    }
+    let clauses = clauses_of(alloc, graph, 2)?;
+    solved_marks(alloc, graph, &clauses)
 }
-
-fn marks_without_peering(alloc: Global) -> Result<Marks, Fail> {
-    let graph = three_paths(alloc)?;
-    marks_for_first(
-        alloc,
-        &graph,
-        2,
-        &[
-            Label::High,
-            Label::Low,
-            Label::High,
-            Label::Low,
-            Label::Low,
-            Label::High,
-            Label::Low,
-        ],
-    )
-}
-
-fn solved_marks_of_two_of_three(alloc: Global) -> Result<Marks, Fail> {
-    let graph = three_paths(alloc)?;
-    marks_of_solved(alloc, &graph, 2)
-}
-
-fn marks_of_one_edge(alloc: Global, count: usize, label: Label) -> Result<Marks, Fail>
-    requires { count ≤ 1 }
-{
-    let graph = one_path(alloc)?;
-    marks_for_first(alloc, &graph, count, &[label])
-}
-
-fn marks_of_no_path(alloc: Global) -> Result<Marks, Fail> {
-    let rows = Rows::new(alloc);
-    let graph = build(alloc, &rows)?;
-    marks_for_first(alloc, &graph, 0, &[])
-}
-
-/// Whether the marks are these, with as many walks, and these probes.
-fn are(marks: &Marks, wanted: &[Mark], whys: usize, probes: &[Probe]) -> bool {
-    marks.marks.as_slice() == wanted
-        && marks.whys.len() == whys
-        && marks.probes.as_slice() == probes
-}
-
-fn probe(over: u32, under: u32) -> Probe {
-    Probe { over, under }
-}
-
-const OF_THREE_PATHS: [Mark; 7] = [
-    Mark::Loose,
-    Mark::Loose,
-    Mark::Forced,
-    Mark::Forced,
-    Mark::Forced,
-    Mark::Loose,
-    Mark::Loose,
-];
 
 #[test]
 fn three_edges_of_two_paths_are_forced(rt: HostRuntime) -> Result<(), Fail> {
-    let marks = marks_of_two_of_three(rt.alloc())?;
-    let probes = [probe(30, 40), probe(20, 30), probe(60, 10)];
-    assert!(rt; are(&marks, &OF_THREE_PATHS, 3, &probes));
-    Ok(())
-}
-
-#[test]
-fn an_edge_to_which_a_probe_leads_needs_none(rt: HostRuntime) -> Result<(), Fail> {
-    let marks = marks_without_peering(rt.alloc())?;
-    let probes = [probe(30, 40), probe(20, 30), probe(60, 10)];
-    assert!(rt; are(&marks, &OF_THREE_PATHS, 3, &probes));
+    let graph = three_paths(rt.alloc())?;
+    assert_eq!(rt; met(rt.alloc(), &graph, &OF_THREE_PATHS)?, 2);
     Ok(())
 }
 
 #[test]
 fn the_same_are_forced_under_other_labels(rt: HostRuntime) -> Result<(), Fail> {
-    let marks = solved_marks_of_two_of_three(rt.alloc())?;
-    assert!(rt; marks.marks.as_slice() == OF_THREE_PATHS.as_slice());
+    let graph = three_paths(rt.alloc())?;
+    let marks = solved_marks_of_two(rt.alloc(), &graph)?;
+    assert!(rt; marks.marks.as_slice() == MARKS_OF_TWO);
     assert_eq!(rt; marks.whys.len(), 3);
     Ok(())
 }
 
 #[test]
-fn a_peering_is_open_without_a_probe(rt: HostRuntime) -> Result<(), Fail> {
-    let marks = marks_of_one_edge(rt.alloc(), 1, Label::Peer)?;
-    assert!(rt; are(&marks, &[Mark::Loose], 0, &[]));
-    Ok(())
-}
-
-#[test]
-fn an_edge_of_no_kept_path_is_open_by_a_probe(rt: HostRuntime) -> Result<(), Fail> {
-    let marks = marks_of_one_edge(rt.alloc(), 0, Label::Low)?;
-    assert!(rt; are(&marks, &[Mark::Loose], 0, &[probe(20, 10)]));
+fn one_edge_is_open(rt: HostRuntime) -> Result<(), Fail> {
+    let graph = one_path(rt.alloc())?;
+    assert_eq!(rt; met(rt.alloc(), &graph, &OF_ONE_PATH)?, 2);
     Ok(())
 }
 
 #[test]
 fn no_path_has_no_marks(rt: HostRuntime) -> Result<(), Fail> {
-    let marks = marks_of_no_path(rt.alloc())?;
-    assert!(rt; are(&marks, &[], 0, &[]));
+    let graph = no_path(rt.alloc())?;
+    assert_eq!(rt; met(rt.alloc(), &graph, &OF_NO_PATH)?, 1);
     Ok(())
 }

@@ -8,7 +8,8 @@ use Rattle.mrt_frame.specs.declared.cursor.Record as lent
 use Rattle.mrt_frame.specs.declared.header.At.{At}
 use Rattle.mrt_frame.specs.declared.header.Header.{Header}
 use Rattle.mrt_frame.specs.Frames.{PassesOver, FindsNext, StopsWith, end_of_error, record_of}
-use Rattle.mrt_frame.specs.Records.{Record, Next, End, Well, HeadCut, TooManyBytes, Oversize, BodyCut, Ends, Holds, is_read, behind, next_of}
+use Rattle.mrt_frame.specs.Kinds.{is_read}
+use Rattle.mrt_frame.specs.Records.{Record, Next, End, Well, HeadCut, TooManyBytes, Oversize, BodyCut, Ends, Holds, behind, next_of}
 use Rattle.mrt_frame.specs.Steps.{Answer, Gives, HasFailed, seen}
 
 -- nothing that is passed over
@@ -34,7 +35,8 @@ one_next (r ∷ records) [] at octets a o b p first second last also = absurd (n
 one_next (r ∷ records) (q ∷ others) at octets a o b p first second last also =
     let both : Holds q second.0 ≡ Holds r first.0 = sym second.1 ∙ first.1 in
     let more : PassesOver others (behind r) first.0 b p =
-    subst (λ (t : List ℕ). PassesOver others (behind r) t b p) (same_rest q r second.0 first.0 both) (subst (λ (x : Record). PassesOver others (behind x) second.0 b p) (same_record q r second.0 first.0 both) second.3) in
+    subst (λ (t : List ℕ). PassesOver others (behind r) t b p) (same_rest q r second.0 first.0 both)
+    (subst (λ (x : Record). PassesOver others (behind x) second.0 b p) (same_record q r second.0 first.0 both) second.3) in
     one_next records others (behind r) first.0 a o b p first.3 more last also
 
 last_found : (r : Record) (rest : List ℕ) (next : Next) → next ≡ Holds r rest → is_read r.kind r.subtype ≡ true → IsLast next
@@ -65,15 +67,15 @@ not_both at octets r left end f s =
     apart r f.rest end (sym f.stands ∙ both ∙ s.stands)
 
 -- the file bears the answer out
-abbrev pub Knows : Answer → At → List ℕ → Option (List ℕ) → Type 0
-Knows (Ok (Some lent)) at octets left = FindsNext at octets (seen lent) left
-Knows (Ok None) at octets left = StopsWith at octets Well
-Knows (Err e) at octets left = IfSome (end_of_error e) (λ end. StopsWith at octets end)
+abbrev pub Matches : Answer → At → List ℕ → Option (List ℕ) → Type 0
+Matches (Ok (Some lent)) at octets left = FindsNext at octets (seen lent) left
+Matches (Ok None) at octets left = StopsWith at octets Well
+Matches (Err e) at octets left = IfSome (end_of_error e) (λ end. StopsWith at octets end)
 
 pub record Converse (result : Answer) (at : At) (octets : List ℕ) : Type 0 where
   pub record_is_given : (r : Record) (rest : List ℕ) → FindsNext at octets r (Some rest) → Gives result r ⊎ HasFailed result
   pub end_is_none : StopsWith at octets Well → (result ≡ Ok None) ⊎ HasFailed result
-  pub stop_is_known : (e : FrameError) (end : End) → end_of_error e ≡ Some end → StopsWith at octets end → IsErrOf result e ⊎ HasFailed result
+  pub stop_is_error : (e : FrameError) (end : End) → end_of_error e ≡ Some end → StopsWith at octets end → IsErrOf result e ⊎ HasFailed result
 
 well_is_no_error : (e : FrameError) → end_of_error e ≡ Some Well → ⊥
 well_is_no_error (errors.HeadCut at) is = cc
@@ -86,7 +88,7 @@ well_is_no_error errors.NoMemory is = cc
 same_some : (x y : End) → Some x ≡ Some y → x ≡ y
 same_some x y is = cc
 
--- the answer that its own error is, where that knows no end
+-- the answer that its own error is, where that names no end
 no_end : (e : FrameError) → end_of_error e ≡ None → HasFailed (Err e)
 no_end (errors.HeadCut at) is = absurd cc
 no_end (errors.BodyCut at) is = absurd cc
@@ -110,49 +112,50 @@ error_of_end errors.TooManyBytes end is = ap of_end (same_some TooManyBytes end 
 error_of_end errors.ReadFault end is = absurd cc
 error_of_end errors.NoMemory end is = absurd cc
 
--- an error is known by the end that it knows
+-- an error is given by the end that it names
 one_error : (e other : FrameError) (end : End) → end_of_error e ≡ Some end → end_of_error other ≡ Some end → e ≡ other
 one_error e other end is also = error_of_end e end is ∙ sym (error_of_end other end also)
 
 of_error : (e : FrameError) (at : At) (octets : List ℕ) (known : Option End) → end_of_error e ≡ known → IfSome known (λ end. StopsWith at octets end) → Converse (Err e) at octets
-of_error e at octets None is knows = record {
+of_error e at octets None is matches = record {
   record_is_given = λ r rest f. inr (no_end e is);
   end_is_none = λ s. inr (no_end e is);
-  stop_is_known = λ other end known s. inr (no_end e is);
+  stop_is_error = λ other end known s. inr (no_end e is);
 }
-of_error e at octets (Some end) is knows = record {
-  record_is_given = λ r rest f. absurd (not_both at octets r (Some rest) end f knows);
-  end_is_none = λ s. absurd (well_is_no_error e (is ∙ ap (λ (x : End). Some x) (stopped_once at octets end Well knows s)));
-  stop_is_known = λ other last known s. inl (ap (λ (x : FrameError). Err x) (one_error e other last (is ∙ ap (λ (x : End). Some x) (stopped_once at octets end last knows s)) known));
+of_error e at octets (Some end) is matches = record {
+  record_is_given = λ r rest f. absurd (not_both at octets r (Some rest) end f matches);
+  end_is_none = λ s. absurd (well_is_no_error e (is ∙ ap (λ (x : End). Some x) (stopped_once at octets end Well matches s)));
+  stop_is_error = λ other last known s. inl (ap (λ (x : FrameError). Err x) (one_error e other last (is ∙ ap (λ (x : End). Some x) (stopped_once at octets end last matches s)) known));
 }
 
-pub converse : (result : Answer) (at : At) (octets : List ℕ) (left : Option (List ℕ)) → Knows result at octets left → Converse result at octets
-converse (Ok (Some lent)) at octets left knows = record {
-  record_is_given = λ r rest f. inl (found_once at octets (seen lent) r left (Some rest) knows f);
-  end_is_none = λ s. absurd (not_both at octets (seen lent) left Well knows s);
-  stop_is_known = λ e end known s. absurd (not_both at octets (seen lent) left end knows s);
+pub converse : (result : Answer) (at : At) (octets : List ℕ) (left : Option (List ℕ)) → Matches result at octets left → Converse result at octets
+converse (Ok (Some lent)) at octets left matches = record {
+  record_is_given = λ r rest f. inl (found_once at octets (seen lent) r left (Some rest) matches f);
+  end_is_none = λ s. absurd (not_both at octets (seen lent) left Well matches s);
+  stop_is_error = λ e end known s. absurd (not_both at octets (seen lent) left end matches s);
 }
-converse (Ok None) at octets left knows = record {
-  record_is_given = λ r rest f. absurd (not_both at octets r (Some rest) Well f knows);
+converse (Ok None) at octets left matches = record {
+  record_is_given = λ r rest f. absurd (not_both at octets r (Some rest) Well f matches);
   end_is_none = λ s. inl refl;
-  stop_is_known = λ e end known s. absurd (well_is_no_error e (known ∙ ap (λ (x : End). Some x) (stopped_once at octets end Well s knows)));
+  stop_is_error = λ e end known s. absurd (well_is_no_error e (known ∙ ap (λ (x : End). Some x) (stopped_once at octets end Well s matches)));
 }
-converse (Err e) at octets left knows = of_error e at octets (end_of_error e) refl knows
+converse (Err e) at octets left matches = of_error e at octets (end_of_error e) refl matches
 
 -- the same where the octets are known
 pub record Conversely (result : Answer) (before : Option (List ℕ)) (at : At) : Type 0 where
   pub record_is_given : IfSome before (λ octets. (r : Record) (rest : List ℕ) → FindsNext at octets r (Some rest) → Gives result r ⊎ HasFailed result)
   pub end_is_none : IfSome before (λ octets. StopsWith at octets Well → (result ≡ Ok None) ⊎ HasFailed result)
-  pub stop_is_known : IfSome before (λ octets. (e : FrameError) (end : End) → end_of_error e ≡ Some end → StopsWith at octets end → IsErrOf result e ⊎ HasFailed result)
+  pub stop_is_error : IfSome before (λ octets. (e : FrameError) (end : End) → end_of_error e ≡ Some end → StopsWith at octets end → IsErrOf result e ⊎ HasFailed result)
 
-pub conversely : (result : Answer) (before : Option (List ℕ)) (at : At) (left : Option (List ℕ)) → IfSome before (λ octets. Knows result at octets left) → Conversely result before at
-conversely result None at left knows = record { record_is_given = tt; end_is_none = tt; stop_is_known = tt }
-conversely result (Some octets) at left knows =
-    let c = converse result at octets left knows in
-    record { record_is_given = c.record_is_given; end_is_none = c.end_is_none; stop_is_known = c.stop_is_known }
+pub conversely : (result : Answer) (before : Option (List ℕ)) (at : At) (left : Option (List ℕ)) → IfSome before (λ octets. Matches result at octets left) → Conversely result before at
+conversely result None at left matches = record { record_is_given = tt; end_is_none = tt; stop_is_error = tt }
+conversely result (Some octets) at left matches =
+    let c = converse result at octets left matches in
+    record { record_is_given = c.record_is_given; end_is_none = c.end_is_none; stop_is_error = c.stop_is_error }
 
--- an error says of the octets what they say where it knows an end
-pub of_octets : (known : Option End) (before : Option (List ℕ)) (at : At) → IfSome known (λ end. IfSome before (λ octets. StopsWith at octets end)) → IfSome before (λ octets. IfSome known (λ end. StopsWith at octets end))
+-- an error says of the octets what they say where it names an end
+pub of_octets : (known : Option End) (before : Option (List ℕ)) (at : At) → IfSome known (λ end. IfSome before (λ octets. StopsWith at octets end))
+    → IfSome before (λ octets. IfSome known (λ end. StopsWith at octets end))
 of_octets None None at h = tt
 of_octets None (Some octets) at h = tt
 of_octets (Some end) None at h = tt

@@ -40,14 +40,16 @@ cut_is zero at [] le = refl
 cut_is zero at (octet ∷ octets) le = absurd (omega arith)
 cut_is (suc n) at octets le = by_next (next_of at octets) refl (next_is at octets) (λ a o h. cut_is n a o h)
   where
-    by_next : (next : Next) → next_of at octets ≡ next → IsNext at octets (next_of at octets) → ((a : At) (o : List ℕ) → length o ≤ n → AreOf a o (cut_within n a o)) → AreOf at octets (cut_within (suc n) at octets)
+    by_next : (next : Next) → next_of at octets ≡ next → IsNext at octets (next_of at octets) → ((a : At) (o : List ℕ) → length o ≤ n → AreOf a o (cut_within n a o))
+        → AreOf at octets (cut_within (suc n) at octets)
     by_next (Ends end) is there later = subst (AreOf at octets) (sym (ends_with n at octets end is)) (subst (IsNext at octets) is there)
     by_next (Holds r rest) is there later =
         let s : StandsAt at octets r rest = subst (IsNext at octets) is there in
         subst (AreOf at octets) (sym (unrolled n at octets r rest is)) (rest, s.placed, s.within, s.encoded, later (behind r) rest (omega (arith, fewer octets r rest s.encoded)))
 
 -- what is encoded is cut so
-is_cut : (n : ℕ) (at : At) (octets : List ℕ) (records : List Record) (end : End) → length octets ≤ n → AreEncoded at octets records end → cut_within n at octets ≡ record { records = records; end = end }
+is_cut : (n : ℕ) (at : At) (octets : List ℕ) (records : List Record) (end : End) → length octets ≤ n → AreEncoded at octets records end
+    → cut_within n at octets ≡ record { records = records; end = end }
 unfolding cut_within
 is_cut zero at (octet ∷ octets) records end le is = absurd (omega arith)
 is_cut zero at [] [] end le is = ap (λ (e : End). record { records = []; end = e }) (no_octet at end is)

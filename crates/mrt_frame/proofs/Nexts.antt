@@ -5,11 +5,12 @@ use Rattle.std.proofs.lemmas.Bool.{lt-ltb, ltb-true, le-ltb, ltb-false, and_part
 use Rattle.std.proofs.lemmas.List.{take-append-drop, length-take, length-drop, length-append, drop_at}
 use Rattle.std.proofs.Math.Seq.{take-append_seam, drop-append_seam}
 use Rattle.mrt_frame.specs.declared.header.At.{At}
-use Rattle.mrt_frame.specs.Records.{Record, Next, Ends, Holds, Well, HeadCut, TooManyBytes, Oversize, BodyCut, is_read, kind_in, subtype_in, length_in, next_of, next_body}
+use Rattle.mrt_frame.specs.Kinds.{is_read}
+use Rattle.mrt_frame.specs.Records.{Record, Next, Ends, Holds, Well, HeadCut, TooManyBytes, Oversize, BodyCut, kind_in, subtype_in, length_in, next_of, next_body}
 use Rattle.mrt_frame.specs.Encoding.{IsHeader, Encodes, IsWithin, IsEnd}
 use Rattle.mrt_frame.proofs.HeaderFields.{fields_of_prefix, fields_of_take}
 
--- this record stands at this place, in prefix of the rest
+-- this record stands at this place, before the rest
 pub record StandsAt (at : At) (octets : List ℕ) (r : Record) (rest : List ℕ) : Type 0 where
   pub placed : r.at ≡ at
   pub within : IsWithin r
@@ -28,7 +29,8 @@ not_both false b is first = absurd cc
 not_both true b is first = is
 
 -- what a record has behind its header
-holds_is : (at : At) (octets : List ℕ) → 12 ≤ length octets → at.offset + 12 + length_in octets ≤ 2 ^ 40 → (IsTrue (is_read (kind_in octets) (subtype_in octets)) → length_in octets ≤ 2 ^ 26) → length_in octets ≤ length (drop 12 octets)
+holds_is : (at : At) (octets : List ℕ) → 12 ≤ length octets → at.offset + 12 + length_in octets ≤ 2 ^ 40
+    → (IsTrue (is_read (kind_in octets) (subtype_in octets)) → length_in octets ≤ 2 ^ 26) → length_in octets ≤ length (drop 12 octets)
     → StandsAt at octets (record { at = at; kind = kind_in octets; subtype = subtype_in octets; body = take (length_in octets) (drop 12 octets) }) (drop (length_in octets) (drop 12 octets))
 holds_is at octets whole near small fits =
     let len = length_in octets in
@@ -52,17 +54,26 @@ holds_is at octets whole near small fits =
 
 body_is : (at : At) (octets : List ℕ) → 12 ≤ length octets → IsNext at octets (next_body at (kind_in octets) (subtype_in octets) (length_in octets) (drop 12 octets))
 body_is at octets whole =
-    by_tests (ltb (2 ^ 40) (at.offset + 12 + length_in octets)) (is_read (kind_in octets) (subtype_in octets) && ltb (2 ^ 26) (length_in octets)) (ltb (length (drop 12 octets)) (length_in octets)) refl refl refl
+    by_tests (ltb (2 ^ 40) (at.offset + 12 + length_in octets)) (is_read (kind_in octets) (subtype_in octets) && ltb (2 ^ 26) (length_in octets))
+    (ltb (length (drop 12 octets)) (length_in octets)) refl refl refl
   where
-    by_tests : (far long short : Bool) → ltb (2 ^ 40) (at.offset + 12 + length_in octets) ≡ far → (is_read (kind_in octets) (subtype_in octets) && ltb (2 ^ 26) (length_in octets)) ≡ long → ltb (length (drop 12 octets)) (length_in octets) ≡ short
-        → IsNext at octets (cond far (Ends TooManyBytes) (cond long (Ends (Oversize at)) (cond short (Ends (BodyCut at)) (Holds (record { at = at; kind = kind_in octets; subtype = subtype_in octets; body = take (length_in octets) (drop 12 octets) }) (drop (length_in octets) (drop 12 octets))))))
+    by_tests : (far long short : Bool) → ltb (2 ^ 40) (at.offset + 12 + length_in octets) ≡ far
+        → (is_read (kind_in octets) (subtype_in octets) && ltb (2 ^ 26) (length_in octets)) ≡ long → ltb (length (drop 12 octets)) (length_in octets) ≡ short
+        → IsNext at octets (cond far (Ends TooManyBytes) (cond long (Ends (Oversize at))
+        (cond short (Ends (BodyCut at)) (Holds (record { at = at; kind = kind_in octets; subtype = subtype_in octets; body = take (length_in octets) (drop 12 octets) })
+        (drop (length_in octets) (drop 12 octets))))))
     by_tests true long short f l s = (whole, ltb-true _ _ f)
     by_tests false true short f l s =
         let p = and_parts (is_read (kind_in octets) (subtype_in octets)) (ltb (2 ^ 26) (length_in octets)) l in
         (refl, record { header = whole; file = ltb-false _ _ f }, p.0, ltb-true _ _ p.1)
     by_tests false false true f l s =
-        let cut : length (drop 12 octets) < length_in octets = ltb-true _ _ s in
-        (refl, record { header = whole; file = ltb-false _ _ f }, (λ read. ltb-false _ _ (not_both (is_read (kind_in octets) (subtype_in octets)) (ltb (2 ^ 26) (length_in octets)) l read)), omega (arith, length-drop 12 octets))
+        let cut : length (drop 12 octets) < length_in octets = ltb-true _ _ s in (
+          refl,
+          record { header = whole; file = ltb-false _ _ f },
+          (λ read. ltb-false _ _
+              (not_both (is_read (kind_in octets) (subtype_in octets)) (ltb (2 ^ 26) (length_in octets)) l read)),
+          omega (arith, length-drop 12 octets),
+        )
     by_tests false false false f l s =
         holds_is at octets whole (ltb-false _ _ f) (λ read. ltb-false _ _ (not_both (is_read (kind_in octets) (subtype_in octets)) (ltb (2 ^ 26) (length_in octets)) l read)) (ltb-false _ _ s)
 
@@ -92,7 +103,14 @@ small_enough kind subtype len small = by_test (is_read kind subtype) small
 whole_body : (at : At) (kind subtype : ℕ) (body rest : List ℕ) → at.offset + 12 + length body ≤ 2 ^ 40 → (IsTrue (is_read kind subtype) → length body ≤ 2 ^ 26)
     → next_body at kind subtype (length body) (body ++ rest) ≡ Holds (record { at = at; kind = kind; subtype = subtype; body = body }) rest
 whole_body at kind subtype body rest near small =
-    rw (le-ltb (2 ^ 40) (at.offset + 12 + length body) near, small_enough kind subtype (length body) small, le-ltb (length (body ++ rest)) (length body) (omega (arith, length-append body rest)), take-append_seam body rest, drop-append_seam body rest) refl
+    rw (
+      le-ltb (2 ^ 40) (at.offset + 12 + length body) near,
+      small_enough kind subtype (length body) small,
+      le-ltb (length (body ++ rest)) (length body)
+          (omega (arith, length-append body rest)),
+      take-append_seam body rest,
+      drop-append_seam body rest,
+    ) refl
 
 holds_next : (at : At) (r : Record) (header rest : List ℕ) → r.at ≡ at → IsWithin r → IsHeader header r → next_of at (header ++ r.body ++ rest) ≡ Holds r rest
 holds_next at r header rest placed within h =
@@ -115,9 +133,18 @@ is_next at octets (Ends (HeadCut a)) is = head_cut at a octets is.0 is.1 is.2
 is_next at octets (Ends TooManyBytes) is = whole_header at octets is.0 ∙ rw (lt-ltb (2 ^ 40) (at.offset + 12 + length_in octets) is.1) refl
 is_next at octets (Ends (Oversize a)) is =
     whole_header at octets is.1.header
-    ∙ rw (le-ltb (2 ^ 40) (at.offset + 12 + length_in octets) is.1.file, and_from (is_read (kind_in octets) (subtype_in octets)) (ltb (2 ^ 26) (length_in octets)) is.2 (lt-ltb (2 ^ 26) (length_in octets) is.3)) (ap (λ (p : At). Ends (Oversize p)) (sym is.0))
+    ∙ rw (
+      le-ltb (2 ^ 40) (at.offset + 12 + length_in octets) is.1.file,
+      and_from (is_read (kind_in octets) (subtype_in octets)) (ltb (2 ^ 26) (length_in octets)) is.2
+          (lt-ltb (2 ^ 26) (length_in octets) is.3),
+    ) (ap (λ (p : At). Ends (Oversize p)) (sym is.0))
 is_next at octets (Ends (BodyCut a)) is =
     let short : length (drop 12 octets) < length_in octets = omega (arith, length-drop 12 octets) in
     whole_header at octets is.1.header
-    ∙ rw (le-ltb (2 ^ 40) (at.offset + 12 + length_in octets) is.1.file, small_enough (kind_in octets) (subtype_in octets) (length_in octets) is.2, lt-ltb (length (drop 12 octets)) (length_in octets) short) (ap (λ (p : At). Ends (BodyCut p)) (sym is.0))
+    ∙ rw (
+      le-ltb (2 ^ 40) (at.offset + 12 + length_in octets) is.1.file,
+      small_enough (kind_in octets) (subtype_in octets) (length_in octets) is.2,
+      lt-ltb (length (drop 12 octets))
+          (length_in octets) short,
+    ) (ap (λ (p : At). Ends (BodyCut p)) (sym is.0))
 is_next at octets (Holds r rest) is = ap (next_of at) is.encoded.encoded ∙ holds_next at r is.encoded.header rest is.placed is.within is.encoded.is_header

@@ -7,24 +7,28 @@ use Rattle.mrt_frame.specs.declared.header.At.{At}
 use Rattle.mrt_frame.specs.declared.header.Header.{Header}
 use Rattle.mrt_frame.specs.Frames.{PassesOver, Passes, FindsNext, StopsWith, record_of}
 use Rattle.mrt_frame.specs.Part.{Skips, TakesHeader}
-use Rattle.mrt_frame.specs.Records.{Record, Cut, End, Ends, Holds, BodyCut, is_read, behind, next_of, cut_within}
+use Rattle.mrt_frame.specs.Kinds.{is_read}
+use Rattle.mrt_frame.specs.Records.{Record, Cut, End, Ends, Holds, BodyCut, behind, next_of, cut_within}
 use Rattle.mrt_frame.proofs.Cuts.{shorter, unrolled}
 
 pub nothing : (at : At) (octets : List ℕ) → Passes at octets at octets
 nothing at octets = ([], (refl, refl))
 
--- one record more in prefix
-pub one_more : (at : At) (octets : List ℕ) (r : Record) (rest : List ℕ) (place : At) (reached : List ℕ) → next_of at octets ≡ Holds r rest → is_read r.kind r.subtype ≡ false → Passes (behind r) rest place reached → Passes at octets place reached
+-- one record more before them
+pub one_more : (at : At) (octets : List ℕ) (r : Record) (rest : List ℕ) (place : At) (reached : List ℕ) → next_of at octets ≡ Holds r rest → is_read r.kind r.subtype ≡ false
+    → Passes (behind r) rest place reached → Passes at octets place reached
 one_more at octets r rest place reached is not p = (r ∷ p.0, (rest, is, not, p.1))
 
-over_then : (records : List Record) (at : At) (octets : List ℕ) (place : At) (reached : List ℕ) (r : Record) (rest : List ℕ) → PassesOver records at octets place reached → next_of place reached ≡ Holds r rest → is_read r.kind r.subtype ≡ false → Passes at octets (behind r) rest
+over_then : (records : List Record) (at : At) (octets : List ℕ) (place : At) (reached : List ℕ) (r : Record) (rest : List ℕ) → PassesOver records at octets place reached
+    → next_of place reached ≡ Holds r rest → is_read r.kind r.subtype ≡ false → Passes at octets (behind r) rest
 over_then [] at octets place reached r rest p is not =
     one_more at octets r rest (behind r) rest (sym (ap₂ next_of p.0 p.1) ∙ is) not (nothing (behind r) rest)
 over_then (q ∷ records) at octets place reached r rest p is not =
     one_more at octets q p.0 (behind r) rest p.1 p.2 (over_then records (behind q) p.0 place reached r rest p.3 is not)
 
 -- one record more behind
-pub and_then : (at : At) (octets : List ℕ) (place : At) (reached : List ℕ) (r : Record) (rest : List ℕ) → Passes at octets place reached → next_of place reached ≡ Holds r rest → is_read r.kind r.subtype ≡ false → Passes at octets (behind r) rest
+pub and_then : (at : At) (octets : List ℕ) (place : At) (reached : List ℕ) (r : Record) (rest : List ℕ) → Passes at octets place reached → next_of place reached ≡ Holds r rest
+    → is_read r.kind r.subtype ≡ false → Passes at octets (behind r) rest
 and_then at octets place reached r rest p is not = over_then p.0 at octets place reached r rest p.1 is not
 
 -- none of these records is read
@@ -32,9 +36,9 @@ abbrev pub NoneIsRead : List Record → Type 0
 NoneIsRead [] = Unit {0}
 NoneIsRead (r ∷ records) = (is_read r.kind r.subtype ≡ false) × NoneIsRead records
 
--- records in prefix of those of a cut
-abbrev pub in_prefix : List Record → Cut → Cut
-in_prefix records c = record { records = records ++ c.records; end = c.end }
+-- records before those of a cut
+abbrev pub with_before : List Record → Cut → Cut
+with_before records c = record { records = records ++ c.records; end = c.end }
 
 -- a cut list begins with the records that are passed over, and goes on from behind them
 pub record GoesOn (fuel : ℕ) (at : At) (octets : List ℕ) (place : At) (reached : List ℕ) : Type 0 where
@@ -42,9 +46,10 @@ pub record GoesOn (fuel : ℕ) (at : At) (octets : List ℕ) (place : At) (reach
   pub none : NoneIsRead records
   pub fuel_left : ℕ
   pub enough : length reached ≤ fuel_left
-  pub same : cut_within fuel at octets ≡ in_prefix records (cut_within fuel_left place reached)
+  pub same : cut_within fuel at octets ≡ with_before records (cut_within fuel_left place reached)
 
-over : (records : List Record) (fuel : ℕ) (at : At) (octets : List ℕ) (place : At) (reached : List ℕ) → PassesOver records at octets place reached → length octets ≤ fuel → GoesOn fuel at octets place reached
+over : (records : List Record) (fuel : ℕ) (at : At) (octets : List ℕ) (place : At) (reached : List ℕ) → PassesOver records at octets place reached → length octets ≤ fuel
+    → GoesOn fuel at octets place reached
 over [] fuel at octets place reached p le = record {
   records = [];
   none = tt;
@@ -77,13 +82,15 @@ begins (Some octets) start = (octets, refl, nothing start octets)
 
 -- a record whose header was taken, and whose body was passed over, stood there
 stood : (at : At) (octets : List ℕ) (header : Header) (mid after : Option (List ℕ)) → TakesHeader at octets header mid → Skips mid header.len after
-    → (next_of at octets ≡ Holds (record_of at header (take header.len (drop 12 octets))) (drop header.len (drop 12 octets))) × (after ≡ Some (drop header.len (drop 12 octets))) × (length (take header.len (drop 12 octets)) ≡ header.len)
+    → (next_of at octets ≡ Holds (record_of at header (take header.len (drop 12 octets))) (drop header.len (drop 12 octets))) × (after ≡ Some (drop header.len (drop 12 octets)))
+    × (length (take header.len (drop 12 octets)) ≡ header.len)
 stood at octets header mid after h skipped =
     let rest = drop 12 octets in
     let s : Skips (Some rest) header.len after = subst (λ o. Skips o header.len after) h.0 skipped in
     (h.1 ∙ rw (le-ltb (length rest) header.len s.0) refl, s.1, omega (arith, s.0, length-take header.len rest))
 
-pub passed_one : (before left mid after : Option (List ℕ)) (start at next : At) (header : Header) → HasPassed before start left at → IfSome left (λ octets. TakesHeader at octets header mid) → Skips mid header.len after
+pub passed_one : (before left mid after : Option (List ℕ)) (start at next : At) (header : Header) → HasPassed before start left at
+    → IfSome left (λ octets. TakesHeader at octets header mid) → Skips mid header.len after
     → is_read header.kind header.subtype ≡ false → next.number ≡ at.number + 1 → next.offset ≡ at.offset + 12 + header.len → HasPassed before start after next
 passed_one None left mid after start at next header passed h skipped not number offset = tt
 passed_one (Some octets) left mid after start at next header passed h skipped not number offset =
@@ -95,7 +102,8 @@ passed_one (Some octets) left mid after start at next header passed h skipped no
     let place : behind r ≡ next = ap₂ (λ (n o : ℕ). record { number = n; offset = o }) (sym number) (ap (λ n. at.offset + 12 + n) s.2 ∙ sym offset) in
     (rest, s.1, subst (λ (a : At). Passes start octets a rest) place (and_then start octets at reached r rest passed.2 s.0 not))
 
-pub finds : (before left mid after : Option (List ℕ)) (start at : At) (header : Header) (body : List ℕ) → HasPassed before start left at → IfSome left (λ octets. TakesHeader at octets header mid) → Skips mid header.len after
+pub finds : (before left mid after : Option (List ℕ)) (start at : At) (header : Header) (body : List ℕ) → HasPassed before start left at
+    → IfSome left (λ octets. TakesHeader at octets header mid) → Skips mid header.len after
     → IfSome mid (λ octets. body ≡ take header.len octets) → is_read header.kind header.subtype ≡ true → IfSome before (λ octets. FindsNext start octets (record_of at header body) after)
 finds None left mid after start at header body passed h skipped taken read = tt
 finds (Some octets) left mid after start at header body passed h skipped taken read =
@@ -112,7 +120,8 @@ finds (Some octets) left mid after start at header body passed h skipped taken r
       leaves = s.1;
     }
 
-pub stops : (before left : Option (List ℕ)) (start at : At) (end : End) → HasPassed before start left at → IfSome left (λ octets. next_of at octets ≡ Ends end) → IfSome before (λ octets. StopsWith start octets end)
+pub stops : (before left : Option (List ℕ)) (start at : At) (end : End) → HasPassed before start left at → IfSome left (λ octets. next_of at octets ≡ Ends end)
+    → IfSome before (λ octets. StopsWith start octets end)
 stops None left start at end passed is = tt
 stops (Some octets) left start at end passed is = record {
   place = at;
@@ -122,7 +131,8 @@ stops (Some octets) left start at end passed is = record {
 }
 
 -- a body is cut where fewer octets than its header says are behind it
-pub cut_body : (left mid : Option (List ℕ)) (at : At) (header : Header) (end : End) → IfSome left (λ octets. TakesHeader at octets header mid) → (end ≡ BodyCut at) × IfSome mid (λ octets. length octets < header.len) → IfSome left (λ octets. next_of at octets ≡ Ends end)
+pub cut_body : (left mid : Option (List ℕ)) (at : At) (header : Header) (end : End) → IfSome left (λ octets. TakesHeader at octets header mid)
+    → (end ≡ BodyCut at) × IfSome mid (λ octets. length octets < header.len) → IfSome left (λ octets. next_of at octets ≡ Ends end)
 cut_body None mid at header end h short = tt
 cut_body (Some octets) mid at header end h short =
     let few : length (drop 12 octets) < header.len = subst (λ o. IfSome o (λ (t : List ℕ). length t < header.len)) h.0 short.1 in

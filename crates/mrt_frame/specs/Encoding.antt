@@ -1,8 +1,10 @@
 -- How the records of a file are encoded (RFC 6396, section 2), and the law that a file is cut into exactly the records
 -- that it encodes.
-use Rattle.std.specs.Prelude.{◌≡◌, ◌↔◌, ℕ, ◌+◌, ◌^◌, ◌<◌, ◌≤◌, IsTrue, List, [], ◌∷◌, ◌++◌, length}
+use Rattle.std.specs.Prelude.{◌≡◌, ◌↔◌, ℕ, ◌+◌, ◌<◌, ◌≤◌, IsTrue, List, [], ◌∷◌, ◌++◌, length}
 use Rattle.mrt_frame.specs.declared.header.At.{At}
-use Rattle.mrt_frame.specs.Records.{Record, End, Well, HeadCut, TooManyBytes, Oversize, BodyCut, is_read, kind_in, subtype_in, length_in, behind, start, cut}
+use Rattle.mrt_frame.specs.Kinds.{is_read}
+use Rattle.mrt_frame.specs.Limits.{max_body, max_file}
+use Rattle.mrt_frame.specs.Records.{Record, End, Well, HeadCut, TooManyBytes, Oversize, BodyCut, kind_in, subtype_in, length_in, behind, start, cut}
 
 -- twelve octets are the header of this record; their first four, its timestamp, are free
 pub record IsHeader (header : List ℕ) (r : Record) : Type 0 where
@@ -19,15 +21,15 @@ pub record Encodes (octets : List ℕ) (r : Record) (rest : List ℕ) : Type 0 w
 
 -- the record ends within the bound on a file, and it is not too long if it is one that is read
 pub record IsWithin (r : Record) : Type 0 where
-  pub file : r.at.offset + 12 + length r.body ≤ 2 ^ 40
-  pub body : IsTrue (is_read r.kind r.subtype) → length r.body ≤ 2 ^ 26
+  pub file : r.at.offset + 12 + length r.body ≤ max_file
+  pub body : IsTrue (is_read r.kind r.subtype) → length r.body ≤ max_body
 
 -- a whole header stands at this place, and its record would end within the bound on a file
 pub record IsNear (at : At) (octets : List ℕ) : Type 0 where
   pub header : 12 ≤ length octets
-  pub file : at.offset + 12 + length_in octets ≤ 2 ^ 40
+  pub file : at.offset + 12 + length_in octets ≤ max_file
 
--- the header that stands in prefix is that of a record that is read
+-- the header that stands first is that of a record that is read
 abbrev pub IsRead : List ℕ → Type 0
 IsRead octets = IsTrue (is_read (kind_in octets) (subtype_in octets))
 
@@ -35,10 +37,10 @@ IsRead octets = IsTrue (is_read (kind_in octets) (subtype_in octets))
 abbrev pub IsEnd : At → List ℕ → End → Type 0
 IsEnd at octets Well = octets ≡ []
 IsEnd at octets (HeadCut a) = (a ≡ at) × (0 < length octets) × (length octets < 12)
-IsEnd at octets TooManyBytes = (12 ≤ length octets) × (2 ^ 40 < at.offset + 12 + length_in octets)
-IsEnd at octets (Oversize a) = (a ≡ at) × IsNear at octets × IsRead octets × (2 ^ 26 < length_in octets)
+IsEnd at octets TooManyBytes = (12 ≤ length octets) × (max_file < at.offset + 12 + length_in octets)
+IsEnd at octets (Oversize a) = (a ≡ at) × IsNear at octets × IsRead octets × (max_body < length_in octets)
 IsEnd at octets (BodyCut a) =
-    (a ≡ at) × IsNear at octets × (IsRead octets → length_in octets ≤ 2 ^ 26) × (length octets < 12 + length_in octets)
+    (a ≡ at) × IsNear at octets × (IsRead octets → length_in octets ≤ max_body) × (length octets < 12 + length_in octets)
 
 -- from this place on, the octets encode these records one behind the other, and then there is this end
 abbrev pub AreEncoded : At → List ℕ → List Record → End → Type 0

@@ -161,7 +161,8 @@ encoded_within n [] attrs is = subst (λ l. AreEncoded l []) (ok_same {E = AttrC
 encoded_within zero (x ∷ xs) attrs is = absurd (apart cut attrs is)
 encoded_within (suc n) (x ∷ xs) attrs is = of_first (attribute (x ∷ xs)) refl is (λ rest others h. encoded_within n rest others h)
   where
-    of_others : (first : Attribute × List ℕ) (read : Result (List Attribute) AttrCut) → attribute (x ∷ xs) ≡ Ok first → attributes_within n first.1 ≡ read → (read >>= λ others. Ok (first.0 ∷ others)) ≡ Ok attrs
+    of_others : (first : Attribute × List ℕ) (read : Result (List Attribute) AttrCut) → attribute (x ∷ xs) ≡ Ok first → attributes_within n first.1 ≡ read
+        → (read >>= λ others. Ok (first.0 ∷ others)) ≡ Ok attrs
         → ((rest : List ℕ) (others : List Attribute) → attributes_within n rest ≡ Ok others → AreEncoded others rest) → AreEncoded attrs (x ∷ xs)
     of_others first (Ok others) prefix behind h hyp =
         let b = attribute_back (x ∷ xs) first.0 first.1 prefix in
@@ -194,7 +195,8 @@ pub whole_block : (block rest : List ℕ) → rest ≡ [] → is_ok (attributes_
 whole_block block rest none same = sym same ∙ ap (λ r. is_ok (attributes_of r)) none ∙ ap is_ok attributes_of-none
 
 -- the first attribute of a code: at the prefix, behind it, or nowhere
-pub first_here : (code : ℕ) (bytes : List ℕ) (a : Attribute) (rest : List ℕ) → attribute bytes ≡ Ok (a, rest) → is_ok (attributes_of bytes) ≡ true → a.code ≡ code → Some a.value ≡ first_value code (attributes_in bytes)
+pub first_here : (code : ℕ) (bytes : List ℕ) (a : Attribute) (rest : List ℕ) → attribute bytes ≡ Ok (a, rest) → is_ok (attributes_of bytes) ≡ true → a.code ≡ code
+    → Some a.value ≡ first_value code (attributes_in bytes)
 first_here code bytes a rest is ok same =
     ap (λ b. cond b (Some a.value) (first_value code (attributes_in rest))) (sym (eq-eqb a.code code same)) ∙ sym (ap (first_value code) (attributes_in-next bytes a rest is ok).1)
 

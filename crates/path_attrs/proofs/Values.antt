@@ -12,7 +12,8 @@ use Rattle.path_attrs.specs.Segments.{octets_in, code_of, kind_of, numbers, segm
 use Rattle.path_attrs.proofs.Encodings.{big_number-append, big_number-take}
 
 -- the steps of the loop over the numbers of a segment
-pub numbers-step : (n count i : ℕ) (rest so_far all : List ℕ) → i < count → so_far ++ numbers n (count - i) rest ≡ all → (so_far ++ big_number n rest ∷ []) ++ numbers n (count - (i + 1)) (drop n rest) ≡ all
+pub numbers-step : (n count i : ℕ) (rest so_far all : List ℕ) → i < count → so_far ++ numbers n (count - i) rest ≡ all
+    → (so_far ++ big_number n rest ∷ []) ++ numbers n (count - (i + 1)) (drop n rest) ≡ all
 numbers-step n count i rest so_far all lt same =
     let e : count - i ≡ suc (count - (i + 1)) = omega arith in
     append_assoc so_far (big_number n rest ∷ []) (numbers n (count - (i + 1)) (drop n rest)) ∙ sym (ap (λ k. so_far ++ numbers n k rest) e) ∙ same
@@ -76,7 +77,8 @@ kind-back code kind is = by1 (code == 1) refl is
     by2 true t h = chosen Sequence (sym (eqb-true code 2 t)) h
     by2 false t h = by3 (code == 3) refl h
 
-    by1 : (b : Bool) → (code == 1) ≡ b → cond b (Some Set) (cond (code == 2) (Some Sequence) (cond (code == 3) (Some ConfedSequence) (cond (code == 4) (Some ConfedSet) None))) ≡ Some kind → code_of kind ≡ code
+    by1 : (b : Bool) → (code == 1) ≡ b → cond b (Some Set) (cond (code == 2) (Some Sequence)
+        (cond (code == 3) (Some ConfedSequence) (cond (code == 4) (Some ConfedSet) None))) ≡ Some kind → code_of kind ≡ code
     by1 true t h = chosen Set (sym (eqb-true code 1 t)) h
     by1 false t h = by2 (code == 2) refl h
 
@@ -167,7 +169,8 @@ same_within (suc n) (suc m) width (x ∷ xs) hn hm = of_first (segment width (x 
     of_first None is same = refl
 
 -- one segment, and those behind it
-pub segments_of-next : (width : Width) (bytes : List ℕ) (s : Segment) (rest : List ℕ) → segment width bytes ≡ Some (s, rest) → segments_of width bytes ≡ option_map (λ others. s ∷ others) (segments_of width rest)
+pub segments_of-next : (width : Width) (bytes : List ℕ) (s : Segment) (rest : List ℕ) → segment width bytes ≡ Some (s, rest)
+    → segments_of width bytes ≡ option_map (λ others. s ∷ others) (segments_of width rest)
 unfolding segments_of segments_within
 segments_of-next width [] s rest is = absurd (let h = shorter width [] s rest is in omega arith)
 segments_of-next width (x ∷ xs) s rest is =
@@ -191,7 +194,8 @@ encoded_within n width [] found is = let same : [] ≡ found = cc in subst (λ l
 encoded_within zero width (x ∷ xs) found is = absurd cc
 encoded_within (suc n) width (x ∷ xs) found is = of_first (segment width (x ∷ xs)) refl is (λ rest others h. encoded_within n width rest others h)
   where
-    of_others : (first : Segment × List ℕ) (read : Option (List Segment)) → segment width (x ∷ xs) ≡ Some first → segments_within n width first.1 ≡ read → option_map (λ others. first.0 ∷ others) read ≡ Some found
+    of_others : (first : Segment × List ℕ) (read : Option (List Segment)) → segment width (x ∷ xs) ≡ Some first → segments_within n width first.1 ≡ read
+        → option_map (λ others. first.0 ∷ others) read ≡ Some found
         → ((rest : List ℕ) (others : List Segment) → segments_within n width rest ≡ Some others → SegmentsAreEncoded width others rest) → SegmentsAreEncoded width found (x ∷ xs)
     of_others first (Some others) prefix behind h hyp =
         let b = segment-back width (x ∷ xs) first.0 first.1 prefix in
@@ -228,6 +232,8 @@ pub segments-malformed : (width : Width) (bytes : List ℕ) (before : List Segme
     → option_map (λ more. before ++ more) (segments_of width bytes) ≡ all → None ≡ all
 segments-malformed width bytes before all lt is same = sym (ap (option_map (λ more. before ++ more)) (segments_of-malformed width bytes lt (sym is))) ∙ same
 
-pub segments-end : (width : Width) (bytes : List ℕ) (before : List Segment) (all : Option (List Segment)) → bytes ≡ [] → option_map (λ more. before ++ more) (segments_of width bytes) ≡ all → Some before ≡ all
+pub segments-end : (width : Width) (bytes : List ℕ) (before : List Segment) (all : Option (List Segment)) → bytes ≡ []
+    → option_map (λ more. before ++ more) (segments_of width bytes) ≡ all → Some before ≡ all
 segments-end width bytes before all none same =
-    ap (λ l. Some l) (sym (append-nil before)) ∙ sym (ap (λ b. option_map (λ more. before ++ more) (segments_of width b)) none ∙ ap (option_map (λ more. before ++ more)) (segments_of-none width)) ∙ same
+    ap (λ l. Some l) (sym (append-nil before)) ∙ sym (ap (λ b. option_map (λ more. before ++ more) (segments_of width b)) none
+    ∙ ap (option_map (λ more. before ++ more)) (segments_of-none width)) ∙ same

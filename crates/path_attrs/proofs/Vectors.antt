@@ -72,7 +72,8 @@ unfolding segments_of segments_within segment two
 another_width = refl
 
 all_kinds : segments_of Two (1 ∷ 1 ∷ 0 ∷ 30 ∷ 2 ∷ 1 ∷ 1 ∷ 0 ∷ 3 ∷ 1 ∷ 0 ∷ 40 ∷ 4 ∷ 2 ∷ 0 ∷ 50 ∷ 255 ∷ 255 ∷ [])
-    ≡ Some (record { kind = Set; ases = 30 ∷ [] } ∷ record { kind = Sequence; ases = 256 ∷ [] } ∷ record { kind = ConfedSequence; ases = 40 ∷ [] } ∷ record { kind = ConfedSet; ases = 50 ∷ 65535 ∷ [] } ∷ [])
+    ≡ Some (record { kind = Set; ases = 30 ∷ [] } ∷ record { kind = Sequence; ases = 256 ∷ [] } ∷ record { kind = ConfedSequence; ases = 40 ∷ [] }
+    ∷ record { kind = ConfedSet; ases = 50 ∷ 65535 ∷ [] } ∷ [])
 unfolding segments_of segments_within segment
 all_kinds = refl
 

@@ -17,7 +17,7 @@ cut = record {}
 abbrev pub length_octets : ℕ → ℕ
 length_octets flags = if bit_and flags 0x10 == 0 then 1 else 2
 
--- the attribute at the prefix, and the octets behind it
+-- the attribute that stands first, and the octets behind it
 unfoldable pub attribute : List ℕ → Result (Attribute × List ℕ) AttrCut
 attribute bytes = do
   flags ← number cut 1 bytes

@@ -38,7 +38,7 @@ abbrev pub segment_of : Width → ℕ → List ℕ → SegKind → Segment × Li
 segment_of width count bytes kind =
     (record { kind = kind; ases = numbers (octets_in width) count bytes }, drop (octets_in width * count) bytes)
 
--- the segment at the prefix, and the octets behind it: it is not empty, whole, and of a kind that there is
+-- the segment that stands first, and the octets behind it: it is not empty, whole, and of a kind that there is
 unfoldable pub segment : Width → List ℕ → Option (Segment × List ℕ)
 segment width [] = None
 segment width (code ∷ []) = None

@@ -46,7 +46,7 @@ impl Width {
         }
     }
 
-    // The number at the prefix.
+    // The number that stands first.
     fn number(self, bytes: &[u8]) -> u32
         requires { octets_in self ≤ length bytes.now }
         ensures { result ≡ big_number (octets_in self) bytes.now }
@@ -72,7 +72,7 @@ impl SegKind {
     }
 }
 
-// The head of the segment at the prefix, where the segment is whole: its kind and its count of numbers, and the octets from
+// The head of the first segment, where the segment is whole: its kind and its count of numbers, and the octets from
 // the first number on.
 #[tactic(auto, unfolding(crate::specs::Segments::segment))]
 fn head_of(bytes: &[u8], width: Width) -> Option<(SegKind, usize, &[u8])>

@@ -46,7 +46,7 @@ impl Attrs<'_> {
     }
 }
 
-// The attribute at the prefix: its type code and its value, and the octets behind it.
+// The attribute that stands first: its type code and its value, and the octets behind it.
 #[tactic(auto, unfolding(crate::specs::Attributes::attribute))]
 fn attribute_of(bytes: &[u8]) -> Result<(u8, &[u8], &[u8]), AttrCut>
     ensures within { IfOk result (λ x. length x.1.now ≤ 65535) }

@@ -142,7 +142,8 @@ rows_by f ds = map (λ q. record { path = q; times = min (f q) most }) ds
 
 rows_same : (f g : List ℕ → ℕ) (ds : List (List ℕ)) → ((q : List ℕ) → f q ≡ g q) → rows_by f ds ≡ rows_by g ds
 rows_same f g [] same = refl
-rows_same f g (d ∷ ds) same = ap (λ n. record { path = d; times = min n most } ∷ rows_by f ds) (same d) ∙ ap (λ (t : List Counted). record { path = d; times = min (g d) most } ∷ t) (rows_same f g ds same)
+rows_same f g (d ∷ ds) same = ap (λ n. record { path = d; times = min n most } ∷ rows_by f ds) (same d)
+    ∙ ap (λ (t : List Counted). record { path = d; times = min (g d) most } ∷ t) (rows_same f g ds same)
 
 abbrev bumped : (List ℕ → ℕ) → List ℕ → List ℕ → ℕ
 bumped f p q = f q + one p q
@@ -170,7 +171,8 @@ unfolding mem
 with_new f p [] none = refl
 with_new f p (d ∷ ds) none = by (λ h. with_new f p ds h) (bytes_eq d p) refl
   where
-    by : (mem p ds ≡ false → with_path (rows_by f ds) p ≡ rows_by f ds ++ record { path = p; times = 1 } ∷ []) → (b : Bool) → bytes_eq d p ≡ b → with_path (rows_by f (d ∷ ds)) p ≡ rows_by f (d ∷ ds) ++ record { path = p; times = 1 } ∷ []
+    by : (mem p ds ≡ false → with_path (rows_by f ds) p ≡ rows_by f ds ++ record { path = p; times = 1 } ∷ []) → (b : Bool) → bytes_eq d p ≡ b
+        → with_path (rows_by f (d ∷ ds)) p ≡ rows_by f (d ∷ ds) ++ record { path = p; times = 1 } ∷ []
     by ih true e = absurd (both_ways (cond (bytes_eq d p) true (mem p ds)) none (ap (λ c. cond c true (mem p ds)) e))
     by ih false e =
         let rest : mem p ds ≡ false = ap (λ c. cond c true (mem p ds)) (sym e) ∙ none in

@@ -7,16 +7,16 @@ use Rattle.tor_arena.specs.Distinct.{AllDistinct, is_distinct}
 use Rattle.tor_arena.proofs.DistinctLemmas.{AllDistinct-from_test}
 use Rattle.path_clean.specs.Paths.{is_reserved, is_cleaned}
 
-prefix : (path : List ℕ) → IsTrue (is_cleaned path) → IsTrue (nat_le 2 (length path)) × IsTrue (is_distinct path)
-prefix path h =
+long_and_distinct : (path : List ℕ) → IsTrue (is_cleaned path) → IsTrue (nat_le 2 (length path)) × IsTrue (is_distinct path)
+long_and_distinct path h =
     let shape = (and_parts (nat_le 2 (length path) && is_distinct path) (not (list_any is_reserved path)) h).0 in
     and_parts (nat_le 2 (length path)) (is_distinct path) shape
 
 pub several_if_cleaned : (path : List ℕ) → IsTrue (is_cleaned path) → 2 ≤ length path
-several_if_cleaned path h = leb-true 2 (length path) (prefix path h).0
+several_if_cleaned path h = leb-true 2 (length path) (long_and_distinct path h).0
 
 pub apart_if_cleaned : (path : List ℕ) → IsTrue (is_cleaned path) → AllDistinct path
-apart_if_cleaned path h = AllDistinct-from_test path (prefix path h).1
+apart_if_cleaned path h = AllDistinct-from_test path (long_and_distinct path h).1
 
 each : (P : List ℕ → Type 0) → ((path : List ℕ) → IsTrue (is_cleaned path) → P path) → (paths : List (List ℕ)) → IsTrue (list_all is_cleaned paths) → AllByRecursion P paths
 each P by [] h = tt

@@ -65,7 +65,8 @@ dedup-distinct : (k : ℕ) (xs : List ℕ) → list_any (λ y. nat_eq y k) xs �
 dedup-distinct k [] none once = refl
 dedup-distinct k (x ∷ xs) none once = by (λ e o. dedup-distinct x xs e o) (nat_eq x k) (list_any (λ y. nat_eq y x) xs) refl refl none once
   where
-    by : (list_any (λ y. nat_eq y x) xs ≡ false → is_distinct xs ≡ true → dedup_from nat_eq x xs ≡ x ∷ xs) → (same behind : Bool) → nat_eq x k ≡ same → list_any (λ y. nat_eq y x) xs ≡ behind → (same || list_any (λ y. nat_eq y k) xs) ≡ false → (not behind && is_distinct xs) ≡ true
+    by : (list_any (λ y. nat_eq y x) xs ≡ false → is_distinct xs ≡ true → dedup_from nat_eq x xs ≡ x ∷ xs) → (same behind : Bool) → nat_eq x k ≡ same
+        → list_any (λ y. nat_eq y x) xs ≡ behind → (same || list_any (λ y. nat_eq y k) xs) ≡ false → (not behind && is_distinct xs) ≡ true
         → cond same (dedup_from nat_eq k xs) (k ∷ dedup_from nat_eq x xs) ≡ k ∷ (x ∷ xs)
     by ih true behind es eb n o = absurd cc
     by ih false true es eb n o = absurd cc

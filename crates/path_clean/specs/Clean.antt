@@ -86,10 +86,13 @@ clean_of sets width attrs = clean_attribute sets width (first_value as_path attr
 
 -- what is cleaned to a path has at least two ASes, all distinct, none reserved
 abbrev pub PathsAreClean : Type 0
-PathsAreClean = (sets : Sets) (width : Width) (attrs : List Attribute) (path : List ℕ) → clean_of sets width attrs ≡ Path path → is_cleaned path ≡ true
+PathsAreClean =
+    (sets : Sets) (width : Width) (attrs : List Attribute) (path : List ℕ)
+    → clean_of sets width attrs ≡ Path path → is_cleaned path ≡ true
 
 -- a clean path that is encoded as one AS_SEQUENCE comes out as it stands
 abbrev pub CleanPathsStay : Type 0
-CleanPathsStay = (sets : Sets) (width : Width) (attrs : List Attribute) (value path : List ℕ)
-    → first_value as_path attrs ≡ Some value → segments_of width value ≡ Some (record { kind = Sequence; ases = path } ∷ []) → is_cleaned path ≡ true
-    → clean_of sets width attrs ≡ Path path
+CleanPathsStay =
+    (sets : Sets) (width : Width) (attrs : List Attribute) (value path : List ℕ)
+    → first_value as_path attrs ≡ Some value → segments_of width value ≡ Some (record { kind = Sequence; ases = path } ∷ [])
+    → is_cleaned path ≡ true → clean_of sets width attrs ≡ Path path

@@ -15,6 +15,16 @@ pub record Counts : Type 0 where
 abbrev pub no_counts : Counts
 no_counts = record { no_path = 0; bad_segments = 0; confed = 0; sets = 0; reserved = 0; loop = 0; short = 0 }
 
+-- the place of a cause in their order, from 0
+abbrev pub place_of_cause : Cause → ℕ
+place_of_cause NoPath = 0
+place_of_cause BadSegments = 1
+place_of_cause Confed = 2
+place_of_cause Sets = 3
+place_of_cause Reserved = 4
+place_of_cause Loop = 5
+place_of_cause Short = 6
+
 -- seven numbers as counts, in the order of the causes
 abbrev pub counts_from : List ℕ → Counts
 counts_from numbers = record {

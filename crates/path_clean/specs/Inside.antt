@@ -1,6 +1,7 @@
 -- What a table of paths holds: the paths, and their times in a list of their own.
-use Rattle.std.specs.Prelude.{◌≡◌, ◌≤◌, ◌^◌, nat_le, ℕ, true, List, [], ◌∷◌, length, sum_by}
+use Rattle.std.specs.Prelude.{◌≡◌, ◌≤◌, nat_le, ℕ, true, List, [], ◌∷◌, length, sum_by}
 use Rattle.std.specs.List.{list_all}
+use Rattle.path_clean.specs.Limits.{max_paths, max_numbers}
 use Rattle.path_clean.specs.Paths.{is_cleaned}
 use Rattle.path_clean.specs.Rows.{Counted, none_twice}
 
@@ -12,11 +13,11 @@ counted_by (path ∷ paths) (n ∷ times) = record { path = path; times = n } �
 
 -- what holds of the paths and the times of a table
 pub record IsTable (limit numbers : ℕ) (paths : List (List ℕ)) (times : List ℕ) : Type 0 where
-  pub bound : limit ≤ 8388608
+  pub bound : limit ≤ max_paths
   pub few : length paths ≤ limit
   pub same : length times ≡ length paths
   pub sum : numbers ≡ sum_by length paths
-  pub short : numbers ≤ 2 ^ 26
+  pub short : numbers ≤ max_numbers
   pub clean : list_all is_cleaned paths ≡ true
   pub once : none_twice paths ≡ true
   pub some : list_all (nat_le 1) times ≡ true

@@ -1,9 +1,10 @@
 -- The distinct paths, each with how often it was added.
-use Rattle.std.specs.Prelude.{◌≡◌, ℕ, suc, ◌-◌, ◌^◌, min, not, List, [], ◌∷◌, length, map, filter, count_by, fold, Option, Some, None, option_map, if◌then◌else◌, bytes_eq}
+use Rattle.std.specs.Prelude.{◌≡◌, ◌<◌, ℕ, suc, ◌+◌, ◌-◌, ◌^◌, min, not, List, [], ◌∷◌, length, map, filter, count_by, fold, Option, Some, None, option_map, if◌then◌else◌, bytes_eq}
 use Rattle.path_clean.specs.declared.table.Added.{Added}
 use Rattle.path_clean.specs.declared.table.Added.TheVariants.{Known, New}
 use Rattle.path_clean.specs.Counts.{one_more}
-use Rattle.path_clean.specs.Rows.{Counted}
+use Rattle.path_clean.specs.Limits.{max_numbers}
+use Rattle.path_clean.specs.Rows.{Counted, Table, numbers_in}
 
 -- the place of the row of a path, from 0
 abbrev pub place_of : List Counted → List ℕ → Option ℕ
@@ -21,6 +22,16 @@ with_path (row ∷ others) path =
 abbrev pub Names : List Counted → List ℕ → Added → Type 0
 Names rows path (Known id) = place_of rows path ≡ Some id
 Names rows path (New id) = (place_of rows path ≡ None) × (id ≡ length rows)
+
+-- the path is new, and as many are there as may be
+abbrev pub IsPathTooMany : Table → List ℕ → Type 0
+IsPathTooMany table path = (place_of table.rows path ≡ None) × (length table.rows ≡ table.limit)
+
+-- the path is new, fewer are there than may be, and with it the paths would have too many numbers in sum
+abbrev pub HasNumbersTooMany : Table → List ℕ → Type 0
+HasNumbersTooMany table path =
+    (place_of table.rows path ≡ None) × (length table.rows < table.limit)
+    × (max_numbers < numbers_in table.rows + length path)
 
 -- the distinct paths, in order of first appearance
 abbrev pub distinct : List (List ℕ) → List (List ℕ)

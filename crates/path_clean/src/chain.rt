@@ -1,7 +1,9 @@
 ghost use Rattle.std.specs.Prelude.{◌≡◌, ◌≢◌, ◌<◌, ◌≤◌, ℕ, length, IfSome, IfNone};
-ghost use Rattle.path_clean.specs.Chains.{mixed, path_hash, row_at, EndsAt, IsChained};
+ghost use Rattle.path_clean.specs.Chains.{mixed, path_hash, row_at, IsChained, IsIndexed};
 
-use tor_arena::{Index, PathId, Rows};
+use indexmap::IndexMap;
+use std::hash::BuildHasher;
+use tor_arena::{Index, Keys, PathId, Rows};
 
 /// The row of a place.
 fn row_of(rows: &Rows<PathId, u32>, place: usize) -> &[u32]
@@ -15,22 +17,24 @@ fn row_of(rows: &Rows<PathId, u32>, place: usize) -> &[u32]
     }
 }
 
-/// The place of the row that is the path, where the rows of its hash end at `start`, and each row's `older` is where the earlier
-/// rows of its hash end.
-pub(crate) fn find_from(
+/// The place of the row that is the path. For each hash `newest` says where the rows of that hash end, and for each row `older`
+/// says where the earlier rows of its hash end.
+pub(crate) fn find_row(
     rows: &Rows<PathId, u32>,
     older: &[u32],
+    newest: &IndexMap<u64, u32>,
+    seed: u64,
     path: &[u32],
-    start: usize,
 ) -> Option<usize>
     requires few { length rows.now ≤ 268435456 }
     requires same { length older.now ≡ length rows.now }
-    requires chained { IsChained rows.now older.now }
-    requires ends { EndsAt rows.now (path_hash path.now) start (length rows.now) }
+    requires chained { IsChained seed rows.now older.now }
+    requires indexed { IsIndexed seed newest.now.entries rows.now }
     ensures found { IfSome result (λ k. (k < length rows.now) × (row_at rows.now k ≡ path.now)) }
     ensures absent { IfNone result ((k : ℕ) → k < length rows.now → row_at rows.now k ≢ path.now) }
 {
-    let mut at = start;
+    let start = newest.get(&hash_of(seed, path)).copied().unwrap_or(0);
+    let mut at = start as usize;
     'chain: while at > 0 {
         let place = at - 1;
         if row_of(rows, place) == path {
@@ -41,12 +45,16 @@ pub(crate) fn find_from(
     None
 }
 
+/// The number with which the hashes of a table begin.
+pub(crate) fn seed_of(keys: Keys) -> u64 {
+    keys.hash_one(0u8)
+}
+
 /// The hash of a path.
-pub(crate) fn hash_of(path: &[u32]) -> u64
-    ensures { result ≡ path_hash path.now }
+pub(crate) fn hash_of(seed: u64, path: &[u32]) -> u64
+    ensures { result ≡ path_hash seed path.now }
 {
-    path.iter()
-        .fold(14695981039346656037, |hash, number| mix(hash, *number))
+    path.iter().fold(seed, |hash, number| mix(hash, *number))
 }
 
 /// The hash with one number more.

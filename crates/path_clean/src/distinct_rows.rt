@@ -1,11 +1,11 @@
 ghost use Rattle.std.specs.Prelude.{◌≡◌, ◌≢◌, ◌<◌, ◌≤◌, ◌++◌, ◌∷◌, [], ℕ, length, OnOk, OnErr, IfOk, IfSome, IfNone};
 ghost use Rattle.path_clean.specs.Chains.{row_at};
 
-use crate::chain::{find_from, hash_of};
+use crate::chain::{find_row, hash_of, seed_of};
 use indexmap::IndexMap;
 use std::alloc::Global;
 use std::marker::Model;
-use tor_arena::{Index, NoMemory, PathId, Rows};
+use tor_arena::{Index, Keys, NoMemory, PathId, Rows};
 
 /// Paths in the order in which they were added, with an index by hash.
 #[derive(Drop)]
@@ -15,6 +15,8 @@ pub(crate) struct IndexedPaths {
     older: Vec<u32>,
     // for each hash, where the rows of that hash end
     newest: IndexMap<u64, u32>,
+    // with which each hash begins, so that no one can choose paths of one hash
+    seed: u64,
 }
 
 impl Model for IndexedPaths {
@@ -25,18 +27,20 @@ impl Model for IndexedPaths {
 
     ghost view = { λ paths. paths.rows };
 
-    ghost invariant = { λ paths. (length paths.rows ≤ 268435456) × (length paths.older.items ≡ length paths.rows) × IsChained paths.rows paths.older.items × IsIndexed paths.newest.entries paths.rows };
+    ghost invariant = { λ paths. (length paths.rows ≤ 268435456) × (length paths.older.items ≡ length paths.rows)
+        × IsChained paths.seed paths.rows paths.older.items × IsIndexed paths.seed paths.newest.entries paths.rows };
 }
 
 impl IndexedPaths {
     /// No paths. It takes no memory.
-    pub fn new(alloc: Global) -> IndexedPaths
+    pub fn new(alloc: Global, keys: Keys) -> IndexedPaths
         ensures { result ≡ [] }
     {
         IndexedPaths {
             rows: Rows::new(alloc),
             older: Vec::new(alloc),
             newest: IndexMap::new(alloc),
+            seed: seed_of(keys),
         }
     }
 
@@ -52,8 +56,8 @@ impl IndexedPaths {
         ensures found { IfSome result (λ k. (k < length self.now) × (row_at self.now k ≡ path.now)) }
         ensures absent { IfNone result ((k : ℕ) → k < length self.now → row_at self.now k ≢ path.now) }
     {
-        let start = self.newest.get(&hash_of(path)).copied().unwrap_or(0);
-        let place = find_from(&self.rows, self.older.as_slice(), path, start as usize)?;
+        let older = self.older.as_slice();
+        let place = find_row(&self.rows, older, &self.newest, self.seed, path)?;
         PathId::from_place(place)
     }
 
@@ -64,7 +68,7 @@ impl IndexedPaths {
         ensures index { IfOk result (λ id. id ≡ length self.old) }
         ensures err { OnErr result (self.new ≡ self.old) }
     {
-        let hash = hash_of(path);
+        let hash = hash_of(self.seed, path);
         let start = self.newest.get(&hash).copied().unwrap_or(0);
         self.older.reserve(1)?;
         self.newest.reserve(1)?;

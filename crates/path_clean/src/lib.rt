@@ -13,7 +13,7 @@ pub use asides::Asides;
 pub use cleaned::{Cause, Cleaned, Sets, is_cleaned};
 pub use cleaning::{clean, is_clean_path};
 pub use laws::{clean_paths_stay, counting, paths_are_clean};
-pub use table::{AddRefused, Added, PathTable};
+pub use table::{AddRefused, Added, MAX_NUMBERS, MAX_PATHS, PathTable};
 
 #[cfg(test)]
 mod tests;

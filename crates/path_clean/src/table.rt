@@ -1,17 +1,21 @@
-ghost use Rattle.std.specs.Prelude.{◌≡◌, ◌+◌, ◌<◌, ◌≤◌, ◌^◌, ◌↔◌, [], All, length, option_map, slice_get, sum_by, IsTrue, IsSome, IsNone, IsOk, IfOk, OnOk, OnErr};
+ghost use Rattle.std.specs.Prelude.{◌≡◌, ◌+◌, ◌<◌, ◌≤◌, ◌↔◌, [], All, length, option_map, slice_get, sum_by, IsTrue, IsSome, IsNone, IsOk, IfOk, OnOk, OnErr};
 ghost use Rattle.std.specs.List.{list_all};
 ghost use Rattle.tor_arena.specs.Distinct.{AllDistinct};
+ghost use Rattle.path_clean.specs.Limits.{max_paths, max_numbers};
 ghost use Rattle.path_clean.specs.Paths.{is_cleaned};
 ghost use Rattle.path_clean.specs.Rows.{paths_of, numbers_in, none_twice};
-ghost use Rattle.path_clean.specs.Table.{place_of, with_path, Names};
+ghost use Rattle.path_clean.specs.Table.{place_of, with_path, Names, IsPathTooMany, HasNumbersTooMany};
 
 use crate::distinct_rows::IndexedPaths;
 use std::alloc::Global;
 use std::marker::Model;
-use tor_arena::{Index, PathId, Rows};
+use tor_arena::{Index, Keys, PathId, Rows};
 
-/// The most numbers that the distinct paths of a table have in sum.
-const MAX_NUMBERS: usize = 1 << 26;
+/// How many distinct paths a table may have.
+pub const MAX_PATHS: u32 = 1 << 23;
+
+/// How many numbers the distinct paths of a table may have in sum.
+pub const MAX_NUMBERS: usize = 1 << 26;
 
 /// Where a path that was added stands.
 #[derive(Clone, Copy, Debug, PartialEq, Eq)]
@@ -55,18 +59,19 @@ impl Model for PathTable {
 }
 
 impl PathTable {
-    /// No paths, and room for at most `max_paths` of them, 1 to 8388608. It takes no memory.
-    pub fn new(alloc: Global, max_paths: u32) -> PathTable
-        requires some { 1 ≤ max_paths }
-        requires most { max_paths ≤ 8388608 }
-        ensures limit { result.limit ≡ max_paths }
+    /// No paths, and room for at most `limit` of them, 1 to MAX_PATHS. The keys say how paths are hashed, and change nothing
+    /// but the time. It takes no memory.
+    pub fn new(alloc: Global, keys: Keys, limit: u32) -> PathTable
+        requires some { 1 ≤ limit }
+        requires most { limit ≤ max_paths }
+        ensures limit { result.limit ≡ limit }
         ensures empty { result.rows ≡ [] }
     {
         PathTable {
-            paths: IndexedPaths::new(alloc),
+            paths: IndexedPaths::new(alloc, keys),
             counts: Vec::new(alloc),
             numbers: 0,
-            max_paths,
+            max_paths: limit,
         }
     }
 
@@ -79,9 +84,8 @@ impl PathTable {
         ensures added { OnOk result (self.new.rows ≡ with_path self.old.rows path.now) }
         ensures answer { IfOk result (Names self.old.rows path.now) }
         ensures known { IsSome (place_of self.old.rows path.now) → IsOk result }
-        ensures paths { (result ≡ Err AddRefused.TooManyPaths) ↔ ((place_of self.old.rows path.now ≡ None) × (length self.old.rows ≡ self.old.limit)) }
-        ensures numbers { (result ≡ Err AddRefused.TooManyNumbers) ↔ ((place_of self.old.rows path.now ≡ None) × (length self.old.rows < self.old.limit)
-            × (2 ^ 26 < numbers_in self.old.rows + length path.now)) }
+        ensures paths { (result ≡ Err AddRefused.TooManyPaths) ↔ IsPathTooMany self.old path.now }
+        ensures numbers { (result ≡ Err AddRefused.TooManyNumbers) ↔ HasNumbersTooMany self.old path.now }
         ensures limit { self.new.limit ≡ self.old.limit }
         ensures unchanged { OnErr result (self.new.rows ≡ self.old.rows) }
     {
@@ -115,8 +119,8 @@ impl PathTable {
         ensures several { All (λ path. 2 ≤ length path) result.now }
         ensures apart { All AllDistinct result.now }
         ensures once { IsTrue (none_twice result.now) }
-        ensures few { length result.now ≤ 2 ^ 23 }
-        ensures numbers { numbers_in self.now.rows ≤ 2 ^ 26 }
+        ensures few { length result.now ≤ max_paths }
+        ensures numbers { numbers_in self.now.rows ≤ max_numbers }
         ensures sum { sum_by length result.now ≡ numbers_in self.now.rows }
     {
         self.paths.rows()
@@ -135,7 +139,7 @@ impl PathTable {
     pub fn len(&self) -> usize
         ensures length { result ≡ length self.now.rows }
         ensures few { length self.now.rows ≤ self.now.limit }
-        ensures limit { self.now.limit ≤ 8388608 }
+        ensures limit { self.now.limit ≤ max_paths }
     {
         self.counts.len()
     }

@@ -4,7 +4,7 @@ use crate::{
 use path_attrs::{Width, attributes};
 use std::alloc::{AllocError, Global};
 use std::test::Fail;
-use tor_arena::{Index, List, PathId};
+use tor_arena::{Index, Keys, List, PathId};
 
 /// A block of attributes, with AS numbers of two octets, and what it is cleaned to.
 struct Case {
@@ -168,7 +168,7 @@ fn place_of(added: Added) -> usize {
 
 #[test]
 fn a_table_of_two_paths(rt: HostRuntime) -> Result<(), Fail> {
-    let mut table = PathTable::new(rt.alloc(), 2);
+    let mut table = PathTable::new(rt.alloc(), Keys::new(&rt), 2);
     for (path, wanted) in ADDS {
         assert!(rt; is_cleaned(path));
         assert_eq!(rt; table.add(path).map(place_of), wanted);

@@ -31,7 +31,7 @@ pub fn check_file(alloc: Global, keys: Keys, file: &ResultFile) -> Result<Answer
     ensures verdict { IfOk result (Judges file.now) }
     ensures valid { result ≡ Ok Answer.Yes → Valid file.now }
 {
-    if let Some(answer) = check_paths(alloc, file)? {
+    if let Some(answer) = check_paths(alloc, keys, file)? {
         return Ok(answer);
     }
     let table = list_edges(alloc, keys, file)?;
@@ -45,7 +45,7 @@ pub fn check_file(alloc: Global, keys: Keys, file: &ResultFile) -> Result<Answer
 }
 
 /// The rules on the head and on the paths.
-fn check_paths(alloc: Global, file: &ResultFile) -> Result<Option<Answer>, NoMemory>
+fn check_paths(alloc: Global, keys: Keys, file: &ResultFile) -> Result<Option<Answer>, NoMemory>
     requires lines { HasFewLines file.now }
     ensures { IfOk result (Settles file.now 4) }
 {
@@ -55,7 +55,7 @@ fn check_paths(alloc: Global, file: &ResultFile) -> Result<Option<Answer>, NoMem
     if let Some(place) = find_unclean(alloc, file)? {
         return Ok(Some(no(path_line(place), Rule::PathsCleaned)));
     }
-    if let Some(place) = find_repeated(alloc, file)? {
+    if let Some(place) = find_repeated(alloc, keys, file)? {
         return Ok(Some(no(path_line(place), Rule::PathsDistinct)));
     }
     match find_unrefuted(file) {

@@ -10,7 +10,7 @@ ghost use Rattle.rel_checker.specs.Verdict.{Finds};
 use path_clean::{AddRefused, Added, PathTable, is_clean_path};
 use result_text::{PathLine, ResultFile};
 use std::alloc::Global;
-use tor_arena::NoMemory;
+use tor_arena::{Keys, NoMemory};
 
 /// The most paths that a file may have.
 const MAX_PATHS: u32 = 1 << 23;
@@ -45,11 +45,15 @@ fn is_sound(alloc: Global, line: &PathLine, place: usize, numbers: usize) -> Res
 }
 
 /// The first path line whose path stands in an earlier line.
-pub(crate) fn find_repeated(alloc: Global, file: &ResultFile) -> Result<Option<usize>, NoMemory>
+pub(crate) fn find_repeated(
+    alloc: Global,
+    keys: Keys,
+    file: &ResultFile,
+) -> Result<Option<usize>, NoMemory>
     requires { IsMet file.now Rule.PathsCleaned }
     ensures { IfOk result (Finds file.now Rule.PathsDistinct) }
 {
-    let mut table = PathTable::new(alloc, MAX_PATHS);
+    let mut table = PathTable::new(alloc, keys, MAX_PATHS);
     for (place, line) in file.paths.as_slice().iter().enumerate() {
         if !add_new(&mut table, line.path.as_slice())? {
             return Ok(Some(place));

@@ -80,8 +80,11 @@ fn one_line_is_another(rt: HostRuntime) -> Result<(), Fail> {
 }
 
 /// The table of paths that the file names.
-fn seen(rt: &(impl Abort + AllocGlobal), paths: &[&[u32]]) -> Result<PathTable, Fail> {
-    let mut table = PathTable::new(rt.alloc(), 10);
+fn seen(
+    rt: &(impl Abort + AllocGlobal + RandomSource),
+    paths: &[&[u32]],
+) -> Result<PathTable, Fail> {
+    let mut table = PathTable::new(rt.alloc(), Keys::new(rt), 10);
     for path in paths {
         assert!(rt; is_cleaned(path));
         table.add(path)?;
@@ -114,7 +117,7 @@ fn dumps_that_agree(rt: HostRuntime) -> Result<(), Fail> {
 
 /// The line at which the dumps of these paths differ from the file.
 fn differs_at(
-    rt: &(impl Abort + AllocGlobal),
+    rt: &(impl Abort + AllocGlobal + RandomSource),
     paths: &[&[u32]],
     asides: &Asides,
     line: u64,

@@ -35,10 +35,7 @@ fn is_unshown_at(
 ) -> Result<(), Fail> {
     let keys = Keys::new(rt);
     let file = file_of(rt, PATHS, whys)?;
-    assert_eq!(rt;
-        find_unshown(rt.alloc(), keys, &file)?,
-        place
-    );
+    assert_eq!(rt; find_unshown(rt.alloc(), keys, &file)?, place);
     Ok(())
 }
 

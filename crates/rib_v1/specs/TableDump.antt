@@ -9,9 +9,9 @@ use Rattle.path_attrs.specs.Attributes.{Attribute, attributes_of}
 abbrev pub address_octets : ℕ → ℕ
 address_octets subtype = if subtype == 1 then 4 else 16
 
--- the attributes of the route, or the first fault in the order of the fields; a prefix is no longer than an address
-unfoldable pub route_of : ℕ → List ℕ → Result (List Attribute) RibFault
-route_of subtype body = do
+-- the octets behind the fields before the attributes; a prefix is no longer than an address
+unfoldable pub behind_fields : ℕ → List ℕ → Result (List ℕ) RibFault
+behind_fields subtype body = do
   view ← octets Cut 2 body
   sequence ← octets Cut 2 view.1
   prefix ← octets Cut (address_octets subtype) sequence.1
@@ -21,7 +21,13 @@ route_of subtype body = do
   originated ← octets Cut 4 status.1
   peer_ip ← octets Cut (address_octets subtype) originated.1
   peer_as ← octets Cut 2 peer_ip.1
-  attribute_length ← number Cut 2 peer_as.1
+  Ok peer_as.1
+
+-- the attributes of the route, or the first fault in the order of the fields
+unfoldable pub route_of : ℕ → List ℕ → Result (List Attribute) RibFault
+route_of subtype body = do
+  rest ← behind_fields subtype body
+  attribute_length ← number Cut 2 rest
   block ← octets Cut attribute_length.0 attribute_length.1
   attributes ← or_fault AttrCut (attributes_of block.0)
   end ← check Tail (length block.1 == 0)

@@ -1,5 +1,6 @@
-ghost use Rattle.std.specs.Prelude.{◌≡◌, ◌≢◌, ◌⊎◌};
-ghost use Rattle.rib_v1.specs.TableDump.{address_octets, route_of};
+ghost use Rattle.std.specs.Prelude.{◌≡◌, ◌≢◌, ◌⊎◌, IfErr};
+ghost use Rattle.path_attrs.specs.Fields.{Gives};
+ghost use Rattle.rib_v1.specs.TableDump.{address_octets, behind_fields, route_of};
 
 use path_attrs::{Attrs, RibFault, attributes, number16, octet, octets};
 
@@ -13,13 +14,11 @@ fn octets_of_address(subtype: u16) -> usize
     if subtype == IPV4 { 4 } else { 16 }
 }
 
-/// The path attributes of the route of a TABLE_DUMP record (RFC 6396, section 4.2), or the first fault of its body in the order
-/// of the fields. Subtype 1 is IPv4, 2 is IPv6. It takes no memory.
-#[tactic(auto, unfolding(crate::specs::TableDump::route_of))]
-pub fn read_v1(subtype: u16, body: &[u8]) -> Result<Attrs<'_>, RibFault>
-    requires { (subtype ≡ 1) ⊎ (subtype ≡ 2) }
-    ensures route { result ≡ route_of subtype body.now }
-    ensures never { (result ≢ Err RibFault.NoPeerTable) × (result ≢ Err RibFault.PeerRange) }
+// The octets behind the fields before the attributes.
+#[tactic(auto, unfolding(crate::specs::TableDump::behind_fields))]
+fn behind_fields(subtype: u16, body: &[u8]) -> Result<&[u8], RibFault>
+    ensures gives { Gives (λ rest. rest.now) result (behind_fields subtype body.now) }
+    ensures only { IfErr result (λ fault. (fault ≡ RibFault.Cut) ⊎ (fault ≡ RibFault.PrefixLong)) }
 {
     let address_len = octets_of_address(subtype);
     let (_view, rest) = octets(body, 2, RibFault::Cut)?;
@@ -33,6 +32,18 @@ pub fn read_v1(subtype: u16, body: &[u8]) -> Result<Attrs<'_>, RibFault>
     let (_time, rest) = octets(rest, 4, RibFault::Cut)?;
     let (_peer_ip, rest) = octets(rest, address_len, RibFault::Cut)?;
     let (_peer_as, rest) = octets(rest, 2, RibFault::Cut)?;
+    Ok(rest)
+}
+
+/// The path attributes of the route of a TABLE_DUMP record (RFC 6396, section 4.2), or the first fault of its body in the order
+/// of the fields. Subtype 1 is IPv4, 2 is IPv6. It takes no memory.
+#[tactic(auto, unfolding(crate::specs::TableDump::route_of))]
+pub fn read_v1(subtype: u16, body: &[u8]) -> Result<Attrs<'_>, RibFault>
+    requires { (subtype ≡ 1) ⊎ (subtype ≡ 2) }
+    ensures route { result ≡ route_of subtype body.now }
+    ensures never { (result ≢ Err RibFault.NoPeerTable) × (result ≢ Err RibFault.PeerRange) }
+{
+    let rest = behind_fields(subtype, body)?;
     let (len, rest) = number16(rest, RibFault::Cut)?;
     let (block, rest) = octets(rest, usize::from(len), RibFault::Cut)?;
     let attrs = attributes(block)?;

@@ -16,7 +16,7 @@ pub struct Peers {
     pub count: u32,
 }
 
-// The octets behind the peer at the front.
+// The octets behind the peer that stands first.
 #[tactic(auto, unfolding(crate::specs::PeerTable::behind_peer))]
 fn after_peer(bytes: &[u8]) -> Result<&[u8], RibFault>
     ensures fault { IfErr result (λ fault. fault ≡ RibFault.Cut) }

@@ -39,7 +39,7 @@ fn head_of(subtype: u16, body: &[u8]) -> Result<(u16, &[u8]), RibFault>
     number16(rest, RibFault::Cut)
 }
 
-// The entry at the front, and the octets behind it.
+// The entry that stands first, and the octets behind it.
 #[tactic(auto, unfolding(crate::specs::Rib::entry))]
 fn entry_of<'a>(peers: &Peers, bytes: &'a [u8]) -> Result<(Entry<'a>, &'a [u8]), RibFault>
     ensures { Gives (λ x. (x.0, x.1.now)) result (entry peers.now.count bytes.now) }

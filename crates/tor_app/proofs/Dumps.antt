@@ -7,7 +7,7 @@ use Rattle.path_clean.specs.declared.cleaned.Sets.{Sets}
 use Rattle.tor_io.specs.Contents.{Files, LacksFile}
 use Rattle.dump_read.specs.declared.error.DumpError.{DumpError}
 use Rattle.dump_read.specs.Taking.{Taken}
-use Rattle.dump_read.specs.Seen.{End, Absent, of_file, end_known}
+use Rattle.dump_read.specs.Seen.{End, Absent, of_file, end_named}
 use Rattle.tor_app.specs.Seen.{seen_from}
 
 -- the first dumps, and then the others
@@ -64,9 +64,9 @@ stops_at sets old mid names i name files end lt is before one =
 
 pub stops : (sets : Sets) (old mid : Taken) (known : Option Files) (names : List (List ℕ)) (i : ℕ) (name : List ℕ) (e : DumpError) → i < length names → name ≡ get_or names i name
     → IfSome known (λ files. seen_from sets 1 old (take i names) files ≡ Ok mid)
-    → IfSome (end_known (i + 1) e) (λ end. IfSome known (λ files. of_file sets (i + 1) mid (files name) ≡ Err end))
-    → IfSome (end_known (i + 1) e) (λ end. IfSome known (λ files. seen_from sets 1 old names files ≡ Err end))
-stops sets old mid known names i name e lt is before one = by known (end_known (i + 1) e) before one
+    → IfSome (end_named (i + 1) e) (λ end. IfSome known (λ files. of_file sets (i + 1) mid (files name) ≡ Err end))
+    → IfSome (end_named (i + 1) e) (λ end. IfSome known (λ files. seen_from sets 1 old names files ≡ Err end))
+stops sets old mid known names i name e lt is before one = by known (end_named (i + 1) e) before one
   where
     by : (t : Option Files) (o : Option End) → IfSome t (λ files. seen_from sets 1 old (take i names) files ≡ Ok mid)
         → IfSome o (λ end. IfSome t (λ files. of_file sets (i + 1) mid (files name) ≡ Err end)) → IfSome o (λ end. IfSome t (λ files. seen_from sets 1 old names files ≡ Err end))

@@ -3,7 +3,7 @@ ghost use Rattle.std.specs.Prelude.{◌≡◌, ◌≢◌, ◌≤◌, ◌-◌, �
 ghost use Rattle.std.specs.Io.KnownBytes.{IsAtEnd};
 ghost use Rattle.tor_io.specs.Counts.{Rose};
 ghost use Rattle.dump_read.specs.declared.error.DumpError.TheVariants.{ReadFault as read_failed};
-ghost use Rattle.dump_read.specs.Seen.{Absent, end_known};
+ghost use Rattle.dump_read.specs.Seen.{Absent, end_named};
 ghost use Rattle.tor_words.specs.CheckGiven.{check_settings_given};
 ghost use Rattle.tor_app.specs.Refusals.{IsReadFault};
 ghost use Rattle.tor_app.specs.Judging.{Judged, ComesTo, IsVerdict, JudgesByDumps, seen_for};
@@ -67,7 +67,7 @@ fn judged_by_dumps<H: Shelf>(
 ) -> Result<Verdict, Stopped>
     requires lines { length file.now.paths ≤ 2 ^ 40 }
     ensures verdict { IfOk result (λ verdict. IfSome (H.files shelf.old) (λ files. JudgesByDumps file.now dumps.now files verdict)) }
-    ensures stopped { IfErr result (λ e. IfSome (end_known e.dump e.error) (λ end. IfSome (H.files shelf.old) (λ files.
+    ensures stopped { IfErr result (λ e. IfSome (end_named e.dump e.error) (λ end. IfSome (H.files shelf.old) (λ files.
         seen_for file.now dumps.now files ≡ Err end))) }
     ensures named { IfErr result (λ e. (1 ≤ e.dump) × (e.dump ≤ length dumps.now)) }
     ensures before { IfErr result (λ e. IfSome (H.files shelf.old) (λ files. IsOk (seen_for file.now (take (e.dump - 1) dumps.now) files))) }

@@ -4,9 +4,13 @@ ghost use Rattle.std.proofs.Math.Dec.{lit≤};
 use crate::arena::{Arena, PushRefused};
 use crate::ids::{ArcId, AsId, EdgeId, NodeId, PathId, TripleId};
 use crate::index::{Index, same_index};
+use crate::keys::Keys;
 use crate::list::List;
 use crate::rows::{RowRefused, Rows};
+use std::hash::BuildHasher;
+use std::io;
 use std::marker::Model;
+use std::random::RandomSource;
 use std::test::Fail;
 
 /// One of two places.
@@ -137,4 +141,21 @@ fn six_kinds_of_index(rt: HostRuntime) -> Result<(), Fail> {
     assert!(rt; ends_below_2_to_28::<NodeId>());
     assert!(rt; ends_below_2_to_28::<ArcId>());
     Ok(())
+}
+
+/// A source that has no bytes.
+struct NoBytes;
+
+impl RandomSource for NoBytes {
+    fn fill_bytes(&self, _: &mut [u8]) -> io::Result<()> {
+        Err(io::ErrorKind::Unsupported.into())
+    }
+}
+
+#[test]
+fn keys_come_from_any_source(rt: HostRuntime) {
+    let keys = Keys::new(&rt);
+    assert_eq!(rt; keys.hash_one(7u8), keys.hash_one(7u8));
+    let fixed = Keys::new(&NoBytes);
+    assert_eq!(rt; fixed.hash_one(7u8), Keys::new(&NoBytes).hash_one(7u8));
 }

@@ -8,7 +8,7 @@ use Rattle.tor_digraph.specs.Walks.{HasArc}
 use Rattle.as_graph.specs.Paths.{paths_at}
 use Rattle.tor_clauses.specs.declared.triple.Triple.{Triple}
 use Rattle.tor_clauses.specs.Triples.{arc_of, partner_of}
-use Rattle.tor_clauses.specs.Formulas.{Formula, FitsGraph, IsServed, IsModel, IsMark, IsArcOf, first_of}
+use Rattle.tor_clauses.specs.Formulas.{Formula, FitsGraph, IsServed, IsModel, IsMark, IsArcOf, mark_of, first_of}
 
 -- the paths are served exactly if no arc leads from a literal that holds to one that does not
 abbrev pub ModelLaw : Type 0
@@ -34,5 +34,4 @@ abbrev pub PrefixLaw : Type 0
 PrefixLaw =
     (graph : List (List ℕ)) (f g : Formula) → FitsGraph graph f → FitsGraph graph g →
     length f.paths ≤ length g.paths → f.paths ≡ take (length f.paths) g.paths →
-    IsMark g (record { paths = length f.paths; triples = length f.triples }) ×
-    (f ≡ first_of g (record { paths = length f.paths; triples = length f.triples }))
+    IsMark g (mark_of f) × (f ≡ first_of g (mark_of f))

@@ -1,6 +1,6 @@
 -- What clauses are seen as, and when they fit a graph: the two-literal clauses of Di Battista, Patrignani and Pizzonia
 -- (2003).
-use Rattle.std.specs.Prelude.{◌≡◌, ℕ, ◌+◌, ◌*◌, ◌<◌, ◌≤◌, ◌==◌, List, All, length, map, take, flat_map, count_by}
+use Rattle.std.specs.Prelude.{◌≡◌, ◌⊎◌, ℕ, ◌+◌, ◌*◌, ◌/◌, ◌<◌, ◌≤◌, ◌==◌, List, Some, slice_get, All, length, map, take, flat_map, count_by}
 use Rattle.std.specs.List.{list_any}
 use Rattle.relationships.specs.declared.label.End.{End}
 use Rattle.relationships.specs.declared.walk.Link.{Link}
@@ -13,7 +13,7 @@ use Rattle.as_graph.specs.Paths.{path_at, paths_at}
 use Rattle.tor_clauses.specs.declared.triple.Triple.{Triple}
 use Rattle.tor_clauses.specs.declared.clauses.ClauseMark.{ClauseMark}
 use Rattle.tor_clauses.specs.Literals.{lit_of, Says, Holds}
-use Rattle.tor_clauses.specs.Triples.{arcs_of, triples_of}
+use Rattle.tor_clauses.specs.Triples.{arc_of, partner_of, arcs_of, triples_of}
 
 -- the paths that were added, each as its place in the graph, their distinct triples, and the implication graph of these
 pub record Formula : Type 0 where
@@ -30,6 +30,10 @@ pub record FitsGraph (graph : List (List ℕ)) (f : Formula) : Type 0 where
   pub arcs : f.net.arcs ≡ flat_map arcs_of f.triples
 
 -- ---- going back
+
+-- how many paths and triples there are
+abbrev pub mark_of : Formula → ClauseMark
+mark_of f = record { paths = length f.paths; triples = length f.triples }
 
 -- the first paths and triples, by these counts, with the arcs of these triples
 abbrev pub first_of : Formula → ClauseMark → Formula
@@ -55,6 +59,14 @@ abbrev pub IsModel : Formula → List End → Type 0
 IsModel f ends = (k l m : ℕ) → IsArc f.net.arcs k l m → Holds ends (lit_of l) → Holds ends (lit_of m)
 
 -- ---- what an arc stands for
+
+-- the arc at this place leads from the triple's first literal to its second, or it is the partner of that
+abbrev pub IsArcOfTriple : List (ℕ × ℕ) → ℕ → Triple → Type 0
+IsArcOfTriple arcs arc t = (slice_get arcs arc ≡ Some (arc_of t)) ⊎ (slice_get arcs arc ≡ Some (partner_of t))
+
+-- the link names the path and the place of the arc's triple
+abbrev pub IsLinkOfTriple : List Triple → ℕ → Link → Type 0
+IsLinkOfTriple triples arc link = (t : Triple) → slice_get triples (arc / 2) ≡ Some t → link ≡ record { path = t.path + 1; at = t.at }
 
 -- the paths at these places of the graph, each numbered by its place there from 1
 abbrev pub numbered : List (List ℕ) → List ℕ → Numbered

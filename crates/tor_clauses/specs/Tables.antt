@@ -1,25 +1,36 @@
 -- What the fields of clauses hold, and what one more triple makes of them.
-use Rattle.std.specs.Prelude.{◌≡◌, ℕ, ◌<◌, ◌≤◌, ◌^◌, List, [], ◌∷◌, ◌++◌, All, length, map, take, flat_map, if◌then◌else◌}
+use Rattle.std.specs.Prelude.{◌≡◌, ℕ, ◌<◌, ◌≤◌, ◌^◌, Bool, true, false, nat_lt, List, [], ◌∷◌, ◌++◌, All, length, map, take, flat_map, if◌then◌else◌}
 use Rattle.std.specs.List.{list_any}
 use Rattle.relationships.specs.declared.label.End.{End}
+use Rattle.tor_digraph.specs.Walks.{Net}
+use Rattle.tor_clauses.specs.declared.lit.Lit.{Lit}
 use Rattle.tor_clauses.specs.declared.triple.Triple.{Triple}
-use Rattle.tor_clauses.specs.Literals.{Holds}
-use Rattle.tor_clauses.specs.Triples.{arc_of, arcs_of, is_same_triple, triples_on}
+use Rattle.tor_clauses.specs.Literals.{negated, node_of, Holds}
+use Rattle.tor_clauses.specs.Triples.{arc_of, partner_of, arcs_of, is_same_triple, triples_on}
 use Rattle.tor_clauses.specs.Formulas.{Formula}
 
 -- the literals of a triple have nodes
 abbrev pub HasNodes : Triple → Type 0
 HasNodes t = (t.first.edge < 2 ^ 27) × (t.second.edge < 2 ^ 27)
 
--- each triple is known by the nodes of its first and second literal
+-- the pair of nodes of the triple or that of its reverse, whichever begins with the lesser node: the same for both
+abbrev pub key_of : Triple → ℕ × ℕ
+key_of t = if nat_lt (node_of (negated t.second)) (node_of t.first) then partner_of t else arc_of t
+
+-- each triple is known by the pair that it shares with its reverse
 pub record IsKnown (known : List (ℕ × ℕ)) (triples : List Triple) : Type 0 where
-  pub keys : known ≡ map arc_of triples
+  pub keys : known ≡ map key_of triples
   pub nodes : All HasNodes triples
   pub few : length triples ≤ 2 ^ 27
 
 -- the triples with one more, which goes last unless it is there
 abbrev pub with_triple : List Triple → Triple → List Triple
 with_triple ts t = if list_any (is_same_triple t) ts then ts else ts ++ t ∷ []
+
+-- the triple was added at the end, and is new; or the triples are as they were, and it or its reverse is among them
+abbrev pub IsAdded : Triple → List Triple → List Triple → Bool → Type 0
+IsAdded t old new true = (list_any (is_same_triple t) old ≡ false) × (new ≡ old ++ t ∷ [])
+IsAdded t old new false = (list_any (is_same_triple t) old ≡ true) × (new ≡ old)
 
 -- the triples with all of these
 abbrev pub with_triples : List Triple → List Triple → List Triple
@@ -30,7 +41,15 @@ with_triples ts (t ∷ more) = with_triples (with_triple ts t) more
 abbrev pub having : Formula → List Triple → Formula
 having f ts = record f { triples = ts; net = record f.net { arcs = flat_map arcs_of ts } }
 
+-- the net with an arc more, from one literal to another
+abbrev pub with_arc : Net ℕ → Lit → Lit → Net ℕ
+with_arc net tail head = record net { arcs = net.arcs ++ (node_of tail, node_of head) ∷ [] }
+
 -- ---- adding a path
+
+-- the formula with the triples of a path of the graph
+abbrev pub with_triples_on : List (List ℕ) → ℕ → Formula → Formula
+with_triples_on graph path f = having f (with_triples f.triples (triples_on graph path))
 
 -- with no more of these triples of the path there are too many to be numbered
 abbrev pub IsRoomy : List (List ℕ) → ℕ → List Triple → Type 0

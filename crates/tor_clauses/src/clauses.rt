@@ -1,11 +1,10 @@
-ghost use Rattle.std.specs.Prelude.{◌≡◌, ℕ, ◌+◌, ◌*◌, ◌/◌, ◌<◌, ◌≤◌, ◌^◌, ◌↔◌, ◌⊎◌, ◌∷◌, ◌++◌, [], List, All, length, flat_map, slice_get, IsTrue, IfOk, OnOk, OnErr};
-ghost use Rattle.tor_arena.specs.Distinct.{AllDistinct};
+ghost use Rattle.std.specs.Prelude.{◌≡◌, ℕ, ◌+◌, ◌*◌, ◌/◌, ◌<◌, ◌≤◌, ◌^◌, ◌↔◌, ◌∷◌, ◌++◌, [], List, length, flat_map, slice_get, Some, IsTrue, IfOk, OnOk, OnErr};
 ghost use Rattle.relationships.specs.Graph.{edges};
-ghost use Rattle.tor_digraph.specs.Walks.{IsArc, HasArc};
-ghost use Rattle.tor_clauses.specs.Literals.{opposite_node, node_of};
-ghost use Rattle.tor_clauses.specs.Triples.{arc_of, partner_of, arcs_of, triples_on};
-ghost use Rattle.tor_clauses.specs.Tables.{HasNodes, with_triple, with_triples, having, IsRoomy, IsFirst};
-ghost use Rattle.tor_clauses.specs.Formulas.{FitsGraph, IsMark, first_of, IsServed, IsModel, IsLinkOfArc};
+ghost use Rattle.tor_clauses.specs.Literals.{node_of};
+ghost use Rattle.tor_clauses.specs.Triples.{arcs_of};
+ghost use Rattle.tor_clauses.specs.Tables.{HasNodes, with_triple, with_triples_on, with_arc, having, IsRoomy, IsFirst};
+ghost use Rattle.tor_clauses.specs.Turning.{HasPartners};
+ghost use Rattle.tor_clauses.specs.Formulas.{FitsGraph, IsMark, mark_of, first_of, IsServed, IsModel, IsArcOfTriple, IsLinkOfTriple, IsLinkOfArc};
 
 use crate::lit::Lit;
 use crate::triple::Triple;
@@ -71,7 +70,7 @@ impl Clauses {
     /// negation of its head to the negation of its tail. It takes no memory.
     pub fn facts(&self)
         ensures arcs { self.now.net.arcs ≡ flat_map arcs_of self.now.triples }
-        ensures partners { (l m : ℕ) → HasArc self.now.net.arcs l m → HasArc self.now.net.arcs (opposite_node m) (opposite_node l) }
+        ensures partners { HasPartners self.now.net.arcs }
     {
         let _ = &self.table;
     }
@@ -83,8 +82,8 @@ impl Clauses {
         requires there { path < length graph.now }
         ensures paths { OnOk result (self.new.paths ≡ self.old.paths ++ path ∷ []) }
         ensures fits { FitsGraph graph.now self.new }
-        ensures mark { IsMark self.new (record { paths = length self.old.paths; triples = length self.old.triples }) }
-        ensures prefix { first_of self.new (record { paths = length self.old.paths; triples = length self.old.triples }) ≡ self.old }
+        ensures mark { IsMark self.new (mark_of self.old) }
+        ensures prefix { first_of self.new (mark_of self.old) ≡ self.old }
         ensures err { OnErr result (self.new ≡ self.old) }
     {
         self.grow(graph, path)
@@ -115,7 +114,7 @@ impl Clauses {
         requires nodes { self.old.net.nodes ≡ length (edges graph.now) * 2 }
         requires there { path < length graph.now }
         requires few { IsRoomy graph.now path self.old.triples }
-        ensures ok { OnOk result (self.new ≡ having self.old (with_triples self.old.triples (triples_on graph.now path))) }
+        ensures ok { OnOk result (self.new ≡ with_triples_on graph.now path self.old) }
         ensures err { OnErr result (IsFirst self.old self.new) }
     {
         self.facts();
@@ -141,11 +140,10 @@ impl Clauses {
         ensures ok { OnOk result (self.new ≡ having self.old (with_triple self.old.triples triple)) }
         ensures err { OnErr result (self.new ≡ self.old) }
     {
-        if self.table.has(&triple) {
+        let count = self.table.len();
+        if !self.table.add(triple)? {
             return Ok(());
         }
-        let count = self.table.len();
-        self.table.push(triple)?;
         match add_arcs(&mut self.digraph, triple) {
             Ok(()) => Ok(()),
             Err(NoMemory) => {
@@ -172,7 +170,7 @@ impl Clauses {
 
     /// How many paths and triples there are, for a later `undo_to`. It takes no memory.
     pub fn mark(&self) -> ClauseMark
-        ensures { result ≡ record { paths = length self.now.paths; triples = length self.now.triples } }
+        ensures { result ≡ mark_of self.now }
     {
         ClauseMark {
             paths: self.paths.len(),
@@ -221,7 +219,7 @@ impl Clauses {
     pub fn triple_of(&self, arc: ArcId) -> Triple
         requires { arc < length self.now.net.arcs }
         ensures triple { slice_get self.now.triples (arc / 2) ≡ Some result }
-        ensures arc { (slice_get self.now.net.arcs arc ≡ Some (arc_of result)) ⊎ (slice_get self.now.net.arcs arc ≡ Some (partner_of result)) }
+        ensures arc { IsArcOfTriple self.now.net.arcs arc result }
     {
         self.table.get(arc.place() / 2)
     }
@@ -231,7 +229,7 @@ impl Clauses {
     /// to left. It takes no memory.
     pub fn link_of(&self, arc: ArcId) -> Link
         requires { arc < length self.now.net.arcs }
-        ensures link { (t : Triple) → slice_get self.now.triples (arc / 2) ≡ Some t → result ≡ record { path = t.path + 1; at = t.at } }
+        ensures link { IsLinkOfTriple self.now.triples arc result }
         ensures fits { IsLinkOfArc self.now arc result }
     {
         let triple = self.triple_of(arc);
@@ -268,7 +266,7 @@ fn add_arc(digraph: &mut Digraph<NodeId, ArcId>, tail: Lit, head: Lit) -> Result
     requires tail { node_of tail < digraph.old.nodes }
     requires head { node_of head < digraph.old.nodes }
     requires few { length digraph.old.arcs < 2 ^ 28 }
-    ensures ok { OnOk result (digraph.new ≡ record digraph.old { arcs = digraph.old.arcs ++ (node_of tail, node_of head) ∷ [] }) }
+    ensures ok { OnOk result (digraph.new ≡ with_arc digraph.old tail head) }
     ensures err { OnErr result (digraph.new ≡ digraph.old) }
 {
     match digraph.add_arc(tail.node(), head.node()) {

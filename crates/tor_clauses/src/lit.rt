@@ -1,5 +1,5 @@
-ghost use Rattle.std.specs.Prelude.{◌≡◌, ◌<◌, ◌^◌};
-ghost use Rattle.tor_clauses.specs.Literals.{negated, node_of, lit_of};
+ghost use Rattle.std.specs.Prelude.{◌≡◌, ◌<◌, ◌^◌, ◌↔◌, length, IsTrue};
+ghost use Rattle.tor_clauses.specs.Literals.{negated, node_of, lit_of, opposite_node, Holds};
 
 use as_graph::Step;
 use relationships::End;
@@ -58,6 +58,14 @@ impl Lit {
         Lit { edge, over }
     }
 
+    /// Whether this literal holds where the edges have these providers, one each. It takes no memory.
+    pub fn holds(self, ends: &[End]) -> bool
+        requires { self.edge < length ends.now }
+        ensures { IsTrue result ↔ Holds ends.now self }
+    {
+        ends[self.edge.place()] == self.over
+    }
+
     /// The literal that the AS from which a step goes is over the one that it reaches.
     pub(crate) fn of_step(step: &Step) -> Lit
         ensures { result ≡ record { edge = step.now.edge; over = step.now.left } }
@@ -67,4 +75,11 @@ impl Lit {
             over: step.left,
         }
     }
+}
+
+/// The node of the negation of a node's literal. It takes no memory.
+pub fn opposite(node: NodeId) -> NodeId
+    ensures { result ≡ opposite_node node }
+{
+    Lit::of_node(node).not().node()
 }

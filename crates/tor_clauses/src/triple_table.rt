@@ -1,8 +1,5 @@
-ghost use Rattle.std.specs.Prelude.{◌≡◌, ◌<◌, ◌≤◌, ◌↔◌, ◌^◌, ◌∷◌, ◌++◌, [], All, length, take, slice_get, IsFalse, IsTrue, OnOk, OnErr};
-ghost use Rattle.std.specs.List.{list_any};
-ghost use Rattle.tor_clauses.specs.Literals.{Holds};
-ghost use Rattle.tor_clauses.specs.Triples.{is_same_triple};
-ghost use Rattle.tor_clauses.specs.Tables.{HasNodes, IsSatisfied};
+ghost use Rattle.std.specs.Prelude.{◌≡◌, ◌<◌, ◌≤◌, ◌↔◌, ◌^◌, [], All, length, take, slice_get, IsTrue, IfOk, OnErr};
+ghost use Rattle.tor_clauses.specs.Tables.{HasNodes, IsSatisfied, IsAdded, key_of};
 
 use crate::lit::Lit;
 use crate::triple::Triple;
@@ -16,7 +13,7 @@ use tor_arena::{Arena, Index, NoMemory, NodeId, TripleId};
 #[derive(Drop)]
 pub(crate) struct TripleTable {
     triples: Arena<TripleId, Triple>,
-    // for each triple the nodes of its two literals
+    // for each triple the pair of nodes that it shares with its reverse
     known: IndexSet<(NodeId, NodeId)>,
 }
 
@@ -62,21 +59,6 @@ impl TripleTable {
         *self.triples.get(id)
     }
 
-    /// Whether the triple or its reverse is there. It takes no memory.
-    pub fn has(&self, triple: &Triple) -> bool
-        requires { HasNodes triple.now }
-        ensures { result ≡ list_any (is_same_triple triple.now) self.now }
-    {
-        let first = triple.first.node();
-        let second = triple.second.node();
-        if self.known.contains(&(first, second)) {
-            return true;
-        }
-        let first = triple.first.not().node();
-        let second = triple.second.not().node();
-        self.known.contains(&(second, first))
-    }
-
     /// Whether the providers of the edges satisfy each triple: its second literal holds if its first does, and so for the
     /// negations of the second and the first. It takes no memory.
     pub fn are_satisfied(&self, ends: &[End]) -> bool
@@ -93,19 +75,19 @@ impl TripleTable {
         true
     }
 
-    /// Adds a triple that is not there, nor its reverse. For want of memory nothing changes.
-    pub fn push(&mut self, triple: Triple) -> Result<(), NoMemory>
+    /// Adds a triple, unless it or its reverse is there, and answers whether it was added. For want of memory nothing changes.
+    pub fn add(&mut self, triple: Triple) -> Result<bool, NoMemory>
         requires nodes { HasNodes triple }
-        requires new { IsFalse (list_any (is_same_triple triple) self.old) }
         requires room { length self.old < 2 ^ 27 }
-        ensures ok { OnOk result (self.new ≡ self.old ++ triple ∷ []) }
+        ensures ok { IfOk result (λ is_new. IsAdded triple self.old self.new is_new) }
         ensures err { OnErr result (self.new ≡ self.old) }
     {
         self.triples.reserve(1)?;
-        let pair = (triple.first.node(), triple.second.node());
-        self.known.insert(pair)?;
-        self.triples.push_reserved(triple);
-        Ok(())
+        let is_new = self.known.insert(key(&triple))?;
+        if is_new {
+            self.triples.push_reserved(triple);
+        }
+        Ok(is_new)
     }
 
     /// Keeps the first `count` triples, of which there have to be as many. It takes no memory.
@@ -118,19 +100,26 @@ impl TripleTable {
     }
 }
 
+/// The nodes of a triple's literals or those of its reverse, whichever begin with the lesser node: the same pair for both. It
+/// takes no memory.
+fn key(triple: &Triple) -> (NodeId, NodeId)
+    requires { HasNodes triple.now }
+    ensures { result ≡ key_of triple.now }
+{
+    let first = triple.first.node();
+    let reverse_first = triple.second.not().node();
+    if reverse_first.place() < first.place() {
+        (reverse_first, triple.first.not().node())
+    } else {
+        (first, triple.second.node())
+    }
+}
+
 /// Whether the clause of a triple is satisfied: its second literal holds if its first does.
 fn is_satisfied(triple: &Triple, ends: &[End]) -> bool
     requires first { triple.now.first.edge < length ends.now }
     requires second { triple.now.second.edge < length ends.now }
     ensures { IsTrue result ↔ IsSatisfied ends.now triple.now }
 {
-    !holds(triple.first, ends) || holds(triple.second, ends)
-}
-
-/// Whether a literal holds under the providers of the edges.
-fn holds(literal: Lit, ends: &[End]) -> bool
-    requires { literal.edge < length ends.now }
-    ensures { IsTrue result ↔ Holds ends.now literal }
-{
-    ends[literal.edge.place()] == literal.over
+    !triple.first.holds(ends) || triple.second.holds(ends)
 }

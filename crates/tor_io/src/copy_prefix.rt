@@ -1,6 +1,6 @@
 ghost use Rattle.std.specs.Prelude.{◌≡◌, length, take, drop, min};
 
-/// Copies as many of the bytes as fit to the prefix of the buffer, and answers how many.
+/// Copies as many of the bytes as fit to the start of the buffer, and answers how many.
 pub(crate) fn copy_prefix(buf: &mut [u8], bytes: &[u8]) -> usize
     ensures count { result ≡ min (length buf.old) (length bytes.now) }
     ensures prefix { take result buf.new ≡ take result bytes.now }

@@ -49,7 +49,7 @@ impl Window {
         Ok(())
     }
 
-    /// Moves as many of the bytes as fit to the prefix of `buf`, and answers how many.
+    /// Moves as many of the bytes as fit to the start of `buf`, and answers how many.
     pub(crate) fn give(&mut self, buf: &mut [u8]) -> usize
         ensures bound { result ≤ length buf.old }
         ensures rest { drop result buf.new ≡ drop result buf.old }

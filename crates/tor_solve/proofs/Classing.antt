@@ -14,7 +14,9 @@ use Rattle.tor_components.specs.Classes.{Classes, IsComponents}
 use Rattle.as_graph.specs.Paths.{path_at, paths_at}
 use Rattle.tor_clauses.specs.Literals.{side, end_of, node_of, lit_of, opposite_node}
 use Rattle.tor_clauses.specs.Formulas.{Formula, IsModel, numbered}
-use Rattle.tor_clauses.proofs.LiteralLemmas.{opposite_twice}
+use Rattle.tor_clauses.specs.Turning.{HasPartners}
+use Rattle.tor_clauses.proofs.LiteralLemmas.{opposite_twice, node_of_lit}
+use Rattle.tor_clauses.proofs.Sides.{one_of}
 use Rattle.tor_solve.specs.Solving.{IsLater, AreLater}
 
 -- none below the next place either
@@ -37,39 +39,23 @@ later_more classes ends edge end same old new e other at =
           (subst (λ v. IsLater classes (record { edge = edge; over = v })) (sym h.1) new)
     ]
 
--- ---- nodes and their literals
-
-side_end : (r : ℕ) → r < 2 → side (end_of r) ≡ r
-side_end zero lt = refl
-side_end (suc zero) lt = refl
-side_end (suc (suc r)) lt = absurd (omega arith)
-
-node_literal : (n : ℕ) → node_of (lit_of n) ≡ n
-node_literal n = let small : n % 2 < 2 = omega arith in let e = side_end (n % 2) small in omega (arith, e)
-
-same_or_opposite : (e f : End) → (e ≡ f) ⊎ (e ≡ opposite f)
-same_or_opposite End.Low End.Low = inl refl
-same_or_opposite End.Low End.High = inr refl
-same_or_opposite End.High End.Low = inr refl
-same_or_opposite End.High End.High = inl refl
-
 -- ---- the later literals
 
 -- no arc leads from a later literal to one that is not
 pub later_model : (f : Formula) (c : Classes) (ends : List End) → f.net.nodes ≡ length ends * 2 → IsInside (λ n. n) f.net → IsComponents (λ n. n) f.net c →
-    ((l m : ℕ) → HasArc f.net.arcs l m → HasArc f.net.arcs (opposite_node m) (opposite_node l)) → AreLater c.of ends → IsModel f ends
+    HasPartners f.net.arcs → AreLater c.of ends → IsModel f ends
 later_model f c ends many inside parts partner later k l m arc holds =
     let below : m < f.net.nodes = inside.heads k l m arc in
     let there : m / 2 < length ends = omega (arith, below, many) in
     let end = slice_get-some ends (m / 2) there in
-    elim (same_or_opposite end.0 (lit_of m).over) [
+    elim (one_of end.0 (lit_of m).over) [
       | inl e ↦ subst (λ v. slice_get ends (m / 2) ≡ Some v) e end.1
       | inr e ↦
           let tail = later (l / 2) (lit_of l).over holds in
           let head = later (m / 2) (opposite (lit_of m).over) (subst (λ v. slice_get ends (m / 2) ≡ Some v) e end.1) in
-          let at_l : slice_get c.of l ≡ Some tail.0 = subst (λ n. slice_get c.of n ≡ Some tail.0) (node_literal l) tail.2 in
+          let at_l : slice_get c.of l ≡ Some tail.0 = subst (λ n. slice_get c.of n ≡ Some tail.0) (node_of_lit l) tail.2 in
           let back : node_of (record { edge = m / 2; over = opposite (opposite (lit_of m).over) }) ≡ m =
-          ap (λ v. node_of (record { edge = m / 2; over = v })) (opposite_twice (lit_of m).over) ∙ node_literal m in
+          ap (λ v. node_of (record { edge = m / 2; over = v })) (opposite_twice (lit_of m).over) ∙ node_of_lit m in
           let at_m : slice_get c.of m ≡ Some head.1 = subst (λ n. slice_get c.of n ≡ Some head.1) back head.3 in
           let on = parts.order l m tail.0 head.1 (k, arc) at_l at_m in
           let partner_on = parts.order (opposite_node m) (opposite_node l) head.0 tail.1 (partner l m (k, arc)) head.2 tail.3 in

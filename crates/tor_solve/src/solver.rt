@@ -1,10 +1,8 @@
-ghost use Rattle.std.specs.Prelude.{◌≡◌, ◌↔◌, length, IfOk};
+ghost use Rattle.std.specs.Prelude.{◌≡◌, length, IfOk};
 ghost use Rattle.relationships.specs.Graph.{edges};
 ghost use Rattle.relationships.specs.Evidence.{Refutes};
-ghost use Rattle.relationships.specs.Selection.{IsServable};
-ghost use Rattle.as_graph.specs.Paths.{paths_at};
 ghost use Rattle.tor_clauses.specs.Formulas.{FitsGraph, IsServed, numbered};
-ghost use Rattle.tor_solve.specs.Verdicts.{IfModel, IfWalk, IsRefuted};
+ghost use Rattle.tor_solve.specs.Verdicts.{IfModel, IfWalk, IsExact};
 
 use crate::later::{clash, later_ends};
 use crate::verdict::Verdict;
@@ -24,8 +22,8 @@ pub fn solve(alloc: Global, graph: &AsGraph, clauses: &Clauses) -> Result<Verdic
     requires { FitsGraph graph.now clauses.now }
     ensures many { IfOk result (λ verdict. IfModel verdict (λ ends. length ends ≡ length (edges graph.now))) }
     ensures model { IfOk result (λ verdict. IfModel verdict (λ ends. IsServed graph.now clauses.now.paths ends)) }
-    ensures walk { IfOk result (λ verdict. IfWalk verdict (λ walk. Refutes (numbered graph.now clauses.now.paths) walk)) }
-    ensures exact { IfOk result (λ verdict. IsRefuted verdict ↔ (IsServable (paths_at graph.now clauses.now.paths) → ⊥)) }
+    ensures walk { IfOk result (λ verdict. IfWalk verdict (Refutes (numbered graph.now clauses.now.paths))) }
+    ensures exact { IfOk result (IsExact graph.now clauses.now.paths) }
 {
     graph.facts();
     model_law();

@@ -5,7 +5,7 @@ use Rattle.mrt_frame.specs.Reader.{shelf_of, next_place}
 use Rattle.mrt_frame.specs.Frames.{StopsWith}
 use Rattle.mrt_frame.specs.Steps.{seen}
 use Rattle.dump_read.specs.Refusals.{taken_of, count_of}
-use Rattle.dump_read.proofs.Goings.{GoesOf, starts, goes_on, ends, breaks, some_so_far, some_with, frame_known}
+use Rattle.dump_read.proofs.Goings.{GoesOf, starts, goes_on, ends, breaks, some_so_far, some_with, frame_named}
 use Rattle.dump_read.proofs.reading.read_records.Goals as goal
 
 pub records-init : goal.records-init
@@ -31,7 +31,7 @@ returns-in-Ok-None-clause-read g c =
 pub returns-in-Err-clause-stopped : goal.returns-in-Err-clause-stopped
 returns-in-Err-clause-stopped g c =
     let left = g.H.Shelf.left in
-    rw c.of_frame.ensures (frame_known c.args.sets c.args.dump (left c.args.shelf.now) (left (shelf_of c.records.frames)) (next_place c.records.frames) (count_of c.records.peers)
+    rw c.of_frame.ensures (frame_named c.args.sets c.args.dump (left c.args.shelf.now) (left (shelf_of c.records.frames)) (next_place c.records.frames) (count_of c.records.peers)
     (taken_of c.args.table.now c.args.asides.now) (taken_of c.records.table c.records.asides) c.in-Err.error c.records.invariant.goes c.in-Err.ensures.stopped)
 
 pub returns-in-Err-clause-some : goal.returns-in-Err-clause-some
@@ -54,9 +54,9 @@ records-preserved g c =
       goes = subst (λ at. GoesOf c.args.sets (left c.args.shelf.now) (left (shelf_of frames)) at (count_of c.in-Ok.behind) old new) (sym step.next)
           (goes_on c.args.sets (left c.args.shelf.now) (left (shelf_of c.records.frames)) (left (shelf_of frames)) (next_place c.records.frames) (count_of c.records.peers) (count_of c.in-Ok.behind)
           (seen c.in-Ok-Some.found) old mid new c.records.invariant.goes step.stands c.in-Ok.ensures.taken c.in-Ok.ensures.peers);
-      files = step.files ∙ c.records.invariant.files;
-      quiet = step.quiet tt ∙ c.records.invariant.quiet;
-      steady = λ s. step.steady (c.records.invariant.steady s);
+      files = step.leaves.files ∙ c.records.invariant.files;
+      quiet = step.leaves.quiet tt ∙ c.records.invariant.quiet;
+      steady = λ s. step.leaves.steady (c.records.invariant.steady s);
     }
 
 pub returns-in-Err-take_record-clause-stopped : goal.returns-in-Err-take_record-clause-stopped

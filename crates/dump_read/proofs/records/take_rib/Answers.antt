@@ -1,7 +1,7 @@
-use Rattle.std.proofs.Common.{option_map, refl}
+use Rattle.std.proofs.Common.{refl}
 use Rattle.std.proofs.lemmas.Result.{err_from_is_err_and}
 use Rattle.rib_v2.specs.Rib.{rib_of}
-use Rattle.dump_read.specs.Refusals.{taken_of}
+use Rattle.dump_read.specs.Refusals.{count_of, taken_of}
 use Rattle.dump_read.proofs.Takings.{none_read}
 use Rattle.dump_read.proofs.records.take_rib.Goals as goal
 
@@ -9,4 +9,4 @@ pub returns-in_err-entries-clause-some : goal.returns-in_err-entries-clause-some
 returns-in_err-entries-clause-some c =
     let p = err_from_is_err_and c.from_residual.result c.from_residual.ensures.1 in
     let old = taken_of c.args.table.now c.args.asides.now in
-    rw p.1 (none_read c.args.sets old old (rib_of c.args.subtype (option_map (λ p. p.now.count) c.args.peers) c.args.body.now) refl)
+    rw p.1 (none_read c.args.sets old old (rib_of c.args.subtype (count_of c.args.peers) c.args.body.now) refl)

@@ -15,7 +15,8 @@ records-preserved g c =
     let unread = sym c.is_read.ensures ∙ c.if-is_read.false in
     record {
       files = c.in_ok-pass_body.ensures.files ∙ c.in_ok-header.ensures.files ∙ c.records.invariant.files;
-      passed = passed_one (shelf.left c.args.shelf.now) (shelf.left c.records.shelf) mid (shelf.left c.pass_body.new.shelf) c.args.start at c.behind-at.result header c.records.invariant.passed taken c.in_ok-pass_body.ensures.skipped unread c.behind-at.ensures.number c.behind-at.ensures.offset;
+      passed = passed_one (shelf.left c.args.shelf.now) (shelf.left c.records.shelf) mid (shelf.left c.pass_body.new.shelf) c.args.start at c.behind-at.result header
+          c.records.invariant.passed taken c.in_ok-pass_body.ensures.skipped unread c.behind-at.ensures.number c.behind-at.ensures.offset;
       onward = omega (arith, c.records.invariant.onward, c.behind-at.ensures.offset);
       numbered = omega (arith, c.records.invariant.numbered, c.behind-at.ensures.number, c.behind-at.ensures.offset);
       near = omega (arith, within, c.behind-at.ensures.offset);

@@ -8,7 +8,8 @@ returns-then-is_oversize-clause-stopped g c =
     let header = c.parse-header.result in
     let head = c.read_part.new.buffer.items in
     let long : 12 ≤ length head = omega (arith, ap length c.deref.ensures.value) in
-    let says : Says head header = subst (λ t. Says t header) c.deref.ensures.value (record { kind = c.parse-header.ensures.kind; subtype = c.parse-header.ensures.subtype; len = c.parse-header.ensures.len }) in
+    let says : Says head header =
+    subst (λ t. Says t header) c.deref.ensures.value (record { kind = c.parse-header.ensures.kind; subtype = c.parse-header.ensures.subtype; len = c.parse-header.ensures.len }) in
     too_long (left c.args.shelf.now) (left c.read_part.new.shelf) c.args.at header head c.in_ok-read_part.ensures.taken long says (omega arith) (sym c.is_oversize.ensures ∙ c.if-is_oversize.true)
 
 pub returns-clause-header : goal.returns-clause-header
@@ -17,5 +18,6 @@ returns-clause-header g c =
     let header = c.parse-header.result in
     let head = c.read_part.new.buffer.items in
     let long : 12 ≤ length head = omega (arith, ap length c.deref.ensures.value) in
-    let says : Says head header = subst (λ t. Says t header) c.deref.ensures.value (record { kind = c.parse-header.ensures.kind; subtype = c.parse-header.ensures.subtype; len = c.parse-header.ensures.len }) in
+    let says : Says head header =
+    subst (λ t. Says t header) c.deref.ensures.value (record { kind = c.parse-header.ensures.kind; subtype = c.parse-header.ensures.subtype; len = c.parse-header.ensures.len }) in
     takes_header (left c.args.shelf.now) (left c.read_part.new.shelf) c.args.at header head c.in_ok-read_part.ensures.taken long says (omega arith) (sym c.is_oversize.ensures ∙ c.if-is_oversize.false)

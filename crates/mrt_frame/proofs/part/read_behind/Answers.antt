@@ -10,9 +10,18 @@ returns-clause-taken g c =
     let start = c.len-start.result in
     let count = c.in_ok-count.count in
     let size : start ≡ length old = omega arith in
-    let prefix : take start c.deref_mut.result.now ≡ old = resized_prefix old c.resize.new.self.items c.deref_mut.result.now _ start c.args.most size c.deref_mut.ensures.value c.in_ok-resize.ensures.items in
+    let prefix : take start c.deref_mut.result.now ≡ old =
+    resized_prefix old c.resize.new.self.items c.deref_mut.result.now _ start c.args.most size c.deref_mut.ensures.value c.in_ok-resize.ensures.items in
     let within : start + count ≤ c.resize.new.self.len =
-    omega (arith, c.in_ok-count.ensures.bound.0, c.in_ok-resize.ensures.len, c.read.auto.buf, c.deref_mut.ensures.len, length-take (length c.deref_mut.result.now - start) (drop start c.deref_mut.result.now)) in (
+    omega (
+      arith,
+      c.in_ok-count.ensures.bound.0,
+      c.in_ok-resize.ensures.len,
+      c.read.auto.buf,
+      c.deref_mut.ensures.len,
+      length-take (length c.deref_mut.result.now - start)
+          (drop start c.deref_mut.result.now),
+    ) in (
       take count buf,
       sym c.in_ok-count.ensures.bound.1,
       written_behind old c.deref_mut.result.now buf _ _ c.truncate.new.self.items start count c.resize.new.self.len size prefix c.in_ok-count.ensures.bound.0 within c.truncate.ensures.items,

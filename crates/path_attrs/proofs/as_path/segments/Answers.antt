@@ -15,7 +15,8 @@ segments-preserved c =
     let octets = c.in-Some.octets.now in
     let left : c.split_at.result.1.now ≡ drop (n * c.in-Some.count) octets = c.split_at.ensures.back ∙ ap (λ k. drop (k * c.in-Some.count) octets) c.octets.ensures in
     rw (c.in_ok-push.ensures.ok, left, c.in_ok-ases.ensures)
-    (segments-step c.args.width c.segments.rest.now (record { kind = c.in-Some.kind; ases = numbers n c.in-Some.count octets }) (drop (n * c.in-Some.count) octets) c.segments.found (segments_of c.args.width c.args.value.now)
+    (segments-step c.args.width c.segments.rest.now (record { kind = c.in-Some.kind; ases = numbers n c.in-Some.count octets }) (drop (n * c.in-Some.count) octets) c.segments.found
+    (segments_of c.args.width c.args.value.now)
     c.in-Some.ensures.gives c.segments.invariant)
 
 pub returns : goal.returns

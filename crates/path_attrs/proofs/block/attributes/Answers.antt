@@ -12,7 +12,8 @@ attributes-preserved c =
 pub returns-in_err-behind : goal.returns-in_err-behind
 returns-in_err-behind c =
     let p = err_from_is_err_and c.from_residual.result c.from_residual.ensures.1 in
-    rw p.1 (cut_block c.args.block.now c.attributes.rest.now c.in_err-behind.field-0.0 p.0 (not_empty (length c.attributes.rest.now) c.is_empty.result c.is_empty.ensures c.attributes-test.true) c.in_err-behind.ensures.gives c.attributes.invariant)
+    rw p.1 (cut_block c.args.block.now c.attributes.rest.now c.in_err-behind.field-0.0 p.0
+    (not_empty (length c.attributes.rest.now) c.is_empty.result c.is_empty.ensures c.attributes-test.true) c.in_err-behind.ensures.gives c.attributes.invariant)
 
 pub invariant_of-result : goal.invariant_of-result
 invariant_of-result c =

@@ -35,5 +35,6 @@ numbers-preserved c =
     let lacks : contains nat_cmp c.numbers.seen key ≡ false = false_from _ (sym c.if-not-branch.false ∙ c.in_ok-insert.ensures.added) in (
       omega (arith, c.numbers.invariant.0),
       once path at some c.numbers.invariant.0 (sym (c.numbers.invariant.2 key) ∙ lacks) c.numbers.invariant.1,
-      λ q. c.in_ok-insert.ensures.updates.0 q ∙ either (eq_by_cmp nat_cmp key q) (contains nat_cmp c.numbers.seen q) ∙ ap₂ (λ a b. a || b) (unsigned_tied key q) (c.numbers.invariant.2 q) ∙ sym (one_more path at q some c.numbers.invariant.0),
+      λ q. c.in_ok-insert.ensures.updates.0 q ∙ either (eq_by_cmp nat_cmp key q) (contains nat_cmp c.numbers.seen q)
+          ∙ ap₂ (λ a b. a || b) (unsigned_tied key q) (c.numbers.invariant.2 q) ∙ sym (one_more path at q some c.numbers.invariant.0),
     )

@@ -9,7 +9,8 @@ entries-preserved c =
     let all = entries_of c.args.peers.now.count c.args.count c.args.bytes.now in
     rw c.in_ok-push-in-Ok.ensures.ok (
       length-append c.entries.found _ ∙ ap (λ n. n + 1) c.entries.invariant.0,
-      entries-step c.args.peers.now.count c.args.count c.entries.counter c.entries.rest.now c.in-Ok.behind.now c.in-Ok.entry c.entries.found all c.entries-test.true c.in-Ok.ensures c.entries.invariant.1,
+      entries-step c.args.peers.now.count c.args.count c.entries.counter c.entries.rest.now c.in-Ok.behind.now c.in-Ok.entry c.entries.found all
+          c.entries-test.true c.in-Ok.ensures c.entries.invariant.1,
     )
 
 pub returns-in-Err-clause-answer : goal.returns-in-Err-clause-answer

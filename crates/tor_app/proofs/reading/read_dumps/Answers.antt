@@ -2,7 +2,7 @@ use Rattle.std.proofs.Common.{◌≡◌, ◌+◌, ◌∙◌, ℕ, List, Ok, Err,
 use Rattle.std.specs.Prelude.{IfSome}
 use Rattle.tor_io.specs.Contents.{LacksFile}
 use Rattle.dump_read.specs.Refusals.{taken_of}
-use Rattle.dump_read.specs.Seen.{end_known, of_file}
+use Rattle.dump_read.specs.Seen.{end_named, of_file}
 use Rattle.tor_app.proofs.Dumps.{absent, one_more, stops}
 use Rattle.tor_app.proofs.reading.read_dumps.Goals as goal
 
@@ -12,9 +12,9 @@ returns-in-Err-clause-stopped g c =
     let i = c.loop-place.place in
     let name = c.index-dumps-place.result in
     let mid = taken_of c.loop-place.table c.loop-place.asides in
-    let one : IfSome (end_known (i + 1) c.in-Err.error) (λ end. IfSome known (λ files. of_file c.args.sets (i + 1) mid (files name) ≡ Err end)) =
-    subst (λ (n : List ℕ). IfSome (end_known (i + 1) c.in-Err.error) (λ end. IfSome known (λ files. of_file c.args.sets (i + 1) mid (files n) ≡ Err end))) c.as_text.ensures
-    (subst (λ o. IfSome (end_known (i + 1) c.in-Err.error) (λ end. IfSome o (λ files. of_file c.args.sets (i + 1) mid (files c.as_text.result.now) ≡ Err end))) c.loop-place.invariant.files
+    let one : IfSome (end_named (i + 1) c.in-Err.error) (λ end. IfSome known (λ files. of_file c.args.sets (i + 1) mid (files name) ≡ Err end)) =
+    subst (λ (n : List ℕ). IfSome (end_named (i + 1) c.in-Err.error) (λ end. IfSome known (λ files. of_file c.args.sets (i + 1) mid (files n) ≡ Err end))) c.as_text.ensures
+    (subst (λ o. IfSome (end_named (i + 1) c.in-Err.error) (λ end. IfSome o (λ files. of_file c.args.sets (i + 1) mid (files c.as_text.result.now) ≡ Err end))) c.loop-place.invariant.files
     c.in-Err.ensures.stopped) in
     stops c.args.sets (taken_of c.args.table.now c.args.asides.now) mid known c.args.dumps.now i name c.in-Err.error c.loop-place-test.true c.index-dumps-place.is c.loop-place.invariant.seen one
 

@@ -3,13 +3,14 @@ use Rattle.std.specs.Prelude.{IfNone}
 use Rattle.std.proofs.Math.Path.{ap₂}
 use Rattle.mrt_frame.specs.declared.error.FrameError.{FrameError}
 use Rattle.mrt_frame.specs.declared.header.At.{At}
-use Rattle.mrt_frame.specs.Records.{Record, Well, behind, is_read}
+use Rattle.mrt_frame.specs.Kinds.{is_read}
+use Rattle.mrt_frame.specs.Records.{Record, Well, behind}
 use Rattle.mrt_frame.specs.declared.cursor.Cursor.{Cursor}
 use Rattle.mrt_frame.specs.declared.error.FrameError.TheVariants.{ReadFault}
 use Rattle.mrt_frame.specs.declared.frames.Frames.{Frames}
 use Rattle.mrt_frame.specs.Frames.{FindsNext, StopsWith, IfFault, record_of, end_of_error}
 use Rattle.mrt_frame.specs.Steps.{Answer, HasMoved, seen}
-use Rattle.mrt_frame.proofs.Converse.{Knows, conversely, same_seen, of_octets}
+use Rattle.mrt_frame.proofs.Converse.{Matches, conversely, same_seen, of_octets}
 use Rattle.mrt_frame.proofs.frames.Frames+H.next.Goals as goal
 
 pub returns-in_err-advance : goal.returns-in_err-advance
@@ -22,11 +23,11 @@ returns-in_err-advance g c =
     let place = old.cursor.next in
     let before = shelf.left old.shelf.now in
     let new : Frames g.row.H.Denot Cursor = record { shelf = record old.shelf { now = c.advance.new.shelf }; cursor = c.advance.new.self } in
-    let knows : IfSome before (λ octets. Knows (Err e) place octets None) = of_octets (end_of_error e) before place facts.stopped in
-    let given = conversely c.from_residual.result before place None (subst (λ (r : Answer). IfSome before (λ octets. Knows r place octets None)) is knows) in
+    let matches : IfSome before (λ octets. Matches (Err e) place octets None) = of_octets (end_of_error e) before place facts.stopped in
+    let given = conversely c.from_residual.result before place None (subst (λ (r : Answer). IfSome before (λ octets. Matches r place octets None)) is matches) in
     let moved : HasMoved shelf old (Err e) new = record {
       same_reference = refl;
-      files = facts.files;
+      leaves = record { files = facts.files; later = facts.later; quiet = facts.quiet; failed = λ read. facts.failed (same_error e read); steady = facts.steady };
       stands = tt;
       next = tt;
       rises = tt;
@@ -34,10 +35,6 @@ returns-in_err-advance g c =
       ended = tt;
       at_end = tt;
       broken = broken c.advance.new.self.live e facts.live.0;
-      later = facts.later;
-      quiet = facts.quiet;
-      failed = λ read. facts.failed (same_error e read);
-      steady = facts.steady;
     } in (
       (refl, (λ _. tt), subst (λ (r : Answer). HasMoved shelf old r new) is moved),
       record {
@@ -48,7 +45,7 @@ returns-in_err-advance g c =
         stopped = subst (λ (r : Answer). IfFault r (λ end. IfSome before (λ octets. StopsWith place octets end))) is facts.stopped;
         record_is_given = given.record_is_given;
         end_is_none = given.end_is_none;
-        stop_is_known = given.stop_is_known;
+        stop_is_error = given.stop_is_error;
         steady_reads = λ s read. facts.steady_reads s (same_error e (is ∙ read));
       },
     )
@@ -82,7 +79,7 @@ returns-then-branch g c =
         (λ _. tt),
         record {
           same_reference = refl;
-          files = facts.files;
+          leaves = record { files = facts.files; later = facts.later; quiet = λ _. facts.quiet tt; failed = λ is. absurd cc; steady = facts.steady };
           stands = stands;
           next = facts.next ok ∙ ap behind same;
           rises = omega (arith, ap (λ (a : At). a.offset) (facts.next ok), facts.onward ok);
@@ -90,10 +87,6 @@ returns-then-branch g c =
           ended = tt;
           at_end = tt;
           broken = tt;
-          later = facts.later;
-          quiet = λ _. facts.quiet tt;
-          failed = λ is. absurd cc;
-          steady = facts.steady;
         },
       ),
       record {
@@ -104,7 +97,7 @@ returns-then-branch g c =
         stopped = tt;
         record_is_given = given.record_is_given;
         end_is_none = given.end_is_none;
-        stop_is_known = given.stop_is_known;
+        stop_is_error = given.stop_is_error;
         steady_reads = λ _ is. absurd cc;
       },
     )
@@ -123,7 +116,7 @@ returns-else-branch g c =
         (λ _. tt),
         record {
           same_reference = refl;
-          files = facts.files;
+          leaves = record { files = facts.files; later = facts.later; quiet = λ _. facts.quiet tt; failed = λ is. absurd cc; steady = facts.steady };
           stands = tt;
           next = tt;
           rises = tt;
@@ -131,10 +124,6 @@ returns-else-branch g c =
           ended = not_live c.advance.new.self.live c.in_ok-advance.field-0 c.if-branch.false facts.live.0;
           at_end = facts.at_end no;
           broken = tt;
-          later = facts.later;
-          quiet = λ _. facts.quiet tt;
-          failed = λ is. absurd cc;
-          steady = facts.steady;
         },
       ),
       record {
@@ -145,7 +134,7 @@ returns-else-branch g c =
         stopped = tt;
         record_is_given = given.record_is_given;
         end_is_none = given.end_is_none;
-        stop_is_known = given.stop_is_known;
+        stop_is_error = given.stop_is_error;
         steady_reads = λ _ is. absurd cc;
       },
     )

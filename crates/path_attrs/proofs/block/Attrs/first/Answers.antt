@@ -9,7 +9,8 @@ returns-then-found-code-clause-first c =
 
 pub attributes-preserved : goal.attributes-preserved
 attributes-preserved c =
-    let behind = first_behind c.args.code c.attributes.rest.now (record { code = c.in-Ok.found; value = c.in-Ok.value.now }) c.in-Ok.behind.now c.in-Ok.ensures.gives c.attributes.invariant.0 c.if-found-code.false in
+    let behind = first_behind c.args.code c.attributes.rest.now (record { code = c.in-Ok.found; value = c.in-Ok.value.now }) c.in-Ok.behind.now
+    c.in-Ok.ensures.gives c.attributes.invariant.0 c.if-found-code.false in
     (behind.0, behind.1 ∙ c.attributes.invariant.1)
 
 pub returns-clause-first : goal.returns-clause-first
