@@ -1,6 +1,6 @@
 -- On which line of its text each thing of a result stands. Lines are counted from 1, and so are the paths, edges,
 -- walks and open lines of a result.
-use Rattle.std.specs.Prelude.{◌≡◌, ℕ, ◌+◌, ◌≤◌, length, take, Some, slice_get}
+use Rattle.std.specs.Prelude.{◌≡◌, ℕ, ◌+◌, ◌≤◌, List, length, take, Some, slice_get}
 use Rattle.path_clean.specs.declared.cleaned.Cause.{Cause}
 use Rattle.path_clean.specs.Counts.{count_of}
 use Rattle.relationships.specs.declared.walk.Walk.{Walk}
