@@ -2,6 +2,7 @@ use crate::{Answer, check_against, check_file};
 use path_clean::{Asides, Cause, PathTable, is_cleaned};
 use result_text::{ResultFile, parse};
 use std::process::Abort;
+use std::random::RandomSource;
 use std::test::Fail;
 use tor_arena::Keys;
 
@@ -24,12 +25,16 @@ fn with_line(
 }
 
 /// What is answered to a file of a few lines.
-fn answer_to(rt: &(impl Abort + AllocGlobal), file: &ResultFile) -> Result<Answer, Fail> {
+fn answer_to(
+    rt: &(impl Abort + AllocGlobal + RandomSource),
+    file: &ResultFile,
+) -> Result<Answer, Fail> {
     assert!(rt; file.paths.len() < 100);
     assert!(rt; file.edges.len() < 100);
     assert!(rt; file.whys.len() < 100);
     assert!(rt; file.probes.len() < 100);
-    Ok(check_file(rt.alloc(), Keys::new(rt), file)?)
+    let keys = Keys::new(rt);
+    Ok(check_file(rt.alloc(), keys, file)?)
 }
 
 #[test]
@@ -75,8 +80,11 @@ fn one_line_is_another(rt: HostRuntime) -> Result<(), Fail> {
 }
 
 /// The table of paths that the file names.
-fn seen(rt: &(impl Abort + AllocGlobal), paths: &[&[u32]]) -> Result<PathTable, Fail> {
-    let mut table = PathTable::new(rt.alloc(), 10);
+fn seen(
+    rt: &(impl Abort + AllocGlobal + RandomSource),
+    paths: &[&[u32]],
+) -> Result<PathTable, Fail> {
+    let mut table = PathTable::new(rt.alloc(), Keys::new(rt), 10);
     for path in paths {
         assert!(rt; is_cleaned(path));
         table.add(path)?;
@@ -109,7 +117,7 @@ fn dumps_that_agree(rt: HostRuntime) -> Result<(), Fail> {
 
 /// The line at which the dumps of these paths differ from the file.
 fn differs_at(
-    rt: &(impl Abort + AllocGlobal),
+    rt: &(impl Abort + AllocGlobal + RandomSource),
     paths: &[&[u32]],
     asides: &Asides,
     line: u64,

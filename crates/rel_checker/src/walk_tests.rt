@@ -1,6 +1,7 @@
 use crate::walk_rules::{find_unrefuted, find_unshown};
 use result_text::{ResultFile, parse};
 use std::process::Abort;
+use std::random::RandomSource;
 use std::test::Fail;
 use tor_arena::Keys;
 
@@ -28,12 +29,13 @@ fn is_unrefuted_at(
 }
 
 fn is_unshown_at(
-    rt: &(impl Abort + AllocGlobal),
+    rt: &(impl Abort + AllocGlobal + RandomSource),
     whys: &str,
     place: Option<usize>,
 ) -> Result<(), Fail> {
+    let keys = Keys::new(rt);
     let file = file_of(rt, PATHS, whys)?;
-    assert_eq!(rt; find_unshown(rt.alloc(), Keys::new(rt), &file)?, place);
+    assert_eq!(rt; find_unshown(rt.alloc(), keys, &file)?, place);
     Ok(())
 }
 

@@ -1,5 +1,5 @@
 -- A line that is read is encoded as it was written, and what was written is read again.
-use Rattle.std.proofs.Common.{◌≡◌, ℕ, List, [], ◌∷◌, ◌++◌, Option, Some, None, drop, refl, sym, ap, subst, ◌∙◌, append_assoc, inl, inr}
+use Rattle.std.proofs.Common.{◌≡◌, ℕ, List, [], ◌∷◌, ◌++◌, Option, Some, drop, refl, sym, ap, subst, ◌∙◌, append_assoc, inl, inr}
 use Rattle.std.specs.Prelude.{codes}
 use Rattle.std.specs.Fmt.{decimal}
 use Rattle.std.specs.List.{AllByRecursion}
@@ -19,7 +19,7 @@ use Rattle.result_text.specs.declared.line.Line.{Line}
 use Rattle.result_text.specs.declared.line.Line.TheVariants as line
 use Rattle.result_text.specs.Text.{numbers, links, sets_name, cause_name, label_name, mark_name, line_text}
 use Rattle.result_text.specs.Ranges.{IsU32, IsU64, AreU32, LinkFits, WalkFits, LineFits}
-use Rattle.result_text.specs.Reading.{u64_at, u32_at, before, both, list_at, link_at, on_word, name_at, sets_at, cause_at, label_at, mark_at, walk_from, walk_at, sets_line_at, ratio_at, aside_from, aside_at, kept_from, kept_at, lost_from, lost_at, edge_from, edge_at, why_at, probe_from, probe_at, end_from, end_at, version_at, line_readers, by_word, line_at}
+use Rattle.result_text.specs.Reading.{u64_at, u32_at, before, both, list_at, link_at, name_at, sets_at, cause_at, label_at, mark_at, walk_from, walk_at, sets_line_at, ratio_at, aside_from, aside_at, kept_from, kept_at, lost_from, lost_at, edge_from, edge_at, why_at, probe_from, probe_at, end_from, end_at, version_at, line_readers, by_word, line_at}
 use Rattle.result_text.proofs.Fields.{some_is, on_word_takes, Reads, ReadsAs, before_reads, both_reads, mapped_reads, NoDigit, EndsList, u64_reads, u32_reads, numbers_reads, links_reads}
 
 -- ---- fields with the byte behind them

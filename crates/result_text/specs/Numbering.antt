@@ -1,6 +1,6 @@
 -- On which line of its text each thing of a result stands. Lines are counted from 1, and so are the paths, edges,
 -- walks and open lines of a result.
-use Rattle.std.specs.Prelude.{◌≡◌, ℕ, ◌+◌, ◌≤◌, length, take, Some, slice_get}
+use Rattle.std.specs.Prelude.{◌≡◌, ℕ, ◌+◌, ◌≤◌, List, length, take, Some, slice_get}
 use Rattle.path_clean.specs.declared.cleaned.Cause.{Cause}
 use Rattle.path_clean.specs.Counts.{count_of}
 use Rattle.relationships.specs.declared.walk.Walk.{Walk}
@@ -39,17 +39,23 @@ last_line file = 11 + length file.paths + length file.edges + length file.whys +
 abbrev pub IsLine : ResultFile → ℕ → Line → Type 0
 IsLine file number l = (place : ℕ) × (number ≡ place + 1) × (slice_get (lines_of file) place ≡ Some l)
 
+-- each of these stands on the line that its own number has, from 1
+abbrev pub StandOn : {X : Type 0} → ResultFile → (ℕ → ℕ) → (X → Line) → List X → Type 0
+StandOn {X} file line_for line_with xs =
+    (place : ℕ) (x : X) → slice_get xs place ≡ Some x → IsLine file (line_for (place + 1)) (line_with x)
+
 -- the numbers above are those of the lines
 pub record IsNumbered (file : ResultFile) : Type 0 where
   pub ratio : IsLine file ratio_line (line.Ratio file.ratio)
   pub asides : (cause : Cause) → IsLine file (aside_line cause) (line.Aside cause (count_of cause file.asides))
-  pub paths : (place : ℕ) (path : PathLine) → slice_get file.paths place ≡ Some path → IsLine file (path_line (place + 1)) (line.Path path)
-  pub edges : (place : ℕ) (edge : EdgeLine) → slice_get file.edges place ≡ Some edge → IsLine file (edge_line file (place + 1)) (line.Edge edge)
-  pub whys : (place : ℕ) (walk : Walk) → slice_get file.whys place ≡ Some walk → IsLine file (why_line file (place + 1)) (line.Why walk)
-  pub probes : (place : ℕ) (probe : Probe) → slice_get file.probes place ≡ Some probe → IsLine file (probe_line file (place + 1)) (line.Probe probe)
+  pub paths : StandOn file path_line (λ (path : PathLine). line.Path path) file.paths
+  pub edges : StandOn file (edge_line file) (λ (edge : EdgeLine). line.Edge edge) file.edges
+  pub whys : StandOn file (why_line file) (λ (walk : Walk). line.Why walk) file.whys
+  pub probes : StandOn file (probe_line file) (λ (probe : Probe). line.Probe probe) file.probes
   pub last : IsLine file (last_line file) (line.End file.totals)
   pub count : length (lines_of file) ≡ last_line file
 
 -- the first lines of the text, each with its line feed, are the texts of the first lines
 abbrev pub LinesAreOfText : ResultFile → Type 0
-LinesAreOfText file = (count : ℕ) → count ≤ last_line file → first_lines count (text file) ≡ Some (text_of_lines (take count (lines_of file)))
+LinesAreOfText file =
+    (count : ℕ) → count ≤ last_line file → first_lines count (text file) ≡ Some (text_of_lines (take count (lines_of file)))

@@ -101,7 +101,9 @@ mapped f read bytes = do
 unfoldable pub others_at : {X : Type 0} → (List ℕ → Option (X × List ℕ)) → ℕ → List ℕ → Option (List X × List ℕ)
 others_at member zero bytes = Some ([], bytes)
 others_at member (suc k) bytes =
-    on_word (32 ∷ []) (λ rest. member rest >>= λ x. others_at member k x.1 >>= λ xs. Some (x.0 ∷ xs.0, xs.1)) (λ rest. Some ([], rest)) bytes
+    on_word (32 ∷ [])
+    (λ rest. member rest >>= λ x. others_at member k x.1 >>= λ xs. Some (x.0 ∷ xs.0, xs.1))
+    (λ rest. Some ([], rest)) bytes
 
 -- what was read before, and what is read now
 abbrev pub with_prefix : {X : Type 0} → List X → Option (List X × List ℕ) → Option (List X × List ℕ)

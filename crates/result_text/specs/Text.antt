@@ -104,7 +104,11 @@ abbrev pub head_lines : ResultFile → List Line
 head_lines file = line.Version ∷ line.Sets file.sets ∷ line.Ratio file.ratio ∷ aside_lines file.asides
 
 abbrev pub body_lines : ResultFile → List Line
-body_lines file = map (λ p. line.Path p) file.paths ++ (map (λ e. line.Edge e) file.edges ++ (map (λ w. line.Why w) file.whys ++ (map (λ p. line.Probe p) file.probes ++ line.End file.totals ∷ [])))
+body_lines file =
+    map (λ p. line.Path p) file.paths
+    ++ (map (λ e. line.Edge e) file.edges
+    ++ (map (λ w. line.Why w) file.whys
+    ++ (map (λ p. line.Probe p) file.probes ++ line.End file.totals ∷ [])))
 
 abbrev pub lines_of : ResultFile → List Line
 lines_of file = head_lines file ++ body_lines file

@@ -5,6 +5,7 @@ use crate::{
 use path_clean::{Asides, Sets};
 use relationships::{Label, Link, Walk};
 use std::alloc::Global;
+use std::process::Abort;
 use std::test::Fail;
 use tor_arena::{List, NoMemory};
 
@@ -252,23 +253,34 @@ fn named(error: ParseError) -> Option<u64> {
     }
 }
 
+/// The two pieces of a text, one behind the other.
+fn joined(alloc: Global, case: &Case) -> Result<List<u8>, NoMemory> {
+    let mut text = List::new(alloc);
+    text.extend_from_slice(case.head.as_bytes())?;
+    text.extend_from_slice(case.body.as_bytes())?;
+    Ok(text)
+}
+
+/// The bad line of a text. A text without one has to be that of what is read.
+fn bad_line(rt: &(impl Abort + AllocGlobal), text: &[u8]) -> Result<Option<u64>, Fail> {
+    match parse(rt.alloc(), text) {
+        Ok(file) => {
+            let again = print(rt.alloc(), &file)?;
+            assert_eq!(rt; again.as_slice(), text);
+            Ok(None)
+        }
+        Err(error) => {
+            assert!(rt; named(error).is_some());
+            Ok(named(error))
+        }
+    }
+}
+
 #[test]
 fn texts_and_bad_lines(rt: HostRuntime) -> Result<(), Fail> {
     for case in &CASES {
-        let mut text = List::new(rt.alloc());
-        text.extend_from_slice(case.head.as_bytes())?;
-        text.extend_from_slice(case.body.as_bytes())?;
-        match parse(rt.alloc(), text.as_slice()) {
-            Ok(file) => {
-                assert_eq!(rt; case.bad_line, None);
-                let again = print(rt.alloc(), &file)?;
-                assert_eq!(rt; again.as_slice(), text.as_slice());
-            }
-            Err(error) => {
-                assert!(rt; case.bad_line.is_some());
-                assert_eq!(rt; named(error), case.bad_line)
-            }
-        }
+        let text = joined(rt.alloc(), case)?;
+        assert_eq!(rt; bad_line(&rt, text.as_slice())?, case.bad_line);
     }
     Ok(())
 }
@@ -368,8 +380,18 @@ fn walk(alloc: Global, ases: &[u32], links: &[Link]) -> Result<Walk, NoMemory> {
     Ok(Walk { ases, links: list })
 }
 
-fn paths(alloc: Global) -> Result<List<PathLine>, NoMemory> {
-    let shown = walk(
+/// A path that is kept.
+fn kept(alloc: Global, ases: &[u32]) -> Result<PathLine, NoMemory> {
+    Ok(PathLine {
+        times: 1,
+        path: numbers(alloc, ases)?,
+        fate: Fate::Kept,
+    })
+}
+
+/// The walk that refutes the last path.
+fn refutation(alloc: Global) -> Result<Walk, NoMemory> {
+    walk(
         alloc,
         &[10, 20, 30, 40, 20, 10, 50, 60, 10, 20],
         &[
@@ -382,23 +404,24 @@ fn paths(alloc: Global) -> Result<List<PathLine>, NoMemory> {
             link(3, 2),
             link(3, 3),
         ],
-    )?;
-    let mut list = List::new(alloc);
-    list.push(PathLine {
-        times: 1,
-        path: numbers(alloc, &[30, 40, 20, 10, 50, 60])?,
-        fate: Fate::Kept,
-    })?;
-    list.push(PathLine {
-        times: 1,
-        path: numbers(alloc, &[10, 20, 30, 40])?,
-        fate: Fate::Kept,
-    })?;
-    list.push(PathLine {
+    )
+}
+
+/// The path that is lost.
+fn lost(alloc: Global) -> Result<PathLine, NoMemory> {
+    let shown = refutation(alloc)?;
+    Ok(PathLine {
         times: 1,
         path: numbers(alloc, &[50, 60, 10, 20])?,
         fate: Fate::Lost(shown),
-    })?;
+    })
+}
+
+fn paths(alloc: Global) -> Result<List<PathLine>, NoMemory> {
+    let mut list = List::new(alloc);
+    list.push(kept(alloc, &[30, 40, 20, 10, 50, 60])?)?;
+    list.push(kept(alloc, &[10, 20, 30, 40])?)?;
+    list.push(lost(alloc)?)?;
     Ok(list)
 }
 
@@ -427,13 +450,7 @@ fn three_paths(alloc: Global) -> Result<ResultFile, NoMemory> {
         edges,
         whys: whys(alloc)?,
         probes,
-        totals: Totals {
-            kept: 2,
-            lost: 1,
-            edges: 7,
-            forced: 3,
-            peers: 1,
-        },
+        totals: TOTALS,
     })
 }
 
@@ -442,8 +459,19 @@ fn three_paths_are_printed(rt: HostRuntime) -> Result<(), Fail> {
     let file = three_paths(rt.alloc())?;
     let text = print(rt.alloc(), &file)?;
     assert_eq!(rt; text.as_slice(), THREE_PATHS.as_bytes());
-    let again = parse_printed(rt.alloc(), &file)?;
-    let text = print(rt.alloc(), &again)?;
+    Ok(())
+}
+
+/// The text of what is read of the text of the three paths.
+fn printed_again(alloc: Global) -> Result<List<u8>, NoMemory> {
+    let file = three_paths(alloc)?;
+    let again = parse_printed(alloc, &file)?;
+    print(alloc, &again)
+}
+
+#[test]
+fn three_paths_are_printed_again(rt: HostRuntime) -> Result<(), Fail> {
+    let text = printed_again(rt.alloc())?;
     assert_eq!(rt; text.as_slice(), THREE_PATHS.as_bytes());
     Ok(())
 }
@@ -461,22 +489,58 @@ fn is_path(path: &PathLine, other: &PathLine) -> bool {
     fate && path.times == other.times && path.path.as_slice() == other.path.as_slice()
 }
 
+const TOTALS: Totals = Totals {
+    kept: 2,
+    lost: 1,
+    edges: 7,
+    forced: 3,
+    peers: 1,
+};
+
 #[test]
-fn three_paths_are_read(rt: HostRuntime) -> Result<(), Fail> {
+fn numbers_edges_and_probes_are_read(rt: HostRuntime) -> Result<(), Fail> {
     let file = parse(rt.alloc(), THREE_PATHS.as_bytes())?;
-    let wanted = three_paths(rt.alloc())?;
     assert_eq!(rt; file.ratio, 60);
     assert_eq!(rt; file.edges.as_slice(), EDGES.as_slice());
     assert_eq!(rt; file.probes.as_slice(), PROBES.as_slice());
-    assert_eq!(rt; file.totals, wanted.totals);
-    assert_eq!(rt; file.paths.len(), 3);
-    for (path, other) in file.paths.as_slice().iter().zip(wanted.paths.as_slice()) {
+    assert_eq!(rt; file.totals, TOTALS);
+    Ok(())
+}
+
+/// The path lines that are read.
+fn paths_read(alloc: Global) -> Result<List<PathLine>, ParseError> {
+    Ok(parse(alloc, THREE_PATHS.as_bytes())?.paths)
+}
+
+#[test]
+fn paths_are_read(rt: HostRuntime) -> Result<(), Fail> {
+    let lines = paths_read(rt.alloc())?;
+    let wanted = paths(rt.alloc())?;
+    assert_eq!(rt; lines.len(), 3);
+    for (path, other) in lines.as_slice().iter().zip(wanted.as_slice()) {
         assert!(rt; is_path(path, other));
     }
-    assert_eq!(rt; file.whys.len(), 3);
-    for (walk, other) in file.whys.as_slice().iter().zip(wanted.whys.as_slice()) {
+    Ok(())
+}
+
+/// The walks that are read.
+fn walks_read(alloc: Global) -> Result<List<Walk>, ParseError> {
+    Ok(parse(alloc, THREE_PATHS.as_bytes())?.whys)
+}
+
+#[test]
+fn walks_are_read(rt: HostRuntime) -> Result<(), Fail> {
+    let walks = walks_read(rt.alloc())?;
+    let wanted = whys(rt.alloc())?;
+    assert_eq!(rt; walks.len(), 3);
+    for (walk, other) in walks.as_slice().iter().zip(wanted.as_slice()) {
         assert!(rt; is_walk(walk, other));
     }
+    Ok(())
+}
+
+#[test]
+fn what_is_read_is_printed(rt: HostRuntime) -> Result<(), Fail> {
     let again = print_parsed(rt.alloc(), THREE_PATHS.as_bytes())?;
     assert_eq!(rt; again.as_slice(), THREE_PATHS.as_bytes());
     Ok(())
