@@ -8,5 +8,5 @@ pub record ComesBack (ases : List ℕ) : Type 0 where
   pub y : ℕ
   pub two : x ≢ y
   pub begins : BeginsWith ases x y
-  pub turns : HasPair ases y x
+  pub flips : HasPair ases y x
   pub ends : EndsWith ases x y
