@@ -14,7 +14,7 @@ use Rattle.tor_components.specs.Classes.{Classes, IsComponents}
 use Rattle.as_graph.specs.Paths.{path_at, paths_at}
 use Rattle.tor_clauses.specs.Literals.{side, end_of, node_of, lit_of, opposite_node}
 use Rattle.tor_clauses.specs.Formulas.{Formula, IsModel, numbered}
-use Rattle.tor_clauses.specs.Turning.{HasPartners}
+use Rattle.tor_clauses.specs.Flipping.{HasPartners}
 use Rattle.tor_clauses.proofs.LiteralLemmas.{opposite_twice, node_of_lit}
 use Rattle.tor_clauses.proofs.Sides.{one_of}
 use Rattle.tor_solve.specs.Solving.{IsLater, AreLater}

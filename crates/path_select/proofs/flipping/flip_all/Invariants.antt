@@ -1,7 +1,7 @@
 use Rattle.std.proofs.Common.{◌≡◌, length}
 use Rattle.path_select.specs.Repairs.{flipped_back, AreInside}
 use Rattle.path_select.proofs.Flips.{IsFlipped}
-use Rattle.path_select.proofs.flipping.flip.Given as goal
+use Rattle.path_select.proofs.flipping.flip_all.Given as goal
 
 abbrev pub invariant-loop-visit : goal.invariant-loop-visit
 invariant-loop-visit l = record {
