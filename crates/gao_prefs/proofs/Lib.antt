@@ -1,0 +1,2 @@
+pub mod TopLemmas
+pub mod VoteLemmas
