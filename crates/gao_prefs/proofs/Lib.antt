@@ -1,2 +1,3 @@
+pub mod PrefLemmas
 pub mod TopLemmas
 pub mod VoteLemmas

@@ -1,5 +1,5 @@
 -- What is said of preferences.
-use Rattle.std.specs.Prelude.{◌≡◌, ℕ, ◌<◌, ◌≤◌, ◌⊎◌, ℤ, pos, ◌-ℤ◌, List, map, slice_index_or, nat_lt, if◌then◌else◌}
+use Rattle.std.specs.Prelude.{◌≡◌, ℕ, ◌-◌, ◌<◌, ◌≤◌, ◌⊎◌, ℤ, pos, ◌-ℤ◌, List, map, slice_index_or, nat_lt, if◌then◌else◌}
 use Rattle.std.specs.Int.RustNames.{unsigned_abs}
 use Rattle.relationships.specs.declared.label.End.{End}
 use Rattle.relationships.specs.Graph.{Edge}
@@ -29,6 +29,10 @@ pub record IsPref (votes degrees : List PerEnd) (place : ℕ) (pref : Pref) : Ty
   pub edge : pref.edge ≡ place
   pub lean : pref.lean ≡ lean_by (slice_index_or votes place (record { low = 0; high = 0 }))
   pub wanted : pref.wanted ≡ wanted_by (slice_index_or votes place (record { low = 0; high = 0 })) (slice_index_or degrees place (record { low = 0; high = 0 }))
+
+-- what a preference is sorted by, so that the greatest absolute lean goes first
+abbrev pub key_of : Pref → ℕ × ℕ
+key_of p = (18446744073709551615 - unsigned_abs p.lean, p.edge)
 
 -- the first has the greater absolute lean, or the same, and then its edge is not behind the other's
 abbrev pub NotAfter : Pref → Pref → Type 0

@@ -1,13 +1,14 @@
 ghost use Rattle.std.specs.Prelude.{◌≡◌, ◌≢◌, ◌<◌, ◌≤◌, ◌^◌, ℕ, All, length, map, slice_index_or, IfOk};
 ghost use Rattle.std.specs.List.{AllPairs};
 ghost use Rattle.std.specs.List.Sorted.{IsPermutation};
+ghost use Rattle.std.specs.Int.RustNames.{unsigned_abs};
 ghost use Rattle.relationships.specs.declared.label.End.{End};
 ghost use Rattle.relationships.specs.Graph.{edges, degree};
 ghost use Rattle.relationships.specs.Preference.{lean, lead, wanted, IsSettlingOrder};
 ghost use Rattle.tor_arena.specs.Distinct.{AllDistinct};
 ghost use Rattle.as_graph.specs.Paths.{paths_at};
 ghost use Rattle.gao_prefs.specs.Ends.{number_at};
-ghost use Rattle.gao_prefs.specs.Preferences.{edge_at, edges_of, lean_by, wanted_by, IsPref, NotAfter};
+ghost use Rattle.gao_prefs.specs.Preferences.{edge_at, edges_of, lean_by, wanted_by, key_of, IsPref, NotAfter};
 
 use crate::per_end::{PerEnd, end_degrees};
 use crate::tally::count_votes;
@@ -48,6 +49,7 @@ fn pref_of(edge: EdgeId, votes: &PerEnd, degrees: &PerEnd) -> Pref
     requires low { votes.now.low ≤ 2 ^ 50 }
     requires high { votes.now.high ≤ 2 ^ 50 }
     ensures edge { result.edge ≡ edge }
+    ensures small { unsigned_abs result.lean ≤ 2 ^ 50 }
     ensures lean { result.lean ≡ lean_by votes.now }
     ensures wanted { result.wanted ≡ wanted_by votes.now degrees.now }
 {
@@ -65,6 +67,7 @@ fn prefs_of(alloc: Global, votes: &[PerEnd], degrees: &[PerEnd]) -> Result<Vec<P
     requires few { length votes.now < 2 ^ 26 }
     requires small { (k : ℕ) (e : End) → number_at votes.now k e ≤ 2 ^ 50 }
     ensures length { IfOk result (λ prefs. length prefs.items ≡ length votes.now) }
+    ensures small { IfOk result (λ prefs. All (λ pref. unsigned_abs pref.lean ≤ 2 ^ 50) prefs.items) }
     ensures each { IfOk result (λ prefs. (k : ℕ) (d : Pref) → k < length prefs.items → IsPref votes.now degrees.now k (slice_index_or prefs.items k d)) }
 {
     let mut prefs = Vec::new(alloc);
@@ -75,12 +78,20 @@ fn prefs_of(alloc: Global, votes: &[PerEnd], degrees: &[PerEnd]) -> Result<Vec<P
     Ok(prefs)
 }
 
+/// What preferences are sorted by: first their absolute leans, the greatest in front, and then their edges.
+fn sort_key(pref: &Pref) -> (u64, usize)
+    ensures { result ≡ key_of pref.now }
+{
+    (u64::MAX - pref.lean.unsigned_abs(), pref.edge.place())
+}
+
 /// Sorts preferences by falling absolute lean, and those of equal absolute lean by their edges. It takes no memory.
 fn sort_by_lead(prefs: &mut Vec<Pref>)
+    requires small { All (λ pref. unsigned_abs pref.lean ≤ 2 ^ 50) prefs.old.items }
     ensures same { IsPermutation prefs.old.items prefs.new.items }
     ensures sorted { (i j : ℕ) (d : Pref) → i ≤ j → j < length prefs.new.items → NotAfter (slice_index_or prefs.new.items i d) (slice_index_or prefs.new.items j d) }
 {
-    prefs.sort_unstable_by_key(|pref| (u64::MAX - pref.lean.unsigned_abs(), pref.edge.place()));
+    prefs.sort_unstable_by_key(|pref| sort_key(pref));
 }
 
 /// What each edge prefers after the votes of the kept paths, one preference for each edge, in the order in which edges are settled:
