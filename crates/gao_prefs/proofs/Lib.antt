@@ -1,3 +1,4 @@
+pub mod OrderLemmas
 pub mod PrefLemmas
 pub mod TopLemmas
 pub mod VoteLemmas

@@ -1,24 +1,23 @@
 -- Preferences one by one, and sorted.
-use Rattle.std.proofs.Common.{◌≡◌, ℕ, suc, ℤ, ◌+◌, ◌-◌, ◌^◌, ◌<◌, ◌≤◌, ◌⊎◌, inl, inr, Bool, true, false, List, [], ◌∷◌, ◌++◌, length, get_or, take, map, refl, sym, ap, ◌∙◌, subst, arith, All, Some, slice_get, lt-ltb, le-ltb, eq-eqb, Bor}
+use Rattle.std.proofs.Common.{◌≡◌, ℕ, suc, ℤ, ◌+◌, ◌-◌, ◌^◌, ◌<◌, ◌≤◌, ◌⊎◌, inl, inr, Bool, true, false, List, [], ◌∷◌, ◌++◌, length, get_or, take, map, refl, sym, ap, ◌∙◌, subst, arith, All, Some, slice_get, lt-ltb, le-ltb, eq-eqb, length-append}
 use Rattle.std.specs.Prelude.{pos, negsuc, ◌-ℤ◌}
 use Rattle.std.specs.Int.RustNames.{unsigned_abs}
-use Rattle.std.specs.Fn.{Called, ComputesKey}
 use Rattle.std.specs.List.Sorted.{IsSortedByKey}
 use Rattle.std.specs.Ordering.{nat_cmp, ordering_then, is_lt}
 use Rattle.std.proofs.Common.{Ordering, Less, Equal}
-use Rattle.std.specs.Cmp.{IsTotalOrder, IsStrictWeakOrder}
-use Rattle.std.proofs.lemmas.Bool.{cases_order, false≢true}
+use Rattle.std.specs.Cmp.{IsTotalOrder}
+use Rattle.std.proofs.lemmas.Bool.{cases_eq, cases_order, false≢true}
 use Rattle.std.proofs.lemmas.Cmp.{then_total, on_total, nat_cmp_total}
-use Rattle.std.proofs.lemmas.Fn.{always_returns_same}
 use Rattle.std.proofs.lemmas.Int.{ints}
-use Rattle.std.proofs.lemmas.List.{take_more, map_push}
+use Rattle.std.proofs.lemmas.List.{take_more, map_push, get_or_push, get_or_append_left}
+use Rattle.std.proofs.lemmas.List.Elements.{All-push}
 use Rattle.std.proofs.lemmas.List.Sorted.{ranks_by, sorted_far}
 use Rattle.std.proofs.lemmas.Option.{get_or_from_slice_get}
 use Rattle.relationships.specs.Graph.{Edge, degree}
 use Rattle.gao_prefs.specs.declared.per_end.PerEnd.{PerEnd}
 use Rattle.gao_prefs.specs.declared.preferring.Pref.{Pref}
 use Rattle.gao_prefs.specs.Ends.{degrees_of}
-use Rattle.gao_prefs.specs.Preferences.{key_of, NotAfter}
+use Rattle.gao_prefs.specs.Preferences.{key_of, IsPref, NotAfter}
 
 -- ---- the degrees of one edge more
 
@@ -90,3 +89,30 @@ pub sorted_is : (xs : List Pref) → All (λ (p : Pref). unsigned_abs p.lean ≤
 sorted_is xs small up i j d le lt =
     not_after (get_or xs i d) (get_or xs j d) (small i d (omega arith)) (small j d lt)
     (sorted_far (λ (x y : Pref). is_lt (pair_cmp (key_of x) (key_of y))) (ranks_by pair_total key_of) xs up i j d le lt)
+
+-- ---- the preference of one edge more
+
+-- the preferences of the first n edges
+pub record ArePrefs (votes degrees : List PerEnd) (n : ℕ) (prefs : List Pref) : Type 0 where
+  pub long : length prefs ≡ n
+  pub small : All (λ (p : Pref). unsigned_abs p.lean ≤ 2 ^ 50) prefs
+  pub each : (k : ℕ) (d : Pref) → k < length prefs → IsPref votes degrees k (get_or prefs k d)
+
+pub prefs_more : (votes degrees : List PerEnd) (n : ℕ) (prefs : List Pref) (pref : Pref) → ArePrefs votes degrees n prefs → unsigned_abs pref.lean ≤ 2 ^ 50 → IsPref votes degrees n pref →
+    ArePrefs votes degrees (n + 1) (prefs ++ pref ∷ [])
+prefs_more votes degrees n prefs pref so_far small is = record {
+  long = let m = so_far.long in let a = length-append prefs (pref ∷ []) in omega (arith, m, a);
+  small = All-push (λ (p : Pref). unsigned_abs p.lean ≤ 2 ^ 50) prefs pref so_far.small small;
+  each = each;
+}
+  where
+    each : (k : ℕ) (d : Pref) → k < length (prefs ++ pref ∷ []) → IsPref votes degrees k (get_or (prefs ++ pref ∷ []) k d)
+    each k d lt =
+        let m = so_far.long in
+        let a = length-append prefs (pref ∷ []) in
+        elim (cases_eq k n) [
+          | inl e ↦
+              subst (IsPref votes degrees k) (sym (get_or_push prefs pref d k (omega (arith, m, e)))) (subst (λ j. IsPref votes degrees j pref) (sym e) is)
+          | inr ne ↦
+              let within : k < length prefs = omega (arith, m, a, lt, ne) in subst (IsPref votes degrees k) (sym (get_or_append_left prefs (pref ∷ []) d k within)) (so_far.each k d within)
+        ]

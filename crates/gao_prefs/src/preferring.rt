@@ -107,6 +107,7 @@ pub fn preferences(alloc: Global, graph: &AsGraph, kept: &[PathId]) -> Result<Li
     ensures leans { IfOk result (λ prefs. All (λ pref. pref.lean ≡ lean (degree graph.now) (paths_at graph.now kept.now) (edge_at (edges graph.now) pref)) prefs) }
     ensures wanted { IfOk result (λ prefs. All (λ pref. pref.wanted ≡ wanted (degree graph.now) (paths_at graph.now kept.now) (edge_at (edges graph.now) pref)) prefs) }
 {
+    graph.facts();
     let degrees = end_degrees(alloc, graph)?;
     let votes = count_votes(alloc, graph, kept, &degrees)?;
     let mut prefs = prefs_of(alloc, &votes, &degrees)?;
