@@ -1,6 +1,6 @@
 -- The sorted preferences are those of all edges, in the order of settling.
-use Rattle.std.proofs.Common.{◌≡◌, ◌≢◌, ◌↔◌, ℕ, ℤ, zero, suc, ◌+◌, ◌-◌, ◌<◌, ◌≤◌, ◌⊎◌, inl, inr, Bool, true, false, List, [], ◌∷◌, length, get_or, map, refl, sym, ap, ap₂, ◌∙◌, subst, arith, All, Contains, Some, slice_get, nat_eq}
-use Rattle.std.specs.Prelude.{pos, ◌-ℤ◌}
+use Rattle.std.proofs.Common.{◌≡◌, ◌≢◌, ◌↔◌, ℕ, ◌<◌, ◌≤◌, ◌⊎◌, inl, inr, List, length, get_or, map, sym, ap, ap₂, ◌∙◌, subst, arith, All, Contains, Some, slice_get, nat_eq}
+use Rattle.std.specs.Prelude.{pos}
 use Rattle.std.specs.Int.RustNames.{unsigned_abs}
 use Rattle.std.specs.List.{AllPairs, flat_map}
 use Rattle.std.specs.List.Sorted.{IsPermutation}
@@ -155,8 +155,8 @@ module _ (paths kept : List (List ℕ)) (es : List Edge) (once : NoneTwice es) (
             let p : Pref = get_or sorted i any_pref in
             let q : Pref = get_or sorted j any_pref in
             let ne : p.edge ≢ q.edge = λ e.
-                apart_sorted i j 0 lt (omega (arith, m, j_lt))
-                (get_or-map (λ (p : Pref). p.edge) sorted i any_pref 0 i_lt ∙ e ∙ sym (get_or-map (λ (p : Pref). p.edge) sorted j any_pref 0 j_lt)) in
+            apart_sorted i j 0 lt (omega (arith, m, j_lt))
+            (get_or-map (λ (p : Pref). p.edge) sorted i any_pref 0 i_lt ∙ e ∙ sym (get_or-map (λ (p : Pref). p.edge) sorted j any_pref 0 j_lt)) in
             let first = goes_first p q (told_sorted i any_pref i_lt) (told_sorted j any_pref j_lt) ne (falls i j any_pref (omega (arith, lt)) j_lt) in
             subst (λ e. GoesFirst e (get_or (edges_of es sorted) j d)) (sym (get_or-map (edge_at es) sorted i any_pref d i_lt))
             (subst (GoesFirst (edge_at es p)) (sym (get_or-map (edge_at es) sorted j any_pref d j_lt)) first)

@@ -1,11 +1,10 @@
 -- The leftmost greatest of a list of numbers, found step by step.
-use Rattle.std.proofs.Common.{◌≡◌, ℕ, zero, suc, ◌+◌, ◌<◌, ◌≤◌, ◌⊎◌, inl, inr, Bool, true, false, List, [], ◌∷◌, length, get_or, map, max, refl, sym, ap, ◌∙◌, arith, ◌==◌, eq-eqb}
+use Rattle.std.proofs.Common.{◌≡◌, ℕ, zero, suc, ◌+◌, ◌<◌, ◌≤◌, ◌⊎◌, inl, inr, List, [], ◌∷◌, length, get_or, map, max, refl, sym, ap, ◌∙◌, arith, ◌==◌, eq-eqb}
 use Rattle.std.specs.List.{fold, position_or_len}
 use Rattle.std.proofs.lemmas.Bool.{ne_eqb, cases_Bool, cases_eq}
 use Rattle.std.proofs.lemmas.List.{get_or-map, length-map}
 use Rattle.std.proofs.lemmas.List.Folds.{fold-map}
 use Rattle.std.proofs.lemmas.List.Sums.{position_or_len_is}
-use Rattle.relationships.specs.declared.label.End.{End}
 use Rattle.relationships.specs.Relationship.{opposite}
 use Rattle.relationships.specs.Preference.{top_of}
 use Rattle.as_graph.specs.declared.step.Step.{Step}

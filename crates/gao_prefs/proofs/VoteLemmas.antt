@@ -1,8 +1,8 @@
 -- Votes that are counted step by step are the votes of a path, and path by path those of all kept paths.
-use Rattle.std.proofs.Common.{◌≡◌, ◌≢◌, ℕ, zero, suc, ◌+◌, ◌*◌, ◌^◌, ◌<◌, ◌≤◌, inl, inr, Bool, true, false, cond, not, ◌&&◌, List, [], ◌∷◌, ◌++◌, length, get_or, take, drop, map, replicate, min, max, refl, sym, ap, ap₂, ◌∙◌, subst, arith, All, nat_eq, slice_get, Some, filter, if◌then◌else◌, length-take, length-drop, append-nil, eq-eqb, lt-ltb, le-ltb}
-use Rattle.std.specs.List.{count_by, flat_map, list_any, AllPairs}
-use Rattle.std.proofs.lemmas.Bool.{cases_Bool, cases_eq, cases_order, ne_eqb, false_from_ne_true, false≢true}
-use Rattle.std.proofs.lemmas.Option.{slice_get-get_or, slice_get_within, get_or_from_slice_get}
+use Rattle.std.proofs.Common.{◌≡◌, ◌≢◌, ℕ, zero, suc, ◌+◌, ◌*◌, ◌<◌, ◌≤◌, inl, inr, Bool, true, false, cond, not, List, [], ◌∷◌, ◌++◌, length, get_or, take, drop, map, replicate, min, max, refl, sym, ap, ap₂, ◌∙◌, subst, arith, All, slice_get, Some, filter, if◌then◌else◌, length-take, length-drop, append-nil, eq-eqb, lt-ltb, le-ltb}
+use Rattle.std.specs.List.{count_by, flat_map}
+use Rattle.std.proofs.lemmas.Bool.{cases_eq, cases_order, ne_eqb, false_from_ne_true, false≢true}
+use Rattle.std.proofs.lemmas.Option.{slice_get-get_or, slice_get_within}
 use Rattle.std.proofs.lemmas.List.{length-map, map-append, get_or-map, ext_get_or, take_more}
 use Rattle.std.proofs.lemmas.List.Elements.{All-filter, All-append, All-nil, All-cons, All-get_or, All-head, All-tail}
 use Rattle.std.proofs.lemmas.List.Sums.{sum_by-cons, sum_by-append, count_by-le-length}
@@ -14,13 +14,13 @@ use Rattle.relationships.specs.Graph.{Edge, edge_of, is_same, edges_from, edges_
 use Rattle.relationships.specs.Preference.{top_of, votes_from, votes_on, votes}
 use Rattle.relationships.proofs.Edges.{same_edge}
 use Rattle.as_graph.specs.declared.step.Step.{Step}
-use Rattle.as_graph.specs.Inside.{as_at, left_as, next_as}
+use Rattle.as_graph.specs.Inside.{as_at}
 use Rattle.as_graph.specs.Paths.{path_at, paths_at}
 use Rattle.as_graph.specs.Steps.{end_left, IsStep, AreStepsFrom, AreSteps}
 use Rattle.as_graph.proofs.Labelled.{NoneTwice, NoneTwice-distinct, none_at, same_itself}
-use Rattle.as_graph.proofs.StepLemmas.{left_as-step, next_as-step, length-steps}
+use Rattle.as_graph.proofs.StepLemmas.{left_as-step, next_as-step}
 use Rattle.gao_prefs.specs.declared.per_end.PerEnd.{PerEnd}
-use Rattle.gao_prefs.specs.Ends.{same_end, at_end, number_at, degrees_of, along, voted, is_vote, ballots, votes_of}
+use Rattle.gao_prefs.specs.Ends.{same_end, at_end, number_at, degrees_of, along, is_vote, ballots, votes_of}
 use Rattle.gao_prefs.proofs.TopLemmas.{top_of-map}
 
 -- ---- edges are told by their places, and have the lower number first
@@ -317,7 +317,7 @@ pub counts_more : (paths : List (List ℕ)) (kept : List ℕ) (i id : ℕ) (step
 counts_more paths kept i id steps table new lt at two apart are few so_far long each =
     record {
       counted = ext_get_or (record { low = 0; high = 0 }) new (vote_table paths (take (i + 1) kept) es) (long ∙ n ∙ m ∙ sym (length-map es (votes_of (degree paths) after)))
-      (λ k k_lt. same_ends (get_or new k (record { low = 0; high = 0 })) (get_or (vote_table paths (take (i + 1) kept) es) k (record { low = 0; high = 0 })) (λ end. voted_at k end (omega (arith, n, m, long, k_lt))));
+          (λ k k_lt. same_ends (get_or new k (record { low = 0; high = 0 })) (get_or (vote_table paths (take (i + 1) kept) es) k (record { low = 0; high = 0 })) (λ end. voted_at k end (omega (arith, n, m, long, k_lt))));
       small = λ k end.
           let was = so_far.small k end in
           let more = each k end in

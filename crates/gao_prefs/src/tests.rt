@@ -1,4 +1,4 @@
-ghost use Rattle.std.specs.Prelude.{◌≡◌, ◌<◌, ◌∷◌, [], length, IfOk};
+ghost use Rattle.std.specs.Prelude.{◌≡◌, ◌<◌, ◌∷◌, [], IfOk};
 
 use crate::{Pref, preferences};
 use as_graph::{AsGraph, build};
@@ -52,7 +52,7 @@ fn are(prefs: &List<Pref>, table: &[(usize, i64, End)]) -> bool {
 }
 
 fn three_paths(alloc: Global) -> Result<Rows<PathId, u32>, RowRefused>
-    ensures { IfOk result (λ rows. length rows ≡ 3) }
+    ensures { IfOk result (λ rows. rows ≡ (30 ∷ 40 ∷ 20 ∷ 10 ∷ 50 ∷ 60 ∷ []) ∷ (10 ∷ 20 ∷ 30 ∷ 40 ∷ []) ∷ (50 ∷ 60 ∷ 10 ∷ 20 ∷ []) ∷ []) }
 {
     let mut rows = Rows::new(alloc);
     rows.push_row(&[30, 40, 20, 10, 50, 60])?;
@@ -62,7 +62,7 @@ fn three_paths(alloc: Global) -> Result<Rows<PathId, u32>, RowRefused>
 }
 
 fn three_path_graph(alloc: Global, keys: Keys) -> Result<AsGraph, Fail>
-    ensures { IfOk result (λ graph. length graph ≡ 3) }
+    ensures { IfOk result (λ graph. graph ≡ (30 ∷ 40 ∷ 20 ∷ 10 ∷ 50 ∷ 60 ∷ []) ∷ (10 ∷ 20 ∷ 30 ∷ 40 ∷ []) ∷ (50 ∷ 60 ∷ 10 ∷ 20 ∷ []) ∷ []) }
 {
     let rows = three_paths(alloc)?;
     Ok(build(alloc, keys, &rows)?)
@@ -81,7 +81,7 @@ fn preferences_of_three_paths(rt: HostRuntime) -> Result<(), Fail> {
 }
 
 fn six_paths(alloc: Global) -> Result<Rows<PathId, u32>, RowRefused>
-    ensures { IfOk result (λ rows. length rows ≡ 6) }
+    ensures { IfOk result (λ rows. rows ≡ (6939 ∷ 174 ∷ 3356 ∷ 1299 ∷ 8220 ∷ 3333 ∷ []) ∷ (397213 ∷ 1299 ∷ 8220 ∷ 3333 ∷ []) ∷ (6939 ∷ 3356 ∷ 2906 ∷ []) ∷ (397213 ∷ 1299 ∷ 3356 ∷ 2906 ∷ []) ∷ (8220 ∷ 1299 ∷ 3356 ∷ 6939 ∷ 174 ∷ []) ∷ (8220 ∷ 3333 ∷ 1299 ∷ 3356 ∷ []) ∷ []) }
 {
     let mut rows = Rows::new(alloc);
     rows.push_row(&[6939, 174, 3356, 1299, 8220, 3333])?;
@@ -94,7 +94,7 @@ fn six_paths(alloc: Global) -> Result<Rows<PathId, u32>, RowRefused>
 }
 
 fn six_path_graph(alloc: Global, keys: Keys) -> Result<AsGraph, Fail>
-    ensures { IfOk result (λ graph. length graph ≡ 6) }
+    ensures { IfOk result (λ graph. graph ≡ (6939 ∷ 174 ∷ 3356 ∷ 1299 ∷ 8220 ∷ 3333 ∷ []) ∷ (397213 ∷ 1299 ∷ 8220 ∷ 3333 ∷ []) ∷ (6939 ∷ 3356 ∷ 2906 ∷ []) ∷ (397213 ∷ 1299 ∷ 3356 ∷ 2906 ∷ []) ∷ (8220 ∷ 1299 ∷ 3356 ∷ 6939 ∷ 174 ∷ []) ∷ (8220 ∷ 3333 ∷ 1299 ∷ 3356 ∷ []) ∷ []) }
 {
     let rows = six_paths(alloc)?;
     Ok(build(alloc, keys, &rows)?)

@@ -1,6 +1,5 @@
-use Rattle.std.proofs.Common.{◌≡◌, ◌<◌, ◌++◌, ◌∷◌, [], List, length, slice_get, rules, sym, ap, ◌∙◌, arith}
+use Rattle.std.proofs.Common.{◌≡◌, ◌<◌, ◌++◌, ◌∷◌, [], length, slice_get, rules, sym, ap, ◌∙◌, arith}
 use Rattle.relationships.specs.Graph.{edges, degree}
-use Rattle.gao_prefs.specs.declared.per_end.PerEnd.{PerEnd}
 use Rattle.gao_prefs.proofs.PrefLemmas.{degrees_more}
 use Rattle.gao_prefs.proofs.per_end.end_degrees.Goals as goal
 
