@@ -17,7 +17,9 @@ loop-place-preserved c =
     along_next table steps place step c.loop-place-test.true ∙ ap (λ (s : Step). number_at table s.edge (opposite s.left)) (sym c.index-steps-place.is) ∙ sym reached in
     elim c.if-highest-reached.branch [
       | then-highest-reached w ↦
-          rw (w.top-is, w.highest-is) (higher (along table steps) (place + 1) c.loop-place.top c.loop-place.highest c.of-reached.result c.loop-place.invariant here w.if-highest-reached.true)
+          let less = w.if-highest-reached.true in
+          let lt : c.loop-place.highest < c.of-reached.result = omega (arith, less) in
+          rw (w.top-is, w.highest-is) (higher (along table steps) (place + 1) c.loop-place.top c.loop-place.highest c.of-reached.result c.loop-place.invariant here lt)
       | else-highest-reached w ↦
           let not_less = w.if-highest-reached.false in
           let le : c.of-reached.result ≤ c.loop-place.highest = omega (arith, not_less) in
