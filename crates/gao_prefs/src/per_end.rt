@@ -43,8 +43,9 @@ pub(crate) fn other_end(end: End) -> End
 pub(crate) fn end_degrees(alloc: Global, graph: &AsGraph) -> Result<Vec<PerEnd>, NoMemory>
     ensures { IfOk result (λ degrees. degrees.items ≡ map (degrees_of graph.now) (edges graph.now)) }
 {
-    let mut degrees = Vec::new(alloc);
-    for place in 0..graph.edge_count() {
+    let count = graph.edge_count();
+    let mut degrees = Vec::with_capacity(alloc, count)?;
+    for place in 0..count {
         let edge = graph.edge(EdgeId::from_place(place).unwrap());
         degrees.push(PerEnd {
             low: graph.degree(edge.low),

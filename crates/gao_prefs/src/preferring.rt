@@ -70,7 +70,7 @@ fn prefs_of(alloc: Global, votes: &[PerEnd], degrees: &[PerEnd]) -> Result<Vec<P
     ensures small { IfOk result (λ prefs. All (λ pref. unsigned_abs pref.lean ≤ 2 ^ 50) prefs.items) }
     ensures each { IfOk result (λ prefs. (k : ℕ) (d : Pref) → k < length prefs.items → IsPref votes.now degrees.now k (slice_index_or prefs.items k d)) }
 {
-    let mut prefs = Vec::new(alloc);
+    let mut prefs = Vec::with_capacity(alloc, votes.len())?;
     for place in 0..votes.len() {
         let edge = EdgeId::from_place(place).unwrap();
         prefs.push(pref_of(edge, &votes[place], &degrees[place]))?;

@@ -10,7 +10,7 @@ loop-place-preserved c =
     let edge = c.edge-edge.result in
     let same : c.unwrap.result ≡ place = search rules in
     let test = c.loop-place-test.true in
-    let count = c.edge_count-place-end.ensures.count in
+    let count = c.edge_count-count.ensures.count in
     let within : place < length (edges paths) = omega (arith, test, count) in
     let pushed : c.push.new.self.items ≡ c.loop-place.degrees.items ++ record { low = degree paths edge.low; high = degree paths edge.high } ∷ [] = search rules in
     degrees_more paths (edges paths) place edge.low edge.high c.loop-place.degrees.items c.push.new.self.items within (ap (slice_get (edges paths)) (sym same) ∙ c.edge-edge.ensures.pair) c.loop-place.invariant pushed
