@@ -1,3 +1,4 @@
+mod Vectors
 pub mod OrderLemmas
 pub mod PrefLemmas
 pub mod TopLemmas

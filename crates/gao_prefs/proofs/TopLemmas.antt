@@ -93,10 +93,6 @@ length-along table [] some = absurd (omega arith)
 length-along table (step ∷ steps) some =
     let n = length-map steps (λ (s : Step). number_at table s.edge (opposite s.left)) in omega (arith, n)
 
-pub along_first : (table : List PerEnd) (steps : List Step) (d : Step) → 0 < length steps → get_or (along table steps) 0 0 ≡ number_at table (get_or steps 0 d).edge (get_or steps 0 d).left
-along_first table [] d some = absurd (omega arith)
-along_first table (step ∷ steps) d some = refl
-
 pub along_next : (table : List PerEnd) (steps : List Step) (i : ℕ) (d : Step) → i < length steps →
     get_or (along table steps) (i + 1) 0 ≡ number_at table (get_or steps i d).edge (opposite (get_or steps i d).left)
 along_next table [] i d lt = absurd (omega arith)

@@ -1,5 +1,5 @@
 -- Votes that are counted step by step are the votes of a path, and path by path those of all kept paths.
-use Rattle.std.proofs.Common.{◌≡◌, ◌≢◌, ℕ, zero, suc, ◌+◌, ◌*◌, ◌<◌, ◌≤◌, inl, inr, Bool, true, false, cond, not, List, [], ◌∷◌, ◌++◌, length, get_or, take, drop, map, replicate, min, max, refl, sym, ap, ap₂, ◌∙◌, subst, arith, All, slice_get, Some, filter, if◌then◌else◌, length-take, length-drop, append-nil, eq-eqb, lt-ltb, le-ltb}
+use Rattle.std.proofs.Common.{◌≡◌, ◌≢◌, ℕ, zero, suc, ◌+◌, ◌*◌, ◌<◌, ◌≤◌, inl, inr, Bool, true, false, cond, not, List, [], ◌∷◌, ◌++◌, length, get_or, take, drop, map, replicate, min, max, refl, sym, ap, ap₂, ◌∙◌, subst, arith, All, slice_get, Some, filter, length-take, length-drop, append-nil, eq-eqb, lt-ltb, le-ltb}
 use Rattle.std.specs.List.{count_by, flat_map}
 use Rattle.std.proofs.lemmas.Bool.{cases_eq, cases_order, ne_eqb, false_from_ne_true, false≢true}
 use Rattle.std.proofs.lemmas.Option.{slice_get-get_or, slice_get_within}
@@ -25,7 +25,7 @@ use Rattle.gao_prefs.proofs.TopLemmas.{top_of-map}
 
 -- ---- edges are told by their places, and have the lower number first
 
-abbrev pub IsRising : Edge → Type 0
+abbrev IsRising : Edge → Type 0
 IsRising e = e.0 ≤ e.1
 
 rising_from : (a : ℕ) (path : List ℕ) → All IsRising (edges_from a path)
@@ -46,7 +46,7 @@ rising_distinct (e ∷ es) h =
     All-cons IsRising e (filter (λ f. not (is_same e f)) (distinct es)) (All-head IsRising e es h)
     (All-filter (λ f. not (is_same e f)) IsRising (distinct es) (rising_distinct es (All-tail IsRising e es h)))
 
-pub rising : (paths : List (List ℕ)) → All IsRising (edges paths)
+rising : (paths : List (List ℕ)) → All IsRising (edges paths)
 rising paths = rising_distinct (flat_map edges_on paths) (rising_paths paths)
 
 some_same : {f g : Edge} → Some f ≡ Some g → f ≡ g
@@ -64,7 +64,7 @@ one_place (x ∷ es) (suc i) (suc k) e once h is = ap suc (one_place es i k e on
 -- ---- one step
 
 -- the edge's ends, this one first
-abbrev pub from_end : Edge → End → Edge
+abbrev from_end : Edge → End → Edge
 from_end e end = (as_at e end, as_at e (opposite end))
 
 pair_is : {x y : ℕ} {a b : ℕ} → x ≡ a → y ≡ b → ◌≡◌ {A = Edge} (x, y) (a, b)
@@ -174,7 +174,7 @@ count-append : {X : Type 0} (p : X → Bool) (xs ys : List X) → count_by p (xs
 count-append p xs ys = sum_by-append (λ y. cond (p y) 1 0) xs ys
 
 module _ (es : List Edge) (once : NoneTwice es) (k : ℕ) (e : Edge) (there : slice_get es k ≡ Some e) (up : IsRising e) (end : End) where
-  pub climb_votes : (climb a : ℕ) (path : List ℕ) (steps : List Step) → AllDistinct (a ∷ path) → AreStepsFrom es a path steps →
+  climb_votes : (climb a : ℕ) (path : List ℕ) (steps : List Step) → AllDistinct (a ∷ path) → AreStepsFrom es a path steps →
       count_by (is_same (from_end e end)) (votes_from climb a path) ≡ count_by (is_vote true k end) (take climb steps) + count_by (is_vote false k end) (drop climb steps)
   climb_votes zero a [] [] apart h = refl
   climb_votes (suc climb) a [] [] apart h = refl
@@ -216,7 +216,7 @@ along_from paths es a (b ∷ path) (step ∷ steps) h =
     (number-as paths es step.edge (opposite step.left) (slice_get_within es step.edge (edge_of a b) h.0.0) ∙ ap (degree paths) (next_as-step es a b step h.0))
     (along_from paths es b path steps h.1)
 
-pub along-path : (paths : List (List ℕ)) (es : List Edge) (path : List ℕ) (steps : List Step) → 2 ≤ length path → AreSteps es path steps →
+along-path : (paths : List (List ℕ)) (es : List Edge) (path : List ℕ) (steps : List Step) → 2 ≤ length path → AreSteps es path steps →
     along (map (degrees_of paths) es) steps ≡ map (degree paths) path
 along-path paths es [] steps two h = absurd (omega arith)
 along-path paths es (a ∷ []) steps two h = absurd (omega arith)
@@ -228,7 +228,7 @@ along-path paths es (a ∷ b ∷ path) (step ∷ steps) two h =
 
 -- ---- a path's votes for an end are its ballots
 
-pub path_votes : (paths : List (List ℕ)) (es : List Edge) (k : ℕ) (e : Edge) (end : End) (path : List ℕ) (steps : List Step) → NoneTwice es → slice_get es k ≡ Some e → IsRising e →
+path_votes : (paths : List (List ℕ)) (es : List Edge) (k : ℕ) (e : Edge) (end : End) (path : List ℕ) (steps : List Step) → NoneTwice es → slice_get es k ≡ Some e → IsRising e →
     2 ≤ length path → AllDistinct path → AreSteps es path steps →
     count_by (is_same (from_end e end)) (votes_on (degree paths) path) ≡ ballots (map (degrees_of paths) es) steps k end
 path_votes paths es k e end [] steps once there up two apart h = absurd (omega arith)
@@ -238,7 +238,7 @@ path_votes paths es k e end (a ∷ path) steps once there up two apart h =
     climb_votes es once k e there up end (top_of (degree paths) (a ∷ path)) a path steps apart h ∙
     ap (λ t. count_by (is_vote true k end) (take t steps) + count_by (is_vote false k end) (drop t steps)) (sym top)
 
-pub ballots-few : (table : List PerEnd) (steps : List Step) (k : ℕ) (end : End) → ballots table steps k end ≤ length steps
+ballots-few : (table : List PerEnd) (steps : List Step) (k : ℕ) (end : End) → ballots table steps k end ≤ length steps
 ballots-few table steps k end =
     let top = top_of (λ n. n) (along table steps) in
     let p = count_by-le-length (is_vote true k end) (take top steps) in
@@ -246,20 +246,6 @@ ballots-few table steps k end =
     let n = length-take top steps in
     let m = length-drop top steps in
     omega (arith, p, q, n, m)
-
--- ---- step by step
-
--- one more step is counted
-pub count_more : (climbing : Bool) (k : ℕ) (end : End) (steps : List Step) (i : ℕ) (step : Step) → i < length steps → step ≡ get_or steps i step →
-    count_by (is_vote climbing k end) (take (i + 1) steps) ≡ count_by (is_vote climbing k end) (take i steps) + (if is_vote climbing k end step then 1 else 0)
-count_more climbing k end steps i step lt at =
-    let n = count-append (is_vote climbing k end) (take i steps) (get_or steps i step ∷ []) in
-    let m = count-cons (is_vote climbing k end) (get_or steps i step) [] in
-    ap (count_by (is_vote climbing k end)) (take_more steps i step lt) ∙ n ∙
-    ap (λ x. count_by (is_vote climbing k end) (take i steps) + x) (m ∙ plus_zero (one (is_vote climbing k end (get_or steps i step))) ∙ ap (λ (s : Step). one (is_vote climbing k end s)) (sym at))
-  where
-    plus_zero : (n : ℕ) → n + count_by (is_vote climbing k end) [] ≡ n
-    plus_zero n = omega arith
 
 -- ---- path by path
 
