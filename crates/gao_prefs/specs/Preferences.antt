@@ -1,0 +1,39 @@
+-- What is said of preferences.
+use Rattle.std.specs.Prelude.{◌≡◌, ℕ, ◌-◌, ◌<◌, ◌≤◌, ◌⊎◌, ℤ, pos, ◌-ℤ◌, List, map, slice_index_or, nat_lt, if◌then◌else◌}
+use Rattle.std.specs.Int.RustNames.{unsigned_abs}
+use Rattle.relationships.specs.declared.label.End.{End}
+use Rattle.relationships.specs.Graph.{Edge}
+use Rattle.gao_prefs.specs.declared.per_end.PerEnd.{PerEnd}
+use Rattle.gao_prefs.specs.declared.preferring.Pref.{Pref}
+
+-- the edge of a preference, where these are all edges
+abbrev pub edge_at : List Edge → Pref → Edge
+edge_at es pref = slice_index_or es pref.edge (0, 0)
+
+abbrev pub edges_of : List Edge → List Pref → List Edge
+edges_of es prefs = map (edge_at es) prefs
+
+-- ---- by the votes for the two ends of an edge, and their degrees
+
+abbrev pub lean_by : PerEnd → ℤ
+lean_by votes = pos votes.low -ℤ pos votes.high
+
+abbrev pub wanted_by : PerEnd → PerEnd → End
+wanted_by votes degrees =
+    if nat_lt votes.high votes.low then End.Low else (
+    if nat_lt votes.low votes.high then End.High else (
+    if nat_lt degrees.low degrees.high then End.High else End.Low))
+
+-- what the edge at a place prefers
+pub record IsPref (votes degrees : List PerEnd) (place : ℕ) (pref : Pref) : Type 0 where
+  pub edge : pref.edge ≡ place
+  pub lean : pref.lean ≡ lean_by (slice_index_or votes place (record { low = 0; high = 0 }))
+  pub wanted : pref.wanted ≡ wanted_by (slice_index_or votes place (record { low = 0; high = 0 })) (slice_index_or degrees place (record { low = 0; high = 0 }))
+
+-- what a preference is sorted by, so that the greatest absolute lean goes first
+abbrev pub key_of : Pref → ℕ × ℕ
+key_of p = (18446744073709551615 - unsigned_abs p.lean, p.edge)
+
+-- the first has the greater absolute lean, or the same, and then its edge is not behind the other's
+abbrev pub NotAfter : Pref → Pref → Type 0
+NotAfter p q = (unsigned_abs q.lean < unsigned_abs p.lean) ⊎ ((unsigned_abs q.lean ≡ unsigned_abs p.lean) × (p.edge ≤ q.edge))

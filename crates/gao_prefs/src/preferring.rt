@@ -1,0 +1,116 @@
+ghost use Rattle.std.specs.Prelude.{◌≡◌, ◌≢◌, ◌<◌, ◌≤◌, ◌^◌, ℕ, All, length, map, slice_index_or, IfOk};
+ghost use Rattle.std.specs.List.{AllPairs};
+ghost use Rattle.std.specs.List.Sorted.{IsPermutation};
+ghost use Rattle.std.specs.Int.RustNames.{unsigned_abs};
+ghost use Rattle.relationships.specs.declared.label.End.{End};
+ghost use Rattle.relationships.specs.Graph.{edges, degree};
+ghost use Rattle.relationships.specs.Preference.{lean, lead, wanted, IsSettlingOrder};
+ghost use Rattle.tor_arena.specs.Distinct.{AllDistinct};
+ghost use Rattle.as_graph.specs.Paths.{paths_at};
+ghost use Rattle.gao_prefs.specs.Ends.{number_at};
+ghost use Rattle.gao_prefs.specs.Preferences.{edge_at, edges_of, lean_by, wanted_by, key_of, IsPref, NotAfter};
+
+use crate::per_end::{PerEnd, end_degrees};
+use crate::tally::count_votes;
+use as_graph::AsGraph;
+use relationships::End;
+use std::alloc::Global;
+use tor_arena::{EdgeId, Index, List, NoMemory, PathId};
+
+/// What an edge prefers.
+#[derive(Clone, Copy, Debug, PartialEq, Eq)]
+pub struct Pref {
+    /// The edge.
+    pub edge: EdgeId,
+    /// The votes for its lower number, minus those for the higher.
+    pub lean: i64,
+    /// The end that it wants as the provider: that of more votes, then that of greater degree, and else the lower number.
+    pub wanted: End,
+}
+
+/// What an edge with these votes and degrees of its ends wants as the provider.
+fn wanted_end(votes: &PerEnd, degrees: &PerEnd) -> End
+    ensures { result ≡ wanted_by votes.now degrees.now }
+{
+    if votes.high < votes.low {
+        return End::Low;
+    }
+    if votes.low < votes.high {
+        return End::High;
+    }
+    if degrees.low < degrees.high {
+        return End::High;
+    }
+    End::Low
+}
+
+/// What an edge with these votes and degrees of its ends prefers.
+fn pref_of(edge: EdgeId, votes: &PerEnd, degrees: &PerEnd) -> Pref
+    requires low { votes.now.low ≤ 2 ^ 50 }
+    requires high { votes.now.high ≤ 2 ^ 50 }
+    ensures edge { result.edge ≡ edge }
+    ensures small { unsigned_abs result.lean ≤ 2 ^ 50 }
+    ensures lean { result.lean ≡ lean_by votes.now }
+    ensures wanted { result.wanted ≡ wanted_by votes.now degrees.now }
+{
+    Pref {
+        edge,
+        lean: votes.low as i64 - votes.high as i64,
+        wanted: wanted_end(votes, degrees),
+    }
+}
+
+/// What the edges with these votes and degrees of their ends prefer, in the order of the edges. The only error is that memory ran
+/// out.
+fn prefs_of(alloc: Global, votes: &[PerEnd], degrees: &[PerEnd]) -> Result<Vec<Pref>, NoMemory>
+    requires same { length degrees.now ≡ length votes.now }
+    requires few { length votes.now < 2 ^ 26 }
+    requires small { (k : ℕ) (e : End) → number_at votes.now k e ≤ 2 ^ 50 }
+    ensures length { IfOk result (λ prefs. length prefs.items ≡ length votes.now) }
+    ensures small { IfOk result (λ prefs. All (λ pref. unsigned_abs pref.lean ≤ 2 ^ 50) prefs.items) }
+    ensures each { IfOk result (λ prefs. (k : ℕ) (d : Pref) → k < length prefs.items → IsPref votes.now degrees.now k (slice_index_or prefs.items k d)) }
+{
+    let mut prefs = Vec::with_capacity(alloc, votes.len())?;
+    for place in 0..votes.len() {
+        let edge = EdgeId::from_place(place).unwrap();
+        prefs.push(pref_of(edge, &votes[place], &degrees[place]))?;
+    }
+    Ok(prefs)
+}
+
+/// What preferences are sorted by: first their absolute leans, the greatest in front, and then their edges.
+fn sort_key(pref: &Pref) -> (u64, usize)
+    ensures { result ≡ key_of pref.now }
+{
+    (u64::MAX - pref.lean.unsigned_abs(), pref.edge.place())
+}
+
+/// Sorts preferences by falling absolute lean, and those of equal absolute lean by their edges. It takes no memory.
+fn sort_by_lead(prefs: &mut Vec<Pref>)
+    requires small { All (λ pref. unsigned_abs pref.lean ≤ 2 ^ 50) prefs.old.items }
+    ensures same { IsPermutation prefs.old.items prefs.new.items }
+    ensures sorted { (i j : ℕ) (d : Pref) → i ≤ j → j < length prefs.new.items → NotAfter (slice_index_or prefs.new.items i d) (slice_index_or prefs.new.items j d) }
+{
+    prefs.sort_unstable_by_key(|pref| sort_key(pref));
+}
+
+/// What each edge prefers after the votes of the kept paths, one preference for each edge, in the order in which edges are settled:
+/// by falling absolute lean, and at equal absolute lean in the order of the edges. The kept paths have to be there, no two the same.
+/// The only error is that memory ran out.
+pub fn preferences(alloc: Global, graph: &AsGraph, kept: &[PathId]) -> Result<List<Pref>, NoMemory>
+    requires there { All (λ path. path < length graph.now) kept.now }
+    requires once { AllPairs ◌≢◌ kept.now }
+    ensures count { IfOk result (λ prefs. length prefs ≡ length (edges graph.now)) }
+    ensures inside { IfOk result (λ prefs. All (λ pref. pref.edge < length (edges graph.now)) prefs) }
+    ensures apart { IfOk result (λ prefs. AllDistinct (map (λ pref. pref.edge) prefs)) }
+    ensures order { IfOk result (λ prefs. IsSettlingOrder (lead (degree graph.now) (paths_at graph.now kept.now)) (edges graph.now) (edges_of (edges graph.now) prefs)) }
+    ensures leans { IfOk result (λ prefs. All (λ pref. pref.lean ≡ lean (degree graph.now) (paths_at graph.now kept.now) (edge_at (edges graph.now) pref)) prefs) }
+    ensures wanted { IfOk result (λ prefs. All (λ pref. pref.wanted ≡ wanted (degree graph.now) (paths_at graph.now kept.now) (edge_at (edges graph.now) pref)) prefs) }
+{
+    graph.facts();
+    let degrees = end_degrees(alloc, graph)?;
+    let votes = count_votes(alloc, graph, kept, &degrees)?;
+    let mut prefs = prefs_of(alloc, &votes, &degrees)?;
+    sort_by_lead(&mut prefs);
+    Ok(List::from_vec(prefs))
+}
