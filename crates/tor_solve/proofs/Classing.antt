@@ -1,5 +1,5 @@
 -- Literals by their classes.
-use Rattle.std.proofs.Common.{◌≡◌, ℕ, zero, suc, ◌+◌, ◌*◌, ◌/◌, ◌%◌, ◌<◌, ◌⊎◌, inl, inr, List, [], ◌∷◌, ◌++◌, Some, length, refl, sym, ap, ◌∙◌, subst, arith}
+use Rattle.std.proofs.Common.{◌≡◌, ℕ, ◌+◌, ◌*◌, ◌/◌, ◌<◌, inl, inr, List, [], ◌∷◌, ◌++◌, Some, length, refl, sym, ap, ◌∙◌, subst, arith}
 use Rattle.std.specs.Prelude.{slice_get}
 use Rattle.std.proofs.lemmas.Bool.{cases_lt}
 use Rattle.relationships.specs.declared.label.End.{End}
@@ -8,11 +8,11 @@ use Rattle.relationships.specs.Relationship.{opposite, Serves}
 use Rattle.relationships.specs.Evidence.{paths_of, Refutes}
 use Rattle.relationships.specs.Selection.{IsServable}
 use Rattle.relationships.proofs.Walks.{refuting_law}
-use Rattle.tor_digraph.specs.Walks.{HasArc, IsInside}
+use Rattle.tor_digraph.specs.Walks.{IsInside}
 use Rattle.tor_digraph.proofs.Gets.{slice_get-push_cases, slice_get-some}
 use Rattle.tor_components.specs.Classes.{Classes, IsComponents}
 use Rattle.as_graph.specs.Paths.{path_at, paths_at}
-use Rattle.tor_clauses.specs.Literals.{side, end_of, node_of, lit_of, opposite_node}
+use Rattle.tor_clauses.specs.Literals.{node_of, lit_of, opposite_node}
 use Rattle.tor_clauses.specs.Formulas.{Formula, IsModel, numbered}
 use Rattle.tor_clauses.specs.Flipping.{HasPartners}
 use Rattle.tor_clauses.proofs.LiteralLemmas.{opposite_twice, node_of_lit}

@@ -2,7 +2,7 @@ use Rattle.std.proofs.Common.{◌≡◌, ◌<◌, length, rules, Ok, subst}
 use Rattle.std.specs.Prelude.{IfSome}
 use Rattle.dump_read.specs.declared.taking.Taken.{Taken}
 use Rattle.tor_app.specs.Judging.{seen_for}
-use Rattle.tor_app.specs.Seen.{nothing, seen_from}
+use Rattle.tor_app.specs.Seen.{seen_from}
 use Rattle.tor_app.proofs.Judgings.{some_dumps}
 use Rattle.tor_app.proofs.judging.judged_by_dumps.Goals as goal
 
