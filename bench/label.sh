@@ -12,11 +12,11 @@ copy=$(mktemp -d)
 trap 'rm -rf "$copy"' EXIT
 cp "$top/HANDLES" "$copy"
 mkdir "$copy/crates"
-for crate in tor_arena tor_digraph tor_components as_graph tor_clauses tor_solve path_select forced_edges path_attrs path_clean result_text; do
+for crate in tor_arena relationships tor_digraph tor_components as_graph tor_clauses tor_solve path_select forced_edges path_attrs path_clean result_text; do
     tar -C "$top/crates" --exclude=out -cf - "$crate" | tar -C "$copy/crates" -xf -
     grep "^$crate:" "$top/crates.txt" >> "$copy/crates.txt"
 done
-echo 'label_bench: tor_arena as_graph tor_clauses path_select forced_edges path_clean result_text anyhow' >> "$copy/crates.txt"
+echo 'label_bench: tor_arena relationships as_graph tor_clauses path_select forced_edges path_clean result_text anyhow' >> "$copy/crates.txt"
 bench="$copy/crates/label_bench"
 mkdir -p "$bench/src" "$bench/proofs/are_valley_free"
 # That the paths are valley-free is tested as in the tests of the crate.
@@ -29,22 +29,23 @@ cat > "$bench/src/main.rt" <<'RUST'
 #![tactic(auto)]
 
 ghost use Rattle.std.specs.Prelude.{◌≡◌, All, length, IsTrue};
-ghost use Rattle.tor_arena.specs.Relationship.{ValleyFree};
-ghost use Rattle.tor_arena.specs.Graph.{edges, labelling};
+ghost use Rattle.relationships.specs.Relationship.{ValleyFree};
+ghost use Rattle.relationships.specs.Graph.{edges, labelling};
 ghost use Rattle.as_graph.specs.Paths.{paths_at};
 ghost use Rattle.tor_clauses.specs.Formulas.{FitsGraph};
 
 use anyhow::Result;
 use as_graph::{AsGraph, Labels, build};
-use forced_edges::{Mark, Marks, forced};
-use path_clean::{PathTable, is_clean_path};
-use path_select::{Offer, Selection, select};
-use result_text::{EdgeLine, EdgeMark, Fate, PathLine, ProbeLine, ResultFile, parse, print};
+use forced_edges::{Marks, forced};
+use path_clean::{MAX_PATHS, PathTable, is_clean_path};
+use path_select::{Selection, select};
+use relationships::{Fate, Mark, Walk};
+use result_text::{EdgeLine, PathLine, ResultFile, parse, print};
 use std::alloc::Global;
 use std::env;
 use std::fs;
 use std::time::CpuClock;
-use tor_arena::{List, NoMemory, Walk};
+use tor_arena::{Keys, List, NoMemory};
 use tor_clauses::Clauses;
 
 /// The processor time so far, in microseconds.
@@ -62,13 +63,13 @@ struct Findings {
     selecting: u128,
     marking: u128,
     triples: usize,
-    offers: List<Offer>,
+    fates: List<Fate>,
     marks: Marks,
 }
 
 /// A table of the paths.
-fn table_of(alloc: Global, lines: &[PathLine]) -> Result<PathTable, NoMemory> {
-    let mut table = PathTable::new(alloc, 8388608);
+fn table_of(alloc: Global, keys: Keys, lines: &[PathLine]) -> Result<PathTable, NoMemory> {
+    let mut table = PathTable::new(alloc, keys, MAX_PATHS);
     for line in lines {
         let path = line.path.as_slice();
         if is_clean_path(alloc, path)? {
@@ -131,12 +132,13 @@ fn marked(
 fn measured_graph(
     clock: &impl CpuClock,
     alloc: Global,
+    keys: Keys,
     graph: &AsGraph,
     labels: &Labels,
     building: u128,
 ) -> Result<Option<Findings>, NoMemory> {
     let start = used(clock);
-    let Selection { offers, selector } = select(alloc, graph)?;
+    let Selection { offers, selector } = select(alloc, keys, graph)?;
     let end = used(clock);
     match marked(clock, alloc, graph, selector.clauses(), labels)? {
         Some((marks, marking)) => Ok(Some(Findings {
@@ -144,7 +146,7 @@ fn measured_graph(
             selecting: end.saturating_sub(start),
             marking,
             triples: selector.clauses().mark().triples,
-            offers,
+            fates: offers,
             marks,
         })),
         None => Ok(None),
@@ -155,22 +157,23 @@ fn measured_graph(
 fn measured(
     clock: &impl CpuClock,
     alloc: Global,
+    keys: Keys,
     file: &ResultFile,
 ) -> Result<Option<Findings>, NoMemory> {
-    let table = table_of(alloc, file.paths.as_slice())?;
+    let table = table_of(alloc, keys, file.paths.as_slice())?;
     let labels = labels_of(alloc, file.edges.as_slice())?;
     let start = used(clock);
-    let graph = build(alloc, table.rows())?;
+    let graph = build(alloc, keys, table.rows())?;
     let end = used(clock);
-    measured_graph(clock, alloc, &graph, &labels, end.saturating_sub(start))
+    measured_graph(clock, alloc, keys, &graph, &labels, end.saturating_sub(start))
 }
 
 /// How many paths have another fate than the result says, and how many are lost.
-fn fates_of(lines: &[PathLine], offers: &[Offer]) -> (usize, usize) {
-    let mut other: usize = lines.len().abs_diff(offers.len());
+fn fates_of(lines: &[PathLine], fates: &[Fate]) -> (usize, usize) {
+    let mut other: usize = lines.len().abs_diff(fates.len());
     let mut lost: usize = 0;
-    for (line, offer) in lines.iter().zip(offers) {
-        let is_kept = matches!(offer, Offer::Kept);
+    for (line, fate) in lines.iter().zip(fates) {
+        let is_kept = matches!(fate, Fate::Kept);
         if matches!(&line.fate, Fate::Kept) != is_kept {
             other = other.saturating_add(1);
         }
@@ -187,7 +190,7 @@ fn marks_of(lines: &[EdgeLine], marks: &[Mark]) -> (usize, usize) {
     let mut forced: usize = 0;
     for (line, mark) in lines.iter().zip(marks) {
         let is_forced = *mark == Mark::Forced;
-        if (line.mark == EdgeMark::Forced) != is_forced {
+        if (line.mark == Mark::Forced) != is_forced {
             other = other.saturating_add(1);
         }
         if is_forced {
@@ -198,20 +201,16 @@ fn marks_of(lines: &[EdgeLine], marks: &[Mark]) -> (usize, usize) {
 }
 
 /// The path lines with these fates.
-fn offered_lines(
+fn lines_with(
     alloc: Global,
     lines: List<PathLine>,
-    offers: List<Offer>,
+    fates: List<Fate>,
 ) -> Result<List<PathLine>, NoMemory> {
-    let mut offered = List::new(alloc);
-    for (line, offer) in lines.into_vec().into_iter().zip(offers.into_vec()) {
-        let fate = match offer {
-            Offer::Kept => Fate::Kept,
-            Offer::Lost(walk) => Fate::Lost(walk),
-        };
-        offered.push(PathLine { fate, ..line })?;
+    let mut all = List::new(alloc);
+    for (line, fate) in lines.into_vec().into_iter().zip(fates.into_vec()) {
+        all.push(PathLine { fate, ..line })?;
     }
-    Ok(offered)
+    Ok(all)
 }
 
 /// The edge lines with these marks.
@@ -222,11 +221,10 @@ fn marked_lines(
 ) -> Result<List<EdgeLine>, NoMemory> {
     let mut marked = List::new(alloc);
     for (line, mark) in lines.iter().zip(marks) {
-        let mark = match mark {
-            Mark::Forced => EdgeMark::Forced,
-            Mark::Loose => EdgeMark::Loose,
-        };
-        marked.push(EdgeLine { mark, ..*line })?;
+        marked.push(EdgeLine {
+            mark: *mark,
+            ..*line
+        })?;
     }
     Ok(marked)
 }
@@ -235,23 +233,16 @@ fn marked_lines(
 fn with_ours(
     alloc: Global,
     file: ResultFile,
-    offers: List<Offer>,
+    fates: List<Fate>,
     marks: Marks,
 ) -> Result<ResultFile, NoMemory> {
-    let mut probes = List::new(alloc);
-    for probe in marks.probes.as_slice() {
-        probes.push(ProbeLine {
-            over: probe.over,
-            under: probe.under,
-        })?;
-    }
     let edges = marked_lines(alloc, file.edges.as_slice(), marks.marks.as_slice())?;
-    let paths = offered_lines(alloc, file.paths, offers)?;
+    let paths = lines_with(alloc, file.paths, fates)?;
     Ok(ResultFile {
         paths,
         edges,
         whys: marks.whys,
-        probes,
+        probes: marks.probes,
         ..file
     })
 }
@@ -294,14 +285,14 @@ fn lengths(walks: &[Walk]) -> (usize, u64) {
 }
 
 fn numbers_of(file: &ResultFile, all: &Findings) -> Numbers {
-    let (other_fates, lost) = fates_of(file.paths.as_slice(), all.offers.as_slice());
+    let (other_fates, lost) = fates_of(file.paths.as_slice(), all.fates.as_slice());
     let (other_marks, forced) = marks_of(file.edges.as_slice(), all.marks.marks.as_slice());
     let (longest, ases) = lengths(all.marks.whys.as_slice());
     Numbers {
         building: all.building,
         selecting: all.selecting,
         marking: all.marking,
-        paths: all.offers.len(),
+        paths: all.fates.len(),
         lost,
         other_fates,
         triples: all.triples,
@@ -324,22 +315,32 @@ fn text_of(alloc: Global, file: &ResultFile, numbers: Numbers) -> Option<Outcome
 
 fn outcome_with(alloc: Global, file: ResultFile, all: Findings) -> Option<Outcome> {
     let numbers = numbers_of(&file, &all);
-    match with_ours(alloc, file, all.offers, all.marks) {
+    match with_ours(alloc, file, all.fates, all.marks) {
         Ok(ours) => text_of(alloc, &ours, numbers),
         Err(_) => None,
     }
 }
 
-fn outcome_of(clock: &impl CpuClock, alloc: Global, file: ResultFile) -> Option<Outcome> {
-    match measured(clock, alloc, &file) {
+fn outcome_of(
+    clock: &impl CpuClock,
+    alloc: Global,
+    keys: Keys,
+    file: ResultFile,
+) -> Option<Outcome> {
+    match measured(clock, alloc, keys, &file) {
         Ok(Some(all)) => outcome_with(alloc, file, all),
         _ => None,
     }
 }
 
-fn outcome_over(clock: &impl CpuClock, alloc: Global, bytes: &[u8]) -> Option<Outcome> {
+fn outcome_over(
+    clock: &impl CpuClock,
+    alloc: Global,
+    keys: Keys,
+    bytes: &[u8],
+) -> Option<Outcome> {
     match parse(alloc, bytes) {
-        Ok(file) => outcome_of(clock, alloc, file),
+        Ok(file) => outcome_of(clock, alloc, keys, file),
         Err(_) => None,
     }
 }
@@ -351,7 +352,7 @@ fn main(rt: HostRuntime) -> Result<()> {
         return Ok(());
     };
     let bytes = fs::read(&rt, from.as_str())?;
-    let Some(Outcome { numbers, text }) = outcome_over(&rt, rt.alloc(), bytes.as_slice()) else {
+    let Some(Outcome { numbers, text }) = outcome_over(&rt, rt.alloc(), Keys::new(&rt), bytes.as_slice()) else {
         return Ok(());
     };
     println!(rt; "graph {} us, selection {} us: {} paths, {} lost ({} other fates), {} triples", numbers.building, numbers.selecting, numbers.paths, numbers.lost, numbers.other_fates, numbers.triples)?;

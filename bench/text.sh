@@ -8,11 +8,11 @@ copy=$(mktemp -d)
 trap 'rm -rf "$copy"' EXIT
 cp "$top/crates.txt" "$top/HANDLES" "$copy"
 mkdir "$copy/crates"
-for crate in tor_arena path_attrs path_clean result_text; do
+for crate in tor_arena relationships path_attrs path_clean result_text; do
     cp -r "$top/crates/$crate" "$copy/crates"
 done
-grep -E '^(tor_arena|path_attrs|path_clean|result_text):' "$top/crates.txt" > "$copy/crates.txt"
-echo 'text_bench: tor_arena path_clean result_text anyhow' >> "$copy/crates.txt"
+grep -E '^(tor_arena|relationships|path_attrs|path_clean|result_text):' "$top/crates.txt" > "$copy/crates.txt"
+echo 'text_bench: tor_arena relationships path_clean result_text anyhow' >> "$copy/crates.txt"
 mkdir -p "$copy/crates/text_bench/src"
 cat > "$copy/crates/text_bench/src/main.rt" <<'RUST'
 //! Times of the result text, both ways.
@@ -20,10 +20,11 @@ cat > "$copy/crates/text_bench/src/main.rt" <<'RUST'
 
 use anyhow::Result;
 use path_clean::{Asides, Sets};
-use result_text::{EdgeLine, EdgeMark, Fate, PathLine, ResultFile, Totals, parse, print};
+use result_text::{EdgeLine, Mark, Fate, PathLine, ResultFile, Totals, parse, print};
 use std::alloc::Global;
 use std::time::Instant;
-use tor_arena::{Label, List, NoMemory};
+use relationships::Label;
+use tor_arena::{List, NoMemory};
 
 /// Numbers as AS numbers are: of one to six digits, most of five or six.
 fn number(place: u32) -> u32 {
@@ -47,7 +48,7 @@ fn edge(place: u32) -> EdgeLine {
         low: number(place),
         high: number(place.wrapping_add(1)),
         label: Label::High,
-        mark: EdgeMark::Loose,
+        mark: Mark::Loose,
         support: u64::from(place),
     }
 }
