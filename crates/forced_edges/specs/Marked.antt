@@ -4,7 +4,7 @@ use Rattle.relationships.specs.declared.label.Label.{Label}
 use Rattle.relationships.specs.Relationship.{ValleyFree}
 use Rattle.relationships.specs.Graph.{edges, labelling}
 use Rattle.relationships.specs.Selection.{IsForced}
-use Rattle.relationships.specs.Checking.{Claim, MarksHold}
+use Rattle.relationships.specs.Checking.{MarksHold}
 use Rattle.relationships.specs.Marking.{claims_of, orders_of}
 use Rattle.as_graph.specs.Paths.{paths_at}
 use Rattle.tor_clauses.specs.Formulas.{Formula, numbered}
