@@ -9,7 +9,8 @@ pub(crate) fn count_steps(counts: &mut Vec<u32>, steps: &[Step])
     requires small { All (λ n. n ≤ 2 ^ 23) counts.old.items }
     requires few { length steps.now ≤ 2 ^ 26 }
     ensures length { length counts.new.items ≡ length counts.old.items }
-    ensures counted { (k : ℕ) → slice_index counts.new.items k ≡ slice_index counts.old.items k + count_by (λ s. nat_eq s.edge k) steps.now }
+    ensures counted { (k : ℕ) → slice_index counts.new.items k ≡ slice_index counts.old.items k + count_by
+        (λ s. nat_eq s.edge k) steps.now }
 {
     for step in steps {
         counts[step.edge.place()] += 1;

@@ -45,8 +45,8 @@ Contains-map : {X Y : Type 0} (f : X → Y) (xs : List X) (x : X) → Contains x
 Contains-map f xs x (k, lt, e) =
     let n = length-map xs f in (k, omega (arith, n, lt), get_or-map f xs k x (f x) lt ∙ ap f e)
 
--- what is told by the place of an edge, and by its votes and degrees
-pub record IsTold (degree : ℕ → ℕ) (kept : List (List ℕ)) (es : List Edge) (pref : Pref) : Type 0 where
+-- what is said by the place of an edge, and by its votes and degrees
+pub record IsStated (degree : ℕ → ℕ) (kept : List (List ℕ)) (es : List Edge) (pref : Pref) : Type 0 where
   pub inside : pref.edge < length es
   pub leans : pref.lean ≡ lean degree kept (edge_at es pref)
   pub wants : pref.wanted ≡ wanted degree kept (edge_at es pref)
@@ -58,8 +58,8 @@ module _ (paths kept : List (List ℕ)) (es : List Edge) (once : NoneTwice es) (
   as_long : length prefs ≡ length es
   as_long = long ∙ ap length voted ∙ length-map es (votes_of (degree paths) kept)
 
-  told_at : (k : ℕ) → k < length prefs → IsTold (degree paths) kept es (get_or prefs k any_pref)
-  told_at k lt =
+  stated_at : (k : ℕ) → k < length prefs → IsStated (degree paths) kept es (get_or prefs k any_pref)
+  stated_at k lt =
       record {
         inside = let i = is.edge in omega (arith, i, within);
         leans = is.lean ∙ ap lean_by votes_there ∙ ap (λ j. lean (degree paths) kept (get_or es j (0, 0))) (sym is.edge);
@@ -78,8 +78,8 @@ module _ (paths kept : List (List ℕ)) (es : List Edge) (once : NoneTwice es) (
       degrees_there : get_or numbers k (record { low = 0; high = 0 }) ≡ degrees_of paths (get_or es k (0, 0))
       degrees_there = ap (λ (t : List PerEnd). get_or t k (record { low = 0; high = 0 })) known ∙ get_or-map (degrees_of paths) es k (0, 0) (record { low = 0; high = 0 }) within
 
-  all_told : All (IsTold (degree paths) kept es) prefs
-  all_told = All-from_get_or (IsTold (degree paths) kept es) prefs any_pref told_at
+  all_stated : All (IsStated (degree paths) kept es) prefs
+  all_stated = All-from_get_or (IsStated (degree paths) kept es) prefs any_pref stated_at
 
   edge_number : (k d : ℕ) → k < length prefs → get_or (map (λ (p : Pref). p.edge) prefs) k d ≡ k
   edge_number k d lt = get_or-map (λ (p : Pref). p.edge) prefs k any_pref d lt ∙ (each k any_pref lt).edge
@@ -89,8 +89,8 @@ module _ (paths kept : List (List ℕ)) (es : List Edge) (once : NoneTwice es) (
     count_sorted : length sorted ≡ length es
     count_sorted = length_permutation prefs sorted moved ∙ as_long
 
-    told_sorted : All (IsTold (degree paths) kept es) sorted
-    told_sorted = All-permutation (IsTold (degree paths) kept es) prefs sorted moved all_told
+    stated_sorted : All (IsStated (degree paths) kept es) sorted
+    stated_sorted = All-permutation (IsStated (degree paths) kept es) prefs sorted moved all_stated
 
     apart_sorted : AllDistinct (map (λ (p : Pref). p.edge) sorted)
     apart_sorted =
@@ -122,26 +122,26 @@ module _ (paths kept : List (List ℕ)) (es : List Edge) (once : NoneTwice es) (
             let n = length-map sorted (edge_at es) in
             let within : k < length sorted = omega (arith, n, lt) in
             let p : Pref = get_or sorted k any_pref in
-            let told = told_sorted k any_pref within in
-            (p.edge, told.inside, get_or_default es p.edge e (0, 0) told.inside ∙ sym (get_or-map (edge_at es) sorted k any_pref e within) ∙ is)
+            let stated = stated_sorted k any_pref within in
+            (p.edge, stated.inside, get_or_default es p.edge e (0, 0) stated.inside ∙ sym (get_or-map (edge_at es) sorted k any_pref e within) ∙ is)
 
-    lead_there : (p : Pref) → IsTold (degree paths) kept es p → unsigned_abs p.lean ≡ lead (degree paths) kept (edge_at es p)
-    lead_there p told =
-        let e : Edge = edge_at es p in ap unsigned_abs told.leans ∙ lead_abs (votes (degree paths) kept e.0 e.1) (votes (degree paths) kept e.1 e.0)
+    lead_there : (p : Pref) → IsStated (degree paths) kept es p → unsigned_abs p.lean ≡ lead (degree paths) kept (edge_at es p)
+    lead_there p stated =
+        let e : Edge = edge_at es p in ap unsigned_abs stated.leans ∙ lead_abs (votes (degree paths) kept e.0 e.1) (votes (degree paths) kept e.1 e.0)
 
     abbrev GoesFirst : Edge → Edge → Type 0
     GoesFirst e f =
         (lead (degree paths) kept f < lead (degree paths) kept e) ⊎
         ((lead (degree paths) kept f ≡ lead (degree paths) kept e) × (place es e < place es f))
 
-    goes_first : (p q : Pref) → IsTold (degree paths) kept es p → IsTold (degree paths) kept es q → p.edge ≢ q.edge → NotAfter p q → GoesFirst (edge_at es p) (edge_at es q)
-    goes_first p q told told' ne (inl lt) =
-        let a = lead_there p told in
-        let b = lead_there q told' in inl (omega (arith, lt, a, b))
-    goes_first p q told told' ne (inr (same, le)) =
-        let a = place_of es p.edge once told.inside in
-        let b = place_of es q.edge once told'.inside in
-        inr (sym (lead_there q told') ∙ same ∙ lead_there p told, omega (arith, le, ne, a, b))
+    goes_first : (p q : Pref) → IsStated (degree paths) kept es p → IsStated (degree paths) kept es q → p.edge ≢ q.edge → NotAfter p q → GoesFirst (edge_at es p) (edge_at es q)
+    goes_first p q stated stated' ne (inl lt) =
+        let a = lead_there p stated in
+        let b = lead_there q stated' in inl (omega (arith, lt, a, b))
+    goes_first p q stated stated' ne (inr (same, le)) =
+        let a = place_of es p.edge once stated.inside in
+        let b = place_of es q.edge once stated'.inside in
+        inr (sym (lead_there q stated') ∙ same ∙ lead_there p stated, omega (arith, le, ne, a, b))
 
     settling : IsSettlingOrder (lead (degree paths) kept) es (edges_of es sorted)
     settling = record { each = each_edge; falling = falling }
@@ -157,14 +157,14 @@ module _ (paths kept : List (List ℕ)) (es : List Edge) (once : NoneTwice es) (
             let ne : p.edge ≢ q.edge = λ e.
             apart_sorted i j 0 lt (omega (arith, m, j_lt))
             (get_or-map (λ (p : Pref). p.edge) sorted i any_pref 0 i_lt ∙ e ∙ sym (get_or-map (λ (p : Pref). p.edge) sorted j any_pref 0 j_lt)) in
-            let first = goes_first p q (told_sorted i any_pref i_lt) (told_sorted j any_pref j_lt) ne (falls i j any_pref (omega (arith, lt)) j_lt) in
+            let first = goes_first p q (stated_sorted i any_pref i_lt) (stated_sorted j any_pref j_lt) ne (falls i j any_pref (omega (arith, lt)) j_lt) in
             subst (λ e. GoesFirst e (get_or (edges_of es sorted) j d)) (sym (get_or-map (edge_at es) sorted i any_pref d i_lt))
             (subst (GoesFirst (edge_at es p)) (sym (get_or-map (edge_at es) sorted j any_pref d j_lt)) first)
 
 -- what the clauses of the sorted preferences say
 pub record AreSettled (degree : ℕ → ℕ) (kept : List (List ℕ)) (es : List Edge) (prefs : List Pref) : Type 0 where
   pub count : length prefs ≡ length es
-  pub told : All (IsTold degree kept es) prefs
+  pub stated : All (IsStated degree kept es) prefs
   pub apart : AllDistinct (map (λ (p : Pref). p.edge) prefs)
   pub order : IsSettlingOrder (lead degree kept) es (edges_of es prefs)
 
@@ -176,7 +176,7 @@ pub settled : (paths kept : List (List ℕ)) (table numbers : List PerEnd) (pref
 settled paths kept table numbers prefs sorted result voted known long each moved falls is =
     subst (AreSettled (degree paths) kept (edges paths)) (sym is) (record {
       count = count_sorted paths kept (edges paths) once table numbers voted known prefs long each sorted moved falls;
-      told = told_sorted paths kept (edges paths) once table numbers voted known prefs long each sorted moved falls;
+      stated = stated_sorted paths kept (edges paths) once table numbers voted known prefs long each sorted moved falls;
       apart = apart_sorted paths kept (edges paths) once table numbers voted known prefs long each sorted moved falls;
       order = settling paths kept (edges paths) once table numbers voted known prefs long each sorted moved falls;
     })

@@ -74,7 +74,9 @@ top_is numbers top highest t =
     let within = t.within in
     let greatest : fold (λ m x. max m x) 0 numbers ≡ highest = greatest_is 0 highest numbers (omega arith) t.upto (inr (top, within, t.is)) in
     let first : position_or_len (λ a. a == highest) numbers ≡ top =
-    position_or_len_is (λ a. a == highest) numbers top 0 (omega (arith, within)) (λ k lt. ne_eqb (get_or numbers k 0) highest (λ e. absurd (let b = t.before k lt in omega (arith, b, e)))) (λ lt. eq-eqb (get_or numbers top 0) highest t.is) in
+    position_or_len_is (λ a. a == highest) numbers top 0 (omega (arith, within))
+    (λ k lt. ne_eqb (get_or numbers k 0) highest (λ e. absurd (let b = t.before k lt in omega (arith, b, e))))
+    (λ lt. eq-eqb (get_or numbers top 0) highest t.is) in
     sym (ap (λ h. position_or_len (λ a. a == h) numbers) greatest ∙ first)
 
 -- the degrees along a path tell its top

@@ -23,7 +23,7 @@ use Rattle.gao_prefs.specs.declared.per_end.PerEnd.{PerEnd}
 use Rattle.gao_prefs.specs.Ends.{same_end, at_end, number_at, degrees_of, along, is_vote, ballots, votes_of}
 use Rattle.gao_prefs.proofs.TopLemmas.{top_of-map}
 
--- ---- edges are told by their places, and have the lower number first
+-- ---- edges are given by their places, and have the lower number first
 
 abbrev IsRising : Edge → Type 0
 IsRising e = e.0 ≤ e.1
@@ -303,7 +303,9 @@ pub counts_more : (paths : List (List ℕ)) (kept : List ℕ) (i id : ℕ) (step
 counts_more paths kept i id steps table new lt at two apart are few so_far long each =
     record {
       counted = ext_get_or (record { low = 0; high = 0 }) new (vote_table paths (take (i + 1) kept) es) (long ∙ n ∙ m ∙ sym (length-map es (votes_of (degree paths) after)))
-          (λ k k_lt. same_ends (get_or new k (record { low = 0; high = 0 })) (get_or (vote_table paths (take (i + 1) kept) es) k (record { low = 0; high = 0 })) (λ end. voted_at k end (omega (arith, n, m, long, k_lt))));
+          (λ k k_lt. same_ends (get_or new k (record { low = 0; high = 0 }))
+          (get_or (vote_table paths (take (i + 1) kept) es) k (record { low = 0; high = 0 }))
+          (λ end. voted_at k end (omega (arith, n, m, long, k_lt))));
       small = λ k end.
           let was = so_far.small k end in
           let more = each k end in
@@ -336,6 +338,7 @@ counts_more paths kept i id steps table new lt at two apart are few so_far long 
         let e : Edge = get_or es k (0, 0) in
         let was = ap (λ (t : List PerEnd). number_at t k end) so_far.counted ∙ number-votes (degree paths) before es k end within in
         let more =
-        path_votes paths es k e end path steps (NoneTwice-distinct (flat_map edges_on paths)) (slice_get-get_or es k (0, 0) within) (All-get_or IsRising es k (0, 0) within (rising paths)) two apart are in
+        path_votes paths es k e end path steps (NoneTwice-distinct (flat_map edges_on paths)) (slice_get-get_or es k (0, 0) within)
+        (All-get_or IsRising es k (0, 0) within (rising paths)) two apart are in
         each k end ∙ ap₂ (λ x y. x + y) was (sym more) ∙ sym (votes-push (degree paths) before path (from_end e end)) ∙
         ap (λ ps. votes (degree paths) ps (from_end e end).0 (from_end e end).1) (sym next) ∙ sym (number-votes (degree paths) after es k end within)

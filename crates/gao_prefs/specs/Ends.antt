@@ -28,7 +28,8 @@ degrees_of paths e = record { low = degree paths e.0; high = degree paths e.1 }
 -- the numbers of the ASes along a path with these steps
 abbrev pub along : List PerEnd → List Step → List ℕ
 along table [] = []
-along table (step ∷ steps) = number_at table step.edge step.left ∷ map (λ (s : Step). number_at table s.edge (opposite s.left)) (step ∷ steps)
+along table (step ∷ steps) = number_at table step.edge step.left ∷ map
+    (λ (s : Step). number_at table s.edge (opposite s.left)) (step ∷ steps)
 
 -- the end that is voted for on a step
 abbrev pub voted : Bool → Step → End

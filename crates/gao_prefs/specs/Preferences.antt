@@ -1,8 +1,10 @@
 -- What is said of preferences.
-use Rattle.std.specs.Prelude.{◌≡◌, ℕ, ◌-◌, ◌<◌, ◌≤◌, ◌⊎◌, ℤ, pos, ◌-ℤ◌, List, map, slice_index_or, nat_lt, if◌then◌else◌}
+use Rattle.std.specs.Prelude.{◌≡◌, ℕ, ◌-◌, ◌<◌, ◌≤◌, ◌⊎◌, ℤ, pos, ◌-ℤ◌, List, All, map, slice_index_or, nat_lt, if◌then◌else◌}
 use Rattle.std.specs.Int.RustNames.{unsigned_abs}
 use Rattle.relationships.specs.declared.label.End.{End}
-use Rattle.relationships.specs.Graph.{Edge}
+use Rattle.relationships.specs.Graph.{Edge, edges, degree}
+use Rattle.relationships.specs.Preference.{lead, lean, wanted, IsSettlingOrder}
+use Rattle.as_graph.specs.Paths.{paths_at}
 use Rattle.gao_prefs.specs.declared.per_end.PerEnd.{PerEnd}
 use Rattle.gao_prefs.specs.declared.preferring.Pref.{Pref}
 
@@ -12,6 +14,23 @@ edge_at es pref = slice_index_or es pref.edge (0, 0)
 
 abbrev pub edges_of : List Edge → List Pref → List Edge
 edges_of es prefs = map (edge_at es) prefs
+
+-- ---- what the preferences of a graph's paths say, where the paths at these places are kept
+
+-- their edges stand in the order of settling
+abbrev pub AreInOrder : List (List ℕ) → List ℕ → List Pref → Type 0
+AreInOrder graph kept prefs =
+    IsSettlingOrder (lead (degree graph) (paths_at graph kept)) (edges graph) (edges_of (edges graph) prefs)
+
+-- each has the lean of its edge
+abbrev pub HaveLeans : List (List ℕ) → List ℕ → List Pref → Type 0
+HaveLeans graph kept prefs =
+    All (λ pref. pref.lean ≡ lean (degree graph) (paths_at graph kept) (edge_at (edges graph) pref)) prefs
+
+-- each has the end that its edge wants
+abbrev pub HaveWanted : List (List ℕ) → List ℕ → List Pref → Type 0
+HaveWanted graph kept prefs =
+    All (λ pref. pref.wanted ≡ wanted (degree graph) (paths_at graph kept) (edge_at (edges graph) pref)) prefs
 
 -- ---- by the votes for the two ends of an edge, and their degrees
 
@@ -28,7 +47,8 @@ wanted_by votes degrees =
 pub record IsPref (votes degrees : List PerEnd) (place : ℕ) (pref : Pref) : Type 0 where
   pub edge : pref.edge ≡ place
   pub lean : pref.lean ≡ lean_by (slice_index_or votes place (record { low = 0; high = 0 }))
-  pub wanted : pref.wanted ≡ wanted_by (slice_index_or votes place (record { low = 0; high = 0 })) (slice_index_or degrees place (record { low = 0; high = 0 }))
+  pub wanted : pref.wanted ≡ wanted_by (slice_index_or votes place (record { low = 0; high = 0 }))
+      (slice_index_or degrees place (record { low = 0; high = 0 }))
 
 -- what a preference is sorted by, so that the greatest absolute lean goes first
 abbrev pub key_of : Pref → ℕ × ℕ

@@ -8,7 +8,7 @@ ghost use Rattle.relationships.specs.Preference.{lean, lead, wanted, IsSettlingO
 ghost use Rattle.tor_arena.specs.Distinct.{AllDistinct};
 ghost use Rattle.as_graph.specs.Paths.{paths_at};
 ghost use Rattle.gao_prefs.specs.Ends.{number_at};
-ghost use Rattle.gao_prefs.specs.Preferences.{edge_at, edges_of, lean_by, wanted_by, key_of, IsPref, NotAfter};
+ghost use Rattle.gao_prefs.specs.Preferences.{AreInOrder, HaveLeans, HaveWanted, IsPref, NotAfter, edge_at, edges_of, key_of, lean_by, wanted_by};
 
 use crate::per_end::{PerEnd, end_degrees};
 use crate::tally::count_votes;
@@ -68,7 +68,8 @@ fn prefs_of(alloc: Global, votes: &[PerEnd], degrees: &[PerEnd]) -> Result<Vec<P
     requires small { (k : ℕ) (e : End) → number_at votes.now k e ≤ 2 ^ 50 }
     ensures length { IfOk result (λ prefs. length prefs.items ≡ length votes.now) }
     ensures small { IfOk result (λ prefs. All (λ pref. unsigned_abs pref.lean ≤ 2 ^ 50) prefs.items) }
-    ensures each { IfOk result (λ prefs. (k : ℕ) (d : Pref) → k < length prefs.items → IsPref votes.now degrees.now k (slice_index_or prefs.items k d)) }
+    ensures each { IfOk result (λ prefs. (k : ℕ) (d : Pref) → k < length prefs.items →
+        IsPref votes.now degrees.now k (slice_index_or prefs.items k d)) }
 {
     let mut prefs = Vec::with_capacity(alloc, votes.len())?;
     for place in 0..votes.len() {
@@ -78,7 +79,7 @@ fn prefs_of(alloc: Global, votes: &[PerEnd], degrees: &[PerEnd]) -> Result<Vec<P
     Ok(prefs)
 }
 
-/// What preferences are sorted by: first their absolute leans, the greatest in front, and then their edges.
+/// What preferences are sorted by: first their absolute leans, the greatest first, and then their edges.
 fn sort_key(pref: &Pref) -> (u64, usize)
     ensures { result ≡ key_of pref.now }
 {
@@ -89,7 +90,8 @@ fn sort_key(pref: &Pref) -> (u64, usize)
 fn sort_by_lead(prefs: &mut Vec<Pref>)
     requires small { All (λ pref. unsigned_abs pref.lean ≤ 2 ^ 50) prefs.old.items }
     ensures same { IsPermutation prefs.old.items prefs.new.items }
-    ensures sorted { (i j : ℕ) (d : Pref) → i ≤ j → j < length prefs.new.items → NotAfter (slice_index_or prefs.new.items i d) (slice_index_or prefs.new.items j d) }
+    ensures sorted { (i j : ℕ) (d : Pref) → i ≤ j → j < length prefs.new.items →
+        NotAfter (slice_index_or prefs.new.items i d) (slice_index_or prefs.new.items j d) }
 {
     prefs.sort_unstable_by_key(|pref| sort_key(pref));
 }
@@ -103,9 +105,9 @@ pub fn preferences(alloc: Global, graph: &AsGraph, kept: &[PathId]) -> Result<Li
     ensures count { IfOk result (λ prefs. length prefs ≡ length (edges graph.now)) }
     ensures inside { IfOk result (λ prefs. All (λ pref. pref.edge < length (edges graph.now)) prefs) }
     ensures apart { IfOk result (λ prefs. AllDistinct (map (λ pref. pref.edge) prefs)) }
-    ensures order { IfOk result (λ prefs. IsSettlingOrder (lead (degree graph.now) (paths_at graph.now kept.now)) (edges graph.now) (edges_of (edges graph.now) prefs)) }
-    ensures leans { IfOk result (λ prefs. All (λ pref. pref.lean ≡ lean (degree graph.now) (paths_at graph.now kept.now) (edge_at (edges graph.now) pref)) prefs) }
-    ensures wanted { IfOk result (λ prefs. All (λ pref. pref.wanted ≡ wanted (degree graph.now) (paths_at graph.now kept.now) (edge_at (edges graph.now) pref)) prefs) }
+    ensures order { IfOk result (AreInOrder graph.now kept.now) }
+    ensures leans { IfOk result (HaveLeans graph.now kept.now) }
+    ensures wanted { IfOk result (HaveWanted graph.now kept.now) }
 {
     graph.facts();
     let degrees = end_degrees(alloc, graph)?;

@@ -17,7 +17,8 @@ fn vote(votes: &mut Vec<PerEnd>, edge: EdgeId, end: End)
     requires there { edge < length votes.old.items }
     requires small { number_at votes.old.items edge end < 2 ^ 63 }
     ensures length { length votes.new.items ≡ length votes.old.items }
-    ensures counted { (k : ℕ) (e : End) → number_at votes.new.items k e ≡ number_at votes.old.items k e + (if nat_eq edge k && same_end end e then 1 else 0) }
+    ensures counted { (k : ℕ) (e : End) →
+        number_at votes.new.items k e ≡ number_at votes.old.items k e + (if nat_eq edge k && same_end end e then 1 else 0) }
 {
     let place = edge.place();
     match end {
@@ -32,7 +33,8 @@ fn vote_each(votes: &mut Vec<PerEnd>, steps: &[Step], climbing: bool)
     requires small { (k : ℕ) (e : End) → number_at votes.old.items k e ≤ 2 ^ 62 }
     requires few { length steps.now ≤ 2 ^ 26 }
     ensures length { length votes.new.items ≡ length votes.old.items }
-    ensures counted { (k : ℕ) (e : End) → number_at votes.new.items k e ≡ number_at votes.old.items k e + count_by (is_vote climbing k e) steps.now }
+    ensures counted { (k : ℕ) (e : End) →
+        number_at votes.new.items k e ≡ number_at votes.old.items k e + count_by (is_vote climbing k e) steps.now }
 {
     for step in steps {
         let end = if climbing {
@@ -52,7 +54,8 @@ fn vote_path(votes: &mut Vec<PerEnd>, steps: &[Step], degrees: &[PerEnd])
     requires small { (k : ℕ) (e : End) → number_at votes.old.items k e ≤ 2 ^ 61 }
     requires few { length steps.now ≤ 2 ^ 26 }
     ensures length { length votes.new.items ≡ length votes.old.items }
-    ensures counted { (k : ℕ) (e : End) → number_at votes.new.items k e ≡ number_at votes.old.items k e + ballots degrees.now steps.now k e }
+    ensures counted { (k : ℕ) (e : End) →
+        number_at votes.new.items k e ≡ number_at votes.old.items k e + ballots degrees.now steps.now k e }
 {
     let top = top_place(steps, degrees);
     vote_each(votes, &steps[..top], true);
@@ -69,7 +72,8 @@ pub(crate) fn count_votes(
     requires there { All (λ path. path < length graph.now) kept.now }
     requires once { AllPairs ◌≢◌ kept.now }
     requires known { degrees.now ≡ map (degrees_of graph.now) (edges graph.now) }
-    ensures counted { IfOk result (λ votes. votes.items ≡ map (votes_of (degree graph.now) (paths_at graph.now kept.now)) (edges graph.now)) }
+    ensures counted { IfOk result (λ votes.
+        votes.items ≡ map (votes_of (degree graph.now) (paths_at graph.now kept.now)) (edges graph.now)) }
     ensures small { IfOk result (λ votes. (k : ℕ) (e : End) → number_at votes.items k e ≤ 2 ^ 50) }
 {
     graph.facts();

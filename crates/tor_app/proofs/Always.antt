@@ -26,7 +26,8 @@ pub record Cause (words : List (List ℕ)) (known : Option Files) (steady : Type
   pub write_fault : s ≡ status.WriteFault → Rose written_before written_now
 
 -- what the note of a status says of the words and the files
-note_malformed : (words : List (List ℕ)) (known : Option Files) (steady : Type 0) (s : Status) (text : List ℕ) → IsCheckNote words known steady s text → s ≡ status.Malformed → LeadsToMalformed words known
+note_malformed : (words : List (List ℕ)) (known : Option Files) (steady : Type 0) (s : Status) (text : List ℕ) →
+    IsCheckNote words known steady s text → s ≡ status.Malformed → LeadsToMalformed words known
 note_malformed words known steady s text note is = by (subst (λ (t : Status). IsCheckNote words known steady t text) is note)
   where
     by : IsCheckNote words known steady status.Malformed text → LeadsToMalformed words known
@@ -39,7 +40,8 @@ note_limit words known steady s text note is = by (subst (λ (t : Status). IsChe
     by (inl long) = inl long.1
     by (inr why) = inr (why.0, why.1, why.3)
 
-note_absent : (words : List (List ℕ)) (known : Option Files) (steady : Type 0) (s : Status) (text : List ℕ) → IsCheckNote words known steady s text → steady → s ≡ status.ReadFault → LeadsToAbsent words known
+note_absent : (words : List (List ℕ)) (known : Option Files) (steady : Type 0) (s : Status) (text : List ℕ) → IsCheckNote words known steady s text →
+    steady → s ≡ status.ReadFault → LeadsToAbsent words known
 note_absent words known steady s text note held is = by (subst (λ (t : Status). IsCheckNote words known steady t text) is note)
   where
     or_dump : (dump : ℕ) → FailedAtResult words known steady dump ⊎ FailedAtDump words known steady dump → LeadsToAbsent words known

@@ -40,7 +40,8 @@ length_of names i lt = omega (arith, length-take i names)
 one_dump : (sets : Sets) (d : ℕ) (mid new : Taken) (name : List ℕ) (files : Files) → of_file sets d mid (files name) ≡ Ok new → seen_from sets d mid (name ∷ []) files ≡ Ok new
 one_dump sets d mid new name files is = rw is refl
 
-no_further : (sets : Sets) (d : ℕ) (mid : Taken) (name : List ℕ) (rest : List (List ℕ)) (files : Files) (end : End) → of_file sets d mid (files name) ≡ Err end → seen_from sets d mid (name ∷ rest) files ≡ Err end
+no_further : (sets : Sets) (d : ℕ) (mid : Taken) (name : List ℕ) (rest : List (List ℕ)) (files : Files) (end : End) →
+    of_file sets d mid (files name) ≡ Err end → seen_from sets d mid (name ∷ rest) files ≡ Err end
 no_further sets d mid name rest files end is = rw is refl
 
 pub one_more : (sets : Sets) (old mid new : Taken) (known : Option Files) (names : List (List ℕ)) (i : ℕ) (name : List ℕ) → i < length names → name ≡ get_or names i name

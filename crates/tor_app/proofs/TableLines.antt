@@ -20,7 +20,8 @@ row_at (row ∷ rows) zero path times is counted = ap₂ (λ p t. record { path 
     some_times x y e = cc
 row_at (row ∷ rows) (suc i) path times is counted = ap (λ (t : List Counted). row ∷ t) (row_at rows i path times is counted)
 
-pub one_line_more : (rows : List Counted) (i : ℕ) (path : List ℕ) (times : ℕ) (text old : List ℕ) → slice_get (paths_of rows) i ≡ Some path → option_map (λ row. row.times) (slice_get rows i) ≡ Some times
+pub one_line_more : (rows : List Counted) (i : ℕ) (path : List ℕ) (times : ℕ) (text old : List ℕ) → slice_get (paths_of rows) i ≡ Some path →
+    option_map (λ row. row.times) (slice_get rows i) ≡ Some times
     → old ≡ listing (take i rows) → text ≡ old ++ line (record { path = path; times = times }) → text ≡ listing (take (i + 1) rows)
 one_line_more rows i path times text old is counted before more =
     let row : Counted = record { path = path; times = times } in

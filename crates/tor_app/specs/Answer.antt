@@ -62,7 +62,8 @@ IsNote words known steady status.NoMemory text = text ≡ plain_note status.NoMe
 
 -- what the words and the files give, where these are known, is a fault of a record
 abbrev pub IsMalformed : List (List ℕ) → Option Files → Type 0
-IsMalformed words known = IfSome known (λ files. (place : Place) × (fault : Fault) × (outcome words files ≡ Some (Err (Malformed place fault))))
+IsMalformed words known = IfSome known (λ files. (place : Place) × (fault : Fault) ×
+    (outcome words files ≡ Some (Err (Malformed place fault))))
 
 -- it is a limit
 abbrev pub IsLimited : List (List ℕ) → Option Files → Type 0

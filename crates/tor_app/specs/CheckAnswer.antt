@@ -47,7 +47,8 @@ GainsNo words known old new = (line : ℕ) × (rule : ℕ) × GainsVerdict words
 
 -- a prefix of the text of the verdict
 abbrev pub GainsVerdictPrefix : List (List ℕ) → Option Files → Option (List ℕ) → Option (List ℕ) → Type 0
-GainsVerdictPrefix words known old new = (answer : Verdict) × LeadsTo words known (Judged answer) × GainsPrefix old new (verdict_text answer)
+GainsVerdictPrefix words known old new = (answer : Verdict) × LeadsTo words known (Judged answer) ×
+    GainsPrefix old new (verdict_text answer)
 
 -- ---- statuses
 
@@ -66,7 +67,8 @@ LeadsToAbsent words known = LeadsTo words known NoResult ⊎ ((dump : ℕ) × Le
 -- the rules 0 to 10 are met, and the dumps before this one have no end
 abbrev pub HoldsBefore : CheckSettings → Files → ℕ → Type 0
 HoldsBefore settings files dump =
-    (bytes : List ℕ) × (file : ResultFile) × IsResult settings files bytes × IsAccepted file bytes × IsOk (seen_for file (take (dump - 1) settings.dumps) files)
+    (bytes : List ℕ) × (file : ResultFile) × IsResult settings files bytes × IsAccepted file bytes ×
+    IsOk (seen_for file (take (dump - 1) settings.dumps) files)
 
 -- a read of the result file failed, where the number is 0; over a steady shelf it isn't there
 pub record FailedAtResult (words : List (List ℕ)) (known : Option Files) (steady : Type 0) (dump : ℕ) : Type 0 where

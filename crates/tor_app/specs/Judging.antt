@@ -79,7 +79,8 @@ ComesTo settings files (Judged verdict) =
 ComesTo settings files NoResult = files settings.result ≡ None
 ComesTo settings files TooLong = IsLongFile (files settings.result)
 ComesTo settings files (Ends end) =
-    (bytes : List ℕ) × (file : ResultFile) × IsResult settings files bytes × IsAccepted file bytes × (seen_for file settings.dumps files ≡ Err end)
+    (bytes : List ℕ) × (file : ResultFile) × IsResult settings files bytes × IsAccepted file bytes ×
+    (seen_for file settings.dumps files ≡ Err end)
 
 -- what the words and the files give
 abbrev pub Gives : List (List ℕ) → Files → Outcome → Type 0
@@ -108,4 +109,6 @@ pub record CanBeJudged (words : List (List ℕ)) (files : Files) : Type 0 where
   pub given : check_settings_given words ≡ Some settings
   pub bytes : List ℕ
   pub result : IsResult settings files bytes
-  pub judged : ((file : ResultFile) → IsAccepted file bytes → ⊥) ⊎ ((settings.dumps ≡ []) ⊎ ((file : ResultFile) → IsTextOf file bytes → IsOk (seen_for file settings.dumps files)))
+  pub judged : ((file : ResultFile) → IsAccepted file bytes → ⊥) ⊎
+      ((settings.dumps ≡ []) ⊎ ((file : ResultFile) → IsTextOf file bytes →
+      IsOk (seen_for file settings.dumps files)))

@@ -64,9 +64,11 @@ IsUnjudgedGiven words known steady u =
 
 -- there is no verdict for this, by what the words and the files give
 abbrev pub IsUnjudged : List (List ℕ) → Option Files → Type 0 → Unjudged → Type 0
-IsUnjudged words known steady (unjudged.Refused (refusal.Words (refused.Usage text))) = (check_settings_given words ≡ None) × HasUsageLine text
+IsUnjudged words known steady (unjudged.Refused (refusal.Words (refused.Usage text))) =
+    (check_settings_given words ≡ None) × HasUsageLine text
 IsUnjudged words known steady (unjudged.Refused (refusal.Words refused.NoMemory)) = Unit {0}
-IsUnjudged words known steady (unjudged.Refused (refusal.Dumps stopped)) = IsUnjudgedGiven words known steady (unjudged.Refused (refusal.Dumps stopped))
+IsUnjudged words known steady (unjudged.Refused (refusal.Dumps stopped)) =
+    IsUnjudgedGiven words known steady (unjudged.Refused (refusal.Dumps stopped))
 IsUnjudged words known steady (unjudged.Refused refusal.NoMemory) = Unit {0}
 IsUnjudged words known steady (unjudged.Result why) = IsUnjudgedGiven words known steady (unjudged.Result why)
 

@@ -70,7 +70,8 @@ fn judged_by_dumps<H: Shelf>(
     ensures stopped { IfErr result (λ e. IfSome (end_named e.dump e.error) (λ end. IfSome (H.files shelf.old) (λ files.
         seen_for file.now dumps.now files ≡ Err end))) }
     ensures named { IfErr result (λ e. (1 ≤ e.dump) × (e.dump ≤ length dumps.now)) }
-    ensures before { IfErr result (λ e. IfSome (H.files shelf.old) (λ files. IsOk (seen_for file.now (take (e.dump - 1) dumps.now) files))) }
+    ensures before { IfErr result (λ e. IfSome (H.files shelf.old)
+        (λ files. IsOk (seen_for file.now (take (e.dump - 1) dumps.now) files))) }
     ensures read_out { OnOk result (IsAtEnd (H.left shelf.old) → IsAtEnd (H.left shelf.new)) }
 
     ensures files { H.files shelf.new ≡ H.files shelf.old }

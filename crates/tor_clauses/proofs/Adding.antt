@@ -50,7 +50,8 @@ added_all f now ts k le e = e ∙ ap (λ (l : List Triple). having f (with_tripl
 pub added_path : (graph : List (List ℕ)) (f g now : Formula) (path : ℕ) → FitsGraph graph f → path < length graph → g ≡ record f { paths = f.paths ++ path ∷ [] } →
     now ≡ having g (with_triples g.triples (triples_on graph path)) → FitsGraph graph now
 added_path graph f g now path fits there e h =
-    let same : now ≡ having (record f { paths = f.paths ++ path ∷ [] }) (with_triples f.triples (triples_on graph path)) = h ∙ ap (λ (k : Formula). having k (with_triples k.triples (triples_on graph path))) e in
+    let same : now ≡ having (record f { paths = f.paths ++ path ∷ [] }) (with_triples f.triples (triples_on graph path)) = h ∙
+    ap (λ (k : Formula). having k (with_triples k.triples (triples_on graph path))) e in
     let ts : with_triples f.triples (triples_on graph path) ≡ triples_of graph (f.paths ++ path ∷ []) =
     ap (λ (l : List Triple). with_triples l (triples_on graph path)) fits.triples ∙
     with_triples-distinct (triples_on graph path) (flat_map (triples_on graph) f.paths) ∙

@@ -181,7 +181,9 @@ module _ (graph : List (List ℕ)) (f : Formula) (apart : All AllDistinct graph)
   -- each triple of a path has its arc
   pub arc_there : (path at x y z : ℕ) → In path f.paths → TripleAt (path_at graph path) at x y z →
       HasArc f.net.arcs (node_of (over (edges graph) x y)) (node_of (over (edges graph) y z))
-  arc_there path at x y z h (inl s) = has_arc path (triple_of (edges graph) path at x y z) h (In-stands (edges graph) path (path_at graph path) at x y z s) (arc_of (triple_of (edges graph) path at x y z)) (λ u e. Same-arc u (triple_of (edges graph) path at x y z) e)
+  arc_there path at x y z h (inl s) =
+      has_arc path (triple_of (edges graph) path at x y z) h (In-stands (edges graph) path (path_at graph path) at x y z s)
+      (arc_of (triple_of (edges graph) path at x y z)) (λ u e. Same-arc u (triple_of (edges graph) path at x y z) e)
   arc_there path at x y z h (inr s) =
       let one : over (edges graph) x y ≡ negated (over (edges graph) y x) = over-reversed (edges graph) y x (says_second path at z y x h s).two in
       let two : over (edges graph) y z ≡ negated (over (edges graph) z y) = over-reversed (edges graph) z y (says_first path at z y x h s).two in

@@ -31,7 +31,8 @@ record Climb {N : Type 0} (arcs : List (N × N)) (nodes : List N) (i : ℕ) (x y
   below : under ≤ top
   at_under : slice_get nodes under ≡ Some y
 
-module _ {N : Type 0} (arcs : List (N × N)) (nodes : List N) (closing : IsClosing arcs nodes) (i : ℕ) (root x : N) (placed : (z : N) → Reaches arcs x z → Reaches arcs z root → (q : ℕ) × (q ≤ i) × (slice_get nodes q ≡ Some z)) where
+module _ {N : Type 0} (arcs : List (N × N)) (nodes : List N) (closing : IsClosing arcs nodes) (i : ℕ) (root x : N) (placed : (z : N) →
+    Reaches arcs x z → Reaches arcs z root → (q : ℕ) × (q ≤ i) × (slice_get nodes q ≡ Some z)) where
   climb : {y : N} → Reaches arcs x y → Reaches arcs y root → Climb arcs nodes i x y
   climb here to = let p = placed x here to in record { top = p.0; node = x; at_top = p.2; low = p.1; back = here; under = p.0; below = omega arith; at_under = p.2 }
   climb (along {b} {c} r arc) to =
@@ -74,7 +75,8 @@ module _ {N : Type 0} (back : List (N × N)) where
 
 module _ {N : Type 0} (place : N → ℕ) (arcs back : List (N × N)) (from : (x y : N) → HasArc arcs x y → HasArc back y x) (to : (x y : N) → HasArc back y x → HasArc arcs x y)
     (nodes : List N) (closing : IsClosing arcs nodes) (all : (x y : N) → HasArc arcs x y → Has nodes x) (i : ℕ) (root : N) (at : slice_get nodes i ≡ Some root)
-    (old new : List N) (later : (k : ℕ) (x : N) → i < k → slice_get nodes k ≡ Some x → Has old x) (closed : (x y : N) → Has old x → HasArc back x y → Has old y) (closed' : (x y : N) → Has new x → HasArc back x y → Has new y)
+    (old new : List N) (later : (k : ℕ) (x : N) → i < k → slice_get nodes k ≡ Some x → Has old x) (closed : (x y : N) → Has old x → HasArc back x y →
+    Has old y) (closed' : (x y : N) → Has new x → HasArc back x y → Has new y)
     (fresh : Has old root → ⊥) (once : IsOnce new) (grown : IsGrown back root old new) where
   -- a node that is new reaches the root, and the root reaches it
   to-root : (x : N) → Reaches back root x → Reaches arcs x root
@@ -91,7 +93,9 @@ module _ {N : Type 0} (place : N → ℕ) (arcs back : List (N × N)) (from : (x
             | inr le ↦ (h.0, le, h.1)
           ]
 
-  pub classed-more : (of of' : List ℕ) (count : ℕ) → IsClassed place arcs old of count → ((x : N) → Has new x → (Has old x → ⊥) → IsClass place of' x count) → ((x : N) → Has old x → slice_get of' (place x) ≡ slice_get of (place x)) → IsClassed place arcs new of' (count + 1)
+  pub classed-more : (of of' : List ℕ) (count : ℕ) → IsClassed place arcs old of count →
+      ((x : N) → Has new x → (Has old x → ⊥) → IsClass place of' x count) → ((x : N) → Has old x → slice_get of' (place x) ≡ slice_get of (place x)) →
+      IsClassed place arcs new of' (count + 1)
   classed-more of of' count c marked kept = record {
     below = λ x k h at'. elim (grown-cases back root old new x once grown h) [
       | inl o ↦ (let lt : k < count = c.below x k o (sym (kept x o) ∙ at') in omega arith)
@@ -99,7 +103,11 @@ module _ {N : Type 0} (place : N → ℕ) (arcs back : List (N × N)) (from : (x
     ];
     each = λ k lt. elim (cases_lt k count) [
       | inl less ↦ (let w = c.each k less in (w.0, grown-old back root old new w.0 grown w.1, kept w.0 w.1 ∙ w.2))
-      | inr le ↦ (let e : count ≡ k = omega arith in (root, has-from_Contains new root grown.has_start, subst (λ z. slice_get of' (place root) ≡ Some z) e (marked root (has-from_Contains new root grown.has_start) fresh)))
+      | inr le ↦ (let e : count ≡ k = omega arith in (
+        root,
+        has-from_Contains new root grown.has_start,
+        subst (λ z. slice_get of' (place root) ≡ Some z) e (marked root (has-from_Contains new root grown.has_start) fresh),
+      ))
     ];
     same = λ x y k hx hy cx cy. elim (grown-cases back root old new x once grown hx) [
       | inl ox ↦ elim (grown-cases back root old new y once grown hy) [
@@ -129,7 +137,9 @@ module _ {N : Type 0} (place : N → ℕ) (net : Net N) where
     order = λ x y j k h. (let bad : None ≡ Some y = h.1 in cc);
   })
 
-  walk-order : (nodes : List N) (of : List ℕ) (count : ℕ) → IsClassed place net.arcs nodes of count → ((x : N) → place x < length of → Has nodes x) → ((x y : N) → HasArc net.arcs x y → place x < length of) → (x : N) (j : ℕ) → IsClass place of x j → {y : N} → Reaches net.arcs x y → (k : ℕ) → IsClass place of y k → j ≤ k
+  walk-order : (nodes : List N) (of : List ℕ) (count : ℕ) → IsClassed place net.arcs nodes of count → ((x : N) → place x < length of → Has nodes x) →
+      ((x y : N) → HasArc net.arcs x y → place x < length of) → (x : N) (j : ℕ) → IsClass place of x j → {y : N} → Reaches net.arcs x y → (k : ℕ) →
+      IsClass place of y k → j ≤ k
   walk-order nodes of count w has tails x j cx here k cy = let e : j ≡ k = same_Some j k (sym cx ∙ cy) in omega arith
   walk-order nodes of count w has tails x j cx (along {b} {c} r arc) k cy =
       let m = slice_get-some of (place b) (tails b c arc) in
@@ -137,11 +147,16 @@ module _ {N : Type 0} (place : N → ℕ) (net : Net N) where
       let high : m.0 ≤ k = w.order b c m.0 k (has c (slice_get-lt of (place c) k cy)) arc m.1 cy in
       omega arith
 
-  pub classed-done : (nodes : List N) (of : List ℕ) (count : ℕ) → IsClassed place net.arcs nodes of count → ((x : N) → place x < net.nodes → Has nodes x) → IsInside place net → length of ≡ net.nodes → IsComponents place net (record { of = of; count = count })
+  pub classed-done : (nodes : List N) (of : List ℕ) (count : ℕ) → IsClassed place net.arcs nodes of count →
+      ((x : N) → place x < net.nodes → Has nodes x) → IsInside place net → length of ≡ net.nodes →
+      IsComponents place net (record { of = of; count = count })
   classed-done nodes of count c all inside many = record {
     many = many;
     same = λ x y j k cx cy. (
-      (λ e. (c.same x y k (has x (slice_get-lt of (place x) j cx)) (has y (slice_get-lt of (place y) k cy)) (cx ∙ ap Some e) cy, c.same y x k (has y (slice_get-lt of (place y) k cy)) (has x (slice_get-lt of (place x) j cx)) cy (cx ∙ ap Some e))),
+      (λ e. (
+        c.same x y k (has x (slice_get-lt of (place x) j cx)) (has y (slice_get-lt of (place y) k cy)) (cx ∙ ap Some e) cy,
+        c.same y x k (has y (slice_get-lt of (place y) k cy)) (has x (slice_get-lt of (place x) j cx)) cy (cx ∙ ap Some e),
+      )),
       (λ r. (let a : j ≤ k = walk-order nodes of count c has tails x j cx r.0 k cy in let b : k ≤ j = walk-order nodes of count c has tails y k cy r.1 j cx in omega arith)),
     );
     order = λ x y j k arc cx cy. c.order x y j k (has y (slice_get-lt of (place y) k cy)) arc cx cy;
@@ -167,7 +182,9 @@ module _ {N : Type 0} where
   drop-has (suc n) (y ∷ xs) zero x le e = absurd (omega arith)
   drop-has (suc n) (y ∷ xs) (suc j) x le e = drop-has n xs j x (omega arith) e
 
-  pub later-more : (order : List N) (i left : ℕ) (root : N) (old new : List N) → left ≡ i + 1 → slice_get order i ≡ Some root → Has new root → ((x : N) → Has old x → Has new x) → ((k : ℕ) (x : N) → left ≤ k → slice_get order k ≡ Some x → Has old x) → (k : ℕ) (x : N) → i ≤ k → slice_get order k ≡ Some x → Has new x
+  pub later-more : (order : List N) (i left : ℕ) (root : N) (old new : List N) → left ≡ i + 1 → slice_get order i ≡ Some root → Has new root →
+      ((x : N) → Has old x → Has new x) → ((k : ℕ) (x : N) → left ≤ k → slice_get order k ≡ Some x → Has old x) → (k : ℕ) (x : N) → i ≤ k →
+      slice_get order k ≡ Some x → Has new x
   later-more order i left root old new e at has grow later k x le at' = elim (cases_eq k i) [
     | inl q ↦ subst (λ z. Has new z) (same_Some root x (sym at ∙ subst (λ z. slice_get order z ≡ Some x) q at')) has
     | inr ne ↦ grow x (later k x (omega arith) at')
@@ -212,7 +229,9 @@ module _ {N : Type 0} (net other new : Net N) where
     many = ap length arcs-is ∙ length_push other.arcs (h, t) ∙ ap (λ n. n + 1) r.many;
     from = λ j x y lt a. subst (λ z. HasArc z y x) (sym arcs-is) (elim (cases_lt j k) [
       | inl less ↦ (let w = r.from j x y less a in (w.0, slice_get-push_old other.arcs ((h, t) ∷ []) w.0 (y, x) w.1))
-      | inr le ↦ (let q : j ≡ k = omega arith in let w = same_arc net.arcs k t h x y at (subst (λ z. IsArc net.arcs z x y) q a) in subst (λ z. HasArc (other.arcs ++ (h, t) ∷ []) y z) w.0 (subst (λ z. HasArc (other.arcs ++ (h, t) ∷ []) z t) w.1 (length other.arcs, slice_get-push_last other.arcs (h, t))))
+      | inr le ↦ (let q : j ≡ k = omega arith in let w = same_arc net.arcs k t h x y at (subst (λ z. IsArc net.arcs z x y) q a) in
+          subst (λ z. HasArc (other.arcs ++ (h, t) ∷ []) y z) w.0
+          (subst (λ z. HasArc (other.arcs ++ (h, t) ∷ []) z t) w.1 (length other.arcs, slice_get-push_last other.arcs (h, t))))
     ]);
     back = λ x y a. (let b = subst (λ z. HasArc z y x) arcs-is a in elim (slice_get-push_cases other.arcs (h, t) b.0 (y, x) b.1) [
       | inl p ↦ r.back x y (b.0, p)

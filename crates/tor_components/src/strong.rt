@@ -113,8 +113,10 @@ fn add_class<N: Index, A: Index>(
     ensures many { length classes.new.items ≡ graph.now.nodes }
     ensures searched { OnOk result (IsSearched N.place_of A.place_of graph.now.nodes graph.now.arcs reached.new) }
     ensures grown { OnOk result (IsGrown graph.now.arcs root reached.old.nodes reached.new.nodes) }
-    ensures marked { OnOk result ((x : N) → Has reached.new.nodes x → (Has reached.old.nodes x → ⊥) → IsClass N.place_of classes.new.items x class) }
-    ensures kept { OnOk result ((x : N) → Has reached.old.nodes x → slice_get classes.new.items (N.place_of x) ≡ slice_get classes.old.items (N.place_of x)) }
+    ensures marked { OnOk result ((x : N) → Has reached.new.nodes x → (Has reached.old.nodes x → ⊥) →
+        IsClass N.place_of classes.new.items x class) }
+    ensures kept { OnOk result ((x : N) → Has reached.old.nodes x →
+        slice_get classes.new.items (N.place_of x) ≡ slice_get classes.old.items (N.place_of x)) }
 {
     let had = reached.nodes().len();
     graph.reach_more(root, reached)?;
@@ -128,7 +130,8 @@ fn mark<N: Index>(nodes: &[N], classes: &mut Arena<N, u32>, class: u32)
     requires { (x : N) → Has nodes.now x → N.place_of x < length classes.old.items }
     ensures many { length classes.new.items ≡ length classes.old.items }
     ensures marked { (x : N) → Has nodes.now x → IsClass N.place_of classes.new.items x class }
-    ensures kept { (x : N) → (Has nodes.now x → ⊥) → slice_get classes.new.items (N.place_of x) ≡ slice_get classes.old.items (N.place_of x) }
+    ensures kept { (x : N) → (Has nodes.now x → ⊥) →
+        slice_get classes.new.items (N.place_of x) ≡ slice_get classes.old.items (N.place_of x) }
 {
     for node in nodes {
         classes.put(*node, class);

@@ -28,6 +28,7 @@ module _ {X : Type 0} (f : X → ℕ) where
     | inr p ↦ (let r = found-in q xs (rw p.0 at t) in (suc r.0, r.1, r.2, r.3))
   ]
 
-  pub few : (xs : List X) (n : ℕ) → ((i j : ℕ) (x y : X) → i < j → slice_get xs i ≡ Some x → slice_get xs j ≡ Some y → f x ≡ f y → ⊥) → ((k : ℕ) (x : X) → slice_get xs k ≡ Some x → f x < n) → length xs ≤ n
+  pub few : (xs : List X) (n : ℕ) → ((i j : ℕ) (x y : X) → i < j → slice_get xs i ≡ Some x → slice_get xs j ≡ Some y → f x ≡ f y → ⊥) →
+      ((k : ℕ) (x : X) → slice_get xs k ≡ Some x → f x < n) → length xs ≤ n
   few xs n apart below =
       subst (λ m. m ≤ n) (length-map xs f) (length-le_from_distinct_below (map f xs) n (distinct xs apart) (λ q t. (let r = found-in q xs t in subst (λ m. m < n) r.3 (below r.0 r.1 r.2))))

@@ -39,7 +39,8 @@ module _ {N : Type 0} where
 module _ {N : Type 0} (place : N → ℕ) (one : (u v : N) → place u ≡ place v → u ≡ v) (arcs : List (N × N)) where
   -- an arc from u at k stands first
   below-yes : (u v : N) (k : ℕ) → IsArc arcs k u v → arcs_below place arcs u (suc k) ≡ (k, v) ∷ arcs_below place arcs u k
-  below-yes u v k e = ap (λ z. with_arc place arcs k u z (arcs_below place arcs u k)) e ∙ ap (λ b. cond b ((k, v) ∷ arcs_below place arcs u k) (arcs_below place arcs u k)) (nat_eq-same (place u) (place u) refl)
+  below-yes u v k e = ap (λ z. with_arc place arcs k u z (arcs_below place arcs u k)) e ∙
+      ap (λ b. cond b ((k, v) ∷ arcs_below place arcs u k) (arcs_below place arcs u k)) (nat_eq-same (place u) (place u) refl)
 
   with-no : (u : N) (k : ℕ) (e : Option (N × N)) (xs : List (ℕ × N)) → ((v : N) → e ≡ Some (u, v) → ⊥) → with_arc place arcs k u e xs ≡ xs
   with-no u k None xs h = refl
@@ -104,7 +105,8 @@ module _ {N A : Type 0} (place : N → ℕ) (one : (u v : N) → place u ≡ pla
   on-latest u high None l = sym (below-none place one arcs u high l)
   on-latest u high (Some a) l = on-arc a u l.1.0 l.1.1 ∙ sym (below-until place one arcs u l.1.0 (spot a) high l.0 l.1.1 l.2)
 
-  pub on-step : (a : A) (e : N × N) (r next : Option A) → next ≡ Some a → IsArc arcs (spot a) e.0 e.1 → IsLatest spot arcs e.0 (spot a) r → arcs_on place spot arcs next ≡ (spot a, e.1) ∷ arcs_on place spot arcs r
+  pub on-step : (a : A) (e : N × N) (r next : Option A) → next ≡ Some a → IsArc arcs (spot a) e.0 e.1 → IsLatest spot arcs e.0 (spot a) r →
+      arcs_on place spot arcs next ≡ (spot a, e.1) ∷ arcs_on place spot arcs r
   on-step a e r next is arc latest = ap (λ z. arcs_on place spot arcs z) is ∙ on-arc a e.0 e.1 arc ∙ ap (λ z. (spot a, e.1) ∷ z) (sym (on-latest e.0 (spot a) r latest))
 
   pub latest-can : (u : N) (high : ℕ) (r : Option A) → IsLatest spot arcs u high r → IfSome r (λ a. spot a < length arcs)
@@ -116,7 +118,8 @@ module _ {N A : Type 0} (place : N → ℕ) (one : (u v : N) → place u ≡ pla
       ((λ w. (below-is place one arcs u (length arcs) (k, h) w).1), (λ e. below-has place one arcs u h (length arcs) k (slice_get-lt arcs k (u, h) e) e))
 
   pub on-exact_Contains : (u : N) (r : Option A) → IsLatest spot arcs u (length arcs) r → (k : ℕ) (h : N) → Contains (arcs_on place spot arcs r) (k, h) ↔ IsArc arcs k u h
-  on-exact_Contains u r latest k h = let w = on-exact u r latest k h in ((λ c. w.0 (has-from_Contains (arcs_on place spot arcs r) (k, h) c)), (λ e. Contains-from_has (arcs_on place spot arcs r) (k, h) (w.1 e)))
+  on-exact_Contains u r latest k h = let w = on-exact u r latest k h in
+      ((λ c. w.0 (has-from_Contains (arcs_on place spot arcs r) (k, h) c)), (λ e. Contains-from_has (arcs_on place spot arcs r) (k, h) (w.1 e)))
 
   pub on-once : (u : N) (r : Option A) → IsLatest spot arcs u (length arcs) r → IsOnce (arcs_on place spot arcs r)
   on-once u r latest = subst (λ z. IsOnce z) (sym (on-latest u (length arcs) r latest)) (below-once place one arcs u (length arcs))

@@ -21,13 +21,17 @@ pub length-copies : {X : Type 0} (xs : List X) (n m : ℕ) (x : X) → length xs
 length-copies xs n m x h = omega (arith, length-append xs (replicate n x), length-replicate n x, h)
 
 module _ {N A : Type 0} (place : N → ℕ) (spot : A → ℕ) (one : (u v : N) → place u ≡ place v → u ≡ v) (arcs : List (N × N)) where
-  pub search-start : (found : List (Found N A)) (nodes : List N) (s : N) (r : Option A) → IsSearch place spot arcs found nodes [] → slice_get found (place s) ≡ Some No → IsLatest spot arcs s (length arcs) r → (found' : List (Found N A)) (empty stack : List (Open N A)) → found' ≡ set found (place s) Start → empty ≡ [] → stack ≡ empty ++ (record { node = s; next = r }) ∷ [] → IsSearch place spot arcs found' nodes stack
+  pub search-start : (found : List (Found N A)) (nodes : List N) (s : N) (r : Option A) → IsSearch place spot arcs found nodes [] →
+      slice_get found (place s) ≡ Some No → IsLatest spot arcs s (length arcs) r → (found' : List (Found N A)) (empty stack : List (Open N A)) →
+      found' ≡ set found (place s) Start → empty ≡ [] → stack ≡ empty ++ (record { node = s; next = r }) ∷ [] →
+      IsSearch place spot arcs found' nodes stack
   search-start found nodes s r w absent latest found' empty stack e-found e-empty e =
       subst (λ z. IsSearch place spot arcs z nodes stack) (sym e-found)
       (subst (λ z. IsSearch place spot arcs (set found (place s) Start) nodes z) (sym (e ∙ ap (λ z. z ++ (record { node = s; next = r }) ∷ []) e-empty))
       (search-open place spot one arcs found nodes [] s Start r w absent tt refl (λ i o at. (let bad : None ≡ Some o = at in cc)) latest (λ t a d q. (let bad : Start ≡ Along t a d = q in cc))))
 
-  pub kept-search : (found : List (Found N A)) (nodes : List N) (count : ℕ) (v : Reach N A) → AreSeen place nodes found → record { nodes = nodes; found = found } ≡ v → IsSearched place spot count arcs v → IsSearch place spot arcs found nodes []
+  pub kept-search : (found : List (Found N A)) (nodes : List N) (count : ℕ) (v : Reach N A) → AreSeen place nodes found →
+      record { nodes = nodes; found = found } ≡ v → IsSearched place spot count arcs v → IsSearch place spot arcs found nodes []
   kept-search found nodes count v k e searched = let s = subst (λ z. IsSearched place spot count arcs z) (sym e) searched in record {
     seen = λ x f. inl (k.seen x f);
     nodes_seen = k.nodes_seen;
@@ -50,7 +54,8 @@ module _ {N A : Type 0} (place : N → ℕ) (spot : A → ℕ) (one : (u v : N) 
     falls = λ x t a d at. (s.tree x t a d at).1;
   }
 
-  pub search-searched : (found : List (Found N A)) (nodes : List N) (count : ℕ) → IsSearch place spot arcs found nodes [] → length found ≡ count → IsSearched place spot count arcs (record { nodes = nodes; found = found })
+  pub search-searched : (found : List (Found N A)) (nodes : List N) (count : ℕ) → IsSearch place spot arcs found nodes [] → length found ≡ count →
+      IsSearched place spot count arcs (record { nodes = nodes; found = found })
   search-searched found nodes count s many = let k = search-kept found nodes s in record {
     inside = λ x h. (let f = k.nodes_seen x (has-from_Contains nodes x h) in subst (λ n. place x < n) many (slice_get-lt found (place x) f.0 f.1));
     heads = λ x y h arc. Contains-from_has nodes y (k.seen y (s.heads x y (has-from_Contains nodes x h) arc));
@@ -58,7 +63,8 @@ module _ {N A : Type 0} (place : N → ℕ) (spot : A → ℕ) (one : (u v : N) 
     forest = record { many = many; along = s.tree };
   }
 
-  pub growth-grown : (start : N) (old nodes : List N) (found : List (Found N A)) → IsSearch place spot arcs found nodes [] → IsGrowth {A = A} arcs start old nodes [] → IsFound place found start → IsGrown arcs start old nodes
+  pub growth-grown : (start : N) (old nodes : List N) (found : List (Found N A)) → IsSearch place spot arcs found nodes [] →
+      IsGrowth {A = A} arcs start old nodes [] → IsFound place found start → IsGrown arcs start old nodes
   growth-grown start old nodes found s w f = record { kept = w.kept; more = w.more; has_start = Contains-from_has nodes start ((search-kept found nodes s).seen start f) }
 
 module _ {N A : Type 0} (arcs : List (N × N)) where
@@ -81,25 +87,32 @@ module _ {N A : Type 0} (place : N → ℕ) where
   pub start-found : (found found' : List (Found N A)) (s : N) → slice_get found (place s) ≡ Some No → found' ≡ set found (place s) Start → IsFound place found' s
   start-found found found' s absent e = (Start, rw e (slice_get-set_same found (place s) Start (slice_get-lt found (place s) No absent)), tt)
 
-  pub start-starts : (one : (u v : N) → place u ≡ place v → u ≡ v) (found found' : List (Found N A)) (s : N) → found' ≡ set found (place s) Start → (x : N) → slice_get found' (place x) ≡ Some Start → (slice_get found (place x) ≡ Some Start) ⊎ (x ≡ s)
-  start-starts one found found' s e x at = elim (slice_get-set_cases found (place s) Start (place x) Start (subst (λ z. slice_get z (place x) ≡ Some Start) e at)) [ inl p ↦ inr (one x s p.0) | inr p ↦ inl p.1 ]
+  pub start-starts : (one : (u v : N) → place u ≡ place v → u ≡ v) (found found' : List (Found N A)) (s : N) → found' ≡ set found (place s) Start →
+      (x : N) → slice_get found' (place x) ≡ Some Start → (slice_get found (place x) ≡ Some Start) ⊎ (x ≡ s)
+  start-starts one found found' s e x at =
+      elim (slice_get-set_cases found (place s) Start (place x) Start (subst (λ z. slice_get z (place x) ≡ Some Start) e at))
+      [ inl p ↦ inr (one x s p.0) | inr p ↦ inl p.1 ]
 
   seen-same : (f e : Found N A) → f ≡ e → IsSeen e → f ≡ No → ⊥
   seen-same f e p s q = subst IsSeen (sym p ∙ q) s
 
-  pub kept-has : (found : List (Found N A)) (nodes : List N) (v : Reach N A) (x : N) (f : Found N A) → AreSeen place nodes found → record { nodes = nodes; found = found } ≡ v → slice_get found (place x) ≡ Some f → (f ≡ No → ⊥) ↔ Contains v.nodes x
+  pub kept-has : (found : List (Found N A)) (nodes : List N) (v : Reach N A) (x : N) (f : Found N A) → AreSeen place nodes found →
+      record { nodes = nodes; found = found } ≡ v → slice_get found (place x) ≡ Some f → (f ≡ No → ⊥) ↔ Contains v.nodes x
   kept-has found nodes v x f k e at = subst (λ z. (f ≡ No → ⊥) ↔ Contains z.nodes x) e
       ((λ h. Contains-from_has nodes x (k.seen x (f, at, seen-not_no f h))), (λ h. (let w = k.nodes_seen x (has-from_Contains nodes x h) in seen-same f w.0 (same_Some f w.0 (sym at ∙ w.1)) w.2)))
 
-  pub kept-has_not : (found : List (Found N A)) (nodes : List N) (v : Reach N A) (x : N) → AreSeen place nodes found → record { nodes = nodes; found = found } ≡ v → length found ≤ place x → Contains v.nodes x → ⊥
-  kept-has_not found nodes v x k e le h = let w = k.nodes_seen x (has-from_Contains nodes x (subst (λ z. Contains z.nodes x) (sym e) h)) in let below : place x < length found = slice_get-lt found (place x) w.0 w.1 in omega arith
+  pub kept-has_not : (found : List (Found N A)) (nodes : List N) (v : Reach N A) (x : N) → AreSeen place nodes found →
+      record { nodes = nodes; found = found } ≡ v → length found ≤ place x → Contains v.nodes x → ⊥
+  kept-has_not found nodes v x k e le h = let w = k.nodes_seen x (has-from_Contains nodes x (subst (λ z. Contains z.nodes x) (sym e) h)) in
+      let below : place x < length found = slice_get-lt found (place x) w.0 w.1 in omega arith
 
   no-or-seen : (f : Found N A) → (f ≡ No) ⊎ IsSeen f
   no-or-seen No = inl refl
   no-or-seen Start = inr tt
   no-or-seen (Along t a d) = inr tt
 
-  pub kept-absent : (found : List (Found N A)) (nodes : List N) (v : Reach N A) (x : N) → AreSeen place nodes found → record { nodes = nodes; found = found } ≡ v → place x < length found → (Has v.nodes x → ⊥) → slice_get found (place x) ≡ Some No
+  pub kept-absent : (found : List (Found N A)) (nodes : List N) (v : Reach N A) (x : N) → AreSeen place nodes found →
+      record { nodes = nodes; found = found } ≡ v → place x < length found → (Has v.nodes x → ⊥) → slice_get found (place x) ≡ Some No
   kept-absent found nodes v x k e lt h = let w = slice_get-some found (place x) lt in elim (no-or-seen w.0) [
     | inl q ↦ w.1 ∙ ap Some q
     | inr q ↦ absurd (h (subst (λ z. Has z.nodes x) e (k.seen x (w.0, w.1, q))))
@@ -113,7 +126,9 @@ module _ {N A : Type 0} (place : N → ℕ) where
     falls = λ x t a d at. (let bad : None ≡ Some (Along t a d) = at in cc);
   })
 
-  pub blank-pop : (one : (u v : N) → place u ≡ place v → u ≡ v) (found found' : List (Found N A)) (nodes rest : List N) (x : N) → nodes ≡ rest ++ x ∷ [] → found' ≡ set found (place x) No → ((y : N) → IsFound place found y → Has nodes y) → (y : N) → IsFound place found' y → Has rest y
+  pub blank-pop : (one : (u v : N) → place u ≡ place v → u ≡ v) (found found' : List (Found N A)) (nodes rest : List N) (x : N) →
+      nodes ≡ rest ++ x ∷ [] → found' ≡ set found (place x) No → ((y : N) → IsFound place found y → Has nodes y) → (y : N) → IsFound place found' y →
+      Has rest y
   blank-pop one found found' nodes rest x e e-found seen y f = elim (slice_get-set_cases found (place x) No (place y) f.0 (subst (λ z. slice_get z (place y) ≡ Some f.0) e-found f.1)) [
     | inl p ↦ absurd (subst IsSeen p.1 f.2)
     | inr p ↦ elim (has-cases rest x y (subst (λ z. Has z y) e (seen y (f.0, p.1, f.2)))) [
@@ -142,7 +157,8 @@ module _ {N A : Type 0} (place : N → ℕ) where
   pub blank-done : (found : List (Found N A)) (nodes : List N) → nodes ≡ [] → ((y : N) → IsFound place found y → Has nodes y) → (x : N) → IsFound place found x → ⊥
   blank-done found nodes e seen x f = let h = subst (λ z. Has z x) e (seen x f) in let bad : None ≡ Some x = h.1 in cc
 
-  pub blank-copies : {T E : Type 0} (r : Result T E) (found new : List (Found N A)) (n : ℕ) → OnOk r (new ≡ found ++ replicate n No) → OnErr r (new ≡ found) → ((x : N) → IsFound place found x → ⊥) → (x : N) → IsFound place new x → ⊥
+  pub blank-copies : {T E : Type 0} (r : Result T E) (found new : List (Found N A)) (n : ℕ) → OnOk r (new ≡ found ++ replicate n No) →
+      OnErr r (new ≡ found) → ((x : N) → IsFound place found x → ⊥) → (x : N) → IsFound place new x → ⊥
   blank-copies (Ok t) found new n ok err none = rw ok (blank-more found n none)
   blank-copies (Err e) found new n ok err none = rw err none
 
@@ -165,14 +181,19 @@ module _ {N A : Type 0} (place : N → ℕ) (spot : A → ℕ) (arcs : List (N �
   searched-walk count v s h here = h
   searched-walk count v s h (along {b} {c} p arc) = s.heads b c (searched-walk count v s h p) arc
 
-  pub grown-reach : (count : ℕ) (start : N) (old new : Reach N A) → IsBlank place count old → IsSearched place spot count arcs new → IsGrown arcs start old.nodes new.nodes → ((x : N) → slice_get new.found (place x) ≡ Some Start → (slice_get old.found (place x) ≡ Some Start) ⊎ (x ≡ start)) → IsReach place spot arcs start new
+  pub grown-reach : (count : ℕ) (start : N) (old new : Reach N A) → IsBlank place count old → IsSearched place spot count arcs new →
+      IsGrown arcs start old.nodes new.nodes → ((x : N) → slice_get new.found (place x) ≡ Some Start → (slice_get old.found (place x) ≡ Some Start) ⊎
+      (x ≡ start)) → IsReach place spot arcs start new
   grown-reach count start old new b s w root = record {
     exact = λ x. ((λ h. (let at = has-from_Contains new.nodes x h in w.more at.0 x (rw b.none (omega arith)) at.1)), (λ r. searched-walk count new s w.has_start r));
     once = s.order.once;
     tree = record { along = s.forest.along; root = λ x at. elim (root x at) [ inl p ↦ absurd (b.not_found x (Start, p, tt)) | inr p ↦ p ] };
   }
 
-  pub grown-reach_ok : {T E : Type 0} (r : Result T E) (count : ℕ) (start : N) (old new : Reach N A) → IsBlank place count old → OnOk r (IsSearched place spot count arcs new) → OnOk r (IsGrown arcs start old.nodes new.nodes) → OnOk r ((x : N) → slice_get new.found (place x) ≡ Some Start → (slice_get old.found (place x) ≡ Some Start) ⊎ (x ≡ start)) → OnOk r (IsReach place spot arcs start new)
+  pub grown-reach_ok : {T E : Type 0} (r : Result T E) (count : ℕ) (start : N) (old new : Reach N A) → IsBlank place count old →
+      OnOk r (IsSearched place spot count arcs new) → OnOk r (IsGrown arcs start old.nodes new.nodes) →
+      OnOk r ((x : N) → slice_get new.found (place x) ≡ Some Start → (slice_get old.found (place x) ≡ Some Start) ⊎ (x ≡ start)) →
+      OnOk r (IsReach place spot arcs start new)
   grown-reach_ok (Ok t) count start old new b s w root = grown-reach count start old new b s w root
   grown-reach_ok (Err e) count start old new b s w root = s
 
@@ -193,4 +214,6 @@ if_ok_weaker (Err e) f h = h
 
 -- there are at most as many nodes as places
 pub kept-few : {N A : Type 0} (place : N → ℕ) → ((u v : N) → place u ≡ place v → u ≡ v) → (found : List (Found N A)) (nodes : List N) → AreSeen place nodes found → length nodes ≤ length found
-kept-few place one found nodes k = few place nodes (length found) (λ i j x y lt a b e. (let same : i ≡ j = k.once i j x a (b ∙ ap Some (sym (one x y e))) in omega arith)) (λ i x at. (let w = k.nodes_seen x (i, at) in slice_get-lt found (place x) w.0 w.1))
+kept-few place one found nodes k =
+    few place nodes (length found) (λ i j x y lt a b e. (let same : i ≡ j = k.once i j x a (b ∙ ap Some (sym (one x y e))) in omega arith))
+    (λ i x at. (let w = k.nodes_seen x (i, at) in slice_get-lt found (place x) w.0 w.1))

@@ -35,7 +35,8 @@ module _ {N A : Type 0} (place : N → ℕ) where
 
 module _ {N A : Type 0} (place : N → ℕ) (spot : A → ℕ) (one : (u v : N) → place u ≡ place v → u ≡ v) (arcs : List (N × N)) where
   -- the node on top of the stack has no arc left, and is left for good
-  pub search-close : (found : List (Found N A)) (nodes : List N) (rest : List (Open N A)) (top : Open N A) → IsSearch place spot arcs found nodes (rest ++ top ∷ []) → top.next ≡ None → IsSearch place spot arcs found (nodes ++ top.node ∷ []) rest
+  pub search-close : (found : List (Found N A)) (nodes : List N) (rest : List (Open N A)) (top : Open N A) →
+      IsSearch place spot arcs found nodes (rest ++ top ∷ []) → top.next ≡ None → IsSearch place spot arcs found (nodes ++ top.node ∷ []) rest
   search-close found nodes rest top s none = record {
     seen = λ x f. elim (s.seen x f) [
       | inl h ↦ inl (has-old nodes (top.node ∷ []) x h)
@@ -88,10 +89,14 @@ module _ {N A : Type 0} (place : N → ℕ) (spot : A → ℕ) (one : (u v : N) 
 
   -- the stack has at most as many nodes as there are
   pub stack-few : (found : List (Found N A)) (nodes : List N) (stack : List (Open N A)) → IsSearch place spot arcs found nodes stack → length stack ≤ length found
-  stack-few found nodes stack s = few (λ o. place o.node) stack (length found) (λ i j o p lt a b e. s.once i j o p lt a b (one o.node p.node e)) (λ k o at. (let d = s.depths k o at in slice_get-lt found (place o.node) d.0 d.1))
+  stack-few found nodes stack s = few (λ o. place o.node) stack (length found) (λ i j o p lt a b e. s.once i j o p lt a b (one o.node p.node e))
+      (λ k o at. (let d = s.depths k o at in slice_get-lt found (place o.node) d.0 d.1))
 
   -- the next arc of a node on the stack leads to a node that was found, so the one after it is next
-  pub search-advance : (found : List (Found N A)) (nodes : List N) (stack : List (Open N A)) (k : ℕ) (top : Open N A) (a : A) (h : N) (r : Option A) → IsSearch place spot arcs found nodes stack → slice_get stack k ≡ Some top → top.next ≡ Some a → IsArc arcs (spot a) top.node h → IsFound place found h → IsLatest spot arcs top.node (spot a) r → IsSearch place spot arcs found nodes (set stack k (record { node = top.node; next = r }))
+  pub search-advance : (found : List (Found N A)) (nodes : List N) (stack : List (Open N A)) (k : ℕ) (top : Open N A) (a : A) (h : N) (r : Option A) →
+      IsSearch place spot arcs found nodes stack → slice_get stack k ≡ Some top → top.next ≡ Some a → IsArc arcs (spot a) top.node h →
+      IsFound place found h → IsLatest spot arcs top.node (spot a) r →
+      IsSearch place spot arcs found nodes (set stack k (record { node = top.node; next = r }))
   search-advance found nodes stack k top a h r s at-k is-next arc-a f latest = record {
     seen = λ x q. elim (s.seen x q) [
       | inl p ↦ inl p
@@ -153,11 +158,19 @@ module _ {N A : Type 0} (place : N → ℕ) (spot : A → ℕ) (one : (u v : N) 
   not-found : (found : List (Found N A)) (h : N) → slice_get found (place h) ≡ Some No → IsFound place found h → ⊥
   not-found found h absent f = subst IsSeen (same_Some f.0 No (sym f.1 ∙ absent)) f.2
 
-  keep-seen : (found : List (Found N A)) (h t : N) (e f : Found N A) → slice_get found (place h) ≡ Some No → slice_get found (place t) ≡ Some e → IsSeen e → slice_get (set found (place h) f) (place t) ≡ Some e
-  keep-seen found h t e f absent at seen = slice_get-set_other found (place h) f (place t) (λ q. subst IsSeen (same_Some e No (sym at ∙ (subst (λ k. slice_get found k ≡ Some No) (sym q) absent))) seen) ∙ at
+  keep-seen : (found : List (Found N A)) (h t : N) (e f : Found N A) → slice_get found (place h) ≡ Some No → slice_get found (place t) ≡ Some e →
+      IsSeen e → slice_get (set found (place h) f) (place t) ≡ Some e
+  keep-seen found h t e f absent at seen =
+      slice_get-set_other found (place h) f (place t)
+      (λ q. subst IsSeen (same_Some e No (sym at ∙ (subst (λ k. slice_get found k ≡ Some No) (sym q) absent))) seen) ∙ at
 
   -- a node that was not found goes on top of the stack
-  pub search-open : (found : List (Found N A)) (nodes : List N) (stack : List (Open N A)) (h : N) (f : Found N A) (r : Option A) → IsSearch place spot arcs found nodes stack → slice_get found (place h) ≡ Some No → IsSeen f → depth f ≡ length stack → ((i : ℕ) (o : Open N A) → slice_get stack i ≡ Some o → Reaches arcs o.node h) → IsLatest spot arcs h (length arcs) r → ((t : N) (a : A) (d : ℕ) → f ≡ Along t a d → IsArc arcs (spot a) t h × ((e : Found N A) × (slice_get found (place t) ≡ Some e) × IsSeen e × (depth e + 1 ≡ d))) → IsSearch place spot arcs (set found (place h) f) nodes (stack ++ (record { node = h; next = r }) ∷ [])
+  pub search-open : (found : List (Found N A)) (nodes : List N) (stack : List (Open N A)) (h : N) (f : Found N A) (r : Option A) →
+      IsSearch place spot arcs found nodes stack → slice_get found (place h) ≡ Some No → IsSeen f → depth f ≡ length stack →
+      ((i : ℕ) (o : Open N A) → slice_get stack i ≡ Some o → Reaches arcs o.node h) → IsLatest spot arcs h (length arcs) r →
+      ((t : N) (a : A) (d : ℕ) → f ≡ Along t a d → IsArc arcs (spot a) t h ×
+      ((e : Found N A) × (slice_get found (place t) ≡ Some e) × IsSeen e × (depth e + 1 ≡ d))) →
+      IsSearch place spot arcs (set found (place h) f) nodes (stack ++ (record { node = h; next = r }) ∷ [])
   search-open found nodes stack h f r s absent seen-f deep to-h latest from = record {
     seen = λ x q. elim (cases_eq (place x) (place h)) [
       | inl e ↦ inr (length stack, new, slice_get-push_last stack new, sym (one x h e))
@@ -169,7 +182,13 @@ module _ {N A : Type 0} (place : N → ℕ) (spot : A → ℕ) (one : (u v : N) 
     nodes_seen = λ x q. found-more place found (place h) f x seen-f (s.nodes_seen x q);
     depths = λ k o at. elim (slice_get-push_cases stack new k o at) [
       | inl p ↦ (let d = s.depths k o p in (d.0, keep-seen found h o.node d.0 f absent d.1 d.2, d.2, d.3))
-      | inr p ↦ (f, subst (λ z. slice_get (set found (place h) f) (place z) ≡ Some f) (sym (ap (λ z. z.node) p.1)) (slice_get-set_same found (place h) f (slice_get-lt found (place h) No absent)), seen-f, deep ∙ sym p.0)
+      | inr p ↦ (
+        f,
+        subst (λ z. slice_get (set found (place h) f) (place z) ≡ Some f) (sym (ap (λ z. z.node) p.1))
+            (slice_get-set_same found (place h) f (slice_get-lt found (place h) No absent)),
+        seen-f,
+        deep ∙ sym p.0,
+      )
     ];
     apart = λ k o at q. elim (slice_get-push_cases stack new k o at) [
       | inl p ↦ s.apart k o p q
@@ -220,17 +239,29 @@ module _ {N A : Type 0} (place : N → ℕ) (spot : A → ℕ) (one : (u v : N) 
       first-arc (Some c) l b e = (l.1.0, subst (λ z. IsArc arcs (spot z) h l.1.0) (same_Some c b e) l.1.1)
 
   -- the next arc leads to a node that was found before
-  pub search-skip : (found : List (Found N A)) (nodes : List N) (rest : List (Open N A)) (top : Open N A) (a : A) (h : N) (f : Found N A) (r : Option A) → IsSearch place spot arcs found nodes (rest ++ top ∷ []) → top.next ≡ Some a → IsArc arcs (spot a) top.node h → slice_get found (place h) ≡ Some f → IsSeen f → IsLatest spot arcs top.node (spot a) r → IsSearch place spot arcs found nodes (rest ++ (record { node = top.node; next = r }) ∷ [])
+  pub search-skip : (found : List (Found N A)) (nodes : List N) (rest : List (Open N A)) (top : Open N A) (a : A) (h : N) (f : Found N A)
+      (r : Option A) → IsSearch place spot arcs found nodes (rest ++ top ∷ []) → top.next ≡ Some a → IsArc arcs (spot a) top.node h →
+      slice_get found (place h) ≡ Some f → IsSeen f → IsLatest spot arcs top.node (spot a) r →
+      IsSearch place spot arcs found nodes (rest ++ (record { node = top.node; next = r }) ∷ [])
   search-skip found nodes rest top a h f r s is-next arc at seen latest =
       subst (λ z. IsSearch place spot arcs found nodes z) (set_at rest top [] (record { node = top.node; next = r }) (length rest) refl)
       (search-advance found nodes (rest ++ top ∷ []) (length rest) top a h r s (slice_get-push_last rest top) is-next arc (f, at, seen) latest)
 
   -- the next arc leads to a node that was not found before
-  pub search-along : (found : List (Found N A)) (nodes : List N) (rest : List (Open N A)) (top : Open N A) (a : A) (h : N) (d : ℕ) (r b : Option A) → IsSearch place spot arcs found nodes (rest ++ top ∷ []) → top.next ≡ Some a → IsArc arcs (spot a) top.node h → slice_get found (place h) ≡ Some No → d ≡ length rest + 1 → IsLatest spot arcs top.node (spot a) r → IsLatest spot arcs h (length arcs) b → IsSearch place spot arcs (set found (place h) (Along top.node a d)) nodes ((rest ++ (record { node = top.node; next = r }) ∷ []) ++ (record { node = h; next = b }) ∷ [])
+  pub search-along : (found : List (Found N A)) (nodes : List N) (rest : List (Open N A)) (top : Open N A) (a : A) (h : N) (d : ℕ) (r b : Option A) →
+      IsSearch place spot arcs found nodes (rest ++ top ∷ []) → top.next ≡ Some a → IsArc arcs (spot a) top.node h →
+      slice_get found (place h) ≡ Some No → d ≡ length rest + 1 → IsLatest spot arcs top.node (spot a) r → IsLatest spot arcs h (length arcs) b →
+      IsSearch place spot arcs (set found (place h) (Along top.node a d)) nodes
+      ((rest ++ (record { node = top.node; next = r }) ∷ []) ++ (record { node = h; next = b }) ∷ [])
   search-along found nodes rest top a h d r b s is-next arc absent deep latest first =
       subst (λ z. IsSearch place spot arcs found' nodes z)
       (set-append_left (rest ++ top ∷ []) (new ∷ []) (length rest) top' inside ∙ ap (λ z. z ++ new ∷ []) (set_at rest top [] top' (length rest) refl))
-      (search-advance found' nodes ((rest ++ top ∷ []) ++ new ∷ []) (length rest) top a h r opened (slice_get-push_old (rest ++ top ∷ []) (new ∷ []) (length rest) top (slice_get-push_last rest top)) is-next arc (Along top.node a d, slice_get-set_same found (place h) (Along top.node a d) (slice_get-lt found (place h) No absent), tt) latest)
+      (search-advance found' nodes ((rest ++ top ∷ []) ++ new ∷ []) (length rest) top a h r opened
+      (slice_get-push_old (rest ++ top ∷ []) (new ∷ []) (length rest) top (slice_get-push_last rest top)) is-next arc (
+        Along top.node a d,
+        slice_get-set_same found (place h) (Along top.node a d) (slice_get-lt found (place h) No absent),
+        tt,
+      ) latest)
     where
       found' : List (Found N A)
       found' = set found (place h) (Along top.node a d)
@@ -255,21 +286,29 @@ module _ {N A : Type 0} (place : N → ℕ) (spot : A → ℕ) (one : (u v : N) 
           let t-is : top.node ≡ t = cc in
           let c-is : a ≡ c = cc in
           let e-is : d ≡ e = cc in
-          let w = s.depths (length rest) top (slice_get-push_last rest top) in
-          (subst (λ z. IsArc arcs (spot z) t h) c-is (subst (λ z. IsArc arcs (spot a) z h) t-is arc), (w.0, subst (λ z. slice_get found (place z) ≡ Some w.0) t-is w.1, w.2, ap (λ z. z + 1) w.3 ∙ sym deep ∙ e-is))
+          let w = s.depths (length rest) top (slice_get-push_last rest top) in (
+            subst (λ z. IsArc arcs (spot z) t h) c-is (subst (λ z. IsArc arcs (spot a) z h) t-is arc),
+            (w.0, subst (λ z. slice_get found (place z) ≡ Some w.0) t-is w.1, w.2, ap (λ z. z + 1) w.3 ∙ sym deep ∙ e-is),
+          )
 
       opened : IsSearch place spot arcs (set found (place h) (Along top.node a d)) nodes ((rest ++ top ∷ []) ++ (record { node = h; next = b }) ∷ [])
       opened = search-open found nodes (rest ++ top ∷ []) h (Along top.node a d) b s absent tt (deep ∙ sym (length_push rest top)) to-h first from
 
   -- the same, of lists that were made step by step
-  pub search-along_made : (found : List (Found N A)) (nodes : List N) (rest : List (Open N A)) (top : Open N A) (a : A) (h : N) (d : ℕ) (r b : Option A) → IsSearch place spot arcs found nodes (rest ++ top ∷ []) → top.next ≡ Some a → IsArc arcs (spot a) top.node h → (f : Found N A) → slice_get found (place h) ≡ Some f → f ≡ No → IsLatest spot arcs top.node (spot a) r → IsLatest spot arcs h (length arcs) b → (found' : List (Found N A)) (stack stack' : List (Open N A)) → stack ≡ rest ++ (record { node = top.node; next = r }) ∷ [] → d ≡ length stack → found' ≡ set found (place h) (Along top.node a d) → stack' ≡ stack ++ (record { node = h; next = b }) ∷ [] → IsSearch place spot arcs found' nodes stack'
+  pub search-along_made : (found : List (Found N A)) (nodes : List N) (rest : List (Open N A)) (top : Open N A) (a : A) (h : N) (d : ℕ)
+      (r b : Option A) → IsSearch place spot arcs found nodes (rest ++ top ∷ []) → top.next ≡ Some a → IsArc arcs (spot a) top.node h →
+      (f : Found N A) → slice_get found (place h) ≡ Some f → f ≡ No → IsLatest spot arcs top.node (spot a) r → IsLatest spot arcs h (length arcs) b →
+      (found' : List (Found N A)) (stack stack' : List (Open N A)) → stack ≡ rest ++ (record { node = top.node; next = r }) ∷ [] → d ≡ length stack →
+      found' ≡ set found (place h) (Along top.node a d) → stack' ≡ stack ++ (record { node = h; next = b }) ∷ [] →
+      IsSearch place spot arcs found' nodes stack'
   search-along_made found nodes rest top a h d r b s is-next arc f at absent latest first found' stack stack' e deep e-found e' =
       subst (λ z. IsSearch place spot arcs z nodes stack') (sym e-found)
       (subst (λ z. IsSearch place spot arcs (set found (place h) (Along top.node a d)) nodes z) (sym (e' ∙ ap (λ z. z ++ (record { node = h; next = b }) ∷ []) e))
       (search-along found nodes rest top a h d r b s is-next arc (at ∙ ap Some absent) (deep ∙ ap length e ∙ length_push rest _) latest first))
 
   -- the next arc leaves the node on top of the stack
-  pub search-arc : (found : List (Found N A)) (nodes : List N) (rest : List (Open N A)) (top : Open N A) (a : A) (t h : N) → IsSearch place spot arcs found nodes (rest ++ top ∷ []) → top.next ≡ Some a → IsArc arcs (spot a) t h → IsArc arcs (spot a) top.node h
+  pub search-arc : (found : List (Found N A)) (nodes : List N) (rest : List (Open N A)) (top : Open N A) (a : A) (t h : N) →
+      IsSearch place spot arcs found nodes (rest ++ top ∷ []) → top.next ≡ Some a → IsArc arcs (spot a) t h → IsArc arcs (spot a) top.node h
   search-arc found nodes rest top a t h s is-next arc =
       let w = s.next (length rest) top a (slice_get-push_last rest top) is-next in
       subst (λ z. IsArc arcs (spot a) z h) (sym ((same_arc arcs (spot a) top.node w.0 t h w.1 arc).0)) arc

@@ -62,7 +62,8 @@ module _ {N A : Type 0} (spot : A → ℕ) (arcs : List (N × N)) where
     between = λ k a u v at. (let bad : None ≡ Some a = at in cc);
   })
 
-  pub way-push : (start from to : N) (a : A) (nodes : List N) (steps : List A) → IsWay spot arcs start from nodes steps → IsArc arcs (spot a) from to → IsWay spot arcs start to (nodes ++ to ∷ []) (steps ++ a ∷ [])
+  pub way-push : (start from to : N) (a : A) (nodes : List N) (steps : List A) → IsWay spot arcs start from nodes steps →
+      IsArc arcs (spot a) from to → IsWay spot arcs start to (nodes ++ to ∷ []) (steps ++ a ∷ [])
   way-push start from to a nodes steps w arc =
       let n : length (nodes ++ to ∷ []) ≡ length nodes + 1 = length_push nodes to in
       let m : length (steps ++ a ∷ []) ≡ length steps + 1 = length_push steps a in
@@ -82,12 +83,15 @@ module _ {N A : Type 0} (spot : A → ℕ) (arcs : List (N × N)) where
           | inr p ↦ elim (slice_get-push_cases nodes to k u y) [
             | inl q ↦ elim (slice_get-push_cases nodes to (k + 1) v z) [
               | inl r ↦ (let lt : k + 1 < length nodes = slice_get-lt nodes (k + 1) v r in absurd (omega arith))
-              | inr r ↦ subst (λ t. IsArc arcs (spot b) u t) (sym r.1) (subst (λ t. IsArc arcs (spot t) u to) (sym p.1) (subst (λ t. IsArc arcs (spot a) t to) (same_Some from u (sym w.last ∙ subst (λ t. slice_get nodes t ≡ Some u) p.0 q)) arc))
+              | inr r ↦ subst (λ t. IsArc arcs (spot b) u t) (sym r.1)
+                  (subst (λ t. IsArc arcs (spot t) u to) (sym p.1)
+                  (subst (λ t. IsArc arcs (spot a) t to) (same_Some from u (sym w.last ∙ subst (λ t. slice_get nodes t ≡ Some u) p.0 q)) arc))
             ]
             | inr q ↦ absurd (omega arith)
           ]
         ];
       }
 
-  pub way-push_made : (start from to : N) (a : A) (nodes nodes' : List N) (steps steps' : List A) → IsWay spot arcs start from nodes steps → IsArc arcs (spot a) from to → nodes' ≡ nodes ++ to ∷ [] → steps' ≡ steps ++ a ∷ [] → IsWay spot arcs start to nodes' steps'
+  pub way-push_made : (start from to : N) (a : A) (nodes nodes' : List N) (steps steps' : List A) → IsWay spot arcs start from nodes steps →
+      IsArc arcs (spot a) from to → nodes' ≡ nodes ++ to ∷ [] → steps' ≡ steps ++ a ∷ [] → IsWay spot arcs start to nodes' steps'
   way-push_made start from to a nodes nodes' steps steps' w arc e e' = rw (e, e') (way-push start from to a nodes steps w arc)

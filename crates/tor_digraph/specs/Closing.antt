@@ -20,4 +20,5 @@ module _ {X : Type 0} where
 -- up to each node of the list, an arc leads to an earlier node or to one that reaches the node
 pub record IsClosing {N : Type 0} (arcs : List (N × N)) (nodes : List N) : Type 0 where
   pub once : IsOnce nodes
-  pub exits : (k : ℕ) (x : N) → slice_get nodes k ≡ Some x → (i : ℕ) (u v : N) → i ≤ k → slice_get nodes i ≡ Some u → HasArc arcs u v → HasBefore nodes k v ⊎ Reaches arcs v x
+  pub exits : (k : ℕ) (x : N) → slice_get nodes k ≡ Some x → (i : ℕ) (u v : N) → i ≤ k → slice_get nodes i ≡ Some u →
+      HasArc arcs u v → HasBefore nodes k v ⊎ Reaches arcs v x

@@ -23,17 +23,20 @@ module _ {N A : Type 0} where
   abbrev pub OnStack : List (Open N A) → N → Type 0
   OnStack stack x = (k : ℕ) × (o : Open N A) × (slice_get stack k ≡ Some o) × (o.node ≡ x)
 
-  pub record IsSearch (place : N → ℕ) (spot : A → ℕ) (arcs : List (N × N)) (found : List (Found N A)) (nodes : List N) (stack : List (Open N A)) : Type 0 where
+  pub record IsSearch (place : N → ℕ) (spot : A → ℕ) (arcs : List (N × N)) (found : List (Found N A)) (nodes : List N)
+      (stack : List (Open N A)) : Type 0 where
     pub seen : (x : N) → IsFound place found x → Has nodes x ⊎ OnStack stack x
     pub nodes_seen : (x : N) → Has nodes x → IsFound place found x
     -- a node stands on the stack as high as it is deep
-    pub depths : (k : ℕ) (o : Open N A) → slice_get stack k ≡ Some o → (f : Found N A) × (slice_get found (place o.node) ≡ Some f) × IsSeen f × (depth f ≡ k)
+    pub depths : (k : ℕ) (o : Open N A) → slice_get stack k ≡ Some o → (f : Found N A) ×
+        (slice_get found (place o.node) ≡ Some f) × IsSeen f × (depth f ≡ k)
     pub apart : (k : ℕ) (o : Open N A) → slice_get stack k ≡ Some o → Has nodes o.node → ⊥
     pub path : (i j : ℕ) (o p : Open N A) → i < j → slice_get stack i ≡ Some o → slice_get stack j ≡ Some p → Reaches arcs o.node p.node
     pub once : (i j : ℕ) (o p : Open N A) → i < j → slice_get stack i ≡ Some o → slice_get stack j ≡ Some p → o.node ≡ p.node → ⊥
     pub heads : (x y : N) → Has nodes x → HasArc arcs x y → IsFound place found y
     -- the arcs before the next one to look at lead to nodes that were found
-    pub scanned : (k : ℕ) (o : Open N A) → slice_get stack k ≡ Some o → (j : ℕ) (y : N) → IsArc arcs j o.node y → IsFound place found y ⊎ IsAhead spot o.next j
+    pub scanned : (k : ℕ) (o : Open N A) → slice_get stack k ≡ Some o → (j : ℕ) (y : N) → IsArc arcs j o.node y →
+        IsFound place found y ⊎ IsAhead spot o.next j
     pub next : (k : ℕ) (o : Open N A) (a : A) → slice_get stack k ≡ Some o → o.next ≡ Some a → (v : N) × IsArc arcs (spot a) o.node v
     pub order : IsClosing arcs nodes
     pub tree : HasTreeArcs place spot arcs found

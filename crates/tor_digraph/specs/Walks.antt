@@ -36,4 +36,5 @@ pub record IsWay {N A : Type 0} (spot : A → ℕ) (arcs : List (N × N)) (start
   pub one_more : length nodes ≡ length steps + 1
   pub first : slice_get nodes 0 ≡ Some start
   pub last : slice_get nodes (length steps) ≡ Some end
-  pub between : (k : ℕ) (a : A) (u v : N) → slice_get steps k ≡ Some a → slice_get nodes k ≡ Some u → slice_get nodes (k + 1) ≡ Some v → IsArc arcs (spot a) u v
+  pub between : (k : ℕ) (a : A) (u v : N) → slice_get steps k ≡ Some a → slice_get nodes k ≡ Some u →
+      slice_get nodes (k + 1) ≡ Some v → IsArc arcs (spot a) u v

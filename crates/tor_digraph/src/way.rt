@@ -33,7 +33,8 @@ fn go_back<N: Index, A: Index>(
     requires found { IsFound N.place_of found.now.items node }
     requires falls { IsFalling N.place_of found.now.items }
     ensures root { IfOk result (λ b. IsRoot N.place_of found.now.items b.root) }
-    ensures back { IfOk result (λ b. (arcs : List (N × N)) → HasTreeArcs N.place_of A.place_of arcs found.now.items → IsBack A.place_of arcs b.root node b.steps) }
+    ensures back { IfOk result (λ b. (arcs : List (N × N)) → HasTreeArcs N.place_of A.place_of arcs found.now.items →
+        IsBack A.place_of arcs b.root node b.steps) }
 {
     let mut root = node;
     let mut steps = List::new(alloc);
@@ -46,7 +47,8 @@ fn go_back<N: Index, A: Index>(
 
 /// The same steps, the other way round.
 fn reversed<N: Index, A: Index>(alloc: Global, back: Back<N, A>) -> Result<Way<N, A>, NoMemory>
-    ensures { IfOk result (λ w. (arcs : List (N × N)) (end : N) → IsBack A.place_of arcs back.root end back.steps → IsWay A.place_of arcs back.root end w.nodes w.arcs) }
+    ensures { IfOk result (λ w. (arcs : List (N × N)) (end : N) → IsBack A.place_of arcs back.root end back.steps →
+        IsWay A.place_of arcs back.root end w.nodes w.arcs) }
 {
     let Back { root, mut steps } = back;
     let mut nodes = List::new(alloc);

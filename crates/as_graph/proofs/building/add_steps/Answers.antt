@@ -11,4 +11,5 @@ add_step-requires-clause-room c =
 pub loop-at-preserved : goal.loop-at-preserved
 loop-at-preserved c =
     subst (Walked c.args.table.now c.add_step.new.table c.args.path.now (c.loop-at.at + 1)) (sym c.in_ok-push.ensures.ok)
-    (Walked-more c.args.table.now c.loop-at.table c.args.path.now c.loop-at.at c.loop-at.steps c.in_ok-step.step c.add_step.new.table c.loop-at.invariant c.loop-at-test.true c.in_ok-step.ensures.edge c.in_ok-step.ensures.step)
+    (Walked-more c.args.table.now c.loop-at.table c.args.path.now c.loop-at.at c.loop-at.steps c.in_ok-step.step c.add_step.new.table
+    c.loop-at.invariant c.loop-at-test.true c.in_ok-step.ensures.edge c.in_ok-step.ensures.step)

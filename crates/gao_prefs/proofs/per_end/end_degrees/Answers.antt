@@ -13,4 +13,5 @@ loop-place-preserved c =
     let count = c.edge_count-count.ensures.count in
     let within : place < length (edges paths) = omega (arith, test, count) in
     let pushed : c.push.new.self.items ≡ c.loop-place.degrees.items ++ record { low = degree paths edge.low; high = degree paths edge.high } ∷ [] = search rules in
-    degrees_more paths (edges paths) place edge.low edge.high c.loop-place.degrees.items c.push.new.self.items within (ap (slice_get (edges paths)) (sym same) ∙ c.edge-edge.ensures.pair) c.loop-place.invariant pushed
+    degrees_more paths (edges paths) place edge.low edge.high c.loop-place.degrees.items c.push.new.self.items within
+    (ap (slice_get (edges paths)) (sym same) ∙ c.edge-edge.ensures.pair) c.loop-place.invariant pushed

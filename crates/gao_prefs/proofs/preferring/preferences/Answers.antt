@@ -30,7 +30,7 @@ returns-clause-inside c k d lt =
     settled paths (paths_at paths c.args.kept.now) c.deref-2.result.now c.deref-3.result.now c.in_ok-prefs.prefs.items c.sort_by_lead.new.prefs.items c.from_vec.result
     (c.deref-2.ensures.value ∙ c.in_ok-votes.ensures.counted) (c.deref-3.ensures.value ∙ c.in_ok-degrees.ensures) c.in_ok-prefs.ensures.length c.in_ok-prefs.ensures.each
     c.sort_by_lead.ensures.same c.sort_by_lead.ensures.sorted c.from_vec.ensures in
-    (all.told k d lt).inside
+    (all.stated k d lt).inside
 
 pub returns-clause-apart : goal.returns-clause-apart
 returns-clause-apart c =
@@ -57,7 +57,7 @@ returns-clause-leans c k d lt =
     settled paths (paths_at paths c.args.kept.now) c.deref-2.result.now c.deref-3.result.now c.in_ok-prefs.prefs.items c.sort_by_lead.new.prefs.items c.from_vec.result
     (c.deref-2.ensures.value ∙ c.in_ok-votes.ensures.counted) (c.deref-3.ensures.value ∙ c.in_ok-degrees.ensures) c.in_ok-prefs.ensures.length c.in_ok-prefs.ensures.each
     c.sort_by_lead.ensures.same c.sort_by_lead.ensures.sorted c.from_vec.ensures in
-    (all.told k d lt).leans
+    (all.stated k d lt).leans
 
 pub returns-clause-wanted : goal.returns-clause-wanted
 returns-clause-wanted c k d lt =
@@ -66,4 +66,4 @@ returns-clause-wanted c k d lt =
     settled paths (paths_at paths c.args.kept.now) c.deref-2.result.now c.deref-3.result.now c.in_ok-prefs.prefs.items c.sort_by_lead.new.prefs.items c.from_vec.result
     (c.deref-2.ensures.value ∙ c.in_ok-votes.ensures.counted) (c.deref-3.ensures.value ∙ c.in_ok-degrees.ensures) c.in_ok-prefs.ensures.length c.in_ok-prefs.ensures.each
     c.sort_by_lead.ensures.same c.sort_by_lead.ensures.sorted c.from_vec.ensures in
-    (all.told k d lt).wants
+    (all.stated k d lt).wants

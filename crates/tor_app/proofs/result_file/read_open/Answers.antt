@@ -10,7 +10,8 @@ parts-preserved g c =
     let new = c.extend_from_slice.new.self in
     let part = take c.in_ok-count.count c.read_prefix.new.buffer in
     let size : length c.read_prefix.new.buffer ≡ c.parts.buffer.len = omega (arith, c.in_ok-count.ensures.same_length, c.as_mut_slice.ensures.len) in
-    let buffer : c.deref.result.now ≡ c.read_prefix.new.buffer = c.deref.ensures.value ∙ take_at c.read_prefix.new.buffer (drop (length c.read_prefix.new.buffer) c.parts.buffer.items) c.parts.buffer.len size in
+    let buffer : c.deref.result.now ≡ c.read_prefix.new.buffer = c.deref.ensures.value ∙
+    take_at c.read_prefix.new.buffer (drop (length c.read_prefix.new.buffer) c.parts.buffer.items) c.parts.buffer.len size in
     let gains : new ≡ old ++ part = c.in_ok-extend_from_slice.ensures.ok ∙ ap (λ (t : List ℕ). old ++ take c.in_ok-count.count t) buffer in
     record {
       taken = gathered_more (left c.args.shelf.now) (left c.parts.shelf) (left c.read_prefix.new.shelf) old part new c.parts.invariant.taken c.in_ok-count.ensures.taken gains;

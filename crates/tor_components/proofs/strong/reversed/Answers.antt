@@ -11,4 +11,5 @@ loop-place-preserved g c =
     (g.A.Index.place_of c.unwrap-arc.result) at c.ends-tail.ensures.arc
 
 pub returns : goal.returns
-returns g c = reversed-done c.args.graph.now c.loop-place.other c.loop-place.other c.loop-place.place (let e : c.arc_count-place-end.result ≡ length c.args.graph.now.arcs = c.arc_count-place-end.ensures.arcs in omega arith) c.loop-place.invariant
+returns g c = reversed-done c.args.graph.now c.loop-place.other c.loop-place.other c.loop-place.place
+    (let e : c.arc_count-place-end.result ≡ length c.args.graph.now.arcs = c.arc_count-place-end.ensures.arcs in omega arith) c.loop-place.invariant

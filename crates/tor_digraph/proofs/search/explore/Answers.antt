@@ -4,12 +4,15 @@ use Rattle.tor_digraph.proofs.search.explore.Goals as goal
 
 pub search-requires-clause-search : goal.search-requires-clause-search
 search-requires-clause-search g c =
-    search-start g.N.Index.place_of g.A.Index.place_of g.met.N.Index.is_one c.args.graph.now.arcs c.args.found.now.items c.args.nodes.now c.args.start c.first_arc-next.result c.requires.search c.requires.absent c.first_arc-next.ensures
+    search-start g.N.Index.place_of g.A.Index.place_of g.met.N.Index.is_one c.args.graph.now.arcs c.args.found.now.items c.args.nodes.now c.args.start
+    c.first_arc-next.result c.requires.search c.requires.absent c.first_arc-next.ensures
     _ _ _ c.put.ensures.items c.clear.ensures c.in_ok-push.ensures.ok
 
 pub returns-clause-growth : goal.returns-clause-growth
 returns-clause-growth g c =
-    on_ok_weaker c.search.result (λ w. w c.args.start c.args.nodes.now (growth-start c.args.graph.now.arcs c.args.nodes.now c.args.start c.first_arc-next.result _ _ c.clear.ensures c.in_ok-push.ensures.ok)) c.search.ensures.growth
+    on_ok_weaker c.search.result (λ w. w c.args.start c.args.nodes.now
+    (growth-start c.args.graph.now.arcs c.args.nodes.now c.args.start c.first_arc-next.result _ _ c.clear.ensures c.in_ok-push.ensures.ok))
+    c.search.ensures.growth
 
 pub returns-clause-found : goal.returns-clause-found
 returns-clause-found g c =

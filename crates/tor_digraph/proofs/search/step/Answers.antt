@@ -16,16 +16,30 @@ next_arc-next-requires g c = slice_get-lt c.args.graph.now.arcs (g.A.Index.place
 
 pub overflow_cast-along : goal.overflow_cast-along
 overflow_cast-along g c =
-    let few = stack-few g.N.Index.place_of g.A.Index.place_of g.met.N.Index.is_one c.args.graph.now.arcs c.args.found.now.items c.args.nodes.now (c.args.stack.now ++ c.args.top ∷ []) c.requires.search in
-    omega (arith, few, length_push c.args.stack.now c.args.top, c.requires.few, g.met.N.Index.is_short, c.requires.many, c.len.ensures, ap length c.in_ok-push-in-Some.ensures.ok, length_push c.args.stack.now (record { node = c.args.top.node; next = c.next_arc-next.result }))
+    let few = stack-few g.N.Index.place_of g.A.Index.place_of g.met.N.Index.is_one c.args.graph.now.arcs c.args.found.now.items c.args.nodes.now
+    (c.args.stack.now ++ c.args.top ∷ []) c.requires.search in
+    omega (
+      arith,
+      few,
+      length_push c.args.stack.now c.args.top,
+      c.requires.few,
+      g.met.N.Index.is_short,
+      c.requires.many,
+      c.len.ensures,
+      ap length c.in_ok-push-in-Some.ensures.ok,
+      length_push c.args.stack.now (record { node = c.args.top.node; next = c.next_arc-next.result }),
+    )
 
 pub returns-in-No-clause-later : goal.returns-in-No-clause-later
-returns-in-No-clause-later g c = on_ok_weaker c.push-in-No.result (λ _. later-along g.N.Index.place_of c.args.found.now.items c.put.new.self.items (g.N.Index.place_of c.ends.result.1) c.args.top.node c.in-Some.arc c.len.result c.put.ensures.items) c.push-in-No.ensures.ok
+returns-in-No-clause-later g c =
+    on_ok_weaker c.push-in-No.result (λ _. later-along g.N.Index.place_of c.args.found.now.items c.put.new.self.items
+    (g.N.Index.place_of c.ends.result.1) c.args.top.node c.in-Some.arc c.len.result c.put.ensures.items) c.push-in-No.ensures.ok
 
 pub returns-in-None-clause-search : goal.returns-in-None-clause-search
 returns-in-None-clause-search g c =
     on_ok_weaker c.push.result
-    (λ e. rw e (search-close g.N.Index.place_of g.A.Index.place_of g.met.N.Index.is_one c.args.graph.now.arcs c.args.found.now.items c.args.nodes.now c.args.stack.now c.args.top c.requires.search c.in-None.is))
+    (λ e. rw e (search-close g.N.Index.place_of g.A.Index.place_of g.met.N.Index.is_one c.args.graph.now.arcs c.args.found.now.items c.args.nodes.now
+    c.args.stack.now c.args.top c.requires.search c.in-None.is))
     c.push.ensures.ok
 
 pub returns-in-None-clause-growth : goal.returns-in-None-clause-growth
@@ -36,38 +50,47 @@ returns-in-None-clause-growth g c =
 
 pub returns-in-No-clause-search : goal.returns-in-No-clause-search
 returns-in-No-clause-search g c =
-    let arc = search-arc g.N.Index.place_of g.A.Index.place_of g.met.N.Index.is_one c.args.graph.now.arcs c.args.found.now.items c.args.nodes.now c.args.stack.now c.args.top c.in-Some.arc c.ends.result.0 c.ends.result.1 c.requires.search c.in-Some.is c.ends.ensures.arc in
+    let arc = search-arc g.N.Index.place_of g.A.Index.place_of g.met.N.Index.is_one c.args.graph.now.arcs c.args.found.now.items c.args.nodes.now
+    c.args.stack.now c.args.top c.in-Some.arc c.ends.result.0 c.ends.result.1 c.requires.search c.in-Some.is c.ends.ensures.arc in
     on_ok_weaker c.push-in-No.result
-    (search-along_made g.N.Index.place_of g.A.Index.place_of g.met.N.Index.is_one c.args.graph.now.arcs c.args.found.now.items c.args.nodes.now c.args.stack.now c.args.top c.in-Some.arc c.ends.result.1 c.len.result c.next_arc-next.result c.first_arc-first.result
+    (search-along_made g.N.Index.place_of g.A.Index.place_of g.met.N.Index.is_one c.args.graph.now.arcs c.args.found.now.items c.args.nodes.now
+    c.args.stack.now c.args.top c.in-Some.arc c.ends.result.1 c.len.result c.next_arc-next.result c.first_arc-first.result
     c.requires.search c.in-Some.is arc c.get.result.now c.get.ensures c.in-No.is (c.next_arc-next.ensures c.args.top.node c.ends.result.1 arc) c.first_arc-first.ensures
     _ _ _ c.in_ok-push-in-Some.ensures.ok c.len.ensures c.put.ensures.items)
     c.push-in-No.ensures.ok
 
 pub returns-in-No-clause-less : goal.returns-in-No-clause-less
 returns-in-No-clause-less g c =
-    let arc = search-arc g.N.Index.place_of g.A.Index.place_of g.met.N.Index.is_one c.args.graph.now.arcs c.args.found.now.items c.args.nodes.now c.args.stack.now c.args.top c.in-Some.arc c.ends.result.0 c.ends.result.1 c.requires.search c.in-Some.is c.ends.ensures.arc in
+    let arc = search-arc g.N.Index.place_of g.A.Index.place_of g.met.N.Index.is_one c.args.graph.now.arcs c.args.found.now.items c.args.nodes.now
+    c.args.stack.now c.args.top c.in-Some.arc c.ends.result.0 c.ends.result.1 c.requires.search c.in-Some.is c.ends.ensures.arc in
     on_ok_weaker c.push-in-No.result
-    (work-along_made g.A.Index.place_of c.args.graph.now.arcs c.args.found.now.items c.args.stack.now c.args.top c.in-Some.arc (g.N.Index.place_of c.ends.result.1) c.args.top.node c.ends.result.1 c.len.result c.next_arc-next.result c.first_arc-first.result
+    (work-along_made g.A.Index.place_of c.args.graph.now.arcs c.args.found.now.items c.args.stack.now c.args.top c.in-Some.arc
+    (g.N.Index.place_of c.ends.result.1) c.args.top.node c.ends.result.1 c.len.result c.next_arc-next.result c.first_arc-first.result
     c.in-Some.is c.get.result.now c.get.ensures c.in-No.is (c.next_arc-next.ensures c.args.top.node c.ends.result.1 arc) c.first_arc-first.ensures
     _ _ _ c.in_ok-push-in-Some.ensures.ok c.put.ensures.items)
     c.push-in-No.ensures.ok
 
 pub returns-in-No-clause-growth : goal.returns-in-No-clause-growth
 returns-in-No-clause-growth g c =
-    let arc = search-arc g.N.Index.place_of g.A.Index.place_of g.met.N.Index.is_one c.args.graph.now.arcs c.args.found.now.items c.args.nodes.now c.args.stack.now c.args.top c.in-Some.arc c.ends.result.0 c.ends.result.1 c.requires.search c.in-Some.is c.ends.ensures.arc in
+    let arc = search-arc g.N.Index.place_of g.A.Index.place_of g.met.N.Index.is_one c.args.graph.now.arcs c.args.found.now.items c.args.nodes.now
+    c.args.stack.now c.args.top c.in-Some.arc c.ends.result.0 c.ends.result.1 c.requires.search c.in-Some.is c.ends.ensures.arc in
     on_ok_weaker c.push-in-No.result
-    (λ e start old w. growth-along_made c.args.graph.now.arcs start old c.args.nodes.now c.args.stack.now c.args.top _ _ (g.A.Index.place_of c.in-Some.arc) refl arc _ _ c.in_ok-push-in-Some.ensures.ok e w)
+    (λ e start old w. growth-along_made c.args.graph.now.arcs start old c.args.nodes.now c.args.stack.now c.args.top _ _
+    (g.A.Index.place_of c.in-Some.arc) refl arc _ _ c.in_ok-push-in-Some.ensures.ok e w)
     c.push-in-No.ensures.ok
 
 pub returns-in_default : goal.returns-in_default
 returns-in_default g c =
-    let arc = search-arc g.N.Index.place_of g.A.Index.place_of g.met.N.Index.is_one c.args.graph.now.arcs c.args.found.now.items c.args.nodes.now c.args.stack.now c.args.top c.in-Some.arc c.ends.result.0 c.ends.result.1 c.requires.search c.in-Some.is c.ends.ensures.arc in
+    let arc = search-arc g.N.Index.place_of g.A.Index.place_of g.met.N.Index.is_one c.args.graph.now.arcs c.args.found.now.items c.args.nodes.now
+    c.args.stack.now c.args.top c.in-Some.arc c.ends.result.0 c.ends.result.1 c.requires.search c.in-Some.is c.ends.ensures.arc in
     let latest = c.next_arc-next.ensures c.args.top.node c.ends.result.1 arc in
     record {
       many = c.requires.many;
-      search = rw c.in_ok-push-in-Some.ensures.ok (search-skip g.N.Index.place_of g.A.Index.place_of g.met.N.Index.is_one c.args.graph.now.arcs c.args.found.now.items c.args.nodes.now c.args.stack.now c.args.top c.in-Some.arc c.ends.result.1 c.get.result.now c.next_arc-next.result
+      search = rw c.in_ok-push-in-Some.ensures.ok (search-skip g.N.Index.place_of g.A.Index.place_of g.met.N.Index.is_one c.args.graph.now.arcs
+          c.args.found.now.items c.args.nodes.now c.args.stack.now c.args.top c.in-Some.arc c.ends.result.1 c.get.result.now c.next_arc-next.result
           c.requires.search c.in-Some.is arc c.get.ensures (seen-not_no c.get.result.now c.in_default.not-No) latest);
       later = later-refl g.N.Index.place_of c.args.found.now.items;
-      less = rw c.in_ok-push-in-Some.ensures.ok (work-skip g.A.Index.place_of c.args.graph.now.arcs c.args.found.now.items c.args.stack.now c.args.top c.in-Some.arc c.next_arc-next.result c.in-Some.is latest);
+      less = rw c.in_ok-push-in-Some.ensures.ok (work-skip g.A.Index.place_of c.args.graph.now.arcs c.args.found.now.items c.args.stack.now c.args.top
+          c.in-Some.arc c.next_arc-next.result c.in-Some.is latest);
       growth = λ start old w. rw c.in_ok-push-in-Some.ensures.ok (growth-skip c.args.graph.now.arcs start old c.args.nodes.now c.args.stack.now c.args.top _ refl w);
     }

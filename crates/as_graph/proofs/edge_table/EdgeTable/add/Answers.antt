@@ -16,4 +16,5 @@ invariant_of-self-then-is_new c =
     subst (λ counts. CountsOneMore counts c.args.low c.count_end.new.counts.entries) c.reserve.ensures.entries c.count_end.ensures.counted in
     let room : length pairs < 2 ^ 26 = subst (λ es. length es < 2 ^ 26) (sym c.self.view_is) c.requires.room in
     subst (λ es. IsTable es c.count_end-then-is_new.new.counts.entries) (sym keys)
-    (IsTable-push pairs c.self.inside.counts.entries c.count_end.new.counts.entries c.count_end-then-is_new.new.counts.entries c.args.low c.args.high c.self.invariant c.requires.order room once c.count_end-then-is_new.ensures.counted)
+    (IsTable-push pairs c.self.inside.counts.entries c.count_end.new.counts.entries c.count_end-then-is_new.new.counts.entries c.args.low c.args.high
+    c.self.invariant c.requires.order room once c.count_end-then-is_new.ensures.counted)

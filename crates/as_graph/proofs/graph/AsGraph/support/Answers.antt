@@ -42,4 +42,5 @@ loop-path-preserved c =
     let within : id < length paths = subst (λ k. k < length paths) (sym c.path-item.is) (c.requires.there c.loop-path.path-index id c.loop-path-test.true) in
     let apart : AllDistinct (path_at paths id) = All-get_or AllDistinct paths id [] within c.facts.ensures.apart in
     counts_more paths kept c.loop-path.path-index id (edges paths) c.steps.result.now c.loop-path.counts.items c.count_steps.new.counts.items
-    (NoneTwice-distinct (flat_map edges_on paths)) c.loop-path-test.true (sym c.path-item.is) apart c.steps.ensures.steps c.loop-path.invariant c.count_steps.ensures.length c.count_steps.ensures.counted
+    (NoneTwice-distinct (flat_map edges_on paths)) c.loop-path-test.true (sym c.path-item.is) apart c.steps.ensures.steps c.loop-path.invariant
+    c.count_steps.ensures.length c.count_steps.ensures.counted

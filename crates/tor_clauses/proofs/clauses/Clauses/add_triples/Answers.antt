@@ -26,7 +26,8 @@ loop-next-preserved c =
     (subst (λ n. c.index-steps-next-in-loop-next.result ≡ get_or c.steps-steps.result.now n c.index-steps-next-in-loop-next.result) (sym next) c.index-steps-next-in-loop-next.is) in
     let there = triple_by_steps c.args.graph.now c.args.path c.steps-steps.result.now c.steps-steps.ensures.steps k c.index-steps-next.result c.index-steps-next-in-loop-next.result s t in
     let at : 2 + k ≡ c.loop-next.next + 1 = omega (arith, from) in
-    let is : triple_by c.args.path (2 + k) c.index-steps-next.result c.index-steps-next-in-loop-next.result ≡ triple_with c.args.path (c.loop-next.next + 1) c.of_step.result c.of_step-in-loop-next.result =
+    let is : triple_by c.args.path (2 + k) c.index-steps-next.result c.index-steps-next-in-loop-next.result ≡ triple_with c.args.path
+    (c.loop-next.next + 1) c.of_step.result c.of_step-in-loop-next.result =
     ap (λ n. triple_by c.args.path n c.index-steps-next.result c.index-steps-next-in-loop-next.result) at ∙
     ap₂ (triple_with c.args.path (c.loop-next.next + 1)) (sym c.of_step.ensures) (sym c.of_step-in-loop-next.ensures) in
     let one = added_one c.args.self.now c.loop-next.self c.add_triple.new.self (triples_on c.args.graph.now c.args.path) k

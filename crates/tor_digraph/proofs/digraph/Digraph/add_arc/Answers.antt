@@ -10,7 +10,8 @@ invariant_of-self-in_err-reserve-2 g c = rw (c.reserve.ensures.items, c.reserve-
 
 pub invariant_of-self-2 : goal.invariant_of-self-2
 invariant_of-self-2 g c =
-    linked-add_made g.N.Index.place_of g.A.Index.place_of g.met.N.Index.is_one c.self.inside.first.items c.self.inside.ends.items c.self.inside.links.items c.args.tail c.args.head c.push_reserved-arc.result c.get-link.result.now c.self.invariant
+    linked-add_made g.N.Index.place_of g.A.Index.place_of g.met.N.Index.is_one c.self.inside.first.items c.self.inside.ends.items
+    c.self.inside.links.items c.args.tail c.args.head c.push_reserved-arc.result c.get-link.result.now c.self.invariant
     (subst (λ v. g.N.Index.place_of c.args.tail < v.nodes) (sym c.self.view_is) c.requires.tail)
     (subst (λ v. g.N.Index.place_of c.args.head < v.nodes) (sym c.self.view_is) c.requires.head)
     _ _ c.reserve.ensures.items c.reserve-2.ensures.items c.push_reserved-arc.ensures.index c.get-link.ensures

@@ -8,11 +8,14 @@ use Rattle.tor_digraph.proofs.digraph.Digraph.arcs_from.Goals as goal
 
 pub returns-clause-arcs : goal.returns-clause-arcs
 returns-clause-arcs g c = subst (λ v. arcs_on g.N.Index.place_of g.A.Index.place_of v.arcs c.get.result.now ≡ arcs_below g.N.Index.place_of v.arcs c.args.node (length v.arcs)) c.self.view_is
-    (on-latest g.N.Index.place_of g.met.N.Index.is_one g.A.Index.place_of c.self.inside.ends.items c.args.node (length c.self.inside.ends.items) c.get.result.now (c.self.invariant.latest c.args.node c.get.result.now c.get.ensures))
+    (on-latest g.N.Index.place_of g.met.N.Index.is_one g.A.Index.place_of c.self.inside.ends.items c.args.node (length c.self.inside.ends.items)
+    c.get.result.now (c.self.invariant.latest c.args.node c.get.result.now c.get.ensures))
 
 pub returns-clause-exact : goal.returns-clause-exact
-returns-clause-exact g c = subst (λ v. (k : ℕ) (h : g.row.N.Denot) → Contains (arcs_on g.N.Index.place_of g.A.Index.place_of v.arcs c.get.result.now) (k, h) ↔ IsArc v.arcs k c.args.node h) c.self.view_is
-    (on-exact_Contains g.N.Index.place_of g.met.N.Index.is_one g.A.Index.place_of c.self.inside.ends.items c.args.node c.get.result.now (c.self.invariant.latest c.args.node c.get.result.now c.get.ensures))
+returns-clause-exact g c = subst (λ v. (k : ℕ) (h : g.row.N.Denot) → Contains (arcs_on g.N.Index.place_of g.A.Index.place_of v.arcs c.get.result.now)
+    (k, h) ↔ IsArc v.arcs k c.args.node h) c.self.view_is
+    (on-exact_Contains g.N.Index.place_of g.met.N.Index.is_one g.A.Index.place_of c.self.inside.ends.items c.args.node c.get.result.now
+    (c.self.invariant.latest c.args.node c.get.result.now c.get.ensures))
 
 pub returns-clause-once : goal.returns-clause-once
 returns-clause-once g c = subst (λ v. IsOnce (arcs_on g.N.Index.place_of g.A.Index.place_of v.arcs c.get.result.now)) c.self.view_is
@@ -20,4 +23,5 @@ returns-clause-once g c = subst (λ v. IsOnce (arcs_on g.N.Index.place_of g.A.In
 
 pub returns-clause-can : goal.returns-clause-can
 returns-clause-can g c = subst (λ v. IfSome c.get.result.now (λ a. g.A.Index.place_of a < length v.arcs)) c.self.view_is
-    (latest-can g.N.Index.place_of g.met.N.Index.is_one g.A.Index.place_of c.self.inside.ends.items c.args.node (length c.self.inside.ends.items) c.get.result.now (c.self.invariant.latest c.args.node c.get.result.now c.get.ensures))
+    (latest-can g.N.Index.place_of g.met.N.Index.is_one g.A.Index.place_of c.self.inside.ends.items c.args.node (length c.self.inside.ends.items)
+    c.get.result.now (c.self.invariant.latest c.args.node c.get.result.now c.get.ensures))

@@ -6,7 +6,8 @@ use Rattle.tor_digraph.proofs.Searches.{kept-search, kept-absent, search-kept, s
 use Rattle.tor_digraph.proofs.reached.Reached.grow.Goals as goal
 
 pub explore-done-requires-clause-search : goal.explore-done-requires-clause-search
-explore-done-requires-clause-search g c = kept-search g.N.Index.place_of g.A.Index.place_of g.met.N.Index.is_one c.args.graph.now.arcs c.self.inside.found.items c.self.inside.nodes c.args.graph.now.nodes c.args.self.now c.self.invariant c.self.view_is c.requires.searched
+explore-done-requires-clause-search g c = kept-search g.N.Index.place_of g.A.Index.place_of g.met.N.Index.is_one c.args.graph.now.arcs
+    c.self.inside.found.items c.self.inside.nodes c.args.graph.now.nodes c.args.self.now c.self.invariant c.self.view_is c.requires.searched
 
 pub explore-done-requires-clause-absent : goal.explore-done-requires-clause-absent
 explore-done-requires-clause-absent g c = kept-absent g.N.Index.place_of c.self.inside.found.items c.self.inside.nodes c.args.self.now c.args.start c.self.invariant c.self.view_is
@@ -14,7 +15,8 @@ explore-done-requires-clause-absent g c = kept-absent g.N.Index.place_of c.self.
     (λ h. false≢true (sym c.if-has.false ∙ c.has.ensures.1 (Contains-from_has c.args.self.now.nodes c.args.start h)))
 
 pub returns-in-Ok-clause-searched : goal.returns-in-Ok-clause-searched
-returns-in-Ok-clause-searched g c = search-searched g.N.Index.place_of g.A.Index.place_of g.met.N.Index.is_one c.args.graph.now.arcs _ _ c.args.graph.now.nodes c.in-Ok.ensures.search c.explore-done.ensures.many
+returns-in-Ok-clause-searched g c = search-searched g.N.Index.place_of g.A.Index.place_of g.met.N.Index.is_one c.args.graph.now.arcs _ _
+    c.args.graph.now.nodes c.in-Ok.ensures.search c.explore-done.ensures.many
 
 pub returns-in-Ok-clause-grown : goal.returns-in-Ok-clause-grown
 returns-in-Ok-clause-grown g c = subst (λ v. IsGrown c.args.graph.now.arcs c.args.start v.nodes c.explore-done.new.nodes) c.self.view_is

@@ -10,5 +10,8 @@ returns-then-place-len g c =
     ((λ t. w.0 (c.is_seen.ensures.0 t)), (λ h. c.is_seen.ensures.1 (w.1 h)))
 
 pub returns-else-place-len : goal.returns-else-place-len
-returns-else-place-len g c =
-    ((λ t. absurd (false≢true t)), (λ h. absurd (kept-has_not g.N.Index.place_of c.self.inside.found.items c.self.inside.nodes c.args.self.now c.args.node c.self.invariant c.self.view_is (omega arith) h)))
+returns-else-place-len g c = (
+  (λ t. absurd (false≢true t)),
+  (λ h. absurd (kept-has_not g.N.Index.place_of c.self.inside.found.items c.self.inside.nodes c.args.self.now
+      c.args.node c.self.invariant c.self.view_is (omega arith) h)),
+)

@@ -19,7 +19,8 @@ put-requires g c = c.loop-node.invariant.inside c.in-Some.node (subst (λ z. Has
 pub loop-node-preserved : goal.loop-node-preserved
 loop-node-preserved g c = record {
   inside = λ x h. rw (c.put.ensures.items, length-set) (c.loop-node.invariant.inside x (subst (λ z. Has z x) (sym c.in-Some.ensures) (has-old c.pop.new.self (c.in-Some.node ∷ []) x h)));
-  seen = blank-pop g.N.Index.place_of g.met.N.Index.is_one c.loop-node.self-inside.found.items c.put.new.self.items c.loop-node.self-inside.nodes c.pop.new.self c.in-Some.node c.in-Some.ensures c.put.ensures.items c.loop-node.invariant.seen;
+  seen = blank-pop g.N.Index.place_of g.met.N.Index.is_one c.loop-node.self-inside.found.items c.put.new.self.items c.loop-node.self-inside.nodes
+      c.pop.new.self c.in-Some.node c.in-Some.ensures c.put.ensures.items c.loop-node.invariant.seen;
 }
 
 pub invariant_of-self : goal.invariant_of-self
