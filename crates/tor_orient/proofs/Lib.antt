@@ -1,0 +1,4 @@
+pub mod Models
+pub mod Preferences
+pub mod Settled
+pub mod WishLemmas

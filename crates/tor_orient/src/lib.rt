@@ -1,0 +1,10 @@
+//! The preferred orientation: edges are settled in a given order, and each gets the provider that it wants, if some orientation that
+//! serves the paths agrees with that and with all edges before it.
+#![tactic(auto)]
+
+mod orienting;
+mod settling;
+#[cfg(test)]
+mod tests;
+
+pub use orienting::orient;

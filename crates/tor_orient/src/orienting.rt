@@ -1,0 +1,86 @@
+ghost use Rattle.std.specs.Prelude.{◌≡◌, ◌<◌, ◌^◌, ◌↔◌, ℕ, All, Contains, length, map, IfOk};
+ghost use Rattle.relationships.specs.declared.label.End.{End};
+ghost use Rattle.relationships.specs.Graph.{Edge, edges, orientation};
+ghost use Rattle.relationships.specs.Selection.{IsServable};
+ghost use Rattle.relationships.specs.Preference.{IsPreferred};
+ghost use Rattle.tor_arena.specs.Distinct.{AllDistinct};
+ghost use Rattle.as_graph.specs.Paths.{paths_at};
+ghost use Rattle.gao_prefs.specs.Preferences.{edges_of};
+ghost use Rattle.tor_clauses.specs.Formulas.{FitsGraph, IsServed};
+ghost use Rattle.tor_orient.specs.Wishes.{wish, AreWishes};
+ghost use Rattle.tor_orient.specs.Steps.{IsEndOf, AreEndsOf};
+
+use crate::settling::settle_all;
+use as_graph::{AsGraph, Orientation};
+use gao_prefs::Pref;
+use relationships::End;
+use std::alloc::Global;
+use tor_arena::{ArcId, EdgeId, Index, NoMemory, NodeId};
+use tor_clauses::{Clauses, Lit, model_law};
+use tor_digraph::Reached;
+
+/// The end that is settled of an edge, and the lower where none is. It takes no memory.
+fn settled_end(settled: &Reached<NodeId, ArcId>, edge: EdgeId) -> End
+    requires { edge < 2 ^ 27 }
+    ensures { IsEndOf settled.now.nodes edge result }
+{
+    let high = Lit {
+        edge,
+        over: End::High,
+    };
+    if settled.has(high.node()) {
+        End::High
+    } else {
+        End::Low
+    }
+}
+
+/// The ends that are settled, so many.
+fn settled_ends(
+    alloc: Global,
+    settled: &Reached<NodeId, ArcId>,
+    count: usize,
+) -> Result<Vec<End>, NoMemory>
+    requires { count < 2 ^ 26 }
+    ensures many { IfOk result (λ ends. length ends.items ≡ count) }
+    ensures ends { IfOk result (λ ends. AreEndsOf settled.now.nodes ends.items) }
+{
+    let mut ends = Vec::with_capacity(alloc, count)?;
+    for place in 0..count {
+        let edge = EdgeId::from_place(place).unwrap();
+        ends.push(settled_end(settled, edge))?;
+    }
+    Ok(ends)
+}
+
+/// The preferred orientation: edges are settled in the order of the preferences. Each gets the end that its preference wants, if some
+/// orientation that serves the paths of the clauses agrees with that and with all edges settled before, and else its other end. The
+/// clauses have to fit the graph, some orientation has to serve their paths, and each edge stands exactly once in the preferences,
+/// which name no other. The orientation has one end for each edge, and serves the paths of the clauses. The only error is that memory
+/// ran out.
+///
+/// Of an edge that is not settled, the literal that is wanted is tried by a search that does not go on past what is settled. It can be
+/// added, with all that follows from it, exactly if the search does not come to its opposite.
+pub fn orient(
+    alloc: Global,
+    graph: &AsGraph,
+    clauses: &Clauses,
+    prefs: &[Pref],
+) -> Result<Orientation, NoMemory>
+    requires fits { FitsGraph graph.now clauses.now }
+    requires servable { IsServable (paths_at graph.now clauses.now.paths) }
+    requires inside { All (λ pref. pref.edge < length (edges graph.now)) prefs.now }
+    requires apart { AllDistinct (map (λ pref. pref.edge) prefs.now) }
+    requires each { (e : Edge) → Contains (edges graph.now) e ↔ Contains (edges_of (edges graph.now) prefs.now) e }
+    ensures many { IfOk result (λ ends. length ends ≡ length (edges graph.now)) }
+    ensures serves { IfOk result (IsServed graph.now clauses.now.paths) }
+    ensures preferred { IfOk result (λ ends. IsPreferred (paths_at graph.now clauses.now.paths) (wish (edges graph.now) prefs.now) (edges_of (edges graph.now) prefs.now) (orientation (edges graph.now) ends)) }
+    ensures wishes { IfOk result (λ ends. (wanted : Edge → End) → AreWishes (edges graph.now) prefs.now wanted → IsPreferred (paths_at graph.now clauses.now.paths) wanted (edges_of (edges graph.now) prefs.now) (orientation (edges graph.now) ends)) }
+{
+    graph.facts();
+    clauses.facts();
+    model_law();
+    let settled = settle_all(alloc, graph, clauses, prefs)?;
+    let ends = settled_ends(alloc, &settled, graph.edge_count())?;
+    Orientation::from_ends(alloc, ends.as_slice())
+}

@@ -1,0 +1,71 @@
+ghost use Rattle.std.specs.Prelude.{◌≡◌, ◌<◌, ◌^◌, ℕ, All, length, OnOk, IfOk};
+ghost use Rattle.relationships.specs.Selection.{IsServable};
+ghost use Rattle.relationships.specs.Graph.{edges};
+ghost use Rattle.as_graph.specs.Paths.{paths_at};
+ghost use Rattle.tor_clauses.specs.Formulas.{FitsGraph};
+ghost use Rattle.tor_orient.specs.Steps.{node_wanted, IsClosed, IsSettledBy, AreSettled};
+
+use as_graph::AsGraph;
+use gao_prefs::Pref;
+use std::alloc::Global;
+use tor_arena::{ArcId, NoMemory, NodeId};
+use tor_clauses::{Clauses, Lit, opposite};
+use tor_digraph::Reached;
+
+/// Settles an edge, with all that follows: by the literal that is wanted, or by the opposite one, where the wanted one leads to that.
+/// What is settled stays so, and nothing is done where the edge was settled before. The other memory is for the search, which does not
+/// go on past what is settled.
+fn settle(
+    clauses: &Clauses,
+    pref: &Pref,
+    tried: &mut Reached<NodeId, ArcId>,
+    settled: &mut Reached<NodeId, ArcId>,
+) -> Result<(), NoMemory>
+    requires few { pref.now.edge < 2 ^ 27 }
+    requires there { node_wanted pref.now < clauses.now.net.nodes }
+    requires closed { IsClosed clauses.now.net settled.old }
+    ensures closed { OnOk result (IsClosed clauses.now.net settled.new) }
+    ensures settled { OnOk result (IsSettledBy clauses.now.net.arcs (node_wanted pref.now) settled.old.nodes settled.new.nodes) }
+{
+    let node = Lit {
+        edge: pref.edge,
+        over: pref.wanted,
+    }
+    .node();
+    let other = opposite(node);
+    if settled.has(node) {
+        return Ok(());
+    }
+    if settled.has(other) {
+        return Ok(());
+    }
+    let digraph = clauses.digraph();
+    digraph.reach_none_again(tried)?;
+    digraph.reach_near_to(node, other, settled, tried)?;
+    if tried.has(other) {
+        return digraph.reach_more(other, settled);
+    }
+    digraph.reach_more(node, settled)
+}
+
+/// Settles the edges of these preferences, the first of them first.
+pub(crate) fn settle_all(
+    alloc: Global,
+    graph: &AsGraph,
+    clauses: &Clauses,
+    prefs: &[Pref],
+) -> Result<Reached<NodeId, ArcId>, NoMemory>
+    requires fits { FitsGraph graph.now clauses.now }
+    requires servable { IsServable (paths_at graph.now clauses.now.paths) }
+    requires inside { All (λ pref. pref.edge < length (edges graph.now)) prefs.now }
+    ensures { IfOk result (AreSettled clauses.now prefs.now (length prefs.now)) }
+{
+    graph.facts();
+    clauses.facts();
+    let mut tried = clauses.digraph().reach_none(alloc)?;
+    let mut settled = clauses.digraph().reach_none(alloc)?;
+    for place in 0..prefs.len() {
+        settle(clauses, &prefs[place], &mut tried, &mut settled)?;
+    }
+    Ok(settled)
+}
