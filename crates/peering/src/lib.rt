@@ -1,0 +1,8 @@
+//! Which edges are peerings: each that may be one without a valley on a kept path, edge by edge.
+#![tactic(auto)]
+
+mod alike;
+mod holders;
+mod relabelling;
+
+pub use relabelling::relabel;
