@@ -1,5 +1,5 @@
 -- Edge by edge, each becomes a peering exactly if it may.
-use Rattle.std.proofs.Common.{◌≡◌, ◌≢◌, ◌↔◌, ℕ, zero, suc, ◌+◌, ◌<◌, ◌≤◌, ◌⊎◌, inl, inr, true, false, List, [], ◌∷◌, ◌++◌, length, get_or, map, take, refl, sym, ap, ◌∙◌, subst, arith, All, Contains, slice_get, Some, if◌then◌else◌}
+use Rattle.std.proofs.Common.{◌≡◌, ◌≢◌, ◌↔◌, ℕ, zero, suc, ◌+◌, ◌<◌, ◌≤◌, inl, inr, true, false, List, [], ◌∷◌, ◌++◌, length, get_or, map, take, refl, sym, ap, ◌∙◌, subst, arith, All, Contains, slice_get, Some, if◌then◌else◌}
 use Rattle.std.specs.List.{list_any}
 use Rattle.std.proofs.lemmas.Bool.{cases_Bool, cases_lt, or_cases, false≢true}
 use Rattle.std.proofs.lemmas.Option.{slice_get_within}
@@ -114,16 +114,18 @@ module _ (degree : ℕ → ℕ) (ratio : ℕ) (kept : List (List ℕ)) (es : Lis
             | inl less ↦
                 let same_f = elsewhere n j e f L L' is at (apart_before n j e f is at less) same in
                 let le : j ≤ n = omega (arith, less) in
-                let was = h.turned j f less at in
-                (λ p. MayPeer-same (so_far (take j es) L (labels_of O)) (so_far (take j es) L' (labels_of O)) f (λ g c. unchanged n j e L L' is le same g.0 g.1) (was.0 (sym same_f ∙ p)),
-                λ m. same_f ∙ was.1 (MayPeer-same (so_far (take j es) L' (labels_of O)) (so_far (take j es) L (labels_of O)) f (λ g c. sym (unchanged n j e L L' is le same g.0 g.1)) m))
+                let was = h.turned j f less at in (
+                  λ p. MayPeer-same (so_far (take j es) L (labels_of O)) (so_far (take j es) L' (labels_of O)) f (λ g c. unchanged n j e L L' is le same g.0 g.1) (was.0 (sym same_f ∙ p)),
+                  λ m. same_f ∙ was.1 (MayPeer-same (so_far (take j es) L' (labels_of O)) (so_far (take j es) L (labels_of O)) f (λ g c. sym (unchanged n j e L L' is le same g.0 g.1)) m),
+                )
             | inr ge ↦
                 let at_n : j ≡ n = omega (arith, lt, ge) in
-                let is_e = same_place n j e f at_n is at in
-                (λ p. subst (λ (g : Edge). MayPeer degree ratio kept (so_far (take j es) L' (labels_of O)) g) (sym is_e)
-                (MayPeer-same L (so_far (take j es) L' (labels_of O)) e
-                (λ g c. sym (now n L h g c) ∙ unchanged n n e L L' is (omega arith) same g.0 g.1 ∙ ap (λ m. so_far (take m es) L' (labels_of O) g.0 g.1) (sym at_n)) may),
-                λ m. subst (λ (g : Edge). L' g.0 g.1 ≡ Label.Peer) (sym is_e) (same e.0 e.1 ∙ ap (λ b. if b then Label.Peer else L e.0 e.1) (same_itself e)))
+                let is_e = same_place n j e f at_n is at in (
+                  λ p. subst (λ (g : Edge). MayPeer degree ratio kept (so_far (take j es) L' (labels_of O)) g) (sym is_e)
+                      (MayPeer-same L (so_far (take j es) L' (labels_of O)) e
+                      (λ g c. sym (now n L h g c) ∙ unchanged n n e L L' is (omega arith) same g.0 g.1 ∙ ap (λ m. so_far (take m es) L' (labels_of O) g.0 g.1) (sym at_n)) may),
+                  λ m. subst (λ (g : Edge). L' g.0 g.1 ≡ Label.Peer) (sym is_e) (same e.0 e.1 ∙ ap (λ b. if b then Label.Peer else L e.0 e.1) (same_itself e)),
+                )
           ];
       others = λ j f lt at no.
           elim (cases_lt j n) [
@@ -146,11 +148,12 @@ module _ (degree : ℕ → ℕ) (ratio : ℕ) (kept : List (List ℕ)) (es : Lis
             | inl less ↦ h.turned j f less at
             | inr ge ↦
                 let at_n : j ≡ n = omega (arith, lt, ge) in
-                let is_e = same_place n j e f at_n is at in
-                (λ p. absurd (no_peer O f.0 f.1 (sym (h.rest j f ge at) ∙ p)),
-                λ m. absurd (may_not (MayPeer-same (so_far (take j es) L (labels_of O)) L e
-                (λ g c. ap (λ m. so_far (take m es) L (labels_of O) g.0 g.1) at_n ∙ now n L h g c)
-                (subst (λ (g : Edge). MayPeer degree ratio kept (so_far (take j es) L (labels_of O)) g) is_e m))))
+                let is_e = same_place n j e f at_n is at in (
+                  λ p. absurd (no_peer O f.0 f.1 (sym (h.rest j f ge at) ∙ p)),
+                  λ m. absurd (may_not (MayPeer-same (so_far (take j es) L (labels_of O)) L e
+                      (λ g c. ap (λ m. so_far (take m es) L (labels_of O) g.0 g.1) at_n ∙ now n L h g c)
+                      (subst (λ (g : Edge). MayPeer degree ratio kept (so_far (take j es) L (labels_of O)) g) is_e m))),
+                )
           ];
       others = λ j f lt at no.
           elim (cases_lt j n) [
@@ -164,9 +167,10 @@ module _ (degree : ℕ → ℕ) (ratio : ℕ) (kept : List (List ℕ)) (es : Lis
     pub relabelled : (n : ℕ) (L : Labelling) → n ≡ length es → IsSoFar n L → IsRelabelled degree ratio kept es (labels_of O) L
     relabelled n L all h before e after split =
         let at = split_place es before e after split in
-        let lt : length before < n = subst (λ m. length before < m) (sym all) at.2 in
-        (subst (λ b. (L e.0 e.1 ≡ Label.Peer) ↔ MayPeer degree ratio kept (so_far b L (labels_of O)) e) at.1 (h.turned (length before) e lt at.0),
-        h.others (length before) e lt at.0)
+        let lt : length before < n = subst (λ m. length before < m) (sym all) at.2 in (
+          subst (λ b. (L e.0 e.1 ≡ Label.Peer) ↔ MayPeer degree ratio kept (so_far b L (labels_of O)) e) at.1 (h.turned (length before) e lt at.0),
+          h.others (length before) e lt at.0,
+        )
       where
         split_place : (es before : List Edge) (e : Edge) (after : List Edge) → es ≡ before ++ (e ∷ after) →
             (slice_get es (length before) ≡ Some e) × (take (length before) es ≡ before) × (length before < length es)

@@ -27,11 +27,7 @@ fn add_path(lists: &mut Vec<List<PathId>>, edge: EdgeId, path: PathId) -> Result
 }
 
 /// Adds a path to the list of the edge of each of its steps.
-fn add_along(
-    lists: &mut Vec<List<PathId>>,
-    steps: &[Step],
-    path: PathId,
-) -> Result<(), NoMemory>
+fn add_along(lists: &mut Vec<List<PathId>>, steps: &[Step], path: PathId) -> Result<(), NoMemory>
     requires there { All (λ step. step.edge < length lists.old.items) steps.now }
     ensures length { length lists.new.items ≡ length lists.old.items }
     ensures kept { OnOk result ((k q : ℕ) → Contains (slice_index_or lists.old.items k []) q → Contains (slice_index_or lists.new.items k []) q) }

@@ -1,4 +1,4 @@
-use Rattle.std.proofs.Common.{◌≡◌, ◌<◌, ◌≤◌, [], length, get_or, rules, sym, subst, arith, All, Contains}
+use Rattle.std.proofs.Common.{◌<◌, ◌≤◌, [], length, get_or, rules, sym, subst, arith, All, Contains}
 use Rattle.std.proofs.lemmas.List.{take_all}
 use Rattle.as_graph.specs.declared.step.Step.{Step}
 use Rattle.peering.proofs.Holding.{listed_none, listed_more}

@@ -1,4 +1,4 @@
-use Rattle.std.proofs.Common.{rules, ◌≡◌, ◌∙◌, ◌<◌, inl, inr, length, get_or, IsTrue, IsFalse, sym, ap, subst, arith}
+use Rattle.std.proofs.Common.{rules, ◌≡◌, ◌∙◌, inl, inr, get_or, IsTrue, IsFalse, sym, ap, subst, arith}
 use Rattle.std.proofs.lemmas.Bool.{cases_lt, false≢true}
 use Rattle.std.proofs.lemmas.List.{get_or_default}
 use Rattle.relationships.specs.Relationship.{ValleyFree}
@@ -10,9 +10,10 @@ pub returns-then-not-valley_free : goal.returns-then-not-valley_free
 returns-then-not-valley_free c =
     let graph = c.args.graph.now in
     let item = c.path-item.result in
-    let valley : IsFalse c.valley_free.result = search rules in
-    (λ t. absurd (false≢true t),
-    λ all. absurd (false≢true (sym valley ∙ c.valley_free.ensures.1 (subst (λ p. ValleyFree (labelling (edges graph) c.args.labels.now) (path_at graph p)) (sym c.path-item.is) (all c.loop-path.path-index item c.loop-path-test.true)))))
+    let valley : IsFalse c.valley_free.result = search rules in (
+      λ t. absurd (false≢true t),
+      λ all. absurd (false≢true (sym valley ∙ c.valley_free.ensures.1 (subst (λ p. ValleyFree (labelling (edges graph) c.args.labels.now) (path_at graph p)) (sym c.path-item.is) (all c.loop-path.path-index item c.loop-path-test.true)))),
+    )
 
 pub loop-path-preserved : goal.loop-path-preserved
 loop-path-preserved c = λ k d lt.

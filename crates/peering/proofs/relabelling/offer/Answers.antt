@@ -14,8 +14,10 @@ returns-then-not-are_valley_free c =
     ap (λ l. get_or l c.place.result Label.Low) c.as_slice.ensures ∙ ap (λ k. get_or old k Label.Low) c.place.ensures.place in
     let back : c.set-then-not-are_valley_free.new.self ≡ set c.set.new.self edge (get_or old edge Label.Low) =
     c.set-then-not-are_valley_free.ensures ∙ ap (set c.set.new.self edge) first in
-    inr (λ free. false≢true (sym valley ∙ c.are_valley_free.ensures.1 (subst (StayFree c.args.graph.now c.args.paths.now) (sym c.set.ensures) free)),
-    back ∙ ap (λ l. set l edge (get_or old edge Label.Low)) c.set.ensures ∙ set_back old edge Label.Peer Label.Low)
+    inr (
+      λ free. false≢true (sym valley ∙ c.are_valley_free.ensures.1 (subst (StayFree c.args.graph.now c.args.paths.now) (sym c.set.ensures) free)),
+      back ∙ ap (λ l. set l edge (get_or old edge Label.Low)) c.set.ensures ∙ set_back old edge Label.Peer Label.Low,
+    )
 
 pub returns-else-not-are_valley_free : goal.returns-else-not-are_valley_free
 returns-else-not-are_valley_free c =

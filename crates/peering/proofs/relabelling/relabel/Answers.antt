@@ -1,9 +1,9 @@
-use Rattle.std.proofs.Common.{rules, ◌≡◌, ◌<◌, ◌≤◌, [], length, get_or, map, sym, ap, ◌∙◌, subst, arith, All, Contains, List, ℕ}
+use Rattle.std.proofs.Common.{rules, ◌≡◌, ◌<◌, [], length, get_or, map, sym, ap, ◌∙◌, subst, arith, Contains}
 use Rattle.std.specs.List.{flat_map}
 use Rattle.std.proofs.lemmas.Option.{slice_get-get_or}
-use Rattle.std.proofs.lemmas.List.{length-map, get_or-map}
+use Rattle.std.proofs.lemmas.List.{length-map, get_or-map, get_or_default}
 use Rattle.std.proofs.lemmas.List.Elements.{All-contains, Contains-get_or}
-use Rattle.relationships.specs.Relationship.{Orientation, label_of}
+use Rattle.relationships.specs.Relationship.{label_of}
 use Rattle.relationships.specs.Graph.{Edge, edges, edges_on, degree, support, orientation, labelling}
 use Rattle.relationships.proofs.Edges.{peering_law}
 use Rattle.relationships.proofs.Preferring.{maximal_law}
@@ -11,7 +11,7 @@ use Rattle.as_graph.specs.Paths.{paths_at}
 use Rattle.as_graph.proofs.Labelled.{NoneTwice-distinct}
 use Rattle.peering.specs.Peerings.{IsSettled}
 use Rattle.peering.proofs.Reading.{edge_among}
-use Rattle.peering.proofs.Turning.{IsSoFar, begins, relabelled}
+use Rattle.peering.proofs.Turning.{begins, relabelled}
 use Rattle.peering.proofs.Steps.{AreSettled, settled_next}
 use Rattle.peering.proofs.relabelling.relabel.Goals as goal
 
@@ -32,7 +32,12 @@ loop-place-init c =
 pub settle-requires-clause-there : goal.settle-requires-clause-there
 settle-requires-clause-there c = λ k d lt.
     let places = c.as_slice-in-loop-place-2.result.now in
-    let is : places ≡ get_or c.in_ok-lists.lists.items c.loop-place.place [] = search rules in
+    let test = c.loop-place-test.true in
+    let count = c.edge_count-place-end.ensures.count in
+    let many = c.in_ok-lists.ensures.many in
+    let within : c.loop-place.place < length c.in_ok-lists.lists.items = omega (arith, test, count, many) in
+    let is : places ≡ get_or c.in_ok-lists.lists.items c.loop-place.place [] =
+    c.as_slice-in-loop-place-2.ensures ∙ c.index.ensures ∙ get_or_default c.in_ok-lists.lists.items c.loop-place.place c.index.result.now [] within in
     All-contains (λ q. q < length c.args.graph.now) c.args.kept.now (get_or places k d) c.requires.there
     (c.in_ok-lists.ensures.inside c.loop-place.place (get_or places k d) (subst (λ l. Contains l (get_or places k d)) is (Contains-get_or places k d lt)))
 
@@ -52,7 +57,9 @@ loop-place-preserved c =
     let count = get_or c.as_slice-in-loop-place.result.now place 0 in
     let held : count ≡ support (paths_at paths kept) e =
     ap (λ l. get_or l place 0) (c.as_slice-in-loop-place.ensures ∙ c.in_ok-counts.ensures) ∙ get_or-map (support (paths_at paths kept)) es place (0, 0) 0 lt in
-    let is : places ≡ get_or c.in_ok-lists.lists.items place [] = search rules in
+    let lists = c.in_ok-lists.ensures.many in
+    let is : places ≡ get_or c.in_ok-lists.lists.items place [] =
+    c.as_slice-in-loop-place-2.ensures ∙ c.index.ensures ∙ get_or_default c.in_ok-lists.lists.items place c.index.result.now [] (omega (arith, lt, lists)) in
     settled_next paths kept ratio (orientation es c.args.orientation.now) c.requires.there place e count places c.loop-place.labels (slice_get-get_or es place (0, 0) lt) held
     (λ q at. c.in_ok-lists.ensures.inside place q (subst (λ l. Contains l q) is at))
     (λ q at t. subst (λ l. Contains l q) (sym is) (c.in_ok-lists.ensures.all place q lt at t))
