@@ -2,3 +2,4 @@ pub mod Holding
 pub mod Reading
 pub mod Steps
 pub mod Turning
+pub mod Vectors

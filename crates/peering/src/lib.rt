@@ -4,5 +4,7 @@
 mod alike;
 mod holders;
 mod relabelling;
+#[cfg(test)]
+mod tests;
 
 pub use relabelling::relabel;
