@@ -2,6 +2,7 @@
 #![tactic(auto)]
 
 mod alike;
+mod bars;
 mod holders;
 mod relabelling;
 #[cfg(test)]
