@@ -1,3 +1,4 @@
+pub mod Barring
 pub mod Holding
 pub mod Reading
 pub mod Steps

@@ -1,5 +1,5 @@
 -- Edge by edge, each becomes a peering exactly if it may.
-use Rattle.std.proofs.Common.{◌≡◌, ◌≢◌, ◌↔◌, ℕ, zero, suc, ◌+◌, ◌<◌, ◌≤◌, inl, inr, true, false, List, [], ◌∷◌, ◌++◌, length, get_or, map, take, refl, sym, ap, ◌∙◌, subst, arith, All, Contains, slice_get, Some, if◌then◌else◌}
+use Rattle.std.proofs.Common.{◌≡◌, ◌≢◌, ◌↔◌, ℕ, zero, suc, ◌+◌, ◌<◌, ◌≤◌, ◌⊎◌, inl, inr, true, false, List, [], ◌∷◌, ◌++◌, length, get_or, map, take, refl, sym, ap, ◌∙◌, subst, arith, All, Contains, slice_get, Some, if◌then◌else◌}
 use Rattle.std.specs.List.{list_any}
 use Rattle.std.proofs.lemmas.Bool.{cases_Bool, cases_lt, or_cases, false≢true}
 use Rattle.std.proofs.lemmas.Option.{slice_get_within}
@@ -50,6 +50,11 @@ no_peer O low high = go (O low high)
     go End.Low = λ e. cc
     go End.High = λ e. cc
 
+same_as_peer : (l : Label) → (l ≡ Label.Peer) ⊎ (l ≢ Label.Peer)
+same_as_peer Label.Low = inr (λ e. cc)
+same_as_peer Label.High = inr (λ e. cc)
+same_as_peer Label.Peer = inl refl
+
 module _ (degree : ℕ → ℕ) (ratio : ℕ) (kept : List (List ℕ)) (es : List Edge) (O : Orientation) where
   -- the edges before a place are settled, and the others have their first labels
   pub record IsSoFar (n : ℕ) (L : Labelling) : Type 0 where
@@ -64,6 +69,14 @@ module _ (degree : ℕ → ℕ) (ratio : ℕ) (kept : List (List ℕ)) (es : Lis
     alike = m.alike;
     stays = free_by (with_peer L e) (with_peer L' e) kept (λ f c. ap (λ l. if is_same (f.0, f.1) e then Label.Peer else l) (same f c)) m.stays;
   }
+
+  -- each edge has its first label, or is a peering
+  pub first_or_peer : (n : ℕ) (L : Labelling) → IsSoFar n L → (j : ℕ) (f : Edge) → slice_get es j ≡ Some f → (L f.0 f.1 ≡ Label.Peer) ⊎ (L f.0 f.1 ≡ labels_of O f.0 f.1)
+  first_or_peer n L h j f at =
+      elim (cases_lt j n) [
+        | inl less ↦ elim (same_as_peer (L f.0 f.1)) [ inl p ↦ inl p | inr other ↦ inr (h.others j f less at other) ]
+        | inr ge ↦ inr (h.rest j f ge at)
+      ]
 
   module _ (once : NoneTwice es) (each : (f : Edge) → Contains (edges kept) f → Contains es f) where
     -- the labels so far are those now

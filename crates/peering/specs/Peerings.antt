@@ -1,5 +1,5 @@
 -- Edges that may be peerings, and what the labels of edges leave of paths.
-use Rattle.std.specs.Prelude.{◌≡◌, ◌≢◌, ℕ, ◌*◌, ◌≤◌, ◌<◌, ◌⊎◌, max, min, Bool, List, All, slice_index_or, slice_set}
+use Rattle.std.specs.Prelude.{◌≡◌, ◌≢◌, ℕ, ◌*◌, ◌≤◌, ◌<◌, ◌⊎◌, max, min, Bool, List, All, slice_index_or, slice_set, IsFalse}
 use Rattle.std.specs.List.{list_any}
 use Rattle.relationships.specs.declared.label.Label.{Label}
 use Rattle.relationships.specs.Relationship.{Orientation, Labelling, labels_of, ValleyFree, Serves}
@@ -34,16 +34,16 @@ IsOffered paths places edge old new =
     (StayFree paths places (peer_at old edge) × (new ≡ peer_at old edge)) ⊎
     ((StayFree paths places (peer_at old edge) → ⊥) × (new ≡ old))
 
--- an edge that so many kept paths hold becomes a peering if its ends are alike in degree and the paths of these places stay
--- valley-free so, and else all labels stay as they are
-abbrev pub MayTurn : List (List ℕ) → ℕ → ℕ → List ℕ → ℕ → List Label → Type 0
-MayTurn paths ratio count places edge old =
-    (0 < count) × IsAlike (degree paths) ratio (edge_at paths edge) × StayFree paths places (peer_at old edge)
+-- an edge that so many kept paths hold becomes a peering if it is not barred, its ends are alike in degree and the paths of these
+-- places stay valley-free so, and else all labels stay as they are
+abbrev pub MayTurn : List (List ℕ) → ℕ → Bool → ℕ → List ℕ → ℕ → List Label → Type 0
+MayTurn paths ratio barred count places edge old =
+    IsFalse barred × (0 < count) × IsAlike (degree paths) ratio (edge_at paths edge) × StayFree paths places (peer_at old edge)
 
-abbrev pub IsSettled : List (List ℕ) → ℕ → ℕ → List ℕ → ℕ → List Label → List Label → Type 0
-IsSettled paths ratio count places edge old new =
-    (MayTurn paths ratio count places edge old × (new ≡ peer_at old edge)) ⊎
-    ((MayTurn paths ratio count places edge old → ⊥) × (new ≡ old))
+abbrev pub IsSettled : List (List ℕ) → ℕ → Bool → ℕ → List ℕ → ℕ → List Label → List Label → Type 0
+IsSettled paths ratio barred count places edge old new =
+    (MayTurn paths ratio barred count places edge old × (new ≡ peer_at old edge)) ⊎
+    ((MayTurn paths ratio barred count places edge old → ⊥) × (new ≡ old))
 
 -- each orientation that has the providers of the edges that are no peerings serves the paths, whichever way the peerings are read
 abbrev pub ServeEitherWay : Labelling → List (List ℕ) → Type 0

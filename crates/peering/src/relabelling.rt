@@ -8,6 +8,7 @@ ghost use Rattle.as_graph.specs.Paths.{path_at, paths_at};
 ghost use Rattle.peering.specs.Peerings.{StayFree, IsOffered, IsSettled, ServeEitherWay, NoneLeftOut};
 
 use crate::alike::is_alike;
+use crate::bars::bars;
 use crate::holders::paths_by_edge;
 use as_graph::{AsGraph, Labels, Orientation};
 use relationships::{End, Label};
@@ -63,12 +64,13 @@ fn offer(graph: &AsGraph, labels: &mut Labels, edge: EdgeId, paths: &[PathId])
     }
 }
 
-/// Settles an edge that so many kept paths hold: it becomes a peering if its ends are alike in degree and no path of the list then has
-/// a valley.
+/// Settles an edge that so many kept paths hold: it becomes a peering if it is not barred, its ends are alike in degree, and no path
+/// of the list then has a valley.
 fn settle(
     graph: &AsGraph,
     labels: &mut Labels,
     edge: EdgeId,
+    barred: bool,
     support: u32,
     paths: &[PathId],
     ratio: u32,
@@ -77,9 +79,9 @@ fn settle(
     requires edge { edge < length (edges graph.now) }
     requires there { All (λ path. path < length graph.now) paths.now }
     requires small { ratio ≤ 1000000 }
-    ensures { IsSettled graph.now ratio support paths.now edge labels.old labels.new }
+    ensures { IsSettled graph.now ratio barred support paths.now edge labels.old labels.new }
 {
-    if support > 0 && is_alike(graph, edge, ratio) {
+    if !barred && support > 0 && is_alike(graph, edge, ratio) {
         offer(graph, labels, edge, paths);
     }
 }
@@ -109,7 +111,9 @@ pub fn relabel(
     graph.facts();
     let counts = graph.support(alloc, kept)?;
     let lists = paths_by_edge(alloc, graph, kept)?;
-    let mut labels = first_labels(alloc, orientation.as_slice())?;
+    let ends = orientation.as_slice();
+    let barred = bars(alloc, graph, kept, ends)?;
+    let mut labels = first_labels(alloc, ends)?;
     for place in 0..graph.edge_count() {
         let edge = EdgeId::from_place(place).unwrap();
         let support = counts.as_slice()[place];
@@ -117,6 +121,7 @@ pub fn relabel(
             graph,
             &mut labels,
             edge,
+            barred[place],
             support,
             lists[place].as_slice(),
             ratio,
