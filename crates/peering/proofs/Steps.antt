@@ -1,5 +1,5 @@
 -- One edge is settled, by the kept paths that hold it.
-use Rattle.std.proofs.Common.{◌≡◌, ◌⊎◌, ℕ, ◌+◌, ◌<◌, inl, inr, Bool, true, false, List, [], length, get_or, sym, ap, ◌∙◌, subst, All, Contains, IsTrue, slice_get, Some}
+use Rattle.std.proofs.Common.{◌≡◌, ◌⊎◌, ℕ, ◌+◌, ◌<◌, inl, inr, Bool, false, List, [], length, get_or, sym, ap, ◌∙◌, subst, All, Contains, IsTrue, slice_get, Some}
 use Rattle.std.specs.List.{list_any, flat_map}
 use Rattle.std.proofs.lemmas.Bool.{cases_Bool, false_from_ne_true}
 use Rattle.std.proofs.lemmas.Option.{slice_get-get_or, slice_get_within}

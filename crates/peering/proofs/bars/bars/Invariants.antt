@@ -1,5 +1,4 @@
 use Rattle.std.proofs.Common.{◌≡◌, ℕ, false, length, get_or, IsTrue}
-use Rattle.relationships.specs.Graph.{edges}
 use Rattle.peering.specs.Bars.{IsBarred}
 use Rattle.peering.proofs.bars.bars.Given as goal
 
