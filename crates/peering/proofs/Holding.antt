@@ -1,0 +1,131 @@
+-- The lists of paths by edge.
+use Rattle.std.proofs.Common.{◌≡◌, ◌≢◌, ◌⊎◌, ℕ, zero, suc, ◌+◌, ◌<◌, inl, inr, Bool, true, cond, List, [], ◌∷◌, ◌++◌, length, get_or, set, take, replicate, refl, sym, ap, ◌∙◌, subst, arith, All, Contains, IsTrue, nat_eq, slice_get, Some, eqb-true}
+use Rattle.std.specs.List.{list_any, count_by, flat_map}
+use Rattle.std.proofs.lemmas.Bool.{cases_Bool, cases_eq}
+use Rattle.std.proofs.lemmas.Option.{slice_get-get_or}
+use Rattle.std.proofs.lemmas.List.{length-set, length-replicate, get_or-set_same, get_or-set_other, take_more}
+use Rattle.std.proofs.lemmas.List.Elements.{All-nil, All-more, All-weaker, All-contains, Contains-get_or, Contains-append_left, Contains-append_right, Contains-push, Contains-push_cases}
+use Rattle.std.proofs.lemmas.List.Sums.{sum_by-cons}
+use Rattle.tor_arena.specs.Distinct.{AllDistinct}
+use Rattle.relationships.specs.Graph.{Edge, is_same, edges_on, edges}
+use Rattle.as_graph.specs.declared.step.Step.{Step}
+use Rattle.as_graph.specs.Paths.{path_at}
+use Rattle.as_graph.specs.Steps.{AreSteps}
+use Rattle.as_graph.proofs.Labelled.{NoneTwice, NoneTwice-distinct}
+use Rattle.as_graph.proofs.CountLemmas.{once_each}
+use Rattle.peering.specs.Peerings.{edge_at, holds}
+
+abbrev one : Bool → ℕ
+one b = cond b 1 0
+
+count-cons : {X : Type 0} (p : X → Bool) (x : X) (xs : List X) → count_by p (x ∷ xs) ≡ one (p x) + count_by p xs
+count-cons p x xs = sum_by-cons (λ y. cond (p y) 1 0) x xs
+
+counted_there : (k : ℕ) (steps : List Step) → count_by (λ (s : Step). nat_eq s.edge k) steps ≡ 1 → (s : Step) × Contains steps s × (s.edge ≡ k)
+counted_there k [] h = absurd (omega (arith, h))
+counted_there k (s ∷ steps) h =
+    elim (cases_Bool (nat_eq s.edge k)) [
+      | inl t ↦ (s, (0, omega arith, refl), eqb-true s.edge k t)
+      | inr n ↦
+          let less : 0 + count_by (λ (s : Step). nat_eq s.edge k) steps ≡ 1 = ap (λ b. one b + count_by (λ (s : Step). nat_eq s.edge k) steps) (sym n) ∙ sym (count-cons (λ (s : Step). nat_eq s.edge k) s steps) ∙ h in
+          let r = counted_there k steps (omega (arith, less)) in (r.0, Contains-append_right (s ∷ []) steps r.0 r.1, r.2)
+    ]
+
+-- a path that holds an edge has a step with it
+pub step_with : (es : List Edge) (k : ℕ) (e : Edge) (path : List ℕ) (steps : List Step) → NoneTwice es → slice_get es k ≡ Some e → AllDistinct path → AreSteps es path steps →
+    list_any (is_same e) (edges_on path) ≡ true → (s : Step) × Contains steps s × (s.edge ≡ k)
+step_with es k e path steps once is apart are t = counted_there k steps (once_each es k e path steps once is apart are ∙ ap one t)
+
+-- ---- a path is added along its steps
+
+-- the path was added to the list of the edge of each of these steps, and no other path to any list
+pub record IsListed (first now : List (List ℕ)) (path : ℕ) (steps : List Step) : Type 0 where
+  pub long : length now ≡ length first
+  pub stay : (k q : ℕ) → Contains (get_or first k []) q → Contains (get_or now k []) q
+  pub inside : (k q : ℕ) → Contains (get_or now k []) q → Contains (get_or first k []) q ⊎ (q ≡ path)
+  pub added : All (λ (s : Step). Contains (get_or now s.edge []) path) steps
+
+pub listed_none : (first : List (List ℕ)) (path : ℕ) → IsListed first first path []
+listed_none first path = record {
+  long = refl;
+  stay = λ k q c. c;
+  inside = λ k q c. inl c;
+  added = All-nil (λ (s : Step). Contains (get_or first s.edge []) path);
+}
+
+pub listed_more : (first now new : List (List ℕ)) (path : ℕ) (steps : List Step) (i : ℕ) (step : Step) → i < length steps → get_or steps i step ≡ step → step.edge < length now →
+    new ≡ set now step.edge (get_or now step.edge [] ++ path ∷ []) → IsListed first now path (take i steps) → IsListed first new path (take (i + 1) steps)
+listed_more first now new path steps i step lt at within is h = record {
+  long = ap length is ∙ length-set now step.edge (get_or now step.edge [] ++ path ∷ []) ∙ h.long;
+  stay = λ k q c. grow k q (h.stay k q c);
+  inside = λ k q c. elim (back k q c) [ inl old ↦ h.inside k q old | inr e ↦ inr e ];
+  added =
+      All-more (λ (s : Step). Contains (get_or new s.edge []) path) steps i step lt
+      (All-weaker (λ (s : Step). Contains (get_or now s.edge []) path) (λ (s : Step). Contains (get_or new s.edge []) path) (λ s c. grow s.edge path c) (take i steps) h.added)
+      (subst (λ (s : Step). Contains (get_or new s.edge []) path) (sym at) (subst (λ l. Contains l path) (sym here) (Contains-push (get_or now step.edge []) path)));
+}
+  where
+    here : get_or new step.edge [] ≡ get_or now step.edge [] ++ path ∷ []
+    here = ap (λ l. get_or l step.edge []) is ∙ get_or-set_same now step.edge (get_or now step.edge [] ++ path ∷ []) [] within
+
+    there : (k : ℕ) → k ≢ step.edge → get_or new k [] ≡ get_or now k []
+    there k ne = ap (λ l. get_or l k []) is ∙ get_or-set_other now step.edge k (get_or now step.edge [] ++ path ∷ []) [] ne
+
+    grow : (k q : ℕ) → Contains (get_or now k []) q → Contains (get_or new k []) q
+    grow k q c =
+        elim (cases_eq k step.edge) [
+          | inl e ↦ subst (λ n. Contains (get_or new n []) q) (sym e) (subst (λ l. Contains l q) (sym here) (Contains-append_left (get_or now step.edge []) (path ∷ []) q (subst (λ n. Contains (get_or now n []) q) e c)))
+          | inr ne ↦ subst (λ l. Contains l q) (sym (there k ne)) c
+        ]
+
+    back : (k q : ℕ) → Contains (get_or new k []) q → Contains (get_or now k []) q ⊎ (q ≡ path)
+    back k q c =
+        elim (cases_eq k step.edge) [
+          | inl e ↦ elim (Contains-push_cases (get_or now step.edge []) path q (subst (λ l. Contains l q) here (subst (λ n. Contains (get_or new n []) q) e c))) [
+            | inl old ↦ inl (subst (λ n. Contains (get_or now n []) q) (sym e) old)
+            | inr new_one ↦ inr (sym new_one)
+          ]
+          | inr ne ↦ inl (subst (λ l. Contains l q) (there k ne) c)
+        ]
+
+-- ---- all kept paths
+
+-- the lists hold kept paths alone, and of the first n each stands on the lists of its edges
+pub record IsHeld (paths : List (List ℕ)) (kept : List ℕ) (n : ℕ) (lists : List (List ℕ)) : Type 0 where
+  pub many : length lists ≡ length (edges paths)
+  pub inside : (k q : ℕ) → Contains (get_or lists k []) q → Contains kept q
+  pub all : (k q : ℕ) → k < length (edges paths) → Contains (take n kept) q → IsTrue (holds paths q k) → Contains (get_or lists k []) q
+
+none_there : (n k : ℕ) (l : List ℕ) → get_or (replicate n l) k l ≡ l
+none_there zero k l = refl
+none_there (suc n) zero l = refl
+none_there (suc n) (suc k) l = none_there n k l
+
+pub held_none : (paths : List (List ℕ)) (kept : List ℕ) (lists : List (List ℕ)) → lists ≡ replicate (length (edges paths)) [] → IsHeld paths kept 0 lists
+held_none paths kept lists is = record {
+  many = ap length is ∙ length-replicate (length (edges paths)) [];
+  inside = λ k q c. absurd (nothing q (subst (λ l. Contains l q) (ap (λ l. get_or l k []) is ∙ none_there (length (edges paths)) k []) c));
+  all = λ k q lt c t. absurd (nothing q c);
+}
+  where
+    nothing : (q : ℕ) → Contains [] q → ⊥
+    nothing q c = let lt = c.1 in absurd (omega (arith, lt))
+
+pub held_more : (paths : List (List ℕ)) (kept : List ℕ) (n id : ℕ) (steps : List Step) (lists new : List (List ℕ)) → n < length kept → get_or kept n id ≡ id → AllDistinct (path_at paths id) →
+    AreSteps (edges paths) (path_at paths id) steps → IsListed lists new id steps → IsHeld paths kept n lists → IsHeld paths kept (n + 1) new
+held_more paths kept n id steps lists new lt at apart are listed h = record {
+  many = listed.long ∙ h.many;
+  inside = λ k q c. elim (listed.inside k q c) [ inl old ↦ h.inside k q old | inr e ↦ subst (Contains kept) (sym e) (subst (Contains kept) at (Contains-get_or kept n id lt)) ];
+  all = λ k q k_lt c t.
+      elim (Contains-push_cases (take n kept) id q (subst (λ l. Contains l q) next c)) [
+        | inl old ↦ listed.stay k q (h.all k q k_lt old t)
+        | inr e ↦
+            let here : IsTrue (holds paths id k) = subst (λ p. IsTrue (holds paths p k)) (sym e) t in
+            let s = step_with (edges paths) k (edge_at paths k) (path_at paths id) steps (NoneTwice-distinct (flat_map edges_on paths)) (slice_get-get_or (edges paths) k (0, 0) k_lt) apart are here in
+            let added = All-contains (λ (s : Step). Contains (get_or new s.edge []) id) steps s.0 listed.added s.1 in
+            subst (Contains (get_or new k [])) e (subst (λ m. Contains (get_or new m []) id) s.2 added)
+      ];
+}
+  where
+    next : take (n + 1) kept ≡ take n kept ++ id ∷ []
+    next = take_more kept n id lt ∙ ap (λ q. take n kept ++ q ∷ []) at

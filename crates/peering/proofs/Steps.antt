@@ -1,0 +1,111 @@
+-- One edge is settled, by the kept paths that hold it.
+use Rattle.std.proofs.Common.{◌≡◌, ◌⊎◌, ℕ, ◌+◌, ◌<◌, inl, inr, Bool, false, List, [], length, get_or, sym, ap, ◌∙◌, subst, All, Contains, IsTrue, slice_get, Some}
+use Rattle.std.specs.List.{list_any, flat_map}
+use Rattle.std.proofs.lemmas.Bool.{cases_Bool, false_from_ne_true}
+use Rattle.std.proofs.lemmas.Option.{slice_get-get_or, slice_get_within}
+use Rattle.std.proofs.lemmas.List.{length-set}
+use Rattle.std.proofs.lemmas.List.Elements.{All-get_or, All-map, All-contains, Contains-get_or}
+use Rattle.tor_arena.specs.Distinct.{AllDistinct}
+use Rattle.relationships.specs.declared.label.End.{End}
+use Rattle.relationships.specs.declared.label.Label.{Label}
+use Rattle.relationships.specs.Relationship.{Labelling, label_of, ValleyFree}
+use Rattle.relationships.specs.Graph.{Edge, is_same, edges_on, edges, degree, support, orientation, labelling}
+use Rattle.relationships.specs.Preference.{MayPeer, with_peer}
+use Rattle.relationships.proofs.Slopes.{Free, Free-from_valley_free}
+use Rattle.as_graph.specs.Paths.{path_at, paths_at}
+use Rattle.as_graph.proofs.Labelled.{NoneTwice, NoneTwice-distinct, labelling_at, orientation_at, slopes-steps}
+use Rattle.peering.specs.Peerings.{edge_at, holds, IsAlike, peer_at, StayFree, MayTurn, IsSettled}
+use Rattle.peering.specs.Bars.{IsBarred}
+use Rattle.peering.proofs.Barring.{no_turn}
+use Rattle.peering.proofs.Reading.{some_same, labelling-set, free_same, free_without, all_at, edge_among}
+use Rattle.peering.proofs.Turning.{IsSoFar, first_or_peer, turns, keeps}
+
+module _ (paths : List (List ℕ)) (kept : List ℕ) (ratio : ℕ) (ends : List End) where
+  -- the edges before a place are settled, with one label for each edge
+  pub record AreSettled (n : ℕ) (labels : List Label) : Type 0 where
+    pub count : length labels ≡ length (edges paths)
+    pub so_far : IsSoFar (degree paths) ratio (paths_at paths kept) (edges paths) (orientation (edges paths) ends) n (labelling (edges paths) labels)
+
+  module _ (there : All (λ q. q < length paths) kept) (apart : All AllDistinct paths) (each_end : length ends ≡ length (edges paths)) (n : ℕ) (e : Edge) (barred : Bool) (count : ℕ) (places : List ℕ) (old : List Label) (is : slice_get (edges paths) n ≡ Some e) (held : count ≡ support (paths_at paths kept) e)
+      (inside : (q : ℕ) → Contains places q → Contains kept q) (all : (q : ℕ) → Contains kept q → IsTrue (holds paths q n) → Contains places q) (bars : IsTrue barred → IsBarred paths kept ends n) (settled : AreSettled n old) where
+    abbrev Now : Labelling
+    Now = labelling (edges paths) old
+
+    once : NoneTwice (edges paths)
+    once = NoneTwice-distinct (flat_map edges_on paths)
+
+    at : edge_at paths n ≡ e
+    at = some_same (sym (slice_get-get_or (edges paths) n (0, 0) (slice_get_within (edges paths) n e is)) ∙ is)
+
+    same : (low high : ℕ) → labelling (edges paths) (peer_at old n) low high ≡ with_peer Now e low high
+    same = labelling-set (edges paths) old n e Label.Peer once is (subst (λ m. n < m) (sym settled.count) (slice_get_within (edges paths) n e is))
+
+    stays : StayFree paths places (peer_at old n) → All (ValleyFree (with_peer Now e)) (paths_at paths kept)
+    stays free =
+        All-map (ValleyFree (with_peer Now e)) (path_at paths) kept (λ k d lt.
+        let q = get_or kept k d in
+        let c = Contains-get_or kept k d lt in
+        elim (cases_Bool (holds paths q n)) [
+          | inl t ↦
+              free_same (labelling (edges paths) (peer_at old n)) (with_peer Now e) (path_at paths q) same
+              (All-contains (λ p. ValleyFree (labelling (edges paths) (peer_at old n)) (path_at paths p)) places q free (all q c t))
+          | inr none ↦
+              free_without Now e (path_at paths q) (subst (λ (f : Edge). list_any (is_same f) (edges_on (path_at paths q)) ≡ false) at none)
+              (all_at (ValleyFree Now) paths kept q settled.so_far.free c)
+        ])
+
+    stays_back : All (ValleyFree (with_peer Now e)) (paths_at paths kept) → StayFree paths places (peer_at old n)
+    stays_back free = λ k d lt.
+        let q = get_or places k d in
+        free_same (with_peer Now e) (labelling (edges paths) (peer_at old n)) (path_at paths q) (λ low high. sym (same low high))
+        (all_at (ValleyFree (with_peer Now e)) paths kept q free (inside q (Contains-get_or places k d lt)))
+
+    -- each label is the first one of its edge, or a peering
+    label_cases : (j : ℕ) → j < length (edges paths) → (get_or old j Label.Peer ≡ Label.Peer) ⊎ (get_or old j Label.Peer ≡ label_of (get_or ends j End.Low))
+    label_cases j lt =
+        let f : Edge = get_or (edges paths) j (0, 0) in
+        let f_at = slice_get-get_or (edges paths) j (0, 0) lt in
+        let now_is = labelling_at (edges paths) old j f.0 f.1 Label.Peer once f_at (subst (λ m. j < m) (sym settled.count) lt) in
+        let first_is = orientation_at (edges paths) ends j f.0 f.1 End.Low once f_at (subst (λ m. j < m) (sym each_end) lt) in
+        elim (first_or_peer (degree paths) ratio (paths_at paths kept) (edges paths) (orientation (edges paths) ends) n Now settled.so_far j f f_at) [
+          | inl p ↦ inl (sym now_is ∙ p)
+          | inr h ↦ inr (sym now_is ∙ h ∙ ap label_of first_is)
+        ]
+
+    -- so a barred edge may not become a peering
+    barred_out : All (ValleyFree (with_peer Now e)) (paths_at paths kept) → IsBarred paths kept ends n → ⊥
+    barred_out free (place, steps, among, are, within, on) =
+        let path = path_at paths place in
+        let labels = peer_at old n in
+        let one = free_same (with_peer Now e) (labelling (edges paths) labels) path (λ low high. sym (same low high)) (all_at (ValleyFree (with_peer Now e)) paths kept place free among) in
+        let path_apart = All-get_or AllDistinct paths place [] (All-contains (λ q. q < length paths) kept place there among) apart in
+        let many : length labels ≡ length (edges paths) = length-set old n Label.Peer ∙ settled.count in
+        let slopes_are = slopes-steps (edges paths) labels once many path steps path_apart are in
+        no_turn old ends n (length (edges paths)) steps (subst (λ m. n < m) (sym settled.count) (slice_get_within (edges paths) n e is)) label_cases within on
+        (subst Free slopes_are (Free-from_valley_free (labelling (edges paths) labels) path one))
+
+    may : MayTurn paths ratio barred count places n old → MayPeer (degree paths) ratio (paths_at paths kept) Now e
+    may m = record {
+      held = subst (λ c. 0 < c) held m.1;
+      alike = subst (λ (f : Edge). IsAlike (degree paths) ratio f) at m.2;
+      stays = stays m.3;
+    }
+
+    may_back : MayPeer (degree paths) ratio (paths_at paths kept) Now e → MayTurn paths ratio barred count places n old
+    may_back m = (false_from_ne_true barred (λ t. barred_out m.stays (bars t)), subst (λ c. 0 < c) (sym held) m.held, subst (λ (f : Edge). IsAlike (degree paths) ratio f) (sym at) m.alike, stays_back m.stays)
+
+    each : (f : Edge) → Contains (edges (paths_at paths kept)) f → Contains (edges paths) f
+    each f c = edge_among paths kept f there c
+
+    pub settled_next : (new : List Label) → IsSettled paths ratio barred count places n old new → AreSettled (n + 1) new
+    settled_next new (inl h) = record {
+      count = ap length h.1 ∙ length-set old n Label.Peer ∙ settled.count;
+      so_far =
+          turns (degree paths) ratio (paths_at paths kept) (edges paths) (orientation (edges paths) ends) once each n e Now (labelling (edges paths) new) is
+          (λ low high. ap (λ l. labelling (edges paths) l low high) h.1 ∙ same low high) (may h.0) settled.so_far;
+    }
+    settled_next new (inr h) =
+        subst (AreSettled (n + 1)) (sym h.1) (record {
+          count = settled.count;
+          so_far = keeps (degree paths) ratio (paths_at paths kept) (edges paths) (orientation (edges paths) ends) once each n e Now is (λ m. h.0 (may_back m)) settled.so_far;
+        })

@@ -1,0 +1,55 @@
+-- Edges that may be peerings, and what the labels of edges leave of paths.
+use Rattle.std.specs.Prelude.{◌≡◌, ◌≢◌, ℕ, ◌*◌, ◌≤◌, ◌<◌, ◌⊎◌, max, min, Bool, List, All, slice_index_or, slice_set, IsFalse}
+use Rattle.std.specs.List.{list_any}
+use Rattle.relationships.specs.declared.label.Label.{Label}
+use Rattle.relationships.specs.Relationship.{Orientation, Labelling, labels_of, ValleyFree, Serves}
+use Rattle.relationships.specs.Graph.{Edge, is_same, edges_on, edges, degree, support, labelling}
+use Rattle.relationships.specs.Preference.{with_peer}
+use Rattle.relationships.specs.Laws.{AgreesOn}
+use Rattle.as_graph.specs.Paths.{path_at}
+
+-- the edge of a place
+abbrev pub edge_at : List (List ℕ) → ℕ → Edge
+edge_at paths place = slice_index_or (edges paths) place (0, 0)
+
+-- the path of a place holds the edge of a place
+abbrev pub holds : List (List ℕ) → ℕ → ℕ → Bool
+holds paths path edge = list_any (is_same (edge_at paths edge)) (edges_on (path_at paths path))
+
+-- the ends of the edge are alike in degree: the greater degree is at most ratio times the lesser
+abbrev pub IsAlike : (ℕ → ℕ) → ℕ → Edge → Type 0
+IsAlike degree ratio e = max (degree e.0) (degree e.1) ≤ ratio * min (degree e.0) (degree e.1)
+
+-- the labels with the edge of a place as a peering
+abbrev pub peer_at : List Label → ℕ → List Label
+peer_at labels edge = slice_set labels edge Label.Peer
+
+-- the paths of these places are valley-free with the edge as a peering
+abbrev pub StayFree : List (List ℕ) → List ℕ → List Label → Type 0
+StayFree paths places labels = All (λ place. ValleyFree (labelling (edges paths) labels) (path_at paths place)) places
+
+-- the edge becomes a peering if the paths of these places stay valley-free so, and else all labels stay as they are
+abbrev pub IsOffered : List (List ℕ) → List ℕ → ℕ → List Label → List Label → Type 0
+IsOffered paths places edge old new =
+    (StayFree paths places (peer_at old edge) × (new ≡ peer_at old edge)) ⊎
+    ((StayFree paths places (peer_at old edge) → ⊥) × (new ≡ old))
+
+-- an edge that so many kept paths hold becomes a peering if it is not barred, its ends are alike in degree and the paths of these
+-- places stay valley-free so, and else all labels stay as they are
+abbrev pub MayTurn : List (List ℕ) → ℕ → Bool → ℕ → List ℕ → ℕ → List Label → Type 0
+MayTurn paths ratio barred count places edge old =
+    IsFalse barred × (0 < count) × IsAlike (degree paths) ratio (edge_at paths edge) × StayFree paths places (peer_at old edge)
+
+abbrev pub IsSettled : List (List ℕ) → ℕ → Bool → ℕ → List ℕ → ℕ → List Label → List Label → Type 0
+IsSettled paths ratio barred count places edge old new =
+    (MayTurn paths ratio barred count places edge old × (new ≡ peer_at old edge)) ⊎
+    ((MayTurn paths ratio barred count places edge old → ⊥) × (new ≡ old))
+
+-- each orientation that has the providers of the edges that are no peerings serves the paths, whichever way the peerings are read
+abbrev pub ServeEitherWay : Labelling → List (List ℕ) → Type 0
+ServeEitherWay L paths = (O : Orientation) → AgreesOn (edges paths) L (labels_of O) → Serves O paths
+
+-- no edge of these that is on one of the paths, with ends alike in degree, could be one peering more
+abbrev pub NoneLeftOut : (ℕ → ℕ) → ℕ → List (List ℕ) → List Edge → Labelling → Type 0
+NoneLeftOut degree ratio paths es L =
+    All (λ (e : Edge). L e.0 e.1 ≢ Label.Peer → 0 < support paths e → IsAlike degree ratio e → All (ValleyFree (with_peer L e)) paths → ⊥) es

@@ -1,0 +1,11 @@
+//! Which edges are peerings: each that may be one without a valley on a kept path, edge by edge.
+#![tactic(auto)]
+
+mod alike;
+mod bars;
+mod holders;
+mod relabelling;
+#[cfg(test)]
+mod tests;
+
+pub use relabelling::relabel;

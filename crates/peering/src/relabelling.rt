@@ -1,0 +1,131 @@
+ghost use Rattle.std.specs.Prelude.{◌≡◌, ◌≢◌, ◌<◌, ◌≤◌, ◌↔◌, ℕ, All, Contains, length, map, slice_set, slice_index_or, IsTrue, IsFalse, IfOk};
+ghost use Rattle.std.specs.List.{AllPairs};
+ghost use Rattle.relationships.specs.declared.label.Label.{Label};
+ghost use Rattle.relationships.specs.Relationship.{label_of, labels_of, ValleyFree, Serves};
+ghost use Rattle.relationships.specs.Graph.{edges, degree, support, orientation as orientation_of, labelling};
+ghost use Rattle.relationships.specs.Preference.{IsRelabelled};
+ghost use Rattle.as_graph.specs.Paths.{path_at, paths_at};
+ghost use Rattle.peering.specs.Peerings.{StayFree, IsOffered, IsSettled, ServeEitherWay, NoneLeftOut};
+
+use crate::alike::is_alike;
+use crate::bars::bars;
+use crate::holders::paths_by_edge;
+use as_graph::{AsGraph, Labels, Orientation};
+use relationships::{End, Label};
+use std::alloc::Global;
+use tor_arena::{EdgeId, Index, NoMemory, PathId};
+
+/// The label that has this provider.
+fn label_by(end: End) -> Label
+    ensures { result ≡ label_of end }
+{
+    match end {
+        End::Low => Label::Low,
+        End::High => Label::High,
+    }
+}
+
+/// The labels that have these providers, no peerings. The only error is that memory ran out.
+fn first_labels(alloc: Global, ends: &[End]) -> Result<Labels, NoMemory>
+    ensures { IfOk result (λ labels. labels ≡ map label_of ends.now) }
+{
+    let mut labels = Vec::with_capacity(alloc, ends.len())?;
+    for end in ends {
+        labels.push(label_by(*end))?;
+    }
+    Labels::from_labels(alloc, labels.as_slice())
+}
+
+/// Whether all paths of a list are valley-free under the labels.
+fn are_valley_free(graph: &AsGraph, labels: &Labels, paths: &[PathId]) -> bool
+    requires labels { length labels.now ≡ length (edges graph.now) }
+    requires there { All (λ path. path < length graph.now) paths.now }
+    ensures { IsTrue result ↔ All (λ path. ValleyFree (labelling (edges graph.now) labels.now) (path_at graph.now path)) paths.now }
+{
+    for path in paths {
+        if !graph.valley_free(labels, *path) {
+            return false;
+        }
+    }
+    true
+}
+
+/// Makes an edge a peering, unless a path of the list then has a valley.
+fn offer(graph: &AsGraph, labels: &mut Labels, edge: EdgeId, paths: &[PathId])
+    requires labels { length labels.old ≡ length (edges graph.now) }
+    requires edge { edge < length (edges graph.now) }
+    requires there { All (λ path. path < length graph.now) paths.now }
+    ensures { IsOffered graph.now paths.now edge labels.old labels.new }
+{
+    let first = labels.as_slice()[edge.place()];
+    labels.set(edge, Label::Peer);
+    if !are_valley_free(graph, labels, paths) {
+        labels.set(edge, first);
+    }
+}
+
+/// Settles an edge that so many kept paths hold: it becomes a peering if it is not barred, its ends are alike in degree, and no path
+/// of the list then has a valley.
+fn settle(
+    graph: &AsGraph,
+    labels: &mut Labels,
+    edge: EdgeId,
+    barred: bool,
+    support: u32,
+    paths: &[PathId],
+    ratio: u32,
+)
+    requires labels { length labels.old ≡ length (edges graph.now) }
+    requires edge { edge < length (edges graph.now) }
+    requires there { All (λ path. path < length graph.now) paths.now }
+    requires small { ratio ≤ 1000000 }
+    ensures { IsSettled graph.now ratio barred support paths.now edge labels.old labels.new }
+{
+    if !barred && support > 0 && is_alike(graph, edge, ratio) {
+        offer(graph, labels, edge, paths);
+    }
+}
+
+/// The labels that the edges have once peerings are found: from the providers of an orientation that serves the kept paths on, and
+/// edge by edge in order, an edge becomes a peering if a kept path holds it, its greater degree is at most `ratio` times its lesser
+/// one, and no kept path then has a valley under the labels so far. The kept paths have to be there, no two the same, and the
+/// orientation has one end for each edge. The only error is that memory ran out.
+pub fn relabel(
+    alloc: Global,
+    graph: &AsGraph,
+    kept: &[PathId],
+    orientation: &Orientation,
+    ratio: u32,
+) -> Result<Labels, NoMemory>
+    requires there { All (λ path. path < length graph.now) kept.now }
+    requires once { AllPairs ◌≢◌ kept.now }
+    requires ends { length orientation.now ≡ length (edges graph.now) }
+    requires served { Serves (orientation_of (edges graph.now) orientation.now) (paths_at graph.now kept.now) }
+    requires small { ratio ≤ 1000000 }
+    ensures count { IfOk result (λ labels. length labels ≡ length (edges graph.now)) }
+    ensures relabelled { IfOk result (λ labels. IsRelabelled (degree graph.now) ratio (paths_at graph.now kept.now) (edges graph.now) (labels_of (orientation_of (edges graph.now) orientation.now)) (labelling (edges graph.now) labels)) }
+    ensures valley_free { IfOk result (λ labels. All (ValleyFree (labelling (edges graph.now) labels)) (paths_at graph.now kept.now)) }
+    ensures either_way { IfOk result (λ labels. ServeEitherWay (labelling (edges graph.now) labels) (paths_at graph.now kept.now)) }
+    ensures none_left_out { IfOk result (λ labels. NoneLeftOut (degree graph.now) ratio (paths_at graph.now kept.now) (edges graph.now) (labelling (edges graph.now) labels)) }
+{
+    graph.facts();
+    let counts = graph.support(alloc, kept)?;
+    let lists = paths_by_edge(alloc, graph, kept)?;
+    let ends = orientation.as_slice();
+    let barred = bars(alloc, graph, kept, ends)?;
+    let mut labels = first_labels(alloc, ends)?;
+    for place in 0..graph.edge_count() {
+        let edge = EdgeId::from_place(place).unwrap();
+        let support = counts.as_slice()[place];
+        settle(
+            graph,
+            &mut labels,
+            edge,
+            barred[place],
+            support,
+            lists[place].as_slice(),
+            ratio,
+        );
+    }
+    Ok(labels)
+}
