@@ -1,7 +1,7 @@
 -- The lists of paths by edge.
-use Rattle.std.proofs.Common.{◌≡◌, ◌≢◌, ◌⊎◌, ℕ, zero, suc, ◌+◌, ◌<◌, inl, inr, Bool, true, cond, List, [], ◌∷◌, ◌++◌, length, get_or, set, take, replicate, refl, sym, ap, ◌∙◌, subst, arith, All, Contains, IsTrue, nat_eq, slice_get, Some, eqb-true}
+use Rattle.std.proofs.Common.{◌≡◌, ◌≢◌, ◌⊎◌, ℕ, zero, suc, ◌+◌, ◌<◌, inl, inr, Bool, true, false, cond, List, [], ◌∷◌, ◌++◌, length, get_or, take, replicate, refl, sym, ap, ◌∙◌, subst, arith, All, Contains, IsTrue, IsFalse, nat_eq, slice_get, Some, eqb-true}
 use Rattle.std.specs.List.{list_any, count_by, flat_map}
-use Rattle.std.proofs.lemmas.Bool.{cases_Bool, cases_eq}
+use Rattle.std.proofs.lemmas.Bool.{cases_Bool, cases_eq, false≢true}
 use Rattle.std.proofs.lemmas.Option.{slice_get-get_or}
 use Rattle.std.proofs.lemmas.List.{length-set, length-replicate, get_or-set_same, get_or-set_other, take_more}
 use Rattle.std.proofs.lemmas.List.Elements.{All-nil, All-more, All-weaker, All-contains, Contains-get_or, Contains-append_left, Contains-append_right, Contains-push, Contains-push_cases}
@@ -13,7 +13,7 @@ use Rattle.as_graph.specs.Paths.{path_at}
 use Rattle.as_graph.specs.Steps.{AreSteps}
 use Rattle.as_graph.proofs.Labelled.{NoneTwice, NoneTwice-distinct}
 use Rattle.as_graph.proofs.CountLemmas.{once_each}
-use Rattle.peering.specs.Peerings.{edge_at, holds}
+use Rattle.peering.specs.Peerings.{edge_at, holds, IsAdded}
 
 abbrev one : Bool → ℕ
 one b = cond b 1 0
@@ -38,31 +38,41 @@ step_with es k e path steps once is apart are t = counted_there k steps (once_ea
 
 -- ---- a path is added along its steps
 
--- the path was added to the list of the edge of each of these steps, and no other path to any list
-pub record IsListed (first now : List (List ℕ)) (path : ℕ) (steps : List Step) : Type 0 where
+-- the path was added to the list of the edge of each of these steps that is not barred, and no other path to any list
+pub record IsListed (barred : List Bool) (first now : List (List ℕ)) (path : ℕ) (steps : List Step) : Type 0 where
   pub long : length now ≡ length first
   pub stay : (k q : ℕ) → Contains (get_or first k []) q → Contains (get_or now k []) q
   pub inside : (k q : ℕ) → Contains (get_or now k []) q → Contains (get_or first k []) q ⊎ (q ≡ path)
-  pub added : All (λ (s : Step). Contains (get_or now s.edge []) path) steps
+  pub added : All (λ (s : Step). IsFalse (get_or barred s.edge false) → Contains (get_or now s.edge []) path) steps
 
-pub listed_none : (first : List (List ℕ)) (path : ℕ) → IsListed first first path []
-listed_none first path = record {
+pub listed_none : (barred : List Bool) (first : List (List ℕ)) (path : ℕ) → IsListed barred first first path []
+listed_none barred first path = record {
   long = refl;
   stay = λ k q c. c;
   inside = λ k q c. inl c;
-  added = All-nil (λ (s : Step). Contains (get_or first s.edge []) path);
+  added = All-nil (λ (s : Step). IsFalse (get_or barred s.edge false) → Contains (get_or first s.edge []) path);
 }
 
-pub listed_more : (first now new : List (List ℕ)) (path : ℕ) (steps : List Step) (i : ℕ) (step : Step) → i < length steps → get_or steps i step ≡ step → step.edge < length now →
-    new ≡ set now step.edge (get_or now step.edge [] ++ path ∷ []) → IsListed first now path (take i steps) → IsListed first new path (take (i + 1) steps)
-listed_more first now new path steps i step lt at within is h = record {
+pub listed_more : (barred : List Bool) (first now new : List (List ℕ)) (path : ℕ) (steps : List Step) (i : ℕ) (step : Step) → i < length steps → get_or steps i step ≡ step → step.edge < length now →
+    IsAdded (get_or barred step.edge false) step.edge path now new → IsListed barred first now path (take i steps) → IsListed barred first new path (take (i + 1) steps)
+listed_more barred first now new path steps i step lt at within (inl (t, is)) h =
+    subst (λ l. IsListed barred first l path (take (i + 1) steps)) (sym is) (record {
+      long = h.long;
+      stay = h.stay;
+      inside = h.inside;
+      added =
+          All-more (λ (s : Step). IsFalse (get_or barred s.edge false) → Contains (get_or now s.edge []) path) steps i step lt h.added
+          (subst (λ (s : Step). IsFalse (get_or barred s.edge false) → Contains (get_or now s.edge []) path) (sym at) (λ f. absurd (false≢true (sym f ∙ t))));
+    })
+listed_more barred first now new path steps i step lt at within (inr (unbarred, is)) h = record {
   long = ap length is ∙ length-set now step.edge (get_or now step.edge [] ++ path ∷ []) ∙ h.long;
   stay = λ k q c. grow k q (h.stay k q c);
   inside = λ k q c. elim (back k q c) [ inl old ↦ h.inside k q old | inr e ↦ inr e ];
   added =
-      All-more (λ (s : Step). Contains (get_or new s.edge []) path) steps i step lt
-      (All-weaker (λ (s : Step). Contains (get_or now s.edge []) path) (λ (s : Step). Contains (get_or new s.edge []) path) (λ s c. grow s.edge path c) (take i steps) h.added)
-      (subst (λ (s : Step). Contains (get_or new s.edge []) path) (sym at) (subst (λ l. Contains l path) (sym here) (Contains-push (get_or now step.edge []) path)));
+      All-more (λ (s : Step). IsFalse (get_or barred s.edge false) → Contains (get_or new s.edge []) path) steps i step lt
+      (All-weaker (λ (s : Step). IsFalse (get_or barred s.edge false) → Contains (get_or now s.edge []) path)
+      (λ (s : Step). IsFalse (get_or barred s.edge false) → Contains (get_or new s.edge []) path) (λ s c f. grow s.edge path (c f)) (take i steps) h.added)
+      (subst (λ (s : Step). IsFalse (get_or barred s.edge false) → Contains (get_or new s.edge []) path) (sym at) (λ f. subst (λ l. Contains l path) (sym here) (Contains-push (get_or now step.edge []) path)));
 }
   where
     here : get_or new step.edge [] ≡ get_or now step.edge [] ++ path ∷ []
@@ -90,40 +100,40 @@ listed_more first now new path steps i step lt at within is h = record {
 
 -- ---- all kept paths
 
--- the lists hold kept paths alone, and of the first n each stands on the lists of its edges
-pub record IsHeld (paths : List (List ℕ)) (kept : List ℕ) (n : ℕ) (lists : List (List ℕ)) : Type 0 where
+-- the lists hold kept paths alone, and of the first n each stands on the lists of its edges that are not barred
+pub record IsHeld (barred : List Bool) (paths : List (List ℕ)) (kept : List ℕ) (n : ℕ) (lists : List (List ℕ)) : Type 0 where
   pub many : length lists ≡ length (edges paths)
   pub inside : (k q : ℕ) → Contains (get_or lists k []) q → Contains kept q
-  pub all : (k q : ℕ) → k < length (edges paths) → Contains (take n kept) q → IsTrue (holds paths q k) → Contains (get_or lists k []) q
+  pub all : (k q : ℕ) → k < length (edges paths) → IsFalse (get_or barred k false) → Contains (take n kept) q → IsTrue (holds paths q k) → Contains (get_or lists k []) q
 
 none_there : (n k : ℕ) (l : List ℕ) → get_or (replicate n l) k l ≡ l
 none_there zero k l = refl
 none_there (suc n) zero l = refl
 none_there (suc n) (suc k) l = none_there n k l
 
-pub held_none : (paths : List (List ℕ)) (kept : List ℕ) (lists : List (List ℕ)) → lists ≡ replicate (length (edges paths)) [] → IsHeld paths kept 0 lists
-held_none paths kept lists is = record {
+pub held_none : (barred : List Bool) (paths : List (List ℕ)) (kept : List ℕ) (lists : List (List ℕ)) → lists ≡ replicate (length (edges paths)) [] → IsHeld barred paths kept 0 lists
+held_none barred paths kept lists is = record {
   many = ap length is ∙ length-replicate (length (edges paths)) [];
   inside = λ k q c. absurd (nothing q (subst (λ l. Contains l q) (ap (λ l. get_or l k []) is ∙ none_there (length (edges paths)) k []) c));
-  all = λ k q lt c t. absurd (nothing q c);
+  all = λ k q lt f c t. absurd (nothing q c);
 }
   where
     nothing : (q : ℕ) → Contains [] q → ⊥
     nothing q c = let lt = c.1 in absurd (omega (arith, lt))
 
-pub held_more : (paths : List (List ℕ)) (kept : List ℕ) (n id : ℕ) (steps : List Step) (lists new : List (List ℕ)) → n < length kept → get_or kept n id ≡ id → AllDistinct (path_at paths id) →
-    AreSteps (edges paths) (path_at paths id) steps → IsListed lists new id steps → IsHeld paths kept n lists → IsHeld paths kept (n + 1) new
-held_more paths kept n id steps lists new lt at apart are listed h = record {
+pub held_more : (barred : List Bool) (paths : List (List ℕ)) (kept : List ℕ) (n id : ℕ) (steps : List Step) (lists new : List (List ℕ)) → n < length kept → get_or kept n id ≡ id → AllDistinct (path_at paths id) →
+    AreSteps (edges paths) (path_at paths id) steps → IsListed barred lists new id steps → IsHeld barred paths kept n lists → IsHeld barred paths kept (n + 1) new
+held_more barred paths kept n id steps lists new lt at apart are listed h = record {
   many = listed.long ∙ h.many;
   inside = λ k q c. elim (listed.inside k q c) [ inl old ↦ h.inside k q old | inr e ↦ subst (Contains kept) (sym e) (subst (Contains kept) at (Contains-get_or kept n id lt)) ];
-  all = λ k q k_lt c t.
+  all = λ k q k_lt f c t.
       elim (Contains-push_cases (take n kept) id q (subst (λ l. Contains l q) next c)) [
-        | inl old ↦ listed.stay k q (h.all k q k_lt old t)
+        | inl old ↦ listed.stay k q (h.all k q k_lt f old t)
         | inr e ↦
             let here : IsTrue (holds paths id k) = subst (λ p. IsTrue (holds paths p k)) (sym e) t in
             let s = step_with (edges paths) k (edge_at paths k) (path_at paths id) steps (NoneTwice-distinct (flat_map edges_on paths)) (slice_get-get_or (edges paths) k (0, 0) k_lt) apart are here in
-            let added = All-contains (λ (s : Step). Contains (get_or new s.edge []) id) steps s.0 listed.added s.1 in
-            subst (Contains (get_or new k [])) e (subst (λ m. Contains (get_or new m []) id) s.2 added)
+            let added = All-contains (λ (s : Step). IsFalse (get_or barred s.edge false) → Contains (get_or new s.edge []) id) steps s.0 listed.added s.1 in
+            subst (Contains (get_or new k [])) e (subst (λ m. IsFalse (get_or barred m false) → Contains (get_or new m []) id) s.2 added f)
       ];
 }
   where

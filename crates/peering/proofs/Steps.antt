@@ -1,5 +1,5 @@
 -- One edge is settled, by the kept paths that hold it.
-use Rattle.std.proofs.Common.{◌≡◌, ◌⊎◌, ℕ, ◌+◌, ◌<◌, inl, inr, Bool, false, List, [], length, get_or, sym, ap, ◌∙◌, subst, All, Contains, IsTrue, slice_get, Some}
+use Rattle.std.proofs.Common.{◌≡◌, ◌⊎◌, ℕ, ◌+◌, ◌<◌, inl, inr, Bool, false, List, [], length, get_or, sym, ap, ◌∙◌, subst, All, Contains, IsTrue, IsFalse, slice_get, Some}
 use Rattle.std.specs.List.{list_any, flat_map}
 use Rattle.std.proofs.lemmas.Bool.{cases_Bool, false_from_ne_true}
 use Rattle.std.proofs.lemmas.Option.{slice_get-get_or, slice_get_within}
@@ -27,7 +27,7 @@ module _ (paths : List (List ℕ)) (kept : List ℕ) (ratio : ℕ) (ends : List 
     pub so_far : IsSoFar (degree paths) ratio (paths_at paths kept) (edges paths) (orientation (edges paths) ends) n (labelling (edges paths) labels)
 
   module _ (there : All (λ q. q < length paths) kept) (apart : All AllDistinct paths) (each_end : length ends ≡ length (edges paths)) (n : ℕ) (e : Edge) (barred : Bool) (count : ℕ) (places : List ℕ) (old : List Label) (is : slice_get (edges paths) n ≡ Some e) (held : count ≡ support (paths_at paths kept) e)
-      (inside : (q : ℕ) → Contains places q → Contains kept q) (all : (q : ℕ) → Contains kept q → IsTrue (holds paths q n) → Contains places q) (bars : IsTrue barred → IsBarred paths kept ends n) (settled : AreSettled n old) where
+      (inside : (q : ℕ) → Contains places q → Contains kept q) (all : IsFalse barred → (q : ℕ) → Contains kept q → IsTrue (holds paths q n) → Contains places q) (bars : IsTrue barred → IsBarred paths kept ends n) (settled : AreSettled n old) where
     abbrev Now : Labelling
     Now = labelling (edges paths) old
 
@@ -40,15 +40,15 @@ module _ (paths : List (List ℕ)) (kept : List ℕ) (ratio : ℕ) (ends : List 
     same : (low high : ℕ) → labelling (edges paths) (peer_at old n) low high ≡ with_peer Now e low high
     same = labelling-set (edges paths) old n e Label.Peer once is (subst (λ m. n < m) (sym settled.count) (slice_get_within (edges paths) n e is))
 
-    stays : StayFree paths places (peer_at old n) → All (ValleyFree (with_peer Now e)) (paths_at paths kept)
-    stays free =
+    stays : IsFalse barred → StayFree paths places (peer_at old n) → All (ValleyFree (with_peer Now e)) (paths_at paths kept)
+    stays unbarred free =
         All-map (ValleyFree (with_peer Now e)) (path_at paths) kept (λ k d lt.
         let q = get_or kept k d in
         let c = Contains-get_or kept k d lt in
         elim (cases_Bool (holds paths q n)) [
           | inl t ↦
               free_same (labelling (edges paths) (peer_at old n)) (with_peer Now e) (path_at paths q) same
-              (All-contains (λ p. ValleyFree (labelling (edges paths) (peer_at old n)) (path_at paths p)) places q free (all q c t))
+              (All-contains (λ p. ValleyFree (labelling (edges paths) (peer_at old n)) (path_at paths p)) places q free (all unbarred q c t))
           | inr none ↦
               free_without Now e (path_at paths q) (subst (λ (f : Edge). list_any (is_same f) (edges_on (path_at paths q)) ≡ false) at none)
               (all_at (ValleyFree Now) paths kept q settled.so_far.free c)
@@ -88,7 +88,7 @@ module _ (paths : List (List ℕ)) (kept : List ℕ) (ratio : ℕ) (ends : List 
     may m = record {
       held = subst (λ c. 0 < c) held m.1;
       alike = subst (λ (f : Edge). IsAlike (degree paths) ratio f) at m.2;
-      stays = stays m.3;
+      stays = stays m.0 m.3;
     }
 
     may_back : MayPeer (degree paths) ratio (paths_at paths kept) Now e → MayTurn paths ratio barred count places n old

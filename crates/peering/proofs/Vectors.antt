@@ -5,7 +5,7 @@ use Rattle.relationships.specs.Relationship.{slope, is_over, labels_of, ValleyFr
 use Rattle.relationships.specs.declared.label.End.{End}
 use Rattle.relationships.specs.Graph.{edges, orientation}
 use Rattle.as_graph.specs.Paths.{paths_at}
-use Rattle.peering.specs.Cases.{three, three_ends, short, short_ends}
+use Rattle.peering.specs.Cases.{three, three_ends, short, short_ends, bent, bent_ends}
 
 pub three_served : Serves (orientation (edges three) three_ends) (paths_at three (0 ∷ 1 ∷ []))
 unfolding slope is_over
@@ -14,6 +14,10 @@ three_served = All-from_recursion (ValleyFree (labels_of (orientation (edges thr
 pub short_served : Serves (orientation (edges short) short_ends) (paths_at short (0 ∷ []))
 unfolding slope is_over
 short_served = All-from_recursion (ValleyFree (labels_of (orientation (edges short) short_ends))) (paths_at short (0 ∷ [])) ((0, 1, inl refl), tt)
+
+pub bent_served : Serves (orientation (edges bent) bent_ends) (paths_at bent (0 ∷ []))
+unfolding slope is_over
+bent_served = All-from_recursion (ValleyFree (labels_of (orientation (edges bent) bent_ends))) (paths_at bent (0 ∷ [])) ((1, 1, inl refl), tt)
 
 pub served_same : (paths paths' : List (List ℕ)) (ends ends' : List End) (places places' : List ℕ) → paths ≡ paths' → ends ≡ ends' → places ≡ places' →
     Serves (orientation (edges paths') ends') (paths_at paths' places') → Serves (orientation (edges paths) ends) (paths_at paths places)

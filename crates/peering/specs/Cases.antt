@@ -15,3 +15,10 @@ short = (10 ∷ 20 ∷ []) ∷ []
 
 abbrev pub short_ends : List End
 short_ends = End.Low ∷ []
+
+-- one path with a step up and a step down
+abbrev pub bent : List (List ℕ)
+bent = (20 ∷ 10 ∷ 30 ∷ []) ∷ []
+
+abbrev pub bent_ends : List End
+bent_ends = End.Low ∷ End.Low ∷ []

@@ -1,5 +1,5 @@
 -- Edges that may be peerings, and what the labels of edges leave of paths.
-use Rattle.std.specs.Prelude.{◌≡◌, ◌≢◌, ℕ, ◌*◌, ◌≤◌, ◌<◌, ◌⊎◌, max, min, Bool, List, All, slice_index_or, slice_set, IsFalse}
+use Rattle.std.specs.Prelude.{◌≡◌, ◌≢◌, ℕ, ◌*◌, ◌≤◌, ◌<◌, ◌⊎◌, max, min, Bool, List, All, slice_index_or, slice_set, IsTrue, IsFalse, [], ◌∷◌, ◌++◌}
 use Rattle.std.specs.List.{list_any}
 use Rattle.relationships.specs.declared.label.Label.{Label}
 use Rattle.relationships.specs.Relationship.{Orientation, Labelling, labels_of, ValleyFree, Serves}
@@ -15,6 +15,11 @@ edge_at paths place = slice_index_or (edges paths) place (0, 0)
 -- the path of a place holds the edge of a place
 abbrev pub holds : List (List ℕ) → ℕ → ℕ → Bool
 holds paths path edge = list_any (is_same (edge_at paths edge)) (edges_on (path_at paths path))
+
+-- the path is added to the list of the edge, unless this is barred
+abbrev pub IsAdded : Bool → ℕ → ℕ → List (List ℕ) → List (List ℕ) → Type 0
+IsAdded barred edge path old new =
+    (IsTrue barred × (new ≡ old)) ⊎ (IsFalse barred × (new ≡ slice_set old edge (slice_index_or old edge [] ++ path ∷ [])))
 
 -- the ends of the edge are alike in degree: the greater degree is at most ratio times the lesser
 abbrev pub IsAlike : (ℕ → ℕ) → ℕ → Edge → Type 0

@@ -110,9 +110,9 @@ pub fn relabel(
 {
     graph.facts();
     let counts = graph.support(alloc, kept)?;
-    let lists = paths_by_edge(alloc, graph, kept)?;
     let ends = orientation.as_slice();
     let barred = bars(alloc, graph, kept, ends)?;
+    let lists = paths_by_edge(alloc, graph, kept, barred.as_slice())?;
     let mut labels = first_labels(alloc, ends)?;
     for place in 0..graph.edge_count() {
         let edge = EdgeId::from_place(place).unwrap();

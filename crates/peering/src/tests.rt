@@ -1,5 +1,5 @@
 ghost use Rattle.std.specs.Prelude.{◌≡◌, ◌<◌, ◌≤◌, ◌∷◌, [], IfOk};
-ghost use Rattle.peering.specs.Cases.{three, three_ends, short, short_ends};
+ghost use Rattle.peering.specs.Cases.{three, three_ends, short, short_ends, bent, bent_ends};
 
 use crate::relabel;
 use as_graph::{AsGraph, Labels, Orientation, build};
@@ -162,5 +162,41 @@ fn a_path_of_one_edge(rt: HostRuntime) -> Result<(), Fail> {
 fn ratio_zero(rt: HostRuntime) -> Result<(), Fail> {
     let labels = short_path_labels(rt.alloc(), Keys::new(&rt), 0)?;
     assert_eq!(rt; labels.as_slice(), [Label::Low].as_slice());
+    Ok(())
+}
+
+fn bent_path_graph(alloc: Global, keys: Keys) -> Result<AsGraph, Fail>
+    ensures { IfOk result (λ graph. graph ≡ bent) }
+{
+    let mut rows = Rows::new(alloc);
+    rows.push_row(&[20, 10, 30])?;
+    Ok(build(alloc, keys, &rows)?)
+}
+
+fn bent_path_ends(alloc: Global) -> Result<Orientation, Fail>
+    ensures { IfOk result (λ ends. ends ≡ bent_ends) }
+{
+    Ok(Orientation::from_ends(alloc, &[End::Low, End::Low])?)
+}
+
+fn relabel_bent(alloc: Global, graph: &AsGraph, ratio: u32) -> Result<Labels, Fail>
+    requires graph { graph.now ≡ bent }
+    requires small { ratio ≤ 1000000 }
+{
+    let ends = bent_path_ends(alloc)?;
+    Ok(relabel(alloc, graph, &[path(0)], &ends, ratio)?)
+}
+
+fn bent_path_labels(alloc: Global, keys: Keys, ratio: u32) -> Result<Labels, Fail>
+    requires { ratio ≤ 1000000 }
+{
+    let graph = bent_path_graph(alloc, keys)?;
+    relabel_bent(alloc, &graph, ratio)
+}
+
+#[test]
+fn one_peering_on_a_path(rt: HostRuntime) -> Result<(), Fail> {
+    let labels = bent_path_labels(rt.alloc(), Keys::new(&rt), 60)?;
+    assert_eq!(rt; labels.as_slice(), [Label::Peer, Label::Low].as_slice());
     Ok(())
 }

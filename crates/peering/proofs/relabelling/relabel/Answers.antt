@@ -33,13 +33,13 @@ loop-place-init c =
 
 pub settle-requires-clause-there : goal.settle-requires-clause-there
 settle-requires-clause-there c = λ k d lt.
-    let places = c.as_slice-in-loop-place.result.now in
+    let places = c.as_slice-in-loop-place-2.result.now in
     let test = c.loop-place-test.true in
     let count = c.edge_count-place-end.ensures.count in
     let many = c.in_ok-lists.ensures.many in
     let within : c.loop-place.place < length c.in_ok-lists.lists.items = omega (arith, test, count, many) in
     let is : places ≡ get_or c.in_ok-lists.lists.items c.loop-place.place [] =
-    c.as_slice-in-loop-place.ensures ∙ c.index-in-loop-place.ensures ∙ get_or_default c.in_ok-lists.lists.items c.loop-place.place c.index-in-loop-place.result.now [] within in
+    c.as_slice-in-loop-place-2.ensures ∙ c.index-in-loop-place.ensures ∙ get_or_default c.in_ok-lists.lists.items c.loop-place.place c.index-in-loop-place.result.now [] within in
     All-contains (λ q. q < length c.args.graph.now) c.args.kept.now (get_or places k d) c.requires.there
     (c.in_ok-lists.ensures.inside c.loop-place.place (get_or places k d) (subst (λ l. Contains l (get_or places k d)) is (Contains-get_or places k d lt)))
 
@@ -50,24 +50,24 @@ loop-place-preserved c =
     let ratio = c.args.ratio in
     let es = edges paths in
     let place = c.loop-place.place in
-    let places = c.as_slice-in-loop-place.result.now in
+    let places = c.as_slice-in-loop-place-2.result.now in
     let same : c.unwrap-edge.result ≡ place = search rules in
     let test = c.loop-place-test.true in
     let many = c.edge_count-place-end.ensures.count in
     let lt : place < length es = omega (arith, test, many) in
     let e : Edge = get_or es place (0, 0) in
-    let count = get_or c.as_slice.result.now place 0 in
+    let count = get_or c.as_slice-in-loop-place.result.now place 0 in
     let held : count ≡ support (paths_at paths kept) e =
-    ap (λ l. get_or l place 0) (c.as_slice.ensures ∙ c.in_ok-counts.ensures) ∙ get_or-map (support (paths_at paths kept)) es place (0, 0) 0 lt in
+    ap (λ l. get_or l place 0) (c.as_slice-in-loop-place.ensures ∙ c.in_ok-counts.ensures) ∙ get_or-map (support (paths_at paths kept)) es place (0, 0) 0 lt in
     let lists = c.in_ok-lists.ensures.many in
     let is : places ≡ get_or c.in_ok-lists.lists.items place [] =
-    c.as_slice-in-loop-place.ensures ∙ c.index-in-loop-place.ensures ∙ get_or_default c.in_ok-lists.lists.items place c.index-in-loop-place.result.now [] (omega (arith, lt, lists)) in
+    c.as_slice-in-loop-place-2.ensures ∙ c.index-in-loop-place.ensures ∙ get_or_default c.in_ok-lists.lists.items place c.index-in-loop-place.result.now [] (omega (arith, lt, lists)) in
     let barred = c.index.result.now in
     let bars = c.in_ok-barred.ensures.long in
     let is_barred : barred ≡ get_or c.in_ok-barred.barred.items place false = c.index.ensures ∙ get_or_default c.in_ok-barred.barred.items place barred false (omega (arith, lt, bars)) in
     settled_next paths kept ratio c.args.orientation.now c.requires.there c.facts.ensures.apart c.requires.ends place e barred count places c.loop-place.labels (slice_get-get_or es place (0, 0) lt) held
     (λ q at. c.in_ok-lists.ensures.inside place q (subst (λ l. Contains l q) is at))
-    (λ q at t. subst (λ l. Contains l q) (sym is) (c.in_ok-lists.ensures.all place q lt at t))
+    (λ f q at t. subst (λ l. Contains l q) (sym is) (c.in_ok-lists.ensures.all place q lt (ap (λ l. get_or l place false) c.as_slice.ensures.value ∙ sym is_barred ∙ f) at t))
     (λ t. subst (λ (l : List End). IsBarred paths kept l place) c.as_slice-ends.ensures (c.in_ok-barred.ensures.barred place (sym is_barred ∙ t)))
     c.loop-place.invariant c.settle.new.labels (subst (λ k. IsSettled paths ratio barred count places k c.loop-place.labels c.settle.new.labels) same c.settle.ensures)
 
