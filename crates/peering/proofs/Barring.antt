@@ -49,7 +49,8 @@ clash_at (s ∷ ss) (suc i) x y at next c (inr f) = falls_clash x y c (falls_at 
 
 -- ---- steps
 
-slope_of_step : (labels : List Label) (steps : List Step) (i : ℕ) (s : Step) → slice_get steps i ≡ Some s → slice_get (slopes_by labels steps) i ≡ Some (step_slope (get_or labels s.edge Label.Peer) s.left)
+slope_of_step : (labels : List Label) (steps : List Step) (i : ℕ) (s : Step) → slice_get steps i ≡ Some s →
+    slice_get (slopes_by labels steps) i ≡ Some (step_slope (get_or labels s.edge Label.Peer) s.left)
 slope_of_step labels [] i s at = absurd (cc at)
 slope_of_step labels (t ∷ steps) zero s at =
     ap (λ (u : Step). Some (step_slope (get_or labels u.edge Label.Peer) u.left)) (some_step at)
@@ -96,11 +97,12 @@ All-slice_get P steps k u all is =
     some_step h = cc
 
 -- with a barred edge as a peering there is a valley
-pub no_turn : (old : List Label) (ends : List End) (n many : ℕ) (steps : List Step) → n < length old →
+pub no_flip : (old : List Label) (ends : List End) (n many : ℕ) (steps : List Step) → n < length old →
     ((j : ℕ) → j < many → (get_or old j Label.Peer ≡ Label.Peer) ⊎ (get_or old j Label.Peer ≡ label_of (get_or ends j End.Low))) →
     All (λ (s : Step). s.edge < many) steps → BarredOn ends steps n → Free (slopes_by (set old n Label.Peer) steps) → ⊥
-no_turn old ends n many steps lt cases within (i, s, t, at, next, by) free =
-    clash_at (slopes_by labels steps) i (slope_now s) (slope_now t) (slope_of_step labels steps i s at) (subst (λ k. slice_get (slopes_by labels steps) k ≡ Some (slope_now t)) (add_one i) (slope_of_step labels steps (i + 1) t next))
+no_flip old ends n many steps lt cases within (i, s, t, at, next, by) free =
+    clash_at (slopes_by labels steps) i (slope_now s) (slope_now t) (slope_of_step labels steps i s at)
+    (subst (λ k. slice_get (slopes_by labels steps) k ≡ Some (slope_now t)) (add_one i) (slope_of_step labels steps (i + 1) t next))
     (clash by) free
   where
     labels : List Label
@@ -122,9 +124,9 @@ no_turn old ends n many steps lt cases within (i, s, t, at, next, by) free =
           | inr ne ↦ subst (λ l. (l ≡ Label.Peer) ⊎ (l ≡ label_of (get_or ends u.edge End.Low))) (sym (get_or-set_other old n u.edge Label.Peer Label.Peer ne)) (cases u.edge u_lt)
         ]
 
-    turned : (u : Step) → u.edge ≡ n → slope_now u ≡ Flat
-    turned u e = flat_peer (get_or labels u.edge Label.Peer) u.left (ap (λ k. get_or labels k Label.Peer) e ∙ get_or-set_same old n Label.Peer Label.Peer lt)
+    flipped : (u : Step) → u.edge ≡ n → slope_now u ≡ Flat
+    flipped u e = flat_peer (get_or labels u.edge Label.Peer) u.left (ap (λ k. get_or labels k Label.Peer) e ∙ get_or-set_same old n Label.Peer Label.Peer lt)
 
     clash : BarredBy ends s t n → Clash (slope_now s) (slope_now t)
-    clash (inl b) = inl (turned s b.2, still_not_down (get_or labels t.edge Label.Peer) (get_or ends t.edge End.Low) t.left (now_cases t (inside (i + 1) t next)) b.1)
-    clash (inr b) = inr (still_not_up (get_or labels s.edge Label.Peer) (get_or ends s.edge End.Low) s.left (now_cases s (inside i s at)) b.0, turned t b.2)
+    clash (inl b) = inl (flipped s b.2, still_not_down (get_or labels t.edge Label.Peer) (get_or ends t.edge End.Low) t.left (now_cases t (inside (i + 1) t next)) b.1)
+    clash (inr b) = inr (still_not_up (get_or labels s.edge Label.Peer) (get_or ends s.edge End.Low) s.left (now_cases s (inside i s at)) b.0, flipped t b.2)

@@ -27,7 +27,8 @@ counted_there k (s ∷ steps) h =
     elim (cases_Bool (nat_eq s.edge k)) [
       | inl t ↦ (s, (0, omega arith, refl), eqb-true s.edge k t)
       | inr n ↦
-          let less : 0 + count_by (λ (s : Step). nat_eq s.edge k) steps ≡ 1 = ap (λ b. one b + count_by (λ (s : Step). nat_eq s.edge k) steps) (sym n) ∙ sym (count-cons (λ (s : Step). nat_eq s.edge k) s steps) ∙ h in
+          let less : 0 + count_by (λ (s : Step). nat_eq s.edge k) steps ≡ 1 = ap (λ b. one b + count_by (λ (s : Step). nat_eq s.edge k) steps) (sym n)
+          ∙ sym (count-cons (λ (s : Step). nat_eq s.edge k) s steps) ∙ h in
           let r = counted_there k steps (omega (arith, less)) in (r.0, Contains-append_right (s ∷ []) steps r.0 r.1, r.2)
     ]
 
@@ -72,7 +73,8 @@ listed_more barred first now new path steps i step lt at within (inr (unbarred, 
       All-more (λ (s : Step). IsFalse (get_or barred s.edge false) → Contains (get_or new s.edge []) path) steps i step lt
       (All-weaker (λ (s : Step). IsFalse (get_or barred s.edge false) → Contains (get_or now s.edge []) path)
       (λ (s : Step). IsFalse (get_or barred s.edge false) → Contains (get_or new s.edge []) path) (λ s c f. grow s.edge path (c f)) (take i steps) h.added)
-      (subst (λ (s : Step). IsFalse (get_or barred s.edge false) → Contains (get_or new s.edge []) path) (sym at) (λ f. subst (λ l. Contains l path) (sym here) (Contains-push (get_or now step.edge []) path)));
+      (subst (λ (s : Step). IsFalse (get_or barred s.edge false) → Contains (get_or new s.edge []) path) (sym at)
+      (λ f. subst (λ l. Contains l path) (sym here) (Contains-push (get_or now step.edge []) path)));
 }
   where
     here : get_or new step.edge [] ≡ get_or now step.edge [] ++ path ∷ []
@@ -84,7 +86,9 @@ listed_more barred first now new path steps i step lt at within (inr (unbarred, 
     grow : (k q : ℕ) → Contains (get_or now k []) q → Contains (get_or new k []) q
     grow k q c =
         elim (cases_eq k step.edge) [
-          | inl e ↦ subst (λ n. Contains (get_or new n []) q) (sym e) (subst (λ l. Contains l q) (sym here) (Contains-append_left (get_or now step.edge []) (path ∷ []) q (subst (λ n. Contains (get_or now n []) q) e c)))
+          | inl e ↦ subst (λ n. Contains (get_or new n []) q) (sym e)
+              (subst (λ l. Contains l q) (sym here)
+              (Contains-append_left (get_or now step.edge []) (path ∷ []) q (subst (λ n. Contains (get_or now n []) q) e c)))
           | inr ne ↦ subst (λ l. Contains l q) (sym (there k ne)) c
         ]
 
@@ -121,7 +125,8 @@ held_none barred paths kept lists is = record {
     nothing : (q : ℕ) → Contains [] q → ⊥
     nothing q c = let lt = c.1 in absurd (omega (arith, lt))
 
-pub held_more : (barred : List Bool) (paths : List (List ℕ)) (kept : List ℕ) (n id : ℕ) (steps : List Step) (lists new : List (List ℕ)) → n < length kept → get_or kept n id ≡ id → AllDistinct (path_at paths id) →
+pub held_more : (barred : List Bool) (paths : List (List ℕ)) (kept : List ℕ) (n id : ℕ) (steps : List Step) (lists new : List (List ℕ)) →
+    n < length kept → get_or kept n id ≡ id → AllDistinct (path_at paths id) →
     AreSteps (edges paths) (path_at paths id) steps → IsListed barred lists new id steps → IsHeld barred paths kept n lists → IsHeld barred paths kept (n + 1) new
 held_more barred paths kept n id steps lists new lt at apart are listed h = record {
   many = listed.long ∙ h.many;

@@ -2,5 +2,5 @@ pub mod Barring
 pub mod Holding
 pub mod Reading
 pub mod Steps
-pub mod Turning
+pub mod Flipping
 pub mod Vectors

@@ -14,11 +14,11 @@ use Rattle.relationships.specs.Preference.{MayPeer, with_peer}
 use Rattle.relationships.proofs.Slopes.{Free, Free-from_valley_free}
 use Rattle.as_graph.specs.Paths.{path_at, paths_at}
 use Rattle.as_graph.proofs.Labelled.{NoneTwice, NoneTwice-distinct, labelling_at, orientation_at, slopes-steps}
-use Rattle.peering.specs.Peerings.{edge_at, holds, IsAlike, peer_at, StayFree, MayTurn, IsSettled}
+use Rattle.peering.specs.Peerings.{edge_at, holds, IsAlike, peer_at, StayFree, MayFlip, IsSettled}
 use Rattle.peering.specs.Bars.{IsBarred}
-use Rattle.peering.proofs.Barring.{no_turn}
+use Rattle.peering.proofs.Barring.{no_flip}
 use Rattle.peering.proofs.Reading.{some_same, labelling-set, free_same, free_without, all_at, edge_among}
-use Rattle.peering.proofs.Turning.{IsSoFar, first_or_peer, turns, keeps}
+use Rattle.peering.proofs.Flipping.{IsSoFar, first_or_peer, flips, keeps}
 
 module _ (paths : List (List ℕ)) (kept : List ℕ) (ratio : ℕ) (ends : List End) where
   -- the edges before a place are settled, with one label for each edge
@@ -26,8 +26,11 @@ module _ (paths : List (List ℕ)) (kept : List ℕ) (ratio : ℕ) (ends : List 
     pub count : length labels ≡ length (edges paths)
     pub so_far : IsSoFar (degree paths) ratio (paths_at paths kept) (edges paths) (orientation (edges paths) ends) n (labelling (edges paths) labels)
 
-  module _ (there : All (λ q. q < length paths) kept) (apart : All AllDistinct paths) (each_end : length ends ≡ length (edges paths)) (n : ℕ) (e : Edge) (barred : Bool) (count : ℕ) (places : List ℕ) (old : List Label) (is : slice_get (edges paths) n ≡ Some e) (held : count ≡ support (paths_at paths kept) e)
-      (inside : (q : ℕ) → Contains places q → Contains kept q) (all : IsFalse barred → (q : ℕ) → Contains kept q → IsTrue (holds paths q n) → Contains places q) (bars : IsTrue barred → IsBarred paths kept ends n) (settled : AreSettled n old) where
+  module _ (there : All (λ q. q < length paths) kept) (apart : All AllDistinct paths) (each_end : length ends ≡ length (edges paths)) (n : ℕ)
+      (e : Edge) (barred : Bool) (count : ℕ) (places : List ℕ) (old : List Label) (is : slice_get (edges paths) n ≡ Some e)
+      (held : count ≡ support (paths_at paths kept) e)
+      (inside : (q : ℕ) → Contains places q → Contains kept q) (all : IsFalse barred → (q : ℕ) → Contains kept q → IsTrue (holds paths q n) →
+      Contains places q) (bars : IsTrue barred → IsBarred paths kept ends n) (settled : AreSettled n old) where
     abbrev Now : Labelling
     Now = labelling (edges paths) old
 
@@ -81,18 +84,23 @@ module _ (paths : List (List ℕ)) (kept : List ℕ) (ratio : ℕ) (ends : List 
         let path_apart = All-get_or AllDistinct paths place [] (All-contains (λ q. q < length paths) kept place there among) apart in
         let many : length labels ≡ length (edges paths) = length-set old n Label.Peer ∙ settled.count in
         let slopes_are = slopes-steps (edges paths) labels once many path steps path_apart are in
-        no_turn old ends n (length (edges paths)) steps (subst (λ m. n < m) (sym settled.count) (slice_get_within (edges paths) n e is)) label_cases within on
+        no_flip old ends n (length (edges paths)) steps (subst (λ m. n < m) (sym settled.count) (slice_get_within (edges paths) n e is)) label_cases within on
         (subst Free slopes_are (Free-from_valley_free (labelling (edges paths) labels) path one))
 
-    may : MayTurn paths ratio barred count places n old → MayPeer (degree paths) ratio (paths_at paths kept) Now e
+    may : MayFlip paths ratio barred count places n old → MayPeer (degree paths) ratio (paths_at paths kept) Now e
     may m = record {
       held = subst (λ c. 0 < c) held m.1;
       alike = subst (λ (f : Edge). IsAlike (degree paths) ratio f) at m.2;
       stays = stays m.0 m.3;
     }
 
-    may_back : MayPeer (degree paths) ratio (paths_at paths kept) Now e → MayTurn paths ratio barred count places n old
-    may_back m = (false_from_ne_true barred (λ t. barred_out m.stays (bars t)), subst (λ c. 0 < c) (sym held) m.held, subst (λ (f : Edge). IsAlike (degree paths) ratio f) (sym at) m.alike, stays_back m.stays)
+    may_back : MayPeer (degree paths) ratio (paths_at paths kept) Now e → MayFlip paths ratio barred count places n old
+    may_back m = (
+      false_from_ne_true barred (λ t. barred_out m.stays (bars t)),
+      subst (λ c. 0 < c) (sym held) m.held,
+      subst (λ (f : Edge). IsAlike (degree paths) ratio f) (sym at) m.alike,
+      stays_back m.stays,
+    )
 
     each : (f : Edge) → Contains (edges (paths_at paths kept)) f → Contains (edges paths) f
     each f c = edge_among paths kept f there c
@@ -101,7 +109,7 @@ module _ (paths : List (List ℕ)) (kept : List ℕ) (ratio : ℕ) (ends : List 
     settled_next new (inl h) = record {
       count = ap length h.1 ∙ length-set old n Label.Peer ∙ settled.count;
       so_far =
-          turns (degree paths) ratio (paths_at paths kept) (edges paths) (orientation (edges paths) ends) once each n e Now (labelling (edges paths) new) is
+          flips (degree paths) ratio (paths_at paths kept) (edges paths) (orientation (edges paths) ends) once each n e Now (labelling (edges paths) new) is
           (λ low high. ap (λ l. labelling (edges paths) l low high) h.1 ∙ same low high) (may h.0) settled.so_far;
     }
     settled_next new (inr h) =

@@ -23,9 +23,11 @@ BarredBy ends first second edge =
 -- two of the steps do
 abbrev pub BarredOn : List End → List Step → ℕ → Type 0
 BarredOn ends steps edge =
-    (at : ℕ) × (first second : Step) × (slice_get steps at ≡ Some first) × (slice_get steps (at + 1) ≡ Some second) × BarredBy ends first second edge
+    (at : ℕ) × (first second : Step) × (slice_get steps at ≡ Some first) × (slice_get steps (at + 1) ≡ Some second) ×
+    BarredBy ends first second edge
 
 -- two steps of a kept path do
 abbrev pub IsBarred : List (List ℕ) → List ℕ → List End → ℕ → Type 0
 IsBarred paths kept ends edge =
-    (place : ℕ) × (steps : List Step) × Contains kept place × AreSteps (edges paths) (path_at paths place) steps × All (λ step. step.edge < length (edges paths)) steps × BarredOn ends steps edge
+    (place : ℕ) × (steps : List Step) × Contains kept place × AreSteps (edges paths) (path_at paths place) steps ×
+    All (λ step. step.edge < length (edges paths)) steps × BarredOn ends steps edge

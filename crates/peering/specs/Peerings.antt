@@ -41,14 +41,14 @@ IsOffered paths places edge old new =
 
 -- an edge that so many kept paths hold becomes a peering if it is not barred, its ends are alike in degree and the paths of these
 -- places stay valley-free so, and else all labels stay as they are
-abbrev pub MayTurn : List (List ℕ) → ℕ → Bool → ℕ → List ℕ → ℕ → List Label → Type 0
-MayTurn paths ratio barred count places edge old =
+abbrev pub MayFlip : List (List ℕ) → ℕ → Bool → ℕ → List ℕ → ℕ → List Label → Type 0
+MayFlip paths ratio barred count places edge old =
     IsFalse barred × (0 < count) × IsAlike (degree paths) ratio (edge_at paths edge) × StayFree paths places (peer_at old edge)
 
 abbrev pub IsSettled : List (List ℕ) → ℕ → Bool → ℕ → List ℕ → ℕ → List Label → List Label → Type 0
 IsSettled paths ratio barred count places edge old new =
-    (MayTurn paths ratio barred count places edge old × (new ≡ peer_at old edge)) ⊎
-    ((MayTurn paths ratio barred count places edge old → ⊥) × (new ≡ old))
+    (MayFlip paths ratio barred count places edge old × (new ≡ peer_at old edge)) ⊎
+    ((MayFlip paths ratio barred count places edge old → ⊥) × (new ≡ old))
 
 -- each orientation that has the providers of the edges that are no peerings serves the paths, whichever way the peerings are read
 abbrev pub ServeEitherWay : Labelling → List (List ℕ) → Type 0
@@ -57,4 +57,5 @@ ServeEitherWay L paths = (O : Orientation) → AgreesOn (edges paths) L (labels_
 -- no edge of these that is on one of the paths, with ends alike in degree, could be one peering more
 abbrev pub NoneLeftOut : (ℕ → ℕ) → ℕ → List (List ℕ) → List Edge → Labelling → Type 0
 NoneLeftOut degree ratio paths es L =
-    All (λ (e : Edge). L e.0 e.1 ≢ Label.Peer → 0 < support paths e → IsAlike degree ratio e → All (ValleyFree (with_peer L e)) paths → ⊥) es
+    All (λ (e : Edge). L e.0 e.1 ≢ Label.Peer → 0 < support paths e → IsAlike degree ratio e →
+    All (ValleyFree (with_peer L e)) paths → ⊥) es

@@ -25,7 +25,8 @@ fn bar_pair(barred: &mut Vec<bool>, first: &Step, second: &Step, ends: &[End])
     requires first { first.now.edge < length ends.now }
     requires second { second.now.edge < length ends.now }
     ensures long { length barred.new.items ≡ length ends.now }
-    ensures barred { (k : ℕ) → IsTrue (slice_index_or barred.new.items k false) → IsTrue (slice_index_or barred.old.items k false) ⊎ BarredBy ends.now first.now second.now k }
+    ensures barred { (k : ℕ) → IsTrue (slice_index_or barred.new.items k false) →
+        IsTrue (slice_index_or barred.old.items k false) ⊎ BarredBy ends.now first.now second.now k }
 {
     let up = climbs(ends[first.edge.place()], first.left);
     let next_up = climbs(ends[second.edge.place()], second.left);
@@ -42,7 +43,8 @@ fn bar_along(barred: &mut Vec<bool>, steps: &[Step], ends: &[End])
     requires long { length barred.old.items ≡ length ends.now }
     requires inside { All (λ step. step.edge < length ends.now) steps.now }
     ensures long { length barred.new.items ≡ length ends.now }
-    ensures barred { (k : ℕ) → IsTrue (slice_index_or barred.new.items k false) → IsTrue (slice_index_or barred.old.items k false) ⊎ BarredOn ends.now steps.now k }
+    ensures barred { (k : ℕ) → IsTrue (slice_index_or barred.new.items k false) →
+        IsTrue (slice_index_or barred.old.items k false) ⊎ BarredOn ends.now steps.now k }
 {
     for at in 1..steps.len() {
         bar_pair(barred, &steps[at - 1], &steps[at], ends);
@@ -60,7 +62,8 @@ pub(crate) fn bars(
     requires there { All (λ path. path < length graph.now) kept.now }
     requires ends { length ends.now ≡ length (edges graph.now) }
     ensures long { IfOk result (λ barred. length barred.items ≡ length (edges graph.now)) }
-    ensures barred { IfOk result (λ barred. (k : ℕ) → IsTrue (slice_index_or barred.items k false) → IsBarred graph.now kept.now ends.now k) }
+    ensures barred { IfOk result (λ barred. (k : ℕ) → IsTrue (slice_index_or barred.items k false) →
+        IsBarred graph.now kept.now ends.now k) }
 {
     let mut barred = Vec::new(alloc);
     barred.resize(ends.len(), false)?;

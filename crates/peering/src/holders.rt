@@ -53,9 +53,12 @@ fn add_along(
     requires there { All (λ step. step.edge < length lists.old.items) steps.now }
     requires barred { length barred.now ≡ length lists.old.items }
     ensures length { length lists.new.items ≡ length lists.old.items }
-    ensures kept { OnOk result ((k q : ℕ) → Contains (slice_index_or lists.old.items k []) q → Contains (slice_index_or lists.new.items k []) q) }
-    ensures inside { OnOk result ((k q : ℕ) → Contains (slice_index_or lists.new.items k []) q → Contains (slice_index_or lists.old.items k []) q ⊎ (q ≡ path)) }
-    ensures added { OnOk result (All (λ step. IsFalse (slice_index_or barred.now step.edge false) → Contains (slice_index_or lists.new.items step.edge []) path) steps.now) }
+    ensures kept { OnOk result ((k q : ℕ) → Contains (slice_index_or lists.old.items k []) q →
+        Contains (slice_index_or lists.new.items k []) q) }
+    ensures inside { OnOk result ((k q : ℕ) → Contains (slice_index_or lists.new.items k []) q →
+        Contains (slice_index_or lists.old.items k []) q ⊎ (q ≡ path)) }
+    ensures added { OnOk result (All (λ step. IsFalse (slice_index_or barred.now step.edge false) →
+        Contains (slice_index_or lists.new.items step.edge []) path) steps.now) }
 {
     for step in steps {
         let is_barred = barred[step.edge.place()];
@@ -76,7 +79,9 @@ pub(crate) fn paths_by_edge(
     requires barred { length barred.now ≡ length (edges graph.now) }
     ensures many { IfOk result (λ lists. length lists.items ≡ length (edges graph.now)) }
     ensures inside { IfOk result (λ lists. (k q : ℕ) → Contains (slice_index_or lists.items k []) q → Contains kept.now q) }
-    ensures all { IfOk result (λ lists. (k q : ℕ) → k < length (edges graph.now) → IsFalse (slice_index_or barred.now k false) → Contains kept.now q → IsTrue (holds graph.now q k) → Contains (slice_index_or lists.items k []) q) }
+    ensures all { IfOk result (λ lists. (k q : ℕ) → k < length (edges graph.now) →
+        IsFalse (slice_index_or barred.now k false) → Contains kept.now q → IsTrue (holds graph.now q k) →
+        Contains (slice_index_or lists.items k []) q) }
 {
     graph.facts();
     let mut lists = no_paths(alloc, graph.edge_count())?;

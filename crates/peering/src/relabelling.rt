@@ -103,10 +103,14 @@ pub fn relabel(
     requires served { Serves (orientation_of (edges graph.now) orientation.now) (paths_at graph.now kept.now) }
     requires small { ratio ≤ 1000000 }
     ensures count { IfOk result (λ labels. length labels ≡ length (edges graph.now)) }
-    ensures relabelled { IfOk result (λ labels. IsRelabelled (degree graph.now) ratio (paths_at graph.now kept.now) (edges graph.now) (labels_of (orientation_of (edges graph.now) orientation.now)) (labelling (edges graph.now) labels)) }
+    ensures relabelled { IfOk result
+        (λ labels. IsRelabelled (degree graph.now) ratio (paths_at graph.now kept.now) (edges graph.now)
+        (labels_of (orientation_of (edges graph.now) orientation.now)) (labelling (edges graph.now) labels)) }
     ensures valley_free { IfOk result (λ labels. All (ValleyFree (labelling (edges graph.now) labels)) (paths_at graph.now kept.now)) }
     ensures either_way { IfOk result (λ labels. ServeEitherWay (labelling (edges graph.now) labels) (paths_at graph.now kept.now)) }
-    ensures none_left_out { IfOk result (λ labels. NoneLeftOut (degree graph.now) ratio (paths_at graph.now kept.now) (edges graph.now) (labelling (edges graph.now) labels)) }
+    ensures none_left_out { IfOk result
+        (λ labels. NoneLeftOut (degree graph.now) ratio (paths_at graph.now kept.now) (edges graph.now)
+        (labelling (edges graph.now) labels)) }
 {
     graph.facts();
     let counts = graph.support(alloc, kept)?;

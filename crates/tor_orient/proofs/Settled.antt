@@ -147,7 +147,9 @@ module _ (f : Formula) (prefs : List Pref) (count : ℕ) (old new : Reach ℕ �
   unchanged same settled = elim settled [
     | inl h ↦ next wanted_one (inl refl) (keep wanted_one h) (inl (keep wanted_one h))
     | inr h ↦ next (opposite_node wanted_one) (inr refl) (keep (opposite_node wanted_one) h) (inr (λ ends model agrees holds.
-        holds_one ends wanted_one holds (so.follows ends model (λ j q lt there. let a = agrees j q lt there in (λ h. a.0 (keep (node_wanted q) h), λ h. a.1 (keep (opposite_node (node_wanted q)) h))) (opposite_node wanted_one) h)))
+        holds_one ends wanted_one holds
+        (so.follows ends model (λ j q lt there. let a = agrees j q lt there in
+        (λ h. a.0 (keep (node_wanted q) h), λ h. a.1 (keep (opposite_node (node_wanted q)) h))) (opposite_node wanted_one) h)))
   ]
     where
       keep : (n : ℕ) → Contains old.nodes n → Contains new.nodes n

@@ -34,15 +34,18 @@ AgreesUpTo prefs count settled ends =
 
 -- no orientation that serves, and agrees with all that is settled of the first edges, so many, has the end that this one wants
 abbrev pub IsRuledOut : Formula → List Pref → ℕ → List ℕ → Pref → Type 0
-IsRuledOut f prefs count settled p = (ends : List End) → IsModel f ends → AgreesUpTo prefs count settled ends → Holds ends (lit_of (node_wanted p)) → ⊥
+IsRuledOut f prefs count settled p = (ends : List End) → IsModel f ends → AgreesUpTo prefs count settled ends →
+    Holds ends (lit_of (node_wanted p)) → ⊥
 
 -- the edges of the first preferences, so many, are settled
 pub record AreSettled (f : Formula) (prefs : List Pref) (count : ℕ) (r : Reach ℕ ℕ) : Type 0 where
   pub closed : IsClosed f.net r
   pub consistent : (n : ℕ) → Contains r.nodes n → Contains r.nodes (opposite_node n) → ⊥
-  pub each : (k : ℕ) (p : Pref) → k < count → slice_get prefs k ≡ Some p → Contains r.nodes (node_wanted p) ⊎ Contains r.nodes (opposite_node (node_wanted p))
+  pub each : (k : ℕ) (p : Pref) → k < count → slice_get prefs k ≡ Some p → Contains r.nodes (node_wanted p) ⊎
+      Contains r.nodes (opposite_node (node_wanted p))
   -- all that is settled follows from that of these edges
-  pub follows : (ends : List End) → IsModel f ends → AgreesUpTo prefs count r.nodes ends → (n : ℕ) → Contains r.nodes n → Holds ends (lit_of n)
+  pub follows : (ends : List End) → IsModel f ends → AgreesUpTo prefs count r.nodes ends → (n : ℕ) →
+      Contains r.nodes n → Holds ends (lit_of n)
   pub best : (k : ℕ) (p : Pref) → k < count → slice_get prefs k ≡ Some p → Contains r.nodes (node_wanted p) ⊎ IsRuledOut f prefs k r.nodes p
 
 -- ---- the ends that are settled

@@ -74,8 +74,12 @@ pub fn orient(
     requires each { (e : Edge) → Contains (edges graph.now) e ↔ Contains (edges_of (edges graph.now) prefs.now) e }
     ensures many { IfOk result (λ ends. length ends ≡ length (edges graph.now)) }
     ensures serves { IfOk result (IsServed graph.now clauses.now.paths) }
-    ensures preferred { IfOk result (λ ends. IsPreferred (paths_at graph.now clauses.now.paths) (wish (edges graph.now) prefs.now) (edges_of (edges graph.now) prefs.now) (orientation (edges graph.now) ends)) }
-    ensures wishes { IfOk result (λ ends. (wanted : Edge → End) → AreWishes (edges graph.now) prefs.now wanted → IsPreferred (paths_at graph.now clauses.now.paths) wanted (edges_of (edges graph.now) prefs.now) (orientation (edges graph.now) ends)) }
+    ensures preferred { IfOk result
+        (λ ends. IsPreferred (paths_at graph.now clauses.now.paths) (wish (edges graph.now) prefs.now)
+        (edges_of (edges graph.now) prefs.now) (orientation (edges graph.now) ends)) }
+    ensures wishes { IfOk result (λ ends. (wanted : Edge → End) → AreWishes (edges graph.now) prefs.now wanted →
+        IsPreferred (paths_at graph.now clauses.now.paths) wanted (edges_of (edges graph.now) prefs.now)
+        (orientation (edges graph.now) ends)) }
 {
     graph.facts();
     clauses.facts();

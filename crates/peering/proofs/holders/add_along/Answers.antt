@@ -13,8 +13,10 @@ loop-step-preserved c =
     let within : c.step-item.result.edge < length c.loop-step.lists.items = search rules in
     let place = c.place.ensures.place in
     let added : IsAdded (get_or c.args.barred.now c.step-item.result.edge false) c.step-item.result.edge c.args.path c.loop-step.lists.items c.add_unless_barred.new.lists.items =
-    subst (λ k. IsAdded (get_or c.args.barred.now k false) c.step-item.result.edge c.args.path c.loop-step.lists.items c.add_unless_barred.new.lists.items) place c.in_ok-add_unless_barred.ensures.added in
-    listed_more c.args.barred.now c.args.lists.now.items c.loop-step.lists.items c.add_unless_barred.new.lists.items c.args.path c.args.steps.now c.loop-step.step-index c.step-item.result c.loop-step-test.true (sym c.step-item.is) within
+    subst (λ k. IsAdded (get_or c.args.barred.now k false) c.step-item.result.edge c.args.path c.loop-step.lists.items
+    c.add_unless_barred.new.lists.items) place c.in_ok-add_unless_barred.ensures.added in
+    listed_more c.args.barred.now c.args.lists.now.items c.loop-step.lists.items c.add_unless_barred.new.lists.items c.args.path c.args.steps.now
+    c.loop-step.step-index c.step-item.result c.loop-step-test.true (sym c.step-item.is) within
     added c.loop-step.invariant
 
 pub returns-clause-added : goal.returns-clause-added

@@ -12,7 +12,9 @@ returns-then-not-valley_free c =
     let item = c.path-item.result in
     let valley : IsFalse c.valley_free.result = search rules in (
       λ t. absurd (false≢true t),
-      λ all. absurd (false≢true (sym valley ∙ c.valley_free.ensures.1 (subst (λ p. ValleyFree (labelling (edges graph) c.args.labels.now) (path_at graph p)) (sym c.path-item.is) (all c.loop-path.path-index item c.loop-path-test.true)))),
+      λ all. absurd (false≢true (sym valley ∙
+          c.valley_free.ensures.1 (subst (λ p. ValleyFree (labelling (edges graph) c.args.labels.now) (path_at graph p)) (sym c.path-item.is)
+          (all c.loop-path.path-index item c.loop-path-test.true)))),
     )
 
 pub loop-path-preserved : goal.loop-path-preserved

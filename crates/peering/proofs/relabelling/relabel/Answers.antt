@@ -13,7 +13,7 @@ use Rattle.as_graph.proofs.Labelled.{NoneTwice-distinct}
 use Rattle.peering.specs.Bars.{IsBarred}
 use Rattle.peering.specs.Peerings.{IsSettled}
 use Rattle.peering.proofs.Reading.{edge_among}
-use Rattle.peering.proofs.Turning.{begins, relabelled}
+use Rattle.peering.proofs.Flipping.{begins, relabelled}
 use Rattle.peering.proofs.Steps.{AreSettled, settled_next}
 use Rattle.peering.proofs.relabelling.relabel.Goals as goal
 
@@ -65,7 +65,8 @@ loop-place-preserved c =
     let barred = c.index.result.now in
     let bars = c.in_ok-barred.ensures.long in
     let is_barred : barred ≡ get_or c.in_ok-barred.barred.items place false = c.index.ensures ∙ get_or_default c.in_ok-barred.barred.items place barred false (omega (arith, lt, bars)) in
-    settled_next paths kept ratio c.args.orientation.now c.requires.there c.facts.ensures.apart c.requires.ends place e barred count places c.loop-place.labels (slice_get-get_or es place (0, 0) lt) held
+    settled_next paths kept ratio c.args.orientation.now c.requires.there c.facts.ensures.apart c.requires.ends place e barred count places
+    c.loop-place.labels (slice_get-get_or es place (0, 0) lt) held
     (λ q at. c.in_ok-lists.ensures.inside place q (subst (λ l. Contains l q) is at))
     (λ f q at t. subst (λ l. Contains l q) (sym is) (c.in_ok-lists.ensures.all place q lt (ap (λ l. get_or l place false) c.as_slice.ensures.value ∙ sym is_barred ∙ f) at t))
     (λ t. subst (λ (l : List End). IsBarred paths kept l place) c.as_slice-ends.ensures (c.in_ok-barred.ensures.barred place (sym is_barred ∙ t)))

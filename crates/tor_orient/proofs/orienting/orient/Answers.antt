@@ -17,7 +17,8 @@ returns-clause-serves c =
     let f = c.args.clauses.now in
     let made = c.in_ok-ends.ends.items in
     let many = c.in_ok-ends.ensures.many ∙ c.edge_count.ensures.count in
-    let is = serves graph f c.facts.ensures.apart c.requires.fits c.args.prefs.now c.in_ok-settled.settled made c.in_ok-settled.ensures c.requires.inside c.requires.each many c.in_ok-ends.ensures.ends c.model_law.ensures in
+    let is = serves graph f c.facts.ensures.apart c.requires.fits c.args.prefs.now c.in_ok-settled.settled made c.in_ok-settled.ensures
+    c.requires.inside c.requires.each many c.in_ok-ends.ensures.ends c.model_law.ensures in
     IfOk-weaker c.from_ends.result (λ (o : List End). o ≡ c.as_slice.result.now) (IsServed graph f.paths)
     (λ o same. subst (IsServed graph f.paths) (sym (same ∙ c.as_slice.ensures.value)) is) c.from_ends.ensures
 
@@ -30,7 +31,8 @@ returns-clause-preferred c =
     let made = c.in_ok-ends.ends.items in
     let many = c.in_ok-ends.ensures.many ∙ c.edge_count.ensures.count in
     let is =
-    preferred graph f c.facts.ensures.apart c.requires.fits prefs c.in_ok-settled.settled made c.in_ok-settled.ensures c.requires.inside c.requires.each many c.in_ok-ends.ensures.ends c.model_law.ensures
+    preferred graph f c.facts.ensures.apart c.requires.fits prefs c.in_ok-settled.settled made c.in_ok-settled.ensures c.requires.inside
+    c.requires.each many c.in_ok-ends.ensures.ends c.model_law.ensures
     (wish es prefs) (wishes graph prefs c.requires.inside c.requires.apart) in
     IfOk-weaker c.from_ends.result (λ (o : List End). o ≡ c.as_slice.result.now)
     (λ (o : List End). IsPreferred (paths_at graph f.paths) (wish es prefs) (edges_of es prefs) (orientation es o))
@@ -44,8 +46,10 @@ returns-clause-wishes c =
     let es = edges graph in
     let made = c.in_ok-ends.ends.items in
     let many = c.in_ok-ends.ensures.many ∙ c.edge_count.ensures.count in
-    let is = preferred graph f c.facts.ensures.apart c.requires.fits prefs c.in_ok-settled.settled made c.in_ok-settled.ensures c.requires.inside c.requires.each many c.in_ok-ends.ensures.ends c.model_law.ensures in
+    let is = preferred graph f c.facts.ensures.apart c.requires.fits prefs c.in_ok-settled.settled made c.in_ok-settled.ensures c.requires.inside
+    c.requires.each many c.in_ok-ends.ensures.ends c.model_law.ensures in
     IfOk-weaker c.from_ends.result (λ (o : List End). o ≡ c.as_slice.result.now)
     (λ (o : List End). (wanted : Edge → End) → AreWishes es prefs wanted → IsPreferred (paths_at graph f.paths) wanted (edges_of es prefs) (orientation es o))
-    (λ o same. subst (λ (l : List End). (wanted : Edge → End) → AreWishes es prefs wanted → IsPreferred (paths_at graph f.paths) wanted (edges_of es prefs) (orientation es l)) (sym (same ∙ c.as_slice.ensures.value)) is)
+    (λ o same. subst (λ (l : List End). (wanted : Edge → End) → AreWishes es prefs wanted →
+    IsPreferred (paths_at graph f.paths) wanted (edges_of es prefs) (orientation es l)) (sym (same ∙ c.as_slice.ensures.value)) is)
     c.from_ends.ensures

@@ -23,11 +23,21 @@ returns-then-has-3-clause-settled c =
     let other_is : c.opposite-other.result ≡ opposite_node node = c.opposite-other.ensures ∙ ap opposite_node node_is in
     let unwanted = subst (λ n. Contains old n → ⊥) node_is (λ h. false≢true (sym c.if-has.false ∙ c.has.ensures.1 h)) in
     let unsettled = subst (λ n. Contains old n → ⊥) other_is (λ h. false≢true (sym c.if-has-2.false ∙ c.has-2.ensures.1 h)) in
-    let grown = subst (λ n. IsGrown n.arcs node c.reach_none_again.new.reached.nodes found) c.digraph-digraph.ensures (subst (λ n. IsGrown net.arcs n c.reach_none_again.new.reached.nodes found) node_is c.in_ok-reach_near_to.ensures.grown) in
+    let grown = subst (λ n. IsGrown n.arcs node c.reach_none_again.new.reached.nodes found) c.digraph-digraph.ensures
+    (subst (λ n. IsGrown net.arcs n c.reach_none_again.new.reached.nodes found) node_is c.in_ok-reach_near_to.ensures.grown) in
     let way =
-    found_way c.args.clauses.now.net.arcs node c.reach_none_again.new.reached.nodes found c.in_ok-reach_none_again.ensures.nodes grown (opposite_node node) (subst (Contains found) other_is (c.has-3.ensures.0 c.if-has-3.true)) in
+    found_way c.args.clauses.now.net.arcs node c.reach_none_again.new.reached.nodes found c.in_ok-reach_none_again.ensures.nodes grown
+    (opposite_node node) (subst (Contains found) other_is (c.has-3.ensures.0 c.if-has-3.true)) in
     on_ok_weaker c.reach_more.result
-    (λ more. inr (unwanted, unsettled, inr (way, subst (λ n. IsGrown n.arcs (opposite_node node) old c.reach_more.new.reached.nodes) c.digraph-digraph.ensures (subst (λ n. IsGrown net.arcs n old c.reach_more.new.reached.nodes) other_is more))))
+    (λ more. inr (
+      unwanted,
+      unsettled,
+      inr (
+        way,
+        subst (λ n. IsGrown n.arcs (opposite_node node) old c.reach_more.new.reached.nodes) c.digraph-digraph.ensures
+            (subst (λ n. IsGrown net.arcs n old c.reach_more.new.reached.nodes) other_is more),
+      ),
+    ))
     c.reach_more.ensures.grown
 
 pub returns-clause-settled : goal.returns-clause-settled
@@ -44,7 +54,17 @@ returns-clause-settled c =
     let not_found : Contains tried.nodes c.opposite-other.result → ⊥ = λ h. false≢true (sym c.if-has-3.false ∙ c.has-3.ensures.1 h) in
     let near = subst (λ n. IsFlooded (λ n. n) (λ a. a) n.nodes n.arcs old tried) c.digraph-digraph.ensures (c.in_ok-reach_near_to.ensures.flooded not_found) in
     let apart =
-    no_way c.args.clauses.now settled tried node c.requires.closed near (subst (Contains tried.nodes) node_is c.in_ok-reach_near_to.ensures.grown.has_start) (subst (λ n. Contains tried.nodes n → ⊥) other_is not_found) unsettled in
+    no_way c.args.clauses.now settled tried node c.requires.closed near
+    (subst (Contains tried.nodes) node_is c.in_ok-reach_near_to.ensures.grown.has_start)
+    (subst (λ n. Contains tried.nodes n → ⊥) other_is not_found) unsettled in
     on_ok_weaker c.reach_more-2.result
-    (λ more. inr (unwanted, unsettled, inl (apart, subst (λ n. IsGrown n.arcs node old c.reach_more-2.new.reached.nodes) c.digraph-digraph.ensures (subst (λ n. IsGrown net.arcs n old c.reach_more-2.new.reached.nodes) node_is more))))
+    (λ more. inr (
+      unwanted,
+      unsettled,
+      inl (
+        apart,
+        subst (λ n. IsGrown n.arcs node old c.reach_more-2.new.reached.nodes) c.digraph-digraph.ensures
+            (subst (λ n. IsGrown net.arcs n old c.reach_more-2.new.reached.nodes) node_is more),
+      ),
+    ))
     c.reach_more-2.ensures.grown

@@ -23,5 +23,6 @@ loop-place-preserved c =
     let at : slice_get prefs place ≡ Some p = slice_get_read prefs (length prefs) place p refl (omega (arith, test, end)) c.index-prefs-place.is in
     let within = All-contains (λ (q : Pref). q.edge < length (edges graph)) prefs p c.requires.inside (Contains-from_has prefs p (place, at)) in
     let below : node_wanted p < f.net.nodes = subst (λ n. node_wanted p < n) (sym c.requires.fits.nodes) (node_below (record { edge = p.edge; over = p.wanted }) (length (edges graph)) within) in
-    settled_next f prefs place c.loop-place.settled c.settle.new.settled p c.facts-2.ensures.partners (one_way graph f c.facts.ensures.apart c.requires.fits c.requires.servable (node_wanted p) below) c.loop-place.invariant at
+    settled_next f prefs place c.loop-place.settled c.settle.new.settled p c.facts-2.ensures.partners
+    (one_way graph f c.facts.ensures.apart c.requires.fits c.requires.servable (node_wanted p) below) c.loop-place.invariant at
     c.in_ok-settle.ensures.closed c.in_ok-settle.ensures.settled

@@ -59,7 +59,7 @@ module _ (degree : ℕ → ℕ) (ratio : ℕ) (kept : List (List ℕ)) (es : Lis
   -- the edges before a place are settled, and the others have their first labels
   pub record IsSoFar (n : ℕ) (L : Labelling) : Type 0 where
     pub rest : (j : ℕ) (f : Edge) → n ≤ j → slice_get es j ≡ Some f → L f.0 f.1 ≡ labels_of O f.0 f.1
-    pub turned : (j : ℕ) (f : Edge) → j < n → slice_get es j ≡ Some f → ((L f.0 f.1 ≡ Label.Peer) ↔ MayPeer degree ratio kept (so_far (take j es) L (labels_of O)) f)
+    pub flipped : (j : ℕ) (f : Edge) → j < n → slice_get es j ≡ Some f → ((L f.0 f.1 ≡ Label.Peer) ↔ MayPeer degree ratio kept (so_far (take j es) L (labels_of O)) f)
     pub others : (j : ℕ) (f : Edge) → j < n → slice_get es j ≡ Some f → L f.0 f.1 ≢ Label.Peer → L f.0 f.1 ≡ labels_of O f.0 f.1
     pub free : All (ValleyFree L) kept
 
@@ -118,16 +118,17 @@ module _ (degree : ℕ → ℕ) (ratio : ℕ) (kept : List (List ℕ)) (es : Lis
         some_same h = cc
 
     -- the edge of the place becomes a peering
-    pub turns : (n : ℕ) (e : Edge) (L L' : Labelling) → slice_get es n ≡ Some e → ((low high : ℕ) → L' low high ≡ with_peer L e low high) → MayPeer degree ratio kept L e → IsSoFar n L → IsSoFar (n + 1) L'
-    turns n e L L' is same may h = record {
+    pub flips : (n : ℕ) (e : Edge) (L L' : Labelling) → slice_get es n ≡ Some e → ((low high : ℕ) → L' low high ≡ with_peer L e low high) →
+        MayPeer degree ratio kept L e → IsSoFar n L → IsSoFar (n + 1) L'
+    flips n e L L' is same may h = record {
       rest = λ j f le at.
           elsewhere n j e f L L' is at (swapped f e ∙ apart_before j n f e at is (omega (arith, le))) same ∙ h.rest j f (omega (arith, le)) at;
-      turned = λ j f lt at.
+      flipped = λ j f lt at.
           elim (cases_lt j n) [
             | inl less ↦
                 let same_f = elsewhere n j e f L L' is at (apart_before n j e f is at less) same in
                 let le : j ≤ n = omega (arith, less) in
-                let was = h.turned j f less at in (
+                let was = h.flipped j f less at in (
                   λ p. MayPeer-same (so_far (take j es) L (labels_of O)) (so_far (take j es) L' (labels_of O)) f (λ g c. unchanged n j e L L' is le same g.0 g.1) (was.0 (sym same_f ∙ p)),
                   λ m. same_f ∙ was.1 (MayPeer-same (so_far (take j es) L' (labels_of O)) (so_far (take j es) L (labels_of O)) f (λ g c. sym (unchanged n j e L L' is le same g.0 g.1)) m),
                 )
@@ -156,9 +157,9 @@ module _ (degree : ℕ → ℕ) (ratio : ℕ) (kept : List (List ℕ)) (es : Lis
     pub keeps : (n : ℕ) (e : Edge) (L : Labelling) → slice_get es n ≡ Some e → (MayPeer degree ratio kept L e → ⊥) → IsSoFar n L → IsSoFar (n + 1) L
     keeps n e L is may_not h = record {
       rest = λ j f le at. h.rest j f (omega (arith, le)) at;
-      turned = λ j f lt at.
+      flipped = λ j f lt at.
           elim (cases_lt j n) [
-            | inl less ↦ h.turned j f less at
+            | inl less ↦ h.flipped j f less at
             | inr ge ↦
                 let at_n : j ≡ n = omega (arith, lt, ge) in
                 let is_e = same_place n j e f at_n is at in (
@@ -181,7 +182,7 @@ module _ (degree : ℕ → ℕ) (ratio : ℕ) (kept : List (List ℕ)) (es : Lis
     relabelled n L all h before e after split =
         let at = split_place es before e after split in
         let lt : length before < n = subst (λ m. length before < m) (sym all) at.2 in (
-          subst (λ b. (L e.0 e.1 ≡ Label.Peer) ↔ MayPeer degree ratio kept (so_far b L (labels_of O)) e) at.1 (h.turned (length before) e lt at.0),
+          subst (λ b. (L e.0 e.1 ≡ Label.Peer) ↔ MayPeer degree ratio kept (so_far b L (labels_of O)) e) at.1 (h.flipped (length before) e lt at.0),
           h.others (length before) e lt at.0,
         )
       where
@@ -190,7 +191,8 @@ module _ (degree : ℕ → ℕ) (ratio : ℕ) (kept : List (List ℕ)) (es : Lis
         split_place es before e after split =
             subst (λ (l : List Edge). (slice_get l (length before) ≡ Some e) × (take (length before) l ≡ before) × (length before < length l)) (sym split) (go before)
           where
-            go : (before : List Edge) → (slice_get (before ++ (e ∷ after)) (length before) ≡ Some e) × (take (length before) (before ++ (e ∷ after)) ≡ before) × (length before < length (before ++ (e ∷ after)))
+            go : (before : List Edge) → (slice_get (before ++ (e ∷ after)) (length before) ≡ Some e) ×
+                (take (length before) (before ++ (e ∷ after)) ≡ before) × (length before < length (before ++ (e ∷ after)))
             go [] = (refl, refl, omega arith)
             go (x ∷ before) = let r = go before in let lt = r.2 in (r.0, ap (λ (l : List Edge). x ∷ l) r.1, omega (arith, lt))
 
@@ -199,7 +201,7 @@ pub begins : (degree : ℕ → ℕ) (ratio : ℕ) (kept : List (List ℕ)) (es :
     Serves (orientation es ends) kept → IsSoFar degree ratio kept es (orientation es ends) 0 (labelling es (map label_of ends))
 begins degree ratio kept es ends once each many serves = record {
   rest = λ j f le at. first j f at;
-  turned = λ j f lt at. absurd (omega (arith, lt));
+  flipped = λ j f lt at. absurd (omega (arith, lt));
   others = λ j f lt at. absurd (omega (arith, lt));
   free = free_by (labels_of (orientation es ends)) (labelling es (map label_of ends)) kept (λ f c. let at = place_of es f (each f c) in sym (first at.0 f at.1)) serves;
 }
