@@ -51,7 +51,7 @@ IsBuilt-more paths place es rows path new steps h at is are =
       stepped = subst (λ ps. HaveSteps new ps (rows ++ steps ∷ [])) (sym next) (HaveSteps-push new (take place paths) rows path steps kept are);
     }
 
--- the paths that are told by the steps are all the paths
+-- the paths that the steps give are all the paths
 pub IsBuilt-view : (paths : List (List ℕ)) (place : ℕ) (es : List Edge) (rows : List (List Step)) → IsBuilt paths place es rows → length paths ≤ place →
     All (λ path. 2 ≤ length path) paths → map (path_by es) rows ≡ paths
 IsBuilt-view paths place es rows h end two =

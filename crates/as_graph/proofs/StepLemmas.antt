@@ -106,7 +106,7 @@ Walked-all before es path at steps h le =
     let all = take_all at path le in
     (h.there ∙ ap (λ l. with_edges before (edges_on l)) all, subst (λ l. AreSteps es l steps) all h.stepped)
 
--- ---- a path is told by its steps
+-- ---- a path is given by its steps
 
 left_here : (a b : ℕ) → as_at (edge_of a b) (end_left a b) ≡ a
 left_here a b =

@@ -55,8 +55,8 @@ first_steps = step 0 End.Low ∷ step 1 End.High ∷ step 2 End.High ∷ step 3 
 steps_found : AreSteps its_edges (path_at three 0) first_steps
 steps_found = ((refl, refl), ((refl, refl), ((refl, refl), ((refl, refl), ((refl, refl), tt)))))
 
-path_told : path_by its_edges first_steps ≡ first
-path_told = refl
+path_given : path_by its_edges first_steps ≡ first
+path_given = refl
 
 -- ---- labels of the path 10 20 30
 

@@ -41,7 +41,7 @@ abbrev pub with_edges : List Edge → List Edge → List Edge
 with_edges es [] = es
 with_edges es (e ∷ more) = with_edges (with_edge es e) more
 
--- ---- paths told by their steps
+-- ---- paths given by their steps
 
 abbrev pub as_at : Edge → End → ℕ
 as_at e End.Low = e.0

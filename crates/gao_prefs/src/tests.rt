@@ -81,7 +81,9 @@ fn preferences_of_three_paths(rt: HostRuntime) -> Result<(), Fail> {
 }
 
 fn six_paths(alloc: Global) -> Result<Rows<PathId, u32>, RowRefused>
-    ensures { IfOk result (λ rows. rows ≡ (6939 ∷ 174 ∷ 3356 ∷ 1299 ∷ 8220 ∷ 3333 ∷ []) ∷ (397213 ∷ 1299 ∷ 8220 ∷ 3333 ∷ []) ∷ (6939 ∷ 3356 ∷ 2906 ∷ []) ∷ (397213 ∷ 1299 ∷ 3356 ∷ 2906 ∷ []) ∷ (8220 ∷ 1299 ∷ 3356 ∷ 6939 ∷ 174 ∷ []) ∷ (8220 ∷ 3333 ∷ 1299 ∷ 3356 ∷ []) ∷ []) }
+    ensures { IfOk result (λ rows. rows ≡ (6939 ∷ 174 ∷ 3356 ∷ 1299 ∷ 8220 ∷ 3333 ∷ []) ∷ (397213 ∷ 1299 ∷ 8220 ∷ 3333 ∷ []) ∷
+        (6939 ∷ 3356 ∷ 2906 ∷ []) ∷ (397213 ∷ 1299 ∷ 3356 ∷ 2906 ∷ []) ∷ (8220 ∷ 1299 ∷ 3356 ∷ 6939 ∷ 174 ∷ []) ∷
+        (8220 ∷ 3333 ∷ 1299 ∷ 3356 ∷ []) ∷ []) }
 {
     let mut rows = Rows::new(alloc);
     rows.push_row(&[6939, 174, 3356, 1299, 8220, 3333])?;
@@ -94,7 +96,9 @@ fn six_paths(alloc: Global) -> Result<Rows<PathId, u32>, RowRefused>
 }
 
 fn six_path_graph(alloc: Global, keys: Keys) -> Result<AsGraph, Fail>
-    ensures { IfOk result (λ graph. graph ≡ (6939 ∷ 174 ∷ 3356 ∷ 1299 ∷ 8220 ∷ 3333 ∷ []) ∷ (397213 ∷ 1299 ∷ 8220 ∷ 3333 ∷ []) ∷ (6939 ∷ 3356 ∷ 2906 ∷ []) ∷ (397213 ∷ 1299 ∷ 3356 ∷ 2906 ∷ []) ∷ (8220 ∷ 1299 ∷ 3356 ∷ 6939 ∷ 174 ∷ []) ∷ (8220 ∷ 3333 ∷ 1299 ∷ 3356 ∷ []) ∷ []) }
+    ensures { IfOk result (λ graph. graph ≡ (6939 ∷ 174 ∷ 3356 ∷ 1299 ∷ 8220 ∷ 3333 ∷ []) ∷ (397213 ∷ 1299 ∷ 8220 ∷ 3333 ∷ []) ∷
+        (6939 ∷ 3356 ∷ 2906 ∷ []) ∷ (397213 ∷ 1299 ∷ 3356 ∷ 2906 ∷ []) ∷ (8220 ∷ 1299 ∷ 3356 ∷ 6939 ∷ 174 ∷ []) ∷
+        (8220 ∷ 3333 ∷ 1299 ∷ 3356 ∷ []) ∷ []) }
 {
     let rows = six_paths(alloc)?;
     Ok(build(alloc, keys, &rows)?)

@@ -39,41 +39,41 @@ step_with es k e path steps once is apart are t = counted_there k steps (once_ea
 
 -- ---- a path is added along its steps
 
--- the path was added to the list of the edge of each of these steps that is not barred, and no other path to any list
-pub record IsListed (barred : List Bool) (first now : List (List ℕ)) (path : ℕ) (steps : List Step) : Type 0 where
+-- the path was added to the list of the edge of each of these steps that is not excluded, and no other path to any list
+pub record IsListed (excluded : List Bool) (first now : List (List ℕ)) (path : ℕ) (steps : List Step) : Type 0 where
   pub long : length now ≡ length first
   pub stay : (k q : ℕ) → Contains (get_or first k []) q → Contains (get_or now k []) q
   pub inside : (k q : ℕ) → Contains (get_or now k []) q → Contains (get_or first k []) q ⊎ (q ≡ path)
-  pub added : All (λ (s : Step). IsFalse (get_or barred s.edge false) → Contains (get_or now s.edge []) path) steps
+  pub added : All (λ (s : Step). IsFalse (get_or excluded s.edge false) → Contains (get_or now s.edge []) path) steps
 
-pub listed_none : (barred : List Bool) (first : List (List ℕ)) (path : ℕ) → IsListed barred first first path []
-listed_none barred first path = record {
+pub listed_none : (excluded : List Bool) (first : List (List ℕ)) (path : ℕ) → IsListed excluded first first path []
+listed_none excluded first path = record {
   long = refl;
   stay = λ k q c. c;
   inside = λ k q c. inl c;
-  added = All-nil (λ (s : Step). IsFalse (get_or barred s.edge false) → Contains (get_or first s.edge []) path);
+  added = All-nil (λ (s : Step). IsFalse (get_or excluded s.edge false) → Contains (get_or first s.edge []) path);
 }
 
-pub listed_more : (barred : List Bool) (first now new : List (List ℕ)) (path : ℕ) (steps : List Step) (i : ℕ) (step : Step) → i < length steps → get_or steps i step ≡ step → step.edge < length now →
-    IsAdded (get_or barred step.edge false) step.edge path now new → IsListed barred first now path (take i steps) → IsListed barred first new path (take (i + 1) steps)
-listed_more barred first now new path steps i step lt at within (inl (t, is)) h =
-    subst (λ l. IsListed barred first l path (take (i + 1) steps)) (sym is) (record {
+pub listed_more : (excluded : List Bool) (first now new : List (List ℕ)) (path : ℕ) (steps : List Step) (i : ℕ) (step : Step) → i < length steps → get_or steps i step ≡ step → step.edge < length now →
+    IsAdded (get_or excluded step.edge false) step.edge path now new → IsListed excluded first now path (take i steps) → IsListed excluded first new path (take (i + 1) steps)
+listed_more excluded first now new path steps i step lt at within (inl (t, is)) h =
+    subst (λ l. IsListed excluded first l path (take (i + 1) steps)) (sym is) (record {
       long = h.long;
       stay = h.stay;
       inside = h.inside;
       added =
-          All-more (λ (s : Step). IsFalse (get_or barred s.edge false) → Contains (get_or now s.edge []) path) steps i step lt h.added
-          (subst (λ (s : Step). IsFalse (get_or barred s.edge false) → Contains (get_or now s.edge []) path) (sym at) (λ f. absurd (false≢true (sym f ∙ t))));
+          All-more (λ (s : Step). IsFalse (get_or excluded s.edge false) → Contains (get_or now s.edge []) path) steps i step lt h.added
+          (subst (λ (s : Step). IsFalse (get_or excluded s.edge false) → Contains (get_or now s.edge []) path) (sym at) (λ f. absurd (false≢true (sym f ∙ t))));
     })
-listed_more barred first now new path steps i step lt at within (inr (unbarred, is)) h = record {
+listed_more excluded first now new path steps i step lt at within (inr (free_of, is)) h = record {
   long = ap length is ∙ length-set now step.edge (get_or now step.edge [] ++ path ∷ []) ∙ h.long;
   stay = λ k q c. grow k q (h.stay k q c);
   inside = λ k q c. elim (back k q c) [ inl old ↦ h.inside k q old | inr e ↦ inr e ];
   added =
-      All-more (λ (s : Step). IsFalse (get_or barred s.edge false) → Contains (get_or new s.edge []) path) steps i step lt
-      (All-weaker (λ (s : Step). IsFalse (get_or barred s.edge false) → Contains (get_or now s.edge []) path)
-      (λ (s : Step). IsFalse (get_or barred s.edge false) → Contains (get_or new s.edge []) path) (λ s c f. grow s.edge path (c f)) (take i steps) h.added)
-      (subst (λ (s : Step). IsFalse (get_or barred s.edge false) → Contains (get_or new s.edge []) path) (sym at)
+      All-more (λ (s : Step). IsFalse (get_or excluded s.edge false) → Contains (get_or new s.edge []) path) steps i step lt
+      (All-weaker (λ (s : Step). IsFalse (get_or excluded s.edge false) → Contains (get_or now s.edge []) path)
+      (λ (s : Step). IsFalse (get_or excluded s.edge false) → Contains (get_or new s.edge []) path) (λ s c f. grow s.edge path (c f)) (take i steps) h.added)
+      (subst (λ (s : Step). IsFalse (get_or excluded s.edge false) → Contains (get_or new s.edge []) path) (sym at)
       (λ f. subst (λ l. Contains l path) (sym here) (Contains-push (get_or now step.edge []) path)));
 }
   where
@@ -104,19 +104,19 @@ listed_more barred first now new path steps i step lt at within (inr (unbarred, 
 
 -- ---- all kept paths
 
--- the lists hold kept paths alone, and of the first n each stands on the lists of its edges that are not barred
-pub record IsHeld (barred : List Bool) (paths : List (List ℕ)) (kept : List ℕ) (n : ℕ) (lists : List (List ℕ)) : Type 0 where
+-- the lists hold kept paths alone, and of the first n each stands on the lists of its edges that are not excluded
+pub record IsHeld (excluded : List Bool) (paths : List (List ℕ)) (kept : List ℕ) (n : ℕ) (lists : List (List ℕ)) : Type 0 where
   pub many : length lists ≡ length (edges paths)
   pub inside : (k q : ℕ) → Contains (get_or lists k []) q → Contains kept q
-  pub all : (k q : ℕ) → k < length (edges paths) → IsFalse (get_or barred k false) → Contains (take n kept) q → IsTrue (holds paths q k) → Contains (get_or lists k []) q
+  pub all : (k q : ℕ) → k < length (edges paths) → IsFalse (get_or excluded k false) → Contains (take n kept) q → IsTrue (holds paths q k) → Contains (get_or lists k []) q
 
 none_there : (n k : ℕ) (l : List ℕ) → get_or (replicate n l) k l ≡ l
 none_there zero k l = refl
 none_there (suc n) zero l = refl
 none_there (suc n) (suc k) l = none_there n k l
 
-pub held_none : (barred : List Bool) (paths : List (List ℕ)) (kept : List ℕ) (lists : List (List ℕ)) → lists ≡ replicate (length (edges paths)) [] → IsHeld barred paths kept 0 lists
-held_none barred paths kept lists is = record {
+pub held_none : (excluded : List Bool) (paths : List (List ℕ)) (kept : List ℕ) (lists : List (List ℕ)) → lists ≡ replicate (length (edges paths)) [] → IsHeld excluded paths kept 0 lists
+held_none excluded paths kept lists is = record {
   many = ap length is ∙ length-replicate (length (edges paths)) [];
   inside = λ k q c. absurd (nothing q (subst (λ l. Contains l q) (ap (λ l. get_or l k []) is ∙ none_there (length (edges paths)) k []) c));
   all = λ k q lt f c t. absurd (nothing q c);
@@ -125,10 +125,10 @@ held_none barred paths kept lists is = record {
     nothing : (q : ℕ) → Contains [] q → ⊥
     nothing q c = let lt = c.1 in absurd (omega (arith, lt))
 
-pub held_more : (barred : List Bool) (paths : List (List ℕ)) (kept : List ℕ) (n id : ℕ) (steps : List Step) (lists new : List (List ℕ)) →
+pub held_more : (excluded : List Bool) (paths : List (List ℕ)) (kept : List ℕ) (n id : ℕ) (steps : List Step) (lists new : List (List ℕ)) →
     n < length kept → get_or kept n id ≡ id → AllDistinct (path_at paths id) →
-    AreSteps (edges paths) (path_at paths id) steps → IsListed barred lists new id steps → IsHeld barred paths kept n lists → IsHeld barred paths kept (n + 1) new
-held_more barred paths kept n id steps lists new lt at apart are listed h = record {
+    AreSteps (edges paths) (path_at paths id) steps → IsListed excluded lists new id steps → IsHeld excluded paths kept n lists → IsHeld excluded paths kept (n + 1) new
+held_more excluded paths kept n id steps lists new lt at apart are listed h = record {
   many = listed.long ∙ h.many;
   inside = λ k q c. elim (listed.inside k q c) [ inl old ↦ h.inside k q old | inr e ↦ subst (Contains kept) (sym e) (subst (Contains kept) at (Contains-get_or kept n id lt)) ];
   all = λ k q k_lt f c t.
@@ -137,8 +137,8 @@ held_more barred paths kept n id steps lists new lt at apart are listed h = reco
         | inr e ↦
             let here : IsTrue (holds paths id k) = subst (λ p. IsTrue (holds paths p k)) (sym e) t in
             let s = step_with (edges paths) k (edge_at paths k) (path_at paths id) steps (NoneTwice-distinct (flat_map edges_on paths)) (slice_get-get_or (edges paths) k (0, 0) k_lt) apart are here in
-            let added = All-contains (λ (s : Step). IsFalse (get_or barred s.edge false) → Contains (get_or new s.edge []) id) steps s.0 listed.added s.1 in
-            subst (Contains (get_or new k [])) e (subst (λ m. IsFalse (get_or barred m false) → Contains (get_or new m []) id) s.2 added f)
+            let added = All-contains (λ (s : Step). IsFalse (get_or excluded s.edge false) → Contains (get_or new s.edge []) id) steps s.0 listed.added s.1 in
+            subst (Contains (get_or new k [])) e (subst (λ m. IsFalse (get_or excluded m false) → Contains (get_or new m []) id) s.2 added f)
       ];
 }
   where

@@ -1,4 +1,4 @@
-pub mod Barring
+pub mod ExclusionLemmas
 pub mod Holding
 pub mod Reading
 pub mod Steps

@@ -15,8 +15,8 @@ use Rattle.relationships.proofs.Slopes.{Free, Free-from_valley_free}
 use Rattle.as_graph.specs.Paths.{path_at, paths_at}
 use Rattle.as_graph.proofs.Labelled.{NoneTwice, NoneTwice-distinct, labelling_at, orientation_at, slopes-steps}
 use Rattle.peering.specs.Peerings.{edge_at, holds, IsAlike, peer_at, StayFree, MayFlip, IsSettled}
-use Rattle.peering.specs.Bars.{IsBarred}
-use Rattle.peering.proofs.Barring.{no_flip}
+use Rattle.peering.specs.Exclusions.{IsExcluded}
+use Rattle.peering.proofs.ExclusionLemmas.{no_flip}
 use Rattle.peering.proofs.Reading.{some_same, labelling-set, free_same, free_without, all_at, edge_among}
 use Rattle.peering.proofs.Flipping.{IsSoFar, first_or_peer, flips, keeps}
 
@@ -27,10 +27,10 @@ module _ (paths : List (List ℕ)) (kept : List ℕ) (ratio : ℕ) (ends : List 
     pub so_far : IsSoFar (degree paths) ratio (paths_at paths kept) (edges paths) (orientation (edges paths) ends) n (labelling (edges paths) labels)
 
   module _ (there : All (λ q. q < length paths) kept) (apart : All AllDistinct paths) (each_end : length ends ≡ length (edges paths)) (n : ℕ)
-      (e : Edge) (barred : Bool) (count : ℕ) (places : List ℕ) (old : List Label) (is : slice_get (edges paths) n ≡ Some e)
+      (e : Edge) (excluded : Bool) (count : ℕ) (places : List ℕ) (old : List Label) (is : slice_get (edges paths) n ≡ Some e)
       (held : count ≡ support (paths_at paths kept) e)
-      (inside : (q : ℕ) → Contains places q → Contains kept q) (all : IsFalse barred → (q : ℕ) → Contains kept q → IsTrue (holds paths q n) →
-      Contains places q) (bars : IsTrue barred → IsBarred paths kept ends n) (settled : AreSettled n old) where
+      (inside : (q : ℕ) → Contains places q → Contains kept q) (all : IsFalse excluded → (q : ℕ) → Contains kept q → IsTrue (holds paths q n) →
+      Contains places q) (exclusions : IsTrue excluded → IsExcluded paths kept ends n) (settled : AreSettled n old) where
     abbrev Now : Labelling
     Now = labelling (edges paths) old
 
@@ -43,15 +43,15 @@ module _ (paths : List (List ℕ)) (kept : List ℕ) (ratio : ℕ) (ends : List 
     same : (low high : ℕ) → labelling (edges paths) (peer_at old n) low high ≡ with_peer Now e low high
     same = labelling-set (edges paths) old n e Label.Peer once is (subst (λ m. n < m) (sym settled.count) (slice_get_within (edges paths) n e is))
 
-    stays : IsFalse barred → StayFree paths places (peer_at old n) → All (ValleyFree (with_peer Now e)) (paths_at paths kept)
-    stays unbarred free =
+    stays : IsFalse excluded → StayFree paths places (peer_at old n) → All (ValleyFree (with_peer Now e)) (paths_at paths kept)
+    stays free_of free =
         All-map (ValleyFree (with_peer Now e)) (path_at paths) kept (λ k d lt.
         let q = get_or kept k d in
         let c = Contains-get_or kept k d lt in
         elim (cases_Bool (holds paths q n)) [
           | inl t ↦
               free_same (labelling (edges paths) (peer_at old n)) (with_peer Now e) (path_at paths q) same
-              (All-contains (λ p. ValleyFree (labelling (edges paths) (peer_at old n)) (path_at paths p)) places q free (all unbarred q c t))
+              (All-contains (λ p. ValleyFree (labelling (edges paths) (peer_at old n)) (path_at paths p)) places q free (all free_of q c t))
           | inr none ↦
               free_without Now e (path_at paths q) (subst (λ (f : Edge). list_any (is_same f) (edges_on (path_at paths q)) ≡ false) at none)
               (all_at (ValleyFree Now) paths kept q settled.so_far.free c)
@@ -75,9 +75,9 @@ module _ (paths : List (List ℕ)) (kept : List ℕ) (ratio : ℕ) (ends : List 
           | inr h ↦ inr (sym now_is ∙ h ∙ ap label_of first_is)
         ]
 
-    -- so a barred edge may not become a peering
-    barred_out : All (ValleyFree (with_peer Now e)) (paths_at paths kept) → IsBarred paths kept ends n → ⊥
-    barred_out free (place, steps, among, are, within, on) =
+    -- so a excluded edge may not become a peering
+    excluded_out : All (ValleyFree (with_peer Now e)) (paths_at paths kept) → IsExcluded paths kept ends n → ⊥
+    excluded_out free (place, steps, among, are, within, on) =
         let path = path_at paths place in
         let labels = peer_at old n in
         let one = free_same (with_peer Now e) (labelling (edges paths) labels) path (λ low high. sym (same low high)) (all_at (ValleyFree (with_peer Now e)) paths kept place free among) in
@@ -87,16 +87,16 @@ module _ (paths : List (List ℕ)) (kept : List ℕ) (ratio : ℕ) (ends : List 
         no_flip old ends n (length (edges paths)) steps (subst (λ m. n < m) (sym settled.count) (slice_get_within (edges paths) n e is)) label_cases within on
         (subst Free slopes_are (Free-from_valley_free (labelling (edges paths) labels) path one))
 
-    may : MayFlip paths ratio barred count places n old → MayPeer (degree paths) ratio (paths_at paths kept) Now e
+    may : MayFlip paths ratio excluded count places n old → MayPeer (degree paths) ratio (paths_at paths kept) Now e
     may m = record {
       held = subst (λ c. 0 < c) held m.1;
       alike = subst (λ (f : Edge). IsAlike (degree paths) ratio f) at m.2;
       stays = stays m.0 m.3;
     }
 
-    may_back : MayPeer (degree paths) ratio (paths_at paths kept) Now e → MayFlip paths ratio barred count places n old
+    may_back : MayPeer (degree paths) ratio (paths_at paths kept) Now e → MayFlip paths ratio excluded count places n old
     may_back m = (
-      false_from_ne_true barred (λ t. barred_out m.stays (bars t)),
+      false_from_ne_true excluded (λ t. excluded_out m.stays (exclusions t)),
       subst (λ c. 0 < c) (sym held) m.held,
       subst (λ (f : Edge). IsAlike (degree paths) ratio f) (sym at) m.alike,
       stays_back m.stays,
@@ -105,7 +105,7 @@ module _ (paths : List (List ℕ)) (kept : List ℕ) (ratio : ℕ) (ends : List 
     each : (f : Edge) → Contains (edges (paths_at paths kept)) f → Contains (edges paths) f
     each f c = edge_among paths kept f there c
 
-    pub settled_next : (new : List Label) → IsSettled paths ratio barred count places n old new → AreSettled (n + 1) new
+    pub settled_next : (new : List Label) → IsSettled paths ratio excluded count places n old new → AreSettled (n + 1) new
     settled_next new (inl h) = record {
       count = ap length h.1 ∙ length-set old n Label.Peer ∙ settled.count;
       so_far =

@@ -1,3 +1,3 @@
-pub mod Bars
+pub mod Exclusions
 pub mod Cases
 pub mod Peerings

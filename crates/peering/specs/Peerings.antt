@@ -16,10 +16,10 @@ edge_at paths place = slice_index_or (edges paths) place (0, 0)
 abbrev pub holds : List (List ℕ) → ℕ → ℕ → Bool
 holds paths path edge = list_any (is_same (edge_at paths edge)) (edges_on (path_at paths path))
 
--- the path is added to the list of the edge, unless this is barred
+-- the path is added to the list of the edge, unless this is excluded
 abbrev pub IsAdded : Bool → ℕ → ℕ → List (List ℕ) → List (List ℕ) → Type 0
-IsAdded barred edge path old new =
-    (IsTrue barred × (new ≡ old)) ⊎ (IsFalse barred × (new ≡ slice_set old edge (slice_index_or old edge [] ++ path ∷ [])))
+IsAdded excluded edge path old new =
+    (IsTrue excluded × (new ≡ old)) ⊎ (IsFalse excluded × (new ≡ slice_set old edge (slice_index_or old edge [] ++ path ∷ [])))
 
 -- the ends of the edge are alike in degree: the greater degree is at most ratio times the lesser
 abbrev pub IsAlike : (ℕ → ℕ) → ℕ → Edge → Type 0
@@ -39,16 +39,16 @@ IsOffered paths places edge old new =
     (StayFree paths places (peer_at old edge) × (new ≡ peer_at old edge)) ⊎
     ((StayFree paths places (peer_at old edge) → ⊥) × (new ≡ old))
 
--- an edge that so many kept paths hold becomes a peering if it is not barred, its ends are alike in degree and the paths of these
+-- an edge that so many kept paths hold becomes a peering if it is not excluded, its ends are alike in degree and the paths of these
 -- places stay valley-free so, and else all labels stay as they are
 abbrev pub MayFlip : List (List ℕ) → ℕ → Bool → ℕ → List ℕ → ℕ → List Label → Type 0
-MayFlip paths ratio barred count places edge old =
-    IsFalse barred × (0 < count) × IsAlike (degree paths) ratio (edge_at paths edge) × StayFree paths places (peer_at old edge)
+MayFlip paths ratio excluded count places edge old =
+    IsFalse excluded × (0 < count) × IsAlike (degree paths) ratio (edge_at paths edge) × StayFree paths places (peer_at old edge)
 
 abbrev pub IsSettled : List (List ℕ) → ℕ → Bool → ℕ → List ℕ → ℕ → List Label → List Label → Type 0
-IsSettled paths ratio barred count places edge old new =
-    (MayFlip paths ratio barred count places edge old × (new ≡ peer_at old edge)) ⊎
-    ((MayFlip paths ratio barred count places edge old → ⊥) × (new ≡ old))
+IsSettled paths ratio excluded count places edge old new =
+    (MayFlip paths ratio excluded count places edge old × (new ≡ peer_at old edge)) ⊎
+    ((MayFlip paths ratio excluded count places edge old → ⊥) × (new ≡ old))
 
 -- each orientation that has the providers of the edges that are no peerings serves the paths, whichever way the peerings are read
 abbrev pub ServeEitherWay : Labelling → List (List ℕ) → Type 0

@@ -26,67 +26,67 @@ fn add_path(lists: &mut Vec<List<PathId>>, edge: EdgeId, path: PathId) -> Result
     lists[edge.place()].push(path)
 }
 
-/// Adds a path to the list of an edge that is not barred, and else changes nothing.
-fn add_unless_barred(
+/// Adds a path to the list of an edge that is not excluded, and else changes nothing.
+fn add_unless_excluded(
     lists: &mut Vec<List<PathId>>,
     edge: EdgeId,
     path: PathId,
-    barred: bool,
+    excluded: bool,
 ) -> Result<(), NoMemory>
     requires { edge < length lists.old.items }
     ensures length { length lists.new.items ≡ length lists.old.items }
-    ensures added { OnOk result (IsAdded barred edge path lists.old.items lists.new.items) }
+    ensures added { OnOk result (IsAdded excluded edge path lists.old.items lists.new.items) }
 {
-    if barred {
+    if excluded {
         return Ok(());
     }
     add_path(lists, edge, path)
 }
 
-/// Adds a path to the list of the edge of each of its steps, but for barred edges.
+/// Adds a path to the list of the edge of each of its steps, but for excluded edges.
 fn add_along(
     lists: &mut Vec<List<PathId>>,
     steps: &[Step],
     path: PathId,
-    barred: &[bool],
+    excluded: &[bool],
 ) -> Result<(), NoMemory>
     requires there { All (λ step. step.edge < length lists.old.items) steps.now }
-    requires barred { length barred.now ≡ length lists.old.items }
+    requires excluded { length excluded.now ≡ length lists.old.items }
     ensures length { length lists.new.items ≡ length lists.old.items }
     ensures kept { OnOk result ((k q : ℕ) → Contains (slice_index_or lists.old.items k []) q →
         Contains (slice_index_or lists.new.items k []) q) }
     ensures inside { OnOk result ((k q : ℕ) → Contains (slice_index_or lists.new.items k []) q →
         Contains (slice_index_or lists.old.items k []) q ⊎ (q ≡ path)) }
-    ensures added { OnOk result (All (λ step. IsFalse (slice_index_or barred.now step.edge false) →
+    ensures added { OnOk result (All (λ step. IsFalse (slice_index_or excluded.now step.edge false) →
         Contains (slice_index_or lists.new.items step.edge []) path) steps.now) }
 {
     for step in steps {
-        let is_barred = barred[step.edge.place()];
-        add_unless_barred(lists, step.edge, path, is_barred)?;
+        let is_excluded = excluded[step.edge.place()];
+        add_unless_excluded(lists, step.edge, path, is_excluded)?;
     }
     Ok(())
 }
 
-/// For each edge a list of kept paths, on which each kept path stands that holds it, unless it is barred. The only error is that memory
+/// For each edge a list of kept paths, on which each kept path stands that holds it, unless it is excluded. The only error is that memory
 /// ran out.
 pub(crate) fn paths_by_edge(
     alloc: Global,
     graph: &AsGraph,
     kept: &[PathId],
-    barred: &[bool],
+    excluded: &[bool],
 ) -> Result<Vec<List<PathId>>, NoMemory>
     requires there { All (λ path. path < length graph.now) kept.now }
-    requires barred { length barred.now ≡ length (edges graph.now) }
+    requires excluded { length excluded.now ≡ length (edges graph.now) }
     ensures many { IfOk result (λ lists. length lists.items ≡ length (edges graph.now)) }
     ensures inside { IfOk result (λ lists. (k q : ℕ) → Contains (slice_index_or lists.items k []) q → Contains kept.now q) }
     ensures all { IfOk result (λ lists. (k q : ℕ) → k < length (edges graph.now) →
-        IsFalse (slice_index_or barred.now k false) → Contains kept.now q → IsTrue (holds graph.now q k) →
+        IsFalse (slice_index_or excluded.now k false) → Contains kept.now q → IsTrue (holds graph.now q k) →
         Contains (slice_index_or lists.items k []) q) }
 {
     graph.facts();
     let mut lists = no_paths(alloc, graph.edge_count())?;
     for path in kept {
-        add_along(&mut lists, graph.steps(*path), *path, barred)?;
+        add_along(&mut lists, graph.steps(*path), *path, excluded)?;
     }
     Ok(lists)
 }

@@ -2,7 +2,7 @@
 #![tactic(auto)]
 
 mod alike;
-mod bars;
+mod excluding;
 mod holders;
 mod relabelling;
 #[cfg(test)]

@@ -8,7 +8,7 @@ ghost use Rattle.as_graph.specs.Paths.{path_at, paths_at};
 ghost use Rattle.peering.specs.Peerings.{StayFree, IsOffered, IsSettled, ServeEitherWay, NoneLeftOut};
 
 use crate::alike::is_alike;
-use crate::bars::bars;
+use crate::excluding::exclusions;
 use crate::holders::paths_by_edge;
 use as_graph::{AsGraph, Labels, Orientation};
 use relationships::{End, Label};
@@ -64,13 +64,13 @@ fn offer(graph: &AsGraph, labels: &mut Labels, edge: EdgeId, paths: &[PathId])
     }
 }
 
-/// Settles an edge that so many kept paths hold: it becomes a peering if it is not barred, its ends are alike in degree, and no path
+/// Settles an edge that so many kept paths hold: it becomes a peering if it is not excluded, its ends are alike in degree, and no path
 /// of the list then has a valley.
 fn settle(
     graph: &AsGraph,
     labels: &mut Labels,
     edge: EdgeId,
-    barred: bool,
+    excluded: bool,
     support: u32,
     paths: &[PathId],
     ratio: u32,
@@ -79,9 +79,9 @@ fn settle(
     requires edge { edge < length (edges graph.now) }
     requires there { All (λ path. path < length graph.now) paths.now }
     requires small { ratio ≤ 1000000 }
-    ensures { IsSettled graph.now ratio barred support paths.now edge labels.old labels.new }
+    ensures { IsSettled graph.now ratio excluded support paths.now edge labels.old labels.new }
 {
-    if !barred && support > 0 && is_alike(graph, edge, ratio) {
+    if !excluded && support > 0 && is_alike(graph, edge, ratio) {
         offer(graph, labels, edge, paths);
     }
 }
@@ -115,8 +115,8 @@ pub fn relabel(
     graph.facts();
     let counts = graph.support(alloc, kept)?;
     let ends = orientation.as_slice();
-    let barred = bars(alloc, graph, kept, ends)?;
-    let lists = paths_by_edge(alloc, graph, kept, barred.as_slice())?;
+    let excluded = exclusions(alloc, graph, kept, ends)?;
+    let lists = paths_by_edge(alloc, graph, kept, excluded.as_slice())?;
     let mut labels = first_labels(alloc, ends)?;
     for place in 0..graph.edge_count() {
         let edge = EdgeId::from_place(place).unwrap();
@@ -125,7 +125,7 @@ pub fn relabel(
             graph,
             &mut labels,
             edge,
-            barred[place],
+            excluded[place],
             support,
             lists[place].as_slice(),
             ratio,

@@ -38,7 +38,7 @@ FlipsTo orders k x y = slice_get orders k ≡ Some (x, y)
 abbrev pub IsFlipped : List (ℕ × ℕ) → ℕ → ℕ → Type 0
 IsFlipped orders x y = (k : ℕ) × FlipsTo orders k x y
 
--- ---- what flips with what. A set of triples is told by T
+-- ---- what flips with what. T says what the set of triples is
 
 -- along a triple edge j flips where edge i flips
 abbrev pub Implies : List (ℕ × ℕ) → (ℕ → ℕ → ℕ → Type 0) → ℕ → ℕ → Type 0

@@ -56,7 +56,8 @@ fn differing_count(said: &Asides, seen: &Asides) -> Option<usize>
 
 /// The place of the first path line that differs from the table's row, or of the first row that has no line.
 fn differing_path(file: &ResultFile, table: &PathTable) -> Option<usize>
-    ensures { MatchOption result (its_rows file.now ≡ table.now.rows) (λ k. (k ≤ length file.now.paths) × Differs (its_rows file.now) table.now.rows k) }
+    ensures { MatchOption result (its_rows file.now ≡ table.now.rows)
+        (λ k. (k ≤ length file.now.paths) × Differs (its_rows file.now) table.now.rows k) }
 {
     for (place, line) in file.paths.as_slice().iter().enumerate() {
         if !is_row(table, place, line.path.as_slice(), line.times) {

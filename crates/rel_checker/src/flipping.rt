@@ -58,8 +58,10 @@ impl Flips {
         requires first { first.now.edge < length self.old.implied }
         requires second { second.now.edge < length self.old.implied }
         requires many { length self.old.conflicting ≡ length self.old.implied }
-        ensures implied { OnOk result (self.new.implied ≡ with_implied first.now.up second.now.up first.now.edge second.now.edge self.old.implied) }
-        ensures conflicting { OnOk result (self.new.conflicting ≡ with_conflicting first.now.up second.now.up first.now.edge second.now.edge self.old.conflicting) }
+        ensures implied { OnOk result (self.new.implied ≡
+            with_implied first.now.up second.now.up first.now.edge second.now.edge self.old.implied) }
+        ensures conflicting { OnOk result (self.new.conflicting ≡
+            with_conflicting first.now.up second.now.up first.now.edge second.now.edge self.old.conflicting) }
     {
         match (first.up, second.up) {
             (true, true) => self.implied.add(first.edge, second.edge),
@@ -88,7 +90,8 @@ impl Flips {
         requires conflicting { length self.old.conflicting ≡ length lines.now }
         ensures implied { OnOk result (length self.new.implied ≡ length lines.now) }
         ensures conflicting { OnOk result (length self.new.conflicting ≡ length lines.now) }
-        ensures built { OnOk result ((paths : Items (Items ℕ)) → IsBuiltFor lines.now paths self.old.implied self.old.conflicting → IsBuiltFor lines.now (paths ++ path.now ∷ []) self.new.implied self.new.conflicting) }
+        ensures built { OnOk result ((paths : Items (Items ℕ)) → IsBuiltFor lines.now paths self.old.implied self.old.conflicting →
+            IsBuiltFor lines.now (paths ++ path.now ∷ []) self.new.implied self.new.conflicting) }
     {
         if path.len() < 2 {
             return Ok(());
@@ -118,7 +121,8 @@ impl Flips {
         requires conflicting { length self.old.conflicting ≡ length lines.now }
         ensures implied { OnOk result (length self.new.implied ≡ length lines.now) }
         ensures conflicting { OnOk result (length self.new.conflicting ≡ length lines.now) }
-        ensures built { OnOk result ((paths : Items (Items ℕ)) → IsBuiltFor lines.now paths self.old.implied self.old.conflicting → IsBuiltFor lines.now (with_kept paths line.now.path line.now.fate) self.new.implied self.new.conflicting) }
+        ensures built { OnOk result ((paths : Items (Items ℕ)) → IsBuiltFor lines.now paths self.old.implied self.old.conflicting →
+            IsBuiltFor lines.now (with_kept paths line.now.path line.now.fate) self.new.implied self.new.conflicting) }
     {
         match &line.fate {
             Fate::Kept => self.note_path(lines, table, line.path.as_slice()),

@@ -35,7 +35,8 @@ pub(crate) fn find_unclean(alloc: Global, file: &ResultFile) -> Result<Option<us
 /// Whether a path line is sound, where the paths before it have so many numbers. The limits are tested first.
 fn is_sound(alloc: Global, line: &PathLine, place: usize, numbers: usize) -> Result<bool, NoMemory>
     requires { numbers ≤ 2 ^ 26 }
-    ensures { IfOk result (λ sound. IsTrue sound ↔ (IsTrue (is_cleaned line.now.path) × (1 ≤ line.now.times) × (place < 2 ^ 23) × (numbers + length line.now.path ≤ 2 ^ 26))) }
+    ensures { IfOk result (λ sound. IsTrue sound ↔ (IsTrue (is_cleaned line.now.path) × (1 ≤ line.now.times) × (place < 2 ^ 23) ×
+        (numbers + length line.now.path ≤ 2 ^ 26))) }
 {
     let path = line.path.as_slice();
     if place >= MAX_PATHS as usize || path.len() > MAX_NUMBERS - numbers || line.times == 0 {

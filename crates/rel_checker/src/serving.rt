@@ -31,7 +31,8 @@ pub(crate) fn start_of(lines: &[EdgeLine], table: &EdgeTable, probe: &Probe) -> 
     requires table { table.now ≡ edges_of lines.now }
     requires few { length lines.now ≤ most_places }
     requires apart { AreApart lines.now }
-    ensures { MatchOption result ((k : ℕ) → FlipsTo (flipped_orders lines.now) k probe.now.over probe.now.under → ⊥) (λ k. FlipsTo (flipped_orders lines.now) k probe.now.over probe.now.under) }
+    ensures { MatchOption result ((k : ℕ) → FlipsTo (flipped_orders lines.now) k probe.now.over probe.now.under → ⊥)
+        (λ k. FlipsTo (flipped_orders lines.now) k probe.now.over probe.now.under) }
 {
     let Some(place) = table.place(probe.over, probe.under) else {
         return None;
@@ -76,8 +77,10 @@ fn cover_one(
     requires closed { IsClosed flips.now.implied rounds.old.items 1 }
     ensures many { OnOk result (length rounds.new.items ≡ length file.now.edges) }
     ensures closed { OnOk result (IsClosed flips.now.implied rounds.new.items 1) }
-    ensures covered { OnOk result ((earlier : Items (ℕ × ℕ)) → Covers file.now earlier rounds.old.items → Covers file.now (earlier ++ (probe.now.over, probe.now.under) ∷ []) rounds.new.items) }
-    ensures gains { IfOk result (λ gains. (earlier : Items (ℕ × ℕ)) → Covers file.now earlier rounds.old.items → IsTrue gains ↔ Gains (kept_lines file.now.paths) (its_claims file.now) earlier (probe.now.over, probe.now.under)) }
+    ensures covered { OnOk result ((earlier : Items (ℕ × ℕ)) → Covers file.now earlier rounds.old.items →
+        Covers file.now (earlier ++ (probe.now.over, probe.now.under) ∷ []) rounds.new.items) }
+    ensures gains { IfOk result (λ gains. (earlier : Items (ℕ × ℕ)) → Covers file.now earlier rounds.old.items →
+        IsTrue gains ↔ Gains (kept_lines file.now.paths) (its_claims file.now) earlier (probe.now.over, probe.now.under)) }
 {
     let lines = file.edges.as_slice();
     let Some(start) = start_of(lines, table, probe) else {

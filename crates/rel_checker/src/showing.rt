@@ -25,7 +25,8 @@ fn show(
     requires apart { AreApart lines.now }
     requires many { length shown.old.items ≡ length lines.now }
     ensures many { length shown.new.items ≡ length lines.now }
-    ensures shown { (orders : Items (ℕ × ℕ)) → IsShownBy lines.now orders shown.old.items → IsShownBy lines.now (orders ++ (over, under) ∷ []) shown.new.items }
+    ensures shown { (orders : Items (ℕ × ℕ)) → IsShownBy lines.now orders shown.old.items →
+        IsShownBy lines.now (orders ++ (over, under) ∷ []) shown.new.items }
 {
     let Some(place) = table.place(over, under) else {
         return;
@@ -43,7 +44,8 @@ fn show_last(lines: &[EdgeLine], table: &EdgeTable, walk: &Walk, shown: &mut Are
     requires apart { AreApart lines.now }
     requires many { length shown.old.items ≡ length lines.now }
     ensures many { length shown.new.items ≡ length lines.now }
-    ensures shown { (orders : Items (ℕ × ℕ)) → IsShownBy lines.now orders shown.old.items → IsShownBy lines.now (orders ++ last_two walk.now.ases) shown.new.items }
+    ensures shown { (orders : Items (ℕ × ℕ)) → IsShownBy lines.now orders shown.old.items →
+        IsShownBy lines.now (orders ++ last_two walk.now.ases) shown.new.items }
 {
     let ases = walk.ases.as_slice();
     let count = ases.len();

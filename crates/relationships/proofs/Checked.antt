@@ -121,7 +121,8 @@ marking_law L kept claims walks probes distinct valley_free holds c claimed lt e
       ]
     ]
   where
-    both_agree : Contains holds.orders (c.low, c.high) ⊎ Contains holds.orders (c.high, c.low) → (O O' : Orientation) → Serves O (paths_of kept) → Serves O' (paths_of kept) → O c.low c.high ≡ O' c.low c.high
+    both_agree : Contains holds.orders (c.low, c.high) ⊎ Contains holds.orders (c.high, c.low) → (O O' : Orientation) → Serves O (paths_of kept) → Serves O' (paths_of kept) →
+        O c.low c.high ≡ O' c.low c.high
     both_agree (inl i) O O' serves serves' =
         over_low O c.low c.high lt (showing_law kept walks holds.orders distinct holds.shown O serves c.low c.high (λ e. omega arith) i) ∙
         sym (over_low O' c.low c.high lt (showing_law kept walks holds.orders distinct holds.shown O' serves' c.low c.high (λ e. omega arith) i))
@@ -203,7 +204,8 @@ label_at (d ∷ claims) once c (suc k) lt e = rw (apart claims k once.0 (omega a
     apart (u ∷ claims) zero h lt e = subst (λ (v : Claim). is_same (d.low, d.high) (v.low, v.high) ≡ false) e h.0
     apart (u ∷ claims) (suc k) h lt e = apart claims k h.1 (omega arith) e
 
-rising_at : (claims : List Claim) (c : Claim) (k : ℕ) → AllByRecursion (λ (e : Edge). e.0 < e.1) (map (λ (c : Claim). (c.low, c.high)) claims) → k < length claims → get_or claims k c ≡ c → c.low < c.high
+rising_at : (claims : List Claim) (c : Claim) (k : ℕ) → AllByRecursion (λ (e : Edge). e.0 < e.1) (map (λ (c : Claim). (c.low, c.high)) claims) → k < length claims → get_or claims k c ≡ c →
+    c.low < c.high
 rising_at [] c k h lt e = absurd (omega arith)
 rising_at (d ∷ claims) c zero h lt e = subst (λ (v : Claim). v.low < v.high) e h.0
 rising_at (d ∷ claims) c (suc k) h lt e = rising_at claims c k h.1 (omega arith) e

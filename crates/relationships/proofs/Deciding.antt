@@ -108,7 +108,8 @@ abbrev pub EachSplit : {X : Type 0} → (List X → X → List X → Type 0) →
 EachSplit P before [] = Unit {0}
 EachSplit P before (x ∷ after) = P before x after × EachSplit P (before ++ x ∷ []) after
 
-pub each_split : {X : Type 0} (P : List X → X → List X → Type 0) (seen rest before : List X) (x : X) (after : List X) → EachSplit P seen rest → rest ≡ before ++ (x ∷ after) → P (seen ++ before) x after
+pub each_split : {X : Type 0} (P : List X → X → List X → Type 0) (seen rest before : List X) (x : X) (after : List X) → EachSplit P seen rest → rest ≡ before ++ (x ∷ after) →
+    P (seen ++ before) x after
 each_split P seen [] [] x after h e = absurd (cc e)
 each_split P seen [] (b ∷ before) x after h e = absurd (cc e)
 each_split P seen (y ∷ rest) [] x after h e =

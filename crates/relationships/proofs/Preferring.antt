@@ -73,7 +73,8 @@ any_at p (f ∷ es) e (suc k) lt h t = elim (cases_Bool (p f)) [ inl u ↦ rw u 
 -- labellings that say the same at each pair
 from_same : (L L' : Labelling) (paths : List (List ℕ)) → ((low high : ℕ) → L low high ≡ L' low high) → All (ValleyFree L) paths → All (ValleyFree L') paths
 from_same L L' paths same h =
-    relaxing_law L L' paths (λ k d within. (λ e. sym (same (get_or (edges paths) k d).0 (get_or (edges paths) k d).1) ∙ e, λ e. sym (same (get_or (edges paths) k d).0 (get_or (edges paths) k d).1) ∙ e)) h
+    relaxing_law L L' paths (λ k d within. (
+        λ e. sym (same (get_or (edges paths) k d).0 (get_or (edges paths) k d).1) ∙ e, λ e. sym (same (get_or (edges paths) k d).0 (get_or (edges paths) k d).1) ∙ e)) h
 
 pick : (s t : Bool) (x y p : Label) → (t ≡ true → x ≡ p) → (if t then p else (if s then x else y)) ≡ (if s || t then x else y)
 pick true true x y p h = sym (h refl)
@@ -96,7 +97,8 @@ module _ (degree : ℕ → ℕ) (ratio : ℕ) (kept : List (List ℕ)) (es : Lis
   abbrev Now : List Edge → Labelling
   Now before = so_far before last (labels_of O)
 
-  next : (before : List Edge) (e : Edge) (low high : ℕ) → Now (before ++ e ∷ []) low high ≡ (if list_any (is_same (low, high)) before || is_same (low, high) e then last low high else labels_of O low high)
+  next : (before : List Edge) (e : Edge) (low high : ℕ) →
+      Now (before ++ e ∷ []) low high ≡ (if list_any (is_same (low, high)) before || is_same (low, high) e then last low high else labels_of O low high)
   next before e low high = ap (λ b. if b then last low high else labels_of O low high) (any_push (is_same (low, high)) before e)
 
   same_label : (low high : ℕ) (e : Edge) → is_same (low, high) e ≡ true → (L : Labelling) → L low high ≡ L e.0 e.1
@@ -160,7 +162,8 @@ maximal_law degree ratio kept es O last relabelled each e among not_peer held al
     let stays = relaxing_law (with_peer last e) (with_peer now e) kept agrees all_free in
     not_peer ((relabelled at.0 e at.1 at.2).0.1 (record { held = held; alike = alike; stays = stays }))
   where
-    relaxed : (f : Edge) → Contains es f → (l : Label) → with_peer last e f.0 f.1 ≡ l → (l ≡ Label.Peer → ⊥) → with_peer (so_far (split_at es e among.0 among.1 among.2).0 last (labels_of O)) e f.0 f.1 ≡ l
+    relaxed : (f : Edge) → Contains es f → (l : Label) → with_peer last e f.0 f.1 ≡ l → (l ≡ Label.Peer → ⊥) →
+        with_peer (so_far (split_at es e among.0 among.1 among.2).0 last (labels_of O)) e f.0 f.1 ≡ l
     relaxed f c l h no_peer =
         elim (cases_Bool (is_same (f.0, f.1) e)) [
           | inl t ↦ absurd (no_peer (sym (rw t at h)))

@@ -180,7 +180,8 @@ no_pair p q h e = both_ways ((p.0 == q.0) && (p.1 == q.1)) h (subst (λ (w : ℕ
 
 not_in : (orders : List (ℕ × ℕ)) (p : ℕ × ℕ) → list_any (λ (q : ℕ × ℕ). (q.0 == p.0) && (q.1 == p.1)) orders ≡ false → Contains orders p → ⊥
 not_in [] p h c = absurd (omega arith)
-not_in (q ∷ orders) p h (zero, lt, e) = elim (cases_Bool ((q.0 == p.0) && (q.1 == p.1))) [ inl t ↦ both_ways (list_any (λ (q : ℕ × ℕ). (q.0 == p.0) && (q.1 == p.1)) (q ∷ orders)) h (rw t) | inr f ↦ no_pair q p f e ]
+not_in (q ∷ orders) p h (zero, lt, e) = elim (cases_Bool ((q.0 == p.0) && (q.1 == p.1)))
+    [ inl t ↦ both_ways (list_any (λ (q : ℕ × ℕ). (q.0 == p.0) && (q.1 == p.1)) (q ∷ orders)) h (rw t) | inr f ↦ no_pair q p f e ]
 not_in (q ∷ orders) p h (suc k, lt, e) = not_in orders p (rest ((q.0 == p.0) && (q.1 == p.1)) (list_any (λ (q : ℕ × ℕ). (q.0 == p.0) && (q.1 == p.1)) orders) h) (k, omega arith, e)
   where
     rest : (s t : Bool) → (s || t) ≡ false → t ≡ false

@@ -216,7 +216,8 @@ fn put_version(out: &mut List<u8>) -> Result<(), NoMemory>
 
 // The ten first lines.
 fn put_head(out: &mut List<u8>, file: &ResultFile) -> Result<(), NoMemory>
-    ensures encoded { OnOk result (out.new ≡ out.old ++ text_of_lines (line.Version ∷ line.Sets file.now.sets ∷ line.Ratio file.now.ratio ∷ aside_lines file.now.asides)) }
+    ensures encoded { OnOk result (out.new ≡ out.old ++ text_of_lines (line.Version ∷ line.Sets file.now.sets ∷ line.Ratio file.now.ratio ∷
+        aside_lines file.now.asides)) }
     ensures fits { OnOk result (IsU32 file.now.ratio × CountsFit file.now.asides) }
 {
     put_version(out)?;

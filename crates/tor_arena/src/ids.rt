@@ -226,3 +226,40 @@ impl Index for ArcId {
 
     ghost is_short = { lit≤ tt };
 }
+
+/// A place among walks that are kept together.
+#[derive(Clone, Copy, Debug, PartialEq, Eq, Hash)]
+pub struct WalkId {
+    short: u32,
+}
+
+impl Model for WalkId {
+    ghost Value = { ℕ };
+
+    ghost view = { λ id. id.short };
+
+    ghost invariant = { λ id. id.short < most_places };
+
+    ghost inverse = { λ place. record { short = place } };
+}
+
+impl Index for WalkId {
+    const LIMIT: usize = MOST_PLACES;
+
+    ghost LIMIT = { most_places };
+
+    ghost place_of = { λ id. id };
+
+    fn from_place(place: usize) -> Option<WalkId> {
+        let short = short_place(place)?;
+        Some(WalkId { short })
+    }
+
+    fn place(self) -> usize {
+        self.short as usize
+    }
+
+    ghost is_one = { λ i j same. same };
+
+    ghost is_short = { lit≤ tt };
+}

@@ -2,6 +2,7 @@ ghost use Rattle.std.specs.Prelude.{◌≡◌, ◌+◌, ◌-◌, ◌<◌, ◌≤
 ghost use Rattle.tor_arena.specs.RowLists.{last_end};
 
 use crate::index::Index;
+use crate::memory::NoMemory;
 use std::alloc::Global;
 use std::marker::{Model, PhantomData};
 
@@ -33,7 +34,8 @@ impl<I: Index, T: Copy> Model for Rows<I, T> {
 
     ghost view = { λ rows. rows_from rows.items.items 0 rows.ends.items };
 
-    ghost invariant = { λ rows. (length rows.ends.items ≤ I.LIMIT) × (last_end 0 rows.ends.items ≡ length rows.items.items) × Rises (length rows.items.items) 0 rows.ends.items };
+    ghost invariant = { λ rows. (length rows.ends.items ≤ I.LIMIT) × (last_end 0 rows.ends.items ≡ length rows.items.items) ×
+        Rises (length rows.items.items) 0 rows.ends.items };
 }
 
 impl<I: Index, T: Copy> Rows<I, T> {
@@ -46,6 +48,16 @@ impl<I: Index, T: Copy> Rows<I, T> {
             ends: Vec::new(alloc),
             kind: PhantomData,
         }
+    }
+
+    /// Takes the memory for so many further rows, of so many items in sum. The rows stay as they are. The only error is that memory
+    /// ran out.
+    pub fn reserve(&mut self, rows: usize, items: usize) -> Result<(), NoMemory>
+        ensures { self.new ≡ self.old }
+    {
+        self.ends.reserve(rows)?;
+        self.items.reserve(items)?;
+        Ok(())
     }
 
     /// How many rows there are, at most LIMIT. It takes no memory.

@@ -2,7 +2,7 @@ ghost use Rattle.std.specs.Prelude.{◌<◌, ℕ};
 ghost use Rattle.std.proofs.Math.Dec.{lit≤};
 
 use crate::arena::{Arena, PushRefused};
-use crate::ids::{ArcId, AsId, EdgeId, NodeId, PathId, TripleId};
+use crate::ids::{ArcId, AsId, EdgeId, NodeId, PathId, TripleId, WalkId};
 use crate::index::{Index, same_index};
 use crate::keys::Keys;
 use crate::list::List;
@@ -114,6 +114,7 @@ fn small_rows(rt: HostRuntime) -> Result<(), Fail> {
     assert_eq!(rt; rows.row(first), [1, 2].as_slice());
     assert!(rt; rows.row(second).is_empty());
     rows.cut_to(1);
+    rows.reserve(1, 1)?;
     assert_eq!(rt; rows.len(), 1);
     rows.push_row(&[4])?;
     assert_eq!(rt; rows.row(second), [4].as_slice());
@@ -133,13 +134,14 @@ fn ends_below_2_to_28<I: Index>() -> bool {
 }
 
 #[test]
-fn six_kinds_of_index(rt: HostRuntime) -> Result<(), Fail> {
+fn seven_kinds_of_index(rt: HostRuntime) -> Result<(), Fail> {
     assert!(rt; ends_below_2_to_28::<AsId>());
     assert!(rt; ends_below_2_to_28::<EdgeId>());
     assert!(rt; ends_below_2_to_28::<PathId>());
     assert!(rt; ends_below_2_to_28::<TripleId>());
     assert!(rt; ends_below_2_to_28::<NodeId>());
     assert!(rt; ends_below_2_to_28::<ArcId>());
+    assert!(rt; ends_below_2_to_28::<WalkId>());
     Ok(())
 }
 

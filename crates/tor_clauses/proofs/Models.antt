@@ -26,22 +26,22 @@ module _ (graph : List (List ℕ)) (f : Formula) (ends : List End) (apart : All 
   abbrev O : Orientation
   O = orientation es ends
 
-  model_from_carried : SatisfiesTriples O (paths_at graph f.paths) → IsModel f ends
-  model_from_carried c k l m arc h =
+  model_from_triples : SatisfiesTriples O (paths_at graph f.paths) → IsModel f ends
+  model_from_triples c k l m arc h =
       let a = only_arcs graph f apart fits l m (k, arc) in
       let o = over-holds es ends (edges-apart graph) (lit_of l) a.0 a.1 a.3.tail h in
       holds-over es ends (edges-apart graph) same (lit_of m) a.1 a.2 a.3.head (c a.0 a.1 a.2 a.4 o)
 
-  carried_from_model : IsModel f ends → SatisfiesTriples O (paths_at graph f.paths)
-  carried_from_model model x y z t o =
+  triples_from_model : IsModel f ends → SatisfiesTriples O (paths_at graph f.paths)
+  triples_from_model model x y z t o =
       let a = all_arcs graph f apart fits x y z t in
       let h = holds-over es ends (edges-apart graph) same (lit_of a.0) x y a.2.tail o in
       over-holds es ends (edges-apart graph) (lit_of a.1) y z a.2.head (model a.3.0 a.0 a.1 a.3.1 h)
 
   pub model_iff : IsServed graph f.paths ends ↔ IsModel f ends
   model_iff = (
-    (λ serves. model_from_carried (serves_satisfies O (paths_at graph f.paths) serves)),
-    (λ model. satisfies_serves O (paths_at graph f.paths) (paths_apart graph f apart fits) (carried_from_model model)),
+    (λ serves. model_from_triples (serves_satisfies O (paths_at graph f.paths) serves)),
+    (λ model. satisfies_serves O (paths_at graph f.paths) (paths_apart graph f apart fits) (triples_from_model model)),
   )
 
 pub model_law : ModelLaw

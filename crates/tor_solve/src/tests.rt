@@ -50,7 +50,7 @@ enum Outcome {
     Wrong,
 }
 
-/// Whether a walk has two fewer links than ASes, ends with the two ASes with which it begins, and has them turned round somewhere.
+/// Whether a walk has two fewer links than ASes, ends with the two ASes with which it begins, and has them in the other order somewhere.
 fn is_refuting(walk: &Walk) -> bool {
     let ases = walk.ases.as_slice();
     let count = ases.len();

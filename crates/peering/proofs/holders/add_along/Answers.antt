@@ -6,16 +6,16 @@ use Rattle.peering.proofs.Holding.{listed_none, listed_more}
 use Rattle.peering.proofs.holders.add_along.Goals as goal
 
 pub loop-step-init : goal.loop-step-init
-loop-step-init c = listed_none c.args.barred.now c.args.lists.now.items c.args.path
+loop-step-init c = listed_none c.args.excluded.now c.args.lists.now.items c.args.path
 
 pub loop-step-preserved : goal.loop-step-preserved
 loop-step-preserved c =
     let within : c.step-item.result.edge < length c.loop-step.lists.items = search rules in
     let place = c.place.ensures.place in
-    let added : IsAdded (get_or c.args.barred.now c.step-item.result.edge false) c.step-item.result.edge c.args.path c.loop-step.lists.items c.add_unless_barred.new.lists.items =
-    subst (λ k. IsAdded (get_or c.args.barred.now k false) c.step-item.result.edge c.args.path c.loop-step.lists.items
-    c.add_unless_barred.new.lists.items) place c.in_ok-add_unless_barred.ensures.added in
-    listed_more c.args.barred.now c.args.lists.now.items c.loop-step.lists.items c.add_unless_barred.new.lists.items c.args.path c.args.steps.now
+    let added : IsAdded (get_or c.args.excluded.now c.step-item.result.edge false) c.step-item.result.edge c.args.path c.loop-step.lists.items c.add_unless_excluded.new.lists.items =
+    subst (λ k. IsAdded (get_or c.args.excluded.now k false) c.step-item.result.edge c.args.path c.loop-step.lists.items
+    c.add_unless_excluded.new.lists.items) place c.in_ok-add_unless_excluded.ensures.added in
+    listed_more c.args.excluded.now c.args.lists.now.items c.loop-step.lists.items c.add_unless_excluded.new.lists.items c.args.path c.args.steps.now
     c.loop-step.step-index c.step-item.result c.loop-step-test.true (sym c.step-item.is) within
     added c.loop-step.invariant
 
@@ -24,4 +24,4 @@ returns-clause-added c =
     let test = c.loop-step-test.false in
     let le : length c.args.steps.now ≤ c.loop-step.step-index = omega (arith, test) in
     let all = take_all c.loop-step.step-index c.args.steps.now le in
-    subst (All (λ (s : Step). IsFalse (get_or c.args.barred.now s.edge false) → Contains (get_or c.loop-step.lists.items s.edge []) c.args.path)) all c.loop-step.invariant.added
+    subst (All (λ (s : Step). IsFalse (get_or c.args.excluded.now s.edge false) → Contains (get_or c.loop-step.lists.items s.edge []) c.args.path)) all c.loop-step.invariant.added

@@ -13,7 +13,7 @@ loop-path-preserved c =
     let id = c.path-item.result in
     let within : id < length paths = subst (λ k. k < length paths) (sym c.path-item.is) (c.requires.there c.loop-path.path-index id c.loop-path-test.true) in
     let apart : AllDistinct (path_at paths id) = All-get_or AllDistinct paths id [] within c.facts.ensures.apart in
-    held_more c.args.barred.now paths kept c.loop-path.path-index id c.steps.result.now c.loop-path.lists.items c.add_along.new.lists.items
+    held_more c.args.excluded.now paths kept c.loop-path.path-index id c.steps.result.now c.loop-path.lists.items c.add_along.new.lists.items
     c.loop-path-test.true (sym c.path-item.is) apart c.steps.ensures.steps
     (record { long = c.in_ok-add_along.ensures.length; stay = c.in_ok-add_along.ensures.kept; inside = c.in_ok-add_along.ensures.inside; added = c.in_ok-add_along.ensures.added })
     c.loop-path.invariant

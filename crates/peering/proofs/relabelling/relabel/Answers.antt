@@ -10,7 +10,7 @@ use Rattle.relationships.proofs.Edges.{peering_law}
 use Rattle.relationships.proofs.Preferring.{maximal_law}
 use Rattle.as_graph.specs.Paths.{paths_at}
 use Rattle.as_graph.proofs.Labelled.{NoneTwice-distinct}
-use Rattle.peering.specs.Bars.{IsBarred}
+use Rattle.peering.specs.Exclusions.{IsExcluded}
 use Rattle.peering.specs.Peerings.{IsSettled}
 use Rattle.peering.proofs.Reading.{edge_among}
 use Rattle.peering.proofs.Flipping.{begins, relabelled}
@@ -62,15 +62,15 @@ loop-place-preserved c =
     let lists = c.in_ok-lists.ensures.many in
     let is : places ≡ get_or c.in_ok-lists.lists.items place [] =
     c.as_slice-in-loop-place-2.ensures ∙ c.index-in-loop-place.ensures ∙ get_or_default c.in_ok-lists.lists.items place c.index-in-loop-place.result.now [] (omega (arith, lt, lists)) in
-    let barred = c.index.result.now in
-    let bars = c.in_ok-barred.ensures.long in
-    let is_barred : barred ≡ get_or c.in_ok-barred.barred.items place false = c.index.ensures ∙ get_or_default c.in_ok-barred.barred.items place barred false (omega (arith, lt, bars)) in
-    settled_next paths kept ratio c.args.orientation.now c.requires.there c.facts.ensures.apart c.requires.ends place e barred count places
+    let excluded = c.index.result.now in
+    let exclusions = c.in_ok-excluded.ensures.long in
+    let is_excluded : excluded ≡ get_or c.in_ok-excluded.excluded.items place false = c.index.ensures ∙ get_or_default c.in_ok-excluded.excluded.items place excluded false (omega (arith, lt, exclusions)) in
+    settled_next paths kept ratio c.args.orientation.now c.requires.there c.facts.ensures.apart c.requires.ends place e excluded count places
     c.loop-place.labels (slice_get-get_or es place (0, 0) lt) held
     (λ q at. c.in_ok-lists.ensures.inside place q (subst (λ l. Contains l q) is at))
-    (λ f q at t. subst (λ l. Contains l q) (sym is) (c.in_ok-lists.ensures.all place q lt (ap (λ l. get_or l place false) c.as_slice.ensures.value ∙ sym is_barred ∙ f) at t))
-    (λ t. subst (λ (l : List End). IsBarred paths kept l place) c.as_slice-ends.ensures (c.in_ok-barred.ensures.barred place (sym is_barred ∙ t)))
-    c.loop-place.invariant c.settle.new.labels (subst (λ k. IsSettled paths ratio barred count places k c.loop-place.labels c.settle.new.labels) same c.settle.ensures)
+    (λ f q at t. subst (λ l. Contains l q) (sym is) (c.in_ok-lists.ensures.all place q lt (ap (λ l. get_or l place false) c.as_slice.ensures.value ∙ sym is_excluded ∙ f) at t))
+    (λ t. subst (λ (l : List End). IsExcluded paths kept l place) c.as_slice-ends.ensures (c.in_ok-excluded.ensures.excluded place (sym is_excluded ∙ t)))
+    c.loop-place.invariant c.settle.new.labels (subst (λ k. IsSettled paths ratio excluded count places k c.loop-place.labels c.settle.new.labels) same c.settle.ensures)
 
 pub returns-clause-relabelled : goal.returns-clause-relabelled
 returns-clause-relabelled c =

@@ -13,21 +13,21 @@ use Rattle.as_graph.specs.Steps.{AreSteps}
 abbrev pub goes_up : List End → Step → Bool
 goes_up ends step = is_up (step_slope (label_of (slice_index_or ends step.edge End.Low)) step.left)
 
--- two steps, one behind the other, bar an edge: both go up, and it is that of the first; or both go down, and it is that of the
+-- two steps, one behind the other, exclude an edge: both go up, and it is that of the first; or both go down, and it is that of the
 -- second
-abbrev pub BarredBy : List End → Step → Step → ℕ → Type 0
-BarredBy ends first second edge =
+abbrev pub ExcludedBy : List End → Step → Step → ℕ → Type 0
+ExcludedBy ends first second edge =
     (IsTrue (goes_up ends first) × IsTrue (goes_up ends second) × (first.edge ≡ edge)) ⊎
     (IsFalse (goes_up ends first) × IsFalse (goes_up ends second) × (second.edge ≡ edge))
 
 -- two of the steps do
-abbrev pub BarredOn : List End → List Step → ℕ → Type 0
-BarredOn ends steps edge =
+abbrev pub ExcludedOn : List End → List Step → ℕ → Type 0
+ExcludedOn ends steps edge =
     (at : ℕ) × (first second : Step) × (slice_get steps at ≡ Some first) × (slice_get steps (at + 1) ≡ Some second) ×
-    BarredBy ends first second edge
+    ExcludedBy ends first second edge
 
 -- two steps of a kept path do
-abbrev pub IsBarred : List (List ℕ) → List ℕ → List End → ℕ → Type 0
-IsBarred paths kept ends edge =
+abbrev pub IsExcluded : List (List ℕ) → List ℕ → List End → ℕ → Type 0
+IsExcluded paths kept ends edge =
     (place : ℕ) × (steps : List Step) × Contains kept place × AreSteps (edges paths) (path_at paths place) steps ×
-    All (λ step. step.edge < length (edges paths)) steps × BarredOn ends steps edge
+    All (λ step. step.edge < length (edges paths)) steps × ExcludedOn ends steps edge

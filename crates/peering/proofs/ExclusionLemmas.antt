@@ -9,7 +9,7 @@ use Rattle.relationships.proofs.Slopes.{Falls, Free}
 use Rattle.as_graph.specs.declared.step.Step.{Step}
 use Rattle.as_graph.specs.Slopes.{step_slope, slopes_by, is_up}
 use Rattle.std.proofs.lemmas.List.{get_or-set_same, get_or-set_other}
-use Rattle.peering.specs.Bars.{BarredBy, BarredOn}
+use Rattle.peering.specs.Exclusions.{ExcludedBy, ExcludedOn}
 
 -- the two slopes make a valley wherever they stand
 abbrev Clash : Slope → Slope → Type 0
@@ -96,10 +96,10 @@ All-slice_get P steps k u all is =
     some_step : {x y : Step} → Some x ≡ Some y → x ≡ y
     some_step h = cc
 
--- with a barred edge as a peering there is a valley
+-- with a excluded edge as a peering there is a valley
 pub no_flip : (old : List Label) (ends : List End) (n many : ℕ) (steps : List Step) → n < length old →
     ((j : ℕ) → j < many → (get_or old j Label.Peer ≡ Label.Peer) ⊎ (get_or old j Label.Peer ≡ label_of (get_or ends j End.Low))) →
-    All (λ (s : Step). s.edge < many) steps → BarredOn ends steps n → Free (slopes_by (set old n Label.Peer) steps) → ⊥
+    All (λ (s : Step). s.edge < many) steps → ExcludedOn ends steps n → Free (slopes_by (set old n Label.Peer) steps) → ⊥
 no_flip old ends n many steps lt cases within (i, s, t, at, next, by) free =
     clash_at (slopes_by labels steps) i (slope_now s) (slope_now t) (slope_of_step labels steps i s at)
     (subst (λ k. slice_get (slopes_by labels steps) k ≡ Some (slope_now t)) (add_one i) (slope_of_step labels steps (i + 1) t next))
@@ -127,6 +127,6 @@ no_flip old ends n many steps lt cases within (i, s, t, at, next, by) free =
     flipped : (u : Step) → u.edge ≡ n → slope_now u ≡ Flat
     flipped u e = flat_peer (get_or labels u.edge Label.Peer) u.left (ap (λ k. get_or labels k Label.Peer) e ∙ get_or-set_same old n Label.Peer Label.Peer lt)
 
-    clash : BarredBy ends s t n → Clash (slope_now s) (slope_now t)
+    clash : ExcludedBy ends s t n → Clash (slope_now s) (slope_now t)
     clash (inl b) = inl (flipped s b.2, still_not_down (get_or labels t.edge Label.Peer) (get_or ends t.edge End.Low) t.left (now_cases t (inside (i + 1) t next)) b.1)
     clash (inr b) = inr (still_not_up (get_or labels s.edge Label.Peer) (get_or ends s.edge End.Low) s.left (now_cases s (inside i s at)) b.0, flipped t b.2)

@@ -1,0 +1,74 @@
+ghost use Rattle.std.specs.Prelude.{◌≡◌, ◌<◌, ◌⊎◌, ℕ, false, All, length, slice_index_or, IsTrue, IfOk};
+ghost use Rattle.relationships.specs.Relationship.{label_of};
+ghost use Rattle.relationships.specs.Graph.{edges};
+ghost use Rattle.as_graph.specs.Slopes.{is_up, step_slope};
+ghost use Rattle.peering.specs.Exclusions.{ExcludedBy, ExcludedOn, IsExcluded};
+
+use as_graph::{AsGraph, Step};
+use relationships::End;
+use std::alloc::Global;
+use tor_arena::{Index, NoMemory, PathId};
+
+/// Whether a step from the end `left` of an edge goes up, where the provider is the end `over`.
+fn climbs(over: End, left: End) -> bool
+    ensures { result ≡ is_up (step_slope (label_of over) left) }
+{
+    match (over, left) {
+        (End::Low, End::Low) | (End::High, End::High) => false,
+        (End::Low, End::High) | (End::High, End::Low) => true,
+    }
+}
+
+/// Excludes the edge of the first of two steps that both go up, and that of the second if both go down.
+fn exclude_pair(excluded: &mut Vec<bool>, first: &Step, second: &Step, ends: &[End])
+    requires long { length excluded.old.items ≡ length ends.now }
+    requires first { first.now.edge < length ends.now }
+    requires second { second.now.edge < length ends.now }
+    ensures long { length excluded.new.items ≡ length ends.now }
+    ensures excluded { (k : ℕ) → IsTrue (slice_index_or excluded.new.items k false) →
+        IsTrue (slice_index_or excluded.old.items k false) ⊎ ExcludedBy ends.now first.now second.now k }
+{
+    let up = climbs(ends[first.edge.place()], first.left);
+    let next_up = climbs(ends[second.edge.place()], second.left);
+    if up && next_up {
+        excluded[first.edge.place()] = true;
+    }
+    if !up && !next_up {
+        excluded[second.edge.place()] = true;
+    }
+}
+
+/// Excludes the edges along a path with these steps that are neither that of the last step up nor that of the first down.
+fn exclude_along(excluded: &mut Vec<bool>, steps: &[Step], ends: &[End])
+    requires long { length excluded.old.items ≡ length ends.now }
+    requires inside { All (λ step. step.edge < length ends.now) steps.now }
+    ensures long { length excluded.new.items ≡ length ends.now }
+    ensures excluded { (k : ℕ) → IsTrue (slice_index_or excluded.new.items k false) →
+        IsTrue (slice_index_or excluded.old.items k false) ⊎ ExcludedOn ends.now steps.now k }
+{
+    for at in 1..steps.len() {
+        exclude_pair(excluded, &steps[at - 1], &steps[at], ends);
+    }
+}
+
+/// For each edge whether it is neither that of the last step up nor that of the first down on some kept path, so that it can be no
+/// peering. The only error is that memory ran out.
+pub(crate) fn exclusions(
+    alloc: Global,
+    graph: &AsGraph,
+    kept: &[PathId],
+    ends: &[End],
+) -> Result<Vec<bool>, NoMemory>
+    requires there { All (λ path. path < length graph.now) kept.now }
+    requires ends { length ends.now ≡ length (edges graph.now) }
+    ensures long { IfOk result (λ excluded. length excluded.items ≡ length (edges graph.now)) }
+    ensures excluded { IfOk result (λ excluded. (k : ℕ) → IsTrue (slice_index_or excluded.items k false) →
+        IsExcluded graph.now kept.now ends.now k) }
+{
+    let mut excluded = Vec::new(alloc);
+    excluded.resize(ends.len(), false)?;
+    for path in kept {
+        exclude_along(&mut excluded, graph.steps(*path), ends);
+    }
+    Ok(excluded)
+}
