@@ -1,5 +1,5 @@
 -- The settings that words give.
-use Rattle.std.specs.Prelude.{ℕ, ◌==◌, Bool, true, false, List, [], ◌∷◌, length, Option, Some, None}
+use Rattle.std.specs.Prelude.{ℕ, ◌==◌, Bool, false, List, [], ◌∷◌, length, Option, Some, None}
 use Rattle.std.specs.Prelude.{option_map, option_and_then, unwrap_or, if◌then◌else◌, codes}
 use Rattle.std.specs.Str.{bytes_eq}
 use Rattle.std.specs.Str.Parse.{digits_value, without_leading_plus}
@@ -7,6 +7,8 @@ use Rattle.clap.specs.ValueTests.{is_unsigned_in}
 use Rattle.clap.specs.Words.{Kinds, Row, Text, all_of, first_of, fault_of, matches_of}
 use Rattle.path_clean.specs.declared.cleaned.Sets.{Sets}
 use Rattle.path_clean.specs.declared.cleaned.Sets.TheVariants.{Cut, Skip}
+use Rattle.tor_words.specs.declared.settings.Mode.{Mode}
+use Rattle.tor_words.specs.declared.settings.Mode.TheVariants.{Labels, Listing}
 use Rattle.tor_words.specs.declared.settings.Settings.{Settings}
 use Rattle.tor_words.specs.TorCommand.{tor_command}
 
@@ -40,18 +42,25 @@ is_true_text (Some text) = bytes_eq text (codes "true")
 abbrev pub dumps_in : List Row → List Text
 dumps_in rows = unwrap_or (all_of (codes "dump") rows) []
 
--- whether the words ask for a list, and name a dump
-abbrev pub asks_in : List Row → Bool
-asks_in rows = if is_true_text (first_of (codes "list") rows) then (if length (dumps_in rows) == 0 then false else true) else false
+-- what is asked for: the list of the paths where `--list` is set, and else the labels
+abbrev pub mode_in : List Row → Mode
+mode_in rows = if is_true_text (first_of (codes "list") rows) then Listing else Labels
 
--- the settings that these matches give, if their values are some
+-- the settings that these matches give, if a dump is named and their values are some
 abbrev pub settings_in : List Row → Option Settings
 settings_in rows =
-    if asks_in rows then
-    option_and_then (λ sets. option_map (λ most. record { sets = sets; max_paths = most; dumps = dumps_in rows })
-    (number_or 1 8388608 8388608 (first_of (codes "max-paths") rows)))
+    if length (dumps_in rows) == 0 then None
+    else option_and_then (λ sets.
+    option_and_then (λ ratio.
+    option_map (λ most. record {
+      mode = mode_in rows;
+      sets = sets;
+      ratio = ratio;
+      max_paths = most;
+      dumps = dumps_in rows;
+    }) (number_or 1 8388608 8388608 (first_of (codes "max-paths") rows)))
+    (number_or 0 1000000 60 (first_of (codes "ratio") rows)))
     (sets_or_cut (first_of (codes "as-sets") rows))
-    else None
 
 -- the same where clap finds no fault, and nothing where it does
 abbrev pub unless_fault : {X : Type 0} → Kinds → Option X → Option X

@@ -49,10 +49,11 @@ pub(crate) fn command<'a>(alloc: Global) -> Result<Command<'a>, AllocError>
 {
     let list = flag(alloc, "list");
     let sets = option(alloc, "as-sets");
+    let ratio = number(alloc, "ratio", 0, 1_000_000);
     let most = number(alloc, "max-paths", 1, 8_388_608);
     let dumps = rest(alloc, "dump");
     let tor = Command::new(alloc, "tor").no_binary_name(true);
-    tor.arg(list)?.arg(sets)?.arg(most)?.arg(dumps)
+    tor.arg(list)?.arg(sets)?.arg(ratio)?.arg(most)?.arg(dumps)
 }
 
 /// The command line of `torcheck`.

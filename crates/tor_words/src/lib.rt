@@ -14,5 +14,5 @@ mod words;
 pub use check_settings::{CheckSettings, check_settings_of};
 pub use name::Name;
 pub use refused::WordsRefused;
-pub use settings::{Settings, settings_of};
+pub use settings::{Mode, Settings, settings_of};
 pub use words::words_of;

@@ -1,7 +1,7 @@
 //! The settings of a run.
 ghost use Rattle.std.specs.Prelude.{◌≡◌, ◌<◌, ◌≤◌, IfOk, IfErr, Some, None, length, map, option_map};
 ghost use Rattle.clap.specs.Words.{found_of, rows_of, first_of};
-ghost use Rattle.tor_words.specs.Given.{settings_in, settings_given, dumps_in};
+ghost use Rattle.tor_words.specs.Given.{settings_in, settings_given, dumps_in, mode_in};
 ghost use Rattle.tor_words.specs.Refused.{IsUsage, SaysUsage};
 
 use crate::command::command;
@@ -13,11 +13,25 @@ use path_clean::Sets;
 use std::alloc::Global;
 use tor_arena::{List, NoMemory};
 
-/// What a run of `tor` is asked for: the list of the distinct paths of dumps.
+/// What a run of `tor` writes.
+#[derive(Clone, Copy, Debug, PartialEq, Eq)]
+pub enum Mode {
+    /// The result: which paths are kept, and the labels and the marks of the edges.
+    Labels,
+    /// The list of the distinct paths.
+    Listing,
+}
+
+/// What a run of `tor` is asked for, and over which dumps.
 #[derive(Debug, Drop)]
 pub struct Settings {
+    /// What is written.
+    pub mode: Mode,
     /// What becomes of sets in AS_PATHs.
     pub sets: Sets,
+    /// How many times the lesser degree of an edge's two ends the greater one may be at most, so that the edge can become a
+    /// peering: from 0, where none can, to 1000000.
+    pub ratio: u32,
     /// The most distinct paths, from 1 to 8388608.
     pub max_paths: u32,
     /// The names of the dumps, one at least, in the order in which they are read.
@@ -52,18 +66,27 @@ pub(crate) fn dumps_in(alloc: Global, matches: &ArgMatches) -> Result<List<Name>
     }
 }
 
-// The settings that the matches give, if their values are some.
+// What the matches ask for.
+fn mode_in(matches: &ArgMatches) -> Mode
+    ensures { result ≡ mode_in (rows_of (found_of matches.now)) }
+{
+    if is_true_text(first(matches, "list")) {
+        Mode::Listing
+    } else {
+        Mode::Labels
+    }
+}
+
+// The settings that the matches give, if a dump is named and their values are some.
 fn settings_in(alloc: Global, matches: &ArgMatches) -> Result<Settings, WordsRefused>
     ensures ok { IfOk result (λ s. settings_in (rows_of (found_of matches.now)) ≡ Some s) }
     ensures err { IfErr result (λ e. IsUsage e → settings_in (rows_of (found_of matches.now)) ≡ None) }
     ensures text { IfErr result SaysUsage }
+    ensures ratio { IfOk result (λ s. s.ratio ≤ 1000000) }
     ensures some { IfOk result (λ s. 1 ≤ s.max_paths) }
     ensures most { IfOk result (λ s. s.max_paths ≤ 8388608) }
     ensures named { IfOk result (λ s. 0 < length s.dumps) }
 {
-    if !is_true_text(first(matches, "list")) {
-        return Err(usage(alloc, "tor --list is what there is so far\n"));
-    }
     let Ok(dumps) = dumps_in(alloc, matches) else {
         return Err(WordsRefused::NoMemory);
     };
@@ -73,11 +96,16 @@ fn settings_in(alloc: Global, matches: &ArgMatches) -> Result<Settings, WordsRef
     let Some(sets) = sets_or_cut(first(matches, "as-sets")) else {
         return Err(usage(alloc, "--as-sets takes cut or skip\n"));
     };
+    let Some(ratio) = number_or(first(matches, "ratio"), 0, 1_000_000, 60) else {
+        return Err(usage(alloc, "--ratio takes a number from 0 to 1000000\n"));
+    };
     let Some(max_paths) = number_or(first(matches, "max-paths"), 1, 8_388_608, 8_388_608) else {
         return Err(usage(alloc, "--max-paths takes a number from 1 to 8388608\n"));
     };
     Ok(Settings {
+        mode: mode_in(matches),
         sets,
+        ratio: ratio as u32,
         max_paths: max_paths as u32,
         dumps,
     })
@@ -89,6 +117,7 @@ pub fn settings_of(alloc: Global, words: &List<Name>) -> Result<Settings, WordsR
     ensures given { IfOk result (λ s. settings_given words.now ≡ Some s) }
     ensures refused { IfErr result (λ e. IsUsage e → settings_given words.now ≡ None) }
     ensures text { IfErr result SaysUsage }
+    ensures ratio { IfOk result (λ s. s.ratio ≤ 1000000) }
     ensures some { IfOk result (λ s. 1 ≤ s.max_paths) }
     ensures most { IfOk result (λ s. s.max_paths ≤ 8388608) }
     ensures named { IfOk result (λ s. 0 < length s.dumps) }

@@ -1,16 +1,17 @@
 use crate::settings::{names_of, settings_of};
-use crate::{WordsRefused, check_settings_of};
+use crate::{Mode, WordsRefused, check_settings_of};
 use path_clean::Sets;
 use std::alloc::Global;
 use std::test::Fail;
 
-// What words give: the way with sets, the most paths and the number of dumps; or the exit status that refuses them.
-fn asked(alloc: Global, texts: &[&str]) -> Result<(Sets, u32, usize), u8> {
+// What words give: the mode, the way with sets, the ratio, the most paths and the number of dumps; or the exit status that
+// refuses them.
+fn asked(alloc: Global, texts: &[&str]) -> Result<(Mode, Sets, u32, u32, usize), u8> {
     let Ok(words) = names_of(alloc, texts) else {
         return Err(9);
     };
     match settings_of(alloc, &words) {
-        Ok(settings) => Ok((settings.sets, settings.max_paths, settings.dumps.len())),
+        Ok(s) => Ok((s.mode, s.sets, s.ratio, s.max_paths, s.dumps.len())),
         Err(WordsRefused::Usage(_)) => Err(2),
         Err(WordsRefused::NoMemory) => Err(7),
     }
@@ -19,19 +20,34 @@ fn asked(alloc: Global, texts: &[&str]) -> Result<(Sets, u32, usize), u8> {
 #[test]
 fn takes_words(rt: HostRuntime) {
     let most = 8_388_608;
-    let cases: [(&[&str], (Sets, u32, usize)); 6] = [
-        (&["--list", "d"], (Sets::Cut, most, 1)),
+    let cases: [(&[&str], (Mode, Sets, u32, u32, usize)); 9] = [
+        (&["d"], (Mode::Labels, Sets::Cut, 60, most, 1)),
         (
-            &["--list", "--as-sets=skip", "--", "d"],
-            (Sets::Skip, most, 1),
+            &["--as-sets=skip", "--", "d"],
+            (Mode::Labels, Sets::Skip, 60, most, 1),
         ),
         (
             &["a", "--list", "b", "--as-sets", "cut", "c"],
-            (Sets::Cut, most, 3),
+            (Mode::Listing, Sets::Cut, 60, most, 3),
         ),
-        (&["--list", "--max-paths", "+007", "d"], (Sets::Cut, 7, 1)),
-        (&["--list", "--", "--list"], (Sets::Cut, most, 1)),
-        (&["--list", "-", "", "help"], (Sets::Cut, most, 3)),
+        (
+            &["--ratio", "0", "d"],
+            (Mode::Labels, Sets::Cut, 0, most, 1),
+        ),
+        (
+            &["--list", "--ratio=1000000", "d", "d"],
+            (Mode::Listing, Sets::Cut, 1_000_000, most, 2),
+        ),
+        (
+            &["--ratio", "+007", "--max-paths", "+007", "d"],
+            (Mode::Labels, Sets::Cut, 7, 7, 1),
+        ),
+        (
+            &["--list", "--", "--list"],
+            (Mode::Listing, Sets::Cut, 60, most, 1),
+        ),
+        (&["--", "--list"], (Mode::Labels, Sets::Cut, 60, most, 1)),
+        (&["-", "", "help"], (Mode::Labels, Sets::Cut, 60, most, 3)),
     ];
     for (words, settings) in &cases {
         assert_eq!(rt; asked(rt.alloc(), words), Ok(*settings));
@@ -40,21 +56,25 @@ fn takes_words(rt: HostRuntime) {
 
 #[test]
 fn refuses_words(rt: HostRuntime) {
-    let cases: [&[&str]; 14] = [
+    let cases: [&[&str]; 18] = [
         &[],
-        &["d"],
         &["--list"],
+        &["--ratio", "60"],
         &["--list", "--list", "d"],
         &["--list=true", "d"],
-        &["--list", "--as-sets", "cup", "d"],
-        &["--list", "--as-sets", "cut", "--as-sets", "cut", "d"],
-        &["--list", "--max-paths", "0", "d"],
-        &["--list", "--max-paths", "8388609", "d"],
-        &["--list", "--max-paths", "-1", "d"],
-        &["--list", "--lis", "d"],
-        &["--list", "-x", "d"],
-        &["--list", "--help"],
-        &["--list", "--version", "d"],
+        &["--as-sets", "cup", "d"],
+        &["--as-sets", "cut", "--as-sets", "cut", "d"],
+        &["--ratio", "1000001", "d"],
+        &["--ratio", "-1", "d"],
+        &["--ratio", "1", "--ratio", "2", "d"],
+        &["--ratio"],
+        &["--max-paths", "0", "d"],
+        &["--max-paths", "8388609", "d"],
+        &["--max-paths", "-1", "d"],
+        &["--lis", "d"],
+        &["-x", "d"],
+        &["--help"],
+        &["--version", "d"],
     ];
     for words in &cases {
         assert_eq!(rt; asked(rt.alloc(), words), Err(2));
