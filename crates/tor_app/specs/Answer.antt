@@ -6,7 +6,6 @@ use Rattle.tor_io.specs.Contents.{Files, GainsPrefix}
 use Rattle.dump_read.specs.declared.error.Place.{Place}
 use Rattle.dump_read.specs.declared.error.Fault.{Fault}
 use Rattle.dump_read.specs.declared.error.LimitKind.{LimitKind}
-use Rattle.dump_read.specs.declared.taking.Taken.{Taken}
 use Rattle.dump_read.specs.Seen.{End, Absent, Malformed, Limit}
 use Rattle.tor_words.specs.declared.settings.Settings.{Settings}
 use Rattle.tor_words.specs.Refused.{HasUsageLine}
@@ -14,20 +13,8 @@ use Rattle.tor_words.specs.Given.{settings_given}
 use Rattle.tor_app.specs.declared.status.Status.{Status}
 use Rattle.tor_app.specs.declared.status.Status.TheVariants as status
 use Rattle.tor_app.specs.Notes.{malformed_note, limit_note, read_fault_note, plain_note}
-use Rattle.tor_app.specs.Listing.{listing}
+use Rattle.tor_app.specs.Output.{IsNoteOfOutput}
 use Rattle.tor_app.specs.Seen.{nothing, outcome, seen_from}
-
--- the text is the listing of the distinct paths that the dumps give
-abbrev pub Lists : Option (Result Taken End) → List ℕ → Type 0
-Lists given text = (taken : Taken) × (given ≡ Some (Ok taken)) × (text ≡ listing taken.table.rows)
-
--- a sink gained that text
-abbrev pub GainsListing : Option (Result Taken End) → Option (List ℕ) → Option (List ℕ) → Type 0
-GainsListing given old new = (text : List ℕ) × Lists given text × (new ≡ append_known old text)
-
--- a sink gained a prefix of that text
-abbrev pub GainsListingPrefix : Option (Result Taken End) → Option (List ℕ) → Option (List ℕ) → Type 0
-GainsListingPrefix given old new = (text : List ℕ) × Lists given text × GainsPrefix old new text
 
 -- what the words and the files give, where these are known, is this end
 abbrev pub IsEnd : List (List ℕ) → Option Files → End → Type 0
@@ -55,7 +42,7 @@ IsNote words known steady status.Malformed text =
 IsNote words known steady status.Limit text =
     (kind : LimitKind) × (dump : ℕ) × (text ≡ limit_note kind dump) × IsEnd words known (Limit kind dump)
 IsNote words known steady status.ReadFault text = (dump : ℕ) × (text ≡ read_fault_note dump) × FailedAt words known steady dump
-IsNote words known steady status.Done text = text ≡ plain_note status.Done
+IsNote words known steady status.Done text = IsNoteOfOutput words text
 IsNote words known steady status.No text = text ≡ plain_note status.No
 IsNote words known steady status.WriteFault text = text ≡ plain_note status.WriteFault
 IsNote words known steady status.NoMemory text = text ≡ plain_note status.NoMemory

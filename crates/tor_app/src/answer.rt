@@ -2,17 +2,18 @@ ghost use Rattle.std.specs.Prelude.{◌≡◌, ◌≤◌, ◌<◌, Ok, IfOk, IfE
 ghost use Rattle.std.specs.Io.KnownBytes.{IsAtEnd};
 ghost use Rattle.tor_io.specs.Counts.{Rose};
 ghost use Rattle.tor_words.specs.Given.{settings_given};
-ghost use Rattle.tor_app.specs.Seen.{seen, outcome};
-ghost use Rattle.tor_app.specs.Answer.{Lists};
-ghost use Rattle.tor_app.specs.Refusals.{note_in, Answers, IsNoMemory, IsRefusal, IsReadFault, IsOfWords, IsStopIn, ListsSeen};
+ghost use Rattle.tor_app.specs.Seen.{seen};
+ghost use Rattle.tor_app.specs.Output.{IsOutput, IsOutputOf, IsAsked, IsNoteOfOutput};
+ghost use Rattle.tor_app.specs.Refusals.{note_in, Answers, IsNoMemory, IsRefusal, IsReadFault, IsOfWords, IsStopIn};
+ghost use Rattle.dump_read.specs.declared.taking.Taken.{Taken};
 
-use crate::listing::list_text;
 use crate::notes::{limit_note, malformed_note, read_fault_note};
+use crate::output::{Output, output_of};
 use crate::reading::{Stopped, nothing_taken, read_dumps};
 use crate::status::Status;
 use dump_read::DumpError;
 use std::alloc::{AllocError, Global};
-use tor_arena::{Keys, List};
+use tor_arena::{Keys, List, NoMemory};
 use tor_io::Shelf;
 use tor_words::{Name, Settings, WordsRefused, settings_of};
 
@@ -29,7 +30,7 @@ pub(crate) enum Refusal {
 pub(crate) enum Note {
     /// What its status says by itself.
     Plain,
-    Words(List<u8>),
+    Octets(List<u8>),
     Text(String),
 }
 
@@ -72,7 +73,7 @@ impl Answer {
     {
         match &self.note {
             Note::Plain => self.status.plain_note(),
-            Note::Words(text) => text.as_slice(),
+            Note::Octets(text) => text.as_slice(),
             Note::Text(text) => text.as_bytes(),
         }
     }
@@ -101,7 +102,7 @@ pub(crate) fn answer_to(alloc: Global, refusal: Refusal) -> Answer
     match refusal {
         Refusal::Words(WordsRefused::Usage(text)) => Answer {
             status: Status::Usage,
-            note: Note::Words(text),
+            note: Note::Octets(text),
         },
         Refusal::Dumps(stopped) => answer_to_stop(alloc, stopped),
         Refusal::Words(WordsRefused::NoMemory) | Refusal::NoMemory => {
@@ -110,16 +111,18 @@ pub(crate) fn answer_to(alloc: Global, refusal: Refusal) -> Answer
     }
 }
 
-// The list text of the dumps that the settings name. All memory is taken here.
-fn dumps_text<H: Shelf>(
+// What the settings ask for, of the dumps that they name. All memory is taken here.
+fn output_for<H: Shelf>(
     alloc: Global,
     keys: Keys,
     settings: &Settings,
     shelf: &mut H,
-) -> Result<String, Refusal>
+) -> Result<Output, Refusal>
     requires some { 1 ≤ settings.now.max_paths }
     requires most { settings.now.max_paths ≤ 8388608 }
-    ensures text { IfOk result (λ text. IfSome (H.files shelf.old) (λ files. ListsSeen (seen settings.now files) (string_bytes text))) }
+    requires ratio { settings.now.ratio ≤ 1000000 }
+    ensures output { IfOk result (λ output. IfSome (H.files shelf.old) (λ files. IsOutputOf settings.now (seen settings.now files) output)) }
+    ensures of_some { IfOk result (λ output. (taken : Taken) × IsOutput settings.now taken output) }
     ensures refused { IfErr result (IsStopIn settings.now (H.files shelf.old) (H.steady shelf.old)) }
     ensures read_out { OnOk result (0 < length settings.now.dumps → IsAtEnd (H.left shelf.new)) }
 
@@ -138,22 +141,23 @@ fn dumps_text<H: Shelf>(
         settings.sets,
         &mut taken,
     ) {
-        Ok(()) => match list_text(alloc, &taken.table) {
-            Ok(text) => Ok(text),
-            Err(AllocError) => Err(Refusal::NoMemory),
+        Ok(()) => match output_of(alloc, keys, settings, taken) {
+            Ok(output) => Ok(output),
+            Err(NoMemory) => Err(Refusal::NoMemory),
         },
         Err(stopped) => Err(Refusal::Dumps(stopped)),
     }
 }
 
-/// The text that the words ask for. All memory is taken here.
-pub(crate) fn text_of<H: Shelf>(
+/// What the words ask for. All memory is taken here.
+pub(crate) fn output_asked<H: Shelf>(
     alloc: Global,
     keys: Keys,
     words: &List<Name>,
     shelf: &mut H,
-) -> Result<String, Refusal>
-    ensures text { IfOk result (λ text. IfSome (H.files shelf.old) (λ files. Lists (outcome words.now files) (string_bytes text))) }
+) -> Result<Output, Refusal>
+    ensures asked { IfOk result (λ output. IfSome (H.files shelf.old) (λ files. IsAsked words.now files output)) }
+    ensures noted { IfOk result (λ output. IsNoteOfOutput words.now output.note) }
     ensures refused { IfErr result (IsRefusal words.now (H.files shelf.old) (H.steady shelf.old)) }
 
     ensures settled { IsNone (settings_given words.now) → IsErrAnd result IsOfWords }
@@ -168,7 +172,7 @@ pub(crate) fn text_of<H: Shelf>(
     ensures steady { H.steady shelf.old → H.steady shelf.new }
 {
     match settings_of(alloc, words) {
-        Ok(settings) => dumps_text(alloc, keys, &settings, shelf),
+        Ok(settings) => output_for(alloc, keys, &settings, shelf),
         Err(refused) => Err(Refusal::Words(refused)),
     }
 }

@@ -1,0 +1,5 @@
+pub mod Acceptance
+pub mod Assembling
+pub mod Inferring
+pub mod KeptPlaces
+pub mod LineLemmas

@@ -1,0 +1,4 @@
+pub mod EdgeLines
+pub mod Peers
+pub mod Results
+pub mod Totals

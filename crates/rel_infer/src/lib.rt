@@ -1,0 +1,7 @@
+//! The result of distinct paths: which are kept, what the edges are labelled, and which labels are forced, with the evidence.
+#![tactic(auto)]
+
+mod edge_lines;
+mod labelling;
+mod totals;
+mod inferring;
