@@ -1,10 +1,11 @@
 -- The kept paths, line by line.
-use Rattle.std.proofs.Common.{◌≡◌, ℕ, ◌+◌, List, [], ◌∷◌, ◌++◌, map, refl, ap, ◌∙◌, is_none}
+use Rattle.std.proofs.Common.{◌≡◌, ℕ, ◌+◌, List, [], ◌∷◌, ◌++◌, map, true, false, refl, sym, ap, ◌∙◌, is_none}
+use Rattle.std.proofs.lemmas.Bool.{false≢true}
 use Rattle.relationships.specs.Evidence.{paths_of, kept_from}
 use Rattle.relationships.specs.declared.fate.Fate.{Fate}
 use Rattle.relationships.specs.declared.fate.Fate.TheVariants.{Kept, Lost}
 use Rattle.result_text.specs.declared.file.PathLine.{PathLine}
-use Rattle.relationships.specs.Fates.{walk_of}
+use Rattle.relationships.specs.Fates.{is_kept, walk_of}
 use Rattle.rel_checker.specs.Flipping.{with_kept, kept_lines}
 
 abbrev lines_from : ℕ → List PathLine → List (List ℕ)
@@ -31,3 +32,12 @@ more_from n (first ∷ lines) line = behind (more_from (n + 1) lines line) first
 
 pub kept_more : (lines : List PathLine) (line : PathLine) → kept_lines (lines ++ line ∷ []) ≡ with_kept (kept_lines lines) line.path line.fate
 kept_more lines line = more_from 1 lines line
+
+-- a path by whether it is kept
+pub with_kept-kept : (paths : List (List ℕ)) (path : List ℕ) (fate : Fate) → is_kept fate ≡ true → with_kept paths path fate ≡ paths ++ path ∷ []
+with_kept-kept paths path Kept kept = refl
+with_kept-kept paths path (Lost walk) kept = absurd (false≢true kept)
+
+pub with_kept-lost : (paths : List (List ℕ)) (path : List ℕ) (fate : Fate) → is_kept fate ≡ false → with_kept paths path fate ≡ paths
+with_kept-lost paths path Kept lost = absurd (false≢true (sym lost))
+with_kept-lost paths path (Lost walk) lost = refl

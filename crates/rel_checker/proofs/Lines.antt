@@ -5,7 +5,7 @@ use Rattle.std.proofs.lemmas.Bool.{false≢true, cases_lt}
 use Rattle.std.proofs.lemmas.List.{map-append, take_more, length-map, get_or-map}
 use Rattle.std.proofs.lemmas.List.Elements.{filter-append}
 use Rattle.std.proofs.lemmas.List.Sums.{length-filter, count_by-le-length, sum_by_more}
-use Rattle.std.proofs.lemmas.Option.{slice_get_read, same_Some}
+use Rattle.std.proofs.lemmas.Option.{slice_get_read, slice_get_within, get_or_from_slice_get, same_Some}
 use Rattle.relationships.specs.Evidence.{paths_of, kept_from}
 use Rattle.tor_arena.specs.Distinct.{is_distinct}
 use Rattle.path_clean.specs.Paths.{is_reserved, is_cleaned}
@@ -104,6 +104,10 @@ line-among file lines i line same within is = record {
   within = subst (λ (ls : List PathLine). i < length ls) same within;
   is = subst (λ (ls : List PathLine). line ≡ get_or ls i line) same is;
 }
+
+-- the line that a loop reads by its place
+pub line-here : (file : ResultFile) (i : ℕ) (line : PathLine) → slice_get file.paths i ≡ Some line → IsLine file i line
+line-here file i line at = record { within = slice_get_within file.paths i line at; is = sym (get_or_from_slice_get file.paths i line line at) }
 
 pub sound-at : (file : ResultFile) (i : ℕ) (line : PathLine) → IsMet file PathsCleaned → IsLine file i line → IsSound file i line
 sound-at file i line met l = met i l.within line (slice_get_read file.paths (length file.paths) i line refl l.within l.is)

@@ -1,7 +1,7 @@
 -- What the rule on lost walks asks of a line, as code finds it.
-use Rattle.std.proofs.Common.{◌≡◌, ◌↔◌, ℕ, ◌+◌, ◌<◌, List, [], ◌∷◌, ◌++◌, length, take, get_or, Some, slice_get, sym, ap, ap₂, ◌∙◌, subst, arith}
+use Rattle.std.proofs.Common.{◌≡◌, ◌↔◌, ℕ, ◌+◌, ◌<◌, List, [], ◌∷◌, ◌++◌, length, take, Some, slice_get, sym, ap, ap₂, ◌∙◌, subst, arith}
 use Rattle.std.proofs.lemmas.List.{take-map, length-take-le}
-use Rattle.std.proofs.lemmas.Option.{slice_get-get_or}
+use Rattle.std.proofs.lemmas.Option.{slice_get_within}
 use Rattle.relationships.specs.declared.walk.Walk.{Walk}
 use Rattle.relationships.specs.Evidence.{Refutes}
 use Rattle.relationships.specs.Checking.{kept_of}
@@ -25,23 +25,20 @@ named_before file k line within =
     ap₂ (λ A i. A ++ (i + 1, line.path) ∷ [])
     (ap₂ kept_of (sym (take-map (λ (p : PathLine). p.path) k file.paths)) (sym (take-map (λ (p : PathLine). walk_of p.fate) k file.paths))) n
 
--- the lines are those of the file
-pub asks_lost : (file : ResultFile) (lines : List PathLine) (k : ℕ) (line : PathLine) → lines ≡ file.paths → k < length lines → line ≡ get_or lines k line →
-    (k < length file.paths) × (IsRight (take k lines) line ↔ Asks file LostRefuted k)
-asks_lost file lines k line same within is =
-    let r = go (rw same at within) (rw same at is) in
-    (rw same at within, (λ h. r.0 (rw same at h), λ asks. rw same (r.1 asks)))
+pub asks_lost : (file : ResultFile) (k : ℕ) (line : PathLine) → slice_get file.paths k ≡ Some line →
+    (k < length file.paths) × (IsRight (take k file.paths) line ↔ Asks file LostRefuted k)
+asks_lost file k line at =
+    let within : k < length file.paths = slice_get_within file.paths k line at in
+    let named = named_before file k line within in (
+      within,
+      (
+        λ right other at' walk lost.
+            let e : line ≡ other = some (sym at ∙ at') in
+            let l : line.fate ≡ Lost walk = ap (λ (p : PathLine). p.fate) e ∙ lost in
+            subst (λ (p : PathLine). Refutes (kept_before file k ++ (k + 1, p.path) ∷ []) walk) e (subst (λ A. Refutes A walk) named (right walk l)),
+        λ asks walk lost. subst (λ A. Refutes A walk) (sym named) (asks line at walk lost),
+      ),
+    )
   where
     some : {a b : PathLine} → Some a ≡ Some b → a ≡ b
     some e = cc
-
-    go : k < length file.paths → line ≡ get_or file.paths k line → IsRight (take k file.paths) line ↔ Asks file LostRefuted k
-    go within is =
-        let at : slice_get file.paths k ≡ Some line = slice_get-get_or file.paths k line within ∙ ap (λ p. Some p) (sym is) in
-        let named = named_before file k line within in (
-          λ right other at' walk lost.
-              let e : line ≡ other = some (sym at ∙ at') in
-              let l : line.fate ≡ Lost walk = ap (λ (p : PathLine). p.fate) e ∙ lost in
-              subst (λ (p : PathLine). Refutes (kept_before file k ++ (k + 1, p.path) ∷ []) walk) e (subst (λ A. Refutes A walk) named (right walk l)),
-          λ asks walk lost. subst (λ A. Refutes A walk) (sym named) (asks line at walk lost),
-        )

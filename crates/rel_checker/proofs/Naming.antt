@@ -7,9 +7,10 @@ use Rattle.relationships.proofs.Places.{kept_from-in, kept_from-out}
 use Rattle.relationships.specs.declared.fate.Fate.{Fate}
 use Rattle.relationships.specs.declared.fate.Fate.TheVariants.{Kept, Lost}
 use Rattle.result_text.specs.declared.file.PathLine.{PathLine}
-use Rattle.relationships.specs.Fates.{walk_of}
+use Rattle.std.specs.Prelude.{if◌then◌else◌}
+use Rattle.relationships.specs.Fates.{is_kept, walk_of}
 use Rattle.rel_checker.specs.File.{kept_among}
-use Rattle.rel_checker.specs.Naming.{nameable}
+use Rattle.rel_checker.specs.Naming.{nameable, path_if_kept}
 use Rattle.rel_checker.proofs.WalkLaws.{paths_in, walks_in}
 
 abbrev flags_in : List PathLine → List Bool
@@ -123,3 +124,10 @@ named_by lines next number line path some within is =
     back : (fate : Fate) → fate_path line fate ≡ Some path → (is_none (walk_of fate) ≡ true) × (line.path ≡ path)
     back Kept h = (refl, cc)
     back (Lost walk) h = absurd cc
+
+pub fate_path-if_kept : (line : PathLine) → path_if_kept line ≡ fate_path line line.fate
+fate_path-if_kept line = by line.fate
+  where
+    by : (fate : Fate) → (if is_kept fate then Some line.path else None) ≡ fate_path line fate
+    by Kept = refl
+    by (Lost walk) = refl

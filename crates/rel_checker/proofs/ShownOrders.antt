@@ -2,10 +2,9 @@
 use Rattle.std.proofs.Common.{◌≡◌, ◌↔◌, ℕ, zero, suc, ◌+◌, ◌<◌, List, [], ◌∷◌, ◌++◌, get_or, length, take, Some, slice_get, refl, sym, ap, ◌∙◌, subst, arith}
 use Rattle.std.proofs.lemmas.Grind.{flat_map-append}
 use Rattle.std.proofs.lemmas.List.{take_more}
-use Rattle.std.proofs.lemmas.Option.{slice_get-get_or}
+use Rattle.std.proofs.lemmas.Option.{slice_get_within, get_or_from_slice_get}
 use Rattle.relationships.specs.declared.walk.Walk.{Walk}
 use Rattle.relationships.specs.Evidence.{Numbered, EndsWith, Shows}
-use Rattle.result_text.specs.declared.file.PathLine.{PathLine}
 use Rattle.result_text.specs.declared.file.ResultFile.{ResultFile}
 use Rattle.rel_checker.specs.File.{last_two, shown_orders}
 use Rattle.rel_checker.specs.File.{kept_among}
@@ -53,12 +52,9 @@ shows_none A shown w a b e s =
 -- ---- the why lines that a loop has passed, and the next. The lines are those of the file, and the orders are those that the
 -- lines before the next show
 
-module _ (file : ResultFile) (whys : List Walk) (k : ℕ) (walk : Walk) (same : whys ≡ file.whys) (within : k < length whys) (is : walk ≡ get_or whys k walk) where
+module _ (file : ResultFile) (k : ℕ) (walk : Walk) (at : slice_get file.whys k ≡ Some walk) where
   in_file : k < length file.whys
-  in_file = rw same at within
-
-  is_it : walk ≡ get_or file.whys k walk
-  is_it = rw same at is
+  in_file = slice_get_within file.whys k walk at
 
   pub orders_more : (shown shown' : List (ℕ × ℕ)) (a b : ℕ) → shown ≡ shown_orders (take k file.whys) → shown' ≡ shown ++ (a, b) ∷ [] → EndsWith walk.ases a b →
       shown' ≡ shown_orders (take (k + 1) file.whys)
@@ -67,18 +63,17 @@ module _ (file : ResultFile) (whys : List Walk) (k : ℕ) (walk : Walk) (same : 
       let e = last_two-from_ends walk.ases a b ends in
       more ∙ ap (λ l. l ++ (a, b) ∷ []) before ∙ sym (ap shown_orders (take_more file.whys k walk in_file) ∙
       flat_map-append (λ (w : Walk). last_two w.ases) (take k file.whys) (get_or file.whys k walk ∷ []) ∙
-      ap (λ (w : Walk). orders ++ (last_two w.ases ++ [])) (sym is_it) ∙ ap (λ l. orders ++ (l ++ [])) e)
+      ap (λ (w : Walk). orders ++ (last_two w.ases ++ [])) (get_or_from_slice_get file.whys k walk walk at) ∙ ap (λ l. orders ++ (l ++ [])) e)
 
-  pub asks_shown : (lines : List PathLine) (shown : List (ℕ × ℕ)) → lines ≡ file.paths → shown ≡ shown_orders (take k file.whys) →
-      (k < length file.whys) × (((a b : ℕ) × Shows (kept_among lines) shown walk a b) ↔ Asks file OrdersShown k)
-  asks_shown lines shown paths before =
-      let at : slice_get file.whys k ≡ Some walk = slice_get-get_or file.whys k walk in_file ∙ ap (λ w. Some w) (sym is_it) in (
-        in_file,
-        (
-          λ h other at'. subst (λ (w : Walk). (a b : ℕ) × Shows (kept_among file.paths) (shown_orders (take k file.whys)) w a b) (some (sym at ∙ at')) (rw (paths, before) at h),
-          λ asks. rw (paths, before) (asks walk at),
-        ),
-      )
+  pub asks_shown : (shown : List (ℕ × ℕ)) → shown ≡ shown_orders (take k file.whys) →
+      (k < length file.whys) × (((a b : ℕ) × Shows (kept_among file.paths) shown walk a b) ↔ Asks file OrdersShown k)
+  asks_shown shown before = (
+    in_file,
+    (
+      λ h other at'. subst (λ (w : Walk). (a b : ℕ) × Shows (kept_among file.paths) (shown_orders (take k file.whys)) w a b) (some (sym at ∙ at')) (rw before at h),
+      λ asks. rw before (asks walk at),
+    ),
+  )
     where
       some : {a b : Walk} → Some a ≡ Some b → a ≡ b
       some e = cc

@@ -1,5 +1,6 @@
 -- Which paths the links of a walk may name.
-use Rattle.std.specs.Prelude.{◌+◌, List, [], ◌∷◌, ◌++◌, length, Option, Some, None}
+use Rattle.std.specs.Prelude.{ℕ, ◌+◌, List, [], ◌∷◌, ◌++◌, length, Option, Some, None, if◌then◌else◌}
+use Rattle.relationships.specs.Fates.{is_kept}
 use Rattle.relationships.specs.Evidence.{Numbered}
 use Rattle.result_text.specs.declared.file.PathLine.{PathLine}
 use Rattle.rel_checker.specs.File.{kept_among}
@@ -8,3 +9,7 @@ use Rattle.rel_checker.specs.File.{kept_among}
 abbrev pub nameable : List PathLine → Option PathLine → Numbered
 nameable lines None = kept_among lines
 nameable lines (Some next) = kept_among lines ++ (length lines + 1, next.path) ∷ []
+
+-- the path of the line, if it is kept
+abbrev pub path_if_kept : PathLine → Option (List ℕ)
+path_if_kept line = if is_kept line.fate then Some line.path else None

@@ -2,6 +2,7 @@ ghost use Rattle.std.specs.Prelude.{◌≡◌, ◌+◌, ◌<◌, ◌≤◌, ◌^
 ghost use Rattle.rel_checker.specs.Against.{in_order, its_rows, JudgesAgainst, Differs};
 
 use crate::answer::Answer;
+use crate::lending::path_line_at;
 use path_clean::{Asides, Cause, PathTable};
 use result_text::ResultFile;
 use tor_arena::{Index, PathId};
@@ -59,8 +60,9 @@ fn differing_path(file: &ResultFile, table: &PathTable) -> Option<usize>
     ensures { MatchOption result (its_rows file.now ≡ table.now.rows)
         (λ k. (k ≤ length file.now.paths) × Differs (its_rows file.now) table.now.rows k) }
 {
-    for (place, line) in file.paths.as_slice().iter().enumerate() {
-        if !is_row(table, place, line.path.as_slice(), line.times) {
+    for place in 0..file.paths.len() {
+        let line = path_line_at(&file.paths, place);
+        if !is_row(table, place, line.path(), line.times()) {
             return Some(place);
         }
     }

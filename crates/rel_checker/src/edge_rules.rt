@@ -7,6 +7,7 @@ ghost use Rattle.rel_checker.specs.Tables.{with_edge};
 ghost use Rattle.rel_checker.specs.Verdict.{Finds};
 
 use crate::edge_table::EdgeTable;
+use crate::lending::path_line_at;
 use crate::supports::count_kept;
 use crate::valleys::is_served;
 use result_text::{EdgeLine, ResultFile};
@@ -22,8 +23,9 @@ pub(crate) fn list_edges(
     ensures { IfOk result (λ table. table ≡ edges (its_paths file.now)) }
 {
     let mut table = EdgeTable::new(alloc, keys);
-    for line in file.paths.as_slice() {
-        add_steps(&mut table, line.path.as_slice())?;
+    for place in 0..file.paths.len() {
+        let line = path_line_at(&file.paths, place);
+        add_steps(&mut table, line.path())?;
     }
     Ok(table)
 }
@@ -92,8 +94,9 @@ pub(crate) fn find_valley(file: &ResultFile, table: &EdgeTable) -> Option<usize>
     ensures { Finds file.now Rule.KeptValleyFree result }
 {
     let edges = file.edges.as_slice();
-    for (place, line) in file.paths.as_slice().iter().enumerate() {
-        if !is_served(edges, table, line) {
+    for place in 0..file.paths.len() {
+        let line = path_line_at(&file.paths, place);
+        if !is_served(edges, table, &line) {
             return Some(place);
         }
     }

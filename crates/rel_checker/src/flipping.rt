@@ -8,10 +8,11 @@ ghost use Rattle.tor_arena.specs.Distinct.{AllDistinct};
 ghost use Rattle.rel_checker.specs.Flipping.{flipped_orders, edges_of, IsBuiltFor, IsStep, with_implied, with_conflicting, with_kept, kept_lines, IsListed, IsProper};
 
 use crate::edge_table::EdgeTable;
+use crate::lending::path_line_at;
 use crate::neighbours::Neighbours;
 use crate::thinning::thin_out;
 use relationships::Label;
-use result_text::{EdgeLine, Fate, PathLine, ResultFile};
+use result_text::{EdgeLine, PathLineRef, ResultFile};
 use std::alloc::Global;
 use tor_arena::{EdgeId, Index, NoMemory};
 
@@ -110,7 +111,7 @@ impl Flips {
         &mut self,
         lines: &[EdgeLine],
         table: &EdgeTable,
-        line: &PathLine,
+        line: &PathLineRef<'_>,
     ) -> Result<(), NoMemory>
         requires table { table.now ≡ edges_of lines.now }
         requires few { length lines.now ≤ most_places }
@@ -124,9 +125,10 @@ impl Flips {
         ensures built { OnOk result ((paths : Items (Items ℕ)) → IsBuiltFor lines.now paths self.old.implied self.old.conflicting →
             IsBuiltFor lines.now (with_kept paths line.now.path line.now.fate) self.new.implied self.new.conflicting) }
     {
-        match &line.fate {
-            Fate::Kept => self.note_path(lines, table, line.path.as_slice()),
-            Fate::Lost(_) => Ok(()),
+        if line.is_kept() {
+            self.note_path(lines, table, line.path())
+        } else {
+            Ok(())
         }
     }
 
@@ -144,8 +146,9 @@ impl Flips {
             implied: Neighbours::new(alloc, lines.len())?,
             conflicting: Neighbours::new(alloc, lines.len())?,
         };
-        for line in file.paths.as_slice() {
-            flips.note_line(lines, table, line)?;
+        for place in 0..file.paths.len() {
+            let line = path_line_at(&file.paths, place);
+            flips.note_line(lines, table, &line)?;
         }
         thin_out(alloc, &mut flips.implied)?;
         thin_out(alloc, &mut flips.conflicting)?;

@@ -10,6 +10,7 @@ mod edge_rules;
 mod edge_table;
 mod flipping;
 mod laws;
+mod lending;
 mod line_numbers;
 mod links;
 mod mark_rules;

@@ -1,10 +1,11 @@
-ghost use Rattle.std.specs.Prelude.{◌≡◌, ◌↔◌, ℕ, List, Some, IsTrue, Contains, option_map};
+ghost use Rattle.std.specs.Prelude.{◌≡◌, ◌<◌, ◌≤◌, ◌↔◌, ℕ, List, Some, IsTrue, Contains, length, take, option_map};
 ghost use Rattle.std.specs.Option.{option_copied};
 ghost use Rattle.relationships.specs.Evidence.{StandAt, TripleAt, Fits, IsWalk};
-ghost use Rattle.rel_checker.specs.Naming.{nameable};
+ghost use Rattle.rel_checker.specs.Naming.{path_if_kept, nameable};
 
-use relationships::{Link, Walk};
-use result_text::{Fate, PathLine};
+use crate::lending::path_line_at;
+use relationships::{Link, WalkRef};
+use result_text::{PathLineRef, PathLines};
 
 /// Whether x, y, z stand in the path one behind the other, with y as its `at`-th AS, from 1.
 fn stand_at(path: &[u32], at: usize, x: u32, y: u32, z: u32) -> bool
@@ -30,68 +31,86 @@ fn fits(path: &[u32], at: usize, x: u32, y: u32, z: u32) -> bool
 }
 
 /// The path of the line, if there is one.
-fn path_of<'a>(line: Option<&'a PathLine>) -> Option<&'a [u32]>
+fn path_of<'a>(line: Option<&PathLineRef<'a>>) -> Option<&'a [u32]>
     ensures { option_copied result ≡ option_map (λ p. p.path) (option_copied line.entry) }
 {
     match line {
-        Some(line) => Some(line.path.as_slice()),
+        Some(line) => Some(line.path()),
         None => None,
     }
 }
 
-/// The path that has this number, if it is that of a kept line among these or that of the line behind them.
+/// The path of the line, if it is kept.
+fn kept_path<'a>(line: &PathLineRef<'a>) -> Option<&'a [u32]>
+    ensures { option_copied result ≡ path_if_kept line.now }
+{
+    if line.is_kept() {
+        Some(line.path())
+    } else {
+        None
+    }
+}
+
+/// The path that has this number, if it is that of a kept line among the first ones or that of the line behind them.
 fn path_named<'a>(
-    lines: &'a [PathLine],
-    next: Option<&'a PathLine>,
+    lines: &'a PathLines,
+    count: usize,
+    next: Option<&PathLineRef<'a>>,
     number: u32,
 ) -> Option<&'a [u32]>
-    ensures { (path : List ℕ) → Contains (nameable lines.now (option_copied next.entry)) (number, path) ↔ option_copied result ≡ Some path }
+    requires { count ≤ length lines.now }
+    ensures { (path : List ℕ) → Contains (nameable (take count lines.now) (option_copied next.entry)) (number, path) ↔
+        option_copied result ≡ Some path }
 {
     if number == 0 {
         return None;
     }
     let place = number as usize - 1;
-    if place == lines.len() {
+    if place == count {
         return path_of(next);
     }
-    if place > lines.len() {
+    if place > count {
         return None;
     }
-    let line = &lines[place];
-    match line.fate {
-        Fate::Kept => Some(line.path.as_slice()),
-        Fate::Lost(_) => None,
-    }
+    kept_path(&path_line_at(lines, place))
 }
 
 /// Whether the link names one of these paths, and where on it x, y, z are a triple.
-fn link_fits(
-    lines: &[PathLine],
-    next: Option<&PathLine>,
+fn link_fits<'a>(
+    lines: &'a PathLines,
+    count: usize,
+    next: Option<&PathLineRef<'a>>,
     link: &Link,
     x: u32,
     y: u32,
     z: u32,
 ) -> bool
-    ensures { IsTrue result ↔ Fits (nameable lines.now (option_copied next.entry)) link.now x y z }
+    requires { count ≤ length lines.now }
+    ensures { IsTrue result ↔ Fits (nameable (take count lines.now) (option_copied next.entry)) link.now x y z }
 {
-    match path_named(lines, next, link.path) {
+    match path_named(lines, count, next, link.path) {
         Some(path) => fits(path, link.at as usize, x, y, z),
         None => false,
     }
 }
 
-/// Whether it is a walk over the paths of the kept lines among these and that of the line behind them.
-pub(crate) fn is_walk(lines: &[PathLine], next: Option<&PathLine>, walk: &Walk) -> bool
-    ensures { IsTrue result ↔ IsWalk (nameable lines.now (option_copied next.entry)) walk.now }
+/// Whether it is a walk over the paths of the kept lines among the first ones and that of the line behind them.
+pub(crate) fn is_walk<'a>(
+    lines: &'a PathLines,
+    count: usize,
+    next: Option<&PathLineRef<'a>>,
+    walk: &WalkRef<'_>,
+) -> bool
+    requires { count ≤ length lines.now }
+    ensures { IsTrue result ↔ IsWalk (nameable (take count lines.now) (option_copied next.entry)) walk.now }
 {
-    let ases = walk.ases.as_slice();
-    let links = walk.links.as_slice();
+    let ases = walk.ases();
+    let links = walk.links();
     if ases.len() != links.len() + 2 {
         return false;
     }
     for (i, link) in links.iter().enumerate() {
-        if !link_fits(lines, next, link, ases[i], ases[i + 1], ases[i + 2]) {
+        if !link_fits(lines, count, next, link, ases[i], ases[i + 1], ases[i + 2]) {
             return false;
         }
     }

@@ -7,8 +7,9 @@ ghost use Rattle.rel_checker.specs.Rules.{IsMet};
 ghost use Rattle.rel_checker.specs.Tables.{is_new};
 ghost use Rattle.rel_checker.specs.Verdict.{Finds};
 
+use crate::lending::path_line_at;
 use path_clean::{AddRefused, Added, PathTable, is_clean_path};
-use result_text::{PathLine, ResultFile};
+use result_text::{PathLineRef, ResultFile};
 use std::alloc::Global;
 use tor_arena::{Keys, NoMemory};
 
@@ -23,23 +24,29 @@ pub(crate) fn find_unclean(alloc: Global, file: &ResultFile) -> Result<Option<us
     ensures { IfOk result (Finds file.now Rule.PathsCleaned) }
 {
     let mut numbers = 0;
-    for (place, line) in file.paths.as_slice().iter().enumerate() {
-        if !is_sound(alloc, line, place, numbers)? {
+    for place in 0..file.paths.len() {
+        let line = path_line_at(&file.paths, place);
+        if !is_sound(alloc, &line, place, numbers)? {
             return Ok(Some(place));
         }
-        numbers += line.path.len();
+        numbers += line.path().len();
     }
     Ok(None)
 }
 
 /// Whether a path line is sound, where the paths before it have so many numbers. The limits are tested first.
-fn is_sound(alloc: Global, line: &PathLine, place: usize, numbers: usize) -> Result<bool, NoMemory>
+fn is_sound(
+    alloc: Global,
+    line: &PathLineRef<'_>,
+    place: usize,
+    numbers: usize,
+) -> Result<bool, NoMemory>
     requires { numbers ≤ 2 ^ 26 }
     ensures { IfOk result (λ sound. IsTrue sound ↔ (IsTrue (is_cleaned line.now.path) × (1 ≤ line.now.times) × (place < 2 ^ 23) ×
         (numbers + length line.now.path ≤ 2 ^ 26))) }
 {
-    let path = line.path.as_slice();
-    if place >= MAX_PATHS as usize || path.len() > MAX_NUMBERS - numbers || line.times == 0 {
+    let path = line.path();
+    if place >= MAX_PATHS as usize || path.len() > MAX_NUMBERS - numbers || line.times() == 0 {
         return Ok(false);
     }
     is_clean_path(alloc, path)
@@ -55,8 +62,9 @@ pub(crate) fn find_repeated(
     ensures { IfOk result (Finds file.now Rule.PathsDistinct) }
 {
     let mut table = PathTable::new(alloc, keys, MAX_PATHS);
-    for (place, line) in file.paths.as_slice().iter().enumerate() {
-        if !add_new(&mut table, line.path.as_slice())? {
+    for place in 0..file.paths.len() {
+        let line = path_line_at(&file.paths, place);
+        if !add_new(&mut table, line.path())? {
             return Ok(Some(place));
         }
     }

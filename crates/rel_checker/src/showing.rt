@@ -7,7 +7,8 @@ ghost use Rattle.rel_checker.specs.Flipping.{edges_of, AreApart};
 ghost use Rattle.rel_checker.specs.Serving.{IsShownBy};
 
 use crate::edge_table::EdgeTable;
-use relationships::Walk;
+use crate::lending::walk_at;
+use relationships::WalkRef;
 use result_text::{EdgeLine, ResultFile};
 use std::alloc::Global;
 use tor_arena::{Arena, EdgeId, Index, NoMemory};
@@ -38,7 +39,12 @@ fn show(
 }
 
 /// Notes that the order of the last two ASes of a walk is shown, where it has two.
-fn show_last(lines: &[EdgeLine], table: &EdgeTable, walk: &Walk, shown: &mut Arena<EdgeId, bool>)
+fn show_last(
+    lines: &[EdgeLine],
+    table: &EdgeTable,
+    walk: &WalkRef<'_>,
+    shown: &mut Arena<EdgeId, bool>,
+)
     requires table { table.now ≡ edges_of lines.now }
     requires few { length lines.now ≤ most_places }
     requires apart { AreApart lines.now }
@@ -47,7 +53,7 @@ fn show_last(lines: &[EdgeLine], table: &EdgeTable, walk: &Walk, shown: &mut Are
     ensures shown { (orders : Items (ℕ × ℕ)) → IsShownBy lines.now orders shown.old.items →
         IsShownBy lines.now (orders ++ last_two walk.now.ases) shown.new.items }
 {
-    let ases = walk.ases.as_slice();
+    let ases = walk.ases();
     let count = ases.len();
     if count >= 2 {
         show(lines, table, ases[count - 2], ases[count - 1], shown);
@@ -68,8 +74,9 @@ pub(crate) fn list_shown(
 {
     let mut shown = Arena::new(alloc);
     shown.push_copies(false, file.edges.len())?;
-    for walk in file.whys.as_slice() {
-        show_last(file.edges.as_slice(), table, walk, &mut shown);
+    for place in 0..file.whys.len() {
+        let walk = walk_at(&file.whys, place);
+        show_last(file.edges.as_slice(), table, &walk, &mut shown);
     }
     Ok(shown)
 }

@@ -6,8 +6,8 @@ ghost use Rattle.rel_checker.specs.Showing.{Starts};
 
 use crate::links::is_walk;
 use crate::orders::Orders;
-use relationships::Walk;
-use result_text::PathLine;
+use relationships::WalkRef;
+use result_text::PathLines;
 
 /// The order that a walk shows: its last two ASes. It takes no memory.
 pub(crate) fn last_two(ases: &[u32]) -> Option<(u32, u32)>
@@ -40,11 +40,11 @@ fn is_known(shown: &Orders, over: u32, under: u32) -> bool
 }
 
 /// The order that the walk shows over the paths of the kept lines, if it shows one that is new.
-pub(crate) fn shown_by(lines: &[PathLine], shown: &Orders, walk: &Walk) -> Option<(u32, u32)>
+pub(crate) fn shown_by(lines: &PathLines, shown: &Orders, walk: &WalkRef<'_>) -> Option<(u32, u32)>
     ensures some { IfSome result (λ order. Shows (kept_among lines.now) shown.now walk.now order.0 order.1) }
     ensures none { IfNone result ((a b : ℕ) → Shows (kept_among lines.now) shown.now walk.now a b → ⊥) }
 {
-    let ases = walk.ases.as_slice();
+    let ases = walk.ases();
     let Some((over, under)) = last_two(ases) else {
         return None;
     };
@@ -54,7 +54,7 @@ pub(crate) fn shown_by(lines: &[PathLine], shown: &Orders, walk: &Walk) -> Optio
     if is_known(shown, over, under) {
         return None;
     }
-    if !is_walk(lines, None, walk) {
+    if !is_walk(lines, lines.len(), None, walk) {
         return None;
     }
     Some((over, under))

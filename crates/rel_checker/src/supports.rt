@@ -8,8 +8,8 @@ ghost use Rattle.rel_checker.specs.Rules.{IsMet};
 ghost use Rattle.rel_checker.specs.Tables.{HaveRisen, AreCounts, kept_in};
 
 use crate::edge_table::EdgeTable;
-use crate::totals::is_kept;
-use result_text::{PathLine, ResultFile};
+use crate::lending::path_line_at;
+use result_text::{PathLineRef, ResultFile};
 use std::alloc::Global;
 use tor_arena::NoMemory;
 
@@ -23,22 +23,23 @@ pub(crate) fn count_kept(
     ensures { IfOk result (λ counts. AreCounts table.now (support (paths_of (its_kept file.now))) counts.items) }
 {
     let mut counts = vec![in alloc; 0; table.len()]?;
-    for line in file.paths.as_slice() {
-        count_line(table, line, &mut counts);
+    for place in 0..file.paths.len() {
+        let line = path_line_at(&file.paths, place);
+        count_line(table, &line, &mut counts);
     }
     Ok(counts)
 }
 
 /// Counts a path once at each of its edges, if it is kept.
-fn count_line(table: &EdgeTable, line: &PathLine, counts: &mut Vec<u64>)
+fn count_line(table: &EdgeTable, line: &PathLineRef<'_>, counts: &mut Vec<u64>)
     requires same { length counts.old.items ≡ length table.now }
     requires distinct { IsTrue (is_distinct line.now.path) }
     requires short { length line.now.path ≤ 2 ^ 26 }
     requires few { (k : ℕ) → slice_index counts.old.items k ≤ 2 ^ 23 }
     ensures { HaveRisen table.now (support (kept_in (line.now ∷ []))) counts.old.items counts.new.items }
 {
-    if is_kept(&line.fate) {
-        count_steps(table, line.path.as_slice(), counts);
+    if line.is_kept() {
+        count_steps(table, line.path(), counts);
     }
 }
 

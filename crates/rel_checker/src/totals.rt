@@ -3,34 +3,35 @@ ghost use Rattle.relationships.specs.Marking.{is_forced};
 ghost use Rattle.relationships.specs.Fates.{is_kept};
 ghost use Rattle.rel_checker.specs.Rules.{is_peer, right_totals};
 
+use crate::lending::path_line_at;
 use relationships::Label;
-use result_text::{EdgeLine, Fate, Mark, PathLine, ResultFile, Totals};
+use result_text::{EdgeLine, Mark, PathLines, ResultFile, Totals};
 
 /// What the last line has to say: the numbers of kept lines, lost lines, edge lines, those marked forced, and those with label peer.
 pub(crate) fn right_totals(file: &ResultFile) -> Totals
     ensures { result ≡ right_totals file.now }
 {
-    let paths = file.paths.as_slice();
     let edges = file.edges.as_slice();
+    let kept = kept_lines(&file.paths);
     Totals {
-        kept: kept_lines(paths),
-        lost: lost_lines(paths),
+        kept,
+        lost: file.paths.len() as u64 - kept,
         edges: edges.len() as u64,
         forced: forced_lines(edges),
         peers: peer_lines(edges),
     }
 }
 
-fn kept_lines(lines: &[PathLine]) -> u64
+fn kept_lines(lines: &PathLines) -> u64
     ensures { result ≡ count_by (λ line. is_kept line.fate) lines.now }
 {
-    lines.iter().filter(|line| is_kept(&line.fate)).count() as u64
-}
-
-fn lost_lines(lines: &[PathLine]) -> u64
-    ensures { result ≡ count_by (λ line. not (is_kept line.fate)) lines.now }
-{
-    lines.iter().filter(|line| !is_kept(&line.fate)).count() as u64
+    let mut count = 0;
+    for place in 0..lines.len() {
+        if path_line_at(lines, place).is_kept() {
+            count += 1;
+        }
+    }
+    count
 }
 
 fn forced_lines(lines: &[EdgeLine]) -> u64
@@ -43,12 +44,6 @@ fn peer_lines(lines: &[EdgeLine]) -> u64
     ensures { result ≡ count_by (λ line. is_peer line.label) lines.now }
 {
     lines.iter().filter(|line| is_peer(line.label)).count() as u64
-}
-
-pub(crate) fn is_kept(fate: &Fate) -> bool
-    ensures { result ≡ is_kept fate.now }
-{
-    matches!(fate, Fate::Kept)
 }
 
 fn is_forced(mark: Mark) -> bool

@@ -4,16 +4,15 @@ ghost use Rattle.relationships.specs.declared.fate.Fate.TheVariants.{Kept};
 ghost use Rattle.rel_checker.specs.Tables.{labels_in};
 
 use crate::edge_table::EdgeTable;
-use crate::totals::is_kept;
 use relationships::Label;
-use result_text::{EdgeLine, PathLine};
+use result_text::{EdgeLine, PathLineRef};
 
 /// Whether a path is valley-free under the labels of the edge lines, if it is kept. It takes no memory.
-pub(crate) fn is_served(edges: &[EdgeLine], table: &EdgeTable, line: &PathLine) -> bool
+pub(crate) fn is_served(edges: &[EdgeLine], table: &EdgeTable, line: &PathLineRef<'_>) -> bool
     requires { table.now ≡ map (λ e. (e.low, e.high)) edges.now }
     ensures { IsTrue result ↔ (line.now.fate ≡ Kept → ValleyFree (labels_in edges.now) line.now.path) }
 {
-    !is_kept(&line.fate) || is_valley_free(edges, table, line.path.as_slice())
+    !line.is_kept() || is_valley_free(edges, table, line.path())
 }
 
 /// Whether the steps of a path go up and then down, with at most one flat one between. It falls from the first that doesn't go up.

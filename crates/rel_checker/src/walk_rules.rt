@@ -1,4 +1,5 @@
-ghost use Rattle.std.specs.Prelude.{◌≡◌, ◌↔◌, IsTrue, Some, IfOk};
+ghost use Rattle.std.specs.Prelude.{◌≡◌, ◌≤◌, ◌↔◌, IsTrue, Some, IfOk, length, take};
+ghost use Rattle.relationships.specs.declared.walk.Walk.{Walk};
 ghost use Rattle.relationships.specs.Evidence.{Refutes};
 ghost use Rattle.relationships.specs.declared.fate.Fate.TheVariants.{Lost};
 ghost use Rattle.rel_checker.specs.Naming.{nameable};
@@ -6,28 +7,32 @@ ghost use Rattle.rel_checker.specs.declared.rule.Rule.TheVariants.{LostRefuted, 
 ghost use Rattle.rel_checker.specs.Verdict.{Finds};
 
 use crate::closed_walks::comes_back;
+use crate::lending::{path_line_at, walk_at};
 use crate::links::is_walk;
 use crate::orders::Orders;
 use crate::shown::shown_by;
-use relationships::Walk;
-use result_text::{Fate, PathLine, ResultFile};
+use relationships::WalkRef;
+use result_text::{PathLineRef, PathLines, ResultFile};
 use std::alloc::Global;
 use tor_arena::{Keys, NoMemory};
 
-/// Whether the walk refutes over the paths of the kept lines before this line and its own.
-fn refutes(before: &[PathLine], line: &PathLine, walk: &Walk) -> bool
-    ensures { IsTrue result ↔ Refutes (nameable before.now (Some line.now)) walk.now }
+/// Whether the walk refutes over the paths of the kept lines before a place and of the line in it.
+fn refutes(lines: &PathLines, place: usize, line: &PathLineRef<'_>, walk: &WalkRef<'_>) -> bool
+    requires { place ≤ length lines.now }
+    ensures { IsTrue result ↔ Refutes (nameable (take place lines.now) (Some line.now)) walk.now }
 {
-    comes_back(walk.ases.as_slice()) && is_walk(before, Some(line), walk)
+    comes_back(walk.ases()) && is_walk(lines, place, Some(line), walk)
 }
 
-/// Whether the line is kept, or its walk refutes over the paths of the kept lines before it and its own.
-fn is_lost_rightly(before: &[PathLine], line: &PathLine) -> bool
-    ensures { IsTrue result ↔ ((walk : Walk) → line.now.fate ≡ Lost walk → Refutes (nameable before.now (Some line.now)) walk) }
+/// Whether the line in a place is kept, or its walk refutes over the paths of the kept lines before it and its own.
+fn is_lost_rightly(lines: &PathLines, place: usize, line: &PathLineRef<'_>) -> bool
+    requires { place ≤ length lines.now }
+    ensures { IsTrue result ↔ ((walk : Walk) → line.now.fate ≡ Lost walk →
+        Refutes (nameable (take place lines.now) (Some line.now)) walk) }
 {
-    match &line.fate {
-        Fate::Kept => true,
-        Fate::Lost(walk) => refutes(before, line, walk),
+    match line.walk() {
+        None => true,
+        Some(walk) => refutes(lines, place, line, walk),
     }
 }
 
@@ -35,9 +40,9 @@ fn is_lost_rightly(before: &[PathLine], line: &PathLine) -> bool
 pub(crate) fn find_unrefuted(file: &ResultFile) -> Option<usize>
     ensures { Finds file.now LostRefuted result }
 {
-    let lines = file.paths.as_slice();
-    for (place, line) in lines.iter().enumerate() {
-        if !is_lost_rightly(&lines[..place], line) {
+    for place in 0..file.paths.len() {
+        let line = path_line_at(&file.paths, place);
+        if !is_lost_rightly(&file.paths, place, &line) {
             return Some(place);
         }
     }
@@ -52,11 +57,10 @@ pub(crate) fn find_unshown(
 ) -> Result<Option<usize>, NoMemory>
     ensures { IfOk result (Finds file.now OrdersShown) }
 {
-    let lines = file.paths.as_slice();
-    let whys = file.whys.as_slice();
     let mut shown = Orders::new(alloc, keys);
-    for (place, walk) in whys.iter().enumerate() {
-        let Some((over, under)) = shown_by(lines, &shown, walk) else {
+    for place in 0..file.whys.len() {
+        let walk = walk_at(&file.whys, place);
+        let Some((over, under)) = shown_by(&file.paths, &shown, &walk) else {
             return Ok(Some(place));
         };
         shown.push(over, under)?;

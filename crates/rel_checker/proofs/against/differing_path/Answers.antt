@@ -1,4 +1,4 @@
-use Rattle.std.proofs.Common.{◌≡◌, ap, length, arith}
+use Rattle.std.proofs.Common.{arith}
 use Rattle.rel_checker.specs.Against.{row_of, its_rows}
 use Rattle.rel_checker.proofs.Accepted.{same_length}
 use Rattle.rel_checker.proofs.AgainstLemmas.{same_lists}
@@ -7,5 +7,6 @@ use Rattle.rel_checker.proofs.against.differing_path.Goals as goal
 pub returns-else-count-len : goal.returns-else-count-len
 returns-else-count-len c =
     let same = same_length row_of c.args.file.now.paths in
-    let whole : length c.as_slice-line-items.result.now ≡ length c.args.file.now.paths = ap length c.as_slice-line-items.ensures in
-    same_lists (its_rows c.args.file.now) c.args.table.now.rows (omega arith) (λ k lt. c.loop-place.invariant k (omega (arith, whole, same, lt)))
+    let end = c.loop-place-test.false in
+    let whole = c.len-place-end.ensures.length in
+    same_lists (its_rows c.args.file.now) c.args.table.now.rows (omega arith) (λ k lt. c.loop-place.invariant k (omega (arith, end, whole, same, lt)))

@@ -1,4 +1,4 @@
-use Rattle.std.proofs.Common.{◌≡◌, ◌<◌, length, get_or, refl, ap, arith}
+use Rattle.std.proofs.Common.{◌≡◌, ◌<◌, length, take, get_or, refl, ap, arith}
 use Rattle.std.proofs.lemmas.Bool.{false≢true, both_ways}
 use Rattle.std.proofs.lemmas.List.{get_or_default}
 use Rattle.std.specs.Option.{option_copied}
@@ -16,9 +16,9 @@ returns-then-ases-links c = (
   λ t. absurd (false≢true t),
   λ f.
       let w = c.args.walk.now in
-      let n = (index-from_IsLinked (nameable c.args.lines.now (option_copied c.args.next)) w.ases w.links f).0 in
-      let a : length c.as_slice-ases.result.now ≡ length w.ases = ap length c.as_slice-ases.ensures in
-      let l : length c.as_slice-links.result.now ≡ length w.links = ap length c.as_slice-links.ensures in
+      let n = (index-from_IsLinked (nameable (take c.args.count c.args.lines.now) (option_copied c.args.next)) w.ases w.links f).0 in
+      let a : length c.ases-ases.result.now ≡ length w.ases = ap length c.ases-ases.ensures in
+      let l : length c.links-links.result.now ≡ length w.links = ap length c.links-links.ensures in
       absurd (omega arith),
 )
 
@@ -27,24 +27,24 @@ returns-then-not-link_fits c = (
   λ t. absurd (false≢true t),
   λ f.
       let w = c.args.walk.now in
-      let l : length c.as_slice-links.result.now ≡ length w.links = ap length c.as_slice-links.ensures in
-      let fits = (index-from_IsLinked (nameable c.args.lines.now (option_copied c.args.next)) w.ases w.links f).1 c.loop-i.i no_link (omega arith) in
-      absurd (both_ways c.link_fits.result c.if-not-link_fits.true (c.link_fits.ensures.1 (rw (c.as_slice-ases.ensures, c.as_slice-links.ensures) fits))),
+      let l : length c.links-links.result.now ≡ length w.links = ap length c.links-links.ensures in
+      let fits = (index-from_IsLinked (nameable (take c.args.count c.args.lines.now) (option_copied c.args.next)) w.ases w.links f).1 c.loop-i.i no_link (omega arith) in
+      absurd (both_ways c.link_fits.result c.if-not-link_fits.true (c.link_fits.ensures.1 (rw (c.ases-ases.ensures, c.links-links.ensures) fits))),
 )
 
 pub loop-i-preserved : goal.loop-i-preserved
 loop-i-preserved c =
-    let links = c.as_slice-links.result.now in
+    let links = c.links-links.result.now in
     let within : c.loop-i.i < length links = omega arith in
-    links_more (nameable c.args.lines.now (option_copied c.args.next)) c.as_slice-ases.result.now links c.loop-i.i (get_or links c.loop-i.i no_link) c.loop-i.invariant within
+    links_more (nameable (take c.args.count c.args.lines.now) (option_copied c.args.next)) c.ases-ases.result.now links c.loop-i.i (get_or links c.loop-i.i no_link) c.loop-i.invariant within
     (get_or_default links c.loop-i.i no_link (get_or links c.loop-i.i no_link) within) (c.link_fits.ensures.0 c.if-not-link_fits.false)
 
 pub returns : goal.returns
 returns c = (
   λ t.
       let w = c.args.walk.now in
-      let h = IsLinked-from_index (nameable c.args.lines.now (option_copied c.args.next)) c.as_slice-ases.result.now c.as_slice-links.result.now (omega arith)
+      let h = IsLinked-from_index (nameable (take c.args.count c.args.lines.now) (option_copied c.args.next)) c.ases-ases.result.now c.links-links.result.now (omega arith)
       (λ k d lt. c.loop-i.invariant k d (omega arith)) in
-      rw (c.as_slice-ases.ensures, c.as_slice-links.ensures) at h,
+      rw (c.ases-ases.ensures, c.links-links.ensures) at h,
   λ f. refl,
 )

@@ -3,8 +3,8 @@ use Rattle.rel_checker.specs.File.{shown_orders}
 use Rattle.rel_checker.specs.Serving.{IsShownBy}
 use Rattle.rel_checker.proofs.showing.list_shown.Given as goal
 
-abbrev pub invariant-loop-walk : goal.invariant-loop-walk
-invariant-loop-walk l = record {
+abbrev pub invariant-loop-place : goal.invariant-loop-place
+invariant-loop-place l = record {
   many : length l.shown.items ≡ length l.file.edges;
-  shown : IsShownBy l.file.edges (shown_orders (take l.walk-index l.file.whys)) l.shown.items;
+  shown : IsShownBy l.file.edges (shown_orders (take l.place l.file.whys)) l.shown.items;
 }

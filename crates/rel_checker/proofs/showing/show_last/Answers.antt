@@ -13,9 +13,9 @@ shown_last lines ases ases' shown orders e le h =
 
 pub returns-then-count-ge2-clause-shown : goal.returns-then-count-ge2-clause-shown
 returns-then-count-ge2-clause-shown c = λ orders h.
-    shown_last c.args.lines.now c.args.walk.now.ases c.as_slice-ases.result.now c.show.new.shown.items orders c.as_slice-ases.ensures c.if-count-ge2.true (c.show.ensures.shown orders h)
+    shown_last c.args.lines.now c.args.walk.now.ases c.ases-ases.result.now c.show.new.shown.items orders c.ases-ases.ensures c.if-count-ge2.true (c.show.ensures.shown orders h)
 
 pub returns-else-count-ge2-clause-shown : goal.returns-else-count-ge2-clause-shown
 returns-else-count-ge2-clause-shown c = λ orders h.
-    let none = last_two-few c.args.walk.now.ases (omega (arith, c.if-count-ge2.false, ap length c.as_slice-ases.ensures)) in
+    let none = last_two-few c.args.walk.now.ases (omega (arith, c.if-count-ge2.false, ap length c.ases-ases.ensures)) in
     subst (λ l. IsShownBy c.args.lines.now l c.args.shown.now.items) (sym (ap (λ l. orders ++ l) none ∙ append-nil orders)) h

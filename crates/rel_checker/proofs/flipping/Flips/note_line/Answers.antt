@@ -1,15 +1,23 @@
-use Rattle.std.proofs.Common.{◌++◌, ◌∷◌, [], sym, subst}
+use Rattle.std.proofs.Common.{◌∙◌, ◌++◌, ◌∷◌, [], sym, ap, subst}
 use Rattle.std.proofs.lemmas.Result.{on_ok_weaker}
 use Rattle.relationships.specs.Evidence.{IsTriple}
 use Rattle.rel_checker.specs.Flipping.{flipped_orders, IsBuilt, IsListed}
+use Rattle.rel_checker.proofs.KeptLines.{with_kept-kept, with_kept-lost}
 use Rattle.rel_checker.proofs.flipping.Flips.note_line.Goals as goal
 
 pub note_path-requires-clause-listed : goal.note_path-requires-clause-listed
-note_path-requires-clause-listed c = subst (IsListed c.args.table.now) (sym c.as_slice.ensures) c.requires.listed
+note_path-requires-clause-listed c = subst (IsListed c.args.table.now) (sym c.path.ensures) c.requires.listed
 
-pub returns-in-Kept-clause-built : goal.returns-in-Kept-clause-built
-returns-in-Kept-clause-built c =
+pub returns-then-is_kept-clause-built : goal.returns-then-is_kept-clause-built
+returns-then-is_kept-clause-built c =
     on_ok_weaker c.note_path.result
-    (λ built paths b. rw c.in-Kept.is (subst (λ path. IsBuilt (flipped_orders c.args.lines.now) (IsTriple (paths ++ path ∷ [])) c.note_path.new.self.implied c.note_path.new.self.conflicting)
-    c.as_slice.ensures (built paths b)))
+    (λ built paths b.
+    subst (λ ps. IsBuilt (flipped_orders c.args.lines.now) (IsTriple ps) c.note_path.new.self.implied c.note_path.new.self.conflicting)
+    (ap (λ path. paths ++ path ∷ []) c.path.ensures ∙ sym (with_kept-kept paths c.args.line.now.path c.args.line.now.fate (sym c.is_kept.ensures ∙ c.if-is_kept.true)))
+    (built paths b))
     c.note_path.ensures.built
+
+pub returns-else-is_kept-clause-built : goal.returns-else-is_kept-clause-built
+returns-else-is_kept-clause-built c = λ paths b.
+    subst (λ ps. IsBuilt (flipped_orders c.args.lines.now) (IsTriple ps) c.args.self.now.implied c.args.self.now.conflicting)
+    (sym (with_kept-lost paths c.args.line.now.path c.args.line.now.fate (sym c.is_kept.ensures ∙ c.if-is_kept.false))) b

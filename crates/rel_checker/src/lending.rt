@@ -1,0 +1,33 @@
+//! Lines of a result by their places.
+
+ghost use Rattle.std.specs.Prelude.{◌≡◌, ◌<◌, Some, length, slice_get};
+
+use relationships::{WalkRef, Walks};
+use result_text::{PathLineRef, PathLines};
+use tor_arena::{Index, PathId, WalkId};
+
+/// The path line in a place, from 0, which has to be there. It takes no memory.
+pub(crate) fn path_line_at(lines: &PathLines, place: usize) -> PathLineRef<'_>
+    requires { place < length lines.now }
+    ensures { slice_get lines.now place ≡ Some result }
+{
+    let count = lines.len();
+    prove!(place < count);
+    match PathId::from_place(place) {
+        Some(id) => lines.get(id),
+        None => unreachable!(),
+    }
+}
+
+/// The walk in a place, from 0, which has to be there. It takes no memory.
+pub(crate) fn walk_at(walks: &Walks, place: usize) -> WalkRef<'_>
+    requires { place < length walks.now }
+    ensures { slice_get walks.now place ≡ Some result }
+{
+    let count = walks.len();
+    prove!(place < count);
+    match WalkId::from_place(place) {
+        Some(id) => walks.get(id),
+        None => unreachable!(),
+    }
+}
