@@ -1,10 +1,11 @@
 -- A table of paths with their times, when a path is added.
-use Rattle.std.proofs.Common.{◌≡◌, ◌≢◌, ℕ, zero, suc, ◌+◌, ◌^◌, ◌<◌, ◌≤◌, Bool, true, false, not, cond, ◌&&◌, ◌||◌, leb, List, [], ◌∷◌, ◌++◌, length, get_or, set, slice_get, Some, None, option_map, bytes_eq, refl, sym, ap, ap₂, ◌∙◌, arith, length-append}
+use Rattle.std.proofs.Common.{◌≡◌, ◌≢◌, ℕ, zero, suc, ◌+◌, ◌^◌, ◌<◌, ◌≤◌, Bool, true, false, not, cond, ◌&&◌, ◌||◌, leb, List, [], ◌∷◌, ◌++◌, length, get_or, set, slice_get, Some, None, option_map, bytes_eq, All, refl, sym, ap, ap₂, ◌∙◌, arith, length-append}
 use Rattle.std.specs.Prelude.{sum_by, nat_le}
 use Rattle.std.specs.List.{list_any, list_all}
 use Rattle.std.proofs.lemmas.Bool.{both_ways, le-leb, leb-true, and_parts}
 use Rattle.std.proofs.lemmas.Slice.Eq.{bytes_eq-Decides}
 use Rattle.std.proofs.lemmas.List.{length-set}
+use Rattle.std.proofs.lemmas.List.Elements.{All-cons, All-nil}
 use Rattle.std.proofs.lemmas.List.Folds.{list_all-append}
 use Rattle.std.proofs.lemmas.List.Sums.{sum_by-append, sum_by-cons}
 use Rattle.path_clean.specs.Paths.{is_cleaned}
@@ -55,6 +56,12 @@ pub some-at : (times : List ℕ) (k : ℕ) → list_all (nat_le 1) times ≡ tru
 some-at [] k all lt = absurd (omega arith)
 some-at (n ∷ ns) zero all lt = leb-true 1 n (and_parts (leb 1 n) (list_all (nat_le 1) ns) all).0
 some-at (n ∷ ns) (suc k) all lt = some-at ns k (and_parts (leb 1 n) (list_all (nat_le 1) ns) all).1 (omega arith)
+
+pub all_some : (times : List ℕ) → list_all (nat_le 1) times ≡ true → All (λ n. 1 ≤ n) times
+all_some [] all = All-nil (λ n. 1 ≤ n)
+all_some (n ∷ ns) all =
+    let parts = and_parts (leb 1 n) (list_all (nat_le 1) ns) all in
+    All-cons (λ n. 1 ≤ n) n ns (leb-true 1 n parts.0) (all_some ns parts.1)
 
 -- a path that is there
 

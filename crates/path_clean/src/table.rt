@@ -122,8 +122,23 @@ impl PathTable {
         ensures few { length result.now ≤ max_paths }
         ensures numbers { numbers_in self.now.rows ≤ max_numbers }
         ensures sum { sum_by length result.now ≡ numbers_in self.now.rows }
+        ensures seen { All (λ times. 1 ≤ times) (times_of self.now.rows) }
     {
         self.paths.rows()
+    }
+
+    /// What a table keeps true: each path is clean, so it has at least two ASes, all distinct; no two are the same, they are at most 2^23
+    /// and have at most 2^26 numbers in sum; and each was added once at least. It does nothing when it runs.
+    pub fn facts(&self)
+        ensures clean { IsTrue (list_all is_cleaned (paths_of self.now.rows)) }
+        ensures several { All (λ path. 2 ≤ length path) (paths_of self.now.rows) }
+        ensures apart { All AllDistinct (paths_of self.now.rows) }
+        ensures once { IsTrue (none_twice (paths_of self.now.rows)) }
+        ensures few { length (paths_of self.now.rows) ≤ max_paths }
+        ensures numbers { sum_by length (paths_of self.now.rows) ≤ max_numbers }
+        ensures seen { All (λ times. 1 ≤ times) (times_of self.now.rows) }
+    {
+        self.rows();
     }
 
     /// How often the path of an index, which has to be there, was added: at least once, and up to 2^64 - 1. It takes no memory.

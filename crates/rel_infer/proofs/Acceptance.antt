@@ -1,10 +1,9 @@
 -- A result of distinct paths meets all rules of a checker.
-use Rattle.std.proofs.Common.{◌≡◌, ◌≢◌, ◌×◌, ℕ, zero, suc, ◌+◌, ◌-◌, ◌<◌, ◌≤◌, ◌^◌, inl, inr, Bool, true, false, not, ◌&&◌, ◌||◌, IsTrue, List, [], ◌∷◌, ◌++◌, map, take, Option, Some, None, is_none, length, sum_by, slice_get, get_or, refl, sym, ap, ◌∙◌, subst, arith, append_assoc, append-nil, All, Contains, and_parts}
+use Rattle.std.proofs.Common.{◌≡◌, ℕ, zero, suc, ◌+◌, ◌-◌, ◌≤◌, ◌^◌, Bool, true, false, not, ◌||◌, IsTrue, List, [], ◌∷◌, ◌++◌, map, take, Some, is_none, length, sum_by, slice_get, refl, sym, ap, ◌∙◌, subst, arith, append_assoc, append-nil, All, Contains}
 use Rattle.std.specs.List.{AllByRecursion, list_any, list_all}
 use Rattle.std.specs.Str.{bytes_eq}
-use Rattle.std.proofs.lemmas.Bool.{both_ways, false≢true, cases_Bool}
-use Rattle.std.proofs.lemmas.Option.{same_Some, slice_get-get_or, slice_get_within}
-use Rattle.std.proofs.lemmas.List.{take-map, length-map}
+use Rattle.std.proofs.lemmas.Bool.{false≢true, and_parts}
+use Rattle.std.proofs.lemmas.List.{take-map}
 use Rattle.std.proofs.lemmas.List.Sums.{sum_by-cons}
 use Rattle.std.proofs.lemmas.Slice.Eq.{bytes_eq-Decides}
 use Rattle.std.proofs.lemmas.List.Elements.{All-head, All-tail}
@@ -12,7 +11,7 @@ use Rattle.relationships.specs.declared.walk.Walk.{Walk}
 use Rattle.relationships.specs.declared.fate.Fate.{Fate}
 use Rattle.relationships.specs.declared.fate.Fate.TheVariants.{Kept, Lost}
 use Rattle.relationships.specs.Relationship.{ValleyFree}
-use Rattle.relationships.specs.Evidence.{Numbered, paths_of, kept_from, Refutes, Shows, Show, ShowFrom}
+use Rattle.relationships.specs.Evidence.{Numbered, paths_of, kept_from, Refutes, Shows, ShowFrom}
 use Rattle.relationships.specs.Checking.{LostFrom, Claim, IsBorneOut, IsProbe, ProbesFrom}
 use Rattle.relationships.specs.Fates.{walk_of}
 use Rattle.path_clean.specs.declared.cleaned.Sets.{Sets}
@@ -25,7 +24,7 @@ use Rattle.rel_checker.specs.File.{its_paths, its_walks, its_kept, its_claims, i
 use Rattle.rel_checker.specs.declared.rule.Rule.{Rule}
 use Rattle.rel_checker.specs.declared.rule.Rule.TheVariants.{RatioBounded, PathsCleaned, PathsDistinct, LostRefuted, EdgesListed}
 use Rattle.rel_checker.specs.declared.rule.Rule.TheVariants.{KeptValleyFree, SupportCounted, OrdersShown, MarksBorneOut, TotalsRight}
-use Rattle.rel_checker.specs.Rules.{Asks, IsMet, Accepts, IsSound}
+use Rattle.rel_checker.specs.Rules.{Asks, Accepts, IsSound, IsCounted}
 use Rattle.rel_checker.proofs.Gets.{slice_get-map, slice_get-lt, All-get}
 use Rattle.rel_checker.proofs.WalkLaws.{kept_lines, paths_in, walks_in, last_two-from_ends}
 use Rattle.rel_infer.specs.Results.{IsResultOf}
@@ -80,17 +79,18 @@ each_lost n kept (first ∷ lines) h zero line walk at is =
     go : (fate : Fate) → fate ≡ Lost walk → LostFrom n kept (line.path ∷ paths_in lines) (walk_of fate ∷ walks_in lines) → Refutes (kept ++ (n, line.path) ∷ []) walk
     go Kept e h = absurd cc
     go (Lost w) e h = let same : w ≡ walk = cc in subst (Refutes (kept ++ (n, line.path) ∷ [])) same h.0
-each_lost n kept (first ∷ lines) h (suc k) line walk at is = go first.fate refl h (each_lost (n + 1))
+each_lost n kept (first ∷ lines) h (suc k) line walk at is =
+    go first.fate refl h (λ rest. each_lost (n + 1) (kept ++ (n, first.path) ∷ []) lines rest k line walk at is)
+    (λ rest. each_lost (n + 1) kept lines rest k line walk at is)
   where
     go : (fate : Fate) → first.fate ≡ fate → LostFrom n kept (first.path ∷ paths_in lines) (walk_of fate ∷ walks_in lines) →
-        ((kept : Numbered) (lines : List PathLine) → LostFrom (n + 1) kept (paths_in lines) (walks_in lines) →
-        (k : ℕ) (line : PathLine) (walk : Walk) → slice_get lines k ≡ Some line → line.fate ≡ Lost walk →
-        Refutes (kept ++ (kept_lines (n + 1) (take k lines) ++ (n + 1 + k, line.path) ∷ [])) walk) →
+        (LostFrom (n + 1) (kept ++ (n, first.path) ∷ []) (paths_in lines) (walks_in lines) →
+        Refutes ((kept ++ (n, first.path) ∷ []) ++ (kept_lines (n + 1) (take k lines) ++ (n + 1 + k, line.path) ∷ [])) walk) →
+        (LostFrom (n + 1) kept (paths_in lines) (walks_in lines) → Refutes (kept ++ (kept_lines (n + 1) (take k lines) ++ (n + 1 + k, line.path) ∷ [])) walk) →
         Refutes (kept ++ (kept_lines n (first ∷ take k lines) ++ (n + suc k, line.path) ∷ [])) walk
-    go Kept is_kept h rest =
-        let r = rest (kept ++ (n, first.path) ∷ []) lines h k line walk at is in
-        rw (is_kept, number_on n k) (subst (λ A. Refutes A walk) (append_assoc kept ((n, first.path) ∷ []) (kept_lines (n + 1) (take k lines) ++ (n + 1 + k, line.path) ∷ [])) r)
-    go (Lost w) is_lost h rest = rw (is_lost, number_on n k) (rest kept lines h.1 k line walk at is)
+    go Kept is_kept h rest rest' =
+        rw (is_kept, number_on n k) (subst (λ A. Refutes A walk) (append_assoc kept ((n, first.path) ∷ []) (kept_lines (n + 1) (take k lines) ++ (n + 1 + k, line.path) ∷ [])) (rest h))
+    go (Lost w) is_lost h rest rest' = rw (is_lost, number_on n k) (rest' h.1)
 
 -- ---- kept lines
 
@@ -169,7 +169,7 @@ abbrev pub times_in : List PathLine → List ℕ
 times_in lines = map (λ (p : PathLine). p.times) lines
 
 module _ (sets : Sets) (ratio : ℕ) (rows : List Counted) (counts : Counts) (file : ResultFile) (small : ratio ≤ 1000000) (is : IsResultOf sets ratio rows counts file)
-  (sound : AreSound (its_paths file) (times_in file.paths)) where
+    (sound : AreSound (its_paths file) (times_in file.paths)) where
   path_get : (k : ℕ) (line : PathLine) → slice_get file.paths k ≡ Some line → slice_get (its_paths file) k ≡ Some line.path
   path_get k line at = slice_get-map (λ (p : PathLine). p.path) file.paths k line at
 
@@ -209,7 +209,7 @@ module _ (sets : Sets) (ratio : ℕ) (rows : List Counted) (counts : Counts) (fi
   meets EdgesListed k = ap (λ l. slice_get l k) is.inferred.edges_listed
   meets KeptValleyFree k = λ line at kept.
       each_served (ValleyFree (its_labels file)) 1 file.paths (by_recursion (ValleyFree (its_labels file)) (paths_of (its_kept file)) is.inferred.valley_free) k line at kept
-  meets SupportCounted k = λ line at. All-get _ file.edges k line is.inferred.supports at
+  meets SupportCounted k = λ line at. All-get (IsCounted file) file.edges k line is.inferred.supports at
   meets OrdersShown k = λ walk at. each_shown (its_kept file) [] file.whys is.inferred.evidence.orders is.inferred.evidence.shown k walk at
   meets MarksBorneOut k = (
     λ claim at. marks_right claim k at,

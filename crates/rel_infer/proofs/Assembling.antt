@@ -1,16 +1,15 @@
 -- A result that is put together from its parts.
-use Rattle.std.proofs.Common.{◌≡◌, ℕ, ◌+◌, Bool, true, false, not, cond, List, [], ◌∷◌, map, Option, length, count_by, refl, sym, ap, ap₂, ◌∙◌, subst, arith}
-use Rattle.std.proofs.lemmas.List.Sums.{sum_by-cons}
+use Rattle.std.proofs.Common.{◌≡◌, inl, inr, ℕ, ◌+◌, Bool, not, cond, List, [], ◌∷◌, map, Option, Some, None, option_map, slice_get, take, ◌++◌, length, count_by, refl, sym, ap, ap₂, ◌∙◌, arith}
+use Rattle.std.proofs.lemmas.List.Sums.{sum_by-cons, sum_by-append}
 use Rattle.std.proofs.lemmas.Bool.{cases_Bool}
 use Rattle.relationships.specs.declared.fate.Fate.{Fate}
-use Rattle.relationships.specs.declared.walk.Walk.{Walk}
 use Rattle.relationships.specs.Fates.{walk_of, is_kept}
 use Rattle.path_clean.specs.Rows.{Counted, paths_of}
 use Rattle.result_text.specs.declared.file.PathLine.{PathLine}
 use Rattle.result_text.specs.declared.file.EdgeLine.{EdgeLine}
 use Rattle.result_text.specs.declared.file.Totals.{Totals}
 use Rattle.rel_checker.specs.Against.{row_of}
-use Rattle.rel_infer.specs.Totals.{totals_by}
+use Rattle.rel_checker.proofs.Gets.{take_get}
 
 -- ---- counts
 
@@ -38,6 +37,16 @@ count_with_others p (x ∷ xs) =
           omega (arith, a, b, rest)
     ]
 
+count-append : {X : Type 0} (p : X → Bool) (xs ys : List X) → count_by p (xs ++ ys) ≡ count_by p xs + count_by p ys
+count-append p xs ys = sum_by-append (λ y. cond (p y) 1 0) xs ys
+
+pub totals_are : (kept kept' lost lost' edges forced forced' peers peers' : ℕ) → kept ≡ kept' → lost ≡ lost' → forced ≡ forced' → peers ≡ peers' →
+    ◌≡◌ {A = Totals} (record { kept = kept; lost = lost; edges = edges; forced = forced; peers = peers })
+    (record { kept = kept'; lost = lost'; edges = edges; forced = forced'; peers = peers' })
+totals_are kept kept' lost lost' edges forced forced' peers peers' k l f p =
+    ap₂ (λ (a b : ℕ). record { kept = a; lost = b; edges = edges; forced = forced; peers = peers }) k l ∙
+    ap₂ (λ (a b : ℕ). record { kept = kept'; lost = lost'; edges = edges; forced = a; peers = b }) f p
+
 -- ---- path lines
 
 pub rows_same : (lines : List PathLine) (rows : List Counted) → map (λ (p : PathLine). p.path) lines ≡ paths_of rows →
@@ -48,11 +57,13 @@ rows_same (line ∷ lines) [] paths times = absurd cc
 rows_same (line ∷ lines) (row ∷ rows) paths times =
     let path : line.path ≡ row.path = cc in
     let n : line.times ≡ row.times = cc in
-    let rest = rows_same lines rows cc cc in
+    let more_paths : map (λ (p : PathLine). p.path) lines ≡ paths_of rows = cc in
+    let more_times : map (λ (p : PathLine). p.times) lines ≡ map (λ (row : Counted). row.times) rows = cc in
+    let rest = rows_same lines rows more_paths more_times in
     ap₂ (λ (r : Counted) rs. r ∷ rs) (same_row (row_of line) row path n) rest
   where
     same_row : (a b : Counted) → a.path ≡ b.path → a.times ≡ b.times → a ≡ b
-    same_row a b path n = cc
+    same_row a b path n = ap₂ (λ (p : List ℕ) (m : ℕ). record { path = p; times = m }) path n
 
 pub walks_same : (lines : List PathLine) → map (λ (p : PathLine). walk_of p.fate) lines ≡ map walk_of (map (λ (p : PathLine). p.fate) lines)
 walks_same [] = refl
@@ -65,3 +76,18 @@ totals_same lines fates edges same = (
   ap (count_by is_kept) (sym same) ∙ sym (count-map (λ (p : PathLine). p.fate) is_kept lines),
   ap (count_by (λ fate. not (is_kept fate))) (sym same) ∙ sym (count-map (λ (p : PathLine). p.fate) (λ fate. not (is_kept fate)) lines),
 )
+
+count-one : (p : Fate → Bool) (fate : Fate) → count_by p (fate ∷ []) ≡ cond (p fate) 1 0
+count-one p fate = count-cons p fate [] ∙ omega arith
+
+-- one fate more
+pub count_more : (fates : List Fate) (k : ℕ) (kept : Bool) → option_map is_kept (slice_get fates k) ≡ Some kept →
+    count_by is_kept (take (k + 1) fates) ≡ count_by is_kept (take k fates) + cond kept 1 0
+count_more fates k kept at = by (slice_get fates k) refl at
+  where
+    by : (found : Option Fate) → slice_get fates k ≡ found → option_map is_kept found ≡ Some kept → count_by is_kept (take (k + 1) fates) ≡ count_by is_kept (take k fates) + cond kept 1 0
+    by None is h = absurd cc
+    by (Some fate) is h =
+        let same : is_kept fate ≡ kept = cc in
+        ap (count_by is_kept) (take_get fates k fate is) ∙ count-append is_kept (take k fates) (fate ∷ []) ∙
+        ap (λ n. count_by is_kept (take k fates) + n) (count-one is_kept fate) ∙ ap (λ b. count_by is_kept (take k fates) + cond b 1 0) same

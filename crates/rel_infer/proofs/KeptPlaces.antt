@@ -1,10 +1,10 @@
 -- The places of kept paths: no two are the same.
-use Rattle.std.proofs.Common.{◌≡◌, ◌≢◌, ℕ, ◌+◌, ◌<◌, ◌≤◌, Bool, true, false, List, [], ◌∷◌, map, refl, sym, ap, ◌∙◌, subst, arith}
+use Rattle.std.proofs.Common.{◌≡◌, ◌≢◌, ℕ, suc, ◌+◌, ◌≤◌, Bool, true, false, if◌then◌else◌, List, [], ◌∷◌, ◌++◌, length, refl, sym, ap, subst, arith}
 use Rattle.std.specs.List.{AllByRecursion, AllPairs}
-use Rattle.relationships.specs.Evidence.{Numbered, kept_from}
+use Rattle.relationships.specs.Evidence.{kept_from}
+use Rattle.relationships.specs.Selection.{KeepsFrom}
 use Rattle.relationships.proofs.Deciding.{PairsByRecursion, AllPairs-from_recursion}
 use Rattle.tor_clauses.specs.Formulas.{numbered}
-use Rattle.as_graph.specs.Paths.{path_at}
 
 -- the numbers begin with that of the first path, and rise
 
@@ -35,3 +35,10 @@ module _ (graph : List (List ℕ)) where
   kept_apart places keeps same =
       AllPairs-from_recursion ◌≢◌ places
       (apart places (subst (PairsByRecursion (λ (p q : ℕ × List ℕ). p.0 + 1 ≤ q.0)) (sym same) (rising 1 graph keeps)))
+
+-- there is a flag for each path
+pub keeps_many : (kept paths : List (List ℕ)) (keeps : List Bool) → KeepsFrom kept paths keeps → length keeps ≡ length paths
+keeps_many kept [] [] h = refl
+keeps_many kept [] (keep ∷ keeps) h = absurd h
+keeps_many kept (path ∷ paths) [] h = absurd h
+keeps_many kept (path ∷ paths) (keep ∷ keeps) h = ap suc (keeps_many (if keep then kept ++ path ∷ [] else kept) paths keeps h.1)

@@ -1,5 +1,7 @@
 pub mod Acceptance
 pub mod Assembling
-pub mod Inferring
+pub mod Together
+pub mod Whole
 pub mod KeptPlaces
+pub mod Labels
 pub mod LineLemmas

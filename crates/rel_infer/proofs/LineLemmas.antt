@@ -1,11 +1,10 @@
 -- The edge lines of a result: one line more, and what all of them claim.
-use Rattle.std.proofs.Common.{◌≡◌, ℕ, ◌+◌, List, [], ◌∷◌, ◌++◌, map, take, Some, slice_get, refl, sym, ap, ap₂, ◌∙◌, subst, arith, All}
-use Rattle.std.proofs.lemmas.List.{map-append}
+use Rattle.std.proofs.Common.{◌≡◌, ℕ, ◌+◌, ◌≤◌, List, [], ◌∷◌, ◌++◌, map, take, length, Some, slice_get, refl, sym, ap, ap₂, ◌∙◌, All}
+use Rattle.std.proofs.lemmas.List.{map-append, take_all}
 use Rattle.std.proofs.lemmas.List.Elements.{All-cons, All-nil, All-head, All-tail}
 use Rattle.relationships.specs.declared.label.Label.{Label}
 use Rattle.relationships.specs.declared.mark.Mark.{Mark}
 use Rattle.relationships.specs.Graph.{Edge, labelling}
-use Rattle.relationships.specs.Relationship.{Labelling}
 use Rattle.relationships.specs.Checking.{Claim, claimed_labels}
 use Rattle.relationships.specs.Marking.{claims_of}
 use Rattle.result_text.specs.declared.file.EdgeLine.{EdgeLine}
@@ -61,7 +60,9 @@ each_support : (count : Edge → ℕ) (lines : List EdgeLine) → map (λ (l : E
     All (λ line. line.support ≡ count (line.low, line.high)) lines
 each_support count [] same = All-nil (λ line. line.support ≡ count (line.low, line.high))
 each_support count (line ∷ lines) same =
-    All-cons (λ line. line.support ≡ count (line.low, line.high)) line lines cc (each_support count lines cc)
+    let here : line.support ≡ count (line.low, line.high) = cc in
+    let rest : map (λ (l : EdgeLine). l.support) lines ≡ map count (map pair_of lines) = cc in
+    All-cons (λ line. line.support ≡ count (line.low, line.high)) line lines here (each_support count lines rest)
 
 pub supports_are : (count : Edge → ℕ) (es : List Edge) (lines : List EdgeLine) → map pair_of lines ≡ es → map (λ (l : EdgeLine). l.support) lines ≡ map count es →
     All (λ line. line.support ≡ count (line.low, line.high)) lines
@@ -72,3 +73,18 @@ each_line P [] h = All-nil (λ line. P (claim_on line))
 each_line P (line ∷ lines) h =
     All-cons (λ line. P (claim_on line)) line lines (All-head P (claim_on line) (map claim_on lines) h)
     (each_line P lines (All-tail P (claim_on line) (map claim_on lines) h))
+
+-- ---- the first and the last turn
+
+pub no_lines : (es : List Edge) (labels : List Label) (marks : List Mark) (supports : List ℕ) → AreLinesOf (take 0 es) (take 0 labels) (take 0 marks) (take 0 supports) []
+no_lines es labels marks supports = record { its_edges = refl; its_labels = refl; its_marks = refl; its_supports = refl }
+
+pub lines_all : (es : List Edge) (labels : List Label) (marks : List Mark) (supports : List ℕ) (k : ℕ) (lines : List EdgeLine) →
+    length es ≤ k → length labels ≤ k → length marks ≤ k → length supports ≤ k →
+    AreLinesOf (take k es) (take k labels) (take k marks) (take k supports) lines → AreLinesOf es labels marks supports lines
+lines_all es labels marks supports k lines a b c d so = record {
+  its_edges = so.its_edges ∙ take_all k es a;
+  its_labels = so.its_labels ∙ take_all k labels b;
+  its_marks = so.its_marks ∙ take_all k marks c;
+  its_supports = so.its_supports ∙ take_all k supports d;
+}

@@ -1,4 +1,6 @@
 pub mod EdgeLines
+pub mod Finding
+pub mod Inference
 pub mod Peers
 pub mod Results
 pub mod Totals

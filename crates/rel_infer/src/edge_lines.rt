@@ -26,13 +26,14 @@ pub(crate) fn edge_lines(
     let mut lines = Vec::with_capacity(alloc, graph.edge_count())?;
     for place in 0..graph.edge_count() {
         let edge = graph.edge(EdgeId::from_place(place).unwrap());
-        lines.push(EdgeLine {
+        let line = EdgeLine {
             low: edge.low,
             high: edge.high,
             label: labels[place],
             mark: marks[place],
             support: u64::from(supports[place]),
-        })?;
+        };
+        lines.push(line)?;
     }
     Ok(List::from_vec(lines))
 }

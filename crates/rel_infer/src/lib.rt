@@ -2,6 +2,10 @@
 #![tactic(auto)]
 
 mod edge_lines;
-mod labelling;
-mod totals;
+mod finding;
 mod inferring;
+mod labelling;
+mod result;
+mod totals;
+
+pub use result::result_of;

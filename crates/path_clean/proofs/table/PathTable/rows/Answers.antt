@@ -1,9 +1,9 @@
-use Rattle.std.proofs.Common.{◌≤◌, ◌^◌, IsTrue, length, ◌∙◌, ap, sym, subst, arith}
+use Rattle.std.proofs.Common.{◌≤◌, ◌^◌, IsTrue, All, length, ◌∙◌, ap, sym, subst, arith}
 use Rattle.std.specs.Prelude.{sum_by}
 use Rattle.std.specs.List.{list_all}
 use Rattle.path_clean.specs.Paths.{is_cleaned}
-use Rattle.path_clean.specs.Rows.{paths_of, numbers_in}
-use Rattle.path_clean.proofs.TableLemmas.{paths_of-counted_by, numbers_in-counted_by}
+use Rattle.path_clean.specs.Rows.{paths_of, times_of, numbers_in}
+use Rattle.path_clean.proofs.TableLemmas.{paths_of-counted_by, times_of-counted_by, numbers_in-counted_by, all_some}
 use Rattle.path_clean.proofs.GraphPaths.{several, apart}
 use Rattle.path_clean.proofs.table.PathTable.rows.Goals as goal
 
@@ -35,3 +35,9 @@ returns-clause-few c =
     let few = c.self.invariant.few in
     let bound = c.self.invariant.bound in
     omega (arith, same, few, bound)
+
+pub returns-clause-seen : goal.returns-clause-seen
+returns-clause-seen c =
+    subst (All (λ times. 1 ≤ times))
+    (sym (times_of-counted_by c.self.inside.paths c.self.inside.counts.items c.self.invariant.same) ∙ ap (λ t. times_of t.rows) c.self.view_is)
+    (all_some c.self.inside.counts.items c.self.invariant.some)

@@ -1,0 +1,74 @@
+-- The whole result, from what is inferred and from a table of paths.
+use Rattle.std.proofs.Common.{◌≡◌, ◌≤◌, ◌∙◌, ◌^◌, ℕ, List, IsTrue, All, Option, map, length, sum_by, refl, sym, ap, subst}
+use Rattle.std.specs.List.{list_all}
+use Rattle.relationships.specs.declared.walk.Walk.{Walk}
+use Rattle.relationships.specs.Fates.{walk_of}
+use Rattle.path_clean.specs.declared.cleaned.Sets.{Sets}
+use Rattle.path_clean.specs.Counts.{Counts}
+use Rattle.path_clean.specs.Paths.{is_cleaned}
+use Rattle.path_clean.specs.Rows.{Counted, paths_of, times_of, none_twice}
+use Rattle.result_text.specs.declared.file.PathLine.{PathLine}
+use Rattle.result_text.specs.declared.file.ResultFile.{ResultFile}
+use Rattle.result_text.specs.declared.file.Totals.{Totals}
+use Rattle.rel_checker.specs.File.{its_paths, its_walks, its_probes}
+use Rattle.rel_checker.specs.Rules.{Accepts}
+use Rattle.rel_infer.specs.declared.inferring.Inferred.{Inferred}
+use Rattle.rel_infer.specs.Inference.{AreInferred}
+use Rattle.rel_infer.specs.Peers.{PeerEitherWay, LeaveNoneOut}
+use Rattle.rel_infer.specs.Results.{IsResultOf, IsInferred}
+use Rattle.rel_infer.specs.Totals.{totals_by}
+use Rattle.rel_infer.proofs.Acceptance.{accepted}
+use Rattle.rel_infer.proofs.Assembling.{rows_same, walks_same, totals_same, totals_are}
+
+module _ (sets : Sets) (ratio : ℕ) (rows : List Counted) (counts : Counts) (paths : List (List ℕ)) (times : List ℕ) (i : Inferred) (lines : List PathLine) (totals : Totals)
+    (its_rows : paths ≡ paths_of rows) (its_times : times ≡ times_of rows) (are : AreInferred ratio paths i) (counted : totals ≡ totals_by i.fates i.found.edges)
+    (line_paths : map (λ (p : PathLine). p.path) lines ≡ paths) (line_times : map (λ (p : PathLine). p.times) lines ≡ times)
+    (line_fates : map (λ (p : PathLine). p.fate) lines ≡ i.fates) where
+  abbrev file : ResultFile
+  file = record {
+    sets = sets;
+    ratio = ratio;
+    asides = counts;
+    paths = lines;
+    edges = i.found.edges;
+    whys = i.found.whys;
+    probes = i.found.probes;
+    totals = totals;
+  }
+
+  walks : its_walks file ≡ map walk_of i.fates
+  walks = walks_same lines ∙ ap (map walk_of) line_fates
+
+  -- what holds of the paths and walks holds of those of the lines
+  moved : (P : List (List ℕ) → List (Option Walk) → Type 0) → P paths (map walk_of i.fates) → P (its_paths file) (its_walks file)
+  moved P h = subst (P (its_paths file)) (sym walks) (subst (λ ps. P ps (map walk_of i.fates)) (sym line_paths) h)
+
+  pub whole : IsResultOf sets ratio rows counts file
+  whole =
+      let both = totals_same lines i.fates i.found.edges line_fates in
+      record {
+        its_sets = refl;
+        its_ratio = refl;
+        its_counts = refl;
+        paths = rows_same lines rows (line_paths ∙ its_rows) (line_times ∙ its_times);
+        inferred = moved (λ ps ws. IsInferred ratio ps ws i.found.edges i.found.whys (its_probes file)) are.inferred;
+        totals = counted ∙ totals_are _ _ _ _ _ _ _ _ _ both.0 both.1 refl refl;
+      }
+
+  pub whole_accepted : ratio ≤ 1000000 → IsTrue (list_all is_cleaned (paths_of rows)) → All (λ n. 1 ≤ n) (times_of rows) → IsTrue (none_twice (paths_of rows)) →
+      length (paths_of rows) ≤ 2 ^ 23 → sum_by length (paths_of rows) ≤ 2 ^ 26 → Accepts file
+  whole_accepted small clean seen once few numbers =
+      let same : its_paths file ≡ paths_of rows = line_paths ∙ its_rows in
+      accepted sets ratio rows counts file small whole (record {
+        clean = subst (λ ps. IsTrue (list_all is_cleaned ps)) (sym same) clean;
+        seen = subst (All (λ n. 1 ≤ n)) (sym (line_times ∙ its_times)) seen;
+        once = subst (λ ps. IsTrue (none_twice ps)) (sym same) once;
+        few = subst (λ ps. length ps ≤ 2 ^ 23) (sym same) few;
+        numbers = subst (λ ps. sum_by length ps ≤ 2 ^ 26) (sym same) numbers;
+      })
+
+  pub whole_either_way : PeerEitherWay (its_paths file) (its_walks file) i.found.edges
+  whole_either_way = moved (λ ps ws. PeerEitherWay ps ws i.found.edges) are.either_way
+
+  pub whole_none_left_out : LeaveNoneOut ratio (its_paths file) (its_walks file) i.found.edges
+  whole_none_left_out = moved (λ ps ws. LeaveNoneOut ratio ps ws i.found.edges) are.none_left_out

@@ -1,0 +1,53 @@
+use Rattle.std.proofs.Common.{◌∙◌, ◌↔◌, List, All, Contains, IfOk, sym, ap, subst}
+use Rattle.std.proofs.lemmas.Result.{IfOk-weaker}
+use Rattle.relationships.specs.declared.label.Label.{Label}
+use Rattle.relationships.specs.Relationship.{ValleyFree, Serves}
+use Rattle.relationships.specs.Graph.{Edge, edges, labelling, orientation, degree}
+use Rattle.relationships.specs.Selection.{IsServable}
+use Rattle.as_graph.specs.Paths.{paths_at}
+use Rattle.gao_prefs.specs.declared.preferring.Pref.{Pref}
+use Rattle.gao_prefs.specs.Preferences.{edges_of}
+use Rattle.tor_clauses.specs.Formulas.{Formula}
+use Rattle.peering.specs.Peerings.{ServeEitherWay, NoneLeftOut}
+use Rattle.rel_infer.proofs.Labels.{labels_from}
+use Rattle.rel_infer.proofs.labelling.labels_of.Goals as goal
+
+pub orient-requires-clause-servable : goal.orient-requires-clause-servable
+orient-requires-clause-servable c =
+    subst (λ (f : Formula). IsServable (paths_at c.args.graph.now f.paths)) (sym c.clauses.ensures)
+    (c.kept-kept.ensures.served c.args.graph.now c.facts.ensures.apart c.requires.fits)
+
+pub orient-requires-clause-each : goal.orient-requires-clause-each
+orient-requires-clause-each c =
+    let es = edges c.args.graph.now in
+    subst (λ (l : List Pref). (e : Edge) → Contains es e ↔ Contains (edges_of es l) e) (sym c.as_slice.ensures) c.in_ok-prefs.ensures.order.each
+
+pub relabel-requires-clause-served : goal.relabel-requires-clause-served
+relabel-requires-clause-served c =
+    let same = ap (λ (f : Formula). f.paths) c.clauses.ensures ∙ sym c.kept-kept.ensures.paths in
+    subst (λ places. Serves (orientation (edges c.args.graph.now) c.in_ok-ends.ends) (paths_at c.args.graph.now places)) same c.in_ok-ends.ensures.serves
+
+pub returns-clause-labels : goal.returns-clause-labels
+returns-clause-labels c =
+    let graph = c.args.graph.now in
+    let same = ap (λ (f : Formula). f.paths) c.clauses.ensures in
+    IfOk-weaker c.relabel.result _ _ (λ (labels : List Label) relabelled.
+    labels_from c.args.ratio graph c.args.selector.now.formula.paths c.kept-kept.result.now c.clauses.result.now.paths c.in_ok-prefs.prefs c.as_slice.result.now
+    c.in_ok-ends.ends labels c.kept-kept.ensures.paths same c.as_slice.ensures c.in_ok-prefs.ensures.order c.in_ok-prefs.ensures.wanted c.in_ok-ends.ensures.wishes relabelled)
+    c.relabel.ensures.relabelled
+
+pub returns-clause-valley_free : goal.returns-clause-valley_free
+returns-clause-valley_free c =
+    let graph = c.args.graph.now in
+    subst (λ places. IfOk c.relabel.result (λ labels. All (ValleyFree (labelling (edges graph) labels)) (paths_at graph places))) c.kept-kept.ensures.paths c.relabel.ensures.valley_free
+
+pub returns-clause-either_way : goal.returns-clause-either_way
+returns-clause-either_way c =
+    let graph = c.args.graph.now in
+    subst (λ places. IfOk c.relabel.result (λ labels. ServeEitherWay (labelling (edges graph) labels) (paths_at graph places))) c.kept-kept.ensures.paths c.relabel.ensures.either_way
+
+pub returns-clause-none_left_out : goal.returns-clause-none_left_out
+returns-clause-none_left_out c =
+    let graph = c.args.graph.now in
+    subst (λ places. IfOk c.relabel.result (λ labels. NoneLeftOut (degree graph) c.args.ratio (paths_at graph places) (edges graph) (labelling (edges graph) labels))) c.kept-kept.ensures.paths
+    c.relabel.ensures.none_left_out

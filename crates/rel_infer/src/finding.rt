@@ -1,0 +1,91 @@
+ghost use Rattle.std.specs.Prelude.{◌≡◌, ◌≢◌, ◌≤◌, ◌<◌, All, length, map, IfOk};
+ghost use Rattle.std.specs.List.{AllPairs};
+ghost use Rattle.relationships.specs.Relationship.{ValleyFree};
+ghost use Rattle.relationships.specs.Graph.{edges, labelling, support};
+ghost use Rattle.as_graph.specs.Paths.{paths_at};
+ghost use Rattle.tor_clauses.specs.Formulas.{FitsGraph};
+ghost use Rattle.forced_edges.specs.Marked.{AreExact, AreBorneOut};
+ghost use Rattle.rel_infer.specs.Finding.{AreFound};
+
+use crate::edge_lines::edge_lines;
+use crate::labelling::labels_of;
+use as_graph::{AsGraph, Labels};
+use forced_edges::{Marks, forced};
+use path_select::Selector;
+use relationships::{Probe, Walk, Walks};
+use result_text::EdgeLine;
+use std::alloc::Global;
+use tor_arena::{List, NoMemory};
+
+/// What is found of the edges of a graph.
+#[derive(Drop)]
+pub(crate) struct Found {
+    /// Their lines.
+    pub edges: List<EdgeLine>,
+    /// Walks that show why edges are forced.
+    pub whys: Walks,
+    /// Orders that show that edges are open.
+    pub probes: List<Probe>,
+}
+
+// Copies of the walks, kept together.
+fn kept_together(alloc: Global, walks: &[Walk]) -> Result<Walks, NoMemory>
+    ensures { IfOk result (λ kept. kept ≡ walks.now) }
+{
+    let mut kept = Walks::new(alloc);
+    for walk in walks {
+        kept.push(walk.ases.as_slice(), walk.links.as_slice())?;
+    }
+    Ok(kept)
+}
+
+// The marks of the edges, where the paths that the selector has kept are kept.
+fn marks_of(
+    alloc: Global,
+    graph: &AsGraph,
+    selector: &Selector,
+    labels: &Labels,
+) -> Result<Marks, NoMemory>
+    requires fits { FitsGraph graph.now selector.now.formula }
+    requires count { length labels.now ≡ length (edges graph.now) }
+    requires free { All (ValleyFree (labelling (edges graph.now) labels.now)) (paths_at graph.now selector.now.formula.paths) }
+    ensures many { IfOk result (λ m. length m.marks ≡ length (edges graph.now)) }
+    ensures marks { IfOk result (AreExact graph.now selector.now.formula labels.now) }
+    ensures evidence { IfOk result (AreBorneOut graph.now selector.now.formula labels.now) }
+{
+    forced(alloc, graph, selector.clauses(), labels)
+}
+
+// How many of the kept paths hold each edge.
+fn supports_of(alloc: Global, graph: &AsGraph, selector: &Selector) -> Result<List<u32>, NoMemory>
+    requires there { All (λ path. path < length graph.now) selector.now.formula.paths }
+    requires once { AllPairs ◌≢◌ selector.now.formula.paths }
+    ensures { IfOk result (λ counts. counts ≡ map (support (paths_at graph.now selector.now.formula.paths)) (edges graph.now)) }
+{
+    graph.support(alloc, selector.kept())
+}
+
+/// What is found of the edges of a graph, where the paths that the selector has kept are kept. The only error is that memory ran out.
+pub(crate) fn found_in(
+    alloc: Global,
+    graph: &AsGraph,
+    selector: &Selector,
+    ratio: u32,
+) -> Result<Found, NoMemory>
+    requires fits { FitsGraph graph.now selector.now.formula }
+    requires once { AllPairs ◌≢◌ selector.now.formula.paths }
+    requires small { ratio ≤ 1000000 }
+    ensures { IfOk result (AreFound ratio graph.now selector.now.formula.paths) }
+{
+    let labels = labels_of(alloc, graph, selector, ratio)?;
+    let found = marks_of(alloc, graph, selector, &labels)?;
+    let supports = supports_of(alloc, graph, selector)?;
+    let marks = found.marks.as_slice();
+    let edges = edge_lines(alloc, graph, &labels, marks, supports.as_slice())?;
+    let whys = kept_together(alloc, found.whys.as_slice())?;
+    Ok(Found {
+        edges,
+        whys,
+        probes: found.probes,
+    })
+}
