@@ -1,5 +1,5 @@
 -- What a run answers, writes and notes, by what its words and files give.
-use Rattle.std.specs.Prelude.{◌≡◌, ◌≤◌, ◌-◌, ℕ, List, length, take, Option, Some, IfSome, IsOk, Result, Ok, Err}
+use Rattle.std.specs.Prelude.{◌≡◌, ◌≤◌, ◌-◌, ℕ, List, length, take, Option, Some, IfSome, IsOk, Err}
 use Rattle.std.specs.Io.KnownBytes.{append_known}
 use Rattle.tor_io.specs.Counts.{IsQuiet}
 use Rattle.tor_io.specs.Contents.{Files, GainsPrefix}

@@ -56,7 +56,7 @@ pub record IsAsked (words : List (List ℕ)) (files : Files) (output : Output) :
   pub given : settings_given words ≡ Some settings
   pub taken : Taken
   pub seen : outcome words files ≡ Some (Ok taken)
-  pub output : IsOutput settings taken output
+  pub written : IsOutput settings taken output
 
 -- a sink gained the text that is asked for, whose note is this
 pub record GainsOutput (words : List (List ℕ)) (files : Files) (old new : Option (List ℕ)) (note : List ℕ) : Type 0 where

@@ -1,5 +1,0 @@
-use Rattle.std.proofs.lemmas.Result.{on_ok_weaker}
-use Rattle.tor_app.proofs.answer.text_of.Goals as goal
-
-pub returns-in-Ok-clause-read_out : goal.returns-in-Ok-clause-read_out
-returns-in-Ok-clause-read_out g c = on_ok_weaker c.dumps_text.result (λ out. out c.in-Ok.ensures.named) c.dumps_text.ensures.read_out
