@@ -11,7 +11,7 @@ use Rattle.relationships.specs.Graph.{Edge, edges}
 use Rattle.relationships.specs.Evidence.{paths_of, kept_from, Show}
 use Rattle.relationships.specs.Selection.{IsServable}
 use Rattle.relationships.specs.Checking.{Claim, LostAreRefuted, IsBorneOut, ProbesFrom, MeetsGraphRules}
-use Rattle.relationships.proofs.Walks.{refuting_law}
+use Rattle.relationships.proofs.WalkLemmas.{refuting_law}
 use Rattle.relationships.proofs.Checked.{graph_rules_law}
 use Rattle.path_clean.proofs.GraphPaths.{apart_if_cleaned}
 use Rattle.relationships.specs.declared.fate.Fate.{Fate}

@@ -17,7 +17,7 @@ use Rattle.relationships.proofs.Edges.{peering_law}
 use Rattle.relationships.specs.Graph.{Edge, is_same, edges_from, edges_on, distinct, edges}
 use Rattle.relationships.proofs.Serving.{Apart, Apart-from_distinct}
 use Rattle.std.specs.List.{AllByRecursion}
-use Rattle.relationships.proofs.Walks.{refuting_law, showing_law}
+use Rattle.relationships.proofs.WalkLemmas.{refuting_law, showing_law}
 use Rattle.relationships.proofs.Closures.{allowed_law}
 
 -- the label, with a peering read as this end

@@ -3,6 +3,7 @@ pub mod Closures
 pub mod Deciding
 pub mod Edges
 pub mod Forcing
+pub mod KeptLemmas
 pub mod Neighbours
 pub mod Places
 pub mod PreferredRow
@@ -11,5 +12,5 @@ pub mod Ranks
 pub mod Selecting
 pub mod Serving
 pub mod Slopes
-pub mod Walks
+pub mod WalkLemmas
 pub mod WorkedRow

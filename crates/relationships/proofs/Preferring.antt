@@ -74,7 +74,9 @@ any_at p (f ∷ es) e (suc k) lt h t = elim (cases_Bool (p f)) [ inl u ↦ rw u 
 from_same : (L L' : Labelling) (paths : List (List ℕ)) → ((low high : ℕ) → L low high ≡ L' low high) → All (ValleyFree L) paths → All (ValleyFree L') paths
 from_same L L' paths same h =
     relaxing_law L L' paths (λ k d within. (
-        λ e. sym (same (get_or (edges paths) k d).0 (get_or (edges paths) k d).1) ∙ e, λ e. sym (same (get_or (edges paths) k d).0 (get_or (edges paths) k d).1) ∙ e)) h
+      λ e. sym (same (get_or (edges paths) k d).0 (get_or (edges paths) k d).1) ∙ e,
+      λ e. sym (same (get_or (edges paths) k d).0 (get_or (edges paths) k d).1) ∙ e,
+    )) h
 
 pick : (s t : Bool) (x y p : Label) → (t ≡ true → x ≡ p) → (if t then p else (if s then x else y)) ≡ (if s || t then x else y)
 pick true true x y p h = sym (h refl)

@@ -9,7 +9,7 @@ use Rattle.relationships.specs.Evidence.{Numbered, Fits, IsLinked, BeginsWith}
 use Rattle.relationships.specs.Laws.{ranked, RankLaw, CycleLaw}
 use Rattle.relationships.proofs.Slopes.{over_one_of, over_parts}
 use Rattle.relationships.proofs.Serving.{satisfies_serves}
-use Rattle.relationships.proofs.Walks.{triple_apart}
+use Rattle.relationships.proofs.WalkLemmas.{triple_apart}
 use Rattle.relationships.proofs.Closures.{reversed_triple}
 
 module _ (rank : ℕ → ℕ → ℕ) where

@@ -55,7 +55,7 @@ RelaxingLaw =
 abbrev pub PeeringLaw : Type 0
 PeeringLaw =
     (L : Labelling) (O : Orientation) (paths : List (List ℕ)) → AgreesOn (edges paths) L (labels_of O) → All (ValleyFree L) paths →
-        Serves O paths
+    Serves O paths
 
 -- only the edges of the paths are read
 abbrev pub ReadingLaw : Type 0
@@ -99,7 +99,7 @@ ConsistencyLaw = (paths : List (List ℕ)) (a b : ℕ) → (Closure paths a b b 
 abbrev pub ImpliedLaw : Type 0
 ImpliedLaw =
     (O : Orientation) (paths : List (List ℕ)) (a b : ℕ) → a ≢ b → Closure paths b a a b → Serves O paths →
-        IsTrue (is_over (labels_of O) a b)
+    IsTrue (is_over (labels_of O) a b)
 
 -- where some orientation serves, an edge is not forced if neither order stands in the closure of the other
 abbrev pub LooseLaw : Type 0
@@ -194,7 +194,7 @@ abbrev pub RelabellingLaw : Type 0
 RelabellingLaw =
     (degree : ℕ → ℕ) (ratio : ℕ) (kept : List (List ℕ)) (es : List Edge) (O : Orientation) (last : Labelling) → Serves O kept →
     IsRelabelled degree ratio kept es (labels_of O) last → ((e : Edge) → Contains (edges kept) e → Contains es e) →
-        All (ValleyFree last) kept
+    All (ValleyFree last) kept
 
 -- no further edge of a kept path, with ends alike in degree, could become a peering
 abbrev pub MaximalLaw : Type 0

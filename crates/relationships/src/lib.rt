@@ -3,12 +3,17 @@
 #![tactic(auto)]
 
 mod fate;
+mod fates;
 mod label;
 mod laws;
 mod mark;
+#[cfg(test)]
+mod tests;
 mod walk;
+mod walks;
 
 pub use fate::Fate;
+pub use fates::Fates;
 pub use label::{End, Label};
 pub use laws::{
     all_kept_law, allowed_law, closure_law, consistency_law, cycle_law, edge_law, edge_order_law,
@@ -18,3 +23,4 @@ pub use laws::{
 };
 pub use mark::{Mark, Probe};
 pub use walk::{Link, Walk};
+pub use walks::{WalkRef, Walks};

@@ -4,7 +4,7 @@ use Rattle.std.specs.Prelude.{slice_get}
 use Rattle.tor_arena.specs.Distinct.{AllDistinct}
 use Rattle.relationships.specs.Graph.{edges}
 use Rattle.relationships.specs.Evidence.{IsTriple, TripleAt, paths_of}
-use Rattle.relationships.proofs.Walks.{triple_of_fit}
+use Rattle.relationships.proofs.WalkLemmas.{triple_of_fit}
 use Rattle.tor_digraph.specs.Walks.{HasArc}
 use Rattle.as_graph.specs.Paths.{path_at, paths_at}
 use Rattle.tor_clauses.specs.Literals.{node_of, over, Says}

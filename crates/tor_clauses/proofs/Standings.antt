@@ -7,7 +7,7 @@ use Rattle.relationships.specs.declared.walk.Link.{Link}
 use Rattle.tor_arena.specs.Distinct.{AllDistinct}
 use Rattle.relationships.specs.Graph.{Edge, edge_of, edges}
 use Rattle.relationships.specs.Evidence.{StandAt, TripleAt, Fits}
-use Rattle.relationships.proofs.Walks.{apart_at, apart_next}
+use Rattle.relationships.proofs.WalkLemmas.{apart_at, apart_next}
 use Rattle.tor_digraph.specs.Walks.{IsArc, HasArc}
 use Rattle.tor_digraph.proofs.Gets.{slice_get-lt}
 use Rattle.as_graph.specs.Paths.{path_at}

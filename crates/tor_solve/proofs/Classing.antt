@@ -7,7 +7,7 @@ use Rattle.relationships.specs.declared.walk.Walk.{Walk}
 use Rattle.relationships.specs.Relationship.{opposite, Serves}
 use Rattle.relationships.specs.Evidence.{paths_of, Refutes}
 use Rattle.relationships.specs.Selection.{IsServable}
-use Rattle.relationships.proofs.Walks.{refuting_law}
+use Rattle.relationships.proofs.WalkLemmas.{refuting_law}
 use Rattle.tor_digraph.specs.Walks.{IsInside}
 use Rattle.tor_digraph.proofs.Gets.{slice_get-push_cases, slice_get-some}
 use Rattle.tor_components.specs.Classes.{Classes, IsComponents}

@@ -8,7 +8,7 @@ use Rattle.tor_arena.specs.Distinct.{AllDistinct}
 use Rattle.relationships.specs.Evidence.{HasPair, Numbered, paths_of, Refutes, Closure, start, imply}
 use Rattle.relationships.specs.Selection.{IsServable}
 use Rattle.relationships.specs.Laws.{IsRanked, ranked}
-use Rattle.relationships.proofs.Walks.{triple_apart, refuting_law}
+use Rattle.relationships.proofs.WalkLemmas.{triple_apart, refuting_law}
 use Rattle.relationships.proofs.Ranks.{rank_law}
 use Rattle.tor_solve.specs.Laws.{RefutationLaw}
 use Rattle.tor_solve.specs.Leading.{Leads}

@@ -1,5 +1,5 @@
-use Rattle.relationships.proofs.Walks
+use Rattle.relationships.proofs.WalkLemmas
 use Rattle.relationships.proofs.laws.refuting_law.Goals as goal
 
 pub returns : goal.returns
-returns c = Walks.refuting_law
+returns c = WalkLemmas.refuting_law

@@ -1,5 +1,5 @@
-use Rattle.relationships.proofs.Walks
+use Rattle.relationships.proofs.WalkLemmas
 use Rattle.relationships.proofs.laws.showing_law.Goals as goal
 
 pub returns : goal.returns
-returns c = Walks.showing_law
+returns c = WalkLemmas.showing_law

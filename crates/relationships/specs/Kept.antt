@@ -1,0 +1,31 @@
+-- Walks and fates that are kept together, each given by its parts.
+use Rattle.std.specs.Prelude.{ℕ, ◌<◌, List, [], ◌∷◌, All, length, map, slice_index_or, Option, Some, None, IfSome}
+use Rattle.relationships.specs.declared.walk.Link.{Link}
+use Rattle.relationships.specs.declared.walk.Walk.{Walk}
+use Rattle.relationships.specs.declared.fate.Fate.{Fate}
+use Rattle.relationships.specs.declared.fate.Fate.TheVariants as fate
+
+-- the walk of these ASes and links
+abbrev pub walk_with : List ℕ → List Link → Walk
+walk_with ases links = record { ases = ases; links = links }
+
+-- each list of ASes with the links of the same place
+abbrev pub walks_by : List (List ℕ) → List (List Link) → List Walk
+walks_by [] rows = []
+walks_by (ases ∷ more) [] = []
+walks_by (ases ∷ more) (links ∷ rows) = walk_with ases links ∷ walks_by more rows
+
+-- the fate of a path that has the walk in this place, or none
+abbrev pub fate_by : List Walk → Option ℕ → Fate
+fate_by walks None = fate.Kept
+fate_by walks (Some place) = fate.Lost (slice_index_or walks place (walk_with [] []))
+
+abbrev pub fates_by : List Walk → List (Option ℕ) → List Fate
+fates_by walks places = map (fate_by walks) places
+
+-- the place, if there is one, is that of a walk
+abbrev pub IsWithin : List Walk → Option ℕ → Type 0
+IsWithin walks place = IfSome place (λ k. k < length walks)
+
+abbrev pub AreWithin : List Walk → List (Option ℕ) → Type 0
+AreWithin walks places = All (IsWithin walks) places
