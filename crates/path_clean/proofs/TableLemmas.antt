@@ -10,7 +10,7 @@ use Rattle.std.proofs.lemmas.List.Sums.{sum_by-append, sum_by-cons}
 use Rattle.path_clean.specs.Paths.{is_cleaned}
 use Rattle.path_clean.specs.Counts.{one_more}
 use Rattle.path_clean.specs.Chains.{row_at}
-use Rattle.path_clean.specs.Rows.{Counted, paths_of, numbers_in, none_twice}
+use Rattle.path_clean.specs.Rows.{Counted, paths_of, times_of, numbers_in, none_twice}
 use Rattle.path_clean.specs.Inside.{counted_by, IsTable}
 use Rattle.path_clean.specs.Table.{place_of, with_path}
 
@@ -31,6 +31,12 @@ pub paths_of-counted_by : (paths : List (List ℕ)) (times : List ℕ) → lengt
 paths_of-counted_by [] times same = refl
 paths_of-counted_by (p ∷ ps) [] same = absurd (omega arith)
 paths_of-counted_by (p ∷ ps) (n ∷ ns) same = ap (λ (t : List (List ℕ)). p ∷ t) (paths_of-counted_by ps ns (omega arith))
+
+pub times_of-counted_by : (paths : List (List ℕ)) (times : List ℕ) → length times ≡ length paths → times_of (counted_by paths times) ≡ times
+times_of-counted_by [] [] same = refl
+times_of-counted_by [] (n ∷ ns) same = absurd (omega (arith, same))
+times_of-counted_by (p ∷ ps) [] same = absurd (omega (arith, same))
+times_of-counted_by (p ∷ ps) (n ∷ ns) same = ap (λ (t : List ℕ). n ∷ t) (times_of-counted_by ps ns (omega (arith, same)))
 
 pub numbers_in-counted_by : (paths : List (List ℕ)) (times : List ℕ) → length times ≡ length paths → numbers_in (counted_by paths times) ≡ sum_by length paths
 numbers_in-counted_by [] times same = refl

@@ -15,6 +15,9 @@ pub record Table : Type 0 where
 abbrev pub paths_of : List Counted → List (List ℕ)
 paths_of rows = map (λ row. row.path) rows
 
+abbrev pub times_of : List Counted → List ℕ
+times_of rows = map (λ row. row.times) rows
+
 -- how many numbers the paths have in sum
 abbrev pub numbers_in : List Counted → ℕ
 numbers_in rows = sum_by (λ row. length row.path) rows

@@ -51,6 +51,13 @@ impl IndexedPaths {
         &self.rows
     }
 
+    /// The paths in order, without the index. It takes no memory.
+    pub fn into_rows(self) -> Rows<PathId, u32>
+        ensures { result ≡ self }
+    {
+        self.rows
+    }
+
     /// The index of a path. It takes no memory.
     pub fn find(&self, path: &[u32]) -> Option<PathId>
         ensures found { IfSome result (λ k. (k < length self.now) × (row_at self.now k ≡ path.now)) }

@@ -3,13 +3,13 @@ ghost use Rattle.std.specs.List.{list_all};
 ghost use Rattle.tor_arena.specs.Distinct.{AllDistinct};
 ghost use Rattle.path_clean.specs.Limits.{max_paths, max_numbers};
 ghost use Rattle.path_clean.specs.Paths.{is_cleaned};
-ghost use Rattle.path_clean.specs.Rows.{paths_of, numbers_in, none_twice};
+ghost use Rattle.path_clean.specs.Rows.{paths_of, times_of, numbers_in, none_twice};
 ghost use Rattle.path_clean.specs.Table.{place_of, with_path, Names, IsPathTooMany, HasNumbersTooMany};
 
 use crate::distinct_rows::IndexedPaths;
 use std::alloc::Global;
 use std::marker::Model;
-use tor_arena::{Index, Keys, PathId, Rows};
+use tor_arena::{Index, Keys, List, PathId, Rows};
 
 /// How many distinct paths a table may have.
 pub const MAX_PATHS: u32 = 1 << 23;
@@ -142,5 +142,13 @@ impl PathTable {
         ensures limit { self.now.limit ≤ max_paths }
     {
         self.counts.len()
+    }
+
+    /// The paths in order, and the times of each, without the table. It takes no memory.
+    pub fn into_rows(self) -> (Rows<PathId, u32>, List<u64>)
+        ensures paths { result.0 ≡ paths_of self.rows }
+        ensures times { result.1 ≡ times_of self.rows }
+    {
+        (self.paths.into_rows(), List::from_vec(self.counts))
     }
 }

@@ -178,6 +178,10 @@ fn a_table_of_two_paths(rt: HostRuntime) -> Result<(), Fail> {
     assert_eq!(rt; table.times(id), 2);
     assert_eq!(rt; table.rows().len(), 2);
     assert_eq!(rt; table.rows().row(id), [10, 20, 30, 40].as_slice());
+    let (rows, times) = table.into_rows();
+    assert_eq!(rt; rows.len(), 2);
+    assert_eq!(rt; rows.row(id), [10, 20, 30, 40].as_slice());
+    assert_eq!(rt; times.as_slice(), [1, 2].as_slice());
     Ok(())
 }
 

@@ -9,3 +9,5 @@ mod Machine
 mod LineFeeds
 mod Verdicts
 mod Places
+mod PathLineLemmas
+mod Puts

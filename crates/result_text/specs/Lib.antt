@@ -5,3 +5,4 @@ pub mod Refusal
 pub mod Reading
 pub mod Order
 pub mod Numbering
+pub mod PathLines

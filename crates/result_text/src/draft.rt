@@ -1,12 +1,13 @@
 ghost use Rattle.std.specs.Prelude.{◌≡◌, ◌<◌};
 ghost use Rattle.result_text.specs.declared.line.Line.TheVariants as line;
+ghost use Rattle.result_text.specs.Reading.{kept_from, lost_from};
 ghost use Rattle.result_text.specs.Order.{cause_index, is_head, after_head, takes_path, takes_edge, takes_why, takes_probe, pass_head, step, Steps, start, finished};
 
 use crate::error::LineError;
-use crate::file::{EdgeLine, PathLine, ResultFile, Totals};
-use crate::line::Line;
+use crate::file::{EdgeLine, ResultFile, Totals};
+use crate::path_lines::PathLines;
 use path_clean::{Asides, Cause, Sets};
-use relationships::{Probe, Walk};
+use relationships::{Probe, WalkRef, Walks};
 use std::alloc::Global;
 use tor_arena::List;
 
@@ -27,16 +28,16 @@ pub enum Section {
     End,
 }
 
-/// What is read of a result so far.
+/// What is read of a result so far. Each line is added if it may come next; after an error the draft is of no use.
 #[derive(Debug, Drop)]
 pub struct Draft {
     pub section: Section,
     pub sets: Sets,
     pub ratio: u32,
     pub counts: [u64; 7],
-    pub paths: List<PathLine>,
+    pub paths: PathLines,
     pub edges: List<EdgeLine>,
-    pub whys: List<Walk>,
+    pub whys: Walks,
     pub probes: List<Probe>,
     pub totals: Totals,
 }
@@ -132,9 +133,9 @@ impl Draft {
             sets: Sets::Cut,
             ratio: 0,
             counts: [0, 0, 0, 0, 0, 0, 0],
-            paths: List::new(alloc),
+            paths: PathLines::new(alloc),
             edges: List::new(alloc),
-            whys: List::new(alloc),
+            whys: Walks::new(alloc),
             probes: List::new(alloc),
             totals: Totals {
                 kept: 0,
@@ -158,7 +159,15 @@ impl Draft {
         Ok(())
     }
 
-    fn add_sets(&mut self, sets: Sets) -> Result<(), LineError>
+    /// Adds the first line.
+    pub fn add_version(&mut self) -> Result<(), LineError>
+        ensures { Steps result self.new (step self.old line.Version) }
+    {
+        self.pass_head(0)
+    }
+
+    /// Adds the line of the sets.
+    pub fn add_sets(&mut self, sets: Sets) -> Result<(), LineError>
         ensures { Steps result self.new (step self.old (line.Sets sets)) }
     {
         self.pass_head(1)?;
@@ -166,7 +175,8 @@ impl Draft {
         Ok(())
     }
 
-    fn add_ratio(&mut self, ratio: u32) -> Result<(), LineError>
+    /// Adds the line of the ratio.
+    pub fn add_ratio(&mut self, ratio: u32) -> Result<(), LineError>
         ensures { Steps result self.new (step self.old (line.Ratio ratio)) }
     {
         self.pass_head(2)?;
@@ -174,7 +184,8 @@ impl Draft {
         Ok(())
     }
 
-    fn add_aside(&mut self, cause: Cause, count: u64) -> Result<(), LineError>
+    /// Adds the line of a cause.
+    pub fn add_aside(&mut self, cause: Cause, count: u64) -> Result<(), LineError>
         ensures { Steps result self.new (step self.old (line.Aside cause count)) }
     {
         let index = index_of(cause);
@@ -183,18 +194,37 @@ impl Draft {
         Ok(())
     }
 
-    fn add_path(&mut self, path: PathLine) -> Result<(), LineError>
-        ensures { Steps result self.new (step self.old (line.Path path)) }
+    /// Adds the line of a kept path.
+    pub fn add_kept(&mut self, times: u64, path: &[u32]) -> Result<(), LineError>
+        ensures { Steps result self.new (step self.old (kept_from (times, path.now))) }
     {
         if !self.section.takes_path() {
             return Err(LineError::Bad);
         }
-        self.paths.push(path)?;
+        self.paths.push_kept(times, path)?;
         self.section = Section::Paths;
         Ok(())
     }
 
-    fn add_edge(&mut self, edge: EdgeLine) -> Result<(), LineError>
+    /// Adds the line of a path that is lost with the walk.
+    pub fn add_lost(
+        &mut self,
+        times: u64,
+        path: &[u32],
+        walk: &WalkRef<'_>,
+    ) -> Result<(), LineError>
+        ensures { Steps result self.new (step self.old (lost_from (times, (path.now, walk.now)))) }
+    {
+        if !self.section.takes_path() {
+            return Err(LineError::Bad);
+        }
+        self.paths.push_lost(times, path, walk)?;
+        self.section = Section::Paths;
+        Ok(())
+    }
+
+    /// Adds an edge line.
+    pub fn add_edge(&mut self, edge: EdgeLine) -> Result<(), LineError>
         ensures { Steps result self.new (step self.old (line.Edge edge)) }
     {
         if !self.section.takes_edge() {
@@ -205,18 +235,20 @@ impl Draft {
         Ok(())
     }
 
-    fn add_why(&mut self, walk: Walk) -> Result<(), LineError>
-        ensures { Steps result self.new (step self.old (line.Why walk)) }
+    /// Adds the why line of a walk.
+    pub fn add_why(&mut self, walk: &WalkRef<'_>) -> Result<(), LineError>
+        ensures { Steps result self.new (step self.old (line.Why walk.now)) }
     {
         if !self.section.takes_why() {
             return Err(LineError::Bad);
         }
-        self.whys.push(walk)?;
+        self.whys.push(walk.ases(), walk.links())?;
         self.section = Section::Whys;
         Ok(())
     }
 
-    fn add_probe(&mut self, probe: Probe) -> Result<(), LineError>
+    /// Adds an open line.
+    pub fn add_probe(&mut self, probe: Probe) -> Result<(), LineError>
         ensures { Steps result self.new (step self.old (line.Probe probe)) }
     {
         if !self.section.takes_probe() {
@@ -227,7 +259,8 @@ impl Draft {
         Ok(())
     }
 
-    fn add_end(&mut self, totals: Totals) -> Result<(), LineError>
+    /// Adds the last line.
+    pub fn add_end(&mut self, totals: Totals) -> Result<(), LineError>
         ensures { Steps result self.new (step self.old (line.End totals)) }
     {
         if !self.section.takes_probe() {
@@ -236,23 +269,6 @@ impl Draft {
         self.totals = totals;
         self.section = Section::End;
         Ok(())
-    }
-
-    /// Adds a line, if it may come next. After an error the draft is of no use.
-    pub fn add(&mut self, line: Line) -> Result<(), LineError>
-        ensures { Steps result self.new (step self.old line) }
-    {
-        match line {
-            Line::Version => self.pass_head(0),
-            Line::Sets(sets) => self.add_sets(sets),
-            Line::Ratio(ratio) => self.add_ratio(ratio),
-            Line::Aside(cause, count) => self.add_aside(cause, count),
-            Line::Path(path) => self.add_path(path),
-            Line::Edge(edge) => self.add_edge(edge),
-            Line::Why(walk) => self.add_why(walk),
-            Line::Probe(probe) => self.add_probe(probe),
-            Line::End(totals) => self.add_end(totals),
-        }
     }
 
     /// The result, if its last line is read.

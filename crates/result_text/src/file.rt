@@ -1,8 +1,9 @@
+use crate::path_lines::PathLines;
 use path_clean::{Asides, Sets};
-use relationships::{Fate, Label, Mark, Probe, Walk};
+use relationships::{Fate, Label, Mark, Probe, Walks};
 use tor_arena::List;
 
-/// A distinct path.
+/// A distinct path, as definitions speak of it.
 #[derive(Debug, Drop)]
 pub struct PathLine {
     /// How often it stood in the dumps.
@@ -53,11 +54,11 @@ pub struct ResultFile {
     /// How many routes were set aside, by cause.
     pub asides: Asides,
     /// The distinct paths, in order of first appearance.
-    pub paths: List<PathLine>,
+    pub paths: PathLines,
     /// The edges of the paths, in order of first appearance.
     pub edges: List<EdgeLine>,
     /// Walks that show why edges are forced.
-    pub whys: List<Walk>,
+    pub whys: Walks,
     /// Orders that show that edges are open, each written as an open line.
     pub probes: List<Probe>,
     /// What the last line counts.

@@ -7,8 +7,10 @@ mod file;
 mod laws;
 mod line;
 mod line_reading;
+mod next_line;
 mod numbers;
 mod parsing;
+mod path_lines;
 mod printing;
 mod reading;
 
@@ -16,6 +18,7 @@ pub use error::ParseError;
 pub use file::{EdgeLine, PathLine, ResultFile, Totals};
 pub use laws::{line_numbers, one_value, parse_printed, print_parsed};
 pub use parsing::parse;
+pub use path_lines::{PathLineRef, PathLines};
 pub use printing::print;
 pub use relationships::{Fate, Mark, Probe};
 

@@ -2,7 +2,7 @@ use crate::file::{EdgeLine, PathLine, Totals};
 use path_clean::{Cause, Sets};
 use relationships::{Probe, Walk};
 
-/// One line of a text, by its kind.
+/// One line of a text, by its kind, as definitions speak of it.
 #[derive(Debug, Drop)]
 pub enum Line {
     Version,

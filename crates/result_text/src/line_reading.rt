@@ -1,19 +1,20 @@
-//! Lines, read from the prefix of the bytes, each with its line feed.
+//! What lines say behind their first word, read from the prefix of the bytes, with the line feed. Lists go into lists that are there.
 
 ghost use Rattle.std.specs.Prelude.{◌≡◌};
-ghost use Rattle.result_text.specs.Reading.{Gives, sets_at, cause_at, label_at, mark_at, walk_at, sets_line_at, ratio_at, aside_at, kept_at, lost_at, edge_at, why_at, probe_at, end_at, line_at};
+ghost use Rattle.relationships.specs.Kept.{walk_with};
+ghost use Rattle.result_text.specs.Reading.{Gives, sets_at, cause_at, label_at, mark_at, walk_at, aside_at, aside_from, kept_at, kept_from, lost_at, lost_from, edge_at, probe_at, end_at};
+ghost use Rattle.result_text.specs.declared.line.Line.TheVariants as line;
 
 use crate::error::LineError;
-use crate::file::{EdgeLine, PathLine, Totals};
-use crate::line::Line;
+use crate::file::{EdgeLine, Totals};
 use crate::reading::{after, links_before, numbers_before, u32_before, u64_before};
 use path_clean::{Cause, Sets};
-use relationships::{Fate, Label, Mark, Probe, Walk};
-use std::alloc::Global;
+use relationships::{Label, Link, Mark, Probe};
+use tor_arena::List;
 
-// How sets were treated, and the line feed.
+/// How sets were treated, and the line feed.
 #[tactic(auto, unfolding(crate::specs::Reading::sets_at))]
-fn sets_of(bytes: &[u8]) -> Result<(Sets, &[u8]), LineError>
+pub fn sets_of(bytes: &[u8]) -> Result<(Sets, &[u8]), LineError>
     ensures { Gives (λ x. (x.0, x.1.now)) result (sets_at bytes.now) }
 {
     if let Some(rest) = after(b"cut\n", bytes) {
@@ -79,118 +80,89 @@ fn mark_of(bytes: &[u8]) -> Result<(Mark, &[u8]), LineError>
     }
 }
 
-// A walk as the two last fields of a line.
+/// A walk as the two last fields of a line.
 #[tactic(auto, unfolding(crate::specs::Reading::walk_at))]
-fn walk_of(alloc: Global, bytes: &[u8]) -> Result<(Walk, &[u8]), LineError>
-    ensures { Gives (λ x. (x.0, x.1.now)) result (walk_at bytes.now) }
+pub fn walk_of<'a>(
+    ases: &mut List<u32>,
+    links: &mut List<Link>,
+    bytes: &'a [u8],
+) -> Result<&'a [u8], LineError>
+    ensures { Gives (λ rest. (walk_with ases.new links.new, rest.now)) result (walk_at bytes.now) }
 {
-    let (ases, rest) = numbers_before(alloc, b'|', bytes)?;
-    let (links, rest) = links_before(alloc, b'\n', rest)?;
-    Ok((Walk { ases, links }, rest))
+    let rest = numbers_before(b'|', ases, bytes)?;
+    links_before(b'\n', links, rest)
 }
 
-// The line of the sets, behind its first word, as all below.
-#[tactic(auto, unfolding(crate::specs::Reading::sets_line_at))]
-fn sets_line_of(bytes: &[u8]) -> Result<(Line, &[u8]), LineError>
-    ensures { Gives (λ x. (x.0, x.1.now)) result (sets_line_at bytes.now) }
-{
-    let (sets, rest) = sets_of(bytes)?;
-    Ok((Line::Sets(sets), rest))
-}
-
-// The line of the ratio.
-#[tactic(auto, unfolding(crate::specs::Reading::ratio_at))]
-fn ratio_of(bytes: &[u8]) -> Result<(Line, &[u8]), LineError>
-    ensures { Gives (λ x. (x.0, x.1.now)) result (ratio_at bytes.now) }
-{
-    let (ratio, rest) = u32_before(b'\n', bytes)?;
-    Ok((Line::Ratio(ratio), rest))
-}
-
-// The line of a cause.
+/// The line of a cause.
 #[tactic(auto, unfolding(crate::specs::Reading::aside_at))]
-fn aside_of(bytes: &[u8]) -> Result<(Line, &[u8]), LineError>
-    ensures { Gives (λ x. (x.0, x.1.now)) result (aside_at bytes.now) }
+pub fn aside_of(bytes: &[u8]) -> Result<(Cause, u64, &[u8]), LineError>
+    ensures { Gives (λ x. (aside_from (x.0, x.1), x.2.now)) result (aside_at bytes.now) }
 {
     let (cause, rest) = cause_of(bytes)?;
     let (count, rest) = u64_before(b'\n', rest)?;
-    Ok((Line::Aside(cause, count), rest))
+    Ok((cause, count, rest))
 }
 
-// The line of a kept path.
+/// The line of a kept path, and its times.
 #[tactic(auto, unfolding(crate::specs::Reading::kept_at))]
-fn kept_of(alloc: Global, bytes: &[u8]) -> Result<(Line, &[u8]), LineError>
-    ensures { Gives (λ x. (x.0, x.1.now)) result (kept_at bytes.now) }
+pub fn kept_of<'a>(path: &mut List<u32>, bytes: &'a [u8]) -> Result<(u64, &'a [u8]), LineError>
+    ensures { Gives (λ x. (kept_from (x.0, path.new), x.1.now)) result (kept_at bytes.now) }
 {
     let (times, rest) = u64_before(b'|', bytes)?;
-    let (path, rest) = numbers_before(alloc, b'\n', rest)?;
-    let line = PathLine {
-        times,
-        path,
-        fate: Fate::Kept,
-    };
-    Ok((Line::Path(line), rest))
+    let rest = numbers_before(b'\n', path, rest)?;
+    Ok((times, rest))
 }
 
-// The line of a lost path.
+/// The line of a lost path, and its times.
 #[tactic(auto, unfolding(crate::specs::Reading::lost_at))]
-fn lost_of(alloc: Global, bytes: &[u8]) -> Result<(Line, &[u8]), LineError>
-    ensures { Gives (λ x. (x.0, x.1.now)) result (lost_at bytes.now) }
+pub fn lost_of<'a>(
+    path: &mut List<u32>,
+    ases: &mut List<u32>,
+    links: &mut List<Link>,
+    bytes: &'a [u8],
+) -> Result<(u64, &'a [u8]), LineError>
+    ensures { Gives (λ x. (lost_from (x.0, (path.new, walk_with ases.new links.new)), x.1.now)) result (lost_at bytes.now) }
 {
     let (times, rest) = u64_before(b'|', bytes)?;
-    let (path, rest) = numbers_before(alloc, b'|', rest)?;
-    let (walk, rest) = walk_of(alloc, rest)?;
-    let line = PathLine {
-        times,
-        path,
-        fate: Fate::Lost(walk),
-    };
-    Ok((Line::Path(line), rest))
+    let rest = numbers_before(b'|', path, rest)?;
+    let rest = walk_of(ases, links, rest)?;
+    Ok((times, rest))
 }
 
-// The line of an edge.
+/// The line of an edge.
 #[tactic(auto, unfolding(crate::specs::Reading::edge_at))]
-fn edge_of(bytes: &[u8]) -> Result<(Line, &[u8]), LineError>
-    ensures { Gives (λ x. (x.0, x.1.now)) result (edge_at bytes.now) }
+pub fn edge_of(bytes: &[u8]) -> Result<(EdgeLine, &[u8]), LineError>
+    ensures { Gives (λ x. (line.Edge x.0, x.1.now)) result (edge_at bytes.now) }
 {
     let (low, rest) = u32_before(b'|', bytes)?;
     let (high, rest) = u32_before(b'|', rest)?;
     let (label, rest) = label_of(rest)?;
     let (mark, rest) = mark_of(rest)?;
     let (support, rest) = u64_before(b'\n', rest)?;
-    let line = EdgeLine {
+    let edge = EdgeLine {
         low,
         high,
         label,
         mark,
         support,
     };
-    Ok((Line::Edge(line), rest))
+    Ok((edge, rest))
 }
 
-// A why line.
-#[tactic(auto, unfolding(crate::specs::Reading::why_at))]
-fn why_of(alloc: Global, bytes: &[u8]) -> Result<(Line, &[u8]), LineError>
-    ensures { Gives (λ x. (x.0, x.1.now)) result (why_at bytes.now) }
-{
-    let (walk, rest) = walk_of(alloc, bytes)?;
-    Ok((Line::Why(walk), rest))
-}
-
-// An open line.
+/// An open line.
 #[tactic(auto, unfolding(crate::specs::Reading::probe_at))]
-fn probe_of(bytes: &[u8]) -> Result<(Line, &[u8]), LineError>
-    ensures { Gives (λ x. (x.0, x.1.now)) result (probe_at bytes.now) }
+pub fn probe_of(bytes: &[u8]) -> Result<(Probe, &[u8]), LineError>
+    ensures { Gives (λ x. (line.Probe x.0, x.1.now)) result (probe_at bytes.now) }
 {
     let (over, rest) = u32_before(b'|', bytes)?;
     let (under, rest) = u32_before(b'\n', rest)?;
-    Ok((Line::Probe(Probe { over, under }), rest))
+    Ok((Probe { over, under }, rest))
 }
 
-// The last line.
+/// The last line.
 #[tactic(auto, unfolding(crate::specs::Reading::end_at))]
-fn end_of(bytes: &[u8]) -> Result<(Line, &[u8]), LineError>
-    ensures { Gives (λ x. (x.0, x.1.now)) result (end_at bytes.now) }
+pub fn end_of(bytes: &[u8]) -> Result<(Totals, &[u8]), LineError>
+    ensures { Gives (λ x. (line.End x.0, x.1.now)) result (end_at bytes.now) }
 {
     let (kept, rest) = u64_before(b'|', bytes)?;
     let (lost, rest) = u64_before(b'|', rest)?;
@@ -204,35 +176,5 @@ fn end_of(bytes: &[u8]) -> Result<(Line, &[u8]), LineError>
         forced,
         peers,
     };
-    Ok((Line::End(totals), rest))
-}
-
-/// The line at the prefix, by its first word.
-#[tactic(auto, unfolding(crate::specs::Reading::line_at))]
-pub fn line_of(alloc: Global, bytes: &[u8]) -> Result<(Line, &[u8]), LineError>
-    ensures { Gives (λ x. (x.0, x.1.now)) result (line_at bytes.now) }
-{
-    if let Some(rest) = after(b"kept|", bytes) {
-        kept_of(alloc, rest)
-    } else if let Some(rest) = after(b"edge|", bytes) {
-        edge_of(rest)
-    } else if let Some(rest) = after(b"why|", bytes) {
-        why_of(alloc, rest)
-    } else if let Some(rest) = after(b"open|", bytes) {
-        probe_of(rest)
-    } else if let Some(rest) = after(b"lost|", bytes) {
-        lost_of(alloc, rest)
-    } else if let Some(rest) = after(b"aside|", bytes) {
-        aside_of(rest)
-    } else if let Some(rest) = after(b"tor|1\n", bytes) {
-        Ok((Line::Version, rest))
-    } else if let Some(rest) = after(b"sets|", bytes) {
-        sets_line_of(rest)
-    } else if let Some(rest) = after(b"ratio|", bytes) {
-        ratio_of(rest)
-    } else if let Some(rest) = after(b"end|", bytes) {
-        end_of(rest)
-    } else {
-        Err(LineError::Bad)
-    }
+    Ok((totals, rest))
 }

@@ -1,26 +1,12 @@
-ghost use Rattle.std.specs.Prelude.{◌≡◌, Some, MatchResult, IfOk, IfErr};
+ghost use Rattle.std.specs.Prelude.{IfOk, IfErr};
 ghost use Rattle.result_text.specs.Grammar.{IsTextOf};
-ghost use Rattle.result_text.specs.Order.{next_at};
-ghost use Rattle.result_text.specs.Reading.{Fails};
 ghost use Rattle.result_text.specs.Refusal.{Refuses};
 
 use crate::draft::Draft;
 use crate::error::{LineError, ParseError};
 use crate::file::ResultFile;
-use crate::line_reading::line_of;
+use crate::next_line::{Scratch, next_line};
 use std::alloc::Global;
-
-// Reads the line at the prefix into the draft, and answers what stands behind it.
-#[tactic(auto, unfolding(crate::specs::Order::next_at))]
-fn next_line<'a>(alloc: Global, draft: &mut Draft, bytes: &'a [u8]) -> Result<&'a [u8], LineError>
-    ensures { MatchResult result
-        (λ rest. next_at draft.old bytes.now ≡ Some (draft.new, rest.now))
-        (λ e. Fails e (next_at draft.old bytes.now)) }
-{
-    let (line, rest) = line_of(alloc, bytes)?;
-    draft.add(line)?;
-    Ok(rest)
-}
 
 /// The result whose text this is, or want of memory. BadLine comes only where the bytes are no text, and names their bad line:
 /// the first n lines don't stand there or begin no text, and n is the least such number.
@@ -29,10 +15,11 @@ pub fn parse(alloc: Global, bytes: &[u8]) -> Result<ResultFile, ParseError>
     ensures refused { IfErr result (λ error. Refuses error bytes.now) }
 {
     let mut draft = Draft::new(alloc);
+    let mut scratch = Scratch::new(alloc);
     let mut rest = bytes;
     let mut read = 0u64;
     'lines: while !rest.is_empty() {
-        match next_line(alloc, &mut draft, rest) {
+        match next_line(&mut draft, &mut scratch, rest) {
             Ok(after) => rest = after,
             Err(LineError::Bad) => return Err(ParseError::BadLine(read + 1)),
             Err(LineError::NoMemory) => return Err(ParseError::NoMemory),

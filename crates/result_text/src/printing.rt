@@ -2,16 +2,19 @@ ghost use Rattle.std.specs.Prelude.{◌≡◌, ◌++◌, ◌∷◌, [], OnOk, If
 ghost use Rattle.std.specs.Fmt.{decimal};
 ghost use Rattle.result_text.specs.declared.line.Line.TheVariants as line;
 ghost use Rattle.std.specs.List.{AllByRecursion};
+ghost use Rattle.relationships.specs.declared.fate.Fate.TheVariants.{Kept, Lost};
 ghost use Rattle.result_text.specs.Grammar.{IsTextOf};
+ghost use Rattle.result_text.specs.PathLines.{line_with};
 ghost use Rattle.result_text.specs.Ranges.{IsU32, CountsFit, LineFits, PathFits, EdgeFits, WalkFits, ProbeFits, TotalsFit};
 ghost use Rattle.result_text.specs.Text.{text, text_of_lines, line_text, sets_name, cause_name, label_name, mark_name, numbers, links, aside_lines};
 
-use crate::file::{EdgeLine, PathLine, ResultFile, Totals};
+use crate::file::{EdgeLine, ResultFile, Totals};
 use crate::numbers::{put_links, put_number, put_numbers};
+use crate::path_lines::{PathLineRef, PathLines};
 use path_clean::{Asides, Cause, Sets};
-use relationships::{Fate, Label, Mark, Probe, Walk};
+use relationships::{Label, Mark, Probe, WalkRef, Walks};
 use std::alloc::Global;
-use tor_arena::{List, NoMemory};
+use tor_arena::{Index, List, NoMemory, PathId, WalkId};
 
 // Each function puts something at the end, lines with their line feed.
 fn put_bar(out: &mut List<u8>) -> Result<(), NoMemory>
@@ -86,37 +89,55 @@ fn put_asides(out: &mut List<u8>, asides: &Asides) -> Result<(), NoMemory>
 }
 
 // A walk as two fields: its ASes, and its links.
-fn put_walk(out: &mut List<u8>, walk: &Walk) -> Result<(), NoMemory>
+fn put_walk(out: &mut List<u8>, walk: &WalkRef<'_>) -> Result<(), NoMemory>
     ensures encoded { OnOk result (out.new ≡ out.old ++ numbers walk.now.ases ++ 124 ∷ links walk.now.links) }
     ensures fits { OnOk result (WalkFits walk.now) }
 {
-    put_numbers(out, walk.ases.as_slice())?;
+    put_numbers(out, walk.ases())?;
     put_bar(out)?;
-    put_links(out, walk.links.as_slice())
+    put_links(out, walk.links())
 }
 
 #[tactic(auto, unfolding(crate::specs::Text::line_text))]
-fn put_path(out: &mut List<u8>, path: &PathLine) -> Result<(), NoMemory>
+fn put_kept(out: &mut List<u8>, times: u64, path: &[u32]) -> Result<(), NoMemory>
+    ensures encoded { OnOk result (out.new ≡ out.old ++ line_text (line.Path (line_with times path.now Kept))) }
+    ensures fits { OnOk result (PathFits (line_with times path.now Kept)) }
+{
+    out.extend_from_slice(b"kept|")?;
+    put_number(out, times)?;
+    put_bar(out)?;
+    put_numbers(out, path)?;
+    put_line_end(out)
+}
+
+#[tactic(auto, unfolding(crate::specs::Text::line_text))]
+fn put_lost(
+    out: &mut List<u8>,
+    times: u64,
+    path: &[u32],
+    walk: &WalkRef<'_>,
+) -> Result<(), NoMemory>
+    ensures encoded { OnOk result (out.new ≡ out.old ++ line_text (line.Path (line_with times path.now (Lost walk.now)))) }
+    ensures fits { OnOk result (PathFits (line_with times path.now (Lost walk.now))) }
+{
+    out.extend_from_slice(b"lost|")?;
+    put_number(out, times)?;
+    put_bar(out)?;
+    put_numbers(out, path)?;
+    put_bar(out)?;
+    put_walk(out, walk)?;
+    put_line_end(out)
+}
+
+#[tactic(auto, using(crate::proofs::PathLineLemmas::line_kept, crate::proofs::PathLineLemmas::line_lost))]
+fn put_path(out: &mut List<u8>, path: &PathLineRef<'_>) -> Result<(), NoMemory>
     ensures encoded { OnOk result (out.new ≡ out.old ++ line_text (line.Path path.now)) }
     ensures fits { OnOk result (PathFits path.now) }
 {
-    match &path.fate {
-        Fate::Kept => {
-            out.extend_from_slice(b"kept|")?;
-            put_number(out, path.times)?;
-            put_bar(out)?;
-            put_numbers(out, path.path.as_slice())?;
-        }
-        Fate::Lost(walk) => {
-            out.extend_from_slice(b"lost|")?;
-            put_number(out, path.times)?;
-            put_bar(out)?;
-            put_numbers(out, path.path.as_slice())?;
-            put_bar(out)?;
-            put_walk(out, walk)?;
-        }
+    match path.walk() {
+        None => put_kept(out, path.times(), path.path()),
+        Some(walk) => put_lost(out, path.times(), path.path(), walk),
     }
-    put_line_end(out)
 }
 
 fn put_label(out: &mut List<u8>, label: Label) -> Result<(), NoMemory>
@@ -164,7 +185,7 @@ fn put_edge(out: &mut List<u8>, edge: &EdgeLine) -> Result<(), NoMemory>
 }
 
 #[tactic(auto, unfolding(crate::specs::Text::line_text))]
-fn put_why(out: &mut List<u8>, walk: &Walk) -> Result<(), NoMemory>
+fn put_why(out: &mut List<u8>, walk: &WalkRef<'_>) -> Result<(), NoMemory>
     ensures encoded { OnOk result (out.new ≡ out.old ++ line_text (line.Why walk.now)) }
     ensures fits { OnOk result (WalkFits walk.now) }
 {
@@ -226,12 +247,15 @@ fn put_head(out: &mut List<u8>, file: &ResultFile) -> Result<(), NoMemory>
     put_asides(out, &file.asides)
 }
 
-fn put_paths(out: &mut List<u8>, paths: &[PathLine]) -> Result<(), NoMemory>
+fn put_paths(out: &mut List<u8>, paths: &PathLines) -> Result<(), NoMemory>
     ensures encoded { OnOk result (out.new ≡ out.old ++ text_of_lines (map (λ p. line.Path p) paths.now)) }
     ensures fits { OnOk result (AllByRecursion PathFits paths.now) }
 {
-    for path in paths {
-        put_path(out, path)?;
+    for place in 0..paths.len() {
+        let Some(id) = PathId::from_place(place) else {
+            unreachable!();
+        };
+        put_path(out, &paths.get(id))?;
     }
     Ok(())
 }
@@ -246,12 +270,15 @@ fn put_edges(out: &mut List<u8>, edges: &[EdgeLine]) -> Result<(), NoMemory>
     Ok(())
 }
 
-fn put_whys(out: &mut List<u8>, whys: &[Walk]) -> Result<(), NoMemory>
+fn put_whys(out: &mut List<u8>, whys: &Walks) -> Result<(), NoMemory>
     ensures encoded { OnOk result (out.new ≡ out.old ++ text_of_lines (map (λ w. line.Why w) whys.now)) }
     ensures fits { OnOk result (AllByRecursion WalkFits whys.now) }
 {
-    for walk in whys {
-        put_why(out, walk)?;
+    for place in 0..whys.len() {
+        let Some(id) = WalkId::from_place(place) else {
+            unreachable!();
+        };
+        put_why(out, &whys.get(id))?;
     }
     Ok(())
 }
@@ -272,9 +299,9 @@ pub fn print(alloc: Global, file: &ResultFile) -> Result<List<u8>, NoMemory>
 {
     let mut out = List::new(alloc);
     put_head(&mut out, file)?;
-    put_paths(&mut out, file.paths.as_slice())?;
+    put_paths(&mut out, &file.paths)?;
     put_edges(&mut out, file.edges.as_slice())?;
-    put_whys(&mut out, file.whys.as_slice())?;
+    put_whys(&mut out, &file.whys)?;
     put_probes(&mut out, file.probes.as_slice())?;
     put_end(&mut out, &file.totals)?;
     Ok(out)

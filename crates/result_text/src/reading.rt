@@ -7,7 +7,6 @@ ghost use Rattle.result_text.specs.Reading.{Gives, word_at, digit_at, digits_at,
 
 use crate::error::LineError;
 use relationships::Link;
-use std::alloc::Global;
 use tor_arena::List;
 
 /// The bytes behind a word, if they begin with it.
@@ -133,46 +132,44 @@ fn field_ends(bytes: &[u8]) -> bool
     }
 }
 
-// The numbers that follow those of `prefix`, each behind a space.
-fn other_numbers(prefix: List<u32>, bytes: &[u8]) -> Result<(List<u32>, &[u8]), LineError>
-    ensures { Gives (λ x. (x.0, x.1.now)) result
-        (with_prefix prefix (others_at u32_at (length bytes.now) bytes.now)) }
+// Puts the numbers that follow, each behind a space, behind those that are there.
+fn other_numbers<'a>(numbers: &mut List<u32>, bytes: &'a [u8]) -> Result<&'a [u8], LineError>
+    ensures { Gives (λ rest. (numbers.new, rest.now)) result
+        (with_prefix numbers.old (others_at u32_at (length bytes.now) bytes.now)) }
 {
-    let mut numbers = prefix;
     let mut rest = bytes;
     'members: while let Some(others) = behind(b' ', rest) {
         let (number, after) = u32_of(others)?;
         numbers.push(number)?;
         rest = after;
     }
-    Ok((numbers, rest))
+    Ok(rest)
 }
 
-// A list of numbers.
+// A list of numbers, in place of those that were there.
 #[tactic(auto, unfolding(crate::specs::Reading::list_at))]
-fn numbers_of(alloc: Global, bytes: &[u8]) -> Result<(List<u32>, &[u8]), LineError>
-    ensures { Gives (λ x. (x.0, x.1.now)) result (list_at u32_at bytes.now) }
+fn numbers_of<'a>(numbers: &mut List<u32>, bytes: &'a [u8]) -> Result<&'a [u8], LineError>
+    ensures { Gives (λ rest. (numbers.new, rest.now)) result (list_at u32_at bytes.now) }
 {
-    let mut prefix = List::new(alloc);
+    numbers.clear();
     if field_ends(bytes) {
-        return Ok((prefix, bytes));
+        return Ok(bytes);
     }
     let (first, rest) = u32_of(bytes)?;
-    prefix.push(first)?;
-    other_numbers(prefix, rest)
+    numbers.push(first)?;
+    other_numbers(numbers, rest)
 }
 
-/// A list of numbers, and behind it this byte.
-pub fn numbers_before(
-    alloc: Global,
+/// A list of numbers, in place of those that were there, and behind it this byte.
+pub fn numbers_before<'a>(
     byte: u8,
-    bytes: &[u8],
-) -> Result<(List<u32>, &[u8]), LineError>
-    ensures { Gives (λ x. (x.0, x.1.now)) result (before byte (list_at u32_at) bytes.now) }
+    numbers: &mut List<u32>,
+    bytes: &'a [u8],
+) -> Result<&'a [u8], LineError>
+    ensures { Gives (λ rest. (numbers.new, rest.now)) result (before byte (list_at u32_at) bytes.now) }
 {
-    let (numbers, rest) = numbers_of(alloc, bytes)?;
-    let rest = past(byte, rest)?;
-    Ok((numbers, rest))
+    let rest = numbers_of(numbers, bytes)?;
+    past(byte, rest)
 }
 
 // A link.
@@ -185,40 +182,42 @@ fn link_of(bytes: &[u8]) -> Result<(Link, &[u8]), LineError>
     Ok((Link { path, at }, rest))
 }
 
-// The links that follow those of `prefix`, each behind a space.
-fn other_links(prefix: List<Link>, bytes: &[u8]) -> Result<(List<Link>, &[u8]), LineError>
-    ensures { Gives (λ x. (x.0, x.1.now)) result
-        (with_prefix prefix (others_at link_at (length bytes.now) bytes.now)) }
+// Puts the links that follow, each behind a space, behind those that are there.
+fn other_links<'a>(links: &mut List<Link>, bytes: &'a [u8]) -> Result<&'a [u8], LineError>
+    ensures { Gives (λ rest. (links.new, rest.now)) result
+        (with_prefix links.old (others_at link_at (length bytes.now) bytes.now)) }
 {
-    let mut links = prefix;
     let mut rest = bytes;
     'members: while let Some(others) = behind(b' ', rest) {
         let (link, after) = link_of(others)?;
         links.push(link)?;
         rest = after;
     }
-    Ok((links, rest))
+    Ok(rest)
 }
 
-// A list of links.
+// A list of links, in place of those that were there.
 #[tactic(auto, unfolding(crate::specs::Reading::list_at))]
-fn links_of(alloc: Global, bytes: &[u8]) -> Result<(List<Link>, &[u8]), LineError>
-    ensures { Gives (λ x. (x.0, x.1.now)) result (list_at link_at bytes.now) }
+fn links_of<'a>(links: &mut List<Link>, bytes: &'a [u8]) -> Result<&'a [u8], LineError>
+    ensures { Gives (λ rest. (links.new, rest.now)) result (list_at link_at bytes.now) }
 {
-    let mut prefix = List::new(alloc);
+    links.clear();
     if field_ends(bytes) {
-        return Ok((prefix, bytes));
+        return Ok(bytes);
     }
     let (first, rest) = link_of(bytes)?;
-    prefix.push(first)?;
-    other_links(prefix, rest)
+    links.push(first)?;
+    other_links(links, rest)
 }
 
-/// A list of links, and behind it this byte.
-pub fn links_before(alloc: Global, byte: u8, bytes: &[u8]) -> Result<(List<Link>, &[u8]), LineError>
-    ensures { Gives (λ x. (x.0, x.1.now)) result (before byte (list_at link_at) bytes.now) }
+/// A list of links, in place of those that were there, and behind it this byte.
+pub fn links_before<'a>(
+    byte: u8,
+    links: &mut List<Link>,
+    bytes: &'a [u8],
+) -> Result<&'a [u8], LineError>
+    ensures { Gives (λ rest. (links.new, rest.now)) result (before byte (list_at link_at) bytes.now) }
 {
-    let (links, rest) = links_of(alloc, bytes)?;
-    let rest = past(byte, rest)?;
-    Ok((links, rest))
+    let rest = links_of(links, bytes)?;
+    past(byte, rest)
 }

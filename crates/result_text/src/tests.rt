@@ -1,13 +1,13 @@
 use crate::{
-    EdgeLine, Fate, Mark, ParseError, PathLine, Probe, ResultFile, Totals, parse, parse_printed,
-    print, print_parsed,
+    EdgeLine, Mark, ParseError, PathLineRef, PathLines, Probe, ResultFile, Totals, parse,
+    parse_printed, print, print_parsed,
 };
 use path_clean::{Asides, Sets};
-use relationships::{Label, Link, Walk};
+use relationships::{Fates, Label, Link, WalkRef, Walks};
 use std::alloc::Global;
 use std::process::Abort;
 use std::test::Fail;
-use tor_arena::{List, NoMemory};
+use tor_arena::{Index, List, NoMemory, PathId, Rows, WalkId};
 
 /// A text in two pieces, and its bad line, if it has one.
 struct Case {
@@ -367,74 +367,52 @@ fn link(path: u32, at: u32) -> Link {
     Link { path, at }
 }
 
-fn numbers(alloc: Global, items: &[u32]) -> Result<List<u32>, NoMemory> {
-    let mut list = List::new(alloc);
-    list.extend_from_slice(items)?;
-    Ok(list)
-}
-
-fn walk(alloc: Global, ases: &[u32], links: &[Link]) -> Result<Walk, NoMemory> {
-    let ases = numbers(alloc, ases)?;
-    let mut list = List::new(alloc);
-    list.extend_from_slice(links)?;
-    Ok(Walk { ases, links: list })
-}
-
-/// A path that is kept.
-fn kept(alloc: Global, ases: &[u32]) -> Result<PathLine, NoMemory> {
-    Ok(PathLine {
-        times: 1,
-        path: numbers(alloc, ases)?,
-        fate: Fate::Kept,
-    })
-}
-
 /// The walk that refutes the last path.
-fn refutation(alloc: Global) -> Result<Walk, NoMemory> {
-    walk(
-        alloc,
-        &[10, 20, 30, 40, 20, 10, 50, 60, 10, 20],
-        &[
-            link(2, 2),
-            link(2, 3),
-            link(1, 2),
-            link(1, 3),
-            link(1, 4),
-            link(1, 5),
-            link(3, 2),
-            link(3, 3),
-        ],
+const REFUTATION: [u32; 10] = [10, 20, 30, 40, 20, 10, 50, 60, 10, 20];
+
+/// Its links.
+const REFUTATION_LINKS: [Link; 8] = [
+    Link { path: 2, at: 2 },
+    Link { path: 2, at: 3 },
+    Link { path: 1, at: 2 },
+    Link { path: 1, at: 3 },
+    Link { path: 1, at: 4 },
+    Link { path: 1, at: 5 },
+    Link { path: 3, at: 2 },
+    Link { path: 3, at: 3 },
+];
+
+/// Two paths that are kept, and one that is lost.
+fn add_paths(lines: &mut PathLines) -> Result<(), NoMemory> {
+    lines.reserve(3, 14)?;
+    lines.push_kept(1, &[30, 40, 20, 10, 50, 60])?;
+    lines.push_kept(1, &[10, 20, 30, 40])?;
+    lines.push_lost(
+        1,
+        &[50, 60, 10, 20],
+        &WalkRef::new(&REFUTATION, &REFUTATION_LINKS),
     )
 }
 
-/// The path that is lost.
-fn lost(alloc: Global) -> Result<PathLine, NoMemory> {
-    let shown = refutation(alloc)?;
-    Ok(PathLine {
-        times: 1,
-        path: numbers(alloc, &[50, 60, 10, 20])?,
-        fate: Fate::Lost(shown),
-    })
+fn paths(alloc: Global) -> Result<PathLines, NoMemory> {
+    let mut lines = PathLines::new(alloc);
+    add_paths(&mut lines)?;
+    Ok(lines)
 }
 
-fn paths(alloc: Global) -> Result<List<PathLine>, NoMemory> {
-    let mut list = List::new(alloc);
-    list.push(kept(alloc, &[30, 40, 20, 10, 50, 60])?)?;
-    list.push(kept(alloc, &[10, 20, 30, 40])?)?;
-    list.push(lost(alloc)?)?;
-    Ok(list)
-}
-
-fn whys(alloc: Global) -> Result<List<Walk>, NoMemory> {
-    let mut list = List::new(alloc);
-    list.push(walk(
-        alloc,
+fn add_whys(whys: &mut Walks) -> Result<(), NoMemory> {
+    whys.push(
         &[10, 20, 30, 40, 20, 10],
         &[link(2, 2), link(2, 3), link(1, 2), link(1, 3)],
-    )?)?;
-    list.push(walk(alloc, &[20, 10, 50], &[link(1, 4)])?)?;
-    list.push(walk(alloc, &[10, 50, 60], &[link(1, 5)])?)?;
-    Ok(list)
+    )?;
+    whys.push(&[20, 10, 50], &[link(1, 4)])?;
+    whys.push(&[10, 50, 60], &[link(1, 5)])
+}
+
+fn whys(alloc: Global) -> Result<Walks, NoMemory> {
+    let mut whys = Walks::new(alloc);
+    add_whys(&mut whys)?;
+    Ok(whys)
 }
 
 fn three_paths(alloc: Global) -> Result<ResultFile, NoMemory> {
@@ -476,17 +454,17 @@ fn three_paths_are_printed_again(rt: HostRuntime) -> Result<(), Fail> {
     Ok(())
 }
 
-fn is_walk(walk: &Walk, other: &Walk) -> bool {
-    walk.ases.as_slice() == other.ases.as_slice() && walk.links.as_slice() == other.links.as_slice()
+fn is_walk(walk: &WalkRef<'_>, other: &WalkRef<'_>) -> bool {
+    walk.ases() == other.ases() && walk.links() == other.links()
 }
 
-fn is_path(path: &PathLine, other: &PathLine) -> bool {
-    let fate = match (&path.fate, &other.fate) {
-        (Fate::Kept, Fate::Kept) => true,
-        (Fate::Lost(walk), Fate::Lost(shown)) => is_walk(walk, shown),
+fn is_path(path: &PathLineRef<'_>, other: &PathLineRef<'_>) -> bool {
+    let fate = match (path.walk(), other.walk()) {
+        (None, None) => path.is_kept() && other.is_kept(),
+        (Some(walk), Some(shown)) => is_walk(walk, shown),
         _ => false,
     };
-    fate && path.times == other.times && path.path.as_slice() == other.path.as_slice()
+    fate && path.times() == other.times() && path.path() == other.path()
 }
 
 const TOTALS: Totals = Totals {
@@ -507,35 +485,99 @@ fn numbers_edges_and_probes_are_read(rt: HostRuntime) -> Result<(), Fail> {
     Ok(())
 }
 
+/// Whether both have the same lines.
+fn are_paths(lines: &PathLines, others: &PathLines) -> bool {
+    if lines.len() != others.len() {
+        return false;
+    }
+    for place in 0..lines.len() {
+        let Some(id) = PathId::from_place(place) else {
+            return false;
+        };
+        if !is_path(&lines.get(id), &others.get(id)) {
+            return false;
+        }
+    }
+    true
+}
+
 /// The path lines that are read.
-fn paths_read(alloc: Global) -> Result<List<PathLine>, ParseError> {
+fn paths_read(alloc: Global) -> Result<PathLines, ParseError> {
     Ok(parse(alloc, THREE_PATHS.as_bytes())?.paths)
 }
 
 #[test]
 fn paths_are_read(rt: HostRuntime) -> Result<(), Fail> {
     let lines = paths_read(rt.alloc())?;
-    let wanted = paths(rt.alloc())?;
     assert_eq!(rt; lines.len(), 3);
-    for (path, other) in lines.as_slice().iter().zip(wanted.as_slice()) {
-        assert!(rt; is_path(path, other));
-    }
+    assert_eq!(rt; lines.paths().len(), 3);
+    assert_eq!(rt; lines.fates().len(), 3);
+    assert!(rt; are_paths(&lines, &paths(rt.alloc())?));
     Ok(())
 }
 
+/// Whether both have the same walks.
+fn are_walks(walks: &Walks, others: &Walks) -> bool {
+    if walks.len() != others.len() {
+        return false;
+    }
+    for place in 0..walks.len() {
+        let Some(id) = WalkId::from_place(place) else {
+            return false;
+        };
+        if !is_walk(&walks.get(id), &others.get(id)) {
+            return false;
+        }
+    }
+    true
+}
+
 /// The walks that are read.
-fn walks_read(alloc: Global) -> Result<List<Walk>, ParseError> {
+fn walks_read(alloc: Global) -> Result<Walks, ParseError> {
     Ok(parse(alloc, THREE_PATHS.as_bytes())?.whys)
 }
 
 #[test]
 fn walks_are_read(rt: HostRuntime) -> Result<(), Fail> {
     let walks = walks_read(rt.alloc())?;
-    let wanted = whys(rt.alloc())?;
     assert_eq!(rt; walks.len(), 3);
-    for (walk, other) in walks.as_slice().iter().zip(wanted.as_slice()) {
-        assert!(rt; is_walk(walk, other));
+    assert!(rt; are_walks(&walks, &whys(rt.alloc())?));
+    Ok(())
+}
+
+/// The rows, times and fates of two kept paths.
+fn add_parts(
+    rows: &mut Rows<PathId, u32>,
+    times: &mut List<u64>,
+    fates: &mut Fates,
+) -> Result<(), NoMemory> {
+    for _ in 0..2 {
+        if rows.push_row(&[10, 20]).is_err() {
+            return Err(NoMemory);
+        }
+        times.push(7)?;
+        fates.push_kept()?;
     }
+    Ok(())
+}
+
+#[test]
+fn lines_are_made_of_parts(rt: HostRuntime) -> Result<(), Fail> {
+    let mut rows = Rows::new(rt.alloc());
+    let mut times = List::new(rt.alloc());
+    let mut fates = Fates::new(rt.alloc());
+    assert!(rt; add_parts(&mut rows, &mut times, &mut fates).is_ok());
+    assert_eq!(rt; rows.len(), 2);
+    assert_eq!(rt; times.len(), 2);
+    assert_eq!(rt; fates.len(), 2);
+    let lines = PathLines::from_parts(rows, times, fates);
+    assert_eq!(rt; lines.len(), 2);
+    let Some(last) = PathId::from_place(1) else {
+        return Err(Fail::from("no place"));
+    };
+    assert_eq!(rt; lines.get(last).times(), 7);
+    assert_eq!(rt; lines.get(last).path(), [10, 20].as_slice());
+    assert!(rt; lines.get(last).is_kept());
     Ok(())
 }
 

@@ -1,0 +1,17 @@
+use Rattle.std.proofs.Common.{◌≡◌, ◌∙◌, ap, ap₂, rules, ◌∷◌, ◌++◌, []}
+use Rattle.relationships.specs.declared.fate.Fate.TheVariants.{Kept}
+use Rattle.result_text.specs.PathLines.{line_with, lines_by}
+use Rattle.result_text.proofs.PathLineLemmas.{lines_by-push}
+use Rattle.result_text.proofs.path_lines.PathLines.push_kept.Goals as goal
+
+pub returns-clause-added : goal.returns-clause-added
+returns-clause-added c =
+    let f = c.self.inside in
+    let fate = Kept in
+    let paths : c.push_row.new.self ≡ f.paths ++ c.args.path.now ∷ [] = search rules in
+    let times : c.push_reserved.new.self.items ≡ f.times.items ++ c.args.times ∷ [] = search rules in
+    let fates : c.push_kept.new.self ≡ f.fates ++ fate ∷ [] = search rules in
+    ap (λ ps. lines_by ps c.push_reserved.new.self.items c.push_kept.new.self) paths
+    ∙ ap₂ (λ ts fs. lines_by (f.paths ++ c.args.path.now ∷ []) ts fs) times fates
+    ∙ lines_by-push c.args.path.now c.args.times fate f.paths f.times.items f.fates c.self.invariant.0 c.self.invariant.1
+    ∙ ap (λ ls. ls ++ line_with c.args.times c.args.path.now fate ∷ []) c.self.view_is

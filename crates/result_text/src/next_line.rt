@@ -1,0 +1,166 @@
+//! The line at the prefix of the bytes, read into the draft.
+
+ghost use Rattle.result_text.specs.Order.{with_line, next_at};
+ghost use Rattle.result_text.specs.Reading.{Gives, sets_line_at, ratio_at, aside_at, kept_at, lost_at, edge_at, why_at, probe_at, end_at, version_at};
+
+use crate::draft::Draft;
+use crate::error::LineError;
+use crate::line_reading::{
+    aside_of, edge_of, end_of, kept_of, lost_of, probe_of, sets_of, walk_of,
+};
+use crate::reading::{after, u32_before};
+use relationships::{Link, WalkRef};
+use std::alloc::Global;
+use tor_arena::List;
+
+/// The lists of one line, used again for the next one, so that most lines take no memory.
+#[derive(Drop)]
+pub struct Scratch {
+    path: List<u32>,
+    ases: List<u32>,
+    links: List<Link>,
+}
+
+impl Scratch {
+    /// Lists with nothing in them. It takes no memory.
+    pub fn new(alloc: Global) -> Scratch {
+        Scratch {
+            path: List::new(alloc),
+            ases: List::new(alloc),
+            links: List::new(alloc),
+        }
+    }
+}
+
+// Each function reads what stands behind the first word of a line, adds the line to the draft, and answers what stands behind it.
+fn next_version<'a>(draft: &mut Draft, bytes: &'a [u8]) -> Result<&'a [u8], LineError>
+    ensures { Gives (λ rest. (draft.new, rest.now)) result (with_line draft.old (version_at bytes.now)) }
+{
+    draft.add_version()?;
+    Ok(bytes)
+}
+
+#[tactic(auto, unfolding(crate::specs::Reading::sets_line_at))]
+fn next_sets<'a>(draft: &mut Draft, bytes: &'a [u8]) -> Result<&'a [u8], LineError>
+    ensures { Gives (λ rest. (draft.new, rest.now)) result (with_line draft.old (sets_line_at bytes.now)) }
+{
+    let (sets, rest) = sets_of(bytes)?;
+    draft.add_sets(sets)?;
+    Ok(rest)
+}
+
+#[tactic(auto, unfolding(crate::specs::Reading::ratio_at))]
+fn next_ratio<'a>(draft: &mut Draft, bytes: &'a [u8]) -> Result<&'a [u8], LineError>
+    ensures { Gives (λ rest. (draft.new, rest.now)) result (with_line draft.old (ratio_at bytes.now)) }
+{
+    let (ratio, rest) = u32_before(b'\n', bytes)?;
+    draft.add_ratio(ratio)?;
+    Ok(rest)
+}
+
+fn next_aside<'a>(draft: &mut Draft, bytes: &'a [u8]) -> Result<&'a [u8], LineError>
+    ensures { Gives (λ rest. (draft.new, rest.now)) result (with_line draft.old (aside_at bytes.now)) }
+{
+    let (cause, count, rest) = aside_of(bytes)?;
+    draft.add_aside(cause, count)?;
+    Ok(rest)
+}
+
+fn next_kept<'a>(
+    draft: &mut Draft,
+    scratch: &mut Scratch,
+    bytes: &'a [u8],
+) -> Result<&'a [u8], LineError>
+    ensures { Gives (λ rest. (draft.new, rest.now)) result (with_line draft.old (kept_at bytes.now)) }
+{
+    let (times, rest) = kept_of(&mut scratch.path, bytes)?;
+    draft.add_kept(times, scratch.path.as_slice())?;
+    Ok(rest)
+}
+
+fn next_lost<'a>(
+    draft: &mut Draft,
+    scratch: &mut Scratch,
+    bytes: &'a [u8],
+) -> Result<&'a [u8], LineError>
+    ensures { Gives (λ rest. (draft.new, rest.now)) result (with_line draft.old (lost_at bytes.now)) }
+{
+    let Scratch { path, ases, links } = scratch;
+    let (times, rest) = lost_of(path, ases, links, bytes)?;
+    let walk = WalkRef::new(ases.as_slice(), links.as_slice());
+    draft.add_lost(times, path.as_slice(), &walk)?;
+    Ok(rest)
+}
+
+fn next_edge<'a>(draft: &mut Draft, bytes: &'a [u8]) -> Result<&'a [u8], LineError>
+    ensures { Gives (λ rest. (draft.new, rest.now)) result (with_line draft.old (edge_at bytes.now)) }
+{
+    let (edge, rest) = edge_of(bytes)?;
+    draft.add_edge(edge)?;
+    Ok(rest)
+}
+
+#[tactic(auto, unfolding(crate::specs::Reading::why_at))]
+fn next_why<'a>(
+    draft: &mut Draft,
+    scratch: &mut Scratch,
+    bytes: &'a [u8],
+) -> Result<&'a [u8], LineError>
+    ensures { Gives (λ rest. (draft.new, rest.now)) result (with_line draft.old (why_at bytes.now)) }
+{
+    let Scratch { ases, links, .. } = scratch;
+    let rest = walk_of(ases, links, bytes)?;
+    let walk = WalkRef::new(ases.as_slice(), links.as_slice());
+    draft.add_why(&walk)?;
+    Ok(rest)
+}
+
+fn next_probe<'a>(draft: &mut Draft, bytes: &'a [u8]) -> Result<&'a [u8], LineError>
+    ensures { Gives (λ rest. (draft.new, rest.now)) result (with_line draft.old (probe_at bytes.now)) }
+{
+    let (probe, rest) = probe_of(bytes)?;
+    draft.add_probe(probe)?;
+    Ok(rest)
+}
+
+fn next_end<'a>(draft: &mut Draft, bytes: &'a [u8]) -> Result<&'a [u8], LineError>
+    ensures { Gives (λ rest. (draft.new, rest.now)) result (with_line draft.old (end_at bytes.now)) }
+{
+    let (totals, rest) = end_of(bytes)?;
+    draft.add_end(totals)?;
+    Ok(rest)
+}
+
+/// Reads the line at the prefix into the draft, by its first word, and answers what stands behind it.
+#[tactic(auto, unfolding(crate::specs::Order::next_at, crate::specs::Reading::line_at))]
+pub fn next_line<'a>(
+    draft: &mut Draft,
+    scratch: &mut Scratch,
+    bytes: &'a [u8],
+) -> Result<&'a [u8], LineError>
+    ensures { Gives (λ rest. (draft.new, rest.now)) result (next_at draft.old bytes.now) }
+{
+    if let Some(rest) = after(b"kept|", bytes) {
+        next_kept(draft, scratch, rest)
+    } else if let Some(rest) = after(b"edge|", bytes) {
+        next_edge(draft, rest)
+    } else if let Some(rest) = after(b"why|", bytes) {
+        next_why(draft, scratch, rest)
+    } else if let Some(rest) = after(b"open|", bytes) {
+        next_probe(draft, rest)
+    } else if let Some(rest) = after(b"lost|", bytes) {
+        next_lost(draft, scratch, rest)
+    } else if let Some(rest) = after(b"aside|", bytes) {
+        next_aside(draft, rest)
+    } else if let Some(rest) = after(b"tor|1\n", bytes) {
+        next_version(draft, rest)
+    } else if let Some(rest) = after(b"sets|", bytes) {
+        next_sets(draft, rest)
+    } else if let Some(rest) = after(b"ratio|", bytes) {
+        next_ratio(draft, rest)
+    } else if let Some(rest) = after(b"end|", bytes) {
+        next_end(draft, rest)
+    } else {
+        Err(LineError::Bad)
+    }
+}
