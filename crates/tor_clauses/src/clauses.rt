@@ -53,6 +53,7 @@ impl Clauses {
         ensures triples { IfOk result (λ clauses. clauses.triples ≡ []) }
         ensures fits { IfOk result (FitsGraph graph.now) }
     {
+        let table = TripleTable::new(alloc, keys)?;
         let mut digraph = Digraph::new(alloc);
         match digraph.add_nodes(graph.edge_count() * 2) {
             Ok(()) => {}
@@ -61,7 +62,7 @@ impl Clauses {
         }
         Ok(Clauses {
             paths: Vec::new(alloc),
-            table: TripleTable::new(alloc, keys),
+            table,
             digraph,
         })
     }
