@@ -28,7 +28,7 @@ cat > "$bench/src/main.rt" <<'RUST'
 //! Times of selection and of marking over results.
 #![tactic(auto)]
 
-ghost use Rattle.std.specs.Prelude.{◌≡◌, ◌<◌, All, length, IsTrue};
+ghost use Rattle.std.specs.Prelude.{◌≡◌, All, length, IsTrue};
 ghost use Rattle.relationships.specs.Relationship.{ValleyFree};
 ghost use Rattle.relationships.specs.Graph.{edges, labelling};
 ghost use Rattle.as_graph.specs.Paths.{paths_at};
@@ -39,13 +39,13 @@ use as_graph::{AsGraph, Labels, build};
 use forced_edges::{Marks, forced};
 use path_clean::{MAX_PATHS, PathTable, is_clean_path};
 use path_select::{Selection, select};
-use relationships::{Fates, Mark, Walks};
-use result_text::{EdgeLine, PathLines, ResultFile, parse, print};
+use relationships::{Fate, Mark, Walk};
+use result_text::{EdgeLine, PathLine, ResultFile, parse, print};
 use std::alloc::Global;
 use std::env;
 use std::fs;
 use std::time::CpuClock;
-use tor_arena::{Index, Keys, List, NoMemory, PathId, WalkId};
+use tor_arena::{Keys, List, NoMemory};
 use tor_clauses::Clauses;
 
 /// The processor time so far, in microseconds.
@@ -63,27 +63,21 @@ struct Findings {
     selecting: u128,
     marking: u128,
     triples: usize,
-    fates: Fates,
+    fates: List<Fate>,
     marks: Marks,
 }
 
-/// Adds a path to a table, if it is one that may stand there.
-fn add_path(alloc: Global, table: &mut PathTable, path: &[u32]) -> Result<(), NoMemory> {
-    if !is_clean_path(alloc, path)? {
-        return Ok(());
-    }
-    match table.add(path) {
-        Ok(_) => Ok(()),
-        Err(_) => Err(NoMemory),
-    }
-}
-
 /// A table of the paths.
-fn table_of(alloc: Global, keys: Keys, lines: &PathLines) -> Result<PathTable, NoMemory> {
+fn table_of(alloc: Global, keys: Keys, lines: &[PathLine]) -> Result<PathTable, NoMemory> {
     let mut table = PathTable::new(alloc, keys, MAX_PATHS);
-    for place in 0..lines.len() {
-        let line = lines.get(PathId::from_place(place).unwrap());
-        add_path(alloc, &mut table, line.path())?;
+    for line in lines {
+        let path = line.path.as_slice();
+        if is_clean_path(alloc, path)? {
+            match table.add(path) {
+                Ok(_) => {}
+                Err(_) => return Err(NoMemory),
+            }
+        }
     }
     Ok(table)
 }
@@ -166,7 +160,7 @@ fn measured(
     keys: Keys,
     file: &ResultFile,
 ) -> Result<Option<Findings>, NoMemory> {
-    let table = table_of(alloc, keys, &file.paths)?;
+    let table = table_of(alloc, keys, file.paths.as_slice())?;
     let labels = labels_of(alloc, file.edges.as_slice())?;
     let start = used(clock);
     let graph = build(alloc, keys, table.rows())?;
@@ -175,14 +169,12 @@ fn measured(
 }
 
 /// How many paths have another fate than the result says, and how many are lost.
-fn fates_of(lines: &PathLines, fates: &Fates) -> (usize, usize) {
+fn fates_of(lines: &[PathLine], fates: &[Fate]) -> (usize, usize) {
     let mut other: usize = lines.len().abs_diff(fates.len());
     let mut lost: usize = 0;
-    let count = lines.len().min(fates.len());
-    for place in 0..count {
-        let id = PathId::from_place(place).unwrap();
-        let is_kept = fates.is_kept(id);
-        if lines.get(id).is_kept() != is_kept {
+    for (line, fate) in lines.iter().zip(fates) {
+        let is_kept = matches!(fate, Fate::Kept);
+        if matches!(&line.fate, Fate::Kept) != is_kept {
             other = other.saturating_add(1);
         }
         if !is_kept {
@@ -208,29 +200,15 @@ fn marks_of(lines: &[EdgeLine], marks: &[Mark]) -> (usize, usize) {
     (other, forced)
 }
 
-/// Adds the line at a place with its fate among these.
-fn add_line(
-    lines: &PathLines,
-    fates: &Fates,
-    id: PathId,
-    all: &mut PathLines,
-) -> Result<(), NoMemory>
-    requires line { id < length lines.now }
-    requires fate { id < length fates.now }
-{
-    let line = lines.get(id);
-    match fates.walk(id) {
-        None => all.push_kept(line.times(), line.path()),
-        Some(walk) => all.push_lost(line.times(), line.path(), &walk),
-    }
-}
-
 /// The path lines with these fates.
-fn lines_with(alloc: Global, lines: PathLines, fates: Fates) -> Result<PathLines, NoMemory> {
-    let mut all = PathLines::new(alloc);
-    let count = lines.len().min(fates.len());
-    for place in 0..count {
-        add_line(&lines, &fates, PathId::from_place(place).unwrap(), &mut all)?;
+fn lines_with(
+    alloc: Global,
+    lines: List<PathLine>,
+    fates: List<Fate>,
+) -> Result<List<PathLine>, NoMemory> {
+    let mut all = List::new(alloc);
+    for (line, fate) in lines.into_vec().into_iter().zip(fates.into_vec()) {
+        all.push(PathLine { fate, ..line })?;
     }
     Ok(all)
 }
@@ -255,7 +233,7 @@ fn marked_lines(
 fn with_ours(
     alloc: Global,
     file: ResultFile,
-    fates: Fates,
+    fates: List<Fate>,
     marks: Marks,
 ) -> Result<ResultFile, NoMemory> {
     let edges = marked_lines(alloc, file.edges.as_slice(), marks.marks.as_slice())?;
@@ -296,21 +274,20 @@ struct Outcome {
 }
 
 /// The number of ASes of the longest walk, and of all walks.
-fn lengths(walks: &Walks) -> (usize, u64) {
+fn lengths(walks: &[Walk]) -> (usize, u64) {
     let mut longest = 0;
     let mut sum = 0u64;
-    for place in 0..walks.len() {
-        let count = walks.ases(WalkId::from_place(place).unwrap()).len();
-        longest = longest.max(count);
-        sum = sum.saturating_add(count as u64);
+    for walk in walks {
+        longest = longest.max(walk.ases.len());
+        sum = sum.saturating_add(walk.ases.len() as u64);
     }
     (longest, sum)
 }
 
 fn numbers_of(file: &ResultFile, all: &Findings) -> Numbers {
-    let (other_fates, lost) = fates_of(&file.paths, &all.fates);
+    let (other_fates, lost) = fates_of(file.paths.as_slice(), all.fates.as_slice());
     let (other_marks, forced) = marks_of(file.edges.as_slice(), all.marks.marks.as_slice());
-    let (longest, ases) = lengths(&all.marks.whys);
+    let (longest, ases) = lengths(all.marks.whys.as_slice());
     Numbers {
         building: all.building,
         selecting: all.selecting,

@@ -53,7 +53,6 @@ impl Clauses {
         ensures triples { IfOk result (λ clauses. clauses.triples ≡ []) }
         ensures fits { IfOk result (FitsGraph graph.now) }
     {
-        let table = TripleTable::new(alloc, keys)?;
         let mut digraph = Digraph::new(alloc);
         match digraph.add_nodes(graph.edge_count() * 2) {
             Ok(()) => {}
@@ -62,7 +61,7 @@ impl Clauses {
         }
         Ok(Clauses {
             paths: Vec::new(alloc),
-            table,
+            table: TripleTable::new(alloc, keys),
             digraph,
         })
     }

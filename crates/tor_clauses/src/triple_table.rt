@@ -2,7 +2,6 @@ ghost use Rattle.std.specs.Prelude.{◌≡◌, ◌<◌, ◌≤◌, ◌↔◌, �
 ghost use Rattle.tor_clauses.specs.Tables.{HasNodes, IsSatisfied, IsAdded, key_of};
 
 use crate::lit::Lit;
-use crate::recent::Recent;
 use crate::triple::Triple;
 use indexmap::IndexSet;
 use relationships::End;
@@ -16,34 +15,29 @@ pub(crate) struct TripleTable {
     triples: Arena<TripleId, Triple>,
     // for each triple the pair of nodes that it shares with its reverse
     known: IndexSet<(NodeId, NodeId), Keys>,
-    // some of these pairs, those that were looked up lately
-    recent: Recent,
 }
 
 impl Model for TripleTable {
     ghost use Rattle.std.specs.Prelude.{List};
     ghost use Rattle.tor_clauses.specs.declared.triple.Triple.{Triple};
     ghost use Rattle.tor_clauses.specs.Tables.{IsKnown};
-    ghost use Rattle.tor_clauses.specs.Recents.{AreKnown};
 
     ghost Value = { List Triple };
 
     ghost view = { λ table. table.triples.items };
 
-    ghost invariant = { λ table. IsKnown table.known.keys table.triples.items × AreKnown table.recent table.known.keys };
+    ghost invariant = { λ table. IsKnown table.known.keys table.triples.items };
 }
 
 impl TripleTable {
-    /// No triples, in a table with these keys. The only error is that memory ran out.
-    pub fn new(alloc: Global, keys: Keys) -> Result<TripleTable, NoMemory>
-        ensures { IfOk result (λ table. table ≡ []) }
+    /// No triples, in a table with these keys. It takes no memory.
+    pub fn new(alloc: Global, keys: Keys) -> TripleTable
+        ensures { result ≡ [] }
     {
-        let recent = Recent::new(alloc)?;
-        Ok(TripleTable {
+        TripleTable {
             triples: Arena::new(alloc),
             known: IndexSet::with_hasher(alloc, keys),
-            recent,
-        })
+        }
     }
 
     /// How many triples there are. It takes no memory.
@@ -88,13 +82,8 @@ impl TripleTable {
         ensures ok { IfOk result (λ is_new. IsAdded triple self.old self.new is_new) }
         ensures err { OnErr result (self.new ≡ self.old) }
     {
-        let (first, second) = key(&triple);
-        if self.recent.has(first, second) {
-            return Ok(false);
-        }
         self.triples.reserve(1)?;
-        let is_new = self.known.insert((first, second))?;
-        self.recent.put(first, second);
+        let is_new = self.known.insert(key(&triple))?;
         if is_new {
             self.triples.push_reserved(triple);
         }
@@ -106,12 +95,6 @@ impl TripleTable {
         requires { count ≤ length self.old }
         ensures { self.new ≡ take count self.old }
     {
-        let mut left = self.triples.len();
-        while left > count {
-            left -= 1;
-            let (first, second) = key(self.triples.get(TripleId::from_place(left).unwrap()));
-            self.recent.forget(first, second);
-        }
         self.triples.cut_to(count);
         self.known.truncate(count);
     }
