@@ -138,7 +138,7 @@ fn measured_graph(
     building: u128,
 ) -> Result<Option<Findings>, NoMemory> {
     let start = used(clock);
-    let Selection { offers, selector } = select(alloc, keys, graph)?;
+    let Selection { fates, selector } = select(alloc, keys, graph)?;
     let end = used(clock);
     match marked(clock, alloc, graph, selector.clauses(), labels)? {
         Some((marks, marking)) => Ok(Some(Findings {
@@ -146,7 +146,7 @@ fn measured_graph(
             selecting: end.saturating_sub(start),
             marking,
             triples: selector.clauses().mark().triples,
-            fates: offers,
+            fates,
             marks,
         })),
         None => Ok(None),

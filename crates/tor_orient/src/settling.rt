@@ -10,17 +10,19 @@ use gao_prefs::Pref;
 use std::alloc::Global;
 use tor_arena::{ArcId, NoMemory, NodeId};
 use tor_clauses::{Clauses, Lit, opposite};
-use tor_digraph::Reached;
+use tor_digraph::{Reached, RowDigraph};
 
 /// Settles an edge, with all that follows: by the literal that is wanted, or by the opposite one, where the wanted one leads to that.
 /// What is settled stays so, and nothing is done where the edge was settled before. The other memory is for the search, which does not
 /// go on past what is settled.
 fn settle(
     clauses: &Clauses,
+    rows: &RowDigraph<'_, NodeId, ArcId>,
     pref: &Pref,
     tried: &mut Reached<NodeId, ArcId>,
     settled: &mut Reached<NodeId, ArcId>,
 ) -> Result<(), NoMemory>
+    requires rows { rows.now ≡ clauses.now.net }
     requires few { pref.now.edge < 2 ^ 27 }
     requires there { node_wanted pref.now < clauses.now.net.nodes }
     requires closed { IsClosed clauses.now.net settled.old }
@@ -41,7 +43,7 @@ fn settle(
     }
     let digraph = clauses.digraph();
     digraph.reach_none_again(tried)?;
-    digraph.reach_near_to(node, other, settled, tried)?;
+    rows.reach_near_to(node, other, settled, tried)?;
     if tried.has(other) {
         return digraph.reach_more(other, settled);
     }
@@ -62,10 +64,11 @@ pub(crate) fn settle_all(
 {
     graph.facts();
     clauses.facts();
+    let rows = clauses.digraph().in_rows(alloc)?;
     let mut tried = clauses.digraph().reach_none(alloc)?;
     let mut settled = clauses.digraph().reach_none(alloc)?;
     for place in 0..prefs.len() {
-        settle(clauses, &prefs[place], &mut tried, &mut settled)?;
+        settle(clauses, &rows, &prefs[place], &mut tried, &mut settled)?;
     }
     Ok(settled)
 }

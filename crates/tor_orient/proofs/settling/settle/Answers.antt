@@ -1,4 +1,4 @@
-use Rattle.std.proofs.Common.{◌≡◌, inl, inr, sym, ap, ◌∙◌, subst, Contains}
+use Rattle.std.proofs.Common.{◌≡◌, ◌<◌, inl, inr, sym, ap, ◌∙◌, subst, Contains}
 use Rattle.std.proofs.lemmas.Bool.{false≢true}
 use Rattle.std.proofs.lemmas.Result.{on_ok_weaker}
 use Rattle.tor_digraph.specs.Reached.{IsFlooded, IsGrown}
@@ -8,10 +8,14 @@ use Rattle.tor_orient.proofs.Settled.{found_way, no_way}
 use Rattle.tor_orient.proofs.settling.settle.Goals as goal
 
 pub reach_near_to-requires-clause-flooded : goal.reach_near_to-requires-clause-flooded
-reach_near_to-requires-clause-flooded c = c.in_ok-reach_none_again.ensures.flooded c.args.settled.now.nodes
+reach_near_to-requires-clause-flooded c =
+    subst (λ n. IsFlooded (λ n. n) (λ a. a) n.nodes n.arcs c.args.settled.now.nodes c.reach_none_again.new.reached) (c.digraph-digraph.ensures ∙ sym c.requires.rows)
+    (c.in_ok-reach_none_again.ensures.flooded c.args.settled.now.nodes)
 
 pub reach_more-requires-clause-start : goal.reach_more-requires-clause-start
-reach_more-requires-clause-start c = c.in_ok-reach_near_to.ensures.some.inside c.opposite-other.result (c.has-3.ensures.0 c.if-has-3.true)
+reach_more-requires-clause-start c =
+    subst (λ n. c.opposite-other.result < n.nodes) (c.requires.rows ∙ sym c.digraph-digraph.ensures)
+    (c.in_ok-reach_near_to.ensures.some.inside c.opposite-other.result (c.has-3.ensures.0 c.if-has-3.true))
 
 pub returns-then-has-3-clause-settled : goal.returns-then-has-3-clause-settled
 returns-then-has-3-clause-settled c =
@@ -23,8 +27,8 @@ returns-then-has-3-clause-settled c =
     let other_is : c.opposite-other.result ≡ opposite_node node = c.opposite-other.ensures ∙ ap opposite_node node_is in
     let unwanted = subst (λ n. Contains old n → ⊥) node_is (λ h. false≢true (sym c.if-has.false ∙ c.has.ensures.1 h)) in
     let unsettled = subst (λ n. Contains old n → ⊥) other_is (λ h. false≢true (sym c.if-has-2.false ∙ c.has-2.ensures.1 h)) in
-    let grown = subst (λ n. IsGrown n.arcs node c.reach_none_again.new.reached.nodes found) c.digraph-digraph.ensures
-    (subst (λ n. IsGrown net.arcs n c.reach_none_again.new.reached.nodes found) node_is c.in_ok-reach_near_to.ensures.grown) in
+    let grown = subst (λ n. IsGrown n.arcs node c.reach_none_again.new.reached.nodes found) c.requires.rows
+    (subst (λ n. IsGrown c.args.rows.now.arcs n c.reach_none_again.new.reached.nodes found) node_is c.in_ok-reach_near_to.ensures.grown) in
     let way =
     found_way c.args.clauses.now.net.arcs node c.reach_none_again.new.reached.nodes found c.in_ok-reach_none_again.ensures.nodes grown
     (opposite_node node) (subst (Contains found) other_is (c.has-3.ensures.0 c.if-has-3.true)) in
@@ -52,7 +56,7 @@ returns-clause-settled c =
     let unwanted = subst (λ n. Contains old n → ⊥) node_is (λ h. false≢true (sym c.if-has.false ∙ c.has.ensures.1 h)) in
     let unsettled = subst (λ n. Contains old n → ⊥) other_is (λ h. false≢true (sym c.if-has-2.false ∙ c.has-2.ensures.1 h)) in
     let not_found : Contains tried.nodes c.opposite-other.result → ⊥ = λ h. false≢true (sym c.if-has-3.false ∙ c.has-3.ensures.1 h) in
-    let near = subst (λ n. IsFlooded (λ n. n) (λ a. a) n.nodes n.arcs old tried) c.digraph-digraph.ensures (c.in_ok-reach_near_to.ensures.flooded not_found) in
+    let near = subst (λ n. IsFlooded (λ n. n) (λ a. a) n.nodes n.arcs old tried) c.requires.rows (c.in_ok-reach_near_to.ensures.flooded not_found) in
     let apart =
     no_way c.args.clauses.now settled tried node c.requires.closed near
     (subst (Contains tried.nodes) node_is c.in_ok-reach_near_to.ensures.grown.has_start)

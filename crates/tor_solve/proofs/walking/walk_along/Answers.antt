@@ -5,6 +5,6 @@ use Rattle.tor_solve.proofs.walking.walk_along.Goals as goal
 
 pub returns : goal.returns
 returns c = λ to a b way says.
-    let first = c.in_ok-walk.ensures in
+    let first = c.in_ok-begin.ensures in
     c.in_ok-follow.ensures.leads c.args.start to way a b
-    (begun (numbered c.args.graph.now c.args.clauses.now.paths) (edges c.args.graph.now) c.args.start first.0 first.1 c.in_ok-walk.walk first.2 first.3 a b says)
+    (begun (numbered c.args.graph.now c.args.clauses.now.paths) (edges c.args.graph.now) c.args.start first.0 first.1 c.begin.new.walk first.2 first.3 a b says)

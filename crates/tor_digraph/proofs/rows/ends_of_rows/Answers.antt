@@ -1,0 +1,75 @@
+use Rattle.std.proofs.Common.{rules, ◌≡◌, ◌+◌, Some, set, sym, subst, arith, refl}
+use Rattle.std.specs.Prelude.{slice_get}
+use Rattle.tor_digraph.proofs.Filling.{AreCounted, counting-next, counting-few, summing-begins, summing-next, summing-few}
+use Rattle.tor_digraph.proofs.Gets.{slice_get-lt}
+use Rattle.tor_digraph.proofs.Floods.{read-at}
+use Rattle.tor_digraph.proofs.rows.ends_of_rows.Goals as goal
+
+pub overflow_add-index_mut : goal.overflow_add-index_mut
+overflow_add-index_mut g c =
+    let arcs = c.args.graph.now.arcs in
+    let ends = c.loop-place.ends.items in
+    let place = c.loop-place.place in
+    let same : g.A.Index.place_of c.unwrap.result ≡ place = search rules in
+    let arc = subst (λ k. slice_get arcs k ≡ Some c.ends-tail.result) same c.ends-tail.ensures.arc in
+    let many = c.loop-place.invariant.many in
+    let below = c.ends-tail.ensures.tail in
+    let tail = c.place.ensures.place in
+    let at = read-at ends ends c.place.result c.index_mut.result.now refl c.index_mut.ensures.value (omega (arith, many, below, tail)) in
+    let few = counting-few g.N.Index.place_of arcs c.args.graph.now.nodes place ends c.ends-tail.result c.index_mut.result.now c.loop-place.invariant arc
+    (subst (λ p. slice_get ends p ≡ Some c.index_mut.result.now) tail at) in
+    let all = c.arc_count-place-end.ensures in
+    let short = g.met.A.Index.is_short in
+    let most = all.below in
+    record { fits = omega (arith, few, short, most) }
+
+pub loop-place-preserved : goal.loop-place-preserved
+loop-place-preserved g c =
+    let arcs = c.args.graph.now.arcs in
+    let ends = c.loop-place.ends.items in
+    let place = c.loop-place.place in
+    let same : g.A.Index.place_of c.unwrap.result ≡ place = search rules in
+    let arc = subst (λ k. slice_get arcs k ≡ Some c.ends-tail.result) same c.ends-tail.ensures.arc in
+    let many = c.loop-place.invariant.many in
+    let below = c.ends-tail.ensures.tail in
+    let tail = c.place.ensures.place in
+    let at = read-at ends ends c.place.result c.index_mut.result.now refl c.index_mut.ensures.value (omega (arith, many, below, tail)) in
+    subst (λ p. AreCounted g.N.Index.place_of arcs c.args.graph.now.nodes (place + 1) (set ends p (c.index_mut.result.now + 1))) (sym tail)
+    (counting-next g.N.Index.place_of arcs c.args.graph.now.nodes place ends c.ends-tail.result c.index_mut.result.now c.loop-place.invariant arc
+    (subst (λ p. slice_get ends p ≡ Some c.index_mut.result.now) tail at))
+
+pub loop-place-2-init : goal.loop-place-2-init
+loop-place-2-init g c =
+    let test = c.loop-place-test.false in
+    let all = c.arc_count-place-end.ensures.arcs in
+    summing-begins g.N.Index.place_of c.args.graph.now.arcs c.args.graph.now.nodes c.loop-place.place c.loop-place.ends.items c.loop-place.invariant (omega (arith, test, all))
+
+pub overflow_add-sum : goal.overflow_add-sum
+overflow_add-sum g c =
+    let ends = c.loop-place-2.ends.items in
+    let place = c.loop-place-2.place in
+    let test = c.loop-place-2-test.true in
+    let end = c.loop-place-2.auto.place-end in
+    let at = read-at ends ends place c.index.result.now refl c.index.ensures (omega (arith, test, end)) in
+    let few = summing-few g.N.Index.place_of c.args.graph.now.arcs c.args.graph.now.nodes place c.loop-place-2.sum ends c.index.result.now c.loop-place-2.invariant at in
+    let short = g.met.A.Index.is_short in
+    let most = c.arc_count-place-end.ensures.below in
+    record { fits = omega (arith, few, short, most) }
+
+pub loop-place-2-preserved : goal.loop-place-2-preserved
+loop-place-2-preserved g c =
+    let ends = c.loop-place-2.ends.items in
+    let place = c.loop-place-2.place in
+    let test = c.loop-place-2-test.true in
+    let end = c.loop-place-2.auto.place-end in
+    let at = read-at ends ends place c.index.result.now refl c.index.ensures (omega (arith, test, end)) in
+    summing-next g.N.Index.place_of c.args.graph.now.arcs c.args.graph.now.nodes place c.loop-place-2.sum ends c.index.result.now c.loop-place-2.invariant at
+
+pub returns-clause-ends : goal.returns-clause-ends
+returns-clause-ends g c =
+    let test = c.loop-place-2-test.false in
+    let end = c.loop-place-2.auto.place-end in
+    λ u n at. c.loop-place-2.invariant.summed u n (
+    let lt = slice_get-lt c.loop-place-2.ends.items u n at in
+    omega (arith, lt, test, end)
+    ) at
