@@ -12,7 +12,7 @@ use crate::labelling::labels_of;
 use as_graph::{AsGraph, Labels};
 use forced_edges::{Marks, forced};
 use path_select::Selector;
-use relationships::{Probe, Walk, Walks};
+use relationships::{Probe, Walks};
 use result_text::EdgeLine;
 use std::alloc::Global;
 use tor_arena::{List, NoMemory};
@@ -26,17 +26,6 @@ pub(crate) struct Found {
     pub whys: Walks,
     /// Orders that show that edges are open.
     pub probes: List<Probe>,
-}
-
-// Copies of the walks, kept together.
-fn kept_together(alloc: Global, walks: &[Walk]) -> Result<Walks, NoMemory>
-    ensures { IfOk result (λ kept. kept ≡ walks.now) }
-{
-    let mut kept = Walks::new(alloc);
-    for walk in walks {
-        kept.push(walk.ases.as_slice(), walk.links.as_slice())?;
-    }
-    Ok(kept)
 }
 
 // The marks of the edges, where the paths that the selector has kept are kept.
@@ -82,10 +71,9 @@ pub(crate) fn found_in(
     let supports = supports_of(alloc, graph, selector)?;
     let marks = found.marks.as_slice();
     let edges = edge_lines(alloc, graph, &labels, marks, supports.as_slice())?;
-    let whys = kept_together(alloc, found.whys.as_slice())?;
     Ok(Found {
         edges,
-        whys,
+        whys: found.whys,
         probes: found.probes,
     })
 }

@@ -15,7 +15,6 @@ returns c =
     let labels = c.in_ok-labels.labels in
     let found = c.in_ok-found.found in
     let lines = c.in_ok-edges.edges in
-    let whys = c.in_ok-whys.ensures ∙ c.as_slice-2.ensures in
     record {
       labels = labels;
       marks = found.marks;
@@ -26,7 +25,7 @@ returns c =
       free = c.in_ok-labels.ensures.valley_free;
       counted = c.in_ok-supports.ensures;
       exact = c.in_ok-found.ensures.marks;
-      borne = subst (λ (ws : List Walk). MarksHold (numbered graph places) (claims_of (edges graph) labels found.marks) ws (orders_of found.probes)) (sym whys) c.in_ok-found.ensures.evidence;
+      borne = c.in_ok-found.ensures.evidence;
       either_way = c.in_ok-labels.ensures.either_way;
       none_left_out = c.in_ok-labels.ensures.none_left_out;
     }
