@@ -18,20 +18,21 @@ fn bucket_of(seed: u64, many: usize, row: &[u32]) -> usize
     (hash_of(seed, row) % many as u64) as usize
 }
 
-/// Whether the row in a place stands before it too. Its bucket's rows before it end at `start`, and `older` says for each of
-/// them where the earlier ones end.
+/// Whether the row in a place stands before it too. Of so many buckets its own has rows before it up to `start`, and `older` says
+/// for each of them where the earlier ones end.
 fn stands_before(
     rows: &Rows<PathId, u32>,
     seed: u64,
+    many: usize,
     older: &[u32],
     start: usize,
     place: usize,
 ) -> bool
     requires place { place < length rows.now }
     requires few { length rows.now ≤ most_places }
-    requires many { length older.now ≡ place }
-    requires linked { AreLinked seed (length rows.now) rows.now older.now place }
-    requires ends { EndsIn seed (length rows.now) rows.now (bucket seed (length rows.now) (row_at rows.now place)) start place }
+    requires passed { length older.now ≡ place }
+    requires linked { AreLinked seed many rows.now older.now place }
+    requires ends { EndsIn seed many rows.now (bucket seed many (row_at rows.now place)) start place }
     ensures { IsTrue result ↔ Repeats rows.now place }
 {
     let row = row_of(rows, place);
@@ -57,13 +58,15 @@ pub fn first_repeated(
 {
     let seed = seed_of(keys);
     let count = rows.len();
-    let mut newest = vec![in alloc; 0u32; count]?;
+    // with two buckets a row, few rows share one
+    let many = 2 * count;
+    let mut newest = vec![in alloc; 0u32; many]?;
     let mut older = Vec::new(alloc);
     older.reserve(count)?;
     for place in 0..count {
-        let key = bucket_of(seed, count, row_of(rows, place));
+        let key = bucket_of(seed, many, row_of(rows, place));
         let start = newest[key];
-        if stands_before(rows, seed, older.as_slice(), start as usize, place) {
+        if stands_before(rows, seed, many, older.as_slice(), start as usize, place) {
             return Ok(Some(place));
         }
         older.push(start)?;

@@ -1,4 +1,4 @@
-use Rattle.std.proofs.Common.{◌≡◌, ◌∙◌, ◌+◌, ◌<◌, ◌++◌, ◌∷◌, [], length, slice_index, inl, inr, ap, ap₂, sym, subst, rules, arith, length-append}
+use Rattle.std.proofs.Common.{◌≡◌, ◌∙◌, ◌+◌, ◌*◌, ◌<◌, ◌++◌, ◌∷◌, [], length, slice_index, inl, inr, ap, sym, subst, rules, arith, length-append}
 use Rattle.std.proofs.lemmas.Bool.{both_ways, cases_lt}
 use Rattle.std.proofs.lemmas.List.{get_or_default, length-set}
 use Rattle.path_clean.specs.Chains.{row_at}
@@ -10,7 +10,7 @@ pub loop-place-preserved : goal.loop-place-preserved
 loop-place-preserved c =
     let rows = c.args.rows.now in
     let seed = c.seed_of-seed.result in
-    let many = length rows in
+    let many = 2 * c.len-count.result in
     let place = c.loop-place.place in
     let newest = c.loop-place.newest.items in
     let older = c.loop-place.older.items in
@@ -18,9 +18,8 @@ loop-place-preserved c =
     let start = c.index-start.result.now in
     let inv = c.loop-place.invariant in
     let count = c.len-count.ensures.length in
-    let key_is : key ≡ bucket seed many (row_at rows place) = c.bucket_of-key.ensures.bucket ∙ ap₂ (bucket seed) count c.row_of.ensures in
-    let lt = c.bucket_of-key.ensures.below in
-    let below : key < many = omega (arith, lt, count) in
+    let key_is : key ≡ bucket seed many (row_at rows place) = c.bucket_of-key.ensures.bucket ∙ ap (bucket seed many) c.row_of.ensures in
+    let below : key < many = c.bucket_of-key.ensures.below in
     let long = inv.buckets in
     let within : key < length newest = omega (arith, below, long) in
     let start_is : start ≡ slice_index newest key = c.index-start.ensures ∙ get_or_default newest key start 0 within in

@@ -4,9 +4,9 @@ use Rattle.path_clean.proofs.repeats.first_repeated.Given as goal
 
 abbrev pub invariant-loop-place : goal.invariant-loop-place
 invariant-loop-place l = record {
-  buckets : length l.newest.items ≡ length l.rows;
+  buckets : length l.newest.items ≡ l.many;
   passed : length l.older.items ≡ l.place;
-  linked : AreLinked l.seed (length l.rows) l.rows l.older.items l.place;
-  newest : AreNewest l.seed (length l.rows) l.rows l.newest.items l.place;
+  linked : AreLinked l.seed l.many l.rows l.older.items l.place;
+  newest : AreNewest l.seed l.many l.rows l.newest.items l.place;
   before : (j : ℕ) → j < l.place → Repeats l.rows j → ⊥;
 }
