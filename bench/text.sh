@@ -20,10 +20,10 @@ cat > "$copy/crates/text_bench/src/main.rt" <<'RUST'
 
 use anyhow::Result;
 use path_clean::{Asides, Sets};
-use result_text::{EdgeLine, Mark, Fate, PathLine, ResultFile, Totals, parse, print};
+use result_text::{EdgeLine, Mark, PathLines, ResultFile, Totals, parse, print};
 use std::alloc::Global;
 use std::time::Instant;
-use relationships::Label;
+use relationships::{Label, Walks};
 use tor_arena::{List, NoMemory};
 
 /// Numbers as AS numbers are: of one to six digits, most of five or six.
@@ -31,16 +31,16 @@ fn number(place: u32) -> u32 {
     place.wrapping_mul(2654435761) % 400_000
 }
 
-fn path(alloc: Global, place: u32) -> Result<PathLine, NoMemory> {
-    let mut path = List::new(alloc);
-    for step in 0..6u32 {
-        path.push(number(place.wrapping_mul(7).wrapping_add(step)))?;
-    }
-    Ok(PathLine {
-        times: u64::from(place),
-        path,
-        fate: Fate::Kept,
-    })
+fn path(place: u32) -> [u32; 6] {
+    let first = place.wrapping_mul(7);
+    [
+        number(first),
+        number(first.wrapping_add(1)),
+        number(first.wrapping_add(2)),
+        number(first.wrapping_add(3)),
+        number(first.wrapping_add(4)),
+        number(first.wrapping_add(5)),
+    ]
 }
 
 fn edge(place: u32) -> EdgeLine {
@@ -54,9 +54,9 @@ fn edge(place: u32) -> EdgeLine {
 }
 
 fn made(alloc: Global, count: u32) -> Result<ResultFile, NoMemory> {
-    let mut paths = List::new(alloc);
+    let mut paths = PathLines::new(alloc);
     for place in 0..count {
-        paths.push(path(alloc, place)?)?;
+        paths.push_kept(u64::from(place), &path(place))?;
     }
     let mut edges = List::new(alloc);
     for place in 0..count / 2 {
@@ -68,7 +68,7 @@ fn made(alloc: Global, count: u32) -> Result<ResultFile, NoMemory> {
         asides: Asides::new(),
         paths,
         edges,
-        whys: List::new(alloc),
+        whys: Walks::new(alloc),
         probes: List::new(alloc),
         totals: Totals {
             kept: 0,

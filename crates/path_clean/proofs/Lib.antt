@@ -5,3 +5,4 @@ pub mod ChainLemmas
 pub mod TableLemmas
 pub mod GraphPaths
 pub mod CountingLemmas
+pub mod RepeatLemmas

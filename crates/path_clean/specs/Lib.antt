@@ -6,3 +6,4 @@ pub mod Rows
 pub mod Inside
 pub mod Table
 pub mod Chains
+pub mod Repeats

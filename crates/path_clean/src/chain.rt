@@ -6,7 +6,7 @@ use std::hash::BuildHasher;
 use tor_arena::{Index, Keys, PathId, Rows};
 
 /// The row of a place.
-fn row_of(rows: &Rows<PathId, u32>, place: usize) -> &[u32]
+pub(crate) fn row_of(rows: &Rows<PathId, u32>, place: usize) -> &[u32]
     requires there { place < length rows.now }
     requires few { length rows.now ≤ 268435456 }
     ensures { result.now ≡ row_at rows.now place }

@@ -1,10 +1,11 @@
 use crate::{
-    AddRefused, Added, Asides, Cause, Cleaned, PathTable, Sets, clean, is_clean_path, is_cleaned,
+    AddRefused, Added, Asides, Cause, Cleaned, PathTable, Sets, clean, first_repeated,
+    is_clean_path, is_cleaned,
 };
 use path_attrs::{Width, attributes};
 use std::alloc::{AllocError, Global};
 use std::test::Fail;
-use tor_arena::{Index, Keys, List, PathId};
+use tor_arena::{Index, Keys, List, PathId, Rows};
 
 /// A block of attributes, with AS numbers of two octets, and what it is cleaned to.
 struct Case {
@@ -232,4 +233,29 @@ fn asides_of_counts(rt: HostRuntime) {
     for (cause, count) in counts {
         assert_eq!(rt; asides.get(cause), count);
     }
+}
+
+/// Rows of which the fourth is the second again.
+static ROWS: [&'static [u32]; 5] = [&[10, 20], &[20, 10], &[], &[20, 10], &[10, 20]];
+
+fn add_rows(rows: &mut Rows<PathId, u32>) -> bool {
+    for row in ROWS {
+        if rows.push_row(row).is_err() {
+            return false;
+        }
+    }
+    true
+}
+
+#[test]
+fn the_first_row_that_stands_twice(rt: HostRuntime) -> Result<(), Fail> {
+    let keys = Keys::new(&rt);
+    let mut rows = Rows::new(rt.alloc());
+    assert_eq!(rt; first_repeated(rt.alloc(), keys, &rows)?, None);
+    assert!(rt; add_rows(&mut rows));
+    assert_eq!(rt; first_repeated(rt.alloc(), keys, &rows)?, Some(3));
+    assert_eq!(rt; rows.len(), 5);
+    rows.cut_to(3);
+    assert_eq!(rt; first_repeated(rt.alloc(), keys, &rows)?, None);
+    Ok(())
 }

@@ -45,17 +45,20 @@ same-place es e j k once j_within k_within at_j at_k =
     both : {f g : Edge} → f ≡ e → g ≡ e → is_same f g ≡ true
     both p q = rw (p, q) (is_same-self e)
 
--- the place that a search finds is the only one
+-- the place where an edge stands is the only one
+pub only_from_found : (es : List Edge) (e : Edge) (j : ℕ) → slice_get es j ≡ Some e → IsDistinct is_same es → (k : ℕ) → k < length es →
+    IsTrue (is_same e (edge_at es k)) ↔ (Some j ≡ Some k)
+only_from_found es e j found once k within =
+    let at_j : edge_at es j ≡ e = get_or_from_slice_get es j e (0, 0) found in
+    let j_within = slice_get_within es j e found in (
+      λ t. ap (λ (i : ℕ). Some i) (same-place es e j k once j_within within at_j (sym (same_edge e (edge_at es k) t))),
+      λ s. ap (is_same e) (ap (edge_at es) (sym (same_Some j k s)) ∙ at_j) ∙ is_same-self e,
+    )
+
 pub only_from_position : (es : List Edge) (e : Edge) (r : Option ℕ) → r ≡ position (is_same e) es → IsDistinct is_same es → (k : ℕ) → k < length es →
     IsTrue (is_same e (edge_at es k)) ↔ (r ≡ Some k)
 only_from_position es e None h once k within = (
   λ t. absurd (found_from_position es e None h (k, within, get_or_default es k e (0, 0) within ∙ sym (same_edge e (edge_at es k) t))),
   λ n. absurd (none-some k n),
 )
-only_from_position es e (Some j) h once k within =
-    let found : slice_get es j ≡ Some e = found_from_position es e (Some j) h in
-    let at_j : edge_at es j ≡ e = get_or_from_slice_get es j e (0, 0) found in
-    let j_within = slice_get_within es j e found in (
-      λ t. ap (λ (i : ℕ). Some i) (same-place es e j k once j_within within at_j (sym (same_edge e (edge_at es k) t))),
-      λ s. ap (is_same e) (ap (edge_at es) (sym (same_Some j k s)) ∙ at_j) ∙ is_same-self e,
-    )
+only_from_position es e (Some j) h once k within = only_from_found es e j (found_from_position es e (Some j) h) once k within

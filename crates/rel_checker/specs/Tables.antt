@@ -1,10 +1,8 @@
 -- The edges that a table holds, in the order in which they were added, and counts for them.
-use Rattle.std.specs.Prelude.{◌≡◌, ℕ, ◌+◌, ◌<◌, Bool, true, false, List, [], ◌∷◌, ◌++◌, length, map, filter, slice_index, slice_index_or, if◌then◌else◌}
+use Rattle.std.specs.Prelude.{◌≡◌, ℕ, ◌+◌, ◌<◌, List, [], ◌∷◌, ◌++◌, length, map, filter, slice_index, slice_index_or, if◌then◌else◌}
 use Rattle.std.specs.List.{list_any}
 use Rattle.relationships.specs.Relationship.{Labelling}
 use Rattle.relationships.specs.Graph.{Edge, is_same, labelling}
-use Rattle.path_clean.specs.declared.table.Added.{Added}
-use Rattle.path_clean.specs.declared.table.Added.TheVariants.{Known, New}
 use Rattle.result_text.specs.declared.file.EdgeLine.{EdgeLine}
 use Rattle.result_text.specs.declared.file.PathLine.{PathLine}
 use Rattle.relationships.specs.Fates.{is_kept}
@@ -30,11 +28,6 @@ AreCounts es many counts =
 -- the kept paths of the lines
 abbrev pub kept_in : List PathLine → List (List ℕ)
 kept_in lines = map (λ p. p.path) (filter (λ p. is_kept p.fate) lines)
-
--- the path was not there before
-abbrev pub is_new : Added → Bool
-is_new (Known id) = false
-is_new (New id) = true
 
 -- the labelling that edge lines give
 abbrev pub labels_in : List EdgeLine → Labelling

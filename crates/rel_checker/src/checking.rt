@@ -34,11 +34,11 @@ pub fn check_file(alloc: Global, keys: Keys, file: &ResultFile) -> Result<Answer
     if let Some(answer) = check_paths(alloc, keys, file)? {
         return Ok(answer);
     }
-    let table = list_edges(alloc, keys, file)?;
-    if let Some(answer) = check_edges(alloc, file, &table)? {
+    let (table, hints) = list_edges(alloc, keys, file)?;
+    if let Some(answer) = check_edges(alloc, file, &table, hints.as_slice())? {
         return Ok(answer);
     }
-    if let Some(answer) = check_evidence(alloc, keys, file, &table)? {
+    if let Some(answer) = check_evidence(alloc, keys, file, &table, hints.as_slice())? {
         return Ok(answer);
     }
     Ok(check_totals(file))
@@ -69,6 +69,7 @@ fn check_edges(
     alloc: Global,
     file: &ResultFile,
     table: &EdgeTable,
+    hints: &[u32],
 ) -> Result<Option<Answer>, NoMemory>
     requires lines { HasFewLines file.now }
     requires met { MetUpTo file.now 4 }
@@ -78,10 +79,10 @@ fn check_edges(
     if let Some(place) = find_unlisted(file, table) {
         return Ok(Some(no(edge_line(file, place), Rule::EdgesListed)));
     }
-    if let Some(place) = find_valley(file, table) {
+    if let Some(place) = find_valley(file, table, hints) {
         return Ok(Some(no(path_line(place), Rule::KeptValleyFree)));
     }
-    match find_miscounted(alloc, file, table)? {
+    match find_miscounted(alloc, file, table, hints)? {
         Some(place) => Ok(Some(no(edge_line(file, place), Rule::SupportCounted))),
         None => Ok(None),
     }
@@ -93,6 +94,7 @@ fn check_evidence(
     keys: Keys,
     file: &ResultFile,
     table: &EdgeTable,
+    hints: &[u32],
 ) -> Result<Option<Answer>, NoMemory>
     requires lines { HasFewLines file.now }
     requires met { MetUpTo file.now 7 }
@@ -102,7 +104,7 @@ fn check_evidence(
     if let Some(place) = find_unshown(alloc, keys, file)? {
         return Ok(Some(no(why_line(file, place), Rule::OrdersShown)));
     }
-    match find_unmarked(alloc, file, table)? {
+    match find_unmarked(alloc, file, table, hints)? {
         Some(place) => Ok(Some(no(mark_line(file, place), Rule::MarksBorneOut))),
         None => Ok(None),
     }

@@ -7,36 +7,39 @@ ghost use Rattle.rel_checker.specs.Tables.{with_edge};
 ghost use Rattle.rel_checker.specs.Verdict.{Finds};
 
 use crate::edge_table::EdgeTable;
+use crate::hints::behind;
 use crate::lending::path_line_at;
 use crate::supports::count_kept;
 use crate::valleys::is_served;
 use result_text::{EdgeLine, ResultFile};
 use std::alloc::Global;
-use tor_arena::{Keys, NoMemory};
+use tor_arena::{Keys, List, NoMemory};
 
-/// The edges of the paths, in order of first appearance.
+/// The edges of the paths, in order of first appearance, and hints for the steps of the paths.
 pub(crate) fn list_edges(
     alloc: Global,
     keys: Keys,
     file: &ResultFile,
-) -> Result<EdgeTable, NoMemory>
-    ensures { IfOk result (λ table. table ≡ edges (its_paths file.now)) }
+) -> Result<(EdgeTable, List<u32>), NoMemory>
+    ensures { IfOk result (λ listed. listed.0 ≡ edges (its_paths file.now)) }
 {
     let mut table = EdgeTable::new(alloc, keys);
+    let mut hints = List::new(alloc);
     for place in 0..file.paths.len() {
         let line = path_line_at(&file.paths, place);
-        add_steps(&mut table, line.path())?;
+        add_steps(&mut table, &mut hints, line.path())?;
     }
-    Ok(table)
+    Ok((table, hints))
 }
 
-/// Adds the edges along a path.
-fn add_steps(table: &mut EdgeTable, path: &[u32]) -> Result<(), NoMemory>
+/// Adds the edges along a path, and a hint for each of its steps.
+fn add_steps(table: &mut EdgeTable, hints: &mut List<u32>, path: &[u32]) -> Result<(), NoMemory>
     ensures { OnOk result (table.new ≡ fold with_edge table.old (edges_on path.now)) }
 {
     let mut rest = path;
     'steps: while let [a, b, ..] = rest {
-        table.add(*a, *b)?;
+        let place = table.add(*a, *b)?;
+        hints.push(u32::try_from(place).unwrap_or(0))?;
         rest = &rest[1..];
     }
     Ok(())
@@ -74,12 +77,13 @@ pub(crate) fn find_miscounted(
     alloc: Global,
     file: &ResultFile,
     table: &EdgeTable,
+    hints: &[u32],
 ) -> Result<Option<usize>, NoMemory>
     requires table { table.now ≡ its_edges file.now }
     requires clean { IsMet file.now Rule.PathsCleaned }
     ensures { IfOk result (Finds file.now Rule.SupportCounted) }
 {
-    let counts = count_kept(alloc, file, table)?;
+    let counts = count_kept(alloc, file, table, hints)?;
     for (place, line) in file.edges.as_slice().iter().enumerate() {
         if line.support != counts[place] {
             return Ok(Some(place));
@@ -89,16 +93,18 @@ pub(crate) fn find_miscounted(
 }
 
 /// The first kept path that is not valley-free under the labels. It takes no memory.
-pub(crate) fn find_valley(file: &ResultFile, table: &EdgeTable) -> Option<usize>
+pub(crate) fn find_valley(file: &ResultFile, table: &EdgeTable, hints: &[u32]) -> Option<usize>
     requires { table.now ≡ its_edges file.now }
     ensures { Finds file.now Rule.KeptValleyFree result }
 {
     let edges = file.edges.as_slice();
+    let mut first = 0;
     for place in 0..file.paths.len() {
         let line = path_line_at(&file.paths, place);
-        if !is_served(edges, table, &line) {
+        if !is_served(edges, table, hints, first, &line) {
             return Some(place);
         }
+        first = behind(first, line.path());
     }
     None
 }

@@ -1,4 +1,4 @@
-ghost use Rattle.std.specs.Prelude.{◌≡◌, ◌↔◌, ◌<◌, ℕ, [], Contains, Some, IsTrue, length, slice_get, OnOk, OnErr, MatchOption};
+ghost use Rattle.std.specs.Prelude.{◌≡◌, ◌↔◌, ◌<◌, ℕ, [], Contains, Some, IsTrue, length, slice_get, OnOk, OnErr, IfOk, MatchOption};
 ghost use Rattle.std.specs.List.{IsDistinct};
 ghost use Rattle.relationships.specs.Graph.{edge_of, is_same};
 ghost use Rattle.rel_checker.specs.Tables.{with_edge, edge_at};
@@ -37,13 +37,14 @@ impl EdgeTable {
         }
     }
 
-    /// Adds the edge between two ASes, unless it is there.
-    pub fn add(&mut self, a: u32, b: u32) -> Result<(), NoMemory>
+    /// Adds the edge between two ASes, unless it is there, and answers its place.
+    pub fn add(&mut self, a: u32, b: u32) -> Result<usize, NoMemory>
         ensures ok { OnOk result (self.new ≡ with_edge self.old (edge_of a b)) }
+        ensures place { IfOk result (λ k. slice_get self.new k ≡ Some (edge_of a b)) }
         ensures err { OnErr result (self.new ≡ self.old) }
     {
-        self.edges.insert((a.min(b), a.max(b)))?;
-        Ok(())
+        let (place, _) = self.edges.insert_full((a.min(b), a.max(b)))?;
+        Ok(place)
     }
 
     /// How many edges there are. It takes no memory.
@@ -67,5 +68,16 @@ impl EdgeTable {
         ensures only { (k : ℕ) → k < length self.now → IsTrue (is_same (edge_of a b) (edge_at self.now k)) ↔ (result ≡ Some k) }
     {
         self.edges.get_index_of(&(a.min(b), a.max(b)))
+    }
+
+    /// The same, where the edge is looked for in the place of the hint first. It takes no memory.
+    pub fn place_near(&self, hint: usize, a: u32, b: u32) -> Option<usize>
+        ensures found { MatchOption result (Contains self.now (edge_of a b) → ⊥) (λ k. slice_get self.now k ≡ Some (edge_of a b)) }
+        ensures only { (k : ℕ) → k < length self.now → IsTrue (is_same (edge_of a b) (edge_at self.now k)) ↔ (result ≡ Some k) }
+    {
+        match self.edges.get_index(hint).copied() {
+            Some((low, high)) if low == a.min(b) && high == a.max(b) => Some(hint),
+            _ => self.place(a, b),
+        }
     }
 }

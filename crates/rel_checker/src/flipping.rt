@@ -8,6 +8,7 @@ ghost use Rattle.tor_arena.specs.Distinct.{AllDistinct};
 ghost use Rattle.rel_checker.specs.Flipping.{flipped_orders, edges_of, IsBuiltFor, IsStep, with_implied, with_conflicting, with_kept, kept_lines, IsListed, IsProper};
 
 use crate::edge_table::EdgeTable;
+use crate::hints::{behind, hint_at};
 use crate::lending::path_line_at;
 use crate::neighbours::Neighbours;
 use crate::thinning::thin_out;
@@ -32,7 +33,7 @@ struct Step {
 }
 
 /// The step from an AS to a neighbour.
-fn step_of(lines: &[EdgeLine], table: &EdgeTable, from: u32, to: u32) -> Step
+fn step_of(lines: &[EdgeLine], table: &EdgeTable, hint: usize, from: u32, to: u32) -> Step
     requires table { table.now ≡ edges_of lines.now }
     requires few { length lines.now ≤ most_places }
     requires apart { from ≢ to }
@@ -40,7 +41,7 @@ fn step_of(lines: &[EdgeLine], table: &EdgeTable, from: u32, to: u32) -> Step
     ensures within { result.edge < length lines.now }
     ensures step { IsStep (flipped_orders lines.now) result.edge result.up from to }
 {
-    let Some(place) = table.place(from, to) else {
+    let Some(place) = table.place_near(hint, from, to) else {
         unreachable!();
     };
     let Some(edge) = EdgeId::from_place(place) else {
@@ -80,6 +81,8 @@ impl Flips {
         &mut self,
         lines: &[EdgeLine],
         table: &EdgeTable,
+        hints: &[u32],
+        first: usize,
         path: &[u32],
     ) -> Result<(), NoMemory>
         requires table { table.now ≡ edges_of lines.now }
@@ -97,9 +100,11 @@ impl Flips {
         if path.len() < 2 {
             return Ok(());
         }
-        let mut before = step_of(lines, table, path[0], path[1]);
+        let mut before = step_of(lines, table, hint_at(hints, first), path[0], path[1]);
+        let mut step = first;
         for at in 2..path.len() {
-            let next = step_of(lines, table, path[at - 1], path[at]);
+            step = step.wrapping_add(1);
+            let next = step_of(lines, table, hint_at(hints, step), path[at - 1], path[at]);
             self.note(&before, &next)?;
             before = next;
         }
@@ -111,6 +116,8 @@ impl Flips {
         &mut self,
         lines: &[EdgeLine],
         table: &EdgeTable,
+        hints: &[u32],
+        first: usize,
         line: &PathLineRef<'_>,
     ) -> Result<(), NoMemory>
         requires table { table.now ≡ edges_of lines.now }
@@ -126,14 +133,19 @@ impl Flips {
             IsBuiltFor lines.now (with_kept paths line.now.path line.now.fate) self.new.implied self.new.conflicting) }
     {
         if line.is_kept() {
-            self.note_path(lines, table, line.path())
+            self.note_path(lines, table, hints, first, line.path())
         } else {
             Ok(())
         }
     }
 
     /// What the kept paths imply and rule out.
-    pub fn of_file(alloc: Global, file: &ResultFile, table: &EdgeTable) -> Result<Flips, NoMemory>
+    pub fn of_file(
+        alloc: Global,
+        file: &ResultFile,
+        table: &EdgeTable,
+        hints: &[u32],
+    ) -> Result<Flips, NoMemory>
         requires table { table.now ≡ edges_of file.now.edges }
         requires few { length file.now.edges ≤ most_places }
         requires proper { IsProper (flipped_orders file.now.edges) }
@@ -146,9 +158,11 @@ impl Flips {
             implied: Neighbours::new(alloc, lines.len())?,
             conflicting: Neighbours::new(alloc, lines.len())?,
         };
+        let mut first = 0;
         for place in 0..file.paths.len() {
             let line = path_line_at(&file.paths, place);
-            flips.note_line(lines, table, &line)?;
+            flips.note_line(lines, table, hints, first, &line)?;
+            first = behind(first, line.path());
         }
         thin_out(alloc, &mut flips.implied)?;
         thin_out(alloc, &mut flips.conflicting)?;

@@ -9,6 +9,7 @@ mod consistency;
 mod edge_rules;
 mod edge_table;
 mod flipping;
+mod hints;
 mod laws;
 mod lending;
 mod line_numbers;

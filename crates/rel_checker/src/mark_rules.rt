@@ -60,6 +60,7 @@ pub(crate) fn find_unmarked(
     alloc: Global,
     file: &ResultFile,
     table: &EdgeTable,
+    hints: &[u32],
 ) -> Result<Option<usize>, NoMemory>
     requires lines { HasFewLines file.now }
     requires table { table.now ≡ its_edges file.now }
@@ -68,7 +69,7 @@ pub(crate) fn find_unmarked(
     requires served { IsMet file.now Rule.KeptValleyFree }
     ensures { IfOk result (Finds file.now Rule.MarksBorneOut) }
 {
-    let flips = Flips::of_file(alloc, file, table)?;
+    let flips = Flips::of_file(alloc, file, table, hints)?;
     let cover = cover_all(alloc, file, table, &flips)?;
     let shown = list_shown(alloc, file, table)?;
     if let Some(place) = find_unborne(file, &shown, &cover.rounds) {

@@ -4,26 +4,42 @@ ghost use Rattle.relationships.specs.declared.fate.Fate.TheVariants.{Kept};
 ghost use Rattle.rel_checker.specs.Tables.{labels_in};
 
 use crate::edge_table::EdgeTable;
+use crate::hints::hint_at;
 use relationships::Label;
 use result_text::{EdgeLine, PathLineRef};
 
-/// Whether a path is valley-free under the labels of the edge lines, if it is kept. It takes no memory.
-pub(crate) fn is_served(edges: &[EdgeLine], table: &EdgeTable, line: &PathLineRef<'_>) -> bool
+/// Whether a path is valley-free under the labels of the edge lines, if it is kept. The hint of its first step is the `first` one.
+/// It takes no memory.
+pub(crate) fn is_served(
+    edges: &[EdgeLine],
+    table: &EdgeTable,
+    hints: &[u32],
+    first: usize,
+    line: &PathLineRef<'_>,
+) -> bool
     requires { table.now ≡ map (λ e. (e.low, e.high)) edges.now }
     ensures { IsTrue result ↔ (line.now.fate ≡ Kept → ValleyFree (labels_in edges.now) line.now.path) }
 {
-    !line.is_kept() || is_valley_free(edges, table, line.path())
+    !line.is_kept() || is_valley_free(edges, table, hints, first, line.path())
 }
 
 /// Whether the steps of a path go up and then down, with at most one flat one between. It falls from the first that doesn't go up.
-fn is_valley_free(edges: &[EdgeLine], table: &EdgeTable, path: &[u32]) -> bool
+fn is_valley_free(
+    edges: &[EdgeLine],
+    table: &EdgeTable,
+    hints: &[u32],
+    first: usize,
+    path: &[u32],
+) -> bool
     requires { table.now ≡ map (λ e. (e.low, e.high)) edges.now }
     ensures { IsTrue result ↔ ValleyFree (labels_in edges.now) path.now }
 {
     let mut falling = false;
     let mut rest = path;
+    let mut step = first;
     'steps: while let [a, b, ..] = rest {
-        let label = label_between(edges, table, *a, *b);
+        let label = label_between(edges, table, hint_at(hints, step), *a, *b);
+        step = step.wrapping_add(1);
         if falling && !is_provider(label, *a, *b) {
             return false;
         }
@@ -34,11 +50,11 @@ fn is_valley_free(edges: &[EdgeLine], table: &EdgeTable, path: &[u32]) -> bool
 }
 
 /// The label of the edge between two ASes, which is peer where there is no such edge.
-fn label_between(edges: &[EdgeLine], table: &EdgeTable, a: u32, b: u32) -> Label
+fn label_between(edges: &[EdgeLine], table: &EdgeTable, hint: usize, a: u32, b: u32) -> Label
     requires { table.now ≡ map (λ e. (e.low, e.high)) edges.now }
     ensures { result ≡ labels_in edges.now (min a b) (max a b) }
 {
-    match table.place(a, b) {
+    match table.place_near(hint, a, b) {
         Some(place) => edges[place].label,
         None => Label::Peer,
     }

@@ -1,11 +1,14 @@
 -- Walks and fates that are given by their parts.
-use Rattle.std.proofs.Common.{◌≡◌, ◌∙◌, ◌<◌, ◌≤◌, ℕ, zero, suc, List, [], ◌∷◌, ◌++◌, length, slice_get, slice_index_or, Option, Some, None, IfSome, refl, ap, ap₂, arith, length-append}
-use Rattle.std.specs.Prelude.{get_or}
+use Rattle.std.proofs.Common.{◌≡◌, ◌≢◌, ◌∙◌, ◌+◌, ◌-◌, ◌<◌, ◌≤◌, ℕ, zero, suc, List, [], ◌∷◌, ◌++◌, length, slice_get, slice_index_or, Option, Some, None, IfSome, Bool, true, false, cond, nat_eq, refl, sym, ap, ap₂, subst, arith, length-append}
+use Rattle.std.specs.Prelude.{get_or, option_map}
+use Rattle.std.proofs.lemmas.Option.{get_or_from_slice_get}
+use Rattle.relationships.specs.Fates.{is_kept, walk_of}
+use Rattle.std.proofs.lemmas.Bool.{ne_eqb}
 use Rattle.std.proofs.lemmas.List.Elements.{All-head, All-tail, All-push}
 use Rattle.relationships.specs.declared.walk.Link.{Link}
 use Rattle.relationships.specs.declared.walk.Walk.{Walk}
 use Rattle.relationships.specs.declared.fate.Fate.TheVariants as fate
-use Rattle.relationships.specs.Kept.{walk_with, walks_by, fate_by, fates_by, IsWithin, AreWithin}
+use Rattle.relationships.specs.Kept.{walk_with, walks_by, fate_by, fates_by, place_by, places_by, IsWithin, AreWithin}
 
 -- ---- walks
 
@@ -92,3 +95,55 @@ pub index_or-at : (walks : List Walk) (k : ℕ) (w d : Walk) → slice_get walks
 index_or-at [] k w d at = absurd cc
 index_or-at (v ∷ vs) zero w d at = cc
 index_or-at (v ∷ vs) (suc k) w d at = index_or-at vs k w d at
+
+-- ---- places by numbers
+
+pub places_by-push : (numbers : List ℕ) (n : ℕ) → places_by (numbers ++ n ∷ []) ≡ places_by numbers ++ place_by n ∷ []
+places_by-push [] n = refl
+places_by-push (m ∷ numbers) n = ap (λ ps. place_by m ∷ ps) (places_by-push numbers n)
+
+pub length-places_by : (numbers : List ℕ) → length (places_by numbers) ≡ length numbers
+length-places_by [] = refl
+length-places_by (m ∷ numbers) = ap suc (length-places_by numbers)
+
+pub place_by-some : (n : ℕ) → place_by (n + 1) ≡ Some n
+place_by-some n = let more : n + 1 ≢ 0 = (λ e. absurd (omega (arith, e))) in let back : n + 1 - 1 ≡ n = omega arith in rw (ne_eqb (n + 1) 0 more, back) refl
+
+pub place-at : (numbers : List ℕ) (k : ℕ) → k < length numbers → slice_get (places_by numbers) k ≡ Some (place_by (get_or numbers k 0))
+place-at [] k lt = absurd (omega (arith, lt))
+place-at (n ∷ numbers) zero lt = refl
+place-at (n ∷ numbers) (suc k) lt = place-at numbers k (omega (arith, lt))
+
+-- ---- what a number says of a path
+
+kept-by : (walks : List Walk) (n : ℕ) → is_kept (fate_by walks (place_by n)) ≡ nat_eq n 0
+kept-by walks n = by (nat_eq n 0)
+  where
+    by : (b : Bool) → is_kept (fate_by walks (cond b None (Some (n - 1)))) ≡ b
+    by true = refl
+    by false = refl
+
+numbered : (n : ℕ) → n ≢ 0 → place_by n ≡ Some (n - 1)
+numbered n some = rw (ne_eqb n 0 some) refl
+
+module _ (walks : List Walk) (numbers : List ℕ) (k : ℕ) (lt : k < length numbers) (n : ℕ) (is : n ≡ get_or numbers k 0) where
+  fate_there : slice_get (fates_by walks (places_by numbers)) k ≡ Some (fate_by walks (place_by n))
+  fate_there = fate-at walks (places_by numbers) k (place_by n) (place-at numbers k lt ∙ ap (λ m. Some (place_by m)) (sym is))
+
+  pub kept_there : option_map is_kept (slice_get (fates_by walks (places_by numbers)) k) ≡ Some (nat_eq n 0)
+  kept_there = ap (option_map is_kept) fate_there ∙ ap (λ b. Some b) (kept-by walks n)
+
+  pub no_walk_there : n ≡ 0 → option_map walk_of (slice_get (fates_by walks (places_by numbers)) k) ≡ Some None
+  no_walk_there none = ap (option_map walk_of) fate_there ∙ ap (λ m. Some (walk_of (fate_by walks (place_by m)))) none
+
+  pub walk_there : (w : Walk) → n ≢ 0 → slice_get walks (n - 1) ≡ Some w → option_map walk_of (slice_get (fates_by walks (places_by numbers)) k) ≡ Some (Some w)
+  walk_there w some at =
+      ap (option_map walk_of) fate_there ∙ ap (λ p. Some (walk_of (fate_by walks p))) (numbered n some)
+      ∙ ap (λ v. Some (Some v)) (get_or_from_slice_get walks (n - 1) w (walk_with [] []) at)
+
+  pub place_there : AreWithin walks (places_by numbers) → n ≢ 0 → n - 1 < length walks
+  place_there within some =
+      let long = length-places_by numbers in
+      let place : get_or (places_by numbers) k None ≡ Some (n - 1) =
+      get_or_from_slice_get (places_by numbers) k (place_by (get_or numbers k 0)) None (place-at numbers k lt) ∙ ap place_by (sym is) ∙ numbered n some in
+      subst (IsWithin walks) place (within k None (omega (arith, lt, long)))

@@ -1,5 +1,5 @@
 -- Walks and fates that are kept together, each given by its parts.
-use Rattle.std.specs.Prelude.{ℕ, ◌<◌, List, [], ◌∷◌, All, length, map, slice_index_or, Option, Some, None, IfSome}
+use Rattle.std.specs.Prelude.{ℕ, ◌-◌, ◌<◌, ◌==◌, if◌then◌else◌, List, [], ◌∷◌, All, length, map, slice_index_or, Option, Some, None, IfSome}
 use Rattle.relationships.specs.declared.walk.Link.{Link}
 use Rattle.relationships.specs.declared.walk.Walk.{Walk}
 use Rattle.relationships.specs.declared.fate.Fate.{Fate}
@@ -19,6 +19,13 @@ walks_by (ases ∷ more) (links ∷ rows) = walk_with ases links ∷ walks_by mo
 abbrev pub fate_by : List Walk → Option ℕ → Fate
 fate_by walks None = fate.Kept
 fate_by walks (Some place) = fate.Lost (slice_index_or walks place (walk_with [] []))
+
+-- the place of the walk with this number, from 1, and none for 0
+abbrev pub place_by : ℕ → Option ℕ
+place_by number = if number == 0 then None else Some (number - 1)
+
+abbrev pub places_by : List ℕ → List (Option ℕ)
+places_by numbers = map place_by numbers
 
 abbrev pub fates_by : List Walk → List (Option ℕ) → List Fate
 fates_by walks places = map (fate_by walks) places

@@ -14,21 +14,21 @@ use tor_arena::{Index, NoMemory, PathId, WalkId};
 /// What becomes of paths, in their order, seen as a list of fates. The walks of the lost ones lie one behind the other.
 #[derive(Debug, Drop)]
 pub struct Fates {
-    // for each path its walk, if it is lost
-    places: Vec<Option<WalkId>>,
+    // for each path the number of its walk, from 1, and 0 where it is kept
+    numbers: Vec<u32>,
     walks: Walks,
 }
 
 impl Model for Fates {
     ghost use Rattle.std.specs.Prelude.{List};
     ghost use Rattle.relationships.specs.declared.fate.Fate.{Fate};
-    ghost use Rattle.relationships.specs.Kept.{fates_by, AreWithin};
+    ghost use Rattle.relationships.specs.Kept.{places_by, fates_by, AreWithin};
 
     ghost Value = { List Fate };
 
-    ghost view = { λ fates. fates_by fates.walks fates.places.items };
+    ghost view = { λ fates. fates_by fates.walks (places_by fates.numbers.items) };
 
-    ghost invariant = { λ fates. AreWithin fates.walks fates.places.items };
+    ghost invariant = { λ fates. AreWithin fates.walks (places_by fates.numbers.items) };
 }
 
 impl Fates {
@@ -37,7 +37,7 @@ impl Fates {
         ensures { result ≡ [] }
     {
         Fates {
-            places: Vec::new(alloc),
+            numbers: Vec::new(alloc),
             walks: Walks::new(alloc),
         }
     }
@@ -46,7 +46,7 @@ impl Fates {
     pub fn len(&self) -> usize
         ensures { result ≡ length self.now }
     {
-        self.places.len()
+        self.numbers.len()
     }
 
     /// Takes the memory for so many further fates, without that of their walks. The fates stay as they are. The only error is that
@@ -54,7 +54,7 @@ impl Fates {
     pub fn reserve(&mut self, fates: usize) -> Result<(), NoMemory>
         ensures { self.new ≡ self.old }
     {
-        self.places.reserve(fates)?;
+        self.numbers.reserve(fates)?;
         Ok(())
     }
 
@@ -71,7 +71,7 @@ impl Fates {
         ensures added { OnOk result (self.new ≡ self.old ++ Kept ∷ []) }
         ensures unchanged { OnErr result (self.new ≡ self.old) }
     {
-        self.places.push(None)?;
+        self.numbers.push(0)?;
         Ok(())
     }
 
@@ -84,9 +84,9 @@ impl Fates {
         let Some(id) = WalkId::from_place(self.walks.len()) else {
             return Err(NoMemory);
         };
-        self.places.reserve(1)?;
+        self.numbers.reserve(1)?;
         self.walks.push(ases, links)?;
-        self.places.push_reserved(Some(id));
+        self.numbers.push_reserved(id.place() as u32 + 1);
         Ok(())
     }
 
@@ -95,7 +95,7 @@ impl Fates {
         requires { id < length self.now }
         ensures { option_map is_kept (slice_get self.now id) ≡ Some result }
     {
-        self.places[id.place()].is_none()
+        self.numbers[id.place()] == 0
     }
 
     /// The walk of a path, which has to be there: none if it is kept. It takes no memory.
@@ -103,9 +103,22 @@ impl Fates {
         requires { id < length self.now }
         ensures { option_map walk_of (slice_get self.now id) ≡ Some result }
     {
-        match self.places[id.place()] {
-            Some(walk) => Some(self.walks.get(walk)),
-            None => None,
+        match self.numbers[id.place()] {
+            0 => None,
+            number => Some(walk_at(&self.walks, number as usize - 1)),
         }
+    }
+}
+
+/// The walk in a place, from 0.
+fn walk_at(walks: &Walks, place: usize) -> WalkRef<'_>
+    requires { place < length walks.now }
+    ensures { slice_get walks.now place ≡ Some result }
+{
+    let count = walks.len();
+    prove!(place < count);
+    match WalkId::from_place(place) {
+        Some(walk) => walks.get(walk),
+        None => unreachable!(),
     }
 }

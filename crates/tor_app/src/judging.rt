@@ -4,6 +4,8 @@ ghost use Rattle.std.specs.Io.KnownBytes.{IsAtEnd};
 ghost use Rattle.tor_io.specs.Counts.{Rose};
 ghost use Rattle.dump_read.specs.declared.error.DumpError.TheVariants.{ReadFault as read_failed};
 ghost use Rattle.dump_read.specs.Seen.{Absent, end_named};
+ghost use Rattle.result_text.specs.Grammar.{IsTextOf};
+ghost use Rattle.result_text.specs.Refusal.{Refuses};
 ghost use Rattle.tor_words.specs.CheckGiven.{check_settings_given};
 ghost use Rattle.tor_app.specs.Refusals.{IsReadFault};
 ghost use Rattle.tor_app.specs.Judging.{Judged, ComesTo, IsVerdict, JudgesByDumps, seen_for};
@@ -41,12 +43,20 @@ pub(crate) enum Ruling {
     Met(ResultFile),
 }
 
-/// What the rules 0 to 10 say of the bytes.
-fn ruling_on(alloc: Global, keys: Keys, bytes: &[u8]) -> Result<Ruling, NoMemory>
-    requires short { length bytes.now ≤ 2 ^ 31 }
-    ensures { IfOk result (IsRuling bytes.now) }
+/// The result whose text this is. The octets are let go.
+fn parse_all(alloc: Global, bytes: List<u8>) -> Result<ResultFile, ParseError>
+    ensures text { IfOk result (λ file. IsTextOf file bytes) }
+    ensures refused { IfErr result (λ error. Refuses error bytes) }
 {
-    let file = match parse(alloc, bytes) {
+    parse(alloc, bytes.as_slice())
+}
+
+/// What the rules 0 to 10 say of the bytes.
+fn ruling_on(alloc: Global, keys: Keys, bytes: List<u8>) -> Result<Ruling, NoMemory>
+    requires short { length bytes ≤ 2 ^ 31 }
+    ensures { IfOk result (IsRuling bytes) }
+{
+    let file = match parse_all(alloc, bytes) {
         Ok(file) => file,
         Err(ParseError::BadLine(line)) => return Ok(Ruling::Broken { line, rule: 0 }),
         Err(ParseError::NoMemory) => return Err(NoMemory),
@@ -99,12 +109,12 @@ fn judge<H: Shelf>(
     alloc: Global,
     keys: Keys,
     shelf: &mut H,
-    bytes: &[u8],
+    bytes: List<u8>,
     dumps: &[Name],
 ) -> Result<Verdict, Refusal>
-    requires short { length bytes.now ≤ 2 ^ 31 }
-    ensures verdict { IfOk result (λ verdict. IfSome (H.files shelf.old) (λ files. IsVerdict bytes.now dumps.now files verdict)) }
-    ensures refused { IfErr result (IsRefusedBy bytes.now dumps.now (H.files shelf.old) (H.steady shelf.old)) }
+    requires short { length bytes ≤ 2 ^ 31 }
+    ensures verdict { IfOk result (λ verdict. IfSome (H.files shelf.old) (λ files. IsVerdict bytes dumps.now files verdict)) }
+    ensures refused { IfErr result (IsRefusedBy bytes dumps.now (H.files shelf.old) (H.steady shelf.old)) }
     ensures read_out { OnOk result (IsAtEnd (H.left shelf.old) → IsAtEnd (H.left shelf.new)) }
 
     ensures files { H.files shelf.new ≡ H.files shelf.old }
@@ -144,13 +154,7 @@ fn judge_file<H: Shelf>(
     ensures steady { H.steady shelf.old → H.steady shelf.new }
 {
     match read_result(alloc, shelf, settings.result.as_text()) {
-        Ok(bytes) => match judge(
-            alloc,
-            keys,
-            shelf,
-            bytes.as_slice(),
-            settings.dumps.as_slice(),
-        ) {
+        Ok(bytes) => match judge(alloc, keys, shelf, bytes, settings.dumps.as_slice()) {
             Ok(verdict) => Ok(verdict),
             Err(refusal) => Err(Unjudged::Refused(refusal)),
         },
