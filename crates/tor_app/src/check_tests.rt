@@ -7,7 +7,7 @@ use tor_arena::{Keys, NoMemory};
 use tor_io::{MemShelf, MemSink, Shelf};
 
 // The result of three paths.
-static LINES: [&str; 26] = [
+pub(crate) static LINES: [&str; 26] = [
     "tor|1",
     "sets|cut",
     "ratio|60",
