@@ -9,3 +9,6 @@ mod result;
 mod totals;
 
 pub use result::result_of;
+
+#[cfg(test)]
+mod tests;
