@@ -1,10 +1,11 @@
-# `make` proves and builds bin/tor and bin/torcheck, lists the paths of a sample and checks a result; `make test` is the whole
-# gate; `make samples` compares the lists of two real dumps with what other readers give.
+# `make` proves and builds bin/tor and bin/torcheck, makes the result of a sample and checks it; `make test` is the whole gate;
+# `make samples` compares the lists of two real dumps with what other readers give, and checks the results of both.
 .PHONY: all test samples clean FORCE
 
 all: bin/tor bin/torcheck
-	bin/tor --list samples/two-paths.mrt
-	bin/torcheck samples/two-paths.result.txt samples/two-paths.mrt
+	bin/tor samples/three-paths.mrt > bin/three-paths.result.txt
+	cat bin/three-paths.result.txt
+	bin/torcheck bin/three-paths.result.txt samples/three-paths.mrt
 
 # A program is built only once it is proved, and the kit's build runs it too: so it is run on a sample.
 bin/tor: FORCE
@@ -20,12 +21,14 @@ bin/torcheck: FORCE
 test:
 	rt ci
 
-samples: bin/tor
+samples: bin/tor bin/torcheck
 	for dump in samples/openbgpd.table samples/frr.routes-mrt; do \
 		bin/tor --list $$dump | cmp - $$dump.list.txt || exit 1; \
 		bin/tor --list --as-sets skip $$dump | cmp - $$dump.skip.txt || exit 1; \
+		bin/tor $$dump > bin/sample.result.txt || exit 1; \
+		bin/torcheck bin/sample.result.txt $$dump || exit 1; \
 	done
-	@echo "the lists are the same"
+	@echo "the lists are the same, and the results are right"
 
 clean:
 	rm -rf bin crates/*/out
