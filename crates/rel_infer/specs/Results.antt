@@ -1,6 +1,6 @@
--- What the result of distinct paths says. Which provider an edge prefers goes back to L. Gao, "On inferring autonomous system
--- relationships in the Internet", 2001; which paths are kept, to Di Battista, Patrignani and Pizzonia, 2003. The form of the evidence is
--- this project's own (docs/FORMATS.md).
+-- What the result of distinct paths says. The top of a path is that of L. Gao, "On inferring autonomous system relationships in the
+-- Internet", 2001, and that an orientation serves paths goes back to Di Battista, Patrignani and Pizzonia, 2003. Selection in order,
+-- votes, settling, peerings and the form of the evidence are this project's own (docs/FORMATS.md).
 use Rattle.std.specs.Prelude.{◌≡◌, ◌↔◌, ℕ, List, Option, map, is_none, All, IsTrue}
 use Rattle.path_clean.specs.declared.cleaned.Sets.{Sets}
 use Rattle.path_clean.specs.Counts.{Counts}

@@ -5,7 +5,7 @@ use Rattle.tor_io.specs.Contents.{Files, GainsPrefix}
 use Rattle.dump_read.specs.declared.taking.Taken.{Taken}
 use Rattle.dump_read.specs.Seen.{End}
 use Rattle.result_text.specs.declared.file.ResultFile.{ResultFile}
-use Rattle.result_text.specs.Text.{text}
+use Rattle.result_text.specs.Grammar.{IsTextOf}
 use Rattle.rel_checker.specs.declared.answer.Answer.TheVariants.{Yes}
 use Rattle.rel_checker.specs.File.{its_paths, its_walks}
 use Rattle.rel_checker.specs.Rules.{Accepts}
@@ -27,7 +27,7 @@ use Rattle.tor_app.specs.Summary.{summary}
 pub record Faithful (settings : Settings) (taken : Taken) (file : ResultFile) : Type 0 where
   -- it has exactly their paths, times and counts, and for these what follows from the definitions
   pub result : IsResultOf settings.sets settings.ratio taken.table.rows taken.counts file
-  -- a checker says yes to it, alone and with the dumps; so it is valid
+  -- it meets the rules 1 to 10 of a checker, and rule 11 over these paths and counts; so it is valid
   pub accepted : Accepts file
   pub agrees : JudgesAgainst file taken.table.rows taken.counts Yes
   pub valid : Valid file
@@ -40,7 +40,7 @@ pub record Faithful (settings : Settings) (taken : Taken) (file : ResultFile) : 
 -- in this mode, of what the dumps gave: in Labels the text of the result, and its summary as a note; in Listing a line for each path
 abbrev pub IsOutputIn : Mode → Settings → Taken → Output → Type 0
 IsOutputIn Labels settings taken output =
-    (file : ResultFile) × Faithful settings taken file × (output.text ≡ text file) × (output.note ≡ summary file ++ 10 ∷ [])
+    (file : ResultFile) × Faithful settings taken file × IsTextOf file output.text × (output.note ≡ summary file ++ 10 ∷ [])
 IsOutputIn Listing settings taken output = (output.text ≡ listing taken.table.rows) × (output.note ≡ [])
 
 abbrev pub IsOutput : Settings → Taken → Output → Type 0

@@ -6,17 +6,17 @@ use Rattle.path_clean.specs.Counts.{Counts}
 use Rattle.result_text.specs.declared.file.ResultFile.{ResultFile}
 use Rattle.result_text.specs.declared.file.Totals.{Totals}
 
--- a number that stops at 2 ^ 64 - 1
-abbrev pub stopped : ℕ → ℕ
-stopped n = min n (2 ^ 64 - 1)
+-- a number that is at most 2 ^ 64 - 1
+abbrev pub saturated : ℕ → ℕ
+saturated n = min n (2 ^ 64 - 1)
 
 -- how many routes were set aside, whatever the cause
 abbrev pub all_asides : Counts → ℕ
-all_asides a = stopped (a.no_path + a.bad_segments + a.confed + a.sets + a.reserved + a.loop + a.short)
+all_asides a = saturated (a.no_path + a.bad_segments + a.confed + a.sets + a.reserved + a.loop + a.short)
 
 -- how many paths there are: the kept ones and the lost ones
 abbrev pub all_paths : Totals → ℕ
-all_paths totals = stopped (totals.kept + totals.lost)
+all_paths totals = saturated (totals.kept + totals.lost)
 
 -- the object, with its members in this order
 abbrev pub summary_object : Counts → Totals → Data

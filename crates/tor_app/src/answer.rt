@@ -121,7 +121,8 @@ fn output_for<H: Shelf>(
     requires some { 1 ≤ settings.now.max_paths }
     requires most { settings.now.max_paths ≤ 8388608 }
     requires ratio { settings.now.ratio ≤ 1000000 }
-    ensures output { IfOk result (λ output. IfSome (H.files shelf.old) (λ files. IsOutputOf settings.now (seen settings.now files) output)) }
+    ensures output { IfOk result (λ output. IfSome (H.files shelf.old) (λ files.
+        IsOutputOf settings.now (seen settings.now files) output)) }
     ensures of_some { IfOk result (λ output. (taken : Taken) × IsOutput settings.now taken output) }
     ensures refused { IfErr result (IsStopIn settings.now (H.files shelf.old) (H.steady shelf.old)) }
     ensures read_out { OnOk result (0 < length settings.now.dumps → IsAtEnd (H.left shelf.new)) }

@@ -65,6 +65,8 @@ struct Row<'f, 'p> {
     lines: &'static [&'static str],
     // how many octets of it are written
     held: usize,
+    // the call on err that fails
+    failing_note: u64,
     err: &'static str,
     // the words of a check of the result, `r`
     judged: &'static [&'static str],
@@ -85,6 +87,7 @@ fn done<'f, 'p>(
         head: &HEAD,
         lines,
         held: 2000,
+        failing_note: NEVER,
         err,
         judged: &["r", "d"],
     }
@@ -310,6 +313,7 @@ fn run_into(
     out: &mut MemSink,
 ) -> Result<(), NoMemory> {
     let mut err = MemSink::new(alloc, 2000, 2000)?;
+    err.fail_at(row.failing_note)?;
     let status = infer(alloc, keys, words, shelf, out, &mut err);
     let note = row.err;
     assert_eq!(rt; status, row.status, "where {note} is expected");
@@ -430,6 +434,103 @@ fn labels_one_edge(rt: HostRuntime) {
     for row in &cases {
         assert!(rt; run(&rt, rt.alloc(), Keys::new(&rt), row).is_ok());
     }
+}
+
+// With a ratio of 1 the edge of 20 and 40 is no peering, and with 2 it is one.
+#[test]
+fn labels_by_ratio(rt: HostRuntime) {
+    let dump: &[&[u8]] = &[&THREE_PATHS];
+    let one = Row {
+        words: &["--ratio", "1", "d"],
+        head: &["tor|1", "sets|cut", "ratio|1"],
+        ..done(
+            dump,
+            &[
+                "aside|nopath|0",
+                "aside|badsegments|0",
+                "aside|confed|0",
+                "aside|sets|0",
+                "aside|reserved|0",
+                "aside|loop|0",
+                "aside|short|0",
+                "kept|1|30 40 20 10 50 60",
+                "kept|1|10 20 30 40",
+                "lost|1|50 60 10 20",
+                "edge|30|40|high|open|2",
+                "edge|20|40|low|open|1",
+                "edge|10|20|high|forced|2",
+                "edge|10|50|low|forced|1",
+                "edge|50|60|low|forced|1",
+                "edge|20|30|high|open|1",
+                "edge|10|60|low|open|0",
+                "end|2|1|7|3|0",
+            ],
+            "{\"asides\":0,\"edges\":7,\"forced\":3,\"kept\":2,\"lost\":1,\"paths\":3,\"peers\":0}\n",
+        )
+    };
+    assert!(rt; run(&rt, rt.alloc(), Keys::new(&rt), &one).is_ok());
+    let two = Row {
+        words: &["--ratio", "2", "d"],
+        head: &["tor|1", "sets|cut", "ratio|2"],
+        ..done(
+            dump,
+            &LINES[3..],
+            "{\"asides\":0,\"edges\":7,\"forced\":3,\"kept\":2,\"lost\":1,\"paths\":3,\"peers\":1}\n",
+        )
+    };
+    assert!(rt; run(&rt, rt.alloc(), Keys::new(&rt), &two).is_ok());
+}
+
+#[test]
+fn writes_the_choice_for_sets(rt: HostRuntime) {
+    let one: &[&[u8]] = &[&ONE_EDGE];
+    let row = Row {
+        words: &["--as-sets=skip", "--", "d"],
+        head: &[
+            "tor|1",
+            "sets|skip",
+            "ratio|60",
+            "aside|nopath|0",
+            "aside|badsegments|0",
+            "aside|confed|0",
+            "aside|sets|0",
+            "aside|reserved|0",
+            "aside|loop|0",
+            "aside|short|0",
+        ],
+        ..done(
+            one,
+            &["kept|1|10 20", "edge|10|20|peer|open|1", "end|1|0|1|0|1"],
+            "{\"asides\":0,\"edges\":1,\"forced\":0,\"kept\":1,\"lost\":0,\"paths\":1,\"peers\":1}\n",
+        )
+    };
+    assert!(rt; run(&rt, rt.alloc(), Keys::new(&rt), &row).is_ok());
+}
+
+// The summary can't be written: the result is, and the status is the same.
+#[test]
+fn is_done_where_err_fails(rt: HostRuntime) {
+    let one: &[&[u8]] = &[&ONE_EDGE];
+    let row = Row {
+        failing_note: 1,
+        ..done(
+            one,
+            &["kept|1|10 20", "edge|10|20|peer|open|1", "end|1|0|1|0|1"],
+            "",
+        )
+    };
+    assert!(rt; run(&rt, rt.alloc(), Keys::new(&rt), &row).is_ok());
+}
+
+// Eleven octets behind a record, and a record that ends before its length.
+#[test]
+fn writes_nothing_at_a_fault(rt: HostRuntime) {
+    let with_more: &[&[u8]] = &[&ONE_EDGE, &[0; 11]];
+    let row = undone(with_more, Status::Malformed, "malformed|1|2|43|head-cut\n");
+    assert!(rt; run(&rt, rt.alloc(), Keys::new(&rt), &row).is_ok());
+    let cut_short: &[&[u8]] = &[&DUMP, &[39], &ROUTE];
+    let row = undone(cut_short, Status::Malformed, "malformed|1|1|0|body-cut\n");
+    assert!(rt; run(&rt, rt.alloc(), Keys::new(&rt), &row).is_ok());
 }
 
 #[test]
