@@ -3,7 +3,7 @@ pub mod Closures
 pub mod Deciding
 pub mod Edges
 pub mod Forcing
-pub mod KeptLemmas
+pub mod FlatLemmas
 pub mod Neighbours
 pub mod Places
 pub mod PreferredRow

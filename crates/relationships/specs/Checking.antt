@@ -8,7 +8,8 @@ use Rattle.relationships.specs.Graph.{edges, labelling}
 use Rattle.tor_arena.specs.Distinct.{AllDistinct}
 use Rattle.relationships.specs.Relationship.{Labelling, ValleyFree}
 
--- each lost path has a walk that refutes over the paths kept before it and itself. The paths are numbered from n, and a kept one has no walk
+-- each lost path has a walk that refutes over the paths kept before it and itself; a kept one has no walk. The paths are
+-- numbered from n
 abbrev pub LostFrom : ℕ → Numbered → List (List ℕ) → List (Option Walk) → Type 0
 LostFrom n kept [] [] = ⊤
 LostFrom n kept (path ∷ paths) (None ∷ walks) = LostFrom (n + 1) (kept ++ (n, path) ∷ []) paths walks
@@ -72,7 +73,8 @@ claimed_labels claims = labelling (map (λ c. (c.low, c.high)) claims) (map (λ 
 
 -- the rules on paths and edges that decide what is kept and what is forced. Those that no law here needs are left out: that
 -- paths are cleaned but for their distinct ASes, that no path stands twice, the ratio, the supports and the totals
-pub record MeetsGraphRules (paths : List (List ℕ)) (walks : List (Option Walk)) (claims : List Claim) (whys : List Walk) (probes : List (ℕ × ℕ)) : Type 0 where
+pub record MeetsGraphRules (paths : List (List ℕ)) (walks : List (Option Walk)) (claims : List Claim)
+    (whys : List Walk) (probes : List (ℕ × ℕ)) : Type 0 where
   pub distinct_ases : All AllDistinct paths
   pub lost : LostAreRefuted paths walks
   pub each_edge : map (λ c. (c.low, c.high)) claims ≡ edges paths

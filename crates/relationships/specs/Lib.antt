@@ -2,7 +2,7 @@ pub mod Checking
 pub mod Evidence
 pub mod Fates
 pub mod Graph
-pub mod Kept
+pub mod Flat
 pub mod Laws
 pub mod Marking
 pub mod Preference

@@ -1,9 +1,9 @@
-//! What becomes of paths, kept together.
+//! What becomes of paths, in flat lists.
 
 ghost use Rattle.std.specs.Prelude.{◌≡◌, ◌<◌, ◌++◌, ◌∷◌, [], Some, length, option_map, slice_get, OnOk, OnErr};
 ghost use Rattle.relationships.specs.declared.fate.Fate.TheVariants.{Kept, Lost};
 ghost use Rattle.relationships.specs.Fates.{is_kept, walk_of};
-ghost use Rattle.relationships.specs.Kept.{walk_with};
+ghost use Rattle.relationships.specs.Flat.{walk_with};
 
 use crate::walk::Link;
 use crate::walks::{WalkRef, Walks};
@@ -22,7 +22,7 @@ pub struct Fates {
 impl Model for Fates {
     ghost use Rattle.std.specs.Prelude.{List};
     ghost use Rattle.relationships.specs.declared.fate.Fate.{Fate};
-    ghost use Rattle.relationships.specs.Kept.{places_by, fates_by, AreWithin};
+    ghost use Rattle.relationships.specs.Flat.{places_by, fates_by, AreWithin};
 
     ghost Value = { List Fate };
 
@@ -76,7 +76,7 @@ impl Fates {
     }
 
     /// Adds that a path is lost, with the walk of these AS numbers and links. NoMemory comes where memory ran out, and where there
-    /// are 2^28 walks already; it changes nothing.
+    /// are 2^29 walks already; it changes nothing.
     pub fn push_lost(&mut self, ases: &[u32], links: &[Link]) -> Result<(), NoMemory>
         ensures added { OnOk result (self.new ≡ self.old ++ Lost (walk_with ases.now links.now) ∷ []) }
         ensures unchanged { OnErr result (self.new ≡ self.old) }

@@ -1,15 +1,15 @@
-//! Walks that are kept together.
+//! Walks in flat lists.
 
 ghost use Rattle.std.specs.Prelude.{◌≡◌, ◌<◌, ◌≤◌, ◌++◌, ◌∷◌, [], Some, length, option_map, slice_get, OnOk, OnErr, IfOk};
-ghost use Rattle.tor_arena.specs.Limits.{most_places};
-ghost use Rattle.relationships.specs.Kept.{walk_with};
+ghost use Rattle.tor_arena.specs.Limits.{most_walks};
+ghost use Rattle.relationships.specs.Flat.{walk_with};
 
 use crate::walk::Link;
 use std::alloc::Global;
 use std::marker::Model;
 use tor_arena::{NoMemory, Rows, WalkId};
 
-/// A walk that is kept among others, lent out.
+/// A walk of a flat list, lent out.
 #[derive(Drop)]
 pub struct WalkRef<'a> {
     ases: &'a [u32],
@@ -18,7 +18,7 @@ pub struct WalkRef<'a> {
 
 impl<'a> Model for WalkRef<'a> {
     ghost use Rattle.relationships.specs.declared.walk.Walk.{Walk};
-    ghost use Rattle.relationships.specs.Kept.{walk_with};
+    ghost use Rattle.relationships.specs.Flat.{walk_with};
 
     ghost Value = { Walk };
 
@@ -59,7 +59,7 @@ pub struct Walks {
 impl Model for Walks {
     ghost use Rattle.std.specs.Prelude.{◌≡◌, List, length};
     ghost use Rattle.relationships.specs.declared.walk.Walk.{Walk};
-    ghost use Rattle.relationships.specs.Kept.{walks_by};
+    ghost use Rattle.relationships.specs.Flat.{walks_by};
 
     ghost Value = { List Walk };
 
@@ -79,10 +79,10 @@ impl Walks {
         }
     }
 
-    /// How many walks there are, at most 2^28. It takes no memory.
+    /// How many walks there are, at most 2^29. It takes no memory.
     pub fn len(&self) -> usize
         ensures length { result ≡ length self.now }
-        ensures few { length self.now ≤ most_places }
+        ensures few { length self.now ≤ most_walks }
     {
         self.ases.len()
     }
@@ -97,7 +97,7 @@ impl Walks {
         Ok(())
     }
 
-    /// Adds the walk of these AS numbers and links at the end. NoMemory comes where memory ran out, and where there are 2^28 walks
+    /// Adds the walk of these AS numbers and links at the end. NoMemory comes where memory ran out, and where there are 2^29 walks
     /// already; it changes nothing.
     pub fn push(&mut self, ases: &[u32], links: &[Link]) -> Result<(), NoMemory>
         ensures added { OnOk result (self.new ≡ self.old ++ walk_with ases.now links.now ∷ []) }

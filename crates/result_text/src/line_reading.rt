@@ -1,7 +1,7 @@
 //! What lines say behind their first word, read from the prefix of the bytes, with the line feed. Lists go into lists that are there.
 
 ghost use Rattle.std.specs.Prelude.{◌≡◌};
-ghost use Rattle.relationships.specs.Kept.{walk_with};
+ghost use Rattle.relationships.specs.Flat.{walk_with};
 ghost use Rattle.result_text.specs.Reading.{Gives, sets_at, cause_at, label_at, mark_at, walk_at, aside_at, aside_from, kept_at, kept_from, lost_at, lost_from, edge_at, probe_at, end_at};
 ghost use Rattle.result_text.specs.declared.line.Line.TheVariants as line;
 

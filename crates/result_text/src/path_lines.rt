@@ -1,11 +1,11 @@
-//! The path lines of a result, kept together.
+//! The path lines of a result, in flat lists.
 
 ghost use Rattle.std.specs.Option.{option_copied};
 ghost use Rattle.std.specs.Prelude.{◌≡◌, ◌<◌, ◌≤◌, ◌++◌, ◌∷◌, [], Some, length, map, option_map, slice_get, OnOk, OnErr};
 ghost use Rattle.tor_arena.specs.Limits.{most_places};
 ghost use Rattle.relationships.specs.declared.fate.Fate.TheVariants.{Kept, Lost};
 ghost use Rattle.relationships.specs.Fates.{is_kept, walk_of};
-ghost use Rattle.relationships.specs.Kept.{walk_with};
+ghost use Rattle.relationships.specs.Flat.{walk_with};
 ghost use Rattle.result_text.specs.PathLines.{line_with};
 
 use relationships::{Fates, Link, WalkRef};
@@ -13,7 +13,7 @@ use std::alloc::Global;
 use std::marker::Model;
 use tor_arena::{Index, List, NoMemory, PathId, Rows};
 
-/// A path line that is kept among others, lent out.
+/// A path line of a flat list, lent out.
 #[derive(Drop)]
 pub struct PathLineRef<'a> {
     times: u64,

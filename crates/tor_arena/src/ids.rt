@@ -1,8 +1,8 @@
 ghost use Rattle.std.specs.Prelude.{◌<◌, ℕ};
 ghost use Rattle.std.proofs.Math.Dec.{lit≤};
-ghost use Rattle.tor_arena.specs.Limits.{most_places};
+ghost use Rattle.tor_arena.specs.Limits.{most_places, most_walks};
 
-use crate::index::{Index, MOST_PLACES, short_place};
+use crate::index::{Index, MOST_PLACES, MOST_WALKS, short_place};
 use std::marker::Model;
 
 /// A place among the autonomous systems.
@@ -227,7 +227,7 @@ impl Index for ArcId {
     ghost is_short = { lit≤ tt };
 }
 
-/// A place among walks that are kept together.
+/// A place among walks.
 #[derive(Clone, Copy, Debug, PartialEq, Eq, Hash)]
 pub struct WalkId {
     short: u32,
@@ -238,21 +238,24 @@ impl Model for WalkId {
 
     ghost view = { λ id. id.short };
 
-    ghost invariant = { λ id. id.short < most_places };
+    ghost invariant = { λ id. id.short < most_walks };
 
     ghost inverse = { λ place. record { short = place } };
 }
 
 impl Index for WalkId {
-    const LIMIT: usize = MOST_PLACES;
+    const LIMIT: usize = MOST_WALKS;
 
-    ghost LIMIT = { most_places };
+    ghost LIMIT = { most_walks };
 
     ghost place_of = { λ id. id };
 
     fn from_place(place: usize) -> Option<WalkId> {
-        let short = short_place(place)?;
-        Some(WalkId { short })
+        if place < MOST_WALKS {
+            Some(WalkId { short: place as u32 })
+        } else {
+            None
+        }
     }
 
     fn place(self) -> usize {

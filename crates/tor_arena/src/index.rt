@@ -28,8 +28,11 @@ pub trait Index: Copy + Eq {
     ghost is_short: { LIMIT ≤ 4294967295 };
 }
 
-/// How many places each index type of this crate can name.
+/// How many places each index type of this crate but that of walks can name.
 pub(crate) const MOST_PLACES: usize = 1 << 28;
+
+/// How many walks can be named.
+pub(crate) const MOST_WALKS: usize = 1 << 29;
 
 /// The place in 32 bits, if an index can name it.
 pub(crate) fn short_place(place: usize) -> Option<u32>

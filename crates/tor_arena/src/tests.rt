@@ -121,13 +121,13 @@ fn small_rows(rt: HostRuntime) -> Result<(), Fail> {
     Ok(())
 }
 
-/// Whether 2^28 - 1 is the last place with an index of this kind, which its place leads to again.
-fn ends_below_2_to_28<I: Index>() -> bool {
-    match I::from_place((1 << 28) - 1) {
+/// Whether the place below `limit` is the last with an index of this kind, which its place leads to again.
+fn ends_below<I: Index>(limit: usize) -> bool {
+    match I::from_place(limit - 1) {
         Some(last) => {
-            last.place() == (1 << 28) - 1
+            last.place() == limit - 1
                 && same_index(last) == Some(last)
-                && I::from_place(1 << 28).is_none()
+                && I::from_place(limit).is_none()
         }
         None => false,
     }
@@ -135,13 +135,13 @@ fn ends_below_2_to_28<I: Index>() -> bool {
 
 #[test]
 fn seven_kinds_of_index(rt: HostRuntime) -> Result<(), Fail> {
-    assert!(rt; ends_below_2_to_28::<AsId>());
-    assert!(rt; ends_below_2_to_28::<EdgeId>());
-    assert!(rt; ends_below_2_to_28::<PathId>());
-    assert!(rt; ends_below_2_to_28::<TripleId>());
-    assert!(rt; ends_below_2_to_28::<NodeId>());
-    assert!(rt; ends_below_2_to_28::<ArcId>());
-    assert!(rt; ends_below_2_to_28::<WalkId>());
+    assert!(rt; ends_below::<AsId>(1 << 28));
+    assert!(rt; ends_below::<EdgeId>(1 << 28));
+    assert!(rt; ends_below::<PathId>(1 << 28));
+    assert!(rt; ends_below::<TripleId>(1 << 28));
+    assert!(rt; ends_below::<NodeId>(1 << 28));
+    assert!(rt; ends_below::<ArcId>(1 << 28));
+    assert!(rt; ends_below::<WalkId>(1 << 29));
     Ok(())
 }
 

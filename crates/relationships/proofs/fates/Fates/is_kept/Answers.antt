@@ -1,8 +1,8 @@
 use Rattle.std.proofs.Common.{◌≡◌, ◌∙◌, ◌<◌, ap, sym, arith, length, get_or, option_map, slice_get}
 use Rattle.std.proofs.lemmas.List.{get_or_default}
 use Rattle.relationships.specs.Fates.{is_kept}
-use Rattle.relationships.specs.Kept.{places_by}
-use Rattle.relationships.proofs.KeptLemmas.{length-fates_by, length-places_by, kept_there}
+use Rattle.relationships.specs.Flat.{places_by}
+use Rattle.relationships.proofs.FlatLemmas.{length-fates_by, length-places_by, kept_there}
 use Rattle.relationships.proofs.fates.Fates.is_kept.Goals as goal
 
 pub returns : goal.returns

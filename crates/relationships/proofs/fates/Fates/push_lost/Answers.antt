@@ -1,7 +1,7 @@
 use Rattle.std.proofs.Common.{◌≡◌, ◌∙◌, ◌+◌, ap, ap₂, sym, subst, rules, length, ◌∷◌, ◌++◌, [], Some}
 use Rattle.relationships.specs.declared.fate.Fate.TheVariants.{Lost}
-use Rattle.relationships.specs.Kept.{walk_with, fates_by, places_by, AreWithin}
-use Rattle.relationships.proofs.KeptLemmas.{fates_by-push, AreWithin-push, places_by-push, place_by-some}
+use Rattle.relationships.specs.Flat.{walk_with, fates_by, places_by, AreWithin}
+use Rattle.relationships.proofs.FlatLemmas.{fates_by-push, AreWithin-push, places_by-push, place_by-some}
 use Rattle.relationships.proofs.fates.Fates.push_lost.Goals as goal
 
 pub invariant_of-self-2 : goal.invariant_of-self-2

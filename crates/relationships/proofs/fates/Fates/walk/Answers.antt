@@ -1,8 +1,8 @@
 use Rattle.std.proofs.Common.{◌≡◌, ◌≢◌, ◌∙◌, ◌<◌, ap, sym, arith, rules, length, get_or, option_map, slice_get}
 use Rattle.std.proofs.lemmas.List.{get_or_default}
 use Rattle.relationships.specs.Fates.{walk_of}
-use Rattle.relationships.specs.Kept.{places_by}
-use Rattle.relationships.proofs.KeptLemmas.{length-fates_by, length-places_by, no_walk_there, walk_there, place_there}
+use Rattle.relationships.specs.Flat.{places_by}
+use Rattle.relationships.proofs.FlatLemmas.{length-fates_by, length-places_by, no_walk_there, walk_there, place_there}
 use Rattle.relationships.proofs.fates.Fates.walk.Goals as goal
 
 pub walk_at-requires : goal.walk_at-requires

@@ -1,5 +1,5 @@
 use Rattle.std.proofs.Common.{◌≡◌, ◌∙◌, ap, sym, arith, length, slice_get}
-use Rattle.relationships.proofs.KeptLemmas.{length-walks_by, walk-at}
+use Rattle.relationships.proofs.FlatLemmas.{length-walks_by, walk-at}
 use Rattle.relationships.proofs.walks.Walks.get.Goals as goal
 
 pub row-requires : goal.row-requires

@@ -1,5 +1,5 @@
 use Rattle.std.proofs.Common.{◌≡◌, ◌∙◌, ap, sym, arith, length}
-use Rattle.relationships.proofs.KeptLemmas.{length-walks_by}
+use Rattle.relationships.proofs.FlatLemmas.{length-walks_by}
 use Rattle.relationships.proofs.walks.Walks.len.Goals as goal
 
 pub returns-clause-length : goal.returns-clause-length

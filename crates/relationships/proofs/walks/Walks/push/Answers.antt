@@ -1,6 +1,6 @@
 use Rattle.std.proofs.Common.{◌≡◌, ◌∙◌, ap, ap₂, rules, ◌∷◌, ◌++◌, []}
-use Rattle.relationships.specs.Kept.{walk_with, walks_by}
-use Rattle.relationships.proofs.KeptLemmas.{walks_by-push}
+use Rattle.relationships.specs.Flat.{walk_with, walks_by}
+use Rattle.relationships.proofs.FlatLemmas.{walks_by-push}
 use Rattle.relationships.proofs.walks.Walks.push.Goals as goal
 
 pub returns-clause-added : goal.returns-clause-added

@@ -8,7 +8,7 @@ use Rattle.std.proofs.lemmas.List.Elements.{All-head, All-tail, All-push}
 use Rattle.relationships.specs.declared.walk.Link.{Link}
 use Rattle.relationships.specs.declared.walk.Walk.{Walk}
 use Rattle.relationships.specs.declared.fate.Fate.TheVariants as fate
-use Rattle.relationships.specs.Kept.{walk_with, walks_by, fate_by, fates_by, place_by, places_by, IsWithin, AreWithin}
+use Rattle.relationships.specs.Flat.{walk_with, walks_by, fate_by, fates_by, place_by, places_by, IsWithin, AreWithin}
 
 -- ---- walks
 

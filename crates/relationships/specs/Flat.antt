@@ -1,4 +1,4 @@
--- Walks and fates that are kept together, each given by its parts.
+-- Walks and fates in flat lists, each given by its parts.
 use Rattle.std.specs.Prelude.{ℕ, ◌-◌, ◌<◌, ◌==◌, if◌then◌else◌, List, [], ◌∷◌, All, length, map, slice_index_or, Option, Some, None, IfSome}
 use Rattle.relationships.specs.declared.walk.Link.{Link}
 use Rattle.relationships.specs.declared.walk.Walk.{Walk}
