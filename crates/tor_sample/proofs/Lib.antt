@@ -1,3 +1,4 @@
 pub mod Upward
 pub mod Turning
 pub mod Octets
+mod Vectors

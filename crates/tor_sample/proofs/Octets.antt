@@ -1,12 +1,11 @@
 -- How long the parts of a record are, and records one after the other.
-use Rattle.std.proofs.Common.{◌≡◌, ℕ, zero, suc, ◌+◌, ◌*◌, List, [], ◌∷◌, ◌++◌, length, refl, sym, ap, ap₂, subst, ◌∙◌, arith}
-use Rattle.std.specs.Int.{w16, w32, to_be_bytes}
+use Rattle.std.proofs.Common.{◌≡◌, ℕ, zero, suc, ◌+◌, ◌*◌, List, [], ◌∷◌, ◌++◌, length, refl, sym, ap, subst, ◌∙◌, arith}
 use Rattle.std.proofs.lemmas.List.{append_assoc, append-nil}
 use Rattle.tor_sample.specs.declared.networks.Providers.{Providers}
-use Rattle.tor_sample.specs.Draws.{Drawn, ◌>>=◌, just, onto}
+use Rattle.tor_sample.specs.Draws.{◌>>=◌, just, onto}
 use Rattle.tor_sample.specs.Networks.{networks}
 use Rattle.tor_sample.specs.Paths.{path_of}
-use Rattle.tor_sample.specs.Records.{as_numbers, attributes, entry, rib, record_of, peer_table, records, sample}
+use Rattle.tor_sample.specs.Records.{as_numbers, attributes, rib, record_of, peer_table, records, sample}
 
 pub length-as_numbers : (path : List ℕ) → length (as_numbers path) ≡ 4 * length path
 length-as_numbers [] = refl
@@ -48,10 +47,11 @@ puts-none nets seed old = ([], sym (append-nil old), records-none nets seed)
 pub puts-next :
     (nets : List Providers) (seed k s t : ℕ) (old before now path : List ℕ) → Puts nets seed old k before s → path_of nets k s ≡ (path, t)
     → now ≡ before ++ record_of 2 (rib k path) → Puts nets seed old (k + 1) now t
-puts-next nets seed k s t old before now path so_far drawn is =
-    (so_far.0 ++ record_of 2 (rib k path),
-    is ∙ ap (λ xs. xs ++ record_of 2 (rib k path)) so_far.1 ∙ append_assoc old so_far.0 (record_of 2 (rib k path)),
-    subst (λ n. records nets n seed ≡ (so_far.0 ++ record_of 2 (rib k path), t)) (omega arith) (records-next k seed s t nets so_far.0 path so_far.2 drawn))
+puts-next nets seed k s t old before now path so_far drawn is = (
+  so_far.0 ++ record_of 2 (rib k path),
+  is ∙ ap (λ xs. xs ++ record_of 2 (rib k path)) so_far.1 ∙ append_assoc old so_far.0 (record_of 2 (rib k path)),
+  subst (λ n. records nets n seed ≡ (so_far.0 ++ record_of 2 (rib k path), t)) (omega arith) (records-next k seed s t nets so_far.0 path so_far.2 drawn),
+)
 
 -- the dump from its parts
 pub sample-is :

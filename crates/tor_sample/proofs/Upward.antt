@@ -1,11 +1,11 @@
 -- Networks one more at a time, and climbs step by step.
-use Rattle.std.proofs.Common.{◌≡◌, ℕ, zero, suc, ◌+◌, ◌-◌, ◌<◌, ◌≤◌, if◌then◌else◌, List, [], ◌∷◌, ◌++◌, length, get_or, refl, sym, ap, subst, ◌∙◌, lt-ltb, le-ltb, arith, below_more}
+use Rattle.std.proofs.Common.{◌≡◌, ℕ, zero, suc, ◌+◌, ◌<◌, ◌≤◌, if◌then◌else◌, List, [], ◌∷◌, ◌++◌, length, get_or, refl, sym, ap, subst, ◌∙◌, lt-ltb, le-ltb, arith, below_more}
 use Rattle.std.proofs.lemmas.List.{length-append, append_assoc, get_or_append_left}
 use Rattle.std.proofs.lemmas.Grind.{common_steps}
 use Rattle.std.proofs.Math.Seq.{get_or-append_seam}
 use Rattle.tor_sample.specs.declared.networks.Providers.{Providers}
-use Rattle.tor_sample.specs.Draws.{Drawn, ◌>>=◌, just, onto, draw}
-use Rattle.tor_sample.specs.Networks.{level_above, providers_of, networks, provider_of, climb_within, climb}
+use Rattle.tor_sample.specs.Draws.{◌>>=◌, just, onto}
+use Rattle.tor_sample.specs.Networks.{providers_of, networks, provider_of, climb_within, climb}
 use Rattle.tor_sample.specs.Levels.{IsAbove, LeadUp}
 
 -- what was made, with these in front of it
@@ -36,6 +36,7 @@ lead_up-next nets p lead first second k other h = below_more (LeadsAt nets p oth
   where
     before : (k : ℕ) → k < length nets → LeadsAt nets p other k
     before k lt = subst (λ q. IsAbove (10 + k) q.first × IsAbove (10 + k) q.second) (sym (get_or_append_left nets (p ∷ []) other k lt)) (lead k other lt)
+
     here : LeadsAt nets p other (length nets)
     here = subst (λ q. IsAbove (10 + length nets) q.first × IsAbove (10 + length nets) q.second) (sym (get_or-append_seam nets p [] other)) (first, second)
 
@@ -63,12 +64,13 @@ pub grows-next :
     → IsAbove network p.first → IsAbove network p.second → now ≡ nets ++ p ∷ [] → Grows seed (network + 1) now t
 grows-next seed network s t nets now p so_far drawn first second is =
     subst (λ now. Grows seed (network + 1) now t) (sym is) (
-      let long : length (nets ++ p ∷ []) ≡ suc (length nets) = (let e = length-append nets (p ∷ []) in omega (arith, e)) in
-      let here : network ≡ 10 + length nets = sym so_far.0 in
-      let drawn' : providers_of (10 + length nets) s ≡ (p, t) = subst (λ i. providers_of i s ≡ (p, t)) here drawn in
-      (omega (arith, long, here),
+    let long : length (nets ++ p ∷ []) ≡ suc (length nets) = (let e = length-append nets (p ∷ []) in omega (arith, e)) in
+    let here : network ≡ 10 + length nets = sym so_far.0 in
+    let drawn' : providers_of (10 + length nets) s ≡ (p, t) = subst (λ i. providers_of i s ≡ (p, t)) here drawn in (
+      omega (arith, long, here),
       subst (λ n. networks n seed ≡ (nets ++ p ∷ [], t)) (sym long) (networks-next (length nets) seed s t nets p so_far.1 drawn'),
-      lead_up-next nets p so_far.2 (subst (λ i. IsAbove i p.first) here first) (subst (λ i. IsAbove i p.second) here second)))
+      lead_up-next nets p so_far.2 (subst (λ i. IsAbove i p.first) here first) (subst (λ i. IsAbove i p.second) here second),
+    ))
 
 -- a climb ends at one of the first ten
 pub climb-top : (n : ℕ) (nets : List Providers) (network s : ℕ) → network < 10 → climb_within n nets network s ≡ (network ∷ [], s)
@@ -104,13 +106,17 @@ climbs-next nets start before now network above s t so_far low drawn up is =
         (before : List ℕ) (network : ℕ) (made : List ℕ × ℕ)
         → behind before (behind (network ∷ []) made) ≡ behind (before ++ network ∷ []) made
     further before network made = ap (λ xs. (xs, made.1)) (sym (append_assoc before (network ∷ []) made.0))
+
     by_steps :
         (n : ℕ) → length before + n ≤ 3 → network < bound n → climb nets start.0 start.1 ≡ behind before (climb_within n nets network s)
         → Climbs nets start (before ++ network ∷ []) (above, t)
     by_steps zero room under so_far = absurd (omega (arith, low, under))
-    by_steps (suc n) room under so_far =
-        (n, (let e = length-append before (network ∷ []) in omega (arith, e, room)), bound-step n network above under up,
-        so_far ∙ ap (behind before) (climb-on n nets network above s t low drawn) ∙ further before network (climb_within n nets above t))
+    by_steps (suc n) room under so_far = (
+      n,
+      (let e = length-append before (network ∷ []) in omega (arith, e, room)),
+      bound-step n network above under up,
+      so_far ∙ ap (behind before) (climb-on n nets network above s t low drawn) ∙ further before network (climb_within n nets above t),
+    )
 
 pub climbs-end :
     (nets : List Providers) (start : ℕ × ℕ) (before now : List ℕ) (network s : ℕ) → Climbs nets start before (network, s) → network < 10

@@ -1,5 +1,5 @@
 -- Networks, each but the first ten with two providers. There are four levels: 0 to 9, 10 to 49, 50 to 199 and 200 to 1999.
-use Rattle.std.specs.Prelude.{ℕ, zero, suc, ◌+◌, ◌-◌, ◌<◌, ◌≤◌, ◌==◌, nat_lt, List, [], ◌∷◌, ◌++◌, get_or, if◌then◌else◌}
+use Rattle.std.specs.Prelude.{ℕ, zero, suc, ◌+◌, ◌-◌, ◌==◌, nat_lt, List, [], ◌∷◌, ◌++◌, get_or, if◌then◌else◌}
 use Rattle.tor_sample.specs.declared.networks.Level.{Level}
 use Rattle.tor_sample.specs.declared.networks.Providers.{Providers}
 use Rattle.tor_sample.specs.Draws.{Drawn, ◌>>=◌, just, draw}

@@ -6,5 +6,7 @@ mod dump;
 mod networks;
 mod paths;
 mod records;
+#[cfg(test)]
+mod tests;
 
 pub use dump::sample;

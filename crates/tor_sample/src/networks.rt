@@ -70,6 +70,7 @@ fn level_above(network: u16) -> Level
     }
 }
 
+// A network of the level.
 fn drawn_from(draws: &mut Draws, level: Level) -> u16
     requires some { 0 < level.size }
     requires few { level.least + level.size ≤ 200 }
@@ -80,6 +81,7 @@ fn drawn_from(draws: &mut Draws, level: Level) -> u16
     level.least + draws.below(level.size)
 }
 
+// The providers of a network, both of the level above.
 fn providers_of(draws: &mut Draws, network: u16) -> Providers
     ensures drawn { providers_of network draws.old.state ≡ (result, draws.new.state) }
     ensures first { IsAbove network result.first }
@@ -113,7 +115,11 @@ impl Networks {
         ensures above { IsAbove network result }
     {
         let of = self.providers.as_slice()[usize::from(network - TOPS)];
-        if draws.below(2) == 0 { of.first } else { of.second }
+        if draws.below(2) == 0 {
+            of.first
+        } else {
+            of.second
+        }
     }
 
     /// A climb from a network to one of the first ten.

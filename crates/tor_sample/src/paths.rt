@@ -17,6 +17,7 @@ fn last(networks: &[u16]) -> u16
     networks[networks.len() - 1]
 }
 
+// Puts the networks at the end.
 fn put(path: &mut Path, networks: &[u16])
     requires { array_vec_len path.old + length networks.now ≤ 10 }
     ensures { path.new.items ≡ path.old.items ++ networks.now }
@@ -26,6 +27,7 @@ fn put(path: &mut Path, networks: &[u16])
     }
 }
 
+// Puts the networks at the end, from the last to the first.
 fn put_reversed(path: &mut Path, networks: &[u16])
     requires { array_vec_len path.old + length networks.now ≤ 10 }
     ensures { path.new.items ≡ path.old.items ++ reverse networks.now }
@@ -100,7 +102,14 @@ pub(crate) fn path_of(networks: &Networks, draws: &mut Draws, number: u16) -> Pa
     let to = draws.below(NETWORKS);
     let up = networks.climb(draws, from);
     let down = networks.climb(draws, to);
-    let mut path = turned(networks, draws, number, from, up.as_slice(), down.as_slice());
+    let mut path = turned(
+        networks,
+        draws,
+        number,
+        from,
+        up.as_slice(),
+        down.as_slice(),
+    );
     if draws.below(8) == 0 {
         let end = last(path.as_slice());
         path.push(end);

@@ -7,13 +7,16 @@ use tor_arena::{List, NoMemory};
 /// The subtype of a record that is a RIB of IPv4 prefixes.
 const RIB_IPV4_UNICAST: u8 = 2;
 
+/// How many octets the attributes of a route have beside the numbers of its path.
+const ATTRIBUTE_OCTETS: u16 = 9;
+
 /// How many octets a RIB of one route has beside the numbers of its path.
 const RIB_OCTETS: u32 = 27;
 
 // The octets of one peer table: its header, and one peer with an AS number of four octets.
 static PEER_TABLE: [u8; 33] = [
-    0, 0, 0, 0, 0, 13, 0, 1, 0, 0, 0, 21, 192, 0, 2, 1, 0, 0, 0, 1, 2, 10, 0, 0, 1, 192, 0, 2, 2, 0, 0,
-    0, 10,
+    0, 0, 0, 0, 0, 13, 0, 1, 0, 0, 0, 21, 192, 0, 2, 1, 0, 0, 0, 1, 2, 10, 0, 0, 1, 192, 0, 2, 2,
+    0, 0, 0, 10,
 ];
 
 /// Puts the peer table at the end.
@@ -23,6 +26,7 @@ pub(crate) fn put_peer_table(out: &mut List<u8>) -> Result<(), NoMemory>
     out.extend_from_slice(&PEER_TABLE)
 }
 
+// The numbers of the networks' ASes: 1000 for the first network, and so on.
 fn put_as_numbers(out: &mut List<u8>, path: &[u16]) -> Result<(), NoMemory>
     ensures { OnOk result (out.new ≡ out.old ++ as_numbers path.now) }
 {
@@ -32,6 +36,7 @@ fn put_as_numbers(out: &mut List<u8>, path: &[u16]) -> Result<(), NoMemory>
     Ok(())
 }
 
+// ORIGIN and AS_PATH.
 fn put_attributes(out: &mut List<u8>, path: &[u16]) -> Result<(), NoMemory>
     requires { length path.now ≤ 10 }
     ensures { OnOk result (out.new ≡ out.old ++ attributes path.now) }
@@ -41,15 +46,17 @@ fn put_attributes(out: &mut List<u8>, path: &[u16]) -> Result<(), NoMemory>
     put_as_numbers(out, path)
 }
 
+// The only entry of a RIB: the index of the peer, the time, and the attributes behind their length.
 fn put_entry(out: &mut List<u8>, path: &[u16]) -> Result<(), NoMemory>
     requires { length path.now ≤ 10 }
     ensures { OnOk result (out.new ≡ out.old ++ entry path.now) }
 {
     out.extend_from_slice(&[0, 0, 0, 0, 0, 0])?;
-    out.extend_from_slice(&(9 + 4 * path.len() as u16).to_be_bytes())?;
+    out.extend_from_slice(&(ATTRIBUTE_OCTETS + 4 * path.len() as u16).to_be_bytes())?;
     put_attributes(out, path)
 }
 
+// The body of a record: its number, a prefix of 24 bits and one entry.
 fn put_rib(out: &mut List<u8>, number: u16, path: &[u16]) -> Result<(), NoMemory>
     requires { length path.now ≤ 10 }
     ensures { OnOk result (out.new ≡ out.old ++ rib number path.now) }

@@ -1,4 +1,4 @@
-use Rattle.std.proofs.Common.{◌≡◌, ◌++◌, ap, ◌∙◌}
+use Rattle.std.proofs.Common.{◌++◌, ap, ◌∙◌}
 use Rattle.tor_sample.specs.Records.{record_of, rib}
 use Rattle.tor_sample.proofs.Octets.{puts-none, puts-next}
 use Rattle.tor_sample.proofs.dump.put_records.Goals as goal

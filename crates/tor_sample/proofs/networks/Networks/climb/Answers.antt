@@ -1,4 +1,4 @@
-use Rattle.std.proofs.Common.{sym, subst, rules, arith}
+use Rattle.std.proofs.Common.{sym, subst, arith}
 use Rattle.tor_sample.proofs.Upward.{Climbs, climbs-none, climbs-next, climbs-end}
 use Rattle.tor_sample.proofs.networks.Networks.climb.Goals as goal
 

@@ -1,4 +1,4 @@
-use Rattle.std.proofs.Common.{◌≡◌, ◌∷◌, ◌++◌, [], sym, subst, rules}
+use Rattle.std.proofs.Common.{sym, subst, rules}
 use Rattle.tor_sample.proofs.Upward.{Grows, grows-none, grows-next}
 use Rattle.tor_sample.proofs.networks.Networks.drawn.Goals as goal
 
