@@ -74,11 +74,7 @@ fn put_path<O: Sink>(out: &mut O, buffer: &mut Buffer, path: &[u32]) -> Result<(
 }
 
 // The numbers of a path, and the line feed behind them.
-fn put_path_and_end<O: Sink>(
-    out: &mut O,
-    buffer: &mut Buffer,
-    path: &[u32],
-) -> Result<(), Failed>
+fn put_path_and_end<O: Sink>(out: &mut O, buffer: &mut Buffer, path: &[u32]) -> Result<(), Failed>
     ensures all { OnOk result (PassesOn (O.held out.old) (O.held out.new) buffer.new
         (buffer.old ++ (join_with_byte 32 (map decimal path.now) ++ 10 ∷ []))) }
     ensures prefix { OnErr result (GainsPrefix (O.held out.old) (O.held out.new)

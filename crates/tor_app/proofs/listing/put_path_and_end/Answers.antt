@@ -1,4 +1,4 @@
-use Rattle.std.proofs.Common.{◌∷◌, ◌++◌, [], map}
+use Rattle.std.proofs.Common.{◌∷◌, [], map}
 use Rattle.std.specs.Prelude.{decimal}
 use Rattle.std.specs.List.{join_with_byte}
 use Rattle.tor_io.proofs.Passing.{first_stops, rest_passes, rest_stops}

@@ -1,4 +1,4 @@
-use Rattle.std.proofs.Common.{◌∷◌, ◌++◌, [], map}
+use Rattle.std.proofs.Common.{◌∷◌, []}
 use Rattle.std.specs.Prelude.{decimal}
 use Rattle.tor_io.proofs.Passing.{first_stops, rest_passes, rest_stops}
 use Rattle.tor_app.proofs.listing.put_spaced.Goals as goal
