@@ -9,7 +9,7 @@ use mrt_frame::{Record, RecordKind};
 use path_attrs::{RibFault, Width};
 use path_clean::Sets;
 use rib_v1::read_v1;
-use rib_v2::{Entry, Peers, RibError, read_peers, read_rib};
+use rib_v2::{EntryCursor, Peers, read_peers};
 use std::alloc::Global;
 use tor_arena::List;
 
@@ -42,33 +42,20 @@ impl From<Untaken> for Unread {
     }
 }
 
-impl From<RibError> for Unread {
-    ghost use Rattle.std.specs.Prelude.{◌≡◌};
-    ghost use Rattle.dump_read.specs.Refusals.{of_rib};
-
-    ghost from_gives = { λ error e. e ≡ of_rib error };
-
-    fn from(error: RibError) -> Unread {
-        match error {
-            RibError::Fault(fault) => Unread::Fault(fault),
-            RibError::NoMemory => Unread::Untaken(Untaken::NoMemory),
-        }
-    }
-}
-
 // Takes in the routes of entries, in order.
 fn take_entries(
     alloc: Global,
     sets: Sets,
-    entries: &[Entry<'_>],
+    entries: EntryCursor<'_>,
     path: &mut List<u32>,
     taken: &mut Taken,
 ) -> Result<(), Untaken>
-    ensures taken { OnOk result (Takes sets taken.old (of_entries entries.now) taken.new) }
-    ensures limit { IfErr result (IsLimit (take_routes sets taken.old (of_entries entries.now))) }
-    ensures some { OnErr result (TakesSome sets taken.old (of_entries entries.now) taken.new) }
+    ensures taken { OnOk result (Takes sets taken.old (of_entries entries.entry) taken.new) }
+    ensures limit { IfErr result (IsLimit (take_routes sets taken.old (of_entries entries.entry))) }
+    ensures some { OnErr result (TakesSome sets taken.old (of_entries entries.entry) taken.new) }
 {
-    for entry in entries {
+    let mut left = entries;
+    'entries: while let Some(entry) = left.next() {
         take(alloc, sets, Width::Four, &entry.attrs, path, taken)?;
     }
     Ok(())
@@ -107,8 +94,8 @@ fn take_rib(
     ensures some { OnErr result (TakesSomeRead sets taken.old (routes_in_rib (count_of peers) found.now.subtype found.now.body.now)
         taken.new) }
 {
-    let entries = read_rib(alloc, found.subtype, peers.as_ref(), found.body)?;
-    take_entries(alloc, sets, entries.as_slice(), path, taken)?;
+    let entries = EntryCursor::over(found.subtype, peers.as_ref(), found.body)?;
+    take_entries(alloc, sets, entries, path, taken)?;
     Ok(())
 }
 
