@@ -1,4 +1,4 @@
-ghost use Rattle.std.specs.Prelude.{◌≡◌, ◌≢◌, ◌≤◌, Ok, Err, OnOk, OnErr, IfErr, IfSome, IsErrOf};
+ghost use Rattle.std.specs.Prelude.{◌≡◌, ◌≢◌, ◌≤◌, Ok, Err, None, OnOk, OnErr, IfErr, IfSome, IsErrOf};
 ghost use Rattle.std.specs.Io.KnownBytes.{IsAtEnd};
 ghost use Rattle.tor_io.specs.Counts.{Rose};
 ghost use Rattle.tor_io.specs.Contents.{LacksFile};
@@ -85,7 +85,7 @@ fn read_records<H: Shelf>(
 ///
 /// Malformed and Limit: the first end in the order of reading. ReadFault: a call on the shelf failed, as an open does at
 /// a name that isn't there. NoMemory: memory ran out. After an error some of the first routes of the file are
-/// taken in.
+/// taken in, and none where the name isn't there.
 pub fn read_dump<H: Shelf>(
     alloc: Global,
     shelf: &mut H,
@@ -101,6 +101,7 @@ pub fn read_dump<H: Shelf>(
         of_file sets dump taken.old (files name.now) ≡ Err end))) }
     ensures some { OnErr result (IfSome (H.files shelf.old) (λ files. IfSome (files name.now) (λ octets.
         TakesSome sets taken.old (file_reading octets).routes taken.new))) }
+    ensures absent { IfSome (H.files shelf.old) (λ files. files name.now ≡ None → taken.new ≡ taken.old) }
     ensures place { IfErr result (IsOfDump dump) }
 
     // The shelf: after Ok nothing of the file is left unread.
