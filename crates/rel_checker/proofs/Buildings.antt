@@ -24,7 +24,7 @@ next_cases rows a b i j lt h =
       | inr p ↦ inl (h.0, p.1, h.2)
     ]
 
-next_kept : (rows : List (List ℕ)) (a b i j : ℕ) → a < length rows → HasNext rows i j → HasNext (with_next rows a b) i j
+pub next_kept : (rows : List (List ℕ)) (a b i j : ℕ) → a < length rows → HasNext rows i j → HasNext (with_next rows a b) i j
 next_kept rows a b i j lt h =
     elim (cases_Bool (nat_eq i a)) [
       | inl t ↦
@@ -37,7 +37,7 @@ next_kept rows a b i j lt h =
       | inr n ↦ (h.0, slice_get-set_other rows a (slice_index_or rows a [] ++ b ∷ []) i (λ e. both_ways (nat_eq i a) n (eq-eqb i a e)) ∙ h.1, h.2)
     ]
 
-next_last : (rows : List (List ℕ)) (a b i j : ℕ) → a < length rows → i ≡ a → j ≡ b → HasNext (with_next rows a b) i j
+pub next_last : (rows : List (List ℕ)) (a b i j : ℕ) → a < length rows → i ≡ a → j ≡ b → HasNext (with_next rows a b) i j
 next_last rows a b i j lt e e' =
     subst (λ k. HasNext (with_next rows a b) k j) (sym e) (subst (λ k. HasNext (with_next rows a b) a k) (sym e')
     (slice_index_or rows a [] ++ b ∷ [], slice_get-set_same rows a (slice_index_or rows a [] ++ b ∷ []) lt, Contains-push (slice_index_or rows a []) b))
@@ -258,13 +258,13 @@ before_end paths path end all x y z = (
 
 -- ---- one place more on a path
 
-length-with_implied : (up up' : Bool) (first second : ℕ) (rows : List (List ℕ)) → length (with_implied up up' first second rows) ≡ length rows
+pub length-with_implied : (up up' : Bool) (first second : ℕ) (rows : List (List ℕ)) → length (with_implied up up' first second rows) ≡ length rows
 length-with_implied true true first second rows = length-with_next rows first second
 length-with_implied false false first second rows = length-with_next rows second first
 length-with_implied true false first second rows = refl
 length-with_implied false true first second rows = refl
 
-length-with_conflicting : (up up' : Bool) (first second : ℕ) (rows : List (List ℕ)) → length (with_conflicting up up' first second rows) ≡ length rows
+pub length-with_conflicting : (up up' : Bool) (first second : ℕ) (rows : List (List ℕ)) → length (with_conflicting up up' first second rows) ≡ length rows
 length-with_conflicting true true first second rows = refl
 length-with_conflicting false false first second rows = refl
 length-with_conflicting true false first second rows = length-with_next (with_next rows first second) second first ∙ length-with_next rows first second

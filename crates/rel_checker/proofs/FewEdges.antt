@@ -42,7 +42,7 @@ steps_in_all (path ∷ paths) =
     let whole = length-append (edges_on path) (flat_map edges_on paths) in
     omega (arith, rest, first, sum, whole)
 
-few_edges : (paths : List (List ℕ)) → length (edges paths) ≤ sum_by length paths
+pub few_edges : (paths : List (List ℕ)) → length (edges paths) ≤ sum_by length paths
 few_edges paths = let a = distinct_shorter (flat_map edges_on paths) in let b = steps_in_all paths in omega (arith, a, b)
 
 -- clean paths have few edges

@@ -3,8 +3,10 @@ pub mod Accepted
 pub mod AgainstLemmas
 pub mod Borne
 pub mod Buildings
+pub mod Climbing
 pub mod ComingBacks
 pub mod Consistencies
+pub mod EdgeListing
 pub mod EdgeTables
 pub mod FewEdges
 pub mod Firsts
@@ -16,6 +18,7 @@ pub mod Listing
 pub mod LostLines
 pub mod MarkLaws
 pub mod Naming
+pub mod Noting
 pub mod OrderLemmas
 pub mod OrderPlaces
 pub mod Passing
@@ -26,9 +29,10 @@ pub mod Settled
 pub mod Settling
 pub mod Showings
 pub mod ShownOrders
+pub mod SlopeLemmas
 pub mod Soundness
+pub mod StepLemmas
 pub mod SupportLemmas
-pub mod Thinnings
 pub mod TotalLemmas
 pub mod Flippings
 pub mod ValleyLemmas

@@ -1,7 +1,8 @@
 -- Counts for the edges of a table.
-use Rattle.std.proofs.Common.{◌≡◌, ℕ, ◌+◌, ◌<◌, ◌≤◌, ◌^◌, inl, inr, ◌⊎◌, not, min, max, ◌||◌, ◌==◌, Bool, true, false, List, [], ◌∷◌, length, take, get_or, replicate, slice_index, count_by, refl, sym, ap, ◌∙◌, arith, if◌then◌else◌}
+use Rattle.std.proofs.Common.{◌≡◌, ℕ, ◌+◌, ◌<◌, ◌≤◌, ◌^◌, inl, inr, ◌⊎◌, not, min, max, ◌||◌, ◌==◌, Bool, true, false, List, [], ◌∷◌, length, take, get_or, replicate, slice_index, count_by, nat_eq, Some, slice_get, refl, sym, ap, ap₂, ◌∙◌, arith, if◌then◌else◌, eq-eqb}
 use Rattle.std.specs.List.{list_any}
-use Rattle.std.proofs.lemmas.Bool.{eqb-false, or_parts, and_parts, not-true, cases_Bool, cases_lt, both_ways, false_from_ne_true}
+use Rattle.std.proofs.lemmas.Bool.{eqb-false, or_parts, and_parts, not-true, cases_Bool, cases_lt, both_ways, false_from_ne_true, ne_eqb}
+use Rattle.std.proofs.lemmas.Option.{slice_get-get_or, same_Some}
 use Rattle.std.proofs.lemmas.List.{get_or_past, length-replicate, get_or-replicate, length-take}
 use Rattle.std.proofs.lemmas.List.Sums.{sum_by-cons, sum_by-append, count_by-le-length}
 use Rattle.relationships.specs.Graph.{Edge, edge_of, is_same, edges_from, edges_on, support}
@@ -9,6 +10,10 @@ use Rattle.relationships.proofs.Edges.{same_edge}
 use Rattle.tor_arena.specs.Distinct.{is_distinct}
 use Rattle.result_text.specs.declared.file.PathLine.{PathLine}
 use Rattle.relationships.specs.Fates.{is_kept}
+use Rattle.result_text.specs.declared.file.EdgeLine.{EdgeLine}
+use Rattle.rel_checker.specs.declared.step.Step.{Step}
+use Rattle.rel_checker.specs.Flipping.{edges_of, AreApart}
+use Rattle.rel_checker.specs.PathSteps.{place_in, AreStepsFrom, AreSteps}
 use Rattle.rel_checker.specs.Tables.{edge_at, HaveRisen, AreCounts, kept_in}
 use Rattle.rel_checker.proofs.Lines.{kept-more, kept-few}
 use Rattle.rel_checker.proofs.EdgeTables.{is_same-self}
@@ -23,46 +28,39 @@ same-flipped e f =
       | inr n ↦ n ∙ sym (false_from_ne_true (is_same f e) (λ t. absurd (both_ways (is_same e f) n (flipped f e t))))
     ]
 
--- ---- the steps of a path
-
--- the counts so far, with the steps that are left, are those at the end
-pub record IsUnderway (es : List Edge) (old counts : List ℕ) (path rest : List ℕ) : Type 0 where
-  pub same : length counts ≡ length old
-  pub so_far : (k : ℕ) → k < length es → slice_index counts k + count_by (is_same (edge_at es k)) (edges_on rest) ≡ slice_index old k + count_by (is_same (edge_at es k)) (edges_on path)
-
 abbrev one : Bool → ℕ
 one b = if b then 1 else 0
 
-pub underway-step : (es : List Edge) (old counts next path : List ℕ) (a b : ℕ) (rest : List ℕ) → IsUnderway es old counts path (a ∷ b ∷ rest) →
-    HaveRisen es (λ e. if is_same (edge_of a b) e then 1 else 0) counts next → IsUnderway es old next path (b ∷ rest)
-underway-step es old counts next path a b rest before risen = record {
-  same = risen.0 ∙ before.same;
-  so_far = λ k within.
-      let e = edge_at es k in
-      let more = risen.1 k within in
-      let all = before.so_far k within in
-      let split = sum_by-cons (λ f. if is_same e f then 1 else 0) (edge_of a b) (edges_from b rest) in
-      let flip : one (is_same e (edge_of a b)) ≡ one (is_same (edge_of a b) e) = ap one (same-flipped e (edge_of a b)) in
-      omega (arith, more, all, split, flip);
-}
+-- ---- the steps of a path
 
-few-from : (a : ℕ) (path : List ℕ) → length (edges_from a path) ≤ length path
-few-from a [] = omega arith
-few-from a (b ∷ path) = omega (arith, few-from b path)
-
-few-steps : (path : List ℕ) → length (edges_on path) ≤ length path
-few-steps [] = omega arith
-few-steps (a ∷ path) = omega (arith, few-from a path)
-
-pub underway-room : (es : List Edge) (old counts path rest : List ℕ) → length old ≡ length es → length path ≤ 2 ^ 26 → ((k : ℕ) → slice_index old k ≤ 2 ^ 23) → IsUnderway es old counts path rest →
-    (k : ℕ) → slice_index counts k ≤ 2 ^ 63
-underway-room es old counts path rest same short few before k =
-    elim (cases_lt k (length es)) [
-      | inl within ↦ omega (arith, before.so_far k within, few k, count_by-le-length (is_same (edge_at es k)) (edges_on path), few-steps path, short)
-      | inr past ↦
-          let none : slice_index counts k ≡ 0 = get_or_past counts k 0 (omega (arith, past, same, before.same)) in
-          omega (arith, none)
+-- in lines that are apart, an edge stands in one place
+same_place : (lines : List EdgeLine) → AreApart lines → (i k : ℕ) (f e : Edge) → slice_get (edges_of lines) i ≡ Some f → slice_get (edges_of lines) k ≡ Some e → nat_eq i k ≡ is_same e f
+same_place lines apart i k f e at at' =
+    elim (cases_Bool (is_same e f)) [
+      | inl t ↦
+          let there : slice_get (edges_of lines) i ≡ Some e = at ∙ ap (λ (g : Edge). Some g) (sym (same_edge e f t)) in
+          eq-eqb i k (apart.once i k e there at') ∙ sym t
+      | inr n ↦ ne_eqb i k (λ same. both_ways (is_same e f) n (itself (same_Some e f (sym at' ∙ ap (slice_get (edges_of lines)) (sym same) ∙ at)))) ∙ sym n
     ]
+  where
+    itself : e ≡ f → is_same e f ≡ true
+    itself h = ap (is_same e) (sym h) ∙ is_same-self e
+
+-- the edges of the steps are those of the path
+steps_from : (lines : List EdgeLine) → AreApart lines → (k : ℕ) (e : Edge) (a : ℕ) (path : List ℕ) (steps : List Step) → slice_get (edges_of lines) k ≡ Some e →
+    AreStepsFrom (edges_of lines) a path steps → count_by (λ (s : Step). nat_eq (place_in s) k) steps ≡ count_by (is_same e) (edges_from a path)
+steps_from lines apart k e a [] [] at h = refl
+steps_from lines apart k e a [] (step ∷ steps) at h = absurd h
+steps_from lines apart k e a (b ∷ path) [] at h = absurd h
+steps_from lines apart k e a (b ∷ path) (step ∷ steps) at h =
+    sum_by-cons (λ (s : Step). one (nat_eq (place_in s) k)) step steps ∙
+    ap₂ (λ t n. one t + n) (same_place lines apart (place_in step) k (edge_of a b) e h.0.0 at) (steps_from lines apart k e b path steps at h.1) ∙
+    sym (sum_by-cons (λ f. one (is_same e f)) (edge_of a b) (edges_from b path))
+
+steps_along : (lines : List EdgeLine) → AreApart lines → (k : ℕ) (e : Edge) (path : List ℕ) (steps : List Step) → slice_get (edges_of lines) k ≡ Some e →
+    AreSteps (edges_of lines) path steps → count_by (λ (s : Step). nat_eq (place_in s) k) steps ≡ count_by (is_same e) (edges_on path)
+steps_along lines apart k e [] steps at h = ap (count_by (λ (s : Step). nat_eq (place_in s) k)) h
+steps_along lines apart k e (a ∷ path) steps at h = steps_from lines apart k e a path steps at h
 
 -- ---- a path with distinct ASes holds an edge at most once
 
@@ -139,6 +137,21 @@ risen-kept es line old new kept distinct risen = (
       let once = once-on e line.path distinct in
       let more = risen.1 k within in
       omega (arith, only, once, more),
+)
+
+pub risen-line : (line : PathLine) (steps : List Step) (old new : List ℕ) → is_kept line.fate ≡ true → is_distinct line.path ≡ true → length new ≡ length old →
+    ((k : ℕ) → slice_index new k ≡ slice_index old k + count_by (λ (s : Step). nat_eq (place_in s) k) steps) →
+    (lines : List EdgeLine) → AreApart lines → length old ≡ length lines → AreSteps (edges_of lines) line.path steps → HaveRisen (edges_of lines) (support (kept_in (line ∷ []))) old new
+risen-line line steps old new kept distinct same counted lines apart many are =
+    risen-kept (edges_of lines) line old new kept distinct (
+      same,
+      λ k within. counted k ∙ ap (λ n. slice_index old k + n) (steps_along lines apart k (edge_at (edges_of lines) k) line.path steps (slice_get-get_or (edges_of lines) k (0, 0) within) are),
+    )
+
+pub risen-lost : (line : PathLine) (old : List ℕ) → is_kept line.fate ≡ false → (es : List Edge) → HaveRisen es (support (kept_in (line ∷ []))) old old
+risen-lost line old lost es = (
+  refl,
+  λ k within. let none : support (kept_in (line ∷ [])) (edge_at es k) ≡ 0 = rw lost refl in omega (arith, none),
 )
 
 -- ---- all lines

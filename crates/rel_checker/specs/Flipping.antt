@@ -1,7 +1,7 @@
 -- Which orders imply which. Each edge has one order against its label; that the edge flips means that it has this order. Edge i
 -- implies edge j where, along a kept path, the order against i's label implies the order against j's label, and conflicts with it
 -- where it rules that order out. So the closure of an order against a label is read off the edges alone.
-use Rattle.std.specs.Prelude.{◌≡◌, ◌⊎◌, ◌↔◌, ℕ, ◌+◌, ◌<◌, Bool, true, false, List, ◌++◌, [], ◌∷◌, length, map, Some, All, Contains, slice_get, slice_index}
+use Rattle.std.specs.Prelude.{◌≡◌, ◌⊎◌, ◌↔◌, ℕ, ◌+◌, ◌<◌, Bool, true, false, not, List, ◌++◌, [], ◌∷◌, length, map, Some, All, Contains, slice_get, slice_index, slice_index_or}
 use Rattle.relationships.specs.declared.label.Label.{Label}
 use Rattle.relationships.specs.declared.label.Label.TheVariants as label
 use Rattle.relationships.specs.Graph.{Edge, edge_of}
@@ -11,7 +11,9 @@ use Rattle.relationships.specs.declared.fate.Fate.TheVariants.{Kept, Lost}
 use Rattle.result_text.specs.declared.file.EdgeLine.{EdgeLine}
 use Rattle.result_text.specs.declared.file.PathLine.{PathLine}
 use Rattle.rel_checker.specs.File.{kept_among}
+use Rattle.rel_checker.specs.declared.step.Step.{Step}
 use Rattle.rel_checker.specs.Neighbours.{HasNext, with_next}
+use Rattle.rel_checker.specs.PathSteps.{place_in, rises_in, labels_on}
 
 -- ---- orders
 
@@ -66,6 +68,12 @@ abbrev pub IsStep : List (ℕ × ℕ) → ℕ → Bool → ℕ → ℕ → Type 
 IsStep orders edge true x y = FlipsTo orders edge x y
 IsStep orders edge false x y = FlipsTo orders edge y x
 
+-- whether a step goes up along an edge with this label, where a peering is read as if its lower number were the provider
+abbrev pub climbs : Label → Bool → Bool
+climbs label.Low rises = not rises
+climbs label.High rises = rises
+climbs label.Peer rises = not rises
+
 -- the rows after two consecutive steps: both up, both down, or a peak
 abbrev pub with_implied : Bool → Bool → ℕ → ℕ → List (List ℕ) → List (List ℕ)
 with_implied true true first second rows = with_next rows first second
@@ -78,6 +86,26 @@ with_conflicting true false first second rows = with_next (with_next rows first 
 with_conflicting false true first second rows = rows
 with_conflicting true true first second rows = rows
 with_conflicting false false first second rows = rows
+
+-- whether a step goes up under the labels of the lines
+abbrev pub climbs_on : List EdgeLine → Step → Bool
+climbs_on lines step = climbs (slice_index_or (labels_on lines) (place_in step) label.Peer) (rises_in step)
+
+-- the rows have the same edges
+abbrev pub SameRows : List (List ℕ) → List (List ℕ) → Type 0
+SameRows rows rows' = (length rows ≡ length rows') × ((i j : ℕ) → HasNext rows i j ↔ HasNext rows' i j)
+
+-- the rows have what two consecutive steps imply and rule out
+abbrev pub HaveArcs : Bool → Bool → ℕ → ℕ → List (List ℕ) → List (List ℕ) → Type 0
+HaveArcs true true first second implied conflicting = HasNext implied first second
+HaveArcs false false first second implied conflicting = HasNext implied second first
+HaveArcs true false first second implied conflicting = HasNext conflicting first second × HasNext conflicting second first
+HaveArcs false true first second implied conflicting = Unit {0}
+
+-- and so for all of these pairs of steps, each step as one number
+abbrev pub AreNoted : List EdgeLine → List (ℕ × ℕ) → List (List ℕ) → List (List ℕ) → Type 0
+AreNoted lines pairs implied conflicting = (s t : Step) → Contains pairs (s.code, t.code) →
+    HaveArcs (climbs_on lines s) (climbs_on lines t) (place_in s) (place_in t) implied conflicting
 
 -- the triples of the paths, and those of one path more at the places below `end`
 abbrev pub TripleBefore : List (List ℕ) → List ℕ → ℕ → ℕ → ℕ → ℕ → Type 0

@@ -3,6 +3,7 @@ pub mod ComingBack
 pub mod File
 pub mod Naming
 pub mod Neighbours
+pub mod PathSteps
 pub mod Rules
 pub mod Serving
 pub mod Showing

@@ -1,6 +1,7 @@
 ghost use Rattle.std.specs.Prelude.{◌≡◌, Some, IfOk};
 ghost use Rattle.relationships.specs.Graph.{edges};
 ghost use Rattle.rel_checker.specs.File.{its_paths, HasFewLines};
+ghost use Rattle.rel_checker.specs.PathSteps.{HaveSteps};
 ghost use Rattle.rel_checker.specs.Rules.{number_of};
 ghost use Rattle.rel_checker.specs.Steps.{MetUpTo, Settles};
 ghost use Rattle.rel_checker.specs.Valid.{Valid};
@@ -9,15 +10,17 @@ ghost use Rattle.rel_checker.specs.Verdict.{Judges};
 use crate::answer::Answer;
 use crate::edge_rules::{find_miscounted, find_unlisted, find_valley, list_edges};
 use crate::edge_table::EdgeTable;
+use crate::labels::Labels;
 use crate::line_numbers::{edge_line, last_line, mark_line, path_line, why_line};
 use crate::mark_rules::find_unmarked;
 use crate::path_rules::{find_repeated, find_unclean};
 use crate::rule::Rule;
+use crate::step::Step;
 use crate::totals::right_totals;
 use crate::walk_rules::{find_unrefuted, find_unshown};
 use result_text::ResultFile;
 use std::alloc::Global;
-use tor_arena::{Keys, NoMemory};
+use tor_arena::{Keys, NoMemory, PathId, Rows};
 
 /// The most that the ratio of degrees of a peering may be.
 const MAX_RATIO: u32 = 1_000_000;
@@ -34,11 +37,12 @@ pub fn check_file(alloc: Global, keys: Keys, file: &ResultFile) -> Result<Answer
     if let Some(answer) = check_paths(alloc, keys, file)? {
         return Ok(answer);
     }
-    let (table, hints) = list_edges(alloc, keys, file)?;
-    if let Some(answer) = check_edges(alloc, file, &table, hints.as_slice())? {
+    let (table, steps) = list_edges(alloc, keys, file)?;
+    let labels = Labels::new(alloc, file.edges.as_slice())?;
+    if let Some(answer) = check_edges(alloc, file, &table, &labels, &steps)? {
         return Ok(answer);
     }
-    if let Some(answer) = check_evidence(alloc, keys, file, &table, hints.as_slice())? {
+    if let Some(answer) = check_evidence(alloc, keys, file, &table, &labels, &steps)? {
         return Ok(answer);
     }
     Ok(check_totals(file))
@@ -69,20 +73,23 @@ fn check_edges(
     alloc: Global,
     file: &ResultFile,
     table: &EdgeTable,
-    hints: &[u32],
+    labels: &Labels<'_>,
+    steps: &Rows<PathId, Step>,
 ) -> Result<Option<Answer>, NoMemory>
     requires lines { HasFewLines file.now }
     requires met { MetUpTo file.now 4 }
     requires table { table.now ≡ edges (its_paths file.now) }
+    requires labels { labels.now ≡ file.now.edges }
+    requires steps { HaveSteps table.now (its_paths file.now) steps.now }
     ensures { IfOk result (Settles file.now 7) }
 {
     if let Some(place) = find_unlisted(file, table) {
         return Ok(Some(no(edge_line(file, place), Rule::EdgesListed)));
     }
-    if let Some(place) = find_valley(file, table, hints) {
+    if let Some(place) = find_valley(file, labels, steps) {
         return Ok(Some(no(path_line(place), Rule::KeptValleyFree)));
     }
-    match find_miscounted(alloc, file, table, hints)? {
+    match find_miscounted(alloc, file, steps)? {
         Some(place) => Ok(Some(no(edge_line(file, place), Rule::SupportCounted))),
         None => Ok(None),
     }
@@ -94,17 +101,20 @@ fn check_evidence(
     keys: Keys,
     file: &ResultFile,
     table: &EdgeTable,
-    hints: &[u32],
+    labels: &Labels<'_>,
+    steps: &Rows<PathId, Step>,
 ) -> Result<Option<Answer>, NoMemory>
     requires lines { HasFewLines file.now }
     requires met { MetUpTo file.now 7 }
     requires table { table.now ≡ edges (its_paths file.now) }
+    requires labels { labels.now ≡ file.now.edges }
+    requires steps { HaveSteps table.now (its_paths file.now) steps.now }
     ensures { IfOk result (Settles file.now 9) }
 {
     if let Some(place) = find_unshown(alloc, keys, file)? {
         return Ok(Some(no(why_line(file, place), Rule::OrdersShown)));
     }
-    match find_unmarked(alloc, file, table, hints)? {
+    match find_unmarked(alloc, keys, file, table, labels, steps)? {
         Some(place) => Ok(Some(no(mark_line(file, place), Rule::MarksBorneOut))),
         None => Ok(None),
     }

@@ -1,48 +1,79 @@
-ghost use Rattle.std.specs.Prelude.{◌≡◌, ◌↔◌, fold, map, slice_get, IsTrue, IfOk, IfNone, OnOk};
-ghost use Rattle.relationships.specs.Graph.{edges_on, edges};
+ghost use Rattle.std.specs.Prelude.{◌≡◌, ◌↔◌, ◌+◌, ◌<◌, ◌≤◌, ◌^◌, ◌++◌, ◌∷◌, [], fold, length, map, slice_get, IsTrue, IfOk, IfNone, OnOk};
+ghost use Rattle.tor_arena.specs.Limits.{most_places};
+ghost use Rattle.relationships.specs.Graph.{edge_of, edges_on, edges};
 ghost use Rattle.rel_checker.specs.File.{its_paths, its_edges};
 ghost use Rattle.rel_checker.specs.declared.rule.Rule.{Rule};
+ghost use Rattle.rel_checker.specs.PathSteps.{IsStepAlong, AreSteps, HaveSteps};
 ghost use Rattle.rel_checker.specs.Rules.{IsMet};
 ghost use Rattle.rel_checker.specs.Tables.{with_edge};
 ghost use Rattle.rel_checker.specs.Verdict.{Finds};
 
 use crate::edge_table::EdgeTable;
-use crate::hints::behind;
-use crate::lending::path_line_at;
+use crate::labels::Labels;
+use crate::lending::{path_line_at, steps_at};
+use crate::step::Step;
 use crate::supports::count_kept;
 use crate::valleys::is_served;
 use result_text::{EdgeLine, ResultFile};
 use std::alloc::Global;
-use tor_arena::{Keys, List, NoMemory};
+use tor_arena::{Keys, List, NoMemory, PathId, RowRefused, Rows};
 
-/// The edges of the paths, in order of first appearance, and hints for the steps of the paths.
+/// The edges of the paths, in order of first appearance, and the steps of each path.
 pub(crate) fn list_edges(
     alloc: Global,
     keys: Keys,
     file: &ResultFile,
-) -> Result<(EdgeTable, List<u32>), NoMemory>
-    ensures { IfOk result (λ listed. listed.0 ≡ edges (its_paths file.now)) }
+) -> Result<(EdgeTable, Rows<PathId, Step>), NoMemory>
+    requires { IsMet file.now Rule.PathsCleaned }
+    ensures edges { IfOk result (λ listed. listed.0 ≡ edges (its_paths file.now)) }
+    ensures steps { IfOk result (λ listed. HaveSteps listed.0 (its_paths file.now) listed.1) }
 {
     let mut table = EdgeTable::new(alloc, keys);
-    let mut hints = List::new(alloc);
+    let mut rows = Rows::new(alloc);
+    let mut steps = List::new(alloc);
     for place in 0..file.paths.len() {
         let line = path_line_at(&file.paths, place);
-        add_steps(&mut table, &mut hints, line.path())?;
+        steps.clear();
+        add_steps(&mut table, &mut steps, line.path())?;
+        add_row(&mut rows, steps.as_slice())?;
     }
-    Ok((table, hints))
+    Ok((table, rows))
 }
 
-/// Adds the edges along a path, and a hint for each of its steps.
-fn add_steps(table: &mut EdgeTable, hints: &mut List<u32>, path: &[u32]) -> Result<(), NoMemory>
-    ensures { OnOk result (table.new ≡ fold with_edge table.old (edges_on path.now)) }
+/// Adds a row, where there are not too many.
+fn add_row(rows: &mut Rows<PathId, Step>, steps: &[Step]) -> Result<(), NoMemory>
+    requires { length rows.old < most_places }
+    ensures { OnOk result (rows.new ≡ rows.old ++ steps.now ∷ []) }
 {
-    let mut rest = path;
-    'steps: while let [a, b, ..] = rest {
-        let place = table.add(*a, *b)?;
-        hints.push(u32::try_from(place).unwrap_or(0))?;
-        rest = &rest[1..];
+    match rows.push_row(steps) {
+        Ok(_) => Ok(()),
+        Err(RowRefused::NoMemory) => Err(NoMemory),
+        Err(RowRefused::Full) => unreachable!(),
+    }
+}
+
+/// Adds the edges along a path, and its steps, where there are no others.
+fn add_steps(table: &mut EdgeTable, steps: &mut List<Step>, path: &[u32]) -> Result<(), NoMemory>
+    requires room { length table.old + length path.now ≤ 2 ^ 26 }
+    requires empty { steps.old ≡ [] }
+    ensures edges { OnOk result (table.new ≡ fold with_edge table.old (edges_on path.now)) }
+    ensures steps { OnOk result (AreSteps table.new path.now steps.new) }
+{
+    for at in 1..path.len() {
+        let step = add_step(table, path[at - 1], path[at])?;
+        steps.push(step)?;
     }
     Ok(())
+}
+
+/// Adds the edge between two ASes, and answers the step from the first to the second.
+fn add_step(table: &mut EdgeTable, from: u32, to: u32) -> Result<Step, NoMemory>
+    requires room { length table.old < 2 ^ 26 }
+    ensures edge { OnOk result (table.new ≡ with_edge table.old (edge_of from to)) }
+    ensures step { IfOk result (IsStepAlong table.new from to) }
+{
+    let place = table.add(from, to)?;
+    Ok(Step::new(place, from < to))
 }
 
 /// The first place in which the edge lines and the edges of the paths differ. It takes no memory.
@@ -76,14 +107,14 @@ fn is_listed(lines: &[EdgeLine], table: &EdgeTable, place: usize) -> bool
 pub(crate) fn find_miscounted(
     alloc: Global,
     file: &ResultFile,
-    table: &EdgeTable,
-    hints: &[u32],
+    steps: &Rows<PathId, Step>,
 ) -> Result<Option<usize>, NoMemory>
-    requires table { table.now ≡ its_edges file.now }
     requires clean { IsMet file.now Rule.PathsCleaned }
+    requires listed { IsMet file.now Rule.EdgesListed }
+    requires steps { HaveSteps (its_edges file.now) (its_paths file.now) steps.now }
     ensures { IfOk result (Finds file.now Rule.SupportCounted) }
 {
-    let counts = count_kept(alloc, file, table, hints)?;
+    let counts = count_kept(alloc, file, steps)?;
     for (place, line) in file.edges.as_slice().iter().enumerate() {
         if line.support != counts[place] {
             return Ok(Some(place));
@@ -93,18 +124,22 @@ pub(crate) fn find_miscounted(
 }
 
 /// The first kept path that is not valley-free under the labels. It takes no memory.
-pub(crate) fn find_valley(file: &ResultFile, table: &EdgeTable, hints: &[u32]) -> Option<usize>
-    requires { table.now ≡ its_edges file.now }
+pub(crate) fn find_valley(
+    file: &ResultFile,
+    labels: &Labels<'_>,
+    steps: &Rows<PathId, Step>,
+) -> Option<usize>
+    requires labels { labels.now ≡ file.now.edges }
+    requires clean { IsMet file.now Rule.PathsCleaned }
+    requires listed { IsMet file.now Rule.EdgesListed }
+    requires steps { HaveSteps (its_edges file.now) (its_paths file.now) steps.now }
     ensures { Finds file.now Rule.KeptValleyFree result }
 {
-    let edges = file.edges.as_slice();
-    let mut first = 0;
     for place in 0..file.paths.len() {
         let line = path_line_at(&file.paths, place);
-        if !is_served(edges, table, hints, first, &line) {
+        if !is_served(labels, &line, steps_at(steps, place)) {
             return Some(place);
         }
-        first = behind(first, line.path());
     }
     None
 }

@@ -69,15 +69,4 @@ impl EdgeTable {
     {
         self.edges.get_index_of(&(a.min(b), a.max(b)))
     }
-
-    /// The same, where the edge is looked for in the place of the hint first. It takes no memory.
-    pub fn place_near(&self, hint: usize, a: u32, b: u32) -> Option<usize>
-        ensures found { MatchOption result (Contains self.now (edge_of a b) → ⊥) (λ k. slice_get self.now k ≡ Some (edge_of a b)) }
-        ensures only { (k : ℕ) → k < length self.now → IsTrue (is_same (edge_of a b) (edge_at self.now k)) ↔ (result ≡ Some k) }
-    {
-        match self.edges.get_index(hint).copied() {
-            Some((low, high)) if low == a.min(b) && high == a.max(b) => Some(hint),
-            _ => self.place(a, b),
-        }
-    }
 }

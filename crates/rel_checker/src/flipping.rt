@@ -1,21 +1,21 @@
 //! Which edges flip together. An edge that flips gets the order that its label does not have; a
 //! peering is read as if its lower number were the provider.
 
-ghost use Rattle.std.specs.Prelude.{◌≡◌, ◌≢◌, ◌+◌, ◌<◌, ◌≤◌, ℕ, ◌∷◌, ◌++◌, [], List as Items, length, All, Contains, OnOk, IfOk};
+ghost use Rattle.std.specs.Prelude.{◌≡◌, ◌<◌, ◌≤◌, ℕ, ◌∷◌, ◌++◌, [], List as Items, length, OnOk, IfOk};
 ghost use Rattle.tor_arena.specs.Limits.{most_places};
-ghost use Rattle.relationships.specs.Graph.{edge_of};
-ghost use Rattle.tor_arena.specs.Distinct.{AllDistinct};
-ghost use Rattle.rel_checker.specs.Flipping.{flipped_orders, edges_of, IsBuiltFor, IsStep, with_implied, with_conflicting, with_kept, kept_lines, IsListed, IsProper};
+ghost use Rattle.rel_checker.specs.File.{its_edges, its_paths};
+ghost use Rattle.rel_checker.specs.Flipping.{climbs, climbs_on, SameRows, AreNoted, flipped_orders, edges_of, IsBuiltFor, with_implied, with_conflicting, with_kept, kept_lines, IsProper};
+ghost use Rattle.rel_checker.specs.PathSteps.{place_in, AreSteps, HaveSteps};
 
-use crate::edge_table::EdgeTable;
-use crate::hints::{behind, hint_at};
-use crate::lending::path_line_at;
+use crate::labels::Labels;
+use crate::lending::{path_line_at, steps_at};
 use crate::neighbours::Neighbours;
-use crate::thinning::thin_out;
+use crate::pairs::Pairs;
+use crate::step::Step;
 use relationships::Label;
-use result_text::{EdgeLine, PathLineRef, ResultFile};
+use result_text::{PathLineRef, ResultFile};
 use std::alloc::Global;
-use tor_arena::{EdgeId, Index, NoMemory};
+use tor_arena::{EdgeId, Index, Keys, NoMemory, PathId, Rows};
 
 /// For each edge the edges that it implies, which flip where it does, and those with which it
 /// conflicts, which can't flip where it does.
@@ -25,38 +25,41 @@ pub(crate) struct Flips {
     pub conflicting: Neighbours,
 }
 
-/// A step of a path: its edge, and whether it goes up.
+/// A step under the labels: its edge, and whether it goes up.
 #[derive(Drop)]
-struct Step {
+struct Climb {
     edge: EdgeId,
     up: bool,
 }
 
-/// The step from an AS to a neighbour.
-fn step_of(lines: &[EdgeLine], table: &EdgeTable, hint: usize, from: u32, to: u32) -> Step
-    requires table { table.now ≡ edges_of lines.now }
-    requires few { length lines.now ≤ most_places }
-    requires apart { from ≢ to }
-    requires listed { Contains table.now (edge_of from to) }
-    ensures within { result.edge < length lines.now }
-    ensures step { IsStep (flipped_orders lines.now) result.edge result.up from to }
+/// How a step goes under the labels.
+fn climb_of(labels: &Labels<'_>, step: Step) -> Climb
+    requires few { length labels.now ≤ most_places }
+    requires inside { place_in step < length labels.now }
+    ensures edge { result.edge ≡ place_in step }
+    ensures up { result.up ≡ climbs_on labels.now step }
 {
-    let Some(place) = table.place_near(hint, from, to) else {
-        unreachable!();
-    };
+    let place = step.place();
     let Some(edge) = EdgeId::from_place(place) else {
         unreachable!();
     };
-    let up = match lines[place].label {
-        Label::High => from < to,
-        _ => to < from,
-    };
-    Step { edge, up }
+    let up = climbs(labels.of(place), step.rises());
+    Climb { edge, up }
+}
+
+/// Whether a step goes up along an edge with this label.
+fn climbs(label: Label, rises: bool) -> bool
+    ensures { result ≡ climbs label rises }
+{
+    match label {
+        Label::High => rises,
+        _ => !rises,
+    }
 }
 
 impl Flips {
     /// Notes what two consecutive steps of a path imply or rule out.
-    fn note(&mut self, first: &Step, second: &Step) -> Result<(), NoMemory>
+    fn note(&mut self, first: &Climb, second: &Climb) -> Result<(), NoMemory>
         requires first { first.now.edge < length self.old.implied }
         requires second { second.now.edge < length self.old.implied }
         requires many { length self.old.conflicting ≡ length self.old.implied }
@@ -76,37 +79,55 @@ impl Flips {
         }
     }
 
+    /// Notes what two consecutive steps of a path imply or rule out, unless the same two are among the pairs that were noted.
+    fn note_pair(
+        &mut self,
+        labels: &Labels<'_>,
+        noted: &mut Pairs,
+        first: Step,
+        second: Step,
+    ) -> Result<(), NoMemory>
+        requires few { length labels.now ≤ most_places }
+        requires first { place_in first < length labels.now }
+        requires second { place_in second < length labels.now }
+        requires implied { length self.old.implied ≡ length labels.now }
+        requires conflicting { length self.old.conflicting ≡ length labels.now }
+        requires noted { AreNoted labels.now noted.old self.old.implied self.old.conflicting }
+        ensures noted { OnOk result (AreNoted labels.now noted.new self.new.implied self.new.conflicting) }
+        ensures implied { OnOk result (SameRows self.new.implied (with_implied (climbs_on labels.now first) (climbs_on labels.now second)
+            (place_in first) (place_in second) self.old.implied)) }
+        ensures conflicting { OnOk result (SameRows self.new.conflicting (with_conflicting (climbs_on labels.now first)
+            (climbs_on labels.now second) (place_in first) (place_in second) self.old.conflicting)) }
+    {
+        if noted.has(first.code(), second.code()) {
+            return Ok(());
+        }
+        noted.push(first.code(), second.code())?;
+        self.note(&climb_of(labels, first), &climb_of(labels, second))
+    }
+
     /// Notes what the steps of a path imply or rule out.
     fn note_path(
         &mut self,
-        lines: &[EdgeLine],
-        table: &EdgeTable,
-        hints: &[u32],
-        first: usize,
+        labels: &Labels<'_>,
+        noted: &mut Pairs,
         path: &[u32],
+        steps: &[Step],
     ) -> Result<(), NoMemory>
-        requires table { table.now ≡ edges_of lines.now }
-        requires few { length lines.now ≤ most_places }
-        requires proper { IsProper (flipped_orders lines.now) }
-        requires distinct { AllDistinct path.now }
-        requires listed { IsListed table.now path.now }
-        requires implied { length self.old.implied ≡ length lines.now }
-        requires conflicting { length self.old.conflicting ≡ length lines.now }
-        ensures implied { OnOk result (length self.new.implied ≡ length lines.now) }
-        ensures conflicting { OnOk result (length self.new.conflicting ≡ length lines.now) }
-        ensures built { OnOk result ((paths : Items (Items ℕ)) → IsBuiltFor lines.now paths self.old.implied self.old.conflicting →
-            IsBuiltFor lines.now (paths ++ path.now ∷ []) self.new.implied self.new.conflicting) }
+        requires few { length labels.now ≤ most_places }
+        requires proper { IsProper (flipped_orders labels.now) }
+        requires steps { AreSteps (edges_of labels.now) path.now steps.now }
+        requires implied { length self.old.implied ≡ length labels.now }
+        requires conflicting { length self.old.conflicting ≡ length labels.now }
+        requires noted { AreNoted labels.now noted.old self.old.implied self.old.conflicting }
+        ensures implied { OnOk result (length self.new.implied ≡ length labels.now) }
+        ensures conflicting { OnOk result (length self.new.conflicting ≡ length labels.now) }
+        ensures noted { OnOk result (AreNoted labels.now noted.new self.new.implied self.new.conflicting) }
+        ensures built { OnOk result ((paths : Items (Items ℕ)) → IsBuiltFor labels.now paths self.old.implied self.old.conflicting →
+            IsBuiltFor labels.now (paths ++ path.now ∷ []) self.new.implied self.new.conflicting) }
     {
-        if path.len() < 2 {
-            return Ok(());
-        }
-        let mut before = step_of(lines, table, hint_at(hints, first), path[0], path[1]);
-        let mut step = first;
         for at in 2..path.len() {
-            step = step.wrapping_add(1);
-            let next = step_of(lines, table, hint_at(hints, step), path[at - 1], path[at]);
-            self.note(&before, &next)?;
-            before = next;
+            self.note_pair(labels, noted, steps[at - 2], steps[at - 1])?;
         }
         Ok(())
     }
@@ -114,58 +135,54 @@ impl Flips {
     /// Notes what the steps of a line's path imply or rule out, if it is kept.
     fn note_line(
         &mut self,
-        lines: &[EdgeLine],
-        table: &EdgeTable,
-        hints: &[u32],
-        first: usize,
+        labels: &Labels<'_>,
+        noted: &mut Pairs,
         line: &PathLineRef<'_>,
+        steps: &[Step],
     ) -> Result<(), NoMemory>
-        requires table { table.now ≡ edges_of lines.now }
-        requires few { length lines.now ≤ most_places }
-        requires proper { IsProper (flipped_orders lines.now) }
-        requires distinct { AllDistinct line.now.path }
-        requires listed { IsListed table.now line.now.path }
-        requires implied { length self.old.implied ≡ length lines.now }
-        requires conflicting { length self.old.conflicting ≡ length lines.now }
-        ensures implied { OnOk result (length self.new.implied ≡ length lines.now) }
-        ensures conflicting { OnOk result (length self.new.conflicting ≡ length lines.now) }
-        ensures built { OnOk result ((paths : Items (Items ℕ)) → IsBuiltFor lines.now paths self.old.implied self.old.conflicting →
-            IsBuiltFor lines.now (with_kept paths line.now.path line.now.fate) self.new.implied self.new.conflicting) }
+        requires few { length labels.now ≤ most_places }
+        requires proper { IsProper (flipped_orders labels.now) }
+        requires steps { AreSteps (edges_of labels.now) line.now.path steps.now }
+        requires implied { length self.old.implied ≡ length labels.now }
+        requires conflicting { length self.old.conflicting ≡ length labels.now }
+        requires noted { AreNoted labels.now noted.old self.old.implied self.old.conflicting }
+        ensures implied { OnOk result (length self.new.implied ≡ length labels.now) }
+        ensures conflicting { OnOk result (length self.new.conflicting ≡ length labels.now) }
+        ensures noted { OnOk result (AreNoted labels.now noted.new self.new.implied self.new.conflicting) }
+        ensures built { OnOk result ((paths : Items (Items ℕ)) → IsBuiltFor labels.now paths self.old.implied self.old.conflicting →
+            IsBuiltFor labels.now (with_kept paths line.now.path line.now.fate) self.new.implied self.new.conflicting) }
     {
         if line.is_kept() {
-            self.note_path(lines, table, hints, first, line.path())
+            self.note_path(labels, noted, line.path(), steps)
         } else {
             Ok(())
         }
     }
 
-    /// What the kept paths imply and rule out.
+    /// What the kept paths imply and rule out. The keys are those of a hash table, and no answer depends on them.
     pub fn of_file(
         alloc: Global,
+        keys: Keys,
         file: &ResultFile,
-        table: &EdgeTable,
-        hints: &[u32],
+        labels: &Labels<'_>,
+        steps: &Rows<PathId, Step>,
     ) -> Result<Flips, NoMemory>
-        requires table { table.now ≡ edges_of file.now.edges }
+        requires labels { labels.now ≡ file.now.edges }
         requires few { length file.now.edges ≤ most_places }
         requires proper { IsProper (flipped_orders file.now.edges) }
-        requires distinct { All (λ line. AllDistinct line.path) file.now.paths }
-        requires listed { All (λ line. IsListed table.now line.path) file.now.paths }
+        requires steps { HaveSteps (its_edges file.now) (its_paths file.now) steps.now }
         ensures { IfOk result (λ flips. IsBuiltFor file.now.edges (kept_lines file.now.paths) flips.implied flips.conflicting) }
     {
-        let lines = file.edges.as_slice();
+        let count = file.edges.len();
         let mut flips = Flips {
-            implied: Neighbours::new(alloc, lines.len())?,
-            conflicting: Neighbours::new(alloc, lines.len())?,
+            implied: Neighbours::new(alloc, count)?,
+            conflicting: Neighbours::new(alloc, count)?,
         };
-        let mut first = 0;
+        let mut noted = Pairs::new(alloc, keys);
         for place in 0..file.paths.len() {
             let line = path_line_at(&file.paths, place);
-            flips.note_line(lines, table, hints, first, &line)?;
-            first = behind(first, line.path());
+            flips.note_line(labels, &mut noted, &line, steps_at(steps, place))?;
         }
-        thin_out(alloc, &mut flips.implied)?;
-        thin_out(alloc, &mut flips.conflicting)?;
         Ok(flips)
     }
 }

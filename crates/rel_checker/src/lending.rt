@@ -1,10 +1,11 @@
-//! Lines of a result by their places.
+//! Lines of a result, and the steps of its paths, by their places.
 
 ghost use Rattle.std.specs.Prelude.{◌≡◌, ◌<◌, Some, length, slice_get};
 
+use crate::step::Step;
 use relationships::{WalkRef, Walks};
 use result_text::{PathLineRef, PathLines};
-use tor_arena::{Index, PathId, WalkId};
+use tor_arena::{Index, PathId, Rows, WalkId};
 
 /// The path line in a place, from 0, which has to be there. It takes no memory.
 pub(crate) fn path_line_at(lines: &PathLines, place: usize) -> PathLineRef<'_>
@@ -15,6 +16,19 @@ pub(crate) fn path_line_at(lines: &PathLines, place: usize) -> PathLineRef<'_>
     prove!(place < count);
     match PathId::from_place(place) {
         Some(id) => lines.get(id),
+        None => unreachable!(),
+    }
+}
+
+/// The steps of the path in a place, from 0, which has to be there. It takes no memory.
+pub(crate) fn steps_at(steps: &Rows<PathId, Step>, place: usize) -> &[Step]
+    requires { place < length steps.now }
+    ensures { slice_get steps.now place ≡ Some result.now }
+{
+    let count = steps.len();
+    prove!(place < count);
+    match PathId::from_place(place) {
+        Some(id) => steps.row(id),
         None => unreachable!(),
     }
 }

@@ -2,8 +2,9 @@
 
 ghost use Rattle.std.specs.Prelude.{◌≡◌, ◌+◌, ◌≤◌, length, IfOk};
 ghost use Rattle.tor_arena.specs.Limits.{most_places};
-ghost use Rattle.rel_checker.specs.File.{its_edges, its_probes, shown_orders, HasFewLines};
+ghost use Rattle.rel_checker.specs.File.{its_edges, its_paths, its_probes, shown_orders, HasFewLines};
 ghost use Rattle.rel_checker.specs.declared.rule.Rule.{Rule};
+ghost use Rattle.rel_checker.specs.PathSteps.{HaveSteps};
 ghost use Rattle.rel_checker.specs.Rules.{IsMet};
 ghost use Rattle.rel_checker.specs.Verdict.{Finds};
 ghost use Rattle.rel_checker.specs.Serving.{Covers, IsShownBy, First, MarkedAt, is_borne};
@@ -11,12 +12,14 @@ ghost use Rattle.rel_checker.specs.Serving.{Covers, IsShownBy, First, MarkedAt, 
 use crate::consistency::find_useless;
 use crate::edge_table::EdgeTable;
 use crate::flipping::Flips;
+use crate::labels::Labels;
 use crate::serving::cover_all;
 use crate::showing::list_shown;
+use crate::step::Step;
 use relationships::Label;
 use result_text::{EdgeLine, Mark, ResultFile};
 use std::alloc::Global;
-use tor_arena::{Arena, EdgeId, Index, NoMemory};
+use tor_arena::{Arena, EdgeId, Index, Keys, NoMemory, PathId, Rows};
 
 /// Whether the mark of an edge is borne out, by whether an order of it is shown, and whether an
 /// open line's closure has its other order.
@@ -58,18 +61,22 @@ fn find_unborne(
 /// The place of the first line that breaks the rule on marks: edge lines, and then open lines.
 pub(crate) fn find_unmarked(
     alloc: Global,
+    keys: Keys,
     file: &ResultFile,
     table: &EdgeTable,
-    hints: &[u32],
+    labels: &Labels<'_>,
+    steps: &Rows<PathId, Step>,
 ) -> Result<Option<usize>, NoMemory>
     requires lines { HasFewLines file.now }
     requires table { table.now ≡ its_edges file.now }
+    requires labels { labels.now ≡ file.now.edges }
+    requires steps { HaveSteps (its_edges file.now) (its_paths file.now) steps.now }
     requires cleaned { IsMet file.now Rule.PathsCleaned }
     requires listed { IsMet file.now Rule.EdgesListed }
     requires served { IsMet file.now Rule.KeptValleyFree }
     ensures { IfOk result (Finds file.now Rule.MarksBorneOut) }
 {
-    let flips = Flips::of_file(alloc, file, table, hints)?;
+    let flips = Flips::of_file(alloc, keys, file, labels, steps)?;
     let cover = cover_all(alloc, file, table, &flips)?;
     let shown = list_shown(alloc, file, table)?;
     if let Some(place) = find_unborne(file, &shown, &cover.rounds) {

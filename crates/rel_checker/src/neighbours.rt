@@ -1,4 +1,4 @@
-ghost use Rattle.std.specs.Prelude.{◌≡◌, ◌<◌, ◌≤◌, [], Some, length, replicate, slice_get, slice_set, OnOk, IfOk};
+ghost use Rattle.std.specs.Prelude.{◌≡◌, ◌<◌, ◌≤◌, [], Some, length, replicate, slice_get, OnOk, IfOk};
 ghost use Rattle.tor_arena.specs.Limits.{most_places};
 ghost use Rattle.rel_checker.specs.Neighbours.{with_next};
 
@@ -57,13 +57,5 @@ impl Neighbours {
         ensures { result ≡ length self.now }
     {
         self.rows.len()
-    }
-
-    /// Puts another row in place of the row of an edge. It takes no memory.
-    pub fn put(&mut self, edge: EdgeId, row: List<EdgeId>)
-        requires { edge < length self.old }
-        ensures { self.new ≡ slice_set self.old edge row }
-    {
-        self.rows.put(edge, row);
     }
 }

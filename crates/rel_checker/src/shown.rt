@@ -5,7 +5,7 @@ ghost use Rattle.rel_checker.specs.File.{kept_among};
 ghost use Rattle.rel_checker.specs.Showing.{Starts};
 
 use crate::links::is_walk;
-use crate::orders::Orders;
+use crate::pairs::Pairs;
 use relationships::WalkRef;
 use result_text::PathLines;
 
@@ -20,7 +20,7 @@ pub(crate) fn last_two(ases: &[u32]) -> Option<(u32, u32)>
 }
 
 /// Whether they begin with "under over", or with an order that is shown.
-fn starts(ases: &[u32], shown: &Orders, over: u32, under: u32) -> bool
+fn starts(ases: &[u32], shown: &Pairs, over: u32, under: u32) -> bool
     ensures { IsTrue result ↔ Starts ases.now shown.now over under }
 {
     let [first, second, ..] = ases else {
@@ -33,14 +33,14 @@ fn starts(ases: &[u32], shown: &Orders, over: u32, under: u32) -> bool
 }
 
 /// Whether the order or its opposite is shown.
-fn is_known(shown: &Orders, over: u32, under: u32) -> bool
+fn is_known(shown: &Pairs, over: u32, under: u32) -> bool
     ensures { IsTrue result ↔ Contains shown.now (over, under) ⊎ Contains shown.now (under, over) }
 {
     shown.has(over, under) || shown.has(under, over)
 }
 
 /// The order that the walk shows over the paths of the kept lines, if it shows one that is new.
-pub(crate) fn shown_by(lines: &PathLines, shown: &Orders, walk: &WalkRef<'_>) -> Option<(u32, u32)>
+pub(crate) fn shown_by(lines: &PathLines, shown: &Pairs, walk: &WalkRef<'_>) -> Option<(u32, u32)>
     ensures some { IfSome result (λ order. Shows (kept_among lines.now) shown.now walk.now order.0 order.1) }
     ensures none { IfNone result ((a b : ℕ) → Shows (kept_among lines.now) shown.now walk.now a b → ⊥) }
 {

@@ -1,72 +1,60 @@
-ghost use Rattle.std.specs.Prelude.{◌≡◌, ◌↔◌, min, max, map, IsTrue};
-ghost use Rattle.relationships.specs.Relationship.{Labelling, is_over, ValleyFree};
+ghost use Rattle.std.specs.Prelude.{◌≡◌, ◌↔◌, ◌<◌, ℕ, All, List, length, IsTrue};
+ghost use Rattle.tor_arena.specs.Distinct.{AllDistinct};
+ghost use Rattle.relationships.specs.Relationship.{Labelling, slopes, ValleyFree};
 ghost use Rattle.relationships.specs.declared.fate.Fate.TheVariants.{Kept};
+ghost use Rattle.rel_checker.specs.Flipping.{edges_of, AreApart};
+ghost use Rattle.rel_checker.specs.PathSteps.{place_in, AreSteps, step_slope, slopes_by, is_up, is_down};
 ghost use Rattle.rel_checker.specs.Tables.{labels_in};
 
-use crate::edge_table::EdgeTable;
-use crate::hints::hint_at;
+use crate::labels::Labels;
+use crate::step::Step;
 use relationships::Label;
-use result_text::{EdgeLine, PathLineRef};
+use result_text::PathLineRef;
 
-/// Whether a path is valley-free under the labels of the edge lines, if it is kept. The hint of its first step is the `first` one.
-/// It takes no memory.
-pub(crate) fn is_served(
-    edges: &[EdgeLine],
-    table: &EdgeTable,
-    hints: &[u32],
-    first: usize,
-    line: &PathLineRef<'_>,
-) -> bool
-    requires { table.now ≡ map (λ e. (e.low, e.high)) edges.now }
-    ensures { IsTrue result ↔ (line.now.fate ≡ Kept → ValleyFree (labels_in edges.now) line.now.path) }
+/// Whether a path with these steps is valley-free under the labels, if it is kept. It takes no memory.
+pub(crate) fn is_served(labels: &Labels<'_>, line: &PathLineRef<'_>, steps: &[Step]) -> bool
+    requires apart { AreApart labels.now }
+    requires distinct { AllDistinct line.now.path }
+    requires steps { AreSteps (edges_of labels.now) line.now.path steps.now }
+    ensures { IsTrue result ↔ (line.now.fate ≡ Kept → ValleyFree (labels_in labels.now) line.now.path) }
 {
-    !line.is_kept() || is_valley_free(edges, table, hints, first, line.path())
+    !line.is_kept() || is_valley_free(labels, steps)
 }
 
-/// Whether the steps of a path go up and then down, with at most one flat one between. It falls from the first that doesn't go up.
-fn is_valley_free(
-    edges: &[EdgeLine],
-    table: &EdgeTable,
-    hints: &[u32],
-    first: usize,
-    path: &[u32],
-) -> bool
-    requires { table.now ≡ map (λ e. (e.low, e.high)) edges.now }
-    ensures { IsTrue result ↔ ValleyFree (labels_in edges.now) path.now }
+/// Whether the steps go up and then down, with at most one flat one between. The path falls from the first that doesn't go up.
+fn is_valley_free(labels: &Labels<'_>, steps: &[Step]) -> bool
+    requires { All (λ s. place_in s < length labels.now) steps.now }
+    ensures { (L : Labelling) (path : List ℕ) → slopes L path ≡ slopes_by labels.now steps.now → IsTrue result ↔ ValleyFree L path }
 {
     let mut falling = false;
-    let mut rest = path;
-    let mut step = first;
-    'steps: while let [a, b, ..] = rest {
-        let label = label_between(edges, table, hint_at(hints, step), *a, *b);
-        step = step.wrapping_add(1);
-        if falling && !is_provider(label, *a, *b) {
+    for step in steps {
+        let label = labels.of(step.place());
+        if falling && !goes_down(label, step.rises()) {
             return false;
         }
-        falling = !is_provider(label, *b, *a);
-        rest = &rest[1..];
+        falling = !goes_up(label, step.rises());
     }
     true
 }
 
-/// The label of the edge between two ASes, which is peer where there is no such edge.
-fn label_between(edges: &[EdgeLine], table: &EdgeTable, hint: usize, a: u32, b: u32) -> Label
-    requires { table.now ≡ map (λ e. (e.low, e.high)) edges.now }
-    ensures { result ≡ labels_in edges.now (min a b) (max a b) }
+/// Whether a step goes to a provider.
+fn goes_up(label: Label, rises: bool) -> bool
+    ensures { result ≡ is_up (step_slope label rises) }
 {
-    match table.place_near(hint, a, b) {
-        Some(place) => edges[place].label,
-        None => Label::Peer,
+    match label {
+        Label::Low => !rises,
+        Label::High => rises,
+        Label::Peer => false,
     }
 }
 
-/// Whether a is the provider of b, where the edge between them has the label.
-fn is_provider(label: Label, a: u32, b: u32) -> bool
-    ensures { (L : Labelling) → L (min a b) (max a b) ≡ label → result ≡ is_over L a b }
+/// Whether a step goes to a customer.
+fn goes_down(label: Label, rises: bool) -> bool
+    ensures { result ≡ is_down (step_slope label rises) }
 {
     match label {
-        Label::Low => a < b,
-        Label::High => b < a,
+        Label::Low => rises,
+        Label::High => !rises,
         Label::Peer => false,
     }
 }

@@ -9,7 +9,7 @@ ghost use Rattle.rel_checker.specs.Verdict.{Finds};
 use crate::closed_walks::comes_back;
 use crate::lending::{path_line_at, walk_at};
 use crate::links::is_walk;
-use crate::orders::Orders;
+use crate::pairs::Pairs;
 use crate::shown::shown_by;
 use relationships::WalkRef;
 use result_text::{PathLineRef, PathLines, ResultFile};
@@ -57,7 +57,7 @@ pub(crate) fn find_unshown(
 ) -> Result<Option<usize>, NoMemory>
     ensures { IfOk result (Finds file.now OrdersShown) }
 {
-    let mut shown = Orders::new(alloc, keys);
+    let mut shown = Pairs::new(alloc, keys);
     for place in 0..file.whys.len() {
         let walk = walk_at(&file.whys, place);
         let Some((over, under)) = shown_by(&file.paths, &shown, &walk) else {

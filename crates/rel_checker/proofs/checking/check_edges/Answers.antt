@@ -1,5 +1,8 @@
-use Rattle.std.proofs.Common.{refl, arith}
+use Rattle.std.proofs.Common.{refl, arith, sym, subst, ◌∙◌}
 use Rattle.rel_checker.specs.declared.rule.Rule.TheVariants.{PathsCleaned, EdgesListed, KeptValleyFree, SupportCounted}
+use Rattle.rel_checker.specs.File.{its_paths}
+use Rattle.rel_checker.specs.PathSteps.{HaveSteps}
+use Rattle.rel_checker.proofs.Accepted.{edges_listed}
 use Rattle.rel_checker.proofs.Settling.{next_met, judged, refused, found_none, found_some}
 use Rattle.rel_checker.proofs.checking.check_edges.Goals as goal
 
@@ -10,6 +13,28 @@ returns-in-Some-find_valley c =
     judged file c.no-in-Some-find_valley.result c.path_line.result 6 c.no-in-Some-find_valley.ensures
     (refused file KeptValleyFree 5 c.in-Some-find_valley.place c.path_line.result 6 refl met5
     (found_some file KeptValleyFree c.find_valley.result c.in-Some-find_valley.place c.find_valley.ensures c.in-Some-find_valley.is) refl c.path_line.ensures)
+
+pub find_valley-requires : goal.find_valley-requires
+find_valley-requires c =
+    let file = c.args.file.now in
+    let met5 = next_met file EdgesListed 4 refl c.requires.met (found_none file EdgesListed c.find_unlisted.result c.find_unlisted.ensures.found c.in_default.is) in
+    record {
+      labels = c.requires.labels;
+      clean = c.requires.met PathsCleaned (omega arith);
+      listed = met5 EdgesListed (omega arith);
+      steps = subst (λ es. HaveSteps es (its_paths file) c.args.steps.now) (c.requires.table ∙ sym (edges_listed file (met5 EdgesListed (omega arith)))) c.requires.steps;
+    }
+
+pub find_miscounted-requires-clause-listed : goal.find_miscounted-requires-clause-listed
+find_miscounted-requires-clause-listed c =
+    let file = c.args.file.now in
+    next_met file EdgesListed 4 refl c.requires.met (found_none file EdgesListed c.find_unlisted.result c.find_unlisted.ensures.found c.in_default.is) EdgesListed (omega arith)
+
+pub find_miscounted-requires-clause-steps : goal.find_miscounted-requires-clause-steps
+find_miscounted-requires-clause-steps c =
+    let file = c.args.file.now in
+    let met5 = next_met file EdgesListed 4 refl c.requires.met (found_none file EdgesListed c.find_unlisted.result c.find_unlisted.ensures.found c.in_default.is) in
+    subst (λ es. HaveSteps es (its_paths file) c.args.steps.now) (c.requires.table ∙ sym (edges_listed file (met5 EdgesListed (omega arith)))) c.requires.steps
 
 pub find_miscounted-requires-clause-clean : goal.find_miscounted-requires-clause-clean
 find_miscounted-requires-clause-clean c = c.requires.met PathsCleaned (omega arith)

@@ -1,5 +1,7 @@
-use Rattle.std.proofs.Common.{refl, sym, arith, ◌∙◌}
+use Rattle.std.proofs.Common.{refl, sym, arith, subst, ◌∙◌}
 use Rattle.rel_checker.specs.declared.rule.Rule.TheVariants.{PathsCleaned, EdgesListed, KeptValleyFree, OrdersShown, MarksBorneOut}
+use Rattle.rel_checker.specs.File.{its_paths}
+use Rattle.rel_checker.specs.PathSteps.{HaveSteps}
 use Rattle.rel_checker.proofs.Accepted.{edges_listed}
 use Rattle.rel_checker.proofs.Settling.{next_met, judged, refused, found_none, found_some}
 use Rattle.rel_checker.proofs.checking.check_evidence.Goals as goal
@@ -15,6 +17,11 @@ find_unmarked-requires-clause-served c = c.requires.met KeptValleyFree (omega ar
 
 pub find_unmarked-requires-clause-table : goal.find_unmarked-requires-clause-table
 find_unmarked-requires-clause-table c = c.requires.table ∙ sym (edges_listed c.args.file.now (c.requires.met EdgesListed (omega arith)))
+
+pub find_unmarked-requires-clause-steps : goal.find_unmarked-requires-clause-steps
+find_unmarked-requires-clause-steps c =
+    subst (λ es. HaveSteps es (its_paths c.args.file.now) c.args.steps.now)
+    (c.requires.table ∙ sym (edges_listed c.args.file.now (c.requires.met EdgesListed (omega arith)))) c.requires.steps
 
 pub returns-in-Some-2 : goal.returns-in-Some-2
 returns-in-Some-2 c =

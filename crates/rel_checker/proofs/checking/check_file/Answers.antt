@@ -1,3 +1,6 @@
+use Rattle.std.proofs.Common.{subst, arith}
+use Rattle.rel_checker.specs.declared.rule.Rule.TheVariants.{PathsCleaned}
+use Rattle.rel_checker.specs.Steps.{MetUpTo, Settles}
 use Rattle.rel_checker.proofs.Acceptance.{valid_if_yes, valid_if_settled}
 use Rattle.rel_checker.proofs.checking.check_file.Goals as goal
 
@@ -12,3 +15,8 @@ returns-in-Some-3-clause-valid c = valid_if_settled c.args.file.now 9 c.in_ok-an
 
 pub returns-clause-valid : goal.returns-clause-valid
 returns-clause-valid c = valid_if_yes c.args.file.now c.check_totals.result c.check_totals.ensures
+
+pub list_edges-requires : goal.list_edges-requires
+list_edges-requires c =
+    let met : MetUpTo c.args.file.now 4 = subst (Settles c.args.file.now 4) c.in_default.is c.in_ok-answer.ensures in
+    met PathsCleaned (omega arith)

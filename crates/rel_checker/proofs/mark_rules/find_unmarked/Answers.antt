@@ -1,7 +1,7 @@
 use Rattle.std.proofs.Common.{◌≡◌, ◌+◌, ◌^◌, length, ap, subst, refl, arith}
 use Rattle.rel_checker.specs.Serving.{First, ServesAt}
 use Rattle.rel_checker.proofs.OrderPlaces.{proper}
-use Rattle.rel_checker.proofs.Settled.{lines_distinct, edges_few, edges_apart, lines_listed, laid}
+use Rattle.rel_checker.proofs.Settled.{edges_few, edges_apart, laid}
 use Rattle.rel_checker.proofs.Borne.{none_breaks, edge_breaks, open_breaks}
 use Rattle.rel_checker.proofs.mark_rules.find_unmarked.Goals as goal
 
@@ -10,12 +10,6 @@ of_file-requires-clause-few c = edges_few c.args.file.now c.requires.cleaned c.r
 
 pub of_file-requires-clause-proper : goal.of_file-requires-clause-proper
 of_file-requires-clause-proper c = proper c.args.file.now.edges (edges_apart c.args.file.now c.requires.cleaned c.requires.listed)
-
-pub of_file-requires-clause-distinct : goal.of_file-requires-clause-distinct
-of_file-requires-clause-distinct c = lines_distinct c.args.file.now c.requires.cleaned
-
-pub of_file-requires-clause-listed : goal.of_file-requires-clause-listed
-of_file-requires-clause-listed c = rw c.requires.table (lines_listed c.args.file.now c.requires.cleaned c.requires.listed)
 
 pub cover_all-requires : goal.cover_all-requires
 cover_all-requires c =

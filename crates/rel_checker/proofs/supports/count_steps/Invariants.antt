@@ -1,9 +1,11 @@
-use Rattle.std.proofs.Common.{length}
-use Rattle.rel_checker.proofs.SupportLemmas.{IsUnderway}
+use Rattle.std.proofs.Common.{◌≡◌, ℕ, ◌+◌, length, get_or, take, nat_eq}
+use Rattle.std.specs.List.{count_by}
+use Rattle.rel_checker.specs.declared.step.Step.{Step}
+use Rattle.rel_checker.specs.PathSteps.{place_in}
 use Rattle.rel_checker.proofs.supports.count_steps.Given as goal
 
-abbrev pub invariant-steps : goal.invariant-steps
-invariant-steps l = IsUnderway l.table l.fn.counts.items l.counts.items l.path l.rest
-
-abbrev pub decreases-steps : goal.decreases-steps
-decreases-steps l = length l.rest
+abbrev pub invariant-loop-step : goal.invariant-loop-step
+invariant-loop-step l = record {
+  long : length l.counts.items ≡ length l.fn.counts.items;
+  counted : (k : ℕ) → get_or l.counts.items k 0 ≡ get_or l.fn.counts.items k 0 + count_by (λ (s : Step). nat_eq (place_in s) k) (take l.step-index l.steps);
+}

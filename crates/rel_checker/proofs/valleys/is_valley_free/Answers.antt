@@ -1,32 +1,30 @@
-use Rattle.std.proofs.Common.{◌≡◌, ℕ, true, not, List, get_or, min, max, sym, ap, ap₂, ◌∙◌, arith}
-use Rattle.std.proofs.lemmas.Bool.{both_ways}
-use Rattle.std.proofs.lemmas.List.{take_rest}
-use Rattle.relationships.specs.Relationship.{is_over, slopes}
-use Rattle.rel_checker.specs.Tables.{labels_in}
-use Rattle.rel_checker.proofs.ValleyLemmas.{well, stop-at, on-at, end-at}
-use Rattle.rel_checker.proofs.valleys.is_valley_free.Goals.{else-falling-via-then-falling+else-not-is_provider, else-falling-via-else-falling}
+use Rattle.std.proofs.Common.{◌≡◌, ◌+◌, ◌≤◌, true, false, drop, length, get_or, sym, ap, ap₂, ◌∙◌, arith, drop_of_length-le}
+use Rattle.std.proofs.lemmas.List.{get_or_default}
+use Rattle.relationships.specs.declared.label.Label.{Label}
+use Rattle.rel_checker.specs.declared.step.Step.{Step}
+use Rattle.rel_checker.specs.PathSteps.{place_in, rises_in, labels_on, slopes_by, step_slope, is_down}
+use Rattle.rel_checker.proofs.SlopeLemmas.{well, well-stop, well-nil, next_slopes, answer}
 use Rattle.rel_checker.proofs.valleys.is_valley_free.Goals as goal
 
-pub returns-then-not-is_provider : goal.returns-then-not-is_provider
-returns-then-not-is_provider c =
-    stop-at (labels_in c.args.edges.now) c.args.path.now c.steps.rest.now c.steps.falling c.is_provider.result c.in-len2-up.len_at_least c.if-falling.true c.if-not-is_provider.true
-    (c.is_provider.ensures (labels_in c.args.edges.now) (sym c.label_between-label.ensures)) c.steps.invariant
-
-pub steps-preserved : goal.steps-preserved
-steps-preserved c =
-    let L = labels_in c.args.edges.now in
-    let rest = c.steps.rest.now in
-    let a = get_or rest 0 0 in
-    let b = get_or rest 1 0 in
-    let low : min b a ≡ min a b = omega arith in
-    let high : max b a ≡ max a b = omega arith in
-    let up : c.is_provider-falling.result ≡ is_over L b a = c.is_provider-falling.ensures L (ap₂ L low high ∙ sym c.label_between-label.ensures) in
-    let goes : c.steps.falling ≡ true → is_over L a b ≡ true = elim c.else-falling.branch [
-      | else-falling-via-then-falling+else-not-is_provider w ↦ λ t. sym (w.is_provider.ensures L (sym c.label_between-label.ensures)) ∙ w.if-not-is_provider.false
-      | else-falling-via-else-falling w ↦ λ t. absurd (both_ways c.steps.falling w.if-falling.false t)
-    ] in
-    ap (λ (r : List ℕ). well (not c.is_provider-falling.result) (slopes L r)) (take_rest rest 1) ∙
-    on-at L rest c.steps.falling c.is_provider-falling.result c.in-len2-up.len_at_least goes up ∙ c.steps.invariant
+pub returns-then-not-goes_down : goal.returns-then-not-goes_down
+returns-then-not-goes_down c =
+    let lines = c.args.labels.now in
+    let steps = c.args.steps.now in
+    let i = c.loop-step.step-index in
+    let none : Step = record { code = 0 } in
+    let step = get_or steps i none in
+    let here : step ≡ get_or steps i step = get_or_default steps i none step c.loop-step-test.true in
+    let s = step_slope (get_or (labels_on lines) (place_in step) Label.Peer) (rises_in step) in
+    let label = c.of-label.ensures ∙ ap (λ k. get_or (labels_on lines) k Label.Peer) c.place.ensures in
+    let not_down : is_down s ≡ false = ap is_down (ap₂ step_slope (sym label) (sym c.rises.ensures)) ∙ sym c.goes_down.ensures ∙ c.if-not-goes_down.true in
+    answer lines steps false
+    (c.loop-step.invariant ∙ ap (λ f. well f (slopes_by lines (drop i steps))) c.if-falling.true ∙ ap (well true) (next_slopes lines steps i step c.loop-step-test.true here) ∙
+    well-stop s (slopes_by lines (drop (i + 1) steps)) not_down)
 
 pub returns : goal.returns
-returns c = end-at (labels_in c.args.edges.now) c.args.path.now c.steps.rest.now c.steps.falling c.in_default.len_below c.steps.invariant
+returns c =
+    let lines = c.args.labels.now in
+    let steps = c.args.steps.now in
+    let end : length steps ≤ c.loop-step.step-index = omega arith in
+    answer lines steps true
+    (c.loop-step.invariant ∙ ap (λ l. well c.loop-step.falling (slopes_by lines l)) (drop_of_length-le steps end) ∙ well-nil c.loop-step.falling)

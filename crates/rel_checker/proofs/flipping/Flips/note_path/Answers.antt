@@ -1,53 +1,60 @@
-use Rattle.std.proofs.Common.{◌≡◌, ◌+◌, ◌-◌, ◌<◌, length, slice_index, subst, arith, Contains}
-use Rattle.relationships.specs.Graph.{edge_of}
-use Rattle.rel_checker.specs.Flipping.{flipped_orders}
-use Rattle.rel_checker.proofs.Buildings.{path_begin, path_more, path_end, step_on, many_implied, many_conflicting}
+use Rattle.std.proofs.Common.{◌+◌, ◌-◌, ◌<◌, length, get_or, arith}
+use Rattle.rel_checker.specs.Flipping.{flipped_orders, edges_of, climbs_on}
+use Rattle.rel_checker.specs.declared.step.Step.{Step}
+use Rattle.rel_checker.specs.PathSteps.{place_in}
+use Rattle.rel_checker.proofs.Buildings.{path_begin, path_end}
+use Rattle.rel_checker.proofs.Noting.{many_same, many_same', noted_path_more}
+use Rattle.rel_checker.proofs.StepLemmas.{length-steps, inside_lines}
 use Rattle.rel_checker.proofs.flipping.Flips.note_path.Goals as goal
 
-pub returns-then-path-lt2-clause-built : goal.returns-then-path-lt2-clause-built
-returns-then-path-lt2-clause-built c = λ paths b.
-    let orders = flipped_orders c.args.lines.now in
-    path_end orders c.args.path.now 2 c.args.self.now.implied c.args.self.now.conflicting (omega (arith, c.if-path-lt2.true)) paths
-    (path_begin orders c.args.path.now c.args.self.now.implied c.args.self.now.conflicting paths b)
+abbrev none : Step
+none = record { code = 0 }
+
+pub bounds-steps-at : goal.bounds-steps-at
+bounds-steps-at c =
+    omega (arith, length-steps (edges_of c.args.labels.now) c.args.path.now c.args.steps.now c.requires.steps, c.loop-at.auto.at, c.loop-at-test.true)
+
+pub bounds-steps-at-in-loop-at : goal.bounds-steps-at-in-loop-at
+bounds-steps-at-in-loop-at c =
+    omega (arith, length-steps (edges_of c.args.labels.now) c.args.path.now c.args.steps.now c.requires.steps, c.loop-at.auto.at, c.loop-at-test.true)
+
+pub note_pair-requires-clause-first : goal.note_pair-requires-clause-first
+note_pair-requires-clause-first c =
+    inside_lines c.args.labels.now c.args.path.now c.args.steps.now c.requires.steps (c.loop-at.at - 2) _
+    (omega (arith, length-steps (edges_of c.args.labels.now) c.args.path.now c.args.steps.now c.requires.steps, c.loop-at.auto.at, c.loop-at-test.true))
+
+pub note_pair-requires-clause-second : goal.note_pair-requires-clause-second
+note_pair-requires-clause-second c =
+    inside_lines c.args.labels.now c.args.path.now c.args.steps.now c.requires.steps (c.loop-at.at - 1) _
+    (omega (arith, length-steps (edges_of c.args.labels.now) c.args.path.now c.args.steps.now c.requires.steps, c.loop-at.auto.at, c.loop-at-test.true))
 
 pub loop-at-init : goal.loop-at-init
 loop-at-init c = record {
   implied = c.requires.implied;
   conflicting = c.requires.conflicting;
-  within = c.step_of-before.ensures.within;
-  step = c.step_of-before.ensures.step;
-  built = path_begin (flipped_orders c.args.lines.now) c.args.path.now c.args.self.now.implied c.args.self.now.conflicting;
+  noted = c.requires.noted;
+  built = path_begin (flipped_orders c.args.labels.now) c.args.path.now c.args.self.now.implied c.args.self.now.conflicting;
 }
-
-pub step_of-next-requires-clause-listed : goal.step_of-next-requires-clause-listed
-step_of-next-requires-clause-listed c =
-    let at = c.loop-at.at in
-    let path = c.args.path.now in
-    let e : at - 1 + 1 ≡ at = omega (arith, c.loop-at.auto.at) in
-    let within : at - 1 + 1 < length path = omega (arith, c.loop-at.auto.at, c.loop-at-test.true) in
-    subst (λ k. Contains c.args.table.now (edge_of (slice_index path (at - 1)) (slice_index path k))) e (c.requires.listed (at - 1) within)
 
 pub loop-at-preserved : goal.loop-at-preserved
 loop-at-preserved c =
-    let orders = flipped_orders c.args.lines.now in
+    let lines = c.args.labels.now in
+    let at = c.loop-at.at in
     let i = c.loop-at.invariant in
-    let first = c.loop-at.before in
-    let second = c.step_of-next.result in
-    let within = i.within in
-    let within' = c.step_of-next.ensures.within in
+    let first = get_or c.args.steps.now (at - 2) none in
+    let second = get_or c.args.steps.now (at - 1) none in
     record {
-      implied = many_implied first.up second.up first.edge second.edge (length c.args.lines.now) c.loop-at.self.implied c.note.new.self.implied c.in_ok-note.ensures.implied i.implied;
-      conflicting = many_conflicting first.up second.up first.edge second.edge (length c.args.lines.now) c.loop-at.self.conflicting c.note.new.self.conflicting
-          c.in_ok-note.ensures.conflicting i.conflicting;
-      within = within';
-      step = step_on orders c.args.path.now second.edge c.loop-at.at second.up (omega (arith, c.loop-at.auto.at)) c.step_of-next.ensures.step;
-      built = λ paths b. path_more orders c.args.path.now c.loop-at.at first.edge second.edge first.up second.up c.loop-at.self.implied c.loop-at.self.conflicting c.note.new.self.implied
-          c.note.new.self.conflicting
-          c.requires.proper (omega (arith, c.loop-at.auto.at)) c.loop-at-test.true i.step c.step_of-next.ensures.step (omega (arith, within, i.implied)) (omega (arith, within', i.implied))
-          c.in_ok-note.ensures.implied c.in_ok-note.ensures.conflicting paths (i.built paths b);
+      implied = many_same (climbs_on lines first) (climbs_on lines second) (place_in first) (place_in second) (length lines) c.loop-at.self.implied c.note_pair.new.self.implied
+          c.in_ok-note_pair.ensures.implied i.implied;
+      conflicting = many_same' (climbs_on lines first) (climbs_on lines second) (place_in first) (place_in second) (length lines) c.loop-at.self.conflicting c.note_pair.new.self.conflicting
+          c.in_ok-note_pair.ensures.conflicting i.conflicting;
+      noted = c.in_ok-note_pair.ensures.noted;
+      built = λ paths b. noted_path_more lines c.args.path.now c.args.steps.now at none none c.loop-at.self.implied c.loop-at.self.conflicting c.note_pair.new.self.implied
+          c.note_pair.new.self.conflicting c.requires.proper c.requires.steps (omega (arith, c.loop-at.auto.at)) c.loop-at-test.true i.implied c.in_ok-note_pair.ensures.implied
+          c.in_ok-note_pair.ensures.conflicting paths (i.built paths b);
     }
 
 pub returns-clause-built : goal.returns-clause-built
 returns-clause-built c = λ paths b.
-    path_end (flipped_orders c.args.lines.now) c.args.path.now c.loop-at.at c.loop-at.self.implied c.loop-at.self.conflicting (omega (arith, c.loop-at-test.false)) paths
+    path_end (flipped_orders c.args.labels.now) c.args.path.now c.loop-at.at c.loop-at.self.implied c.loop-at.self.conflicting (omega (arith, c.loop-at-test.false)) paths
     (c.loop-at.invariant.built paths b)
