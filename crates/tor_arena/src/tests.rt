@@ -121,13 +121,13 @@ fn small_rows(rt: HostRuntime) -> Result<(), Fail> {
     Ok(())
 }
 
-/// Whether the place below `limit` is the last with an index of this kind, which its place leads to again.
-fn ends_below<I: Index>(limit: usize) -> bool {
-    match I::from_place(limit - 1) {
-        Some(last) => {
-            last.place() == limit - 1
-                && same_index(last) == Some(last)
-                && I::from_place(limit).is_none()
+/// Whether this is the last place with an index of this kind, which its place leads to again.
+fn ends_at<I: Index>(last: usize) -> bool {
+    match I::from_place(last) {
+        Some(index) => {
+            index.place() == last
+                && same_index(index) == Some(index)
+                && I::from_place(last.saturating_add(1)).is_none()
         }
         None => false,
     }
@@ -135,13 +135,13 @@ fn ends_below<I: Index>(limit: usize) -> bool {
 
 #[test]
 fn seven_kinds_of_index(rt: HostRuntime) -> Result<(), Fail> {
-    assert!(rt; ends_below::<AsId>(1 << 28));
-    assert!(rt; ends_below::<EdgeId>(1 << 28));
-    assert!(rt; ends_below::<PathId>(1 << 28));
-    assert!(rt; ends_below::<TripleId>(1 << 28));
-    assert!(rt; ends_below::<NodeId>(1 << 28));
-    assert!(rt; ends_below::<ArcId>(1 << 28));
-    assert!(rt; ends_below::<WalkId>(1 << 29));
+    assert!(rt; ends_at::<AsId>((1 << 28) - 1));
+    assert!(rt; ends_at::<EdgeId>((1 << 28) - 1));
+    assert!(rt; ends_at::<PathId>((1 << 28) - 1));
+    assert!(rt; ends_at::<TripleId>((1 << 28) - 1));
+    assert!(rt; ends_at::<NodeId>((1 << 28) - 1));
+    assert!(rt; ends_at::<ArcId>((1 << 28) - 1));
+    assert!(rt; ends_at::<WalkId>((1 << 29) - 1));
     Ok(())
 }
 
