@@ -1,6 +1,7 @@
 # `make` proves and builds bin/tor and bin/torcheck, makes the result of a sample and checks it; `make test` is the whole gate;
-# `make samples` compares the lists of two real dumps with what other readers give, and checks the results of both.
-.PHONY: all test samples clean FORCE
+# `make samples` compares the lists of two real dumps with what other readers give, and checks the results of both; `make system` tries
+# both programs on full devices, closed pipes, folders and the like.
+.PHONY: all test samples system clean FORCE
 
 all: bin/tor bin/torcheck
 	bin/tor samples/three-paths.mrt > bin/three-paths.result.txt
@@ -29,6 +30,9 @@ samples: bin/tor bin/torcheck
 		bin/torcheck bin/sample.result.txt $$dump || exit 1; \
 	done
 	@echo "the lists are the same, and the results are right"
+
+system: bin/tor bin/torcheck
+	bench/system.sh bin/tor bin/torcheck samples
 
 clean:
 	rm -rf bin crates/*/out

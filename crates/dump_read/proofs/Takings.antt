@@ -1,14 +1,12 @@
 -- Routes that are taken in one after the other.
 use Rattle.std.proofs.Common.{◌≡◌, Option, Some, None, ℕ, zero, suc, ◌+◌, ◌<◌, List, [], ◌∷◌, ◌++◌, length, take, drop, get_or, Result, Ok, Err, refl, sym, ap, subst, ◌∙◌, arith}
-use Rattle.std.proofs.lemmas.List.{take-map, map-append, length-map, take_more}
+use Rattle.std.proofs.lemmas.List.{append_assoc, append-nil, length-append}
+use Rattle.std.proofs.Math.Seq.{take-append_seam}
 use Rattle.path_attrs.specs.Fields.{◌>>=◌}
 use Rattle.path_clean.specs.declared.cleaned.Sets.{Sets}
 use Rattle.dump_read.specs.declared.error.LimitKind.{LimitKind}
 use Rattle.path_attrs.specs.Attributes.{Attribute}
 use Rattle.path_attrs.specs.declared.fault.RibFault.{RibFault}
-use Rattle.rib_v2.specs.declared.error.RibError.{RibError}
-use Rattle.rib_v2.specs.declared.error.RibError.TheVariants as rib
-use Rattle.rib_v2.specs.Rib.{IsAnswer}
 use Rattle.dump_read.specs.declared.records.Unread.TheVariants as unread
 use Rattle.rib_v2.specs.PeerTable.{peers_of}
 use Rattle.rib_v2.specs.declared.peer_table.Peers.{Peers}
@@ -20,7 +18,7 @@ use Rattle.rib_v2.specs.declared.rib.Entry.{Entry}
 use Rattle.path_attrs.specs.declared.as_path.Width.TheVariants.{Two, Four}
 use Rattle.dump_read.specs.declared.taking.Untaken.{Untaken}
 use Rattle.dump_read.specs.declared.taking.Untaken.TheVariants as untaken
-use Rattle.dump_read.specs.Refusals.{IsLimit, IsUnread, TakesRead, TakesSomeRead, of_rib}
+use Rattle.dump_read.specs.Refusals.{IsLimit, IsUnread, TakesRead, TakesSomeRead}
 use Rattle.dump_read.specs.Taking.{Taken, take_route, take_routes, Takes, TakesSome}
 
 -- what was taken in so far, and then the others
@@ -57,50 +55,42 @@ pub stops_behind : (sets : Sets) (old mid : Taken) (prefix : List Route) (r : Ro
     → take_routes sets old (prefix ++ r ∷ rest) ≡ Err kind
 stops_behind sets old mid prefix r rest kind takes one = take_routes-append sets old mid prefix (r ∷ rest) takes ∙ stops sets mid r rest kind one
 
--- a route of each entry: those before one, that one, and those behind it
-pub entries_at : (entries : List Entry) (i : ℕ) (e : Entry) → i < length entries → e ≡ get_or entries i e
-    → of_entries entries ≡ of_entries (take i entries) ++ record { attrs = e.attrs; width = Four } ∷ of_entries (drop (suc i) entries)
-entries_at [] i e lt is = absurd (omega arith)
-entries_at (x ∷ xs) zero e lt is = ap (λ (y : Entry). record { attrs = y.attrs; width = Four } ∷ of_entries xs) (sym is)
-entries_at (x ∷ xs) (suc i) e lt is = ap (λ (t : List Route). record { attrs = x.attrs; width = Four } ∷ t) (entries_at xs i e (omega arith) is)
-
-entries_push : (entries : List Entry) (i : ℕ) (e : Entry) → i < length entries → e ≡ get_or entries i e
-    → of_entries (take (i + 1) entries) ≡ of_entries (take i entries) ++ record { attrs = e.attrs; width = Four } ∷ []
-entries_push entries i e lt is =
-    ap of_entries (take_more entries i e lt) ∙ map-append one (take i entries) (get_or entries i e ∷ [])
-    ∙ ap (λ (y : Entry). of_entries (take i entries) ++ one y ∷ []) (sym is)
-  where
-    one : Entry → Route
-    one entry = record { attrs = entry.attrs; width = Four }
-
-pub one_entry_more : (sets : Sets) (old mid new : Taken) (entries : List Entry) (i : ℕ) (e : Entry) → i < length entries → e ≡ get_or entries i e
-    → Takes sets old (of_entries (take i entries)) mid → take_route sets mid (record { attrs = e.attrs; width = Four }) ≡ Ok new
-    → Takes sets old (of_entries (take (i + 1) entries)) new
-one_entry_more sets old mid new entries i e lt is takes one =
-    ap (take_routes sets old) (entries_push entries i e lt is) ∙ takes_one_more sets old mid new (of_entries (take i entries)) (record { attrs = e.attrs; width = Four }) takes one
-
 pub no_entry : (sets : Sets) (old : Taken) → Takes sets old [] old
 unfolding take_routes
 no_entry sets old = refl
 
-pub limit_at_entry : (sets : Sets) (old mid : Taken) (entries : List Entry) (i : ℕ) (e : Entry) (why : Untaken) → i < length entries → e ≡ get_or entries i e
-    → Takes sets old (of_entries (take i entries)) mid → IsLimit (take_route sets mid (record { attrs = e.attrs; width = Four })) why
-    → IsLimit (take_routes sets old (of_entries entries)) why
-limit_at_entry sets old mid entries i e (untaken.Limit kind) lt is takes one =
-    ap (take_routes sets old) (entries_at entries i e lt is)
-    ∙ stops_behind sets old mid (of_entries (take i entries)) (record { attrs = e.attrs; width = Four }) (of_entries (drop (suc i) entries)) kind takes one
-limit_at_entry sets old mid entries i e untaken.NoMemory lt is takes one = tt
+-- some of the routes were taken in, and these are left
+pub record SoFar (sets : Sets) (old mid : Taken) (all left : List Route) : Type 0 where
+  pub prefix : List Route
+  pub parts : all ≡ prefix ++ left
+  pub takes : Takes sets old prefix mid
 
-pub some_entries : (sets : Sets) (old mid new : Taken) (entries : List Entry) (i : ℕ) → i < length entries → Takes sets old (of_entries (take i entries)) mid → new ≡ mid
-    → TakesSome sets old (of_entries entries) new
-some_entries sets old mid new entries i lt takes same = (
-  i,
-  omega (arith, length-map entries one),
-  ap (take_routes sets old) (take-map one i entries) ∙ takes ∙ ap (λ (t : Taken). Ok t) (sym same),
+pub none_so_far : (sets : Sets) (old : Taken) (all : List Route) → SoFar sets old old all all
+none_so_far sets old all = record { prefix = []; parts = refl; takes = no_entry sets old }
+
+pub one_more : (sets : Sets) (old mid new : Taken) (all left : List Route) (r : Route) → SoFar sets old mid all (r ∷ left) → take_route sets mid r ≡ Ok new → SoFar sets old new all left
+one_more sets old mid new all left r so_far one = record {
+  prefix = so_far.prefix ++ r ∷ [];
+  parts = so_far.parts ∙ sym (append_assoc so_far.prefix (r ∷ []) left);
+  takes = takes_one_more sets old mid new so_far.prefix r so_far.takes one;
+}
+
+pub all_taken : (sets : Sets) (old mid : Taken) (all left : List Route) → SoFar sets old mid all left → left ≡ [] → Takes sets old all mid
+all_taken sets old mid all left so_far none =
+    ap (take_routes sets old) (so_far.parts ∙ ap (λ rest. so_far.prefix ++ rest) none ∙ append-nil so_far.prefix) ∙ so_far.takes
+
+pub limit_at : (sets : Sets) (old mid : Taken) (all left : List Route) (r : Route) (why : Untaken) → SoFar sets old mid all (r ∷ left) → IsLimit (take_route sets mid r) why
+    → IsLimit (take_routes sets old all) why
+limit_at sets old mid all left r (untaken.Limit kind) so_far one =
+    ap (take_routes sets old) so_far.parts ∙ stops_behind sets old mid so_far.prefix r left kind so_far.takes one
+limit_at sets old mid all left r untaken.NoMemory so_far one = tt
+
+pub some_taken : (sets : Sets) (old mid new : Taken) (all left : List Route) → SoFar sets old mid all left → new ≡ mid → TakesSome sets old all new
+some_taken sets old mid new all left so_far same = (
+  length so_far.prefix,
+  omega (arith, ap length so_far.parts, length-append so_far.prefix left),
+  ap (take_routes sets old) (ap (take (length so_far.prefix)) so_far.parts ∙ take-append_seam so_far.prefix left) ∙ so_far.takes ∙ ap (λ (t : Taken). Ok t) (sym same),
 )
-  where
-    one : Entry → Route
-    one entry = record { attrs = entry.attrs; width = Four }
 
 -- ---- a record
 
@@ -126,10 +116,6 @@ unread_entries sets old read entries untaken.NoMemory is all = tt
 pub some_read : (sets : Sets) (old new : Taken) (read : Result (List Entry) RibFault) (entries : List Entry) → read ≡ Ok entries → TakesSome sets old (of_entries entries) new
     → TakesSomeRead sets old (of_rib_read read) new
 some_read sets old new read entries is some = subst (λ (x : Result (List Entry) RibFault). TakesSomeRead sets old (of_rib_read x) new) (sym is) some
-
-pub unread_rib : (sets : Sets) (old : Taken) (read : Result (List Entry) RibFault) (error : RibError) → IsAnswer (Err error) read → IsUnread sets old (of_rib_read read) (of_rib error)
-unread_rib sets old read (rib.Fault fault) is = ap of_rib_read is
-unread_rib sets old read rib.NoMemory is = tt
 
 pub none_read : (sets : Sets) (old new : Taken) (read : Result (List Entry) RibFault) → new ≡ old → TakesSomeRead sets old (of_rib_read read) new
 none_read sets old new (Ok entries) same = (0, omega arith, no_entry sets old ∙ ap (λ (t : Taken). Ok t) (sym same))

@@ -19,8 +19,6 @@ use Rattle.dump_read.specs.Taking.{Taken, take_routes, Takes, TakesSome}
 use Rattle.path_attrs.specs.declared.fault.RibFault.{RibFault}
 use Rattle.path_clean.specs.declared.cleaned.Sets.{Sets}
 use Rattle.rib_v2.specs.declared.peer_table.Peers.{Peers}
-use Rattle.rib_v2.specs.declared.error.RibError.{RibError}
-use Rattle.rib_v2.specs.declared.error.RibError.TheVariants as rib
 
 abbrev pub of_add : AddRefused → Untaken
 of_add TooManyPaths = untaken.Limit Paths
@@ -31,10 +29,6 @@ of_add NoMemory = untaken.NoMemory
 abbrev pub IsLimit : Result Taken LimitKind → Untaken → Type 0
 IsLimit taking (untaken.Limit kind) = taking ≡ Err kind
 IsLimit taking untaken.NoMemory = Unit {0}
-
-abbrev pub of_rib : RibError → Unread
-of_rib (rib.Fault fault) = unread.Fault fault
-of_rib rib.NoMemory = unread.Untaken untaken.NoMemory
 
 -- how many peers a peer table has, if there is one
 abbrev pub count_of : Option Peers → Option ℕ

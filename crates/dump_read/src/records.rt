@@ -9,8 +9,9 @@ use mrt_frame::{Record, RecordKind};
 use path_attrs::{RibFault, Width};
 use path_clean::Sets;
 use rib_v1::read_v1;
-use rib_v2::{Entry, Peers, RibError, read_peers, read_rib};
+use rib_v2::{EntryCursor, Peers, read_peers};
 use std::alloc::Global;
+use tor_arena::List;
 
 /// Why a record was not taken in.
 #[derive(Clone, Copy, Debug, PartialEq, Eq)]
@@ -41,33 +42,21 @@ impl From<Untaken> for Unread {
     }
 }
 
-impl From<RibError> for Unread {
-    ghost use Rattle.std.specs.Prelude.{◌≡◌};
-    ghost use Rattle.dump_read.specs.Refusals.{of_rib};
-
-    ghost from_gives = { λ error e. e ≡ of_rib error };
-
-    fn from(error: RibError) -> Unread {
-        match error {
-            RibError::Fault(fault) => Unread::Fault(fault),
-            RibError::NoMemory => Unread::Untaken(Untaken::NoMemory),
-        }
-    }
-}
-
 // Takes in the routes of entries, in order.
 fn take_entries(
     alloc: Global,
     sets: Sets,
-    entries: &[Entry<'_>],
+    entries: EntryCursor<'_>,
+    path: &mut List<u32>,
     taken: &mut Taken,
 ) -> Result<(), Untaken>
-    ensures taken { OnOk result (Takes sets taken.old (of_entries entries.now) taken.new) }
-    ensures limit { IfErr result (IsLimit (take_routes sets taken.old (of_entries entries.now))) }
-    ensures some { OnErr result (TakesSome sets taken.old (of_entries entries.now) taken.new) }
+    ensures taken { OnOk result (Takes sets taken.old (of_entries entries.entry) taken.new) }
+    ensures limit { IfErr result (IsLimit (take_routes sets taken.old (of_entries entries.entry))) }
+    ensures some { OnErr result (TakesSome sets taken.old (of_entries entries.entry) taken.new) }
 {
-    for entry in entries {
-        take(alloc, sets, Width::Four, &entry.attrs, taken)?;
+    let mut left = entries;
+    'entries: while let Some(entry) = left.next() {
+        take(alloc, sets, Width::Four, &entry.attrs, path, taken)?;
     }
     Ok(())
 }
@@ -77,6 +66,7 @@ fn take_table_dump(
     alloc: Global,
     sets: Sets,
     found: &Record<'_>,
+    path: &mut List<u32>,
     taken: &mut Taken,
 ) -> Result<(), Unread>
     requires { (found.now.subtype ≡ 1) ⊎ (found.now.subtype ≡ 2) }
@@ -85,7 +75,7 @@ fn take_table_dump(
     ensures some { OnErr result (TakesSomeRead sets taken.old (routes_in_table_dump found.now.subtype found.now.body.now) taken.new) }
 {
     let attrs = read_v1(found.subtype, found.body)?;
-    take(alloc, sets, Width::Two, &attrs, taken)?;
+    take(alloc, sets, Width::Two, &attrs, path, taken)?;
     Ok(())
 }
 
@@ -95,6 +85,7 @@ fn take_rib(
     sets: Sets,
     found: &Record<'_>,
     peers: Option<Peers>,
+    path: &mut List<u32>,
     taken: &mut Taken,
 ) -> Result<(), Unread>
     requires { (found.now.subtype ≡ 2) ⊎ (found.now.subtype ≡ 4) }
@@ -103,17 +94,18 @@ fn take_rib(
     ensures some { OnErr result (TakesSomeRead sets taken.old (routes_in_rib (count_of peers) found.now.subtype found.now.body.now)
         taken.new) }
 {
-    let entries = read_rib(alloc, found.subtype, peers.as_ref(), found.body)?;
-    take_entries(alloc, sets, entries.as_slice(), taken)?;
+    let entries = EntryCursor::over(found.subtype, peers.as_ref(), found.body)?;
+    take_entries(alloc, sets, entries, path, taken)?;
     Ok(())
 }
 
-/// Takes in the routes of a record, and answers the last peer table behind it.
+/// Takes in the routes of a record, whose paths are made in `path`, and answers the last peer table behind it.
 pub(crate) fn take_record(
     alloc: Global,
     sets: Sets,
     found: &Record<'_>,
     peers: Option<Peers>,
+    path: &mut List<u32>,
     taken: &mut Taken,
 ) -> Result<Option<Peers>, Unread>
     ensures peers { IfOk result (λ after. count_of after ≡ peers_behind (count_of peers) (seen found.now)) }
@@ -123,12 +115,12 @@ pub(crate) fn take_record(
 {
     match RecordKind::of(found.kind, found.subtype) {
         Some(RecordKind::TableDump) => {
-            take_table_dump(alloc, sets, found, taken)?;
+            take_table_dump(alloc, sets, found, path, taken)?;
             Ok(peers)
         }
         Some(RecordKind::PeerTable) => Ok(Some(read_peers(found.body)?)),
         Some(RecordKind::Rib) => {
-            take_rib(alloc, sets, found, peers, taken)?;
+            take_rib(alloc, sets, found, peers, path, taken)?;
             Ok(peers)
         }
         None => Ok(peers),

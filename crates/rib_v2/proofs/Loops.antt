@@ -1,12 +1,16 @@
 -- The loops over peers and over entries.
-use Rattle.std.proofs.Common.{◌≡◌, ℕ, suc, ◌+◌, ◌-◌, ◌<◌, ◌≤◌, ◌==◌, true, false, List, [], ◌∷◌, ◌++◌, length, Some, None, Result, Ok, Err, refl, sym, ap, ◌∙◌, arith}
+use Rattle.std.proofs.Common.{◌≡◌, ℕ, suc, ◌+◌, ◌-◌, ◌<◌, ◌≤◌, ◌==◌, Bool, true, false, List, [], ◌∷◌, ◌++◌, length, Some, None, Result, Ok, Err, is_ok, refl, sym, ap, ap₂, ◌∙◌, arith}
+use Rattle.std.specs.Result.{result_unwrap_or}
 use Rattle.std.proofs.lemmas.List.{append_assoc, append-nil}
 use Rattle.path_attrs.specs.declared.fault.RibFault.{RibFault}
 use Rattle.path_attrs.specs.declared.fault.RibFault.TheVariants.{Tail, NoPeerTable}
-use Rattle.path_attrs.specs.Fields.{◌>>=◌, check}
+use Rattle.path_attrs.specs.declared.fault.RibFault.TheVariants as faults
+use Rattle.path_attrs.specs.declared.block.AttrCut.{AttrCut}
+use Rattle.path_attrs.specs.Fields.{◌>>=◌, check, or_fault}
+use Rattle.path_attrs.specs.Attributes.{Attribute, attributes_of, attributes_in}
 use Rattle.rib_v2.specs.declared.rib.Entry.{Entry}
 use Rattle.rib_v2.specs.PeerTable.{behind_peer, behind_peers}
-use Rattle.rib_v2.specs.Rib.{head, entry, entries_of, rib_of}
+use Rattle.rib_v2.specs.Rib.{Fields, head, entry, entry_fields, entries_of, entries_in, rib_of}
 
 one_less : (count i : ℕ) → i < count → count - i ≡ suc (count - (i + 1))
 one_less count i lt = omega arith
@@ -72,6 +76,89 @@ unfolding entries_of
 entries-tail peers count i bytes before all le more same =
     sym same ∙ ap (λ k. with_head before (entries_of peers k bytes)) (none_left count i le)
     ∙ ap (λ b. with_head before (check Tail b >>= λ end. Ok [])) more
+
+-- ---- entries that are known to be whole
+
+pub whole : (peers count : ℕ) (bytes : List ℕ) → is_ok (entries_of peers count bytes) ≡ true → Ok (entries_in peers count bytes) ≡ entries_of peers count bytes
+unfolding entries_in
+whole peers count bytes ok = by (entries_of peers count bytes) ok
+  where
+    by : (read : Result (List Entry) RibFault) → is_ok read ≡ true → Ok (result_unwrap_or read []) ≡ read
+    by (Ok entries) t = refl
+    by (Err fault) t = absurd cc
+
+abbrev at_end : Bool → Result (List Entry) RibFault
+at_end b = check Tail b >>= λ end. Ok []
+
+pub none_in : (peers count : ℕ) (bytes : List ℕ) → count ≡ 0 → entries_in peers count bytes ≡ []
+unfolding entries_of entries_in
+none_in peers count bytes none = ap (λ n. entries_in peers n bytes) none ∙ by (length bytes == 0)
+  where
+    by : (b : Bool) → result_unwrap_or (at_end b) [] ≡ []
+    by true = refl
+    by false = refl
+
+-- the first entry by its fields, and those behind it
+pub record First (peers count : ℕ) (bytes : List ℕ) (f : Fields) : Type 0 where
+  pub block : is_ok (attributes_of f.block) ≡ true
+  pub rest : is_ok (entries_of peers (count - 1) f.rest) ≡ true
+  pub all : entries_in peers count bytes ≡ record { peer = f.peer; attrs = attributes_in f.block } ∷ entries_in peers (count - 1) f.rest
+
+abbrev with_attrs : Fields → List Attribute → Result (Entry × List ℕ) RibFault
+with_attrs f attrs = Ok (record { peer = f.peer; attrs = attrs }, f.rest)
+
+abbrev entry_by : Fields → Result (List Attribute) AttrCut → Result (Entry × List ℕ) RibFault
+entry_by f read = or_fault faults.AttrCut read >>= with_attrs f
+
+abbrev then_others : (peers k : ℕ) → Entry × List ℕ → Result (List Entry) RibFault
+then_others peers k first = entries_of peers k first.1 >>= λ others. Ok (first.0 ∷ others)
+
+abbrev behind_first : (peers k : ℕ) → Fields → Result (List Attribute) AttrCut → Result (List Entry) RibFault
+behind_first peers k f read = entry_by f read >>= then_others peers k
+
+abbrev by_read : (peers k : ℕ) → Result Fields RibFault → Result (List Entry) RibFault
+by_read peers k read = (read >>= λ f. entry_by f (attributes_of f.block)) >>= then_others peers k
+
+unrolled : (peers k : ℕ) (bytes : List ℕ) → entries_of peers (suc k) bytes ≡ by_read peers k (entry_fields peers bytes)
+unfolding entry entries_of
+unrolled peers k bytes = refl
+
+by_fields : (peers count : ℕ) (bytes : List ℕ) (read : Result Fields RibFault) → 0 < count → entry_fields peers bytes ≡ read → entries_of peers count bytes ≡ by_read peers (count - 1) read
+by_fields peers count bytes read lt is =
+    let e : count ≡ suc (count - 1) = omega (arith, lt) in
+    ap (λ n. entries_of peers n bytes) e ∙ unrolled peers (count - 1) bytes ∙ ap (by_read peers (count - 1)) is
+
+pub first_in : (peers count : ℕ) (bytes : List ℕ) (f : Fields) → 0 < count → entry_fields peers bytes ≡ Ok f → is_ok (entries_of peers count bytes) ≡ true → First peers count bytes f
+unfolding entries_in attributes_in
+first_in peers count bytes f lt is ok = by (attributes_of f.block) (entries_of peers (count - 1) f.rest) refl refl
+  where
+    first : entries_of peers count bytes ≡ behind_first peers (count - 1) f (attributes_of f.block)
+    first = by_fields peers count bytes (Ok f) lt is
+
+    one : List Attribute → Entry
+    one attrs = record { peer = f.peer; attrs = attrs }
+
+    by : (attrs : Result (List Attribute) AttrCut) (others : Result (List Entry) RibFault) → attributes_of f.block ≡ attrs → entries_of peers (count - 1) f.rest ≡ others → First peers count bytes f
+    by (Ok attrs) (Ok entries) ea eo =
+        let all : entries_of peers count bytes ≡ Ok (one attrs ∷ entries) =
+        first ∙ ap (behind_first peers (count - 1) f) ea ∙ ap (λ (r : Result (List Entry) RibFault). r >>= λ others. Ok (one attrs ∷ others)) eo in
+        record {
+          block = ap is_ok ea;
+          rest = ap is_ok eo;
+          all = ap (λ r. result_unwrap_or r []) all
+              ∙ sym (ap₂ (λ (a : List Attribute) (es : List Entry). one a ∷ es) (ap (λ r. result_unwrap_or r []) ea) (ap (λ r. result_unwrap_or r []) eo));
+        }
+    by (Ok attrs) (Err fault) ea eo =
+        absurd (let none = sym ok ∙ ap is_ok (first ∙ ap (behind_first peers (count - 1) f) ea
+        ∙ ap (λ (r : Result (List Entry) RibFault). r >>= λ others. Ok (one attrs ∷ others)) eo) in cc)
+    by (Err fault) others ea eo = absurd (let none = sym ok ∙ ap is_ok (first ∙ ap (behind_first peers (count - 1) f) ea) in cc)
+
+pub no_fault : (peers count : ℕ) (bytes : List ℕ) (fault : RibFault) → 0 < count → entry_fields peers bytes ≡ Err fault → is_ok (entries_of peers count bytes) ≡ true → ⊥
+no_fault peers count bytes fault lt is ok = let none = sym ok ∙ ap is_ok (by_fields peers count bytes (Err fault) lt is) in absurd cc
+
+pub in-is : (peers count : ℕ) (bytes : List ℕ) (entries : List Entry) → entries_of peers count bytes ≡ Ok entries → entries_in peers count bytes ≡ entries
+unfolding entries_in
+in-is peers count bytes entries is = ap (λ r. result_unwrap_or r []) is
 
 -- a RIB by its head
 pub no_table : (subtype : ℕ) (body : List ℕ) → rib_of subtype None body ≡ Err NoPeerTable

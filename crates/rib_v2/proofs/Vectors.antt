@@ -4,7 +4,7 @@ use Rattle.path_attrs.specs.declared.fault.RibFault.TheVariants.{Cut, Tail, Pref
 use Rattle.path_attrs.specs.Attributes.{attribute, attributes_within, attributes_of}
 use Rattle.rib_v2.specs.declared.rib.Entry.{Entry}
 use Rattle.rib_v2.specs.PeerTable.{behind_peer, behind_peers, peers_of}
-use Rattle.rib_v2.specs.Rib.{head, entry, entries_of, rib_of}
+use Rattle.rib_v2.specs.Rib.{head, entry, entry_fields, entries_of, rib_of}
 
 -- one peer, 192.0.2.2 of AS 10 in four octets
 table : List ℕ
@@ -49,7 +49,7 @@ expected : Entry
 expected = record { peer = 0; attrs = record { code = 1; value = 0 ∷ [] } ∷ record { code = 2; value = path } ∷ [] }
 
 one_edge : rib_of 2 (Some 1) (one 0) ≡ Ok (expected ∷ [])
-unfolding rib_of head entries_of entry attributes_of attributes_within attribute one fields path expected
+unfolding rib_of head entries_of entry entry_fields attributes_of attributes_within attribute one fields path expected
 one_edge = refl
 
 no_table : rib_of 2 None (one 0) ≡ Err NoPeerTable
@@ -61,16 +61,16 @@ unfolding rib_of
 no_table_nor_octets = refl
 
 peer_1_of_one : rib_of 2 (Some 1) (one 1) ≡ Err PeerRange
-unfolding rib_of head entries_of entry one fields path
+unfolding rib_of head entries_of entry entry_fields one fields path
 peer_1_of_one = refl
 
 peer_0_of_none : rib_of 2 (Some 0) (one 0) ≡ Err PeerRange
-unfolding rib_of head entries_of entry one fields path
+unfolding rib_of head entries_of entry entry_fields one fields path
 peer_0_of_none = refl
 
 -- the peer index shows its fault before a later field that is not whole
 peer_1_alone : rib_of 2 (Some 1) (0 ∷ 0 ∷ 0 ∷ 0 ∷ 0 ∷ 0 ∷ 1 ∷ 0 ∷ 1 ∷ []) ≡ Err PeerRange
-unfolding rib_of head entries_of entry
+unfolding rib_of head entries_of entry entry_fields
 peer_1_alone = refl
 
 prefix_length_33 : rib_of 2 (Some 1) (0 ∷ 0 ∷ 0 ∷ 0 ∷ 33 ∷ []) ≡ Err PrefixLong
@@ -82,12 +82,12 @@ unfolding rib_of head
 prefix_length_129 = refl
 
 prefix_length_0 : rib_of 2 (Some 1) (0 ∷ 0 ∷ 0 ∷ 0 ∷ 0 ∷ 0 ∷ 1 ∷ 0 ∷ 0 ∷ fields) ≡ Ok (expected ∷ [])
-unfolding rib_of head entries_of entry attributes_of attributes_within attribute fields path expected
+unfolding rib_of head entries_of entry entry_fields attributes_of attributes_within attribute fields path expected
 prefix_length_0 = refl
 
 -- 25 bits stand in four octets
 prefix_length_25 : rib_of 4 (Some 1) (0 ∷ 0 ∷ 0 ∷ 0 ∷ 25 ∷ 10 ∷ 0 ∷ 1 ∷ 128 ∷ 0 ∷ 1 ∷ 0 ∷ 0 ∷ fields) ≡ Ok (expected ∷ [])
-unfolding rib_of head entries_of entry attributes_of attributes_within attribute fields path expected
+unfolding rib_of head entries_of entry entry_fields attributes_of attributes_within attribute fields path expected
 prefix_length_25 = refl
 
 no_entries : rib_of 2 (Some 1) (0 ∷ 0 ∷ 0 ∷ 0 ∷ 24 ∷ 10 ∷ 0 ∷ 1 ∷ 0 ∷ 0 ∷ []) ≡ Ok []
@@ -95,19 +95,19 @@ unfolding rib_of head entries_of
 no_entries = refl
 
 one_octet_more : rib_of 2 (Some 1) (one 0 ++ 0 ∷ []) ≡ Err Tail
-unfolding rib_of head entries_of entry attributes_of attributes_within attribute one fields path
+unfolding rib_of head entries_of entry entry_fields attributes_of attributes_within attribute one fields path
 one_octet_more = refl
 
 one_octet_less : rib_of 2 (Some 1) (0 ∷ 0 ∷ 0 ∷ 0 ∷ 24 ∷ 10 ∷ 0 ∷ 1 ∷ 0 ∷ 1 ∷ 0 ∷ 0 ∷ 0 ∷ 0 ∷ 0 ∷ 0 ∷ 0 ∷ 17 ∷ 64 ∷ 1 ∷ 1 ∷ 0 ∷ 64 ∷ 2 ∷ 10 ∷ 2 ∷ 2 ∷ 0 ∷ 0 ∷ 0 ∷ 10 ∷ 0 ∷ 0 ∷ 0 ∷ []) ≡ Err Cut
-unfolding rib_of head entries_of entry
+unfolding rib_of head entries_of entry entry_fields
 one_octet_less = refl
 
 -- the flag of a length in two octets
 extended_length : rib_of 2 (Some 1) (0 ∷ 0 ∷ 0 ∷ 0 ∷ 24 ∷ 10 ∷ 0 ∷ 1 ∷ 0 ∷ 1 ∷ 0 ∷ 0 ∷ 0 ∷ 0 ∷ 0 ∷ 0 ∷ 0 ∷ 18 ∷ 64 ∷ 1 ∷ 1 ∷ 0 ∷ 80 ∷ 2 ∷ 0 ∷ 10 ∷ path) ≡ Ok (expected ∷ [])
-unfolding rib_of head entries_of entry attributes_of attributes_within attribute path expected
+unfolding rib_of head entries_of entry entry_fields attributes_of attributes_within attribute path expected
 extended_length = refl
 
 -- an AS_PATH whose length is one octet too great
 cut_attribute : rib_of 2 (Some 1) (0 ∷ 0 ∷ 0 ∷ 0 ∷ 24 ∷ 10 ∷ 0 ∷ 1 ∷ 0 ∷ 1 ∷ 0 ∷ 0 ∷ 0 ∷ 0 ∷ 0 ∷ 0 ∷ 0 ∷ 17 ∷ 64 ∷ 1 ∷ 1 ∷ 0 ∷ 64 ∷ 2 ∷ 11 ∷ path) ≡ Err AttrCut
-unfolding rib_of head entries_of entry attributes_of attributes_within attribute path
+unfolding rib_of head entries_of entry entry_fields attributes_of attributes_within attribute path
 cut_attribute = refl

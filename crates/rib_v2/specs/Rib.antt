@@ -1,5 +1,6 @@
 -- The bodies of RIB_IPV4_UNICAST and RIB_IPV6_UNICAST records, subtypes 2 and 4 (RFC 6396, sections 4.3.2 and 4.3.4).
 use Rattle.std.specs.Prelude.{◌≡◌, ℕ, zero, suc, ◌+◌, ◌*◌, ◌/◌, ◌==◌, nat_lt, nat_le, List, [], ◌∷◌, length, Option, Some, None, Result, Ok, Err, if◌then◌else◌}
+use Rattle.std.specs.Result.{result_unwrap_or}
 use Rattle.path_attrs.specs.declared.fault.RibFault.{RibFault}
 use Rattle.path_attrs.specs.declared.fault.RibFault.TheVariants.{Cut, Tail, PrefixLong, NoPeerTable, PeerRange, AttrCut}
 use Rattle.path_attrs.specs.Fields.{◌>>=◌, octets, number, check, or_fault}
@@ -21,16 +22,28 @@ head subtype body = do
   prefix ← octets Cut ((prefix_length.0 + 7) / 8) prefix_length.1
   number Cut 2 prefix.1
 
--- one entry, and the octets behind it, where the peer table has so many peers
-unfoldable pub entry : ℕ → List ℕ → Result (Entry × List ℕ) RibFault
-entry peer_count bytes = do
+-- the index of an entry's peer, the octets of its attributes, and those behind it
+pub record Fields : Type 0 where
+  pub peer : ℕ
+  pub block : List ℕ
+  pub rest : List ℕ
+
+-- the fields of the entry that stands first, where the peer table has so many peers
+unfoldable pub entry_fields : ℕ → List ℕ → Result Fields RibFault
+entry_fields peer_count bytes = do
   peer_index ← number Cut 2 bytes
   in_range ← check PeerRange (nat_lt peer_index.0 peer_count)
   originated ← octets Cut 4 peer_index.1
   attribute_length ← number Cut 2 originated.1
   block ← octets Cut attribute_length.0 attribute_length.1
-  attributes ← or_fault AttrCut (attributes_of block.0)
-  Ok (record { peer = peer_index.0; attrs = attributes }, block.1)
+  Ok (record { peer = peer_index.0; block = block.0; rest = block.1 })
+
+-- one entry, and the octets behind it
+unfoldable pub entry : ℕ → List ℕ → Result (Entry × List ℕ) RibFault
+entry peer_count bytes = do
+  fields ← entry_fields peer_count bytes
+  attributes ← or_fault AttrCut (attributes_of fields.block)
+  Ok (record { peer = fields.peer; attrs = attributes }, fields.rest)
 
 -- so many entries, and nothing behind them
 unfoldable pub entries_of : ℕ → ℕ → List ℕ → Result (List Entry) RibFault
@@ -41,6 +54,10 @@ entries_of peer_count (suc count) bytes = do
   first ← entry peer_count bytes
   others ← entries_of peer_count count first.1
   Ok (first.0 ∷ others)
+
+-- those of octets that have so many and nothing behind them
+unfoldable pub entries_in : ℕ → ℕ → List ℕ → List Entry
+entries_in peer_count count bytes = result_unwrap_or (entries_of peer_count count bytes) []
 
 -- the entries, or the first fault in the order of the fields; the peer table is there or not before any field
 unfoldable pub rib_of : ℕ → Option ℕ → List ℕ → Result (List Entry) RibFault

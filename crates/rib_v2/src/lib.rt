@@ -7,7 +7,7 @@ mod rib;
 
 pub use error::RibError;
 pub use peer_table::{Peers, read_peers};
-pub use rib::{Entry, read_rib};
+pub use rib::{Entry, EntryCursor, read_rib};
 
 #[cfg(test)]
 mod tests;

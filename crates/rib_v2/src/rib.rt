@@ -1,12 +1,13 @@
-ghost use Rattle.std.specs.Prelude.{◌≡◌, ◌<◌, ◌≤◌, ◌⊎◌, length, IfOk, IfErr, IsNone, option_map};
+ghost use Rattle.std.specs.Prelude.{◌≡◌, ◌++◌, ◌<◌, ◌⊎◌, [], ◌∷◌, length, IfOk, IsNone, MatchOption, option_map};
 ghost use Rattle.path_attrs.specs.Fields.{Gives};
-ghost use Rattle.rib_v2.specs.Rib.{address_octets, entry, entries_of, head, rib_of, IsAnswer};
+ghost use Rattle.rib_v2.specs.Rib.{address_octets, entry, entry_fields, entries_of, head, rib_of, IsAnswer};
 
 use crate::error::RibError;
 use crate::peer_table::Peers;
-use path_attrs::{Attrs, RibFault, attributes, number16, octet, octets};
+use path_attrs::{Attrs, RibFault, attributes, number16, octet, octets, whole_attributes};
 use std::alloc::Global;
-use tor_arena::List;
+use std::marker::Model;
+use tor_arena::{List, NoMemory};
 
 /// The subtype RIB_IPV4_UNICAST.
 const IPV4: u16 = 2;
@@ -39,10 +40,10 @@ fn head_of(subtype: u16, body: &[u8]) -> Result<(u16, &[u8]), RibFault>
     number16(rest, RibFault::Cut)
 }
 
-// The entry that stands first, and the octets behind it.
-#[tactic(auto, unfolding(crate::specs::Rib::entry))]
-fn entry_of<'a>(peers: &Peers, bytes: &'a [u8]) -> Result<(Entry<'a>, &'a [u8]), RibFault>
-    ensures { Gives (λ x. (x.0, x.1.now)) result (entry peers.now.count bytes.now) }
+// The fields of the entry that stands first: the index of its peer, the octets of its attributes, and those behind it.
+#[tactic(auto, unfolding(crate::specs::Rib::entry_fields))]
+fn fields_of<'a>(peers: &Peers, bytes: &'a [u8]) -> Result<(u16, &'a [u8], &'a [u8]), RibFault>
+    ensures { Gives (λ x. (record { peer = x.0; block = x.1.now; rest = x.2.now })) result (entry_fields peers.now.count bytes.now) }
 {
     let (peer, rest) = number16(bytes, RibFault::Cut)?;
     if u32::from(peer) >= peers.count {
@@ -51,40 +52,102 @@ fn entry_of<'a>(peers: &Peers, bytes: &'a [u8]) -> Result<(Entry<'a>, &'a [u8]),
     let (_originated, rest) = octets(rest, 4, RibFault::Cut)?;
     let (len, rest) = number16(rest, RibFault::Cut)?;
     let (block, rest) = octets(rest, usize::from(len), RibFault::Cut)?;
+    Ok((peer, block, rest))
+}
+
+// The entry that stands first, and the octets behind it.
+#[tactic(auto, unfolding(crate::specs::Rib::entry))]
+fn entry_of<'a>(peers: &Peers, bytes: &'a [u8]) -> Result<(Entry<'a>, &'a [u8]), RibFault>
+    ensures { Gives (λ x. (x.0, x.1.now)) result (entry peers.now.count bytes.now) }
+{
+    let (peer, block, rest) = fields_of(peers, bytes)?;
     let attrs = attributes(block)?;
     Ok((Entry { peer, attrs }, rest))
 }
 
-// So many entries, and nothing behind them.
-fn read_entries<'a>(
-    alloc: Global,
-    peers: &Peers,
+/// The entries of a RIB that are still to come, where they lie.
+#[derive(Debug, Drop)]
+pub struct EntryCursor<'a> {
+    peers: Peers,
     count: u16,
-    bytes: &'a [u8],
-) -> Result<List<Entry<'a>>, RibError>
+    rest: &'a [u8],
+}
+
+impl<'a> Model for EntryCursor<'a> {
+    ghost use Rattle.std.specs.Prelude.{List, IsOk};
+    ghost use Rattle.rib_v2.specs.declared.rib.Entry.{Entry};
+    ghost use Rattle.rib_v2.specs.Rib.{entries_in, entries_of};
+
+    ghost Value = { List Entry };
+
+    ghost view = { λ cursor. entries_in cursor.peers.count cursor.count cursor.rest.now };
+
+    ghost invariant = { λ cursor. IsOk (entries_of cursor.peers.count cursor.count cursor.rest.now) };
+}
+
+// So many entries, and nothing behind them.
+fn entries_over<'a>(peers: &Peers, count: u16, bytes: &'a [u8]) -> Result<EntryCursor<'a>, RibFault>
     ensures few { IfOk result (λ entries. length entries ≡ count) }
-    ensures answer { IsAnswer result (entries_of peers.now.count count bytes.now) }
+    ensures entries { result ≡ entries_of peers.now.count count bytes.now }
 {
-    let mut found = List::new(alloc);
     let mut rest = bytes;
     'entries: for _ in 0..count {
         match entry_of(peers, rest) {
-            Ok((entry, behind)) => {
-                found.push(entry)?;
-                rest = behind;
-            }
-            Err(fault) => return Err(RibError::Fault(fault)),
+            Ok((_, behind)) => rest = behind,
+            Err(fault) => return Err(fault),
         }
     }
     if !rest.is_empty() {
-        return Err(RibError::Fault(RibFault::Tail));
+        return Err(RibFault::Tail);
     }
-    Ok(found)
+    Ok(EntryCursor {
+        peers: *peers,
+        count,
+        rest: bytes,
+    })
 }
 
-/// The entries of a RIB_IPV4_UNICAST or RIB_IPV6_UNICAST record, subtypes 2 and 4 (RFC 6396, sections 4.3.2 and 4.3.4), in
-/// order, or the first fault of its body in the order of the fields. `peers` is the file's last peer table so far: NoPeerTable
-/// where there is none, before any field. NoMemory where memory ran out.
+impl<'a> EntryCursor<'a> {
+    /// The entries of a RIB_IPV4_UNICAST or RIB_IPV6_UNICAST record, subtypes 2 and 4 (RFC 6396, sections 4.3.2 and 4.3.4), in
+    /// order, or the first fault of its body in the order of the fields. `peers` is the file's last peer table so far: NoPeerTable
+    /// where there is none, before any field. The whole body is tested. It takes no memory.
+    pub fn over(
+        subtype: u16,
+        peers: Option<&Peers>,
+        body: &'a [u8],
+    ) -> Result<EntryCursor<'a>, RibFault>
+        requires { (subtype ≡ 2) ⊎ (subtype ≡ 4) }
+        ensures entries { result ≡ rib_of subtype (option_map (λ p. p.now.count) peers.entry) body.now }
+        ensures no_table { IsNone peers.entry → result ≡ Err RibFault.NoPeerTable }
+        ensures few { IfOk result (λ entries. length entries < 65536) }
+    {
+        let Some(peers) = peers else {
+            return Err(RibFault::NoPeerTable);
+        };
+        let (count, rest) = head_of(subtype, body)?;
+        entries_over(peers, count, rest)
+    }
+
+    /// The next entry. None where there is none. It takes no memory.
+    pub fn next(&mut self) -> Option<Entry<'a>>
+        ensures { MatchOption result ((self.old ≡ []) × (self.new ≡ [])) (λ entry. self.old ≡ entry ∷ self.new) }
+    {
+        if self.count == 0 {
+            return None;
+        }
+        let Ok((peer, block, rest)) = fields_of(&self.peers, self.rest) else {
+            unreachable!()
+        };
+        self.count -= 1;
+        self.rest = rest;
+        Some(Entry {
+            peer,
+            attrs: whole_attributes(block),
+        })
+    }
+}
+
+/// The entries that `EntryCursor` goes over, as a list, or the first fault. NoMemory where memory ran out.
 pub fn read_rib<'a>(
     alloc: Global,
     subtype: u16,
@@ -96,9 +159,21 @@ pub fn read_rib<'a>(
     ensures no_table { IsNone peers.entry → result ≡ Err (RibError.Fault RibFault.NoPeerTable) }
     ensures few { IfOk result (λ entries. length entries < 65536) }
 {
-    let Some(peers) = peers else {
-        return Err(RibError::Fault(RibFault::NoPeerTable));
+    let entries = match EntryCursor::over(subtype, peers, body) {
+        Ok(entries) => entries,
+        Err(fault) => return Err(RibError::Fault(fault)),
     };
-    let (count, rest) = head_of(subtype, body)?;
-    read_entries(alloc, peers, count, rest)
+    Ok(listed(alloc, entries)?)
+}
+
+// The entries as a list.
+fn listed<'a>(alloc: Global, entries: EntryCursor<'a>) -> Result<List<Entry<'a>>, NoMemory>
+    ensures { IfOk result (λ list. list ≡ entries.entry) }
+{
+    let mut left = entries;
+    let mut list = List::new(alloc);
+    'entries: while let Some(entry) = left.next() {
+        list.push(entry)?;
+    }
+    Ok(list)
 }

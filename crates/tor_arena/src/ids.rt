@@ -252,7 +252,9 @@ impl Index for WalkId {
 
     fn from_place(place: usize) -> Option<WalkId> {
         if place < MOST_WALKS {
-            Some(WalkId { short: place as u32 })
+            Some(WalkId {
+                short: place as u32,
+            })
         } else {
             None
         }

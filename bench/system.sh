@@ -1,0 +1,101 @@
+#!/usr/bin/env bash
+# What the two programs do at the ends that touch the system: full devices, closed pipes, folders, absent files, standard input, many
+# dumps and few descriptors. Each line says the run and whether status, output and note were as they should be; the script ends with 1
+# if one was not.
+#   bench/system.sh TOR TORCHECK SAMPLES
+set -uo pipefail
+tor=$1 torcheck=$2 samples=$3
+work=$(mktemp -d)
+trap 'rm -rf "$work"' EXIT
+failed=0
+
+# Compares the status and the note of a run with what is wanted; the note up to the end of what is wanted.
+expect() { # NAME STATUS WANTED_STATUS WANTED_NOTE
+    local note
+    note=$(head -c "${#4}" "$work/note" | tr -d '\0')
+    if [ "$2" = "$3" ] && [ "$note" = "$4" ]; then
+        echo "ok: $1"
+    else
+        echo "FAILED: $1: status $2 for $3, note '$(head -1 "$work/note")' for '$4'"
+        failed=1
+    fi
+}
+
+same() { # NAME FILE TEXT
+    if [ "$(cat "$2")" = "$3" ]; then echo "ok: $1, its output"; else echo "FAILED: $1: output '$(head -3 "$2")'"; failed=1; fi
+}
+
+one=$samples/one-edge.mrt
+list='1|10 20'
+
+"$tor" --list "$one" > "$work/out" 2> "$work/note"
+expect "a list" $? 0 ""
+same "a list" "$work/out" "$list"
+
+"$tor" --list "$one" > /dev/full 2> "$work/note"
+expect "a full device" $? 5 "write-fault"
+
+"$tor" "$one" > /dev/full 2> "$work/note"
+expect "a full device for a result" $? 5 "write-fault"
+
+{ sleep 0.3; "$tor" --list "$one" 2> "$work/note"; echo $? > "$work/status"; } | true
+expect "a closed pipe" "$(cat "$work/status")" 5 "write-fault"
+
+"$tor" --list "$samples" > "$work/out" 2> "$work/note"
+expect "a folder" $? 4 "read-fault|1"
+same "a folder" "$work/out" ""
+
+"$tor" --list "$one" "$work/absent" > "$work/out" 2> "$work/note"
+expect "an absent file" $? 4 "read-fault|2"
+same "an absent file" "$work/out" ""
+
+if [ "$(id -u)" != 0 ]; then
+    cp "$one" "$work/unreadable" && chmod 0 "$work/unreadable"
+    "$tor" --list "$work/unreadable" > "$work/out" 2> "$work/note"
+    expect "an unreadable file" $? 4 "read-fault|1"
+fi
+
+cat "$one" | "$tor" --list /dev/stdin > "$work/out" 2> "$work/note"
+expect "standard input through a pipe" $? 0 ""
+same "standard input through a pipe" "$work/out" "$list"
+
+many=()
+for _ in $(seq 300); do many+=("$one"); done
+(ulimit -n 8; exec "$tor" --list "${many[@]}" > "$work/out" 2> "$work/note")
+expect "300 dumps and 8 descriptors" $? 0 ""
+same "300 dumps and 8 descriptors" "$work/out" "300|10 20"
+
+"$tor" > "$work/out" 2> "$work/note"
+expect "no words" $? 2 "usage"
+same "no words" "$work/out" ""
+
+"$tor" --list "$(printf '\377')" > "$work/out" 2> "$work/note"
+expect "a word that isn't UTF-8" $? 9 ""
+
+"$tor" --list "$work/absent" 2>&- > "$work/out"
+status=$?
+: > "$work/note"
+expect "a closed standard error" $status 4 ""
+
+"$tor" "$one" > "$work/result" 2> "$work/note"
+expect "a result" $? 0 '{"asides":0,"edges":1'
+
+"$torcheck" "$work/result" "$one" > "$work/out" 2> "$work/note"
+expect "a check" $? 0 ""
+same "a check" "$work/out" "yes"
+
+sed 's/^tor|1/tor|2/' "$work/result" > "$work/changed"
+"$torcheck" "$work/changed" > "$work/out" 2> "$work/note"
+expect "a check of a changed result" $? 1 ""
+same "a check of a changed result" "$work/out" "no|1|0"
+
+"$torcheck" "$work/result" > /dev/full 2> "$work/note"
+expect "a check on a full device" $? 5 "write-fault"
+
+"$torcheck" "$work/absent" > "$work/out" 2> "$work/note"
+expect "an absent result" $? 4 "read-fault|0"
+
+"$torcheck" "$samples" > "$work/out" 2> "$work/note"
+expect "a folder for a result" $? 4 "read-fault|0"
+
+exit $failed

@@ -1,8 +1,0 @@
-use Rattle.std.proofs.Common.{◌≡◌, ◌-◌, length}
-use Rattle.rib_v2.specs.Rib.{entries_of}
-use Rattle.rib_v2.proofs.Loops.{with_head}
-use Rattle.rib_v2.proofs.rib.read_entries.Given as goal
-
--- one entry for each turn, and with those that are left they are all
-abbrev pub invariant-entries : goal.invariant-entries
-invariant-entries l = (length l.found ≡ l.counter) × (with_head l.found (entries_of l.peers.count (l.count - l.counter) l.rest) ≡ entries_of l.peers.count l.count l.bytes)

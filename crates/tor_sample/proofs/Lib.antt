@@ -1,0 +1,4 @@
+pub mod Upward
+pub mod Turning
+pub mod Octets
+mod Vectors

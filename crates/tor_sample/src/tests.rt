@@ -1,0 +1,73 @@
+ghost use Rattle.std.specs.Prelude.{◌<◌, IfSome, length};
+
+use crate::sample;
+use std::alloc::Global;
+use std::test::Fail;
+
+// The first octets of the dump of 0: a peer table, and the route 1544 1117 1026 1000 1009 1027 1134 1324 to 10.0.0.0/24.
+static BEGINNING: [u8; 104] = [
+    0, 0, 0, 0, 0, 13, 0, 1, 0, 0, 0, 21, 192, 0, 2, 1, 0, 0, 0, 1, 2, 10, 0, 0, 1, 192, 0, 2, 2,
+    0, 0, 0, 10, // table
+    0, 0, 0, 0, 0, 13, 0, 2, 0, 0, 0, 59, 0, 0, 0, 0, 24, 10, 0, 0, 0, 1, 0, 0, 0, 0, 0, 0, 0, 41, // header, RIB
+    64, 1, 1, 0, 64, 2, 34, 2, 8, 0, 0, 6, 8, 0, 0, 4, 93, 0, 0, 4, 2, 0, 0, 3, 232, 0, 0, 3, 241,
+    0, 0, 4, 3, 0, 0, 4, 110, 0, 0, 5, 44,
+];
+
+// The octets of the record that stands first, and those behind it; None where no whole record does.
+fn split_record(octets: &[u8]) -> Option<(&[u8], &[u8])>
+    ensures { IfSome result (λ parts. length parts.1.now < length octets.now) }
+{
+    let length: [u8; 4] = octets.get(8..12)?.try_into().ok()?;
+    octets.split_at_checked(12 + u32::from_be_bytes(length) as usize)
+}
+
+// How many records there are; None where something else stands among them, or where a record behind the first has not 39
+// octets and four for each number of its path.
+fn count_records(octets: &[u8]) -> Option<u32> {
+    let (_, mut rest) = split_record(octets)?;
+    let mut count = 1u32;
+    while !rest.is_empty() {
+        let (record, behind) = split_record(rest)?;
+        if record.len() != 39 + 4 * usize::from(*record.get(38)?) {
+            return None;
+        }
+        count = count.checked_add(1)?;
+        rest = behind;
+    }
+    Some(count)
+}
+
+// A checksum in which the order of the octets counts.
+fn checksum(octets: &[u8]) -> u64 {
+    octets.iter().fold(
+        0,
+        |sum: u64, octet| sum.wrapping_mul(31).wrapping_add(u64::from(*octet)),
+    )
+}
+
+// How many octets and records the dump of a number has, and its checksum.
+fn described(alloc: Global, seed: u64) -> Option<(usize, u32, u64)> {
+    let dump = sample(alloc, seed).ok()?;
+    let octets = dump.as_slice();
+    Some((octets.len(), count_records(octets)?, checksum(octets)))
+}
+
+#[test]
+fn the_sample_of_0_begins_so(rt: HostRuntime) -> Result<(), Fail> {
+    let dump = sample(rt.alloc(), 0)?;
+    assert!(rt; dump.as_slice().starts_with(&BEGINNING));
+    Ok(())
+}
+
+// The numbers are those of another generator.
+#[test]
+fn samples_are_whole(rt: HostRuntime) {
+    assert_eq!(rt;
+        described(rt.alloc(), 0),
+        Some((1_408_865, 20_001, 14_082_097_988_507_133_162))
+    );
+    assert_eq!(rt;
+        described(rt.alloc(), 7),
+        Some((1_409_105, 20_001, 11_570_276_559_870_045_370))
+    );
+}
