@@ -1,12 +1,11 @@
 -- Triples known by the pair of nodes that each shares with its reverse.
-use Rattle.std.proofs.Common.{◌≡◌, ℕ, ◌≤◌, ◌⊎◌, inl, inr, Bool, true, false, not, List, [], ◌∷◌, ◌++◌, length, map, take, refl, sym, ap, ap₂, ◌∙◌, subst, arith, ltb, lt-ltb, le-ltb, if◌then◌else◌, ◌||◌}
+use Rattle.std.proofs.Common.{◌≡◌, ℕ, ◌≤◌, ◌⊎◌, inl, inr, Bool, true, false, List, [], ◌∷◌, ◌++◌, length, map, take, refl, sym, ap, ap₂, ◌∙◌, subst, arith, ltb, lt-ltb, le-ltb, if◌then◌else◌, ◌||◌}
 use Rattle.std.specs.List.{list_any}
-use Rattle.std.specs.Prelude.{Contains, All, ◌+◌, ◌*◌, ◌^◌, ◌<◌}
-use Rattle.std.proofs.lemmas.Bool.{cases_Bool, cases_order, false_from_ne_true, both_ways, not-true, not-false}
+use Rattle.std.specs.Prelude.{Contains, All, ◌^◌, ◌<◌}
+use Rattle.std.proofs.lemmas.Bool.{cases_Bool, cases_order, false_from_ne_true}
 use Rattle.std.proofs.lemmas.List.{take-map, length-take-le}
 use Rattle.std.proofs.lemmas.List.Elements.{All-take, All-head, All-tail, Contains-append_left, Contains-append_right, Contains-append_cases}
-use Rattle.relationships.specs.Graph.{Edge, is_same}
-use Rattle.relationships.proofs.Edges.{same_edge}
+use Rattle.relationships.specs.Graph.{Edge}
 use Rattle.tor_clauses.specs.declared.triple.Triple.{Triple}
 use Rattle.tor_clauses.specs.Literals.{negated, node_of, opposite_node}
 use Rattle.tor_clauses.specs.Triples.{arc_of, partner_of, is_same_triple}
@@ -15,7 +14,7 @@ use Rattle.tor_clauses.specs.Tables.{HasNodes, IsKnown, IsAdded, key_of, number_
 use Rattle.tor_clauses.specs.Slots.{IsInserted}
 use Rattle.tor_clauses.proofs.SlotLemmas.{alone, contains_one, contains_none}
 use Rattle.tor_clauses.proofs.LiteralLemmas.{opposite_node_twice, node_below}
-use Rattle.tor_clauses.proofs.Sames.{Same, Same-from_test, test-from_Same, edge_same, partner_same, partner_arc, reversed_arc, reversed_arc_twice, partner-reversed}
+use Rattle.tor_clauses.proofs.Sames.{Same, Same-from_test, test-from_Same, partner_same, partner_arc, reversed_arc, reversed_arc_twice, partner-reversed}
 
 abbrev lesser : Edge → Edge → Edge
 lesser e f = if ltb f.0 e.0 then f else e
@@ -121,15 +120,19 @@ triple_there t (u ∷ ts) h all c = elim (Contains-append_cases (key_number u �
 -- whether a triple's number is new tells whether the triple is
 pub added-new : (t : Triple) (number : ℕ) (keys new : List ℕ) (ts ts' : List Triple) (is_new : Bool) → IsKnown keys ts → number ≡ key_number t →
     IsInserted number keys new is_new → is_new ≡ true → ts' ≡ ts ++ t ∷ [] → IsAdded t ts ts' is_new
-added-new t number keys new ts ts' is_new known e put is so = subst (IsAdded t ts ts') (sym is)
-    (false_from_ne_true (list_any (is_same_triple t) ts) (λ there. (subst (IsInserted number keys new) is put).0
-    (subst (λ l. Contains l number) (sym known.keys) (subst (Contains (map key_number ts)) (sym e) (number_there t ts there)))), so)
+added-new t number keys new ts ts' is_new known e put is so = subst (IsAdded t ts ts') (sym is) (
+  false_from_ne_true (list_any (is_same_triple t) ts) (λ there. (subst (IsInserted number keys new) is put).0
+      (subst (λ l. Contains l number) (sym known.keys) (subst (Contains (map key_number ts)) (sym e) (number_there t ts there)))),
+  so,
+)
 
 pub added-none : (t : Triple) (number : ℕ) (keys new : List ℕ) (ts ts' : List Triple) (is_new : Bool) → HasNodes t → IsKnown keys ts → number ≡ key_number t →
     IsInserted number keys new is_new → is_new ≡ false → ts' ≡ ts → IsAdded t ts ts' is_new
-added-none t number keys new ts ts' is_new h known e put is so = subst (IsAdded t ts ts') (sym is)
-    (triple_there t ts h known.nodes (subst (Contains (map key_number ts)) e
-    (subst (λ l. Contains l number) known.keys (subst (IsInserted number keys new) is put).0)), so)
+added-none t number keys new ts ts' is_new h known e put is so = subst (IsAdded t ts ts') (sym is) (
+  triple_there t ts h known.nodes (subst (Contains (map key_number ts)) e
+      (subst (λ l. Contains l number) known.keys (subst (IsInserted number keys new) is put).0)),
+  so,
+)
 
 -- ---- one more triple, and fewer
 

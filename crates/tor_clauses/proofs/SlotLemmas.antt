@@ -1,7 +1,7 @@
 -- Searches from slot to slot, and what they find when a slot has changed.
-use Rattle.std.proofs.Common.{◌≡◌, ◌≢◌, ℕ, zero, suc, ◌+◌, ◌-◌, ◌<◌, ◌≤◌, ◌⊎◌, inl, inr, Bool, true, false, List, [], ◌∷◌, ◌++◌, Some, length, take, drop, set, refl, sym, ap, ◌∙◌, subst, arith, length-set}
+use Rattle.std.proofs.Common.{◌≡◌, ◌≢◌, ℕ, zero, suc, ◌+◌, ◌<◌, ◌≤◌, ◌⊎◌, inl, inr, Bool, true, false, List, [], ◌∷◌, ◌++◌, Some, length, take, drop, set, refl, sym, ap, ◌∙◌, subst, arith, length-set}
 use Rattle.std.specs.Prelude.{slice_get, slice_index_or, replicate, Contains}
-use Rattle.std.proofs.lemmas.List.{take-take, take-append-le, length-replicate}
+use Rattle.std.proofs.lemmas.List.{take-take, take-append-le}
 use Rattle.std.proofs.lemmas.List.Elements.{Contains-append_left, Contains-append_right, Contains-append_cases}
 use Rattle.std.proofs.Math.Seq.{take-append_seam, take-length, take-suc}
 use Rattle.std.proofs.lemmas.Option.{slice_get-get_or}
@@ -22,7 +22,7 @@ pub record IsSeeking (slots : List ℕ) (start number slot left : ℕ) : Type 0 
   pub back : (new : List ℕ) → length new ≡ length slots → StaysUsed slots new → HeldFrom new number slot left → HeldFrom new number start (length slots)
 
 pub seeking_begins : (slots : List ℕ) (start number : ℕ) → start < length slots → IsSeeking slots start number start (length slots)
-seeking_begins slots start number h = record { inside = h; still = (λ k. k); back = (λ new len used k. k); }
+seeking_begins slots start number h = record { inside = h; still = (λ k. k); back = (λ new len used k. k) }
 
 pub seeking_goes : (slots : List ℕ) (start number slot left n next s : ℕ) → left ≡ suc n → IsSeeking slots start number slot left →
     slice_get slots slot ≡ Some s → s ≢ number → s ≢ 0 → next ≡ next_slot (length slots) slot → next < length slots → IsSeeking slots start number next n
@@ -31,8 +31,10 @@ seeking_goes slots start number slot left n next s so k at other used is inside 
       inside = inside;
       still = (λ h. subst (λ p. HeldFrom slots number p n) (sym is) (rest (subst (HeldFrom slots number slot) so (k.still h))));
       back = (λ new len stays h. k.back new len stays (subst (HeldFrom new number slot) (sym so)
-          (inr ((λ e. used (same_number s 0 (sym at ∙ stays slot e))),
-          subst (λ m. HeldFrom new number (next_slot m slot) n) (sym len) (subst (λ p. HeldFrom new number p n) is h)))));
+          (inr (
+            (λ e. used (same_number s 0 (sym at ∙ stays slot e))),
+            subst (λ m. HeldFrom new number (next_slot m slot) n) (sym len) (subst (λ p. HeldFrom new number p n) is h),
+          ))));
     }
   where
     rest : HeldFrom slots number slot (suc n) → HeldFrom slots number (next_slot (length slots) slot) n
@@ -65,8 +67,11 @@ held-stays : (slots new : List ℕ) (k slot n : ℕ) → length new ≡ length s
 held-stays slots new k slot zero len keep stays h = h
 held-stays slots new k slot (suc n) len keep stays (inl e) = inl (keep slot e)
 held-stays slots new k slot (suc n) len keep stays (inr h) =
-    inr ((λ e. h.0 (stays slot e)), subst (λ m. HeldFrom new k (next_slot m slot) n) (sym len)
-    (held-stays slots new k (next_slot (length slots) slot) n len keep stays h.1))
+    inr (
+      (λ e. h.0 (stays slot e)),
+      subst (λ m. HeldFrom new k (next_slot m slot) n) (sym len)
+          (held-stays slots new k (next_slot (length slots) slot) n len keep stays h.1),
+    )
 
 held-some : (slots : List ℕ) (k slot n : ℕ) → HeldFrom slots k slot n → 0 < n
 held-some slots k slot zero h = absurd h
@@ -108,7 +113,7 @@ pub held-put : (seed number : ℕ) (slots : List ℕ) (slot : ℕ) (numbers : Li
     LeadsTo slots (start_at seed number (length slots)) number slot → (HeldFrom slots number (start_at seed number (length slots)) (length slots) → ⊥) →
     IsHeld seed slots numbers → (Contains numbers number → ⊥) × IsHeld seed (set slots slot number) (numbers ++ number ∷ [])
 held-put seed number slots slot numbers some inside free leads none h =
-    (absent, record { only = only; each = each; once = once; least = least; })
+    (absent, record { only = only; each = each; once = once; least = least })
   where
     new : List ℕ
     new = set slots slot number
@@ -166,7 +171,7 @@ held-put seed number slots slot numbers some inside free leads none h =
 -- the last number leaves its slot
 pub held-leave : (seed number : ℕ) (slots : List ℕ) (slot : ℕ) (numbers : List ℕ) → 2 ≤ number → slice_get slots slot ≡ Some number →
     IsHeld seed slots (numbers ++ number ∷ []) → (Contains numbers number → ⊥) → IsHeld seed (set slots slot 1) numbers
-held-leave seed number slots slot numbers some at h absent = record { only = only; each = each; once = once; least = least; }
+held-leave seed number slots slot numbers some at h absent = record { only = only; each = each; once = once; least = least }
   where
     len : length (set slots slot 1) ≡ length slots
     len = length-set slots slot 1

@@ -80,12 +80,7 @@ impl NumberSet {
         requires { count ≤ length self.old }
         ensures { self.new ≡ take count self.old }
     {
-        release_from(
-            &mut self.slots,
-            self.seed,
-            self.numbers.as_slice(),
-            count,
-        );
+        release_from(&mut self.slots, self.seed, self.numbers.as_slice(), count);
         self.numbers.truncate(count);
     }
 }

@@ -1,4 +1,4 @@
-use Rattle.std.proofs.Common.{◌≡◌, ◌<◌, length, take}
+use Rattle.std.proofs.Common.{◌<◌, length, take}
 use Rattle.tor_clauses.specs.Slots.{IsHeld}
 use Rattle.tor_clauses.proofs.number_set.filled.Given as goal
 

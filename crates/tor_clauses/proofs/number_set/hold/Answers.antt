@@ -1,6 +1,4 @@
-use Rattle.std.proofs.Common.{◌≡◌, length, subst, ◌<◌}
-use Rattle.std.specs.Prelude.{List}
-use Rattle.std.specs.Prelude.{ℕ}
+use Rattle.std.proofs.Common.{length, subst}
 use Rattle.tor_digraph.proofs.Gets.{slice_get-lt}
 use Rattle.tor_clauses.specs.Slots.{HeldFrom, LeadsTo}
 use Rattle.tor_clauses.proofs.SlotLemmas.{held-put}

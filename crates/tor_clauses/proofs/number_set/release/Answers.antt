@@ -1,4 +1,4 @@
-use Rattle.std.proofs.Common.{◌≡◌, length, subst, sym}
+use Rattle.std.proofs.Common.{length, subst, sym}
 use Rattle.tor_clauses.specs.Slots.{HeldFrom}
 use Rattle.tor_clauses.proofs.SlotLemmas.{held-leave, held-last, not_held}
 use Rattle.tor_clauses.proofs.number_set.release.Goals as goal

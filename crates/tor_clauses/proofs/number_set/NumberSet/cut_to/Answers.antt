@@ -13,5 +13,5 @@ invariant_of-self c =
     let many : length new ≡ length c.self.inside.slots.items = c.release_from.ensures.many ∙ ap length c.deref_mut.ensures.value in
     let back = written_back c.self.inside.slots.len new c.self.inside.slots.items (many ∙ sym len) len in
     let held = subst (λ l. IsHeld seed new (take count l)) c.as_slice.ensures.value c.release_from.ensures.held in
-    let whole : IsSet seed new (take count numbers) = record { held = held; apart = apart-take numbers count c.self.invariant.apart; } in
+    let whole : IsSet seed new (take count numbers) = record { held = held; apart = apart-take numbers count c.self.invariant.apart } in
     subst (IsSet seed _) (sym c.truncate.ensures.items) (subst (λ s. IsSet seed s (take count numbers)) (sym back) whole)

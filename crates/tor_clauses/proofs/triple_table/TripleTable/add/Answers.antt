@@ -1,4 +1,4 @@
-use Rattle.std.proofs.Common.{◌≡◌, ◌∷◌, ◌++◌, [], ap, ◌∙◌, subst}
+use Rattle.std.proofs.Common.{◌∷◌, ◌++◌, [], ap, ◌∙◌, subst}
 use Rattle.tor_clauses.specs.Tables.{IsAdded, number_of_pair}
 use Rattle.tor_clauses.proofs.Knowns.{added-new, added-none}
 use Rattle.tor_clauses.proofs.triple_table.TripleTable.add.Goals as goal
