@@ -1,5 +1,5 @@
 -- The orders to which the edges of steps flip.
-use Rattle.std.proofs.Common.{◌≡◌, ℕ, ◌≤◌, ◌<◌, Bool, true, false, min, max, nat_lt, get_or, slice_get, Some, List, sym, ap, ◌∙◌, subst, arith}
+use Rattle.std.proofs.Common.{◌≡◌, ℕ, Bool, true, false, min, max, nat_lt, get_or, List, sym, ap, subst, arith}
 use Rattle.std.proofs.lemmas.Bool.{ltb-true, ltb-false}
 use Rattle.std.proofs.lemmas.Option.{get_or_from_slice_get}
 use Rattle.relationships.specs.declared.label.Label.{Label}
@@ -7,7 +7,7 @@ use Rattle.relationships.specs.declared.label.Label.TheVariants as label
 use Rattle.relationships.specs.Graph.{edge_of}
 use Rattle.result_text.specs.declared.file.EdgeLine.{EdgeLine}
 use Rattle.rel_checker.specs.declared.step.Step.{Step}
-use Rattle.rel_checker.specs.Flipping.{climbs, flipped_by, flipped, flipped_orders, edges_of, FlipsTo, IsStep}
+use Rattle.rel_checker.specs.Flipping.{climbs, flipped_by, flipped_orders, edges_of, FlipsTo, IsStep}
 use Rattle.rel_checker.specs.PathSteps.{place_in, rises_in, IsStepAlong, labels_on}
 use Rattle.rel_checker.proofs.Gets.{slice_get-map, slice_get-unmap}
 use Rattle.rel_checker.proofs.OrderPlaces.{pair, flips_of}

@@ -1,5 +1,5 @@
 -- The edges of paths and their steps, listed line by line.
-use Rattle.std.proofs.Common.{◌≡◌, ℕ, ◌+◌, ◌<◌, ◌≤◌, ◌^◌, List, [], ◌∷◌, ◌++◌, fold, length, map, take, sum_by, slice_get, Some, refl, sym, ap, ap₂, ◌∙◌, subst, arith, length-take}
+use Rattle.std.proofs.Common.{◌≡◌, ℕ, ◌+◌, ◌<◌, ◌≤◌, ◌^◌, List, [], ◌∷◌, ◌++◌, fold, length, take, sum_by, slice_get, Some, refl, sym, ap, ◌∙◌, subst, arith, length-take}
 use Rattle.std.proofs.lemmas.List.{take_all, take-map, length-map}
 use Rattle.relationships.specs.Graph.{Edge, edges_on, edges}
 use Rattle.tor_arena.specs.Limits.{most_places}
@@ -12,7 +12,7 @@ use Rattle.rel_checker.specs.PathSteps.{AreSteps, HaveSteps}
 use Rattle.rel_checker.specs.Rules.{IsMet}
 use Rattle.rel_checker.specs.Tables.{with_edge}
 use Rattle.rel_checker.proofs.FewEdges.{few_edges}
-use Rattle.rel_checker.proofs.Lines.{IsLine, line-here, paths_in, paths-more, numbers-more, sound-at}
+use Rattle.rel_checker.proofs.Lines.{line-here, paths_in, paths-more, numbers-more, sound-at}
 use Rattle.rel_checker.proofs.Listing.{edges-push}
 use Rattle.rel_checker.proofs.StepLemmas.{HaveSteps-more, HaveSteps-push, length-rows}
 

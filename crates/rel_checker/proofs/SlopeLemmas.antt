@@ -1,11 +1,9 @@
 -- How steps go under labels, and a walk over them with a flag.
-use Rattle.std.proofs.Common.{◌≡◌, ◌≢◌, ◌↔◌, ℕ, zero, suc, ◌+◌, ◌<◌, ◌≤◌, inl, inr, Bool, true, false, not, List, [], ◌∷◌, length, get_or, drop, map, min, max, refl, sym, ap, ap₂, ◌∙◌, subst, arith, IsTrue, slice_get, Some, if◌then◌else◌, drop-cons, add-one, le-ltb, lt-ltb}
+use Rattle.std.proofs.Common.{◌≡◌, ◌≢◌, ◌↔◌, ℕ, suc, ◌+◌, ◌<◌, ◌≤◌, inl, inr, Bool, true, false, not, List, [], ◌∷◌, length, get_or, drop, min, max, refl, sym, ap, ap₂, ◌∙◌, arith, IsTrue, if◌then◌else◌, drop-cons, add-one, le-ltb, lt-ltb}
 use Rattle.std.proofs.lemmas.Bool.{false≢true, cases_order}
-use Rattle.std.proofs.lemmas.List.{length-map}
 use Rattle.relationships.specs.declared.label.Label.{Label}
 use Rattle.tor_arena.specs.Distinct.{AllDistinct}
 use Rattle.relationships.specs.Relationship.{Labelling, is_low, is_high, is_over, Slope, Up, Down, Flat, slope, slopes_from, slopes, ValleyFree}
-use Rattle.relationships.specs.Graph.{Edge, edge_of}
 use Rattle.relationships.proofs.Slopes.{over-low, over-high, slope-up, slope-down}
 use Rattle.relationships.proofs.Deciding.{only_down, no_valley, no_valley_iff}
 use Rattle.relationships.specs.declared.fate.Fate.{Fate}
@@ -16,7 +14,6 @@ use Rattle.rel_checker.specs.declared.step.Step.{Step}
 use Rattle.rel_checker.specs.Flipping.{edges_of, AreApart}
 use Rattle.rel_checker.specs.PathSteps.{place_in, rises_in, IsStepAlong, AreStepsFrom, AreSteps, step_slope, labels_on, slopes_by, is_up, is_down}
 use Rattle.rel_checker.specs.Tables.{labels_in}
-use Rattle.rel_checker.proofs.Gets.{slice_get-lt}
 use Rattle.rel_checker.proofs.ValleyLemmas.{label_of_edge}
 
 -- ---- slopes by steps

@@ -1,5 +1,5 @@
 -- The steps of paths.
-use Rattle.std.proofs.Common.{◌≡◌, ℕ, zero, suc, ◌+◌, ◌*◌, ◌/◌, ◌%◌, ◌-◌, ◌<◌, ◌≤◌, ◌^◌, ◌==◌, inl, inr, true, false, Bool, List, [], ◌∷◌, ◌++◌, fold, length, get_or, take, map, length-take, refl, sym, ap, ap₂, ◌∙◌, subst, arith, All, slice_get, Some, nat_lt, length-append, if◌then◌else◌}
+use Rattle.std.proofs.Common.{◌≡◌, ℕ, zero, suc, ◌+◌, ◌-◌, ◌<◌, ◌≤◌, inl, inr, true, false, List, [], ◌∷◌, ◌++◌, fold, length, get_or, take, length-take, refl, sym, ap, ◌∙◌, subst, arith, All, slice_get, Some, length-append, if◌then◌else◌}
 use Rattle.std.specs.List.{list_any}
 use Rattle.std.proofs.lemmas.Bool.{cases_Bool}
 use Rattle.std.proofs.lemmas.Option.{slice_get_within}
@@ -12,7 +12,7 @@ use Rattle.result_text.specs.declared.file.ResultFile.{ResultFile}
 use Rattle.rel_checker.specs.declared.step.Step.{Step}
 use Rattle.rel_checker.specs.File.{its_paths}
 use Rattle.rel_checker.specs.Flipping.{edges_of}
-use Rattle.rel_checker.specs.PathSteps.{place_in, rises_in, IsStepAlong, AreStepsFrom, AreSteps, HaveSteps}
+use Rattle.rel_checker.specs.PathSteps.{place_in, IsStepAlong, AreStepsFrom, AreSteps, HaveSteps}
 use Rattle.rel_checker.specs.Tables.{with_edge}
 use Rattle.rel_checker.proofs.Gets.{slice_get-push_old, slice_get-map}
 

@@ -1,4 +1,4 @@
-use Rattle.std.proofs.Common.{◌∙◌, arith, subst, sym}
+use Rattle.std.proofs.Common.{arith, subst, sym}
 use Rattle.std.proofs.lemmas.Bool.{both_ways}
 use Rattle.tor_arena.specs.Distinct.{AllDistinct}
 use Rattle.rel_checker.specs.File.{its_edges}

@@ -1,4 +1,4 @@
-use Rattle.std.proofs.Common.{◌≡◌, ◌+◌, ◌≤◌, ◌∙◌, ◌++◌, ◌∷◌, [], fold, length, sym, ap, ap₂, subst, arith}
+use Rattle.std.proofs.Common.{◌≡◌, ◌+◌, ◌≤◌, ◌∙◌, ◌++◌, ◌∷◌, [], fold, length, sym, ap, subst, arith}
 use Rattle.relationships.specs.Graph.{edges_on}
 use Rattle.rel_checker.specs.PathSteps.{AreSteps}
 use Rattle.rel_checker.specs.Tables.{with_edge}

@@ -1,4 +1,4 @@
-use Rattle.std.proofs.Common.{◌+◌, ◌<◌, ◌≤◌, ◌∙◌, length, take, get_or, arith, nat_eq, length-take}
+use Rattle.std.proofs.Common.{◌<◌, ◌∙◌, length, take, get_or, arith, nat_eq, length-take}
 use Rattle.std.proofs.lemmas.List.{get_or_default}
 use Rattle.std.proofs.lemmas.List.Sums.{count_by-le-length}
 use Rattle.rel_checker.specs.declared.step.Step.{Step}

@@ -1,5 +1,4 @@
 use Rattle.std.proofs.Common.{◌∙◌, sym}
-use Rattle.relationships.specs.declared.fate.Fate.TheVariants.{Kept}
 use Rattle.rel_checker.specs.Tables.{labels_in}
 use Rattle.rel_checker.proofs.SlopeLemmas.{slopes-steps, kept_fate}
 use Rattle.rel_checker.proofs.StepLemmas.{inside_lines}

@@ -1,4 +1,4 @@
-use Rattle.std.proofs.Common.{◌≡◌, ◌<◌, ◌++◌, ◌∷◌, [], sym, arith}
+use Rattle.std.proofs.Common.{◌≡◌, ◌++◌, ◌∷◌, [], sym, arith}
 use Rattle.rel_checker.specs.Flipping.{climbs_on, AreNoted, with_implied, with_conflicting}
 use Rattle.rel_checker.specs.PathSteps.{place_in}
 use Rattle.rel_checker.proofs.Noting.{same-implied, same-conflicting, noted-more, implied_as, conflicting_as, on_ok_both}

@@ -1,4 +1,4 @@
-use Rattle.std.proofs.Common.{◌+◌, ◌-◌, ◌<◌, length, get_or, arith}
+use Rattle.std.proofs.Common.{◌-◌, length, get_or, arith}
 use Rattle.rel_checker.specs.Flipping.{flipped_orders, edges_of, climbs_on}
 use Rattle.rel_checker.specs.declared.step.Step.{Step}
 use Rattle.rel_checker.specs.PathSteps.{place_in}
