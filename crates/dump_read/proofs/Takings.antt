@@ -1,5 +1,5 @@
 -- Routes that are taken in one after the other.
-use Rattle.std.proofs.Common.{◌≡◌, Option, Some, None, ℕ, zero, suc, ◌+◌, ◌<◌, List, [], ◌∷◌, ◌++◌, length, take, drop, get_or, Result, Ok, Err, refl, sym, ap, subst, ◌∙◌, arith}
+use Rattle.std.proofs.Common.{◌≡◌, Option, Some, None, ℕ, List, [], ◌∷◌, ◌++◌, length, take, Result, Ok, Err, refl, sym, ap, subst, ◌∙◌, arith}
 use Rattle.std.proofs.lemmas.List.{append_assoc, append-nil, length-append}
 use Rattle.std.proofs.Math.Seq.{take-append_seam}
 use Rattle.path_attrs.specs.Fields.{◌>>=◌}
@@ -15,7 +15,7 @@ use Rattle.mrt_frame.specs.declared.record_kind.RecordKind.TheVariants.{PeerTabl
 use Rattle.mrt_frame.specs.Records.{Record}
 use Rattle.dump_read.specs.Routes.{Route, of_entries, of_table_dump, of_table_dump_read, of_rib_read, of_peer_table_read, routes_in, routes_of}
 use Rattle.rib_v2.specs.declared.rib.Entry.{Entry}
-use Rattle.path_attrs.specs.declared.as_path.Width.TheVariants.{Two, Four}
+use Rattle.path_attrs.specs.declared.as_path.Width.TheVariants.{Two}
 use Rattle.dump_read.specs.declared.taking.Untaken.{Untaken}
 use Rattle.dump_read.specs.declared.taking.Untaken.TheVariants as untaken
 use Rattle.dump_read.specs.Refusals.{IsLimit, IsUnread, TakesRead, TakesSomeRead}
