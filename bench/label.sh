@@ -39,13 +39,13 @@ use as_graph::{AsGraph, Labels, build};
 use forced_edges::{Marks, forced};
 use path_clean::{MAX_PATHS, PathTable, is_clean_path};
 use path_select::{Selection, select};
-use relationships::{Fate, Mark, Walk};
-use result_text::{EdgeLine, PathLine, ResultFile, parse, print};
+use relationships::{Fates, Mark, Walks};
+use result_text::{EdgeLine, PathLines, ResultFile, parse, print};
 use std::alloc::Global;
 use std::env;
 use std::fs;
 use std::time::CpuClock;
-use tor_arena::{Keys, List, NoMemory};
+use tor_arena::{Index, Keys, List, NoMemory, PathId, WalkId};
 use tor_clauses::Clauses;
 
 /// The processor time so far, in microseconds.
@@ -63,15 +63,16 @@ struct Findings {
     selecting: u128,
     marking: u128,
     triples: usize,
-    fates: List<Fate>,
+    fates: Fates,
     marks: Marks,
 }
 
 /// A table of the paths.
-fn table_of(alloc: Global, keys: Keys, lines: &[PathLine]) -> Result<PathTable, NoMemory> {
+fn table_of(alloc: Global, keys: Keys, lines: &PathLines) -> Result<PathTable, NoMemory> {
     let mut table = PathTable::new(alloc, keys, MAX_PATHS);
-    for line in lines {
-        let path = line.path.as_slice();
+    for place in 0..lines.len() {
+        let line = lines.get(PathId::from_place(place).unwrap());
+        let path = line.path();
         if is_clean_path(alloc, path)? {
             match table.add(path) {
                 Ok(_) => {}
@@ -160,7 +161,7 @@ fn measured(
     keys: Keys,
     file: &ResultFile,
 ) -> Result<Option<Findings>, NoMemory> {
-    let table = table_of(alloc, keys, file.paths.as_slice())?;
+    let table = table_of(alloc, keys, &file.paths)?;
     let labels = labels_of(alloc, file.edges.as_slice())?;
     let start = used(clock);
     let graph = build(alloc, keys, table.rows())?;
@@ -169,16 +170,19 @@ fn measured(
 }
 
 /// How many paths have another fate than the result says, and how many are lost.
-fn fates_of(lines: &[PathLine], fates: &[Fate]) -> (usize, usize) {
+fn fates_of(lines: &PathLines, fates: &Fates) -> (usize, usize) {
     let mut other: usize = lines.len().abs_diff(fates.len());
     let mut lost: usize = 0;
-    for (line, fate) in lines.iter().zip(fates) {
-        let is_kept = matches!(fate, Fate::Kept);
-        if matches!(&line.fate, Fate::Kept) != is_kept {
-            other = other.saturating_add(1);
-        }
-        if !is_kept {
-            lost = lost.saturating_add(1);
+    for place in 0..lines.len() {
+        if place < fates.len() {
+            let id = PathId::from_place(place).unwrap();
+            let is_kept = fates.is_kept(id);
+            if lines.get(id).is_kept() != is_kept {
+                other = other.saturating_add(1);
+            }
+            if !is_kept {
+                lost = lost.saturating_add(1);
+            }
         }
     }
     (other, lost)
@@ -201,14 +205,17 @@ fn marks_of(lines: &[EdgeLine], marks: &[Mark]) -> (usize, usize) {
 }
 
 /// The path lines with these fates.
-fn lines_with(
-    alloc: Global,
-    lines: List<PathLine>,
-    fates: List<Fate>,
-) -> Result<List<PathLine>, NoMemory> {
-    let mut all = List::new(alloc);
-    for (line, fate) in lines.into_vec().into_iter().zip(fates.into_vec()) {
-        all.push(PathLine { fate, ..line })?;
+fn lines_with(alloc: Global, lines: &PathLines, fates: &Fates) -> Result<PathLines, NoMemory> {
+    let mut all = PathLines::new(alloc);
+    for place in 0..lines.len() {
+        if place < fates.len() {
+            let id = PathId::from_place(place).unwrap();
+            let line = lines.get(id);
+            match fates.walk(id) {
+                Some(walk) => all.push_lost(line.times(), line.path(), &walk)?,
+                None => all.push_kept(line.times(), line.path())?,
+            }
+        }
     }
     Ok(all)
 }
@@ -233,11 +240,11 @@ fn marked_lines(
 fn with_ours(
     alloc: Global,
     file: ResultFile,
-    fates: List<Fate>,
+    fates: &Fates,
     marks: Marks,
 ) -> Result<ResultFile, NoMemory> {
     let edges = marked_lines(alloc, file.edges.as_slice(), marks.marks.as_slice())?;
-    let paths = lines_with(alloc, file.paths, fates)?;
+    let paths = lines_with(alloc, &file.paths, fates)?;
     Ok(ResultFile {
         paths,
         edges,
@@ -274,20 +281,21 @@ struct Outcome {
 }
 
 /// The number of ASes of the longest walk, and of all walks.
-fn lengths(walks: &[Walk]) -> (usize, u64) {
+fn lengths(walks: &Walks) -> (usize, u64) {
     let mut longest = 0;
     let mut sum = 0u64;
-    for walk in walks {
-        longest = longest.max(walk.ases.len());
-        sum = sum.saturating_add(walk.ases.len() as u64);
+    for place in 0..walks.len() {
+        let count = walks.ases(WalkId::from_place(place).unwrap()).len();
+        longest = longest.max(count);
+        sum = sum.saturating_add(count as u64);
     }
     (longest, sum)
 }
 
 fn numbers_of(file: &ResultFile, all: &Findings) -> Numbers {
-    let (other_fates, lost) = fates_of(file.paths.as_slice(), all.fates.as_slice());
+    let (other_fates, lost) = fates_of(&file.paths, &all.fates);
     let (other_marks, forced) = marks_of(file.edges.as_slice(), all.marks.marks.as_slice());
-    let (longest, ases) = lengths(all.marks.whys.as_slice());
+    let (longest, ases) = lengths(&all.marks.whys);
     Numbers {
         building: all.building,
         selecting: all.selecting,
@@ -315,7 +323,7 @@ fn text_of(alloc: Global, file: &ResultFile, numbers: Numbers) -> Option<Outcome
 
 fn outcome_with(alloc: Global, file: ResultFile, all: Findings) -> Option<Outcome> {
     let numbers = numbers_of(&file, &all);
-    match with_ours(alloc, file, all.fates, all.marks) {
+    match with_ours(alloc, file, &all.fates, all.marks) {
         Ok(ours) => text_of(alloc, &ours, numbers),
         Err(_) => None,
     }

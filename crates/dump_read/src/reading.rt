@@ -13,6 +13,7 @@ use crate::taking::{Taken, Untaken};
 use mrt_frame::{At, FrameError, Frames};
 use path_clean::Sets;
 use std::alloc::Global;
+use tor_arena::List;
 use tor_io::{OpenRefused, Shelf};
 
 // The error that an error of the records is.
@@ -65,6 +66,7 @@ fn read_records<H: Shelf>(
     ensures steady_reads { H.steady shelf.old → result ≢ Err DumpError.ReadFault }
 {
     let mut peers = None;
+    let mut path = List::new(alloc);
     let mut frames = Frames::over(alloc, shelf);
     'records: loop {
         let found = match frames.next() {
@@ -72,7 +74,7 @@ fn read_records<H: Shelf>(
             Ok(None) => return Ok(()),
             Err(error) => return Err(of_frame(dump, error)),
         };
-        match take_record(alloc, sets, &found, peers, taken) {
+        match take_record(alloc, sets, &found, peers, &mut path, taken) {
             Ok(behind) => peers = behind,
             Err(unread) => return Err(of_unread(dump, found.at, unread)),
         }

@@ -11,6 +11,7 @@ use path_clean::Sets;
 use rib_v1::read_v1;
 use rib_v2::{Entry, Peers, RibError, read_peers, read_rib};
 use std::alloc::Global;
+use tor_arena::List;
 
 /// Why a record was not taken in.
 #[derive(Clone, Copy, Debug, PartialEq, Eq)]
@@ -60,6 +61,7 @@ fn take_entries(
     alloc: Global,
     sets: Sets,
     entries: &[Entry<'_>],
+    path: &mut List<u32>,
     taken: &mut Taken,
 ) -> Result<(), Untaken>
     ensures taken { OnOk result (Takes sets taken.old (of_entries entries.now) taken.new) }
@@ -67,7 +69,7 @@ fn take_entries(
     ensures some { OnErr result (TakesSome sets taken.old (of_entries entries.now) taken.new) }
 {
     for entry in entries {
-        take(alloc, sets, Width::Four, &entry.attrs, taken)?;
+        take(alloc, sets, Width::Four, &entry.attrs, path, taken)?;
     }
     Ok(())
 }
@@ -77,6 +79,7 @@ fn take_table_dump(
     alloc: Global,
     sets: Sets,
     found: &Record<'_>,
+    path: &mut List<u32>,
     taken: &mut Taken,
 ) -> Result<(), Unread>
     requires { (found.now.subtype ≡ 1) ⊎ (found.now.subtype ≡ 2) }
@@ -85,7 +88,7 @@ fn take_table_dump(
     ensures some { OnErr result (TakesSomeRead sets taken.old (routes_in_table_dump found.now.subtype found.now.body.now) taken.new) }
 {
     let attrs = read_v1(found.subtype, found.body)?;
-    take(alloc, sets, Width::Two, &attrs, taken)?;
+    take(alloc, sets, Width::Two, &attrs, path, taken)?;
     Ok(())
 }
 
@@ -95,6 +98,7 @@ fn take_rib(
     sets: Sets,
     found: &Record<'_>,
     peers: Option<Peers>,
+    path: &mut List<u32>,
     taken: &mut Taken,
 ) -> Result<(), Unread>
     requires { (found.now.subtype ≡ 2) ⊎ (found.now.subtype ≡ 4) }
@@ -104,16 +108,17 @@ fn take_rib(
         taken.new) }
 {
     let entries = read_rib(alloc, found.subtype, peers.as_ref(), found.body)?;
-    take_entries(alloc, sets, entries.as_slice(), taken)?;
+    take_entries(alloc, sets, entries.as_slice(), path, taken)?;
     Ok(())
 }
 
-/// Takes in the routes of a record, and answers the last peer table behind it.
+/// Takes in the routes of a record, whose paths are made in `path`, and answers the last peer table behind it.
 pub(crate) fn take_record(
     alloc: Global,
     sets: Sets,
     found: &Record<'_>,
     peers: Option<Peers>,
+    path: &mut List<u32>,
     taken: &mut Taken,
 ) -> Result<Option<Peers>, Unread>
     ensures peers { IfOk result (λ after. count_of after ≡ peers_behind (count_of peers) (seen found.now)) }
@@ -123,12 +128,12 @@ pub(crate) fn take_record(
 {
     match RecordKind::of(found.kind, found.subtype) {
         Some(RecordKind::TableDump) => {
-            take_table_dump(alloc, sets, found, taken)?;
+            take_table_dump(alloc, sets, found, path, taken)?;
             Ok(peers)
         }
         Some(RecordKind::PeerTable) => Ok(Some(read_peers(found.body)?)),
         Some(RecordKind::Rib) => {
-            take_rib(alloc, sets, found, peers, taken)?;
+            take_rib(alloc, sets, found, peers, path, taken)?;
             Ok(peers)
         }
         None => Ok(peers),

@@ -1,14 +1,12 @@
 ghost use Rattle.std.specs.Prelude.{◌≡◌, Ok, Err, OnOk, OnErr, IfErr};
-ghost use Rattle.dump_read.specs.Routes.{of_entries};
-ghost use Rattle.dump_read.specs.Taking.{take_route, take_routes};
+ghost use Rattle.dump_read.specs.Taking.{take_route};
 ghost use Rattle.dump_read.specs.Refusals.{IsLimit};
 
 use crate::error::LimitKind;
 use path_attrs::{Attrs, Width};
-use path_clean::{AddRefused, Asides, Cleaned, PathTable, Sets, clean};
-use rib_v2::Entry;
+use path_clean::{AddRefused, Asides, PathTable, Sets, clean_into};
 use std::alloc::Global;
-use tor_arena::NoMemory;
+use tor_arena::{List, NoMemory};
 
 /// What is taken in of dumps: the distinct paths with their times, and how many routes are set aside for each cause.
 #[derive(Drop)]
@@ -50,23 +48,24 @@ impl From<AddRefused> for Untaken {
     }
 }
 
-/// Takes in one route. A route that isn't taken changes nothing.
+/// Takes in one route, whose path is made in `path`. A route that isn't taken changes nothing.
 pub(crate) fn take(
     alloc: Global,
     sets: Sets,
     width: Width,
     attrs: &Attrs<'_>,
+    path: &mut List<u32>,
     taken: &mut Taken,
 ) -> Result<(), Untaken>
     ensures taken { OnOk result (take_route sets taken.old (record { attrs = attrs.now; width = width }) ≡ Ok taken.new) }
     ensures limit { IfErr result (IsLimit (take_route sets taken.old (record { attrs = attrs.now; width = width }))) }
     ensures unchanged { OnErr result (taken.new ≡ taken.old) }
 {
-    match clean(alloc, sets, attrs, width)? {
-        Cleaned::Path(path) => {
+    match clean_into(alloc, sets, attrs, width, path)? {
+        None => {
             taken.table.add(path.as_slice())?;
         }
-        Cleaned::Aside(cause) => taken.counts.add(cause),
+        Some(cause) => taken.counts.add(cause),
     }
     Ok(())
 }

@@ -1,31 +1,15 @@
 -- The segments of a value, one behind the other.
-use Rattle.std.proofs.Common.{◌≡◌, ℕ, zero, suc, ◌+◌, ◌*◌, ◌-◌, ◌<◌, ◌≤◌, ◌==◌, ◌&&◌, Bool, cond, true, false, ltb, leb, List, [], ◌∷◌, ◌++◌, length, take, drop, Option, Some, None, option_map, option_and_then, refl, sym, ap, ap₂, subst, ◌∙◌, arith, length-drop}
+use Rattle.std.proofs.Common.{◌≡◌, ℕ, zero, suc, ◌+◌, ◌*◌, ◌<◌, ◌≤◌, ◌==◌, ◌&&◌, Bool, cond, true, false, ltb, leb, List, [], ◌∷◌, ◌++◌, length, take, drop, Option, Some, None, is_some, unwrap_or, option_map, option_and_then, refl, sym, ap, ap₂, subst, ◌∙◌, arith, length-drop}
 use Rattle.std.proofs.lemmas.Bool.{ltb-true, lt-ltb, leb-true, le-leb, eqb-true, and_parts, and_from}
-use Rattle.std.proofs.lemmas.List.{take-append-drop, length-take-le, length-append, append_assoc, append-nil}
+use Rattle.std.proofs.lemmas.List.{take-append-drop, length-take-le, length-append, append_assoc}
 use Rattle.std.proofs.Math.Seq.{drop-append_seam, take-add}
 use Rattle.byteorder.specs.Endian.{big_number}
 use Rattle.path_attrs.specs.declared.as_path.Width.{Width}
 use Rattle.path_attrs.specs.declared.as_path.SegKind.{SegKind}
 use Rattle.path_attrs.specs.declared.as_path.SegKind.TheVariants.{Set, Sequence, ConfedSequence, ConfedSet}
 use Rattle.path_attrs.specs.declared.as_path.Segment.{Segment}
-use Rattle.path_attrs.specs.Segments.{octets_in, code_of, kind_of, numbers, segment_of, segment, segments_within, segments_of, NumbersAreEncoded, SegmentIsEncoded, SegmentsAreEncoded, ValueLaw}
+use Rattle.path_attrs.specs.Segments.{octets_in, code_of, kind_of, numbers, segment_of, segment, segments_within, segments_of, segments_in, NumbersAreEncoded, SegmentIsEncoded, SegmentsAreEncoded, ValueLaw}
 use Rattle.path_attrs.proofs.Encodings.{big_number-append, big_number-take}
-
--- the steps of the loop over the numbers of a segment
-pub numbers-step : (n count i : ℕ) (rest so_far all : List ℕ) → i < count → so_far ++ numbers n (count - i) rest ≡ all
-    → (so_far ++ big_number n rest ∷ []) ++ numbers n (count - (i + 1)) (drop n rest) ≡ all
-numbers-step n count i rest so_far all lt same =
-    let e : count - i ≡ suc (count - (i + 1)) = omega arith in
-    append_assoc so_far (big_number n rest ∷ []) (numbers n (count - (i + 1)) (drop n rest)) ∙ sym (ap (λ k. so_far ++ numbers n k rest) e) ∙ same
-
-pub room-step : (n count i : ℕ) (rest : List ℕ) → i < count → n * (count - i) ≤ length rest → (n ≤ length rest) × (n * (count - (i + 1)) ≤ length (drop n rest))
-room-step n count i rest lt room =
-    let e : count - i ≡ suc (count - (i + 1)) = omega arith in
-    let product : n * (count - i) ≡ n + n * (count - (i + 1)) = ap (λ k. n * k) e ∙ more n (count - (i + 1)) in
-    (omega arith, omega (arith, length-drop n rest))
-  where
-    more : (n k : ℕ) → n * suc k ≡ n + n * k
-    more n k = omega arith
 
 -- numbers and their octets
 numbers-back : (n count : ℕ) (bytes : List ℕ) → n * count ≤ length bytes → NumbersAreEncoded n (numbers n count bytes) (take (n * count) bytes)
@@ -218,22 +202,49 @@ pub value_law : ValueLaw
 unfolding segments_of
 value_law width value found = (encoded_within (length value) width value found, of_encoding width found value)
 
--- the loop over the segments
-pub segments-step : (width : Width) (bytes : List ℕ) (s : Segment) (rest : List ℕ) (before : List Segment) (all : Option (List Segment)) → Some (s, rest) ≡ segment width bytes
-    → option_map (λ more. before ++ more) (segments_of width bytes) ≡ all → option_map (λ more. (before ++ s ∷ []) ++ more) (segments_of width rest) ≡ all
-segments-step width bytes s rest before all is same =
-    regroup (segments_of width rest) ∙ sym (ap (option_map (λ more. before ++ more)) (segments_of-next width bytes s rest (sym is))) ∙ same
+-- ---- a value that is known to be well formed
+
+is_some-map : {A B : Type 0} (f : A → B) (read : Option A) → is_some (option_map f read) ≡ is_some read
+is_some-map f None = refl
+is_some-map f (Some x) = refl
+
+pub is_some-next : (width : Width) (bytes : List ℕ) (s : Segment) (rest : List ℕ) → Some (s, rest) ≡ segment width bytes
+    → is_some (segments_of width bytes) ≡ is_some (segments_of width rest)
+is_some-next width bytes s rest is =
+    ap is_some (segments_of-next width bytes s rest (sym is)) ∙ is_some-map (λ others. s ∷ others) (segments_of width rest)
+
+pub next_in : (width : Width) (bytes : List ℕ) (s : Segment) (rest : List ℕ) → Some (s, rest) ≡ segment width bytes → is_some (segments_of width bytes) ≡ true
+    → segments_in width bytes ≡ s ∷ segments_in width rest
+unfolding segments_in
+next_in width bytes s rest is some = by (segments_of width rest) refl
   where
-    regroup : (more : Option (List Segment)) → option_map (λ more. (before ++ s ∷ []) ++ more) more ≡ option_map (λ more. before ++ more) (option_map (λ others. s ∷ others) more)
-    regroup None = refl
-    regroup (Some more) = ap (λ l. Some l) (append_assoc before (s ∷ []) more)
+    next : segments_of width bytes ≡ option_map (λ others. s ∷ others) (segments_of width rest)
+    next = segments_of-next width bytes s rest (sym is)
 
-pub segments-malformed : (width : Width) (bytes : List ℕ) (before : List Segment) (all : Option (List Segment)) → 0 < length bytes → None ≡ segment width bytes
-    → option_map (λ more. before ++ more) (segments_of width bytes) ≡ all → None ≡ all
-segments-malformed width bytes before all lt is same = sym (ap (option_map (λ more. before ++ more)) (segments_of-malformed width bytes lt (sym is))) ∙ same
+    by : (read : Option (List Segment)) → segments_of width rest ≡ read → unwrap_or (segments_of width bytes) [] ≡ s ∷ unwrap_or (segments_of width rest) []
+    by (Some more) e = ap (λ r. unwrap_or r []) (next ∙ ap (option_map (λ others. s ∷ others)) e) ∙ sym (ap (λ r. s ∷ unwrap_or r []) e)
+    by None e = absurd (let none = ap is_some (next ∙ ap (option_map (λ others. s ∷ others)) e) in cc)
 
-pub segments-end : (width : Width) (bytes : List ℕ) (before : List Segment) (all : Option (List Segment)) → bytes ≡ []
-    → option_map (λ more. before ++ more) (segments_of width bytes) ≡ all → Some before ≡ all
-segments-end width bytes before all none same =
-    ap (λ l. Some l) (sym (append-nil before)) ∙ sym (ap (λ b. option_map (λ more. before ++ more) (segments_of width b)) none
-    ∙ ap (option_map (λ more. before ++ more)) (segments_of-none width)) ∙ same
+pub none_in : (width : Width) (bytes : List ℕ) → None ≡ segment width bytes → is_some (segments_of width bytes) ≡ true → segments_in width bytes ≡ []
+unfolding segments_in
+none_in width [] is some = ap (λ r. unwrap_or r []) (segments_of-none width)
+none_in width (x ∷ xs) is some = absurd (let none = ap is_some (segments_of-malformed width (x ∷ xs) (omega arith) (sym is)) in cc)
+
+pub malformed_value : (width : Width) (value rest : List ℕ) → 0 < length rest → None ≡ segment width rest → is_some (segments_of width rest) ≡ is_some (segments_of width value)
+    → None ≡ segments_of width value
+malformed_value width value rest lt is same = by (segments_of width value) (sym same ∙ ap is_some (segments_of-malformed width rest lt (sym is)))
+  where
+    by : (read : Option (List Segment)) → is_some read ≡ false → None ≡ read
+    by None e = refl
+    by (Some found) e = absurd cc
+
+pub whole_value : (width : Width) (value rest : List ℕ) → rest ≡ [] → is_some (segments_of width rest) ≡ is_some (segments_of width value) → is_some (segments_of width value) ≡ true
+whole_value width value rest none same = sym same ∙ ap (λ b. is_some (segments_of width b)) none ∙ ap is_some (segments_of-none width)
+
+pub segments_in-whole : (width : Width) (value : List ℕ) → is_some (segments_of width value) ≡ true → Some (segments_in width value) ≡ segments_of width value
+unfolding segments_in
+segments_in-whole width value some = by (segments_of width value) some
+  where
+    by : (read : Option (List Segment)) → is_some read ≡ true → Some (unwrap_or read []) ≡ read
+    by None e = absurd cc
+    by (Some found) e = refl

@@ -1,5 +1,5 @@
 -- The segments of an AS_PATH (RFC 4271, section 4.3; RFC 5065, section 3). Where a value is malformed: RFC 7606, section 7.2.
-use Rattle.std.specs.Prelude.{◌≡◌, ℕ, zero, suc, ◌*◌, ◌<◌, ◌==◌, ◌&&◌, nat_lt, nat_le, List, [], ◌∷◌, ◌++◌, length, drop, Option, Some, None, option_map, option_and_then, if◌then◌else◌, ◌↔◌}
+use Rattle.std.specs.Prelude.{◌≡◌, ℕ, zero, suc, ◌*◌, ◌<◌, ◌==◌, ◌&&◌, nat_lt, nat_le, List, [], ◌∷◌, ◌++◌, length, drop, Option, Some, None, option_map, option_and_then, unwrap_or, if◌then◌else◌, ◌↔◌}
 use Rattle.byteorder.specs.Endian.{big_number}
 use Rattle.path_attrs.specs.declared.as_path.Width.{Width}
 use Rattle.path_attrs.specs.declared.as_path.Width.TheVariants.{Two, Four}
@@ -58,6 +58,10 @@ segments_within (suc n) width (octet ∷ octets) =
 -- the segments of a value, None where it is malformed; there are no more of them than octets
 unfoldable pub segments_of : Width → List ℕ → Option (List Segment)
 segments_of width value = segments_within (length value) width value
+
+-- those of a value that is well formed
+unfoldable pub segments_in : Width → List ℕ → List Segment
+segments_in width value = unwrap_or (segments_of width value) []
 
 -- the numbers are encoded one behind the other, in n octets each, the highest first
 abbrev pub NumbersAreEncoded : ℕ → List ℕ → List ℕ → Type 0

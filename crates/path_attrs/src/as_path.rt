@@ -1,10 +1,9 @@
-ghost use Rattle.std.specs.Prelude.{◌≡◌, ◌+◌, ◌*◌, ◌<◌, ◌≤◌, length, IfOk, IfSome, option_map};
+ghost use Rattle.std.specs.Prelude.{◌≡◌, ◌*◌, ◌<◌, ◌≤◌, length, IfSome, option_map};
 ghost use Rattle.byteorder.specs.Endian.{big_number};
-ghost use Rattle.path_attrs.specs.Segments.{octets_in, kind_of, numbers, segment, segment_of, segments_of};
+ghost use Rattle.path_attrs.specs.Segments.{octets_in, kind_of, segment, segment_of};
 
 use byteorder::{BigEndian, ByteOrder};
-use std::alloc::Global;
-use tor_arena::{List, NoMemory};
+use tor_arena::List;
 
 /// How many octets an AS number has.
 #[derive(Clone, Copy, Debug, PartialEq, Eq)]
@@ -37,7 +36,7 @@ pub struct Segment {
 
 impl Width {
     // How many octets a number has.
-    fn octets(self) -> usize
+    pub(crate) fn octets(self) -> usize
         ensures { result ≡ octets_in self }
     {
         match self {
@@ -47,7 +46,7 @@ impl Width {
     }
 
     // The number that stands first.
-    fn number(self, bytes: &[u8]) -> u32
+    pub(crate) fn number(self, bytes: &[u8]) -> u32
         requires { octets_in self ≤ length bytes.now }
         ensures { result ≡ big_number (octets_in self) bytes.now }
     {
@@ -75,7 +74,7 @@ impl SegKind {
 // The head of the first segment, where the segment is whole: its kind and its count of numbers, and the octets from
 // the first number on.
 #[tactic(auto, unfolding(crate::specs::Segments::segment))]
-fn head_of(bytes: &[u8], width: Width) -> Option<(SegKind, usize, &[u8])>
+pub(crate) fn head_of(bytes: &[u8], width: Width) -> Option<(SegKind, usize, &[u8])>
     ensures whole { IfSome result (λ x. octets_in width * x.1 ≤ length x.2.now) }
     ensures shorter { IfSome result (λ x. length x.2.now < length bytes.now) }
     ensures gives { option_map (λ x. segment_of width x.1 x.2.now x.0) result ≡ segment width bytes.now }
@@ -88,46 +87,4 @@ fn head_of(bytes: &[u8], width: Width) -> Option<(SegKind, usize, &[u8])>
         }
         _ => None,
     }
-}
-
-// The numbers of a segment.
-fn numbers_of(
-    alloc: Global,
-    octets: &[u8],
-    count: usize,
-    width: Width,
-) -> Result<List<u32>, NoMemory>
-    requires { octets_in width * count ≤ length octets.now }
-    ensures { IfOk result (λ ases. ases ≡ numbers (octets_in width) count octets.now) }
-{
-    let mut ases = Vec::with_capacity(alloc, count)?;
-    let mut rest = octets;
-    'numbers: for _ in 0..count {
-        ases.push(width.number(rest))?;
-        rest = rest.split_at(width.octets()).1;
-    }
-    Ok(List::from_vec(ases))
-}
-
-/// The segments of the value of an AS_PATH in order, with AS numbers of the width. None exactly where the value is malformed
-/// (RFC 7606, section 7.2): where a segment is of another type than 1 to 4, has count zero, or is not whole. A value of no
-/// octets has no segments. NoMemory where memory ran out.
-pub fn segments(
-    alloc: Global,
-    value: &[u8],
-    width: Width,
-) -> Result<Option<List<Segment>>, NoMemory>
-    ensures { IfOk result (λ found. found ≡ segments_of width value.now) }
-{
-    let mut found = List::new(alloc);
-    let mut rest = value;
-    'segments: while !rest.is_empty() {
-        let Some((kind, count, octets)) = head_of(rest, width) else {
-            return Ok(None);
-        };
-        let ases = numbers_of(alloc, octets, count, width)?;
-        found.push(Segment { kind, ases })?;
-        rest = octets.split_at(width.octets() * count).1;
-    }
-    Ok(Some(found))
 }

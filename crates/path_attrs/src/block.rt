@@ -1,6 +1,6 @@
-ghost use Rattle.std.specs.Prelude.{◌≡◌, ◌<◌, ◌≤◌, length, IfOk, IfSome, option_map};
+ghost use Rattle.std.specs.Prelude.{◌≡◌, ◌<◌, ◌≤◌, length, IfOk, IfSome, IsOk, option_map};
 ghost use Rattle.path_attrs.specs.Fields.{Gives};
-ghost use Rattle.path_attrs.specs.Attributes.{Attribute, attribute, attributes_of, first_value};
+ghost use Rattle.path_attrs.specs.Attributes.{Attribute, attribute, attributes_in, attributes_of, first_value};
 
 use crate::fields::{number16, octet, octets};
 use std::marker::Model;
@@ -77,4 +77,12 @@ pub fn attributes(block: &[u8]) -> Result<Attrs<'_>, AttrCut>
         rest = behind;
     }
     Ok(Attrs { block })
+}
+
+/// The attributes of a block that is known to be a list of whole attributes, without a second test. It takes no memory.
+pub fn whole_attributes(block: &[u8]) -> Attrs<'_>
+    requires { IsOk (attributes_of block.now) }
+    ensures { result ≡ attributes_in block.now }
+{
+    Attrs { block }
 }

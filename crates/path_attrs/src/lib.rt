@@ -3,12 +3,14 @@
 
 mod as_path;
 mod block;
+mod cursor;
 mod fault;
 mod fields;
 mod laws;
 
-pub use as_path::{SegKind, Segment, Width, segments};
-pub use block::{AttrCut, Attrs, attributes};
+pub use as_path::{SegKind, Segment, Width};
+pub use block::{AttrCut, Attrs, attributes, whole_attributes};
+pub use cursor::{NumberCursor, SegmentCursor, SegmentRef, segments};
 pub use fault::RibFault;
 pub use fields::{number16, octet, octets};
 pub use laws::{block_law, value_law};

@@ -1,4 +1,6 @@
-use crate::{AttrCut, RibFault, SegKind, Width, attributes, number16, octet, octets, segments};
+use crate::{
+    AttrCut, RibFault, SegKind, SegmentCursor, Width, attributes, number16, octet, octets, segments,
+};
 use std::test::Fail;
 
 // ORIGIN, and the AS_PATH 10 20 in numbers of four octets.
@@ -18,6 +20,26 @@ fn reads_the_path_of_one_edge(rt: HostRuntime) -> Result<(), Fail> {
     assert!(rt; only.ases.as_slice() == [10, 20].as_slice());
     assert!(rt; segments(rt.alloc(), value, Width::Two)?.is_none());
     assert_eq!(rt; attributes(&BLOCK[..16]).err(), Some(AttrCut));
+    Ok(())
+}
+
+// The AS_SET 10 20 and the AS_SEQUENCE 30 in numbers of two octets, and an octet.
+static SET_AND_ONE: [u8; 11] = [1, 2, 0, 10, 0, 20, 2, 1, 0, 30, 2];
+
+#[test]
+fn goes_over_segments(rt: HostRuntime) -> Result<(), Fail> {
+    assert!(rt; SegmentCursor::over(&SET_AND_ONE, Width::Two).is_none());
+    let mut path = SegmentCursor::over(&SET_AND_ONE[..10], Width::Two).ok_or("well formed")?;
+    let set = path.next().ok_or("a set")?;
+    assert_eq!(rt; set.kind(), SegKind::Set);
+    let mut numbers = set.ases();
+    assert_eq!(rt; numbers.next(), Some(10));
+    assert_eq!(rt; numbers.next(), Some(20));
+    assert_eq!(rt; numbers.next(), None);
+    let one = path.next().ok_or("a sequence")?;
+    assert_eq!(rt; one.kind(), SegKind::Sequence);
+    assert_eq!(rt; one.ases().next(), Some(30));
+    assert!(rt; path.next().is_none());
     Ok(())
 }
 

@@ -51,6 +51,11 @@ ases_of s = if is_set s.kind then take 1 s.ases else s.ases
 abbrev pub merged_path : List Segment → List ℕ
 merged_path segments = dedup nat_eq (flat_map ases_of (before_first is_mixed_set segments))
 
+-- a path without a cause, and else the cause
+abbrev pub cleaned_as : Option Cause → List ℕ → Cleaned
+cleaned_as None path = Path path
+cleaned_as (Some cause) path = Aside cause
+
 abbrev pub is_skip : Sets → Bool
 is_skip Cut = false
 is_skip Skip = true

@@ -1,6 +1,7 @@
 pub mod Limits
 pub mod Paths
 pub mod Clean
+pub mod Merging
 pub mod Counts
 pub mod Rows
 pub mod Inside

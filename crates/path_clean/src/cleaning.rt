@@ -1,11 +1,12 @@
-ghost use Rattle.std.specs.Prelude.{◌≡◌, ◌==◌, ◌&&◌, IfOk};
-ghost use Rattle.std.specs.List.{flat_map, before_first, list_any, list_all};
+ghost use Rattle.std.specs.Prelude.{◌≡◌, ◌&&◌, IfOk};
+ghost use Rattle.std.specs.List.{list_any};
 ghost use Rattle.tor_arena.specs.Distinct.{is_distinct};
 ghost use Rattle.path_clean.specs.Paths.{is_cleaned};
-ghost use Rattle.path_clean.specs.Clean.{are_equal, is_skip, is_mixed_set, is_confed, ases_of, merged_path, judged, clean_segments, clean_of};
+ghost use Rattle.path_clean.specs.Clean.{is_confed, is_skip, judged, cleaned_as, clean_segments, clean_of};
 
 use crate::cleaned::{Cause, Cleaned, Sets, are_distinct, has_reserved};
-use path_attrs::{Attrs, SegKind, Segment, Width, segments};
+use crate::merging::append_segments;
+use path_attrs::{Attrs, SegKind, SegmentCursor, Width};
 use std::alloc::Global;
 use std::collections::BTreeSet;
 use tor_arena::{List, NoMemory};
@@ -17,10 +18,7 @@ const AS_PATH: u8 = 2;
 const SHORT_PATH: usize = 64;
 
 /// What a route's attributes are cleaned to, with AS numbers of the width: a path, or the cause for which the route is set aside,
-/// the first in this order. No AS_PATH: NoPath. A malformed one: BadSegments. A confederation segment: Confed. An AS_SET whose
-/// members are all equal is read as that one AS; at any other, `Skip` sets the route aside, Sets, and `Cut` ends the path before it.
-/// Then equal neighbours are merged. A reserved number is left: Reserved. An AS stands twice: Loop. Fewer than two are left: Short.
-/// NoMemory where memory ran out.
+/// as `clean_into` answers. NoMemory where memory ran out.
 pub fn clean(
     alloc: Global,
     sets: Sets,
@@ -29,110 +27,81 @@ pub fn clean(
 ) -> Result<Cleaned, NoMemory>
     ensures { IfOk result (λ cleaned. cleaned ≡ clean_of sets width attrs.now) }
 {
+    let mut path = List::new(alloc);
+    match clean_into(alloc, sets, attrs, width, &mut path)? {
+        None => Ok(Cleaned::Path(path)),
+        Some(cause) => Ok(Cleaned::Aside(cause)),
+    }
+}
+
+/// Cleans a route's attributes, with AS numbers of the width. None: `path`, whatever it held, is now what they are cleaned to. Else
+/// the cause for which the route is set aside, the first in this order, and `path` may be anything. No AS_PATH: NoPath. A malformed
+/// one: BadSegments. A confederation segment: Confed. An AS_SET whose members are all equal is read as that one AS; at any other,
+/// `Skip` sets the route aside, Sets, and `Cut` ends the path before it. Then equal neighbours are merged. A reserved number is left:
+/// Reserved. An AS stands twice: Loop. Fewer than two are left: Short. NoMemory where memory ran out.
+pub fn clean_into(
+    alloc: Global,
+    sets: Sets,
+    attrs: &Attrs<'_>,
+    width: Width,
+    path: &mut List<u32>,
+) -> Result<Option<Cause>, NoMemory>
+    ensures { IfOk result (λ cause. cleaned_as cause path.new ≡ clean_of sets width attrs.now) }
+{
     let Some(value) = attrs.first(AS_PATH) else {
-        return Ok(Cleaned::Aside(Cause::NoPath));
+        return Ok(Some(Cause::NoPath));
     };
-    let Some(found) = segments(alloc, value, width)? else {
-        return Ok(Cleaned::Aside(Cause::BadSegments));
+    let Some(segments) = SegmentCursor::over(value, width) else {
+        return Ok(Some(Cause::BadSegments));
     };
-    cleaned_segments(alloc, sets, found.as_slice())
+    clean_segments(alloc, sets, segments, path)
 }
 
-fn cleaned_segments(alloc: Global, sets: Sets, segments: &[Segment]) -> Result<Cleaned, NoMemory>
-    ensures { IfOk result (λ cleaned. cleaned ≡ clean_segments sets segments.now) }
+fn clean_segments(
+    alloc: Global,
+    sets: Sets,
+    segments: SegmentCursor<'_>,
+    path: &mut List<u32>,
+) -> Result<Option<Cause>, NoMemory>
+    ensures { IfOk result (λ cause. cleaned_as cause path.new ≡ clean_segments sets segments.entry) }
 {
-    if has_confederation(segments) {
-        return Ok(Cleaned::Aside(Cause::Confed));
+    if has_confederation(segments.again()) {
+        return Ok(Some(Cause::Confed));
     }
-    if skips_for_sets(sets, segments) {
-        return Ok(Cleaned::Aside(Cause::Sets));
+    path.clear();
+    let has_mixed_set = append_segments(path, segments)?;
+    if skips_for_sets(sets, has_mixed_set) {
+        return Ok(Some(Cause::Sets));
     }
-    judge(alloc, merged(alloc, segments)?)
+    judge(alloc, path.as_slice())
 }
 
-fn has_confederation(segments: &[Segment]) -> bool
-    ensures { result ≡ list_any (λ segment. is_confed segment.kind) segments.now }
-{
-    segments.iter().any(|segment| is_of_confederation(segment))
-}
-
-/// Whether a route is set aside for an AS_SET whose members differ.
-fn skips_for_sets(sets: Sets, segments: &[Segment]) -> bool
-    ensures { result ≡ (is_skip sets && list_any is_mixed_set segments.now) }
+/// Whether a route is set aside for an AS_SET whose members differ, where there is one or not.
+fn skips_for_sets(sets: Sets, has_mixed_set: bool) -> bool
+    ensures { result ≡ (is_skip sets && has_mixed_set) }
 {
     match sets {
         Sets::Cut => false,
-        Sets::Skip => some_are_mixed(segments),
+        Sets::Skip => has_mixed_set,
     }
 }
 
-fn some_are_mixed(segments: &[Segment]) -> bool
-    ensures { result ≡ list_any is_mixed_set segments.now }
+fn has_confederation(segments: SegmentCursor<'_>) -> bool
+    ensures { result ≡ list_any (λ segment. is_confed segment.kind) segments.entry }
 {
-    segments.iter().any(|segment| has_mixed_set(segment))
-}
-
-fn is_of_confederation(segment: &Segment) -> bool
-    ensures { result ≡ is_confed segment.now.kind }
-{
-    matches!(segment.kind, SegKind::ConfedSequence | SegKind::ConfedSet)
-}
-
-fn are_all(number: u32, ases: &[u32]) -> bool
-    ensures { result ≡ list_all (λ other. other == number) ases.now }
-{
-    ases.iter().all(|other| *other == number)
-}
-
-fn is_uniform(ases: &[u32]) -> bool
-    ensures { result ≡ are_equal ases.now }
-{
-    match ases {
-        [] => true,
-        [first, others @ ..] => are_all(*first, others),
-    }
-}
-
-fn has_mixed_set(segment: &Segment) -> bool
-    ensures { result ≡ is_mixed_set segment.now }
-{
-    segment.kind == SegKind::Set && !is_uniform(segment.ases.as_slice())
-}
-
-/// The ASes that a segment stands for.
-fn ases_in(segment: &Segment) -> &[u32]
-    ensures { result.now ≡ ases_of segment.now }
-{
-    let ases = segment.ases.as_slice();
-    match (segment.kind, ases) {
-        (SegKind::Set, [_, _, ..]) => &ases[..1],
-        _ => ases,
-    }
-}
-
-/// The ASes before the first AS_SET whose members differ.
-fn ases_before_mixed(alloc: Global, segments: &[Segment]) -> Result<List<u32>, NoMemory>
-    ensures { IfOk result (λ ases. ases ≡ flat_map ases_of (before_first is_mixed_set segments.now)) }
-{
-    let mut ases = List::new(alloc);
-    let mut rest = segments;
-    'segments: while let [segment, behind @ ..] = rest {
-        if has_mixed_set(segment) {
-            return Ok(ases);
+    let mut left = segments;
+    'segments: while let Some(segment) = left.next() {
+        if is_of_confederation(segment.kind()) {
+            return true;
         }
-        ases.extend_from_slice(ases_in(segment))?;
-        rest = behind;
     }
-    Ok(ases)
+    false
 }
 
-/// The same with equal neighbours merged.
-fn merged(alloc: Global, segments: &[Segment]) -> Result<List<u32>, NoMemory>
-    ensures { IfOk result (λ path. path ≡ merged_path segments.now) }
+fn is_of_confederation(kind: SegKind) -> bool
+    ensures { result ≡ is_confed kind }
 {
-    let mut path = ases_before_mixed(alloc, segments)?.into_vec();
-    path.dedup();
-    Ok(List::from_vec(path))
+    matches!(kind, SegKind::ConfedSequence | SegKind::ConfedSet)
 }
 
 /// Whether no number stands there twice. Long paths are sorted into a set, since the time for a search in place grows with the
@@ -172,18 +141,18 @@ fn are_distinct_by_set(alloc: Global, path: &[u32]) -> Result<bool, NoMemory>
     Ok(true)
 }
 
-/// The path that is left, or why the route is set aside.
-fn judge(alloc: Global, path: List<u32>) -> Result<Cleaned, NoMemory>
-    ensures { IfOk result (λ cleaned. cleaned ≡ judged path) }
+/// Why a route with this path is set aside, if it is.
+fn judge(alloc: Global, path: &[u32]) -> Result<Option<Cause>, NoMemory>
+    ensures { IfOk result (λ cause. cleaned_as cause path.now ≡ judged path.now) }
 {
-    if has_reserved(path.as_slice()) {
-        return Ok(Cleaned::Aside(Cause::Reserved));
+    if has_reserved(path) {
+        return Ok(Some(Cause::Reserved));
     }
-    if !has_no_loop(alloc, path.as_slice())? {
-        return Ok(Cleaned::Aside(Cause::Loop));
+    if !has_no_loop(alloc, path)? {
+        return Ok(Some(Cause::Loop));
     }
     if path.len() < 2 {
-        return Ok(Cleaned::Aside(Cause::Short));
+        return Ok(Some(Cause::Short));
     }
-    Ok(Cleaned::Path(path))
+    Ok(None)
 }

@@ -7,12 +7,13 @@ mod cleaned;
 mod cleaning;
 mod distinct_rows;
 mod laws;
+mod merging;
 mod repeats;
 mod table;
 
 pub use asides::Asides;
 pub use cleaned::{Cause, Cleaned, Sets, is_cleaned};
-pub use cleaning::{clean, is_clean_path};
+pub use cleaning::{clean, clean_into, is_clean_path};
 pub use laws::{clean_paths_stay, counting, paths_are_clean};
 pub use repeats::first_repeated;
 pub use table::{AddRefused, Added, MAX_NUMBERS, MAX_PATHS, PathTable};

@@ -1,5 +1,5 @@
 use crate::{
-    AddRefused, Added, Asides, Cause, Cleaned, PathTable, Sets, clean, first_repeated,
+    AddRefused, Added, Asides, Cause, Cleaned, PathTable, Sets, clean, clean_into, first_repeated,
     is_clean_path, is_cleaned,
 };
 use path_attrs::{Width, attributes};
@@ -19,7 +19,7 @@ enum Want {
     Aside(Cause),
 }
 
-static CASES: [Case; 14] = [
+static CASES: [Case; 15] = [
     // 10 10 20 20 30
     Case {
         block: &[0x40, 2, 12, 2, 5, 0, 10, 0, 10, 0, 20, 0, 20, 0, 30],
@@ -76,6 +76,12 @@ static CASES: [Case; 14] = [
         cut: Want::Path(&[10, 20, 30]),
         skip: Want::Path(&[10, 20, 30]),
     },
+    // 10 20, and 20 30 in a second sequence
+    Case {
+        block: &[0x40, 2, 12, 2, 2, 0, 10, 0, 20, 2, 2, 0, 20, 0, 30],
+        cut: Want::Path(&[10, 20, 30]),
+        skip: Want::Path(&[10, 20, 30]),
+    },
     // {10 20} 30
     Case {
         block: &[0x40, 2, 10, 1, 2, 0, 10, 0, 20, 2, 1, 0, 30],
@@ -126,6 +132,28 @@ fn cleans(rt: HostRuntime) -> Result<(), Fail> {
             let cleaned = clean(rt.alloc(), sets, &attrs, Width::Two)?;
             assert!(rt; is_wanted(&cleaned, want), "{sets:?} of {:?}", case.block);
         }
+    }
+    Ok(())
+}
+
+fn is_wanted_in(cause: Option<Cause>, path: &[u32], want: &Want) -> bool {
+    match want {
+        Want::Path(wanted) => cause.is_none() && path == *wanted,
+        Want::Aside(wanted) => cause == Some(*wanted),
+    }
+}
+
+#[test]
+fn cleans_into_one_list(rt: HostRuntime) -> Result<(), Fail> {
+    let mut path = List::new(rt.alloc());
+    for case in &CASES {
+        let attrs = attributes(case.block).ok().ok_or("whole")?;
+        let cause = clean_into(rt.alloc(), Sets::Cut, &attrs, Width::Two, &mut path)?;
+        assert!(rt;
+            is_wanted_in(cause, path.as_slice(), &case.cut),
+            "{:?}",
+            case.block
+        );
     }
     Ok(())
 }

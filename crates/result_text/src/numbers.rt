@@ -9,8 +9,8 @@ ghost use Rattle.result_text.specs.Text.{numbers, link, links, others};
 use relationships::Link;
 use tor_arena::{List, NoMemory};
 
-// Writes a number in decimal at the end of the buffer, and answers where it begins.
-fn write_digits(n: u64, digits: &mut [u8; 20]) -> usize
+/// Writes a number in decimal, without leading zeros, at the end of the buffer, and answers where it begins. It takes no memory.
+pub fn write_digits(n: u64, digits: &mut [u8; 20]) -> usize
     ensures within { result ≤ 20 }
     ensures digits { drop result digits.new ≡ decimal n }
 {

@@ -1,9 +1,11 @@
 -- The rows of a table, one more at a time.
-use Rattle.std.proofs.Common.{◌≡◌, ℕ, zero, suc, ◌+◌, List, [], ◌∷◌, ◌++◌, take, Some, sym, ap, ap₂, ◌∙◌, add-one}
+use Rattle.std.proofs.Common.{◌≡◌, ℕ, zero, suc, ◌+◌, List, [], ◌∷◌, ◌++◌, take, drop, Option, Some, sym, ap, ap₂, ◌∙◌, subst, append_assoc, add-one}
 use Rattle.std.specs.Prelude.{option_map}
 use Rattle.std.specs.List.{slice_get}
 use Rattle.std.proofs.lemmas.Grind.{flat_map-append}
-use Rattle.std.proofs.lemmas.List.{append-nil}
+use Rattle.std.proofs.lemmas.List.{append-nil, take-append-drop}
+use Rattle.tor_io.specs.Contents.{GainsPrefix}
+use Rattle.tor_io.proofs.Passing.{longer}
 use Rattle.path_clean.specs.Rows.{Counted, paths_of}
 use Rattle.tor_app.specs.Listing.{line, listing}
 
@@ -20,10 +22,14 @@ row_at (row ∷ rows) zero path times is counted = ap₂ (λ p t. record { path 
     some_times x y e = cc
 row_at (row ∷ rows) (suc i) path times is counted = ap (λ (t : List Counted). row ∷ t) (row_at rows i path times is counted)
 
-pub one_line_more : (rows : List Counted) (i : ℕ) (path : List ℕ) (times : ℕ) (text old : List ℕ) → slice_get (paths_of rows) i ≡ Some path →
-    option_map (λ row. row.times) (slice_get rows i) ≡ Some times
-    → old ≡ listing (take i rows) → text ≡ old ++ line (record { path = path; times = times }) → text ≡ listing (take (i + 1) rows)
-one_line_more rows i path times text old is counted before more =
+pub one_line_more : (rows : List Counted) (i : ℕ) (path : List ℕ) (times : ℕ) → slice_get (paths_of rows) i ≡ Some path → option_map (λ row. row.times) (slice_get rows i) ≡ Some times
+    → listing (take i rows) ++ line (record { path = path; times = times }) ≡ listing (take (i + 1) rows)
+one_line_more rows i path times is counted =
     let row : Counted = record { path = path; times = times } in
-    more ∙ ap (λ (t : List ℕ). t ++ line row) before
-    ∙ sym (ap listing (rw add-one (row_at rows i path times is counted)) ∙ flat_map-append line (take i rows) (row ∷ []) ∙ ap (λ (t : List ℕ). listing (take i rows) ++ t) (append-nil (line row)))
+    sym (ap listing (rw add-one (row_at rows i path times is counted)) ∙ flat_map-append line (take i rows) (row ∷ []) ∙ ap (λ (t : List ℕ). listing (take i rows) ++ t) (append-nil (line row)))
+
+-- the lines so far are a first part of all
+pub lines_stop : (rows : List Counted) (i : ℕ) (old new : Option (List ℕ)) (before : List ℕ) → GainsPrefix old new (before ++ listing (take i rows)) → GainsPrefix old new (before ++ listing rows)
+lines_stop rows i old new before gain =
+    subst (λ t. GainsPrefix old new (before ++ t)) (sym (flat_map-append line (take i rows) (drop i rows)) ∙ ap listing (take-append-drop i rows))
+    (subst (GainsPrefix old new) (append_assoc before (listing (take i rows)) (listing (drop i rows))) (longer old new (before ++ listing (take i rows)) (listing (drop i rows)) gain))

@@ -6,14 +6,14 @@ use Rattle.rel_checker.specs.declared.answer.Answer.TheVariants.{Yes}
 use Rattle.path_clean.specs.Limits.{max_paths}
 use Rattle.tor_words.specs.declared.settings.Mode.TheVariants.{Labels}
 use Rattle.tor_words.specs.declared.settings.Settings.{Settings}
-use Rattle.tor_app.specs.declared.output.Output.{Output}
 use Rattle.tor_app.specs.Judging.{IsVerdict}
 use Rattle.tor_app.specs.Output.{IsOutput}
+use Rattle.tor_app.specs.Written.{Written}
 use Rattle.tor_app.specs.Seen.{seen}
 
 -- the text of a result is judged yes, alone and beside the dumps that it was made of
 abbrev pub AgreementLaw : Type 0
 AgreementLaw =
-    (settings : Settings) (files : Files) (taken : Taken) (output : Output) → settings.mode ≡ Labels → settings.max_paths ≤ max_paths →
+    (settings : Settings) (files : Files) (taken : Taken) (output : Written) → settings.mode ≡ Labels → settings.max_paths ≤ max_paths →
     seen settings files ≡ Ok taken → IsOutput settings taken output →
     IsVerdict output.text [] files Yes × IsVerdict output.text settings.dumps files Yes

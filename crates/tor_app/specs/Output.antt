@@ -17,10 +17,10 @@ use Rattle.tor_words.specs.declared.settings.Mode.{Mode}
 use Rattle.tor_words.specs.declared.settings.Mode.TheVariants.{Labels, Listing}
 use Rattle.tor_words.specs.declared.settings.Settings.{Settings}
 use Rattle.tor_words.specs.Given.{settings_given}
-use Rattle.tor_app.specs.declared.output.Output.{Output}
 use Rattle.tor_app.specs.Listing.{listing}
 use Rattle.tor_app.specs.Seen.{outcome}
 use Rattle.tor_app.specs.Summary.{summary}
+use Rattle.tor_app.specs.Written.{Written}
 
 -- ---- the result of what the dumps gave
 
@@ -38,20 +38,20 @@ pub record Faithful (settings : Settings) (taken : Taken) (file : ResultFile) : 
 -- ---- what is written
 
 -- in this mode, of what the dumps gave: in Labels the text of the result, and its summary as a note; in Listing a line for each path
-abbrev pub IsOutputIn : Mode → Settings → Taken → Output → Type 0
+abbrev pub IsOutputIn : Mode → Settings → Taken → Written → Type 0
 IsOutputIn Labels settings taken output =
     (file : ResultFile) × Faithful settings taken file × IsTextOf file output.text × (output.note ≡ summary file ++ 10 ∷ [])
 IsOutputIn Listing settings taken output = (output.text ≡ listing taken.table.rows) × (output.note ≡ [])
 
-abbrev pub IsOutput : Settings → Taken → Output → Type 0
+abbrev pub IsOutput : Settings → Taken → Written → Type 0
 IsOutput settings taken output = IsOutputIn settings.mode settings taken output
 
 -- this is asked for where the dumps give that
-abbrev pub IsOutputOf : Settings → Result Taken End → Output → Type 0
+abbrev pub IsOutputOf : Settings → Result Taken End → Written → Type 0
 IsOutputOf settings given output = (taken : Taken) × (given ≡ Ok taken) × IsOutput settings taken output
 
 -- the words ask for it, and the dumps that they name give that
-pub record IsAsked (words : List (List ℕ)) (files : Files) (output : Output) : Type 0 where
+pub record IsAsked (words : List (List ℕ)) (files : Files) (output : Written) : Type 0 where
   pub settings : Settings
   pub given : settings_given words ≡ Some settings
   pub taken : Taken
@@ -60,17 +60,17 @@ pub record IsAsked (words : List (List ℕ)) (files : Files) (output : Output) :
 
 -- a sink gained the text that is asked for, whose note is this
 pub record GainsOutput (words : List (List ℕ)) (files : Files) (old new : Option (List ℕ)) (note : List ℕ) : Type 0 where
-  pub output : Output
+  pub output : Written
   pub asked : IsAsked words files output
   pub gained : new ≡ append_known old output.text
   pub noted : note ≡ output.note
 
 -- a sink gained a prefix of the text that is asked for
 abbrev pub GainsOutputPrefix : List (List ℕ) → Files → Option (List ℕ) → Option (List ℕ) → Type 0
-GainsOutputPrefix words files old new = (output : Output) × IsAsked words files output × GainsPrefix old new output.text
+GainsOutputPrefix words files old new = (output : Written) × IsAsked words files output × GainsPrefix old new output.text
 
 -- the note goes with some text that the words may ask for
 abbrev pub IsNoteOfOutput : List (List ℕ) → List ℕ → Type 0
 IsNoteOfOutput words note =
     (settings : Settings) × (settings_given words ≡ Some settings) ×
-    ((taken : Taken) × (output : Output) × IsOutput settings taken output × (note ≡ output.note))
+    ((taken : Taken) × (output : Written) × IsOutput settings taken output × (note ≡ output.note))

@@ -4,6 +4,7 @@ ghost use Rattle.tor_io.specs.Counts.{Rose};
 ghost use Rattle.tor_words.specs.Given.{settings_given};
 ghost use Rattle.tor_app.specs.Seen.{seen};
 ghost use Rattle.tor_app.specs.Output.{IsOutput, IsOutputOf, IsAsked, IsNoteOfOutput};
+ghost use Rattle.tor_app.specs.Written.{written};
 ghost use Rattle.tor_app.specs.Refusals.{note_in, Answers, IsNoMemory, IsRefusal, IsReadFault, IsOfWords, IsStopIn};
 ghost use Rattle.dump_read.specs.declared.taking.Taken.{Taken};
 
@@ -122,8 +123,8 @@ fn output_for<H: Shelf>(
     requires most { settings.now.max_paths ≤ 8388608 }
     requires ratio { settings.now.ratio ≤ 1000000 }
     ensures output { IfOk result (λ output. IfSome (H.files shelf.old) (λ files.
-        IsOutputOf settings.now (seen settings.now files) output)) }
-    ensures of_some { IfOk result (λ output. (taken : Taken) × IsOutput settings.now taken output) }
+        IsOutputOf settings.now (seen settings.now files) (written output))) }
+    ensures of_some { IfOk result (λ output. (taken : Taken) × IsOutput settings.now taken (written output)) }
     ensures refused { IfErr result (IsStopIn settings.now (H.files shelf.old) (H.steady shelf.old)) }
     ensures read_out { OnOk result (0 < length settings.now.dumps → IsAtEnd (H.left shelf.new)) }
 
@@ -157,8 +158,8 @@ pub(crate) fn output_asked<H: Shelf>(
     words: &List<Name>,
     shelf: &mut H,
 ) -> Result<Output, Refusal>
-    ensures asked { IfOk result (λ output. IfSome (H.files shelf.old) (λ files. IsAsked words.now files output)) }
-    ensures noted { IfOk result (λ output. IsNoteOfOutput words.now output.note) }
+    ensures asked { IfOk result (λ output. IfSome (H.files shelf.old) (λ files. IsAsked words.now files (written output))) }
+    ensures noted { IfOk result (λ output. IsNoteOfOutput words.now (written output).note) }
     ensures refused { IfErr result (IsRefusal words.now (H.files shelf.old) (H.steady shelf.old)) }
 
     ensures settled { IsNone (settings_given words.now) → IsErrAnd result IsOfWords }

@@ -1,7 +1,9 @@
 use crate::check_tests::LINES;
 use crate::checking::check;
 use crate::run::infer;
-use crate::tests::{DUMP, FIRST, NEVER, ONE_EDGE, ROUTE, SECOND, THIRD, THREE_PATHS, words_of};
+use crate::tests::{
+    DUMP, FIRST, NEVER, ONE_EDGE, ROUTE, SECOND, THIRD, THREE_PATHS, WHOLE, words_of,
+};
 use crate::{Name, Status};
 use std::alloc::Global;
 use std::process::Abort;
@@ -58,6 +60,8 @@ struct Row<'f, 'p> {
     words: &'static [&'static str],
     dump: &'f [&'p [u8]],
     failing_call: u64,
+    // how many octets a read gives at most
+    read: usize,
     most: usize,
     failing_write: u64,
     status: Status,
@@ -81,6 +85,7 @@ fn done<'f, 'p>(
         words: &["d"],
         dump,
         failing_call: NEVER,
+        read: WHOLE,
         most: 2000,
         failing_write: NEVER,
         status: Status::Done,
@@ -164,6 +169,7 @@ fn put_dump(alloc: Global, row: &Row<'_, '_>, shelf: &mut MemShelf) -> Result<()
 fn shelf_of(alloc: Global, row: &Row<'_, '_>) -> Result<MemShelf, NoMemory> {
     let mut shelf = MemShelf::new(alloc);
     put_dump(alloc, row, &mut shelf)?;
+    shelf.at_most(row.read.max(1));
     shelf.fail_at(row.failing_call)?;
     Ok(shelf)
 }
@@ -581,43 +587,46 @@ fn counts_what_is_no_path(rt: HostRuntime) {
 #[test]
 fn labels_a_realistic_dump(rt: HostRuntime) {
     let dump: &[&[u8]] = &[&REALISTIC];
-    let row = Row {
-        head: &[
-            "tor|1",
-            "sets|cut",
-            "ratio|60",
-            "aside|nopath|0",
-            "aside|badsegments|0",
-            "aside|confed|0",
-            "aside|sets|0",
-            "aside|reserved|1",
-            "aside|loop|0",
-            "aside|short|0",
-        ],
-        ..done(
-            dump,
-            &[
-                "kept|1|6939 174 3356 1299 8220 3333",
-                "kept|2|397213 1299 8220 3333",
-                "kept|1|6939 3356 2906",
-                "kept|1|397213 1299 3356 2906",
-                "kept|1|8220 1299 3356 6939 174",
-                "lost|1|8220 3333 1299 3356",
-                "edge|174|6939|high|open|2",
-                "edge|174|3356|low|open|1",
-                "edge|1299|3356|high|forced|3",
-                "edge|1299|8220|low|forced|3",
-                "edge|3333|8220|high|forced|2",
-                "edge|1299|397213|low|forced|2",
-                "edge|3356|6939|peer|open|2",
-                "edge|2906|3356|high|open|2",
-                "edge|1299|3333|low|open|0",
-                "end|5|1|9|4|1",
+    for read in [WHOLE, 1, 13] {
+        let row = Row {
+            read,
+            head: &[
+                "tor|1",
+                "sets|cut",
+                "ratio|60",
+                "aside|nopath|0",
+                "aside|badsegments|0",
+                "aside|confed|0",
+                "aside|sets|0",
+                "aside|reserved|1",
+                "aside|loop|0",
+                "aside|short|0",
             ],
-            "{\"asides\":1,\"edges\":9,\"forced\":4,\"kept\":5,\"lost\":1,\"paths\":6,\"peers\":1}\n",
-        )
-    };
-    assert!(rt; run(&rt, rt.alloc(), Keys::new(&rt), &row).is_ok());
+            ..done(
+                dump,
+                &[
+                    "kept|1|6939 174 3356 1299 8220 3333",
+                    "kept|2|397213 1299 8220 3333",
+                    "kept|1|6939 3356 2906",
+                    "kept|1|397213 1299 3356 2906",
+                    "kept|1|8220 1299 3356 6939 174",
+                    "lost|1|8220 3333 1299 3356",
+                    "edge|174|6939|high|open|2",
+                    "edge|174|3356|low|open|1",
+                    "edge|1299|3356|high|forced|3",
+                    "edge|1299|8220|low|forced|3",
+                    "edge|3333|8220|high|forced|2",
+                    "edge|1299|397213|low|forced|2",
+                    "edge|3356|6939|peer|open|2",
+                    "edge|2906|3356|high|open|2",
+                    "edge|1299|3333|low|open|0",
+                    "end|5|1|9|4|1",
+                ],
+                "{\"asides\":1,\"edges\":9,\"forced\":4,\"kept\":5,\"lost\":1,\"paths\":6,\"peers\":1}\n",
+            )
+        };
+        assert!(rt; run(&rt, rt.alloc(), Keys::new(&rt), &row).is_ok());
+    }
 }
 
 #[test]

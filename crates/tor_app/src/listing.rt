@@ -1,41 +1,123 @@
-ghost use Rattle.std.specs.Prelude.{◌≡◌, ◌++◌, OnOk, IfOk, string_bytes};
+//! The list of the distinct paths, written a line at a time.
+
+ghost use Rattle.std.specs.Prelude.{◌≡◌, ◌++◌, ◌∷◌, [], OnOk, OnErr, map, decimal};
+ghost use Rattle.std.specs.List.{join_with_byte};
+ghost use Rattle.std.specs.Io.KnownBytes.{append_known};
+ghost use Rattle.tor_io.specs.Counts.{HasCause};
+ghost use Rattle.tor_io.specs.Contents.{GainsPrefix, PassesOn};
 ghost use Rattle.tor_app.specs.Listing.{line, listing, number_at};
 
 use path_clean::PathTable;
-use std::alloc::{AllocError, Global};
+use result_text::write_digits;
 use tor_arena::{Index, PathId};
+use tor_io::{Buffer, Failed, Sink};
 
-// Adds a number, behind a space if it isn't the first.
-fn push_number(text: &mut String, place: usize, number: u32) -> Result<(), AllocError>
-    ensures { OnOk result (string_bytes text.new ≡ string_bytes text.old ++ number_at place number) }
+// Each function puts something behind what waits in the buffer. Failed: a write failed, and out took a prefix of both.
+fn put_number<O: Sink>(out: &mut O, buffer: &mut Buffer, n: u64) -> Result<(), Failed>
+    ensures all { OnOk result (PassesOn (O.held out.old) (O.held out.new) buffer.new (buffer.old ++ decimal n)) }
+    ensures prefix { OnErr result (GainsPrefix (O.held out.old) (O.held out.new) (buffer.old ++ decimal n)) }
+    ensures cause { HasCause (O.faults out.old) (O.faults out.new) result }
 {
-    if place > 0 {
-        text.push(' ')?;
-    }
-    write!(text, "{number}")
+    let mut digits = [0u8; 20];
+    let start = write_digits(n, &mut digits);
+    buffer.put(out, &digits[start..])
 }
 
-// Adds the line of a path.
-fn push_line(text: &mut String, times: u64, path: &[u32]) -> Result<(), AllocError>
-    ensures { OnOk result (string_bytes text.new ≡ string_bytes text.old ++ line (record { path = path.now; times = times })) }
+// A number behind a space.
+fn put_spaced<O: Sink>(out: &mut O, buffer: &mut Buffer, n: u64) -> Result<(), Failed>
+    ensures all { OnOk result (PassesOn (O.held out.old) (O.held out.new) buffer.new (buffer.old ++ 32 ∷ decimal n)) }
+    ensures prefix { OnErr result (GainsPrefix (O.held out.old) (O.held out.new) (buffer.old ++ 32 ∷ decimal n)) }
+    ensures cause { HasCause (O.faults out.old) (O.faults out.new) result }
 {
-    write!(text, "{times}|")?;
+    buffer.put_byte(out, b' ')?;
+    put_number(out, buffer, n)
+}
+
+// A number, behind a space if it isn't the first.
+fn put_number_at<O: Sink>(
+    out: &mut O,
+    buffer: &mut Buffer,
+    place: usize,
+    number: u32,
+) -> Result<(), Failed>
+    ensures all { OnOk result (PassesOn (O.held out.old) (O.held out.new) buffer.new (buffer.old ++ number_at place number)) }
+    ensures prefix { OnErr result (GainsPrefix (O.held out.old) (O.held out.new) (buffer.old ++ number_at place number)) }
+    ensures cause { HasCause (O.faults out.old) (O.faults out.new) result }
+{
+    if place == 0 {
+        put_number(out, buffer, u64::from(number))
+    } else {
+        put_spaced(out, buffer, u64::from(number))
+    }
+}
+
+// The times and the bar behind them.
+fn put_times<O: Sink>(out: &mut O, buffer: &mut Buffer, times: u64) -> Result<(), Failed>
+    ensures all { OnOk result (PassesOn (O.held out.old) (O.held out.new) buffer.new (buffer.old ++ (decimal times ++ 124 ∷ []))) }
+    ensures prefix { OnErr result (GainsPrefix (O.held out.old) (O.held out.new) (buffer.old ++ (decimal times ++ 124 ∷ []))) }
+    ensures cause { HasCause (O.faults out.old) (O.faults out.new) result }
+{
+    put_number(out, buffer, times)?;
+    buffer.put_byte(out, b'|')
+}
+
+// The numbers of a path, joined by spaces.
+fn put_path<O: Sink>(out: &mut O, buffer: &mut Buffer, path: &[u32]) -> Result<(), Failed>
+    ensures all { OnOk result (PassesOn (O.held out.old) (O.held out.new) buffer.new (buffer.old ++ join_with_byte 32 (map decimal path.now))) }
+    ensures prefix { OnErr result (GainsPrefix (O.held out.old) (O.held out.new) (buffer.old ++ join_with_byte 32 (map decimal path.now))) }
+    ensures cause { HasCause (O.faults out.old) (O.faults out.new) result }
+{
     for (place, number) in path.iter().enumerate() {
-        push_number(text, place, *number)?;
+        put_number_at(out, buffer, place, *number)?;
     }
-    text.push('\n')
+    Ok(())
 }
 
-/// The list text of the distinct paths.
-pub(crate) fn list_text(alloc: Global, table: &PathTable) -> Result<String, AllocError>
-    ensures { IfOk result (λ text. string_bytes text ≡ listing table.now.rows) }
+// The numbers of a path, and the line feed behind them.
+fn put_path_and_end<O: Sink>(out: &mut O, buffer: &mut Buffer, path: &[u32]) -> Result<(), Failed>
+    ensures all { OnOk result (PassesOn (O.held out.old) (O.held out.new) buffer.new
+        (buffer.old ++ (join_with_byte 32 (map decimal path.now) ++ 10 ∷ []))) }
+    ensures prefix { OnErr result (GainsPrefix (O.held out.old) (O.held out.new)
+        (buffer.old ++ (join_with_byte 32 (map decimal path.now) ++ 10 ∷ []))) }
+    ensures cause { HasCause (O.faults out.old) (O.faults out.new) result }
 {
-    let mut text = String::new(alloc);
+    put_path(out, buffer, path)?;
+    buffer.put_byte(out, b'\n')
+}
+
+// The line of a path.
+fn put_line<O: Sink>(
+    out: &mut O,
+    buffer: &mut Buffer,
+    times: u64,
+    path: &[u32],
+) -> Result<(), Failed>
+    ensures all { OnOk result (PassesOn (O.held out.old) (O.held out.new) buffer.new
+        (buffer.old ++ line (record { path = path.now; times = times }))) }
+    ensures prefix { OnErr result (GainsPrefix (O.held out.old) (O.held out.new)
+        (buffer.old ++ line (record { path = path.now; times = times }))) }
+    ensures cause { HasCause (O.faults out.old) (O.faults out.new) result }
+{
+    put_times(out, buffer, times)?;
+    put_path_and_end(out, buffer, path)
+}
+
+/// Writes what waits in the buffer, and then the list of the distinct paths. Failed: a write failed, and out took a prefix of both.
+/// It takes no memory.
+pub(crate) fn write_list<O: Sink>(
+    out: &mut O,
+    buffer: &mut Buffer,
+    table: &PathTable,
+) -> Result<(), Failed>
+    ensures all { OnOk result (O.held out.new ≡ append_known (O.held out.old) (buffer.old ++ listing table.now.rows)) }
+    ensures prefix { OnErr result (GainsPrefix (O.held out.old) (O.held out.new) (buffer.old ++ listing table.now.rows)) }
+    ensures cause { HasCause (O.faults out.old) (O.faults out.new) result }
+{
     for place in 0..table.len() {
         let Some(id) = PathId::from_place(place) else {
             unreachable!();
         };
-        push_line(&mut text, table.times(id), table.rows().row(id))?;
+        put_line(out, buffer, table.times(id), table.rows().row(id))?;
     }
-    Ok(text)
+    buffer.flush(out)
 }

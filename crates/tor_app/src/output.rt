@@ -1,22 +1,51 @@
-ghost use Rattle.std.specs.Prelude.{◌≡◌, ◌≤◌, ◌++◌, ◌∷◌, [], IfOk, string_bytes};
+ghost use Rattle.std.specs.Prelude.{◌≡◌, ◌≤◌, ◌++◌, ◌∷◌, [], IfOk, OnOk, OnErr, string_bytes};
+ghost use Rattle.std.specs.Io.KnownBytes.{append_known};
+ghost use Rattle.tor_io.specs.Counts.{HasCause};
+ghost use Rattle.tor_io.specs.Contents.{GainsPrefix};
 ghost use Rattle.tor_app.specs.Output.{IsOutput, IsOutputIn};
 ghost use Rattle.tor_app.specs.Summary.{summary};
+ghost use Rattle.tor_app.specs.Written.{written};
 
-use crate::listing::list_text;
+use crate::listing::write_list;
 use crate::summary::summary_text;
 use dump_read::Taken;
+use path_clean::PathTable;
 use rel_checker::acceptance_law;
 use rel_infer::result_of;
 use result_text::{ResultFile, print};
 use std::alloc::Global;
 use tor_arena::{Keys, List, NoMemory};
+use tor_io::{Buffer, Failed, Sink, write_all};
 use tor_words::{Mode, Settings};
 
-/// What a run that is done writes: the text goes to out, and behind it the note to err.
+/// What a run that is done writes: a text goes to out, and behind it a note to err.
 #[derive(Drop)]
-pub(crate) struct Output {
-    pub text: List<u8>,
-    pub note: List<u8>,
+pub(crate) enum Output {
+    /// A text that lies in memory, and its note.
+    Text(List<u8>, List<u8>),
+    /// The list of a table's paths, which is made while it goes through the buffer. It has no note.
+    Paths(PathTable, Buffer),
+}
+
+impl Output {
+    /// Writes the text, and gives the note. Failed: a write failed, and out took a prefix of the text. It takes no memory.
+    pub fn write_to<O: Sink>(self, alloc: Global, out: &mut O) -> Result<List<u8>, Failed>
+        ensures all { OnOk result (O.held out.new ≡ append_known (O.held out.old) (written self).text) }
+        ensures note { IfOk result (λ note. note ≡ (written self).note) }
+        ensures prefix { OnErr result (GainsPrefix (O.held out.old) (O.held out.new) (written self).text) }
+        ensures cause { HasCause (O.faults out.old) (O.faults out.new) result }
+    {
+        match self {
+            Output::Text(text, note) => {
+                write_all(out, text.as_slice())?;
+                Ok(note)
+            }
+            Output::Paths(table, mut buffer) => {
+                write_list(out, &mut buffer, &table)?;
+                Ok(List::new(alloc))
+            }
+        }
+    }
 }
 
 /// The octets of a text.
@@ -43,25 +72,21 @@ fn labels_output(
     taken: Taken,
 ) -> Result<Output, NoMemory>
     requires { settings.now.ratio ≤ 1000000 }
-    ensures { IfOk result (IsOutputIn Mode.Labels settings.now taken) }
+    ensures { IfOk result (λ output. IsOutputIn Mode.Labels settings.now taken (written output)) }
 {
     acceptance_law();
     let Taken { table, counts } = taken;
     let file = result_of(alloc, keys, settings.sets, settings.ratio, table, counts)?;
     let note = summary_line(alloc, &file)?;
     let text = print(alloc, &file)?;
-    Ok(Output { text, note })
+    Ok(Output::Text(text, note))
 }
 
-// The list of the distinct paths that the dumps gave.
-fn listing_output(alloc: Global, settings: &Settings, taken: &Taken) -> Result<Output, NoMemory>
-    ensures { IfOk result (IsOutputIn Mode.Listing settings.now taken.now) }
+// The list of the distinct paths that the dumps gave. What it takes is all taken here.
+fn listing_output(alloc: Global, settings: &Settings, taken: Taken) -> Result<Output, NoMemory>
+    ensures { IfOk result (λ output. IsOutputIn Mode.Listing settings.now taken (written output)) }
 {
-    let text = list_text(alloc, &taken.table)?;
-    Ok(Output {
-        text: octets_of(text),
-        note: List::new(alloc),
-    })
+    Ok(Output::Paths(taken.table, Buffer::new(alloc)?))
 }
 
 /// What the settings ask for, of what the dumps gave. The only error is that memory ran out.
@@ -72,10 +97,10 @@ pub(crate) fn output_of(
     taken: Taken,
 ) -> Result<Output, NoMemory>
     requires { settings.now.ratio ≤ 1000000 }
-    ensures { IfOk result (IsOutput settings.now taken) }
+    ensures { IfOk result (λ output. IsOutput settings.now taken (written output)) }
 {
     match settings.mode {
         Mode::Labels => labels_output(alloc, keys, settings, taken),
-        Mode::Listing => listing_output(alloc, settings, &taken),
+        Mode::Listing => listing_output(alloc, settings, taken),
     }
 }

@@ -1,16 +1,20 @@
 -- Triples known by the pair of nodes that each shares with its reverse.
 use Rattle.std.proofs.Common.{◌≡◌, ℕ, ◌≤◌, ◌⊎◌, inl, inr, Bool, true, false, not, List, [], ◌∷◌, ◌++◌, length, map, take, refl, sym, ap, ap₂, ◌∙◌, subst, arith, ltb, lt-ltb, le-ltb, if◌then◌else◌, ◌||◌}
 use Rattle.std.specs.List.{list_any}
+use Rattle.std.specs.Prelude.{Contains, All, ◌+◌, ◌*◌, ◌^◌, ◌<◌}
 use Rattle.std.proofs.lemmas.Bool.{cases_Bool, cases_order, false_from_ne_true, both_ways, not-true, not-false}
 use Rattle.std.proofs.lemmas.List.{take-map, length-take-le}
-use Rattle.std.proofs.lemmas.List.Elements.{All-take}
+use Rattle.std.proofs.lemmas.List.Elements.{All-take, All-head, All-tail, Contains-append_left, Contains-append_right, Contains-append_cases}
 use Rattle.relationships.specs.Graph.{Edge, is_same}
 use Rattle.relationships.proofs.Edges.{same_edge}
 use Rattle.tor_clauses.specs.declared.triple.Triple.{Triple}
-use Rattle.tor_clauses.specs.Literals.{opposite_node}
+use Rattle.tor_clauses.specs.Literals.{negated, node_of, opposite_node}
 use Rattle.tor_clauses.specs.Triples.{arc_of, partner_of, is_same_triple}
-use Rattle.tor_clauses.specs.Tables.{HasNodes, IsKnown, IsAdded, key_of}
-use Rattle.tor_clauses.proofs.LiteralLemmas.{opposite_node_twice}
+use Rattle.tor_clauses.specs.declared.lit.Lit.{Lit}
+use Rattle.tor_clauses.specs.Tables.{HasNodes, IsKnown, IsAdded, key_of, number_of_pair}
+use Rattle.tor_clauses.specs.Slots.{IsInserted}
+use Rattle.tor_clauses.proofs.SlotLemmas.{alone, contains_one, contains_none}
+use Rattle.tor_clauses.proofs.LiteralLemmas.{opposite_node_twice, node_below}
 use Rattle.tor_clauses.proofs.Sames.{Same, Same-from_test, test-from_Same, edge_same, partner_same, partner_arc, reversed_arc, reversed_arc_twice, partner-reversed}
 
 abbrev lesser : Edge → Edge → Edge
@@ -64,41 +68,77 @@ same_key t u e = elim (lesser_one (arc_of t) (partner_of t)) [
     reversed_both : (t u : Triple) → partner_of t ≡ partner_of u → arc_of t ≡ arc_of u
     reversed_both t u h = sym (reversed_arc_twice (arc_of t)) ∙ ap reversed_arc (partner-reversed t ∙ h ∙ sym (partner-reversed u)) ∙ reversed_arc_twice (arc_of u)
 
-same_test : (t u : Triple) → is_same (key_of t) (key_of u) ≡ is_same_triple t u
-same_test t u = elim (cases_Bool (is_same_triple t u)) [
-  | inl is ↦ edge_same (key_of t) (key_of u) (key_same t u (Same-from_test t u is)) ∙ sym is
-  | inr not ↦ false_from_ne_true (is_same (key_of t) (key_of u)) (λ is.
-      both_ways (is_same_triple t u) not (test-from_Same t u (same_key t u (same_edge (key_of t) (key_of u) is)))) ∙ sym not
+-- ---- pairs are the same exactly if their numbers are
+
+abbrev pub key_number : Triple → ℕ
+key_number t = number_of_pair (key_of t)
+
+same_pair : (e f : Edge) → e.1 < 2 ^ 32 → f.1 < 2 ^ 32 → number_of_pair e ≡ number_of_pair f → e ≡ f
+same_pair e f a b h = ap₂ pair (omega (arith, a, b, h)) (omega (arith, a, b, h))
+  where
+    pair : ℕ → ℕ → Edge
+    pair m n = (m, n)
+
+node_small : (l : Lit) → l.edge < 2 ^ 27 → node_of l < 2 ^ 32
+node_small l h = let n = node_below l (2 ^ 27) h in omega (arith, n)
+
+key_small : (t : Triple) → HasNodes t → (key_of t).1 < 2 ^ 32
+key_small t h = elim (lesser_one (arc_of t) (partner_of t)) [
+  | inl a ↦ subst (λ (e : Edge). e.1 < 2 ^ 32) (sym a) (node_small t.second h.1)
+  | inr b ↦ subst (λ (e : Edge). e.1 < 2 ^ 32) (sym b) (node_small (negated t.first) h.0)
 ]
 
-any_known : (t : Triple) (ts : List Triple) → list_any (is_same (key_of t)) (map key_of ts) ≡ list_any (is_same_triple t) ts
-any_known t [] = refl
-any_known t (u ∷ ts) = ap₂ (λ a b. a || b) (same_test t u) (any_known t ts)
+either : (a b : Bool) → a ≡ false → (a || b) ≡ true → b ≡ true
+either true b f e = cc
+either false b f e = e
 
--- whether a triple's key is known tells whether the triple or its reverse is there
-pub known_test : (t : Triple) (keys : List Edge) (ts : List Triple) → IsKnown keys ts → list_any (is_same (key_of t)) keys ≡ list_any (is_same_triple t) ts
-known_test t keys ts k = ap (list_any (is_same (key_of t))) k.keys ∙ any_known t ts
+left_or : (a b : Bool) → a ≡ true → (a || b) ≡ true
+left_or a b e = rw e refl
 
-pub is_new : (t : Triple) (k : Edge) (keys : List Edge) (ts : List Triple) (new : Bool) → IsKnown keys ts → k ≡ key_of t →
-    new ≡ not (list_any (is_same k) keys) → new ≡ not (list_any (is_same_triple t) ts)
-is_new t k keys ts new known e n = n ∙ ap (λ a. not (list_any (is_same a) keys)) e ∙ ap not (known_test t keys ts known)
+right_or : (a b : Bool) → b ≡ true → (a || b) ≡ true
+right_or true b e = refl
+right_or false b e = e
 
-pub added-new : (t : Triple) (ts ts' : List Triple) (new : Bool) → new ≡ not (list_any (is_same_triple t) ts) → new ≡ true → ts' ≡ ts ++ t ∷ [] →
-    IsAdded t ts ts' new
-added-new t ts ts' new n e is = subst (IsAdded t ts ts') (sym e) (not-true (list_any (is_same_triple t) ts) (sym n ∙ e), is)
+-- the number is there where the triple or its reverse is
+number_there : (t : Triple) (ts : List Triple) → list_any (is_same_triple t) ts ≡ true → Contains (map key_number ts) (key_number t)
+number_there t [] e = cc
+number_there t (u ∷ ts) e = elim (cases_Bool (is_same_triple t u)) [
+  | inl is ↦ Contains-append_left (key_number u ∷ []) (map key_number ts) (key_number t)
+      (subst (Contains (key_number u ∷ [])) (sym (ap number_of_pair (key_same t u (Same-from_test t u is)))) (contains_one (key_number u)))
+  | inr other ↦ Contains-append_right (key_number u ∷ []) (map key_number ts) (key_number t)
+      (number_there t ts (either (is_same_triple t u) (list_any (is_same_triple t) ts) other e))
+]
 
-pub added-none : (t : Triple) (ts ts' : List Triple) (new : Bool) → new ≡ not (list_any (is_same_triple t) ts) → new ≡ false → ts' ≡ ts →
-    IsAdded t ts ts' new
-added-none t ts ts' new n e is = subst (IsAdded t ts ts') (sym e) (not-false (list_any (is_same_triple t) ts) (sym n ∙ e), is)
+triple_there : (t : Triple) (ts : List Triple) → HasNodes t → All HasNodes ts → Contains (map key_number ts) (key_number t) →
+    list_any (is_same_triple t) ts ≡ true
+triple_there t [] h all c = absurd (contains_none (key_number t) c)
+triple_there t (u ∷ ts) h all c = elim (Contains-append_cases (key_number u ∷ []) (map key_number ts) (key_number t) c) [
+  | inl a ↦ left_or (is_same_triple t u) (list_any (is_same_triple t) ts) (test-from_Same t u (same_key t u
+      (same_pair (key_of t) (key_of u) (key_small t h) (key_small u (All-head HasNodes u ts all)) (alone (key_number u) (key_number t) a))))
+  | inr b ↦ right_or (is_same_triple t u) (list_any (is_same_triple t) ts) (triple_there t ts h (All-tail HasNodes u ts all) b)
+]
+
+-- whether a triple's number is new tells whether the triple is
+pub added-new : (t : Triple) (number : ℕ) (keys new : List ℕ) (ts ts' : List Triple) (is_new : Bool) → IsKnown keys ts → number ≡ key_number t →
+    IsInserted number keys new is_new → is_new ≡ true → ts' ≡ ts ++ t ∷ [] → IsAdded t ts ts' is_new
+added-new t number keys new ts ts' is_new known e put is so = subst (IsAdded t ts ts') (sym is)
+    (false_from_ne_true (list_any (is_same_triple t) ts) (λ there. (subst (IsInserted number keys new) is put).0
+    (subst (λ l. Contains l number) (sym known.keys) (subst (Contains (map key_number ts)) (sym e) (number_there t ts there)))), so)
+
+pub added-none : (t : Triple) (number : ℕ) (keys new : List ℕ) (ts ts' : List Triple) (is_new : Bool) → HasNodes t → IsKnown keys ts → number ≡ key_number t →
+    IsInserted number keys new is_new → is_new ≡ false → ts' ≡ ts → IsAdded t ts ts' is_new
+added-none t number keys new ts ts' is_new h known e put is so = subst (IsAdded t ts ts') (sym is)
+    (triple_there t ts h known.nodes (subst (Contains (map key_number ts)) e
+    (subst (λ l. Contains l number) known.keys (subst (IsInserted number keys new) is put).0)), so)
 
 -- ---- one more triple, and fewer
 
-pub known-cut : (n : ℕ) (keys keys' : List Edge) (ts ts' : List Triple) → IsKnown keys ts → n ≤ length ts → keys' ≡ take n keys → ts' ≡ take n ts → IsKnown keys' ts'
+pub known-cut : (n : ℕ) (keys keys' : List ℕ) (ts ts' : List Triple) → IsKnown keys ts → n ≤ length ts → keys' ≡ take n keys → ts' ≡ take n ts → IsKnown keys' ts'
 known-cut n keys keys' ts ts' k le e f =
     let l = length-take-le n ts le in
     let few = k.few in
     subst (IsKnown keys') (sym f) (record {
-      keys = e ∙ ap (take n) k.keys ∙ take-map key_of n ts;
+      keys = e ∙ ap (take n) k.keys ∙ take-map key_number n ts;
       nodes = All-take HasNodes n ts k.nodes;
       few = omega (arith, l, few, le);
     })

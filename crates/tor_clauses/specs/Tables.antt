@@ -1,5 +1,5 @@
 -- What the fields of clauses hold, and what one more triple makes of them.
-use Rattle.std.specs.Prelude.{◌≡◌, ℕ, ◌<◌, ◌≤◌, ◌^◌, Bool, true, false, nat_lt, List, [], ◌∷◌, ◌++◌, All, length, map, take, flat_map, if◌then◌else◌}
+use Rattle.std.specs.Prelude.{◌≡◌, ℕ, ◌<◌, ◌≤◌, ◌+◌, ◌*◌, ◌^◌, Bool, true, false, nat_lt, List, [], ◌∷◌, ◌++◌, All, length, map, take, flat_map, if◌then◌else◌}
 use Rattle.std.specs.List.{list_any}
 use Rattle.relationships.specs.declared.label.End.{End}
 use Rattle.tor_digraph.specs.Walks.{Net}
@@ -17,9 +17,13 @@ HasNodes t = (t.first.edge < 2 ^ 27) × (t.second.edge < 2 ^ 27)
 abbrev pub key_of : Triple → ℕ × ℕ
 key_of t = if nat_lt (node_of (negated t.second)) (node_of t.first) then partner_of t else arc_of t
 
--- each triple is known by the pair that it shares with its reverse
-pub record IsKnown (known : List (ℕ × ℕ)) (triples : List Triple) : Type 0 where
-  pub keys : known ≡ map key_of triples
+-- the number of a pair, from 2 on
+abbrev pub number_of_pair : ℕ × ℕ → ℕ
+number_of_pair pair = pair.0 * 2 ^ 32 + pair.1 + 2
+
+-- each triple is known by the number of the pair that it shares with its reverse
+pub record IsKnown (known : List ℕ) (triples : List Triple) : Type 0 where
+  pub keys : known ≡ map (λ t. number_of_pair (key_of t)) triples
   pub nodes : All HasNodes triples
   pub few : length triples ≤ 2 ^ 27
 

@@ -1,9 +1,9 @@
 ghost use Rattle.std.specs.Prelude.{◌≡◌, ◌<◌, ◌≤◌, ◌↔◌, ◌^◌, [], All, length, take, slice_get, IsTrue, IfOk, OnErr};
-ghost use Rattle.tor_clauses.specs.Tables.{HasNodes, IsSatisfied, IsAdded, key_of};
+ghost use Rattle.tor_clauses.specs.Tables.{HasNodes, IsSatisfied, IsAdded, key_of, number_of_pair};
 
 use crate::lit::Lit;
+use crate::number_set::NumberSet;
 use crate::triple::Triple;
-use indexmap::IndexSet;
 use relationships::End;
 use std::alloc::Global;
 use std::marker::Model;
@@ -13,8 +13,8 @@ use tor_arena::{Arena, Index, Keys, NoMemory, NodeId, TripleId};
 #[derive(Drop)]
 pub(crate) struct TripleTable {
     triples: Arena<TripleId, Triple>,
-    // for each triple the pair of nodes that it shares with its reverse
-    known: IndexSet<(NodeId, NodeId), Keys>,
+    // for each triple the number of the pair of nodes that it shares with its reverse
+    known: NumberSet,
 }
 
 impl Model for TripleTable {
@@ -26,7 +26,7 @@ impl Model for TripleTable {
 
     ghost view = { λ table. table.triples.items };
 
-    ghost invariant = { λ table. IsKnown table.known.keys table.triples.items };
+    ghost invariant = { λ table. IsKnown table.known table.triples.items };
 }
 
 impl TripleTable {
@@ -36,7 +36,7 @@ impl TripleTable {
     {
         TripleTable {
             triples: Arena::new(alloc),
-            known: IndexSet::with_hasher(alloc, keys),
+            known: NumberSet::new(alloc, keys),
         }
     }
 
@@ -83,7 +83,7 @@ impl TripleTable {
         ensures err { OnErr result (self.new ≡ self.old) }
     {
         self.triples.reserve(1)?;
-        let is_new = self.known.insert(key(&triple))?;
+        let is_new = self.known.insert(number_of(key(&triple)))?;
         if is_new {
             self.triples.push_reserved(triple);
         }
@@ -96,7 +96,7 @@ impl TripleTable {
         ensures { self.new ≡ take count self.old }
     {
         self.triples.cut_to(count);
-        self.known.truncate(count);
+        self.known.cut_to(count);
     }
 }
 
@@ -113,6 +113,13 @@ fn key(triple: &Triple) -> (NodeId, NodeId)
     } else {
         (first, triple.second.node())
     }
+}
+
+/// The number of a pair of nodes, from 2 on.
+fn number_of(pair: (NodeId, NodeId)) -> u64
+    ensures { result ≡ number_of_pair pair }
+{
+    pair.0.place() as u64 * 4294967296 + pair.1.place() as u64 + 2
 }
 
 /// Whether the clause of a triple is satisfied: its second literal holds if its first does.

@@ -1,0 +1,182 @@
+//! An AS_PATH that is read where it lies, segment by segment and number by number.
+
+ghost use Rattle.std.specs.Prelude.{◌≡◌, ◌++◌, [], ◌∷◌, IfOk, MatchOption};
+ghost use Rattle.path_attrs.specs.Segments.{segments_of};
+
+use crate::as_path::{SegKind, Segment, Width, head_of};
+use std::alloc::Global;
+use std::marker::Model;
+use tor_arena::{List, NoMemory};
+
+/// The segments of an AS_PATH that are still to come.
+#[derive(Debug, Drop)]
+pub struct SegmentCursor<'a> {
+    rest: &'a [u8],
+    width: Width,
+}
+
+impl<'a> Model for SegmentCursor<'a> {
+    ghost use Rattle.std.specs.Prelude.{List, IsSome};
+    ghost use Rattle.path_attrs.specs.declared.as_path.Segment.{Segment};
+    ghost use Rattle.path_attrs.specs.Segments.{segments_in, segments_of};
+
+    ghost Value = { List Segment };
+
+    ghost view = { λ cursor. segments_in cursor.width cursor.rest.now };
+
+    ghost invariant = { λ cursor. IsSome (segments_of cursor.width cursor.rest.now) };
+}
+
+impl<'a> SegmentCursor<'a> {
+    /// The segments of the value of an AS_PATH, with AS numbers of the width. None exactly where the value is malformed, as
+    /// `segments` answers. It takes no memory.
+    pub fn over(value: &'a [u8], width: Width) -> Option<SegmentCursor<'a>>
+        ensures { result ≡ segments_of width value.now }
+    {
+        let mut rest = value;
+        'segments: while !rest.is_empty() {
+            let (_, count, octets) = head_of(rest, width)?;
+            rest = octets.split_at(width.octets() * count).1;
+        }
+        Some(SegmentCursor { rest: value, width })
+    }
+
+    /// The next segment. None where there is none. It takes no memory.
+    pub fn next(&mut self) -> Option<SegmentRef<'a>>
+        ensures { MatchOption result ((self.old ≡ []) × (self.new ≡ [])) (λ segment. self.old ≡ segment ∷ self.new) }
+    {
+        let (kind, count, octets) = head_of(self.rest, self.width)?;
+        self.rest = octets.split_at(self.width.octets() * count).1;
+        Some(SegmentRef {
+            kind,
+            count,
+            octets,
+            width: self.width,
+        })
+    }
+
+    /// The same segments once more. It takes no memory.
+    pub fn again(&self) -> SegmentCursor<'a>
+        ensures { result ≡ self.now }
+    {
+        SegmentCursor {
+            rest: self.rest,
+            width: self.width,
+        }
+    }
+}
+
+/// A segment of an AS_PATH where it lies.
+#[derive(Debug, Drop)]
+pub struct SegmentRef<'a> {
+    kind: SegKind,
+    count: usize,
+    // from its first number on
+    octets: &'a [u8],
+    width: Width,
+}
+
+impl<'a> Model for SegmentRef<'a> {
+    ghost use Rattle.std.specs.Prelude.{◌*◌, ◌≤◌, length};
+    ghost use Rattle.path_attrs.specs.declared.as_path.Segment.{Segment};
+    ghost use Rattle.path_attrs.specs.Segments.{octets_in, numbers};
+
+    ghost Value = { Segment };
+
+    ghost view = { λ segment. record {
+      kind = segment.kind;
+      ases = numbers (octets_in segment.width) segment.count segment.octets.now;
+    } };
+
+    ghost invariant = { λ segment. octets_in segment.width * segment.count ≤ length segment.octets.now };
+}
+
+impl<'a> SegmentRef<'a> {
+    /// Its kind. It takes no memory.
+    pub fn kind(&self) -> SegKind
+        ensures { result ≡ self.now.kind }
+    {
+        self.kind
+    }
+
+    /// Its AS numbers in order. It takes no memory.
+    pub fn ases(&self) -> NumberCursor<'a>
+        ensures { result ≡ self.now.ases }
+    {
+        NumberCursor {
+            rest: self.octets,
+            count: self.count,
+            width: self.width,
+        }
+    }
+}
+
+/// The AS numbers of a segment that are still to come.
+#[derive(Debug, Drop)]
+pub struct NumberCursor<'a> {
+    rest: &'a [u8],
+    count: usize,
+    width: Width,
+}
+
+impl<'a> Model for NumberCursor<'a> {
+    ghost use Rattle.std.specs.Prelude.{◌*◌, ◌≤◌, ℕ, List, length};
+    ghost use Rattle.path_attrs.specs.Segments.{octets_in, numbers};
+
+    ghost Value = { List ℕ };
+
+    ghost view = { λ cursor. numbers (octets_in cursor.width) cursor.count cursor.rest.now };
+
+    ghost invariant = { λ cursor. octets_in cursor.width * cursor.count ≤ length cursor.rest.now };
+}
+
+impl NumberCursor<'_> {
+    /// The next number. None where there is none. It takes no memory.
+    pub fn next(&mut self) -> Option<u32>
+        ensures { MatchOption result ((self.old ≡ []) × (self.new ≡ [])) (λ number. self.old ≡ number ∷ self.new) }
+    {
+        if self.count == 0 {
+            return None;
+        }
+        let number = self.width.number(self.rest);
+        self.rest = self.rest.split_at(self.width.octets()).1;
+        self.count -= 1;
+        Some(number)
+    }
+}
+
+// The numbers of a segment.
+fn numbers_of(alloc: Global, segment: &SegmentRef<'_>) -> Result<List<u32>, NoMemory>
+    ensures { IfOk result (λ ases. ases ≡ segment.now.ases) }
+{
+    let mut ases = List::new(alloc);
+    let mut left = segment.ases();
+    'numbers: while let Some(number) = left.next() {
+        ases.push(number)?;
+    }
+    Ok(ases)
+}
+
+/// The segments of the value of an AS_PATH in order, with AS numbers of the width. None exactly where the value is malformed
+/// (RFC 7606, section 7.2): where a segment is of another type than 1 to 4, has count zero, or is not whole. A value of no
+/// octets has no segments. NoMemory where memory ran out.
+pub fn segments(
+    alloc: Global,
+    value: &[u8],
+    width: Width,
+) -> Result<Option<List<Segment>>, NoMemory>
+    ensures { IfOk result (λ found. found ≡ segments_of width value.now) }
+{
+    let Some(mut left) = SegmentCursor::over(value, width) else {
+        return Ok(None);
+    };
+    let mut found = List::new(alloc);
+    'segments: while let Some(segment) = left.next() {
+        let ases = numbers_of(alloc, &segment)?;
+        found.push(Segment {
+            kind: segment.kind(),
+            ases,
+        })?;
+    }
+    Ok(Some(found))
+}

@@ -1,0 +1,102 @@
+//! A buffer in front of a sink.
+
+ghost use Rattle.std.specs.Prelude.{◌≡◌, ◌≤◌, ◌+◌, ◌++◌, ◌∷◌, [], length, take, IfOk, OnOk, OnErr};
+ghost use Rattle.std.specs.Io.KnownBytes.{append_known};
+ghost use Rattle.tor_io.specs.Counts.{HasCause};
+ghost use Rattle.tor_io.specs.Contents.{GainsPrefix, PassesOn};
+
+use crate::{Failed, Sink, write_all};
+use std::alloc::Global;
+use std::marker::Model;
+use tor_arena::NoMemory;
+
+/// How many bytes are written at once.
+const SIZE: usize = 65536;
+
+/// Bytes on their way to a sink, so that these are written in large pieces.
+#[derive(Drop)]
+pub struct Buffer {
+    bytes: Vec<u8>,
+    filled: usize,
+}
+
+impl Model for Buffer {
+    ghost use Rattle.std.specs.Prelude.{◌≤◌, ℕ, List, take, vec_len};
+
+    ghost Value = { List ℕ };
+
+    ghost view = { λ buffer. take buffer.filled buffer.bytes.items };
+
+    ghost invariant = { λ buffer. buffer.filled ≤ vec_len buffer.bytes };
+}
+
+// Copies the piece to its place behind the first `filled` bytes, where there has to be room, and answers where it ends.
+fn copy_behind(bytes: &mut [u8], filled: usize, piece: &[u8]) -> usize
+    requires { filled + length piece.now ≤ length bytes.old }
+    ensures end { result ≤ length bytes.new }
+    ensures length { length bytes.new ≡ length bytes.old }
+    ensures added { take result bytes.new ≡ take filled bytes.old ++ piece.now }
+{
+    let end = filled + piece.len();
+    bytes[filled..end].copy_from_slice(piece);
+    end
+}
+
+impl Buffer {
+    /// An empty buffer. All of its memory is taken here; where there isn't enough, the answer is NoMemory.
+    pub fn new(alloc: Global) -> Result<Buffer, NoMemory>
+        ensures { IfOk result (λ buffer. buffer ≡ []) }
+    {
+        Ok(Buffer {
+            bytes: vec![in alloc; 0; SIZE]?,
+            filled: 0,
+        })
+    }
+
+    /// Puts bytes behind those that wait. Where there is no room, what waits is written first. Failed: a write failed, and the
+    /// sink took a prefix of what waited and the piece. It takes no memory.
+    pub fn put<S: Sink>(&mut self, sink: &mut S, piece: &[u8]) -> Result<(), Failed>
+        ensures all { OnOk result (PassesOn (S.held sink.old) (S.held sink.new) self.new (self.old ++ piece.now)) }
+        ensures prefix { OnErr result (GainsPrefix (S.held sink.old) (S.held sink.new) (self.old ++ piece.now)) }
+        ensures cause { HasCause (S.faults sink.old) (S.faults sink.new) result }
+    {
+        if piece.len() > self.bytes.len() - self.filled {
+            write_all(sink, &self.bytes[..self.filled])?;
+            self.filled = 0;
+            if piece.len() > self.bytes.len() {
+                return write_all(sink, piece);
+            }
+        }
+        self.filled = copy_behind(&mut self.bytes, self.filled, piece);
+        Ok(())
+    }
+
+    /// Puts one byte behind those that wait. Where there is no room, what waits is written first. Failed: a write failed, and the
+    /// sink took a prefix of what waited. It takes no memory.
+    pub fn put_byte<S: Sink>(&mut self, sink: &mut S, byte: u8) -> Result<(), Failed>
+        ensures all { OnOk result (PassesOn (S.held sink.old) (S.held sink.new) self.new (self.old ++ byte ∷ [])) }
+        ensures prefix { OnErr result (GainsPrefix (S.held sink.old) (S.held sink.new) (self.old ++ byte ∷ [])) }
+        ensures cause { HasCause (S.faults sink.old) (S.faults sink.new) result }
+    {
+        match self.bytes.get_mut(self.filled) {
+            Some(place) => {
+                *place = byte;
+                self.filled += 1;
+                Ok(())
+            }
+            None => self.put(sink, &[byte]),
+        }
+    }
+
+    /// Writes what waits. Failed: a write failed, and the sink took a prefix of it. It takes no memory.
+    pub fn flush<S: Sink>(&mut self, sink: &mut S) -> Result<(), Failed>
+        ensures all { OnOk result (S.held sink.new ≡ append_known (S.held sink.old) self.old) }
+        ensures empty { OnOk result (self.new ≡ []) }
+        ensures prefix { OnErr result (GainsPrefix (S.held sink.old) (S.held sink.new) self.old) }
+        ensures cause { HasCause (S.faults sink.old) (S.faults sink.new) result }
+    {
+        write_all(sink, &self.bytes[..self.filled])?;
+        self.filled = 0;
+        Ok(())
+    }
+}
