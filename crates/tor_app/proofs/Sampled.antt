@@ -44,8 +44,8 @@ pub if_sample : (words : List (List ℕ)) {P Q : Type 0} → P → Q → IfSampl
 if_sample words p q = of_settings (settings_given words) p q
 
 -- where the words give these settings
-pub sample-given : (words : List (List ℕ)) (settings : Settings) {P Q : Type 0} → settings_given words ≡ Some settings → ByMode settings.mode P Q → IfSample words P Q
-sample-given words settings {P = P} {Q = Q} given h = subst (λ o. ByModeOf o P Q) (sym given) h
+pub sample-given : (words : List (List ℕ)) (settings : Settings) (P Q : Type 0) → settings_given words ≡ Some settings → ByMode settings.mode P Q → IfSample words P Q
+sample-given words settings P Q given h = subst (λ o. ByModeOf o P Q) (sym given) h
 
 pub known-given :
     (words : List (List ℕ)) (settings : Settings) (known : Option Files) (P : Option Files → Type 0) → settings_given words ≡ Some settings
@@ -108,7 +108,7 @@ refusal-given words settings known steady refusal.NoMemory given h = tt
 
 -- dumps are named but for a sample
 pub named-read :
-    (m : Mode) (dumps : List (List ℕ)) {P Q : Type 0} → HasDumps m dumps → ByMode m P (0 < length dumps → Q) → ByMode m P Q
-named-read Labels dumps named h = h named
-named-read Listing dumps named h = h named
-named-read (Sample seed) dumps named h = h
+    (m : Mode) (dumps : List (List ℕ)) (P Q : Type 0) → HasDumps m dumps → ByMode m P (0 < length dumps → Q) → ByMode m P Q
+named-read Labels dumps P Q named h = h named
+named-read Listing dumps P Q named h = h named
+named-read (Sample seed) dumps P Q named h = h

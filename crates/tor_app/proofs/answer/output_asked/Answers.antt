@@ -19,15 +19,15 @@ returns-in-Ok-clause-refused g c =
 pub returns-in-Ok-clause-read_out : goal.returns-in-Ok-clause-read_out
 returns-in-Ok-clause-read_out g c =
     on_ok_weaker c.output_for.result
-    (λ out. sample-given c.args.words.now c.in-Ok.settings c.in-Ok.ensures.given (named-read c.in-Ok.settings.mode c.in-Ok.settings.dumps c.in-Ok.ensures.named out))
+    (λ out. sample-given c.args.words.now c.in-Ok.settings _ _ c.in-Ok.ensures.given (named-read c.in-Ok.settings.mode c.in-Ok.settings.dumps _ _ c.in-Ok.ensures.named out))
     c.output_for.ensures.read_out
 
 pub returns-in-Ok-clause-sample : goal.returns-in-Ok-clause-sample
-returns-in-Ok-clause-sample g c = sample-given c.args.words.now c.in-Ok.settings c.in-Ok.ensures.given c.output_for.ensures.sample
+returns-in-Ok-clause-sample g c = sample-given c.args.words.now c.in-Ok.settings _ _ c.in-Ok.ensures.given c.output_for.ensures.sample
 
 pub returns-in-Ok-clause-no_fault : goal.returns-in-Ok-clause-no_fault
 returns-in-Ok-clause-no_fault g c =
-    IfErr-weaker c.output_for.result _ _ (λ r h. sample-given c.args.words.now c.in-Ok.settings c.in-Ok.ensures.given h) c.output_for.ensures.no_fault
+    IfErr-weaker c.output_for.result _ _ (λ r h. sample-given c.args.words.now c.in-Ok.settings _ _ c.in-Ok.ensures.given h) c.output_for.ensures.no_fault
 
 pub returns-in-Err-clause-sample : goal.returns-in-Err-clause-sample
 returns-in-Err-clause-sample g c = if_sample c.args.words.now refl tt
