@@ -63,8 +63,10 @@ fn put_times<O: Sink>(out: &mut O, buffer: &mut Buffer, times: u64) -> Result<()
 
 // The numbers of a path, joined by spaces.
 fn put_path<O: Sink>(out: &mut O, buffer: &mut Buffer, path: &[u32]) -> Result<(), Failed>
-    ensures all { OnOk result (PassesOn (O.held out.old) (O.held out.new) buffer.new (buffer.old ++ join_with_byte 32 (map decimal path.now))) }
-    ensures prefix { OnErr result (GainsPrefix (O.held out.old) (O.held out.new) (buffer.old ++ join_with_byte 32 (map decimal path.now))) }
+    ensures all { OnOk result (PassesOn (O.held out.old) (O.held out.new) buffer.new
+        (buffer.old ++ join_with_byte 32 (map decimal path.now))) }
+    ensures prefix { OnErr result (GainsPrefix (O.held out.old) (O.held out.new)
+        (buffer.old ++ join_with_byte 32 (map decimal path.now))) }
     ensures cause { HasCause (O.faults out.old) (O.faults out.new) result }
 {
     for (place, number) in path.iter().enumerate() {

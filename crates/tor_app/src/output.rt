@@ -2,7 +2,7 @@ ghost use Rattle.std.specs.Prelude.{◌≡◌, ◌≤◌, ◌++◌, ◌∷◌, [
 ghost use Rattle.std.specs.Io.KnownBytes.{append_known};
 ghost use Rattle.tor_io.specs.Counts.{HasCause};
 ghost use Rattle.tor_io.specs.Contents.{GainsPrefix};
-ghost use Rattle.tor_app.specs.Output.{IsOutput, IsOutputIn};
+ghost use Rattle.tor_app.specs.Output.{Faithful, IsOutput, IsOutputIn};
 ghost use Rattle.tor_app.specs.Summary.{summary};
 ghost use Rattle.tor_app.specs.Written.{written};
 
@@ -64,6 +64,21 @@ fn summary_line(alloc: Global, file: &ResultFile) -> Result<List<u8>, NoMemory>
     Ok(octets_of(line))
 }
 
+// The result of what the dumps gave.
+fn faithful_result(
+    alloc: Global,
+    keys: Keys,
+    settings: &Settings,
+    taken: Taken,
+) -> Result<ResultFile, NoMemory>
+    requires { settings.now.ratio ≤ 1000000 }
+    ensures { IfOk result (Faithful settings.now taken) }
+{
+    acceptance_law();
+    let Taken { table, counts } = taken;
+    result_of(alloc, keys, settings.sets, settings.ratio, table, counts)
+}
+
 // The text of the result of what the dumps gave, and its summary.
 fn labels_output(
     alloc: Global,
@@ -74,12 +89,26 @@ fn labels_output(
     requires { settings.now.ratio ≤ 1000000 }
     ensures { IfOk result (λ output. IsOutputIn Mode.Labels settings.now taken (written output)) }
 {
-    acceptance_law();
-    let Taken { table, counts } = taken;
-    let file = result_of(alloc, keys, settings.sets, settings.ratio, table, counts)?;
+    let file = faithful_result(alloc, keys, settings, taken)?;
     let note = summary_line(alloc, &file)?;
     let text = print(alloc, &file)?;
     Ok(Output::Text(text, note))
+}
+
+// The summary of the result of what the sample gave.
+fn sample_output(
+    alloc: Global,
+    keys: Keys,
+    settings: &Settings,
+    seed: u64,
+    taken: Taken,
+) -> Result<Output, NoMemory>
+    requires { settings.now.ratio ≤ 1000000 }
+    ensures { IfOk result (λ output. IsOutputIn (Mode.Sample seed) settings.now taken (written output)) }
+{
+    let file = faithful_result(alloc, keys, settings, taken)?;
+    let text = summary_line(alloc, &file)?;
+    Ok(Output::Text(text, List::new(alloc)))
 }
 
 // The list of the distinct paths that the dumps gave. What it takes is all taken here.
@@ -102,5 +131,6 @@ pub(crate) fn output_of(
     match settings.mode {
         Mode::Labels => labels_output(alloc, keys, settings, taken),
         Mode::Listing => listing_output(alloc, settings, taken),
+        Mode::Sample(seed) => sample_output(alloc, keys, settings, seed, taken),
     }
 }

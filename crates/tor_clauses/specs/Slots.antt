@@ -51,7 +51,8 @@ IsHolding seed number old new false = (new ≡ old) × ((numbers : List ℕ) →
 
 -- the number, which comes last, is taken out of its slot
 abbrev pub Leaves : (seed number : ℕ) (old new : List ℕ) → Type 0
-Leaves seed number old new = (numbers : List ℕ) → IsHeld seed old (numbers ++ number ∷ []) → (Contains numbers number → ⊥) → IsHeld seed new numbers
+Leaves seed number old new =
+    (numbers : List ℕ) → IsHeld seed old (numbers ++ number ∷ []) → (Contains numbers number → ⊥) → IsHeld seed new numbers
 
 -- no number stands twice
 abbrev pub IsApart : List ℕ → Type 0

@@ -11,4 +11,5 @@ IsAbove network above =
 -- the providers of each network, from the network 10 on, are of the level above its own
 abbrev pub LeadUp : List Providers → Type 0
 LeadUp nets =
-    (k : ℕ) (other : Providers) → k < length nets → IsAbove (10 + k) (get_or nets k other).first × IsAbove (10 + k) (get_or nets k other).second
+    (k : ℕ) (other : Providers) → k < length nets →
+    IsAbove (10 + k) (get_or nets k other).first × IsAbove (10 + k) (get_or nets k other).second

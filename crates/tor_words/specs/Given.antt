@@ -1,5 +1,5 @@
 -- The settings that words give.
-use Rattle.std.specs.Prelude.{ℕ, ◌==◌, Bool, false, List, [], ◌∷◌, length, Option, Some, None}
+use Rattle.std.specs.Prelude.{◌≡◌, ℕ, ◌<◌, Bool, true, false, List, [], ◌∷◌, length, Option, Some, None}
 use Rattle.std.specs.Prelude.{option_map, option_and_then, unwrap_or, if◌then◌else◌, codes}
 use Rattle.std.specs.Str.{bytes_eq}
 use Rattle.std.specs.Str.Parse.{digits_value, without_leading_plus}
@@ -8,7 +8,7 @@ use Rattle.clap.specs.Words.{Kinds, Row, Text, all_of, first_of, fault_of, match
 use Rattle.path_clean.specs.declared.cleaned.Sets.{Sets}
 use Rattle.path_clean.specs.declared.cleaned.Sets.TheVariants.{Cut, Skip}
 use Rattle.tor_words.specs.declared.settings.Mode.{Mode}
-use Rattle.tor_words.specs.declared.settings.Mode.TheVariants.{Labels, Listing}
+use Rattle.tor_words.specs.declared.settings.Mode.TheVariants.{Labels, Listing, Sample}
 use Rattle.tor_words.specs.declared.settings.Settings.{Settings}
 use Rattle.tor_words.specs.TorCommand.{tor_command}
 
@@ -42,25 +42,41 @@ is_true_text (Some text) = bytes_eq text (codes "true")
 abbrev pub dumps_in : List Row → List Text
 dumps_in rows = unwrap_or (all_of (codes "dump") rows) []
 
--- what is asked for: the list of the paths where `--list` is set, and else the labels
-abbrev pub mode_in : List Row → Mode
-mode_in rows = if is_true_text (first_of (codes "list") rows) then Listing else Labels
+-- what is asked for. Without `--sample` at least one dump has to be named, and it is the list of the paths with `--list`, and
+-- else the labels. With `--sample` neither a dump nor `--list` stands beside it, and it is the sample of that number
+abbrev pub mode_of : (sample : Option Text) (list : Bool) (dumps : List Text) → Option Mode
+mode_of None list [] = None
+mode_of None true (dump ∷ dumps) = Some Listing
+mode_of None false (dump ∷ dumps) = Some Labels
+mode_of (Some text) true dumps = None
+mode_of (Some text) false [] = option_map Sample (number_in 0 18446744073709551615 text)
+mode_of (Some text) false (dump ∷ dumps) = None
 
--- the settings that these matches give, if a dump is named and their values are some
+abbrev pub mode_in : List Row → Option Mode
+mode_in rows = mode_of (first_of (codes "sample") rows) (is_true_text (first_of (codes "list") rows)) (dumps_in rows)
+
+-- the settings that these matches give, if they ask for something and their values are some
 abbrev pub settings_in : List Row → Option Settings
 settings_in rows =
-    if length (dumps_in rows) == 0 then None
-    else option_and_then (λ sets.
+    option_and_then (λ mode.
+    option_and_then (λ sets.
     option_and_then (λ ratio.
     option_map (λ most. record {
-      mode = mode_in rows;
+      mode = mode;
       sets = sets;
       ratio = ratio;
       max_paths = most;
       dumps = dumps_in rows;
     }) (number_or 1 8388608 8388608 (first_of (codes "max-paths") rows)))
     (number_or 0 1000000 60 (first_of (codes "ratio") rows)))
-    (sets_or_cut (first_of (codes "as-sets") rows))
+    (sets_or_cut (first_of (codes "as-sets") rows)))
+    (mode_in rows)
+
+-- a sample has no dump, and all else at least one
+abbrev pub HasDumps : Mode → List Text → Type 0
+HasDumps (Sample seed) dumps = dumps ≡ []
+HasDumps Labels dumps = 0 < length dumps
+HasDumps Listing dumps = 0 < length dumps
 
 -- the same where clap finds no fault, and nothing where it does
 abbrev pub unless_fault : {X : Type 0} → Kinds → Option X → Option X

@@ -51,9 +51,15 @@ pub(crate) fn command<'a>(alloc: Global) -> Result<Command<'a>, AllocError>
     let sets = option(alloc, "as-sets");
     let ratio = number(alloc, "ratio", 0, 1_000_000);
     let most = number(alloc, "max-paths", 1, 8_388_608);
+    let sample = number(alloc, "sample", 0, u64::MAX);
     let dumps = rest(alloc, "dump");
     let tor = Command::new(alloc, "tor").no_binary_name(true);
-    tor.arg(list)?.arg(sets)?.arg(ratio)?.arg(most)?.arg(dumps)
+    tor.arg(list)?
+        .arg(sets)?
+        .arg(ratio)?
+        .arg(most)?
+        .arg(sample)?
+        .arg(dumps)
 }
 
 /// The command line of `torcheck`.

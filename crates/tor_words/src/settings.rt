@@ -1,13 +1,13 @@
 //! The settings of a run.
-ghost use Rattle.std.specs.Prelude.{◌≡◌, ◌<◌, ◌≤◌, IfOk, IfErr, Some, None, length, map, option_map};
+ghost use Rattle.std.specs.Prelude.{◌≡◌, ◌≤◌, IfOk, IfErr, OnErr, Some, None, map, option_map};
 ghost use Rattle.clap.specs.Words.{found_of, rows_of, first_of};
-ghost use Rattle.tor_words.specs.Given.{settings_in, settings_given, dumps_in, mode_in};
+ghost use Rattle.tor_words.specs.Given.{settings_in, settings_given, dumps_in, mode_of, HasDumps};
 ghost use Rattle.tor_words.specs.Refused.{IsUsage, SaysUsage};
 
 use crate::command::command;
 use crate::name::Name;
 use crate::refused::{WordsRefused, refusal, usage};
-use crate::values::{is_true_text, number_or, sets_or_cut};
+use crate::values::{is_true_text, number_in, number_or, sets_or_cut};
 use clap::ArgMatches;
 use path_clean::Sets;
 use std::alloc::Global;
@@ -20,6 +20,8 @@ pub enum Mode {
     Labels,
     /// The list of the distinct paths.
     Listing,
+    /// The summary of the result over the sample of this number, in place of dumps.
+    Sample(u64),
 }
 
 /// What a run of `tor` is asked for, and over which dumps.
@@ -34,7 +36,7 @@ pub struct Settings {
     pub ratio: u32,
     /// The most distinct paths, from 1 to 8388608.
     pub max_paths: u32,
-    /// The names of the dumps, one at least, in the order in which they are read.
+    /// The names of the dumps in the order in which they are read: none for a sample, and else one at least.
     pub dumps: List<Name>,
 }
 
@@ -66,18 +68,25 @@ pub(crate) fn dumps_in(alloc: Global, matches: &ArgMatches) -> Result<List<Name>
     }
 }
 
-// What the matches ask for.
-fn mode_in(matches: &ArgMatches) -> Mode
-    ensures { result ≡ mode_in (rows_of (found_of matches.now)) }
+// What is asked for over these dumps, or why it is nothing.
+fn mode_of(sample: Option<&str>, list: bool, dumps: &[Name]) -> Result<Mode, &'static str>
+    ensures ok { IfOk result (λ mode. mode_of (option_map (λ s. s.now) sample.entry) list dumps.now ≡ Some mode) }
+    ensures err { OnErr result (mode_of (option_map (λ s. s.now) sample.entry) list dumps.now ≡ None) }
+    ensures named { IfOk result (λ mode. HasDumps mode dumps.now) }
 {
-    if is_true_text(first(matches, "list")) {
-        Mode::Listing
-    } else {
-        Mode::Labels
+    match sample {
+        None if dumps.is_empty() => Err("no dump is named\n"),
+        None if list => Ok(Mode::Listing),
+        None => Ok(Mode::Labels),
+        Some(_) if list || !dumps.is_empty() => Err("--sample takes no --list and no dump\n"),
+        Some(text) => match number_in(text, 0, u64::MAX) {
+            Some(seed) => Ok(Mode::Sample(seed)),
+            None => Err("--sample takes a number from 0 to 18446744073709551615\n"),
+        },
     }
 }
 
-// The settings that the matches give, if a dump is named and their values are some.
+// The settings that the matches give, if they ask for something and their values are some.
 fn settings_in(alloc: Global, matches: &ArgMatches) -> Result<Settings, WordsRefused>
     ensures ok { IfOk result (λ s. settings_in (rows_of (found_of matches.now)) ≡ Some s) }
     ensures err { IfErr result (λ e. IsUsage e → settings_in (rows_of (found_of matches.now)) ≡ None) }
@@ -85,14 +94,16 @@ fn settings_in(alloc: Global, matches: &ArgMatches) -> Result<Settings, WordsRef
     ensures ratio { IfOk result (λ s. s.ratio ≤ 1000000) }
     ensures some { IfOk result (λ s. 1 ≤ s.max_paths) }
     ensures most { IfOk result (λ s. s.max_paths ≤ 8388608) }
-    ensures named { IfOk result (λ s. 0 < length s.dumps) }
+    ensures named { IfOk result (λ s. HasDumps s.mode s.dumps) }
 {
     let Ok(dumps) = dumps_in(alloc, matches) else {
         return Err(WordsRefused::NoMemory);
     };
-    if dumps.is_empty() {
-        return Err(usage(alloc, "no dump is named\n"));
-    }
+    let list = is_true_text(first(matches, "list"));
+    let mode = match mode_of(first(matches, "sample"), list, dumps.as_slice()) {
+        Ok(mode) => mode,
+        Err(why) => return Err(usage(alloc, why)),
+    };
     let Some(sets) = sets_or_cut(first(matches, "as-sets")) else {
         return Err(usage(alloc, "--as-sets takes cut or skip\n"));
     };
@@ -103,7 +114,7 @@ fn settings_in(alloc: Global, matches: &ArgMatches) -> Result<Settings, WordsRef
         return Err(usage(alloc, "--max-paths takes a number from 1 to 8388608\n"));
     };
     Ok(Settings {
-        mode: mode_in(matches),
+        mode,
         sets,
         ratio: ratio as u32,
         max_paths: max_paths as u32,
@@ -120,7 +131,7 @@ pub fn settings_of(alloc: Global, words: &List<Name>) -> Result<Settings, WordsR
     ensures ratio { IfOk result (λ s. s.ratio ≤ 1000000) }
     ensures some { IfOk result (λ s. 1 ≤ s.max_paths) }
     ensures most { IfOk result (λ s. s.max_paths ≤ 8388608) }
-    ensures named { IfOk result (λ s. 0 < length s.dumps) }
+    ensures named { IfOk result (λ s. HasDumps s.mode s.dumps) }
 {
     let Ok(command) = command(alloc) else {
         return Err(WordsRefused::NoMemory);

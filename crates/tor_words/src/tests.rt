@@ -20,7 +20,7 @@ fn asked(alloc: Global, texts: &[&str]) -> Result<(Mode, Sets, u32, u32, usize),
 #[test]
 fn takes_words(rt: HostRuntime) {
     let most = 8_388_608;
-    let cases: [(&[&str], (Mode, Sets, u32, u32, usize)); 9] = [
+    let cases: [(&[&str], (Mode, Sets, u32, u32, usize)); 12] = [
         (&["d"], (Mode::Labels, Sets::Cut, 60, most, 1)),
         (
             &["--as-sets=skip", "--", "d"],
@@ -48,6 +48,18 @@ fn takes_words(rt: HostRuntime) {
         ),
         (&["--", "--list"], (Mode::Labels, Sets::Cut, 60, most, 1)),
         (&["-", "", "help"], (Mode::Labels, Sets::Cut, 60, most, 3)),
+        (
+            &["--sample", "7"],
+            (Mode::Sample(7), Sets::Cut, 60, most, 0),
+        ),
+        (
+            &["--sample=18446744073709551615", "--ratio", "0"],
+            (Mode::Sample(u64::MAX), Sets::Cut, 0, most, 0),
+        ),
+        (
+            &["--max-paths", "9", "--sample", "0", "--as-sets", "skip"],
+            (Mode::Sample(0), Sets::Skip, 60, 9, 0),
+        ),
     ];
     for (words, settings) in &cases {
         assert_eq!(rt; asked(rt.alloc(), words), Ok(*settings));
@@ -56,7 +68,7 @@ fn takes_words(rt: HostRuntime) {
 
 #[test]
 fn refuses_words(rt: HostRuntime) {
-    let cases: [&[&str]; 18] = [
+    let cases: [&[&str]; 25] = [
         &[],
         &["--list"],
         &["--ratio", "60"],
@@ -75,6 +87,13 @@ fn refuses_words(rt: HostRuntime) {
         &["-x", "d"],
         &["--help"],
         &["--version", "d"],
+        &["--sample", "7", "d"],
+        &["--sample", "7", "--list"],
+        &["--sample", "7", "--list", "d"],
+        &["--sample"],
+        &["--sample", "-1"],
+        &["--sample", "18446744073709551616"],
+        &["--sample", "7", "--sample", "7"],
     ];
     for words in &cases {
         assert_eq!(rt; asked(rt.alloc(), words), Err(2));

@@ -6,7 +6,8 @@ use Rattle.tor_app.proofs.listing.put_path_and_end.Goals as goal
 
 pub returns-in_err-put_path-clause-prefix : goal.returns-in_err-put_path-clause-prefix
 returns-in_err-put_path-clause-prefix g c =
-    first_stops c.from_residual.result (g.O.Sink.held c.args.out.now) (g.O.Sink.held c.put_path.new.out) c.args.buffer.now (join_with_byte 32 (map decimal c.args.path.now)) (10 ∷ []) c.in_err-put_path.ensures.prefix
+    first_stops c.from_residual.result (g.O.Sink.held c.args.out.now) (g.O.Sink.held c.put_path.new.out) c.args.buffer.now
+    (join_with_byte 32 (map decimal c.args.path.now)) (10 ∷ []) c.in_err-put_path.ensures.prefix
 
 pub returns-clause-all : goal.returns-clause-all
 returns-clause-all g c =

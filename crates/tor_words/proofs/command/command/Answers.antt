@@ -14,4 +14,5 @@ returns c =
     let two = c.in_ok-arg-2.ensures.shape c.option-sets.ensures.local ∙ ap₂ with_rule one c.option-sets.ensures.rule in
     let three = c.in_ok-arg-3.ensures.shape c.number-ratio.ensures.local ∙ ap₂ with_rule two c.number-ratio.ensures.rule in
     let four = c.in_ok-arg-4.ensures.shape c.number-most.ensures.local ∙ ap₂ with_rule three c.number-most.ensures.rule in
-    IfOk-weaker c.arg-5.result _ _ (λ r h. h.shape c.rest-dumps.ensures.local ∙ ap₂ with_rule four c.rest-dumps.ensures.rule) c.arg-5.ensures
+    let five = c.in_ok-arg-5.ensures.shape c.number-sample.ensures.local ∙ ap₂ with_rule four c.number-sample.ensures.rule in
+    IfOk-weaker c.arg-6.result _ _ (λ r h. h.shape c.rest-dumps.ensures.local ∙ ap₂ with_rule five c.rest-dumps.ensures.rule) c.arg-6.ensures
