@@ -16,7 +16,7 @@ use Rattle.rel_checker.proofs.Gets.{take_get}
 count-cons : {X : Type 0} (p : X → Bool) (x : X) (xs : List X) → count_by p (x ∷ xs) ≡ cond (p x) 1 0 + count_by p xs
 count-cons p x xs = sum_by-cons (λ y. cond (p y) 1 0) x xs
 
-count-map : {X Y : Type 0} (f : X → Y) (p : Y → Bool) (xs : List X) → count_by (λ x. p (f x)) xs ≡ count_by p (map f xs)
+pub count-map : {X Y : Type 0} (f : X → Y) (p : Y → Bool) (xs : List X) → count_by (λ x. p (f x)) xs ≡ count_by p (map f xs)
 count-map f p [] = refl
 count-map f p (x ∷ xs) = count-cons (λ x. p (f x)) x xs ∙ ap (λ n. cond (p (f x)) 1 0 + n) (count-map f p xs) ∙ sym (count-cons p (f x) (map f xs))
 

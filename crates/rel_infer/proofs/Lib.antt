@@ -5,3 +5,4 @@ pub mod Whole
 pub mod KeptPlaces
 pub mod Labels
 pub mod LineLemmas
+pub mod OneResult

@@ -4,3 +4,4 @@ pub mod Inference
 pub mod Peers
 pub mod Results
 pub mod Totals
+pub mod OneResult

@@ -5,9 +5,11 @@ mod edge_lines;
 mod finding;
 mod inferring;
 mod labelling;
+mod laws;
 mod result;
 mod totals;
 
+pub use laws::{one_inference_law, one_result_law};
 pub use result::result_of;
 
 #[cfg(test)]
