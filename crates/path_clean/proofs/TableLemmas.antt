@@ -1,6 +1,6 @@
 -- A table of paths with their times, when a path is added.
-use Rattle.std.proofs.Common.{◌≡◌, ◌≢◌, ℕ, zero, suc, ◌+◌, ◌^◌, ◌<◌, ◌≤◌, Bool, true, false, not, cond, ◌&&◌, ◌||◌, leb, List, [], ◌∷◌, ◌++◌, length, get_or, set, slice_get, Some, None, option_map, bytes_eq, All, refl, sym, ap, ap₂, ◌∙◌, arith, length-append}
-use Rattle.std.specs.Prelude.{sum_by, nat_le}
+use Rattle.std.proofs.Common.{◌≡◌, ◌≢◌, ℕ, zero, suc, ◌+◌, ◌^◌, ◌<◌, ◌≤◌, Bool, true, false, not, cond, Option, IfSome, ◌&&◌, ◌||◌, leb, List, [], ◌∷◌, ◌++◌, length, get_or, set, slice_get, Some, None, option_map, bytes_eq, All, refl, sym, ap, ap₂, ◌∙◌, arith, length-append}
+use Rattle.std.specs.Prelude.{sum_by, nat_le, IfNone}
 use Rattle.std.specs.List.{list_any, list_all}
 use Rattle.std.proofs.lemmas.Bool.{both_ways, le-leb, leb-true, and_parts}
 use Rattle.std.proofs.lemmas.Slice.Eq.{bytes_eq-Decides}
@@ -11,7 +11,7 @@ use Rattle.std.proofs.lemmas.List.Sums.{sum_by-append, sum_by-cons}
 use Rattle.path_clean.specs.Paths.{is_cleaned}
 use Rattle.path_clean.specs.Counts.{one_more}
 use Rattle.path_clean.specs.Chains.{row_at}
-use Rattle.path_clean.specs.Rows.{Counted, paths_of, times_of, numbers_in, none_twice}
+use Rattle.path_clean.specs.Rows.{Counted, Table, paths_of, times_of, numbers_in, none_twice}
 use Rattle.path_clean.specs.Inside.{counted_by, IsTable}
 use Rattle.path_clean.specs.Table.{place_of, with_path}
 
@@ -140,6 +140,36 @@ IsTable-again limit numbers paths times k t = record {
   some = some-again times k t.some;
 }
 
+-- the row of the place where a path stands is that path
+pub record IsThere (paths : List (List ℕ)) (path : List ℕ) (k : ℕ) : Type 0 where
+  pub within : k < length paths
+  pub row : row_at paths k ≡ path
+
+pub there-at : (paths : List (List ℕ)) (times path : List ℕ) (k : ℕ) → length times ≡ length paths → place_of (counted_by paths times) path ≡ Some k → IsThere paths path k
+there-at [] times path k same is = absurd cc
+there-at (x ∷ xs) [] path k same is = absurd (omega (arith, same))
+there-at (x ∷ xs) (n ∷ ns) path k same is = by (bytes_eq x path) refl (place_of (counted_by xs ns) path) k is (λ j. there-at xs ns path j (omega (arith, same)))
+  where
+    by : (b : Bool) → bytes_eq x path ≡ b → (o : Option ℕ) → (k : ℕ) → cond b (Some 0) (option_map suc o) ≡ Some k
+        → ((j : ℕ) → o ≡ Some j → IsThere xs path j) → IsThere (x ∷ xs) path k
+    by true e o zero is ih = record { within = omega arith; row = eq_true x path e }
+    by true e o (suc j) is ih = absurd cc
+    by false e None k is ih = absurd cc
+    by false e (Some j) zero is ih = absurd cc
+    by false e (Some j) (suc k) is ih = let same : j ≡ k = cc in let one = ih k (ap (λ n. Some n) same) in record { within = let lt = one.within in omega (arith, lt); row = one.row }
+
+-- a path that has a place stands among the rows
+pub found-within : (rows : List Counted) (path : List ℕ) (k : ℕ) → place_of rows path ≡ Some k → k < length rows
+found-within [] path k is = absurd cc
+found-within (row ∷ others) path k is = by (bytes_eq row.path path) (place_of others path) k is (λ j. found-within others path j)
+  where
+    by : (b : Bool) (o : Option ℕ) (k : ℕ) → cond b (Some 0) (option_map suc o) ≡ Some k → ((j : ℕ) → o ≡ Some j → j < length others) → k < suc (length others)
+    by true o zero is ih = omega arith
+    by true o (suc k) is ih = absurd cc
+    by false None k is ih = absurd cc
+    by false (Some j) zero is ih = absurd cc
+    by false (Some j) (suc k) is ih = let same : j ≡ k = cc in let one = ih k (ap (λ n. Some n) same) in omega (arith, one)
+
 -- a path that is new
 
 pub record IsLast (paths : List (List ℕ)) (times path : List ℕ) : Type 0 where
@@ -160,6 +190,26 @@ last-at (x ∷ xs) (n ∷ ns) path same none = by (λ h. last-at xs ns path (ome
       rows = ap (λ (t : List Counted). record { path = x; times = n } ∷ t) (ih h).rows
           ∙ sym (ap (λ b. cond b (record { path = x; times = one_more n } ∷ counted_by xs ns) (record { path = x; times = n } ∷ with_path (counted_by xs ns) path)) e);
     }
+
+-- what was found is where the path stands
+pub found-at : (paths : List (List ℕ)) (times path : List ℕ) (found : Option ℕ) → length times ≡ length paths → none_twice paths ≡ true
+    → IfSome found (λ k. (k < length paths) × (row_at paths k ≡ path)) → IfNone found ((k : ℕ) → k < length paths → row_at paths k ≢ path)
+    → found ≡ place_of (counted_by paths times) path
+found-at paths times path (Some k) same once is absent = sym (again-at paths times path k same once is.0 is.1).place
+found-at paths times path None same once is absent = sym (last-at paths times path same (none-any paths path absent)).place
+
+-- a path that has no place is none of the paths
+pub absent-at : (paths : List (List ℕ)) (times path : List ℕ) → length times ≡ length paths → place_of (counted_by paths times) path ≡ None
+    → list_any (λ other. bytes_eq other path) paths ≡ false
+absent-at [] times path same is = refl
+absent-at (x ∷ xs) [] path same is = absurd (omega (arith, same))
+absent-at (x ∷ xs) (n ∷ ns) path same is = by (bytes_eq x path) (place_of (counted_by xs ns) path) is (absent-at xs ns path (omega (arith, same)))
+  where
+    by : (b : Bool) (o : Option ℕ) → cond b (Some 0) (option_map suc o) ≡ None → (o ≡ None → list_any (λ other. bytes_eq other path) xs ≡ false)
+        → (b || list_any (λ other. bytes_eq other path) xs) ≡ false
+    by true o is ih = absurd cc
+    by false None is ih = ih refl
+    by false (Some k) is ih = absurd cc
 
 any-append : (paths : List (List ℕ)) (p x : List ℕ) → list_any (λ other. bytes_eq other x) (paths ++ p ∷ []) ≡ (list_any (λ other. bytes_eq other x) paths || bytes_eq p x)
 any-append [] p x = or-false (bytes_eq p x)
@@ -200,3 +250,21 @@ IsTable-push limit numbers paths times path t room short clean none =
       once = once-push paths path t.once none;
       some = list_all-append (nat_le 1) times (1 ∷ []) ∙ ap (λ a. a && true) t.some;
     }
+
+-- how many rows, numbers and rows at most a table is seen to have, beside what it holds
+pub record IsSeen (limit numbers many : ℕ) (table : Table) : Type 0 where
+  pub rows : length table.rows ≡ many
+  pub sum : numbers_in table.rows ≡ numbers
+  pub limit_is : table.limit ≡ limit
+  pub few : many ≤ limit
+  pub short : numbers ≤ 2 ^ 26
+
+pub seen_as : (limit numbers : ℕ) (paths : List (List ℕ)) (times : List ℕ) (table : Table) → IsTable limit numbers paths times
+    → record { limit = limit; rows = counted_by paths times } ≡ table → IsSeen limit numbers (length times) table
+seen_as limit numbers paths times table inside is = record {
+  rows = ap (λ (t : Table). length t.rows) (sym is) ∙ length-counted_by paths times inside.same ∙ sym inside.same;
+  sum = ap (λ (t : Table). numbers_in t.rows) (sym is) ∙ numbers_in-counted_by paths times inside.same ∙ sym inside.sum;
+  limit_is = ap (λ (t : Table). t.limit) (sym is);
+  few = let few = inside.few in let same = inside.same in omega (arith, few, same);
+  short = inside.short;
+}

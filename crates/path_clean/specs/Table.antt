@@ -23,6 +23,10 @@ abbrev pub Names : List Counted → List ℕ → Added → Type 0
 Names rows path (Known id) = place_of rows path ≡ Some id
 Names rows path (New id) = (place_of rows path ≡ None) × (id ≡ length rows)
 
+-- the path of this place counts once more
+abbrev pub IsCounted : ℕ → (old new : List Counted) → Type 0
+IsCounted id old new = (path : List ℕ) → place_of old path ≡ Some id → new ≡ with_path old path
+
 -- the path is new, and as many are there as may be
 abbrev pub IsPathTooMany : Table → List ℕ → Type 0
 IsPathTooMany table path = (place_of table.rows path ≡ None) × (length table.rows ≡ table.limit)

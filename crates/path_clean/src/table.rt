@@ -1,10 +1,10 @@
-ghost use Rattle.std.specs.Prelude.{◌≡◌, ◌+◌, ◌<◌, ◌≤◌, ◌↔◌, [], All, length, option_map, slice_get, sum_by, IsTrue, IsSome, IsNone, IsOk, IfOk, OnOk, OnErr};
+ghost use Rattle.std.specs.Prelude.{◌≡◌, ◌+◌, ◌<◌, ◌≤◌, ◌↔◌, [], All, None, length, option_map, slice_get, sum_by, IsTrue, IsSome, IsOk, IfOk, OnOk, OnErr};
 ghost use Rattle.std.specs.List.{list_all};
 ghost use Rattle.tor_arena.specs.Distinct.{AllDistinct};
 ghost use Rattle.path_clean.specs.Limits.{max_paths, max_numbers};
 ghost use Rattle.path_clean.specs.Paths.{is_cleaned};
 ghost use Rattle.path_clean.specs.Rows.{paths_of, times_of, numbers_in, none_twice};
-ghost use Rattle.path_clean.specs.Table.{place_of, with_path, Names, IsPathTooMany, HasNumbersTooMany};
+ghost use Rattle.path_clean.specs.Table.{place_of, with_path, Names, IsCounted, IsPathTooMany, HasNumbersTooMany};
 
 use crate::distinct_rows::IndexedPaths;
 use std::alloc::Global;
@@ -75,6 +75,23 @@ impl PathTable {
         }
     }
 
+    /// Where a path stands, if it is there. It takes no memory.
+    pub fn find(&self, path: &[u32]) -> Option<PathId>
+        ensures { result ≡ place_of self.now.rows path.now }
+    {
+        self.paths.find(path)
+    }
+
+    /// Counts the path of an index, which has to be there, once more: it gains one in its times, up to 2^64 - 1. It takes no memory.
+    pub fn count(&mut self, id: PathId)
+        requires there { id < length self.old.rows }
+        ensures counted { IsCounted id self.old.rows self.new.rows }
+        ensures limit { self.new.limit ≡ self.old.limit }
+    {
+        let times = &mut self.counts[id.place()];
+        *times = times.saturating_add(1);
+    }
+
     /// Adds a clean path. A known one gains one in its times, up to 2^64 - 1, takes no memory and is never refused. A new one goes
     /// last with times 1. TooManyPaths exactly where it is new and as many paths are there as may be. TooManyNumbers exactly where
     /// it is new, fewer are there, and the lengths would sum above 2^26. NoMemory where memory ran out. All three leave the table
@@ -89,11 +106,26 @@ impl PathTable {
         ensures limit { self.new.limit ≡ self.old.limit }
         ensures unchanged { OnErr result (self.new.rows ≡ self.old.rows) }
     {
-        if let Some(id) = self.paths.find(path) {
-            let times = &mut self.counts[id.place()];
-            *times = times.saturating_add(1);
-            return Ok(Added::Known(id));
+        match self.find(path) {
+            Some(id) => {
+                self.count(id);
+                Ok(Added::Known(id))
+            }
+            None => Ok(Added::New(self.push(path)?)),
         }
+    }
+
+    // Adds a path that is not there.
+    fn push(&mut self, path: &[u32]) -> Result<PathId, AddRefused>
+        requires clean { IsTrue (is_cleaned path.now) }
+        requires new { place_of self.old.rows path.now ≡ None }
+        ensures added { OnOk result (self.new.rows ≡ with_path self.old.rows path.now) }
+        ensures last { IfOk result (λ id. id ≡ length self.old.rows) }
+        ensures paths { (result ≡ Err AddRefused.TooManyPaths) ↔ IsPathTooMany self.old path.now }
+        ensures numbers { (result ≡ Err AddRefused.TooManyNumbers) ↔ HasNumbersTooMany self.old path.now }
+        ensures limit { self.new.limit ≡ self.old.limit }
+        ensures unchanged { OnErr result (self.new.rows ≡ self.old.rows) }
+    {
         if self.counts.len() == self.max_paths as usize {
             return Err(AddRefused::TooManyPaths);
         }
@@ -108,7 +140,7 @@ impl PathTable {
         };
         self.counts.push_reserved(1);
         self.numbers += path.len();
-        Ok(Added::New(id))
+        Ok(id)
     }
 
     /// The paths in order: each is clean, so it has at least two ASes, all distinct; no two are the same, and they are at most
