@@ -1,2 +1,3 @@
 pub mod Takings
 pub mod Goings
+pub mod BatchLemmas

@@ -5,7 +5,6 @@ use Rattle.std.proofs.Math.Seq.{take-append_seam}
 use Rattle.path_attrs.specs.Fields.{◌>>=◌}
 use Rattle.path_clean.specs.declared.cleaned.Sets.{Sets}
 use Rattle.dump_read.specs.declared.error.LimitKind.{LimitKind}
-use Rattle.path_attrs.specs.Attributes.{Attribute}
 use Rattle.path_attrs.specs.declared.fault.RibFault.{RibFault}
 use Rattle.dump_read.specs.declared.records.Unread.TheVariants as unread
 use Rattle.rib_v2.specs.PeerTable.{peers_of}
@@ -13,9 +12,7 @@ use Rattle.rib_v2.specs.declared.peer_table.Peers.{Peers}
 use Rattle.mrt_frame.specs.Kinds.{kind_of}
 use Rattle.mrt_frame.specs.declared.record_kind.RecordKind.TheVariants.{PeerTable}
 use Rattle.mrt_frame.specs.Records.{Record}
-use Rattle.dump_read.specs.Routes.{Route, of_entries, of_table_dump, of_table_dump_read, of_rib_read, of_peer_table_read, routes_in, routes_of}
-use Rattle.rib_v2.specs.declared.rib.Entry.{Entry}
-use Rattle.path_attrs.specs.declared.as_path.Width.TheVariants.{Two}
+use Rattle.dump_read.specs.Routes.{Route, of_peer_table_read, routes_in, routes_of}
 use Rattle.dump_read.specs.declared.taking.Untaken.{Untaken}
 use Rattle.dump_read.specs.declared.taking.Untaken.TheVariants as untaken
 use Rattle.dump_read.specs.Refusals.{IsLimit, IsUnread, TakesRead, TakesSomeRead}
@@ -94,32 +91,18 @@ some_taken sets old mid new all left so_far same = (
 
 -- ---- a record
 
-pub unread_route : (sets : Sets) (old : Taken) (read : Result (List Attribute) RibFault) (attrs : List Attribute) (why : Untaken) → Ok attrs ≡ read
-    → IsLimit (take_route sets old (record { attrs = attrs; width = Two })) why → IsUnread sets old (of_table_dump_read read) (unread.Untaken why)
-unread_route sets old read attrs (untaken.Limit kind) is one =
-    (of_table_dump attrs, ap of_table_dump_read (sym is), one_route sets old (record { attrs = attrs; width = Two }) ∙ one)
-unread_route sets old read attrs untaken.NoMemory is one = tt
+-- routes were read, and what became of them
+pub unread_routes : (sets : Sets) (old : Taken) (read : Result (List Route) RibFault) (routes : List Route) (why : Untaken) → Ok routes ≡ read
+    → IsLimit (take_routes sets old routes) why → IsUnread sets old read (unread.Untaken why)
+unread_routes sets old read routes (untaken.Limit kind) is all = (routes, sym is, all)
+unread_routes sets old read routes untaken.NoMemory is all = tt
 
-pub no_route : (sets : Sets) (old new : Taken) (read : Result (List Attribute) RibFault) (attrs : List Attribute) → Ok attrs ≡ read → new ≡ old → TakesSomeRead sets old (of_table_dump_read read) new
-no_route sets old new read attrs is same =
-    subst (λ (x : Result (List Attribute) RibFault). TakesSomeRead sets old (of_table_dump_read x) new) is (0, omega arith, no_entry sets old ∙ ap (λ (t : Taken). Ok t) (sym same))
+pub some_of : (sets : Sets) (old new : Taken) (read : Result (List Route) RibFault) (routes : List Route) → Ok routes ≡ read → TakesSome sets old routes new → TakesSomeRead sets old read new
+some_of sets old new read routes is some = subst (λ (x : Result (List Route) RibFault). TakesSomeRead sets old x new) is some
 
-pub route_taken : (sets : Sets) (old new : Taken) (read : Result (List Attribute) RibFault) (attrs : List Attribute) → Ok attrs ≡ read
-    → take_route sets old (record { attrs = attrs; width = Two }) ≡ Ok new → TakesRead sets old (of_table_dump_read read) new
-route_taken sets old new read attrs is one = (of_table_dump attrs, ap of_table_dump_read (sym is), one_route sets old (record { attrs = attrs; width = Two }) ∙ one)
-
-pub unread_entries : (sets : Sets) (old : Taken) (read : Result (List Entry) RibFault) (entries : List Entry) (why : Untaken) → read ≡ Ok entries
-    → IsLimit (take_routes sets old (of_entries entries)) why → IsUnread sets old (of_rib_read read) (unread.Untaken why)
-unread_entries sets old read entries (untaken.Limit kind) is all = (of_entries entries, ap of_rib_read is, all)
-unread_entries sets old read entries untaken.NoMemory is all = tt
-
-pub some_read : (sets : Sets) (old new : Taken) (read : Result (List Entry) RibFault) (entries : List Entry) → read ≡ Ok entries → TakesSome sets old (of_entries entries) new
-    → TakesSomeRead sets old (of_rib_read read) new
-some_read sets old new read entries is some = subst (λ (x : Result (List Entry) RibFault). TakesSomeRead sets old (of_rib_read x) new) (sym is) some
-
-pub none_read : (sets : Sets) (old new : Taken) (read : Result (List Entry) RibFault) → new ≡ old → TakesSomeRead sets old (of_rib_read read) new
-none_read sets old new (Ok entries) same = (0, omega arith, no_entry sets old ∙ ap (λ (t : Taken). Ok t) (sym same))
-none_read sets old new (Err fault) same = same
+pub none_of : (sets : Sets) (old new : Taken) (read : Result (List Route) RibFault) → new ≡ old → TakesSomeRead sets old read new
+none_of sets old new (Ok routes) same = (0, omega arith, no_entry sets old ∙ ap (λ (t : Taken). Ok t) (sym same))
+none_of sets old new (Err fault) same = same
 
 -- the kind of a record is known, and with it what its body gives
 

@@ -3,3 +3,4 @@ pub mod Reading
 pub mod Taking
 pub mod Seen
 pub mod Refusals
+pub mod Batches

@@ -1,6 +1,7 @@
 //! One dump: its records, their routes, and what of them is taken in.
 #![tactic(auto)]
 
+mod batch;
 mod error;
 mod reading;
 mod records;

@@ -7,13 +7,13 @@ ghost use Rattle.dump_read.specs.Taking.{TakesSome};
 ghost use Rattle.dump_read.specs.Seen.{of_octets, of_file, end_named};
 ghost use Rattle.dump_read.specs.Refusals.{of_frame, of_unread, IsOfDump};
 
+use crate::batch::Batch;
 use crate::error::{DumpError, Fault, LimitKind, Place};
 use crate::records::{Unread, take_record};
 use crate::taking::{Taken, Untaken};
 use mrt_frame::{At, FrameError, Frames};
 use path_clean::Sets;
 use std::alloc::Global;
-use tor_arena::List;
 use tor_io::{OpenRefused, Shelf};
 
 // The error that an error of the records is.
@@ -66,7 +66,7 @@ fn read_records<H: Shelf>(
     ensures steady_reads { H.steady shelf.old → result ≢ Err DumpError.ReadFault }
 {
     let mut peers = None;
-    let mut path = List::new(alloc);
+    let mut batch = Batch::new(alloc);
     let mut frames = Frames::over(alloc, shelf);
     'records: loop {
         let found = match frames.next() {
@@ -74,7 +74,7 @@ fn read_records<H: Shelf>(
             Ok(None) => return Ok(()),
             Err(error) => return Err(of_frame(dump, error)),
         };
-        match take_record(alloc, sets, &found, peers, &mut path, taken) {
+        match take_record(alloc, sets, &found, peers, &mut batch, taken) {
             Ok(behind) => peers = behind,
             Err(unread) => return Err(of_unread(dump, found.at, unread)),
         }

@@ -1,17 +1,18 @@
-ghost use Rattle.std.specs.Prelude.{◌≡◌, ◌⊎◌, Ok, OnOk, OnErr, IfOk, IfErr};
+ghost use Rattle.std.specs.Prelude.{◌≡◌, ◌⊎◌, [], OnOk, OnErr, IfOk, IfErr};
 ghost use Rattle.mrt_frame.specs.Steps.{seen};
-ghost use Rattle.dump_read.specs.Routes.{of_entries, routes_in_table_dump, routes_in_rib, routes_of, peers_behind};
-ghost use Rattle.dump_read.specs.Taking.{take_routes, Takes, TakesSome};
-ghost use Rattle.dump_read.specs.Refusals.{count_of, IsLimit, IsUnread, TakesRead, TakesSomeRead};
+ghost use Rattle.dump_read.specs.Routes.{of_entries, of_table_dump, routes_in_table_dump, routes_in_rib, routes_of, peers_behind};
+ghost use Rattle.dump_read.specs.Batches.{AreOf};
+ghost use Rattle.dump_read.specs.Refusals.{count_of, IsUnread, TakesRead, TakesSomeRead};
 
-use crate::taking::{Taken, Untaken, take};
+use crate::batch::{Batch, take_batch};
+use crate::taking::{Taken, Untaken};
 use mrt_frame::{Record, RecordKind};
-use path_attrs::{RibFault, Width};
+use path_attrs::{Attrs, RibFault, Width};
 use path_clean::Sets;
 use rib_v1::read_v1;
 use rib_v2::{EntryCursor, Peers, read_peers};
 use std::alloc::Global;
-use tor_arena::List;
+use tor_arena::NoMemory;
 
 /// Why a record was not taken in.
 #[derive(Clone, Copy, Debug, PartialEq, Eq)]
@@ -31,6 +32,18 @@ impl From<RibFault> for Unread {
     }
 }
 
+impl From<NoMemory> for Unread {
+    ghost use Rattle.std.specs.Prelude.{◌≡◌};
+    ghost use Rattle.dump_read.specs.declared.records.Unread.{Unread};
+    ghost use Rattle.dump_read.specs.declared.taking.Untaken.{Untaken};
+
+    ghost from_gives = { λ _ e. e ≡ Unread.Untaken Untaken.NoMemory };
+
+    fn from(_: NoMemory) -> Unread {
+        Unread::Untaken(Untaken::NoMemory)
+    }
+}
+
 impl From<Untaken> for Unread {
     ghost use Rattle.std.specs.Prelude.{◌≡◌};
     ghost use Rattle.dump_read.specs.declared.records.Unread.{Unread};
@@ -42,23 +55,36 @@ impl From<Untaken> for Unread {
     }
 }
 
-// Takes in the routes of entries, in order.
-fn take_entries(
+// Cleans the routes of entries, in order.
+fn clean_entries(
     alloc: Global,
     sets: Sets,
     entries: EntryCursor<'_>,
-    path: &mut List<u32>,
-    taken: &mut Taken,
-) -> Result<(), Untaken>
-    ensures taken { OnOk result (Takes sets taken.old (of_entries entries.entry) taken.new) }
-    ensures limit { IfErr result (IsLimit (take_routes sets taken.old (of_entries entries.entry))) }
-    ensures some { OnErr result (TakesSome sets taken.old (of_entries entries.entry) taken.new) }
+    batch: &mut Batch,
+) -> Result<(), NoMemory>
+    ensures routes { OnOk result (AreOf sets (of_entries entries.entry) batch.new) }
+    ensures places { OnOk result (batch.new.places ≡ []) }
 {
+    batch.clear();
     let mut left = entries;
     'entries: while let Some(entry) = left.next() {
-        take(alloc, sets, Width::Four, &entry.attrs, path, taken)?;
+        batch.clean(alloc, sets, Width::Four, &entry.attrs)?;
     }
     Ok(())
+}
+
+// Cleans the one route of a TABLE_DUMP record.
+fn clean_alone(
+    alloc: Global,
+    sets: Sets,
+    attrs: &Attrs<'_>,
+    batch: &mut Batch,
+) -> Result<(), NoMemory>
+    ensures routes { OnOk result (AreOf sets (of_table_dump attrs.now) batch.new) }
+    ensures places { OnOk result (batch.new.places ≡ []) }
+{
+    batch.clear();
+    batch.clean(alloc, sets, Width::Two, attrs)
 }
 
 // Takes in the route of a TABLE_DUMP record.
@@ -66,7 +92,7 @@ fn take_table_dump(
     alloc: Global,
     sets: Sets,
     found: &Record<'_>,
-    path: &mut List<u32>,
+    batch: &mut Batch,
     taken: &mut Taken,
 ) -> Result<(), Unread>
     requires { (found.now.subtype ≡ 1) ⊎ (found.now.subtype ≡ 2) }
@@ -75,7 +101,8 @@ fn take_table_dump(
     ensures some { OnErr result (TakesSomeRead sets taken.old (routes_in_table_dump found.now.subtype found.now.body.now) taken.new) }
 {
     let attrs = read_v1(found.subtype, found.body)?;
-    take(alloc, sets, Width::Two, &attrs, path, taken)?;
+    clean_alone(alloc, sets, &attrs, batch)?;
+    take_batch(batch, taken)?;
     Ok(())
 }
 
@@ -85,7 +112,7 @@ fn take_rib(
     sets: Sets,
     found: &Record<'_>,
     peers: Option<Peers>,
-    path: &mut List<u32>,
+    batch: &mut Batch,
     taken: &mut Taken,
 ) -> Result<(), Unread>
     requires { (found.now.subtype ≡ 2) ⊎ (found.now.subtype ≡ 4) }
@@ -95,17 +122,18 @@ fn take_rib(
         taken.new) }
 {
     let entries = EntryCursor::over(found.subtype, peers.as_ref(), found.body)?;
-    take_entries(alloc, sets, entries, path, taken)?;
+    clean_entries(alloc, sets, entries, batch)?;
+    take_batch(batch, taken)?;
     Ok(())
 }
 
-/// Takes in the routes of a record, whose paths are made in `path`, and answers the last peer table behind it.
+/// Takes in the routes of a record, which are cleaned into the batch, and answers the last peer table behind it.
 pub(crate) fn take_record(
     alloc: Global,
     sets: Sets,
     found: &Record<'_>,
     peers: Option<Peers>,
-    path: &mut List<u32>,
+    batch: &mut Batch,
     taken: &mut Taken,
 ) -> Result<Option<Peers>, Unread>
     ensures peers { IfOk result (λ after. count_of after ≡ peers_behind (count_of peers) (seen found.now)) }
@@ -115,12 +143,12 @@ pub(crate) fn take_record(
 {
     match RecordKind::of(found.kind, found.subtype) {
         Some(RecordKind::TableDump) => {
-            take_table_dump(alloc, sets, found, path, taken)?;
+            take_table_dump(alloc, sets, found, batch, taken)?;
             Ok(peers)
         }
         Some(RecordKind::PeerTable) => Ok(Some(read_peers(found.body)?)),
         Some(RecordKind::Rib) => {
-            take_rib(alloc, sets, found, peers, path, taken)?;
+            take_rib(alloc, sets, found, peers, batch, taken)?;
             Ok(peers)
         }
         None => Ok(peers),

@@ -1,12 +1,12 @@
-ghost use Rattle.std.specs.Prelude.{◌≡◌, Ok, Err, OnOk, OnErr, IfErr};
-ghost use Rattle.dump_read.specs.Taking.{take_route};
+ghost use Rattle.std.specs.Prelude.{◌≡◌, ◌<◌, ℕ, List, Some, Ok, OnOk, OnErr, IfErr, IsTrue, length};
+ghost use Rattle.path_clean.specs.Paths.{is_cleaned};
+ghost use Rattle.path_clean.specs.Table.{place_of};
+ghost use Rattle.dump_read.specs.Taking.{take_path as path_taken};
 ghost use Rattle.dump_read.specs.Refusals.{IsLimit};
 
 use crate::error::LimitKind;
-use path_attrs::{Attrs, Width};
-use path_clean::{AddRefused, Asides, PathTable, Sets, clean_into};
-use std::alloc::Global;
-use tor_arena::{List, NoMemory};
+use path_clean::{AddRefused, Asides, PathTable};
+use tor_arena::{NoMemory, PathId};
 
 /// What is taken in of dumps: the distinct paths with their times, and how many routes are set aside for each cause.
 #[derive(Drop)]
@@ -48,24 +48,21 @@ impl From<AddRefused> for Untaken {
     }
 }
 
-/// Takes in one route, whose path is made in `path`. A route that isn't taken changes nothing.
-pub(crate) fn take(
-    alloc: Global,
-    sets: Sets,
-    width: Width,
-    attrs: &Attrs<'_>,
-    path: &mut List<u32>,
-    taken: &mut Taken,
-) -> Result<(), Untaken>
-    ensures taken { OnOk result (take_route sets taken.old (record { attrs = attrs.now; width = width }) ≡ Ok taken.new) }
-    ensures limit { IfErr result (IsLimit (take_route sets taken.old (record { attrs = attrs.now; width = width }))) }
+/// Counts a clean path, and adds it if it is new. One that isn't taken changes nothing.
+pub(crate) fn take_path(taken: &mut Taken, path: &[u32]) -> Result<(), Untaken>
+    requires { IsTrue (is_cleaned path.now) }
+    ensures taken { OnOk result (path_taken taken.old path.now ≡ Ok taken.new) }
+    ensures limit { IfErr result (IsLimit (path_taken taken.old path.now)) }
     ensures unchanged { OnErr result (taken.new ≡ taken.old) }
 {
-    match clean_into(alloc, sets, attrs, width, path)? {
-        None => {
-            taken.table.add(path.as_slice())?;
-        }
-        Some(cause) => taken.counts.add(cause),
-    }
+    taken.table.add(path)?;
     Ok(())
+}
+
+/// Counts the path that stands at this place in the table.
+pub(crate) fn take_again(taken: &mut Taken, id: PathId)
+    requires there { id < length taken.old.table.rows }
+    ensures { (path : List ℕ) → place_of taken.old.table.rows path ≡ Some id → path_taken taken.old path ≡ Ok taken.new }
+{
+    taken.table.count(id);
 }

@@ -1,8 +1,7 @@
-use Rattle.std.proofs.Common.{◌≡◌, ◌≢◌, ◌∙◌, ◌+◌, ◌<◌, ◌≤◌, ◌^◌, ◌∷◌, ◌++◌, [], None, length, refl, ap, ap₂, sym, subst, arith}
-use Rattle.path_clean.specs.Rows.{numbers_in}
+use Rattle.std.proofs.Common.{◌≡◌, ◌∙◌, ◌+◌, ◌<◌, ◌≤◌, ◌^◌, ◌∷◌, ◌++◌, [], None, length, refl, ap, ap₂, sym, subst, arith}
 use Rattle.path_clean.specs.Inside.{counted_by, IsTable}
 use Rattle.path_clean.specs.Table.{place_of, with_path}
-use Rattle.path_clean.proofs.TableLemmas.{IsLast, last-at, none-any, absent-at, IsTable-push, seen_as}
+use Rattle.path_clean.proofs.TableLemmas.{IsLast, last-at, absent-at, IsTable-push, seen_as}
 use Rattle.path_clean.proofs.table.PathTable.push.Goals as goal
 
 pub returns-then-len-self-clause-paths : goal.returns-then-len-self-clause-paths

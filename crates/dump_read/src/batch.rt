@@ -1,0 +1,178 @@
+ghost use Rattle.std.specs.Prelude.{◌≡◌, ◌++◌, ◌∷◌, ◌<◌, ◌≤◌, [], length, map, slice_get, Some, IfSome, OnOk, OnErr, IfErr};
+ghost use Rattle.path_clean.specs.Clean.{clean_of};
+ghost use Rattle.path_clean.specs.Table.{place_of};
+ghost use Rattle.dump_read.specs.Batches.{AreFound, TakesAt, IsLimitAt, TakesBatch, IsBatchLimit, TakesSomeOfBatch};
+
+use crate::taking::{Taken, Untaken, take_again, take_path};
+use path_attrs::{Attrs, Width};
+use path_clean::{Cause, PathTable, Sets, clean_into};
+use std::alloc::Global;
+use std::marker::Model;
+use tor_arena::{Index, List, NoMemory, PathId, Rows};
+
+/// The routes of one record, each cleaned before the first of them is taken in. Their paths are looked up one right after the other,
+/// so that the waits for memory of these look-ups overlap.
+#[derive(Drop)]
+pub(crate) struct Batch {
+    // of each route the cause for which it is set aside
+    causes: Vec<Option<Cause>>,
+    // of each route its path
+    paths: Rows<PathId, u32>,
+    // of the first routes where their paths stood in the table
+    places: List<Option<PathId>>,
+    // the path of the route that is being cleaned
+    path: List<u32>,
+}
+
+impl Model for Batch {
+    ghost use Rattle.dump_read.specs.Batches.{Batched, cleaned_by, IsBatch};
+
+    ghost Value = { Batched };
+
+    ghost view = { λ batch. record { routes = cleaned_by batch.causes.items batch.paths; places = batch.places } };
+
+    ghost invariant = { λ batch. IsBatch batch.causes.items batch.paths };
+}
+
+impl Batch {
+    /// No routes. It takes no memory.
+    pub fn new(alloc: Global) -> Batch
+        ensures routes { result.routes ≡ [] }
+    {
+        Batch {
+            causes: Vec::new(alloc),
+            paths: Rows::new(alloc),
+            places: List::new(alloc),
+            path: List::new(alloc),
+        }
+    }
+
+    /// No routes again. It takes no memory.
+    pub fn clear(&mut self)
+        ensures routes { self.new.routes ≡ [] }
+        ensures places { self.new.places ≡ [] }
+    {
+        self.causes.clear();
+        self.paths.cut_to(0);
+        self.places.clear();
+    }
+
+    /// How many routes there are. It takes no memory.
+    pub fn len(&self) -> usize
+        ensures { result ≡ length self.now.routes }
+    {
+        self.causes.len()
+    }
+
+    /// Adds a route, cleaned.
+    pub fn clean(
+        &mut self,
+        alloc: Global,
+        sets: Sets,
+        width: Width,
+        attrs: &Attrs<'_>,
+    ) -> Result<(), NoMemory>
+        ensures routes { OnOk result (self.new.routes ≡ self.old.routes ++ clean_of sets width attrs.now ∷ []) }
+        ensures places { self.new.places ≡ self.old.places }
+    {
+        let cause = clean_into(alloc, sets, attrs, width, &mut self.path)?;
+        self.causes.reserve(1)?;
+        let Ok(_) = self.paths.push_row(self.path.as_slice()) else {
+            return Err(NoMemory);
+        };
+        self.causes.push_reserved(cause);
+        Ok(())
+    }
+
+    /// Looks the paths of all routes up. There is nothing to gain for a single one.
+    pub fn look_up(&mut self, table: &PathTable) -> Result<(), NoMemory>
+        requires none { self.old.places ≡ [] }
+        ensures routes { self.new.routes ≡ self.old.routes }
+        ensures found { OnOk result (AreFound table.now.rows self.new) }
+    {
+        if self.len() < 2 {
+            return Ok(());
+        }
+        find_each(table, &self.paths, &mut self.places)
+    }
+
+    /// Takes in one of the routes. A route that isn't taken changes nothing.
+    pub fn take(&self, place: usize, taken: &mut Taken) -> Result<(), Untaken>
+        requires there { place < length self.now.routes }
+        requires found { AreFound taken.old.table.rows self.now }
+        ensures taken { OnOk result (TakesAt self.now place taken.old taken.new) }
+        ensures limit { IfErr result (IsLimitAt self.now place taken.old) }
+        ensures unchanged { OnErr result (taken.new ≡ taken.old) }
+    {
+        match self.causes[place] {
+            Some(cause) => taken.counts.add(cause),
+            None => match found_at(self.places.as_slice(), place) {
+                Some(id) => take_again(taken, id),
+                None => take_path(taken, row_at(&self.paths, place))?,
+            },
+        }
+        Ok(())
+    }
+}
+
+/// The path of a route.
+fn row_at(paths: &Rows<PathId, u32>, place: usize) -> &[u32]
+    requires there { place < length paths.now }
+    requires few { length paths.now ≤ 268435456 }
+    ensures { slice_get paths.now place ≡ Some result.now }
+{
+    match PathId::from_place(place) {
+        Some(id) => paths.row(id),
+        None => unreachable!(),
+    }
+}
+
+/// Where the path of a route was found, if it was.
+fn found_at(places: &[Option<PathId>], place: usize) -> Option<PathId>
+    ensures { IfSome result (λ id. slice_get places.now place ≡ Some (Some id)) }
+{
+    if place < places.len() {
+        places[place]
+    } else {
+        None
+    }
+}
+
+/// Where each of the paths stands in the table, if it is there.
+fn find_each(
+    table: &PathTable,
+    paths: &Rows<PathId, u32>,
+    places: &mut List<Option<PathId>>,
+) -> Result<(), NoMemory>
+    requires none { places.old ≡ [] }
+    ensures { OnOk result (places.new ≡ map (place_of table.now.rows) paths.now) }
+{
+    for place in 0..paths.len() {
+        places.push(table.find(row_at(paths, place)))?;
+    }
+    Ok(())
+}
+
+/// Takes in the routes of a batch, whose paths were looked up, in order, up to the first that meets a limit.
+fn take_each(batch: &Batch, taken: &mut Taken) -> Result<(), Untaken>
+    requires found { AreFound taken.old.table.rows batch.now }
+    ensures taken { OnOk result (TakesBatch batch.now taken.old taken.new) }
+    ensures limit { IfErr result (IsBatchLimit batch.now taken.old) }
+    ensures some { OnErr result (TakesSomeOfBatch batch.now taken.old taken.new) }
+{
+    for place in 0..batch.len() {
+        batch.take(place, taken)?;
+    }
+    Ok(())
+}
+
+/// Takes in the routes of a batch in order, up to the first that meets a limit.
+pub(crate) fn take_batch(batch: &mut Batch, taken: &mut Taken) -> Result<(), Untaken>
+    requires none { batch.old.places ≡ [] }
+    ensures taken { OnOk result (TakesBatch batch.old taken.old taken.new) }
+    ensures limit { IfErr result (IsBatchLimit batch.old taken.old) }
+    ensures some { OnErr result (TakesSomeOfBatch batch.old taken.old taken.new) }
+{
+    batch.look_up(&taken.table)?;
+    take_each(batch, taken)
+}
