@@ -1,34 +1,30 @@
-ghost use Rattle.std.specs.Prelude.{◌≡◌, ◌≢◌, ◌<◌, ◌≤◌, ◌++◌, ◌∷◌, [], ℕ, length, OnOk, OnErr, IfOk, IfSome, IfNone};
-ghost use Rattle.path_clean.specs.Chains.{row_at};
+ghost use Rattle.std.specs.Prelude.{◌≡◌, ◌≢◌, ◌<◌, ◌≤◌, ◌++◌, ◌∷◌, [], ℕ, List, length, OnOk, OnErr, IfOk, IfSome, IfNone};
+ghost use Rattle.tor_arena.specs.Limits.{most_places};
+ghost use Rattle.path_clean.specs.Chains.{row_at, AreIn};
 
-use crate::chain::{find_row, hash_of, seed_of};
-use indexmap::IndexMap;
+use crate::buckets::{Buckets, all_rows, find_row, put, seed_of};
 use std::alloc::Global;
 use std::marker::Model;
 use tor_arena::{Index, Keys, NoMemory, PathId, Rows};
 
-/// Paths in the order in which they were added, with an index by hash.
+/// Paths in the order in which they were added, found by their hashes.
 #[derive(Drop)]
 pub(crate) struct IndexedPaths {
+    alloc: Global,
     rows: Rows<PathId, u32>,
-    // for each row, where the earlier rows of its hash end
-    older: Vec<u32>,
-    // for each hash, where the rows of that hash end
-    newest: IndexMap<u64, u32>,
-    // with which each hash begins, so that no one can choose paths of one hash
-    seed: u64,
+    buckets: Buckets,
 }
 
 impl Model for IndexedPaths {
-    ghost use Rattle.std.specs.Prelude.{◌≡◌, ◌≤◌, ℕ, List, length};
-    ghost use Rattle.path_clean.specs.Chains.{IsChained, IsIndexed};
+    ghost use Rattle.std.specs.Prelude.{◌≤◌, ℕ, List, length};
+    ghost use Rattle.tor_arena.specs.Limits.{most_places};
+    ghost use Rattle.path_clean.specs.Chains.{AreIn};
 
     ghost Value = { List (List ℕ) };
 
     ghost view = { λ paths. paths.rows };
 
-    ghost invariant = { λ paths. (length paths.rows ≤ 268435456) × (length paths.older.items ≡ length paths.rows)
-        × IsChained paths.seed paths.rows paths.older.items × IsIndexed paths.seed paths.newest.entries paths.rows };
+    ghost invariant = { λ paths. (length paths.rows ≤ most_places) × AreIn paths.rows paths.buckets (length paths.rows) };
 }
 
 impl IndexedPaths {
@@ -36,11 +32,15 @@ impl IndexedPaths {
     pub fn new(alloc: Global, keys: Keys) -> IndexedPaths
         ensures { result ≡ [] }
     {
-        IndexedPaths {
-            rows: Rows::new(alloc),
-            older: Vec::new(alloc),
-            newest: IndexMap::new(alloc),
+        let buckets = Buckets {
             seed: seed_of(keys),
+            newest: Vec::new(alloc),
+            older: Vec::new(alloc),
+        };
+        IndexedPaths {
+            alloc,
+            rows: Rows::new(alloc),
+            buckets,
         }
     }
 
@@ -51,7 +51,7 @@ impl IndexedPaths {
         &self.rows
     }
 
-    /// The paths in order, without the index. It takes no memory.
+    /// The paths in order, without the buckets. It takes no memory.
     pub fn into_rows(self) -> Rows<PathId, u32>
         ensures { result ≡ self }
     {
@@ -63,30 +63,40 @@ impl IndexedPaths {
         ensures found { IfSome result (λ k. (k < length self.now) × (row_at self.now k ≡ path.now)) }
         ensures absent { IfNone result ((k : ℕ) → k < length self.now → row_at self.now k ≢ path.now) }
     {
-        let older = self.older.as_slice();
-        let place = find_row(&self.rows, older, &self.newest, self.seed, path)?;
+        let place = find_row(&self.buckets, &self.rows, path)?;
         PathId::from_place(place)
     }
 
-    /// Adds a path, whether it is there or not.
+    /// Adds a path, whether it is there or not. For want of memory no path is added.
     pub fn push(&mut self, path: &[u32]) -> Result<PathId, NoMemory>
         requires { length self.old < 268435456 }
         ensures ok { OnOk result (self.new ≡ self.old ++ path.now ∷ []) }
         ensures index { IfOk result (λ id. id ≡ length self.old) }
         ensures err { OnErr result (self.new ≡ self.old) }
     {
-        let hash = hash_of(self.seed, path);
-        let start = self.newest.get(&hash).copied().unwrap_or(0);
-        self.older.reserve(1)?;
-        self.newest.reserve(1)?;
+        make_room(self.alloc, &self.rows, &mut self.buckets)?;
+        let count = self.rows.len();
         let Ok(id) = self.rows.push_row(path) else {
             return Err(NoMemory);
         };
-        let end = id.place() as u32 + 1;
-        self.older.push_reserved(start);
-        match self.newest.insert(hash, end) {
-            Ok(_) => Ok(id),
-            Err(_) => unreachable!(),
+        if put(&mut self.buckets, &self.rows, count).is_err() {
+            self.rows.cut_to(count);
+            return Err(NoMemory);
         }
+        Ok(id)
     }
+}
+
+/// Makes four times as many buckets as there are rows, where there are fewer than twice as many. For want of memory nothing changes.
+fn make_room(alloc: Global, rows: &Rows<PathId, u32>, buckets: &mut Buckets) -> Result<(), NoMemory>
+    requires few { length rows.now ≤ most_places }
+    requires before { AreIn rows.now buckets.old (length rows.now) }
+    ensures room { OnOk result (length rows.now < length buckets.new.newest.items) }
+    ensures rows { AreIn rows.now buckets.new (length rows.now) }
+{
+    let count = rows.len();
+    if 2 * count >= buckets.newest.len() {
+        *buckets = all_rows(alloc, buckets.seed, 4 * count + 16, rows)?;
+    }
+    Ok(())
 }

@@ -2,7 +2,7 @@
 #![tactic(auto)]
 
 mod asides;
-mod chain;
+mod buckets;
 mod cleaned;
 mod cleaning;
 mod distinct_rows;
