@@ -1,5 +1,5 @@
 -- Rows that are found by buckets of their hashes.
-use Rattle.std.specs.Prelude.{◌≡◌, ◌≢◌, ◌≤◌, ◌<◌, ◌-◌, ◌*◌, ◌/◌, ◌%◌, ◌^◌, ◌⊎◌, ℕ, List, [], fold, length, slice_get, slice_index, unwrap_or, bit_xor}
+use Rattle.std.specs.Prelude.{◌≡◌, ◌≢◌, ◌≤◌, ◌<◌, ◌-◌, ◌*◌, ◌/◌, ◌%◌, ◌^◌, ◌⊎◌, ℕ, List, [], fold, length, slice_get, slice_index, unwrap_or, bit_and, bit_xor}
 use Rattle.path_clean.specs.declared.buckets.Buckets.{Buckets}
 
 abbrev pub row_at : List (List ℕ) → ℕ → List ℕ
@@ -17,9 +17,9 @@ mixed h x = folded (bit_xor h x * 11400714819323198485 % 2 ^ 64)
 unfoldable pub path_hash : ℕ → List ℕ → ℕ
 path_hash seed path = fold mixed seed path
 
--- into which of so many buckets a row belongs
+-- into which of so many buckets, which should be a power of two, a row belongs: by the upper half of its hash
 abbrev pub bucket : ℕ → ℕ → List ℕ → ℕ
-bucket seed many row = path_hash seed row % many
+bucket seed many row = bit_and (path_hash seed row / 2 ^ 32) (many - 1)
 
 -- of the rows before the place `end`, those in the bucket end at `at`: none from there on is in it
 pub record EndsIn (seed many : ℕ) (rows : List (List ℕ)) (key at end : ℕ) : Type 0 where

@@ -19,6 +19,19 @@ pub(crate) struct Buckets {
     pub older: Vec<u32>,
 }
 
+/// Where a path may stand, from 1, or 0. It is a hint alone, so nothing is promised of it.
+#[derive(Clone, Copy, Debug)]
+pub struct Guess {
+    end: u32,
+}
+
+impl Guess {
+    /// The place that is guessed, if there is one.
+    pub(crate) fn place(self) -> Option<usize> {
+        (self.end as usize).checked_sub(1)
+    }
+}
+
 /// No row, in so many buckets.
 pub(crate) fn no_rows(alloc: Global, seed: u64, many: usize) -> Result<Buckets, NoMemory>
     ensures rows { IfOk result (λ buckets. (rows : List (List ℕ)) → AreIn rows buckets 0) }
@@ -97,13 +110,24 @@ pub(crate) fn find_row(buckets: &Buckets, rows: &Rows<PathId, u32>, path: &[u32]
     None
 }
 
-/// Into which of so many buckets a row belongs.
+/// The newest row of the bucket of a path: the path may stand there.
+pub(crate) fn newest_of(buckets: &Buckets, path: &[u32]) -> Guess {
+    let newest = buckets.newest.as_slice();
+    if newest.is_empty() {
+        return Guess { end: 0 };
+    }
+    Guess {
+        end: newest[bucket_of(buckets.seed, newest.len(), path)],
+    }
+}
+
+/// Into which of so many buckets, which should be a power of two, a row belongs.
 fn bucket_of(seed: u64, many: usize, row: &[u32]) -> usize
     requires { 0 < many }
     ensures bucket { result ≡ bucket seed many row.now }
     ensures below { result < many }
 {
-    (hash_of(seed, row) % many as u64) as usize
+    (hash_of(seed, row) >> 32) as usize & (many - 1)
 }
 
 /// The row of a place.

@@ -2,7 +2,7 @@ ghost use Rattle.std.specs.Prelude.{◌≡◌, ◌≢◌, ◌<◌, ◌≤◌, �
 ghost use Rattle.tor_arena.specs.Limits.{most_places};
 ghost use Rattle.path_clean.specs.Chains.{row_at, AreIn};
 
-use crate::buckets::{Buckets, all_rows, find_row, put, seed_of};
+use crate::buckets::{Buckets, Guess, all_rows, find_row, newest_of, put, row_of, seed_of};
 use std::alloc::Global;
 use std::marker::Model;
 use tor_arena::{Index, Keys, NoMemory, PathId, Rows};
@@ -67,6 +67,34 @@ impl IndexedPaths {
         PathId::from_place(place)
     }
 
+    /// Where a path may stand. It takes no memory.
+    pub fn guess(&self, path: &[u32]) -> Guess {
+        newest_of(&self.buckets, path)
+    }
+
+    /// The index of a path that may stand where it is guessed. It takes no memory.
+    pub fn find_guessed(&self, guess: Guess, path: &[u32]) -> Option<PathId>
+        ensures found { IfSome result (λ k. (k < length self.now) × (row_at self.now k ≡ path.now)) }
+        ensures absent { IfNone result ((k : ℕ) → k < length self.now → row_at self.now k ≢ path.now) }
+    {
+        match self.find_at(guess, path) {
+            Some(id) => Some(id),
+            None => self.find(path),
+        }
+    }
+
+    /// The index of a path, if it stands where it is guessed.
+    fn find_at(&self, guess: Guess, path: &[u32]) -> Option<PathId>
+        ensures { IfSome result (λ k. (k < length self.now) × (row_at self.now k ≡ path.now)) }
+    {
+        let place = guess.place()?;
+        if place < self.rows.len() && row_of(&self.rows, place) == path {
+            PathId::from_place(place)
+        } else {
+            None
+        }
+    }
+
     /// Adds a path, whether it is there or not. For want of memory no path is added.
     pub fn push(&mut self, path: &[u32]) -> Result<PathId, NoMemory>
         requires { length self.old < 268435456 }
@@ -87,7 +115,7 @@ impl IndexedPaths {
     }
 }
 
-/// Makes four times as many buckets as there are rows, where there are fewer than twice as many. For want of memory nothing changes.
+/// Makes twice as many buckets where there are fewer than two for each row. For want of memory nothing changes.
 fn make_room(alloc: Global, rows: &Rows<PathId, u32>, buckets: &mut Buckets) -> Result<(), NoMemory>
     requires few { length rows.now ≤ most_places }
     requires before { AreIn rows.now buckets.old (length rows.now) }
@@ -96,7 +124,8 @@ fn make_room(alloc: Global, rows: &Rows<PathId, u32>, buckets: &mut Buckets) -> 
 {
     let count = rows.len();
     if 2 * count >= buckets.newest.len() {
-        *buckets = all_rows(alloc, buckets.seed, 4 * count + 16, rows)?;
+        let many = (4 * count).max(16).next_power_of_two();
+        *buckets = all_rows(alloc, buckets.seed, many, rows)?;
     }
     Ok(())
 }

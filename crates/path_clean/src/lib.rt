@@ -12,6 +12,7 @@ mod repeats;
 mod table;
 
 pub use asides::Asides;
+pub use buckets::Guess;
 pub use cleaned::{Cause, Cleaned, Sets, is_cleaned};
 pub use cleaning::{clean, clean_into, is_clean_path};
 pub use laws::{clean_paths_stay, counting, paths_are_clean};

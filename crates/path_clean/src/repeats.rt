@@ -16,8 +16,9 @@ pub fn first_repeated(
 ) -> Result<Option<usize>, NoMemory>
     ensures { IfOk result (IsFirstRepeat rows.now) }
 {
-    // with two buckets a row, few rows share one
-    let mut buckets = no_rows(alloc, seed_of(keys), 2 * rows.len())?;
+    // with two buckets a row or more, few rows share one
+    let many = (2 * rows.len()).next_power_of_two();
+    let mut buckets = no_rows(alloc, seed_of(keys), many)?;
     for place in 0..rows.len() {
         if find_row(&buckets, rows, row_of(rows, place)).is_some() {
             return Ok(Some(place));

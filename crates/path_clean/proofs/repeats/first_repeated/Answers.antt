@@ -7,7 +7,7 @@ use Rattle.path_clean.proofs.repeats.first_repeated.Goals as goal
 pub loop-place-init : goal.loop-place-init
 loop-place-init c = record {
   rows = c.in_ok-buckets.ensures.rows c.args.rows.now;
-  many = let many = c.in_ok-buckets.ensures.many in let len = c.len.ensures.length in omega (arith, many, len);
+  many = let many = c.in_ok-buckets.ensures.many in let lower = c.next_power_of_two-many.ensures.lower_bound in let len = c.len.ensures.length in omega (arith, many, lower, len);
   before = λ j lt. absurd (omega (arith, lt));
 }
 
@@ -17,7 +17,7 @@ loop-place-preserved c =
     let place = c.loop-place.place in
     record {
       rows = c.in_ok-put.ensures.in_;
-      many = c.put.ensures.many ∙ c.loop-place.invariant.many;
+      many = let many = c.put.ensures.many in let enough = c.loop-place.invariant.many in omega (arith, many, enough);
       before = λ j less repeats. elim (cases_lt j place) [
         | inl earlier ↦ c.loop-place.invariant.before j earlier repeats
         | inr late ↦
