@@ -9,4 +9,4 @@ pub returns-in_err-entries-clause-some : goal.returns-in_err-entries-clause-some
 returns-in_err-entries-clause-some c =
     let p = err_from_is_err_and c.from_residual.result c.from_residual.ensures.1 in
     let old = c.args.taken.now in
-    rw p.1 (none_read c.args.sets old old (rib_of c.args.found.now.subtype (count_of c.args.peers) c.args.found.now.body.now) refl)
+    rw p.1 (none_read c.args.sets old old (rib_of c.args.form (count_of c.args.peers) c.args.body.now) refl)
