@@ -14,7 +14,7 @@ use Rattle.mrt_frame.specs.declared.record_kind.RecordKind.{RecordKind}
 use Rattle.mrt_frame.specs.declared.header.At.{At}
 use Rattle.mrt_frame.specs.Frames.{record_as}
 use Rattle.mrt_frame.proofs.KindNumbers.{kind_again}
-use Rattle.dump_read.specs.Routes.{Route, of_entries, of_table_dump, of_table_dump_read, of_rib_read, of_peer_table_read, routes_in, routes_of, peers_after, peers_behind}
+use Rattle.dump_read.specs.Routes.{Route, of_entries, of_table_dump, of_table_dump_read, of_rib_read, of_peer_table_read, routes_in, routes_of}
 use Rattle.rib_v2.specs.declared.rib.Entry.{Entry}
 use Rattle.path_attrs.specs.declared.as_path.Width.TheVariants.{Two}
 use Rattle.dump_read.specs.declared.taking.Untaken.{Untaken}
@@ -126,9 +126,6 @@ none_read sets old new (Err fault) same = same
 
 pub routes_by_kind : (peers : Option ℕ) (at : At) (kind : RecordKind) (body : List ℕ) → routes_of peers (record_as at kind body) ≡ routes_in (Some kind) peers body
 routes_by_kind peers at kind body = ap (λ k. routes_in k peers body) (kind_again kind)
-
-pub peers_by_kind : (peers : Option ℕ) (at : At) (kind : RecordKind) (body : List ℕ) → peers_behind peers (record_as at kind body) ≡ peers_after (Some kind) peers body
-peers_by_kind peers at kind body = ap (λ k. peers_after k peers body) (kind_again kind)
 
 pub peer_table_taken : (sets : Sets) (old : Taken) (body : List ℕ) (table : Peers) → Ok table ≡ peers_of body → TakesRead sets old (of_peer_table_read (peers_of body)) old
 peer_table_taken sets old body table read = ([], ap of_peer_table_read (sym read), no_entry sets old)
