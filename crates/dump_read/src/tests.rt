@@ -67,6 +67,19 @@ static TWO_PATH_IDS: [u8; 72] = [
     64, 2, 10, 2, 2, 0, 0, 0, 10, 0, 0, 0, 20,
 ];
 
+// A TABLE_DUMP record with the AS_PATH 10 23456 and the AS4_PATH 10 20.
+static WITH_AS4_PATH: [u8; 56] = [
+    0, 0, 0, 0, 0, 12, 0, 1, 0, 0, 0, 44, 0, 0, 0, 0, 10, 0, 0, 0, 8, 1, 0, 0, 0, 0, 192, 0, 2, 1,
+    0, 10, 0, 22, 64, 2, 6, 2, 2, 0, 10, 91, 160, 192, 17, 10, 2, 2, 0, 0, 0, 10, 0, 0, 0, 20,
+];
+
+// A RIB record of the path 10 20 with the AS4_PATH 30 20, which has no effect there.
+static RIB_WITH_AS4_PATH: [u8; 60] = [
+    0, 0, 0, 0, 0, 13, 0, 2, 0, 0, 0, 48, 0, 0, 0, 0, 24, 10, 0, 1, 0, 1, 0, 0, 0, 0, 0, 0, 0, 30,
+    64, 1, 1, 0, 64, 2, 10, 2, 2, 0, 0, 0, 10, 0, 0, 0, 20, 192, 17, 10, 2, 2, 0, 0, 0, 30, 0, 0,
+    0, 20,
+];
+
 fn broken(number: u64, offset: u64, fault: Fault) -> Result<(), DumpError> {
     let at = At { number, offset };
     Err(DumpError::Malformed(Place { dump: 1, at }, fault))
@@ -105,7 +118,7 @@ fn times_of_one_edge(table: &PathTable) -> u64 {
 #[test]
 fn reads_dumps(rt: HostRuntime) -> Result<(), Fail> {
     // The records of a dump, the most paths, the answer, and of how many routes the path 10 20 is.
-    let cases: [(&[&[u8]], u32, Result<(), DumpError>, u64); 11] = [
+    let cases: [(&[&[u8]], u32, Result<(), DumpError>, u64); 13] = [
         (&[&ONE_EDGE], 8, Ok(()), 1),
         (&[&PEERS, &RIB], 8, Ok(()), 1),
         (&[&PEERS, &IPV4_PATH_IDS, &WITH_PATH_ID], 8, Ok(()), 1),
@@ -123,6 +136,8 @@ fn reads_dumps(rt: HostRuntime) -> Result<(), Fail> {
             Ok(()),
             1,
         ),
+        (&[&WITH_AS4_PATH], 8, Ok(()), 1),
+        (&[&PEERS, &RIB_WITH_AS4_PATH], 8, Ok(()), 1),
         (&[&NO_PATH, &BAD_SEGMENTS], 8, Ok(()), 0),
         (&[&ONE_EDGE, &[0; 11]], 8, broken(2, 43, Fault::HeadCut), 1),
         (
