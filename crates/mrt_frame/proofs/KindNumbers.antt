@@ -1,5 +1,5 @@
 -- The kinds of record that are read, and their types and subtypes.
-use Rattle.std.proofs.Common.{◌≡◌, ℕ, ◌==◌, Bool, true, false, cond, Option, Some, None, is_some, refl, sym, ap, subst}
+use Rattle.std.proofs.Common.{◌≡◌, ℕ, ◌==◌, Bool, true, false, cond, Option, Some, None, is_some, refl, ap, subst}
 use Rattle.std.proofs.lemmas.Bool.{eqb-true}
 use Rattle.mrt_frame.specs.declared.record_kind.Family.{Family}
 use Rattle.mrt_frame.specs.declared.record_kind.Family.TheVariants.{Ipv4, Ipv6}

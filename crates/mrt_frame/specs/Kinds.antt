@@ -4,7 +4,6 @@ use Rattle.mrt_frame.specs.declared.record_kind.Family.{Family}
 use Rattle.mrt_frame.specs.declared.record_kind.Family.TheVariants.{Ipv4, Ipv6}
 use Rattle.mrt_frame.specs.declared.record_kind.EntryForm.{EntryForm}
 use Rattle.mrt_frame.specs.declared.record_kind.EntryForm.TheVariants.{Plain, WithPathId}
-use Rattle.mrt_frame.specs.declared.record_kind.RibForm.{RibForm}
 use Rattle.mrt_frame.specs.declared.record_kind.RecordKind.{RecordKind}
 use Rattle.mrt_frame.specs.declared.record_kind.RecordKind.TheVariants.{TableDump, PeerTable, Rib}
 

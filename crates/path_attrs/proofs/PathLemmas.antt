@@ -1,5 +1,5 @@
 -- The segments of a path that is merged.
-use Rattle.std.proofs.Common.{◌≡◌, ℕ, zero, suc, ◌+◌, ◌-◌, ◌*◌, ◌&&◌, ◌<◌, ◌≤◌, min, Bool, true, false, cond, leb, not, List, [], ◌∷◌, ◌++◌, length, take, drop, filter, Option, Some, None, IfSome, option_map, option_and_then, refl, sym, ap, ap₂, ◌∙◌, arith}
+use Rattle.std.proofs.Common.{◌≡◌, ℕ, zero, suc, ◌+◌, ◌-◌, ◌*◌, ◌&&◌, ◌<◌, ◌≤◌, min, Bool, true, false, cond, leb, not, List, [], ◌∷◌, ◌++◌, length, take, drop, filter, Option, Some, None, IfSome, option_map, option_and_then, refl, sym, ap, ◌∙◌, arith}
 use Rattle.std.proofs.lemmas.Bool.{lt-leb, le-leb}
 use Rattle.std.proofs.lemmas.List.{length-append}
 use Rattle.byteorder.specs.Endian.{big_number}

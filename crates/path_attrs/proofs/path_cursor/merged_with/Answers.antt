@@ -1,4 +1,4 @@
-use Rattle.std.proofs.Common.{◌≡◌, ◌<◌, ◌≤◌, ◌-◌, true, false, sym, ap₂, ◌∙◌, rules, arith}
+use Rattle.std.proofs.Common.{◌≡◌, ◌<◌, ◌≤◌, ◌-◌, true, false, ap₂, ◌∙◌, rules, arith}
 use Rattle.path_attrs.specs.PathOf.{has_no_confed, is_aggregated_anew, count_of}
 use Rattle.path_attrs.proofs.PathLemmas.{too_long, merges}
 use Rattle.path_attrs.proofs.path_cursor.merged_with.Goals as goal

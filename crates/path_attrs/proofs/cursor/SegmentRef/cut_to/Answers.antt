@@ -1,5 +1,4 @@
 use Rattle.std.proofs.Common.{List, ℕ, ap, ◌∙◌}
-use Rattle.path_attrs.specs.declared.as_path.Segment.{Segment}
 use Rattle.path_attrs.specs.Segments.{octets_in}
 use Rattle.path_attrs.specs.PathOf.{cut_to}
 use Rattle.path_attrs.proofs.PathLemmas.{numbers-cut}

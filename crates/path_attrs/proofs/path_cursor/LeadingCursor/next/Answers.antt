@@ -1,4 +1,4 @@
-use Rattle.std.proofs.Common.{◌≡◌, ◌<◌, ◌∷◌, [], Some, sym, ap, ◌∙◌, arith}
+use Rattle.std.proofs.Common.{◌≡◌, ◌<◌, ◌∷◌, [], sym, ap, ◌∙◌, arith}
 use Rattle.path_attrs.specs.PathOf.{leading, leading_in, count_in}
 use Rattle.path_attrs.proofs.PathLemmas.{leading-none, leading-cut}
 use Rattle.path_attrs.proofs.path_cursor.LeadingCursor.next.Goals as goal
