@@ -1,5 +1,6 @@
 # `make` proves and builds bin/tor and bin/torcheck, makes the result of a sample and checks it; `make test` is the whole gate;
-# `make samples` compares the lists of two real dumps with what other readers give, and checks the results of both; `make system` tries
+# `make samples` compares the lists of two real dumps, path identifiers and AS4_PATH among them, with what other readers give, and
+# checks the results of both; `make system` tries
 # both programs on full devices, closed pipes, folders and the like.
 .PHONY: all test samples system clean FORCE
 

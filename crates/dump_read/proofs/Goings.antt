@@ -53,9 +53,9 @@ through : (peers : Option ℕ) (r : Record) (c : Cut) → reading_from peers (re
 unfolding reading_of
 through peers r c = refl
 
-none_in : (kind : Option RecordKind) (peers : Option ℕ) (subtype : ℕ) (body : List ℕ) → is_some kind ≡ false → routes_in kind peers subtype body ≡ Ok []
-none_in None peers subtype body unread = refl
-none_in (Some kind) peers subtype body unread = absurd cc
+none_in : (kind : Option RecordKind) (peers : Option ℕ) (body : List ℕ) → is_some kind ≡ false → routes_in kind peers body ≡ Ok []
+none_in None peers body unread = refl
+none_in (Some kind) peers body unread = absurd cc
 
 same_peers : (kind : Option RecordKind) (peers : Option ℕ) (body : List ℕ) → is_some kind ≡ false → peers_after kind peers body ≡ peers
 same_peers None peers body unread = refl
@@ -66,7 +66,7 @@ skipped : (peers : Option ℕ) (r : Record) (c : Cut) → is_read r.kind r.subty
     → reading_from peers (record { records = r ∷ c.records; end = c.end }) ≡ reading_from peers c
 skipped peers r c unread =
     through peers r c
-    ∙ ap (λ read. onto r.at read (reading_from (peers_behind peers r) c)) (none_in (kind_of r.kind r.subtype) peers r.subtype r.body unread)
+    ∙ ap (λ read. onto r.at read (reading_from (peers_behind peers r) c)) (none_in (kind_of r.kind r.subtype) peers r.body unread)
     ∙ ap (λ p. reading_from p c) (same_peers (kind_of r.kind r.subtype) peers r.body unread)
 
 -- where the records from a place on were passed over up to another, the reading is the same from there

@@ -1,5 +1,5 @@
 -- Routes that are taken in one after the other.
-use Rattle.std.proofs.Common.{◌≡◌, Option, Some, None, ℕ, List, [], ◌∷◌, ◌++◌, length, take, Result, Ok, Err, refl, sym, ap, subst, ◌∙◌, arith}
+use Rattle.std.proofs.Common.{◌≡◌, Option, Some, ℕ, List, [], ◌∷◌, ◌++◌, length, take, Result, Ok, Err, refl, sym, ap, subst, ◌∙◌, arith}
 use Rattle.std.proofs.lemmas.List.{append_assoc, append-nil, length-append}
 use Rattle.std.proofs.Math.Seq.{take-append_seam}
 use Rattle.path_attrs.specs.Fields.{◌>>=◌}
@@ -9,9 +9,10 @@ use Rattle.path_attrs.specs.declared.fault.RibFault.{RibFault}
 use Rattle.dump_read.specs.declared.records.Unread.TheVariants as unread
 use Rattle.rib_v2.specs.PeerTable.{peers_of}
 use Rattle.rib_v2.specs.declared.peer_table.Peers.{Peers}
-use Rattle.mrt_frame.specs.Kinds.{kind_of}
-use Rattle.mrt_frame.specs.declared.record_kind.RecordKind.TheVariants.{PeerTable}
-use Rattle.mrt_frame.specs.Records.{Record}
+use Rattle.mrt_frame.specs.declared.record_kind.RecordKind.{RecordKind}
+use Rattle.mrt_frame.specs.declared.header.At.{At}
+use Rattle.mrt_frame.specs.Frames.{record_as}
+use Rattle.mrt_frame.proofs.KindNumbers.{kind_again}
 use Rattle.dump_read.specs.Routes.{Route, of_peer_table_read, routes_in, routes_of}
 use Rattle.dump_read.specs.declared.taking.Untaken.{Untaken}
 use Rattle.dump_read.specs.declared.taking.Untaken.TheVariants as untaken
@@ -104,12 +105,10 @@ pub none_of : (sets : Sets) (old new : Taken) (read : Result (List Route) RibFau
 none_of sets old new (Ok routes) same = (0, omega arith, no_entry sets old ∙ ap (λ (t : Taken). Ok t) (sym same))
 none_of sets old new (Err fault) same = same
 
--- the kind of a record is known, and with it what its body gives
+-- a record is known by its kind, and with that what its body gives
 
-pub peer_table_taken : (sets : Sets) (old : Taken) (peers : Option ℕ) (r : Record) (table : Peers) → kind_of r.kind r.subtype ≡ Some PeerTable
-    → Ok table ≡ peers_of r.body → TakesRead sets old (routes_of peers r) old
-peer_table_taken sets old peers r table is read =
-    ([], ap (λ kind. routes_in kind peers r.subtype r.body) is ∙ ap of_peer_table_read (sym read), no_entry sets old)
+pub routes_by_kind : (peers : Option ℕ) (at : At) (kind : RecordKind) (body : List ℕ) → routes_of peers (record_as at kind body) ≡ routes_in (Some kind) peers body
+routes_by_kind peers at kind body = ap (λ k. routes_in k peers body) (kind_again kind)
 
-pub nothing_taken : (sets : Sets) (old : Taken) (peers : Option ℕ) (r : Record) → kind_of r.kind r.subtype ≡ None → TakesRead sets old (routes_of peers r) old
-nothing_taken sets old peers r is = ([], ap (λ kind. routes_in kind peers r.subtype r.body) is, no_entry sets old)
+pub peer_table_taken : (sets : Sets) (old : Taken) (body : List ℕ) (table : Peers) → Ok table ≡ peers_of body → TakesRead sets old (of_peer_table_read (peers_of body)) old
+peer_table_taken sets old body table read = ([], ap of_peer_table_read (sym read), no_entry sets old)

@@ -12,6 +12,8 @@ use Rattle.rib_v2.specs.declared.peer_table.Peers.{Peers}
 use Rattle.rib_v2.specs.PeerTable.{peers_of}
 use Rattle.rib_v2.specs.Rib.{rib_of}
 use Rattle.mrt_frame.specs.Records.{Record}
+use Rattle.mrt_frame.specs.declared.record_kind.Family.{Family}
+use Rattle.mrt_frame.specs.declared.record_kind.RibForm.{RibForm}
 use Rattle.mrt_frame.specs.Kinds.{kind_of}
 use Rattle.mrt_frame.specs.declared.record_kind.RecordKind.{RecordKind}
 use Rattle.mrt_frame.specs.declared.record_kind.RecordKind.TheVariants.{TableDump, PeerTable, Rib}
@@ -40,31 +42,31 @@ abbrev pub of_peer_table_read : Result Peers RibFault → Result (List Route) Ri
 of_peer_table_read read = read >>= λ table. Ok []
 
 -- the routes of the body of a TABLE_DUMP record
-abbrev pub routes_in_table_dump : (subtype : ℕ) → (body : List ℕ) → Result (List Route) RibFault
-routes_in_table_dump subtype body = of_table_dump_read (route_of subtype body)
+abbrev pub routes_in_table_dump : Family → (body : List ℕ) → Result (List Route) RibFault
+routes_in_table_dump family body = of_table_dump_read (route_of family body)
 
 -- the same of a RIB, where the last peer table before it in the file has so many peers
-abbrev pub routes_in_rib : (peers : Option ℕ) → (subtype : ℕ) → (body : List ℕ) → Result (List Route) RibFault
-routes_in_rib peers subtype body = of_rib_read (rib_of subtype peers body)
+abbrev pub routes_in_rib : RibForm → (peers : Option ℕ) → (body : List ℕ) → Result (List Route) RibFault
+routes_in_rib form peers body = of_rib_read (rib_of form peers body)
 
 -- the routes of a body, where the last peer table before it in the file has so many peers, or the first fault of the body.
 -- One that isn't read gives none.
-abbrev pub routes_in : Option RecordKind → Option ℕ → (subtype : ℕ) → (body : List ℕ) → Result (List Route) RibFault
-routes_in (Some TableDump) peers subtype body = routes_in_table_dump subtype body
-routes_in (Some PeerTable) peers subtype body = of_peer_table_read (peers_of body)
-routes_in (Some Rib) peers subtype body = routes_in_rib peers subtype body
-routes_in None peers subtype body = Ok []
+abbrev pub routes_in : Option RecordKind → (peers : Option ℕ) → (body : List ℕ) → Result (List Route) RibFault
+routes_in (Some (TableDump family)) peers body = routes_in_table_dump family body
+routes_in (Some PeerTable) peers body = of_peer_table_read (peers_of body)
+routes_in (Some (Rib form)) peers body = routes_in_rib form peers body
+routes_in None peers body = Ok []
 
 -- how many peers the last peer table has, behind this body
 abbrev pub peers_after : Option RecordKind → Option ℕ → (body : List ℕ) → Option ℕ
-peers_after (Some TableDump) peers body = peers
+peers_after (Some (TableDump family)) peers body = peers
 peers_after (Some PeerTable) peers body = option_map (λ table. table.count) (result_ok (peers_of body))
-peers_after (Some Rib) peers body = peers
+peers_after (Some (Rib form)) peers body = peers
 peers_after None peers body = peers
 
 -- the same of a record
 abbrev pub routes_of : Option ℕ → Record → Result (List Route) RibFault
-routes_of peers r = routes_in (kind_of r.kind r.subtype) peers r.subtype r.body
+routes_of peers r = routes_in (kind_of r.kind r.subtype) peers r.body
 
 abbrev pub peers_behind : Option ℕ → Record → Option ℕ
 peers_behind peers r = peers_after (kind_of r.kind r.subtype) peers r.body

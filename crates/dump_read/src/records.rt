@@ -1,4 +1,4 @@
-ghost use Rattle.std.specs.Prelude.{◌≡◌, ◌⊎◌, [], OnOk, OnErr, IfOk, IfErr};
+ghost use Rattle.std.specs.Prelude.{◌≡◌, [], OnOk, OnErr, IfOk, IfErr};
 ghost use Rattle.mrt_frame.specs.Steps.{seen};
 ghost use Rattle.dump_read.specs.Routes.{of_entries, of_table_dump, routes_in_table_dump, routes_in_rib, routes_of, peers_behind};
 ghost use Rattle.dump_read.specs.Batches.{AreOf};
@@ -6,7 +6,7 @@ ghost use Rattle.dump_read.specs.Refusals.{count_of, IsUnread, TakesRead, TakesS
 
 use crate::batch::{Batch, take_batch};
 use crate::taking::{Taken, Untaken};
-use mrt_frame::{Record, RecordKind};
+use mrt_frame::{Family, Record, RecordKind, RibForm};
 use path_attrs::{Attrs, RibFault, Width};
 use path_clean::Sets;
 use rib_v1::read_v1;
@@ -91,16 +91,16 @@ fn clean_alone(
 fn take_table_dump(
     alloc: Global,
     sets: Sets,
-    found: &Record<'_>,
+    family: Family,
+    body: &[u8],
     batch: &mut Batch,
     taken: &mut Taken,
 ) -> Result<(), Unread>
-    requires { (found.now.subtype ≡ 1) ⊎ (found.now.subtype ≡ 2) }
-    ensures taken { OnOk result (TakesRead sets taken.old (routes_in_table_dump found.now.subtype found.now.body.now) taken.new) }
-    ensures unread { IfErr result (IsUnread sets taken.old (routes_in_table_dump found.now.subtype found.now.body.now)) }
-    ensures some { OnErr result (TakesSomeRead sets taken.old (routes_in_table_dump found.now.subtype found.now.body.now) taken.new) }
+    ensures taken { OnOk result (TakesRead sets taken.old (routes_in_table_dump family body.now) taken.new) }
+    ensures unread { IfErr result (IsUnread sets taken.old (routes_in_table_dump family body.now)) }
+    ensures some { OnErr result (TakesSomeRead sets taken.old (routes_in_table_dump family body.now) taken.new) }
 {
-    let attrs = read_v1(found.subtype, found.body)?;
+    let attrs = read_v1(family, body)?;
     clean_alone(alloc, sets, &attrs, batch)?;
     take_batch(batch, taken)?;
     Ok(())
@@ -110,18 +110,17 @@ fn take_table_dump(
 fn take_rib(
     alloc: Global,
     sets: Sets,
-    found: &Record<'_>,
+    form: RibForm,
     peers: Option<Peers>,
+    body: &[u8],
     batch: &mut Batch,
     taken: &mut Taken,
 ) -> Result<(), Unread>
-    requires { (found.now.subtype ≡ 2) ⊎ (found.now.subtype ≡ 4) }
-    ensures taken { OnOk result (TakesRead sets taken.old (routes_in_rib (count_of peers) found.now.subtype found.now.body.now) taken.new) }
-    ensures unread { IfErr result (IsUnread sets taken.old (routes_in_rib (count_of peers) found.now.subtype found.now.body.now)) }
-    ensures some { OnErr result (TakesSomeRead sets taken.old (routes_in_rib (count_of peers) found.now.subtype found.now.body.now)
-        taken.new) }
+    ensures taken { OnOk result (TakesRead sets taken.old (routes_in_rib form (count_of peers) body.now) taken.new) }
+    ensures unread { IfErr result (IsUnread sets taken.old (routes_in_rib form (count_of peers) body.now)) }
+    ensures some { OnErr result (TakesSomeRead sets taken.old (routes_in_rib form (count_of peers) body.now) taken.new) }
 {
-    let entries = EntryCursor::over(found.subtype, peers.as_ref(), found.body)?;
+    let entries = EntryCursor::over(form, peers.as_ref(), body)?;
     clean_entries(alloc, sets, entries, batch)?;
     take_batch(batch, taken)?;
     Ok(())
@@ -141,16 +140,15 @@ pub(crate) fn take_record(
     ensures unread { IfErr result (IsUnread sets taken.old (routes_of (count_of peers) (seen found.now))) }
     ensures some { OnErr result (TakesSomeRead sets taken.old (routes_of (count_of peers) (seen found.now)) taken.new) }
 {
-    match RecordKind::of(found.kind, found.subtype) {
-        Some(RecordKind::TableDump) => {
-            take_table_dump(alloc, sets, found, batch, taken)?;
+    match found.kind {
+        RecordKind::TableDump(family) => {
+            take_table_dump(alloc, sets, family, found.body, batch, taken)?;
             Ok(peers)
         }
-        Some(RecordKind::PeerTable) => Ok(Some(read_peers(found.body)?)),
-        Some(RecordKind::Rib) => {
-            take_rib(alloc, sets, found, peers, batch, taken)?;
+        RecordKind::PeerTable => Ok(Some(read_peers(found.body)?)),
+        RecordKind::Rib(form) => {
+            take_rib(alloc, sets, form, peers, found.body, batch, taken)?;
             Ok(peers)
         }
-        None => Ok(peers),
     }
 }

@@ -46,6 +46,40 @@ static RIB: [u8; 47] = [
     64, 1, 1, 0, 64, 2, 10, 2, 2, 0, 0, 0, 10, 0, 0, 0, 20,
 ];
 
+// Headers of subtypes 8, 9 and 10 of TABLE_DUMP_V2 with their Length, and the same entry with the path identifier 7.
+static IPV4_PATH_IDS: [u8; 12] = [0, 0, 0, 0, 0, 13, 0, 8, 0, 0, 0, 39];
+
+static MULTICAST_PATH_IDS: [u8; 12] = [0, 0, 0, 0, 0, 13, 0, 9, 0, 0, 0, 39];
+
+static IPV6_PATH_IDS: [u8; 12] = [0, 0, 0, 0, 0, 13, 0, 10, 0, 0, 0, 39];
+
+static IPV4_PATH_IDS_CUT: [u8; 12] = [0, 0, 0, 0, 0, 13, 0, 8, 0, 0, 0, 38];
+
+static WITH_PATH_ID: [u8; 39] = [
+    0, 0, 0, 0, 24, 10, 0, 1, 0, 1, 0, 0, 0, 0, 0, 0, 0, 0, 0, 7, 0, 17, 64, 1, 1, 0, 64, 2, 10, 2,
+    2, 0, 0, 0, 10, 0, 0, 0, 20,
+];
+
+// A record of subtype 8 with two entries of peer 0 and the path 10 20, whose path identifiers are 1 and 2.
+static TWO_PATH_IDS: [u8; 72] = [
+    0, 0, 0, 0, 0, 13, 0, 8, 0, 0, 0, 60, 0, 0, 0, 0, 24, 10, 0, 1, 0, 2, 0, 0, 0, 0, 0, 0, 0, 0,
+    0, 1, 0, 13, 64, 2, 10, 2, 2, 0, 0, 0, 10, 0, 0, 0, 20, 0, 0, 0, 0, 0, 0, 0, 0, 0, 2, 0, 13,
+    64, 2, 10, 2, 2, 0, 0, 0, 10, 0, 0, 0, 20,
+];
+
+// A TABLE_DUMP record with the AS_PATH 10 23456 and the AS4_PATH 10 20.
+static WITH_AS4_PATH: [u8; 56] = [
+    0, 0, 0, 0, 0, 12, 0, 1, 0, 0, 0, 44, 0, 0, 0, 0, 10, 0, 0, 0, 8, 1, 0, 0, 0, 0, 192, 0, 2, 1,
+    0, 10, 0, 22, 64, 2, 6, 2, 2, 0, 10, 91, 160, 192, 17, 10, 2, 2, 0, 0, 0, 10, 0, 0, 0, 20,
+];
+
+// A RIB record of the path 10 20 with the AS4_PATH 30 20, which has no effect there.
+static RIB_WITH_AS4_PATH: [u8; 60] = [
+    0, 0, 0, 0, 0, 13, 0, 2, 0, 0, 0, 48, 0, 0, 0, 0, 24, 10, 0, 1, 0, 1, 0, 0, 0, 0, 0, 0, 0, 30,
+    64, 1, 1, 0, 64, 2, 10, 2, 2, 0, 0, 0, 10, 0, 0, 0, 20, 192, 17, 10, 2, 2, 0, 0, 0, 30, 0, 0,
+    0, 20,
+];
+
 fn broken(number: u64, offset: u64, fault: Fault) -> Result<(), DumpError> {
     let at = At { number, offset };
     Err(DumpError::Malformed(Place { dump: 1, at }, fault))
@@ -71,49 +105,61 @@ fn nothing_taken(alloc: Global, keys: Keys, limit: u32) -> Taken
     }
 }
 
-// Whether the path 10 20 is the only one, of one route.
-fn has_one_edge(table: &PathTable) -> bool {
+// Of how many routes the path 10 20 is, if it is the only one.
+fn times_of_one_edge(table: &PathTable) -> u64 {
     match PathId::from_place(0) {
-        Some(id) if table.len() == 1 => {
-            table.rows().row(id) == [10, 20].as_slice() && table.times(id) == 1
+        Some(id) if table.len() == 1 && table.rows().row(id) == [10, 20].as_slice() => {
+            table.times(id)
         }
-        _ => false,
+        _ => 0,
     }
 }
 
 #[test]
 fn reads_dumps(rt: HostRuntime) -> Result<(), Fail> {
-    // The records of a dump, the most paths, the answer, and whether the path 10 20 is taken in.
-    let cases: [(&[&[u8]], u32, Result<(), DumpError>, bool); 6] = [
-        (&[&ONE_EDGE], 8, Ok(()), true),
-        (&[&PEERS, &RIB], 8, Ok(()), true),
-        (&[&NO_PATH, &BAD_SEGMENTS], 8, Ok(()), false),
+    // The records of a dump, the most paths, the answer, and of how many routes the path 10 20 is.
+    let cases: [(&[&[u8]], u32, Result<(), DumpError>, u64); 13] = [
+        (&[&ONE_EDGE], 8, Ok(()), 1),
+        (&[&PEERS, &RIB], 8, Ok(()), 1),
+        (&[&PEERS, &IPV4_PATH_IDS, &WITH_PATH_ID], 8, Ok(()), 1),
+        (&[&PEERS, &IPV6_PATH_IDS, &WITH_PATH_ID], 8, Ok(()), 1),
+        (&[&PEERS, &TWO_PATH_IDS], 8, Ok(()), 2),
         (
-            &[&ONE_EDGE, &[0; 11]],
+            &[&PEERS, &IPV4_PATH_IDS_CUT, &WITH_PATH_ID[..38]],
             8,
-            broken(2, 43, Fault::HeadCut),
-            true,
+            broken(2, 33, Fault::Rib(RibFault::Cut)),
+            0,
         ),
+        (
+            &[&PEERS, &MULTICAST_PATH_IDS, &WITH_PATH_ID, &RIB],
+            8,
+            Ok(()),
+            1,
+        ),
+        (&[&WITH_AS4_PATH], 8, Ok(()), 1),
+        (&[&PEERS, &RIB_WITH_AS4_PATH], 8, Ok(()), 1),
+        (&[&NO_PATH, &BAD_SEGMENTS], 8, Ok(()), 0),
+        (&[&ONE_EDGE, &[0; 11]], 8, broken(2, 43, Fault::HeadCut), 1),
         (
             &[&RIB],
             8,
             broken(1, 0, Fault::Rib(RibFault::NoPeerTable)),
-            false,
+            0,
         ),
         (
             &[&ONE_EDGE, &OTHER_EDGE],
             1,
             Err(DumpError::Limit(LimitKind::Paths)),
-            true,
+            1,
         ),
     ];
-    for (pieces, most, answer, one_edge) in &cases {
+    for (pieces, most, answer, times) in &cases {
         let mut shelf = MemShelf::new(rt.alloc());
         shelf.put("d", &joined(rt.alloc(), pieces)?)?;
         let mut taken = nothing_taken(rt.alloc(), Keys::new(&rt), (*most).clamp(1, 8));
         let read = read_dump(rt.alloc(), &mut shelf, "d", 1, Sets::Cut, &mut taken);
         assert_eq!(rt; read, *answer);
-        assert_eq!(rt; has_one_edge(&taken.table), *one_edge);
+        assert_eq!(rt; times_of_one_edge(&taken.table), *times);
         let set_aside = u64::from(taken.table.len() == 0 && read.is_ok());
         assert_eq!(rt; taken.counts.get(Cause::NoPath), set_aside);
         assert_eq!(rt; taken.counts.get(Cause::BadSegments), set_aside);

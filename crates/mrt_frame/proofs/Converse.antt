@@ -6,8 +6,8 @@ use Rattle.mrt_frame.specs.declared.error.FrameError.{FrameError}
 use Rattle.mrt_frame.specs.declared.error.FrameError.TheVariants as errors
 use Rattle.mrt_frame.specs.declared.cursor.Record as lent
 use Rattle.mrt_frame.specs.declared.header.At.{At}
-use Rattle.mrt_frame.specs.declared.header.Header.{Header}
-use Rattle.mrt_frame.specs.Frames.{PassesOver, FindsNext, StopsWith, end_of_error, record_of}
+use Rattle.mrt_frame.specs.declared.record_kind.RecordKind.{RecordKind}
+use Rattle.mrt_frame.specs.Frames.{PassesOver, FindsNext, StopsWith, end_of_error, record_as}
 use Rattle.mrt_frame.specs.Kinds.{is_read}
 use Rattle.mrt_frame.specs.Records.{Record, Next, End, Well, HeadCut, TooManyBytes, Oversize, BodyCut, Ends, Holds, behind, next_of}
 use Rattle.mrt_frame.specs.Steps.{Answer, Gives, HasFailed, seen}
@@ -162,9 +162,7 @@ of_octets (Some end) None at h = tt
 of_octets (Some end) (Some octets) at h = h
 
 -- the record that is lent is the one that was found
-pub same_seen : (at : At) (header : Header) (body : List ℕ) (r : lent.Record) → r.at ≡ at → r.kind ≡ header.kind → r.subtype ≡ header.subtype → r.body.now ≡ body → record_of at header body ≡ seen r
-same_seen at header body r place kind subtype octets =
-    ap (λ (a : At). record_of a header body) (sym place)
-    ∙ ap (λ k. record { at = r.at; kind = k; subtype = header.subtype; body = body }) (sym kind)
-    ∙ ap (λ s. record { at = r.at; kind = r.kind; subtype = s; body = body }) (sym subtype)
-    ∙ ap (λ (b : List ℕ). record { at = r.at; kind = r.kind; subtype = r.subtype; body = b }) (sym octets)
+pub same_seen : (at : At) (kind : RecordKind) (body : List ℕ) (r : lent.Record) → r.at ≡ at → r.kind ≡ kind → r.body.now ≡ body → record_as at kind body ≡ seen r
+same_seen at kind body r place same octets =
+    ap (λ (a : At). record_as a kind body) (sym place) ∙ ap (λ (k : RecordKind). record_as r.at k body) (sym same)
+    ∙ ap (λ (b : List ℕ). record_as r.at r.kind b) (sym octets)

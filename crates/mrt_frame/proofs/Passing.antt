@@ -1,14 +1,16 @@
 -- Records that are passed over.
-use Rattle.std.proofs.Common.{◌≡◌, ℕ, suc, zero, ◌+◌, ◌≤◌, ◌<◌, true, false, List, [], ◌∷◌, ◌++◌, length, take, drop, Option, Some, None, IfSome, refl, sym, ap, subst, ◌∙◌, arith}
+use Rattle.std.proofs.Common.{◌≡◌, ℕ, suc, zero, ◌+◌, ◌≤◌, ◌<◌, false, List, [], ◌∷◌, ◌++◌, length, take, drop, Option, Some, None, IfSome, refl, sym, ap, subst, ◌∙◌, arith}
 use Rattle.std.proofs.Math.Path.{ap₂}
 use Rattle.std.proofs.lemmas.Bool.{le-ltb, lt-ltb}
 use Rattle.std.proofs.lemmas.List.{length-take}
 use Rattle.mrt_frame.specs.declared.header.At.{At}
 use Rattle.mrt_frame.specs.declared.header.Header.{Header}
-use Rattle.mrt_frame.specs.Frames.{PassesOver, Passes, FindsNext, StopsWith, record_of}
+use Rattle.mrt_frame.specs.declared.record_kind.RecordKind.{RecordKind}
+use Rattle.mrt_frame.specs.Frames.{PassesOver, Passes, FindsNext, StopsWith, record_of, record_as}
 use Rattle.mrt_frame.specs.Part.{Skips, TakesHeader}
-use Rattle.mrt_frame.specs.Kinds.{is_read}
+use Rattle.mrt_frame.specs.Kinds.{kind_of, is_read}
 use Rattle.mrt_frame.specs.Records.{Record, Cut, End, Ends, Holds, BodyCut, behind, next_of, cut_within}
+use Rattle.mrt_frame.proofs.KindNumbers.{numbers_of, read_kind}
 use Rattle.mrt_frame.proofs.Cuts.{shorter, unrolled}
 
 pub nothing : (at : At) (octets : List ℕ) → Passes at octets at octets
@@ -102,11 +104,17 @@ passed_one (Some octets) left mid after start at next header passed h skipped no
     let place : behind r ≡ next = ap₂ (λ (n o : ℕ). record { number = n; offset = o }) (sym number) (ap (λ n. at.offset + 12 + n) s.2 ∙ sym offset) in
     (rest, s.1, subst (λ (a : At). Passes start octets a rest) place (and_then start octets at reached r rest passed.2 s.0 not))
 
-pub finds : (before left mid after : Option (List ℕ)) (start at : At) (header : Header) (body : List ℕ) → HasPassed before start left at
+-- the record of a header by its kind
+as_kind : (at : At) (header : Header) (kind : RecordKind) (body : List ℕ) → kind_of header.kind header.subtype ≡ Some kind → record_of at header body ≡ record_as at kind body
+as_kind at header kind body is =
+    let numbers = numbers_of header.kind header.subtype kind is in
+    ap₂ (λ (k s : ℕ). record { at = at; kind = k; subtype = s; body = body }) numbers.0 numbers.1
+
+pub finds : (before left mid after : Option (List ℕ)) (start at : At) (header : Header) (kind : RecordKind) (body : List ℕ) → HasPassed before start left at
     → IfSome left (λ octets. TakesHeader at octets header mid) → Skips mid header.len after
-    → IfSome mid (λ octets. body ≡ take header.len octets) → is_read header.kind header.subtype ≡ true → IfSome before (λ octets. FindsNext start octets (record_of at header body) after)
-finds None left mid after start at header body passed h skipped taken read = tt
-finds (Some octets) left mid after start at header body passed h skipped taken read =
+    → IfSome mid (λ octets. body ≡ take header.len octets) → kind_of header.kind header.subtype ≡ Some kind → IfSome before (λ octets. FindsNext start octets (record_as at kind body) after)
+finds None left mid after start at header kind body passed h skipped taken is_kind = tt
+finds (Some octets) left mid after start at header kind body passed h skipped taken is_kind =
     let reached = passed.0 in
     let here : TakesHeader at reached header mid = subst (λ o. IfSome o (λ t. TakesHeader at t header mid)) passed.1 h in
     let s = stood at reached header mid after here skipped in
@@ -115,8 +123,9 @@ finds (Some octets) left mid after start at header body passed h skipped taken r
       reached = reached;
       rest = drop header.len (drop 12 reached);
       passes = passed.2;
-      stands = s.0 ∙ ap (λ (b : List ℕ). Holds (record_of at header b) (drop header.len (drop 12 reached))) (sym is);
-      read = read;
+      stands = s.0 ∙ ap (λ (b : List ℕ). Holds (record_of at header b) (drop header.len (drop 12 reached))) (sym is)
+          ∙ ap (λ (r : Record). Holds r (drop header.len (drop 12 reached))) (as_kind at header kind body is_kind);
+      read = read_kind kind;
       leaves = s.1;
     }
 

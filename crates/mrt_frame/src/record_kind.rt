@@ -1,5 +1,5 @@
-ghost use Rattle.std.specs.Prelude.{◌≡◌, ◌⊎◌, Some, IsTrue};
-ghost use Rattle.mrt_frame.specs.Kinds.{is_table_dump, is_peer_table, is_rib, kind_of};
+ghost use Rattle.std.specs.Prelude.{◌≡◌};
+ghost use Rattle.mrt_frame.specs.Kinds.{address_octets, table_dump, rib, table_dump_v2, kind_of};
 
 /// The type of a routing table, a record a route (RFC 6396, section 4.2).
 const TABLE_DUMP: u16 = 12;
@@ -7,52 +7,91 @@ const TABLE_DUMP: u16 = 12;
 /// The type of a routing table with one table of its peers (RFC 6396, section 4.3).
 const TABLE_DUMP_V2: u16 = 13;
 
+/// The family of an address.
+#[derive(Clone, Copy, Debug, PartialEq, Eq)]
+pub enum Family {
+    Ipv4,
+    Ipv6,
+}
+
+/// Which fields an entry of a RIB has.
+#[derive(Clone, Copy, Debug, PartialEq, Eq)]
+pub enum EntryForm {
+    /// Those of RFC 6396, section 4.3.4.
+    Plain,
+    /// A path identifier besides, since a peer may give several paths to one prefix (RFC 8050, section 4).
+    WithPathId,
+}
+
+/// How the body of a RIB is to be read.
+#[derive(Clone, Copy, Debug, PartialEq, Eq)]
+pub struct RibForm {
+    /// That of its prefix.
+    pub family: Family,
+    pub entries: EntryForm,
+}
+
 /// What the body of a record is, of the records that are read.
 #[derive(Clone, Copy, Debug, PartialEq, Eq)]
 pub enum RecordKind {
-    /// A route of TABLE_DUMP, IPv4 or IPv6 (RFC 6396, section 4.2).
-    TableDump,
+    /// A route of TABLE_DUMP (RFC 6396, section 4.2).
+    TableDump(Family),
     /// A peer table of TABLE_DUMP_V2 (RFC 6396, section 4.3.1).
     PeerTable,
-    /// A RIB of TABLE_DUMP_V2, IPv4 or IPv6, unicast (RFC 6396, section 4.3.2).
-    Rib,
+    /// A unicast RIB of TABLE_DUMP_V2 (RFC 6396, section 4.3.2; RFC 8050, section 4).
+    Rib(RibForm),
 }
 
-fn is_table_dump(kind: u16, subtype: u16) -> bool
-    ensures test { result ≡ is_table_dump kind subtype }
-    ensures subtype { IsTrue result → (subtype ≡ 1) ⊎ (subtype ≡ 2) }
-{
-    kind == TABLE_DUMP && (subtype == 1 || subtype == 2)
+impl Family {
+    /// How many octets an address has.
+    pub fn octets(self) -> usize
+        ensures { result ≡ address_octets self }
+    {
+        match self {
+            Family::Ipv4 => 4,
+            Family::Ipv6 => 16,
+        }
+    }
 }
 
-fn is_peer_table(kind: u16, subtype: u16) -> bool
-    ensures { result ≡ is_peer_table kind subtype }
+fn table_dump(subtype: u16) -> Option<RecordKind>
+    ensures { result ≡ table_dump subtype }
 {
-    kind == TABLE_DUMP_V2 && subtype == 1
+    match subtype {
+        1 => Some(RecordKind::TableDump(Family::Ipv4)),
+        2 => Some(RecordKind::TableDump(Family::Ipv6)),
+        _ => None,
+    }
 }
 
-fn is_rib(kind: u16, subtype: u16) -> bool
-    ensures test { result ≡ is_rib kind subtype }
-    ensures subtype { IsTrue result → (subtype ≡ 2) ⊎ (subtype ≡ 4) }
+fn rib(family: Family, entries: EntryForm) -> RecordKind
+    ensures { result ≡ rib family entries }
 {
-    kind == TABLE_DUMP_V2 && (subtype == 2 || subtype == 4)
+    RecordKind::Rib(RibForm { family, entries })
+}
+
+fn table_dump_v2(subtype: u16) -> Option<RecordKind>
+    ensures { result ≡ table_dump_v2 subtype }
+{
+    match subtype {
+        1 => Some(RecordKind::PeerTable),
+        2 => Some(rib(Family::Ipv4, EntryForm::Plain)),
+        4 => Some(rib(Family::Ipv6, EntryForm::Plain)),
+        8 => Some(rib(Family::Ipv4, EntryForm::WithPathId)),
+        10 => Some(rib(Family::Ipv6, EntryForm::WithPathId)),
+        _ => None,
+    }
 }
 
 impl RecordKind {
     /// What the body of a record of this type and subtype is. None: such a record isn't read. It takes no memory.
     pub fn of(kind: u16, subtype: u16) -> Option<RecordKind>
-        ensures kind { result ≡ kind_of kind subtype }
-        ensures table_dump { result ≡ Some RecordKind.TableDump → (subtype ≡ 1) ⊎ (subtype ≡ 2) }
-        ensures rib { result ≡ Some RecordKind.Rib → (subtype ≡ 2) ⊎ (subtype ≡ 4) }
+        ensures { result ≡ kind_of kind subtype }
     {
-        if is_table_dump(kind, subtype) {
-            Some(RecordKind::TableDump)
-        } else if is_peer_table(kind, subtype) {
-            Some(RecordKind::PeerTable)
-        } else if is_rib(kind, subtype) {
-            Some(RecordKind::Rib)
-        } else {
-            None
+        match kind {
+            TABLE_DUMP => table_dump(subtype),
+            TABLE_DUMP_V2 => table_dump_v2(subtype),
+            _ => None,
         }
     }
 }

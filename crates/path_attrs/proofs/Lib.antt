@@ -2,4 +2,6 @@ pub mod Reading
 pub mod Encodings
 pub mod Blocks
 pub mod Values
+pub mod PathLemmas
 mod Vectors
+mod PathVectors

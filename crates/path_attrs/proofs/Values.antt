@@ -24,11 +24,11 @@ numbers-back n (suc count) bytes h =
       ap (λ k. take k bytes) e ∙ take-add n (n * count) bytes,
     )
 
-numbers-length : (n count : ℕ) (bytes : List ℕ) → length (numbers n count bytes) ≡ count
+pub numbers-length : (n count : ℕ) (bytes : List ℕ) → length (numbers n count bytes) ≡ count
 numbers-length n zero bytes = refl
 numbers-length n (suc count) bytes = ap suc (numbers-length n count (drop n bytes))
 
-numbers-at : (n : ℕ) (xs octets rest : List ℕ) → NumbersAreEncoded n xs octets → (length octets ≡ n * length xs) × (numbers n (length xs) (octets ++ rest) ≡ xs)
+pub numbers-at : (n : ℕ) (xs octets rest : List ℕ) → NumbersAreEncoded n xs octets → (length octets ≡ n * length xs) × (numbers n (length xs) (octets ++ rest) ≡ xs)
 numbers-at n [] octets rest s = (ap length s ∙ (let e : 0 ≡ n * 0 = omega arith in e), refl)
 numbers-at n (x ∷ xs) octets rest s =
     let prefix = s.0 in

@@ -1,3 +1,4 @@
 pub mod Fields
 pub mod Attributes
 pub mod Segments
+pub mod PathOf

@@ -1,6 +1,7 @@
 ghost use Rattle.std.specs.Prelude.{◌≡◌, ◌*◌, ◌<◌, ◌≤◌, length, IfSome, option_map};
 ghost use Rattle.byteorder.specs.Endian.{big_number};
 ghost use Rattle.path_attrs.specs.Segments.{octets_in, kind_of, segment, segment_of};
+ghost use Rattle.path_attrs.specs.PathOf.{is_confed};
 
 use byteorder::{BigEndian, ByteOrder};
 use tor_arena::List;
@@ -58,6 +59,13 @@ impl Width {
 }
 
 impl SegKind {
+    /// Whether it is that of a segment of a confederation (RFC 5065, section 3).
+    pub fn is_confed(self) -> bool
+        ensures { result ≡ is_confed self }
+    {
+        matches!(self, SegKind::ConfedSequence | SegKind::ConfedSet)
+    }
+
     fn from_code(code: u8) -> Option<SegKind>
         ensures { result ≡ kind_of code }
     {

@@ -2,6 +2,7 @@
 
 ghost use Rattle.std.specs.Prelude.{◌≡◌, ◌++◌, [], ◌∷◌, IfOk, MatchOption};
 ghost use Rattle.path_attrs.specs.Segments.{segments_of};
+ghost use Rattle.path_attrs.specs.PathOf.{count_in, cut_to};
 
 use crate::as_path::{SegKind, Segment, Width, head_of};
 use std::alloc::Global;
@@ -99,6 +100,29 @@ impl<'a> SegmentRef<'a> {
         self.kind
     }
 
+    // How many ASes it counts.
+    pub(crate) fn count(&self) -> usize
+        ensures { result ≡ count_in self.now }
+    {
+        match self.kind {
+            SegKind::Set => 1,
+            SegKind::Sequence => self.count,
+            SegKind::ConfedSequence | SegKind::ConfedSet => 0,
+        }
+    }
+
+    // The same as far as it has so many ASes.
+    pub(crate) fn cut_to(self, most: usize) -> SegmentRef<'a>
+        ensures { result ≡ cut_to most self.entry }
+    {
+        SegmentRef {
+            kind: self.kind,
+            count: self.count.min(most),
+            octets: self.octets,
+            width: self.width,
+        }
+    }
+
     /// Its AS numbers in order. It takes no memory.
     pub fn ases(&self) -> NumberCursor<'a>
         ensures { result ≡ self.now.ases }
@@ -146,7 +170,7 @@ impl NumberCursor<'_> {
 }
 
 // The numbers of a segment.
-fn numbers_of(alloc: Global, segment: &SegmentRef<'_>) -> Result<List<u32>, NoMemory>
+pub(crate) fn numbers_of(alloc: Global, segment: &SegmentRef<'_>) -> Result<List<u32>, NoMemory>
     ensures { IfOk result (λ ases. ases ≡ segment.now.ases) }
 {
     let mut ases = List::new(alloc);

@@ -7,6 +7,8 @@ mod cursor;
 mod fault;
 mod fields;
 mod laws;
+mod path;
+mod path_cursor;
 
 pub use as_path::{SegKind, Segment, Width};
 pub use block::{AttrCut, Attrs, attributes, whole_attributes};
@@ -14,6 +16,8 @@ pub use cursor::{NumberCursor, SegmentCursor, SegmentRef, segments};
 pub use fault::RibFault;
 pub use fields::{number16, octet, octets};
 pub use laws::{block_law, value_law};
+pub use path::{PathOf, path_of};
+pub use path_cursor::{PathCursor, Pathless};
 
 #[cfg(test)]
 mod tests;

@@ -1,5 +1,6 @@
 use crate::{
-    AttrCut, RibFault, SegKind, SegmentCursor, Width, attributes, number16, octet, octets, segments,
+    AttrCut, PathCursor, PathOf, Pathless, RibFault, SegKind, SegmentCursor, Width, attributes,
+    number16, octet, octets, path_of, segments,
 };
 use std::test::Fail;
 
@@ -53,4 +54,36 @@ fn reads_fields(rt: HostRuntime) {
     assert_eq!(rt; (next.len(), rest.len()), (13, 1));
     assert_eq!(rt; number16(rest, RibFault::Cut).err(), Some(RibFault::Cut));
     assert_eq!(rt; RibFault::from(AttrCut), RibFault::AttrCut);
+}
+
+// The AS_PATH 10 23456 20 in numbers of two octets, and the AS4_PATH 70000 20.
+static WITH_AS4_PATH: [u8; 24] = [
+    0x40, 2, 8, 2, 3, 0, 10, 91, 160, 0, 20, 0xc0, 17, 10, 2, 2, 0, 1, 17, 112, 0, 0, 0, 20,
+];
+
+#[test]
+fn merges_as4_path(rt: HostRuntime) -> Result<(), Fail> {
+    let attrs = attributes(&WITH_AS4_PATH).ok().ok_or("whole")?;
+    let PathOf::Segments(path) = path_of(rt.alloc(), &attrs, Width::Two)? else {
+        return Err("a path".into());
+    };
+    let [first, second] = path.as_slice() else {
+        return Err("two segments".into());
+    };
+    assert!(rt; first.ases.as_slice() == [10].as_slice());
+    assert!(rt; second.ases.as_slice() == [70000, 20].as_slice());
+    Ok(())
+}
+
+#[test]
+fn finds_no_path(rt: HostRuntime) -> Result<(), Fail> {
+    let attrs = attributes(&WITH_AS4_PATH).ok().ok_or("whole")?;
+    let read = PathCursor::over(&attrs, Width::Four);
+    assert_eq!(rt; read.err(), Some(Pathless::Malformed));
+    let none = attributes(&WITH_AS4_PATH[11..]).ok().ok_or("whole")?;
+    assert_eq!(rt;
+        PathCursor::over(&none, Width::Two).err(),
+        Some(Pathless::Absent)
+    );
+    Ok(())
 }

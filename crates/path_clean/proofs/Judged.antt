@@ -1,11 +1,11 @@
 -- What a route is cleaned to, and clean paths.
-use Rattle.std.proofs.Common.{◌≡◌, ℕ, zero, suc, Bool, true, false, not, cond, ◌&&◌, ◌||◌, nat_eq, ltb, leb, List, [], ◌∷◌, ◌++◌, length, Option, Some, None, refl, ap, ap₂, subst, ◌∙◌, arith}
+use Rattle.std.proofs.Common.{◌≡◌, ℕ, zero, suc, Bool, true, false, not, cond, ◌&&◌, ◌||◌, nat_eq, ltb, leb, List, [], ◌∷◌, ◌++◌, length, refl, ap, ap₂, subst, ◌∙◌, arith}
 use Rattle.std.specs.List.{list_any, dedup, dedup_from}
 use Rattle.std.proofs.lemmas.Bool.{ltb-true, leb-true, le-leb}
 use Rattle.std.proofs.lemmas.List.{append-nil}
-use Rattle.path_attrs.specs.Attributes.{first_value}
-use Rattle.path_attrs.specs.Segments.{segments_of}
-use Rattle.path_attrs.specs.declared.as_path.Width.{Width}
+use Rattle.path_attrs.specs.PathOf.{is_confed, path_of}
+use Rattle.path_attrs.specs.declared.path.PathOf.{PathOf}
+use Rattle.path_attrs.specs.declared.path.PathOf.TheVariants.{Absent, Malformed, Segments}
 use Rattle.path_attrs.specs.declared.as_path.Segment.{Segment}
 use Rattle.path_clean.specs.declared.cleaned.Sets.{Sets}
 use Rattle.path_clean.specs.declared.cleaned.Sets.TheVariants.{Cut, Skip}
@@ -14,7 +14,7 @@ use Rattle.path_clean.specs.declared.cleaned.Cause.TheVariants.{Confed, Reserved
 use Rattle.path_clean.specs.declared.cleaned.Cleaned.TheVariants.{Path, Aside}
 use Rattle.tor_arena.specs.Distinct.{is_distinct}
 use Rattle.path_clean.specs.Paths.{is_reserved, is_cleaned}
-use Rattle.path_clean.specs.Clean.{as_path, is_skip, is_confed, is_mixed_set, merged_path, judged, clean_segments, clean_value, clean_attribute, PathsAreClean, CleanPathsStay}
+use Rattle.path_clean.specs.Clean.{is_skip, is_mixed_set, merged_path, judged, clean_segments, clean_path, PathsAreClean, CleanPathsStay}
 
 long_enough : (n : ℕ) → ltb n 2 ≡ false → leb 2 n ≡ true
 long_enough zero e = absurd cc
@@ -49,16 +49,13 @@ segments-clean sets segments path h = by (list_any (λ s. is_confed s.kind) segm
     by false true h = absurd cc
     by false false h = judged-clean (merged_path segments) path h
 
-value-clean : (sets : Sets) (segments : Option (List Segment)) (path : List ℕ) → clean_value sets segments ≡ Path path → is_cleaned path ≡ true
-value-clean sets None path h = absurd cc
-value-clean sets (Some segments) path h = segments-clean sets segments path h
-
-attribute-clean : (sets : Sets) (width : Width) (value : Option (List ℕ)) (path : List ℕ) → clean_attribute sets width value ≡ Path path → is_cleaned path ≡ true
-attribute-clean sets width None path h = absurd cc
-attribute-clean sets width (Some value) path h = value-clean sets (segments_of width value) path h
+path-clean : (sets : Sets) (found : PathOf) (path : List ℕ) → clean_path sets found ≡ Path path → is_cleaned path ≡ true
+path-clean sets Absent path h = absurd cc
+path-clean sets Malformed path h = absurd cc
+path-clean sets (Segments segments) path h = segments-clean sets segments path h
 
 pub paths_are_clean : PathsAreClean
-paths_are_clean sets width attrs path h = attribute-clean sets width (first_value as_path attrs) path h
+paths_are_clean sets width attrs path h = path-clean sets (path_of width attrs) path h
 
 -- where no number stands twice, none is merged
 dedup-distinct : (k : ℕ) (xs : List ℕ) → list_any (λ y. nat_eq y k) xs ≡ false → is_distinct xs ≡ true → dedup_from nat_eq k xs ≡ k ∷ xs
@@ -107,8 +104,8 @@ none-skipped Cut = refl
 none-skipped Skip = refl
 
 pub clean_paths_stay : CleanPathsStay
-clean_paths_stay sets width attrs value path first is clean =
+clean_paths_stay sets width attrs path is clean =
     let parts = clean-parts path clean in
-    ap (clean_attribute sets width) first ∙ ap (clean_value sets) is
+    ap (clean_path sets) is
     ∙ ap (λ skips. cond skips (Aside Cause.Sets) (judged (dedup nat_eq (path ++ [])))) (none-skipped sets)
     ∙ ap (λ p. judged (dedup nat_eq p)) (append-nil path) ∙ ap judged (merged-distinct path parts.once) ∙ judged-stays path clean

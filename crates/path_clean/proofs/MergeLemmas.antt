@@ -7,11 +7,12 @@ use Rattle.std.proofs.Math.Seq.{get_or-append_seam}
 use Rattle.std.proofs.lemmas.List.Sums.{fold-append}
 use Rattle.std.proofs.lemmas.List.Concat.{flat_map-cons}
 use Rattle.path_attrs.specs.declared.as_path.Segment.{Segment}
+use Rattle.path_attrs.specs.PathOf.{is_confed}
 use Rattle.path_clean.specs.declared.cleaned.Sets.{Sets}
 use Rattle.path_clean.specs.declared.cleaned.Cause.{Cause}
 use Rattle.path_clean.specs.declared.cleaned.Cause.TheVariants.{Confed}
 use Rattle.path_clean.specs.declared.cleaned.Cleaned.TheVariants.{Aside}
-use Rattle.path_clean.specs.Clean.{is_confed, is_skip, is_mixed_set, ases_of, merged_path, judged, clean_segments}
+use Rattle.path_clean.specs.Clean.{is_skip, is_mixed_set, ases_of, merged_path, judged, clean_segments}
 use Rattle.path_clean.specs.Merging.{ends_in, merged_onto}
 
 last-is : (path : List ℕ) (k x : ℕ) → ends_in (path ++ k ∷ []) x ≡ nat_eq x k

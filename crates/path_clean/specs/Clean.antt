@@ -1,8 +1,10 @@
--- What a route's AS_PATH is cleaned to. The first rule that sets the route aside decides.
+-- What a route's AS path is cleaned to. The first rule that sets the route aside decides.
 use Rattle.std.specs.Prelude.{◌≡◌, ℕ, ◌==◌, Bool, true, false, not, ◌&&◌, nat_lt, nat_eq, List, [], ◌∷◌, length, take, Option, Some, None, if◌then◌else◌}
 use Rattle.std.specs.List.{list_any, list_all, flat_map, before_first, dedup}
-use Rattle.path_attrs.specs.Attributes.{Attribute, first_value}
-use Rattle.path_attrs.specs.Segments.{segments_of}
+use Rattle.path_attrs.specs.Attributes.{Attribute}
+use Rattle.path_attrs.specs.PathOf.{is_confed, path_of}
+use Rattle.path_attrs.specs.declared.path.PathOf.{PathOf}
+use Rattle.path_attrs.specs.declared.path.PathOf.TheVariants.{Absent, Malformed, Segments}
 use Rattle.path_attrs.specs.declared.as_path.Width.{Width}
 use Rattle.path_attrs.specs.declared.as_path.SegKind.{SegKind}
 use Rattle.path_attrs.specs.declared.as_path.SegKind.TheVariants.{Set, Sequence, ConfedSequence, ConfedSet}
@@ -16,22 +18,11 @@ use Rattle.path_clean.specs.declared.cleaned.Cleaned.TheVariants.{Path, Aside}
 use Rattle.tor_arena.specs.Distinct.{is_distinct}
 use Rattle.path_clean.specs.Paths.{is_reserved, is_cleaned}
 
--- the type code of AS_PATH (RFC 4271, section 5.1.2)
-abbrev pub as_path : ℕ
-as_path = 2
-
 abbrev pub is_set : SegKind → Bool
 is_set Set = true
 is_set Sequence = false
 is_set ConfedSequence = false
 is_set ConfedSet = false
-
--- a segment of a confederation: AS_CONFED_SEQUENCE or AS_CONFED_SET (RFC 5065, section 3)
-abbrev pub is_confed : SegKind → Bool
-is_confed Set = false
-is_confed Sequence = false
-is_confed ConfedSequence = true
-is_confed ConfedSet = true
 
 -- the members are all equal
 abbrev pub are_equal : List ℕ → Bool
@@ -75,19 +66,15 @@ clean_segments sets segments =
     else if is_skip sets && list_any is_mixed_set segments then Aside Cause.Sets
     else judged (merged_path segments)
 
--- the value is malformed (RFC 7606, section 7.2)
-abbrev pub clean_value : Sets → Option (List Segment) → Cleaned
-clean_value sets None = Aside BadSegments
-clean_value sets (Some segments) = clean_segments sets segments
+-- there is no AS_PATH; its value is malformed; or it has segments
+abbrev pub clean_path : Sets → PathOf → Cleaned
+clean_path sets Absent = Aside NoPath
+clean_path sets Malformed = Aside BadSegments
+clean_path sets (Segments segments) = clean_segments sets segments
 
--- there is no AS_PATH
-abbrev pub clean_attribute : Sets → Width → Option (List ℕ) → Cleaned
-clean_attribute sets width None = Aside NoPath
-clean_attribute sets width (Some value) = clean_value sets (segments_of width value)
-
--- the first AS_PATH counts
+-- the AS path of the attributes, merged with AS4_PATH where that counts
 abbrev pub clean_of : Sets → Width → List Attribute → Cleaned
-clean_of sets width attrs = clean_attribute sets width (first_value as_path attrs)
+clean_of sets width attrs = clean_path sets (path_of width attrs)
 
 -- what is cleaned to a path has at least two ASes, all distinct, none reserved
 abbrev pub PathsAreClean : Type 0
@@ -95,9 +82,9 @@ PathsAreClean =
     (sets : Sets) (width : Width) (attrs : List Attribute) (path : List ℕ)
     → clean_of sets width attrs ≡ Path path → is_cleaned path ≡ true
 
--- a clean path that is encoded as one AS_SEQUENCE comes out as it stands
+-- a clean path that is one AS_SEQUENCE comes out as it stands
 abbrev pub CleanPathsStay : Type 0
 CleanPathsStay =
-    (sets : Sets) (width : Width) (attrs : List Attribute) (value path : List ℕ)
-    → first_value as_path attrs ≡ Some value → segments_of width value ≡ Some (record { kind = Sequence; ases = path } ∷ [])
+    (sets : Sets) (width : Width) (attrs : List Attribute) (path : List ℕ)
+    → path_of width attrs ≡ Segments (record { kind = Sequence; ases = path } ∷ [])
     → is_cleaned path ≡ true → clean_of sets width attrs ≡ Path path

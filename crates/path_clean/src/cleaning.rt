@@ -2,17 +2,15 @@ ghost use Rattle.std.specs.Prelude.{◌≡◌, ◌&&◌, IfOk};
 ghost use Rattle.std.specs.List.{list_any};
 ghost use Rattle.tor_arena.specs.Distinct.{is_distinct};
 ghost use Rattle.path_clean.specs.Paths.{is_cleaned};
-ghost use Rattle.path_clean.specs.Clean.{is_confed, is_skip, judged, cleaned_as, clean_segments, clean_of};
+ghost use Rattle.path_attrs.specs.PathOf.{is_confed};
+ghost use Rattle.path_clean.specs.Clean.{is_skip, judged, cleaned_as, clean_segments, clean_of};
 
 use crate::cleaned::{Cause, Cleaned, Sets, are_distinct, has_reserved};
 use crate::merging::append_segments;
-use path_attrs::{Attrs, SegKind, SegmentCursor, Width};
+use path_attrs::{Attrs, PathCursor, Pathless, Width};
 use std::alloc::Global;
 use std::collections::BTreeSet;
 use tor_arena::{List, NoMemory};
-
-/// The type code of AS_PATH.
-const AS_PATH: u8 = 2;
 
 /// Paths of at most so many numbers are searched for loops in place.
 const SHORT_PATH: usize = 64;
@@ -36,7 +34,7 @@ pub fn clean(
 
 /// Cleans a route's attributes, with AS numbers of the width. None: `path`, whatever it held, is now what they are cleaned to. Else
 /// the cause for which the route is set aside, the first in this order, and `path` may be anything. No AS_PATH: NoPath. A malformed
-/// one: BadSegments. A confederation segment: Confed. An AS_SET whose members are all equal is read as that one AS; at any other,
+/// one: BadSegments. Else its segments are cleaned, merged with AS4_PATH where that counts, as `path_attrs::path_of` answers. A confederation segment: Confed. An AS_SET whose members are all equal is read as that one AS; at any other,
 /// `Skip` sets the route aside, Sets, and `Cut` ends the path before it. Then equal neighbours are merged. A reserved number is left:
 /// Reserved. An AS stands twice: Loop. Fewer than two are left: Short. NoMemory where memory ran out.
 pub fn clean_into(
@@ -48,11 +46,10 @@ pub fn clean_into(
 ) -> Result<Option<Cause>, NoMemory>
     ensures { IfOk result (λ cause. cleaned_as cause path.new ≡ clean_of sets width attrs.now) }
 {
-    let Some(value) = attrs.first(AS_PATH) else {
-        return Ok(Some(Cause::NoPath));
-    };
-    let Some(segments) = SegmentCursor::over(value, width) else {
-        return Ok(Some(Cause::BadSegments));
+    let segments = match PathCursor::over(attrs, width) {
+        Ok(segments) => segments,
+        Err(Pathless::Absent) => return Ok(Some(Cause::NoPath)),
+        Err(Pathless::Malformed) => return Ok(Some(Cause::BadSegments)),
     };
     clean_segments(alloc, sets, segments, path)
 }
@@ -60,7 +57,7 @@ pub fn clean_into(
 fn clean_segments(
     alloc: Global,
     sets: Sets,
-    segments: SegmentCursor<'_>,
+    segments: PathCursor<'_>,
     path: &mut List<u32>,
 ) -> Result<Option<Cause>, NoMemory>
     ensures { IfOk result (λ cause. cleaned_as cause path.new ≡ clean_segments sets segments.entry) }
@@ -86,22 +83,16 @@ fn skips_for_sets(sets: Sets, has_mixed_set: bool) -> bool
     }
 }
 
-fn has_confederation(segments: SegmentCursor<'_>) -> bool
+fn has_confederation(segments: PathCursor<'_>) -> bool
     ensures { result ≡ list_any (λ segment. is_confed segment.kind) segments.entry }
 {
     let mut left = segments;
     'segments: while let Some(segment) = left.next() {
-        if is_of_confederation(segment.kind()) {
+        if segment.kind().is_confed() {
             return true;
         }
     }
     false
-}
-
-fn is_of_confederation(kind: SegKind) -> bool
-    ensures { result ≡ is_confed kind }
-{
-    matches!(kind, SegKind::ConfedSequence | SegKind::ConfedSet)
 }
 
 /// Whether no number stands there twice. Long paths are sorted into a set, since the time for a search in place grows with the

@@ -8,7 +8,7 @@ pub fn paths_are_clean()
     ensures { PathsAreClean }
 {}
 
-/// A clean path that is encoded as one AS_SEQUENCE comes out as it stands.
+/// A clean path that is one AS_SEQUENCE comes out as it stands.
 pub fn clean_paths_stay()
     ensures { CleanPathsStay }
 {}

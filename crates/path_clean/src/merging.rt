@@ -5,7 +5,7 @@ ghost use Rattle.std.specs.List.{flat_map, before_first, list_any, list_all};
 ghost use Rattle.path_clean.specs.Clean.{are_equal, is_set, is_mixed_set, ases_of};
 ghost use Rattle.path_clean.specs.Merging.{ends_in, merged_onto};
 
-use path_attrs::{NumberCursor, SegKind, SegmentCursor, SegmentRef};
+use path_attrs::{NumberCursor, PathCursor, SegKind, SegmentRef};
 use tor_arena::{List, NoMemory};
 
 fn is_set(kind: SegKind) -> bool
@@ -92,7 +92,7 @@ fn append_segment(path: &mut List<u32>, segment: &SegmentRef<'_>) -> Result<(), 
 /// Puts the ASes before the first AS_SET whose members differ at the end of a path, and answers whether there is such a set.
 pub(crate) fn append_segments(
     path: &mut List<u32>,
-    segments: SegmentCursor<'_>,
+    segments: PathCursor<'_>,
 ) -> Result<bool, NoMemory>
     ensures path { OnOk result (path.new ≡ fold merged_onto path.old (flat_map ases_of (before_first is_mixed_set segments.entry))) }
     ensures mixed { IfOk result (λ mixed. mixed ≡ list_any is_mixed_set segments.entry) }

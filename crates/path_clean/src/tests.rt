@@ -19,7 +19,7 @@ enum Want {
     Aside(Cause),
 }
 
-static CASES: [Case; 15] = [
+static CASES: [Case; 29] = [
     // 10 10 20 20 30
     Case {
         block: &[0x40, 2, 12, 2, 5, 0, 10, 0, 10, 0, 20, 0, 20, 0, 30],
@@ -114,6 +114,126 @@ static CASES: [Case; 15] = [
         cut: Want::Aside(Cause::BadSegments),
         skip: Want::Aside(Cause::BadSegments),
     },
+    // 10 23456 20, and the AS4_PATH 70000 20
+    Case {
+        block: &[
+            0x40, 2, 8, 2, 3, 0, 10, 91, 160, 0, 20, 192, 17, 10, 2, 2, 0, 1, 17, 112, 0, 0, 0, 20,
+        ],
+        cut: Want::Path(&[10, 70000, 20]),
+        skip: Want::Path(&[10, 70000, 20]),
+    },
+    // AS4_PATH before AS_PATH
+    Case {
+        block: &[
+            0xc0, 17, 10, 2, 2, 0, 1, 17, 112, 0, 0, 0, 20, 64, 2, 8, 2, 3, 0, 10, 91, 160, 0, 20,
+        ],
+        cut: Want::Path(&[10, 70000, 20]),
+        skip: Want::Path(&[10, 70000, 20]),
+    },
+    // 10 23456, and an AS4_PATH of three numbers
+    Case {
+        block: &[
+            0x40, 2, 6, 2, 2, 0, 10, 91, 160, 192, 17, 14, 2, 3, 0, 0, 0, 10, 0, 1, 17, 112, 0, 0,
+            0, 20,
+        ],
+        cut: Want::Aside(Cause::Reserved),
+        skip: Want::Aside(Cause::Reserved),
+    },
+    // AGGREGATOR of AS 10 beside AS4_AGGREGATOR
+    Case {
+        block: &[
+            0x40, 2, 8, 2, 3, 0, 10, 91, 160, 0, 20, 192, 7, 6, 0, 10, 192, 0, 2, 1, 192, 17, 10,
+            2, 2, 0, 1, 17, 112, 0, 0, 0, 20, 192, 18, 8, 0, 1, 17, 112, 192, 0, 2, 1,
+        ],
+        cut: Want::Aside(Cause::Reserved),
+        skip: Want::Aside(Cause::Reserved),
+    },
+    // AGGREGATOR of AS 10 without AS4_AGGREGATOR
+    Case {
+        block: &[
+            0x40, 2, 8, 2, 3, 0, 10, 91, 160, 0, 20, 192, 7, 6, 0, 10, 192, 0, 2, 1, 192, 17, 10,
+            2, 2, 0, 1, 17, 112, 0, 0, 0, 20,
+        ],
+        cut: Want::Path(&[10, 70000, 20]),
+        skip: Want::Path(&[10, 70000, 20]),
+    },
+    // AGGREGATOR of AS 23456 beside AS4_AGGREGATOR
+    Case {
+        block: &[
+            0x40, 2, 8, 2, 3, 0, 10, 91, 160, 0, 20, 192, 7, 6, 91, 160, 192, 0, 2, 1, 192, 17, 10,
+            2, 2, 0, 1, 17, 112, 0, 0, 0, 20, 192, 18, 8, 0, 1, 17, 112, 192, 0, 2, 1,
+        ],
+        cut: Want::Path(&[10, 70000, 20]),
+        skip: Want::Path(&[10, 70000, 20]),
+    },
+    // AS4_PATH with a segment of type 9
+    Case {
+        block: &[
+            0x40, 2, 8, 2, 3, 0, 10, 91, 160, 0, 20, 192, 17, 10, 9, 2, 0, 1, 17, 112, 0, 0, 0, 20,
+        ],
+        cut: Want::Aside(Cause::Reserved),
+        skip: Want::Aside(Cause::Reserved),
+    },
+    // AS4_PATH without octets
+    Case {
+        block: &[0x40, 2, 8, 2, 3, 0, 10, 91, 160, 0, 20, 192, 17, 0],
+        cut: Want::Aside(Cause::Reserved),
+        skip: Want::Aside(Cause::Reserved),
+    },
+    // two AS4_PATHs
+    Case {
+        block: &[
+            0x40, 2, 8, 2, 3, 0, 10, 91, 160, 0, 20, 192, 17, 10, 2, 2, 0, 1, 17, 112, 0, 0, 0, 20,
+            192, 17, 10, 2, 2, 0, 1, 17, 113, 0, 0, 0, 20,
+        ],
+        cut: Want::Path(&[10, 70000, 20]),
+        skip: Want::Path(&[10, 70000, 20]),
+    },
+    // a confederation in AS_PATH
+    Case {
+        block: &[
+            0x40, 2, 12, 3, 1, 252, 0, 2, 3, 0, 10, 91, 160, 0, 20, 192, 17, 10, 2, 2, 0, 1, 17,
+            112, 0, 0, 0, 20,
+        ],
+        cut: Want::Aside(Cause::Confed),
+        skip: Want::Aside(Cause::Confed),
+    },
+    // a confederation in AS4_PATH
+    Case {
+        block: &[
+            0x40, 2, 8, 2, 3, 0, 10, 91, 160, 0, 20, 192, 17, 16, 3, 1, 0, 0, 252, 0, 2, 2, 0, 1,
+            17, 112, 0, 0, 0, 20,
+        ],
+        cut: Want::Path(&[10, 70000, 20]),
+        skip: Want::Path(&[10, 70000, 20]),
+    },
+    // 10 {30 30} 23456, and the AS4_PATH 70000: the set counts as one
+    Case {
+        block: &[
+            0x40, 2, 14, 2, 1, 0, 10, 1, 2, 0, 30, 0, 30, 2, 1, 91, 160, 192, 17, 6, 2, 1, 0, 1,
+            17, 112,
+        ],
+        cut: Want::Path(&[10, 30, 70000]),
+        skip: Want::Path(&[10, 30, 70000]),
+    },
+    // 10 20 {30 40} 23456, and the AS4_PATH 70000
+    Case {
+        block: &[
+            0x40, 2, 16, 2, 2, 0, 10, 0, 20, 1, 2, 0, 30, 0, 40, 2, 1, 91, 160, 192, 17, 6, 2, 1,
+            0, 1, 17, 112,
+        ],
+        cut: Want::Path(&[10, 20]),
+        skip: Want::Aside(Cause::Sets),
+    },
+    // 10 23456 20, and the AS4_PATH 70000 {20 30}
+    Case {
+        block: &[
+            0x40, 2, 8, 2, 3, 0, 10, 91, 160, 0, 20, 192, 17, 16, 2, 1, 0, 1, 17, 112, 1, 2, 0, 0,
+            0, 20, 0, 0, 0, 30,
+        ],
+        cut: Want::Path(&[10, 70000]),
+        skip: Want::Aside(Cause::Sets),
+    },
 ];
 
 fn is_wanted(cleaned: &Cleaned, want: &Want) -> bool {
@@ -133,6 +253,19 @@ fn cleans(rt: HostRuntime) -> Result<(), Fail> {
             assert!(rt; is_wanted(&cleaned, want), "{sets:?} of {:?}", case.block);
         }
     }
+    Ok(())
+}
+
+// The AS_PATH 10 20 in numbers of four octets, and the AS4_PATH 30 20.
+static FOUR_OCTETS: [u8; 26] = [
+    64, 2, 10, 2, 2, 0, 0, 0, 10, 0, 0, 0, 20, 192, 17, 10, 2, 2, 0, 0, 0, 30, 0, 0, 0, 20,
+];
+
+#[test]
+fn as4_path_has_no_effect_in_four_octets(rt: HostRuntime) -> Result<(), Fail> {
+    let attrs = attributes(&FOUR_OCTETS).ok().ok_or("whole")?;
+    let cleaned = clean(rt.alloc(), Sets::Cut, &attrs, Width::Four)?;
+    assert!(rt; is_wanted(&cleaned, &Want::Path(&[10, 20])));
     Ok(())
 }
 

@@ -1,32 +1,30 @@
--- The body of a TABLE_DUMP record (RFC 6396, section 4.2). Subtype 1 is IPv4, 2 is IPv6.
-use Rattle.std.specs.Prelude.{ℕ, ◌*◌, ◌==◌, nat_le, List, length, Result, Ok, if◌then◌else◌}
+-- The body of a TABLE_DUMP record (RFC 6396, section 4.2).
+use Rattle.std.specs.Prelude.{ℕ, ◌*◌, ◌==◌, nat_le, List, length, Result, Ok}
+use Rattle.mrt_frame.specs.declared.record_kind.Family.{Family}
+use Rattle.mrt_frame.specs.Kinds.{address_octets}
 use Rattle.path_attrs.specs.declared.fault.RibFault.{RibFault}
 use Rattle.path_attrs.specs.declared.fault.RibFault.TheVariants.{Cut, Tail, PrefixLong, AttrCut}
 use Rattle.path_attrs.specs.Fields.{◌>>=◌, octets, number, check, or_fault}
 use Rattle.path_attrs.specs.Attributes.{Attribute, attributes_of}
 
--- how many octets an address has
-abbrev pub address_octets : ℕ → ℕ
-address_octets subtype = if subtype == 1 then 4 else 16
-
 -- the octets behind the fields before the attributes; a prefix is no longer than an address
-unfoldable pub behind_fields : ℕ → List ℕ → Result (List ℕ) RibFault
-behind_fields subtype body = do
+unfoldable pub behind_fields : Family → List ℕ → Result (List ℕ) RibFault
+behind_fields family body = do
   view ← octets Cut 2 body
   sequence ← octets Cut 2 view.1
-  prefix ← octets Cut (address_octets subtype) sequence.1
+  prefix ← octets Cut (address_octets family) sequence.1
   prefix_length ← number Cut 1 prefix.1
-  fits ← check PrefixLong (nat_le prefix_length.0 (8 * address_octets subtype))
+  fits ← check PrefixLong (nat_le prefix_length.0 (8 * address_octets family))
   status ← octets Cut 1 prefix_length.1
   originated ← octets Cut 4 status.1
-  peer_ip ← octets Cut (address_octets subtype) originated.1
+  peer_ip ← octets Cut (address_octets family) originated.1
   peer_as ← octets Cut 2 peer_ip.1
   Ok peer_as.1
 
 -- the attributes of the route, or the first fault in the order of the fields
-unfoldable pub route_of : ℕ → List ℕ → Result (List Attribute) RibFault
-route_of subtype body = do
-  rest ← behind_fields subtype body
+unfoldable pub route_of : Family → List ℕ → Result (List Attribute) RibFault
+route_of family body = do
+  rest ← behind_fields family body
   attribute_length ← number Cut 2 rest
   block ← octets Cut attribute_length.0 attribute_length.1
   attributes ← or_fault AttrCut (attributes_of block.0)

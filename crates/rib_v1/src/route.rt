@@ -1,26 +1,17 @@
 ghost use Rattle.std.specs.Prelude.{◌≡◌, ◌≢◌, ◌⊎◌, IfErr};
 ghost use Rattle.path_attrs.specs.Fields.{Gives};
-ghost use Rattle.rib_v1.specs.TableDump.{address_octets, behind_fields, route_of};
+ghost use Rattle.rib_v1.specs.TableDump.{behind_fields, route_of};
 
+use mrt_frame::Family;
 use path_attrs::{Attrs, RibFault, attributes, number16, octet, octets};
-
-/// The subtype of IPv4.
-const IPV4: u16 = 1;
-
-// How many octets an address has.
-fn octets_of_address(subtype: u16) -> usize
-    ensures { result ≡ address_octets subtype }
-{
-    if subtype == IPV4 { 4 } else { 16 }
-}
 
 // The octets behind the fields before the attributes.
 #[tactic(auto, unfolding(crate::specs::TableDump::behind_fields))]
-fn behind_fields(subtype: u16, body: &[u8]) -> Result<&[u8], RibFault>
-    ensures gives { Gives (λ rest. rest.now) result (behind_fields subtype body.now) }
+fn behind_fields(family: Family, body: &[u8]) -> Result<&[u8], RibFault>
+    ensures gives { Gives (λ rest. rest.now) result (behind_fields family body.now) }
     ensures only { IfErr result (λ fault. (fault ≡ RibFault.Cut) ⊎ (fault ≡ RibFault.PrefixLong)) }
 {
-    let address_len = octets_of_address(subtype);
+    let address_len = family.octets();
     let (_view, rest) = octets(body, 2, RibFault::Cut)?;
     let (_sequence, rest) = octets(rest, 2, RibFault::Cut)?;
     let (_prefix, rest) = octets(rest, address_len, RibFault::Cut)?;
@@ -36,14 +27,13 @@ fn behind_fields(subtype: u16, body: &[u8]) -> Result<&[u8], RibFault>
 }
 
 /// The path attributes of the route of a TABLE_DUMP record (RFC 6396, section 4.2), or the first fault of its body in the order
-/// of the fields. Subtype 1 is IPv4, 2 is IPv6. It takes no memory.
+/// of the fields. Its addresses are of the family. It takes no memory.
 #[tactic(auto, unfolding(crate::specs::TableDump::route_of))]
-pub fn read_v1(subtype: u16, body: &[u8]) -> Result<Attrs<'_>, RibFault>
-    requires { (subtype ≡ 1) ⊎ (subtype ≡ 2) }
-    ensures route { result ≡ route_of subtype body.now }
+pub fn read_v1(family: Family, body: &[u8]) -> Result<Attrs<'_>, RibFault>
+    ensures route { result ≡ route_of family body.now }
     ensures never { (result ≢ Err RibFault.NoPeerTable) × (result ≢ Err RibFault.PeerRange) }
 {
-    let rest = behind_fields(subtype, body)?;
+    let rest = behind_fields(family, body)?;
     let (len, rest) = number16(rest, RibFault::Cut)?;
     let (block, rest) = octets(rest, usize::from(len), RibFault::Cut)?;
     let attrs = attributes(block)?;

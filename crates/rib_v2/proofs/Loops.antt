@@ -8,6 +8,8 @@ use Rattle.path_attrs.specs.declared.fault.RibFault.TheVariants as faults
 use Rattle.path_attrs.specs.declared.block.AttrCut.{AttrCut}
 use Rattle.path_attrs.specs.Fields.{◌>>=◌, check, or_fault}
 use Rattle.path_attrs.specs.Attributes.{Attribute, attributes_of, attributes_in}
+use Rattle.mrt_frame.specs.declared.record_kind.RibForm.{RibForm}
+use Rattle.mrt_frame.specs.declared.record_kind.EntryForm.{EntryForm}
 use Rattle.rib_v2.specs.declared.rib.Entry.{Entry}
 use Rattle.rib_v2.specs.PeerTable.{behind_peer, behind_peers}
 use Rattle.rib_v2.specs.Rib.{Fields, head, entry, entry_fields, entries_of, entries_in, rib_of}
@@ -43,45 +45,45 @@ pub from_none : (read : Result (List Entry) RibFault) → with_head [] read ≡ 
 from_none (Ok entries) = refl
 from_none (Err fault) = refl
 
-pub entries-step : (peers count i : ℕ) (bytes rest : List ℕ) (first : Entry) (before : List Entry) (all : Result (List Entry) RibFault) → i < count → entry peers bytes ≡ Ok (first, rest)
-    → with_head before (entries_of peers (count - i) bytes) ≡ all → with_head (before ++ first ∷ []) (entries_of peers (count - (i + 1)) rest) ≡ all
+pub entries-step : (form : EntryForm) (peers count i : ℕ) (bytes rest : List ℕ) (first : Entry) (before : List Entry) (all : Result (List Entry) RibFault) → i < count → entry form peers bytes ≡ Ok (first, rest)
+    → with_head before (entries_of form peers (count - i) bytes) ≡ all → with_head (before ++ first ∷ []) (entries_of form peers (count - (i + 1)) rest) ≡ all
 unfolding entries_of
-entries-step peers count i bytes rest first before all lt is same =
-    regroup (entries_of peers (count - (i + 1)) rest)
-    ∙ sym (ap (λ k. with_head before (entries_of peers k bytes)) (one_less count i lt)
-    ∙ ap (λ (r : Result (Entry × List ℕ) RibFault). with_head before (r >>= λ f. entries_of peers (count - (i + 1)) f.1 >>= λ others. Ok (f.0 ∷ others))) is)
+entries-step form peers count i bytes rest first before all lt is same =
+    regroup (entries_of form peers (count - (i + 1)) rest)
+    ∙ sym (ap (λ k. with_head before (entries_of form peers k bytes)) (one_less count i lt)
+    ∙ ap (λ (r : Result (Entry × List ℕ) RibFault). with_head before (r >>= λ f. entries_of form peers (count - (i + 1)) f.1 >>= λ others. Ok (f.0 ∷ others))) is)
     ∙ same
   where
     regroup : (read : Result (List Entry) RibFault) → with_head (before ++ first ∷ []) read ≡ with_head before (read >>= λ others. Ok (first ∷ others))
     regroup (Ok others) = ap (λ l. Ok l) (append_assoc before (first ∷ []) others)
     regroup (Err fault) = refl
 
-pub entries-fault : (peers count i : ℕ) (bytes : List ℕ) (fault : RibFault) (before : List Entry) (all : Result (List Entry) RibFault) → i < count → entry peers bytes ≡ Err fault
-    → with_head before (entries_of peers (count - i) bytes) ≡ all → all ≡ Err fault
+pub entries-fault : (form : EntryForm) (peers count i : ℕ) (bytes : List ℕ) (fault : RibFault) (before : List Entry) (all : Result (List Entry) RibFault) → i < count → entry form peers bytes ≡ Err fault
+    → with_head before (entries_of form peers (count - i) bytes) ≡ all → all ≡ Err fault
 unfolding entries_of
-entries-fault peers count i bytes fault before all lt is same =
-    sym same ∙ ap (λ k. with_head before (entries_of peers k bytes)) (one_less count i lt)
-    ∙ ap (λ (r : Result (Entry × List ℕ) RibFault). with_head before (r >>= λ f. entries_of peers (count - (i + 1)) f.1 >>= λ others. Ok (f.0 ∷ others))) is
+entries-fault form peers count i bytes fault before all lt is same =
+    sym same ∙ ap (λ k. with_head before (entries_of form peers k bytes)) (one_less count i lt)
+    ∙ ap (λ (r : Result (Entry × List ℕ) RibFault). with_head before (r >>= λ f. entries_of form peers (count - (i + 1)) f.1 >>= λ others. Ok (f.0 ∷ others))) is
 
-pub entries-end : (peers count i : ℕ) (bytes : List ℕ) (before : List Entry) (all : Result (List Entry) RibFault) → count ≤ i → (length bytes == 0) ≡ true
-    → with_head before (entries_of peers (count - i) bytes) ≡ all → all ≡ Ok before
+pub entries-end : (form : EntryForm) (peers count i : ℕ) (bytes : List ℕ) (before : List Entry) (all : Result (List Entry) RibFault) → count ≤ i → (length bytes == 0) ≡ true
+    → with_head before (entries_of form peers (count - i) bytes) ≡ all → all ≡ Ok before
 unfolding entries_of
-entries-end peers count i bytes before all le none same =
-    sym same ∙ ap (λ k. with_head before (entries_of peers k bytes)) (none_left count i le)
+entries-end form peers count i bytes before all le none same =
+    sym same ∙ ap (λ k. with_head before (entries_of form peers k bytes)) (none_left count i le)
     ∙ ap (λ b. with_head before (check Tail b >>= λ end. Ok [])) none ∙ ap (λ l. Ok l) (append-nil before)
 
-pub entries-tail : (peers count i : ℕ) (bytes : List ℕ) (before : List Entry) (all : Result (List Entry) RibFault) → count ≤ i → (length bytes == 0) ≡ false
-    → with_head before (entries_of peers (count - i) bytes) ≡ all → all ≡ Err Tail
+pub entries-tail : (form : EntryForm) (peers count i : ℕ) (bytes : List ℕ) (before : List Entry) (all : Result (List Entry) RibFault) → count ≤ i → (length bytes == 0) ≡ false
+    → with_head before (entries_of form peers (count - i) bytes) ≡ all → all ≡ Err Tail
 unfolding entries_of
-entries-tail peers count i bytes before all le more same =
-    sym same ∙ ap (λ k. with_head before (entries_of peers k bytes)) (none_left count i le)
+entries-tail form peers count i bytes before all le more same =
+    sym same ∙ ap (λ k. with_head before (entries_of form peers k bytes)) (none_left count i le)
     ∙ ap (λ b. with_head before (check Tail b >>= λ end. Ok [])) more
 
 -- ---- entries that are known to be whole
 
-pub whole : (peers count : ℕ) (bytes : List ℕ) → is_ok (entries_of peers count bytes) ≡ true → Ok (entries_in peers count bytes) ≡ entries_of peers count bytes
+pub whole : (form : EntryForm) (peers count : ℕ) (bytes : List ℕ) → is_ok (entries_of form peers count bytes) ≡ true → Ok (entries_in form peers count bytes) ≡ entries_of form peers count bytes
 unfolding entries_in
-whole peers count bytes ok = by (entries_of peers count bytes) ok
+whole form peers count bytes ok = by (entries_of form peers count bytes) ok
   where
     by : (read : Result (List Entry) RibFault) → is_ok read ≡ true → Ok (result_unwrap_or read []) ≡ read
     by (Ok entries) t = refl
@@ -90,19 +92,19 @@ whole peers count bytes ok = by (entries_of peers count bytes) ok
 abbrev at_end : Bool → Result (List Entry) RibFault
 at_end b = check Tail b >>= λ end. Ok []
 
-pub none_in : (peers count : ℕ) (bytes : List ℕ) → count ≡ 0 → entries_in peers count bytes ≡ []
+pub none_in : (form : EntryForm) (peers count : ℕ) (bytes : List ℕ) → count ≡ 0 → entries_in form peers count bytes ≡ []
 unfolding entries_of entries_in
-none_in peers count bytes none = ap (λ n. entries_in peers n bytes) none ∙ by (length bytes == 0)
+none_in form peers count bytes none = ap (λ n. entries_in form peers n bytes) none ∙ by (length bytes == 0)
   where
     by : (b : Bool) → result_unwrap_or (at_end b) [] ≡ []
     by true = refl
     by false = refl
 
 -- the first entry by its fields, and those behind it
-pub record First (peers count : ℕ) (bytes : List ℕ) (f : Fields) : Type 0 where
+pub record First (form : EntryForm) (peers count : ℕ) (bytes : List ℕ) (f : Fields) : Type 0 where
   pub block : is_ok (attributes_of f.block) ≡ true
-  pub rest : is_ok (entries_of peers (count - 1) f.rest) ≡ true
-  pub all : entries_in peers count bytes ≡ record { peer = f.peer; attrs = attributes_in f.block } ∷ entries_in peers (count - 1) f.rest
+  pub rest : is_ok (entries_of form peers (count - 1) f.rest) ≡ true
+  pub all : entries_in form peers count bytes ≡ record { peer = f.peer; attrs = attributes_in f.block } ∷ entries_in form peers (count - 1) f.rest
 
 abbrev with_attrs : Fields → List Attribute → Result (Entry × List ℕ) RibFault
 with_attrs f attrs = Ok (record { peer = f.peer; attrs = attrs }, f.rest)
@@ -110,38 +112,38 @@ with_attrs f attrs = Ok (record { peer = f.peer; attrs = attrs }, f.rest)
 abbrev entry_by : Fields → Result (List Attribute) AttrCut → Result (Entry × List ℕ) RibFault
 entry_by f read = or_fault faults.AttrCut read >>= with_attrs f
 
-abbrev then_others : (peers k : ℕ) → Entry × List ℕ → Result (List Entry) RibFault
-then_others peers k first = entries_of peers k first.1 >>= λ others. Ok (first.0 ∷ others)
+abbrev then_others : EntryForm → (peers k : ℕ) → Entry × List ℕ → Result (List Entry) RibFault
+then_others form peers k first = entries_of form peers k first.1 >>= λ others. Ok (first.0 ∷ others)
 
-abbrev behind_first : (peers k : ℕ) → Fields → Result (List Attribute) AttrCut → Result (List Entry) RibFault
-behind_first peers k f read = entry_by f read >>= then_others peers k
+abbrev behind_first : EntryForm → (peers k : ℕ) → Fields → Result (List Attribute) AttrCut → Result (List Entry) RibFault
+behind_first form peers k f read = entry_by f read >>= then_others form peers k
 
-abbrev by_read : (peers k : ℕ) → Result Fields RibFault → Result (List Entry) RibFault
-by_read peers k read = (read >>= λ f. entry_by f (attributes_of f.block)) >>= then_others peers k
+abbrev by_read : EntryForm → (peers k : ℕ) → Result Fields RibFault → Result (List Entry) RibFault
+by_read form peers k read = (read >>= λ f. entry_by f (attributes_of f.block)) >>= then_others form peers k
 
-unrolled : (peers k : ℕ) (bytes : List ℕ) → entries_of peers (suc k) bytes ≡ by_read peers k (entry_fields peers bytes)
+unrolled : (form : EntryForm) (peers k : ℕ) (bytes : List ℕ) → entries_of form peers (suc k) bytes ≡ by_read form peers k (entry_fields form peers bytes)
 unfolding entry entries_of
-unrolled peers k bytes = refl
+unrolled form peers k bytes = refl
 
-by_fields : (peers count : ℕ) (bytes : List ℕ) (read : Result Fields RibFault) → 0 < count → entry_fields peers bytes ≡ read → entries_of peers count bytes ≡ by_read peers (count - 1) read
-by_fields peers count bytes read lt is =
+by_fields : (form : EntryForm) (peers count : ℕ) (bytes : List ℕ) (read : Result Fields RibFault) → 0 < count → entry_fields form peers bytes ≡ read → entries_of form peers count bytes ≡ by_read form peers (count - 1) read
+by_fields form peers count bytes read lt is =
     let e : count ≡ suc (count - 1) = omega (arith, lt) in
-    ap (λ n. entries_of peers n bytes) e ∙ unrolled peers (count - 1) bytes ∙ ap (by_read peers (count - 1)) is
+    ap (λ n. entries_of form peers n bytes) e ∙ unrolled form peers (count - 1) bytes ∙ ap (by_read form peers (count - 1)) is
 
-pub first_in : (peers count : ℕ) (bytes : List ℕ) (f : Fields) → 0 < count → entry_fields peers bytes ≡ Ok f → is_ok (entries_of peers count bytes) ≡ true → First peers count bytes f
+pub first_in : (form : EntryForm) (peers count : ℕ) (bytes : List ℕ) (f : Fields) → 0 < count → entry_fields form peers bytes ≡ Ok f → is_ok (entries_of form peers count bytes) ≡ true → First form peers count bytes f
 unfolding entries_in attributes_in
-first_in peers count bytes f lt is ok = by (attributes_of f.block) (entries_of peers (count - 1) f.rest) refl refl
+first_in form peers count bytes f lt is ok = by (attributes_of f.block) (entries_of form peers (count - 1) f.rest) refl refl
   where
-    first : entries_of peers count bytes ≡ behind_first peers (count - 1) f (attributes_of f.block)
-    first = by_fields peers count bytes (Ok f) lt is
+    first : entries_of form peers count bytes ≡ behind_first form peers (count - 1) f (attributes_of f.block)
+    first = by_fields form peers count bytes (Ok f) lt is
 
     one : List Attribute → Entry
     one attrs = record { peer = f.peer; attrs = attrs }
 
-    by : (attrs : Result (List Attribute) AttrCut) (others : Result (List Entry) RibFault) → attributes_of f.block ≡ attrs → entries_of peers (count - 1) f.rest ≡ others → First peers count bytes f
+    by : (attrs : Result (List Attribute) AttrCut) (others : Result (List Entry) RibFault) → attributes_of f.block ≡ attrs → entries_of form peers (count - 1) f.rest ≡ others → First form peers count bytes f
     by (Ok attrs) (Ok entries) ea eo =
-        let all : entries_of peers count bytes ≡ Ok (one attrs ∷ entries) =
-        first ∙ ap (behind_first peers (count - 1) f) ea ∙ ap (λ (r : Result (List Entry) RibFault). r >>= λ others. Ok (one attrs ∷ others)) eo in
+        let all : entries_of form peers count bytes ≡ Ok (one attrs ∷ entries) =
+        first ∙ ap (behind_first form peers (count - 1) f) ea ∙ ap (λ (r : Result (List Entry) RibFault). r >>= λ others. Ok (one attrs ∷ others)) eo in
         record {
           block = ap is_ok ea;
           rest = ap is_ok eo;
@@ -149,26 +151,26 @@ first_in peers count bytes f lt is ok = by (attributes_of f.block) (entries_of p
               ∙ sym (ap₂ (λ (a : List Attribute) (es : List Entry). one a ∷ es) (ap (λ r. result_unwrap_or r []) ea) (ap (λ r. result_unwrap_or r []) eo));
         }
     by (Ok attrs) (Err fault) ea eo =
-        absurd (let none = sym ok ∙ ap is_ok (first ∙ ap (behind_first peers (count - 1) f) ea
+        absurd (let none = sym ok ∙ ap is_ok (first ∙ ap (behind_first form peers (count - 1) f) ea
         ∙ ap (λ (r : Result (List Entry) RibFault). r >>= λ others. Ok (one attrs ∷ others)) eo) in cc)
-    by (Err fault) others ea eo = absurd (let none = sym ok ∙ ap is_ok (first ∙ ap (behind_first peers (count - 1) f) ea) in cc)
+    by (Err fault) others ea eo = absurd (let none = sym ok ∙ ap is_ok (first ∙ ap (behind_first form peers (count - 1) f) ea) in cc)
 
-pub no_fault : (peers count : ℕ) (bytes : List ℕ) (fault : RibFault) → 0 < count → entry_fields peers bytes ≡ Err fault → is_ok (entries_of peers count bytes) ≡ true → ⊥
-no_fault peers count bytes fault lt is ok = let none = sym ok ∙ ap is_ok (by_fields peers count bytes (Err fault) lt is) in absurd cc
+pub no_fault : (form : EntryForm) (peers count : ℕ) (bytes : List ℕ) (fault : RibFault) → 0 < count → entry_fields form peers bytes ≡ Err fault → is_ok (entries_of form peers count bytes) ≡ true → ⊥
+no_fault form peers count bytes fault lt is ok = let none = sym ok ∙ ap is_ok (by_fields form peers count bytes (Err fault) lt is) in absurd cc
 
-pub in-is : (peers count : ℕ) (bytes : List ℕ) (entries : List Entry) → entries_of peers count bytes ≡ Ok entries → entries_in peers count bytes ≡ entries
+pub in-is : (form : EntryForm) (peers count : ℕ) (bytes : List ℕ) (entries : List Entry) → entries_of form peers count bytes ≡ Ok entries → entries_in form peers count bytes ≡ entries
 unfolding entries_in
-in-is peers count bytes entries is = ap (λ r. result_unwrap_or r []) is
+in-is form peers count bytes entries is = ap (λ r. result_unwrap_or r []) is
 
 -- a RIB by its head
-pub no_table : (subtype : ℕ) (body : List ℕ) → rib_of subtype None body ≡ Err NoPeerTable
+pub no_table : (form : RibForm) (body : List ℕ) → rib_of form None body ≡ Err NoPeerTable
 unfolding rib_of
-no_table subtype body = refl
+no_table form body = refl
 
-pub head-fault : (subtype peers : ℕ) (body : List ℕ) (fault : RibFault) → head subtype body ≡ Err fault → rib_of subtype (Some peers) body ≡ Err fault
+pub head-fault : (form : RibForm) (peers : ℕ) (body : List ℕ) (fault : RibFault) → head form.family body ≡ Err fault → rib_of form (Some peers) body ≡ Err fault
 unfolding rib_of
-head-fault subtype peers body fault is = ap (λ (r : Result (ℕ × List ℕ) RibFault). r >>= λ count. entries_of peers count.0 count.1) is
+head-fault form peers body fault is = ap (λ (r : Result (ℕ × List ℕ) RibFault). r >>= λ count. entries_of form.entries peers count.0 count.1) is
 
-pub head-then : (subtype peers count : ℕ) (body rest : List ℕ) → head subtype body ≡ Ok (count, rest) → rib_of subtype (Some peers) body ≡ entries_of peers count rest
+pub head-then : (form : RibForm) (peers count : ℕ) (body rest : List ℕ) → head form.family body ≡ Ok (count, rest) → rib_of form (Some peers) body ≡ entries_of form.entries peers count rest
 unfolding rib_of
-head-then subtype peers count body rest is = ap (λ (r : Result (ℕ × List ℕ) RibFault). r >>= λ c. entries_of peers c.0 c.1) is
+head-then form peers count body rest is = ap (λ (r : Result (ℕ × List ℕ) RibFault). r >>= λ c. entries_of form.entries peers c.0 c.1) is

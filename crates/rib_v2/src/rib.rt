@@ -1,16 +1,14 @@
-ghost use Rattle.std.specs.Prelude.{◌≡◌, ◌++◌, ◌<◌, ◌⊎◌, [], ◌∷◌, length, IfOk, IsNone, MatchOption, option_map};
+ghost use Rattle.std.specs.Prelude.{◌≡◌, ◌++◌, ◌<◌, [], ◌∷◌, length, IfOk, IsNone, MatchOption, option_map};
 ghost use Rattle.path_attrs.specs.Fields.{Gives};
-ghost use Rattle.rib_v2.specs.Rib.{address_octets, entry, entry_fields, entries_of, head, rib_of, IsAnswer};
+ghost use Rattle.rib_v2.specs.Rib.{path_id_octets, entry, entry_fields, entries_of, head, rib_of, IsAnswer};
 
 use crate::error::RibError;
 use crate::peer_table::Peers;
+use mrt_frame::{EntryForm, Family, RibForm};
 use path_attrs::{Attrs, RibFault, attributes, number16, octet, octets, whole_attributes};
 use std::alloc::Global;
 use std::marker::Model;
 use tor_arena::{List, NoMemory};
-
-/// The subtype RIB_IPV4_UNICAST.
-const IPV4: u16 = 2;
 
 /// One entry of a RIB: the index of its peer, and its path attributes.
 #[derive(Debug, Drop)]
@@ -19,21 +17,24 @@ pub struct Entry<'a> {
     pub attrs: Attrs<'a>,
 }
 
-// How many octets an address has.
-fn octets_of_address(subtype: u16) -> usize
-    ensures { result ≡ address_octets subtype }
+// How many octets the path identifier of an entry has.
+fn octets_of_path_id(form: EntryForm) -> usize
+    ensures { result ≡ path_id_octets form }
 {
-    if subtype == IPV4 { 4 } else { 16 }
+    match form {
+        EntryForm::Plain => 0,
+        EntryForm::WithPathId => 4,
+    }
 }
 
 // The fields before the entries: the count of entries, and the octets behind it.
 #[tactic(auto, unfolding(crate::specs::Rib::head))]
-fn head_of(subtype: u16, body: &[u8]) -> Result<(u16, &[u8]), RibFault>
-    ensures { Gives (λ x. (x.0, x.1.now)) result (head subtype body.now) }
+fn head_of(family: Family, body: &[u8]) -> Result<(u16, &[u8]), RibFault>
+    ensures { Gives (λ x. (x.0, x.1.now)) result (head family body.now) }
 {
     let (_sequence, rest) = octets(body, 4, RibFault::Cut)?;
     let (prefix_len, rest) = octet(rest, RibFault::Cut)?;
-    if usize::from(prefix_len) > 8 * octets_of_address(subtype) {
+    if usize::from(prefix_len) > 8 * family.octets() {
         return Err(RibFault::PrefixLong);
     }
     let (_prefix, rest) = octets(rest, usize::from(prefix_len).div_ceil(8), RibFault::Cut)?;
@@ -42,14 +43,20 @@ fn head_of(subtype: u16, body: &[u8]) -> Result<(u16, &[u8]), RibFault>
 
 // The fields of the entry that stands first: the index of its peer, the octets of its attributes, and those behind it.
 #[tactic(auto, unfolding(crate::specs::Rib::entry_fields))]
-fn fields_of<'a>(peers: &Peers, bytes: &'a [u8]) -> Result<(u16, &'a [u8], &'a [u8]), RibFault>
-    ensures { Gives (λ x. (record { peer = x.0; block = x.1.now; rest = x.2.now })) result (entry_fields peers.now.count bytes.now) }
+fn fields_of<'a>(
+    form: EntryForm,
+    peers: &Peers,
+    bytes: &'a [u8],
+) -> Result<(u16, &'a [u8], &'a [u8]), RibFault>
+    ensures { Gives (λ x. (record { peer = x.0; block = x.1.now; rest = x.2.now })) result
+        (entry_fields form peers.now.count bytes.now) }
 {
     let (peer, rest) = number16(bytes, RibFault::Cut)?;
     if u32::from(peer) >= peers.count {
         return Err(RibFault::PeerRange);
     }
     let (_originated, rest) = octets(rest, 4, RibFault::Cut)?;
+    let (_path_id, rest) = octets(rest, octets_of_path_id(form), RibFault::Cut)?;
     let (len, rest) = number16(rest, RibFault::Cut)?;
     let (block, rest) = octets(rest, usize::from(len), RibFault::Cut)?;
     Ok((peer, block, rest))
@@ -57,10 +64,14 @@ fn fields_of<'a>(peers: &Peers, bytes: &'a [u8]) -> Result<(u16, &'a [u8], &'a [
 
 // The entry that stands first, and the octets behind it.
 #[tactic(auto, unfolding(crate::specs::Rib::entry))]
-fn entry_of<'a>(peers: &Peers, bytes: &'a [u8]) -> Result<(Entry<'a>, &'a [u8]), RibFault>
-    ensures { Gives (λ x. (x.0, x.1.now)) result (entry peers.now.count bytes.now) }
+fn entry_of<'a>(
+    form: EntryForm,
+    peers: &Peers,
+    bytes: &'a [u8],
+) -> Result<(Entry<'a>, &'a [u8]), RibFault>
+    ensures { Gives (λ x. (x.0, x.1.now)) result (entry form peers.now.count bytes.now) }
 {
-    let (peer, block, rest) = fields_of(peers, bytes)?;
+    let (peer, block, rest) = fields_of(form, peers, bytes)?;
     let attrs = attributes(block)?;
     Ok((Entry { peer, attrs }, rest))
 }
@@ -68,6 +79,7 @@ fn entry_of<'a>(peers: &Peers, bytes: &'a [u8]) -> Result<(Entry<'a>, &'a [u8]),
 /// The entries of a RIB that are still to come, where they lie.
 #[derive(Debug, Drop)]
 pub struct EntryCursor<'a> {
+    form: EntryForm,
     peers: Peers,
     count: u16,
     rest: &'a [u8],
@@ -80,19 +92,24 @@ impl<'a> Model for EntryCursor<'a> {
 
     ghost Value = { List Entry };
 
-    ghost view = { λ cursor. entries_in cursor.peers.count cursor.count cursor.rest.now };
+    ghost view = { λ cursor. entries_in cursor.form cursor.peers.count cursor.count cursor.rest.now };
 
-    ghost invariant = { λ cursor. IsOk (entries_of cursor.peers.count cursor.count cursor.rest.now) };
+    ghost invariant = { λ cursor. IsOk (entries_of cursor.form cursor.peers.count cursor.count cursor.rest.now) };
 }
 
 // So many entries, and nothing behind them.
-fn entries_over<'a>(peers: &Peers, count: u16, bytes: &'a [u8]) -> Result<EntryCursor<'a>, RibFault>
+fn entries_over<'a>(
+    form: EntryForm,
+    peers: &Peers,
+    count: u16,
+    bytes: &'a [u8],
+) -> Result<EntryCursor<'a>, RibFault>
     ensures few { IfOk result (λ entries. length entries ≡ count) }
-    ensures entries { result ≡ entries_of peers.now.count count bytes.now }
+    ensures entries { result ≡ entries_of form peers.now.count count bytes.now }
 {
     let mut rest = bytes;
     'entries: for _ in 0..count {
-        match entry_of(peers, rest) {
+        match entry_of(form, peers, rest) {
             Ok((_, behind)) => rest = behind,
             Err(fault) => return Err(fault),
         }
@@ -101,6 +118,7 @@ fn entries_over<'a>(peers: &Peers, count: u16, bytes: &'a [u8]) -> Result<EntryC
         return Err(RibFault::Tail);
     }
     Ok(EntryCursor {
+        form,
         peers: *peers,
         count,
         rest: bytes,
@@ -108,24 +126,23 @@ fn entries_over<'a>(peers: &Peers, count: u16, bytes: &'a [u8]) -> Result<EntryC
 }
 
 impl<'a> EntryCursor<'a> {
-    /// The entries of a RIB_IPV4_UNICAST or RIB_IPV6_UNICAST record, subtypes 2 and 4 (RFC 6396, sections 4.3.2 and 4.3.4), in
-    /// order, or the first fault of its body in the order of the fields. `peers` is the file's last peer table so far: NoPeerTable
-    /// where there is none, before any field. The whole body is tested. It takes no memory.
+    /// The entries of a unicast RIB (RFC 6396, sections 4.3.2 and 4.3.4; RFC 8050, section 4), in order, or the first fault of its
+    /// body in the order of the fields. `peers` is the file's last
+    /// peer table so far: NoPeerTable where there is none, before any field. The whole body is tested. It takes no memory.
     pub fn over(
-        subtype: u16,
+        form: RibForm,
         peers: Option<&Peers>,
         body: &'a [u8],
     ) -> Result<EntryCursor<'a>, RibFault>
-        requires { (subtype ≡ 2) ⊎ (subtype ≡ 4) }
-        ensures entries { result ≡ rib_of subtype (option_map (λ p. p.now.count) peers.entry) body.now }
+        ensures entries { result ≡ rib_of form (option_map (λ p. p.now.count) peers.entry) body.now }
         ensures no_table { IsNone peers.entry → result ≡ Err RibFault.NoPeerTable }
         ensures few { IfOk result (λ entries. length entries < 65536) }
     {
         let Some(peers) = peers else {
             return Err(RibFault::NoPeerTable);
         };
-        let (count, rest) = head_of(subtype, body)?;
-        entries_over(peers, count, rest)
+        let (count, rest) = head_of(form.family, body)?;
+        entries_over(form.entries, peers, count, rest)
     }
 
     /// The next entry. None where there is none. It takes no memory.
@@ -135,7 +152,7 @@ impl<'a> EntryCursor<'a> {
         if self.count == 0 {
             return None;
         }
-        let Ok((peer, block, rest)) = fields_of(&self.peers, self.rest) else {
+        let Ok((peer, block, rest)) = fields_of(self.form, &self.peers, self.rest) else {
             unreachable!()
         };
         self.count -= 1;
@@ -150,16 +167,15 @@ impl<'a> EntryCursor<'a> {
 /// The entries that `EntryCursor` goes over, as a list, or the first fault. NoMemory where memory ran out.
 pub fn read_rib<'a>(
     alloc: Global,
-    subtype: u16,
+    form: RibForm,
     peers: Option<&Peers>,
     body: &'a [u8],
 ) -> Result<List<Entry<'a>>, RibError>
-    requires { (subtype ≡ 2) ⊎ (subtype ≡ 4) }
-    ensures answer { IsAnswer result (rib_of subtype (option_map (λ p. p.now.count) peers.entry) body.now) }
+    ensures answer { IsAnswer result (rib_of form (option_map (λ p. p.now.count) peers.entry) body.now) }
     ensures no_table { IsNone peers.entry → result ≡ Err (RibError.Fault RibFault.NoPeerTable) }
     ensures few { IfOk result (λ entries. length entries < 65536) }
 {
-    let entries = match EntryCursor::over(subtype, peers, body) {
+    let entries = match EntryCursor::over(form, peers, body) {
         Ok(entries) => entries,
         Err(fault) => return Err(RibError::Fault(fault)),
     };

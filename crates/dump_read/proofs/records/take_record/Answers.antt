@@ -1,20 +1,18 @@
-use Rattle.std.proofs.Common.{◌≡◌, Some, None, rules}
-use Rattle.mrt_frame.specs.Kinds.{kind_of}
-use Rattle.mrt_frame.specs.declared.record_kind.RecordKind.TheVariants.{PeerTable}
+use Rattle.std.proofs.Common.{Some, List, Result, sym, ap, subst, ◌∙◌}
+use Rattle.mrt_frame.specs.declared.record_kind.RecordKind.{RecordKind}
 use Rattle.mrt_frame.specs.Steps.{seen}
-use Rattle.dump_read.specs.Refusals.{count_of}
-use Rattle.dump_read.proofs.Takings.{nothing_taken, peer_table_taken}
+use Rattle.path_attrs.specs.declared.fault.RibFault.{RibFault}
+use Rattle.dump_read.specs.Routes.{Route, routes_in}
+use Rattle.dump_read.specs.Refusals.{count_of, TakesRead}
+use Rattle.dump_read.proofs.Takings.{routes_by_kind, peer_table_taken}
 use Rattle.dump_read.proofs.records.take_record.Goals as goal
 
-pub returns-in_ok-read_peers-in-Some-PeerTable-clause-taken : goal.returns-in_ok-read_peers-in-Some-PeerTable-clause-taken
-returns-in_ok-read_peers-in-Some-PeerTable-clause-taken c =
+pub returns-in_ok-read_peers-in-PeerTable-clause-taken : goal.returns-in_ok-read_peers-in-PeerTable-clause-taken
+returns-in_ok-read_peers-in-PeerTable-clause-taken c =
     let r = seen c.args.found.now in
-    let read = c.in_ok-read_peers-in-Some-PeerTable in
-    let is : kind_of r.kind r.subtype ≡ Some PeerTable = search rules in
-    peer_table_taken c.args.sets c.args.taken.now (count_of c.args.peers) r read.field-0 is read.ensures.peers
-
-pub returns-in-None-clause-taken : goal.returns-in-None-clause-taken
-returns-in-None-clause-taken c =
-    let r = seen c.args.found.now in
-    let is : kind_of r.kind r.subtype ≡ None = search rules in
-    nothing_taken c.args.sets c.args.taken.now (count_of c.args.peers) r is
+    let sets = c.args.sets in
+    let old = c.args.taken.now in
+    let peers = count_of c.args.peers in
+    let read = c.in_ok-read_peers-in-PeerTable in
+    let routes = routes_by_kind peers r.at c.args.found.now.kind r.body ∙ ap (λ (k : RecordKind). routes_in (Some k) peers r.body) c.in-PeerTable.is in
+    subst (λ (x : Result (List Route) RibFault). TakesRead sets old x old) (sym routes) (peer_table_taken sets old r.body read.field-0 read.ensures.peers)

@@ -1,6 +1,7 @@
 use Rattle.std.proofs.Common.{◌≡◌, ◌&&◌, IfOk, [], false, subst, rules}
+use Rattle.path_attrs.specs.PathOf.{is_confed}
 use Rattle.std.specs.List.{fold, flat_map, before_first, list_any}
-use Rattle.path_clean.specs.Clean.{is_confed, is_skip, is_mixed_set, ases_of, judged, cleaned_as}
+use Rattle.path_clean.specs.Clean.{is_skip, is_mixed_set, ases_of, judged, cleaned_as}
 use Rattle.path_clean.specs.Merging.{merged_onto}
 use Rattle.path_clean.proofs.MergeLemmas.{path_judged}
 use Rattle.path_clean.proofs.cleaning.clean_segments.Goals as goal

@@ -1,6 +1,6 @@
 use Rattle.std.proofs.Common.{◌≡◌, length}
+use Rattle.path_attrs.specs.PathOf.{is_confed}
 use Rattle.std.specs.List.{list_any}
-use Rattle.path_clean.specs.Clean.{is_confed}
 use Rattle.path_clean.proofs.cleaning.has_confederation.Given as goal
 
 abbrev pub invariant-segments : goal.invariant-segments

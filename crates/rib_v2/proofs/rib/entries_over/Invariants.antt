@@ -7,4 +7,4 @@ use Rattle.rib_v2.proofs.rib.entries_over.Given as goal
 -- one entry for each turn, and with those that are left they are all
 abbrev pub invariant-entries : goal.invariant-entries
 invariant-entries l = (before : List Entry) × (length before ≡ l.counter)
-    × (with_head before (entries_of l.peers.count (l.count - l.counter) l.rest) ≡ entries_of l.peers.count l.count l.bytes)
+    × (with_head before (entries_of l.form l.peers.count (l.count - l.counter) l.rest) ≡ entries_of l.form l.peers.count l.count l.bytes)

@@ -1,14 +1,12 @@
 use Rattle.std.proofs.Common.{◌≡◌, ◌≤◌, Bool, true, false, Result, Ok, Err, None, Some, IfOk, IfSome, rules, arith, refl, sym, ap, subst, ◌∙◌}
 use Rattle.std.specs.Prelude.{IfNone}
-use Rattle.std.proofs.Math.Path.{ap₂}
 use Rattle.mrt_frame.specs.declared.error.FrameError.{FrameError}
 use Rattle.mrt_frame.specs.declared.header.At.{At}
-use Rattle.mrt_frame.specs.Kinds.{is_read}
 use Rattle.mrt_frame.specs.Records.{Record, Well, behind}
 use Rattle.mrt_frame.specs.declared.cursor.Cursor.{Cursor}
 use Rattle.mrt_frame.specs.declared.error.FrameError.TheVariants.{ReadFault}
 use Rattle.mrt_frame.specs.declared.frames.Frames.{Frames}
-use Rattle.mrt_frame.specs.Frames.{FindsNext, StopsWith, IfFault, record_of, end_of_error}
+use Rattle.mrt_frame.specs.Frames.{FindsNext, StopsWith, IfFault, record_as, end_of_error}
 use Rattle.mrt_frame.specs.Steps.{Answer, HasMoved, seen}
 use Rattle.mrt_frame.proofs.Converse.{Matches, conversely, same_seen, of_octets}
 use Rattle.mrt_frame.proofs.frames.Frames+H.next.Goals as goal
@@ -39,7 +37,6 @@ returns-in_err-advance g c =
       (refl, (λ _. tt), subst (λ (r : Answer). HasMoved shelf old r new) is moved),
       record {
         ends = tt;
-        kind = subst (λ (r : Answer). IfOk r (λ found. IfSome found (λ r. is_read r.kind r.subtype ≡ true))) is tt;
         onward = subst (λ (r : Answer). IfOk r (λ found. IfSome found (λ r. place.offset ≤ r.at.offset))) is tt;
         end = subst (λ (r : Answer). IfOk r (λ found. IfNone found (IfSome before (λ octets. StopsWith place octets Well)))) is tt;
         stopped = subst (λ (r : Answer). IfFault r (λ end. IfSome before (λ octets. StopsWith place octets end))) is facts.stopped;
@@ -70,8 +67,8 @@ returns-then-branch g c =
     let left = shelf.left c.advance.new.shelf in
     let before = shelf.left c.args.self.now.shelf.now in
     let lent = c.record.result in
-    let same : record_of cursor.at cursor.header cursor.body.items ≡ seen lent =
-    same_seen cursor.at cursor.header cursor.body.items lent c.record.ensures.at c.record.ensures.kind c.record.ensures.subtype c.record.ensures.body in
+    let same : record_as cursor.at cursor.kind cursor.body.items ≡ seen lent =
+    same_seen cursor.at cursor.kind cursor.body.items lent c.record.ensures.at c.record.ensures.kind c.record.ensures.body in
     let stands : IfSome before (λ octets. FindsNext place octets (seen lent) left) = subst (λ (r : Record). IfSome before (λ octets. FindsNext place octets r left)) same (facts.record ok) in
     let given = conversely (Ok (Some lent)) before place left stands in (
       (
@@ -91,7 +88,6 @@ returns-then-branch g c =
       ),
       record {
         ends = tt;
-        kind = ap₂ is_read c.record.ensures.kind c.record.ensures.subtype ∙ facts.kind ok;
         onward = subst (λ (a : At). place.offset ≤ a.offset) (sym c.record.ensures.at) (facts.onward ok);
         end = tt;
         stopped = tt;
@@ -128,7 +124,6 @@ returns-else-branch g c =
       ),
       record {
         ends = tt;
-        kind = tt;
         onward = tt;
         end = facts.end no;
         stopped = tt;
