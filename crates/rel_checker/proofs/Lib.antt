@@ -34,6 +34,7 @@ pub mod Soundness
 pub mod StepLemmas
 pub mod SupportLemmas
 pub mod TotalLemmas
+pub mod Turning
 pub mod Flippings
 pub mod ValleyLemmas
 pub mod WalkLaws
