@@ -12,7 +12,7 @@ copy=$(mktemp -d)
 trap 'rm -rf "$copy"' EXIT
 cp "$top/HANDLES" "$copy"
 mkdir "$copy/crates"
-for crate in tor_arena relationships tor_digraph tor_components as_graph tor_clauses tor_solve path_select forced_edges path_attrs path_clean result_text; do
+for crate in tor_arena tor_numbers relationships tor_digraph tor_components as_graph tor_clauses tor_solve path_select forced_edges path_attrs path_clean result_text; do
     tar -C "$top/crates" --exclude=out -cf - "$crate" | tar -C "$copy/crates" -xf -
     grep "^$crate:" "$top/crates.txt" >> "$copy/crates.txt"
 done

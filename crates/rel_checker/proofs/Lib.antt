@@ -7,6 +7,7 @@ pub mod Climbing
 pub mod ComingBacks
 pub mod Consistencies
 pub mod EdgeListing
+pub mod EdgeNumbers
 pub mod EdgeTables
 pub mod FewEdges
 pub mod Firsts
@@ -34,6 +35,7 @@ pub mod Soundness
 pub mod StepLemmas
 pub mod SupportLemmas
 pub mod TotalLemmas
+pub mod Turning
 pub mod Flippings
 pub mod ValleyLemmas
 pub mod WalkLaws

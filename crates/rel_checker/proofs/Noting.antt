@@ -6,12 +6,13 @@ use Rattle.relationships.specs.Evidence.{IsTriple}
 use Rattle.result_text.specs.declared.file.EdgeLine.{EdgeLine}
 use Rattle.rel_checker.specs.declared.step.Step.{Step}
 use Rattle.rel_checker.specs.Neighbours.{HasNext, with_next}
-use Rattle.rel_checker.specs.Flipping.{climbs_on, SameRows, HaveArcs, AreNoted, flipped, flipped_orders, edges_of, IsBuilt, IsProper, TripleBefore, with_implied, with_conflicting}
+use Rattle.rel_checker.specs.Flipping.{climbs_on, number_of, SameRows, HaveArcs, AreNoted, flipped, flipped_orders, edges_of, IsBuilt, IsProper, TripleBefore, with_implied, with_conflicting}
 use Rattle.rel_checker.specs.PathSteps.{place_in, IsStepAlong, AreSteps}
 use Rattle.rel_checker.proofs.Buildings.{length-with_next, next_cases, next_kept, next_last, path_more, length-with_implied, length-with_conflicting}
 use Rattle.rel_checker.proofs.Climbing.{climb}
 use Rattle.rel_checker.proofs.Gets.{Contains-none, slice_get-replicate}
 use Rattle.rel_checker.proofs.StepLemmas.{length-steps, inside_lines, step_at}
+use Rattle.rel_checker.proofs.Turning.{steps_turned, steps_numbered}
 
 -- ---- rows with the same edges
 
@@ -88,15 +89,21 @@ arcs-new true false a b implied conflicting lt lt' k k' =
     (next_kept more b a a b within (next_last conflicting a b a b k refl refl), next_last more b a b a within refl refl)
 
 pub noted-none : (lines : List EdgeLine) (implied conflicting : List (List ℕ)) → AreNoted lines [] implied conflicting
-noted-none lines implied conflicting s t c = absurd (Contains-none (s.code, t.code) c)
+noted-none lines implied conflicting s t lt lt' c = absurd (Contains-none (number_of s t) c)
 
-pub noted-more : (lines : List EdgeLine) (pairs pairs' : List (ℕ × ℕ)) (first second : Step) (implied conflicting implied' conflicting' : List (List ℕ)) →
-    length implied ≡ length lines → length conflicting ≡ length lines → place_in first < length lines → place_in second < length lines →
-    pairs' ≡ pairs ++ (first.code, second.code) ∷ [] →
+-- where the number is there, so is what the two steps imply or rule out
+pub noted-there : (lines : List EdgeLine) (numbers : List ℕ) (s t : Step) (number : ℕ) (implied conflicting : List (List ℕ)) →
+    place_in s < length lines → place_in t < length lines → number ≡ number_of s t → Contains numbers number → AreNoted lines numbers implied conflicting →
+    HaveArcs (climbs_on lines s) (climbs_on lines t) (place_in s) (place_in t) implied conflicting
+noted-there lines numbers s t number implied conflicting lt lt' e there noted = noted s t lt lt' (subst (Contains numbers) e there)
+
+pub noted-more : (lines : List EdgeLine) (numbers numbers' : List ℕ) (first second : Step) (number : ℕ) (implied conflicting implied' conflicting' : List (List ℕ)) →
+    length lines ≤ 268435456 → length implied ≡ length lines → length conflicting ≡ length lines → place_in first < length lines → place_in second < length lines →
+    number ≡ number_of first second → numbers' ≡ numbers ++ number ∷ [] →
     implied' ≡ with_implied (climbs_on lines first) (climbs_on lines second) (place_in first) (place_in second) implied →
     conflicting' ≡ with_conflicting (climbs_on lines first) (climbs_on lines second) (place_in first) (place_in second) conflicting →
-    AreNoted lines pairs implied conflicting → AreNoted lines pairs' implied' conflicting'
-noted-more lines pairs pairs' first second implied conflicting implied' conflicting' many many' lt lt' e i c noted s t there =
+    AreNoted lines numbers implied conflicting → AreNoted lines numbers' implied' conflicting'
+noted-more lines numbers numbers' first second number implied conflicting implied' conflicting' few many many' lt lt' n e i c noted s t ls lt'' there =
     let up = climbs_on lines first in
     let up' = climbs_on lines second in
     let a = place_in first in
@@ -105,17 +112,17 @@ noted-more lines pairs pairs' first second implied conflicting implied' conflict
     let k₁ : b < length implied = omega (arith, many, lt') in
     let k₂ : a < length conflicting = omega (arith, many', lt) in
     let k₃ : b < length conflicting = omega (arith, many', lt') in
-    rw (i, c) (elim (Contains-push_cases pairs (first.code, second.code) (s.code, t.code) (subst (λ l. Contains l (s.code, t.code)) e there)) [
+    rw (i, c) (elim (Contains-push_cases numbers number (number_of s t) (subst (λ l. Contains l (number_of s t)) e there)) [
       | inl old ↦ arcs-kept (climbs_on lines s) (climbs_on lines t) a b (place_in s) (place_in t) implied conflicting (with_implied up up' a b implied) (with_conflicting up up' a b conflicting)
-          (λ x y h. kept-implied up up' a b x y implied k₀ k₁ h) (λ x y h. kept-conflicting up up' a b x y conflicting k₂ k₃ h) (noted s t old)
+          (λ x y h. kept-implied up up' a b x y implied k₀ k₁ h) (λ x y h. kept-conflicting up up' a b x y conflicting k₂ k₃ h) (noted s t ls lt'' old)
       | inr is ↦
           let here = arcs-new up up' a b implied conflicting k₀ k₁ k₂ k₃ in
-          let e₀ : first.code ≡ s.code = ap (λ (p : ℕ × ℕ). p.0) is in
-          let e₁ : second.code ≡ t.code = ap (λ (p : ℕ × ℕ). p.1) is in
-          let f₀ : first ≡ s = ap (λ n. record { code = n }) e₀ in
-          let f₁ : second ≡ t = ap (λ n. record { code = n }) e₁ in
-          subst (λ u. HaveArcs (climbs_on lines s) (climbs_on lines u) (place_in s) (place_in u) (with_implied up up' a b implied) (with_conflicting up up' a b conflicting)) f₁
-          (subst (λ u. HaveArcs (climbs_on lines u) up' (place_in u) b (with_implied up up' a b implied) (with_conflicting up up' a b conflicting)) f₀ here)
+          elim (steps_numbered first second s t (omega (arith, few, lt)) (omega (arith, few, lt')) (omega (arith, few, ls)) (omega (arith, few, lt'')) (sym n ∙ is)) [
+            | inl same ↦
+                subst (λ u. HaveArcs (climbs_on lines s) (climbs_on lines u) (place_in s) (place_in u) (with_implied up up' a b implied) (with_conflicting up up' a b conflicting)) same.1
+                (subst (λ u. HaveArcs (climbs_on lines u) up' (place_in u) b (with_implied up up' a b implied) (with_conflicting up up' a b conflicting)) same.0 here)
+            | inr other ↦ rw (other.0, other.1) (steps_turned lines first second (with_implied up up' a b implied) (with_conflicting up up' a b conflicting) here)
+          ]
     ])
 
 -- ---- along a path

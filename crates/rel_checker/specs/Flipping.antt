@@ -1,7 +1,7 @@
 -- Which orders imply which. Each edge has one order against its label; that the edge flips means that it has this order. Edge i
 -- implies edge j where, along a kept path, the order against i's label implies the order against j's label, and conflicts with it
 -- where it rules that order out. So the closure of an order against a label is read off the edges alone.
-use Rattle.std.specs.Prelude.{◌≡◌, ◌⊎◌, ◌↔◌, ℕ, ◌+◌, ◌<◌, Bool, true, false, not, List, ◌++◌, [], ◌∷◌, length, map, Some, All, Contains, slice_get, slice_index, slice_index_or}
+use Rattle.std.specs.Prelude.{◌≡◌, ◌⊎◌, ◌↔◌, ℕ, ◌+◌, ◌-◌, ◌*◌, ◌%◌, ◌^◌, ◌<◌, Bool, true, false, not, nat_lt, if◌then◌else◌, List, ◌++◌, [], ◌∷◌, length, map, Some, All, Contains, slice_get, slice_index, slice_index_or}
 use Rattle.relationships.specs.declared.label.Label.{Label}
 use Rattle.relationships.specs.declared.label.Label.TheVariants as label
 use Rattle.relationships.specs.Graph.{Edge, edge_of}
@@ -91,6 +91,18 @@ with_conflicting false false first second rows = rows
 abbrev pub climbs_on : List EdgeLine → Step → Bool
 climbs_on lines step = climbs (slice_index_or (labels_on lines) (place_in step) label.Peer) (rises_in step)
 
+-- the code of a step the other way round
+abbrev pub turned : Step → ℕ
+turned step = place_in step * 2 + (1 - step.code % 2)
+
+-- the codes of two consecutive steps, or of the two the other way round, whichever begin with the lesser code
+abbrev pub pair_of : Step → Step → ℕ × ℕ
+pair_of first second = if nat_lt (turned second) first.code then (turned second, turned first) else (first.code, second.code)
+
+-- the number of two consecutive steps, from 2 on, which is also that of the two the other way round
+abbrev pub number_of : Step → Step → ℕ
+number_of first second = (pair_of first second).0 * 2 ^ 32 + (pair_of first second).1 + 2
+
 -- the rows have the same edges
 abbrev pub SameRows : List (List ℕ) → List (List ℕ) → Type 0
 SameRows rows rows' = (length rows ≡ length rows') × ((i j : ℕ) → HasNext rows i j ↔ HasNext rows' i j)
@@ -102,10 +114,10 @@ HaveArcs false false first second implied conflicting = HasNext implied second f
 HaveArcs true false first second implied conflicting = HasNext conflicting first second × HasNext conflicting second first
 HaveArcs false true first second implied conflicting = Unit {0}
 
--- and so for all of these pairs of steps, each step as one number
-abbrev pub AreNoted : List EdgeLine → List (ℕ × ℕ) → List (List ℕ) → List (List ℕ) → Type 0
-AreNoted lines pairs implied conflicting = (s t : Step) → Contains pairs (s.code, t.code) →
-    HaveArcs (climbs_on lines s) (climbs_on lines t) (place_in s) (place_in t) implied conflicting
+-- and so for each two steps that have one of these numbers
+abbrev pub AreNoted : List EdgeLine → List ℕ → List (List ℕ) → List (List ℕ) → Type 0
+AreNoted lines numbers implied conflicting = (s t : Step) → place_in s < length lines → place_in t < length lines →
+    Contains numbers (number_of s t) → HaveArcs (climbs_on lines s) (climbs_on lines t) (place_in s) (place_in t) implied conflicting
 
 -- the triples of the paths, and those of one path more at the places below `end`
 abbrev pub TripleBefore : List (List ℕ) → List ℕ → ℕ → ℕ → ℕ → ℕ → Type 0

@@ -14,7 +14,7 @@ use crate::lending::{path_line_at, steps_at};
 use crate::step::Step;
 use crate::supports::count_kept;
 use crate::valleys::is_served;
-use result_text::{EdgeLine, ResultFile};
+use result_text::{EdgeLine, PathLines, ResultFile};
 use std::alloc::Global;
 use tor_arena::{Keys, List, NoMemory, PathId, RowRefused, Rows};
 
@@ -30,6 +30,7 @@ pub(crate) fn list_edges(
 {
     let mut table = EdgeTable::new(alloc, keys);
     let mut rows = Rows::new(alloc);
+    rows.reserve(file.paths.len(), numbers_on(&file.paths))?;
     let mut steps = List::new(alloc);
     for place in 0..file.paths.len() {
         let line = path_line_at(&file.paths, place);
@@ -38,6 +39,15 @@ pub(crate) fn list_edges(
         add_row(&mut rows, steps.as_slice())?;
     }
     Ok((table, rows))
+}
+
+/// How many AS numbers the paths have in sum, for which memory is taken at once.
+fn numbers_on(lines: &PathLines) -> usize {
+    let mut sum = 0usize;
+    for place in 0..lines.len() {
+        sum = sum.saturating_add(path_line_at(lines, place).path().len());
+    }
+    sum
 }
 
 /// Adds a row, where there are not too many.

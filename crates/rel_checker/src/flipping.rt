@@ -4,18 +4,18 @@
 ghost use Rattle.std.specs.Prelude.{◌≡◌, ◌<◌, ◌≤◌, ℕ, ◌∷◌, ◌++◌, [], List as Items, length, OnOk, IfOk};
 ghost use Rattle.tor_arena.specs.Limits.{most_places};
 ghost use Rattle.rel_checker.specs.File.{its_edges, its_paths};
-ghost use Rattle.rel_checker.specs.Flipping.{climbs, climbs_on, SameRows, AreNoted, flipped_orders, edges_of, IsBuiltFor, with_implied, with_conflicting, with_kept, kept_lines, IsProper};
+ghost use Rattle.rel_checker.specs.Flipping.{climbs, climbs_on, number_of, SameRows, AreNoted, flipped_orders, edges_of, IsBuiltFor, with_implied, with_conflicting, with_kept, kept_lines, IsProper};
 ghost use Rattle.rel_checker.specs.PathSteps.{place_in, AreSteps, HaveSteps};
 
 use crate::labels::Labels;
 use crate::lending::{path_line_at, steps_at};
 use crate::neighbours::Neighbours;
-use crate::pairs::Pairs;
 use crate::step::Step;
 use relationships::Label;
 use result_text::{PathLineRef, ResultFile};
 use std::alloc::Global;
 use tor_arena::{EdgeId, Index, Keys, NoMemory, PathId, Rows};
+use tor_numbers::NumberSet;
 
 /// For each edge the edges that it implies, which flip where it does, and those with which it
 /// conflicts, which can't flip where it does.
@@ -57,6 +57,21 @@ fn climbs(label: Label, rises: bool) -> bool
     }
 }
 
+/// The number of two consecutive steps, from 2 on, which is also that of the two the other way round.
+fn number_of(first: Step, second: Step) -> u64
+    requires first { place_in first < most_places }
+    requires second { place_in second < most_places }
+    ensures number { result ≡ number_of first second }
+    ensures least { 2 ≤ result }
+{
+    let (start, end) = if second.turned_code() < first.code() {
+        (second.turned_code(), first.turned_code())
+    } else {
+        (first.code(), second.code())
+    };
+    u64::from(start) * 4294967296 + u64::from(end) + 2
+}
+
 impl Flips {
     /// Notes what two consecutive steps of a path imply or rule out.
     fn note(&mut self, first: &Climb, second: &Climb) -> Result<(), NoMemory>
@@ -79,11 +94,11 @@ impl Flips {
         }
     }
 
-    /// Notes what two consecutive steps of a path imply or rule out, unless the same two are among the pairs that were noted.
+    /// Notes what two consecutive steps of a path imply or rule out, unless these two, or the same the other way round, were noted.
     fn note_pair(
         &mut self,
         labels: &Labels<'_>,
-        noted: &mut Pairs,
+        noted: &mut NumberSet,
         first: Step,
         second: Step,
     ) -> Result<(), NoMemory>
@@ -99,18 +114,18 @@ impl Flips {
         ensures conflicting { OnOk result (SameRows self.new.conflicting (with_conflicting (climbs_on labels.now first)
             (climbs_on labels.now second) (place_in first) (place_in second) self.old.conflicting)) }
     {
-        if noted.has(first.code(), second.code()) {
-            return Ok(());
+        if noted.insert(number_of(first, second))? {
+            self.note(&climb_of(labels, first), &climb_of(labels, second))
+        } else {
+            Ok(())
         }
-        noted.push(first.code(), second.code())?;
-        self.note(&climb_of(labels, first), &climb_of(labels, second))
     }
 
     /// Notes what the steps of a path imply or rule out.
     fn note_path(
         &mut self,
         labels: &Labels<'_>,
-        noted: &mut Pairs,
+        noted: &mut NumberSet,
         path: &[u32],
         steps: &[Step],
     ) -> Result<(), NoMemory>
@@ -136,7 +151,7 @@ impl Flips {
     fn note_line(
         &mut self,
         labels: &Labels<'_>,
-        noted: &mut Pairs,
+        noted: &mut NumberSet,
         line: &PathLineRef<'_>,
         steps: &[Step],
     ) -> Result<(), NoMemory>
@@ -178,7 +193,7 @@ impl Flips {
             implied: Neighbours::new(alloc, count)?,
             conflicting: Neighbours::new(alloc, count)?,
         };
-        let mut noted = Pairs::new(alloc, keys);
+        let mut noted = NumberSet::new(alloc, keys);
         for place in 0..file.paths.len() {
             let line = path_line_at(&file.paths, place);
             flips.note_line(labels, &mut noted, &line, steps_at(steps, place))?;

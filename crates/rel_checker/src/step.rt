@@ -1,4 +1,5 @@
 ghost use Rattle.std.specs.Prelude.{◌≡◌, ◌<◌, ◌^◌};
+ghost use Rattle.rel_checker.specs.Flipping.{turned};
 ghost use Rattle.rel_checker.specs.PathSteps.{place_in, rises_in};
 
 /// A step of a path, from one AS to the next: the place of its edge, and whether it goes from the lower AS to the higher, in one
@@ -40,5 +41,12 @@ impl Step {
         ensures { result ≡ self.code }
     {
         self.code
+    }
+
+    /// The step the other way round, as one number. It takes no memory.
+    pub fn turned_code(self) -> u32
+        ensures { result ≡ turned self }
+    {
+        self.code / 2 * 2 + (1 - self.code % 2)
     }
 }

@@ -6,7 +6,8 @@ use std::test::Fail;
 use tor_arena::Keys;
 
 const HEAD: &str =
-    "tor|1\nsets|cut\nratio|60\naside|nopath|0\naside|badsegments|0\naside|confed|0\naside|sets|0\naside|reserved|0\naside|loop|0\naside|short|0\n";
+    "tor|1\nsets|cut\nratio|60\naside|nopath|0\naside|badsegments|0\naside|confed|0\n\
+    aside|sets|0\naside|reserved|0\naside|loop|0\naside|short|0\n";
 
 const PATHS: &str =
     "kept|1|30 40 20 10 50 60\nkept|1|10 20 30 40\nlost|1|50 60 10 20|10 20 30 40 20 10 50 60 10 20|2:2 2:3 1:2 1:3 1:4 1:5 3:2 3:3\n";
@@ -70,8 +71,8 @@ fn a_link_into_a_path_that_is_kept_later(rt: HostRuntime) -> Result<(), Fail> {
 
 #[test]
 fn a_link_to_no_path(rt: HostRuntime) -> Result<(), Fail> {
-    let paths =
-        "kept|1|30 40 20 10 50 60\nkept|1|10 20 30 40\nlost|1|50 60 10 20|10 20 30 40 20 10 50 60 10 20|2:2 2:3 4294967295:2 1:3 1:4 1:5 3:2 3:3\n";
+    let paths = "kept|1|30 40 20 10 50 60\nkept|1|10 20 30 40\n\
+        lost|1|50 60 10 20|10 20 30 40 20 10 50 60 10 20|2:2 2:3 4294967295:2 1:3 1:4 1:5 3:2 3:3\n";
     is_unrefuted_at(&rt, paths, Some(2))
 }
 

@@ -11,8 +11,8 @@ use Rattle.tor_clauses.specs.Literals.{negated, node_of, opposite_node}
 use Rattle.tor_clauses.specs.Triples.{arc_of, partner_of, is_same_triple}
 use Rattle.tor_clauses.specs.declared.lit.Lit.{Lit}
 use Rattle.tor_clauses.specs.Tables.{HasNodes, IsKnown, IsAdded, key_of, number_of_pair}
-use Rattle.tor_clauses.specs.Slots.{IsInserted}
-use Rattle.tor_clauses.proofs.SlotLemmas.{alone, contains_one, contains_none}
+use Rattle.tor_numbers.specs.Slots.{IsInserted}
+use Rattle.tor_numbers.proofs.SlotLemmas.{alone, contains_one, contains_none}
 use Rattle.tor_clauses.proofs.LiteralLemmas.{opposite_node_twice, node_below}
 use Rattle.tor_clauses.proofs.Sames.{Same, Same-from_test, test-from_Same, partner_same, partner_arc, reversed_arc, reversed_arc_twice, partner-reversed}
 

@@ -1,7 +1,6 @@
-ghost use Rattle.std.specs.Prelude.{◌≡◌, ◌<◌, ◌≤◌, length, IfOk, OnOk};
+ghost use Rattle.std.specs.Prelude.{◌≡◌, ◌<◌, length, IfOk, OnOk};
 ghost use Rattle.tor_clauses.specs.Formulas.{FitsGraph};
 
-use crate::number_set::NumberSet;
 use crate::{ClauseMark, Clauses, Lit, Triple};
 use as_graph::{AsGraph, Orientation, build};
 use relationships::{End, Link};
@@ -188,28 +187,5 @@ fn a_reverse_is_no_new_triple_and_an_undo_goes_back(rt: HostRuntime) -> Result<(
     let (before, after) = states_of_three(rt.alloc(), Keys::new(&rt))?;
     assert!(rt; is_expected(&before));
     assert!(rt; is_expected(&after));
-    Ok(())
-}
-
-/// Adds a hundred numbers in a row, and answers how many of them were new.
-fn add_hundred(set: &mut NumberSet, first: u64) -> Result<usize, Fail>
-    requires { 2 ≤ first }
-{
-    let mut count: usize = 0;
-    for step in 0..100 {
-        if set.insert(first.saturating_add(step))? {
-            count = count.saturating_add(1);
-        }
-    }
-    Ok(count)
-}
-
-#[test]
-fn numbers_are_added_once_and_let_go(rt: HostRuntime) -> Result<(), Fail> {
-    let mut set = NumberSet::new(rt.alloc(), Keys::new(&rt));
-    assert_eq!(rt; add_hundred(&mut set, 2)?, 100);
-    assert_eq!(rt; add_hundred(&mut set, 52)?, 50);
-    set.cut_to(0);
-    assert_eq!(rt; add_hundred(&mut set, 52)?, 100);
     Ok(())
 }

@@ -2,12 +2,12 @@ ghost use Rattle.std.specs.Prelude.{◌≡◌, ◌<◌, ◌≤◌, ◌↔◌, �
 ghost use Rattle.tor_clauses.specs.Tables.{HasNodes, IsSatisfied, IsAdded, key_of, number_of_pair};
 
 use crate::lit::Lit;
-use crate::number_set::NumberSet;
 use crate::triple::Triple;
 use relationships::End;
 use std::alloc::Global;
 use std::marker::Model;
 use tor_arena::{Arena, Index, Keys, NoMemory, NodeId, TripleId};
+use tor_numbers::NumberSet;
 
 /// Triples in the order in which they were added, to be found by their literals.
 #[derive(Drop)]

@@ -1,16 +1,24 @@
-use Rattle.std.proofs.Common.{rules, ◌≡◌, position, subst}
-use Rattle.std.specs.List.{IsDistinct}
+use Rattle.std.proofs.Common.{◌≡◌, ◌∙◌, ◌<◌, ◌↔◌, ℕ, Some, MatchOption, IsTrue, Contains, length, ap, subst}
+use Rattle.std.specs.Prelude.{slice_get}
 use Rattle.relationships.specs.Graph.{edge_of, is_same}
-use Rattle.rel_checker.proofs.EdgeTables.{found_from_position, only_from_position}
+use Rattle.rel_checker.specs.Tables.{edge_at, number_of_edge}
+use Rattle.rel_checker.proofs.EdgeNumbers.{edge_list, numbered_edge, edge_found, edge_only}
+use Rattle.rel_checker.proofs.OrderPlaces.{pair}
 use Rattle.rel_checker.proofs.edge_table.EdgeTable.place.Goals as goal
 
 pub returns-clause-found : goal.returns-clause-found
 returns-clause-found c =
-    let at : c.get_index_of.result ≡ position (is_same (edge_of c.args.a c.args.b)) c.args.self.now = search rules in
-    found_from_position c.args.self.now (edge_of c.args.a c.args.b) c.get_index_of.result at
+    let n = c.number_of.result in
+    let e = edge_of c.args.a c.args.b in
+    let is = numbered_edge c.args.a c.args.b n c.ranges.a.fits c.ranges.b.fits (c.number_of.ensures.number ∙ ap number_of_edge (pair c.min.ensures c.max.ensures)) in
+    subst (λ es. MatchOption c.place.result (Contains es e → ⊥) (λ k. slice_get es k ≡ Some e)) c.self.view_is
+    (edge_found c.self.inside.numbers n e c.place.result c.self.invariant.1 c.number_of.ensures.least is.0 c.place.ensures)
 
 pub returns-clause-only : goal.returns-clause-only
 returns-clause-only c =
-    let at : c.get_index_of.result ≡ position (is_same (edge_of c.args.a c.args.b)) c.args.self.now = search rules in
-    let once : IsDistinct is_same c.args.self.now = subst (IsDistinct is_same) c.self.view_is c.self.invariant in
-    only_from_position c.args.self.now (edge_of c.args.a c.args.b) c.get_index_of.result at once
+    let n = c.number_of.result in
+    let e = edge_of c.args.a c.args.b in
+    let is = numbered_edge c.args.a c.args.b n c.ranges.a.fits c.ranges.b.fits (c.number_of.ensures.number ∙ ap number_of_edge (pair c.min.ensures c.max.ensures)) in
+    subst (λ es. (k : ℕ) → k < length es → IsTrue (is_same e (edge_at es k)) ↔ (c.place.result ≡ Some k)) c.self.view_is
+    (edge_only (edge_list c.self.inside.numbers) e c.place.result c.self.invariant.0
+    (edge_found c.self.inside.numbers n e c.place.result c.self.invariant.1 c.number_of.ensures.least is.0 c.place.ensures))

@@ -1,6 +1,0 @@
-use Rattle.std.proofs.Common.{◌<◌, length, take}
-use Rattle.tor_clauses.specs.Slots.{IsHeld}
-use Rattle.tor_clauses.proofs.number_set.filled.Given as goal
-
-abbrev pub invariant-loop-place : goal.invariant-loop-place
-invariant-loop-place l = (0 < length l.slots.items) × IsHeld l.seed l.slots.items (take l.place l.numbers)

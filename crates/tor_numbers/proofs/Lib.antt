@@ -1,0 +1,3 @@
+pub mod Gets
+pub mod PlaceLemmas
+pub mod SlotLemmas

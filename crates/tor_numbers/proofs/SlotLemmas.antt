@@ -1,0 +1,273 @@
+-- Searches from slot to slot, and what they find when a slot has changed.
+use Rattle.std.proofs.Common.{◌≡◌, ◌≢◌, ℕ, zero, suc, ◌+◌, ◌<◌, ◌≤◌, ◌⊎◌, inl, inr, Bool, true, false, List, [], ◌∷◌, ◌++◌, Some, length, take, drop, set, refl, sym, ap, ◌∙◌, subst, arith, length-set}
+use Rattle.std.specs.Prelude.{slice_get, slice_index_or, replicate, Contains}
+use Rattle.std.proofs.lemmas.List.{take-take, take-append-le}
+use Rattle.std.proofs.lemmas.List.Elements.{Contains-append_left, Contains-append_right, Contains-append_cases}
+use Rattle.std.proofs.Math.Seq.{take-append_seam, take-length, take-suc}
+use Rattle.std.proofs.lemmas.Option.{slice_get-get_or}
+use Rattle.tor_numbers.proofs.Gets.{slice_get-push_cases, slice_get-lt, slice_get-take, slice_get-set_cases, slice_get-set_other, slice_get-set_same, slice_get-replicate, has-from_Contains, Contains-from_has}
+use Rattle.tor_numbers.specs.Slots.{start_at, next_slot, HeldFrom, StaysUsed, LeadsTo, IsProbe, IsHeld, IsHolding, Leaves, IsApart}
+use Rattle.tor_numbers.specs.declared.probing.Probe.{Probe}
+use Rattle.tor_numbers.specs.declared.probing.Probe.TheVariants.{Free, Full}
+
+pub same_number : (a b : ℕ) → Some a ≡ Some b → a ≡ b
+same_number a b e = cc
+
+-- ---- a search from slot to slot
+
+-- what a search from the start has shown when it comes to a slot, with so many left
+pub record IsSeeking (slots : List ℕ) (start number slot left : ℕ) : Type 0 where
+  pub inside : slot < length slots
+  pub still : HeldFrom slots number start (length slots) → HeldFrom slots number slot left
+  pub back : (new : List ℕ) → length new ≡ length slots → StaysUsed slots new → HeldFrom new number slot left → HeldFrom new number start (length slots)
+
+pub seeking_begins : (slots : List ℕ) (start number : ℕ) → start < length slots → IsSeeking slots start number start (length slots)
+seeking_begins slots start number h = record { inside = h; still = (λ k. k); back = (λ new len used k. k) }
+
+pub seeking_goes : (slots : List ℕ) (start number slot left n next s : ℕ) → left ≡ suc n → IsSeeking slots start number slot left →
+    slice_get slots slot ≡ Some s → s ≢ number → s ≢ 0 → next ≡ next_slot (length slots) slot → next < length slots → IsSeeking slots start number next n
+seeking_goes slots start number slot left n next s so k at other used is inside =
+    record {
+      inside = inside;
+      still = (λ h. subst (λ p. HeldFrom slots number p n) (sym is) (rest (subst (HeldFrom slots number slot) so (k.still h))));
+      back = (λ new len stays h. k.back new len stays (subst (HeldFrom new number slot) (sym so)
+          (inr (
+            (λ e. used (same_number s 0 (sym at ∙ stays slot e))),
+            subst (λ m. HeldFrom new number (next_slot m slot) n) (sym len) (subst (λ p. HeldFrom new number p n) is h),
+          ))));
+    }
+  where
+    rest : HeldFrom slots number slot (suc n) → HeldFrom slots number (next_slot (length slots) slot) n
+    rest (inl e) = absurd (other (same_number s number (sym at ∙ e)))
+    rest (inr h) = h.1
+
+-- the number can be put where the search has come to
+pub seeking_leads : (slots : List ℕ) (start number slot left : ℕ) → 0 < left → IsSeeking slots start number slot left → LeadsTo slots start number slot
+seeking_leads slots start number slot zero some k new len stays e = absurd (omega arith)
+seeking_leads slots start number slot (suc n) some k new len stays e = k.back new len stays (inl e)
+
+-- past a slot that is free nothing is found
+pub seeking_free : (slots : List ℕ) (start number slot left : ℕ) → 0 < left → 2 ≤ number → IsSeeking slots start number slot left →
+    slice_get slots slot ≡ Some 0 → HeldFrom slots number start (length slots) → ⊥
+seeking_free slots start number slot zero some least k at h = absurd (omega arith)
+seeking_free slots start number slot (suc n) some least k at h = ends (k.still h)
+  where
+    ends : HeldFrom slots number slot (suc n) → ⊥
+    ends (inl e) = let is : 0 ≡ number = same_number 0 number (sym at ∙ e) in omega (arith, is, least)
+    ends (inr r) = r.0 at
+
+pub seeking_full : (slots : List ℕ) (start number slot left : ℕ) → left ≤ 0 → IsSeeking slots start number slot left → HeldFrom slots number start (length slots) → ⊥
+seeking_full slots start number slot zero none k h = k.still h
+seeking_full slots start number slot (suc n) none k h = absurd (omega arith)
+
+-- ---- a slot has changed
+
+held-stays : (slots new : List ℕ) (k slot n : ℕ) → length new ≡ length slots → ((q : ℕ) → slice_get slots q ≡ Some k → slice_get new q ≡ Some k) →
+    StaysUsed slots new → HeldFrom slots k slot n → HeldFrom new k slot n
+held-stays slots new k slot zero len keep stays h = h
+held-stays slots new k slot (suc n) len keep stays (inl e) = inl (keep slot e)
+held-stays slots new k slot (suc n) len keep stays (inr h) =
+    inr (
+      (λ e. h.0 (stays slot e)),
+      subst (λ m. HeldFrom new k (next_slot m slot) n) (sym len)
+          (held-stays slots new k (next_slot (length slots) slot) n len keep stays h.1),
+    )
+
+held-some : (slots : List ℕ) (k slot n : ℕ) → HeldFrom slots k slot n → 0 < n
+held-some slots k slot zero h = absurd h
+held-some slots k slot (suc n) h = omega arith
+
+-- the only number of a list of one
+pub alone : (x y : ℕ) → Contains (x ∷ []) y → y ≡ x
+alone x y c = elim (slice_get-push_cases [] x (has-from_Contains (x ∷ []) y c).0 y (has-from_Contains (x ∷ []) y c).1) [ inl e ↦ cc | inr h ↦ h.1 ]
+
+pub contains_one : (x : ℕ) → Contains (x ∷ []) x
+contains_one x = Contains-from_has (x ∷ []) x (0, refl)
+
+pub contains_none : (x : ℕ) → Contains [] x → ⊥
+contains_none x c = let h : slice_get [] (has-from_Contains [] x c).0 ≡ Some x = (has-from_Contains [] x c).1 in cc
+
+-- slots of which all are free hold nothing
+pub held-none : (seed count : ℕ) (slots : List ℕ) → slots ≡ replicate count 0 → IsHeld seed slots []
+held-none seed count slots e = subst (λ s. IsHeld seed s []) (sym e) (record {
+  only = (λ q k at least. let is : k ≡ 0 = slice_get-replicate count 0 q k at in absurd (omega (arith, is, least)));
+  each = (λ k c. absurd (contains_none k c));
+  once = (λ p q k at at' least. let is : k ≡ 0 = slice_get-replicate count 0 p k at in absurd (omega (arith, is, least)));
+  least = (λ k c. absurd (contains_none k c));
+})
+
+-- a number that is held already
+pub held-again : (seed number : ℕ) (slots numbers : List ℕ) → IsHeld seed slots numbers → Contains numbers number → IsHeld seed slots (numbers ++ number ∷ [])
+held-again seed number slots numbers h c = record {
+  only = (λ q k at least. Contains-append_left numbers (number ∷ []) k (h.only q k at least));
+  each = (λ k i. h.each k (in_all k i));
+  once = h.once;
+  least = (λ k i. h.least k (in_all k i));
+}
+  where
+    in_all : (k : ℕ) → Contains (numbers ++ number ∷ []) k → Contains numbers k
+    in_all k i = elim (Contains-append_cases numbers (number ∷ []) k i) [ inl a ↦ a | inr b ↦ subst (Contains numbers) (sym (alone number k b)) c ]
+
+-- a number that is put into a free slot
+pub held-put : (seed number : ℕ) (slots : List ℕ) (slot : ℕ) (numbers : List ℕ) → 2 ≤ number → slot < length slots → slice_get slots slot ≡ Some 0 →
+    LeadsTo slots (start_at seed number (length slots)) number slot → (HeldFrom slots number (start_at seed number (length slots)) (length slots) → ⊥) →
+    IsHeld seed slots numbers → (Contains numbers number → ⊥) × IsHeld seed (set slots slot number) (numbers ++ number ∷ [])
+held-put seed number slots slot numbers some inside free leads none h =
+    (absent, record { only = only; each = each; once = once; least = least })
+  where
+    new : List ℕ
+    new = set slots slot number
+
+    len : length (set slots slot number) ≡ length slots
+    len = length-set slots slot number
+
+    absent : Contains numbers number → ⊥
+    absent c = none (h.each number c)
+
+    stays : StaysUsed slots (set slots slot number)
+    stays q e = elim (slice_get-set_cases slots slot number q 0 e) [
+      | inl a ↦ (let is = a.1 in absurd (omega (arith, is, some)))
+      | inr b ↦ b.1
+    ]
+
+    keep : (k q : ℕ) → 2 ≤ k → slice_get slots q ≡ Some k → slice_get (set slots slot number) q ≡ Some k
+    keep k q least e = slice_get-set_other slots slot number q (λ is.
+        let zero_is : k ≡ 0 = same_number k 0 (sym e ∙ ap (slice_get slots) is ∙ free) in omega (arith, zero_is, least)) ∙ e
+
+    only : (q k : ℕ) → slice_get (set slots slot number) q ≡ Some k → 2 ≤ k → Contains (numbers ++ number ∷ []) k
+    only q k e least = elim (slice_get-set_cases slots slot number q k e) [
+      | inl a ↦ Contains-append_right numbers (number ∷ []) k (subst (Contains (number ∷ [])) (sym a.1) (contains_one number))
+      | inr b ↦ Contains-append_left numbers (number ∷ []) k (h.only q k b.1 least)
+    ]
+
+    here : HeldFrom (set slots slot number) number (start_at seed number (length slots)) (length slots)
+    here = leads (set slots slot number) len stays (slice_get-set_same slots slot number inside)
+
+    long : (k : ℕ) → HeldFrom (set slots slot number) k (start_at seed k (length slots)) (length slots) →
+        HeldFrom (set slots slot number) k (start_at seed k (length (set slots slot number))) (length (set slots slot number))
+    long k f = subst (λ m. HeldFrom (set slots slot number) k (start_at seed k m) m) (sym len) f
+
+    each : (k : ℕ) → Contains (numbers ++ number ∷ []) k → HeldFrom (set slots slot number) k (start_at seed k (length (set slots slot number))) (length (set slots slot number))
+    each k c = elim (Contains-append_cases numbers (number ∷ []) k c) [
+      | inl a ↦ long k (held-stays slots (set slots slot number) k (start_at seed k (length slots)) (length slots) len (λ q. keep k q (h.least k a)) stays (h.each k a))
+      | inr b ↦ subst (λ x. HeldFrom (set slots slot number) x (start_at seed x (length (set slots slot number))) (length (set slots slot number))) (sym (alone number k b)) (long number here)
+    ]
+
+    once : (p q k : ℕ) → slice_get (set slots slot number) p ≡ Some k → slice_get (set slots slot number) q ≡ Some k → 2 ≤ k → p ≡ q
+    once p q k e f least = elim (slice_get-set_cases slots slot number p k e) [
+      | inl a ↦ elim (slice_get-set_cases slots slot number q k f) [
+        | inl b ↦ a.0 ∙ sym b.0
+        | inr b ↦ absurd (absent (subst (Contains numbers) a.1 (h.only q k b.1 least)))
+      ]
+      | inr a ↦ elim (slice_get-set_cases slots slot number q k f) [
+        | inl b ↦ absurd (absent (subst (Contains numbers) b.1 (h.only p k a.1 least)))
+        | inr b ↦ h.once p q k a.1 b.1 least
+      ]
+    ]
+
+    least : (k : ℕ) → Contains (numbers ++ number ∷ []) k → 2 ≤ k
+    least k c = elim (Contains-append_cases numbers (number ∷ []) k c) [ inl a ↦ h.least k a | inr b ↦ subst (λ x. 2 ≤ x) (sym (alone number k b)) some ]
+
+-- the last number leaves its slot
+pub held-leave : (seed number : ℕ) (slots : List ℕ) (slot : ℕ) (numbers : List ℕ) → 2 ≤ number → slice_get slots slot ≡ Some number →
+    IsHeld seed slots (numbers ++ number ∷ []) → (Contains numbers number → ⊥) → IsHeld seed (set slots slot 1) numbers
+held-leave seed number slots slot numbers some at h absent = record { only = only; each = each; once = once; least = least }
+  where
+    len : length (set slots slot 1) ≡ length slots
+    len = length-set slots slot 1
+
+    stays : StaysUsed slots (set slots slot 1)
+    stays q e = elim (slice_get-set_cases slots slot 1 q 0 e) [
+      | inl a ↦ (let is = a.1 in absurd (omega (arith, is)))
+      | inr b ↦ b.1
+    ]
+
+    in_all : (k : ℕ) → Contains numbers k → Contains (numbers ++ number ∷ []) k
+    in_all k c = Contains-append_left numbers (number ∷ []) k c
+
+    keep : (k q : ℕ) → Contains numbers k → slice_get slots q ≡ Some k → slice_get (set slots slot 1) q ≡ Some k
+    keep k q c e = slice_get-set_other slots slot 1 q (λ is.
+        absent (subst (Contains numbers) (same_number k number (sym e ∙ ap (slice_get slots) is ∙ at)) c)) ∙ e
+
+    old : (q k : ℕ) → slice_get (set slots slot 1) q ≡ Some k → 2 ≤ k → (q ≢ slot) × (slice_get slots q ≡ Some k)
+    old q k e least = elim (slice_get-set_cases slots slot 1 q k e) [
+      | inl a ↦ (let is = a.1 in absurd (omega (arith, is, least)))
+      | inr b ↦ b
+    ]
+
+    only : (q k : ℕ) → slice_get (set slots slot 1) q ≡ Some k → 2 ≤ k → Contains numbers k
+    only q k e least = elim (Contains-append_cases numbers (number ∷ []) k (h.only q k (old q k e least).1 least)) [
+      | inl a ↦ a
+      | inr b ↦ absurd ((old q k e least).0 (h.once q slot k (old q k e least).1 (at ∙ ap (λ x. Some x) (sym (alone number k b))) least))
+    ]
+
+    each : (k : ℕ) → Contains numbers k → HeldFrom (set slots slot 1) k (start_at seed k (length (set slots slot 1))) (length (set slots slot 1))
+    each k c = subst (λ m. HeldFrom (set slots slot 1) k (start_at seed k m) m) (sym len)
+        (held-stays slots (set slots slot 1) k (start_at seed k (length slots)) (length slots) len (λ q. keep k q c) stays (h.each k (in_all k c)))
+
+    once : (p q k : ℕ) → slice_get (set slots slot 1) p ≡ Some k → slice_get (set slots slot 1) q ≡ Some k → 2 ≤ k → p ≡ q
+    once p q k e f least = h.once p q k (old p k e least).1 (old q k f least).1 least
+
+    least : (k : ℕ) → Contains numbers k → 2 ≤ k
+    least k c = h.least k (in_all k c)
+
+-- the last number was in a slot
+pub held-last : (seed number : ℕ) (slots numbers : List ℕ) → IsHeld seed slots (numbers ++ number ∷ []) → HeldFrom slots number (start_at seed number (length slots)) (length slots)
+held-last seed number slots numbers h = h.each number (Contains-append_right numbers (number ∷ []) number (contains_one number))
+
+-- where numbers are held there are slots
+pub held-room : (seed number : ℕ) (slots numbers : List ℕ) → IsHeld seed slots numbers → Contains numbers number → 0 < length slots
+held-room seed number slots numbers h c = held-some slots number (start_at seed number (length slots)) (length slots) (h.each number c)
+
+-- a list that is written back whole
+pub written_back : (len : ℕ) (new old : List ℕ) → length new ≡ len → len ≡ length old → take len (new ++ drop (length new) old) ≡ new
+written_back len new old e f = take-append-le len new (drop (length new) old) (omega (arith, e)) ∙ ap (λ n. take n new) (sym e) ∙ take-length new
+
+-- ---- no number twice
+
+pub apart-push : (numbers : List ℕ) (number : ℕ) → IsApart numbers → (Contains numbers number → ⊥) → IsApart (numbers ++ number ∷ [])
+apart-push numbers number a absent n m e c = elim (slice_get-push_cases numbers number n m e) [
+  | inl old ↦ (let lt : n < length numbers = slice_get-lt numbers n m old in
+      a n m old (subst (λ l. Contains l m) (take-append-le n numbers (number ∷ []) (omega (arith, lt))) c))
+  | inr last ↦ absent (subst (λ l. Contains l number) (ap (λ k. take k (numbers ++ number ∷ [])) last.0 ∙ take-append_seam numbers (number ∷ []))
+      (subst (Contains (take n (numbers ++ number ∷ []))) last.1 c))
+]
+
+pub apart-take : (numbers : List ℕ) (count : ℕ) → IsApart numbers → IsApart (take count numbers)
+apart-take numbers count a n m e c =
+    let at : (n < count) × (slice_get numbers n ≡ Some m) = slice_get-take count numbers n m e in
+    let lt : n < count = at.0 in
+    a n m at.1 (subst (λ l. Contains l m) (take-take n count numbers (omega (arith, lt))) c)
+
+pub contains_at : (numbers : List ℕ) (k : ℕ) → k < length numbers → Contains numbers (slice_index_or numbers k 0)
+contains_at numbers k h = Contains-from_has numbers (slice_index_or numbers k 0) (k, slice_get-get_or numbers k 0 h)
+
+pub one_more : (numbers : List ℕ) (k : ℕ) → k < length numbers → take (k + 1) numbers ≡ take k numbers ++ slice_index_or numbers k 0 ∷ []
+one_more numbers k h = ap (λ n. take n numbers) (next k) ∙ take-suc numbers k 0 h
+  where
+    next : (k : ℕ) → k + 1 ≡ suc k
+    next k = omega arith
+
+-- one number more in the slots, or one that was there
+pub held-next : (seed : ℕ) (old new numbers : List ℕ) (place : ℕ) (is_new : Bool) → place < length numbers →
+    IsHolding seed (slice_index_or numbers place 0) old new is_new → IsHeld seed old (take place numbers) → IsHeld seed new (take (place + 1) numbers)
+held-next seed old new numbers place true lt h held = subst (IsHeld seed new) (sym (one_more numbers place lt)) (h (take place numbers) held).1
+held-next seed old new numbers place false lt h held = subst (IsHeld seed new) (sym (one_more numbers place lt))
+    (subst (λ s. IsHeld seed s (take place numbers ++ slice_index_or numbers place 0 ∷ [])) (sym h.0)
+    (held-again seed (slice_index_or numbers place 0) old (take place numbers) held (h.1 (take place numbers) held)))
+
+-- one number fewer in the slots
+pub held-before : (seed : ℕ) (old new numbers : List ℕ) (left : ℕ) → left < length numbers → IsApart numbers →
+    Leaves seed (slice_index_or numbers left 0) old new → IsHeld seed old (take (left + 1) numbers) → IsHeld seed new (take left numbers)
+held-before seed old new numbers left lt apart h held =
+    h (take left numbers) (subst (IsHeld seed old) (one_more numbers left lt) held) (apart left (slice_index_or numbers left 0) (slice_get-get_or numbers left 0 lt))
+
+-- a search that ends elsewhere says that the number isn't there
+pub not_held : (slots : List ℕ) (start number : ℕ) (p : Probe) → IsProbe slots start number p → ((x : ℕ) × (p ≡ Free x)) ⊎ (p ≡ Full) →
+    HeldFrom slots number start (length slots) → ⊥
+not_held slots start number p is (inl h) = (subst (IsProbe slots start number) h.1 is).2
+not_held slots start number p is (inr h) = subst (IsProbe slots start number) h is
+
+pub contains_last : (numbers : List ℕ) (k : ℕ) → k < length numbers → Contains (take (k + 1) numbers) (slice_index_or numbers k 0)
+contains_last numbers k h = subst (λ l. Contains l (slice_index_or numbers k 0)) (sym (one_more numbers k h))
+    (Contains-append_right (take k numbers) (slice_index_or numbers k 0 ∷ []) (slice_index_or numbers k 0) (contains_one (slice_index_or numbers k 0)))

@@ -1,0 +1,8 @@
+use Rattle.tor_numbers.proofs.SlotLemmas.{IsSeeking}
+use Rattle.tor_numbers.proofs.number_set.seek.Given as goal
+
+abbrev pub invariant-loop-left : goal.invariant-loop-left
+invariant-loop-left l = IsSeeking l.slots l.start l.number l.place l.left
+
+abbrev pub decreases-loop-left : goal.decreases-loop-left
+decreases-loop-left l = l.left

@@ -1,0 +1,7 @@
+use Rattle.std.proofs.Common.{refl}
+use Rattle.tor_numbers.specs.Slots.{hashed}
+use Rattle.tor_numbers.proofs.probing.hash_of.Goals as goal
+
+pub returns : goal.returns
+unfolding hashed
+returns c = refl

@@ -1,0 +1,204 @@
+ghost use Rattle.std.specs.Prelude.{◌≡◌, ◌<◌, ◌≤◌, ◌++◌, ◌∷◌, ℕ, List, [], length, take, Contains, IfOk, OnOk, OnErr};
+ghost use Rattle.tor_numbers.specs.Slots.{IsProbe, IsHeld, IsHolding, IsInserted, Leaves, IsApart};
+
+use crate::probing::{Probe, next, start_of};
+use std::alloc::Global;
+use std::hash::BuildHasher;
+use std::marker::Model;
+use tor_arena::{Keys, NoMemory};
+
+/// A slot that never held a number.
+const FREE: u64 = 0;
+
+/// A slot whose number was taken away.
+const LEFT: u64 = 1;
+
+/// Distinct numbers from 2 on, in the order in which they were added. They are found by slots, of which at most half are in use:
+/// each number stands in a slot that its hash begins at, or in one of the next, before any that is free.
+#[derive(Drop)]
+pub struct NumberSet {
+    alloc: Global,
+    // goes into each hash, so that no one can choose numbers of one slot
+    seed: u64,
+    numbers: Vec<u64>,
+    slots: Vec<u64>,
+    // how many slots are not free
+    used: usize,
+}
+
+impl Model for NumberSet {
+    ghost use Rattle.std.specs.Prelude.{ℕ, List};
+    ghost use Rattle.tor_numbers.specs.Slots.{IsSet};
+
+    ghost Value = { List ℕ };
+
+    ghost view = { λ set. set.numbers.items };
+
+    ghost invariant = { λ set. IsSet set.seed set.slots.items set.numbers.items };
+}
+
+impl NumberSet {
+    /// No numbers, in a set with these keys. It takes no memory.
+    pub fn new(alloc: Global, keys: Keys) -> NumberSet
+        ensures { result ≡ [] }
+    {
+        NumberSet {
+            alloc,
+            seed: keys.hash_one(0u8),
+            numbers: Vec::new(alloc),
+            slots: Vec::new(alloc),
+            used: 0,
+        }
+    }
+
+    /// Adds a number at the end, unless it is there, and answers whether it was added. For want of memory nothing changes.
+    pub fn insert(&mut self, number: u64) -> Result<bool, NoMemory>
+        requires { 2 ≤ number }
+        ensures ok { IfOk result (IsInserted number self.old self.new) }
+        ensures err { OnErr result (self.new ≡ self.old) }
+    {
+        self.numbers.reserve(1)?;
+        make_room(
+            self.alloc,
+            self.seed,
+            self.numbers.as_slice(),
+            &mut self.slots,
+            &mut self.used,
+        )?;
+        let is_new = hold(&mut self.slots, self.seed, number)?;
+        if is_new {
+            self.numbers.push_reserved(number);
+            self.used = self.used.saturating_add(1);
+        }
+        Ok(is_new)
+    }
+
+    /// Keeps the first `count` numbers, of which there have to be as many. It takes no memory.
+    pub fn cut_to(&mut self, count: usize)
+        requires { count ≤ length self.old }
+        ensures { self.new ≡ take count self.old }
+    {
+        release_from(&mut self.slots, self.seed, self.numbers.as_slice(), count);
+        self.numbers.truncate(count);
+    }
+}
+
+/// Searches a number from a slot on.
+fn seek(slots: &[u64], start: usize, number: u64) -> Probe
+    requires start { start < length slots.now }
+    requires number { 2 ≤ number }
+    ensures { IsProbe slots.now start number result }
+{
+    let mut place = start;
+    let mut left = slots.len();
+    while left > 0 {
+        let slot = slots[place];
+        if slot == number {
+            return Probe::Held(place);
+        }
+        if slot == FREE {
+            return Probe::Free(place);
+        }
+        place = next(place, slots.len());
+        left -= 1;
+    }
+    Probe::Full
+}
+
+/// Puts a number into a slot, unless it is in one, and answers whether it wasn't. NoMemory comes where no slot is free, and changes
+/// nothing.
+fn hold(slots: &mut [u64], seed: u64, number: u64) -> Result<bool, NoMemory>
+    requires some { 0 < length slots.old }
+    requires number { 2 ≤ number }
+    ensures many { length slots.new ≡ length slots.old }
+    ensures ok { IfOk result (IsHolding seed number slots.old slots.new) }
+    ensures err { OnErr result (slots.new ≡ slots.old) }
+{
+    let start = start_of(seed, number, slots.len());
+    match seek(slots, start, number) {
+        Probe::Held(_) => Ok(false),
+        Probe::Free(place) => {
+            slots[place] = number;
+            Ok(true)
+        }
+        Probe::Full => Err(NoMemory),
+    }
+}
+
+/// Takes the last of some numbers out of its slot. It takes no memory.
+fn release(slots: &mut [u64], seed: u64, number: u64)
+    requires some { 0 < length slots.old }
+    requires number { 2 ≤ number }
+    ensures many { length slots.new ≡ length slots.old }
+    ensures held { Leaves seed number slots.old slots.new }
+{
+    let start = start_of(seed, number, slots.len());
+    match seek(slots, start, number) {
+        Probe::Held(place) => slots[place] = LEFT,
+        Probe::Free(_) | Probe::Full => {}
+    }
+}
+
+/// Takes all numbers but the first out of their slots. It takes no memory.
+fn release_from(slots: &mut [u64], seed: u64, numbers: &[u64], count: usize)
+    requires within { count ≤ length numbers.now }
+    requires apart { IsApart numbers.now }
+    requires held { IsHeld seed slots.old numbers.now }
+    ensures many { length slots.new ≡ length slots.old }
+    ensures held { IsHeld seed slots.new (take count numbers.now) }
+{
+    let mut left = numbers.len();
+    while left > count {
+        left -= 1;
+        release(slots, seed, numbers[left]);
+    }
+}
+
+/// So many slots with these numbers.
+fn filled(alloc: Global, seed: u64, count: usize, numbers: &[u64]) -> Result<Vec<u64>, NoMemory>
+    requires some { 0 < count }
+    requires least { (k : ℕ) → Contains numbers.now k → 2 ≤ k }
+    ensures some { IfOk result (λ slots. 0 < length slots.items) }
+    ensures held { IfOk result (λ slots. IsHeld seed slots.items numbers.now) }
+{
+    let mut slots = Vec::new(alloc);
+    slots.resize(count, FREE)?;
+    for place in 0..numbers.len() {
+        hold(&mut slots, seed, numbers[place])?;
+    }
+    Ok(slots)
+}
+
+/// How many slots there have to be when half of these are in use, where there are so many numbers: as many, if that is for numbers
+/// that were taken away, or twice as many.
+fn next_count(slots: usize, numbers: usize) -> usize
+    ensures { 0 < result }
+{
+    if slots == 0 {
+        16
+    } else if numbers < slots / 4 {
+        slots
+    } else {
+        slots.saturating_mul(2)
+    }
+}
+
+/// Makes the slots anew if half of them are in use. For want of memory nothing changes.
+fn make_room(
+    alloc: Global,
+    seed: u64,
+    numbers: &[u64],
+    slots: &mut Vec<u64>,
+    used: &mut usize,
+) -> Result<(), NoMemory>
+    requires held { IsHeld seed slots.old.items numbers.now }
+    ensures some { OnOk result (0 < length slots.new.items) }
+    ensures held { IsHeld seed slots.new.items numbers.now }
+{
+    if *used >= slots.len() / 2 {
+        let count = next_count(slots.len(), numbers.len());
+        *slots = filled(alloc, seed, count, numbers)?;
+        *used = numbers.len();
+    }
+    Ok(())
+}

@@ -1,0 +1,50 @@
+ghost use Rattle.std.specs.Prelude.{◌≤◌};
+
+use crate::{NumberSet, PlaceTable};
+use std::test::Fail;
+use tor_arena::Keys;
+
+/// Adds a hundred numbers in a row, and answers how many of them were new.
+fn add_hundred(set: &mut NumberSet, first: u64) -> Result<usize, Fail>
+    requires { 2 ≤ first }
+{
+    let mut count: usize = 0;
+    for step in 0..100 {
+        if set.insert(first.saturating_add(step))? {
+            count = count.saturating_add(1);
+        }
+    }
+    Ok(count)
+}
+
+#[test]
+fn numbers_are_added_once_and_let_go(rt: HostRuntime) -> Result<(), Fail> {
+    let mut set = NumberSet::new(rt.alloc(), Keys::new(&rt));
+    assert_eq!(rt; add_hundred(&mut set, 2)?, 100);
+    assert_eq!(rt; add_hundred(&mut set, 52)?, 50);
+    set.cut_to(0);
+    assert_eq!(rt; add_hundred(&mut set, 52)?, 100);
+    Ok(())
+}
+
+/// Adds a hundred numbers in a row, and answers the sum of their places.
+fn places_of_hundred(table: &mut PlaceTable, first: u64) -> Result<usize, Fail>
+    requires { 2 ≤ first }
+{
+    let mut sum: usize = 0;
+    for step in 0..100 {
+        sum = sum.saturating_add(table.add(first.saturating_add(step))?);
+    }
+    Ok(sum)
+}
+
+#[test]
+fn numbers_keep_their_places(rt: HostRuntime) -> Result<(), Fail> {
+    let mut table = PlaceTable::new(rt.alloc(), Keys::new(&rt));
+    assert_eq!(rt; places_of_hundred(&mut table, 2)?, 4950);
+    assert_eq!(rt; places_of_hundred(&mut table, 52)?, 9950);
+    assert_eq!(rt; table.place(2), Some(0));
+    assert_eq!(rt; table.place(151), Some(149));
+    assert_eq!(rt; table.place(152), None);
+    Ok(())
+}
