@@ -1,4 +1,4 @@
-use Rattle.std.proofs.Common.{◌≡◌, ◌<◌, ◌≤◌, ℕ, length}
+use Rattle.std.proofs.Common.{◌<◌, ◌≤◌, ℕ, length}
 use Rattle.path_clean.specs.Chains.{AreIn}
 use Rattle.path_clean.specs.Repeats.{Repeats}
 use Rattle.path_clean.proofs.repeats.first_repeated.Given as goal
