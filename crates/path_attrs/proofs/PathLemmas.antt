@@ -1,7 +1,7 @@
 -- The segments of a path that is merged.
-use Rattle.std.proofs.Common.{◌≡◌, ℕ, zero, suc, ◌+◌, ◌-◌, ◌*◌, ◌&&◌, ◌<◌, ◌≤◌, min, Bool, true, false, cond, leb, not, List, [], ◌∷◌, ◌++◌, length, take, drop, filter, Option, Some, None, IfSome, option_map, option_and_then, refl, sym, ap, ◌∙◌, arith}
-use Rattle.std.proofs.lemmas.Bool.{lt-leb, le-leb}
-use Rattle.std.proofs.lemmas.List.{length-append}
+use Rattle.std.proofs.Common.{◌≡◌, ℕ, zero, suc, ◌+◌, ◌-◌, ◌*◌, ◌&&◌, ◌<◌, ◌≤◌, min, Bool, true, false, cond, leb, not, List, [], ◌∷◌, ◌++◌, length, take, drop, filter, Option, Some, None, IfSome, option_map, option_and_then, refl, sym, ap, subst, ◌∙◌, arith}
+use Rattle.std.proofs.lemmas.Bool.{lt-leb, le-leb, leb-true, leb-false}
+use Rattle.std.proofs.lemmas.List.{length-append, length-take-le}
 use Rattle.byteorder.specs.Endian.{big_number}
 use Rattle.path_attrs.specs.declared.as_path.Width.{Width}
 use Rattle.path_attrs.specs.declared.as_path.Width.TheVariants.{Two, Four}
@@ -10,7 +10,7 @@ use Rattle.path_attrs.specs.declared.as_path.SegKind.TheVariants.{Set, Sequence,
 use Rattle.path_attrs.specs.declared.as_path.Segment.{Segment}
 use Rattle.path_attrs.specs.Segments.{octets_in, numbers, segments_of, SegmentIsEncoded, SegmentsAreEncoded}
 use Rattle.path_attrs.specs.Attributes.{Attribute, first_value}
-use Rattle.path_attrs.specs.PathOf.{as4_path, is_confed, is_outside, has_no_confed, as4_segments, is_aggregated_anew, count_by, count_in, count_of, cut_to, leading, merged, merged_with}
+use Rattle.path_attrs.specs.PathOf.{as4_path, is_confed, is_outside, has_no_confed, as4_segments, is_aggregated_anew, count_by, count_in, count_of, cut_to, leading, merged, merged_with, MergeLaw}
 use Rattle.path_attrs.proofs.Values.{numbers-length, numbers-at, value_law}
 
 -- ---- one segment
@@ -73,6 +73,40 @@ count_fits width value found is = all_count width found value ((value_law width 
 pub few_count : (width : Width) (value : List ℕ) (found : Option (List Segment)) → found ≡ segments_of width value → length value ≤ 65535 → IfSome found (λ segments. count_of segments ≤ 65535)
 few_count width value None is few = tt
 few_count width value (Some segments) is few = omega (arith, few, count_fits width value segments (sym is))
+
+-- ---- the law of the merge
+
+-- a segment that counts more than so many ASes is a sequence
+cut-counts : (n : ℕ) (s : Segment) → 0 < n → n < count_in s → count_in (cut_to n s) ≡ n
+cut-counts n s some long = by s.kind refl
+  where
+    by : (kind : SegKind) → s.kind ≡ kind → count_by s.kind (length (take n s.ases)) ≡ n
+    by Sequence e =
+        let members : n < length s.ases = subst (λ k. n < count_by k (length s.ases)) e long in
+        ap (λ k. count_by k (length (take n s.ases))) e ∙ length-take-le n s.ases (omega (arith, members))
+    by Set e = absurd (let one : n < 1 = subst (λ k. n < count_by k (length s.ases)) e long in omega (arith, one, some))
+    by ConfedSequence e = absurd (let none : n < 0 = subst (λ k. n < count_by k (length s.ases)) e long in omega (arith, none))
+    by ConfedSet e = absurd (let none : n < 0 = subst (λ k. n < count_by k (length s.ases)) e long in omega (arith, none))
+
+leading-counts : (n : ℕ) (segments : List Segment) → n ≤ count_of segments → count_of (leading n segments) ≡ n
+leading-counts n [] few = omega (arith, few)
+leading-counts zero (s ∷ segments) few = refl
+leading-counts (suc n) (s ∷ segments) few = by (leb (count_in s) (suc n)) refl (leading-counts (suc n - count_in s) segments (omega (arith, few)))
+  where
+    by : (b : Bool) → leb (count_in s) (suc n) ≡ b → count_of (leading (suc n - count_in s) segments) ≡ suc n - count_in s
+        → count_of (cond b (s ∷ leading (suc n - count_in s) segments) (cut_to (suc n) s ∷ [])) ≡ suc n
+    by true t ih = let whole = leb-true (count_in s) (suc n) t in omega (arith, ih, whole)
+    by false t ih = let part = cut-counts (suc n) s (omega arith) (leb-false (count_in s) (suc n) t) in omega (arith, part)
+
+count_of-append : (segments others : List Segment) → count_of (segments ++ others) ≡ count_of segments + count_of others
+count_of-append [] others = omega arith
+count_of-append (s ∷ segments) others = omega (arith, count_of-append segments others)
+
+pub merge_law : MergeLaw
+merge_law segments as4 few =
+    let n = count_of segments - count_of as4 in
+    let before = leading-counts n segments (omega arith) in
+    (omega (arith, few, before, count_of-append (leading n segments) as4), (leading n segments, refl))
 
 -- ---- the four conditions
 

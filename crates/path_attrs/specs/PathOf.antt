@@ -1,7 +1,7 @@
 -- The AS path of a route. A TABLE_DUMP record has AS numbers of two octets, where AS_TRANS stands for each greater one; then
 -- AS4_PATH may have the numbers themselves (RFC 6793). How the two are merged follows section 4.2.3 of that document. What
 -- it leaves open, or says of a speaker with confederations of its own, is decided here, as is said at each line.
-use Rattle.std.specs.Prelude.{◌≡◌, ℕ, zero, suc, ◌+◌, ◌-◌, ◌==◌, Bool, true, false, not, ◌&&◌, nat_le, List, [], ◌∷◌, ◌++◌, length, take, filter, Option, Some, None, option_map, option_and_then, Result, Ok, Err, if◌then◌else◌}
+use Rattle.std.specs.Prelude.{◌≡◌, ◌≤◌, ℕ, zero, suc, ◌+◌, ◌-◌, ◌==◌, Bool, true, false, not, ◌&&◌, nat_le, List, [], ◌∷◌, ◌++◌, length, take, filter, Option, Some, None, option_map, option_and_then, Result, Ok, Err, if◌then◌else◌}
 use Rattle.std.specs.List.{list_all}
 use Rattle.byteorder.specs.Endian.{big_number}
 use Rattle.path_attrs.specs.Attributes.{Attribute, first_value}
@@ -116,6 +116,13 @@ leading_in (Some n) segments = leading n segments
 -- what AS_PATH counts more than AS4_PATH stands before that
 abbrev pub merged : List Segment → List Segment → List Segment
 merged segments as4 = leading (count_of segments - count_of as4) segments ++ as4
+
+-- so the merged path counts as many ASes as AS_PATH (RFC 6793, section 4.2.3), and ends in AS4_PATH
+abbrev pub MergeLaw : Type 0
+MergeLaw =
+    (segments as4 : List Segment) → count_of as4 ≤ count_of segments
+    → (count_of (merged segments as4) ≡ count_of segments)
+    × ((before : List Segment) × (merged segments as4 ≡ before ++ as4))
 
 abbrev pub merged_with : Width → List Attribute → List Segment → Option (List Segment) → List Segment
 merged_with width attrs segments None = segments

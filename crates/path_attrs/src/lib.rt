@@ -15,7 +15,7 @@ pub use block::{AttrCut, Attrs, attributes, whole_attributes};
 pub use cursor::{NumberCursor, SegmentCursor, SegmentRef, segments};
 pub use fault::RibFault;
 pub use fields::{number16, octet, octets};
-pub use laws::{block_law, value_law};
+pub use laws::{block_law, merge_law, value_law};
 pub use path::{PathOf, path_of};
 pub use path_cursor::{PathCursor, Pathless};
 
