@@ -58,7 +58,7 @@ fn climbs(label: Label, rises: bool) -> bool
 }
 
 /// The number of two consecutive steps, from 2 on, which is also that of the two the other way round.
-fn number_of(first: Step, second: Step) -> u64
+pub(crate) fn number_of(first: Step, second: Step) -> u64
     requires first { place_in first < most_places }
     requires second { place_in second < most_places }
     ensures number { result ≡ number_of first second }

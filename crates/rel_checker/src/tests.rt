@@ -1,3 +1,5 @@
+use crate::flipping::number_of;
+use crate::step::Step;
 use crate::{Answer, check_against, check_file};
 use path_clean::{Asides, Cause, PathTable, is_cleaned};
 use result_text::{ResultFile, parse};
@@ -41,6 +43,28 @@ fn answer_to(
 fn the_right_file(rt: HostRuntime) -> Result<(), Fail> {
     let file = parse(rt.alloc(), THREE_PATHS.as_bytes())?;
     assert_eq!(rt; answer_to(&rt, &file)?, Answer::Yes);
+    Ok(())
+}
+
+/// Two paths with one triple, which the second has the other way round. The open line leads to the other order of both edges.
+const THERE_AND_BACK: &str =
+    "tor|1\nsets|cut\nratio|60\naside|nopath|0\naside|badsegments|0\naside|confed|0\n\
+    aside|sets|0\naside|reserved|0\naside|loop|0\naside|short|0\nkept|1|10 20 30\nkept|1|30 20 10\n\
+    edge|10|20|low|open|2\nedge|20|30|low|open|2\nopen|30|20\nend|2|0|2|0|0\n";
+
+#[test]
+fn a_triple_on_two_paths(rt: HostRuntime) -> Result<(), Fail> {
+    let file = parse(rt.alloc(), THERE_AND_BACK.as_bytes())?;
+    assert_eq!(rt; answer_to(&rt, &file)?, Answer::Yes);
+    Ok(())
+}
+
+#[test]
+fn a_triple_counts_once_either_way_round(rt: HostRuntime) -> Result<(), Fail> {
+    let there = number_of(Step::new(0, true), Step::new(1, true));
+    let back = number_of(Step::new(1, false), Step::new(0, false));
+    assert_eq!(rt; there, 4294967301);
+    assert_eq!(rt; back, 4294967301);
     Ok(())
 }
 
