@@ -323,7 +323,8 @@ fn text_of(alloc: Global, file: &ResultFile, numbers: Numbers) -> Option<Outcome
 
 fn outcome_with(alloc: Global, file: ResultFile, all: Findings) -> Option<Outcome> {
     let numbers = numbers_of(&file, &all);
-    match with_ours(alloc, file, &all.fates, all.marks) {
+    let Findings { fates, marks, .. } = all;
+    match with_ours(alloc, file, &fates, marks) {
         Ok(ours) => text_of(alloc, &ours, numbers),
         Err(_) => None,
     }

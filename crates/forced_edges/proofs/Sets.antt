@@ -1,6 +1,6 @@
 -- Sets of nodes, and a search that adds to one.
 use Rattle.std.proofs.Common.{◌≡◌, ◌↔◌, ℕ, ◌+◌, ◌<◌, ◌≤◌, ◌⊎◌, inl, inr, Bool, true, false, List, [], ◌∷◌, ◌++◌, Some, length, set, get_or, refl, sym, ap, ◌∙◌, subst, arith, length-append, IsTrue, Contains}
-use Rattle.std.specs.Prelude.{slice_get, replicate, IsFalse}
+use Rattle.std.specs.Prelude.{slice_get, replicate, Result, Ok, Err, IfOk}
 use Rattle.std.proofs.lemmas.Bool.{cases_eq, cases_lt, false≢true}
 use Rattle.std.proofs.lemmas.Option.{same_Some, slice_get_read}
 use Rattle.tor_digraph.specs.Walks.{HasArc, Reaches, here, along}
@@ -209,3 +209,7 @@ read-at xs ys i x e is lt = slice_get_read xs (length xs) i x refl lt (subst (λ
 
 pub read-there : {X : Type 0} (xs ys : List X) (i : ℕ) (x : X) → ys ≡ xs → x ≡ get_or ys i x → i < length xs → Contains xs x
 read-there xs ys i x e is lt = Contains-from_has xs x (i, read-at xs ys i x e is lt)
+
+pub if_ok_weaker : {T E : Type 0} {P Q : T → Type 0} (r : Result T E) → ((x : T) → P x → Q x) → IfOk r P → IfOk r Q
+if_ok_weaker (Ok x) f h = f x h
+if_ok_weaker (Err e) f h = h

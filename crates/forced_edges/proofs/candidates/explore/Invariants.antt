@@ -5,7 +5,7 @@ use Rattle.forced_edges.proofs.candidates.explore.Given as goal
 abbrev pub invariant-loop-node : goal.invariant-loop-node
 invariant-loop-node l = record {
   order : IsOrder l.labels l.rows.nodes l.order;
-  come : Contains l.order.seen.items l.start;
+  come : Contains l.order.seen.items l.fn.start;
   kept : (n : ℕ) → Contains l.fn.order.seen.items n → Contains l.order.seen.items n;
 }
 
