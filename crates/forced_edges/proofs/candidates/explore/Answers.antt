@@ -1,0 +1,20 @@
+use Rattle.std.proofs.Common.{[], ◌∷◌, ℕ, List, sym, subst, Contains}
+use Rattle.forced_edges.proofs.Growing.{Contains-more, Contains-last}
+use Rattle.forced_edges.proofs.Choosing.{order_visits, top_there, top_order}
+use Rattle.forced_edges.proofs.candidates.explore.Goals as goal
+
+pub loop-node-init : goal.loop-node-init
+loop-node-init c =
+    let old = c.args.order.now in
+    let visits = c.in_ok-visit.ensures.ok in
+    record {
+      order = order_visits c.args.labels.now c.args.rows.now.nodes c.args.start old c.visit.new.order c.requires.order c.requires.there visits;
+      come = subst (λ (l : List ℕ). Contains l c.args.start) (sym visits.seen) (Contains-last old.seen.items c.args.start);
+      kept = λ n h. subst (λ (l : List ℕ). Contains l n) (sym visits.seen) (Contains-more old.seen.items (c.args.start ∷ []) n h);
+    }
+
+pub step-requires-clause-there : goal.step-requires-clause-there
+step-requires-clause-there c = top_there c.args.labels.now c.args.rows.now.nodes c.loop-node.order c.pop.new.self _ c.loop-node.invariant.order c.in-Some.ensures
+
+pub step-requires-clause-order : goal.step-requires-clause-order
+step-requires-clause-order c = top_order c.args.labels.now c.args.rows.now.nodes c.loop-node.order c.pop.new.self _ c.loop-node.invariant.order c.in-Some.ensures

@@ -1,0 +1,18 @@
+use Rattle.std.proofs.Common.{[], ◌∷◌}
+use Rattle.std.proofs.lemmas.Result.{on_ok_weaker}
+use Rattle.forced_edges.proofs.Settlings.{leads_on}
+use Rattle.forced_edges.proofs.showing.push_walk.Goals as goal
+
+pub returns : goal.returns
+returns c =
+    let a = c.args.tail.0 in
+    let b = c.args.tail.1 in
+    let under = c.order-under.result.1 in
+    on_ok_weaker c.push.result
+    (λ e. (
+      record { ases = a ∷ b ∷ under ∷ []; links = c.link_of.result ∷ [] },
+      e,
+      leads_on c.args.graph.now c.args.clauses.now c.facts.ensures.apart c.requires.fits c.args.arc c.args.head a b c.order-under.result.0 under c.link_of.result
+          c.link_of.ensures.fits c.order-under.ensures,
+    ))
+    c.push.ensures.added

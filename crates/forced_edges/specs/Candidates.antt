@@ -1,0 +1,51 @@
+-- The orders against the labels, and a search that puts them into an order. These words are the marking's own: no reader of a public
+-- clause needs them.
+use Rattle.std.specs.Prelude.{◌≡◌, ℕ, ◌+◌, ◌-◌, ◌*◌, ◌^◌, ◌<◌, ◌⊎◌, List, [], ◌∷◌, ◌++◌, Some, None, Option, slice_get, length, All, Contains}
+use Rattle.relationships.specs.declared.label.End.{End}
+use Rattle.relationships.specs.declared.label.Label.{Label}
+use Rattle.tor_clauses.specs.Literals.{node_of}
+use Rattle.forced_edges.specs.declared.candidates.Open.{Open}
+use Rattle.forced_edges.specs.declared.candidates.Order.{Order}
+
+-- the node of the order against this label of an edge; a peering has none
+abbrev pub against : ℕ → Label → Option ℕ
+against edge Label.Low = Some (node_of (record { edge = edge; over = End.High }))
+against edge Label.High = Some (node_of (record { edge = edge; over = End.Low }))
+against edge Label.Peer = None
+
+-- the node is that of the order against the label of some edge
+abbrev pub IsAgainst : List Label → ℕ → Type 0
+IsAgainst labels n = (edge : ℕ) × (label : Label) × (slice_get labels edge ≡ Some label) × (against edge label ≡ Some n)
+
+-- the list with the node, if it is such a one
+abbrev pub IsChoice : List Label → ℕ → List ℕ → List ℕ → Type 0
+IsChoice labels n old new = (IsAgainst labels n × (new ≡ old ++ n ∷ [])) ⊎ ((IsAgainst labels n → ⊥) × (new ≡ old))
+
+-- ---- the search
+
+-- the search has not left the node yet
+abbrev pub OnStack : List Open → ℕ → Type 0
+OnStack stack n = (k : ℕ) × (o : Open) × (slice_get stack k ≡ Some o) × (o.node ≡ n)
+
+-- of so many nodes, each order against a label to which the search has come was chosen, or is not left yet
+pub record IsOrder (labels : List Label) (count : ℕ) (order : Order) : Type 0 where
+  pub many : order.seen.count ≡ count
+  pub inside : All (λ n. n < count) order.chosen
+  pub opens : (k : ℕ) (o : Open) → slice_get order.stack k ≡ Some o → o.node < count
+  pub each : (n : ℕ) → IsAgainst labels n → Contains order.seen.items n → Contains order.chosen n ⊎ OnStack order.stack n
+
+-- the search with one more node that was not left yet
+abbrev pub with_open : Order → Open → Order
+with_open order top = record order { stack = order.stack ++ top ∷ [] }
+
+-- the search has come to the node
+pub record Visits (node : ℕ) (old new : Order) : Type 0 where
+  pub many : new.seen.count ≡ old.seen.count
+  pub seen : new.seen.items ≡ old.seen.items ++ node ∷ []
+  pub opened : (top : Open) × (top.node ≡ node) × (new.stack ≡ old.stack ++ top ∷ [])
+  pub chosen : new.chosen ≡ old.chosen
+  pub few : length old.seen.items < 2 ^ 64
+
+-- at most so many steps are left
+abbrev pub work : Order → ℕ
+work order = 2 * (2 ^ 64 - length order.seen.items) + length order.stack
