@@ -5,7 +5,7 @@ ghost use Rattle.dump_read.specs.Batches.{AreFound, TakesAt, IsLimitAt, TakesBat
 
 use crate::taking::{Taken, Untaken, take_again, take_path};
 use path_attrs::{Attrs, Width};
-use path_clean::{Cause, Guess, PathTable, Sets, clean_into};
+use path_clean::{Cause, PathTable, Sets, clean_into};
 use std::alloc::Global;
 use std::marker::Model;
 use tor_arena::{Index, List, NoMemory, PathId, Rows};
@@ -18,8 +18,6 @@ pub(crate) struct Batch {
     causes: Vec<Option<Cause>>,
     // of each route its path
     paths: Rows<PathId, u32>,
-    // where their paths may stand in the table
-    guesses: Vec<Guess>,
     // of the first routes where their paths stood in the table
     places: List<Option<PathId>>,
     // the path of the route that is being cleaned
@@ -44,7 +42,6 @@ impl Batch {
         Batch {
             causes: Vec::new(alloc),
             paths: Rows::new(alloc),
-            guesses: Vec::new(alloc),
             places: List::new(alloc),
             path: List::new(alloc),
         }
@@ -96,9 +93,7 @@ impl Batch {
         if self.len() < 2 {
             return Ok(());
         }
-        guess_each(table, &self.paths, &mut self.guesses)?;
-        let guesses = self.guesses.as_slice();
-        find_each(table, &self.paths, guesses, &mut self.places)
+        find_each(table, &self.paths, &mut self.places)
     }
 
     /// Takes in one of the routes. A route that isn't taken changes nothing.
@@ -143,34 +138,17 @@ fn found_at(places: &[Option<PathId>], place: usize) -> Option<PathId>
     }
 }
 
-/// Where each of the paths may stand in the table.
-fn guess_each(
-    table: &PathTable,
-    paths: &Rows<PathId, u32>,
-    guesses: &mut Vec<Guess>,
-) -> Result<(), NoMemory>
-    ensures { OnOk result (length guesses.new.items ≡ length paths.now) }
-{
-    guesses.clear();
-    for place in 0..paths.len() {
-        guesses.push(table.guess(row_at(paths, place)))?;
-    }
-    Ok(())
-}
-
 /// Where each of the paths stands in the table, if it is there.
 fn find_each(
     table: &PathTable,
     paths: &Rows<PathId, u32>,
-    guesses: &[Guess],
     places: &mut List<Option<PathId>>,
 ) -> Result<(), NoMemory>
-    requires many { length guesses.now ≡ length paths.now }
     requires none { places.old ≡ [] }
     ensures { OnOk result (places.new ≡ map (place_of table.now.rows) paths.now) }
 {
     for place in 0..paths.len() {
-        places.push(table.find_guessed(guesses[place], row_at(paths, place)))?;
+        places.push(table.find(row_at(paths, place)))?;
     }
     Ok(())
 }

@@ -1,6 +1,6 @@
--- Rows that are found by buckets of their hashes.
-use Rattle.std.specs.Prelude.{◌≡◌, ◌≢◌, ◌≤◌, ◌<◌, ◌-◌, ◌*◌, ◌/◌, ◌%◌, ◌^◌, ◌⊎◌, ℕ, List, [], fold, length, slice_get, slice_index, unwrap_or, bit_and, bit_xor}
-use Rattle.path_clean.specs.declared.buckets.Buckets.{Buckets}
+-- Rows that are found by their hash.
+use Rattle.std.specs.Map.{lookup}
+use Rattle.std.specs.Prelude.{nat_eq, ◌≡◌, ◌≢◌, ◌≤◌, ◌<◌, ◌-◌, ◌*◌, ◌/◌, ◌%◌, ◌^◌, ◌⊎◌, ℕ, List, [], fold, length, slice_get, slice_index, unwrap_or, bit_xor}
 
 abbrev pub row_at : List (List ℕ) → ℕ → List ℕ
 row_at rows k = unwrap_or (slice_get rows k) []
@@ -17,28 +17,22 @@ mixed h x = folded (bit_xor h x * 11400714819323198485 % 2 ^ 64)
 unfoldable pub path_hash : ℕ → List ℕ → ℕ
 path_hash seed path = fold mixed seed path
 
--- into which of so many buckets, which should be a power of two, a row belongs: by the upper half of its hash
-abbrev pub bucket : ℕ → ℕ → List ℕ → ℕ
-bucket seed many row = bit_and (path_hash seed row / 2 ^ 32) (many - 1)
+-- there is no row before the place `at`, or the one right before it has the hash
+abbrev pub EndsInHash : (seed : ℕ) (rows : List (List ℕ)) (hash at : ℕ) → Type 0
+EndsInHash seed rows hash at = (at ≡ 0) ⊎ (path_hash seed (row_at rows (at - 1)) ≡ hash)
 
--- of the rows before the place `end`, those in the bucket end at `at`: none from there on is in it
-pub record EndsIn (seed many : ℕ) (rows : List (List ℕ)) (key at end : ℕ) : Type 0 where
+-- of the rows before the place `end`, those that have the hash end at `at`: none from there on has it
+pub record EndsAt (seed : ℕ) (rows : List (List ℕ)) (hash at end : ℕ) : Type 0 where
   pub within : at ≤ end
-  pub none : (k : ℕ) → at ≤ k → k < end → bucket seed many (row_at rows k) ≢ key
-  pub has : (at ≡ 0) ⊎ (bucket seed many (row_at rows (at - 1)) ≡ key)
+  pub none : (k : ℕ) → at ≤ k → k < end → path_hash seed (row_at rows k) ≢ hash
+  pub has : EndsInHash seed rows hash at
 
--- for each row before the place `end` it is written down where the earlier rows of its bucket end
-abbrev pub AreLinked : ℕ → ℕ → List (List ℕ) → List ℕ → ℕ → Type 0
-AreLinked seed many rows older end =
-    (r : ℕ) → r < end → EndsIn seed many rows (bucket seed many (row_at rows r)) (slice_index older r) r
+-- for each row it is written down where the earlier rows of its hash end
+abbrev pub IsChained : ℕ → List (List ℕ) → List ℕ → Type 0
+IsChained seed rows older =
+    (r : ℕ) → r < length rows → EndsAt seed rows (path_hash seed (row_at rows r)) (slice_index older r) r
 
--- for each bucket it is written down where its rows before the place `end` end
-abbrev pub AreNewest : ℕ → ℕ → List (List ℕ) → List ℕ → ℕ → Type 0
-AreNewest seed many rows newest end = (key : ℕ) → key < many → EndsIn seed many rows key (slice_index newest key) end
-
--- the rows before the place `end` are in buckets, of which there are at least as many
-pub record AreIn (rows : List (List ℕ)) (buckets : Buckets) (end : ℕ) : Type 0 where
-  pub passed : length buckets.older.items ≡ end
-  pub room : end ≤ length buckets.newest.items
-  pub linked : AreLinked buckets.seed (length buckets.newest.items) rows buckets.older.items end
-  pub newest : AreNewest buckets.seed (length buckets.newest.items) rows buckets.newest.items end
+-- for each hash it is written down where the rows of that hash end
+abbrev pub IsIndexed : ℕ → List (ℕ × ℕ) → List (List ℕ) → Type 0
+IsIndexed seed entries rows =
+    (hash : ℕ) → EndsAt seed rows hash (unwrap_or (lookup (nat_eq hash) entries) 0) (length rows)

@@ -1,30 +1,34 @@
-ghost use Rattle.std.specs.Prelude.{◌≡◌, ◌≢◌, ◌<◌, ◌≤◌, ◌++◌, ◌∷◌, [], ℕ, List, length, OnOk, OnErr, IfOk, IfSome, IfNone};
-ghost use Rattle.tor_arena.specs.Limits.{most_places};
-ghost use Rattle.path_clean.specs.Chains.{row_at, AreIn};
+ghost use Rattle.std.specs.Prelude.{◌≡◌, ◌≢◌, ◌<◌, ◌≤◌, ◌++◌, ◌∷◌, [], ℕ, length, OnOk, OnErr, IfOk, IfSome, IfNone};
+ghost use Rattle.path_clean.specs.Chains.{row_at};
 
-use crate::buckets::{Buckets, Guess, all_rows, find_row, newest_of, put, row_of, seed_of};
+use crate::chain::{find_row, hash_of, seed_of};
+use indexmap::IndexMap;
 use std::alloc::Global;
 use std::marker::Model;
 use tor_arena::{Index, Keys, NoMemory, PathId, Rows};
 
-/// Paths in the order in which they were added, found by their hashes.
+/// Paths in the order in which they were added, with an index by hash.
 #[derive(Drop)]
 pub(crate) struct IndexedPaths {
-    alloc: Global,
     rows: Rows<PathId, u32>,
-    buckets: Buckets,
+    // for each row, where the earlier rows of its hash end
+    older: Vec<u32>,
+    // for each hash, where the rows of that hash end
+    newest: IndexMap<u64, u32>,
+    // with which each hash begins, so that no one can choose paths of one hash
+    seed: u64,
 }
 
 impl Model for IndexedPaths {
-    ghost use Rattle.std.specs.Prelude.{◌≤◌, ℕ, List, length};
-    ghost use Rattle.tor_arena.specs.Limits.{most_places};
-    ghost use Rattle.path_clean.specs.Chains.{AreIn};
+    ghost use Rattle.std.specs.Prelude.{◌≡◌, ◌≤◌, ℕ, List, length};
+    ghost use Rattle.path_clean.specs.Chains.{IsChained, IsIndexed};
 
     ghost Value = { List (List ℕ) };
 
     ghost view = { λ paths. paths.rows };
 
-    ghost invariant = { λ paths. (length paths.rows ≤ most_places) × AreIn paths.rows paths.buckets (length paths.rows) };
+    ghost invariant = { λ paths. (length paths.rows ≤ 268435456) × (length paths.older.items ≡ length paths.rows)
+        × IsChained paths.seed paths.rows paths.older.items × IsIndexed paths.seed paths.newest.entries paths.rows };
 }
 
 impl IndexedPaths {
@@ -32,15 +36,11 @@ impl IndexedPaths {
     pub fn new(alloc: Global, keys: Keys) -> IndexedPaths
         ensures { result ≡ [] }
     {
-        let buckets = Buckets {
-            seed: seed_of(keys),
-            newest: Vec::new(alloc),
-            older: Vec::new(alloc),
-        };
         IndexedPaths {
-            alloc,
             rows: Rows::new(alloc),
-            buckets,
+            older: Vec::new(alloc),
+            newest: IndexMap::new(alloc),
+            seed: seed_of(keys),
         }
     }
 
@@ -51,7 +51,7 @@ impl IndexedPaths {
         &self.rows
     }
 
-    /// The paths in order, without the buckets. It takes no memory.
+    /// The paths in order, without the index. It takes no memory.
     pub fn into_rows(self) -> Rows<PathId, u32>
         ensures { result ≡ self }
     {
@@ -63,69 +63,30 @@ impl IndexedPaths {
         ensures found { IfSome result (λ k. (k < length self.now) × (row_at self.now k ≡ path.now)) }
         ensures absent { IfNone result ((k : ℕ) → k < length self.now → row_at self.now k ≢ path.now) }
     {
-        let place = find_row(&self.buckets, &self.rows, path)?;
+        let older = self.older.as_slice();
+        let place = find_row(&self.rows, older, &self.newest, self.seed, path)?;
         PathId::from_place(place)
     }
 
-    /// Where a path may stand. It takes no memory.
-    pub fn guess(&self, path: &[u32]) -> Guess {
-        newest_of(&self.buckets, path)
-    }
-
-    /// The index of a path that may stand where it is guessed. It takes no memory.
-    pub fn find_guessed(&self, guess: Guess, path: &[u32]) -> Option<PathId>
-        ensures found { IfSome result (λ k. (k < length self.now) × (row_at self.now k ≡ path.now)) }
-        ensures absent { IfNone result ((k : ℕ) → k < length self.now → row_at self.now k ≢ path.now) }
-    {
-        match self.find_at(guess, path) {
-            Some(id) => Some(id),
-            None => self.find(path),
-        }
-    }
-
-    /// The index of a path, if it stands where it is guessed.
-    fn find_at(&self, guess: Guess, path: &[u32]) -> Option<PathId>
-        ensures { IfSome result (λ k. (k < length self.now) × (row_at self.now k ≡ path.now)) }
-    {
-        let place = guess.place()?;
-        if place < self.rows.len() && row_of(&self.rows, place) == path {
-            PathId::from_place(place)
-        } else {
-            None
-        }
-    }
-
-    /// Adds a path, whether it is there or not. For want of memory no path is added.
+    /// Adds a path, whether it is there or not.
     pub fn push(&mut self, path: &[u32]) -> Result<PathId, NoMemory>
         requires { length self.old < 268435456 }
         ensures ok { OnOk result (self.new ≡ self.old ++ path.now ∷ []) }
         ensures index { IfOk result (λ id. id ≡ length self.old) }
         ensures err { OnErr result (self.new ≡ self.old) }
     {
-        make_room(self.alloc, &self.rows, &mut self.buckets)?;
-        let count = self.rows.len();
+        let hash = hash_of(self.seed, path);
+        let start = self.newest.get(&hash).copied().unwrap_or(0);
+        self.older.reserve(1)?;
+        self.newest.reserve(1)?;
         let Ok(id) = self.rows.push_row(path) else {
             return Err(NoMemory);
         };
-        if put(&mut self.buckets, &self.rows, count).is_err() {
-            self.rows.cut_to(count);
-            return Err(NoMemory);
+        let end = id.place() as u32 + 1;
+        self.older.push_reserved(start);
+        match self.newest.insert(hash, end) {
+            Ok(_) => Ok(id),
+            Err(_) => unreachable!(),
         }
-        Ok(id)
     }
-}
-
-/// Makes twice as many buckets where there are fewer than two for each row. For want of memory nothing changes.
-fn make_room(alloc: Global, rows: &Rows<PathId, u32>, buckets: &mut Buckets) -> Result<(), NoMemory>
-    requires few { length rows.now ≤ most_places }
-    requires before { AreIn rows.now buckets.old (length rows.now) }
-    ensures room { OnOk result (length rows.now < length buckets.new.newest.items) }
-    ensures rows { AreIn rows.now buckets.new (length rows.now) }
-{
-    let count = rows.len();
-    if 2 * count >= buckets.newest.len() {
-        let many = (4 * count).max(16).next_power_of_two();
-        *buckets = all_rows(alloc, buckets.seed, many, rows)?;
-    }
-    Ok(())
 }

@@ -2,7 +2,7 @@
 #![tactic(auto)]
 
 mod asides;
-mod buckets;
+mod chain;
 mod cleaned;
 mod cleaning;
 mod distinct_rows;
@@ -12,7 +12,6 @@ mod repeats;
 mod table;
 
 pub use asides::Asides;
-pub use buckets::Guess;
 pub use cleaned::{Cause, Cleaned, Sets, is_cleaned};
 pub use cleaning::{clean, clean_into, is_clean_path};
 pub use laws::{clean_paths_stay, counting, paths_are_clean};

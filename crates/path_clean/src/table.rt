@@ -6,7 +6,6 @@ ghost use Rattle.path_clean.specs.Paths.{is_cleaned};
 ghost use Rattle.path_clean.specs.Rows.{paths_of, times_of, numbers_in, none_twice};
 ghost use Rattle.path_clean.specs.Table.{place_of, with_path, Names, IsCounted, IsPathTooMany, HasNumbersTooMany};
 
-use crate::buckets::Guess;
 use crate::distinct_rows::IndexedPaths;
 use std::alloc::Global;
 use std::marker::Model;
@@ -81,19 +80,6 @@ impl PathTable {
         ensures { result ≡ place_of self.now.rows path.now }
     {
         self.paths.find(path)
-    }
-
-    /// Where a path may stand: a hint for `find_guessed`, of which nothing is promised. Many paths are guessed, and then found, in less
-    /// time than they are found one by one, since the waits for memory overlap. It takes no memory.
-    pub fn guess(&self, path: &[u32]) -> Guess {
-        self.paths.guess(path)
-    }
-
-    /// Where a path stands, if it is there, whatever the guess. It takes no memory.
-    pub fn find_guessed(&self, guess: Guess, path: &[u32]) -> Option<PathId>
-        ensures { result ≡ place_of self.now.rows path.now }
-    {
-        self.paths.find_guessed(guess, path)
     }
 
     /// Counts the path of an index, which has to be there, once more: it gains one in its times, up to 2^64 - 1. It takes no memory.

@@ -14,7 +14,7 @@ loop-place-preserved c =
     let within = slice_get_within paths k row c.row_at.ensures in
     let is : get_or paths k row ≡ row = inside (get_or paths k row) row (sym (slice_get-get_or paths k row within) ∙ c.row_at.ensures) in
     let next : suc k ≡ k + 1 = omega arith in
-    c.in_ok-push.ensures.ok ∙ ap₂ (λ places found. places ++ found ∷ []) c.loop-place.invariant c.find_guessed.ensures
+    c.in_ok-push.ensures.ok ∙ ap₂ (λ places found. places ++ found ∷ []) c.loop-place.invariant c.find.ensures
     ∙ sym (map-append f (take k paths) (row ∷ []))
     ∙ ap (map f) (ap (λ one. take k paths ++ one ∷ []) (sym is) ∙ sym (take-suc paths k row within) ∙ ap (λ n. take n paths) next)
   where

@@ -1,11 +1,12 @@
-use Rattle.std.proofs.Common.{◌<◌, ◌≤◌, ℕ, length}
-use Rattle.path_clean.specs.Chains.{AreIn}
-use Rattle.path_clean.specs.Repeats.{Repeats}
+use Rattle.std.proofs.Common.{◌≡◌, ◌<◌, ℕ, length}
+use Rattle.path_clean.specs.Repeats.{Repeats, AreLinked, AreNewest}
 use Rattle.path_clean.proofs.repeats.first_repeated.Given as goal
 
 abbrev pub invariant-loop-place : goal.invariant-loop-place
 invariant-loop-place l = record {
-  rows : AreIn l.rows l.buckets l.place;
-  many : length l.rows ≤ length l.buckets.newest.items;
+  buckets : length l.newest.items ≡ l.many;
+  passed : length l.older.items ≡ l.place;
+  linked : AreLinked l.seed l.many l.rows l.older.items l.place;
+  newest : AreNewest l.seed l.many l.rows l.newest.items l.place;
   before : (j : ℕ) → j < l.place → Repeats l.rows j → ⊥;
 }

@@ -1,15 +1,10 @@
 -- Buckets with one row more.
-use Rattle.std.proofs.Common.{◌≡◌, ◌≢◌, ◌∙◌, ◌+◌, ◌-◌, ◌<◌, ◌≤◌, ℕ, zero, suc, Bool, true, false, nat_eq, List, [], ◌∷◌, ◌++◌, length, set, slice_index, refl, ap, sym, subst, arith, inl, inr, ◌⊎◌}
-use Rattle.std.specs.Prelude.{replicate, Option, Some, None, is_some, IfNone, Result, Ok, Err, is_err, OnErr}
+use Rattle.std.proofs.Common.{◌≡◌, ◌≢◌, ◌∙◌, ◌+◌, ◌-◌, ◌<◌, ℕ, zero, suc, Bool, true, false, nat_eq, List, [], ◌∷◌, ◌++◌, length, set, slice_index, refl, ap, sym, subst, arith, inl, inr}
+use Rattle.std.specs.Prelude.{replicate}
 use Rattle.std.proofs.lemmas.List.{get_or-set_same, get_or-set_other}
 use Rattle.std.proofs.lemmas.Bool.{cases_lt, eqb-true, eqb-false}
-use Rattle.path_clean.specs.declared.buckets.Buckets.{Buckets}
-use Rattle.path_clean.specs.Chains.{row_at, bucket, EndsIn, AreLinked, AreNewest, AreIn}
-
-pub row_at-old : (rows : List (List ℕ)) (p : List ℕ) (k : ℕ) → k < length rows → row_at (rows ++ p ∷ []) k ≡ row_at rows k
-row_at-old [] p k lt = absurd (omega arith)
-row_at-old (x ∷ xs) p zero lt = refl
-row_at-old (x ∷ xs) p (suc k) lt = row_at-old xs p k (omega arith)
+use Rattle.path_clean.specs.Chains.{row_at}
+use Rattle.path_clean.specs.Repeats.{bucket, EndsIn, AreLinked, AreNewest}
 
 module _ (seed many : ℕ) (rows : List (List ℕ)) where
   -- the bucket of the row in a place ends behind it
@@ -78,40 +73,3 @@ newest-none seed many n rows key lt = subst (λ at. EndsIn seed many rows key at
     zeros zero k = refl
     zeros (suc n) zero = refl
     zeros (suc n) (suc k) = zeros n k
-
--- ---- lists whose first rows are the same
-
-ends-same : (seed many : ℕ) (rows others : List (List ℕ)) (key at end : ℕ) → ((k : ℕ) → k < end → row_at others k ≡ row_at rows k)
-    → EndsIn seed many rows key at end → EndsIn seed many others key at end
-ends-same seed many rows others key at end agree e = let within = e.within in record {
-  within = e.within;
-  none = λ k lo hi same. e.none k lo hi (ap (bucket seed many) (sym (agree k hi)) ∙ same);
-  has = has at within e.has;
-}
-  where
-    has : (at : ℕ) → at ≤ end → (at ≡ 0) ⊎ (bucket seed many (row_at rows (at - 1)) ≡ key) → (at ≡ 0) ⊎ (bucket seed many (row_at others (at - 1)) ≡ key)
-    has zero within is = inl refl
-    has (suc k) within (inl none) = inl none
-    has (suc k) within (inr same) = inr (ap (bucket seed many) (agree (suc k - 1) (omega (arith, within))) ∙ same)
-
--- the buckets tell only of the first rows
-pub in-same : (rows others : List (List ℕ)) (buckets : Buckets) (end : ℕ) → ((k : ℕ) → k < end → row_at others k ≡ row_at rows k) → AreIn rows buckets end → AreIn others buckets end
-in-same rows others buckets end agree h = record {
-  passed = h.passed;
-  room = h.room;
-  linked = λ r lt.
-      subst (λ row. EndsIn buckets.seed (length buckets.newest.items) others (bucket buckets.seed (length buckets.newest.items) row) (slice_index buckets.older.items r) r) (sym (agree r lt))
-      (ends-same buckets.seed (length buckets.newest.items) rows others (bucket buckets.seed (length buckets.newest.items) (row_at rows r)) (slice_index buckets.older.items r) r
-      (λ k less. agree k (omega (arith, less, lt))) (h.linked r lt));
-  newest = λ key lt. ends-same buckets.seed (length buckets.newest.items) rows others key (slice_index buckets.newest.items key) end agree (h.newest key lt);
-}
-
--- what holds where nothing was found
-pub where_none : {T P : Type 0} (found : Option T) → is_some found ≡ false → IfNone found P → P
-where_none None is p = p
-where_none (Some x) is p = absurd cc
-
--- what holds where it ended badly
-pub where_err : {T E P : Type 0} (result : Result T E) → is_err result ≡ true → OnErr result P → P
-where_err (Ok x) is p = absurd cc
-where_err (Err e) is p = p
