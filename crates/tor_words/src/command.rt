@@ -8,51 +8,80 @@ use clap::builder::ValueParser;
 use clap::{Arg, ArgAction, Command};
 use std::alloc::{AllocError, Global};
 
-fn flag<'a>(alloc: Global, name: &'a str) -> Arg<'a>
+fn flag<'a>(alloc: Global, name: &'a str, help: &'a str) -> Arg<'a>
     ensures rule { rule_of result ≡ flag_rule name.now }
     ensures local { result.global ≡ false }
 {
-    Arg::new(alloc, name).long(name).action(ArgAction::SetTrue)
+    Arg::new(alloc, name)
+        .long(name)
+        .action(ArgAction::SetTrue)
+        .help(help)
 }
 
-fn option<'a>(alloc: Global, name: &'a str) -> Arg<'a>
+fn option<'a>(alloc: Global, name: &'a str, help: &'a str) -> Arg<'a>
     ensures rule { rule_of result ≡ option_rule name.now }
     ensures local { result.global ≡ false }
 {
-    Arg::new(alloc, name).long(name).action(ArgAction::Set)
+    Arg::new(alloc, name)
+        .long(name)
+        .action(ArgAction::Set)
+        .help(help)
 }
 
-fn number<'a>(alloc: Global, name: &'a str, low: u64, high: u64) -> Arg<'a>
+fn number<'a>(alloc: Global, name: &'a str, low: u64, high: u64, help: &'a str) -> Arg<'a>
     ensures rule { rule_of result ≡ number_rule name.now low high }
     ensures local { result.global ≡ false }
 {
-    option(alloc, name).value_parser(ValueParser::Unsigned(low, high))
+    option(alloc, name, help).value_parser(ValueParser::Unsigned(low, high))
 }
 
-fn rest<'a>(alloc: Global, name: &'a str) -> Arg<'a>
+fn rest<'a>(alloc: Global, name: &'a str, help: &'a str) -> Arg<'a>
     ensures rule { rule_of result ≡ rest_rule name.now }
     ensures local { result.global ≡ false }
 {
-    Arg::new(alloc, name).num_args(1..)
+    Arg::new(alloc, name).num_args(1..).help(help)
 }
 
-fn needed<'a>(alloc: Global, name: &'a str) -> Arg<'a>
+fn needed<'a>(alloc: Global, name: &'a str, help: &'a str) -> Arg<'a>
     ensures rule { rule_of result ≡ needed_rule name.now }
     ensures local { result.global ≡ false }
 {
-    Arg::new(alloc, name).required(true)
+    Arg::new(alloc, name).required(true).help(help)
 }
+
+/// What help says of each option and of the dumps.
+const LIST_HELP: &str =
+    "Write the distinct AS paths, each with its number of routes, in place of the result";
+
+const SETS_HELP: &str =
+    "With an AS_SET of several ASes, cut ends the path before it and skip sets the route aside [default: cut]";
+
+const RATIO_HELP: &str =
+    "The most times the lesser degree that the greater one of two peers may be, 0 (no peers) to 1000000 [default: 60]";
+
+const MOST_HELP: &str = "The most distinct paths, 1 to 8388608 [default: 8388608]";
+
+const SAMPLE_HELP: &str =
+    "Write the summary of the result over a dump made from this number, 0 to 18446744073709551615, in place of dumps";
+
+const DUMPS_HELP: &str =
+    "Uncompressed MRT table dumps, read in this order; /dev/stdin can be named once";
+
+const RESULT_HELP: &str = "The result to judge";
+
+const COMPARED_HELP: &str =
+    "The dumps, in order, that the paths of the result, their times and its seven counts have to be those of";
 
 /// The command line of `tor`.
 pub(crate) fn command<'a>(alloc: Global) -> Result<Command<'a>, AllocError>
     ensures { IfOk result (λ c. app_of c ≡ tor_command) }
 {
-    let list = flag(alloc, "list");
-    let sets = option(alloc, "as-sets");
-    let ratio = number(alloc, "ratio", 0, 1_000_000);
-    let most = number(alloc, "max-paths", 1, 8_388_608);
-    let sample = number(alloc, "sample", 0, u64::MAX);
-    let dumps = rest(alloc, "dump");
+    let list = flag(alloc, "list", LIST_HELP);
+    let sets = option(alloc, "as-sets", SETS_HELP);
+    let ratio = number(alloc, "ratio", 0, 1_000_000, RATIO_HELP);
+    let most = number(alloc, "max-paths", 1, 8_388_608, MOST_HELP);
+    let sample = number(alloc, "sample", 0, u64::MAX, SAMPLE_HELP);
+    let dumps = rest(alloc, "dump", DUMPS_HELP);
     let tor = Command::new(alloc, "tor").no_binary_name(true);
     tor.arg(list)?
         .arg(sets)?
@@ -66,8 +95,8 @@ pub(crate) fn command<'a>(alloc: Global) -> Result<Command<'a>, AllocError>
 pub(crate) fn check_command<'a>(alloc: Global) -> Result<Command<'a>, AllocError>
     ensures { IfOk result (λ c. app_of c ≡ torcheck_command) }
 {
-    let file = needed(alloc, "result");
-    let dumps = rest(alloc, "dump");
+    let file = needed(alloc, "result", RESULT_HELP);
+    let dumps = rest(alloc, "dump", COMPARED_HELP);
     let torcheck = Command::new(alloc, "torcheck").no_binary_name(true);
     torcheck.arg(file)?.arg(dumps)
 }

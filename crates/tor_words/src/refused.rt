@@ -1,4 +1,4 @@
-ghost use Rattle.std.specs.Prelude.{◌≢◌, IfOk};
+ghost use Rattle.std.specs.Prelude.{◌≢◌, IfOk, OnOk};
 ghost use Rattle.clap.specs.Words.{kind_of};
 ghost use Rattle.tor_words.specs.Refused.{IsUsage, SaysUsage, HasUsageLine};
 
@@ -16,13 +16,31 @@ pub enum WordsRefused {
     NoMemory,
 }
 
+/// The digits of a number below 16.
+const DIGITS: [u8; 16] = *b"0123456789abcdef";
+
+// Puts an octet behind the first line: a control character as its number, \xNN, since a word of the command line may hold any, and a
+// terminal would heed it.
+fn put_visible(lines: &mut List<u8>, octet: u8) -> Result<(), NoMemory>
+    ensures { OnOk result (HasUsageLine lines.old → HasUsageLine lines.new) }
+{
+    if octet == b'\n' || !octet.is_ascii_control() {
+        return lines.push(octet);
+    }
+    let high = DIGITS[usize::from(octet >> 4)];
+    let low = DIGITS[usize::from(octet & 15)];
+    lines.extend_from_slice(&[b'\\', b'x', high, low])
+}
+
 // The first line, and what is to be said behind it.
 fn usage_text(alloc: Global, text: &str) -> Result<List<u8>, NoMemory>
     ensures { IfOk result HasUsageLine }
 {
     let mut lines = List::new(alloc);
     lines.extend_from_slice(b"usage\n")?;
-    lines.extend_from_slice(text.as_bytes())?;
+    for octet in text.as_bytes() {
+        put_visible(&mut lines, *octet)?;
+    }
     Ok(lines)
 }
 

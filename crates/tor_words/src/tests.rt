@@ -3,6 +3,7 @@ use crate::{Mode, WordsRefused, check_settings_of};
 use path_clean::Sets;
 use std::alloc::Global;
 use std::test::Fail;
+use tor_arena::{List, NoMemory};
 
 // What words give: the mode, the way with sets, the ratio, the most paths and the number of dumps; or the exit status that
 // refuses them.
@@ -127,4 +128,42 @@ fn takes_words_of_a_check(rt: HostRuntime) {
     for words in refused {
         assert_eq!(rt; asked_to_check(rt.alloc(), words, "r"), Err(2));
     }
+}
+
+// What is said of these words, where they give no settings.
+fn said_of(alloc: Global, texts: &[&str]) -> Result<List<u8>, NoMemory> {
+    let words = names_of(alloc, texts)?;
+    match settings_of(alloc, &words) {
+        Err(WordsRefused::Usage(text)) => Ok(text),
+        _ => Err(NoMemory),
+    }
+}
+
+fn says(alloc: Global, texts: &[&str], part: &str) -> bool {
+    let Ok(text) = said_of(alloc, texts) else {
+        return false;
+    };
+    match str::from_utf8(text.as_slice()) {
+        Ok(text) => text.starts_with("usage\n") && text.contains(part) && !text.contains('\u{1b}'),
+        Err(_) => false,
+    }
+}
+
+#[test]
+fn names_options_and_their_values(rt: HostRuntime) {
+    let parts = [
+        "--list",
+        "[default: cut]",
+        "0 (no peers) to 1000000 [default: 60]",
+        "1 to 8388608 [default: 8388608]",
+        "0 to 18446744073709551615",
+    ];
+    for part in parts {
+        assert!(rt; says(rt.alloc(), &["--help"], part));
+    }
+}
+
+#[test]
+fn shows_control_characters_of_a_word(rt: HostRuntime) {
+    assert!(rt; says(rt.alloc(), &["--\u{1b}[31m"], "--\\x1b[31m"));
 }
