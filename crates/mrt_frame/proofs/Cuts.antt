@@ -2,7 +2,7 @@
 use Rattle.std.proofs.Common.{◌≡◌, ℕ, zero, suc, ◌≤◌, ◌<◌, List, [], ◌∷◌, ◌++◌, length, refl, sym, ap, subst, ◌∙◌, arith}
 use Rattle.std.proofs.lemmas.List.{length-append}
 use Rattle.mrt_frame.specs.declared.header.At.{At}
-use Rattle.mrt_frame.specs.Records.{Record, Cut, End, Next, Ends, Holds, Well, HeadCut, TooManyBytes, Oversize, BodyCut, next_of, cut_within, behind, onto, start}
+use Rattle.mrt_frame.specs.Records.{Record, Cut, End, Next, Ends, Holds, Well, HeadCut, TooManyBytes, Oversize, BodyCut, next_of, cut_within, cut_from, behind, onto, start}
 use Rattle.mrt_frame.specs.Encoding.{Encodes, IsEnd, AreEncoded, EncodingLaw, OneReadingLaw}
 use Rattle.mrt_frame.proofs.Nexts.{StandsAt, IsNext, next_is, is_next}
 
@@ -58,6 +58,19 @@ is_cut (suc n) at octets [] end le is = ends_with n at octets end (is_next at oc
 is_cut (suc n) at octets (r ∷ records) end le is =
     unrolled n at octets r is.0 (is_next at octets (Holds r is.0) (record { placed = is.1; within = is.2; encoded = is.3 }))
     ∙ ap (onto r) (is_cut n (behind r) is.0 records end (omega (arith, fewer octets r is.0 is.3)) is.4)
+
+-- with any number of steps that is enough the cut is the same
+pub any_fuel : (n : ℕ) (at : At) (octets : List ℕ) → length octets ≤ n → cut_within n at octets ≡ cut_from at octets
+any_fuel n at octets le = is_cut n at octets (cut_from at octets).records (cut_from at octets).end le (cut_is (length octets) at octets (omega arith))
+
+-- a whole record stands first, and then those behind it
+pub cut_onto : (at : At) (octets : List ℕ) (r : Record) (rest : List ℕ) → next_of at octets ≡ Holds r rest → cut_from at octets ≡ onto r (cut_from (behind r) rest)
+cut_onto at octets r rest is =
+    sym (any_fuel (suc (length octets)) at octets (omega arith)) ∙ unrolled (length octets) at octets r rest is
+    ∙ ap (onto r) (any_fuel (length octets) (behind r) rest (omega (arith, shorter at octets r rest is)))
+
+pub cut_ends : (at : At) (octets : List ℕ) (end : End) → next_of at octets ≡ Ends end → cut_from at octets ≡ record { records = []; end = end }
+cut_ends at octets end is = sym (any_fuel (suc (length octets)) at octets (omega arith)) ∙ ends_with (length octets) at octets end is
 
 pub encoding_law : EncodingLaw
 encoding_law octets records end = (

@@ -83,7 +83,7 @@ begins None start = tt
 begins (Some octets) start = (octets, refl, nothing start octets)
 
 -- a record whose header was taken, and whose body was passed over, stood there
-stood : (at : At) (octets : List ℕ) (header : Header) (mid after : Option (List ℕ)) → TakesHeader at octets header mid → Skips mid header.len after
+pub stood : (at : At) (octets : List ℕ) (header : Header) (mid after : Option (List ℕ)) → TakesHeader at octets header mid → Skips mid header.len after
     → (next_of at octets ≡ Holds (record_of at header (take header.len (drop 12 octets))) (drop header.len (drop 12 octets))) × (after ≡ Some (drop header.len (drop 12 octets)))
     × (length (take header.len (drop 12 octets)) ≡ header.len)
 stood at octets header mid after h skipped =

@@ -1,6 +1,10 @@
 //! How many records of each type and subtype there are.
 #![tactic(auto)]
 
+mod record_counts;
+#[cfg(test)]
+mod tests;
 mod type_count;
 
-pub use type_count::TypeCount;
+pub use record_counts::RecordCounts;
+pub use type_count::{RecordType, TypeCount};

@@ -1,9 +1,17 @@
-/// How many records of a type and subtype there are (RFC 6396, section 2).
+/// The type and the subtype of a record (RFC 6396, section 2). They are ordered by type, and then by subtype.
+#[derive(Clone, Copy, Debug, PartialEq, Eq, PartialOrd, Ord)]
+pub struct RecordType {
+    /// The type.
+    pub kind: u16,
+    pub subtype: u16,
+}
+
+/// How many records of a type and subtype there are.
 #[derive(Clone, Copy, Debug, PartialEq, Eq)]
 pub struct TypeCount {
     /// The type.
     pub kind: u16,
     pub subtype: u16,
-    /// How many records, at least one, and at most 2^64 - 1 where there are more.
+    /// How many records, at least one, and 2^64 - 1 where there are more.
     pub records: u64,
 }

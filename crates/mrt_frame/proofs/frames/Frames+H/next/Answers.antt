@@ -8,6 +8,7 @@ use Rattle.mrt_frame.specs.declared.error.FrameError.TheVariants.{ReadFault}
 use Rattle.mrt_frame.specs.declared.frames.Frames.{Frames}
 use Rattle.mrt_frame.specs.Frames.{FindsNext, StopsWith, IfFault, record_as, end_of_error}
 use Rattle.mrt_frame.specs.Steps.{Answer, HasMoved, seen}
+use Rattle.mrt_frame.specs.Counting.{CountsAll}
 use Rattle.mrt_frame.proofs.Converse.{Matches, conversely, same_seen, of_octets}
 use Rattle.mrt_frame.proofs.frames.Frames+H.next.Goals as goal
 
@@ -20,13 +21,16 @@ returns-in_err-advance g c =
     let old = c.args.self.now in
     let place = old.cursor.next in
     let before = shelf.left old.shelf.now in
+    let first = c.args.counts.now in
+    let second = c.advance.new.counts in
     let new : Frames g.row.H.Denot Cursor = record { shelf = record old.shelf { now = c.advance.new.shelf }; cursor = c.advance.new.self } in
     let matches : IfSome before (λ octets. Matches (Err e) place octets None) = of_octets (end_of_error e) before place facts.stopped in
     let given = conversely c.from_residual.result before place None (subst (λ (r : Answer). IfSome before (λ octets. Matches r place octets None)) is matches) in
-    let moved : HasMoved shelf old (Err e) new = record {
+    let moved : HasMoved shelf old first second (Err e) new = record {
       same_reference = refl;
       leaves = record { files = facts.files; later = facts.later; quiet = facts.quiet; failed = λ read. facts.failed (same_error e read); steady = facts.steady };
       stands = tt;
+      counted = tt;
       next = tt;
       rises = tt;
       live = tt;
@@ -34,7 +38,7 @@ returns-in_err-advance g c =
       at_end = tt;
       broken = broken c.advance.new.self.live e facts.live.0;
     } in (
-      (refl, (λ _. tt), subst (λ (r : Answer). HasMoved shelf old r new) is moved),
+      (refl, (λ _. tt), subst (λ (r : Answer). HasMoved shelf old first second r new) is moved),
       record {
         ends = tt;
         onward = subst (λ (r : Answer). IfOk r (λ found. IfSome found (λ r. place.offset ≤ r.at.offset))) is tt;
@@ -43,6 +47,7 @@ returns-in_err-advance g c =
         record_is_given = given.record_is_given;
         end_is_none = given.end_is_none;
         stop_is_error = given.stop_is_error;
+        counted_all = subst (λ (r : Answer). IfOk r (λ found. IfNone found (CountsAll before place first second))) is tt;
         steady_reads = λ s read. facts.steady_reads s (same_error e (is ∙ read));
       },
     )
@@ -78,6 +83,7 @@ returns-then-branch g c =
           same_reference = refl;
           leaves = record { files = facts.files; later = facts.later; quiet = λ _. facts.quiet tt; failed = λ is. absurd cc; steady = facts.steady };
           stands = stands;
+          counted = facts.counted ok;
           next = facts.next ok ∙ ap behind same;
           rises = omega (arith, ap (λ (a : At). a.offset) (facts.next ok), facts.onward ok);
           live = facts.live.1 ok;
@@ -94,6 +100,7 @@ returns-then-branch g c =
         record_is_given = given.record_is_given;
         end_is_none = given.end_is_none;
         stop_is_error = given.stop_is_error;
+        counted_all = tt;
         steady_reads = λ _ is. absurd cc;
       },
     )
@@ -114,6 +121,7 @@ returns-else-branch g c =
           same_reference = refl;
           leaves = record { files = facts.files; later = facts.later; quiet = λ _. facts.quiet tt; failed = λ is. absurd cc; steady = facts.steady };
           stands = tt;
+          counted = tt;
           next = tt;
           rises = tt;
           live = tt;
@@ -130,6 +138,7 @@ returns-else-branch g c =
         record_is_given = given.record_is_given;
         end_is_none = given.end_is_none;
         stop_is_error = given.stop_is_error;
+        counted_all = facts.counted_all no;
         steady_reads = λ _ is. absurd cc;
       },
     )
