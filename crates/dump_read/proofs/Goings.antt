@@ -21,6 +21,7 @@ use Rattle.dump_read.specs.declared.error.Fault.TheVariants as fault
 use Rattle.dump_read.specs.declared.records.Unread.{Unread}
 use Rattle.dump_read.specs.declared.records.Unread.TheVariants as unread
 use Rattle.dump_read.specs.declared.taking.Untaken.TheVariants as untaken
+use Rattle.dump_read.specs.Files.{with_file}
 use Rattle.dump_read.specs.Seen.{of_end, of_taking, of_octets, end_named}
 use Rattle.dump_read.specs.Refusals.{TakesRead, TakesSomeRead, IsUnread, of_frame, of_unread}
 use Rattle.dump_read.specs.Reading.{Reading, FileEnd, Broken, end_of, onto, reading_of, reading_from, file_reading}
@@ -49,7 +50,7 @@ starts sets (Some octets) old = record { fuel = length octets; rest = octets; pr
 -- ---- records that aren't read give nothing
 
 -- a reading from so many peers on, through one record
-through : (peers : Option ℕ) (r : Record) (c : Cut) → reading_from peers (record { records = r ∷ c.records; end = c.end }) ≡ onto r.at (routes_of peers r) (reading_from (peers_behind peers r) c)
+pub through : (peers : Option ℕ) (r : Record) (c : Cut) → reading_from peers (record { records = r ∷ c.records; end = c.end }) ≡ onto r.at (routes_of peers r) (reading_from (peers_behind peers r) c)
 unfolding reading_of
 through peers r c = refl
 
@@ -62,7 +63,7 @@ same_peers None peers body unread = refl
 same_peers (Some kind) peers body unread = absurd cc
 
 -- a record that isn't read changes nothing of the reading
-skipped : (peers : Option ℕ) (r : Record) (c : Cut) → is_read r.kind r.subtype ≡ false
+pub skipped : (peers : Option ℕ) (r : Record) (c : Cut) → is_read r.kind r.subtype ≡ false
     → reading_from peers (record { records = r ∷ c.records; end = c.end }) ≡ reading_from peers c
 skipped peers r c unread =
     through peers r c
@@ -149,18 +150,18 @@ ended zero place [] end le stands = ap (λ e. record { records = []; end = e }) 
 ended zero place (octet ∷ octets) end le stands = absurd (omega arith)
 ended (suc fuel) place reached end le stands = ends_with fuel place reached end stands
 
-at_end : (peers : Option ℕ) (end : End) → reading_from peers (record { records = []; end = end }) ≡ record { routes = []; end = end_of end }
+pub at_end : (peers : Option ℕ) (end : End) → reading_from peers (record { records = []; end = end }) ≡ record { routes = []; end = end_of end }
 unfolding reading_of
 at_end peers end = refl
 
 -- all routes were taken in, and the reading ends so
 all_taken : (sets : Sets) (d : ℕ) (old new : Taken) (octets : List ℕ) (end : FileEnd) → Takes sets old (file_reading octets).routes new → (file_reading octets).end ≡ end
-    → of_octets sets d old octets ≡ of_end d end new
+    → of_octets sets d old octets ≡ of_end d end (with_file octets new)
 all_taken sets d old new octets end takes is =
-    ap (λ taking. of_taking d taking >>= λ all. of_end d (file_reading octets).end all) takes ∙ ap (λ e. of_end d e new) is
+    ap (λ taking. of_taking d taking >>= λ all. of_end d (file_reading octets).end (with_file octets all)) takes ∙ ap (λ e. of_end d e (with_file octets new)) is
 
 pub ends : (sets : Sets) (d : ℕ) (left₀ left : Option (List ℕ)) (at : At) (peers : Option ℕ) (old new : Taken) (end : End) → GoesOf sets left₀ left at peers old new
-    → IfSome left (λ octets. StopsWith at octets end) → IfSome left₀ (λ octets. of_octets sets d old octets ≡ of_end d (end_of end) new)
+    → IfSome left (λ octets. StopsWith at octets end) → IfSome left₀ (λ octets. of_octets sets d old octets ≡ of_end d (end_of end) (with_file octets new))
 ends sets d None left at peers old new end goes stops = tt
 ends sets d (Some octets) left at peers old new end goes stops =
     let s : StopsWith at goes.rest end = subst (λ o. IfSome o (λ b. StopsWith at b end)) goes.is_left stops in
@@ -203,7 +204,7 @@ breaks sets d (Some octets) left left' at peers r old mid (unread.Untaken (untak
     let f = found peers goes.fuel at goes.rest r left' finds' goes.enough in
     let further = reading_from (peers_behind peers r) (cut_within f.fuel (behind r) f.rest) in
     let same = f.same ∙ ap (λ read. onto r.at read further) is.1 in
-    ap (λ taking. of_taking d taking >>= λ all. of_end d (file_reading octets).end all)
+    ap (λ taking. of_taking d taking >>= λ all. of_end d (file_reading octets).end (with_file octets all))
     (ap (take_routes sets old) (goes.routes ∙ ap (λ reading. goes.prefix ++ reading.routes) same)
     ∙ take_routes-append sets old mid goes.prefix (is.0 ++ further.routes) goes.so_far ∙ stops_in sets mid is.0 further.routes kind is.2)
 breaks sets d (Some octets) left left' at peers r old mid (unread.Untaken untaken.NoMemory) goes finds is = tt

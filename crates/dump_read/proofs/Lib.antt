@@ -1,3 +1,4 @@
 pub mod Takings
 pub mod Goings
 pub mod BatchLemmas
+pub mod FileLemmas

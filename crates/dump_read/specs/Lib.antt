@@ -1,6 +1,7 @@
 pub mod Routes
 pub mod Reading
 pub mod Taking
+pub mod Files
 pub mod Seen
 pub mod Refusals
 pub mod Batches

@@ -10,6 +10,7 @@ use Rattle.dump_read.specs.declared.error.LimitKind.TheVariants.{Bytes}
 use Rattle.dump_read.specs.declared.error.DumpError.{DumpError}
 use Rattle.dump_read.specs.declared.error.DumpError.TheVariants as error
 use Rattle.dump_read.specs.Reading.{FileEnd, Whole, Broken, TooLong, file_reading}
+use Rattle.dump_read.specs.Files.{with_file}
 use Rattle.dump_read.specs.Taking.{Taken, take_routes}
 
 pub data End : Type 0 where
@@ -30,10 +31,10 @@ abbrev pub of_taking : ℕ → Result Taken LimitKind → Result Taken End
 of_taking dump (Ok taken) = Ok taken
 of_taking dump (Err kind) = Err (Limit kind dump)
 
--- the routes of the file, and then its end
+-- the routes of the file, and then its end; where it is read to its end, what it holds is counted
 abbrev pub of_octets : Sets → ℕ → Taken → List ℕ → Result Taken End
 of_octets sets dump taken octets =
-    of_taking dump (take_routes sets taken (file_reading octets).routes) >>= λ all. of_end dump (file_reading octets).end all
+    of_taking dump (take_routes sets taken (file_reading octets).routes) >>= λ all. of_end dump (file_reading octets).end (with_file octets all)
 
 -- the same of a file that may be absent
 abbrev pub of_file : Sets → ℕ → Taken → Option (List ℕ) → Result Taken End

@@ -3,11 +3,13 @@
 
 mod batch;
 mod error;
+mod file_counts;
 mod reading;
 mod records;
 mod taking;
 
 pub use error::{DumpError, Fault, LimitKind, Place};
+pub use file_counts::FileCounts;
 pub use reading::read_dump;
 pub use taking::Taken;
 

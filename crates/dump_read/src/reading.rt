@@ -1,4 +1,4 @@
-ghost use Rattle.std.specs.Prelude.{◌≡◌, ◌≢◌, ◌≤◌, Ok, Err, None, OnOk, OnErr, IfErr, IfSome, IsErrOf};
+ghost use Rattle.std.specs.Prelude.{◌≡◌, ◌≢◌, ◌≤◌, ◌++◌, ◌∷◌, [], Ok, Err, None, OnOk, OnErr, IfErr, IfSome, IsErrOf};
 ghost use Rattle.std.specs.Io.KnownBytes.{IsAtEnd};
 ghost use Rattle.tor_io.specs.Counts.{Rose};
 ghost use Rattle.tor_io.specs.Contents.{LacksFile};
@@ -9,11 +9,13 @@ ghost use Rattle.dump_read.specs.Refusals.{of_frame, of_unread, IsOfDump};
 
 use crate::batch::Batch;
 use crate::error::{DumpError, Fault, LimitKind, Place};
+use crate::file_counts::FileCounts;
 use crate::records::{Unread, take_record};
 use crate::taking::{Taken, Untaken};
 use mrt_frame::{At, FrameError, Frames};
 use path_clean::Sets;
 use std::alloc::Global;
+use tor_arena::NoMemory;
 use tor_io::{OpenRefused, Shelf};
 
 // The error that an error of the records is.
@@ -41,7 +43,19 @@ fn of_unread(dump: u64, at: At, unread: Unread) -> DumpError
     }
 }
 
-// Takes in the routes of the open file.
+// Keeps what a file holds, that was read to its end. For want of memory nothing changes.
+fn keep_file(taken: &mut Taken, file: FileCounts) -> Result<(), DumpError>
+    ensures ok { OnOk result (taken.new ≡ record taken.old { files = taken.old.files ++ file ∷ [] }) }
+    ensures unchanged { OnErr result (taken.new ≡ taken.old) }
+    ensures memory { IfErr result (λ e. e ≡ DumpError.NoMemory) }
+{
+    match taken.files.push(file) {
+        Ok(()) => Ok(()),
+        Err(NoMemory) => Err(DumpError::NoMemory),
+    }
+}
+
+// Takes in the routes of the open file, and at its end what it holds.
 fn read_records<H: Shelf>(
     alloc: Global,
     shelf: &mut H,
@@ -67,21 +81,22 @@ fn read_records<H: Shelf>(
 {
     let mut peers = None;
     let mut batch = Batch::new(alloc);
+    let mut file = FileCounts::new(alloc);
     let mut frames = Frames::over(alloc, shelf);
     'records: loop {
-        let found = match frames.next() {
+        let found = match frames.next(&mut file.records) {
             Ok(Some(found)) => found,
-            Ok(None) => return Ok(()),
+            Ok(None) => return keep_file(taken, file),
             Err(error) => return Err(of_frame(dump, error)),
         };
-        match take_record(alloc, sets, &found, peers, &mut batch, taken) {
+        match take_record(alloc, sets, &found, peers, &mut batch, taken, &mut file) {
             Ok(behind) => peers = behind,
             Err(unread) => return Err(of_unread(dump, found.at, unread)),
         }
     }
 }
 
-/// Reads a dump, and takes in its routes in order. `dump` is its number, from 1.
+/// Reads a dump, and takes in its routes in order, and behind those what the file holds. `dump` is its number, from 1.
 ///
 /// Malformed and Limit: the first end in the order of reading. ReadFault: a call on the shelf failed, as an open does at
 /// a name that isn't there. NoMemory: memory ran out. After an error some of the first routes of the file are

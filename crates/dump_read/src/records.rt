@@ -1,10 +1,12 @@
 ghost use Rattle.std.specs.Prelude.{◌≡◌, [], OnOk, OnErr, IfOk, IfErr};
 ghost use Rattle.mrt_frame.specs.Steps.{seen};
 ghost use Rattle.dump_read.specs.Routes.{of_entries, of_table_dump, routes_in_table_dump, routes_in_rib, routes_of, peers_behind};
+ghost use Rattle.dump_read.specs.Files.{many, with_one};
 ghost use Rattle.dump_read.specs.Batches.{AreOf};
 ghost use Rattle.dump_read.specs.Refusals.{count_of, IsUnread, TakesRead, TakesSomeRead};
 
 use crate::batch::{Batch, take_batch};
+use crate::file_counts::FileCounts;
 use crate::taking::{Taken, Untaken};
 use mrt_frame::{Family, Record, RecordKind, RibForm};
 use path_attrs::{Attrs, RibFault, Width};
@@ -99,6 +101,7 @@ fn take_table_dump(
     ensures taken { OnOk result (TakesRead sets taken.old (routes_in_table_dump family body.now) taken.new) }
     ensures unread { IfErr result (IsUnread sets taken.old (routes_in_table_dump family body.now)) }
     ensures some { OnErr result (TakesSomeRead sets taken.old (routes_in_table_dump family body.now) taken.new) }
+    ensures many { OnOk result (many (routes_in_table_dump family body.now) ≡ 1) }
 {
     let attrs = read_v1(family, body)?;
     clean_alone(alloc, sets, &attrs, batch)?;
@@ -106,7 +109,7 @@ fn take_table_dump(
     Ok(())
 }
 
-// Takes in the routes of a RIB record.
+// Takes in the routes of a RIB record, and answers how many it has.
 fn take_rib(
     alloc: Global,
     sets: Sets,
@@ -115,18 +118,21 @@ fn take_rib(
     body: &[u8],
     batch: &mut Batch,
     taken: &mut Taken,
-) -> Result<(), Unread>
+) -> Result<usize, Unread>
     ensures taken { OnOk result (TakesRead sets taken.old (routes_in_rib form (count_of peers) body.now) taken.new) }
     ensures unread { IfErr result (IsUnread sets taken.old (routes_in_rib form (count_of peers) body.now)) }
     ensures some { OnErr result (TakesSomeRead sets taken.old (routes_in_rib form (count_of peers) body.now) taken.new) }
+    ensures many { IfOk result (λ n. many (routes_in_rib form (count_of peers) body.now) ≡ n) }
 {
     let entries = EntryCursor::over(form, peers.as_ref(), body)?;
     clean_entries(alloc, sets, entries, batch)?;
+    let routes = batch.len();
     take_batch(batch, taken)?;
-    Ok(())
+    Ok(routes)
 }
 
-/// Takes in the routes of a record, which are cleaned into the batch, and answers the last peer table behind it.
+/// Takes in the routes of a record, which are cleaned into the batch, counts them or its peer entries in the file, and answers the last
+/// peer table behind it.
 pub(crate) fn take_record(
     alloc: Global,
     sets: Sets,
@@ -134,20 +140,28 @@ pub(crate) fn take_record(
     peers: Option<Peers>,
     batch: &mut Batch,
     taken: &mut Taken,
+    file: &mut FileCounts,
 ) -> Result<Option<Peers>, Unread>
     ensures peers { IfOk result (λ after. count_of after ≡ peers_behind (count_of peers) (seen found.now)) }
     ensures taken { OnOk result (TakesRead sets taken.old (routes_of (count_of peers) (seen found.now)) taken.new) }
     ensures unread { IfErr result (IsUnread sets taken.old (routes_of (count_of peers) (seen found.now))) }
     ensures some { OnErr result (TakesSomeRead sets taken.old (routes_of (count_of peers) (seen found.now)) taken.new) }
+    ensures counted { OnOk result (file.new ≡ with_one (count_of peers) (seen found.now) file.old) }
 {
     match found.kind {
         RecordKind::TableDump(family) => {
             take_table_dump(alloc, sets, family, found.body, batch, taken)?;
+            file.add(0, 1);
             Ok(peers)
         }
-        RecordKind::PeerTable => Ok(Some(read_peers(found.body)?)),
+        RecordKind::PeerTable => {
+            let table = read_peers(found.body)?;
+            file.add(u64::from(table.count), 0);
+            Ok(Some(table))
+        }
         RecordKind::Rib(form) => {
-            take_rib(alloc, sets, form, peers, found.body, batch, taken)?;
+            let routes = take_rib(alloc, sets, form, peers, found.body, batch, taken)?;
+            file.add(0, routes as u64);
             Ok(peers)
         }
     }

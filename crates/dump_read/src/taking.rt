@@ -5,14 +5,17 @@ ghost use Rattle.dump_read.specs.Taking.{take_path as path_taken};
 ghost use Rattle.dump_read.specs.Refusals.{IsLimit};
 
 use crate::error::LimitKind;
+use crate::file_counts::FileCounts;
 use path_clean::{AddRefused, Asides, PathTable};
-use tor_arena::{NoMemory, PathId};
+use tor_arena::{List, NoMemory, PathId};
 
-/// What is taken in of dumps: the distinct paths with their times, and how many routes are set aside for each cause.
+/// What is taken in of dumps: the distinct paths with their times, how many routes are set aside for each cause, and what each file that
+/// was read to its end holds, by count.
 #[derive(Drop)]
 pub struct Taken {
     pub table: PathTable,
     pub counts: Asides,
+    pub files: List<FileCounts>,
 }
 
 /// Why a route was not taken in.

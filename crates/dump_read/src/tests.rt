@@ -7,7 +7,7 @@ use path_attrs::RibFault;
 use path_clean::{Asides, Cause, PathTable, Sets};
 use std::alloc::{AllocError, Global};
 use std::test::Fail;
-use tor_arena::{Index, Keys, PathId};
+use tor_arena::{Index, Keys, List, PathId};
 use tor_io::MemShelf;
 
 // A TABLE_DUMP record of the path 10 20.
@@ -102,6 +102,7 @@ fn nothing_taken(alloc: Global, keys: Keys, limit: u32) -> Taken
     Taken {
         table: PathTable::new(alloc, keys, limit),
         counts: Asides::new(),
+        files: List::new(alloc),
     }
 }
 

@@ -5,6 +5,10 @@ use Rattle.mrt_frame.specs.Reader.{shelf_of, next_place}
 use Rattle.mrt_frame.specs.Frames.{StopsWith}
 use Rattle.mrt_frame.specs.Steps.{seen}
 use Rattle.dump_read.specs.Refusals.{count_of}
+use Rattle.mrt_frame.specs.Counting.{CountsOn, CountsAll}
+use Rattle.dump_read.specs.Reading.{file_reading}
+use Rattle.dump_read.specs.Taking.{Taken, TakesSome}
+use Rattle.dump_read.proofs.FileLemmas.{CountsOf, nothing_counted, counted_one, all_counted, recounted, read_to_end, on_ok, on_err}
 use Rattle.dump_read.proofs.Goings.{GoesOf, starts, goes_on, ends, breaks, some_so_far, some_with, frame_named}
 use Rattle.dump_read.proofs.reading.read_records.Goals as goal
 
@@ -15,18 +19,33 @@ records-init g c =
       same_reference = refl;
       live = c.over-frames.ensures.live;
       goes = rw (c.over-frames.ensures.same, c.over-frames.ensures.start) (starts c.args.sets (left c.args.shelf.now) c.args.taken.now);
+      counted = rw (c.over-frames.ensures.same, c.over-frames.ensures.start, c.new-file.ensures) (nothing_counted (left c.args.shelf.now));
       files = ap g.H.Shelf.files c.over-frames.ensures.same;
       quiet = ap g.H.Shelf.faults c.over-frames.ensures.same;
       steady = λ s. subst g.H.Shelf.steady (sym c.over-frames.ensures.same) s;
     }
 
+pub returns-in-Ok-None-clause-some : goal.returns-in-Ok-None-clause-some
+returns-in-Ok-None-clause-some g c =
+    let left = g.H.Shelf.left in
+    on_err c.keep_file.result c.keep_file.ensures.unchanged (λ same.
+    subst (λ (t : Taken). IfSome (left c.args.shelf.now) (λ octets. TakesSome c.args.sets c.args.taken.now (file_reading octets).routes t)) (sym same)
+    (some_so_far c.args.sets (left c.args.shelf.now) (left (shelf_of c.records.frames)) (next_place c.records.frames) (count_of c.records.peers)
+    c.args.taken.now c.records.taken c.records.invariant.goes))
+
 pub returns-in-Ok-None-clause-read : goal.returns-in-Ok-None-clause-read
 returns-in-Ok-None-clause-read g c =
     let left = g.H.Shelf.left in
-    let stops : IfSome (left (shelf_of c.records.frames)) (λ octets. StopsWith (next_place c.records.frames) octets Well) =
-    subst (λ o. IfNone o (IfSome (left (shelf_of c.records.frames)) (λ octets. StopsWith (next_place c.records.frames) octets Well))) c.in-Ok-None.field-0-is c.in-Ok-None.ensures.end in
-    ends c.args.sets c.args.dump (left c.args.shelf.now) (left (shelf_of c.records.frames)) (next_place c.records.frames) (count_of c.records.peers)
-    c.args.taken.now c.records.taken Well c.records.invariant.goes stops
+    let at = next_place c.records.frames in
+    let before = left (shelf_of c.records.frames) in
+    let stops : IfSome before (λ octets. StopsWith at octets Well) =
+    subst (λ o. IfNone o (IfSome before (λ octets. StopsWith at octets Well))) c.in-Ok-None.field-0-is c.in-Ok-None.ensures.end in
+    let all : CountsAll before at c.records.file.records c.next.new.counts =
+    subst (λ o. IfNone o (CountsAll before at c.records.file.records c.next.new.counts)) c.in-Ok-None.field-0-is c.in-Ok-None.ensures.counted_all in
+    on_ok c.keep_file.result c.keep_file.ensures.ok (λ kept.
+    read_to_end c.args.sets c.args.dump (left c.args.shelf.now) c.args.taken.now c.records.taken c.keep_file.new.taken (recounted c.records.file c.next.new.counts) kept
+    (ends c.args.sets c.args.dump (left c.args.shelf.now) before at (count_of c.records.peers) c.args.taken.now c.records.taken Well c.records.invariant.goes stops)
+    (all_counted (left c.args.shelf.now) before at (count_of c.records.peers) c.records.file c.next.new.counts c.records.invariant.counted stops all))
 
 pub returns-in-Err-clause-stopped : goal.returns-in-Err-clause-stopped
 returns-in-Err-clause-stopped g c =
@@ -54,6 +73,11 @@ records-preserved g c =
       goes = subst (λ at. GoesOf c.args.sets (left c.args.shelf.now) (left (shelf_of frames)) at (count_of c.in-Ok.behind) old new) (sym step.next)
           (goes_on c.args.sets (left c.args.shelf.now) (left (shelf_of c.records.frames)) (left (shelf_of frames)) (next_place c.records.frames) (count_of c.records.peers) (count_of c.in-Ok.behind)
           (seen c.in-Ok-Some.found) old mid new c.records.invariant.goes step.stands c.in-Ok.ensures.taken c.in-Ok.ensures.peers);
+      counted = subst (λ at. CountsOf (left c.args.shelf.now) (left (shelf_of frames)) at (count_of c.in-Ok.behind) c.take_record.new.file) (sym step.next)
+          (counted_one (left c.args.shelf.now) (left (shelf_of c.records.frames)) (left (shelf_of frames)) (next_place c.records.frames) (count_of c.records.peers) (count_of c.in-Ok.behind)
+          (seen c.in-Ok-Some.found) c.records.file c.take_record.new.file c.next.new.counts c.in-Ok.ensures.taken.0 c.records.invariant.counted step.stands
+          (subst (λ at. CountsOn (left (shelf_of c.records.frames)) (next_place c.records.frames) c.records.file.records (left (shelf_of frames)) at c.next.new.counts) step.next step.counted)
+          c.in-Ok.ensures.taken.1 c.in-Ok.ensures.peers c.in-Ok.ensures.counted);
       files = step.leaves.files ∙ c.records.invariant.files;
       quiet = step.leaves.quiet tt ∙ c.records.invariant.quiet;
       steady = λ s. step.leaves.steady (c.records.invariant.steady s);

@@ -2,6 +2,7 @@ use Rattle.std.proofs.Common.{◌≡◌, ◌-◌, ◌^◌, true}
 use Rattle.mrt_frame.specs.Reader.{shelf_of, reference_of, next_place, is_live}
 use Rattle.dump_read.specs.Refusals.{count_of}
 use Rattle.dump_read.proofs.Goings.{GoesOf}
+use Rattle.dump_read.proofs.FileLemmas.{CountsOf}
 use Rattle.dump_read.proofs.reading.read_records.Given as goal
 
 abbrev pub invariant-records : goal.invariant-records
@@ -11,6 +12,7 @@ invariant-records g l =
       same_reference : reference_of l.frames ≡ reference_of l.initial.frames;
       live : is_live l.frames ≡ true;
       goes : GoesOf l.sets (shelf.left l.fn.shelf) (shelf.left (shelf_of l.frames)) (next_place l.frames) (count_of l.peers) l.fn.taken l.taken;
+      counted : CountsOf (shelf.left l.fn.shelf) (shelf.left (shelf_of l.frames)) (next_place l.frames) (count_of l.peers) l.file;
       files : shelf.files (shelf_of l.frames) ≡ shelf.files l.fn.shelf;
       quiet : shelf.faults (shelf_of l.frames) ≡ shelf.faults l.fn.shelf;
       steady : shelf.steady l.fn.shelf → shelf.steady (shelf_of l.frames);

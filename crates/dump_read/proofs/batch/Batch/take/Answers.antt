@@ -26,9 +26,9 @@ returns-in-Some-clause-taken c =
     let some = slice_get_read causes (length causes) c.args.place c.index.result.now refl within c.index.ensures ∙ ap (λ o. Some o) c.in-Some.is in
     let stands = ap (λ b. slice_get b.routes c.args.place) (sym c.self.view_is) ∙ aside-at causes paths c.args.place c.in-Some.cause same some in
     λ route is.
-    subst (λ r. take_cleaned c.args.taken.now r ≡ Ok (record { table = c.args.taken.now.table; counts = c.add.new.self }))
+    subst (λ r. take_cleaned c.args.taken.now r ≡ Ok (record { table = c.args.taken.now.table; counts = c.add.new.self; files = c.args.taken.now.files }))
     (one-route c.args.self.now.routes c.args.place (Aside c.in-Some.cause) route stands is)
-    (ap (λ counts. Ok (record { table = c.args.taken.now.table; counts = counts })) (sym c.add.ensures))
+    (ap (λ counts. Ok (record { table = c.args.taken.now.table; counts = counts; files = c.args.taken.now.files })) (sym c.add.ensures))
 
 pub take_again-requires : goal.take_again-requires
 take_again-requires c =

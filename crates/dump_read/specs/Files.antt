@@ -1,0 +1,51 @@
+-- What a file holds, by count: its records, peer entries and routes.
+use Rattle.std.specs.Prelude.{ℕ, ◌+◌, List, [], ◌∷◌, ◌++◌, length, sum_by, option_map, unwrap_or, Option, Some, None, Result, Ok, Err}
+use Rattle.std.specs.Result.{result_ok}
+use Rattle.path_attrs.specs.declared.fault.RibFault.{RibFault}
+use Rattle.record_counts.specs.Counting.{capped}
+use Rattle.rib_v2.specs.PeerTable.{peers_of}
+use Rattle.mrt_frame.specs.Counting.{records_in}
+use Rattle.mrt_frame.specs.Kinds.{kind_of}
+use Rattle.mrt_frame.specs.Records.{Record, cut}
+use Rattle.mrt_frame.specs.declared.record_kind.RecordKind.{RecordKind}
+use Rattle.mrt_frame.specs.declared.record_kind.RecordKind.TheVariants.{TableDump, PeerTable, Rib}
+use Rattle.dump_read.specs.declared.taking.Taken.{Taken}
+use Rattle.dump_read.specs.Routes.{Route, routes_of}
+use Rattle.dump_read.specs.Reading.{file_reading}
+pub use Rattle.dump_read.specs.declared.file_counts.FileCounts.{FileCounts}
+
+-- how many peers a body lists: a peer table its entries, and all others none
+abbrev pub listed_in : Option RecordKind → (body : List ℕ) → ℕ
+listed_in (Some (TableDump family)) body = 0
+listed_in (Some PeerTable) body = unwrap_or (option_map (λ table. table.count) (result_ok (peers_of body))) 0
+listed_in (Some (Rib form)) body = 0
+listed_in None body = 0
+
+abbrev pub peers_listed : Record → ℕ
+peers_listed r = listed_in (kind_of r.kind r.subtype) r.body
+
+-- what a file of these octets holds
+abbrev pub file_counts : List ℕ → FileCounts
+file_counts octets = record {
+  records = records_in octets;
+  peers = capped (sum_by peers_listed (cut octets).records);
+  routes = capped (length (file_reading octets).routes);
+}
+
+-- the same behind what was taken in of the files before
+abbrev pub with_file : List ℕ → Taken → Taken
+with_file octets taken = record taken { files = taken.files ++ file_counts octets ∷ [] }
+
+-- ---- one record
+
+-- how many routes were read
+abbrev pub many : Result (List Route) RibFault → ℕ
+many (Ok routes) = length routes
+many (Err fault) = 0
+
+-- the counts with the peer entries and the routes of a record, where the last peer table before it has so many peers
+abbrev pub with_one : Option ℕ → Record → FileCounts → FileCounts
+with_one peers r file = record file {
+  peers = capped (file.peers + peers_listed r);
+  routes = capped (file.routes + many (routes_of peers r));
+}
