@@ -17,10 +17,10 @@ mod reading;
 pub use error::ParseError;
 pub use file::{EdgeLine, PathLine, ResultFile, Totals};
 pub use laws::{line_numbers, one_value, parse_printed, print_parsed};
-pub use numbers::write_digits;
+pub use numbers::{put_number, write_digits};
 pub use parsing::parse;
 pub use path_lines::{PathLineRef, PathLines};
-pub use printing::print;
+pub use printing::{print, put_asides};
 pub use relationships::{Fate, Mark, Probe};
 
 #[cfg(test)]

@@ -75,7 +75,8 @@ fn put_aside(out: &mut List<u8>, cause: Cause, count: u64) -> Result<(), NoMemor
     put_line_end(out)
 }
 
-fn put_asides(out: &mut List<u8>, asides: &Asides) -> Result<(), NoMemory>
+/// Puts a line for each cause at the end, in the order of the causes. The only error is that memory ran out.
+pub fn put_asides(out: &mut List<u8>, asides: &Asides) -> Result<(), NoMemory>
     ensures encoded { OnOk result (out.new ≡ out.old ++ text_of_lines (aside_lines asides.now)) }
     ensures fits { OnOk result (CountsFit asides.now) }
 {

@@ -8,7 +8,7 @@ use Rattle.clap.specs.Words.{Kinds, Row, Text, all_of, first_of, fault_of, match
 use Rattle.path_clean.specs.declared.cleaned.Sets.{Sets}
 use Rattle.path_clean.specs.declared.cleaned.Sets.TheVariants.{Cut, Skip}
 use Rattle.tor_words.specs.declared.settings.Mode.{Mode}
-use Rattle.tor_words.specs.declared.settings.Mode.TheVariants.{Labels, Listing, Sample}
+use Rattle.tor_words.specs.declared.settings.Mode.TheVariants.{Labels, Listing, Survey, Sample}
 use Rattle.tor_words.specs.declared.settings.Settings.{Settings}
 use Rattle.tor_words.specs.TorCommand.{tor_command}
 
@@ -42,18 +42,23 @@ is_true_text (Some text) = bytes_eq text (codes "true")
 abbrev pub dumps_in : List Row → List Text
 dumps_in rows = unwrap_or (all_of (codes "dump") rows) []
 
--- what is asked for. Without `--sample` at least one dump has to be named, and it is the list of the paths with `--list`, and
--- else the labels. With `--sample` neither a dump nor `--list` stands beside it, and it is the sample of that number
-abbrev pub mode_of : (sample : Option Text) (list : Bool) (dumps : List Text) → Option Mode
-mode_of None list [] = None
-mode_of None true (dump ∷ dumps) = Some Listing
-mode_of None false (dump ∷ dumps) = Some Labels
-mode_of (Some text) true dumps = None
-mode_of (Some text) false [] = option_map Sample (number_in 0 18446744073709551615 text)
-mode_of (Some text) false (dump ∷ dumps) = None
+-- what is asked for. Without `--sample` at least one dump has to be named, and it is the list of the paths with `--list`, what the
+-- dumps hold with `--survey`, and the labels with neither; both are refused. With `--sample` neither a dump nor one of the two
+-- stands beside it, and it is the sample of that number
+abbrev pub mode_of : (sample : Option Text) (list survey : Bool) (dumps : List Text) → Option Mode
+mode_of None list survey [] = None
+mode_of None true true (dump ∷ dumps) = None
+mode_of None true false (dump ∷ dumps) = Some Listing
+mode_of None false true (dump ∷ dumps) = Some Survey
+mode_of None false false (dump ∷ dumps) = Some Labels
+mode_of (Some text) true survey dumps = None
+mode_of (Some text) false true dumps = None
+mode_of (Some text) false false [] = option_map Sample (number_in 0 18446744073709551615 text)
+mode_of (Some text) false false (dump ∷ dumps) = None
 
 abbrev pub mode_in : List Row → Option Mode
-mode_in rows = mode_of (first_of (codes "sample") rows) (is_true_text (first_of (codes "list") rows)) (dumps_in rows)
+mode_in rows = mode_of (first_of (codes "sample") rows) (is_true_text (first_of (codes "list") rows))
+    (is_true_text (first_of (codes "survey") rows)) (dumps_in rows)
 
 -- the settings that these matches give, if they ask for something and their values are some
 abbrev pub settings_in : List Row → Option Settings
@@ -77,6 +82,7 @@ abbrev pub HasDumps : Mode → List Text → Type 0
 HasDumps (Sample seed) dumps = dumps ≡ []
 HasDumps Labels dumps = 0 < length dumps
 HasDumps Listing dumps = 0 < length dumps
+HasDumps Survey dumps = 0 < length dumps
 
 -- the same where clap finds no fault, and nothing where it does
 abbrev pub unless_fault : {X : Type 0} → Kinds → Option X → Option X

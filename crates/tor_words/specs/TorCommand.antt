@@ -1,5 +1,5 @@
 -- The command line of `tor`, as clap reads it:
--- `tor [--list] [--as-sets VALUE] [--ratio NUMBER] [--max-paths NUMBER] [--sample NUMBER] [DUMP ..]`.
+-- `tor [--list] [--survey] [--as-sets VALUE] [--ratio NUMBER] [--max-paths NUMBER] [--sample NUMBER] [DUMP ..]`.
 use Rattle.std.specs.Prelude.{ℕ, codes, Some, true}
 use Rattle.clap.specs.Words.{App, Rule, Text, new_app, new_rule, with_rule}
 use Rattle.clap.specs.Simple.{on_top}
@@ -26,9 +26,10 @@ rest_rule name = record (new_rule name) {
 
 unfoldable pub tor_command : App
 tor_command =
-    with_rule (with_rule (with_rule (with_rule (with_rule (with_rule
+    with_rule (with_rule (with_rule (with_rule (with_rule (with_rule (with_rule
     (on_top (λ s. record s { no_binary_name = true }) (new_app (codes "tor")))
     (flag_rule (codes "list")))
+    (flag_rule (codes "survey")))
     (option_rule (codes "as-sets")))
     (number_rule (codes "ratio") 0 1000000))
     (number_rule (codes "max-paths") 1 8388608))

@@ -53,6 +53,9 @@ fn needed<'a>(alloc: Global, name: &'a str, help: &'a str) -> Arg<'a>
 const LIST_HELP: &str =
     "Write the distinct AS paths, each with its number of routes, in place of the result";
 
+const SURVEY_HELP: &str =
+    "Write what the dumps hold, and what of it counts, in place of the result";
+
 const SETS_HELP: &str =
     "With an AS_SET of several ASes, cut ends the path before it and skip sets the route aside [default: cut]";
 
@@ -77,6 +80,7 @@ pub(crate) fn command<'a>(alloc: Global) -> Result<Command<'a>, AllocError>
     ensures { IfOk result (λ c. app_of c ≡ tor_command) }
 {
     let list = flag(alloc, "list", LIST_HELP);
+    let survey = flag(alloc, "survey", SURVEY_HELP);
     let sets = option(alloc, "as-sets", SETS_HELP);
     let ratio = number(alloc, "ratio", 0, 1_000_000, RATIO_HELP);
     let most = number(alloc, "max-paths", 1, 8_388_608, MOST_HELP);
@@ -84,6 +88,7 @@ pub(crate) fn command<'a>(alloc: Global) -> Result<Command<'a>, AllocError>
     let dumps = rest(alloc, "dump", DUMPS_HELP);
     let tor = Command::new(alloc, "tor").no_binary_name(true);
     tor.arg(list)?
+        .arg(survey)?
         .arg(sets)?
         .arg(ratio)?
         .arg(most)?

@@ -20,6 +20,8 @@ pub enum Mode {
     Labels,
     /// The list of the distinct paths.
     Listing,
+    /// What the dumps hold, and what of it counts.
+    Survey,
     /// The summary of the result over the sample of this number, in place of dumps.
     Sample(u64),
 }
@@ -69,16 +71,25 @@ pub(crate) fn dumps_in(alloc: Global, matches: &ArgMatches) -> Result<List<Name>
 }
 
 // What is asked for over these dumps, or why it is nothing.
-fn mode_of(sample: Option<&str>, list: bool, dumps: &[Name]) -> Result<Mode, &'static str>
-    ensures ok { IfOk result (λ mode. mode_of (option_map (λ s. s.now) sample.entry) list dumps.now ≡ Some mode) }
-    ensures err { OnErr result (mode_of (option_map (λ s. s.now) sample.entry) list dumps.now ≡ None) }
+fn mode_of(
+    sample: Option<&str>,
+    list: bool,
+    survey: bool,
+    dumps: &[Name],
+) -> Result<Mode, &'static str>
+    ensures ok { IfOk result (λ mode. mode_of (option_map (λ s. s.now) sample.entry) list survey dumps.now ≡ Some mode) }
+    ensures err { OnErr result (mode_of (option_map (λ s. s.now) sample.entry) list survey dumps.now ≡ None) }
     ensures named { IfOk result (λ mode. HasDumps mode dumps.now) }
 {
     match sample {
         None if dumps.is_empty() => Err("no dump is named\n"),
+        None if list && survey => Err("--survey takes no --list\n"),
         None if list => Ok(Mode::Listing),
+        None if survey => Ok(Mode::Survey),
         None => Ok(Mode::Labels),
-        Some(_) if list || !dumps.is_empty() => Err("--sample takes no --list and no dump\n"),
+        Some(_) if list || survey || !dumps.is_empty() => {
+            Err("--sample takes no --list, no --survey and no dump\n")
+        }
         Some(text) => match number_in(text, 0, u64::MAX) {
             Some(seed) => Ok(Mode::Sample(seed)),
             None => Err("--sample takes a number from 0 to 18446744073709551615\n"),
@@ -100,7 +111,8 @@ fn settings_in(alloc: Global, matches: &ArgMatches) -> Result<Settings, WordsRef
         return Err(WordsRefused::NoMemory);
     };
     let list = is_true_text(first(matches, "list"));
-    let mode = match mode_of(first(matches, "sample"), list, dumps.as_slice()) {
+    let survey = is_true_text(first(matches, "survey"));
+    let mode = match mode_of(first(matches, "sample"), list, survey, dumps.as_slice()) {
         Ok(mode) => mode,
         Err(why) => return Err(usage(alloc, why)),
     };

@@ -21,7 +21,7 @@ fn asked(alloc: Global, texts: &[&str]) -> Result<(Mode, Sets, u32, u32, usize),
 #[test]
 fn takes_words(rt: HostRuntime) {
     let most = 8_388_608;
-    let cases: [(&[&str], (Mode, Sets, u32, u32, usize)); 12] = [
+    let cases: [(&[&str], (Mode, Sets, u32, u32, usize)); 15] = [
         (&["d"], (Mode::Labels, Sets::Cut, 60, most, 1)),
         (
             &["--as-sets=skip", "--", "d"],
@@ -61,6 +61,20 @@ fn takes_words(rt: HostRuntime) {
             &["--max-paths", "9", "--sample", "0", "--as-sets", "skip"],
             (Mode::Sample(0), Sets::Skip, 60, 9, 0),
         ),
+        (&["--survey", "d"], (Mode::Survey, Sets::Cut, 60, most, 1)),
+        (&["--", "--survey"], (Mode::Labels, Sets::Cut, 60, most, 1)),
+        (
+            &[
+                "--survey",
+                "--as-sets",
+                "skip",
+                "--max-paths",
+                "5",
+                "d1",
+                "d2",
+            ],
+            (Mode::Survey, Sets::Skip, 60, 5, 2),
+        ),
     ];
     for (words, settings) in &cases {
         assert_eq!(rt; asked(rt.alloc(), words), Ok(*settings));
@@ -69,7 +83,7 @@ fn takes_words(rt: HostRuntime) {
 
 #[test]
 fn refuses_words(rt: HostRuntime) {
-    let cases: [&[&str]; 25] = [
+    let cases: [&[&str]; 31] = [
         &[],
         &["--list"],
         &["--ratio", "60"],
@@ -95,6 +109,12 @@ fn refuses_words(rt: HostRuntime) {
         &["--sample", "-1"],
         &["--sample", "18446744073709551616"],
         &["--sample", "7", "--sample", "7"],
+        &["--survey"],
+        &["--survey", "--list", "d"],
+        &["--survey", "--list"],
+        &["--survey", "--sample", "7"],
+        &["--survey", "--survey", "d"],
+        &["--survey=true", "d"],
     ];
     for words in &cases {
         assert_eq!(rt; asked(rt.alloc(), words), Err(2));
@@ -153,6 +173,8 @@ fn says(alloc: Global, texts: &[&str], part: &str) -> bool {
 fn names_options_and_their_values(rt: HostRuntime) {
     let parts = [
         "--list",
+        "--survey",
+        "what of it counts, in place of the result",
         "[default: cut]",
         "0 (no peers) to 1000000 [default: 60]",
         "1 to 8388608 [default: 8388608]",

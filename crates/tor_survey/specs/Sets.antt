@@ -1,0 +1,25 @@
+-- What the tables of ASes and of pairs hold.
+use Rattle.std.specs.Prelude.{ℕ, ◌+◌, ◌-◌, ◌*◌, ◌/◌, ◌%◌, ◌^◌, ◌==◌, List, [], ◌∷◌, ◌++◌, if◌then◌else◌}
+use Rattle.std.specs.List.{list_any}
+use Rattle.relationships.specs.Graph.{Edge}
+
+-- a new AS goes last, and one that is there is not added again
+abbrev pub with_as : List ℕ → ℕ → List ℕ
+with_as known n = if list_any (λ m. n == m) known then known else known ++ n ∷ []
+
+-- the same with all of these
+abbrev pub with_ases : List ℕ → List ℕ → List ℕ
+with_ases known [] = known
+with_ases known (n ∷ more) = with_ases (with_as known n) more
+
+-- the AS of a number in the table
+abbrev pub as_numbered : ℕ → ℕ
+as_numbered n = n - 2
+
+-- the number of a pair in the table, from 2 on, where its lower AS comes first
+abbrev pub number_of_edge : Edge → ℕ
+number_of_edge e = e.0 * 2 ^ 32 + (e.1 - e.0) + 2
+
+-- the pair of a number
+abbrev pub edge_numbered : ℕ → Edge
+edge_numbered n = ((n - 2) / 2 ^ 32, (n - 2) / 2 ^ 32 + (n - 2) % 2 ^ 32)
