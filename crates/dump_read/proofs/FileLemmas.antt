@@ -1,18 +1,17 @@
 -- What a file holds is counted record by record.
-use Rattle.std.proofs.Common.{◌≡◌, false, ℕ, zero, suc, ◌+◌, ◌≤◌, ◌^◌, ◌-◌, List, [], ◌∷◌, ◌++◌, length, Option, Some, None, IfSome, Result, Ok, Err, refl, sym, ap, ap₂, subst, ◌∙◌, arith}
-use Rattle.std.specs.Prelude.{sum_by, is_some, min, OnOk, OnErr}
+use Rattle.std.proofs.Common.{◌≡◌, false, ℕ, ◌+◌, ◌≤◌, ◌^◌, ◌-◌, List, [], ◌∷◌, ◌++◌, length, Option, Some, None, IfSome, Result, Ok, Err, refl, sym, ap, ap₂, subst, ◌∙◌, arith}
+use Rattle.std.specs.Prelude.{sum_by, is_some, OnOk, OnErr}
 use Rattle.path_clean.specs.declared.cleaned.Sets.{Sets}
 use Rattle.dump_read.specs.Seen.{of_octets}
 use Rattle.dump_read.specs.Taking.{Taken}
 use Rattle.std.proofs.lemmas.List.{length-append}
-use Rattle.std.proofs.lemmas.List.Sums.{sum_by-cons, sum_by-append}
-use Rattle.path_attrs.specs.declared.fault.RibFault.{RibFault}
+use Rattle.std.proofs.lemmas.List.Sums.{sum_by-cons}
 use Rattle.record_counts.specs.Counting.{Counts, capped}
 use Rattle.mrt_frame.specs.declared.header.At.{At}
 use Rattle.mrt_frame.specs.declared.record_kind.RecordKind.{RecordKind}
 use Rattle.mrt_frame.specs.Counting.{with_records, records_in, CountsOn, CountsAll}
-use Rattle.mrt_frame.specs.Kinds.{kind_of, is_read}
-use Rattle.mrt_frame.specs.Records.{Record, Cut, End, Well, Ends, Holds, behind, onto, next_of, cut, cut_from, start}
+use Rattle.mrt_frame.specs.Kinds.{kind_of}
+use Rattle.mrt_frame.specs.Records.{Record, Cut, Well, behind, onto, cut, cut_from, start}
 use Rattle.mrt_frame.specs.Frames.{Passes, FindsNext, StopsWith}
 use Rattle.mrt_frame.proofs.Cuts.{any_fuel, cut_onto, cut_ends}
 use Rattle.mrt_frame.proofs.Passing.{NoneIsRead, with_before, passes_over}

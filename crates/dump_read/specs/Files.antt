@@ -2,7 +2,7 @@
 use Rattle.std.specs.Prelude.{ℕ, ◌+◌, List, [], ◌∷◌, ◌++◌, length, sum_by, option_map, unwrap_or, Option, Some, None, Result, Ok, Err}
 use Rattle.std.specs.Result.{result_ok}
 use Rattle.path_attrs.specs.declared.fault.RibFault.{RibFault}
-use Rattle.record_counts.specs.Counting.{capped}
+use Rattle.record_counts.specs.Counting.{capped, together as records_together}
 use Rattle.rib_v2.specs.PeerTable.{peers_of}
 use Rattle.mrt_frame.specs.Counting.{records_in}
 use Rattle.mrt_frame.specs.Kinds.{kind_of}
@@ -35,6 +35,28 @@ file_counts octets = record {
 -- the same behind what was taken in of the files before
 abbrev pub with_file : List ℕ → Taken → Taken
 with_file octets taken = record taken { files = taken.files ++ file_counts octets ∷ [] }
+
+-- ---- several files
+
+-- nothing
+abbrev pub no_counts : FileCounts
+no_counts = record { records = []; peers = 0; routes = 0 }
+
+-- the counts with those of another file besides
+abbrev pub with_counts : FileCounts → FileCounts → FileCounts
+with_counts all file = record {
+  records = records_together all.records file.records;
+  peers = capped (all.peers + file.peers);
+  routes = capped (all.routes + file.routes);
+}
+
+unfoldable pub with_all : FileCounts → List FileCounts → FileCounts
+with_all all [] = all
+with_all all (file ∷ files) = with_all (with_counts all file) files
+
+-- what files hold together
+abbrev pub together : List FileCounts → FileCounts
+together files = with_all no_counts files
 
 -- ---- one record
 

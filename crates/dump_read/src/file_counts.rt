@@ -1,8 +1,10 @@
-ghost use Rattle.std.specs.Prelude.{◌≡◌, ◌+◌, [], ℕ};
+ghost use Rattle.std.specs.Prelude.{◌≡◌, ◌+◌, [], IfOk};
 ghost use Rattle.record_counts.specs.Counting.{capped};
+ghost use Rattle.dump_read.specs.Files.{together};
 
 use record_counts::RecordCounts;
 use std::alloc::Global;
+use tor_arena::NoMemory;
 
 /// What a file holds, by count, whether it is taken in or not. Each count stops at 2^64 - 1.
 #[derive(Drop)]
@@ -25,6 +27,19 @@ impl FileCounts {
             peers: 0,
             routes: 0,
         }
+    }
+
+    /// What files hold together. The only error is that memory ran out.
+    #[tactic(auto, unfolding(crate::specs::Files::with_all))]
+    pub fn sum_of(alloc: Global, files: &[FileCounts]) -> Result<FileCounts, NoMemory>
+        ensures { IfOk result (λ all. all ≡ together files.now) }
+    {
+        let mut all = FileCounts::new(alloc);
+        for file in files {
+            all.records.add_all(&file.records)?;
+            all.add(file.peers, file.routes);
+        }
+        Ok(all)
     }
 
     /// Counts so many peer entries and so many routes more. It takes no memory.

@@ -1,3 +1,4 @@
 pub mod Figures
 pub mod Sets
 pub mod SurveyText
+pub mod Surveys

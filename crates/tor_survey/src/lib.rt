@@ -6,9 +6,11 @@ mod counting;
 mod edge_set;
 mod printing;
 mod survey;
+mod surveying;
 #[cfg(test)]
 mod tests;
 
 pub use counting::figures;
 pub use printing::text_of;
 pub use survey::{Figures, Survey};
+pub use surveying::survey_of;

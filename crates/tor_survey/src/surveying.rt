@@ -1,0 +1,45 @@
+ghost use Rattle.std.specs.Prelude.{◌≡◌, IfOk, sum_by};
+ghost use Rattle.record_counts.specs.Counting.{capped};
+ghost use Rattle.tor_survey.specs.Surveys.{survey_of};
+
+use crate::counting::figures;
+use crate::survey::Survey;
+use dump_read::{FileCounts, Taken};
+use record_counts::TypeCount;
+use std::alloc::Global;
+use tor_arena::{Keys, NoMemory};
+
+/// How many records there are, of all types, up to 2^64 - 1.
+fn all_records(types: &[TypeCount]) -> u64
+    ensures { result ≡ capped (sum_by (λ count. count.records) types.now) }
+{
+    types.iter().fold(
+        0,
+        |records: u64, count| records.saturating_add(count.records),
+    )
+}
+
+/// The survey of what dumps gave, each of which was read to its end. The keys say how numbers are found, and change nothing but the time.
+/// The only error is that memory ran out.
+pub fn survey_of(alloc: Global, keys: Keys, taken: Taken) -> Result<Survey, NoMemory>
+    ensures { IfOk result (λ survey. survey ≡ survey_of taken) }
+{
+    let Taken {
+        table,
+        counts,
+        files,
+    } = taken;
+    let all = FileCounts::sum_of(alloc, files.as_slice())?;
+    let types = all.records.to_list(alloc)?;
+    let figures = figures(alloc, keys, table.rows())?;
+    let records = all_records(types.as_slice());
+    Ok(Survey {
+        types,
+        peers: all.peers,
+        routes: all.routes,
+        asides: counts,
+        figures,
+        dumps: files.len() as u64,
+        records,
+    })
+}
