@@ -6,7 +6,7 @@ use Rattle.dump_read.specs.declared.error.DumpError.{DumpError}
 use Rattle.dump_read.specs.declared.error.DumpError.TheVariants as error
 use Rattle.dump_read.specs.Seen.{End}
 use Rattle.tor_words.specs.declared.settings.Mode.{Mode}
-use Rattle.tor_words.specs.declared.settings.Mode.TheVariants.{Labels, Listing, Sample}
+use Rattle.tor_words.specs.declared.settings.Mode.TheVariants.{Labels, Listing, Survey, Sample}
 use Rattle.tor_words.specs.declared.settings.Settings.{Settings}
 use Rattle.tor_words.specs.Given.{settings_given, HasDumps}
 use Rattle.tor_app.specs.declared.answer.Refusal.{Refusal}
@@ -22,11 +22,13 @@ use Rattle.tor_app.specs.Written.{Written}
 pub by_mode : (m : Mode) {P Q : Type 0} → P → Q → ByMode m P Q
 by_mode Labels p q = q
 by_mode Listing p q = q
+by_mode Survey p q = q
 by_mode (Sample seed) p q = p
 
 pub mode_more : (m : Mode) {P Q R S : Type 0} → (P → R) → (Q → S) → ByMode m P Q → ByMode m R S
 mode_more Labels f g h = g h
 mode_more Listing f g h = g h
+mode_more Survey f g h = g h
 mode_more (Sample seed) f g h = f h
 
 settings_more : (o : Option Settings) {P Q R S : Type 0} → (P → R) → (Q → S) → ByModeOf o P Q → ByModeOf o R S
@@ -111,4 +113,5 @@ pub named-read :
     (m : Mode) (dumps : List (List ℕ)) (P Q : Type 0) → HasDumps m dumps → ByMode m P (0 < length dumps → Q) → ByMode m P Q
 named-read Labels dumps P Q named h = h named
 named-read Listing dumps P Q named h = h named
+named-read Survey dumps P Q named h = h named
 named-read (Sample seed) dumps P Q named h = h

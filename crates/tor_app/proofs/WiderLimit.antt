@@ -18,13 +18,14 @@ use Rattle.dump_read.specs.declared.error.LimitKind.TheVariants.{Paths, Numbers}
 use Rattle.dump_read.specs.declared.taking.Taken.{Taken}
 use Rattle.dump_read.specs.Routes.{Route}
 use Rattle.dump_read.specs.Reading.{FileEnd, Whole, Broken, TooLong, file_reading}
+use Rattle.dump_read.specs.Files.{with_file}
 use Rattle.dump_read.specs.Seen.{End, of_end, of_taking, of_octets, of_file}
 use Rattle.dump_read.specs.Taking.{with_one, has_too_many_numbers, take_path, take_cleaned, take_route, take_routes}
 use Rattle.tor_app.specs.Seen.{seen_from}
 
 -- the same with another limit
 abbrev pub widened : ℕ → Taken → Taken
-widened most taken = record { table = record { limit = most; rows = taken.table.rows }; counts = taken.counts }
+widened most taken = record { table = record { limit = most; rows = taken.table.rows }; counts = taken.counts; files = taken.files }
 
 -- the limit is kept, and is at most another one
 pub record IsWithin (limit most : ℕ) (taken : Taken) : Type 0 where
@@ -169,15 +170,16 @@ module _ (limit most : ℕ) where
       by (take_routes sets taken (file_reading octets).routes) refl (file_reading octets).end refl e
     where
       by : (took : Result Taken LimitKind) → take_routes sets taken (file_reading octets).routes ≡ took → (end : FileEnd) → (file_reading octets).end ≡ end →
-          (of_taking dump took >>= λ all. of_end dump end all) ≡ Ok new →
+          (of_taking dump took >>= λ all. of_end dump end (with_file octets all)) ≡ Ok new →
           (of_octets sets dump (widened most taken) octets ≡ Ok (widened most new)) × IsWithin limit most new
       by (Err kind) is end ends e = absurd cc
       by (Ok all) is (Broken at fault) ends e = absurd cc
       by (Ok all) is TooLong ends e = absurd cc
       by (Ok all) is Whole ends e =
           let routes = all_routes sets taken all (file_reading octets).routes within is in
-          let same : all ≡ new = same_end all new e in
-          (rw (routes.0, ends) (ap (λ (t : Taken). Ok (widened most t)) same), subst (IsWithin limit most) same routes.1)
+          let same : with_file octets all ≡ new = same_end (with_file octets all) new e in
+          let within_too : IsWithin limit most (with_file octets all) = record { same = routes.1.same; few = routes.1.few; less = routes.1.less } in
+          (rw (routes.0, ends) (ap (λ (t : Taken). Ok (widened most t)) same), subst (IsWithin limit most) same within_too)
 
   pub all_files : (sets : Sets) (dump : ℕ) (taken new : Taken) (names : List (List ℕ)) (files : Files) → IsWithin limit most taken →
       seen_from sets dump taken names files ≡ Ok new → seen_from sets dump (widened most taken) names files ≡ Ok (widened most new)

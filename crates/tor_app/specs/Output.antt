@@ -14,9 +14,11 @@ use Rattle.rel_checker.specs.Against.{JudgesAgainst}
 use Rattle.rel_infer.specs.Results.{IsResultOf}
 use Rattle.rel_infer.specs.Peers.{PeerEitherWay, LeaveNoneOut}
 use Rattle.tor_words.specs.declared.settings.Mode.{Mode}
-use Rattle.tor_words.specs.declared.settings.Mode.TheVariants.{Labels, Listing, Sample}
+use Rattle.tor_words.specs.declared.settings.Mode.TheVariants.{Labels, Listing, Survey, Sample}
 use Rattle.tor_words.specs.declared.settings.Settings.{Settings}
 use Rattle.tor_words.specs.Given.{settings_given}
+use Rattle.tor_survey.specs.SurveyText.{survey_text}
+use Rattle.tor_survey.specs.Surveys.{survey_of}
 use Rattle.tor_app.specs.Listing.{listing}
 use Rattle.tor_app.specs.Seen.{outcome}
 use Rattle.tor_app.specs.Summary.{summary}
@@ -38,11 +40,12 @@ pub record Faithful (settings : Settings) (taken : Taken) (file : ResultFile) : 
 -- ---- what is written
 
 -- in this mode, of what the dumps gave: in Labels the text of the result, and its summary as a note; in Listing a line for each path;
--- in Sample the summary of the result
+-- in Survey the lines of the survey; in Sample the summary of the result
 abbrev pub IsOutputIn : Mode → Settings → Taken → Written → Type 0
 IsOutputIn Labels settings taken output =
     (file : ResultFile) × Faithful settings taken file × IsTextOf file output.text × (output.note ≡ summary file ++ 10 ∷ [])
 IsOutputIn Listing settings taken output = (output.text ≡ listing taken.table.rows) × (output.note ≡ [])
+IsOutputIn Survey settings taken output = (output.text ≡ survey_text (survey_of taken)) × (output.note ≡ [])
 IsOutputIn (Sample seed) settings taken output =
     (file : ResultFile) × Faithful settings taken file × (output.text ≡ summary file ++ 10 ∷ []) × (output.note ≡ [])
 

@@ -2,7 +2,7 @@
 use Rattle.std.specs.Prelude.{◌≡◌, ℕ, List, Option, Some, None}
 use Rattle.tor_io.specs.Contents.{Files}
 use Rattle.tor_words.specs.declared.settings.Mode.{Mode}
-use Rattle.tor_words.specs.declared.settings.Mode.TheVariants.{Labels, Listing, Sample}
+use Rattle.tor_words.specs.declared.settings.Mode.TheVariants.{Labels, Listing, Survey, Sample}
 use Rattle.tor_words.specs.declared.settings.Settings.{Settings}
 use Rattle.tor_words.specs.Given.{settings_given}
 
@@ -13,6 +13,7 @@ no_files name = None
 abbrev pub known_in : Mode → Option Files → Option Files
 known_in Labels known = known
 known_in Listing known = known
+known_in Survey known = known
 known_in (Sample seed) known = Some no_files
 
 abbrev pub known_for : Option Settings → Option Files → Option Files
@@ -26,6 +27,7 @@ known_by words known = known_for (settings_given words) known
 abbrev pub ByMode : Mode → Type 0 → Type 0 → Type 0
 ByMode Labels of_sample of_dumps = of_dumps
 ByMode Listing of_sample of_dumps = of_dumps
+ByMode Survey of_sample of_dumps = of_dumps
 ByMode (Sample seed) of_sample of_dumps = of_sample
 
 abbrev pub ByModeOf : Option Settings → Type 0 → Type 0 → Type 0

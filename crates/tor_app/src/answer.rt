@@ -141,6 +141,7 @@ fn read_asked<H: Shelf>(
     match settings.mode {
         Mode::Labels => read_dumps(alloc, shelf, dumps, settings.sets, taken),
         Mode::Listing => read_dumps(alloc, shelf, dumps, settings.sets, taken),
+        Mode::Survey => read_dumps(alloc, shelf, dumps, settings.sets, taken),
         Mode::Sample(seed) => read_sample(alloc, seed, settings.sets, taken),
     }
 }

@@ -16,6 +16,7 @@ use result_text::{ResultFile, print};
 use std::alloc::Global;
 use tor_arena::{Keys, List, NoMemory};
 use tor_io::{Buffer, Failed, Sink, write_all};
+use tor_survey::{survey_of, text_of};
 use tor_words::{Mode, Settings};
 
 /// What a run that is done writes: a text goes to out, and behind it a note to err.
@@ -75,7 +76,11 @@ fn faithful_result(
     ensures { IfOk result (Faithful settings.now taken) }
 {
     acceptance_law();
-    let Taken { table, counts } = taken;
+    let Taken {
+        table,
+        counts,
+        files: _,
+    } = taken;
     result_of(alloc, keys, settings.sets, settings.ratio, table, counts)
 }
 
@@ -118,6 +123,20 @@ fn listing_output(alloc: Global, settings: &Settings, taken: Taken) -> Result<Ou
     Ok(Output::Paths(taken.table, Buffer::new(alloc)?))
 }
 
+// The survey of what the dumps gave.
+fn survey_output(
+    alloc: Global,
+    keys: Keys,
+    settings: &Settings,
+    taken: Taken,
+) -> Result<Output, NoMemory>
+    ensures { IfOk result (λ output. IsOutputIn Mode.Survey settings.now taken (written output)) }
+{
+    let survey = survey_of(alloc, keys, taken)?;
+    let text = text_of(alloc, &survey)?;
+    Ok(Output::Text(text, List::new(alloc)))
+}
+
 /// What the settings ask for, of what the dumps gave. The only error is that memory ran out.
 pub(crate) fn output_of(
     alloc: Global,
@@ -131,6 +150,7 @@ pub(crate) fn output_of(
     match settings.mode {
         Mode::Labels => labels_output(alloc, keys, settings, taken),
         Mode::Listing => listing_output(alloc, settings, taken),
+        Mode::Survey => survey_output(alloc, keys, settings, taken),
         Mode::Sample(seed) => sample_output(alloc, keys, settings, seed, taken),
     }
 }

@@ -1,9 +1,9 @@
 -- The survey of dumps.
-use Rattle.std.specs.Prelude.{ℕ, List, length, sum_by}
+use Rattle.std.specs.Prelude.{ℕ, length, sum_by}
 use Rattle.record_counts.specs.Counting.{Counts, capped, type_counts}
 use Rattle.path_clean.specs.Rows.{paths_of}
 use Rattle.dump_read.specs.declared.taking.Taken.{Taken}
-use Rattle.dump_read.specs.Files.{FileCounts, together}
+use Rattle.dump_read.specs.Files.{together}
 use Rattle.tor_survey.specs.Figures.{figures_of}
 use Rattle.tor_survey.specs.declared.survey.Survey.{Survey}
 

@@ -13,10 +13,11 @@ use tor_arena::{Keys, NoMemory};
 fn all_records(types: &[TypeCount]) -> u64
     ensures { result ≡ capped (sum_by (λ count. count.records) types.now) }
 {
-    types.iter().fold(
-        0,
-        |records: u64, count| records.saturating_add(count.records),
-    )
+    let mut records: u64 = 0;
+    for count in types {
+        records = records.saturating_add(count.records);
+    }
+    records
 }
 
 /// The survey of what dumps gave, each of which was read to its end. The keys say how numbers are found, and change nothing but the time.
