@@ -26,7 +26,7 @@ static HEAD: [&str; 10] = [
 
 // A peer table of three peers, and behind it seven records: two RIBs of IPv4, an update, two RIBs of IPv6, one more of
 // IPv4, and one of any address family.
-static REALISTIC: [u8; 661] = [
+pub(crate) static REALISTIC: [u8; 661] = [
     0, 0, 0, 0, 0, 13, 0, 1, 0, 0, 0, 59, 192, 0, 2, 1, 0, 4, 109, 97, 105, 110, 0, 3, 0, 10, 0, 0,
     1, 192, 0, 2, 2, 27, 27, 2, 10, 0, 0, 2, 192, 0, 2, 3, 0, 6, 15, 157, 1, 10, 0, 0, 3, 32, 1,
     13, 184, 0, 0, 0, 0, 0, 0, 0, 0, 0, 0, 0, 1, 32, 28, 0, 0, 0, 0, 0, 13, 0, 2, 0, 0, 0, 116, 0,
