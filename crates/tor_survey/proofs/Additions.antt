@@ -1,5 +1,5 @@
 -- What a number that is put into a table adds.
-use Rattle.std.proofs.Common.{◌≡◌, ℕ, ◌+◌, ◌-◌, ◌/◌, ◌%◌, ◌≤◌, inl, inr, Bool, true, false, ◌||◌, ◌==◌, List, [], ◌∷◌, ◌++◌, map, min, max, refl, sym, ap, ap₂, ◌∙◌, subst, arith, if◌then◌else◌, eq-eqb}
+use Rattle.std.proofs.Common.{◌≡◌, ℕ, ◌+◌, ◌-◌, ◌/◌, ◌%◌, ◌≤◌, inl, inr, Bool, true, false, not, ◌||◌, ◌==◌, List, [], ◌∷◌, ◌++◌, map, min, max, refl, sym, ap, ap₂, ◌∙◌, subst, arith, if◌then◌else◌, eq-eqb}
 use Rattle.std.specs.Prelude.{◌^◌, ◌<◌, All, Contains}
 use Rattle.std.specs.List.{list_any}
 use Rattle.std.proofs.lemmas.Bool.{eqb-true, false_from_ne_true}
@@ -11,6 +11,7 @@ use Rattle.relationships.specs.Graph.{Edge, edge_of, is_same}
 use Rattle.relationships.proofs.Edges.{same_edge}
 use Rattle.as_graph.specs.Inside.{with_edge}
 use Rattle.tor_numbers.specs.Places.{IsPut}
+use Rattle.tor_numbers.specs.Slots.{IsInserted}
 use Rattle.tor_survey.specs.Sets.{as_numbered, with_as, edge_numbered, number_of_edge}
 
 -- ---- any table
@@ -40,6 +41,15 @@ put same read old new n exact all h (inl there) =
     rw (any_read same read old n exact all h ∙ number_known old n there.0) (ap (map read) there.1)
 put same read old new n exact all h (inr added) =
     rw (any_read same read old n exact all h ∙ number_new old n added.0) (ap (map read) added.1 ∙ map-append read old (n ∷ []))
+
+inserted : {X : Type 0} (same : X → X → Bool) (read : ℕ → X) (old new : List ℕ) (n : ℕ) (is_new : Bool) → IsExact same read → AreNumbers old → 2 ≤ n → IsInserted n old new is_new →
+    (map read new ≡ (if list_any (same (read n)) (map read old) then map read old else map read old ++ read n ∷ [])) × (is_new ≡ not (list_any (same (read n)) (map read old)))
+inserted same read old new n true exact all h is =
+    let absent = any_read same read old n exact all h ∙ number_new old n is.0 in
+    (put same read old new n exact all h (inr is), ap not (sym absent))
+inserted same read old new n false exact all h is =
+    let there = any_read same read old n exact all h ∙ number_known old n is.0 in
+    (put same read old new n exact all h (inl is), ap not (sym there))
 
 pub numbers_put : (old new : List ℕ) (n : ℕ) → AreNumbers old → 2 ≤ n → IsPut n old new → AreNumbers new
 numbers_put old new n all h (inl there) = subst AreNumbers (sym there.1) all
@@ -84,10 +94,14 @@ pair p q = rw (p, q) refl
 numbered : (low high : ℕ) → low ≤ high → high < 2 ^ 32 → edge_numbered (number_of_edge (low, high)) ≡ (low, high)
 numbered low high le lt = pair (omega (arith, le, lt)) (omega (arith, le, lt))
 
-pub edge_put : (old new : List ℕ) (a b low high n : ℕ) → a < 2 ^ 32 → b < 2 ^ 32 → low ≡ min a b → high ≡ max a b → n ≡ number_of_edge (low, high) →
-    AreNumbers old → IsPut n old new → map edge_numbered new ≡ with_edge (map edge_numbered old) (edge_of a b)
-edge_put old new a b low high n h k l g e all is =
+pub edge_inserted : (old new : List ℕ) (a b low high n : ℕ) (is_new : Bool) → a < 2 ^ 32 → b < 2 ^ 32 → low ≡ min a b → high ≡ max a b → n ≡ number_of_edge (low, high) →
+    AreNumbers old → IsInserted n old new is_new →
+    (map edge_numbered new ≡ with_edge (map edge_numbered old) (edge_of a b)) × (is_new ≡ not (list_any (is_same (edge_of a b)) (map edge_numbered old)))
+edge_inserted old new a b low high n is_new h k l g e all is =
     let le : low ≤ high = omega (arith, l, g) in
     let lt : high < 2 ^ 32 = omega (arith, g, h, k) in
     let its : edge_numbered n ≡ edge_of a b = ap edge_numbered e ∙ numbered low high le lt ∙ pair l g in
-    put is_same edge_numbered old new n edge_exact all (omega (arith, e)) is ∙ ap (with_edge (map edge_numbered old)) its
+    let both_are = inserted is_same edge_numbered old new n is_new edge_exact all (omega (arith, e)) is in (
+      both_are.0 ∙ ap (with_edge (map edge_numbered old)) its,
+      both_are.1 ∙ ap (λ (f : Edge). not (list_any (is_same f) (map edge_numbered old))) its,
+    )

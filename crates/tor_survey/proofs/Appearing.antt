@@ -60,10 +60,10 @@ any_distinct n (x ∷ ns) =
       | inr f ↦ rw f (any_filtered n x (distinct ns) f ∙ any_distinct n ns)
     ]
 
-with_as-known : (known : List ℕ) (n : ℕ) → list_any (λ m. n == m) known ≡ true → with_as known n ≡ known
+pub with_as-known : (known : List ℕ) (n : ℕ) → list_any (λ m. n == m) known ≡ true → with_as known n ≡ known
 with_as-known known n h = ap (λ b. if b then known else known ++ n ∷ []) h
 
-with_as-new : (known : List ℕ) (n : ℕ) → list_any (λ m. n == m) known ≡ false → with_as known n ≡ known ++ n ∷ []
+pub with_as-new : (known : List ℕ) (n : ℕ) → list_any (λ m. n == m) known ≡ false → with_as known n ≡ known ++ n ∷ []
 with_as-new known n h = ap (λ b. if b then known else known ++ n ∷ []) h
 
 distinct-push : (ns : List ℕ) (n : ℕ) → distinct (ns ++ n ∷ []) ≡ with_as (distinct ns) n

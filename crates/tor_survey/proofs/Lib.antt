@@ -1,3 +1,4 @@
 pub mod Additions
 pub mod Appearing
 pub mod Countings
+pub mod Ends

@@ -1,5 +1,5 @@
 -- What the tables of ASes and of pairs hold.
-use Rattle.std.specs.Prelude.{ℕ, ◌+◌, ◌-◌, ◌*◌, ◌/◌, ◌%◌, ◌^◌, ◌==◌, List, [], ◌∷◌, ◌++◌, if◌then◌else◌}
+use Rattle.std.specs.Prelude.{◌≡◌, ℕ, true, ◌+◌, ◌-◌, ◌*◌, ◌/◌, ◌%◌, ◌^◌, ◌==◌, List, [], ◌∷◌, ◌++◌, if◌then◌else◌}
 use Rattle.std.specs.List.{list_any}
 use Rattle.relationships.specs.Graph.{Edge}
 
@@ -11,6 +11,14 @@ with_as known n = if list_any (λ m. n == m) known then known else known ++ n �
 abbrev pub with_ases : List ℕ → List ℕ → List ℕ
 with_ases known [] = known
 with_ases known (n ∷ more) = with_ases (with_as known n) more
+
+abbrev pub IsKnown : List ℕ → ℕ → Type 0
+IsKnown known n = list_any (λ m. n == m) known ≡ true
+
+-- both ASes of each pair are known
+abbrev pub HaveEnds : List ℕ → List Edge → Type 0
+HaveEnds known [] = Unit {0}
+HaveEnds known (e ∷ es) = IsKnown known e.0 × IsKnown known e.1 × HaveEnds known es
 
 -- the AS of a number in the table
 abbrev pub as_numbered : ℕ → ℕ

@@ -1,5 +1,5 @@
 ghost use Rattle.std.specs.Prelude.{◌≡◌, [], length, OnOk};
-ghost use Rattle.tor_survey.specs.Sets.{as_numbered, with_as, with_ases};
+ghost use Rattle.tor_survey.specs.Sets.{with_as};
 
 use std::alloc::Global;
 use std::marker::Model;
@@ -39,16 +39,6 @@ impl AsSet {
         ensures { OnOk result (self.new ≡ with_as self.old number) }
     {
         self.numbers.add(u64::from(number) + 2)?;
-        Ok(())
-    }
-
-    /// Adds the ASes of a path.
-    pub fn add_path(&mut self, path: &[u32]) -> Result<(), NoMemory>
-        ensures { OnOk result (self.new ≡ with_ases self.old path.now) }
-    {
-        for number in path {
-            self.add(*number)?;
-        }
         Ok(())
     }
 

@@ -1,22 +1,24 @@
-ghost use Rattle.std.specs.Prelude.{◌≡◌, ◌≤◌, [], length, OnOk};
-ghost use Rattle.relationships.specs.Graph.{edge_of, edges_from, edges_on};
-ghost use Rattle.as_graph.specs.Inside.{with_edge, with_edges};
-ghost use Rattle.tor_survey.specs.Sets.{number_of_edge, edge_numbered};
+ghost use Rattle.std.specs.Prelude.{◌≡◌, ◌≤◌, [], length, not, IfOk, OnOk};
+ghost use Rattle.std.specs.List.{list_any};
+ghost use Rattle.relationships.specs.Graph.{edge_of, is_same};
+ghost use Rattle.as_graph.specs.Inside.{with_edge};
+ghost use Rattle.tor_survey.specs.Sets.{number_of_edge};
 
 use std::alloc::Global;
 use std::marker::Model;
 use tor_arena::{Keys, NoMemory};
-use tor_numbers::PlaceTable;
+use tor_numbers::NumberSet;
 
 /// Pairs of neighbours in the order in which they were added, each once, whichever of the two came first.
 #[derive(Drop)]
 pub(crate) struct EdgeSet {
     // the number of each pair
-    numbers: PlaceTable,
+    numbers: NumberSet,
+    count: u64,
 }
 
 impl Model for EdgeSet {
-    ghost use Rattle.std.specs.Prelude.{ℕ, List, All, map, ◌≤◌};
+    ghost use Rattle.std.specs.Prelude.{◌≡◌, ◌≤◌, List, All, length, map};
     ghost use Rattle.relationships.specs.Graph.{Edge};
     ghost use Rattle.tor_survey.specs.Sets.{edge_numbered};
 
@@ -24,7 +26,7 @@ impl Model for EdgeSet {
 
     ghost view = { λ set. map edge_numbered set.numbers };
 
-    ghost invariant = { λ set. All (λ n. 2 ≤ n) set.numbers };
+    ghost invariant = { λ set. All (λ n. 2 ≤ n) set.numbers × (set.count ≡ length set.numbers) };
 }
 
 /// The number of a pair in the table.
@@ -42,44 +44,31 @@ impl EdgeSet {
         ensures { result ≡ [] }
     {
         EdgeSet {
-            numbers: PlaceTable::new(alloc, keys),
+            numbers: NumberSet::new(alloc, keys),
+            count: 0,
         }
     }
 
-    /// Adds the pair of two ASes, unless it is there.
-    pub fn add(&mut self, a: u32, b: u32) -> Result<(), NoMemory>
-        ensures { OnOk result (self.new ≡ with_edge self.old (edge_of a b)) }
+    /// Adds the pair of two ASes, unless it is there, and answers whether it was added. NoMemory also comes where there are
+    /// 2^64 - 1 pairs, which no memory holds.
+    pub fn add(&mut self, a: u32, b: u32) -> Result<bool, NoMemory>
+        ensures added { OnOk result (self.new ≡ with_edge self.old (edge_of a b)) }
+        ensures answer { IfOk result (λ is_new. is_new ≡ not (list_any (is_same (edge_of a b)) self.old)) }
     {
-        self.numbers.add(number_of(a.min(b), a.max(b)))?;
-        Ok(())
-    }
-
-    // Adds the pairs along a path behind an AS.
-    fn add_from(&mut self, first: u32, others: &[u32]) -> Result<(), NoMemory>
-        ensures { OnOk result (self.new ≡ with_edges self.old (edges_from first others.now)) }
-    {
-        let mut from = first;
-        for to in others {
-            self.add(from, *to)?;
-            from = *to;
+        let Some(next) = self.count.checked_add(1) else {
+            return Err(NoMemory);
+        };
+        let is_new = self.numbers.insert(number_of(a.min(b), a.max(b)))?;
+        if is_new {
+            self.count = next;
         }
-        Ok(())
-    }
-
-    /// Adds the pairs of neighbours on a path.
-    pub fn add_path(&mut self, path: &[u32]) -> Result<(), NoMemory>
-        ensures { OnOk result (self.new ≡ with_edges self.old (edges_on path.now)) }
-    {
-        match path {
-            [] => Ok(()),
-            [first, others @ ..] => self.add_from(*first, others),
-        }
+        Ok(is_new)
     }
 
     /// How many pairs there are. It takes no memory.
-    pub fn len(&self) -> usize
+    pub fn len(&self) -> u64
         ensures { result ≡ length self.now }
     {
-        self.numbers.len()
+        self.count
     }
 }

@@ -1,7 +1,8 @@
-ghost use Rattle.std.specs.Prelude.{◌≡◌, ◌++◌, ◌∷◌, ◌==◌, [], IfOk, OnOk, codes, is_some};
+ghost use Rattle.std.specs.Prelude.{◌≡◌, ◌++◌, ◌∷◌, IfOk, OnOk};
 ghost use Rattle.std.specs.Fmt.{decimal};
 ghost use Rattle.mrt_frame.specs.Kinds.{is_read};
-ghost use Rattle.tor_survey.specs.SurveyText.{line, type_line, read_line, passed_line, read_lines, passed_lines, count_line, figure_lines, end_line, survey_text};
+ghost use Rattle.tor_survey.specs.SurveyText.{type_line, count_line, figure_lines, end_line, survey_text};
+ghost use Rattle.tor_survey.specs.SurveyText.{read_line, read_lines, passed_line, passed_lines};
 
 use crate::survey::{Figures, Survey};
 use mrt_frame::RecordKind;

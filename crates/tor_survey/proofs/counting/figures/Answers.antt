@@ -8,6 +8,8 @@ loop-place-preserved c =
     let place = c.loop-place.place in
     let path = c.row-path.result.now in
     let placed : c.unwrap.result ≡ place = search rules in
-    let there : slice_get paths place ≡ Some path = subst (λ k. slice_get paths k ≡ Some path) placed c.row-path.ensures in
-    counted-more paths place c.loop-place.ases c.add_path.new.self c.loop-place.edges c.add_path-in-loop-place.new.self c.loop-place.longest c.max-longest.result path
-    c.loop-place.invariant there c.in_ok-add_path.ensures c.in_ok-add_path-2.ensures c.max-longest.ensures
+    let there : slice_get paths place ≡ Some path = subst (λ k. slice_get paths k ≡ Some path) placed c.row-path.ensures in (
+      counted-more paths place c.loop-place.ases c.add_path.new.ases c.loop-place.edges c.add_path.new.edges c.loop-place.longest c.max-longest.result path
+          c.loop-place.invariant.0 there c.in_ok-add_path.ensures.ases c.in_ok-add_path.ensures.edges c.max-longest.ensures,
+      c.in_ok-add_path.ensures.ends,
+    )
