@@ -130,7 +130,7 @@ status_for (Ends (Limit kind dump)) = status.Limit
 not_there : {X : Type 0} (settings : CheckSettings) (files : Files) (bytes : List ℕ) → IsResult settings files bytes → files settings.result ≡ None → X
 not_there settings files bytes is none = absurd (some_not_none (files settings.result) bytes is.there none)
 
-not_long : {X : Type 0} (settings : CheckSettings) (files : Files) (bytes : List ℕ) → IsResult settings files bytes → IsLongFile (files settings.result) → X
+pub not_long : {X : Type 0} (settings : CheckSettings) (files : Files) (bytes : List ℕ) → IsResult settings files bytes → IsLongFile (files settings.result) → X
 not_long settings files bytes is long =
     let more : 2 ^ 31 < length bytes = subst IsLongFile is.there long in
     absurd (omega (arith, more, is.short))

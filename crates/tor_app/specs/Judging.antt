@@ -1,5 +1,5 @@
 -- What the words and the files of a check give: a verdict on the result file, or why there is none.
-use Rattle.std.specs.Prelude.{◌≡◌, ◌≤◌, ◌<◌, ◌⊎◌, ◌^◌, ℕ, List, [], ◌∷◌, length, Option, Some, None, Result, Ok, Err, IsOk}
+use Rattle.std.specs.Prelude.{◌≡◌, ◌≤◌, ◌<◌, ◌⊎◌, ◌+◌, ◌^◌, ℕ, List, [], ◌∷◌, length, drop, Option, Some, None, IfSome, Result, Ok, Err, IsOk}
 use Rattle.tor_io.specs.Contents.{Files}
 use Rattle.result_text.specs.declared.file.ResultFile.{ResultFile}
 use Rattle.result_text.specs.Grammar.{IsTextOf, IsBadLine}
@@ -54,6 +54,15 @@ IsLong bytes = 2 ^ 31 < length bytes
 abbrev pub IsLongFile : Option (List ℕ) → Type 0
 IsLongFile None = ⊥
 IsLongFile (Some bytes) = IsLong bytes
+
+-- of the file of this name, where its bytes are known, 2 ^ 31 + 1 were read and all others are left
+abbrev pub LeavesRest : List ℕ → Option Files → Option (List ℕ) → Type 0
+LeavesRest name known left = IfSome known (λ files. IfSome (files name) (λ bytes. left ≡ Some (drop (2 ^ 31 + 1) bytes)))
+
+-- the same of the result file that the words name
+abbrev pub LeavesRestOf : List (List ℕ) → Option Files → Option (List ℕ) → Type 0
+LeavesRestOf words known left =
+    (settings : CheckSettings) → check_settings_given words ≡ Some settings → LeavesRest settings.result known left
 
 -- the result file is there with these bytes, and they are few enough
 pub record IsResult (settings : CheckSettings) (files : Files) (bytes : List ℕ) : Type 0 where

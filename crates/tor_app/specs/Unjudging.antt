@@ -72,6 +72,11 @@ IsUnjudged words known steady (unjudged.Refused (refusal.Dumps stopped)) =
 IsUnjudged words known steady (unjudged.Refused refusal.NoMemory) = Unit {0}
 IsUnjudged words known steady (unjudged.Result why) = IsUnjudgedGiven words known steady (unjudged.Result why)
 
+-- the result file has too many bytes
+abbrev pub IsTooLong : Unjudged → Type 0
+IsTooLong (unjudged.Result why) = why ≡ unread.TooLong
+IsTooLong (unjudged.Refused why) = ⊥
+
 -- a read failed
 abbrev pub IsFailedRead : Unjudged → Type 0
 IsFailedRead (unjudged.Result why) = why ≡ unread.Failed

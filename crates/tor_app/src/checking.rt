@@ -10,8 +10,8 @@ ghost use Rattle.std.specs.Io.KnownBytes.{IsAtEnd, append_known};
 ghost use Rattle.tor_app.specs.Notes.{plain_note};
 ghost use Rattle.tor_app.specs.Answer.{IsNoted};
 ghost use Rattle.tor_app.specs.Refusals.{note_in};
-ghost use Rattle.tor_app.specs.Judging.{NoResult, TooLong, Ends, Gives, IsVouched, CanBeJudged};
-ghost use Rattle.tor_app.specs.CheckAnswer.{GainsVerdict, GainsNo, GainsVerdictPrefix, LeadsToMalformed, LeadsToLimit, LeadsToAbsent, IsCheckNote, verdict_text, status_of};
+ghost use Rattle.tor_app.specs.Judging.{NoResult, TooLong, Ends, Gives, IsVouched, CanBeJudged, LeavesRestOf};
+ghost use Rattle.tor_app.specs.CheckAnswer.{GainsVerdict, GainsNo, GainsVerdictPrefix, LeadsTo, LeadsToMalformed, LeadsToLimit, LeadsToAbsent, IsCheckNote, verdict_text, status_of};
 
 use crate::answer::Answer;
 use crate::judging::{answer_to_unjudged, verdict_of};
@@ -72,6 +72,8 @@ fn answer<H: Shelf, O: Sink>(
 
     // What is left in the objects.
     ensures read_out { (result.status ≡ Status.Done) ⊎ (result.status ≡ Status.No) → IsAtEnd (H.left shelf.new) }
+    ensures bounded { result.status ≡ Status.Limit → LeadsTo words.now (H.files shelf.old) TooLong →
+        LeavesRestOf words.now (H.files shelf.old) (H.left shelf.new) }
     ensures untouched { result.status ≡ Status.Usage → shelf.new ≡ shelf.old }
     ensures files { H.files shelf.new ≡ H.files shelf.old }
     ensures steady { H.steady shelf.old → H.steady shelf.new }
@@ -145,6 +147,8 @@ pub fn check<H: Shelf, O: Sink, E: Sink>(
     // What is left in the objects: at Done and No nothing unread, the files as they were, no count lowered, at Usage no
     // call made on the shelf, and no failed call passed over.
     ensures read_out { (result ≡ Status.Done) ⊎ (result ≡ Status.No) → IsAtEnd (H.left shelf.new) }
+    ensures bounded { result ≡ Status.Limit → LeadsTo words.now (H.files shelf.old) TooLong →
+        LeavesRestOf words.now (H.files shelf.old) (H.left shelf.new) }
     ensures untouched { result ≡ Status.Usage → shelf.new ≡ shelf.old }
     ensures files { H.files shelf.new ≡ H.files shelf.old }
     ensures steady { H.steady shelf.old → H.steady shelf.new }

@@ -3,7 +3,7 @@ ghost use Rattle.std.specs.Prelude.{◌≡◌, ◌≢◌, ◌<◌, ◌≤◌, �
 ghost use Rattle.std.specs.Io.KnownBytes.{IsAtEnd, prepend_known};
 ghost use Rattle.tor_io.specs.Counts.{Rose, HasCause};
 ghost use Rattle.tor_io.specs.Contents.{LacksFile};
-ghost use Rattle.tor_app.specs.Judging.{IsLong, IsLongFile};
+ghost use Rattle.tor_app.specs.Judging.{IsLong, IsLongFile, LeavesRest};
 ghost use Rattle.tor_app.specs.declared.result_file.Unread.TheVariants.{Failed as failed, NoMemory as no_memory};
 
 use std::alloc::{AllocError, Global};
@@ -108,6 +108,7 @@ pub(crate) fn read_result<H: Shelf>(
     ensures short { IfOk result (λ bytes. length bytes ≤ 2 ^ 31) }
     ensures read_out { OnOk result (IsAtEnd (H.left shelf.new)) }
     ensures long { IsErrOf result Unread.TooLong → IfSome (H.files shelf.old) (λ files. IsLongFile (files name.now)) }
+    ensures rest { IsErrOf result Unread.TooLong → LeavesRest name.now (H.files shelf.old) (H.left shelf.new) }
 
     ensures files { H.files shelf.new ≡ H.files shelf.old }
     ensures later { H.faults shelf.old ≤ H.faults shelf.new }

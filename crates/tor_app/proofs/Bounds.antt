@@ -1,0 +1,46 @@
+-- Of a result file that is too long no more is read than shows it.
+use Rattle.std.proofs.Common.{◌≡◌, ℕ, List, inl, inr, Option, Some, None, refl, sym, subst, ◌∙◌}
+use Rattle.tor_io.specs.Contents.{Files}
+use Rattle.tor_words.specs.declared.check_settings.CheckSettings.{CheckSettings}
+use Rattle.tor_words.specs.declared.refused.WordsRefused.TheVariants as refused
+use Rattle.tor_words.specs.CheckGiven.{check_settings_given}
+use Rattle.tor_app.specs.declared.status.Status.{Status}
+use Rattle.tor_app.specs.declared.status.Status.TheVariants as status
+use Rattle.tor_app.specs.declared.answer.Answer.{Answer}
+use Rattle.tor_app.specs.declared.answer.Refusal.TheVariants as refusal
+use Rattle.tor_app.specs.declared.result_file.Unread.TheVariants as unread
+use Rattle.tor_app.specs.declared.judging.Unjudged.{Unjudged}
+use Rattle.tor_app.specs.declared.judging.Unjudged.TheVariants as unjudged
+use Rattle.tor_app.specs.Notes.{read_fault_note}
+use Rattle.tor_app.specs.Refusals.{Says, IsNoMemory}
+use Rattle.tor_app.specs.Judging.{TooLong, IsLongFile, LeavesRestOf}
+use Rattle.tor_app.specs.CheckAnswer.{LeadsTo}
+use Rattle.tor_app.specs.Unjudging.{IsUnjudged, IsTooLong, AnswersUnjudged}
+use Rattle.tor_app.proofs.Comings.{not_long}
+
+same_settings : (o : Option CheckSettings) (s t : CheckSettings) → o ≡ Some s → o ≡ Some t → s ≡ t
+same_settings o s t one other = cc
+
+some_or_none : {X : Type 0} (o : Option CheckSettings) (s : CheckSettings) → o ≡ None → o ≡ Some s → X
+some_or_none o s none some = absurd cc
+
+no_limit : {X : Type 0} (answer : Answer) → IsNoMemory answer → answer.status ≡ status.Limit → X
+no_limit answer is limit = let both : status.NoMemory ≡ status.Limit = sym is.0 ∙ limit in absurd cc
+
+no_fault : {X : Type 0} (answer : Answer) → Says status.ReadFault (read_fault_note 0) answer → answer.status ≡ status.Limit → X
+no_fault answer (inl is) limit = let both : status.ReadFault ≡ status.Limit = sym is.0 ∙ limit in absurd cc
+no_fault answer (inr is) limit = no_limit answer is limit
+
+pub bounded : (words : List (List ℕ)) (known : Option Files) (steady : Type 0) (u : Unjudged) (answer : Answer) (left : Option (List ℕ)) → IsUnjudged words known steady u → AnswersUnjudged u answer
+    → (IsTooLong u → LeavesRestOf words known left) → answer.status ≡ status.Limit → LeadsTo words known TooLong → LeavesRestOf words known left
+bounded words None steady u answer left why answers rest limit long = λ settings given. tt
+bounded words (Some files) steady (unjudged.Result unread.TooLong) answer left why answers rest limit long = rest refl
+bounded words (Some files) steady (unjudged.Result unread.Failed) answer left why answers rest limit long = no_fault answer answers limit
+bounded words (Some files) steady (unjudged.Result unread.NoMemory) answer left why answers rest limit long = no_limit answer answers limit
+bounded words (Some files) steady (unjudged.Refused (refusal.Words (refused.Usage text))) answer left why answers rest limit long =
+    some_or_none (check_settings_given words) long.0 why.0 long.1
+bounded words (Some files) steady (unjudged.Refused (refusal.Words refused.NoMemory)) answer left why answers rest limit long = no_limit answer answers limit
+bounded words (Some files) steady (unjudged.Refused (refusal.Dumps stopped)) answer left why answers rest limit long =
+    let same = same_settings (check_settings_given words) long.0 why.0 long.1 why.1 in
+    not_long why.0 files why.2.0 why.2.1 (subst (λ (s : CheckSettings). IsLongFile (files s.result)) same long.2)
+bounded words (Some files) steady (unjudged.Refused refusal.NoMemory) answer left why answers rest limit long = no_limit answer answers limit
