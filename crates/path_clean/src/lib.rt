@@ -2,13 +2,14 @@
 #![tactic(auto)]
 
 mod asides;
-mod chain;
 mod cleaned;
 mod cleaning;
 mod distinct_rows;
+mod hashing;
 mod laws;
 mod merging;
 mod repeats;
+mod slots;
 mod table;
 
 pub use asides::Asides;
