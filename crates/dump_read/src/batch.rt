@@ -1,7 +1,7 @@
-ghost use Rattle.std.specs.Prelude.{◌≡◌, ◌++◌, ◌∷◌, ◌<◌, ◌≤◌, [], length, map, slice_get, Some, IfSome, OnOk, OnErr, IfErr};
+ghost use Rattle.std.specs.Prelude.{◌≡◌, ◌++◌, ◌∷◌, ◌<◌, ◌≤◌, [], length, slice_get, Some, IfSome, OnOk, OnErr, IfErr};
 ghost use Rattle.path_clean.specs.Clean.{clean_of};
 ghost use Rattle.path_clean.specs.Table.{place_of};
-ghost use Rattle.dump_read.specs.Batches.{AreFound, TakesAt, IsLimitAt, TakesBatch, IsBatchLimit, TakesSomeOfBatch};
+ghost use Rattle.dump_read.specs.Batches.{AreFound, AreThere, AreRight, TakesAt, IsLimitAt, TakesBatch, IsBatchLimit, TakesSomeOfBatch};
 
 use crate::taking::{Taken, Untaken, take_again, take_path};
 use path_attrs::{Attrs, Width};
@@ -18,7 +18,9 @@ pub(crate) struct Batch {
     causes: Vec<Option<Cause>>,
     // of each route its path
     paths: Rows<PathId, u32>,
-    // of the first routes where their paths stood in the table
+    // of the first routes where their paths were guessed to stand in the table
+    guesses: List<Option<PathId>>,
+    // of the first routes where their paths stood in the table, as far as it was guessed
     places: List<Option<PathId>>,
     // the path of the route that is being cleaned
     path: List<u32>,
@@ -42,6 +44,7 @@ impl Batch {
         Batch {
             causes: Vec::new(alloc),
             paths: Rows::new(alloc),
+            guesses: List::new(alloc),
             places: List::new(alloc),
             path: List::new(alloc),
         }
@@ -84,7 +87,8 @@ impl Batch {
         Ok(())
     }
 
-    /// Looks the paths of all routes up. There is nothing to gain for a single one.
+    /// Looks the paths of all routes up, as far as a guess tells where they stand: first all guesses are made, then they are tested.
+    /// There is nothing to gain for a single one.
     pub fn look_up(&mut self, table: &PathTable) -> Result<(), NoMemory>
         requires none { self.old.places ≡ [] }
         ensures routes { self.new.routes ≡ self.old.routes }
@@ -93,7 +97,13 @@ impl Batch {
         if self.len() < 2 {
             return Ok(());
         }
-        find_each(table, &self.paths, &mut self.places)
+        guess_each(table, &self.paths, &mut self.guesses)?;
+        find_each(
+            table,
+            &self.paths,
+            self.guesses.as_slice(),
+            &mut self.places,
+        )
     }
 
     /// Takes in one of the routes. A route that isn't taken changes nothing.
@@ -138,17 +148,50 @@ fn found_at(places: &[Option<PathId>], place: usize) -> Option<PathId>
     }
 }
 
-/// Where each of the paths stands in the table, if it is there.
+/// Where each of the paths most likely stands in the table, if it is there.
+fn guess_each(
+    table: &PathTable,
+    paths: &Rows<PathId, u32>,
+    guesses: &mut List<Option<PathId>>,
+) -> Result<(), NoMemory>
+    ensures { OnOk result (AreThere (length table.now.rows) guesses.new) }
+{
+    guesses.clear();
+    for place in 0..paths.len() {
+        guesses.push(table.likely(row_at(paths, place)))?;
+    }
+    Ok(())
+}
+
+/// Where a path stands in the table, if it was guessed.
+fn tested(
+    table: &PathTable,
+    guesses: &[Option<PathId>],
+    place: usize,
+    path: &[u32],
+) -> Option<PathId>
+    requires there { AreThere (length table.now.rows) guesses.now }
+    ensures { IfSome result (λ id. place_of table.now.rows path.now ≡ Some id) }
+{
+    match found_at(guesses, place) {
+        Some(id) if table.stands_at(id, path) => Some(id),
+        _ => None,
+    }
+}
+
+/// Where each of the paths stands in the table, if it was guessed.
 fn find_each(
     table: &PathTable,
     paths: &Rows<PathId, u32>,
+    guesses: &[Option<PathId>],
     places: &mut List<Option<PathId>>,
 ) -> Result<(), NoMemory>
     requires none { places.old ≡ [] }
-    ensures { OnOk result (places.new ≡ map (place_of table.now.rows) paths.now) }
+    requires there { AreThere (length table.now.rows) guesses.now }
+    ensures { OnOk result (AreRight table.now.rows paths.now places.new) }
 {
     for place in 0..paths.len() {
-        places.push(table.find(row_at(paths, place)))?;
+        places.push(tested(table, guesses, place, row_at(paths, place)))?;
     }
     Ok(())
 }
