@@ -17,7 +17,7 @@ use Rattle.dump_read.specs.declared.error.LimitKind.{LimitKind}
 use Rattle.dump_read.specs.declared.error.LimitKind.TheVariants.{Paths, Numbers}
 use Rattle.dump_read.specs.Routes.{Route}
 use Rattle.dump_read.specs.declared.taking.Untaken.{Untaken}
-use Rattle.dump_read.specs.Batches.{AreFound, AreThere, AreRight, AreOf, Batched, cleaned_by, IsBatch, IsLimitAt, TakesAt}
+use Rattle.dump_read.specs.Batches.{AreFound, AreRight, AreOf, Batched, cleaned_by, IsBatch, IsLimitAt, TakesAt}
 use Rattle.dump_read.specs.Refusals.{IsLimit}
 use Rattle.dump_read.specs.Taking.{Taken, take_cleaned, take_path, take_routes, Takes, with_one, has_too_many_numbers}
 use Rattle.dump_read.proofs.Takings.{SoFar, one_more as one_route_more, limit_at, all_taken}
@@ -171,14 +171,7 @@ at_push [] y (suc k) x e = inl e
 at_push (a ∷ xs) y zero x e = inl e
 at_push (a ∷ xs) y (suc k) x e = elim (at_push xs y k x e) [ inl h ↦ inl h | inr h ↦ inr (ap suc h.0, h.1) ]
 
--- one guess more
-pub AreThere-push : (count : ℕ) (places : List (Option ℕ)) (guess : Option ℕ) → IfSome guess (λ id. id < count) → AreThere count places → AreThere count (places ++ guess ∷ [])
-AreThere-push count places guess below there k id at = elim (at_push places guess k (Some id) at) [
-  | inl old ↦ there k id old
-  | inr new ↦ subst (λ o. IfSome o (λ id. id < count)) (sym new.1) below
-]
-
--- one test more
+-- one place more
 pub AreRight-push : (rows : List Counted) (paths : List (List ℕ)) (places : List (Option ℕ)) (place : ℕ) (path : List ℕ) (found : Option ℕ) → length places ≡ place
     → slice_get paths place ≡ Some path → IfSome found (λ id. place_of rows path ≡ Some id) → AreRight rows paths places → AreRight rows paths (places ++ found ∷ [])
 AreRight-push rows paths places place path found many here stands right k id other at route = elim (at_push places found k (Some id) at) [

@@ -1,5 +1,5 @@
 -- The routes of one record, each cleaned before the first of them is taken in.
-use Rattle.std.specs.Prelude.{◌≡◌, ◌<◌, ◌≤◌, ◌^◌, ℕ, true, List, [], ◌∷◌, length, map, slice_get, Option, Some, Ok}
+use Rattle.std.specs.Prelude.{◌≡◌, ◌≤◌, ◌^◌, ℕ, true, List, [], ◌∷◌, length, map, slice_get, Option, Some, Ok}
 use Rattle.path_clean.specs.declared.cleaned.Sets.{Sets}
 use Rattle.path_clean.specs.declared.cleaned.Cause.{Cause}
 use Rattle.path_clean.specs.declared.cleaned.Cleaned.{Cleaned}
@@ -34,10 +34,6 @@ pub record IsBatch (causes : List (Option Cause)) (paths : List (List ℕ)) : Ty
 abbrev pub AreFound : List Counted → Batched → Type 0
 AreFound rows batch =
     (k id : ℕ) (path : List ℕ) → slice_get batch.places k ≡ Some (Some id) → slice_get batch.routes k ≡ Some (Path path) → place_of rows path ≡ Some id
-
--- no place is named but one of so many
-abbrev pub AreThere : ℕ → List (Option ℕ) → Type 0
-AreThere count places = (k id : ℕ) → slice_get places k ≡ Some (Some id) → id < count
 
 -- where a place is named it is that of the path of the same number
 abbrev pub AreRight : List Counted → List (List ℕ) → List (Option ℕ) → Type 0

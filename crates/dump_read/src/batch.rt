@@ -1,11 +1,11 @@
 ghost use Rattle.std.specs.Prelude.{◌≡◌, ◌++◌, ◌∷◌, ◌<◌, ◌≤◌, [], length, slice_get, Some, IfSome, OnOk, OnErr, IfErr};
 ghost use Rattle.path_clean.specs.Clean.{clean_of};
 ghost use Rattle.path_clean.specs.Table.{place_of};
-ghost use Rattle.dump_read.specs.Batches.{AreFound, AreThere, AreRight, TakesAt, IsLimitAt, TakesBatch, IsBatchLimit, TakesSomeOfBatch};
+ghost use Rattle.dump_read.specs.Batches.{AreFound, AreRight, TakesAt, IsLimitAt, TakesBatch, IsBatchLimit, TakesSomeOfBatch};
 
 use crate::taking::{Taken, Untaken, take_again, take_path};
 use path_attrs::{Attrs, Width};
-use path_clean::{Cause, PathTable, Sets, clean_into};
+use path_clean::{Cause, Guess, PathTable, Sets, clean_into};
 use std::alloc::Global;
 use std::marker::Model;
 use tor_arena::{Index, List, NoMemory, PathId, Rows};
@@ -18,8 +18,8 @@ pub(crate) struct Batch {
     causes: Vec<Option<Cause>>,
     // of each route its path
     paths: Rows<PathId, u32>,
-    // of the first routes where their paths were guessed to stand in the table
-    guesses: List<Option<PathId>>,
+    // of the first routes a guess where their paths stand in the table
+    guesses: List<Guess>,
     // of the first routes where their paths stood in the table, as far as it was guessed
     places: List<Option<PathId>>,
     // the path of the route that is being cleaned
@@ -148,50 +148,34 @@ fn found_at(places: &[Option<PathId>], place: usize) -> Option<PathId>
     }
 }
 
-/// Where each of the paths most likely stands in the table, if it is there.
+/// A guess for each of the paths where it stands in the table.
 fn guess_each(
     table: &PathTable,
     paths: &Rows<PathId, u32>,
-    guesses: &mut List<Option<PathId>>,
+    guesses: &mut List<Guess>,
 ) -> Result<(), NoMemory>
-    ensures { OnOk result (AreThere (length table.now.rows) guesses.new) }
+    ensures { OnOk result (length guesses.new ≡ length paths.now) }
 {
     guesses.clear();
     for place in 0..paths.len() {
-        guesses.push(table.likely(row_at(paths, place)))?;
+        guesses.push(table.guess(row_at(paths, place)))?;
     }
     Ok(())
 }
 
-/// Where a path stands in the table, if it was guessed.
-fn tested(
-    table: &PathTable,
-    guesses: &[Option<PathId>],
-    place: usize,
-    path: &[u32],
-) -> Option<PathId>
-    requires there { AreThere (length table.now.rows) guesses.now }
-    ensures { IfSome result (λ id. place_of table.now.rows path.now ≡ Some id) }
-{
-    match found_at(guesses, place) {
-        Some(id) if table.stands_at(id, path) => Some(id),
-        _ => None,
-    }
-}
-
-/// Where each of the paths stands in the table, if it was guessed.
+/// Where each of the paths stands in the table, if its guess says so.
 fn find_each(
     table: &PathTable,
     paths: &Rows<PathId, u32>,
-    guesses: &[Option<PathId>],
+    guesses: &[Guess],
     places: &mut List<Option<PathId>>,
 ) -> Result<(), NoMemory>
     requires none { places.old ≡ [] }
-    requires there { AreThere (length table.now.rows) guesses.now }
+    requires many { length guesses.now ≡ length paths.now }
     ensures { OnOk result (AreRight table.now.rows paths.now places.new) }
 {
     for place in 0..paths.len() {
-        places.push(tested(table, guesses, place, row_at(paths, place)))?;
+        places.push(table.find_guessed(guesses[place], row_at(paths, place)))?;
     }
     Ok(())
 }

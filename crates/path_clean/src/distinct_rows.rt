@@ -4,7 +4,7 @@ ghost use Rattle.path_clean.specs.Chains.{row_at};
 ghost use Rattle.path_clean.specs.Slots.{tag_of, start_at, IsVacant, IsProbe, Tells};
 
 use crate::hashing::{hash_of, seed_of};
-use crate::slots::{Probe, Slot, free_from, id_of, seek, start_of, widened};
+use crate::slots::{Probe, Slot, free_from, seek, start_of, widened};
 use std::alloc::Global;
 use std::marker::Model;
 use tor_arena::{Index, Keys, NoMemory, PathId, Rows};
@@ -87,20 +87,15 @@ impl IndexedPaths {
         }
     }
 
-    /// The index of the path that the first slot names where a path is searched, if the two have one tag. So it is most often the index
-    /// of that path, where it is there. No path is looked at, and no memory is taken.
-    pub fn likely(&self, path: &[u32]) -> Option<PathId>
-        ensures { IfSome result (λ k. k < length self.now.rows) }
-    {
+    /// The place, from 1, of the row that the first slot names where a path is searched, if the two have one tag, else 0. So where the
+    /// path is there, this is most often its place. No row is looked at, and no memory is taken.
+    pub fn guess(&self, path: &[u32]) -> u32 {
         if self.slots.is_empty() {
-            return None;
+            return 0;
         }
         let tag = self.tag_of(path);
         let slot = self.slots[start_of(tag, self.slots.len())];
-        if slot.row == 0 || slot.tag != tag {
-            return None;
-        }
-        Some(id_of(slot.row))
+        if slot.tag == tag { slot.row } else { 0 }
     }
 
     /// Adds a path of this tag, where a search for it has ended so. For want of memory the paths stay.

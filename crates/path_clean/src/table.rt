@@ -7,7 +7,7 @@ ghost use Rattle.path_clean.specs.Rows.{paths_of, times_of, numbers_in, none_twi
 ghost use Rattle.path_clean.specs.Table.{place_of, with_path, Names, IsCounted, IsPathTooMany, HasNumbersTooMany};
 
 use crate::distinct_rows::IndexedPaths;
-use crate::slots::Probe;
+use crate::slots::{Probe, id_of};
 use std::alloc::Global;
 use std::marker::Model;
 use tor_arena::{Index, Keys, List, PathId, Rows};
@@ -25,6 +25,13 @@ pub enum Added {
     Known(PathId),
     /// It is new, and stands last.
     New(PathId),
+}
+
+/// Where a path may stand in a table, from one look at what the table keeps of its hash.
+#[derive(Clone, Copy, Debug, PartialEq, Eq)]
+pub struct Guess {
+    // the place from 1, or 0 for none
+    row: u32,
 }
 
 /// Why a path was not added.
@@ -83,19 +90,27 @@ impl PathTable {
         self.paths.find(path)
     }
 
-    /// Where a path most likely stands, if it is there: a guess that looks at no path, so `stands_at` has to be asked. It takes no memory.
-    pub fn likely(&self, path: &[u32]) -> Option<PathId>
-        ensures there { IfSome result (λ id. id < length self.now.rows) }
-    {
-        self.paths.likely(path)
+    /// A guess where a path stands, for `find_guessed`. No path is looked at, so guesses for several paths wait for memory at the same
+    /// time. It takes no memory.
+    pub fn guess(&self, path: &[u32]) -> Guess {
+        Guess {
+            row: self.paths.guess(path),
+        }
     }
 
-    /// Whether the path of an index, which has to be there, is this one. It takes no memory.
-    pub fn stands_at(&self, id: PathId, path: &[u32]) -> bool
-        requires there { id < length self.now.rows }
-        ensures { IsTrue result ↔ (place_of self.now.rows path.now ≡ Some id) }
+    /// Where a path stands, if a guess, which may be any, says so. It takes no memory.
+    pub fn find_guessed(&self, guess: Guess, path: &[u32]) -> Option<PathId>
+        ensures { IfSome result (λ id. place_of self.now.rows path.now ≡ Some id) }
     {
-        self.paths.rows().row(id) == path
+        if guess.row == 0 || guess.row as usize > self.counts.len() {
+            return None;
+        }
+        let id = id_of(guess.row);
+        if self.paths.rows().row(id) == path {
+            Some(id)
+        } else {
+            None
+        }
     }
 
     /// Counts the path of an index, which has to be there, once more: it gains one in its times, up to 2^64 - 1. It takes no memory.
