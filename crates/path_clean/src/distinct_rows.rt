@@ -4,7 +4,7 @@ ghost use Rattle.path_clean.specs.Chains.{row_at};
 ghost use Rattle.path_clean.specs.Slots.{tag_of, start_at, IsVacant, IsProbe, Tells};
 
 use crate::hashing::{hash_of, seed_of};
-use crate::slots::{Probe, Slot, free_from, seek, start_of, widened};
+use crate::slots::{Guess, Probe, Slot, free_from, seek, start_of, widened};
 use std::alloc::Global;
 use std::marker::Model;
 use tor_arena::{Index, Keys, NoMemory, PathId, Rows};
@@ -87,15 +87,9 @@ impl IndexedPaths {
         }
     }
 
-    /// The place, from 1, of the row that the first slot names where a path is searched, if the two have one tag, else 0. So where the
-    /// path is there, this is most often its place. No row is looked at, and no memory is taken.
-    pub fn guess(&self, path: &[u32]) -> u32 {
-        if self.slots.is_empty() {
-            return 0;
-        }
-        let tag = self.tag_of(path);
-        let slot = self.slots[start_of(tag, self.slots.len())];
-        if slot.tag == tag { slot.row } else { 0 }
+    /// A guess where a path stands. No row is looked at, and no memory is taken.
+    pub fn guess(&self, path: &[u32]) -> Guess {
+        Guess::new(self.slots.as_slice(), self.tag_of(path))
     }
 
     /// Adds a path of this tag, where a search for it has ended so. For want of memory the paths stay.

@@ -17,7 +17,8 @@ pub use cleaned::{Cause, Cleaned, Sets, is_cleaned};
 pub use cleaning::{clean, clean_into, is_clean_path};
 pub use laws::{clean_paths_stay, counting, paths_are_clean};
 pub use repeats::first_repeated;
-pub use table::{AddRefused, Added, Guess, MAX_NUMBERS, MAX_PATHS, PathTable};
+pub use slots::Guess;
+pub use table::{AddRefused, Added, MAX_NUMBERS, MAX_PATHS, PathTable};
 
 #[cfg(test)]
 mod tests;

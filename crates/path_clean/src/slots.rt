@@ -20,6 +20,37 @@ pub(crate) struct Slot {
 /// A slot that names no row.
 const FREE: Slot = Slot { tag: 0, row: 0 };
 
+/// Where a path may stand in a table: what the slot has at which the search for it begins.
+#[derive(Clone, Copy, Debug, PartialEq, Eq)]
+pub struct Guess {
+    // the tag of the path
+    tag: u32,
+    slot: Slot,
+}
+
+impl Guess {
+    /// What the first slot has for a path of this tag. Nothing is compared here, so no branch waits for the slot.
+    pub(crate) fn new(slots: &[Slot], tag: u32) -> Guess {
+        if slots.is_empty() {
+            return Guess { tag, slot: FREE };
+        }
+        let start = start_of(tag, slots.len());
+        Guess {
+            tag,
+            slot: slots[start],
+        }
+    }
+
+    /// The place, from 1, at which the path may stand, or 0 where it is no row that the slot names.
+    pub(crate) fn row(self) -> u32 {
+        if self.slot.tag == self.tag {
+            self.slot.row
+        } else {
+            0
+        }
+    }
+}
+
 /// Where a search for a path ends.
 #[derive(Clone, Copy, Debug, PartialEq, Eq)]
 pub(crate) enum Probe {

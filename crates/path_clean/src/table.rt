@@ -7,7 +7,7 @@ ghost use Rattle.path_clean.specs.Rows.{paths_of, times_of, numbers_in, none_twi
 ghost use Rattle.path_clean.specs.Table.{place_of, with_path, Names, IsCounted, IsPathTooMany, HasNumbersTooMany};
 
 use crate::distinct_rows::IndexedPaths;
-use crate::slots::{Probe, id_of};
+use crate::slots::{Guess, Probe, id_of};
 use std::alloc::Global;
 use std::marker::Model;
 use tor_arena::{Index, Keys, List, PathId, Rows};
@@ -25,13 +25,6 @@ pub enum Added {
     Known(PathId),
     /// It is new, and stands last.
     New(PathId),
-}
-
-/// Where a path may stand in a table, from one look at what the table keeps of its hash.
-#[derive(Clone, Copy, Debug, PartialEq, Eq)]
-pub struct Guess {
-    // the place from 1, or 0 for none
-    row: u32,
 }
 
 /// Why a path was not added.
@@ -93,19 +86,18 @@ impl PathTable {
     /// A guess where a path stands, for `find_guessed`. No path is looked at, so guesses for several paths wait for memory at the same
     /// time. It takes no memory.
     pub fn guess(&self, path: &[u32]) -> Guess {
-        Guess {
-            row: self.paths.guess(path),
-        }
+        self.paths.guess(path)
     }
 
     /// Where a path stands, if a guess, which may be any, says so. It takes no memory.
     pub fn find_guessed(&self, guess: Guess, path: &[u32]) -> Option<PathId>
         ensures { IfSome result (λ id. place_of self.now.rows path.now ≡ Some id) }
     {
-        if guess.row == 0 || guess.row as usize > self.counts.len() {
+        let row = guess.row();
+        if row == 0 || row as usize > self.counts.len() {
             return None;
         }
-        let id = id_of(guess.row);
+        let id = id_of(row);
         if self.paths.rows().row(id) == path {
             Some(id)
         } else {

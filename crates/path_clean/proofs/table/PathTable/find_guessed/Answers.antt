@@ -10,7 +10,7 @@ use Rattle.path_clean.proofs.table.PathTable.find_guessed.Goals as goal
 pub row-requires : goal.row-requires
 row-requires c =
     let is = c.id_of-id.ensures in
-    let within = c.if-guess-len.false in
+    let within = c.if-row-len.false in
     let len = c.len.ensures in
     let ok = c.self.inside.counts.ok.0 in
     let many = c.self.invariant.same in
@@ -24,7 +24,7 @@ returns-then-eq c =
     let path = c.args.path.now in
     let id = c.id_of-id.result in
     let is = c.id_of-id.ensures in
-    let within = c.if-guess-len.false in
+    let within = c.if-row-len.false in
     let len = c.len.ensures in
     let ok = c.self.inside.counts.ok.0 in
     let many = c.self.invariant.same in
