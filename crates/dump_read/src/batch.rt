@@ -5,7 +5,7 @@ ghost use Rattle.dump_read.specs.Batches.{AreFound, AreRight, TakesAt, IsLimitAt
 
 use crate::taking::{Taken, Untaken, take_again, take_path};
 use path_attrs::{Attrs, Width};
-use path_clean::{Cause, Guess, PathTable, Sets, clean_into};
+use path_clean::{Cause, Guess, PathTable, Sets, Tag, clean_into};
 use std::alloc::Global;
 use std::marker::Model;
 use tor_arena::{Index, List, NoMemory, PathId, Rows};
@@ -18,7 +18,8 @@ pub(crate) struct Batch {
     causes: Vec<Option<Cause>>,
     // of each route its path
     paths: Rows<PathId, u32>,
-    // of the first routes a guess where their paths stand in the table
+    // of the first routes the tags of their paths, and guesses where these stand in the table
+    tags: List<Tag>,
     guesses: List<Guess>,
     // of the first routes where their paths stood in the table, as far as it was guessed
     places: List<Option<PathId>>,
@@ -44,6 +45,7 @@ impl Batch {
         Batch {
             causes: Vec::new(alloc),
             paths: Rows::new(alloc),
+            tags: List::new(alloc),
             guesses: List::new(alloc),
             places: List::new(alloc),
             path: List::new(alloc),
@@ -97,7 +99,8 @@ impl Batch {
         if self.len() < 2 {
             return Ok(());
         }
-        guess_each(table, &self.paths, &mut self.guesses)?;
+        tag_each(table, &self.paths, &mut self.tags)?;
+        guess_each(table, self.tags.as_slice(), &mut self.guesses)?;
         find_each(
             table,
             &self.paths,
@@ -148,17 +151,28 @@ fn found_at(places: &[Option<PathId>], place: usize) -> Option<PathId>
     }
 }
 
-/// A guess for each of the paths where it stands in the table.
-fn guess_each(
+/// The tag of each of the paths.
+fn tag_each(
     table: &PathTable,
     paths: &Rows<PathId, u32>,
-    guesses: &mut List<Guess>,
+    tags: &mut List<Tag>,
 ) -> Result<(), NoMemory>
-    ensures { OnOk result (length guesses.new ≡ length paths.now) }
+    ensures { OnOk result (length tags.new ≡ length paths.now) }
+{
+    tags.clear();
+    for place in 0..paths.len() {
+        tags.push(table.tag(row_at(paths, place)))?;
+    }
+    Ok(())
+}
+
+/// A guess for each of the tags. These looks into memory follow one another with nothing between them.
+fn guess_each(table: &PathTable, tags: &[Tag], guesses: &mut List<Guess>) -> Result<(), NoMemory>
+    ensures { OnOk result (length guesses.new ≡ length tags.now) }
 {
     guesses.clear();
-    for place in 0..paths.len() {
-        guesses.push(table.guess(row_at(paths, place)))?;
+    for place in 0..tags.len() {
+        guesses.push(table.guess(tags[place]))?;
     }
     Ok(())
 }

@@ -87,9 +87,9 @@ impl IndexedPaths {
         }
     }
 
-    /// A guess where a path stands. No row is looked at, and no memory is taken.
-    pub fn guess(&self, path: &[u32]) -> Guess {
-        Guess::new(self.slots.as_slice(), self.tag_of(path))
+    /// A guess where a path of this tag stands. No row is looked at, and no memory is taken.
+    pub fn guess(&self, tag: u32) -> Guess {
+        Guess::new(self.slots.as_slice(), tag)
     }
 
     /// Adds a path of this tag, where a search for it has ended so. For want of memory the paths stay.

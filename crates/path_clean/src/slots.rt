@@ -20,6 +20,12 @@ pub(crate) struct Slot {
 /// A slot that names no row.
 const FREE: Slot = Slot { tag: 0, row: 0 };
 
+/// The tag of a path in a table, for a guess.
+#[derive(Clone, Copy, Debug, PartialEq, Eq)]
+pub struct Tag {
+    pub(crate) tag: u32,
+}
+
 /// Where a path may stand in a table: what the slot has at which the search for it begins.
 #[derive(Clone, Copy, Debug, PartialEq, Eq)]
 pub struct Guess {

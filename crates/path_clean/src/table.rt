@@ -7,7 +7,7 @@ ghost use Rattle.path_clean.specs.Rows.{paths_of, times_of, numbers_in, none_twi
 ghost use Rattle.path_clean.specs.Table.{place_of, with_path, Names, IsCounted, IsPathTooMany, HasNumbersTooMany};
 
 use crate::distinct_rows::IndexedPaths;
-use crate::slots::{Guess, Probe, id_of};
+use crate::slots::{Guess, Probe, Tag, id_of};
 use std::alloc::Global;
 use std::marker::Model;
 use tor_arena::{Index, Keys, List, PathId, Rows};
@@ -83,10 +83,17 @@ impl PathTable {
         self.paths.find(path)
     }
 
-    /// A guess where a path stands, for `find_guessed`. No path is looked at, so guesses for several paths wait for memory at the same
-    /// time. It takes no memory.
-    pub fn guess(&self, path: &[u32]) -> Guess {
-        self.paths.guess(path)
+    /// The tag of a path in this table, for `guess`. It takes no memory.
+    pub fn tag(&self, path: &[u32]) -> Tag {
+        Tag {
+            tag: self.paths.tag_of(path),
+        }
+    }
+
+    /// A guess where a path of this tag stands, for `find_guessed`. It is one look into memory, on which nothing else here waits, so the
+    /// looks for several paths overlap if they follow one another. It takes no memory.
+    pub fn guess(&self, tag: Tag) -> Guess {
+        self.paths.guess(tag.tag)
     }
 
     /// Where a path stands, if a guess, which may be any, says so. It takes no memory.
