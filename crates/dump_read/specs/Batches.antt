@@ -35,6 +35,11 @@ abbrev pub AreFound : List Counted → Batched → Type 0
 AreFound rows batch =
     (k id : ℕ) (path : List ℕ) → slice_get batch.places k ≡ Some (Some id) → slice_get batch.routes k ≡ Some (Path path) → place_of rows path ≡ Some id
 
+-- where a place is named it is that of the path of the same number
+abbrev pub AreRight : List Counted → List (List ℕ) → List (Option ℕ) → Type 0
+AreRight rows paths places =
+    (k id : ℕ) (path : List ℕ) → slice_get places k ≡ Some (Some id) → slice_get paths k ≡ Some path → place_of rows path ≡ Some id
+
 -- the route of this place was taken in
 abbrev pub TakesAt : Batched → ℕ → (old new : Taken) → Type 0
 TakesAt batch k old new = (route : Cleaned) → slice_get batch.routes k ≡ Some route → take_cleaned old route ≡ Ok new

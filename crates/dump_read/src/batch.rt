@@ -1,11 +1,11 @@
-ghost use Rattle.std.specs.Prelude.{◌≡◌, ◌++◌, ◌∷◌, ◌<◌, ◌≤◌, [], length, map, slice_get, Some, IfSome, OnOk, OnErr, IfErr};
+ghost use Rattle.std.specs.Prelude.{◌≡◌, ◌++◌, ◌∷◌, ◌<◌, ◌≤◌, [], length, slice_get, Some, IfSome, OnOk, OnErr, IfErr};
 ghost use Rattle.path_clean.specs.Clean.{clean_of};
 ghost use Rattle.path_clean.specs.Table.{place_of};
-ghost use Rattle.dump_read.specs.Batches.{AreFound, TakesAt, IsLimitAt, TakesBatch, IsBatchLimit, TakesSomeOfBatch};
+ghost use Rattle.dump_read.specs.Batches.{AreFound, AreRight, TakesAt, IsLimitAt, TakesBatch, IsBatchLimit, TakesSomeOfBatch};
 
 use crate::taking::{Taken, Untaken, take_again, take_path};
 use path_attrs::{Attrs, Width};
-use path_clean::{Cause, PathTable, Sets, clean_into};
+use path_clean::{Cause, Guess, PathTable, Sets, Tag, clean_into};
 use std::alloc::Global;
 use std::marker::Model;
 use tor_arena::{Index, List, NoMemory, PathId, Rows};
@@ -18,7 +18,10 @@ pub(crate) struct Batch {
     causes: Vec<Option<Cause>>,
     // of each route its path
     paths: Rows<PathId, u32>,
-    // of the first routes where their paths stood in the table
+    // of the first routes the tags of their paths, and guesses where these stand in the table
+    tags: List<Tag>,
+    guesses: List<Guess>,
+    // of the first routes where their paths stood in the table, as far as it was guessed
     places: List<Option<PathId>>,
     // the path of the route that is being cleaned
     path: List<u32>,
@@ -42,6 +45,8 @@ impl Batch {
         Batch {
             causes: Vec::new(alloc),
             paths: Rows::new(alloc),
+            tags: List::new(alloc),
+            guesses: List::new(alloc),
             places: List::new(alloc),
             path: List::new(alloc),
         }
@@ -84,7 +89,8 @@ impl Batch {
         Ok(())
     }
 
-    /// Looks the paths of all routes up. There is nothing to gain for a single one.
+    /// Looks the paths of all routes up, as far as a guess tells where they stand: first all guesses are made, then they are tested.
+    /// There is nothing to gain for a single one.
     pub fn look_up(&mut self, table: &PathTable) -> Result<(), NoMemory>
         requires none { self.old.places ≡ [] }
         ensures routes { self.new.routes ≡ self.old.routes }
@@ -93,7 +99,14 @@ impl Batch {
         if self.len() < 2 {
             return Ok(());
         }
-        find_each(table, &self.paths, &mut self.places)
+        tag_each(table, &self.paths, &mut self.tags)?;
+        guess_each(table, self.tags.as_slice(), &mut self.guesses)?;
+        find_each(
+            table,
+            &self.paths,
+            self.guesses.as_slice(),
+            &mut self.places,
+        )
     }
 
     /// Takes in one of the routes. A route that isn't taken changes nothing.
@@ -138,17 +151,45 @@ fn found_at(places: &[Option<PathId>], place: usize) -> Option<PathId>
     }
 }
 
-/// Where each of the paths stands in the table, if it is there.
+/// The tag of each of the paths.
+fn tag_each(
+    table: &PathTable,
+    paths: &Rows<PathId, u32>,
+    tags: &mut List<Tag>,
+) -> Result<(), NoMemory>
+    ensures { OnOk result (length tags.new ≡ length paths.now) }
+{
+    tags.clear();
+    for place in 0..paths.len() {
+        tags.push(table.tag(row_at(paths, place)))?;
+    }
+    Ok(())
+}
+
+/// A guess for each of the tags. These looks into memory follow one another with nothing between them.
+fn guess_each(table: &PathTable, tags: &[Tag], guesses: &mut List<Guess>) -> Result<(), NoMemory>
+    ensures { OnOk result (length guesses.new ≡ length tags.now) }
+{
+    guesses.clear();
+    for place in 0..tags.len() {
+        guesses.push(table.guess(tags[place]))?;
+    }
+    Ok(())
+}
+
+/// Where each of the paths stands in the table, if its guess says so.
 fn find_each(
     table: &PathTable,
     paths: &Rows<PathId, u32>,
+    guesses: &[Guess],
     places: &mut List<Option<PathId>>,
 ) -> Result<(), NoMemory>
     requires none { places.old ≡ [] }
-    ensures { OnOk result (places.new ≡ map (place_of table.now.rows) paths.now) }
+    requires many { length guesses.now ≡ length paths.now }
+    ensures { OnOk result (AreRight table.now.rows paths.now places.new) }
 {
     for place in 0..paths.len() {
-        places.push(table.find(row_at(paths, place)))?;
+        places.push(table.find_guessed(guesses[place], row_at(paths, place)))?;
     }
     Ok(())
 }

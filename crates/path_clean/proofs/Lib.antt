@@ -2,8 +2,11 @@ mod Vectors
 pub mod Distinct
 pub mod Judged
 pub mod MergeLemmas
-pub mod ChainLemmas
 pub mod TableLemmas
 pub mod GraphPaths
 pub mod CountingLemmas
 pub mod RepeatLemmas
+pub mod SlotGets
+pub mod SlotLemmas
+pub mod IndexLemmas
+pub mod AddLemmas

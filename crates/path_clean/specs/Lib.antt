@@ -7,4 +7,5 @@ pub mod Rows
 pub mod Inside
 pub mod Table
 pub mod Chains
+pub mod Slots
 pub mod Repeats

@@ -1,92 +1,143 @@
 ghost use Rattle.std.specs.Prelude.{◌≡◌, ◌≢◌, ◌<◌, ◌≤◌, ◌++◌, ◌∷◌, [], ℕ, length, OnOk, OnErr, IfOk, IfSome, IfNone};
+ghost use Rattle.tor_arena.specs.Limits.{most_places};
 ghost use Rattle.path_clean.specs.Chains.{row_at};
+ghost use Rattle.path_clean.specs.Slots.{tag_of, start_at, IsVacant, IsProbe, Tells};
 
-use crate::chain::{find_row, hash_of, seed_of};
-use indexmap::IndexMap;
+use crate::hashing::{hash_of, seed_of};
+use crate::slots::{Guess, Probe, Slot, free_from, seek, start_of, widened};
 use std::alloc::Global;
 use std::marker::Model;
 use tor_arena::{Index, Keys, NoMemory, PathId, Rows};
 
-/// Paths in the order in which they were added, with an index by hash.
+/// Paths in the order in which they were added, with slots by which they are found.
 #[derive(Drop)]
 pub(crate) struct IndexedPaths {
+    alloc: Global,
     rows: Rows<PathId, u32>,
-    // for each row, where the earlier rows of its hash end
-    older: Vec<u32>,
-    // for each hash, where the rows of that hash end
-    newest: IndexMap<u64, u32>,
-    // with which each hash begins, so that no one can choose paths of one hash
+    // at most half of them are in use
+    slots: Vec<Slot>,
+    // with which each hash begins, so that no one can choose paths of one slot
     seed: u64,
 }
 
 impl Model for IndexedPaths {
-    ghost use Rattle.std.specs.Prelude.{◌≡◌, ◌≤◌, ℕ, List, length};
-    ghost use Rattle.path_clean.specs.Chains.{IsChained, IsIndexed};
+    ghost use Rattle.path_clean.specs.Slots.{Indexed, IsIndexed};
 
-    ghost Value = { List (List ℕ) };
+    ghost Value = { Indexed };
 
-    ghost view = { λ paths. paths.rows };
+    ghost view = { λ paths. record { seed = paths.seed; rows = paths.rows; slots = paths.slots.items } };
 
-    ghost invariant = { λ paths. (length paths.rows ≤ 268435456) × (length paths.older.items ≡ length paths.rows)
-        × IsChained paths.seed paths.rows paths.older.items × IsIndexed paths.seed paths.newest.entries paths.rows };
+    ghost invariant = { λ paths. IsIndexed paths.seed paths.rows paths.slots.items };
 }
 
 impl IndexedPaths {
     /// No paths. It takes no memory.
     pub fn new(alloc: Global, keys: Keys) -> IndexedPaths
-        ensures { result ≡ [] }
+        ensures { result.rows ≡ [] }
     {
         IndexedPaths {
+            alloc,
             rows: Rows::new(alloc),
-            older: Vec::new(alloc),
-            newest: IndexMap::new(alloc),
+            slots: Vec::new(alloc),
             seed: seed_of(keys),
         }
     }
 
     /// The paths in order. It takes no memory.
     pub fn rows(&self) -> &Rows<PathId, u32>
-        ensures { result.now ≡ self.now }
+        ensures { result.now ≡ self.now.rows }
     {
         &self.rows
     }
 
-    /// The paths in order, without the index. It takes no memory.
+    /// The paths in order, without the slots. It takes no memory.
     pub fn into_rows(self) -> Rows<PathId, u32>
-        ensures { result ≡ self }
+        ensures { result ≡ self.rows }
     {
         self.rows
     }
 
-    /// The index of a path. It takes no memory.
-    pub fn find(&self, path: &[u32]) -> Option<PathId>
-        ensures found { IfSome result (λ k. (k < length self.now) × (row_at self.now k ≡ path.now)) }
-        ensures absent { IfNone result ((k : ℕ) → k < length self.now → row_at self.now k ≢ path.now) }
+    /// The tag of a path in this table.
+    pub fn tag_of(&self, path: &[u32]) -> u32
+        ensures { result ≡ tag_of self.now.seed path.now }
     {
-        let older = self.older.as_slice();
-        let place = find_row(&self.rows, older, &self.newest, self.seed, path)?;
-        PathId::from_place(place)
+        (hash_of(self.seed, path) >> 32) as u32
     }
 
-    /// Adds a path, whether it is there or not.
-    pub fn push(&mut self, path: &[u32]) -> Result<PathId, NoMemory>
-        requires { length self.old < 268435456 }
-        ensures ok { OnOk result (self.new ≡ self.old ++ path.now ∷ []) }
-        ensures index { IfOk result (λ id. id ≡ length self.old) }
-        ensures err { OnErr result (self.new ≡ self.old) }
+    /// Searches a path by its tag. It takes no memory.
+    pub fn seek(&self, tag: u32, path: &[u32]) -> Probe
+        requires { tag ≡ tag_of self.now.seed path.now }
+        ensures probe { IsProbe self.now.rows self.now.slots (start_at tag (length self.now.slots)) path.now result }
+        ensures tells { Tells self.now.rows path.now result }
     {
-        let hash = hash_of(self.seed, path);
-        let start = self.newest.get(&hash).copied().unwrap_or(0);
-        self.older.reserve(1)?;
-        self.newest.reserve(1)?;
+        if self.slots.is_empty() {
+            return Probe::Full;
+        }
+        seek(self.slots.as_slice(), &self.rows, tag, path)
+    }
+
+    /// The index of a path. It takes no memory.
+    pub fn find(&self, path: &[u32]) -> Option<PathId>
+        ensures found { IfSome result (λ k. (k < length self.now.rows) × (row_at self.now.rows k ≡ path.now)) }
+        ensures absent { IfNone result ((k : ℕ) → k < length self.now.rows → row_at self.now.rows k ≢ path.now) }
+    {
+        match self.seek(self.tag_of(path), path) {
+            Probe::Held(id) => Some(id),
+            Probe::Free(_) | Probe::Full => None,
+        }
+    }
+
+    /// A guess where a path of this tag stands. No row is looked at, and no memory is taken.
+    pub fn guess(&self, tag: u32) -> Guess {
+        Guess::new(self.slots.as_slice(), tag)
+    }
+
+    /// Adds a path of this tag, where a search for it has ended so. For want of memory the paths stay.
+    pub fn push(&mut self, tag: u32, probe: Probe, path: &[u32]) -> Result<PathId, NoMemory>
+        requires room { length self.old.rows < most_places }
+        requires tag { tag ≡ tag_of self.old.seed path.now }
+        requires probe { IsProbe self.old.rows self.old.slots (start_at tag (length self.old.slots)) path.now probe }
+        ensures ok { OnOk result (self.new.rows ≡ self.old.rows ++ path.now ∷ []) }
+        ensures index { IfOk result (λ id. id ≡ length self.old.rows) }
+        ensures err { OnErr result (self.new.rows ≡ self.old.rows) }
+    {
+        let slot = self.vacancy(tag, probe, path)?;
         let Ok(id) = self.rows.push_row(path) else {
             return Err(NoMemory);
         };
-        let end = id.place() as u32 + 1;
-        self.older.push_reserved(start);
-        match self.newest.insert(hash, end) {
-            Ok(_) => Ok(id),
-            Err(_) => unreachable!(),
+        self.slots[slot] = Slot {
+            tag,
+            row: id.place() as u32 + 1,
+        };
+        Ok(id)
+    }
+
+    // The free slot for a path, where a search for it has ended so. If half of the slots are in use, they are made anew.
+    fn vacancy(&mut self, tag: u32, probe: Probe, path: &[u32]) -> Result<usize, NoMemory>
+        requires probe { IsProbe self.old.rows self.old.slots (start_at tag (length self.old.slots)) path.now probe }
+        ensures rows { self.new.rows ≡ self.old.rows }
+        ensures seed { self.new.seed ≡ self.old.seed }
+        ensures vacant { IfOk result (IsVacant self.new.slots (start_at tag (length self.new.slots))) }
+    {
+        match probe {
+            Probe::Free(slot) if self.rows.len() < self.slots.len() / 2 => Ok(slot),
+            _ => {
+                let count = next_count(self.slots.len());
+                self.slots = widened(self.alloc, self.slots.as_slice(), count)?;
+                let start = start_of(tag, self.slots.len());
+                free_from(self.slots.as_slice(), start).ok_or(NoMemory)
+            }
         }
+    }
+}
+
+/// How many slots there have to be when half of these are in use.
+fn next_count(slots: usize) -> usize
+    ensures { 0 < result }
+{
+    if slots == 0 {
+        1024
+    } else {
+        slots.saturating_mul(2)
     }
 }

@@ -2,13 +2,14 @@
 #![tactic(auto)]
 
 mod asides;
-mod chain;
 mod cleaned;
 mod cleaning;
 mod distinct_rows;
+mod hashing;
 mod laws;
 mod merging;
 mod repeats;
+mod slots;
 mod table;
 
 pub use asides::Asides;
@@ -16,6 +17,7 @@ pub use cleaned::{Cause, Cleaned, Sets, is_cleaned};
 pub use cleaning::{clean, clean_into, is_clean_path};
 pub use laws::{clean_paths_stay, counting, paths_are_clean};
 pub use repeats::first_repeated;
+pub use slots::{Guess, Tag};
 pub use table::{AddRefused, Added, MAX_NUMBERS, MAX_PATHS, PathTable};
 
 #[cfg(test)]

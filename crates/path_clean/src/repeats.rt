@@ -5,7 +5,7 @@ ghost use Rattle.tor_arena.specs.Limits.{most_places};
 ghost use Rattle.path_clean.specs.Chains.{row_at};
 ghost use Rattle.path_clean.specs.Repeats.{Repeats, IsFirstRepeat, bucket, EndsIn, AreLinked, AreNewest};
 
-use crate::chain::{hash_of, row_of, seed_of};
+use crate::hashing::{hash_of, row_of, seed_of};
 use std::alloc::Global;
 use tor_arena::{Keys, NoMemory, PathId, Rows};
 

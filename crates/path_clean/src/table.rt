@@ -1,4 +1,4 @@
-ghost use Rattle.std.specs.Prelude.{◌≡◌, ◌+◌, ◌<◌, ◌≤◌, ◌↔◌, [], All, None, length, option_map, slice_get, sum_by, IsTrue, IsSome, IsOk, IfOk, OnOk, OnErr};
+ghost use Rattle.std.specs.Prelude.{◌≡◌, ◌+◌, ◌<◌, ◌≤◌, ◌↔◌, [], All, Some, None, length, option_map, slice_get, sum_by, IsTrue, IsSome, IfSome, IsOk, IfOk, OnOk, OnErr};
 ghost use Rattle.std.specs.List.{list_all};
 ghost use Rattle.tor_arena.specs.Distinct.{AllDistinct};
 ghost use Rattle.path_clean.specs.Limits.{max_paths, max_numbers};
@@ -7,6 +7,7 @@ ghost use Rattle.path_clean.specs.Rows.{paths_of, times_of, numbers_in, none_twi
 ghost use Rattle.path_clean.specs.Table.{place_of, with_path, Names, IsCounted, IsPathTooMany, HasNumbersTooMany};
 
 use crate::distinct_rows::IndexedPaths;
+use crate::slots::{Guess, Probe, Tag, id_of};
 use std::alloc::Global;
 use std::marker::Model;
 use tor_arena::{Index, Keys, List, PathId, Rows};
@@ -53,9 +54,9 @@ impl Model for PathTable {
 
     ghost Value = { Table };
 
-    ghost view = { λ table. record { limit = table.max_paths; rows = counted_by table.paths table.counts.items } };
+    ghost view = { λ table. record { limit = table.max_paths; rows = counted_by table.paths.rows table.counts.items } };
 
-    ghost invariant = { λ table. IsTable table.max_paths table.numbers table.paths table.counts.items };
+    ghost invariant = { λ table. IsTable table.max_paths table.numbers table.paths.rows table.counts.items };
 }
 
 impl PathTable {
@@ -82,6 +83,35 @@ impl PathTable {
         self.paths.find(path)
     }
 
+    /// The tag of a path in this table, for `guess`. It takes no memory.
+    pub fn tag(&self, path: &[u32]) -> Tag {
+        Tag {
+            tag: self.paths.tag_of(path),
+        }
+    }
+
+    /// A guess where a path of this tag stands, for `find_guessed`. It is one look into memory, on which nothing else here waits, so the
+    /// looks for several paths overlap if they follow one another. It takes no memory.
+    pub fn guess(&self, tag: Tag) -> Guess {
+        self.paths.guess(tag.tag)
+    }
+
+    /// Where a path stands, if a guess, which may be any, says so. It takes no memory.
+    pub fn find_guessed(&self, guess: Guess, path: &[u32]) -> Option<PathId>
+        ensures { IfSome result (λ id. place_of self.now.rows path.now ≡ Some id) }
+    {
+        let row = guess.row();
+        if row == 0 || row as usize > self.counts.len() {
+            return None;
+        }
+        let id = id_of(row);
+        if self.paths.rows().row(id) == path {
+            Some(id)
+        } else {
+            None
+        }
+    }
+
     /// Counts the path of an index, which has to be there, once more: it gains one in its times, up to 2^64 - 1. It takes no memory.
     pub fn count(&mut self, id: PathId)
         requires there { id < length self.old.rows }
@@ -106,25 +136,36 @@ impl PathTable {
         ensures limit { self.new.limit ≡ self.old.limit }
         ensures unchanged { OnErr result (self.new.rows ≡ self.old.rows) }
     {
-        match self.find(path) {
-            Some(id) => {
+        let tag = self.paths.tag_of(path);
+        match self.paths.seek(tag, path) {
+            Probe::Held(id) => {
                 self.count(id);
                 Ok(Added::Known(id))
             }
-            None => Ok(Added::New(self.push(path)?)),
+            probe => {
+                if let Err(refused) = self.check_room(path) {
+                    return Err(refused);
+                }
+                if self.counts.reserve(1).is_err() {
+                    return Err(AddRefused::NoMemory);
+                }
+                let Ok(id) = self.paths.push(tag, probe, path) else {
+                    return Err(AddRefused::NoMemory);
+                };
+                self.counts.push_reserved(1);
+                self.numbers += path.len();
+                Ok(Added::New(id))
+            }
         }
     }
 
-    // Adds a path that is not there.
-    fn push(&mut self, path: &[u32]) -> Result<PathId, AddRefused>
-        requires clean { IsTrue (is_cleaned path.now) }
-        requires new { place_of self.old.rows path.now ≡ None }
-        ensures added { OnOk result (self.new.rows ≡ with_path self.old.rows path.now) }
-        ensures last { IfOk result (λ id. id ≡ length self.old.rows) }
-        ensures paths { (result ≡ Err AddRefused.TooManyPaths) ↔ IsPathTooMany self.old path.now }
-        ensures numbers { (result ≡ Err AddRefused.TooManyNumbers) ↔ HasNumbersTooMany self.old path.now }
-        ensures limit { self.new.limit ≡ self.old.limit }
-        ensures unchanged { OnErr result (self.new.rows ≡ self.old.rows) }
+    // Whether a path that isn't there may be added: fewer are there than may be, and with it they have at most 2^26 numbers in sum.
+    fn check_room(&self, path: &[u32]) -> Result<(), AddRefused>
+        requires new { place_of self.now.rows path.now ≡ None }
+        ensures room { OnOk result (length self.now.rows < self.now.limit) }
+        ensures short { OnOk result (numbers_in self.now.rows + length path.now ≤ max_numbers) }
+        ensures paths { (result ≡ Err AddRefused.TooManyPaths) ↔ IsPathTooMany self.now path.now }
+        ensures numbers { (result ≡ Err AddRefused.TooManyNumbers) ↔ HasNumbersTooMany self.now path.now }
     {
         if self.counts.len() == self.max_paths as usize {
             return Err(AddRefused::TooManyPaths);
@@ -132,15 +173,7 @@ impl PathTable {
         if path.len() > MAX_NUMBERS - self.numbers {
             return Err(AddRefused::TooManyNumbers);
         }
-        if self.counts.reserve(1).is_err() {
-            return Err(AddRefused::NoMemory);
-        }
-        let Ok(id) = self.paths.push(path) else {
-            return Err(AddRefused::NoMemory);
-        };
-        self.counts.push_reserved(1);
-        self.numbers += path.len();
-        Ok(id)
+        Ok(())
     }
 
     /// The paths in order: each is clean, so it has at least two ASes, all distinct; no two are the same, and they are at most

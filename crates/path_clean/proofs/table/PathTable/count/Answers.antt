@@ -8,7 +8,7 @@ use Rattle.path_clean.proofs.table.PathTable.count.Goals as goal
 
 pub index_mut-times-requires : goal.index_mut-times-requires
 index_mut-times-requires c =
-    let seen = seen_as c.self.inside.max_paths c.self.inside.numbers c.self.inside.paths c.self.inside.counts.items c.args.self.now c.self.invariant c.self.view_is in
+    let seen = seen_as c.self.inside.max_paths c.self.inside.numbers c.self.inside.paths.rows c.self.inside.counts.items c.args.self.now c.self.invariant c.self.view_is in
     let rows = seen.rows in
     let there = c.requires in
     let place = c.place.ensures.place in
@@ -16,7 +16,7 @@ index_mut-times-requires c =
 
 pub invariant_of-self : goal.invariant_of-self
 invariant_of-self c =
-    let paths = c.self.inside.paths in
+    let paths = c.self.inside.paths.rows in
     let times = c.self.inside.counts.items in
     let seen = seen_as c.self.inside.max_paths c.self.inside.numbers paths times c.args.self.now c.self.invariant c.self.view_is in
     let rows = seen.rows in
@@ -30,7 +30,7 @@ invariant_of-self c =
 
 pub returns-clause-counted : goal.returns-clause-counted
 returns-clause-counted c =
-    let paths = c.self.inside.paths in
+    let paths = c.self.inside.paths.rows in
     let times = c.self.inside.counts.items in
     let seen = seen_as c.self.inside.max_paths c.self.inside.numbers paths times c.args.self.now c.self.invariant c.self.view_is in
     let rows = seen.rows in

@@ -5,8 +5,8 @@ use Rattle.path_clean.proofs.table.PathTable.into_rows.Goals as goal
 
 pub returns-clause-paths : goal.returns-clause-paths
 returns-clause-paths c =
-    c.into_rows.ensures ∙ sym (paths_of-counted_by c.self.inside.paths c.self.inside.counts.items c.self.invariant.same) ∙ ap (λ t. paths_of t.rows) c.self.view_is
+    c.into_rows.ensures ∙ sym (paths_of-counted_by c.self.inside.paths.rows c.self.inside.counts.items c.self.invariant.same) ∙ ap (λ t. paths_of t.rows) c.self.view_is
 
 pub returns-clause-times : goal.returns-clause-times
 returns-clause-times c =
-    c.from_vec.ensures ∙ sym (times_of-counted_by c.self.inside.paths c.self.inside.counts.items c.self.invariant.same) ∙ ap (λ t. times_of t.rows) c.self.view_is
+    c.from_vec.ensures ∙ sym (times_of-counted_by c.self.inside.paths.rows c.self.inside.counts.items c.self.invariant.same) ∙ ap (λ t. times_of t.rows) c.self.view_is

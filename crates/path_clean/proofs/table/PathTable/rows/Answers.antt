@@ -9,11 +9,11 @@ use Rattle.path_clean.proofs.table.PathTable.rows.Goals as goal
 
 pub returns-clause-paths : goal.returns-clause-paths
 returns-clause-paths c =
-    c.rows.ensures ∙ sym (paths_of-counted_by c.self.inside.paths c.self.inside.counts.items c.self.invariant.same) ∙ ap (λ t. paths_of t.rows) c.self.view_is
+    c.rows.ensures ∙ sym (paths_of-counted_by c.self.inside.paths.rows c.self.inside.counts.items c.self.invariant.same) ∙ ap (λ t. paths_of t.rows) c.self.view_is
 
 pub returns-clause-numbers : goal.returns-clause-numbers
 returns-clause-numbers c =
-    let sum = numbers_in-counted_by c.self.inside.paths c.self.inside.counts.items c.self.invariant.same in
+    let sum = numbers_in-counted_by c.self.inside.paths.rows c.self.inside.counts.items c.self.invariant.same in
     let seen = ap (λ t. numbers_in t.rows) c.self.view_is in
     let kept = c.self.invariant.sum in
     let short = c.self.invariant.short in
@@ -21,7 +21,7 @@ returns-clause-numbers c =
 
 pub returns-clause-sum : goal.returns-clause-sum
 returns-clause-sum c =
-    ap (sum_by length) c.rows.ensures ∙ sym (numbers_in-counted_by c.self.inside.paths c.self.inside.counts.items c.self.invariant.same) ∙ ap (λ t. numbers_in t.rows) c.self.view_is
+    ap (sum_by length) c.rows.ensures ∙ sym (numbers_in-counted_by c.self.inside.paths.rows c.self.inside.counts.items c.self.invariant.same) ∙ ap (λ t. numbers_in t.rows) c.self.view_is
 
 pub returns-clause-several : goal.returns-clause-several
 returns-clause-several c = several _ (subst (λ paths. IsTrue (list_all is_cleaned paths)) (sym c.rows.ensures) c.self.invariant.clean)
@@ -39,5 +39,5 @@ returns-clause-few c =
 pub returns-clause-seen : goal.returns-clause-seen
 returns-clause-seen c =
     subst (All (λ times. 1 ≤ times))
-    (sym (times_of-counted_by c.self.inside.paths c.self.inside.counts.items c.self.invariant.same) ∙ ap (λ t. times_of t.rows) c.self.view_is)
+    (sym (times_of-counted_by c.self.inside.paths.rows c.self.inside.counts.items c.self.invariant.same) ∙ ap (λ t. times_of t.rows) c.self.view_is)
     (all_some c.self.inside.counts.items c.self.invariant.some)

@@ -5,7 +5,7 @@ use Rattle.path_clean.proofs.table.PathTable.times.Goals as goal
 
 pub index-requires : goal.index-requires
 index-requires c =
-    let many = length-counted_by c.self.inside.paths c.self.inside.counts.items c.self.invariant.same in
+    let many = length-counted_by c.self.inside.paths.rows c.self.inside.counts.items c.self.invariant.same in
     let seen = ap (λ t. length t.rows) c.self.view_is in
     let same = c.self.invariant.same in
     let there = c.requires in
@@ -14,7 +14,7 @@ index-requires c =
 
 pub returns-clause-times : goal.returns-clause-times
 returns-clause-times c =
-    let paths = c.self.inside.paths in
+    let paths = c.self.inside.paths.rows in
     let times = c.self.inside.counts.items in
     let many = length-counted_by paths times c.self.invariant.same in
     let seen = ap (λ t. length t.rows) c.self.view_is in
@@ -29,7 +29,7 @@ returns-clause-times c =
 pub returns-clause-some : goal.returns-clause-some
 returns-clause-some c =
     let times = c.self.inside.counts.items in
-    let many = length-counted_by c.self.inside.paths times c.self.invariant.same in
+    let many = length-counted_by c.self.inside.paths.rows times c.self.invariant.same in
     let seen = ap (λ t. length t.rows) c.self.view_is in
     let same = c.self.invariant.same in
     let there = c.requires in

@@ -1,6 +1,6 @@
 use Rattle.std.proofs.Common.{rules}
 use Rattle.path_clean.specs.Chains.{path_hash}
-use Rattle.path_clean.proofs.chain.hash_of.Goals as goal
+use Rattle.path_clean.proofs.hashing.hash_of.Goals as goal
 
 pub returns : goal.returns
 unfolding path_hash

@@ -1,0 +1,103 @@
+-- Rows that are found by slots: each stands in a slot that the tag of its hash names, or in one of the next, before any that is free.
+use Rattle.std.specs.Prelude.{◌≡◌, ◌≢◌, ◌<◌, ◌⊎◌, ℕ, zero, suc, ◌+◌, ◌-◌, ◌/◌, ◌^◌, ◌≤◌, nat_lt, if◌then◌else◌, List, length, Option, Some, None, slice_get, bit_and}
+use Rattle.tor_arena.specs.Limits.{most_places}
+use Rattle.path_clean.specs.Chains.{path_hash, row_at}
+use Rattle.path_clean.specs.declared.slots.Slot.{Slot}
+use Rattle.path_clean.specs.declared.slots.Probe.{Probe}
+use Rattle.path_clean.specs.declared.slots.Probe.TheVariants.{Held, Free, Full}
+
+-- the upper half of the hash of a path
+abbrev pub tag_of : (seed : ℕ) (path : List ℕ) → ℕ
+tag_of seed path = path_hash seed path / 2 ^ 32
+
+-- the slot, of so many, at which the search for a row of this tag begins
+abbrev pub start_at : (tag count : ℕ) → ℕ
+start_at tag count = bit_and tag (count - 1)
+
+-- the slot behind one, which is the first behind the last
+abbrev pub next_slot : (count slot : ℕ) → ℕ
+next_slot count slot = if nat_lt (slot + 1) count then slot + 1 else 0
+
+-- the row whose place, from 1, is this number; 0 is the place of none
+abbrev pub row_from_one : List (List ℕ) → ℕ → Option (List ℕ)
+row_from_one rows zero = None
+row_from_one rows (suc k) = slice_get rows k
+
+-- the slot in this place names the path
+abbrev pub Names : (rows : List (List ℕ)) (slots : List Slot) (place : ℕ) (path : List ℕ) → Type 0
+Names rows slots place path = (slot : Slot) × (slice_get slots place ≡ Some slot) × (row_from_one rows slot.row ≡ Some path)
+
+-- the slot in this place names nothing
+abbrev pub IsFree : List Slot → ℕ → Type 0
+IsFree slots place = (slot : Slot) × (slice_get slots place ≡ Some slot) × (slot.row ≡ 0)
+
+-- the path is named in the slot of this place or in one of the next, before any that is free, and among so many
+abbrev pub HeldFrom : (rows : List (List ℕ)) (slots : List Slot) (path : List ℕ) (place many : ℕ) → Type 0
+HeldFrom rows slots path place zero = ⊥
+HeldFrom rows slots path place (suc n) =
+    Names rows slots place path ⊎ ((IsFree slots place → ⊥) × HeldFrom rows slots path (next_slot (length slots) place) n)
+
+-- no slot is made free
+abbrev pub StaysUsed : (old new : List Slot) → Type 0
+StaysUsed old new = (place : ℕ) → IsFree new place → IsFree old place
+
+-- a search comes from the start to the place, so that a path is found if the slot there is made to name it
+abbrev pub LeadsTo : (slots : List Slot) (start place : ℕ) → Type 0
+LeadsTo slots start place = (rows : List (List ℕ)) (path : List ℕ) (new : List Slot) → length new ≡ length slots →
+    StaysUsed slots new → Names rows new place path → HeldFrom rows new path start (length slots)
+
+-- a free slot to which a search comes from the start
+pub record IsVacant (slots : List Slot) (start place : ℕ) : Type 0 where
+  pub free : IsFree slots place
+  pub leads : LeadsTo slots start place
+
+-- where a search from the start ends: in the slot of a row that is the path, in a free one, or nowhere
+abbrev pub IsProbe : (rows : List (List ℕ)) (slots : List Slot) (start : ℕ) (path : List ℕ) → Probe → Type 0
+IsProbe rows slots start path (Held id) = slice_get rows id ≡ Some path
+IsProbe rows slots start path (Free place) = IsVacant slots start place × (HeldFrom rows slots path start (length slots) → ⊥)
+IsProbe rows slots start path Full = HeldFrom rows slots path start (length slots) → ⊥
+
+-- no row is the path
+abbrev pub IsAbsent : (rows : List (List ℕ)) (path : List ℕ) → Type 0
+IsAbsent rows path = (k : ℕ) → k < length rows → row_at rows k ≢ path
+
+-- what the end of a search tells: at which row the path is, or that it is at none
+abbrev pub Tells : (rows : List (List ℕ)) (path : List ℕ) → Probe → Type 0
+Tells rows path (Held id) = (id < length rows) × (row_at rows id ≡ path)
+Tells rows path (Free place) = IsAbsent rows path
+Tells rows path Full = IsAbsent rows path
+
+-- the slots name no rows but those that there are
+abbrev pub AreWithin : (count : ℕ) → List Slot → Type 0
+AreWithin count slots = (place : ℕ) (slot : Slot) → slice_get slots place ≡ Some slot → slot.row ≤ count
+
+-- whatever slot names the path has this tag
+abbrev pub IsTold : (rows : List (List ℕ)) (slots : List Slot) (tag : ℕ) (path : List ℕ) → Type 0
+IsTold rows slots tag path =
+    (place : ℕ) (slot : Slot) → slice_get slots place ≡ Some slot → row_from_one rows slot.row ≡ Some path → slot.tag ≡ tag
+
+-- each row is found, and the tags are those of the rows
+pub record IsIndexed (seed : ℕ) (rows : List (List ℕ)) (slots : List Slot) : Type 0 where
+  pub each : (k : ℕ) (path : List ℕ) → slice_get rows k ≡ Some path →
+      HeldFrom rows slots path (start_at (tag_of seed path) (length slots)) (length slots)
+  pub told : (path : List ℕ) → IsTold rows slots (tag_of seed path) path
+  pub within : AreWithin (length rows) slots
+  pub few : length rows ≤ most_places
+
+-- paths, and the slots by which they are found
+pub record Indexed : Type 0 where
+  pub seed : ℕ
+  pub rows : List (List ℕ)
+  pub slots : List Slot
+
+-- what was in the slots is found as before, and what this slot names is found too
+pub record IsPut (slot : Slot) (old new : List Slot) : Type 0 where
+  pub many : length new ≡ length old
+  pub kept : (rows : List (List ℕ)) (path : List ℕ) (start n : ℕ) → HeldFrom rows old path start n → HeldFrom rows new path start n
+  pub there : (rows : List (List ℕ)) (path : List ℕ) → row_from_one rows slot.row ≡ Some path →
+      HeldFrom rows new path (start_at slot.tag (length new)) (length new)
+  pub only : (place : ℕ) (s : Slot) → slice_get new place ≡ Some s → (slice_get old place ≡ Some s) ⊎ (s ≡ slot)
+
+-- whatever rows are found by the old slots are found by the new ones
+abbrev pub KeepsAll : (old new : List Slot) → Type 0
+KeepsAll old new = (seed : ℕ) (rows : List (List ℕ)) → IsIndexed seed rows old → IsIndexed seed rows new
