@@ -1,8 +1,9 @@
 //! Whether the closures of open lines are consistent.
 
-ghost use Rattle.std.specs.Prelude.{◌≡◌, ◌<◌, ◌≤◌, ◌↔◌, ℕ, length, All, Any, IsTrue, Some, OnOk, IfOk};
-ghost use Rattle.rel_checker.specs.Neighbours.{HasNext, IsInside};
-ghost use Rattle.rel_checker.specs.Searching.{IsVisited};
+ghost use Rattle.std.specs.Prelude.{◌≡◌, ◌<◌, ◌≤◌, ◌↔◌, ℕ, length, All, Any, IsTrue, IsSome, Some, OnOk, IfOk};
+ghost use Rattle.rel_checker.specs.Neighbours.{HasNext, IsInside, IsMutual};
+ghost use Rattle.rel_checker.specs.Searching.{IsVisited, IsSearched};
+ghost use Rattle.rel_checker.specs.Batches.{IsAgreeing, IsBatch};
 ghost use Rattle.rel_checker.specs.Serving.{CanFlip, IsLaidOut, First, GainsAt, ServesAt};
 
 use crate::edge_table::EdgeTable;
@@ -52,29 +53,66 @@ fn has_clash(
     found.iter().any(|edge| conflicts_visited(conflicting, rounds, round, *edge))
 }
 
-/// Whether the order of an open line is one against a label, and its closure is consistent.
-fn is_consistent(
-    file: &ResultFile,
-    table: &EdgeTable,
+/// Adds what follows from an edge to a batch. Answers whether still none of its edges conflicts
+/// with another.
+fn join(
     flips: &Flips,
-    probe: &Probe,
+    start: EdgeId,
     round: usize,
     rounds: &mut Arena<EdgeId, usize>,
     found: &mut List<EdgeId>,
 ) -> Result<bool, NoMemory>
+    requires start { start < length flips.now.implied }
+    requires many { length rounds.old.items ≡ length flips.now.implied }
+    requires same { length flips.now.conflicting ≡ length flips.now.implied }
+    requires inside { IsInside flips.now.implied }
+    requires conflicts { IsInside flips.now.conflicting }
+    requires both_ways { IsMutual flips.now.conflicting }
+    requires batch { IsBatch flips.now.implied flips.now.conflicting rounds.old.items round }
+    ensures searched { OnOk result (IsSearched flips.now.implied start round rounds.old.items rounds.new.items found.new) }
+    ensures agreeing { IfOk result (λ agrees. IsTrue agrees ↔ IsAgreeing flips.now.conflicting rounds.new.items round) }
+{
+    reach(&flips.implied, start, round, rounds, found)?;
+    Ok(!has_clash(&flips.conflicting, rounds, round, found.as_slice()))
+}
+
+/// The batch that has what follows from an open line beside what it had: the one of this number,
+/// or, where these conflict, a new one. None if the order is against no label, or its closure is
+/// not consistent.
+fn batch_with(
+    file: &ResultFile,
+    table: &EdgeTable,
+    flips: &Flips,
+    probe: &Probe,
+    batch: usize,
+    next: usize,
+    rounds: &mut Arena<EdgeId, usize>,
+    found: &mut List<EdgeId>,
+) -> Result<Option<usize>, NoMemory>
     requires laid { IsLaidOut file.now table.now flips.now.implied flips.now.conflicting }
     requires many { length rounds.old.items ≡ length file.now.edges }
-    requires below { All (λ m. m < round) rounds.old.items }
+    requires batch { IsBatch flips.now.implied flips.now.conflicting rounds.old.items batch }
+    requires later { batch ≤ next }
+    requires alone { batch ≡ next → All (λ m. m < next) rounds.old.items }
     ensures many { OnOk result (length rounds.new.items ≡ length file.now.edges) }
-    ensures below { OnOk result (All (λ m. m ≤ round) rounds.new.items) }
-    ensures consistent { IfOk result (λ consistent. IsTrue consistent ↔ CanFlip file.now (probe.now.over, probe.now.under)) }
+    ensures batch { IfOk result (λ joined. (b : ℕ) → joined ≡ Some b →
+        (b ≤ next) × IsBatch flips.now.implied flips.now.conflicting rounds.new.items b) }
+    ensures consistent { IfOk result (λ joined. IsSome joined ↔ CanFlip file.now (probe.now.over, probe.now.under)) }
 {
     let lines = file.edges.as_slice();
     let Some(start) = start_of(lines, table, probe) else {
-        return Ok(false);
+        return Ok(None);
     };
-    reach(&flips.implied, start, round, rounds, found)?;
-    Ok(!has_clash(&flips.conflicting, rounds, round, found.as_slice()))
+    if join(flips, start, batch, rounds, found)? {
+        return Ok(Some(batch));
+    }
+    if batch == next {
+        return Ok(None);
+    }
+    if join(flips, start, next, rounds, found)? {
+        return Ok(Some(next));
+    }
+    Ok(None)
 }
 
 /// Whether it is this place.
@@ -103,12 +141,14 @@ pub(crate) fn find_useless(
     let mut rounds = Arena::new(alloc);
     rounds.push_copies(0, file.edges.len())?;
     let mut found = List::new(alloc);
+    let mut batch = 1;
     for (k, probe) in file.probes.as_slice().iter().enumerate() {
         if is_place(idle, k) {
             return Ok(Some(k));
         }
-        if !is_consistent(file, table, flips, probe, k + 1, &mut rounds, &mut found)? {
-            return Ok(Some(k));
+        match batch_with(file, table, flips, probe, batch, k + 1, &mut rounds, &mut found)? {
+            Some(joined) => batch = joined,
+            None => return Ok(Some(k)),
         }
     }
     Ok(None)
