@@ -1,5 +1,5 @@
 -- Consistency by batches: what a search adds to a batch, and what it says of a closure whether the batch still agrees.
-use Rattle.std.proofs.Common.{◌≡◌, ◌↔◌, inl, inr, ℕ, ◌<◌, ◌≤◌, Bool, false, not, IsTrue, List, get_or, sym, ap, ◌∙◌, arith, All, Any, Contains}
+use Rattle.std.proofs.Common.{◌≡◌, ◌↔◌, inl, inr, ℕ, ◌<◌, ◌≤◌, Bool, false, not, IsTrue, List, get_or, sym, ap, ◌∙◌, arith, All, Any}
 use Rattle.std.proofs.lemmas.Bool.{false≢true, cases_Bool, cases_lt}
 use Rattle.std.proofs.lemmas.Option.{slice_get-get_or}
 use Rattle.relationships.specs.Evidence.{IsTriple, IsConsistent}
@@ -54,11 +54,11 @@ pub agreeing_exactly : (implied conflicting : List (List ℕ)) (start round : �
     IsSearched implied start round old new found → IsTrue clash ↔ Any (λ i. (j : ℕ) × HasNext conflicting i j × IsVisited new round j) found →
     IsTrue (not clash) ↔ IsAgreeing conflicting new round
 agreeing_exactly implied conflicting start round old new found clash both agreeing reach exact = (
-    λ t i j vi vj n. was t i j vi vj n (λ oi. was t j i vj vi (both i j n) (λ oj. agreeing i j oi oj n)),
-    λ agrees. elim (cases_Bool clash) [
-      | inl t ↦ (let w = exact.0 t in absurd (agrees w.1 w.4.0 ((reach.noted w.1).0 (w.0, w.2, w.3)).0 w.4.2 w.4.1))
-      | inr f ↦ ap not f
-    ],
+  λ t i j vi vj n. was t i j vi vj n (λ oi. was t j i vj vi (both i j n) (λ oj. agreeing i j oi oj n)),
+  λ agrees. elim (cases_Bool clash) [
+    | inl t ↦ (let w = exact.0 t in absurd (agrees w.1 w.4.0 ((reach.noted w.1).0 (w.0, w.2, w.3)).0 w.4.2 w.4.1))
+    | inr f ↦ ap not f
+  ],
 )
   where
     no_clash : IsTrue (not clash) → clash ≡ false

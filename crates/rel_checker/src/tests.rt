@@ -99,11 +99,7 @@ fn expect_answer(
 fn open_lines_that_rule_each_other_out(rt: HostRuntime) -> Result<(), Fail> {
     expect_answer(&rt, EACH_FOR_ITSELF, Answer::Yes)?;
     expect_answer(&rt, SECOND_FAILS, Answer::No { line: 22, rule: 9 })?;
-    expect_answer(
-        &rt,
-        SECOND_AND_THIRD_FAIL,
-        Answer::No { line: 30, rule: 9 },
-    )
+    expect_answer(&rt, SECOND_AND_THIRD_FAIL, Answer::No { line: 30, rule: 9 })
 }
 
 #[test]

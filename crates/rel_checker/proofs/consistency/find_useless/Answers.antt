@@ -1,5 +1,4 @@
 use Rattle.std.proofs.Common.{◌<◌, length, ap, arith}
-use Rattle.std.specs.Option.{is_some}
 use Rattle.std.proofs.lemmas.Bool.{both_ways}
 use Rattle.rel_checker.specs.Serving.{ServesAt}
 use Rattle.rel_checker.proofs.Gets.{read_of}
@@ -11,13 +10,13 @@ returns-then-is_place c =
     let h = idle_fails c.args.file.now (length c.args.file.now.probes) c.loop-k.k c.args.idle c.requires.idle (c.is_place.ensures.0 c.if-is_place.true) in
     (h.0, h.1, c.loop-k.invariant.serve)
 
-pub returns-in-None : goal.returns-in-None
-returns-in-None c =
+pub returns-then-not-branch : goal.returns-then-not-branch
+returns-then-not-branch c =
     let file = c.args.file.now in
     let at = read_of c.as_slice-probe-items.result.now file.probes c.loop-k.k _ c.as_slice-probe-items.ensures c.loop-k-test.true in (
       omega (arith, c.loop-k-test.true, ap length c.as_slice-probe-items.ensures),
       fails_here file c.args.flips.now.implied c.args.flips.now.conflicting c.requires.laid.built c.requires.laid.proper c.requires.laid.settled c.loop-k.k _ at
-          (λ h. both_ways (is_some c.in_ok-joined.field-0) (ap is_some c.in-None.is) (c.in_ok-joined.ensures.consistent.1 h)),
+          (λ h. both_ways c.in_ok-take_in.field-0 c.if-not-branch.true (c.in_ok-take_in.ensures.consistent.1 h)),
       c.loop-k.invariant.serve,
     )
 
@@ -28,13 +27,13 @@ loop-k-preserved c =
     let within : k < length file.probes = omega (arith, c.loop-k-test.true, ap length c.as_slice-probe-items.ensures) in
     let at = read_of c.as_slice-probe-items.result.now file.probes k _ c.as_slice-probe-items.ensures c.loop-k-test.true in
     let gains = gains_here file (length file.probes) k c.args.idle c.requires.idle (λ e. both_ways c.is_place.result c.if-is_place.false (c.is_place.ensures.1 e)) within c.loop-k.invariant.serve in
-    let consistent = (c.in_ok-joined.ensures.consistent.0 (ap is_some c.in-Some.is)).1 in
-    let joined = c.in_ok-joined.ensures.batch c.in-Some.joined c.in-Some.is in
+    let taken = c.in_ok-take_in.ensures in
+    let consistent = (taken.consistent.0 c.if-not-branch.false).1 in
     record {
-      many = c.in_ok-joined.ensures.many;
-      batch = joined.1;
-      within = (let le = joined.0 in omega arith);
-      alone = λ e. (let le = joined.0 in absurd (omega arith));
+      many = taken.many;
+      batch = taken.batch c.if-not-branch.false;
+      within = (let le = taken.later in omega arith);
+      alone = λ e. (let le = taken.later in absurd (omega arith));
       serve = below_and (ServesAt file) k c.loop-k.invariant.serve (serves_here file k _ at gains consistent);
     }
 

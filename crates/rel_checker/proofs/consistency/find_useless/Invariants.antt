@@ -5,9 +5,9 @@ use Rattle.rel_checker.proofs.consistency.find_useless.Given as goal
 
 abbrev pub invariant-loop-k : goal.invariant-loop-k
 invariant-loop-k l = record {
-  many : length l.rounds.items ≡ length l.file.edges;
-  batch : IsBatch l.flips.implied l.flips.conflicting l.rounds.items l.batch;
-  within : l.batch ≤ l.k + 1;
-  alone : l.batch ≡ l.k + 1 → All (λ m. m < l.k + 1) l.rounds.items;
+  many : length l.batch.rounds.items ≡ length l.file.edges;
+  batch : IsBatch l.flips.implied l.flips.conflicting l.batch.rounds.items l.batch.round;
+  within : l.batch.round ≤ l.k + 1;
+  alone : l.batch.round ≡ l.k + 1 → All (λ m. m < l.k + 1) l.batch.rounds.items;
   serve : (j : ℕ) → j < l.k → ServesAt l.file j;
 }

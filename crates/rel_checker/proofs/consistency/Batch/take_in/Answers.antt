@@ -1,12 +1,11 @@
-use Rattle.std.proofs.Common.{rules, ◌≡◌, ◌<◌, ◌≤◌,  refl, sym, subst, arith, All}
+use Rattle.std.proofs.Common.{rules, ◌≡◌, ◌<◌, refl, sym, subst, All}
 use Rattle.std.proofs.lemmas.Bool.{false≢true, both_ways}
-use Rattle.std.proofs.lemmas.Option.{same_Some}
 use Rattle.relationships.specs.Evidence.{IsTriple}
 use Rattle.rel_checker.specs.Batches.{IsBatch}
 use Rattle.rel_checker.specs.Flipping.{flipped_orders, kept_lines}
 use Rattle.rel_checker.proofs.Buildings.{inside_implied, inside_conflicting, flipping_within}
 use Rattle.rel_checker.proofs.Consistencies.{batch-none, batch-more, unused-next, mutual_conflicts, consistent_within, agreeing_alone}
-use Rattle.rel_checker.proofs.consistency.batch_with.Goals as goal
+use Rattle.rel_checker.proofs.consistency.Batch.take_in.Goals as goal
 
 pub returns-in_default-clause-consistent : goal.returns-in_default-clause-consistent
 returns-in_default-clause-consistent c =
@@ -34,37 +33,43 @@ join-requires-clause-both_ways c =
     mutual_conflicts (flipped_orders c.args.file.now.edges) (kept_lines c.args.file.now.paths) c.args.flips.now.implied c.args.flips.now.conflicting c.requires.laid.built
 
 pub returns-then-branch-clause-batch : goal.returns-then-branch-clause-batch
-returns-then-branch-clause-batch c = λ b e.
+returns-then-branch-clause-batch c = λ t.
     let implied = c.args.flips.now.implied in
     let conflicting = c.args.flips.now.conflicting in
-    let rounds = c.join.new.rounds.items in
-    let more = batch-more implied conflicting c.in-Some.start c.args.batch c.args.rounds.now.items rounds c.join.new.found c.requires.batch c.in_ok-join.ensures.searched
-    (c.in_ok-join.ensures.agreeing.0 c.if-branch.true) in
-    subst (λ n. (n ≤ c.args.next) × IsBatch implied conflicting rounds n) (same_Some c.args.batch b e) (c.requires.later, more)
+    let rounds = c.join.new.self.rounds.items in
+    subst (IsBatch implied conflicting rounds) (sym c.in_ok-join.ensures.round)
+    (batch-more implied conflicting c.in-Some.start c.args.self.now.round c.args.self.now.rounds.items rounds c.join.new.self.found c.requires.batch c.in_ok-join.ensures.searched
+    (c.in_ok-join.ensures.agreeing.0 c.if-branch.true))
 
 pub returns-then-branch-clause-consistent : goal.returns-then-branch-clause-consistent
 returns-then-branch-clause-consistent c =
     let flips = rw c.as_slice-lines.ensures at c.in-Some.ensures in (
       λ t. consistent_within (flipped_orders c.args.file.now.edges) (kept_lines c.args.file.now.paths) c.args.flips.now.implied c.args.flips.now.conflicting c.requires.laid.built
-          c.requires.laid.proper c.requires.laid.settled c.in-Some.start c.args.probe.now.over c.args.probe.now.under c.args.batch c.args.rounds.now.items c.join.new.rounds.items c.join.new.found
+          c.requires.laid.proper c.requires.laid.settled c.in-Some.start c.args.probe.now.over c.args.probe.now.under c.args.self.now.round c.args.self.now.rounds.items c.join.new.self.rounds.items c.join.new.self.found
           flips c.in_ok-join.ensures.searched (c.in_ok-join.ensures.agreeing.0 c.if-branch.true),
       λ h. refl,
     )
 
 -- ---- where it is the line's own
 
-pub returns-then-batch-next-clause-consistent : goal.returns-then-batch-next-clause-consistent
-returns-then-batch-next-clause-consistent c =
+pub returns-then-self-next-clause-consistent : goal.returns-then-self-next-clause-consistent
+returns-then-self-next-clause-consistent c =
     let flips = rw c.as_slice-lines.ensures at c.in-Some.ensures in
-    let same : c.args.batch ≡ c.args.next = search rules in
-    let below : All (λ m. m < c.args.batch) c.args.rounds.now.items = subst (λ n. All (λ m. m < n) c.args.rounds.now.items) (sym same) (c.requires.alone same) in (
+    let same : c.args.self.now.round ≡ c.args.next = search rules in
+    let below : All (λ m. m < c.args.self.now.round) c.args.self.now.rounds.items = subst (λ n. All (λ m. m < n) c.args.self.now.rounds.items) (sym same) (c.requires.alone same) in (
       λ t. absurd (false≢true t),
       λ h. absurd (both_ways c.in_ok-join.field-0 c.if-branch.false (c.in_ok-join.ensures.agreeing.1 (agreeing_alone (flipped_orders c.args.file.now.edges) (kept_lines c.args.file.now.paths)
           c.args.flips.now.implied c.args.flips.now.conflicting c.requires.laid.built c.requires.laid.proper c.requires.laid.settled c.in-Some.start c.args.probe.now.over c.args.probe.now.under
-          c.args.batch c.args.rounds.now.items c.join.new.rounds.items c.join.new.found flips below c.in_ok-join.ensures.searched h.1))),
+          c.args.self.now.round c.args.self.now.rounds.items c.join.new.self.rounds.items c.join.new.self.found flips below c.in_ok-join.ensures.searched h.1))),
     )
 
 -- ---- a new batch
+
+pub join-requires-2-clause-start : goal.join-requires-2-clause-start
+join-requires-2-clause-start c =
+    flipping_within (flipped_orders c.args.file.now.edges) (IsTriple (kept_lines c.args.file.now.paths)) c.args.flips.now.implied c.args.flips.now.conflicting c.in-Some.start
+    c.args.probe.now.over c.args.probe.now.under
+    c.requires.laid.built (rw c.as_slice-lines.ensures at c.in-Some.ensures)
 
 pub join-requires-2-clause-inside : goal.join-requires-2-clause-inside
 join-requires-2-clause-inside c =
@@ -80,41 +85,34 @@ join-requires-2-clause-both_ways c =
 
 pub join-requires-2-clause-batch : goal.join-requires-2-clause-batch
 join-requires-2-clause-batch c =
-    let differ : c.args.batch ≡ c.args.next → ⊥ = search rules in
-    batch-none c.args.flips.now.implied c.args.flips.now.conflicting c.join.new.rounds.items c.args.next
-    (unused-next c.args.flips.now.implied c.in-Some.start c.args.batch c.args.next c.args.rounds.now.items c.join.new.rounds.items c.join.new.found c.requires.later differ
+    let differ : c.args.self.now.round ≡ c.args.next → ⊥ = search rules in
+    batch-none c.args.flips.now.implied c.args.flips.now.conflicting c.join.new.self.rounds.items c.args.next
+    (unused-next c.args.flips.now.implied c.in-Some.start c.args.self.now.round c.args.next c.args.self.now.rounds.items c.join.new.self.rounds.items c.join.new.self.found c.requires.later differ
     c.requires.batch.latest c.in_ok-join.ensures.searched)
 
-pub returns-then-branch-2-clause-batch : goal.returns-then-branch-2-clause-batch
-returns-then-branch-2-clause-batch c = λ b e.
+pub returns-clause-batch : goal.returns-clause-batch
+returns-clause-batch c = λ t.
     let implied = c.args.flips.now.implied in
     let conflicting = c.args.flips.now.conflicting in
-    let rounds = c.join-2.new.rounds.items in
-    let differ : c.args.batch ≡ c.args.next → ⊥ = search rules in
-    let begun = batch-none implied conflicting c.join.new.rounds.items c.args.next
-    (unused-next implied c.in-Some.start c.args.batch c.args.next c.args.rounds.now.items c.join.new.rounds.items c.join.new.found c.requires.later differ c.requires.batch.latest
-    c.in_ok-join.ensures.searched) in
-    let more = batch-more implied conflicting c.in-Some.start c.args.next c.join.new.rounds.items rounds c.join-2.new.found begun
-    c.in_ok-join-2.ensures.searched (c.in_ok-join-2.ensures.agreeing.0 c.if-branch-2.true) in
-    subst (λ n. (n ≤ c.args.next) × IsBatch implied conflicting rounds n) (same_Some c.args.next b e) (omega arith, more)
-
-pub returns-then-branch-2-clause-consistent : goal.returns-then-branch-2-clause-consistent
-returns-then-branch-2-clause-consistent c =
-    let flips = rw c.as_slice-lines.ensures at c.in-Some.ensures in (
-      λ t. consistent_within (flipped_orders c.args.file.now.edges) (kept_lines c.args.file.now.paths) c.args.flips.now.implied c.args.flips.now.conflicting c.requires.laid.built
-          c.requires.laid.proper c.requires.laid.settled c.in-Some.start c.args.probe.now.over c.args.probe.now.under c.args.next c.join.new.rounds.items c.join-2.new.rounds.items
-          c.join-2.new.found flips c.in_ok-join-2.ensures.searched (c.in_ok-join-2.ensures.agreeing.0 c.if-branch-2.true),
-      λ h. refl,
-    )
+    let rounds = c.join-2.new.self.rounds.items in
+    let differ : c.args.self.now.round ≡ c.args.next → ⊥ = search rules in
+    let begun = batch-none implied conflicting c.join.new.self.rounds.items c.args.next
+    (unused-next implied c.in-Some.start c.args.self.now.round c.args.next c.args.self.now.rounds.items c.join.new.self.rounds.items c.join.new.self.found c.requires.later differ
+    c.requires.batch.latest c.in_ok-join.ensures.searched) in
+    subst (IsBatch implied conflicting rounds) (sym c.in_ok-agrees.ensures.round)
+    (batch-more implied conflicting c.in-Some.start c.args.next c.join.new.self.rounds.items rounds c.join-2.new.self.found begun c.in_ok-agrees.ensures.searched
+    (c.in_ok-agrees.ensures.agreeing.0 t))
 
 pub returns-clause-consistent : goal.returns-clause-consistent
 returns-clause-consistent c =
     let flips = rw c.as_slice-lines.ensures at c.in-Some.ensures in
-    let differ : c.args.batch ≡ c.args.next → ⊥ = search rules in
-    let below = unused-next c.args.flips.now.implied c.in-Some.start c.args.batch c.args.next c.args.rounds.now.items c.join.new.rounds.items c.join.new.found c.requires.later differ
-    c.requires.batch.latest c.in_ok-join.ensures.searched in (
-      λ t. absurd (false≢true t),
-      λ h. absurd (both_ways c.in_ok-join-2.field-0 c.if-branch-2.false (c.in_ok-join-2.ensures.agreeing.1 (agreeing_alone (flipped_orders c.args.file.now.edges)
-          (kept_lines c.args.file.now.paths) c.args.flips.now.implied c.args.flips.now.conflicting c.requires.laid.built c.requires.laid.proper c.requires.laid.settled c.in-Some.start
-          c.args.probe.now.over c.args.probe.now.under c.args.next c.join.new.rounds.items c.join-2.new.rounds.items c.join-2.new.found flips below c.in_ok-join-2.ensures.searched h.1))),
+    let differ : c.args.self.now.round ≡ c.args.next → ⊥ = search rules in
+    let below = unused-next c.args.flips.now.implied c.in-Some.start c.args.self.now.round c.args.next c.args.self.now.rounds.items c.join.new.self.rounds.items c.join.new.self.found
+    c.requires.later differ c.requires.batch.latest c.in_ok-join.ensures.searched in (
+      λ t. consistent_within (flipped_orders c.args.file.now.edges) (kept_lines c.args.file.now.paths) c.args.flips.now.implied c.args.flips.now.conflicting c.requires.laid.built
+          c.requires.laid.proper c.requires.laid.settled c.in-Some.start c.args.probe.now.over c.args.probe.now.under c.args.next c.join.new.self.rounds.items c.join-2.new.self.rounds.items
+          c.join-2.new.self.found flips c.in_ok-agrees.ensures.searched (c.in_ok-agrees.ensures.agreeing.0 t),
+      λ h. c.in_ok-agrees.ensures.agreeing.1 (agreeing_alone (flipped_orders c.args.file.now.edges) (kept_lines c.args.file.now.paths) c.args.flips.now.implied c.args.flips.now.conflicting
+          c.requires.laid.built c.requires.laid.proper c.requires.laid.settled c.in-Some.start c.args.probe.now.over c.args.probe.now.under c.args.next c.join.new.self.rounds.items
+          c.join-2.new.self.rounds.items c.join-2.new.self.found flips below c.in_ok-agrees.ensures.searched h.1),
     )
