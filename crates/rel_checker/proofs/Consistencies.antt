@@ -1,54 +1,93 @@
--- Consistency by a search: a round that no edge bears yet, and the edges that conflict with one another.
-use Rattle.std.proofs.Common.{◌≡◌, ◌↔◌, inl, inr, ℕ, ◌<◌, ◌≤◌, Bool, false, not, IsTrue, List, get_or, sym, ap, ◌∙◌, arith, All, Any, Contains}
-use Rattle.std.proofs.lemmas.Bool.{false≢true, cases_Bool}
+-- Consistency by batches: what a search adds to a batch, and what it says of a closure whether the batch still agrees.
+use Rattle.std.proofs.Common.{◌≡◌, ◌↔◌, inl, inr, ℕ, ◌<◌, ◌≤◌, Bool, false, not, IsTrue, List, get_or, sym, ap, ◌∙◌, arith, All, Any}
+use Rattle.std.proofs.lemmas.Bool.{false≢true, cases_Bool, cases_lt}
 use Rattle.std.proofs.lemmas.Option.{slice_get-get_or}
 use Rattle.relationships.specs.Evidence.{IsTriple, IsConsistent}
-use Rattle.rel_checker.specs.Neighbours.{HasNext, Reaches}
-use Rattle.rel_checker.specs.Searching.{IsVisited, IsClosed, IsSearched}
+use Rattle.relationships.proofs.Closures.{reversed_triple}
+use Rattle.rel_checker.specs.Batches.{IsAgreeing, IsBatch}
+use Rattle.rel_checker.specs.Neighbours.{HasNext, IsMutual, Reaches}
+use Rattle.rel_checker.specs.Searching.{IsVisited, IsSearched}
 use Rattle.rel_checker.specs.Flipping.{IsFlipped, FlipsTo, IsBuilt, IsProper, IsSettled}
 use Rattle.rel_checker.proofs.Gets.{All-get}
+use Rattle.rel_checker.proofs.Rounds.{closed-reach}
 use Rattle.rel_checker.proofs.Servings.{Any-from}
 use Rattle.rel_checker.proofs.Flippings.{consistent_exactly}
 
 pub unvisited_below : (rounds : List ℕ) (round : ℕ) → All (λ m. m < round) rounds → (k : ℕ) → IsVisited rounds round k → ⊥
 unvisited_below rounds round below k h = let lt = All-get (λ m. m < round) rounds k round below h in omega arith
 
-pub closed_below : (rows : List (List ℕ)) (rounds : List ℕ) (round : ℕ) → All (λ m. m < round) rounds → IsClosed rows rounds round
-closed_below rows rounds round below i j h n = absurd (unvisited_below rounds round below i h)
+-- a round that is still to begin is a batch of no edges
+pub batch-none : (implied conflicting : List (List ℕ)) (rounds : List ℕ) (round : ℕ) → All (λ m. m < round) rounds → IsBatch implied conflicting rounds round
+batch-none implied conflicting rounds round below = record {
+  closed = λ i j h n. absurd (unvisited_below rounds round below i h);
+  agreeing = λ i j h g n. absurd (unvisited_below rounds round below i h);
+  latest = λ i d lt. (let less = below i d lt in omega arith);
+}
 
-pub below_reach : (rows : List (List ℕ)) (start round : ℕ) (old new found : List ℕ) → All (λ m. m < round) old → IsSearched rows start round old new found → All (λ m. m ≤ round) new
-below_reach rows start round old new found below s i d lt =
+latest-reach : (rows : List (List ℕ)) (start round : ℕ) (old new found : List ℕ) → All (λ m. m ≤ round) old → IsSearched rows start round old new found → All (λ m. m ≤ round) new
+latest-reach rows start round old new found latest s i d lt =
     elim (s.others i (get_or new i d) (slice_get-get_or new i d lt)) [
-      | inl o ↦ (let less = All-get (λ m. m < round) old i (get_or new i d) below o in omega arith)
+      | inl o ↦ All-get (λ m. m ≤ round) old i (get_or new i d) latest o
       | inr e ↦ omega arith
     ]
 
-module _ (orders : List (ℕ × ℕ)) (paths implied conflicting : List (List ℕ)) (built : IsBuilt orders (IsTriple paths) implied conflicting) (proper : IsProper orders)
-    (settled : IsSettled orders paths) where
-  pub clash_exactly : (s a b round : ℕ) (old new found : List ℕ) (clash : Bool) → FlipsTo orders s a b → ((k : ℕ) → IsVisited old round k → ⊥) → IsSearched implied s round old new found →
-      IsTrue clash ↔ Any (λ i. (j : ℕ) × HasNext conflicting i j × IsVisited new round j) found →
-      IsTrue (not clash) ↔ (IsFlipped orders a b × IsConsistent paths a b)
-  clash_exactly s a b round old new found clash ts none reach exact =
-      let c = consistent_exactly orders paths implied conflicting built proper settled s a b ts in (
-        λ t. (
-          (s, ts),
-          c.1 (λ i j li lj n. false≢true (sym (no_clash t)
-              ∙ exact.1 (Any-from (λ i. (j : ℕ) × HasNext conflicting i j × IsVisited new round j) found i (noted i li) (j, n, visited j lj)))),
-        ),
-        λ h. elim (cases_Bool clash) [
-          | inl t ↦ (let w = exact.0 t in absurd (c.0 h.1 w.1 w.4.0 (led w.1 ((reach.noted w.1).0 (w.0, w.2, w.3)).0) (led w.4.0 w.4.2) w.4.1))
-          | inr f ↦ ap not f
-        ],
-      )
-    where
-      no_clash : IsTrue (not clash) → clash ≡ false
-      no_clash t = elim (cases_Bool clash) [ inl h ↦ absurd (false≢true (sym (ap not h) ∙ t)) | inr h ↦ h ]
+-- no edge bears the number of the next batch
+pub unused-next : (rows : List (List ℕ)) (start batch next : ℕ) (old new found : List ℕ) → batch ≤ next → (batch ≡ next → ⊥) → All (λ m. m ≤ batch) old →
+    IsSearched rows start batch old new found → All (λ m. m < next) new
+unused-next rows start batch next old new found le ne latest s i d lt =
+    elim (cases_lt batch next) [
+      | inl less ↦ (let most = latest-reach rows start batch old new found latest s i d lt in omega arith)
+      | inr ge ↦ absurd (ne (omega arith))
+    ]
 
-      visited : (j : ℕ) → Reaches implied s j → IsVisited new round j
-      visited j l = (reach.exact j).1 (inr l)
+-- what follows from an edge joins a batch if the batch still agrees
+pub batch-more : (implied conflicting : List (List ℕ)) (start round : ℕ) (old new found : List ℕ) → IsBatch implied conflicting old round → IsSearched implied start round old new found →
+    IsAgreeing conflicting new round → IsBatch implied conflicting new round
+batch-more implied conflicting start round old new found batch reach agreeing = record {
+  closed = closed-reach implied start round old new found batch.closed reach;
+  agreeing = agreeing;
+  latest = latest-reach implied start round old new found batch.latest reach;
+}
 
-      noted : (j : ℕ) → Reaches implied s j → Contains found j
-      noted j l = (reach.noted j).1 (visited j l, none j)
+-- where no edge that is new to a batch conflicts with one of it, none of it does
+pub agreeing_exactly : (implied conflicting : List (List ℕ)) (start round : ℕ) (old new found : List ℕ) (clash : Bool) → IsMutual conflicting → IsAgreeing conflicting old round →
+    IsSearched implied start round old new found → IsTrue clash ↔ Any (λ i. (j : ℕ) × HasNext conflicting i j × IsVisited new round j) found →
+    IsTrue (not clash) ↔ IsAgreeing conflicting new round
+agreeing_exactly implied conflicting start round old new found clash both agreeing reach exact = (
+  λ t i j vi vj n. was t i j vi vj n (λ oi. was t j i vj vi (both i j n) (λ oj. agreeing i j oi oj n)),
+  λ agrees. elim (cases_Bool clash) [
+    | inl t ↦ (let w = exact.0 t in absurd (agrees w.1 w.4.0 ((reach.noted w.1).0 (w.0, w.2, w.3)).0 w.4.2 w.4.1))
+    | inr f ↦ ap not f
+  ],
+)
+  where
+    no_clash : IsTrue (not clash) → clash ≡ false
+    no_clash t = elim (cases_Bool clash) [ inl h ↦ absurd (false≢true (sym (ap not h) ∙ t)) | inr h ↦ h ]
 
-      led : (j : ℕ) → IsVisited new round j → Reaches implied s j
-      led j m = elim ((reach.exact j).0 m) [ inl o ↦ absurd (none j o) | inr l ↦ l ]
+    was : IsTrue (not clash) → (i j : ℕ) → IsVisited new round i → IsVisited new round j → HasNext conflicting i j → (IsVisited old round i → ⊥) → ⊥
+    was t i j vi vj n fresh = false≢true (sym (no_clash t)
+        ∙ exact.1 (Any-from (λ i. (j : ℕ) × HasNext conflicting i j × IsVisited new round j) found i ((reach.noted i).1 (vi, fresh)) (j, n, vj)))
+
+module _ (orders : List (ℕ × ℕ)) (paths implied conflicting : List (List ℕ)) (built : IsBuilt orders (IsTriple paths) implied conflicting) where
+  pub mutual_conflicts : IsMutual conflicting
+  mutual_conflicts i j n =
+      let w = (built.conflicts i j).0 n in
+      (built.conflicts j i).1 (w.2, w.1, w.0, w.4, w.3, reversed_triple paths w.0 w.1 w.2 w.5)
+
+  module _ (proper : IsProper orders) (settled : IsSettled orders paths) where
+    -- what follows from an edge of a batch is consistent
+    pub consistent_within : (s a b round : ℕ) (old new found : List ℕ) → FlipsTo orders s a b → IsSearched implied s round old new found → IsAgreeing conflicting new round →
+        IsFlipped orders a b × IsConsistent paths a b
+    consistent_within s a b round old new found ts reach agreeing = (
+      (s, ts),
+      (consistent_exactly orders paths implied conflicting built proper settled s a b ts).1 (λ i j li lj n. agreeing i j ((reach.exact i).1 (inr li)) ((reach.exact j).1 (inr lj)) n),
+    )
+
+    -- what follows from an edge is a batch of its own if it is consistent
+    pub agreeing_alone : (s a b round : ℕ) (old new found : List ℕ) → FlipsTo orders s a b → All (λ m. m < round) old → IsSearched implied s round old new found → IsConsistent paths a b →
+        IsAgreeing conflicting new round
+    agreeing_alone s a b round old new found ts below reach consistent i j vi vj n =
+        (consistent_exactly orders paths implied conflicting built proper settled s a b ts).0 consistent i j (led i vi) (led j vj) n
+      where
+        led : (k : ℕ) → IsVisited new round k → Reaches implied s k
+        led k v = elim ((reach.exact k).0 v) [ inl o ↦ absurd (unvisited_below old round below k o) | inr l ↦ l ]

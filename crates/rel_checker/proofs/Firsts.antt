@@ -64,9 +64,9 @@ module _ (file : ResultFile) where
 
   pub fails_here : (implied conflicting : List (List ℕ)) → IsBuilt (flipped_orders file.edges) (IsTriple (kept_lines file.paths)) implied conflicting → IsProper (flipped_orders file.edges)
       → IsSettled (flipped_orders file.edges) (kept_lines file.paths) →
-      (k : ℕ) (line : Probe) (consistent : Bool) → slice_get file.probes k ≡ Some line → consistent ≡ false →
-      IsTrue consistent ↔ (IsFlipped (flipped_orders file.edges) line.over line.under × IsConsistent (kept_lines file.paths) line.over line.under) → ServesAt file k → ⊥
-  fails_here implied conflicting built proper settled k line consistent at no' exact serves =
+      (k : ℕ) (line : Probe) → slice_get file.probes k ≡ Some line →
+      ((IsFlipped (flipped_orders file.edges) line.over line.under × IsConsistent (kept_lines file.paths) line.over line.under) → ⊥) → ServesAt file k → ⊥
+  fails_here implied conflicting built proper settled k line at none serves =
       let s = serves (line.over, line.under) (probe_at k line at) in
       gains_flipped file.edges (kept_lines file.paths) implied conflicting built proper settled (take k (its_probes file)) (line.over, line.under)
-      (λ i t. false≢true (sym no' ∙ exact.1 ((i, t), s.consistent))) (gains_of_probe (kept_lines file.paths) (its_claims file) (take k (its_probes file)) (line.over, line.under) s)
+      (λ i t. none ((i, t), s.consistent)) (gains_of_probe (kept_lines file.paths) (its_claims file) (take k (its_probes file)) (line.over, line.under) s)

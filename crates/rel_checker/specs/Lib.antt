@@ -1,4 +1,5 @@
 pub mod Against
+pub mod Batches
 pub mod ComingBack
 pub mod File
 pub mod Naming

@@ -9,6 +9,10 @@ HasNext rows i j = (row : List ℕ) × (slice_get rows i ≡ Some row) × Contai
 abbrev pub IsInside : List (List ℕ) → Type 0
 IsInside rows = (i j : ℕ) → HasNext rows i j → j < length rows
 
+-- where j stands in the row of i, i stands in the row of j
+abbrev pub IsMutual : List (List ℕ) → Type 0
+IsMutual rows = (i j : ℕ) → HasNext rows i j → HasNext rows j i
+
 -- the rows with j behind the others in the row of i
 abbrev pub with_next : List (List ℕ) → ℕ → ℕ → List (List ℕ)
 with_next rows i j = slice_set rows i (slice_index_or rows i [] ++ j ∷ [])

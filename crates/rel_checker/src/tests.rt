@@ -59,6 +59,49 @@ fn a_triple_on_two_paths(rt: HostRuntime) -> Result<(), Fail> {
     Ok(())
 }
 
+const HEAD: &str =
+    "tor|1\nsets|cut\nratio|60\naside|nopath|0\naside|badsegments|0\naside|confed|0\n\
+    aside|sets|0\naside|reserved|0\naside|loop|0\naside|short|0\n";
+
+/// Three open lines, each of which rules out the other two.
+const EACH_FOR_ITSELF: &str =
+    "kept|1|10 20 30\nkept|1|10 20 40\nkept|1|30 20 40\nedge|10|20|high|open|2\nedge|20|30|low|open|2\n\
+    edge|20|40|low|open|2\nopen|10|20\nopen|30|20\nopen|40|20\nend|3|0|3|0|0\n";
+
+/// The second open line rules out the first, and rules out itself: 10 over 20 leads to 30 over 50 and to 40 over 50.
+const SECOND_FAILS: &str =
+    "kept|1|10 20 30 50\nkept|1|10 20 40 50\nkept|1|30 50 40\nkept|1|10 20 60\nedge|10|20|high|open|3\n\
+    edge|20|30|high|open|1\nedge|30|50|high|open|2\nedge|20|40|high|open|1\nedge|40|50|high|open|2\n\
+    edge|20|60|low|open|1\nopen|60|20\nopen|10|20\nend|4|0|6|0|0\n";
+
+/// The second and the third open line rule out themselves, and only the second rules out the first.
+const SECOND_AND_THIRD_FAIL: &str =
+    "kept|1|10 20 30 50\nkept|1|10 20 40 50\nkept|1|30 50 40\nkept|1|10 20 60\nkept|1|11 21 31 51\n\
+    kept|1|11 21 41 51\nkept|1|31 51 41\nedge|10|20|high|open|3\nedge|20|30|high|open|1\nedge|30|50|high|open|2\n\
+    edge|20|40|high|open|1\nedge|40|50|high|open|2\nedge|20|60|low|open|1\nedge|11|21|high|open|2\n\
+    edge|21|31|high|open|1\nedge|31|51|high|open|2\nedge|21|41|high|open|1\nedge|41|51|high|open|2\n\
+    open|60|20\nopen|10|20\nopen|11|21\nend|7|0|11|0|0\n";
+
+/// Compares the answer to a file of these lines with what it should be.
+fn expect_answer(
+    rt: &(impl Abort + AllocGlobal + RandomSource),
+    lines: &str,
+    answer: Answer,
+) -> Result<(), Fail> {
+    let mut text = String::new(rt.alloc());
+    write!(text, "{HEAD}{lines}")?;
+    let file = parse(rt.alloc(), text.as_bytes())?;
+    assert_eq!(rt; answer_to(rt, &file)?, answer);
+    Ok(())
+}
+
+#[test]
+fn open_lines_that_rule_each_other_out(rt: HostRuntime) -> Result<(), Fail> {
+    expect_answer(&rt, EACH_FOR_ITSELF, Answer::Yes)?;
+    expect_answer(&rt, SECOND_FAILS, Answer::No { line: 22, rule: 9 })?;
+    expect_answer(&rt, SECOND_AND_THIRD_FAIL, Answer::No { line: 30, rule: 9 })
+}
+
 #[test]
 fn a_triple_counts_once_either_way_round(rt: HostRuntime) -> Result<(), Fail> {
     let there = number_of(Step::new(0, true), Step::new(1, true));

@@ -15,8 +15,8 @@ returns-then-not-branch c =
     let file = c.args.file.now in
     let at = read_of c.as_slice-probe-items.result.now file.probes c.loop-k.k _ c.as_slice-probe-items.ensures c.loop-k-test.true in (
       omega (arith, c.loop-k-test.true, ap length c.as_slice-probe-items.ensures),
-      fails_here file c.args.flips.now.implied c.args.flips.now.conflicting c.requires.laid.built c.requires.laid.proper c.requires.laid.settled c.loop-k.k _ c.in_ok-is_consistent.field-0 at
-          c.if-not-branch.true c.in_ok-is_consistent.ensures.consistent,
+      fails_here file c.args.flips.now.implied c.args.flips.now.conflicting c.requires.laid.built c.requires.laid.proper c.requires.laid.settled c.loop-k.k _ at
+          (λ h. both_ways c.in_ok-take_in.field-0 c.if-not-branch.true (c.in_ok-take_in.ensures.consistent.1 h)),
       c.loop-k.invariant.serve,
     )
 
@@ -27,10 +27,13 @@ loop-k-preserved c =
     let within : k < length file.probes = omega (arith, c.loop-k-test.true, ap length c.as_slice-probe-items.ensures) in
     let at = read_of c.as_slice-probe-items.result.now file.probes k _ c.as_slice-probe-items.ensures c.loop-k-test.true in
     let gains = gains_here file (length file.probes) k c.args.idle c.requires.idle (λ e. both_ways c.is_place.result c.if-is_place.false (c.is_place.ensures.1 e)) within c.loop-k.invariant.serve in
-    let consistent = (c.in_ok-is_consistent.ensures.consistent.0 c.if-not-branch.false).1 in
+    let taken = c.in_ok-take_in.ensures in
+    let consistent = (taken.consistent.0 c.if-not-branch.false).1 in
     record {
-      many = c.in_ok-is_consistent.ensures.many;
-      below = λ i d lt. (let le = c.in_ok-is_consistent.ensures.below i d lt in omega arith);
+      many = taken.many;
+      batch = taken.batch c.if-not-branch.false;
+      within = (let le = taken.later in omega arith);
+      alone = λ e. (let le = taken.later in absurd (omega arith));
       serve = below_and (ServesAt file) k c.loop-k.invariant.serve (serves_here file k _ at gains consistent);
     }
 

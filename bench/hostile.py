@@ -1,0 +1,242 @@
+"""Time and memory on files that are made to be slow, beside a yardstick's.
+
+hostile.py TOR TORCHECK YARDSTICK [RUNS]
+
+TOR is any program that takes `--list DUMP`, TORCHECK one that takes `RESULT`, and YARDSTICK one that takes `--list DUMP` and
+`--check RESULT`. `-` in place of TOR or TORCHECK leaves its rows out. Each row is run RUNS times (3), both programs in turn, and says the
+least processor time, the greatest peak memory, and their ratios; for a result also how the memory compares with the file, and for a dump
+how the time compares with that on as many random paths. Of less memory than some 14 MiB, which this script has itself, it can't tell.
+"""
+
+import os
+import random
+import struct
+import subprocess
+import sys
+import tempfile
+
+CAUSES = ["nopath", "badsegments", "confed", "sets", "reserved", "loop", "short"]
+HEAD = "tor|1\nsets|cut\nratio|60\n" + "".join(f"aside|{cause}|0\n" for cause in CAUSES)
+
+# The mixing of a table of paths, before a key goes into it: `mixed` in crates/path_clean/specs/Chains.antt.
+MULTIPLIER = 11400714819323198485
+INVERSE = pow(MULTIPLIER, -1, 2**64)
+LOW = 2**32 - 1
+
+
+def result(paths, opens):
+    """A result over paths of rising numbers, but for the last number of some: the greater end of each edge is its provider."""
+    supports = {}
+    for path in paths:
+        for a, b in zip(path, path[1:]):
+            edge = min(a, b), max(a, b)
+            supports[edge] = supports.get(edge, 0) + 1
+    lines = [f"kept|1|{' '.join(map(str, path))}\n" for path in paths]
+    lines += [f"edge|{low}|{high}|high|open|{times}\n" for (low, high), times in supports.items()]
+    lines += [f"open|{over}|{under}\n" for over, under in opens]
+    return HEAD + "".join(lines) + f"end|{len(paths)}|0|{len(supports)}|0|0\n"
+
+
+def chain(lines):
+    """One path that climbs, and an open line for each of its edges, from the top down: each leads along all that come before it."""
+    path = list(range(1000001, 1000002 + lines))
+    return result([path], list(zip(path, path[1:]))[::-1])
+
+
+def before_a_chain(lines, arcs):
+    """Open lines that all lead along one chain."""
+    path = list(range(1000001, 1000003 + arcs))
+    starts = range(100001, 100001 + lines)
+    return result([path] + [[start, *path[:2]] for start in starts], [(start, path[0]) for start in starts])
+
+
+def each_for_itself(lines, arcs):
+    """Open lines that lead along one chain, each of which rules out all the others."""
+    path = list(range(1000001, 1000003 + arcs))
+    paths, opens = [path], [(path[0], path[1])]
+    for place in range(1, lines + 1):
+        start = 100000 + place
+        paths += [[start, path[place], path[place + 1]], [start, path[place], path[place - 1]]]
+        opens.append((start, path[place]))
+    return result(paths, opens)
+
+
+def by_turns(lines, arcs):
+    """Open lines of two kinds by turns. Each kind leads along a chain of its own, whose top rules out that of the other."""
+    chains = [list(range(base, base + arcs + 1)) + [4000000] for base in (1000001, 2000001)]
+    paths, opens = chains + [[chains[0][-2], 4000000, chains[1][-2]]], []
+    for place in range(lines):
+        path = chains[place % 2]
+        paths.append([100001 + place, path[0], path[1]])
+        opens.append((100001 + place, path[0]))
+    return result(paths, opens)
+
+
+def first_within(factor, modulus, low, high):
+    """The least x with low <= factor * x % modulus <= high, if there is one."""
+    if low == 0:
+        return 0
+    if factor == 0:
+        return None
+    if 2 * factor > modulus:
+        factor, low, high = modulus - factor, modulus - high, modulus - low
+    x = -(-low // factor)
+    if factor * x <= high:
+        return x
+    turns = first_within(modulus % factor, factor, -high % factor, -low % factor)
+    return None if turns is None else -(-(low + modulus * turns) // factor)
+
+
+def mixed(hash, number):
+    product = (hash ^ number) * MULTIPLIER % 2**64
+    return product ^ product >> 32
+
+
+def before_mixing(hash):
+    """What was mixed, the hash and the number joined, where this came out."""
+    return (hash ^ hash >> 32) * INVERSE % 2**64
+
+
+def pair_of_hash(hash):
+    """Two numbers with this hash under the start 0, if there are any."""
+    joined = before_mixing(hash)
+    start = joined >> 32 << 32
+    first = first_within(MULTIPLIER, 2**64, start, start + LOW)
+    if first is None or first > LOW:
+        return None
+    return [first, (joined ^ mixed(0, first)) & LOW]
+
+
+def is_clean(path):
+    reserved = (0, 23456)
+    within = all(n not in reserved and not 64496 <= n <= 65551 and n < 4200000000 for n in path)
+    return within and len(set(path)) == len(path)
+
+
+def of_one_hash(count):
+    """Paths of three ASes with one hash under the start 0."""
+    joined = before_mixing(0x123456789ABCDEF)
+    paths = []
+    for low in range(2**32):
+        pair = pair_of_hash((joined >> 32 << 32) | low)
+        path = pair and pair + [(low ^ joined) & LOW]
+        if path and is_clean(path):
+            paths.append(path)
+        if len(paths) == count:
+            return paths
+
+
+def of_one_bucket(count):
+    """Paths of two ASes whose hashes under the start 0 agree in their last 20 bits."""
+    paths = []
+    for place in range(2**32):
+        pair = pair_of_hash(place << 20 | 0x54321)
+        if pair and is_clean(pair):
+            paths.append(pair)
+        if len(paths) == count:
+            return paths
+
+
+def random_paths(count, length):
+    random.seed(count)
+    paths = set()
+    while len(paths) < count:
+        path = tuple(random.randrange(1, 4200000000) for _ in range(length))
+        if is_clean(path):
+            paths.add(path)
+    return list(paths)
+
+
+def dump(paths):
+    """A TABLE_DUMP_V2 dump with one route for each path."""
+    peers = struct.pack(">IHHB4s4sI", 0, 0, 1, 2, bytes(4), bytes([192, 0, 2, 1]), 10)
+    records = [struct.pack(">IHHI", 0, 13, 1, len(peers)) + peers]
+    for place, path in enumerate(paths):
+        segment = struct.pack(f">BB{len(path)}I", 2, len(path), *path)
+        attributes = bytes([0x40, 1, 1, 0, 0x40, 2, len(segment)]) + segment
+        body = struct.pack(">IB3sHHIH", place, 24, place.to_bytes(3, "big"), 1, 0, 0, len(attributes)) + attributes
+        records.append(struct.pack(">IHHI", 0, 13, 2, len(body)) + body)
+    return b"".join(records)
+
+
+def run(command):
+    """Processor time in seconds, peak memory in MiB, and what was printed."""
+    with tempfile.TemporaryFile() as text:
+        child = subprocess.Popen(command, stdout=text, stderr=subprocess.DEVNULL)
+        _, _, used = os.wait4(child.pid, 0)
+        text.seek(0)
+        return used.ru_utime + used.ru_stime, used.ru_maxrss / 1024, text.read()
+
+
+def beside(name, ours, theirs, runs):
+    """Runs both in turn, and prints a row. The least time and the greatest memory of ours."""
+    times, sizes, same = ([], []), ([], []), True
+    for _ in range(runs):
+        texts = []
+        for side, command in enumerate((ours, theirs)):
+            seconds, memory, text = run(command)
+            times[side].append(seconds)
+            sizes[side].append(memory)
+            texts.append(text)
+        same = same and texts[0] == texts[1]
+    least, most = [min(side) for side in times], [max(side) for side in sizes]
+    print(f"{name}: {least[0]:.3f} s {most[0]:.0f} MiB, yardstick {least[1]:.3f} s {most[1]:.0f} MiB, "
+          f"ratios {least[0] / max(least[1], 0.001):.2f} and {most[0] / most[1]:.2f}, "
+          f"{'same answer' if same else 'OTHER ANSWER'}", flush=True)
+    return least[0], most[0]
+
+
+def made(folder, name, octets_of):
+    """A file, made in a process of its own: the memory of this one would count as that of those it starts."""
+    file = os.path.join(folder, name)
+    maker = os.fork()
+    if maker == 0:
+        with open(file, "wb") as out:
+            out.write(octets_of())
+        os._exit(0)
+    os.waitpid(maker, 0)
+    return file
+
+
+def checks(folder, torcheck, yardstick, runs):
+    rows = [
+        ("20,000 open lines along a chain", lambda: chain(20000)),
+        ("80,000 open lines along a chain", lambda: chain(80000)),
+        ("10,000 open lines before a chain of 100,000", lambda: before_a_chain(10000, 100000)),
+        ("1,000 open lines that rule each other out, before 20,000", lambda: each_for_itself(1000, 20000)),
+        ("2,000 open lines that rule each other out, before 40,000", lambda: each_for_itself(2000, 40000)),
+        ("2,000 open lines of two kinds by turns, before 20,000 each", lambda: by_turns(2000, 20000)),
+        ("lines kept|1|1", lambda: HEAD + "kept|1|1\n" * 5555555 + "end|0|0|0|0|0\n"),
+    ]
+    for name, text in rows:
+        file = made(folder, "result", lambda: text().encode())
+        size = os.path.getsize(file)
+        _, memory = beside(f"{name}, {size / 1e6:.1f} MB", [torcheck, file], [yardstick, "--check", file], runs)
+        print(f"    memory is {memory * 2**20 / size:.1f} times the file")
+
+
+def lists(folder, tor, yardstick, runs):
+    rows = [
+        ("80,000 paths of three ASes and one hash", of_one_hash, 80000, 3),
+        ("20,000 paths of two ASes and one bucket", of_one_bucket, 20000, 2),
+    ]
+    for name, paths_of, count, length in rows:
+        chosen = made(folder, "chosen", lambda: dump(paths_of(count)))
+        drawn = made(folder, "drawn", lambda: dump(random_paths(count, length)))
+        slow, _ = beside(name, [tor, "--list", chosen], [yardstick, "--list", chosen], runs)
+        plain, _ = beside("    as many random paths", [tor, "--list", drawn], [yardstick, "--list", drawn], runs)
+        print(f"    the chosen paths take {slow / max(plain, 0.001):.2f} times as long")
+
+
+def main():
+    tor, torcheck, yardstick = sys.argv[1:4]
+    runs = int(sys.argv[4]) if len(sys.argv) > 4 else 3
+    with tempfile.TemporaryDirectory() as folder:
+        if torcheck != "-":
+            checks(folder, torcheck, yardstick, runs)
+        if tor != "-":
+            lists(folder, tor, yardstick, runs)
+
+
+if __name__ == "__main__":
+    main()
