@@ -11,7 +11,7 @@ use Rattle.path_clean.proofs.TableLemmas.{found-at}
 use Rattle.path_clean.specs.declared.slots.Slot.{Slot}
 use Rattle.path_clean.specs.declared.slots.Probe.{Probe}
 use Rattle.path_clean.specs.declared.slots.Probe.TheVariants.{Held, Free, Full}
-use Rattle.path_clean.specs.Slots.{tag_of, start_at, row_from_one, Names, HeldFrom, IsVacant, IsProbe, IsAbsent, Tells, IsTold, AreWithin, IsIndexed}
+use Rattle.path_clean.specs.Slots.{tag_of, start_at, row_from_one, Names, HeldFrom, IsVacant, IsVacancy, IsProbe, IsAbsent, Tells, IsTold, AreWithin, IsIndexed}
 use Rattle.path_clean.proofs.SlotGets.{get-push_old, get-push_new, get-push_cases, get-set_cases}
 use Rattle.path_clean.proofs.SlotLemmas.{stays-set, keeps-set, names-set, held-stays}
 
@@ -41,6 +41,11 @@ tells-by seed rows slots path tag Full index is p =
 pub not_there : (rows : List (List ℕ)) (path : List ℕ) (probe : Probe) → Tells rows path probe → ((x : ℕ) × (probe ≡ Free x)) ⊎ (probe ≡ Full) → IsAbsent rows path
 not_there rows path probe t (inl h) = subst (Tells rows path) h.1 t
 not_there rows path probe t (inr h) = subst (Tells rows path) h t
+
+pub vacancy-of : (rows : List (List ℕ)) (slots : List Slot) (start : ℕ) (path : List ℕ) (probe : Probe) → IsProbe rows slots start path probe → IsVacancy slots start probe
+vacancy-of rows slots start path (Held id) p = tt
+vacancy-of rows slots start path (Free place) p = p.0
+vacancy-of rows slots start path Full p = tt
 
 -- ---- one row more
 

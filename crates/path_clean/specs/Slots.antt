@@ -57,6 +57,12 @@ IsProbe rows slots start path (Held id) = slice_get rows id ≡ Some path
 IsProbe rows slots start path (Free place) = IsVacant slots start place × (HeldFrom rows slots path start (length slots) → ⊥)
 IsProbe rows slots start path Full = HeldFrom rows slots path start (length slots) → ⊥
 
+-- where a search from the start ended at a free slot, that one is vacant
+abbrev pub IsVacancy : (slots : List Slot) (start : ℕ) → Probe → Type 0
+IsVacancy slots start (Held id) = Unit {0}
+IsVacancy slots start (Free place) = IsVacant slots start place
+IsVacancy slots start Full = Unit {0}
+
 -- no row is the path
 abbrev pub IsAbsent : (rows : List (List ℕ)) (path : List ℕ) → Type 0
 IsAbsent rows path = (k : ℕ) → k < length rows → row_at rows k ≢ path

@@ -1,7 +1,7 @@
 ghost use Rattle.std.specs.Prelude.{◌≡◌, ◌≢◌, ◌<◌, ◌≤◌, ◌++◌, ◌∷◌, [], ℕ, length, OnOk, OnErr, IfOk, IfSome, IfNone};
 ghost use Rattle.tor_arena.specs.Limits.{most_places};
 ghost use Rattle.path_clean.specs.Chains.{row_at};
-ghost use Rattle.path_clean.specs.Slots.{tag_of, start_at, IsVacant, IsProbe, Tells};
+ghost use Rattle.path_clean.specs.Slots.{tag_of, start_at, IsVacant, IsVacancy, IsProbe, Tells};
 
 use crate::hashing::{hash_of, seed_of};
 use crate::slots::{Guess, Probe, Slot, free_from, seek, start_of, widened};
@@ -101,7 +101,7 @@ impl IndexedPaths {
         ensures index { IfOk result (λ id. id ≡ length self.old.rows) }
         ensures err { OnErr result (self.new.rows ≡ self.old.rows) }
     {
-        let slot = self.vacancy(tag, probe, path)?;
+        let slot = self.vacancy(tag, probe)?;
         let Ok(id) = self.rows.push_row(path) else {
             return Err(NoMemory);
         };
@@ -112,9 +112,9 @@ impl IndexedPaths {
         Ok(id)
     }
 
-    // The free slot for a path, where a search for it has ended so. If half of the slots are in use, they are made anew.
-    fn vacancy(&mut self, tag: u32, probe: Probe, path: &[u32]) -> Result<usize, NoMemory>
-        requires probe { IsProbe self.old.rows self.old.slots (start_at tag (length self.old.slots)) path.now probe }
+    // The free slot for a path of this tag, where a search for it has ended so. If half of the slots are in use, they are made anew.
+    fn vacancy(&mut self, tag: u32, probe: Probe) -> Result<usize, NoMemory>
+        requires probe { IsVacancy self.old.slots (start_at tag (length self.old.slots)) probe }
         ensures rows { self.new.rows ≡ self.old.rows }
         ensures seed { self.new.seed ≡ self.old.seed }
         ensures vacant { IfOk result (IsVacant self.new.slots (start_at tag (length self.new.slots))) }

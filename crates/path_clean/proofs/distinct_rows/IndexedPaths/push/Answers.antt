@@ -1,6 +1,6 @@
 use Rattle.std.proofs.Common.{◌≡◌, ◌∙◌, ◌+◌, length, set, ap, sym, subst, arith}
 use Rattle.path_clean.specs.Slots.{tag_of, start_at, Indexed, IsVacant, IsIndexed}
-use Rattle.path_clean.proofs.IndexLemmas.{index-push}
+use Rattle.path_clean.proofs.IndexLemmas.{index-push, vacancy-of}
 use Rattle.path_clean.proofs.distinct_rows.IndexedPaths.push.Goals as goal
 
 pub invariant_of-self-2 : goal.invariant_of-self-2
@@ -17,3 +17,8 @@ invariant_of-self-2 c =
     subst (λ rs. IsIndexed seed rs (set slots c.in_ok-slot.slot (record { tag = c.args.tag; row = c.place.result + 1 }))) (sym c.in-Ok.ensures.added)
     (index-push seed rows slots path c.in_ok-slot.slot (record { tag = c.args.tag; row = c.place.result + 1 }) c.self.invariant vacant
     (c.requires.tag ∙ ap (λ s. tag_of s path) same_seed) (omega (arith, placed)) (omega (arith, placed, below)))
+
+pub vacancy-requires : goal.vacancy-requires
+vacancy-requires c = record {
+  probe = vacancy-of c.args.self.now.rows c.args.self.now.slots (start_at c.args.tag (length c.args.self.now.slots)) c.args.path.now c.args.probe c.requires.probe;
+}
