@@ -1,5 +1,5 @@
 -- Of a result file that is too long no more is read than shows it.
-use Rattle.std.proofs.Common.{◌≡◌, ℕ, List, inl, inr, Option, Some, None, refl, sym, subst, ◌∙◌}
+use Rattle.std.proofs.Common.{◌≡◌, ◌⊎◌, ℕ, List, inl, inr, Option, Some, None, refl, sym, subst, ◌∙◌}
 use Rattle.tor_io.specs.Contents.{Files}
 use Rattle.tor_words.specs.declared.check_settings.CheckSettings.{CheckSettings}
 use Rattle.tor_words.specs.declared.refused.WordsRefused.TheVariants as refused
@@ -14,7 +14,9 @@ use Rattle.tor_app.specs.declared.judging.Unjudged.TheVariants as unjudged
 use Rattle.tor_app.specs.Notes.{read_fault_note}
 use Rattle.tor_app.specs.Refusals.{Says, IsNoMemory}
 use Rattle.tor_app.specs.Judging.{TooLong, IsLongFile, LeavesRestOf}
-use Rattle.tor_app.specs.CheckAnswer.{LeadsTo}
+use Rattle.rel_checker.specs.declared.answer.Answer.{Answer as Verdict}
+use Rattle.rel_checker.specs.declared.answer.Answer.TheVariants.{Yes, No}
+use Rattle.tor_app.specs.CheckAnswer.{LeadsTo, status_of}
 use Rattle.tor_app.specs.Unjudging.{IsUnjudged, IsTooLong, AnswersUnjudged}
 use Rattle.tor_app.proofs.Comings.{not_long}
 
@@ -30,6 +32,13 @@ no_limit answer is limit = let both : status.NoMemory ≡ status.Limit = sym is.
 no_fault : {X : Type 0} (answer : Answer) → Says status.ReadFault (read_fault_note 0) answer → answer.status ≡ status.Limit → X
 no_fault answer (inl is) limit = let both : status.ReadFault ≡ status.Limit = sym is.0 ∙ limit in absurd cc
 no_fault answer (inr is) limit = no_limit answer is limit
+
+-- a run that has a verdict doesn't end at a limit
+pub written : {X : Type 0} (verdict : Verdict) (s : Status) → (s ≡ status_of verdict) ⊎ ((s ≡ status.WriteFault) ⊎ (s ≡ status.NoMemory)) → s ≡ status.Limit → X
+written Yes s (inl is) limit = let both : status.Done ≡ status.Limit = sym is ∙ limit in absurd cc
+written (No line rule) s (inl is) limit = let both : status.No ≡ status.Limit = sym is ∙ limit in absurd cc
+written verdict s (inr (inl is)) limit = let both : status.WriteFault ≡ status.Limit = sym is ∙ limit in absurd cc
+written verdict s (inr (inr is)) limit = let both : status.NoMemory ≡ status.Limit = sym is ∙ limit in absurd cc
 
 pub bounded : (words : List (List ℕ)) (known : Option Files) (steady : Type 0) (u : Unjudged) (answer : Answer) (left : Option (List ℕ)) → IsUnjudged words known steady u → AnswersUnjudged u answer
     → (IsTooLong u → LeavesRestOf words known left) → answer.status ≡ status.Limit → LeadsTo words known TooLong → LeavesRestOf words known left

@@ -1,4 +1,4 @@
-use Rattle.tor_app.proofs.Bounds.{bounded}
+use Rattle.tor_app.proofs.Bounds.{bounded, written}
 use Rattle.tor_app.proofs.Unjudgings.{unjudged_note}
 use Rattle.tor_app.proofs.checking.answer.Goals as goal
 
@@ -12,3 +12,6 @@ returns-in-Err-clause-bounded g c =
     let shelf = g.H.Shelf in
     bounded c.args.words.now (shelf.files c.args.shelf.now) (shelf.steady c.args.shelf.now) c.in-Err.unjudged c.answer_to_unjudged.result (shelf.left c.verdict_of.new.shelf)
     c.in-Err.ensures.unjudged c.answer_to_unjudged.ensures c.in-Err.ensures.rest
+
+pub returns-in-Ok-clause-bounded : goal.returns-in-Ok-clause-bounded
+returns-in-Ok-clause-bounded g c = λ limit _. written c.in-Ok.verdict c.write_verdict.result.status c.write_verdict.ensures.status limit
