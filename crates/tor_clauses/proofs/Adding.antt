@@ -34,16 +34,6 @@ added_one f now new ts k t e there h =
     h ∙ ap (λ (g : Formula). having g (with_triple g.triples t)) e ∙
     ap (having f) (sym (ap (with_triples f.triples) (take_get ts k t there) ∙ with_triples-push (take k ts) f.triples t))
 
--- one more of the triples, which is there with those before it
-pub near_one : (ts all : List Triple) (k : ℕ) (t : Triple) → with_triples ts (take k all) ≡ ts → slice_get all k ≡ Some t → with_triple ts t ≡ ts →
-    with_triples ts (take (k + 1) all) ≡ ts
-near_one ts all k t e there one =
-    ap (with_triples ts) (take_get all k t there) ∙ with_triples-push (take k all) ts t ∙ ap (λ (l : List Triple). with_triple l t) e ∙ one
-
--- all of the triples are there
-pub near_all : (ts all : List Triple) (k : ℕ) → length all ≤ k → with_triples ts (take k all) ≡ ts → with_triples ts all ≡ ts
-near_all ts all k le e = ap (with_triples ts) (sym (take_all k all le)) ∙ e
-
 pub added_first : (f now : Formula) (ts : List Triple) → now ≡ having f (with_triples f.triples ts) → IsFirst f now
 added_first f now ts e =
     let m = triples-more ts f.triples in

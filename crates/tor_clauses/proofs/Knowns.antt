@@ -10,7 +10,7 @@ use Rattle.tor_clauses.specs.declared.triple.Triple.{Triple}
 use Rattle.tor_clauses.specs.Literals.{negated, node_of, opposite_node}
 use Rattle.tor_clauses.specs.Triples.{arc_of, partner_of, is_same_triple}
 use Rattle.tor_clauses.specs.declared.lit.Lit.{Lit}
-use Rattle.tor_clauses.specs.Tables.{HasNodes, IsKnown, IsAdded, with_triple, key_of, number_of_pair}
+use Rattle.tor_clauses.specs.Tables.{HasNodes, IsKnown, IsAdded, key_of, number_of_pair}
 use Rattle.tor_numbers.specs.Slots.{IsInserted}
 use Rattle.tor_numbers.proofs.SlotLemmas.{alone, contains_one, contains_none}
 use Rattle.tor_clauses.proofs.LiteralLemmas.{opposite_node_twice, node_below}
@@ -133,13 +133,6 @@ added-none t number keys new ts ts' is_new h known e put is so = subst (IsAdded 
       (subst (λ l. Contains l number) known.keys (subst (IsInserted number keys new) is put).0)),
   so,
 )
-
--- where its number is there, adding the triple changes nothing
-pub added-near : (t : Triple) (number : ℕ) (keys : List ℕ) (ts : List Triple) → HasNodes t → IsKnown keys ts → number ≡ key_number t →
-    Contains keys number → with_triple ts t ≡ ts
-added-near t number keys ts h known e c =
-    let there : list_any (is_same_triple t) ts ≡ true = triple_there t ts h known.nodes (subst (Contains (map key_number ts)) e (subst (λ l. Contains l number) known.keys c)) in
-    rw there refl
 
 -- ---- one more triple, and fewer
 

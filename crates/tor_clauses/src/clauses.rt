@@ -1,8 +1,8 @@
 ghost use Rattle.std.specs.Prelude.{◌≡◌, ℕ, ◌+◌, ◌*◌, ◌/◌, ◌<◌, ◌≤◌, ◌^◌, ◌↔◌, ◌∷◌, ◌++◌, [], List, length, flat_map, slice_get, Some, IsTrue, IfOk, OnOk, OnErr};
 ghost use Rattle.relationships.specs.Graph.{edges};
 ghost use Rattle.tor_clauses.specs.Literals.{node_of};
-ghost use Rattle.tor_clauses.specs.Triples.{arcs_of, triples_on};
-ghost use Rattle.tor_clauses.specs.Tables.{HasNodes, with_triple, with_triples, with_triples_on, with_arc, having, IsRoomy, IsFirst};
+ghost use Rattle.tor_clauses.specs.Triples.{arcs_of};
+ghost use Rattle.tor_clauses.specs.Tables.{HasNodes, with_triple, with_triples_on, with_arc, having, IsRoomy, IsFirst};
 ghost use Rattle.tor_clauses.specs.Flipping.{HasPartners};
 ghost use Rattle.tor_clauses.specs.Formulas.{FitsGraph, IsMark, mark_of, first_of, IsServed, IsModel, IsArcOfTriple, IsLinkOfTriple, IsLinkOfArc};
 
@@ -120,9 +120,6 @@ impl Clauses {
         self.facts();
         graph.facts();
         let steps = graph.steps(path);
-        if steps.len() > 2 && are_near(&self.table, graph, path) {
-            return Ok(());
-        }
         for next in 1..steps.len() {
             self.add_triple(Triple {
                 path,
@@ -241,27 +238,6 @@ impl Clauses {
             at: triple.at,
         }
     }
-}
-
-/// Whether all triples of a path are found without a search, so that adding them changes nothing. All are looked up before any answer
-/// counts, so that the looks into memory overlap.
-fn are_near(table: &TripleTable, graph: &AsGraph, path: PathId) -> bool
-    requires { path < length graph.now }
-    ensures { IsTrue result → with_triples table.now (triples_on graph.now path) ≡ table.now }
-{
-    graph.facts();
-    let steps = graph.steps(path);
-    let mut all = true;
-    for next in 1..steps.len() {
-        let triple = Triple {
-            path,
-            at: 1 + next as u32,
-            first: Lit::of_step(&steps[next - 1]),
-            second: Lit::of_step(&steps[next]),
-        };
-        all = all & table.is_near(&triple);
-    }
-    all
 }
 
 /// Adds the two arcs of a triple, both or, for want of memory, none.

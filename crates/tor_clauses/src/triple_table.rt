@@ -1,5 +1,5 @@
 ghost use Rattle.std.specs.Prelude.{◌≡◌, ◌<◌, ◌≤◌, ◌↔◌, ◌^◌, [], All, length, take, slice_get, IsTrue, IfOk, OnErr};
-ghost use Rattle.tor_clauses.specs.Tables.{HasNodes, IsSatisfied, IsAdded, with_triple, key_of, number_of_pair};
+ghost use Rattle.tor_clauses.specs.Tables.{HasNodes, IsSatisfied, IsAdded, key_of, number_of_pair};
 
 use crate::lit::Lit;
 use crate::triple::Triple;
@@ -88,14 +88,6 @@ impl TripleTable {
             self.triples.push_reserved(triple);
         }
         Ok(is_new)
-    }
-
-    /// Whether a triple or its reverse is found without a search, so that adding it changes nothing. It takes no memory.
-    pub fn is_near(&self, triple: &Triple) -> bool
-        requires { HasNodes triple.now }
-        ensures { IsTrue result → with_triple self.now triple.now ≡ self.now }
-    {
-        self.known.is_near(number_of(key(triple)))
     }
 
     /// Keeps the first `count` triples, of which there have to be as many. It takes no memory.

@@ -1,4 +1,4 @@
-ghost use Rattle.std.specs.Prelude.{◌≡◌, ◌<◌, ◌≤◌, ◌++◌, ◌∷◌, ℕ, List, [], length, take, Contains, IsTrue, IfOk, OnOk, OnErr};
+ghost use Rattle.std.specs.Prelude.{◌≡◌, ◌<◌, ◌≤◌, ◌++◌, ◌∷◌, ℕ, List, [], length, take, Contains, IfOk, OnOk, OnErr};
 ghost use Rattle.tor_numbers.specs.Slots.{IsProbe, IsHeld, IsHolding, IsInserted, Leaves, IsApart};
 
 use crate::probing::{Probe, next, start_of};
@@ -71,20 +71,6 @@ impl NumberSet {
             self.used = self.used.saturating_add(1);
         }
         Ok(is_new)
-    }
-
-    /// Whether a number is found without a search, in the slot at which that would begin or in the one behind it: no without looking
-    /// further, so a number may be there all the same. No answer waits for another, so the looks into memory of many calls overlap.
-    pub fn is_near(&self, number: u64) -> bool
-        requires { 2 ≤ number }
-        ensures { IsTrue result → Contains self.now number }
-    {
-        let count = self.slots.len();
-        if count == 0 {
-            return false;
-        }
-        let start = start_of(self.seed, number, count);
-        (self.slots[start] == number) | (self.slots[next(start, count)] == number)
     }
 
     /// Keeps the first `count` numbers, of which there have to be as many. It takes no memory.
