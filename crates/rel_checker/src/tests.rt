@@ -82,15 +82,20 @@ const SECOND_AND_THIRD_FAIL: &str =
     edge|21|31|high|open|1\nedge|31|51|high|open|2\nedge|21|41|high|open|1\nedge|41|51|high|open|2\n\
     open|60|20\nopen|10|20\nopen|11|21\nend|7|0|11|0|0\n";
 
+/// The file of these lines behind the first ten.
+fn file_of(rt: &(impl Abort + AllocGlobal), lines: &str) -> Result<ResultFile, Fail> {
+    let mut text = String::new(rt.alloc());
+    write!(text, "{HEAD}{lines}")?;
+    Ok(parse(rt.alloc(), text.as_bytes())?)
+}
+
 /// Compares the answer to a file of these lines with what it should be.
 fn expect_answer(
     rt: &(impl Abort + AllocGlobal + RandomSource),
     lines: &str,
     answer: Answer,
 ) -> Result<(), Fail> {
-    let mut text = String::new(rt.alloc());
-    write!(text, "{HEAD}{lines}")?;
-    let file = parse(rt.alloc(), text.as_bytes())?;
+    let file = file_of(rt, lines)?;
     assert_eq!(rt; answer_to(rt, &file)?, answer);
     Ok(())
 }
