@@ -1,10 +1,9 @@
 use crate::{
-    AddRefused, Added, Asides, Cause, Cleaned, MAX_PATHS, PathTable, Sets, clean, clean_into,
-    first_repeated, is_clean_path, is_cleaned,
+    AddRefused, Added, Asides, Cause, Cleaned, PathTable, Sets, clean, clean_into, first_repeated,
+    is_clean_path, is_cleaned,
 };
 use path_attrs::{Width, attributes};
 use std::alloc::{AllocError, Global};
-use std::process::Abort;
 use std::test::Fail;
 use tor_arena::{Index, Keys, List, PathId, Rows};
 
@@ -346,47 +345,6 @@ fn a_table_of_two_paths(rt: HostRuntime) -> Result<(), Fail> {
     assert_eq!(rt; rows.row(id), [10, 20, 30, 40].as_slice());
     assert_eq!(rt; times.as_slice(), [1, 2].as_slice());
     Ok(())
-}
-
-/// Adds the paths `n 70000` for the numbers from 1 to `last`, and answers how many of them were new.
-fn add_pairs(rt: &impl Abort, table: &mut PathTable, last: u32) -> u32 {
-    let mut count: u32 = 0;
-    for number in 1..=last {
-        let path = [number, 70000];
-        assert!(rt; is_cleaned(&path));
-        if matches!(table.add(&path), Ok(Added::New(_))) {
-            count = count.saturating_add(1);
-        }
-    }
-    count
-}
-
-/// How many of the paths `n 70000` for the numbers from 1 to `last` stand where they were added, and how many guesses say so.
-fn count_found(table: &PathTable, last: u32) -> (u32, u32) {
-    let mut found: u32 = 0;
-    let mut guessed: u32 = 0;
-    for number in 1..=last {
-        let path = [number, 70000];
-        let place = table.find(&path).map(|id| id.place() as u32);
-        if place == number.checked_sub(1) {
-            found = found.saturating_add(1);
-        }
-        let guess = table.guess(table.tag(&path));
-        if table.find_guessed(guess, &path).is_some() {
-            guessed = guessed.saturating_add(1);
-        }
-    }
-    (found, guessed)
-}
-
-#[test]
-fn paths_stay_found_while_slots_are_made_anew(rt: HostRuntime) {
-    let mut table = PathTable::new(rt.alloc(), Keys::new(&rt), MAX_PATHS);
-    assert_eq!(rt; add_pairs(&rt, &mut table, 3000), 3000);
-    assert_eq!(rt; add_pairs(&rt, &mut table, 3000), 0);
-    let (found, guessed) = count_found(&table, 3000);
-    assert_eq!(rt; found, 3000);
-    assert!(rt; guessed > 1500);
 }
 
 #[test]
