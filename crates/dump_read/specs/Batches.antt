@@ -33,12 +33,14 @@ pub record IsBatch (causes : List (Option Cause)) (paths : List (List ℕ)) : Ty
 -- where the path of a route was found it stands
 abbrev pub AreFound : List Counted → Batched → Type 0
 AreFound rows batch =
-    (k id : ℕ) (path : List ℕ) → slice_get batch.places k ≡ Some (Some id) → slice_get batch.routes k ≡ Some (Path path) → place_of rows path ≡ Some id
+    (k id : ℕ) (path : List ℕ) → slice_get batch.places k ≡ Some (Some id) → slice_get batch.routes k ≡ Some (Path path) →
+    place_of rows path ≡ Some id
 
 -- where a place is named it is that of the path of the same number
 abbrev pub AreRight : List Counted → List (List ℕ) → List (Option ℕ) → Type 0
 AreRight rows paths places =
-    (k id : ℕ) (path : List ℕ) → slice_get places k ≡ Some (Some id) → slice_get paths k ≡ Some path → place_of rows path ≡ Some id
+    (k id : ℕ) (path : List ℕ) → slice_get places k ≡ Some (Some id) → slice_get paths k ≡ Some path →
+    place_of rows path ≡ Some id
 
 -- the route of this place was taken in
 abbrev pub TakesAt : Batched → ℕ → (old new : Taken) → Type 0

@@ -34,7 +34,8 @@ of_taking dump (Err kind) = Err (Limit kind dump)
 -- the routes of the file, and then its end; where it is read to its end, what it holds is counted
 abbrev pub of_octets : Sets → ℕ → Taken → List ℕ → Result Taken End
 of_octets sets dump taken octets =
-    of_taking dump (take_routes sets taken (file_reading octets).routes) >>= λ all. of_end dump (file_reading octets).end (with_file octets all)
+    of_taking dump (take_routes sets taken (file_reading octets).routes) >>= λ all.
+    of_end dump (file_reading octets).end (with_file octets all)
 
 -- the same of a file that may be absent
 abbrev pub of_file : Sets → ℕ → Taken → Option (List ℕ) → Result Taken End

@@ -34,9 +34,10 @@ pub fn clean(
 
 /// Cleans a route's attributes, with AS numbers of the width. None: `path`, whatever it held, is now what they are cleaned to. Else
 /// the cause for which the route is set aside, the first in this order, and `path` may be anything. No AS_PATH: NoPath. A malformed
-/// one: BadSegments. Else its segments are cleaned, merged with AS4_PATH where that counts, as `path_attrs::path_of` answers. A confederation segment: Confed. An AS_SET whose members are all equal is read as that one AS; at any other,
-/// `Skip` sets the route aside, Sets, and `Cut` ends the path before it. Then equal neighbours are merged. A reserved number is left:
-/// Reserved. An AS stands twice: Loop. Fewer than two are left: Short. NoMemory where memory ran out.
+/// one: BadSegments. Else its segments are cleaned, merged with AS4_PATH where that counts, as `path_attrs::path_of` answers. A
+/// confederation segment: Confed. An AS_SET whose members are all equal is read as that one AS; at any other, `Skip` sets the route
+/// aside, Sets, and `Cut` ends the path before it. Then equal neighbours are merged. A reserved number is left: Reserved. An AS
+/// stands twice: Loop. Fewer than two are left: Short. NoMemory where memory ran out.
 pub fn clean_into(
     alloc: Global,
     sets: Sets,
