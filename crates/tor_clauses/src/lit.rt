@@ -66,8 +66,8 @@ impl Lit {
         ends[self.edge.place()] == self.over
     }
 
-    /// The literal that the AS from which a step goes is over the one that it reaches.
-    pub(crate) fn of_step(step: &Step) -> Lit
+    /// The literal that the AS from which a step goes is over the one that it reaches. It takes no memory.
+    pub fn of_step(step: &Step) -> Lit
         ensures { result ≡ record { edge = step.now.edge; over = step.now.left } }
     {
         Lit {
