@@ -115,8 +115,8 @@ fn key(triple: &Triple) -> (NodeId, NodeId)
     }
 }
 
-/// The number of a pair of nodes, from 2 on.
-fn number_of(pair: (NodeId, NodeId)) -> u64
+/// The number of a pair of nodes, from 2 on, by which a table of numbers finds it: no other pair has the same. It takes no memory.
+pub fn number_of(pair: (NodeId, NodeId)) -> u64
     ensures { result ≡ number_of_pair pair }
 {
     pair.0.place() as u64 * 4294967296 + pair.1.place() as u64 + 2
