@@ -202,3 +202,16 @@ fn make_room(
     }
     Ok(())
 }
+
+#[cfg(test)]
+mod tests {
+    use super::NumberSet;
+    use crate::tests::keys_of;
+
+    #[test]
+    fn the_seed_is_made_with_the_keys(rt: HostRuntime) {
+        let set = NumberSet::new(rt.alloc(), keys_of(1));
+        assert_eq!(rt; set.seed, NumberSet::new(rt.alloc(), keys_of(1)).seed);
+        assert_ne!(rt; set.seed, NumberSet::new(rt.alloc(), keys_of(2)).seed);
+    }
+}

@@ -210,3 +210,16 @@ fn make_room(
     }
     Ok(())
 }
+
+#[cfg(test)]
+mod tests {
+    use super::PlaceTable;
+    use crate::tests::keys_of;
+
+    #[test]
+    fn the_seed_is_made_with_the_keys(rt: HostRuntime) {
+        let table = PlaceTable::new(rt.alloc(), keys_of(1));
+        assert_eq!(rt; table.seed, PlaceTable::new(rt.alloc(), keys_of(1)).seed);
+        assert_ne!(rt; table.seed, PlaceTable::new(rt.alloc(), keys_of(2)).seed);
+    }
+}

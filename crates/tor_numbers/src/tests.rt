@@ -1,8 +1,28 @@
 ghost use Rattle.std.specs.Prelude.{◌≤◌};
 
 use crate::{NumberSet, PlaceTable};
+use std::io;
+use std::random::RandomSource;
 use std::test::Fail;
 use tor_arena::Keys;
+
+/// A source that gives one octet over and over.
+#[derive(Drop)]
+struct OneOctet {
+    octet: u8,
+}
+
+impl RandomSource for OneOctet {
+    fn fill_bytes(&self, buffer: &mut [u8]) -> io::Result<()> {
+        buffer.fill(self.octet);
+        Ok(())
+    }
+}
+
+/// Keys from a source that gives only this octet: the same octet gives the same keys.
+pub(crate) fn keys_of(octet: u8) -> Keys {
+    Keys::new(&OneOctet { octet })
+}
 
 /// Adds a hundred numbers in a row, and answers how many of them were new.
 fn add_hundred(set: &mut NumberSet, first: u64) -> Result<usize, Fail>
