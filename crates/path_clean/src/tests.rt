@@ -1,9 +1,12 @@
+use crate::hashing::seed_of;
 use crate::{
     AddRefused, Added, Asides, Cause, Cleaned, PathTable, Sets, clean, clean_into, first_repeated,
     is_clean_path, is_cleaned,
 };
 use path_attrs::{Width, attributes};
 use std::alloc::{AllocError, Global};
+use std::io;
+use std::random::RandomSource;
 use std::test::Fail;
 use tor_arena::{Index, Keys, List, PathId, Rows};
 
@@ -345,6 +348,35 @@ fn a_table_of_two_paths(rt: HostRuntime) -> Result<(), Fail> {
     assert_eq!(rt; rows.row(id), [10, 20, 30, 40].as_slice());
     assert_eq!(rt; times.as_slice(), [1, 2].as_slice());
     Ok(())
+}
+
+/// A source that gives one octet over and over.
+#[derive(Drop)]
+struct OneOctet {
+    octet: u8,
+}
+
+impl RandomSource for OneOctet {
+    fn fill_bytes(&self, buffer: &mut [u8]) -> io::Result<()> {
+        buffer.fill(self.octet);
+        Ok(())
+    }
+}
+
+/// Keys from a source that gives only this octet: the same octet gives the same keys.
+fn keys_of(octet: u8) -> Keys {
+    Keys::new(&OneOctet { octet })
+}
+
+#[test]
+fn hashes_begin_with_the_keys(rt: HostRuntime) {
+    assert_eq!(rt; seed_of(keys_of(1)), seed_of(keys_of(1)));
+    assert_ne!(rt; seed_of(keys_of(1)), seed_of(keys_of(2)));
+    let tag = PathTable::new(rt.alloc(), keys_of(1), 1).tag(&[10, 20]);
+    let same = PathTable::new(rt.alloc(), keys_of(1), 1).tag(&[10, 20]);
+    let other = PathTable::new(rt.alloc(), keys_of(2), 1).tag(&[10, 20]);
+    assert_eq!(rt; tag, same);
+    assert_ne!(rt; tag, other);
 }
 
 #[test]
