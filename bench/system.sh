@@ -1,7 +1,7 @@
 #!/usr/bin/env bash
 # What the two programs do at the ends that touch the system: full devices, closed pipes, folders, absent files, standard input, many
-# dumps and few descriptors. Each line says the run and whether status, output and note were as they should be; the script ends with 1
-# if one was not.
+# dumps and few descriptors, endless results. Each line says the run and whether status, output and note were as they should be; the
+# script ends with 1 if one was not.
 #   bench/system.sh TOR TORCHECK SAMPLES
 set -uo pipefail
 tor=$1 torcheck=$2 samples=$3
@@ -9,10 +9,10 @@ work=$(mktemp -d)
 trap 'rm -rf "$work"' EXIT
 failed=0
 
-# Compares the status and the note of a run with what is wanted; the note up to the end of what is wanted.
+# Compares the status and the note of a run with what is wanted; the note up to the end of what is wanted, and whole where none is.
 expect() { # NAME STATUS WANTED_STATUS WANTED_NOTE
     local note
-    note=$(head -c "${#4}" "$work/note" | tr -d '\0')
+    if [ -n "$4" ]; then note=$(head -c "${#4}" "$work/note" | tr -d '\0'); else note=$(cat "$work/note"); fi
     if [ "$2" = "$3" ] && [ "$note" = "$4" ]; then
         echo "ok: $1"
     else
@@ -97,5 +97,24 @@ expect "an absent result" $? 4 "read-fault|0"
 
 "$torcheck" "$samples" > "$work/out" 2> "$work/note"
 expect "a folder for a result" $? 4 "read-fault|0"
+
+# Of a longer result 2^31 + 1 octets are read, so these runs hold 2 GiB each.
+if [ "$(awk '/^MemAvailable/ { print $2 }' /proc/meminfo)" -gt 6000000 ]; then
+    truncate -s 2147483648 "$work/long"
+    "$torcheck" "$work/long" > "$work/out" 2> "$work/note"
+    expect "a result of 2^31 octets" $? 1 ""
+    same "a result of 2^31 octets" "$work/out" "no|1|0"
+
+    truncate -s 2147483649 "$work/long"
+    "$torcheck" "$work/long" "$work/absent" > "$work/out" 2> "$work/note"
+    expect "a result of 2^31 + 1 octets" $? 6 "limit|result|0"
+    same "a result of 2^31 + 1 octets" "$work/out" ""
+
+    "$torcheck" /dev/zero > "$work/out" 2> "$work/note"
+    expect "an endless result" $? 6 "limit|result|0"
+    same "an endless result" "$work/out" ""
+else
+    echo "left out: results of 2^31 octets, for want of memory"
+fi
 
 exit $failed
