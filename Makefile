@@ -1,8 +1,8 @@
 # `make` proves and builds bin/tor and bin/torcheck, makes the result of a sample and checks it; `make test` is the whole gate;
 # `make samples` compares the lists of two real dumps, path identifiers and AS4_PATH among them, with what other readers give, and
-# checks the results of both; `make system` tries
-# both programs on full devices, closed pipes, folders and the like.
-.PHONY: all test samples system clean FORCE
+# checks the results of both; `make system` tries both programs on full devices, closed pipes, folders and the like, and `make memory`
+# with each of their allocations refused.
+.PHONY: all test samples system memory clean FORCE
 
 all: bin/tor bin/torcheck
 	bin/tor samples/three-paths.mrt > bin/three-paths.result.txt
@@ -34,6 +34,9 @@ samples: bin/tor bin/torcheck
 
 system: bin/tor bin/torcheck
 	bench/system.sh bin/tor bin/torcheck samples
+
+memory: bin/tor bin/torcheck
+	bench/memory.sh bin/tor bin/torcheck samples
 
 clean:
 	rm -rf bin crates/*/out
