@@ -1,21 +1,10 @@
 -- Edges in a list, and the counts of their ends.
-use Rattle.std.proofs.Common.{◌≡◌, ℕ, ◌+◌, ◌<◌, ◌≤◌, ◌^◌, inl, inr, false, cond, List, [], ◌∷◌, ◌++◌, length, get_or, sym, ap, ◌∙◌, subst, arith, nat_eq, Some, slice_get, position, if◌then◌else◌, eqb-true, length-append}
-use Rattle.std.specs.List.{position_or_len}
-use Rattle.std.proofs.lemmas.Bool.{cases_Bool, ltb-true, ne_eqb}
-use Rattle.std.proofs.lemmas.Option.{cond_some, slice_get-get_or}
-use Rattle.std.proofs.lemmas.List.Sums.{passes_at_first, sum_by_push, count_by-le-length}
+use Rattle.std.proofs.Common.{◌≡◌, ℕ, ◌+◌, ◌<◌, ◌≤◌, ◌^◌, inl, inr, false, cond, List, [], ◌∷◌, ◌++◌, length, arith, nat_eq, if◌then◌else◌, eqb-true, length-append}
+use Rattle.std.proofs.lemmas.Bool.{cases_Bool, ne_eqb}
+use Rattle.std.proofs.lemmas.List.Sums.{sum_by_push, count_by-le-length}
 use Rattle.std.proofs.lemmas.List.Elements.{All-push}
-use Rattle.relationships.specs.Graph.{Edge, is_same}
-use Rattle.relationships.proofs.Edges.{same_edge}
+use Rattle.relationships.specs.Graph.{Edge}
 use Rattle.as_graph.specs.Inside.{holds, count_of, CountsOneMore, IsTable}
-
--- an edge stands where it is found
-pub placed : (e : Edge) (es : List Edge) (i : ℕ) → position (is_same e) es ≡ Some i → slice_get es i ≡ Some e
-placed e es i h =
-    let p = cond_some _ _ _ h in
-    let lt : position_or_len (is_same e) es < length es = ltb-true _ _ p.0 in
-    let there = same_edge e (get_or es (position_or_len (is_same e) es) (0, 0)) (passes_at_first (is_same e) es (0, 0) lt) in
-    subst (λ k. slice_get es k ≡ Some e) p.1 (slice_get-get_or es (position_or_len (is_same e) es) (0, 0) lt ∙ ap (λ (f : Edge). Some f) (sym there))
 
 pub counted_few : (es : List Edge) (counts : List (ℕ × ℕ)) (a : ℕ) → IsTable es counts → count_of counts a ≤ length es
 counted_few es counts a h = let e = h.degrees a in let le = count_by-le-length (holds a) es in omega (arith, e, le)

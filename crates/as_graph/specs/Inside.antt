@@ -1,5 +1,5 @@
 -- What the fields of a graph hold.
-use Rattle.std.specs.Prelude.{◌≡◌, ℕ, ◌+◌, ◌<◌, ◌≤◌, ◌^◌, ◌||◌, ◌==◌, Bool, List, [], ◌∷◌, ◌++◌, All, length, map, sum_by, count_by, slice_index_or, unwrap_or, nat_eq, if◌then◌else◌}
+use Rattle.std.specs.Prelude.{◌≡◌, ℕ, ◌+◌, ◌-◌, ◌*◌, ◌/◌, ◌%◌, ◌<◌, ◌≤◌, ◌^◌, ◌||◌, ◌==◌, Bool, List, [], ◌∷◌, ◌++◌, All, length, map, sum_by, count_by, slice_index_or, unwrap_or, nat_eq, if◌then◌else◌}
 use Rattle.std.specs.List.{list_any}
 use Rattle.std.specs.Map.{lookup}
 use Rattle.relationships.specs.declared.label.End.{End}
@@ -25,6 +25,17 @@ AreDegrees es counts = (a : ℕ) → count_of counts a ≡ count_by (holds a) es
 -- one more is counted for this AS, and none for any other
 abbrev pub CountsOneMore : List (ℕ × ℕ) → ℕ → List (ℕ × ℕ) → Type 0
 CountsOneMore counts end more = (a : ℕ) → count_of more a ≡ count_of counts a + (if nat_eq end a then 1 else 0)
+
+-- the number of an edge, from 2 on
+abbrev pub number_of_edge : Edge → ℕ
+number_of_edge e = e.0 * 2 ^ 32 + e.1 + 2
+
+-- the edge of a number
+abbrev pub edge_numbered : ℕ → Edge
+edge_numbered n = ((n - 2) / 2 ^ 32, (n - 2) % 2 ^ 32)
+
+abbrev pub edges_numbered : List ℕ → List Edge
+edges_numbered numbers = map edge_numbered numbers
 
 -- each edge has its lower number first, and there are few enough to be numbered
 pub record IsTable (es : List Edge) (counts : List (ℕ × ℕ)) : Type 0 where

@@ -2,17 +2,19 @@ ghost use Rattle.std.specs.Prelude.{◌≡◌, ◌+◌, ◌<◌, ◌≤◌, ◌^
 ghost use Rattle.std.specs.List.{list_any};
 ghost use Rattle.indexmap.specs.IndexMap.{spare};
 ghost use Rattle.relationships.specs.Graph.{is_same};
-ghost use Rattle.as_graph.specs.Inside.{holds, with_edge, count_of, CountsOneMore};
+ghost use Rattle.as_graph.specs.Inside.{holds, with_edge, count_of, number_of_edge, edge_numbered, CountsOneMore};
 
-use indexmap::{IndexMap, IndexSet};
+use indexmap::IndexMap;
 use std::alloc::Global;
 use std::marker::Model;
 use tor_arena::{EdgeId, Index, Keys, NoMemory};
+use tor_numbers::PlaceTable;
 
 /// Edges in order of first appearance, each once, with the degrees of their ends.
 #[derive(Drop)]
 pub(crate) struct EdgeTable {
-    pairs: IndexSet<(u32, u32), Keys>,
+    // the number of each edge
+    numbers: PlaceTable,
     // for each end of an edge, how many edges have it
     counts: IndexMap<u32, u32, Keys>,
 }
@@ -20,13 +22,13 @@ pub(crate) struct EdgeTable {
 impl Model for EdgeTable {
     ghost use Rattle.std.specs.Prelude.{List};
     ghost use Rattle.relationships.specs.Graph.{Edge};
-    ghost use Rattle.as_graph.specs.Inside.{IsTable};
+    ghost use Rattle.as_graph.specs.Inside.{IsTable, edges_numbered};
 
     ghost Value = { List Edge };
 
-    ghost view = { λ table. table.pairs.keys };
+    ghost view = { λ table. edges_numbered table.numbers };
 
-    ghost invariant = { λ table. IsTable table.pairs.keys table.counts.entries };
+    ghost invariant = { λ table. IsTable (edges_numbered table.numbers) table.counts.entries };
 }
 
 impl EdgeTable {
@@ -35,7 +37,7 @@ impl EdgeTable {
         ensures { result ≡ [] }
     {
         EdgeTable {
-            pairs: IndexSet::with_hasher(alloc, keys),
+            numbers: PlaceTable::new(alloc, keys),
             counts: IndexMap::with_hasher(alloc, keys),
         }
     }
@@ -44,7 +46,7 @@ impl EdgeTable {
     pub fn len(&self) -> usize
         ensures { result ≡ length self.now }
     {
-        self.pairs.len()
+        self.numbers.len()
     }
 
     /// The two ends of an edge. It takes no memory.
@@ -53,7 +55,7 @@ impl EdgeTable {
         ensures pair { slice_get self.now id ≡ Some result }
         ensures order { result.0 < result.1 }
     {
-        self.pairs[id.place()]
+        edge_of_number(self.numbers.numbers()[id.place()])
     }
 
     /// The edge with these two ends. It takes no memory.
@@ -61,7 +63,11 @@ impl EdgeTable {
         ensures edge { IfSome result (λ id. slice_get self.now id ≡ Some (low, high)) }
         ensures none { IsNone result ↔ IsFalse (list_any (is_same (low, high)) self.now) }
     {
-        let place = self.pairs.get_index_of(&(low, high))?;
+        let numbers = &self.numbers;
+        if low >= high {
+            return None;
+        }
+        let place = numbers.place(number_of(low, high))?;
         EdgeId::from_place(place)
     }
 
@@ -81,13 +87,32 @@ impl EdgeTable {
         ensures err { OnErr result (self.new ≡ self.old) }
     {
         self.counts.reserve(2)?;
-        let (place, is_new) = self.pairs.insert_full((low, high))?;
-        if is_new {
+        let count = self.numbers.len();
+        let place = self.numbers.add(number_of(low, high))?;
+        if place == count {
             count_end(&mut self.counts, low);
             count_end(&mut self.counts, high);
         }
         Ok(EdgeId::from_place(place).unwrap())
     }
+}
+
+/// The number of an edge, from 2 on: no other edge has the same.
+fn number_of(low: u32, high: u32) -> u64
+    requires { low < high }
+    ensures number { result ≡ number_of_edge (low, high) }
+    ensures least { 2 ≤ result }
+{
+    u64::from(low) * 4294967296 + u64::from(high) + 2
+}
+
+/// The edge of a number.
+fn edge_of_number(number: u64) -> (u32, u32)
+    requires { 2 ≤ number }
+    ensures { result ≡ edge_numbered number }
+{
+    let whole = number - 2;
+    ((whole / 4294967296) as u32, (whole % 4294967296) as u32)
 }
 
 /// Counts one more edge with this end, for which there is room.
