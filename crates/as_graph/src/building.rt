@@ -22,6 +22,7 @@ pub fn build(alloc: Global, keys: Keys, paths: &Rows<PathId, u32>) -> Result<AsG
 {
     let mut table = EdgeTable::new(alloc, keys);
     let mut rows = Rows::new(alloc);
+    rows.reserve(paths.len(), steps_on(paths))?;
     let mut steps = List::new(alloc);
     for place in 0..paths.len() {
         let path = PathId::from_place(place).unwrap();
@@ -30,6 +31,16 @@ pub fn build(alloc: Global, keys: Keys, paths: &Rows<PathId, u32>) -> Result<AsG
         add_row(&mut rows, steps.as_slice())?;
     }
     Ok(AsGraph { table, rows })
+}
+
+/// How many steps the paths have in sum, for which memory is taken at once.
+fn steps_on(paths: &Rows<PathId, u32>) -> usize {
+    let mut sum = 0usize;
+    for place in 0..paths.len() {
+        let path = PathId::from_place(place).unwrap();
+        sum = sum.saturating_add(paths.row(path).len().saturating_sub(1));
+    }
+    sum
 }
 
 /// Adds a row, where there are not too many.
