@@ -28,6 +28,15 @@ static DEGREES: [(u32, u64); 7] = [
     (70, 0),
 ];
 
+/// Pairs of ASes that are not neighbours on the path of the least and the greatest numbers.
+static NO_EDGES: [(u32, u32); 5] = [
+    (0, 0),
+    (1, 1),
+    (0, 4294967295),
+    (1, 4294967294),
+    (4294967295, 4294967295),
+];
+
 fn three_paths(alloc: Global) -> Result<Rows<PathId, u32>, RowRefused>
     ensures { IfOk result (λ rows. rows ≡ (30 ∷ 40 ∷ 20 ∷ 10 ∷ 50 ∷ 60 ∷ []) ∷ (10 ∷ 20 ∷ 30 ∷ 40 ∷ []) ∷ (50 ∷ 60 ∷ 10 ∷ 20 ∷ []) ∷ []) }
 {
@@ -73,6 +82,34 @@ fn edges_and_degrees(rt: HostRuntime) -> Result<(), Fail> {
     for (number, degree) in DEGREES {
         assert_eq!(rt; graph.degree(number), degree);
     }
+    Ok(())
+}
+
+fn outermost_graph(alloc: Global, keys: Keys) -> Result<AsGraph, Fail>
+    ensures { IfOk result (λ graph. graph ≡ (4294967295 ∷ 4294967294 ∷ 0 ∷ 1 ∷ []) ∷ []) }
+{
+    let mut rows = Rows::new(alloc);
+    rows.push_row(&[4294967295, 4294967294, 0, 1])?;
+    Ok(build(alloc, keys, &rows)?)
+}
+
+#[test]
+fn least_and_greatest_numbers(rt: HostRuntime) -> Result<(), Fail> {
+    let graph = outermost_graph(rt.alloc(), Keys::new(&rt))?;
+    assert_eq!(rt; graph.edge_count(), 3);
+    assert_eq!(rt; graph.edge_between(4294967295, 4294967294), Some(edge(0)));
+    assert_eq!(rt; graph.edge_between(0, 4294967294), Some(edge(1)));
+    assert_eq!(rt; graph.edge_between(1, 0), Some(edge(2)));
+    for (a, b) in NO_EDGES {
+        assert_eq!(rt; graph.edge_between(a, b), None);
+    }
+    assert_eq!(rt;
+        graph.edge(edge(0)),
+        Edge {
+            low: 4294967294,
+            high: 4294967295
+        }
+    );
     Ok(())
 }
 
