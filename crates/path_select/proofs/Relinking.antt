@@ -10,19 +10,19 @@ use Rattle.tor_arena.specs.Distinct.{AllDistinct}
 use Rattle.relationships.specs.Graph.{Edge, edges}
 use Rattle.relationships.specs.Evidence.{Numbered, StandAt, TripleAt, Fits, IsLinked, Refutes}
 use Rattle.relationships.proofs.Places.{index-from_StandAt}
-use Rattle.tor_digraph.proofs.Gets.{slice_get-lt, slice_get-push_old, slice_get-push_last, slice_get-push_cases}
+use Rattle.tor_digraph.proofs.Gets.{slice_get-push_old, slice_get-push_last, slice_get-push_cases}
 use Rattle.as_graph.specs.declared.step.Step.{Step}
 use Rattle.as_graph.specs.Steps.{IsStep, AreStepsFrom, AreSteps}
 use Rattle.as_graph.specs.Paths.{path_at}
 use Rattle.tor_clauses.specs.Literals.{lit_of, Says}
 use Rattle.tor_clauses.specs.Formulas.{numbered, IsLinkOf}
-use Rattle.tor_clauses.proofs.Members.{In, In-append_left, In-append_right, In-append_cases, In-map, map-In, get-In, Contains-In, In-Contains}
+use Rattle.tor_clauses.proofs.Members.{In, In-append_left, In-append_right, In-append_cases, In-map, map-In, Contains-In, In-Contains}
 use Rattle.tor_clauses.proofs.LiteralLemmas.{lit_of_node}
 use Rattle.tor_clauses.proofs.Overs.{Says-one}
 use Rattle.relationships.proofs.WalkLemmas.{apart_at, apart_next}
 use Rattle.path_select.specs.declared.refusals.Refusal.{Refusal}
 use Rattle.path_select.specs.declared.refusals.Met.{Met}
-use Rattle.path_select.specs.Refusals.{node_at, relink, relinked, NamesOnly, HasTriple, Refuses, IsRefused, AreRefused, IsMet, Adds, Remembers}
+use Rattle.path_select.specs.Refusals.{node_at, relink, relinked, NamesOnly, HasTriple, Refuses, IsRefused, AreRefused, IsMet, Remembers}
 
 some_same : {X : Type 0} {a b : X} → Some a ≡ Some b → a ≡ b
 some_same e = cc
@@ -167,7 +167,9 @@ steps_stand es before x (y ∷ []) (u ∷ []) zero s t at are h g is = absurd (c
 steps_stand es before x (y ∷ []) (u ∷ v ∷ steps) zero s t at are h g is = absurd are.1
 steps_stand es before x (y ∷ z ∷ rest) (u ∷ []) zero s t at are h g is = absurd are.1
 steps_stand es before x (y ∷ z ∷ rest) (u ∷ v ∷ steps) zero s t at are h g is = (
-  x, y, z,
+  x,
+  y,
+  z,
   record { before = before; after = rest; whole = refl; place = omega (arith, is) },
   subst (IsStep es x y) (some_same h) are.0,
   subst (IsStep es y z) (some_same g) are.1.0,
@@ -192,9 +194,14 @@ pub step_triple : (graph : List (List ℕ)) (path : ℕ) (steps : List Step) (k 
     HasTriple graph path at (node_at s) (node_at t)
 step_triple graph path steps k s t at apart lt are here next is =
     let (x, y, z, stand, one, two) = all_steps (edges graph) (path_at graph path) steps k s t at are here next is in
-    let distinct : AllDistinct (stand.before ++ (x ∷ y ∷ z ∷ stand.after)) = subst AllDistinct stand.whole (apart path [] lt) in
-    (x, y, z, stand, says_at (edges graph) x y s (apart_at stand.before x y (z ∷ stand.after) distinct) one,
-    says_at (edges graph) y z t (apart_next stand.before x y z stand.after distinct) two)
+    let distinct : AllDistinct (stand.before ++ (x ∷ y ∷ z ∷ stand.after)) = subst AllDistinct stand.whole (apart path [] lt) in (
+      x,
+      y,
+      z,
+      stand,
+      says_at (edges graph) x y s (apart_at stand.before x y (z ∷ stand.after) distinct) one,
+      says_at (edges graph) y z t (apart_next stand.before x y z stand.after distinct) two,
+    )
 
 -- ---- refusals, as paths are kept and lost
 
@@ -231,9 +238,12 @@ module _ (graph : List (List ℕ)) (kept : List ℕ) where
     one_refuses at r named only has =
         let here = link_of graph path (kept ++ path ∷ []) at r.first r.second (In-append_right path kept (path ∷ []) (inl refl)) has in
         let last : slice_get (fates ++ Fate.Lost w ∷ []) r.path ≡ Some (Fate.Lost w) =
-        ap (slice_get (fates ++ Fate.Lost w ∷ [])) (named ∙ sym next) ∙ slice_get-push_last fates (Fate.Lost w) in
-        (w, last, subst (λ n. Refuses graph kept r.first r.second (n + 1) w) (sym named)
-        (λ more link is. refutes_again graph kept path at r.first r.second here more link is w only refutes))
+        ap (slice_get (fates ++ Fate.Lost w ∷ [])) (named ∙ sym next) ∙ slice_get-push_last fates (Fate.Lost w) in (
+          w,
+          last,
+          subst (λ n. Refuses graph kept r.first r.second (n + 1) w) (sym named)
+              (λ more link is. refutes_again graph kept path at r.first r.second here more link is w only refutes),
+        )
 
     still : (r : Refusal) → IsRefused graph kept fates r → IsRefused graph kept (fates ++ Fate.Lost w ∷ []) r
     still r (v, lost, refuses) = (v, slice_get-push_old fates (Fate.Lost w ∷ []) r.path (Fate.Lost v) lost, refuses)

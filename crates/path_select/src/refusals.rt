@@ -87,12 +87,7 @@ fn lost_unless_satisfied(
 }
 
 /// The refusal that a path meets, if it has the triple of one that these providers do not satisfy. It takes no memory.
-pub(crate) fn find(
-    refusals: &Refusals,
-    graph: &AsGraph,
-    ends: &[End],
-    path: PathId,
-) -> Option<Met>
+pub(crate) fn find(refusals: &Refusals, graph: &AsGraph, ends: &[End], path: PathId) -> Option<Met>
     requires there { path < length graph.now }
     requires ends { length ends.now ≡ length (edges graph.now) }
     ensures { IfSome result (IsMet graph.now path refusals.now.items) }
@@ -131,7 +126,8 @@ pub(crate) fn walk_again(
     link: Link,
 ) -> Result<Walk, NoMemory>
     requires { (w : Evidence) × (slice_get fates.now lost ≡ Some (Becoming.Lost w)) }
-    ensures { IfOk result (λ walk. (w : Evidence) → slice_get fates.now lost ≡ Some (Becoming.Lost w) → walk ≡ relinked (lost + 1) link w) }
+    ensures { IfOk result (λ walk.
+        (w : Evidence) → slice_get fates.now lost ≡ Some (Becoming.Lost w) → walk ≡ relinked (lost + 1) link w) }
 {
     match fates.walk(lost) {
         None => unreachable!(),

@@ -1,4 +1,4 @@
-use Rattle.std.proofs.Common.{rules, ◌≡◌, List, IfSome, ap}
+use Rattle.std.proofs.Common.{◌≡◌, List, IfSome, ap, subst}
 use Rattle.std.proofs.lemmas.Bool.{false≢true}
 use Rattle.relationships.specs.Evidence.{Refutes}
 use Rattle.relationships.specs.declared.fate.Fate.{Fate}
@@ -13,7 +13,7 @@ pub returns-in-Some-clause-exact : goal.returns-in-Some-clause-exact
 returns-in-Some-clause-exact c =
     let graph = c.args.graph.now in
     let paths : List _ = with_path c.args.selector.now c.args.path in
-    let refutes : Refutes (numbered graph paths) c.in-Some.walk = search rules in (
+    let refutes = subst (λ o. IfSome o (Refutes (numbered graph paths))) c.in-Some.is c.in_ok-walk.ensures in (
       λ kept. absurd (false≢true kept),
       λ can. absurd (not_servable graph paths c.in-Some.walk c.refuting_law.ensures refutes can),
     )
