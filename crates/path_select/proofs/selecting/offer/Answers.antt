@@ -1,0 +1,34 @@
+use Rattle.std.proofs.Common.{◌≡◌, List, IfSome, ap, subst}
+use Rattle.std.proofs.lemmas.Bool.{false≢true}
+use Rattle.relationships.specs.Evidence.{Refutes}
+use Rattle.relationships.specs.declared.fate.Fate.{Fate}
+use Rattle.tor_clauses.specs.Formulas.{numbered}
+use Rattle.relationships.specs.Fates.{walk_of}
+use Rattle.path_select.specs.Choices.{Choice, with_path}
+use Rattle.path_select.proofs.Keepings.{not_servable}
+use Rattle.path_select.proofs.Relinking.{offered, lost_again}
+use Rattle.path_select.proofs.selecting.offer.Goals as goal
+
+pub returns-in-Some-clause-exact : goal.returns-in-Some-clause-exact
+returns-in-Some-clause-exact c =
+    let graph = c.args.graph.now in
+    let paths : List _ = with_path c.args.selector.now c.args.path in
+    let refutes = subst (λ o. IfSome o (Refutes (numbered graph paths))) c.in-Some.is c.in_ok-walk.ensures in (
+      λ kept. absurd (false≢true kept),
+      λ can. absurd (not_servable graph paths c.in-Some.walk c.refuting_law.ensures refutes can),
+    )
+
+pub returns-in-Some-clause-refused : goal.returns-in-Some-clause-refused
+returns-in-Some-clause-refused c =
+    lost_again c.args.graph.now c.args.selector.now.formula.paths c.args.fates.now c.in-Some.walk c.args.refusals.now.items c.requires.refused
+
+same_paths : (fate : Fate) (new old : Choice) → IfSome (walk_of fate) (λ walk. new ≡ old) → IfSome (walk_of fate) (λ walk. new.formula.paths ≡ old.formula.paths)
+same_paths Fate.Kept new old lost = tt
+same_paths (Fate.Lost walk) new old lost = ap (λ (c : Choice). c.formula.paths) lost
+
+pub returns-clause-refused : goal.returns-clause-refused
+returns-clause-refused c =
+    let e = c.in_ok-fate.ensures in
+    let fate = c.in_ok-fate.fate in
+    offered c.args.graph.now c.args.selector.now.formula.paths c.args.path c.args.fates.now fate c.offer.new.self.formula.paths c.args.refusals.now.items
+    c.remember.new.refusals.items c.requires.next e.kept (same_paths fate c.offer.new.self c.args.selector.now e.lost) e.walk c.requires.refused c.in_ok-remember.ensures

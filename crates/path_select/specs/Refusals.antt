@@ -1,0 +1,69 @@
+-- Triples that were refused alone, and why a later path with one of them is lost by the same walk.
+use Rattle.std.specs.Prelude.{◌≡◌, ◌⊎◌, ℕ, ◌+◌, ◌==◌, List, [], ◌∷◌, ◌++◌, Some, map, slice_get, if◌then◌else◌}
+use Rattle.relationships.specs.declared.walk.Link.{Link}
+use Rattle.relationships.specs.declared.walk.Walk.{Walk}
+use Rattle.relationships.specs.declared.fate.Fate.{Fate}
+use Rattle.relationships.specs.Graph.{edges}
+use Rattle.relationships.specs.Evidence.{StandAt, Refutes}
+use Rattle.as_graph.specs.declared.step.Step.{Step}
+use Rattle.as_graph.specs.Paths.{path_at}
+use Rattle.tor_clauses.specs.Literals.{node_of, lit_of, Says}
+use Rattle.tor_clauses.specs.Formulas.{numbered, IsLinkOf}
+use Rattle.path_select.specs.declared.refusals.Refusal.{Refusal}
+use Rattle.path_select.specs.declared.refusals.Met.{Met}
+
+-- the walk with this link in place of each into the path of this number
+abbrev pub relink : ℕ → Link → Link → Link
+relink own link old = if old.path == own then link else old
+
+abbrev pub relinked : ℕ → Link → Walk → Walk
+relinked own link w = record { ases = w.ases; links = map (relink own link) w.links }
+
+-- each link into the path of this number names this place on it
+abbrev pub NamesOnly : ℕ → ℕ → List Link → Type 0
+NamesOnly own at links = (k : ℕ) (link : Link) → slice_get links k ≡ Some link → link.path ≡ own → link.at ≡ at
+
+-- x, y, z stand on the path, y at this place, and the nodes are those of the literals "x over y" and "y over z"
+abbrev pub HasTriple : List (List ℕ) → ℕ → ℕ → ℕ → ℕ → Type 0
+HasTriple graph path at first second = (x y z : ℕ) × StandAt (path_at graph path) at x y z ×
+    Says (edges graph) (lit_of first) x y × Says (edges graph) (lit_of second) y z
+
+-- with the link of any such triple, on a kept path or one of any more, the walk refutes over these
+abbrev pub Refuses : List (List ℕ) → List ℕ → ℕ → ℕ → ℕ → Walk → Type 0
+Refuses graph kept first second own w = (more : List ℕ) (link : Link) → IsLinkOf graph (kept ++ more) link first second →
+    Refutes (numbered graph (kept ++ more)) (relinked own link w)
+
+-- the path of the refusal was lost, with such a walk
+abbrev pub IsRefused : List (List ℕ) → List ℕ → List Fate → Refusal → Type 0
+IsRefused graph kept fates r =
+    (w : Walk) × (slice_get fates r.path ≡ Some (Fate.Lost w)) × Refuses graph kept r.first r.second (r.path + 1) w
+
+abbrev pub AreRefused : List (List ℕ) → List ℕ → List Fate → List Refusal → Type 0
+AreRefused graph kept fates refusals = (k : ℕ) (r : Refusal) → slice_get refusals k ≡ Some r → IsRefused graph kept fates r
+
+-- the node of the literal that the AS from which a step goes is over the one that it reaches
+abbrev pub node_at : Step → ℕ
+node_at step = node_of (record { edge = step.edge; over = step.left })
+
+-- one of the refusals is of this path and of a triple of these nodes
+abbrev pub IsLostBy : List Refusal → ℕ → ℕ → ℕ → Type 0
+IsLostBy refusals first second lost = (k : ℕ) × (slice_get refusals k ≡ Some (record { first = first; second = second; path = lost }))
+
+-- the path has the triple of a refusal, whose path is named
+abbrev pub IsMet : List (List ℕ) → ℕ → List Refusal → Met → Type 0
+IsMet graph path refusals met =
+    (first second : ℕ) × IsLostBy refusals first second met.lost × HasTriple graph path met.at first second
+
+-- the refusals with one more of this path, whose walk has no link into it but of the triple
+pub record Adds (graph : List (List ℕ)) (path : ℕ) (w : Walk) (old new : List Refusal) : Type 0 where
+  pub refusal : Refusal
+  pub added : new ≡ old ++ refusal ∷ []
+  pub named : refusal.path ≡ path
+  pub at : ℕ
+  pub alone : NamesOnly (path + 1) at w.links
+  pub triple : HasTriple graph path at refusal.first refusal.second
+
+-- what becomes of the path is remembered: where it is lost there may be one more
+abbrev pub Remembers : List (List ℕ) → ℕ → Fate → List Refusal → List Refusal → Type 0
+Remembers graph path Fate.Kept old new = new ≡ old
+Remembers graph path (Fate.Lost w) old new = (new ≡ old) ⊎ Adds graph path w old new
