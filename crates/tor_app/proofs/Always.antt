@@ -26,44 +26,44 @@ pub record Cause (words : List (List ℕ)) (known : Option Files) (steady : Type
   pub write_fault : s ≡ status.WriteFault → Rose written_before written_now
 
 -- what the note of a status says of the words and the files
-note_malformed : (words : List (List ℕ)) (known : Option Files) (steady : Type 0) (s : Status) (text : List ℕ) →
-    IsCheckNote words known steady s text → s ≡ status.Malformed → LeadsToMalformed words known
-note_malformed words known steady s text note is = by (subst (λ (t : Status). IsCheckNote words known steady t text) is note)
+note_malformed : (words : List (List ℕ)) (known : Option Files) (steady : Type 0) (left : Option (List ℕ)) (s : Status) (text : List ℕ) →
+    IsCheckNote words known steady left s text → s ≡ status.Malformed → LeadsToMalformed words known
+note_malformed words known steady left s text note is = by (subst (λ (t : Status). IsCheckNote words known steady left t text) is note)
   where
-    by : IsCheckNote words known steady status.Malformed text → LeadsToMalformed words known
+    by : IsCheckNote words known steady left status.Malformed text → LeadsToMalformed words known
     by is = (is.0, is.1, is.3)
 
-note_limit : (words : List (List ℕ)) (known : Option Files) (steady : Type 0) (s : Status) (text : List ℕ) → IsCheckNote words known steady s text → s ≡ status.Limit → LeadsToLimit words known
-note_limit words known steady s text note is = by (subst (λ (t : Status). IsCheckNote words known steady t text) is note)
+note_limit : (words : List (List ℕ)) (known : Option Files) (steady : Type 0) (left : Option (List ℕ)) (s : Status) (text : List ℕ) → IsCheckNote words known steady left s text → s ≡ status.Limit → LeadsToLimit words known
+note_limit words known steady left s text note is = by (subst (λ (t : Status). IsCheckNote words known steady left t text) is note)
   where
-    by : IsCheckNote words known steady status.Limit text → LeadsToLimit words known
+    by : IsCheckNote words known steady left status.Limit text → LeadsToLimit words known
     by (inl long) = inl long.1
     by (inr why) = inr (why.0, why.1, why.3)
 
-note_absent : (words : List (List ℕ)) (known : Option Files) (steady : Type 0) (s : Status) (text : List ℕ) → IsCheckNote words known steady s text →
+note_absent : (words : List (List ℕ)) (known : Option Files) (steady : Type 0) (left : Option (List ℕ)) (s : Status) (text : List ℕ) → IsCheckNote words known steady left s text →
     steady → s ≡ status.ReadFault → LeadsToAbsent words known
-note_absent words known steady s text note held is = by (subst (λ (t : Status). IsCheckNote words known steady t text) is note)
+note_absent words known steady left s text note held is = by (subst (λ (t : Status). IsCheckNote words known steady left t text) is note)
   where
-    or_dump : (dump : ℕ) → FailedAtResult words known steady dump ⊎ FailedAtDump words known steady dump → LeadsToAbsent words known
+    or_dump : (dump : ℕ) → FailedAtResult words known steady left dump ⊎ FailedAtDump words known steady dump → LeadsToAbsent words known
     or_dump dump (inl why) = inl (why.absent held)
     or_dump dump (inr why) = inr (dump, why.absent held)
 
-    by : IsCheckNote words known steady status.ReadFault text → LeadsToAbsent words known
+    by : IsCheckNote words known steady left status.ReadFault text → LeadsToAbsent words known
     by why = or_dump why.0 why.2
 
-pub cause_of : (words : List (List ℕ)) (known : Option Files) (steady : Type 0) (s : Status) (text : List ℕ) (old new : Option (List ℕ)) (rb rn wb wn : ℕ)
+pub cause_of : (words : List (List ℕ)) (known : Option Files) (steady : Type 0) (left : Option (List ℕ)) (s : Status) (text : List ℕ) (old new : Option (List ℕ)) (rb rn wb wn : ℕ)
     → (s ≡ status.Done → GainsVerdict words known Yes old new) → (s ≡ status.No → GainsNo words known old new) → (s ≡ status.WriteFault → GainsVerdictPrefix words known old new)
-    → (s ≡ status.Usage → IsNone (check_settings_given words)) → IsCheckNote words known steady s text → (s ≡ status.ReadFault → Rose rb rn) → (s ≡ status.WriteFault → Rose wb wn)
+    → (s ≡ status.Usage → IsNone (check_settings_given words)) → IsCheckNote words known steady left s text → (s ≡ status.ReadFault → Rose rb rn) → (s ≡ status.WriteFault → Rose wb wn)
     → Cause words known steady s rb rn wb wn
-cause_of words known steady s text old new rb rn wb wn done refused cut_off usage note read_fault write_fault = record {
+cause_of words known steady left s text old new rb rn wb wn done refused cut_off usage note read_fault write_fault = record {
   done = λ is. (done is).0;
   refused = λ is. ((refused is).0, (refused is).1, (refused is).2.0);
   cut_off = λ is. ((cut_off is).0, (cut_off is).1);
   usage = usage;
-  malformed = note_malformed words known steady s text note;
-  limit = note_limit words known steady s text note;
+  malformed = note_malformed words known steady left s text note;
+  limit = note_limit words known steady left s text note;
   read_fault = read_fault;
-  steady_read_fault = note_absent words known steady s text note;
+  steady_read_fault = note_absent words known steady left s text note;
   write_fault = write_fault;
 }
 

@@ -19,9 +19,9 @@ use Rattle.tor_app.specs.declared.judging.Unjudged.{Unjudged}
 use Rattle.tor_app.specs.declared.judging.Unjudged.TheVariants as unjudged
 use Rattle.tor_app.specs.Notes.{malformed_note, limit_note, read_fault_note, result_note}
 use Rattle.tor_app.specs.Refusals.{AnswersStop, Says, IsNoMemory, note_in, note_text}
-use Rattle.tor_app.specs.Judging.{Outcome, Judged, NoResult, TooLong, Ends, IsAccepted, IsResult, IsVerdict, ComesTo, seen_for}
+use Rattle.tor_app.specs.Judging.{Outcome, Judged, NoResult, TooLong, Ends, IsAccepted, IsResult, IsVerdict, ComesTo, LeavesOnlyResult, seen_for}
 use Rattle.tor_app.specs.CheckAnswer.{LeadsTo, HoldsBefore, IsCheckNote}
-use Rattle.tor_app.specs.Unjudging.{EndsWith, StopsAt, IsUnjudged, AnswersUnjudged}
+use Rattle.tor_app.specs.Unjudging.{EndsWith, StopsAt, IsUnjudged, IsFailedResult, AnswersUnjudged}
 
 -- ---- what the words and the files give, where these are known
 
@@ -62,27 +62,27 @@ holds_before (Some files) settings bytes dump is holds = (bytes, holds.0, is, ho
 
 -- ---- notes
 
-no_memory : (words : List (List ℕ)) (known : Option Files) (steady : Type 0) (answer : Answer) → IsNoMemory answer → IsCheckNote words known steady answer.status (note_in answer)
-no_memory words known steady answer is =
-    subst (λ (s : Status). IsCheckNote words known steady s (note_text s answer.note)) (sym is.0) (ap (note_text status.NoMemory) is.1)
+no_memory : (words : List (List ℕ)) (known : Option Files) (steady : Type 0) (left : Option (List ℕ)) (answer : Answer) → IsNoMemory answer → IsCheckNote words known steady left answer.status (note_in answer)
+no_memory words known steady left answer is =
+    subst (λ (s : Status). IsCheckNote words known steady left s (note_text s answer.note)) (sym is.0) (ap (note_text status.NoMemory) is.1)
 
-says_note : (words : List (List ℕ)) (known : Option Files) (steady : Type 0) (s : Status) (text : List ℕ) (answer : Answer) → IsCheckNote words known steady s text → Says s text answer
-    → IsCheckNote words known steady answer.status (note_in answer)
-says_note words known steady s text answer note (inl said) =
-    subst (λ (t : Status). IsCheckNote words known steady t (note_in answer)) (sym said.0) (subst (λ (n : List ℕ). IsCheckNote words known steady s n) (sym said.1) note)
-says_note words known steady s text answer note (inr memory) = no_memory words known steady answer memory
+says_note : (words : List (List ℕ)) (known : Option Files) (steady : Type 0) (left : Option (List ℕ)) (s : Status) (text : List ℕ) (answer : Answer) → IsCheckNote words known steady left s text → Says s text answer
+    → IsCheckNote words known steady left answer.status (note_in answer)
+says_note words known steady left s text answer note (inl said) =
+    subst (λ (t : Status). IsCheckNote words known steady left t (note_in answer)) (sym said.0) (subst (λ (n : List ℕ). IsCheckNote words known steady left s n) (sym said.1) note)
+says_note words known steady left s text answer note (inr memory) = no_memory words known steady left answer memory
 
-stop_note : (words : List (List ℕ)) (known : Option Files) (steady : Type 0) (settings : CheckSettings) (bytes : List ℕ) (dump : ℕ) (e : DumpError) (answer : Answer)
+stop_note : (words : List (List ℕ)) (known : Option Files) (steady : Type 0) (left : Option (List ℕ)) (settings : CheckSettings) (bytes : List ℕ) (dump : ℕ) (e : DumpError) (answer : Answer)
     → check_settings_given words ≡ Some settings → IfSome known (λ files. IsResult settings files bytes) → StopsAt bytes settings.dumps known steady dump e
-    → AnswersStop dump e answer → IsCheckNote words known steady answer.status (note_in answer)
-stop_note words known steady settings bytes dump (error.Malformed place fault) answer given is stops says =
-    says_note words known steady status.Malformed (malformed_note place fault) answer
+    → AnswersStop dump e answer → IsCheckNote words known steady left answer.status (note_in answer)
+stop_note words known steady left settings bytes dump (error.Malformed place fault) answer given is stops says =
+    says_note words known steady left status.Malformed (malformed_note place fault) answer
     (place, fault, refl, leads words known settings (Ends (Malformed place fault)) given (end_comes known settings bytes (Malformed place fault) is stops)) says
-stop_note words known steady settings bytes dump (error.Limit kind) answer given is stops says =
-    says_note words known steady status.Limit (limit_note kind dump) answer
+stop_note words known steady left settings bytes dump (error.Limit kind) answer given is stops says =
+    says_note words known steady left status.Limit (limit_note kind dump) answer
     (inr (kind, dump, refl, leads words known settings (Ends (Limit kind dump)) given (end_comes known settings bytes (Limit kind dump) is stops))) says
-stop_note words known steady settings bytes dump error.ReadFault answer given is stops says =
-    says_note words known steady status.ReadFault (read_fault_note dump) answer (
+stop_note words known steady left settings bytes dump error.ReadFault answer given is stops says =
+    says_note words known steady left status.ReadFault (read_fault_note dump) answer (
       dump,
       refl,
       inr (record {
@@ -94,19 +94,19 @@ stop_note words known steady settings bytes dump error.ReadFault answer given is
         absent = λ held. leads words known settings (Ends (Absent dump)) given (end_comes known settings bytes (Absent dump) is (stops.3 held));
       }),
     ) says
-stop_note words known steady settings bytes dump error.NoMemory answer given is stops says = no_memory words known steady answer says
+stop_note words known steady left settings bytes dump error.NoMemory answer given is stops says = no_memory words known steady left answer says
 
-pub unjudged_note : (words : List (List ℕ)) (known : Option Files) (steady : Type 0) (u : Unjudged) (answer : Answer) → IsUnjudged words known steady u → AnswersUnjudged u answer
-    → IsCheckNote words known steady answer.status (note_in answer)
-unjudged_note words known steady (unjudged.Result unread.Failed) answer why says =
-    says_note words known steady status.ReadFault (read_fault_note 0) answer
-    (0, refl, inl (record { number = refl; settings = why.0; given = why.1; absent = λ held. leads words known why.0 NoResult why.1 (why.2 held) })) says
-unjudged_note words known steady (unjudged.Result unread.TooLong) answer why says =
-    says_note words known steady status.Limit result_note answer (inl (refl, leads words known why.0 TooLong why.1 why.2)) says
-unjudged_note words known steady (unjudged.Result unread.NoMemory) answer why says = no_memory words known steady answer says
-unjudged_note words known steady (unjudged.Refused (refusal.Words (refused.Usage text))) answer why says =
-    says_note words known steady status.Usage text answer why.1 (inl says)
-unjudged_note words known steady (unjudged.Refused (refusal.Words refused.NoMemory)) answer why says = no_memory words known steady answer says
-unjudged_note words known steady (unjudged.Refused (refusal.Dumps stopped)) answer why says =
-    stop_note words known steady why.0 why.2.0 stopped.dump stopped.error answer why.1 why.2.1 why.2.2 says
-unjudged_note words known steady (unjudged.Refused refusal.NoMemory) answer why says = no_memory words known steady answer says
+pub unjudged_note : (words : List (List ℕ)) (known : Option Files) (steady : Type 0) (left : Option (List ℕ)) (u : Unjudged) (answer : Answer) → IsUnjudged words known steady u → AnswersUnjudged u answer
+    → (IsFailedResult u → LeavesOnlyResult words known left) → IsCheckNote words known steady left answer.status (note_in answer)
+unjudged_note words known steady left (unjudged.Result unread.Failed) answer why says rest =
+    says_note words known steady left status.ReadFault (read_fault_note 0) answer
+    (0, refl, inl (record { number = refl; settings = why.0; given = why.1; unread = rest refl why.0 why.1; absent = λ held. leads words known why.0 NoResult why.1 (why.2 held) })) says
+unjudged_note words known steady left (unjudged.Result unread.TooLong) answer why says rest =
+    says_note words known steady left status.Limit result_note answer (inl (refl, leads words known why.0 TooLong why.1 why.2)) says
+unjudged_note words known steady left (unjudged.Result unread.NoMemory) answer why says rest = no_memory words known steady left answer says
+unjudged_note words known steady left (unjudged.Refused (refusal.Words (refused.Usage text))) answer why says rest =
+    says_note words known steady left status.Usage text answer why.1 (inl says)
+unjudged_note words known steady left (unjudged.Refused (refusal.Words refused.NoMemory)) answer why says rest = no_memory words known steady left answer says
+unjudged_note words known steady left (unjudged.Refused (refusal.Dumps stopped)) answer why says rest =
+    stop_note words known steady left why.0 why.2.0 stopped.dump stopped.error answer why.1 why.2.1 why.2.2 says
+unjudged_note words known steady left (unjudged.Refused refusal.NoMemory) answer why says rest = no_memory words known steady left answer says

@@ -15,7 +15,7 @@ use Rattle.tor_words.specs.CheckGiven.{check_settings_given}
 use Rattle.tor_app.specs.declared.status.Status.{Status}
 use Rattle.tor_app.specs.declared.status.Status.TheVariants as status
 use Rattle.tor_app.specs.Notes.{malformed_note, limit_note, read_fault_note, result_note, plain_note}
-use Rattle.tor_app.specs.Judging.{Outcome, Judged, NoResult, TooLong, Ends, Gives, IsResult, IsAccepted, seen_for}
+use Rattle.tor_app.specs.Judging.{Outcome, Judged, NoResult, TooLong, Ends, Gives, IsResult, IsAccepted, LeavesOnly, seen_for}
 
 -- what the words and the files give, where these are known
 abbrev pub LeadsTo : List (List ℕ) → Option Files → Outcome → Type 0
@@ -70,11 +70,14 @@ HoldsBefore settings files dump =
     (bytes : List ℕ) × (file : ResultFile) × IsResult settings files bytes × IsAccepted file bytes ×
     IsOk (seen_for file (take (dump - 1) settings.dumps) files)
 
--- a read of the result file failed, where the number is 0; over a steady shelf it isn't there
-pub record FailedAtResult (words : List (List ℕ)) (known : Option Files) (steady : Type 0) (dump : ℕ) : Type 0 where
+-- the open or a read of the result file failed, where the number is 0, and what is left unread, if anything, is a rest of that
+-- file; over a steady shelf it isn't there
+pub record FailedAtResult (words : List (List ℕ)) (known : Option Files) (steady : Type 0) (left : Option (List ℕ))
+    (dump : ℕ) : Type 0 where
   pub number : dump ≡ 0
   pub settings : CheckSettings
   pub given : check_settings_given words ≡ Some settings
+  pub unread : LeavesOnly settings.result known left
   pub absent : steady → LeadsTo words known NoResult
 
 -- a read of one of the dumps failed, the rules 0 to 10 are met, and the dumps before it have no end; over a steady shelf it
@@ -87,17 +90,17 @@ pub record FailedAtDump (words : List (List ℕ)) (known : Option Files) (steady
   pub before : IfSome known (λ files. HoldsBefore settings files dump)
   pub absent : steady → LeadsTo words known (Ends (Absent dump))
 
--- the note of a status, with the place or the quantity of what the words and the files give
-abbrev pub IsCheckNote : List (List ℕ) → Option Files → Type 0 → Status → List ℕ → Type 0
-IsCheckNote words known steady status.Usage text = HasUsageLine text
-IsCheckNote words known steady status.Malformed text =
+-- the note of a status, with the place or the quantity of what the words and the files give, where this is left unread
+abbrev pub IsCheckNote : List (List ℕ) → Option Files → Type 0 → Option (List ℕ) → Status → List ℕ → Type 0
+IsCheckNote words known steady left status.Usage text = HasUsageLine text
+IsCheckNote words known steady left status.Malformed text =
     (place : Place) × (fault : Fault) × (text ≡ malformed_note place fault) × LeadsTo words known (Ends (Malformed place fault))
-IsCheckNote words known steady status.Limit text =
+IsCheckNote words known steady left status.Limit text =
     ((text ≡ result_note) × LeadsTo words known TooLong)
     ⊎ ((kind : LimitKind) × (dump : ℕ) × (text ≡ limit_note kind dump) × LeadsTo words known (Ends (Limit kind dump)))
-IsCheckNote words known steady status.ReadFault text =
-    (dump : ℕ) × (text ≡ read_fault_note dump) × (FailedAtResult words known steady dump ⊎ FailedAtDump words known steady dump)
-IsCheckNote words known steady status.Done text = text ≡ plain_note status.Done
-IsCheckNote words known steady status.No text = text ≡ plain_note status.No
-IsCheckNote words known steady status.WriteFault text = text ≡ plain_note status.WriteFault
-IsCheckNote words known steady status.NoMemory text = text ≡ plain_note status.NoMemory
+IsCheckNote words known steady left status.ReadFault text =
+    (dump : ℕ) × (text ≡ read_fault_note dump) × (FailedAtResult words known steady left dump ⊎ FailedAtDump words known steady dump)
+IsCheckNote words known steady left status.Done text = text ≡ plain_note status.Done
+IsCheckNote words known steady left status.No text = text ≡ plain_note status.No
+IsCheckNote words known steady left status.WriteFault text = text ≡ plain_note status.WriteFault
+IsCheckNote words known steady left status.NoMemory text = text ≡ plain_note status.NoMemory

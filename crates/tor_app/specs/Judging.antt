@@ -1,5 +1,5 @@
 -- What the words and the files of a check give: a verdict on the result file, or why there is none.
-use Rattle.std.specs.Prelude.{◌≡◌, ◌≤◌, ◌<◌, ◌⊎◌, ◌+◌, ◌^◌, ℕ, List, [], ◌∷◌, length, drop, Option, Some, None, IfSome, Result, Ok, Err, IsOk}
+use Rattle.std.specs.Prelude.{◌≡◌, ◌≤◌, ◌<◌, ◌⊎◌, ◌+◌, ◌^◌, ℕ, List, [], ◌∷◌, length, drop, Option, Some, None, IfSome, IsSomeAnd, Result, Ok, Err, IsOk}
 use Rattle.tor_io.specs.Contents.{Files}
 use Rattle.result_text.specs.declared.file.ResultFile.{ResultFile}
 use Rattle.result_text.specs.Grammar.{IsTextOf, IsBadLine}
@@ -63,6 +63,19 @@ LeavesRest name known left = IfSome known (λ files. IfSome (files name) (λ byt
 abbrev pub LeavesRestOf : List (List ℕ) → Option Files → Option (List ℕ) → Type 0
 LeavesRestOf words known left =
     (settings : CheckSettings) → check_settings_given words ≡ Some settings → LeavesRest settings.result known left
+
+-- some of these bytes were read, maybe none, maybe all, and the rest of them is left
+abbrev pub IsRestOf : Option (List ℕ) → List ℕ → Type 0
+IsRestOf left bytes = (read : ℕ) × (left ≡ Some (drop read bytes))
+
+-- where the files are known, nothing is left unread, or a rest of the file of this name
+abbrev pub LeavesOnly : List ℕ → Option Files → Option (List ℕ) → Type 0
+LeavesOnly name known left = IfSome known (λ files. (left ≡ Some []) ⊎ IsSomeAnd (files name) (IsRestOf left))
+
+-- the same of the result file that the words name
+abbrev pub LeavesOnlyResult : List (List ℕ) → Option Files → Option (List ℕ) → Type 0
+LeavesOnlyResult words known left =
+    (settings : CheckSettings) → check_settings_given words ≡ Some settings → LeavesOnly settings.result known left
 
 -- the result file is there with these bytes, and they are few enough
 pub record IsResult (settings : CheckSettings) (files : Files) (bytes : List ℕ) : Type 0 where

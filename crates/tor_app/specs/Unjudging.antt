@@ -77,6 +77,11 @@ abbrev pub IsTooLong : Unjudged → Type 0
 IsTooLong (unjudged.Result why) = why ≡ unread.TooLong
 IsTooLong (unjudged.Refused why) = ⊥
 
+-- the open or a read of the result file failed
+abbrev pub IsFailedResult : Unjudged → Type 0
+IsFailedResult (unjudged.Result why) = why ≡ unread.Failed
+IsFailedResult (unjudged.Refused why) = ⊥
+
 -- a read failed
 abbrev pub IsFailedRead : Unjudged → Type 0
 IsFailedRead (unjudged.Result why) = why ≡ unread.Failed

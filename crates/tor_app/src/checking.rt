@@ -63,7 +63,8 @@ fn answer<H: Shelf, O: Sink>(
         out.new ≡ out.old }
 
     // Why it is answered.
-    ensures note { IsCheckNote words.now (H.files shelf.old) (H.steady shelf.old) result.status (note_in result) }
+    ensures note { IsCheckNote words.now (H.files shelf.old) (H.steady shelf.old) (H.left shelf.new) result.status
+        (note_in result) }
     ensures usage { result.status ≡ Status.Usage → IsNone (check_settings_given words.now) }
     ensures always_usage { IsNone (check_settings_given words.now) →
         (result.status ≡ Status.Usage) ⊎ (result.status ≡ Status.NoMemory) }
@@ -160,7 +161,7 @@ pub fn check<H: Shelf, O: Sink, E: Sink>(
     ensures no_lost_write { result ≢ Status.WriteFault → O.faults out.new ≡ O.faults out.old }
 
     // What is written to err: the status' note, or a prefix of it where err failed; at Done and No nothing.
-    ensures note { IsNoted (IsCheckNote words.now (H.files shelf.old) (H.steady shelf.old) result)
+    ensures note { IsNoted (IsCheckNote words.now (H.files shelf.old) (H.steady shelf.old) (H.left shelf.new) result)
         (E.faults err.old) (E.faults err.new) (E.held err.old) (E.held err.new) }
     ensures silent { (result ≡ Status.Done) ⊎ (result ≡ Status.No) → E.held err.new ≡ E.held err.old }
 {

@@ -8,9 +8,9 @@ ghost use Rattle.result_text.specs.Grammar.{IsTextOf};
 ghost use Rattle.result_text.specs.Refusal.{Refuses};
 ghost use Rattle.tor_words.specs.CheckGiven.{check_settings_given};
 ghost use Rattle.tor_app.specs.Refusals.{IsReadFault};
-ghost use Rattle.tor_app.specs.Judging.{Judged, ComesTo, IsVerdict, JudgesByDumps, LeavesRest, LeavesRestOf, seen_for};
+ghost use Rattle.tor_app.specs.Judging.{Judged, ComesTo, IsVerdict, JudgesByDumps, LeavesRest, LeavesRestOf, LeavesOnly, LeavesOnlyResult, seen_for};
 ghost use Rattle.tor_app.specs.CheckAnswer.{LeadsTo};
-ghost use Rattle.tor_app.specs.Unjudging.{IsRuling, IsRefusedBy, IsUnjudged, IsUnjudgedIn, IsTooLong, IsFailedRead, IsOfCheckWords, AnswersUnjudged};
+ghost use Rattle.tor_app.specs.Unjudging.{IsRuling, IsRefusedBy, IsUnjudged, IsUnjudgedIn, IsTooLong, IsFailedResult, IsFailedRead, IsOfCheckWords, AnswersUnjudged};
 
 use crate::answer::{Answer, Refusal, answer_to};
 use crate::notes::{read_fault_note, result_note};
@@ -145,6 +145,8 @@ fn judge_file<H: Shelf>(
     ensures unjudged { IfErr result (IsUnjudgedIn settings.now (H.files shelf.old) (H.steady shelf.old)) }
     ensures no_words { IfErr result (λ u. IsOfCheckWords u → ⊥) }
     ensures rest { IfErr result (λ u. IsTooLong u → LeavesRest settings.now.result (H.files shelf.old) (H.left shelf.new)) }
+    ensures unread { IfErr result (λ u. IsFailedResult u →
+        LeavesOnly settings.now.result (H.files shelf.old) (H.left shelf.new)) }
     ensures read_out { OnOk result (IsAtEnd (H.left shelf.new)) }
 
     ensures files { H.files shelf.new ≡ H.files shelf.old }
@@ -174,6 +176,8 @@ pub(crate) fn verdict_of<H: Shelf>(
     ensures unjudged { IfErr result (IsUnjudged words.now (H.files shelf.old) (H.steady shelf.old)) }
 
     ensures rest { IfErr result (λ u. IsTooLong u → LeavesRestOf words.now (H.files shelf.old) (H.left shelf.new)) }
+    ensures unread { IfErr result (λ u. IsFailedResult u →
+        LeavesOnlyResult words.now (H.files shelf.old) (H.left shelf.new)) }
 
     ensures settled { IsNone (check_settings_given words.now) → IsErrAnd result IsOfCheckWords }
     ensures read_out { OnOk result (IsAtEnd (H.left shelf.new)) }

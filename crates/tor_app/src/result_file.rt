@@ -1,9 +1,9 @@
 //! The reading of the result file.
-ghost use Rattle.std.specs.Prelude.{◌≡◌, ◌≢◌, ◌<◌, ◌≤◌, ◌^◌, ◌+◌, Err, Some, IfOk, OnOk, IfSome, IsOk, IsErrOf, length, take, drop};
+ghost use Rattle.std.specs.Prelude.{◌≡◌, ◌≢◌, ◌<◌, ◌≤◌, ◌^◌, ◌+◌, Err, Some, IfOk, OnOk, OnErr, IfSome, IsOk, IsErrOf, length, take, drop};
 ghost use Rattle.std.specs.Io.KnownBytes.{IsAtEnd, prepend_known};
 ghost use Rattle.tor_io.specs.Counts.{Rose, HasCause};
 ghost use Rattle.tor_io.specs.Contents.{LacksFile};
-ghost use Rattle.tor_app.specs.Judging.{IsLong, IsLongFile, LeavesRest};
+ghost use Rattle.tor_app.specs.Judging.{IsLong, IsLongFile, LeavesRest, LeavesOnly, IsRestOf};
 ghost use Rattle.tor_app.specs.declared.result_file.Unread.TheVariants.{Failed as failed, NoMemory as no_memory};
 
 use std::alloc::{AllocError, Global};
@@ -59,6 +59,7 @@ fn read_prefix<H: Shelf>(shelf: &mut H, buffer: &mut [u8], most: usize) -> Resul
     ensures same_length { length buffer.new ≡ length buffer.old }
     ensures taken { IfOk result (λ n. H.left shelf.old ≡ prepend_known (take n buffer.new) (H.left shelf.new)) }
     ensures at_end { IfOk result (λ n. n ≡ 0 → IsAtEnd (H.left shelf.new)) }
+    ensures unread { OnErr result (H.left shelf.new ≡ H.left shelf.old) }
 
     ensures files { H.files shelf.new ≡ H.files shelf.old }
     ensures cause { HasCause (H.faults shelf.old) (H.faults shelf.new) result }
@@ -76,6 +77,7 @@ fn read_open<H: Shelf>(alloc: Global, shelf: &mut H) -> Result<List<u8>, Unread>
     ensures long { IsErrOf result Unread.TooLong → IfSome (H.left shelf.old) IsLong }
     ensures rest { IsErrOf result Unread.TooLong → IfSome (H.left shelf.old) (λ left.
         H.left shelf.new ≡ Some (drop (2 ^ 31 + 1) left)) }
+    ensures unread { IsErrOf result Unread.Failed → IfSome (H.left shelf.old) (IsRestOf (H.left shelf.new)) }
 
     ensures files { H.files shelf.new ≡ H.files shelf.old }
     ensures later { H.faults shelf.old ≤ H.faults shelf.new }
@@ -109,6 +111,7 @@ pub(crate) fn read_result<H: Shelf>(
     ensures read_out { OnOk result (IsAtEnd (H.left shelf.new)) }
     ensures long { IsErrOf result Unread.TooLong → IfSome (H.files shelf.old) (λ files. IsLongFile (files name.now)) }
     ensures rest { IsErrOf result Unread.TooLong → LeavesRest name.now (H.files shelf.old) (H.left shelf.new) }
+    ensures unread { IsErrOf result Unread.Failed → LeavesOnly name.now (H.files shelf.old) (H.left shelf.new) }
 
     ensures files { H.files shelf.new ≡ H.files shelf.old }
     ensures later { H.faults shelf.old ≤ H.faults shelf.new }

@@ -5,7 +5,8 @@ use Rattle.tor_app.proofs.checking.answer.Goals as goal
 pub returns-in-Err-clause-note : goal.returns-in-Err-clause-note
 returns-in-Err-clause-note g c =
     let shelf = g.H.Shelf in
-    unjudged_note c.args.words.now (shelf.files c.args.shelf.now) (shelf.steady c.args.shelf.now) c.in-Err.unjudged c.answer_to_unjudged.result c.in-Err.ensures.unjudged c.answer_to_unjudged.ensures
+    unjudged_note c.args.words.now (shelf.files c.args.shelf.now) (shelf.steady c.args.shelf.now) (shelf.left c.verdict_of.new.shelf) c.in-Err.unjudged c.answer_to_unjudged.result
+    c.in-Err.ensures.unjudged c.answer_to_unjudged.ensures c.in-Err.ensures.unread
 
 pub returns-in-Err-clause-bounded : goal.returns-in-Err-clause-bounded
 returns-in-Err-clause-bounded g c =

@@ -22,7 +22,7 @@ returns-clause-always_malformed g c = λ files place fault is gives well.
     let a = c.answer-answer in
     always_there c.one_value.ensures words (shelf.files old) files (shelf.steady old) a.result.status (shelf.faults old) (shelf.faults a.new.shelf)
     (sink.faults c.args.out.now) (sink.faults a.new.out) (Ends (Malformed place fault))
-    (cause_of words (shelf.files old) (shelf.steady old) a.result.status (note_in a.result) (sink.held c.args.out.now) (sink.held a.new.out)
+    (cause_of words (shelf.files old) (shelf.steady old) (shelf.left a.new.shelf) a.result.status (note_in a.result) (sink.held c.args.out.now) (sink.held a.new.out)
     (shelf.faults old) (shelf.faults a.new.shelf) (sink.faults c.args.out.now) (sink.faults a.new.out)
     a.ensures.done a.ensures.no a.ensures.cut_off a.ensures.usage a.ensures.note a.ensures.read_fault a.ensures.write_fault)
     is gives (λ e. absurd cc) (λ e. absurd cc) well
@@ -36,7 +36,7 @@ returns-clause-always_limit g c = λ files kind dump is gives well.
     let a = c.answer-answer in
     always_there c.one_value.ensures words (shelf.files old) files (shelf.steady old) a.result.status (shelf.faults old) (shelf.faults a.new.shelf)
     (sink.faults c.args.out.now) (sink.faults a.new.out) (Ends (Limit kind dump))
-    (cause_of words (shelf.files old) (shelf.steady old) a.result.status (note_in a.result) (sink.held c.args.out.now) (sink.held a.new.out)
+    (cause_of words (shelf.files old) (shelf.steady old) (shelf.left a.new.shelf) a.result.status (note_in a.result) (sink.held c.args.out.now) (sink.held a.new.out)
     (shelf.faults old) (shelf.faults a.new.shelf) (sink.faults c.args.out.now) (sink.faults a.new.out)
     a.ensures.done a.ensures.no a.ensures.cut_off a.ensures.usage a.ensures.note a.ensures.read_fault a.ensures.write_fault)
     is gives (λ e. absurd cc) (λ e. absurd cc) well
@@ -50,7 +50,7 @@ returns-clause-always_absent g c = λ files dump is gives.
     let a = c.answer-answer in
     always_absent c.one_value.ensures words (shelf.files old) files (shelf.steady old) a.result.status (shelf.faults old) (shelf.faults a.new.shelf)
     (sink.faults c.args.out.now) (sink.faults a.new.out) (Ends (Absent dump))
-    (cause_of words (shelf.files old) (shelf.steady old) a.result.status (note_in a.result) (sink.held c.args.out.now) (sink.held a.new.out)
+    (cause_of words (shelf.files old) (shelf.steady old) (shelf.left a.new.shelf) a.result.status (note_in a.result) (sink.held c.args.out.now) (sink.held a.new.out)
     (shelf.faults old) (shelf.faults a.new.shelf) (sink.faults c.args.out.now) (sink.faults a.new.out)
     a.ensures.done a.ensures.no a.ensures.cut_off a.ensures.usage a.ensures.note a.ensures.read_fault a.ensures.write_fault)
     is gives refl
