@@ -86,6 +86,10 @@ impl EdgeTable {
         ensures edge { IfOk result (λ id. slice_get self.new id ≡ Some (low, high)) }
         ensures err { OnErr result (self.new ≡ self.old) }
     {
+        // most edges are there, and a short way to them lets the processor go on to the next
+        if let Some(id) = self.find(low, high) {
+            return Ok(id);
+        }
         self.counts.reserve(2)?;
         let count = self.numbers.len();
         let place = self.numbers.add(number_of(low, high))?;

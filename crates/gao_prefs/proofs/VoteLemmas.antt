@@ -1,11 +1,11 @@
 -- Votes that are counted step by step are the votes of a path, and path by path those of all kept paths.
-use Rattle.std.proofs.Common.{◌≡◌, ◌≢◌, ℕ, zero, suc, ◌+◌, ◌*◌, ◌<◌, ◌≤◌, inl, inr, Bool, true, false, cond, not, List, [], ◌∷◌, ◌++◌, length, get_or, take, drop, map, replicate, min, max, refl, sym, ap, ap₂, ◌∙◌, subst, arith, All, slice_get, Some, filter, length-take, length-drop, append-nil, eq-eqb, lt-ltb, le-ltb}
-use Rattle.std.specs.List.{count_by, flat_map}
+use Rattle.std.proofs.Common.{◌≡◌, ◌≢◌, ℕ, zero, suc, ◌+◌, ◌<◌, ◌≤◌, ◌⊎◌, inl, inr, Bool, true, false, ◌&&◌, cond, not, List, [], ◌∷◌, ◌++◌, length, get_or, take, drop, map, replicate, min, max, refl, sym, ap, ap₂, ◌∙◌, subst, arith, All, nat_eq, slice_get, Some, filter, take-append-drop, append-nil, eq-eqb, lt-ltb, le-ltb}
+use Rattle.std.specs.List.{count_by, flat_map, list_any}
 use Rattle.std.proofs.lemmas.Bool.{cases_eq, cases_order, ne_eqb, false_from_ne_true, false≢true}
 use Rattle.std.proofs.lemmas.Option.{slice_get-get_or, slice_get_within}
-use Rattle.std.proofs.lemmas.List.{length-map, map-append, get_or-map, ext_get_or, take_more}
+use Rattle.std.proofs.lemmas.List.{length-map, map-append, get_or-map, get_or_past, ext_get_or, take_more}
 use Rattle.std.proofs.lemmas.List.Elements.{All-filter, All-append, All-nil, All-cons, All-get_or, All-head, All-tail}
-use Rattle.std.proofs.lemmas.List.Sums.{sum_by-cons, sum_by-append, count_by-le-length}
+use Rattle.std.proofs.lemmas.List.Sums.{sum_by-cons, sum_by-append}
 use Rattle.std.proofs.lemmas.Grind.{flat_map-append}
 use Rattle.tor_arena.specs.Distinct.{AllDistinct}
 use Rattle.relationships.specs.declared.label.End.{End}
@@ -18,9 +18,10 @@ use Rattle.as_graph.specs.Inside.{as_at}
 use Rattle.as_graph.specs.Paths.{path_at, paths_at}
 use Rattle.as_graph.specs.Steps.{end_left, IsStep, AreStepsFrom, AreSteps}
 use Rattle.as_graph.proofs.Labelled.{NoneTwice, NoneTwice-distinct, none_at, same_itself}
+use Rattle.as_graph.proofs.CountLemmas.{once_each}
 use Rattle.as_graph.proofs.StepLemmas.{left_as-step, next_as-step}
 use Rattle.gao_prefs.specs.declared.per_end.PerEnd.{PerEnd}
-use Rattle.gao_prefs.specs.Ends.{same_end, at_end, number_at, degrees_of, along, is_vote, ballots, votes_of}
+use Rattle.gao_prefs.specs.Ends.{same_end, at_end, number_at, degrees_of, along, voted, is_vote, ballots, votes_of}
 use Rattle.gao_prefs.proofs.TopLemmas.{top_of-map}
 
 -- ---- edges are given by their places, and have the lower number first
@@ -238,14 +239,37 @@ path_votes paths es k e end (a ∷ path) steps once there up two apart h =
     climb_votes es once k e there up end (top_of (degree paths) (a ∷ path)) a path steps apart h ∙
     ap (λ t. count_by (is_vote true k end) (take t steps) + count_by (is_vote false k end) (drop t steps)) (sym top)
 
-ballots-few : (table : List PerEnd) (steps : List Step) (k : ℕ) (end : End) → ballots table steps k end ≤ length steps
-ballots-few table steps k end =
+vote-le : (climbing : Bool) (k : ℕ) (end : End) (steps : List Step) → count_by (is_vote climbing k end) steps ≤ count_by (λ (s : Step). nat_eq s.edge k) steps
+vote-le climbing k end [] = omega arith
+vote-le climbing k end (step ∷ steps) =
+    let rest = vote-le climbing k end steps in
+    let p = count-cons (is_vote climbing k end) step steps in
+    let q = count-cons (λ (s : Step). nat_eq s.edge k) step steps in
+    let le = both-le (nat_eq step.edge k) (same_end (voted climbing step) end) in
+    omega (arith, rest, p, q, le)
+  where
+    both-le : (a b : Bool) → one (a && b) ≤ one a
+    both-le true true = omega arith
+    both-le true false = omega arith
+    both-le false b = omega arith
+
+-- a path has at most one vote for an end of an edge
+ballots-one : (table : List PerEnd) (es : List Edge) (k : ℕ) (end : End) (path : List ℕ) (steps : List Step) → NoneTwice es → k < length es → AllDistinct path → AreSteps es path steps →
+    ballots table steps k end ≤ 1
+ballots-one table es k end path steps once within apart are =
     let top = top_of (λ n. n) (along table steps) in
-    let p = count_by-le-length (is_vote true k end) (take top steps) in
-    let q = count_by-le-length (is_vote false k end) (drop top steps) in
-    let n = length-take top steps in
-    let m = length-drop top steps in
-    omega (arith, p, q, n, m)
+    let holds : Step → Bool = λ s. nat_eq s.edge k in
+    let p = vote-le true k end (take top steps) in
+    let q = vote-le false k end (drop top steps) in
+    let all = count-append holds (take top steps) (drop top steps) in
+    let whole : count_by holds (take top steps ++ drop top steps) ≡ count_by holds steps = ap (count_by holds) (take-append-drop top steps) in
+    let each = once_each es k (get_or es k (0, 0)) path steps once (slice_get-get_or es k (0, 0) within) apart are in
+    let le = one-le (list_any (is_same (get_or es k (0, 0))) (edges_on path)) in
+    omega (arith, p, q, all, whole, each, le)
+  where
+    one-le : (b : Bool) → one b ≤ 1
+    one-le true = omega arith
+    one-le false = omega arith
 
 -- ---- path by path
 
@@ -273,10 +297,10 @@ same_ends p q h = ap₂ (λ x y. both x y) (h End.Low) (h End.High)
     both : ℕ → ℕ → PerEnd
     both x y = record { low = x; high = y }
 
--- the table holds the votes of the first kept paths, and no path has more votes for an end than a path may have steps
+-- the table holds the votes of the first kept paths, and no end has more votes than these are paths
 pub record IsCounted (paths : List (List ℕ)) (kept : List ℕ) (i : ℕ) (table : List PerEnd) : Type 0 where
   pub counted : table ≡ vote_table paths (take i kept) (edges paths)
-  pub small : (k : ℕ) (end : End) → number_at table k end ≤ i * 67108864
+  pub small : (k : ℕ) (end : End) → number_at table k end ≤ i
 
 zero_at : (n k : ℕ) (end : End) → number_at (replicate n (record { low = 0; high = 0 })) k end ≡ 0
 zero_at zero k End.Low = refl
@@ -296,20 +320,17 @@ counts_begin paths kept n table same none = record {
     go (f ∷ fs) = ap (λ (l : List PerEnd). record { low = 0; high = 0 } ∷ l) (go fs)
 
 pub counts_more : (paths : List (List ℕ)) (kept : List ℕ) (i id : ℕ) (steps : List Step) (table new : List PerEnd) → i < length kept → get_or kept i id ≡ id →
-    2 ≤ length (path_at paths id) → AllDistinct (path_at paths id) → AreSteps (edges paths) (path_at paths id) steps → length steps ≤ 67108864 →
+    2 ≤ length (path_at paths id) → AllDistinct (path_at paths id) → AreSteps (edges paths) (path_at paths id) steps →
     IsCounted paths kept i table → length new ≡ length table →
     ((k : ℕ) (end : End) → number_at new k end ≡ number_at table k end + ballots (map (degrees_of paths) (edges paths)) steps k end) →
     IsCounted paths kept (i + 1) new
-counts_more paths kept i id steps table new lt at two apart are few so_far long each =
+counts_more paths kept i id steps table new lt at two apart are so_far long each =
     record {
       counted = ext_get_or (record { low = 0; high = 0 }) new (vote_table paths (take (i + 1) kept) es) (long ∙ n ∙ m ∙ sym (length-map es (votes_of (degree paths) after)))
           (λ k k_lt. same_ends (get_or new k (record { low = 0; high = 0 }))
           (get_or (vote_table paths (take (i + 1) kept) es) k (record { low = 0; high = 0 }))
           (λ end. voted_at k end (omega (arith, n, m, long, k_lt))));
-      small = λ k end.
-          let was = so_far.small k end in
-          let more = each k end in
-          let le = ballots-few (map (degrees_of paths) es) steps k end in omega (arith, was, more, le, few);
+      small = small_at;
     }
   where
     es : List Edge
@@ -342,3 +363,26 @@ counts_more paths kept i id steps table new lt at two apart are few so_far long 
         (All-get_or IsRising es k (0, 0) within (rising paths)) two apart are in
         each k end ∙ ap₂ (λ x y. x + y) was (sym more) ∙ sym (votes-push (degree paths) before path (from_end e end)) ∙
         ap (λ ps. votes (degree paths) ps (from_end e end).0 (from_end e end).1) (sym next) ∙ sym (number-votes (degree paths) after es k end within)
+
+    small_at : (k : ℕ) (end : End) → number_at new k end ≤ i + 1
+    small_at k end = elim (cases_under k (length es)) [
+      | inl within ↦
+          let was = so_far.small k end in
+          let more = each k end in
+          let le = ballots-one (map (degrees_of paths) es) es k end path steps (NoneTwice-distinct (flat_map edges_on paths)) within apart are in
+          omega (arith, was, more, le)
+      | inr past ↦
+          let none : get_or new k (record { low = 0; high = 0 }) ≡ record { low = 0; high = 0 } = get_or_past new k (record { low = 0; high = 0 }) (omega (arith, past, long, n, m)) in
+          let zero_here : number_at new k end ≡ 0 = ap (λ (p : PerEnd). at_end p end) none ∙ no_votes end in
+          omega (arith, zero_here)
+    ]
+      where
+        cases_under : (a b : ℕ) → (a < b) ⊎ (b ≤ a)
+        cases_under a b = elim (cases_order a b) [
+          | inl e ↦ inr (omega (arith, e))
+          | inr o ↦ elim o [ inl lt' ↦ inl lt' | inr gt ↦ inr (omega (arith, gt)) ]
+        ]
+
+        no_votes : (end : End) → at_end (record { low = 0; high = 0 }) end ≡ 0
+        no_votes End.Low = refl
+        no_votes End.High = refl

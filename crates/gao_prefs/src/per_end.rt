@@ -1,6 +1,6 @@
 ghost use Rattle.std.specs.Prelude.{◌≡◌, length, map, IfOk};
 ghost use Rattle.relationships.specs.Relationship.{opposite};
-ghost use Rattle.relationships.specs.Graph.{edges};
+ghost use Rattle.relationships.specs.Graph.{edges, degree};
 ghost use Rattle.gao_prefs.specs.Ends.{at_end, degrees_of};
 
 use as_graph::AsGraph;
@@ -12,14 +12,14 @@ use tor_arena::{EdgeId, Index, NoMemory};
 #[derive(Clone, Copy, Debug, PartialEq, Eq)]
 pub(crate) struct PerEnd {
     /// That of the lower number.
-    pub(crate) low: u64,
+    pub(crate) low: u32,
     /// That of the higher number.
-    pub(crate) high: u64,
+    pub(crate) high: u32,
 }
 
 impl PerEnd {
     /// The number of an end.
-    pub fn of(&self, end: End) -> u64
+    pub fn of(&self, end: End) -> u32
         ensures { result ≡ at_end self.now end }
     {
         match end {
@@ -39,6 +39,14 @@ pub(crate) fn other_end(end: End) -> End
     }
 }
 
+/// How many edges hold an AS, which are few enough for four octets.
+fn degree_of(graph: &AsGraph, a: u32) -> u32
+    ensures { result ≡ degree graph.now a }
+{
+    graph.facts();
+    graph.degree(a) as u32
+}
+
 /// The degrees of the two ends of each edge, in the order of the edges. The only error is that memory ran out.
 pub(crate) fn end_degrees(alloc: Global, graph: &AsGraph) -> Result<Vec<PerEnd>, NoMemory>
     ensures { IfOk result (λ degrees. degrees.items ≡ map (degrees_of graph.now) (edges graph.now)) }
@@ -48,8 +56,8 @@ pub(crate) fn end_degrees(alloc: Global, graph: &AsGraph) -> Result<Vec<PerEnd>,
     for place in 0..count {
         let edge = graph.edge(EdgeId::from_place(place).unwrap());
         degrees.push(PerEnd {
-            low: graph.degree(edge.low),
-            high: graph.degree(edge.high),
+            low: degree_of(graph, edge.low),
+            high: degree_of(graph, edge.high),
         })?;
     }
     Ok(degrees)

@@ -46,8 +46,8 @@ fn wanted_end(votes: &PerEnd, degrees: &PerEnd) -> End
 
 /// What an edge with these votes and degrees of its ends prefers.
 fn pref_of(edge: EdgeId, votes: &PerEnd, degrees: &PerEnd) -> Pref
-    requires low { votes.now.low ≤ 2 ^ 50 }
-    requires high { votes.now.high ≤ 2 ^ 50 }
+    requires low { votes.now.low ≤ 2 ^ 23 }
+    requires high { votes.now.high ≤ 2 ^ 23 }
     ensures edge { result.edge ≡ edge }
     ensures small { unsigned_abs result.lean ≤ 2 ^ 50 }
     ensures lean { result.lean ≡ lean_by votes.now }
@@ -55,7 +55,7 @@ fn pref_of(edge: EdgeId, votes: &PerEnd, degrees: &PerEnd) -> Pref
 {
     Pref {
         edge,
-        lean: votes.low as i64 - votes.high as i64,
+        lean: i64::from(votes.low) - i64::from(votes.high),
         wanted: wanted_end(votes, degrees),
     }
 }
@@ -65,7 +65,7 @@ fn pref_of(edge: EdgeId, votes: &PerEnd, degrees: &PerEnd) -> Pref
 fn prefs_of(alloc: Global, votes: &[PerEnd], degrees: &[PerEnd]) -> Result<Vec<Pref>, NoMemory>
     requires same { length degrees.now ≡ length votes.now }
     requires few { length votes.now < 2 ^ 26 }
-    requires small { (k : ℕ) (e : End) → number_at votes.now k e ≤ 2 ^ 50 }
+    requires small { (k : ℕ) (e : End) → number_at votes.now k e ≤ 2 ^ 23 }
     ensures length { IfOk result (λ prefs. length prefs.items ≡ length votes.now) }
     ensures small { IfOk result (λ prefs. All (λ pref. unsigned_abs pref.lean ≤ 2 ^ 50) prefs.items) }
     ensures each { IfOk result (λ prefs. (k : ℕ) (d : Pref) → k < length prefs.items →

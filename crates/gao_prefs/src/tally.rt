@@ -15,22 +15,22 @@ use tor_arena::{EdgeId, Index, NoMemory, PathId};
 /// Counts one vote more for an end of an edge.
 fn vote(votes: &mut Vec<PerEnd>, edge: EdgeId, end: End)
     requires there { edge < length votes.old.items }
-    requires small { number_at votes.old.items edge end < 2 ^ 63 }
+    requires small { number_at votes.old.items edge end < 2 ^ 31 }
     ensures length { length votes.new.items ≡ length votes.old.items }
     ensures counted { (k : ℕ) (e : End) →
         number_at votes.new.items k e ≡ number_at votes.old.items k e + (if nat_eq edge k && same_end end e then 1 else 0) }
 {
-    let place = edge.place();
-    match end {
-        End::Low => votes[place].low += 1,
-        End::High => votes[place].high += 1,
-    }
+    let votes = &mut votes[edge.place()];
+    // without a branch, as no processor guesses which end it is
+    let is_low = end == End::Low;
+    votes.low += u32::from(is_low);
+    votes.high += u32::from(!is_low);
 }
 
 /// Votes for the AS that each step reaches, if these steps climb, and else for the AS that each leaves.
 fn vote_each(votes: &mut Vec<PerEnd>, steps: &[Step], climbing: bool)
     requires inside { All (λ step. step.edge < length votes.old.items) steps.now }
-    requires small { (k : ℕ) (e : End) → number_at votes.old.items k e ≤ 2 ^ 62 }
+    requires small { (k : ℕ) (e : End) → number_at votes.old.items k e ≤ 2 ^ 30 }
     requires few { length steps.now ≤ 2 ^ 26 }
     ensures length { length votes.new.items ≡ length votes.old.items }
     ensures counted { (k : ℕ) (e : End) →
@@ -51,7 +51,7 @@ fn vote_each(votes: &mut Vec<PerEnd>, steps: &[Step], climbing: bool)
 fn vote_path(votes: &mut Vec<PerEnd>, steps: &[Step], degrees: &[PerEnd])
     requires inside { All (λ step. step.edge < length votes.old.items) steps.now }
     requires known { length degrees.now ≡ length votes.old.items }
-    requires small { (k : ℕ) (e : End) → number_at votes.old.items k e ≤ 2 ^ 61 }
+    requires small { (k : ℕ) (e : End) → number_at votes.old.items k e ≤ 2 ^ 29 }
     requires few { length steps.now ≤ 2 ^ 26 }
     ensures length { length votes.new.items ≡ length votes.old.items }
     ensures counted { (k : ℕ) (e : End) →
@@ -74,7 +74,7 @@ pub(crate) fn count_votes(
     requires known { degrees.now ≡ map (degrees_of graph.now) (edges graph.now) }
     ensures counted { IfOk result (λ votes.
         votes.items ≡ map (votes_of (degree graph.now) (paths_at graph.now kept.now)) (edges graph.now)) }
-    ensures small { IfOk result (λ votes. (k : ℕ) (e : End) → number_at votes.items k e ≤ 2 ^ 50) }
+    ensures small { IfOk result (λ votes. (k : ℕ) (e : End) → number_at votes.items k e ≤ 2 ^ 23) }
 {
     graph.facts();
     let mut votes = Vec::new(alloc);

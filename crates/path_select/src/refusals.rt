@@ -1,8 +1,8 @@
-ghost use Rattle.std.specs.Prelude.{◌≡◌, ◌⊎◌, ℕ, ◌+◌, ◌<◌, ◌^◌, ◌++◌, ◌∷◌, [], length, map, slice_get, Some, IfOk, IfSome, OnOk};
+ghost use Rattle.std.specs.Prelude.{◌≡◌, ◌⊎◌, ℕ, ◌+◌, ◌<◌, ◌^◌, ◌++◌, ◌∷◌, [], All, length, map, slice_get, Some, IsTrue, IfOk, IfSome, OnOk};
 ghost use Rattle.relationships.specs.declared.fate.Fate.{Fate as Becoming};
 ghost use Rattle.relationships.specs.declared.walk.Walk.{Walk as Evidence};
 ghost use Rattle.relationships.specs.Graph.{edges};
-ghost use Rattle.path_select.specs.Refusals.{node_at, relink, relinked, NamesOnly, IsLostBy, IsMet, Remembers};
+ghost use Rattle.path_select.specs.Refusals.{node_at, AreSatisfiedOn, relink, relinked, NamesOnly, IsLostBy, IsMet, Remembers};
 
 use as_graph::{AsGraph, Step};
 use relationships::{End, Fate, Fates, Link, Walk};
@@ -86,6 +86,22 @@ fn lost_unless_satisfied(
     lost_with(refusals, first, second)
 }
 
+/// Whether these providers satisfy all triples of a path with these steps. It takes no memory.
+fn are_satisfied(ends: &[End], steps: &[Step]) -> bool
+    requires { All (λ step. step.edge < length ends.now) steps.now }
+    ensures { IsTrue result → AreSatisfiedOn ends.now steps.now }
+{
+    let mut satisfied = true;
+    let mut before = false;
+    for step in steps {
+        // without a branch, as no processor guesses where a path begins to go down
+        let holds = Lit::of_step(step).holds(ends);
+        satisfied = satisfied & (!before | holds);
+        before = holds;
+    }
+    satisfied
+}
+
 /// The refusal that a path meets, if it has the triple of one that these providers do not satisfy. It takes no memory.
 pub(crate) fn find(refusals: &Refusals, graph: &AsGraph, ends: &[End], path: PathId) -> Option<Met>
     requires there { path < length graph.now }
@@ -94,6 +110,9 @@ pub(crate) fn find(refusals: &Refusals, graph: &AsGraph, ends: &[End], path: Pat
 {
     graph.facts();
     let steps = graph.steps(path);
+    if are_satisfied(ends, steps) {
+        return None;
+    }
     for next in 1..steps.len() {
         let (first, second) = (&steps[next - 1], &steps[next]);
         if let Some(lost) = lost_unless_satisfied(refusals, ends, first, second) {

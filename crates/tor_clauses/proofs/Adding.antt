@@ -1,18 +1,25 @@
 -- The triples of a path, added one by one.
-use Rattle.std.proofs.Common.{◌≡◌, ℕ, zero, suc, ◌+◌, ◌<◌, ◌≤◌, List, [], ◌∷◌, ◌++◌, Some, Result, Ok, Err, length, get_or, take, flat_map, refl, sym, ap, ap₂, ◌∙◌, subst, arith}
+use Rattle.std.proofs.Common.{◌≡◌, ℕ, zero, suc, true, ◌+◌, ◌-◌, ◌<◌, ◌≤◌, List, [], ◌∷◌, ◌++◌, Some, Result, Ok, Err, length, get_or, take, flat_map, refl, sym, ap, ap₂, ◌∙◌, subst, arith}
 use Rattle.std.specs.Prelude.{slice_get, OnOk, OnErr}
+use Rattle.std.specs.List.{list_any}
 use Rattle.std.proofs.lemmas.List.{take_at, length-append, length_push, take_all, append-nil}
 use Rattle.std.proofs.lemmas.List.Concat.{flat_map-append}
 use Rattle.std.proofs.lemmas.List.Elements.{All-push}
+use Rattle.relationships.specs.Graph.{edges}
+use Rattle.tor_digraph.proofs.Gets.{slice_get-some}
+use Rattle.as_graph.specs.declared.step.Step.{Step}
+use Rattle.as_graph.specs.Paths.{path_at}
+use Rattle.as_graph.specs.Steps.{AreSteps}
 use Rattle.tor_clauses.specs.declared.triple.Triple.{Triple}
 use Rattle.tor_clauses.specs.declared.clauses.ClauseMark.{ClauseMark}
-use Rattle.tor_clauses.specs.Triples.{arcs_of, triples_on, triples_of, distinct_triples}
-use Rattle.tor_clauses.specs.Tables.{with_triple, with_triples, having, IsFirst}
+use Rattle.tor_clauses.specs.Triples.{arcs_of, is_same_triple, triples_on, triples_of, distinct_triples}
+use Rattle.tor_clauses.specs.Tables.{with_triple, with_triples, having, triple_by, AreKnownOn, IsFirst}
 use Rattle.tor_clauses.specs.Formulas.{Formula, FitsGraph, IsMark, first_of}
 use Rattle.tor_clauses.proofs.Members.{take_get}
 use Rattle.tor_clauses.proofs.Sames.{with_triples-push, with_triples-distinct, triples-more}
 use Rattle.tor_clauses.proofs.Arcs.{take-arcs}
 use Rattle.tor_clauses.proofs.Prefixes.{prefix_law, same_formula}
+use Rattle.tor_clauses.proofs.StepTriples.{triple_by_steps}
 
 pub get_from_or : {X : Type 0} (xs : List X) (k : ℕ) (x : X) → k < length xs → x ≡ get_or xs k x → slice_get xs k ≡ Some x
 get_from_or [] k x lt e = absurd (omega (arith, lt))
@@ -33,6 +40,37 @@ pub added_one : (f now new : Formula) (ts : List Triple) (k : ℕ) (t : Triple) 
 added_one f now new ts k t e there h =
     h ∙ ap (λ (g : Formula). having g (with_triple g.triples t)) e ∙
     ap (having f) (sym (ap (with_triples f.triples) (take_get ts k t there) ∙ with_triples-push (take k ts) f.triples t))
+
+-- triples that are there already change nothing
+pub skipped : (graph : List (List ℕ)) (f now : Formula) (path : ℕ) (steps : List Step) → AreSteps (edges graph) (path_at graph path) steps → (from to : ℕ) → 1 ≤ from → from ≤ to →
+    to ≤ length steps → AreKnownOn now.triples steps from to → now ≡ having f (with_triples f.triples (take (from - 1) (triples_on graph path))) →
+    now ≡ having f (with_triples f.triples (take (to - 1) (triples_on graph path)))
+skipped graph f now path steps are from to some le inside known e =
+    let n : from - 1 + (to - from) ≡ to - 1 = omega (arith, some, le) in
+    subst (λ k. now ≡ having f (with_triples f.triples (take k all))) n (go (to - from) (omega (arith, le)))
+  where
+    all : List Triple
+    all = triples_on graph path
+
+    still : (ts : List Triple) (t : Triple) → now ≡ having f ts → list_any (is_same_triple t) now.triples ≡ true → now ≡ having now (with_triple now.triples t)
+    still ts t h there =
+        let same : now.triples ≡ ts = ap (λ (g : Formula). g.triples) h in
+        let arcs : now.net.arcs ≡ flat_map arcs_of now.triples = ap (λ (g : Formula). g.net.arcs) h ∙ ap (flat_map arcs_of) (sym same) in
+        rw there (added_none now arcs)
+
+    go : (n : ℕ) → from + n ≤ to → now ≡ having f (with_triples f.triples (take (from - 1 + n) (triples_on graph path)))
+    go zero lt = let z : from - 1 ≡ from - 1 + 0 = omega arith in subst (λ k. now ≡ having f (with_triples f.triples (take k (triples_on graph path)))) z e
+    go (suc n) lt =
+        let h = go n (omega (arith, lt)) in
+        let k = from - 1 + n in
+        let s = slice_get-some steps k (omega (arith, lt, some, inside)) in
+        let t = slice_get-some steps (k + 1) (omega (arith, lt, some, inside)) in
+        let next : k + 1 ≡ suc k = omega arith in
+        let at = triple_by_steps graph path steps are k s.0 t.0 s.1 (subst (λ i. slice_get steps i ≡ Some t.0) next t.1) in
+        let there = known k path (2 + k) s.0 t.0 (omega (arith, some)) (omega (arith, lt, some)) s.1 t.1 in
+        let more = added_one f now now (triples_on graph path) k (triple_by path (2 + k) s.0 t.0) h at (still (with_triples f.triples (take k (triples_on graph path))) (triple_by path (2 + k) s.0 t.0) h there) in
+        let m : from - 1 + n + 1 ≡ from - 1 + suc n = omega arith in
+        subst (λ i. now ≡ having f (with_triples f.triples (take i (triples_on graph path)))) m more
 
 pub added_first : (f now : Formula) (ts : List Triple) → now ≡ having f (with_triples f.triples ts) → IsFirst f now
 added_first f now ts e =

@@ -1,7 +1,7 @@
 -- Triples known by the pair of nodes that each shares with its reverse.
 use Rattle.std.proofs.Common.{◌≡◌, ℕ, ◌≤◌, ◌⊎◌, inl, inr, Bool, true, false, List, [], ◌∷◌, ◌++◌, length, map, take, refl, sym, ap, ap₂, ◌∙◌, subst, arith, ltb, lt-ltb, le-ltb, if◌then◌else◌, ◌||◌}
 use Rattle.std.specs.List.{list_any}
-use Rattle.std.specs.Prelude.{Contains, All, ◌^◌, ◌<◌}
+use Rattle.std.specs.Prelude.{Contains, All, ◌^◌, ◌<◌, ◌↔◌}
 use Rattle.std.proofs.lemmas.Bool.{cases_Bool, cases_order, false_from_ne_true}
 use Rattle.std.proofs.lemmas.List.{take-map, length-take-le}
 use Rattle.std.proofs.lemmas.List.Elements.{All-take, All-head, All-tail, Contains-append_left, Contains-append_right, Contains-append_cases}
@@ -10,7 +10,7 @@ use Rattle.tor_clauses.specs.declared.triple.Triple.{Triple}
 use Rattle.tor_clauses.specs.Literals.{negated, node_of, opposite_node}
 use Rattle.tor_clauses.specs.Triples.{arc_of, partner_of, is_same_triple}
 use Rattle.tor_clauses.specs.declared.lit.Lit.{Lit}
-use Rattle.tor_clauses.specs.Tables.{HasNodes, IsKnown, IsAdded, key_of, number_of_pair}
+use Rattle.tor_clauses.specs.Tables.{HasNodes, IsKnown, IsAdded, key_of, key_of_arc, number_of_pair}
 use Rattle.tor_numbers.specs.Slots.{IsInserted}
 use Rattle.tor_numbers.proofs.SlotLemmas.{alone, contains_one, contains_none}
 use Rattle.tor_clauses.proofs.LiteralLemmas.{opposite_node_twice, node_below}
@@ -116,6 +116,25 @@ triple_there t (u ∷ ts) h all c = elim (Contains-append_cases (key_number u �
       (same_pair (key_of t) (key_of u) (key_small t h) (key_small u (All-head HasNodes u ts all)) (alone (key_number u) (key_number t) a))))
   | inr b ↦ right_or (is_same_triple t u) (list_any (is_same_triple t) ts) (triple_there t ts h (All-tail HasNodes u ts all) b)
 ]
+
+-- so the number tells whether the triple is there
+pub is_known : (t : Triple) (number : ℕ) (keys : List ℕ) (ts : List Triple) → HasNodes t → IsKnown keys ts → number ≡ key_number t →
+    Contains keys number ↔ (list_any (is_same_triple t) ts ≡ true)
+is_known t number keys ts h known e = (
+  (λ there. triple_there t ts h known.nodes (subst (Contains (map key_number ts)) e (subst (λ l. Contains l number) known.keys there))),
+  (λ there. subst (λ l. Contains l number) (sym known.keys) (subst (Contains (map key_number ts)) (sym e) (number_there t ts there))),
+)
+
+-- the key of a triple is that of its nodes
+pub key-arc : (t : Triple) → key_of_arc (arc_of t) ≡ key_of t
+key-arc t = ap (lesser (arc_of t)) (partner-reversed t)
+
+pub number_is : (t : Triple) (number first second : ℕ) (pair : Edge) → first ≡ node_of t.first → second ≡ node_of t.second → pair ≡ key_of_arc (first, second) →
+    number ≡ number_of_pair pair → number ≡ key_number t
+number_is t number first second pair e f h n = n ∙ ap number_of_pair (h ∙ ap₂ arc_with e f ∙ key-arc t)
+  where
+    arc_with : ℕ → ℕ → Edge
+    arc_with a b = key_of_arc (a, b)
 
 -- whether a triple's number is new tells whether the triple is
 pub added-new : (t : Triple) (number : ℕ) (keys new : List ℕ) (ts ts' : List Triple) (is_new : Bool) → IsKnown keys ts → number ≡ key_number t →

@@ -10,21 +10,15 @@ use Rattle.tor_clauses.specs.declared.lit.Lit.{Lit}
 use Rattle.tor_clauses.specs.declared.triple.Triple.{Triple}
 use Rattle.tor_clauses.specs.Literals.{over}
 use Rattle.tor_clauses.specs.Triples.{triples_from, triples_along, triples_on}
+use Rattle.tor_clauses.specs.Tables.{lit_at, triple_by}
 use Rattle.tor_clauses.proofs.Distincts.{Apart}
 use Rattle.tor_clauses.proofs.Overs.{place_is, edges-apart}
-
--- the literal that a step goes down
-abbrev pub lit_at : Step → Lit
-lit_at s = record { edge = s.edge; over = s.left }
 
 abbrev lit_with : ℕ → End → Lit
 lit_with k e = record { edge = k; over = e }
 
 step_over : (es : List Edge) (x y : ℕ) (s : Step) → Apart is_same es → IsStep es x y s → over es x y ≡ lit_at s
 step_over es x y s a h = ap₂ lit_with (place_is es s.edge (edge_of x y) a h.0) (sym h.1)
-
-abbrev pub triple_by : ℕ → ℕ → Step → Step → Triple
-triple_by path at s t = record { path = path; at = at; first = lit_at s; second = lit_at t }
 
 abbrev triple_with : ℕ → ℕ → Lit → Lit → Triple
 triple_with path at l m = record { path = path; at = at; first = l; second = m }

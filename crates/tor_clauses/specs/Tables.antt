@@ -1,11 +1,12 @@
 -- What the fields of clauses hold, and what one more triple makes of them.
-use Rattle.std.specs.Prelude.{◌≡◌, ℕ, ◌<◌, ◌≤◌, ◌+◌, ◌*◌, ◌^◌, Bool, true, false, nat_lt, List, [], ◌∷◌, ◌++◌, All, length, map, take, flat_map, if◌then◌else◌}
+use Rattle.std.specs.Prelude.{◌≡◌, ℕ, ◌<◌, ◌≤◌, ◌+◌, ◌*◌, ◌^◌, Bool, true, false, nat_lt, List, [], ◌∷◌, ◌++◌, All, Some, length, map, take, flat_map, slice_get, if◌then◌else◌}
 use Rattle.std.specs.List.{list_any}
 use Rattle.relationships.specs.declared.label.End.{End}
 use Rattle.tor_digraph.specs.Walks.{Net}
+use Rattle.as_graph.specs.declared.step.Step.{Step}
 use Rattle.tor_clauses.specs.declared.lit.Lit.{Lit}
 use Rattle.tor_clauses.specs.declared.triple.Triple.{Triple}
-use Rattle.tor_clauses.specs.Literals.{negated, node_of, Holds}
+use Rattle.tor_clauses.specs.Literals.{negated, node_of, opposite_node, Holds}
 use Rattle.tor_clauses.specs.Triples.{arc_of, partner_of, arcs_of, is_same_triple, triples_on}
 use Rattle.tor_clauses.specs.Formulas.{Formula}
 
@@ -16,6 +17,10 @@ HasNodes t = (t.first.edge < 2 ^ 27) × (t.second.edge < 2 ^ 27)
 -- the pair of nodes of the triple or that of its reverse, whichever begins with the lesser node: the same for both
 abbrev pub key_of : Triple → ℕ × ℕ
 key_of t = if nat_lt (node_of (negated t.second)) (node_of t.first) then partner_of t else arc_of t
+
+-- the same of a triple whose literals have these nodes
+abbrev pub key_of_arc : ℕ × ℕ → ℕ × ℕ
+key_of_arc e = if nat_lt (opposite_node e.1) e.0 then (opposite_node e.1, opposite_node e.0) else e
 
 -- the number of a pair, from 2 on
 abbrev pub number_of_pair : ℕ × ℕ → ℕ
@@ -50,6 +55,20 @@ abbrev pub with_arc : Net ℕ → Lit → Lit → Net ℕ
 with_arc net tail head = record net { arcs = net.arcs ++ (node_of tail, node_of head) ∷ [] }
 
 -- ---- adding a path
+
+-- the literal of a step, that the AS from which it goes is over the one that it reaches
+abbrev pub lit_at : Step → Lit
+lit_at s = record { edge = s.edge; over = s.left }
+
+-- the triple of two steps that follow each other, whose middle AS stands at this place of the path
+abbrev pub triple_by : ℕ → ℕ → Step → Step → Triple
+triple_by path at s t = record { path = path; at = at; first = lit_at s; second = lit_at t }
+
+-- each triple of two steps that follow each other is there or its reverse, where the second step is behind the first ones, so many,
+-- and before this place
+abbrev pub AreKnownOn : List Triple → List Step → ℕ → ℕ → Type 0
+AreKnownOn ts steps from to = (k path at : ℕ) (s t : Step) → from ≤ k + 1 → k + 1 < to → slice_get steps k ≡ Some s → slice_get steps (k + 1) ≡ Some t →
+    list_any (is_same_triple (triple_by path at s t)) ts ≡ true
 
 -- the formula with the triples of a path of the graph
 abbrev pub with_triples_on : List (List ℕ) → ℕ → Formula → Formula

@@ -120,13 +120,18 @@ impl Clauses {
         self.facts();
         graph.facts();
         let steps = graph.steps(path);
-        for next in 1..steps.len() {
-            self.add_triple(Triple {
-                path,
-                at: next as u32 + 1,
-                first: Lit::of_step(&steps[next - 1]),
-                second: Lit::of_step(&steps[next]),
-            })?;
+        let mut next = 1;
+        while next < steps.len() {
+            next = self.table.first_new(steps, next);
+            if next < steps.len() {
+                self.add_triple(Triple {
+                    path,
+                    at: next as u32 + 1,
+                    first: Lit::of_step(&steps[next - 1]),
+                    second: Lit::of_step(&steps[next]),
+                })?;
+                next += 1;
+            }
         }
         Ok(())
     }

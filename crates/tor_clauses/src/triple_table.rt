@@ -1,8 +1,11 @@
 ghost use Rattle.std.specs.Prelude.{◌≡◌, ◌<◌, ◌≤◌, ◌↔◌, ◌^◌, [], All, length, take, slice_get, IsTrue, IfOk, OnErr};
-ghost use Rattle.tor_clauses.specs.Tables.{HasNodes, IsSatisfied, IsAdded, key_of, number_of_pair};
+ghost use Rattle.std.specs.List.{list_any};
+ghost use Rattle.tor_clauses.specs.Triples.{arc_of, is_same_triple};
+ghost use Rattle.tor_clauses.specs.Tables.{HasNodes, IsSatisfied, IsAdded, AreKnownOn, key_of_arc, number_of_pair};
 
-use crate::lit::Lit;
+use crate::lit::{Lit, opposite};
 use crate::triple::Triple;
+use as_graph::Step;
 use relationships::End;
 use std::alloc::Global;
 use std::marker::Model;
@@ -75,6 +78,35 @@ impl TripleTable {
         true
     }
 
+    /// Whether a triple is there whose literals have these nodes, or its reverse. It takes no memory.
+    fn holds(&self, first: NodeId, second: NodeId) -> bool
+        ensures { (t : Triple) → HasNodes t → arc_of t ≡ (first, second) → (IsTrue result ↔ IsTrue (list_any (is_same_triple t) self.now)) }
+    {
+        self.known.holds(number_of(key(first, second)))
+    }
+
+    /// The first place from this one on at which a step and the one before it make a triple that is new, or how many steps there
+    /// are. It takes no memory.
+    pub fn first_new(&self, steps: &[Step], from: usize) -> usize
+        requires from { 0 < from }
+        requires inside { from ≤ length steps.now }
+        requires few { All (λ step. step.edge < 2 ^ 26) steps.now }
+        ensures from { from ≤ result }
+        ensures inside { result ≤ length steps.now }
+        ensures known { AreKnownOn self.now steps.now from result }
+    {
+        // a short way from one look-up to the next, so that the processor begins some before one has ended
+        let mut first = Lit::of_step(&steps[from - 1]).node();
+        for next in from..steps.len() {
+            let second = Lit::of_step(&steps[next]).node();
+            if !self.holds(first, second) {
+                return next;
+            }
+            first = second;
+        }
+        steps.len()
+    }
+
     /// Adds a triple, unless it or its reverse is there, and answers whether it was added. For want of memory nothing changes.
     pub fn add(&mut self, triple: Triple) -> Result<bool, NoMemory>
         requires nodes { HasNodes triple }
@@ -83,7 +115,8 @@ impl TripleTable {
         ensures err { OnErr result (self.new ≡ self.old) }
     {
         self.triples.reserve(1)?;
-        let is_new = self.known.insert(number_of(key(&triple)))?;
+        let pair = key(triple.first.node(), triple.second.node());
+        let is_new = self.known.insert(number_of(pair))?;
         if is_new {
             self.triples.push_reserved(triple);
         }
@@ -102,16 +135,14 @@ impl TripleTable {
 
 /// The nodes of a triple's literals or those of its reverse, whichever begin with the lesser node: the same pair for both. It
 /// takes no memory.
-fn key(triple: &Triple) -> (NodeId, NodeId)
-    requires { HasNodes triple.now }
-    ensures { result ≡ key_of triple.now }
+fn key(first: NodeId, second: NodeId) -> (NodeId, NodeId)
+    ensures { result ≡ key_of_arc (first, second) }
 {
-    let first = triple.first.node();
-    let reverse_first = triple.second.not().node();
+    let reverse_first = opposite(second);
     if reverse_first.place() < first.place() {
-        (reverse_first, triple.first.not().node())
+        (reverse_first, opposite(first))
     } else {
-        (first, triple.second.node())
+        (first, second)
     }
 }
 

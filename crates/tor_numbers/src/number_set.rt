@@ -1,4 +1,4 @@
-ghost use Rattle.std.specs.Prelude.{◌≡◌, ◌<◌, ◌≤◌, ◌++◌, ◌∷◌, ℕ, List, [], length, take, Contains, IfOk, OnOk, OnErr};
+ghost use Rattle.std.specs.Prelude.{◌≡◌, ◌<◌, ◌≤◌, ◌↔◌, ◌++◌, ◌∷◌, ℕ, List, [], length, take, Contains, IsTrue, IfOk, OnOk, OnErr};
 ghost use Rattle.tor_numbers.specs.Slots.{IsProbe, IsHeld, IsHolding, IsInserted, Leaves, IsApart};
 
 use crate::probing::{Probe, next, start_of};
@@ -49,6 +49,19 @@ impl NumberSet {
             slots: Vec::new(alloc),
             used: 0,
         }
+    }
+
+    /// Whether a number is there. It takes no memory.
+    pub fn holds(&self, number: u64) -> bool
+        requires { 2 ≤ number }
+        ensures { IsTrue result ↔ Contains self.now number }
+    {
+        let count = self.slots.len();
+        if count == 0 {
+            return false;
+        }
+        let start = start_of(self.seed, number, count);
+        matches!(seek(self.slots.as_slice(), start, number), Probe::Held(_))
     }
 
     /// Adds a number at the end, unless it is there, and answers whether it was added. For want of memory nothing changes.

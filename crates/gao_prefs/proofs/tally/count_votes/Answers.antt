@@ -1,6 +1,5 @@
 use Rattle.std.proofs.Common.{◌≡◌, ◌<◌, ◌≤◌, ◌+◌, ◌∙◌, List, [], length, replicate, rules, subst, sym, ap, arith}
 use Rattle.std.proofs.lemmas.List.Elements.{All-get_or}
-use Rattle.std.proofs.lemmas.List.Sums.{get_or-le-sum_by}
 use Rattle.tor_arena.specs.Distinct.{AllDistinct}
 use Rattle.as_graph.specs.Paths.{path_at}
 use Rattle.as_graph.proofs.CountLemmas.{distinct_below}
@@ -30,12 +29,9 @@ loop-path-preserved c =
     let within : id < length paths = subst (λ k. k < length paths) (sym c.path-item.is) (c.requires.there c.loop-path.path-index id c.loop-path-test.true) in
     let apart : AllDistinct (path_at paths id) = All-get_or AllDistinct paths id [] within c.facts.ensures.apart in
     let two : 2 ≤ length (path_at paths id) = All-get_or (λ path. 2 ≤ length path) paths id [] within c.facts.ensures.several in
-    let count = c.steps.ensures.count in
-    let le = get_or-le-sum_by length paths id [] within in
-    let numbers = c.facts.ensures.numbers in
     let known = c.requires.known in
     counts_more paths kept c.loop-path.path-index id c.steps.result.now c.loop-path.votes.items c.vote_path.new.votes.items c.loop-path-test.true (sym c.path-item.is) two apart c.steps.ensures.steps
-    (omega (arith, count, le, numbers)) c.loop-path.invariant c.vote_path.ensures.length
+    c.loop-path.invariant c.vote_path.ensures.length
     (λ k e. c.vote_path.ensures.counted k e ∙ ap (λ (t : List PerEnd). number_at c.loop-path.votes.items k e + ballots t c.steps.result.now k e) known)
 
 pub returns-clause-small : goal.returns-clause-small

@@ -1,0 +1,89 @@
+use Rattle.std.proofs.Common.{Bool, true, false, not, ◌==◌, eqb-true, ◌≡◌, ◌+◌, ◌-◌, ◌≤◌, ℕ, Some, length, refl, ap, sym, ◌∙◌, subst, arith}
+use Rattle.std.specs.Prelude.{slice_get}
+use Rattle.std.proofs.lemmas.Option.{slice_get_read}
+use Rattle.std.proofs.lemmas.Bool.{false≢true}
+use Rattle.std.proofs.lemmas.List.{length-set}
+use Rattle.tor_digraph.specs.declared.way.Way.{Way}
+use Rattle.tor_clauses.specs.Literals.{opposite_node}
+use Rattle.path_select.specs.declared.known.Part.{Part}
+use Rattle.path_select.specs.declared.known.Known.{Known}
+use Rattle.path_select.specs.Rounds.{IsPart}
+use Rattle.path_select.proofs.Ways.{way_inside}
+use Rattle.path_select.proofs.Knowing.{known_part}
+use Rattle.path_select.proofs.known.remember_parts.Goals as goal
+
+not_false : (b : Bool) → not b ≡ false → b ≡ true
+not_false true e = refl
+not_false false e = absurd (false≢true (sym e))
+
+pub get-requires : goal.get-requires
+get-requires c =
+    let items = c.as_slice-nodes.result.now in
+    let way : Way ℕ ℕ = c.args.way.now in
+    let skip = c.loop-skip.skip in
+    let from = c.index-nodes-skip.result in
+    let lt = c.loop-skip-test.true in
+    let long = ap length c.as_slice-nodes.ensures in
+    let more = c.requires.led.2.one_more in
+    let here : slice_get items skip ≡ Some from = slice_get_read items (length items) skip from refl (omega (arith, lt)) c.index-nodes-skip.is in
+    let at : slice_get way.nodes skip ≡ Some from = subst (λ l. slice_get l skip ≡ Some from) c.as_slice-nodes.ensures here in
+    let inside = way_inside c.args.digraph.now.arcs c.args.digraph.now.nodes c.node_count.ensures.inside.tails c.requires.led.0 c.requires.led.1 way c.requires.led.2 skip from
+    (omega (arith, lt, long, more)) at in
+    let many = c.loop-skip.invariant.many in
+    let nodes = c.requires.nodes in
+    omega (arith, inside, many, nodes)
+
+pub put-requires : goal.put-requires
+put-requires c =
+    let items = c.as_slice-nodes.result.now in
+    let way : Way ℕ ℕ = c.args.way.now in
+    let skip = c.loop-skip.skip in
+    let from = c.index-nodes-skip.result in
+    let lt = c.loop-skip-test.true in
+    let long = ap length c.as_slice-nodes.ensures in
+    let more = c.requires.led.2.one_more in
+    let here : slice_get items skip ≡ Some from = slice_get_read items (length items) skip from refl (omega (arith, lt)) c.index-nodes-skip.is in
+    let at : slice_get way.nodes skip ≡ Some from = subst (λ l. slice_get l skip ≡ Some from) c.as_slice-nodes.ensures here in
+    let inside = way_inside c.args.digraph.now.arcs c.args.digraph.now.nodes c.node_count.ensures.inside.tails c.requires.led.0 c.requires.led.1 way c.requires.led.2 skip from
+    (omega (arith, lt, long, more)) at in
+    let many = c.loop-skip.invariant.many in
+    let nodes = c.requires.nodes in
+    omega (arith, inside, many, nodes)
+
+pub loop-skip-preserved : goal.loop-skip-preserved
+loop-skip-preserved c =
+    let arcs = c.args.digraph.now.arcs in
+    let items = c.as_slice-nodes.result.now in
+    let way : Way ℕ ℕ = c.args.way.now in
+    let skip = c.loop-skip.skip in
+    let from = c.index-nodes-skip.result in
+    let last = c.index-nodes-last.result in
+    let lt = c.loop-skip-test.true in
+    let long = ap length c.as_slice-nodes.ensures in
+    let more = c.requires.led.2.one_more in
+    let fits : skip + skip ≤ length way.arcs = omega (arith, lt, long, more) in
+    let here : slice_get items skip ≡ Some from = slice_get_read items (length items) skip from refl (omega (arith, lt)) c.index-nodes-skip.is in
+    let at : slice_get way.nodes skip ≡ Some from = subst (λ l. slice_get l skip ≡ Some from) c.as_slice-nodes.ensures here in
+    let count = c.len-last.ensures in
+    let end : slice_get items (c.len-last.result - skip) ≡ Some last =
+    slice_get_read items (length items) (c.len-last.result - skip) last refl (omega (arith, lt, long, more, count)) c.index-nodes-last.is in
+    let to : slice_get way.nodes (length way.arcs - skip) ≡ Some last =
+    subst (λ n. slice_get way.nodes (n - skip) ≡ Some last) count (subst (λ l. slice_get l (c.len-last.result - skip) ≡ Some last) c.as_slice-nodes.ensures end) in
+    let opposite : last ≡ opposite_node from = eqb-true last c.opposite.result (not_false (last == c.opposite.result) (sym c.ne.ensures ∙ c.if-ne.false)) ∙ c.opposite.ensures in
+    let part : Part = record { way = c.args.place; skip = skip } in
+    let old : Known = c.loop-skip.known in
+    let new : Known = record { places = c.put.new.self; parts = c.push.new.self; ways = c.loop-skip.known.ways } in
+    let is : IsPart arcs way skip from = record {
+      from = c.requires.led.0;
+      to = c.requires.led.1;
+      led = c.requires.led.2;
+      fits = fits;
+      begins = at;
+      ends = to ∙ ap (λ (n : ℕ). Some n) opposite;
+    } in
+    record {
+      many = ap length c.put.ensures.items ∙ length-set c.loop-skip.known.places.items from (Some c.len-part.result) ∙ c.loop-skip.invariant.many;
+      there = c.loop-skip.invariant.there;
+      known = known_part arcs c.args.first from c.len-part.result part way old new c.loop-skip.invariant.there is c.requires.early c.len-part.ensures refl c.in_ok-push.ensures.ok
+          c.put.ensures.items c.loop-skip.invariant.known;
+    }
