@@ -74,6 +74,11 @@ AreKnownOn ts steps from to = (k path at : ℕ) (s t : Step) → from ≤ k + 1 
 abbrev pub with_triples_on : List (List ℕ) → ℕ → Formula → Formula
 with_triples_on graph path f = having f (with_triples f.triples (triples_on graph path))
 
+-- no triple of the step at this place and the one before it is there, nor its reverse
+abbrev pub IsNewAt : List Triple → List Step → ℕ → Type 0
+IsNewAt ts steps place = (k path at : ℕ) (s t : Step) → k + 1 ≡ place → slice_get steps k ≡ Some s → slice_get steps (k + 1) ≡ Some t →
+    list_any (is_same_triple (triple_by path at s t)) ts ≡ false
+
 -- with no more of these triples of the path there are too many to be numbered
 abbrev pub IsRoomy : List (List ℕ) → ℕ → List Triple → Type 0
 IsRoomy graph path ts = (k : ℕ) → length (with_triples ts (take k (triples_on graph path))) ≤ 2 ^ 26

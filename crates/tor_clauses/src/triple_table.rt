@@ -1,7 +1,7 @@
 ghost use Rattle.std.specs.Prelude.{◌≡◌, ◌<◌, ◌≤◌, ◌↔◌, ◌^◌, [], All, length, take, slice_get, IsTrue, IfOk, OnErr};
 ghost use Rattle.std.specs.List.{list_any};
 ghost use Rattle.tor_clauses.specs.Triples.{arc_of, is_same_triple};
-ghost use Rattle.tor_clauses.specs.Tables.{HasNodes, IsSatisfied, IsAdded, AreKnownOn, key_of_arc, number_of_pair};
+ghost use Rattle.tor_clauses.specs.Tables.{HasNodes, IsSatisfied, IsAdded, AreKnownOn, IsNewAt, key_of_arc, number_of_pair};
 
 use crate::lit::{Lit, opposite};
 use crate::triple::Triple;
@@ -94,6 +94,7 @@ impl TripleTable {
         ensures from { from ≤ result }
         ensures inside { result ≤ length steps.now }
         ensures known { AreKnownOn self.now steps.now from result }
+        ensures new { result < length steps.now → IsNewAt self.now steps.now result }
     {
         // a short way from one look-up to the next, so that the processor begins some before one has ended
         let mut first = Lit::of_step(&steps[from - 1]).node();

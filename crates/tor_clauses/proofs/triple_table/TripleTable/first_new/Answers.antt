@@ -1,11 +1,13 @@
-use Rattle.std.proofs.Common.{◌≡◌, ℕ, inl, inr, ◌+◌, ◌-◌, ◌<◌, Some, get_or, sym, ap, ap₂, ◌∙◌, subst, arith}
+use Rattle.std.proofs.Common.{◌≡◌, ℕ, List, All, inl, inr, ◌+◌, ◌-◌, ◌<◌, Some, get_or, sym, ap, ap₂, ◌∙◌, subst, arith}
 use Rattle.std.specs.Prelude.{slice_get}
-use Rattle.std.proofs.lemmas.Bool.{cases_eq}
+use Rattle.std.proofs.lemmas.Bool.{cases_eq, false_from_ne_true, false≢true}
 use Rattle.std.proofs.lemmas.Option.{get_or_from_slice_get}
 use Rattle.relationships.specs.Graph.{Edge}
 use Rattle.tor_digraph.proofs.Gets.{slice_get-lt}
 use Rattle.as_graph.specs.declared.step.Step.{Step}
 use Rattle.tor_clauses.specs.Literals.{node_of}
+use Rattle.tor_clauses.specs.Triples.{is_same_triple}
+use Rattle.std.specs.List.{list_any}
 use Rattle.tor_clauses.specs.Tables.{AreKnownOn, lit_at, triple_by}
 use Rattle.tor_clauses.proofs.Adding.{get_from_or}
 use Rattle.tor_clauses.proofs.triple_table.TripleTable.first_new.Goals as goal
@@ -15,6 +17,13 @@ some_same e = cc
 
 abbrev pair : ℕ → ℕ → Edge
 pair m n = (m, n)
+
+small : (steps : List Step) → All (λ (t : Step). t.edge < 67108864) steps → (k : ℕ) (s : Step) → slice_get steps k ≡ Some s → s.edge < 134217728
+small steps few k s at =
+    let lt = slice_get-lt steps k s at in
+    let one = few k s lt in
+    let is : (get_or steps k s).edge ≡ s.edge = ap (λ (t : Step). t.edge) (get_or_from_slice_get steps k s s at) in
+    omega (arith, one, is)
 
 pub loop-next-init : goal.loop-next-init
 loop-next-init c = record { first = first; known = λ k path at s t le lt a b. absurd (omega (arith, le, lt)) }
@@ -42,20 +51,13 @@ loop-next-preserved c = record { first = first; known = known }
     first : (s : Step) → slice_get c.args.steps.now (next + 1 - 1) ≡ Some s → c.node-second.result ≡ node_of (lit_at s)
     first s at = let e : next + 1 - 1 ≡ next = omega arith in second s (subst (λ k. slice_get c.args.steps.now k ≡ Some s) e at)
 
-    small : (k : ℕ) (s : Step) → slice_get c.args.steps.now k ≡ Some s → s.edge < 134217728
-    small k s at =
-        let lt = slice_get-lt c.args.steps.now k s at in
-        let few = c.requires.few k s lt in
-        let is : (get_or c.args.steps.now k s).edge ≡ s.edge = ap (λ (t : Step). t.edge) (get_or_from_slice_get c.args.steps.now k s s at) in
-        omega (arith, few, is)
-
     known : AreKnownOn c.args.self.now c.args.steps.now c.args.from (next + 1)
     known k path at s t le lt a b = elim (cases_eq (k + 1) next) [
       | inl e ↦ (
           let before : k ≡ next - 1 = omega (arith, e) in
           let one = c.loop-next.invariant.first s (subst (λ n. slice_get c.args.steps.now n ≡ Some s) before a) in
           let two = second t (subst (λ n. slice_get c.args.steps.now n ≡ Some t) e b) in
-          (c.holds.ensures (triple_by path at s t) (small k s a, small (k + 1) t b) (ap₂ pair (sym one) (sym two))).0 c.if-not-holds.false
+          (c.holds.ensures (triple_by path at s t) (small c.args.steps.now c.requires.few k s a, small c.args.steps.now c.requires.few (k + 1) t b) (ap₂ pair (sym one) (sym two))).0 c.if-not-holds.false
           )
       | inr ne ↦ c.loop-next.invariant.known k path at s t le (omega (arith, lt, ne)) a b
     ]
@@ -63,3 +65,15 @@ loop-next-preserved c = record { first = first; known = known }
 pub returns-clause-known : goal.returns-clause-known
 returns-clause-known c = λ k path at s t le lt a b.
     let past = c.loop-next-test.false in c.loop-next.invariant.known k path at s t le (omega (arith, lt, past)) a b
+
+pub returns-then-not-holds-clause-new : goal.returns-then-not-holds-clause-new
+returns-then-not-holds-clause-new c = λ lt k path at s t e a b.
+    let steps = c.args.steps.now in
+    let next = c.loop-next.next in
+    let here : slice_get steps next ≡ Some c.index-steps-next.result = get_from_or steps next c.index-steps-next.result c.loop-next-test.true c.index-steps-next.is in
+    let second : c.node-second.result ≡ node_of (lit_at t) = c.node-second.ensures.node ∙
+    ap node_of (c.of_step-in-loop-next.ensures ∙ ap lit_at (some_same (sym here ∙ subst (λ n. slice_get steps n ≡ Some t) e b))) in
+    let before : k ≡ next - 1 = omega (arith, e) in
+    let first = c.loop-next.invariant.first s (subst (λ n. slice_get steps n ≡ Some s) before a) in
+    let is = c.holds.ensures (triple_by path at s t) (small steps c.requires.few k s a, small steps c.requires.few (k + 1) t b) (ap₂ pair (sym first) (sym second)) in
+    false_from_ne_true (list_any (is_same_triple (triple_by path at s t)) c.args.self.now) (λ there. false≢true (sym c.if-not-holds.true ∙ is.1 there))
