@@ -47,6 +47,17 @@ fn numbers_are_added_once_and_let_go(rt: HostRuntime) -> Result<(), Fail> {
     Ok(())
 }
 
+#[test]
+fn a_number_is_there_until_it_is_let_go(rt: HostRuntime) -> Result<(), Fail> {
+    let mut set = NumberSet::new(rt.alloc(), Keys::new(&rt));
+    assert!(rt; !set.holds(2));
+    assert_eq!(rt; add_hundred(&mut set, 2)?, 100);
+    assert!(rt; set.holds(2) && set.holds(101) && !set.holds(102));
+    set.cut_to(99);
+    assert!(rt; set.holds(100) && !set.holds(101));
+    Ok(())
+}
+
 /// Adds a hundred numbers in a row, and answers the sum of their places.
 fn places_of_hundred(table: &mut PlaceTable, first: u64) -> Result<usize, Fail>
     requires { 2 ≤ first }
