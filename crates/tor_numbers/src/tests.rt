@@ -52,9 +52,10 @@ fn a_number_is_there_until_it_is_let_go(rt: HostRuntime) -> Result<(), Fail> {
     let mut set = NumberSet::new(rt.alloc(), Keys::new(&rt));
     assert!(rt; !set.holds(2));
     assert_eq!(rt; add_hundred(&mut set, 2)?, 100);
-    assert!(rt; set.holds(2) && set.holds(101) && !set.holds(102));
-    set.cut_to(99);
-    assert!(rt; set.holds(100) && !set.holds(101));
+    assert!(rt; set.holds(101) && !set.holds(102));
+    assert!(rt; set.holds(2));
+    set.cut_to(1);
+    assert!(rt; set.holds(2) && !set.holds(3) && !set.holds(101));
     Ok(())
 }
 
