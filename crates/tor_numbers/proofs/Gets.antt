@@ -1,5 +1,5 @@
 -- What a list has at a place, after the list has changed.
-use Rattle.std.proofs.Common.{◌≡◌, ◌≢◌, ℕ, zero, suc, ◌<◌, ◌⊎◌, inl, inr, List, [], ◌∷◌, ◌++◌, Some, length, take, set, refl, sym, ap, arith}
+use Rattle.std.proofs.Common.{◌≡◌, ◌≢◌, ℕ, zero, suc, ◌<◌, ◌⊎◌, inl, inr, List, [], ◌∷◌, ◌++◌, Some, length, take, map, set, refl, sym, ap, arith}
 use Rattle.std.specs.Prelude.{slice_get, replicate, Contains}
 use Rattle.std.proofs.lemmas.Option.{slice_get_read, get_or_from_slice_get}
 
@@ -54,3 +54,9 @@ module _ {X : Type 0} where
   slice_get-replicate zero y k x e = cc
   slice_get-replicate (suc n) y zero x e = cc
   slice_get-replicate (suc n) y (suc k) x e = slice_get-replicate n y k x e
+
+-- an item of a mapped list is what one of the list is mapped to
+pub slice_get-unmap : {X Y : Type 0} (f : X → Y) (xs : List X) (k : ℕ) (y : Y) → slice_get (map f xs) k ≡ Some y → (x : X) × (slice_get xs k ≡ Some x) × (f x ≡ y)
+slice_get-unmap f [] k y e = cc
+slice_get-unmap f (a ∷ xs) zero y e = (a, refl, cc)
+slice_get-unmap f (a ∷ xs) (suc k) y e = slice_get-unmap f xs k y e

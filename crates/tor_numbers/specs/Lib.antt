@@ -1,2 +1,3 @@
+pub mod EdgeNumbers
 pub mod Places
 pub mod Slots

@@ -1,6 +1,6 @@
 ghost use Rattle.std.specs.Prelude.{◌≤◌};
 
-use crate::{NumberSet, PlaceTable};
+use crate::{NumberSet, PlaceTable, edge_numbered, number_of_edge};
 use std::io;
 use std::random::RandomSource;
 use std::test::Fail;
@@ -79,4 +79,14 @@ fn numbers_keep_their_places(rt: HostRuntime) -> Result<(), Fail> {
     assert_eq!(rt; table.place(151), Some(149));
     assert_eq!(rt; table.place(152), None);
     Ok(())
+}
+
+#[test]
+fn an_edge_is_read_back_from_its_number(rt: HostRuntime) {
+    let near = number_of_edge(7, 9);
+    assert_eq!(rt; near, 0x7_0000_0004);
+    assert_eq!(rt; edge_numbered(near), (7, 9));
+    let last = number_of_edge(u32::MAX, u32::MAX);
+    assert_eq!(rt; last, 0xFFFF_FFFF_0000_0002);
+    assert_eq!(rt; edge_numbered(last), (u32::MAX, u32::MAX));
 }
