@@ -1,9 +1,10 @@
 -- What the fields of a graph hold.
-use Rattle.std.specs.Prelude.{◌≡◌, ℕ, ◌+◌, ◌-◌, ◌*◌, ◌/◌, ◌%◌, ◌<◌, ◌≤◌, ◌^◌, ◌||◌, ◌==◌, Bool, List, [], ◌∷◌, ◌++◌, All, length, map, sum_by, count_by, slice_index_or, unwrap_or, nat_eq, if◌then◌else◌}
+use Rattle.std.specs.Prelude.{◌≡◌, ℕ, ◌+◌, ◌<◌, ◌≤◌, ◌^◌, ◌||◌, ◌==◌, Bool, List, [], ◌∷◌, ◌++◌, All, length, map, sum_by, count_by, slice_index_or, unwrap_or, nat_eq, if◌then◌else◌}
 use Rattle.std.specs.List.{list_any}
 use Rattle.std.specs.Map.{lookup}
 use Rattle.relationships.specs.declared.label.End.{End}
 use Rattle.tor_arena.specs.Distinct.{AllDistinct}
+use Rattle.tor_numbers.specs.EdgeNumbers.{edge_numbered}
 use Rattle.relationships.specs.Relationship.{opposite}
 use Rattle.relationships.specs.Graph.{Edge, is_same, edges}
 use Rattle.as_graph.specs.declared.step.Step.{Step}
@@ -26,14 +27,7 @@ AreDegrees es counts = (a : ℕ) → count_of counts a ≡ count_by (holds a) es
 abbrev pub CountsOneMore : List (ℕ × ℕ) → ℕ → List (ℕ × ℕ) → Type 0
 CountsOneMore counts end more = (a : ℕ) → count_of more a ≡ count_of counts a + (if nat_eq end a then 1 else 0)
 
--- the number of an edge, from 2 on
-abbrev pub number_of_edge : Edge → ℕ
-number_of_edge e = e.0 * 2 ^ 32 + e.1 + 2
-
--- the edge of a number
-abbrev pub edge_numbered : ℕ → Edge
-edge_numbered n = ((n - 2) / 2 ^ 32, (n - 2) % 2 ^ 32)
-
+-- the edges of numbers
 abbrev pub edges_numbered : List ℕ → List Edge
 edges_numbered numbers = map edge_numbered numbers
 

@@ -2,13 +2,13 @@ ghost use Rattle.std.specs.Prelude.{◌≡◌, ◌+◌, ◌<◌, ◌≤◌, ◌^
 ghost use Rattle.std.specs.List.{list_any};
 ghost use Rattle.indexmap.specs.IndexMap.{spare};
 ghost use Rattle.relationships.specs.Graph.{is_same};
-ghost use Rattle.as_graph.specs.Inside.{holds, with_edge, count_of, number_of_edge, edge_numbered, CountsOneMore};
+ghost use Rattle.as_graph.specs.Inside.{holds, with_edge, count_of, CountsOneMore};
 
 use indexmap::IndexMap;
 use std::alloc::Global;
 use std::marker::Model;
 use tor_arena::{EdgeId, Index, Keys, NoMemory};
-use tor_numbers::PlaceTable;
+use tor_numbers::{PlaceTable, edge_numbered, number_of_edge};
 
 /// Edges in order of first appearance, each once, with the degrees of their ends.
 #[derive(Drop)]
@@ -20,15 +20,16 @@ pub(crate) struct EdgeTable {
 }
 
 impl Model for EdgeTable {
-    ghost use Rattle.std.specs.Prelude.{List};
+    ghost use Rattle.std.specs.Prelude.{List, All};
     ghost use Rattle.relationships.specs.Graph.{Edge};
+    ghost use Rattle.tor_numbers.specs.EdgeNumbers.{IsEdgeNumber};
     ghost use Rattle.as_graph.specs.Inside.{IsTable, edges_numbered};
 
     ghost Value = { List Edge };
 
     ghost view = { λ table. edges_numbered table.numbers };
 
-    ghost invariant = { λ table. IsTable (edges_numbered table.numbers) table.counts.entries };
+    ghost invariant = { λ table. IsTable (edges_numbered table.numbers) table.counts.entries × All IsEdgeNumber table.numbers };
 }
 
 impl EdgeTable {
@@ -55,7 +56,7 @@ impl EdgeTable {
         ensures pair { slice_get self.now id ≡ Some result }
         ensures order { result.0 < result.1 }
     {
-        edge_of_number(self.numbers.numbers()[id.place()])
+        edge_numbered(self.numbers.numbers()[id.place()])
     }
 
     /// The edge with these two ends. It takes no memory.
@@ -67,7 +68,7 @@ impl EdgeTable {
         if low >= high {
             return None;
         }
-        let place = numbers.place(number_of(low, high))?;
+        let place = numbers.place(number_of_edge(low, high))?;
         EdgeId::from_place(place)
     }
 
@@ -92,31 +93,13 @@ impl EdgeTable {
         }
         self.counts.reserve(2)?;
         let count = self.numbers.len();
-        let place = self.numbers.add(number_of(low, high))?;
+        let place = self.numbers.add(number_of_edge(low, high))?;
         if place == count {
             count_end(&mut self.counts, low);
             count_end(&mut self.counts, high);
         }
         Ok(EdgeId::from_place(place).unwrap())
     }
-}
-
-/// The number of an edge, from 2 on: no other edge has the same.
-fn number_of(low: u32, high: u32) -> u64
-    requires { low < high }
-    ensures number { result ≡ number_of_edge (low, high) }
-    ensures least { 2 ≤ result }
-{
-    u64::from(low) * 4294967296 + u64::from(high) + 2
-}
-
-/// The edge of a number.
-fn edge_of_number(number: u64) -> (u32, u32)
-    requires { 2 ≤ number }
-    ensures { result ≡ edge_numbered number }
-{
-    let whole = number - 2;
-    ((whole / 4294967296) as u32, (whole % 4294967296) as u32)
 }
 
 /// Counts one more edge with this end, for which there is room.
