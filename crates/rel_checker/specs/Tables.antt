@@ -1,5 +1,5 @@
 -- The edges that a table holds, in the order in which they were added, and counts for them.
-use Rattle.std.specs.Prelude.{◌≡◌, ℕ, ◌+◌, ◌-◌, ◌*◌, ◌/◌, ◌%◌, ◌^◌, ◌<◌, ◌≤◌, List, [], ◌∷◌, ◌++◌, length, map, filter, slice_index, slice_index_or, if◌then◌else◌}
+use Rattle.std.specs.Prelude.{◌≡◌, ℕ, ◌+◌, ◌<◌, List, [], ◌∷◌, ◌++◌, length, map, filter, slice_index, slice_index_or, if◌then◌else◌}
 use Rattle.std.specs.List.{list_any}
 use Rattle.relationships.specs.Relationship.{Labelling}
 use Rattle.relationships.specs.Graph.{Edge, is_same, labelling}
@@ -14,18 +14,6 @@ with_edge es e = if list_any (is_same e) es then es else es ++ e ∷ []
 -- the edge in a place
 abbrev pub edge_at : List Edge → ℕ → Edge
 edge_at es k = slice_index_or es k (0, 0)
-
--- the number of an edge in a table, from 2 on, where its lower AS comes first
-abbrev pub number_of_edge : Edge → ℕ
-number_of_edge e = e.0 * 2 ^ 32 + (e.1 - e.0) + 2
-
--- the edge of a number
-abbrev pub edge_numbered : ℕ → Edge
-edge_numbered n = ((n - 2) / 2 ^ 32, (n - 2) / 2 ^ 32 + (n - 2) % 2 ^ 32)
-
--- it is the number of two AS numbers
-abbrev pub IsEdgeNumber : ℕ → Type 0
-IsEdgeNumber n = (2 ≤ n) × ((n - 2) / 2 ^ 32 + (n - 2) % 2 ^ 32 < 2 ^ 32)
 
 -- the count of each edge has gone up by this
 abbrev pub HaveRisen : List Edge → (Edge → ℕ) → List ℕ → List ℕ → Type 0

@@ -1,12 +1,12 @@
-ghost use Rattle.std.specs.Prelude.{◌≡◌, ◌↔◌, ◌<◌, ◌≤◌, ℕ, [], Contains, Some, IsTrue, length, slice_get, OnOk, OnErr, IfOk, MatchOption};
+ghost use Rattle.std.specs.Prelude.{◌≡◌, ◌↔◌, ◌<◌, ℕ, [], Contains, Some, IsTrue, length, slice_get, OnOk, OnErr, IfOk, MatchOption};
 ghost use Rattle.std.specs.List.{IsDistinct};
 ghost use Rattle.relationships.specs.Graph.{edge_of, is_same};
-ghost use Rattle.rel_checker.specs.Tables.{with_edge, edge_at, number_of_edge, edge_numbered, IsEdgeNumber};
+ghost use Rattle.rel_checker.specs.Tables.{with_edge, edge_at};
 
 use std::alloc::Global;
 use std::marker::Model;
 use tor_arena::{Keys, NoMemory};
-use tor_numbers::PlaceTable;
+use tor_numbers::{PlaceTable, edge_numbered, number_of_edge};
 
 /// Edges in the order in which they were added, each once. An edge is found by its two ASes, in either order. The table's keys are
 /// random, since whoever wrote the file chose its edges.
@@ -20,31 +20,13 @@ impl Model for EdgeTable {
     ghost use Rattle.std.specs.Prelude.{List, All, map};
     ghost use Rattle.std.specs.List.{IsDistinct};
     ghost use Rattle.relationships.specs.Graph.{Edge, is_same};
-    ghost use Rattle.rel_checker.specs.Tables.{edge_numbered, IsEdgeNumber};
+    ghost use Rattle.tor_numbers.specs.EdgeNumbers.{edge_numbered, IsEdgeNumber};
 
     ghost Value = { List Edge };
 
     ghost view = { λ table. map edge_numbered table.numbers };
 
     ghost invariant = { λ table. IsDistinct is_same (map edge_numbered table.numbers) × All IsEdgeNumber table.numbers };
-}
-
-/// The number of an edge in the table.
-fn number_of(low: u32, high: u32) -> u64
-    requires { low ≤ high }
-    ensures number { result ≡ number_of_edge (low, high) }
-    ensures least { 2 ≤ result }
-{
-    u64::from(low) * 4294967296 + u64::from(high - low) + 2
-}
-
-/// The edge of a number.
-fn edge_of_number(number: u64) -> (u32, u32)
-    requires { IsEdgeNumber number }
-    ensures { result ≡ edge_numbered number }
-{
-    let low = ((number - 2) / 4294967296) as u32;
-    (low, low + ((number - 2) % 4294967296) as u32)
 }
 
 impl EdgeTable {
@@ -63,7 +45,7 @@ impl EdgeTable {
         ensures place { IfOk result (λ k. slice_get self.new k ≡ Some (edge_of a b)) }
         ensures err { OnErr result (self.new ≡ self.old) }
     {
-        let place = self.numbers.add(number_of(a.min(b), a.max(b)))?;
+        let place = self.numbers.add(number_of_edge(a.min(b), a.max(b)))?;
         Ok(place)
     }
 
@@ -80,7 +62,7 @@ impl EdgeTable {
         ensures { result ≡ slice_get self.now place }
     {
         match self.numbers.numbers().get(place) {
-            Some(number) => Some(edge_of_number(*number)),
+            Some(number) => Some(edge_numbered(*number)),
             None => None,
         }
     }
@@ -90,6 +72,6 @@ impl EdgeTable {
         ensures found { MatchOption result (Contains self.now (edge_of a b) → ⊥) (λ k. slice_get self.now k ≡ Some (edge_of a b)) }
         ensures only { (k : ℕ) → k < length self.now → IsTrue (is_same (edge_of a b) (edge_at self.now k)) ↔ (result ≡ Some k) }
     {
-        self.numbers.place(number_of(a.min(b), a.max(b)))
+        self.numbers.place(number_of_edge(a.min(b), a.max(b)))
     }
 }

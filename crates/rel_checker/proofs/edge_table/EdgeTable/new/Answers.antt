@@ -3,7 +3,7 @@ use Rattle.std.specs.Prelude.{All}
 use Rattle.std.specs.List.{IsDistinct}
 use Rattle.std.proofs.lemmas.List.Elements.{All-nil}
 use Rattle.relationships.specs.Graph.{is_same}
-use Rattle.rel_checker.specs.Tables.{edge_numbered, IsEdgeNumber}
+use Rattle.tor_numbers.specs.EdgeNumbers.{edge_numbered, IsEdgeNumber}
 use Rattle.rel_checker.proofs.edge_table.EdgeTable.new.Goals as goal
 
 pub invariant_of-result : goal.invariant_of-result
