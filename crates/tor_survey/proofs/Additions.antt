@@ -1,6 +1,6 @@
 -- What a number that is put into a table adds.
-use Rattle.std.proofs.Common.{◌≡◌, ℕ, ◌+◌, ◌-◌, ◌/◌, ◌%◌, ◌≤◌, inl, inr, Bool, true, false, not, ◌||◌, ◌==◌, List, [], ◌∷◌, ◌++◌, map, min, max, refl, sym, ap, ap₂, ◌∙◌, subst, arith, if◌then◌else◌, eq-eqb}
-use Rattle.std.specs.Prelude.{◌^◌, ◌<◌, All, Contains}
+use Rattle.std.proofs.Common.{◌≡◌, ℕ, ◌+◌, ◌-◌, ◌≤◌, inl, inr, Bool, true, false, not, ◌||◌, ◌==◌, List, [], ◌∷◌, ◌++◌, map, min, max, refl, sym, ap, ap₂, ◌∙◌, subst, arith, if◌then◌else◌, eq-eqb}
+use Rattle.std.specs.Prelude.{All, Contains}
 use Rattle.std.specs.List.{list_any}
 use Rattle.std.proofs.lemmas.Bool.{eqb-true, false_from_ne_true}
 use Rattle.std.proofs.lemmas.Cmp.{nat_eq_equiv}
@@ -10,9 +10,11 @@ use Rattle.std.proofs.lemmas.List.{map-append}
 use Rattle.relationships.specs.Graph.{Edge, edge_of, is_same}
 use Rattle.relationships.proofs.Edges.{same_edge}
 use Rattle.as_graph.specs.Inside.{with_edge}
+use Rattle.tor_numbers.specs.EdgeNumbers.{edge_numbered}
 use Rattle.tor_numbers.specs.Places.{IsPut}
 use Rattle.tor_numbers.specs.Slots.{IsInserted}
-use Rattle.tor_survey.specs.Sets.{as_numbered, with_as, edge_numbered, number_of_edge}
+use Rattle.tor_numbers.proofs.EdgeNumbers.{same_number}
+use Rattle.tor_survey.specs.Sets.{as_numbered, with_as}
 
 -- ---- any table
 
@@ -77,12 +79,6 @@ as_put old new a n e all is =
 is_same-self : (e : Edge) → is_same e e ≡ true
 is_same-self e = rw (eq-eqb e.0 e.0 refl, eq-eqb e.1 e.1 refl)
 
-same_number : (m n : ℕ) → 2 ≤ m → 2 ≤ n → edge_numbered m ≡ edge_numbered n → m ≡ n
-same_number m n h k e =
-    let first : (m - 2) / 2 ^ 32 ≡ (n - 2) / 2 ^ 32 = ap (λ (f : Edge). f.0) e in
-    let second : (m - 2) / 2 ^ 32 + (m - 2) % 2 ^ 32 ≡ (n - 2) / 2 ^ 32 + (n - 2) % 2 ^ 32 = ap (λ (f : Edge). f.1) e in
-    omega (arith, h, k, first, second)
-
 edge_exact : IsExact is_same edge_numbered
 edge_exact m n h k = both (is_same (edge_numbered m) (edge_numbered n)) (m == n)
     (λ t. eq-eqb m n (same_number m n h k (same_edge (edge_numbered m) (edge_numbered n) t)))
@@ -91,17 +87,12 @@ edge_exact m n h k = both (is_same (edge_numbered m) (edge_numbered n)) (m == n)
 pair : {a b c d : ℕ} → a ≡ b → c ≡ d → ◌≡◌ {A = Edge} (a, c) (b, d)
 pair p q = rw (p, q) refl
 
-numbered : (low high : ℕ) → low ≤ high → high < 2 ^ 32 → edge_numbered (number_of_edge (low, high)) ≡ (low, high)
-numbered low high le lt = pair (omega (arith, le, lt)) (omega (arith, le, lt))
-
-pub edge_inserted : (old new : List ℕ) (a b low high n : ℕ) (is_new : Bool) → a < 2 ^ 32 → b < 2 ^ 32 → low ≡ min a b → high ≡ max a b → n ≡ number_of_edge (low, high) →
+pub edge_inserted : (old new : List ℕ) (a b low high n : ℕ) (is_new : Bool) → low ≡ min a b → high ≡ max a b → 2 ≤ n → edge_numbered n ≡ (low, high) →
     AreNumbers old → IsInserted n old new is_new →
     (map edge_numbered new ≡ with_edge (map edge_numbered old) (edge_of a b)) × (is_new ≡ not (list_any (is_same (edge_of a b)) (map edge_numbered old)))
-edge_inserted old new a b low high n is_new h k l g e all is =
-    let le : low ≤ high = omega (arith, l, g) in
-    let lt : high < 2 ^ 32 = omega (arith, g, h, k) in
-    let its : edge_numbered n ≡ edge_of a b = ap edge_numbered e ∙ numbered low high le lt ∙ pair l g in
-    let both_are = inserted is_same edge_numbered old new n is_new edge_exact all (omega (arith, e)) is in (
+edge_inserted old new a b low high n is_new l g least e all is =
+    let its : edge_numbered n ≡ edge_of a b = e ∙ pair l g in
+    let both_are = inserted is_same edge_numbered old new n is_new edge_exact all least is in (
       both_are.0 ∙ ap (with_edge (map edge_numbered old)) its,
       both_are.1 ∙ ap (λ (f : Edge). not (list_any (is_same f) (map edge_numbered old))) its,
     )

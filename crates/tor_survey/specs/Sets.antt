@@ -1,5 +1,5 @@
 -- What the tables of ASes and of pairs hold.
-use Rattle.std.specs.Prelude.{◌≡◌, ℕ, true, ◌+◌, ◌-◌, ◌*◌, ◌/◌, ◌%◌, ◌^◌, ◌==◌, List, [], ◌∷◌, ◌++◌, if◌then◌else◌}
+use Rattle.std.specs.Prelude.{◌≡◌, ℕ, true, ◌-◌, ◌==◌, List, [], ◌∷◌, ◌++◌, if◌then◌else◌}
 use Rattle.std.specs.List.{list_any}
 use Rattle.relationships.specs.Graph.{Edge}
 
@@ -23,11 +23,3 @@ HaveEnds known (e ∷ es) = IsKnown known e.0 × IsKnown known e.1 × HaveEnds k
 -- the AS of a number in the table
 abbrev pub as_numbered : ℕ → ℕ
 as_numbered n = n - 2
-
--- the number of a pair in the table, from 2 on, where its lower AS comes first
-abbrev pub number_of_edge : Edge → ℕ
-number_of_edge e = e.0 * 2 ^ 32 + (e.1 - e.0) + 2
-
--- the pair of a number
-abbrev pub edge_numbered : ℕ → Edge
-edge_numbered n = ((n - 2) / 2 ^ 32, (n - 2) / 2 ^ 32 + (n - 2) % 2 ^ 32)

@@ -1,13 +1,12 @@
-ghost use Rattle.std.specs.Prelude.{◌≡◌, ◌≤◌, [], length, not, IfOk, OnOk};
+ghost use Rattle.std.specs.Prelude.{◌≡◌, [], length, not, IfOk, OnOk};
 ghost use Rattle.std.specs.List.{list_any};
 ghost use Rattle.relationships.specs.Graph.{edge_of, is_same};
 ghost use Rattle.as_graph.specs.Inside.{with_edge};
-ghost use Rattle.tor_survey.specs.Sets.{number_of_edge};
 
 use std::alloc::Global;
 use std::marker::Model;
 use tor_arena::{Keys, NoMemory};
-use tor_numbers::NumberSet;
+use tor_numbers::{NumberSet, number_of_edge};
 
 /// Pairs of neighbours in the order in which they were added, each once, whichever of the two came first.
 #[derive(Drop)]
@@ -20,22 +19,13 @@ pub(crate) struct EdgeSet {
 impl Model for EdgeSet {
     ghost use Rattle.std.specs.Prelude.{◌≡◌, ◌≤◌, List, All, length, map};
     ghost use Rattle.relationships.specs.Graph.{Edge};
-    ghost use Rattle.tor_survey.specs.Sets.{edge_numbered};
+    ghost use Rattle.tor_numbers.specs.EdgeNumbers.{edge_numbered};
 
     ghost Value = { List Edge };
 
     ghost view = { λ set. map edge_numbered set.numbers };
 
     ghost invariant = { λ set. All (λ n. 2 ≤ n) set.numbers × (set.count ≡ length set.numbers) };
-}
-
-/// The number of a pair in the table.
-fn number_of(low: u32, high: u32) -> u64
-    requires { low ≤ high }
-    ensures number { result ≡ number_of_edge (low, high) }
-    ensures least { 2 ≤ result }
-{
-    u64::from(low) * 4294967296 + u64::from(high - low) + 2
 }
 
 impl EdgeSet {
@@ -58,7 +48,7 @@ impl EdgeSet {
         let Some(next) = self.count.checked_add(1) else {
             return Err(NoMemory);
         };
-        let is_new = self.numbers.insert(number_of(a.min(b), a.max(b)))?;
+        let is_new = self.numbers.insert(number_of_edge(a.min(b), a.max(b)))?;
         if is_new {
             self.count = next;
         }
