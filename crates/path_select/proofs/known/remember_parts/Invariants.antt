@@ -1,11 +1,11 @@
-use Rattle.std.proofs.Common.{◌≡◌, Some, length}
+use Rattle.std.proofs.Common.{◌≡◌, ◌≤◌, Some, length}
 use Rattle.std.specs.Prelude.{slice_get}
 use Rattle.path_select.specs.Rounds.{AreKnown}
 use Rattle.path_select.proofs.known.remember_parts.Given as goal
 
 abbrev pub invariant-loop-skip : goal.invariant-loop-skip
 invariant-loop-skip l = record {
-  many : length l.known.places.items ≡ length l.fn.known.places.items;
+  room : l.digraph.nodes ≤ length l.known.places.items;
   there : slice_get l.known.ways l.place ≡ Some l.way;
   known : AreKnown l.digraph.arcs l.first l.known;
 }

@@ -1,4 +1,4 @@
-use Rattle.std.proofs.Common.{rules, ◌≡◌, ℕ, ◌*◌, ◌++◌, [], List, Some, None, true, false, length, replicate, ap, sym, ◌∙◌}
+use Rattle.std.proofs.Common.{rules, ◌≡◌, ℕ, ◌*◌, ◌++◌, [], List, Some, true, false, length, replicate, ap, sym, ◌∙◌}
 use Rattle.std.specs.Prelude.{slice_get}
 use Rattle.std.proofs.lemmas.Bool.{false≢true}
 use Rattle.std.proofs.lemmas.List.{length-replicate}
@@ -11,15 +11,11 @@ returns-clause-state c = record {
   ends = search rules;
   marks = ap length marks ∙ length-replicate (c.args.count * 2) false;
   marked = record { seen = λ x at. absurd (unmarked x at); marked = λ k v at. absurd (unvisited k v at) };
-  known = ap length places ∙ length-replicate (c.args.count * 2) None;
   flips = search rules;
 }
   where
     marks : c.push_copies.new.self.items ≡ replicate (c.args.count * 2) false
     marks = c.in_ok-push_copies.ensures.ok ∙ ap (λ l. l ++ replicate (c.args.count * 2) false) c.new-marks.ensures
-
-    places : c.push_copies-2.new.self.items ≡ replicate (c.args.count * 2) None
-    places = c.in_ok-push_copies-2.ensures.ok ∙ ap (λ l. l ++ replicate (c.args.count * 2) None) c.new-places.ensures
 
     unmarked : (x : ℕ) → slice_get c.push_copies.new.self.items x ≡ Some true → ⊥
     unmarked x at = false≢true (sym (slice_get-replicate (c.args.count * 2) false x true (sym (ap (λ m. slice_get m x) marks) ∙ at)))
@@ -28,10 +24,4 @@ returns-clause-state c = record {
     unvisited k v at = let is : slice_get [] k ≡ Some v = sym (ap (λ (l : List Visit). slice_get l k) c.new.ensures) ∙ at in cc
 
 pub returns-clause-known : goal.returns-clause-known
-returns-clause-known c = λ arcs x i at. absurd (none x i places at)
-  where
-    places : c.push_copies-2.new.self.items ≡ replicate (c.args.count * 2) None
-    places = c.in_ok-push_copies-2.ensures.ok ∙ ap (λ l. l ++ replicate (c.args.count * 2) None) c.new-places.ensures
-
-    none : (x i : ℕ) → c.push_copies-2.new.self.items ≡ replicate (c.args.count * 2) None → slice_get c.push_copies-2.new.self.items x ≡ Some (Some i) → ⊥
-    none x i e at = let is : Some i ≡ None = slice_get-replicate (c.args.count * 2) None x (Some i) (sym (ap (λ m. slice_get m x) e) ∙ at) in cc
+returns-clause-known c = λ arcs x i at. absurd (let bad = sym at ∙ ap (λ l. slice_get l x) c.new-3.ensures in cc)
