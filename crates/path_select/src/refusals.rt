@@ -1,4 +1,4 @@
-ghost use Rattle.std.specs.Prelude.{◌≡◌, ◌⊎◌, ℕ, ◌+◌, ◌<◌, ◌^◌, ◌++◌, ◌∷◌, [], All, length, map, slice_get, Some, IsTrue, IfOk, IfSome, OnOk};
+ghost use Rattle.std.specs.Prelude.{◌≡◌, ◌⊎◌, ℕ, ◌+◌, ◌<◌, ◌↔◌, ◌^◌, ◌++◌, ◌∷◌, [], All, length, map, slice_get, Some, IsTrue, IfOk, IfSome, OnOk};
 ghost use Rattle.relationships.specs.declared.fate.Fate.{Fate as Becoming};
 ghost use Rattle.relationships.specs.declared.walk.Walk.{Walk as Evidence};
 ghost use Rattle.relationships.specs.Graph.{edges};
@@ -89,7 +89,7 @@ fn lost_unless_satisfied(
 /// Whether these providers satisfy all triples of a path with these steps. It takes no memory.
 fn are_satisfied(ends: &[End], steps: &[Step]) -> bool
     requires { All (λ step. step.edge < length ends.now) steps.now }
-    ensures { IsTrue result → AreSatisfiedOn ends.now steps.now }
+    ensures { IsTrue result ↔ AreSatisfiedOn ends.now steps.now }
 {
     let mut satisfied = true;
     let mut before = false;
@@ -110,7 +110,7 @@ pub(crate) fn find(refusals: &Refusals, graph: &AsGraph, ends: &[End], path: Pat
 {
     graph.facts();
     let steps = graph.steps(path);
-    if are_satisfied(ends, steps) {
+    if refusals.items.is_empty() || are_satisfied(ends, steps) {
         return None;
     }
     for next in 1..steps.len() {

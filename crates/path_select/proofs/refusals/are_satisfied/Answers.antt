@@ -1,52 +1,71 @@
-use Rattle.std.proofs.Common.{◌≡◌, ◌+◌, ◌<◌, ℕ, Bool, true, false, not, ◌&&◌, ◌||◌, Some, length, refl, sym, ap, ◌∙◌, subst, arith, inl, inr}
+use Rattle.std.proofs.Common.{◌≡◌, ◌+◌, ◌-◌, ◌<◌, ◌↔◌, ℕ, Bool, true, false, not, ◌&&◌, ◌||◌, Some, length, refl, sym, ap, ◌∙◌, subst, arith, inl, inr}
 use Rattle.std.specs.Prelude.{slice_get}
 use Rattle.std.proofs.lemmas.Bool.{cases_eq, false≢true}
-use Rattle.std.proofs.lemmas.Option.{slice_get_read}
-use Rattle.tor_digraph.proofs.Gets.{slice_get-lt}
+use Rattle.tor_digraph.proofs.Gets.{slice_get-lt, slice_get-some}
 use Rattle.as_graph.specs.declared.step.Step.{Step}
 use Rattle.tor_clauses.specs.Literals.{lit_of, Holds}
 use Rattle.tor_clauses.specs.Tables.{lit_at}
+use Rattle.tor_clauses.proofs.Adding.{get_from_or}
 use Rattle.tor_clauses.proofs.LiteralLemmas.{lit_of_node}
 use Rattle.path_select.specs.Refusals.{node_at}
 use Rattle.path_select.proofs.Scans.{some_same}
 use Rattle.path_select.proofs.refusals.are_satisfied.Goals as goal
 
+split : (a b d : Bool) → (a && (not b || d)) ≡ true → (a ≡ true) × (b ≡ true → d ≡ true)
+split true true d e = (refl, λ _. e)
+split true false d e = (refl, λ h. absurd (false≢true h))
+split false b d e = absurd (false≢true e)
+
+join : (a b d : Bool) → a ≡ true → (b ≡ true → d ≡ true) → (a && (not b || d)) ≡ true
+join true true d e f = f refl
+join true false d e f = refl
+join false b d e f = absurd (false≢true e)
+
 pub loop-step-preserved : goal.loop-step-preserved
-loop-step-preserved c = record { before = before; satisfied = satisfied }
+loop-step-preserved c = record { none = λ e. absurd (omega (arith, e)); before = before; satisfied = (forth, back) }
   where
     here : slice_get c.args.steps.now c.loop-step.step-index ≡ Some c.step-item.result
-    here = slice_get_read c.args.steps.now (length c.args.steps.now) c.loop-step.step-index c.step-item.result refl c.loop-step-test.true c.step-item.is
+    here = get_from_or c.args.steps.now c.loop-step.step-index c.step-item.result c.loop-step-test.true c.step-item.is
 
-    holds : (s : Step) → slice_get c.args.steps.now c.loop-step.step-index ≡ Some s → Holds c.args.ends.now (lit_of (node_at s)) → c.holds-holds.result ≡ true
-    holds s there h =
+    holds : (s : Step) → slice_get c.args.steps.now c.loop-step.step-index ≡ Some s → (c.holds-holds.result ≡ true) ↔ Holds c.args.ends.now (lit_of (node_at s))
+    holds s there =
         let same : c.of_step.result ≡ lit_of (node_at s) = c.of_step.ensures ∙ ap lit_at (some_same (sym here ∙ there)) ∙ sym (lit_of_node (lit_at s)) in
-        c.holds-holds.ensures.1 (subst (Holds c.args.ends.now) (sym same) h)
+        subst (λ l. (c.holds-holds.result ≡ true) ↔ Holds c.args.ends.now l) same c.holds-holds.ensures
 
-    before : (k : ℕ) (s : Step) → k + 1 ≡ c.loop-step.step-index + 1 → slice_get c.args.steps.now k ≡ Some s → Holds c.args.ends.now (lit_of (node_at s)) → c.holds-holds.result ≡ true
-    before k s e there h =
-        let same : k ≡ c.loop-step.step-index = omega (arith, e) in holds s (subst (λ n. slice_get c.args.steps.now n ≡ Some s) same there) h
+    before : (k : ℕ) (s : Step) → k + 1 ≡ c.loop-step.step-index + 1 → slice_get c.args.steps.now k ≡ Some s → (c.holds-holds.result ≡ true) ↔ Holds c.args.ends.now (lit_of (node_at s))
+    before k s e there = let same : k ≡ c.loop-step.step-index = omega (arith, e) in holds s (subst (λ n. slice_get c.args.steps.now n ≡ Some s) same there)
 
-    both : (a b d : Bool) → (a && (not b || d)) ≡ true → (a ≡ true) × (b ≡ true → d ≡ true)
-    both true true d e = (refl, λ _. e)
-    both true false d e = (refl, λ h. absurd (false≢true h))
-    both false b d e = absurd (false≢true e)
-
-    satisfied : (c.loop-step.satisfied && (not c.loop-step.before || c.holds-holds.result)) ≡ true → (k : ℕ) (s t : Step) → k + 1 < c.loop-step.step-index + 1 →
+    forth : (c.loop-step.satisfied && (not c.loop-step.before || c.holds-holds.result)) ≡ true → (k : ℕ) (s t : Step) → k + 1 < c.loop-step.step-index + 1 →
         slice_get c.args.steps.now k ≡ Some s → slice_get c.args.steps.now (k + 1) ≡ Some t → Holds c.args.ends.now (lit_of (node_at s)) → Holds c.args.ends.now (lit_of (node_at t))
-    satisfied so k s t lt a b h =
-        let all = both c.loop-step.satisfied c.loop-step.before c.holds-holds.result so in
+    forth so k s t lt a b h =
+        let all = split c.loop-step.satisfied c.loop-step.before c.holds-holds.result so in
         elim (cases_eq (k + 1) c.loop-step.step-index) [
-          | inl e ↦ (
-              let now = all.1 (c.loop-step.invariant.before k s e a h) in
-              let there = subst (λ n. slice_get c.args.steps.now n ≡ Some t) e b in
-              let same : c.of_step.result ≡ lit_of (node_at t) = c.of_step.ensures ∙ ap lit_at (some_same (sym here ∙ there)) ∙ sym (lit_of_node (lit_at t)) in
-              subst (Holds c.args.ends.now) same (c.holds-holds.ensures.0 now)
-              )
-          | inr ne ↦ c.loop-step.invariant.satisfied all.0 k s t (omega (arith, lt, ne)) a b h
+          | inl e ↦ (holds t (subst (λ n. slice_get c.args.steps.now n ≡ Some t) e b)).0 (all.1 ((c.loop-step.invariant.before k s e a).1 h))
+          | inr ne ↦ c.loop-step.invariant.satisfied.0 all.0 k s t (omega (arith, lt, ne)) a b h
         ]
 
+    -- the step before this one, if its literal holds
+    previous : ((k : ℕ) (s t : Step) → k + 1 < c.loop-step.step-index + 1 → slice_get c.args.steps.now k ≡ Some s → slice_get c.args.steps.now (k + 1) ≡ Some t →
+        Holds c.args.ends.now (lit_of (node_at s)) → Holds c.args.ends.now (lit_of (node_at t))) → c.loop-step.before ≡ true → c.holds-holds.result ≡ true
+    previous all so = elim (cases_eq c.loop-step.step-index 0) [
+      | inl none ↦ absurd (false≢true (sym (c.loop-step.invariant.none none) ∙ so))
+      | inr some ↦ (
+          let k = c.loop-step.step-index - 1 in
+          let e : k + 1 ≡ c.loop-step.step-index = omega (arith, some) in
+          let lt = c.loop-step-test.true in
+          let s = slice_get-some c.args.steps.now k (omega (arith, lt, e)) in
+          let there = subst (λ n. slice_get c.args.steps.now n ≡ Some c.step-item.result) (sym e) here in
+          let h = (c.loop-step.invariant.before k s.0 e s.1).0 so in
+          (holds c.step-item.result here).1 (all k s.0 c.step-item.result (omega (arith, e)) s.1 there h)
+          )
+    ]
+
+    back : ((k : ℕ) (s t : Step) → k + 1 < c.loop-step.step-index + 1 → slice_get c.args.steps.now k ≡ Some s → slice_get c.args.steps.now (k + 1) ≡ Some t →
+        Holds c.args.ends.now (lit_of (node_at s)) → Holds c.args.ends.now (lit_of (node_at t))) → (c.loop-step.satisfied && (not c.loop-step.before || c.holds-holds.result)) ≡ true
+    back all = join c.loop-step.satisfied c.loop-step.before c.holds-holds.result (c.loop-step.invariant.satisfied.1 (λ k s t lt. all k s t (omega (arith, lt)))) (previous all)
+
 pub returns : goal.returns
-returns c = λ so k s t a b.
-    let lt = slice_get-lt c.args.steps.now (k + 1) t b in
-    let past = c.loop-step-test.false in
-    c.loop-step.invariant.satisfied so k s t (omega (arith, lt, past)) a b
+returns c = (
+  λ so k s t a b. let lt = slice_get-lt c.args.steps.now (k + 1) t b in let past = c.loop-step-test.false in c.loop-step.invariant.satisfied.0 so k s t (omega (arith, lt, past)) a b,
+  λ all. c.loop-step.invariant.satisfied.1 (λ k s t lt a b. all k s t a b),
+)
