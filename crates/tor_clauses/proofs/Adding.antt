@@ -43,14 +43,17 @@ added_one f now new ts k t e there h =
 
 -- triples that are there already change nothing
 pub skipped : (graph : List (List ℕ)) (f now : Formula) (path : ℕ) (steps : List Step) → AreSteps (edges graph) (path_at graph path) steps → (from to : ℕ) → 1 ≤ from → from ≤ to →
-    to ≤ length steps → AreKnownOn now.triples steps from to → now ≡ having f (with_triples f.triples (take (from - 1) (triples_on graph path))) →
+    to ≤ length steps → (ts : List Triple) → ts ≡ now.triples → AreKnownOn ts steps from to → now ≡ having f (with_triples f.triples (take (from - 1) (triples_on graph path))) →
     now ≡ having f (with_triples f.triples (take (to - 1) (triples_on graph path)))
-skipped graph f now path steps are from to some le inside known e =
+skipped graph f now path steps are from to some le inside ts these known_there e =
     let n : from - 1 + (to - from) ≡ to - 1 = omega (arith, some, le) in
     subst (λ k. now ≡ having f (with_triples f.triples (take k all))) n (go (to - from) (omega (arith, le)))
   where
     all : List Triple
     all = triples_on graph path
+
+    known : AreKnownOn now.triples steps from to
+    known = subst (λ (l : List Triple). AreKnownOn l steps from to) these known_there
 
     still : (ts : List Triple) (t : Triple) → now ≡ having f ts → list_any (is_same_triple t) now.triples ≡ true → now ≡ having now (with_triple now.triples t)
     still ts t h there =
@@ -67,7 +70,7 @@ skipped graph f now path steps are from to some le inside known e =
         let t = slice_get-some steps (k + 1) (omega (arith, lt, some, inside)) in
         let next : k + 1 ≡ suc k = omega arith in
         let at = triple_by_steps graph path steps are k s.0 t.0 s.1 (subst (λ i. slice_get steps i ≡ Some t.0) next t.1) in
-        let there = known k path (2 + k) s.0 t.0 (omega (arith, some)) (omega (arith, lt, some)) s.1 t.1 in
+        let there = known k s.0 t.0 (omega (arith, some)) (omega (arith, lt, some)) s.1 t.1 in
         let more = added_one f now now (triples_on graph path) k (triple_by path (2 + k) s.0 t.0) h at (still (with_triples f.triples (take k (triples_on graph path))) (triple_by path (2 + k) s.0 t.0) h there) in
         let m : from - 1 + n + 1 ≡ from - 1 + suc n = omega arith in
         subst (λ i. now ≡ having f (with_triples f.triples (take i (triples_on graph path)))) m more

@@ -64,20 +64,23 @@ lit_at s = record { edge = s.edge; over = s.left }
 abbrev pub triple_by : ℕ → ℕ → Step → Step → Triple
 triple_by path at s t = record { path = path; at = at; first = lit_at s; second = lit_at t }
 
--- each triple of two steps that follow each other is there or its reverse, where the second step is behind the first ones, so many,
--- and before this place
+-- whether a triple of these two steps is there, or its reverse, wherever it stands
+abbrev pub is_there : List Triple → Step → Step → Bool
+is_there ts s t = list_any (is_same_triple (triple_by 0 0 s t)) ts
+
+-- so of all two steps that follow each other, where the second step is behind the first ones, so many, and before this place
 abbrev pub AreKnownOn : List Triple → List Step → ℕ → ℕ → Type 0
-AreKnownOn ts steps from to = (k path at : ℕ) (s t : Step) → from ≤ k + 1 → k + 1 < to → slice_get steps k ≡ Some s → slice_get steps (k + 1) ≡ Some t →
-    list_any (is_same_triple (triple_by path at s t)) ts ≡ true
+AreKnownOn ts steps from to = (k : ℕ) (s t : Step) → from ≤ k + 1 → k + 1 < to → slice_get steps k ≡ Some s →
+    slice_get steps (k + 1) ≡ Some t → is_there ts s t ≡ true
+
+-- no triple of the step at this place and the one before it is there, nor its reverse
+abbrev pub IsNewAt : List Triple → List Step → ℕ → Type 0
+IsNewAt ts steps place = (k : ℕ) (s t : Step) → k + 1 ≡ place → slice_get steps k ≡ Some s → slice_get steps (k + 1) ≡ Some t →
+    is_there ts s t ≡ false
 
 -- the formula with the triples of a path of the graph
 abbrev pub with_triples_on : List (List ℕ) → ℕ → Formula → Formula
 with_triples_on graph path f = having f (with_triples f.triples (triples_on graph path))
-
--- no triple of the step at this place and the one before it is there, nor its reverse
-abbrev pub IsNewAt : List Triple → List Step → ℕ → Type 0
-IsNewAt ts steps place = (k path at : ℕ) (s t : Step) → k + 1 ≡ place → slice_get steps k ≡ Some s → slice_get steps (k + 1) ≡ Some t →
-    list_any (is_same_triple (triple_by path at s t)) ts ≡ false
 
 -- with no more of these triples of the path there are too many to be numbered
 abbrev pub IsRoomy : List (List ℕ) → ℕ → List Triple → Type 0

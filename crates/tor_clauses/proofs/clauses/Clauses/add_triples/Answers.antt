@@ -1,10 +1,10 @@
-use Rattle.std.proofs.Common.{◌≡◌, ℕ, List, suc, ◌+◌, ◌-◌, ◌≤◌, Some, get_or, take, sym, ap, ap₂, ◌∙◌, subst, arith}
+use Rattle.std.proofs.Common.{◌≡◌, ℕ, suc, ◌+◌, ◌-◌, ◌≤◌, Some, get_or, take, sym, ap, ap₂, ◌∙◌, subst, arith}
 use Rattle.std.specs.Prelude.{slice_get}
 use Rattle.tor_clauses.specs.declared.lit.Lit.{Lit}
 use Rattle.tor_clauses.specs.declared.triple.Triple.{Triple}
 use Rattle.tor_clauses.specs.Triples.{triples_on}
 use Rattle.tor_clauses.specs.Formulas.{Formula}
-use Rattle.tor_clauses.specs.Tables.{AreKnownOn, IsFirst, having, triple_by, with_triples}
+use Rattle.tor_clauses.specs.Tables.{IsFirst, having, triple_by, with_triples}
 use Rattle.tor_clauses.proofs.Adding.{on_err, get_from_or, added_none, added_one, added_first, added_all, skipped}
 use Rattle.tor_clauses.proofs.StepTriples.{triple_by_steps, triples_by_steps}
 use Rattle.tor_clauses.proofs.clauses.Clauses.add_triples.Goals as goal
@@ -20,10 +20,9 @@ loop-next-preserved c =
     let e = c.first_new-next.ensures in
     let from = c.loop-next.invariant.from in
     let on = e.from in
-    let known = subst (λ (ts : List Triple). AreKnownOn ts c.steps-steps.result.now c.loop-next.next c.first_new-next.result) (ap (λ (f : Formula). f.triples) c.self-in-loop-next.view_is) e.known in
     record {
       from = omega (arith, from, on);
-      added = skipped c.args.graph.now c.args.self.now c.loop-next.self c.args.path c.steps-steps.result.now c.steps-steps.ensures.steps c.loop-next.next c.first_new-next.result from on e.inside known
+      added = skipped c.args.graph.now c.args.self.now c.loop-next.self c.args.path c.steps-steps.result.now c.steps-steps.ensures.steps c.loop-next.next c.first_new-next.result from on e.inside c.self-in-loop-next.inside.table (ap (λ (f : Formula). f.triples) c.self-in-loop-next.view_is) e.known
           c.loop-next.invariant.added;
     }
 
@@ -38,8 +37,7 @@ loop-next-preserved-then-next-steps c =
     let steps = c.steps-steps.result.now in
     let k = place - 1 in
     let next : suc k ≡ place = omega (arith, from) in
-    let known = subst (λ (ts : List Triple). AreKnownOn ts steps c.loop-next.next place) (ap (λ (f : Formula). f.triples) c.self-in-loop-next.view_is) e.known in
-    let skip = skipped c.args.graph.now c.args.self.now c.loop-next.self c.args.path steps c.steps-steps.ensures.steps c.loop-next.next place first on e.inside known c.loop-next.invariant.added in
+    let skip = skipped c.args.graph.now c.args.self.now c.loop-next.self c.args.path steps c.steps-steps.ensures.steps c.loop-next.next place first on e.inside c.self-in-loop-next.inside.table (ap (λ (f : Formula). f.triples) c.self-in-loop-next.view_is) e.known c.loop-next.invariant.added in
     let s : slice_get steps k ≡ Some c.index-steps-next.result = get_from_or steps k c.index-steps-next.result (omega (arith, from, lt)) c.index-steps-next.is in
     let t : slice_get steps (suc k) ≡ Some c.index-steps-next-then-next-steps.result =
     get_from_or steps (suc k) c.index-steps-next-then-next-steps.result (omega (arith, next, lt))
@@ -62,8 +60,7 @@ pub returns-in_err-add_triple-clause-err : goal.returns-in_err-add_triple-clause
 returns-in_err-add_triple-clause-err c =
     let e = c.first_new-next.ensures in
     let from = c.loop-next.invariant.from in
-    let known = subst (λ (ts : List Triple). AreKnownOn ts c.steps-steps.result.now c.loop-next.next c.first_new-next.result) (ap (λ (f : Formula). f.triples) c.self-in-loop-next.view_is) e.known in
-    let added = skipped c.args.graph.now c.args.self.now c.loop-next.self c.args.path c.steps-steps.result.now c.steps-steps.ensures.steps c.loop-next.next c.first_new-next.result from e.from e.inside known
+    let added = skipped c.args.graph.now c.args.self.now c.loop-next.self c.args.path c.steps-steps.result.now c.steps-steps.ensures.steps c.loop-next.next c.first_new-next.result from e.from e.inside c.self-in-loop-next.inside.table (ap (λ (f : Formula). f.triples) c.self-in-loop-next.view_is) e.known
     c.loop-next.invariant.added in
     on_err c.from_residual.result (subst (IsFirst c.args.self.now) (sym c.in_err-add_triple.ensures.err)
     (added_first c.args.self.now c.loop-next.self (take (c.first_new-next.result - 1) (triples_on c.args.graph.now c.args.path)) added))

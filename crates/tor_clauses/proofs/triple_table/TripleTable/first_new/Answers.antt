@@ -6,9 +6,7 @@ use Rattle.relationships.specs.Graph.{Edge}
 use Rattle.tor_digraph.proofs.Gets.{slice_get-lt}
 use Rattle.as_graph.specs.declared.step.Step.{Step}
 use Rattle.tor_clauses.specs.Literals.{node_of}
-use Rattle.tor_clauses.specs.Triples.{is_same_triple}
-use Rattle.std.specs.List.{list_any}
-use Rattle.tor_clauses.specs.Tables.{AreKnownOn, lit_at, triple_by}
+use Rattle.tor_clauses.specs.Tables.{AreKnownOn, is_there, lit_at, triple_by}
 use Rattle.tor_clauses.proofs.Adding.{get_from_or}
 use Rattle.tor_clauses.proofs.triple_table.TripleTable.first_new.Goals as goal
 
@@ -26,7 +24,7 @@ small steps few k s at =
     omega (arith, one, is)
 
 pub loop-next-init : goal.loop-next-init
-loop-next-init c = record { first = first; known = λ k path at s t le lt a b. absurd (omega (arith, le, lt)) }
+loop-next-init c = record { first = first; known = λ k s t le lt a b. absurd (omega (arith, le, lt)) }
   where
     first : (s : Step) → slice_get c.args.steps.now (c.args.from - 1) ≡ Some s → c.node-first.result ≡ node_of (lit_at s)
     first s at =
@@ -52,22 +50,22 @@ loop-next-preserved c = record { first = first; known = known }
     first s at = let e : next + 1 - 1 ≡ next = omega arith in second s (subst (λ k. slice_get c.args.steps.now k ≡ Some s) e at)
 
     known : AreKnownOn c.args.self.now c.args.steps.now c.args.from (next + 1)
-    known k path at s t le lt a b = elim (cases_eq (k + 1) next) [
+    known k s t le lt a b = elim (cases_eq (k + 1) next) [
       | inl e ↦ (
           let before : k ≡ next - 1 = omega (arith, e) in
           let one = c.loop-next.invariant.first s (subst (λ n. slice_get c.args.steps.now n ≡ Some s) before a) in
           let two = second t (subst (λ n. slice_get c.args.steps.now n ≡ Some t) e b) in
-          (c.holds.ensures (triple_by path at s t) (small c.args.steps.now c.requires.few k s a, small c.args.steps.now c.requires.few (k + 1) t b) (ap₂ pair (sym one) (sym two))).0 c.if-not-holds.false
+          (c.holds.ensures (triple_by 0 0 s t) (small c.args.steps.now c.requires.few k s a, small c.args.steps.now c.requires.few (k + 1) t b) (ap₂ pair (sym one) (sym two))).0 c.if-not-holds.false
           )
-      | inr ne ↦ c.loop-next.invariant.known k path at s t le (omega (arith, lt, ne)) a b
+      | inr ne ↦ c.loop-next.invariant.known k s t le (omega (arith, lt, ne)) a b
     ]
 
 pub returns-clause-known : goal.returns-clause-known
-returns-clause-known c = λ k path at s t le lt a b.
-    let past = c.loop-next-test.false in c.loop-next.invariant.known k path at s t le (omega (arith, lt, past)) a b
+returns-clause-known c = λ k s t le lt a b.
+    let past = c.loop-next-test.false in c.loop-next.invariant.known k s t le (omega (arith, lt, past)) a b
 
 pub returns-then-not-holds-clause-new : goal.returns-then-not-holds-clause-new
-returns-then-not-holds-clause-new c = λ lt k path at s t e a b.
+returns-then-not-holds-clause-new c = λ lt k s t e a b.
     let steps = c.args.steps.now in
     let next = c.loop-next.next in
     let here : slice_get steps next ≡ Some c.index-steps-next.result = get_from_or steps next c.index-steps-next.result c.loop-next-test.true c.index-steps-next.is in
@@ -75,5 +73,5 @@ returns-then-not-holds-clause-new c = λ lt k path at s t e a b.
     ap node_of (c.of_step-in-loop-next.ensures ∙ ap lit_at (some_same (sym here ∙ subst (λ n. slice_get steps n ≡ Some t) e b))) in
     let before : k ≡ next - 1 = omega (arith, e) in
     let first = c.loop-next.invariant.first s (subst (λ n. slice_get steps n ≡ Some s) before a) in
-    let is = c.holds.ensures (triple_by path at s t) (small steps c.requires.few k s a, small steps c.requires.few (k + 1) t b) (ap₂ pair (sym first) (sym second)) in
-    false_from_ne_true (list_any (is_same_triple (triple_by path at s t)) c.args.self.now) (λ there. false≢true (sym c.if-not-holds.true ∙ is.1 there))
+    let is = c.holds.ensures (triple_by 0 0 s t) (small steps c.requires.few k s a, small steps c.requires.few (k + 1) t b) (ap₂ pair (sym first) (sym second)) in
+    false_from_ne_true (is_there c.args.self.now s t) (λ there. false≢true (sym c.if-not-holds.true ∙ is.1 there))
