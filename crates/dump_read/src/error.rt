@@ -5,7 +5,9 @@ use thiserror::Error;
 /// Where a fault stands: the number of the dump, from 1, and where the record stands in it.
 #[derive(Clone, Copy, Debug, PartialEq, Eq)]
 pub struct Place {
+    /// The number of the dump, from 1.
     pub dump: u64,
+    /// The number and the offset of the record.
     pub at: At,
 }
 

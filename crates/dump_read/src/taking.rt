@@ -13,8 +13,11 @@ use tor_arena::{List, NoMemory, PathId};
 /// was read to its end holds, by count.
 #[derive(Drop)]
 pub struct Taken {
+    /// The distinct paths with their times.
     pub table: PathTable,
+    /// How many routes are set aside for each cause.
     pub counts: Asides,
+    /// What each file holds, in the order of the files.
     pub files: List<FileCounts>,
 }
 

@@ -23,9 +23,7 @@ use Rattle.relationships.proofs.WalkLemmas.{apart_at, apart_next}
 use Rattle.path_select.specs.declared.refusals.Refusal.{Refusal}
 use Rattle.path_select.specs.declared.refusals.Met.{Met}
 use Rattle.path_select.specs.Refusals.{node_at, relink, relinked, NamesOnly, HasTriple, Refuses, IsRefused, AreRefused, IsMet, Remembers}
-
-some_same : {X : Type 0} {a b : X} → Some a ≡ Some b → a ≡ b
-some_same e = cc
+use Rattle.path_select.proofs.Ways.{some_same}
 
 -- ---- one place of a path, one triple
 

@@ -17,7 +17,7 @@ OneInferenceLaw =
     IsInferred ratio paths walks lines whys probes → IsInferred ratio paths walks' lines' whys' probes' →
     (map is_none walks ≡ map is_none walks') × (lines ≡ lines')
 
--- so are the settings, the counts, the paths with their times and the totals
+-- so are the counts of routes that are set aside, and the totals
 abbrev pub OneResultLaw : Type 0
 OneResultLaw =
     (sets : Sets) (ratio : ℕ) (rows : List Counted) (counts : Counts) (file file' : ResultFile) →

@@ -13,7 +13,9 @@ use tor_arena::{List, NoMemory};
 /// One entry of a RIB: the index of its peer, and its path attributes.
 #[derive(Debug, Drop)]
 pub struct Entry<'a> {
+    /// The index of its peer in the peer table, from 0.
     pub peer: u16,
+    /// Its path attributes.
     pub attrs: Attrs<'a>,
 }
 

@@ -1,4 +1,4 @@
-use Rattle.std.proofs.Common.{◌≡◌, ◌+◌, ◌-◌, ◌<◌, ◌↔◌, ℕ, Bool, true, false, not, ◌&&◌, ◌||◌, Some, length, refl, sym, ap, ◌∙◌, subst, arith, inl, inr}
+use Rattle.std.proofs.Common.{◌≡◌, ◌+◌, ◌-◌, ◌<◌, ◌↔◌, ℕ, Bool, true, false, not, ◌&&◌, ◌||◌, Some, refl, sym, ap, ◌∙◌, subst, arith, inl, inr}
 use Rattle.std.specs.Prelude.{slice_get}
 use Rattle.std.proofs.lemmas.Bool.{cases_eq, false≢true}
 use Rattle.tor_digraph.proofs.Gets.{slice_get-lt, slice_get-some}
@@ -8,7 +8,7 @@ use Rattle.tor_clauses.specs.Tables.{lit_at}
 use Rattle.tor_clauses.proofs.Adding.{get_from_or}
 use Rattle.tor_clauses.proofs.LiteralLemmas.{lit_of_node}
 use Rattle.path_select.specs.Refusals.{node_at}
-use Rattle.path_select.proofs.Scans.{some_same}
+use Rattle.path_select.proofs.Ways.{some_same}
 use Rattle.path_select.proofs.refusals.are_satisfied.Goals as goal
 
 split : (a b d : Bool) → (a && (not b || d)) ≡ true → (a ≡ true) × (b ≡ true → d ≡ true)
