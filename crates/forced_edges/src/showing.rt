@@ -124,7 +124,8 @@ fn show_from(
     Ok(())
 }
 
-/// A walk from the order of a node, which leads to its opposite, to that opposite: a shortest one.
+/// A walk from the order of a node, which leads to its opposite, to that opposite, by a search of the nearest
+/// first.
 fn walk_back(
     alloc: Global,
     graph: &AsGraph,

@@ -147,7 +147,7 @@ fn key(first: NodeId, second: NodeId) -> (NodeId, NodeId)
     }
 }
 
-/// The number of a pair of nodes, from 2 on, by which a table of numbers finds it: no other pair has the same. It takes no memory.
+/// The number of a pair of nodes, from 2 on, by which a table of numbers finds it. It takes no memory.
 pub fn number_of(pair: (NodeId, NodeId)) -> u64
     ensures { result ≡ number_of_pair pair }
 {

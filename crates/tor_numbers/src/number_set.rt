@@ -13,7 +13,7 @@ const FREE: u64 = 0;
 /// A slot whose number was taken away.
 const LEFT: u64 = 1;
 
-/// Distinct numbers from 2 on, in the order in which they were added. They are found by slots, of which at most half are in use:
+/// Distinct numbers from 2 on, in the order in which they were added. They are found by slots, of which a quarter is free:
 /// each number stands in a slot that its hash begins at, or in one of the next, before any that is free.
 #[derive(Drop)]
 pub struct NumberSet {
@@ -182,8 +182,8 @@ fn filled(alloc: Global, seed: u64, count: usize, numbers: &[u64]) -> Result<Vec
     Ok(slots)
 }
 
-/// How many slots there have to be when half of these are in use, where there are so many numbers: as many, if that is for numbers
-/// that were taken away, or twice as many.
+/// How many slots there have to be when three quarters of these are in use, where there are so many numbers: as many, if that is for
+/// numbers that were taken away, or twice as many.
 fn next_count(slots: usize, numbers: usize) -> usize
     ensures { 0 < result }
 {
@@ -196,7 +196,7 @@ fn next_count(slots: usize, numbers: usize) -> usize
     }
 }
 
-/// Makes the slots anew if half of them are in use. For want of memory nothing changes.
+/// Makes the slots anew if three quarters of them are in use. For want of memory nothing changes.
 fn make_room(
     alloc: Global,
     seed: u64,
@@ -208,7 +208,7 @@ fn make_room(
     ensures some { OnOk result (0 < length slots.new.items) }
     ensures held { IsHeld seed slots.new.items numbers.now }
 {
-    if *used >= slots.len() / 2 {
+    if *used >= slots.len() / 4 * 3 {
         let count = next_count(slots.len(), numbers.len());
         *slots = filled(alloc, seed, count, numbers)?;
         *used = numbers.len();

@@ -43,8 +43,8 @@ impl PlaceTable {
         }
     }
 
-    /// Adds a number at the end, unless it is there, and answers its place, from 0. NoMemory comes where memory ran out, and changes
-    /// nothing.
+    /// Adds a number at the end, unless it is there, and answers its place, from 0. NoMemory comes where memory ran out, and where there
+    /// are 2^32 - 1 numbers, and changes nothing.
     pub fn add(&mut self, number: u64) -> Result<usize, NoMemory>
         requires { 2 ≤ number }
         ensures ok { OnOk result (IsPut number self.old self.new) }

@@ -1,4 +1,4 @@
-use Rattle.std.proofs.Common.{ℕ, List, [], ◌∷◌, ap₂}
+use Rattle.std.proofs.Common.{ℕ, [], ◌∷◌, ap₂}
 use Rattle.peering.specs.Cases.{three, three_ends}
 use Rattle.peering.proofs.Vectors.{three_served, served_same}
 use Rattle.peering.proofs.tests.relabel_three.Goals as goal
