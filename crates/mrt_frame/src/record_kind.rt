@@ -10,7 +10,9 @@ const TABLE_DUMP_V2: u16 = 13;
 /// The family of an address.
 #[derive(Clone, Copy, Debug, PartialEq, Eq)]
 pub enum Family {
+    /// IPv4, addresses of 4 octets.
     Ipv4,
+    /// IPv6, addresses of 16 octets.
     Ipv6,
 }
 
@@ -28,6 +30,7 @@ pub enum EntryForm {
 pub struct RibForm {
     /// That of its prefix.
     pub family: Family,
+    /// Which fields its entries have.
     pub entries: EntryForm,
 }
 

@@ -31,7 +31,9 @@ pub enum SegKind {
 /// One segment of an AS_PATH: its kind, and its AS numbers in order.
 #[derive(Debug, Drop)]
 pub struct Segment {
+    /// Its kind.
     pub kind: SegKind,
+    /// Its AS numbers, in order.
     pub ases: List<u32>,
 }
 

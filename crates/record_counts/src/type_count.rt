@@ -3,6 +3,7 @@
 pub struct RecordType {
     /// The type.
     pub kind: u16,
+    /// The subtype.
     pub subtype: u16,
 }
 
@@ -11,7 +12,8 @@ pub struct RecordType {
 pub struct TypeCount {
     /// The type.
     pub kind: u16,
+    /// The subtype.
     pub subtype: u16,
-    /// How many records, at least one, and 2^64 - 1 where there are more.
+    /// How many records, and 2^64 - 1 where there are more.
     pub records: u64,
 }

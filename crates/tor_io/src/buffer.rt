@@ -72,7 +72,7 @@ impl Buffer {
     }
 
     /// Puts one byte behind those that wait. Where there is no room, what waits is written first. Failed: a write failed, and the
-    /// sink took a prefix of what waited. It takes no memory.
+    /// sink took a prefix of these. It takes no memory.
     pub fn put_byte<S: Sink>(&mut self, sink: &mut S, byte: u8) -> Result<(), Failed>
         ensures all { OnOk result (PassesOn (S.held sink.old) (S.held sink.new) self.new (self.old ++ byte ∷ [])) }
         ensures prefix { OnErr result (GainsPrefix (S.held sink.old) (S.held sink.new) (self.old ++ byte ∷ [])) }
