@@ -13,7 +13,7 @@ const FREE: u64 = 0;
 /// A slot whose number was taken away.
 const LEFT: u64 = 1;
 
-/// Distinct numbers from 2 on, in the order in which they were added. They are found by slots, of which a quarter is free:
+/// Distinct numbers from 2 on, in the order in which they were added. They are found by slots, of which at least a quarter is free:
 /// each number stands in a slot that its hash begins at, or in one of the next, before any that is free.
 #[derive(Drop)]
 pub struct NumberSet {
