@@ -1,5 +1,6 @@
 pub mod Reading
 pub mod Encodings
+pub mod FieldLemmas
 pub mod Blocks
 pub mod Values
 pub mod PathLemmas

@@ -1,1 +1,2 @@
+pub mod Encodings
 mod Vectors

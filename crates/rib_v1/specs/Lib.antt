@@ -1,1 +1,2 @@
 pub mod TableDump
+pub mod Encoding
