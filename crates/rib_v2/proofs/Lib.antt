@@ -1,2 +1,4 @@
+pub mod PeerEncodings
+pub mod RibEncodings
 pub mod Loops
 mod Vectors

@@ -1,2 +1,3 @@
 pub mod PeerTable
 pub mod Rib
+pub mod Encoding

@@ -2,10 +2,12 @@
 #![tactic(auto)]
 
 mod error;
+mod laws;
 mod peer_table;
 mod rib;
 
 pub use error::RibError;
+pub use laws::{peer_table_law, rib_law};
 pub use peer_table::{Peers, read_peers};
 pub use rib::{Entry, EntryCursor, read_rib};
 
