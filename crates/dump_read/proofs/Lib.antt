@@ -2,3 +2,5 @@ pub mod Takings
 pub mod Goings
 pub mod BatchLemmas
 pub mod FileLemmas
+pub mod TakingLemmas
+pub mod LimitLemmas
