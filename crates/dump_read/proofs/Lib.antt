@@ -4,3 +4,4 @@ pub mod BatchLemmas
 pub mod FileLemmas
 pub mod TakingLemmas
 pub mod LimitLemmas
+pub mod FitLemmas

@@ -23,14 +23,14 @@ use Rattle.dump_read.proofs.TakingLemmas.{further, path_counted, same_ok, choose
 
 -- ---- rows of distinct paths
 
-abbrev rows_by : (List ℕ → ℕ) → List (List ℕ) → List Counted
+abbrev pub rows_by : (List ℕ → ℕ) → List (List ℕ) → List Counted
 rows_by f paths = map (λ path. record { path = path; times = f path }) paths
 
-length_rows : (f : List ℕ → ℕ) (paths : List (List ℕ)) → length (rows_by f paths) ≡ length paths
+pub length_rows : (f : List ℕ → ℕ) (paths : List (List ℕ)) → length (rows_by f paths) ≡ length paths
 length_rows f [] = refl
 length_rows f (path ∷ paths) = ap suc (length_rows f paths)
 
-numbers_rows : (f : List ℕ → ℕ) (paths : List (List ℕ)) → numbers_in (rows_by f paths) ≡ sum_by length paths
+pub numbers_rows : (f : List ℕ → ℕ) (paths : List (List ℕ)) → numbers_in (rows_by f paths) ≡ sum_by length paths
 numbers_rows f [] = refl
 numbers_rows f (path ∷ paths) =
     sum_by-cons (λ (row : Counted). length row.path) (record { path = path; times = f path }) (rows_by f paths)
@@ -49,7 +49,7 @@ unplaced f (other ∷ others) path none = by (bytes_eq other path) (place_of (ro
 
 -- ---- the limit of a table stays
 
-same_limit : (old new : Taken) (one : Cleaned) → take_cleaned old one ≡ Ok new → new.table.limit ≡ old.table.limit
+pub same_limit : (old new : Taken) (one : Cleaned) → take_cleaned old one ≡ Ok new → new.table.limit ≡ old.table.limit
 same_limit old new (Path path) e = ap (λ (t : Taken). t.table.limit) (sym (path_counted old new path e))
 same_limit old new (Aside found) e = ap (λ (t : Taken). t.table.limit) (sym (same_ok (record old { counts = counted_one found old.counts }) new e))
 
@@ -59,13 +59,12 @@ same_kind : (x y : LimitKind) → ◌≡◌ {A = Result Taken LimitKind} (Err x)
 same_kind x y e = cc
 
 -- the test that refused it
-Refuses : LimitKind → (known met many : Bool) → Type 0
+abbrev pub Refuses : LimitKind → (known met many : Bool) → Type 0
 Refuses Paths known met many = (known ≡ false) × (met ≡ true)
 Refuses Numbers known met many = (known ≡ false) × (many ≡ true)
 Refuses Bytes known met many = ⊥
 
-refuses : (known met many : Bool) (made : Taken) (kind : LimitKind) → choose known met many made ≡ Err kind → Refuses kind known met many
-unfolding Refuses
+pub refuses : (known met many : Bool) (made : Taken) (kind : LimitKind) → choose known met many made ≡ Err kind → Refuses kind known met many
 refuses true met many made kind e = absurd cc
 refuses false true many made kind e = subst (λ k. Refuses k false true many) (same_kind Paths kind e) (refl, refl)
 refuses false false true made kind e = subst (λ k. Refuses k false false true) (same_kind Numbers kind e) (refl, refl)
@@ -78,7 +77,6 @@ record Stops (kind : LimitKind) (limit : ℕ) (known : List (List ℕ)) (path : 
 at_path : (f : List ℕ → ℕ) (known : List (List ℕ)) (limit : ℕ) (path : List ℕ) (kind : LimitKind)
     → Refuses kind (is_some (place_of (rows_by f known) path)) (length (rows_by f known) == limit) (nat_lt (length (rows_by f known)) limit && nat_lt max_numbers (numbers_in (rows_by f known) + length path))
     → Stops kind limit known path
-unfolding Refuses
 at_path f known limit path Paths by = record {
   is_new = unplaced f known path by.0;
   passes = sym (length_rows f known) ∙ eqb-true (length (rows_by f known)) limit by.1;

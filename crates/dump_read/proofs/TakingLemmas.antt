@@ -90,7 +90,7 @@ pub record Sums (all : List Cleaned) (taken : Taken) : Type 0 where
   pub rows : taken.table.rows ≡ counted (filter_map path_in all)
   pub asides : (asked : Cause) → count_of asked taken.counts ≡ min (count_by (is_aside asked) all) most
 
-one_route : (all : List Cleaned) (one : Cleaned) (old new : Taken) → Sums all old → take_cleaned old one ≡ Ok new → Sums (all ++ one ∷ []) new
+pub one_route : (all : List Cleaned) (one : Cleaned) (old new : Taken) → Sums all old → take_cleaned old one ≡ Ok new → Sums (all ++ one ∷ []) new
 one_route all (Path path) old new so_far e = subst (Sums (all ++ Path path ∷ [])) (path_counted old new path e) (record {
   rows = ap (λ rows. with_path rows path) so_far.rows ∙ sym (counted_push (filter_map path_in all) path)
       ∙ ap counted (sym (filter_map-append path_in all (Path path ∷ [])));

@@ -1,5 +1,5 @@
 -- What taking routes in comes to: the distinct paths with their times, and how many routes are set aside for each cause.
-use Rattle.std.specs.Prelude.{◌≡◌, ◌<◌, ◌+◌, ◌-◌, ◌^◌, ◌==◌, ℕ, min, Bool, false, List, [], ◌∷◌, ◌++◌, length, sum_by, count_by, flat_map, filter_map, bytes_eq, Option, Some, None, Ok, Err}
+use Rattle.std.specs.Prelude.{◌≡◌, ◌↔◌, ◌≤◌, ◌<◌, ◌+◌, ◌-◌, ◌^◌, ◌==◌, ℕ, min, Bool, false, List, [], ◌∷◌, ◌++◌, length, sum_by, count_by, flat_map, filter_map, bytes_eq, Option, Some, None, Ok, Err}
 use Rattle.std.specs.List.{list_any}
 use Rattle.path_clean.specs.declared.cleaned.Sets.{Sets}
 use Rattle.path_clean.specs.declared.cleaned.Cause.{Cause}
@@ -103,3 +103,15 @@ abbrev pub LimitLaw : Type 0
 LimitLaw =
     (sets : Sets) (before routes : List Route) (old : Taken) (kind : LimitKind)
     → IsTakenOf sets before old → take_routes sets old routes ≡ Err kind → IsRefused sets before routes old kind
+
+-- the distinct ones of the paths are at most so many, and have at most 2 ^ 26 numbers in sum
+pub record Fit (limit : ℕ) (paths : List (List ℕ)) : Type 0 where
+  pub paths_few : length (distinct paths) ≤ limit
+  pub numbers_few : sum_by length (distinct paths) ≤ max_numbers
+
+-- routes are all taken in exactly where their paths and those before fit
+abbrev pub FitLaw : Type 0
+FitLaw =
+    (sets : Sets) (before routes : List Route) (old : Taken)
+    → IsTakenOf sets before old → Fit old.table.limit (cleaned_paths sets before)
+    → ((new : Taken) × Takes sets old routes new) ↔ Fit old.table.limit (cleaned_paths sets (before ++ routes))
