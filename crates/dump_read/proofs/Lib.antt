@@ -5,3 +5,4 @@ pub mod FileLemmas
 pub mod TakingLemmas
 pub mod LimitLemmas
 pub mod FitLemmas
+mod Vectors
