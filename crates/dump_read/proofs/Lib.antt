@@ -2,3 +2,7 @@ pub mod Takings
 pub mod Goings
 pub mod BatchLemmas
 pub mod FileLemmas
+pub mod TakingLemmas
+pub mod LimitLemmas
+pub mod FitLemmas
+mod Vectors

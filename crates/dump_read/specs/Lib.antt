@@ -5,3 +5,4 @@ pub mod Files
 pub mod Seen
 pub mod Refusals
 pub mod Batches
+pub mod Laws

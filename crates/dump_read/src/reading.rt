@@ -100,7 +100,7 @@ fn read_records<H: Shelf>(
 ///
 /// Malformed and Limit: the first end in the order of reading. ReadFault: a call on the shelf failed, as an open does at
 /// a name that isn't there. NoMemory: memory ran out. After an error some of the first routes of the file are
-/// taken in, and none where the name isn't there.
+/// taken in, and none where the name isn't there. What the dumps come to that were read one after the other is said by `dump_law`.
 pub fn read_dump<H: Shelf>(
     alloc: Global,
     shelf: &mut H,
