@@ -4,12 +4,14 @@
 mod batch;
 mod error;
 mod file_counts;
+mod laws;
 mod reading;
 mod records;
 mod taking;
 
 pub use error::{DumpError, Fault, LimitKind, Place};
 pub use file_counts::FileCounts;
+pub use laws::together_law;
 pub use reading::read_dump;
 pub use taking::Taken;
 
