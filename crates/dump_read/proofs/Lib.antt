@@ -5,4 +5,5 @@ pub mod FileLemmas
 pub mod TakingLemmas
 pub mod LimitLemmas
 pub mod FitLemmas
+pub mod SumLemmas
 mod Vectors

@@ -1,5 +1,6 @@
-//! The laws of taking in. Each is the contract of a function that does nothing.
+//! The laws of what is taken in and of what files hold. Each is the contract of a function that does nothing.
 
+ghost use Rattle.dump_read.specs.FileLaws.{TogetherLaw};
 ghost use Rattle.dump_read.specs.Laws.{TakingLaw, TakingOnLaw, DumpLaw, FitLaw, LimitLaw};
 
 /// What routes that are taken in come to: the distinct paths to which they are cleaned, in order of first appearance, each with how
@@ -19,4 +20,10 @@ pub fn dump_law()
 pub fn limit_law()
     ensures limit { LimitLaw }
     ensures fit { FitLaw }
+{}
+
+/// What files hold together: each type that some record of theirs has is listed, with how many of the records of all files have it, and
+/// peer entries and routes are those of all files. Each count stops at 2^64 - 1.
+pub fn together_law()
+    ensures together { TogetherLaw }
 {}

@@ -11,7 +11,7 @@ mod taking;
 
 pub use error::{DumpError, Fault, LimitKind, Place};
 pub use file_counts::FileCounts;
-pub use laws::{dump_law, limit_law, taking_law};
+pub use laws::{dump_law, limit_law, taking_law, together_law};
 pub use reading::read_dump;
 pub use taking::Taken;
 

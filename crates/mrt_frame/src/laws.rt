@@ -1,8 +1,16 @@
 //! The laws of the definitions. Each is the contract of a function that does nothing.
 ghost use Rattle.mrt_frame.specs.Encoding.{EncodingLaw, OneReadingLaw};
+ghost use Rattle.mrt_frame.specs.Counted.{FileCountsLaw, CountsTogetherLaw};
 
 /// A file is cut into exactly the records that it encodes, and ends as what stands behind them says (RFC 6396, section 2).
 pub fn encoding_law()
     ensures cut { EncodingLaw }
     ensures one_reading { OneReadingLaw }
+{}
+
+/// The counts of a file list the types of its records in ascending order, none twice and no other, each with how many of the records
+/// have it, up to 2^64 - 1. The counts of some records, put together with those of others, are the counts of all of them.
+pub fn counts_law()
+    ensures file { FileCountsLaw }
+    ensures together { CountsTogetherLaw }
 {}
