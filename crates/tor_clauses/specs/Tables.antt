@@ -1,13 +1,12 @@
 -- What the fields of clauses hold, and what one more triple makes of them.
 use Rattle.std.specs.Prelude.{◌≡◌, ℕ, ◌<◌, ◌≤◌, ◌+◌, ◌*◌, ◌^◌, Bool, true, false, nat_lt, List, [], ◌∷◌, ◌++◌, All, Some, length, map, take, flat_map, slice_get, if◌then◌else◌}
-use Rattle.std.specs.List.{list_any}
 use Rattle.relationships.specs.declared.label.End.{End}
 use Rattle.tor_digraph.specs.Walks.{Net}
 use Rattle.as_graph.specs.declared.step.Step.{Step}
 use Rattle.tor_clauses.specs.declared.lit.Lit.{Lit}
 use Rattle.tor_clauses.specs.declared.triple.Triple.{Triple}
 use Rattle.tor_clauses.specs.Literals.{negated, node_of, opposite_node, Holds}
-use Rattle.tor_clauses.specs.Triples.{arc_of, partner_of, arcs_of, is_same_triple, triples_on}
+use Rattle.tor_clauses.specs.Triples.{arc_of, partner_of, arcs_of, is_among, AreAmong, triples_on}
 use Rattle.tor_clauses.specs.Formulas.{Formula}
 
 -- the literals of a triple have nodes
@@ -34,12 +33,12 @@ pub record IsKnown (known : List ℕ) (triples : List Triple) : Type 0 where
 
 -- the triples with one more, which goes last unless it is there
 abbrev pub with_triple : List Triple → Triple → List Triple
-with_triple ts t = if list_any (is_same_triple t) ts then ts else ts ++ t ∷ []
+with_triple ts t = if is_among ts t then ts else ts ++ t ∷ []
 
 -- the triple was added at the end, and is new; or the triples are as they were, and it or its reverse is among them
 abbrev pub IsAdded : Triple → List Triple → List Triple → Bool → Type 0
-IsAdded t old new true = (list_any (is_same_triple t) old ≡ false) × (new ≡ old ++ t ∷ [])
-IsAdded t old new false = (list_any (is_same_triple t) old ≡ true) × (new ≡ old)
+IsAdded t old new true = (is_among old t ≡ false) × (new ≡ old ++ t ∷ [])
+IsAdded t old new false = (is_among old t ≡ true) × (new ≡ old)
 
 -- the triples with all of these
 abbrev pub with_triples : List Triple → List Triple → List Triple
@@ -66,7 +65,7 @@ triple_by path at s t = record { path = path; at = at; first = lit_at s; second 
 
 -- whether a triple of these two steps is there, or its reverse, wherever it stands
 abbrev pub is_there : List Triple → Step → Step → Bool
-is_there ts s t = list_any (is_same_triple (triple_by 0 0 s t)) ts
+is_there ts s t = is_among ts (triple_by 0 0 s t)
 
 -- so of all two steps that follow each other, where the second step is behind the first ones, so many, and before this place
 abbrev pub AreKnownOn : List Triple → List Step → ℕ → ℕ → Type 0
@@ -77,6 +76,12 @@ AreKnownOn ts steps from to = (k : ℕ) (s t : Step) → from ≤ k + 1 → k + 
 abbrev pub IsNewAt : List Triple → List Step → ℕ → Type 0
 IsNewAt ts steps place = (k : ℕ) (s t : Step) → k + 1 ≡ place → slice_get steps k ≡ Some s → slice_get steps (k + 1) ≡ Some t →
     is_there ts s t ≡ false
+
+-- the triple at this place of the path's, from 0, is new: it is not among these, and those before it are
+pub record IsFirstNew (graph : List (List ℕ)) (path : ℕ) (ts : List Triple) (place : ℕ) : Type 0 where
+  pub there : place < length (triples_on graph path)
+  pub before : AreAmong ts (take place (triples_on graph path))
+  pub new : (t : Triple) → slice_get (triples_on graph path) place ≡ Some t → is_among ts t ≡ false
 
 -- the formula with the triples of a path of the graph
 abbrev pub with_triples_on : List (List ℕ) → ℕ → Formula → Formula

@@ -1,6 +1,7 @@
 -- The triples of paths, each three consecutive ASes x, y, z, where "x over y" implies "y over z": the two-literal
 -- clauses of Di Battista, Patrignani and Pizzonia (2003).
-use Rattle.std.specs.Prelude.{ℕ, ◌+◌, Bool, not, ◌||◌, List, [], ◌∷◌, filter, flat_map}
+use Rattle.std.specs.Prelude.{ℕ, ◌+◌, Bool, not, ◌||◌, List, [], ◌∷◌, ◌≡◌, true, All, filter, flat_map}
+use Rattle.std.specs.List.{list_any}
 use Rattle.relationships.specs.Graph.{Edge, is_same, edges}
 use Rattle.as_graph.specs.Paths.{path_at}
 use Rattle.tor_clauses.specs.declared.triple.Triple.{Triple}
@@ -39,6 +40,14 @@ arcs_of t = arc_of t ∷ partner_of t ∷ []
 -- one has the literals of the other, or of its reverse
 abbrev pub is_same_triple : Triple → Triple → Bool
 is_same_triple t u = is_same (arc_of t) (arc_of u) || is_same (arc_of t) (partner_of u)
+
+-- the triple is among these, or its reverse is
+abbrev pub is_among : List Triple → Triple → Bool
+is_among ts t = list_any (is_same_triple t) ts
+
+-- and so is each of the second ones
+abbrev pub AreAmong : List Triple → List Triple → Type 0
+AreAmong ts more = All (λ t. is_among ts t ≡ true) more
 
 -- each triple where it first appears, and nowhere else, reverses counted as one
 abbrev pub distinct_triples : List Triple → List Triple

@@ -1,8 +1,8 @@
-ghost use Rattle.std.specs.Prelude.{◌≡◌, ℕ, ◌+◌, ◌*◌, ◌/◌, ◌<◌, ◌≤◌, ◌^◌, ◌↔◌, ◌∷◌, ◌++◌, [], List, length, flat_map, slice_get, Some, IsTrue, IfOk, OnOk, OnErr};
+ghost use Rattle.std.specs.Prelude.{◌≡◌, ℕ, ◌+◌, ◌*◌, ◌/◌, ◌<◌, ◌≤◌, ◌^◌, ◌↔◌, ◌∷◌, ◌++◌, [], List, length, flat_map, take, slice_get, Some, IsTrue, IfNone, IfSome, IfOk, OnOk, OnErr};
 ghost use Rattle.relationships.specs.Graph.{edges};
 ghost use Rattle.tor_clauses.specs.Literals.{node_of};
-ghost use Rattle.tor_clauses.specs.Triples.{arcs_of};
-ghost use Rattle.tor_clauses.specs.Tables.{HasNodes, with_triple, with_triples_on, with_arc, having, IsRoomy, IsFirst};
+ghost use Rattle.tor_clauses.specs.Triples.{arcs_of, AreAmong, triples_on};
+ghost use Rattle.tor_clauses.specs.Tables.{HasNodes, with_triple, with_triples_on, with_arc, having, IsRoomy, IsFirst, IsFirstNew};
 ghost use Rattle.tor_clauses.specs.Flipping.{HasPartners};
 ghost use Rattle.tor_clauses.specs.Formulas.{FitsGraph, IsMark, mark_of, first_of, IsServed, IsModel, IsArcOfTriple, IsLinkOfTriple, IsLinkOfArc};
 
@@ -75,6 +75,26 @@ impl Clauses {
         let _ = &self.table;
     }
 
+    /// Which of a path's triples is the first that is new, from 0: neither it nor its reverse is there. None if all are there. It
+    /// takes no memory.
+    pub fn first_new(&self, graph: &AsGraph, path: PathId) -> Option<usize>
+        requires there { path < length graph.now }
+        ensures none { IfNone result (AreAmong self.now.triples (triples_on graph.now path)) }
+        ensures some { IfSome result (IsFirstNew graph.now path self.now.triples) }
+    {
+        graph.facts();
+        let steps = graph.steps(path);
+        if steps.len() < 2 {
+            return None;
+        }
+        let place = self.table.first_new(steps, 1);
+        if place < steps.len() {
+            Some(place - 1)
+        } else {
+            None
+        }
+    }
+
     /// Adds a path of the graph that the clauses fit. It goes last in the list of paths, and its triples that are new go last in
     /// the list of triples. They still fit the graph. For want of memory nothing changes.
     pub fn add_path(&mut self, graph: &AsGraph, path: PathId) -> Result<(), NoMemory>
@@ -86,13 +106,44 @@ impl Clauses {
         ensures prefix { first_of self.new (mark_of self.old) ≡ self.old }
         ensures err { OnErr result (self.new ≡ self.old) }
     {
-        self.grow(graph, path)
+        self.add_path_behind(graph, path, 0)
     }
 
-    /// Adds a path and its triples that are new. For want of memory nothing changes.
-    fn grow(&mut self, graph: &AsGraph, path: PathId) -> Result<(), NoMemory>
+    /// The same for a path whose triples are all there: none is added.
+    pub fn add_known_path(&mut self, path: PathId) -> Result<(), NoMemory>
+        ensures ok { OnOk result (self.new ≡ record self.old { paths = self.old.paths ++ path ∷ [] }) }
+        ensures fits { (graph : List (List ℕ)) → FitsGraph graph self.old → path < length graph →
+            AreAmong self.old.triples (triples_on graph path) → FitsGraph graph self.new }
+        ensures err { OnErr result (self.new ≡ self.old) }
+    {
+        self.paths.push(path)?;
+        Ok(())
+    }
+
+    /// The same for a path of which the first triples are there, so many: none of them is looked for again.
+    pub fn add_path_behind(
+        &mut self,
+        graph: &AsGraph,
+        path: PathId,
+        known: usize,
+    ) -> Result<(), NoMemory>
         requires fits { FitsGraph graph.now self.old }
         requires there { path < length graph.now }
+        requires known { AreAmong self.old.triples (take known (triples_on graph.now path)) }
+        ensures paths { OnOk result (self.new.paths ≡ self.old.paths ++ path ∷ []) }
+        ensures fits { FitsGraph graph.now self.new }
+        ensures mark { IsMark self.new (mark_of self.old) }
+        ensures prefix { first_of self.new (mark_of self.old) ≡ self.old }
+        ensures err { OnErr result (self.new ≡ self.old) }
+    {
+        self.grow(graph, path, known)
+    }
+
+    /// Adds a path and its triples that are new, of which the first, so many, are none. For want of memory nothing changes.
+    fn grow(&mut self, graph: &AsGraph, path: PathId, known: usize) -> Result<(), NoMemory>
+        requires fits { FitsGraph graph.now self.old }
+        requires there { path < length graph.now }
+        requires known { AreAmong self.old.triples (take known (triples_on graph.now path)) }
         ensures paths { OnOk result (self.new.paths ≡ self.old.paths ++ path ∷ []) }
         ensures fits { OnOk result (FitsGraph graph.now self.new) }
         ensures err { OnErr result (self.new ≡ self.old) }
@@ -100,7 +151,7 @@ impl Clauses {
         graph.facts();
         let mark = self.mark();
         self.paths.push(path)?;
-        match self.add_triples(graph, path) {
+        match self.add_triples(graph, path, known) {
             Ok(()) => Ok(()),
             Err(NoMemory) => {
                 self.cut_to(mark);
@@ -109,29 +160,27 @@ impl Clauses {
         }
     }
 
-    /// Adds the triples of a path that are new, or, for want of memory, some of them.
-    fn add_triples(&mut self, graph: &AsGraph, path: PathId) -> Result<(), NoMemory>
+    /// Adds the triples of a path that are new, of which the first, so many, are none; or, for want of memory, some of them.
+    fn add_triples(&mut self, graph: &AsGraph, path: PathId, known: usize) -> Result<(), NoMemory>
         requires nodes { self.old.net.nodes ≡ length (edges graph.now) * 2 }
         requires there { path < length graph.now }
         requires few { IsRoomy graph.now path self.old.triples }
+        requires known { AreAmong self.old.triples (take known (triples_on graph.now path)) }
         ensures ok { OnOk result (self.new ≡ with_triples_on graph.now path self.old) }
         ensures err { OnErr result (IsFirst self.old self.new) }
     {
         self.facts();
         graph.facts();
         let steps = graph.steps(path);
-        let mut next = 1;
+        let mut next = known.saturating_add(1);
         while next < steps.len() {
-            next = self.table.first_new(steps, next);
-            if next < steps.len() {
-                self.add_triple(Triple {
-                    path,
-                    at: next as u32 + 1,
-                    first: Lit::of_step(&steps[next - 1]),
-                    second: Lit::of_step(&steps[next]),
-                })?;
-                next += 1;
-            }
+            self.add_triple(Triple {
+                path,
+                at: next as u32 + 1,
+                first: Lit::of_step(&steps[next - 1]),
+                second: Lit::of_step(&steps[next]),
+            })?;
+            next = self.table.first_new(steps, next + 1);
         }
         Ok(())
     }

@@ -108,6 +108,61 @@ fn three_paths(alloc: Global, keys: Keys) -> Result<AsGraph, Fail>
     Ok(build(alloc, keys, &rows)?)
 }
 
+fn longer_path(alloc: Global, keys: Keys) -> Result<AsGraph, Fail>
+    ensures { IfOk result (λ graph. 2 < length graph) }
+{
+    let mut rows = Rows::new(alloc);
+    rows.push_row(&[10, 20, 30])?;
+    rows.push_row(&[30, 20, 10])?;
+    rows.push_row(&[10, 20, 30, 40])?;
+    Ok(build(alloc, keys, &rows)?)
+}
+
+/// Adds a path from its first triple on that is new, and answers which it is.
+fn add_from_new(graph: &AsGraph, clauses: &mut Clauses, path: PathId) -> Result<Option<usize>, Fail>
+    requires fits { FitsGraph graph.now clauses.old }
+    requires there { path < length graph.now }
+    ensures { OnOk result (FitsGraph graph.now clauses.new) }
+{
+    let first_new = clauses.first_new(graph, path);
+    match first_new {
+        None => clauses.add_known_path(path)?,
+        Some(known) => clauses.add_path_behind(graph, path, known)?,
+    }
+    Ok(first_new)
+}
+
+/// Which triples are the first new ones of the second and the third path, behind the first, and how many paths and triples there are then.
+fn first_new_ones(
+    alloc: Global,
+    keys: Keys,
+    graph: &AsGraph,
+) -> Result<(Option<usize>, Option<usize>, ClauseMark), Fail>
+    requires { 2 < length graph.now }
+{
+    let mut clauses = with_path(alloc, keys, graph, path(0))?;
+    let second = add_from_new(graph, &mut clauses, path(1))?;
+    let third = add_from_new(graph, &mut clauses, path(2))?;
+    Ok((second, third, clauses.mark()))
+}
+
+#[test]
+fn adds_from_the_first_new_triple_on(rt: HostRuntime) -> Result<(), Fail> {
+    let graph = longer_path(rt.alloc(), Keys::new(&rt))?;
+    let (second, third, mark) = first_new_ones(rt.alloc(), Keys::new(&rt), &graph)?;
+    // the second path is the reverse of the first; the third has 10 20 30, and 20 30 40 is new
+    assert_eq!(rt; second, None);
+    assert_eq!(rt; third, Some(1));
+    assert_eq!(rt;
+        mark,
+        ClauseMark {
+            paths: 3,
+            triples: 2
+        }
+    );
+    Ok(())
+}
+
 /// Adds a path and goes back.
 fn add_and_undo(graph: &AsGraph, clauses: &mut Clauses, path: PathId) -> Result<(), Fail>
     requires fits { FitsGraph graph.now clauses.old }

@@ -1,6 +1,5 @@
 ghost use Rattle.std.specs.Prelude.{◌≡◌, ◌<◌, ◌≤◌, ◌↔◌, ◌^◌, [], All, length, take, slice_get, IsTrue, IfOk, OnErr};
-ghost use Rattle.std.specs.List.{list_any};
-ghost use Rattle.tor_clauses.specs.Triples.{arc_of, is_same_triple};
+ghost use Rattle.tor_clauses.specs.Triples.{arc_of, is_among};
 ghost use Rattle.tor_clauses.specs.Tables.{HasNodes, IsSatisfied, IsAdded, AreKnownOn, IsNewAt, key_of_arc, number_of_pair};
 
 use crate::lit::{Lit, opposite};
@@ -80,7 +79,7 @@ impl TripleTable {
 
     /// Whether a triple is there whose literals have these nodes, or its reverse. It takes no memory.
     fn holds(&self, first: NodeId, second: NodeId) -> bool
-        ensures { (t : Triple) → HasNodes t → arc_of t ≡ (first, second) → (IsTrue result ↔ IsTrue (list_any (is_same_triple t) self.now)) }
+        ensures { (t : Triple) → HasNodes t → arc_of t ≡ (first, second) → (IsTrue result ↔ IsTrue (is_among self.now t)) }
     {
         self.known.holds(number_of(key(first, second)))
     }

@@ -30,5 +30,5 @@ pub returns-clause-refused : goal.returns-clause-refused
 returns-clause-refused c =
     let e = c.in_ok-fate.ensures in
     let fate = c.in_ok-fate.fate in
-    offered c.args.graph.now c.args.selector.now.formula.paths c.args.path c.args.fates.now fate c.offer.new.self.formula.paths c.args.refusals.now.items
-    c.remember.new.refusals.items c.requires.next e.kept (same_paths fate c.offer.new.self c.args.selector.now e.lost) e.walk c.requires.refused c.in_ok-remember.ensures
+    offered c.args.graph.now c.args.selector.now.formula.paths c.args.path c.args.fates.now fate c.offer_behind.new.self.formula.paths c.args.refusals.now.items
+    c.remember.new.refusals.items c.requires.next e.kept (same_paths fate c.offer_behind.new.self c.args.selector.now e.lost) e.walk c.requires.refused c.in_ok-remember.ensures

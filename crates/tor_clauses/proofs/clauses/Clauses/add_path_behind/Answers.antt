@@ -1,5 +1,5 @@
 use Rattle.tor_clauses.proofs.Adding.{grown}
-use Rattle.tor_clauses.proofs.clauses.Clauses.add_path.Goals as goal
+use Rattle.tor_clauses.proofs.clauses.Clauses.add_path_behind.Goals as goal
 
 pub returns-clause-fits : goal.returns-clause-fits
 returns-clause-fits c =
