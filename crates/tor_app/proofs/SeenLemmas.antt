@@ -23,11 +23,12 @@ use Rattle.dump_read.specs.Taking.{take_cleaned, take_route, take_routes, Takes}
 use Rattle.dump_read.proofs.SumLemmas.{together_law}
 use Rattle.dump_read.proofs.TakingLemmas.{dumps, path_counted, same_ok}
 use Rattle.tor_sample.specs.Records.{sample}
+use Rattle.tor_words.specs.declared.settings.Settings.{Settings}
 use Rattle.tor_words.specs.declared.settings.Mode.TheVariants.{Labels, Listing, Survey, Sample}
-use Rattle.tor_app.specs.Seen.{nothing, seen_from}
+use Rattle.tor_app.specs.Seen.{nothing, seen_from, seen_in_sample}
 use Rattle.tor_app.specs.SeenLaw.{IsWhole, IsSeenOf, DumpsLaw, SeenLaw}
 
-same : (x y : Taken) → ◌≡◌ {A = Result Taken End} (Ok x) (Ok y) → x ≡ y
+pub same : (x y : Taken) → ◌≡◌ {A = Result Taken End} (Ok x) (Ok y) → x ≡ y
 same x y e = cc
 
 -- ---- routes that are taken in leave the counts of files
@@ -137,13 +138,21 @@ all_seen sets given taken all = record {
 pub dumps_law : DumpsLaw
 dumps_law sets limit names files taken e = all_seen sets (map files names) taken (rest sets 1 [] names files (nothing limit) taken (at_first sets limit) e)
 
+-- a sample is read as one dump that is there
+
+abbrev pub sample_file : ℕ → Files
+sample_file seed name = Some (sample seed)
+
+pub as_dump : (settings : Settings) (seed : ℕ) → seen_from settings.sets 1 (nothing settings.max_paths) ([] ∷ []) (sample_file seed) ≡ seen_in_sample settings seed
+as_dump settings seed = by (seen_in_sample settings seed)
+  where
+    by : (one : Result Taken End) → (one >>= λ further. Ok further) ≡ one
+    by (Ok further) = refl
+    by (Err end) = refl
+
 pub seen_law : SeenLaw
 seen_law Labels settings files taken e = dumps_law settings.sets settings.max_paths settings.dumps files taken e
 seen_law Listing settings files taken e = dumps_law settings.sets settings.max_paths settings.dumps files taken e
 seen_law Survey settings files taken e = dumps_law settings.sets settings.max_paths settings.dumps files taken e
-seen_law (Sample seed) settings files taken e = all_seen settings.sets (Some (sample seed) ∷ []) taken (record {
-  octets = sample seed ∷ [];
-  there = refl;
-  whole = All-cons IsWhole (sample seed) [] (adds settings.sets 1 (sample seed) (nothing settings.max_paths) taken e).whole (All-nil IsWhole);
-  so_far = one_more settings.sets 1 [] (sample seed) (nothing settings.max_paths) taken (at_first settings.sets settings.max_paths) e;
-})
+seen_law (Sample seed) settings files taken e =
+    dumps_law settings.sets settings.max_paths ([] ∷ []) (sample_file seed) taken (as_dump settings seed ∙ e)
