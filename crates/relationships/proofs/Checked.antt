@@ -6,36 +6,35 @@ use Rattle.std.proofs.lemmas.List.Elements.{All-contains, All-cons, All-nil, All
 use Rattle.relationships.specs.declared.label.End.{End}
 use Rattle.relationships.specs.declared.label.Label.{Label}
 use Rattle.relationships.specs.declared.walk.Walk.{Walk}
-use Rattle.tor_arena.specs.Distinct.{AllDistinct}
 use Rattle.relationships.specs.Relationship.{Orientation, Labelling, label_of, labels_of, is_low, is_high, is_over, ValleyFree, Serves}
-use Rattle.relationships.specs.Evidence.{Numbered, paths_of, Closure, IsConsistent, kept_from}
+use Rattle.relationships.specs.Evidence.{NeighboursDiffer, Numbered, paths_of, Closure, IsConsistent, kept_from}
 use Rattle.relationships.specs.Selection.{KeepsFrom, IsForced}
 use Rattle.relationships.specs.Checking.{LostFrom, kept_of, Claim, OtherOrder, IsBorneOut, ProbesFrom, claimed_labels}
 use Rattle.relationships.specs.Laws.{AgreesOn, KeepingLaw, MarkingLaw, ForcedLaw, GraphRulesLaw}
 use Rattle.relationships.proofs.Slopes.{over_parts, over-low, over-high}
 use Rattle.relationships.proofs.Edges.{peering_law}
 use Rattle.relationships.specs.Graph.{Edge, is_same, edges_from, edges_on, distinct, edges}
-use Rattle.relationships.proofs.Serving.{Apart, Apart-from_distinct}
+use Rattle.relationships.proofs.Serving.{Apart, Apart-from_differing}
 use Rattle.std.specs.List.{AllByRecursion}
 use Rattle.relationships.proofs.WalkLemmas.{refuting_law, showing_law}
 use Rattle.relationships.proofs.Closures.{allowed_law}
 
 -- the label, with a peering read as this end
-abbrev read : End → Label → End
+abbrev pub read : End → Label → End
 read e Label.Low = End.Low
 read e Label.High = End.High
 read e Label.Peer = e
 
-abbrev reading : End → Labelling → Orientation
+abbrev pub reading : End → Labelling → Orientation
 reading e L low high = read e (L low high)
 
 reading_agrees : (e : End) (L : Labelling) (es : List Edge) → AgreesOn es L (labels_of (reading e L))
 reading_agrees e L es = λ k d within. (λ h. rw h, λ h. rw h)
 
-reading_serves : (e : End) (L : Labelling) (paths : List (List ℕ)) → All (ValleyFree L) paths → Serves (reading e L) paths
+pub reading_serves : (e : End) (L : Labelling) (paths : List (List ℕ)) → All (ValleyFree L) paths → Serves (reading e L) paths
 reading_serves e L paths h = peering_law L (reading e L) paths (reading_agrees e L (edges paths)) h
 
-keeps_from : (O : Orientation) (n : ℕ) (kept : Numbered) (paths : List (List ℕ)) (walks : List (Option Walk)) → LostFrom n kept paths walks →
+pub keeps_from : (O : Orientation) (n : ℕ) (kept : Numbered) (paths : List (List ℕ)) (walks : List (Option Walk)) → LostFrom n kept paths walks →
     Serves O (paths_of kept) → Serves O (paths_of (kept_from n paths (map is_none walks))) → KeepsFrom (paths_of kept) paths (map is_none walks)
 keeps_from O n kept [] [] h serves all = tt
 keeps_from O n kept [] (w ∷ walks) h serves all = absurd h
@@ -92,7 +91,7 @@ forced_law L kept low high valley_free forced e =
     let h : End.Low ≡ End.High = ap (read End.Low) (sym e) ∙ same ∙ ap (read End.High) e in
     cc
 
-module _ (L : Labelling) (kept : List (List ℕ)) (distinct : All AllDistinct kept) (valley_free : All (ValleyFree L) kept) where
+module _ (L : Labelling) (kept : List (List ℕ)) (distinct : All NeighboursDiffer kept) (valley_free : All (ValleyFree L) kept) where
   -- an edge whose other order stands in a consistent closure is not forced
   other_loose : (c : Claim) → c.low < c.high → L c.low c.high ≡ c.label → (over under a b : ℕ) → OtherOrder c over under →
       IsConsistent kept a b → Closure kept a b over under → IsForced kept c.low c.high → ⊥
@@ -137,27 +136,27 @@ marking_law L kept claims walks probes distinct valley_free holds c claimed lt e
 
 -- ---- all rules together
 
-kept_distinct : (n : ℕ) (paths : List (List ℕ)) (keeps : List Bool) → AllByRecursion AllDistinct paths → AllByRecursion AllDistinct (paths_of (kept_from n paths keeps))
-kept_distinct n [] keeps h = tt
-kept_distinct n (path ∷ paths) [] h = tt
-kept_distinct n (path ∷ paths) (true ∷ keeps) h = (h.0, kept_distinct (n + 1) paths keeps h.1)
-kept_distinct n (path ∷ paths) (false ∷ keeps) h = kept_distinct (n + 1) paths keeps h.1
+pub kept_differing : (n : ℕ) (paths : List (List ℕ)) (keeps : List Bool) → AllByRecursion NeighboursDiffer paths → AllByRecursion NeighboursDiffer (paths_of (kept_from n paths keeps))
+kept_differing n [] keeps h = tt
+kept_differing n (path ∷ paths) [] h = tt
+kept_differing n (path ∷ paths) (true ∷ keeps) h = (h.0, kept_differing (n + 1) paths keeps h.1)
+kept_differing n (path ∷ paths) (false ∷ keeps) h = kept_differing (n + 1) paths keeps h.1
 
--- the lower number of an edge of paths with distinct ASes is below the higher
+-- the lower number of an edge of paths without equal neighbours is below the higher
 rising_from : (a : ℕ) (path : List ℕ) → Apart a path → AllByRecursion (λ (e : Edge). e.0 < e.1) (edges_from a path)
 rising_from a [] h = tt
 rising_from a (b ∷ path) h =
     (elim (cases_order a b) [ inl e ↦ absurd (h.0 e) | inr o ↦ elim o [ inl lt ↦ omega arith | inr lt ↦ omega arith ] ], rising_from b path h.1)
 
-rising_on : (path : List ℕ) → AllDistinct path → AllByRecursion (λ (e : Edge). e.0 < e.1) (edges_on path)
+rising_on : (path : List ℕ) → NeighboursDiffer path → AllByRecursion (λ (e : Edge). e.0 < e.1) (edges_on path)
 rising_on [] h = tt
-rising_on (a ∷ path) h = rising_from a path (Apart-from_distinct a path h)
+rising_on (a ∷ path) h = rising_from a path (Apart-from_differing a path h)
 
 both_parts : (P : Edge → Type 0) (es fs : List Edge) → AllByRecursion P es → AllByRecursion P fs → AllByRecursion P (es ++ fs)
 both_parts P [] fs h k = k
 both_parts P (e ∷ es) fs h k = (h.0, both_parts P es fs h.1 k)
 
-rising_all : (paths : List (List ℕ)) → AllByRecursion AllDistinct paths → AllByRecursion (λ (e : Edge). e.0 < e.1) (flat_map edges_on paths)
+pub rising_all : (paths : List (List ℕ)) → AllByRecursion NeighboursDiffer paths → AllByRecursion (λ (e : Edge). e.0 < e.1) (flat_map edges_on paths)
 rising_all [] h = tt
 rising_all (path ∷ paths) h = both_parts (λ (e : Edge). e.0 < e.1) (edges_on path) (flat_map edges_on paths) (rising_on path h.0) (rising_all paths h.1)
 
@@ -165,12 +164,12 @@ filtered : (P : Edge → Type 0) (p : Edge → Bool) (es : List Edge) → AllByR
 filtered P p [] h = tt
 filtered P p (e ∷ es) h = elim (cases_Bool (p e)) [ inl t ↦ rw t (h.0, filtered P p es h.1) | inr f ↦ rw f (filtered P p es h.1) ]
 
-distinct_keeps : (P : Edge → Type 0) (es : List Edge) → AllByRecursion P es → AllByRecursion P (distinct es)
+pub distinct_keeps : (P : Edge → Type 0) (es : List Edge) → AllByRecursion P es → AllByRecursion P (distinct es)
 distinct_keeps P [] h = tt
 distinct_keeps P (e ∷ es) h = (h.0, filtered P (λ f. not (is_same e f)) (distinct es) (distinct_keeps P es h.1))
 
 -- no edge stands twice
-abbrev Once : List Edge → Type 0
+abbrev pub Once : List Edge → Type 0
 Once [] = Unit {0}
 Once (e ∷ es) = AllByRecursion (λ f. is_same e f ≡ false) es × Once es
 
@@ -186,12 +185,12 @@ passing : (e : Edge) (es : List Edge) → AllByRecursion (λ f. is_same e f ≡ 
 passing e [] = tt
 passing e (f ∷ es) = elim (cases_Bool (is_same e f)) [ inl t ↦ rw t (passing e es) | inr n ↦ rw n (n, passing e es) ]
 
-distinct_once : (es : List Edge) → Once (distinct es)
+pub distinct_once : (es : List Edge) → Once (distinct es)
 distinct_once [] = tt
 distinct_once (e ∷ es) = (passing e (distinct es), filtered_once (λ f. not (is_same e f)) (distinct es) (distinct_once es))
 
 -- the claims give each edge its label
-label_at : (claims : List Claim) → Once (map (λ (c : Claim). (c.low, c.high)) claims) → (c : Claim) (k : ℕ) → k < length claims → get_or claims k c ≡ c →
+pub label_at : (claims : List Claim) → Once (map (λ (c : Claim). (c.low, c.high)) claims) → (c : Claim) (k : ℕ) → k < length claims → get_or claims k c ≡ c →
     claimed_labels claims c.low c.high ≡ c.label
 label_at [] once c k lt e = absurd (omega arith)
 label_at (d ∷ claims) once c zero lt e =
@@ -204,7 +203,7 @@ label_at (d ∷ claims) once c (suc k) lt e = rw (apart claims k once.0 (omega a
     apart (u ∷ claims) zero h lt e = subst (λ (v : Claim). is_same (d.low, d.high) (v.low, v.high) ≡ false) e h.0
     apart (u ∷ claims) (suc k) h lt e = apart claims k h.1 (omega arith) e
 
-rising_at : (claims : List Claim) (c : Claim) (k : ℕ) → AllByRecursion (λ (e : Edge). e.0 < e.1) (map (λ (c : Claim). (c.low, c.high)) claims) → k < length claims → get_or claims k c ≡ c →
+pub rising_at : (claims : List Claim) (c : Claim) (k : ℕ) → AllByRecursion (λ (e : Edge). e.0 < e.1) (map (λ (c : Claim). (c.low, c.high)) claims) → k < length claims → get_or claims k c ≡ c →
     c.low < c.high
 rising_at [] c k h lt e = absurd (omega arith)
 rising_at (d ∷ claims) c zero h lt e = subst (λ (v : Claim). v.low < v.high) e h.0
@@ -212,10 +211,10 @@ rising_at (d ∷ claims) c (suc k) h lt e = rising_at claims c k h.1 (omega arit
 
 pub graph_rules_law : GraphRulesLaw
 graph_rules_law paths walks claims whys probes a =
-    let distinct = recursion_from_All AllDistinct paths a.distinct_ases in
+    let distinct = recursion_from_All NeighboursDiffer paths a.neighbours_differ in
     let rising = subst (AllByRecursion (λ (e : Edge). e.0 < e.1)) (sym a.each_edge) (distinct_keeps (λ (e : Edge). e.0 < e.1) (flat_map edges_on paths) (rising_all paths distinct)) in
     let once = subst Once (sym a.each_edge) (distinct_once (flat_map edges_on paths)) in
-    let kept_apart = All-from_recursion AllDistinct (paths_of (kept_of paths walks)) (kept_distinct 1 paths (map is_none walks) distinct) in
+    let kept_apart = All-from_recursion NeighboursDiffer (paths_of (kept_of paths walks)) (kept_differing 1 paths (map is_none walks) distinct) in
     let label_of_claim : (c : Claim) → Contains claims c → claimed_labels claims c.low c.high ≡ c.label = λ c i. label_at claims once c i.0 i.1 i.2 in
     let marked : (c : Claim) → Contains claims c → IsTrue c.forced ↔ IsForced (paths_of (kept_of paths walks)) c.low c.high = λ c i.
     marking_law (claimed_labels claims) (kept_of paths walks) claims whys probes kept_apart a.valley_free a.marks

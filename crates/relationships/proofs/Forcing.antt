@@ -4,10 +4,9 @@ use Rattle.std.proofs.lemmas.Bool.{cases_Bool}
 use Rattle.std.proofs.lemmas.List.Elements.{All-from_get_or, Contains-get_or}
 use Rattle.std.specs.Prelude.{if◌then◌else◌}
 use Rattle.relationships.specs.declared.label.End.{End}
-use Rattle.tor_arena.specs.Distinct.{AllDistinct}
 use Rattle.relationships.specs.Relationship.{Orientation, label_of, labels_of, is_low, is_high, is_over, opposite, Serves}
 use Rattle.relationships.specs.Graph.{Edge, is_same, edges, SameOn}
-use Rattle.relationships.specs.Evidence.{Closure, start, imply}
+use Rattle.relationships.specs.Evidence.{NeighboursDiffer, Closure, start, imply}
 use Rattle.relationships.specs.Laws.{SatisfiesTriples, ImpliedLaw, LooseLaw, UnheldLaw}
 use Rattle.relationships.proofs.Slopes.{over_one_of, over-low, over-high}
 use Rattle.relationships.proofs.Edges.{same_edge, reading_law}
@@ -30,7 +29,7 @@ implied_law O paths a b ne c serves =
 
 -- ---- an order that does not imply its opposite is not ruled out
 
-not_ruled_out : (O : Orientation) (paths : List (List ℕ)) (a b : ℕ) → All AllDistinct paths → Serves O paths → (Closure paths a b b a → ⊥) →
+not_ruled_out : (O : Orientation) (paths : List (List ℕ)) (a b : ℕ) → All NeighboursDiffer paths → Serves O paths → (Closure paths a b b a → ⊥) →
     ((O' : Orientation) → Serves O' paths → is_over (labels_of O') b a ≡ true) → ⊥
 not_ruled_out O paths a b distinct serves not_back ruled_out =
     allowed_law O paths a b distinct (consistency_law paths a b not_back) serves a b start ruled_out

@@ -4,6 +4,8 @@ pub mod Deciding
 pub mod Edges
 pub mod Forcing
 pub mod FlatLemmas
+pub mod GivenLemmas
+pub mod GivenWalks
 pub mod Neighbours
 pub mod Places
 pub mod PreferredRow

@@ -3,9 +3,8 @@ use Rattle.std.proofs.Common.{◌≡◌, ◌≢◌, ℕ, ◌<◌, ◌≤◌, inl
 use Rattle.std.proofs.lemmas.Bool.{cases_Bool, ltb-false}
 use Rattle.std.proofs.lemmas.List.Elements.{All-contains}
 use Rattle.relationships.specs.declared.walk.Link.{Link}
-use Rattle.tor_arena.specs.Distinct.{AllDistinct}
 use Rattle.relationships.specs.Relationship.{label_of, labels_of, is_low, is_high, is_over}
-use Rattle.relationships.specs.Evidence.{Numbered, Fits, IsLinked, BeginsWith}
+use Rattle.relationships.specs.Evidence.{Numbered, NeighboursDiffer, Fits, IsLinked, BeginsWith}
 use Rattle.relationships.specs.Laws.{ranked, RankLaw, CycleLaw}
 use Rattle.relationships.proofs.Slopes.{over_one_of, over_parts}
 use Rattle.relationships.proofs.Serving.{satisfies_serves}
@@ -49,7 +48,7 @@ pub rank_law : RankLaw
 rank_law paths rank distinct r =
     satisfies_serves (ranked rank) paths distinct (λ x y z t o.
     let back = reversed_triple paths x y z t in
-    let apart : y ≢ z = λ e. triple_apart back.0 back.2.0 z y x (All-contains AllDistinct paths back.0 distinct back.1) back.2.1 (sym e) in
+    let apart : y ≢ z = λ e. triple_apart back.0 back.2.0 z y x (All-contains NeighboursDiffer paths back.0 distinct back.1) back.2.1 (sym e) in
     let a = r.along x y z t in
     let b = r.along z y x back in
     let c = r.apart x y z t in

@@ -30,7 +30,7 @@ same_flags kept (path ∷ paths) (k ∷ keeps) (k' ∷ keeps') h h' =
 pub selection_law : SelectionLaw
 selection_law paths keeps keeps' h h' = same_flags [] paths keeps keeps' h h'
 
-nothing_servable : IsServable []
+pub nothing_servable : IsServable []
 nothing_servable = ((λ low high. End.Low), All-nil (ValleyFree (labels_of (λ low high. End.Low))))
 
 kept_servable : (kept paths : List (List ℕ)) (keeps : List Bool) → KeepsFrom kept paths keeps → IsServable kept → IsServable (kept ++ items_where_true keeps paths)
@@ -48,7 +48,7 @@ prefix_too : {X : Type 0} (P : X → Type 0) (xs ys : List X) → AllByRecursion
 prefix_too P [] ys h = tt
 prefix_too P (x ∷ xs) ys h = (h.0, prefix_too P xs ys h.1)
 
-servable_prefix : (paths more : List (List ℕ)) → IsServable (paths ++ more) → IsServable paths
+pub servable_prefix : (paths more : List (List ℕ)) → IsServable (paths ++ more) → IsServable paths
 servable_prefix paths more s =
     (s.0, All-from_recursion (ValleyFree (labels_of s.0)) paths (prefix_too (ValleyFree (labels_of s.0)) paths more (recursion_from_All (ValleyFree (labels_of s.0)) (paths ++ more) s.1)))
 

@@ -1,9 +1,9 @@
 -- The serving law.
-use Rattle.std.proofs.Common.{◌≡◌, ◌≢◌, ℕ, suc, ◌+◌, inl, inr, true, List, [], ◌∷◌, ◌++◌, length, get_or, refl, sym, ap, ◌∙◌, subst, arith, append_assoc, All}
-use Rattle.std.proofs.lemmas.List.Elements.{All-contains, Contains-get_or, All-from_get_or}
+use Rattle.std.proofs.Common.{◌≡◌, ◌≢◌, ℕ, zero, suc, ◌+◌, ◌-◌, ◌<◌, inl, inr, true, List, [], ◌∷◌, ◌++◌, length, get_or, refl, sym, ap, ◌∙◌, subst, arith, append_assoc, All}
+use Rattle.std.proofs.lemmas.List.Elements.{All-contains, All-weaker, Contains-get_or, All-from_get_or}
 use Rattle.tor_arena.specs.Distinct.{AllDistinct}
 use Rattle.relationships.specs.Relationship.{Orientation, Labelling, labels_of, is_over, Slope, Up, Down, slope, slopes_from, slopes, ValleyFree, Serves}
-use Rattle.relationships.specs.Evidence.{StandAt, TripleAt}
+use Rattle.relationships.specs.Evidence.{StandAt, TripleAt, HasPair, NeighboursDiffer}
 use Rattle.relationships.specs.Laws.{SatisfiesTriples, ServingLaw}
 use Rattle.relationships.proofs.Slopes.{slope-up, slope-down, over-up, over-down, over_one_of, Falls, Free, Free-from_valley_free, ValleyFree-from_free}
 
@@ -65,10 +65,39 @@ Apart a (b ∷ path) = (a ≢ b) × Apart b path
 pub AllDistinct-tail : (a : ℕ) (path : List ℕ) → AllDistinct (a ∷ path) → AllDistinct path
 AllDistinct-tail a path h = λ i j d lt within. h (suc i) (suc j) d (omega arith) (omega arith)
 
-pub Apart-from_distinct : (a : ℕ) (path : List ℕ) → AllDistinct (a ∷ path) → Apart a path
-Apart-from_distinct a [] h = tt
-Apart-from_distinct a (b ∷ path) h =
-    (h 0 1 a (omega arith) (omega arith), Apart-from_distinct b path (AllDistinct-tail a (b ∷ path) h))
+pub NeighboursDiffer-tail : (a : ℕ) (path : List ℕ) → NeighboursDiffer (a ∷ path) → NeighboursDiffer path
+NeighboursDiffer-tail a path h = record { differ = λ x y p. h.differ x y (a ∷ p.0, p.1, ap (λ (l : List ℕ). a ∷ l) p.2) }
+
+pub Apart-from_differing : (a : ℕ) (path : List ℕ) → NeighboursDiffer (a ∷ path) → Apart a path
+Apart-from_differing a [] h = tt
+Apart-from_differing a (b ∷ path) h =
+    (h.differ a b ([], path, refl), Apart-from_differing b path (NeighboursDiffer-tail a (b ∷ path) h))
+
+-- distinct ASes differ from their neighbours
+distinct_pair : (before : List ℕ) (x y : ℕ) (after : List ℕ) → AllDistinct (before ++ (x ∷ y ∷ after)) → x ≢ y
+distinct_pair [] x y after h = h 0 1 x (omega arith) (omega arith)
+distinct_pair (b ∷ before) x y after h = distinct_pair before x y after (AllDistinct-tail b (before ++ (x ∷ y ∷ after)) h)
+
+pub differ_if_distinct : (path : List ℕ) → AllDistinct path → NeighboursDiffer path
+differ_if_distinct path h = record { differ = λ x y p. distinct_pair p.0 x y p.1 (subst AllDistinct p.2 h) }
+
+pair_at : (path : List ℕ) (k d : ℕ) → suc k < length path → HasPair path (get_or path k d) (get_or path (suc k) d)
+pair_at [] k d lt = absurd (omega (arith, lt))
+pair_at (a ∷ []) k d lt = absurd (omega (arith, lt))
+pair_at (a ∷ b ∷ path) zero d lt = ([], path, refl)
+pair_at (a ∷ b ∷ path) (suc k) d lt =
+    let p = pair_at (b ∷ path) k d (omega (arith, lt)) in (a ∷ p.0, p.1, ap (λ (l : List ℕ). a ∷ l) p.2)
+
+-- two ASes at places that follow each other differ
+pub differ_at : (path : List ℕ) (k d : ℕ) → NeighboursDiffer path → suc k < length path → get_or path k d ≢ get_or path (suc k) d
+differ_at path k d h lt = h.differ (get_or path k d) (get_or path (suc k) d) (pair_at path k d lt)
+
+pub differ_before : (path : List ℕ) (k d : ℕ) → NeighboursDiffer path → 0 < k → k < length path → get_or path (k - 1) d ≢ get_or path k d
+differ_before path zero d h pos lt = absurd (omega (arith, pos))
+differ_before path (suc k) d h pos lt = let e : suc k - 1 ≡ k = omega arith in rw e (differ_at path k d h lt)
+
+pub all_differ_if_distinct : (paths : List (List ℕ)) → All AllDistinct paths → All NeighboursDiffer paths
+all_differ_if_distinct paths h = All-weaker AllDistinct NeighboursDiffer differ_if_distinct paths h
 
 module _ (O : Orientation) where
   -- each "over" is satisfied on along the path
@@ -103,17 +132,17 @@ module _ (O : Orientation) where
         (λ at x y z s. h at x y z (record { before = s.before; after = s.after; whole = sym (append_assoc before (a ∷ []) (b ∷ c ∷ path)) ∙ s.whole; place = s.place })),
   )
 
-  valley_free_from_triples : (path : List ℕ) → AllDistinct path →
+  valley_free_from_triples : (path : List ℕ) → NeighboursDiffer path →
       ((at x y z : ℕ) → StandAt path at x y z → is_over (labels_of O) x y ≡ true → is_over (labels_of O) y z ≡ true) → ValleyFree (labels_of O) path
   valley_free_from_triples [] apart h = (0, 0, inl refl)
   valley_free_from_triples (a ∷ path) apart h =
-      ValleyFree-from_free (labels_of O) (a ∷ path) (free_from_satisfied a path (Apart-from_distinct a path apart) (satisfied_from_triples a path [] h))
+      ValleyFree-from_free (labels_of O) (a ∷ path) (free_from_satisfied a path (Apart-from_differing a path apart) (satisfied_from_triples a path [] h))
 
   pub serves_satisfies : (paths : List (List ℕ)) → Serves O paths → SatisfiesTriples O paths
   serves_satisfies paths s x y z t o =
       satisfied (labels_of O) t.0 t.2.0 x y z (All-contains (ValleyFree (labels_of O)) paths t.0 s t.1) t.2.1 o
 
-  pub satisfies_serves : (paths : List (List ℕ)) → All AllDistinct paths → SatisfiesTriples O paths → Serves O paths
+  pub satisfies_serves : (paths : List (List ℕ)) → All NeighboursDiffer paths → SatisfiesTriples O paths → Serves O paths
   satisfies_serves paths apart c =
       All-from_get_or (ValleyFree (labels_of O)) paths []
       (λ i within. valley_free_from_triples (get_or paths i []) (apart i [] within)

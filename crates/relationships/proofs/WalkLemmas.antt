@@ -1,15 +1,14 @@
 -- What walks show: the refuting law and the showing law.
-use Rattle.std.proofs.Common.{◌≡◌, ◌≢◌, ℕ, ◌<◌, ◌≤◌, inl, inr, true, List, [], ◌∷◌, ◌++◌, length, map, sym, ap, ◌∙◌, subst, arith, append_assoc, length-append, All, Contains}
+use Rattle.std.proofs.Common.{◌≡◌, ◌≢◌, ℕ, ◌<◌, ◌≤◌, inl, inr, true, List, [], ◌∷◌, ◌++◌, length, map, refl, sym, ap, ◌∙◌, subst, arith, append_assoc, length-append, All, Contains}
 use Rattle.std.proofs.lemmas.List.Elements.{All-contains, All-cons, All-nil, All-push}
 use Rattle.std.proofs.lemmas.List.{get_or-map, length-map}
 use Rattle.relationships.specs.declared.walk.Link.{Link}
 use Rattle.relationships.specs.declared.walk.Walk.{Walk}
-use Rattle.tor_arena.specs.Distinct.{AllDistinct}
 use Rattle.relationships.specs.Relationship.{Orientation, labels_of, is_over, Serves}
-use Rattle.relationships.specs.Evidence.{TripleAt, IsTriple, Numbered, paths_of, Fits, IsLinked, HasPair, BeginsWith, EndsWith, Refutes, Shows, ShowFrom}
+use Rattle.relationships.specs.Evidence.{TripleAt, IsTriple, NeighboursDiffer, Numbered, paths_of, Fits, IsLinked, HasPair, BeginsWith, EndsWith, Refutes, Shows, ShowFrom}
 use Rattle.relationships.specs.Laws.{RefutingLaw, ShowingLaw}
 use Rattle.relationships.proofs.Slopes.{over_one_way, over_one_of}
-use Rattle.relationships.proofs.Serving.{serves_satisfies, AllDistinct-tail}
+use Rattle.relationships.proofs.Serving.{serves_satisfies}
 
 pub Contains-paths_of : (A : Numbered) (n : ℕ) (path : List ℕ) → Contains A (n, path) → Contains (paths_of A) path
 Contains-paths_of A n path c =
@@ -75,24 +74,23 @@ pub refuting_law : RefutingLaw
 refuting_law A w r O serves = refuted O A serves w r
 
 -- the first two ASes of a triple differ
-pub apart_at : (before : List ℕ) (x y : ℕ) (after : List ℕ) → AllDistinct (before ++ (x ∷ y ∷ after)) → x ≢ y
-apart_at [] x y after h = h 0 1 x (omega arith) (omega arith)
-apart_at (b ∷ before) x y after h = apart_at before x y after (AllDistinct-tail b (before ++ (x ∷ y ∷ after)) h)
+pub apart_at : (before : List ℕ) (x y : ℕ) (after : List ℕ) → NeighboursDiffer (before ++ (x ∷ y ∷ after)) → x ≢ y
+apart_at before x y after h = h.differ x y (before, after, refl)
 
-pub apart_next : (before : List ℕ) (x y z : ℕ) (after : List ℕ) → AllDistinct (before ++ (x ∷ y ∷ z ∷ after)) → y ≢ z
+pub apart_next : (before : List ℕ) (x y z : ℕ) (after : List ℕ) → NeighboursDiffer (before ++ (x ∷ y ∷ z ∷ after)) → y ≢ z
 apart_next before x y z after h =
-    apart_at (before ++ (x ∷ [])) y z after (subst AllDistinct (sym (append_assoc before (x ∷ []) (y ∷ z ∷ after))) h)
+    apart_at (before ++ (x ∷ [])) y z after (subst NeighboursDiffer (sym (append_assoc before (x ∷ []) (y ∷ z ∷ after))) h)
 
-pub triple_apart : (path : List ℕ) (at x y z : ℕ) → AllDistinct path → TripleAt path at x y z → x ≢ y
-triple_apart path at x y z h (inl s) = apart_at s.before x y (z ∷ s.after) (subst AllDistinct s.whole h)
-triple_apart path at x y z h (inr s) = λ e. apart_next s.before z y x s.after (subst AllDistinct s.whole h) (sym e)
+pub triple_apart : (path : List ℕ) (at x y z : ℕ) → NeighboursDiffer path → TripleAt path at x y z → x ≢ y
+triple_apart path at x y z h (inl s) = apart_at s.before x y (z ∷ s.after) (subst NeighboursDiffer s.whole h)
+triple_apart path at x y z h (inr s) = λ e. apart_next s.before z y x s.after (subst NeighboursDiffer s.whole h) (sym e)
 
 -- a pair of two ASes, the first of which is over the second
 abbrev IsOver : Orientation → ℕ × ℕ → Type 0
 IsOver O p = p.0 ≢ p.1 → is_over (labels_of O) p.0 p.1 ≡ true
 
-module _ (O : Orientation) (A : Numbered) (distinct : All AllDistinct (paths_of A)) (serves : Serves O (paths_of A)) where
-  -- the only walk over paths with distinct ASes that begins with one AS twice is the walk of that AS twice
+module _ (O : Orientation) (A : Numbered) (distinct : All NeighboursDiffer (paths_of A)) (serves : Serves O (paths_of A)) where
+  -- the only walk over paths without equal neighbours that begins with one AS twice is the walk of that AS twice
   not_twice : (c d : ℕ) (after : List ℕ) (links : List Link) (a b : ℕ) → IsLinked A (c ∷ d ∷ after) links → EndsWith (c ∷ d ∷ after) a b → a ≢ b → c ≢ d
   not_twice c d [] links a b h (before, e) ne = ends_twice before e
     where
@@ -102,7 +100,7 @@ module _ (O : Orientation) (A : Numbered) (distinct : All AllDistinct (paths_of 
   not_twice c d (z ∷ after) [] a b h e ne = absurd h
   not_twice c d (z ∷ after) (link ∷ links) a b h e ne =
       let t = triple_of_fit A link c d z h.0 in
-      triple_apart t.0 t.2.0 c d z (All-contains AllDistinct (paths_of A) t.0 distinct t.1) t.2.1
+      triple_apart t.0 t.2.0 c d z (All-contains NeighboursDiffer (paths_of A) t.0 distinct t.1) t.2.1
 
   shows_over : (shown : List (ℕ × ℕ)) (w : Walk) (a b : ℕ) → All (IsOver O) shown → Shows A shown w a b → a ≢ b → is_over (labels_of O) a b ≡ true
   shows_over shown w a b before s ne =

@@ -5,10 +5,11 @@ use Rattle.relationships.specs.declared.label.End.{End}
 use Rattle.relationships.specs.declared.label.Label.{Label}
 use Rattle.relationships.specs.declared.walk.Link.{Link}
 use Rattle.relationships.specs.declared.walk.Walk.{Walk}
-use Rattle.tor_arena.specs.Distinct.{AllDistinct, is_distinct}
+use Rattle.tor_arena.specs.Distinct.{is_distinct}
 use Rattle.relationships.specs.Relationship.{Orientation, Labelling, labels_of, is_over, Up, Down, Flat, slope, slopes, ValleyFree, Serves}
 use Rattle.relationships.specs.Graph.{Edge, edges, degree, support, orientation, labelling}
-use Rattle.relationships.specs.Evidence.{Numbered, Fits, IsLinked, Refutes, Show, Closure, start, imply, IsConsistent}
+use Rattle.relationships.specs.Evidence.{NeighboursDiffer, Numbered, Fits, IsLinked, Refutes, Show, Closure, start, imply, IsConsistent}
+use Rattle.relationships.proofs.Serving.{differ_if_distinct}
 use Rattle.relationships.specs.Selection.{Keeps, IsForced}
 use Rattle.relationships.specs.Checking.{LostAreRefuted, Claim, IsBorneOut, MarksHold, MeetsGraphRules}
 use Rattle.relationships.proofs.Closures.{consistency_law}
@@ -325,12 +326,12 @@ marks_hold = record {
   );
 }
 
--- the ASes of the kept paths are distinct
-apart : (path : List ℕ) → is_distinct path ≡ true → AllDistinct path
-apart path h = AllDistinct-from_test path h
+-- no two neighbours on the kept paths are the same
+apart : (path : List ℕ) → is_distinct path ≡ true → NeighboursDiffer path
+apart path h = differ_if_distinct path (AllDistinct-from_test path h)
 
-all_distinct : All AllDistinct kept
-all_distinct = All-from_recursion AllDistinct kept (apart first refl, (apart second refl, tt))
+all_distinct : All NeighboursDiffer kept
+all_distinct = All-from_recursion NeighboursDiffer kept (apart first refl, (apart second refl, tt))
 
 -- so the mark of each edge is right, as that 20 is forced to be over 10, and that {30, 40} may go either way
 forced_10_20 : IsForced kept 10 20
@@ -359,12 +360,12 @@ implied_20_10 O serves = implied_law O kept 20 10 (λ e. omega arith) closed ser
         (first, (0, lit< tt, refl), (3, inl (record { before = 30 ∷ []; after = 50 ∷ 60 ∷ []; whole = refl; place = refl })))
 
 -- row three paths: all rules on the graph are met
-all_paths_distinct : All AllDistinct all
-all_paths_distinct = All-from_recursion AllDistinct all (apart first refl, (apart second refl, (apart third refl, tt)))
+all_paths_distinct : All NeighboursDiffer all
+all_paths_distinct = All-from_recursion NeighboursDiffer all (apart first refl, (apart second refl, (apart third refl, tt)))
 
 meets_rules : MeetsGraphRules all (None ∷ None ∷ Some lost_walk ∷ []) claims whys probes
 meets_rules = record {
-  distinct_ases = all_paths_distinct;
+  neighbours_differ = all_paths_distinct;
   lost = rule_for_lost;
   each_edge = refl;
   valley_free = valley_free;

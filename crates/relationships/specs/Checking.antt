@@ -3,9 +3,8 @@
 use Rattle.std.specs.Prelude.{◌≡◌, ◌⊎◌, ℕ, ◌+◌, Bool, List, [], ◌∷◌, ◌++◌, map, Option, Some, None, is_none, All, Any, Contains, IsTrue, IsFalse, ⊤}
 use Rattle.relationships.specs.declared.label.Label.{Label}
 use Rattle.relationships.specs.declared.walk.Walk.{Walk}
-use Rattle.relationships.specs.Evidence.{Numbered, paths_of, kept_from, Refutes, Show, Closure, IsConsistent}
+use Rattle.relationships.specs.Evidence.{Numbered, paths_of, kept_from, NeighboursDiffer, Refutes, Show, Closure, IsConsistent}
 use Rattle.relationships.specs.Graph.{edges, labelling}
-use Rattle.tor_arena.specs.Distinct.{AllDistinct}
 use Rattle.relationships.specs.Relationship.{Labelling, ValleyFree}
 
 -- each lost path has a walk that refutes over the paths kept before it and itself; a kept one has no walk. The paths are
@@ -72,10 +71,10 @@ abbrev pub claimed_labels : List Claim → Labelling
 claimed_labels claims = labelling (map (λ c. (c.low, c.high)) claims) (map (λ c. c.label) claims)
 
 -- the rules on paths and edges that decide what is kept and what is forced. Those that no law here needs are left out: that
--- paths are cleaned but for their distinct ASes, that no path stands twice, the ratio, the supports and the totals
+-- paths are cleaned but that no two neighbours on them are the same, that no path stands twice, the ratio, the supports and the totals
 pub record MeetsGraphRules (paths : List (List ℕ)) (walks : List (Option Walk)) (claims : List Claim)
     (whys : List Walk) (probes : List (ℕ × ℕ)) : Type 0 where
-  pub distinct_ases : All AllDistinct paths
+  pub neighbours_differ : All NeighboursDiffer paths
   pub lost : LostAreRefuted paths walks
   pub each_edge : map (λ c. (c.low, c.high)) claims ≡ edges paths
   pub valley_free : All (ValleyFree (claimed_labels claims)) (paths_of (kept_of paths walks))

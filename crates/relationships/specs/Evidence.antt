@@ -51,6 +51,10 @@ IsWalk A w = IsLinked A w.ases w.links
 abbrev pub HasPair : List ℕ → ℕ → ℕ → Type 0
 HasPair ases x y = (before after : List ℕ) × (ases ≡ before ++ (x ∷ y ∷ after))
 
+-- no two neighbours on the path are the same AS
+pub record NeighboursDiffer (path : List ℕ) : Type 0 where
+  pub differ : (a b : ℕ) → HasPair path a b → a ≢ b
+
 abbrev pub BeginsWith : List ℕ → ℕ → ℕ → Type 0
 BeginsWith ases x y = (after : List ℕ) × (ases ≡ x ∷ y ∷ after)
 

@@ -1,15 +1,17 @@
 -- The laws of the definitions, each proved as the contract of a function in src/laws.rt.
-use Rattle.std.specs.Prelude.{◌≡◌, ◌≢◌, ◌↔◌, ℕ, ◌<◌, ◌≤◌, Bool, List, [], ◌∷◌, ◌++◌, map, min, max, ◌*◌, Option, is_none, All, Contains, IsTrue, if◌then◌else◌, nat_lt}
+use Rattle.std.specs.Prelude.{◌≡◌, ◌≢◌, ◌↔◌, ◌⊎◌, ℕ, ◌<◌, ◌≤◌, Bool, List, [], ◌∷◌, ◌++◌, map, min, max, ◌*◌, Option, is_none, All, Contains, IsTrue, if◌then◌else◌, nat_lt}
 use Rattle.std.specs.List.{AllPairs}
 use Rattle.relationships.specs.declared.label.End.{End}
 use Rattle.relationships.specs.declared.label.Label.{Label}
-use Rattle.tor_arena.specs.Distinct.{AllDistinct}
 use Rattle.relationships.specs.Relationship.{Orientation, Labelling, labels_of, is_over, ValleyFree, Serves}
 use Rattle.relationships.specs.declared.walk.Walk.{Walk}
 use Rattle.relationships.specs.declared.walk.Link.{Link}
 use Rattle.relationships.specs.Graph.{Edge, edge_of, edges, support, SameOn}
+use Rattle.tor_arena.specs.Distinct.{AllDistinct}
+use Rattle.relationships.specs.declared.given.Given.{Given}
+use Rattle.relationships.specs.Givens.{AgreesWith, return_of, returns, ServesWith, NameTwo, NameOnce, IsReturn, GivenClosure}
 use Rattle.relationships.specs.Preference.{IsPreferred, IsRelabelled, with_peer}
-use Rattle.relationships.specs.Evidence.{IsTriple, HasPair, Numbered, paths_of, IsLinked, Refutes, Show, Closure, IsConsistent}
+use Rattle.relationships.specs.Evidence.{IsTriple, HasPair, NeighboursDiffer, Numbered, paths_of, IsLinked, Refutes, Show, Closure, IsConsistent}
 use Rattle.relationships.specs.Selection.{IsServable, Keeps, IsForced}
 use Rattle.std.specs.List.{items_where_true}
 use Rattle.relationships.specs.Checking.{LostAreRefuted, kept_of, Claim, MarksHold, MeetsGraphRules}
@@ -37,9 +39,50 @@ abbrev pub SatisfiesTriples : Orientation → List (List ℕ) → Type 0
 SatisfiesTriples O paths =
     (x y z : ℕ) → IsTriple paths x y z → IsTrue (is_over (labels_of O) x y) → IsTrue (is_over (labels_of O) y z)
 
+-- distinct ASes differ from their neighbours
+abbrev pub DifferingLaw : Type 0
+DifferingLaw = (path : List ℕ) → AllDistinct path → NeighboursDiffer path
+
 abbrev pub ServingLaw : Type 0
 ServingLaw =
-    (O : Orientation) (paths : List (List ℕ)) → All AllDistinct paths → Serves O paths ↔ SatisfiesTriples O paths
+    (O : Orientation) (paths : List (List ℕ)) → All NeighboursDiffer paths → Serves O paths ↔ SatisfiesTriples O paths
+
+-- ---- givens: what is said of paths is said of them by their returns, which stand in front of the paths
+
+-- labels agree with the givens exactly if each return is valley-free; so an orientation agrees with them and serves some of the
+-- paths exactly if it serves the returns and these
+abbrev pub GivenServingLaw : Type 0
+GivenServingLaw =
+    (givens : List Given) (paths : List (List ℕ)) →
+    ((L : Labelling) → AgreesWith givens paths L ↔ All (ValleyFree L) (returns paths givens)) ×
+    ((O : Orientation) (some : List (List ℕ)) → ServesWith givens paths O some ↔ Serves O (returns paths givens ++ some))
+
+-- a triple of the returns is "b over a implies a over b", for a given "a over b"; so the closure by triples and givens is that by
+-- the triples of the returns and of the paths
+abbrev pub GivenClosureLaw : Type 0
+GivenClosureLaw =
+    (givens : List Given) (paths some : List (List ℕ)) →
+    ((x y z : ℕ) → IsTriple (returns paths givens ++ some) x y z ↔ (IsReturn paths givens x y z ⊎ IsTriple some x y z)) ×
+    ((a b y z : ℕ) → Closure (returns paths givens ++ some) a b y z ↔ GivenClosure givens paths some a b y z)
+
+-- behind the paths the returns add no edge, and no two neighbours on them are the same
+abbrev pub GivenEdgesLaw : Type 0
+GivenEdgesLaw =
+    (givens : List Given) (paths : List (List ℕ)) →
+    (edges (paths ++ returns paths givens) ≡ edges paths) × (NameTwo givens → All NeighboursDiffer (returns paths givens))
+
+-- where no two givens name the same two ASes, some orientation agrees with all of them, whatever the paths
+abbrev pub GivensServableLaw : Type 0
+GivensServableLaw = (givens : List Given) (paths : List (List ℕ)) → NameTwo givens → NameOnce givens → IsServable (returns paths givens)
+
+-- it is all one whether givens are served whose two are no neighbours on the paths: neither whether some orientation serves, nor
+-- whether an edge of the paths is forced
+abbrev pub AllGivensLaw : Type 0
+AllGivensLaw =
+    (givens : List Given) (paths some : List (List ℕ)) → NameTwo givens → NameOnce givens → ((e : Edge) → Contains (edges some) e → Contains (edges paths) e) →
+    (IsServable (returns paths givens ++ some) ↔ IsServable (map return_of givens ++ some)) ×
+    ((low high : ℕ) → Contains (edges paths) (low, high) →
+    IsForced (returns paths givens ++ some) low high ↔ IsForced (map return_of givens ++ some) low high)
 
 -- the second labelling says what the first says, at each of these edges that the first does not call a peering
 abbrev pub AgreesOn : List Edge → Labelling → Labelling → Type 0
@@ -68,7 +111,7 @@ RefutingLaw = (A : Numbered) (w : Walk) → Refutes A w → (O : Orientation) �
 -- an order of two ASes that is shown holds in every orientation that serves
 abbrev pub ShowingLaw : Type 0
 ShowingLaw =
-    (A : Numbered) (walks : List Walk) (orders : List (ℕ × ℕ)) → All AllDistinct (paths_of A) → Show A walks orders →
+    (A : Numbered) (walks : List Walk) (orders : List (ℕ × ℕ)) → All NeighboursDiffer (paths_of A) → Show A walks orders →
     (O : Orientation) → Serves O (paths_of A) →
     (a b : ℕ) → a ≢ b → Contains orders (a, b) → IsTrue (is_over (labels_of O) a b)
 
@@ -79,14 +122,14 @@ changed O found low high = if found low high then End.Low else (if found high lo
 -- where a closure is consistent, its orders may all be put into an orientation that serves
 abbrev pub ClosureLaw : Type 0
 ClosureLaw =
-    (O : Orientation) (paths : List (List ℕ)) (a b : ℕ) (found : ℕ → ℕ → Bool) → All AllDistinct paths →
+    (O : Orientation) (paths : List (List ℕ)) (a b : ℕ) (found : ℕ → ℕ → Bool) → All NeighboursDiffer paths →
     IsConsistent paths a b → ((y z : ℕ) → IsTrue (found y z) ↔ Closure paths a b y z) → Serves O paths →
     Serves (changed O found) paths × ((y z : ℕ) → Closure paths a b y z → IsTrue (is_over (labels_of (changed O found)) y z))
 
 -- so no order of a consistent closure is ruled out by the orientations that serve
 abbrev pub AllowedLaw : Type 0
 AllowedLaw =
-    (O : Orientation) (paths : List (List ℕ)) (a b : ℕ) → All AllDistinct paths → IsConsistent paths a b → Serves O paths →
+    (O : Orientation) (paths : List (List ℕ)) (a b : ℕ) → All NeighboursDiffer paths → IsConsistent paths a b → Serves O paths →
     (y z : ℕ) → Closure paths a b y z → ((O' : Orientation) → Serves O' paths → IsTrue (is_over (labels_of O') z y)) → ⊥
 
 -- a closure is consistent if it does not hold the other order of its own start
@@ -104,7 +147,7 @@ ImpliedLaw =
 -- where some orientation serves, an edge is not forced if neither order stands in the closure of the other
 abbrev pub LooseLaw : Type 0
 LooseLaw =
-    (paths : List (List ℕ)) (low high : ℕ) → All AllDistinct paths → IsServable paths → low < high →
+    (paths : List (List ℕ)) (low high : ℕ) → All NeighboursDiffer paths → IsServable paths → low < high →
     (Closure paths low high high low → ⊥) → (Closure paths high low low high → ⊥) → IsForced paths low high → ⊥
 
 -- nor is an edge that no path holds
@@ -126,7 +169,7 @@ ranked rank low high = if nat_lt (rank high low) (rank low high) then End.Low el
 
 abbrev pub RankLaw : Type 0
 RankLaw =
-    (paths : List (List ℕ)) (rank : ℕ → ℕ → ℕ) → All AllDistinct paths → IsRanked paths rank → Serves (ranked rank) paths
+    (paths : List (List ℕ)) (rank : ℕ → ℕ → ℕ) → All NeighboursDiffer paths → IsRanked paths rank → Serves (ranked rank) paths
 
 -- a walk from an order to its opposite, and one back, make a walk that refutes
 abbrev pub CycleLaw : Type 0
@@ -148,7 +191,7 @@ KeepingLaw =
 abbrev pub MarkingLaw : Type 0
 MarkingLaw =
     (L : Labelling) (kept : Numbered) (claims : List Claim) (whys : List Walk) (probes : List (ℕ × ℕ)) →
-    All AllDistinct (paths_of kept) → All (ValleyFree L) (paths_of kept) → MarksHold kept claims whys probes →
+    All NeighboursDiffer (paths_of kept) → All (ValleyFree L) (paths_of kept) → MarksHold kept claims whys probes →
     (c : Claim) → Contains claims c → c.low < c.high → L c.low c.high ≡ c.label →
     IsTrue c.forced ↔ IsForced (paths_of kept) c.low c.high
 

@@ -1,6 +1,9 @@
 pub mod Checking
 pub mod Evidence
 pub mod Fates
+pub mod GivenEvidence
+pub mod GivenLaws
+pub mod Givens
 pub mod Graph
 pub mod Flat
 pub mod Laws

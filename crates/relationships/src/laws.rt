@@ -1,6 +1,7 @@
 //! The laws of the definitions in `specs/`. Each is the contract of a function.
 
-ghost use Rattle.relationships.specs.Laws.{EdgeLaw, EdgeOrderLaw, ServingLaw, RelaxingLaw, PeeringLaw, ReadingLaw, RefutingLaw, ShowingLaw, ClosureLaw, AllowedLaw, ConsistencyLaw, ImpliedLaw, LooseLaw, UnheldLaw, RankLaw, CycleLaw, KeepingLaw, MarkingLaw, ForcedLaw, SelectionLaw, KeptLaw, AllKeptLaw, GraphRulesLaw, PreferenceLaw, RelabellingLaw, MaximalLaw};
+ghost use Rattle.relationships.specs.GivenLaws.{GivenLinksLaw, GivenMarksLaw, NoGivensLaw, GivenWalksLaw, GivenRulesLaw, SameClosureLaw};
+ghost use Rattle.relationships.specs.Laws.{DifferingLaw, EdgeLaw, EdgeOrderLaw, ServingLaw, GivenServingLaw, GivenClosureLaw, GivenEdgesLaw, GivensServableLaw, AllGivensLaw, RelaxingLaw, PeeringLaw, ReadingLaw, RefutingLaw, ShowingLaw, ClosureLaw, AllowedLaw, ConsistencyLaw, ImpliedLaw, LooseLaw, UnheldLaw, RankLaw, CycleLaw, KeepingLaw, MarkingLaw, ForcedLaw, SelectionLaw, KeptLaw, AllKeptLaw, GraphRulesLaw, PreferenceLaw, RelabellingLaw, MaximalLaw};
 
 /// Each edge stands once among the edges of paths, which are the pairs of neighbours on them.
 pub fn edge_law()
@@ -12,7 +13,70 @@ pub fn edge_order_law()
     ensures { EdgeOrderLaw }
 {}
 
-/// Where the ASes of each path are distinct, an orientation serves the paths exactly if it satisfies
+/// No two neighbours are the same on a path whose ASes are distinct.
+pub fn differing_law()
+    ensures { DifferingLaw }
+{}
+
+/// An orientation agrees with givens and serves paths exactly if it serves the returns of the givens
+/// and then the paths; so do labels.
+pub fn given_serving_law()
+    ensures { GivenServingLaw }
+{}
+
+/// What follows along triples and by givens is what follows along the triples of their returns and
+/// of the paths.
+pub fn given_closure_law()
+    ensures { GivenClosureLaw }
+{}
+
+/// Returns behind paths add no edge, and no two neighbours on them are the same.
+pub fn given_edges_law()
+    ensures { GivenEdgesLaw }
+{}
+
+/// Where no two givens name the same two ASes, some orientation agrees with all of them.
+pub fn givens_servable_law()
+    ensures { GivensServableLaw }
+{}
+
+/// It is all one whether givens are served whose two are no neighbours on the paths.
+pub fn all_givens_law()
+    ensures { AllGivensLaw }
+{}
+
+/// Where nothing is given, evidence with givens is evidence.
+pub fn no_givens_law()
+    ensures { NoGivensLaw }
+{}
+
+/// What walks show whose links may name a given.
+pub fn given_walks_law()
+    ensures { GivenWalksLaw }
+{}
+
+/// Evidence over rows of returns is evidence with givens, its links changed so.
+pub fn given_links_law()
+    ensures { GivenLinksLaw }
+{}
+
+/// Marks that hold over rows of returns hold with givens.
+pub fn given_marks_law()
+    ensures { GivenMarksLaw }
+{}
+
+/// What meets the rules with givens is valid.
+pub fn given_rules_law()
+    ensures { GivenRulesLaw }
+{}
+
+/// Closures that begin with an edge of the paths are the same by the returns of those givens alone
+/// whose two are neighbours.
+pub fn same_closure_law()
+    ensures { SameClosureLaw }
+{}
+
+/// Where no two neighbours on a path are the same, an orientation serves the paths exactly if it satisfies
 /// each "x over y" on to "y over z" along every triple x, y, z (Di Battista, Patrignani and
 /// Pizzonia 2003).
 pub fn serving_law()
