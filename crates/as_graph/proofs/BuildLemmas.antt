@@ -5,7 +5,7 @@ use Rattle.std.specs.List.{sum_by}
 use Rattle.std.proofs.lemmas.List.{take_all, take_more}
 use Rattle.std.proofs.lemmas.List.Elements.{All-take}
 use Rattle.std.proofs.lemmas.List.Sums.{sum_by_more_le}
-use Rattle.tor_arena.specs.Distinct.{AllDistinct}
+use Rattle.relationships.specs.Evidence.{NeighboursDiffer}
 use Rattle.relationships.specs.Graph.{Edge, edges_on, edges}
 use Rattle.as_graph.specs.declared.step.Step.{Step}
 use Rattle.as_graph.specs.Steps.{AreSteps}
@@ -58,7 +58,7 @@ IsBuilt-view paths place es rows h end two =
     paths_by_steps es paths rows two (subst (λ ps. HaveSteps es ps rows) (take_all place paths end) h.stepped)
 
 pub IsBuilt-graph : (paths : List (List ℕ)) (place : ℕ) (es : List Edge) (rows : List (List Step)) → IsBuilt paths place es rows → length paths ≤ place →
-    All (λ path. 2 ≤ length path) paths → All AllDistinct paths → length paths ≤ 2 ^ 23 → sum_by length paths ≤ 2 ^ 26 → IsGraph es rows (map (path_by es) rows)
+    All (λ path. 2 ≤ length path) paths → All NeighboursDiffer paths → length paths ≤ 2 ^ 23 → sum_by length paths ≤ 2 ^ 26 → IsGraph es rows (map (path_by es) rows)
 IsBuilt-graph paths place es rows h end two apart few short =
     let all = take_all place paths end in
     subst (IsGraph es rows) (sym (IsBuilt-view paths place es rows h end two)) (record {

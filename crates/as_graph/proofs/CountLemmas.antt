@@ -4,7 +4,7 @@ use Rattle.std.specs.List.{list_any, count_by, AllPairs}
 use Rattle.std.proofs.lemmas.Bool.{cases_Bool, cases_eq, false_from_ne_true, ne_eqb, eqb-true, or_parts, or_cases, false≢true}
 use Rattle.std.proofs.lemmas.Option.{slice_get-get_or}
 use Rattle.std.proofs.lemmas.List.{length-map, map-append, get_or-map, ext_get_or, take_more}
-use Rattle.std.proofs.lemmas.List.Elements.{All-map, All-head, All-tail}
+use Rattle.std.proofs.lemmas.List.Elements.{All-map, All-get_or, All-weaker, All-head, All-tail}
 use Rattle.std.proofs.lemmas.List.Sums.{sum_by-cons, sum_by_push, count_by-le-length}
 use Rattle.std.proofs.lemmas.Map.Keys.{IsDistinct-from_apart}
 use Rattle.std.proofs.lemmas.Map.Steps.{length-le_from_distinct_below}
@@ -104,6 +104,12 @@ steps_with es k e a (b ∷ path) (step ∷ steps) once is h =
         let s : x ≡ e = some_same is in ne_eqb (suc i) zero (λ d. absurd (omega (arith, d))) ∙ sym (subst (λ (y : Edge). is_same y f ≡ false) s (none_at x es i f once.0 h))
     same_place (x ∷ es) (suc i) (suc k) f e once h is = ne_step i k ∙ same_place es i k f e once.1 h is
 
+-- as many steps of a path have an edge as it holds that edge
+pub counts_same : (es : List Edge) (k : ℕ) (e : Edge) (path : List ℕ) (steps : List Step) → NoneTwice es → slice_get es k ≡ Some e → AreSteps es path steps →
+    count_by (λ (s : Step). nat_eq s.edge k) steps ≡ count_by (is_same e) (edges_on path)
+counts_same es k e [] steps once is h = ap (count_by (λ (s : Step). nat_eq s.edge k)) h
+counts_same es k e (a ∷ path) steps once is h = steps_with es k e a path steps once is h
+
 -- so the steps of a path with an edge are one, or none
 pub once_each : (es : List Edge) (k : ℕ) (e : Edge) (path : List ℕ) (steps : List Step) → NoneTwice es → slice_get es k ≡ Some e → AllDistinct path → AreSteps es path steps →
     count_by (λ (s : Step). nat_eq s.edge k) steps ≡ one (list_any (is_same e) (edges_on path))
@@ -158,6 +164,18 @@ support_small paths kept es n few =
     let le = count_by-le-length (λ path. list_any (is_same (get_or es k d)) (edges_on path)) (paths_at paths kept) in
     let same = length-map kept (path_at paths) in
     omega (arith, le, same, few))
+
+-- what holds of the paths at some places holds of each
+pub at_place : (P : List ℕ → Type 0) (paths : List (List ℕ)) (kept : List ℕ) → All P (paths_at paths kept) → (k d : ℕ) → k < length kept → P (path_at paths (get_or kept k d))
+at_place P paths kept all k d lt =
+    let many = length-map kept (path_at paths) in
+    subst P (get_or-map (path_at paths) kept k d [] lt) (All-get_or P (paths_at paths kept) k [] (omega (arith, many, lt)) all)
+
+-- what holds of all paths holds of those at some places
+pub all_places : (P : List ℕ → Type 0) (paths : List (List ℕ)) (kept : List ℕ) → All P paths → All (λ place. place < length paths) kept → All P (paths_at paths kept)
+all_places P paths kept all there =
+    All-map P (path_at paths) kept
+    (All-weaker (λ place. place < length paths) (λ place. P (path_at paths place)) (λ place below. All-get_or P paths place [] below all) kept there)
 
 any_below : (xs : List ℕ) (n q : ℕ) → All (λ x. x < n) xs → list_any (nat_eq q) xs ≡ true → q < n
 any_below [] n q below h = absurd (false≢true h)

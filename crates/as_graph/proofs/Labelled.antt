@@ -5,7 +5,8 @@ use Rattle.std.proofs.lemmas.Bool.{cases_Bool, cases_order, or_parts}
 use Rattle.std.proofs.lemmas.Option.{slice_get_within}
 use Rattle.relationships.specs.declared.label.End.{End}
 use Rattle.relationships.specs.declared.label.Label.{Label}
-use Rattle.tor_arena.specs.Distinct.{AllDistinct}
+use Rattle.relationships.specs.Evidence.{NeighboursDiffer}
+use Rattle.relationships.proofs.Serving.{NeighboursDiffer-tail}
 use Rattle.relationships.specs.Relationship.{Labelling, Slope, is_low, is_high, is_over, slope, slopes_from, slopes}
 use Rattle.relationships.specs.Graph.{Edge, is_same, distinct, orientation, labelling}
 use Rattle.relationships.proofs.Slopes.{over-low, over-high, slope-up, slope-down}
@@ -111,15 +112,15 @@ module _ (es : List Edge) (labels : List Label) (once : NoneTwice es) (each : le
       pair : ℕ → ℕ → Edge
       pair x y = (x, y)
 
-  slopes-from_steps : (a : ℕ) (path : List ℕ) (steps : List Step) → AllDistinct (a ∷ path) → AreStepsFrom es a path steps →
+  slopes-from_steps : (a : ℕ) (path : List ℕ) (steps : List Step) → NeighboursDiffer (a ∷ path) → AreStepsFrom es a path steps →
       slopes_from (labelling es labels) a path ≡ slopes_by labels steps
   slopes-from_steps a [] [] apart h = refl
   slopes-from_steps a [] (step ∷ steps) apart h = absurd h
   slopes-from_steps a (b ∷ path) [] apart h = absurd h
   slopes-from_steps a (b ∷ path) (step ∷ steps) apart h =
-      ap₂ (λ s (ss : List Slope). s ∷ ss) (slope-step a b step (apart 0 1 0 (omega arith) (omega arith)) h.0)
-      (slopes-from_steps b path steps (λ i j d lt within. apart (suc i) (suc j) d (omega arith) (omega arith)) h.1)
+      ap₂ (λ s (ss : List Slope). s ∷ ss) (slope-step a b step (apart.differ a b ([], path, refl)) h.0)
+      (slopes-from_steps b path steps (NeighboursDiffer-tail a (b ∷ path) apart) h.1)
 
-  pub slopes-steps : (path : List ℕ) (steps : List Step) → AllDistinct path → AreSteps es path steps → slopes (labelling es labels) path ≡ slopes_by labels steps
+  pub slopes-steps : (path : List ℕ) (steps : List Step) → NeighboursDiffer path → AreSteps es path steps → slopes (labelling es labels) path ≡ slopes_by labels steps
   slopes-steps [] steps apart h = ap (slopes_by labels) (sym h)
   slopes-steps (a ∷ path) steps apart h = slopes-from_steps a path steps apart h

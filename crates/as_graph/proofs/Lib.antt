@@ -6,4 +6,5 @@ pub mod EdgeLemmas
 pub mod EdgeNumbers
 pub mod Falling
 pub mod Labelled
+pub mod ReturnLemmas
 pub mod StepLemmas

@@ -5,6 +5,8 @@ use Rattle.std.proofs.lemmas.List.Elements.{All-from_recursion}
 use Rattle.relationships.specs.declared.label.End.{End}
 use Rattle.relationships.specs.declared.label.Label.{Label}
 use Rattle.tor_arena.specs.Distinct.{AllDistinct}
+use Rattle.relationships.specs.Evidence.{NeighboursDiffer}
+use Rattle.relationships.proofs.Serving.{all_differ_if_distinct}
 use Rattle.relationships.specs.Relationship.{Labelling, is_over, slope, ValleyFree}
 use Rattle.relationships.specs.Graph.{Edge, edges, degree, support, labelling}
 use Rattle.tor_arena.proofs.DistinctLemmas.{AllDistinct-from_test}
@@ -79,6 +81,9 @@ upwards = (2, 0, inl refl)
 pub three_several : All (λ path. 2 ≤ length path) three
 three_several = All-from_recursion (λ path. 2 ≤ length path) three (lit≤ tt, (lit≤ tt, (lit≤ tt, tt)))
 
-pub three_apart : All AllDistinct three
-three_apart =
+three_distinct : All AllDistinct three
+three_distinct =
     All-from_recursion AllDistinct three (AllDistinct-from_test first refl, (AllDistinct-from_test second refl, (AllDistinct-from_test third refl, tt)))
+
+pub three_apart : All NeighboursDiffer three
+three_apart = all_differ_if_distinct three three_distinct

@@ -1,12 +1,14 @@
 -- What the fields of a graph hold.
-use Rattle.std.specs.Prelude.{◌≡◌, ℕ, ◌+◌, ◌<◌, ◌≤◌, ◌^◌, ◌||◌, ◌==◌, Bool, List, [], ◌∷◌, ◌++◌, All, length, map, sum_by, count_by, slice_index_or, unwrap_or, nat_eq, if◌then◌else◌}
+use Rattle.std.specs.Prelude.{◌≡◌, ℕ, ◌+◌, ◌<◌, ◌≤◌, ◌^◌, ◌||◌, ◌==◌, Bool, List, [], ◌∷◌, ◌++◌, All, length, map, sum_by, count_by, filter, slice_index_or, unwrap_or, nat_eq, if◌then◌else◌}
 use Rattle.std.specs.List.{list_any}
 use Rattle.std.specs.Map.{lookup}
 use Rattle.relationships.specs.declared.label.End.{End}
-use Rattle.tor_arena.specs.Distinct.{AllDistinct}
+use Rattle.relationships.specs.Evidence.{NeighboursDiffer}
 use Rattle.tor_numbers.specs.EdgeNumbers.{edge_numbered}
 use Rattle.relationships.specs.Relationship.{opposite}
-use Rattle.relationships.specs.Graph.{Edge, is_same, edges}
+use Rattle.relationships.specs.declared.given.Given.{Given}
+use Rattle.relationships.specs.Givens.{return_of}
+use Rattle.relationships.specs.Graph.{Edge, edge_of, is_same, edges}
 use Rattle.as_graph.specs.declared.step.Step.{Step}
 use Rattle.as_graph.specs.Steps.{AreSteps}
 
@@ -63,8 +65,6 @@ abbrev pub path_by : List Edge → List Step → List ℕ
 path_by es [] = []
 path_by es (step ∷ steps) = left_as es step ∷ map (next_as es) (step ∷ steps)
 
--- ---- a graph
-
 -- the paths have these steps, one list for each
 abbrev pub HaveSteps : List Edge → List (List ℕ) → List (List Step) → Type 0
 HaveSteps es [] [] = Unit {0}
@@ -72,10 +72,28 @@ HaveSteps es [] (steps ∷ rows) = ⊥
 HaveSteps es (path ∷ paths) [] = ⊥
 HaveSteps es (path ∷ paths) (steps ∷ rows) = AreSteps es path steps × HaveSteps es paths rows
 
+-- ---- returns of givens
+
+-- the two of the given are an edge
+abbrev pub is_named : List Edge → Given → Bool
+is_named es g = list_any (is_same (edge_of g.over g.under)) es
+
+-- the returns of those givens whose two are an edge
+abbrev pub returns_among : List Edge → List Given → List (List ℕ)
+returns_among es givens = map return_of (filter (is_named es) givens)
+
+-- the steps of these returns were added behind the others
+pub record AddsReturns (es : List Edge) (givens : List Given) (old new : List (List Step)) : Type 0 where
+  pub added : List (List Step)
+  pub whole : new ≡ old ++ added
+  pub stepped : HaveSteps es (returns_among es givens) added
+
+-- ---- a graph
+
 pub record IsGraph (es : List Edge) (rows : List (List Step)) (paths : List (List ℕ)) : Type 0 where
   pub same : es ≡ edges paths
   pub stepped : HaveSteps es paths rows
   pub several : All (λ path. 2 ≤ length path) paths
-  pub apart : All AllDistinct paths
+  pub apart : All NeighboursDiffer paths
   pub few : length paths ≤ 2 ^ 23
   pub short : sum_by length paths ≤ 2 ^ 26

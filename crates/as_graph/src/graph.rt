@@ -1,6 +1,7 @@
 ghost use Rattle.std.specs.Prelude.{◌≡◌, ◌≢◌, ◌+◌, ◌<◌, ◌≤◌, ◌^◌, ◌↔◌, All, length, map, sum_by, slice_get, IsTrue, IsFalse, IsNone, IfSome, IfOk};
 ghost use Rattle.std.specs.List.{AllPairs};
 ghost use Rattle.tor_arena.specs.Distinct.{AllDistinct};
+ghost use Rattle.relationships.specs.Evidence.{NeighboursDiffer};
 ghost use Rattle.relationships.specs.Relationship.{ValleyFree};
 ghost use Rattle.relationships.specs.Graph.{edge_of, edges, degree, support, labelling};
 ghost use Rattle.as_graph.specs.Paths.{path_at, paths_at, is_edge};
@@ -25,7 +26,7 @@ pub struct Edge {
     ghost ordered: { low < high },
 }
 
-/// The graph of a list of paths, seen as that list: each has at least two ASes, all distinct.
+/// The graph of a list of paths, seen as that list: each has at least two ASes, and no two neighbours on it are the same.
 #[derive(Drop)]
 pub struct AsGraph {
     pub(crate) table: EdgeTable,
@@ -45,11 +46,11 @@ impl Model for AsGraph {
 }
 
 impl AsGraph {
-    /// What is true of every graph: its paths have at least two ASes each, all distinct; there are at most 2^23 of them, with at
+    /// What is true of every graph: its paths have at least two ASes each, no two neighbours the same; there are at most 2^23 of them, with at
     /// most 2^26 numbers in sum, and so fewer than 2^26 edges. It takes no memory.
     pub fn facts(&self)
         ensures several { All (λ path. 2 ≤ length path) self.now }
-        ensures apart { All AllDistinct self.now }
+        ensures apart { All NeighboursDiffer self.now }
         ensures paths { length self.now ≤ 2 ^ 23 }
         ensures numbers { sum_by length self.now ≤ 2 ^ 26 }
         ensures edges { length (edges self.now) < 2 ^ 26 }
@@ -108,11 +109,12 @@ impl AsGraph {
         self.rows.row(path)
     }
 
-    /// How many of the kept paths hold each edge, in the order of the edges. The kept paths have to be there, no two the same.
-    /// The only error is that memory ran out.
+    /// How many of the kept paths hold each edge, in the order of the edges. The kept paths have to be there, no two the same,
+    /// and each of distinct ASes. The only error is that memory ran out.
     pub fn support(&self, alloc: Global, kept: &[PathId]) -> Result<List<u32>, NoMemory>
         requires there { All (λ path. path < length self.now) kept.now }
         requires once { AllPairs ◌≢◌ kept.now }
+        requires distinct { All AllDistinct (paths_at self.now kept.now) }
         ensures { IfOk result (λ counts. counts ≡ map (support (paths_at self.now kept.now)) (edges self.now)) }
     {
         self.facts();

@@ -12,7 +12,7 @@ mod step;
 mod tests;
 mod valley;
 
-pub use building::build;
+pub use building::{build, build_with};
 pub use graph::{AsGraph, Edge};
 pub use per_edge::{Labels, Orientation};
 pub use step::Step;

@@ -1,6 +1,13 @@
-use Rattle.std.proofs.Common.{◌+◌, subst, sym, arith}
+use Rattle.std.proofs.Common.{rules, ◌+◌, ◌<◌, length, subst, sym, arith}
+use Rattle.relationships.proofs.Serving.{differ_before}
 use Rattle.as_graph.proofs.StepLemmas.{Walked, Walked-room, Walked-more}
 use Rattle.as_graph.proofs.building.add_steps.Goals as goal
+
+pub add_step-requires-clause-apart : goal.add_step-requires-clause-apart
+add_step-requires-clause-apart c =
+    let low : 0 < c.loop-at.at = search rules in
+    let high : c.loop-at.at < length c.args.path.now = search rules in
+    differ_before c.args.path.now c.loop-at.at 0 c.requires.apart low high
 
 pub add_step-requires-clause-room : goal.add_step-requires-clause-room
 add_step-requires-clause-room c =

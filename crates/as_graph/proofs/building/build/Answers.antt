@@ -1,5 +1,9 @@
 use Rattle.std.proofs.Common.{rules, ◌≡◌, ◌+◌, ◌≤◌, ◌∙◌, ◌++◌, ◌∷◌, [], Some, slice_get, subst, sym, ap}
+use Rattle.tor_arena.specs.Distinct.{AllDistinct}
 use Rattle.relationships.specs.Graph.{edges_on}
+use Rattle.relationships.proofs.Serving.{differ_if_distinct, all_differ_if_distinct}
+use Rattle.std.proofs.lemmas.Option.{get_or_from_slice_get, slice_get_within}
+use Rattle.std.proofs.lemmas.List.Elements.{All-get_or}
 use Rattle.as_graph.specs.Steps.{AreSteps}
 use Rattle.as_graph.specs.Inside.{with_edges}
 use Rattle.as_graph.proofs.BuildLemmas.{IsBuilt, IsBuilt-few, IsBuilt-room, IsBuilt-more, IsBuilt-view, IsBuilt-graph}
@@ -10,6 +14,15 @@ add_steps-requires-clause-room c =
     let placed : c.unwrap-path.result ≡ c.loop-place.place = search rules in
     let there : slice_get c.args.paths.now c.loop-place.place ≡ Some c.row.result.now = subst (λ k. slice_get c.args.paths.now k ≡ Some c.row.result.now) placed c.row.ensures in
     IsBuilt-room c.args.paths.now c.loop-place.place c.loop-place.table c.loop-place.rows c.row.result.now c.loop-place.invariant there c.requires.several c.requires.short
+
+pub add_steps-requires-clause-apart : goal.add_steps-requires-clause-apart
+add_steps-requires-clause-apart c =
+    let placed : c.unwrap-path.result ≡ c.loop-place.place = search rules in
+    let there : slice_get c.args.paths.now c.loop-place.place ≡ Some c.row.result.now = subst (λ k. slice_get c.args.paths.now k ≡ Some c.row.result.now) placed c.row.ensures in
+    let within = slice_get_within c.args.paths.now c.loop-place.place c.row.result.now there in
+    differ_if_distinct c.row.result.now
+    (subst AllDistinct (get_or_from_slice_get c.args.paths.now c.loop-place.place c.row.result.now [] there)
+    (All-get_or AllDistinct c.args.paths.now c.loop-place.place [] within c.requires.apart))
 
 pub add_row-requires : goal.add_row-requires
 add_row-requires c = IsBuilt-few c.args.paths.now c.loop-place.place c.loop-place.table c.loop-place.rows c.loop-place.invariant c.requires.few
@@ -31,7 +44,7 @@ loop-place-preserved c =
 pub invariant_of-result : goal.invariant_of-result
 invariant_of-result c =
     IsBuilt-graph c.args.paths.now c.loop-place.place c.loop-place.table c.loop-place.rows c.loop-place.invariant
-    (subst (λ n. n ≤ c.loop-place.place) c.len-place-end.ensures.length c.loop-place-test.false) c.requires.several c.requires.apart c.requires.few c.requires.short
+    (subst (λ n. n ≤ c.loop-place.place) c.len-place-end.ensures.length c.loop-place-test.false) c.requires.several (all_differ_if_distinct c.args.paths.now c.requires.apart) c.requires.few c.requires.short
 
 pub returns : goal.returns
 returns c = IsBuilt-view c.args.paths.now c.loop-place.place _ c.loop-place.rows c.loop-place.invariant

@@ -1,12 +1,11 @@
 use Rattle.std.proofs.Common.{◌≡◌, ◌<◌, ◌≤◌, ◌^◌, [], length, take, replicate, rules, subst, sym, arith, All, length-take}
 use Rattle.std.specs.List.{flat_map}
-use Rattle.std.proofs.lemmas.List.Elements.{All-get_or}
 use Rattle.std.proofs.lemmas.List.Sums.{get_or-le-sum_by}
 use Rattle.tor_arena.specs.Distinct.{AllDistinct}
 use Rattle.relationships.specs.Graph.{edges, edges_on}
 use Rattle.as_graph.specs.Paths.{path_at}
 use Rattle.as_graph.proofs.Labelled.{NoneTwice-distinct}
-use Rattle.as_graph.proofs.CountLemmas.{counts_begin, counts_more, support_small, distinct_below}
+use Rattle.as_graph.proofs.CountLemmas.{at_place, counts_begin, counts_more, support_small, distinct_below}
 use Rattle.as_graph.proofs.graph.AsGraph.support.Goals as goal
 
 pub loop-path-init : goal.loop-path-init
@@ -40,7 +39,8 @@ loop-path-preserved c =
     let kept = c.args.kept.now in
     let id = c.path-item.result in
     let within : id < length paths = subst (λ k. k < length paths) (sym c.path-item.is) (c.requires.there c.loop-path.path-index id c.loop-path-test.true) in
-    let apart : AllDistinct (path_at paths id) = All-get_or AllDistinct paths id [] within c.facts.ensures.apart in
+    let apart : AllDistinct (path_at paths id) =
+    subst (λ k. AllDistinct (path_at paths k)) (sym c.path-item.is) (at_place AllDistinct paths kept c.requires.distinct c.loop-path.path-index id c.loop-path-test.true) in
     counts_more paths kept c.loop-path.path-index id (edges paths) c.steps.result.now c.loop-path.counts.items c.count_steps.new.counts.items
     (NoneTwice-distinct (flat_map edges_on paths)) c.loop-path-test.true (sym c.path-item.is) apart c.steps.ensures.steps c.loop-path.invariant
     c.count_steps.ensures.length c.count_steps.ensures.counted
