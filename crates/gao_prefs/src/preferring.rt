@@ -97,11 +97,12 @@ fn sort_by_lead(prefs: &mut Vec<Pref>)
 }
 
 /// What each edge prefers after the votes of the kept paths, one preference for each edge, in the order in which edges are settled:
-/// by falling absolute lean, and at equal absolute lean in the order of the edges. The kept paths have to be there, no two the same.
-/// The only error is that memory ran out.
+/// by falling absolute lean, and at equal absolute lean in the order of the edges. The kept paths have to be there, no two the same,
+/// and each of distinct ASes. The only error is that memory ran out.
 pub fn preferences(alloc: Global, graph: &AsGraph, kept: &[PathId]) -> Result<List<Pref>, NoMemory>
     requires there { All (λ path. path < length graph.now) kept.now }
     requires once { AllPairs ◌≢◌ kept.now }
+    requires distinct { All AllDistinct (paths_at graph.now kept.now) }
     ensures count { IfOk result (λ prefs. length prefs ≡ length (edges graph.now)) }
     ensures inside { IfOk result (λ prefs. All (λ pref. pref.edge < length (edges graph.now)) prefs) }
     ensures apart { IfOk result (λ prefs. AllDistinct (map (λ pref. pref.edge) prefs)) }

@@ -1,6 +1,7 @@
 ghost use Rattle.std.specs.Prelude.{◌≡◌, ◌≢◌, ◌+◌, ◌<◌, ◌≤◌, ◌^◌, ◌&&◌, ℕ, All, length, map, count_by, nat_eq, if◌then◌else◌, IfOk};
 ghost use Rattle.std.specs.List.{AllPairs};
 ghost use Rattle.relationships.specs.declared.label.End.{End};
+ghost use Rattle.tor_arena.specs.Distinct.{AllDistinct};
 ghost use Rattle.relationships.specs.Graph.{edges, degree};
 ghost use Rattle.as_graph.specs.Paths.{paths_at};
 ghost use Rattle.gao_prefs.specs.Ends.{same_end, number_at, degrees_of, is_vote, ballots, votes_of};
@@ -71,6 +72,7 @@ pub(crate) fn count_votes(
 ) -> Result<Vec<PerEnd>, NoMemory>
     requires there { All (λ path. path < length graph.now) kept.now }
     requires once { AllPairs ◌≢◌ kept.now }
+    requires distinct { All AllDistinct (paths_at graph.now kept.now) }
     requires known { degrees.now ≡ map (degrees_of graph.now) (edges graph.now) }
     ensures counted { IfOk result (λ votes.
         votes.items ≡ map (votes_of (degree graph.now) (paths_at graph.now kept.now)) (edges graph.now)) }

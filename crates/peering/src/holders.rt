@@ -1,6 +1,6 @@
 ghost use Rattle.std.specs.Prelude.{◌≡◌, ◌<◌, ◌⊎◌, ◌++◌, ◌∷◌, [], ℕ, All, Contains, length, replicate, slice_set, slice_index_or, IsTrue, IsFalse, false, IfOk, OnOk};
 ghost use Rattle.relationships.specs.Graph.{edges};
-ghost use Rattle.peering.specs.Peerings.{holds, IsAdded};
+ghost use Rattle.peering.specs.Peerings.{holds, HasStep, IsAdded};
 
 use as_graph::{AsGraph, Step};
 use std::alloc::Global;
@@ -56,7 +56,7 @@ fn add_along(
     ensures kept { OnOk result ((k q : ℕ) → Contains (slice_index_or lists.old.items k []) q →
         Contains (slice_index_or lists.new.items k []) q) }
     ensures inside { OnOk result ((k q : ℕ) → Contains (slice_index_or lists.new.items k []) q →
-        Contains (slice_index_or lists.old.items k []) q ⊎ (q ≡ path)) }
+        Contains (slice_index_or lists.old.items k []) q ⊎ ((q ≡ path) × HasStep steps.now k)) }
     ensures added { OnOk result (All (λ step. IsFalse (slice_index_or excluded.now step.edge false) →
         Contains (slice_index_or lists.new.items step.edge []) path) steps.now) }
 {
@@ -67,7 +67,7 @@ fn add_along(
     Ok(())
 }
 
-/// For each edge a list of kept paths, on which each kept path stands that holds it, unless it is excluded. The only error is that memory
+/// For each edge a list of kept paths that hold it, on which each of these stands unless the edge is excluded. The only error is that memory
 /// ran out.
 pub(crate) fn paths_by_edge(
     alloc: Global,
@@ -78,12 +78,12 @@ pub(crate) fn paths_by_edge(
     requires there { All (λ path. path < length graph.now) kept.now }
     requires excluded { length excluded.now ≡ length (edges graph.now) }
     ensures many { IfOk result (λ lists. length lists.items ≡ length (edges graph.now)) }
-    ensures inside { IfOk result (λ lists. (k q : ℕ) → Contains (slice_index_or lists.items k []) q → Contains kept.now q) }
+    ensures inside { IfOk result (λ lists. (k q : ℕ) → k < length (edges graph.now) → Contains (slice_index_or lists.items k []) q →
+        Contains kept.now q × IsTrue (holds graph.now q k)) }
     ensures all { IfOk result (λ lists. (k q : ℕ) → k < length (edges graph.now) →
         IsFalse (slice_index_or excluded.now k false) → Contains kept.now q → IsTrue (holds graph.now q k) →
         Contains (slice_index_or lists.items k []) q) }
 {
-    graph.facts();
     let mut lists = no_paths(alloc, graph.edge_count())?;
     for path in kept {
         add_along(&mut lists, graph.steps(*path), *path, excluded)?;

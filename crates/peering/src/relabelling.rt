@@ -64,14 +64,13 @@ fn offer(graph: &AsGraph, labels: &mut Labels, edge: EdgeId, paths: &[PathId])
     }
 }
 
-/// Settles an edge that so many kept paths hold: it becomes a peering if it is not excluded, its ends are alike in degree, and no path
-/// of the list then has a valley.
+/// Settles an edge: it becomes a peering if it is not excluded, the list has a path, its ends are alike in degree, and no path of the
+/// list then has a valley.
 fn settle(
     graph: &AsGraph,
     labels: &mut Labels,
     edge: EdgeId,
     excluded: bool,
-    support: u32,
     paths: &[PathId],
     ratio: u32,
 )
@@ -79,9 +78,9 @@ fn settle(
     requires edge { edge < length (edges graph.now) }
     requires there { All (λ path. path < length graph.now) paths.now }
     requires small { ratio ≤ 1000000 }
-    ensures { IsSettled graph.now ratio excluded support paths.now edge labels.old labels.new }
+    ensures { IsSettled graph.now ratio excluded paths.now edge labels.old labels.new }
 {
-    if !excluded && support > 0 && is_alike(graph, edge, ratio) {
+    if !excluded && !paths.is_empty() && is_alike(graph, edge, ratio) {
         offer(graph, labels, edge, paths);
     }
 }
@@ -113,20 +112,17 @@ pub fn relabel(
         (labelling (edges graph.now) labels)) }
 {
     graph.facts();
-    let counts = graph.support(alloc, kept)?;
     let ends = orientation.as_slice();
     let excluded = exclusions(alloc, graph, kept, ends)?;
     let lists = paths_by_edge(alloc, graph, kept, excluded.as_slice())?;
     let mut labels = first_labels(alloc, ends)?;
     for place in 0..graph.edge_count() {
         let edge = EdgeId::from_place(place).unwrap();
-        let support = counts.as_slice()[place];
         settle(
             graph,
             &mut labels,
             edge,
             excluded[place],
-            support,
             lists[place].as_slice(),
             ratio,
         );

@@ -2,7 +2,7 @@ use Rattle.std.proofs.Common.{◌≡◌, ◌<◌, ◌≤◌, ◌+◌, ◌∙◌,
 use Rattle.std.proofs.lemmas.List.Elements.{All-get_or}
 use Rattle.tor_arena.specs.Distinct.{AllDistinct}
 use Rattle.as_graph.specs.Paths.{path_at}
-use Rattle.as_graph.proofs.CountLemmas.{distinct_below}
+use Rattle.as_graph.proofs.CountLemmas.{distinct_below, at_place}
 use Rattle.gao_prefs.specs.declared.per_end.PerEnd.{PerEnd}
 use Rattle.gao_prefs.specs.Ends.{number_at, ballots}
 use Rattle.gao_prefs.proofs.VoteLemmas.{counts_begin, counts_more}
@@ -27,7 +27,8 @@ loop-path-preserved c =
     let kept = c.args.kept.now in
     let id = c.path-item.result in
     let within : id < length paths = subst (λ k. k < length paths) (sym c.path-item.is) (c.requires.there c.loop-path.path-index id c.loop-path-test.true) in
-    let apart : AllDistinct (path_at paths id) = All-get_or AllDistinct paths id [] within c.facts.ensures.apart in
+    let apart : AllDistinct (path_at paths id) =
+    subst (λ k. AllDistinct (path_at paths k)) (sym c.path-item.is) (at_place AllDistinct paths kept c.requires.distinct c.loop-path.path-index id c.loop-path-test.true) in
     let two : 2 ≤ length (path_at paths id) = All-get_or (λ path. 2 ≤ length path) paths id [] within c.facts.ensures.several in
     let known = c.requires.known in
     counts_more paths kept c.loop-path.path-index id c.steps.result.now c.loop-path.votes.items c.vote_path.new.votes.items c.loop-path-test.true (sym c.path-item.is) two apart c.steps.ensures.steps

@@ -1,7 +1,7 @@
-use Rattle.std.proofs.Common.{◌<◌, ◌≤◌, [], length, get_or, rules, sym, subst, arith, All, Contains, IsFalse, false}
+use Rattle.std.proofs.Common.{◌<◌, ◌≤◌, inl, inr, List, [], length, get_or, rules, sym, subst, arith, All, Contains, IsFalse, false}
 use Rattle.std.proofs.lemmas.List.{take_all}
 use Rattle.as_graph.specs.declared.step.Step.{Step}
-use Rattle.peering.specs.Peerings.{IsAdded}
+use Rattle.peering.specs.Peerings.{HasStep, IsAdded}
 use Rattle.peering.proofs.Holding.{listed_none, listed_more}
 use Rattle.peering.proofs.holders.add_along.Goals as goal
 
@@ -18,6 +18,13 @@ loop-step-preserved c =
     listed_more c.args.excluded.now c.args.lists.now.items c.loop-step.lists.items c.add_unless_excluded.new.lists.items c.args.path c.args.steps.now
     c.loop-step.step-index c.step-item.result c.loop-step-test.true (sym c.step-item.is) within
     added c.loop-step.invariant
+
+pub returns-clause-inside : goal.returns-clause-inside
+returns-clause-inside c = λ k q h.
+    let test = c.loop-step-test.false in
+    let le : length c.args.steps.now ≤ c.loop-step.step-index = omega (arith, test) in
+    let all = take_all c.loop-step.step-index c.args.steps.now le in
+    elim (c.loop-step.invariant.inside k q h) [ inl old ↦ inl old | inr e ↦ inr (e.0, subst (λ (l : List Step). HasStep l k) all e.1) ]
 
 pub returns-clause-added : goal.returns-clause-added
 returns-clause-added c =

@@ -1,8 +1,5 @@
-use Rattle.std.proofs.Common.{◌<◌, ◌≤◌, [], length, sym, subst, arith, Contains}
+use Rattle.std.proofs.Common.{◌≤◌, length, sym, subst, arith, Contains}
 use Rattle.std.proofs.lemmas.List.{take_all}
-use Rattle.std.proofs.lemmas.List.Elements.{All-get_or}
-use Rattle.tor_arena.specs.Distinct.{AllDistinct}
-use Rattle.as_graph.specs.Paths.{path_at}
 use Rattle.peering.proofs.Holding.{held_more}
 use Rattle.peering.proofs.holders.paths_by_edge.Goals as goal
 
@@ -11,10 +8,8 @@ loop-path-preserved c =
     let paths = c.args.graph.now in
     let kept = c.args.kept.now in
     let id = c.path-item.result in
-    let within : id < length paths = subst (λ k. k < length paths) (sym c.path-item.is) (c.requires.there c.loop-path.path-index id c.loop-path-test.true) in
-    let apart : AllDistinct (path_at paths id) = All-get_or AllDistinct paths id [] within c.facts.ensures.apart in
     held_more c.args.excluded.now paths kept c.loop-path.path-index id c.steps.result.now c.loop-path.lists.items c.add_along.new.lists.items
-    c.loop-path-test.true (sym c.path-item.is) apart c.steps.ensures.steps
+    c.loop-path-test.true (sym c.path-item.is) c.steps.ensures.steps
     (record { long = c.in_ok-add_along.ensures.length; stay = c.in_ok-add_along.ensures.kept; inside = c.in_ok-add_along.ensures.inside; added = c.in_ok-add_along.ensures.added })
     c.loop-path.invariant
 

@@ -1,11 +1,11 @@
 use Rattle.std.proofs.Common.{rules, ◌≡◌, false, List, ◌<◌, [], length, get_or, map, sym, ap, ◌∙◌, subst, arith, Contains}
 use Rattle.std.specs.List.{flat_map}
 use Rattle.std.proofs.lemmas.Option.{slice_get-get_or}
-use Rattle.std.proofs.lemmas.List.{length-map, get_or-map, get_or_default}
+use Rattle.std.proofs.lemmas.List.{length-map, get_or_default}
 use Rattle.std.proofs.lemmas.List.Elements.{All-contains, Contains-get_or}
 use Rattle.relationships.specs.declared.label.End.{End}
 use Rattle.relationships.specs.Relationship.{label_of}
-use Rattle.relationships.specs.Graph.{Edge, edges, edges_on, degree, support, orientation, labelling}
+use Rattle.relationships.specs.Graph.{Edge, edges, edges_on, degree, orientation, labelling}
 use Rattle.relationships.proofs.Edges.{peering_law}
 use Rattle.relationships.proofs.Preferring.{maximal_law}
 use Rattle.as_graph.specs.Paths.{paths_at}
@@ -33,15 +33,15 @@ loop-place-init c =
 
 pub settle-requires-clause-there : goal.settle-requires-clause-there
 settle-requires-clause-there c = λ k d lt.
-    let places = c.as_slice-in-loop-place-2.result.now in
+    let places = c.as_slice-in-loop-place.result.now in
     let test = c.loop-place-test.true in
     let count = c.edge_count-place-end.ensures.count in
     let many = c.in_ok-lists.ensures.many in
     let within : c.loop-place.place < length c.in_ok-lists.lists.items = omega (arith, test, count, many) in
     let is : places ≡ get_or c.in_ok-lists.lists.items c.loop-place.place [] =
-    c.as_slice-in-loop-place-2.ensures ∙ c.index-in-loop-place.ensures ∙ get_or_default c.in_ok-lists.lists.items c.loop-place.place c.index-in-loop-place.result.now [] within in
+    c.as_slice-in-loop-place.ensures ∙ c.index-in-loop-place.ensures ∙ get_or_default c.in_ok-lists.lists.items c.loop-place.place c.index-in-loop-place.result.now [] within in
     All-contains (λ q. q < length c.args.graph.now) c.args.kept.now (get_or places k d) c.requires.there
-    (c.in_ok-lists.ensures.inside c.loop-place.place (get_or places k d) (subst (λ l. Contains l (get_or places k d)) is (Contains-get_or places k d lt)))
+    (c.in_ok-lists.ensures.inside c.loop-place.place (get_or places k d) (omega (arith, test, count)) (subst (λ l. Contains l (get_or places k d)) is (Contains-get_or places k d lt))).0
 
 pub loop-place-preserved : goal.loop-place-preserved
 loop-place-preserved c =
@@ -50,27 +50,24 @@ loop-place-preserved c =
     let ratio = c.args.ratio in
     let es = edges paths in
     let place = c.loop-place.place in
-    let places = c.as_slice-in-loop-place-2.result.now in
+    let places = c.as_slice-in-loop-place.result.now in
     let same : c.unwrap-edge.result ≡ place = search rules in
     let test = c.loop-place-test.true in
     let many = c.edge_count-place-end.ensures.count in
     let lt : place < length es = omega (arith, test, many) in
     let e : Edge = get_or es place (0, 0) in
-    let count = get_or c.as_slice-in-loop-place.result.now place 0 in
-    let held : count ≡ support (paths_at paths kept) e =
-    ap (λ l. get_or l place 0) (c.as_slice-in-loop-place.ensures ∙ c.in_ok-counts.ensures) ∙ get_or-map (support (paths_at paths kept)) es place (0, 0) 0 lt in
     let lists = c.in_ok-lists.ensures.many in
     let is : places ≡ get_or c.in_ok-lists.lists.items place [] =
-    c.as_slice-in-loop-place-2.ensures ∙ c.index-in-loop-place.ensures ∙ get_or_default c.in_ok-lists.lists.items place c.index-in-loop-place.result.now [] (omega (arith, lt, lists)) in
+    c.as_slice-in-loop-place.ensures ∙ c.index-in-loop-place.ensures ∙ get_or_default c.in_ok-lists.lists.items place c.index-in-loop-place.result.now [] (omega (arith, lt, lists)) in
     let excluded = c.index.result.now in
     let exclusions = c.in_ok-excluded.ensures.long in
     let is_excluded : excluded ≡ get_or c.in_ok-excluded.excluded.items place false = c.index.ensures ∙ get_or_default c.in_ok-excluded.excluded.items place excluded false (omega (arith, lt, exclusions)) in
-    settled_next paths kept ratio c.args.orientation.now c.requires.there c.facts.ensures.apart c.requires.ends place e excluded count places
-    c.loop-place.labels (slice_get-get_or es place (0, 0) lt) held
-    (λ q at. c.in_ok-lists.ensures.inside place q (subst (λ l. Contains l q) is at))
+    settled_next paths kept ratio c.args.orientation.now c.requires.there c.facts.ensures.apart c.requires.ends place e excluded places
+    c.loop-place.labels (slice_get-get_or es place (0, 0) lt)
+    (λ q at. c.in_ok-lists.ensures.inside place q lt (subst (λ l. Contains l q) is at))
     (λ f q at t. subst (λ l. Contains l q) (sym is) (c.in_ok-lists.ensures.all place q lt (ap (λ l. get_or l place false) c.as_slice.ensures.value ∙ sym is_excluded ∙ f) at t))
     (λ t. subst (λ (l : List End). IsExcluded paths kept l place) c.as_slice-ends.ensures (c.in_ok-excluded.ensures.excluded place (sym is_excluded ∙ t)))
-    c.loop-place.invariant c.settle.new.labels (subst (λ k. IsSettled paths ratio excluded count places k c.loop-place.labels c.settle.new.labels) same c.settle.ensures)
+    c.loop-place.invariant c.settle.new.labels (subst (λ k. IsSettled paths ratio excluded places k c.loop-place.labels c.settle.new.labels) same c.settle.ensures)
 
 pub returns-clause-relabelled : goal.returns-clause-relabelled
 returns-clause-relabelled c =
