@@ -6,9 +6,8 @@ use Rattle.relationships.specs.declared.walk.Link.{Link}
 use Rattle.relationships.specs.declared.walk.Walk.{Walk}
 use Rattle.relationships.specs.declared.fate.Fate.{Fate}
 use Rattle.relationships.specs.Fates.{walk_of, is_kept}
-use Rattle.tor_arena.specs.Distinct.{AllDistinct}
 use Rattle.relationships.specs.Graph.{Edge, edges}
-use Rattle.relationships.specs.Evidence.{Numbered, StandAt, TripleAt, Fits, IsLinked, Refutes}
+use Rattle.relationships.specs.Evidence.{NeighboursDiffer, Numbered, StandAt, TripleAt, Fits, IsLinked, Refutes}
 use Rattle.relationships.proofs.Places.{index-from_StandAt}
 use Rattle.tor_digraph.proofs.Gets.{slice_get-push_old, slice_get-push_last, slice_get-push_cases}
 use Rattle.as_graph.specs.declared.step.Step.{Step}
@@ -187,12 +186,12 @@ says_at es x y s two is =
     subst (λ l. Says es l x y) (sym (lit_of_node (record { edge = s.edge; over = s.left }))) (record { edge = is.0; end = is.1; two = two })
 
 -- two steps of a path, one behind the other
-pub step_triple : (graph : List (List ℕ)) (path : ℕ) (steps : List Step) (k : ℕ) (s t : Step) (at : ℕ) → All AllDistinct graph → path < length graph →
+pub step_triple : (graph : List (List ℕ)) (path : ℕ) (steps : List Step) (k : ℕ) (s t : Step) (at : ℕ) → All NeighboursDiffer graph → path < length graph →
     AreSteps (edges graph) (path_at graph path) steps → slice_get steps k ≡ Some s → slice_get steps (suc k) ≡ Some t → 2 + k ≡ at →
     HasTriple graph path at (node_at s) (node_at t)
 step_triple graph path steps k s t at apart lt are here next is =
     let (x, y, z, stand, one, two) = all_steps (edges graph) (path_at graph path) steps k s t at are here next is in
-    let distinct : AllDistinct (stand.before ++ (x ∷ y ∷ z ∷ stand.after)) = subst AllDistinct stand.whole (apart path [] lt) in (
+    let distinct : NeighboursDiffer (stand.before ++ (x ∷ y ∷ z ∷ stand.after)) = subst NeighboursDiffer stand.whole (apart path [] lt) in (
       x,
       y,
       z,
