@@ -1,11 +1,11 @@
 -- Orders that the labels have, and those that they do not have.
-use Rattle.std.proofs.Common.{◌≡◌, ◌↔◌, ℕ, ◌+◌, ◌/◌, ◌<◌, ◌≤◌, ◌⊎◌, inl, inr, Bool, true, false, not, List, [], ◌∷◌, Some, length, get_or, refl, sym, ap, ◌∙◌, subst, arith, lt-ltb, le-ltb, All, IsTrue, flat_map, Contains}
-use Rattle.std.specs.Prelude.{slice_get, IsFalse}
+use Rattle.std.proofs.Common.{◌≡◌, ◌↔◌, ℕ, ◌/◌, ◌<◌, ◌≤◌, ◌⊎◌, inl, inr, Bool, true, false, not, List, Some, length, get_or, refl, sym, ap, ◌∙◌, subst, arith, lt-ltb, le-ltb, All, IsTrue, flat_map, Contains}
+use Rattle.std.specs.Prelude.{slice_get}
 use Rattle.std.proofs.lemmas.Bool.{cases_lt, cases_order, false≢true}
 use Rattle.std.proofs.lemmas.Option.{same_Some, get_or_from_slice_get}
 use Rattle.relationships.specs.declared.label.End.{End}
 use Rattle.relationships.specs.declared.label.Label.{Label}
-use Rattle.tor_arena.specs.Distinct.{AllDistinct}
+use Rattle.relationships.specs.Evidence.{NeighboursDiffer}
 use Rattle.relationships.specs.Relationship.{Orientation, Labelling, label_of, labels_of, is_low, is_high, is_over, opposite, ValleyFree}
 use Rattle.relationships.specs.Graph.{Edge, edge_of, edges_on, edges, labelling}
 use Rattle.relationships.proofs.Edges.{peering_law}
@@ -115,7 +115,7 @@ module _ (graph : List (List ℕ)) (labels : List Label) (same : length labels �
           )
 
   -- no arc leads from what is held to what is not
-  pub held_along : (f : Formula) → All AllDistinct graph → FitsGraph graph f → All (ValleyFree (labelling (edges graph) labels)) (paths_at graph f.paths) → IsKeptAlong f.net.arcs (held labels)
+  pub held_along : (f : Formula) → All NeighboursDiffer graph → FitsGraph graph f → All (ValleyFree (labelling (edges graph) labels)) (paths_at graph f.paths) → IsKeptAlong f.net.arcs (held labels)
   held_along f apart fits served l m arc h =
       let serves = peering_law (labelling (edges graph) labels) O (paths_at graph f.paths) (λ k d within. (λ e. rw e, λ e. rw e)) served in
       let a = only_arcs graph f apart fits l m arc in

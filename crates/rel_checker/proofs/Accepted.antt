@@ -13,6 +13,7 @@ use Rattle.relationships.specs.Selection.{IsServable}
 use Rattle.relationships.specs.Checking.{Claim, LostAreRefuted, IsBorneOut, ProbesFrom, MeetsGraphRules}
 use Rattle.relationships.proofs.WalkLemmas.{refuting_law}
 use Rattle.relationships.proofs.Checked.{graph_rules_law}
+use Rattle.relationships.proofs.Serving.{all_differ_if_distinct}
 use Rattle.path_clean.proofs.GraphPaths.{apart_if_cleaned}
 use Rattle.relationships.specs.declared.fate.Fate.{Fate}
 use Rattle.relationships.specs.declared.fate.Fate.TheVariants.{Kept, Lost}
@@ -102,7 +103,7 @@ pub graph_rules : (file : ResultFile) → Accepts file → LostAreRefuted (its_p
     ProbesFrom (paths_of (its_kept file)) (its_claims file) [] (its_probes file) →
     MeetsGraphRules (its_paths file) (its_walks file) (its_claims file) file.whys (its_probes file)
 graph_rules file accepts lost shown marks probes = record {
-  distinct_ases = paths_apart file (accepts PathsCleaned);
+  neighbours_differ = all_differ_if_distinct (its_paths file) (paths_apart file (accepts PathsCleaned));
   lost = lost;
   each_edge = same_pairs file.edges ∙ edges_listed file (accepts EdgesListed);
   valley_free = kept_valley_free file (accepts KeptValleyFree);

@@ -18,7 +18,7 @@ use Rattle.relationships.specs.Evidence.{IsTriple, TripleAt, kept_from}
 use Rattle.relationships.specs.Laws.{AgreesOn}
 use Rattle.relationships.proofs.Edges.{along_each, peering_law}
 use Rattle.relationships.proofs.Places.{index-from_StandAt, kept_from-out}
-use Rattle.relationships.proofs.Serving.{Apart, Apart-from_distinct, serves_satisfies}
+use Rattle.relationships.proofs.Serving.{Apart, Apart-from_differing, differ_if_distinct, serves_satisfies}
 use Rattle.relationships.proofs.Slopes.{over-low, over-high, over_one_way}
 use Rattle.path_clean.proofs.GraphPaths.{apart_if_cleaned}
 use Rattle.relationships.specs.declared.fate.Fate.{Fate}
@@ -143,7 +143,7 @@ rising_from a (b ∷ path) h =
 
 rising_on : (path : List ℕ) → AllDistinct path → AllByRecursion (λ (e : Edge). e.0 < e.1) (edges_on path)
 rising_on [] h = tt
-rising_on (a ∷ path) h = rising_from a path (Apart-from_distinct a path h)
+rising_on (a ∷ path) h = rising_from a path (Apart-from_differing a path (differ_if_distinct (a ∷ path) h))
 
 rising_all : (lines : List PathLine) → All (λ line. AllDistinct line.path) lines → AllByRecursion (λ (e : Edge). e.0 < e.1) (flat_map edges_on (map (λ (p : PathLine). p.path) lines))
 rising_all [] h = tt

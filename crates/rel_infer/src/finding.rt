@@ -1,5 +1,6 @@
 ghost use Rattle.std.specs.Prelude.{◌≡◌, ◌≢◌, ◌≤◌, ◌<◌, All, length, map, IfOk};
 ghost use Rattle.std.specs.List.{AllPairs};
+ghost use Rattle.tor_arena.specs.Distinct.{AllDistinct};
 ghost use Rattle.relationships.specs.Relationship.{ValleyFree};
 ghost use Rattle.relationships.specs.Graph.{edges, labelling, support};
 ghost use Rattle.as_graph.specs.Paths.{paths_at};
@@ -49,6 +50,7 @@ fn marks_of(
 fn supports_of(alloc: Global, graph: &AsGraph, selector: &Selector) -> Result<List<u32>, NoMemory>
     requires there { All (λ path. path < length graph.now) selector.now.formula.paths }
     requires once { AllPairs ◌≢◌ selector.now.formula.paths }
+    requires distinct { All AllDistinct (paths_at graph.now selector.now.formula.paths) }
     ensures { IfOk result (λ counts. counts ≡ map (support (paths_at graph.now selector.now.formula.paths)) (edges graph.now)) }
 {
     graph.support(alloc, selector.kept())
@@ -63,6 +65,7 @@ pub(crate) fn found_in(
 ) -> Result<Found, NoMemory>
     requires fits { FitsGraph graph.now selector.now.formula }
     requires once { AllPairs ◌≢◌ selector.now.formula.paths }
+    requires distinct { All AllDistinct (paths_at graph.now selector.now.formula.paths) }
     requires small { ratio ≤ 1000000 }
     ensures { IfOk result (AreFound ratio graph.now selector.now.formula.paths) }
 {

@@ -20,6 +20,7 @@ pub(crate) struct Inferred {
 
 // What is inferred from the paths of a graph.
 fn inferred_in(alloc: Global, keys: Keys, graph: &AsGraph, ratio: u32) -> Result<Inferred, NoMemory>
+    requires distinct { All AllDistinct graph.now }
     requires small { ratio ≤ 1000000 }
     ensures many { IfOk result (λ inferred. length inferred.fates ≡ length graph.now) }
     ensures inferred { IfOk result (AreInferred ratio graph.now) }

@@ -1,5 +1,6 @@
 ghost use Rattle.std.specs.Prelude.{◌≡◌, ◌≢◌, ◌≤◌, All, length, IfOk};
 ghost use Rattle.std.specs.List.{AllPairs};
+ghost use Rattle.tor_arena.specs.Distinct.{AllDistinct};
 ghost use Rattle.relationships.specs.Relationship.{ValleyFree};
 ghost use Rattle.relationships.specs.Graph.{edges, labelling, degree};
 ghost use Rattle.as_graph.specs.Paths.{paths_at};
@@ -25,6 +26,7 @@ pub(crate) fn labels_of(
 ) -> Result<Labels, NoMemory>
     requires fits { FitsGraph graph.now selector.now.formula }
     requires once { AllPairs ◌≢◌ selector.now.formula.paths }
+    requires distinct { All AllDistinct (paths_at graph.now selector.now.formula.paths) }
     requires small { ratio ≤ 1000000 }
     ensures count { IfOk result (λ labels. length labels ≡ length (edges graph.now)) }
     ensures labels { IfOk result (λ labels. AreLabels ratio graph.now (paths_at graph.now selector.now.formula.paths)

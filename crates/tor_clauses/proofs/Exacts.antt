@@ -1,9 +1,8 @@
 -- The arcs of clauses are exactly those of the triples of their paths.
 use Rattle.std.proofs.Common.{◌≡◌, ℕ, ◌+◌, List, ◌∷◌, [], Some, flat_map, refl, sym, ap, subst, All}
 use Rattle.std.specs.Prelude.{slice_get}
-use Rattle.tor_arena.specs.Distinct.{AllDistinct}
 use Rattle.relationships.specs.Graph.{edges}
-use Rattle.relationships.specs.Evidence.{IsTriple, TripleAt, paths_of}
+use Rattle.relationships.specs.Evidence.{NeighboursDiffer, IsTriple, TripleAt, paths_of}
 use Rattle.relationships.proofs.WalkLemmas.{triple_of_fit}
 use Rattle.tor_digraph.specs.Walks.{HasArc}
 use Rattle.as_graph.specs.Paths.{path_at, paths_at}
@@ -21,7 +20,7 @@ pub numbered_paths : (graph : List (List ℕ)) (paths : List ℕ) → paths_of (
 numbered_paths graph [] = refl
 numbered_paths graph (p ∷ paths) = ap (λ (l : List (List ℕ)). path_at graph p ∷ l) (numbered_paths graph paths)
 
-module _ (graph : List (List ℕ)) (f : Formula) (apart : All AllDistinct graph) (fits : FitsGraph graph f) where
+module _ (graph : List (List ℕ)) (f : Formula) (apart : All NeighboursDiffer graph) (fits : FitsGraph graph f) where
   pub all_arcs : (x y z : ℕ) → IsTriple (paths_at graph f.paths) x y z → (l m : ℕ) × IsArcOf graph l m x y z × HasArc f.net.arcs l m
   all_arcs x y z t =
       let p = map-In (path_at graph) t.0 f.paths (Contains-In t.0 (paths_at graph f.paths) t.1) in

@@ -2,7 +2,7 @@
 use Rattle.std.proofs.Common.{◌≡◌, ◌↔◌, ℕ, ◌<◌, List, [], length, All}
 use Rattle.std.proofs.lemmas.List.Elements.{All-map, All-weaker}
 use Rattle.relationships.specs.declared.label.End.{End}
-use Rattle.tor_arena.specs.Distinct.{AllDistinct}
+use Rattle.relationships.specs.Evidence.{NeighboursDiffer}
 use Rattle.relationships.specs.Relationship.{Orientation}
 use Rattle.relationships.specs.Graph.{Edge, edges, orientation}
 use Rattle.relationships.specs.Laws.{SatisfiesTriples}
@@ -15,11 +15,11 @@ use Rattle.tor_clauses.proofs.Overs.{edges-apart, over-holds, holds-over}
 use Rattle.tor_clauses.proofs.Exacts.{all_arcs, only_arcs}
 
 -- the paths of clauses are distinct in their ASes
-pub paths_apart : (graph : List (List ℕ)) (f : Formula) → All AllDistinct graph → FitsGraph graph f → All AllDistinct (paths_at graph f.paths)
+pub paths_apart : (graph : List (List ℕ)) (f : Formula) → All NeighboursDiffer graph → FitsGraph graph f → All NeighboursDiffer (paths_at graph f.paths)
 paths_apart graph f apart fits =
-    All-map AllDistinct (path_at graph) f.paths (All-weaker (λ p. p < length graph) (λ p. AllDistinct (path_at graph p)) (λ p below. apart p [] below) f.paths fits.there)
+    All-map NeighboursDiffer (path_at graph) f.paths (All-weaker (λ p. p < length graph) (λ p. NeighboursDiffer (path_at graph p)) (λ p below. apart p [] below) f.paths fits.there)
 
-module _ (graph : List (List ℕ)) (f : Formula) (ends : List End) (apart : All AllDistinct graph) (fits : FitsGraph graph f) (same : length ends ≡ length (edges graph)) where
+module _ (graph : List (List ℕ)) (f : Formula) (ends : List End) (apart : All NeighboursDiffer graph) (fits : FitsGraph graph f) (same : length ends ≡ length (edges graph)) where
   abbrev es : List Edge
   es = edges graph
 

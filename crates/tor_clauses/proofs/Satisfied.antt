@@ -4,7 +4,7 @@ use Rattle.std.specs.Prelude.{slice_get}
 use Rattle.std.proofs.lemmas.List.Elements.{All-from_recursion}
 use Rattle.std.specs.List.{AllByRecursion}
 use Rattle.relationships.specs.declared.label.End.{End}
-use Rattle.tor_arena.specs.Distinct.{AllDistinct}
+use Rattle.relationships.specs.Evidence.{NeighboursDiffer}
 use Rattle.relationships.specs.Relationship.{opposite}
 use Rattle.relationships.specs.Graph.{Edge, edges}
 use Rattle.tor_digraph.proofs.Gets.{slice_get-some}
@@ -41,7 +41,7 @@ either ends l h =
 not_both : (ends : List End) (l : Lit) → Holds ends l → Holds ends (negated l) → ⊥
 not_both ends l h k = opposite_not l.over (some_same (sym h ∙ k))
 
-module _ (graph : List (List ℕ)) (f : Formula) (ends : List End) (apart : All AllDistinct graph) (fits : FitsGraph graph f) (same : length ends ≡ length (edges graph)) where
+module _ (graph : List (List ℕ)) (f : Formula) (ends : List End) (apart : All NeighboursDiffer graph) (fits : FitsGraph graph f) (same : length ends ≡ length (edges graph)) where
   pub within : (t : Triple) → In t f.triples → (t.first.edge < length ends) × (t.second.edge < length ends)
   within t h = let w = triple_within graph f apart fits t h in (omega (arith, w.0, same), omega (arith, w.1, same))
 

@@ -4,9 +4,8 @@ use Rattle.std.specs.Prelude.{slice_get}
 use Rattle.std.proofs.lemmas.List.{length_push}
 use Rattle.std.proofs.lemmas.List.Elements.{Contains-get_or}
 use Rattle.relationships.specs.declared.walk.Link.{Link}
-use Rattle.tor_arena.specs.Distinct.{AllDistinct}
 use Rattle.relationships.specs.Graph.{Edge, edge_of, edges}
-use Rattle.relationships.specs.Evidence.{StandAt, TripleAt, Fits}
+use Rattle.relationships.specs.Evidence.{NeighboursDiffer, StandAt, TripleAt, Fits}
 use Rattle.relationships.proofs.WalkLemmas.{apart_at, apart_next}
 use Rattle.tor_digraph.specs.Walks.{IsArc, HasArc}
 use Rattle.tor_digraph.proofs.Gets.{slice_get-lt}
@@ -91,24 +90,24 @@ In-stands es path p at x y z s =
 
 -- ---- the arcs of clauses that fit a graph
 
-module _ (graph : List (List ℕ)) (f : Formula) (apart : All AllDistinct graph) (fits : FitsGraph graph f) where
+module _ (graph : List (List ℕ)) (f : Formula) (apart : All NeighboursDiffer graph) (fits : FitsGraph graph f) where
   path-In : (path : ℕ) → In path f.paths → In (path_at graph path) graph
   path-In path h = Contains-In (path_at graph path) graph (Contains-get_or graph path [] (All-In (λ q. q < length graph) f.paths fits.there path h))
 
-  path-apart : (path : ℕ) → In path f.paths → AllDistinct (path_at graph path)
-  path-apart path h = All-In AllDistinct graph apart (path_at graph path) (path-In path h)
+  path-apart : (path : ℕ) → In path f.paths → NeighboursDiffer (path_at graph path)
+  path-apart path h = All-In NeighboursDiffer graph apart (path_at graph path) (path-In path h)
 
   -- what the literals of a triple say
   pub says_first : (path : ℕ) (at x y z : ℕ) → In path f.paths → StandAt (path_at graph path) at x y z → Says (edges graph) (over (edges graph) x y) x y
   says_first path at x y z h s =
       Says-over (edges graph) x y (edge-In graph (path_at graph path) s.before x y (z ∷ s.after) (path-In path h) s.whole)
-      (apart_at s.before x y (z ∷ s.after) (subst AllDistinct s.whole (path-apart path h)))
+      (apart_at s.before x y (z ∷ s.after) (subst NeighboursDiffer s.whole (path-apart path h)))
 
   pub says_second : (path : ℕ) (at x y z : ℕ) → In path f.paths → StandAt (path_at graph path) at x y z → Says (edges graph) (over (edges graph) y z) y z
   says_second path at x y z h s =
       Says-over (edges graph) y z
       (edge-In graph (path_at graph path) (s.before ++ (x ∷ [])) y z s.after (path-In path h) (s.whole ∙ sym (append_assoc s.before (x ∷ []) (y ∷ z ∷ s.after))))
-      (apart_next s.before x y z s.after (subst AllDistinct s.whole (path-apart path h)))
+      (apart_next s.before x y z s.after (subst NeighboursDiffer s.whole (path-apart path h)))
 
   pub says_both : (path at x y z : ℕ) → In path f.paths → TripleAt (path_at graph path) at x y z →
       Says (edges graph) (over (edges graph) x y) x y × Says (edges graph) (over (edges graph) y z) y z

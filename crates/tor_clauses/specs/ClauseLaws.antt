@@ -1,9 +1,8 @@
 -- The laws of clauses that fit a graph, each proved as the contract of a function in src/laws.rt.
 use Rattle.std.specs.Prelude.{◌≡◌, ◌↔◌, ◌⊎◌, ℕ, List, Some, All, length, take, slice_get, ◌≤◌}
 use Rattle.relationships.specs.declared.label.End.{End}
-use Rattle.tor_arena.specs.Distinct.{AllDistinct}
 use Rattle.relationships.specs.Graph.{edges}
-use Rattle.relationships.specs.Evidence.{IsTriple}
+use Rattle.relationships.specs.Evidence.{NeighboursDiffer, IsTriple}
 use Rattle.tor_digraph.specs.Walks.{HasArc}
 use Rattle.as_graph.specs.Paths.{paths_at}
 use Rattle.tor_clauses.specs.declared.triple.Triple.{Triple}
@@ -13,7 +12,7 @@ use Rattle.tor_clauses.specs.Formulas.{Formula, FitsGraph, IsServed, IsModel, Is
 -- the paths are served exactly if no arc leads from a literal that holds to one that does not
 abbrev pub ModelLaw : Type 0
 ModelLaw =
-    (graph : List (List ℕ)) (f : Formula) (ends : List End) → All AllDistinct graph → FitsGraph graph f →
+    (graph : List (List ℕ)) (f : Formula) (ends : List End) → All NeighboursDiffer graph → FitsGraph graph f →
     length ends ≡ length (edges graph) → IsServed graph f.paths ends ↔ IsModel f ends
 
 -- the arcs are exactly those of the triples of the paths, and each triple stands once
@@ -27,7 +26,7 @@ pub record HasExactArcs (graph : List (List ℕ)) (f : Formula) : Type 0 where
       (arc_of t ≡ arc_of u) ⊎ (arc_of t ≡ partner_of u) → j ≡ k
 
 abbrev pub ArcLaw : Type 0
-ArcLaw = (graph : List (List ℕ)) (f : Formula) → All AllDistinct graph → FitsGraph graph f → HasExactArcs graph f
+ArcLaw = (graph : List (List ℕ)) (f : Formula) → All NeighboursDiffer graph → FitsGraph graph f → HasExactArcs graph f
 
 -- clauses are the first part, by their own counts, of those that have their paths first
 abbrev pub PrefixLaw : Type 0

@@ -4,10 +4,9 @@ use Rattle.std.specs.Prelude.{◌≡◌, ◌⊎◌, ℕ, ◌+◌, ◌*◌, ◌/�
 use Rattle.std.specs.List.{list_any}
 use Rattle.relationships.specs.declared.label.End.{End}
 use Rattle.relationships.specs.declared.walk.Link.{Link}
-use Rattle.tor_arena.specs.Distinct.{AllDistinct}
 use Rattle.relationships.specs.Relationship.{Serves}
 use Rattle.relationships.specs.Graph.{edges, orientation}
-use Rattle.relationships.specs.Evidence.{Numbered, Fits}
+use Rattle.relationships.specs.Evidence.{NeighboursDiffer, Numbered, Fits}
 use Rattle.tor_digraph.specs.Walks.{Net, IsArc, first_part}
 use Rattle.as_graph.specs.Paths.{path_at, paths_at}
 use Rattle.tor_clauses.specs.declared.triple.Triple.{Triple}
@@ -88,5 +87,5 @@ pub record IsLinkOf (graph : List (List ℕ)) (paths : List ℕ) (link : Link) (
 
 -- the link is one of the arc at this place, in each graph that the formula fits
 abbrev pub IsLinkOfArc : Formula → ℕ → Link → Type 0
-IsLinkOfArc f arc link = (graph : List (List ℕ)) (l m : ℕ) → All AllDistinct graph → FitsGraph graph f →
+IsLinkOfArc f arc link = (graph : List (List ℕ)) (l m : ℕ) → All NeighboursDiffer graph → FitsGraph graph f →
     IsArc f.net.arcs arc l m → IsLinkOf graph f.paths link l m

@@ -4,7 +4,7 @@ use Rattle.std.specs.Prelude.{slice_get}
 use Rattle.std.proofs.lemmas.List.{length-map}
 use Rattle.std.proofs.lemmas.List.Elements.{All-contains}
 use Rattle.relationships.specs.declared.label.End.{End}
-use Rattle.tor_arena.specs.Distinct.{AllDistinct}
+use Rattle.relationships.specs.Evidence.{NeighboursDiffer}
 use Rattle.relationships.specs.Relationship.{Orientation, Serves, label_of, labels_of, is_low, is_high, is_over}
 use Rattle.relationships.specs.Selection.{IsServable}
 use Rattle.relationships.specs.Graph.{Edge, edge_of, edges, orientation}
@@ -47,7 +47,7 @@ over_same O O' x y same over = elim (over_parts (labels_of O) x y over) [
 abbrev pub ends_of : List Edge → Orientation → List End
 ends_of es O = map (λ (e : Edge). O e.0 e.1) es
 
-module _ (graph : List (List ℕ)) (f : Formula) (apart : All AllDistinct graph) (fits : FitsGraph graph f) where
+module _ (graph : List (List ℕ)) (f : Formula) (apart : All NeighboursDiffer graph) (fits : FitsGraph graph f) where
   abbrev es : List Edge
   es = edges graph
 

@@ -4,7 +4,7 @@ use Rattle.std.specs.Prelude.{zero, suc, slice_get}
 use Rattle.std.proofs.lemmas.Option.{slice_get-get_or}
 use Rattle.std.proofs.lemmas.List.Elements.{All-contains}
 use Rattle.relationships.specs.declared.label.End.{End}
-use Rattle.tor_arena.specs.Distinct.{AllDistinct}
+use Rattle.relationships.specs.Evidence.{NeighboursDiffer}
 use Rattle.relationships.specs.Relationship.{Orientation, Serves}
 use Rattle.relationships.specs.Graph.{Edge, is_same, edges, orientation, SameOn}
 use Rattle.relationships.specs.Preference.{IsPreferred}
@@ -49,7 +49,7 @@ read_end settled consistent k End.Low End.Low is h = refl
 read_end settled consistent k End.Low End.High is h = absurd (is h)
 read_end settled consistent k End.High End.Low is h = absurd (consistent (node_of (lit k End.Low)) h (subst (Contains settled) (sym (opposite_node-node (lit k End.Low))) is))
 
-module _ (graph : List (List ℕ)) (f : Formula) (apart : All AllDistinct graph) (fits : FitsGraph graph f) (prefs : List Pref) (r : Reach ℕ ℕ) (ends : List End)
+module _ (graph : List (List ℕ)) (f : Formula) (apart : All NeighboursDiffer graph) (fits : FitsGraph graph f) (prefs : List Pref) (r : Reach ℕ ℕ) (ends : List End)
     (so : AreSettled f prefs (length prefs) r) (inside : All (λ (pref : Pref). pref.edge < length (edges graph)) prefs)
     (each : (e : Edge) → Contains (edges graph) e ↔ Contains (edges_of (edges graph) prefs) e)
     (many : length ends ≡ length (edges graph)) (are : AreEndsOf r.nodes ends) where

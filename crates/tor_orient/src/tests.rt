@@ -107,6 +107,7 @@ fn voted(
     requires fits { FitsGraph graph.now clauses.now }
     requires there { All (λ path. path < length graph.now) kept.now }
     requires once { AllPairs ◌≢◌ kept.now }
+    requires distinct { All AllDistinct graph.now }
 {
     let prefs = preferences(alloc, graph, kept)?;
     oriented(alloc, graph, clauses, prefs.as_slice())
@@ -114,7 +115,8 @@ fn voted(
 
 /// That of the first two of three paths.
 fn of_two(alloc: Global, keys: Keys, graph: &AsGraph) -> Result<Orientation, Fail>
-    requires { length graph.now ≡ 3 }
+    requires many { length graph.now ≡ 3 }
+    requires distinct { All AllDistinct graph.now }
 {
     let clauses = clauses_of(alloc, keys, graph, 2)?;
     voted(alloc, graph, &clauses, &[path(0), path(1)])
@@ -122,7 +124,8 @@ fn of_two(alloc: Global, keys: Keys, graph: &AsGraph) -> Result<Orientation, Fai
 
 /// That of one path.
 fn of_one(alloc: Global, keys: Keys, graph: &AsGraph) -> Result<Orientation, Fail>
-    requires { length graph.now ≡ 1 }
+    requires many { length graph.now ≡ 1 }
+    requires distinct { All AllDistinct graph.now }
 {
     let clauses = clauses_of(alloc, keys, graph, 1)?;
     voted(alloc, graph, &clauses, &[path(0)])

@@ -4,8 +4,7 @@ use Rattle.std.proofs.Common.{◌≡◌, ◌≢◌, ℕ, zero, suc, ◌+◌, ◌
 use Rattle.std.proofs.lemmas.List.Elements.{All-contains}
 use Rattle.relationships.specs.declared.walk.Link.{Link}
 use Rattle.relationships.specs.declared.walk.Walk.{Walk}
-use Rattle.tor_arena.specs.Distinct.{AllDistinct}
-use Rattle.relationships.specs.Evidence.{HasPair, Numbered, paths_of, Refutes, Closure, start, imply}
+use Rattle.relationships.specs.Evidence.{NeighboursDiffer, HasPair, Numbered, paths_of, Refutes, Closure, start, imply}
 use Rattle.relationships.specs.Selection.{IsServable}
 use Rattle.relationships.specs.Laws.{IsRanked, ranked}
 use Rattle.relationships.proofs.WalkLemmas.{triple_apart, refuting_law}
@@ -146,11 +145,11 @@ refuting_walk A x y two t =
     (back.further, refutes A back.further x y two back.leads (back.kept y x (there.leads.ends.0, [], there.leads.ends.1)))
 
 -- some orientation serves, or some walk refutes
-pub decision : (A : Numbered) → All AllDistinct (paths_of A) → IsServable (paths_of A) ⊎ ((w : Walk) × Refutes A w)
+pub decision : (A : Numbered) → All NeighboursDiffer (paths_of A) → IsServable (paths_of A) ⊎ ((w : Walk) × Refutes A w)
 decision A distinct = elim (flipping (paths_of A) (arcs_of (paths_of A))) [
   | inl (x, y, z, h, t) ↦
       let triple = is_triple (paths_of A) x y z h in
-      let two = triple_apart triple.0 triple.2.0 x y z (All-contains AllDistinct (paths_of A) triple.0 distinct triple.1) triple.2.1 in
+      let two = triple_apart triple.0 triple.2.0 x y z (All-contains NeighboursDiffer (paths_of A) triple.0 distinct triple.1) triple.2.1 in
       inr (refuting_walk A x y two t)
   | inr none ↦
       let rank = code (paths_of A) (arcs_of (paths_of A)) in

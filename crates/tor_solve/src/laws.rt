@@ -7,7 +7,7 @@ pub fn decided_law()
     ensures { DecidedLaw }
 {}
 
-/// Where the ASes of each path are distinct, no orientation serves the paths exactly if some walk
+/// Where no two neighbours on a path are the same, no orientation serves the paths exactly if some walk
 /// refutes over them (Aspvall, Plass and Tarjan 1979).
 pub fn refutation_law()
     ensures { RefutationLaw }

@@ -2,6 +2,8 @@ use Rattle.std.proofs.Common.{◌∙◌, List, [], map, is_none, length, sym, ap
 use Rattle.std.proofs.lemmas.List.{length-map}
 use Rattle.relationships.specs.declared.fate.Fate.{Fate}
 use Rattle.relationships.specs.Fates.{walk_of}
+use Rattle.tor_arena.specs.Distinct.{AllDistinct}
+use Rattle.as_graph.proofs.CountLemmas.{all_places}
 use Rattle.rel_infer.specs.Inference.{AreInferred}
 use Rattle.rel_infer.proofs.KeptPlaces.{kept_apart, keeps_many}
 use Rattle.rel_infer.proofs.Together.{inferred, either_way, none_left_out}
@@ -11,6 +13,11 @@ pub found_in-requires-clause-once : goal.found_in-requires-clause-once
 found_in-requires-clause-once c =
     let fates = c.in_ok-selection.selection.fates in
     kept_apart c.args.graph.now c.in_ok-selection.selection.selector.formula.paths (map is_none (map walk_of fates)) c.in_ok-selection.ensures.kept
+
+pub found_in-requires-clause-distinct : goal.found_in-requires-clause-distinct
+found_in-requires-clause-distinct c =
+    let e = c.in_ok-selection.ensures in
+    all_places AllDistinct c.args.graph.now c.in_ok-selection.selection.selector.formula.paths c.requires.distinct e.fits.there
 
 pub returns-clause-many : goal.returns-clause-many
 returns-clause-many c =

@@ -4,6 +4,7 @@ use Rattle.relationships.specs.declared.label.Label.{Label}
 use Rattle.relationships.specs.Relationship.{ValleyFree, Serves}
 use Rattle.relationships.specs.Graph.{Edge, edges, labelling, orientation, degree}
 use Rattle.relationships.specs.Selection.{IsServable}
+use Rattle.tor_arena.specs.Distinct.{AllDistinct}
 use Rattle.as_graph.specs.Paths.{paths_at}
 use Rattle.gao_prefs.specs.declared.preferring.Pref.{Pref}
 use Rattle.gao_prefs.specs.Preferences.{edges_of}
@@ -21,6 +22,10 @@ pub orient-requires-clause-each : goal.orient-requires-clause-each
 orient-requires-clause-each c =
     let es = edges c.args.graph.now in
     subst (λ (l : List Pref). (e : Edge) → Contains es e ↔ Contains (edges_of es l) e) (sym c.as_slice.ensures) c.in_ok-prefs.ensures.order.each
+
+pub preferences-requires-clause-distinct : goal.preferences-requires-clause-distinct
+preferences-requires-clause-distinct c =
+    subst (λ places. All AllDistinct (paths_at c.args.graph.now places)) (sym c.kept-kept.ensures.paths) c.requires.distinct
 
 pub relabel-requires-clause-served : goal.relabel-requires-clause-served
 relabel-requires-clause-served c =
