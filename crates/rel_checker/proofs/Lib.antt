@@ -39,3 +39,4 @@ pub mod Turning
 pub mod Flippings
 pub mod ValleyLemmas
 pub mod WalkLaws
+pub mod OneAnswer

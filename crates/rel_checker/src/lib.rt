@@ -36,4 +36,4 @@ mod walk_tests;
 pub use against::check_against;
 pub use answer::Answer;
 pub use checking::check_file;
-pub use laws::acceptance_law;
+pub use laws::{acceptance_law, one_answer_law};

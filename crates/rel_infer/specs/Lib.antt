@@ -1,7 +1,8 @@
 pub mod EdgeLines
 pub mod Finding
 pub mod Inference
+pub mod OneResult
 pub mod Peers
 pub mod Results
+pub mod Ties
 pub mod Totals
-pub mod OneResult

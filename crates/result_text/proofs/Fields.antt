@@ -338,7 +338,7 @@ list_reads X F s p m = record {
 -- ---- links
 
 -- what follows the first digit doesn't matter
-first_digit : (n : ℕ) (rest : List ℕ) → n < 2 ^ 64 → starts_with_digit (decimal n ++ rest) ≡ true
+pub first_digit : (n : ℕ) (rest : List ℕ) → n < 2 ^ 64 → starts_with_digit (decimal n ++ rest) ≡ true
 first_digit n rest fits = decimal_by_steps (λ n ds. (rest : List ℕ) → starts_with_digit (ds ++ rest) ≡ true) (λ n small rest. digit_from (48 + n) (omega arith) (omega arith))
     (λ n ds large prefix rest. ap starts_with_digit (append_assoc ds ((48 + n % 10) ∷ []) rest) ∙ prefix ((48 + n % 10) ∷ rest)) n fits rest
 

@@ -1,7 +1,7 @@
 mod Vectors
 mod Digits
 mod Words
-mod Fields
+pub mod Fields
 mod Loops
 mod Parts
 mod Lines
