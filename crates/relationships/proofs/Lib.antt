@@ -3,6 +3,7 @@ pub mod Closures
 pub mod Deciding
 pub mod Edges
 pub mod Forcing
+pub mod FewReturns
 pub mod FlatLemmas
 pub mod GivenLemmas
 pub mod GivenWalks

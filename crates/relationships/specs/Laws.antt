@@ -1,5 +1,5 @@
 -- The laws of the definitions, each proved as the contract of a function in src/laws.rt.
-use Rattle.std.specs.Prelude.{◌≡◌, ◌≢◌, ◌↔◌, ◌⊎◌, ℕ, ◌<◌, ◌≤◌, Bool, List, [], ◌∷◌, ◌++◌, map, min, max, ◌*◌, Option, is_none, All, Contains, IsTrue, if◌then◌else◌, nat_lt}
+use Rattle.std.specs.Prelude.{◌≡◌, ◌≢◌, ◌↔◌, ◌⊎◌, ℕ, ◌<◌, ◌≤◌, Bool, List, [], ◌∷◌, ◌++◌, map, length, min, max, ◌*◌, Option, is_none, All, Contains, IsTrue, if◌then◌else◌, nat_lt}
 use Rattle.std.specs.List.{AllPairs}
 use Rattle.relationships.specs.declared.label.End.{End}
 use Rattle.relationships.specs.declared.label.Label.{Label}
@@ -70,6 +70,10 @@ abbrev pub GivenEdgesLaw : Type 0
 GivenEdgesLaw =
     (givens : List Given) (paths : List (List ℕ)) →
     (edges (paths ++ returns paths givens) ≡ edges paths) × (NameTwo givens → All NeighboursDiffer (returns paths givens))
+
+-- where no two givens name the same two ASes, there are no more returns than edges
+abbrev pub FewReturnsLaw : Type 0
+FewReturnsLaw = (givens : List Given) (paths : List (List ℕ)) → NameOnce givens → length (returns paths givens) ≤ length (edges paths)
 
 -- where no two givens name the same two ASes, some orientation agrees with all of them, whatever the paths
 abbrev pub GivensServableLaw : Type 0

@@ -1,7 +1,7 @@
 //! The laws of the definitions in `specs/`. Each is the contract of a function.
 
 ghost use Rattle.relationships.specs.GivenLaws.{GivenLinksLaw, GivenMarksLaw, NoGivensLaw, GivenWalksLaw, GivenRulesLaw, SameClosureLaw};
-ghost use Rattle.relationships.specs.Laws.{DifferingLaw, EdgeLaw, EdgeOrderLaw, ServingLaw, GivenServingLaw, GivenClosureLaw, GivenEdgesLaw, GivensServableLaw, AllGivensLaw, RelaxingLaw, PeeringLaw, ReadingLaw, RefutingLaw, ShowingLaw, ClosureLaw, AllowedLaw, ConsistencyLaw, ImpliedLaw, LooseLaw, UnheldLaw, RankLaw, CycleLaw, KeepingLaw, MarkingLaw, ForcedLaw, SelectionLaw, KeptLaw, AllKeptLaw, GraphRulesLaw, PreferenceLaw, RelabellingLaw, MaximalLaw};
+ghost use Rattle.relationships.specs.Laws.{DifferingLaw, EdgeLaw, EdgeOrderLaw, ServingLaw, GivenServingLaw, GivenClosureLaw, GivenEdgesLaw, FewReturnsLaw, GivensServableLaw, AllGivensLaw, RelaxingLaw, PeeringLaw, ReadingLaw, RefutingLaw, ShowingLaw, ClosureLaw, AllowedLaw, ConsistencyLaw, ImpliedLaw, LooseLaw, UnheldLaw, RankLaw, CycleLaw, KeepingLaw, MarkingLaw, ForcedLaw, SelectionLaw, KeptLaw, AllKeptLaw, GraphRulesLaw, PreferenceLaw, RelabellingLaw, MaximalLaw};
 
 /// Each edge stands once among the edges of paths, which are the pairs of neighbours on them.
 pub fn edge_law()
@@ -33,6 +33,11 @@ pub fn given_closure_law()
 /// Returns behind paths add no edge, and no two neighbours on them are the same.
 pub fn given_edges_law()
     ensures { GivenEdgesLaw }
+{}
+
+/// Where no two givens name the same two ASes, there are no more returns than edges.
+pub fn few_returns_law()
+    ensures { FewReturnsLaw }
 {}
 
 /// Where no two givens name the same two ASes, some orientation agrees with all of them.
