@@ -4,13 +4,14 @@ use Rattle.std.proofs.lemmas.Option.{get_or_from_slice_get, slice_get_within}
 use Rattle.std.specs.List.{sum_by}
 use Rattle.std.proofs.lemmas.List.{take_all, take_more}
 use Rattle.std.proofs.lemmas.List.Elements.{All-take}
-use Rattle.std.proofs.lemmas.List.Sums.{sum_by_more_le}
+use Rattle.std.proofs.lemmas.List.Sums.{sum_by_more_le, sum_by-le-sum_by}
 use Rattle.relationships.specs.Evidence.{NeighboursDiffer}
 use Rattle.relationships.specs.Graph.{Edge, edges_on, edges}
 use Rattle.as_graph.specs.declared.step.Step.{Step}
+use Rattle.as_graph.specs.Paths.{triple_count}
 use Rattle.as_graph.specs.Steps.{AreSteps}
 use Rattle.as_graph.specs.Inside.{with_edges, path_by, HaveSteps, IsGraph}
-use Rattle.as_graph.proofs.Distinct.{edges-push, edges_within}
+use Rattle.as_graph.proofs.Distinct.{edges-push, edges_within, few_edges}
 use Rattle.as_graph.proofs.StepLemmas.{HaveSteps-more, HaveSteps-push, paths_by_steps}
 
 -- the edges and the steps of the first paths are there
@@ -51,6 +52,10 @@ IsBuilt-more paths place es rows path new steps h at is are =
       stepped = subst (λ ps. HaveSteps new ps (rows ++ steps ∷ [])) (sym next) (HaveSteps-push new (take place paths) rows path steps kept are);
     }
 
+-- the paths have no more triples than numbers
+pub triples_within : (paths : List (List ℕ)) → sum_by triple_count paths ≤ sum_by length paths
+triples_within paths = sum_by-le-sum_by triple_count length paths (λ path. omega arith)
+
 -- the paths that the steps give are all the paths
 pub IsBuilt-view : (paths : List (List ℕ)) (place : ℕ) (es : List Edge) (rows : List (List Step)) → IsBuilt paths place es rows → length paths ≤ place →
     All (λ path. 2 ≤ length path) paths → map (path_by es) rows ≡ paths
@@ -66,6 +71,8 @@ IsBuilt-graph paths place es rows h end two apart few short =
       stepped = subst (λ ps. HaveSteps es ps rows) all h.stepped;
       several = two;
       apart = apart;
-      few = few;
-      short = short;
+      few = omega (arith, few);
+      short = omega (arith, short);
+      few_edges = few_edges paths two short;
+      few_triples = (let le = triples_within paths in omega (arith, le, short));
     })

@@ -120,6 +120,10 @@ few_edges [] two short = omega arith
 few_edges (path ∷ paths) two short =
     let h = length-flat (path ∷ paths) two in let k = length-distinct (flat_map edges_on (path ∷ paths)) in omega (arith, h, k, short)
 
-pub edges_within : (paths : List (List ℕ)) → All (λ path. 2 ≤ length path) paths → length (edges paths) ≤ sum_by length paths
-edges_within paths two =
+-- each path has one edge less than numbers at most
+pub edges_and_paths : (paths : List (List ℕ)) → All (λ path. 2 ≤ length path) paths → length (edges paths) + length paths ≤ sum_by length paths
+edges_and_paths paths two =
     let h = length-flat paths two in let k = length-distinct (flat_map edges_on paths) in omega (arith, h, k)
+
+pub edges_within : (paths : List (List ℕ)) → All (λ path. 2 ≤ length path) paths → length (edges paths) ≤ sum_by length paths
+edges_within paths two = let h = edges_and_paths paths two in omega (arith, h)

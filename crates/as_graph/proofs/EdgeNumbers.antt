@@ -1,9 +1,7 @@
 -- Edges in a table of their numbers.
-use Rattle.std.proofs.Common.{◌≡◌, ◌≢◌, ℕ, ◌+◌, ◌<◌, ◌≤◌, ◌&&◌, inl, inr, true, false, List, [], ◌∷◌, ◌++◌, All, length, length-append, slice_index_or, Some, refl, sym, ap, ap₂, ◌∙◌, arith, eq-eqb}
+use Rattle.std.proofs.Common.{◌≡◌, ◌≢◌, ℕ, ◌+◌, ◌<◌, ◌≤◌, inl, inr, true, false, List, [], ◌∷◌, ◌++◌, All, length, length-append, slice_index_or, Some, refl, sym, ap, ap₂, ◌∙◌, arith}
 use Rattle.std.specs.Prelude.{◌^◌, slice_get, Contains}
 use Rattle.std.specs.List.{list_any}
-use Rattle.std.specs.Cmp.{IsEquivalence}
-use Rattle.std.proofs.lemmas.Cmp.{nat_eq_equiv}
 use Rattle.std.proofs.lemmas.Map.Views.{list_any-from_Contains, Contains-from_any}
 use Rattle.std.proofs.lemmas.List.{length-map}
 use Rattle.std.proofs.lemmas.List.Elements.{All-contains}
@@ -11,6 +9,7 @@ use Rattle.std.proofs.lemmas.Option.{slice_get-get_or}
 use Rattle.std.proofs.lemmas.Bool.{false_from_ne_true}
 use Rattle.relationships.specs.Graph.{Edge, is_same}
 use Rattle.relationships.proofs.Edges.{same_edge}
+use Rattle.relationships.proofs.FewReturns.{same-equivalence}
 use Rattle.tor_numbers.specs.EdgeNumbers.{edge_numbered, IsEdgeNumber}
 use Rattle.tor_numbers.specs.Places.{IsPut}
 use Rattle.tor_numbers.proofs.Gets.{Contains-from_has, slice_get-lt, slice_get-push_cases}
@@ -19,13 +18,6 @@ use Rattle.as_graph.specs.Inside.{edges_numbered, with_edge}
 use Rattle.as_graph.proofs.Distinct.{with_edge-same, with_edge-new}
 
 -- ---- the edges of numbers
-
-same-equivalence : IsEquivalence is_same
-same-equivalence = record {
-  refl = λ (e : Edge). rw (eq-eqb e.0 e.0 refl, eq-eqb e.1 e.1 refl);
-  symm = λ (e f : Edge). ap₂ (λ a b. a && b) (nat_eq_equiv.symm e.0 f.0) (nat_eq_equiv.symm e.1 f.1);
-  congr = λ (e f g : Edge) h. ap (λ (d : Edge). is_same d g) (same_edge e f h);
-}
 
 -- an edge is there exactly where its number is
 pub edge_known : (numbers : List ℕ) (n : ℕ) (e : Edge) → edge_numbered n ≡ e → Contains numbers n → list_any (is_same e) (edges_numbered numbers) ≡ true

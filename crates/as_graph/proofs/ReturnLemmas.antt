@@ -1,17 +1,21 @@
 -- The rows of returns behind those of paths.
-use Rattle.std.proofs.Common.{◌≡◌, ℕ, suc, ◌+◌, ◌*◌, ◌<◌, ◌≤◌, ◌^◌, inl, inr, true, false, List, [], ◌∷◌, ◌++◌, length, take, map, filter, get_or, refl, sym, ap, ◌∙◌, subst, arith, All, append_assoc, lit≤, append-nil, length-append, length-take}
+use Rattle.std.proofs.Common.{◌≡◌, ℕ, suc, ◌+◌, ◌*◌, ◌<◌, ◌≤◌, ◌^◌, inl, inr, true, false, List, [], ◌∷◌, ◌++◌, length, take, map, filter, get_or, drop, refl, sym, ap, ◌∙◌, subst, arith, All, append_assoc, lit≤, append-nil, length-append}
 use Rattle.std.specs.List.{sum_by, AllByRecursion}
 use Rattle.std.proofs.lemmas.Bool.{cases_Bool}
-use Rattle.std.proofs.lemmas.List.{map-append, take_more, take_all}
+use Rattle.std.proofs.lemmas.List.{length-map, map-append, take_more, take_all, take-append-drop}
 use Rattle.std.proofs.lemmas.List.Elements.{All-append, All-from_recursion, filter-append}
 use Rattle.std.proofs.lemmas.List.Sums.{sum_by-append, sum_by-cons}
 use Rattle.relationships.specs.declared.given.Given.{Given}
-use Rattle.relationships.specs.Graph.{Edge}
+use Rattle.relationships.specs.Graph.{Edge, edges}
 use Rattle.relationships.specs.Evidence.{NeighboursDiffer}
-use Rattle.relationships.specs.Givens.{return_of, returns, NameTwo}
+use Rattle.relationships.specs.Givens.{names_edge, return_of, returns, NameTwo, NameOnce}
+use Rattle.relationships.proofs.FewReturns.{named_few}
 use Rattle.relationships.proofs.GivenLemmas.{same_edges, returns_differ}
 use Rattle.as_graph.specs.declared.step.Step.{Step}
+use Rattle.as_graph.specs.Paths.{triple_count}
 use Rattle.as_graph.specs.Inside.{path_by, HaveSteps, is_named, returns_among, AddsReturns, IsGraph}
+use Rattle.as_graph.proofs.Distinct.{edges_and_paths}
+use Rattle.as_graph.proofs.BuildLemmas.{triples_within}
 use Rattle.as_graph.proofs.StepLemmas.{paths_by_steps}
 
 HaveSteps-append : (es : List Edge) (ps qs : List (List ℕ)) (rows more : List (List Step)) → HaveSteps es ps rows → HaveSteps es qs more → HaveSteps es (ps ++ qs) (rows ++ more)
@@ -35,27 +39,25 @@ with_return es g gs h = rw h refl
 without_return : (es : List Edge) (g : Given) (gs : List Given) → is_named es g ≡ false → returns_among es (g ∷ gs) ≡ returns_among es gs
 without_return es g gs h = rw h refl
 
-among_few : (es : List Edge) (gs : List Given) → length (returns_among es gs) ≤ length gs
-among_few es [] = omega arith
-among_few es (g ∷ gs) =
-    let le = among_few es gs in
-    elim (cases_Bool (is_named es g)) [
-      | inl t ↦ let n = ap length (with_return es g gs t) in omega (arith, le, n)
-      | inr f ↦ let n = ap length (without_return es g gs f) in omega (arith, le, n)
-    ]
+among_few : (es : List Edge) (gs : List Given) → NameOnce gs → length (returns_among es gs) ≤ length es
+among_few es gs once = let n = length-map (filter (is_named es) gs) return_of in let le = named_few es gs once in omega (arith, n, le)
 
-among_short : (es : List Edge) (gs : List Given) → sum_by length (returns_among es gs) ≤ 3 * length gs
-among_short es [] = omega arith
-among_short es (g ∷ gs) =
-    let le = among_short es gs in
-    elim (cases_Bool (is_named es g)) [
-      | inl t ↦
-          let n = ap (sum_by length) (with_return es g gs t) in
-          let m = sum_by-cons length (return_of g) (returns_among es gs) in
-          let three : length (return_of g) ≡ 3 = refl in
-          omega (arith, le, n, m, three)
-      | inr f ↦ let n = ap (sum_by length) (without_return es g gs f) in omega (arith, le, n)
-    ]
+-- a return has three numbers and one triple
+returns_short : (gs : List Given) → sum_by length (map return_of gs) ≡ 3 * length (map return_of gs)
+returns_short [] = refl
+returns_short (g ∷ gs) =
+    let rest = returns_short gs in
+    let m = sum_by-cons length (return_of g) (map return_of gs) in
+    let three : length (return_of g) ≡ 3 = refl in
+    omega (arith, rest, m, three)
+
+returns_triples : (gs : List Given) → sum_by triple_count (map return_of gs) ≡ length (map return_of gs)
+returns_triples [] = refl
+returns_triples (g ∷ gs) =
+    let rest = returns_triples gs in
+    let m = sum_by-cons triple_count (return_of g) (map return_of gs) in
+    let one : triple_count (return_of g) ≡ 1 = refl in
+    omega (arith, rest, m, one)
 
 -- ---- one return more
 
@@ -73,15 +75,25 @@ adds_more es givens k d old mid new lt h one =
           (HaveSteps-append es (returns_among es (take k givens)) (returns_among es (get_or givens k d ∷ [])) h.added one.added h.stepped one.stepped);
     }
 
-pub adds_room : (es : List Edge) (givens : List Given) (k : ℕ) (old mid : List (List Step)) → AddsReturns es (take k givens) old mid → k < length givens →
-    length old + length givens ≤ 2 ^ 28 → length mid < 2 ^ 28
-adds_room es givens k old mid h lt few =
+pub adds_room : (es : List Edge) (givens : List Given) (k : ℕ) (old mid : List (List Step)) → AddsReturns es (take k givens) old mid → NameOnce givens →
+    length old + length es < 2 ^ 28 → length mid < 2 ^ 28
+adds_room es givens k old mid h once few =
     let n = length-rows es (returns_among es (take k givens)) h.added h.stepped in
-    let m = among_few es (take k givens) in
-    let t = length-take k givens in
+    let some = length-append (returns_among es (take k givens)) (returns_among es (drop k givens)) in
+    let all = ap length (sym (among-append es (take k givens) (drop k givens)) ∙ ap (returns_among es) (take-append-drop k givens)) in
+    let m = among_few es givens once in
     let w = ap length h.whole in
     let a = length-append old h.added in
-    omega (arith, n, m, t, w, a, lt, few)
+    omega (arith, n, some, all, m, w, a, few)
+
+-- in a graph there is room for all of them
+pub graph_room : (es : List Edge) (rows : List (List Step)) → IsGraph es rows (map (path_by es) rows) → length rows + length es < 2 ^ 28
+graph_room es rows g =
+    let n = length-map rows (path_by es) in
+    let s = ap length g.same in
+    let few = g.few in
+    let fews = g.few_edges in
+    omega (arith, n, s, few, fews)
 
 pub adds_all : (es : List Edge) (givens : List Given) (k : ℕ) (old new : List (List Step)) → length givens ≤ k → AddsReturns es (take k givens) old new → AddsReturns es givens old new
 adds_all es givens k old new end h = subst (λ gs. AddsReturns es gs old new) (take_all k givens end) h
@@ -97,7 +109,7 @@ two_each es (g ∷ givens) =
     ]
 
 module _ (es : List Edge) (rows new : List (List Step)) (paths : List (List ℕ)) (givens : List Given) (g : IsGraph es rows paths) (adds : AddsReturns es givens rows new)
-    (two : NameTwo givens) (few : length paths + length givens ≤ 2 ^ 23) (short : sum_by length paths + 3 * length givens ≤ 2 ^ 26) where
+    (short : sum_by length paths ≤ 2 ^ 26) (two : NameTwo givens) (once : NameOnce givens) where
   abbrev pub more : List (List ℕ)
   more = returns paths givens
 
@@ -117,13 +129,28 @@ module _ (es : List Edge) (rows new : List (List Step)) (paths : List (List ℕ)
   pub view_more : map (path_by es) new ≡ paths ++ more
   view_more = paths_by_steps es (paths ++ more) new several stepped
 
+  -- no more returns than edges
+  few_more : length more ≤ length (edges paths)
+  few_more = let n = length-map (filter (names_edge paths) givens) return_of in let le = named_few (edges paths) givens once in omega (arith, n, le)
+
   pub graph_more : IsGraph es new (map (path_by es) new)
   graph_more =
+      let within = edges_and_paths paths g.several in
       subst (IsGraph es new) (sym view_more) (record {
         same = g.same ∙ sym (same_edges paths givens);
         stepped = stepped;
         several = several;
         apart = All-append NeighboursDiffer paths more g.apart (returns_differ givens paths two);
-        few = (let n = ap length same in let m = among_few es givens in let a = length-append paths more in omega (arith, n, m, a, few));
-        short = (let n = ap (sum_by length) same in let m = among_short es givens in let a = sum_by-append length paths more in omega (arith, n, m, a, short));
+        few = (let a = length-append paths more in omega (arith, few_more, within, short, a));
+        short =
+            (let n = returns_short (filter (names_edge paths) givens) in
+            let a = sum_by-append length paths more in
+            omega (arith, few_more, within, short, n, a));
+        few_edges = subst (λ fs. length fs < 2 ^ 26) (sym (same_edges paths givens)) g.few_edges;
+        few_triples =
+            (let n = returns_triples (filter (names_edge paths) givens) in
+            let a = sum_by-append triple_count paths more in
+            let le = triples_within paths in
+            let fews = g.few_edges in
+            omega (arith, few_more, fews, short, n, a, le));
       })

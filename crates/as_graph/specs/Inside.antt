@@ -10,6 +10,7 @@ use Rattle.relationships.specs.declared.given.Given.{Given}
 use Rattle.relationships.specs.Givens.{return_of}
 use Rattle.relationships.specs.Graph.{Edge, edge_of, is_same, edges}
 use Rattle.as_graph.specs.declared.step.Step.{Step}
+use Rattle.as_graph.specs.Paths.{triple_count}
 use Rattle.as_graph.specs.Steps.{AreSteps}
 
 -- ---- edges and degrees
@@ -95,5 +96,7 @@ pub record IsGraph (es : List Edge) (rows : List (List Step)) (paths : List (Lis
   pub stepped : HaveSteps es paths rows
   pub several : All (λ path. 2 ≤ length path) paths
   pub apart : All NeighboursDiffer paths
-  pub few : length paths ≤ 2 ^ 23
-  pub short : sum_by length paths ≤ 2 ^ 26
+  pub few : length paths ≤ 2 ^ 26
+  pub short : sum_by length paths ≤ 2 ^ 28
+  pub few_edges : length (edges paths) < 2 ^ 26
+  pub few_triples : sum_by triple_count paths < 2 ^ 27

@@ -1,7 +1,11 @@
 -- The paths of a graph, by their places.
-use Rattle.std.specs.Prelude.{ℕ, Bool, List, [], map, slice_index_or}
+use Rattle.std.specs.Prelude.{ℕ, ◌-◌, Bool, List, [], length, map, slice_index_or}
 use Rattle.std.specs.List.{list_any}
 use Rattle.relationships.specs.Graph.{edge_of, is_same, edges}
+
+-- how often three ASes stand one behind the other on the path
+abbrev pub triple_count : List ℕ → ℕ
+triple_count path = length path - 2
 
 abbrev pub path_at : List (List ℕ) → ℕ → List ℕ
 path_at paths place = slice_index_or paths place []

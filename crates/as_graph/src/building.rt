@@ -2,7 +2,7 @@ ghost use Rattle.std.specs.Prelude.{◌≡◌, ◌≢◌, ◌+◌, ◌*◌, ◌<
 ghost use Rattle.tor_arena.specs.Distinct.{AllDistinct};
 ghost use Rattle.relationships.specs.Evidence.{NeighboursDiffer};
 ghost use Rattle.relationships.specs.Graph.{edge_of, edges_on};
-ghost use Rattle.relationships.specs.Givens.{returns, NameTwo};
+ghost use Rattle.relationships.specs.Givens.{returns, NameTwo, NameOnce};
 ghost use Rattle.as_graph.specs.Steps.{IsStep, AreSteps, end_left};
 ghost use Rattle.as_graph.specs.Inside.{with_edge, with_edges, AddsReturns};
 
@@ -36,8 +36,8 @@ pub fn build(alloc: Global, keys: Keys, paths: &Rows<PathId, u32>) -> Result<AsG
 }
 
 /// The graph of the paths and, behind these, of the returns of those givens whose two are neighbours on them: from the customer to the
-/// provider and back. These add no edge. Of the paths and the givens the same has to hold as of the paths of `build`. The only error is
-/// that memory ran out.
+/// provider and back. These add no edge. The paths have to be such as `build` takes; each given has to name two ASes, and no two of them
+/// the same two, so that there are no more returns than edges. The only error is that memory ran out.
 pub fn build_with(
     alloc: Global,
     keys: Keys,
@@ -46,9 +46,10 @@ pub fn build_with(
 ) -> Result<AsGraph, NoMemory>
     requires several { All (λ path. 2 ≤ length path) paths.now }
     requires apart { All AllDistinct paths.now }
+    requires few { length paths.now ≤ 2 ^ 23 }
+    requires short { sum_by length paths.now ≤ 2 ^ 26 }
     requires two { NameTwo givens.now }
-    requires few { length paths.now + length givens.now ≤ 2 ^ 23 }
-    requires short { sum_by length paths.now + 3 * length givens.now ≤ 2 ^ 26 }
+    requires once { NameOnce givens.now }
     ensures { IfOk result (λ graph. graph ≡ paths.now ++ returns paths.now givens.now) }
 {
     let AsGraph { table, mut rows } = build(alloc, keys, paths)?;
@@ -56,14 +57,16 @@ pub fn build_with(
     Ok(AsGraph { table, rows })
 }
 
-/// Adds the steps of the return of each given whose two are an edge, where there are not too many.
+/// Adds the steps of the return of each given whose two are an edge, where no two of the givens name the same two, and there are few
+/// enough rows and edges.
 fn add_returns(
     table: &EdgeTable,
     rows: &mut Rows<PathId, Step>,
     givens: &[Given],
 ) -> Result<(), NoMemory>
     requires two { NameTwo givens.now }
-    requires few { length rows.old + length givens.now ≤ 2 ^ 28 }
+    requires once { NameOnce givens.now }
+    requires few { length rows.old + length table.now < 2 ^ 28 }
     ensures { OnOk result (AddsReturns table.now givens.now rows.old rows.new) }
 {
     for given in givens {

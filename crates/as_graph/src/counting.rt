@@ -6,8 +6,8 @@ use tor_arena::Index;
 /// Counts one more for each edge of the steps, as often as it stands there.
 pub(crate) fn count_steps(counts: &mut Vec<u32>, steps: &[Step])
     requires inside { All (λ s. s.edge < length counts.old.items) steps.now }
-    requires small { All (λ n. n ≤ 2 ^ 23) counts.old.items }
-    requires few { length steps.now ≤ 2 ^ 26 }
+    requires small { All (λ n. n ≤ 2 ^ 26) counts.old.items }
+    requires few { length steps.now ≤ 2 ^ 28 }
     ensures length { length counts.new.items ≡ length counts.old.items }
     ensures counted { (k : ℕ) → slice_index counts.new.items k ≡ slice_index counts.old.items k + count_by
         (λ s. nat_eq s.edge k) steps.now }

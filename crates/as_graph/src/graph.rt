@@ -4,7 +4,7 @@ ghost use Rattle.tor_arena.specs.Distinct.{AllDistinct};
 ghost use Rattle.relationships.specs.Evidence.{NeighboursDiffer};
 ghost use Rattle.relationships.specs.Relationship.{ValleyFree};
 ghost use Rattle.relationships.specs.Graph.{edge_of, edges, degree, support, labelling};
-ghost use Rattle.as_graph.specs.Paths.{path_at, paths_at, is_edge};
+ghost use Rattle.as_graph.specs.Paths.{path_at, paths_at, is_edge, triple_count};
 ghost use Rattle.as_graph.specs.Steps.{AreSteps};
 
 use crate::counting::count_steps;
@@ -46,19 +46,21 @@ impl Model for AsGraph {
 }
 
 impl AsGraph {
-    /// What is true of every graph: its paths have at least two ASes each, no two neighbours the same; there are at most 2^23 of them, with at
-    /// most 2^26 numbers in sum, and so fewer than 2^26 edges. It takes no memory.
+    /// What is true of every graph: its paths have at least two ASes each, no two neighbours the same; there are at most 2^26 of them,
+    /// with at most 2^28 numbers in sum, fewer than 2^26 edges, and fewer than 2^27 places where three ASes follow each other. It takes
+    /// no memory.
     pub fn facts(&self)
         ensures several { All (λ path. 2 ≤ length path) self.now }
         ensures apart { All NeighboursDiffer self.now }
-        ensures paths { length self.now ≤ 2 ^ 23 }
-        ensures numbers { sum_by length self.now ≤ 2 ^ 26 }
+        ensures paths { length self.now ≤ 2 ^ 26 }
+        ensures numbers { sum_by length self.now ≤ 2 ^ 28 }
         ensures edges { length (edges self.now) < 2 ^ 26 }
+        ensures triples { sum_by triple_count self.now < 2 ^ 27 }
     {
         let _ = &self.table;
     }
 
-    /// How many paths there are, at most 2^23. It takes no memory.
+    /// How many paths there are, at most 2^26. It takes no memory.
     pub fn path_count(&self) -> usize
         ensures { result ≡ length self.now }
     {

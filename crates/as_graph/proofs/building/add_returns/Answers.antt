@@ -3,7 +3,7 @@ use Rattle.as_graph.proofs.building.add_returns.Goals as goal
 
 pub add_return-requires-clause-few : goal.add_return-requires-clause-few
 add_return-requires-clause-few c =
-    adds_room c.args.table.now c.args.givens.now c.loop-given.given-index c.args.rows.now c.loop-given.rows c.loop-given.invariant c.loop-given-test.true c.requires.few
+    adds_room c.args.table.now c.args.givens.now c.loop-given.given-index c.args.rows.now c.loop-given.rows c.loop-given.invariant c.requires.once c.requires.few
 
 pub loop-given-preserved : goal.loop-given-preserved
 loop-given-preserved c =

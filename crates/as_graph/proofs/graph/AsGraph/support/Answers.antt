@@ -20,8 +20,8 @@ count_steps-requires-clause-small c =
     let many = distinct_below kept (length paths) c.requires.once c.requires.there in
     let few = c.facts.ensures.paths in
     let n = length-take c.loop-path.path-index kept in
-    let short : length (take c.loop-path.path-index kept) ≤ 2 ^ 23 = omega (arith, many, few, n) in
-    subst (All (λ m. m ≤ 2 ^ 23)) (sym c.loop-path.invariant) (support_small paths (take c.loop-path.path-index kept) (edges paths) (2 ^ 23) short)
+    let short : length (take c.loop-path.path-index kept) ≤ 2 ^ 26 = omega (arith, many, few, n) in
+    subst (All (λ m. m ≤ 2 ^ 26)) (sym c.loop-path.invariant) (support_small paths (take c.loop-path.path-index kept) (edges paths) (2 ^ 26) short)
 
 pub count_steps-requires-clause-few : goal.count_steps-requires-clause-few
 count_steps-requires-clause-few c =
