@@ -1,12 +1,12 @@
--- There are no more triples than there are numbers on the paths.
-use Rattle.std.proofs.Common.{◌≡◌, ℕ, zero, suc, ◌+◌, ◌<◌, ◌≤◌, inl, inr, true, false, List, [], ◌∷◌, ◌++◌, Some, length, get_or, take, flat_map, sym, ap, ◌∙◌, subst, arith}
+-- There are no more triples than there are places of three ASes on the paths.
+use Rattle.std.proofs.Common.{◌≡◌, ℕ, zero, suc, ◌+◌, ◌-◌, ◌<◌, ◌≤◌, inl, inr, true, false, List, [], ◌∷◌, ◌++◌, Some, length, get_or, take, flat_map, sym, ap, ◌∙◌, subst, arith}
 use Rattle.std.specs.Prelude.{slice_get, sum_by, ◌^◌}
 use Rattle.std.proofs.lemmas.Bool.{cases_order, false≢true}
 use Rattle.std.proofs.lemmas.List.{take-take, get_or-take, length-take-le}
 use Rattle.std.proofs.lemmas.List.Sums.{sum_by_more_le}
 use Rattle.relationships.specs.Graph.{Edge, edges}
 use Rattle.tor_digraph.proofs.Few.{few}
-use Rattle.as_graph.specs.Paths.{path_at}
+use Rattle.as_graph.specs.Paths.{path_at, triple_count}
 use Rattle.tor_clauses.specs.declared.triple.Triple.{Triple}
 use Rattle.tor_clauses.specs.Triples.{is_same_triple, distinct_triples, triples_from, triples_along, triples_on}
 use Rattle.tor_clauses.specs.Tables.{with_triples, IsRoomy}
@@ -32,10 +32,10 @@ at_one es path at x y (z ∷ rest) t u (inr h) (inl g) e =
     let a : u.at ≡ at = sym (ap (λ (v : Triple). v.at) g) in let b = at_within es path (at + 1) y z rest t h in absurd (omega (arith, a, b.0, e))
 at_one es path at x y (z ∷ rest) t u (inr h) (inr k) e = at_one es path (at + 1) y z rest t u h k e
 
-along_below : (es : List Edge) (path : ℕ) (p : List ℕ) (t : Triple) → In t (triples_along es path p) → t.at < length p
-along_below es path [] t h = absurd h
-along_below es path (x ∷ []) t h = absurd h
-along_below es path (x ∷ y ∷ rest) t h = let k = at_within es path 2 x y rest t h in omega (arith, k.1)
+along_within : (es : List Edge) (path : ℕ) (p : List ℕ) (t : Triple) → In t (triples_along es path p) → (2 ≤ t.at) × (t.at < length p)
+along_within es path [] t h = absurd h
+along_within es path (x ∷ []) t h = absurd h
+along_within es path (x ∷ y ∷ rest) t h = let k = at_within es path 2 x y rest t h in (k.0, omega (arith, k.1))
 
 along_one : (es : List Edge) (path : ℕ) (p : List ℕ) (t u : Triple) → In t (triples_along es path p) → In u (triples_along es path p) → t.at ≡ u.at → t ≡ u
 along_one es path [] t u h k e = absurd h
@@ -50,26 +50,26 @@ module _ (graph : List (List ℕ)) where
   IsOfPath t = (q : ℕ) × (q < length graph) × In t (triples_on graph q)
 
   abbrev start : ℕ → ℕ
-  start q = sum_by length (take q graph)
+  start q = sum_by triple_count (take q graph)
 
   abbrev code : Triple → ℕ
-  code t = start t.path + t.at
+  code t = start t.path + (t.at - 2)
 
-  later_start : (q r : ℕ) → q < r → r ≤ length graph → start q + length (path_at graph q) ≤ start r
+  later_start : (q r : ℕ) → q < r → r ≤ length graph → start q + triple_count (path_at graph q) ≤ start r
   later_start q r lt le =
       let l : length (take r graph) ≡ r = length-take-le r graph le in
-      let m = sum_by_more_le length (take r graph) q [] (omega (arith, lt, l)) in
-      let a : sum_by length (take q (take r graph)) ≡ start q = ap (sum_by length) (take-take q r graph (omega (arith, lt))) in
-      let b : length (get_or (take r graph) q []) ≡ length (path_at graph q) = ap length (get_or-take r graph q [] lt) in
+      let m = sum_by_more_le triple_count (take r graph) q [] (omega (arith, lt, l)) in
+      let a : sum_by triple_count (take q (take r graph)) ≡ start q = ap (sum_by triple_count) (take-take q r graph (omega (arith, lt))) in
+      let b : triple_count (get_or (take r graph) q []) ≡ triple_count (path_at graph q) = ap triple_count (get_or-take r graph q [] lt) in
       omega (arith, m, a, b)
 
-  code_below : (t : Triple) → IsOfPath t → code t < sum_by length graph
+  code_below : (t : Triple) → IsOfPath t → code t < sum_by triple_count graph
   code_below t (q, below, h) =
       let n = named graph q t h in
       let e : start t.path ≡ start q = ap start n in
-      let a = along_below (edges graph) q (path_at graph q) t h in
-      let m = sum_by_more_le length graph q [] below in
-      omega (arith, e, a, m)
+      let a = along_within (edges graph) q (path_at graph q) t h in
+      let m = sum_by_more_le triple_count graph q [] below in
+      omega (arith, e, a.0, a.1, m)
 
   code_one : (t u : Triple) → IsOfPath t → IsOfPath u → code t ≡ code u → t ≡ u
   code_one t u (q, below, h) (r, below', k) e =
@@ -77,15 +77,15 @@ module _ (graph : List (List ℕ)) where
       let m = named graph r u k in
       let a : start t.path ≡ start q = ap start n in
       let b : start u.path ≡ start r = ap start m in
-      let c = along_below (edges graph) q (path_at graph q) t h in
-      let d = along_below (edges graph) r (path_at graph r) u k in
+      let c = along_within (edges graph) q (path_at graph q) t h in
+      let d = along_within (edges graph) r (path_at graph r) u k in
       elim (cases_order q r) [
         | inl f ↦
             let s : start q ≡ start r = ap start f in
-            along_one (edges graph) r (path_at graph r) t u (subst (λ p. In t (triples_on graph p)) f h) k (omega (arith, a, b, e, s))
+            along_one (edges graph) r (path_at graph r) t u (subst (λ p. In t (triples_on graph p)) f h) k (omega (arith, a, b, c.0, d.0, e, s))
         | inr o ↦ elim o [
-          | inl lt ↦ (let l = later_start q r lt (omega (arith, below')) in absurd (omega (arith, a, b, c, e, l)))
-          | inr lt ↦ (let l = later_start r q lt (omega (arith, below)) in absurd (omega (arith, a, b, d, e, l)))
+          | inl lt ↦ (let l = later_start q r lt (omega (arith, below')) in absurd (omega (arith, a, b, c.0, c.1, d.0, e, l)))
+          | inr lt ↦ (let l = later_start r q lt (omega (arith, below)) in absurd (omega (arith, a, b, d.0, d.1, c.0, e, l)))
         ]
       ]
 
@@ -99,9 +99,9 @@ module _ (graph : List (List ℕ)) where
   apart_get (v ∷ ts) (suc i) zero t u a lt h k = absurd (omega (arith, lt))
   apart_get (v ∷ ts) (suc i) (suc j) t u a lt h k = apart_get ts i j t u a.1 (omega (arith, lt)) h k
 
-  pub few_distinct : (ts : List Triple) → ((t : Triple) → In t ts → IsOfPath t) → length (distinct_triples ts) ≤ sum_by length graph
+  pub few_distinct : (ts : List Triple) → ((t : Triple) → In t ts → IsOfPath t) → length (distinct_triples ts) ≤ sum_by triple_count graph
   few_distinct ts of =
-      few code (distinct_triples ts) (sum_by length graph)
+      few code (distinct_triples ts) (sum_by triple_count graph)
       (λ i j t u lt h k e.
       let same = code_one t u (of_path i t h) (of_path j u k) e in
       false≢true (sym (apart_get (distinct_triples ts) i j t u (triples-apart ts) lt h k) ∙ subst (λ v. is_same_triple t v ≡ true) same (same_itself t)))
@@ -111,7 +111,7 @@ module _ (graph : List (List ℕ)) where
       of_path k t h = of t (triple-In t ts (get-In (distinct_triples ts) k t h))
 
   -- so there is room for each triple of a path
-  pub roomy : (f : Formula) (path : ℕ) → FitsGraph graph f → path < length graph → sum_by length graph ≤ 2 ^ 26 → IsRoomy graph path f.triples
+  pub roomy : (f : Formula) (path : ℕ) → FitsGraph graph f → path < length graph → sum_by triple_count graph < 2 ^ 27 → IsRoomy graph path f.triples
   roomy f path fits below few k =
       let e : with_triples f.triples (take k (triples_on graph path)) ≡ distinct_triples (flat_map (triples_on graph) f.paths ++ take k (triples_on graph path)) =
       ap (λ (l : List Triple). with_triples l (take k (triples_on graph path))) fits.triples ∙

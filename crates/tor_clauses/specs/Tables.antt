@@ -87,9 +87,9 @@ pub record IsFirstNew (graph : List (List ℕ)) (path : ℕ) (ts : List Triple) 
 abbrev pub with_triples_on : List (List ℕ) → ℕ → Formula → Formula
 with_triples_on graph path f = having f (with_triples f.triples (triples_on graph path))
 
--- with no more of these triples of the path there are too many to be numbered
+-- with however many of the first triples of the path, there is a number for one more
 abbrev pub IsRoomy : List (List ℕ) → ℕ → List Triple → Type 0
-IsRoomy graph path ts = (k : ℕ) → length (with_triples ts (take k (triples_on graph path))) ≤ 2 ^ 26
+IsRoomy graph path ts = (k : ℕ) → length (with_triples ts (take k (triples_on graph path))) < 2 ^ 27
 
 -- the second formula has all of the first at its prefix
 abbrev pub IsFirst : Formula → Formula → Type 0

@@ -8,7 +8,7 @@ use Rattle.tor_clauses.proofs.clauses.Clauses.grow.Goals as goal
 pub add_triples-requires-clause-few : goal.add_triples-requires-clause-few
 add_triples-requires-clause-few c =
     subst (λ (f : Formula). IsRoomy c.args.graph.now c.args.path f.triples) (sym c.self.view_is)
-    (roomy c.args.graph.now c.args.self.now c.args.path c.requires.fits c.requires.there c.facts.ensures.numbers)
+    (roomy c.args.graph.now c.args.self.now c.args.path c.requires.fits c.requires.there c.facts.ensures.triples)
 
 pub returns-in-Ok-clause-fits : goal.returns-in-Ok-clause-fits
 returns-in-Ok-clause-fits c =
