@@ -77,14 +77,14 @@ pair_cmp x y = ordering_then (nat_cmp x.0 y.0) (nat_cmp x.1 y.1)
 pair_total : IsTotalOrder pair_cmp
 pair_total = then_total (on_total (λ (p : ℕ × ℕ). p.0) nat_cmp_total) (on_total (λ (p : ℕ × ℕ). p.1) nat_cmp_total)
 
-not_after : (p q : Pref) → unsigned_abs p.lean ≤ 2 ^ 23 → unsigned_abs q.lean ≤ 2 ^ 23 → is_lt (pair_cmp (key_of q) (key_of p)) ≡ false → NotAfter p q
+not_after : (p q : Pref) → unsigned_abs p.lean ≤ 2 ^ 26 → unsigned_abs q.lean ≤ 2 ^ 26 → is_lt (pair_cmp (key_of q) (key_of p)) ≡ false → NotAfter p q
 not_after p q small small' h =
     elim (not_lower (key_of q).0 (key_of p).0 (key_of q).1 (key_of p).1 h) [
       | inl lt ↦ inl (omega (arith, lt, small, small'))
       | inr (e, le) ↦ inr (omega (arith, e, small, small'), le)
     ]
 
-pub sorted_is : (xs : List Pref) → All (λ (p : Pref). unsigned_abs p.lean ≤ 2 ^ 23) xs → IsSortedByKey key_of pair_cmp xs →
+pub sorted_is : (xs : List Pref) → All (λ (p : Pref). unsigned_abs p.lean ≤ 2 ^ 26) xs → IsSortedByKey key_of pair_cmp xs →
     (i j : ℕ) (d : Pref) → i ≤ j → j < length xs → NotAfter (get_or xs i d) (get_or xs j d)
 sorted_is xs small up i j d le lt =
     not_after (get_or xs i d) (get_or xs j d) (small i d (omega arith)) (small j d lt)
@@ -95,14 +95,14 @@ sorted_is xs small up i j d le lt =
 -- the preferences of the first n edges
 pub record ArePrefs (votes degrees : List PerEnd) (n : ℕ) (prefs : List Pref) : Type 0 where
   pub long : length prefs ≡ n
-  pub small : All (λ (p : Pref). unsigned_abs p.lean ≤ 2 ^ 23) prefs
+  pub small : All (λ (p : Pref). unsigned_abs p.lean ≤ 2 ^ 26) prefs
   pub each : (k : ℕ) (d : Pref) → k < length prefs → IsPref votes degrees k (get_or prefs k d)
 
-pub prefs_more : (votes degrees : List PerEnd) (n : ℕ) (prefs : List Pref) (pref : Pref) → ArePrefs votes degrees n prefs → unsigned_abs pref.lean ≤ 2 ^ 23 → IsPref votes degrees n pref →
+pub prefs_more : (votes degrees : List PerEnd) (n : ℕ) (prefs : List Pref) (pref : Pref) → ArePrefs votes degrees n prefs → unsigned_abs pref.lean ≤ 2 ^ 26 → IsPref votes degrees n pref →
     ArePrefs votes degrees (n + 1) (prefs ++ pref ∷ [])
 prefs_more votes degrees n prefs pref so_far small is = record {
   long = let m = so_far.long in let a = length-append prefs (pref ∷ []) in omega (arith, m, a);
-  small = All-push (λ (p : Pref). unsigned_abs p.lean ≤ 2 ^ 23) prefs pref so_far.small small;
+  small = All-push (λ (p : Pref). unsigned_abs p.lean ≤ 2 ^ 26) prefs pref so_far.small small;
   each = each;
 }
   where

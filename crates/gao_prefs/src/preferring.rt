@@ -46,10 +46,10 @@ fn wanted_end(votes: &PerEnd, degrees: &PerEnd) -> End
 
 /// What an edge with these votes and degrees of its ends prefers.
 fn pref_of(edge: EdgeId, votes: &PerEnd, degrees: &PerEnd) -> Pref
-    requires low { votes.now.low ≤ 2 ^ 23 }
-    requires high { votes.now.high ≤ 2 ^ 23 }
+    requires low { votes.now.low ≤ 2 ^ 26 }
+    requires high { votes.now.high ≤ 2 ^ 26 }
     ensures edge { result.edge ≡ edge }
-    ensures small { unsigned_abs result.lean ≤ 2 ^ 23 }
+    ensures small { unsigned_abs result.lean ≤ 2 ^ 26 }
     ensures lean { result.lean ≡ lean_by votes.now }
     ensures wanted { result.wanted ≡ wanted_by votes.now degrees.now }
 {
@@ -65,9 +65,9 @@ fn pref_of(edge: EdgeId, votes: &PerEnd, degrees: &PerEnd) -> Pref
 fn prefs_of(alloc: Global, votes: &[PerEnd], degrees: &[PerEnd]) -> Result<Vec<Pref>, NoMemory>
     requires same { length degrees.now ≡ length votes.now }
     requires few { length votes.now < 2 ^ 26 }
-    requires small { (k : ℕ) (e : End) → number_at votes.now k e ≤ 2 ^ 23 }
+    requires small { (k : ℕ) (e : End) → number_at votes.now k e ≤ 2 ^ 26 }
     ensures length { IfOk result (λ prefs. length prefs.items ≡ length votes.now) }
-    ensures small { IfOk result (λ prefs. All (λ pref. unsigned_abs pref.lean ≤ 2 ^ 23) prefs.items) }
+    ensures small { IfOk result (λ prefs. All (λ pref. unsigned_abs pref.lean ≤ 2 ^ 26) prefs.items) }
     ensures each { IfOk result (λ prefs. (k : ℕ) (d : Pref) → k < length prefs.items →
         IsPref votes.now degrees.now k (slice_index_or prefs.items k d)) }
 {
@@ -88,7 +88,7 @@ fn sort_key(pref: &Pref) -> (u64, usize)
 
 /// Sorts preferences by falling absolute lean, and those of equal absolute lean by their edges. It takes no memory.
 fn sort_by_lead(prefs: &mut Vec<Pref>)
-    requires small { All (λ pref. unsigned_abs pref.lean ≤ 2 ^ 23) prefs.old.items }
+    requires small { All (λ pref. unsigned_abs pref.lean ≤ 2 ^ 26) prefs.old.items }
     ensures same { IsPermutation prefs.old.items prefs.new.items }
     ensures sorted { (i j : ℕ) (d : Pref) → i ≤ j → j < length prefs.new.items →
         NotAfter (slice_index_or prefs.new.items i d) (slice_index_or prefs.new.items j d) }

@@ -32,7 +32,7 @@ fn vote(votes: &mut Vec<PerEnd>, edge: EdgeId, end: End)
 fn vote_each(votes: &mut Vec<PerEnd>, steps: &[Step], climbing: bool)
     requires inside { All (λ step. step.edge < length votes.old.items) steps.now }
     requires small { (k : ℕ) (e : End) → number_at votes.old.items k e ≤ 2 ^ 30 }
-    requires few { length steps.now ≤ 2 ^ 26 }
+    requires few { length steps.now ≤ 2 ^ 28 }
     ensures length { length votes.new.items ≡ length votes.old.items }
     ensures counted { (k : ℕ) (e : End) →
         number_at votes.new.items k e ≡ number_at votes.old.items k e + count_by (is_vote climbing k e) steps.now }
@@ -53,7 +53,7 @@ fn vote_path(votes: &mut Vec<PerEnd>, steps: &[Step], degrees: &[PerEnd])
     requires inside { All (λ step. step.edge < length votes.old.items) steps.now }
     requires known { length degrees.now ≡ length votes.old.items }
     requires small { (k : ℕ) (e : End) → number_at votes.old.items k e ≤ 2 ^ 29 }
-    requires few { length steps.now ≤ 2 ^ 26 }
+    requires few { length steps.now ≤ 2 ^ 28 }
     ensures length { length votes.new.items ≡ length votes.old.items }
     ensures counted { (k : ℕ) (e : End) →
         number_at votes.new.items k e ≡ number_at votes.old.items k e + ballots degrees.now steps.now k e }
@@ -76,7 +76,7 @@ pub(crate) fn count_votes(
     requires known { degrees.now ≡ map (degrees_of graph.now) (edges graph.now) }
     ensures counted { IfOk result (λ votes.
         votes.items ≡ map (votes_of (degree graph.now) (paths_at graph.now kept.now)) (edges graph.now)) }
-    ensures small { IfOk result (λ votes. (k : ℕ) (e : End) → number_at votes.items k e ≤ 2 ^ 23) }
+    ensures small { IfOk result (λ votes. (k : ℕ) (e : End) → number_at votes.items k e ≤ 2 ^ 26) }
 {
     graph.facts();
     let mut votes = Vec::new(alloc);

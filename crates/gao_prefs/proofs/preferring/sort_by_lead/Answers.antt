@@ -9,5 +9,5 @@ use Rattle.gao_prefs.proofs.preferring.sort_by_lead.Goals as goal
 
 pub returns-clause-sorted : goal.returns-clause-sorted
 returns-clause-sorted c =
-    sorted_is _ (All-permutation (λ (p : Pref). unsigned_abs p.lean ≤ 2 ^ 23) _ _ c.sort_unstable_by_key.ensures.permutation c.requires.small)
+    sorted_is _ (All-permutation (λ (p : Pref). unsigned_abs p.lean ≤ 2 ^ 26) _ _ c.sort_unstable_by_key.ensures.permutation c.requires.small)
     (c.sort_unstable_by_key.ensures.sorted key_of (always_returns_same _ _ _ (λ a r q k. search rules)))
