@@ -1,7 +1,5 @@
 mod Vectors
-mod Digits
-mod Words
-pub mod Fields
+mod Lists
 mod Loops
 mod Parts
 mod Lines

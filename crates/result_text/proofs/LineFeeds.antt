@@ -19,7 +19,8 @@ use Rattle.relationships.specs.declared.mark.Mark.TheVariants as mark
 use Rattle.result_text.specs.declared.line.Line.{Line}
 use Rattle.result_text.specs.declared.line.Line.TheVariants as line
 use Rattle.result_text.specs.Text.{fields, numbers, link, links, spaced, others, sets_name, cause_name, label_name, mark_name, path_fields, fields_of, line_text, text_of_lines}
-use Rattle.result_text.specs.Ranges.{IsU32, IsU64, AreU32, LinkFits, FateFits, LineFits}
+use Rattle.result_text.specs.Ranges.{AreU32, LinkFits, FateFits, LineFits}
+use Rattle.text_fields.specs.Fields.{IsU32, IsU64}
 use Rattle.result_text.specs.Grammar.{first_lines}
 
 -- ---- each line has one line feed, at its end

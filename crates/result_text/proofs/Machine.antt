@@ -18,9 +18,9 @@ use Rattle.result_text.specs.declared.draft.Draft.{Draft}
 use Rattle.result_text.specs.declared.draft.Section.{Section}
 use Rattle.result_text.specs.declared.draft.Section.TheVariants as section
 use Rattle.result_text.specs.Text.{head_lines, body_lines, lines_of}
-use Rattle.result_text.specs.Reading.{◌>>=◌}
+use Rattle.text_fields.specs.Reading.{◌>>=◌}
 use Rattle.result_text.specs.Order.{cause_index, is_head, after_head, takes_path, takes_edge, takes_why, takes_probe, pass_head, step, start, file_of}
-use Rattle.result_text.proofs.Fields.{some_is, if_some}
+use Rattle.text_fields.proofs.Readers.{some_is, if_some}
 
 -- the lines one after the other
 abbrev pub run : Draft → List Line → Option Draft

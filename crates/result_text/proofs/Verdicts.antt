@@ -14,11 +14,13 @@ use Rattle.result_text.specs.declared.draft.Draft.{Draft}
 use Rattle.result_text.specs.declared.draft.Section.{Section}
 use Rattle.result_text.specs.declared.draft.Section.TheVariants as section
 use Rattle.result_text.specs.Text.{fields, fields_of, line_text, head_lines, body_lines, lines_of, text_of_lines, text}
-use Rattle.result_text.specs.Ranges.{IsU64, PathFits, EdgeFits, WalkFits, ProbeFits, LineFits, CountsFit, IsInRange}
+use Rattle.result_text.specs.Ranges.{PathFits, EdgeFits, WalkFits, ProbeFits, LineFits, CountsFit, IsInRange}
+use Rattle.text_fields.specs.Fields.{IsU64}
 use Rattle.result_text.specs.Grammar.{IsTextOf, IsText, BeginsText, first_lines, GoesWell, IsBadLine}
-use Rattle.result_text.specs.Reading.{◌>>=◌, line_at}
+use Rattle.result_text.specs.Reading.{line_at}
+use Rattle.text_fields.specs.Reading.{◌>>=◌}
 use Rattle.result_text.specs.Order.{cause_index, after_head, takes_path, takes_edge, takes_why, takes_probe, is_head, step, start, file_of, finished, next_at}
-use Rattle.result_text.proofs.Fields.{bind_some, some_is, if_some}
+use Rattle.text_fields.proofs.Readers.{bind_some, some_is, if_some}
 use Rattle.result_text.proofs.Lines.{line_takes, line_again}
 use Rattle.result_text.proofs.Machine.{run, run_append, done, runs_to_end, sofar, no_sections, Placed, step_steps, seven_of}
 use Rattle.result_text.proofs.LineFeeds.{line_first, lines_first}

@@ -11,7 +11,8 @@ use Rattle.result_text.specs.declared.line.Line.TheVariants as line
 use Rattle.result_text.specs.declared.draft.Draft.{Draft}
 use Rattle.result_text.specs.declared.draft.Section.{Section}
 use Rattle.result_text.specs.declared.draft.Section.TheVariants as section
-use Rattle.result_text.specs.Reading.{◌>>=◌, Fails, line_at}
+use Rattle.result_text.specs.Reading.{Fails, line_at}
+use Rattle.text_fields.specs.Reading.{◌>>=◌}
 
 -- the place among the seven counts
 abbrev pub cause_index : Cause → ℕ

@@ -1,6 +1,7 @@
 -- The values that the types of a result can hold: every result of the code is in range.
-use Rattle.std.specs.Prelude.{ℕ, ◌<◌, ◌^◌, List}
+use Rattle.std.specs.Prelude.{ℕ, List}
 use Rattle.std.specs.List.{AllByRecursion}
+use Rattle.text_fields.specs.Fields.{IsU32, IsU64}
 use Rattle.relationships.specs.declared.walk.Link.{Link}
 use Rattle.relationships.specs.declared.walk.Walk.{Walk}
 use Rattle.path_clean.specs.Counts.{Counts}
@@ -13,12 +14,6 @@ use Rattle.result_text.specs.declared.file.Totals.{Totals}
 use Rattle.result_text.specs.declared.file.ResultFile.{ResultFile}
 use Rattle.result_text.specs.declared.line.Line.{Line}
 use Rattle.result_text.specs.declared.line.Line.TheVariants as line
-
-abbrev pub IsU32 : ℕ → Type 0
-IsU32 n = n < 2 ^ 32
-
-abbrev pub IsU64 : ℕ → Type 0
-IsU64 n = n < 2 ^ 64
 
 abbrev pub AreU32 : List ℕ → Type 0
 AreU32 ns = AllByRecursion IsU32 ns

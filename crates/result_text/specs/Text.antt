@@ -1,7 +1,8 @@
 -- The one text of a result.
 use Rattle.std.specs.Prelude.{ℕ, List, [], ◌∷◌, ◌++◌, map, codes}
 use Rattle.std.specs.Fmt.{decimal}
-use Rattle.std.specs.List.{flat_map, join_with_byte}
+use Rattle.std.specs.List.{flat_map}
+pub use Rattle.text_fields.specs.Fields.{fields}
 use Rattle.relationships.specs.declared.label.Label.{Label}
 use Rattle.relationships.specs.declared.label.Label.TheVariants as label
 use Rattle.relationships.specs.declared.walk.Link.{Link}
@@ -19,10 +20,6 @@ use Rattle.result_text.specs.declared.line.Line.{Line}
 use Rattle.result_text.specs.declared.line.Line.TheVariants as line
 
 -- ---- fields
-
--- fields, joined by a bar
-abbrev pub fields : List (List ℕ) → List ℕ
-fields parts = join_with_byte 124 parts
 
 -- the members of a list behind the first, each behind a space
 abbrev pub others : {X : Type 0} → (X → List ℕ) → List X → List ℕ

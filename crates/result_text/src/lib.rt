@@ -14,15 +14,14 @@ mod path_lines;
 mod printing;
 mod reading;
 
-pub use error::{LineError, ParseError};
+pub use error::ParseError;
 pub use file::{EdgeLine, PathLine, ResultFile, Totals};
 pub use laws::{line_numbers, one_value, parse_printed, print_parsed};
-pub use numbers::{put_number, write_digits};
 pub use parsing::parse;
 pub use path_lines::{PathLineRef, PathLines};
 pub use printing::{print, put_asides};
-pub use reading::{after, u32_before};
 pub use relationships::{Fate, Mark, Probe};
+pub use text_fields::{put_number, write_digits};
 
 #[cfg(test)]
 mod tests;

@@ -7,9 +7,10 @@ ghost use Rattle.result_text.specs.declared.line.Line.TheVariants as line;
 
 use crate::error::LineError;
 use crate::file::{EdgeLine, Totals};
-use crate::reading::{after, links_before, numbers_before, u32_before, u64_before};
+use crate::reading::{links_before, numbers_before, u32_before, u64_before};
 use path_clean::{Cause, Sets};
 use relationships::{Label, Link, Mark, Probe};
+use text_fields::after;
 use tor_arena::List;
 
 /// How sets were treated, and the line feed.

@@ -8,9 +8,10 @@ use crate::error::LineError;
 use crate::line_reading::{
     aside_of, edge_of, end_of, kept_of, lost_of, probe_of, sets_of, walk_of,
 };
-use crate::reading::{after, u32_before};
+use crate::reading::u32_before;
 use relationships::{Link, WalkRef};
 use std::alloc::Global;
+use text_fields::after;
 use tor_arena::List;
 
 /// The lists of one line, used again for the next one, so that most lines take no memory.

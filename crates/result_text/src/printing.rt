@@ -5,15 +5,17 @@ ghost use Rattle.std.specs.List.{AllByRecursion};
 ghost use Rattle.relationships.specs.declared.fate.Fate.TheVariants.{Kept, Lost};
 ghost use Rattle.result_text.specs.Grammar.{IsTextOf};
 ghost use Rattle.result_text.specs.PathLines.{line_with};
-ghost use Rattle.result_text.specs.Ranges.{IsU32, CountsFit, LineFits, PathFits, EdgeFits, WalkFits, ProbeFits, TotalsFit};
+ghost use Rattle.result_text.specs.Ranges.{CountsFit, LineFits, PathFits, EdgeFits, WalkFits, ProbeFits, TotalsFit};
+ghost use Rattle.text_fields.specs.Fields.{IsU32};
 ghost use Rattle.result_text.specs.Text.{text, text_of_lines, line_text, sets_name, cause_name, label_name, mark_name, numbers, links, aside_lines};
 
 use crate::file::{EdgeLine, ResultFile, Totals};
-use crate::numbers::{put_links, put_number, put_numbers};
+use crate::numbers::{put_links, put_numbers};
 use crate::path_lines::{PathLineRef, PathLines};
 use path_clean::{Asides, Cause, Sets};
 use relationships::{Label, Mark, Probe, WalkRef, Walks};
 use std::alloc::Global;
+use text_fields::put_number;
 use tor_arena::{Index, List, NoMemory, PathId, WalkId};
 
 // Each function puts something at the end, lines with their line feed.

@@ -3,7 +3,8 @@ use Rattle.std.proofs.lemmas.Result.{err_from_is_err_and}
 use Rattle.result_text.specs.Text.{link}
 use Rattle.result_text.specs.Ranges.{LinkFits}
 use Rattle.result_text.specs.Reading.{others_at, with_prefix, link_at}
-use Rattle.result_text.proofs.Fields.{shorter, link_member}
+use Rattle.result_text.proofs.Lists.{link_member}
+use Rattle.text_fields.proofs.Readers.{shorter}
 use Rattle.result_text.proofs.Loops.{list_goes_on, list_fails, list_ends, space_shorter}
 use Rattle.result_text.proofs.reading.other_links.Goals as goal
 

@@ -1,9 +1,10 @@
 use Rattle.std.proofs.Common.{sym, length}
 use Rattle.std.proofs.lemmas.Result.{err_from_is_err_and}
 use Rattle.std.specs.Fmt.{decimal}
-use Rattle.result_text.specs.Ranges.{IsU32}
-use Rattle.result_text.specs.Reading.{others_at, with_prefix, u32_at}
-use Rattle.result_text.proofs.Fields.{shorter, u32_reads}
+use Rattle.text_fields.specs.Fields.{IsU32}
+use Rattle.result_text.specs.Reading.{others_at, with_prefix}
+use Rattle.text_fields.specs.Reading.{u32_at}
+use Rattle.text_fields.proofs.Readers.{shorter, u32_reads}
 use Rattle.result_text.proofs.Loops.{list_goes_on, list_fails, list_ends, space_shorter}
 use Rattle.result_text.proofs.reading.other_numbers.Goals as goal
 

@@ -1,0 +1,7 @@
+pub mod Finding
+pub mod FirstLines
+pub mod Goods
+pub mod LineLemmas
+mod Places
+pub mod ReadLemmas
+mod Vectors

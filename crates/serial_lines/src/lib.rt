@@ -1,0 +1,16 @@
+//! Known relationships between autonomous systems: texts of serial-1 lines, both ways.
+#![tactic(auto)]
+
+mod error;
+mod laws;
+mod line;
+mod parsing;
+mod printing;
+mod rel;
+
+pub use error::RelError;
+pub use laws::{line_laws, parse_printed};
+pub use line::{RelKind, RelLine};
+pub use parsing::parse_rel;
+pub use printing::print_rel;
+pub use rel::Rel;

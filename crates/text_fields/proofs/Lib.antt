@@ -1,0 +1,4 @@
+mod Digits
+mod DigitsRead
+pub mod Readers
+mod Words

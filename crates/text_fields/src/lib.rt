@@ -1,0 +1,8 @@
+//! Words and decimal numbers in the fields of lines, read and written.
+#![tactic(auto)]
+
+mod numbers;
+mod reading;
+
+pub use numbers::{put_number, write_digits};
+pub use reading::{after, behind, u32_before, u32_of, u64_before};
