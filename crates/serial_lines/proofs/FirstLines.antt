@@ -87,7 +87,9 @@ first_from n rel result (line ∷ more) e = by_comment (λ next is. first_from (
     by_agreement : ((next : List RelLine) → after_line rel line ≡ Some next → IsWith next result more) → (l r : RelLine) → is_comment line ≡ false → said line ≡ Some l →
         line_between rel l.first l.second ≡ Some r → (b : Bool) → agrees r l ≡ b → IsWith rel result (line ∷ more)
     by_agreement on l r c s there true t =
-        let known : unnamed rel (firsts (l ∷ said_by more)) ≡ unnamed rel (others l (firsts (said_by more))) = ap (λ (b : Bool). cond b (l ∷ unnamed rel (others l (firsts (said_by more)))) (unnamed rel (others l (firsts (said_by more))))) (ap (λ (o : Option RelLine). not (is_some o)) there) in
+        let known : unnamed rel (firsts (l ∷ said_by more)) ≡ unnamed rel (others l (firsts (said_by more))) =
+        ap (λ (b : Bool). cond b (l ∷ unnamed rel (others l (firsts (said_by more)))) (unnamed rel (others l (firsts (said_by more)))))
+        (ap (λ (o : Option RelLine). not (is_some o)) there) in
         on rel (after_said rel line l c s ∙ with_line_some rel l r true there t) ∙ ap (λ (ms : List RelLine). rel ++ ms) (sym (unnamed_known rel l r (firsts (said_by more)) there) ∙ sym known ∙
         ap (λ (ls : List RelLine). unnamed rel (firsts ls)) (sym (said_more line l more c s)))
     by_agreement on l r c s there false t = absurd (cc (sym (is_refused n rel line more (after_said rel line l c s ∙ with_line_some rel l r false there t)) ∙ e))
@@ -96,7 +98,9 @@ first_from n rel result (line ∷ more) e = by_comment (λ next is. first_from (
         (o : Option RelLine) → line_between rel l.first l.second ≡ o → IsWith rel result (line ∷ more)
     by_found on l c s (Some r) there = by_agreement on l r c s there (agrees r l) refl
     by_found on l c s None there =
-        let fresh : unnamed rel (firsts (l ∷ said_by more)) ≡ l ∷ unnamed rel (others l (firsts (said_by more))) = ap (λ (b : Bool). cond b (l ∷ unnamed rel (others l (firsts (said_by more)))) (unnamed rel (others l (firsts (said_by more))))) (ap (λ (o : Option RelLine). not (is_some o)) there) in
+        let fresh : unnamed rel (firsts (l ∷ said_by more)) ≡ l ∷ unnamed rel (others l (firsts (said_by more))) =
+        ap (λ (b : Bool). cond b (l ∷ unnamed rel (others l (firsts (said_by more)))) (unnamed rel (others l (firsts (said_by more)))))
+        (ap (λ (o : Option RelLine). not (is_some o)) there) in
         on (rel ++ l ∷ []) (after_said rel line l c s ∙ with_line_none rel l there) ∙ append_assoc rel (l ∷ []) (unnamed (rel ++ l ∷ []) (firsts (said_by more))) ∙
         ap (λ (ms : List RelLine). rel ++ ms) (ap (λ (ms : List RelLine). l ∷ ms) (unnamed_pushed rel l (firsts (said_by more))) ∙ sym fresh ∙
         ap (λ (ls : List RelLine). unnamed rel (firsts ls)) (sym (said_more line l more c s)))

@@ -67,7 +67,11 @@ none_named (l ∷ ls) a b h = rw h.0 (none_named ls a b h.1)
 -- the lines of a sound list are new behind those before them
 pub are_new : (before ls : List RelLine) → IsSound (before ++ ls) → AreNew before ls
 are_new before [] h = tt
-are_new before (l ∷ ls) h = (its, none_named before l.first l.second (recursion_from_All (λ (m : RelLine). names m l.first l.second ≡ false) before others), are_new (before ++ l ∷ []) ls (subst IsSound (sym (append_assoc before (l ∷ []) ls)) h))
+are_new before (l ∷ ls) h = (
+  its,
+  none_named before l.first l.second (recursion_from_All (λ (m : RelLine). names m l.first l.second ≡ false) before others),
+  are_new (before ++ l ∷ []) ls (subst IsSound (sym (append_assoc before (l ∷ []) ls)) h),
+)
   where
     within : length before < length (before ++ (l ∷ ls))
     within = let n = length-append before (l ∷ ls) in omega (arith, n)

@@ -1,6 +1,6 @@
 -- Digits read one after the other, as the loop does.
-use Rattle.std.proofs.Common.{◌≡◌, ℕ, ◌-◌, ◌<◌, Bool, true, false, cond, List, [], ◌∷◌, length, Option, Some, None, refl, ap, arith}
-use Rattle.text_fields.specs.Reading.{◌>>=◌, is_digit, with_digit, digit_at, digits_at}
+use Rattle.std.proofs.Common.{◌≡◌, ℕ, ◌-◌, ◌<◌, Bool, true, false, cond, List, [], ◌∷◌, length, Some, None, refl, ap, arith}
+use Rattle.text_fields.specs.Reading.{is_digit, with_digit, digit_at, digits_at}
 use Rattle.text_fields.proofs.Readers.{if_some, some_is}
 
 pub digits_go_on : (bytes : List ℕ) (n d m : ℕ) (rest : List ℕ) → digit_at bytes ≡ Some (d, rest) → with_digit n d ≡ Some m → digits_at m rest ≡ digits_at n bytes
