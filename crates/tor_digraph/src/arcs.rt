@@ -6,7 +6,7 @@ use crate::digraph::Digraph;
 use tor_arena::Index;
 
 /// The arcs that leave a node, the latest first, each with its head.
-#[derive(Debug, Drop)]
+#[derive(Drop)]
 pub struct ArcsFrom<'a, N: Index, A: Index> {
     pub(crate) graph: &'a Digraph<N, A>,
     pub(crate) next: Option<A>,

@@ -2,7 +2,7 @@ ghost use Rattle.std.specs.Prelude.{◌≡◌, ◌↔◌, IsTrue};
 
 /// How a node was found: not at all, as the start, or along an arc from its tail, so many arcs
 /// from the start.
-#[derive(Clone, Copy, Debug)]
+#[derive(Clone, Copy)]
 pub(crate) enum Found<N, A> {
     No,
     Start,
@@ -10,7 +10,7 @@ pub(crate) enum Found<N, A> {
 }
 
 /// A node whose arcs are looked at one by one, and the next of them.
-#[derive(Clone, Copy, Debug)]
+#[derive(Clone, Copy)]
 pub(crate) struct Open<N, A> {
     pub(crate) node: N,
     pub(crate) next: Option<A>,

@@ -9,7 +9,7 @@ use tor_arena::{Index, NoMemory};
 
 /// A digraph that stays as it is, with the arcs that leave a node next to each other, so that a search reads them in one piece. It
 /// is seen as the same nodes and arcs.
-#[derive(Debug, Drop)]
+#[derive(Drop)]
 pub struct RowDigraph<'a, N: Index, A: Index> {
     graph: &'a Digraph<N, A>,
     // for each node where its row begins, and last where the last row ends

@@ -7,7 +7,7 @@ use std::marker::Model;
 use tor_arena::{Arena, Index, NoMemory};
 
 /// How each node was found. Whether it was stands apart, in an octet for each node: that is what a search asks most often.
-#[derive(Debug, Drop)]
+#[derive(Drop)]
 pub(crate) struct Trace<N: Index, A: Index> {
     seen: Arena<N, bool>,
     found: Arena<N, Found<N, A>>,

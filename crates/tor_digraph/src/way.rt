@@ -9,7 +9,7 @@ use std::alloc::Global;
 use tor_arena::{Index, List, NoMemory};
 
 /// A walk of arcs.
-#[derive(Debug, Drop)]
+#[derive(Drop)]
 pub struct Way<N, A> {
     /// The nodes, from the start of the walk to its end.
     pub nodes: List<N>,
