@@ -5,7 +5,7 @@ use std::marker::Model;
 use tor_arena::{Arena, Index};
 
 /// The class of each node, and how many classes there are.
-#[derive(Debug, Drop)]
+#[derive(Drop)]
 pub struct Components<N: Index> {
     classes: Arena<N, u32>,
     count: u32,

@@ -1,4 +1,4 @@
-ghost use Rattle.std.specs.Prelude.{◌≡◌, ◌≢◌, ℕ, ◌+◌, ◌<◌, ◌≤◌, List, Some, slice_get, length, OnOk, IfOk};
+ghost use Rattle.std.specs.Prelude.{[], ◌≡◌, ◌≢◌, ℕ, ◌+◌, ◌<◌, ◌≤◌, List, Some, slice_get, length, OnOk, IfOk};
 ghost use Rattle.tor_digraph.specs.Closing.{Has, IsClosing};
 ghost use Rattle.tor_digraph.specs.Reached.{IsSearched, IsGrown};
 ghost use Rattle.tor_components.specs.Classes.{IsClass, IsComponents, IsReversed};
@@ -87,16 +87,58 @@ fn class_all<N: Index, A: Index>(
 {
     let mut classes = Arena::new(alloc);
     classes.push_copies(0, graph.node_count())?;
+    let count = class_into(alloc, graph, other, order, &mut classes)?;
+    Ok(Components::new(classes, count))
+}
+
+/// Gives each node its class, and answers how many there are.
+fn class_into<N: Index, A: Index>(
+    alloc: Global,
+    graph: &Digraph<N, A>,
+    other: &Digraph<N, A>,
+    order: &[N],
+    classes: &mut Arena<N, u32>,
+) -> Result<u32, NoMemory>
+    requires other { IsReversed graph.now other.now }
+    requires order { IsClosing graph.now.arcs order.now }
+    requires all { (x : N) → N.place_of x < graph.now.nodes → Has order.now x }
+    requires inside { (x : N) → Has order.now x → N.place_of x < graph.now.nodes }
+    requires few { length order.now ≤ N.LIMIT }
+    requires many { length classes.old.items ≡ graph.now.nodes }
+    ensures { IfOk result (λ count. IsComponents N.place_of graph.now (record { of = classes.new.items; count = count })) }
+{
     let mut reached = other.reach_none(alloc)?;
+    class_each(graph, other, order, &mut reached, classes)
+}
+
+/// The same in memory for the searches, where nothing is reached yet.
+fn class_each<N: Index, A: Index>(
+    graph: &Digraph<N, A>,
+    other: &Digraph<N, A>,
+    order: &[N],
+    reached: &mut Reached<N, A>,
+    classes: &mut Arena<N, u32>,
+) -> Result<u32, NoMemory>
+    requires other { IsReversed graph.now other.now }
+    requires order { IsClosing graph.now.arcs order.now }
+    requires all { (x : N) → N.place_of x < graph.now.nodes → Has order.now x }
+    requires inside { (x : N) → Has order.now x → N.place_of x < graph.now.nodes }
+    requires few { length order.now ≤ N.LIMIT }
+    requires searched { IsSearched N.place_of A.place_of other.now.nodes other.now.arcs reached.old }
+    requires none { reached.old.nodes ≡ [] }
+    requires many { length classes.old.items ≡ graph.now.nodes }
+    ensures { IfOk result (λ count. IsComponents N.place_of graph.now (record { of = classes.new.items; count = count })) }
+{
     let mut count = 0;
+    prove!(graph.node_count() <= N::LIMIT);
     for left in (0..order.len()).rev() {
         let root = order[left];
         if !reached.has(root) {
-            add_class(other, root, &mut reached, &mut classes, count)?;
+            add_class(other, root, reached, classes, count)?;
             count += 1;
         }
     }
-    Ok(Components::new(classes, count))
+    Ok(count)
 }
 
 /// Reaches all that the root reaches, and gives what is new the class.

@@ -3,7 +3,7 @@ use Rattle.std.specs.Prelude.{slice_get}
 use Rattle.tor_digraph.specs.Closing.{Has}
 use Rattle.tor_digraph.specs.Reached.{IsSearched}
 use Rattle.tor_components.specs.Classes.{IsClassed}
-use Rattle.tor_components.proofs.strong.class_all.Given as goal
+use Rattle.tor_components.proofs.strong.class_each.Given as goal
 
 abbrev pub invariant-loop-left : goal.invariant-loop-left
 invariant-loop-left g l = record {
