@@ -50,6 +50,69 @@ fn settle(
     digraph.reach_more(node, settled)
 }
 
+/// Settles the edges of these preferences, the first of them first, where none is settled yet. The other memory is for the searches.
+fn settle_each(
+    graph: &AsGraph,
+    clauses: &Clauses,
+    rows: &RowDigraph<'_, NodeId, ArcId>,
+    prefs: &[Pref],
+    tried: &mut Reached<NodeId, ArcId>,
+    settled: &mut Reached<NodeId, ArcId>,
+) -> Result<(), NoMemory>
+    requires fits { FitsGraph graph.now clauses.now }
+    requires servable { IsServable (paths_at graph.now clauses.now.paths) }
+    requires inside { All (λ pref. pref.edge < length (edges graph.now)) prefs.now }
+    requires rows { rows.now ≡ clauses.now.net }
+    requires settled { AreSettled clauses.now prefs.now 0 settled.old }
+    ensures { OnOk result (AreSettled clauses.now prefs.now (length prefs.now) settled.new) }
+{
+    graph.facts();
+    clauses.facts();
+    for place in 0..prefs.len() {
+        settle(clauses, rows, &prefs[place], tried, settled)?;
+    }
+    Ok(())
+}
+
+/// The same with memory of its own for the searches.
+fn settle_into(
+    alloc: Global,
+    graph: &AsGraph,
+    clauses: &Clauses,
+    rows: &RowDigraph<'_, NodeId, ArcId>,
+    prefs: &[Pref],
+    settled: &mut Reached<NodeId, ArcId>,
+) -> Result<(), NoMemory>
+    requires fits { FitsGraph graph.now clauses.now }
+    requires servable { IsServable (paths_at graph.now clauses.now.paths) }
+    requires inside { All (λ pref. pref.edge < length (edges graph.now)) prefs.now }
+    requires rows { rows.now ≡ clauses.now.net }
+    requires settled { AreSettled clauses.now prefs.now 0 settled.old }
+    ensures { OnOk result (AreSettled clauses.now prefs.now (length prefs.now) settled.new) }
+{
+    let mut tried = clauses.digraph().reach_none(alloc)?;
+    settle_each(graph, clauses, rows, prefs, &mut tried, settled)
+}
+
+/// What is settled when the edges of these preferences are, where the arcs of the clauses stand in rows.
+fn settled_by(
+    alloc: Global,
+    graph: &AsGraph,
+    clauses: &Clauses,
+    rows: &RowDigraph<'_, NodeId, ArcId>,
+    prefs: &[Pref],
+) -> Result<Reached<NodeId, ArcId>, NoMemory>
+    requires fits { FitsGraph graph.now clauses.now }
+    requires servable { IsServable (paths_at graph.now clauses.now.paths) }
+    requires inside { All (λ pref. pref.edge < length (edges graph.now)) prefs.now }
+    requires rows { rows.now ≡ clauses.now.net }
+    ensures { IfOk result (AreSettled clauses.now prefs.now (length prefs.now)) }
+{
+    let mut settled = clauses.digraph().reach_none(alloc)?;
+    settle_into(alloc, graph, clauses, rows, prefs, &mut settled)?;
+    Ok(settled)
+}
+
 /// Settles the edges of these preferences, the first of them first.
 pub(crate) fn settle_all(
     alloc: Global,
@@ -62,13 +125,6 @@ pub(crate) fn settle_all(
     requires inside { All (λ pref. pref.edge < length (edges graph.now)) prefs.now }
     ensures { IfOk result (AreSettled clauses.now prefs.now (length prefs.now)) }
 {
-    graph.facts();
-    clauses.facts();
     let rows = clauses.digraph().in_rows(alloc)?;
-    let mut tried = clauses.digraph().reach_none(alloc)?;
-    let mut settled = clauses.digraph().reach_none(alloc)?;
-    for place in 0..prefs.len() {
-        settle(clauses, &rows, &prefs[place], &mut tried, &mut settled)?;
-    }
-    Ok(settled)
+    settled_by(alloc, graph, clauses, &rows, prefs)
 }

@@ -9,7 +9,7 @@ use Rattle.tor_clauses.proofs.LiteralLemmas.{node_below}
 use Rattle.tor_orient.specs.Steps.{node_wanted}
 use Rattle.tor_orient.proofs.Models.{one_way}
 use Rattle.tor_orient.proofs.Settled.{settled_next}
-use Rattle.tor_orient.proofs.settling.settle_all.Goals as goal
+use Rattle.tor_orient.proofs.settling.settle_each.Goals as goal
 
 pub loop-place-preserved : goal.loop-place-preserved
 loop-place-preserved c =

@@ -1,5 +1,5 @@
 use Rattle.tor_orient.specs.Steps.{AreSettled}
-use Rattle.tor_orient.proofs.settling.settle_all.Given as goal
+use Rattle.tor_orient.proofs.settling.settle_each.Given as goal
 
 abbrev pub invariant-loop-place : goal.invariant-loop-place
 invariant-loop-place l = AreSettled l.clauses l.prefs l.place l.settled
