@@ -14,9 +14,8 @@ use as_graph::AsGraph;
 use relationships::{Walk, Walks};
 use std::alloc::Global;
 use tor_arena::{ArcId, Index, NoMemory, NodeId};
-use tor_clauses::{Clauses, opposite};
+use tor_clauses::{Clauses, opposite, order, walk_along};
 use tor_digraph::{Reached, RowDigraph};
-use tor_solve::{order, walk_along};
 
 /// Orders that hold in each orientation that serves, each with a walk that shows it.
 #[derive(Drop)]

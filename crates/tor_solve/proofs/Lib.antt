@@ -1,4 +1,3 @@
 mod Arcs
 mod Classing
-mod Leadings
 mod Refutation

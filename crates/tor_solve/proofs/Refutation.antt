@@ -10,8 +10,8 @@ use Rattle.relationships.specs.Laws.{IsRanked, ranked}
 use Rattle.relationships.proofs.WalkLemmas.{triple_apart, refuting_law}
 use Rattle.relationships.proofs.Ranks.{rank_law}
 use Rattle.tor_solve.specs.Laws.{RefutationLaw}
-use Rattle.tor_solve.specs.Leading.{Leads}
-use Rattle.tor_solve.proofs.Leadings.{leads_start, with_step, leads_step, HasPair-more, refutes}
+use Rattle.tor_clauses.specs.Leading.{Leads}
+use Rattle.tor_clauses.proofs.Leadings.{leads_start, with_step, leads_step, HasPair-more, refutes}
 use Rattle.tor_solve.proofs.Arcs.{Arc, In, arcs_of, has_arc, is_triple, decided_law}
 
 -- 1 for a decision that it holds, 0 for one that it does not

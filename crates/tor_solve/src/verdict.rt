@@ -2,7 +2,7 @@ use as_graph::Orientation;
 use relationships::Walk;
 
 /// What a solver finds of the paths of clauses.
-#[derive(Debug, Drop)]
+#[derive(Drop)]
 pub enum Verdict {
     /// An orientation that serves them.
     Model(Orientation),

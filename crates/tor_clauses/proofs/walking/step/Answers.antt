@@ -1,7 +1,7 @@
 use Rattle.std.proofs.Common.{◌≡◌, Some, subst}
 use Rattle.std.specs.Prelude.{slice_get}
-use Rattle.tor_solve.proofs.Leadings.{leads_made}
-use Rattle.tor_solve.proofs.walking.step.Goals as goal
+use Rattle.tor_clauses.proofs.Leadings.{leads_made}
+use Rattle.tor_clauses.proofs.walking.step.Goals as goal
 
 pub returns-clause-leads : goal.returns-clause-leads
 returns-clause-leads c = λ l m arc a b h.

@@ -1,5 +1,5 @@
-use Rattle.tor_solve.proofs.Leadings.{made_walk}
-use Rattle.tor_solve.proofs.walking.begin.Goals as goal
+use Rattle.tor_clauses.proofs.Leadings.{made_walk}
+use Rattle.tor_clauses.proofs.walking.begin_walk.Goals as goal
 
 pub returns : goal.returns
 returns c = (

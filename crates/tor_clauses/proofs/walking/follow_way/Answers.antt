@@ -2,8 +2,8 @@ use Rattle.std.proofs.Common.{◌≡◌, length, Some, refl, ap, subst, arith}
 use Rattle.std.specs.Prelude.{slice_get}
 use Rattle.std.proofs.lemmas.Option.{slice_get_read}
 use Rattle.tor_digraph.proofs.Gets.{slice_get-lt}
-use Rattle.tor_solve.proofs.Leadings.{way_arc}
-use Rattle.tor_solve.proofs.walking.follow.Goals as goal
+use Rattle.tor_clauses.proofs.Leadings.{way_arc}
+use Rattle.tor_clauses.proofs.walking.follow_way.Goals as goal
 
 pub step-requires-clause-there : goal.step-requires-clause-there
 step-requires-clause-there c =

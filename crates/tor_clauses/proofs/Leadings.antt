@@ -15,7 +15,7 @@ use Rattle.as_graph.specs.Steps.{end_left}
 use Rattle.tor_clauses.specs.declared.lit.Lit.{Lit}
 use Rattle.tor_clauses.specs.Literals.{lit_of, Says}
 use Rattle.tor_clauses.specs.Formulas.{numbered, IsLinkOf}
-use Rattle.tor_solve.specs.Leading.{Leads, LeadsTo, IsPlainWay}
+use Rattle.tor_clauses.specs.Leading.{Leads, LeadsTo, IsPlainWay}
 
 -- the walk of two ASes
 pub leads_start : (A : Numbered) (a b : ℕ) → Leads A (record { ases = a ∷ b ∷ []; links = [] }) a b a b

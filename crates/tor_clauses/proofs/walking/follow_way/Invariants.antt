@@ -1,7 +1,7 @@
 use Rattle.std.proofs.Common.{◌≡◌, ℕ, Some}
 use Rattle.std.specs.Prelude.{slice_get}
-use Rattle.tor_solve.specs.Leading.{GoesOn, KeepsPairs, IsPlainWay}
-use Rattle.tor_solve.proofs.walking.follow.Given as goal
+use Rattle.tor_clauses.specs.Leading.{GoesOn, KeepsPairs, IsPlainWay}
+use Rattle.tor_clauses.proofs.walking.follow_way.Given as goal
 
 abbrev pub invariant-loop-arc : goal.invariant-loop-arc
 invariant-loop-arc l = record {
