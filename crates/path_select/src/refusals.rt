@@ -12,7 +12,7 @@ use tor_clauses::{Lit, number_of};
 use tor_numbers::PlaceTable;
 
 /// A triple that was refused alone: a path was lost, and no link of its walk leads into this path but to the triple.
-#[derive(Clone, Copy, Debug)]
+#[derive(Clone, Copy)]
 pub(crate) struct Refusal {
     /// The node of the triple's first literal.
     pub(crate) first: NodeId,
@@ -32,7 +32,7 @@ pub(crate) struct Refusals {
 }
 
 /// The refusal that a path meets.
-#[derive(Clone, Copy, Debug)]
+#[derive(Clone, Copy)]
 pub(crate) struct Met {
     /// The path that was lost before.
     pub(crate) lost: PathId,

@@ -1,4 +1,4 @@
-use Rattle.std.proofs.Common.{◌≡◌, List, IfSome, ap, subst}
+use Rattle.std.proofs.Common.{◌≡◌, List, IfSome, refl, ap, subst}
 use Rattle.std.proofs.lemmas.Bool.{false≢true}
 use Rattle.relationships.specs.Evidence.{Refutes}
 use Rattle.relationships.specs.declared.fate.Fate.{Fate}
@@ -32,3 +32,31 @@ returns-clause-refused c =
     let fate = c.in_ok-fate.fate in
     offered c.args.graph.now c.args.selector.now.formula.paths c.args.path c.args.fates.now fate c.offer_behind.new.self.formula.paths c.args.refusals.now.items
     c.remember.new.refusals.items c.requires.next e.kept (same_paths fate c.offer_behind.new.self c.args.selector.now e.lost) e.walk c.requires.refused c.in_ok-remember.ensures
+
+pub returns-in-Some-clause-fits : goal.returns-in-Some-clause-fits
+returns-in-Some-clause-fits c = c.requires.fits
+
+pub returns-in-Some-clause-kept : goal.returns-in-Some-clause-kept
+returns-in-Some-clause-kept c = λ kept. absurd (false≢true kept)
+
+pub returns-in-Some-clause-lost : goal.returns-in-Some-clause-lost
+returns-in-Some-clause-lost c = refl
+
+pub returns-in-Some-clause-walk : goal.returns-in-Some-clause-walk
+returns-in-Some-clause-walk c =
+    subst (λ o. IfSome o (Refutes (numbered c.args.graph.now (with_path c.args.selector.now c.args.path)))) c.in-Some.is c.in_ok-walk.ensures
+
+pub returns-clause-fits : goal.returns-clause-fits
+returns-clause-fits c = c.in_ok-fate.ensures.fits
+
+pub returns-clause-exact : goal.returns-clause-exact
+returns-clause-exact c = c.in_ok-fate.ensures.exact
+
+pub returns-clause-kept : goal.returns-clause-kept
+returns-clause-kept c = c.in_ok-fate.ensures.kept
+
+pub returns-clause-lost : goal.returns-clause-lost
+returns-clause-lost c = c.in_ok-fate.ensures.lost
+
+pub returns-clause-walk : goal.returns-clause-walk
+returns-clause-walk c = c.in_ok-fate.ensures.walk

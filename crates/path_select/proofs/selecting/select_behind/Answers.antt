@@ -1,66 +1,28 @@
-use Rattle.std.proofs.Common.{rules, ◌+◌, ◌≡◌, ◌<◌, ◌≤◌, ◌++◌, ◌∙◌, ℕ, List, length, take, map, is_none, subst, sym, ap, arith}
-use Rattle.std.specs.Prelude.{IfSome}
+use Rattle.std.proofs.Common.{take, map, is_none, subst}
 use Rattle.relationships.specs.Selection.{KeepsFrom}
+use Rattle.relationships.specs.Checking.{LostFrom}
+use Rattle.relationships.specs.Fates.{walk_of}
 use Rattle.as_graph.specs.Paths.{paths_at}
 use Rattle.tor_clauses.specs.Formulas.{numbered}
-use Rattle.relationships.specs.Checking.{LostFrom, kept_of}
-use Rattle.relationships.specs.declared.fate.Fate.{Fate}
-use Rattle.relationships.specs.Fates.{walk_of}
-use Rattle.path_select.specs.Choices.{Choice}
-use Rattle.path_select.specs.Refusals.{AreRefused}
-use Rattle.path_select.proofs.Selections.{IsSoFar, next_at, none_so_far}
-use Rattle.path_select.proofs.Relinking.{none_refused}
+use Rattle.path_select.specs.Offers.{HasKeptBehind}
 use Rattle.path_select.proofs.selecting.select_behind.Goals as goal
 
-same_formula : (offer : Fate) (new old : Choice) → IfSome (walk_of offer) (λ walk. new ≡ old) → IfSome (walk_of offer) (λ walk. new.formula ≡ old.formula)
-same_formula Fate.Kept new old lost = tt
-same_formula (Fate.Lost walk) new old lost = ap (λ (c : Choice). c.formula) lost
-
-pub loop-place-init : goal.loop-place-init
-loop-place-init c = record {
-  so = none_so_far c.args.graph.now c.args.first.now c.reserve.new.self c.keep_all.new.selector.formula (c.reserve.ensures ∙ c.new-fates.ensures) c.keep_all.ensures.fits c.in_ok-keep_all.ensures.kept;
-  refused = none_refused c.args.graph.now c.keep_all.new.selector.formula.paths c.reserve.new.self c.no_refusals-refusals.result.items c.no_refusals-refusals.ensures;
-}
-
-pub offer-requires-clause-next : goal.offer-requires-clause-next
-offer-requires-clause-next c =
-    let same : c.unwrap-path.result ≡ c.loop-place.place = search rules in
-    omega (arith, same, c.loop-place.invariant.so.many)
-
-pub loop-place-preserved : goal.loop-place-preserved
-loop-place-preserved c =
-    let graph = c.args.graph.now in
-    let fate = c.in_ok-fate.fate in
-    let test = c.loop-place-test.true in
-    let lt : c.loop-place.place < length graph = omega (arith, test, c.requires.count) in
-    let same : c.unwrap-path.result ≡ c.loop-place.place = search rules in
-    let e = c.in_ok-fate.ensures in
-    let added = sym c.in_ok-add.ensures in
-    let next = next_at graph c.args.first.now c.loop-place.place c.loop-place.fates c.loop-place.selector.formula c.loop-place.invariant.so lt c.unwrap-path.result same fate
-    c.offer.new.selector.formula e.fits e.exact e.kept (same_formula fate c.offer.new.selector c.loop-place.selector e.lost) e.walk in
-    record {
-      so = subst (λ fates. IsSoFar graph c.args.first.now (c.loop-place.place + 1) fates c.offer.new.selector.formula) added next;
-      refused = subst (λ fates. AreRefused graph c.offer.new.selector.formula.paths fates c.offer.new.refusals.items) added e.refused;
-    }
-
--- all are offered
-all_offered : (graph : List (List ℕ)) (place count : ℕ) → count ≤ place → place ≤ count → take place graph ≡ take count graph
-all_offered graph place count end le = let same : place ≡ count = omega (arith, end, le) in ap (λ k. take k graph) same
+pub returns-clause-fits : goal.returns-clause-fits
+returns-clause-fits c = c.in_ok-offer_all_to.ensures.fits
 
 pub returns-clause-keeps : goal.returns-clause-keeps
 returns-clause-keeps c =
-    let whole = all_offered c.args.graph.now c.loop-place.place c.args.count c.loop-place-test.false c.loop-place.auto.place-end in
-    subst (λ paths. KeepsFrom (paths_at c.args.graph.now c.args.first.now) paths (map is_none (map walk_of c.loop-place.fates))) whole c.loop-place.invariant.so.keeps
+    let graph = c.args.graph.now in
+    subst (λ first. KeepsFrom (paths_at graph first) (take c.args.count graph) (map is_none (map walk_of c.offer_all_to.new.fates))) c.in_ok-selection.ensures.kept
+    c.in_ok-offer_all_to.ensures.keeps
 
 pub returns-clause-lost : goal.returns-clause-lost
 returns-clause-lost c =
-    let whole = all_offered c.args.graph.now c.loop-place.place c.args.count c.loop-place-test.false c.loop-place.auto.place-end in
-    subst (λ paths. LostFrom 1 (numbered c.args.graph.now c.args.first.now) paths (map walk_of c.loop-place.fates)) whole c.loop-place.invariant.so.lost
+    let graph = c.args.graph.now in
+    subst (λ first. LostFrom 1 (numbered graph first) (take c.args.count graph) (map walk_of c.offer_all_to.new.fates)) c.in_ok-selection.ensures.kept
+    c.in_ok-offer_all_to.ensures.lost
 
 pub returns-clause-kept : goal.returns-clause-kept
 returns-clause-kept c =
-    let whole = all_offered c.args.graph.now c.loop-place.place c.args.count c.loop-place-test.false c.loop-place.auto.place-end in
-    c.loop-place.invariant.so.kept ∙ ap (λ paths. numbered c.args.graph.now c.args.first.now ++ kept_of paths (map walk_of c.loop-place.fates)) whole
-
-pub returns-clause-fits : goal.returns-clause-fits
-returns-clause-fits c = c.loop-place.invariant.so.fits
+    subst (λ first. HasKeptBehind c.args.graph.now first c.args.count c.offer_all_to.new.selector c.offer_all_to.new.fates) c.in_ok-selection.ensures.kept
+    c.in_ok-offer_all_to.ensures.kept
