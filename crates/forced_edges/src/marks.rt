@@ -2,7 +2,7 @@ use relationships::{Mark, Probe, Walks};
 use tor_arena::List;
 
 /// The marks of the edges of a graph, in order, and what bears them out.
-#[derive(Debug, Drop)]
+#[derive(Drop)]
 pub struct Marks {
     /// The mark of each edge.
     pub marks: List<Mark>,

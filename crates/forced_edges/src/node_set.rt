@@ -7,7 +7,7 @@ use tor_arena::{Arena, List, NoMemory, NodeId};
 
 /// Nodes of a digraph in the order in which they were added, each once. Whether a node is among them stands in an octet for each
 /// node: that is what a search asks most often.
-#[derive(Debug, Drop)]
+#[derive(Drop)]
 pub(crate) struct NodeSet {
     nodes: List<NodeId>,
     marks: Arena<NodeId, bool>,

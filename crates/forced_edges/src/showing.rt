@@ -1,4 +1,4 @@
-ghost use Rattle.std.specs.Prelude.{[], ℕ, ◌≡◌, ◌<◌, ◌≤◌, ◌+◌, ◌++◌, ◌∷◌, length, Contains, OnOk, IfOk};
+ghost use Rattle.std.specs.Prelude.{[], ℕ, ◌≡◌, ◌<◌, ◌≤◌, ◌^◌, ◌+◌, ◌++◌, ◌∷◌, length, Contains, OnOk, IfOk};
 ghost use Rattle.relationships.specs.declared.walk.Walk.{Walk as AWalk};
 ghost use Rattle.relationships.specs.Graph.{edges};
 ghost use Rattle.relationships.specs.Selection.{IsServable};
@@ -24,6 +24,23 @@ pub(crate) struct Shown {
     pub(crate) whys: Walks,
     // memory for the next search for a way
     pub(crate) near: Reached<NodeId, ArcId>,
+}
+
+impl Shown {
+    /// None, of so many nodes.
+    pub(crate) fn new(alloc: Global, count: usize) -> Result<Shown, NoMemory>
+        requires { count ≤ 2 ^ 28 }
+        ensures count { IfOk result (λ shown. shown.nodes.count ≡ count) }
+        ensures none { IfOk result (λ shown. shown.nodes.items ≡ []) }
+        ensures whys { IfOk result (λ shown. shown.whys ≡ []) }
+    {
+        let nodes = NodeSet::new(alloc, count)?;
+        Ok(Shown {
+            nodes,
+            whys: Walks::new(alloc),
+            near: Reached::new(alloc),
+        })
+    }
 }
 
 /// Adds the walk of three ASes from the order of the tail of an arc, which is this one, to that of its head.
