@@ -6,4 +6,3 @@ pub mod KeptPlaces
 pub mod Labels
 pub mod LineLemmas
 pub mod OneResult
-pub mod Tyings

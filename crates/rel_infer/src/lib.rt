@@ -8,11 +8,9 @@ mod labelling;
 mod laws;
 mod result;
 mod totals;
-mod tying;
 
 pub use laws::{one_inference_law, one_result_law};
 pub use result::result_of;
-pub use tying::{TieLine, ties_of_table};
 
 #[cfg(test)]
 mod tests;

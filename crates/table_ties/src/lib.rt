@@ -1,0 +1,7 @@
+//! The ties of the distinct paths of a table: which of the edges that the kept paths leave open stand or fall together.
+#![tactic(auto)]
+
+mod marking;
+mod tying;
+
+pub use tying::{TieLine, ties_of_table};
