@@ -1,0 +1,53 @@
+//! What befalls a run.
+use crate::refused::{Refused, number_of};
+
+/// How much calls take, and which of them fail.
+#[derive(Clone, Copy)]
+pub struct Conditions {
+    /// Every name opens a file without end.
+    pub is_endless: bool,
+    /// To how many octets the last file is cut.
+    pub cut: Option<usize>,
+    /// How many octets a read gives at most.
+    pub read_octets: u64,
+    /// How many octets a write to out takes at most.
+    pub write_octets: u64,
+    /// The call on files that fails.
+    pub failing_read: u64,
+    /// The write to out that fails.
+    pub failing_write: u64,
+    /// The write to err that fails.
+    pub failing_note: u64,
+}
+
+/// The number of a call that no run makes, and more octets than any file has.
+const NEVER: u64 = 1_000_000_000;
+
+impl Conditions {
+    /// Nothing fails, and calls take all.
+    pub fn new() -> Conditions {
+        Conditions {
+            is_endless: false,
+            cut: None,
+            read_octets: NEVER,
+            write_octets: NEVER,
+            failing_read: NEVER,
+            failing_write: NEVER,
+            failing_note: NEVER,
+        }
+    }
+
+    /// Takes a line of that kind, if it is one.
+    pub fn take(&mut self, kind: &str, text: &str) -> Result<bool, Refused> {
+        match kind {
+            "endless" => self.is_endless = true,
+            "octets-a-read" => self.read_octets = number_of(text)?,
+            "out-takes" => self.write_octets = number_of(text)?,
+            "read-fails-at" => self.failing_read = number_of(text)?,
+            "write-fails-at" => self.failing_write = number_of(text)?,
+            "note-fails-at" => self.failing_note = number_of(text)?,
+            _ => return Ok(false),
+        }
+        Ok(true)
+    }
+}
