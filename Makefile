@@ -1,29 +1,53 @@
-# `make` proves and builds bin/tor and bin/torcheck, makes the result of a sample and checks it; `make test` is the whole gate;
-# `make samples` compares the lists of two real dumps, path identifiers and AS4_PATH among them, with what other readers give, and
-# checks the results of both; `make system` tries both programs on full devices, closed pipes, folders and the like, and `make memory`
-# with each of their allocations refused.
-.PHONY: all test samples system memory clean FORCE
+# `make` proves and builds the programs, compares their pages with them, and runs every command of the README (`make tour`).
+# `make install` puts them where a shell finds them, and `make dist` into an archive for machines without the kit. `make test` is the
+# whole gate. Outside the gate, `make samples` compares the lists of two real tables with what other readers give, and checks the results
+# of both; `make system` tries the programs on full devices, closed pipes, folders and the like, `make memory` with each of their
+# allocations refused, and `make container` what `make dist` made on a bare system.
 
-all: bin/tor bin/torcheck
-	bin/tor samples/three-paths.mrt > bin/three-paths.result.txt
-	cat bin/three-paths.result.txt
-	bin/torcheck bin/three-paths.result.txt samples/three-paths.mrt
+# A program has its man page in man/, its completions in completions/, and its stored run (args, data, stdout) in its crate.
+PROGRAMS = tor torcheck
 
-# A program is built only once it is proved, and the kit's build runs it too: so it is run on a sample.
-bin/tor: FORCE
-	cd crates/tor && rt run -- --list "$(CURDIR)/samples/two-paths.mrt" > /dev/null
-	mkdir -p bin
-	cp crates/tor/out/tor bin/tor
+# The logic of the kit with which all is proved, as `rt version` has it.
+LOGIC = dac8208d650f15bf
 
-bin/torcheck: FORCE
-	cd crates/torcheck && rt run -- "$(CURDIR)/samples/two-paths.result.txt" > /dev/null
-	mkdir -p bin
-	cp crates/torcheck/out/torcheck bin/torcheck
+# Where `make install` puts the programs, and what stands in the place of `tor` in their names.
+PREFIX = /usr/local
+NAME = tor
 
-test:
+BUILT = $(PROGRAMS:%=bin/%)
+ARCHIVE = bin/tor-$(shell git describe --always --dirty)-$(shell uname -m).tar.gz
+
+.PHONY: all kit pages results tour install dist test samples system memory container clean FORCE
+.DELETE_ON_ERROR:
+
+all: tour
+
+kit:
+	@tools/kit.sh $(LOGIC)
+
+# A program is built only once it and all below it are proved, and the kit's build runs it too: so it does its stored run.
+bin/%: FORCE | kit
+	tools/build.sh $*
+
+pages: $(BUILT)
+	tools/pages.sh bin $(PROGRAMS)
+
+results: $(BUILT)
+	tools/results.sh bin samples
+
+tour: pages results
+	tools/tour.sh bin samples README.md
+
+install:
+	tools/install.sh "$(DESTDIR)$(PREFIX)" $(NAME) $(PROGRAMS)
+
+dist: $(BUILT)
+	tools/dist.sh $(ARCHIVE) $(PROGRAMS)
+
+test: | kit
 	rt ci
 
-samples: bin/tor bin/torcheck
+samples: $(BUILT)
 	for dump in samples/openbgpd.table samples/frr.routes-mrt; do \
 		bin/tor --list $$dump | cmp - $$dump.list.txt || exit 1; \
 		bin/tor --list --as-sets skip $$dump | cmp - $$dump.skip.txt || exit 1; \
@@ -32,11 +56,14 @@ samples: bin/tor bin/torcheck
 	done
 	@echo "the lists are the same, and the results are right"
 
-system: bin/tor bin/torcheck
+system: $(BUILT)
 	bench/system.sh bin/tor bin/torcheck samples
 
-memory: bin/tor bin/torcheck
+memory: $(BUILT)
 	bench/memory.sh bin/tor bin/torcheck samples
+
+container: dist
+	tools/container.sh $(ARCHIVE)
 
 clean:
 	rm -rf bin crates/*/out

@@ -1,0 +1,15 @@
+# Completion of the words of tor, for bash.
+_tor() {
+    local word=${COMP_WORDS[COMP_CWORD]} before=${COMP_WORDS[COMP_CWORD - 1]}
+    if [ "$before" = = ]; then before=${COMP_WORDS[COMP_CWORD - 2]}; fi
+    COMPREPLY=()
+    case $before in
+        --as-sets) mapfile -t COMPREPLY < <(compgen -W 'cut skip' -- "${word#=}") ;;
+        --ratio | --max-paths | --sample) compopt +o default ;;
+        *)
+            case $word in
+                -*) mapfile -t COMPREPLY < <(compgen -W '--list --survey --as-sets --ratio --max-paths --sample' -- "$word") ;;
+            esac ;;
+    esac
+}
+complete -o default -F _tor tor

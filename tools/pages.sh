@@ -1,0 +1,86 @@
+#!/usr/bin/env bash
+# Compares what the pages of the programs say with what the programs say of themselves, and says what differs.
+#   tools/pages.sh BIN PROGRAM ..
+# For each program: man/PROGRAM.1 and its completions for bash and zsh name the options of `PROGRAM --help`, no more and no fewer; so do the
+# options of all programs together in docs/FORMATS.md. The man page says each option's default, and each number that help gives as a bound,
+# and has the exit statuses and the notes of docs/FORMATS.md. Where mandoc or man is there, it has no complaint about the page.
+set -u
+bin=$(cd "$1" && pwd)
+shift
+cd "$(dirname "$0")/.." || exit 1
+work=$(mktemp -d) || exit 1
+trap 'rm -rf "$work"' EXIT
+failed=0
+
+complain() {
+    echo "$1" >&2
+    failed=1
+}
+
+# The options in a text, each once.
+options() {
+    grep -oE -e '--[a-z][a-z0-9-]*' | sort -u
+}
+
+# The lines of a section of docs/FORMATS.md.
+section() { # TITLE
+    awk -v title="## $1" '/^## / { inside = ($0 == title) } inside' docs/FORMATS.md
+}
+
+# Says what one list has and another lacks.
+same() { # WHAT FILE FILE
+    cmp -s "$2" "$3" || complain "$1: $(diff "$2" "$3" | sed -n 's/^< /lacks /p; s/^> /has /p' | paste -s -d ',')"
+}
+
+# The statuses of a program in docs/FORMATS.md: those whose cell in its column isn't empty.
+statuses() { # PROGRAM
+    section 'Notes and exit statuses' | sed 's/\\|/;/g' | awk -F' *[|] *' -v name="\`$1\`" '
+        $2 == "Status" { for (i = 3; i <= NF; i++) if ($i == name) column = i }
+        column && $2 ~ /^[0-9]+$/ && $column != "" { print $2 }'
+}
+
+: > "$work/all"
+mkdir "$work/man1"
+for program in "$@"; do
+    if [ -e "man/$program.1" ]; then cp "man/$program.1" "$work/man1/"; else complain "man/$program.1 is not there"; fi
+done
+for program in "$@"; do
+    page=man/$program.1
+    [ -e "$page" ] || continue
+    "$bin/$program" --help > "$work/help" 2>&1
+    # Help itself is an option of each program, and stands on no page.
+    options < "$work/help" | grep -vx -e --help > "$work/said"
+    cat "$work/said" >> "$work/all"
+    sed -nE 's/^\.It Fl -([a-z0-9-]+).*/--\1/p' "$page" | sort -u > "$work/page"
+    same "$page" "$work/said" "$work/page"
+    for completion in "completions/$program.bash" "completions/_$program"; do
+        if [ -e "$completion" ]; then options < "$completion" > "$work/page"; else complain "$completion is not there"; : > "$work/page"; fi
+        same "$completion" "$work/said" "$work/page"
+    done
+    for number in $(grep -oE '[0-9]+' "$work/help" | sort -u); do
+        grep -qE "(^|[^0-9])$number([^0-9]|$)" "$page" || complain "$page lacks the number $number, which help has"
+    done
+    for default in $(sed -nE 's/.*\[default: ([a-z0-9]+)\].*/\1/p' "$work/help"); do
+        grep -A 1 -x 'The default is' "$page" | grep -qx "\.Cm $default \." || complain "$page lacks the default $default, which help has"
+    done
+    statuses "$program" | sort > "$work/said"
+    [ -s "$work/said" ] || complain "docs/FORMATS.md has no statuses of $program"
+    sed -nE '/^\.Sh EXIT STATUS/,/^\.Sh EXAMPLES/s/^\.It ([0-9]+)$/\1/p' "$page" | sort > "$work/page"
+    same "$page, its statuses" "$work/said" "$work/page"
+    for note in usage malformed read-fault write-fault limit no-memory; do
+        grep -qE "^\.Ql $note(\||$| )" "$page" || complain "$page lacks the note $note"
+    done
+    if command -v mandoc > "$work/which"; then
+        (cd "$work/man1" && MANPATH="$work" mandoc -Tlint "$program.1") > "$work/lint" 2>&1
+        [ ! -s "$work/lint" ] || complain "$(cat "$work/lint")"
+    fi
+    if command -v man > "$work/which" && man --help 2>&1 | grep -q -e --warnings; then
+        LC_ALL=C.UTF-8 man --warnings -E UTF-8 -l -Tutf8 -Z "$work/man1/$program.1" 2> "$work/lint" > "$work/text"
+        [ ! -s "$work/lint" ] || complain "$(cat "$work/lint")"
+    fi
+done
+sort -u "$work/all" > "$work/said"
+section Words | sed -nE 's/^\| `(--[a-z0-9-]+)`.*/\1/p' | sort -u > "$work/page"
+same "docs/FORMATS.md" "$work/said" "$work/page"
+[ "$failed" = 0 ] || exit 1
+echo "the pages of $* say what the programs say"
