@@ -1,7 +1,10 @@
-ghost use Rattle.std.specs.Prelude.{◌≡◌, ◌≢◌, ◌≤◌, ◌++◌, ◌∷◌, [], Ok, Err, None, OnOk, OnErr, IfErr, IfSome, IsErrOf};
+ghost use Rattle.std.specs.Prelude.{◌≡◌, ◌≢◌, ◌≤◌, ◌++◌, ◌∷◌, [], true, Ok, Err, None, OnOk, OnErr, IfErr, IfSome, IsErrOf};
 ghost use Rattle.std.specs.Io.KnownBytes.{IsAtEnd};
 ghost use Rattle.tor_io.specs.Counts.{Rose};
 ghost use Rattle.tor_io.specs.Contents.{LacksFile};
+ghost use Rattle.mrt_frame.specs.Records.{start};
+ghost use Rattle.mrt_frame.specs.Reader.{shelf_of, reference_of, next_place, is_live};
+ghost use Rattle.dump_read.specs.Files.{no_counts, file_counts, with_file};
 ghost use Rattle.dump_read.specs.Reading.{file_reading};
 ghost use Rattle.dump_read.specs.Taking.{TakesSome};
 ghost use Rattle.dump_read.specs.Seen.{of_octets, of_file, end_named};
@@ -55,6 +58,81 @@ fn keep_file(taken: &mut Taken, file: FileCounts) -> Result<(), DumpError>
     }
 }
 
+// Takes in the routes of all records of a file, before the first of which the reader stands, and counts what the file holds.
+fn take_records<H: Shelf>(
+    alloc: Global,
+    dump: u64,
+    sets: Sets,
+    frames: &mut Frames<'_, H>,
+    batch: &mut Batch,
+    taken: &mut Taken,
+    file: &mut FileCounts,
+) -> Result<(), DumpError>
+    requires live { is_live frames.old ≡ true }
+    requires start { next_place frames.old ≡ start }
+    requires none { file.old ≡ no_counts }
+    ensures read { OnOk result (IfSome (H.left (shelf_of frames.old)) (λ octets.
+        of_octets sets dump taken.old octets ≡ Ok (with_file octets taken.new))) }
+    ensures counted { OnOk result (IfSome (H.left (shelf_of frames.old)) (λ octets. file.new ≡ file_counts octets)) }
+    ensures stopped { IfErr result (λ e. IfSome (end_named dump e) (λ end. IfSome (H.left (shelf_of frames.old)) (λ octets.
+        of_octets sets dump taken.old octets ≡ Err end))) }
+    ensures some { IfSome (H.left (shelf_of frames.old)) (λ octets. TakesSome sets taken.old (file_reading octets).routes taken.new) }
+    ensures place { IfErr result (IsOfDump dump) }
+    ensures at_end { OnOk result (IsAtEnd (H.left (shelf_of frames.new))) }
+
+    ensures same_reference { reference_of frames.new ≡ reference_of frames.old }
+    ensures files { H.files (shelf_of frames.new) ≡ H.files (shelf_of frames.old) }
+    ensures later { H.faults (shelf_of frames.old) ≤ H.faults (shelf_of frames.new) }
+    ensures failed { IsErrOf result DumpError.ReadFault → Rose (H.faults (shelf_of frames.old)) (H.faults (shelf_of frames.new)) }
+    ensures quiet { result ≢ Err DumpError.ReadFault → H.faults (shelf_of frames.new) ≡ H.faults (shelf_of frames.old) }
+    ensures steady { H.steady (shelf_of frames.old) → H.steady (shelf_of frames.new) }
+    ensures steady_reads { H.steady (shelf_of frames.old) → result ≢ Err DumpError.ReadFault }
+{
+    let mut peers = None;
+    'records: loop {
+        let found = match frames.next(&mut file.records) {
+            Ok(Some(found)) => found,
+            Ok(None) => return Ok(()),
+            Err(error) => return Err(of_frame(dump, error)),
+        };
+        match take_record(alloc, sets, &found, peers, batch, taken, file) {
+            Ok(behind) => peers = behind,
+            Err(unread) => return Err(of_unread(dump, found.at, unread)),
+        }
+    }
+}
+
+// Takes in the routes of the open file, and counts what it holds.
+fn take_file<H: Shelf>(
+    alloc: Global,
+    shelf: &mut H,
+    dump: u64,
+    sets: Sets,
+    taken: &mut Taken,
+    file: &mut FileCounts,
+) -> Result<(), DumpError>
+    requires none { file.old ≡ no_counts }
+    ensures read { OnOk result (IfSome (H.left shelf.old) (λ octets.
+        of_octets sets dump taken.old octets ≡ Ok (with_file octets taken.new))) }
+    ensures counted { OnOk result (IfSome (H.left shelf.old) (λ octets. file.new ≡ file_counts octets)) }
+    ensures stopped { IfErr result (λ e. IfSome (end_named dump e) (λ end. IfSome (H.left shelf.old) (λ octets.
+        of_octets sets dump taken.old octets ≡ Err end))) }
+    ensures some { IfSome (H.left shelf.old) (λ octets. TakesSome sets taken.old (file_reading octets).routes taken.new) }
+    ensures place { IfErr result (IsOfDump dump) }
+    ensures at_end { OnOk result (IsAtEnd (H.left shelf.new)) }
+
+    ensures files { H.files shelf.new ≡ H.files shelf.old }
+    ensures later { H.faults shelf.old ≤ H.faults shelf.new }
+    ensures failed { IsErrOf result DumpError.ReadFault → Rose (H.faults shelf.old) (H.faults shelf.new) }
+    ensures quiet { result ≢ Err DumpError.ReadFault → H.faults shelf.new ≡ H.faults shelf.old }
+    ensures steady { H.steady shelf.old → H.steady shelf.new }
+    ensures steady_reads { H.steady shelf.old → result ≢ Err DumpError.ReadFault }
+{
+    let mut batch = Batch::new(alloc);
+    let mut frames = Frames::over(alloc, shelf);
+    take_records(alloc, dump, sets, &mut frames, &mut batch, taken, file)
+}
+
 // Takes in the routes of the open file, and at its end what it holds.
 fn read_records<H: Shelf>(
     alloc: Global,
@@ -79,21 +157,9 @@ fn read_records<H: Shelf>(
     ensures steady { H.steady shelf.old → H.steady shelf.new }
     ensures steady_reads { H.steady shelf.old → result ≢ Err DumpError.ReadFault }
 {
-    let mut peers = None;
-    let mut batch = Batch::new(alloc);
     let mut file = FileCounts::new(alloc);
-    let mut frames = Frames::over(alloc, shelf);
-    'records: loop {
-        let found = match frames.next(&mut file.records) {
-            Ok(Some(found)) => found,
-            Ok(None) => return keep_file(taken, file),
-            Err(error) => return Err(of_frame(dump, error)),
-        };
-        match take_record(alloc, sets, &found, peers, &mut batch, taken, &mut file) {
-            Ok(behind) => peers = behind,
-            Err(unread) => return Err(of_unread(dump, found.at, unread)),
-        }
-    }
+    take_file(alloc, shelf, dump, sets, taken, &mut file)?;
+    keep_file(taken, file)
 }
 
 /// Reads a dump, and takes in its routes in order, and behind those what the file holds. `dump` is its number, from 1.
