@@ -1,6 +1,6 @@
 //! The commands, as clap takes them.
 ghost use Rattle.std.specs.Prelude.{◌≡◌, IfOk, codes, false};
-ghost use Rattle.clap.specs.Words.{app_of, rule_of};
+ghost use Rattle.clap.specs.Words.{app_of, rule_of, with_rule};
 ghost use Rattle.tor_words.specs.TorCommand.{tor_command, option_rule, number_rule, flag_rule, rest_rule};
 ghost use Rattle.tor_words.specs.TorcheckCommand.{torcheck_command, needed_rule};
 
@@ -49,6 +49,68 @@ fn needed<'a>(alloc: Global, name: &'a str, help: &'a str) -> Arg<'a>
     Arg::new(alloc, name).required(true).help(help)
 }
 
+fn with_flag<'a>(
+    alloc: Global,
+    command: Command<'a>,
+    name: &'a str,
+    help: &'a str,
+) -> Result<Command<'a>, AllocError>
+    ensures { IfOk result (λ c. app_of c ≡ with_rule (app_of command.entry) (flag_rule name.now)) }
+{
+    let arg = flag(alloc, name, help);
+    command.arg(arg)
+}
+
+fn with_option<'a>(
+    alloc: Global,
+    command: Command<'a>,
+    name: &'a str,
+    help: &'a str,
+) -> Result<Command<'a>, AllocError>
+    ensures { IfOk result (λ c. app_of c ≡ with_rule (app_of command.entry) (option_rule name.now)) }
+{
+    let arg = option(alloc, name, help);
+    command.arg(arg)
+}
+
+fn with_number<'a>(
+    alloc: Global,
+    command: Command<'a>,
+    name: &'a str,
+    low: u64,
+    high: u64,
+    help: &'a str,
+) -> Result<Command<'a>, AllocError>
+    ensures { IfOk result (λ c. app_of c ≡ with_rule (app_of command.entry) (number_rule name.now low high)) }
+{
+    let arg = number(alloc, name, low, high, help);
+    command.arg(arg)
+}
+
+fn with_rest<'a>(
+    alloc: Global,
+    command: Command<'a>,
+    name: &'a str,
+    help: &'a str,
+) -> Result<Command<'a>, AllocError>
+    ensures { IfOk result (λ c. app_of c ≡ with_rule (app_of command.entry) (rest_rule name.now)) }
+{
+    let arg = rest(alloc, name, help);
+    command.arg(arg)
+}
+
+fn with_needed<'a>(
+    alloc: Global,
+    command: Command<'a>,
+    name: &'a str,
+    help: &'a str,
+) -> Result<Command<'a>, AllocError>
+    ensures { IfOk result (λ c. app_of c ≡ with_rule (app_of command.entry) (needed_rule name.now)) }
+{
+    let arg = needed(alloc, name, help);
+    command.arg(arg)
+}
+
 /// What help says of each option and of the dumps.
 const LIST_HELP: &str =
     "Write the distinct AS paths, each with its number of routes, in place of the result";
@@ -79,29 +141,21 @@ const COMPARED_HELP: &str =
 pub(crate) fn command<'a>(alloc: Global) -> Result<Command<'a>, AllocError>
     ensures { IfOk result (λ c. app_of c ≡ tor_command) }
 {
-    let list = flag(alloc, "list", LIST_HELP);
-    let survey = flag(alloc, "survey", SURVEY_HELP);
-    let sets = option(alloc, "as-sets", SETS_HELP);
-    let ratio = number(alloc, "ratio", 0, 1_000_000, RATIO_HELP);
-    let most = number(alloc, "max-paths", 1, 8_388_608, MOST_HELP);
-    let sample = number(alloc, "sample", 0, u64::MAX, SAMPLE_HELP);
-    let dumps = rest(alloc, "dump", DUMPS_HELP);
     let tor = Command::new(alloc, "tor").no_binary_name(true);
-    tor.arg(list)?
-        .arg(survey)?
-        .arg(sets)?
-        .arg(ratio)?
-        .arg(most)?
-        .arg(sample)?
-        .arg(dumps)
+    let tor = with_flag(alloc, tor, "list", LIST_HELP)?;
+    let tor = with_flag(alloc, tor, "survey", SURVEY_HELP)?;
+    let tor = with_option(alloc, tor, "as-sets", SETS_HELP)?;
+    let tor = with_number(alloc, tor, "ratio", 0, 1_000_000, RATIO_HELP)?;
+    let tor = with_number(alloc, tor, "max-paths", 1, 8_388_608, MOST_HELP)?;
+    let tor = with_number(alloc, tor, "sample", 0, u64::MAX, SAMPLE_HELP)?;
+    with_rest(alloc, tor, "dump", DUMPS_HELP)
 }
 
 /// The command line of `torcheck`.
 pub(crate) fn check_command<'a>(alloc: Global) -> Result<Command<'a>, AllocError>
     ensures { IfOk result (λ c. app_of c ≡ torcheck_command) }
 {
-    let file = needed(alloc, "result", RESULT_HELP);
-    let dumps = rest(alloc, "dump", COMPARED_HELP);
     let torcheck = Command::new(alloc, "torcheck").no_binary_name(true);
-    torcheck.arg(file)?.arg(dumps)
+    let torcheck = with_needed(alloc, torcheck, "result", RESULT_HELP)?;
+    with_rest(alloc, torcheck, "dump", COMPARED_HELP)
 }
