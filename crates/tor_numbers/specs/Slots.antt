@@ -1,5 +1,6 @@
 -- Numbers in slots, each found from the slot that its hash names.
-use Rattle.std.specs.Prelude.{◌≡◌, ◌≢◌, ℕ, zero, suc, ◌+◌, ◌-◌, ◌*◌, ◌/◌, ◌^◌, ◌≤◌, ◌⊎◌, Bool, true, false, nat_lt, if◌then◌else◌, List, [], ◌∷◌, ◌++◌, Some, length, take, slice_get, Contains, bit_and, bit_xor}
+use Rattle.std.specs.Prelude.{◌≡◌, ◌≢◌, ℕ, zero, suc, ◌+◌, ◌-◌, ◌*◌, ◌/◌, ◌^◌, ◌<◌, ◌≤◌, ◌⊎◌, Bool, true, false, nat_lt, if◌then◌else◌, List, [], ◌∷◌, ◌++◌, Some, length, take, slice_get, Contains, bit_and, bit_xor}
+use Rattle.tor_arena.specs.Growth.{IsDoubled}
 use Rattle.tor_numbers.specs.declared.probing.Probe.{Probe}
 use Rattle.tor_numbers.specs.declared.probing.Probe.TheVariants.{Held, Free, Full}
 
@@ -57,6 +58,11 @@ Leaves seed number old new =
 -- no number stands twice
 abbrev pub IsApart : List ℕ → Type 0
 IsApart numbers = (k number : ℕ) → slice_get numbers k ≡ Some number → Contains (take k numbers) number → ⊥
+
+-- how many slots there are when they were made anew for so many numbers: as before where these fill less than a quarter, and else
+-- twice as many
+abbrev pub IsAnew : (numbers old new : ℕ) → Type 0
+IsAnew numbers old new = (numbers < old / 4 → new ≡ old) × (old / 4 ≤ numbers → IsDoubled 16 old new)
 
 -- distinct numbers and their slots
 pub record IsSet (seed : ℕ) (slots numbers : List ℕ) : Type 0 where

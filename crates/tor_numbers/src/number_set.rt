@@ -1,11 +1,11 @@
-ghost use Rattle.std.specs.Prelude.{◌≡◌, ◌<◌, ◌≤◌, ◌↔◌, ◌++◌, ◌∷◌, ℕ, List, [], length, take, Contains, IsTrue, IfOk, OnOk, OnErr};
-ghost use Rattle.tor_numbers.specs.Slots.{IsProbe, IsHeld, IsHolding, IsInserted, Leaves, IsApart};
+ghost use Rattle.std.specs.Prelude.{◌≡◌, ◌<◌, ◌≤◌, ◌*◌, ◌/◌, ◌↔◌, ◌++◌, ◌∷◌, ℕ, List, [], length, take, Contains, IsTrue, IfOk, OnOk, OnErr};
+ghost use Rattle.tor_numbers.specs.Slots.{IsProbe, IsHeld, IsHolding, IsInserted, Leaves, IsApart, IsAnew};
 
 use crate::probing::{Probe, next, start_of};
 use std::alloc::Global;
 use std::hash::BuildHasher;
 use std::marker::Model;
-use tor_arena::{Keys, NoMemory};
+use tor_arena::{Keys, NoMemory, doubled};
 
 /// A slot that never held a number.
 const FREE: u64 = 0;
@@ -171,7 +171,7 @@ fn release_from(slots: &mut [u64], seed: u64, numbers: &[u64], count: usize)
 fn filled(alloc: Global, seed: u64, count: usize, numbers: &[u64]) -> Result<Vec<u64>, NoMemory>
     requires some { 0 < count }
     requires least { (k : ℕ) → Contains numbers.now k → 2 ≤ k }
-    ensures some { IfOk result (λ slots. 0 < length slots.items) }
+    ensures many { IfOk result (λ slots. length slots.items ≡ count) }
     ensures held { IfOk result (λ slots. IsHeld seed slots.items numbers.now) }
 {
     let mut slots = Vec::new(alloc);
@@ -182,21 +182,23 @@ fn filled(alloc: Global, seed: u64, count: usize, numbers: &[u64]) -> Result<Vec
     Ok(slots)
 }
 
+/// How many slots there are at first.
+const FIRST: usize = 16;
+
 /// How many slots there have to be when three quarters of these are in use, where there are so many numbers: as many, if that is for
 /// numbers that were taken away, or twice as many.
 fn next_count(slots: usize, numbers: usize) -> usize
-    ensures { 0 < result }
+    ensures anew { IsAnew numbers slots result }
+    ensures some { 0 < result }
 {
-    if slots == 0 {
-        16
-    } else if numbers < slots / 4 {
+    if numbers < slots / 4 {
         slots
     } else {
-        slots.saturating_mul(2)
+        doubled(slots, FIRST)
     }
 }
 
-/// Makes the slots anew if three quarters of them are in use. For want of memory nothing changes.
+/// Makes the slots anew if three quarters of them are in use, and else leaves them as they are. For want of memory nothing changes.
 fn make_room(
     alloc: Global,
     seed: u64,
@@ -206,6 +208,9 @@ fn make_room(
 ) -> Result<(), NoMemory>
     requires held { IsHeld seed slots.old.items numbers.now }
     ensures some { OnOk result (0 < length slots.new.items) }
+    ensures stays { used.old < length slots.old.items / 4 * 3 → (slots.new ≡ slots.old) × (used.new ≡ used.old) }
+    ensures anew { OnOk result (length slots.old.items / 4 * 3 ≤ used.old →
+        IsAnew (length numbers.now) (length slots.old.items) (length slots.new.items) × (used.new ≡ length numbers.now)) }
     ensures held { IsHeld seed slots.new.items numbers.now }
 {
     if *used >= slots.len() / 4 * 3 {

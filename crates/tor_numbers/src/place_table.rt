@@ -1,12 +1,13 @@
-ghost use Rattle.std.specs.Prelude.{◌≡◌, ◌<◌, ◌≤◌, ◌^◌, ℕ, [], length, slice_get, Some, Contains, IfOk, OnOk, OnErr, MatchOption};
+ghost use Rattle.std.specs.Prelude.{◌≡◌, ◌<◌, ◌≤◌, ◌/◌, ◌^◌, ℕ, [], length, slice_get, Some, Contains, IfOk, OnOk, OnErr, MatchOption};
 ghost use Rattle.tor_numbers.specs.Slots.{IsProbe, IsHeld, IsApart};
+ghost use Rattle.tor_arena.specs.Growth.{IsDoubled};
 ghost use Rattle.tor_numbers.specs.Places.{names, IsPlaced, AreWithin, IsPut};
 
 use crate::probing::{Probe, next, start_of};
 use std::alloc::Global;
 use std::hash::BuildHasher;
 use std::marker::Model;
-use tor_arena::{Keys, NoMemory};
+use tor_arena::{Keys, NoMemory, doubled};
 
 /// Distinct numbers from 2 on, in the order in which they were added, each found with its place. They are found by slots, of which
 /// at most a third are in use: a slot holds the place of a number, from 1.
@@ -166,7 +167,7 @@ fn filled(alloc: Global, seed: u64, count: usize, numbers: &[u64]) -> Result<Vec
     requires least { (n : ℕ) → Contains numbers.now n → 2 ≤ n }
     requires few { length numbers.now < 2 ^ 32 }
     requires apart { IsApart numbers.now }
-    ensures some { IfOk result (λ slots. 0 < length slots.items) }
+    ensures many { IfOk result (λ slots. length slots.items ≡ count) }
     ensures within { IfOk result (λ slots. AreWithin (length numbers.now) slots.items) }
     ensures held { IfOk result (λ slots. IsHeld seed (names numbers.now slots.items) numbers.now) }
 {
@@ -183,18 +184,10 @@ fn filled(alloc: Global, seed: u64, count: usize, numbers: &[u64]) -> Result<Vec
     Ok(slots)
 }
 
-/// How many slots there have to be when a third of these are in use.
-fn next_count(slots: usize) -> usize
-    ensures { 0 < result }
-{
-    if slots == 0 {
-        16
-    } else {
-        slots.saturating_mul(2)
-    }
-}
+/// How many slots there are at first.
+const FIRST: usize = 16;
 
-/// Makes the slots anew if a third of them are in use. For want of memory nothing changes.
+/// Makes twice as many slots if a third of them are in use, and else leaves them as they are. For want of memory nothing changes.
 fn make_room(
     alloc: Global,
     seed: u64,
@@ -203,10 +196,13 @@ fn make_room(
 ) -> Result<(), NoMemory>
     requires placed { IsPlaced seed slots.old.items numbers.now }
     ensures some { OnOk result (0 < length slots.new.items) }
+    ensures stays { length numbers.now < length slots.old.items / 3 → slots.new ≡ slots.old }
+    ensures grows { OnOk result (length slots.old.items / 3 ≤ length numbers.now →
+        IsDoubled 16 (length slots.old.items) (length slots.new.items)) }
     ensures placed { IsPlaced seed slots.new.items numbers.now }
 {
     if numbers.len() >= slots.len() / 3 {
-        *slots = filled(alloc, seed, next_count(slots.len()), numbers)?;
+        *slots = filled(alloc, seed, doubled(slots.len(), FIRST), numbers)?;
     }
     Ok(())
 }

@@ -1,4 +1,4 @@
-use Rattle.std.proofs.Common.{rules, ◌≡◌, ◌<◌, ◌≤◌, ◌+◌, length, replicate, subst, sym, ap, ◌∙◌, arith, length-set}
+use Rattle.std.proofs.Common.{rules, ◌≡◌, ◌≤◌, ◌+◌, length, replicate, subst, sym, ap, ◌∙◌, arith, length-set}
 use Rattle.std.specs.Prelude.{slice_index_or}
 use Rattle.std.proofs.lemmas.List.{length-replicate}
 use Rattle.std.proofs.lemmas.List.Elements.{All-replicate, All-set}
@@ -13,7 +13,7 @@ pub loop-place-init : goal.loop-place-init
 loop-place-init c =
     let items : c.resize.new.self.items ≡ replicate c.args.count 0 = search rules in
     record {
-      some = subst (λ l. 0 < length l) (sym items) (subst (λ n. 0 < n) (sym (length-replicate c.args.count 0)) c.requires.some);
+      many = ap length items ∙ length-replicate c.args.count 0;
       within = subst (AreWithin 0) (sym items) (All-replicate (λ v. v ≤ 0) c.args.count 0 (omega arith));
       held = held-none c.args.seed c.args.count (names c.args.numbers.now c.resize.new.self.items) (ap (names c.args.numbers.now) items ∙ names-free c.args.numbers.now c.args.count);
     }
@@ -40,7 +40,7 @@ loop-place-preserved c =
     let probe = subst (λ l. IsProbe (names numbers l) start number (Free slot)) c.as_slice.ensures.value c.in-Free.ensures in
     let some = c.requires.least number (contains_at numbers place c.loop-place-test.true) in
     record {
-      some = subst (λ n. 0 < n) (sym (length-set slots slot (place + 1))) c.loop-place.invariant.some;
+      many = length-set slots slot (place + 1) ∙ c.loop-place.invariant.many;
       within = All-set (λ v. v ≤ place + 1) slots slot (place + 1) (omega arith) (wider place (place + 1) slots (omega arith) c.loop-place.invariant.within);
       held = fill-next c.args.seed slots numbers slot start place c.loop-place-test.true some is probe.0 probe.1 probe.2 c.loop-place.invariant.held;
     }
