@@ -7,6 +7,15 @@ use Rattle.path_attrs.specs.declared.fault.RibFault.TheVariants.{Cut, Tail, Pref
 use Rattle.path_attrs.specs.Fields.{◌>>=◌, octets, number, check, or_fault}
 use Rattle.path_attrs.specs.Attributes.{Attribute, attributes_of}
 
+-- the octets behind the fields between the prefix and the attributes
+abbrev pub behind_peer : Family → List ℕ → Result (List ℕ) RibFault
+behind_peer family fields = do
+  status ← octets Cut 1 fields
+  originated ← octets Cut 4 status.1
+  peer_ip ← octets Cut (address_octets family) originated.1
+  peer_as ← octets Cut 2 peer_ip.1
+  Ok peer_as.1
+
 -- the octets behind the fields before the attributes; a prefix is no longer than an address
 unfoldable pub behind_fields : Family → List ℕ → Result (List ℕ) RibFault
 behind_fields family body = do
@@ -15,11 +24,7 @@ behind_fields family body = do
   prefix ← octets Cut (address_octets family) sequence.1
   prefix_length ← number Cut 1 prefix.1
   fits ← check PrefixLong (nat_le prefix_length.0 (8 * address_octets family))
-  status ← octets Cut 1 prefix_length.1
-  originated ← octets Cut 4 status.1
-  peer_ip ← octets Cut (address_octets family) originated.1
-  peer_as ← octets Cut 2 peer_ip.1
-  Ok peer_as.1
+  behind_peer family prefix_length.1
 
 -- the attributes of the route, or the first fault in the order of the fields
 unfoldable pub route_of : Family → List ℕ → Result (List Attribute) RibFault

@@ -1,9 +1,22 @@
 ghost use Rattle.std.specs.Prelude.{◌≡◌, ◌≢◌, ◌⊎◌, IfErr};
 ghost use Rattle.path_attrs.specs.Fields.{Gives};
-ghost use Rattle.rib_v1.specs.TableDump.{behind_fields, route_of};
+ghost use Rattle.rib_v1.specs.TableDump.{behind_peer, behind_fields, route_of};
 
 use mrt_frame::Family;
 use path_attrs::{Attrs, RibFault, attributes, number16, octet, octets};
+
+// The octets behind the fields between the prefix and the attributes.
+fn behind_peer(family: Family, fields: &[u8]) -> Result<&[u8], RibFault>
+    ensures gives { Gives (λ rest. rest.now) result (behind_peer family fields.now) }
+    ensures only { IfErr result (λ fault. fault ≡ RibFault.Cut) }
+{
+    let address_len = family.octets();
+    let (_status, rest) = octets(fields, 1, RibFault::Cut)?;
+    let (_time, rest) = octets(rest, 4, RibFault::Cut)?;
+    let (_peer_ip, rest) = octets(rest, address_len, RibFault::Cut)?;
+    let (_peer_as, rest) = octets(rest, 2, RibFault::Cut)?;
+    Ok(rest)
+}
 
 // The octets behind the fields before the attributes.
 #[tactic(auto, unfolding(crate::specs::TableDump::behind_fields))]
@@ -19,11 +32,7 @@ fn behind_fields(family: Family, body: &[u8]) -> Result<&[u8], RibFault>
     if usize::from(prefix_len) > 8 * address_len {
         return Err(RibFault::PrefixLong);
     }
-    let (_status, rest) = octets(rest, 1, RibFault::Cut)?;
-    let (_time, rest) = octets(rest, 4, RibFault::Cut)?;
-    let (_peer_ip, rest) = octets(rest, address_len, RibFault::Cut)?;
-    let (_peer_as, rest) = octets(rest, 2, RibFault::Cut)?;
-    Ok(rest)
+    behind_peer(family, rest)
 }
 
 /// The path attributes of the route of a TABLE_DUMP record (RFC 6396, section 4.2), or the first fault of its body in the order
