@@ -24,14 +24,24 @@ rest_rule name = record (new_rule name) {
   range = Some (record { start_inclusive = 1; end_inclusive = usize_max });
 }
 
-unfoldable pub tor_command : App
-tor_command =
-    with_rule (with_rule (with_rule (with_rule (with_rule (with_rule (with_rule
-    (on_top (λ s. record s { no_binary_name = true }) (new_app (codes "tor")))
+-- the command with the options that have no number
+abbrev pub with_choices : App → App
+with_choices app =
+    with_rule (with_rule (with_rule app
     (flag_rule (codes "list")))
     (flag_rule (codes "survey")))
-    (option_rule (codes "as-sets")))
+    (option_rule (codes "as-sets"))
+
+-- the command with the options that have one
+abbrev pub with_numbers : App → App
+with_numbers app =
+    with_rule (with_rule (with_rule app
     (number_rule (codes "ratio") 0 1000000))
     (number_rule (codes "max-paths") 1 8388608))
-    (number_rule (codes "sample") 0 18446744073709551615))
+    (number_rule (codes "sample") 0 18446744073709551615)
+
+unfoldable pub tor_command : App
+tor_command =
+    with_rule (with_numbers (with_choices
+    (on_top (λ s. record s { no_binary_name = true }) (new_app (codes "tor")))))
     (rest_rule (codes "dump"))

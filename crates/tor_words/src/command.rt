@@ -1,7 +1,7 @@
 //! The commands, as clap takes them.
 ghost use Rattle.std.specs.Prelude.{◌≡◌, IfOk, codes, false};
 ghost use Rattle.clap.specs.Words.{app_of, rule_of, with_rule};
-ghost use Rattle.tor_words.specs.TorCommand.{tor_command, option_rule, number_rule, flag_rule, rest_rule};
+ghost use Rattle.tor_words.specs.TorCommand.{tor_command, with_choices, with_numbers, option_rule, number_rule, flag_rule, rest_rule};
 ghost use Rattle.tor_words.specs.TorcheckCommand.{torcheck_command, needed_rule};
 
 use clap::builder::ValueParser;
@@ -137,17 +137,31 @@ const RESULT_HELP: &str = "The result to judge";
 const COMPARED_HELP: &str =
     "The dumps, in order, that the paths of the result, their times and its seven counts have to be those of";
 
+// The command with the options that have no number.
+fn with_choices<'a>(alloc: Global, command: Command<'a>) -> Result<Command<'a>, AllocError>
+    ensures { IfOk result (λ c. app_of c ≡ with_choices (app_of command.entry)) }
+{
+    let command = with_flag(alloc, command, "list", LIST_HELP)?;
+    let command = with_flag(alloc, command, "survey", SURVEY_HELP)?;
+    with_option(alloc, command, "as-sets", SETS_HELP)
+}
+
+// The command with the options that have one.
+fn with_numbers<'a>(alloc: Global, command: Command<'a>) -> Result<Command<'a>, AllocError>
+    ensures { IfOk result (λ c. app_of c ≡ with_numbers (app_of command.entry)) }
+{
+    let command = with_number(alloc, command, "ratio", 0, 1_000_000, RATIO_HELP)?;
+    let command = with_number(alloc, command, "max-paths", 1, 8_388_608, MOST_HELP)?;
+    with_number(alloc, command, "sample", 0, u64::MAX, SAMPLE_HELP)
+}
+
 /// The command line of `tor`.
 pub(crate) fn command<'a>(alloc: Global) -> Result<Command<'a>, AllocError>
     ensures { IfOk result (λ c. app_of c ≡ tor_command) }
 {
     let tor = Command::new(alloc, "tor").no_binary_name(true);
-    let tor = with_flag(alloc, tor, "list", LIST_HELP)?;
-    let tor = with_flag(alloc, tor, "survey", SURVEY_HELP)?;
-    let tor = with_option(alloc, tor, "as-sets", SETS_HELP)?;
-    let tor = with_number(alloc, tor, "ratio", 0, 1_000_000, RATIO_HELP)?;
-    let tor = with_number(alloc, tor, "max-paths", 1, 8_388_608, MOST_HELP)?;
-    let tor = with_number(alloc, tor, "sample", 0, u64::MAX, SAMPLE_HELP)?;
+    let tor = with_choices(alloc, tor)?;
+    let tor = with_numbers(alloc, tor)?;
     with_rest(alloc, tor, "dump", DUMPS_HELP)
 }
 
