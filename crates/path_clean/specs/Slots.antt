@@ -63,6 +63,12 @@ IsVacancy slots start (Held id) = Unit {0}
 IsVacancy slots start (Free place) = IsVacant slots start place
 IsVacancy slots start Full = Unit {0}
 
+-- where a search ended at a free slot, this holds
+abbrev pub OnFree : Probe → Type 0 → Type 0
+OnFree (Held id) fact = Unit {0}
+OnFree (Free place) fact = fact
+OnFree Full fact = Unit {0}
+
 -- no row is the path
 abbrev pub IsAbsent : (rows : List (List ℕ)) (path : List ℕ) → Type 0
 IsAbsent rows path = (k : ℕ) → k < length rows → row_at rows k ≢ path

@@ -34,7 +34,7 @@ pub enum Cause {
 }
 
 /// What a route is cleaned to.
-#[derive(Debug, Drop)]
+#[derive(Drop)]
 pub enum Cleaned {
     /// A path of at least two ASes, all distinct, none reserved.
     Path(List<u32>),

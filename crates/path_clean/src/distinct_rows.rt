@@ -1,13 +1,14 @@
-ghost use Rattle.std.specs.Prelude.{◌≡◌, ◌≢◌, ◌<◌, ◌≤◌, ◌++◌, ◌∷◌, [], ℕ, length, OnOk, OnErr, IfOk, IfSome, IfNone};
+ghost use Rattle.std.specs.Prelude.{◌≡◌, ◌≢◌, ◌<◌, ◌≤◌, ◌/◌, ◌++◌, ◌∷◌, [], ℕ, length, OnOk, OnErr, IfOk, IfSome, IfNone};
+ghost use Rattle.tor_arena.specs.Growth.{IsDoubled};
 ghost use Rattle.tor_arena.specs.Limits.{most_places};
 ghost use Rattle.path_clean.specs.Chains.{row_at};
-ghost use Rattle.path_clean.specs.Slots.{tag_of, start_at, IsVacant, IsVacancy, IsProbe, Tells};
+ghost use Rattle.path_clean.specs.Slots.{tag_of, start_at, IsVacant, IsVacancy, IsProbe, OnFree, Tells};
 
 use crate::hashing::{hash_of, seed_of};
 use crate::slots::{Guess, Probe, Slot, free_from, seek, start_of, widened};
 use std::alloc::Global;
 use std::marker::Model;
-use tor_arena::{Index, Keys, NoMemory, PathId, Rows};
+use tor_arena::{Index, Keys, NoMemory, PathId, Rows, doubled};
 
 /// Paths in the order in which they were added, with slots by which they are found.
 #[derive(Drop)]
@@ -112,17 +113,20 @@ impl IndexedPaths {
         Ok(id)
     }
 
-    // The free slot for a path of this tag, where a search for it has ended so. If half of the slots are in use, they are made anew.
+    // The free slot for a path of this tag, where a search for it has ended so. If half of the slots are in use, twice as many are made.
     fn vacancy(&mut self, tag: u32, probe: Probe) -> Result<usize, NoMemory>
         requires probe { IsVacancy self.old.slots (start_at tag (length self.old.slots)) probe }
         ensures rows { self.new.rows ≡ self.old.rows }
         ensures seed { self.new.seed ≡ self.old.seed }
         ensures vacant { IfOk result (IsVacant self.new.slots (start_at tag (length self.new.slots))) }
+        ensures stays { OnFree probe (length self.old.rows < length self.old.slots / 2 → self.new.slots ≡ self.old.slots) }
+        ensures grows { OnOk result (length self.old.slots / 2 ≤ length self.old.rows →
+            IsDoubled 1024 (length self.old.slots) (length self.new.slots)) }
     {
         match probe {
             Probe::Free(slot) if self.rows.len() < self.slots.len() / 2 => Ok(slot),
             _ => {
-                let count = next_count(self.slots.len());
+                let count = doubled(self.slots.len(), FIRST);
                 self.slots = widened(self.alloc, self.slots.as_slice(), count)?;
                 let start = start_of(tag, self.slots.len());
                 free_from(self.slots.as_slice(), start).ok_or(NoMemory)
@@ -131,13 +135,5 @@ impl IndexedPaths {
     }
 }
 
-/// How many slots there have to be when half of these are in use.
-fn next_count(slots: usize) -> usize
-    ensures { 0 < result }
-{
-    if slots == 0 {
-        1024
-    } else {
-        slots.saturating_mul(2)
-    }
-}
+/// How many slots there are at first.
+const FIRST: usize = 1024;

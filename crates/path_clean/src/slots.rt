@@ -9,7 +9,7 @@ use std::alloc::Global;
 use tor_arena::{Index, NoMemory, PathId, Rows};
 
 /// A slot, which names a row or is free.
-#[derive(Clone, Copy, Debug, PartialEq, Eq)]
+#[derive(Clone, Copy, PartialEq, Eq)]
 pub(crate) struct Slot {
     /// The tag of the row, so that hardly any other row has to be looked at.
     pub tag: u32,
@@ -21,13 +21,13 @@ pub(crate) struct Slot {
 const FREE: Slot = Slot { tag: 0, row: 0 };
 
 /// The tag of a path in a table, for a guess.
-#[derive(Clone, Copy, Debug, PartialEq, Eq)]
+#[derive(Clone, Copy, PartialEq, Eq)]
 pub struct Tag {
     pub(crate) tag: u32,
 }
 
 /// Where a path may stand in a table: what the slot has at which the search for it begins.
-#[derive(Clone, Copy, Debug, PartialEq, Eq)]
+#[derive(Clone, Copy, PartialEq, Eq)]
 pub struct Guess {
     // the tag of the path
     tag: u32,
@@ -58,7 +58,7 @@ impl Guess {
 }
 
 /// Where a search for a path ends.
-#[derive(Clone, Copy, Debug, PartialEq, Eq)]
+#[derive(Clone, Copy, PartialEq, Eq)]
 pub(crate) enum Probe {
     /// In a slot that names it, at this row.
     Held(PathId),
@@ -171,7 +171,7 @@ fn put(slots: &mut [Slot], slot: Slot) -> Result<(), NoMemory>
 /// So many slots, which name what these slots name. They are gone over in order and written nearly in order, and no row is looked at.
 pub(crate) fn widened(alloc: Global, slots: &[Slot], count: usize) -> Result<Vec<Slot>, NoMemory>
     requires some { 0 < count }
-    ensures some { IfOk result (λ wider. 0 < length wider.items) }
+    ensures many { IfOk result (λ wider. length wider.items ≡ count) }
     ensures all { IfOk result (λ wider. KeepsAll slots.now wider.items) }
 {
     let mut wider = Vec::new(alloc);
