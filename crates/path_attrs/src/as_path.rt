@@ -29,7 +29,7 @@ pub enum SegKind {
 }
 
 /// One segment of an AS_PATH: its kind, and its AS numbers in order.
-#[derive(Debug, Drop)]
+#[derive(Drop)]
 pub struct Segment {
     /// Its kind.
     pub kind: SegKind,

@@ -13,7 +13,7 @@ pub struct AttrCut;
 const EXTENDED: u8 = 0x10;
 
 /// The path attributes of a block in order, each a type code and a value.
-#[derive(Debug, Drop)]
+#[derive(Drop)]
 pub struct Attrs<'a> {
     block: &'a [u8],
 }

@@ -10,7 +10,7 @@ use std::marker::Model;
 use tor_arena::{List, NoMemory};
 
 /// The segments of an AS_PATH that are still to come.
-#[derive(Debug, Drop)]
+#[derive(Drop)]
 pub struct SegmentCursor<'a> {
     rest: &'a [u8],
     width: Width,
@@ -68,7 +68,7 @@ impl<'a> SegmentCursor<'a> {
 }
 
 /// A segment of an AS_PATH where it lies.
-#[derive(Debug, Drop)]
+#[derive(Drop)]
 pub struct SegmentRef<'a> {
     kind: SegKind,
     count: usize,
@@ -136,7 +136,7 @@ impl<'a> SegmentRef<'a> {
 }
 
 /// The AS numbers of a segment that are still to come.
-#[derive(Debug, Drop)]
+#[derive(Drop)]
 pub struct NumberCursor<'a> {
     rest: &'a [u8],
     count: usize,

@@ -9,7 +9,7 @@ use std::alloc::Global;
 use tor_arena::{List, NoMemory};
 
 /// The AS path of a route.
-#[derive(Debug, Drop)]
+#[derive(Drop)]
 pub enum PathOf {
     /// It has no AS_PATH.
     Absent,

@@ -50,7 +50,7 @@ pub enum Pathless {
 }
 
 /// The first segments of an AS_PATH that are still to come.
-#[derive(Debug, Drop)]
+#[derive(Drop)]
 struct LeadingCursor<'a> {
     // How many ASes they count. None: these are all segments.
     most: Option<usize>,
@@ -99,7 +99,7 @@ impl<'a> LeadingCursor<'a> {
 }
 
 /// The segments of an AS4_PATH that are still to come, but for those of confederations.
-#[derive(Debug, Drop)]
+#[derive(Drop)]
 struct OutsideCursor<'a> {
     segments: SegmentCursor<'a>,
 }
@@ -131,7 +131,7 @@ impl<'a> OutsideCursor<'a> {
 }
 
 /// The segments of the AS path of a route that are still to come, where they lie.
-#[derive(Debug, Drop)]
+#[derive(Drop)]
 pub struct PathCursor<'a> {
     // Of AS_PATH.
     leading: LeadingCursor<'a>,
