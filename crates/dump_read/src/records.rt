@@ -17,7 +17,7 @@ use std::alloc::Global;
 use tor_arena::NoMemory;
 
 /// Why a record was not taken in.
-#[derive(Clone, Copy, Debug, PartialEq, Eq)]
+#[derive(Clone, Copy, PartialEq, Eq)]
 pub(crate) enum Unread {
     Fault(RibFault),
     Untaken(Untaken),

@@ -22,7 +22,7 @@ pub struct Taken {
 }
 
 /// Why a route was not taken in.
-#[derive(Clone, Copy, Debug, PartialEq, Eq)]
+#[derive(Clone, Copy, PartialEq, Eq)]
 pub(crate) enum Untaken {
     Limit(LimitKind),
     NoMemory,

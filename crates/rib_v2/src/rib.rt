@@ -11,7 +11,7 @@ use std::marker::Model;
 use tor_arena::{List, NoMemory};
 
 /// One entry of a RIB: the index of its peer, and its path attributes.
-#[derive(Debug, Drop)]
+#[derive(Drop)]
 pub struct Entry<'a> {
     /// The index of its peer in the peer table, from 0.
     pub peer: u16,
@@ -79,7 +79,7 @@ fn entry_of<'a>(
 }
 
 /// The entries of a RIB that are still to come, where they lie.
-#[derive(Debug, Drop)]
+#[derive(Drop)]
 pub struct EntryCursor<'a> {
     form: EntryForm,
     peers: Peers,
