@@ -13,7 +13,7 @@ use std::alloc::Global;
 use tor_arena::List;
 
 /// What a run of `torcheck` is asked for: whether a result meets the rules, and agrees with dumps.
-#[derive(Debug, Drop)]
+#[derive(Drop)]
 pub struct CheckSettings {
     /// The name of the result file.
     pub result: Name,

@@ -6,7 +6,7 @@ use std::marker::Model;
 use tor_arena::NoMemory;
 
 /// A text, as a word of a command line or the name of a file: seen as its bytes, in UTF-8.
-#[derive(Debug, Drop)]
+#[derive(Drop)]
 pub struct Name {
     text: String,
 }

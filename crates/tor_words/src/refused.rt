@@ -8,7 +8,7 @@ use std::alloc::Global;
 use tor_arena::{List, NoMemory};
 
 /// Why words give no settings.
-#[derive(Debug, Drop)]
+#[derive(Drop)]
 pub enum WordsRefused {
     /// They are no command of the program. The text says why: its first line is `usage`.
     Usage(List<u8>),

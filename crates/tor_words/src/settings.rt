@@ -27,7 +27,7 @@ pub enum Mode {
 }
 
 /// What a run of `tor` is asked for, and over which dumps.
-#[derive(Debug, Drop)]
+#[derive(Drop)]
 pub struct Settings {
     /// What is written.
     pub mode: Mode,
