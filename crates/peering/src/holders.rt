@@ -67,8 +67,8 @@ fn add_along(
     Ok(())
 }
 
-/// For each edge a list of kept paths that hold it, on which each of these stands unless the edge is excluded. The only error is that memory
-/// ran out.
+/// For each edge a list of kept paths that hold it, on which each of these stands unless the edge is excluded. The only error is that
+/// memory ran out.
 pub(crate) fn paths_by_edge(
     alloc: Global,
     graph: &AsGraph,

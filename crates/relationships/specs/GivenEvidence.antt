@@ -51,7 +51,8 @@ pub record ShowsWith (givens : List Given) (A : Numbered) (shown : List (ℕ × 
 
 abbrev pub ShowFromWith : List Given → Numbered → List (ℕ × ℕ) → List Walk → List (ℕ × ℕ) → Type 0
 ShowFromWith givens A shown [] [] = ⊤
-ShowFromWith givens A shown (w ∷ walks) ((a, b) ∷ orders) = ShowsWith givens A shown w a b × ShowFromWith givens A (shown ++ (a, b) ∷ []) walks orders
+ShowFromWith givens A shown (w ∷ walks) ((a, b) ∷ orders) =
+    ShowsWith givens A shown w a b × ShowFromWith givens A (shown ++ (a, b) ∷ []) walks orders
 ShowFromWith givens A shown _ _ = ⊥
 
 -- each lost path has a walk that refutes by the givens over the paths kept before it and itself; a kept one has no walk. The paths
@@ -68,7 +69,8 @@ abbrev pub served_with : List Given → List (List ℕ) → List (List ℕ)
 served_with givens paths = map return_of givens ++ paths
 
 -- the why walks show orders, each mark is borne out by these and by the probes, and each probe serves for an edge
-pub record MarksHoldWith (givens : List Given) (kept : Numbered) (claims : List Claim) (whys : List Walk) (probes : List (ℕ × ℕ)) : Type 0 where
+pub record MarksHoldWith (givens : List Given) (kept : Numbered) (claims : List Claim) (whys : List Walk)
+    (probes : List (ℕ × ℕ)) : Type 0 where
   pub orders : List (ℕ × ℕ)
   pub shown : ShowFromWith givens kept [] whys orders
   pub marks : All (IsBorneOut (served_with givens (paths_of kept)) orders probes) claims

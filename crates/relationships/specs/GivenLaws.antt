@@ -16,7 +16,8 @@ abbrev pub NoGivensLaw : Type 0
 NoGivensLaw =
     ((A : Numbered) (w : Walk) → RefutesWith [] A w ↔ Refutes A w) ×
     ((A : Numbered) (walks : List Walk) (orders : List (ℕ × ℕ)) → ShowFromWith [] A [] walks orders ↔ Show A walks orders) ×
-    ((n : ℕ) (A : Numbered) (paths : List (List ℕ)) (walks : List (Option Walk)) → LostFromWith [] n A paths walks ↔ LostFrom n A paths walks)
+    ((n : ℕ) (A : Numbered) (paths : List (List ℕ)) (walks : List (Option Walk)) →
+    LostFromWith [] n A paths walks ↔ LostFrom n A paths walks)
 
 -- a walk that refutes by the givens leaves no orientation that agrees with these and serves; an order of two ASes that is shown
 -- holds in every one that does
@@ -24,14 +25,16 @@ abbrev pub GivenWalksLaw : Type 0
 GivenWalksLaw =
     (givens : List Given) (A : Numbered) →
     ((w : Walk) → RefutesWith givens A w → (O : Orientation) → Serves O (served_with givens (paths_of A)) → ⊥) ×
-    ((walks : List Walk) (orders : List (ℕ × ℕ)) → NameTwo givens → All NeighboursDiffer (paths_of A) → ShowFromWith givens A [] walks orders →
-    (O : Orientation) → Serves O (served_with givens (paths_of A)) → (a b : ℕ) → a ≢ b → Contains orders (a, b) → IsTrue (is_over (labels_of O) a b))
+    ((walks : List Walk) (orders : List (ℕ × ℕ)) → NameTwo givens → All NeighboursDiffer (paths_of A) →
+    ShowFromWith givens A [] walks orders → (O : Orientation) → Serves O (served_with givens (paths_of A)) →
+    (a b : ℕ) → a ≢ b → Contains orders (a, b) → IsTrue (is_over (labels_of O) a b))
 
 -- what meets the rules with givens is valid: behind the givens the right paths are kept, exactly the forced edges are marked so, and
 -- none of these is a peering
 abbrev pub GivenRulesLaw : Type 0
 GivenRulesLaw =
-    (givens : List Given) (paths : List (List ℕ)) (walks : List (Option Walk)) (claims : List Claim) (whys : List Walk) (probes : List (ℕ × ℕ)) →
+    (givens : List Given) (paths : List (List ℕ)) (walks : List (Option Walk)) →
+    (claims : List Claim) (whys : List Walk) (probes : List (ℕ × ℕ)) →
     MeetsRulesWith givens paths walks claims whys probes →
     KeepsFrom (map return_of givens) paths (map is_none walks) ×
     ((c : Claim) → Contains claims c → IsTrue c.forced ↔ IsForced (served_with givens (paths_of (kept_of paths walks))) c.low c.high) ×

@@ -83,7 +83,8 @@ GivensServableLaw = (givens : List Given) (paths : List (List ℕ)) → NameTwo 
 -- whether an edge of the paths is forced
 abbrev pub AllGivensLaw : Type 0
 AllGivensLaw =
-    (givens : List Given) (paths some : List (List ℕ)) → NameTwo givens → NameOnce givens → ((e : Edge) → Contains (edges some) e → Contains (edges paths) e) →
+    (givens : List Given) (paths some : List (List ℕ)) → NameTwo givens → NameOnce givens →
+    ((e : Edge) → Contains (edges some) e → Contains (edges paths) e) →
     (IsServable (returns paths givens ++ some) ↔ IsServable (map return_of givens ++ some)) ×
     ((low high : ℕ) → Contains (edges paths) (low, high) →
     IsForced (returns paths givens ++ some) low high ↔ IsForced (map return_of givens ++ some) low high)

@@ -68,4 +68,5 @@ DumpsReadableLaw =
 abbrev pub ReadableLaw : Type 0
 ReadableLaw =
     (mode : Mode) (settings : Settings) (files : Files)
-    → ((taken : Taken) × (seen_in mode settings files ≡ Ok taken)) ↔ AreReadable settings.sets settings.max_paths (dumps_of mode settings files)
+    → ((taken : Taken) × (seen_in mode settings files ≡ Ok taken)) ↔
+    AreReadable settings.sets settings.max_paths (dumps_of mode settings files)
