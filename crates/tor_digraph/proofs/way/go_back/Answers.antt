@@ -1,6 +1,7 @@
 use Rattle.std.proofs.Common.{Some, sym, ◌∙◌, ap, subst}
 use Rattle.tor_digraph.specs.Back.{IsBack}
-use Rattle.tor_digraph.proofs.Ways.{back-push}
+use Rattle.tor_digraph.proofs.Gets.{slice_get-lt}
+use Rattle.tor_digraph.proofs.Ways.{back-none, back-push}
 use Rattle.tor_digraph.proofs.way.go_back.Goals as goal
 
 pub loop-tail-preserved : goal.loop-tail-preserved
@@ -13,3 +14,15 @@ loop-tail-preserved g c =
           (back-push g.A.Index.place_of arcs c.loop-tail.root c.in-Along.tail c.args.node c.in-Along.arc c.loop-tail.steps
           (c.loop-tail.invariant.back arcs t) (t c.loop-tail.root c.in-Along.tail c.in-Along.arc c.in-Along.depth at).0);
     }
+
+pub loop-tail-init : goal.loop-tail-init
+loop-tail-init g c = record {
+  found = c.requires.found;
+  back = λ arcs t. back-none g.A.Index.place_of arcs c.args.node c.new-steps.result c.new-steps.ensures;
+}
+
+pub get-requires : goal.get-requires
+get-requires g c = let found = c.loop-tail.invariant.found in slice_get-lt c.args.found.now.items (g.N.Index.place_of c.loop-tail.root) found.0 found.1
+
+pub returns-clause-back : goal.returns-clause-back
+returns-clause-back g c = c.loop-tail.invariant.back
