@@ -1,16 +1,16 @@
 -- What the rules of a checker give: the keeping law and the marking law.
-use Rattle.std.proofs.Common.{◌↔◌, IsTrue, ◌≡◌, ℕ, ◌+◌, ◌<◌, ◌⊎◌, inl, inr, true, List, [], ◌∷◌, ◌++◌, map, refl, sym, ap, ◌∙◌, subst, arith, All, Any, Contains, Option, Some, None, is_none, filter, flat_map, not, get_or, length, zero, suc, eq-eqb, false, Bool}
+use Rattle.std.proofs.Common.{◌↔◌, IsTrue, ◌≡◌, ◌≢◌, ℕ, ◌+◌, ◌<◌, ◌⊎◌, inl, inr, true, List, [], ◌∷◌, ◌++◌, map, refl, sym, ap, ◌∙◌, subst, arith, All, Any, Contains, Option, Some, None, is_none, filter, flat_map, not, get_or, length, zero, suc, eq-eqb, false, Bool}
 use Rattle.std.proofs.lemmas.Bool.{both_ways, false≢true, cases_Bool, cases_order}
 use Rattle.std.proofs.lemmas.List.{map-append}
-use Rattle.std.proofs.lemmas.List.Elements.{All-contains, All-cons, All-nil, All-push, All-head, All-tail, All-from_recursion, recursion_from_All}
+use Rattle.std.proofs.lemmas.List.Elements.{All-append, All-contains, All-cons, All-nil, All-push, All-head, All-tail, All-from_recursion, recursion_from_All}
 use Rattle.relationships.specs.declared.label.End.{End}
 use Rattle.relationships.specs.declared.label.Label.{Label}
 use Rattle.relationships.specs.declared.walk.Walk.{Walk}
 use Rattle.relationships.specs.Relationship.{Orientation, Labelling, label_of, labels_of, is_low, is_high, is_over, ValleyFree, Serves}
 use Rattle.relationships.specs.Evidence.{NeighboursDiffer, Numbered, paths_of, Closure, IsConsistent, kept_from}
 use Rattle.relationships.specs.Selection.{KeepsFrom, IsForced}
-use Rattle.relationships.specs.Checking.{LostFrom, kept_of, Claim, OtherOrder, IsBorneOut, ProbesFrom, claimed_labels}
-use Rattle.relationships.specs.Laws.{AgreesOn, KeepingLaw, MarkingLaw, ForcedLaw, GraphRulesLaw}
+use Rattle.relationships.specs.Checking.{LostFrom, kept_of, Claim, OtherOrder, IsBorneOut, ProbesFrom, MarksHold, claimed_labels}
+use Rattle.relationships.specs.Laws.{AgreesOn, KeepingLaw, MarkingLaw, ForcedLaw, GraphRulesLaw, GraphRulesBehindLaw}
 use Rattle.relationships.proofs.Slopes.{over_parts, over-low, over-high}
 use Rattle.relationships.proofs.Edges.{peering_law}
 use Rattle.relationships.specs.Graph.{Edge, is_same, edges_from, edges_on, distinct, edges}
@@ -136,11 +136,11 @@ marking_law L kept claims walks probes distinct valley_free holds c claimed lt e
 
 -- ---- all rules together
 
-pub kept_differing : (n : ℕ) (paths : List (List ℕ)) (keeps : List Bool) → AllByRecursion NeighboursDiffer paths → AllByRecursion NeighboursDiffer (paths_of (kept_from n paths keeps))
-kept_differing n [] keeps h = tt
-kept_differing n (path ∷ paths) [] h = tt
-kept_differing n (path ∷ paths) (true ∷ keeps) h = (h.0, kept_differing (n + 1) paths keeps h.1)
-kept_differing n (path ∷ paths) (false ∷ keeps) h = kept_differing (n + 1) paths keeps h.1
+pub kept_all : (P : List ℕ → Type 0) (n : ℕ) (paths : List (List ℕ)) (keeps : List Bool) → AllByRecursion P paths → AllByRecursion P (paths_of (kept_from n paths keeps))
+kept_all P n [] keeps h = tt
+kept_all P n (path ∷ paths) [] h = tt
+kept_all P n (path ∷ paths) (true ∷ keeps) h = (h.0, kept_all P (n + 1) paths keeps h.1)
+kept_all P n (path ∷ paths) (false ∷ keeps) h = kept_all P (n + 1) paths keeps h.1
 
 -- the lower number of an edge of paths without equal neighbours is below the higher
 rising_from : (a : ℕ) (path : List ℕ) → Apart a path → AllByRecursion (λ (e : Edge). e.0 < e.1) (edges_from a path)
@@ -209,17 +209,43 @@ rising_at [] c k h lt e = absurd (omega arith)
 rising_at (d ∷ claims) c zero h lt e = subst (λ (v : Claim). v.low < v.high) e h.0
 rising_at (d ∷ claims) c (suc k) h lt e = rising_at claims c k h.1 (omega arith) e
 
+-- where the claims are of the edges, one of each, the labels that they give are theirs
+claims_once : (paths : List (List ℕ)) (claims : List Claim) → map (λ (c : Claim). (c.low, c.high)) claims ≡ edges paths → Once (map (λ (c : Claim). (c.low, c.high)) claims)
+claims_once paths claims each = subst Once (sym each) (distinct_once (flat_map edges_on paths))
+
+pub label_of_claim : (paths : List (List ℕ)) (claims : List Claim) → map (λ (c : Claim). (c.low, c.high)) claims ≡ edges paths → (c : Claim) → Contains claims c →
+    claimed_labels claims c.low c.high ≡ c.label
+label_of_claim paths claims each c i = label_at claims (claims_once paths claims each) c i.0 i.1 i.2
+
+-- the rules behind paths that are served from the start, where the labels of the claims leave all of these valley-free
+pub rules_behind : (L : Labelling) (begun : Numbered) (paths : List (List ℕ)) (walks : List (Option Walk)) (claims : List Claim) (whys : List Walk) (probes : List (ℕ × ℕ)) →
+    All NeighboursDiffer (paths_of begun) → All NeighboursDiffer paths → LostFrom 1 begun paths walks → map (λ (c : Claim). (c.low, c.high)) claims ≡ edges paths →
+    All (ValleyFree L) (paths_of begun) → All (ValleyFree L) (paths_of (kept_of paths walks)) → MarksHold (begun ++ kept_of paths walks) claims whys probes →
+    ((c : Claim) → Contains claims c → L c.low c.high ≡ c.label) →
+    KeepsFrom (paths_of begun) paths (map is_none walks) ×
+    ((c : Claim) → Contains claims c → IsTrue c.forced ↔ IsForced (paths_of (begun ++ kept_of paths walks)) c.low c.high) ×
+    ((c : Claim) → Contains claims c → IsTrue c.forced → c.label ≢ Label.Peer)
+rules_behind L begun paths walks claims whys probes begun_apart differ lost each begun_free kept_free marks says =
+    let kept = kept_of paths walks in
+    let apart = recursion_from_All NeighboursDiffer paths differ in
+    let rising = subst (AllByRecursion (λ (e : Edge). e.0 < e.1)) (sym each) (distinct_keeps (λ (e : Edge). e.0 < e.1) (flat_map edges_on paths) (rising_all paths apart)) in
+    let kept_apart = All-from_recursion NeighboursDiffer (paths_of kept) (kept_all NeighboursDiffer 1 paths (map is_none walks) apart) in
+    let same = sym (map-append (λ (p : ℕ × List ℕ). p.1) begun kept) in
+    let all_apart = subst (All NeighboursDiffer) same (All-append NeighboursDiffer (paths_of begun) (paths_of kept) begun_apart kept_apart) in
+    let all_free = subst (All (ValleyFree L)) same (All-append (ValleyFree L) (paths_of begun) (paths_of kept) begun_free kept_free) in
+    let marked : (c : Claim) → Contains claims c → IsTrue c.forced ↔ IsForced (paths_of (begun ++ kept)) c.low c.high = λ c i.
+    marking_law L (begun ++ kept) claims whys probes all_apart all_free marks c i (rising_at claims c i.0 rising i.1 i.2) (says c i) in (
+      keeps_from (reading End.Low L) 1 begun paths walks lost (reading_serves End.Low L (paths_of begun) begun_free) (reading_serves End.Low L (paths_of kept) kept_free),
+      marked,
+      λ c i t peer. forced_law L (paths_of (begun ++ kept)) c.low c.high all_free ((marked c i).0 t) (says c i ∙ peer),
+    )
+
+pub graph_rules_behind_law : GraphRulesBehindLaw
+graph_rules_behind_law begun paths walks claims whys probes a =
+    rules_behind (claimed_labels claims) begun paths walks claims whys probes a.begun_differ a.neighbours_differ a.lost a.each_edge a.begun_free a.valley_free a.marks
+    (label_of_claim paths claims a.each_edge)
+
 pub graph_rules_law : GraphRulesLaw
 graph_rules_law paths walks claims whys probes a =
-    let distinct = recursion_from_All NeighboursDiffer paths a.neighbours_differ in
-    let rising = subst (AllByRecursion (λ (e : Edge). e.0 < e.1)) (sym a.each_edge) (distinct_keeps (λ (e : Edge). e.0 < e.1) (flat_map edges_on paths) (rising_all paths distinct)) in
-    let once = subst Once (sym a.each_edge) (distinct_once (flat_map edges_on paths)) in
-    let kept_apart = All-from_recursion NeighboursDiffer (paths_of (kept_of paths walks)) (kept_differing 1 paths (map is_none walks) distinct) in
-    let label_of_claim : (c : Claim) → Contains claims c → claimed_labels claims c.low c.high ≡ c.label = λ c i. label_at claims once c i.0 i.1 i.2 in
-    let marked : (c : Claim) → Contains claims c → IsTrue c.forced ↔ IsForced (paths_of (kept_of paths walks)) c.low c.high = λ c i.
-    marking_law (claimed_labels claims) (kept_of paths walks) claims whys probes kept_apart a.valley_free a.marks
-    c i (rising_at claims c i.0 rising i.1 i.2) (label_of_claim c i) in (
-      keeping_law (claimed_labels claims) paths walks a.lost a.valley_free,
-      marked,
-      λ c i t peer. forced_law (claimed_labels claims) (paths_of (kept_of paths walks)) c.low c.high a.valley_free ((marked c i).0 t) (label_of_claim c i ∙ peer),
-    )
+    rules_behind (claimed_labels claims) [] paths walks claims whys probes (All-nil NeighboursDiffer) a.neighbours_differ a.lost a.each_edge
+    (All-nil (ValleyFree (claimed_labels claims))) a.valley_free a.marks (label_of_claim paths claims a.each_edge)

@@ -45,7 +45,7 @@ along_each P paths h = on_each_path P paths (undistinct P (flat_map edges_on pat
 
 -- ---- a labelling that agrees
 
-abbrev AgreesAt : Labelling → Labelling → Edge → Type 0
+abbrev pub AgreesAt : Labelling → Labelling → Edge → Type 0
 AgreesAt L L' e = (L e.0 e.1 ≡ Label.Low → L' e.0 e.1 ≡ Label.Low) × (L e.0 e.1 ≡ Label.High → L' e.0 e.1 ≡ Label.High)
 
 low_kept : (v w : Label) → (v ≡ Label.Low → w ≡ Label.Low) → is_low v ≡ true → is_low w ≡ true
@@ -59,7 +59,7 @@ high_kept Label.High w h o = rw (h refl)
 high_kept Label.Peer w h o = absurd (cc o)
 
 module _ (L L' : Labelling) where
-  over_kept : (a b : ℕ) → AgreesAt L L' (edge_of a b) → is_over L a b ≡ true → is_over L' a b ≡ true
+  pub over_kept : (a b : ℕ) → AgreesAt L L' (edge_of a b) → is_over L a b ≡ true → is_over L' a b ≡ true
   over_kept a b agrees o =
       elim (over_parts L a b o) [
         | inl p ↦

@@ -323,10 +323,10 @@ by_later : (h : Given) (givens : List Given) (low high : ℕ) → is_same (edge_
 by_later h givens low high n = rw n refl
 
 -- no other of the givens is of these two ASes
-abbrev Others : Given → List Given → Type 0
+abbrev pub Others : Given → List Given → Type 0
 Others g givens = AllByRecursion (λ h. edge_of g.over g.under ≢ edge_of h.over h.under) givens
 
-abbrev Once : List Given → Type 0
+abbrev pub Once : List Given → Type 0
 Once [] = Unit {0}
 Once (g ∷ givens) = Others g givens × Once givens
 
@@ -334,16 +334,16 @@ others_all : (g : Given) (givens : List Given) → ((j : ℕ) → (d : Given) �
 others_all g [] h = tt
 others_all g (k ∷ givens) h = (h 0 g (omega arith), others_all g givens (λ j d lt. h (suc j) d (omega (arith, lt))))
 
-once_all : (givens : List Given) → NameOnce givens → Once givens
+pub once_all : (givens : List Given) → NameOnce givens → Once givens
 once_all [] h = tt
 once_all (g ∷ givens) h =
     (others_all g givens (λ j d lt. h 0 (suc j) d (omega arith) (omega (arith, lt))), once_all givens (λ i j d lt within. h (suc i) (suc j) d (omega (arith, lt)) (omega (arith, within))))
 
 -- each given has its end
-abbrev HasEnd : Orientation → Given → Type 0
+abbrev pub HasEnd : Orientation → Given → Type 0
 HasEnd O g = O (min g.over g.under) (max g.over g.under) ≡ end_by g.over g.under
 
-each_end : (givens : List Given) → Once givens → AllByRecursion (HasEnd (by_givens givens)) givens
+pub each_end : (givens : List Given) → Once givens → AllByRecursion (HasEnd (by_givens givens)) givens
 each_end [] h = tt
 each_end (g ∷ givens) h = (by_first g givens, later givens h.0 (each_end givens h.1))
   where
@@ -356,7 +356,7 @@ each_end (g ∷ givens) h = (by_first g givens, later givens h.0 (each_end given
     )
 
 -- an orientation that has the end of each given agrees with all
-ends_hold : (O : Orientation) (givens : List Given) → AllByRecursion (λ g. g.over ≢ g.under) givens → AllByRecursion (HasEnd O) givens → AllByRecursion (Holds (labels_of O)) givens
+pub ends_hold : (O : Orientation) (givens : List Given) → AllByRecursion (λ g. g.over ≢ g.under) givens → AllByRecursion (HasEnd O) givens → AllByRecursion (Holds (labels_of O)) givens
 ends_hold O [] two h = tt
 ends_hold O (g ∷ givens) two h = (over_by O g.over g.under two.0 h.0, ends_hold O givens two.1 h.1)
 

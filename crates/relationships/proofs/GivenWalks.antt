@@ -1,25 +1,25 @@
 -- Walks whose links may name a given are walks over the returns of the givens.
-use Rattle.std.proofs.Common.{◌≡◌, ◌≢◌, ◌↔◌, ℕ, zero, suc, ◌+◌, ◌-◌, ◌<◌, ◌≤◌, ◌⊎◌, inl, inr, true, List, [], ◌∷◌, ◌++◌, length, get_or, map, flat_map, Bool, Option, Some, None, option_map, lt-ltb, le-ltb, is_none, refl, sym, ap, ap₂, ◌∙◌, subst, arith, append_assoc, append-nil, All, Contains, IsTrue}
+use Rattle.std.proofs.Common.{◌≡◌, ◌≢◌, ◌↔◌, ℕ, zero, suc, ◌+◌, ◌-◌, ◌<◌, ◌≤◌, ◌⊎◌, inl, inr, true, List, [], ◌∷◌, ◌++◌, length, get_or, map, Bool, Option, Some, None, option_map, lt-ltb, le-ltb, is_none, refl, sym, ap, ap₂, ◌∙◌, subst, arith, append_assoc, append-nil, All, Contains, IsTrue}
 use Rattle.std.specs.List.{list_any, AllByRecursion}
 use Rattle.std.proofs.lemmas.Bool.{cases_Bool, false≢true}
 use Rattle.std.proofs.lemmas.Option.{get_or_from_slice_get, slice_get_within}
 use Rattle.std.proofs.lemmas.List.{length-map, get_or-map, map-append}
 use Rattle.std.proofs.lemmas.List.Elements.{All-append, All-weaker, All-from_recursion, recursion_from_All, Contains-append_left, Contains-append_right, Contains-append_cases}
 use Rattle.relationships.specs.declared.given.Given.{Given}
-use Rattle.relationships.specs.declared.label.End.{End}
+use Rattle.relationships.specs.declared.label.Label.{Label}
 use Rattle.relationships.specs.declared.walk.Link.{Link}
 use Rattle.relationships.specs.declared.walk.Walk.{Walk}
-use Rattle.relationships.specs.Relationship.{Orientation, Labelling, ValleyFree, Serves}
-use Rattle.relationships.specs.Graph.{Edge, edge_of, is_same, edges_on, edges}
+use Rattle.relationships.specs.Relationship.{Labelling, ValleyFree, Serves}
+use Rattle.relationships.specs.Graph.{Edge, edge_of, is_same, edges}
 use Rattle.relationships.proofs.Edges.{same_edge}
 use Rattle.relationships.specs.Evidence.{StandAt, TripleAt, IsTriple, NeighboursDiffer, Numbered, paths_of, kept_from, Fits, IsLinked, Refutes, Shows, ShowFrom, Closure, start, imply}
 use Rattle.relationships.specs.Selection.{KeepsFrom, IsForced}
 use Rattle.relationships.specs.Checking.{LostFrom, kept_of, Claim, OtherOrder, IsBorneOut, ProbesFrom, MarksHold, claimed_labels}
 use Rattle.relationships.specs.Givens.{names_edge, return_of, returns, NameTwo, IsReturn}
-use Rattle.relationships.specs.GivenEvidence.{given_link, with_given_links, AreReturnRows, AreUpTo, FitsGiven, FitsWith, IsLinkedWith, RefutesWith, ShowFromWith, LostFromWith, served_with, MarksHoldWith, MeetsRulesWith}
+use Rattle.relationships.specs.GivenEvidence.{given_link, with_given_links, AreReturnRows, AreUpTo, FitsGiven, FitsWith, IsLinkedWith, RefutesWith, ShowFromWith, LostFromWith, served_with, MarksHoldWith}
 use Rattle.relationships.specs.GivenLaws.{GivenLinksLaw, GivenMarksLaw, NoGivensLaw, GivenWalksLaw, GivenRulesLaw, SameClosureLaw}
 use Rattle.relationships.proofs.WalkLemmas.{refuting_law, showing_law}
-use Rattle.relationships.proofs.Checked.{reading, reading_serves, keeps_from, forced_law, marking_law, kept_differing, rising_all, distinct_keeps, Once, distinct_once, label_at, rising_at}
+use Rattle.relationships.proofs.Checked.{label_of_claim, rules_behind}
 use Rattle.relationships.proofs.Neighbours.{neighbours-edge}
 use Rattle.relationships.proofs.GivenLemmas.{all_parts, edge_back, any_there, return_differs, three_on, triple_split, triple_of_return, triple_of_some}
 
@@ -89,7 +89,7 @@ no_givens_law = (
 
 -- ---- the returns of all givens, under the number 0, in front of the paths
 
-Contains-map : {X Y : Type 0} (f : X → Y) (xs : List X) (x : X) → Contains xs x → Contains (map f xs) (f x)
+pub Contains-map : {X Y : Type 0} (f : X → Y) (xs : List X) (x : X) → Contains xs x → Contains (map f xs) (f x)
 Contains-map f xs x c =
     let many = length-map xs f in let lt = c.1 in
     (c.0, omega (arith, many, lt), get_or-map f xs c.0 x (f x) c.1 ∙ ap f c.2)
@@ -204,57 +204,56 @@ given_walks_law givens A = (
 
 -- ---- the rules
 
-module _ (givens : List Given) (paths : List (List ℕ)) (walks : List (Option Walk)) (claims : List Claim) (whys : List Walk) (probes : List (ℕ × ℕ))
-    (a : MeetsRulesWith givens paths walks claims whys probes) where
-  abbrev kept : Numbered
-  kept = kept_of paths walks
+-- what meets the rules with givens, where labels that say what the claims say agree with all givens
+pub rules_with : (L : Labelling) (givens : List Given) (paths : List (List ℕ)) (walks : List (Option Walk)) (claims : List Claim) (whys : List Walk) (probes : List (ℕ × ℕ)) →
+    NameTwo givens → All NeighboursDiffer paths → LostFromWith givens 1 [] paths walks → map (λ (c : Claim). (c.low, c.high)) claims ≡ edges paths →
+    All (ValleyFree L) (served_with givens (paths_of (kept_of paths walks))) → MarksHoldWith givens (kept_of paths walks) claims whys probes →
+    ((c : Claim) → Contains claims c → L c.low c.high ≡ c.label) →
+    KeepsFrom (map return_of givens) paths (map is_none walks) ×
+    ((c : Claim) → Contains claims c → IsTrue c.forced ↔ IsForced (served_with givens (paths_of (kept_of paths walks))) c.low c.high) ×
+    ((c : Claim) → Contains claims c → IsTrue c.forced → c.label ≢ Label.Peer)
+rules_with L givens paths walks claims whys probes two differ lost each free marks says = (
+  subst (λ ps. KeepsFrom ps paths (map is_none walks)) (zero_paths givens) (subst (λ flags. KeepsFrom (paths_of begun) paths flags) found.1 all.0),
+  λ c i. subst (λ ps. IsTrue c.forced ↔ IsForced ps c.low c.high) served (all.1 c i),
+  all.2,
+)
+  where
+    begun : Numbered
+    begun = map at_zero givens
 
-  abbrev L : Labelling
-  L = claimed_labels claims
+    found : (others : List (Option Walk)) × (map is_none others ≡ map is_none walks) × LostFrom 1 begun paths others
+    found =
+        let r = lost_back givens 1 [] paths walks lost in (r.0, r.1, subst (λ (B : Numbered). LostFrom 1 B paths r.0) (append-nil begun) r.2)
 
-  abbrev O : Orientation
-  O = reading End.Low L
+    -- the same paths are kept
+    same : kept_of paths found.0 ≡ kept_of paths walks
+    same = ap (kept_from 1 paths) found.1
 
-  all_free : All (ValleyFree L) (paths_of (with_givens givens kept))
-  all_free = subst (All (ValleyFree L)) (sym (served_same givens kept)) a.valley_free
+    served : paths_of (begun ++ kept_of paths found.0) ≡ served_with givens (paths_of (kept_of paths walks))
+    served = ap (λ (K : Numbered). paths_of (begun ++ K)) same ∙ served_same givens (kept_of paths walks)
 
-  keeps_with : KeepsFrom (map return_of givens) paths (map is_none walks)
-  keeps_with =
-      let lost = lost_back givens 1 [] paths walks a.lost in
-      let free = all_parts (ValleyFree L) (map return_of givens) (paths_of kept) a.valley_free in
-      let zero : Numbered = map at_zero givens ++ [] in
-      let same : paths_of zero ≡ map return_of givens = ap paths_of (append-nil (map at_zero givens)) ∙ zero_paths givens in
-      let first : Serves O (paths_of zero) = subst (Serves O) (sym same) (reading_serves End.Low L (map return_of givens) free.0) in
-      let rest : Serves O (paths_of (kept_of paths lost.0)) =
-      subst (λ flags. Serves O (paths_of (kept_from 1 paths flags))) (sym lost.1) (reading_serves End.Low L (paths_of kept) free.1) in
-      subst (λ ps. KeepsFrom ps paths (map is_none walks)) same (subst (λ flags. KeepsFrom (paths_of zero) paths flags) lost.1 (keeps_from O 1 zero paths lost.0 lost.2 first rest))
+    parts : All (ValleyFree L) (map return_of givens) × All (ValleyFree L) (paths_of (kept_of paths walks))
+    parts = all_parts (ValleyFree L) (map return_of givens) (paths_of (kept_of paths walks)) free
 
-  rising : AllByRecursion (λ (e : Edge). e.0 < e.1) (map (λ (c : Claim). (c.low, c.high)) claims)
-  rising =
-      subst (AllByRecursion (λ (e : Edge). e.0 < e.1)) (sym a.each_edge)
-      (distinct_keeps (λ (e : Edge). e.0 < e.1) (flat_map edges_on paths) (rising_all paths (recursion_from_All NeighboursDiffer paths a.neighbours_differ)))
+    back : (others : List Walk) × MarksHold (begun ++ kept_of paths walks) claims others probes
+    back = marks_back givens (kept_of paths walks) claims whys probes marks
 
-  once : Once (map (λ (c : Claim). (c.low, c.high)) claims)
-  once = subst Once (sym a.each_edge) (distinct_once (flat_map edges_on paths))
-
-  label_of_claim : (c : Claim) → Contains claims c → L c.low c.high ≡ c.label
-  label_of_claim c i = label_at claims once c i.0 i.1 i.2
-
-  marked : (c : Claim) → Contains claims c → IsTrue c.forced ↔ IsForced (served_with givens (paths_of kept)) c.low c.high
-  marked c i =
-      let kept_apart = All-from_recursion NeighboursDiffer (paths_of kept) (kept_differing 1 paths (map is_none walks) (recursion_from_All NeighboursDiffer paths a.neighbours_differ)) in
-      let m = marks_back givens kept claims whys probes a.marks in
-      subst (λ ps. IsTrue c.forced ↔ IsForced ps c.low c.high) (served_same givens kept)
-      (marking_law L (with_givens givens kept) claims m.0 probes (served_differ givens kept a.two kept_apart) all_free m.1 c i (rising_at claims c i.0 rising i.1 i.2) (label_of_claim c i))
+    all : KeepsFrom (paths_of begun) paths (map is_none found.0) ×
+        ((c : Claim) → Contains claims c → IsTrue c.forced ↔ IsForced (paths_of (begun ++ kept_of paths found.0)) c.low c.high) ×
+        ((c : Claim) → Contains claims c → IsTrue c.forced → c.label ≢ Label.Peer)
+    all =
+        rules_behind L begun paths found.0 claims back.0 probes
+        (subst (All NeighboursDiffer) (sym (zero_paths givens))
+        (All-from_recursion NeighboursDiffer (map return_of givens) (all_returns_differ givens (recursion_from_All (λ g. g.over ≢ g.under) givens two))))
+        differ found.2 each
+        (subst (All (ValleyFree L)) (sym (zero_paths givens)) parts.0)
+        (subst (λ (K : Numbered). All (ValleyFree L) (paths_of K)) (sym same) parts.1)
+        (subst (λ (K : Numbered). MarksHold (begun ++ K) claims back.0 probes) (sym same) back.1) says
 
 pub given_rules_law : GivenRulesLaw
-given_rules_law givens paths walks claims whys probes a = (
-  keeps_with givens paths walks claims whys probes a,
-  marked givens paths walks claims whys probes a,
-  λ c i t peer.
-      forced_law (claimed_labels claims) (served_with givens (paths_of (kept_of paths walks))) c.low c.high a.valley_free ((marked givens paths walks claims whys probes a c i).0 t)
-      (label_of_claim givens paths walks claims whys probes a c i ∙ peer),
-)
+given_rules_law givens paths walks claims whys probes a =
+    rules_with (claimed_labels claims) givens paths walks claims whys probes a.two a.neighbours_differ a.lost a.each_edge a.valley_free a.marks
+    (label_of_claim paths claims a.each_edge)
 
 -- ---- closures that begin with an edge
 
@@ -309,8 +308,13 @@ module _ (givens : List Given) (paths some : List (List ℕ)) (among : (e : Edge
       ]
 
 pub same_closure_law : SameClosureLaw
-same_closure_law givens paths some a b among edge y z =
-    (to_all givens paths some among a b, λ c. (from_all givens paths some among a b edge c).0)
+same_closure_law givens paths some a b among edge = (
+  λ y z. (to_all givens paths some among a b, λ c. (from_all givens paths some among a b edge c).0),
+  (
+    (λ near y z c d. near y z (from_all givens paths some among a b edge c).0 (from_all givens paths some among a b edge d).0),
+    (λ far y z c d. far y z (to_all givens paths some among a b c) (to_all givens paths some among a b d)),
+  ),
+)
 
 -- ---- links into rows of returns
 

@@ -1,3 +1,4 @@
+pub mod AgreeingRules
 pub mod Checked
 pub mod Closures
 pub mod Deciding

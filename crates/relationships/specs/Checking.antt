@@ -79,3 +79,14 @@ pub record MeetsGraphRules (paths : List (List ℕ)) (walks : List (Option Walk)
   pub each_edge : map (λ c. (c.low, c.high)) claims ≡ edges paths
   pub valley_free : All (ValleyFree (claimed_labels claims)) (paths_of (kept_of paths walks))
   pub marks : MarksHold (kept_of paths walks) claims whys probes
+
+-- the same behind paths that are served from the start: walks, marks and closures may use these, and they are valley-free as well
+pub record MeetsGraphRulesBehind (begun : Numbered) (paths : List (List ℕ)) (walks : List (Option Walk)) (claims : List Claim)
+    (whys : List Walk) (probes : List (ℕ × ℕ)) : Type 0 where
+  pub begun_differ : All NeighboursDiffer (paths_of begun)
+  pub neighbours_differ : All NeighboursDiffer paths
+  pub lost : LostFrom 1 begun paths walks
+  pub each_edge : map (λ c. (c.low, c.high)) claims ≡ edges paths
+  pub begun_free : All (ValleyFree (claimed_labels claims)) (paths_of begun)
+  pub valley_free : All (ValleyFree (claimed_labels claims)) (paths_of (kept_of paths walks))
+  pub marks : MarksHold (begun ++ kept_of paths walks) claims whys probes

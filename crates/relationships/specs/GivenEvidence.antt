@@ -7,7 +7,7 @@ use Rattle.relationships.specs.Relationship.{ValleyFree}
 use Rattle.relationships.specs.Graph.{edges}
 use Rattle.relationships.specs.Evidence.{Numbered, paths_of, Fits, HasPair, BeginsWith, EndsWith, NeighboursDiffer}
 use Rattle.relationships.specs.Checking.{kept_of, Claim, IsBorneOut, ProbesFrom, claimed_labels}
-use Rattle.relationships.specs.Givens.{NameTwo, return_of}
+use Rattle.relationships.specs.Givens.{AgreesWith, NameTwo, NameOnce, return_of}
 
 -- the given of this number, from 1
 abbrev pub IsGiven : List Given → ℕ → Given → Type 0
@@ -84,6 +84,19 @@ pub record MeetsRulesWith (givens : List Given) (paths : List (List ℕ)) (walks
   pub lost : LostFromWith givens 1 [] paths walks
   pub each_edge : map (λ c. (c.low, c.high)) claims ≡ edges paths
   pub valley_free : All (ValleyFree (claimed_labels claims)) (served_with givens (paths_of (kept_of paths walks)))
+  pub marks : MarksHoldWith givens (kept_of paths walks) claims whys probes
+
+-- the same rules where a given of no edge binds nothing: walks, marks and closures may use all givens, and the labels agree with those
+-- whose two are an edge
+pub record MeetsAgreeingRules (givens : List Given) (paths : List (List ℕ)) (walks : List (Option Walk)) (claims : List Claim)
+    (whys : List Walk) (probes : List (ℕ × ℕ)) : Type 0 where
+  pub two : NameTwo givens
+  pub once : NameOnce givens
+  pub neighbours_differ : All NeighboursDiffer paths
+  pub lost : LostFromWith givens 1 [] paths walks
+  pub each_edge : map (λ c. (c.low, c.high)) claims ≡ edges paths
+  pub agrees : AgreesWith givens paths (claimed_labels claims)
+  pub valley_free : All (ValleyFree (claimed_labels claims)) (paths_of (kept_of paths walks))
   pub marks : MarksHoldWith givens (kept_of paths walks) claims whys probes
 
 -- ---- links into rows of returns, which stand behind n paths and are numbered on from these

@@ -5,11 +5,11 @@ use Rattle.relationships.specs.declared.label.Label.{Label}
 use Rattle.relationships.specs.declared.walk.Walk.{Walk}
 use Rattle.relationships.specs.Relationship.{Orientation, labels_of, is_over, Serves}
 use Rattle.relationships.specs.Graph.{Edge, edges, edge_of}
-use Rattle.relationships.specs.Evidence.{Numbered, paths_of, NeighboursDiffer, Refutes, Show, Closure}
+use Rattle.relationships.specs.Evidence.{Numbered, paths_of, NeighboursDiffer, Refutes, Show, Closure, IsConsistent}
 use Rattle.relationships.specs.Selection.{KeepsFrom, IsForced}
 use Rattle.relationships.specs.Checking.{LostFrom, kept_of, Claim, MarksHold}
 use Rattle.relationships.specs.Givens.{NameTwo, return_of, returns}
-use Rattle.relationships.specs.GivenEvidence.{AreReturnRows, AreUpTo, with_given_links, RefutesWith, ShowFromWith, LostFromWith, served_with, MarksHoldWith, MeetsRulesWith}
+use Rattle.relationships.specs.GivenEvidence.{AreReturnRows, AreUpTo, with_given_links, RefutesWith, ShowFromWith, LostFromWith, served_with, MarksHoldWith, MeetsRulesWith, MeetsAgreeingRules}
 
 -- where nothing is given, evidence with givens is evidence
 abbrev pub NoGivensLaw : Type 0
@@ -40,12 +40,24 @@ GivenRulesLaw =
     ((c : Claim) → Contains claims c → IsTrue c.forced ↔ IsForced (served_with givens (paths_of (kept_of paths walks))) c.low c.high) ×
     ((c : Claim) → Contains claims c → IsTrue c.forced → c.label ≢ Label.Peer)
 
--- closures that begin with an edge of the paths are the same by the returns of those givens alone whose two are neighbours
+-- what meets them, with labels that agree with the givens whose two are neighbours, is valid by the returns of these alone
+abbrev pub AgreeingRulesLaw : Type 0
+AgreeingRulesLaw =
+    (givens : List Given) (paths : List (List ℕ)) (walks : List (Option Walk)) (claims : List Claim) (whys : List Walk)
+    (probes : List (ℕ × ℕ)) →
+    MeetsAgreeingRules givens paths walks claims whys probes →
+    KeepsFrom (returns paths givens) paths (map is_none walks) ×
+    ((c : Claim) → Contains claims c → IsTrue c.forced ↔ IsForced (returns paths givens ++ paths_of (kept_of paths walks)) c.low c.high) ×
+    ((c : Claim) → Contains claims c → IsTrue c.forced → c.label ≢ Label.Peer)
+
+-- closures that begin with an edge of the paths are the same, and so as consistent, by the returns of those givens alone whose two are
+-- neighbours
 abbrev pub SameClosureLaw : Type 0
 SameClosureLaw =
     (givens : List Given) (paths some : List (List ℕ)) (a b : ℕ) → ((e : Edge) → Contains (edges some) e → Contains (edges paths) e) →
-    Contains (edges paths) (edge_of a b) → (y z : ℕ) →
-    Closure (returns paths givens ++ some) a b y z ↔ Closure (served_with givens some) a b y z
+    Contains (edges paths) (edge_of a b) →
+    ((y z : ℕ) → Closure (returns paths givens ++ some) a b y z ↔ Closure (served_with givens some) a b y z) ×
+    (IsConsistent (returns paths givens ++ some) a b ↔ IsConsistent (served_with givens some) a b)
 
 -- evidence over rows of returns and paths is, with its links so changed, evidence with givens over the paths
 abbrev pub GivenLinksLaw : Type 0

@@ -12,9 +12,9 @@ use Rattle.relationships.specs.declared.given.Given.{Given}
 use Rattle.relationships.specs.Givens.{AgreesWith, return_of, returns, ServesWith, NameTwo, NameOnce, IsReturn, GivenClosure}
 use Rattle.relationships.specs.Preference.{IsPreferred, IsRelabelled, with_peer}
 use Rattle.relationships.specs.Evidence.{IsTriple, HasPair, NeighboursDiffer, Numbered, paths_of, IsLinked, Refutes, Show, Closure, IsConsistent}
-use Rattle.relationships.specs.Selection.{IsServable, Keeps, IsForced}
+use Rattle.relationships.specs.Selection.{IsServable, Keeps, KeepsFrom, IsForced}
 use Rattle.std.specs.List.{items_where_true}
-use Rattle.relationships.specs.Checking.{LostAreRefuted, kept_of, Claim, MarksHold, MeetsGraphRules}
+use Rattle.relationships.specs.Checking.{LostAreRefuted, kept_of, Claim, MarksHold, MeetsGraphRules, MeetsGraphRulesBehind}
 
 -- a, b stand one behind the other on one of the paths
 abbrev pub AreNeighbours : List (List ℕ) → ℕ → ℕ → Type 0
@@ -227,6 +227,16 @@ GraphRulesLaw =
     MeetsGraphRules paths walks claims whys probes →
     Keeps paths (map is_none walks) ×
     ((c : Claim) → Contains claims c → IsTrue c.forced ↔ IsForced (paths_of (kept_of paths walks)) c.low c.high) ×
+    ((c : Claim) → Contains claims c → IsTrue c.forced → c.label ≢ Label.Peer)
+
+-- what meets them behind paths that are served from the start is valid behind these
+abbrev pub GraphRulesBehindLaw : Type 0
+GraphRulesBehindLaw =
+    (begun : Numbered) (paths : List (List ℕ)) (walks : List (Option Walk)) (claims : List Claim) (whys : List Walk)
+    (probes : List (ℕ × ℕ)) →
+    MeetsGraphRulesBehind begun paths walks claims whys probes →
+    KeepsFrom (paths_of begun) paths (map is_none walks) ×
+    ((c : Claim) → Contains claims c → IsTrue c.forced ↔ IsForced (paths_of (begun ++ kept_of paths walks)) c.low c.high) ×
     ((c : Claim) → Contains claims c → IsTrue c.forced → c.label ≢ Label.Peer)
 
 -- ---- preference

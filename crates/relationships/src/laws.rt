@@ -1,7 +1,7 @@
 //! The laws of the definitions in `specs/`. Each is the contract of a function.
 
-ghost use Rattle.relationships.specs.GivenLaws.{GivenLinksLaw, GivenMarksLaw, NoGivensLaw, GivenWalksLaw, GivenRulesLaw, SameClosureLaw};
-ghost use Rattle.relationships.specs.Laws.{DifferingLaw, EdgeLaw, EdgeOrderLaw, ServingLaw, GivenServingLaw, GivenClosureLaw, GivenEdgesLaw, FewReturnsLaw, GivensServableLaw, AllGivensLaw, RelaxingLaw, PeeringLaw, ReadingLaw, RefutingLaw, ShowingLaw, ClosureLaw, AllowedLaw, ConsistencyLaw, ImpliedLaw, LooseLaw, UnheldLaw, RankLaw, CycleLaw, KeepingLaw, MarkingLaw, ForcedLaw, SelectionLaw, KeptLaw, AllKeptLaw, GraphRulesLaw, PreferenceLaw, RelabellingLaw, MaximalLaw};
+ghost use Rattle.relationships.specs.GivenLaws.{GivenLinksLaw, GivenMarksLaw, NoGivensLaw, GivenWalksLaw, GivenRulesLaw, AgreeingRulesLaw, SameClosureLaw};
+ghost use Rattle.relationships.specs.Laws.{DifferingLaw, EdgeLaw, EdgeOrderLaw, ServingLaw, GivenServingLaw, GivenClosureLaw, GivenEdgesLaw, FewReturnsLaw, GivensServableLaw, AllGivensLaw, RelaxingLaw, PeeringLaw, ReadingLaw, RefutingLaw, ShowingLaw, ClosureLaw, AllowedLaw, ConsistencyLaw, ImpliedLaw, LooseLaw, UnheldLaw, RankLaw, CycleLaw, KeepingLaw, MarkingLaw, ForcedLaw, SelectionLaw, KeptLaw, AllKeptLaw, GraphRulesLaw, GraphRulesBehindLaw, PreferenceLaw, RelabellingLaw, MaximalLaw};
 
 /// Each edge stands once among the edges of paths, which are the pairs of neighbours on them.
 pub fn edge_law()
@@ -75,8 +75,14 @@ pub fn given_rules_law()
     ensures { GivenRulesLaw }
 {}
 
+/// What meets the rules with givens is valid by those of them alone whose two are neighbours, and its
+/// labels have to agree with these alone.
+pub fn agreeing_rules_law()
+    ensures { AgreeingRulesLaw }
+{}
+
 /// Closures that begin with an edge of the paths are the same by the returns of those givens alone
-/// whose two are neighbours.
+/// whose two are neighbours, and as consistent.
 pub fn same_closure_law()
     ensures { SameClosureLaw }
 {}
@@ -190,6 +196,11 @@ pub fn all_kept_law()
 /// What meets the rules on the graph is valid.
 pub fn graph_rules_law()
     ensures { GraphRulesLaw }
+{}
+
+/// What meets the rules on the graph behind paths that are served from the start is valid behind these.
+pub fn graph_rules_behind_law()
+    ensures { GraphRulesBehindLaw }
 {}
 
 /// Where some orientation serves, the preferred one does.
