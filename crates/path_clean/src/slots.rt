@@ -21,7 +21,7 @@ pub(crate) struct Slot {
 const FREE: Slot = Slot { tag: 0, row: 0 };
 
 /// The tag of a path in a table, for a guess.
-#[derive(Clone, Copy, PartialEq, Eq)]
+#[derive(Clone, Copy, Debug, PartialEq, Eq)]
 pub struct Tag {
     pub(crate) tag: u32,
 }
