@@ -14,6 +14,3 @@ pub use file_counts::FileCounts;
 pub use laws::{dump_law, limit_law, taking_law, together_law};
 pub use reading::read_dump;
 pub use taking::Taken;
-
-#[cfg(test)]
-mod tests;

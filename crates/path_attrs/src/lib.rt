@@ -18,6 +18,3 @@ pub use fields::{number16, octet, octets};
 pub use laws::{block_law, merge_law, value_law};
 pub use path::{PathOf, path_of};
 pub use path_cursor::{PathCursor, Pathless};
-
-#[cfg(test)]
-mod tests;

@@ -19,6 +19,3 @@ pub use laws::{clean_paths_stay, counting, paths_are_clean};
 pub use repeats::first_repeated;
 pub use slots::{Guess, Tag};
 pub use table::{AddRefused, Added, MAX_NUMBERS, MAX_PATHS, PathTable};
-
-#[cfg(test)]
-mod tests;

@@ -3,8 +3,6 @@
 
 mod laws;
 mod record_counts;
-#[cfg(test)]
-mod tests;
 mod type_count;
 
 pub use laws::counting_law;

@@ -6,6 +6,3 @@ mod route;
 
 pub use laws::table_dump_law;
 pub use route::read_v1;
-
-#[cfg(test)]
-mod tests;

@@ -10,6 +10,3 @@ pub use error::RibError;
 pub use laws::{peer_table_law, rib_law};
 pub use peer_table::{Peers, read_peers};
 pub use rib::{Entry, EntryCursor, read_rib};
-
-#[cfg(test)]
-mod tests;

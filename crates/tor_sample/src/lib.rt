@@ -6,7 +6,5 @@ mod dump;
 mod networks;
 mod paths;
 mod records;
-#[cfg(test)]
-mod tests;
 
 pub use dump::sample;

@@ -7,8 +7,6 @@ mod edge_set;
 mod printing;
 mod survey;
 mod surveying;
-#[cfg(test)]
-mod tests;
 
 pub use counting::figures;
 pub use printing::text_of;

@@ -1,14 +1,13 @@
-use crate::hashing::seed_of;
-use crate::{
+use path_attrs::{Width, attributes};
+use path_clean::{
     AddRefused, Added, Asides, Cause, Cleaned, PathTable, Sets, clean, clean_into, first_repeated,
     is_clean_path, is_cleaned,
 };
-use path_attrs::{Width, attributes};
-use std::alloc::{AllocError, Global};
+use std::alloc::Global;
 use std::io;
 use std::random::RandomSource;
 use std::test::Fail;
-use tor_arena::{Index, Keys, List, PathId, Rows};
+use tor_arena::{Index, Keys, List, NoMemory, PathId, Rows};
 
 /// A block of attributes, with AS numbers of two octets, and what it is cleaned to.
 struct Case {
@@ -247,31 +246,6 @@ fn is_wanted(cleaned: &Cleaned, want: &Want) -> bool {
     }
 }
 
-#[test]
-fn cleans(rt: HostRuntime) -> Result<(), Fail> {
-    for case in &CASES {
-        let attrs = attributes(case.block).ok().ok_or("whole")?;
-        for (sets, want) in [(Sets::Cut, &case.cut), (Sets::Skip, &case.skip)] {
-            let cleaned = clean(rt.alloc(), sets, &attrs, Width::Two)?;
-            assert!(rt; is_wanted(&cleaned, want), "{sets:?} of {:?}", case.block);
-        }
-    }
-    Ok(())
-}
-
-// The AS_PATH 10 20 in numbers of four octets, and the AS4_PATH 30 20.
-static FOUR_OCTETS: [u8; 26] = [
-    64, 2, 10, 2, 2, 0, 0, 0, 10, 0, 0, 0, 20, 192, 17, 10, 2, 2, 0, 0, 0, 30, 0, 0, 0, 20,
-];
-
-#[test]
-fn as4_path_has_no_effect_in_four_octets(rt: HostRuntime) -> Result<(), Fail> {
-    let attrs = attributes(&FOUR_OCTETS).ok().ok_or("whole")?;
-    let cleaned = clean(rt.alloc(), Sets::Cut, &attrs, Width::Four)?;
-    assert!(rt; is_wanted(&cleaned, &Want::Path(&[10, 20])));
-    Ok(())
-}
-
 fn is_wanted_in(cause: Option<Cause>, path: &[u32], want: &Want) -> bool {
     match want {
         Want::Path(wanted) => cause.is_none() && path == *wanted,
@@ -279,23 +253,65 @@ fn is_wanted_in(cause: Option<Cause>, path: &[u32], want: &Want) -> bool {
     }
 }
 
+/// Whether a block is cleaned to this.
+fn is_cleaned_to(alloc: Global, block: &[u8], width: Width, sets: Sets, want: &Want) -> bool {
+    let Ok(attrs) = attributes(block) else {
+        return false;
+    };
+    match clean(alloc, sets, &attrs, width) {
+        Ok(cleaned) => is_wanted(&cleaned, want),
+        Err(NoMemory) => false,
+    }
+}
+
+/// Whether a block is cleaned to this in a list that other paths have stood in.
+fn is_cleaned_into(alloc: Global, path: &mut List<u32>, block: &[u8], want: &Want) -> bool {
+    let Ok(attrs) = attributes(block) else {
+        return false;
+    };
+    match clean_into(alloc, Sets::Cut, &attrs, Width::Two, path) {
+        Ok(cause) => is_wanted_in(cause, path.as_slice(), want),
+        Err(NoMemory) => false,
+    }
+}
+
 #[test]
-fn cleans_into_one_list(rt: HostRuntime) -> Result<(), Fail> {
+fn blocks_are_cleaned_to_paths_or_set_aside(rt: HostRuntime) {
+    for (place, case) in CASES.iter().enumerate() {
+        for (sets, want) in [(Sets::Cut, &case.cut), (Sets::Skip, &case.skip)] {
+            assert!(rt;
+                is_cleaned_to(rt.alloc(), case.block, Width::Two, sets, want),
+                "{sets:?} of {place}"
+            );
+        }
+    }
+}
+
+#[test]
+fn blocks_are_cleaned_into_one_list(rt: HostRuntime) {
     let mut path = List::new(rt.alloc());
-    for case in &CASES {
-        let attrs = attributes(case.block).ok().ok_or("whole")?;
-        let cause = clean_into(rt.alloc(), Sets::Cut, &attrs, Width::Two, &mut path)?;
+    for (place, case) in CASES.iter().enumerate() {
         assert!(rt;
-            is_wanted_in(cause, path.as_slice(), &case.cut),
-            "{:?}",
-            case.block
+            is_cleaned_into(rt.alloc(), &mut path, case.block, &case.cut),
+            "case {place}"
         );
     }
-    Ok(())
+}
+
+// The AS_PATH 10 20 in numbers of four octets, and the AS4_PATH 30 20.
+const FOUR_OCTETS: &[u8] = &[
+    64, 2, 10, 2, 2, 0, 0, 0, 10, 0, 0, 0, 20, 192, 17, 10, 2, 2, 0, 0, 0, 30, 0, 0, 0, 20,
+];
+
+const TEN_TWENTY: Want = Want::Path(&[10, 20]);
+
+#[test]
+fn as4_path_has_no_effect_in_four_octets(rt: HostRuntime) {
+    assert!(rt; is_cleaned_to(rt.alloc(), FOUR_OCTETS, Width::Four, Sets::Cut, &TEN_TWENTY));
 }
 
 /// One AS_SEQUENCE of the numbers 1 to 69 and the last.
-fn long_block(alloc: Global, last: u8) -> Result<Vec<u8>, AllocError> {
+fn long_block(alloc: Global, last: u8) -> Result<Vec<u8>, Fail> {
     let mut block = Vec::from_slice(alloc, &[0x40, 2, 142, 2, 70])?;
     for number in 1..70 {
         block.extend_from_slice(&[0, number])?;
@@ -304,20 +320,27 @@ fn long_block(alloc: Global, last: u8) -> Result<Vec<u8>, AllocError> {
     Ok(block)
 }
 
+/// The cause for which a block is set aside, and how many ASes its path has.
+fn cause_or_length(alloc: Global, block: &[u8]) -> Option<(Option<Cause>, usize)> {
+    let attrs = attributes(block).ok()?;
+    match clean(alloc, Sets::Cut, &attrs, Width::Two) {
+        Ok(Cleaned::Path(path)) => Some((None, path.len())),
+        Ok(Cleaned::Aside(cause)) => Some((Some(cause), 0)),
+        Err(NoMemory) => None,
+    }
+}
+
 #[test]
 fn long_paths_are_cleaned(rt: HostRuntime) -> Result<(), Fail> {
-    for (last, is_path) in [(70, true), (1, false)] {
+    for (last, wanted) in [(70, (None, 70)), (1, (Some(Cause::Loop), 0))] {
         let block = long_block(rt.alloc(), last)?;
-        let attrs = attributes(&block).ok().ok_or("whole")?;
-        let cleaned = clean(rt.alloc(), Sets::Cut, &attrs, Width::Two)?;
-        assert_eq!(rt; matches!(cleaned, Cleaned::Path(_)), is_path);
-        assert_eq!(rt; matches!(cleaned, Cleaned::Aside(Cause::Loop)), !is_path);
+        assert_eq!(rt; cause_or_length(rt.alloc(), &block), Some(wanted));
     }
     Ok(())
 }
 
 /// Paths that are added to a table of at most two, and where each then stands.
-static ADDS: [(&'static [u32], Result<usize, AddRefused>); 4] = [
+const ADDS: [(&[u32], Result<usize, AddRefused>); 4] = [
     (&[30, 40, 20, 10, 50, 60], Ok(0)),
     (&[10, 20, 30, 40], Ok(1)),
     (&[50, 60, 10, 20], Err(AddRefused::TooManyPaths)),
@@ -331,23 +354,86 @@ fn place_of(added: Added) -> usize {
     }
 }
 
-#[test]
-fn a_table_of_two_paths(rt: HostRuntime) -> Result<(), Fail> {
-    let mut table = PathTable::new(rt.alloc(), Keys::new(&rt), 2);
-    for (path, wanted) in ADDS {
-        assert!(rt; is_cleaned(path));
-        assert_eq!(rt; table.add(path).map(place_of), wanted);
+/// Where a clean path stands in a table, to which it is added.
+fn place_added(table: &mut PathTable, path: &[u32]) -> Option<Result<usize, AddRefused>> {
+    if is_cleaned(path) {
+        Some(table.add(path).map(place_of))
+    } else {
+        None
     }
-    let id = PathId::from_place(1).ok_or("a place")?;
-    assert_eq!(rt; table.len(), 2);
-    assert_eq!(rt; table.times(id), 2);
-    assert_eq!(rt; table.rows().len(), 2);
-    assert_eq!(rt; table.rows().row(id), [10, 20, 30, 40].as_slice());
+}
+
+/// Whether these are the rows of a table, in order.
+fn are_rows(rows: &Rows<PathId, u32>, wanted: &[&[u32]]) -> bool {
+    if rows.len() != wanted.len() {
+        return false;
+    }
+    for (place, row) in wanted.iter().enumerate() {
+        match PathId::from_place(place) {
+            Some(id) if id.place() < rows.len() && rows.row(id) == *row => {}
+            _ => return false,
+        }
+    }
+    true
+}
+
+/// How often the path in a place was added.
+fn times_at(table: &PathTable, place: usize) -> Option<u64> {
+    let id = PathId::from_place(place)?;
+    if id.place() < table.len() {
+        Some(table.times(id))
+    } else {
+        None
+    }
+}
+
+#[test]
+fn a_table_of_two_paths(rt: HostRuntime) {
+    let wanted: [&[u32]; 2] = [&[30, 40, 20, 10, 50, 60], &[10, 20, 30, 40]];
+    let mut table = PathTable::new(rt.alloc(), Keys::new(&rt), 2);
+    for (path, place) in ADDS {
+        assert_eq!(rt; place_added(&mut table, path), Some(place));
+    }
+    assert_eq!(rt; (table.len(), times_at(&table, 1)), (2, Some(2)));
+    assert!(rt; are_rows(table.rows(), &wanted));
     let (rows, times) = table.into_rows();
-    assert_eq!(rt; rows.len(), 2);
-    assert_eq!(rt; rows.row(id), [10, 20, 30, 40].as_slice());
-    assert_eq!(rt; times.as_slice(), [1, 2].as_slice());
-    Ok(())
+    assert!(rt; are_rows(&rows, &wanted) && times.as_slice() == [1, 2].as_slice());
+}
+
+/// How many paths the table of many paths has.
+const MANY: u32 = 5000;
+
+/// The last AS of the path of a place.
+fn last_of(place: u32) -> u32 {
+    place.saturating_add(1000)
+}
+
+/// Whether each path is added to the place behind the last.
+fn adds_many(table: &mut PathTable) -> bool {
+    for place in 0..MANY {
+        if place_added(table, &[10, 20, last_of(place)]) != Some(Ok(place as usize)) {
+            return false;
+        }
+    }
+    true
+}
+
+/// Whether each path is found in its place.
+fn finds_many(table: &PathTable) -> bool {
+    for place in 0..MANY {
+        match table.find(&[10, 20, last_of(place)]) {
+            Some(id) if id.place() == place as usize => {}
+            _ => return false,
+        }
+    }
+    true
+}
+
+#[test]
+fn a_table_of_5000_paths_finds_each(rt: HostRuntime) {
+    let mut table = PathTable::new(rt.alloc(), Keys::new(&rt), 8192);
+    assert!(rt; adds_many(&mut table));
+    assert!(rt; finds_many(&table) && table.find(&[10, 20, last_of(MANY)]).is_none());
 }
 
 /// A source that gives one octet over and over.
@@ -363,73 +449,79 @@ impl RandomSource for OneOctet {
     }
 }
 
-/// Keys from a source that gives only this octet: the same octet gives the same keys.
-fn keys_of(octet: u8) -> Keys {
-    Keys::new(&OneOctet { octet })
+/// Whether a path has the same tag in two tables whose keys come from sources that give these octets.
+fn have_one_tag(alloc: Global, octet: u8, other: u8, path: &[u32]) -> bool {
+    let table = PathTable::new(alloc, Keys::new(&OneOctet { octet }), 1);
+    let second = PathTable::new(alloc, Keys::new(&OneOctet { octet: other }), 1);
+    table.tag(path) == second.tag(path)
 }
 
 #[test]
 fn hashes_begin_with_the_keys(rt: HostRuntime) {
-    assert_eq!(rt; seed_of(keys_of(1)), seed_of(keys_of(1)));
-    assert_ne!(rt; seed_of(keys_of(1)), seed_of(keys_of(2)));
-    let tag = PathTable::new(rt.alloc(), keys_of(1), 1).tag(&[10, 20]);
-    let same = PathTable::new(rt.alloc(), keys_of(1), 1).tag(&[10, 20]);
-    let other = PathTable::new(rt.alloc(), keys_of(2), 1).tag(&[10, 20]);
-    assert_eq!(rt; tag, same);
-    assert_ne!(rt; tag, other);
+    for path in [&[][..], &[10, 20]] {
+        assert!(rt; have_one_tag(rt.alloc(), 1, 1, path));
+        assert!(rt; !have_one_tag(rt.alloc(), 1, 2, path));
+    }
+}
+
+/// The numbers 1 to 100.
+fn hundred(alloc: Global) -> Result<List<u32>, NoMemory> {
+    let mut path = List::new(alloc);
+    for number in 1..=100u32 {
+        path.push(number)?;
+    }
+    Ok(path)
 }
 
 #[test]
 fn long_paths_are_clean_without_a_loop(rt: HostRuntime) -> Result<(), Fail> {
-    let mut path = List::new(rt.alloc());
-    for number in 1..=100u32 {
-        path.push(number)?;
-    }
-    assert!(rt; is_clean_path(rt.alloc(), path.as_slice())?);
+    let mut path = hundred(rt.alloc())?;
+    assert!(rt; is_clean_path(rt.alloc(), path.as_slice()) == Ok(true));
     path.push(50)?;
-    assert!(rt; !is_clean_path(rt.alloc(), path.as_slice())?);
+    assert!(rt; is_clean_path(rt.alloc(), path.as_slice()) == Ok(false));
     Ok(())
 }
 
 #[test]
-fn short_paths_are_clean_as_any(rt: HostRuntime) -> Result<(), Fail> {
-    assert!(rt; is_clean_path(rt.alloc(), &[10, 20])?);
-    assert!(rt; !is_clean_path(rt.alloc(), &[10])?);
-    assert!(rt; !is_clean_path(rt.alloc(), &[10, 23456])?);
-    assert!(rt; !is_clean_path(rt.alloc(), &[10, 20, 10])?);
-    Ok(())
+fn short_paths_are_clean_as_any(rt: HostRuntime) {
+    let paths: [(&[u32], bool); 4] = [
+        (&[10, 20], true),
+        (&[10], false),
+        (&[10, 23456], false),
+        (&[10, 20, 10], false),
+    ];
+    for (path, wanted) in paths {
+        assert!(rt; is_clean_path(rt.alloc(), path) == Ok(wanted), "{path:?}");
+    }
 }
 
+/// All causes, each with the place of its count.
+const CAUSES: [(Cause, u64); 7] = [
+    (Cause::NoPath, 1),
+    (Cause::BadSegments, 2),
+    (Cause::Confed, 3),
+    (Cause::Sets, 4),
+    (Cause::Reserved, 5),
+    (Cause::Loop, 6),
+    (Cause::Short, 7),
+];
+
 #[test]
-fn asides_are_counted(rt: HostRuntime) {
+fn asides_are_counted_each_by_its_cause(rt: HostRuntime) {
     let mut asides = Asides::new();
     asides.add(Cause::Sets);
     asides.add(Cause::Sets);
     asides.add(Cause::Loop);
-    assert_eq!(rt; asides.get(Cause::Sets), 2);
-    assert_eq!(rt; asides.get(Cause::Loop), 1);
-    assert_eq!(rt; asides.get(Cause::Short), 0);
-}
-
-#[test]
-fn asides_of_counts(rt: HostRuntime) {
-    let asides = Asides::from_counts([1, 2, 3, 4, 5, 6, 7]);
-    let counts = [
-        (Cause::NoPath, 1),
-        (Cause::BadSegments, 2),
-        (Cause::Confed, 3),
-        (Cause::Sets, 4),
-        (Cause::Reserved, 5),
-        (Cause::Loop, 6),
-        (Cause::Short, 7),
-    ];
-    for (cause, count) in counts {
-        assert_eq!(rt; asides.get(cause), count);
+    let counts = [Cause::Sets, Cause::Loop, Cause::Short].map(|cause| asides.get(cause));
+    assert_eq!(rt; counts, [2, 1, 0]);
+    let given = Asides::from_counts([1, 2, 3, 4, 5, 6, 7]);
+    for (cause, count) in CAUSES {
+        assert_eq!(rt; given.get(cause), count);
     }
 }
 
 /// Rows of which the fourth is the second again.
-static ROWS: [&'static [u32]; 5] = [&[10, 20], &[20, 10], &[], &[20, 10], &[10, 20]];
+const ROWS: [&[u32]; 5] = [&[10, 20], &[20, 10], &[], &[20, 10], &[10, 20]];
 
 fn add_rows(rows: &mut Rows<PathId, u32>) -> bool {
     for row in ROWS {
@@ -441,14 +533,11 @@ fn add_rows(rows: &mut Rows<PathId, u32>) -> bool {
 }
 
 #[test]
-fn the_first_row_that_stands_twice(rt: HostRuntime) -> Result<(), Fail> {
+fn the_first_row_that_stands_twice(rt: HostRuntime) {
     let keys = Keys::new(&rt);
     let mut rows = Rows::new(rt.alloc());
-    assert_eq!(rt; first_repeated(rt.alloc(), keys, &rows)?, None);
-    assert!(rt; add_rows(&mut rows));
-    assert_eq!(rt; first_repeated(rt.alloc(), keys, &rows)?, Some(3));
-    assert_eq!(rt; rows.len(), 5);
+    assert!(rt; first_repeated(rt.alloc(), keys, &rows) == Ok(None) && add_rows(&mut rows));
+    assert!(rt; first_repeated(rt.alloc(), keys, &rows) == Ok(Some(3)) && rows.len() == 5);
     rows.cut_to(3);
-    assert_eq!(rt; first_repeated(rt.alloc(), keys, &rows)?, None);
-    Ok(())
+    assert!(rt; first_repeated(rt.alloc(), keys, &rows) == Ok(None));
 }

@@ -1,9 +1,9 @@
-use crate::{Figures, Survey, figures, text_of};
 use path_clean::Asides;
 use record_counts::TypeCount;
 use std::alloc::Global;
 use std::test::Fail;
 use tor_arena::{Keys, List, NoMemory, PathId, RowRefused, Rows};
+use tor_survey::{Figures, Survey, figures, text_of};
 
 fn rows_of(alloc: Global, paths: &[&[u32]]) -> Result<Rows<PathId, u32>, RowRefused> {
     let mut rows = Rows::new(alloc);
@@ -87,7 +87,9 @@ const FOUR_TYPES: [TypeCount; 4] = [
 ];
 
 const FOUR_TYPES_TEXT: &str =
-    "read|12|1|2\nread|13|2|40\npassed|11|1|3\npassed|13|3|18446744073709551615\npeers|5\nroutes|42\naside|nopath|0\naside|badsegments|0\naside|confed|0\naside|sets|0\naside|reserved|0\naside|loop|7\naside|short|0\npaths|2\nases|4\nedges|3\nlongest|3\nend|2|18446744073709551615\n";
+    "read|12|1|2\nread|13|2|40\npassed|11|1|3\npassed|13|3|18446744073709551615\npeers|5\nroutes|42\naside|nopath|0\n\
+        aside|badsegments|0\naside|confed|0\naside|sets|0\naside|reserved|0\naside|loop|7\naside|short|0\npaths|2\nases|4\n\
+        edges|3\nlongest|3\nend|2|18446744073709551615\n";
 
 // The text of a survey of two dumps with records of four types.
 fn four_types(alloc: Global) -> Result<List<u8>, NoMemory> {
@@ -113,7 +115,8 @@ fn writes_types_by_whether_they_are_read(rt: HostRuntime) -> Result<(), Fail> {
 }
 
 const NOTHING_TEXT: &str =
-    "peers|0\nroutes|0\naside|nopath|0\naside|badsegments|0\naside|confed|0\naside|sets|0\naside|reserved|0\naside|loop|0\naside|short|0\npaths|0\nases|0\nedges|0\nlongest|0\nend|0|0\n";
+    "peers|0\nroutes|0\naside|nopath|0\naside|badsegments|0\naside|confed|0\naside|sets|0\naside|reserved|0\naside|loop|0\n\
+        aside|short|0\npaths|0\nases|0\nedges|0\nlongest|0\nend|0|0\n";
 
 // The text of a survey in which nothing stands.
 fn nothing(alloc: Global) -> Result<List<u8>, NoMemory> {

@@ -1,0 +1,226 @@
+use std::alloc::Global;
+use std::io::Write;
+use std::process::Abort;
+use std::test::Fail;
+use std::{fs, io};
+use tor_arena::NoMemory;
+use tor_io::{
+    Buffer, Failed, FileShelf, MemShelf, MemSink, OpenRefused, Shelf, Sink, StdSink, write_all,
+};
+
+/// A writer that takes one byte a call.
+#[derive(Drop)]
+struct Slow {
+    taken: Vec<u8>,
+}
+
+impl Write for Slow {
+    fn write(&mut self, buf: &[u8]) -> io::Result<usize> {
+        let count = buf.len().min(1);
+        self.taken.extend_from_slice(&buf[..count])?;
+        Ok(count)
+    }
+
+    fn flush(&mut self) -> io::Result<()> {
+        Ok(())
+    }
+}
+
+#[test]
+fn writes_on_after_a_short_write(rt: HostRuntime) {
+    let mut slow = Slow {
+        taken: Vec::new(rt.alloc()),
+    };
+    let mut sink = StdSink::new(&mut slow);
+    assert_eq!(rt; write_all(&mut sink, b"some"), Ok(()));
+    assert_eq!(rt; slow.taken.as_slice(), b"some".as_slice());
+}
+
+#[test]
+fn writes_to_standard_output(rt: HostRuntime) {
+    let mut sink = StdSink::new(rt.stdout());
+    assert_eq!(rt; write_all(&mut sink, b"some\n"), Ok(()));
+}
+
+#[test]
+fn a_folder_is_no_file(rt: HostRuntime) {
+    let mut shelf = FileShelf::new(rt);
+    let mut buf = [0; 4];
+    if shelf.open_file(".").is_ok() {
+        assert!(rt; shelf.read(&mut buf).is_err());
+    }
+}
+
+/// A call of a shelf, and its answer.
+enum Call {
+    Open(&'static str, Result<(), OpenRefused>),
+    /// A read into so many of the first octets of a buffer, and what the whole buffer holds then.
+    Read(usize, Result<usize, Failed>, &'static [u8]),
+}
+
+/// Whether a call is answered so.
+fn is_answered<H: Shelf>(shelf: &mut H, buf: &mut [u8], call: &Call) -> bool {
+    match call {
+        Call::Open(name, answer) => shelf.open_file(name) == *answer,
+        Call::Read(room, answer, held) => {
+            let Some(part) = buf.get_mut(..*room) else {
+                return false;
+            };
+            shelf.read(part) == *answer && *buf == **held
+        }
+    }
+}
+
+/// The first call that is not answered so.
+fn first_other<H: Shelf>(shelf: &mut H, buf: &mut [u8], calls: &[Call]) -> Option<usize> {
+    for (place, call) in calls.iter().enumerate() {
+        if !is_answered(shelf, buf, call) {
+            return Some(place);
+        }
+    }
+    None
+}
+
+/// 65,536 times 'a', and "bc".
+fn long_file(alloc: Global) -> Result<Vec<u8>, Fail> {
+    let mut bytes = vec![in alloc; b'a'; 65536]?;
+    bytes.extend_from_slice(b"bc")?;
+    Ok(bytes)
+}
+
+/// Nothing is read where no file is open.
+const BEFORE: [Call; 2] = [Call::Read(3, Ok(0), b"\0\0\0"), Call::Open("long", Ok(()))];
+
+/// What is read of a file behind its first 65,534 octets, where a buffer has 65,536, and of one that is absent.
+const BEHIND_THE_FIRST: [Call; 4] = [
+    Call::Read(3, Ok(2), b"aa\0"),
+    Call::Read(1, Ok(1), b"ba\0"),
+    Call::Open("absent", Err(OpenRefused::Failed)),
+    Call::Read(3, Ok(0), b"ba\0"),
+];
+
+#[test]
+fn reads_a_file_that_is_larger_than_the_buffer(rt: HostRuntime) -> Result<(), Fail> {
+    fs::write(&rt, "long", long_file(rt.alloc())?.as_slice())?;
+    let mut shelf = FileShelf::new(rt);
+    let mut large = vec![in rt.alloc(); 0; 65534]?;
+    let mut small = [0; 3];
+    assert_eq!(rt; first_other(&mut shelf, &mut small, &BEFORE), None);
+    assert_eq!(rt; shelf.read(large.as_mut_slice()), Ok(65534));
+    assert_eq!(rt;
+        first_other(&mut shelf, &mut small, &BEHIND_THE_FIRST),
+        None
+    );
+    Ok(())
+}
+
+/// What is read where the second call fails.
+const SECOND_FAILS: [Call; 3] = [
+    Call::Open("a", Ok(())),
+    Call::Read(4, Err(Failed), b"\0\0\0\0"),
+    Call::Read(4, Ok(3), b"123\0"),
+];
+
+/// A shelf with a file, of which a call fails.
+fn put_failing(shelf: &mut MemShelf) -> Result<(), NoMemory> {
+    shelf.put("a", b"123")?;
+    shelf.fail_at(2)
+}
+
+#[test]
+fn a_read_that_fails_has_read_nothing(rt: HostRuntime) -> Result<(), Fail> {
+    let mut shelf = MemShelf::new(rt.alloc());
+    put_failing(&mut shelf)?;
+    assert_eq!(rt; first_other(&mut shelf, &mut [0; 4], &SECOND_FAILS), None);
+    Ok(())
+}
+
+/// Whether the first write fails, and the second is taken whole.
+fn takes_at_the_second(sink: &mut MemSink) -> bool {
+    sink.write(b"123\0") == Err(Failed)
+        && write_all(sink, b"123") == Ok(())
+        && sink.held() == b"123".as_slice()
+}
+
+#[test]
+fn a_write_that_fails_has_written_nothing(rt: HostRuntime) -> Result<(), Fail> {
+    let mut sink = MemSink::new(rt.alloc(), 4, 2)?;
+    sink.fail_at(1)?;
+    assert!(rt; takes_at_the_second(&mut sink));
+    Ok(())
+}
+
+/// What is read of five octets, at most two in a call.
+const TWO_A_CALL: [Call; 5] = [
+    Call::Open("a", Ok(())),
+    Call::Read(4, Ok(2), b"12\0\0"),
+    Call::Read(1, Ok(1), b"32\0\0"),
+    Call::Read(4, Ok(2), b"45\0\0"),
+    Call::Read(4, Ok(0), b"45\0\0"),
+];
+
+#[test]
+fn gives_few_bytes_in_a_read(rt: HostRuntime) -> Result<(), Fail> {
+    let mut shelf = MemShelf::new(rt.alloc());
+    shelf.put("a", b"12345")?;
+    shelf.at_most(2);
+    assert_eq!(rt; first_other(&mut shelf, &mut [0; 4], &TWO_A_CALL), None);
+    Ok(())
+}
+
+/// What is put into a buffer.
+enum Put {
+    Piece(&'static [u8]),
+    /// So many of the first octets of a long piece.
+    Long(usize),
+    Octet(u8),
+    /// Nothing, and what waits is written.
+    Flush,
+}
+
+/// What is put, whether that is taken, and how many octets the sink holds then and what it begins with.
+type Row = (Put, bool, usize, &'static [u8]);
+
+const ROWS: [Row; 6] = [
+    // it waits, and then there is no room for it
+    (Put::Piece(b"aa"), true, 0, b""),
+    (Put::Long(65536), true, 2, b"aa"),
+    (Put::Octet(b'd'), true, 65538, b"aabb"),
+    // the buffer could not hold it
+    (Put::Long(65537), true, 131_076, b"aabb"),
+    (Put::Octet(b'e'), true, 131_076, b"aabb"),
+    // the sink has no room left
+    (Put::Flush, false, 131_076, b"aabb"),
+];
+
+fn is_put(buffer: &mut Buffer, sink: &mut MemSink, long: &[u8], put: &Put) -> bool {
+    match put {
+        Put::Piece(piece) => buffer.put(sink, piece).is_ok(),
+        Put::Long(count) => buffer.put(sink, &long[..long.len().min(*count)]).is_ok(),
+        Put::Octet(octet) => buffer.put_byte(sink, *octet).is_ok(),
+        Put::Flush => buffer.flush(sink).is_ok(),
+    }
+}
+
+/// The first row that is not so.
+fn first_other_row(buffer: &mut Buffer, sink: &mut MemSink, long: &[u8]) -> Option<usize> {
+    for (place, (put, is_taken, count, start)) in ROWS.iter().enumerate() {
+        if is_put(buffer, sink, long, put) != *is_taken {
+            return Some(place);
+        }
+        let held = sink.held();
+        if held.len() != *count || !held.starts_with(start) {
+            return Some(place);
+        }
+    }
+    None
+}
+
+#[test]
+fn writes_behind_a_buffer(rt: HostRuntime) -> Result<(), Fail> {
+    let long = vec![in rt.alloc(); b'b'; 65537]?;
+    let mut sink = MemSink::new(rt.alloc(), 131_076, 50_000)?;
+    let mut buffer = Buffer::new(rt.alloc())?;
+    assert_eq!(rt; first_other_row(&mut buffer, &mut sink, &long), None);
+    Ok(())
+}
