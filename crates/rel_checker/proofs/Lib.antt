@@ -40,3 +40,4 @@ pub mod Flippings
 pub mod ValleyLemmas
 pub mod WalkLaws
 pub mod OneAnswer
+mod Vectors

@@ -25,13 +25,9 @@ mod showing;
 mod shown;
 mod step;
 mod supports;
-#[cfg(test)]
-mod tests;
 mod totals;
 mod valleys;
 mod walk_rules;
-#[cfg(test)]
-mod walk_tests;
 
 pub use against::check_against;
 pub use answer::Answer;

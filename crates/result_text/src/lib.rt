@@ -22,6 +22,3 @@ pub use path_lines::{PathLineRef, PathLines};
 pub use printing::{print, put_asides};
 pub use relationships::{Fate, Mark, Probe};
 pub use text_fields::{put_number, write_digits};
-
-#[cfg(test)]
-mod tests;

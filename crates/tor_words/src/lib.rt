@@ -6,8 +6,6 @@ mod command;
 mod name;
 mod refused;
 mod settings;
-#[cfg(test)]
-mod tests;
 mod values;
 mod words;
 

@@ -1,0 +1,365 @@
+use path_clean::{Asides, PathTable, is_cleaned};
+use rel_checker::{Answer, check_against, check_file};
+use result_text::{ResultFile, parse};
+use std::alloc::Global;
+use std::test::Fail;
+use tor_arena::Keys;
+
+/// The result over the paths 30 40 20 10 50 60, 10 20 30 40 and 50 60 10 20.
+const THREE_PATHS: &str =
+    "tor|1\nsets|cut\nratio|60\naside|nopath|0\naside|badsegments|0\naside|confed|0\naside|sets|0\naside|reserved|0\n\
+        aside|loop|0\naside|short|0\nkept|1|30 40 20 10 50 60\nkept|1|10 20 30 40\n\
+        lost|1|50 60 10 20|10 20 30 40 20 10 50 60 10 20|2:2 2:3 1:2 1:3 1:4 1:5 3:2 3:3\nedge|30|40|high|open|2\n\
+        edge|20|40|peer|open|1\nedge|10|20|high|forced|2\nedge|10|50|low|forced|1\nedge|50|60|low|forced|1\n\
+        edge|20|30|high|open|1\nedge|10|60|low|open|0\nwhy|10 20 30 40 20 10|2:2 2:3 1:2 1:3\nwhy|20 10 50|1:4\n\
+        why|10 50 60|1:5\nopen|20|30\nopen|60|10\nend|2|1|7|3|1\n";
+
+/// What is answered to a file of a few lines.
+fn answer_to_file(alloc: Global, keys: Keys, file: &ResultFile) -> Option<Answer> {
+    if file.paths.len() < 100
+        && file.edges.len() < 100
+        && file.whys.len() < 100
+        && file.probes.len() < 100
+    {
+        check_file(alloc, keys, file).ok()
+    } else {
+        None
+    }
+}
+
+/// What is answered to a text of a few lines, if it is that of a result.
+fn answer_to(alloc: Global, keys: Keys, text: &str) -> Option<Answer> {
+    match parse(alloc, text.as_bytes()) {
+        Ok(file) => answer_to_file(alloc, keys, &file),
+        Err(_) => None,
+    }
+}
+
+/// Two paths with one triple, which the second has the other way round. The open line leads to the other order of both edges.
+const THERE_AND_BACK: &str =
+    "tor|1\nsets|cut\nratio|60\naside|nopath|0\naside|badsegments|0\naside|confed|0\n\
+    aside|sets|0\naside|reserved|0\naside|loop|0\naside|short|0\nkept|1|10 20 30\nkept|1|30 20 10\n\
+    edge|10|20|low|open|2\nedge|20|30|low|open|2\nopen|30|20\nend|2|0|2|0|0\n";
+
+#[test]
+fn right_files_are_valid(rt: HostRuntime) {
+    assert!(rt; answer_to(rt.alloc(), Keys::new(&rt), THREE_PATHS) == Some(Answer::Yes));
+    // a triple counts once, either way round
+    assert!(rt; answer_to(rt.alloc(), Keys::new(&rt), THERE_AND_BACK) == Some(Answer::Yes));
+}
+
+const HEAD: &str =
+    "tor|1\nsets|cut\nratio|60\naside|nopath|0\naside|badsegments|0\naside|confed|0\n\
+    aside|sets|0\naside|reserved|0\naside|loop|0\naside|short|0\n";
+
+/// Three open lines, each of which rules out the other two.
+const EACH_FOR_ITSELF: &str =
+    "kept|1|10 20 30\nkept|1|10 20 40\nkept|1|30 20 40\nedge|10|20|high|open|2\nedge|20|30|low|open|2\n\
+    edge|20|40|low|open|2\nopen|10|20\nopen|30|20\nopen|40|20\nend|3|0|3|0|0\n";
+
+/// The second open line rules out the first, and rules out itself: 10 over 20 leads to 30 over 50 and to 40 over 50.
+const SECOND_FAILS: &str =
+    "kept|1|10 20 30 50\nkept|1|10 20 40 50\nkept|1|30 50 40\nkept|1|10 20 60\nedge|10|20|high|open|3\n\
+    edge|20|30|high|open|1\nedge|30|50|high|open|2\nedge|20|40|high|open|1\nedge|40|50|high|open|2\n\
+    edge|20|60|low|open|1\nopen|60|20\nopen|10|20\nend|4|0|6|0|0\n";
+
+/// The second and the third open line rule out themselves, and only the second rules out the first.
+const SECOND_AND_THIRD_FAIL: &str =
+    "kept|1|10 20 30 50\nkept|1|10 20 40 50\nkept|1|30 50 40\nkept|1|10 20 60\nkept|1|11 21 31 51\n\
+    kept|1|11 21 41 51\nkept|1|31 51 41\nedge|10|20|high|open|3\nedge|20|30|high|open|1\nedge|30|50|high|open|2\n\
+    edge|20|40|high|open|1\nedge|40|50|high|open|2\nedge|20|60|low|open|1\nedge|11|21|high|open|2\n\
+    edge|21|31|high|open|1\nedge|31|51|high|open|2\nedge|21|41|high|open|1\nedge|41|51|high|open|2\n\
+    open|60|20\nopen|10|20\nopen|11|21\nend|7|0|11|0|0\n";
+
+/// The path lines of the three paths.
+const PATHS: &str = "kept|1|30 40 20 10 50 60\nkept|1|10 20 30 40\n\
+        lost|1|50 60 10 20|10 20 30 40 20 10 50 60 10 20|2:2 2:3 1:2 1:3 1:4 1:5 3:2 3:3\n";
+
+/// Their edge lines.
+const EDGES: &str =
+    "edge|30|40|high|open|2\nedge|20|40|peer|open|1\nedge|10|20|high|forced|2\nedge|10|50|low|forced|1\n\
+        edge|50|60|low|forced|1\nedge|20|30|high|open|1\nedge|10|60|low|open|0\n";
+
+/// What ends a file whose totals nobody looks at.
+const END: &str = "end|0|0|0|0|0\n";
+
+/// The lines behind the first ten, in three pieces, and the answer.
+type Case = ([&'static str; 3], Answer);
+
+const OPEN_LINES: [Case; 3] = [
+    ([EACH_FOR_ITSELF, "", ""], Answer::Yes),
+    ([SECOND_FAILS, "", ""], Answer::No { line: 22, rule: 9 }),
+    (
+        [SECOND_AND_THIRD_FAIL, "", ""],
+        Answer::No { line: 30, rule: 9 },
+    ),
+];
+
+/// Files without edges, in which the fourth rule is broken, or first the fifth.
+const LOST_PATHS: [Case; 7] = [
+    ([PATHS, "", END], Answer::No { line: 14, rule: 5 }),
+    // no path is lost
+    (
+        ["kept|1|10 20\nkept|1|20 10\n", "", END],
+        Answer::No { line: 13, rule: 5 },
+    ),
+    // a walk that does not come back
+    (
+        [
+            "kept|1|30 40 20 10 50 60\nkept|1|10 20 30 40\n",
+            "lost|1|50 60 10 20|10 20 30 40 20 10 50 60 10|2:2 2:3 1:2 1:3 1:4 1:5 3:2\n",
+            END,
+        ],
+        Answer::No { line: 13, rule: 4 },
+    ),
+    // a walk that never turns
+    (
+        ["kept|1|30 40 20\n", "lost|1|10 20 30|10 20|\n", END],
+        Answer::No { line: 12, rule: 4 },
+    ),
+    // a link into a path that is kept later
+    (
+        [
+            "kept|1|30 40 20 10 50 60\nlost|1|50 60 10 20|10 20 30 40 20 10 50 60 10 20|3:2 3:3 1:2 1:3 1:4 1:5 2:2 2:3\n",
+            "kept|1|10 20 30 40\n",
+            END,
+        ],
+        Answer::No { line: 12, rule: 4 },
+    ),
+    // a link to no path
+    (
+        [
+            "kept|1|30 40 20 10 50 60\nkept|1|10 20 30 40\n",
+            "lost|1|50 60 10 20|10 20 30 40 20 10 50 60 10 20|2:2 2:3 4294967295:2 1:3 1:4 1:5 3:2 3:3\n",
+            END,
+        ],
+        Answer::No { line: 13, rule: 4 },
+    ),
+    // a link too few
+    (
+        [
+            "kept|1|30 40 20 10 50 60\nkept|1|10 20 30 40\n",
+            "lost|1|50 60 10 20|10 20 30 40 20 10 50 60 10 20|2:2 2:3 1:2 1:3 1:4 1:5 3:2\n",
+            END,
+        ],
+        Answer::No { line: 13, rule: 4 },
+    ),
+];
+
+/// The three paths with why lines.
+const WHY_LINES: [Case; 5] = [
+    (
+        [
+            PATHS,
+            EDGES,
+            "why|10 20 30 40 20 10|2:2 2:3 1:2 1:3\nwhy|20 10 50|1:4\nwhy|10 50 60|1:5\nopen|20|30\nopen|60|10\nend|2|1|7|3|1\n",
+        ],
+        Answer::Yes,
+    ),
+    // nothing is shown yet
+    (
+        [PATHS, EDGES, "why|20 10 50|1:4\nend|0|0|0|0|0\n"],
+        Answer::No { line: 21, rule: 8 },
+    ),
+    // an order is shown twice
+    (
+        [
+            PATHS,
+            EDGES,
+            "why|10 20 30 40 20 10|2:2 2:3 1:2 1:3\nwhy|20 10 50|1:4\nwhy|20 10 50|1:4\nend|0|0|0|0|0\n",
+        ],
+        Answer::No { line: 23, rule: 8 },
+    ),
+    // a link into a lost path
+    (
+        [
+            PATHS,
+            EDGES,
+            "why|10 20 30 40 20 10|2:2 2:3 1:2 1:3\nwhy|20 10 50|1:4\nwhy|10 50 60|1:5\nwhy|50 60 10|3:2\nend|0|0|0|0|0\n",
+        ],
+        Answer::No { line: 24, rule: 8 },
+    ),
+    // one AS twice is over itself once
+    (
+        [PATHS, EDGES, "why|5 5|\nwhy|5 5|\nend|0|0|0|0|0\n"],
+        Answer::No { line: 22, rule: 8 },
+    ),
+];
+
+/// The text of these pieces behind the first ten lines.
+fn text_of(alloc: Global, pieces: &[&str; 3]) -> Result<String, Fail> {
+    let mut text = String::from_str(alloc, HEAD)?;
+    for piece in pieces {
+        text.push_str(piece)?;
+    }
+    Ok(text)
+}
+
+/// Whether this is the answer to a case.
+fn is_answered(alloc: Global, keys: Keys, case: &Case) -> Result<bool, Fail> {
+    let text = text_of(alloc, &case.0)?;
+    Ok(answer_to(alloc, keys, text.as_str()) == Some(case.1))
+}
+
+/// The first case of which the answer is another.
+fn first_other(alloc: Global, keys: Keys, cases: &[Case]) -> Result<Option<usize>, Fail> {
+    for (place, case) in cases.iter().enumerate() {
+        if !is_answered(alloc, keys, case)? {
+            return Ok(Some(place));
+        }
+    }
+    Ok(None)
+}
+
+#[test]
+fn open_lines_that_rule_each_other_out(rt: HostRuntime) -> Result<(), Fail> {
+    assert_eq!(rt; first_other(rt.alloc(), Keys::new(&rt), &OPEN_LINES)?, None);
+    Ok(())
+}
+
+#[test]
+fn lost_paths_are_refuted_by_closed_walks_over_paths_kept_before(
+    rt: HostRuntime,
+) -> Result<(), Fail> {
+    assert_eq!(rt; first_other(rt.alloc(), Keys::new(&rt), &LOST_PATHS)?, None);
+    Ok(())
+}
+
+#[test]
+fn why_lines_show_each_order_once_from_those_before(rt: HostRuntime) -> Result<(), Fail> {
+    assert_eq!(rt; first_other(rt.alloc(), Keys::new(&rt), &WHY_LINES)?, None);
+    Ok(())
+}
+
+/// Which line and rule is named where one line is another.
+const CHANGES: [(usize, &str, u64, u8); 17] = [
+    (3, "ratio|1000001", 3, 1),
+    (11, "kept|0|30 40 20 10 50 60", 11, 2),
+    (12, "kept|1|10 20 23456 40", 12, 2),
+    (12, "kept|1|10 20 10 40", 12, 2),
+    (12, "kept|1|30 40 20 10 50 60", 12, 3),
+    (
+        13,
+        "lost|1|50 60 10 20|10 20 30 40 20 10 50 60 10 20|2:2 2:3 1:2 1:3 1:4 1:5 3:2 2:3",
+        13,
+        4,
+    ),
+    (14, "edge|30|50|high|open|2", 14, 5),
+    (20, "edge|10|60|low|open|0\nedge|10|70|low|open|0", 21, 5),
+    (14, "edge|30|40|low|open|2", 11, 6),
+    (17, "edge|10|50|low|forced|2", 17, 7),
+    (21, "why|20 30|", 21, 8),
+    (16, "edge|10|20|high|open|2", 16, 9),
+    (25, "open|10|60", 20, 9),
+    (24, "open|10|20", 24, 9),
+    (25, "open|60|10\nopen|20|30", 26, 9),
+    (15, "edge|20|40|low|open|1", 26, 10),
+    (26, "end|2|1|7|3|2", 26, 10),
+];
+
+/// The text of the three paths with another line in place of one, by its number from 1.
+fn with_line(alloc: Global, number: usize, line: &str) -> Result<String, Fail> {
+    let mut text = String::new(alloc);
+    for (place, old) in THREE_PATHS.lines().enumerate() {
+        text.push_str(if place + 1 == number { line } else { old })?;
+        text.push_str("\n")?;
+    }
+    Ok(text)
+}
+
+/// Whether this is the line and the rule that are named where one line is another.
+fn is_named(alloc: Global, keys: Keys, change: (usize, &str, u64, u8)) -> Result<bool, Fail> {
+    let (number, text, line, rule) = change;
+    let changed = with_line(alloc, number, text)?;
+    Ok(answer_to(alloc, keys, changed.as_str()) == Some(Answer::No { line, rule }))
+}
+
+/// The first change of which another line or rule is named.
+fn first_other_change(alloc: Global, keys: Keys) -> Result<Option<usize>, Fail> {
+    for (place, change) in CHANGES.iter().enumerate() {
+        if !is_named(alloc, keys, *change)? {
+            return Ok(Some(place));
+        }
+    }
+    Ok(None)
+}
+
+#[test]
+fn the_first_broken_rule_and_its_line_are_named(rt: HostRuntime) -> Result<(), Fail> {
+    assert_eq!(rt; first_other_change(rt.alloc(), Keys::new(&rt))?, None);
+    Ok(())
+}
+
+const FIRST: &[u32] = &[30, 40, 20, 10, 50, 60];
+
+const SECOND: &[u32] = &[10, 20, 30, 40];
+
+const THIRD: &[u32] = &[50, 60, 10, 20];
+
+/// Whether each path is added to a table.
+fn adds_each(table: &mut PathTable, paths: &[&[u32]]) -> bool {
+    for path in paths {
+        if !is_cleaned(path) || table.add(path).is_err() {
+            return false;
+        }
+    }
+    true
+}
+
+fn answer_beside_file(file: &ResultFile, table: &PathTable, asides: &Asides) -> Option<Answer> {
+    if file.paths.len() < 100 {
+        Some(check_against(file, table, asides))
+    } else {
+        None
+    }
+}
+
+fn answer_beside_table(alloc: Global, table: &PathTable, asides: &Asides) -> Option<Answer> {
+    match parse(alloc, THREE_PATHS.as_bytes()) {
+        Ok(file) => answer_beside_file(&file, table, asides),
+        Err(_) => None,
+    }
+}
+
+/// What is answered to the three paths beside dumps that hold these paths and set so many loops aside.
+fn answer_beside(alloc: Global, keys: Keys, paths: &[&[u32]], loops: u64) -> Option<Answer> {
+    let asides = Asides::from_counts([0, 0, 0, 0, 0, loops, 0]);
+    let mut table = PathTable::new(alloc, keys, 10);
+    if adds_each(&mut table, paths) {
+        answer_beside_table(alloc, &table, &asides)
+    } else {
+        None
+    }
+}
+
+/// The paths of dumps, how many loops they set aside, and the answer.
+const DUMPS: [(&[&[u32]], u64, Answer); 5] = [
+    (&[FIRST, SECOND, THIRD], 0, Answer::Yes),
+    (&[FIRST, SECOND], 0, Answer::No { line: 13, rule: 11 }),
+    (
+        &[FIRST, SECOND, SECOND, THIRD],
+        0,
+        Answer::No { line: 12, rule: 11 },
+    ),
+    (
+        &[FIRST, SECOND, THIRD, &[10, 60]],
+        0,
+        Answer::No { line: 14, rule: 11 },
+    ),
+    (&[FIRST, SECOND], 1, Answer::No { line: 9, rule: 11 }),
+];
+
+/// The first dumps to which the answer is another.
+fn first_other_dumps(alloc: Global, keys: Keys) -> Option<usize> {
+    for (place, (paths, loops, answer)) in DUMPS.iter().enumerate() {
+        if answer_beside(alloc, keys, paths, *loops) != Some(*answer) {
+            return Some(place);
+        }
+    }
+    None
+}
+
+#[test]
+fn dumps_agree_or_the_line_is_named(rt: HostRuntime) {
+    assert_eq!(rt; first_other_dumps(rt.alloc(), Keys::new(&rt)), None);
+}

@@ -1,0 +1,256 @@
+use path_clean::Sets;
+use std::alloc::Global;
+use tor_arena::{List, NoMemory};
+use tor_words::{Mode, Name, WordsRefused, check_settings_of, settings_of};
+
+fn add_name(alloc: Global, names: &mut List<Name>, text: &str) -> Result<(), NoMemory> {
+    names.push(Name::from_text(alloc, text)?)
+}
+
+// Copies of the texts.
+fn names_of(alloc: Global, texts: &[&str]) -> Result<List<Name>, NoMemory> {
+    let mut names = List::new(alloc);
+    for text in texts {
+        add_name(alloc, &mut names, text)?;
+    }
+    Ok(names)
+}
+
+/// The mode, the way with sets, the ratio, the most paths and the number of dumps.
+type Asked = (Mode, Sets, u32, u32, usize);
+
+/// What words give, or the exit status that refuses them.
+fn asked(alloc: Global, texts: &[&str]) -> Result<Asked, u8> {
+    let Ok(words) = names_of(alloc, texts) else {
+        return Err(9);
+    };
+    match settings_of(alloc, &words) {
+        Ok(s) => Ok((s.mode, s.sets, s.ratio, s.max_paths, s.dumps.len())),
+        Err(WordsRefused::Usage(_)) => Err(2),
+        Err(WordsRefused::NoMemory) => Err(7),
+    }
+}
+
+/// The greatest limit of paths, which is also the one where none is given.
+const MOST: u32 = 8_388_608;
+
+/// Words, and the settings that they give.
+const TAKEN: [(&[&str], Asked); 15] = [
+    (&["d"], (Mode::Labels, Sets::Cut, 60, MOST, 1)),
+    (
+        &["--as-sets=skip", "--", "d"],
+        (Mode::Labels, Sets::Skip, 60, MOST, 1),
+    ),
+    (
+        &["a", "--list", "b", "--as-sets", "cut", "c"],
+        (Mode::Listing, Sets::Cut, 60, MOST, 3),
+    ),
+    (
+        &["--ratio", "0", "d"],
+        (Mode::Labels, Sets::Cut, 0, MOST, 1),
+    ),
+    (
+        &["--list", "--ratio=1000000", "d", "d"],
+        (Mode::Listing, Sets::Cut, 1_000_000, MOST, 2),
+    ),
+    (
+        &["--ratio", "+007", "--max-paths", "+007", "d"],
+        (Mode::Labels, Sets::Cut, 7, 7, 1),
+    ),
+    (
+        &["--list", "--", "--list"],
+        (Mode::Listing, Sets::Cut, 60, MOST, 1),
+    ),
+    (&["--", "--list"], (Mode::Labels, Sets::Cut, 60, MOST, 1)),
+    (&["-", "", "help"], (Mode::Labels, Sets::Cut, 60, MOST, 3)),
+    (
+        &["--sample", "7"],
+        (Mode::Sample(7), Sets::Cut, 60, MOST, 0),
+    ),
+    (
+        &["--sample=18446744073709551615", "--ratio", "0"],
+        (Mode::Sample(u64::MAX), Sets::Cut, 0, MOST, 0),
+    ),
+    (
+        &["--max-paths", "9", "--sample", "0", "--as-sets", "skip"],
+        (Mode::Sample(0), Sets::Skip, 60, 9, 0),
+    ),
+    (&["--survey", "d"], (Mode::Survey, Sets::Cut, 60, MOST, 1)),
+    (&["--", "--survey"], (Mode::Labels, Sets::Cut, 60, MOST, 1)),
+    (
+        &[
+            "--survey",
+            "--as-sets",
+            "skip",
+            "--max-paths",
+            "5",
+            "d1",
+            "d2",
+        ],
+        (Mode::Survey, Sets::Skip, 60, 5, 2),
+    ),
+];
+
+/// The first words that give other settings.
+fn first_not_taken(alloc: Global) -> Option<usize> {
+    for (place, (words, settings)) in TAKEN.iter().enumerate() {
+        if asked(alloc, words) != Ok(*settings) {
+            return Some(place);
+        }
+    }
+    None
+}
+
+#[test]
+fn words_give_settings(rt: HostRuntime) {
+    assert_eq!(rt; first_not_taken(rt.alloc()), None);
+}
+
+/// Words that are refused.
+const REFUSED: [&[&str]; 31] = [
+    &[],
+    &["--list"],
+    &["--ratio", "60"],
+    &["--list", "--list", "d"],
+    &["--list=true", "d"],
+    &["--as-sets", "cup", "d"],
+    &["--as-sets", "cut", "--as-sets", "cut", "d"],
+    &["--ratio", "1000001", "d"],
+    &["--ratio", "-1", "d"],
+    &["--ratio", "1", "--ratio", "2", "d"],
+    &["--ratio"],
+    &["--max-paths", "0", "d"],
+    &["--max-paths", "8388609", "d"],
+    &["--max-paths", "-1", "d"],
+    &["--lis", "d"],
+    &["-x", "d"],
+    &["--help"],
+    &["--version", "d"],
+    &["--sample", "7", "d"],
+    &["--sample", "7", "--list"],
+    &["--sample", "7", "--list", "d"],
+    &["--sample"],
+    &["--sample", "-1"],
+    &["--sample", "18446744073709551616"],
+    &["--sample", "7", "--sample", "7"],
+    &["--survey"],
+    &["--survey", "--list", "d"],
+    &["--survey", "--list"],
+    &["--survey", "--sample", "7"],
+    &["--survey", "--survey", "d"],
+    &["--survey=true", "d"],
+];
+
+/// The first words that are not refused with the status 2.
+fn first_not_refused(alloc: Global) -> Option<usize> {
+    for (place, words) in REFUSED.iter().enumerate() {
+        if asked(alloc, words) != Err(2) {
+            return Some(place);
+        }
+    }
+    None
+}
+
+#[test]
+fn other_words_are_refused(rt: HostRuntime) {
+    assert_eq!(rt; first_not_refused(rt.alloc()), None);
+}
+
+// What words give to a check: the result's name and the number of dumps, or the exit status that refuses them.
+fn asked_to_check(alloc: Global, texts: &[&str], name: &str) -> Result<(bool, usize), u8> {
+    let Ok(words) = names_of(alloc, texts) else {
+        return Err(9);
+    };
+    match check_settings_of(alloc, &words) {
+        Ok(settings) => Ok((settings.result.as_text() == name, settings.dumps.len())),
+        Err(WordsRefused::Usage(_)) => Err(2),
+        Err(WordsRefused::NoMemory) => Err(7),
+    }
+}
+
+/// Words of a check, and the result that they name and the number of dumps.
+const CHECKS: [(&[&str], &str, usize); 4] = [
+    (&["r"], "r", 0),
+    (&["r", "d", "d"], "r", 2),
+    (&["--", "--help", "d"], "--help", 1),
+    (&["", "-"], "", 1),
+];
+
+/// Words that are refused for a check.
+const NO_CHECKS: [&[&str]; 4] = [&[], &["--list", "r"], &["r", "-x"], &["--help"]];
+
+/// The first words that give something else to a check.
+fn first_no_check(alloc: Global) -> Option<usize> {
+    for (place, (words, name, dumps)) in CHECKS.iter().enumerate() {
+        if asked_to_check(alloc, words, name) != Ok((true, *dumps)) {
+            return Some(place);
+        }
+    }
+    None
+}
+
+/// The first words that are not refused for a check with the status 2.
+fn first_check_not_refused(alloc: Global) -> Option<usize> {
+    for (place, words) in NO_CHECKS.iter().enumerate() {
+        if asked_to_check(alloc, words, "r") != Err(2) {
+            return Some(place);
+        }
+    }
+    None
+}
+
+#[test]
+fn words_of_a_check_name_a_result_and_dumps(rt: HostRuntime) {
+    assert_eq!(rt; first_no_check(rt.alloc()), None);
+    assert_eq!(rt; first_check_not_refused(rt.alloc()), None);
+}
+
+// What is said of these words, where they give no settings.
+fn said_of(alloc: Global, texts: &[&str]) -> Result<List<u8>, NoMemory> {
+    let words = names_of(alloc, texts)?;
+    match settings_of(alloc, &words) {
+        Err(WordsRefused::Usage(text)) => Ok(text),
+        _ => Err(NoMemory),
+    }
+}
+
+fn says(alloc: Global, texts: &[&str], part: &str) -> bool {
+    let Ok(text) = said_of(alloc, texts) else {
+        return false;
+    };
+    match str::from_utf8(text.as_slice()) {
+        Ok(text) => text.starts_with("usage\n") && text.contains(part) && !text.contains('\u{1b}'),
+        Err(_) => false,
+    }
+}
+
+/// What the help says.
+const PARTS: [&str; 7] = [
+    "--list",
+    "--survey",
+    "what of it counts, in place of the result",
+    "[default: cut]",
+    "0 (no peers) to 1000000 [default: 60]",
+    "1 to 8388608 [default: 8388608]",
+    "0 to 18446744073709551615",
+];
+
+/// The first part that the help does not say.
+fn first_unsaid(alloc: Global) -> Option<usize> {
+    for (place, part) in PARTS.iter().enumerate() {
+        if !says(alloc, &["--help"], part) {
+            return Some(place);
+        }
+    }
+    None
+}
+
+#[test]
+fn the_help_names_options_and_their_values(rt: HostRuntime) {
+    assert_eq!(rt; first_unsaid(rt.alloc()), None);
+}
+
+#[test]
+fn shows_control_characters_of_a_word(rt: HostRuntime) {
+    assert!(rt; says(rt.alloc(), &["--\u{1b}[31m"], "--\\x1b[31m"));
+}
