@@ -143,8 +143,26 @@ type Case = (
     [u64; 3],
 );
 
-#[test]
-fn dumps_are_read_and_faults_named(rt: HostRuntime) -> Result<(), Fail> {
+/// The answer to the dump on a shelf, and the counts then.
+fn read_counted(
+    alloc: Global,
+    keys: Keys,
+    shelf: &mut MemShelf,
+    most: u32,
+) -> (Result<(), DumpError>, [u64; 3]) {
+    let mut taken = nothing_taken(alloc, keys, most);
+    let answer = read(alloc, shelf, &mut taken);
+    (answer, counts_of(&taken))
+}
+
+fn is_answered(alloc: Global, keys: Keys, case: &Case) -> Result<bool, Fail> {
+    let mut shelf = MemShelf::new(alloc);
+    put_pieces(alloc, &mut shelf, case.0)?;
+    Ok(read_counted(alloc, keys, &mut shelf, case.1) == (case.2, case.3))
+}
+
+/// The first dump to which the answer is another.
+fn first_other(alloc: Global, keys: Keys) -> Result<Option<usize>, Fail> {
     let cases: [Case; 13] = [
         (&[ONE_EDGE], 8, Ok(()), [1, 0, 0]),
         (&[PEERS, RIB], 8, Ok(()), [1, 0, 0]),
@@ -185,22 +203,30 @@ fn dumps_are_read_and_faults_named(rt: HostRuntime) -> Result<(), Fail> {
             [1, 0, 0],
         ),
     ];
-    for (pieces, most, answer, counts) in cases {
-        let mut shelf = MemShelf::new(rt.alloc());
-        put_pieces(rt.alloc(), &mut shelf, pieces)?;
-        let mut taken = nothing_taken(rt.alloc(), Keys::new(&rt), most);
-        assert_eq!(rt; read(rt.alloc(), &mut shelf, &mut taken), answer);
-        assert_eq!(rt; counts_of(&taken), counts);
+    for (place, case) in cases.iter().enumerate() {
+        if !is_answered(alloc, keys, case)? {
+            return Ok(Some(place));
+        }
     }
+    Ok(None)
+}
+
+#[test]
+fn dumps_are_read_and_faults_named(rt: HostRuntime) -> Result<(), Fail> {
+    assert_eq!(rt; first_other(rt.alloc(), Keys::new(&rt))?, None);
     Ok(())
+}
+
+/// The answer where nothing is on the shelf.
+fn answer_to_absent(alloc: Global, keys: Keys) -> Result<(), DumpError> {
+    let mut shelf = MemShelf::new(alloc);
+    read_counted(alloc, keys, &mut shelf, 8).0
 }
 
 #[test]
 fn an_absent_dump_is_a_read_fault(rt: HostRuntime) {
-    let mut shelf = MemShelf::new(rt.alloc());
-    let mut taken = nothing_taken(rt.alloc(), Keys::new(&rt), 8);
     assert_eq!(rt;
-        read(rt.alloc(), &mut shelf, &mut taken),
+        answer_to_absent(rt.alloc(), Keys::new(&rt)),
         Err(DumpError::ReadFault)
     );
 }
@@ -213,18 +239,22 @@ const MANY_ENTRIES: &[u8] = &[
 /// How many entries it has.
 const MANY: u16 = 5000;
 
-// An entry of peer 0 up to the last number of its AS_PATH, which has the first two octets 0 here.
-const ENTRY: &[u8] = &[0, 0, 0, 0, 0, 0, 0, 13, 64, 2, 10, 2, 2, 0, 0, 0, 10, 0, 0];
-
 /// The second AS on the path of an entry.
 fn second_of(place: u16) -> u16 {
     place.saturating_add(1000)
 }
 
+/// The entry of peer 0 with the path 10 and the second AS of its place.
+fn entry_of(place: u16) -> [u8; 21] {
+    let [high, low] = second_of(place).to_be_bytes();
+    [
+        0, 0, 0, 0, 0, 0, 0, 13, 64, 2, 10, 2, 2, 0, 0, 0, 10, 0, 0, high, low,
+    ]
+}
+
 fn add_entries(octets: &mut Vec<u8>) -> Result<(), Fail> {
     for place in 0..MANY {
-        octets.extend_from_slice(ENTRY)?;
-        octets.extend_from_slice(&second_of(place).to_be_bytes())?;
+        octets.extend_from_slice(&entry_of(place))?;
     }
     Ok(())
 }
@@ -252,12 +282,16 @@ fn has_many(table: &PathTable) -> bool {
     table.len() == usize::from(MANY)
 }
 
+/// Whether the dump on a shelf is read, and each path found.
+fn is_read_whole(alloc: Global, keys: Keys, shelf: &mut MemShelf) -> bool {
+    let mut taken = nothing_taken(alloc, keys, 8192);
+    read(alloc, shelf, &mut taken) == Ok(()) && has_many(&taken.table)
+}
+
 #[test]
 fn a_rib_of_5000_entries_is_read_whole(rt: HostRuntime) -> Result<(), Fail> {
     let mut shelf = MemShelf::new(rt.alloc());
     put_many(rt.alloc(), &mut shelf)?;
-    let mut taken = nothing_taken(rt.alloc(), Keys::new(&rt), 8192);
-    assert_eq!(rt; read(rt.alloc(), &mut shelf, &mut taken), Ok(()));
-    assert!(rt; has_many(&taken.table));
+    assert!(rt; is_read_whole(rt.alloc(), Keys::new(&rt), &mut shelf));
     Ok(())
 }

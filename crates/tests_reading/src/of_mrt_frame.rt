@@ -59,7 +59,7 @@ struct Case {
     second: Step,
 }
 
-const CASES: [Case; 5] = [
+static CASES: [Case; 5] = [
     Case {
         header: ONE_EDGE_HEADER,
         zeros: 0,
@@ -131,14 +131,28 @@ fn is_answered(alloc: Global, shelf: &mut MemShelf, case: &Case) -> bool {
     step(&mut frames, &mut counts) == case.first && step(&mut frames, &mut counts) == case.second
 }
 
+/// The first case of which the answers are others.
+fn first_other(alloc: Global) -> Result<Option<usize>, Fail> {
+    let mut shelf = MemShelf::new(alloc);
+    for (place, case) in CASES.iter().enumerate() {
+        put_case(alloc, &mut shelf, case)?;
+        if !is_answered(alloc, &mut shelf, case) {
+            return Ok(Some(place));
+        }
+    }
+    Ok(None)
+}
+
+/// Whether the reading of a file that isn't there begins.
+fn begins_absent(alloc: Global) -> bool {
+    let mut shelf = MemShelf::new(alloc);
+    Frames::begin(alloc, &mut shelf, "absent").is_ok()
+}
+
 #[test]
 fn reads_records_and_names_faults(rt: HostRuntime) -> Result<(), Fail> {
-    let mut shelf = MemShelf::new(rt.alloc());
-    assert!(rt; Frames::begin(rt.alloc(), &mut shelf, "absent").is_err());
-    for (place, case) in CASES.iter().enumerate() {
-        put_case(rt.alloc(), &mut shelf, case)?;
-        assert!(rt; is_answered(rt.alloc(), &mut shelf, case), "case {place}");
-    }
+    assert!(rt; !begins_absent(rt.alloc()));
+    assert_eq!(rt; first_other(rt.alloc())?, None);
     Ok(())
 }
 
@@ -184,21 +198,50 @@ fn is_stepped(
     step(&mut frames, counts) == wanted
 }
 
-fn count_of(kind: u16, subtype: u16, records: u64) -> TypeCount {
-    TypeCount {
-        kind,
-        subtype,
-        records,
+/// So many calls, the last answer, and the counts then.
+const COUNTS: [(u32, Step, &[TypeCount]); 2] = [
+    (1, Ok(Some(BEHIND_OTHER)), &[V1_ONCE, OTHER_ONCE]),
+    (2, Ok(None), &[V1_ONCE, UPDATE_ONCE, OTHER_TWICE]),
+];
+
+const V1_ONCE: TypeCount = TypeCount {
+    kind: 12,
+    subtype: 1,
+    records: 1,
+};
+
+const UPDATE_ONCE: TypeCount = TypeCount {
+    kind: 16,
+    subtype: 4,
+    records: 1,
+};
+
+const OTHER_ONCE: TypeCount = TypeCount {
+    kind: 99,
+    subtype: 0,
+    records: 1,
+};
+
+const OTHER_TWICE: TypeCount = TypeCount {
+    kind: 99,
+    subtype: 0,
+    records: 2,
+};
+
+/// The first of these that is otherwise.
+fn first_other_counts(alloc: Global) -> Result<Option<usize>, Fail> {
+    let mut shelf = MemShelf::new(alloc);
+    put_four(&mut shelf, alloc)?;
+    for (place, (calls, step, types)) in COUNTS.iter().enumerate() {
+        if !is_counted(alloc, &mut shelf, *calls, *step, types)? {
+            return Ok(Some(place));
+        }
     }
+    Ok(None)
 }
 
 #[test]
 fn counts_records_by_type_as_far_as_it_came(rt: HostRuntime) -> Result<(), Fail> {
-    let mut shelf = MemShelf::new(rt.alloc());
-    put_four(&mut shelf, rt.alloc())?;
-    let some = [count_of(12, 1, 1), count_of(99, 0, 1)];
-    assert!(rt; is_counted(rt.alloc(), &mut shelf, 1, Ok(Some(BEHIND_OTHER)), &some)?);
-    let all = [count_of(12, 1, 1), count_of(16, 4, 1), count_of(99, 0, 2)];
-    assert!(rt; is_counted(rt.alloc(), &mut shelf, 2, Ok(None), &all)?);
+    assert_eq!(rt; first_other_counts(rt.alloc())?, None);
     Ok(())
 }

@@ -135,20 +135,34 @@ fn path_listed(alloc: Global, block: &[u8], width: Width) -> Result<Vec<u32>, Fa
 }
 
 /// Octets, how many of them count, the width of the numbers, and the segments.
-const SEGMENTS: [(&[u8], usize, Width, &[u32]); 4] = [
+static SEGMENTS: [(&'static [u8], usize, Width, &'static [u32]); 4] = [
     (SET_AND_ONE, 11, Width::Two, &[9]),
     (SET_AND_ONE, 10, Width::Two, &[1, 10, 20, 2, 30]),
     (VALUE, 10, Width::Four, &[2, 10, 20]),
     (VALUE, 10, Width::Two, &[9]),
 ];
 
+/// So many of the first octets.
+fn first_of(octets: &[u8], count: usize) -> &[u8] {
+    &octets[..octets.len().min(count)]
+}
+
+/// The first of the segments that are told otherwise.
+fn first_other_segments(alloc: Global) -> Result<Option<usize>, Fail> {
+    for (place, (octets, count, width, wanted)) in SEGMENTS.iter().enumerate() {
+        let octets = first_of(octets, *count);
+        if gone_over(alloc, octets, *width)?.as_slice() != *wanted
+            || listed(alloc, octets, *width)?.as_slice() != *wanted
+        {
+            return Ok(Some(place));
+        }
+    }
+    Ok(None)
+}
+
 #[test]
 fn tells_segments(rt: HostRuntime) -> Result<(), Fail> {
-    for (octets, count, width, wanted) in SEGMENTS {
-        let octets = octets.get(..count).ok_or("so many")?;
-        assert_eq!(rt; gone_over(rt.alloc(), octets, width)?.as_slice(), wanted);
-        assert_eq!(rt; listed(rt.alloc(), octets, width)?.as_slice(), wanted);
-    }
+    assert_eq!(rt; first_other_segments(rt.alloc())?, None);
     Ok(())
 }
 
@@ -163,16 +177,22 @@ const PATHS: [(&[u8], usize, Width, &[u32]); 7] = [
     (BLOCK, 4, Width::Two, &[0]),
 ];
 
+/// The first of the paths that is told otherwise.
+fn first_other_path(alloc: Global) -> Result<Option<usize>, Fail> {
+    for (place, (block, count, width, wanted)) in PATHS.iter().enumerate() {
+        let block = first_of(block, *count);
+        if path_gone_over(alloc, block, *width)?.as_slice() != *wanted
+            || path_listed(alloc, block, *width)?.as_slice() != *wanted
+        {
+            return Ok(Some(place));
+        }
+    }
+    Ok(None)
+}
+
 #[test]
 fn tells_paths_merged_with_as4_path(rt: HostRuntime) -> Result<(), Fail> {
-    for (block, count, width, wanted) in PATHS {
-        let block = block.get(..count).ok_or("so many")?;
-        assert_eq!(rt;
-            path_gone_over(rt.alloc(), block, width)?.as_slice(),
-            wanted
-        );
-        assert_eq!(rt; path_listed(rt.alloc(), block, width)?.as_slice(), wanted);
-    }
+    assert_eq!(rt; first_other_path(rt.alloc())?, None);
     Ok(())
 }
 
@@ -185,18 +205,27 @@ fn is_first(block: &[u8], code: u8, wanted: Result<Option<&[u8]>, AttrCut>) -> b
     }
 }
 
-#[test]
-fn finds_the_first_value_of_a_type(rt: HostRuntime) -> Result<(), Fail> {
-    for (block, count, code, wanted) in [
-        (BLOCK, 17usize, 3, Ok(None)),
-        (BLOCK, 17, 2, Ok(Some(VALUE))),
-        (BLOCK, 16, 2, Err(AttrCut)),
-        (AS4_PATH_ALONE, 13, 2, Ok(None)),
-    ] {
-        let block = block.get(..count).ok_or("so many")?;
-        assert!(rt; is_first(block, code, wanted), "{code} in {count}");
+/// A block, how many of its octets count, a type, and its first value.
+const VALUES: [(&[u8], usize, u8, Result<Option<&[u8]>, AttrCut>); 4] = [
+    (BLOCK, 17, 3, Ok(None)),
+    (BLOCK, 17, 2, Ok(Some(VALUE))),
+    (BLOCK, 16, 2, Err(AttrCut)),
+    (AS4_PATH_ALONE, 13, 2, Ok(None)),
+];
+
+/// The first of them that is another.
+fn first_other_value() -> Option<usize> {
+    for (place, (block, count, code, wanted)) in VALUES.iter().enumerate() {
+        if !is_first(first_of(block, *count), *code, *wanted) {
+            return Some(place);
+        }
     }
-    Ok(())
+    None
+}
+
+#[test]
+fn finds_the_first_value_of_a_type(rt: HostRuntime) {
+    assert_eq!(rt; first_other_value(), None);
 }
 
 /// An octet and a number of two octets, and how many octets are left of thirteen and behind them.

@@ -387,17 +387,30 @@ fn times_at(table: &PathTable, place: usize) -> Option<u64> {
     }
 }
 
+/// The rows of the table then.
+static ADDED: [&'static [u32]; 2] = [&[30, 40, 20, 10, 50, 60], &[10, 20, 30, 40]];
+
+/// Whether each path is added as it should be.
+fn adds_each(table: &mut PathTable) -> bool {
+    for (path, place) in ADDS {
+        if place_added(table, path) != Some(place) {
+            return false;
+        }
+    }
+    true
+}
+
+/// Whether these are the rows of a table that is taken apart, and their times.
+fn are_parts(table: PathTable) -> bool {
+    let (rows, times) = table.into_rows();
+    are_rows(&rows, &ADDED) && times.as_slice() == [1, 2].as_slice()
+}
+
 #[test]
 fn a_table_of_two_paths(rt: HostRuntime) {
-    let wanted: [&[u32]; 2] = [&[30, 40, 20, 10, 50, 60], &[10, 20, 30, 40]];
     let mut table = PathTable::new(rt.alloc(), Keys::new(&rt), 2);
-    for (path, place) in ADDS {
-        assert_eq!(rt; place_added(&mut table, path), Some(place));
-    }
-    assert_eq!(rt; (table.len(), times_at(&table, 1)), (2, Some(2)));
-    assert!(rt; are_rows(table.rows(), &wanted));
-    let (rows, times) = table.into_rows();
-    assert!(rt; are_rows(&rows, &wanted) && times.as_slice() == [1, 2].as_slice());
+    assert!(rt; adds_each(&mut table) && table.len() == 2 && times_at(&table, 1) == Some(2));
+    assert!(rt; are_rows(table.rows(), &ADDED) && are_parts(table));
 }
 
 /// How many paths the table of many paths has.
@@ -506,6 +519,13 @@ const CAUSES: [(Cause, u64); 7] = [
     (Cause::Short, 7),
 ];
 
+/// Whether each cause has its count.
+fn has_each(asides: &Asides) -> bool {
+    CAUSES
+        .iter()
+        .all(|(cause, count)| asides.get(*cause) == *count)
+}
+
 #[test]
 fn asides_are_counted_each_by_its_cause(rt: HostRuntime) {
     let mut asides = Asides::new();
@@ -514,10 +534,7 @@ fn asides_are_counted_each_by_its_cause(rt: HostRuntime) {
     asides.add(Cause::Loop);
     let counts = [Cause::Sets, Cause::Loop, Cause::Short].map(|cause| asides.get(cause));
     assert_eq!(rt; counts, [2, 1, 0]);
-    let given = Asides::from_counts([1, 2, 3, 4, 5, 6, 7]);
-    for (cause, count) in CAUSES {
-        assert_eq!(rt; given.get(cause), count);
-    }
+    assert!(rt; has_each(&Asides::from_counts([1, 2, 3, 4, 5, 6, 7])));
 }
 
 /// Rows of which the fourth is the second again.
@@ -532,12 +549,18 @@ fn add_rows(rows: &mut Rows<PathId, u32>) -> bool {
     true
 }
 
+/// Whether no row stands twice at first, and the fourth does once the rows are added.
+fn finds_the_fourth(alloc: Global, keys: Keys, rows: &mut Rows<PathId, u32>) -> bool {
+    first_repeated(alloc, keys, rows) == Ok(None)
+        && add_rows(rows)
+        && first_repeated(alloc, keys, rows) == Ok(Some(3))
+}
+
 #[test]
 fn the_first_row_that_stands_twice(rt: HostRuntime) {
     let keys = Keys::new(&rt);
     let mut rows = Rows::new(rt.alloc());
-    assert!(rt; first_repeated(rt.alloc(), keys, &rows) == Ok(None) && add_rows(&mut rows));
-    assert!(rt; first_repeated(rt.alloc(), keys, &rows) == Ok(Some(3)) && rows.len() == 5);
+    assert!(rt; finds_the_fourth(rt.alloc(), keys, &mut rows) && rows.len() == 5);
     rows.cut_to(3);
     assert!(rt; first_repeated(rt.alloc(), keys, &rows) == Ok(None));
 }

@@ -1,6 +1,5 @@
 use record_counts::{RecordCounts, RecordType, TypeCount};
 use std::alloc::Global;
-use std::test::Fail;
 use tor_arena::{List, NoMemory};
 
 const V1: RecordType = RecordType {
@@ -17,15 +16,6 @@ const UPDATE: RecordType = RecordType {
     kind: 16,
     subtype: 4,
 };
-
-/// So many records of a type.
-fn count_of(record_type: RecordType, records: u64) -> TypeCount {
-    TypeCount {
-        kind: record_type.kind,
-        subtype: record_type.subtype,
-        records,
-    }
-}
 
 /// Counts so many records of each type.
 fn add_each(counts: &mut RecordCounts, added: &[(RecordType, u64)]) -> Result<(), NoMemory> {
@@ -58,18 +48,57 @@ fn counts_of(
     counts.to_list(alloc)
 }
 
-#[test]
-fn counts_stand_by_type_and_stop_at_their_greatest(rt: HostRuntime) -> Result<(), Fail> {
-    let by_type = counts_of(
-        rt.alloc(),
+/// Records that are counted, others that are counted apart, and the counts.
+type Case = (
+    &'static [(RecordType, u64)],
+    &'static [(RecordType, u64)],
+    &'static [TypeCount],
+);
+
+static CASES: [Case; 2] = [
+    (
         &[(UPDATE, 1), (PEERS, 1), (V1, 1), (UPDATE, 1)],
         &[],
-    )?;
-    assert_eq!(rt;
-        by_type.as_slice(),
-        [count_of(V1, 1), count_of(PEERS, 1), count_of(UPDATE, 2)].as_slice()
-    );
-    let greatest = counts_of(rt.alloc(), &[(V1, u64::MAX)], &[(V1, 7)])?;
-    assert_eq!(rt; greatest.as_slice(), [count_of(V1, u64::MAX)].as_slice());
-    Ok(())
+        &[
+            TypeCount {
+                kind: 12,
+                subtype: 1,
+                records: 1,
+            },
+            TypeCount {
+                kind: 13,
+                subtype: 1,
+                records: 1,
+            },
+            TypeCount {
+                kind: 16,
+                subtype: 4,
+                records: 2,
+            },
+        ],
+    ),
+    (
+        &[(V1, u64::MAX)],
+        &[(V1, 7)],
+        &[TypeCount {
+            kind: 12,
+            subtype: 1,
+            records: u64::MAX,
+        }],
+    ),
+];
+
+/// The first case that has other counts.
+fn first_other(alloc: Global) -> Result<Option<usize>, NoMemory> {
+    for (place, (added, apart, counts)) in CASES.iter().enumerate() {
+        if counts_of(alloc, added, apart)?.as_slice() != *counts {
+            return Ok(Some(place));
+        }
+    }
+    Ok(None)
+}
+
+#[test]
+fn counts_stand_by_type_and_stop_at_their_greatest(rt: HostRuntime) {
+    assert_eq!(rt; first_other(rt.alloc()), Ok(None));
 }

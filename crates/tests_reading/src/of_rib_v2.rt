@@ -2,7 +2,6 @@ use mrt_frame::{EntryForm, Family, RibForm};
 use path_attrs::RibFault;
 use rib_v2::{Entry, EntryCursor, Peers, RibError, read_peers, read_rib};
 use std::alloc::Global;
-use std::test::Fail;
 
 const PLAIN: RibForm = RibForm {
     family: Family::Ipv4,
@@ -61,7 +60,7 @@ struct Case {
     wanted: Result<&'static [Told], RibFault>,
 }
 
-const CASES: [Case; 7] = [
+static CASES: [Case; 7] = [
     Case {
         form: PLAIN,
         peers: Some(1),
@@ -182,18 +181,26 @@ fn is_listed(alloc: Global, case: &Case, peers: Option<&Peers>, body: &[u8]) -> 
     }
 }
 
-#[test]
-fn entries_are_gone_over_and_listed(rt: HostRuntime) -> Result<(), Fail> {
+/// Whether the entries are gone over and listed as they should be.
+fn is_right(alloc: Global, case: &Case) -> bool {
+    let body = &case.body[..case.body.len().min(case.count)];
+    let peers = case.peers.map(|count| Peers { count });
+    is_gone_over(case, peers.as_ref(), body) && is_listed(alloc, case, peers.as_ref(), body)
+}
+
+/// The first case that is read otherwise.
+fn first_other(alloc: Global) -> Option<usize> {
     for (place, case) in CASES.iter().enumerate() {
-        let body = case.body.get(..case.count).ok_or("so many")?;
-        let peers = case.peers.map(|count| Peers { count });
-        assert!(rt; is_gone_over(case, peers.as_ref(), body), "case {place}");
-        assert!(rt;
-            is_listed(rt.alloc(), case, peers.as_ref(), body),
-            "case {place}"
-        );
+        if !is_right(alloc, case) {
+            return Some(place);
+        }
     }
-    Ok(())
+    None
+}
+
+#[test]
+fn entries_are_gone_over_and_listed(rt: HostRuntime) {
+    assert_eq!(rt; first_other(rt.alloc()), None);
 }
 
 #[test]

@@ -89,7 +89,7 @@ fn long_file(alloc: Global) -> Result<Vec<u8>, Fail> {
 }
 
 /// Nothing is read where no file is open.
-const BEFORE: [Call; 2] = [Call::Read(3, Ok(0), b"\0\0\0"), Call::Open("long", Ok(()))];
+static BEFORE: [Call; 2] = [Call::Read(3, Ok(0), b"\0\0\0"), Call::Open("long", Ok(()))];
 
 /// What is read of a file behind its first 65,534 octets, where a buffer has 65,536, and of one that is absent.
 const BEHIND_THE_FIRST: [Call; 4] = [
@@ -99,18 +99,22 @@ const BEHIND_THE_FIRST: [Call; 4] = [
     Call::Read(3, Ok(0), b"ba\0"),
 ];
 
+/// Whether a long file is read whole, in three reads.
+fn is_read_whole<H: Shelf>(alloc: Global, shelf: &mut H) -> Result<bool, Fail> {
+    let mut large = vec![in alloc; 0; 65534]?;
+    let mut small = [0; 3];
+    Ok(
+        first_other(shelf, &mut small, &BEFORE).is_none()
+            && shelf.read(large.as_mut_slice()) == Ok(65534)
+            && first_other(shelf, &mut small, &BEHIND_THE_FIRST).is_none(),
+    )
+}
+
 #[test]
 fn reads_a_file_that_is_larger_than_the_buffer(rt: HostRuntime) -> Result<(), Fail> {
     fs::write(&rt, "long", long_file(rt.alloc())?.as_slice())?;
     let mut shelf = FileShelf::new(rt);
-    let mut large = vec![in rt.alloc(); 0; 65534]?;
-    let mut small = [0; 3];
-    assert_eq!(rt; first_other(&mut shelf, &mut small, &BEFORE), None);
-    assert_eq!(rt; shelf.read(large.as_mut_slice()), Ok(65534));
-    assert_eq!(rt;
-        first_other(&mut shelf, &mut small, &BEHIND_THE_FIRST),
-        None
-    );
+    assert!(rt; is_read_whole(rt.alloc(), &mut shelf)?);
     Ok(())
 }
 

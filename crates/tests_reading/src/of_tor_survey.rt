@@ -63,7 +63,7 @@ fn counts_paths_ases_and_pairs(rt: HostRuntime) -> Result<(), Fail> {
     Ok(())
 }
 
-const FOUR_TYPES: [TypeCount; 4] = [
+static FOUR_TYPES: [TypeCount; 4] = [
     TypeCount {
         kind: 11,
         subtype: 1,
