@@ -86,7 +86,7 @@ const END: &str = "end|0|0|0|0|0\n";
 /// The lines behind the first ten, in three pieces, and the answer.
 type Case = ([&'static str; 3], Answer);
 
-const OPEN_LINES: [Case; 3] = [
+static OPEN_LINES: [Case; 3] = [
     ([EACH_FOR_ITSELF, "", ""], Answer::Yes),
     ([SECOND_FAILS, "", ""], Answer::No { line: 22, rule: 9 }),
     (
@@ -96,7 +96,7 @@ const OPEN_LINES: [Case; 3] = [
 ];
 
 /// Files without edges, in which the fourth rule is broken, or first the fifth.
-const LOST_PATHS: [Case; 7] = [
+static LOST_PATHS: [Case; 7] = [
     ([PATHS, "", END], Answer::No { line: 14, rule: 5 }),
     // no path is lost
     (
@@ -147,7 +147,7 @@ const LOST_PATHS: [Case; 7] = [
 ];
 
 /// The three paths with why lines.
-const WHY_LINES: [Case; 5] = [
+static WHY_LINES: [Case; 5] = [
     (
         [
             PATHS,
@@ -232,7 +232,7 @@ fn why_lines_show_each_order_once_from_those_before(rt: HostRuntime) -> Result<(
 }
 
 /// Which line and rule is named where one line is another.
-const CHANGES: [(usize, &str, u64, u8); 17] = [
+static CHANGES: [(usize, &'static str, u64, u8); 17] = [
     (3, "ratio|1000001", 3, 1),
     (11, "kept|0|30 40 20 10 50 60", 11, 2),
     (12, "kept|1|10 20 23456 40", 12, 2),
@@ -333,7 +333,7 @@ fn answer_beside(alloc: Global, keys: Keys, paths: &[&[u32]], loops: u64) -> Opt
 }
 
 /// The paths of dumps, how many loops they set aside, and the answer.
-const DUMPS: [(&[&[u32]], u64, Answer); 5] = [
+static DUMPS: [(&'static [&'static [u32]], u64, Answer); 5] = [
     (&[FIRST, SECOND, THIRD], 0, Answer::Yes),
     (&[FIRST, SECOND], 0, Answer::No { line: 13, rule: 11 }),
     (

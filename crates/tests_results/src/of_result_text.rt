@@ -487,13 +487,17 @@ fn is_printed_again(alloc: Global, file: &ResultFile) -> bool {
     }
 }
 
+/// Whether a result without lines is printed as it should be, and again, once the three paths are added.
+fn prints_three_paths(alloc: Global, file: &mut ResultFile) -> bool {
+    add_three_paths(file).is_ok()
+        && is_printed(alloc, file, THREE_PATHS.as_bytes())
+        && is_printed_again(alloc, file)
+}
+
 #[test]
-fn three_paths_are_printed_and_printed_again(rt: HostRuntime) -> Result<(), Fail> {
+fn three_paths_are_printed_and_printed_again(rt: HostRuntime) {
     let mut file = without_lines(rt.alloc());
-    add_three_paths(&mut file)?;
-    assert!(rt; is_printed(rt.alloc(), &file, THREE_PATHS.as_bytes()));
-    assert!(rt; is_printed_again(rt.alloc(), &file));
-    Ok(())
+    assert!(rt; prints_three_paths(rt.alloc(), &mut file));
 }
 
 fn is_walk(walk: &WalkRef<'_>, wanted: Walk) -> bool {
@@ -557,12 +561,17 @@ fn has_lines(file: &ResultFile) -> bool {
         && are_walks(&file.whys, &WHYS)
 }
 
+/// Whether the result of a text has the numbers and the lines of the three paths.
+fn is_three_paths(alloc: Global, text: &[u8]) -> bool {
+    match parse(alloc, text) {
+        Ok(file) => has_numbers(&file) && has_lines(&file),
+        Err(_) => false,
+    }
+}
+
 #[test]
-fn every_field_of_three_paths_is_read(rt: HostRuntime) -> Result<(), Fail> {
-    let file = parse(rt.alloc(), THREE_PATHS.as_bytes())?;
-    assert!(rt; has_numbers(&file));
-    assert!(rt; has_lines(&file));
-    Ok(())
+fn every_field_of_three_paths_is_read(rt: HostRuntime) {
+    assert!(rt; is_three_paths(rt.alloc(), THREE_PATHS.as_bytes()));
 }
 
 /// Whether two kept paths, each with its times, are added.

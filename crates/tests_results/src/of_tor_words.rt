@@ -35,7 +35,7 @@ fn asked(alloc: Global, texts: &[&str]) -> Result<Asked, u8> {
 const MOST: u32 = 8_388_608;
 
 /// Words, and the settings that they give.
-const TAKEN: [(&[&str], Asked); 15] = [
+static TAKEN: [(&'static [&'static str], Asked); 15] = [
     (&["d"], (Mode::Labels, Sets::Cut, 60, MOST, 1)),
     (
         &["--as-sets=skip", "--", "d"],
@@ -107,7 +107,7 @@ fn words_give_settings(rt: HostRuntime) {
 }
 
 /// Words that are refused.
-const REFUSED: [&[&str]; 31] = [
+static REFUSED: [&'static [&'static str]; 31] = [
     &[],
     &["--list"],
     &["--ratio", "60"],
@@ -169,7 +169,7 @@ fn asked_to_check(alloc: Global, texts: &[&str], name: &str) -> Result<(bool, us
 }
 
 /// Words of a check, and the result that they name and the number of dumps.
-const CHECKS: [(&[&str], &str, usize); 4] = [
+static CHECKS: [(&'static [&'static str], &'static str, usize); 4] = [
     (&["r"], "r", 0),
     (&["r", "d", "d"], "r", 2),
     (&["--", "--help", "d"], "--help", 1),
@@ -177,7 +177,7 @@ const CHECKS: [(&[&str], &str, usize); 4] = [
 ];
 
 /// Words that are refused for a check.
-const NO_CHECKS: [&[&str]; 4] = [&[], &["--list", "r"], &["r", "-x"], &["--help"]];
+static NO_CHECKS: [&'static [&'static str]; 4] = [&[], &["--list", "r"], &["r", "-x"], &["--help"]];
 
 /// The first words that give something else to a check.
 fn first_no_check(alloc: Global) -> Option<usize> {
