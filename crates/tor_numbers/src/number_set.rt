@@ -1,4 +1,5 @@
-ghost use Rattle.std.specs.Prelude.{◌≡◌, ◌<◌, ◌≤◌, ◌*◌, ◌/◌, ◌↔◌, ◌++◌, ◌∷◌, ℕ, List, [], length, take, Contains, IsTrue, IfOk, OnOk, OnErr};
+ghost use Rattle.std.specs.Prelude.{◌≡◌, ◌<◌, ◌≤◌, ◌*◌, ◌/◌, ◌↔◌};
+ghost use Rattle.std.specs.Prelude.{◌++◌, ◌∷◌, ℕ, List, [], length, take, Contains, IsTrue, IfOk, OnOk, OnErr};
 ghost use Rattle.tor_numbers.specs.Slots.{IsProbe, IsHeld, IsHolding, IsInserted, Leaves, IsApart, IsAnew};
 
 use crate::probing::{Probe, next, start_of};

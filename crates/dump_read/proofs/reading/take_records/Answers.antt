@@ -74,10 +74,12 @@ records-preserved g c =
       same_reference = step.same_reference ∙ c.records.invariant.same_reference;
       live = step.live;
       goes = subst (λ at. GoesOf c.args.sets (left (shelf_of c.args.frames.now)) (left (shelf_of frames)) at (count_of c.in-Ok.behind) old new) (sym step.next)
-          (goes_on c.args.sets (left (shelf_of c.args.frames.now)) (left (shelf_of c.records.frames)) (left (shelf_of frames)) (next_place c.records.frames) (count_of c.records.peers) (count_of c.in-Ok.behind)
+          (goes_on c.args.sets (left (shelf_of c.args.frames.now)) (left (shelf_of c.records.frames)) (left (shelf_of frames))
+          (next_place c.records.frames) (count_of c.records.peers) (count_of c.in-Ok.behind)
           (seen c.in-Ok-Some.found) old mid new c.records.invariant.goes step.stands c.in-Ok.ensures.taken c.in-Ok.ensures.peers);
       counted = subst (λ at. CountsOf (left (shelf_of c.args.frames.now)) (left (shelf_of frames)) at (count_of c.in-Ok.behind) c.take_record.new.file) (sym step.next)
-          (counted_one (left (shelf_of c.args.frames.now)) (left (shelf_of c.records.frames)) (left (shelf_of frames)) (next_place c.records.frames) (count_of c.records.peers) (count_of c.in-Ok.behind)
+          (counted_one (left (shelf_of c.args.frames.now)) (left (shelf_of c.records.frames)) (left (shelf_of frames))
+          (next_place c.records.frames) (count_of c.records.peers) (count_of c.in-Ok.behind)
           (seen c.in-Ok-Some.found) c.records.file c.take_record.new.file c.next.new.counts c.in-Ok.ensures.taken.0 c.records.invariant.counted step.stands
           (subst (λ at. CountsOn (left (shelf_of c.records.frames)) (next_place c.records.frames) c.records.file.records (left (shelf_of frames)) at c.next.new.counts) step.next step.counted)
           c.in-Ok.ensures.taken.1 c.in-Ok.ensures.peers c.in-Ok.ensures.counted);
@@ -90,7 +92,8 @@ pub returns-in-Err-take_record-clause-stopped : goal.returns-in-Err-take_record-
 returns-in-Err-take_record-clause-stopped g c =
     let left = g.H.Shelf.left in
     let step = rw (c.in-Ok-Some.is, c.in-Ok-Some.field-0-is) at c.next.follows.holds-at-none in
-    rw c.of_unread.ensures (breaks c.args.sets c.args.dump (left (shelf_of c.args.frames.now)) (left (shelf_of c.records.frames)) (left (shelf_of c.next.follows.lender-at-none)) (next_place c.records.frames)
+    rw c.of_unread.ensures (breaks c.args.sets c.args.dump (left (shelf_of c.args.frames.now)) (left (shelf_of c.records.frames)) (left (shelf_of c.next.follows.lender-at-none))
+    (next_place c.records.frames)
     (count_of c.records.peers) (seen c.in-Ok-Some.found) c.args.taken.now c.records.taken c.in-Err-take_record.unread
     c.records.invariant.goes step.stands c.in-Err-take_record.ensures.unread)
 
