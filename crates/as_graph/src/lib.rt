@@ -8,8 +8,6 @@ mod edge_table;
 mod graph;
 mod per_edge;
 mod step;
-#[cfg(test)]
-mod tests;
 mod valley;
 
 pub use building::{build, build_with};

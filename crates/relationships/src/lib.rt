@@ -8,8 +8,6 @@ mod given;
 mod label;
 mod laws;
 mod mark;
-#[cfg(test)]
-mod tests;
 mod walk;
 mod walks;
 

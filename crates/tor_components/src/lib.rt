@@ -3,8 +3,6 @@
 
 mod class;
 mod strong;
-#[cfg(test)]
-mod tests;
 
 pub use class::Components;
 pub use strong::components;

@@ -5,8 +5,6 @@ mod edge_numbers;
 mod number_set;
 mod place_table;
 mod probing;
-#[cfg(test)]
-mod tests;
 
 pub use edge_numbers::{edge_numbered, number_of_edge};
 pub use number_set::NumberSet;

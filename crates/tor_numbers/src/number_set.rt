@@ -52,6 +52,11 @@ impl NumberSet {
         }
     }
 
+    /// Whether the set was made with these keys. It takes no memory.
+    pub fn is_made_with(&self, keys: Keys) -> bool {
+        self.seed == keys.hash_one(0u8)
+    }
+
     /// Whether a number is there. It takes no memory.
     pub fn holds(&self, number: u64) -> bool
         requires { 2 ≤ number }
@@ -220,17 +225,4 @@ fn make_room(
         *used = numbers.len();
     }
     Ok(())
-}
-
-#[cfg(test)]
-mod tests {
-    use super::NumberSet;
-    use crate::tests::keys_of;
-
-    #[test]
-    fn the_seed_is_made_with_the_keys(rt: HostRuntime) {
-        let set = NumberSet::new(rt.alloc(), keys_of(1));
-        assert_eq!(rt; set.seed, NumberSet::new(rt.alloc(), keys_of(1)).seed);
-        assert_ne!(rt; set.seed, NumberSet::new(rt.alloc(), keys_of(2)).seed);
-    }
 }

@@ -44,6 +44,11 @@ impl PlaceTable {
         }
     }
 
+    /// Whether the table was made with these keys. It takes no memory.
+    pub fn is_made_with(&self, keys: Keys) -> bool {
+        self.seed == keys.hash_one(0u8)
+    }
+
     /// Adds a number at the end, unless it is there, and answers its place, from 0. NoMemory comes where memory ran out, and where there
     /// are 2^32 - 1 numbers, and changes nothing.
     pub fn add(&mut self, number: u64) -> Result<usize, NoMemory>
@@ -205,17 +210,4 @@ fn make_room(
         *slots = filled(alloc, seed, doubled(slots.len(), FIRST), numbers)?;
     }
     Ok(())
-}
-
-#[cfg(test)]
-mod tests {
-    use super::PlaceTable;
-    use crate::tests::keys_of;
-
-    #[test]
-    fn the_seed_is_made_with_the_keys(rt: HostRuntime) {
-        let table = PlaceTable::new(rt.alloc(), keys_of(1));
-        assert_eq!(rt; table.seed, PlaceTable::new(rt.alloc(), keys_of(1)).seed);
-        assert_ne!(rt; table.seed, PlaceTable::new(rt.alloc(), keys_of(2)).seed);
-    }
 }

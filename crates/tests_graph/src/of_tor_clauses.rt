@@ -1,12 +1,12 @@
 ghost use Rattle.std.specs.Prelude.{◌≡◌, ◌<◌, length, IfOk, OnOk};
 ghost use Rattle.tor_clauses.specs.Formulas.{FitsGraph};
 
-use crate::{ClauseMark, Clauses, Lit, Triple};
 use as_graph::{AsGraph, Orientation, build};
 use relationships::{End, Link};
 use std::alloc::Global;
 use std::test::Fail;
 use tor_arena::{ArcId, EdgeId, Index, Keys, PathId, Rows};
+use tor_clauses::{ClauseMark, Clauses, Lit, Triple};
 
 fn one_path(alloc: Global, keys: Keys) -> Result<AsGraph, Fail>
     ensures { IfOk result (λ graph. 0 < length graph) }
@@ -33,17 +33,18 @@ fn literal(place: usize, over: End) -> Lit
     }
 }
 
+/// Whether two literals are opposite, the place of the node of the first, and whether that node is that of the first.
+fn told(over: End, opposite: End) -> (bool, usize, bool) {
+    let place = literal(2, over).node().place();
+    let is_opposite = literal(2, over).not() == literal(2, opposite);
+    let is_back = Lit::of_node(literal(2, over).node()) == literal(2, over);
+    (is_opposite, place, is_back)
+}
+
 #[test]
-fn literals_and_nodes(rt: HostRuntime) -> Result<(), Fail> {
-    let low = literal(2, End::Low);
-    let high = literal(2, End::High);
-    assert_eq!(rt; low.not(), high);
-    assert_eq!(rt; high.not(), low);
-    assert_eq!(rt; low.node().place(), 4);
-    assert_eq!(rt; high.node().place(), 5);
-    assert_eq!(rt; Lit::of_node(low.node()), low);
-    assert_eq!(rt; Lit::of_node(high.node()), high);
-    Ok(())
+fn a_literal_is_a_node_and_its_opposite_the_next(rt: HostRuntime) {
+    assert_eq!(rt; told(End::Low, End::High), (true, 4, true));
+    assert_eq!(rt; told(End::High, End::Low), (true, 5, true));
 }
 
 fn begun(alloc: Global, keys: Keys, graph: &AsGraph) -> Result<Clauses, Fail>
@@ -132,27 +133,42 @@ fn add_from_new(graph: &AsGraph, clauses: &mut Clauses, path: PathId) -> Result<
     Ok(first_new)
 }
 
-/// Which triples are the first new ones of the second and the third path, behind the first, and how many paths and triples there are then.
+/// Which triples are the first new ones of the second and the third path, behind the first.
+fn add_two(graph: &AsGraph, clauses: &mut Clauses) -> Result<[Option<usize>; 2], Fail>
+    requires fits { FitsGraph graph.now clauses.old }
+    requires there { 2 < length graph.now }
+{
+    let second = add_from_new(graph, clauses, path(1))?;
+    let third = add_from_new(graph, clauses, path(2))?;
+    Ok([second, third])
+}
+
+/// The same, and how many paths and triples there are then.
 fn first_new_ones(
     alloc: Global,
     keys: Keys,
     graph: &AsGraph,
-) -> Result<(Option<usize>, Option<usize>, ClauseMark), Fail>
+) -> Result<([Option<usize>; 2], ClauseMark), Fail>
     requires { 2 < length graph.now }
 {
     let mut clauses = with_path(alloc, keys, graph, path(0))?;
-    let second = add_from_new(graph, &mut clauses, path(1))?;
-    let third = add_from_new(graph, &mut clauses, path(2))?;
-    Ok((second, third, clauses.mark()))
+    let first_new = add_two(graph, &mut clauses)?;
+    Ok((first_new, clauses.mark()))
+}
+
+fn first_new_of_longer(
+    alloc: Global,
+    keys: Keys,
+) -> Result<([Option<usize>; 2], ClauseMark), Fail> {
+    let graph = longer_path(alloc, keys)?;
+    first_new_ones(alloc, keys, &graph)
 }
 
 #[test]
 fn adds_from_the_first_new_triple_on(rt: HostRuntime) -> Result<(), Fail> {
-    let graph = longer_path(rt.alloc(), Keys::new(&rt))?;
-    let (second, third, mark) = first_new_ones(rt.alloc(), Keys::new(&rt), &graph)?;
+    let (first_new, mark) = first_new_of_longer(rt.alloc(), Keys::new(&rt))?;
     // the second path is the reverse of the first; the third has 10 20 30, and 20 30 40 is new
-    assert_eq!(rt; second, None);
-    assert_eq!(rt; third, Some(1));
+    assert_eq!(rt; first_new, [None, Some(1)]);
     assert_eq!(rt;
         mark,
         ClauseMark {
@@ -175,72 +191,57 @@ fn add_and_undo(graph: &AsGraph, clauses: &mut Clauses, path: PathId) -> Result<
     Ok(())
 }
 
-/// What is compared before and after an undo: the counts, and the triple and the link of the first arc.
-#[derive(Drop)]
-struct State {
-    mark: ClauseMark,
-    triple: Triple,
-    link: Link,
-}
-
-fn state_of(clauses: &Clauses) -> Option<State> {
+/// Whether there are two paths and one triple, that of the first path, whose edges 10 20 and 20 30 come first.
+fn is_expected(clauses: &Clauses) -> bool {
     if clauses.digraph().arc_count() == 0 {
-        return None;
+        return false;
     }
-    let arc = ArcId::from_place(0)?;
-    Some(State {
-        mark: clauses.mark(),
-        triple: clauses.triple_of(arc),
-        link: clauses.link_of(arc),
-    })
+    let Some(arc) = ArcId::from_place(0) else {
+        return false;
+    };
+    let mark = ClauseMark {
+        paths: 2,
+        triples: 1,
+    };
+    let triple = Triple {
+        path: path(0),
+        at: 2,
+        first: literal(0, End::Low),
+        second: literal(1, End::Low),
+    };
+    clauses.mark() == mark
+        && clauses.triple_of(arc) == triple
+        && clauses.link_of(arc) == Link { path: 1, at: 2 }
 }
 
-/// The states after a path and its reverse, and again after a third path and an undo.
-fn states(
-    alloc: Global,
-    keys: Keys,
-    graph: &AsGraph,
-) -> Result<(Option<State>, Option<State>), Fail>
+/// Whether the clauses are as expected after a path and its reverse, and again after a third path and an undo.
+fn expected_twice(graph: &AsGraph, clauses: &mut Clauses) -> Result<[bool; 2], Fail>
+    requires fits { FitsGraph graph.now clauses.old }
+    requires there { 2 < length graph.now }
+{
+    clauses.add_path(graph, path(1))?;
+    let before = is_expected(clauses);
+    add_and_undo(graph, clauses, path(2))?;
+    Ok([before, is_expected(clauses)])
+}
+
+fn expected_in(alloc: Global, keys: Keys, graph: &AsGraph) -> Result<[bool; 2], Fail>
     requires { 2 < length graph.now }
 {
     let mut clauses = with_path(alloc, keys, graph, path(0))?;
-    clauses.add_path(graph, path(1))?;
-    let before = state_of(&clauses);
-    add_and_undo(graph, &mut clauses, path(2))?;
-    Ok((before, state_of(&clauses)))
+    expected_twice(graph, &mut clauses)
 }
 
-fn states_of_three(alloc: Global, keys: Keys) -> Result<(Option<State>, Option<State>), Fail> {
+fn expected_of_three(alloc: Global, keys: Keys) -> Result<[bool; 2], Fail> {
     let graph = three_paths(alloc, keys)?;
-    states(alloc, keys, &graph)
-}
-
-/// Whether there are two paths and one triple, that of the first path, whose edges 10 20 and 20 30 come first.
-fn is_expected(state: &Option<State>) -> bool {
-    match state {
-        Some(state) => {
-            state.mark
-                == ClauseMark {
-                    paths: 2,
-                    triples: 1,
-                }
-                && state.triple
-                    == Triple {
-                        path: path(0),
-                        at: 2,
-                        first: literal(0, End::Low),
-                        second: literal(1, End::Low),
-                    }
-                && state.link == Link { path: 1, at: 2 }
-        }
-        None => false,
-    }
+    expected_in(alloc, keys, &graph)
 }
 
 #[test]
 fn a_reverse_is_no_new_triple_and_an_undo_goes_back(rt: HostRuntime) -> Result<(), Fail> {
-    let (before, after) = states_of_three(rt.alloc(), Keys::new(&rt))?;
-    assert!(rt; is_expected(&before));
-    assert!(rt; is_expected(&after));
+    assert_eq!(rt;
+        expected_of_three(rt.alloc(), Keys::new(&rt))?,
+        [true, true]
+    );
     Ok(())
 }

@@ -1,13 +1,13 @@
 ghost use Rattle.std.specs.Prelude.{◌≡◌, ◌≤◌, IfOk, length};
 ghost use Rattle.tor_clauses.specs.Formulas.{FitsGraph};
 
-use crate::{Verdict, solve};
 use as_graph::{AsGraph, build};
 use relationships::Walk;
 use std::alloc::Global;
 use std::test::Fail;
 use tor_arena::{Index, Keys, PathId, Rows};
 use tor_clauses::Clauses;
+use tor_solve::{Verdict, solve};
 
 fn three_paths(alloc: Global, keys: Keys) -> Result<AsGraph, Fail>
     ensures { IfOk result (λ graph. length graph ≡ 3) }

@@ -1,5 +1,5 @@
 use Rattle.tor_clauses.specs.Formulas.{FitsGraph}
-use Rattle.tor_solve.proofs.tests.clauses_of.Given as goal
+use Rattle.tests_graph.proofs.of_tor_solve.clauses_of.Given as goal
 
 abbrev pub invariant-loop-place : goal.invariant-loop-place
 invariant-loop-place l = FitsGraph l.graph l.clauses

@@ -1,0 +1,14 @@
+use Rattle.std.proofs.Common.{ℕ, sym, subst}
+use Rattle.tor_digraph.specs.Walks.{Net}
+use Rattle.tor_digraph.specs.Reached.{IsFlooded}
+use Rattle.tests_graph.proofs.of_tor_digraph.go.Goals as goal
+
+pub reach_near-requires-clause-flooded : goal.reach_near-requires-clause-flooded
+reach_near-requires-clause-flooded c =
+    subst (λ (n : Net ℕ). IsFlooded (λ n. n) (λ a. a) n.nodes n.arcs c.args.past.now.nodes c.reach_none_again.new.reached) (sym c.in_ok-rows.ensures)
+    (c.in_ok-reach_none_again.ensures.flooded c.args.past.now.nodes)
+
+pub reach_near_to-requires-clause-flooded : goal.reach_near_to-requires-clause-flooded
+reach_near_to-requires-clause-flooded c =
+    subst (λ (n : Net ℕ). IsFlooded (λ n. n) (λ a. a) n.nodes n.arcs c.args.past.now.nodes c.reach_none_again.new.reached) (sym c.in_ok-rows.ensures)
+    (c.in_ok-reach_none_again.ensures.flooded c.args.past.now.nodes)

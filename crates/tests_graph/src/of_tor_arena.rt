@@ -1,0 +1,215 @@
+ghost use Rattle.std.specs.Prelude.{◌<◌, ℕ};
+ghost use Rattle.std.proofs.Math.Dec.{lit≤};
+
+use std::alloc::Global;
+use std::hash::BuildHasher;
+use std::io;
+use std::marker::Model;
+use std::random::RandomSource;
+use std::test::Fail;
+use tor_arena::{
+    ArcId, Arena, AsId, EdgeId, Index, Keys, List, NodeId, PathId, PushRefused, RowRefused, Rows,
+    TripleId, WalkId, same_index,
+};
+
+/// One of two places.
+#[derive(Clone, Copy, Debug, PartialEq, Eq)]
+struct Seat {
+    number: u8,
+}
+
+impl Model for Seat {
+    ghost Value = { ℕ };
+
+    ghost view = { λ seat. seat.number };
+
+    ghost invariant = { λ seat. seat.number < 2 };
+
+    ghost inverse = { λ place. record { number = place } };
+}
+
+impl Index for Seat {
+    const LIMIT: usize = 2;
+
+    ghost LIMIT = { 2 };
+
+    ghost place_of = { λ seat. seat };
+
+    fn from_place(place: usize) -> Option<Seat> {
+        if place < 2 {
+            Some(Seat {
+                number: place as u8,
+            })
+        } else {
+            None
+        }
+    }
+
+    fn place(self) -> usize {
+        self.number as usize
+    }
+
+    ghost is_one = { λ i j same. same };
+
+    ghost is_short = { lit≤ tt };
+}
+
+/// The item that a refused push gives back, where the arena is full.
+fn refused_as_full(refused: PushRefused<u32>) -> Option<u32> {
+    match refused {
+        PushRefused::Full(item) => Some(item),
+        PushRefused::NoMemory(_) => None,
+    }
+}
+
+/// The places of two items that are pushed, the item that a full arena gives back, the mark, how many items are left when it was cut, and
+/// the one that is left.
+fn small_arena_told(alloc: Global) -> Result<[usize; 6], Fail> {
+    let mut arena: Arena<Seat, u32> = Arena::new(alloc);
+    arena.reserve(2)?;
+    let first = arena.push(7)?;
+    let second = arena.push(8)?;
+    let refused = arena.push(9).err().and_then(refused_as_full);
+    let mark = arena.mark();
+    arena.cut_to(1);
+    let back = refused.unwrap_or(0) as usize;
+    let left = *arena.get(first) as usize;
+    Ok([first.place(), second.place(), back, mark, arena.len(), left])
+}
+
+#[test]
+fn an_arena_of_two_places_takes_two_items(rt: HostRuntime) -> Result<(), Fail> {
+    assert_eq!(rt; small_arena_told(rt.alloc())?, [0, 1, 9, 2, 1, 7]);
+    Ok(())
+}
+
+/// The last item of an arena when it was put, and when it was changed.
+fn changes_told(alloc: Global) -> Result<[u32; 2], Fail> {
+    let mut arena: Arena<Seat, u32> = Arena::new(alloc);
+    arena.push_copies(3, 1)?;
+    arena.reserve(1)?;
+    let last = arena.push_reserved(3);
+    arena.put(last, 4);
+    let put = *arena.get(last);
+    *arena.get_mut(last) += 1;
+    Ok([put, *arena.get(last)])
+}
+
+#[test]
+fn an_item_is_put_and_changed(rt: HostRuntime) -> Result<(), Fail> {
+    assert_eq!(rt; changes_told(rt.alloc())?, [4, 5]);
+    Ok(())
+}
+
+/// The items 1, 2, 3, added in two ways.
+fn list_of_three(alloc: Global) -> Result<List<u32>, Fail> {
+    let mut list = List::new(alloc);
+    list.push(1)?;
+    list.extend_from_slice(&[2, 3])?;
+    Ok(list)
+}
+
+#[test]
+fn a_list_gives_its_last_item_back(rt: HostRuntime) -> Result<(), Fail> {
+    let mut list = list_of_three(rt.alloc())?;
+    assert_eq!(rt; list.pop(), Some(3));
+    assert_eq!(rt; list.as_slice(), [1, 2].as_slice());
+    Ok(())
+}
+
+#[test]
+fn a_list_that_is_cleared_is_empty(rt: HostRuntime) -> Result<(), Fail> {
+    let mut list = list_of_three(rt.alloc())?;
+    list.clear();
+    assert!(rt; list.is_empty());
+    Ok(())
+}
+
+/// The row at a place, if there is one.
+fn row_at(rows: &Rows<Seat, u32>, place: usize) -> Option<&[u32]> {
+    let seat = Seat::from_place(place)?;
+    if place < rows.len() {
+        Some(rows.row(seat))
+    } else {
+        None
+    }
+}
+
+/// The row 1, 2 and an empty one.
+fn two_rows(alloc: Global) -> Result<Rows<Seat, u32>, Fail> {
+    let mut rows = Rows::new(alloc);
+    rows.push_row(&[1, 2])?;
+    rows.push_row(&[])?;
+    Ok(rows)
+}
+
+/// Cuts to the first row, if it is there, and answers how many are left once memory was taken for another.
+fn cut_to_one(rows: &mut Rows<Seat, u32>) -> Result<usize, Fail> {
+    if rows.len() > 0 {
+        rows.cut_to(1);
+    }
+    rows.reserve(1, 1)?;
+    Ok(rows.len())
+}
+
+#[test]
+fn two_rows_stand_where_two_have_a_place(rt: HostRuntime) -> Result<(), Fail> {
+    let mut rows = two_rows(rt.alloc())?;
+    assert_eq!(rt; rows.push_row(&[3]), Err(RowRefused::Full));
+    for (place, row) in [(0, [1, 2].as_slice()), (1, [].as_slice())] {
+        assert_eq!(rt; row_at(&rows, place), Some(row));
+    }
+    Ok(())
+}
+
+#[test]
+fn a_row_goes_where_another_was_cut_off(rt: HostRuntime) -> Result<(), Fail> {
+    let mut rows = two_rows(rt.alloc())?;
+    assert_eq!(rt; cut_to_one(&mut rows)?, 1);
+    rows.push_row(&[4])?;
+    assert_eq!(rt; row_at(&rows, 1), Some([4].as_slice()));
+    Ok(())
+}
+
+/// Whether this is the last place with an index of this kind, which its place leads to again.
+fn ends_at<I: Index>(last: usize) -> bool {
+    match I::from_place(last) {
+        Some(index) => {
+            index.place() == last
+                && same_index(index) == Some(index)
+                && I::from_place(last.saturating_add(1)).is_none()
+        }
+        None => false,
+    }
+}
+
+#[test]
+fn seven_kinds_of_index_end_where_they_have_to(rt: HostRuntime) {
+    let ends = [
+        ends_at::<AsId>((1 << 28) - 1),
+        ends_at::<EdgeId>((1 << 28) - 1),
+        ends_at::<PathId>((1 << 28) - 1),
+        ends_at::<TripleId>((1 << 28) - 1),
+        ends_at::<NodeId>((1 << 28) - 1),
+        ends_at::<ArcId>((1 << 28) - 1),
+        ends_at::<WalkId>((1 << 29) - 1),
+    ];
+    assert_eq!(rt; ends, [true; 7]);
+}
+
+/// A source that has no bytes.
+struct NoBytes;
+
+impl RandomSource for NoBytes {
+    fn fill_bytes(&self, _: &mut [u8]) -> io::Result<()> {
+        Err(io::ErrorKind::Unsupported.into())
+    }
+}
+
+#[test]
+fn keys_come_from_any_source(rt: HostRuntime) {
+    let keys = Keys::new(&rt);
+    assert_eq!(rt; keys.hash_one(7u8), keys.hash_one(7u8));
+    let fixed = Keys::new(&NoBytes);
+    assert_eq!(rt; fixed.hash_one(7u8), Keys::new(&NoBytes).hash_one(7u8));
+}

@@ -1,0 +1,468 @@
+ghost use Rattle.std.specs.Prelude.{◌≡◌, ◌<◌, IfOk, IfSome};
+
+use crate::cases::{node, small_digraph};
+use std::alloc::Global;
+use std::test::Fail;
+use tor_arena::{ArcId, Index, NodeId};
+use tor_digraph::{Digraph, Reached, RowDigraph, Way};
+
+/// The sum of the places of the heads of the arcs that leave a node.
+fn heads_from(graph: &Digraph<NodeId, ArcId>, tail: NodeId) -> usize
+    requires { tail < graph.now.nodes }
+{
+    let mut heads = 0usize;
+    for (_, head) in graph.arcs_from(tail) {
+        heads = heads.saturating_add(head.place());
+    }
+    heads
+}
+
+/// The places of the two ends of the arc at a place, if there is one.
+fn ends_at(graph: &Digraph<NodeId, ArcId>, place: usize) -> Option<(usize, usize)> {
+    let arc = ArcId::from_place(place)?;
+    if place >= graph.arc_count() {
+        return None;
+    }
+    let (tail, head) = graph.ends(arc);
+    Some((tail.place(), head.place()))
+}
+
+fn leaving(alloc: Global) -> Result<(usize, Option<(usize, usize)>), Fail> {
+    let graph = small_digraph(alloc)?;
+    Ok((heads_from(&graph, node(0)), ends_at(&graph, 3)))
+}
+
+#[test]
+fn leaves_by_each_arc(rt: HostRuntime) -> Result<(), Fail> {
+    assert_eq!(rt; leaving(rt.alloc())?, (1 + 3, Some((0, 3))));
+    Ok(())
+}
+
+// What the searches find, in functions of their own that promise nothing: a test then knows nothing of it but what it compares.
+
+fn reached_from(
+    alloc: Global,
+    graph: &Digraph<NodeId, ArcId>,
+    start: NodeId,
+) -> Result<Reached<NodeId, ArcId>, Fail>
+    requires { start < graph.now.nodes }
+{
+    Ok(graph.reach(alloc, start)?)
+}
+
+/// How many nodes are reached from a node, in memory that was used before.
+fn count_again(
+    graph: &Digraph<NodeId, ArcId>,
+    start: NodeId,
+    reached: &mut Reached<NodeId, ArcId>,
+) -> Result<usize, Fail>
+    requires { start < graph.now.nodes }
+{
+    graph.reach_again(start, reached)?;
+    Ok(reached.nodes().len())
+}
+
+fn counts_in(alloc: Global, graph: &Digraph<NodeId, ArcId>) -> Result<[usize; 2], Fail>
+    requires { graph.now.nodes ≡ 4 }
+{
+    let mut reached = reached_from(alloc, graph, node(0))?;
+    let first = reached.nodes().len();
+    Ok([first, count_again(graph, node(1), &mut reached)?])
+}
+
+/// How many nodes are reached from 0, and then from 1.
+fn counts(alloc: Global) -> Result<[usize; 2], Fail> {
+    let graph = small_digraph(alloc)?;
+    counts_in(alloc, &graph)
+}
+
+fn walk_to(
+    alloc: Global,
+    reached: &Reached<NodeId, ArcId>,
+    node: NodeId,
+) -> Result<Option<Way<NodeId, ArcId>>, Fail> {
+    Ok(reached.walk_to(alloc, node)?)
+}
+
+fn has_walk_to(
+    alloc: Global,
+    reached: &Reached<NodeId, ArcId>,
+    node: NodeId,
+) -> Result<bool, Fail> {
+    Ok(walk_to(alloc, reached, node)?.is_some())
+}
+
+#[test]
+fn reaches_along_walks(rt: HostRuntime) -> Result<(), Fail> {
+    assert_eq!(rt; counts(rt.alloc())?, [4, 2]);
+    Ok(())
+}
+
+fn cycle_in(alloc: Global, graph: &Digraph<NodeId, ArcId>) -> Result<[bool; 3], Fail>
+    requires { graph.now.nodes ≡ 4 }
+{
+    let reached = reached_from(alloc, graph, node(1))?;
+    let has_walk = has_walk_to(alloc, &reached, node(3))?;
+    Ok([reached.has(node(1)), reached.has(node(2)), has_walk])
+}
+
+/// Whether 1 and 2 are reached from 1, and whether there is a walk to 3.
+fn cycle(alloc: Global) -> Result<[bool; 3], Fail> {
+    let graph = small_digraph(alloc)?;
+    cycle_in(alloc, &graph)
+}
+
+#[test]
+fn reaches_what_a_cycle_holds_and_no_more(rt: HostRuntime) -> Result<(), Fail> {
+    assert_eq!(rt; cycle(rt.alloc())?, [true, true, false]);
+    Ok(())
+}
+
+fn places_of(alloc: Global, nodes: &[NodeId]) -> Result<Vec<usize>, Fail> {
+    let mut places = Vec::new(alloc);
+    for node in nodes {
+        places.push(node.place())?;
+    }
+    Ok(places)
+}
+
+fn places_on(alloc: Global, way: &Way<NodeId, ArcId>) -> Result<(Vec<usize>, usize), Fail> {
+    Ok((places_of(alloc, way.nodes.as_slice())?, way.arcs.len()))
+}
+
+fn way_to(
+    alloc: Global,
+    reached: &Reached<NodeId, ArcId>,
+    node: NodeId,
+) -> Result<(Vec<usize>, usize), Fail> {
+    let way = walk_to(alloc, reached, node)?.ok_or("no walk")?;
+    places_on(alloc, &way)
+}
+
+fn way_in(alloc: Global, graph: &Digraph<NodeId, ArcId>) -> Result<(Vec<usize>, usize), Fail>
+    requires { graph.now.nodes ≡ 4 }
+{
+    let reached = reached_from(alloc, graph, node(0))?;
+    way_to(alloc, &reached, node(2))
+}
+
+/// The places of the nodes on a way from 0 to 2, and how many arcs it has.
+fn way(alloc: Global) -> Result<(Vec<usize>, usize), Fail> {
+    let graph = small_digraph(alloc)?;
+    way_in(alloc, &graph)
+}
+
+#[test]
+fn gives_a_walk(rt: HostRuntime) -> Result<(), Fail> {
+    let (nodes, arcs) = way(rt.alloc())?;
+    assert_eq!(rt; nodes.as_slice(), [0, 1, 2].as_slice());
+    assert_eq!(rt; arcs, 2);
+    Ok(())
+}
+
+/// Adds an arc and takes it away again, and answers how many arcs there are then.
+fn undo(graph: &mut Digraph<NodeId, ArcId>, tail: NodeId, head: NodeId) -> Result<usize, Fail>
+    requires tail { tail < graph.old.nodes }
+    requires head { head < graph.old.nodes }
+    ensures { graph.new.nodes ≡ graph.old.nodes }
+{
+    let mark = graph.mark();
+    graph.add_arc(tail, head)?;
+    graph.undo_to(mark);
+    Ok(graph.arc_count())
+}
+
+fn places_reached(
+    alloc: Global,
+    graph: &Digraph<NodeId, ArcId>,
+    start: NodeId,
+) -> Result<Vec<usize>, Fail>
+    requires { start < graph.now.nodes }
+{
+    let reached = reached_from(alloc, graph, start)?;
+    places_of(alloc, reached.nodes())
+}
+
+fn undone_in(alloc: Global, graph: &mut Digraph<NodeId, ArcId>) -> Result<(usize, Vec<usize>), Fail>
+    requires { graph.old.nodes ≡ 4 }
+{
+    let arcs = undo(graph, node(3), node(0))?;
+    Ok((arcs, places_reached(alloc, graph, node(3))?))
+}
+
+/// How many arcs there are when one from 3 to 0 was added and taken away, and what is reached from 3 then.
+fn undone(alloc: Global) -> Result<(usize, Vec<usize>), Fail> {
+    let mut graph = small_digraph(alloc)?;
+    undone_in(alloc, &mut graph)
+}
+
+#[test]
+fn undoes_an_arc(rt: HostRuntime) -> Result<(), Fail> {
+    let (arcs, nodes) = undone(rt.alloc())?;
+    assert_eq!(rt; arcs, 4);
+    assert_eq!(rt; nodes.as_slice(), [3].as_slice());
+    Ok(())
+}
+
+/// How many nodes are reached from either of two.
+fn count_from_both(
+    alloc: Global,
+    graph: &Digraph<NodeId, ArcId>,
+    first: NodeId,
+    second: NodeId,
+) -> Result<usize, Fail>
+    requires first { first < graph.now.nodes }
+    requires second { second < graph.now.nodes }
+{
+    let mut reached = graph.reach_none(alloc)?;
+    graph.reach_more(first, &mut reached)?;
+    graph.reach_more(second, &mut reached)?;
+    Ok(reached.into_nodes().len())
+}
+
+fn count_from_two(alloc: Global) -> Result<usize, Fail> {
+    let graph = small_digraph(alloc)?;
+    count_from_both(alloc, &graph, node(1), node(3))
+}
+
+#[test]
+fn reaches_from_several_nodes(rt: HostRuntime) -> Result<(), Fail> {
+    assert_eq!(rt; count_from_two(rt.alloc())?, 3);
+    Ok(())
+}
+
+/// A search over arcs in rows: where it begins, where it ends if it comes there, and from which node on it does not go past what is
+/// reached from that node.
+#[derive(Clone, Copy)]
+struct Search {
+    start: usize,
+    end: Option<usize>,
+    past: Option<usize>,
+}
+
+/// The node at a place, which has to be one of the graph.
+fn node_of(graph: &Digraph<NodeId, ArcId>, place: usize) -> Result<NodeId, Fail>
+    ensures { IfOk result (λ node. node < graph.now.nodes) }
+{
+    if place >= graph.node_count() {
+        return Err(Fail::from("a node"));
+    }
+    Ok(NodeId::from_place(place).ok_or("a node")?)
+}
+
+fn add_past(
+    graph: &Digraph<NodeId, ArcId>,
+    place: usize,
+    past: &mut Reached<NodeId, ArcId>,
+) -> Result<(), Fail> {
+    let node = node_of(graph, place)?;
+    Ok(graph.reach_again(node, past)?)
+}
+
+/// What a search is not to go past.
+fn past_of(
+    alloc: Global,
+    graph: &Digraph<NodeId, ArcId>,
+    search: Search,
+) -> Result<Reached<NodeId, ArcId>, Fail> {
+    let mut past = graph.reach_none(alloc)?;
+    if let Some(place) = search.past {
+        add_past(graph, place, &mut past)?;
+    }
+    Ok(past)
+}
+
+/// The node at which a search ends, if there is one.
+fn end_of(graph: &Digraph<NodeId, ArcId>, search: Search) -> Result<Option<NodeId>, Fail> {
+    match search.end {
+        None => Ok(None),
+        Some(place) => Ok(Some(node_of(graph, place)?)),
+    }
+}
+
+fn go(
+    alloc: Global,
+    graph: &Digraph<NodeId, ArcId>,
+    search: Search,
+    past: &Reached<NodeId, ArcId>,
+    reached: &mut Reached<NodeId, ArcId>,
+) -> Result<(), Fail> {
+    let start = node_of(graph, search.start)?;
+    let end = end_of(graph, search)?;
+    graph.reach_none_again(reached)?;
+    let rows = graph.in_rows(alloc)?;
+    match end {
+        None => rows.reach_near(start, past, reached)?,
+        Some(end) => rows.reach_near_to(start, end, past, reached)?,
+    }
+    Ok(())
+}
+
+fn find(
+    alloc: Global,
+    graph: &Digraph<NodeId, ArcId>,
+    search: Search,
+    reached: &mut Reached<NodeId, ArcId>,
+) -> Result<(), Fail> {
+    let past = past_of(alloc, graph, search)?;
+    go(alloc, graph, search, &past, reached)
+}
+
+/// What a search finds, in the order in which it finds it.
+fn found(
+    alloc: Global,
+    graph: &Digraph<NodeId, ArcId>,
+    search: Search,
+) -> Result<Reached<NodeId, ArcId>, Fail> {
+    let mut reached = Reached::new(alloc);
+    find(alloc, graph, search, &mut reached)?;
+    Ok(reached)
+}
+
+const FROM_ALL: Search = Search {
+    start: 0,
+    end: None,
+    past: None,
+};
+
+const SEARCHES: [(Search, &[usize]); 3] = [
+    (FROM_ALL, &[0, 1, 3, 2]),
+    (
+        Search {
+            start: 0,
+            end: Some(3),
+            past: None,
+        },
+        &[0, 1, 3],
+    ),
+    (
+        Search {
+            start: 0,
+            end: None,
+            past: Some(2),
+        },
+        &[0, 3],
+    ),
+];
+
+/// The places of the node and the arc of the last step to a node, and None where it was not reached.
+fn last_step(reached: &Reached<NodeId, ArcId>, node: NodeId) -> Option<Option<(usize, usize)>> {
+    if !reached.has(node) {
+        return None;
+    }
+    match reached.last_step(node) {
+        Some((tail, arc)) => Some(Some((tail.place(), arc.place()))),
+        None => Some(None),
+    }
+}
+
+fn places_found(
+    alloc: Global,
+    graph: &Digraph<NodeId, ArcId>,
+    search: Search,
+) -> Result<Vec<usize>, Fail> {
+    let reached = found(alloc, graph, search)?;
+    places_of(alloc, reached.nodes())
+}
+
+fn places(alloc: Global, search: Search) -> Result<Vec<usize>, Fail> {
+    let graph = small_digraph(alloc)?;
+    places_found(alloc, &graph, search)
+}
+
+#[test]
+fn finds_the_nearest_first_and_stops_where_it_has_to(rt: HostRuntime) -> Result<(), Fail> {
+    for (search, wanted) in SEARCHES {
+        assert_eq!(rt; places(rt.alloc(), search)?.as_slice(), wanted);
+    }
+    Ok(())
+}
+
+fn last_steps_in(
+    alloc: Global,
+    graph: &Digraph<NodeId, ArcId>,
+) -> Result<[Option<Option<(usize, usize)>>; 2], Fail> {
+    let reached = found(alloc, graph, FROM_ALL)?;
+    Ok([last_step(&reached, node(2)), last_step(&reached, node(0))])
+}
+
+/// The last steps to 2 and to 0, where the search begins.
+fn last_steps(alloc: Global) -> Result<[Option<Option<(usize, usize)>>; 2], Fail> {
+    let graph = small_digraph(alloc)?;
+    last_steps_in(alloc, &graph)
+}
+
+#[test]
+fn tells_the_last_step_to_what_it_finds(rt: HostRuntime) -> Result<(), Fail> {
+    assert_eq!(rt; last_steps(rt.alloc())?, [Some(Some((1, 1))), Some(None)]);
+    Ok(())
+}
+
+/// How many nodes are left when what was found is forgotten.
+fn forget(
+    graph: &Digraph<NodeId, ArcId>,
+    reached: &mut Reached<NodeId, ArcId>,
+) -> Result<usize, Fail> {
+    graph.reach_none_again(reached)?;
+    Ok(reached.nodes().len())
+}
+
+fn forgotten_in(alloc: Global, graph: &Digraph<NodeId, ArcId>) -> Result<[usize; 2], Fail> {
+    let mut reached = found(alloc, graph, FROM_ALL)?;
+    let before = reached.nodes().len();
+    Ok([before, forget(graph, &mut reached)?])
+}
+
+/// How many nodes are found from 0, and how many are left when they are forgotten.
+fn forgotten(alloc: Global) -> Result<[usize; 2], Fail> {
+    let graph = small_digraph(alloc)?;
+    forgotten_in(alloc, &graph)
+}
+
+#[test]
+fn forgets_what_it_found(rt: HostRuntime) -> Result<(), Fail> {
+    assert_eq!(rt; forgotten(rt.alloc())?, [4, 0]);
+    Ok(())
+}
+
+fn row_at<'a>(rows: &'a RowDigraph<'_, NodeId, ArcId>, place: usize) -> &'a [(ArcId, NodeId)] {
+    match NodeId::from_place(place) {
+        Some(node) if place < rows.node_count() => rows.row(node),
+        _ => &[],
+    }
+}
+
+/// Whether a row has these arcs and heads, by their places.
+fn is_row(row: &[(ArcId, NodeId)], wanted: &[(usize, usize)]) -> bool {
+    for (arc, next) in row.iter().zip(wanted.iter()) {
+        if arc.0.place() != next.0 || arc.1.place() != next.1 {
+            return false;
+        }
+    }
+    row.len() == wanted.len()
+}
+
+fn are_rows(rows: &RowDigraph<'_, NodeId, ArcId>) -> [bool; 3] {
+    [
+        is_row(row_at(rows, 0), &[(0, 1), (3, 3)]),
+        is_row(row_at(rows, 2), &[(2, 1)]),
+        is_row(row_at(rows, 3), &[]),
+    ]
+}
+
+fn rows_in(alloc: Global, graph: &Digraph<NodeId, ArcId>) -> Result<(usize, [bool; 3]), Fail> {
+    let rows = graph.in_rows(alloc)?;
+    Ok((rows.node_count(), are_rows(&rows)))
+}
+
+/// How many nodes there are in rows, and whether the rows of 0, 2 and 3 are as they have to be.
+fn rows_told(alloc: Global) -> Result<(usize, [bool; 3]), Fail> {
+    let graph = small_digraph(alloc)?;
+    rows_in(alloc, &graph)
+}
+
+#[test]
+fn has_its_arcs_in_rows(rt: HostRuntime) -> Result<(), Fail> {
+    assert_eq!(rt; rows_told(rt.alloc())?, (4, [true, true, true]));
+    Ok(())
+}
