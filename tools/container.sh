@@ -9,6 +9,7 @@ root=$(mktemp -d)
 trap 'rm -rf --one-file-system "$root"' EXIT
 debootstrap --variant=minbase --include=bzip2 bookworm "$root" > "$root.log" || { tail -n 5 "$root.log" >&2; exit 1; }
 rm -f "$root.log"
+chmod 755 "$root"
 mkdir "$root/srv/tor"
 tar -C "$root/srv/tor" --strip-components=1 --no-same-owner -xf "$archive"
 cp tools/tour.sh "$root/srv/"
