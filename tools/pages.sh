@@ -40,13 +40,9 @@ statuses() { # PROGRAM
 }
 
 : > "$work/all"
-mkdir "$work/man1"
-for program in "$@"; do
-    if [ -e "man/$program.1" ]; then cp "man/$program.1" "$work/man1/"; else complain "man/$program.1 is not there"; fi
-done
 for program in "$@"; do
     page=man/$program.1
-    [ -e "$page" ] || continue
+    if [ ! -e "$page" ]; then complain "$page is not there"; continue; fi
     "$bin/$program" --help > "$work/help" 2>&1
     # Help itself is an option of each program, and stands on no page.
     options < "$work/help" | grep -vx -e --help > "$work/said"
@@ -71,11 +67,11 @@ for program in "$@"; do
         grep -qE "^\.Ql $note(\||$| )" "$page" || complain "$page lacks the note $note"
     done
     if command -v mandoc > "$work/which"; then
-        (cd "$work/man1" && MANPATH="$work" mandoc -Tlint "$program.1") > "$work/lint" 2>&1
+        mandoc -Tlint "$page" > "$work/lint" 2>&1
         [ ! -s "$work/lint" ] || complain "$(cat "$work/lint")"
     fi
     if command -v man > "$work/which" && man --help 2>&1 | grep -q -e --warnings; then
-        LC_ALL=C.UTF-8 man --warnings -E UTF-8 -l -Tutf8 -Z "$work/man1/$program.1" 2> "$work/lint" > "$work/text"
+        LC_ALL=C.UTF-8 man --warnings -E UTF-8 -l -Tutf8 -Z "$page" 2> "$work/lint" > "$work/text"
         [ ! -s "$work/lint" ] || complain "$(cat "$work/lint")"
     fi
 done
