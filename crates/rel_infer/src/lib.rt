@@ -11,6 +11,3 @@ mod totals;
 
 pub use laws::{one_inference_law, one_result_law};
 pub use result::result_of;
-
-#[cfg(test)]
-mod tests;
