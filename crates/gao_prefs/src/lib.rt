@@ -5,8 +5,6 @@
 mod per_end;
 mod preferring;
 mod tally;
-#[cfg(test)]
-mod tests;
 mod top;
 
 pub use preferring::{Pref, preferences};

@@ -3,4 +3,3 @@ pub mod Holding
 pub mod Reading
 pub mod Steps
 pub mod Flipping
-pub mod Vectors

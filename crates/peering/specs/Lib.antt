@@ -1,3 +1,2 @@
 pub mod Exclusions
-pub mod Cases
 pub mod Peerings

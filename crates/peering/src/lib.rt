@@ -5,7 +5,5 @@ mod alike;
 mod excluding;
 mod holders;
 mod relabelling;
-#[cfg(test)]
-mod tests;
 
 pub use relabelling::relabel;

@@ -4,7 +4,5 @@
 
 mod orienting;
 mod settling;
-#[cfg(test)]
-mod tests;
 
 pub use orienting::orient;

@@ -1,5 +1,0 @@
-use Rattle.tor_clauses.specs.Formulas.{FitsGraph}
-use Rattle.tor_orient.proofs.tests.clauses_of.Given as goal
-
-abbrev pub invariant-loop-place : goal.invariant-loop-place
-invariant-loop-place l = FitsGraph l.graph l.clauses
