@@ -1,4 +1,6 @@
-ghost use Rattle.std.specs.Prelude.{◌≡◌, ◌∷◌, [], IfOk};
+ghost use Rattle.std.specs.Prelude.{◌≡◌, ◌≤◌, ◌∷◌, [], length, IfOk};
+ghost use Rattle.relationships.specs.Selection.{IsServable};
+ghost use Rattle.as_graph.specs.Paths.{paths_at};
 ghost use Rattle.tor_clauses.specs.Formulas.{FitsGraph};
 
 use crate::cases::{clauses_of, graph_of, is_servable};
@@ -301,13 +303,28 @@ fn told_behind(
     graph: &AsGraph,
     clauses: &Clauses,
 ) -> Result<[usize; 7], Fail>
-    requires { FitsGraph graph.now clauses.now }
+    requires fits { FitsGraph graph.now clauses.now }
+    requires servable { IsServable (paths_at graph.now clauses.now.paths) }
+    requires count { 2 ≤ length graph.now }
 {
-    if graph.path_count() < 2 || !is_servable(alloc, graph, clauses)? {
-        return Err(Fail::from("paths that some orientation serves"));
-    }
     let selection = select_behind(alloc, keys, graph, clauses.paths(), 2)?;
     Ok(selection_told(&selection))
+}
+
+/// The same, if some orientation serves the paths of the clauses.
+fn told_if_servable(
+    alloc: Global,
+    keys: Keys,
+    graph: &AsGraph,
+    clauses: &Clauses,
+) -> Result<[usize; 7], Fail>
+    requires fits { FitsGraph graph.now clauses.now }
+    requires count { 2 ≤ length graph.now }
+{
+    if !is_servable(alloc, graph, clauses)? {
+        return Err(Fail::from("an orientation that serves"));
+    }
+    told_behind(alloc, keys, graph, clauses)
 }
 
 fn told_behind_returns(alloc: Global, keys: Keys, graph: &AsGraph) -> Result<[usize; 7], Fail> {
@@ -315,7 +332,7 @@ fn told_behind_returns(alloc: Global, keys: Keys, graph: &AsGraph) -> Result<[us
         return Err(Fail::from("two paths and two returns"));
     }
     let clauses = clauses_of(alloc, keys, graph, 2, 4)?;
-    told_behind(alloc, keys, graph, &clauses)
+    told_if_servable(alloc, keys, graph, &clauses)
 }
 
 fn told_with_givens(alloc: Global, keys: Keys) -> Result<[usize; 7], Fail> {
