@@ -30,7 +30,7 @@ pub(crate) struct Found {
 }
 
 // The marks of the edges, where the paths that the selector has kept are kept.
-pub(crate) fn marks_of(
+fn marks_of(
     alloc: Global,
     graph: &AsGraph,
     selector: &Selector,

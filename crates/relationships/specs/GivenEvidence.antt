@@ -76,7 +76,7 @@ pub record MarksHoldWith (givens : List Given) (kept : Numbered) (claims : List 
   pub marks : All (IsBorneOut (served_with givens (paths_of kept)) orders probes) claims
   pub probes_serve : ProbesFrom (served_with givens (paths_of kept)) claims [] probes
 
--- the rules on paths and edges that decide what is kept and what is forced, where relationships are given
+-- the rules on paths and edges that decide what is kept and what is forced, where relationships are given, each of an edge
 pub record MeetsRulesWith (givens : List Given) (paths : List (List ℕ)) (walks : List (Option Walk)) (claims : List Claim)
     (whys : List Walk) (probes : List (ℕ × ℕ)) : Type 0 where
   pub two : NameTwo givens
@@ -109,7 +109,7 @@ given_link n numbers link =
 abbrev pub with_given_links : ℕ → List ℕ → Walk → Walk
 with_given_links n numbers w = record { ases = w.ases; links = map (given_link n numbers) w.links }
 
--- the rows are those of the returns of these givens
+-- each of the rows is the return of the given that its number names
 abbrev pub AreReturnRows : List Given → ℕ → List ℕ → Numbered → Type 0
 AreReturnRows givens n numbers rows = (m : ℕ) (path : List ℕ) → Contains rows (m, path) →
     (n < m) × ((g : Given) × IsGiven givens (slice_index_or numbers (m - (n + 1)) 0) g × (path ≡ return_of g))

@@ -19,8 +19,8 @@ NoGivensLaw =
     ((n : ℕ) (A : Numbered) (paths : List (List ℕ)) (walks : List (Option Walk)) →
     LostFromWith [] n A paths walks ↔ LostFrom n A paths walks)
 
--- a walk that refutes by the givens leaves no orientation that agrees with these and serves; an order of two ASes that is shown
--- holds in every one that does
+-- a walk that refutes by the givens leaves no orientation that serves the returns of all givens and then the paths; an order of two
+-- ASes that is shown holds in every one that does
 abbrev pub GivenWalksLaw : Type 0
 GivenWalksLaw =
     (givens : List Given) (A : Numbered) →

@@ -58,7 +58,7 @@ pub record IsReturn (paths : List (List ℕ)) (givens : List Given) (x y z : ℕ
   pub second : y ≡ given.over
   pub third : z ≡ given.under
 
--- the orders that follow from "a over b" along the triples of some of the paths and by the givens
+-- the orders that follow from "a over b" along the triples of `some` and by the givens whose two are neighbours on `paths`
 pub data GivenClosure (givens : List Given) (paths some : List (List ℕ)) (a b : ℕ) : ℕ → ℕ → Type 0 where
   start : GivenClosure givens paths some a b a b
   imply : {x y z : ℕ} → GivenClosure givens paths some a b x y → IsTriple some x y z → GivenClosure givens paths some a b y z

@@ -70,7 +70,7 @@ pub fn given_marks_law()
     ensures { GivenMarksLaw }
 {}
 
-/// What meets the rules with givens is valid.
+/// What meets the rules with givens is valid, where each given is of an edge.
 pub fn given_rules_law()
     ensures { GivenRulesLaw }
 {}

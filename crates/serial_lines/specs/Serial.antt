@@ -77,7 +77,7 @@ abbrev pub line_between : List RelLine → ℕ → ℕ → Option RelLine
 line_between [] a b = None
 line_between (l ∷ ls) a b = if names l a b then Some l else line_between ls a b
 
--- whether lines of these kinds say the same, where they name the same two ASes, and in the same order or not
+-- whether lines of these kinds that name the same two ASes say the same; the flag says whether they name them in the same order
 abbrev pub agree_in : RelKind → RelKind → Bool → Bool
 agree_in Transit Transit same = same
 agree_in Transit Peering same = false
@@ -129,7 +129,7 @@ abbrev pub IsGoodLine : List ℕ → List RelLine → List RelLine → Bool → 
 IsGoodLine line old new true = after_line old line ≡ Some new
 IsGoodLine line old new false = after_line old line ≡ None
 
--- the error names the first bad line. Where memory ran out nothing is said
+-- the error has the number that reading gives. Where memory ran out nothing is said
 abbrev pub Refuses : RelError → List ℕ → Type 0
 Refuses (errors.BadLine n) bytes = rel_in bytes ≡ Err n
 Refuses errors.NoMemory bytes = Unit {0}

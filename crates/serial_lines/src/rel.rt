@@ -1,6 +1,6 @@
 //! Relationships, found by their two ASes.
 
-ghost use Rattle.std.specs.Prelude.{◌≡◌, ◌≢◌, [], length, IfOk, OnErr};
+ghost use Rattle.std.specs.Prelude.{◌≡◌, ◌≢◌, Ok, false, [], length, IfOk, OnErr};
 ghost use Rattle.serial_lines.specs.Serial.{line_between, IsTaken};
 
 use crate::line::{RelLine, agree};
@@ -33,7 +33,7 @@ impl Model for Rel {
 impl Rel {
     ghost use Rattle.serial_lines.specs.Serial.{IsSound};
 
-    /// Nothing. It takes no memory.
+    /// No relationships, in a table with these keys. It takes no memory.
     pub fn new(alloc: Global, keys: Keys) -> Rel
         ensures { result ≡ [] }
     {
@@ -59,11 +59,12 @@ impl Rel {
         Some(self.lines.as_slice()[place])
     }
 
-    /// Takes a line in: it goes last where none names its two ASes, and nothing changes where the one that does says the same. False
-    /// where that one says something else. For want of memory nothing changes.
+    /// Takes a line in: it goes last where none names its two ASes, and nothing changes where the one that does says the same. False,
+    /// and nothing changes, where that one says something else. For want of memory nothing changes.
     pub fn take_in(&mut self, line: RelLine) -> Result<bool, NoMemory>
         requires { line.first ≢ line.second }
         ensures ok { IfOk result (IsTaken line self.old self.new) }
+        ensures same { result ≡ Ok false → self.new ≡ self.old }
         ensures err { OnErr result (self.new ≡ self.old) }
     {
         let number = number_of_edge(line.first.min(line.second), line.first.max(line.second));

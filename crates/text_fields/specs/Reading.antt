@@ -25,7 +25,7 @@ is_digit b = nat_le 48 b && nat_le b 57
 abbrev pub with_digit : ℕ → ℕ → Option ℕ
 with_digit n digit = if nat_lt (n * 10 + digit) (2 ^ 64) then Some (n * 10 + digit) else None
 
--- the digit at the prefix
+-- the digit that the bytes begin with
 unfoldable pub digit_at : List ℕ → Option (ℕ × List ℕ)
 digit_at [] = None
 digit_at (b ∷ bytes) = if is_digit b then Some (b - 48, bytes) else None
@@ -35,7 +35,7 @@ unfoldable pub digits_at : ℕ → List ℕ → Option (ℕ × List ℕ)
 digits_at n [] = Some (n, [])
 digits_at n (b ∷ bytes) = if is_digit b then (with_digit n (b - 48) >>= λ m. digits_at m bytes) else Some (n, b ∷ bytes)
 
--- a 0 has no digits behind it
+-- behind a 0 at the start no further digit is read
 unfoldable pub u64_at : List ℕ → Option (ℕ × List ℕ)
 u64_at bytes = do
   first ← digit_at bytes

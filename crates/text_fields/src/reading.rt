@@ -1,5 +1,5 @@
-//! Words and numbers, read from the prefix of the bytes. Each reader answers the value and the bytes behind it, or nothing where the
-//! bytes don't begin so. None takes memory.
+//! Words and numbers that bytes begin with. Each reader answers the value and the bytes behind it, or nothing where the bytes don't
+//! begin so. None takes memory.
 
 ghost use Rattle.std.specs.Prelude.{◌≡◌, ◌∷◌, [], option_map};
 ghost use Rattle.std.specs.Option.{option_copied};
@@ -29,7 +29,7 @@ fn is_digit(byte: u8) -> bool
     b'0' <= byte && byte <= b'9'
 }
 
-// The digit at the prefix.
+// The digit that the bytes begin with.
 #[tactic(auto, unfolding(crate::specs::Reading::digit_at))]
 fn digit_of(bytes: &[u8]) -> Option<(u8, &[u8])>
     ensures { option_map (λ x. (x.0, x.1.now)) result ≡ digit_at bytes.now }
@@ -60,7 +60,7 @@ fn digits_of(prefix: u64, bytes: &[u8]) -> Option<(u64, &[u8])>
     Some((number, rest))
 }
 
-// A number: a 0 has no digits behind it.
+// A number: behind a 0 at the start no further digit is read.
 #[tactic(auto, unfolding(crate::specs::Reading::u64_at))]
 fn u64_of(bytes: &[u8]) -> Option<(u64, &[u8])>
     ensures { option_map (λ x. (x.0, x.1.now)) result ≡ u64_at bytes.now }

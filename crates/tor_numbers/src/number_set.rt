@@ -52,7 +52,7 @@ impl NumberSet {
         }
     }
 
-    /// Whether the set was made with these keys. It takes no memory.
+    /// Whether the set's seed is that of these keys, for a test. It takes no memory.
     pub fn is_made_with(&self, keys: Keys) -> bool {
         self.seed == keys.hash_one(0u8)
     }

@@ -44,7 +44,7 @@ impl PlaceTable {
         }
     }
 
-    /// Whether the table was made with these keys. It takes no memory.
+    /// Whether the table's seed is that of these keys, for a test. It takes no memory.
     pub fn is_made_with(&self, keys: Keys) -> bool {
         self.seed == keys.hash_one(0u8)
     }
