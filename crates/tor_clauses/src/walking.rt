@@ -2,7 +2,7 @@ ghost use Rattle.std.specs.Prelude.{◌≡◌, ℕ, ◌<◌, [], length, OnOk, I
 ghost use Rattle.relationships.specs.Graph.{edges};
 ghost use Rattle.tor_clauses.specs.Literals.{lit_of, Says};
 ghost use Rattle.tor_clauses.specs.Formulas.{FitsGraph};
-ghost use Rattle.tor_clauses.specs.Leading.{GoesOver, GoesAlong, IsBegun, KeepsPairs, IsPlainWay, LeadsAlong, LeadsOver};
+ghost use Rattle.tor_clauses.specs.Leading.{GoesOver, GoesAlong, IsBegun, KeepsPairs, IsPlainWay, LeadsAlong};
 
 use crate::clauses::Clauses;
 use crate::lit::Lit;
@@ -103,23 +103,4 @@ pub fn walk_along(
     begin_walk(graph, start, &mut walk)?;
     follow_way(graph, clauses, way, &mut walk)?;
     Ok(walk)
-}
-
-/// Makes a walk that of the three ASes from the order of the tail of an arc, which has to be there, to that of its head, in the memory
-/// that the walk had before. The clauses have to fit the graph. The only error is that memory ran out.
-pub fn walk_over(
-    graph: &AsGraph,
-    clauses: &Clauses,
-    arc: ArcId,
-    walk: &mut Walk,
-) -> Result<(), NoMemory>
-    requires fits { FitsGraph graph.now clauses.now }
-    requires there { arc < length clauses.now.net.arcs }
-    ensures { OnOk result (LeadsOver graph.now clauses.now arc walk.new) }
-{
-    graph.facts();
-    let (tail, _) = clauses.digraph().ends(arc);
-    begin_walk(graph, tail, walk)?;
-    step(graph, clauses, arc, walk)?;
-    Ok(())
 }
