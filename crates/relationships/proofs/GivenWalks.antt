@@ -80,11 +80,22 @@ none_lost n A (path ∷ paths) [] h = absurd h
 none_lost n A (path ∷ paths) (None ∷ walks) h = none_lost (n + 1) (A ++ (n, path) ∷ []) paths walks h
 none_lost n A (path ∷ paths) (Some w ∷ walks) h = (none_refutes (A ++ (n, path) ∷ []) w h.0, none_lost (n + 1) A paths walks h.1)
 
+marks_none : (kept : Numbered) (claims : List Claim) (whys : List Walk) (probes : List (ℕ × ℕ)) →
+    MarksHoldWith [] kept claims whys probes → MarksHold kept claims whys probes
+marks_none kept claims whys probes h =
+    record { orders = h.orders; shown = show_none kept [] whys h.orders h.shown; marks = h.marks; probes_serve = h.probes_serve }
+
+none_marks : (kept : Numbered) (claims : List Claim) (whys : List Walk) (probes : List (ℕ × ℕ)) →
+    MarksHold kept claims whys probes → MarksHoldWith [] kept claims whys probes
+none_marks kept claims whys probes h =
+    record { orders = h.orders; shown = none_show kept [] whys h.orders h.shown; marks = h.marks; probes_serve = h.probes_serve }
+
 pub no_givens_law : NoGivensLaw
 no_givens_law = (
   λ A w. (refutes_none A w, none_refutes A w),
   λ A walks orders. (show_none A [] walks orders, none_show A [] walks orders),
   λ n A paths walks. (lost_none n A paths walks, none_lost n A paths walks),
+  λ kept claims whys probes. (marks_none kept claims whys probes, none_marks kept claims whys probes),
 )
 
 -- ---- the returns of all givens, under the number 0, in front of the paths

@@ -7,7 +7,7 @@ use Rattle.relationships.specs.declared.label.End.{End}
 use Rattle.relationships.specs.Relationship.{labels_of, ValleyFree}
 use Rattle.relationships.specs.Evidence.{paths_of, kept_from}
 use Rattle.relationships.specs.Selection.{IsServable, KeepsFrom}
-use Rattle.relationships.specs.Laws.{SelectionLaw, KeptLaw, AllKeptLaw}
+use Rattle.relationships.specs.Laws.{SelectionLaw, KeptLaw, AllKeptLaw, SelectionBehindLaw}
 
 same_flag : {P : Type 0} (k k' : Bool) → (IsTrue k ↔ P) → (IsTrue k' ↔ P) → k ≡ k'
 same_flag true true h h' = refl
@@ -72,6 +72,16 @@ pub all_kept_law : AllKeptLaw
 all_kept_law paths keeps h = (
   λ t. all_servable [] paths keeps h (recursion_from_All (λ k. IsTrue k) keeps t) nothing_servable,
   λ s. All-from_recursion (λ k. IsTrue k) keeps (all_true [] paths keeps h s),
+)
+
+pub selection_behind_law : SelectionBehindLaw
+selection_behind_law begun paths keeps h = (
+  λ keeps' h'. same_flags begun paths keeps keeps' h h',
+  λ s. kept_servable begun paths keeps h s,
+  λ s. (
+    λ t. all_servable begun paths keeps h (recursion_from_All (λ k. IsTrue k) keeps t) s,
+    λ all. All-from_recursion (λ k. IsTrue k) keeps (all_true begun paths keeps h all),
+  ),
 )
 
 -- a path more, which is kept or not: for a loop that offers path by path

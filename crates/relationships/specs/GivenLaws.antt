@@ -17,7 +17,9 @@ NoGivensLaw =
     ((A : Numbered) (w : Walk) → RefutesWith [] A w ↔ Refutes A w) ×
     ((A : Numbered) (walks : List Walk) (orders : List (ℕ × ℕ)) → ShowFromWith [] A [] walks orders ↔ Show A walks orders) ×
     ((n : ℕ) (A : Numbered) (paths : List (List ℕ)) (walks : List (Option Walk)) →
-    LostFromWith [] n A paths walks ↔ LostFrom n A paths walks)
+    LostFromWith [] n A paths walks ↔ LostFrom n A paths walks) ×
+    ((kept : Numbered) (claims : List Claim) (whys : List Walk) (probes : List (ℕ × ℕ)) →
+    MarksHoldWith [] kept claims whys probes ↔ MarksHold kept claims whys probes)
 
 -- a walk that refutes by the givens leaves no orientation that serves the returns of all givens and then the paths; an order of two
 -- ASes that is shown holds in every one that does

@@ -219,6 +219,15 @@ KeptLaw = (paths : List (List ℕ)) (keeps : List Bool) → Keeps paths keeps �
 abbrev pub AllKeptLaw : Type 0
 AllKeptLaw = (paths : List (List ℕ)) (keeps : List Bool) → Keeps paths keeps → All (λ k. IsTrue k) keeps ↔ IsServable paths
 
+-- the same behind paths that are kept first: the flags are determined; and where some orientation serves those, one serves them with all
+-- that are kept, and all are kept exactly if one orientation serves all
+abbrev pub SelectionBehindLaw : Type 0
+SelectionBehindLaw =
+    (begun paths : List (List ℕ)) (keeps : List Bool) → KeepsFrom begun paths keeps →
+    ((keeps' : List Bool) → KeepsFrom begun paths keeps' → keeps ≡ keeps') ×
+    (IsServable begun → IsServable (begun ++ items_where_true keeps paths)) ×
+    (IsServable begun → All (λ k. IsTrue k) keeps ↔ IsServable (begun ++ paths))
+
 -- what meets the rules on the graph is valid: the right paths are kept, exactly the forced edges are marked so, and none of
 -- these is a peering
 abbrev pub GraphRulesLaw : Type 0

@@ -1,7 +1,7 @@
 //! The laws of the definitions in `specs/`. Each is the contract of a function.
 
 ghost use Rattle.relationships.specs.GivenLaws.{GivenLinksLaw, GivenMarksLaw, NoGivensLaw, GivenWalksLaw, GivenRulesLaw, AgreeingRulesLaw, SameClosureLaw};
-ghost use Rattle.relationships.specs.Laws.{DifferingLaw, EdgeLaw, EdgeOrderLaw, ServingLaw, GivenServingLaw, GivenClosureLaw, GivenEdgesLaw, FewReturnsLaw, GivensServableLaw, AllGivensLaw, RelaxingLaw, PeeringLaw, ReadingLaw, RefutingLaw, ShowingLaw, ClosureLaw, AllowedLaw, ConsistencyLaw, ImpliedLaw, LooseLaw, UnheldLaw, RankLaw, CycleLaw, KeepingLaw, MarkingLaw, ForcedLaw, SelectionLaw, KeptLaw, AllKeptLaw, GraphRulesLaw, GraphRulesBehindLaw, PreferenceLaw, RelabellingLaw, MaximalLaw};
+ghost use Rattle.relationships.specs.Laws.{DifferingLaw, EdgeLaw, EdgeOrderLaw, ServingLaw, GivenServingLaw, GivenClosureLaw, GivenEdgesLaw, FewReturnsLaw, GivensServableLaw, AllGivensLaw, RelaxingLaw, PeeringLaw, ReadingLaw, RefutingLaw, ShowingLaw, ClosureLaw, AllowedLaw, ConsistencyLaw, ImpliedLaw, LooseLaw, UnheldLaw, RankLaw, CycleLaw, KeepingLaw, MarkingLaw, ForcedLaw, SelectionLaw, SelectionBehindLaw, KeptLaw, AllKeptLaw, GraphRulesLaw, GraphRulesBehindLaw, PreferenceLaw, RelabellingLaw, MaximalLaw};
 
 /// Each edge stands once among the edges of paths, which are the pairs of neighbours on them.
 pub fn edge_law()
@@ -181,6 +181,12 @@ pub fn forced_law()
 /// Which paths are kept is determined.
 pub fn selection_law()
     ensures { SelectionLaw }
+{}
+
+/// Behind paths that are kept first, which paths are kept is determined; and where some orientation serves those, one serves them with
+/// all that are kept, and all are kept exactly if one orientation serves all.
+pub fn selection_behind_law()
+    ensures { SelectionBehindLaw }
 {}
 
 /// Some orientation serves the kept paths.
