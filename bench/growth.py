@@ -14,7 +14,7 @@ import subprocess
 import sys
 import tempfile
 
-BAR = 6.0
+BAR = 3.0
 RATIO = 2.8
 MIDDLE = 1_000_000
 
