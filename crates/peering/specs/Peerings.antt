@@ -5,7 +5,7 @@ use Rattle.relationships.specs.declared.label.Label.{Label}
 use Rattle.relationships.specs.Relationship.{Orientation, Labelling, labels_of, ValleyFree, Serves}
 use Rattle.relationships.specs.Graph.{Edge, is_same, edges_on, edges, degree, support, labelling}
 use Rattle.relationships.specs.Preference.{with_peer}
-use Rattle.relationships.specs.Laws.{AgreesOn}
+use Rattle.relationships.specs.Laws.Serving.{AgreesOn}
 use Rattle.as_graph.specs.Paths.{path_at}
 use Rattle.as_graph.specs.declared.step.Step.{Step}
 

@@ -15,7 +15,7 @@ use Rattle.relationships.specs.Graph.{Edge, edge_of, is_same, edges_from, edges_
 use Rattle.tor_arena.specs.Distinct.{AllDistinct}
 use Rattle.relationships.specs.Relationship.{Orientation, Labelling, labels_of, label_of, is_low, is_high, is_over, ValleyFree, Serves}
 use Rattle.relationships.specs.Evidence.{IsTriple, TripleAt, kept_from}
-use Rattle.relationships.specs.Laws.{AgreesOn}
+use Rattle.relationships.specs.Laws.Serving.{AgreesOn}
 use Rattle.relationships.proofs.Edges.{along_each, peering_law}
 use Rattle.relationships.proofs.Places.{index-from_StandAt, kept_from-out}
 use Rattle.relationships.proofs.Serving.{Apart, Apart-from_differing, differ_if_distinct, serves_satisfies}

@@ -13,7 +13,7 @@ use Rattle.relationships.specs.Selection.{KeepsFrom, IsServable, IsForced}
 use Rattle.relationships.specs.Checking.{kept_of, Claim, claimed_labels}
 use Rattle.relationships.specs.Givens.{names_edge, Holds, return_of, returns, NameTwo, NameOnce, by_givens}
 use Rattle.relationships.specs.GivenEvidence.{served_with}
-use Rattle.relationships.specs.GivenLaws.{AgreeingRulesLaw}
+use Rattle.relationships.specs.Laws.GivenEvidence.{AgreeingRulesLaw}
 use Rattle.relationships.proofs.Edges.{over_kept, relaxing_law}
 use Rattle.relationships.proofs.Neighbours.{edge_law}
 use Rattle.relationships.proofs.Checked.{kept_all, label_of_claim}

@@ -10,7 +10,8 @@ use Rattle.relationships.specs.Relationship.{Orientation, Labelling, label_of, l
 use Rattle.relationships.specs.Evidence.{NeighboursDiffer, Numbered, paths_of, Closure, IsConsistent, kept_from}
 use Rattle.relationships.specs.Selection.{KeepsFrom, IsForced}
 use Rattle.relationships.specs.Checking.{LostFrom, kept_of, Claim, OtherOrder, IsBorneOut, ProbesFrom, MarksHold, claimed_labels}
-use Rattle.relationships.specs.Laws.{AgreesOn, KeepingLaw, MarkingLaw, ForcedLaw, GraphRulesLaw, GraphRulesBehindLaw}
+use Rattle.relationships.specs.Laws.Serving.{AgreesOn}
+use Rattle.relationships.specs.Laws.Checking.{KeepingLaw, MarkingLaw, ForcedLaw, GraphRulesLaw, GraphRulesBehindLaw}
 use Rattle.relationships.proofs.Slopes.{over_parts, over-low, over-high}
 use Rattle.relationships.proofs.Edges.{peering_law}
 use Rattle.relationships.specs.Graph.{Edge, is_same, edges_from, edges_on, distinct, edges}

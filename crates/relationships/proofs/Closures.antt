@@ -4,7 +4,8 @@ use Rattle.std.proofs.lemmas.Bool.{cases_Bool, cases_order, and_parts, or_cases,
 use Rattle.relationships.specs.declared.label.End.{End}
 use Rattle.relationships.specs.Relationship.{Orientation, label_of, labels_of, is_low, is_high, is_over}
 use Rattle.relationships.specs.Evidence.{TripleAt, IsTriple, Closure, start, imply, IsConsistent}
-use Rattle.relationships.specs.Laws.{SatisfiesTriples, changed, ClosureLaw, AllowedLaw, ConsistencyLaw}
+use Rattle.relationships.specs.Laws.Serving.{SatisfiesTriples}
+use Rattle.relationships.specs.Laws.Evidence.{changed, ClosureLaw, AllowedLaw, ConsistencyLaw}
 use Rattle.relationships.proofs.Slopes.{over_one_way, over-low, over-high, over-same}
 use Rattle.relationships.proofs.Serving.{serves_satisfies, satisfies_serves}
 

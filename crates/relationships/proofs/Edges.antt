@@ -6,7 +6,7 @@ use Rattle.std.proofs.lemmas.List.Elements.{All-from_recursion, recursion_from_A
 use Rattle.relationships.specs.declared.label.Label.{Label}
 use Rattle.relationships.specs.Relationship.{Labelling, label_of, labels_of, is_low, is_high, is_over, slopes_from, ValleyFree}
 use Rattle.relationships.specs.Graph.{Edge, edge_of, is_same, edges_from, edges_on, distinct, edges}
-use Rattle.relationships.specs.Laws.{RelaxingLaw, PeeringLaw, ReadingLaw}
+use Rattle.relationships.specs.Laws.Serving.{RelaxingLaw, PeeringLaw, ReadingLaw}
 use Rattle.relationships.proofs.Slopes.{over_parts, over-low, over-high, slope-up, slope-down, over-up, over-down, Falls, Free, Free-from_valley_free, ValleyFree-from_free}
 
 pub same_edge : (e f : Edge) → is_same e f ≡ true → e ≡ f

@@ -11,7 +11,7 @@ use Rattle.std.proofs.lemmas.Map.Made.{length-le_from_is_member}
 use Rattle.relationships.specs.declared.given.Given.{Given}
 use Rattle.relationships.specs.Graph.{Edge, edge_of, is_same, edges}
 use Rattle.relationships.specs.Givens.{return_of, NameOnce, names_edge}
-use Rattle.relationships.specs.Laws.{FewReturnsLaw}
+use Rattle.relationships.specs.Laws.Givens.{FewReturnsLaw}
 use Rattle.relationships.proofs.Edges.{same_edge}
 
 pub same-equivalence : IsEquivalence is_same

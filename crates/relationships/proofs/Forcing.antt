@@ -7,7 +7,8 @@ use Rattle.relationships.specs.declared.label.End.{End}
 use Rattle.relationships.specs.Relationship.{Orientation, label_of, labels_of, is_low, is_high, is_over, opposite, Serves}
 use Rattle.relationships.specs.Graph.{Edge, is_same, edges, SameOn}
 use Rattle.relationships.specs.Evidence.{NeighboursDiffer, Closure, start, imply}
-use Rattle.relationships.specs.Laws.{SatisfiesTriples, ImpliedLaw, LooseLaw, UnheldLaw}
+use Rattle.relationships.specs.Laws.Serving.{SatisfiesTriples}
+use Rattle.relationships.specs.Laws.Evidence.{ImpliedLaw, LooseLaw, UnheldLaw}
 use Rattle.relationships.proofs.Slopes.{over_one_of, over-low, over-high}
 use Rattle.relationships.proofs.Edges.{same_edge, reading_law}
 use Rattle.relationships.proofs.Serving.{serves_satisfies}

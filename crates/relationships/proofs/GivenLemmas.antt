@@ -13,7 +13,7 @@ use Rattle.relationships.specs.Evidence.Closure.{start as closure_start, imply a
 use Rattle.relationships.specs.Selection.{IsServable, IsForced}
 use Rattle.relationships.specs.Givens.{names_edge, Holds, AgreesWith, return_of, returns, NameTwo, NameOnce, end_by, by_givens, IsReturn, GivenClosure}
 use Rattle.relationships.specs.Givens.GivenClosure.{start, imply, force}
-use Rattle.relationships.specs.Laws.{GivenServingLaw, GivenClosureLaw, GivenEdgesLaw, GivensServableLaw, AllGivensLaw}
+use Rattle.relationships.specs.Laws.Givens.{GivenServingLaw, GivenClosureLaw, GivenEdgesLaw, GivensServableLaw, AllGivensLaw}
 use Rattle.relationships.proofs.Slopes.{slope-up, slope-down, over-up, over-down, over-low, over-high, over_parts, Free-from_valley_free}
 use Rattle.relationships.proofs.Edges.{same_edge, reading_law}
 use Rattle.relationships.proofs.Checked.{over_low, over_high}

@@ -17,7 +17,7 @@ use Rattle.relationships.specs.Selection.{KeepsFrom, IsForced}
 use Rattle.relationships.specs.Checking.{LostFrom, kept_of, Claim, OtherOrder, IsBorneOut, ProbesFrom, MarksHold, claimed_labels}
 use Rattle.relationships.specs.Givens.{names_edge, return_of, returns, NameTwo, IsReturn}
 use Rattle.relationships.specs.GivenEvidence.{given_link, with_given_links, AreReturnRows, AreUpTo, FitsGiven, FitsWith, IsLinkedWith, RefutesWith, ShowFromWith, LostFromWith, served_with, MarksHoldWith}
-use Rattle.relationships.specs.GivenLaws.{GivenLinksLaw, GivenMarksLaw, NoGivensLaw, GivenWalksLaw, GivenRulesLaw, SameClosureLaw}
+use Rattle.relationships.specs.Laws.GivenEvidence.{GivenLinksLaw, GivenMarksLaw, NoGivensLaw, GivenWalksLaw, GivenRulesLaw, SameClosureLaw}
 use Rattle.relationships.proofs.WalkLemmas.{refuting_law, showing_law}
 use Rattle.relationships.proofs.Checked.{label_of_claim, rules_behind}
 use Rattle.relationships.proofs.Neighbours.{neighbours-edge}

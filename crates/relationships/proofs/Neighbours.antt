@@ -6,7 +6,7 @@ use Rattle.std.proofs.lemmas.List.Concat.{flat_map-append}
 use Rattle.std.proofs.lemmas.List.Elements.{All-contains, All-contains_itself, All-from_recursion, Contains-append_left, Contains-append_right, filter-append}
 use Rattle.std.proofs.lemmas.List.Kept.{AllPairs-cons, AllPairs-filter}
 use Rattle.relationships.specs.Graph.{Edge, edge_of, is_same, edges_from, edges_on, distinct, edges}
-use Rattle.relationships.specs.Laws.{AreNeighbours, EdgeLaw, EdgeOrderLaw}
+use Rattle.relationships.specs.Laws.Graph.{AreNeighbours, EdgeLaw, EdgeOrderLaw}
 use Rattle.relationships.proofs.Edges.{along_each}
 
 -- ---- no edge stands twice

@@ -8,7 +8,8 @@ use Rattle.relationships.specs.declared.label.Label.{Label}
 use Rattle.relationships.specs.Relationship.{Orientation, Labelling, labels_of, ValleyFree, Serves}
 use Rattle.relationships.specs.Graph.{Edge, SameOn, is_same, edges}
 use Rattle.relationships.specs.Preference.{IsPreferred, with_peer, so_far, IsRelabelled}
-use Rattle.relationships.specs.Laws.{AgreesOn, PreferenceLaw, RelabellingLaw, MaximalLaw}
+use Rattle.relationships.specs.Laws.Serving.{AgreesOn}
+use Rattle.relationships.specs.Laws.Preference.{PreferenceLaw, RelabellingLaw, MaximalLaw}
 use Rattle.relationships.proofs.Edges.{same_edge, relaxing_law, reading_law}
 
 same_end : (x y : End) → (x ≡ y) ⊎ (x ≡ y → ⊥)

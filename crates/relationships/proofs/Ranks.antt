@@ -5,7 +5,7 @@ use Rattle.std.proofs.lemmas.List.Elements.{All-contains}
 use Rattle.relationships.specs.declared.walk.Link.{Link}
 use Rattle.relationships.specs.Relationship.{label_of, labels_of, is_low, is_high, is_over}
 use Rattle.relationships.specs.Evidence.{Numbered, NeighboursDiffer, Fits, IsLinked, BeginsWith}
-use Rattle.relationships.specs.Laws.{ranked, RankLaw, CycleLaw}
+use Rattle.relationships.specs.Laws.Components.{ranked, RankLaw, CycleLaw}
 use Rattle.relationships.proofs.Slopes.{over_one_of, over_parts}
 use Rattle.relationships.proofs.Serving.{satisfies_serves}
 use Rattle.relationships.proofs.WalkLemmas.{triple_apart}

@@ -7,7 +7,7 @@ use Rattle.relationships.specs.declared.label.End.{End}
 use Rattle.relationships.specs.Relationship.{labels_of, ValleyFree}
 use Rattle.relationships.specs.Evidence.{paths_of, kept_from}
 use Rattle.relationships.specs.Selection.{IsServable, KeepsFrom}
-use Rattle.relationships.specs.Laws.{SelectionLaw, KeptLaw, AllKeptLaw, SelectionBehindLaw}
+use Rattle.relationships.specs.Laws.Selection.{SelectionLaw, KeptLaw, AllKeptLaw, SelectionBehindLaw}
 
 same_flag : {P : Type 0} (k k' : Bool) → (IsTrue k ↔ P) → (IsTrue k' ↔ P) → k ≡ k'
 same_flag true true h h' = refl

@@ -4,7 +4,7 @@ use Rattle.std.proofs.lemmas.List.Elements.{All-contains, All-weaker, Contains-g
 use Rattle.tor_arena.specs.Distinct.{AllDistinct}
 use Rattle.relationships.specs.Relationship.{Orientation, Labelling, labels_of, is_over, Slope, Up, Down, slope, slopes_from, slopes, ValleyFree, Serves}
 use Rattle.relationships.specs.Evidence.{StandAt, TripleAt, HasPair, NeighboursDiffer}
-use Rattle.relationships.specs.Laws.{SatisfiesTriples, ServingLaw}
+use Rattle.relationships.specs.Laws.Serving.{SatisfiesTriples, ServingLaw}
 use Rattle.relationships.proofs.Slopes.{slope-up, slope-down, over-up, over-down, over_one_of, Falls, Free, Free-from_valley_free, ValleyFree-from_free}
 
 -- behind a down there are only downs

@@ -6,7 +6,7 @@ use Rattle.relationships.specs.declared.walk.Link.{Link}
 use Rattle.relationships.specs.declared.walk.Walk.{Walk}
 use Rattle.relationships.specs.Relationship.{Orientation, labels_of, is_over, Serves}
 use Rattle.relationships.specs.Evidence.{TripleAt, IsTriple, NeighboursDiffer, Numbered, paths_of, Fits, IsLinked, HasPair, BeginsWith, EndsWith, Refutes, Shows, ShowFrom}
-use Rattle.relationships.specs.Laws.{RefutingLaw, ShowingLaw}
+use Rattle.relationships.specs.Laws.Evidence.{RefutingLaw, ShowingLaw}
 use Rattle.relationships.proofs.Slopes.{over_one_way, over_one_of}
 use Rattle.relationships.proofs.Serving.{serves_satisfies}
 

@@ -2,7 +2,6 @@ pub mod Checking
 pub mod Evidence
 pub mod Fates
 pub mod GivenEvidence
-pub mod GivenLaws
 pub mod Givens
 pub mod Graph
 pub mod Flat

@@ -3,16 +3,15 @@
 #![tactic(auto)]
 
 mod fate;
-mod fates;
+mod flat;
 mod given;
 mod label;
 mod laws;
 mod mark;
 mod walk;
-mod walks;
 
 pub use fate::Fate;
-pub use fates::Fates;
+pub use flat::{Fates, WalkRef, Walks};
 pub use given::Given;
 pub use label::{End, Label};
 pub use laws::{
@@ -27,4 +26,3 @@ pub use laws::{
 };
 pub use mark::{Mark, Probe};
 pub use walk::{Link, Walk};
-pub use walks::{WalkRef, Walks};

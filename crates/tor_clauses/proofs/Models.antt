@@ -5,7 +5,7 @@ use Rattle.relationships.specs.declared.label.End.{End}
 use Rattle.relationships.specs.Evidence.{NeighboursDiffer}
 use Rattle.relationships.specs.Relationship.{Orientation}
 use Rattle.relationships.specs.Graph.{Edge, edges, orientation}
-use Rattle.relationships.specs.Laws.{SatisfiesTriples}
+use Rattle.relationships.specs.Laws.Serving.{SatisfiesTriples}
 use Rattle.relationships.proofs.Serving.{serves_satisfies, satisfies_serves}
 use Rattle.as_graph.specs.Paths.{path_at, paths_at}
 use Rattle.tor_clauses.specs.Literals.{lit_of}

@@ -6,7 +6,7 @@ use Rattle.relationships.specs.declared.walk.Link.{Link}
 use Rattle.relationships.specs.declared.walk.Walk.{Walk}
 use Rattle.relationships.specs.Evidence.{NeighboursDiffer, HasPair, Numbered, paths_of, Refutes, Closure, start, imply}
 use Rattle.relationships.specs.Selection.{IsServable}
-use Rattle.relationships.specs.Laws.{IsRanked, ranked}
+use Rattle.relationships.specs.Laws.Components.{IsRanked, ranked}
 use Rattle.relationships.proofs.WalkLemmas.{triple_apart, refuting_law}
 use Rattle.relationships.proofs.Ranks.{rank_law}
 use Rattle.tor_solve.specs.Laws.{RefutationLaw}

@@ -1,5 +1,0 @@
-use Rattle.relationships.proofs.AgreeingRules
-use Rattle.relationships.proofs.laws.agreeing_rules_law.Goals as goal
-
-pub returns : goal.returns
-returns c = AgreeingRules.agreeing_rules_law

@@ -1,5 +1,0 @@
-use Rattle.relationships.proofs.GivenLemmas
-use Rattle.relationships.proofs.laws.all_givens_law.Goals as goal
-
-pub returns : goal.returns
-returns c = GivenLemmas.all_givens_law

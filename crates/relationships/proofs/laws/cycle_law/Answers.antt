@@ -1,5 +1,0 @@
-use Rattle.relationships.proofs.Ranks
-use Rattle.relationships.proofs.laws.cycle_law.Goals as goal
-
-pub returns : goal.returns
-returns c = Ranks.cycle_law

@@ -1,5 +1,0 @@
-use Rattle.relationships.proofs.Serving
-use Rattle.relationships.proofs.laws.differing_law.Goals as goal
-
-pub returns : goal.returns
-returns c = Serving.differ_if_distinct

@@ -1,5 +1,0 @@
-use Rattle.relationships.proofs.Neighbours
-use Rattle.relationships.proofs.laws.edge_law.Goals as goal
-
-pub returns : goal.returns
-returns c = Neighbours.edge_law

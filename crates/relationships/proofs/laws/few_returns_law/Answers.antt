@@ -1,5 +1,0 @@
-use Rattle.relationships.proofs.FewReturns
-use Rattle.relationships.proofs.laws.few_returns_law.Goals as goal
-
-pub returns : goal.returns
-returns c = FewReturns.few_returns_law

@@ -1,5 +1,0 @@
-use Rattle.relationships.proofs.GivenLemmas
-use Rattle.relationships.proofs.laws.given_closure_law.Goals as goal
-
-pub returns : goal.returns
-returns c = GivenLemmas.given_closure_law

@@ -1,5 +1,0 @@
-use Rattle.relationships.proofs.GivenWalks
-use Rattle.relationships.proofs.laws.given_walks_law.Goals as goal
-
-pub returns : goal.returns
-returns c = GivenWalks.given_walks_law

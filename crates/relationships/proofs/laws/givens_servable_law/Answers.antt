@@ -1,5 +1,0 @@
-use Rattle.relationships.proofs.GivenLemmas
-use Rattle.relationships.proofs.laws.givens_servable_law.Goals as goal
-
-pub returns : goal.returns
-returns c = GivenLemmas.givens_servable_law

@@ -1,5 +1,0 @@
-use Rattle.relationships.proofs.Checked
-use Rattle.relationships.proofs.laws.marking_law.Goals as goal
-
-pub returns : goal.returns
-returns c = Checked.marking_law

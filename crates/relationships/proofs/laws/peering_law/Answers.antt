@@ -1,5 +1,0 @@
-use Rattle.relationships.proofs.Edges
-use Rattle.relationships.proofs.laws.peering_law.Goals as goal
-
-pub returns : goal.returns
-returns c = Edges.peering_law

@@ -1,5 +1,0 @@
-use Rattle.relationships.proofs.WalkLemmas
-use Rattle.relationships.proofs.laws.refuting_law.Goals as goal
-
-pub returns : goal.returns
-returns c = WalkLemmas.refuting_law

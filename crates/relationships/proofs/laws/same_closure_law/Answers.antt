@@ -1,5 +1,0 @@
-use Rattle.relationships.proofs.GivenWalks
-use Rattle.relationships.proofs.laws.same_closure_law.Goals as goal
-
-pub returns : goal.returns
-returns c = GivenWalks.same_closure_law

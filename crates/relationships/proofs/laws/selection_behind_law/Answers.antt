@@ -1,5 +1,0 @@
-use Rattle.relationships.proofs.Selecting
-use Rattle.relationships.proofs.laws.selection_behind_law.Goals as goal
-
-pub returns : goal.returns
-returns c = Selecting.selection_behind_law

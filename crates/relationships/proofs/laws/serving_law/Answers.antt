@@ -1,5 +1,0 @@
-use Rattle.relationships.proofs.Serving
-use Rattle.relationships.proofs.laws.serving_law.Goals as goal
-
-pub returns : goal.returns
-returns c = Serving.serving_law

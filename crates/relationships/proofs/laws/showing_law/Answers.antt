@@ -1,5 +1,0 @@
-use Rattle.relationships.proofs.WalkLemmas
-use Rattle.relationships.proofs.laws.showing_law.Goals as goal
-
-pub returns : goal.returns
-returns c = WalkLemmas.showing_law
