@@ -14,7 +14,7 @@ abbrev labels : List Label
 labels = Label.High ∷ Label.Peer ∷ Label.High ∷ Label.Low ∷ Label.Low ∷ Label.High ∷ Label.Low ∷ []
 
 abbrev marks : List Mark
-marks = Mark.Loose ∷ Mark.Loose ∷ Mark.Forced ∷ Mark.Forced ∷ Mark.Forced ∷ Mark.Loose ∷ Mark.Loose ∷ []
+marks = Mark.Open ∷ Mark.Open ∷ Mark.Forced ∷ Mark.Forced ∷ Mark.Forced ∷ Mark.Open ∷ Mark.Open ∷ []
 
 abbrev claim : ℕ → ℕ → Label → Bool → Claim
 claim low high label forced = record { low = low; high = high; label = label; forced = forced }
@@ -25,7 +25,7 @@ their_claims : claims_of (edges three) labels marks ≡
 their_claims = refl
 
 -- as far as there are marks
-two_claims : claims_of (edges three) labels (Mark.Loose ∷ Mark.Loose ∷ []) ≡ claim 30 40 Label.High false ∷ claim 20 40 Label.Peer false ∷ []
+two_claims : claims_of (edges three) labels (Mark.Open ∷ Mark.Open ∷ []) ≡ claim 30 40 Label.High false ∷ claim 20 40 Label.Peer false ∷ []
 two_claims = refl
 
 abbrev probe : ℕ → ℕ → Probe

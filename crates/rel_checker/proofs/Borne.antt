@@ -8,7 +8,7 @@ use Rattle.relationships.specs.declared.label.Label.TheVariants as label
 use Rattle.relationships.specs.Evidence.{Closure}
 use Rattle.relationships.specs.Checking.{IsBorneOut}
 use Rattle.relationships.specs.declared.mark.Mark.{Mark}
-use Rattle.relationships.specs.declared.mark.Mark.TheVariants.{Forced, Loose}
+use Rattle.relationships.specs.declared.mark.Mark.TheVariants.{Forced, Open}
 use Rattle.result_text.specs.declared.file.EdgeLine.{EdgeLine}
 use Rattle.relationships.specs.declared.mark.Probe.{Probe}
 use Rattle.result_text.specs.declared.file.ResultFile.{ResultFile}
@@ -30,8 +30,8 @@ borne_exactly kept orders probes low high Forced l shown covered s v = (
   λ t. inl (refl, s.0 t),
   λ b. elim b [ inl h ↦ s.1 h.1 | inr h ↦ elim h [ inl f ↦ absurd (false≢true (sym f.0)) | inr f ↦ absurd (false≢true (sym f.0)) ] ],
 )
-borne_exactly kept orders probes low high Loose label.Peer shown covered s v = (λ t. inr (inl (refl, refl)), λ b. refl)
-borne_exactly kept orders probes low high Loose label.Low shown covered s v = (
+borne_exactly kept orders probes low high Open label.Peer shown covered s v = (λ t. inr (inl (refl, refl)), λ b. refl)
+borne_exactly kept orders probes low high Open label.Low shown covered s v = (
   λ t. inr (inr (refl, (high, low, inl (refl, refl, refl), v.0 t))),
   λ b. elim b [
     | inl h ↦ absurd (false≢true h.0)
@@ -44,7 +44,7 @@ borne_exactly kept orders probes low high Loose label.Low shown covered s v = (
     ]
   ],
 )
-borne_exactly kept orders probes low high Loose label.High shown covered s v = (
+borne_exactly kept orders probes low high Open label.High shown covered s v = (
   λ t. inr (inr (refl, (low, high, inr (refl, refl, refl), v.0 t))),
   λ b. elim b [
     | inl h ↦ absurd (false≢true h.0)

@@ -7,7 +7,7 @@ use Rattle.relationships.specs.declared.label.Label.TheVariants as label
 use Rattle.relationships.specs.Evidence.{IsTriple, Closure, IsConsistent}
 use Rattle.relationships.specs.Checking.{Claim, OtherOrder, IsProbe}
 use Rattle.relationships.specs.declared.mark.Mark.{Mark}
-use Rattle.relationships.specs.declared.mark.Mark.TheVariants.{Forced, Loose}
+use Rattle.relationships.specs.declared.mark.Mark.TheVariants.{Forced, Open}
 use Rattle.result_text.specs.declared.file.EdgeLine.{EdgeLine}
 use Rattle.relationships.specs.Marking.{is_forced}
 use Rattle.rel_checker.specs.File.{claim_on}
@@ -42,11 +42,11 @@ module _ {X : Type 0} (P : X → Type 0) where
 
 -- ---- the other order
 
-wanted_label : (mark : Mark) (l : Label) → is_wanted mark l ≡ true → (mark ≡ Loose) × ((l ≡ label.Low) ⊎ (l ≡ label.High))
+wanted_label : (mark : Mark) (l : Label) → is_wanted mark l ≡ true → (mark ≡ Open) × ((l ≡ label.Low) ⊎ (l ≡ label.High))
 wanted_label Forced l h = absurd (false≢true h)
-wanted_label Loose label.Low h = (refl, inl refl)
-wanted_label Loose label.High h = (refl, inr refl)
-wanted_label Loose label.Peer h = absurd (false≢true h)
+wanted_label Open label.Low h = (refl, inl refl)
+wanted_label Open label.High h = (refl, inr refl)
+wanted_label Open label.Peer h = absurd (false≢true h)
 
 -- an edge that is wanted flips to its other order
 pub other_of_flipped : (line : EdgeLine) (x y : ℕ) → is_wanted line.mark line.label ≡ true → flipped line ≡ (x, y) → OtherOrder (claim_on line) x y
@@ -69,14 +69,14 @@ flipped_of_other line x y (inr o) = ap (λ l. flipped_by l line.low line.high) o
     pair : {a b c d : ℕ} → a ≡ c → b ≡ d → ◌≡◌ {A = ℕ × ℕ} (a, b) (c, d)
     pair e f = cc
 
-wanted_loose : (mark : Mark) (l : Label) → is_forced mark ≡ false → (l ≡ label.Low) ⊎ (l ≡ label.High) → is_wanted mark l ≡ true
-wanted_loose Forced l f h = absurd (false≢true (sym f))
-wanted_loose Loose l f (inl e) = ap (is_wanted Loose) e
-wanted_loose Loose l f (inr e) = ap (is_wanted Loose) e
+wanted_open : (mark : Mark) (l : Label) → is_forced mark ≡ false → (l ≡ label.Low) ⊎ (l ≡ label.High) → is_wanted mark l ≡ true
+wanted_open Forced l f h = absurd (false≢true (sym f))
+wanted_open Open l f (inl e) = ap (is_wanted Open) e
+wanted_open Open l f (inr e) = ap (is_wanted Open) e
 
 pub wanted_of_other : (line : EdgeLine) (x y : ℕ) → IsFalse (is_forced line.mark) → OtherOrder (claim_on line) x y → is_wanted line.mark line.label ≡ true
-wanted_of_other line x y f (inl o) = wanted_loose line.mark line.label f (inl o.0)
-wanted_of_other line x y f (inr o) = wanted_loose line.mark line.label f (inr o.0)
+wanted_of_other line x y f (inl o) = wanted_open line.mark line.label f (inl o.0)
+wanted_of_other line x y f (inr o) = wanted_open line.mark line.label f (inr o.0)
 
 -- ---- cover
 

@@ -7,7 +7,7 @@ use Rattle.tor_arena.specs.Limits.{most_places}
 use Rattle.relationships.specs.Evidence.{Closure, IsConsistent}
 use Rattle.relationships.specs.Checking.{Claim, OtherOrder}
 use Rattle.relationships.specs.declared.mark.Mark.{Mark}
-use Rattle.relationships.specs.declared.mark.Mark.TheVariants.{Forced, Loose}
+use Rattle.relationships.specs.declared.mark.Mark.TheVariants.{Forced, Open}
 use Rattle.result_text.specs.declared.file.EdgeLine.{EdgeLine}
 use Rattle.result_text.specs.declared.file.ResultFile.{ResultFile}
 use Rattle.rel_checker.specs.File.{claim_on, its_claims, its_probes}
@@ -18,9 +18,9 @@ use Rattle.rel_checker.specs.Flipping.{FlipsTo, IsFlipped, edges_of, flipped_ord
 -- the edge is open, and no peering
 abbrev pub is_wanted : Mark → Label → Bool
 is_wanted Forced l = false
-is_wanted Loose label.Low = true
-is_wanted Loose label.High = true
-is_wanted Loose label.Peer = false
+is_wanted Open label.Low = true
+is_wanted Open label.High = true
+is_wanted Open label.Peer = false
 
 -- edge k is such an edge
 abbrev pub IsWantedAt : List EdgeLine → ℕ → Type 0
@@ -84,9 +84,9 @@ IsShownBy lines orders shown = (k : ℕ) → ForSome lines k (λ line. (slice_ge
 -- whether the mark of an edge is borne out, by whether an order of it is shown, and whether it is covered
 abbrev pub is_borne : Mark → Label → Bool → Bool → Bool
 is_borne Forced l shown covered = shown
-is_borne Loose label.Peer shown covered = true
-is_borne Loose label.Low shown covered = covered
-is_borne Loose label.High shown covered = covered
+is_borne Open label.Peer shown covered = true
+is_borne Open label.Low shown covered = covered
+is_borne Open label.High shown covered = covered
 
 -- what is known of the file, of the table of its edges, and of the rows: which edges each edge implies, and with which it conflicts
 pub record IsLaidOut (file : ResultFile) (table : List Edge) (implied conflicting : List (List ℕ)) : Type 0 where

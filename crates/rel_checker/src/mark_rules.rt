@@ -28,8 +28,8 @@ fn is_borne_out(line: &EdgeLine, shown: bool, covered: bool) -> bool
 {
     match (line.mark, line.label) {
         (Mark::Forced, _) => shown,
-        (Mark::Loose, Label::Peer) => true,
-        (Mark::Loose, _) => covered,
+        (Mark::Open, Label::Peer) => true,
+        (Mark::Open, _) => covered,
     }
 }
 

@@ -48,8 +48,8 @@ fn is_open(line: &EdgeLine) -> bool
     ensures { result ≡ is_wanted line.now.mark line.now.label }
 {
     match (line.mark, line.label) {
-        (Mark::Loose, Label::Low) => true,
-        (Mark::Loose, Label::High) => true,
+        (Mark::Open, Label::Low) => true,
+        (Mark::Open, Label::High) => true,
         _ => false,
     }
 }

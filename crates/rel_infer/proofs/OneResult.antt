@@ -240,15 +240,15 @@ labels_by lines = claimed_labels (map claim_on lines)
 
 same_mark : (m m' : Mark) (P : Type 0) → IsTrue (is_forced m) ↔ P → IsTrue (is_forced m') ↔ P → m ≡ m'
 same_mark Mark.Forced Mark.Forced P h k = refl
-same_mark Mark.Loose Mark.Loose P h k = refl
-same_mark Mark.Forced Mark.Loose P h k = absurd (not_loose (k.1 (h.0 refl)))
+same_mark Mark.Open Mark.Open P h k = refl
+same_mark Mark.Forced Mark.Open P h k = absurd (not_open (k.1 (h.0 refl)))
   where
-    not_loose : false ≡ true → ⊥
-    not_loose e = cc
-same_mark Mark.Loose Mark.Forced P h k = absurd (not_loose (h.1 (k.0 refl)))
+    not_open : false ≡ true → ⊥
+    not_open e = cc
+same_mark Mark.Open Mark.Forced P h k = absurd (not_open (h.1 (k.0 refl)))
   where
-    not_loose : false ≡ true → ⊥
-    not_loose e = cc
+    not_open : false ≡ true → ⊥
+    not_open e = cc
 
 same_line : (a b : EdgeLine) → pair_of a ≡ pair_of b → a.label ≡ b.label → a.mark ≡ b.mark → a.support ≡ b.support → a ≡ b
 same_line a b pair label mark support =

@@ -94,16 +94,16 @@ forced_law L kept low high valley_free forced e =
 
 module _ (L : Labelling) (kept : List (List ℕ)) (distinct : All NeighboursDiffer kept) (valley_free : All (ValleyFree L) kept) where
   -- an edge whose other order stands in a consistent closure is not forced
-  other_loose : (c : Claim) → c.low < c.high → L c.low c.high ≡ c.label → (over under a b : ℕ) → OtherOrder c over under →
+  other_open : (c : Claim) → c.low < c.high → L c.low c.high ≡ c.label → (over under a b : ℕ) → OtherOrder c over under →
       IsConsistent kept a b → Closure kept a b over under → IsForced kept c.low c.high → ⊥
-  other_loose c lt e over under a b (inl o) consistent reached forced =
+  other_open c lt e over under a b (inl o) consistent reached forced =
       allowed_law (reading End.Low L) kept a b distinct consistent (reading_serves End.Low L kept valley_free) over under reached
       (λ O' serves.
       let same = forced O' (reading End.Low L) serves (reading_serves End.Low L kept valley_free) in
       let is : O' c.low c.high ≡ End.Low = same ∙ ap (read End.Low) (e ∙ o.0) in
       let h = over-low (labels_of O') c.low c.high lt (ap (λ v. is_low (label_of v)) is) in
       subst (λ w. is_over (labels_of O') w over ≡ true) (sym o.2) (subst (λ w. is_over (labels_of O') c.low w ≡ true) (sym o.1) h))
-  other_loose c lt e over under a b (inr o) consistent reached forced =
+  other_open c lt e over under a b (inr o) consistent reached forced =
       allowed_law (reading End.Low L) kept a b distinct consistent (reading_serves End.Low L kept valley_free) over under reached
       (λ O' serves.
       let same = forced O' (reading End.Low L) serves (reading_serves End.Low L kept valley_free) in
@@ -115,7 +115,7 @@ pub marking_law : MarkingLaw
 marking_law L kept claims walks probes distinct valley_free holds c claimed lt e =
     elim (All-contains (IsBorneOut (paths_of kept) holds.orders probes) claims c holds.marks claimed) [
       | inl shown ↦ (λ _ O O' serves serves'. both_agree shown.1 O O' serves serves', λ _. shown.0)
-      | inr loose ↦ elim loose [
+      | inr unforced ↦ elim unforced [
         | inl peer ↦ (λ t. absurd (both_ways c.forced peer.0 t), λ f. absurd (forced_law L (paths_of kept) c.low c.high valley_free f (e ∙ peer.1)))
         | inr other ↦ (λ t. absurd (both_ways c.forced other.0 t), λ f. absurd (by_probe other.1 f))
       ]
@@ -133,7 +133,7 @@ marking_law L kept claims walks probes distinct valley_free holds c claimed lt e
     by_probe : ((over under : ℕ) × OtherOrder c over under × Any (λ p. Closure (paths_of kept) p.0 p.1 over under) probes) → IsForced (paths_of kept) c.low c.high → ⊥
     by_probe (over, under, other, (k, p, within, is, reached)) forced =
         let consistent = All-contains (λ p. IsConsistent (paths_of kept) p.0 p.1) probes p (consistent_each (paths_of kept) claims [] probes holds.probes_serve) (k, within, is) in
-        other_loose L (paths_of kept) distinct valley_free c lt e over under p.0 p.1 other consistent reached forced
+        other_open L (paths_of kept) distinct valley_free c lt e over under p.0 p.1 other consistent reached forced
 
 -- ---- all rules together
 

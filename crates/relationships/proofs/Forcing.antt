@@ -1,4 +1,4 @@
--- Which edges are forced: the implied law, the loose law and the unheld law.
+-- Which edges are forced: the implied law, the open law and the unheld law.
 use Rattle.std.proofs.Common.{◌≡◌, ℕ, inl, inr, true, List, get_or, refl, ap, ◌∙◌, subst, All, Contains, eq-eqb}
 use Rattle.std.proofs.lemmas.Bool.{cases_Bool}
 use Rattle.std.proofs.lemmas.List.Elements.{All-from_get_or, Contains-get_or}
@@ -8,7 +8,7 @@ use Rattle.relationships.specs.Relationship.{Orientation, label_of, labels_of, i
 use Rattle.relationships.specs.Graph.{Edge, is_same, edges, SameOn}
 use Rattle.relationships.specs.Evidence.{NeighboursDiffer, Closure, start, imply}
 use Rattle.relationships.specs.Laws.Serving.{SatisfiesTriples}
-use Rattle.relationships.specs.Laws.Evidence.{ImpliedLaw, LooseLaw, UnheldLaw}
+use Rattle.relationships.specs.Laws.Evidence.{ImpliedLaw, OpenLaw, UnheldLaw}
 use Rattle.relationships.proofs.Slopes.{over_one_of, over-low, over-high}
 use Rattle.relationships.proofs.Edges.{same_edge, reading_law}
 use Rattle.relationships.proofs.Serving.{serves_satisfies}
@@ -35,8 +35,8 @@ not_ruled_out : (O : Orientation) (paths : List (List ℕ)) (a b : ℕ) → All 
 not_ruled_out O paths a b distinct serves not_back ruled_out =
     allowed_law O paths a b distinct (consistency_law paths a b not_back) serves a b start ruled_out
 
-pub loose_law : LooseLaw
-loose_law paths low high distinct servable lt not_high not_low forced = by_end (servable.0 low high) refl
+pub open_law : OpenLaw
+open_law paths low high distinct servable lt not_high not_low forced = by_end (servable.0 low high) refl
   where
     by_end : (e : End) → servable.0 low high ≡ e → ⊥
     by_end End.Low is =

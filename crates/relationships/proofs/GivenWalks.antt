@@ -468,8 +468,8 @@ module _ (givens : List Given) (paths some : List (List ℕ)) (among : (e : Edge
   borne_far : (orders probes : List (ℕ × ℕ)) (c : Claim) → IsBorneOut near orders probes c → IsBorneOut far orders probes c
   borne_far orders probes c (inl shown) = inl shown
   borne_far orders probes c (inr (inl peer)) = inr (inl peer)
-  borne_far orders probes c (inr (inr (loose, (over, under, other, (k, p, within, is, reached))))) =
-      inr (inr (loose, (over, under, other, (k, p, within, is, near_far p.0 p.1 over under reached))))
+  borne_far orders probes c (inr (inr (unforced, (over, under, other, (k, p, within, is, reached))))) =
+      inr (inr (unforced, (over, under, other, (k, p, within, is, near_far p.0 p.1 over under reached))))
 
   none_far : (earlier : List (ℕ × ℕ)) (over under : ℕ) → AllByRecursion OnEdge earlier → AllByRecursion (λ (q : ℕ × ℕ). Closure near q.0 q.1 over under → ⊥) earlier →
       AllByRecursion (λ (q : ℕ × ℕ). Closure far q.0 q.1 over under → ⊥) earlier

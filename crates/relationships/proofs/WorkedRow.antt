@@ -339,8 +339,8 @@ forced_10_20 =
     (marking_law labels kept_numbered claims whys probes all_distinct valley_free marks_hold
     (record { low = 10; high = 20; label = Label.High; forced = true }) (2, lit< tt, refl) (lit< tt) refl).0 refl
 
-loose_30_40 : IsForced kept 30 40 → ⊥
-loose_30_40 f =
+open_30_40 : IsForced kept 30 40 → ⊥
+open_30_40 f =
     false≢true ((marking_law labels kept_numbered claims whys probes all_distinct valley_free marks_hold
     (record { low = 30; high = 40; label = Label.High; forced = false }) (0, lit< tt, refl) (lit< tt) refl).1 f)
 

@@ -8,7 +8,7 @@ use Rattle.relationships.specs.Checking.{Claim}
 
 abbrev pub is_forced : Mark → Bool
 is_forced Mark.Forced = true
-is_forced Mark.Loose = false
+is_forced Mark.Open = false
 
 -- what is said of an edge with this label and this mark
 abbrev pub claim_of : Edge → Label → Mark → Claim

@@ -4,7 +4,7 @@ pub enum Mark {
     /// All orientations that serve the kept paths give the edge the same provider.
     Forced,
     /// They do not, so the edge is open.
-    Loose,
+    Open,
 }
 
 /// An order of two neighbours whose closure is consistent, so that no order in it is ruled out.

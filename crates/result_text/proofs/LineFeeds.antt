@@ -91,7 +91,7 @@ feedless_label label.Peer = refl
 
 feedless_mark : (m : Mark) → feedless (mark_name m) ≡ true
 feedless_mark mark.Forced = refl
-feedless_mark mark.Loose = refl
+feedless_mark mark.Open = refl
 
 path_feedless : (times : ℕ) (path : List ℕ) (f : Fate) → IsU64 times → AreU32 path → FateFits f → AllByRecursion (λ p. feedless p ≡ true) (path_fields times path f)
 path_feedless times path fate.Kept t p h = (refl, (feedless_decimal times t, (feedless_numbers path p, tt)))

@@ -112,12 +112,12 @@ label_reads = record { takes = λ bytes x e. (tt, label_takes bytes x e); again 
 
 mark_takes : (bytes : List ℕ) (x : Mark × List ℕ) → mark_at bytes ≡ Some x → bytes ≡ with mark_name 124 x.0 ++ x.1
 unfolding mark_at
-mark_takes bytes x e = names_take (with mark_name 124) ((codes "forced|", mark.Forced) ∷ (codes "open|", mark.Loose) ∷ []) bytes x (refl, (refl, tt)) e
+mark_takes bytes x e = names_take (with mark_name 124) ((codes "forced|", mark.Forced) ∷ (codes "open|", mark.Open) ∷ []) bytes x (refl, (refl, tt)) e
 
 mark_again : (x : Mark) (rest : List ℕ) → mark_at (with mark_name 124 x ++ rest) ≡ Some (x, rest)
 unfolding mark_at
 mark_again mark.Forced rest = refl
-mark_again mark.Loose rest = refl
+mark_again mark.Open rest = refl
 
 mark_reads : Reads Mark Any (with mark_name 124) mark_at
 mark_reads = record { takes = λ bytes x e. (tt, mark_takes bytes x e); again = λ x rest fits. mark_again x rest }

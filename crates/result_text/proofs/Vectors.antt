@@ -38,7 +38,7 @@ kept path = record { times = 1; path = path; fate = fate.Kept }
 -- one edge
 one_edge_text : text (record empty {
   paths = kept (10 ∷ 20 ∷ []) ∷ [];
-  edges = record { low = 10; high = 20; label = label.Peer; mark = mark.Loose; support = 1 } ∷ [];
+  edges = record { low = 10; high = 20; label = label.Peer; mark = mark.Open; support = 1 } ∷ [];
   totals = totals 1 0 1 0 1;
 }) ≡ head ++ codes "kept|1|10 20\nedge|10|20|peer|open|1\nend|1|0|1|0|1\n"
 unfolding line_text digits
@@ -47,7 +47,7 @@ one_edge_text = refl
 -- there and back
 there_and_back_text : text (record empty {
   paths = kept (10 ∷ 20 ∷ 30 ∷ []) ∷ kept (30 ∷ 20 ∷ 10 ∷ []) ∷ [];
-  edges = record { low = 10; high = 20; label = label.Peer; mark = mark.Loose; support = 2 } ∷ record { low = 20; high = 30; label = label.Low; mark = mark.Loose; support = 2 } ∷ [];
+  edges = record { low = 10; high = 20; label = label.Peer; mark = mark.Open; support = 2 } ∷ record { low = 20; high = 30; label = label.Low; mark = mark.Open; support = 2 } ∷ [];
   probes = record { over = 30; under = 20 } ∷ [];
   totals = totals 2 0 2 0 1;
 })
@@ -92,7 +92,7 @@ three_of_three : first_lines 3 (codes "a\nbc\nd") ≡ None
 three_of_three = refl
 
 abbrev edge : EdgeLine
-edge = record { low = 10; high = 20; label = label.Peer; mark = mark.Loose; support = 1 }
+edge = record { low = 10; high = 20; label = label.Peer; mark = mark.Open; support = 1 }
 
 -- a result of three paths, seven edges, three walks and two open lines has 26 lines
 abbrev of_three : ResultFile

@@ -87,7 +87,7 @@ unfoldable pub label_at : List ℕ → Option (Label × List ℕ)
 label_at bytes = name_at ((codes "low|", label.Low) ∷ (codes "high|", label.High) ∷ (codes "peer|", label.Peer) ∷ []) bytes
 
 unfoldable pub mark_at : List ℕ → Option (Mark × List ℕ)
-mark_at bytes = name_at ((codes "forced|", mark.Forced) ∷ (codes "open|", mark.Loose) ∷ []) bytes
+mark_at bytes = name_at ((codes "forced|", mark.Forced) ∷ (codes "open|", mark.Open) ∷ []) bytes
 
 -- ---- lines, behind their first word
 

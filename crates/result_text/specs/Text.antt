@@ -60,7 +60,7 @@ label_name label.Peer = codes "peer"
 
 abbrev pub mark_name : Mark → List ℕ
 mark_name mark.Forced = codes "forced"
-mark_name mark.Loose = codes "open"
+mark_name mark.Open = codes "open"
 
 -- ---- lines
 

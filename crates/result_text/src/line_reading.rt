@@ -75,7 +75,7 @@ fn mark_of(bytes: &[u8]) -> Result<(Mark, &[u8]), LineError>
     if let Some(rest) = after(b"forced|", bytes) {
         Ok((Mark::Forced, rest))
     } else if let Some(rest) = after(b"open|", bytes) {
-        Ok((Mark::Loose, rest))
+        Ok((Mark::Open, rest))
     } else {
         Err(LineError::Bad)
     }

@@ -158,7 +158,7 @@ fn put_mark(out: &mut List<u8>, mark: Mark) -> Result<(), NoMemory>
 {
     match mark {
         Mark::Forced => out.extend_from_slice(b"forced"),
-        Mark::Loose => out.extend_from_slice(b"open"),
+        Mark::Open => out.extend_from_slice(b"open"),
     }
 }
 

@@ -19,13 +19,13 @@ struct Case {
 }
 
 const MARKS_OF_TWO: &[Mark] = &[
-    Mark::Loose,
-    Mark::Loose,
+    Mark::Open,
+    Mark::Open,
     Mark::Forced,
     Mark::Forced,
     Mark::Forced,
-    Mark::Loose,
-    Mark::Loose,
+    Mark::Open,
+    Mark::Open,
 ];
 
 const PROBES_OF_TWO: &[Probe] = &[
@@ -83,7 +83,7 @@ static OF_ONE_PATH: [Case; 2] = [
     Case {
         kept: 1,
         labels: &[Label::Peer],
-        marks: &[Mark::Loose],
+        marks: &[Mark::Open],
         whys: 0,
         probes: &[],
     },
@@ -91,7 +91,7 @@ static OF_ONE_PATH: [Case; 2] = [
     Case {
         kept: 0,
         labels: &[Label::Low],
-        marks: &[Mark::Loose],
+        marks: &[Mark::Open],
         whys: 0,
         probes: &[Probe {
             over: 20,

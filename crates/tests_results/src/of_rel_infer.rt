@@ -35,13 +35,13 @@ fn three_paths_have_a_result(rt: HostRuntime) {
     };
     assert_eq!(rt; file.totals, totals);
     let edges: [EdgeLine; 7] = [
-        edge(30, 40, Label::High, Mark::Loose, 2),
-        edge(20, 40, Label::Peer, Mark::Loose, 1),
+        edge(30, 40, Label::High, Mark::Open, 2),
+        edge(20, 40, Label::Peer, Mark::Open, 1),
         edge(10, 20, Label::High, Mark::Forced, 2),
         edge(10, 50, Label::Low, Mark::Forced, 1),
         edge(50, 60, Label::Low, Mark::Forced, 1),
-        edge(20, 30, Label::High, Mark::Loose, 1),
-        edge(10, 60, Label::Low, Mark::Loose, 0),
+        edge(20, 30, Label::High, Mark::Open, 1),
+        edge(10, 60, Label::Low, Mark::Open, 0),
     ];
     assert_eq!(rt; file.edges.as_slice(), edges.as_slice());
 }

@@ -332,14 +332,14 @@ const EDGES: [EdgeLine; 7] = [
         low: 30,
         high: 40,
         label: Label::High,
-        mark: Mark::Loose,
+        mark: Mark::Open,
         support: 2,
     },
     EdgeLine {
         low: 20,
         high: 40,
         label: Label::Peer,
-        mark: Mark::Loose,
+        mark: Mark::Open,
         support: 1,
     },
     EdgeLine {
@@ -367,14 +367,14 @@ const EDGES: [EdgeLine; 7] = [
         low: 20,
         high: 30,
         label: Label::High,
-        mark: Mark::Loose,
+        mark: Mark::Open,
         support: 1,
     },
     EdgeLine {
         low: 10,
         high: 60,
         label: Label::Low,
-        mark: Mark::Loose,
+        mark: Mark::Open,
         support: 0,
     },
 ];

@@ -46,8 +46,8 @@ ImpliedLaw =
     IsTrue (is_over (labels_of O) a b)
 
 -- where some orientation serves, an edge is not forced if neither order stands in the closure of the other
-abbrev pub LooseLaw : Type 0
-LooseLaw =
+abbrev pub OpenLaw : Type 0
+OpenLaw =
     (paths : List (List ℕ)) (low high : ℕ) → All NeighboursDiffer paths → IsServable paths → low < high →
     (Closure paths low high high low → ⊥) → (Closure paths high low low high → ⊥) → IsForced paths low high → ⊥
 

@@ -1,6 +1,6 @@
 //! What walks and closures show of the orientations that serve.
 
-ghost use Rattle.relationships.specs.Laws.Evidence.{RefutingLaw, ShowingLaw, ClosureLaw, AllowedLaw, ConsistencyLaw, ImpliedLaw, LooseLaw, UnheldLaw};
+ghost use Rattle.relationships.specs.Laws.Evidence.{RefutingLaw, ShowingLaw, ClosureLaw, AllowedLaw, ConsistencyLaw, ImpliedLaw, OpenLaw, UnheldLaw};
 
 /// A walk that refutes leaves no orientation that serves.
 pub fn refuting_law()
@@ -34,8 +34,8 @@ pub fn implied_law()
 
 /// Where some orientation serves, an edge is not forced if neither of its orders is in the closure
 /// of the other.
-pub fn loose_law()
-    ensures { LooseLaw }
+pub fn open_law()
+    ensures { OpenLaw }
 {}
 
 /// Where some orientation serves, an edge that no path holds is not forced.

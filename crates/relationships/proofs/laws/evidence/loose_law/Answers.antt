@@ -1,5 +1,5 @@
 use Rattle.relationships.proofs.Forcing
-use Rattle.relationships.proofs.laws.evidence.loose_law.Goals as goal
+use Rattle.relationships.proofs.laws.evidence.open_law.Goals as goal
 
 pub returns : goal.returns
-returns c = Forcing.loose_law
+returns c = Forcing.open_law
