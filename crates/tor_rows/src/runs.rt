@@ -2,10 +2,13 @@
 use crate::conditions::Conditions;
 use crate::endless::Endless;
 use crate::files::Files;
+use run_base::Status;
 use std::alloc::Global;
-use tor_app::{Name, Status, check, infer};
 use tor_arena::{Keys, List, NoMemory};
 use tor_io::{MemShelf, MemSink, Shelf};
+use tor_run::infer;
+use tor_words::Name;
+use torcheck_run::check;
 
 /// What is run, and with which words.
 #[derive(Clone, Copy)]

@@ -1,11 +1,13 @@
 // Says whether a result meets the rules, and agrees with dumps: `torcheck RESULT [DUMP ..]`.
 #![tactic(auto)]
 
+use run_base::{Status, code_of_failure};
 use std::env;
 use std::process::ExitCode;
-use tor_app::{Status, check, code_of_failure, words_of};
 use tor_arena::Keys;
 use tor_io::{FileShelf, StdSink};
+use tor_words::words_of;
+use torcheck_run::check;
 
 fn main(rt: HostRuntime) -> ExitCode {
     let args = match env::args(&rt) {

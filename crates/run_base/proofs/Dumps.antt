@@ -1,0 +1,92 @@
+-- Dumps that are read one after the other.
+use Rattle.std.proofs.Common.{◌≡◌, ℕ, zero, suc, ◌+◌, ◌-◌, ◌<◌, List, [], ◌∷◌, ◌++◌, length, take, drop, get_or, Option, Some, None, Result, Ok, Err, refl, sym, ap, ap₂, subst, ◌∙◌, arith}
+use Rattle.std.specs.Prelude.{IfSome, IsOk}
+use Rattle.std.proofs.lemmas.List.{take_more, length-take}
+use Rattle.path_attrs.specs.Fields.{◌>>=◌}
+use Rattle.path_clean.specs.declared.cleaned.Sets.{Sets}
+use Rattle.tor_io.specs.Contents.{Files, LacksFile}
+use Rattle.dump_read.specs.declared.error.DumpError.{DumpError}
+use Rattle.dump_read.specs.declared.taking.Taken.{Taken}
+use Rattle.dump_read.specs.Seen.{End, Absent, of_file, end_named}
+use Rattle.run_base.specs.Reading.{seen_from}
+
+-- the first dumps, and then the others
+seen_from-append : (sets : Sets) (d : ℕ) (old mid : Taken) (prefix rest : List (List ℕ)) (files : Files) → seen_from sets d old prefix files ≡ Ok mid
+    → seen_from sets d old (prefix ++ rest) files ≡ seen_from sets (d + length prefix) mid rest files
+seen_from-append sets d old mid [] rest files is =
+    ap₂ (λ n t. seen_from sets n t rest files) (omega arith) (same old mid is)
+  where
+    same : (x y : Taken) → ◌≡◌ {A = Result Taken End} (Ok x) (Ok y) → x ≡ y
+    same x y e = cc
+seen_from-append sets d old mid (name ∷ prefix) rest files is =
+    by (of_file sets d old (files name)) is (λ further h. seen_from-append sets (d + 1) further mid prefix rest files h)
+    ∙ ap (λ n. seen_from sets n mid rest files) (omega arith)
+  where
+    by : (one : Result Taken End) → (one >>= λ further. seen_from sets (d + 1) further prefix files) ≡ Ok mid
+        → ((further : Taken) → seen_from sets (d + 1) further prefix files ≡ Ok mid → seen_from sets (d + 1) further (prefix ++ rest) files ≡ seen_from sets (d + 1 + length prefix) mid rest files)
+        → (one >>= λ further. seen_from sets (d + 1) further (prefix ++ rest) files) ≡ seen_from sets (d + 1 + length prefix) mid rest files
+    by (Ok further) h ih = ih further h
+    by (Err end) h ih = absurd cc
+
+-- the dumps before one, that one, and those behind it
+parts_at : (names : List (List ℕ)) (i : ℕ) (name : List ℕ) → i < length names → name ≡ get_or names i name → names ≡ take i names ++ name ∷ drop (suc i) names
+parts_at [] i name lt is = absurd (omega arith)
+parts_at (x ∷ xs) zero name lt is = ap (λ (y : List ℕ). y ∷ xs) (sym is)
+parts_at (x ∷ xs) (suc i) name lt is = ap (λ (t : List (List ℕ)). x ∷ t) (parts_at xs i name (omega arith) is)
+
+length_of : (names : List (List ℕ)) (i : ℕ) → i < length names → length (take i names) ≡ i
+length_of names i lt = omega (arith, length-take i names)
+
+one_dump : (sets : Sets) (d : ℕ) (mid new : Taken) (name : List ℕ) (files : Files) → of_file sets d mid (files name) ≡ Ok new → seen_from sets d mid (name ∷ []) files ≡ Ok new
+one_dump sets d mid new name files is = rw is refl
+
+no_further : (sets : Sets) (d : ℕ) (mid : Taken) (name : List ℕ) (rest : List (List ℕ)) (files : Files) (end : End) →
+    of_file sets d mid (files name) ≡ Err end → seen_from sets d mid (name ∷ rest) files ≡ Err end
+no_further sets d mid name rest files end is = rw is refl
+
+pub one_more : (sets : Sets) (old mid new : Taken) (known : Option Files) (names : List (List ℕ)) (i : ℕ) (name : List ℕ) → i < length names → name ≡ get_or names i name
+    → IfSome known (λ files. seen_from sets 1 old (take i names) files ≡ Ok mid) → IfSome known (λ files. of_file sets (i + 1) mid (files name) ≡ Ok new)
+    → IfSome known (λ files. seen_from sets 1 old (take (i + 1) names) files ≡ Ok new)
+one_more sets old mid new None names i name lt is before one = tt
+one_more sets old mid new (Some files) names i name lt is before one =
+    ap (λ (t : List (List ℕ)). seen_from sets 1 old t files) (take_more names i name lt ∙ ap (λ (x : List ℕ). take i names ++ x ∷ []) (sym is))
+    ∙ seen_from-append sets 1 old mid (take i names) (name ∷ []) files before
+    ∙ ap (λ n. seen_from sets n mid (name ∷ []) files) (omega (arith, length_of names i lt))
+    ∙ one_dump sets (i + 1) mid new name files one
+
+-- where the reading of a dump stops, that of all of them does
+stops_at : (sets : Sets) (old mid : Taken) (names : List (List ℕ)) (i : ℕ) (name : List ℕ) (files : Files) (end : End) → i < length names → name ≡ get_or names i name
+    → seen_from sets 1 old (take i names) files ≡ Ok mid → of_file sets (i + 1) mid (files name) ≡ Err end → seen_from sets 1 old names files ≡ Err end
+stops_at sets old mid names i name files end lt is before one =
+    ap (λ (t : List (List ℕ)). seen_from sets 1 old t files) (parts_at names i name lt is)
+    ∙ seen_from-append sets 1 old mid (take i names) (name ∷ drop (suc i) names) files before
+    ∙ ap (λ n. seen_from sets n mid (name ∷ drop (suc i) names) files) (omega (arith, length_of names i lt))
+    ∙ no_further sets (i + 1) mid name (drop (suc i) names) files end one
+
+pub stops : (sets : Sets) (old mid : Taken) (known : Option Files) (names : List (List ℕ)) (i : ℕ) (name : List ℕ) (e : DumpError) → i < length names → name ≡ get_or names i name
+    → IfSome known (λ files. seen_from sets 1 old (take i names) files ≡ Ok mid)
+    → IfSome (end_named (i + 1) e) (λ end. IfSome known (λ files. of_file sets (i + 1) mid (files name) ≡ Err end))
+    → IfSome (end_named (i + 1) e) (λ end. IfSome known (λ files. seen_from sets 1 old names files ≡ Err end))
+stops sets old mid known names i name e lt is before one = by known (end_named (i + 1) e) before one
+  where
+    by : (t : Option Files) (o : Option End) → IfSome t (λ files. seen_from sets 1 old (take i names) files ≡ Ok mid)
+        → IfSome o (λ end. IfSome t (λ files. of_file sets (i + 1) mid (files name) ≡ Err end)) → IfSome o (λ end. IfSome t (λ files. seen_from sets 1 old names files ≡ Err end))
+    by t None b h = tt
+    by None (Some end) b h = tt
+    by (Some files) (Some end) b h = stops_at sets old mid names i name files end lt is b h
+
+-- the dumps before it were read
+pub read_before : (sets : Sets) (old mid : Taken) (known : Option Files) (names : List (List ℕ)) (i : ℕ) → IfSome known (λ files. seen_from sets 1 old (take i names) files ≡ Ok mid)
+    → IfSome known (λ files. IsOk (seen_from sets 1 old (take ((i + 1) - 1) names) files))
+read_before sets old mid None names i before = tt
+read_before sets old mid (Some files) names i before =
+    let same : (i + 1) - 1 ≡ i = omega arith in
+    subst (λ n. IsOk (seen_from sets 1 old (take n names) files)) (sym same) (subst (λ r. IsOk r) (sym before) refl)
+
+-- a dump that isn't there
+pub absent : (sets : Sets) (old mid : Taken) (known : Option Files) (names : List (List ℕ)) (i : ℕ) (name : List ℕ) → i < length names → name ≡ get_or names i name
+    → IfSome known (λ files. seen_from sets 1 old (take i names) files ≡ Ok mid) → LacksFile known name
+    → IfSome known (λ files. seen_from sets 1 old names files ≡ Err (Absent (i + 1)))
+absent sets old mid None names i name lt is before lacks = tt
+absent sets old mid (Some files) names i name lt is before lacks =
+    stops_at sets old mid names i name files (Absent (i + 1)) lt is before (ap (of_file sets (i + 1) mid) lacks)

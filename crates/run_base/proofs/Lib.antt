@@ -1,0 +1,4 @@
+pub mod Dumps
+pub mod Gathered
+pub mod Notings
+pub mod Prefixes

@@ -1,0 +1,24 @@
+-- A sink that gained a text or a prefix of it.
+use Rattle.std.proofs.Common.{◌≡◌, ℕ, List, length, Option, Some, None, Result, Ok, Err, sym, ap, ◌∙◌, arith}
+use Rattle.std.specs.Prelude.{OnOk, OnErr, IfSome}
+use Rattle.std.specs.Io.KnownBytes.{append_known}
+use Rattle.std.proofs.Math.Seq.{take-length}
+use Rattle.tor_io.specs.Counts.{HasCause, IsQuiet}
+use Rattle.tor_io.specs.Contents.{Files, GainsPrefix}
+use Rattle.run_base.specs.Answers.{IsNoted}
+
+pub either_way : {T E : Type 0} (r : Result T E) (old new : Option (List ℕ)) (text : List ℕ) → OnOk r (new ≡ append_known old text) → OnErr r (GainsPrefix old new text) → GainsPrefix old new text
+either_way (Ok x) old new text all part = (length text, omega arith, all ∙ ap (append_known old) (sym (take-length text)))
+either_way (Err e) old new text all part = part
+
+-- a sink whose count of faults didn't rise gained the whole text
+pub all_if_quiet : {T E : Type 0} (r : Result T E) (before now : ℕ) (old new : Option (List ℕ)) (text : List ℕ) → HasCause before now r → OnOk r (new ≡ append_known old text)
+    → IsQuiet before now → new ≡ append_known old text
+all_if_quiet (Ok x) before now old new text cause all quiet = all
+all_if_quiet (Err e) before now old new text cause all quiet = absurd (omega (arith, cause.failed, quiet))
+
+-- a note that was written whole, or of which a prefix was, where the files are known
+pub noted_if : (known : Option Files) (Such : Files → List ℕ → Type 0) (text : List ℕ) (before now : ℕ) (old new : Option (List ℕ)) → IfSome known (λ files. Such files text) →
+    (IsQuiet before now → new ≡ append_known old text) → GainsPrefix old new text → IfSome known (λ files. IsNoted (Such files) before now old new)
+noted_if None Such text before now old new such whole prefix = tt
+noted_if (Some files) Such text before now old new such whole prefix = record { text = text; is_note = such; whole = whole; prefix = prefix }

@@ -1,0 +1,18 @@
+-- Dumps that are read one after the other.
+use Rattle.std.specs.Prelude.{ℕ, ◌+◌, List, [], ◌∷◌, Result, Ok}
+use Rattle.path_attrs.specs.Fields.{◌>>=◌}
+use Rattle.path_clean.specs.declared.cleaned.Sets.{Sets}
+use Rattle.path_clean.specs.Counts.{no_counts}
+use Rattle.tor_io.specs.Contents.{Files}
+use Rattle.dump_read.specs.declared.taking.Taken.{Taken}
+use Rattle.dump_read.specs.Seen.{End, of_file}
+
+-- the dumps from this number on, read one after the other: all that is taken in, or the first end
+abbrev pub seen_from : Sets → ℕ → Taken → List (List ℕ) → Files → Result Taken End
+seen_from sets dump taken [] files = Ok taken
+seen_from sets dump taken (name ∷ names) files =
+    of_file sets dump taken (files name) >>= λ further. seen_from sets (dump + 1) further names files
+
+-- before the first dump
+abbrev pub nothing : ℕ → Taken
+nothing limit = record { table = record { limit = limit; rows = [] }; counts = no_counts; files = [] }

@@ -1,0 +1,15 @@
+//! What the runs of the programs share: how they end and what they note, the reading of dumps one after the other, and of a file that is
+//! read whole.
+#![tactic(auto)]
+
+mod answer;
+mod notes;
+mod reading;
+mod status;
+mod whole_file;
+
+pub use answer::{Answer, Note, Refusal, answer_to};
+pub use notes::{read_fault_note, result_note};
+pub use reading::{Stopped, nothing_taken, read_dumps};
+pub use status::{Status, code_of_failure};
+pub use whole_file::{Unread, read_whole};

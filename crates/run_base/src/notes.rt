@@ -1,0 +1,81 @@
+//! The notes of what ended a run.
+ghost use Rattle.std.specs.Prelude.{◌≡◌, IfOk, string_bytes};
+ghost use Rattle.run_base.specs.Notes.{rib_word, fault_word, limit_word, malformed_note, limit_note, result_note, read_fault_note};
+
+use dump_read::{Fault, LimitKind, Place};
+use path_attrs::RibFault;
+use std::alloc::{AllocError, Global};
+
+fn rib_word(fault: RibFault) -> &'static str
+    ensures { result.now ≡ rib_word fault }
+{
+    match fault {
+        RibFault::Cut => "cut",
+        RibFault::Tail => "tail",
+        RibFault::PrefixLong => "prefix-long",
+        RibFault::NoPeerTable => "no-peer-table",
+        RibFault::PeerRange => "peer-range",
+        RibFault::AttrCut => "attr-cut",
+    }
+}
+
+fn fault_word(fault: Fault) -> &'static str
+    ensures { result.now ≡ fault_word fault }
+{
+    match fault {
+        Fault::HeadCut => "head-cut",
+        Fault::BodyCut => "body-cut",
+        Fault::Oversize => "oversize",
+        Fault::Rib(fault) => rib_word(fault),
+    }
+}
+
+fn limit_word(kind: LimitKind) -> &'static str
+    ensures { result.now ≡ limit_word kind }
+{
+    match kind {
+        LimitKind::Paths => "paths",
+        LimitKind::Numbers => "numbers",
+        LimitKind::Bytes => "bytes",
+    }
+}
+
+/// The note of a fault in a dump.
+pub(crate) fn malformed_note(
+    alloc: Global,
+    place: Place,
+    fault: Fault,
+) -> Result<String, AllocError>
+    ensures { IfOk result (λ text. string_bytes text ≡ malformed_note place fault) }
+{
+    let dump = place.dump;
+    let number = place.at.number;
+    let offset = place.at.offset;
+    let word = fault_word(fault);
+    let mut text = format!(in alloc; "malformed|{dump}|")?;
+    write!(text, "{number}|{offset}|")?;
+    write!(text, "{word}\n")?;
+    Ok(text)
+}
+
+/// The note of a limit that is met in the dump of this number.
+pub(crate) fn limit_note(alloc: Global, kind: LimitKind, dump: u64) -> Result<String, AllocError>
+    ensures { IfOk result (λ text. string_bytes text ≡ limit_note kind dump) }
+{
+    let word = limit_word(kind);
+    format!(in alloc; "limit|{word}|{dump}\n")
+}
+
+/// The note of a result file that is too long.
+pub fn result_note(alloc: Global) -> Result<String, AllocError>
+    ensures { IfOk result (λ text. string_bytes text ≡ result_note) }
+{
+    String::from_str(alloc, "limit|result|0\n")
+}
+
+/// The note of a failed read of the dump of this number, or at 0 of the result file.
+pub fn read_fault_note(alloc: Global, dump: u64) -> Result<String, AllocError>
+    ensures { IfOk result (λ text. string_bytes text ≡ read_fault_note dump) }
+{
+    format!(in alloc; "read-fault|{dump}\n")
+}

@@ -1,0 +1,74 @@
+//! The reading of dumps, one after the other.
+ghost use Rattle.std.specs.Prelude.{◌≡◌, ◌≢◌, ◌≤◌, ◌-◌, ◌<◌, Ok, Err, OnOk, IfErr, IfSome, IsOk, length, take};
+ghost use Rattle.std.specs.Io.KnownBytes.{IsAtEnd};
+ghost use Rattle.tor_io.specs.Counts.{Rose};
+ghost use Rattle.dump_read.specs.Seen.{Absent, end_named};
+ghost use Rattle.dump_read.specs.Refusals.{IsOfDump};
+ghost use Rattle.path_clean.specs.Limits.{max_paths};
+ghost use Rattle.run_base.specs.Reading.{nothing, seen_from};
+
+use dump_read::{DumpError, Taken, read_dump};
+use path_clean::{Asides, PathTable, Sets};
+use std::alloc::Global;
+use tor_arena::{Keys, List};
+use tor_io::Shelf;
+use tor_words::Name;
+
+/// Where the reading of dumps stopped: the number of the dump, from 1, and why.
+#[derive(Clone, Copy, Debug, PartialEq, Eq)]
+pub struct Stopped {
+    /// The number of the dump, from 1.
+    pub dump: u64,
+    /// Why.
+    pub error: DumpError,
+}
+
+/// Nothing taken in, with room for at most `limit` paths. It takes no memory.
+pub fn nothing_taken(alloc: Global, keys: Keys, limit: u32) -> Taken
+    requires some { 1 ≤ limit }
+    requires most { limit ≤ max_paths }
+    ensures { result ≡ nothing limit }
+{
+    Taken {
+        table: PathTable::new(alloc, keys, limit),
+        counts: Asides::new(),
+        files: List::new(alloc),
+    }
+}
+
+/// Reads the dumps in order, and takes in their routes.
+pub fn read_dumps<H: Shelf>(
+    alloc: Global,
+    shelf: &mut H,
+    dumps: &[Name],
+    sets: Sets,
+    taken: &mut Taken,
+) -> Result<(), Stopped>
+    ensures read { OnOk result (IfSome (H.files shelf.old) (λ files.
+        seen_from sets 1 taken.old dumps.now files ≡ Ok taken.new)) }
+    ensures stopped { IfErr result (λ e. IfSome (end_named e.dump e.error) (λ end. IfSome (H.files shelf.old) (λ files.
+        seen_from sets 1 taken.old dumps.now files ≡ Err end))) }
+    ensures place { IfErr result (λ e. IsOfDump e.dump e.error) }
+    ensures named { IfErr result (λ e. (1 ≤ e.dump) × (e.dump ≤ length dumps.now)) }
+    ensures before { IfErr result (λ e. IfSome (H.files shelf.old) (λ files.
+        IsOk (seen_from sets 1 taken.old (take (e.dump - 1) dumps.now) files))) }
+    ensures read_out { OnOk result (0 < length dumps.now → IsAtEnd (H.left shelf.new)) }
+
+    ensures files { H.files shelf.new ≡ H.files shelf.old }
+    ensures later { H.faults shelf.old ≤ H.faults shelf.new }
+    ensures failed { IfErr result (λ e. e.error ≡ DumpError.ReadFault → Rose (H.faults shelf.old) (H.faults shelf.new)) }
+    ensures quiet { OnOk result (H.faults shelf.new ≡ H.faults shelf.old) }
+    ensures quiet_stop { IfErr result (λ e. e.error ≢ DumpError.ReadFault → H.faults shelf.new ≡ H.faults shelf.old) }
+    ensures steady { H.steady shelf.old → H.steady shelf.new }
+    ensures steady_failed { H.steady shelf.old → IfErr result (λ e. e.error ≡ DumpError.ReadFault →
+        IfSome (H.files shelf.old) (λ files. seen_from sets 1 taken.old dumps.now files ≡ Err (Absent e.dump))) }
+{
+    for (place, name) in dumps.iter().enumerate() {
+        let dump = place as u64 + 1;
+        match read_dump(alloc, shelf, name.as_text(), dump, sets, taken) {
+            Ok(()) => {}
+            Err(error) => return Err(Stopped { dump, error }),
+        }
+    }
+    Ok(())
+}

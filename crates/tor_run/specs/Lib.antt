@@ -1,0 +1,10 @@
+pub mod Agreement
+pub mod Answer
+pub mod Listing
+pub mod Output
+pub mod Refusals
+pub mod Sampling
+pub mod Seen
+pub mod SeenLaw
+pub mod Summary
+pub mod Written

@@ -1,0 +1,82 @@
+-- What a run that is done has written, by its mode.
+use Rattle.std.specs.Prelude.{◌≡◌, ◌++◌, ◌∷◌, [], ℕ, List, Option, Some, Result, Ok}
+use Rattle.std.specs.Io.KnownBytes.{append_known}
+use Rattle.tor_io.specs.Contents.{Files, GainsPrefix}
+use Rattle.dump_read.specs.declared.taking.Taken.{Taken}
+use Rattle.dump_read.specs.Seen.{End}
+use Rattle.result_text.specs.declared.file.ResultFile.{ResultFile}
+use Rattle.result_text.specs.Grammar.{IsTextOf}
+use Rattle.rel_checker.specs.declared.answer.Answer.TheVariants.{Yes}
+use Rattle.rel_checker.specs.File.{its_paths, its_walks}
+use Rattle.rel_checker.specs.Rules.{Accepts}
+use Rattle.rel_checker.specs.Valid.{Valid}
+use Rattle.rel_checker.specs.Against.{JudgesAgainst}
+use Rattle.rel_infer.specs.Results.{IsResultOf}
+use Rattle.rel_infer.specs.Peers.{PeerEitherWay, LeaveNoneOut}
+use Rattle.tor_words.specs.declared.settings.Mode.{Mode}
+use Rattle.tor_words.specs.declared.settings.Mode.TheVariants.{Labels, Listing, Survey, Sample}
+use Rattle.tor_words.specs.declared.settings.Settings.{Settings}
+use Rattle.tor_words.specs.Given.{settings_given}
+use Rattle.tor_survey.specs.SurveyText.{survey_text}
+use Rattle.tor_survey.specs.Surveys.{survey_of}
+use Rattle.tor_run.specs.Listing.{listing}
+use Rattle.tor_run.specs.Seen.{outcome}
+use Rattle.tor_run.specs.Summary.{summary}
+use Rattle.tor_run.specs.Written.{Written}
+
+-- ---- the result of what the dumps gave
+
+pub record Faithful (settings : Settings) (taken : Taken) (file : ResultFile) : Type 0 where
+  -- it has exactly their paths, times and counts, and for these what follows from the definitions
+  pub result : IsResultOf settings.sets settings.ratio taken.table.rows taken.counts file
+  -- it meets the rules 1 to 10 of a checker, and rule 11 over these paths and counts; so it is valid
+  pub accepted : Accepts file
+  pub agrees : JudgesAgainst file taken.table.rows taken.counts Yes
+  pub valid : Valid file
+  -- its peerings may be read either way, and none is left out
+  pub either_way : PeerEitherWay (its_paths file) (its_walks file) file.edges
+  pub none_left_out : LeaveNoneOut settings.ratio (its_paths file) (its_walks file) file.edges
+
+-- ---- what is written
+
+-- in this mode, of what the dumps gave: in Labels the text of the result, and its summary as a note; in Listing a line for each path;
+-- in Survey the lines of the survey; in Sample the summary of the result
+abbrev pub IsOutputIn : Mode → Settings → Taken → Written → Type 0
+IsOutputIn Labels settings taken output =
+    (file : ResultFile) × Faithful settings taken file × IsTextOf file output.text × (output.note ≡ summary file ++ 10 ∷ [])
+IsOutputIn Listing settings taken output = (output.text ≡ listing taken.table.rows) × (output.note ≡ [])
+IsOutputIn Survey settings taken output = (output.text ≡ survey_text (survey_of taken)) × (output.note ≡ [])
+IsOutputIn (Sample seed) settings taken output =
+    (file : ResultFile) × Faithful settings taken file × (output.text ≡ summary file ++ 10 ∷ []) × (output.note ≡ [])
+
+abbrev pub IsOutput : Settings → Taken → Written → Type 0
+IsOutput settings taken output = IsOutputIn settings.mode settings taken output
+
+-- this is asked for where the dumps give that
+abbrev pub IsOutputOf : Settings → Result Taken End → Written → Type 0
+IsOutputOf settings given output = (taken : Taken) × (given ≡ Ok taken) × IsOutput settings taken output
+
+-- the words ask for it, and the dumps that they name give that
+pub record IsAsked (words : List (List ℕ)) (files : Files) (output : Written) : Type 0 where
+  pub settings : Settings
+  pub given : settings_given words ≡ Some settings
+  pub taken : Taken
+  pub seen : outcome words files ≡ Some (Ok taken)
+  pub written : IsOutput settings taken output
+
+-- a sink gained the text that is asked for, whose note is this
+pub record GainsOutput (words : List (List ℕ)) (files : Files) (old new : Option (List ℕ)) (note : List ℕ) : Type 0 where
+  pub output : Written
+  pub asked : IsAsked words files output
+  pub gained : new ≡ append_known old output.text
+  pub noted : note ≡ output.note
+
+-- a sink gained a prefix of the text that is asked for
+abbrev pub GainsOutputPrefix : List (List ℕ) → Files → Option (List ℕ) → Option (List ℕ) → Type 0
+GainsOutputPrefix words files old new = (output : Written) × IsAsked words files output × GainsPrefix old new output.text
+
+-- the note goes with some text that the words may ask for
+abbrev pub IsNoteOfOutput : List (List ℕ) → List ℕ → Type 0
+IsNoteOfOutput words note =
+    (settings : Settings) × (settings_given words ≡ Some settings) ×
+    ((taken : Taken) × (output : Written) × IsOutput settings taken output × (note ≡ output.note))

@@ -1,0 +1,31 @@
+//! The laws of the runs. Each is the contract of a function.
+
+ghost use Rattle.tor_run.specs.Agreement.{AgreementLaw, OneSummaryLaw};
+ghost use Rattle.tor_run.specs.SeenLaw.{DumpsLaw, SeenLaw, DumpsReadableLaw, ReadableLaw};
+
+/// What `torcheck` says of a result that `tor` has written: yes, alone and beside the same dumps, whatever limit on paths they were read
+/// under.
+pub fn agreement_law()
+    ensures { AgreementLaw }
+{}
+
+/// What `tor` sums up is determined: all results that are faithful to what dumps or a sample gave have the same summary.
+pub fn one_summary_law()
+    ensures { OneSummaryLaw }
+{}
+
+/// What a run has seen where it sees all its dumps: each of them is there and is read to its end; the paths are the distinct ones to which
+/// the routes of all of them are cleaned, in order of first appearance, each with how often it came, and for each cause it is counted how
+/// many routes are set aside for it; and what each dump holds is counted, and so what all of them hold together. Each number stops at
+/// 2^64 - 1. Of a run over a sample the sample is the one dump.
+pub fn seen_law()
+    ensures dumps { DumpsLaw }
+    ensures runs { SeenLaw }
+{}
+
+/// When a run sees all its dumps: exactly where each of them is there and is read to its end, and the distinct cleaned paths of all of them
+/// are at most as many as the settings allow and have at most 2^26 numbers in sum.
+pub fn readable_law()
+    ensures dumps { DumpsReadableLaw }
+    ensures runs { ReadableLaw }
+{}

@@ -1,0 +1,13 @@
+//! The run of `tor`, from the words of the command line to the status, and what it says together with the run of `torcheck`.
+#![tactic(auto)]
+
+mod asking;
+mod laws;
+mod listing;
+mod output;
+mod run;
+mod sampling;
+mod summary;
+
+pub use laws::{agreement_law, one_summary_law, readable_law, seen_law};
+pub use run::infer;

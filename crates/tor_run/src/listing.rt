@@ -1,0 +1,125 @@
+//! The list of the distinct paths, written a line at a time.
+
+ghost use Rattle.std.specs.Prelude.{◌≡◌, ◌++◌, ◌∷◌, [], OnOk, OnErr, map, decimal};
+ghost use Rattle.std.specs.List.{join_with_byte};
+ghost use Rattle.std.specs.Io.KnownBytes.{append_known};
+ghost use Rattle.tor_io.specs.Counts.{HasCause};
+ghost use Rattle.tor_io.specs.Contents.{GainsPrefix, PassesOn};
+ghost use Rattle.tor_run.specs.Listing.{line, listing, number_at};
+
+use path_clean::PathTable;
+use result_text::write_digits;
+use tor_arena::{Index, PathId};
+use tor_io::{Buffer, Failed, Sink};
+
+// Each function puts something behind what waits in the buffer. Failed: a write failed, and out took a prefix of both.
+fn put_number<O: Sink>(out: &mut O, buffer: &mut Buffer, n: u64) -> Result<(), Failed>
+    ensures all { OnOk result (PassesOn (O.held out.old) (O.held out.new) buffer.new (buffer.old ++ decimal n)) }
+    ensures prefix { OnErr result (GainsPrefix (O.held out.old) (O.held out.new) (buffer.old ++ decimal n)) }
+    ensures cause { HasCause (O.faults out.old) (O.faults out.new) result }
+{
+    let mut digits = [0u8; 20];
+    let start = write_digits(n, &mut digits);
+    buffer.put(out, &digits[start..])
+}
+
+// A number behind a space.
+fn put_spaced<O: Sink>(out: &mut O, buffer: &mut Buffer, n: u64) -> Result<(), Failed>
+    ensures all { OnOk result (PassesOn (O.held out.old) (O.held out.new) buffer.new (buffer.old ++ 32 ∷ decimal n)) }
+    ensures prefix { OnErr result (GainsPrefix (O.held out.old) (O.held out.new) (buffer.old ++ 32 ∷ decimal n)) }
+    ensures cause { HasCause (O.faults out.old) (O.faults out.new) result }
+{
+    buffer.put_byte(out, b' ')?;
+    put_number(out, buffer, n)
+}
+
+// A number, behind a space if it isn't the first.
+fn put_number_at<O: Sink>(
+    out: &mut O,
+    buffer: &mut Buffer,
+    place: usize,
+    number: u32,
+) -> Result<(), Failed>
+    ensures all { OnOk result (PassesOn (O.held out.old) (O.held out.new) buffer.new (buffer.old ++ number_at place number)) }
+    ensures prefix { OnErr result (GainsPrefix (O.held out.old) (O.held out.new) (buffer.old ++ number_at place number)) }
+    ensures cause { HasCause (O.faults out.old) (O.faults out.new) result }
+{
+    if place == 0 {
+        put_number(out, buffer, u64::from(number))
+    } else {
+        put_spaced(out, buffer, u64::from(number))
+    }
+}
+
+// The times and the bar behind them.
+fn put_times<O: Sink>(out: &mut O, buffer: &mut Buffer, times: u64) -> Result<(), Failed>
+    ensures all { OnOk result (PassesOn (O.held out.old) (O.held out.new) buffer.new (buffer.old ++ (decimal times ++ 124 ∷ []))) }
+    ensures prefix { OnErr result (GainsPrefix (O.held out.old) (O.held out.new) (buffer.old ++ (decimal times ++ 124 ∷ []))) }
+    ensures cause { HasCause (O.faults out.old) (O.faults out.new) result }
+{
+    put_number(out, buffer, times)?;
+    buffer.put_byte(out, b'|')
+}
+
+// The numbers of a path, joined by spaces.
+fn put_path<O: Sink>(out: &mut O, buffer: &mut Buffer, path: &[u32]) -> Result<(), Failed>
+    ensures all { OnOk result (PassesOn (O.held out.old) (O.held out.new) buffer.new
+        (buffer.old ++ join_with_byte 32 (map decimal path.now))) }
+    ensures prefix { OnErr result (GainsPrefix (O.held out.old) (O.held out.new)
+        (buffer.old ++ join_with_byte 32 (map decimal path.now))) }
+    ensures cause { HasCause (O.faults out.old) (O.faults out.new) result }
+{
+    for (place, number) in path.iter().enumerate() {
+        put_number_at(out, buffer, place, *number)?;
+    }
+    Ok(())
+}
+
+// The numbers of a path, and the line feed behind them.
+fn put_path_and_end<O: Sink>(out: &mut O, buffer: &mut Buffer, path: &[u32]) -> Result<(), Failed>
+    ensures all { OnOk result (PassesOn (O.held out.old) (O.held out.new) buffer.new
+        (buffer.old ++ (join_with_byte 32 (map decimal path.now) ++ 10 ∷ []))) }
+    ensures prefix { OnErr result (GainsPrefix (O.held out.old) (O.held out.new)
+        (buffer.old ++ (join_with_byte 32 (map decimal path.now) ++ 10 ∷ []))) }
+    ensures cause { HasCause (O.faults out.old) (O.faults out.new) result }
+{
+    put_path(out, buffer, path)?;
+    buffer.put_byte(out, b'\n')
+}
+
+// The line of a path.
+fn put_line<O: Sink>(
+    out: &mut O,
+    buffer: &mut Buffer,
+    times: u64,
+    path: &[u32],
+) -> Result<(), Failed>
+    ensures all { OnOk result (PassesOn (O.held out.old) (O.held out.new) buffer.new
+        (buffer.old ++ line (record { path = path.now; times = times }))) }
+    ensures prefix { OnErr result (GainsPrefix (O.held out.old) (O.held out.new)
+        (buffer.old ++ line (record { path = path.now; times = times }))) }
+    ensures cause { HasCause (O.faults out.old) (O.faults out.new) result }
+{
+    put_times(out, buffer, times)?;
+    put_path_and_end(out, buffer, path)
+}
+
+/// Writes what waits in the buffer, and then the list of the distinct paths. Failed: a write failed, and out took a prefix of both.
+/// It takes no memory.
+pub(crate) fn write_list<O: Sink>(
+    out: &mut O,
+    buffer: &mut Buffer,
+    table: &PathTable,
+) -> Result<(), Failed>
+    ensures all { OnOk result (O.held out.new ≡ append_known (O.held out.old) (buffer.old ++ listing table.now.rows)) }
+    ensures prefix { OnErr result (GainsPrefix (O.held out.old) (O.held out.new) (buffer.old ++ listing table.now.rows)) }
+    ensures cause { HasCause (O.faults out.old) (O.faults out.new) result }
+{
+    for place in 0..table.len() {
+        let Some(id) = PathId::from_place(place) else {
+            unreachable!();
+        };
+        put_line(out, buffer, table.times(id), table.rows().row(id))?;
+    }
+    buffer.flush(out)
+}

@@ -1,0 +1,157 @@
+//! What a run that is done writes.
+ghost use Rattle.std.specs.Prelude.{◌≡◌, ◌≤◌, ◌++◌, ◌∷◌, [], IfOk, OnOk, OnErr, string_bytes};
+ghost use Rattle.std.specs.Io.KnownBytes.{append_known};
+ghost use Rattle.tor_io.specs.Counts.{HasCause};
+ghost use Rattle.tor_io.specs.Contents.{GainsPrefix};
+ghost use Rattle.tor_run.specs.Output.{Faithful, IsOutput, IsOutputIn};
+ghost use Rattle.tor_run.specs.Summary.{summary};
+ghost use Rattle.tor_run.specs.Written.{written};
+
+use crate::listing::write_list;
+use crate::summary::summary_text;
+use dump_read::Taken;
+use path_clean::PathTable;
+use rel_checker::acceptance_law;
+use rel_infer::result_of;
+use result_text::{ResultFile, print};
+use std::alloc::Global;
+use tor_arena::{Keys, List, NoMemory};
+use tor_io::{Buffer, Failed, Sink, write_all};
+use tor_survey::{survey_of, text_of};
+use tor_words::{Mode, Settings};
+
+/// What a run that is done writes: a text goes to out, and behind it a note to err.
+#[derive(Drop)]
+pub(crate) enum Output {
+    /// A text that lies in memory, and its note.
+    Text(List<u8>, List<u8>),
+    /// The list of a table's paths, which is made while it goes through the buffer. It has no note.
+    Paths(PathTable, Buffer),
+}
+
+impl Output {
+    /// Writes the text, and gives the note. Failed: a write failed, and out took a prefix of the text. It takes no memory.
+    pub fn write_to<O: Sink>(self, alloc: Global, out: &mut O) -> Result<List<u8>, Failed>
+        ensures all { OnOk result (O.held out.new ≡ append_known (O.held out.old) (written self).text) }
+        ensures note { IfOk result (λ note. note ≡ (written self).note) }
+        ensures prefix { OnErr result (GainsPrefix (O.held out.old) (O.held out.new) (written self).text) }
+        ensures cause { HasCause (O.faults out.old) (O.faults out.new) result }
+    {
+        match self {
+            Output::Text(text, note) => {
+                write_all(out, text.as_slice())?;
+                Ok(note)
+            }
+            Output::Paths(table, mut buffer) => {
+                write_list(out, &mut buffer, &table)?;
+                Ok(List::new(alloc))
+            }
+        }
+    }
+}
+
+/// The octets of a text.
+fn octets_of(text: String) -> List<u8>
+    ensures { result ≡ string_bytes text }
+{
+    List::from_vec(text.into_bytes())
+}
+
+/// The summary of a result, as a line.
+fn summary_line(alloc: Global, file: &ResultFile) -> Result<List<u8>, NoMemory>
+    ensures { IfOk result (λ line. line ≡ summary file.now ++ 10 ∷ []) }
+{
+    let mut line = summary_text(alloc, &file.asides, &file.totals)?;
+    line.push('\n')?;
+    Ok(octets_of(line))
+}
+
+// The result of what the dumps gave.
+fn faithful_result(
+    alloc: Global,
+    keys: Keys,
+    settings: &Settings,
+    taken: Taken,
+) -> Result<ResultFile, NoMemory>
+    requires { settings.now.ratio ≤ 1000000 }
+    ensures { IfOk result (Faithful settings.now taken) }
+{
+    acceptance_law();
+    let Taken {
+        table,
+        counts,
+        files: _,
+    } = taken;
+    result_of(alloc, keys, settings.sets, settings.ratio, table, counts)
+}
+
+// The text of the result of what the dumps gave, and its summary.
+fn labels_output(
+    alloc: Global,
+    keys: Keys,
+    settings: &Settings,
+    taken: Taken,
+) -> Result<Output, NoMemory>
+    requires { settings.now.ratio ≤ 1000000 }
+    ensures { IfOk result (λ output. IsOutputIn Mode.Labels settings.now taken (written output)) }
+{
+    let file = faithful_result(alloc, keys, settings, taken)?;
+    let note = summary_line(alloc, &file)?;
+    let text = print(alloc, &file)?;
+    Ok(Output::Text(text, note))
+}
+
+// The summary of the result of what the sample gave.
+fn sample_output(
+    alloc: Global,
+    keys: Keys,
+    settings: &Settings,
+    seed: u64,
+    taken: Taken,
+) -> Result<Output, NoMemory>
+    requires { settings.now.ratio ≤ 1000000 }
+    ensures { IfOk result (λ output. IsOutputIn (Mode.Sample seed) settings.now taken (written output)) }
+{
+    let file = faithful_result(alloc, keys, settings, taken)?;
+    let text = summary_line(alloc, &file)?;
+    Ok(Output::Text(text, List::new(alloc)))
+}
+
+// The list of the distinct paths that the dumps gave. What it takes is all taken here.
+fn listing_output(alloc: Global, settings: &Settings, taken: Taken) -> Result<Output, NoMemory>
+    ensures { IfOk result (λ output. IsOutputIn Mode.Listing settings.now taken (written output)) }
+{
+    Ok(Output::Paths(taken.table, Buffer::new(alloc)?))
+}
+
+// The survey of what the dumps gave.
+fn survey_output(
+    alloc: Global,
+    keys: Keys,
+    settings: &Settings,
+    taken: Taken,
+) -> Result<Output, NoMemory>
+    ensures { IfOk result (λ output. IsOutputIn Mode.Survey settings.now taken (written output)) }
+{
+    let survey = survey_of(alloc, keys, taken)?;
+    let text = text_of(alloc, &survey)?;
+    Ok(Output::Text(text, List::new(alloc)))
+}
+
+/// What the settings ask for, of what the dumps gave. The only error is that memory ran out.
+pub(crate) fn output_of(
+    alloc: Global,
+    keys: Keys,
+    settings: &Settings,
+    taken: Taken,
+) -> Result<Output, NoMemory>
+    requires { settings.now.ratio ≤ 1000000 }
+    ensures { IfOk result (λ output. IsOutput settings.now taken (written output)) }
+{
+    match settings.mode {
+        Mode::Labels => labels_output(alloc, keys, settings, taken),
+        Mode::Listing => listing_output(alloc, settings, taken),
+        Mode::Survey => survey_output(alloc, keys, settings, taken),
+        Mode::Sample(seed) => sample_output(alloc, keys, settings, seed, taken),
+    }
+}

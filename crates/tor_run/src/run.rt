@@ -1,0 +1,146 @@
+//! The run of `tor`.
+ghost use Rattle.std.specs.Prelude.{◌≡◌, ◌≢◌, ◌≤◌, ◌⊎◌, List, Some, Ok, Err, IfSome, IsNone, ℕ, ⊤};
+ghost use Rattle.std.specs.Io.KnownBytes.{IsAtEnd};
+ghost use Rattle.tor_io.specs.Counts.{Rose, IsQuiet};
+ghost use Rattle.tor_io.specs.Contents.{Files};
+ghost use Rattle.dump_read.specs.declared.error.Place.{Place};
+ghost use Rattle.dump_read.specs.declared.error.Fault.{Fault as FaultKind};
+ghost use Rattle.dump_read.specs.declared.error.LimitKind.{LimitKind as Quantity};
+ghost use Rattle.dump_read.specs.Seen.{Absent, Malformed as MalformedAt, Limit as LimitOf};
+ghost use Rattle.dump_read.specs.declared.taking.Taken.{Taken};
+ghost use Rattle.tor_words.specs.Given.{settings_given};
+ghost use Rattle.tor_run.specs.Sampling.{IfSample, known_by};
+ghost use Rattle.tor_run.specs.Seen.{outcome};
+ghost use Rattle.tor_run.specs.Answer.{IsNote, IsMalformed, IsLimited, IsAbsent};
+ghost use Rattle.run_base.specs.Answers.{IsNoted};
+ghost use Rattle.tor_run.specs.Output.{GainsOutput, GainsOutputPrefix};
+ghost use Rattle.run_base.specs.Answers.{note_in};
+
+use crate::asking::output_asked;
+use run_base::{Answer, Note, Status, answer_to};
+use std::alloc::Global;
+use tor_arena::{Keys, List};
+use tor_io::{Failed, Shelf, Sink, write_all};
+use tor_words::Name;
+
+// The run without its note: what it answers doesn't depend on where the note goes.
+fn answer<H: Shelf, O: Sink>(
+    alloc: Global,
+    keys: Keys,
+    words: &List<Name>,
+    shelf: &mut H,
+    out: &mut O,
+) -> Answer
+    // What is written.
+    ensures done { result.status ≡ Status.Done → IfSome (known_by words.now (H.files shelf.old)) (λ files.
+        GainsOutput words.now files (O.held out.old) (O.held out.new) (note_in result)) }
+    ensures cut_off { result.status ≡ Status.WriteFault → IfSome (known_by words.now (H.files shelf.old)) (λ files.
+        GainsOutputPrefix words.now files (O.held out.old) (O.held out.new)) }
+    ensures nothing { result.status ≢ Status.Done → result.status ≢ Status.WriteFault → out.new ≡ out.old }
+
+    // Why it is answered.
+    ensures note { IsNote words.now (known_by words.now (H.files shelf.old)) (H.steady shelf.old) result.status (note_in result) }
+    ensures usage { result.status ≡ Status.Usage → IsNone (settings_given words.now) }
+    ensures always_usage { IsNone (settings_given words.now) →
+        (result.status ≡ Status.Usage) ⊎ (result.status ≡ Status.NoMemory) }
+    ensures read_fault { result.status ≡ Status.ReadFault → Rose (H.faults shelf.old) (H.faults shelf.new) }
+    ensures write_fault { result.status ≡ Status.WriteFault → Rose (O.faults out.old) (O.faults out.new) }
+    ensures no_other { result.status ≢ Status.No }
+
+    // What is left in the objects.
+    ensures read_out { result.status ≡ Status.Done → IfSample words.now ⊤ (IsAtEnd (H.left shelf.new)) }
+    ensures sample { IfSample words.now (shelf.new ≡ shelf.old) ⊤ }
+    ensures no_fault { IfSample words.now (result.status ≢ Status.ReadFault) ⊤ }
+    ensures untouched { result.status ≡ Status.Usage → shelf.new ≡ shelf.old }
+    ensures files { H.files shelf.new ≡ H.files shelf.old }
+    ensures steady { H.steady shelf.old → H.steady shelf.new }
+    ensures shelf_later { H.faults shelf.old ≤ H.faults shelf.new }
+    ensures out_later { O.faults out.old ≤ O.faults out.new }
+    ensures no_lost_read { result.status ≢ Status.ReadFault → result.status ≢ Status.NoMemory →
+        H.faults shelf.new ≡ H.faults shelf.old }
+    ensures no_lost_write { result.status ≢ Status.WriteFault → O.faults out.new ≡ O.faults out.old }
+{
+    match output_asked(alloc, keys, words, shelf) {
+        Ok(output) => match output.write_to(alloc, out) {
+            Ok(note) => Answer {
+                status: Status::Done,
+                note: Note::Octets(note),
+            },
+            Err(Failed) => Answer::plain(Status::WriteFault),
+        },
+        Err(refusal) => answer_to(alloc, refusal),
+    }
+}
+
+/// Runs `tor`: of the dumps that the words name, it writes the result, and its summary as a line to err, or with `--list` the distinct
+/// paths, with `--survey` what the dumps hold; with `--sample`, of the sample of that number in place of dumps, the summary alone.
+/// Done: this was written. Usage: the words are no command. Malformed, Limit: the first end of the dumps is that fault or that limit.
+/// ReadFault: a call on the shelf failed, as an open does at a file that isn't there. WriteFault: a call on out failed. NoMemory:
+/// memory ran out, before anything went to out. `docs/PROMISES.md` has each promise by name.
+pub fn infer<H: Shelf, O: Sink, E: Sink>(
+    alloc: Global,
+    keys: Keys,
+    words: &List<Name>,
+    shelf: &mut H,
+    out: &mut O,
+    err: &mut E,
+) -> Status
+    // What is written: at Done out gained the text that is asked for, and err the note that goes with it, or a prefix of the note
+    // where err failed; at WriteFault out gained a prefix of the text; and else nothing goes to out.
+    ensures done { result ≡ Status.Done → IfSome (known_by words.now (H.files shelf.old)) (λ files.
+        IsNoted (GainsOutput words.now files (O.held out.old) (O.held out.new))
+        (E.faults err.old) (E.faults err.new) (E.held err.old) (E.held err.new)) }
+    ensures cut_off { result ≡ Status.WriteFault → IfSome (known_by words.now (H.files shelf.old)) (λ files.
+        GainsOutputPrefix words.now files (O.held out.old) (O.held out.new)) }
+    ensures nothing { result ≢ Status.Done → result ≢ Status.WriteFault → out.new ≡ out.old }
+
+    // When each status may come.
+    ensures usage { result ≡ Status.Usage → IsNone (settings_given words.now) }
+    ensures malformed { result ≡ Status.Malformed → IsMalformed words.now (known_by words.now (H.files shelf.old)) }
+    ensures limit { result ≡ Status.Limit → IsLimited words.now (known_by words.now (H.files shelf.old)) }
+    ensures read_fault { result ≡ Status.ReadFault → Rose (H.faults shelf.old) (H.faults shelf.new) }
+    ensures steady_read_fault { H.steady shelf.old → result ≡ Status.ReadFault →
+        IsAbsent words.now (known_by words.now (H.files shelf.old)) }
+    ensures write_fault { result ≡ Status.WriteFault → Rose (O.faults out.old) (O.faults out.new) }
+    ensures no_other { result ≢ Status.No }
+
+    // When each status has to come, or NoMemory.
+    ensures always_usage { IsNone (settings_given words.now) → (result ≡ Status.Usage) ⊎ (result ≡ Status.NoMemory) }
+    ensures always_done { (files : Files) (taken : Taken) → known_by words.now (H.files shelf.old) ≡ Some files →
+        outcome words.now files ≡ Some (Ok taken) → IsQuiet (H.faults shelf.old) (H.faults shelf.new) ⊎ H.steady shelf.old →
+        IsQuiet (O.faults out.old) (O.faults out.new) → (result ≡ Status.Done) ⊎ (result ≡ Status.NoMemory) }
+    ensures always_malformed { (files : Files) (place : Place) (fault : FaultKind) →
+        known_by words.now (H.files shelf.old) ≡ Some files →
+        outcome words.now files ≡ Some (Err (MalformedAt place fault)) →
+        IsQuiet (H.faults shelf.old) (H.faults shelf.new) ⊎ H.steady shelf.old →
+        (result ≡ Status.Malformed) ⊎ (result ≡ Status.NoMemory) }
+    ensures always_limit { (files : Files) (kind : Quantity) (dump : ℕ) → known_by words.now (H.files shelf.old) ≡ Some files →
+        outcome words.now files ≡ Some (Err (LimitOf kind dump)) →
+        IsQuiet (H.faults shelf.old) (H.faults shelf.new) ⊎ H.steady shelf.old →
+        (result ≡ Status.Limit) ⊎ (result ≡ Status.NoMemory) }
+    ensures always_absent { (files : Files) (dump : ℕ) → known_by words.now (H.files shelf.old) ≡ Some files →
+        outcome words.now files ≡ Some (Err (Absent dump)) → (result ≡ Status.ReadFault) ⊎ (result ≡ Status.NoMemory) }
+
+    // What is left in the objects: at Done nothing unread, the files as they were, no count lowered, at Usage and with `--sample` no
+    // call made on the shelf, and no failed call passed over.
+    ensures read_out { result ≡ Status.Done → IfSample words.now ⊤ (IsAtEnd (H.left shelf.new)) }
+    ensures sample { IfSample words.now (shelf.new ≡ shelf.old) ⊤ }
+    ensures no_fault { IfSample words.now (result ≢ Status.ReadFault) ⊤ }
+    ensures untouched { result ≡ Status.Usage → shelf.new ≡ shelf.old }
+    ensures files { H.files shelf.new ≡ H.files shelf.old }
+    ensures steady { H.steady shelf.old → H.steady shelf.new }
+    ensures shelf_later { H.faults shelf.old ≤ H.faults shelf.new }
+    ensures out_later { O.faults out.old ≤ O.faults out.new }
+    ensures err_later { E.faults err.old ≤ E.faults err.new }
+    ensures no_lost_read { result ≢ Status.ReadFault → result ≢ Status.NoMemory →
+        H.faults shelf.new ≡ H.faults shelf.old }
+    ensures no_lost_write { result ≢ Status.WriteFault → O.faults out.new ≡ O.faults out.old }
+
+    // What is written to err: the status' note, or a prefix of it where err failed.
+    ensures note { IsNoted (IsNote words.now (known_by words.now (H.files shelf.old)) (H.steady shelf.old) result)
+        (E.faults err.old) (E.faults err.new) (E.held err.old) (E.held err.new) }
+{
+    let answer = answer(alloc, keys, words, shelf, out);
+    let _ = write_all(err, answer.note());
+    answer.status
+}

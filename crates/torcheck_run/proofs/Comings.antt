@@ -1,0 +1,210 @@
+-- The words and the files of a check give outcomes of one status.
+use Rattle.std.proofs.Common.{◌≡◌, ◌<◌, inl, inr, ℕ, List, [], ◌∷◌, length, Option, Some, None, Result, Ok, Err, refl, sym, ap, subst, ◌∙◌, arith}
+use Rattle.std.specs.Prelude.{◌-◌, IfSome, slice_get}
+use Rattle.tor_io.specs.Contents.{Files}
+use Rattle.result_text.specs.declared.file.ResultFile.{ResultFile}
+use Rattle.result_text.specs.Grammar.{IsTextOf}
+use Rattle.result_text.specs.Ranges.{IsInRange}
+use Rattle.result_text.specs.Text.{text}
+use Rattle.rel_checker.specs.declared.answer.Answer.{Answer as Verdict}
+use Rattle.rel_checker.specs.declared.answer.Answer.TheVariants.{Yes, No}
+use Rattle.rel_checker.specs.Rules.{IsRefused}
+use Rattle.rel_checker.specs.Valid.{AcceptanceLaw}
+use Rattle.rel_checker.specs.Against.{in_order, its_rows, JudgesAgainst}
+use Rattle.path_clean.specs.Counts.{Counts}
+use Rattle.path_clean.specs.Rows.{Counted}
+use Rattle.dump_read.specs.declared.taking.Taken.{Taken}
+use Rattle.dump_read.specs.Seen.{End, Absent, Malformed, Limit}
+use Rattle.tor_words.specs.declared.check_settings.CheckSettings.{CheckSettings}
+use Rattle.tor_words.specs.CheckGiven.{check_settings_given}
+use Rattle.run_base.specs.declared.status.Status.{Status}
+use Rattle.run_base.specs.declared.status.Status.TheVariants as status
+use Rattle.torcheck_run.specs.Judging.{BreaksRule, IsAccepted, IsVerdict, JudgesByDumps, seen_for, Outcome, Judged, NoResult, TooLong, Ends, IsResult, ComesTo, Gives, IsVouched}
+use Rattle.run_base.specs.WholeFile.{IsLongFile}
+use Rattle.torcheck_run.specs.CheckAnswer.{LeadsTo, status_of}
+use Rattle.torcheck_run.specs.Limits.{max_result}
+
+-- each text has one value
+abbrev pub OneValue : Type 0
+OneValue = (file other : ResultFile) → IsInRange file → IsInRange other → text file ≡ text other → file ≡ other
+
+same_file : OneValue → (bytes : List ℕ) (f g : ResultFile) → IsTextOf f bytes → IsTextOf g bytes → f ≡ g
+same_file law bytes f g a b = law f g a.in_range b.in_range (sym a.encoded ∙ b.encoded)
+
+some_is : {X : Type 0} (o : Option X) (x y : X) → o ≡ Some x → o ≡ Some y → x ≡ y
+some_is {X = X} o x y p q = by x y (sym p ∙ q)
+  where
+    by : (x y : X) → ◌≡◌ {A = Option X} (Some x) (Some y) → x ≡ y
+    by x y e = cc
+
+ok_is : {X Y : Type 0} (r : Result X Y) (x y : X) → r ≡ Ok x → r ≡ Ok y → x ≡ y
+ok_is {X = X} {Y = Y} r x y p q = by x y (sym p ∙ q)
+  where
+    by : (x y : X) → ◌≡◌ {A = Result X Y} (Ok x) (Ok y) → x ≡ y
+    by x y e = cc
+
+err_is : {X Y : Type 0} (r : Result X Y) (x y : Y) → r ≡ Err x → r ≡ Err y → x ≡ y
+err_is {X = X} {Y = Y} r x y p q = by x y (sym p ∙ q)
+  where
+    by : (x y : Y) → ◌≡◌ {A = Result X Y} (Err x) (Err y) → x ≡ y
+    by x y e = cc
+
+ok_not_err : {X Y : Type 0} (r : Result X Y) (x : X) (y : Y) → r ≡ Ok x → r ≡ Err y → ⊥
+ok_not_err {X = X} {Y = Y} r x y p q = by (sym p ∙ q)
+  where
+    by : ◌≡◌ {A = Result X Y} (Ok x) (Err y) → ⊥
+    by e = absurd cc
+
+some_not_none : {X : Type 0} (o : Option X) (x : X) → o ≡ Some x → o ≡ None → ⊥
+some_not_none {X = X} o x p q = by (sym p ∙ q)
+  where
+    by : ◌≡◌ {A = Option X} (Some x) None → ⊥
+    by e = absurd cc
+
+-- ---- yes and no
+
+-- what is right departs nowhere
+no_departure : (file : ResultFile) (rows : List Counted) (counts : Counts) (line rule : ℕ) → JudgesAgainst file rows counts Yes → JudgesAgainst file rows counts (No line rule) → ⊥
+no_departure file rows counts line rule right departs =
+    departs.breach (record {
+      count = λ lt. ap (λ c. slice_get (in_order c) departs.place) right.0;
+      path = λ le. ap (λ (t : List Counted). slice_get t (departs.place - 7)) right.1;
+    })
+
+-- the dumps don't say both
+by_dumps : (file : ResultFile) (dumps : List (List ℕ)) (files : Files) (line rule : ℕ) → JudgesByDumps file dumps files Yes → JudgesByDumps file dumps files (No line rule) → ⊥
+by_dumps file [] files line rule right wrong = by wrong
+  where
+    by : ◌≡◌ {A = Verdict} (No line rule) Yes → ⊥
+    by e = absurd cc
+by_dumps file (dump ∷ dumps) files line rule right wrong =
+    let same : right.0 ≡ wrong.0 = ok_is (seen_for file (dump ∷ dumps) files) right.0 wrong.0 right.1 wrong.1 in
+    no_departure file right.0.table.rows right.0.counts line rule right.2
+    (subst (λ (t : Taken). JudgesAgainst file t.table.rows t.counts (No line rule)) (sym same) wrong.2)
+
+-- bytes that are accepted break no rule of 0 to 10
+none_broken : OneValue → (bytes : List ℕ) (file : ResultFile) (verdict : Verdict) → IsAccepted file bytes → BreaksRule bytes verdict → ⊥
+none_broken law bytes file Yes accepted broken = broken
+none_broken law bytes file (No line rule) accepted (inl zero) = zero.1.outside (file, accepted.text)
+none_broken law bytes file (No line rule) accepted (inr broken) =
+    let same : broken.0 ≡ file = same_file law bytes broken.0 file broken.1 accepted.text in
+    let refused : IsRefused file line rule = subst (λ f. IsRefused f line rule) same broken.2 in
+    refused.first.breach (accepted.rules refused.rule refused.place refused.first.within)
+
+not_both : OneValue → (bytes : List ℕ) (dumps : List (List ℕ)) (files : Files) (line rule : ℕ) → IsVerdict bytes dumps files Yes → IsVerdict bytes dumps files (No line rule) → ⊥
+not_both law bytes dumps files line rule (inl broken) wrong = broken
+not_both law bytes dumps files line rule (inr right) (inl broken) = none_broken law bytes right.0 (No line rule) right.1 broken
+not_both law bytes dumps files line rule (inr right) (inr wrong) =
+    let same : wrong.0 ≡ right.0 = same_file law bytes wrong.0 right.0 wrong.1.text right.1.text in
+    by_dumps right.0 dumps files line rule right.2 (subst (λ f. JudgesByDumps f dumps files (No line rule)) same wrong.2)
+
+verdicts : OneValue → (bytes : List ℕ) (dumps : List (List ℕ)) (files : Files) (v w : Verdict) → IsVerdict bytes dumps files v → IsVerdict bytes dumps files w → status_of v ≡ status_of w
+verdicts law bytes dumps files Yes Yes one other = refl
+verdicts law bytes dumps files Yes (No line rule) one other = absurd (not_both law bytes dumps files line rule one other)
+verdicts law bytes dumps files (No line rule) Yes one other = absurd (not_both law bytes dumps files line rule other one)
+verdicts law bytes dumps files (No line rule) (No line' rule') one other = refl
+
+-- ---- a verdict or an end of the dumps
+
+-- where a verdict comes of the dumps these have no end
+no_end : (file : ResultFile) (dumps : List (List ℕ)) (files : Files) (verdict : Verdict) (end : End) → JudgesByDumps file dumps files verdict → seen_for file dumps files ≡ Err end → ⊥
+no_end file [] files verdict end judged ends = ok_not_err (seen_for file [] files) _ end refl ends
+no_end file (dump ∷ dumps) files verdict end judged ends = ok_not_err (seen_for file (dump ∷ dumps) files) judged.0 end judged.1 ends
+
+no_verdict : OneValue → (bytes : List ℕ) (dumps : List (List ℕ)) (files : Files) (verdict : Verdict) (file : ResultFile) (end : End) → IsVerdict bytes dumps files verdict
+    → IsAccepted file bytes → seen_for file dumps files ≡ Err end → ⊥
+no_verdict law bytes dumps files verdict file end (inl broken) accepted ends = none_broken law bytes file verdict accepted broken
+no_verdict law bytes dumps files verdict file end (inr judged) accepted ends =
+    let same : judged.0 ≡ file = same_file law bytes judged.0 file judged.1.text accepted.text in
+    no_end file dumps files verdict end (subst (λ f. JudgesByDumps f dumps files verdict) same judged.2) ends
+
+-- ---- outcomes
+
+-- the status that an outcome asks for
+abbrev pub status_for : Outcome → Status
+status_for (Judged verdict) = status_of verdict
+status_for NoResult = status.ReadFault
+status_for TooLong = status.Limit
+status_for (Ends (Absent dump)) = status.ReadFault
+status_for (Ends (Malformed place fault)) = status.Malformed
+status_for (Ends (Limit kind dump)) = status.Limit
+
+not_there : {X : Type 0} (settings : CheckSettings) (files : Files) (bytes : List ℕ) → IsResult settings files bytes → files settings.result ≡ None → X
+not_there settings files bytes is none = absurd (some_not_none (files settings.result) bytes is.there none)
+
+pub not_long : {X : Type 0} (settings : CheckSettings) (files : Files) (bytes : List ℕ) → IsResult settings files bytes → IsLongFile max_result (files settings.result) → X
+not_long settings files bytes is long =
+    let more : max_result < length bytes = subst (IsLongFile max_result) is.there long in
+    absurd (omega (arith, more, is.short))
+
+none_long : {X : Type 0} (o : Option (List ℕ)) → o ≡ None → IsLongFile max_result o → X
+none_long o is long =
+    let none : ⊥ = subst (IsLongFile max_result) is long in
+    absurd none
+
+same_result : (settings : CheckSettings) (files : Files) (a b : List ℕ) → IsResult settings files a → IsResult settings files b → a ≡ b
+same_result settings files a b one other = some_is (files settings.result) a b one.there other.there
+
+same_status : OneValue → (settings : CheckSettings) (files : Files) (x y : Outcome) → ComesTo settings files x → ComesTo settings files y → status_for x ≡ status_for y
+same_status law settings files (Judged v) (Judged w) one other =
+    let same : other.0 ≡ one.0 = same_result settings files other.0 one.0 other.1 one.1 in
+    verdicts law one.0 settings.dumps files v w one.2 (subst (λ b. IsVerdict b settings.dumps files w) same other.2)
+same_status law settings files (Judged v) NoResult one other = not_there settings files one.0 one.1 other
+same_status law settings files (Judged v) TooLong one other = not_long settings files one.0 one.1 other
+same_status law settings files (Judged v) (Ends end) one other =
+    let same : other.0 ≡ one.0 = same_result settings files other.0 one.0 other.2 one.1 in
+    absurd (no_verdict law one.0 settings.dumps files v other.1 end one.2 (subst (λ b. IsAccepted other.1 b) same other.3) other.4)
+same_status law settings files NoResult (Judged w) one other = not_there settings files other.0 other.1 one
+same_status law settings files NoResult NoResult one other = refl
+same_status law settings files NoResult TooLong one other = none_long (files settings.result) one other
+same_status law settings files NoResult (Ends end) one other = not_there settings files other.0 other.2 one
+same_status law settings files TooLong (Judged w) one other = not_long settings files other.0 other.1 one
+same_status law settings files TooLong NoResult one other = none_long (files settings.result) other one
+same_status law settings files TooLong TooLong one other = refl
+same_status law settings files TooLong (Ends end) one other = not_long settings files other.0 other.2 one
+same_status law settings files (Ends end) (Judged w) one other =
+    let same : one.0 ≡ other.0 = same_result settings files one.0 other.0 one.2 other.1 in
+    absurd (no_verdict law other.0 settings.dumps files w one.1 end other.2 (subst (λ b. IsAccepted one.1 b) same one.3) one.4)
+same_status law settings files (Ends end) NoResult one other = not_there settings files one.0 one.2 other
+same_status law settings files (Ends end) TooLong one other = not_long settings files one.0 one.2 other
+same_status law settings files (Ends end) (Ends end') one other =
+    let bytes : other.0 ≡ one.0 = same_result settings files other.0 one.0 other.2 one.2 in
+    let text : IsTextOf other.1 one.0 = subst (λ b. IsTextOf other.1 b) bytes other.3.text in
+    let file : other.1 ≡ one.1 = same_file law one.0 other.1 one.1 text one.3.text in
+    let ends : seen_for one.1 settings.dumps files ≡ Err end' = subst (λ f. seen_for f settings.dumps files ≡ Err end') file other.4 in
+    ap (λ e. status_for (Ends e)) (err_is (seen_for one.1 settings.dumps files) end end' one.4 ends)
+
+same_settings : (words : List (List ℕ)) (s t : CheckSettings) → check_settings_given words ≡ Some s → check_settings_given words ≡ Some t → s ≡ t
+same_settings words s t = some_is (check_settings_given words) s t
+
+pub one_status : OneValue → (words : List (List ℕ)) (files : Files) (x y : Outcome) → Gives words files x → Gives words files y → status_for x ≡ status_for y
+one_status law words files x y one other =
+    let same : other.0 ≡ one.0 = same_settings words other.0 one.0 other.1 one.1 in
+    same_status law one.0 files x y one.2 (subst (λ s. ComesTo s files y) same other.2)
+
+-- ---- what a yes has shown
+
+agrees : (file : ResultFile) (dumps : List (List ℕ)) (files : Files) → JudgesByDumps file dumps files Yes → 0 < length dumps
+    → (taken : Taken) × (seen_for file dumps files ≡ Ok taken) × (file.asides ≡ taken.counts) × (its_rows file ≡ taken.table.rows)
+agrees file [] files judged some = absurd (omega arith)
+agrees file (dump ∷ dumps) files judged some = (judged.0, judged.1, judged.2.0, judged.2.1)
+
+vouched : AcceptanceLaw → (words : List (List ℕ)) (files : Files) → Gives words files (Judged Yes) → IsVouched words files
+vouched law words files gives = by gives.2.2
+  where
+    by : IsVerdict gives.2.0 gives.0.dumps files Yes → IsVouched words files
+    by (inl broken) = absurd broken
+    by (inr judged) = record {
+      settings = gives.0;
+      given = gives.1;
+      bytes = gives.2.0;
+      there = gives.2.1.there;
+      file = judged.0;
+      text = judged.1.text;
+      valid = law judged.0 judged.1.rules;
+      agrees = agrees judged.0 gives.0.dumps files judged.2;
+    }
+
+pub vouched_known : AcceptanceLaw → (words : List (List ℕ)) (known : Option Files) → LeadsTo words known (Judged Yes) → IfSome known (IsVouched words)
+vouched_known law words None leads = tt
+vouched_known law words (Some files) leads = vouched law words files leads

@@ -1,0 +1,7 @@
+pub mod Always
+pub mod Bounds
+pub mod Comings
+pub mod FewLines
+pub mod Judgings
+pub mod Unjudgings
+mod Vectors

@@ -1,0 +1,18 @@
+use Rattle.torcheck_run.proofs.Bounds.{bounded, written}
+use Rattle.torcheck_run.proofs.Unjudgings.{unjudged_note}
+use Rattle.torcheck_run.proofs.checking.answer.Goals as goal
+
+pub returns-in-Err-clause-note : goal.returns-in-Err-clause-note
+returns-in-Err-clause-note g c =
+    let shelf = g.H.Shelf in
+    unjudged_note c.args.words.now (shelf.files c.args.shelf.now) (shelf.steady c.args.shelf.now) (shelf.left c.verdict_of.new.shelf) c.in-Err.unjudged c.answer_to_unjudged.result
+    c.in-Err.ensures.unjudged c.answer_to_unjudged.ensures c.in-Err.ensures.unread
+
+pub returns-in-Err-clause-bounded : goal.returns-in-Err-clause-bounded
+returns-in-Err-clause-bounded g c =
+    let shelf = g.H.Shelf in
+    bounded c.args.words.now (shelf.files c.args.shelf.now) (shelf.steady c.args.shelf.now) c.in-Err.unjudged c.answer_to_unjudged.result (shelf.left c.verdict_of.new.shelf)
+    c.in-Err.ensures.unjudged c.answer_to_unjudged.ensures c.in-Err.ensures.rest
+
+pub returns-in-Ok-clause-bounded : goal.returns-in-Ok-clause-bounded
+returns-in-Ok-clause-bounded g c = λ limit _. written c.in-Ok.verdict c.write_verdict.result.status c.write_verdict.ensures.status limit

@@ -1,0 +1,117 @@
+-- What the words and the files of a check give: a verdict on the result file, or why there is none.
+use Rattle.std.specs.Prelude.{◌≡◌, ◌≤◌, ◌<◌, ◌⊎◌, ℕ, List, [], ◌∷◌, length, Option, Some, None, Result, Ok, Err, IsOk}
+use Rattle.tor_io.specs.Contents.{Files}
+use Rattle.result_text.specs.declared.file.ResultFile.{ResultFile}
+use Rattle.result_text.specs.Grammar.{IsTextOf, IsBadLine}
+use Rattle.rel_checker.specs.declared.answer.Answer.{Answer as Verdict}
+use Rattle.rel_checker.specs.declared.answer.Answer.TheVariants.{Yes, No}
+use Rattle.rel_checker.specs.Rules.{Accepts, IsRefused}
+use Rattle.rel_checker.specs.Valid.{Valid}
+use Rattle.rel_checker.specs.Against.{its_rows, JudgesAgainst}
+use Rattle.dump_read.specs.declared.taking.Taken.{Taken}
+use Rattle.dump_read.specs.Seen.{End}
+use Rattle.tor_words.specs.declared.check_settings.CheckSettings.{CheckSettings}
+use Rattle.tor_words.specs.CheckGiven.{check_settings_given}
+use Rattle.run_base.specs.Reading.{nothing, seen_from}
+use Rattle.torcheck_run.specs.Limits.{max_result}
+use Rattle.path_clean.specs.Limits.{max_paths}
+
+-- ---- the rules 0 to 10, which the bytes of the result file alone decide
+
+-- the bytes are the text of this result, which meets the rules 1 to 10
+pub record IsAccepted (file : ResultFile) (bytes : List ℕ) : Type 0 where
+  pub text : IsTextOf file bytes
+  pub rules : Accepts file
+
+-- rule 0 says that the bytes are a text. The least rule that is broken, and its first line
+abbrev pub BreaksRule : List ℕ → Verdict → Type 0
+BreaksRule bytes Yes = ⊥
+BreaksRule bytes (No line rule) =
+    ((rule ≡ 0) × IsBadLine line bytes) ⊎ ((file : ResultFile) × IsTextOf file bytes × IsRefused file line rule)
+
+-- ---- rule 11, agreement with dumps
+
+-- what the dumps give, read with the sets of the result
+abbrev pub seen_for : ResultFile → List (List ℕ) → Files → Result Taken End
+seen_for file dumps files = seen_from file.sets 1 (nothing max_paths) dumps files
+
+-- yes where no dump is named. Else the dumps give paths and counts, and the verdict is on the agreement with these
+abbrev pub JudgesByDumps : ResultFile → List (List ℕ) → Files → Verdict → Type 0
+JudgesByDumps file [] files verdict = verdict ≡ Yes
+JudgesByDumps file (dump ∷ dumps) files verdict =
+    (taken : Taken) × (seen_for file (dump ∷ dumps) files ≡ Ok taken) × JudgesAgainst file taken.table.rows taken.counts verdict
+
+-- a rule of 0 to 10 is broken; or all are met, and rule 11 decides
+abbrev pub IsVerdict : List ℕ → List (List ℕ) → Files → Verdict → Type 0
+IsVerdict bytes dumps files verdict =
+    BreaksRule bytes verdict ⊎ ((file : ResultFile) × IsAccepted file bytes × JudgesByDumps file dumps files verdict)
+
+-- ---- the result file
+
+-- the same of the result file that the words name
+abbrev pub LeavesRestOf : List (List ℕ) → Option Files → Option (List ℕ) → Type 0
+LeavesRestOf words known left =
+    (settings : CheckSettings) → check_settings_given words ≡ Some settings → LeavesRest max_result settings.result known left
+
+-- the same of the result file that the words name
+abbrev pub LeavesOnlyResult : List (List ℕ) → Option Files → Option (List ℕ) → Type 0
+LeavesOnlyResult words known left =
+    (settings : CheckSettings) → check_settings_given words ≡ Some settings → LeavesOnly settings.result known left
+
+-- the result file is there with these bytes, and they are few enough
+pub record IsResult (settings : CheckSettings) (files : Files) (bytes : List ℕ) : Type 0 where
+  pub there : files settings.result ≡ Some bytes
+  pub short : length bytes ≤ max_result
+
+-- ---- what a check comes to
+
+pub data Outcome : Type 0 where
+  -- a verdict on the result file
+  Judged : Verdict → Outcome
+  -- it isn't there
+  NoResult : Outcome
+  -- it has more octets than may be
+  TooLong : Outcome
+  -- it meets the rules 0 to 10, and the dumps have this end
+  Ends : End → Outcome
+
+-- what the settings and the files give
+abbrev pub ComesTo : CheckSettings → Files → Outcome → Type 0
+ComesTo settings files (Judged verdict) =
+    (bytes : List ℕ) × IsResult settings files bytes × IsVerdict bytes settings.dumps files verdict
+ComesTo settings files NoResult = files settings.result ≡ None
+ComesTo settings files TooLong = IsLongFile max_result (files settings.result)
+ComesTo settings files (Ends end) =
+    (bytes : List ℕ) × (file : ResultFile) × IsResult settings files bytes × IsAccepted file bytes ×
+    (seen_for file settings.dumps files ≡ Err end)
+
+-- what the words and the files give
+abbrev pub Gives : List (List ℕ) → Files → Outcome → Type 0
+Gives words files outcome =
+    (settings : CheckSettings) × (check_settings_given words ≡ Some settings) × ComesTo settings files outcome
+
+-- ---- what follows
+
+-- The result file is the text of a valid result, and where dumps are named, its counts and its paths with their times are
+-- exactly those that the dumps give
+pub record IsVouched (words : List (List ℕ)) (files : Files) : Type 0 where
+  pub settings : CheckSettings
+  pub given : check_settings_given words ≡ Some settings
+  pub bytes : List ℕ
+  pub there : files settings.result ≡ Some bytes
+  pub file : ResultFile
+  pub text : IsTextOf file bytes
+  pub valid : Valid file
+  pub agrees : 0 < length settings.dumps →
+      (taken : Taken) × (seen_for file settings.dumps files ≡ Ok taken) × (file.asides ≡ taken.counts) × (its_rows file ≡ taken.table.rows)
+
+-- Nothing stands in the way of a verdict: the result file is there and short enough, and a rule of 0 to 10 is broken, or no
+-- dump is named, or the dumps give paths
+pub record CanBeJudged (words : List (List ℕ)) (files : Files) : Type 0 where
+  pub settings : CheckSettings
+  pub given : check_settings_given words ≡ Some settings
+  pub bytes : List ℕ
+  pub result : IsResult settings files bytes
+  pub judged : ((file : ResultFile) → IsAccepted file bytes → ⊥) ⊎
+      ((settings.dumps ≡ []) ⊎ ((file : ResultFile) → IsTextOf file bytes →
+      IsOk (seen_for file settings.dumps files)))

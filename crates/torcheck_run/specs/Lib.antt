@@ -1,0 +1,4 @@
+pub mod CheckAnswer
+pub mod Judging
+pub mod Limits
+pub mod Unjudging

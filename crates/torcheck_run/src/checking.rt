@@ -1,0 +1,174 @@
+//! The run of `torcheck`.
+ghost use Rattle.std.specs.Prelude.{◌≡◌, ◌≢◌, ◌≤◌, ◌⊎◌, Some, IfSome, IsNone, ℕ};
+ghost use Rattle.tor_io.specs.Counts.{Rose, IsQuiet};
+ghost use Rattle.tor_io.specs.Contents.{Files, GainsPrefix};
+ghost use Rattle.dump_read.specs.declared.error.Place.{Place};
+ghost use Rattle.dump_read.specs.declared.error.Fault.{Fault as FaultKind};
+ghost use Rattle.dump_read.specs.declared.error.LimitKind.{LimitKind as Quantity};
+ghost use Rattle.dump_read.specs.Seen.{Absent, Malformed as MalformedAt, Limit as LimitOf};
+ghost use Rattle.tor_words.specs.CheckGiven.{check_settings_given};
+ghost use Rattle.std.specs.Io.KnownBytes.{IsAtEnd, append_known};
+ghost use Rattle.run_base.specs.Notes.{plain_note};
+ghost use Rattle.run_base.specs.Answers.{IsNoted};
+ghost use Rattle.run_base.specs.Answers.{note_in};
+ghost use Rattle.torcheck_run.specs.Judging.{NoResult, TooLong, Ends, Gives, IsVouched, CanBeJudged, LeavesRestOf};
+ghost use Rattle.torcheck_run.specs.CheckAnswer.{GainsVerdict, GainsNo, GainsVerdictPrefix, LeadsTo, LeadsToMalformed, LeadsToLimit, LeadsToAbsent, IsCheckNote, verdict_text, status_of};
+
+use crate::judging::{answer_to_unjudged, verdict_of};
+use crate::verdicts::{status_of, verdict_text};
+use rel_checker::{Answer as Verdict, acceptance_law};
+use result_text::one_value;
+use run_base::{Answer, Status};
+use std::alloc::Global;
+use tor_arena::{Keys, List};
+use tor_io::{Failed, Shelf, Sink, write_all};
+use tor_words::Name;
+
+/// Writes the verdict. All memory is taken before.
+fn write_verdict<O: Sink>(alloc: Global, verdict: Verdict, out: &mut O) -> Answer
+    ensures status { (result.status ≡ status_of verdict) ⊎ ((result.status ≡ Status.WriteFault) ⊎ (result.status ≡ Status.NoMemory)) }
+    ensures known { result.status ≡ status_of verdict → O.held out.new ≡ append_known (O.held out.old) (verdict_text verdict) }
+    ensures cut_off { result.status ≡ Status.WriteFault → GainsPrefix (O.held out.old) (O.held out.new) (verdict_text verdict) }
+    ensures nothing { result.status ≡ Status.NoMemory → out.new ≡ out.old }
+    ensures note { note_in result ≡ plain_note result.status }
+    ensures write_fault { result.status ≡ Status.WriteFault → Rose (O.faults out.old) (O.faults out.new) }
+    ensures later { O.faults out.old ≤ O.faults out.new }
+    ensures no_lost_write { result.status ≢ Status.WriteFault → O.faults out.new ≡ O.faults out.old }
+{
+    let status = status_of(verdict);
+    let Ok(text) = verdict_text(alloc, verdict) else {
+        return Answer::plain(Status::NoMemory);
+    };
+    match write_all(out, text.as_bytes()) {
+        Ok(()) => Answer::plain(status),
+        Err(Failed) => Answer::plain(Status::WriteFault),
+    }
+}
+
+/// The run without its note: what it answers doesn't depend on where the note goes.
+fn answer<H: Shelf, O: Sink>(
+    alloc: Global,
+    keys: Keys,
+    words: &List<Name>,
+    shelf: &mut H,
+    out: &mut O,
+) -> Answer
+    // What is written.
+    ensures done { result.status ≡ Status.Done →
+        GainsVerdict words.now (H.files shelf.old) Verdict.Yes (O.held out.old) (O.held out.new) }
+    ensures no { result.status ≡ Status.No → GainsNo words.now (H.files shelf.old) (O.held out.old) (O.held out.new) }
+    ensures cut_off { result.status ≡ Status.WriteFault →
+        GainsVerdictPrefix words.now (H.files shelf.old) (O.held out.old) (O.held out.new) }
+    ensures nothing { result.status ≢ Status.Done → result.status ≢ Status.No → result.status ≢ Status.WriteFault →
+        out.new ≡ out.old }
+
+    // Why it is answered.
+    ensures note { IsCheckNote words.now (H.files shelf.old) (H.steady shelf.old) (H.left shelf.new) result.status
+        (note_in result) }
+    ensures usage { result.status ≡ Status.Usage → IsNone (check_settings_given words.now) }
+    ensures always_usage { IsNone (check_settings_given words.now) →
+        (result.status ≡ Status.Usage) ⊎ (result.status ≡ Status.NoMemory) }
+    ensures read_fault { result.status ≡ Status.ReadFault → Rose (H.faults shelf.old) (H.faults shelf.new) }
+    ensures write_fault { result.status ≡ Status.WriteFault → Rose (O.faults out.old) (O.faults out.new) }
+
+    // What is left in the objects.
+    ensures read_out { (result.status ≡ Status.Done) ⊎ (result.status ≡ Status.No) → IsAtEnd (H.left shelf.new) }
+    ensures bounded { result.status ≡ Status.Limit → LeadsTo words.now (H.files shelf.old) TooLong →
+        LeavesRestOf words.now (H.files shelf.old) (H.left shelf.new) }
+    ensures untouched { result.status ≡ Status.Usage → shelf.new ≡ shelf.old }
+    ensures files { H.files shelf.new ≡ H.files shelf.old }
+    ensures steady { H.steady shelf.old → H.steady shelf.new }
+    ensures shelf_later { H.faults shelf.old ≤ H.faults shelf.new }
+    ensures out_later { O.faults out.old ≤ O.faults out.new }
+    ensures no_lost_read { result.status ≢ Status.ReadFault → result.status ≢ Status.NoMemory →
+        H.faults shelf.new ≡ H.faults shelf.old }
+    ensures no_lost_write { result.status ≢ Status.WriteFault → O.faults out.new ≡ O.faults out.old }
+{
+    match verdict_of(alloc, keys, words, shelf) {
+        Ok(verdict) => write_verdict(alloc, verdict, out),
+        Err(unjudged) => answer_to_unjudged(alloc, unjudged),
+    }
+}
+
+/// Runs `torcheck`: the words name a result file, and maybe the dumps that it has to agree with, which are read only where
+/// it meets the rules 0 to 10. Done: the verdict is yes. No: a rule is broken. Usage: the words are no command. Malformed:
+/// the first end of the dumps is that fault. Limit: it is that limit, or the result file has more than 2^31 bytes.
+/// ReadFault: a call on the shelf failed, as an open does at a file that isn't there. WriteFault: a call on out failed.
+/// NoMemory: memory ran out, before anything went to out. `docs/PROMISES.md` has each promise by name.
+pub fn check<H: Shelf, O: Sink, E: Sink>(
+    alloc: Global,
+    keys: Keys,
+    words: &List<Name>,
+    shelf: &mut H,
+    out: &mut O,
+    err: &mut E,
+) -> Status
+    // What is written to out: the verdict at Done and No, a prefix of it at WriteFault, and else nothing.
+    ensures done { result ≡ Status.Done →
+        GainsVerdict words.now (H.files shelf.old) Verdict.Yes (O.held out.old) (O.held out.new) }
+    ensures no { result ≡ Status.No → GainsNo words.now (H.files shelf.old) (O.held out.old) (O.held out.new) }
+    ensures cut_off { result ≡ Status.WriteFault →
+        GainsVerdictPrefix words.now (H.files shelf.old) (O.held out.old) (O.held out.new) }
+    ensures nothing { result ≢ Status.Done → result ≢ Status.No → result ≢ Status.WriteFault → out.new ≡ out.old }
+
+    // What a yes has shown.
+    ensures valid { result ≡ Status.Done → IfSome (H.files shelf.old) (IsVouched words.now) }
+
+    // When each status may come.
+    ensures usage { result ≡ Status.Usage → IsNone (check_settings_given words.now) }
+    ensures malformed { result ≡ Status.Malformed → LeadsToMalformed words.now (H.files shelf.old) }
+    ensures limit { result ≡ Status.Limit → LeadsToLimit words.now (H.files shelf.old) }
+    ensures read_fault { result ≡ Status.ReadFault → Rose (H.faults shelf.old) (H.faults shelf.new) }
+    ensures steady_read_fault { H.steady shelf.old → result ≡ Status.ReadFault →
+        LeadsToAbsent words.now (H.files shelf.old) }
+    ensures write_fault { result ≡ Status.WriteFault → Rose (O.faults out.old) (O.faults out.new) }
+
+    // When each status has to come, or NoMemory.
+    ensures always_usage { IsNone (check_settings_given words.now) → (result ≡ Status.Usage) ⊎ (result ≡ Status.NoMemory) }
+    ensures always_judged { (files : Files) → H.files shelf.old ≡ Some files → CanBeJudged words.now files →
+        IsQuiet (H.faults shelf.old) (H.faults shelf.new) ⊎ H.steady shelf.old →
+        IsQuiet (O.faults out.old) (O.faults out.new) →
+        ((result ≡ Status.Done) ⊎ (result ≡ Status.No)) ⊎ (result ≡ Status.NoMemory) }
+    ensures always_malformed { (files : Files) (place : Place) (fault : FaultKind) → H.files shelf.old ≡ Some files →
+        Gives words.now files (Ends (MalformedAt place fault)) →
+        IsQuiet (H.faults shelf.old) (H.faults shelf.new) ⊎ H.steady shelf.old →
+        (result ≡ Status.Malformed) ⊎ (result ≡ Status.NoMemory) }
+    ensures always_limit { (files : Files) (kind : Quantity) (dump : ℕ) → H.files shelf.old ≡ Some files →
+        Gives words.now files (Ends (LimitOf kind dump)) →
+        IsQuiet (H.faults shelf.old) (H.faults shelf.new) ⊎ H.steady shelf.old →
+        (result ≡ Status.Limit) ⊎ (result ≡ Status.NoMemory) }
+    ensures always_too_long { (files : Files) → H.files shelf.old ≡ Some files → Gives words.now files TooLong →
+        IsQuiet (H.faults shelf.old) (H.faults shelf.new) ⊎ H.steady shelf.old →
+        (result ≡ Status.Limit) ⊎ (result ≡ Status.NoMemory) }
+    ensures always_absent { (files : Files) (dump : ℕ) → H.files shelf.old ≡ Some files →
+        Gives words.now files (Ends (Absent dump)) → (result ≡ Status.ReadFault) ⊎ (result ≡ Status.NoMemory) }
+    ensures always_no_result { (files : Files) → H.files shelf.old ≡ Some files → Gives words.now files NoResult →
+        (result ≡ Status.ReadFault) ⊎ (result ≡ Status.NoMemory) }
+
+    // What is left in the objects: at Done and No nothing unread, the files as they were, no count lowered, at Usage no
+    // call made on the shelf, and no failed call passed over.
+    ensures read_out { (result ≡ Status.Done) ⊎ (result ≡ Status.No) → IsAtEnd (H.left shelf.new) }
+    ensures bounded { result ≡ Status.Limit → LeadsTo words.now (H.files shelf.old) TooLong →
+        LeavesRestOf words.now (H.files shelf.old) (H.left shelf.new) }
+    ensures untouched { result ≡ Status.Usage → shelf.new ≡ shelf.old }
+    ensures files { H.files shelf.new ≡ H.files shelf.old }
+    ensures steady { H.steady shelf.old → H.steady shelf.new }
+    ensures shelf_later { H.faults shelf.old ≤ H.faults shelf.new }
+    ensures out_later { O.faults out.old ≤ O.faults out.new }
+    ensures err_later { E.faults err.old ≤ E.faults err.new }
+    ensures no_lost_read { result ≢ Status.ReadFault → result ≢ Status.NoMemory →
+        H.faults shelf.new ≡ H.faults shelf.old }
+    ensures no_lost_write { result ≢ Status.WriteFault → O.faults out.new ≡ O.faults out.old }
+
+    // What is written to err: the status' note, or a prefix of it where err failed; at Done and No nothing.
+    ensures note { IsNoted (IsCheckNote words.now (H.files shelf.old) (H.steady shelf.old) (H.left shelf.new) result)
+        (E.faults err.old) (E.faults err.new) (E.held err.old) (E.held err.new) }
+    ensures silent { (result ≡ Status.Done) ⊎ (result ≡ Status.No) → E.held err.new ≡ E.held err.old }
+{
+    // Two laws that the promises rest on: a text has one value, and what meets all rules is valid.
+    one_value();
+    acceptance_law();
+    let answer = answer(alloc, keys, words, shelf, out);
+    let _ = write_all(err, answer.note());
+    answer.status
+}

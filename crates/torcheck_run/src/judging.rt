@@ -1,0 +1,216 @@
+//! The verdict on a result file.
+ghost use Rattle.std.specs.Prelude.{◌≡◌, ◌≢◌, ◌≤◌, ◌-◌, ◌^◌, [], Err, IfOk, IfErr, OnOk, IfSome, IsNone, IsErrAnd, IsOk, length, take};
+ghost use Rattle.std.specs.Io.KnownBytes.{IsAtEnd};
+ghost use Rattle.tor_io.specs.Counts.{Rose};
+ghost use Rattle.dump_read.specs.declared.error.DumpError.TheVariants.{ReadFault as read_failed};
+ghost use Rattle.dump_read.specs.Seen.{Absent, end_named};
+ghost use Rattle.result_text.specs.Grammar.{IsTextOf};
+ghost use Rattle.result_text.specs.Refusal.{Refuses};
+ghost use Rattle.tor_words.specs.CheckGiven.{check_settings_given};
+ghost use Rattle.run_base.specs.Answers.{IsReadFault};
+ghost use Rattle.torcheck_run.specs.Judging.{Judged, ComesTo, IsVerdict, JudgesByDumps, LeavesRestOf, LeavesOnlyResult, seen_for};
+ghost use Rattle.run_base.specs.WholeFile.{LeavesRest, LeavesOnly};
+ghost use Rattle.torcheck_run.specs.CheckAnswer.{LeadsTo};
+ghost use Rattle.torcheck_run.specs.Unjudging.{IsRuling, IsRefusedBy, IsUnjudged, IsUnjudgedIn, IsTooLong, IsFailedResult, IsFailedRead, IsOfCheckWords, AnswersUnjudged};
+ghost use Rattle.torcheck_run.specs.Limits.{max_result};
+
+use path_clean::MAX_PATHS;
+use rel_checker::{Answer as Verdict, check_against, check_file};
+use result_text::{ParseError, ResultFile, parse};
+use run_base::{
+    Answer, Refusal, Status, Stopped, Unread, answer_to, nothing_taken, read_dumps,
+    read_fault_note, read_whole, result_note,
+};
+use std::alloc::Global;
+use tor_arena::{Keys, List, NoMemory};
+use tor_io::Shelf;
+use tor_words::{CheckSettings, Name, check_settings_of};
+
+/// The most octets of a result file.
+const MAX_RESULT: usize = 1 << 31;
+
+/// Why there is no verdict.
+#[derive(Drop)]
+pub(crate) enum Unjudged {
+    /// The result file was not read.
+    Result(Unread),
+    /// The words, the dumps or want of memory, as in a list.
+    Refused(Refusal),
+}
+
+/// What the rules 0 to 10 say of a text.
+#[derive(Drop)]
+pub(crate) enum Ruling {
+    /// The least that is broken, and its first line.
+    Broken { line: u64, rule: u8 },
+    /// All are met, by this result.
+    Met(ResultFile),
+}
+
+/// The result whose text this is. The octets are let go.
+fn parse_all(alloc: Global, bytes: List<u8>) -> Result<ResultFile, ParseError>
+    ensures text { IfOk result (λ file. IsTextOf file bytes) }
+    ensures refused { IfErr result (λ error. Refuses error bytes) }
+{
+    parse(alloc, bytes.as_slice())
+}
+
+/// What the rules 0 to 10 say of the bytes.
+fn ruling_on(alloc: Global, keys: Keys, bytes: List<u8>) -> Result<Ruling, NoMemory>
+    requires short { length bytes ≤ max_result }
+    ensures { IfOk result (IsRuling bytes) }
+{
+    let file = match parse_all(alloc, bytes) {
+        Ok(file) => file,
+        Err(ParseError::BadLine(line)) => return Ok(Ruling::Broken { line, rule: 0 }),
+        Err(ParseError::NoMemory) => return Err(NoMemory),
+    };
+    match check_file(alloc, keys, &file)? {
+        Verdict::Yes => Ok(Ruling::Met(file)),
+        Verdict::No { line, rule } => Ok(Ruling::Broken { line, rule }),
+    }
+}
+
+/// The verdict of the dumps on a result that meets the rules before: yes where none is named.
+fn judged_by_dumps<H: Shelf>(
+    alloc: Global,
+    keys: Keys,
+    shelf: &mut H,
+    file: &ResultFile,
+    dumps: &[Name],
+) -> Result<Verdict, Stopped>
+    requires lines { length file.now.paths ≤ 2 ^ 40 }
+    ensures verdict { IfOk result (λ verdict. IfSome (H.files shelf.old) (λ files. JudgesByDumps file.now dumps.now files verdict)) }
+    ensures stopped { IfErr result (λ e. IfSome (end_named e.dump e.error) (λ end. IfSome (H.files shelf.old) (λ files.
+        seen_for file.now dumps.now files ≡ Err end))) }
+    ensures named { IfErr result (λ e. (1 ≤ e.dump) × (e.dump ≤ length dumps.now)) }
+    ensures before { IfErr result (λ e. IfSome (H.files shelf.old)
+        (λ files. IsOk (seen_for file.now (take (e.dump - 1) dumps.now) files))) }
+    ensures read_out { OnOk result (IsAtEnd (H.left shelf.old) → IsAtEnd (H.left shelf.new)) }
+
+    ensures files { H.files shelf.new ≡ H.files shelf.old }
+    ensures later { H.faults shelf.old ≤ H.faults shelf.new }
+    ensures failed { IfErr result (λ e. e.error ≡ read_failed → Rose (H.faults shelf.old) (H.faults shelf.new)) }
+    ensures quiet { OnOk result (H.faults shelf.new ≡ H.faults shelf.old) }
+    ensures quiet_stop { IfErr result (λ e. e.error ≢ read_failed → H.faults shelf.new ≡ H.faults shelf.old) }
+    ensures unasked { dumps.now ≡ [] → shelf.new ≡ shelf.old }
+    ensures steady { H.steady shelf.old → H.steady shelf.new }
+    ensures steady_failed { H.steady shelf.old → IfErr result (λ e. e.error ≡ read_failed →
+        IfSome (H.files shelf.old) (λ files. seen_for file.now dumps.now files ≡ Err (Absent e.dump))) }
+{
+    if dumps.is_empty() {
+        return Ok(Verdict::Yes);
+    }
+    let mut taken = nothing_taken(alloc, keys, MAX_PATHS);
+    match read_dumps(alloc, shelf, dumps, file.sets, &mut taken) {
+        Ok(()) => Ok(check_against(file, &taken.table, &taken.counts)),
+        Err(stopped) => Err(stopped),
+    }
+}
+
+/// The verdict on the bytes of the result file.
+fn judge<H: Shelf>(
+    alloc: Global,
+    keys: Keys,
+    shelf: &mut H,
+    bytes: List<u8>,
+    dumps: &[Name],
+) -> Result<Verdict, Refusal>
+    requires short { length bytes ≤ max_result }
+    ensures verdict { IfOk result (λ verdict. IfSome (H.files shelf.old) (λ files. IsVerdict bytes dumps.now files verdict)) }
+    ensures refused { IfErr result (IsRefusedBy bytes dumps.now (H.files shelf.old) (H.steady shelf.old)) }
+    ensures read_out { OnOk result (IsAtEnd (H.left shelf.old) → IsAtEnd (H.left shelf.new)) }
+
+    ensures files { H.files shelf.new ≡ H.files shelf.old }
+    ensures later { H.faults shelf.old ≤ H.faults shelf.new }
+    ensures quiet { OnOk result (H.faults shelf.new ≡ H.faults shelf.old) }
+    ensures failed { IfErr result (λ r. IsReadFault r → Rose (H.faults shelf.old) (H.faults shelf.new)) }
+    ensures quiet_stop { IfErr result (λ r. (IsReadFault r → ⊥) → H.faults shelf.new ≡ H.faults shelf.old) }
+    ensures steady { H.steady shelf.old → H.steady shelf.new }
+{
+    match ruling_on(alloc, keys, bytes) {
+        Ok(Ruling::Broken { line, rule }) => Ok(Verdict::No { line, rule }),
+        Ok(Ruling::Met(file)) => match judged_by_dumps(alloc, keys, shelf, &file, dumps) {
+            Ok(verdict) => Ok(verdict),
+            Err(stopped) => Err(Refusal::Dumps(stopped)),
+        },
+        Err(NoMemory) => Err(Refusal::NoMemory),
+    }
+}
+
+/// The verdict on the result file that the settings name.
+fn judge_file<H: Shelf>(
+    alloc: Global,
+    keys: Keys,
+    settings: &CheckSettings,
+    shelf: &mut H,
+) -> Result<Verdict, Unjudged>
+    ensures verdict { IfOk result (λ verdict. IfSome (H.files shelf.old) (λ files. ComesTo settings.now files (Judged verdict))) }
+    ensures unjudged { IfErr result (IsUnjudgedIn settings.now (H.files shelf.old) (H.steady shelf.old)) }
+    ensures no_words { IfErr result (λ u. IsOfCheckWords u → ⊥) }
+    ensures rest { IfErr result (λ u. IsTooLong u → LeavesRest max_result settings.now.result (H.files shelf.old) (H.left shelf.new)) }
+    ensures unread { IfErr result (λ u. IsFailedResult u →
+        LeavesOnly settings.now.result (H.files shelf.old) (H.left shelf.new)) }
+    ensures read_out { OnOk result (IsAtEnd (H.left shelf.new)) }
+
+    ensures files { H.files shelf.new ≡ H.files shelf.old }
+    ensures later { H.faults shelf.old ≤ H.faults shelf.new }
+    ensures quiet { OnOk result (H.faults shelf.new ≡ H.faults shelf.old) }
+    ensures failed { IfErr result (λ u. IsFailedRead u → Rose (H.faults shelf.old) (H.faults shelf.new)) }
+    ensures quiet_stop { IfErr result (λ u. (IsFailedRead u → ⊥) → H.faults shelf.new ≡ H.faults shelf.old) }
+    ensures steady { H.steady shelf.old → H.steady shelf.new }
+{
+    match read_whole(alloc, shelf, settings.result.as_text(), MAX_RESULT) {
+        Ok(bytes) => match judge(alloc, keys, shelf, bytes, settings.dumps.as_slice()) {
+            Ok(verdict) => Ok(verdict),
+            Err(refusal) => Err(Unjudged::Refused(refusal)),
+        },
+        Err(unread) => Err(Unjudged::Result(unread)),
+    }
+}
+
+/// The verdict on the result file that the words name.
+pub(crate) fn verdict_of<H: Shelf>(
+    alloc: Global,
+    keys: Keys,
+    words: &List<Name>,
+    shelf: &mut H,
+) -> Result<Verdict, Unjudged>
+    ensures verdict { IfOk result (λ verdict. LeadsTo words.now (H.files shelf.old) (Judged verdict)) }
+    ensures unjudged { IfErr result (IsUnjudged words.now (H.files shelf.old) (H.steady shelf.old)) }
+
+    ensures rest { IfErr result (λ u. IsTooLong u → LeavesRestOf words.now (H.files shelf.old) (H.left shelf.new)) }
+    ensures unread { IfErr result (λ u. IsFailedResult u →
+        LeavesOnlyResult words.now (H.files shelf.old) (H.left shelf.new)) }
+
+    ensures settled { IsNone (check_settings_given words.now) → IsErrAnd result IsOfCheckWords }
+    ensures read_out { OnOk result (IsAtEnd (H.left shelf.new)) }
+
+    ensures untouched { IfErr result (λ u. IsOfCheckWords u → shelf.new ≡ shelf.old) }
+    ensures files { H.files shelf.new ≡ H.files shelf.old }
+    ensures later { H.faults shelf.old ≤ H.faults shelf.new }
+    ensures quiet { OnOk result (H.faults shelf.new ≡ H.faults shelf.old) }
+    ensures failed { IfErr result (λ u. IsFailedRead u → Rose (H.faults shelf.old) (H.faults shelf.new)) }
+    ensures quiet_stop { IfErr result (λ u. (IsFailedRead u → ⊥) → H.faults shelf.new ≡ H.faults shelf.old) }
+    ensures steady { H.steady shelf.old → H.steady shelf.new }
+{
+    match check_settings_of(alloc, words) {
+        Ok(settings) => judge_file(alloc, keys, &settings, shelf),
+        Err(refused) => Err(Unjudged::Refused(Refusal::Words(refused))),
+    }
+}
+
+/// The answer where there is no verdict.
+#[tactic(auto, using(run_base::proofs::Notings::says))]
+pub(crate) fn answer_to_unjudged(alloc: Global, unjudged: Unjudged) -> Answer
+    ensures { AnswersUnjudged unjudged result }
+{
+    match unjudged {
+        Unjudged::Result(Unread::Failed) => {
+            Answer::noted(Status::ReadFault, read_fault_note(alloc, 0))
+        }
+        Unjudged::Result(Unread::TooLong) => Answer::noted(Status::Limit, result_note(alloc)),
+        Unjudged::Result(Unread::NoMemory) => Answer::plain(Status::NoMemory),
+        Unjudged::Refused(refusal) => answer_to(alloc, refusal),
+    }
+}

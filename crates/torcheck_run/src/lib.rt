@@ -1,0 +1,8 @@
+//! The run of `torcheck`, from the words of the command line to the status. It stands on no crate of graphs, clauses, selection or marks.
+#![tactic(auto)]
+
+mod checking;
+mod judging;
+mod verdicts;
+
+pub use checking::check;

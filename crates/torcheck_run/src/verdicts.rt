@@ -1,0 +1,37 @@
+//! What a verdict writes, and the status of a run that has written it.
+ghost use Rattle.std.specs.Prelude.{◌≡◌, ◌≢◌, IfOk, string_bytes};
+ghost use Rattle.torcheck_run.specs.CheckAnswer.{verdict_text, no_text, status_of};
+
+use rel_checker::Answer as Verdict;
+use run_base::Status;
+use std::alloc::{AllocError, Global};
+
+/// The text of a verdict.
+pub(crate) fn verdict_text(alloc: Global, verdict: Verdict) -> Result<String, AllocError>
+    ensures { IfOk result (λ text. string_bytes text ≡ verdict_text verdict) }
+{
+    match verdict {
+        Verdict::Yes => String::from_str(alloc, "yes\n"),
+        Verdict::No { line, rule } => no_text(alloc, line, rule),
+    }
+}
+
+fn no_text(alloc: Global, line: u64, rule: u8) -> Result<String, AllocError>
+    ensures { IfOk result (λ text. string_bytes text ≡ no_text line rule) }
+{
+    let mut text = format!(in alloc; "no|{line}|")?;
+    write!(text, "{rule}\n")?;
+    Ok(text)
+}
+
+/// The status of a run that has written this verdict.
+pub(crate) fn status_of(verdict: Verdict) -> Status
+    ensures status { result ≡ status_of verdict }
+    ensures whole { result ≢ Status.WriteFault }
+    ensures known { result ≢ Status.NoMemory }
+{
+    match verdict {
+        Verdict::Yes => Status::Done,
+        Verdict::No { .. } => Status::No,
+    }
+}
