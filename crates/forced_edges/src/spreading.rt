@@ -2,9 +2,8 @@ ghost use Rattle.std.specs.Prelude.{◌≡◌, ◌<◌, OnOk, Contains};
 ghost use Rattle.tor_digraph.specs.Reached.{IsGrown};
 ghost use Rattle.forced_edges.specs.Nodes.{IsMet, HasLooked, IsClosed};
 
-use crate::node_set::NodeSet;
 use tor_arena::{ArcId, Index, NoMemory, NodeId};
-use tor_digraph::RowDigraph;
+use tor_digraph::{NodeSet, RowDigraph};
 
 /// Adds a node, unless it is there, or one past which the search does not go.
 fn meet(node: NodeId, past: &NodeSet, found: &mut NodeSet) -> Result<(), NoMemory>
