@@ -4,6 +4,7 @@ ghost use Rattle.std.specs.Io.KnownBytes.{append_known};
 ghost use Rattle.tor_io.specs.Counts.{HasCause};
 ghost use Rattle.tor_io.specs.Contents.{GainsPrefix};
 ghost use Rattle.tor_run.specs.Output.{Faithful, IsOutput, IsOutputIn};
+ghost use Rattle.result_text.specs.Grammar.{IsTextOf};
 ghost use Rattle.tor_run.specs.Summary.{summary};
 ghost use Rattle.tor_run.specs.Written.{written};
 
@@ -85,6 +86,16 @@ fn faithful_result(
     result_of(alloc, keys, settings.sets, settings.ratio, table, counts)
 }
 
+// The text of a result, and its summary as the note.
+fn text_and_summary(alloc: Global, file: &ResultFile) -> Result<Output, NoMemory>
+    ensures text { IfOk result (λ output. IsTextOf file.now (written output).text) }
+    ensures note { IfOk result (λ output. (written output).note ≡ summary file.now ++ 10 ∷ []) }
+{
+    let note = summary_line(alloc, file)?;
+    let text = print(alloc, file)?;
+    Ok(Output::Text(text, note))
+}
+
 // The text of the result of what the dumps gave, and its summary.
 fn labels_output(
     alloc: Global,
@@ -96,9 +107,16 @@ fn labels_output(
     ensures { IfOk result (λ output. IsOutputIn Mode.Labels settings.now taken (written output)) }
 {
     let file = faithful_result(alloc, keys, settings, taken)?;
-    let note = summary_line(alloc, &file)?;
-    let text = print(alloc, &file)?;
-    Ok(Output::Text(text, note))
+    text_and_summary(alloc, &file)
+}
+
+// The summary of a result, without a note.
+fn summary_alone(alloc: Global, file: &ResultFile) -> Result<Output, NoMemory>
+    ensures text { IfOk result (λ output. (written output).text ≡ summary file.now ++ 10 ∷ []) }
+    ensures note { IfOk result (λ output. (written output).note ≡ []) }
+{
+    let text = summary_line(alloc, file)?;
+    Ok(Output::Text(text, List::new(alloc)))
 }
 
 // The summary of the result of what the sample gave.
@@ -113,8 +131,7 @@ fn sample_output(
     ensures { IfOk result (λ output. IsOutputIn (Mode.Sample seed) settings.now taken (written output)) }
 {
     let file = faithful_result(alloc, keys, settings, taken)?;
-    let text = summary_line(alloc, &file)?;
-    Ok(Output::Text(text, List::new(alloc)))
+    summary_alone(alloc, &file)
 }
 
 // The list of the distinct paths that the dumps gave. What it takes is all taken here.

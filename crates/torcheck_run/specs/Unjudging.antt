@@ -3,6 +3,7 @@ use Rattle.std.specs.Prelude.{◌≡◌, ◌≤◌, ◌-◌, ℕ, List, length, 
 use Rattle.tor_io.specs.Contents.{Files}
 use Rattle.result_text.specs.declared.file.ResultFile.{ResultFile}
 use Rattle.rel_checker.specs.declared.answer.Answer.TheVariants.{No}
+use Rattle.rel_checker.specs.Rules.{Accepts, IsRefused}
 use Rattle.dump_read.specs.declared.error.DumpError.{DumpError}
 use Rattle.dump_read.specs.declared.error.DumpError.TheVariants as error
 use Rattle.dump_read.specs.Seen.{End, Absent, Malformed, Limit}
@@ -24,6 +25,11 @@ use Rattle.run_base.specs.Answers.{Says, Answers, IsNoMemory, IsReadFault, IsOfW
 use Rattle.torcheck_run.specs.Judging.{BreaksRule, IsAccepted, IsResult, seen_for}
 use Rattle.run_base.specs.WholeFile.{IsLongFile}
 use Rattle.torcheck_run.specs.Limits.{max_result}
+
+-- the ruling is that of the rules 1 to 10 on this result
+abbrev pub IsRulingOf : ResultFile → Ruling → Type 0
+IsRulingOf file (ruling.Broken line rule) = IsRefused file line rule
+IsRulingOf file (ruling.Met met) = (met ≡ file) × Accepts file
 
 -- the ruling is that of the rules 0 to 10
 abbrev pub IsRuling : List ℕ → Ruling → Type 0

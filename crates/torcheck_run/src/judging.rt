@@ -11,7 +11,8 @@ ghost use Rattle.run_base.specs.Answers.{IsReadFault};
 ghost use Rattle.torcheck_run.specs.Judging.{Judged, ComesTo, IsVerdict, JudgesByDumps, LeavesRestOf, LeavesOnlyResult, seen_for};
 ghost use Rattle.run_base.specs.WholeFile.{LeavesRest, LeavesOnly};
 ghost use Rattle.torcheck_run.specs.CheckAnswer.{LeadsTo};
-ghost use Rattle.torcheck_run.specs.Unjudging.{IsRuling, IsRefusedBy, IsUnjudged, IsUnjudgedIn, IsTooLong, IsFailedResult, IsFailedRead, IsOfCheckWords, AnswersUnjudged};
+ghost use Rattle.rel_checker.specs.File.{HasFewLines};
+ghost use Rattle.torcheck_run.specs.Unjudging.{IsRuling, IsRulingOf, IsRefusedBy, IsUnjudged, IsUnjudgedIn, IsTooLong, IsFailedResult, IsFailedRead, IsOfCheckWords, AnswersUnjudged};
 ghost use Rattle.torcheck_run.specs.Limits.{max_result};
 
 use path_clean::MAX_PATHS;
@@ -55,19 +56,26 @@ fn parse_all(alloc: Global, bytes: List<u8>) -> Result<ResultFile, ParseError>
     parse(alloc, bytes.as_slice())
 }
 
+/// What the rules 1 to 10 say of a result.
+fn ruling_of(alloc: Global, keys: Keys, file: ResultFile) -> Result<Ruling, NoMemory>
+    requires lines { HasFewLines file }
+    ensures { IfOk result (IsRulingOf file) }
+{
+    match check_file(alloc, keys, &file)? {
+        Verdict::Yes => Ok(Ruling::Met(file)),
+        Verdict::No { line, rule } => Ok(Ruling::Broken { line, rule }),
+    }
+}
+
 /// What the rules 0 to 10 say of the bytes.
 fn ruling_on(alloc: Global, keys: Keys, bytes: List<u8>) -> Result<Ruling, NoMemory>
     requires short { length bytes ≤ max_result }
     ensures { IfOk result (IsRuling bytes) }
 {
-    let file = match parse_all(alloc, bytes) {
-        Ok(file) => file,
-        Err(ParseError::BadLine(line)) => return Ok(Ruling::Broken { line, rule: 0 }),
-        Err(ParseError::NoMemory) => return Err(NoMemory),
-    };
-    match check_file(alloc, keys, &file)? {
-        Verdict::Yes => Ok(Ruling::Met(file)),
-        Verdict::No { line, rule } => Ok(Ruling::Broken { line, rule }),
+    match parse_all(alloc, bytes) {
+        Ok(file) => ruling_of(alloc, keys, file),
+        Err(ParseError::BadLine(line)) => Ok(Ruling::Broken { line, rule: 0 }),
+        Err(ParseError::NoMemory) => Err(NoMemory),
     }
 }
 

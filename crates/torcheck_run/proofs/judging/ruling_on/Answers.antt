@@ -1,5 +1,9 @@
 use Rattle.torcheck_run.proofs.FewLines.{few_lines}
+use Rattle.torcheck_run.proofs.Judgings.{ruled}
 use Rattle.torcheck_run.proofs.judging.ruling_on.Goals as goal
 
-pub check_file-requires : goal.check_file-requires
-check_file-requires c = record { lines = few_lines c.in-Ok.file c.args.bytes c.in-Ok.ensures.text c.requires.short }
+pub ruling_of-requires : goal.ruling_of-requires
+ruling_of-requires c = record { lines = few_lines c.in-Ok.file c.args.bytes c.in-Ok.ensures.text c.requires.short }
+
+pub returns-in-Ok-clause-ensures : goal.returns-in-Ok-clause-ensures
+returns-in-Ok-clause-ensures c = ruled c.in-Ok.file c.args.bytes c.ruling_of.result c.in-Ok.ensures.text c.ruling_of.ensures
