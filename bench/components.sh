@@ -6,12 +6,8 @@ set -euo pipefail
 top=$(cd "$(dirname "$0")/.." && pwd)
 copy=$(mktemp -d)
 trap 'rm -rf "$copy"' EXIT
-cp "$top/HANDLES" "$copy"
-mkdir "$copy/crates"
-for crate in tor_arena tor_digraph tor_components; do
-    cp -r "$top/crates/$crate" "$copy/crates"
-    grep "^$crate:" "$top/crates.txt" >> "$copy/crates.txt"
-done
+cp "$top/crates.txt" "$top/HANDLES" "$copy"
+tar -C "$top" --exclude=out -cf - crates | tar -C "$copy" -xf -
 echo 'components_bench: tor_arena tor_digraph tor_components anyhow' >> "$copy/crates.txt"
 mkdir -p "$copy/crates/components_bench/src"
 cat > "$copy/crates/components_bench/src/main.rt" <<'RUST'

@@ -10,19 +10,15 @@ yardstick=$(realpath "$1")
 shift
 copy=$(mktemp -d)
 trap 'rm -rf "$copy"' EXIT
-cp "$top/HANDLES" "$copy"
-mkdir "$copy/crates"
-for crate in tor_arena tor_numbers relationships tor_digraph tor_components as_graph tor_clauses tor_solve path_select forced_edges path_attrs path_clean result_text; do
-    tar -C "$top/crates" --exclude=out -cf - "$crate" | tar -C "$copy/crates" -xf -
-    grep "^$crate:" "$top/crates.txt" >> "$copy/crates.txt"
-done
+cp "$top/crates.txt" "$top/HANDLES" "$copy"
+tar -C "$top" --exclude=out -cf - crates | tar -C "$copy" -xf -
 echo 'label_bench: tor_arena relationships as_graph tor_clauses path_select forced_edges path_clean result_text anyhow' >> "$copy/crates.txt"
 bench="$copy/crates/label_bench"
 mkdir -p "$bench/src" "$bench/proofs/are_valley_free"
-# That the paths are valley-free is tested as in the tests of the crate.
-tests="$top/crates/forced_edges/proofs/tests/are_valley_free"
+# That the paths are valley-free is tested as in the tests of labels.
+tests="$top/crates/tests_labels/proofs/cases/are_valley_free"
 for file in Invariants Answers; do
-    sed 's/Rattle\.forced_edges\.proofs\.tests\./Rattle.label_bench.proofs./' "$tests/$file.antt" > "$bench/proofs/are_valley_free/$file.antt"
+    sed 's/Rattle\.tests_labels\.proofs\.cases\./Rattle.label_bench.proofs./' "$tests/$file.antt" > "$bench/proofs/are_valley_free/$file.antt"
 done
 cat > "$bench/src/main.rt" <<'RUST'
 //! Times of selection and of marking over results.

@@ -7,11 +7,7 @@ top=$(cd "$(dirname "$0")/.." && pwd)
 copy=$(mktemp -d)
 trap 'rm -rf "$copy"' EXIT
 cp "$top/crates.txt" "$top/HANDLES" "$copy"
-mkdir "$copy/crates"
-for crate in tor_arena relationships path_attrs path_clean result_text; do
-    cp -r "$top/crates/$crate" "$copy/crates"
-done
-grep -E '^(tor_arena|relationships|path_attrs|path_clean|result_text):' "$top/crates.txt" > "$copy/crates.txt"
+tar -C "$top" --exclude=out -cf - crates | tar -C "$copy" -xf -
 echo 'text_bench: tor_arena relationships path_clean result_text anyhow' >> "$copy/crates.txt"
 mkdir -p "$copy/crates/text_bench/src"
 cat > "$copy/crates/text_bench/src/main.rt" <<'RUST'
@@ -48,7 +44,7 @@ fn edge(place: u32) -> EdgeLine {
         low: number(place),
         high: number(place.wrapping_add(1)),
         label: Label::High,
-        mark: Mark::Loose,
+        mark: Mark::Open,
         support: u64::from(place),
     }
 }
