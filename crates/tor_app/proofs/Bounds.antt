@@ -14,8 +14,8 @@ use Rattle.tor_app.specs.declared.judging.Unjudged.TheVariants as unjudged
 use Rattle.tor_app.specs.Notes.{read_fault_note}
 use Rattle.tor_app.specs.Refusals.{Says, IsNoMemory}
 use Rattle.tor_app.specs.Judging.{TooLong, IsLongFile, LeavesRestOf}
-use Rattle.rel_checker.specs.declared.answer.Answer.{Answer as Verdict}
-use Rattle.rel_checker.specs.declared.answer.Answer.TheVariants.{Yes, No}
+use Rattle.result_rules.specs.declared.verdict.Verdict.{Verdict}
+use Rattle.result_rules.specs.declared.verdict.Verdict.TheVariants.{Yes, No}
 use Rattle.tor_app.specs.CheckAnswer.{LeadsTo, status_of}
 use Rattle.tor_app.specs.Unjudging.{IsUnjudged, IsTooLong, AnswersUnjudged}
 use Rattle.tor_app.proofs.Comings.{not_long}

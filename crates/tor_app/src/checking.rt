@@ -17,7 +17,7 @@ use crate::answer::Answer;
 use crate::judging::{answer_to_unjudged, verdict_of};
 use crate::status::Status;
 use crate::verdicts::{status_of, verdict_text};
-use rel_checker::{Answer as Verdict, acceptance_law};
+use result_rules::{Verdict, acceptance_law};
 use result_text::one_value;
 use std::alloc::Global;
 use tor_arena::{Keys, List};

@@ -2,7 +2,7 @@ ghost use Rattle.std.specs.Prelude.{◌≡◌, ◌≢◌, IfOk, string_bytes};
 ghost use Rattle.tor_app.specs.CheckAnswer.{verdict_text, no_text, status_of};
 
 use crate::status::Status;
-use rel_checker::Answer as Verdict;
+use result_rules::Verdict;
 use std::alloc::{AllocError, Global};
 
 /// The text of a verdict.
