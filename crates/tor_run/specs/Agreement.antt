@@ -3,7 +3,7 @@ use Rattle.std.specs.Prelude.{◌≡◌, ◌≤◌, [], Ok}
 use Rattle.tor_io.specs.Contents.{Files}
 use Rattle.dump_read.specs.declared.taking.Taken.{Taken}
 use Rattle.result_text.specs.declared.file.ResultFile.{ResultFile}
-use Rattle.rel_checker.specs.declared.answer.Answer.TheVariants.{Yes}
+use Rattle.result_rules.specs.declared.verdict.Verdict.TheVariants.{Yes}
 use Rattle.path_clean.specs.Limits.{max_paths}
 use Rattle.tor_words.specs.declared.settings.Mode.TheVariants.{Labels}
 use Rattle.tor_words.specs.declared.settings.Settings.{Settings}

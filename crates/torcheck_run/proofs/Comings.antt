@@ -6,11 +6,11 @@ use Rattle.result_text.specs.declared.file.ResultFile.{ResultFile}
 use Rattle.result_text.specs.Grammar.{IsTextOf}
 use Rattle.result_text.specs.Ranges.{IsInRange}
 use Rattle.result_text.specs.Text.{text}
-use Rattle.rel_checker.specs.declared.answer.Answer.{Answer as Verdict}
-use Rattle.rel_checker.specs.declared.answer.Answer.TheVariants.{Yes, No}
-use Rattle.rel_checker.specs.Rules.{IsRefused}
-use Rattle.rel_checker.specs.Valid.{AcceptanceLaw}
-use Rattle.rel_checker.specs.Against.{in_order, its_rows, JudgesAgainst}
+use Rattle.result_rules.specs.declared.verdict.Verdict.{Verdict}
+use Rattle.result_rules.specs.declared.verdict.Verdict.TheVariants.{Yes, No}
+use Rattle.result_rules.specs.Rules.{IsRefused}
+use Rattle.result_rules.specs.Valid.{AcceptanceLaw}
+use Rattle.result_rules.specs.Against.{in_order, its_rows, JudgesAgainst}
 use Rattle.path_clean.specs.Counts.{Counts}
 use Rattle.path_clean.specs.Rows.{Counted}
 use Rattle.dump_read.specs.declared.taking.Taken.{Taken}

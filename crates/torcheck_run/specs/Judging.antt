@@ -3,11 +3,11 @@ use Rattle.std.specs.Prelude.{◌≡◌, ◌≤◌, ◌<◌, ◌⊎◌, ℕ, Lis
 use Rattle.tor_io.specs.Contents.{Files}
 use Rattle.result_text.specs.declared.file.ResultFile.{ResultFile}
 use Rattle.result_text.specs.Grammar.{IsTextOf, IsBadLine}
-use Rattle.rel_checker.specs.declared.answer.Answer.{Answer as Verdict}
-use Rattle.rel_checker.specs.declared.answer.Answer.TheVariants.{Yes, No}
-use Rattle.rel_checker.specs.Rules.{Accepts, IsRefused}
-use Rattle.rel_checker.specs.Valid.{Valid}
-use Rattle.rel_checker.specs.Against.{its_rows, JudgesAgainst}
+use Rattle.result_rules.specs.declared.verdict.Verdict.{Verdict}
+use Rattle.result_rules.specs.declared.verdict.Verdict.TheVariants.{Yes, No}
+use Rattle.result_rules.specs.Rules.{Accepts, IsRefused}
+use Rattle.result_rules.specs.Valid.{Valid}
+use Rattle.result_rules.specs.Against.{its_rows, JudgesAgainst}
 use Rattle.dump_read.specs.declared.taking.Taken.{Taken}
 use Rattle.dump_read.specs.Seen.{End}
 use Rattle.tor_words.specs.declared.check_settings.CheckSettings.{CheckSettings}
