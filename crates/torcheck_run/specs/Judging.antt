@@ -47,6 +47,12 @@ abbrev pub IsVerdict : List ℕ → List (List ℕ) → Files → Verdict → Ty
 IsVerdict bytes dumps files verdict =
     BreaksRule bytes verdict ⊎ ((file : ResultFile) × IsAccepted file bytes × JudgesByDumps file dumps files verdict)
 
+-- a result file has one verdict beside the same dumps: yes, or one line and one rule
+abbrev pub OneVerdictLaw : Type 0
+OneVerdictLaw =
+    (bytes : List ℕ) (dumps : List (List ℕ)) (files : Files) (verdict other : Verdict) → IsVerdict bytes dumps files verdict →
+    IsVerdict bytes dumps files other → verdict ≡ other
+
 -- ---- the result file
 
 -- the same of the result file that the words name
