@@ -9,8 +9,9 @@ use Rattle.relationships.specs.Evidence.{NeighboursDiffer}
 use Rattle.relationships.specs.Graph.{Edge, edges_on, edges}
 use Rattle.as_graph.specs.declared.step.Step.{Step}
 use Rattle.as_graph.specs.Paths.{triple_count}
-use Rattle.as_graph.specs.Steps.{AreSteps}
-use Rattle.as_graph.specs.Inside.{with_edges, path_by, HaveSteps, IsGraph}
+use Rattle.as_graph.specs.Steps.{AreSteps, HaveSteps}
+use Rattle.tor_numbers.specs.Edges.{with_edges}
+use Rattle.as_graph.specs.Inside.{path_by, IsGraph}
 use Rattle.as_graph.proofs.Distinct.{edges-push, edges_within, few_edges}
 use Rattle.as_graph.proofs.StepLemmas.{HaveSteps-more, HaveSteps-push, paths_by_steps}
 

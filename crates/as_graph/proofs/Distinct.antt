@@ -1,5 +1,5 @@
 -- Edges that are added one by one, each only once.
-use Rattle.std.proofs.Common.{◌≡◌, ℕ, zero, suc, ◌+◌, ◌<◌, ◌≤◌, ◌^◌, inl, inr, true, false, not, ◌||◌, List, [], ◌∷◌, ◌++◌, length, refl, sym, ap, ◌∙◌, subst, arith, All, slice_get, Some, filter, if◌then◌else◌, append_assoc, append-nil, length-append}
+use Rattle.std.proofs.Common.{◌≡◌, ℕ, zero, suc, ◌+◌, ◌<◌, ◌≤◌, ◌^◌, inl, inr, false, not, ◌||◌, List, [], ◌∷◌, ◌++◌, length, refl, sym, ap, ◌∙◌, subst, arith, All, slice_get, Some, filter, append_assoc, append-nil, length-append}
 use Rattle.std.specs.List.{list_any, flat_map, sum_by}
 use Rattle.std.proofs.lemmas.Bool.{cases_Bool}
 use Rattle.std.proofs.lemmas.List.Elements.{All-head, All-tail}
@@ -7,15 +7,10 @@ use Rattle.std.proofs.lemmas.List.Sums.{sum_by-cons}
 use Rattle.relationships.specs.Graph.{Edge, is_same, edges_from, edges_on, distinct, edges}
 use Rattle.relationships.proofs.Edges.{same_edge}
 use Rattle.relationships.proofs.Places.{distinct-push_new, distinct-push_old}
-use Rattle.as_graph.specs.Inside.{with_edge, with_edges}
+use Rattle.tor_numbers.specs.Edges.{with_edge, with_edges}
+use Rattle.tor_numbers.proofs.EdgeLists.{with_edge-same, with_edge-new}
 
 -- ---- with more edges
-
-pub with_edge-same : (es : List Edge) (e : Edge) → list_any (is_same e) es ≡ true → with_edge es e ≡ es
-with_edge-same es e h = ap (λ b. if b then es else es ++ e ∷ []) h
-
-pub with_edge-new : (es : List Edge) (e : Edge) → list_any (is_same e) es ≡ false → with_edge es e ≡ es ++ e ∷ []
-with_edge-new es e h = ap (λ b. if b then es else es ++ e ∷ []) h
 
 pub with_edges-push : (es more : List Edge) (e : Edge) → with_edges es (more ++ e ∷ []) ≡ with_edge (with_edges es more) e
 with_edges-push es [] e = refl

@@ -4,9 +4,9 @@ use Rattle.std.proofs.lemmas.Bool.{cases_Bool, ne_eqb}
 use Rattle.std.proofs.lemmas.List.Sums.{sum_by_push, count_by-le-length}
 use Rattle.std.proofs.lemmas.List.Elements.{All-push}
 use Rattle.relationships.specs.Graph.{Edge}
-use Rattle.as_graph.specs.Inside.{holds, count_of, CountsOneMore, IsTable}
+use Rattle.as_graph.specs.Inside.{holds, count_of, CountsOneMore, AreGraphEdges}
 
-pub counted_few : (es : List Edge) (counts : List (ℕ × ℕ)) (a : ℕ) → IsTable es counts → count_of counts a ≤ length es
+pub counted_few : (es : List Edge) (counts : List (ℕ × ℕ)) (a : ℕ) → AreGraphEdges es counts → count_of counts a ≤ length es
 counted_few es counts a h = let e = h.degrees a in let le = count_by-le-length (holds a) es in omega (arith, e, le)
 
 -- an edge more has two ends more
@@ -17,9 +17,9 @@ ends_of a low high lt =
       | inr f ↦ elim (cases_Bool (nat_eq high a)) [ inl u ↦ rw (f, u) | inr g ↦ rw (f, g) ]
     ]
 
-pub IsTable-push : (es : List Edge) (counts once twice : List (ℕ × ℕ)) (low high : ℕ) → IsTable es counts → low < high → length es < 2 ^ 26 →
-    CountsOneMore counts low once → CountsOneMore once high twice → IsTable (es ++ (low, high) ∷ []) twice
-IsTable-push es counts once twice low high h lt room first second = record {
+pub AreGraphEdges-push : (es : List Edge) (counts once twice : List (ℕ × ℕ)) (low high : ℕ) → AreGraphEdges es counts → low < high → length es < 2 ^ 26 →
+    CountsOneMore counts low once → CountsOneMore once high twice → AreGraphEdges (es ++ (low, high) ∷ []) twice
+AreGraphEdges-push es counts once twice low high h lt room first second = record {
   ordered = All-push (λ (e : Edge). e.0 < e.1) es (low, high) h.ordered lt;
   few = let n = length-append es ((low, high) ∷ []) in omega (arith, n, room);
   degrees = λ a.

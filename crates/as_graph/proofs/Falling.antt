@@ -5,7 +5,8 @@ use Rattle.relationships.specs.declared.label.Label.{Label}
 use Rattle.relationships.specs.Relationship.{Labelling, Slope, Up, Down, Flat, slopes, ValleyFree}
 use Rattle.relationships.proofs.Deciding.{only_down, no_valley, no_valley_iff}
 use Rattle.as_graph.specs.declared.step.Step.{Step}
-use Rattle.as_graph.specs.Slopes.{step_slope, slopes_by, is_up, is_down}
+use Rattle.relationships.specs.Steps.{step_slope, is_up, is_down}
+use Rattle.as_graph.specs.Steps.{slopes_by}
 
 -- whether what is left goes on well
 abbrev pub well : Bool → List Slope → Bool

@@ -11,8 +11,8 @@ use Rattle.relationships.specs.Relationship.{Labelling, Slope, is_low, is_high, 
 use Rattle.relationships.specs.Graph.{Edge, is_same, distinct, orientation, labelling}
 use Rattle.relationships.proofs.Slopes.{over-low, over-high, slope-up, slope-down}
 use Rattle.as_graph.specs.declared.step.Step.{Step}
-use Rattle.as_graph.specs.Steps.{IsStep, AreStepsFrom, AreSteps}
-use Rattle.as_graph.specs.Slopes.{step_slope, slopes_by}
+use Rattle.relationships.specs.Steps.{step_slope}
+use Rattle.as_graph.specs.Steps.{IsStep, AreStepsFrom, AreSteps, slopes_by}
 
 -- ---- no edge twice
 

@@ -3,7 +3,6 @@ pub mod BuildLemmas
 pub mod CountLemmas
 pub mod Distinct
 pub mod EdgeLemmas
-pub mod EdgeNumbers
 pub mod Falling
 pub mod Labelled
 pub mod ReturnLemmas

@@ -13,7 +13,8 @@ use Rattle.relationships.proofs.FewReturns.{named_few}
 use Rattle.relationships.proofs.GivenLemmas.{same_edges, returns_differ}
 use Rattle.as_graph.specs.declared.step.Step.{Step}
 use Rattle.as_graph.specs.Paths.{triple_count}
-use Rattle.as_graph.specs.Inside.{path_by, HaveSteps, is_named, returns_among, AddsReturns, IsGraph}
+use Rattle.as_graph.specs.Steps.{HaveSteps}
+use Rattle.as_graph.specs.Inside.{path_by, is_named, returns_among, AddsReturns, IsGraph}
 use Rattle.as_graph.proofs.Distinct.{edges_and_paths}
 use Rattle.as_graph.proofs.BuildLemmas.{triples_within}
 use Rattle.as_graph.proofs.StepLemmas.{paths_by_steps}

@@ -7,8 +7,10 @@ use Rattle.std.proofs.lemmas.List.Elements.{All-nil, All-cons, All-head, All-tai
 use Rattle.relationships.specs.Relationship.{opposite}
 use Rattle.relationships.specs.Graph.{Edge, edge_of, edges_from, edges_on}
 use Rattle.as_graph.specs.declared.step.Step.{Step}
-use Rattle.as_graph.specs.Steps.{end_left, IsStep, AreStepsFrom, AreSteps}
-use Rattle.as_graph.specs.Inside.{with_edge, with_edges, as_at, left_as, next_as, path_by, HaveSteps}
+use Rattle.relationships.specs.Steps.{end_left}
+use Rattle.as_graph.specs.Steps.{IsStep, AreStepsFrom, AreSteps, HaveSteps}
+use Rattle.tor_numbers.specs.Edges.{with_edge, with_edges}
+use Rattle.as_graph.specs.Inside.{as_at, left_as, next_as, path_by}
 use Rattle.as_graph.proofs.Distinct.{with_edges-push, stays, length-with_edges, length-edges_from}
 
 -- ---- more edges

@@ -1,17 +1,18 @@
 -- What the fields of a graph hold.
-use Rattle.std.specs.Prelude.{◌≡◌, ℕ, ◌+◌, ◌<◌, ◌≤◌, ◌^◌, ◌||◌, ◌==◌, Bool, List, [], ◌∷◌, ◌++◌, All, length, map, sum_by, count_by, filter, slice_index_or, unwrap_or, nat_eq, if◌then◌else◌}
+use Rattle.std.specs.Prelude.{◌≡◌, ℕ, ◌+◌, ◌<◌, ◌≤◌, ◌||◌, ◌==◌, Bool, List, [], ◌∷◌, ◌++◌, All, length, map, sum_by, count_by, filter, slice_index_or, unwrap_or, nat_eq, if◌then◌else◌}
 use Rattle.std.specs.List.{list_any}
 use Rattle.std.specs.Map.{lookup}
+use Rattle.tor_arena.specs.Limits.{max_numbers}
 use Rattle.relationships.specs.declared.label.End.{End}
 use Rattle.relationships.specs.Evidence.{NeighboursDiffer}
-use Rattle.tor_numbers.specs.EdgeNumbers.{edge_numbered}
 use Rattle.relationships.specs.Relationship.{opposite}
 use Rattle.relationships.specs.declared.given.Given.{Given}
 use Rattle.relationships.specs.Givens.{return_of}
 use Rattle.relationships.specs.Graph.{Edge, edge_of, is_same, edges}
 use Rattle.as_graph.specs.declared.step.Step.{Step}
+use Rattle.as_graph.specs.Limits.{most_paths, most_numbers, most_triples}
 use Rattle.as_graph.specs.Paths.{triple_count}
-use Rattle.as_graph.specs.Steps.{AreSteps}
+use Rattle.as_graph.specs.Steps.{HaveSteps}
 
 -- ---- edges and degrees
 
@@ -30,24 +31,11 @@ AreDegrees es counts = (a : ℕ) → count_of counts a ≡ count_by (holds a) es
 abbrev pub CountsOneMore : List (ℕ × ℕ) → ℕ → List (ℕ × ℕ) → Type 0
 CountsOneMore counts end more = (a : ℕ) → count_of more a ≡ count_of counts a + (if nat_eq end a then 1 else 0)
 
--- the edges of numbers
-abbrev pub edges_numbered : List ℕ → List Edge
-edges_numbered numbers = map edge_numbered numbers
-
 -- each edge has its lower number first, and there are few enough to be numbered
-pub record IsTable (es : List Edge) (counts : List (ℕ × ℕ)) : Type 0 where
+pub record AreGraphEdges (es : List Edge) (counts : List (ℕ × ℕ)) : Type 0 where
   pub ordered : All (λ (e : Edge). e.0 < e.1) es
-  pub few : length es ≤ 2 ^ 26
+  pub few : length es ≤ max_numbers
   pub degrees : AreDegrees es counts
-
--- the edges with one more, which goes last unless it is there
-abbrev pub with_edge : List Edge → Edge → List Edge
-with_edge es e = if list_any (is_same e) es then es else es ++ e ∷ []
-
--- the edges with all of these
-abbrev pub with_edges : List Edge → List Edge → List Edge
-with_edges es [] = es
-with_edges es (e ∷ more) = with_edges (with_edge es e) more
 
 -- ---- paths given by their steps
 
@@ -65,13 +53,6 @@ next_as es step = as_at (slice_index_or es step.edge (0, 0)) (opposite step.left
 abbrev pub path_by : List Edge → List Step → List ℕ
 path_by es [] = []
 path_by es (step ∷ steps) = left_as es step ∷ map (next_as es) (step ∷ steps)
-
--- the paths have these steps, one list for each
-abbrev pub HaveSteps : List Edge → List (List ℕ) → List (List Step) → Type 0
-HaveSteps es [] [] = Unit {0}
-HaveSteps es [] (steps ∷ rows) = ⊥
-HaveSteps es (path ∷ paths) [] = ⊥
-HaveSteps es (path ∷ paths) (steps ∷ rows) = AreSteps es path steps × HaveSteps es paths rows
 
 -- ---- returns of givens
 
@@ -96,7 +77,7 @@ pub record IsGraph (es : List Edge) (rows : List (List Step)) (paths : List (Lis
   pub stepped : HaveSteps es paths rows
   pub several : All (λ path. 2 ≤ length path) paths
   pub apart : All NeighboursDiffer paths
-  pub few : length paths ≤ 2 ^ 26
-  pub short : sum_by length paths ≤ 2 ^ 28
-  pub few_edges : length (edges paths) < 2 ^ 26
-  pub few_triples : sum_by triple_count paths < 2 ^ 27
+  pub few : length paths ≤ most_paths
+  pub short : sum_by length paths ≤ most_numbers
+  pub few_edges : length (edges paths) < max_numbers
+  pub few_triples : sum_by triple_count paths < most_triples

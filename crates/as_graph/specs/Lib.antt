@@ -1,4 +1,4 @@
 pub mod Inside
+pub mod Limits
 pub mod Paths
-pub mod Slopes
 pub mod Steps

@@ -1,25 +1,33 @@
--- The steps of a path, each named by its edge and the end from which it goes.
-use Rattle.std.specs.Prelude.{◌≡◌, ℕ, Some, List, [], ◌∷◌, slice_get, nat_lt, if◌then◌else◌}
+-- The steps of a path, each named by its edge and the end from which it goes; and how they go under labels.
+use Rattle.std.specs.Prelude.{ℕ, List}
+use Rattle.relationships.specs.declared.label.Label.{Label}
+use Rattle.relationships.specs.Relationship.{Slope}
+use Rattle.relationships.specs.Graph.{Edge}
 use Rattle.relationships.specs.declared.label.End.{End}
-use Rattle.relationships.specs.Graph.{Edge, edge_of}
+use Rattle.relationships.specs.Steps as steps
+use Rattle.relationships.specs.Steps.{IsStepAlong, AreStepsBehind, AreStepsAlong, HaveStepsAlong, slopes_along}
 use Rattle.as_graph.specs.declared.step.Step.{Step}
 
 -- the end of its edge from which a step from a to b goes
 abbrev pub end_left : ℕ → ℕ → End
-end_left a b = if nat_lt a b then End.Low else End.High
+end_left = steps.end_left
 
 -- the step goes from a to b, where these are the edges
 abbrev pub IsStep : List Edge → ℕ → ℕ → Step → Type 0
-IsStep es a b step = (slice_get es step.edge ≡ Some (edge_of a b)) × (step.left ≡ end_left a b)
+IsStep = IsStepAlong (λ (step : Step). step.edge) (λ (step : Step). step.left)
 
 -- one step for each AS behind a, in order
 abbrev pub AreStepsFrom : List Edge → ℕ → List ℕ → List Step → Type 0
-AreStepsFrom es a [] [] = Unit {0}
-AreStepsFrom es a [] (step ∷ steps) = ⊥
-AreStepsFrom es a (b ∷ path) [] = ⊥
-AreStepsFrom es a (b ∷ path) (step ∷ steps) = IsStep es a b step × AreStepsFrom es b path steps
+AreStepsFrom = AreStepsBehind (λ (step : Step). step.edge) (λ (step : Step). step.left)
 
 -- one step for each two neighbours of the path, in order
 abbrev pub AreSteps : List Edge → List ℕ → List Step → Type 0
-AreSteps es [] steps = steps ≡ []
-AreSteps es (a ∷ path) steps = AreStepsFrom es a path steps
+AreSteps = AreStepsAlong (λ (step : Step). step.edge) (λ (step : Step). step.left)
+
+-- the paths have these steps, one list for each
+abbrev pub HaveSteps : List Edge → List (List ℕ) → List (List Step) → Type 0
+HaveSteps = HaveStepsAlong (λ (step : Step). step.edge) (λ (step : Step). step.left)
+
+-- how the steps go under labels that stand in the order of the edges
+abbrev pub slopes_by : List Label → List Step → List Slope
+slopes_by = slopes_along (λ (step : Step). step.edge) (λ (step : Step). step.left)

@@ -1,13 +1,16 @@
-ghost use Rattle.std.specs.Prelude.{◌≡◌, ◌≢◌, ◌+◌, ◌*◌, ◌<◌, ◌≤◌, ◌^◌, ◌++◌, ◌∷◌, [], All, length, sum_by, IfOk, OnOk};
+ghost use Rattle.std.specs.Prelude.{◌≡◌, ◌≢◌, ◌+◌, ◌*◌, ◌<◌, ◌≤◌, ◌++◌, ◌∷◌, [], All, length, sum_by, IfOk, OnOk};
 ghost use Rattle.tor_arena.specs.Distinct.{AllDistinct};
+ghost use Rattle.tor_arena.specs.Limits.{most_places, max_paths, max_numbers};
 ghost use Rattle.relationships.specs.Evidence.{NeighboursDiffer};
 ghost use Rattle.relationships.specs.Graph.{edge_of, edges_on};
 ghost use Rattle.relationships.specs.Givens.{returns, NameTwo, NameOnce};
-ghost use Rattle.as_graph.specs.Steps.{IsStep, AreSteps, end_left};
-ghost use Rattle.as_graph.specs.Inside.{with_edge, with_edges, AddsReturns};
+ghost use Rattle.relationships.specs.Steps.{end_left};
+ghost use Rattle.as_graph.specs.Steps.{IsStep, AreSteps};
+ghost use Rattle.tor_numbers.specs.Edges.{with_edge, with_edges};
+ghost use Rattle.as_graph.specs.Inside.{AddsReturns};
 
-use crate::edge_table::EdgeTable;
 use crate::graph::AsGraph;
+use crate::graph_edges::GraphEdges;
 use crate::step::Step;
 use relationships::{End, Given};
 use std::alloc::Global;
@@ -18,21 +21,21 @@ use tor_arena::{EdgeId, Index, Keys, List, NoMemory, PathId, RowRefused, Rows};
 pub fn build(alloc: Global, keys: Keys, paths: &Rows<PathId, u32>) -> Result<AsGraph, NoMemory>
     requires several { All (λ path. 2 ≤ length path) paths.now }
     requires apart { All AllDistinct paths.now }
-    requires few { length paths.now ≤ 2 ^ 23 }
-    requires short { sum_by length paths.now ≤ 2 ^ 26 }
+    requires few { length paths.now ≤ max_paths }
+    requires short { sum_by length paths.now ≤ max_numbers }
     ensures { IfOk result (λ graph. graph ≡ paths.now) }
 {
-    let mut table = EdgeTable::new(alloc, keys);
+    let mut edges = GraphEdges::new(alloc, keys);
     let mut rows = Rows::new(alloc);
     rows.reserve(paths.len(), steps_on(paths))?;
     let mut steps = List::new(alloc);
     for place in 0..paths.len() {
         let path = PathId::from_place(place).unwrap();
         steps.clear();
-        add_steps(&mut table, &mut steps, paths.row(path))?;
+        add_steps(&mut edges, &mut steps, paths.row(path))?;
         add_row(&mut rows, steps.as_slice())?;
     }
-    Ok(AsGraph { table, rows })
+    Ok(AsGraph { edges, rows })
 }
 
 /// The graph of the paths and, behind these, of the returns of those givens whose two are neighbours on them: from the customer to the
@@ -46,47 +49,47 @@ pub fn build_with(
 ) -> Result<AsGraph, NoMemory>
     requires several { All (λ path. 2 ≤ length path) paths.now }
     requires apart { All AllDistinct paths.now }
-    requires few { length paths.now ≤ 2 ^ 23 }
-    requires short { sum_by length paths.now ≤ 2 ^ 26 }
+    requires few { length paths.now ≤ max_paths }
+    requires short { sum_by length paths.now ≤ max_numbers }
     requires two { NameTwo givens.now }
     requires once { NameOnce givens.now }
     ensures { IfOk result (λ graph. graph ≡ paths.now ++ returns paths.now givens.now) }
 {
-    let AsGraph { table, mut rows } = build(alloc, keys, paths)?;
-    add_returns(&table, &mut rows, givens)?;
-    Ok(AsGraph { table, rows })
+    let AsGraph { edges, mut rows } = build(alloc, keys, paths)?;
+    add_returns(&edges, &mut rows, givens)?;
+    Ok(AsGraph { edges, rows })
 }
 
 /// Adds the steps of the return of each given whose two are an edge, where no two of the givens name the same two, and there are few
 /// enough rows and edges.
 fn add_returns(
-    table: &EdgeTable,
+    edges: &GraphEdges,
     rows: &mut Rows<PathId, Step>,
     givens: &[Given],
 ) -> Result<(), NoMemory>
     requires two { NameTwo givens.now }
     requires once { NameOnce givens.now }
-    requires few { length rows.old + length table.now < 2 ^ 28 }
-    ensures { OnOk result (AddsReturns table.now givens.now rows.old rows.new) }
+    requires few { length rows.old + length edges.now < most_places }
+    ensures { OnOk result (AddsReturns edges.now givens.now rows.old rows.new) }
 {
     for given in givens {
-        add_return(table, rows, given)?;
+        add_return(edges, rows, given)?;
     }
     Ok(())
 }
 
 /// Adds the steps of the return of a given, if its two are an edge.
 fn add_return(
-    table: &EdgeTable,
+    edges: &GraphEdges,
     rows: &mut Rows<PathId, Step>,
     given: &Given,
 ) -> Result<(), NoMemory>
     requires two { given.now.over ≢ given.now.under }
-    requires few { length rows.old < 2 ^ 28 }
-    ensures { OnOk result (AddsReturns table.now (given.now ∷ []) rows.old rows.new) }
+    requires few { length rows.old < most_places }
+    ensures { OnOk result (AddsReturns edges.now (given.now ∷ []) rows.old rows.new) }
 {
     let (over, under) = (given.over, given.under);
-    match table.find(over.min(under), over.max(under)) {
+    match edges.find(over, under) {
         None => Ok(()),
         Some(edge) => {
             let there = step_on(edge, under, over);
@@ -117,7 +120,7 @@ fn steps_on(paths: &Rows<PathId, u32>) -> usize {
 
 /// Adds a row, where there are not too many.
 fn add_row(rows: &mut Rows<PathId, Step>, steps: &[Step]) -> Result<(), NoMemory>
-    requires { length rows.old < 2 ^ 28 }
+    requires { length rows.old < most_places }
     ensures { OnOk result (rows.new ≡ rows.old ++ steps.now ∷ []) }
 {
     match rows.push_row(steps) {
@@ -128,38 +131,27 @@ fn add_row(rows: &mut Rows<PathId, Step>, steps: &[Step]) -> Result<(), NoMemory
 }
 
 /// Adds the edges of a path, and its steps, where there are no others.
-fn add_steps(table: &mut EdgeTable, steps: &mut List<Step>, path: &[u32]) -> Result<(), NoMemory>
+fn add_steps(edges: &mut GraphEdges, steps: &mut List<Step>, path: &[u32]) -> Result<(), NoMemory>
     requires apart { NeighboursDiffer path.now }
-    requires room { length table.old + length path.now ≤ 2 ^ 26 }
+    requires room { length edges.old + length path.now ≤ max_numbers }
     requires empty { steps.old ≡ [] }
-    ensures edges { OnOk result (table.new ≡ with_edges table.old (edges_on path.now)) }
-    ensures steps { OnOk result (AreSteps table.new path.now steps.new) }
+    ensures edges { OnOk result (edges.new ≡ with_edges edges.old (edges_on path.now)) }
+    ensures steps { OnOk result (AreSteps edges.new path.now steps.new) }
 {
     for at in 1..path.len() {
-        let step = add_step(table, path[at - 1], path[at])?;
+        let step = add_step(edges, path[at - 1], path[at])?;
         steps.push(step)?;
     }
     Ok(())
 }
 
 /// Adds the edge of two ASes, and answers the step from the first to the second.
-fn add_step(table: &mut EdgeTable, from: u32, to: u32) -> Result<Step, NoMemory>
+fn add_step(edges: &mut GraphEdges, from: u32, to: u32) -> Result<Step, NoMemory>
     requires apart { from ≢ to }
-    requires room { length table.old < 2 ^ 26 }
-    ensures edge { OnOk result (table.new ≡ with_edge table.old (edge_of from to)) }
-    ensures step { IfOk result (λ step. IsStep table.new from to step) }
+    requires room { length edges.old < max_numbers }
+    ensures edge { OnOk result (edges.new ≡ with_edge edges.old (edge_of from to)) }
+    ensures step { IfOk result (λ step. IsStep edges.new from to step) }
 {
-    if from < to {
-        let edge = table.add(from, to)?;
-        Ok(Step {
-            edge,
-            left: End::Low,
-        })
-    } else {
-        let edge = table.add(to, from)?;
-        Ok(Step {
-            edge,
-            left: End::High,
-        })
-    }
+    let edge = edges.add(from, to)?;
+    Ok(step_on(edge, from, to))
 }

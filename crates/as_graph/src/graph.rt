@@ -1,14 +1,16 @@
-ghost use Rattle.std.specs.Prelude.{◌≡◌, ◌≢◌, ◌+◌, ◌<◌, ◌≤◌, ◌^◌, ◌↔◌, All, length, map, sum_by, slice_get, IsTrue, IsFalse, IsNone, IfSome, IfOk};
+ghost use Rattle.std.specs.Prelude.{◌≡◌, ◌≢◌, ◌+◌, ◌<◌, ◌≤◌, ◌↔◌, All, length, map, sum_by, slice_get, IsTrue, IsFalse, IsNone, IfSome, IfOk};
 ghost use Rattle.std.specs.List.{AllPairs};
 ghost use Rattle.tor_arena.specs.Distinct.{AllDistinct};
+ghost use Rattle.tor_arena.specs.Limits.{max_numbers};
 ghost use Rattle.relationships.specs.Evidence.{NeighboursDiffer};
 ghost use Rattle.relationships.specs.Relationship.{ValleyFree};
 ghost use Rattle.relationships.specs.Graph.{edge_of, edges, degree, support, labelling};
+ghost use Rattle.as_graph.specs.Limits.{most_paths, most_numbers, most_triples};
 ghost use Rattle.as_graph.specs.Paths.{path_at, paths_at, is_edge, triple_count};
 ghost use Rattle.as_graph.specs.Steps.{AreSteps};
 
 use crate::counting::count_steps;
-use crate::edge_table::EdgeTable;
+use crate::graph_edges::GraphEdges;
 use crate::per_edge::Labels;
 use crate::step::Step;
 use crate::valley::is_valley_free;
@@ -29,7 +31,7 @@ pub struct Edge {
 /// The graph of a list of paths, seen as that list: each has at least two ASes, and no two neighbours on it are the same.
 #[derive(Drop)]
 pub struct AsGraph {
-    pub(crate) table: EdgeTable,
+    pub(crate) edges: GraphEdges,
     // for each path, its steps
     pub(crate) rows: Rows<PathId, Step>,
 }
@@ -40,9 +42,9 @@ impl Model for AsGraph {
 
     ghost Value = { List (List ℕ) };
 
-    ghost view = { λ graph. map (path_by graph.table) graph.rows };
+    ghost view = { λ graph. map (path_by graph.edges) graph.rows };
 
-    ghost invariant = { λ graph. IsGraph graph.table graph.rows (map (path_by graph.table) graph.rows) };
+    ghost invariant = { λ graph. IsGraph graph.edges graph.rows (map (path_by graph.edges) graph.rows) };
 }
 
 impl AsGraph {
@@ -52,12 +54,12 @@ impl AsGraph {
     pub fn facts(&self)
         ensures several { All (λ path. 2 ≤ length path) self.now }
         ensures apart { All NeighboursDiffer self.now }
-        ensures paths { length self.now ≤ 2 ^ 26 }
-        ensures numbers { sum_by length self.now ≤ 2 ^ 28 }
-        ensures edges { length (edges self.now) < 2 ^ 26 }
-        ensures triples { sum_by triple_count self.now < 2 ^ 27 }
+        ensures paths { length self.now ≤ most_paths }
+        ensures numbers { sum_by length self.now ≤ most_numbers }
+        ensures edges { length (edges self.now) < max_numbers }
+        ensures triples { sum_by triple_count self.now < most_triples }
     {
-        let _ = &self.table;
+        let _ = &self.edges;
     }
 
     /// How many paths there are, at most 2^26. It takes no memory.
@@ -70,10 +72,10 @@ impl AsGraph {
     /// How many edges there are, fewer than 2^26. It takes no memory.
     pub fn edge_count(&self) -> usize
         ensures count { result ≡ length (edges self.now) }
-        ensures few { length (edges self.now) < 2 ^ 26 }
+        ensures few { length (edges self.now) < max_numbers }
     {
         self.facts();
-        self.table.len()
+        self.edges.len()
     }
 
     /// The edge of an index, which has to be there. Edges stand in order of first appearance along the paths. It takes no memory.
@@ -82,7 +84,7 @@ impl AsGraph {
         ensures pair { slice_get (edges self.now) id ≡ Some (result.low, result.high) }
         ensures order { result.low < result.high }
     {
-        let (low, high) = self.table.get(id);
+        let (low, high) = self.edges.get(id);
         Edge { low, high }
     }
 
@@ -91,14 +93,14 @@ impl AsGraph {
         ensures edge { IfSome result (λ id. slice_get (edges self.now) id ≡ Some (edge_of a b)) }
         ensures none { IsNone result ↔ IsFalse (is_edge self.now a b) }
     {
-        self.table.find(a.min(b), a.max(b))
+        self.edges.find(a, b)
     }
 
     /// How many edges hold an AS, 0 for one that is not there. It takes no memory.
     pub fn degree(&self, a: u32) -> u64
         ensures { result ≡ degree self.now a }
     {
-        self.table.degree(a)
+        self.edges.degree(a)
     }
 
     /// The steps of a path, which has to be there, in order: one step for each two neighbours. It takes no memory.

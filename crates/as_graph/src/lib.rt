@@ -4,8 +4,8 @@
 
 mod building;
 mod counting;
-mod edge_table;
 mod graph;
+mod graph_edges;
 mod per_edge;
 mod step;
 mod valley;

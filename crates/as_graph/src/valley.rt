@@ -1,6 +1,7 @@
 ghost use Rattle.std.specs.Prelude.{◌≡◌, ◌↔◌, ◌<◌, ℕ, All, List, length, IsTrue};
 ghost use Rattle.relationships.specs.Relationship.{Labelling, slopes, ValleyFree};
-ghost use Rattle.as_graph.specs.Slopes.{is_up, is_down, step_slope, slopes_by};
+ghost use Rattle.relationships.specs.Steps.{is_up, is_down, step_slope};
+ghost use Rattle.as_graph.specs.Steps.{slopes_by};
 
 use crate::step::Step;
 use relationships::{End, Label};

@@ -16,7 +16,8 @@ use Rattle.relationships.proofs.Edges.{same_edge}
 use Rattle.as_graph.specs.declared.step.Step.{Step}
 use Rattle.as_graph.specs.Inside.{as_at}
 use Rattle.as_graph.specs.Paths.{path_at, paths_at}
-use Rattle.as_graph.specs.Steps.{end_left, IsStep, AreStepsFrom, AreSteps}
+use Rattle.relationships.specs.Steps.{end_left}
+use Rattle.as_graph.specs.Steps.{IsStep, AreStepsFrom, AreSteps}
 use Rattle.as_graph.proofs.Labelled.{NoneTwice, NoneTwice-distinct, none_at, same_itself}
 use Rattle.as_graph.proofs.CountLemmas.{once_each}
 use Rattle.as_graph.proofs.StepLemmas.{left_as-step, next_as-step}

@@ -1,4 +1,4 @@
-ghost use Rattle.std.specs.Prelude.{◌≡◌, ◌≢◌, ◌<◌, ◌≤◌, ◌^◌, ℕ, All, length, map, slice_index_or, IfOk};
+ghost use Rattle.std.specs.Prelude.{◌≡◌, ◌≢◌, ◌<◌, ◌≤◌, ℕ, All, length, map, slice_index_or, IfOk};
 ghost use Rattle.std.specs.List.{AllPairs};
 ghost use Rattle.std.specs.List.Sorted.{IsPermutation};
 ghost use Rattle.std.specs.Int.RustNames.{unsigned_abs};
@@ -6,6 +6,8 @@ ghost use Rattle.relationships.specs.declared.label.End.{End};
 ghost use Rattle.relationships.specs.Graph.{edges, degree};
 ghost use Rattle.relationships.specs.Preference.{lean, lead, wanted, IsSettlingOrder};
 ghost use Rattle.tor_arena.specs.Distinct.{AllDistinct};
+ghost use Rattle.tor_arena.specs.Limits.{max_numbers};
+ghost use Rattle.as_graph.specs.Limits.{most_paths};
 ghost use Rattle.as_graph.specs.Paths.{paths_at};
 ghost use Rattle.gao_prefs.specs.Ends.{number_at};
 ghost use Rattle.gao_prefs.specs.Preferences.{AreInOrder, HaveLeans, HaveWanted, IsPref, NotAfter, edge_at, edges_of, key_of, lean_by, wanted_by};
@@ -46,10 +48,10 @@ fn wanted_end(votes: &PerEnd, degrees: &PerEnd) -> End
 
 /// What an edge with these votes and degrees of its ends prefers.
 fn pref_of(edge: EdgeId, votes: &PerEnd, degrees: &PerEnd) -> Pref
-    requires low { votes.now.low ≤ 2 ^ 26 }
-    requires high { votes.now.high ≤ 2 ^ 26 }
+    requires low { votes.now.low ≤ most_paths }
+    requires high { votes.now.high ≤ most_paths }
     ensures edge { result.edge ≡ edge }
-    ensures small { unsigned_abs result.lean ≤ 2 ^ 26 }
+    ensures small { unsigned_abs result.lean ≤ most_paths }
     ensures lean { result.lean ≡ lean_by votes.now }
     ensures wanted { result.wanted ≡ wanted_by votes.now degrees.now }
 {
@@ -64,10 +66,10 @@ fn pref_of(edge: EdgeId, votes: &PerEnd, degrees: &PerEnd) -> Pref
 /// out.
 fn prefs_of(alloc: Global, votes: &[PerEnd], degrees: &[PerEnd]) -> Result<Vec<Pref>, NoMemory>
     requires same { length degrees.now ≡ length votes.now }
-    requires few { length votes.now < 2 ^ 26 }
-    requires small { (k : ℕ) (e : End) → number_at votes.now k e ≤ 2 ^ 26 }
+    requires few { length votes.now < max_numbers }
+    requires small { (k : ℕ) (e : End) → number_at votes.now k e ≤ most_paths }
     ensures length { IfOk result (λ prefs. length prefs.items ≡ length votes.now) }
-    ensures small { IfOk result (λ prefs. All (λ pref. unsigned_abs pref.lean ≤ 2 ^ 26) prefs.items) }
+    ensures small { IfOk result (λ prefs. All (λ pref. unsigned_abs pref.lean ≤ most_paths) prefs.items) }
     ensures each { IfOk result (λ prefs. (k : ℕ) (d : Pref) → k < length prefs.items →
         IsPref votes.now degrees.now k (slice_index_or prefs.items k d)) }
 {
@@ -88,7 +90,7 @@ fn sort_key(pref: &Pref) -> (u64, usize)
 
 /// Sorts preferences by falling absolute lean, and those of equal absolute lean by their edges. It takes no memory.
 fn sort_by_lead(prefs: &mut Vec<Pref>)
-    requires small { All (λ pref. unsigned_abs pref.lean ≤ 2 ^ 26) prefs.old.items }
+    requires small { All (λ pref. unsigned_abs pref.lean ≤ most_paths) prefs.old.items }
     ensures same { IsPermutation prefs.old.items prefs.new.items }
     ensures sorted { (i j : ℕ) (d : Pref) → i ≤ j → j < length prefs.new.items →
         NotAfter (slice_index_or prefs.new.items i d) (slice_index_or prefs.new.items j d) }

@@ -3,7 +3,9 @@ ghost use Rattle.std.specs.List.{AllPairs};
 ghost use Rattle.relationships.specs.declared.label.End.{End};
 ghost use Rattle.tor_arena.specs.Distinct.{AllDistinct};
 ghost use Rattle.relationships.specs.Graph.{edges, degree};
+ghost use Rattle.as_graph.specs.Limits.{most_paths, most_numbers};
 ghost use Rattle.as_graph.specs.Paths.{paths_at};
+ghost use Rattle.gao_prefs.specs.Limits.{most_votes};
 ghost use Rattle.gao_prefs.specs.Ends.{same_end, number_at, degrees_of, is_vote, ballots, votes_of};
 
 use crate::per_end::{PerEnd, other_end};
@@ -16,7 +18,7 @@ use tor_arena::{EdgeId, Index, NoMemory, PathId};
 /// Counts one vote more for an end of an edge.
 fn vote(votes: &mut Vec<PerEnd>, edge: EdgeId, end: End)
     requires there { edge < length votes.old.items }
-    requires small { number_at votes.old.items edge end < 2 ^ 31 }
+    requires small { number_at votes.old.items edge end < most_votes }
     ensures length { length votes.new.items ≡ length votes.old.items }
     ensures counted { (k : ℕ) (e : End) →
         number_at votes.new.items k e ≡ number_at votes.old.items k e + (if nat_eq edge k && same_end end e then 1 else 0) }
@@ -32,7 +34,7 @@ fn vote(votes: &mut Vec<PerEnd>, edge: EdgeId, end: End)
 fn vote_each(votes: &mut Vec<PerEnd>, steps: &[Step], climbing: bool)
     requires inside { All (λ step. step.edge < length votes.old.items) steps.now }
     requires small { (k : ℕ) (e : End) → number_at votes.old.items k e ≤ 2 ^ 30 }
-    requires few { length steps.now ≤ 2 ^ 28 }
+    requires few { length steps.now ≤ most_numbers }
     ensures length { length votes.new.items ≡ length votes.old.items }
     ensures counted { (k : ℕ) (e : End) →
         number_at votes.new.items k e ≡ number_at votes.old.items k e + count_by (is_vote climbing k e) steps.now }
@@ -53,7 +55,7 @@ fn vote_path(votes: &mut Vec<PerEnd>, steps: &[Step], degrees: &[PerEnd])
     requires inside { All (λ step. step.edge < length votes.old.items) steps.now }
     requires known { length degrees.now ≡ length votes.old.items }
     requires small { (k : ℕ) (e : End) → number_at votes.old.items k e ≤ 2 ^ 29 }
-    requires few { length steps.now ≤ 2 ^ 28 }
+    requires few { length steps.now ≤ most_numbers }
     ensures length { length votes.new.items ≡ length votes.old.items }
     ensures counted { (k : ℕ) (e : End) →
         number_at votes.new.items k e ≡ number_at votes.old.items k e + ballots degrees.now steps.now k e }
@@ -76,7 +78,7 @@ pub(crate) fn count_votes(
     requires known { degrees.now ≡ map (degrees_of graph.now) (edges graph.now) }
     ensures counted { IfOk result (λ votes.
         votes.items ≡ map (votes_of (degree graph.now) (paths_at graph.now kept.now)) (edges graph.now)) }
-    ensures small { IfOk result (λ votes. (k : ℕ) (e : End) → number_at votes.items k e ≤ 2 ^ 26) }
+    ensures small { IfOk result (λ votes. (k : ℕ) (e : End) → number_at votes.items k e ≤ most_paths) }
 {
     graph.facts();
     let mut votes = Vec::new(alloc);

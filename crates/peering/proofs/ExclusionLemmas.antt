@@ -7,7 +7,8 @@ use Rattle.relationships.specs.declared.label.Label.{Label}
 use Rattle.relationships.specs.Relationship.{label_of, Slope, Up, Down, Flat}
 use Rattle.relationships.proofs.Slopes.{Falls, Free}
 use Rattle.as_graph.specs.declared.step.Step.{Step}
-use Rattle.as_graph.specs.Slopes.{step_slope, slopes_by, is_up}
+use Rattle.relationships.specs.Steps.{step_slope, is_up}
+use Rattle.as_graph.specs.Steps.{slopes_by}
 use Rattle.std.proofs.lemmas.List.{get_or-set_same, get_or-set_other}
 use Rattle.peering.specs.Exclusions.{ExcludedBy, ExcludedOn}
 

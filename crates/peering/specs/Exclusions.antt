@@ -6,7 +6,7 @@ use Rattle.relationships.specs.Relationship.{label_of}
 use Rattle.relationships.specs.Graph.{edges}
 use Rattle.as_graph.specs.declared.step.Step.{Step}
 use Rattle.as_graph.specs.Paths.{path_at}
-use Rattle.as_graph.specs.Slopes.{is_up, step_slope}
+use Rattle.relationships.specs.Steps.{is_up, step_slope}
 use Rattle.as_graph.specs.Steps.{AreSteps}
 
 -- the step goes up, where the edges have these providers

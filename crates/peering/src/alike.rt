@@ -1,4 +1,5 @@
-ghost use Rattle.std.specs.Prelude.{◌≡◌, ◌<◌, ◌≤◌, ◌*◌, ◌^◌, ◌↔◌, max, min, length, slice_index_or, IsTrue};
+ghost use Rattle.std.specs.Prelude.{◌≡◌, ◌<◌, ◌≤◌, ◌*◌, ◌↔◌, max, min, length, slice_index_or, IsTrue};
+ghost use Rattle.tor_arena.specs.Limits.{max_numbers, max_ratio};
 ghost use Rattle.relationships.specs.Graph.{edges, degree};
 ghost use Rattle.peering.specs.Peerings.{edge_at, IsAlike};
 
@@ -7,9 +8,9 @@ use tor_arena::EdgeId;
 
 /// Whether the greater of two degrees is at most `ratio` times the lesser.
 fn is_within(a: u64, b: u64, ratio: u32) -> bool
-    requires first { a ≤ 2 ^ 26 }
-    requires second { b ≤ 2 ^ 26 }
-    requires small { ratio ≤ 1000000 }
+    requires first { a ≤ max_numbers }
+    requires second { b ≤ max_numbers }
+    requires small { ratio ≤ max_ratio }
     ensures { IsTrue result ↔ (max a b ≤ ratio * min a b) }
 {
     a.max(b) <= ratio as u64 * a.min(b)
@@ -18,7 +19,7 @@ fn is_within(a: u64, b: u64, ratio: u32) -> bool
 /// Whether the ends of an edge, which has to be there, are alike in degree.
 pub(crate) fn is_alike(graph: &AsGraph, edge: EdgeId, ratio: u32) -> bool
     requires there { edge < length (edges graph.now) }
-    requires small { ratio ≤ 1000000 }
+    requires small { ratio ≤ max_ratio }
     ensures { IsTrue result ↔ IsAlike (degree graph.now) ratio (edge_at graph.now edge) }
 {
     graph.facts();

@@ -1,7 +1,7 @@
 ghost use Rattle.std.specs.Prelude.{◌≡◌, ◌<◌, ◌⊎◌, ℕ, false, All, length, slice_index_or, IsTrue, IfOk};
 ghost use Rattle.relationships.specs.Relationship.{label_of};
 ghost use Rattle.relationships.specs.Graph.{edges};
-ghost use Rattle.as_graph.specs.Slopes.{is_up, step_slope};
+ghost use Rattle.relationships.specs.Steps.{is_up, step_slope};
 ghost use Rattle.peering.specs.Exclusions.{ExcludedBy, ExcludedOn, IsExcluded};
 
 use as_graph::{AsGraph, Step};

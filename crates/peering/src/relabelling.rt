@@ -1,5 +1,6 @@
 ghost use Rattle.std.specs.Prelude.{◌≡◌, ◌≢◌, ◌<◌, ◌≤◌, ◌↔◌, ℕ, All, Contains, length, map, slice_set, slice_index_or, IsTrue, IsFalse, IfOk};
 ghost use Rattle.std.specs.List.{AllPairs};
+ghost use Rattle.tor_arena.specs.Limits.{max_ratio};
 ghost use Rattle.relationships.specs.declared.label.Label.{Label};
 ghost use Rattle.relationships.specs.Relationship.{label_of, labels_of, ValleyFree, Serves};
 ghost use Rattle.relationships.specs.Graph.{edges, degree, support, orientation as orientation_of, labelling};
@@ -77,7 +78,7 @@ fn settle(
     requires labels { length labels.old ≡ length (edges graph.now) }
     requires edge { edge < length (edges graph.now) }
     requires there { All (λ path. path < length graph.now) paths.now }
-    requires small { ratio ≤ 1000000 }
+    requires small { ratio ≤ max_ratio }
     ensures { IsSettled graph.now ratio excluded paths.now edge labels.old labels.new }
 {
     if !excluded && !paths.is_empty() && is_alike(graph, edge, ratio) {
@@ -100,7 +101,7 @@ pub fn relabel(
     requires once { AllPairs ◌≢◌ kept.now }
     requires ends { length orientation.now ≡ length (edges graph.now) }
     requires served { Serves (orientation_of (edges graph.now) orientation.now) (paths_at graph.now kept.now) }
-    requires small { ratio ≤ 1000000 }
+    requires small { ratio ≤ max_ratio }
     ensures count { IfOk result (λ labels. length labels ≡ length (edges graph.now)) }
     ensures relabelled { IfOk result
         (λ labels. IsRelabelled (degree graph.now) ratio (paths_at graph.now kept.now) (edges graph.now)

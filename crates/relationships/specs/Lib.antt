@@ -10,3 +10,4 @@ pub mod Marking
 pub mod Preference
 pub mod Relationship
 pub mod Selection
+pub mod Steps

@@ -1,51 +1,25 @@
--- A line is found by the number of its pair.
-use Rattle.std.proofs.Common.{◌≡◌, ℕ, zero, suc, ◌<◌, ◌≤◌, ◌^◌, min, max, inl, inr, Bool, true, false, List, [], ◌∷◌, ◌++◌, length, take, map, option_map, get_or, Option, Some, None, refl, sym, ap, ◌∙◌, subst, arith, cond}
+-- A line is found by its two ASes.
+use Rattle.std.proofs.Common.{◌≡◌, ℕ, zero, suc, ◌<◌, inl, inr, Bool, true, false, not, List, [], ◌∷◌, ◌++◌, length, map, option_map, get_or, Option, Some, None, refl, sym, ap, ◌∙◌, subst, arith, cond}
 use Rattle.std.specs.Prelude.{slice_get, Contains}
-use Rattle.std.specs.List.{AllByRecursion}
-use Rattle.std.proofs.lemmas.Bool.{cases_Bool, eq-eqb}
+use Rattle.std.specs.List.{list_any, IsDistinct}
+use Rattle.std.proofs.lemmas.Bool.{cases_Bool, both_ways}
 use Rattle.std.proofs.lemmas.List.{map-append, length-map}
-use Rattle.std.proofs.lemmas.List.Elements.{All-push, recursion_from_All}
-use Rattle.std.proofs.lemmas.Option.{slice_get-get_or, slice_get-map, same_Some}
+use Rattle.std.proofs.lemmas.List.Elements.{All-push}
+use Rattle.std.proofs.lemmas.Map.Keys.{IsDistinct-push, apart_from_distinct}
+use Rattle.std.proofs.lemmas.Map.Views.{list_any-from_Contains}
+use Rattle.std.proofs.lemmas.Option.{slice_get-get_or, slice_get-map, slice_get_within, get_or_from_slice_get, same_Some}
 use Rattle.relationships.specs.Graph.{Edge, edge_of, is_same}
 use Rattle.relationships.proofs.Edges.{same_edge}
-use Rattle.tor_numbers.specs.EdgeNumbers.{number_of_edge, edge_numbered}
-use Rattle.tor_numbers.specs.Places.{IsPut}
-use Rattle.tor_numbers.specs.Slots.{IsApart}
-use Rattle.tor_numbers.proofs.EdgeNumbers.{numbered}
-use Rattle.tor_numbers.proofs.Gets.{Contains-from_has, has-from_Contains, slice_get-lt}
-use Rattle.tor_numbers.proofs.SlotLemmas.{apart-push}
-use Rattle.serial_lines.proofs.Places.{slice_get-take_back}
+use Rattle.relationships.proofs.FewReturns.{same-equivalence}
+use Rattle.tor_numbers.specs.Edges.{with_edge, edge_at}
+use Rattle.tor_numbers.proofs.EdgeLists.{with_edge-same, with_edge-new}
+use Rattle.tor_numbers.proofs.Gets.{Contains-from_has, has-from_Contains}
 use Rattle.serial_lines.specs.declared.line.RelLine.{RelLine}
 use Rattle.serial_lines.specs.Serial.{IsLine, IsSound, IsTaken, pair_of, names, line_between, agrees, with_line}
-use Rattle.serial_lines.specs.Indexed.{number_of, IsIndexed}
-
--- ---- pairs and their numbers
+use Rattle.serial_lines.specs.Indexed.{IsIndexed}
 
 pub is_same-self : (e : Edge) → is_same e e ≡ true
-is_same-self e = rw (eq-eqb e.0 e.0 refl, eq-eqb e.1 e.1 refl)
-
--- the two ASes in order, of 32 bits
-record IsPair (e : Edge) : Type 0 where
-  order : e.0 ≤ e.1
-  fits : e.1 < 2 ^ 32
-
-edge_pair : (a b : ℕ) → a < 2 ^ 32 → b < 2 ^ 32 → IsPair (edge_of a b)
-edge_pair a b h k = record { order = omega arith; fits = omega (arith, h, k) }
-
-line_pair : (l : RelLine) → IsLine l → IsPair (pair_of l)
-line_pair l h = edge_pair l.first l.second h.first h.second
-
--- pairs of one number are the same
-same_pair : (e f : Edge) → IsPair e → IsPair f → number_of_edge e ≡ number_of_edge f → e ≡ f
-same_pair e f h k same = sym (numbered e.0 e.1 h.order h.fits) ∙ ap edge_numbered same ∙ numbered f.0 f.1 k.order k.fits
-
-pub named_by_number : (l : RelLine) (a b : ℕ) → IsLine l → a < 2 ^ 32 → b < 2 ^ 32 → number_of l ≡ number_of_edge (edge_of a b) → names l a b ≡ true
-named_by_number l a b h a_fits b_fits same =
-    let e = same_pair (pair_of l) (edge_of a b) (line_pair l h) (edge_pair a b a_fits b_fits) same in
-    subst (λ (f : Edge). is_same (pair_of l) f ≡ true) e (is_same-self (pair_of l))
-
-pub number_by_name : (l : RelLine) (a b : ℕ) → names l a b ≡ true → number_of l ≡ number_of_edge (edge_of a b)
-number_by_name l a b t = ap number_of_edge (same_edge (pair_of l) (edge_of a b) t)
+is_same-self e = same-equivalence.refl e
 
 -- ---- a line among others
 
@@ -55,71 +29,100 @@ contains_more y xs x c = let at = has-from_Contains xs x c in Contains-from_has 
 contains_first : {X : Type 0} (y : X) (xs : List X) (x : X) → y ≡ x → Contains (y ∷ xs) x
 contains_first y xs x e = Contains-from_has (y ∷ xs) x (0, ap (λ (z : _). Some z) e)
 
-pub none_found : (ls : List RelLine) (a b n : ℕ) → n ≡ number_of_edge (edge_of a b) → (Contains (map number_of ls) n → ⊥) → line_between ls a b ≡ None
-none_found [] a b n is never = refl
-none_found (l ∷ ls) a b n is never =
+none_found : (ls : List RelLine) (a b : ℕ) → (Contains (map pair_of ls) (edge_of a b) → ⊥) → line_between ls a b ≡ None
+none_found [] a b never = refl
+none_found (l ∷ ls) a b never =
     elim (cases_Bool (names l a b)) [
-      | inl t ↦ absurd (never (contains_first (number_of l) (map number_of ls) n (number_by_name l a b t ∙ sym is)))
-      | inr f ↦ rw f (none_found ls a b n is (λ c. never (contains_more (number_of l) (map number_of ls) n c)))
+      | inl t ↦ absurd (never (contains_first (pair_of l) (map pair_of ls) (edge_of a b) (same_edge (pair_of l) (edge_of a b) t)))
+      | inr f ↦ rw f (none_found ls a b (λ c. never (contains_more (pair_of l) (map pair_of ls) (edge_of a b) c)))
     ]
 
-pub one_found : (ls : List RelLine) (k a b n : ℕ) (l : RelLine) → AllByRecursion IsLine ls → a < 2 ^ 32 → b < 2 ^ 32 → n ≡ number_of_edge (edge_of a b) →
-    slice_get (map number_of ls) k ≡ Some n → (Contains (take k (map number_of ls)) n → ⊥) → slice_get ls k ≡ Some l → line_between ls a b ≡ Some l
-one_found [] k a b n l all a_fits b_fits is at never there = absurd (cc there)
-one_found (m ∷ ls) zero a b n l all a_fits b_fits is at never there =
-    let same : number_of m ≡ n = same_Some (number_of m) n at in
-    let t = named_by_number m a b all.0 a_fits b_fits (same ∙ is) in
+-- a line behind another names other two
+named_otherwise : (m : RelLine) (ls : List RelLine) (k a b : ℕ) → IsDistinct is_same (map pair_of (m ∷ ls)) → slice_get (map pair_of ls) k ≡ Some (edge_of a b) →
+    names m a b ≡ false
+named_otherwise m ls k a b once at =
+    let within = slice_get_within (map pair_of ls) k (edge_of a b) at in
+    subst (λ (e : Edge). is_same (pair_of m) e ≡ false) (get_or_from_slice_get (map pair_of ls) k (edge_of a b) (0, 0) at)
+    (apart_from_distinct is_same (map pair_of (m ∷ ls)) 0 (suc k) (0, 0) once (omega arith) (omega (arith, within)))
+
+once_behind : (m : RelLine) (ls : List RelLine) → IsDistinct is_same (map pair_of (m ∷ ls)) → IsDistinct is_same (map pair_of ls)
+unfolding IsDistinct
+once_behind m ls once = once.1
+
+one_found : (ls : List RelLine) (k a b : ℕ) (l : RelLine) → IsDistinct is_same (map pair_of ls) → slice_get (map pair_of ls) k ≡ Some (edge_of a b) →
+    slice_get ls k ≡ Some l → line_between ls a b ≡ Some l
+one_found [] k a b l once at there = absurd (cc there)
+one_found (m ∷ ls) zero a b l once at there =
+    let same : pair_of m ≡ edge_of a b = same_Some (pair_of m) (edge_of a b) at in
+    let t : names m a b ≡ true = subst (λ (e : Edge). is_same (pair_of m) e ≡ true) same (is_same-self (pair_of m)) in
     rw t there
-one_found (m ∷ ls) (suc k) a b n l all a_fits b_fits is at never there =
-    elim (cases_Bool (names m a b)) [
-      | inl t ↦ absurd (never (contains_first (number_of m) (take k (map number_of ls)) n (number_by_name m a b t ∙ sym is)))
-      | inr f ↦ rw f (one_found ls k a b n l all.1 a_fits b_fits is at (λ c. never (contains_more (number_of m) (take k (map number_of ls)) n c)) there)
-    ]
+one_found (m ∷ ls) (suc k) a b l once at there =
+    let f = named_otherwise m ls k a b once at in
+    rw f (one_found ls k a b l (once_behind m ls once) at there)
 
--- ---- lines beside numbers
+-- ---- lines beside their edges
 
-number_at : (numbers : List ℕ) (lines : List RelLine) (k : ℕ) (l : RelLine) → numbers ≡ map number_of lines → slice_get lines k ≡ Some l → slice_get numbers k ≡ Some (number_of l)
-number_at numbers lines k l e at = ap (λ ns. slice_get ns k) e ∙ slice_get-map number_of lines k ∙ ap (option_map number_of) at
+edge_beside : (es : List Edge) (lines : List RelLine) (k : ℕ) (l : RelLine) → es ≡ map pair_of lines → slice_get lines k ≡ Some l → edge_at es k ≡ pair_of l
+edge_beside es lines k l e at =
+    get_or_from_slice_get es k (pair_of l) (0, 0) (ap (λ (fs : List Edge). slice_get fs k) e ∙ slice_get-map pair_of lines k ∙ ap (option_map pair_of) at)
 
-pub index_sound : (numbers : List ℕ) (lines : List RelLine) → IsIndexed numbers lines → IsSound lines
-index_sound numbers lines h = record {
+pub index_sound : (es : List Edge) (lines : List RelLine) → IsIndexed es lines → IsSound lines
+index_sound es lines h = record {
   proper = h.proper;
   apart = λ i j d lt within same.
       let l : RelLine = get_or lines i d in
       let m : RelLine = get_or lines j d in
-      let at_i : slice_get lines i ≡ Some l = slice_get-get_or lines i d (omega (arith, lt, within)) in
-      let at_j : slice_get lines j ≡ Some m = slice_get-get_or lines j d within in
-      let n_i : slice_get numbers i ≡ Some (number_of m) = number_at numbers lines i l h.numbered at_i ∙ ap (λ (e : Edge). Some (number_of_edge e)) same in
-      h.apart j (number_of m) (number_at numbers lines j m h.numbered at_j)
-      (Contains-from_has (take j numbers) (number_of m) (i, slice_get-take_back j numbers i (number_of m) lt n_i));
+      let at_i : edge_at es i ≡ pair_of l = edge_beside es lines i l h.named (slice_get-get_or lines i d (omega (arith, lt, within))) in
+      let at_j : edge_at es j ≡ pair_of m = edge_beside es lines j m h.named (slice_get-get_or lines j d within) in
+      let long = ap length h.named in
+      let count = length-map lines pair_of in
+      let differ : is_same (edge_at es i) (edge_at es j) ≡ false = apart_from_distinct is_same es i j (0, 0) h.once lt (omega (arith, within, long, count)) in
+      let alike : is_same (edge_at es i) (edge_at es j) ≡ true =
+      subst (λ (e : Edge). is_same (edge_at es i) e ≡ true) (at_i ∙ same ∙ sym at_j) (is_same-self (edge_at es i)) in
+      cc;
 }
 
-pub index_within : (numbers : List ℕ) (lines : List RelLine) (k n : ℕ) → IsIndexed numbers lines → slice_get numbers k ≡ Some n → k < length lines
-index_within numbers lines k n h at =
-    let lt = slice_get-lt numbers k n at in let long = ap length h.numbered in let count = length-map lines number_of in omega (arith, lt, long, count)
+pub index_within : (es : List Edge) (lines : List RelLine) (k : ℕ) (e : Edge) → IsIndexed es lines → slice_get es k ≡ Some e → k < length lines
+index_within es lines k e h at =
+    let lt = slice_get_within es k e at in let long = ap length h.named in let count = length-map lines pair_of in omega (arith, lt, long, count)
 
--- what a search for a number says of its pair
-pub between_none : (numbers : List ℕ) (lines : List RelLine) (a b n : ℕ) → IsIndexed numbers lines → n ≡ number_of_edge (edge_of a b) → (Contains numbers n → ⊥) → line_between lines a b ≡ None
-between_none numbers lines a b n h is never = none_found lines a b n is (subst (λ ns. Contains ns n → ⊥) h.numbered never)
+-- what a search for two ASes says
+pub between_none : (es : List Edge) (lines : List RelLine) (a b : ℕ) → IsIndexed es lines → (Contains es (edge_of a b) → ⊥) → line_between lines a b ≡ None
+between_none es lines a b h never = none_found lines a b (subst (λ (fs : List Edge). Contains fs (edge_of a b) → ⊥) h.named never)
 
-pub between_some : (numbers : List ℕ) (lines : List RelLine) (k a b n : ℕ) (l : RelLine) → IsIndexed numbers lines → a < 2 ^ 32 → b < 2 ^ 32 →
-    n ≡ number_of_edge (edge_of a b) → slice_get numbers k ≡ Some n → slice_get lines k ≡ Some l → line_between lines a b ≡ Some l
-between_some numbers lines k a b n l h a_fits b_fits is at there =
-    one_found lines k a b n l (recursion_from_All IsLine lines h.proper) a_fits b_fits is (ap (λ ns. slice_get ns k) (sym h.numbered) ∙ at)
-    (subst (λ ns. Contains (take k ns) n → ⊥) h.numbered (h.apart k n at)) there
+pub between_some : (es : List Edge) (lines : List RelLine) (k a b : ℕ) (l : RelLine) → IsIndexed es lines → slice_get es k ≡ Some (edge_of a b) →
+    slice_get lines k ≡ Some l → line_between lines a b ≡ Some l
+between_some es lines k a b l h at there =
+    one_found lines k a b l (subst (IsDistinct is_same) h.named h.once) (ap (λ (fs : List Edge). slice_get fs k) (sym h.named) ∙ at) there
+
+-- what adding two ASes says of them
+pub absent_new : (es : List Edge) (a b : ℕ) (is_new : Bool) → is_new ≡ not (list_any (is_same (edge_of a b)) es) → is_new ≡ true → list_any (is_same (edge_of a b)) es ≡ false
+absent_new es a b is_new is t = from_not (list_any (is_same (edge_of a b)) es) (sym is ∙ t)
+  where
+    from_not : (x : Bool) → not x ≡ true → x ≡ false
+    from_not false h = refl
+    from_not true h = absurd (cc h)
+
+pub never_there : (es : List Edge) (e : Edge) → list_any (is_same e) es ≡ false → Contains es e → ⊥
+never_there es e f c = both_ways (list_any (is_same e) es) f (list_any-from_Contains same-equivalence e es c)
+
+pub stays_known : (es new : List Edge) (a b : ℕ) (is_new : Bool) → new ≡ with_edge es (edge_of a b) → is_new ≡ not (list_any (is_same (edge_of a b)) es) → is_new ≡ false → new ≡ es
+stays_known es new a b is_new grown is f = grown ∙ with_edge-same es (edge_of a b) (from_not (list_any (is_same (edge_of a b)) es) (sym is ∙ f))
+  where
+    from_not : (x : Bool) → not x ≡ false → x ≡ true
+    from_not true h = refl
+    from_not false h = absurd (cc h)
 
 -- a line that goes last
-pub index_pushed : (numbers new : List ℕ) (lines : List RelLine) (n : ℕ) (l : RelLine) → IsIndexed numbers lines → IsLine l → n ≡ number_of l → (Contains numbers n → ⊥) → IsPut n numbers new →
-    IsIndexed new (lines ++ l ∷ [])
-index_pushed numbers new lines n l h its is never (inl there) = absurd (never there.0)
-index_pushed numbers new lines n l h its is never (inr put) = record {
-  numbered = put.1 ∙ ap (λ ns. ns ++ n ∷ []) h.numbered ∙ ap (λ (m : ℕ). map number_of lines ++ m ∷ []) is ∙ sym (map-append number_of lines (l ∷ []));
-  apart = subst IsApart (sym put.1) (apart-push numbers n h.apart never);
-  proper = All-push IsLine lines l h.proper its;
-}
-
-pub number_is : (low high a b n : ℕ) → n ≡ number_of_edge (low, high) → low ≡ min a b → high ≡ max a b → n ≡ number_of_edge (edge_of a b)
-number_is low high a b n e low_is high_is = e ∙ ap (λ x. number_of_edge (x, high)) low_is ∙ ap (λ y. number_of_edge (min a b, y)) high_is
+pub index_pushed : (es new : List Edge) (lines : List RelLine) (l : RelLine) → IsIndexed es lines → IsLine l → new ≡ with_edge es (pair_of l) →
+    list_any (is_same (pair_of l)) es ≡ false → IsIndexed new (lines ++ l ∷ [])
+index_pushed es new lines l h its grown absent =
+    let last : new ≡ es ++ pair_of l ∷ [] = grown ∙ with_edge-new es (pair_of l) absent in
+    record {
+      named = last ∙ ap (λ (fs : List Edge). fs ++ pair_of l ∷ []) h.named ∙ sym (map-append pair_of lines (l ∷ []));
+      once = subst (IsDistinct is_same) (sym last) (IsDistinct-push same-equivalence es (pair_of l) h.once absent);
+      proper = All-push IsLine lines l h.proper its;
+    }
 
 -- the line in a place, as it is read by its place
 pub line_got : (lines read : List RelLine) (k : ℕ) (d : RelLine) → read ≡ lines → k < length lines → slice_get lines k ≡ Some (get_or read k d)
@@ -145,3 +148,8 @@ taken_new old new l none is = with_line_none old l none ∙ ap (λ (ls : List Re
 pub goes_last : (old new : List RelLine) (l : RelLine) (good : Bool) → line_between old l.first l.second ≡ None → IsTaken l old new good → new ≡ old ++ l ∷ []
 goes_last old new l true none t = sym (same_Some (old ++ l ∷ []) new (sym (with_line_none old l none) ∙ t))
 goes_last old new l false none t = absurd (cc (sym (with_line_none old l none) ∙ t))
+
+-- where a line of two ASes is that are known already
+pub known_at : (es new : List Edge) (a b k : ℕ) (is_new : Bool) → new ≡ with_edge es (edge_of a b) → is_new ≡ not (list_any (is_same (edge_of a b)) es) → is_new ≡ false →
+    slice_get new k ≡ Some (edge_of a b) → slice_get es k ≡ Some (edge_of a b)
+known_at es new a b k is_new grown is f at = ap (λ (fs : List Edge). slice_get fs k) (sym (stays_known es new a b is_new grown is f)) ∙ at

@@ -7,14 +7,14 @@ use crate::line::{RelLine, agree};
 use std::alloc::Global;
 use std::marker::Model;
 use tor_arena::{Keys, NoMemory};
-use tor_numbers::{PlaceTable, number_of_edge};
+use tor_numbers::EdgeTable;
 
 /// What is known of pairs of ASes, in order, each pair once. A line is found by its two ASes, in either order. The table's keys are
 /// random, since whoever wrote a file chose its pairs.
 #[derive(Drop)]
 pub struct Rel {
-    // the number of each line's pair
-    numbers: PlaceTable,
+    // the two ASes of each line
+    edges: EdgeTable,
     lines: Vec<RelLine>,
 }
 
@@ -27,7 +27,7 @@ impl Model for Rel {
 
     ghost view = { λ rel. rel.lines.items };
 
-    ghost invariant = { λ rel. IsIndexed rel.numbers rel.lines.items };
+    ghost invariant = { λ rel. IsIndexed rel.edges rel.lines.items };
 }
 
 impl Rel {
@@ -38,7 +38,7 @@ impl Rel {
         ensures { result ≡ [] }
     {
         Rel {
-            numbers: PlaceTable::new(alloc, keys),
+            edges: EdgeTable::new(alloc, keys),
             lines: Vec::new(alloc),
         }
     }
@@ -55,7 +55,7 @@ impl Rel {
     pub fn between(&self, a: u32, b: u32) -> Option<RelLine>
         ensures { result ≡ line_between self.now a b }
     {
-        let place = self.numbers.place(number_of_edge(a.min(b), a.max(b)))?;
+        let place = self.edges.place(a, b)?;
         Some(self.lines.as_slice()[place])
     }
 
@@ -67,15 +67,12 @@ impl Rel {
         ensures same { result ≡ Ok false → self.new ≡ self.old }
         ensures err { OnErr result (self.new ≡ self.old) }
     {
-        let number = number_of_edge(line.first.min(line.second), line.first.max(line.second));
-        match self.numbers.place(number) {
-            Some(place) => Ok(agree(self.lines.as_slice()[place], line)),
-            None => {
-                self.lines.reserve(1)?;
-                self.numbers.add(number)?;
-                self.lines.push_reserved(line);
-                Ok(true)
-            }
+        self.lines.reserve(1)?;
+        let added = self.edges.add(line.first, line.second)?;
+        if added.is_new {
+            self.lines.push_reserved(line);
+            return Ok(true);
         }
+        Ok(agree(self.lines.as_slice()[added.place], line))
     }
 }

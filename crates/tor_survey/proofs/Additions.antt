@@ -9,7 +9,7 @@ use Rattle.std.proofs.lemmas.List.Elements.{All-head, All-tail, All-push}
 use Rattle.std.proofs.lemmas.List.{map-append}
 use Rattle.relationships.specs.Graph.{Edge, edge_of, is_same}
 use Rattle.relationships.proofs.Edges.{same_edge}
-use Rattle.as_graph.specs.Inside.{with_edge}
+use Rattle.tor_numbers.specs.Edges.{with_edge}
 use Rattle.tor_numbers.specs.EdgeNumbers.{edge_numbered}
 use Rattle.tor_numbers.specs.Places.{IsPut}
 use Rattle.tor_numbers.specs.Slots.{IsInserted}

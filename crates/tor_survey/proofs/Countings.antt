@@ -3,7 +3,7 @@ use Rattle.std.proofs.Common.{◌≡◌, ℕ, ◌+◌, List, [], ◌∷◌, ◌+
 use Rattle.std.proofs.lemmas.Option.{get_or_from_slice_get, slice_get_within}
 use Rattle.std.proofs.lemmas.List.{take_more}
 use Rattle.relationships.specs.Graph.{Edge, edges_on, edges}
-use Rattle.as_graph.specs.Inside.{with_edges}
+use Rattle.tor_numbers.specs.Edges.{with_edges}
 use Rattle.as_graph.proofs.Distinct.{edges-push}
 use Rattle.tor_survey.specs.Figures.{ases, longest}
 use Rattle.tor_survey.specs.Sets.{with_ases}

@@ -4,8 +4,8 @@ use Rattle.std.specs.List.{list_any}
 use Rattle.std.proofs.lemmas.Bool.{cases_Bool, cases_lt, false≢true}
 use Rattle.relationships.specs.Graph.{Edge, edge_of, is_same}
 use Rattle.relationships.proofs.Edges.{same_edge}
-use Rattle.as_graph.specs.Inside.{with_edge}
-use Rattle.as_graph.proofs.Distinct.{with_edge-new}
+use Rattle.tor_numbers.specs.Edges.{with_edge}
+use Rattle.tor_numbers.proofs.EdgeLists.{with_edge-new}
 use Rattle.tor_survey.specs.Sets.{with_as, IsKnown, HaveEnds}
 use Rattle.tor_survey.proofs.Appearing.{with_as-known, with_as-new}
 

@@ -1,6 +1,6 @@
 ghost use Rattle.std.specs.Prelude.{◌≡◌, IfOk, OnOk};
 ghost use Rattle.relationships.specs.Graph.{edge_of, edges_from, edges_on};
-ghost use Rattle.as_graph.specs.Inside.{with_edge, with_edges};
+ghost use Rattle.tor_numbers.specs.Edges.{with_edge, with_edges};
 ghost use Rattle.tor_survey.specs.Figures.{figures_of};
 ghost use Rattle.tor_survey.specs.Sets.{with_as, with_ases, IsKnown, HaveEnds};
 

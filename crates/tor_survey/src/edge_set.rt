@@ -1,7 +1,7 @@
 ghost use Rattle.std.specs.Prelude.{◌≡◌, [], length, not, IfOk, OnOk};
 ghost use Rattle.std.specs.List.{list_any};
 ghost use Rattle.relationships.specs.Graph.{edge_of, is_same};
-ghost use Rattle.as_graph.specs.Inside.{with_edge};
+ghost use Rattle.tor_numbers.specs.Edges.{with_edge};
 
 use std::alloc::Global;
 use std::marker::Model;

@@ -2,4 +2,4 @@ use Rattle.as_graph.proofs.BuildLemmas.{IsBuilt}
 use Rattle.as_graph.proofs.building.build.Given as goal
 
 abbrev pub invariant-loop-place : goal.invariant-loop-place
-invariant-loop-place l = IsBuilt l.paths l.place l.table l.rows
+invariant-loop-place l = IsBuilt l.paths l.place l.edges l.rows

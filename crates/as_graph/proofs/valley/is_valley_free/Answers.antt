@@ -2,7 +2,8 @@ use Rattle.std.proofs.Common.{◌≡◌, ◌+◌, ◌<◌, ◌≤◌, true, fals
 use Rattle.std.proofs.lemmas.List.{get_or_default}
 use Rattle.relationships.specs.declared.label.Label.{Label}
 use Rattle.as_graph.specs.declared.step.Step.{Step}
-use Rattle.as_graph.specs.Slopes.{slopes_by, step_slope, is_down}
+use Rattle.relationships.specs.Steps.{step_slope, is_down}
+use Rattle.as_graph.specs.Steps.{slopes_by}
 use Rattle.as_graph.proofs.Falling.{well, well-stop, well-nil, next_slopes, answer}
 use Rattle.as_graph.proofs.valley.is_valley_free.Goals as goal
 

@@ -1,6 +1,6 @@
 use Rattle.std.proofs.Common.{◌≡◌, drop}
 use Rattle.relationships.proofs.Deciding.{no_valley}
-use Rattle.as_graph.specs.Slopes.{slopes_by}
+use Rattle.as_graph.specs.Steps.{slopes_by}
 use Rattle.as_graph.proofs.Falling.{well}
 use Rattle.as_graph.proofs.valley.is_valley_free.Given as goal
 

@@ -1,6 +1,6 @@
 use Rattle.std.proofs.Common.{◌≡◌, drop}
 use Rattle.relationships.specs.Graph.{edges_from}
-use Rattle.as_graph.specs.Inside.{with_edges}
+use Rattle.tor_numbers.specs.Edges.{with_edges}
 use Rattle.tor_survey.specs.Sets.{with_ases, IsKnown, HaveEnds}
 use Rattle.tor_survey.proofs.counting.add_others.Given as goal
 

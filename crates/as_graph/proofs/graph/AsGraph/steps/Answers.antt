@@ -9,7 +9,7 @@ use Rattle.as_graph.proofs.graph.AsGraph.steps.Goals as goal
 
 pub returns-clause-steps : goal.returns-clause-steps
 returns-clause-steps c =
-    let es = c.self.inside.table in
+    let es = c.self.inside.edges in
     let rows = c.self.inside.rows in
     let here : AreSteps es (get_or (map (path_by es) rows) c.args.path []) c.row.result.now =
     have_steps_at es (map (path_by es) rows) rows c.args.path c.row.result.now c.self.invariant.stepped c.row.ensures in
@@ -18,7 +18,7 @@ returns-clause-steps c =
 
 pub returns-clause-count : goal.returns-clause-count
 returns-clause-count c =
-    let es = c.self.inside.table in
+    let es = c.self.inside.edges in
     let rows = c.self.inside.rows in
     let paths = map (path_by es) rows in
     let place = c.args.path in
@@ -31,7 +31,7 @@ returns-clause-count c =
 
 pub returns-clause-inside : goal.returns-clause-inside
 returns-clause-inside c =
-    let es = c.self.inside.table in
+    let es = c.self.inside.edges in
     let rows = c.self.inside.rows in
     let paths = map (path_by es) rows in
     let place = c.args.path in

@@ -4,7 +4,7 @@ use Rattle.std.specs.List.{flat_map}
 use Rattle.relationships.specs.Evidence.{NeighboursDiffer}
 use Rattle.relationships.specs.Relationship.{slopes}
 use Rattle.relationships.specs.Graph.{edges, edges_on, labelling}
-use Rattle.as_graph.specs.Slopes.{slopes_by}
+use Rattle.as_graph.specs.Steps.{slopes_by}
 use Rattle.as_graph.proofs.Labelled.{slopes-steps, NoneTwice-distinct}
 use Rattle.as_graph.proofs.graph.AsGraph.valley_free.Goals as goal
 

@@ -1,7 +1,7 @@
 use Rattle.std.proofs.Common.{◌∙◌, ap, not}
 use Rattle.std.specs.List.{list_any}
 use Rattle.relationships.specs.Graph.{edge_of, is_same}
-use Rattle.as_graph.specs.Inside.{with_edge}
+use Rattle.tor_numbers.specs.Edges.{with_edge}
 use Rattle.tor_survey.proofs.Additions.{edge_inserted}
 use Rattle.tor_survey.proofs.edge_set.EdgeSet.add.Goals as goal
 
