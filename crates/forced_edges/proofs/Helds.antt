@@ -1,5 +1,6 @@
 -- Orders that the labels have, and those that they do not have.
-use Rattle.std.proofs.Common.{◌≡◌, ◌↔◌, ℕ, ◌/◌, ◌<◌, ◌≤◌, ◌⊎◌, inl, inr, Bool, true, false, not, List, Some, length, get_or, refl, sym, ap, ◌∙◌, subst, arith, lt-ltb, le-ltb, All, IsTrue, flat_map, Contains}
+use Rattle.std.proofs.Common.{◌≡◌, ◌↔◌, ℕ, ◌/◌, ◌<◌, ◌≤◌, ◌⊎◌, inl, inr, Bool, true, false, not, List, Some, length, get_or, refl, sym, ap, ◌∙◌, subst, arith, lt-ltb, le-ltb, All, IsTrue}
+use Rattle.std.proofs.Common.{flat_map, Contains}
 use Rattle.std.specs.Prelude.{slice_get}
 use Rattle.std.proofs.lemmas.Bool.{cases_lt, cases_order, false≢true}
 use Rattle.std.proofs.lemmas.Option.{same_Some, get_or_from_slice_get}
@@ -134,7 +135,8 @@ module _ (labels : List Label) (arcs : List (ℕ × ℕ)) (past nodes : List ℕ
   reached_off partners kept h g r = stays-off h (off_of arcs partners (held labels) (held_one labels) kept r g)
 
 -- the node of an order of an edge
-at_end : (labels : List Label) (edge : ℕ) (over : End) (label : Label) → slice_get labels edge ≡ Some label → (m : ℕ) → m ≡ node_of (record { edge = edge; over = over }) → held labels m ≡ is_end (end_by label) over
+at_end : (labels : List Label) (edge : ℕ) (over : End) (label : Label) → slice_get labels edge ≡ Some label → (m : ℕ) → m ≡ node_of (record { edge = edge; over = over }) →
+    held labels m ≡ is_end (end_by label) over
 at_end labels edge over label at m e =
     let lit : Lit = record { edge = edge; over = over } in
     let same : lit_of m ≡ lit = ap lit_of e ∙ lit_of_node lit in

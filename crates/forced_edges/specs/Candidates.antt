@@ -1,6 +1,7 @@
 -- The orders against the labels, and a search that puts them into an order. These words are the marking's own: no reader of a public
 -- clause needs them.
-use Rattle.std.specs.Prelude.{◌≡◌, ℕ, ◌+◌, ◌-◌, ◌*◌, ◌^◌, ◌<◌, ◌⊎◌, List, [], ◌∷◌, ◌++◌, Some, None, Option, slice_get, length, All, Contains}
+use Rattle.std.specs.Prelude.{◌≡◌, ℕ, ◌+◌, ◌-◌, ◌*◌, ◌^◌, ◌<◌, ◌⊎◌, List, [], ◌∷◌, ◌++◌, Some, None, Option, slice_get}
+use Rattle.std.specs.Prelude.{length, All, Contains}
 use Rattle.relationships.specs.declared.label.End.{End}
 use Rattle.relationships.specs.declared.label.Label.{Label}
 use Rattle.tor_clauses.specs.Literals.{node_of}
@@ -28,12 +29,12 @@ IsChoice labels n old new = (IsAgainst labels n × (new ≡ old ++ n ∷ [])) �
 abbrev pub OnStack : List Entered → ℕ → Type 0
 OnStack stack n = (k : ℕ) × (o : Entered) × (slice_get stack k ≡ Some o) × (o.node ≡ n)
 
--- of so many nodes, each order against a label to which the search has come was chosen, or is not left yet
-pub record IsInDepth (labels : List Label) (count : ℕ) (found : DepthSearch) : Type 0 where
-  pub many : found.seen.count ≡ count
-  pub inside : All (λ n. n < count) found.chosen
-  pub opens : (k : ℕ) (o : Entered) → slice_get found.stack k ≡ Some o → o.node < count
-  pub each : (n : ℕ) → IsAgainst labels n → Contains found.seen.items n → Contains found.chosen n ⊎ OnStack found.stack n
+-- each order against a label to which the search has come was chosen, or is not left yet
+pub record IsInDepth (posed : Posed) (found : DepthSearch) : Type 0 where
+  pub many : found.seen.count ≡ posed.formula.net.nodes
+  pub inside : All (λ n. n < posed.formula.net.nodes) found.chosen
+  pub opens : (k : ℕ) (o : Entered) → slice_get found.stack k ≡ Some o → o.node < posed.formula.net.nodes
+  pub each : (n : ℕ) → IsAgainst posed.labels n → Contains found.seen.items n → Contains found.chosen n ⊎ OnStack found.stack n
 
 -- the search with one more node that was not left yet
 abbrev pub with_entered : DepthSearch → Entered → DepthSearch
@@ -55,10 +56,11 @@ work found = 2 * (2 ^ 64 - length found.seen.items) + length found.stack
 
 -- the search has come to the orders against the first labels, so many
 abbrev pub AreSeen : List Label → ℕ → List ℕ → Type 0
-AreSeen labels place seen = (k n : ℕ) (label : Label) → k < place → slice_get labels k ≡ Some label → against k label ≡ Some n → Contains seen n
+AreSeen labels place seen =
+    (k n : ℕ) (label : Label) → k < place → slice_get labels k ≡ Some label → against k label ≡ Some n → Contains seen n
 
 -- the search has come to the orders against the labels of the first edges, so many, and has left all nodes
 pub record IsChoosing (posed : Posed) (place : ℕ) (found : DepthSearch) : Type 0 where
-  pub so_far : IsInDepth posed.labels posed.formula.net.nodes found
+  pub so_far : IsInDepth posed found
   pub idle : found.stack ≡ []
   pub seen : AreSeen posed.labels place found.seen.items

@@ -19,7 +19,7 @@ use std::alloc::Global;
 use std::marker::Model;
 use tor_arena::{ArcId, EdgeId, Index, NoMemory, NodeId};
 use tor_clauses::{Clauses, order, walk_along};
-use tor_digraph::{NodeSet, RowDigraph, Way};
+use tor_digraph::{Digraph, NodeSet, RowDigraph, Way};
 
 /// What marking is asked of: a graph, clauses that fit it, and labels of its edges under which the paths of the clauses are
 /// valley-free. With it stand the arcs of the clauses in rows, and the nodes of the orders that the labels have.
@@ -86,14 +86,14 @@ impl<'a> Problem<'a> {
         let _ = self.rows.node_count();
     }
 
-    /// The clauses. It takes no memory.
-    pub(crate) fn clauses(&self) -> &Clauses
-        ensures { result.now ≡ self.now.formula }
+    /// The digraph of the clauses. It takes no memory.
+    pub(crate) fn digraph(&self) -> &Digraph<NodeId, ArcId>
+        ensures { result.now ≡ self.now.formula.net }
     {
-        self.clauses
+        self.clauses.digraph()
     }
 
-    /// The arcs of the clauses in rows. It takes no memory.
+    /// The same digraph, with its arcs in rows. It takes no memory.
     pub(crate) fn rows(&self) -> &RowDigraph<'a, NodeId, ArcId>
         ensures { result.now ≡ self.now.formula.net }
     {

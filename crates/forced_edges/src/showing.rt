@@ -165,7 +165,7 @@ fn way_back(
     ensures { IfOk result (λ way. IsPlainWay problem.now.formula.net.arcs node (opposite_node node) way.nodes way.arcs) }
 {
     let other = opposite(node);
-    problem.clauses().digraph().reach_none_again(near)?;
+    problem.digraph().reach_none_again(near)?;
     let none = Reached::new(alloc);
     problem.rows().reach_near_to(node, other, &none, near)?;
     match near.walk_to(alloc, other)? {

@@ -1,15 +1,15 @@
-use Rattle.std.proofs.Common.{[], ℕ, ◌∙◌, sym, ap, subst, Contains}
+use Rattle.std.proofs.Common.{[], ℕ, ◌∙◌, sym, subst, Contains}
 use Rattle.std.specs.Prelude.{IfSome}
 use Rattle.tor_digraph.specs.Walks.{Net}
 use Rattle.tor_digraph.specs.Reached.{IsFlooded, IsGrown, LeadsFromNear, heads_of}
-use Rattle.tor_clauses.specs.Formulas.{Formula}
 use Rattle.tor_clauses.specs.Literals.{opposite_node}
 use Rattle.forced_edges.proofs.Settlings.{way_from, comes_to, none_is}
 use Rattle.forced_edges.proofs.showing.way_back.Goals as goal
 
 pub reach_near_to-requires-clause-flooded : goal.reach_near_to-requires-clause-flooded
 reach_near_to-requires-clause-flooded c =
-    subst (λ (n : Net ℕ). IsFlooded (λ n. n) (λ a. a) n.nodes n.arcs c.new-none.result.nodes c.reach_none_again.new.reached) (c.digraph.ensures ∙ ap (λ (f : Formula). f.net) c.clauses.ensures ∙ sym c.rows.ensures)
+    subst (λ (n : Net ℕ). IsFlooded (λ n. n) (λ a. a) n.nodes n.arcs c.new-none.result.nodes c.reach_none_again.new.reached)
+    (c.digraph.ensures ∙ sym c.rows.ensures)
     (c.in_ok-reach_none_again.ensures.flooded c.new-none.result.nodes)
 
 pub unreachable-requires : goal.unreachable-requires

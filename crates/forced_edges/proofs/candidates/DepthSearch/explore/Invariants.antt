@@ -4,7 +4,7 @@ use Rattle.forced_edges.proofs.candidates.DepthSearch.explore.Given as goal
 
 abbrev pub invariant-loop-entered : goal.invariant-loop-entered
 invariant-loop-entered l = record {
-  order : IsInDepth l.problem.labels l.problem.formula.net.nodes l.self;
+  order : IsInDepth l.problem l.self;
   come : Contains l.self.seen.items l.fn.start;
   kept : (n : ℕ) → Contains l.fn.self.seen.items n → Contains l.self.seen.items n;
 }
