@@ -75,8 +75,26 @@ pub record GainsOutput (words : List (List ℕ)) (files : Files) (old new : Opti
 abbrev pub GainsOutputPrefix : List (List ℕ) → Files → Option (List ℕ) → Option (List ℕ) → Type 0
 GainsOutputPrefix words files old new = (output : Written) × IsAsked words files output × GainsPrefix old new output.text
 
--- the note goes with some text that the words may ask for
+-- ---- what is written whatever the files hold, also where nothing is known of them
+
+-- the words ask for this of some dumps: in Labels it is the text of a result that is faithful to what some dumps give, with its summary
+pub record IsOfSome (words : List (List ℕ)) (output : Written) : Type 0 where
+  pub settings : Settings
+  pub given : settings_given words ≡ Some settings
+  pub taken : Taken
+  pub written : IsOutput settings taken output
+
+-- a sink gained a text that the words ask for of some dumps, whose note is this
+pub record GainsSome (words : List (List ℕ)) (old new : Option (List ℕ)) (note : List ℕ) : Type 0 where
+  pub output : Written
+  pub of_some : IsOfSome words output
+  pub gained : new ≡ append_known old output.text
+  pub noted : note ≡ output.note
+
+-- a sink gained a prefix of such a text
+abbrev pub GainsSomePrefix : List (List ℕ) → Option (List ℕ) → Option (List ℕ) → Type 0
+GainsSomePrefix words old new = (output : Written) × IsOfSome words output × GainsPrefix old new output.text
+
+-- the note goes with such a text
 abbrev pub IsNoteOfOutput : List (List ℕ) → List ℕ → Type 0
-IsNoteOfOutput words note =
-    (settings : Settings) × (settings_given words ≡ Some settings) ×
-    ((taken : Taken) × (output : Written) × IsOutput settings taken output × (note ≡ output.note))
+IsNoteOfOutput words note = (output : Written) × IsOfSome words output × (note ≡ output.note)

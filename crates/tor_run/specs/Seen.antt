@@ -8,6 +8,7 @@ use Rattle.tor_words.specs.declared.settings.Mode.{Mode}
 use Rattle.tor_words.specs.declared.settings.Mode.TheVariants.{Labels, Listing, Survey, Sample}
 use Rattle.tor_words.specs.declared.settings.Settings.{Settings}
 use Rattle.tor_words.specs.Given.{settings_given}
+use Rattle.run_base.specs.Reading.{seen_from, nothing}
 
 abbrev pub seen : Settings → Files → Result Taken End
 seen settings files = seen_from settings.sets 1 (nothing settings.max_paths) settings.dumps files

@@ -6,7 +6,7 @@ ghost use Rattle.tor_words.specs.Given.{settings_given};
 ghost use Rattle.tor_run.specs.Sampling.{ByMode, IfSample, known_by, known_in};
 ghost use Rattle.run_base.specs.Reading.{nothing};
 ghost use Rattle.tor_run.specs.Seen.{seen_in};
-ghost use Rattle.tor_run.specs.Output.{IsOutput, IsOutputOf, IsAsked, IsNoteOfOutput};
+ghost use Rattle.tor_run.specs.Output.{IsOutput, IsOutputOf, IsAsked, IsOfSome};
 ghost use Rattle.tor_run.specs.Written.{written};
 ghost use Rattle.run_base.specs.Answers.{IsReadFault, IsOfWords};
 ghost use Rattle.tor_run.specs.Refusals.{IsRefusal, IsStopIn, StopsIn};
@@ -97,7 +97,7 @@ pub(crate) fn output_asked<H: Shelf>(
 ) -> Result<Output, Refusal>
     ensures asked { IfOk result (λ output. IfSome (known_by words.now (H.files shelf.old)) (λ files.
         IsAsked words.now files (written output))) }
-    ensures noted { IfOk result (λ output. IsNoteOfOutput words.now (written output).note) }
+    ensures of_some { IfOk result (λ output. IsOfSome words.now (written output)) }
     ensures refused { IfErr result (IsRefusal words.now (known_by words.now (H.files shelf.old)) (H.steady shelf.old)) }
 
     ensures settled { IsNone (settings_given words.now) → IsErrAnd result IsOfWords }

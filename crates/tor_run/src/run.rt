@@ -13,7 +13,7 @@ ghost use Rattle.tor_run.specs.Sampling.{IfSample, known_by};
 ghost use Rattle.tor_run.specs.Seen.{outcome};
 ghost use Rattle.tor_run.specs.Answer.{IsNote, IsMalformed, IsLimited, IsAbsent};
 ghost use Rattle.run_base.specs.Answers.{IsNoted};
-ghost use Rattle.tor_run.specs.Output.{GainsOutput, GainsOutputPrefix};
+ghost use Rattle.tor_run.specs.Output.{GainsOutput, GainsOutputPrefix, GainsSome, GainsSomePrefix};
 ghost use Rattle.run_base.specs.Answers.{note_in};
 
 use crate::asking::output_asked;
@@ -36,6 +36,8 @@ fn answer<H: Shelf, O: Sink>(
         GainsOutput words.now files (O.held out.old) (O.held out.new) (note_in result)) }
     ensures cut_off { result.status ≡ Status.WriteFault → IfSome (known_by words.now (H.files shelf.old)) (λ files.
         GainsOutputPrefix words.now files (O.held out.old) (O.held out.new)) }
+    ensures some { result.status ≡ Status.Done → GainsSome words.now (O.held out.old) (O.held out.new) (note_in result) }
+    ensures some_cut_off { result.status ≡ Status.WriteFault → GainsSomePrefix words.now (O.held out.old) (O.held out.new) }
     ensures nothing { result.status ≢ Status.Done → result.status ≢ Status.WriteFault → out.new ≡ out.old }
 
     // Why it is answered.
@@ -92,6 +94,10 @@ pub fn infer<H: Shelf, O: Sink, E: Sink>(
         (E.faults err.old) (E.faults err.new) (E.held err.old) (E.held err.new)) }
     ensures cut_off { result ≡ Status.WriteFault → IfSome (known_by words.now (H.files shelf.old)) (λ files.
         GainsOutputPrefix words.now files (O.held out.old) (O.held out.new)) }
+    // The same of files of which nothing is known: the text is one that the words ask for of some dumps.
+    ensures some { result ≡ Status.Done → IsNoted (GainsSome words.now (O.held out.old) (O.held out.new))
+        (E.faults err.old) (E.faults err.new) (E.held err.old) (E.held err.new) }
+    ensures some_cut_off { result ≡ Status.WriteFault → GainsSomePrefix words.now (O.held out.old) (O.held out.new) }
     ensures nothing { result ≢ Status.Done → result ≢ Status.WriteFault → out.new ≡ out.old }
 
     // When each status may come.

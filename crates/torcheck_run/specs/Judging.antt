@@ -15,6 +15,7 @@ use Rattle.tor_words.specs.CheckGiven.{check_settings_given}
 use Rattle.run_base.specs.Reading.{nothing, seen_from}
 use Rattle.torcheck_run.specs.Limits.{max_result}
 use Rattle.path_clean.specs.Limits.{max_paths}
+use Rattle.run_base.specs.WholeFile.{IsLongFile, LeavesRest, LeavesOnly}
 
 -- ---- the rules 0 to 10, which the bytes of the result file alone decide
 
