@@ -2,14 +2,15 @@
 -- the returns of givens, of which there are no more than edges.
 use Rattle.std.specs.Prelude.{ℕ, ◌^◌}
 
--- how many paths there are, returns too: each return is of an edge, and each path and each edge has a number of its own
+-- how many paths there are at most, returns too: each return is of another edge, and the paths and their edges are no more than the
+-- numbers on the paths
 abbrev pub most_paths : ℕ
 most_paths = 2 ^ 26
 
--- how many numbers they have in sum: a return has three
+-- how many numbers these have in sum at most, of which each return has three
 abbrev pub most_numbers : ℕ
 most_numbers = 2 ^ 28
 
--- how often three ASes follow each other on them
+-- more than the places where three ASes follow each other on them
 abbrev pub most_triples : ℕ
 most_triples = 2 ^ 27

@@ -12,5 +12,5 @@ mod valley;
 
 pub use building::{build, build_with};
 pub use graph::{AsGraph, Edge};
-pub use per_edge::{Labels, Orientation};
+pub use per_edge::{Labels, Orientation, PerEdge};
 pub use step::Step;

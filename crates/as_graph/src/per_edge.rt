@@ -5,82 +5,47 @@ use std::alloc::Global;
 use std::marker::Model;
 use tor_arena::{EdgeId, Index, NoMemory};
 
-/// A provider for each edge, in the order of the edges.
+/// One of these for each edge, in the order of the edges.
 #[derive(Debug, Drop)]
-pub struct Orientation {
-    ends: Vec<End>,
+pub struct PerEdge<E> {
+    items: Vec<E>,
 }
 
-impl Model for Orientation {
+impl<E> Model for PerEdge<E> {
     ghost use Rattle.std.specs.Prelude.{List};
-    ghost use Rattle.relationships.specs.declared.label.End.{End};
 
-    ghost Value = { List End };
+    ghost Value = { List E };
 
-    ghost view = { λ orientation. orientation.ends.items };
+    ghost view = { λ per_edge. per_edge.items.items };
 }
 
-impl Orientation {
-    /// The orientation that gives the edges these providers. The only error is that memory ran out.
-    pub fn from_ends(alloc: Global, ends: &[End]) -> Result<Orientation, NoMemory>
-        ensures { IfOk result (λ orientation. orientation ≡ ends.now) }
+/// A provider for each edge.
+pub type Orientation = PerEdge<End>;
+
+/// A label for each edge.
+pub type Labels = PerEdge<Label>;
+
+impl<E: Copy> PerEdge<E> {
+    /// The edges have these, in order. The only error is that memory ran out.
+    pub fn from_slice(alloc: Global, items: &[E]) -> Result<PerEdge<E>, NoMemory>
+        ensures { IfOk result (λ made. made ≡ items.now) }
     {
-        let ends = Vec::from_slice(alloc, ends)?;
-        Ok(Orientation { ends })
+        let items = Vec::from_slice(alloc, items)?;
+        Ok(PerEdge { items })
     }
 
-    /// The providers, in the order of the edges. It takes no memory.
-    pub fn as_slice(&self) -> &[End]
+    /// What the edges have, in order. It takes no memory.
+    pub fn as_slice(&self) -> &[E]
         ensures { result.now ≡ self.now }
     {
-        self.ends.as_slice()
+        self.items.as_slice()
     }
 
-    /// Changes the provider of an edge that is there, and of no other. It takes no memory.
-    pub fn set(&mut self, edge: EdgeId, end: End)
+    /// Changes what an edge has that is there, and of no other. It takes no memory.
+    pub fn set(&mut self, edge: EdgeId, item: E)
         requires { edge < length self.old }
-        ensures { self.new ≡ slice_set self.old edge end }
+        ensures { self.new ≡ slice_set self.old edge item }
     {
-        self.ends[edge.place()] = end;
-    }
-}
-
-/// A label for each edge, in the order of the edges.
-#[derive(Debug, Drop)]
-pub struct Labels {
-    labels: Vec<Label>,
-}
-
-impl Model for Labels {
-    ghost use Rattle.std.specs.Prelude.{List};
-    ghost use Rattle.relationships.specs.declared.label.Label.{Label};
-
-    ghost Value = { List Label };
-
-    ghost view = { λ labels. labels.labels.items };
-}
-
-impl Labels {
-    /// The labels of the edges, from a list of them. The only error is that memory ran out.
-    pub fn from_labels(alloc: Global, labels: &[Label]) -> Result<Labels, NoMemory>
-        ensures { IfOk result (λ made. made ≡ labels.now) }
-    {
-        let labels = Vec::from_slice(alloc, labels)?;
-        Ok(Labels { labels })
-    }
-
-    /// The labels, in the order of the edges. It takes no memory.
-    pub fn as_slice(&self) -> &[Label]
-        ensures { result.now ≡ self.now }
-    {
-        self.labels.as_slice()
-    }
-
-    /// Changes the label of an edge that is there, and of no other. It takes no memory.
-    pub fn set(&mut self, edge: EdgeId, label: Label)
-        requires { edge < length self.old }
-        ensures { self.new ≡ slice_set self.old edge label }
-    {
-        self.labels[edge.place()] = label;
+        self.items[edge.place()] = item;
     }
 }

@@ -34,7 +34,7 @@ fn first_labels(alloc: Global, ends: &[End]) -> Result<Labels, NoMemory>
     for end in ends {
         labels.push(label_by(*end))?;
     }
-    Labels::from_labels(alloc, labels.as_slice())
+    Labels::from_slice(alloc, labels.as_slice())
 }
 
 /// Whether all paths of a list are valley-free under the labels.

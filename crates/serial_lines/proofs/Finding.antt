@@ -1,5 +1,6 @@
 -- A line is found by its two ASes.
-use Rattle.std.proofs.Common.{◌≡◌, ℕ, zero, suc, ◌<◌, inl, inr, Bool, true, false, not, List, [], ◌∷◌, ◌++◌, length, map, option_map, get_or, Option, Some, None, refl, sym, ap, ◌∙◌, subst, arith, cond}
+use Rattle.std.proofs.Common.{◌≡◌, ℕ, zero, suc, ◌<◌, inl, inr, Bool, true, false, not, List, [], ◌∷◌, ◌++◌, length, map}
+use Rattle.std.proofs.Common.{option_map, get_or, Option, Some, None, refl, sym, ap, ◌∙◌, subst, arith, cond}
 use Rattle.std.specs.Prelude.{slice_get, Contains}
 use Rattle.std.specs.List.{list_any, IsDistinct}
 use Rattle.std.proofs.lemmas.Bool.{cases_Bool, both_ways}

@@ -31,7 +31,7 @@ fn labels_by(alloc: Global, ends: &[End]) -> Result<Labels, NoMemory>
     for end in ends {
         labels.push(label_by(*end))?;
     }
-    Labels::from_labels(alloc, labels.as_slice())
+    Labels::from_slice(alloc, labels.as_slice())
 }
 
 /// The marks of the edges, by an orientation that serves the paths of the clauses. Which edges are forced is the same under all labels

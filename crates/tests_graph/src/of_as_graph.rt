@@ -310,7 +310,7 @@ fn is_free_under(
     labels: &[Label],
     changes: &[(usize, Label)],
 ) -> Result<Option<bool>, Fail> {
-    let mut labels = Labels::from_labels(alloc, labels)?;
+    let mut labels = Labels::from_slice(alloc, labels)?;
     for change in changes {
         change_label(&mut labels, change.0, change.1);
     }
@@ -355,7 +355,7 @@ fn a_valley_free_path_has_at_most_one_flat_step(rt: HostRuntime) -> Result<(), F
 
 #[test]
 fn a_label_is_set(rt: HostRuntime) -> Result<(), Fail> {
-    let mut labels = Labels::from_labels(rt.alloc(), &[Label::High, Label::Peer])?;
+    let mut labels = Labels::from_slice(rt.alloc(), &[Label::High, Label::Peer])?;
     change_label(&mut labels, 1, Label::High);
     assert_eq!(rt; labels.as_slice(), [Label::High, Label::High].as_slice());
     Ok(())
@@ -363,7 +363,7 @@ fn a_label_is_set(rt: HostRuntime) -> Result<(), Fail> {
 
 #[test]
 fn an_end_is_set(rt: HostRuntime) -> Result<(), Fail> {
-    let mut ends = Orientation::from_ends(rt.alloc(), &[End::Low, End::Low])?;
+    let mut ends = Orientation::from_slice(rt.alloc(), &[End::Low, End::Low])?;
     ends.set(EdgeId::from_place(1).unwrap(), End::High);
     assert_eq!(rt; ends.as_slice(), [End::Low, End::High].as_slice());
     Ok(())

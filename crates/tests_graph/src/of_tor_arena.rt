@@ -9,7 +9,7 @@ use std::random::RandomSource;
 use std::test::Fail;
 use tor_arena::{
     ArcId, Arena, AsId, EdgeId, Index, Keys, List, NodeId, PathId, PushRefused, RowRefused, Rows,
-    TripleId, WalkId, same_index,
+    TripleId, WalkId,
 };
 
 /// One of two places.
@@ -176,7 +176,7 @@ fn ends_at<I: Index>(last: usize) -> bool {
     match I::from_place(last) {
         Some(index) => {
             index.place() == last
-                && same_index(index) == Some(index)
+                && I::from_place(index.place()) == Some(index)
                 && I::from_place(last.saturating_add(1)).is_none()
         }
         None => false,

@@ -81,7 +81,7 @@ fn answer(
     if ends.len() != graph.edge_count() {
         return Ok(None);
     }
-    let orientation = Orientation::from_ends(alloc, ends)?;
+    let orientation = Orientation::from_slice(alloc, ends)?;
     Ok(Some(clauses.holds(graph, &orientation)))
 }
 

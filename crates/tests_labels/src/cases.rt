@@ -126,7 +126,7 @@ fn labels_of(alloc: Global, ends: &[End]) -> Result<Labels, Fail> {
     for end in ends {
         labels.push(label_of(*end))?;
     }
-    Ok(Labels::from_labels(alloc, labels.as_slice())?)
+    Ok(Labels::from_slice(alloc, labels.as_slice())?)
 }
 
 /// The labels of an orientation that serves the paths of the clauses.

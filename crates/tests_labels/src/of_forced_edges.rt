@@ -140,7 +140,7 @@ fn marks_with(
 ) -> Result<Marks, Fail>
     requires { FitsGraph graph.now clauses.now }
 {
-    let labels = Labels::from_labels(alloc, labels)?;
+    let labels = Labels::from_slice(alloc, labels)?;
     marks_under(alloc, graph, clauses, &labels)
 }
 

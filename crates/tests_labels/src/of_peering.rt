@@ -23,7 +23,7 @@ fn allowed(ratio: u32) -> Result<u32, Fail>
 fn three_path_ends(alloc: Global) -> Result<Orientation, Fail>
     ensures { IfOk result (λ ends. ends ≡ three_ends) }
 {
-    Ok(Orientation::from_ends(
+    Ok(Orientation::from_slice(
         alloc,
         &[
             End::High,
@@ -97,7 +97,7 @@ fn short_path_graph(alloc: Global, keys: Keys) -> Result<AsGraph, Fail>
 fn short_path_ends(alloc: Global) -> Result<Orientation, Fail>
     ensures { IfOk result (λ ends. ends ≡ short_ends) }
 {
-    Ok(Orientation::from_ends(alloc, &[End::Low])?)
+    Ok(Orientation::from_slice(alloc, &[End::Low])?)
 }
 
 fn relabel_short(alloc: Global, graph: &AsGraph, ratio: u32) -> Result<Labels, Fail>
@@ -136,7 +136,7 @@ fn bent_path_graph(alloc: Global, keys: Keys) -> Result<AsGraph, Fail>
 fn bent_path_ends(alloc: Global) -> Result<Orientation, Fail>
     ensures { IfOk result (λ ends. ends ≡ bent_ends) }
 {
-    Ok(Orientation::from_ends(alloc, &[End::Low, End::Low])?)
+    Ok(Orientation::from_slice(alloc, &[End::Low, End::Low])?)
 }
 
 fn relabel_bent(alloc: Global, graph: &AsGraph, ratio: u32) -> Result<Labels, Fail>

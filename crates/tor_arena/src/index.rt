@@ -1,4 +1,4 @@
-ghost use Rattle.std.specs.Prelude.{◌≡◌, ◌<◌, ◌≤◌, ◌↔◌, ℕ, Some, IsNone, IfSome};
+ghost use Rattle.std.specs.Prelude.{◌≡◌, ◌<◌, ◌≤◌, ◌↔◌, ℕ, IsNone, IfSome};
 ghost use Rattle.tor_arena.specs.Limits.{most_places};
 
 /// A place among things of one kind, counted from 0. Each kind has a type of its own, so an
@@ -44,11 +44,4 @@ pub(crate) fn short_place(place: usize) -> Option<u32>
     } else {
         None
     }
-}
-
-/// The index of an index's own place, which is that index again. It takes no memory.
-pub fn same_index<I: Index>(index: I) -> Option<I>
-    ensures { result ≡ Some index }
-{
-    I::from_place(index.place())
 }

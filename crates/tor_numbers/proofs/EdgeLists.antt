@@ -1,5 +1,6 @@
 -- Edges in a table of their numbers.
-use Rattle.std.proofs.Common.{◌≡◌, ℕ, ◌<◌, ◌≤◌, ◌↔◌, IsTrue, inl, inr, true, false, not, List, [], ◌∷◌, ◌++◌, length, Option, Some, None, MatchOption, min, max, refl, sym, ap, ◌∙◌, subst, arith, eq-eqb}
+use Rattle.std.proofs.Common.{◌≡◌, ℕ, ◌<◌, ◌≤◌, ◌↔◌, IsTrue, inl, inr, true, false, not, List, [], ◌∷◌, ◌++◌, length, Option, Some, None, MatchOption}
+use Rattle.std.proofs.Common.{min, max, refl, sym, ap, ◌∙◌, subst, arith, eq-eqb}
 use Rattle.std.specs.Prelude.{slice_get, All, Contains, IsNone, IsFalse, slice_index_or, nat_eq}
 use Rattle.std.specs.List.{list_any, IsDistinct}
 use Rattle.std.proofs.lemmas.Bool.{cases_order, both_ways, false_from_ne_true, ne_eqb}

@@ -86,5 +86,5 @@ pub fn orient(
     model_law();
     let settled = settle_all(alloc, graph, clauses, prefs)?;
     let ends = settled_ends(alloc, &settled, graph.edge_count())?;
-    Orientation::from_ends(alloc, ends.as_slice())
+    Orientation::from_slice(alloc, ends.as_slice())
 }

@@ -74,5 +74,5 @@ pub(crate) fn later_ends(
         let edge = EdgeId::from_place(place).unwrap();
         ends.push(later_end(parts, edge))?;
     }
-    Orientation::from_ends(alloc, ends.as_slice())
+    Orientation::from_slice(alloc, ends.as_slice())
 }

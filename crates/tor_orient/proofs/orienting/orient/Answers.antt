@@ -19,8 +19,8 @@ returns-clause-serves c =
     let many = c.in_ok-ends.ensures.many ∙ c.edge_count.ensures.count in
     let is = serves graph f c.facts.ensures.apart c.requires.fits c.args.prefs.now c.in_ok-settled.settled made c.in_ok-settled.ensures
     c.requires.inside c.requires.each many c.in_ok-ends.ensures.ends c.model_law.ensures in
-    IfOk-weaker c.from_ends.result (λ (o : List End). o ≡ c.as_slice.result.now) (IsServed graph f.paths)
-    (λ o same. subst (IsServed graph f.paths) (sym (same ∙ c.as_slice.ensures.value)) is) c.from_ends.ensures
+    IfOk-weaker c.from_slice.result (λ (o : List End). o ≡ c.as_slice.result.now) (IsServed graph f.paths)
+    (λ o same. subst (IsServed graph f.paths) (sym (same ∙ c.as_slice.ensures.value)) is) c.from_slice.ensures
 
 pub returns-clause-preferred : goal.returns-clause-preferred
 returns-clause-preferred c =
@@ -34,9 +34,9 @@ returns-clause-preferred c =
     preferred graph f c.facts.ensures.apart c.requires.fits prefs c.in_ok-settled.settled made c.in_ok-settled.ensures c.requires.inside
     c.requires.each many c.in_ok-ends.ensures.ends c.model_law.ensures
     (wish es prefs) (wishes graph prefs c.requires.inside c.requires.apart) in
-    IfOk-weaker c.from_ends.result (λ (o : List End). o ≡ c.as_slice.result.now)
+    IfOk-weaker c.from_slice.result (λ (o : List End). o ≡ c.as_slice.result.now)
     (λ (o : List End). IsPreferred (paths_at graph f.paths) (wish es prefs) (edges_of es prefs) (orientation es o))
-    (λ o same. subst (λ (l : List End). IsPreferred (paths_at graph f.paths) (wish es prefs) (edges_of es prefs) (orientation es l)) (sym (same ∙ c.as_slice.ensures.value)) is) c.from_ends.ensures
+    (λ o same. subst (λ (l : List End). IsPreferred (paths_at graph f.paths) (wish es prefs) (edges_of es prefs) (orientation es l)) (sym (same ∙ c.as_slice.ensures.value)) is) c.from_slice.ensures
 
 pub returns-clause-wishes : goal.returns-clause-wishes
 returns-clause-wishes c =
@@ -48,8 +48,8 @@ returns-clause-wishes c =
     let many = c.in_ok-ends.ensures.many ∙ c.edge_count.ensures.count in
     let is = preferred graph f c.facts.ensures.apart c.requires.fits prefs c.in_ok-settled.settled made c.in_ok-settled.ensures c.requires.inside
     c.requires.each many c.in_ok-ends.ensures.ends c.model_law.ensures in
-    IfOk-weaker c.from_ends.result (λ (o : List End). o ≡ c.as_slice.result.now)
+    IfOk-weaker c.from_slice.result (λ (o : List End). o ≡ c.as_slice.result.now)
     (λ (o : List End). (wanted : Edge → End) → AreWishes es prefs wanted → IsPreferred (paths_at graph f.paths) wanted (edges_of es prefs) (orientation es o))
     (λ o same. subst (λ (l : List End). (wanted : Edge → End) → AreWishes es prefs wanted →
     IsPreferred (paths_at graph f.paths) wanted (edges_of es prefs) (orientation es l)) (sym (same ∙ c.as_slice.ensures.value)) is)
-    c.from_ends.ensures
+    c.from_slice.ensures
