@@ -4,10 +4,14 @@ use Rattle.tor_clauses.specs.Tables.{with_triples, having}
 use Rattle.tor_clauses.specs.Formulas.{Formula, FitsGraph}
 use Rattle.tor_clauses.proofs.Adding.{added_none, added_path}
 use Rattle.tor_clauses.proofs.FirstNews.{with_known}
-use Rattle.tor_clauses.proofs.clauses.Clauses.add_known_path.Goals as goal
+use Rattle.tor_clauses.proofs.clauses.Clauses.add_known.Goals as goal
 
 pub returns-clause-fits : goal.returns-clause-fits
-returns-clause-fits c = λ graph fits there known.
+returns-clause-fits c =
+    let graph = c.args.graph.now in
+    let fits = c.requires.fits in
+    let there = c.requires.there in
+    let known = c.requires.known in
     let old : Formula = c.args.self.now in
     let new : Formula = record old { paths = old.paths ++ c.args.path ∷ [] } in
     let with_paths : List ℕ → Formula = λ ps. record { paths = ps; triples = c.self.inside.table; net = c.self.inside.digraph } in

@@ -3,7 +3,7 @@ use relationships::Walk;
 
 /// What a solver finds of the paths of clauses.
 #[derive(Drop)]
-pub enum Verdict {
+pub enum Solution {
     /// An orientation that serves them.
     Model(Orientation),
     /// A walk that refutes, so that no orientation serves them.

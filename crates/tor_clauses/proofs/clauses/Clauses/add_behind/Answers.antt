@@ -3,7 +3,7 @@ use Rattle.tor_clauses.specs.Tables.{IsRoomy}
 use Rattle.tor_clauses.specs.Formulas.{Formula}
 use Rattle.tor_clauses.proofs.Adding.{added_path, cut_back}
 use Rattle.tor_clauses.proofs.Fews.{roomy}
-use Rattle.tor_clauses.proofs.clauses.Clauses.grow.Goals as goal
+use Rattle.tor_clauses.proofs.clauses.Clauses.add_behind.Goals as goal
 
 pub add_triples-requires-clause-few : goal.add_triples-requires-clause-few
 add_triples-requires-clause-few c =
