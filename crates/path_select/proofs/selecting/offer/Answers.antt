@@ -43,4 +43,4 @@ returns-clause-refused c =
     let e = c.in_ok-fate.ensures.offered in
     let fate = c.in_ok-fate.fate in
     offered c.args.graph.now c.args.selector.now.formula.paths c.args.path c.args.fates.now fate c.offer_behind.new.self.formula.paths c.args.refusals.now.items
-    c.remember.new.refusals.items c.requires.next e.kept (same_paths fate c.offer_behind.new.self c.args.selector.now e.lost) e.walk c.requires.refused c.in_ok-remember.ensures
+    c.remember.new.self.items c.requires.next e.kept (same_paths fate c.offer_behind.new.self c.args.selector.now e.lost) e.walk c.requires.refused c.in_ok-remember.ensures

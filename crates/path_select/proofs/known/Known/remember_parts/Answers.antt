@@ -10,7 +10,7 @@ use Rattle.path_select.specs.declared.known.Known.{Known}
 use Rattle.path_select.specs.Rounds.{IsPart}
 use Rattle.path_select.proofs.Ways.{way_inside}
 use Rattle.path_select.proofs.Knowing.{known_part}
-use Rattle.path_select.proofs.known.remember_parts.Goals as goal
+use Rattle.path_select.proofs.known.Known.remember_parts.Goals as goal
 
 not_false : (b : Bool) → not b ≡ false → b ≡ true
 not_false true e = refl
@@ -52,8 +52,8 @@ loop-skip-preserved c =
     (read_at way.nodes items (c.len-last.result - skip) last c.as_slice-nodes.ensures (omega (arith, lt, long, more, count)) c.index-nodes-last.is) in
     let opposite : last ≡ opposite_node from = eqb-true last c.opposite.result (not_false (last == c.opposite.result) (sym c.ne.ensures ∙ c.if-ne.false)) ∙ c.opposite.ensures in
     let part : Part = record { way = c.args.place; skip = skip } in
-    let old : Known = c.loop-skip.known in
-    let new : Known = record { places = c.put.new.self; parts = c.push.new.self; ways = c.loop-skip.known.ways } in
+    let old : Known = c.loop-skip.self in
+    let new : Known = record { places = c.put.new.self; parts = c.push.new.self; ways = c.loop-skip.self.ways } in
     let is : IsPart arcs way skip from = record {
       from = c.requires.led.0;
       to = c.requires.led.1;
@@ -63,7 +63,7 @@ loop-skip-preserved c =
       ends = to ∙ ap (λ (n : ℕ). Some n) opposite;
     } in
     record {
-      room = subst (λ n. c.args.digraph.now.nodes ≤ n) (sym (ap length c.put.ensures.items ∙ length-set c.loop-skip.known.places.items from (Some c.in-Ok.part))) c.loop-skip.invariant.room;
+      room = subst (λ n. c.args.digraph.now.nodes ≤ n) (sym (ap length c.put.ensures.items ∙ length-set c.loop-skip.self.places.items from (Some c.in-Ok.part))) c.loop-skip.invariant.room;
       there = c.loop-skip.invariant.there;
       known = known_part arcs c.args.first from c.in-Ok.part part way old new c.loop-skip.invariant.there is c.requires.early (c.in-Ok.ensures.1 ∙ c.len-in-loop-skip.ensures) refl c.in_ok-push.ensures.ok
           c.put.ensures.items c.loop-skip.invariant.known;

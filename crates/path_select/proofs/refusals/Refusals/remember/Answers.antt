@@ -5,7 +5,7 @@ use Rattle.tor_clauses.specs.Literals.{node_of}
 use Rattle.path_select.specs.declared.refusals.Refusal.{Refusal}
 use Rattle.path_select.specs.Refusals.{node_at, NamesOnly, HasTriple, Adds, Remembers}
 use Rattle.path_select.proofs.Relinking.{step_triple}
-use Rattle.path_select.proofs.refusals.remember.Goals as goal
+use Rattle.path_select.proofs.refusals.Refusals.remember.Goals as goal
 
 on_ok : {X E P Q : Type 0} → (r : Result X E) → (P → Q) → OnOk r P → OnOk r Q
 on_ok (Ok x) f h = f h
@@ -31,7 +31,7 @@ returns c =
     let triple : HasTriple graph c.args.path at r.first r.second =
     subst (λ n. HasTriple graph c.args.path at n r.second) (sym first) (subst (HasTriple graph c.args.path at (node_at s)) (sym second) has) in
     let alone : NamesOnly (c.args.path + 1) at c.in-Lost.walk.links = search rules in
-    let one : c.add.new.refusals.items ≡ c.args.refusals.now.items ++ r ∷ [] → Adds graph c.args.path c.in-Lost.walk c.args.refusals.now.items c.add.new.refusals.items =
+    let one : c.add.new.self.items ≡ c.args.self.now.items ++ r ∷ [] → Adds graph c.args.path c.in-Lost.walk c.args.self.now.items c.add.new.self.items =
     λ added. record { refusal = r; added = added; named = refl; at = at; alone = alone; triple = triple } in
-    on_ok c.add.result (λ either. subst (λ f. Remembers graph c.args.path f c.args.refusals.now.items c.add.new.refusals.items) (sym c.in-Lost.is)
+    on_ok c.add.result (λ either. subst (λ f. Remembers graph c.args.path f c.args.self.now.items c.add.new.self.items) (sym c.in-Lost.is)
     (elim either [ inl same ↦ inl same | inr added ↦ inr (one added) ])) c.add.ensures
