@@ -40,50 +40,114 @@ pub(crate) struct Met {
     pub(crate) at: u32,
 }
 
-/// No refusals, in a table with these keys. It takes no memory.
-pub(crate) fn no_refusals(alloc: Global, keys: Keys) -> Refusals
-    ensures { result.items ≡ [] }
-{
-    Refusals {
-        pairs: PlaceTable::new(alloc, keys),
-        items: List::new(alloc),
+impl Refusals {
+    /// No refusals, in a table with these keys. It takes no memory.
+    pub(crate) fn none(alloc: Global, keys: Keys) -> Refusals
+        ensures { result.items ≡ [] }
+    {
+        Refusals {
+            pairs: PlaceTable::new(alloc, keys),
+            items: List::new(alloc),
+        }
     }
-}
 
-/// The path that was lost with a triple of these nodes, if one is found. It takes no memory.
-fn lost_with(refusals: &Refusals, first: NodeId, second: NodeId) -> Option<PathId>
-    ensures { IfSome result (IsLostBy refusals.now.items first second) }
-{
-    let place = refusals.pairs.place(number_of((first, second)))?;
-    let items = refusals.items.as_slice();
-    if place >= items.len() {
-        return None;
+    /// The path that was lost with a triple of these nodes, if one is found. It takes no memory.
+    fn lost_with(&self, first: NodeId, second: NodeId) -> Option<PathId>
+        ensures { IfSome result (IsLostBy self.now.items first second) }
+    {
+        let place = self.pairs.place(number_of((first, second)))?;
+        let items = self.items.as_slice();
+        if place >= items.len() {
+            return None;
+        }
+        let refusal = items[place];
+        if refusal.first == first && refusal.second == second {
+            Some(refusal.path)
+        } else {
+            None
+        }
     }
-    let refusal = items[place];
-    if refusal.first == first && refusal.second == second {
-        Some(refusal.path)
-    } else {
+
+    /// The path that was lost with a triple of these steps, if these providers do not satisfy it and one is found. It takes no memory.
+    fn lost_unless_satisfied(&self, ends: &[End], first: &Step, second: &Step) -> Option<PathId>
+        requires first { first.now.edge < length ends.now }
+        requires second { second.now.edge < length ends.now }
+        requires few { length ends.now < 2 ^ 26 }
+        ensures { IfSome result (IsLostBy self.now.items (node_at first.now) (node_at second.now)) }
+    {
+        if !Lit::of_step(first).holds(ends) || Lit::of_step(second).holds(ends) {
+            return None;
+        }
+        let (first, second) = (Lit::of_step(first).node(), Lit::of_step(second).node());
+        self.lost_with(first, second)
+    }
+
+    /// The refusal that a path meets, if it has the triple of one that these providers do not satisfy. It takes no memory.
+    pub(crate) fn find(&self, graph: &AsGraph, ends: &[End], path: PathId) -> Option<Met>
+        requires there { path < length graph.now }
+        requires ends { length ends.now ≡ length (edges graph.now) }
+        ensures { IfSome result (IsMet graph.now path self.now.items) }
+    {
+        graph.facts();
+        let steps = graph.steps(path);
+        if self.items.is_empty() || are_satisfied(ends, steps) {
+            return None;
+        }
+        for next in 1..steps.len() {
+            let (first, second) = (&steps[next - 1], &steps[next]);
+            if let Some(lost) = self.lost_unless_satisfied(ends, first, second) {
+                return Some(Met {
+                    lost,
+                    at: next as u32 + 1,
+                });
+            }
+        }
         None
     }
-}
 
-/// The path that was lost with a triple of these steps, if these providers do not satisfy it and one is found. It takes no memory.
-fn lost_unless_satisfied(
-    refusals: &Refusals,
-    ends: &[End],
-    first: &Step,
-    second: &Step,
-) -> Option<PathId>
-    requires first { first.now.edge < length ends.now }
-    requires second { second.now.edge < length ends.now }
-    requires few { length ends.now < 2 ^ 26 }
-    ensures { IfSome result (IsLostBy refusals.now.items (node_at first.now) (node_at second.now)) }
-{
-    if !Lit::of_step(first).holds(ends) || Lit::of_step(second).holds(ends) {
-        return None;
+    /// Adds a refusal, unless there is one of its triple.
+    fn add(&mut self, refusal: Refusal) -> Result<(), NoMemory>
+        ensures { OnOk result ((self.new.items ≡ self.old.items) ⊎ (self.new.items ≡ self.old.items ++ refusal ∷ [])) }
+    {
+        let pair = (refusal.first, refusal.second);
+        let place = self.pairs.add(number_of(pair))?;
+        if place == self.items.len() {
+            self.items.push(refusal)?;
+        }
+        Ok(())
     }
-    let (first, second) = (Lit::of_step(first).node(), Lit::of_step(second).node());
-    lost_with(refusals, first, second)
+
+    /// Remembers that a path was lost, if no link of its walk leads into the path but to one triple.
+    pub(crate) fn remember(
+        &mut self,
+        graph: &AsGraph,
+        path: PathId,
+        fate: &Fate,
+    ) -> Result<(), NoMemory>
+        requires { path < length graph.now }
+        ensures { OnOk result (Remembers graph.now path fate.now self.old.items self.new.items) }
+    {
+        graph.facts();
+        let Fate::Lost(walk) = fate else {
+            return Ok(());
+        };
+        let own = path.place() as u32 + 1;
+        let Some(at) = only_place(walk.links.as_slice(), own) else {
+            return Ok(());
+        };
+        let at = at as usize;
+        let steps = graph.steps(path);
+        if at < 2 || at > steps.len() {
+            return Ok(());
+        }
+        let first = Lit::of_step(&steps[at - 2]).node();
+        let second = Lit::of_step(&steps[at - 1]).node();
+        self.add(Refusal {
+            first,
+            second,
+            path,
+        })
+    }
 }
 
 /// Whether these providers satisfy all triples of a path with these steps. It takes no memory.
@@ -100,29 +164,6 @@ fn are_satisfied(ends: &[End], steps: &[Step]) -> bool
         before = holds;
     }
     satisfied
-}
-
-/// The refusal that a path meets, if it has the triple of one that these providers do not satisfy. It takes no memory.
-pub(crate) fn find(refusals: &Refusals, graph: &AsGraph, ends: &[End], path: PathId) -> Option<Met>
-    requires there { path < length graph.now }
-    requires ends { length ends.now ≡ length (edges graph.now) }
-    ensures { IfSome result (IsMet graph.now path refusals.now.items) }
-{
-    graph.facts();
-    let steps = graph.steps(path);
-    if refusals.items.is_empty() || are_satisfied(ends, steps) {
-        return None;
-    }
-    for next in 1..steps.len() {
-        let (first, second) = (&steps[next - 1], &steps[next]);
-        if let Some(lost) = lost_unless_satisfied(refusals, ends, first, second) {
-            return Some(Met {
-                lost,
-                at: next as u32 + 1,
-            });
-        }
-    }
-    None
 }
 
 /// The links with this one in place of each into the path of this number.
@@ -174,51 +215,4 @@ fn only_place(links: &[Link], own: u32) -> Option<u32>
         }
     }
     named
-}
-
-/// Adds a refusal, unless there is one of its triple.
-fn add(refusals: &mut Refusals, refusal: Refusal) -> Result<(), NoMemory>
-    ensures { OnOk result ((refusals.new.items ≡ refusals.old.items) ⊎ (refusals.new.items ≡ refusals.old.items ++ refusal ∷ [])) }
-{
-    let pair = (refusal.first, refusal.second);
-    let place = refusals.pairs.add(number_of(pair))?;
-    if place == refusals.items.len() {
-        refusals.items.push(refusal)?;
-    }
-    Ok(())
-}
-
-/// Remembers that a path was lost, if no link of its walk leads into the path but to one triple.
-pub(crate) fn remember(
-    refusals: &mut Refusals,
-    graph: &AsGraph,
-    path: PathId,
-    fate: &Fate,
-) -> Result<(), NoMemory>
-    requires { path < length graph.now }
-    ensures { OnOk result (Remembers graph.now path fate.now refusals.old.items refusals.new.items) }
-{
-    graph.facts();
-    let Fate::Lost(walk) = fate else {
-        return Ok(());
-    };
-    let own = path.place() as u32 + 1;
-    let Some(at) = only_place(walk.links.as_slice(), own) else {
-        return Ok(());
-    };
-    let at = at as usize;
-    let steps = graph.steps(path);
-    if at < 2 || at > steps.len() {
-        return Ok(());
-    }
-    let first = Lit::of_step(&steps[at - 2]).node();
-    let second = Lit::of_step(&steps[at - 1]).node();
-    add(
-        refusals,
-        Refusal {
-            first,
-            second,
-            path,
-        },
-    )
 }

@@ -1,8 +1,7 @@
 ghost use Rattle.std.specs.Prelude.{◌≡◌, length, map, IfOk};
 ghost use Rattle.relationships.specs.Relationship.{label_of};
 ghost use Rattle.relationships.specs.Graph.{edges};
-ghost use Rattle.as_graph.specs.Paths.{paths_at};
-ghost use Rattle.tor_clauses.specs.Formulas.{FitsGraph, IsServed};
+ghost use Rattle.tor_clauses.specs.Formulas.{FitsGraph, demands_of, MeetsDemands};
 ghost use Rattle.ties.specs.Tied.{AreMarks};
 
 use as_graph::{AsGraph, Labels, Orientation};
@@ -45,8 +44,8 @@ pub(crate) fn marks_of(
 ) -> Result<List<Mark>, NoMemory>
     requires fits { FitsGraph graph.now clauses.now }
     requires many { length orientation.now ≡ length (edges graph.now) }
-    requires served { IsServed graph.now clauses.now.paths orientation.now }
-    ensures { IfOk result (AreMarks (paths_at graph.now clauses.now.paths) (edges graph.now)) }
+    requires served { MeetsDemands graph.now clauses.now orientation.now }
+    ensures { IfOk result (AreMarks (demands_of graph.now clauses.now) (edges graph.now)) }
 {
     marks_law();
     let labels = labels_by(alloc, orientation.as_slice())?;

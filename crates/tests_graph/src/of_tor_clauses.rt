@@ -58,7 +58,7 @@ fn with_path(alloc: Global, keys: Keys, graph: &AsGraph, path: PathId) -> Result
     ensures { IfOk result (FitsGraph graph.now) }
 {
     let mut clauses = begun(alloc, keys, graph)?;
-    clauses.add_path(graph, path)?;
+    clauses.add_path(graph, path, Some(0))?;
     Ok(clauses)
 }
 
@@ -126,10 +126,7 @@ fn add_from_new(graph: &AsGraph, clauses: &mut Clauses, path: PathId) -> Result<
     ensures { OnOk result (FitsGraph graph.now clauses.new) }
 {
     let first_new = clauses.first_new(graph, path);
-    match first_new {
-        None => clauses.add_known_path(path)?,
-        Some(known) => clauses.add_path_behind(graph, path, known)?,
-    }
+    clauses.add_path(graph, path, first_new)?;
     Ok(first_new)
 }
 
@@ -186,7 +183,7 @@ fn add_and_undo(graph: &AsGraph, clauses: &mut Clauses, path: PathId) -> Result<
     ensures { OnOk result (clauses.new ≡ clauses.old) }
 {
     let mark = clauses.mark();
-    clauses.add_path(graph, path)?;
+    clauses.add_path(graph, path, Some(0))?;
     clauses.undo_to(mark);
     Ok(())
 }
@@ -219,7 +216,7 @@ fn expected_twice(graph: &AsGraph, clauses: &mut Clauses) -> Result<[bool; 2], F
     requires fits { FitsGraph graph.now clauses.old }
     requires there { 2 < length graph.now }
 {
-    clauses.add_path(graph, path(1))?;
+    clauses.add_path(graph, path(1), Some(0))?;
     let before = is_expected(clauses);
     add_and_undo(graph, clauses, path(2))?;
     Ok([before, is_expected(clauses)])

@@ -7,7 +7,7 @@ use std::alloc::Global;
 use std::test::Fail;
 use tor_arena::{Index, Keys, PathId, Rows};
 use tor_clauses::Clauses;
-use tor_solve::{Verdict, solve};
+use tor_solve::{Solution, solve};
 
 fn three_paths(alloc: Global, keys: Keys) -> Result<AsGraph, Fail>
     ensures { IfOk result (λ graph. length graph ≡ 3) }
@@ -36,7 +36,7 @@ fn clauses_of(alloc: Global, keys: Keys, graph: &AsGraph, count: usize) -> Resul
     graph.facts();
     let mut clauses = Clauses::new(alloc, keys, graph)?;
     for place in 0..count {
-        clauses.add_path(graph, PathId::from_place(place).unwrap())?;
+        clauses.add_path(graph, PathId::from_place(place).unwrap(), Some(0))?;
     }
     Ok(clauses)
 }
@@ -71,12 +71,12 @@ fn answer(alloc: Global, graph: &AsGraph, clauses: &Clauses) -> Result<Outcome, 
     requires { FitsGraph graph.now clauses.now }
 {
     match solve(alloc, graph, clauses)? {
-        Verdict::Model(ends) => {
+        Solution::Model(ends) => {
             if clauses.holds(graph, &ends) {
                 return Ok(Outcome::Served);
             }
         }
-        Verdict::Walk(walk) => {
+        Solution::Walk(walk) => {
             if is_refuting(&walk) {
                 return Ok(Outcome::Refuted);
             }

@@ -4,8 +4,7 @@ ghost use Rattle.std.specs.Prelude.{◌≡◌, ◌<◌, ◌≤◌, All, length, 
 ghost use Rattle.relationships.specs.Relationship.{ValleyFree};
 ghost use Rattle.relationships.specs.Graph.{edges, labelling};
 ghost use Rattle.relationships.specs.Selection.{IsServable};
-ghost use Rattle.as_graph.specs.Paths.{paths_at};
-ghost use Rattle.tor_clauses.specs.Formulas.{FitsGraph};
+ghost use Rattle.tor_clauses.specs.Formulas.{FitsGraph, demands_of};
 ghost use Rattle.tests_labels.specs.Cases.{three};
 
 use as_graph::{AsGraph, Labels, build};
@@ -15,7 +14,7 @@ use std::alloc::Global;
 use std::test::Fail;
 use tor_arena::{Index, Keys, List, PathId, Rows};
 use tor_clauses::Clauses;
-use tor_solve::{Verdict, solve};
+use tor_solve::{Solution, solve};
 
 fn add(alloc: Global, table: &mut PathTable, path: &[u32]) -> Result<(), Fail> {
     if !is_clean_path(alloc, path)? {
@@ -82,7 +81,7 @@ pub(crate) fn clauses_of(
     graph.facts();
     let mut clauses = Clauses::new(alloc, keys, graph)?;
     for place in start..end {
-        clauses.add_path(graph, PathId::from_place(place).unwrap())?;
+        clauses.add_path(graph, PathId::from_place(place).unwrap(), Some(0))?;
     }
     Ok(clauses)
 }
@@ -90,11 +89,11 @@ pub(crate) fn clauses_of(
 /// Whether some orientation serves the paths of the clauses.
 pub(crate) fn is_servable(alloc: Global, graph: &AsGraph, clauses: &Clauses) -> Result<bool, Fail>
     requires { FitsGraph graph.now clauses.now }
-    ensures { IfOk result (λ is. IsTrue is → IsServable (paths_at graph.now clauses.now.paths)) }
+    ensures { IfOk result (λ is. IsTrue is → IsServable (demands_of graph.now clauses.now)) }
 {
     match solve(alloc, graph, clauses)? {
-        Verdict::Model(_) => Ok(true),
-        Verdict::Walk(_) => Ok(false),
+        Solution::Model(_) => Ok(true),
+        Solution::Walk(_) => Ok(false),
     }
 }
 
@@ -102,7 +101,7 @@ pub(crate) fn is_servable(alloc: Global, graph: &AsGraph, clauses: &Clauses) -> 
 pub(crate) fn are_valley_free(graph: &AsGraph, clauses: &Clauses, labels: &Labels) -> bool
     requires fits { FitsGraph graph.now clauses.now }
     requires labels { length labels.now ≡ length (edges graph.now) }
-    ensures { IsTrue result → All (ValleyFree (labelling (edges graph.now) labels.now)) (paths_at graph.now clauses.now.paths) }
+    ensures { IsTrue result → All (ValleyFree (labelling (edges graph.now) labels.now)) (demands_of graph.now clauses.now) }
 {
     let paths = clauses.paths();
     for place in 0..paths.len() {
@@ -138,7 +137,7 @@ pub(crate) fn solved_labels(
     requires { FitsGraph graph.now clauses.now }
 {
     match solve(alloc, graph, clauses)? {
-        Verdict::Model(ends) => labels_of(alloc, ends.as_slice()),
-        Verdict::Walk(_) => Err(Fail::from("an orientation")),
+        Solution::Model(ends) => labels_of(alloc, ends.as_slice()),
+        Solution::Walk(_) => Err(Fail::from("an orientation")),
     }
 }

@@ -1,7 +1,6 @@
 ghost use Rattle.std.specs.Prelude.{◌≡◌, ◌≤◌, ◌∷◌, [], length, IfOk};
 ghost use Rattle.relationships.specs.Selection.{IsServable};
-ghost use Rattle.as_graph.specs.Paths.{paths_at};
-ghost use Rattle.tor_clauses.specs.Formulas.{FitsGraph};
+ghost use Rattle.tor_clauses.specs.Formulas.{FitsGraph, demands_of};
 
 use crate::cases::{clauses_of, graph_of, is_servable};
 use as_graph::{AsGraph, build_with};
@@ -9,7 +8,7 @@ use path_select::{Selection, Selector, select, select_behind};
 use relationships::{End, Fates, Given, Link, WalkRef};
 use std::alloc::Global;
 use std::test::Fail;
-use tor_arena::{ArcId, Index, Keys, PathId, Rows};
+use tor_arena::{Index, Keys, PathId, Rows};
 use tor_clauses::Clauses;
 
 /// Paths, which of them are kept, and the triples of the kept ones.
@@ -154,15 +153,9 @@ fn are_kept(places: &[PathId], kept: &[bool]) -> bool {
     next == places.len()
 }
 
-/// Whether the arc at twice this place is that of the triple at a link.
+/// Whether the triple at this place is that at a link.
 fn is_triple(clauses: &Clauses, place: usize, link: Link) -> bool {
-    if place >= 8 {
-        return false;
-    }
-    match ArcId::from_place(place * 2) {
-        Some(arc) => { arc.place() < clauses.digraph().arc_count() && clauses.link_of(arc) == link }
-        None => false,
-    }
+    place < clauses.mark().triples && clauses.link_of(clauses.arc_of(place)) == link
 }
 
 /// Whether the triples of the clauses are those at these links.
@@ -304,7 +297,7 @@ fn told_behind(
     clauses: &Clauses,
 ) -> Result<[usize; 7], Fail>
     requires fits { FitsGraph graph.now clauses.now }
-    requires servable { IsServable (paths_at graph.now clauses.now.paths) }
+    requires servable { IsServable (demands_of graph.now clauses.now) }
     requires count { 2 ≤ length graph.now }
 {
     let selection = select_behind(alloc, keys, graph, clauses.paths(), 2)?;

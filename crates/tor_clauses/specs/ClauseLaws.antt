@@ -4,23 +4,22 @@ use Rattle.relationships.specs.declared.label.End.{End}
 use Rattle.relationships.specs.Graph.{edges}
 use Rattle.relationships.specs.Evidence.{NeighboursDiffer, IsTriple}
 use Rattle.tor_digraph.specs.Walks.{HasArc}
-use Rattle.as_graph.specs.Paths.{paths_at}
 use Rattle.tor_clauses.specs.declared.triple.Triple.{Triple}
 use Rattle.tor_clauses.specs.Triples.{arc_of, partner_of}
-use Rattle.tor_clauses.specs.Formulas.{Formula, FitsGraph, IsServed, IsModel, IsMark, IsArcOf, mark_of, first_of}
+use Rattle.tor_clauses.specs.Formulas.{Formula, FitsGraph, IsModel, IsMark, IsArcOf, mark_of, first_of, demands_of, MeetsDemands}
 
 -- the paths are served exactly if no arc leads from a literal that holds to one that does not
 abbrev pub ModelLaw : Type 0
 ModelLaw =
     (graph : List (List ℕ)) (f : Formula) (ends : List End) → All NeighboursDiffer graph → FitsGraph graph f →
-    length ends ≡ length (edges graph) → IsServed graph f.paths ends ↔ IsModel f ends
+    length ends ≡ length (edges graph) → MeetsDemands graph f ends ↔ IsModel f ends
 
 -- the arcs are exactly those of the triples of the paths, and each triple stands once
 pub record HasExactArcs (graph : List (List ℕ)) (f : Formula) : Type 0 where
   -- each triple of the paths has an arc
-  pub all : (x y z : ℕ) → IsTriple (paths_at graph f.paths) x y z → (l m : ℕ) × IsArcOf graph l m x y z × HasArc f.net.arcs l m
+  pub all : (x y z : ℕ) → IsTriple (demands_of graph f) x y z → (l m : ℕ) × IsArcOf graph l m x y z × HasArc f.net.arcs l m
   -- each arc is that of a triple of the paths
-  pub only : (l m : ℕ) → HasArc f.net.arcs l m → (x y z : ℕ) × IsArcOf graph l m x y z × IsTriple (paths_at graph f.paths) x y z
+  pub only : (l m : ℕ) → HasArc f.net.arcs l m → (x y z : ℕ) × IsArcOf graph l m x y z × IsTriple (demands_of graph f) x y z
   -- triples at two places are not the same, nor is one the reverse of the other
   pub once : (j k : ℕ) (t u : Triple) → slice_get f.triples j ≡ Some t → slice_get f.triples k ≡ Some u →
       (arc_of t ≡ arc_of u) ⊎ (arc_of t ≡ partner_of u) → j ≡ k

@@ -28,6 +28,16 @@ pub record FitsGraph (graph : List (List ℕ)) (f : Formula) : Type 0 where
   pub nodes : f.net.nodes ≡ length (edges graph) * 2
   pub arcs : f.net.arcs ≡ flat_map arcs_of f.triples
 
+-- ---- where arcs stand
+
+-- how many arcs stand before those of the triple at this place, or behind the last triple: how many there are
+abbrev pub arcs_before : Formula → ℕ → ℕ
+arcs_before f triple = triple * 2
+
+-- the place of the triple of which the arc at this place is one
+abbrev pub triple_place : Formula → ℕ → ℕ
+triple_place f arc = arc / 2
+
 -- ---- going back
 
 -- how many paths and triples there are
@@ -39,7 +49,7 @@ abbrev pub first_of : Formula → ClauseMark → Formula
 first_of f mark = record {
   paths = take mark.paths f.paths;
   triples = take mark.triples f.triples;
-  net = first_part f.net f.net.nodes (mark.triples * 2);
+  net = first_part f.net f.net.nodes (arcs_before f mark.triples);
 }
 
 -- so many of the paths, and all triples that are named by these
@@ -57,6 +67,10 @@ demands_of graph f = paths_at graph f.paths
 abbrev pub IsServed : List (List ℕ) → List ℕ → List End → Type 0
 IsServed graph paths ends = Serves (orientation (edges graph) ends) (paths_at graph paths)
 
+-- where the edges have these providers, all that an orientation has to serve is served
+abbrev pub MeetsDemands : List (List ℕ) → Formula → List End → Type 0
+MeetsDemands graph f ends = Serves (orientation (edges graph) ends) (demands_of graph f)
+
 -- no arc leads from a literal that holds to one that does not
 abbrev pub IsModel : Formula → List End → Type 0
 IsModel f ends = (k l m : ℕ) → IsArc f.net.arcs k l m → Holds ends (lit_of l) → Holds ends (lit_of m)
@@ -68,8 +82,9 @@ abbrev pub IsArcOfTriple : List (ℕ × ℕ) → ℕ → Triple → Type 0
 IsArcOfTriple arcs arc t = (slice_get arcs arc ≡ Some (arc_of t)) ⊎ (slice_get arcs arc ≡ Some (partner_of t))
 
 -- the link names the path and the place of the arc's triple
-abbrev pub IsLinkOfTriple : List Triple → ℕ → Link → Type 0
-IsLinkOfTriple triples arc link = (t : Triple) → slice_get triples (arc / 2) ≡ Some t → link ≡ record { path = t.path + 1; at = t.at }
+abbrev pub IsLinkOfTriple : Formula → ℕ → Link → Type 0
+IsLinkOfTriple f arc link =
+    (t : Triple) → slice_get f.triples (triple_place f arc) ≡ Some t → link ≡ record { path = t.path + 1; at = t.at }
 
 -- the paths at these places of the graph, each numbered by its place there from 1
 abbrev pub numbered : List (List ℕ) → List ℕ → Numbered

@@ -1,10 +1,10 @@
-ghost use Rattle.std.specs.Prelude.{◌≡◌, ℕ, ◌+◌, ◌*◌, ◌/◌, ◌<◌, ◌≤◌, ◌^◌, ◌↔◌, ◌∷◌, ◌++◌, [], List, length, flat_map, take, slice_get, Some, IsTrue, IfNone, IfSome, IfOk, OnOk, OnErr};
+ghost use Rattle.std.specs.Prelude.{◌≡◌, ℕ, ◌+◌, ◌*◌, ◌<◌, ◌≤◌, ◌^◌, ◌↔◌, ◌∷◌, ◌++◌, [], List, length, flat_map, take, slice_get, Some, IsTrue, IfNone, IfSome, IfOk, OnOk, OnErr};
 ghost use Rattle.relationships.specs.Graph.{edges};
 ghost use Rattle.tor_clauses.specs.Literals.{node_of};
 ghost use Rattle.tor_clauses.specs.Triples.{arcs_of, AreAmong, triples_on};
 ghost use Rattle.tor_clauses.specs.Tables.{HasNodes, with_triple, with_triples_on, with_arc, having, IsRoomy, IsFirst, IsFirstNew};
-ghost use Rattle.tor_clauses.specs.Flipping.{HasPartners};
-ghost use Rattle.tor_clauses.specs.Formulas.{FitsGraph, IsMark, mark_of, first_of, IsServed, IsModel, IsArcOfTriple, IsLinkOfTriple, IsLinkOfArc};
+ghost use Rattle.tor_clauses.specs.Flipping.{HasPartners, IsPartner};
+ghost use Rattle.tor_clauses.specs.Formulas.{FitsGraph, IsMark, mark_of, first_of, arcs_before, triple_place, IsModel, IsArcOfTriple, IsLinkOfTriple, IsLinkOfArc, MeetsDemands};
 
 use crate::lit::Lit;
 use crate::triple::Triple;
@@ -95,52 +95,48 @@ impl Clauses {
         }
     }
 
-    /// Adds a path of the graph that the clauses fit. It goes last in the list of paths, and its triples that are new go last in
-    /// the list of triples. They still fit the graph. For want of memory nothing changes.
-    pub fn add_path(&mut self, graph: &AsGraph, path: PathId) -> Result<(), NoMemory>
+    /// Adds a path of the graph that the clauses fit, of which it is known which of its triples, from 0, is the first that is new, or
+    /// that none is, as `first_new` answers; those before it are not looked for again. The path goes last in the list of paths, and
+    /// its triples that are new go last in the list of triples. The clauses still fit the graph. For want of memory nothing changes.
+    pub fn add_path(
+        &mut self,
+        graph: &AsGraph,
+        path: PathId,
+        first_new: Option<usize>,
+    ) -> Result<(), NoMemory>
         requires fits { FitsGraph graph.now self.old }
         requires there { path < length graph.now }
+        requires none { IfNone first_new (AreAmong self.old.triples (triples_on graph.now path)) }
+        requires some { IfSome first_new (λ place. AreAmong self.old.triples (take place (triples_on graph.now path))) }
         ensures paths { OnOk result (self.new.paths ≡ self.old.paths ++ path ∷ []) }
+        ensures known { OnOk result (IfNone first_new (self.new ≡ record self.old { paths = self.old.paths ++ path ∷ [] })) }
         ensures fits { FitsGraph graph.now self.new }
         ensures mark { IsMark self.new (mark_of self.old) }
         ensures prefix { first_of self.new (mark_of self.old) ≡ self.old }
         ensures err { OnErr result (self.new ≡ self.old) }
     {
-        self.add_path_behind(graph, path, 0)
+        match first_new {
+            None => self.add_known(graph, path),
+            Some(place) => self.add_behind(graph, path, place),
+        }
     }
 
-    /// The same for a path whose triples are all there: none is added.
-    pub fn add_known_path(&mut self, path: PathId) -> Result<(), NoMemory>
+    /// Adds a path whose triples are all there.
+    fn add_known(&mut self, graph: &AsGraph, path: PathId) -> Result<(), NoMemory>
+        requires fits { FitsGraph graph.now self.old }
+        requires there { path < length graph.now }
+        requires known { AreAmong self.old.triples (triples_on graph.now path) }
         ensures ok { OnOk result (self.new ≡ record self.old { paths = self.old.paths ++ path ∷ [] }) }
-        ensures fits { (graph : List (List ℕ)) → FitsGraph graph self.old → path < length graph →
-            AreAmong self.old.triples (triples_on graph path) → FitsGraph graph self.new }
+        ensures paths { OnOk result (self.new.paths ≡ self.old.paths ++ path ∷ []) }
+        ensures fits { OnOk result (FitsGraph graph.now self.new) }
         ensures err { OnErr result (self.new ≡ self.old) }
     {
         self.paths.push(path)?;
         Ok(())
     }
 
-    /// The same for a path of which the first triples are there, so many: none of them is looked for again.
-    pub fn add_path_behind(
-        &mut self,
-        graph: &AsGraph,
-        path: PathId,
-        known: usize,
-    ) -> Result<(), NoMemory>
-        requires fits { FitsGraph graph.now self.old }
-        requires there { path < length graph.now }
-        requires known { AreAmong self.old.triples (take known (triples_on graph.now path)) }
-        ensures paths { OnOk result (self.new.paths ≡ self.old.paths ++ path ∷ []) }
-        ensures fits { FitsGraph graph.now self.new }
-        ensures mark { IsMark self.new (mark_of self.old) }
-        ensures prefix { first_of self.new (mark_of self.old) ≡ self.old }
-        ensures err { OnErr result (self.new ≡ self.old) }
-    {
-        self.grow(graph, path, known)
-    }
-
-    /// Adds a path and its triples that are new, of which the first, so many, are none. For want of memory nothing changes.
-    fn grow(&mut self, graph: &AsGraph, path: PathId, known: usize) -> Result<(), NoMemory>
+    /// Adds a path of which the first triples, so many, are there.
+    fn add_behind(&mut self, graph: &AsGraph, path: PathId, known: usize) -> Result<(), NoMemory>
         requires fits { FitsGraph graph.now self.old }
         requires there { path < length graph.now }
         requires known { AreAmong self.old.triples (take known (triples_on graph.now path)) }
@@ -247,7 +243,7 @@ impl Clauses {
     pub fn holds(&self, graph: &AsGraph, orientation: &Orientation) -> bool
         requires fits { FitsGraph graph.now self.now }
         requires ends { length orientation.now ≡ length (edges graph.now) }
-        ensures serves { IsTrue result ↔ IsServed graph.now self.now.paths orientation.now }
+        ensures serves { IsTrue result ↔ MeetsDemands graph.now self.now orientation.now }
         ensures model { IsTrue result ↔ IsModel self.now orientation.now }
     {
         graph.facts();
@@ -268,11 +264,45 @@ impl Clauses {
         &self.digraph
     }
 
+    /// How many arcs stand before those of the triple at a place, or, behind the last triple, how many there are. It takes no memory.
+    pub fn arcs_before(&self, triple: usize) -> usize
+        requires { triple ≤ length self.now.triples }
+        ensures count { result ≡ arcs_before self.now triple }
+        ensures there { result ≤ length self.now.net.arcs }
+        ensures all { triple ≡ length self.now.triples → result ≡ length self.now.net.arcs }
+    {
+        prove!(triple <= self.table.len());
+        triple * 2
+    }
+
+    /// The arc of the triple at a place, which has to be there, from its first literal to its second. Its partner is the triple's other
+    /// arc, and the last. It takes no memory.
+    pub fn arc_of(&self, triple: usize) -> ArcId
+        requires { triple < length self.now.triples }
+        ensures place { result ≡ arcs_before self.now triple }
+        ensures there { result < length self.now.net.arcs }
+    {
+        prove!(triple < self.table.len());
+        ArcId::from_place(triple * 2).unwrap()
+    }
+
+    /// The partner of an arc, which has to be there: the arc between the negations of its ends. It takes no memory.
+    pub fn partner(&self, arc: ArcId) -> ArcId
+        requires { arc < length self.now.net.arcs }
+        ensures there { result < length self.now.net.arcs }
+        ensures partner { IsPartner self.now.net.arcs arc result }
+    {
+        let place = arc.place();
+        let other = if place % 2 == 0 { place + 1 } else { place - 1 };
+        prove!(other < self.digraph.arc_count());
+        ArcId::from_place(other).unwrap()
+    }
+
     /// The triple of an arc, which has to be there: the arc is the one from its first literal to its second, or the partner of
     /// that. It takes no memory.
     pub fn triple_of(&self, arc: ArcId) -> Triple
         requires { arc < length self.now.net.arcs }
-        ensures triple { slice_get self.now.triples (arc / 2) ≡ Some result }
+        ensures triple { slice_get self.now.triples (triple_place self.now arc) ≡ Some result }
         ensures arc { IsArcOfTriple self.now.net.arcs arc result }
     {
         self.table.get(arc.place() / 2)
@@ -283,7 +313,7 @@ impl Clauses {
     /// to left. It takes no memory.
     pub fn link_of(&self, arc: ArcId) -> Link
         requires { arc < length self.now.net.arcs }
-        ensures link { IsLinkOfTriple self.now.triples arc result }
+        ensures link { IsLinkOfTriple self.now arc result }
         ensures fits { IsLinkOfArc self.now arc result }
     {
         let triple = self.triple_of(arc);

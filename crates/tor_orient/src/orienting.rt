@@ -4,9 +4,8 @@ ghost use Rattle.relationships.specs.Graph.{Edge, edges, orientation};
 ghost use Rattle.relationships.specs.Selection.{IsServable};
 ghost use Rattle.relationships.specs.Preference.{IsPreferred};
 ghost use Rattle.tor_arena.specs.Distinct.{AllDistinct};
-ghost use Rattle.as_graph.specs.Paths.{paths_at};
 ghost use Rattle.gao_prefs.specs.Preferences.{edges_of};
-ghost use Rattle.tor_clauses.specs.Formulas.{FitsGraph, IsServed};
+ghost use Rattle.tor_clauses.specs.Formulas.{FitsGraph, demands_of, MeetsDemands};
 ghost use Rattle.tor_orient.specs.Wishes.{wish, AreWishes};
 ghost use Rattle.tor_orient.specs.Steps.{IsEndOf, AreEndsOf};
 
@@ -68,17 +67,17 @@ pub fn orient(
     prefs: &[Pref],
 ) -> Result<Orientation, NoMemory>
     requires fits { FitsGraph graph.now clauses.now }
-    requires servable { IsServable (paths_at graph.now clauses.now.paths) }
+    requires servable { IsServable (demands_of graph.now clauses.now) }
     requires inside { All (λ pref. pref.edge < length (edges graph.now)) prefs.now }
     requires apart { AllDistinct (map (λ pref. pref.edge) prefs.now) }
     requires each { (e : Edge) → Contains (edges graph.now) e ↔ Contains (edges_of (edges graph.now) prefs.now) e }
     ensures many { IfOk result (λ ends. length ends ≡ length (edges graph.now)) }
-    ensures serves { IfOk result (IsServed graph.now clauses.now.paths) }
+    ensures serves { IfOk result (MeetsDemands graph.now clauses.now) }
     ensures preferred { IfOk result
-        (λ ends. IsPreferred (paths_at graph.now clauses.now.paths) (wish (edges graph.now) prefs.now)
+        (λ ends. IsPreferred (demands_of graph.now clauses.now) (wish (edges graph.now) prefs.now)
         (edges_of (edges graph.now) prefs.now) (orientation (edges graph.now) ends)) }
     ensures wishes { IfOk result (λ ends. (wanted : Edge → End) → AreWishes (edges graph.now) prefs.now wanted →
-        IsPreferred (paths_at graph.now clauses.now.paths) wanted (edges_of (edges graph.now) prefs.now)
+        IsPreferred (demands_of graph.now clauses.now) wanted (edges_of (edges graph.now) prefs.now)
         (orientation (edges graph.now) ends)) }
 {
     graph.facts();

@@ -1,8 +1,7 @@
 ghost use Rattle.std.specs.Prelude.{◌≡◌, ◌<◌, ◌^◌, ℕ, All, length, OnOk, IfOk};
 ghost use Rattle.relationships.specs.Selection.{IsServable};
 ghost use Rattle.relationships.specs.Graph.{edges};
-ghost use Rattle.as_graph.specs.Paths.{paths_at};
-ghost use Rattle.tor_clauses.specs.Formulas.{FitsGraph};
+ghost use Rattle.tor_clauses.specs.Formulas.{FitsGraph, demands_of};
 ghost use Rattle.tor_orient.specs.Steps.{node_wanted, IsClosed, IsSettledBy, AreSettled};
 
 use as_graph::AsGraph;
@@ -60,7 +59,7 @@ fn settle_each(
     settled: &mut Reached<NodeId, ArcId>,
 ) -> Result<(), NoMemory>
     requires fits { FitsGraph graph.now clauses.now }
-    requires servable { IsServable (paths_at graph.now clauses.now.paths) }
+    requires servable { IsServable (demands_of graph.now clauses.now) }
     requires inside { All (λ pref. pref.edge < length (edges graph.now)) prefs.now }
     requires rows { rows.now ≡ clauses.now.net }
     requires settled { AreSettled clauses.now prefs.now 0 settled.old }
@@ -84,7 +83,7 @@ fn settle_into(
     settled: &mut Reached<NodeId, ArcId>,
 ) -> Result<(), NoMemory>
     requires fits { FitsGraph graph.now clauses.now }
-    requires servable { IsServable (paths_at graph.now clauses.now.paths) }
+    requires servable { IsServable (demands_of graph.now clauses.now) }
     requires inside { All (λ pref. pref.edge < length (edges graph.now)) prefs.now }
     requires rows { rows.now ≡ clauses.now.net }
     requires settled { AreSettled clauses.now prefs.now 0 settled.old }
@@ -103,7 +102,7 @@ fn settled_by(
     prefs: &[Pref],
 ) -> Result<Reached<NodeId, ArcId>, NoMemory>
     requires fits { FitsGraph graph.now clauses.now }
-    requires servable { IsServable (paths_at graph.now clauses.now.paths) }
+    requires servable { IsServable (demands_of graph.now clauses.now) }
     requires inside { All (λ pref. pref.edge < length (edges graph.now)) prefs.now }
     requires rows { rows.now ≡ clauses.now.net }
     ensures { IfOk result (AreSettled clauses.now prefs.now (length prefs.now)) }
@@ -121,7 +120,7 @@ pub(crate) fn settle_all(
     prefs: &[Pref],
 ) -> Result<Reached<NodeId, ArcId>, NoMemory>
     requires fits { FitsGraph graph.now clauses.now }
-    requires servable { IsServable (paths_at graph.now clauses.now.paths) }
+    requires servable { IsServable (demands_of graph.now clauses.now) }
     requires inside { All (λ pref. pref.edge < length (edges graph.now)) prefs.now }
     ensures { IfOk result (AreSettled clauses.now prefs.now (length prefs.now)) }
 {

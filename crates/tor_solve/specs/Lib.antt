@@ -1,3 +1,3 @@
 pub mod Laws
 pub mod Solving
-pub mod Verdicts
+pub mod Solutions

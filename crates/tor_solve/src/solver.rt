@@ -1,11 +1,11 @@
 ghost use Rattle.std.specs.Prelude.{◌≡◌, length, IfOk};
 ghost use Rattle.relationships.specs.Graph.{edges};
 ghost use Rattle.relationships.specs.Evidence.{Refutes};
-ghost use Rattle.tor_clauses.specs.Formulas.{FitsGraph, IsServed, numbered};
-ghost use Rattle.tor_solve.specs.Verdicts.{IfModel, IfWalk, IsExact};
+ghost use Rattle.tor_clauses.specs.Formulas.{FitsGraph, numbered_of, MeetsDemands};
+ghost use Rattle.tor_solve.specs.Solutions.{IfModel, IfWalk, IsExact};
 
 use crate::later::{clash, later_ends};
-use crate::verdict::Verdict;
+use crate::solution::Solution;
 use crate::walking::walk_round;
 use as_graph::AsGraph;
 use std::alloc::Global;
@@ -18,12 +18,12 @@ use tor_components::components;
 ///
 /// Where an order of two neighbours and its opposite lead to each other, the walk goes round from the one to the other and back.
 /// Otherwise the order of the later strong component holds (Aspvall, Plass and Tarjan 1979).
-pub fn solve(alloc: Global, graph: &AsGraph, clauses: &Clauses) -> Result<Verdict, NoMemory>
+pub fn solve(alloc: Global, graph: &AsGraph, clauses: &Clauses) -> Result<Solution, NoMemory>
     requires { FitsGraph graph.now clauses.now }
-    ensures many { IfOk result (λ verdict. IfModel verdict (λ ends. length ends ≡ length (edges graph.now))) }
-    ensures model { IfOk result (λ verdict. IfModel verdict (λ ends. IsServed graph.now clauses.now.paths ends)) }
-    ensures walk { IfOk result (λ verdict. IfWalk verdict (Refutes (numbered graph.now clauses.now.paths))) }
-    ensures exact { IfOk result (IsExact graph.now clauses.now.paths) }
+    ensures many { IfOk result (λ solution. IfModel solution (λ ends. length ends ≡ length (edges graph.now))) }
+    ensures model { IfOk result (λ solution. IfModel solution (λ ends. MeetsDemands graph.now clauses.now ends)) }
+    ensures walk { IfOk result (λ solution. IfWalk solution (Refutes (numbered_of graph.now clauses.now))) }
+    ensures exact { IfOk result (IsExact graph.now clauses.now) }
 {
     graph.facts();
     model_law();
@@ -33,11 +33,11 @@ pub fn solve(alloc: Global, graph: &AsGraph, clauses: &Clauses) -> Result<Verdic
     match clash(&parts, count) {
         Some(edge) => {
             let walk = walk_round(alloc, graph, clauses, edge)?;
-            Ok(Verdict::Walk(walk))
+            Ok(Solution::Walk(walk))
         }
         None => {
             let ends = later_ends(alloc, &parts, count)?;
-            Ok(Verdict::Model(ends))
+            Ok(Solution::Model(ends))
         }
     }
 }

@@ -15,4 +15,4 @@ unreachable-requires c =
     let can = first_servable graph paths i id c.loop-path-test.true c.requires.servable in
     let here = subst (λ k. IsServable (paths_at graph (take i paths ++ k ∷ []))) (sym c.path-item.is) can in
     let all = subst (λ l. IsServable (paths_at graph (l ++ id ∷ []))) (sym c.loop-path.invariant.kept) here in
-    false≢true (sym (ap is_kept c.in-Lost.is) ∙ c.in_ok-offer.ensures.exact.1 all)
+    false≢true (sym (ap is_kept c.in-Lost.is) ∙ c.in_ok-offer.ensures.offered.exact.1 all)

@@ -9,14 +9,23 @@ use Rattle.path_select.proofs.Keepings.{not_servable}
 use Rattle.path_select.proofs.Relinking.{offered, lost_again}
 use Rattle.path_select.proofs.selecting.offer.Goals as goal
 
-pub returns-in-Some-clause-exact : goal.returns-in-Some-clause-exact
-returns-in-Some-clause-exact c =
+pub returns-in-Some-clause-offered : goal.returns-in-Some-clause-offered
+returns-in-Some-clause-offered c =
     let graph = c.args.graph.now in
     let paths : List _ = with_path c.args.selector.now c.args.path in
-    let refutes = subst (λ o. IfSome o (Refutes (numbered graph paths))) c.in-Some.is c.in_ok-walk.ensures in (
-      λ kept. absurd (false≢true kept),
-      λ can. absurd (not_servable graph paths c.in-Some.walk c.refuting_law.ensures refutes can),
-    )
+    let refutes = subst (λ o. IfSome o (Refutes (numbered graph paths))) c.in-Some.is c.in_ok-walk.ensures in
+    record {
+      fits = c.requires.fits;
+      exact = (
+        λ kept. absurd (false≢true kept),
+        λ can. absurd (not_servable graph paths c.in-Some.walk c.refuting_law.ensures refutes can),
+      );
+      kept = λ kept. absurd (false≢true kept);
+      lost = refl;
+      walk = refutes;
+      same = λ serves. refl;
+      changed = λ x held not. absurd (not held);
+    }
 
 pub returns-in-Some-clause-refused : goal.returns-in-Some-clause-refused
 returns-in-Some-clause-refused c =
@@ -26,37 +35,12 @@ same_paths : (fate : Fate) (new old : Choice) → IfSome (walk_of fate) (λ walk
 same_paths Fate.Kept new old lost = tt
 same_paths (Fate.Lost walk) new old lost = ap (λ (c : Choice). c.formula.paths) lost
 
+pub returns-clause-offered : goal.returns-clause-offered
+returns-clause-offered c = c.in_ok-fate.ensures.offered
+
 pub returns-clause-refused : goal.returns-clause-refused
 returns-clause-refused c =
-    let e = c.in_ok-fate.ensures in
+    let e = c.in_ok-fate.ensures.offered in
     let fate = c.in_ok-fate.fate in
     offered c.args.graph.now c.args.selector.now.formula.paths c.args.path c.args.fates.now fate c.offer_behind.new.self.formula.paths c.args.refusals.now.items
-    c.remember.new.refusals.items c.requires.next e.kept (same_paths fate c.offer_behind.new.self c.args.selector.now e.lost) e.walk c.requires.refused c.in_ok-remember.ensures
-
-pub returns-in-Some-clause-fits : goal.returns-in-Some-clause-fits
-returns-in-Some-clause-fits c = c.requires.fits
-
-pub returns-in-Some-clause-kept : goal.returns-in-Some-clause-kept
-returns-in-Some-clause-kept c = λ kept. absurd (false≢true kept)
-
-pub returns-in-Some-clause-lost : goal.returns-in-Some-clause-lost
-returns-in-Some-clause-lost c = refl
-
-pub returns-in-Some-clause-walk : goal.returns-in-Some-clause-walk
-returns-in-Some-clause-walk c =
-    subst (λ o. IfSome o (Refutes (numbered c.args.graph.now (with_path c.args.selector.now c.args.path)))) c.in-Some.is c.in_ok-walk.ensures
-
-pub returns-clause-fits : goal.returns-clause-fits
-returns-clause-fits c = c.in_ok-fate.ensures.fits
-
-pub returns-clause-exact : goal.returns-clause-exact
-returns-clause-exact c = c.in_ok-fate.ensures.exact
-
-pub returns-clause-kept : goal.returns-clause-kept
-returns-clause-kept c = c.in_ok-fate.ensures.kept
-
-pub returns-clause-lost : goal.returns-clause-lost
-returns-clause-lost c = c.in_ok-fate.ensures.lost
-
-pub returns-clause-walk : goal.returns-clause-walk
-returns-clause-walk c = c.in_ok-fate.ensures.walk
+    c.remember.new.self.items c.requires.next e.kept (same_paths fate c.offer_behind.new.self c.args.selector.now e.lost) e.walk c.requires.refused c.in_ok-remember.ensures

@@ -34,13 +34,14 @@ loop-place-preserved c =
     let test = c.loop-place-test.true in
     let lt : c.loop-place.place < length graph = omega (arith, test, c.requires.count) in
     let same : c.unwrap-path.result ≡ c.loop-place.place = search rules in
-    let e = c.in_ok-fate.ensures in
+    let refused = c.in_ok-fate.ensures.refused in
+    let e = c.in_ok-fate.ensures.offered in
     let added = sym c.in_ok-add.ensures in
     let next = next_at graph c.args.selector.now.formula.paths c.loop-place.place c.loop-place.fates c.loop-place.selector.formula c.loop-place.invariant.so lt c.unwrap-path.result same fate
     c.offer.new.selector.formula e.fits e.exact e.kept (same_formula fate c.offer.new.selector c.loop-place.selector e.lost) e.walk in
     record {
       so = subst (λ fates. IsSoFar graph c.args.selector.now.formula.paths (c.loop-place.place + 1) fates c.offer.new.selector.formula) added next;
-      refused = subst (λ fates. AreRefused graph c.offer.new.selector.formula.paths fates c.offer.new.refusals.items) added e.refused;
+      refused = subst (λ fates. AreRefused graph c.offer.new.selector.formula.paths fates c.offer.new.refusals.items) added refused;
     }
 
 -- all are offered

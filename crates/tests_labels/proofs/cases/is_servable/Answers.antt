@@ -1,7 +1,7 @@
 use Rattle.std.proofs.Common.{subst}
 use Rattle.relationships.specs.Graph.{edges, orientation}
 use Rattle.tor_clauses.specs.Formulas.{IsServed}
-use Rattle.tor_solve.specs.Verdicts.{IfModel}
+use Rattle.tor_solve.specs.Solutions.{IfModel}
 use Rattle.tests_labels.proofs.cases.is_servable.Goals as goal
 
 pub returns-in-Model : goal.returns-in-Model

@@ -1,0 +1,15 @@
+use Rattle.tor_digraph.specs.Search.{steps_of}
+use Rattle.path_select.specs.Trails.{IsMarked, IsTrail, IsGrown}
+use Rattle.path_select.proofs.Scans.{IsScan}
+use Rattle.path_select.proofs.trail.Trail.scan.Given as goal
+
+abbrev pub invariant-loop-next : goal.invariant-loop-next
+invariant-loop-next l = record {
+  marked : IsMarked l.digraph.nodes l.self;
+  trail : IsTrail l.digraph.arcs l.ends l.self.visits;
+  grown : IsGrown l.fn.self.visits l.self.visits;
+  scan : IsScan l.digraph.arcs l.ends l.self.visits l.place l.next;
+}
+
+abbrev pub decreases-loop-next : goal.decreases-loop-next
+decreases-loop-next l = steps_of (λ a. a) l.next

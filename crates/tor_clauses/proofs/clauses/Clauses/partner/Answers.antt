@@ -1,0 +1,26 @@
+use Rattle.std.proofs.Common.{rules, ◌≡◌, ◌*◌, ◌<◌, flat_map, length, sym, ap, ◌∙◌, subst, arith}
+use Rattle.tor_clauses.specs.Triples.{arcs_of}
+use Rattle.tor_clauses.specs.Formulas.{Formula}
+use Rattle.tor_clauses.proofs.Arcs.{length-arcs, partner_even, partner_odd}
+use Rattle.tor_clauses.proofs.clauses.Clauses.partner.Goals as goal
+use Rattle.tor_clauses.proofs.clauses.Clauses.partner.Goals.{then-place-eq0, else-place-eq0}
+
+pub prove-unreachable-requires : goal.prove-unreachable-requires
+prove-unreachable-requires c =
+    let many : length c.self.inside.digraph.arcs ≡ length c.self.inside.table * 2 = ap length c.self.invariant ∙ length-arcs c.self.inside.table in
+    let below : c.args.arc < length c.self.inside.digraph.arcs = subst (λ (f : Formula). c.args.arc < length f.net.arcs) (sym c.self.view_is) c.requires in
+    elim c.if-place-eq0.branch [
+      | then-place-eq0 w ↦ omega (arith, many, below)
+      | else-place-eq0 w ↦ omega (arith, many, below)
+    ]
+
+pub returns-clause-partner : goal.returns-clause-partner
+returns-clause-partner c = λ l m arc.
+    let triples = c.args.self.now.triples in
+    let arcs = c.args.self.now.net.arcs in
+    let are : arcs ≡ flat_map arcs_of triples = subst (λ (f : Formula). f.net.arcs ≡ flat_map arcs_of f.triples) c.self.view_is c.self.invariant in
+    let same : c.unwrap.result ≡ c.if-place-eq0.other = search rules in
+    elim c.if-place-eq0.branch [
+      | then-place-eq0 w ↦ partner_even triples arcs c.args.arc c.unwrap.result l m are (omega arith) (omega (arith, same)) arc
+      | else-place-eq0 w ↦ partner_odd triples arcs c.args.arc c.unwrap.result l m are (omega arith) (omega (arith, same)) arc
+    ]
