@@ -6,22 +6,11 @@ use Rattle.relationships.specs.declared.walk.Walk.{Walk}
 use Rattle.relationships.specs.Graph.{Edge}
 use Rattle.relationships.specs.Evidence.{Numbered, Shows, ShowFrom, Closure}
 use Rattle.relationships.specs.Checking.{Claim, IsBorneOut, IsProbe, ProbesFrom}
-use Rattle.tor_digraph.proofs.Gets.{has-from_Contains, Contains-from_has, slice_get-push_old, slice_get-push_cases, slice_get-push_last}
+use Rattle.tor_digraph.proofs.Members.{Contains-more, Contains-last, Contains-one_more}
 use Rattle.relationships.specs.declared.mark.Mark.{Mark}
 use Rattle.relationships.specs.Marking.{claim_of, claims_of}
 
 -- ---- members
-
-pub Contains-more : {X : Type 0} (xs ys : List X) (x : X) → Contains xs x → Contains (xs ++ ys) x
-Contains-more xs ys x h = let has = has-from_Contains xs x h in Contains-from_has (xs ++ ys) x (has.0, slice_get-push_old xs ys has.0 x has.1)
-
-pub Contains-last : {X : Type 0} (xs : List X) (x : X) → Contains (xs ++ x ∷ []) x
-Contains-last xs x = Contains-from_has (xs ++ x ∷ []) x (length xs, slice_get-push_last xs x)
-
-pub Contains-one_more : {X : Type 0} (xs : List X) (y x : X) → Contains (xs ++ y ∷ []) x → Contains xs x ⊎ (x ≡ y)
-Contains-one_more xs y x h =
-    let has = has-from_Contains (xs ++ y ∷ []) x h in
-    elim (slice_get-push_cases xs y has.0 x has.1) [ inl old ↦ inl (Contains-from_has xs x (has.0, old)) | inr new ↦ inr new.1 ]
 
 pub Any-of : {X : Type 0} (P : X → Type 0) (xs : List X) (x : X) → Contains xs x → P x → Any P xs
 Any-of P xs x h p = (h.0, x, h.1, h.2, p)

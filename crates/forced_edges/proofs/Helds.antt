@@ -24,10 +24,11 @@ use Rattle.tor_clauses.specs.Flipping.{HasPartners, HoldsOne, IsKeptAlong, Reach
 use Rattle.tor_clauses.proofs.LiteralLemmas.{lit_of_node}
 use Rattle.tor_clauses.proofs.Exacts.{only_arcs}
 use Rattle.tor_clauses.proofs.Flips.{off_of}
-use Rattle.forced_edges.specs.Nodes.{IsAdded, IsClosed}
+use Rattle.forced_edges.specs.Nodes.{IsClosed}
+use Rattle.tor_digraph.specs.NodeSets.{IsAdded}
 use Rattle.forced_edges.specs.Held.{end_by, is_end, held}
 use Rattle.forced_edges.specs.Candidates.{against}
-use Rattle.forced_edges.proofs.Growing.{Contains-one_more}
+use Rattle.tor_digraph.proofs.Members.{Contains-one_more}
 use Rattle.forced_edges.proofs.Ordering.{pair_with}
 
 -- ---- what is held is what the labels say

@@ -1,66 +1,16 @@
 -- Sets of nodes, and a search that adds to one.
-use Rattle.std.proofs.Common.{◌≡◌, ◌↔◌, ℕ, ◌+◌, ◌<◌, ◌≤◌, ◌⊎◌, inl, inr, Bool, true, false, List, [], ◌∷◌, ◌++◌, Some, length, set, get_or, refl, sym, ap, ◌∙◌, subst, arith, length-append, IsTrue, Contains}
-use Rattle.std.specs.Prelude.{slice_get, replicate, Result, Ok, Err, IfOk}
-use Rattle.std.proofs.lemmas.Bool.{cases_eq, cases_lt, false≢true}
-use Rattle.std.proofs.lemmas.Option.{same_Some, slice_get_read}
+use Rattle.std.proofs.Common.{◌≡◌, ℕ, ◌+◌, ◌<◌, ◌≤◌, ◌⊎◌, inl, inr, Bool, List, [], ◌∷◌, ◌++◌, Some, length, sym, ap, ◌∙◌, subst, arith, Contains}
+use Rattle.std.specs.Prelude.{slice_get, Result, Ok, Err, IfOk}
+use Rattle.std.proofs.lemmas.Bool.{cases_lt}
+use Rattle.std.proofs.lemmas.Option.{same_Some}
 use Rattle.tor_digraph.specs.Walks.{HasArc, Reaches, here, along}
 use Rattle.tor_digraph.specs.InRows.{IsRow}
 use Rattle.tor_digraph.specs.Reached.{IsGrown}
-use Rattle.tor_digraph.proofs.Gets.{has-from_Contains, Contains-from_has, slice_get-lt, slice_get-some, slice_get-push_old, slice_get-push_cases, slice_get-set_cases, slice_get-set_same, slice_get-set_other, slice_get-replicate}
-use Rattle.forced_edges.specs.Nodes.{AreMarked, IsAdded, IsMet, Stays, HasLooked, IsClosed}
-use Rattle.forced_edges.proofs.Growing.{Contains-more, Contains-last, Contains-one_more}
-
-pub none-in : {X : Type 0} {xs : List X} {x : X} → xs ≡ [] → Contains xs x → ⊥
-none-in e h = let n = ap length e in let lt = h.1 in omega (arith, n, lt)
-
--- ---- marks
-
-pub marked_none : (nodes : List ℕ) (marks : List Bool) (count : ℕ) → nodes ≡ [] → marks ≡ replicate count false → AreMarked nodes marks
-marked_none nodes marks count none same = record {
-  noted = λ n h. absurd (none-in none h);
-  only = λ n at. absurd (false≢true (sym (slice_get-replicate count false n true (ap (λ (l : List Bool). slice_get l n) (sym same) ∙ at))));
-}
-
-pub marked_has : (nodes : List ℕ) (marks : List Bool) (n : ℕ) (b : Bool) → AreMarked nodes marks → slice_get marks n ≡ Some b → IsTrue b ↔ Contains nodes n
-marked_has nodes marks n b m at = (λ t. m.only n (at ∙ ap (λ (c : Bool). Some c) t), λ h. same_Some b true (sym at ∙ m.noted n h))
-
-pub marked_more : (nodes : List ℕ) (marks : List Bool) (n : ℕ) → n < length marks → AreMarked nodes marks → AreMarked (nodes ++ n ∷ []) (set marks n true)
-marked_more nodes marks n lt m = record {
-  noted = λ x h. elim (cases_eq x n) [
-    | inl e ↦ ap (slice_get (set marks n true)) e ∙ slice_get-set_same marks n true lt
-    | inr ne ↦ elim (Contains-one_more nodes n x h) [ inl was ↦ slice_get-set_other marks n true x ne ∙ m.noted x was | inr is ↦ absurd (ne is) ]
-  ];
-  only = λ x at. elim (slice_get-set_cases marks n true x true at) [
-    | inl p ↦ subst (Contains (nodes ++ n ∷ [])) (sym p.0) (Contains-last nodes n)
-    | inr p ↦ Contains-more nodes (n ∷ []) x (m.only x p.1)
-  ];
-}
-
-pub marked_below : (nodes : List ℕ) (marks : List Bool) (n : ℕ) → AreMarked nodes marks → Contains nodes n → n < length marks
-marked_below nodes marks n m h = slice_get-lt marks n true (m.noted n h)
-
--- nodes are taken out from the end
-pub record AreLeft (nodes : List ℕ) (marks : List Bool) (count : ℕ) : Type 0 where
-  pub many : length marks ≡ count
-  pub inside : (n : ℕ) → Contains nodes n → n < count
-  pub only : (n : ℕ) → slice_get marks n ≡ Some true → Contains nodes n
-
-pub left_all : (nodes : List ℕ) (marks : List Bool) → AreMarked nodes marks → AreLeft nodes marks (length marks)
-left_all nodes marks m = record { many = refl; inside = λ n h. marked_below nodes marks n m h; only = m.only }
-
-pub left_next : (nodes fewer : List ℕ) (marks new : List Bool) (count n : ℕ) → AreLeft nodes marks count → nodes ≡ fewer ++ n ∷ [] → new ≡ set marks n false →
-    length new ≡ length marks → AreLeft fewer new count
-left_next nodes fewer marks new count n so e f same = record {
-  many = same ∙ so.many;
-  inside = λ x h. so.inside x (subst (λ (l : List ℕ). Contains l x) (sym e) (Contains-more fewer (n ∷ []) x h));
-  only = λ x at. elim (slice_get-set_cases marks n false x true (ap (λ (l : List Bool). slice_get l x) (sym f) ∙ at)) [
-    | inl p ↦ absurd (false≢true (sym p.1))
-    | inr p ↦ elim (Contains-one_more fewer n x (subst (λ (l : List ℕ). Contains l x) e (so.only x p.1))) [ inl was ↦ was | inr is ↦ absurd (p.0 is) ]
-  ];
-}
-
-pub left_none : (nodes : List ℕ) (marks : List Bool) (count : ℕ) → AreLeft nodes marks count → nodes ≡ [] → AreMarked nodes marks
-left_none nodes marks count so none = record { noted = λ n h. absurd (none-in none h); only = so.only }
+use Rattle.tor_digraph.proofs.Gets.{has-from_Contains, Contains-from_has, slice_get-lt, slice_get-some, slice_get-push_old, slice_get-push_cases}
+use Rattle.tor_digraph.specs.NodeSets.{IsAdded}
+use Rattle.forced_edges.specs.Nodes.{IsMet, Stays, HasLooked, IsClosed}
+use Rattle.tor_digraph.proofs.Members.{Contains-more, Contains-last}
+use Rattle.tor_digraph.proofs.NodeSets.{added_there}
 
 -- ---- lists of nodes that grow
 
@@ -70,10 +20,6 @@ stays_contained old new s n h = let has = has-from_Contains old n h in Contains-
 pub added_stays : (node : ℕ) (is_new : Bool) (old new : List ℕ) → IsAdded node is_new old new → Stays old new
 added_stays node is_new old new (inl a) k x at = subst (λ (l : List ℕ). slice_get l k ≡ Some x) (sym a.2) (slice_get-push_old old (node ∷ []) k x at)
 added_stays node is_new old new (inr a) k x at = subst (λ (l : List ℕ). slice_get l k ≡ Some x) (sym a.2) at
-
-pub added_there : (node : ℕ) (is_new : Bool) (old new : List ℕ) → IsAdded node is_new old new → Contains new node
-added_there node is_new old new (inl a) = subst (λ (l : List ℕ). Contains l node) (sym a.2) (Contains-last old node)
-added_there node is_new old new (inr a) = subst (λ (l : List ℕ). Contains l node) (sym a.2) a.1
 
 pub added_met : (past : List ℕ) (node : ℕ) (is_new : Bool) (old new : List ℕ) → IsAdded node is_new old new → IsMet past node old new
 added_met past node is_new old new (inl a) = inr a.2
@@ -202,13 +148,7 @@ spreading_done arcs past start old nodes at so le x y h arc =
     let lt = slice_get-lt nodes has.0 x has.1 in
     so.heads has.0 x y (omega (arith, lt, le)) has.1 arc
 
--- ---- what code reads of a list
-
-pub read-at : {X : Type 0} (xs ys : List X) (i : ℕ) (x : X) → ys ≡ xs → x ≡ get_or ys i x → i < length xs → slice_get xs i ≡ Some x
-read-at xs ys i x e is lt = slice_get_read xs (length xs) i x refl lt (subst (λ zs. x ≡ get_or zs i x) e is)
-
-pub read-there : {X : Type 0} (xs ys : List X) (i : ℕ) (x : X) → ys ≡ xs → x ≡ get_or ys i x → i < length xs → Contains xs x
-read-there xs ys i x e is lt = Contains-from_has xs x (i, read-at xs ys i x e is lt)
+-- ---- results
 
 pub if_ok_weaker : {T E : Type 0} {P Q : T → Type 0} (r : Result T E) → ((x : T) → P x → Q x) → IfOk r P → IfOk r Q
 if_ok_weaker (Ok x) f h = f x h

@@ -4,7 +4,7 @@ use Rattle.std.specs.Prelude.{◌≡◌, ℕ, ◌+◌, ◌-◌, ◌*◌, ◌^◌
 use Rattle.relationships.specs.declared.label.End.{End}
 use Rattle.relationships.specs.declared.label.Label.{Label}
 use Rattle.tor_clauses.specs.Literals.{node_of}
-use Rattle.forced_edges.specs.declared.candidates.Open.{Open}
+use Rattle.forced_edges.specs.declared.candidates.Entered.{Entered}
 use Rattle.forced_edges.specs.declared.candidates.Order.{Order}
 
 -- the node of the order against this label of an edge; a peering has none
@@ -24,25 +24,25 @@ IsChoice labels n old new = (IsAgainst labels n × (new ≡ old ++ n ∷ [])) �
 -- ---- the search
 
 -- the search has not left the node yet
-abbrev pub OnStack : List Open → ℕ → Type 0
-OnStack stack n = (k : ℕ) × (o : Open) × (slice_get stack k ≡ Some o) × (o.node ≡ n)
+abbrev pub OnStack : List Entered → ℕ → Type 0
+OnStack stack n = (k : ℕ) × (o : Entered) × (slice_get stack k ≡ Some o) × (o.node ≡ n)
 
 -- of so many nodes, each order against a label to which the search has come was chosen, or is not left yet
 pub record IsOrder (labels : List Label) (count : ℕ) (order : Order) : Type 0 where
   pub many : order.seen.count ≡ count
   pub inside : All (λ n. n < count) order.chosen
-  pub opens : (k : ℕ) (o : Open) → slice_get order.stack k ≡ Some o → o.node < count
+  pub opens : (k : ℕ) (o : Entered) → slice_get order.stack k ≡ Some o → o.node < count
   pub each : (n : ℕ) → IsAgainst labels n → Contains order.seen.items n → Contains order.chosen n ⊎ OnStack order.stack n
 
 -- the search with one more node that was not left yet
-abbrev pub with_open : Order → Open → Order
-with_open order top = record order { stack = order.stack ++ top ∷ [] }
+abbrev pub with_entered : Order → Entered → Order
+with_entered order top = record order { stack = order.stack ++ top ∷ [] }
 
 -- the search has come to the node
 pub record Visits (node : ℕ) (old new : Order) : Type 0 where
   pub many : new.seen.count ≡ old.seen.count
   pub seen : new.seen.items ≡ old.seen.items ++ node ∷ []
-  pub opened : (top : Open) × (top.node ≡ node) × (new.stack ≡ old.stack ++ top ∷ [])
+  pub opened : (top : Entered) × (top.node ≡ node) × (new.stack ≡ old.stack ++ top ∷ [])
   pub chosen : new.chosen ≡ old.chosen
   pub few : length old.seen.items < 2 ^ 64
 

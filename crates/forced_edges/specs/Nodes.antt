@@ -1,22 +1,7 @@
--- Sets of nodes, and what a search over the arcs adds to one. These words are the marking's own: no reader of a public clause needs
+-- What a search over the arcs adds to a set of nodes. These words are the marking's own: no reader of a public clause needs
 -- them.
-use Rattle.std.specs.Prelude.{◌≡◌, ◌⊎◌, ℕ, ◌≤◌, Bool, true, List, [], ◌∷◌, ◌++◌, Some, slice_get, length, Contains, IsTrue, IsFalse}
+use Rattle.std.specs.Prelude.{◌≡◌, ◌⊎◌, ℕ, ◌≤◌, List, [], ◌∷◌, ◌++◌, Option, Some, None, slice_get, length, Contains}
 use Rattle.tor_digraph.specs.Walks.{HasArc}
-
--- some nodes, in order, of so many
-pub record Nodes : Type 0 where
-  pub count : ℕ
-  pub items : List ℕ
-
--- exactly these nodes are marked
-pub record AreMarked (nodes : List ℕ) (marks : List Bool) : Type 0 where
-  pub noted : (n : ℕ) → Contains nodes n → slice_get marks n ≡ Some true
-  pub only : (n : ℕ) → slice_get marks n ≡ Some true → Contains nodes n
-
--- the nodes with one more, if it is new
-abbrev pub IsAdded : ℕ → Bool → List ℕ → List ℕ → Type 0
-IsAdded node new before after =
-    (IsTrue new × (Contains before node → ⊥) × (after ≡ before ++ node ∷ [])) ⊎ (IsFalse new × Contains before node × (after ≡ before))
 
 -- the old nodes are the first of the new ones
 abbrev pub Stays : List ℕ → List ℕ → Type 0
@@ -35,3 +20,8 @@ pub record HasLooked (arcs : List (ℕ × ℕ)) (past : List ℕ) (tail : ℕ) (
 -- an arc out of these nodes leads to one of those past which a search does not go
 abbrev pub IsClosed : List (ℕ × ℕ) → List ℕ → List ℕ → Type 0
 IsClosed arcs past nodes = (x y : ℕ) → Contains nodes x → HasArc arcs x y → Contains nodes y ⊎ Contains past y
+
+-- a search has come to the node at which it is to stop, if there is one
+abbrev pub HasCome : Option ℕ → List ℕ → Type 0
+HasCome None nodes = ⊥
+HasCome (Some end) nodes = Contains nodes end

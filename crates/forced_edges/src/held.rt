@@ -1,11 +1,11 @@
 ghost use Rattle.std.specs.Prelude.{ℕ, ◌≡◌, ◌<◌, ◌*◌, ◌^◌, length, IfOk, IsTrue, Contains};
 ghost use Rattle.forced_edges.specs.Held.{end_by as end_of_label, held};
 
-use crate::node_set::NodeSet;
 use relationships::{End, Label};
 use std::alloc::Global;
 use tor_arena::{EdgeId, Index, NoMemory};
 use tor_clauses::Lit;
+use tor_digraph::NodeSet;
 
 /// The end that is over the other by a label. A peering is read as if its lower number were the provider.
 fn end_by(label: Label) -> End

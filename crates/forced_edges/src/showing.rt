@@ -9,13 +9,12 @@ ghost use Rattle.tor_clauses.specs.Formulas.{FitsGraph};
 ghost use Rattle.forced_edges.specs.Nodes.{Stays};
 ghost use Rattle.forced_edges.specs.Settling.{IsShown, IsShowing, AreClosedTo, Keeps, LeadsBack, LeadsOn, IsTail};
 
-use crate::node_set::NodeSet;
 use as_graph::AsGraph;
 use relationships::{Walk, Walks};
 use std::alloc::Global;
 use tor_arena::{ArcId, Index, NoMemory, NodeId};
 use tor_clauses::{Clauses, opposite, order, walk_along};
-use tor_digraph::{Reached, RowDigraph};
+use tor_digraph::{NodeSet, Reached, RowDigraph};
 
 /// Orders that hold in each orientation that serves, each with a walk that shows it.
 #[derive(Drop)]

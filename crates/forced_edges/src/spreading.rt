@@ -1,10 +1,9 @@
-ghost use Rattle.std.specs.Prelude.{◌≡◌, ◌<◌, OnOk, Contains};
+ghost use Rattle.std.specs.Prelude.{◌≡◌, ◌<◌, ◌↔◌, IsTrue, IfSome, OnOk};
 ghost use Rattle.tor_digraph.specs.Reached.{IsGrown};
-ghost use Rattle.forced_edges.specs.Nodes.{IsMet, HasLooked, IsClosed};
+ghost use Rattle.forced_edges.specs.Nodes.{IsMet, HasLooked, IsClosed, HasCome};
 
-use crate::node_set::NodeSet;
 use tor_arena::{ArcId, Index, NoMemory, NodeId};
-use tor_digraph::RowDigraph;
+use tor_digraph::{NodeSet, RowDigraph};
 
 /// Adds a node, unless it is there, or one past which the search does not go.
 fn meet(node: NodeId, past: &NodeSet, found: &mut NodeSet) -> Result<(), NoMemory>
@@ -40,53 +39,38 @@ fn look(
     Ok(())
 }
 
-/// Adds a node and all that it leads to, the nearest first, but not past the nodes of `past`.
+/// Whether a search has come to the node at which it is to stop, if there is one.
+fn has_come(end: &Option<NodeId>, found: &NodeSet) -> bool
+    requires { IfSome end.now (λ node. node < found.now.count) }
+    ensures { IsTrue result ↔ HasCome end.now found.now.items }
+{
+    match end {
+        None => false,
+        Some(node) => found.has(*node),
+    }
+}
+
+/// Adds a node and all that it leads to, the nearest first, but not past the nodes of `past`, and no further where the search has come
+/// to `end`, if there is one.
 pub(crate) fn spread(
     rows: &RowDigraph<'_, NodeId, ArcId>,
     start: NodeId,
+    end: Option<NodeId>,
     past: &NodeSet,
     found: &mut NodeSet,
 ) -> Result<(), NoMemory>
     requires start { start < rows.now.nodes }
+    requires end { IfSome end (λ node. node < rows.now.nodes) }
     requires past { past.now.count ≡ rows.now.nodes }
     requires found { found.old.count ≡ rows.now.nodes }
     requires closed { IsClosed rows.now.arcs past.now.items found.old.items }
     ensures count { found.new.count ≡ rows.now.nodes }
-    ensures closed { OnOk result (IsClosed rows.now.arcs past.now.items found.new.items) }
+    ensures closed { OnOk result ((HasCome end found.new.items → ⊥) → IsClosed rows.now.arcs past.now.items found.new.items) }
     ensures grown { OnOk result (IsGrown rows.now.arcs start found.old.items found.new.items) }
 {
     let mut at = found.len();
     found.add(start)?;
-    while at < found.len() {
-        look(rows, found.get(at), past, found)?;
-        at += 1;
-    }
-    Ok(())
-}
-
-/// The same, but no further where the search has come to `end`.
-pub(crate) fn spread_to(
-    rows: &RowDigraph<'_, NodeId, ArcId>,
-    start: NodeId,
-    end: NodeId,
-    past: &NodeSet,
-    found: &mut NodeSet,
-) -> Result<(), NoMemory>
-    requires start { start < rows.now.nodes }
-    requires end { end < rows.now.nodes }
-    requires past { past.now.count ≡ rows.now.nodes }
-    requires found { found.old.count ≡ rows.now.nodes }
-    requires closed { IsClosed rows.now.arcs past.now.items found.old.items }
-    ensures count { found.new.count ≡ rows.now.nodes }
-    ensures closed { OnOk result ((Contains found.new.items end → ⊥) → IsClosed rows.now.arcs past.now.items found.new.items) }
-    ensures grown { OnOk result (IsGrown rows.now.arcs start found.old.items found.new.items) }
-{
-    let mut at = found.len();
-    found.add(start)?;
-    while at < found.len() {
-        if found.has(end) {
-            return Ok(());
-        }
+    while at < found.len() && !has_come(&end, found) {
         look(rows, found.get(at), past, found)?;
         at += 1;
     }

@@ -49,6 +49,10 @@ pub record IsMark (f : Formula) (mark : ClauseMark) : Type 0 where
 
 -- ---- what holds
 
+-- what an orientation has to serve, by these clauses
+abbrev pub demands_of : List (List ℕ) → Formula → List (List ℕ)
+demands_of graph f = paths_at graph f.paths
+
 -- the graph's paths at these places are valley-free where its edges have these providers
 abbrev pub IsServed : List (List ℕ) → List ℕ → List End → Type 0
 IsServed graph paths ends = Serves (orientation (edges graph) ends) (paths_at graph paths)
@@ -70,6 +74,10 @@ IsLinkOfTriple triples arc link = (t : Triple) → slice_get triples (arc / 2) �
 -- the paths at these places of the graph, each numbered by its place there from 1
 abbrev pub numbered : List (List ℕ) → List ℕ → Numbered
 numbered graph paths = map (λ path. (path + 1, path_at graph path)) paths
+
+-- the paths of these clauses, numbered so
+abbrev pub numbered_of : List (List ℕ) → Formula → Numbered
+numbered_of graph f = numbered graph f.paths
 
 -- the first node is that of a literal that says "x over y", and the second that of one that says "y over z"
 pub record IsArcOf (graph : List (List ℕ)) (l m x y z : ℕ) : Type 0 where

@@ -1,5 +1,5 @@
 use Rattle.std.proofs.Common.{[], ◌∷◌, ℕ, List, sym, subst, Contains}
-use Rattle.forced_edges.proofs.Growing.{Contains-more, Contains-last}
+use Rattle.tor_digraph.proofs.Members.{Contains-more, Contains-last}
 use Rattle.forced_edges.proofs.Choosing.{order_visits, top_there, top_order}
 use Rattle.forced_edges.proofs.candidates.explore.Goals as goal
 

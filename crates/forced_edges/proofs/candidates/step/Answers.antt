@@ -1,7 +1,5 @@
 use Rattle.std.proofs.Common.{rules, ◌<◌, refl, sym, subst}
 use Rattle.std.proofs.lemmas.Result.{on_ok_weaker}
-use Rattle.forced_edges.specs.declared.candidates.Entered.{Entered}
-use Rattle.forced_edges.specs.declared.candidates.Order.{Order}
 use Rattle.forced_edges.specs.Candidates.{IsOrder}
 use Rattle.forced_edges.proofs.Choosing.{order_visits, order_again, order_leaves}
 use Rattle.forced_edges.proofs.candidates.step.Goals as goal

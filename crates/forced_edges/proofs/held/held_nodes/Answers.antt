@@ -3,7 +3,6 @@ use Rattle.std.proofs.lemmas.Option.{slice_get-get_or}
 use Rattle.relationships.specs.declared.label.End.{End}
 use Rattle.relationships.specs.declared.label.Label.{Label}
 use Rattle.tor_clauses.specs.Literals.{node_of}
-use Rattle.forced_edges.specs.Held.{end_by}
 use Rattle.forced_edges.proofs.Helds.{label_held, held_more}
 use Rattle.forced_edges.proofs.held.held_nodes.Goals as goal
 

@@ -1,4 +1,4 @@
-use Rattle.std.proofs.Common.{arith, Contains}
+use Rattle.std.proofs.Common.{arith}
 use Rattle.tor_digraph.proofs.Gets.{Contains-from_has}
 use Rattle.forced_edges.proofs.Settlings.{closed_next, closed_all}
 use Rattle.forced_edges.proofs.showing.show_from.Goals as goal

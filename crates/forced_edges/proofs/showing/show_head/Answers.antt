@@ -1,4 +1,5 @@
-use Rattle.forced_edges.proofs.Sets.{added_stays, added_there}
+use Rattle.forced_edges.proofs.Sets.{added_stays}
+use Rattle.tor_digraph.proofs.NodeSets.{added_there}
 use Rattle.forced_edges.proofs.Settlings.{showing_head}
 use Rattle.forced_edges.proofs.showing.show_head.Goals as goal
 

@@ -1,10 +1,11 @@
-use Rattle.std.proofs.Common.{◌≡◌, ◌+◌, ◌<◌, ℕ, Some, inl, inr, refl, sym, ap, ◌∙◌, subst, arith, Contains}
+use Rattle.std.proofs.Common.{◌≡◌, ◌<◌, ℕ, inl, inr, refl, sym, ap, ◌∙◌, subst, arith, Contains}
 use Rattle.std.specs.Prelude.{slice_get}
 use Rattle.std.proofs.lemmas.Bool.{cases_lt}
 use Rattle.std.proofs.lemmas.Option.{same_Some}
 use Rattle.tor_digraph.specs.Walks.{Net, IsArc, HasArc}
 use Rattle.tor_digraph.proofs.Gets.{slice_get-lt}
-use Rattle.forced_edges.proofs.Sets.{read-at, stays_contained}
+use Rattle.forced_edges.proofs.Sets.{stays_contained}
+use Rattle.tor_digraph.proofs.Members.{read-at}
 use Rattle.forced_edges.proofs.showing.show_heads.Goals as goal
 
 pub loop-entry-init : goal.loop-entry-init

@@ -1,5 +1,6 @@
 use Rattle.std.proofs.Common.{refl, ◌∙◌, arith}
-use Rattle.forced_edges.proofs.Sets.{read-at, looking_begins, looking_next, looking_done}
+use Rattle.forced_edges.proofs.Sets.{looking_begins, looking_next, looking_done}
+use Rattle.tor_digraph.proofs.Members.{read-at}
 use Rattle.forced_edges.proofs.spreading.look.Goals as goal
 
 pub loop-entry-init : goal.loop-entry-init

@@ -1,21 +1,23 @@
-ghost use Rattle.std.specs.Prelude.{[], ◌≡◌, ◌<◌, ◌≤◌, ◌^◌, ◌↔◌, Some, slice_get, length, IsTrue, IfOk, Contains};
-ghost use Rattle.forced_edges.specs.Nodes.{IsAdded};
+ghost use Rattle.std.specs.Prelude.{[], ◌≡◌, ◌<◌, ◌≤◌, ◌^◌, ◌↔◌, Some, slice_get, length, IsTrue, IfOk, OnErr, Contains};
+ghost use Rattle.tor_arena.specs.Limits.{most_places};
+ghost use Rattle.tor_digraph.specs.NodeSets.{IsAdded};
 
 use std::alloc::Global;
 use std::marker::Model;
 use tor_arena::{Arena, List, NoMemory, NodeId};
 
-/// Nodes of a digraph in the order in which they were added, each once. Whether a node is among them stands in an octet for each
-/// node: that is what a search asks most often.
+/// Nodes of a digraph in the order in which they were added, each once, as those that a search has visited. Whether a node is among
+/// them stands in an octet for each node: that is what a search asks most often. It is seen as how many nodes there may be, and the
+/// list of those that are among them.
 #[derive(Drop)]
-pub(crate) struct NodeSet {
+pub struct NodeSet {
     nodes: List<NodeId>,
     marks: Arena<NodeId, bool>,
 }
 
 impl Model for NodeSet {
     ghost use Rattle.std.specs.Prelude.{length};
-    ghost use Rattle.forced_edges.specs.Nodes.{Nodes, AreMarked};
+    ghost use Rattle.tor_digraph.specs.NodeSets.{Nodes, AreMarked};
 
     ghost Value = { Nodes };
 
@@ -25,9 +27,9 @@ impl Model for NodeSet {
 }
 
 impl NodeSet {
-    /// No node, of so many.
+    /// No node, of so many. The only error is that memory ran out.
     pub fn new(alloc: Global, count: usize) -> Result<NodeSet, NoMemory>
-        requires { count ≤ 2 ^ 28 }
+        requires { count ≤ most_places }
         ensures count { IfOk result (λ s. s.count ≡ count) }
         ensures none { IfOk result (λ s. s.items ≡ []) }
     {
@@ -39,14 +41,21 @@ impl NodeSet {
         })
     }
 
-    /// How many nodes are among them.
+    /// How many nodes are among them. It takes no memory.
     pub fn len(&self) -> usize
         ensures { result ≡ length self.now.items }
     {
         self.nodes.len()
     }
 
-    /// The node at a place, which has to be there.
+    /// The nodes in the order in which they were added. It takes no memory.
+    pub fn as_slice(&self) -> &[NodeId]
+        ensures { result.now ≡ self.now.items }
+    {
+        self.nodes.as_slice()
+    }
+
+    /// The node at a place, which has to be there. It takes no memory.
     pub fn get(&self, place: usize) -> NodeId
         requires { place < length self.now.items }
         ensures node { slice_get self.now.items place ≡ Some result }
@@ -55,7 +64,7 @@ impl NodeSet {
         self.nodes.as_slice()[place]
     }
 
-    /// Whether a node is among them.
+    /// Whether a node is among them. It takes no memory.
     pub fn has(&self, node: NodeId) -> bool
         requires { node < self.now.count }
         ensures { IsTrue result ↔ Contains self.now.items node }
@@ -63,11 +72,13 @@ impl NodeSet {
         *self.marks.get(node)
     }
 
-    /// Adds a node, if it is new, and answers whether it is.
+    /// Adds a node at the end, if it is new, and answers whether it is. The only error is that memory ran out, and then it stays as it
+    /// was.
     pub fn add(&mut self, node: NodeId) -> Result<bool, NoMemory>
         requires { node < self.old.count }
         ensures count { self.new.count ≡ self.old.count }
         ensures added { IfOk result (λ new. IsAdded node new self.old.items self.new.items) }
+        ensures err { OnErr result (self.new ≡ self.old) }
         ensures few { length self.old.items < 2 ^ 64 }
     {
         prove!(self.nodes.len() <= usize::MAX);
@@ -79,7 +90,7 @@ impl NodeSet {
         Ok(true)
     }
 
-    /// Takes all nodes out.
+    /// Takes all nodes out. It takes as long as there are nodes among them, and no memory.
     pub fn clear(&mut self)
         ensures count { self.new.count ≡ self.old.count }
         ensures none { self.new.items ≡ [] }

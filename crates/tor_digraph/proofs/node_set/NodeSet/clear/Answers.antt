@@ -1,9 +1,9 @@
 use Rattle.std.proofs.Common.{◌∙◌, length, ap, sym, subst, arith, length-set}
 use Rattle.std.specs.Prelude.{Contains}
-use Rattle.forced_edges.specs.Nodes.{Nodes}
-use Rattle.forced_edges.proofs.Growing.{Contains-last}
-use Rattle.forced_edges.proofs.Sets.{AreLeft, left_all, left_next, left_none}
-use Rattle.forced_edges.proofs.node_set.NodeSet.clear.Goals as goal
+use Rattle.tor_digraph.specs.NodeSets.{Nodes}
+use Rattle.tor_digraph.proofs.Members.{Contains-last}
+use Rattle.tor_digraph.proofs.NodeSets.{AreLeft, left_all, left_next, left_none}
+use Rattle.tor_digraph.proofs.node_set.NodeSet.clear.Goals as goal
 
 pub loop-node-init : goal.loop-node-init
 loop-node-init c = subst (λ (v : Nodes). AreLeft c.self.inside.nodes c.self.inside.marks.items v.count) c.self.view_is (left_all c.self.inside.nodes c.self.inside.marks.items c.self.invariant)

@@ -1,6 +1,6 @@
 use Rattle.std.proofs.Common.{length}
-use Rattle.forced_edges.proofs.Sets.{AreLeft}
-use Rattle.forced_edges.proofs.node_set.NodeSet.clear.Given as goal
+use Rattle.tor_digraph.proofs.NodeSets.{AreLeft}
+use Rattle.tor_digraph.proofs.node_set.NodeSet.clear.Given as goal
 
 abbrev pub invariant-loop-node : goal.invariant-loop-node
 invariant-loop-node l = AreLeft l.self-inside.nodes l.self-inside.marks.items l.fn.self.count

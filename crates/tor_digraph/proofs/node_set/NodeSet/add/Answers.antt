@@ -1,7 +1,7 @@
 use Rattle.std.proofs.Common.{◌<◌, ◌++◌, ◌∷◌, [], sym, subst}
-use Rattle.forced_edges.specs.Nodes.{Nodes, AreMarked}
-use Rattle.forced_edges.proofs.Sets.{marked_more}
-use Rattle.forced_edges.proofs.node_set.NodeSet.add.Goals as goal
+use Rattle.tor_digraph.specs.NodeSets.{Nodes, AreMarked}
+use Rattle.tor_digraph.proofs.NodeSets.{marked_more}
+use Rattle.tor_digraph.proofs.node_set.NodeSet.add.Goals as goal
 
 pub invariant_of-self-2 : goal.invariant_of-self-2
 invariant_of-self-2 c =

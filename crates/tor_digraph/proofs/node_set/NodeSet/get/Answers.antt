@@ -1,8 +1,9 @@
 use Rattle.std.proofs.Common.{◌<◌, length, subst, sym}
 use Rattle.std.specs.Prelude.{Contains}
-use Rattle.forced_edges.specs.Nodes.{Nodes}
-use Rattle.forced_edges.proofs.Sets.{read-there, marked_below}
-use Rattle.forced_edges.proofs.node_set.NodeSet.get.Goals as goal
+use Rattle.tor_digraph.specs.NodeSets.{Nodes}
+use Rattle.tor_digraph.proofs.Members.{read-there}
+use Rattle.tor_digraph.proofs.NodeSets.{marked_below}
+use Rattle.tor_digraph.proofs.node_set.NodeSet.get.Goals as goal
 
 pub returns-clause-there : goal.returns-clause-there
 returns-clause-there c =
