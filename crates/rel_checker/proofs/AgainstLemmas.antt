@@ -1,5 +1,5 @@
 -- Paths and counts beside those of dumps.
-use Rattle.std.proofs.Common.{◌≡◌, ℕ, zero, suc, ◌+◌, ◌-◌, ◌<◌, ◌≤◌, List, [], ◌∷◌, length, refl, sym, ap, ap₂, ◌∙◌, subst, arith, Some, slice_get, option_map, true, false, nat_lt, if◌then◌else◌, le-ltb}
+use Rattle.std.proofs.Common.{◌≡◌, ℕ, zero, suc, ◌+◌, ◌-◌, ◌<◌, ◌≤◌, List, [], ◌∷◌, length, refl, sym, ap, ap₂, ◌∙◌, subst, arith, Some, slice_get, option_map, false, nat_lt, if◌then◌else◌, le-ltb}
 use Rattle.path_clean.specs.Rows.{Counted, paths_of}
 use Rattle.path_clean.specs.Counts.{Counts}
 use Rattle.path_clean.specs.declared.cleaned.Cause.TheVariants.{NoPath}

@@ -1,7 +1,6 @@
 -- A result that is put together from its parts.
-use Rattle.std.proofs.Common.{◌≡◌, ℕ, List, [], ◌∷◌, map, refl, ap, ap₂, ◌∙◌}
-use Rattle.relationships.specs.declared.fate.Fate.{Fate}
-use Rattle.relationships.specs.Fates.{walk_of, is_kept}
+use Rattle.std.proofs.Common.{◌≡◌, ℕ, List, [], ◌∷◌, map, refl, ap, ap₂}
+use Rattle.relationships.specs.Fates.{walk_of}
 use Rattle.path_clean.specs.Rows.{Counted, paths_of}
 use Rattle.result_text.specs.declared.file.PathLine.{PathLine}
 use Rattle.result_rules.specs.Against.{row_of}

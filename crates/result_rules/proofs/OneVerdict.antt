@@ -1,5 +1,5 @@
 -- A file has one verdict.
-use Rattle.std.proofs.Common.{◌≡◌, ◌<◌, ◌-◌, ◌+◌, inl, inr, ℕ, List, Option, Some, None, refl, sym, ap, subst, ◌∙◌, arith, ◌==◌}
+use Rattle.std.proofs.Common.{◌≡◌, ◌-◌, inl, inr, ℕ, List, Option, Some, None, refl, sym, ap, subst, ◌∙◌, arith, ◌==◌}
 use Rattle.std.specs.Prelude.{slice_get, if◌then◌else◌}
 use Rattle.std.proofs.lemmas.Bool.{cases_order}
 use Rattle.path_clean.specs.Counts.{Counts}
@@ -11,7 +11,7 @@ use Rattle.result_rules.specs.declared.rule.Rule.{Rule}
 use Rattle.result_rules.specs.declared.rule.Rule.TheVariants.{RatioBounded, PathsCleaned, PathsDistinct, LostRefuted, EdgesListed}
 use Rattle.result_rules.specs.declared.rule.Rule.TheVariants.{KeptValleyFree, SupportCounted, OrdersShown, MarksBorneOut, TotalsRight}
 use Rattle.result_rules.specs.Rules.{number_of, line_for, Accepts, BreaksFirst, IsRefused}
-use Rattle.result_rules.specs.Against.{in_order, its_rows, line_against, Agrees, Departs, JudgesAgainst}
+use Rattle.result_rules.specs.Against.{in_order, line_against, Departs, JudgesAgainst}
 use Rattle.result_rules.specs.Judging.{OneVerdictLaw, OneAgainstLaw}
 
 abbrev numbered : ℕ → Option Rule

@@ -10,10 +10,10 @@ ghost use Rattle.rel_checker.specs.Steps.{Finds};
 
 use crate::edges::edge_table::EdgeTable;
 use crate::edges::labels::Labels;
-use crate::lending::{path_line_at, steps_at};
 use crate::edges::step::Step;
 use crate::edges::supports::count_kept;
 use crate::edges::valleys::is_served;
+use crate::lending::{path_line_at, steps_at};
 use result_text::{EdgeLine, PathLines, ResultFile};
 use std::alloc::Global;
 use tor_arena::{Keys, List, NoMemory, PathId, RowRefused, Rows};

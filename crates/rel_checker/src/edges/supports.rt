@@ -10,8 +10,8 @@ ghost use Rattle.result_rules.specs.declared.rule.Rule.{Rule};
 ghost use Rattle.result_rules.specs.Rules.{IsMet};
 ghost use Rattle.rel_checker.specs.Tables.{HaveRisen, AreCounts, kept_in};
 
-use crate::lending::{path_line_at, steps_at};
 use crate::edges::step::Step;
+use crate::lending::{path_line_at, steps_at};
 use result_text::{PathLineRef, ResultFile};
 use std::alloc::Global;
 use tor_arena::{NoMemory, PathId, Rows};

@@ -8,9 +8,9 @@ ghost use Rattle.rel_checker.specs.Flipping.{climbs, climbs_on, number_of, SameR
 ghost use Rattle.rel_checker.specs.PathSteps.{place_in, AreSteps, HaveSteps};
 
 use crate::edges::labels::Labels;
+use crate::edges::step::Step;
 use crate::lending::{path_line_at, steps_at};
 use crate::marks::neighbours::Neighbours;
-use crate::edges::step::Step;
 use relationships::Label;
 use result_text::{PathLineRef, ResultFile};
 use std::alloc::Global;

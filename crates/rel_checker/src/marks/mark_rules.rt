@@ -9,13 +9,13 @@ ghost use Rattle.result_rules.specs.Rules.{IsMet};
 ghost use Rattle.rel_checker.specs.Steps.{Finds};
 ghost use Rattle.rel_checker.specs.Serving.{Covers, IsShownBy, First, MarkedAt, is_borne};
 
-use crate::marks::consistency::find_useless;
 use crate::edges::edge_table::EdgeTable;
-use crate::marks::flipping::Flips;
 use crate::edges::labels::Labels;
+use crate::edges::step::Step;
+use crate::marks::consistency::find_useless;
+use crate::marks::flipping::Flips;
 use crate::marks::serving::cover_all;
 use crate::marks::showing::list_shown;
-use crate::edges::step::Step;
 use relationships::Label;
 use result_text::{EdgeLine, Mark, ResultFile};
 use std::alloc::Global;

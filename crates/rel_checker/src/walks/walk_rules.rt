@@ -6,8 +6,8 @@ ghost use Rattle.rel_checker.specs.Naming.{nameable};
 ghost use Rattle.result_rules.specs.declared.rule.Rule.TheVariants.{LostRefuted, OrdersShown};
 ghost use Rattle.rel_checker.specs.Steps.{Finds};
 
-use crate::walks::closed_walks::comes_back;
 use crate::lending::{path_line_at, walk_at};
+use crate::walks::closed_walks::comes_back;
 use crate::walks::links::is_walk;
 use crate::walks::pairs::Pairs;
 use crate::walks::shown::shown_by;

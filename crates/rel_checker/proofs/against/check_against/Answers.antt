@@ -1,4 +1,4 @@
-use Rattle.std.proofs.Common.{◌+◌, refl}
+use Rattle.std.proofs.Common.{refl}
 use Rattle.rel_checker.proofs.AgainstLemmas.{path_departs}
 use Rattle.rel_checker.proofs.against.check_against.Goals as goal
 

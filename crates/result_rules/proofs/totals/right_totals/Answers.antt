@@ -1,5 +1,4 @@
-use Rattle.std.proofs.Common.{◌≡◌, ◌∙◌, ◌≤◌, ap, ap₂, length, arith}
-use Rattle.std.proofs.lemmas.List.{length-map}
+use Rattle.std.proofs.Common.{◌∙◌, ap₂}
 use Rattle.result_rules.specs.Totals.{totals_by}
 use Rattle.result_rules.proofs.totals.right_totals.Goals as goal
 
