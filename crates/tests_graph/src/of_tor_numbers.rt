@@ -1,43 +1,9 @@
 ghost use Rattle.std.specs.Prelude.{◌≤◌};
 
 use std::alloc::Global;
-use std::io;
-use std::random::RandomSource;
 use std::test::Fail;
 use tor_arena::Keys;
 use tor_numbers::{NumberSet, PlaceTable, edge_numbered, number_of_edge};
-
-/// A source that gives one octet over and over.
-#[derive(Drop)]
-struct OneOctet {
-    octet: u8,
-}
-
-impl RandomSource for OneOctet {
-    fn fill_bytes(&self, buffer: &mut [u8]) -> io::Result<()> {
-        buffer.fill(self.octet);
-        Ok(())
-    }
-}
-
-/// Keys from a source that gives only this octet: the same octet gives the same keys.
-fn keys_of(octet: u8) -> Keys {
-    Keys::new(&OneOctet { octet })
-}
-
-#[test]
-fn the_seed_of_a_table_is_made_with_its_keys(rt: HostRuntime) {
-    let table = PlaceTable::new(rt.alloc(), keys_of(1));
-    assert!(rt; table.is_made_with(keys_of(1)));
-    assert!(rt; !table.is_made_with(keys_of(2)));
-}
-
-#[test]
-fn the_seed_of_a_set_is_made_with_its_keys(rt: HostRuntime) {
-    let set = NumberSet::new(rt.alloc(), keys_of(1));
-    assert!(rt; set.is_made_with(keys_of(1)));
-    assert!(rt; !set.is_made_with(keys_of(2)));
-}
 
 /// Adds a hundred numbers in a row, and answers how many of them were new.
 fn add_hundred(set: &mut NumberSet, first: u64) -> Result<usize, Fail>

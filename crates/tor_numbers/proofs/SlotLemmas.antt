@@ -6,9 +6,9 @@ use Rattle.std.proofs.lemmas.List.Elements.{Contains-append_left, Contains-appen
 use Rattle.std.proofs.Math.Seq.{take-append_seam, take-length, take-suc}
 use Rattle.std.proofs.lemmas.Option.{slice_get-get_or}
 use Rattle.tor_numbers.proofs.Gets.{slice_get-push_cases, slice_get-lt, slice_get-take, slice_get-set_cases, slice_get-set_other, slice_get-set_same, slice_get-replicate, has-from_Contains, Contains-from_has}
-use Rattle.tor_numbers.specs.Slots.{start_at, next_slot, HeldFrom, StaysUsed, LeadsTo, IsProbe, IsHeld, IsHolding, Leaves, IsApart}
-use Rattle.tor_numbers.specs.declared.probing.Probe.{Probe}
-use Rattle.tor_numbers.specs.declared.probing.Probe.TheVariants.{Free, Full}
+use Rattle.tor_numbers.specs.Slots.{start_at, next_slot, HeldFrom, StaysUsed, LeadsTo, IsSearchEnd, IsHeld, IsHolding, Leaves, IsApart}
+use Rattle.tor_numbers.specs.declared.slot_search.SearchEnd.{SearchEnd}
+use Rattle.tor_numbers.specs.declared.slot_search.SearchEnd.TheVariants.{Free, Full}
 
 pub same_number : (a b : ℕ) → Some a ≡ Some b → a ≡ b
 same_number a b e = cc
@@ -263,10 +263,10 @@ held-before seed old new numbers left lt apart h held =
     h (take left numbers) (subst (IsHeld seed old) (one_more numbers left lt) held) (apart left (slice_index_or numbers left 0) (slice_get-get_or numbers left 0 lt))
 
 -- a search that ends elsewhere says that the number isn't there
-pub not_held : (slots : List ℕ) (start number : ℕ) (p : Probe) → IsProbe slots start number p → ((x : ℕ) × (p ≡ Free x)) ⊎ (p ≡ Full) →
+pub not_held : (slots : List ℕ) (start number : ℕ) (p : SearchEnd) → IsSearchEnd slots start number p → ((x : ℕ) × (p ≡ Free x)) ⊎ (p ≡ Full) →
     HeldFrom slots number start (length slots) → ⊥
-not_held slots start number p is (inl h) = (subst (IsProbe slots start number) h.1 is).2
-not_held slots start number p is (inr h) = subst (IsProbe slots start number) h is
+not_held slots start number p is (inl h) = (subst (IsSearchEnd slots start number) h.1 is).2
+not_held slots start number p is (inr h) = subst (IsSearchEnd slots start number) h is
 
 pub contains_last : (numbers : List ℕ) (k : ℕ) → k < length numbers → Contains (take (k + 1) numbers) (slice_index_or numbers k 0)
 contains_last numbers k h = subst (λ l. Contains l (slice_index_or numbers k 0)) (sym (one_more numbers k h))

@@ -1,3 +1,4 @@
 pub mod EdgeNumbers
+pub mod Edges
 pub mod Places
 pub mod Slots

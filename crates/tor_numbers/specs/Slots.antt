@@ -1,8 +1,8 @@
 -- Numbers in slots, each found from the slot that its hash names.
 use Rattle.std.specs.Prelude.{◌≡◌, ◌≢◌, ℕ, zero, suc, ◌+◌, ◌-◌, ◌*◌, ◌/◌, ◌^◌, ◌<◌, ◌≤◌, ◌⊎◌, Bool, true, false, nat_lt, if◌then◌else◌, List, [], ◌∷◌, ◌++◌, Some, length, take, slice_get, Contains, bit_and, bit_xor}
 use Rattle.tor_arena.specs.Growth.{IsDoubled}
-use Rattle.tor_numbers.specs.declared.probing.Probe.{Probe}
-use Rattle.tor_numbers.specs.declared.probing.Probe.TheVariants.{Held, Free, Full}
+use Rattle.tor_numbers.specs.declared.slot_search.SearchEnd.{SearchEnd}
+use Rattle.tor_numbers.specs.declared.slot_search.SearchEnd.TheVariants.{Held, Free, Full}
 
 -- the two halves of a product of 128 bits, joined
 unfoldable pub hashed : ℕ → ℕ
@@ -31,11 +31,11 @@ abbrev pub LeadsTo : (slots : List ℕ) (start number slot : ℕ) → Type 0
 LeadsTo slots start number slot = (new : List ℕ) → length new ≡ length slots → StaysUsed slots new →
     slice_get new slot ≡ Some number → HeldFrom new number start (length slots)
 
-abbrev pub IsProbe : (slots : List ℕ) (start number : ℕ) → Probe → Type 0
-IsProbe slots start number (Held slot) = (slice_get slots slot ≡ Some number) × LeadsTo slots start number slot
-IsProbe slots start number (Free slot) =
+abbrev pub IsSearchEnd : (slots : List ℕ) (start number : ℕ) → SearchEnd → Type 0
+IsSearchEnd slots start number (Held slot) = (slice_get slots slot ≡ Some number) × LeadsTo slots start number slot
+IsSearchEnd slots start number (Free slot) =
     (slice_get slots slot ≡ Some 0) × LeadsTo slots start number slot × (HeldFrom slots number start (length slots) → ⊥)
-IsProbe slots start number Full = HeldFrom slots number start (length slots) → ⊥
+IsSearchEnd slots start number Full = HeldFrom slots number start (length slots) → ⊥
 
 -- the slots hold these numbers alone, each in one of them
 pub record IsHeld (seed : ℕ) (slots numbers : List ℕ) : Type 0 where

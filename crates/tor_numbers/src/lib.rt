@@ -1,11 +1,14 @@
-//! Distinct numbers in tables of slots, so that a number is found by one or two looks into memory; and the numbers of edges.
+//! Distinct numbers in tables of slots, so that a number is found by one or two looks into memory; and distinct edges, by their
+//! numbers.
 #![tactic(auto)]
 
 mod edge_numbers;
+mod edge_table;
 mod number_set;
 mod place_table;
-mod probing;
+mod slot_search;
 
 pub use edge_numbers::{edge_numbered, number_of_edge};
+pub use edge_table::{AddedEdge, EdgeTable};
 pub use number_set::NumberSet;
 pub use place_table::PlaceTable;

@@ -1,8 +1,8 @@
 ghost use Rattle.std.specs.Prelude.{◌≡◌, ◌<◌, ◌≤◌, ◌*◌, ◌/◌, ◌↔◌};
 ghost use Rattle.std.specs.Prelude.{◌++◌, ◌∷◌, ℕ, List, [], length, take, Contains, IsTrue, IfOk, OnOk, OnErr};
-ghost use Rattle.tor_numbers.specs.Slots.{IsProbe, IsHeld, IsHolding, IsInserted, Leaves, IsApart, IsAnew};
+ghost use Rattle.tor_numbers.specs.Slots.{IsSearchEnd, IsHeld, IsHolding, IsInserted, Leaves, IsApart, IsAnew};
 
-use crate::probing::{Probe, next, start_of};
+use crate::slot_search::{SearchEnd, next, start_of};
 use std::alloc::Global;
 use std::hash::BuildHasher;
 use std::marker::Model;
@@ -52,11 +52,6 @@ impl NumberSet {
         }
     }
 
-    /// Whether the set's seed is that of these keys, for a test. It takes no memory.
-    pub fn is_made_with(&self, keys: Keys) -> bool {
-        self.seed == keys.hash_one(0u8)
-    }
-
     /// Whether a number is there. It takes no memory.
     pub fn holds(&self, number: u64) -> bool
         requires { 2 ≤ number }
@@ -67,7 +62,10 @@ impl NumberSet {
             return false;
         }
         let start = start_of(self.seed, number, count);
-        matches!(seek(self.slots.as_slice(), start, number), Probe::Held(_))
+        matches!(
+            seek(self.slots.as_slice(), start, number),
+            SearchEnd::Held(_)
+        )
     }
 
     /// Adds a number at the end, unless it is there, and answers whether it was added. For want of memory nothing changes.
@@ -103,25 +101,25 @@ impl NumberSet {
 }
 
 /// Searches a number from a slot on.
-fn seek(slots: &[u64], start: usize, number: u64) -> Probe
+fn seek(slots: &[u64], start: usize, number: u64) -> SearchEnd
     requires start { start < length slots.now }
     requires number { 2 ≤ number }
-    ensures { IsProbe slots.now start number result }
+    ensures { IsSearchEnd slots.now start number result }
 {
     let mut place = start;
     let mut left = slots.len();
     while left > 0 {
         let slot = slots[place];
         if slot == number {
-            return Probe::Held(place);
+            return SearchEnd::Held(place);
         }
         if slot == FREE {
-            return Probe::Free(place);
+            return SearchEnd::Free(place);
         }
         place = next(place, slots.len());
         left -= 1;
     }
-    Probe::Full
+    SearchEnd::Full
 }
 
 /// Puts a number into a slot, unless it is in one, and answers whether it wasn't. NoMemory comes where no slot is free, and changes
@@ -135,12 +133,12 @@ fn hold(slots: &mut [u64], seed: u64, number: u64) -> Result<bool, NoMemory>
 {
     let start = start_of(seed, number, slots.len());
     match seek(slots, start, number) {
-        Probe::Held(_) => Ok(false),
-        Probe::Free(place) => {
+        SearchEnd::Held(_) => Ok(false),
+        SearchEnd::Free(place) => {
             slots[place] = number;
             Ok(true)
         }
-        Probe::Full => Err(NoMemory),
+        SearchEnd::Full => Err(NoMemory),
     }
 }
 
@@ -153,8 +151,8 @@ fn release(slots: &mut [u64], seed: u64, number: u64)
 {
     let start = start_of(seed, number, slots.len());
     match seek(slots, start, number) {
-        Probe::Held(place) => slots[place] = LEFT,
-        Probe::Free(_) | Probe::Full => {}
+        SearchEnd::Held(place) => slots[place] = LEFT,
+        SearchEnd::Free(_) | SearchEnd::Full => {}
     }
 }
 

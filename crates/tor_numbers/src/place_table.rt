@@ -1,9 +1,9 @@
 ghost use Rattle.std.specs.Prelude.{◌≡◌, ◌<◌, ◌≤◌, ◌/◌, ◌^◌, ℕ, [], length, slice_get, Some, Contains, IfOk, OnOk, OnErr, MatchOption};
-ghost use Rattle.tor_numbers.specs.Slots.{IsProbe, IsHeld, IsApart};
+ghost use Rattle.tor_numbers.specs.Slots.{IsSearchEnd, IsHeld, IsApart};
 ghost use Rattle.tor_arena.specs.Growth.{IsDoubled};
 ghost use Rattle.tor_numbers.specs.Places.{names, IsPlaced, AreWithin, IsPut};
 
-use crate::probing::{Probe, next, start_of};
+use crate::slot_search::{SearchEnd, next, start_of};
 use std::alloc::Global;
 use std::hash::BuildHasher;
 use std::marker::Model;
@@ -44,11 +44,6 @@ impl PlaceTable {
         }
     }
 
-    /// Whether the table's seed is that of these keys, for a test. It takes no memory.
-    pub fn is_made_with(&self, keys: Keys) -> bool {
-        self.seed == keys.hash_one(0u8)
-    }
-
     /// Adds a number at the end, unless it is there, and answers its place, from 0. NoMemory comes where memory ran out, and where there
     /// are 2^32 - 1 numbers, and changes nothing.
     pub fn add(&mut self, number: u64) -> Result<usize, NoMemory>
@@ -72,18 +67,18 @@ impl PlaceTable {
             start,
             number,
         ) {
-            Probe::Held(slot) => Ok(place_at(
+            SearchEnd::Held(slot) => Ok(place_at(
                 self.slots.as_slice(),
                 self.numbers.as_slice(),
                 slot,
                 number,
             )),
-            Probe::Free(slot) if count < MOST => {
+            SearchEnd::Free(slot) if count < MOST => {
                 self.slots[slot] = count as u32 + 1;
                 self.numbers.push_reserved(number);
                 Ok(count)
             }
-            Probe::Free(_) | Probe::Full => Err(NoMemory),
+            SearchEnd::Free(_) | SearchEnd::Full => Err(NoMemory),
         }
     }
 
@@ -103,13 +98,13 @@ impl PlaceTable {
             start,
             number,
         ) {
-            Probe::Held(slot) => Some(place_at(
+            SearchEnd::Held(slot) => Some(place_at(
                 self.slots.as_slice(),
                 self.numbers.as_slice(),
                 slot,
                 number,
             )),
-            Probe::Free(_) | Probe::Full => None,
+            SearchEnd::Free(_) | SearchEnd::Full => None,
         }
     }
 
@@ -133,27 +128,27 @@ impl PlaceTable {
 const MOST: usize = 0xFFFF_FFFF;
 
 /// Searches a number from a slot on, where the slots hold places among these numbers.
-fn seek(slots: &[u32], numbers: &[u64], start: usize, number: u64) -> Probe
+fn seek(slots: &[u32], numbers: &[u64], start: usize, number: u64) -> SearchEnd
     requires start { start < length slots.now }
     requires number { 2 ≤ number }
     requires within { AreWithin (length numbers.now) slots.now }
     requires least { (n : ℕ) → Contains numbers.now n → 2 ≤ n }
-    ensures { IsProbe (names numbers.now slots.now) start number result }
+    ensures { IsSearchEnd (names numbers.now slots.now) start number result }
 {
     let mut place = start;
     let mut left = slots.len();
     while left > 0 {
         let slot = slots[place] as usize;
         if slot == 0 {
-            return Probe::Free(place);
+            return SearchEnd::Free(place);
         }
         if numbers[slot - 1] == number {
-            return Probe::Held(place);
+            return SearchEnd::Held(place);
         }
         place = next(place, slots.len());
         left -= 1;
     }
-    Probe::Full
+    SearchEnd::Full
 }
 
 /// The place of a number, from 0, which a slot names.
@@ -182,8 +177,8 @@ fn filled(alloc: Global, seed: u64, count: usize, numbers: &[u64]) -> Result<Vec
         let number = numbers[place];
         let start = start_of(seed, number, slots.len());
         match seek(slots.as_slice(), numbers, start, number) {
-            Probe::Free(slot) => slots[slot] = place as u32 + 1,
-            Probe::Held(_) | Probe::Full => return Err(NoMemory),
+            SearchEnd::Free(slot) => slots[slot] = place as u32 + 1,
+            SearchEnd::Held(_) | SearchEnd::Full => return Err(NoMemory),
         }
     }
     Ok(slots)

@@ -2,8 +2,8 @@ use Rattle.std.proofs.Common.{rules, ◌≡◌, ◌≤◌, ◌+◌, length, repl
 use Rattle.std.specs.Prelude.{slice_index_or}
 use Rattle.std.proofs.lemmas.List.{length-replicate}
 use Rattle.std.proofs.lemmas.List.Elements.{All-replicate, All-set}
-use Rattle.tor_numbers.specs.Slots.{start_at, IsProbe}
-use Rattle.tor_numbers.specs.declared.probing.Probe.TheVariants.{Free}
+use Rattle.tor_numbers.specs.Slots.{start_at, IsSearchEnd}
+use Rattle.tor_numbers.specs.declared.slot_search.SearchEnd.TheVariants.{Free}
 use Rattle.tor_numbers.specs.Places.{names, AreWithin}
 use Rattle.tor_numbers.proofs.SlotLemmas.{contains_at, held-none}
 use Rattle.tor_numbers.proofs.PlaceLemmas.{names-free, inside_of, fill-next, wider}
@@ -37,10 +37,10 @@ loop-place-preserved c =
     let ok = c.loop-place.slots.ok.0 in
     let many : c.len.result ≡ length slots = omega (arith, c.len.ensures, ok) in
     let is : start ≡ start_at c.args.seed number (length slots) = c.start_of-start.ensures.start ∙ ap (start_at c.args.seed number) many in
-    let probe = subst (λ l. IsProbe (names numbers l) start number (Free slot)) c.as_slice.ensures.value c.in-Free.ensures in
+    let end = subst (λ l. IsSearchEnd (names numbers l) start number (Free slot)) c.as_slice.ensures.value c.in-Free.ensures in
     let some = c.requires.least number (contains_at numbers place c.loop-place-test.true) in
     record {
       many = length-set slots slot (place + 1) ∙ c.loop-place.invariant.many;
       within = All-set (λ v. v ≤ place + 1) slots slot (place + 1) (omega arith) (wider place (place + 1) slots (omega arith) c.loop-place.invariant.within);
-      held = fill-next c.args.seed slots numbers slot start place c.loop-place-test.true some is probe.0 probe.1 probe.2 c.loop-place.invariant.held;
+      held = fill-next c.args.seed slots numbers slot start place c.loop-place-test.true some is end.0 end.1 end.2 c.loop-place.invariant.held;
     }

@@ -1,7 +1,7 @@
 use Rattle.std.proofs.Common.{◌≡◌, ◌<◌, ◌+◌, inl, inr, ◌∷◌, ◌++◌, [], length, set, subst, sym, ap, ap₂, ◌∙◌, arith}
 use Rattle.std.specs.Prelude.{◌^◌, slice_get, Contains}
-use Rattle.tor_numbers.specs.Slots.{start_at, IsProbe}
-use Rattle.tor_numbers.specs.declared.probing.Probe.TheVariants.{Free}
+use Rattle.tor_numbers.specs.Slots.{start_at, IsSearchEnd}
+use Rattle.tor_numbers.specs.declared.slot_search.SearchEnd.TheVariants.{Free}
 use Rattle.tor_numbers.specs.Places.{names, IsPlaced}
 use Rattle.tor_numbers.proofs.PlaceLemmas.{inside_of, placed-put, contains_get, get_last}
 use Rattle.tor_numbers.proofs.place_table.PlaceTable.add.Goals as goal
@@ -31,8 +31,8 @@ invariant_of-self-then-count-lt-MOST c =
     let count : c.len-count.result ≡ length numbers = omega (arith, c.len-count.ensures, ok') in
     let few : length numbers + 1 < 2 ^ 32 = omega (arith, count, c.if-count-lt-MOST.true) in
     let is : start ≡ start_at seed number (length slots) = c.start_of-start.ensures.start ∙ ap (start_at seed number) many in
-    let probe = subst (λ l. IsProbe l start number (Free slot)) (ap₂ names c.as_slice-3.ensures.value c.as_slice-2.ensures.value) c.in-Free.ensures in
-    let put = placed-put seed slots numbers slot start number whole c.requires few is probe.0 probe.1 probe.2 in
+    let end = subst (λ l. IsSearchEnd l start number (Free slot)) (ap₂ names c.as_slice-3.ensures.value c.as_slice-2.ensures.value) c.in-Free.ensures in
+    let put = placed-put seed slots numbers slot start number whole c.requires few is end.0 end.1 end.2 in
     subst (IsPlaced seed _) (sym c.push_reserved.ensures.items) (subst (λ n. IsPlaced seed (set slots slot (n + 1)) (numbers ++ number ∷ [])) (sym count) put.1)
 
 pub returns-in-Held-clause-ok : goal.returns-in-Held-clause-ok
@@ -60,8 +60,8 @@ returns-in-Free-clause-ok c =
     let count : c.len-count.result ≡ length numbers = omega (arith, c.len-count.ensures, ok') in
     let few : length numbers + 1 < 2 ^ 32 = omega (arith, count, c.if-count-lt-MOST.true) in
     let is : start ≡ start_at seed number (length slots) = c.start_of-start.ensures.start ∙ ap (start_at seed number) many in
-    let probe = subst (λ l. IsProbe l start number (Free slot)) (ap₂ names c.as_slice-3.ensures.value c.as_slice-2.ensures.value) c.in-Free.ensures in
-    let put = placed-put seed slots numbers slot start number whole c.requires few is probe.0 probe.1 probe.2 in
+    let end = subst (λ l. IsSearchEnd l start number (Free slot)) (ap₂ names c.as_slice-3.ensures.value c.as_slice-2.ensures.value) c.in-Free.ensures in
+    let put = placed-put seed slots numbers slot start number whole c.requires few is end.0 end.1 end.2 in
     inr (subst (λ l. Contains l number → ⊥) same put.0, c.push_reserved.ensures.items ∙ ap (λ l. l ++ number ∷ []) same)
 
 pub returns-in-Free-clause-place : goal.returns-in-Free-clause-place

@@ -35,7 +35,7 @@ pub(crate) fn next(slot: usize, count: usize) -> usize
 
 /// Where a search for a number ends.
 #[derive(Clone, Copy)]
-pub(crate) enum Probe {
+pub(crate) enum SearchEnd {
     /// In the slot that holds it.
     Held(usize),
     /// In a slot that is free.

@@ -1,6 +1,6 @@
 use Rattle.std.proofs.Common.{refl}
 use Rattle.tor_numbers.specs.Slots.{hashed}
-use Rattle.tor_numbers.proofs.probing.hash_of.Goals as goal
+use Rattle.tor_numbers.proofs.slot_search.hash_of.Goals as goal
 
 pub returns : goal.returns
 unfolding hashed
