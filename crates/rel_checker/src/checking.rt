@@ -8,7 +8,6 @@ ghost use Rattle.result_rules.specs.Valid.{Valid};
 ghost use Rattle.result_rules.specs.Judging.{Judges};
 
 use crate::edges::edge_rules::{find_miscounted, find_unlisted, find_valley, list_edges};
-use crate::edges::edge_table::EdgeTable;
 use crate::edges::labels::Labels;
 use crate::edges::step::Step;
 use crate::line_numbers::{edge_line, last_line, mark_line, path_line, why_line};
@@ -19,6 +18,7 @@ use result_rules::{Rule, Verdict, right_totals};
 use result_text::ResultFile;
 use std::alloc::Global;
 use tor_arena::{Keys, NoMemory, PathId, Rows};
+use tor_numbers::EdgeTable;
 
 /// The most that the ratio of degrees of a peering may be.
 const MAX_RATIO: u32 = 1_000_000;

@@ -9,7 +9,6 @@ ghost use Rattle.result_rules.specs.Rules.{IsMet};
 ghost use Rattle.rel_checker.specs.Steps.{Finds};
 ghost use Rattle.rel_checker.specs.Serving.{Covers, IsShownBy, First, MarkedAt, is_borne};
 
-use crate::edges::edge_table::EdgeTable;
 use crate::edges::labels::Labels;
 use crate::edges::step::Step;
 use crate::marks::consistency::find_useless;
@@ -20,6 +19,7 @@ use relationships::Label;
 use result_text::{EdgeLine, Mark, ResultFile};
 use std::alloc::Global;
 use tor_arena::{Arena, EdgeId, Index, Keys, NoMemory, PathId, Rows};
+use tor_numbers::EdgeTable;
 
 /// Whether the mark of an edge is borne out, by whether an order of it is shown, and whether an
 /// open line's closure has its other order.
