@@ -36,11 +36,28 @@ pub fn check_file(alloc: Global, keys: Keys, file: &ResultFile) -> Result<Verdic
         return Ok(verdict);
     }
     let (table, steps) = list_edges(alloc, keys, file)?;
+    check_lines(alloc, keys, file, &table, &steps)
+}
+
+/// The rules on the lines behind the paths, by the edges of the paths and the steps along them.
+fn check_lines(
+    alloc: Global,
+    keys: Keys,
+    file: &ResultFile,
+    table: &EdgeTable,
+    steps: &Rows<PathId, Step>,
+) -> Result<Verdict, NoMemory>
+    requires lines { HasFewLines file.now }
+    requires met { MetUpTo file.now 4 }
+    requires table { table.now ≡ edges (its_paths file.now) }
+    requires steps { HaveSteps table.now (its_paths file.now) steps.now }
+    ensures { IfOk result (Judges file.now) }
+{
     let labels = Labels::new(alloc, file.edges.as_slice())?;
-    if let Some(verdict) = check_edges(alloc, file, &table, &labels, &steps)? {
+    if let Some(verdict) = check_edges(alloc, file, table, &labels, steps)? {
         return Ok(verdict);
     }
-    if let Some(verdict) = check_evidence(alloc, keys, file, &table, &labels, &steps)? {
+    if let Some(verdict) = check_evidence(alloc, keys, file, table, &labels, steps)? {
         return Ok(verdict);
     }
     Ok(check_totals(file))
