@@ -10,7 +10,7 @@ use Rattle.result_rules.specs.declared.rule.Rule.TheVariants.{PathsCleaned}
 use Rattle.result_rules.specs.File.{its_paths}
 use Rattle.rel_checker.specs.PathSteps.{AreSteps, HaveSteps}
 use Rattle.result_rules.specs.Rules.{IsMet}
-use Rattle.rel_checker.specs.Tables.{with_edge}
+use Rattle.tor_numbers.specs.Edges.{with_edge}
 use Rattle.rel_checker.proofs.FewEdges.{few_edges}
 use Rattle.rel_checker.proofs.Lines.{line-here, paths_in, paths-more, numbers-more, sound-at}
 use Rattle.rel_checker.proofs.Listing.{edges-push}

@@ -5,7 +5,6 @@ pub mod Climbing
 pub mod ComingBacks
 pub mod Consistencies
 pub mod EdgeListing
-pub mod EdgeNumbers
 pub mod EdgeTables
 pub mod FewEdges
 pub mod Firsts

@@ -12,7 +12,7 @@ use Rattle.result_text.specs.declared.file.ResultFile.{ResultFile}
 use Rattle.result_rules.specs.File.{its_paths, its_edges}
 use Rattle.result_rules.specs.declared.rule.Rule.TheVariants.{EdgesListed}
 use Rattle.result_rules.specs.Rules.{IsMet}
-use Rattle.rel_checker.specs.Tables.{with_edge}
+use Rattle.tor_numbers.specs.Edges.{with_edge}
 
 -- ---- what is distinct holds the same edges
 

@@ -13,7 +13,7 @@ use Rattle.rel_checker.specs.declared.edges.step.Step.{Step}
 use Rattle.result_rules.specs.File.{its_paths}
 use Rattle.rel_checker.specs.Flipping.{edges_of}
 use Rattle.rel_checker.specs.PathSteps.{place_in, IsStepAlong, AreStepsFrom, AreSteps, HaveSteps}
-use Rattle.rel_checker.specs.Tables.{with_edge}
+use Rattle.tor_numbers.specs.Edges.{with_edge}
 use Rattle.result_rules.proofs.Gets.{slice_get-push_old, slice_get-map}
 
 -- ---- more edges

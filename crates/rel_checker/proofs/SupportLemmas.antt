@@ -14,7 +14,8 @@ use Rattle.result_text.specs.declared.file.EdgeLine.{EdgeLine}
 use Rattle.rel_checker.specs.declared.edges.step.Step.{Step}
 use Rattle.rel_checker.specs.Flipping.{edges_of, AreApart}
 use Rattle.rel_checker.specs.PathSteps.{place_in, AreStepsFrom, AreSteps}
-use Rattle.rel_checker.specs.Tables.{edge_at, HaveRisen, AreCounts, kept_in}
+use Rattle.tor_numbers.specs.Edges.{edge_at}
+use Rattle.rel_checker.specs.Tables.{HaveRisen, AreCounts, kept_in}
 use Rattle.rel_checker.proofs.Lines.{kept-more, kept-few}
 use Rattle.rel_checker.proofs.EdgeTables.{is_same-self}
 

@@ -16,7 +16,8 @@ use Rattle.result_rules.specs.File.{claim_on}
 use Rattle.result_rules.specs.declared.rule.Rule.TheVariants.{KeptValleyFree}
 use Rattle.rel_checker.specs.Flipping.{AreApart}
 use Rattle.result_rules.specs.Rules.{Asks, IsServed, BreaksFirst}
-use Rattle.rel_checker.specs.Tables.{edge_at, labels_in}
+use Rattle.tor_numbers.specs.Edges.{edge_at}
+use Rattle.rel_checker.specs.Tables.{labels_in}
 use Rattle.rel_checker.proofs.Lines.{IsLine, before-more, at-place}
 use Rattle.rel_checker.proofs.EdgeTables.{is_same-self}
 use Rattle.rel_checker.proofs.SupportLemmas.{same-flipped}

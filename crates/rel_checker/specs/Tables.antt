@@ -1,19 +1,11 @@
--- The edges that a table holds, in the order in which they were added, and counts for them.
-use Rattle.std.specs.Prelude.{◌≡◌, ℕ, ◌+◌, ◌<◌, List, [], ◌∷◌, ◌++◌, length, map, filter, slice_index, slice_index_or, if◌then◌else◌}
-use Rattle.std.specs.List.{list_any}
+-- Counts for the edges that a table holds, kept paths, and labels.
+use Rattle.std.specs.Prelude.{◌≡◌, ℕ, ◌+◌, ◌<◌, List, length, map, filter, slice_index}
 use Rattle.relationships.specs.Relationship.{Labelling}
-use Rattle.relationships.specs.Graph.{Edge, is_same, labelling}
+use Rattle.relationships.specs.Graph.{Edge, labelling}
+use Rattle.tor_numbers.specs.Edges.{edge_at}
 use Rattle.result_text.specs.declared.file.EdgeLine.{EdgeLine}
 use Rattle.result_text.specs.declared.file.PathLine.{PathLine}
 use Rattle.relationships.specs.Fates.{is_kept}
-
--- a new edge goes last, and one that is there is not added again
-abbrev pub with_edge : List Edge → Edge → List Edge
-with_edge es e = if list_any (is_same e) es then es else es ++ e ∷ []
-
--- the edge in a place
-abbrev pub edge_at : List Edge → ℕ → Edge
-edge_at es k = slice_index_or es k (0, 0)
 
 -- the count of each edge has gone up by this
 abbrev pub HaveRisen : List Edge → (Edge → ℕ) → List ℕ → List ℕ → Type 0

@@ -8,7 +8,6 @@ ghost use Rattle.result_rules.specs.Valid.{Valid};
 ghost use Rattle.result_rules.specs.Judging.{Judges};
 
 use crate::edges::edge_rules::{find_miscounted, find_unlisted, find_valley, list_edges};
-use crate::edges::edge_table::EdgeTable;
 use crate::edges::labels::Labels;
 use crate::edges::step::Step;
 use crate::line_numbers::{edge_line, last_line, mark_line, path_line, why_line};
@@ -19,6 +18,7 @@ use result_rules::{Rule, Verdict, right_totals};
 use result_text::ResultFile;
 use std::alloc::Global;
 use tor_arena::{Keys, NoMemory, PathId, Rows};
+use tor_numbers::EdgeTable;
 
 /// The most that the ratio of degrees of a peering may be.
 const MAX_RATIO: u32 = 1_000_000;
@@ -36,11 +36,28 @@ pub fn check_file(alloc: Global, keys: Keys, file: &ResultFile) -> Result<Verdic
         return Ok(verdict);
     }
     let (table, steps) = list_edges(alloc, keys, file)?;
+    check_lines(alloc, keys, file, &table, &steps)
+}
+
+/// The rules on the lines behind the paths, by the edges of the paths and the steps along them.
+fn check_lines(
+    alloc: Global,
+    keys: Keys,
+    file: &ResultFile,
+    table: &EdgeTable,
+    steps: &Rows<PathId, Step>,
+) -> Result<Verdict, NoMemory>
+    requires lines { HasFewLines file.now }
+    requires met { MetUpTo file.now 4 }
+    requires table { table.now ≡ edges (its_paths file.now) }
+    requires steps { HaveSteps table.now (its_paths file.now) steps.now }
+    ensures { IfOk result (Judges file.now) }
+{
     let labels = Labels::new(alloc, file.edges.as_slice())?;
-    if let Some(verdict) = check_edges(alloc, file, &table, &labels, &steps)? {
+    if let Some(verdict) = check_edges(alloc, file, table, &labels, steps)? {
         return Ok(verdict);
     }
-    if let Some(verdict) = check_evidence(alloc, keys, file, &table, &labels, &steps)? {
+    if let Some(verdict) = check_evidence(alloc, keys, file, table, &labels, steps)? {
         return Ok(verdict);
     }
     Ok(check_totals(file))

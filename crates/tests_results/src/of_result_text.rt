@@ -580,7 +580,7 @@ fn adds_parts(rows: &mut Rows<PathId, u32>, times: &mut List<u64>, fates: &mut F
 /// Whether these lines come apart as two paths, with their times and fates.
 fn come_apart(lines: PathLines) -> bool {
     let (rows, times, fates) = lines.into_parts();
-    rows.len() == 2 && times.as_slice() == &[7, 7] && fates.len() == 2
+    rows.len() == 2 && times.as_slice() == [7, 7].as_slice() && fates.len() == 2
 }
 
 /// The lines of these parts, if there are as many of each.

@@ -5,10 +5,9 @@ ghost use Rattle.result_rules.specs.File.{its_paths, its_edges};
 ghost use Rattle.result_rules.specs.declared.rule.Rule.{Rule};
 ghost use Rattle.rel_checker.specs.PathSteps.{IsStepAlong, AreSteps, HaveSteps};
 ghost use Rattle.result_rules.specs.Rules.{IsMet};
-ghost use Rattle.rel_checker.specs.Tables.{with_edge};
+ghost use Rattle.tor_numbers.specs.Edges.{with_edge};
 ghost use Rattle.rel_checker.specs.Steps.{Finds};
 
-use crate::edges::edge_table::EdgeTable;
 use crate::edges::labels::Labels;
 use crate::edges::step::Step;
 use crate::edges::supports::count_kept;
@@ -17,6 +16,7 @@ use crate::lending::{path_line_at, steps_at};
 use result_text::{EdgeLine, PathLines, ResultFile};
 use std::alloc::Global;
 use tor_arena::{Keys, List, NoMemory, PathId, RowRefused, Rows};
+use tor_numbers::EdgeTable;
 
 /// The edges of the paths, in order of first appearance, and the steps of each path.
 pub(crate) fn list_edges(
@@ -82,8 +82,8 @@ fn add_step(table: &mut EdgeTable, from: u32, to: u32) -> Result<Step, NoMemory>
     ensures edge { OnOk result (table.new ≡ with_edge table.old (edge_of from to)) }
     ensures step { IfOk result (IsStepAlong table.new from to) }
 {
-    let place = table.add(from, to)?;
-    Ok(Step::new(place, from < to))
+    let added = table.add(from, to)?;
+    Ok(Step::new(added.place, from < to))
 }
 
 /// The first place in which the edge lines and the edges of the paths differ. It takes no memory.

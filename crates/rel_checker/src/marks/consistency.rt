@@ -7,7 +7,6 @@ ghost use Rattle.tor_arena.specs.Limits.{most_places};
 ghost use Rattle.rel_checker.specs.Batches.{IsAgreeing, IsBatch};
 ghost use Rattle.rel_checker.specs.Serving.{CanFlip, IsLaidOut, First, GainsAt, ServesAt};
 
-use crate::edges::edge_table::EdgeTable;
 use crate::marks::flipping::Flips;
 use crate::marks::neighbours::Neighbours;
 use crate::marks::searching::reach;
@@ -15,6 +14,7 @@ use crate::marks::serving::start_of;
 use result_text::{Probe, ResultFile};
 use std::alloc::Global;
 use tor_arena::{Arena, EdgeId, List, NoMemory};
+use tor_numbers::EdgeTable;
 
 /// Whether the round came to one of these edges.
 fn has_visited(row: &[EdgeId], rounds: &Arena<EdgeId, usize>, round: usize) -> bool

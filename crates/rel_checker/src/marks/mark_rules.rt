@@ -7,9 +7,8 @@ ghost use Rattle.result_rules.specs.declared.rule.Rule.{Rule};
 ghost use Rattle.rel_checker.specs.PathSteps.{HaveSteps};
 ghost use Rattle.result_rules.specs.Rules.{IsMet};
 ghost use Rattle.rel_checker.specs.Steps.{Finds};
-ghost use Rattle.rel_checker.specs.Serving.{Covers, IsShownBy, First, MarkedAt, is_borne};
+ghost use Rattle.rel_checker.specs.Serving.{Covers, IsLaidOut, IsShownBy, First, MarkedAt, is_borne};
 
-use crate::edges::edge_table::EdgeTable;
 use crate::edges::labels::Labels;
 use crate::edges::step::Step;
 use crate::marks::consistency::find_useless;
@@ -20,6 +19,7 @@ use relationships::Label;
 use result_text::{EdgeLine, Mark, ResultFile};
 use std::alloc::Global;
 use tor_arena::{Arena, EdgeId, Index, Keys, NoMemory, PathId, Rows};
+use tor_numbers::EdgeTable;
 
 /// Whether the mark of an edge is borne out, by whether an order of it is shown, and whether an
 /// open line's closure has its other order.
@@ -77,12 +77,26 @@ pub(crate) fn find_unmarked(
     ensures { IfOk result (Finds file.now Rule.MarksBorneOut) }
 {
     let flips = Flips::of_file(alloc, keys, file, labels, steps)?;
-    let cover = cover_all(alloc, file, table, &flips)?;
+    find_by_flips(alloc, file, table, &flips)
+}
+
+/// The same, by what flips with what.
+fn find_by_flips(
+    alloc: Global,
+    file: &ResultFile,
+    table: &EdgeTable,
+    flips: &Flips,
+) -> Result<Option<usize>, NoMemory>
+    requires lines { HasFewLines file.now }
+    requires laid { IsLaidOut file.now table.now flips.now.implied flips.now.conflicting }
+    ensures { IfOk result (Finds file.now Rule.MarksBorneOut) }
+{
+    let cover = cover_all(alloc, file, table, flips)?;
     let shown = list_shown(alloc, file, table)?;
     if let Some(place) = find_unborne(file, &shown, &cover.rounds) {
         return Ok(Some(place));
     }
-    match find_useless(alloc, file, table, &flips, cover.idle)? {
+    match find_useless(alloc, file, table, flips, cover.idle)? {
         Some(place) => Ok(Some(file.edges.len() + place)),
         None => Ok(None),
     }

@@ -7,13 +7,13 @@ ghost use Rattle.rel_checker.specs.Searching.{IsClosed};
 ghost use Rattle.rel_checker.specs.Flipping.{flipped, flipped_orders, edges_of, FlipsTo, kept_lines, AreApart};
 ghost use Rattle.rel_checker.specs.Serving.{is_wanted, IsWantedAt, Gains, Covers, IsLaidOut, First, GainsAt, first_of};
 
-use crate::edges::edge_table::EdgeTable;
 use crate::marks::flipping::Flips;
 use crate::marks::searching::reach;
 use relationships::Label;
 use result_text::{EdgeLine, Mark, Probe, ResultFile};
 use std::alloc::Global;
 use tor_arena::{Arena, EdgeId, Index, List, NoMemory};
+use tor_numbers::EdgeTable;
 
 /// Whether an edge flips to an order.
 fn flips_to(line: &EdgeLine, over: u32, under: u32) -> bool

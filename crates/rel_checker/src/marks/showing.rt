@@ -6,12 +6,12 @@ ghost use Rattle.result_rules.specs.File.{last_two, shown_orders};
 ghost use Rattle.rel_checker.specs.Flipping.{edges_of, AreApart};
 ghost use Rattle.rel_checker.specs.Serving.{IsShownBy};
 
-use crate::edges::edge_table::EdgeTable;
 use crate::lending::walk_at;
 use relationships::WalkRef;
 use result_text::{EdgeLine, ResultFile};
 use std::alloc::Global;
 use tor_arena::{Arena, EdgeId, Index, NoMemory};
+use tor_numbers::EdgeTable;
 
 /// Notes that an order of two ASes is shown.
 fn show(

@@ -1,7 +1,7 @@
 use Rattle.std.proofs.Common.{◌≡◌, ◌+◌, ◌≤◌, ◌∙◌, ◌++◌, ◌∷◌, [], fold, length, sym, ap, subst, arith}
 use Rattle.relationships.specs.Graph.{edges_on}
 use Rattle.rel_checker.specs.PathSteps.{AreSteps}
-use Rattle.rel_checker.specs.Tables.{with_edge}
+use Rattle.tor_numbers.specs.Edges.{with_edge}
 use Rattle.rel_checker.proofs.EdgeListing.{IsListing, listing-few, listing-room, listing-more, listing-ends}
 use Rattle.rel_checker.proofs.edges.edge_rules.list_edges.Goals as goal
 
