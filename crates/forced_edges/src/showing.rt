@@ -40,6 +40,14 @@ impl Shown {
         })
     }
 
+    /// The nodes of the orders, and the walks that show these, one each.
+    pub(crate) fn into_parts(self) -> (NodeSet, Walks)
+        ensures nodes { result.0 ≡ self.nodes }
+        ensures whys { result.1 ≡ self.whys }
+    {
+        (self.nodes, self.whys)
+    }
+
     /// Shows the order of the head of an arc whose tail has an order that is shown, this one, unless it is shown.
     fn show_head(
         &mut self,
