@@ -1,0 +1,19 @@
+use Rattle.std.proofs.Common.{take, arith, ◌∙◌}
+use Rattle.std.proofs.lemmas.List.{length-take}
+use Rattle.mrt_frame.proofs.Parts.{skips_read}
+use Rattle.mrt_frame.proofs.part.skip_part.Goals as goal
+
+pub parts-preserved : goal.parts-preserved
+parts-preserved g c =
+    let left = g.H.Shelf.left in
+    let count = c.in_ok-count.count in
+    let facts = c.in_ok-count.ensures in
+    let before = c.parts.invariant in
+    record {
+      files = facts.files ∙ before.files;
+      skipped = skips_read (left c.args.shelf.now) (left c.parts.shelf) (left c.read.new.self) c.parts.passed count (take count c.read.new.buf) before.skipped facts.taken facts.bound.1;
+      no_more = omega (arith, facts.bound.0, c.read.auto.buf, c.min-most.ensures, c.deref_mut.ensures.len, before.no_more, length-take c.min-most.result c.deref_mut.result.now);
+      room = before.room;
+      quiet = facts.cause.quiet ∙ before.quiet;
+      steady = λ s. facts.steady (before.steady s);
+    }
