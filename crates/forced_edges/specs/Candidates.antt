@@ -4,8 +4,9 @@ use Rattle.std.specs.Prelude.{◌≡◌, ℕ, ◌+◌, ◌-◌, ◌*◌, ◌^◌
 use Rattle.relationships.specs.declared.label.End.{End}
 use Rattle.relationships.specs.declared.label.Label.{Label}
 use Rattle.tor_clauses.specs.Literals.{node_of}
+use Rattle.forced_edges.specs.Posing.{Posed}
 use Rattle.forced_edges.specs.declared.candidates.Entered.{Entered}
-use Rattle.forced_edges.specs.declared.candidates.Order.{Order}
+use Rattle.forced_edges.specs.declared.candidates.DepthSearch.{DepthSearch}
 
 -- the node of the order against this label of an edge; a peering has none
 abbrev pub against : ℕ → Label → Option ℕ
@@ -28,18 +29,18 @@ abbrev pub OnStack : List Entered → ℕ → Type 0
 OnStack stack n = (k : ℕ) × (o : Entered) × (slice_get stack k ≡ Some o) × (o.node ≡ n)
 
 -- of so many nodes, each order against a label to which the search has come was chosen, or is not left yet
-pub record IsOrder (labels : List Label) (count : ℕ) (order : Order) : Type 0 where
-  pub many : order.seen.count ≡ count
-  pub inside : All (λ n. n < count) order.chosen
-  pub opens : (k : ℕ) (o : Entered) → slice_get order.stack k ≡ Some o → o.node < count
-  pub each : (n : ℕ) → IsAgainst labels n → Contains order.seen.items n → Contains order.chosen n ⊎ OnStack order.stack n
+pub record IsInDepth (labels : List Label) (count : ℕ) (found : DepthSearch) : Type 0 where
+  pub many : found.seen.count ≡ count
+  pub inside : All (λ n. n < count) found.chosen
+  pub opens : (k : ℕ) (o : Entered) → slice_get found.stack k ≡ Some o → o.node < count
+  pub each : (n : ℕ) → IsAgainst labels n → Contains found.seen.items n → Contains found.chosen n ⊎ OnStack found.stack n
 
 -- the search with one more node that was not left yet
-abbrev pub with_entered : Order → Entered → Order
-with_entered order top = record order { stack = order.stack ++ top ∷ [] }
+abbrev pub with_entered : DepthSearch → Entered → DepthSearch
+with_entered found top = record found { stack = found.stack ++ top ∷ [] }
 
 -- the search has come to the node
-pub record Visits (node : ℕ) (old new : Order) : Type 0 where
+pub record Visits (node : ℕ) (old new : DepthSearch) : Type 0 where
   pub many : new.seen.count ≡ old.seen.count
   pub seen : new.seen.items ≡ old.seen.items ++ node ∷ []
   pub opened : (top : Entered) × (top.node ≡ node) × (new.stack ≡ old.stack ++ top ∷ [])
@@ -47,5 +48,17 @@ pub record Visits (node : ℕ) (old new : Order) : Type 0 where
   pub few : length old.seen.items < 2 ^ 64
 
 -- at most so many steps are left
-abbrev pub work : Order → ℕ
-work order = 2 * (2 ^ 64 - length order.seen.items) + length order.stack
+abbrev pub work : DepthSearch → ℕ
+work found = 2 * (2 ^ 64 - length found.seen.items) + length found.stack
+
+-- ---- over the edges
+
+-- the search has come to the orders against the first labels, so many
+abbrev pub AreSeen : List Label → ℕ → List ℕ → Type 0
+AreSeen labels place seen = (k n : ℕ) (label : Label) → k < place → slice_get labels k ≡ Some label → against k label ≡ Some n → Contains seen n
+
+-- the search has come to the orders against the labels of the first edges, so many, and has left all nodes
+pub record IsChoosing (posed : Posed) (place : ℕ) (found : DepthSearch) : Type 0 where
+  pub so_far : IsInDepth posed.labels posed.formula.net.nodes found
+  pub idle : found.stack ≡ []
+  pub seen : AreSeen posed.labels place found.seen.items

@@ -1,20 +1,19 @@
-ghost use Rattle.std.specs.Prelude.{[], ℕ, ◌≡◌, ◌<◌, ◌≤◌, ◌^◌, ◌+◌, ◌++◌, ◌∷◌, length, Contains, OnOk, IfOk};
+ghost use Rattle.std.specs.Prelude.{[], ℕ, ◌≡◌, ◌<◌, ◌≤◌, ◌++◌, ◌∷◌, length, Contains, OnOk, IfOk};
 ghost use Rattle.relationships.specs.declared.walk.Walk.{Walk as AWalk};
 ghost use Rattle.relationships.specs.Graph.{edges};
-ghost use Rattle.relationships.specs.Selection.{IsServable};
-ghost use Rattle.tor_digraph.specs.Walks.{HasArc, IsArc, Reaches};
-ghost use Rattle.as_graph.specs.Paths.{paths_at};
-ghost use Rattle.tor_clauses.specs.Literals.{lit_of, opposite_node, Says};
-ghost use Rattle.tor_clauses.specs.Formulas.{FitsGraph};
+ghost use Rattle.tor_arena.specs.Limits.{most_places};
+ghost use Rattle.tor_digraph.specs.Walks.{HasArc, Reaches};
+ghost use Rattle.tor_clauses.specs.Literals.{lit_of, opposite_node};
+ghost use Rattle.tor_clauses.specs.Leading.{IsPlainWay};
 ghost use Rattle.forced_edges.specs.Nodes.{Stays};
 ghost use Rattle.forced_edges.specs.Settling.{IsShown, IsShowing, AreClosedTo, Keeps, LeadsBack, LeadsOn, IsTail};
 
-use as_graph::AsGraph;
+use crate::problem::Problem;
 use relationships::{Walk, Walks};
 use std::alloc::Global;
 use tor_arena::{ArcId, Index, NoMemory, NodeId};
-use tor_clauses::{Clauses, opposite, order, walk_along};
-use tor_digraph::{NodeSet, Reached, RowDigraph};
+use tor_clauses::opposite;
+use tor_digraph::{NodeSet, Reached, Way};
 
 /// Orders that hold in each orientation that serves, each with a walk that shows it.
 #[derive(Drop)]
@@ -28,7 +27,7 @@ pub(crate) struct Shown {
 impl Shown {
     /// None, of so many nodes.
     pub(crate) fn new(alloc: Global, count: usize) -> Result<Shown, NoMemory>
-        requires { count ≤ 2 ^ 28 }
+        requires { count ≤ most_places }
         ensures count { IfOk result (λ shown. shown.nodes.count ≡ count) }
         ensures none { IfOk result (λ shown. shown.nodes.items ≡ []) }
         ensures whys { IfOk result (λ shown. shown.whys ≡ []) }
@@ -40,158 +39,137 @@ impl Shown {
             near: Reached::new(alloc),
         })
     }
+
+    /// Shows the order of the head of an arc whose tail has an order that is shown, this one, unless it is shown.
+    fn show_head(
+        &mut self,
+        problem: &Problem<'_>,
+        tail: (u32, u32),
+        arc: ArcId,
+        head: NodeId,
+    ) -> Result<(), NoMemory>
+        requires there { head < problem.now.formula.net.nodes }
+        requires tail { IsTail problem.now arc head self.old.nodes.items tail.0 tail.1 }
+        requires showing { IsShowing problem.now self.old }
+        ensures showing { OnOk result (IsShowing problem.now self.new) }
+        ensures kept { OnOk result (Stays self.old.nodes.items self.new.nodes.items) }
+        ensures added { OnOk result (Contains self.new.nodes.items head) }
+    {
+        problem.facts();
+        if self.nodes.add(head)? {
+            push_walk(problem, tail, arc, head, &mut self.whys)?;
+        }
+        Ok(())
+    }
+
+    /// Shows the orders of the heads of all arcs of a node whose order is shown.
+    fn show_heads(&mut self, problem: &Problem<'_>, tail: NodeId) -> Result<(), NoMemory>
+        requires tail { Contains self.old.nodes.items tail }
+        requires there { tail < problem.now.formula.net.nodes }
+        requires showing { IsShowing problem.now self.old }
+        ensures showing { OnOk result (IsShowing problem.now self.new) }
+        ensures kept { OnOk result (Stays self.old.nodes.items self.new.nodes.items) }
+        ensures heads { OnOk result ((y : ℕ) → HasArc problem.now.formula.net.arcs tail y → Contains self.new.nodes.items y) }
+    {
+        problem.facts();
+        let order = problem.order(tail);
+        for entry in problem.row(tail) {
+            let (arc, head) = *entry;
+            self.show_head(problem, order, arc, head)?;
+        }
+        Ok(())
+    }
+
+    /// Shows all that follows from the orders that are shown, where that is done for the first of them, so many.
+    fn show_from(&mut self, problem: &Problem<'_>, from: usize) -> Result<(), NoMemory>
+        requires showing { IsShowing problem.now self.old }
+        requires closed { AreClosedTo problem.now from self.old.nodes.items }
+        ensures shown { OnOk result (IsShown problem.now self.new) }
+        ensures kept { OnOk result (Stays self.old.nodes.items self.new.nodes.items) }
+    {
+        let mut at = from;
+        while at < self.nodes.len() {
+            let tail = self.nodes.get(at);
+            self.show_heads(problem, tail)?;
+            at += 1;
+        }
+        Ok(())
+    }
+
+    /// Shows the opposite of the order of a node, which leads to it, and all that follows from that.
+    pub(crate) fn show_opposite(
+        &mut self,
+        alloc: Global,
+        problem: &Problem<'_>,
+        node: NodeId,
+    ) -> Result<(), NoMemory>
+        requires there { node < problem.now.formula.net.nodes }
+        requires back { Reaches problem.now.formula.net.arcs node (opposite_node node) }
+        requires new { Contains self.old.nodes.items (opposite_node node) → ⊥ }
+        requires shown { IsShown problem.now self.old }
+        ensures shown { OnOk result (IsShown problem.now self.new) }
+        ensures keeps { OnOk result (Keeps self.old self.new) }
+        ensures added { OnOk result (Contains self.new.nodes.items (opposite_node node)) }
+    {
+        problem.facts();
+        let walk = walk_back(alloc, problem, node, &mut self.near)?;
+        let from = self.nodes.len();
+        self.nodes.add(opposite(node))?;
+        self.whys.push(walk.ases.as_slice(), walk.links.as_slice())?;
+        self.show_from(problem, from)
+    }
 }
 
 /// Adds the walk of three ASes from the order of the tail of an arc, which is this one, to that of its head.
 fn push_walk(
-    graph: &AsGraph,
-    clauses: &Clauses,
+    problem: &Problem<'_>,
     tail: (u32, u32),
     arc: ArcId,
     head: NodeId,
     whys: &mut Walks,
 ) -> Result<(), NoMemory>
-    requires fits { FitsGraph graph.now clauses.now }
-    requires there { arc < length clauses.now.net.arcs }
-    requires head { (lit_of head).edge < length (edges graph.now) }
-    ensures { OnOk result ((w : AWalk) × (whys.new ≡ whys.old ++ w ∷ []) × LeadsOn graph.now clauses.now arc head tail.0 tail.1 w) }
+    requires there { arc < length problem.now.formula.net.arcs }
+    requires head { (lit_of head).edge < length (edges problem.now.graph) }
+    ensures { OnOk result ((w : AWalk) × (whys.new ≡ whys.old ++ w ∷ []) × LeadsOn problem.now arc head tail.0 tail.1 w) }
 {
-    graph.facts();
-    let (_, under) = order(graph, head);
-    whys.push(&[tail.0, tail.1, under], &[clauses.link_of(arc)])
-}
-
-/// Shows the order of the head of an arc whose tail has an order that is shown, this one, unless it is shown.
-fn show_head(
-    graph: &AsGraph,
-    clauses: &Clauses,
-    tail: (u32, u32),
-    arc: ArcId,
-    head: NodeId,
-    shown: &mut Shown,
-) -> Result<(), NoMemory>
-    requires fits { FitsGraph graph.now clauses.now }
-    requires servable { IsServable (paths_at graph.now clauses.now.paths) }
-    requires there { head < clauses.now.net.nodes }
-    requires tail { IsTail graph.now clauses.now arc head shown.old.nodes.items tail.0 tail.1 }
-    requires showing { IsShowing graph.now clauses.now shown.old }
-    ensures showing { OnOk result (IsShowing graph.now clauses.now shown.new) }
-    ensures kept { OnOk result (Stays shown.old.nodes.items shown.new.nodes.items) }
-    ensures added { OnOk result (Contains shown.new.nodes.items head) }
-{
-    graph.facts();
-    clauses.facts();
-    if shown.nodes.add(head)? {
-        push_walk(graph, clauses, tail, arc, head, &mut shown.whys)?;
-    }
-    Ok(())
-}
-
-/// Shows the orders of the heads of all arcs of a node whose order is shown.
-fn show_heads(
-    graph: &AsGraph,
-    clauses: &Clauses,
-    rows: &RowDigraph<'_, NodeId, ArcId>,
-    tail: NodeId,
-    shown: &mut Shown,
-) -> Result<(), NoMemory>
-    requires fits { FitsGraph graph.now clauses.now }
-    requires rows { rows.now ≡ clauses.now.net }
-    requires servable { IsServable (paths_at graph.now clauses.now.paths) }
-    requires tail { Contains shown.old.nodes.items tail }
-    requires there { tail < rows.now.nodes }
-    requires showing { IsShowing graph.now clauses.now shown.old }
-    ensures showing { OnOk result (IsShowing graph.now clauses.now shown.new) }
-    ensures kept { OnOk result (Stays shown.old.nodes.items shown.new.nodes.items) }
-    ensures heads { OnOk result ((y : ℕ) → HasArc clauses.now.net.arcs tail y → Contains shown.new.nodes.items y) }
-{
-    prove!(rows.node_count() <= NodeId::LIMIT);
-    let order = order(graph, tail);
-    for entry in rows.row(tail) {
-        let (arc, head) = *entry;
-        show_head(graph, clauses, order, arc, head, shown)?;
-    }
-    Ok(())
-}
-
-/// Shows all that follows from the orders that are shown, where that is done for the first of them, so many.
-fn show_from(
-    graph: &AsGraph,
-    clauses: &Clauses,
-    rows: &RowDigraph<'_, NodeId, ArcId>,
-    from: usize,
-    shown: &mut Shown,
-) -> Result<(), NoMemory>
-    requires fits { FitsGraph graph.now clauses.now }
-    requires rows { rows.now ≡ clauses.now.net }
-    requires servable { IsServable (paths_at graph.now clauses.now.paths) }
-    requires showing { IsShowing graph.now clauses.now shown.old }
-    requires closed { AreClosedTo clauses.now from shown.old.nodes.items }
-    ensures shown { OnOk result (IsShown graph.now clauses.now shown.new) }
-    ensures kept { OnOk result (Stays shown.old.nodes.items shown.new.nodes.items) }
-{
-    let mut at = from;
-    while at < shown.nodes.len() {
-        let tail = shown.nodes.get(at);
-        show_heads(graph, clauses, rows, tail, shown)?;
-        at += 1;
-    }
-    Ok(())
+    problem.facts();
+    let (_, under) = problem.order(head);
+    whys.push(&[tail.0, tail.1, under], &[problem.link_of(arc)])
 }
 
 /// A walk from the order of a node, which leads to its opposite, to that opposite, by a search of the nearest
 /// first.
 fn walk_back(
     alloc: Global,
-    graph: &AsGraph,
-    clauses: &Clauses,
-    rows: &RowDigraph<'_, NodeId, ArcId>,
+    problem: &Problem<'_>,
     node: NodeId,
     near: &mut Reached<NodeId, ArcId>,
 ) -> Result<Walk, NoMemory>
-    requires fits { FitsGraph graph.now clauses.now }
-    requires rows { rows.now ≡ clauses.now.net }
-    requires there { node < clauses.now.net.nodes }
-    requires back { Reaches clauses.now.net.arcs node (opposite_node node) }
-    ensures { IfOk result (LeadsBack graph.now clauses.now node) }
+    requires there { node < problem.now.formula.net.nodes }
+    requires back { Reaches problem.now.formula.net.arcs node (opposite_node node) }
+    ensures { IfOk result (LeadsBack problem.now node) }
 {
-    let other = opposite(node);
-    clauses.digraph().reach_none_again(near)?;
-    let none = Reached::new(alloc);
-    rows.reach_near_to(node, other, &none, near)?;
-    match near.walk_to(alloc, other)? {
-        Some(way) => walk_along(alloc, graph, clauses, node, &way),
-        None => unreachable!(),
-    }
+    let way = way_back(alloc, problem, node, near)?;
+    problem.walk_along(alloc, node, &way)
 }
 
-/// Shows the opposite of the order of a node, which leads to it, and all that follows from that.
-pub(crate) fn show_opposite(
+/// A way from a node, which leads to its opposite, to that opposite, by a search of the nearest first.
+fn way_back(
     alloc: Global,
-    graph: &AsGraph,
-    clauses: &Clauses,
-    rows: &RowDigraph<'_, NodeId, ArcId>,
+    problem: &Problem<'_>,
     node: NodeId,
-    shown: &mut Shown,
-) -> Result<(), NoMemory>
-    requires fits { FitsGraph graph.now clauses.now }
-    requires rows { rows.now ≡ clauses.now.net }
-    requires servable { IsServable (paths_at graph.now clauses.now.paths) }
-    requires there { node < clauses.now.net.nodes }
-    requires back { Reaches clauses.now.net.arcs node (opposite_node node) }
-    requires new { Contains shown.old.nodes.items (opposite_node node) → ⊥ }
-    requires shown { IsShown graph.now clauses.now shown.old }
-    ensures shown { OnOk result (IsShown graph.now clauses.now shown.new) }
-    ensures keeps { OnOk result (Keeps shown.old shown.new) }
-    ensures added { OnOk result (Contains shown.new.nodes.items (opposite_node node)) }
+    near: &mut Reached<NodeId, ArcId>,
+) -> Result<Way<NodeId, ArcId>, NoMemory>
+    requires there { node < problem.now.formula.net.nodes }
+    requires back { Reaches problem.now.formula.net.arcs node (opposite_node node) }
+    ensures { IfOk result (λ way. IsPlainWay problem.now.formula.net.arcs node (opposite_node node) way.nodes way.arcs) }
 {
-    clauses.facts();
-    graph.facts();
-    let walk = walk_back(alloc, graph, clauses, rows, node, &mut shown.near)?;
-    let from = shown.nodes.len();
-    shown.nodes.add(opposite(node))?;
-    shown
-        .whys
-        .push(walk.ases.as_slice(), walk.links.as_slice())?;
-    show_from(graph, clauses, rows, from, shown)
+    let other = opposite(node);
+    problem.clauses().digraph().reach_none_again(near)?;
+    let none = Reached::new(alloc);
+    problem.rows().reach_near_to(node, other, &none, near)?;
+    match near.walk_to(alloc, other)? {
+        Some(way) => Ok(way),
+        None => unreachable!(),
+    }
 }

@@ -1,10 +1,14 @@
 -- Paths and counts beside those of dumps.
-use Rattle.std.proofs.Common.{◌≡◌, ℕ, zero, suc, ◌+◌, ◌-◌, ◌<◌, ◌≤◌, List, [], ◌∷◌, length, refl, sym, ap, ap₂, ◌∙◌, subst, arith, Some, slice_get, option_map}
+use Rattle.std.proofs.Common.{◌≡◌, ℕ, zero, suc, ◌+◌, ◌-◌, ◌<◌, ◌≤◌, List, [], ◌∷◌, length, refl, sym, ap, ap₂, ◌∙◌, subst, arith, Some, slice_get, option_map, false, nat_lt, if◌then◌else◌, le-ltb}
 use Rattle.path_clean.specs.Rows.{Counted, paths_of}
 use Rattle.path_clean.specs.Counts.{Counts}
+use Rattle.path_clean.specs.declared.cleaned.Cause.TheVariants.{NoPath}
 use Rattle.result_text.specs.declared.file.ResultFile.{ResultFile}
-use Rattle.rel_checker.specs.Against.{in_order, its_rows, Departs, Differs}
-use Rattle.rel_checker.proofs.Accepted.{some_parts, none_some}
+use Rattle.result_text.specs.Numbering.{aside_line}
+use Rattle.result_rules.specs.File.{path_line}
+use Rattle.result_rules.specs.Against.{in_order, its_rows, line_against, Departs}
+use Rattle.rel_checker.specs.Steps.{Differs}
+use Rattle.result_rules.proofs.Accepted.{some_parts, none_some}
 
 abbrev made : List ℕ → ℕ → Counted
 made a b = record { path = a; times = b }
@@ -51,15 +55,20 @@ path_at rows all k id row is whole read path times e =
     some_parts (sym read ∙ ap (slice_get all) is ∙ ap (λ (l : List (List ℕ)). slice_get l k) whole ∙ mapped_at rows k ∙ ap (option_map (λ (row : Counted). row.path)) e)
 
 -- the counts agree, and the paths differ first in this place
-pub path_departs : (file : ResultFile) (rows : List Counted) (counts : Counts) (k line rule : ℕ) → file.asides ≡ counts → Differs (its_rows file) rows k → line ≡ 11 + k → rule ≡ 11 →
+pub path_departs : (file : ResultFile) (rows : List Counted) (counts : Counts) (k line rule : ℕ) → file.asides ≡ counts → Differs (its_rows file) rows k → line ≡ path_line file k → rule ≡ 11 →
     Departs file rows counts line rule
 path_departs file rows counts k line rule same d at named = record {
   named = named;
   place = 7 + k;
-  numbered = omega (arith, at);
+  numbered = at ∙ path_line_back;
   breach = λ a. d.breach (subst (λ n. slice_get (its_rows file) n ≡ slice_get rows n) back (a.path (omega arith)));
   before = λ j lt. record { count = λ _. ap (λ c. slice_get (in_order c) j) same; path = λ le. d.before (j - 7) (omega arith) };
 }
   where
     back : 7 + k - 7 ≡ k
     back = omega arith
+
+    path_line_back : path_line file k ≡ line_against file (7 + k)
+    path_line_back =
+        let behind : nat_lt (7 + k) 7 ≡ false = le-ltb (7 + k) 7 (omega arith) in
+        ap (path_line file) (sym back) ∙ ap (λ b. if b then aside_line NoPath + (7 + k) else path_line file (7 + k - 7)) (sym behind)

@@ -13,13 +13,13 @@ use Rattle.result_text.specs.declared.file.EdgeLine.{EdgeLine}
 use Rattle.relationships.specs.declared.mark.Probe.{Probe}
 use Rattle.result_text.specs.declared.file.ResultFile.{ResultFile}
 use Rattle.relationships.specs.Marking.{is_forced}
-use Rattle.rel_checker.specs.File.{claim_on, its_probes, shown_orders}
-use Rattle.rel_checker.specs.declared.rule.Rule.TheVariants.{MarksBorneOut}
-use Rattle.rel_checker.specs.Rules.{Asks}
-use Rattle.rel_checker.specs.Verdict.{Finds}
+use Rattle.result_rules.specs.File.{claim_on, its_probes, shown_orders}
+use Rattle.result_rules.specs.declared.rule.Rule.TheVariants.{MarksBorneOut}
+use Rattle.result_rules.specs.Rules.{Asks}
+use Rattle.rel_checker.specs.Steps.{Finds}
 use Rattle.rel_checker.specs.Flipping.{flipped_by, flipped, flipped_orders, kept_lines}
 use Rattle.rel_checker.specs.Serving.{IsCovered, IsShownBy, First, MarkedAt, ServesAt, is_borne}
-use Rattle.rel_checker.proofs.Gets.{slice_get-lt, slice_get-map, slice_get-unmap}
+use Rattle.result_rules.proofs.Gets.{slice_get-lt, slice_get-map, slice_get-unmap}
 
 -- the two tests decide
 borne_exactly : (kept : List (List ℕ)) (orders probes : List (ℕ × ℕ)) (low high : ℕ) (mark : Mark) (l : Label) (shown covered : Bool) →

@@ -7,7 +7,7 @@ use Rattle.relationships.specs.Evidence.{TripleAt, IsTriple}
 use Rattle.relationships.proofs.Places.{StandAt-from_index, index-from_StandAt}
 use Rattle.rel_checker.specs.Neighbours.{HasNext, IsInside, with_next}
 use Rattle.rel_checker.specs.Flipping.{FlipsTo, Implies, Conflicts, IsBuilt, IsStep, with_implied, with_conflicting, TripleBefore, IsProper}
-use Rattle.rel_checker.proofs.Gets.{slice_get-lt, slice_get-set_cases, slice_get-set_other, slice_get-set_same}
+use Rattle.result_rules.proofs.Gets.{slice_get-lt, slice_get-set_cases, slice_get-set_other, slice_get-set_same}
 
 -- ---- one more in a row
 

@@ -6,10 +6,10 @@ use Rattle.relationships.specs.declared.label.Label.{Label}
 use Rattle.relationships.specs.declared.label.Label.TheVariants as label
 use Rattle.relationships.specs.Graph.{edge_of}
 use Rattle.result_text.specs.declared.file.EdgeLine.{EdgeLine}
-use Rattle.rel_checker.specs.declared.step.Step.{Step}
+use Rattle.rel_checker.specs.declared.edges.step.Step.{Step}
 use Rattle.rel_checker.specs.Flipping.{climbs, flipped_by, flipped_orders, edges_of, FlipsTo, IsStep}
 use Rattle.rel_checker.specs.PathSteps.{place_in, rises_in, IsStepAlong, labels_on}
-use Rattle.rel_checker.proofs.Gets.{slice_get-map, slice_get-unmap}
+use Rattle.result_rules.proofs.Gets.{slice_get-map, slice_get-unmap}
 use Rattle.rel_checker.proofs.OrderPlaces.{pair, flips_of}
 
 -- the order that the edge of a step from a to b would have to flip to, to have the step go down, or up

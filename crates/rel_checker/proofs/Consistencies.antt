@@ -8,7 +8,7 @@ use Rattle.rel_checker.specs.Batches.{IsAgreeing, IsBatch}
 use Rattle.rel_checker.specs.Neighbours.{HasNext, IsMutual, Reaches}
 use Rattle.rel_checker.specs.Searching.{IsVisited, IsSearched}
 use Rattle.rel_checker.specs.Flipping.{IsFlipped, FlipsTo, IsBuilt, IsProper, IsSettled}
-use Rattle.rel_checker.proofs.Gets.{All-get}
+use Rattle.result_rules.proofs.Gets.{All-get}
 use Rattle.rel_checker.proofs.Rounds.{closed-reach}
 use Rattle.rel_checker.proofs.Servings.{Any-from}
 use Rattle.rel_checker.proofs.Flippings.{consistent_exactly}

@@ -5,11 +5,11 @@ use Rattle.relationships.specs.Graph.{Edge, edges_on, edges}
 use Rattle.tor_arena.specs.Limits.{most_places}
 use Rattle.result_text.specs.declared.file.PathLine.{PathLine}
 use Rattle.result_text.specs.declared.file.ResultFile.{ResultFile}
-use Rattle.rel_checker.specs.declared.step.Step.{Step}
-use Rattle.rel_checker.specs.declared.rule.Rule.TheVariants.{PathsCleaned}
-use Rattle.rel_checker.specs.File.{its_paths}
+use Rattle.rel_checker.specs.declared.edges.step.Step.{Step}
+use Rattle.result_rules.specs.declared.rule.Rule.TheVariants.{PathsCleaned}
+use Rattle.result_rules.specs.File.{its_paths}
 use Rattle.rel_checker.specs.PathSteps.{AreSteps, HaveSteps}
-use Rattle.rel_checker.specs.Rules.{IsMet}
+use Rattle.result_rules.specs.Rules.{IsMet}
 use Rattle.rel_checker.specs.Tables.{with_edge}
 use Rattle.rel_checker.proofs.FewEdges.{few_edges}
 use Rattle.rel_checker.proofs.Lines.{line-here, paths_in, paths-more, numbers-more, sound-at}

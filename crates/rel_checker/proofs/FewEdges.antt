@@ -7,10 +7,10 @@ use Rattle.std.proofs.lemmas.Option.{slice_get-get_or}
 use Rattle.relationships.specs.Graph.{Edge, is_same, edges_from, edges_on, distinct, edges}
 use Rattle.result_text.specs.declared.file.ResultFile.{ResultFile}
 use Rattle.result_text.specs.declared.file.PathLine.{PathLine}
-use Rattle.rel_checker.specs.File.{its_paths}
-use Rattle.rel_checker.specs.declared.rule.Rule.TheVariants.{PathsCleaned}
-use Rattle.rel_checker.specs.Rules.{IsMet}
-use Rattle.rel_checker.proofs.Accepted.{same_length}
+use Rattle.result_rules.specs.File.{its_paths}
+use Rattle.result_rules.specs.declared.rule.Rule.TheVariants.{PathsCleaned}
+use Rattle.result_rules.specs.Rules.{IsMet}
+use Rattle.result_rules.proofs.Accepted.{same_length}
 
 filter_shorter : (p : Edge → Bool) (es : List Edge) → length (filter p es) ≤ length es
 filter_shorter p [] = omega arith

@@ -5,10 +5,10 @@ use Rattle.std.proofs.lemmas.Option.{same_Some}
 use Rattle.relationships.specs.Evidence.{IsTriple, IsConsistent}
 use Rattle.relationships.specs.declared.mark.Probe.{Probe}
 use Rattle.result_text.specs.declared.file.ResultFile.{ResultFile}
-use Rattle.rel_checker.specs.File.{its_claims, its_probes}
+use Rattle.result_rules.specs.File.{its_claims, its_probes}
 use Rattle.rel_checker.specs.Flipping.{IsFlipped, flipped_orders, kept_lines, IsBuilt, IsProper, IsSettled}
 use Rattle.rel_checker.specs.Serving.{Gains, GainsAt, ServesAt, First, first_of}
-use Rattle.rel_checker.proofs.Gets.{slice_get-map, take_get}
+use Rattle.result_rules.proofs.Gets.{slice_get-map, take_get}
 use Rattle.rel_checker.proofs.Servings.{probe_of_gains, gains_of_probe, gains_flipped}
 
 pub first_more : (P : ℕ → Type 0) (k : ℕ) (first : Option ℕ) (holds : Bool) → First P k first → IsTrue holds ↔ P k → First P (k + 1) (first_of first k holds)

@@ -1,5 +1,3 @@
-pub mod Acceptance
-pub mod Accepted
 pub mod AgainstLemmas
 pub mod Borne
 pub mod Buildings
@@ -11,13 +9,12 @@ pub mod EdgeNumbers
 pub mod EdgeTables
 pub mod FewEdges
 pub mod Firsts
-pub mod Gets
+pub mod Flippings
 pub mod KeptLines
 pub mod Lines
 pub mod Linking
 pub mod Listing
 pub mod LostLines
-pub mod MarkLaws
 pub mod Naming
 pub mod Noting
 pub mod OrderLemmas
@@ -36,8 +33,6 @@ pub mod StepLemmas
 pub mod SupportLemmas
 pub mod TotalLemmas
 pub mod Turning
-pub mod Flippings
+pub mod Validity
 pub mod ValleyLemmas
-pub mod WalkLaws
-pub mod OneAnswer
 mod Vectors

@@ -14,10 +14,10 @@ use Rattle.relationships.specs.declared.fate.Fate.TheVariants.{Kept, Lost}
 use Rattle.result_text.specs.declared.file.PathLine.{PathLine}
 use Rattle.result_text.specs.declared.file.ResultFile.{ResultFile}
 use Rattle.relationships.specs.Fates.{walk_of}
-use Rattle.rel_checker.specs.File.{its_paths, its_kept}
+use Rattle.result_rules.specs.File.{its_paths, its_kept}
 use Rattle.relationships.specs.Fates.{is_kept}
-use Rattle.rel_checker.specs.declared.rule.Rule.TheVariants.{PathsCleaned}
-use Rattle.rel_checker.specs.Rules.{IsSound, IsMet}
+use Rattle.result_rules.specs.declared.rule.Rule.TheVariants.{PathsCleaned}
+use Rattle.result_rules.specs.Rules.{IsSound, IsMet}
 use Rattle.rel_checker.specs.Tables.{kept_in}
 
 -- the paths of the lines

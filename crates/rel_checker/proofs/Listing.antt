@@ -9,9 +9,9 @@ use Rattle.relationships.proofs.Edges.{same_edge}
 use Rattle.relationships.proofs.Places.{distinct-push_new, distinct-push_old}
 use Rattle.result_text.specs.declared.file.EdgeLine.{EdgeLine}
 use Rattle.result_text.specs.declared.file.ResultFile.{ResultFile}
-use Rattle.rel_checker.specs.File.{its_paths, its_edges}
-use Rattle.rel_checker.specs.declared.rule.Rule.TheVariants.{EdgesListed}
-use Rattle.rel_checker.specs.Rules.{IsMet}
+use Rattle.result_rules.specs.File.{its_paths, its_edges}
+use Rattle.result_rules.specs.declared.rule.Rule.TheVariants.{EdgesListed}
+use Rattle.result_rules.specs.Rules.{IsMet}
 use Rattle.rel_checker.specs.Tables.{with_edge}
 
 -- ---- what is distinct holds the same edges

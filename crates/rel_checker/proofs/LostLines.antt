@@ -9,10 +9,10 @@ use Rattle.relationships.specs.declared.fate.Fate.TheVariants.{Lost}
 use Rattle.result_text.specs.declared.file.PathLine.{PathLine}
 use Rattle.result_text.specs.declared.file.ResultFile.{ResultFile}
 use Rattle.relationships.specs.Fates.{walk_of}
-use Rattle.rel_checker.specs.File.{kept_before}
+use Rattle.result_rules.specs.File.{kept_before}
 use Rattle.rel_checker.specs.Naming.{nameable}
-use Rattle.rel_checker.specs.declared.rule.Rule.TheVariants.{LostRefuted}
-use Rattle.rel_checker.specs.Rules.{Asks}
+use Rattle.result_rules.specs.declared.rule.Rule.TheVariants.{LostRefuted}
+use Rattle.result_rules.specs.Rules.{Asks}
 
 -- the line is kept, or its walk refutes over the paths of the kept lines before it and its own
 abbrev pub IsRight : List PathLine → PathLine → Type 0

@@ -9,9 +9,9 @@ use Rattle.relationships.specs.declared.fate.Fate.TheVariants.{Kept, Lost}
 use Rattle.result_text.specs.declared.file.PathLine.{PathLine}
 use Rattle.std.specs.Prelude.{if◌then◌else◌}
 use Rattle.relationships.specs.Fates.{is_kept, walk_of}
-use Rattle.rel_checker.specs.File.{kept_among}
+use Rattle.result_rules.specs.File.{kept_among}
 use Rattle.rel_checker.specs.Naming.{nameable, path_if_kept}
-use Rattle.rel_checker.proofs.WalkLaws.{paths_in, walks_in}
+use Rattle.result_rules.proofs.WalkLaws.{paths_in, walks_in}
 
 abbrev flags_in : List PathLine → List Bool
 flags_in lines = map is_none (walks_in lines)

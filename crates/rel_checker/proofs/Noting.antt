@@ -4,13 +4,13 @@ use Rattle.std.proofs.lemmas.List.{length-map, length-replicate}
 use Rattle.std.proofs.lemmas.List.Elements.{Contains-push_cases}
 use Rattle.relationships.specs.Evidence.{IsTriple}
 use Rattle.result_text.specs.declared.file.EdgeLine.{EdgeLine}
-use Rattle.rel_checker.specs.declared.step.Step.{Step}
+use Rattle.rel_checker.specs.declared.edges.step.Step.{Step}
 use Rattle.rel_checker.specs.Neighbours.{HasNext, with_next}
 use Rattle.rel_checker.specs.Flipping.{climbs_on, number_of, SameRows, HaveArcs, AreNoted, flipped, flipped_orders, edges_of, IsBuilt, IsProper, TripleBefore, with_implied, with_conflicting}
 use Rattle.rel_checker.specs.PathSteps.{place_in, IsStepAlong, AreSteps}
 use Rattle.rel_checker.proofs.Buildings.{length-with_next, next_cases, next_kept, next_last, path_more, length-with_implied, length-with_conflicting}
 use Rattle.rel_checker.proofs.Climbing.{climb}
-use Rattle.rel_checker.proofs.Gets.{Contains-none, slice_get-replicate}
+use Rattle.result_rules.proofs.Gets.{Contains-none, slice_get-replicate}
 use Rattle.rel_checker.proofs.StepLemmas.{length-steps, inside_lines, step_at}
 use Rattle.rel_checker.proofs.Turning.{steps_turned, steps_numbered}
 

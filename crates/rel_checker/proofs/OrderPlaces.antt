@@ -7,7 +7,7 @@ use Rattle.tor_arena.specs.Limits.{most_places}
 use Rattle.relationships.specs.Graph.{Edge, edge_of}
 use Rattle.result_text.specs.declared.file.EdgeLine.{EdgeLine}
 use Rattle.rel_checker.specs.Flipping.{flipped_by, flipped, flipped_orders, edges_of, FlipsTo, IsProper, AreApart}
-use Rattle.rel_checker.proofs.Gets.{slice_get-map, slice_get-unmap, slice_get-lt, All-get, Contains-from_get}
+use Rattle.result_rules.proofs.Gets.{slice_get-map, slice_get-unmap, slice_get-lt, All-get, Contains-from_get}
 
 pub pair : {a b c d : ℕ} → a ≡ c → b ≡ d → ◌≡◌ {A = ℕ × ℕ} (a, b) (c, d)
 pair e f = cc

@@ -7,11 +7,11 @@ use Rattle.path_clean.specs.Chains.{row_at}
 use Rattle.path_clean.specs.Repeats.{Repeats, IsFirstRepeat}
 use Rattle.result_text.specs.declared.file.PathLine.{PathLine}
 use Rattle.result_text.specs.declared.file.ResultFile.{ResultFile}
-use Rattle.rel_checker.specs.File.{its_paths}
-use Rattle.rel_checker.specs.declared.rule.Rule.TheVariants.{PathsDistinct}
-use Rattle.rel_checker.specs.Rules.{Asks}
-use Rattle.rel_checker.specs.Verdict.{Finds}
-use Rattle.rel_checker.proofs.Gets.{slice_get-some}
+use Rattle.result_rules.specs.File.{its_paths}
+use Rattle.result_rules.specs.declared.rule.Rule.TheVariants.{PathsDistinct}
+use Rattle.result_rules.specs.Rules.{Asks}
+use Rattle.rel_checker.specs.Steps.{Finds}
+use Rattle.result_rules.proofs.Gets.{slice_get-some}
 
 row_at-within : (rows : List (List ℕ)) (k : ℕ) (x : List ℕ) → k < length rows → row_at rows k ≡ get_or rows k x
 row_at-within rows k x within = unwrap_or-slice_get rows k [] ∙ get_or_default rows k [] x within

@@ -6,7 +6,7 @@ use Rattle.std.proofs.lemmas.List.Elements.{Contains-push, Contains-append_left,
 use Rattle.std.proofs.lemmas.List.Sums.{sum_by-set}
 use Rattle.rel_checker.specs.Neighbours.{HasNext, Reaches, here, onward}
 use Rattle.rel_checker.specs.Searching.{IsVisited, unvisited, Visits, Search, IsClosed, IsSearched}
-use Rattle.rel_checker.proofs.Gets.{get_from_Contains, Contains-from_get, Contains-none, Contains-one, slice_get-lt, slice_get-some, slice_get-push_old, slice_get-set_cases, slice_get-set_other, slice_get-set_same}
+use Rattle.result_rules.proofs.Gets.{get_from_Contains, Contains-from_get, Contains-none, Contains-one, slice_get-lt, slice_get-some, slice_get-push_old, slice_get-set_cases, slice_get-set_other, slice_get-set_same}
 
 -- ---- marks
 

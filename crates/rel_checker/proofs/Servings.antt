@@ -10,12 +10,12 @@ use Rattle.relationships.specs.declared.mark.Mark.{Mark}
 use Rattle.relationships.specs.declared.mark.Mark.TheVariants.{Forced, Open}
 use Rattle.result_text.specs.declared.file.EdgeLine.{EdgeLine}
 use Rattle.relationships.specs.Marking.{is_forced}
-use Rattle.rel_checker.specs.File.{claim_on}
+use Rattle.result_rules.specs.File.{claim_on}
 use Rattle.rel_checker.specs.Neighbours.{Reaches}
 use Rattle.rel_checker.specs.Searching.{IsVisited, IsSearched}
 use Rattle.rel_checker.specs.Flipping.{flipped_by, flipped, flipped_orders, FlipsTo, IsBuilt, IsProper, IsSettled}
 use Rattle.rel_checker.specs.Serving.{is_wanted, IsWantedAt, Gains, IsCovered}
-use Rattle.rel_checker.proofs.Gets.{get_from_Contains, Contains-from_get, slice_get-map, slice_get-unmap}
+use Rattle.result_rules.proofs.Gets.{get_from_Contains, Contains-from_get, slice_get-map, slice_get-unmap}
 use Rattle.rel_checker.proofs.Flippings.{reaches_exactly, none_flips}
 
 -- ---- any of a list

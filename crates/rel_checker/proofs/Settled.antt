@@ -27,11 +27,11 @@ use Rattle.result_text.specs.declared.file.PathLine.{PathLine}
 use Rattle.result_text.specs.declared.file.EdgeLine.{EdgeLine}
 use Rattle.result_text.specs.declared.file.ResultFile.{ResultFile}
 use Rattle.relationships.specs.Fates.{walk_of}
-use Rattle.rel_checker.specs.File.{its_paths, its_edges, its_labels, claim_on}
-use Rattle.rel_checker.specs.declared.rule.Rule.TheVariants.{PathsCleaned, EdgesListed, KeptValleyFree}
-use Rattle.rel_checker.specs.Rules.{IsMet}
+use Rattle.result_rules.specs.File.{its_paths, its_edges, its_labels, claim_on}
+use Rattle.result_rules.specs.declared.rule.Rule.TheVariants.{PathsCleaned, EdgesListed, KeptValleyFree}
+use Rattle.result_rules.specs.Rules.{IsMet}
 use Rattle.rel_checker.specs.Flipping.{flipped_by, flipped, flipped_orders, edges_of, FlipsTo, kept_lines, IsListed, IsBuilt, IsSettled, AreApart}
-use Rattle.rel_checker.proofs.Gets.{slice_get-lt, slice_get-some, slice_get-map, slice_get-unmap, All-get, Contains-from_get, get_from_Contains}
+use Rattle.result_rules.proofs.Gets.{slice_get-lt, slice_get-some, slice_get-map, slice_get-unmap, All-get, Contains-from_get, get_from_Contains}
 use Rattle.rel_checker.specs.Serving.{IsLaidOut}
 use Rattle.relationships.specs.Checking.{Claim}
 use Rattle.rel_checker.proofs.OrderPlaces.{pair, proper, flips_of, edge_of-swap}

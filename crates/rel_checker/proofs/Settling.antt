@@ -2,13 +2,14 @@
 use Rattle.std.proofs.Common.{◌≡◌, ℕ, ◌+◌, ◌≤◌, ◌∙◌, refl, sym, ap, subst, arith, Option, Some, None, inl, inr, ◌==◌, if◌then◌else◌}
 use Rattle.std.proofs.lemmas.Bool.{cases_order}
 use Rattle.result_text.specs.declared.file.ResultFile.{ResultFile}
-use Rattle.rel_checker.specs.declared.rule.Rule.{Rule}
-use Rattle.rel_checker.specs.declared.rule.Rule.TheVariants.{RatioBounded, PathsCleaned, PathsDistinct, LostRefuted, EdgesListed, KeptValleyFree, SupportCounted, OrdersShown, MarksBorneOut, TotalsRight}
-use Rattle.rel_checker.specs.Rules.{number_of, line_for, IsMet, Accepts, BreaksFirst, IsRefused}
+use Rattle.result_rules.specs.declared.rule.Rule.{Rule}
+use Rattle.result_rules.specs.declared.rule.Rule.TheVariants.{RatioBounded, PathsCleaned, PathsDistinct, LostRefuted, EdgesListed, KeptValleyFree, SupportCounted, OrdersShown, MarksBorneOut, TotalsRight}
+use Rattle.result_rules.specs.Rules.{number_of, line_for, IsMet, Accepts, BreaksFirst, IsRefused}
 use Rattle.rel_checker.specs.Steps.{MetUpTo}
-use Rattle.rel_checker.specs.Verdict.{Judges, Finds}
-use Rattle.rel_checker.specs.declared.answer.Answer.{Answer}
-use Rattle.rel_checker.specs.declared.answer.Answer.TheVariants.{No}
+use Rattle.result_rules.specs.Judging.{Judges}
+use Rattle.rel_checker.specs.Steps.{Finds}
+use Rattle.result_rules.specs.declared.verdict.Verdict.{Verdict}
+use Rattle.result_rules.specs.declared.verdict.Verdict.TheVariants.{No}
 
 abbrev rule_of : ℕ → Rule
 rule_of n =
@@ -68,9 +69,9 @@ module _ (file : ResultFile) where
     earlier = λ other lt. met other (omega (arith, at, lt));
   }
 
-  -- the answer that names a broken rule
-  pub judged : (answer : Answer) (line number : ℕ) → answer ≡ No line number → IsRefused file line number → Judges file answer
-  judged answer line number is r = subst (Judges file) (sym is) r
+  -- the verdict that names a broken rule
+  pub judged : (verdict : Verdict) (line number : ℕ) → verdict ≡ No line number → IsRefused file line number → Judges file verdict
+  judged verdict line number is r = subst (Judges file) (sym is) r
 
   -- what a search for a breach found
   pub found_none : (rule : Rule) (found : Option ℕ) → Finds file rule found → found ≡ None → IsMet file rule

@@ -6,10 +6,10 @@ use Rattle.std.proofs.lemmas.List.Elements.{Contains-push, Contains-push_cases, 
 use Rattle.relationships.specs.Graph.{Edge, edge_of}
 use Rattle.relationships.specs.declared.walk.Walk.{Walk}
 use Rattle.result_text.specs.declared.file.EdgeLine.{EdgeLine}
-use Rattle.rel_checker.specs.File.{last_two, shown_orders}
+use Rattle.result_rules.specs.File.{last_two, shown_orders}
 use Rattle.rel_checker.specs.Flipping.{edges_of, AreApart}
 use Rattle.rel_checker.specs.Serving.{IsShownBy}
-use Rattle.rel_checker.proofs.Gets.{slice_get-map, slice_get-set_cases, slice_get-set_other, slice_get-set_same, All-get, Contains-from_get}
+use Rattle.result_rules.proofs.Gets.{slice_get-map, slice_get-set_cases, slice_get-set_other, slice_get-set_same, All-get, Contains-from_get}
 use Rattle.rel_checker.proofs.OrderPlaces.{pair, edge_of-rising, edge_of-falling}
 
 -- the orders of an edge are two

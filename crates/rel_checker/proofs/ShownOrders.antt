@@ -6,11 +6,11 @@ use Rattle.std.proofs.lemmas.Option.{slice_get_within, get_or_from_slice_get}
 use Rattle.relationships.specs.declared.walk.Walk.{Walk}
 use Rattle.relationships.specs.Evidence.{Numbered, EndsWith, Shows}
 use Rattle.result_text.specs.declared.file.ResultFile.{ResultFile}
-use Rattle.rel_checker.specs.File.{last_two, shown_orders}
-use Rattle.rel_checker.specs.File.{kept_among}
-use Rattle.rel_checker.specs.declared.rule.Rule.TheVariants.{OrdersShown}
-use Rattle.rel_checker.specs.Rules.{Asks}
-use Rattle.rel_checker.proofs.WalkLaws.{last_two-from_ends}
+use Rattle.result_rules.specs.File.{last_two, shown_orders}
+use Rattle.result_rules.specs.File.{kept_among}
+use Rattle.result_rules.specs.declared.rule.Rule.TheVariants.{OrdersShown}
+use Rattle.result_rules.specs.Rules.{Asks}
+use Rattle.result_rules.proofs.WalkLaws.{last_two-from_ends}
 
 -- fewer than two
 pub last_two-few : (ases : List ℕ) → length ases < 2 → last_two ases ≡ []

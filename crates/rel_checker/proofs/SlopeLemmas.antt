@@ -10,7 +10,7 @@ use Rattle.relationships.specs.declared.fate.Fate.{Fate}
 use Rattle.relationships.specs.declared.fate.Fate.TheVariants.{Kept, Lost}
 use Rattle.relationships.specs.Fates.{is_kept}
 use Rattle.result_text.specs.declared.file.EdgeLine.{EdgeLine}
-use Rattle.rel_checker.specs.declared.step.Step.{Step}
+use Rattle.rel_checker.specs.declared.edges.step.Step.{Step}
 use Rattle.rel_checker.specs.Flipping.{edges_of, AreApart}
 use Rattle.rel_checker.specs.PathSteps.{place_in, rises_in, IsStepAlong, AreStepsFrom, AreSteps, step_slope, labels_on, slopes_by, is_up, is_down}
 use Rattle.rel_checker.specs.Tables.{labels_in}

@@ -3,9 +3,9 @@ use Rattle.std.proofs.Common.{◌≡◌, ℕ, ◌+◌, ◌<◌, ◌≤◌, ◌^�
 use Rattle.path_clean.specs.Paths.{is_cleaned}
 use Rattle.result_text.specs.declared.file.PathLine.{PathLine}
 use Rattle.result_text.specs.declared.file.ResultFile.{ResultFile}
-use Rattle.rel_checker.specs.File.{its_paths}
-use Rattle.rel_checker.specs.declared.rule.Rule.TheVariants.{PathsCleaned}
-use Rattle.rel_checker.specs.Rules.{Asks, IsSound, BreaksFirst}
+use Rattle.result_rules.specs.File.{its_paths}
+use Rattle.result_rules.specs.declared.rule.Rule.TheVariants.{PathsCleaned}
+use Rattle.result_rules.specs.Rules.{Asks, IsSound, BreaksFirst}
 use Rattle.rel_checker.proofs.Lines.{IsLine, before-more, at-place, numbers-more}
 use Rattle.std.proofs.lemmas.Option.{slice_get_read}
 

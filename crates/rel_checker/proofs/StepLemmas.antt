@@ -9,12 +9,12 @@ use Rattle.relationships.specs.Graph.{Edge, is_same, edge_of, edges_from, edges_
 use Rattle.result_text.specs.declared.file.EdgeLine.{EdgeLine}
 use Rattle.result_text.specs.declared.file.PathLine.{PathLine}
 use Rattle.result_text.specs.declared.file.ResultFile.{ResultFile}
-use Rattle.rel_checker.specs.declared.step.Step.{Step}
-use Rattle.rel_checker.specs.File.{its_paths}
+use Rattle.rel_checker.specs.declared.edges.step.Step.{Step}
+use Rattle.result_rules.specs.File.{its_paths}
 use Rattle.rel_checker.specs.Flipping.{edges_of}
 use Rattle.rel_checker.specs.PathSteps.{place_in, IsStepAlong, AreStepsFrom, AreSteps, HaveSteps}
 use Rattle.rel_checker.specs.Tables.{with_edge}
-use Rattle.rel_checker.proofs.Gets.{slice_get-push_old, slice_get-map}
+use Rattle.result_rules.proofs.Gets.{slice_get-push_old, slice_get-map}
 
 -- ---- more edges
 

@@ -11,7 +11,7 @@ use Rattle.tor_arena.specs.Distinct.{is_distinct}
 use Rattle.result_text.specs.declared.file.PathLine.{PathLine}
 use Rattle.relationships.specs.Fates.{is_kept}
 use Rattle.result_text.specs.declared.file.EdgeLine.{EdgeLine}
-use Rattle.rel_checker.specs.declared.step.Step.{Step}
+use Rattle.rel_checker.specs.declared.edges.step.Step.{Step}
 use Rattle.rel_checker.specs.Flipping.{edges_of, AreApart}
 use Rattle.rel_checker.specs.PathSteps.{place_in, AreStepsFrom, AreSteps}
 use Rattle.rel_checker.specs.Tables.{edge_at, HaveRisen, AreCounts, kept_in}

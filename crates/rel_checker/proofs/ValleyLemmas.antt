@@ -12,10 +12,10 @@ use Rattle.result_text.specs.declared.file.EdgeLine.{EdgeLine}
 use Rattle.relationships.specs.declared.fate.Fate.TheVariants.{Kept}
 use Rattle.result_text.specs.declared.file.PathLine.{PathLine}
 use Rattle.result_text.specs.declared.file.ResultFile.{ResultFile}
-use Rattle.rel_checker.specs.File.{claim_on}
-use Rattle.rel_checker.specs.declared.rule.Rule.TheVariants.{KeptValleyFree}
+use Rattle.result_rules.specs.File.{claim_on}
+use Rattle.result_rules.specs.declared.rule.Rule.TheVariants.{KeptValleyFree}
 use Rattle.rel_checker.specs.Flipping.{AreApart}
-use Rattle.rel_checker.specs.Rules.{Asks, IsServed, BreaksFirst}
+use Rattle.result_rules.specs.Rules.{Asks, IsServed, BreaksFirst}
 use Rattle.rel_checker.specs.Tables.{edge_at, labels_in}
 use Rattle.rel_checker.proofs.Lines.{IsLine, before-more, at-place}
 use Rattle.rel_checker.proofs.EdgeTables.{is_same-self}

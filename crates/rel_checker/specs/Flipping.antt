@@ -10,8 +10,8 @@ use Rattle.relationships.specs.declared.fate.Fate.{Fate}
 use Rattle.relationships.specs.declared.fate.Fate.TheVariants.{Kept, Lost}
 use Rattle.result_text.specs.declared.file.EdgeLine.{EdgeLine}
 use Rattle.result_text.specs.declared.file.PathLine.{PathLine}
-use Rattle.rel_checker.specs.File.{kept_among}
-use Rattle.rel_checker.specs.declared.step.Step.{Step}
+use Rattle.result_rules.specs.File.{kept_among}
+use Rattle.rel_checker.specs.declared.edges.step.Step.{Step}
 use Rattle.rel_checker.specs.Neighbours.{HasNext, with_next}
 use Rattle.rel_checker.specs.PathSteps.{place_in, rises_in, labels_on}
 

@@ -3,7 +3,7 @@ use Rattle.std.specs.Prelude.{ℕ, ◌+◌, List, [], ◌∷◌, ◌++◌, lengt
 use Rattle.relationships.specs.Fates.{is_kept}
 use Rattle.relationships.specs.Evidence.{Numbered}
 use Rattle.result_text.specs.declared.file.PathLine.{PathLine}
-use Rattle.rel_checker.specs.File.{kept_among}
+use Rattle.result_rules.specs.File.{kept_among}
 
 -- the paths of the kept lines among these, and that of the line behind them, if there is one, each with its number
 abbrev pub nameable : List PathLine → Option PathLine → Numbered

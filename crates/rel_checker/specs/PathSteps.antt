@@ -4,7 +4,7 @@ use Rattle.relationships.specs.declared.label.Label.{Label}
 use Rattle.relationships.specs.Relationship.{Slope, Up, Down, Flat}
 use Rattle.relationships.specs.Graph.{Edge, edge_of}
 use Rattle.result_text.specs.declared.file.EdgeLine.{EdgeLine}
-use Rattle.rel_checker.specs.declared.step.Step.{Step}
+use Rattle.rel_checker.specs.declared.edges.step.Step.{Step}
 
 -- ---- steps
 

@@ -10,9 +10,9 @@ use Rattle.relationships.specs.declared.mark.Mark.{Mark}
 use Rattle.relationships.specs.declared.mark.Mark.TheVariants.{Forced, Open}
 use Rattle.result_text.specs.declared.file.EdgeLine.{EdgeLine}
 use Rattle.result_text.specs.declared.file.ResultFile.{ResultFile}
-use Rattle.rel_checker.specs.File.{claim_on, its_claims, its_probes}
+use Rattle.result_rules.specs.File.{claim_on, its_claims, its_probes}
 use Rattle.rel_checker.specs.Searching.{IsVisited}
-use Rattle.rel_checker.specs.Rules.{ForSome, IsServing, IsMarkedRightly}
+use Rattle.result_rules.specs.Rules.{ForSome, IsServing, IsMarkedRightly}
 use Rattle.rel_checker.specs.Flipping.{FlipsTo, IsFlipped, edges_of, flipped_orders, kept_lines, IsBuiltFor, IsProper, IsSettled, AreApart}
 
 -- the edge is open, and no peering

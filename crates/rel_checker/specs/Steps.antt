@@ -1,16 +1,26 @@
 -- How far a check has come.
-use Rattle.std.specs.Prelude.{ℕ, ◌≤◌, Option, Some, None}
+use Rattle.std.specs.Prelude.{◌≡◌, ℕ, ◌<◌, ◌≤◌, List, Option, Some, None, slice_get}
 use Rattle.result_text.specs.declared.file.ResultFile.{ResultFile}
-use Rattle.rel_checker.specs.declared.answer.Answer.{Answer}
-use Rattle.rel_checker.specs.declared.rule.Rule.{Rule}
-use Rattle.rel_checker.specs.Rules.{number_of, IsMet}
-use Rattle.rel_checker.specs.Verdict.{Judges}
+use Rattle.result_rules.specs.declared.verdict.Verdict.{Verdict}
+use Rattle.result_rules.specs.declared.rule.Rule.{Rule}
+use Rattle.result_rules.specs.Rules.{number_of, IsMet, BreaksFirst}
+use Rattle.result_rules.specs.Judging.{Judges}
 
 -- the rules up to this number are met
 abbrev pub MetUpTo : ResultFile → ℕ → Type 0
 MetUpTo file n = (rule : Rule) → number_of rule ≤ n → IsMet file rule
 
--- the answer is found, or the rules up to this number are met
-abbrev pub Settles : ResultFile → ℕ → Option Answer → Type 0
+-- the verdict is found, or the rules up to this number are met
+abbrev pub Settles : ResultFile → ℕ → Option Verdict → Type 0
 Settles file n None = MetUpTo file n
-Settles file n (Some answer) = Judges file answer
+Settles file n (Some verdict) = Judges file verdict
+
+-- the place of the first line that breaks the rule, or none where it is met
+abbrev pub Finds : ResultFile → Rule → Option ℕ → Type 0
+Finds file rule None = IsMet file rule
+Finds file rule (Some k) = BreaksFirst file rule k
+
+-- the two lists differ first in this place
+pub record Differs {X : Type 0} (xs ys : List X) (k : ℕ) : Type 0 where
+  pub breach : slice_get xs k ≡ slice_get ys k → ⊥
+  pub before : (j : ℕ) → j < k → slice_get xs j ≡ slice_get ys j

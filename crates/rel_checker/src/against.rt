@@ -1,40 +1,45 @@
 ghost use Rattle.std.specs.Prelude.{◌≡◌, ◌+◌, ◌<◌, ◌≤◌, ◌^◌, ◌↔◌, IsTrue, length, slice_get, MatchOption};
-ghost use Rattle.rel_checker.specs.Against.{in_order, its_rows, JudgesAgainst, Differs};
+ghost use Rattle.result_rules.specs.Against.{in_order, its_rows, JudgesAgainst};
+ghost use Rattle.rel_checker.specs.Steps.{Differs};
 
-use crate::answer::Answer;
 use crate::lending::path_line_at;
+use crate::line_numbers::path_line;
 use path_clean::{Asides, Cause, PathTable};
+use result_rules::Verdict;
 use result_text::ResultFile;
 use tor_arena::{Index, PathId};
 
 /// The number of the rule that a result agrees with the dumps.
 const AGREES: u8 = 11;
 
+/// The line of the first count.
+const FIRST_COUNT: u64 = 4;
+
 /// Whether the result's counts, and its paths in order with their times, are those of the table and the counts. No names the first
 /// line that differs: one of lines 4 to 10, or a path line, or where a path is absent the line behind the last path line. The file
 /// may have at most 2^40 path lines. It takes no memory.
-pub fn check_against(file: &ResultFile, table: &PathTable, asides: &Asides) -> Answer
+pub fn check_against(file: &ResultFile, table: &PathTable, asides: &Asides) -> Verdict
     requires lines { length file.now.paths ≤ 2 ^ 40 }
     ensures verdict { JudgesAgainst file.now table.now.rows asides.now result }
 {
     if let Some(place) = differing_count(&file.asides, asides) {
-        return Answer::No {
-            line: 4 + place as u64,
+        return Verdict::No {
+            line: FIRST_COUNT + place as u64,
             rule: AGREES,
         };
     }
     match differing_path(file, table) {
-        Some(place) => Answer::No {
-            line: 11 + place as u64,
+        Some(place) => Verdict::No {
+            line: path_line(file, place),
             rule: AGREES,
         },
-        None => Answer::Yes,
+        None => Verdict::Yes,
     }
 }
 
 /// The place of the first count that differs, in the order of the lines.
 fn differing_count(said: &Asides, seen: &Asides) -> Option<usize>
-    ensures { MatchOption result (said.now ≡ seen.now) (λ k. Differs (in_order said.now) (in_order seen.now) k) }
+    ensures { MatchOption result (said.now ≡ seen.now) (λ k. (k < 7) × Differs (in_order said.now) (in_order seen.now) k) }
 {
     if said.get(Cause::NoPath) != seen.get(Cause::NoPath) {
         Some(0)

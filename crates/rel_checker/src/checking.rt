@@ -1,23 +1,21 @@
 ghost use Rattle.std.specs.Prelude.{◌≡◌, Some, IfOk};
 ghost use Rattle.relationships.specs.Graph.{edges};
-ghost use Rattle.rel_checker.specs.File.{its_paths, HasFewLines};
+ghost use Rattle.result_rules.specs.File.{its_paths, HasFewLines};
 ghost use Rattle.rel_checker.specs.PathSteps.{HaveSteps};
-ghost use Rattle.rel_checker.specs.Rules.{number_of};
+ghost use Rattle.result_rules.specs.Rules.{number_of};
 ghost use Rattle.rel_checker.specs.Steps.{MetUpTo, Settles};
-ghost use Rattle.rel_checker.specs.Valid.{Valid};
-ghost use Rattle.rel_checker.specs.Verdict.{Judges};
+ghost use Rattle.result_rules.specs.Valid.{Valid};
+ghost use Rattle.result_rules.specs.Judging.{Judges};
 
-use crate::answer::Answer;
-use crate::edge_rules::{find_miscounted, find_unlisted, find_valley, list_edges};
-use crate::edge_table::EdgeTable;
-use crate::labels::Labels;
+use crate::edges::edge_rules::{find_miscounted, find_unlisted, find_valley, list_edges};
+use crate::edges::edge_table::EdgeTable;
+use crate::edges::labels::Labels;
+use crate::edges::step::Step;
 use crate::line_numbers::{edge_line, last_line, mark_line, path_line, why_line};
-use crate::mark_rules::find_unmarked;
-use crate::path_rules::{find_repeated, find_unclean};
-use crate::rule::Rule;
-use crate::step::Step;
-use crate::totals::right_totals;
-use crate::walk_rules::{find_unrefuted, find_unshown};
+use crate::marks::mark_rules::find_unmarked;
+use crate::paths::{find_repeated, find_unclean};
+use crate::walks::walk_rules::{find_unrefuted, find_unshown};
+use result_rules::{Rule, Verdict, right_totals};
 use result_text::ResultFile;
 use std::alloc::Global;
 use tor_arena::{Keys, NoMemory, PathId, Rows};
@@ -28,28 +26,28 @@ const MAX_RATIO: u32 = 1_000_000;
 /// Whether the file meets the rules on a result alone: the ratio, clean and distinct paths, walks that refute each lost path, the
 /// edges, valley-free kept paths, supports, why lines, marks and totals. Yes exactly if all are met, and the file is then valid. No
 /// names the least rule that is broken, 1 to 10, and its first line, from 1. The file may have at most 2^40 lines besides its first
-/// ten and its last. The keys are those of its hash tables, and the answer doesn't depend on them. NoMemory where memory ran out.
-pub fn check_file(alloc: Global, keys: Keys, file: &ResultFile) -> Result<Answer, NoMemory>
+/// ten and its last. The keys are those of its hash tables, and the verdict doesn't depend on them. NoMemory where memory ran out.
+pub fn check_file(alloc: Global, keys: Keys, file: &ResultFile) -> Result<Verdict, NoMemory>
     requires lines { HasFewLines file.now }
     ensures verdict { IfOk result (Judges file.now) }
-    ensures valid { result ≡ Ok Answer.Yes → Valid file.now }
+    ensures valid { result ≡ Ok Verdict.Yes → Valid file.now }
 {
-    if let Some(answer) = check_paths(alloc, keys, file)? {
-        return Ok(answer);
+    if let Some(verdict) = check_paths(alloc, keys, file)? {
+        return Ok(verdict);
     }
     let (table, steps) = list_edges(alloc, keys, file)?;
     let labels = Labels::new(alloc, file.edges.as_slice())?;
-    if let Some(answer) = check_edges(alloc, file, &table, &labels, &steps)? {
-        return Ok(answer);
+    if let Some(verdict) = check_edges(alloc, file, &table, &labels, &steps)? {
+        return Ok(verdict);
     }
-    if let Some(answer) = check_evidence(alloc, keys, file, &table, &labels, &steps)? {
-        return Ok(answer);
+    if let Some(verdict) = check_evidence(alloc, keys, file, &table, &labels, &steps)? {
+        return Ok(verdict);
     }
     Ok(check_totals(file))
 }
 
 /// The rules on the head and on the paths.
-fn check_paths(alloc: Global, keys: Keys, file: &ResultFile) -> Result<Option<Answer>, NoMemory>
+fn check_paths(alloc: Global, keys: Keys, file: &ResultFile) -> Result<Option<Verdict>, NoMemory>
     requires lines { HasFewLines file.now }
     ensures { IfOk result (Settles file.now 4) }
 {
@@ -57,13 +55,13 @@ fn check_paths(alloc: Global, keys: Keys, file: &ResultFile) -> Result<Option<An
         return Ok(Some(no(3, Rule::RatioBounded)));
     }
     if let Some(place) = find_unclean(alloc, file)? {
-        return Ok(Some(no(path_line(place), Rule::PathsCleaned)));
+        return Ok(Some(no(path_line(file, place), Rule::PathsCleaned)));
     }
     if let Some(place) = find_repeated(alloc, keys, file)? {
-        return Ok(Some(no(path_line(place), Rule::PathsDistinct)));
+        return Ok(Some(no(path_line(file, place), Rule::PathsDistinct)));
     }
     match find_unrefuted(file) {
-        Some(place) => Ok(Some(no(path_line(place), Rule::LostRefuted))),
+        Some(place) => Ok(Some(no(path_line(file, place), Rule::LostRefuted))),
         None => Ok(None),
     }
 }
@@ -75,7 +73,7 @@ fn check_edges(
     table: &EdgeTable,
     labels: &Labels<'_>,
     steps: &Rows<PathId, Step>,
-) -> Result<Option<Answer>, NoMemory>
+) -> Result<Option<Verdict>, NoMemory>
     requires lines { HasFewLines file.now }
     requires met { MetUpTo file.now 4 }
     requires table { table.now ≡ edges (its_paths file.now) }
@@ -87,7 +85,7 @@ fn check_edges(
         return Ok(Some(no(edge_line(file, place), Rule::EdgesListed)));
     }
     if let Some(place) = find_valley(file, labels, steps) {
-        return Ok(Some(no(path_line(place), Rule::KeptValleyFree)));
+        return Ok(Some(no(path_line(file, place), Rule::KeptValleyFree)));
     }
     match find_miscounted(alloc, file, steps)? {
         Some(place) => Ok(Some(no(edge_line(file, place), Rule::SupportCounted))),
@@ -103,7 +101,7 @@ fn check_evidence(
     table: &EdgeTable,
     labels: &Labels<'_>,
     steps: &Rows<PathId, Step>,
-) -> Result<Option<Answer>, NoMemory>
+) -> Result<Option<Verdict>, NoMemory>
     requires lines { HasFewLines file.now }
     requires met { MetUpTo file.now 7 }
     requires table { table.now ≡ edges (its_paths file.now) }
@@ -121,23 +119,23 @@ fn check_evidence(
 }
 
 /// The rule on the last line.
-fn check_totals(file: &ResultFile) -> Answer
+fn check_totals(file: &ResultFile) -> Verdict
     requires lines { HasFewLines file.now }
     requires met { MetUpTo file.now 9 }
     ensures { Judges file.now result }
 {
     if file.totals == right_totals(file) {
-        Answer::Yes
+        Verdict::Yes
     } else {
         no(last_line(file), Rule::TotalsRight)
     }
 }
 
-/// The answer that a line breaks a rule.
-fn no(line: u64, rule: Rule) -> Answer
-    ensures { result ≡ Answer.No line (number_of rule) }
+/// The verdict that a line breaks a rule.
+fn no(line: u64, rule: Rule) -> Verdict
+    ensures { result ≡ Verdict.No line (number_of rule) }
 {
-    Answer::No {
+    Verdict::No {
         line,
         rule: rule.number(),
     }

@@ -2,7 +2,7 @@
 
 ghost use Rattle.std.specs.Prelude.{◌≡◌, ◌<◌, Some, length, slice_get};
 
-use crate::step::Step;
+use crate::edges::step::Step;
 use relationships::{WalkRef, Walks};
 use result_text::{PathLineRef, PathLines};
 use tor_arena::{Index, PathId, Rows, WalkId};

@@ -1,17 +1,17 @@
 //! The numbers of lines, from 1, of what stands in a place, from 0.
 
 ghost use Rattle.std.specs.Prelude.{◌≡◌, ◌+◌, ◌-◌, ◌<◌, ◌≤◌, ◌^◌, length};
-ghost use Rattle.rel_checker.specs.File as said;
-ghost use Rattle.rel_checker.specs.File.{HasFewLines};
-ghost use Rattle.rel_checker.specs.declared.rule.Rule.TheVariants.{MarksBorneOut};
-ghost use Rattle.rel_checker.specs.Rules.{line_for};
+ghost use Rattle.result_rules.specs.File as said;
+ghost use Rattle.result_rules.specs.File.{HasFewLines};
+ghost use Rattle.result_rules.specs.declared.rule.Rule.TheVariants.{MarksBorneOut};
+ghost use Rattle.result_rules.specs.Rules.{line_for};
 
 use result_text::ResultFile;
 
-/// Ten lines stand before the paths.
-pub(crate) fn path_line(place: usize) -> u64
+/// Ten lines stand before the paths of every file.
+pub(crate) fn path_line(_file: &ResultFile, place: usize) -> u64
     requires { place ≤ 2 ^ 41 }
-    ensures { result ≡ said.path_line place }
+    ensures { result ≡ said.path_line _file.now place }
 {
     11 + place as u64
 }
@@ -21,7 +21,7 @@ pub(crate) fn edge_line(file: &ResultFile, place: usize) -> u64
     requires { length file.now.paths + place ≤ 2 ^ 41 }
     ensures { result ≡ said.edge_line file.now place }
 {
-    path_line(file.paths.len()) + place as u64
+    path_line(file, file.paths.len()) + place as u64
 }
 
 /// Behind the edges stand the why lines.

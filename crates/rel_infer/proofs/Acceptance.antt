@@ -20,13 +20,13 @@ use Rattle.path_clean.specs.Paths.{is_cleaned}
 use Rattle.path_clean.specs.Rows.{Counted, none_twice}
 use Rattle.result_text.specs.declared.file.PathLine.{PathLine}
 use Rattle.result_text.specs.declared.file.ResultFile.{ResultFile}
-use Rattle.rel_checker.specs.File.{its_paths, its_walks, its_kept, its_claims, its_labels, its_probes, last_two, shown_orders}
-use Rattle.rel_checker.specs.declared.rule.Rule.{Rule}
-use Rattle.rel_checker.specs.declared.rule.Rule.TheVariants.{RatioBounded, PathsCleaned, PathsDistinct, LostRefuted, EdgesListed}
-use Rattle.rel_checker.specs.declared.rule.Rule.TheVariants.{KeptValleyFree, SupportCounted, OrdersShown, MarksBorneOut, TotalsRight}
-use Rattle.rel_checker.specs.Rules.{Asks, Accepts, IsSound, IsCounted}
-use Rattle.rel_checker.proofs.Gets.{slice_get-map, slice_get-lt, All-get}
-use Rattle.rel_checker.proofs.WalkLaws.{kept_lines, paths_in, walks_in, last_two-from_ends}
+use Rattle.result_rules.specs.File.{its_paths, its_walks, its_kept, its_claims, its_labels, its_probes, last_two, shown_orders}
+use Rattle.result_rules.specs.declared.rule.Rule.{Rule}
+use Rattle.result_rules.specs.declared.rule.Rule.TheVariants.{RatioBounded, PathsCleaned, PathsDistinct, LostRefuted, EdgesListed}
+use Rattle.result_rules.specs.declared.rule.Rule.TheVariants.{KeptValleyFree, SupportCounted, OrdersShown, MarksBorneOut, TotalsRight}
+use Rattle.result_rules.specs.Rules.{Asks, Accepts, IsSound, IsCounted}
+use Rattle.result_rules.proofs.Gets.{slice_get-map, slice_get-lt, All-get}
+use Rattle.result_rules.proofs.WalkLaws.{kept_lines, paths_in, walks_in, last_two-from_ends}
 use Rattle.rel_infer.specs.Results.{IsResultOf}
 
 -- ---- lists

@@ -8,8 +8,8 @@ use Rattle.relationships.specs.Graph.{Edge, labelling}
 use Rattle.relationships.specs.Checking.{Claim, claimed_labels}
 use Rattle.relationships.specs.Marking.{claims_of}
 use Rattle.result_text.specs.declared.file.EdgeLine.{EdgeLine}
-use Rattle.rel_checker.specs.File.{claim_on}
-use Rattle.rel_checker.proofs.Gets.{take_get}
+use Rattle.result_rules.specs.File.{claim_on}
+use Rattle.result_rules.proofs.Gets.{take_get}
 use Rattle.rel_infer.specs.EdgeLines.{AreLinesOf}
 
 abbrev pub pair_of : EdgeLine → Edge

@@ -22,11 +22,12 @@ use Rattle.result_text.specs.declared.file.PathLine.{PathLine}
 use Rattle.result_text.specs.declared.file.ResultFile.{ResultFile}
 use Rattle.result_text.specs.declared.file.Totals.{Totals}
 use Rattle.path_clean.specs.Rows.{paths_of as counted_paths}
-use Rattle.rel_checker.specs.File.{claim_on, its_paths, its_walks, its_probes}
-use Rattle.rel_checker.specs.Against.{row_of}
-use Rattle.rel_checker.specs.Rules.{right_totals, is_peer}
+use Rattle.result_rules.specs.File.{claim_on, its_paths, its_walks, its_probes}
+use Rattle.result_rules.specs.Against.{row_of}
+use Rattle.result_rules.specs.Rules.{right_totals}
+use Rattle.result_rules.specs.Totals.{is_peer}
 use Rattle.relationships.specs.Fates.{is_kept, walk_of}
-use Rattle.rel_infer.proofs.Assembling.{count-map}
+use Rattle.result_rules.proofs.Counting.{count-map}
 use Rattle.rel_infer.specs.Results.{AreLabels, IsInferred}
 use Rattle.rel_infer.specs.OneResult.{OneInferenceLaw, OneResultLaw}
 
@@ -326,13 +327,14 @@ abbrev flags_of : List PathLine → List Bool
 flags_of lines = map is_none (map (λ p. walk_of p.fate) lines)
 
 -- how many paths are kept, and how many are lost, is said by which are kept
-flag_count : (q : Bool → Bool) (lines : List PathLine) → count_by (λ p. q (is_kept p.fate)) lines ≡ count_by q (flags_of lines)
+flag_count : (q : Bool → Bool) (lines : List PathLine) → count_by (λ fate. q (is_kept fate)) (map (λ p. p.fate) lines) ≡ count_by q (flags_of lines)
 flag_count q lines =
+    sym (count-map (λ (p : PathLine). p.fate) (λ fate. q (is_kept fate)) lines) ∙
     count-map (λ (p : PathLine). walk_of p.fate) (λ (w : Option Walk). q (is_none w)) lines ∙ count-map (λ (w : Option Walk). is_none w) q (map (λ (p : PathLine). walk_of p.fate) lines)
 
 same_totals : (file file' : ResultFile) → flags_of file.paths ≡ flags_of file'.paths → file.edges ≡ file'.edges → right_totals file ≡ right_totals file'
 same_totals file file' flags es =
-    let same : (q : Bool → Bool) → count_by (λ p. q (is_kept p.fate)) file.paths ≡ count_by (λ p. q (is_kept p.fate)) file'.paths =
+    let same : (q : Bool → Bool) → count_by (λ fate. q (is_kept fate)) (map (λ (p : PathLine). p.fate) file.paths) ≡ count_by (λ fate. q (is_kept fate)) (map (λ (p : PathLine). p.fate) file'.paths) =
     λ q. flag_count q file.paths ∙ ap (count_by q) flags ∙ sym (flag_count q file'.paths) in
     let totals : ℕ → ℕ → List EdgeLine → Totals = λ k l lines. record {
       kept = k;
@@ -342,7 +344,7 @@ same_totals file file' flags es =
       peers = count_by (λ e. is_peer e.label) lines;
     } in
     ap₂ (λ k l. totals k l file.edges) (same (λ b. b)) (same not) ∙
-    ap (totals (count_by (λ p. is_kept p.fate) file'.paths) (count_by (λ p. not (is_kept p.fate)) file'.paths)) es
+    ap (totals (count_by is_kept (map (λ (p : PathLine). p.fate) file'.paths)) (count_by (λ fate. not (is_kept fate)) (map (λ (p : PathLine). p.fate) file'.paths))) es
 
 pub one_result_law : OneResultLaw
 one_result_law sets ratio rows counts file file' r r' =

@@ -10,7 +10,7 @@ use Rattle.relationships.specs.Marking.{orders_of}
 use Rattle.as_graph.specs.Paths.{paths_at}
 use Rattle.tor_clauses.specs.Formulas.{numbered}
 use Rattle.tor_clauses.proofs.Exacts.{numbered_paths}
-use Rattle.rel_checker.specs.File.{claim_on}
+use Rattle.result_rules.specs.File.{claim_on}
 use Rattle.peering.specs.Peerings.{ServeEitherWay, NoneLeftOut}
 use Rattle.rel_infer.specs.declared.finding.Found.{Found}
 use Rattle.rel_infer.specs.Finding.{AreFound}

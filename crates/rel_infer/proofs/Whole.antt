@@ -10,15 +10,15 @@ use Rattle.path_clean.specs.Rows.{Counted, paths_of, times_of, none_twice}
 use Rattle.result_text.specs.declared.file.PathLine.{PathLine}
 use Rattle.result_text.specs.declared.file.ResultFile.{ResultFile}
 use Rattle.result_text.specs.declared.file.Totals.{Totals}
-use Rattle.rel_checker.specs.File.{its_paths, its_walks, its_probes}
-use Rattle.rel_checker.specs.Rules.{Accepts}
+use Rattle.result_rules.specs.File.{its_paths, its_walks, its_probes}
+use Rattle.result_rules.specs.Rules.{Accepts}
 use Rattle.rel_infer.specs.declared.inferring.Inferred.{Inferred}
 use Rattle.rel_infer.specs.Inference.{AreInferred}
 use Rattle.rel_infer.specs.Peers.{PeerEitherWay, LeaveNoneOut}
 use Rattle.rel_infer.specs.Results.{IsResultOf, IsInferred}
-use Rattle.rel_infer.specs.Totals.{totals_by}
+use Rattle.result_rules.specs.Totals.{totals_by}
 use Rattle.rel_infer.proofs.Acceptance.{accepted}
-use Rattle.rel_infer.proofs.Assembling.{rows_same, walks_same, totals_same, totals_are}
+use Rattle.rel_infer.proofs.Assembling.{rows_same, walks_same}
 
 module _ (sets : Sets) (ratio : ℕ) (rows : List Counted) (counts : Counts) (paths : List (List ℕ)) (times : List ℕ) (i : Inferred) (lines : List PathLine) (totals : Totals)
     (its_rows : paths ≡ paths_of rows) (its_times : times ≡ times_of rows) (are : AreInferred ratio paths i) (counted : totals ≡ totals_by i.fates i.found.edges)
@@ -45,14 +45,13 @@ module _ (sets : Sets) (ratio : ℕ) (rows : List Counted) (counts : Counts) (pa
 
   pub whole : IsResultOf sets ratio rows counts file
   whole =
-      let both = totals_same lines i.fates i.found.edges line_fates in
       record {
         its_sets = refl;
         its_ratio = refl;
         its_counts = refl;
         paths = rows_same lines rows (line_paths ∙ its_rows) (line_times ∙ its_times);
         inferred = moved (λ ps ws. IsInferred ratio ps ws i.found.edges i.found.whys (its_probes file)) are.inferred;
-        totals = counted ∙ totals_are _ _ _ _ _ _ _ _ _ both.0 both.1 refl refl;
+        totals = counted ∙ ap (λ fates. totals_by fates i.found.edges) (sym line_fates);
       }
 
   pub whole_accepted : ratio ≤ 1000000 → IsTrue (list_all is_cleaned (paths_of rows)) → All (λ n. 1 ≤ n) (times_of rows) → IsTrue (none_twice (paths_of rows)) →

@@ -4,4 +4,3 @@ pub mod Inference
 pub mod OneResult
 pub mod Peers
 pub mod Results
-pub mod Totals

@@ -6,7 +6,7 @@ use Rattle.path_clean.specs.Rows.{Counted}
 use Rattle.relationships.specs.declared.walk.Walk.{Walk}
 use Rattle.result_text.specs.declared.file.EdgeLine.{EdgeLine}
 use Rattle.result_text.specs.declared.file.ResultFile.{ResultFile}
-use Rattle.rel_checker.specs.File.{its_walks}
+use Rattle.result_rules.specs.File.{its_walks}
 use Rattle.rel_infer.specs.Results.{IsInferred, IsResultOf}
 
 -- which paths are kept, and each edge's label, mark and support, are determined

@@ -6,7 +6,7 @@ use Rattle.relationships.specs.Evidence.{paths_of}
 use Rattle.relationships.specs.Checking.{kept_of, claimed_labels}
 use Rattle.peering.specs.Peerings.{ServeEitherWay, NoneLeftOut}
 use Rattle.result_text.specs.declared.file.EdgeLine.{EdgeLine}
-use Rattle.rel_checker.specs.File.{claim_on}
+use Rattle.result_rules.specs.File.{claim_on}
 
 -- the peerings may be read either way, all at once and in any choice: each orientation that has the providers of the other edges serves
 -- the kept paths

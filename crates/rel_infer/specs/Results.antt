@@ -15,9 +15,9 @@ use Rattle.relationships.specs.Checking.{LostAreRefuted, MarksHold, kept_of, cla
 use Rattle.relationships.specs.Marking.{is_forced}
 use Rattle.result_text.specs.declared.file.EdgeLine.{EdgeLine}
 use Rattle.result_text.specs.declared.file.ResultFile.{ResultFile}
-use Rattle.rel_checker.specs.File.{its_paths, its_walks, its_probes, claim_on}
-use Rattle.rel_checker.specs.Against.{its_rows}
-use Rattle.rel_checker.specs.Rules.{right_totals}
+use Rattle.result_rules.specs.File.{its_paths, its_walks, its_probes, claim_on}
+use Rattle.result_rules.specs.Against.{its_rows}
+use Rattle.result_rules.specs.Rules.{right_totals}
 
 -- the labels of the edges of these paths, some of which are kept: each edge has its preferred provider, and then, edge by edge,
 -- becomes a peering where it may

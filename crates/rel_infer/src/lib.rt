@@ -7,7 +7,6 @@ mod inferring;
 mod labelling;
 mod laws;
 mod result;
-mod totals;
 
 pub use laws::{one_inference_law, one_result_law};
 pub use result::result_of;

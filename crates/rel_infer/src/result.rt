@@ -1,12 +1,12 @@
 ghost use Rattle.std.specs.Prelude.{◌≤◌, IfOk};
-ghost use Rattle.rel_checker.specs.File.{its_paths, its_walks};
-ghost use Rattle.rel_checker.specs.Rules.{Accepts};
+ghost use Rattle.result_rules.specs.File.{its_paths, its_walks};
+ghost use Rattle.result_rules.specs.Rules.{Accepts};
 ghost use Rattle.rel_infer.specs.Results.{IsResultOf};
 ghost use Rattle.rel_infer.specs.Peers.{PeerEitherWay, LeaveNoneOut};
 
 use crate::inferring::inferred_from;
-use crate::totals::totals_of;
 use path_clean::{Asides, PathTable, Sets};
+use result_rules::totals_of;
 use result_text::{PathLines, ResultFile};
 use std::alloc::Global;
 use tor_arena::{Keys, NoMemory};

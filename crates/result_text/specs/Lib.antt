@@ -1,8 +1,9 @@
-pub mod Text
-pub mod Ranges
 pub mod Grammar
-pub mod Refusal
-pub mod Reading
-pub mod Order
 pub mod Numbering
+pub mod Order
 pub mod PathLines
+pub mod Ranges
+pub mod Reading
+pub mod Refusal
+pub mod RoundTrips
+pub mod Text

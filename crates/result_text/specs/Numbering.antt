@@ -20,8 +20,8 @@ ratio_line = 3
 abbrev pub aside_line : Cause → ℕ
 aside_line cause = 4 + cause_index cause
 
-abbrev pub path_line : ℕ → ℕ
-path_line number = 10 + number
+abbrev pub path_line : ResultFile → ℕ → ℕ
+path_line file number = 10 + number
 
 abbrev pub edge_line : ResultFile → ℕ → ℕ
 edge_line file number = 10 + length file.paths + number
@@ -48,7 +48,7 @@ StandOn {X} file line_for line_with xs =
 pub record IsNumbered (file : ResultFile) : Type 0 where
   pub ratio : IsLine file ratio_line (line.Ratio file.ratio)
   pub asides : (cause : Cause) → IsLine file (aside_line cause) (line.Aside cause (count_of cause file.asides))
-  pub paths : StandOn file path_line (λ (path : PathLine). line.Path path) file.paths
+  pub paths : StandOn file (path_line file) (λ (path : PathLine). line.Path path) file.paths
   pub edges : StandOn file (edge_line file) (λ (edge : EdgeLine). line.Edge edge) file.edges
   pub whys : StandOn file (why_line file) (λ (walk : Walk). line.Why walk) file.whys
   pub probes : StandOn file (probe_line file) (λ (probe : Probe). line.Probe probe) file.probes

@@ -1,17 +1,11 @@
-//! The laws: two that do nothing but imply their contracts, and the two round trips.
+//! Laws over the definitions in `specs/`, each as the contract of a function that does nothing.
 
-ghost use Rattle.std.specs.Prelude.{◌≡◌, IfOk};
+ghost use Rattle.std.specs.Prelude.{◌≡◌};
 ghost use Rattle.result_text.specs.declared.file.ResultFile.{ResultFile};
 ghost use Rattle.result_text.specs.Numbering.{IsNumbered, LinesAreOfText};
 ghost use Rattle.result_text.specs.Ranges.{IsInRange};
+ghost use Rattle.result_text.specs.RoundTrips.{ReadLaw, PrintedLaw, GoodLaw};
 ghost use Rattle.result_text.specs.Text.{text};
-
-use crate::error::ParseError;
-use crate::file::ResultFile;
-use crate::parsing::parse;
-use crate::printing::print;
-use std::alloc::Global;
-use tor_arena::{List, NoMemory};
 
 /// Each text has one value.
 pub fn one_value()
@@ -24,25 +18,9 @@ pub fn line_numbers()
     ensures text { (file : ResultFile) → IsInRange file → LinesAreOfText file }
 {}
 
-/// What is printed is read as the same result, unless memory runs out.
-pub fn parse_printed(alloc: Global, file: &ResultFile) -> Result<ResultFile, NoMemory>
-    ensures { IfOk result (λ again. again ≡ file.now) }
-{
-    let text = print(alloc, file)?;
-    match parse(alloc, text.as_slice()) {
-        Ok(again) => Ok(again),
-        Err(ParseError::NoMemory) => Err(NoMemory),
-        Err(ParseError::BadLine(_)) => unreachable!(),
-    }
-}
-
-/// What is read is printed as the same text.
-pub fn print_parsed(alloc: Global, bytes: &[u8]) -> Result<List<u8>, ParseError>
-    ensures { IfOk result (λ again. again ≡ bytes.now) }
-{
-    let file = parse(alloc, bytes)?;
-    match print(alloc, &file) {
-        Ok(again) => Ok(again),
-        Err(NoMemory) => Err(ParseError::NoMemory),
-    }
-}
+/// What is printed is read as the same result, what is read is printed as the same octets, and no text has a bad line.
+pub fn round_trip_law()
+    ensures read { ReadLaw }
+    ensures printed { PrintedLaw }
+    ensures good { GoodLaw }
+{}

@@ -16,7 +16,7 @@ mod reading;
 
 pub use error::ParseError;
 pub use file::{EdgeLine, PathLine, ResultFile, Totals};
-pub use laws::{line_numbers, one_value, parse_printed, print_parsed};
+pub use laws::{line_numbers, one_value, round_trip_law};
 pub use parsing::parse;
 pub use path_lines::{PathLineRef, PathLines};
 pub use printing::{print, put_asides};

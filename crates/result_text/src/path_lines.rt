@@ -108,6 +108,16 @@ impl PathLines {
         }
     }
 
+    /// The paths, the times and the fates of the lines, in order, each with what is said of it in the same place. It takes no memory,
+    /// and copies nothing.
+    pub fn into_parts(self) -> (Rows<PathId, u32>, List<u64>, Fates)
+        ensures paths { result.0 ≡ map (λ line. line.path) self }
+        ensures times { result.1 ≡ map (λ line. line.times) self }
+        ensures fates { result.2 ≡ map (λ line. line.fate) self }
+    {
+        (self.paths, List::from_vec(self.times), self.fates)
+    }
+
     /// How many lines there are, at most 2^28. It takes no memory.
     pub fn len(&self) -> usize
         ensures length { result ≡ length self.now }

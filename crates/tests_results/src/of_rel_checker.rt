@@ -1,5 +1,6 @@
 use path_clean::{Asides, PathTable, is_cleaned};
-use rel_checker::{Answer, check_against, check_file};
+use rel_checker::{check_against, check_file};
+use result_rules::Verdict;
 use result_text::{ResultFile, parse};
 use std::alloc::Global;
 use std::test::Fail;
@@ -14,8 +15,8 @@ const THREE_PATHS: &str =
         edge|20|30|high|open|1\nedge|10|60|low|open|0\nwhy|10 20 30 40 20 10|2:2 2:3 1:2 1:3\nwhy|20 10 50|1:4\n\
         why|10 50 60|1:5\nopen|20|30\nopen|60|10\nend|2|1|7|3|1\n";
 
-/// What is answered to a file of a few lines.
-fn answer_to_file(alloc: Global, keys: Keys, file: &ResultFile) -> Option<Answer> {
+/// The verdict on a file of a few lines.
+fn verdict_on_file(alloc: Global, keys: Keys, file: &ResultFile) -> Option<Verdict> {
     if file.paths.len() < 100
         && file.edges.len() < 100
         && file.whys.len() < 100
@@ -27,10 +28,10 @@ fn answer_to_file(alloc: Global, keys: Keys, file: &ResultFile) -> Option<Answer
     }
 }
 
-/// What is answered to a text of a few lines, if it is that of a result.
-fn answer_to(alloc: Global, keys: Keys, text: &str) -> Option<Answer> {
+/// The verdict on a text of a few lines, if it is that of a result.
+fn verdict_on(alloc: Global, keys: Keys, text: &str) -> Option<Verdict> {
     match parse(alloc, text.as_bytes()) {
-        Ok(file) => answer_to_file(alloc, keys, &file),
+        Ok(file) => verdict_on_file(alloc, keys, &file),
         Err(_) => None,
     }
 }
@@ -43,9 +44,9 @@ const THERE_AND_BACK: &str =
 
 #[test]
 fn right_files_are_valid(rt: HostRuntime) {
-    assert!(rt; answer_to(rt.alloc(), Keys::new(&rt), THREE_PATHS) == Some(Answer::Yes));
+    assert!(rt; verdict_on(rt.alloc(), Keys::new(&rt), THREE_PATHS) == Some(Verdict::Yes));
     // a triple counts once, either way round
-    assert!(rt; answer_to(rt.alloc(), Keys::new(&rt), THERE_AND_BACK) == Some(Answer::Yes));
+    assert!(rt; verdict_on(rt.alloc(), Keys::new(&rt), THERE_AND_BACK) == Some(Verdict::Yes));
 }
 
 const HEAD: &str =
@@ -83,25 +84,25 @@ const EDGES: &str =
 /// What ends a file whose totals nobody looks at.
 const END: &str = "end|0|0|0|0|0\n";
 
-/// The lines behind the first ten, in three pieces, and the answer.
-type Case = ([&'static str; 3], Answer);
+/// The lines behind the first ten, in three pieces, and the verdict.
+type Case = ([&'static str; 3], Verdict);
 
 static OPEN_LINES: [Case; 3] = [
-    ([EACH_FOR_ITSELF, "", ""], Answer::Yes),
-    ([SECOND_FAILS, "", ""], Answer::No { line: 22, rule: 9 }),
+    ([EACH_FOR_ITSELF, "", ""], Verdict::Yes),
+    ([SECOND_FAILS, "", ""], Verdict::No { line: 22, rule: 9 }),
     (
         [SECOND_AND_THIRD_FAIL, "", ""],
-        Answer::No { line: 30, rule: 9 },
+        Verdict::No { line: 30, rule: 9 },
     ),
 ];
 
 /// Files without edges, in which the fourth rule is broken, or first the fifth.
 static LOST_PATHS: [Case; 7] = [
-    ([PATHS, "", END], Answer::No { line: 14, rule: 5 }),
+    ([PATHS, "", END], Verdict::No { line: 14, rule: 5 }),
     // no path is lost
     (
         ["kept|1|10 20\nkept|1|20 10\n", "", END],
-        Answer::No { line: 13, rule: 5 },
+        Verdict::No { line: 13, rule: 5 },
     ),
     // a walk that does not come back
     (
@@ -110,12 +111,12 @@ static LOST_PATHS: [Case; 7] = [
             "lost|1|50 60 10 20|10 20 30 40 20 10 50 60 10|2:2 2:3 1:2 1:3 1:4 1:5 3:2\n",
             END,
         ],
-        Answer::No { line: 13, rule: 4 },
+        Verdict::No { line: 13, rule: 4 },
     ),
     // a walk that never turns
     (
         ["kept|1|30 40 20\n", "lost|1|10 20 30|10 20|\n", END],
-        Answer::No { line: 12, rule: 4 },
+        Verdict::No { line: 12, rule: 4 },
     ),
     // a link into a path that is kept later
     (
@@ -124,7 +125,7 @@ static LOST_PATHS: [Case; 7] = [
             "kept|1|10 20 30 40\n",
             END,
         ],
-        Answer::No { line: 12, rule: 4 },
+        Verdict::No { line: 12, rule: 4 },
     ),
     // a link to no path
     (
@@ -133,7 +134,7 @@ static LOST_PATHS: [Case; 7] = [
             "lost|1|50 60 10 20|10 20 30 40 20 10 50 60 10 20|2:2 2:3 4294967295:2 1:3 1:4 1:5 3:2 3:3\n",
             END,
         ],
-        Answer::No { line: 13, rule: 4 },
+        Verdict::No { line: 13, rule: 4 },
     ),
     // a link too few
     (
@@ -142,7 +143,7 @@ static LOST_PATHS: [Case; 7] = [
             "lost|1|50 60 10 20|10 20 30 40 20 10 50 60 10 20|2:2 2:3 1:2 1:3 1:4 1:5 3:2\n",
             END,
         ],
-        Answer::No { line: 13, rule: 4 },
+        Verdict::No { line: 13, rule: 4 },
     ),
 ];
 
@@ -154,12 +155,12 @@ static WHY_LINES: [Case; 5] = [
             EDGES,
             "why|10 20 30 40 20 10|2:2 2:3 1:2 1:3\nwhy|20 10 50|1:4\nwhy|10 50 60|1:5\nopen|20|30\nopen|60|10\nend|2|1|7|3|1\n",
         ],
-        Answer::Yes,
+        Verdict::Yes,
     ),
     // nothing is shown yet
     (
         [PATHS, EDGES, "why|20 10 50|1:4\nend|0|0|0|0|0\n"],
-        Answer::No { line: 21, rule: 8 },
+        Verdict::No { line: 21, rule: 8 },
     ),
     // an order is shown twice
     (
@@ -168,7 +169,7 @@ static WHY_LINES: [Case; 5] = [
             EDGES,
             "why|10 20 30 40 20 10|2:2 2:3 1:2 1:3\nwhy|20 10 50|1:4\nwhy|20 10 50|1:4\nend|0|0|0|0|0\n",
         ],
-        Answer::No { line: 23, rule: 8 },
+        Verdict::No { line: 23, rule: 8 },
     ),
     // a link into a lost path
     (
@@ -177,12 +178,12 @@ static WHY_LINES: [Case; 5] = [
             EDGES,
             "why|10 20 30 40 20 10|2:2 2:3 1:2 1:3\nwhy|20 10 50|1:4\nwhy|10 50 60|1:5\nwhy|50 60 10|3:2\nend|0|0|0|0|0\n",
         ],
-        Answer::No { line: 24, rule: 8 },
+        Verdict::No { line: 24, rule: 8 },
     ),
     // one AS twice is over itself once
     (
         [PATHS, EDGES, "why|5 5|\nwhy|5 5|\nend|0|0|0|0|0\n"],
-        Answer::No { line: 22, rule: 8 },
+        Verdict::No { line: 22, rule: 8 },
     ),
 ];
 
@@ -195,16 +196,16 @@ fn text_of(alloc: Global, pieces: &[&str; 3]) -> Result<String, Fail> {
     Ok(text)
 }
 
-/// Whether this is the answer to a case.
-fn is_answered(alloc: Global, keys: Keys, case: &Case) -> Result<bool, Fail> {
+/// Whether this is the verdict on a case.
+fn is_judged_so(alloc: Global, keys: Keys, case: &Case) -> Result<bool, Fail> {
     let text = text_of(alloc, &case.0)?;
-    Ok(answer_to(alloc, keys, text.as_str()) == Some(case.1))
+    Ok(verdict_on(alloc, keys, text.as_str()) == Some(case.1))
 }
 
-/// The first case of which the answer is another.
+/// The first case on which the verdict is another.
 fn first_other(alloc: Global, keys: Keys, cases: &[Case]) -> Result<Option<usize>, Fail> {
     for (place, case) in cases.iter().enumerate() {
-        if !is_answered(alloc, keys, case)? {
+        if !is_judged_so(alloc, keys, case)? {
             return Ok(Some(place));
         }
     }
@@ -271,7 +272,7 @@ fn with_line(alloc: Global, number: usize, line: &str) -> Result<String, Fail> {
 fn is_named(alloc: Global, keys: Keys, change: (usize, &str, u64, u8)) -> Result<bool, Fail> {
     let (number, text, line, rule) = change;
     let changed = with_line(alloc, number, text)?;
-    Ok(answer_to(alloc, keys, changed.as_str()) == Some(Answer::No { line, rule }))
+    Ok(verdict_on(alloc, keys, changed.as_str()) == Some(Verdict::No { line, rule }))
 }
 
 /// The first change of which another line or rule is named.
@@ -306,7 +307,7 @@ fn adds_each(table: &mut PathTable, paths: &[&[u32]]) -> bool {
     true
 }
 
-fn answer_beside_file(file: &ResultFile, table: &PathTable, asides: &Asides) -> Option<Answer> {
+fn verdict_beside_file(file: &ResultFile, table: &PathTable, asides: &Asides) -> Option<Verdict> {
     if file.paths.len() < 100 {
         Some(check_against(file, table, asides))
     } else {
@@ -314,45 +315,45 @@ fn answer_beside_file(file: &ResultFile, table: &PathTable, asides: &Asides) -> 
     }
 }
 
-fn answer_beside_table(alloc: Global, table: &PathTable, asides: &Asides) -> Option<Answer> {
+fn verdict_beside_table(alloc: Global, table: &PathTable, asides: &Asides) -> Option<Verdict> {
     match parse(alloc, THREE_PATHS.as_bytes()) {
-        Ok(file) => answer_beside_file(&file, table, asides),
+        Ok(file) => verdict_beside_file(&file, table, asides),
         Err(_) => None,
     }
 }
 
-/// What is answered to the three paths beside dumps that hold these paths and set so many loops aside.
-fn answer_beside(alloc: Global, keys: Keys, paths: &[&[u32]], loops: u64) -> Option<Answer> {
+/// The verdict on the three paths beside dumps that hold these paths and set so many loops aside.
+fn verdict_beside(alloc: Global, keys: Keys, paths: &[&[u32]], loops: u64) -> Option<Verdict> {
     let asides = Asides::from_counts([0, 0, 0, 0, 0, loops, 0]);
     let mut table = PathTable::new(alloc, keys, 10);
     if adds_each(&mut table, paths) {
-        answer_beside_table(alloc, &table, &asides)
+        verdict_beside_table(alloc, &table, &asides)
     } else {
         None
     }
 }
 
-/// The paths of dumps, how many loops they set aside, and the answer.
-static DUMPS: [(&'static [&'static [u32]], u64, Answer); 5] = [
-    (&[FIRST, SECOND, THIRD], 0, Answer::Yes),
-    (&[FIRST, SECOND], 0, Answer::No { line: 13, rule: 11 }),
+/// The paths of dumps, how many loops they set aside, and the verdict.
+static DUMPS: [(&'static [&'static [u32]], u64, Verdict); 5] = [
+    (&[FIRST, SECOND, THIRD], 0, Verdict::Yes),
+    (&[FIRST, SECOND], 0, Verdict::No { line: 13, rule: 11 }),
     (
         &[FIRST, SECOND, SECOND, THIRD],
         0,
-        Answer::No { line: 12, rule: 11 },
+        Verdict::No { line: 12, rule: 11 },
     ),
     (
         &[FIRST, SECOND, THIRD, &[10, 60]],
         0,
-        Answer::No { line: 14, rule: 11 },
+        Verdict::No { line: 14, rule: 11 },
     ),
-    (&[FIRST, SECOND], 1, Answer::No { line: 9, rule: 11 }),
+    (&[FIRST, SECOND], 1, Verdict::No { line: 9, rule: 11 }),
 ];
 
-/// The first dumps to which the answer is another.
+/// The first dumps beside which the verdict is another.
 fn first_other_dumps(alloc: Global, keys: Keys) -> Option<usize> {
-    for (place, (paths, loops, answer)) in DUMPS.iter().enumerate() {
-        if answer_beside(alloc, keys, paths, *loops) != Some(*answer) {
+    for (place, (paths, loops, verdict)) in DUMPS.iter().enumerate() {
+        if verdict_beside(alloc, keys, paths, *loops) != Some(*verdict) {
             return Some(place);
         }
     }

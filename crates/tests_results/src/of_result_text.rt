@@ -1,11 +1,9 @@
 use path_clean::{Asides, Sets};
 use relationships::{Fates, Label, Link, WalkRef, Walks};
 use result_text::{
-    EdgeLine, Mark, ParseError, PathLineRef, PathLines, Probe, ResultFile, Totals, parse,
-    parse_printed, print, print_parsed,
+    EdgeLine, Mark, ParseError, PathLineRef, PathLines, Probe, ResultFile, Totals, parse, print,
 };
 use std::alloc::Global;
-use std::test::Fail;
 use tor_arena::{Index, List, NoMemory, PathId, Rows, WalkId};
 
 /// A text in two pieces, and its bad line, if it has one.
@@ -479,19 +477,11 @@ fn add_three_paths(file: &mut ResultFile) -> Result<(), NoMemory> {
     add_whys(&mut file.whys)
 }
 
-/// Whether a result has the text of the three paths once it is printed, read and printed again.
-fn is_printed_again(alloc: Global, file: &ResultFile) -> bool {
-    match parse_printed(alloc, file) {
-        Ok(again) => is_printed(alloc, &again, THREE_PATHS.as_bytes()),
-        Err(NoMemory) => false,
-    }
-}
-
 /// Whether a result without lines is printed as it should be, and again, once the three paths are added.
 fn prints_three_paths(alloc: Global, file: &mut ResultFile) -> bool {
     add_three_paths(file).is_ok()
         && is_printed(alloc, file, THREE_PATHS.as_bytes())
-        && is_printed_again(alloc, file)
+        && is_read(alloc, THREE_PATHS.as_bytes(), None)
 }
 
 #[test]
@@ -587,6 +577,12 @@ fn adds_parts(rows: &mut Rows<PathId, u32>, times: &mut List<u64>, fates: &mut F
     true
 }
 
+/// Whether these lines come apart as two paths, with their times and fates.
+fn come_apart(lines: PathLines) -> bool {
+    let (rows, times, fates) = lines.into_parts();
+    rows.len() == 2 && times.as_slice() == &[7, 7] && fates.len() == 2
+}
+
 /// The lines of these parts, if there are as many of each.
 fn lines_of(rows: Rows<PathId, u32>, times: List<u64>, fates: Fates) -> Option<PathLines> {
     if times.len() == rows.len() && fates.len() == rows.len() {
@@ -604,12 +600,10 @@ fn lines_are_made_of_parts(rt: HostRuntime) {
     assert!(rt; adds_parts(&mut rows, &mut times, &mut fates));
     let lines = lines_of(rows, times, fates);
     let wanted: [Line; 2] = [(7, &[10, 20], None), (7, &[10, 20], None)];
-    assert!(rt; lines.is_some_and(|lines| are_lines(&lines, &wanted)));
+    assert!(rt; lines.is_some_and(|lines| are_lines(&lines, &wanted) && come_apart(lines)));
 }
 
 #[test]
-fn what_is_read_is_printed(rt: HostRuntime) -> Result<(), Fail> {
-    let again = print_parsed(rt.alloc(), THREE_PATHS.as_bytes())?;
-    assert_eq!(rt; again.as_slice(), THREE_PATHS.as_bytes());
-    Ok(())
+fn what_is_read_is_printed(rt: HostRuntime) {
+    assert!(rt; is_read(rt.alloc(), THREE_PATHS.as_bytes(), None));
 }

@@ -6,11 +6,11 @@ use Rattle.dump_read.specs.declared.taking.Taken.{Taken}
 use Rattle.dump_read.specs.Seen.{End}
 use Rattle.result_text.specs.declared.file.ResultFile.{ResultFile}
 use Rattle.result_text.specs.Grammar.{IsTextOf}
-use Rattle.rel_checker.specs.declared.answer.Answer.TheVariants.{Yes}
-use Rattle.rel_checker.specs.File.{its_paths, its_walks}
-use Rattle.rel_checker.specs.Rules.{Accepts}
-use Rattle.rel_checker.specs.Valid.{Valid}
-use Rattle.rel_checker.specs.Against.{JudgesAgainst}
+use Rattle.result_rules.specs.declared.verdict.Verdict.TheVariants.{Yes}
+use Rattle.result_rules.specs.File.{its_paths, its_walks}
+use Rattle.result_rules.specs.Rules.{Accepts}
+use Rattle.result_rules.specs.Valid.{Valid}
+use Rattle.result_rules.specs.Against.{JudgesAgainst}
 use Rattle.rel_infer.specs.Results.{IsResultOf}
 use Rattle.rel_infer.specs.Peers.{PeerEitherWay, LeaveNoneOut}
 use Rattle.tor_words.specs.declared.settings.Mode.{Mode}

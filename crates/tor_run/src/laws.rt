@@ -3,11 +3,15 @@
 ghost use Rattle.tor_run.specs.Agreement.{AgreementLaw, OneSummaryLaw};
 ghost use Rattle.tor_run.specs.SeenLaw.{DumpsLaw, SeenLaw, DumpsReadableLaw, ReadableLaw};
 
-/// What `torcheck` says of a result that `tor` has written: yes, alone and beside the same dumps, whatever limit on paths they were read
-/// under.
+use result_text::one_value;
+
+/// What `torcheck` says of a result that `tor` has written: yes and nothing else, alone and beside the same dumps, whatever limit on
+/// paths they were read under; and that it can judge each that isn't too long.
 pub fn agreement_law()
     ensures { AgreementLaw }
-{}
+{
+    one_value();
+}
 
 /// What `tor` sums up is determined: all results that are faithful to what dumps or a sample gave have the same summary.
 pub fn one_summary_law()

@@ -3,8 +3,8 @@ use Rattle.std.proofs.Common.{◌≡◌, ◌≢◌, ◌⊎◌, inl, inr, ℕ, Li
 use Rattle.std.specs.Prelude.{IsNone}
 use Rattle.tor_io.specs.Counts.{Rose, IsQuiet}
 use Rattle.tor_io.specs.Contents.{Files}
-use Rattle.rel_checker.specs.declared.answer.Answer.{Answer as Verdict}
-use Rattle.rel_checker.specs.declared.answer.Answer.TheVariants.{Yes, No}
+use Rattle.result_rules.specs.declared.verdict.Verdict.{Verdict}
+use Rattle.result_rules.specs.declared.verdict.Verdict.TheVariants.{Yes, No}
 use Rattle.dump_read.specs.Seen.{Absent, Malformed, Limit}
 use Rattle.tor_words.specs.CheckGiven.{check_settings_given}
 use Rattle.run_base.specs.declared.status.Status.{Status}

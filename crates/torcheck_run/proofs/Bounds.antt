@@ -15,8 +15,8 @@ use Rattle.run_base.specs.Notes.{read_fault_note}
 use Rattle.run_base.specs.Answers.{Says, IsNoMemory}
 use Rattle.torcheck_run.specs.Judging.{TooLong, LeavesRestOf}
 use Rattle.run_base.specs.WholeFile.{IsLongFile}
-use Rattle.rel_checker.specs.declared.answer.Answer.{Answer as Verdict}
-use Rattle.rel_checker.specs.declared.answer.Answer.TheVariants.{Yes, No}
+use Rattle.result_rules.specs.declared.verdict.Verdict.{Verdict}
+use Rattle.result_rules.specs.declared.verdict.Verdict.TheVariants.{Yes, No}
 use Rattle.torcheck_run.specs.CheckAnswer.{LeadsTo, status_of}
 use Rattle.torcheck_run.specs.Unjudging.{IsUnjudged, IsTooLong, AnswersUnjudged}
 use Rattle.torcheck_run.proofs.Comings.{not_long}

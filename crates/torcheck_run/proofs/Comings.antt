@@ -6,11 +6,14 @@ use Rattle.result_text.specs.declared.file.ResultFile.{ResultFile}
 use Rattle.result_text.specs.Grammar.{IsTextOf}
 use Rattle.result_text.specs.Ranges.{IsInRange}
 use Rattle.result_text.specs.Text.{text}
-use Rattle.rel_checker.specs.declared.answer.Answer.{Answer as Verdict}
-use Rattle.rel_checker.specs.declared.answer.Answer.TheVariants.{Yes, No}
-use Rattle.rel_checker.specs.Rules.{IsRefused}
-use Rattle.rel_checker.specs.Valid.{AcceptanceLaw}
-use Rattle.rel_checker.specs.Against.{in_order, its_rows, JudgesAgainst}
+use Rattle.result_rules.specs.declared.verdict.Verdict.{Verdict}
+use Rattle.result_rules.specs.declared.verdict.Verdict.TheVariants.{Yes, No}
+use Rattle.result_rules.specs.Rules.{IsRefused}
+use Rattle.result_rules.specs.Valid.{AcceptanceLaw}
+use Rattle.result_rules.proofs.OneVerdict.{one_verdict_law, one_against_law}
+use Rattle.result_text.specs.Grammar.{IsBadLine}
+use Rattle.std.proofs.lemmas.Bool.{cases_order}
+use Rattle.result_rules.specs.Against.{in_order, its_rows, JudgesAgainst}
 use Rattle.path_clean.specs.Counts.{Counts}
 use Rattle.path_clean.specs.Rows.{Counted}
 use Rattle.dump_read.specs.declared.taking.Taken.{Taken}
@@ -28,7 +31,7 @@ use Rattle.torcheck_run.specs.Limits.{max_result}
 abbrev pub OneValue : Type 0
 OneValue = (file other : ResultFile) → IsInRange file → IsInRange other → text file ≡ text other → file ≡ other
 
-same_file : OneValue → (bytes : List ℕ) (f g : ResultFile) → IsTextOf f bytes → IsTextOf g bytes → f ≡ g
+pub same_file : OneValue → (bytes : List ℕ) (f g : ResultFile) → IsTextOf f bytes → IsTextOf g bytes → f ≡ g
 same_file law bytes f g a b = law f g a.in_range b.in_range (sym a.encoded ∙ b.encoded)
 
 some_is : {X : Type 0} (o : Option X) (x y : X) → o ≡ Some x → o ≡ Some y → x ≡ y
@@ -63,24 +66,12 @@ some_not_none {X = X} o x p q = by (sym p ∙ q)
 
 -- ---- yes and no
 
--- what is right departs nowhere
-no_departure : (file : ResultFile) (rows : List Counted) (counts : Counts) (line rule : ℕ) → JudgesAgainst file rows counts Yes → JudgesAgainst file rows counts (No line rule) → ⊥
-no_departure file rows counts line rule right departs =
-    departs.breach (record {
-      count = λ lt. ap (λ c. slice_get (in_order c) departs.place) right.0;
-      path = λ le. ap (λ (t : List Counted). slice_get t (departs.place - 7)) right.1;
-    })
-
--- the dumps don't say both
-by_dumps : (file : ResultFile) (dumps : List (List ℕ)) (files : Files) (line rule : ℕ) → JudgesByDumps file dumps files Yes → JudgesByDumps file dumps files (No line rule) → ⊥
-by_dumps file [] files line rule right wrong = by wrong
-  where
-    by : ◌≡◌ {A = Verdict} (No line rule) Yes → ⊥
-    by e = absurd cc
-by_dumps file (dump ∷ dumps) files line rule right wrong =
-    let same : right.0 ≡ wrong.0 = ok_is (seen_for file (dump ∷ dumps) files) right.0 wrong.0 right.1 wrong.1 in
-    no_departure file right.0.table.rows right.0.counts line rule right.2
-    (subst (λ (t : Taken). JudgesAgainst file t.table.rows t.counts (No line rule)) (sym same) wrong.2)
+-- the dumps say one thing
+by_dumps : (file : ResultFile) (dumps : List (List ℕ)) (files : Files) (v w : Verdict) → JudgesByDumps file dumps files v → JudgesByDumps file dumps files w → v ≡ w
+by_dumps file [] files v w one other = one ∙ sym other
+by_dumps file (dump ∷ dumps) files v w one other =
+    let same : other.0 ≡ one.0 = ok_is (seen_for file (dump ∷ dumps) files) other.0 one.0 other.1 one.1 in
+    one_against_law file one.0.table.rows one.0.counts v w one.2 (subst (λ (t : Taken). JudgesAgainst file t.table.rows t.counts w) same other.2)
 
 -- bytes that are accepted break no rule of 0 to 10
 none_broken : OneValue → (bytes : List ℕ) (file : ResultFile) (verdict : Verdict) → IsAccepted file bytes → BreaksRule bytes verdict → ⊥
@@ -91,18 +82,41 @@ none_broken law bytes file (No line rule) accepted (inr broken) =
     let refused : IsRefused file line rule = subst (λ f. IsRefused f line rule) same broken.2 in
     refused.first.breach (accepted.rules refused.rule refused.place refused.first.within)
 
-not_both : OneValue → (bytes : List ℕ) (dumps : List (List ℕ)) (files : Files) (line rule : ℕ) → IsVerdict bytes dumps files Yes → IsVerdict bytes dumps files (No line rule) → ⊥
-not_both law bytes dumps files line rule (inl broken) wrong = broken
-not_both law bytes dumps files line rule (inr right) (inl broken) = none_broken law bytes right.0 (No line rule) right.1 broken
-not_both law bytes dumps files line rule (inr right) (inr wrong) =
-    let same : wrong.0 ≡ right.0 = same_file law bytes wrong.0 right.0 wrong.1.text right.1.text in
-    by_dumps right.0 dumps files line rule right.2 (subst (λ f. JudgesByDumps f dumps files (No line rule)) same wrong.2)
+-- a bad line is one
+one_bad_line : (bytes : List ℕ) (n m : ℕ) → IsBadLine n bytes → IsBadLine m bytes → n ≡ m
+one_bad_line bytes n m a b = elim (cases_order n m) [
+  | inl e ↦ e
+  | inr o ↦ elim o [
+    | inl lt ↦ absurd (a.bad (b.least n lt))
+    | inr lt ↦ absurd (b.bad (a.least m lt))
+  ]
+]
+
+no_is : (line line' rule rule' : ℕ) → line ≡ line' → rule ≡ rule' → No line rule ≡ No line' rule'
+no_is line line' rule rule' e f = cc
+
+-- the rules 0 to 10 say one thing
+one_broken : OneValue → (bytes : List ℕ) (v w : Verdict) → BreaksRule bytes v → BreaksRule bytes w → v ≡ w
+one_broken law bytes Yes w one other = absurd one
+one_broken law bytes (No line rule) Yes one other = absurd other
+one_broken law bytes (No line rule) (No line' rule') (inl zero) (inl zero') =
+    no_is line line' rule rule' (one_bad_line bytes line line' zero.1 zero'.1) (zero.0 ∙ sym zero'.0)
+one_broken law bytes (No line rule) (No line' rule') (inl zero) (inr broken) = absurd (zero.1.outside (broken.0, broken.1))
+one_broken law bytes (No line rule) (No line' rule') (inr broken) (inl zero) = absurd (zero.1.outside (broken.0, broken.1))
+one_broken law bytes (No line rule) (No line' rule') (inr broken) (inr broken') =
+    let same : broken'.0 ≡ broken.0 = same_file law bytes broken'.0 broken.0 broken'.1 broken.1 in
+    one_verdict_law broken.0 (No line rule) (No line' rule') broken.2 (subst (λ f. IsRefused f line' rule') same broken'.2)
+
+pub one_verdict : OneValue → (bytes : List ℕ) (dumps : List (List ℕ)) (files : Files) (v w : Verdict) → IsVerdict bytes dumps files v → IsVerdict bytes dumps files w → v ≡ w
+one_verdict law bytes dumps files v w (inl one) (inl other) = one_broken law bytes v w one other
+one_verdict law bytes dumps files v w (inl one) (inr other) = absurd (none_broken law bytes other.0 v other.1 one)
+one_verdict law bytes dumps files v w (inr one) (inl other) = absurd (none_broken law bytes one.0 w one.1 other)
+one_verdict law bytes dumps files v w (inr one) (inr other) =
+    let same : other.0 ≡ one.0 = same_file law bytes other.0 one.0 other.1.text one.1.text in
+    by_dumps one.0 dumps files v w one.2 (subst (λ f. JudgesByDumps f dumps files w) same other.2)
 
 verdicts : OneValue → (bytes : List ℕ) (dumps : List (List ℕ)) (files : Files) (v w : Verdict) → IsVerdict bytes dumps files v → IsVerdict bytes dumps files w → status_of v ≡ status_of w
-verdicts law bytes dumps files Yes Yes one other = refl
-verdicts law bytes dumps files Yes (No line rule) one other = absurd (not_both law bytes dumps files line rule one other)
-verdicts law bytes dumps files (No line rule) Yes one other = absurd (not_both law bytes dumps files line rule other one)
-verdicts law bytes dumps files (No line rule) (No line' rule') one other = refl
+verdicts law bytes dumps files v w one other = ap status_of (one_verdict law bytes dumps files v w one other)
 
 -- ---- a verdict or an end of the dumps
 

@@ -1,7 +1,7 @@
 -- Texts of worked verdicts and notes, by computation.
 use Rattle.std.proofs.Common.{◌≡◌, codes, refl}
 use Rattle.std.specs.Fmt.{digits}
-use Rattle.rel_checker.specs.declared.answer.Answer.TheVariants.{Yes, No}
+use Rattle.result_rules.specs.declared.verdict.Verdict.TheVariants.{Yes, No}
 use Rattle.torcheck_run.specs.CheckAnswer.{verdict_text}
 
 verdict_text-yes : verdict_text Yes ≡ codes "yes\n"

@@ -3,8 +3,8 @@ use Rattle.std.specs.Prelude.{◌≡◌, ◌≤◌, ◌⊎◌, ◌-◌, ◌++◌
 use Rattle.std.specs.Io.KnownBytes.{append_known}
 use Rattle.tor_io.specs.Contents.{Files, GainsPrefix}
 use Rattle.result_text.specs.declared.file.ResultFile.{ResultFile}
-use Rattle.rel_checker.specs.declared.answer.Answer.{Answer as Verdict}
-use Rattle.rel_checker.specs.declared.answer.Answer.TheVariants as verdict
+use Rattle.result_rules.specs.declared.verdict.Verdict.{Verdict}
+use Rattle.result_rules.specs.declared.verdict.Verdict.TheVariants as verdict
 use Rattle.dump_read.specs.declared.error.Place.{Place}
 use Rattle.dump_read.specs.declared.error.Fault.{Fault}
 use Rattle.dump_read.specs.declared.error.LimitKind.{LimitKind}

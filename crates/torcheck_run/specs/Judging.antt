@@ -3,11 +3,11 @@ use Rattle.std.specs.Prelude.{◌≡◌, ◌≤◌, ◌<◌, ◌⊎◌, ℕ, Lis
 use Rattle.tor_io.specs.Contents.{Files}
 use Rattle.result_text.specs.declared.file.ResultFile.{ResultFile}
 use Rattle.result_text.specs.Grammar.{IsTextOf, IsBadLine}
-use Rattle.rel_checker.specs.declared.answer.Answer.{Answer as Verdict}
-use Rattle.rel_checker.specs.declared.answer.Answer.TheVariants.{Yes, No}
-use Rattle.rel_checker.specs.Rules.{Accepts, IsRefused}
-use Rattle.rel_checker.specs.Valid.{Valid}
-use Rattle.rel_checker.specs.Against.{its_rows, JudgesAgainst}
+use Rattle.result_rules.specs.declared.verdict.Verdict.{Verdict}
+use Rattle.result_rules.specs.declared.verdict.Verdict.TheVariants.{Yes, No}
+use Rattle.result_rules.specs.Rules.{Accepts, IsRefused}
+use Rattle.result_rules.specs.Valid.{Valid}
+use Rattle.result_rules.specs.Against.{its_rows, JudgesAgainst}
 use Rattle.dump_read.specs.declared.taking.Taken.{Taken}
 use Rattle.dump_read.specs.Seen.{End}
 use Rattle.tor_words.specs.declared.check_settings.CheckSettings.{CheckSettings}
@@ -46,6 +46,12 @@ JudgesByDumps file (dump ∷ dumps) files verdict =
 abbrev pub IsVerdict : List ℕ → List (List ℕ) → Files → Verdict → Type 0
 IsVerdict bytes dumps files verdict =
     BreaksRule bytes verdict ⊎ ((file : ResultFile) × IsAccepted file bytes × JudgesByDumps file dumps files verdict)
+
+-- a result file has one verdict beside the same dumps: yes, or one line and one rule
+abbrev pub OneVerdictLaw : Type 0
+OneVerdictLaw =
+    (bytes : List ℕ) (dumps : List (List ℕ)) (files : Files) (verdict other : Verdict) → IsVerdict bytes dumps files verdict →
+    IsVerdict bytes dumps files other → verdict ≡ other
 
 -- ---- the result file
 

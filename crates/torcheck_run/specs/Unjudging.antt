@@ -2,8 +2,8 @@
 use Rattle.std.specs.Prelude.{◌≡◌, ◌≤◌, ◌-◌, ℕ, List, length, take, Option, None, Some, IfSome, IsOk, Err}
 use Rattle.tor_io.specs.Contents.{Files}
 use Rattle.result_text.specs.declared.file.ResultFile.{ResultFile}
-use Rattle.rel_checker.specs.declared.answer.Answer.TheVariants.{No}
-use Rattle.rel_checker.specs.Rules.{Accepts, IsRefused}
+use Rattle.result_rules.specs.declared.verdict.Verdict.TheVariants.{No}
+use Rattle.result_rules.specs.Rules.{Accepts, IsRefused}
 use Rattle.dump_read.specs.declared.error.DumpError.{DumpError}
 use Rattle.dump_read.specs.declared.error.DumpError.TheVariants as error
 use Rattle.dump_read.specs.Seen.{End, Absent, Malformed, Limit}

@@ -16,7 +16,7 @@ ghost use Rattle.torcheck_run.specs.CheckAnswer.{GainsVerdict, GainsNo, GainsVer
 
 use crate::judging::{answer_to_unjudged, verdict_of};
 use crate::verdicts::{status_of, verdict_text};
-use rel_checker::{Answer as Verdict, acceptance_law};
+use result_rules::{Verdict, acceptance_law};
 use result_text::one_value;
 use run_base::{Answer, Status};
 use std::alloc::Global;

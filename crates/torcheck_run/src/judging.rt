@@ -11,12 +11,13 @@ ghost use Rattle.run_base.specs.Answers.{IsReadFault};
 ghost use Rattle.torcheck_run.specs.Judging.{Judged, ComesTo, IsVerdict, JudgesByDumps, LeavesRestOf, LeavesOnlyResult, seen_for};
 ghost use Rattle.run_base.specs.WholeFile.{LeavesRest, LeavesOnly};
 ghost use Rattle.torcheck_run.specs.CheckAnswer.{LeadsTo};
-ghost use Rattle.rel_checker.specs.File.{HasFewLines};
+ghost use Rattle.result_rules.specs.File.{HasFewLines};
 ghost use Rattle.torcheck_run.specs.Unjudging.{IsRuling, IsRulingOf, IsRefusedBy, IsUnjudged, IsUnjudgedIn, IsTooLong, IsFailedResult, IsFailedRead, IsOfCheckWords, AnswersUnjudged};
 ghost use Rattle.torcheck_run.specs.Limits.{max_result};
 
 use path_clean::MAX_PATHS;
-use rel_checker::{Answer as Verdict, check_against, check_file};
+use rel_checker::{check_against, check_file};
+use result_rules::Verdict;
 use result_text::{ParseError, ResultFile, parse};
 use run_base::{
     Answer, Refusal, Status, Stopped, Unread, answer_to, nothing_taken, read_dumps,

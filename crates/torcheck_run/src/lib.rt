@@ -3,6 +3,8 @@
 
 mod checking;
 mod judging;
+mod laws;
 mod verdicts;
 
 pub use checking::check;
+pub use laws::one_verdict_law;

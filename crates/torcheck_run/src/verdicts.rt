@@ -2,7 +2,7 @@
 ghost use Rattle.std.specs.Prelude.{◌≡◌, ◌≢◌, IfOk, string_bytes};
 ghost use Rattle.torcheck_run.specs.CheckAnswer.{verdict_text, no_text, status_of};
 
-use rel_checker::Answer as Verdict;
+use result_rules::Verdict;
 use run_base::Status;
 use std::alloc::{AllocError, Global};
 

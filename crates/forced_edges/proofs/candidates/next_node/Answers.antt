@@ -11,9 +11,9 @@ has-requires c =
     let lt : left < length row = omega (arith, test, within) in
     let e = get_or row left c.index-row-left.result in
     let at = slice_get-get_or row left c.index-row-left.result lt in
-    let arc = c.row-row.ensures.row.only left e at in
-    let inside = c.node_count.ensures.inside.heads e.0 c.args.node e.1 arc in
-    let count = c.requires.held in
+    let arc = c.row-row.ensures.only left e at in
+    let inside = c.facts.ensures.inside.heads e.0 c.args.node e.1 arc in
+    let count = c.held-held.ensures.count in
     omega (arith, inside, count)
 
 pub has-requires-then-not-has : goal.has-requires-then-not-has
@@ -25,8 +25,8 @@ has-requires-then-not-has c =
     let lt : left < length row = omega (arith, test, within) in
     let e = get_or row left c.index-row-left.result in
     let at = slice_get-get_or row left c.index-row-left.result lt in
-    let arc = c.row-row.ensures.row.only left e at in
-    let inside = c.node_count.ensures.inside.heads e.0 c.args.node e.1 arc in
+    let arc = c.row-row.ensures.only left e at in
+    let inside = c.facts.ensures.inside.heads e.0 c.args.node e.1 arc in
     let count = c.requires.seen in
     omega (arith, inside, count)
 
@@ -39,6 +39,6 @@ returns-then-not-has-2-clause-there c =
     let lt : left < length row = omega (arith, test, within) in
     let e = get_or row left c.index-row-left.result in
     let at = slice_get-get_or row left c.index-row-left.result lt in
-    let arc = c.row-row.ensures.row.only left e at in
-    let inside = c.node_count.ensures.inside.heads e.0 c.args.node e.1 arc in
+    let arc = c.row-row.ensures.only left e at in
+    let inside = c.facts.ensures.inside.heads e.0 c.args.node e.1 arc in
     inside

@@ -1,12 +1,25 @@
-use Rattle.std.proofs.Common.{sym, ◌∙◌, subst, Contains}
+use Rattle.std.proofs.Common.{ℕ, sym, ◌∙◌, subst, Contains}
 use Rattle.std.proofs.lemmas.Bool.{false≢true}
+use Rattle.tor_digraph.specs.Walks.{Net}
+use Rattle.tor_digraph.specs.Reached.{IsGrown}
+use Rattle.forced_edges.specs.Nodes.{IsClosed}
 use Rattle.forced_edges.proofs.finding.test_order.Goals as goal
 
+pub spread-requires-clause-closed : goal.spread-requires-clause-closed
+spread-requires-clause-closed c =
+    let old = c.args.covered.now.items in
+    subst (λ (n : Net ℕ). IsClosed n.arcs c.held.result.now.items old) (sym c.rows.ensures)
+    (subst (λ l. IsClosed c.args.problem.now.formula.net.arcs l old) (sym c.held.ensures.nodes) c.requires.covers)
+
 pub returns-clause-found : goal.returns-clause-found
-returns-clause-found c = record {
-  apart = λ h. false≢true (sym c.if-has-2.false ∙ c.has-2.ensures.1 h);
-  unshown = λ h. false≢true (sym c.if-has.false ∙ c.has.ensures.1 (subst (Contains c.args.shown.now.items) (sym c.opposite.ensures) h));
-  says = c.order-over.ensures;
-  covers = c.in_ok-spread.ensures.closed (λ e. e);
-  grown = c.in_ok-spread.ensures.grown;
-}
+returns-clause-found c =
+    let old = c.args.covered.now.items in
+    let new = c.spread.new.found.items in
+    record {
+      apart = λ h. false≢true (sym c.if-has-2.false ∙ c.has-2.ensures.1 h);
+      unshown = λ h. false≢true (sym c.if-has.false ∙ c.has.ensures.1 (subst (Contains c.args.shown.now.items) (sym c.opposite.ensures) h));
+      says = c.order-over.ensures;
+      covers = subst (λ (n : Net ℕ). IsClosed n.arcs c.args.problem.now.held new) c.rows.ensures
+          (subst (λ l. IsClosed c.rows.result.now.arcs l new) c.held.ensures.nodes (c.in_ok-spread.ensures.closed (λ e. e)));
+      grown = subst (λ (n : Net ℕ). IsGrown n.arcs c.args.node old new) c.rows.ensures c.in_ok-spread.ensures.grown;
+    }

@@ -1,9 +1,7 @@
-use Rattle.std.proofs.Common.{◌∙◌, ℕ, sym, ap}
-use Rattle.tor_digraph.specs.Walks.{Net}
 use Rattle.forced_edges.proofs.marking.marks_by.Goals as goal
 
 pub mark_all-requires-clause-shown : goal.mark_all-requires-clause-shown
-mark_all-requires-clause-shown c = c.requires.shown.showing.count ∙ sym (ap (λ (n : Net ℕ). n.nodes) c.requires.rows)
+mark_all-requires-clause-shown c = c.requires.shown.showing.count
 
 pub mark_all-requires-clause-walks : goal.mark_all-requires-clause-walks
 mark_all-requires-clause-walks c = c.requires.shown.showing.walks

@@ -12,7 +12,7 @@ returns c =
     (λ e. (
       record { ases = a ∷ b ∷ under ∷ []; links = c.link_of.result ∷ [] },
       e,
-      leads_on c.args.graph.now c.args.clauses.now c.facts.ensures.apart c.requires.fits c.args.arc c.args.head a b c.order-under.result.0 under c.link_of.result
-          c.link_of.ensures.fits c.order-under.ensures,
+      leads_on c.args.problem.now c.facts.ensures.apart c.facts.ensures.posed.fits c.args.arc c.args.head a b c.order-under.result.0 under c.link_of.result
+          c.link_of.ensures c.order-under.ensures,
     ))
     c.push.ensures.added

@@ -1,6 +1,6 @@
 use Rattle.std.proofs.Common.{arith}
-use Rattle.rel_checker.specs.Against.{row_of, its_rows}
-use Rattle.rel_checker.proofs.Accepted.{same_length}
+use Rattle.result_rules.specs.Against.{row_of, its_rows}
+use Rattle.result_rules.proofs.Accepted.{same_length}
 use Rattle.rel_checker.proofs.AgainstLemmas.{same_lists}
 use Rattle.rel_checker.proofs.against.differing_path.Goals as goal
 

@@ -1,5 +1,5 @@
 use Rattle.std.proofs.Common.{◌≡◌, ◌<◌, ℕ, slice_get}
-use Rattle.rel_checker.specs.Against.{its_rows}
+use Rattle.result_rules.specs.Against.{its_rows}
 use Rattle.rel_checker.proofs.against.differing_path.Given as goal
 
 abbrev pub invariant-loop-place : goal.invariant-loop-place

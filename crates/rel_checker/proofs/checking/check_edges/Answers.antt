@@ -1,8 +1,8 @@
 use Rattle.std.proofs.Common.{refl, arith, sym, subst, ◌∙◌}
-use Rattle.rel_checker.specs.declared.rule.Rule.TheVariants.{PathsCleaned, EdgesListed, KeptValleyFree, SupportCounted}
-use Rattle.rel_checker.specs.File.{its_paths}
+use Rattle.result_rules.specs.declared.rule.Rule.TheVariants.{PathsCleaned, EdgesListed, KeptValleyFree, SupportCounted}
+use Rattle.result_rules.specs.File.{its_paths}
 use Rattle.rel_checker.specs.PathSteps.{HaveSteps}
-use Rattle.rel_checker.proofs.Accepted.{edges_listed}
+use Rattle.result_rules.proofs.Accepted.{edges_listed}
 use Rattle.rel_checker.proofs.Settling.{next_met, judged, refused, found_none, found_some}
 use Rattle.rel_checker.proofs.checking.check_edges.Goals as goal
 

@@ -1,22 +1,22 @@
 use Rattle.std.proofs.Common.{subst, arith}
-use Rattle.rel_checker.specs.declared.rule.Rule.TheVariants.{PathsCleaned}
+use Rattle.result_rules.specs.declared.rule.Rule.TheVariants.{PathsCleaned}
 use Rattle.rel_checker.specs.Steps.{MetUpTo, Settles}
-use Rattle.rel_checker.proofs.Acceptance.{valid_if_yes, valid_if_settled}
+use Rattle.rel_checker.proofs.Validity.{valid_if_yes, valid_if_settled}
 use Rattle.rel_checker.proofs.checking.check_file.Goals as goal
 
 pub returns-in-Some-clause-valid : goal.returns-in-Some-clause-valid
-returns-in-Some-clause-valid c = valid_if_settled c.args.file.now 4 c.in_ok-answer.field-0 c.in-Some.answer c.in_ok-answer.ensures c.in-Some.is
+returns-in-Some-clause-valid c = valid_if_settled c.args.file.now 4 c.in_ok-verdict.field-0 c.in-Some.verdict c.in_ok-verdict.ensures c.in-Some.is
 
 pub returns-in-Some-2-clause-valid : goal.returns-in-Some-2-clause-valid
-returns-in-Some-2-clause-valid c = valid_if_settled c.args.file.now 7 c.in_ok-answer-2.field-0 c.in-Some-2.answer c.in_ok-answer-2.ensures c.in-Some-2.is
+returns-in-Some-2-clause-valid c = valid_if_settled c.args.file.now 7 c.in_ok-verdict-2.field-0 c.in-Some-2.verdict c.in_ok-verdict-2.ensures c.in-Some-2.is
 
 pub returns-in-Some-3-clause-valid : goal.returns-in-Some-3-clause-valid
-returns-in-Some-3-clause-valid c = valid_if_settled c.args.file.now 9 c.in_ok-answer-3.field-0 c.in-Some-3.answer c.in_ok-answer-3.ensures c.in-Some-3.is
+returns-in-Some-3-clause-valid c = valid_if_settled c.args.file.now 9 c.in_ok-verdict-3.field-0 c.in-Some-3.verdict c.in_ok-verdict-3.ensures c.in-Some-3.is
 
 pub returns-clause-valid : goal.returns-clause-valid
 returns-clause-valid c = valid_if_yes c.args.file.now c.check_totals.result c.check_totals.ensures
 
 pub list_edges-requires : goal.list_edges-requires
 list_edges-requires c =
-    let met : MetUpTo c.args.file.now 4 = subst (Settles c.args.file.now 4) c.in_default.is c.in_ok-answer.ensures in
+    let met : MetUpTo c.args.file.now 4 = subst (Settles c.args.file.now 4) c.in_default.is c.in_ok-verdict.ensures in
     met PathsCleaned (omega arith)

@@ -1,5 +1,5 @@
 use Rattle.std.proofs.Common.{refl, arith}
-use Rattle.rel_checker.specs.declared.rule.Rule.TheVariants.{RatioBounded, PathsCleaned, PathsDistinct, LostRefuted}
+use Rattle.result_rules.specs.declared.rule.Rule.TheVariants.{RatioBounded, PathsCleaned, PathsDistinct, LostRefuted}
 use Rattle.rel_checker.proofs.Settling.{none_met, next_met, judged, refused, found_none, found_some}
 use Rattle.rel_checker.proofs.checking.check_paths.Goals as goal
 

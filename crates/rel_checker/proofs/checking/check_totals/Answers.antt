@@ -1,7 +1,7 @@
 use Rattle.std.proofs.Common.{refl, sym, ◌∙◌, arith}
 use Rattle.std.proofs.lemmas.Bool.{false≢true}
 use Rattle.rel_checker.proofs.TotalLemmas.{same_totals}
-use Rattle.rel_checker.specs.declared.rule.Rule.TheVariants.{TotalsRight}
+use Rattle.result_rules.specs.declared.rule.Rule.TheVariants.{TotalsRight}
 use Rattle.rel_checker.proofs.Settling.{judged, refused}
 use Rattle.rel_checker.proofs.checking.check_totals.Goals as goal
 

@@ -1,5 +1,5 @@
 use Rattle.std.proofs.Common.{◌∙◌, ap}
-use Rattle.rel_infer.specs.Totals.{totals_by}
+use Rattle.result_rules.specs.Totals.{totals_by}
 use Rattle.rel_infer.proofs.Whole.{whole, whole_accepted, whole_either_way, whole_none_left_out}
 use Rattle.rel_infer.proofs.result.result_of.Goals as goal
 

@@ -1,0 +1,45 @@
+use Rattle.std.proofs.Common.{inl, inr, refl, sym, ap, ◌∙◌, ℕ, subst, Contains}
+use Rattle.std.proofs.lemmas.Bool.{false≢true}
+use Rattle.tor_digraph.specs.Walks.{Net}
+use Rattle.tor_digraph.specs.Reached.{IsGrown}
+use Rattle.tor_clauses.specs.Literals.{opposite_node}
+use Rattle.forced_edges.specs.Nodes.{IsClosed}
+use Rattle.forced_edges.proofs.Settlings.{near-walk, grown-cases, together_more}
+use Rattle.forced_edges.proofs.settling.Settling.settle.Goals as goal
+
+pub show_opposite-requires-clause-back : goal.show_opposite-requires-clause-back
+show_opposite-requires-clause-back c =
+    let node = c.args.node in
+    let old = c.args.self.now.together.items in
+    let new = c.spread.new.found.items in
+    let grown = subst (λ (n : Net ℕ). IsGrown n.arcs node old new) c.rows.ensures c.in_ok-spread.ensures.grown in
+    let come = subst (Contains new) c.opposite-other.ensures (c.has-4.ensures.0 c.if-has-4.true) in
+    elim (grown-cases c.args.problem.now.formula.net.arcs node old new grown (opposite_node node) come) [
+      | inl was ↦ absurd (false≢true (sym c.if-has-3.false ∙ c.has-3.ensures.1 (subst (Contains old) (sym c.opposite-other.ensures) was)))
+      | inr r ↦ r
+    ]
+
+pub spread-requires-clause-closed : goal.spread-requires-clause-closed
+spread-requires-clause-closed c =
+    subst (λ (n : Net ℕ). IsClosed n.arcs c.args.self.now.shown.nodes.items c.args.self.now.together.items) (sym c.rows.ensures) c.requires.together.closed
+
+pub returns-else-has-4 : goal.returns-else-has-4
+returns-else-has-4 c =
+    let node = c.args.node in
+    let f = c.args.problem.now in
+    let shown = c.args.self.now.shown.nodes.items in
+    let old = c.args.self.now.together in
+    let new = c.spread.new.found in
+    let apart : Contains new.items c.opposite-other.result → ⊥ = λ h. false≢true (sym c.if-has-4.false ∙ c.has-4.ensures.1 h) in
+    let none = subst (λ s. Contains new.items s → ⊥) c.opposite-other.ensures apart in
+    let unshown = subst (λ s. Contains shown s → ⊥) c.opposite-other.ensures (λ h. false≢true (sym c.if-has.false ∙ c.has.ensures.1 h)) in
+    let near = subst (λ (n : Net ℕ). IsClosed n.arcs shown new.items) c.rows.ensures (c.in_ok-spread.ensures.closed apart) in
+    let grown = subst (λ (n : Net ℕ). IsGrown n.arcs node old.items new.items) c.rows.ensures c.in_ok-spread.ensures.grown in
+    let count = c.spread.ensures.count ∙ ap (λ (n : Net ℕ). n.nodes) c.rows.ensures in
+    record {
+      shown = c.requires.shown;
+      keeps = λ n h. h;
+      together = together_more f c.facts.ensures.partners shown node old new c.requires.shown.closed unshown c.requires.together count near grown none;
+      settled = λ t r. absurd (elim (near-walk f shown new.items c.requires.shown.closed near grown.has_start r) [ inl k ↦ none k | inr k ↦ unshown k ]);
+      first = λ e. refl;
+    }

@@ -1,0 +1,21 @@
+-- What marking is asked of. These words are the marking's own: no reader of a public clause needs them.
+use Rattle.std.specs.Prelude.{◌≡◌, ℕ, List, length, Contains, IsTrue}
+use Rattle.relationships.specs.declared.label.Label.{Label}
+use Rattle.relationships.specs.Graph.{edges}
+use Rattle.tor_clauses.specs.Formulas.{Formula, FitsGraph}
+use Rattle.forced_edges.specs.Held.{held as is_held}
+use Rattle.forced_edges.specs.Marked.{AreValleyFree}
+
+-- a graph, the clauses of paths, a label of each edge, and the nodes of orders that the labels have
+pub record Posed : Type 0 where
+  pub graph : List (List ℕ)
+  pub formula : Formula
+  pub labels : List Label
+  pub held : List ℕ
+
+-- the clauses fit the graph, their paths are valley-free under the labels, and the held nodes are of orders that the labels have
+pub record IsPosed (posed : Posed) : Type 0 where
+  pub fits : FitsGraph posed.graph posed.formula
+  pub labelled : length posed.labels ≡ length (edges posed.graph)
+  pub served : AreValleyFree posed.graph posed.formula posed.labels
+  pub only : (n : ℕ) → Contains posed.held n → IsTrue (is_held posed.labels n)

@@ -1,0 +1,50 @@
+use Rattle.std.proofs.Common.{◌≡◌, ◌<◌, length, take, get_or, refl, ap, arith}
+use Rattle.std.proofs.lemmas.Bool.{false≢true, both_ways}
+use Rattle.std.proofs.lemmas.List.{get_or_default}
+use Rattle.std.specs.Option.{option_copied}
+use Rattle.relationships.specs.declared.walk.Link.{Link}
+use Rattle.relationships.proofs.Places.{IsLinked-from_index, index-from_IsLinked}
+use Rattle.rel_checker.specs.Naming.{nameable}
+use Rattle.rel_checker.proofs.Linking.{links_more}
+use Rattle.rel_checker.proofs.walks.links.is_walk.Goals as goal
+
+abbrev no_link : Link
+no_link = record { path = 0; at = 0 }
+
+pub returns-then-ases-links : goal.returns-then-ases-links
+returns-then-ases-links c = (
+  λ t. absurd (false≢true t),
+  λ f.
+      let w = c.args.walk.now in
+      let n = (index-from_IsLinked (nameable (take c.args.count c.args.lines.now) (option_copied c.args.next)) w.ases w.links f).0 in
+      let a : length c.ases-ases.result.now ≡ length w.ases = ap length c.ases-ases.ensures in
+      let l : length c.links-links.result.now ≡ length w.links = ap length c.links-links.ensures in
+      absurd (omega arith),
+)
+
+pub returns-then-not-link_fits : goal.returns-then-not-link_fits
+returns-then-not-link_fits c = (
+  λ t. absurd (false≢true t),
+  λ f.
+      let w = c.args.walk.now in
+      let l : length c.links-links.result.now ≡ length w.links = ap length c.links-links.ensures in
+      let fits = (index-from_IsLinked (nameable (take c.args.count c.args.lines.now) (option_copied c.args.next)) w.ases w.links f).1 c.loop-i.i no_link (omega arith) in
+      absurd (both_ways c.link_fits.result c.if-not-link_fits.true (c.link_fits.ensures.1 (rw (c.ases-ases.ensures, c.links-links.ensures) fits))),
+)
+
+pub loop-i-preserved : goal.loop-i-preserved
+loop-i-preserved c =
+    let links = c.links-links.result.now in
+    let within : c.loop-i.i < length links = omega arith in
+    links_more (nameable (take c.args.count c.args.lines.now) (option_copied c.args.next)) c.ases-ases.result.now links c.loop-i.i (get_or links c.loop-i.i no_link) c.loop-i.invariant within
+    (get_or_default links c.loop-i.i no_link (get_or links c.loop-i.i no_link) within) (c.link_fits.ensures.0 c.if-not-link_fits.false)
+
+pub returns : goal.returns
+returns c = (
+  λ t.
+      let w = c.args.walk.now in
+      let h = IsLinked-from_index (nameable (take c.args.count c.args.lines.now) (option_copied c.args.next)) c.ases-ases.result.now c.links-links.result.now (omega arith)
+      (λ k d lt. c.loop-i.invariant k d (omega arith)) in
+      rw (c.ases-ases.ensures, c.links-links.ensures) at h,
+  λ f. refl,
+)

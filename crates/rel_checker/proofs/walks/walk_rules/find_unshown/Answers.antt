@@ -1,0 +1,25 @@
+use Rattle.relationships.specs.Evidence.{Shows}
+use Rattle.result_rules.specs.File.{kept_among}
+use Rattle.result_rules.specs.declared.rule.Rule.TheVariants.{OrdersShown}
+use Rattle.rel_checker.proofs.Passing.{asks_more}
+use Rattle.rel_checker.proofs.ShownOrders.{orders_more, asks_shown}
+use Rattle.rel_checker.proofs.walks.walk_rules.find_unshown.Goals as goal
+
+pub returns-in_default : goal.returns-in_default
+returns-in_default c =
+    let k = asks_shown c.args.file.now c.loop-place.place c.walk_at-walk.result c.walk_at-walk.ensures c.loop-place.shown c.loop-place.invariant.orders in
+    record {
+      within = k.0;
+      breach = λ asks. let (a, b, s) = k.1.1 asks in c.in_default.ensures.none a b s;
+      before = c.loop-place.invariant.met;
+    }
+
+pub loop-place-preserved : goal.loop-place-preserved
+loop-place-preserved c =
+    let k = asks_shown c.args.file.now c.loop-place.place c.walk_at-walk.result c.walk_at-walk.ensures c.loop-place.shown c.loop-place.invariant.orders in
+    let shows : Shows (kept_among c.args.file.now.paths) c.loop-place.shown c.walk_at-walk.result c.in-Some.over c.in-Some.under = c.in-Some.ensures.some in
+    record {
+      met = asks_more c.args.file.now OrdersShown c.loop-place.place c.loop-place.invariant.met (k.1.0 (c.in-Some.over, c.in-Some.under, shows));
+      orders = orders_more c.args.file.now c.loop-place.place c.walk_at-walk.result c.walk_at-walk.ensures c.loop-place.shown c.push.new.self c.in-Some.over c.in-Some.under
+          c.loop-place.invariant.orders c.in_ok-push.ensures.ok shows.ends;
+    }

@@ -1,8 +1,0 @@
-/// What a checker answers.
-#[derive(Clone, Copy, Debug, PartialEq, Eq)]
-pub enum Answer {
-    /// Every rule is met.
-    Yes,
-    /// The least rule that is broken, and its first line, from 1.
-    No { line: u64, rule: u8 },
-}

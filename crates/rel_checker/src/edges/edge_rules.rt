@@ -1,0 +1,155 @@
+ghost use Rattle.std.specs.Prelude.{◌≡◌, ◌↔◌, ◌+◌, ◌<◌, ◌≤◌, ◌^◌, ◌++◌, ◌∷◌, [], fold, length, map, slice_get, IsTrue, IfOk, IfNone, OnOk};
+ghost use Rattle.tor_arena.specs.Limits.{most_places};
+ghost use Rattle.relationships.specs.Graph.{edge_of, edges_on, edges};
+ghost use Rattle.result_rules.specs.File.{its_paths, its_edges};
+ghost use Rattle.result_rules.specs.declared.rule.Rule.{Rule};
+ghost use Rattle.rel_checker.specs.PathSteps.{IsStepAlong, AreSteps, HaveSteps};
+ghost use Rattle.result_rules.specs.Rules.{IsMet};
+ghost use Rattle.rel_checker.specs.Tables.{with_edge};
+ghost use Rattle.rel_checker.specs.Steps.{Finds};
+
+use crate::edges::edge_table::EdgeTable;
+use crate::edges::labels::Labels;
+use crate::edges::step::Step;
+use crate::edges::supports::count_kept;
+use crate::edges::valleys::is_served;
+use crate::lending::{path_line_at, steps_at};
+use result_text::{EdgeLine, PathLines, ResultFile};
+use std::alloc::Global;
+use tor_arena::{Keys, List, NoMemory, PathId, RowRefused, Rows};
+
+/// The edges of the paths, in order of first appearance, and the steps of each path.
+pub(crate) fn list_edges(
+    alloc: Global,
+    keys: Keys,
+    file: &ResultFile,
+) -> Result<(EdgeTable, Rows<PathId, Step>), NoMemory>
+    requires { IsMet file.now Rule.PathsCleaned }
+    ensures edges { IfOk result (λ listed. listed.0 ≡ edges (its_paths file.now)) }
+    ensures steps { IfOk result (λ listed. HaveSteps listed.0 (its_paths file.now) listed.1) }
+{
+    let mut table = EdgeTable::new(alloc, keys);
+    let mut rows = Rows::new(alloc);
+    rows.reserve(file.paths.len(), numbers_on(&file.paths))?;
+    let mut steps = List::new(alloc);
+    for place in 0..file.paths.len() {
+        let line = path_line_at(&file.paths, place);
+        steps.clear();
+        add_steps(&mut table, &mut steps, line.path())?;
+        add_row(&mut rows, steps.as_slice())?;
+    }
+    Ok((table, rows))
+}
+
+/// How many AS numbers the paths have in sum, for which memory is taken at once.
+fn numbers_on(lines: &PathLines) -> usize {
+    let mut sum = 0usize;
+    for place in 0..lines.len() {
+        sum = sum.saturating_add(path_line_at(lines, place).path().len());
+    }
+    sum
+}
+
+/// Adds a row, where there are not too many.
+fn add_row(rows: &mut Rows<PathId, Step>, steps: &[Step]) -> Result<(), NoMemory>
+    requires { length rows.old < most_places }
+    ensures { OnOk result (rows.new ≡ rows.old ++ steps.now ∷ []) }
+{
+    match rows.push_row(steps) {
+        Ok(_) => Ok(()),
+        Err(RowRefused::NoMemory) => Err(NoMemory),
+        Err(RowRefused::Full) => unreachable!(),
+    }
+}
+
+/// Adds the edges along a path, and its steps, where there are no others.
+fn add_steps(table: &mut EdgeTable, steps: &mut List<Step>, path: &[u32]) -> Result<(), NoMemory>
+    requires room { length table.old + length path.now ≤ 2 ^ 26 }
+    requires empty { steps.old ≡ [] }
+    ensures edges { OnOk result (table.new ≡ fold with_edge table.old (edges_on path.now)) }
+    ensures steps { OnOk result (AreSteps table.new path.now steps.new) }
+{
+    for at in 1..path.len() {
+        let step = add_step(table, path[at - 1], path[at])?;
+        steps.push(step)?;
+    }
+    Ok(())
+}
+
+/// Adds the edge between two ASes, and answers the step from the first to the second.
+fn add_step(table: &mut EdgeTable, from: u32, to: u32) -> Result<Step, NoMemory>
+    requires room { length table.old < 2 ^ 26 }
+    ensures edge { OnOk result (table.new ≡ with_edge table.old (edge_of from to)) }
+    ensures step { IfOk result (IsStepAlong table.new from to) }
+{
+    let place = table.add(from, to)?;
+    Ok(Step::new(place, from < to))
+}
+
+/// The first place in which the edge lines and the edges of the paths differ. It takes no memory.
+pub(crate) fn find_unlisted(file: &ResultFile, table: &EdgeTable) -> Option<usize>
+    requires { table.now ≡ edges (its_paths file.now) }
+    ensures found { Finds file.now Rule.EdgesListed result }
+    ensures listed { IfNone result (its_edges file.now ≡ table.now) }
+{
+    let lines = file.edges.as_slice();
+    let count = lines.len().max(table.len());
+    for place in 0..count {
+        if !is_listed(lines, table, place) {
+            return Some(place);
+        }
+    }
+    None
+}
+
+/// Whether the edge line in a place names the edge in that place, or there is neither.
+fn is_listed(lines: &[EdgeLine], table: &EdgeTable, place: usize) -> bool
+    ensures { IsTrue result ↔ (slice_get (map (λ e. (e.low, e.high)) lines.now) place ≡ slice_get table.now place) }
+{
+    match (lines.get(place), table.get(place)) {
+        (Some(line), Some((low, high))) => line.low == low && line.high == high,
+        (None, None) => true,
+        _ => false,
+    }
+}
+
+/// The first edge line whose support is not the number of kept paths that hold the edge.
+pub(crate) fn find_miscounted(
+    alloc: Global,
+    file: &ResultFile,
+    steps: &Rows<PathId, Step>,
+) -> Result<Option<usize>, NoMemory>
+    requires clean { IsMet file.now Rule.PathsCleaned }
+    requires listed { IsMet file.now Rule.EdgesListed }
+    requires steps { HaveSteps (its_edges file.now) (its_paths file.now) steps.now }
+    ensures { IfOk result (Finds file.now Rule.SupportCounted) }
+{
+    let counts = count_kept(alloc, file, steps)?;
+    for (place, line) in file.edges.as_slice().iter().enumerate() {
+        if line.support != counts[place] {
+            return Ok(Some(place));
+        }
+    }
+    Ok(None)
+}
+
+/// The first kept path that is not valley-free under the labels. It takes no memory.
+pub(crate) fn find_valley(
+    file: &ResultFile,
+    labels: &Labels<'_>,
+    steps: &Rows<PathId, Step>,
+) -> Option<usize>
+    requires labels { labels.now ≡ file.now.edges }
+    requires clean { IsMet file.now Rule.PathsCleaned }
+    requires listed { IsMet file.now Rule.EdgesListed }
+    requires steps { HaveSteps (its_edges file.now) (its_paths file.now) steps.now }
+    ensures { Finds file.now Rule.KeptValleyFree result }
+{
+    for place in 0..file.paths.len() {
+        let line = path_line_at(&file.paths, place);
+        if !is_served(labels, &line, steps_at(steps, place)) {
+            return Some(place);
+        }
+    }
+    None
+}

@@ -1,0 +1,60 @@
+ghost use Rattle.std.specs.Prelude.{◌≡◌, ◌↔◌, ◌<◌, ℕ, All, List, length, IsTrue};
+ghost use Rattle.tor_arena.specs.Distinct.{AllDistinct};
+ghost use Rattle.relationships.specs.Relationship.{Labelling, slopes, ValleyFree};
+ghost use Rattle.relationships.specs.declared.fate.Fate.TheVariants.{Kept};
+ghost use Rattle.rel_checker.specs.Flipping.{edges_of, AreApart};
+ghost use Rattle.rel_checker.specs.PathSteps.{place_in, AreSteps, step_slope, slopes_by, is_up, is_down};
+ghost use Rattle.rel_checker.specs.Tables.{labels_in};
+
+use crate::edges::labels::Labels;
+use crate::edges::step::Step;
+use relationships::Label;
+use result_text::PathLineRef;
+
+/// Whether a path with these steps is valley-free under the labels, if it is kept. It takes no memory.
+pub(crate) fn is_served(labels: &Labels<'_>, line: &PathLineRef<'_>, steps: &[Step]) -> bool
+    requires apart { AreApart labels.now }
+    requires distinct { AllDistinct line.now.path }
+    requires steps { AreSteps (edges_of labels.now) line.now.path steps.now }
+    ensures { IsTrue result ↔ (line.now.fate ≡ Kept → ValleyFree (labels_in labels.now) line.now.path) }
+{
+    !line.is_kept() || is_valley_free(labels, steps)
+}
+
+/// Whether the steps go up and then down, with at most one flat one between. The path falls from the first that doesn't go up.
+fn is_valley_free(labels: &Labels<'_>, steps: &[Step]) -> bool
+    requires { All (λ s. place_in s < length labels.now) steps.now }
+    ensures { (L : Labelling) (path : List ℕ) → slopes L path ≡ slopes_by labels.now steps.now → IsTrue result ↔ ValleyFree L path }
+{
+    let mut falling = false;
+    for step in steps {
+        let label = labels.of(step.place());
+        if falling && !goes_down(label, step.rises()) {
+            return false;
+        }
+        falling = !goes_up(label, step.rises());
+    }
+    true
+}
+
+/// Whether a step goes to a provider.
+fn goes_up(label: Label, rises: bool) -> bool
+    ensures { result ≡ is_up (step_slope label rises) }
+{
+    match label {
+        Label::Low => !rises,
+        Label::High => rises,
+        Label::Peer => false,
+    }
+}
+
+/// Whether a step goes to a customer.
+fn goes_down(label: Label, rises: bool) -> bool
+    ensures { result ≡ is_down (step_slope label rises) }
+{
+    match label {
+        Label::Low => rises,
+        Label::High => !rises,
+        Label::Peer => false,
+    }
+}

@@ -1,0 +1,60 @@
+ghost use Rattle.std.specs.Prelude.{◌≡◌, ◌↔◌, ◌+◌, ◌<◌, ◌≤◌, ◌^◌, length, IsTrue, IfOk};
+ghost use Rattle.path_clean.specs.Paths.{is_cleaned};
+ghost use Rattle.result_rules.specs.declared.rule.Rule.{Rule};
+ghost use Rattle.rel_checker.specs.Steps.{Finds};
+
+use crate::lending::path_line_at;
+use path_clean::{first_repeated, is_clean_path};
+use result_text::{PathLineRef, ResultFile};
+use std::alloc::Global;
+use tor_arena::{Keys, NoMemory};
+
+/// The most paths that a file may have.
+const MAX_PATHS: u32 = 1 << 23;
+
+/// The most numbers that its paths may have in sum.
+const MAX_NUMBERS: usize = 1 << 26;
+
+/// The first path line whose path is not clean or was never seen, or with which there are too many paths or numbers.
+pub(crate) fn find_unclean(alloc: Global, file: &ResultFile) -> Result<Option<usize>, NoMemory>
+    ensures { IfOk result (Finds file.now Rule.PathsCleaned) }
+{
+    let mut numbers = 0;
+    for place in 0..file.paths.len() {
+        let line = path_line_at(&file.paths, place);
+        if !is_sound(alloc, &line, place, numbers)? {
+            return Ok(Some(place));
+        }
+        numbers += line.path().len();
+    }
+    Ok(None)
+}
+
+/// Whether a path line is sound, where the paths before it have so many numbers. The limits are tested first.
+fn is_sound(
+    alloc: Global,
+    line: &PathLineRef<'_>,
+    place: usize,
+    numbers: usize,
+) -> Result<bool, NoMemory>
+    requires { numbers ≤ 2 ^ 26 }
+    ensures { IfOk result (λ sound. IsTrue sound ↔ (IsTrue (is_cleaned line.now.path) × (1 ≤ line.now.times) × (place < 2 ^ 23) ×
+        (numbers + length line.now.path ≤ 2 ^ 26))) }
+{
+    let path = line.path();
+    if place >= MAX_PATHS as usize || path.len() > MAX_NUMBERS - numbers || line.times() == 0 {
+        return Ok(false);
+    }
+    is_clean_path(alloc, path)
+}
+
+/// The first path line whose path stands in an earlier line.
+pub(crate) fn find_repeated(
+    alloc: Global,
+    keys: Keys,
+    file: &ResultFile,
+) -> Result<Option<usize>, NoMemory>
+    ensures { IfOk result (Finds file.now Rule.PathsDistinct) }
+{
+    first_repeated(alloc, keys, file.paths.paths())
+}

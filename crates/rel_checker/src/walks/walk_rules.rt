@@ -1,0 +1,69 @@
+ghost use Rattle.std.specs.Prelude.{◌≡◌, ◌≤◌, ◌↔◌, IsTrue, Some, IfOk, length, take};
+ghost use Rattle.relationships.specs.declared.walk.Walk.{Walk};
+ghost use Rattle.relationships.specs.Evidence.{Refutes};
+ghost use Rattle.relationships.specs.declared.fate.Fate.TheVariants.{Lost};
+ghost use Rattle.rel_checker.specs.Naming.{nameable};
+ghost use Rattle.result_rules.specs.declared.rule.Rule.TheVariants.{LostRefuted, OrdersShown};
+ghost use Rattle.rel_checker.specs.Steps.{Finds};
+
+use crate::lending::{path_line_at, walk_at};
+use crate::walks::closed_walks::comes_back;
+use crate::walks::links::is_walk;
+use crate::walks::pairs::Pairs;
+use crate::walks::shown::shown_by;
+use relationships::WalkRef;
+use result_text::{PathLineRef, PathLines, ResultFile};
+use std::alloc::Global;
+use tor_arena::{Keys, NoMemory};
+
+/// Whether the walk refutes over the paths of the kept lines before a place and of the line in it.
+fn refutes(lines: &PathLines, place: usize, line: &PathLineRef<'_>, walk: &WalkRef<'_>) -> bool
+    requires { place ≤ length lines.now }
+    ensures { IsTrue result ↔ Refutes (nameable (take place lines.now) (Some line.now)) walk.now }
+{
+    comes_back(walk.ases()) && is_walk(lines, place, Some(line), walk)
+}
+
+/// Whether the line in a place is kept, or its walk refutes over the paths of the kept lines before it and its own.
+fn is_lost_rightly(lines: &PathLines, place: usize, line: &PathLineRef<'_>) -> bool
+    requires { place ≤ length lines.now }
+    ensures { IsTrue result ↔ ((walk : Walk) → line.now.fate ≡ Lost walk →
+        Refutes (nameable (take place lines.now) (Some line.now)) walk) }
+{
+    match line.walk() {
+        None => true,
+        Some(walk) => refutes(lines, place, line, walk),
+    }
+}
+
+/// The place of the first lost line whose walk doesn't refute. It takes no memory.
+pub(crate) fn find_unrefuted(file: &ResultFile) -> Option<usize>
+    ensures { Finds file.now LostRefuted result }
+{
+    for place in 0..file.paths.len() {
+        let line = path_line_at(&file.paths, place);
+        if !is_lost_rightly(&file.paths, place, &line) {
+            return Some(place);
+        }
+    }
+    None
+}
+
+/// The place of the first why line that shows no order, or one of two ASes of which an earlier line shows an order.
+pub(crate) fn find_unshown(
+    alloc: Global,
+    keys: Keys,
+    file: &ResultFile,
+) -> Result<Option<usize>, NoMemory>
+    ensures { IfOk result (Finds file.now OrdersShown) }
+{
+    let mut shown = Pairs::new(alloc, keys);
+    for place in 0..file.whys.len() {
+        let walk = walk_at(&file.whys, place);
+        let Some((over, under)) = shown_by(&file.paths, &shown, &walk) else {
+            return Ok(Some(place));
+        };
+        shown.push(over, under)?;
+    }
+    Ok(None)
+}

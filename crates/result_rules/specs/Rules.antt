@@ -1,0 +1,155 @@
+-- The rules that a result has to meet, which are this project's own (docs/FORMATS.md, "The rules of a result"). Each asks
+-- something of some of its lines, one by one. That a path is valley-free is the notion of L. Gao, "On inferring autonomous system
+-- relationships in the Internet", 2001.
+use Rattle.std.specs.Prelude.{◌≡◌, ℕ, ◌+◌, ◌-◌, ◌<◌, ◌≤◌, ◌^◌, IsTrue, List, [], ◌∷◌, ◌++◌, length, map, max, take, Some, Contains, slice_get, sum_by, nat_lt, if◌then◌else◌}
+use Rattle.relationships.specs.declared.walk.Walk.{Walk}
+use Rattle.relationships.specs.Relationship.{ValleyFree}
+use Rattle.relationships.specs.Graph.{edges, support}
+use Rattle.relationships.specs.Evidence.{paths_of, Refutes, Shows}
+use Rattle.relationships.specs.Checking.{Claim, IsBorneOut, IsProbe}
+use Rattle.path_clean.specs.Paths.{is_cleaned}
+use Rattle.relationships.specs.declared.fate.Fate.TheVariants.{Kept, Lost}
+use Rattle.result_text.specs.declared.file.PathLine.{PathLine}
+use Rattle.result_text.specs.declared.file.EdgeLine.{EdgeLine}
+use Rattle.result_text.specs.declared.file.Totals.{Totals}
+use Rattle.result_text.specs.declared.file.ResultFile.{ResultFile}
+use Rattle.result_text.specs.Numbering.{ratio_line}
+use Rattle.result_rules.specs.declared.rule.Rule.{Rule}
+use Rattle.result_rules.specs.declared.rule.Rule.TheVariants.{RatioBounded, PathsCleaned, PathsDistinct, LostRefuted, EdgesListed}
+use Rattle.result_rules.specs.declared.rule.Rule.TheVariants.{KeptValleyFree, SupportCounted, OrdersShown, MarksBorneOut, TotalsRight}
+use Rattle.result_rules.specs.Totals.{totals_by}
+use Rattle.result_rules.specs.File.{its_paths, kept_before, its_kept, its_claims, its_edges, its_labels, shown_orders, its_probes, path_line, edge_line, why_line, open_line, last_line}
+
+-- the number that a verdict names
+abbrev pub number_of : Rule → ℕ
+number_of RatioBounded = 1
+number_of PathsCleaned = 2
+number_of PathsDistinct = 3
+number_of LostRefuted = 4
+number_of EdgesListed = 5
+number_of KeptValleyFree = 6
+number_of SupportCounted = 7
+number_of OrdersShown = 8
+number_of MarksBorneOut = 9
+number_of TotalsRight = 10
+
+-- ---- what the rules ask
+
+-- a path line: its path is clean, it was seen, and with it there are at most 2 ^ 23 paths, of at most 2 ^ 26 numbers in sum
+pub record IsSound (file : ResultFile) (k : ℕ) (line : PathLine) : Type 0 where
+  pub cleaned : IsTrue (is_cleaned line.path)
+  pub seen : 1 ≤ line.times
+  pub few : k < 2 ^ 23
+  pub numbers : sum_by length (take (k + 1) (its_paths file)) ≤ 2 ^ 26
+
+-- no earlier path is the same
+abbrev pub IsNew : ResultFile → ℕ → PathLine → Type 0
+IsNew file k line = Contains (take k (its_paths file)) line.path → ⊥
+
+-- a lost path's walk refutes over the paths kept before it and its own, whose number is its place from 1
+abbrev pub IsLostRightly : ResultFile → ℕ → PathLine → Type 0
+IsLostRightly file k line =
+    (walk : Walk) → line.fate ≡ Lost walk → Refutes (kept_before file k ++ (k + 1, line.path) ∷ []) walk
+
+-- a kept path is valley-free under the labels
+abbrev pub IsServed : ResultFile → PathLine → Type 0
+IsServed file line = line.fate ≡ Kept → ValleyFree (its_labels file) line.path
+
+-- the support is the number of kept paths that hold the edge
+abbrev pub IsCounted : ResultFile → EdgeLine → Type 0
+IsCounted file line = line.support ≡ support (paths_of (its_kept file)) (line.low, line.high)
+
+-- a why line shows an order over the kept paths, from the orders that the lines before it show
+abbrev pub IsShown : ResultFile → ℕ → Walk → Type 0
+IsShown file k walk = (a b : ℕ) × Shows (its_kept file) (shown_orders (take k file.whys)) walk a b
+
+-- the mark of an edge line is borne out by the why lines and the open lines
+abbrev pub IsMarkedRightly : ResultFile → Claim → Type 0
+IsMarkedRightly file claim = IsBorneOut (paths_of (its_kept file)) (shown_orders file.whys) (its_probes file) claim
+
+-- an open line serves for an edge for which no earlier one serves
+abbrev pub IsServing : ResultFile → ℕ → ℕ × ℕ → Type 0
+IsServing file k probe = IsProbe (paths_of (its_kept file)) (its_claims file) (take k (its_probes file)) probe
+
+-- what the last line has to say
+abbrev pub right_totals : ResultFile → Totals
+right_totals file = totals_by (map (λ p. p.fate) file.paths) file.edges
+
+-- ---- the rules, line by line
+
+-- of how many lines a rule asks something
+abbrev pub count_for : ResultFile → Rule → ℕ
+count_for file RatioBounded = 1
+count_for file PathsCleaned = length file.paths
+count_for file PathsDistinct = length file.paths
+count_for file LostRefuted = length file.paths
+count_for file EdgesListed = max (length file.edges) (length (edges (its_paths file)))
+count_for file KeptValleyFree = length file.paths
+count_for file SupportCounted = length file.edges
+count_for file OrdersShown = length file.whys
+count_for file MarksBorneOut = length file.edges + length file.probes
+count_for file TotalsRight = 1
+
+-- the line in place k, if there is one, has P
+abbrev pub ForSome : {X : Type 0} → List X → ℕ → (X → Type 0) → Type 0
+ForSome {X} lines k P = (line : X) → slice_get lines k ≡ Some line → P line
+
+-- of the lines with marks the first are the edge lines, and behind them the others are the open lines
+abbrev pub AsksOfMarks : ResultFile → ℕ → Type 0
+AsksOfMarks file k = ForSome (its_claims file) k (IsMarkedRightly file)
+
+abbrev pub AsksOfProbes : ResultFile → ℕ → Type 0
+AsksOfProbes file k =
+    let place = k - length file.edges in
+    length file.edges ≤ k → ForSome (its_probes file) place (IsServing file place)
+
+-- what a rule asks of the line in place k of these. An edge that is absent counts as a line behind the others
+abbrev pub Asks : ResultFile → Rule → ℕ → Type 0
+Asks file RatioBounded k = file.ratio ≤ 1000000
+Asks file PathsCleaned k = ForSome file.paths k (IsSound file k)
+Asks file PathsDistinct k = ForSome file.paths k (IsNew file k)
+Asks file LostRefuted k = ForSome file.paths k (IsLostRightly file k)
+Asks file EdgesListed k = slice_get (its_edges file) k ≡ slice_get (edges (its_paths file)) k
+Asks file KeptValleyFree k = ForSome file.paths k (IsServed file)
+Asks file SupportCounted k = ForSome file.edges k (IsCounted file)
+Asks file OrdersShown k = ForSome file.whys k (IsShown file k)
+Asks file MarksBorneOut k = AsksOfMarks file k × AsksOfProbes file k
+Asks file TotalsRight k = file.totals ≡ right_totals file
+
+-- the number of that line in the file
+abbrev pub line_for : ResultFile → Rule → ℕ → ℕ
+line_for file RatioBounded k = ratio_line
+line_for file PathsCleaned k = path_line file k
+line_for file PathsDistinct k = path_line file k
+line_for file LostRefuted k = path_line file k
+line_for file EdgesListed k = edge_line file k
+line_for file KeptValleyFree k = path_line file k
+line_for file SupportCounted k = edge_line file k
+line_for file OrdersShown k = why_line file k
+line_for file MarksBorneOut k = if nat_lt k (length file.edges) then edge_line file k else open_line file (k - length file.edges)
+line_for file TotalsRight k = last_line file
+
+-- ---- verdicts
+
+-- each line meets the rule
+abbrev pub IsMet : ResultFile → Rule → Type 0
+IsMet file rule = (k : ℕ) → k < count_for file rule → Asks file rule k
+
+-- all rules are met
+abbrev pub Accepts : ResultFile → Type 0
+Accepts file = (rule : Rule) → IsMet file rule
+
+-- the line in place k is the first that breaks the rule
+pub record BreaksFirst (file : ResultFile) (rule : Rule) (k : ℕ) : Type 0 where
+  pub within : k < count_for file rule
+  pub breach : Asks file rule k → ⊥
+  pub before : (j : ℕ) → j < k → Asks file rule j
+
+-- the line and the number are those of the least rule that is broken
+pub record IsRefused (file : ResultFile) (line number : ℕ) : Type 0 where
+  pub rule : Rule
+  pub named : number ≡ number_of rule
+  pub place : ℕ
+  pub numbered : line ≡ line_for file rule place
+  pub first : BreaksFirst file rule place
+  pub earlier : (other : Rule) → number_of other < number_of rule → IsMet file other

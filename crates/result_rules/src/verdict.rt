@@ -1,0 +1,8 @@
+/// What a checker says of a result.
+#[derive(Clone, Copy, Debug, PartialEq, Eq)]
+pub enum Verdict {
+    /// Every rule is met.
+    Yes,
+    /// The least rule that is broken, and its first line, from 1.
+    No { line: u64, rule: u8 },
+}
