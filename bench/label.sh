@@ -85,7 +85,7 @@ fn labels_of(alloc: Global, lines: &[EdgeLine]) -> Result<Labels, NoMemory> {
     for line in lines {
         labels.push(line.label)?;
     }
-    Labels::from_labels(alloc, labels.as_slice())
+    Labels::from_slice(alloc, labels.as_slice())
 }
 
 /// Whether all paths of the clauses are valley-free under the labels.
