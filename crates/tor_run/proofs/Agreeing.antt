@@ -46,7 +46,7 @@ told settings files taken file text few gives faithful is dumps (inr e) =
     (inr (file, record { text = is; rules = faithful.accepted }, by_dumps settings files taken file settings.dumps few gives faithful))
 
 is_ok : {T E : Type 0} (r : Result T E) (x : T) → r ≡ Ok x → IsOk r
-is_ok r x e = subst (λ q. IsOk q) (sym e) tt
+is_ok r x e = subst (λ q. IsOk q) (sym e) refl
 
 can_be : OneValue → (settings : Settings) (files : Files) (taken : Taken) (file : ResultFile) (text : List ℕ) → settings.max_paths ≤ max_paths → seen settings files ≡ Ok taken
     → Faithful settings taken file → IsTextOf file text → (words : List (List ℕ)) (check : CheckSettings) → check_settings_given words ≡ Some check → files check.result ≡ Some text
