@@ -1,0 +1,31 @@
+use Rattle.std.proofs.Common.{◌≡◌, ◌∙◌, ℕ, List, Some, length, refl, sym, ap, subst}
+use Rattle.std.specs.Prelude.{slice_get, slice_index_or}
+use Rattle.std.proofs.lemmas.Option.{slice_get_read, get_or_from_slice_get}
+use Rattle.std.proofs.lemmas.Result.{on_ok_weaker}
+use Rattle.tor_digraph.specs.declared.way.Way.{Way}
+use Rattle.tor_digraph.proofs.Gets.{slice_get-lt}
+use Rattle.tor_clauses.specs.Literals.{opposite_node}
+use Rattle.path_select.specs.declared.known.Part.{Part}
+use Rattle.path_select.specs.Rounds.{IsPart, IsPartOf}
+use Rattle.path_select.proofs.Ways.{some_same}
+use Rattle.path_select.proofs.known.Known.go_along_part.Goals as goal
+
+pub returns : goal.returns
+returns c =
+    on_ok_weaker c.go_along.result
+    (λ on node found.
+    let arcs = c.args.digraph.now.arcs in
+    let known = c.requires.3 node c.args.place found in
+    let parts : List Part = c.as_slice.result.now in
+    let part : Part = slice_index_or parts c.args.place (record { way = 0; skip = 0 }) in
+    let part_there : slice_get parts c.args.place ≡ Some known.0 = ap (λ (l : List Part). slice_get l c.args.place) c.as_slice.ensures ∙ known.1 in
+    let part_same : known.0 ≡ part = sym (get_or_from_slice_get parts c.args.place known.0 (record { way = 0; skip = 0 }) part_there) in
+    let of = subst (λ p. IsPartOf arcs c.requires.1 c.args.self.now.ways p node) part_same known.2 in
+    let ways : List (Way ℕ ℕ) = c.as_slice-2.result.now in
+    let along : Way ℕ ℕ = c.index-as_slice-part.result in
+    let there : slice_get ways part.way ≡ Some of.way = ap (λ (l : List (Way ℕ ℕ)). slice_get l part.way) c.as_slice-2.ensures ∙ of.there in
+    let below = slice_get-lt ways part.way of.way there in
+    let same : of.way ≡ along = some_same (sym there ∙ slice_get_read ways (length ways) part.way along refl below c.index-as_slice-part.is) in
+    let leads : IsPart arcs along part.skip node = subst (λ w. IsPart arcs w part.skip node) same of.leads in
+    on leads.from leads.to node (opposite_node node) leads.led leads.begins leads.ends)
+    c.go_along.ensures
