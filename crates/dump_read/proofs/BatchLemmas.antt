@@ -1,14 +1,16 @@
 -- Batches of cleaned routes.
-use Rattle.std.proofs.Common.{◌≡◌, ◌∙◌, ◌+◌, ◌<◌, ◌≤◌, ◌++◌, ◌⊎◌, inl, inr, IfSome, ◌∷◌, [], List, ℕ, zero, suc, Bool, true, false, cond, Option, Some, None, Result, Ok, Err, option_map, bytes_eq, length, drop, map, slice_get, nat_eq, refl, ap, sym, subst, arith}
-use Rattle.std.specs.Prelude.{◌^◌, is_some, OnOk}
+use Rattle.std.proofs.Common.{◌≡◌, ◌∙◌, ◌+◌, ◌<◌, ◌≤◌, ◌++◌, ◌∷◌, [], List, ℕ, zero, suc, Bool, true, false, cond, Option, Some, None, Result, Ok, Err, option_map, bytes_eq, length, drop, map, slice_get, nat_eq, refl, ap, sym, subst, arith}
+use Rattle.std.specs.Prelude.{is_some, OnOk}
 use Rattle.std.proofs.lemmas.List.{length-append, length-map}
 use Rattle.std.proofs.Math.ListN.{drop_of_length-le}
+use Rattle.tor_arena.specs.Limits.{most_places}
 use Rattle.path_clean.specs.declared.cleaned.Sets.{Sets}
 use Rattle.path_clean.specs.declared.cleaned.Cause.{Cause}
 use Rattle.path_clean.specs.declared.cleaned.Cleaned.{Cleaned}
 use Rattle.path_clean.specs.declared.cleaned.Cleaned.TheVariants.{Path, Aside}
 use Rattle.path_clean.specs.Clean.{clean_of, cleaned_as}
 use Rattle.path_clean.specs.Counts.{one_more}
+use Rattle.path_clean.specs.Lookups.{StandWhereFound}
 use Rattle.path_clean.specs.Paths.{is_cleaned}
 use Rattle.path_clean.specs.Rows.{Counted, Table}
 use Rattle.path_clean.specs.Table.{place_of, with_path}
@@ -17,7 +19,7 @@ use Rattle.dump_read.specs.declared.error.LimitKind.{LimitKind}
 use Rattle.dump_read.specs.declared.error.LimitKind.TheVariants.{Paths, Numbers}
 use Rattle.dump_read.specs.Routes.{Route}
 use Rattle.dump_read.specs.declared.taking.Untaken.{Untaken}
-use Rattle.dump_read.specs.Batches.{AreFound, AreRight, AreOf, Batched, cleaned_by, IsBatch, IsLimitAt, TakesAt}
+use Rattle.dump_read.specs.Batches.{AreFound, AreOf, Batched, cleaned_by, IsBatch, IsLimitAt, TakesAt}
 use Rattle.dump_read.specs.Refusals.{IsLimit}
 use Rattle.dump_read.specs.Taking.{Taken, take_cleaned, take_path, take_routes, Takes, with_one, has_too_many_numbers}
 use Rattle.dump_read.proofs.Takings.{SoFar, one_more as one_route_more, limit_at, all_taken}
@@ -89,7 +91,7 @@ clean-one (y ∷ xs) x zero path all one at = all 0 path at
 clean-one (y ∷ xs) x (suc k) path all one at = clean-one xs x k path (λ j. all (suc j)) one at
 
 pub IsBatch-push : (sets : Sets) (route : Route) (causes : List (Option Cause)) (paths : List (List ℕ)) (cause : Option Cause) (path : List ℕ) → IsBatch causes paths
-    → length (paths ++ path ∷ []) ≤ 2 ^ 28 → cleaned_as cause path ≡ clean_of sets route.width route.attrs → IsBatch (causes ++ cause ∷ []) (paths ++ path ∷ [])
+    → length (paths ++ path ∷ []) ≤ most_places → cleaned_as cause path ≡ clean_of sets route.width route.attrs → IsBatch (causes ++ cause ∷ []) (paths ++ path ∷ [])
 IsBatch-push sets route causes paths cause path batch few is =
     let same = batch.same in
     let many = length-append causes (cause ∷ []) in
@@ -153,7 +155,7 @@ stands-at (route ∷ routes) (suc k) lt = stands-at routes k (omega (arith, lt))
 pub AreFound-at : (batch : Batched) (k : ℕ) (old new : Taken) → k < length batch.routes → AreFound old.table.rows batch → TakesAt batch k old new → AreFound new.table.rows batch
 AreFound-at batch k old new lt found takes = let route = stands-at batch.routes k lt in AreFound-taken batch old new route.0 found (takes route.0 route.1)
 
-pub AreFound-each : (rows : List Counted) (causes : List (Option Cause)) (paths : List (List ℕ)) (places : List (Option ℕ)) → length causes ≡ length paths → AreRight rows paths places
+pub AreFound-each : (rows : List Counted) (causes : List (Option Cause)) (paths : List (List ℕ)) (places : List (Option ℕ)) → length causes ≡ length paths → StandWhereFound rows paths places
     → AreFound rows (record { routes = cleaned_by causes paths; places = places })
 AreFound-each rows causes paths places same right = λ k id path at route. right k id path at (its_path causes paths k path route)
   where
@@ -163,26 +165,6 @@ AreFound-each rows causes paths places same right = λ k id path at route. right
     its_path (None ∷ causes) (y ∷ paths) zero path route = cc
     its_path (Some cause ∷ causes) (y ∷ paths) zero path route = absurd cc
     its_path (x ∷ causes) (y ∷ paths) (suc k) path route = its_path causes paths k path route
-
--- what is at a place of a list with one item more
-at_push : {X : Type 0} (xs : List X) (y : X) (k : ℕ) (x : X) → slice_get (xs ++ y ∷ []) k ≡ Some x → (slice_get xs k ≡ Some x) ⊎ ((k ≡ length xs) × (x ≡ y))
-at_push [] y zero x e = inr (refl, cc)
-at_push [] y (suc k) x e = inl e
-at_push (a ∷ xs) y zero x e = inl e
-at_push (a ∷ xs) y (suc k) x e = elim (at_push xs y k x e) [ inl h ↦ inl h | inr h ↦ inr (ap suc h.0, h.1) ]
-
--- one place more
-pub AreRight-push : (rows : List Counted) (paths : List (List ℕ)) (places : List (Option ℕ)) (place : ℕ) (path : List ℕ) (found : Option ℕ) → length places ≡ place
-    → slice_get paths place ≡ Some path → IfSome found (λ id. place_of rows path ≡ Some id) → AreRight rows paths places → AreRight rows paths (places ++ found ∷ [])
-AreRight-push rows paths places place path found many here stands right k id other at route = elim (at_push places found k (Some id) at) [
-  | inl old ↦ right k id other old route
-  | inr new ↦
-      let is : path ≡ other = same_path path other (sym here ∙ ap (slice_get paths) (sym (new.0 ∙ many)) ∙ route) in
-      ap (place_of rows) (sym is) ∙ subst (λ o. IfSome o (λ id. place_of rows path ≡ Some id)) (sym new.1) stands
-]
-  where
-    same_path : (x y : List ℕ) → ◌≡◌ {A = Option (List ℕ)} (Some x) (Some y) → x ≡ y
-    same_path x y e = cc
 
 -- ---- one route after the other
 

@@ -1,5 +1,6 @@
 -- The routes of one record, each cleaned before the first of them is taken in.
-use Rattle.std.specs.Prelude.{◌≡◌, ◌≤◌, ◌^◌, ℕ, true, List, [], ◌∷◌, length, map, slice_get, Option, Some, Ok}
+use Rattle.std.specs.Prelude.{◌≡◌, ◌≤◌, ℕ, true, List, [], ◌∷◌, length, map, slice_get, Option, Some, Ok}
+use Rattle.tor_arena.specs.Limits.{most_places}
 use Rattle.path_clean.specs.declared.cleaned.Sets.{Sets}
 use Rattle.path_clean.specs.declared.cleaned.Cause.{Cause}
 use Rattle.path_clean.specs.declared.cleaned.Cleaned.{Cleaned}
@@ -27,19 +28,13 @@ cleaned_by (cause ∷ causes) (path ∷ paths) = cleaned_as cause path ∷ clean
 -- a cause and a path for each route; where there is no cause the path is clean
 pub record IsBatch (causes : List (Option Cause)) (paths : List (List ℕ)) : Type 0 where
   pub same : length causes ≡ length paths
-  pub few : length paths ≤ 2 ^ 28
+  pub few : length paths ≤ most_places
   pub clean : (k : ℕ) (path : List ℕ) → slice_get (cleaned_by causes paths) k ≡ Some (Path path) → is_cleaned path ≡ true
 
 -- where the path of a route was found it stands
 abbrev pub AreFound : List Counted → Batched → Type 0
 AreFound rows batch =
     (k id : ℕ) (path : List ℕ) → slice_get batch.places k ≡ Some (Some id) → slice_get batch.routes k ≡ Some (Path path) →
-    place_of rows path ≡ Some id
-
--- where a place is named it is that of the path of the same number
-abbrev pub AreRight : List Counted → List (List ℕ) → List (Option ℕ) → Type 0
-AreRight rows paths places =
-    (k id : ℕ) (path : List ℕ) → slice_get places k ≡ Some (Some id) → slice_get paths k ≡ Some path →
     place_of rows path ≡ Some id
 
 -- the route of this place was taken in

@@ -1,11 +1,12 @@
-ghost use Rattle.std.specs.Prelude.{◌≡◌, ◌++◌, ◌∷◌, ◌<◌, ◌≤◌, [], length, slice_get, Some, IfSome, OnOk, OnErr, IfErr};
+ghost use Rattle.std.specs.Prelude.{◌≡◌, ◌++◌, ◌∷◌, ◌<◌, ◌≤◌, [], length, slice_get, Some, OnOk, OnErr, IfErr};
+ghost use Rattle.tor_arena.specs.Limits.{most_places};
 ghost use Rattle.path_clean.specs.Clean.{clean_of};
 ghost use Rattle.path_clean.specs.Table.{place_of};
-ghost use Rattle.dump_read.specs.Batches.{AreFound, AreRight, TakesAt, IsLimitAt, TakesBatch, IsBatchLimit, TakesSomeOfBatch};
+ghost use Rattle.dump_read.specs.Batches.{AreFound, TakesAt, IsLimitAt, TakesBatch, IsBatchLimit, TakesSomeOfBatch};
 
 use crate::taking::{Taken, Untaken, take_again, take_path};
 use path_attrs::{Attrs, Width};
-use path_clean::{Cause, Guess, PathTable, Sets, Tag, clean_into};
+use path_clean::{Cause, Lookup, PathTable, Sets, clean_into};
 use std::alloc::Global;
 use std::marker::Model;
 use tor_arena::{Index, List, NoMemory, PathId, Rows};
@@ -18,11 +19,8 @@ pub(crate) struct Batch {
     causes: Vec<Option<Cause>>,
     // of each route its path
     paths: Rows<PathId, u32>,
-    // of the first routes the tags of their paths, and guesses where these stand in the table
-    tags: List<Tag>,
-    guesses: List<Guess>,
-    // of the first routes where their paths stood in the table, as far as it was guessed
-    places: List<Option<PathId>>,
+    // where the paths of the routes were found in the table
+    lookup: Lookup,
     // the path of the route that is being cleaned
     path: List<u32>,
 }
@@ -32,7 +30,7 @@ impl Model for Batch {
 
     ghost Value = { Batched };
 
-    ghost view = { λ batch. record { routes = cleaned_by batch.causes.items batch.paths; places = batch.places } };
+    ghost view = { λ batch. record { routes = cleaned_by batch.causes.items batch.paths; places = batch.lookup } };
 
     ghost invariant = { λ batch. IsBatch batch.causes.items batch.paths };
 }
@@ -45,9 +43,7 @@ impl Batch {
         Batch {
             causes: Vec::new(alloc),
             paths: Rows::new(alloc),
-            tags: List::new(alloc),
-            guesses: List::new(alloc),
-            places: List::new(alloc),
+            lookup: Lookup::new(alloc),
             path: List::new(alloc),
         }
     }
@@ -59,7 +55,7 @@ impl Batch {
     {
         self.causes.clear();
         self.paths.cut_to(0);
-        self.places.clear();
+        self.lookup.clear();
     }
 
     /// How many routes there are. It takes no memory.
@@ -89,8 +85,7 @@ impl Batch {
         Ok(())
     }
 
-    /// Looks the paths of all routes up, as far as a guess tells where they stand: first all guesses are made, then they are tested.
-    /// There is nothing to gain for a single one.
+    /// Looks the paths of all routes up in the table. There is nothing to gain for a single one.
     pub fn look_up(&mut self, table: &PathTable) -> Result<(), NoMemory>
         requires none { self.old.places ≡ [] }
         ensures routes { self.new.routes ≡ self.old.routes }
@@ -99,14 +94,7 @@ impl Batch {
         if self.len() < 2 {
             return Ok(());
         }
-        tag_each(table, &self.paths, &mut self.tags)?;
-        guess_each(table, self.tags.as_slice(), &mut self.guesses)?;
-        find_each(
-            table,
-            &self.paths,
-            self.guesses.as_slice(),
-            &mut self.places,
-        )
+        table.find_batch(&self.paths, &mut self.lookup)
     }
 
     /// Takes in one of the routes. A route that isn't taken changes nothing.
@@ -119,7 +107,7 @@ impl Batch {
     {
         match self.causes[place] {
             Some(cause) => taken.counts.add(cause),
-            None => match found_at(self.places.as_slice(), place) {
+            None => match self.lookup.place(place) {
                 Some(id) => take_again(taken, id),
                 None => take_path(taken, row_at(&self.paths, place))?,
             },
@@ -131,67 +119,13 @@ impl Batch {
 /// The path of a route.
 fn row_at(paths: &Rows<PathId, u32>, place: usize) -> &[u32]
     requires there { place < length paths.now }
-    requires few { length paths.now ≤ 268435456 }
+    requires few { length paths.now ≤ most_places }
     ensures { slice_get paths.now place ≡ Some result.now }
 {
     match PathId::from_place(place) {
         Some(id) => paths.row(id),
         None => unreachable!(),
     }
-}
-
-/// Where the path of a route was found, if it was.
-fn found_at(places: &[Option<PathId>], place: usize) -> Option<PathId>
-    ensures { IfSome result (λ id. slice_get places.now place ≡ Some (Some id)) }
-{
-    if place < places.len() {
-        places[place]
-    } else {
-        None
-    }
-}
-
-/// The tag of each of the paths.
-fn tag_each(
-    table: &PathTable,
-    paths: &Rows<PathId, u32>,
-    tags: &mut List<Tag>,
-) -> Result<(), NoMemory>
-    ensures { OnOk result (length tags.new ≡ length paths.now) }
-{
-    tags.clear();
-    for place in 0..paths.len() {
-        tags.push(table.tag(row_at(paths, place)))?;
-    }
-    Ok(())
-}
-
-/// A guess for each of the tags. These looks into memory follow one another with nothing between them.
-fn guess_each(table: &PathTable, tags: &[Tag], guesses: &mut List<Guess>) -> Result<(), NoMemory>
-    ensures { OnOk result (length guesses.new ≡ length tags.now) }
-{
-    guesses.clear();
-    for place in 0..tags.len() {
-        guesses.push(table.guess(tags[place]))?;
-    }
-    Ok(())
-}
-
-/// Where each of the paths stands in the table, if its guess says so.
-fn find_each(
-    table: &PathTable,
-    paths: &Rows<PathId, u32>,
-    guesses: &[Guess],
-    places: &mut List<Option<PathId>>,
-) -> Result<(), NoMemory>
-    requires none { places.old ≡ [] }
-    requires many { length guesses.now ≡ length paths.now }
-    ensures { OnOk result (AreRight table.now.rows paths.now places.new) }
-{
-    for place in 0..paths.len() {
-        places.push(table.find_guessed(guesses[place], row_at(paths, place)))?;
-    }
-    Ok(())
 }
 
 /// Takes in the routes of a batch, whose paths were looked up, in order, up to the first that meets a limit.

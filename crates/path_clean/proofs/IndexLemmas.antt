@@ -9,9 +9,9 @@ use Rattle.path_clean.specs.Inside.{counted_by}
 use Rattle.path_clean.specs.Table.{place_of}
 use Rattle.path_clean.proofs.TableLemmas.{found-at}
 use Rattle.path_clean.specs.declared.slots.Slot.{Slot}
-use Rattle.path_clean.specs.declared.slots.Probe.{Probe}
-use Rattle.path_clean.specs.declared.slots.Probe.TheVariants.{Held, Free, Full}
-use Rattle.path_clean.specs.Slots.{tag_of, start_at, row_from_one, Names, HeldFrom, IsVacant, IsVacancy, IsProbe, IsAbsent, Tells, IsTold, AreWithin, IsIndexed}
+use Rattle.path_clean.specs.declared.slots.SearchEnd.{SearchEnd}
+use Rattle.path_clean.specs.declared.slots.SearchEnd.TheVariants.{Held, Free, Full}
+use Rattle.path_clean.specs.Slots.{tag_of, start_at, row_from_one, Names, HeldFrom, IsVacant, IsVacancy, IsSearchEnd, IsAbsent, Tells, IsTold, AreWithin, IsIndexed}
 use Rattle.path_clean.proofs.SlotGets.{get-push_old, get-push_new, get-push_cases, get-set_cases}
 use Rattle.path_clean.proofs.SlotLemmas.{stays-set, keeps-set, names-set, held-stays}
 
@@ -28,8 +28,8 @@ absent-by : (seed : ℕ) (rows : List (List ℕ)) (slots : List Slot) (path : Li
 absent-by seed rows slots path start index is none k lt e =
     none (subst (λ s. HeldFrom rows slots path s (length slots)) (sym is) (index.each k path (get-row rows k lt ∙ ap (λ (r : List ℕ). Some r) e)))
 
-pub tells-by : (seed : ℕ) (rows : List (List ℕ)) (slots : List Slot) (path : List ℕ) (tag : ℕ) (probe : Probe) → IsIndexed seed rows slots → tag ≡ tag_of seed path →
-    IsProbe rows slots (start_at tag (length slots)) path probe → Tells rows path probe
+pub tells-by : (seed : ℕ) (rows : List (List ℕ)) (slots : List Slot) (path : List ℕ) (tag : ℕ) (end : SearchEnd) → IsIndexed seed rows slots → tag ≡ tag_of seed path →
+    IsSearchEnd rows slots (start_at tag (length slots)) path end → Tells rows path end
 tells-by seed rows slots path tag (Held id) index is p =
     let lt = slice_get_within rows id path p in
     (lt, same (row_at rows id) path (sym (get-row rows id lt) ∙ p))
@@ -38,11 +38,11 @@ tells-by seed rows slots path tag (Free place) index is p =
 tells-by seed rows slots path tag Full index is p =
     absent-by seed rows slots path (start_at tag (length slots)) index (ap (λ t. start_at t (length slots)) is) p
 
-pub not_there : (rows : List (List ℕ)) (path : List ℕ) (probe : Probe) → Tells rows path probe → ((x : ℕ) × (probe ≡ Free x)) ⊎ (probe ≡ Full) → IsAbsent rows path
-not_there rows path probe t (inl h) = subst (Tells rows path) h.1 t
-not_there rows path probe t (inr h) = subst (Tells rows path) h t
+pub not_there : (rows : List (List ℕ)) (path : List ℕ) (end : SearchEnd) → Tells rows path end → ((x : ℕ) × (end ≡ Free x)) ⊎ (end ≡ Full) → IsAbsent rows path
+not_there rows path end t (inl h) = subst (Tells rows path) h.1 t
+not_there rows path end t (inr h) = subst (Tells rows path) h t
 
-pub vacancy-of : (rows : List (List ℕ)) (slots : List Slot) (start : ℕ) (path : List ℕ) (probe : Probe) → IsProbe rows slots start path probe → IsVacancy slots start probe
+pub vacancy-of : (rows : List (List ℕ)) (slots : List Slot) (start : ℕ) (path : List ℕ) (end : SearchEnd) → IsSearchEnd rows slots start path end → IsVacancy slots start end
 vacancy-of rows slots start path (Held id) p = tt
 vacancy-of rows slots start path (Free place) p = p.0
 vacancy-of rows slots start path Full p = tt
@@ -120,12 +120,12 @@ index-push seed rows slots path place slot index vacant tag row room = record { 
 
 -- ---- what a search tells of a table
 
-pub not_held : (rows : List (List ℕ)) (path : List ℕ) (probe : Probe) → Tells rows path probe → ((id : ℕ) → probe ≡ Held id → ⊥) → IsAbsent rows path
+pub not_held : (rows : List (List ℕ)) (path : List ℕ) (end : SearchEnd) → Tells rows path end → ((id : ℕ) → end ≡ Held id → ⊥) → IsAbsent rows path
 not_held rows path (Held id) t other = absurd (other id refl)
 not_held rows path (Free place) t other = t
 not_held rows path Full t other = t
 
 -- a path that a search ends at no row of has no place
-pub new-by : (rows : List (List ℕ)) (times path : List ℕ) (probe : Probe) → length times ≡ length rows → none_twice rows ≡ true → Tells rows path probe →
-    ((id : ℕ) → probe ≡ Held id → ⊥) → place_of (counted_by rows times) path ≡ None
-new-by rows times path probe many once t other = sym (found-at rows times path None many once tt (not_held rows path probe t other))
+pub new-by : (rows : List (List ℕ)) (times path : List ℕ) (end : SearchEnd) → length times ≡ length rows → none_twice rows ≡ true → Tells rows path end →
+    ((id : ℕ) → end ≡ Held id → ⊥) → place_of (counted_by rows times) path ≡ None
+new-by rows times path end many once t other = sym (found-at rows times path None many once tt (not_held rows path end t other))

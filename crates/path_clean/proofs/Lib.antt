@@ -10,3 +10,4 @@ pub mod SlotGets
 pub mod SlotLemmas
 pub mod IndexLemmas
 pub mod AddLemmas
+pub mod LookupLemmas

@@ -9,3 +9,4 @@ pub mod Table
 pub mod Chains
 pub mod Slots
 pub mod Repeats
+pub mod Lookups

@@ -3,8 +3,8 @@ use Rattle.std.specs.Prelude.{◌≡◌, ◌≢◌, ◌<◌, ◌⊎◌, ℕ, zer
 use Rattle.tor_arena.specs.Limits.{most_places}
 use Rattle.path_clean.specs.Chains.{path_hash, row_at}
 use Rattle.path_clean.specs.declared.slots.Slot.{Slot}
-use Rattle.path_clean.specs.declared.slots.Probe.{Probe}
-use Rattle.path_clean.specs.declared.slots.Probe.TheVariants.{Held, Free, Full}
+use Rattle.path_clean.specs.declared.slots.SearchEnd.{SearchEnd}
+use Rattle.path_clean.specs.declared.slots.SearchEnd.TheVariants.{Held, Free, Full}
 
 -- the upper half of the hash of a path
 abbrev pub tag_of : (seed : ℕ) (path : List ℕ) → ℕ
@@ -52,19 +52,19 @@ pub record IsVacant (slots : List Slot) (start place : ℕ) : Type 0 where
   pub leads : LeadsTo slots start place
 
 -- where a search from the start ends: in the slot of a row that is the path, in a free one, or nowhere
-abbrev pub IsProbe : (rows : List (List ℕ)) (slots : List Slot) (start : ℕ) (path : List ℕ) → Probe → Type 0
-IsProbe rows slots start path (Held id) = slice_get rows id ≡ Some path
-IsProbe rows slots start path (Free place) = IsVacant slots start place × (HeldFrom rows slots path start (length slots) → ⊥)
-IsProbe rows slots start path Full = HeldFrom rows slots path start (length slots) → ⊥
+abbrev pub IsSearchEnd : (rows : List (List ℕ)) (slots : List Slot) (start : ℕ) (path : List ℕ) → SearchEnd → Type 0
+IsSearchEnd rows slots start path (Held id) = slice_get rows id ≡ Some path
+IsSearchEnd rows slots start path (Free place) = IsVacant slots start place × (HeldFrom rows slots path start (length slots) → ⊥)
+IsSearchEnd rows slots start path Full = HeldFrom rows slots path start (length slots) → ⊥
 
 -- where a search from the start ended at a free slot, that one is vacant
-abbrev pub IsVacancy : (slots : List Slot) (start : ℕ) → Probe → Type 0
+abbrev pub IsVacancy : (slots : List Slot) (start : ℕ) → SearchEnd → Type 0
 IsVacancy slots start (Held id) = Unit {0}
 IsVacancy slots start (Free place) = IsVacant slots start place
 IsVacancy slots start Full = Unit {0}
 
 -- where a search ended at a free slot, this holds
-abbrev pub OnFree : Probe → Type 0 → Type 0
+abbrev pub OnFree : SearchEnd → Type 0 → Type 0
 OnFree (Held id) fact = Unit {0}
 OnFree (Free place) fact = fact
 OnFree Full fact = Unit {0}
@@ -74,7 +74,7 @@ abbrev pub IsAbsent : (rows : List (List ℕ)) (path : List ℕ) → Type 0
 IsAbsent rows path = (k : ℕ) → k < length rows → row_at rows k ≢ path
 
 -- what the end of a search tells: at which row the path is, or that it is at none
-abbrev pub Tells : (rows : List (List ℕ)) (path : List ℕ) → Probe → Type 0
+abbrev pub Tells : (rows : List (List ℕ)) (path : List ℕ) → SearchEnd → Type 0
 Tells rows path (Held id) = (id < length rows) × (row_at rows id ≡ path)
 Tells rows path (Free place) = IsAbsent rows path
 Tells rows path Full = IsAbsent rows path

@@ -1,11 +1,11 @@
-ghost use Rattle.std.specs.Prelude.{◌≡◌, ◌≢◌, ◌<◌, ◌≤◌, ◌/◌, ◌++◌, ◌∷◌, [], ℕ, length, OnOk, OnErr, IfOk, IfSome, IfNone};
+ghost use Rattle.std.specs.Prelude.{◌≡◌, ◌≢◌, ◌<◌, ◌≤◌, ◌/◌, ◌++◌, ◌∷◌, [], ℕ, Some, length, slice_get, OnOk, OnErr, IfOk, IfSome, IfNone};
 ghost use Rattle.tor_arena.specs.Growth.{IsDoubled};
 ghost use Rattle.tor_arena.specs.Limits.{most_places};
 ghost use Rattle.path_clean.specs.Chains.{row_at};
-ghost use Rattle.path_clean.specs.Slots.{tag_of, start_at, IsVacant, IsVacancy, IsProbe, OnFree, Tells};
+ghost use Rattle.path_clean.specs.Slots.{tag_of, start_at, IsVacant, IsVacancy, IsSearchEnd, OnFree, Tells};
 
 use crate::hashing::{hash_of, seed_of};
-use crate::slots::{Guess, Probe, Slot, free_from, seek, start_of, widened};
+use crate::slots::{Guess, SearchEnd, Slot, free_from, id_of, seek, start_of, widened};
 use std::alloc::Global;
 use std::marker::Model;
 use tor_arena::{Index, Keys, NoMemory, PathId, Rows, doubled};
@@ -66,13 +66,13 @@ impl IndexedPaths {
     }
 
     /// Searches a path by its tag. It takes no memory.
-    pub fn seek(&self, tag: u32, path: &[u32]) -> Probe
+    pub fn seek(&self, tag: u32, path: &[u32]) -> SearchEnd
         requires { tag ≡ tag_of self.now.seed path.now }
-        ensures probe { IsProbe self.now.rows self.now.slots (start_at tag (length self.now.slots)) path.now result }
+        ensures end { IsSearchEnd self.now.rows self.now.slots (start_at tag (length self.now.slots)) path.now result }
         ensures tells { Tells self.now.rows path.now result }
     {
         if self.slots.is_empty() {
-            return Probe::Full;
+            return SearchEnd::Full;
         }
         seek(self.slots.as_slice(), &self.rows, tag, path)
     }
@@ -83,26 +83,48 @@ impl IndexedPaths {
         ensures absent { IfNone result ((k : ℕ) → k < length self.now.rows → row_at self.now.rows k ≢ path.now) }
     {
         match self.seek(self.tag_of(path), path) {
-            Probe::Held(id) => Some(id),
-            Probe::Free(_) | Probe::Full => None,
+            SearchEnd::Held(id) => Some(id),
+            SearchEnd::Free(_) | SearchEnd::Full => None,
         }
     }
 
-    /// A guess where a path of this tag stands. No row is looked at, and no memory is taken.
+    /// Whether the hashes begin with these keys. It takes no memory.
+    pub fn is_made_with(&self, keys: Keys) -> bool {
+        self.seed == seed_of(keys)
+    }
+
+    /// A guess where a path of this tag stands. It is one look into memory, on which nothing else here waits, so the looks for several
+    /// paths overlap if they follow one another. No row is looked at, and no memory is taken.
     pub fn guess(&self, tag: u32) -> Guess {
         Guess::new(self.slots.as_slice(), tag)
     }
 
+    /// Where a path stands, if a guess, which may be any, says so. It takes no memory.
+    pub fn find_guessed(&self, guess: Guess, path: &[u32]) -> Option<PathId>
+        ensures { IfSome result (λ id. slice_get self.now.rows id ≡ Some path.now) }
+    {
+        let row = guess.row();
+        if row == 0 || row as usize > self.rows.len() {
+            return None;
+        }
+        let id = id_of(row);
+        if self.rows.row(id) == path {
+            Some(id)
+        } else {
+            None
+        }
+    }
+
     /// Adds a path of this tag, where a search for it has ended so. For want of memory the paths stay.
-    pub fn push(&mut self, tag: u32, probe: Probe, path: &[u32]) -> Result<PathId, NoMemory>
+    pub fn push(&mut self, tag: u32, end: SearchEnd, path: &[u32]) -> Result<PathId, NoMemory>
         requires room { length self.old.rows < most_places }
         requires tag { tag ≡ tag_of self.old.seed path.now }
-        requires probe { IsProbe self.old.rows self.old.slots (start_at tag (length self.old.slots)) path.now probe }
+        requires end { IsSearchEnd self.old.rows self.old.slots (start_at tag (length self.old.slots)) path.now end }
         ensures ok { OnOk result (self.new.rows ≡ self.old.rows ++ path.now ∷ []) }
         ensures index { IfOk result (λ id. id ≡ length self.old.rows) }
         ensures err { OnErr result (self.new.rows ≡ self.old.rows) }
     {
-        let slot = self.vacancy(tag, probe)?;
+        let slot = self.vacancy(tag, end)?;
         let Ok(id) = self.rows.push_row(path) else {
             return Err(NoMemory);
         };
@@ -114,17 +136,17 @@ impl IndexedPaths {
     }
 
     // The free slot for a path of this tag, where a search for it has ended so. If half of the slots are in use, twice as many are made.
-    fn vacancy(&mut self, tag: u32, probe: Probe) -> Result<usize, NoMemory>
-        requires probe { IsVacancy self.old.slots (start_at tag (length self.old.slots)) probe }
+    fn vacancy(&mut self, tag: u32, end: SearchEnd) -> Result<usize, NoMemory>
+        requires end { IsVacancy self.old.slots (start_at tag (length self.old.slots)) end }
         ensures rows { self.new.rows ≡ self.old.rows }
         ensures seed { self.new.seed ≡ self.old.seed }
         ensures vacant { IfOk result (IsVacant self.new.slots (start_at tag (length self.new.slots))) }
-        ensures stays { OnFree probe (length self.old.rows < length self.old.slots / 2 → self.new.slots ≡ self.old.slots) }
+        ensures stays { OnFree end (length self.old.rows < length self.old.slots / 2 → self.new.slots ≡ self.old.slots) }
         ensures grows { OnOk result (length self.old.slots / 2 ≤ length self.old.rows →
             IsDoubled 1024 (length self.old.slots) (length self.new.slots)) }
     {
-        match probe {
-            Probe::Free(slot) if self.rows.len() < self.slots.len() / 2 => Ok(slot),
+        match end {
+            SearchEnd::Free(slot) if self.rows.len() < self.slots.len() / 2 => Ok(slot),
             _ => {
                 let count = doubled(self.slots.len(), FIRST);
                 self.slots = widened(self.alloc, self.slots.as_slice(), count)?;

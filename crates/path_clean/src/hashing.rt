@@ -1,6 +1,7 @@
 //! The hashes of rows, and rows by their places.
 
 ghost use Rattle.std.specs.Prelude.{◌≡◌, ◌<◌, ◌≤◌, length};
+ghost use Rattle.tor_arena.specs.Limits.{most_places};
 ghost use Rattle.path_clean.specs.Chains.{mixed, path_hash, row_at};
 
 use std::hash::BuildHasher;
@@ -9,7 +10,7 @@ use tor_arena::{Index, Keys, PathId, Rows};
 /// The row of a place.
 pub(crate) fn row_of(rows: &Rows<PathId, u32>, place: usize) -> &[u32]
     requires there { place < length rows.now }
-    requires few { length rows.now ≤ 268435456 }
+    requires few { length rows.now ≤ most_places }
     ensures { result.now ≡ row_at rows.now place }
 {
     match PathId::from_place(place) {

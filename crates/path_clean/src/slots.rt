@@ -2,7 +2,7 @@
 
 ghost use Rattle.std.specs.Prelude.{◌≡◌, ◌<◌, ◌≤◌, ◌+◌, ◌↔◌, length, IsTrue, Some, IfSome, IfOk, OnOk};
 ghost use Rattle.tor_arena.specs.Limits.{most_places};
-ghost use Rattle.path_clean.specs.Slots.{start_at, next_slot, row_from_one, IsVacant, IsProbe, AreWithin, IsTold, IsPut, KeepsAll};
+ghost use Rattle.path_clean.specs.Slots.{start_at, next_slot, row_from_one, IsVacant, IsSearchEnd, AreWithin, IsTold, IsPut, KeepsAll};
 
 use crate::hashing::row_of;
 use std::alloc::Global;
@@ -20,15 +20,9 @@ pub(crate) struct Slot {
 /// A slot that names no row.
 const FREE: Slot = Slot { tag: 0, row: 0 };
 
-/// The tag of a path in a table, for a guess.
-#[derive(Clone, Copy, Debug, PartialEq, Eq)]
-pub struct Tag {
-    pub(crate) tag: u32,
-}
-
 /// Where a path may stand in a table: what the slot has at which the search for it begins.
 #[derive(Clone, Copy, PartialEq, Eq)]
-pub struct Guess {
+pub(crate) struct Guess {
     // the tag of the path
     tag: u32,
     slot: Slot,
@@ -36,7 +30,7 @@ pub struct Guess {
 
 impl Guess {
     /// What the first slot has for a path of this tag. Nothing is compared here, so no branch waits for the slot.
-    pub(crate) fn new(slots: &[Slot], tag: u32) -> Guess {
+    pub fn new(slots: &[Slot], tag: u32) -> Guess {
         if slots.is_empty() {
             return Guess { tag, slot: FREE };
         }
@@ -48,7 +42,7 @@ impl Guess {
     }
 
     /// The place, from 1, at which the path may stand, or 0 where it is no row that the slot names.
-    pub(crate) fn row(self) -> u32 {
+    pub fn row(self) -> u32 {
         if self.slot.tag == self.tag {
             self.slot.row
         } else {
@@ -59,7 +53,7 @@ impl Guess {
 
 /// Where a search for a path ends.
 #[derive(Clone, Copy, PartialEq, Eq)]
-pub(crate) enum Probe {
+pub(crate) enum SearchEnd {
     /// In a slot that names it, at this row.
     Held(PathId),
     /// In this slot, which is free.
@@ -110,27 +104,27 @@ fn is_of(slot: Slot, rows: &Rows<PathId, u32>, tag: u32, path: &[u32]) -> bool
 }
 
 /// Searches a path of this tag.
-pub(crate) fn seek(slots: &[Slot], rows: &Rows<PathId, u32>, tag: u32, path: &[u32]) -> Probe
+pub(crate) fn seek(slots: &[Slot], rows: &Rows<PathId, u32>, tag: u32, path: &[u32]) -> SearchEnd
     requires some { 0 < length slots.now }
     requires few { length rows.now ≤ most_places }
     requires within { AreWithin (length rows.now) slots.now }
     requires told { IsTold rows.now slots.now tag path.now }
-    ensures { IsProbe rows.now slots.now (start_at tag (length slots.now)) path.now result }
+    ensures { IsSearchEnd rows.now slots.now (start_at tag (length slots.now)) path.now result }
 {
     let mut place = start_of(tag, slots.len());
     let mut left = slots.len();
     while left > 0 {
         let slot = slots[place];
         if slot.row == 0 {
-            return Probe::Free(place);
+            return SearchEnd::Free(place);
         }
         if is_of(slot, rows, tag, path) {
-            return Probe::Held(id_of(slot.row));
+            return SearchEnd::Held(id_of(slot.row));
         }
         place = next(place, slots.len());
         left -= 1;
     }
-    Probe::Full
+    SearchEnd::Full
 }
 
 /// The first free slot from this one on, if there is one.

@@ -1,16 +1,18 @@
-ghost use Rattle.std.specs.Prelude.{◌≡◌, ◌+◌, ◌<◌, ◌≤◌, ◌↔◌, [], All, Some, None, length, option_map, slice_get, sum_by, IsTrue, IsSome, IfSome, IsOk, IfOk, OnOk, OnErr};
+ghost use Rattle.std.specs.Prelude.{◌≡◌, ◌+◌, ◌<◌, ◌≤◌, ◌↔◌, [], All, Some, None, length, option_map, slice_get, sum_by, IsTrue, IsSome, IsOk, IfOk, OnOk, OnErr};
 ghost use Rattle.std.specs.List.{list_all};
 ghost use Rattle.tor_arena.specs.Distinct.{AllDistinct};
 ghost use Rattle.path_clean.specs.Limits.{max_paths, max_numbers};
+ghost use Rattle.path_clean.specs.Lookups.{StandWhereFound, AreCleanWhereFound};
 ghost use Rattle.path_clean.specs.Paths.{is_cleaned};
 ghost use Rattle.path_clean.specs.Rows.{paths_of, times_of, numbers_in, none_twice};
 ghost use Rattle.path_clean.specs.Table.{place_of, with_path, Names, IsCounted, IsPathTooMany, HasNumbersTooMany};
 
 use crate::distinct_rows::IndexedPaths;
-use crate::slots::{Guess, Probe, Tag, id_of};
+use crate::lookup::Lookup;
+use crate::slots::SearchEnd;
 use std::alloc::Global;
 use std::marker::Model;
-use tor_arena::{Index, Keys, List, PathId, Rows};
+use tor_arena::{Index, Keys, List, NoMemory, PathId, Rows};
 
 /// How many distinct paths a table may have.
 pub const MAX_PATHS: u32 = 1 << 23;
@@ -83,33 +85,20 @@ impl PathTable {
         self.paths.find(path)
     }
 
-    /// The tag of a path in this table, for `guess`. It takes no memory.
-    pub fn tag(&self, path: &[u32]) -> Tag {
-        Tag {
-            tag: self.paths.tag_of(path),
-        }
+    /// Whether the hashes of the table begin with these keys, for a test. It takes no memory.
+    pub fn is_made_with(&self, keys: Keys) -> bool {
+        self.paths.is_made_with(keys)
     }
 
-    /// A guess where a path of this tag stands, for `find_guessed`. It is one look into memory, on which nothing else here waits, so the
-    /// looks for several paths overlap if they follow one another. It takes no memory.
-    pub fn guess(&self, tag: Tag) -> Guess {
-        self.paths.guess(tag.tag)
-    }
-
-    /// Where a path stands, if a guess, which may be any, says so. It takes no memory.
-    pub fn find_guessed(&self, guess: Guess, path: &[u32]) -> Option<PathId>
-        ensures { IfSome result (λ id. place_of self.now.rows path.now ≡ Some id) }
+    /// Looks up where paths stand, which needn't be clean: what is found is. They are looked up one right after the other, so that the
+    /// waits for memory of these look-ups overlap. A path that is there may be missed, where it isn't in the first slot in which it could
+    /// be. NoMemory where memory ran out: `lookup` may then be anything.
+    pub fn find_batch(&self, paths: &Rows<PathId, u32>, lookup: &mut Lookup) -> Result<(), NoMemory>
+        ensures found { OnOk result (StandWhereFound self.now.rows paths.now lookup.new) }
+        ensures clean { OnOk result (AreCleanWhereFound paths.now lookup.new) }
+        ensures each { OnOk result (length lookup.new ≡ length paths.now) }
     {
-        let row = guess.row();
-        if row == 0 || row as usize > self.counts.len() {
-            return None;
-        }
-        let id = id_of(row);
-        if self.paths.rows().row(id) == path {
-            Some(id)
-        } else {
-            None
-        }
+        lookup.fill(&self.paths, paths)
     }
 
     /// Counts the path of an index, which has to be there, once more: it gains one in its times, up to 2^64 - 1. It takes no memory.
@@ -138,18 +127,18 @@ impl PathTable {
     {
         let tag = self.paths.tag_of(path);
         match self.paths.seek(tag, path) {
-            Probe::Held(id) => {
+            SearchEnd::Held(id) => {
                 self.count(id);
                 Ok(Added::Known(id))
             }
-            probe => {
+            end => {
                 if let Err(refused) = self.check_room(path) {
                     return Err(refused);
                 }
                 if self.counts.reserve(1).is_err() {
                     return Err(AddRefused::NoMemory);
                 }
-                let Ok(id) = self.paths.push(tag, probe, path) else {
+                let Ok(id) = self.paths.push(tag, end, path) else {
                     return Err(AddRefused::NoMemory);
                 };
                 self.counts.push_reserved(1);

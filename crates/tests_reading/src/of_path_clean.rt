@@ -1,7 +1,7 @@
 use path_attrs::{Width, attributes};
 use path_clean::{
-    AddRefused, Added, Asides, Cause, Cleaned, PathTable, Sets, clean, clean_into, first_repeated,
-    is_clean_path, is_cleaned,
+    AddRefused, Added, Asides, Cause, Cleaned, Lookup, PathTable, Sets, clean, clean_into,
+    first_repeated, is_clean_path, is_cleaned,
 };
 use std::alloc::Global;
 use std::io;
@@ -462,19 +462,16 @@ impl RandomSource for OneOctet {
     }
 }
 
-/// Whether a path has the same tag in two tables whose keys come from sources that give these octets.
-fn have_one_tag(alloc: Global, octet: u8, other: u8, path: &[u32]) -> bool {
+/// Whether a table is made with keys that come from a source which gives this octet, where its own come from one that gives the first.
+fn is_made_with(alloc: Global, octet: u8, other: u8) -> bool {
     let table = PathTable::new(alloc, Keys::new(&OneOctet { octet }), 1);
-    let second = PathTable::new(alloc, Keys::new(&OneOctet { octet: other }), 1);
-    table.tag(path) == second.tag(path)
+    table.is_made_with(Keys::new(&OneOctet { octet: other }))
 }
 
 #[test]
 fn hashes_begin_with_the_keys(rt: HostRuntime) {
-    for path in [&[][..], &[10, 20]] {
-        assert!(rt; have_one_tag(rt.alloc(), 1, 1, path));
-        assert!(rt; !have_one_tag(rt.alloc(), 1, 2, path));
-    }
+    assert!(rt; is_made_with(rt.alloc(), 1, 1));
+    assert!(rt; !is_made_with(rt.alloc(), 1, 2));
 }
 
 /// The numbers 1 to 100.
@@ -563,4 +560,37 @@ fn the_first_row_that_stands_twice(rt: HostRuntime) {
     assert!(rt; finds_the_fourth(rt.alloc(), keys, &mut rows) && rows.len() == 5);
     rows.cut_to(3);
     assert!(rt; first_repeated(rt.alloc(), keys, &rows) == Ok(None));
+}
+
+/// Whether of these rows those in the places 1 and 3 alone are found in the table, or none, as it is wanted.
+fn are_found(lookup: &Lookup, wanted: Option<usize>) -> bool {
+    (0..ROWS.len()).all(|number| {
+        let found = lookup.place(number).map(|id| id.place());
+        found == (if number % 2 == 1 { wanted } else { None })
+    })
+}
+
+/// Whether a look-up finds this.
+fn is_looked_up(
+    table: &PathTable,
+    rows: &Rows<PathId, u32>,
+    lookup: &mut Lookup,
+    wanted: Option<usize>,
+) -> bool {
+    table.find_batch(rows, lookup).is_ok() && are_found(lookup, wanted)
+}
+
+/// Whether the rows are found once their second is in the table, and not before.
+fn finds_rows(alloc: Global, table: &mut PathTable, rows: &Rows<PathId, u32>) -> bool {
+    let mut lookup = Lookup::new(alloc);
+    is_looked_up(table, rows, &mut lookup, None)
+        && place_added(table, &[20, 10]) == Some(Ok(0))
+        && is_looked_up(table, rows, &mut lookup, Some(0))
+}
+
+#[test]
+fn rows_that_needn_t_be_clean_are_looked_up(rt: HostRuntime) {
+    let mut table = PathTable::new(rt.alloc(), Keys::new(&rt), 2);
+    let mut rows = Rows::new(rt.alloc());
+    assert!(rt; add_rows(&mut rows) && finds_rows(rt.alloc(), &mut table, &rows));
 }

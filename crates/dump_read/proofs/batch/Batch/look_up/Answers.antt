@@ -3,5 +3,5 @@ use Rattle.dump_read.proofs.batch.Batch.look_up.Goals as goal
 
 pub returns-clause-found : goal.returns-clause-found
 returns-clause-found c =
-    on_ok c.find_each.result c.find_each.ensures
-    (AreFound-each c.args.table.now.rows c.self.inside.causes.items c.self.inside.paths c.find_each.new.places c.self.invariant.same)
+    on_ok c.find_batch.result c.find_batch.ensures.found
+    (AreFound-each c.args.table.now.rows c.self.inside.causes.items c.self.inside.paths c.find_batch.new.lookup c.self.invariant.same)

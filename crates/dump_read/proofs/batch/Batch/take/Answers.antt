@@ -5,6 +5,7 @@ use Rattle.dump_read.specs.Refusals.{IsLimit}
 use Rattle.path_clean.specs.Table.{place_of}
 use Rattle.path_clean.specs.declared.cleaned.Cleaned.TheVariants.{Path, Aside}
 use Rattle.path_clean.proofs.TableLemmas.{found-within}
+use Rattle.path_clean.proofs.LookupLemmas.{at-found}
 use Rattle.dump_read.specs.Taking.{take_cleaned}
 use Rattle.dump_read.proofs.BatchLemmas.{aside-at, cleaned-at, one-route, path-at, within-causes}
 use Rattle.dump_read.proofs.batch.Batch.take.Goals as goal
@@ -14,7 +15,7 @@ index-requires c =
     let causes = c.self.inside.causes.items in
     let paths = c.self.inside.paths in
     let same = c.self.invariant.same in
-    let within : c.args.place < length causes = within-causes causes paths c.args.self.now c.self.inside.places c.args.place same c.self.view_is c.requires.there in
+    let within : c.args.place < length causes = within-causes causes paths c.args.self.now c.self.inside.lookup c.args.place same c.self.view_is c.requires.there in
     omega (arith, within)
 
 pub returns-in-Some-clause-taken : goal.returns-in-Some-clause-taken
@@ -22,7 +23,7 @@ returns-in-Some-clause-taken c =
     let causes = c.self.inside.causes.items in
     let paths = c.self.inside.paths in
     let same = c.self.invariant.same in
-    let within : c.args.place < length causes = within-causes causes paths c.args.self.now c.self.inside.places c.args.place same c.self.view_is c.requires.there in
+    let within : c.args.place < length causes = within-causes causes paths c.args.self.now c.self.inside.lookup c.args.place same c.self.view_is c.requires.there in
     let some = slice_get_read causes (length causes) c.args.place c.index.result.now refl within c.index.ensures ∙ ap (λ o. Some o) c.in-Some.is in
     let stands = ap (λ b. slice_get b.routes c.args.place) (sym c.self.view_is) ∙ aside-at causes paths c.args.place c.in-Some.cause same some in
     λ route is.
@@ -35,20 +36,20 @@ take_again-requires c =
     let causes = c.self.inside.causes.items in
     let paths = c.self.inside.paths in
     let same = c.self.invariant.same in
-    let within : c.args.place < length causes = within-causes causes paths c.args.self.now c.self.inside.places c.args.place same c.self.view_is c.requires.there in
+    let within : c.args.place < length causes = within-causes causes paths c.args.self.now c.self.inside.lookup c.args.place same c.self.view_is c.requires.there in
     let none = slice_get_read causes (length causes) c.args.place c.index.result.now refl within c.index.ensures ∙ ap (λ o. Some o) c.in-None.is in
     let path = path-at causes paths c.args.place same none in
     let stands = ap (λ b. slice_get b.routes c.args.place) (sym c.self.view_is) ∙ path.1 in
-    let place = ap (λ b. slice_get b.places c.args.place) (sym c.self.view_is) ∙ ap (λ ps. slice_get ps c.args.place) (sym c.as_slice.ensures) ∙ c.in-Some-found_at.ensures in
-    let found : place_of c.args.taken.now.table.rows path.0 ≡ Some c.in-Some-found_at.id = c.requires.found c.args.place c.in-Some-found_at.id path.0 place stands in
-    record { there = found-within c.args.taken.now.table.rows path.0 c.in-Some-found_at.id found }
+    let place = ap (λ b. slice_get b.places c.args.place) (sym c.self.view_is) ∙ at-found c.self.inside.lookup c.args.place c.in-Some-place.id c.in-Some-place.ensures in
+    let found : place_of c.args.taken.now.table.rows path.0 ≡ Some c.in-Some-place.id = c.requires.found c.args.place c.in-Some-place.id path.0 place stands in
+    record { there = found-within c.args.taken.now.table.rows path.0 c.in-Some-place.id found }
 
 pub row_at-requires-clause-there : goal.row_at-requires-clause-there
 row_at-requires-clause-there c =
     let causes = c.self.inside.causes.items in
     let paths = c.self.inside.paths in
     let same = c.self.invariant.same in
-    let within : c.args.place < length causes = within-causes causes paths c.args.self.now c.self.inside.places c.args.place same c.self.view_is c.requires.there in
+    let within : c.args.place < length causes = within-causes causes paths c.args.self.now c.self.inside.lookup c.args.place same c.self.view_is c.requires.there in
     omega (arith, within, same)
 
 pub take_path-requires : goal.take_path-requires
@@ -56,42 +57,42 @@ take_path-requires c =
     let causes = c.self.inside.causes.items in
     let paths = c.self.inside.paths in
     let same = c.self.invariant.same in
-    let within : c.args.place < length causes = within-causes causes paths c.args.self.now c.self.inside.places c.args.place same c.self.view_is c.requires.there in
+    let within : c.args.place < length causes = within-causes causes paths c.args.self.now c.self.inside.lookup c.args.place same c.self.view_is c.requires.there in
     let none = slice_get_read causes (length causes) c.args.place c.index.result.now refl within c.index.ensures ∙ ap (λ o. Some o) c.in-None.is in
     c.self.invariant.clean c.args.place c.row_at.result.now (cleaned-at causes paths c.args.place None c.row_at.result.now none c.row_at.ensures)
 
-pub returns-in_err-take_path-in-None-found_at-clause-limit : goal.returns-in_err-take_path-in-None-found_at-clause-limit
-returns-in_err-take_path-in-None-found_at-clause-limit c =
+pub returns-in_err-take_path-in-None-place-clause-limit : goal.returns-in_err-take_path-in-None-place-clause-limit
+returns-in_err-take_path-in-None-place-clause-limit c =
     let causes = c.self.inside.causes.items in
     let paths = c.self.inside.paths in
     let same = c.self.invariant.same in
-    let within : c.args.place < length causes = within-causes causes paths c.args.self.now c.self.inside.places c.args.place same c.self.view_is c.requires.there in
+    let within : c.args.place < length causes = within-causes causes paths c.args.self.now c.self.inside.lookup c.args.place same c.self.view_is c.requires.there in
     let none = slice_get_read causes (length causes) c.args.place c.index.result.now refl within c.index.ensures ∙ ap (λ o. Some o) c.in-None.is in
     let stands = ap (λ b. slice_get b.routes c.args.place) (sym c.self.view_is) ∙ cleaned-at causes paths c.args.place None c.row_at.result.now none c.row_at.ensures in
     let p = err_from_is_err_and c.from_residual.result c.from_residual.ensures.1 in
-    rw (p.1, p.2) (λ route is. subst (λ r. IsLimit (take_cleaned c.args.taken.now r) c.in_err-take_path-in-None-found_at.field-0.0)
-    (one-route c.args.self.now.routes c.args.place (Path c.row_at.result.now) route stands is) c.in_err-take_path-in-None-found_at.ensures.limit)
+    rw (p.1, p.2) (λ route is. subst (λ r. IsLimit (take_cleaned c.args.taken.now r) c.in_err-take_path-in-None-place.field-0.0)
+    (one-route c.args.self.now.routes c.args.place (Path c.row_at.result.now) route stands is) c.in_err-take_path-in-None-place.ensures.limit)
 
-pub returns-in-Some-found_at-clause-taken : goal.returns-in-Some-found_at-clause-taken
-returns-in-Some-found_at-clause-taken c =
+pub returns-in-Some-place-clause-taken : goal.returns-in-Some-place-clause-taken
+returns-in-Some-place-clause-taken c =
     let causes = c.self.inside.causes.items in
     let paths = c.self.inside.paths in
     let same = c.self.invariant.same in
-    let within : c.args.place < length causes = within-causes causes paths c.args.self.now c.self.inside.places c.args.place same c.self.view_is c.requires.there in
+    let within : c.args.place < length causes = within-causes causes paths c.args.self.now c.self.inside.lookup c.args.place same c.self.view_is c.requires.there in
     let none = slice_get_read causes (length causes) c.args.place c.index.result.now refl within c.index.ensures ∙ ap (λ o. Some o) c.in-None.is in
     let path = path-at causes paths c.args.place same none in
     let stands = ap (λ b. slice_get b.routes c.args.place) (sym c.self.view_is) ∙ path.1 in
-    let place = ap (λ b. slice_get b.places c.args.place) (sym c.self.view_is) ∙ ap (λ ps. slice_get ps c.args.place) (sym c.as_slice.ensures) ∙ c.in-Some-found_at.ensures in
-    let found : place_of c.args.taken.now.table.rows path.0 ≡ Some c.in-Some-found_at.id = c.requires.found c.args.place c.in-Some-found_at.id path.0 place stands in
+    let place = ap (λ b. slice_get b.places c.args.place) (sym c.self.view_is) ∙ at-found c.self.inside.lookup c.args.place c.in-Some-place.id c.in-Some-place.ensures in
+    let found : place_of c.args.taken.now.table.rows path.0 ≡ Some c.in-Some-place.id = c.requires.found c.args.place c.in-Some-place.id path.0 place stands in
     λ route is. subst (λ r. take_cleaned c.args.taken.now r ≡ Ok c.take_again.new.taken)
     (one-route c.args.self.now.routes c.args.place (Path path.0) route stands is) (c.take_again.ensures path.0 found)
 
-pub returns-in_ok-take_path-in-None-found_at-clause-taken : goal.returns-in_ok-take_path-in-None-found_at-clause-taken
-returns-in_ok-take_path-in-None-found_at-clause-taken c =
+pub returns-in_ok-take_path-in-None-place-clause-taken : goal.returns-in_ok-take_path-in-None-place-clause-taken
+returns-in_ok-take_path-in-None-place-clause-taken c =
     let causes = c.self.inside.causes.items in
     let paths = c.self.inside.paths in
     let same = c.self.invariant.same in
-    let within : c.args.place < length causes = within-causes causes paths c.args.self.now c.self.inside.places c.args.place same c.self.view_is c.requires.there in
+    let within : c.args.place < length causes = within-causes causes paths c.args.self.now c.self.inside.lookup c.args.place same c.self.view_is c.requires.there in
     let none = slice_get_read causes (length causes) c.args.place c.index.result.now refl within c.index.ensures ∙ ap (λ o. Some o) c.in-None.is in
     let stands = ap (λ b. slice_get b.routes c.args.place) (sym c.self.view_is) ∙ cleaned-at causes paths c.args.place None c.row_at.result.now none c.row_at.ensures in
-    λ route is. subst (λ r. take_cleaned c.args.taken.now r ≡ Ok c.take_path.new.taken) (one-route c.args.self.now.routes c.args.place (Path c.row_at.result.now) route stands is) c.in_ok-take_path-in-None-found_at.ensures.taken
+    λ route is. subst (λ r. take_cleaned c.args.taken.now r ≡ Ok c.take_path.new.taken) (one-route c.args.self.now.routes c.args.place (Path c.row_at.result.now) route stands is) c.in_ok-take_path-in-None-place.ensures.taken

@@ -20,5 +20,5 @@ invariant_of-self-2 c =
 
 pub vacancy-requires : goal.vacancy-requires
 vacancy-requires c = record {
-  probe = vacancy-of c.args.self.now.rows c.args.self.now.slots (start_at c.args.tag (length c.args.self.now.slots)) c.args.path.now c.args.probe c.requires.probe;
+  end = vacancy-of c.args.self.now.rows c.args.self.now.slots (start_at c.args.tag (length c.args.self.now.slots)) c.args.path.now c.args.end c.requires.end;
 }
