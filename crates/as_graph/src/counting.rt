@@ -1,3 +1,4 @@
+//! How many kept paths hold each edge.
 ghost use Rattle.std.specs.Prelude.{◌≡◌, ◌+◌, ◌<◌, ◌≤◌, ℕ, All, length, count_by, nat_eq, slice_index};
 ghost use Rattle.as_graph.specs.Limits.{most_paths, most_numbers};
 

@@ -1,3 +1,4 @@
+//! The edges of a graph, with the degrees of their ends.
 ghost use Rattle.std.specs.Prelude.{◌≡◌, ◌≢◌, ◌+◌, ◌<◌, ◌≤◌, ◌↔◌, [], length, slice_get, count_by, IsNone, IsFalse, IfSome, IfOk, OnOk, OnErr};
 ghost use Rattle.std.specs.List.{list_any};
 ghost use Rattle.tor_arena.specs.Limits.{max_numbers};

@@ -1,3 +1,4 @@
+//! What stands for each edge: a provider or a label.
 ghost use Rattle.std.specs.Prelude.{◌≡◌, ◌<◌, length, slice_set, IfOk};
 
 use relationships::{End, Label};

@@ -1,3 +1,4 @@
+//! Steps of paths.
 use relationships::End;
 use tor_arena::EdgeId;
 

@@ -1,3 +1,4 @@
+//! Whether a path is valley-free.
 ghost use Rattle.std.specs.Prelude.{◌≡◌, ◌↔◌, ◌<◌, ℕ, All, List, length, IsTrue};
 ghost use Rattle.relationships.specs.Relationship.{Labelling, slopes, ValleyFree};
 ghost use Rattle.relationships.specs.Steps.{is_up, is_down, step_slope};

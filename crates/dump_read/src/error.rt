@@ -1,3 +1,4 @@
+//! Why a dump was not read.
 use mrt_frame::At;
 use path_attrs::RibFault;
 use thiserror::Error;

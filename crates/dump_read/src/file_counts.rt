@@ -1,3 +1,4 @@
+//! What a file holds, by count.
 ghost use Rattle.std.specs.Prelude.{◌≡◌, ◌+◌, [], IfOk};
 ghost use Rattle.record_counts.specs.Counting.{capped};
 ghost use Rattle.dump_read.specs.Files.{together};

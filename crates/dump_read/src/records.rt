@@ -1,3 +1,4 @@
+//! The reading of a record.
 ghost use Rattle.std.specs.Prelude.{◌≡◌, [], OnOk, OnErr, IfOk, IfErr};
 ghost use Rattle.mrt_frame.specs.Steps.{seen};
 ghost use Rattle.dump_read.specs.Routes.{of_entries, of_table_dump, routes_in_table_dump, routes_in_rib, routes_of, peers_behind};

@@ -1,3 +1,4 @@
+//! What is taken in of dumps.
 ghost use Rattle.std.specs.Prelude.{◌≡◌, ◌<◌, ℕ, List, Some, Ok, OnOk, OnErr, IfErr, IsTrue, length};
 ghost use Rattle.path_clean.specs.Paths.{is_cleaned};
 ghost use Rattle.path_clean.specs.Table.{place_of};

@@ -1,3 +1,4 @@
+//! Which end is over the other by a label.
 ghost use Rattle.std.specs.Prelude.{ℕ, ◌≡◌, ◌<◌, ◌*◌, ◌^◌, length, IfOk, IsTrue, Contains};
 ghost use Rattle.forced_edges.specs.Held.{end_by as end_of_label, held};
 

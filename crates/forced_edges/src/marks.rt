@@ -1,3 +1,4 @@
+//! Marks, why walks and probes, as they are made.
 ghost use Rattle.std.specs.Prelude.{◌≡◌, OnOk};
 ghost use Rattle.forced_edges.specs.Findings.{with_finding};
 

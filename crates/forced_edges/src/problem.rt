@@ -1,3 +1,4 @@
+//! What marking is asked of.
 ghost use Rattle.std.specs.Prelude.{◌≡◌, ℕ, ◌<◌, ◌≤◌, ◌*◌, ◌^◌, All, Some, slice_get, length, IsTrue, IfOk, Contains};
 ghost use Rattle.relationships.specs.Graph.{edges};
 ghost use Rattle.relationships.specs.Evidence.{NeighboursDiffer};

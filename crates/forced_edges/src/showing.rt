@@ -1,3 +1,4 @@
+//! Orders that hold in each orientation that serves, each with a walk.
 ghost use Rattle.std.specs.Prelude.{[], ℕ, ◌≡◌, ◌<◌, ◌≤◌, ◌++◌, ◌∷◌, length, Contains, OnOk, IfOk};
 ghost use Rattle.relationships.specs.declared.walk.Walk.{Walk as AWalk};
 ghost use Rattle.relationships.specs.Graph.{edges};

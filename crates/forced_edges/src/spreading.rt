@@ -1,3 +1,4 @@
+//! A search that adds all that an order leads to, to an end or without one.
 ghost use Rattle.std.specs.Prelude.{◌≡◌, ◌<◌, ◌↔◌, IsTrue, IfSome, OnOk};
 ghost use Rattle.tor_digraph.specs.Reached.{IsGrown};
 ghost use Rattle.forced_edges.specs.Nodes.{IsMet, HasLooked, IsClosed, HasCome};

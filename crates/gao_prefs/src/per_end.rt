@@ -1,3 +1,4 @@
+//! A number for each end of an edge.
 ghost use Rattle.std.specs.Prelude.{◌≡◌, length, map, IfOk};
 ghost use Rattle.relationships.specs.Relationship.{opposite};
 ghost use Rattle.relationships.specs.Graph.{edges, degree};

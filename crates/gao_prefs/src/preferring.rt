@@ -1,3 +1,4 @@
+//! What the edges prefer, in settling order.
 ghost use Rattle.std.specs.Prelude.{◌≡◌, ◌≢◌, ◌<◌, ◌≤◌, ℕ, All, length, map, slice_index_or, IfOk};
 ghost use Rattle.std.specs.List.{AllPairs};
 ghost use Rattle.std.specs.List.Sorted.{IsPermutation};

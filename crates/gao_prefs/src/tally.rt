@@ -1,3 +1,4 @@
+//! The votes of kept paths.
 ghost use Rattle.std.specs.Prelude.{◌≡◌, ◌≢◌, ◌+◌, ◌<◌, ◌≤◌, ◌^◌, ◌&&◌, ℕ, All, length, map, count_by, nat_eq, if◌then◌else◌, IfOk};
 ghost use Rattle.std.specs.List.{AllPairs};
 ghost use Rattle.relationships.specs.declared.label.End.{End};

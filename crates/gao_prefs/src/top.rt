@@ -1,3 +1,4 @@
+//! The top of a path.
 ghost use Rattle.std.specs.Prelude.{◌≡◌, ◌<◌, ◌≤◌, All, length};
 ghost use Rattle.relationships.specs.Preference.{top_of};
 ghost use Rattle.gao_prefs.specs.Ends.{along};

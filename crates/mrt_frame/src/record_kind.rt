@@ -1,3 +1,4 @@
+//! The kinds of records that are read.
 ghost use Rattle.std.specs.Prelude.{◌≡◌};
 ghost use Rattle.mrt_frame.specs.Kinds.{address_octets, table_dump, rib, table_dump_v2, kind_of};
 

@@ -1,3 +1,4 @@
+//! The segments of an AS_PATH.
 ghost use Rattle.std.specs.Prelude.{◌≡◌, ◌*◌, ◌<◌, ◌≤◌, length, IfSome, option_map};
 ghost use Rattle.byteorder.specs.Endian.{big_number};
 ghost use Rattle.path_attrs.specs.Segments.{octets_in, kind_of, segment, segment_of};

@@ -1,3 +1,4 @@
+//! Blocks of path attributes.
 ghost use Rattle.std.specs.Prelude.{◌≡◌, ◌<◌, ◌≤◌, length, IfOk, IfSome, IsOk, option_map};
 ghost use Rattle.path_attrs.specs.Fields.{Gives};
 ghost use Rattle.path_attrs.specs.Attributes.{Attribute, attribute, attributes_in, attributes_of, first_value};

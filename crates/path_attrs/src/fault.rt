@@ -1,3 +1,4 @@
+//! What is wrong with a record.
 use crate::block::AttrCut;
 
 /// What is wrong with the body of a table dump's record (RFC 6396, section 4).

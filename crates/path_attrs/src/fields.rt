@@ -1,3 +1,4 @@
+//! Fields of so many octets.
 ghost use Rattle.std.specs.Prelude.{◌≡◌, ◌+◌, length, IfOk, IfErr};
 ghost use Rattle.path_attrs.specs.Fields.{Gives, octets, number};
 

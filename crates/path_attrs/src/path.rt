@@ -1,3 +1,4 @@
+//! The AS path of a route.
 ghost use Rattle.std.specs.Prelude.{◌≡◌, IfOk};
 ghost use Rattle.path_attrs.specs.PathOf.{path_of};
 

@@ -1,3 +1,4 @@
+//! How many routes were set aside.
 ghost use Rattle.std.specs.Prelude.{◌≡◌, ◌<◌};
 ghost use Rattle.path_clean.specs.Counts.{no_counts, count_of, counted_one, counts_from, place_of_cause};
 

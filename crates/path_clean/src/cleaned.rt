@@ -1,3 +1,4 @@
+//! What cleaning comes to.
 ghost use Rattle.std.specs.Prelude.{◌≡◌, IsTrue};
 ghost use Rattle.std.specs.List.{list_any};
 ghost use Rattle.tor_arena.specs.Distinct.{is_distinct};

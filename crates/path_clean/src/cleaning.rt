@@ -1,3 +1,4 @@
+//! How a route is cleaned.
 ghost use Rattle.std.specs.Prelude.{◌≡◌, ◌&&◌, IfOk};
 ghost use Rattle.std.specs.List.{list_any};
 ghost use Rattle.tor_arena.specs.Distinct.{is_distinct};

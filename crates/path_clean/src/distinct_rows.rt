@@ -1,3 +1,4 @@
+//! Distinct paths with slots by which they are found.
 ghost use Rattle.std.specs.Prelude.{◌≡◌, ◌≢◌, ◌<◌, ◌≤◌, ◌/◌, ◌++◌, ◌∷◌, [], ℕ, Some, length, slice_get, OnOk, OnErr, IfOk, IfSome, IfNone};
 ghost use Rattle.tor_arena.specs.Growth.{IsDoubled};
 ghost use Rattle.tor_arena.specs.Limits.{most_places};

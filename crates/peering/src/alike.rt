@@ -1,3 +1,4 @@
+//! Whether two degrees are within a ratio.
 ghost use Rattle.std.specs.Prelude.{◌≡◌, ◌<◌, ◌≤◌, ◌*◌, ◌↔◌, max, min, length, slice_index_or, IsTrue};
 ghost use Rattle.tor_arena.specs.Limits.{max_numbers, max_ratio};
 ghost use Rattle.relationships.specs.Graph.{edges, degree};

@@ -1,3 +1,4 @@
+//! Which edges no kept path would let be a peering.
 ghost use Rattle.std.specs.Prelude.{◌≡◌, ◌<◌, ◌⊎◌, ℕ, false, All, length, slice_index_or, IsTrue, IfOk};
 ghost use Rattle.relationships.specs.Relationship.{label_of};
 ghost use Rattle.relationships.specs.Graph.{edges};

@@ -1,3 +1,4 @@
+//! Which edges become peerings, edge by edge.
 ghost use Rattle.std.specs.Prelude.{◌≡◌, ◌≢◌, ◌<◌, ◌≤◌, ◌↔◌, ℕ, All, Contains, length, map, slice_set, slice_index_or, IsTrue, IsFalse, IfOk};
 ghost use Rattle.std.specs.List.{AllPairs};
 ghost use Rattle.tor_arena.specs.Limits.{max_ratio};

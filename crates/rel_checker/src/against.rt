@@ -1,3 +1,4 @@
+//! Agreement with dumps, rule 11.
 ghost use Rattle.std.specs.Prelude.{◌≡◌, ◌+◌, ◌<◌, ◌≤◌, ◌^◌, ◌↔◌, IsTrue, length, slice_get, MatchOption};
 ghost use Rattle.result_rules.specs.Against.{in_order, its_rows, JudgesAgainst};
 ghost use Rattle.rel_checker.specs.Steps.{Differs};

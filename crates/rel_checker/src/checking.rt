@@ -1,3 +1,4 @@
+//! The rules in their order.
 ghost use Rattle.std.specs.Prelude.{◌≡◌, Some, IfOk};
 ghost use Rattle.relationships.specs.Graph.{edges};
 ghost use Rattle.result_rules.specs.File.{its_paths, HasFewLines};

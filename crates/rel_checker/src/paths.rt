@@ -1,3 +1,4 @@
+//! The rules on paths.
 ghost use Rattle.std.specs.Prelude.{◌≡◌, ◌↔◌, ◌+◌, ◌<◌, ◌≤◌, ◌^◌, length, IsTrue, IfOk};
 ghost use Rattle.path_clean.specs.Paths.{is_cleaned};
 ghost use Rattle.result_rules.specs.declared.rule.Rule.{Rule};

@@ -1,3 +1,4 @@
+//! The edge lines of a result.
 ghost use Rattle.std.specs.Prelude.{◌≡◌, length, IfOk};
 ghost use Rattle.relationships.specs.Graph.{edges};
 ghost use Rattle.rel_infer.specs.EdgeLines.{AreLinesOf};

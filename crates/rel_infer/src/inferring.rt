@@ -1,3 +1,4 @@
+//! What is inferred from distinct paths.
 ghost use Rattle.std.specs.Prelude.{◌≡◌, ◌≤◌, ◌^◌, All, length, sum_by, IfOk};
 ghost use Rattle.tor_arena.specs.Distinct.{AllDistinct};
 ghost use Rattle.rel_infer.specs.Inference.{AreInferred};

@@ -1,3 +1,4 @@
+//! The result of the paths of a table.
 ghost use Rattle.std.specs.Prelude.{◌≤◌, IfOk};
 ghost use Rattle.result_rules.specs.File.{its_paths, its_walks};
 ghost use Rattle.result_rules.specs.Rules.{Accepts};

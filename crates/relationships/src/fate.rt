@@ -1,3 +1,4 @@
+//! What becomes of a path.
 use crate::walk::Walk;
 
 /// What becomes of a path that is offered to a list of kept paths.

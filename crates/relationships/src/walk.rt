@@ -1,3 +1,4 @@
+//! Walks and their links.
 use tor_arena::List;
 
 /// Where three consecutive systems of a walk stand on a path.

@@ -1,3 +1,4 @@
+//! The rules on the file alone.
 ghost use Rattle.std.specs.Prelude.{◌≡◌};
 ghost use Rattle.result_rules.specs.Rules.{number_of};
 

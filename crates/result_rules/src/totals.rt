@@ -1,3 +1,4 @@
+//! What the last line has to say.
 ghost use Rattle.std.specs.Prelude.{◌≡◌, ◌≤◌, count_by, length};
 ghost use Rattle.tor_arena.specs.Limits.{most_places};
 ghost use Rattle.relationships.specs.Fates.{is_kept};

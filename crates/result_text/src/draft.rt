@@ -1,3 +1,4 @@
+//! A result that is read line by line.
 ghost use Rattle.std.specs.Prelude.{◌≡◌, ◌<◌};
 ghost use Rattle.result_text.specs.declared.line.Line.TheVariants as line;
 ghost use Rattle.result_text.specs.Reading.{kept_from, lost_from};

@@ -1,3 +1,4 @@
+//! Why bytes were not read as a result.
 ghost use Rattle.std.specs.Prelude.{◌≡◌};
 ghost use Rattle.result_text.specs.declared.error.LineError.TheVariants.{NoMemory as no_memory};
 

@@ -1,3 +1,4 @@
+//! A result as plain data.
 use crate::path_lines::PathLines;
 use path_clean::{Asides, Sets};
 use relationships::{Fate, Label, Mark, Probe, Walks};

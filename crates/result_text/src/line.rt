@@ -1,3 +1,4 @@
+//! The kinds of lines.
 use crate::file::{EdgeLine, PathLine, Totals};
 use path_clean::{Cause, Sets};
 use relationships::{Probe, Walk};

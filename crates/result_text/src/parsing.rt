@@ -1,3 +1,4 @@
+//! The reading of a text.
 ghost use Rattle.std.specs.Prelude.{IfOk, IfErr};
 ghost use Rattle.result_text.specs.Grammar.{IsTextOf};
 ghost use Rattle.result_text.specs.Refusal.{Refuses};

@@ -1,3 +1,4 @@
+//! The printing of a result.
 ghost use Rattle.std.specs.Prelude.{◌≡◌, ◌++◌, ◌∷◌, [], OnOk, IfOk, map};
 ghost use Rattle.std.specs.Fmt.{decimal};
 ghost use Rattle.result_text.specs.declared.line.Line.TheVariants as line;

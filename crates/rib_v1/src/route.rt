@@ -1,3 +1,4 @@
+//! The route of a TABLE_DUMP record.
 ghost use Rattle.std.specs.Prelude.{◌≡◌, ◌≢◌, ◌⊎◌, IfErr};
 ghost use Rattle.path_attrs.specs.Fields.{Gives};
 ghost use Rattle.rib_v1.specs.TableDump.{behind_peer, behind_fields, route_of};

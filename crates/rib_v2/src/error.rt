@@ -1,3 +1,4 @@
+//! Why a RIB was not read.
 use path_attrs::RibFault;
 use tor_arena::NoMemory;
 

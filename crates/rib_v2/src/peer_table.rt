@@ -1,3 +1,4 @@
+//! Peer tables (RFC 6396, section 4.3.1).
 ghost use Rattle.std.specs.Prelude.{◌≡◌, ◌<◌, ◌≢◌, ◌⊎◌, IfOk, IfErr};
 ghost use Rattle.path_attrs.specs.Fields.{Gives};
 ghost use Rattle.rib_v2.specs.PeerTable.{behind_peer, behind_peers, peers_of};

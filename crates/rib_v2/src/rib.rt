@@ -1,3 +1,4 @@
+//! RIBs and their entries (RFC 6396, sections 4.3.2 and 4.3.4).
 ghost use Rattle.std.specs.Prelude.{◌≡◌, ◌++◌, ◌<◌, [], ◌∷◌, length, IfOk, IsNone, MatchOption, option_map};
 ghost use Rattle.path_attrs.specs.Fields.{Gives};
 ghost use Rattle.rib_v2.specs.Rib.{path_id_octets, entry, entry_fields, entries_of, head, rib_of, IsAnswer};

@@ -1,3 +1,4 @@
+//! Why bytes were not read as relationships.
 ghost use Rattle.std.specs.Prelude.{◌≡◌};
 
 use tor_arena::NoMemory;

@@ -1,3 +1,4 @@
+//! The open edges of a table.
 ghost use Rattle.std.specs.Prelude.{◌≡◌, length, map, IfOk};
 ghost use Rattle.relationships.specs.Relationship.{label_of};
 ghost use Rattle.relationships.specs.Graph.{edges};

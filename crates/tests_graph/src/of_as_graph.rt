@@ -1,3 +1,4 @@
+//! Tests of graphs of paths.
 ghost use Rattle.std.specs.Prelude.{◌≡◌, ◌<◌, ◌∷◌, [], IfOk};
 
 use as_graph::{AsGraph, Labels, Orientation, build, build_with};

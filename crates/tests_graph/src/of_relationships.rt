@@ -1,3 +1,4 @@
+//! Tests of walks and fates in flat lists.
 use relationships::{Fates, Link, WalkRef, Walks};
 use std::alloc::Global;
 use std::test::Fail;

@@ -1,3 +1,4 @@
+//! Tests of plain types.
 ghost use Rattle.std.specs.Prelude.{◌<◌, ℕ};
 ghost use Rattle.std.proofs.Math.Dec.{lit≤};
 

@@ -1,3 +1,4 @@
+//! Tests of clauses.
 ghost use Rattle.std.specs.Prelude.{◌≡◌, ◌<◌, length, IfOk, OnOk};
 ghost use Rattle.tor_clauses.specs.Formulas.{FitsGraph};
 

@@ -1,3 +1,4 @@
+//! Tests of strong components.
 ghost use Rattle.std.specs.Prelude.{◌<◌};
 
 use crate::cases::{node, small_digraph};

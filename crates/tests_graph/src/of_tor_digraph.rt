@@ -1,3 +1,4 @@
+//! Tests of digraphs.
 ghost use Rattle.std.specs.Prelude.{◌≡◌, ◌<◌, IfOk};
 
 use crate::cases::{node, small_digraph};

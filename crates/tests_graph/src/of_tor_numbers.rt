@@ -1,3 +1,4 @@
+//! Tests of tables of numbers and edges.
 ghost use Rattle.std.specs.Prelude.{◌≤◌};
 
 use std::alloc::Global;

@@ -1,3 +1,4 @@
+//! Tests of the solver.
 ghost use Rattle.std.specs.Prelude.{◌≡◌, ◌≤◌, IfOk, length};
 ghost use Rattle.tor_clauses.specs.Formulas.{FitsGraph};
 

@@ -1,3 +1,4 @@
+//! Tests of marks.
 ghost use Rattle.tor_clauses.specs.Formulas.{FitsGraph};
 
 use crate::cases::{are_valley_free, clauses_of, graph_of, solved_labels};

@@ -1,3 +1,4 @@
+//! Tests of preferences.
 ghost use Rattle.std.specs.Prelude.{◌≡◌, ◌∷◌, [], IfOk};
 
 use crate::cases::{path, three_path_graph};

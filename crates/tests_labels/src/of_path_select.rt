@@ -1,3 +1,4 @@
+//! Tests of selection.
 ghost use Rattle.std.specs.Prelude.{◌≡◌, ◌≤◌, ◌∷◌, [], length, IfOk};
 ghost use Rattle.relationships.specs.Selection.{IsServable};
 ghost use Rattle.tor_clauses.specs.Formulas.{FitsGraph, demands_of};

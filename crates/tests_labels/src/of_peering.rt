@@ -1,3 +1,4 @@
+//! Tests of peerings.
 ghost use Rattle.std.specs.Prelude.{◌≡◌, ◌≤◌, IfOk};
 ghost use Rattle.tests_labels.specs.Cases.{three, three_ends, short, short_ends, bent, bent_ends};
 

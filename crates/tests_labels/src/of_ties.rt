@@ -1,3 +1,4 @@
+//! Tests of ties.
 ghost use Rattle.std.specs.Prelude.{◌<◌, All, length, IfOk};
 ghost use Rattle.relationships.specs.Graph.{edges};
 ghost use Rattle.tor_clauses.specs.Formulas.{FitsGraph};

@@ -1,3 +1,4 @@
+//! Tests of the preferred orientation.
 ghost use Rattle.std.specs.Prelude.{◌≡◌, ◌≢◌, ◌<◌, ◌↔◌, ◌∷◌, [], All, AllPairs, Contains, length, map, IfOk};
 ghost use Rattle.relationships.specs.Graph.{Edge, edges};
 ghost use Rattle.tor_arena.specs.Distinct.{AllDistinct};

@@ -1,3 +1,4 @@
+//! Tests of the reading of dumps.
 use dump_read::{DumpError, Fault, LimitKind, Place, Taken, read_dump};
 use mrt_frame::At;
 use path_attrs::RibFault;

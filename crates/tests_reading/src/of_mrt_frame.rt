@@ -1,3 +1,4 @@
+//! Tests of records.
 use mrt_frame::{At, FrameError, Frames};
 use record_counts::{RecordCounts, TypeCount};
 use std::alloc::Global;

@@ -1,3 +1,4 @@
+//! Tests of path attributes.
 use path_attrs::{
     AttrCut, Attrs, PathCursor, PathOf, Pathless, RibFault, SegKind, Segment, SegmentCursor,
     SegmentRef, Width, attributes, number16, octet, octets, path_of, segments,

@@ -1,3 +1,4 @@
+//! Tests of cleaning and of the table of paths.
 use path_attrs::{Width, attributes};
 use path_clean::{
     AddRefused, Added, Asides, Cause, Cleaned, Lookup, PathTable, Sets, clean, clean_into,

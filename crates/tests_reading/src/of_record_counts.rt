@@ -1,3 +1,4 @@
+//! Tests of counts of records.
 use record_counts::{RecordCounts, RecordType, TypeCount};
 use std::alloc::Global;
 use tor_arena::{List, NoMemory};

@@ -1,3 +1,4 @@
+//! Tests of TABLE_DUMP records.
 use mrt_frame::Family;
 use path_attrs::RibFault;
 use rib_v1::read_v1;

@@ -1,3 +1,4 @@
+//! Tests of peer tables and RIBs.
 use mrt_frame::{EntryForm, Family, RibForm};
 use path_attrs::RibFault;
 use rib_v2::{Entry, EntryCursor, Peers, RibError, read_peers, read_rib};

@@ -1,3 +1,4 @@
+//! Tests of shelves and sinks.
 use std::alloc::Global;
 use std::io::Write;
 use std::process::Abort;

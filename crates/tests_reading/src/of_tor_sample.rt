@@ -1,3 +1,4 @@
+//! Tests of samples.
 use std::alloc::Global;
 use std::test::Fail;
 use tor_sample::sample;

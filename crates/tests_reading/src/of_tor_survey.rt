@@ -1,3 +1,4 @@
+//! Tests of surveys.
 use path_clean::Asides;
 use record_counts::TypeCount;
 use std::alloc::Global;

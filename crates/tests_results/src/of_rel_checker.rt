@@ -1,3 +1,4 @@
+//! Tests of verdicts.
 use path_clean::{Asides, PathTable, is_cleaned};
 use rel_checker::{check_against, check_file};
 use result_rules::Verdict;

@@ -1,3 +1,4 @@
+//! Tests of results.
 use crate::tables::{THREE_PATHS, table_of};
 use path_clean::{Asides, Sets};
 use rel_infer::result_of;

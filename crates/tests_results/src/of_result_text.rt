@@ -1,3 +1,4 @@
+//! Tests of texts of results.
 use path_clean::{Asides, Sets};
 use relationships::{Fates, Label, Link, WalkRef, Walks};
 use result_text::{

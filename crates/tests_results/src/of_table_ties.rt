@@ -1,3 +1,4 @@
+//! Tests of the ties of tables.
 use crate::tables::{THREE_PATHS, table_of};
 use std::alloc::Global;
 use table_ties::{TieLine, ties_of_table};

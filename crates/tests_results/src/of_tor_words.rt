@@ -1,3 +1,4 @@
+//! Tests of words.
 use path_clean::Sets;
 use std::alloc::Global;
 use tor_arena::{List, NoMemory};

@@ -1,3 +1,4 @@
+//! A list that is read by a typed index.
 ghost use Rattle.std.specs.Prelude.{◌≡◌, ◌≢◌, ◌+◌, ◌<◌, ◌≤◌, ◌↔◌, ◌++◌, ◌∷◌, [], length, take, replicate, slice_get, slice_set, ◌⊎◌, OnOk, OnErr, IfOk, IfErr};
 
 use crate::index::Index;

@@ -1,3 +1,4 @@
+//! How a table of slots grows.
 ghost use Rattle.std.specs.Prelude.{◌<◌};
 ghost use Rattle.tor_arena.specs.Growth.{IsDoubled};
 

@@ -1,3 +1,4 @@
+//! The typed indices.
 ghost use Rattle.std.specs.Prelude.{◌<◌, ℕ};
 ghost use Rattle.std.proofs.Math.Dec.{lit≤};
 ghost use Rattle.tor_arena.specs.Limits.{most_places, most_walks};

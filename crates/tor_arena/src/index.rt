@@ -1,3 +1,4 @@
+//! What a typed index is.
 ghost use Rattle.std.specs.Prelude.{◌≡◌, ◌<◌, ◌≤◌, ◌↔◌, ℕ, IsNone, IfSome};
 ghost use Rattle.tor_arena.specs.Limits.{most_places};
 

@@ -1,3 +1,4 @@
+//! Rows of items that lie one behind the other.
 ghost use Rattle.std.specs.Prelude.{◌≡◌, ◌+◌, ◌-◌, ◌<◌, ◌≤◌, ◌↔◌, ◌++◌, ◌∷◌, [], length, take, drop, slice_get, slice_index, OnOk, OnErr, IfOk, IfErr};
 ghost use Rattle.tor_arena.specs.RowLists.{last_end};
 

@@ -1,3 +1,4 @@
+//! Clauses: triples as a digraph of implications.
 ghost use Rattle.std.specs.Prelude.{◌≡◌, ℕ, ◌+◌, ◌*◌, ◌<◌, ◌≤◌, ◌^◌, ◌↔◌, ◌∷◌, ◌++◌, [], List, length, flat_map, take, slice_get, Some, IsTrue, IfNone, IfSome, IfOk, OnOk, OnErr};
 ghost use Rattle.relationships.specs.Graph.{edges};
 ghost use Rattle.tor_clauses.specs.Literals.{node_of};

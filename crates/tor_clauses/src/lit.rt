@@ -1,3 +1,4 @@
+//! Literals.
 ghost use Rattle.std.specs.Prelude.{◌≡◌, ◌<◌, ◌^◌, ◌↔◌, length, IsTrue};
 ghost use Rattle.tor_clauses.specs.Literals.{negated, node_of, lit_of, opposite_node, Holds};
 

@@ -1,3 +1,4 @@
+//! Triples.
 use crate::lit::Lit;
 use tor_arena::PathId;
 

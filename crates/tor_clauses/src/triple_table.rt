@@ -1,3 +1,4 @@
+//! Distinct triples, found by their literals.
 ghost use Rattle.std.specs.Prelude.{◌≡◌, ◌<◌, ◌≤◌, ◌↔◌, ◌^◌, [], All, length, take, slice_get, IsTrue, IfOk, OnErr};
 ghost use Rattle.tor_clauses.specs.Triples.{arc_of, is_among};
 ghost use Rattle.tor_clauses.specs.Tables.{HasNodes, IsSatisfied, IsAdded, AreKnownOn, IsNewAt, key_of_arc, number_of_pair};

@@ -1,3 +1,4 @@
+//! Walks along arcs.
 ghost use Rattle.std.specs.Prelude.{◌≡◌, ℕ, ◌<◌, [], length, OnOk, IfOk};
 ghost use Rattle.relationships.specs.Graph.{edges};
 ghost use Rattle.tor_clauses.specs.Literals.{lit_of, Says};

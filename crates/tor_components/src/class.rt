@@ -1,3 +1,4 @@
+//! The class of each node.
 ghost use Rattle.std.specs.Prelude.{◌≡◌, ◌<◌, length};
 ghost use Rattle.tor_components.specs.Classes.{IsClass};
 

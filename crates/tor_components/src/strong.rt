@@ -1,3 +1,4 @@
+//! Strong components.
 ghost use Rattle.std.specs.Prelude.{[], ◌≡◌, ◌≢◌, ℕ, ◌+◌, ◌<◌, ◌≤◌, List, Some, slice_get, length, OnOk, IfOk};
 ghost use Rattle.tor_digraph.specs.Closing.{Has, IsClosing};
 ghost use Rattle.tor_digraph.specs.Reached.{IsSearched, IsGrown};

@@ -1,3 +1,4 @@
+//! The arcs that leave a node.
 ghost use Rattle.tor_digraph.specs.Leaving.{arcs_on};
 ghost use Rattle.std.specs.Prelude.{◌<◌, length, IfSome};
 ghost use Rattle.std.specs.Iterator.{YieldsFirstBy, item_count};

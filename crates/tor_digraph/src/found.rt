@@ -1,3 +1,4 @@
+//! How a node was found.
 ghost use Rattle.std.specs.Prelude.{◌≡◌, ◌↔◌, IsTrue};
 
 /// How a node was found: not at all, as the start, or along an arc from its tail, so many arcs

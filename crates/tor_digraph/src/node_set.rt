@@ -1,3 +1,4 @@
+//! A set of visited nodes.
 ghost use Rattle.std.specs.Prelude.{[], ◌≡◌, ◌<◌, ◌≤◌, ◌^◌, ◌↔◌, Some, slice_get, length, IsTrue, IfOk, OnErr, Contains};
 ghost use Rattle.tor_arena.specs.Limits.{most_places};
 ghost use Rattle.tor_digraph.specs.NodeSets.{IsAdded};

@@ -1,3 +1,4 @@
+//! A digraph with its arcs in rows.
 ghost use Rattle.std.specs.Prelude.{◌≡◌, ℕ, ◌+◌, ◌<◌, ◌≤◌, Some, slice_get, length, IfOk};
 ghost use Rattle.tor_digraph.specs.Walks.{IsInside};
 ghost use Rattle.tor_digraph.specs.InRows.{IsRow, IsFilled, count_at, count_before};

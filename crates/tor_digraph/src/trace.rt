@@ -1,3 +1,4 @@
+//! How each node of a search was found.
 ghost use Rattle.std.specs.Prelude.{◌≡◌, ◌+◌, ◌<◌, ◌≤◌, ◌↔◌, ◌++◌, [], Some, length, take, replicate, slice_get, slice_set, OnOk, OnErr, IsTrue};
 ghost use Rattle.tor_digraph.specs.Found.{IsFound};
 

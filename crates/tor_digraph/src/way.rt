@@ -1,3 +1,4 @@
+//! Ways: walks of arcs.
 ghost use Rattle.std.specs.Prelude.{◌≡◌, ◌+◌, ◌<◌, ◌↔◌, List, Some, slice_get, length, IfOk, IfSome, IsNone};
 ghost use Rattle.tor_digraph.specs.Found.{IsFound, IsRoot, IsFalling, HasTreeArcs, LeadsFromRoot};
 ghost use Rattle.tor_digraph.specs.Walks.{IsWay};

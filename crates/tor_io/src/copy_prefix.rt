@@ -1,3 +1,4 @@
+//! Copying as much as fits.
 ghost use Rattle.std.specs.Prelude.{◌≡◌, length, take, drop, min};
 
 /// Copies as many of the bytes as fit, and at most `most`, to the start of the buffer, and answers how many.

@@ -1,3 +1,4 @@
+//! Calls that were interrupted.
 ghost use Rattle.std.specs.Prelude.{◌≤◌, length, IfOk};
 
 use std::io;

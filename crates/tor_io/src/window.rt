@@ -1,3 +1,4 @@
+//! The octets that were read ahead.
 ghost use Rattle.std.specs.Prelude.{◌≡◌, ◌≤◌, length, drop, vec_len};
 
 use crate::copy_prefix::copy_prefix;

@@ -1,3 +1,4 @@
+//! Distinct numbers, each found with its place.
 ghost use Rattle.std.specs.Prelude.{◌≡◌, ◌<◌, ◌≤◌, ◌/◌, ◌^◌, ℕ, [], length, slice_get, Some, Contains, IfOk, OnOk, OnErr, MatchOption};
 ghost use Rattle.tor_numbers.specs.Slots.{IsSearchEnd, IsHeld, IsApart};
 ghost use Rattle.tor_arena.specs.Growth.{IsDoubled};

@@ -1,3 +1,4 @@
+//! The preferred orientation.
 ghost use Rattle.std.specs.Prelude.{◌≡◌, ◌<◌, ◌^◌, ◌↔◌, ℕ, All, Contains, length, map, IfOk};
 ghost use Rattle.relationships.specs.declared.label.End.{End};
 ghost use Rattle.relationships.specs.Graph.{Edge, edges, orientation};

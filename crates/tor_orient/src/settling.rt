@@ -1,3 +1,4 @@
+//! How an edge is settled with all that follows.
 ghost use Rattle.std.specs.Prelude.{◌≡◌, ◌<◌, ◌^◌, ℕ, All, length, OnOk, IfOk};
 ghost use Rattle.relationships.specs.Selection.{IsServable};
 ghost use Rattle.relationships.specs.Graph.{edges};

@@ -1,3 +1,4 @@
+//! A file without end.
 ghost use Rattle.std.specs.Prelude.{None};
 ghost use Rattle.std.proofs.Common.{rules};
 

@@ -1,3 +1,4 @@
+//! Why a line of a row is refused.
 use std::alloc::{AllocError, AllocFailed};
 use tor_arena::NoMemory;
 

@@ -59,9 +59,9 @@ can_be law settings files taken file text few gives faithful is words check give
   judged = inr (elim beside [
     | inl e ↦ inl e
     | inr e ↦ inr (λ f of.
-      subst (λ (ds : List (List ℕ)). IsOk (seen_for f ds files)) (sym e)
-      (subst (λ (g : ResultFile). IsOk (seen_for g settings.dumps files)) (same_file law text file f is of)
-      (is_ok (seen_for file settings.dumps files) (widened max_paths taken) (sees settings files taken file settings.dumps few gives faithful))))
+        subst (λ (ds : List (List ℕ)). IsOk (seen_for f ds files)) (sym e)
+        (subst (λ (g : ResultFile). IsOk (seen_for g settings.dumps files)) (same_file law text file f is of)
+        (is_ok (seen_for file settings.dumps files) (widened max_paths taken) (sees settings files taken file settings.dumps few gives faithful))))
   ]);
 }
 

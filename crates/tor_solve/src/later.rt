@@ -1,3 +1,4 @@
+//! The orientation that the order of the components gives.
 ghost use Rattle.std.specs.Prelude.{◌≡◌, ℕ, ◌+◌, ◌*◌, ◌<◌, ◌≤◌, ◌^◌, length, ◌↔◌, IsTrue, IfOk, IfSome, IfNone};
 ghost use Rattle.tor_clauses.specs.Literals.{node_of, lit_of};
 ghost use Rattle.tor_solve.specs.Solving.{IsClash, IsLater, AreLater};

@@ -1,3 +1,4 @@
+//! What a solver finds.
 use as_graph::Orientation;
 use relationships::Walk;
 

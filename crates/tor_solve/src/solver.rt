@@ -1,3 +1,4 @@
+//! An orientation that serves, or a walk that refutes.
 ghost use Rattle.std.specs.Prelude.{◌≡◌, length, IfOk};
 ghost use Rattle.relationships.specs.Graph.{edges};
 ghost use Rattle.relationships.specs.Evidence.{Refutes};

@@ -1,3 +1,4 @@
+//! Distinct ASes.
 ghost use Rattle.std.specs.Prelude.{◌≡◌, [], length, OnOk};
 ghost use Rattle.tor_survey.specs.Sets.{with_as};
 

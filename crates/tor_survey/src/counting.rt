@@ -1,3 +1,4 @@
+//! The figures of distinct paths.
 ghost use Rattle.std.specs.Prelude.{◌≡◌, IfOk, OnOk};
 ghost use Rattle.relationships.specs.Graph.{edge_of, edges_from, edges_on};
 ghost use Rattle.tor_numbers.specs.Edges.{with_edge, with_edges};

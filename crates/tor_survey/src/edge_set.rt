@@ -1,3 +1,4 @@
+//! Distinct pairs of neighbours.
 ghost use Rattle.std.specs.Prelude.{◌≡◌, [], length, not, IfOk, OnOk};
 ghost use Rattle.std.specs.List.{list_any};
 ghost use Rattle.relationships.specs.Graph.{edge_of, is_same};

@@ -1,3 +1,4 @@
+//! The text of a survey.
 ghost use Rattle.std.specs.Prelude.{◌≡◌, ◌++◌, ◌∷◌, IfOk, OnOk};
 ghost use Rattle.std.specs.Fmt.{decimal};
 ghost use Rattle.mrt_frame.specs.Kinds.{is_read};

@@ -1,3 +1,4 @@
+//! A survey as plain data.
 use path_clean::Asides;
 use record_counts::TypeCount;
 use tor_arena::List;

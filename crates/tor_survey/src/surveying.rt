@@ -1,3 +1,4 @@
+//! The survey of what dumps gave.
 ghost use Rattle.std.specs.Prelude.{◌≡◌, IfOk, sum_by};
 ghost use Rattle.record_counts.specs.Counting.{capped};
 ghost use Rattle.tor_survey.specs.Surveys.{survey_of};

@@ -1,3 +1,4 @@
+//! Texts of a command line.
 ghost use Rattle.std.specs.Prelude.{◌≡◌, IfOk};
 
 use std::alloc::Global;

@@ -1,3 +1,4 @@
+//! Why words are refused.
 ghost use Rattle.std.specs.Prelude.{◌≢◌, IfOk, OnOk};
 ghost use Rattle.clap.specs.Words.{kind_of};
 ghost use Rattle.tor_words.specs.Refused.{IsUsage, SaysUsage, HasUsageLine};

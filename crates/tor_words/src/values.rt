@@ -1,3 +1,4 @@
+//! The values of options.
 ghost use Rattle.std.specs.Prelude.{◌≡◌, ◌≤◌, IfSome, option_map};
 ghost use Rattle.tor_words.specs.Given.{number_in, number_or, sets_or_cut, is_true_text};
 

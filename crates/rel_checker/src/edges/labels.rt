@@ -1,3 +1,4 @@
+//! The labels of edge lines, in one octet each.
 ghost use Rattle.std.specs.Prelude.{◌≡◌, ◌<◌, length, slice_index_or, IfOk};
 ghost use Rattle.relationships.specs.declared.label.Label.{Label as Named};
 ghost use Rattle.rel_checker.specs.PathSteps.{labels_on};

@@ -1,3 +1,4 @@
+//! Steps of paths, as places of edges.
 ghost use Rattle.std.specs.Prelude.{◌≡◌, ◌<◌, ◌^◌};
 ghost use Rattle.rel_checker.specs.Flipping.{turned};
 ghost use Rattle.rel_checker.specs.PathSteps.{place_in, rises_in};

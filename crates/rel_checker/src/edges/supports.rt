@@ -1,3 +1,4 @@
+//! How many kept paths hold each edge.
 ghost use Rattle.std.specs.Prelude.{◌≡◌, ◌+◌, ◌<◌, ◌≤◌, ◌^◌, ℕ, [], ◌∷◌, All, List, length, count_by, nat_eq, slice_index, IsTrue, IfOk};
 ghost use Rattle.relationships.specs.Evidence.{paths_of};
 ghost use Rattle.relationships.specs.Graph.{support};

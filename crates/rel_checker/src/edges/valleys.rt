@@ -1,3 +1,4 @@
+//! Whether kept paths are valley-free.
 ghost use Rattle.std.specs.Prelude.{◌≡◌, ◌↔◌, ◌<◌, ℕ, All, List, length, IsTrue};
 ghost use Rattle.tor_arena.specs.Distinct.{AllDistinct};
 ghost use Rattle.relationships.specs.Relationship.{Labelling, slopes, ValleyFree};

@@ -1,3 +1,4 @@
+//! Whether a walk comes to the opposite and back.
 ghost use Rattle.std.specs.Prelude.{◌↔◌, IsTrue};
 ghost use Rattle.relationships.specs.Evidence.{HasPair, EndsWith};
 ghost use Rattle.rel_checker.specs.ComingBack.{ComesBack};

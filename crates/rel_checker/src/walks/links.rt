@@ -1,3 +1,4 @@
+//! Whether a link fits.
 ghost use Rattle.std.specs.Prelude.{◌≡◌, ◌<◌, ◌≤◌, ◌↔◌, ℕ, List, Some, IsTrue, Contains, length, take, option_map};
 ghost use Rattle.std.specs.Option.{option_copied};
 ghost use Rattle.relationships.specs.Evidence.{StandAt, TripleAt, Fits, IsWalk};

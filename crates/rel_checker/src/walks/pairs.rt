@@ -1,3 +1,4 @@
+//! Distinct pairs of numbers.
 ghost use Rattle.std.specs.Prelude.{◌≡◌, ◌↔◌, ◌++◌, ◌∷◌, [], IsTrue, Contains, OnOk, OnErr};
 
 use indexmap::IndexSet;

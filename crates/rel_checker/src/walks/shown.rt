@@ -1,3 +1,4 @@
+//! What a walk shows.
 ghost use Rattle.std.specs.Prelude.{◌≡◌, ◌↔◌, ℕ, [], ◌∷◌, None, IsTrue, IfSome, IfNone, MatchOption, Contains, ◌⊎◌};
 ghost use Rattle.relationships.specs.Evidence.{Shows};
 ghost use Rattle.result_rules.specs.File.{last_two};

@@ -1,3 +1,4 @@
+//! The rules on walks.
 ghost use Rattle.std.specs.Prelude.{◌≡◌, ◌≤◌, ◌↔◌, IsTrue, Some, IfOk, length, take};
 ghost use Rattle.relationships.specs.declared.walk.Walk.{Walk};
 ghost use Rattle.relationships.specs.Evidence.{Refutes};

@@ -1,4 +1,5 @@
--- What the rules of a checker give. Each law is proved as the contract of a function in src/laws/checking.rt.
+-- What the rules of a checker give.
+-- Each law is proved as the contract of a function in src/laws/checking.rt.
 use Rattle.std.specs.Prelude.{◌≡◌, ◌≢◌, ◌↔◌, ℕ, ◌<◌, List, ◌++◌, map, Option, is_none, All, Contains, IsTrue}
 use Rattle.relationships.specs.declared.label.Label.{Label}
 use Rattle.relationships.specs.Relationship.{Labelling, ValleyFree}

@@ -1,4 +1,5 @@
--- What strong components of the implications give: an orientation, or a walk that refutes. Each law is proved as the contract of a function in src/laws/components.rt.
+-- What strong components of the implications give: an orientation, or a walk that refutes.
+-- Each law is proved as the contract of a function in src/laws/components.rt.
 use Rattle.std.specs.Prelude.{◌≡◌, ◌≢◌, ℕ, ◌≤◌, List, [], ◌∷◌, ◌++◌, All, if◌then◌else◌, nat_lt}
 use Rattle.relationships.specs.declared.label.End.{End}
 use Rattle.relationships.specs.Relationship.{Orientation, Serves}

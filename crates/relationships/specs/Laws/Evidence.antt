@@ -1,4 +1,5 @@
--- What walks and closures show of the orientations that serve. Each law is proved as the contract of a function in src/laws/evidence.rt.
+-- What walks and closures show of the orientations that serve.
+-- Each law is proved as the contract of a function in src/laws/evidence.rt.
 use Rattle.std.specs.Prelude.{◌≢◌, ◌↔◌, ℕ, ◌<◌, Bool, List, All, Contains, IsTrue, if◌then◌else◌}
 use Rattle.relationships.specs.declared.label.End.{End}
 use Rattle.relationships.specs.Relationship.{Orientation, labels_of, is_over, Serves}

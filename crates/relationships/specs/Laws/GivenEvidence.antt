@@ -1,4 +1,5 @@
--- Evidence where relationships are given. Each law is proved as the contract of a function in src/laws/given_evidence.rt.
+-- Evidence where relationships are given.
+-- Each law is proved as the contract of a function in src/laws/given_evidence.rt.
 use Rattle.std.specs.Prelude.{◌≡◌, ◌≢◌, ◌↔◌, ℕ, ◌≤◌, List, [], ◌++◌, map, length, Option, is_none, All, Contains, IsTrue, option_map}
 use Rattle.relationships.specs.declared.label.Label.{Label}
 use Rattle.relationships.specs.Relationship.{Orientation, labels_of, is_over, Serves}

@@ -1,4 +1,5 @@
--- What is said of paths is said of givens by their returns, which stand in front of the paths. Each law is proved as the contract of a function in src/laws/givens.rt.
+-- What is said of paths is said of givens by their returns, which stand in front of the paths.
+-- Each law is proved as the contract of a function in src/laws/givens.rt.
 use Rattle.std.specs.Prelude.{◌≡◌, ◌↔◌, ◌⊎◌, ℕ, ◌≤◌, List, ◌++◌, map, length, All, Contains}
 use Rattle.relationships.specs.Relationship.{Orientation, Labelling, ValleyFree, Serves}
 use Rattle.relationships.specs.Graph.{Edge, edges}

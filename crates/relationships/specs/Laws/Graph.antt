@@ -1,4 +1,5 @@
--- The edges of paths, and neighbours on them. Each law is proved as the contract of a function in src/laws/graph.rt.
+-- The edges of paths, and neighbours on them.
+-- Each law is proved as the contract of a function in src/laws/graph.rt.
 use Rattle.std.specs.Prelude.{◌≡◌, ◌≢◌, ◌↔◌, ℕ, List, [], ◌∷◌, ◌++◌, Contains}
 use Rattle.std.specs.List.{AllPairs}
 use Rattle.relationships.specs.Graph.{Edge, edge_of, edges}

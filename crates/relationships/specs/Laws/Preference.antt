@@ -1,4 +1,5 @@
--- The preferred orientation, and the peerings that it is given. Each law is proved as the contract of a function in src/laws/preference.rt.
+-- The preferred orientation, and the peerings that it is given.
+-- Each law is proved as the contract of a function in src/laws/preference.rt.
 use Rattle.std.specs.Prelude.{◌≢◌, ℕ, ◌<◌, ◌≤◌, List, min, max, ◌*◌, All, Contains}
 use Rattle.relationships.specs.declared.label.End.{End}
 use Rattle.relationships.specs.declared.label.Label.{Label}

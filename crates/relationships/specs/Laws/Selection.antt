@@ -1,4 +1,5 @@
--- Which paths are kept. Each law is proved as the contract of a function in src/laws/selection.rt.
+-- Which paths are kept.
+-- Each law is proved as the contract of a function in src/laws/selection.rt.
 use Rattle.std.specs.Prelude.{◌≡◌, ◌↔◌, ℕ, Bool, List, ◌++◌, All, IsTrue}
 use Rattle.relationships.specs.Selection.{IsServable, Keeps, KeepsFrom}
 use Rattle.std.specs.List.{items_where_true}

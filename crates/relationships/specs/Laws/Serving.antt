@@ -1,4 +1,5 @@
--- When an orientation serves, and what labels with peerings leave free. Each law is proved as the contract of a function in src/laws/serving.rt.
+-- When an orientation serves, and what labels with peerings leave free.
+-- Each law is proved as the contract of a function in src/laws/serving.rt.
 use Rattle.std.specs.Prelude.{◌≡◌, ◌↔◌, ℕ, List, All, IsTrue}
 use Rattle.relationships.specs.declared.label.Label.{Label}
 use Rattle.relationships.specs.Relationship.{Orientation, Labelling, labels_of, is_over, ValleyFree, Serves}

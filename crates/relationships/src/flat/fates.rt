@@ -5,8 +5,8 @@ ghost use Rattle.relationships.specs.declared.fate.Fate.TheVariants.{Kept, Lost}
 ghost use Rattle.relationships.specs.Fates.{is_kept, walk_of};
 ghost use Rattle.relationships.specs.Flat.{walk_with};
 
-use crate::walk::Link;
 use super::walks::{WalkRef, Walks};
+use crate::walk::Link;
 use std::alloc::Global;
 use std::marker::Model;
 use tor_arena::{Index, NoMemory, PathId, WalkId};
