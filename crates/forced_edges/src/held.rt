@@ -1,5 +1,6 @@
 //! Which end is over the other by a label.
-ghost use Rattle.std.specs.Prelude.{ℕ, ◌≡◌, ◌<◌, ◌*◌, ◌^◌, length, IfOk, IsTrue, Contains};
+ghost use Rattle.std.specs.Prelude.{ℕ, ◌≡◌, ◌<◌, ◌*◌, length, IfOk, IsTrue, Contains};
+ghost use Rattle.tor_clauses.specs.Literals.{most_edges};
 ghost use Rattle.forced_edges.specs.Held.{end_by as end_of_label, held};
 
 use relationships::{End, Label};
@@ -20,7 +21,7 @@ fn end_by(label: Label) -> End
 
 /// The nodes of the orders that the labels have, one for each edge.
 pub(crate) fn held_nodes(alloc: Global, labels: &[Label]) -> Result<NodeSet, NoMemory>
-    requires few { length labels.now < 2 ^ 27 }
+    requires few { length labels.now < most_edges }
     ensures count { IfOk result (λ nodes. nodes.count ≡ length labels.now * 2) }
     ensures held { IfOk result (λ nodes. (n : ℕ) → Contains nodes.items n → IsTrue (held labels.now n)) }
 {

@@ -1,9 +1,9 @@
 //! What marking is asked of.
-ghost use Rattle.std.specs.Prelude.{◌≡◌, ℕ, ◌<◌, ◌≤◌, ◌*◌, ◌^◌, All, Some, slice_get, length, IsTrue, IfOk, Contains};
+ghost use Rattle.std.specs.Prelude.{◌≡◌, ℕ, ◌<◌, ◌≤◌, ◌*◌, All, Some, slice_get, length, IsTrue, IfOk, Contains};
 ghost use Rattle.relationships.specs.Graph.{edges};
 ghost use Rattle.relationships.specs.Evidence.{NeighboursDiffer};
 ghost use Rattle.relationships.specs.Selection.{IsServable};
-ghost use Rattle.tor_arena.specs.Limits.{most_places};
+ghost use Rattle.tor_arena.specs.Limits.{max_numbers, most_places};
 ghost use Rattle.tor_digraph.specs.Walks.{IsInside};
 ghost use Rattle.tor_digraph.specs.InRows.{IsRow};
 ghost use Rattle.tor_clauses.specs.Flipping.{HasPartners};
@@ -77,7 +77,7 @@ impl<'a> Problem<'a> {
     pub(crate) fn facts(&self)
         ensures posed { IsPosed self.now }
         ensures apart { All NeighboursDiffer self.now.graph }
-        ensures few { length (edges self.now.graph) < 2 ^ 26 }
+        ensures few { length (edges self.now.graph) < max_numbers }
         ensures partners { HasPartners self.now.formula.net.arcs }
         ensures inside { IsInside (λ n. n) self.now.formula.net }
         ensures servable { IsServable (demands_of self.now.graph self.now.formula) }

@@ -1,8 +1,9 @@
 //! Triples that were refused alone.
-ghost use Rattle.std.specs.Prelude.{◌≡◌, ◌⊎◌, ℕ, ◌+◌, ◌<◌, ◌↔◌, ◌^◌, ◌++◌, ◌∷◌, [], All, length, map, slice_get, Some, IsTrue, IfOk, IfSome, OnOk};
+ghost use Rattle.std.specs.Prelude.{◌≡◌, ◌⊎◌, ℕ, ◌+◌, ◌<◌, ◌↔◌, ◌++◌, ◌∷◌, [], All, length, map, slice_get, Some, IsTrue, IfOk, IfSome, OnOk};
 ghost use Rattle.relationships.specs.declared.fate.Fate.{Fate as Becoming};
 ghost use Rattle.relationships.specs.declared.walk.Walk.{Walk as Evidence};
 ghost use Rattle.relationships.specs.Graph.{edges};
+ghost use Rattle.tor_arena.specs.Limits.{max_numbers};
 ghost use Rattle.path_select.specs.Refusals.{node_at, AreSatisfiedOn, relink, relinked, NamesOnly, IsLostBy, IsMet, Remembers};
 
 use as_graph::{AsGraph, Step};
@@ -73,7 +74,7 @@ impl Refusals {
     fn lost_unless_satisfied(&self, ends: &[End], first: &Step, second: &Step) -> Option<PathId>
         requires first { first.now.edge < length ends.now }
         requires second { second.now.edge < length ends.now }
-        requires few { length ends.now < 2 ^ 26 }
+        requires few { length ends.now < max_numbers }
         ensures { IfSome result (IsLostBy self.now.items (node_at first.now) (node_at second.now)) }
     {
         if !Lit::of_step(first).holds(ends) || Lit::of_step(second).holds(ends) {

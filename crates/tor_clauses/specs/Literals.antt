@@ -1,5 +1,5 @@
 -- Literals: which end of an edge is over the other. Each is a node of the implication graph of Aspvall, Plass and Tarjan (1979).
-use Rattle.std.specs.Prelude.{◌≡◌, ◌≢◌, ℕ, ◌+◌, ◌*◌, ◌/◌, ◌%◌, ◌==◌, if◌then◌else◌, List, Some, slice_get}
+use Rattle.std.specs.Prelude.{◌≡◌, ◌≢◌, ℕ, ◌+◌, ◌*◌, ◌/◌, ◌%◌, ◌^◌, ◌==◌, if◌then◌else◌, List, Some, slice_get}
 use Rattle.std.specs.List.{position_or_len}
 use Rattle.relationships.specs.declared.label.End.{End}
 use Rattle.relationships.specs.Relationship.{opposite}
@@ -19,6 +19,10 @@ side End.High = 1
 
 abbrev pub end_of : ℕ → End
 end_of n = if n == 0 then End.Low else End.High
+
+-- each edge has two nodes, and there are no more than `most_places` of them
+abbrev pub most_edges : ℕ
+most_edges = 2 ^ 27
 
 -- the node of a literal: two for each edge
 abbrev pub node_of : Lit → ℕ

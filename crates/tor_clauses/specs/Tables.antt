@@ -2,16 +2,17 @@
 use Rattle.std.specs.Prelude.{◌≡◌, ℕ, ◌<◌, ◌≤◌, ◌+◌, ◌*◌, ◌^◌, Bool, true, false, nat_lt, List, [], ◌∷◌, ◌++◌, All, Some, length, map, take, flat_map, slice_get, if◌then◌else◌}
 use Rattle.relationships.specs.declared.label.End.{End}
 use Rattle.tor_digraph.specs.Walks.{Net}
+use Rattle.as_graph.specs.Limits.{most_triples}
 use Rattle.as_graph.specs.declared.step.Step.{Step}
 use Rattle.tor_clauses.specs.declared.lit.Lit.{Lit}
 use Rattle.tor_clauses.specs.declared.triple.Triple.{Triple}
-use Rattle.tor_clauses.specs.Literals.{negated, node_of, opposite_node, Holds}
+use Rattle.tor_clauses.specs.Literals.{most_edges, negated, node_of, opposite_node, Holds}
 use Rattle.tor_clauses.specs.Triples.{arc_of, partner_of, arcs_of, is_among, AreAmong, triples_on}
 use Rattle.tor_clauses.specs.Formulas.{Formula}
 
 -- the literals of a triple have nodes
 abbrev pub HasNodes : Triple → Type 0
-HasNodes t = (t.first.edge < 2 ^ 27) × (t.second.edge < 2 ^ 27)
+HasNodes t = (t.first.edge < most_edges) × (t.second.edge < most_edges)
 
 -- the pair of nodes of the triple or that of its reverse, whichever begins with the lesser node: the same for both
 abbrev pub key_of : Triple → ℕ × ℕ
@@ -29,7 +30,7 @@ number_of_pair pair = pair.0 * 2 ^ 32 + pair.1 + 2
 pub record IsKnown (known : List ℕ) (triples : List Triple) : Type 0 where
   pub keys : known ≡ map (λ t. number_of_pair (key_of t)) triples
   pub nodes : All HasNodes triples
-  pub few : length triples ≤ 2 ^ 27
+  pub few : length triples ≤ most_triples
 
 -- the triples with one more, which goes last unless it is there
 abbrev pub with_triple : List Triple → Triple → List Triple
@@ -89,7 +90,7 @@ with_triples_on graph path f = having f (with_triples f.triples (triples_on grap
 
 -- with however many of the first triples of the path, there is a number for one more
 abbrev pub IsRoomy : List (List ℕ) → ℕ → List Triple → Type 0
-IsRoomy graph path ts = (k : ℕ) → length (with_triples ts (take k (triples_on graph path))) < 2 ^ 27
+IsRoomy graph path ts = (k : ℕ) → length (with_triples ts (take k (triples_on graph path))) < most_triples
 
 -- the second formula has all of the first at its prefix
 abbrev pub IsFirst : Formula → Formula → Type 0

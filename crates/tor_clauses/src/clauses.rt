@@ -1,7 +1,9 @@
 //! Clauses: triples as a digraph of implications.
-ghost use Rattle.std.specs.Prelude.{◌≡◌, ℕ, ◌+◌, ◌*◌, ◌<◌, ◌≤◌, ◌^◌, ◌↔◌, ◌∷◌, ◌++◌, [], List, length, flat_map, take, slice_get, Some, IsTrue, IfNone, IfSome, IfOk, OnOk, OnErr};
+ghost use Rattle.std.specs.Prelude.{◌≡◌, ℕ, ◌+◌, ◌*◌, ◌<◌, ◌≤◌, ◌↔◌, ◌∷◌, ◌++◌, [], List, length, flat_map, take, slice_get, Some, IsTrue, IfNone, IfSome, IfOk, OnOk, OnErr};
 ghost use Rattle.relationships.specs.Graph.{edges};
-ghost use Rattle.tor_clauses.specs.Literals.{node_of};
+ghost use Rattle.tor_arena.specs.Limits.{most_places};
+ghost use Rattle.as_graph.specs.Limits.{most_triples};
+ghost use Rattle.tor_clauses.specs.Literals.{most_edges, node_of};
 ghost use Rattle.tor_clauses.specs.Triples.{arcs_of, AreAmong, triples_on};
 ghost use Rattle.tor_clauses.specs.Tables.{HasNodes, with_triple, with_triples_on, with_arc, having, IsRoomy, IsFirst, IsFirstNew};
 ghost use Rattle.tor_clauses.specs.Flipping.{HasPartners, IsPartner};
@@ -187,7 +189,7 @@ impl Clauses {
         requires nodes { HasNodes triple }
         requires first { triple.first.edge * 2 + 1 < self.old.net.nodes }
         requires second { triple.second.edge * 2 + 1 < self.old.net.nodes }
-        requires few { length self.old.triples < 2 ^ 27 }
+        requires few { length self.old.triples < most_triples }
         ensures ok { OnOk result (self.new ≡ having self.old (with_triple self.old.triples triple)) }
         ensures err { OnErr result (self.new ≡ self.old) }
     {
@@ -330,7 +332,7 @@ fn add_arcs(digraph: &mut Digraph<NodeId, ArcId>, triple: Triple) -> Result<(), 
     requires nodes { HasNodes triple }
     requires first { triple.first.edge * 2 + 1 < digraph.old.nodes }
     requires second { triple.second.edge * 2 + 1 < digraph.old.nodes }
-    requires few { length digraph.old.arcs + 2 ≤ 2 ^ 28 }
+    requires few { length digraph.old.arcs + 2 ≤ most_places }
     ensures ok { OnOk result (digraph.new ≡ record digraph.old { arcs = digraph.old.arcs ++ arcs_of triple }) }
     ensures err { OnErr result (digraph.new ≡ digraph.old) }
 {
@@ -347,10 +349,10 @@ fn add_arcs(digraph: &mut Digraph<NodeId, ArcId>, triple: Triple) -> Result<(), 
 
 /// Adds the arc from one literal to another. For want of memory nothing changes.
 fn add_arc(digraph: &mut Digraph<NodeId, ArcId>, tail: Lit, head: Lit) -> Result<(), NoMemory>
-    requires nodes { (tail.edge < 2 ^ 27) × (head.edge < 2 ^ 27) }
+    requires nodes { (tail.edge < most_edges) × (head.edge < most_edges) }
     requires tail { node_of tail < digraph.old.nodes }
     requires head { node_of head < digraph.old.nodes }
-    requires few { length digraph.old.arcs < 2 ^ 28 }
+    requires few { length digraph.old.arcs < most_places }
     ensures ok { OnOk result (digraph.new ≡ with_arc digraph.old tail head) }
     ensures err { OnErr result (digraph.new ≡ digraph.old) }
 {

@@ -1,6 +1,6 @@
 //! Literals.
-ghost use Rattle.std.specs.Prelude.{◌≡◌, ◌<◌, ◌^◌, ◌↔◌, length, IsTrue};
-ghost use Rattle.tor_clauses.specs.Literals.{negated, node_of, lit_of, opposite_node, Holds};
+ghost use Rattle.std.specs.Prelude.{◌≡◌, ◌<◌, ◌↔◌, length, IsTrue};
+ghost use Rattle.tor_clauses.specs.Literals.{most_edges, negated, node_of, lit_of, opposite_node, Holds};
 
 use as_graph::Step;
 use relationships::End;
@@ -34,7 +34,7 @@ impl Lit {
     /// The node of this literal: twice the edge's place for the lower end, and one more for the higher. The edge's place has to
     /// be below 2^27. It takes no memory.
     pub fn node(self) -> NodeId
-        requires { self.edge < 2 ^ 27 }
+        requires { self.edge < most_edges }
         ensures node { result ≡ node_of self }
         ensures back { lit_of result ≡ self }
     {

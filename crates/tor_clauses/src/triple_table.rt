@@ -1,7 +1,9 @@
 //! Distinct triples, found by their literals.
-ghost use Rattle.std.specs.Prelude.{◌≡◌, ◌<◌, ◌≤◌, ◌↔◌, ◌^◌, [], All, length, take, slice_get, IsTrue, IfOk, OnErr};
+ghost use Rattle.std.specs.Prelude.{◌≡◌, ◌<◌, ◌≤◌, ◌↔◌, [], All, length, take, slice_get, IsTrue, IfOk, OnErr};
+ghost use Rattle.tor_arena.specs.Limits.{max_numbers};
+ghost use Rattle.as_graph.specs.Limits.{most_triples};
 ghost use Rattle.tor_clauses.specs.Triples.{arc_of, is_among};
-ghost use Rattle.tor_clauses.specs.Tables.{HasNodes, IsSatisfied, IsAdded, AreKnownOn, IsNewAt, key_of_arc, number_of_pair};
+ghost use Rattle.tor_clauses.specs.Tables.{HasNodes, IsSatisfied, IsAdded, AreKnownOn, IsNewAt, key_of, key_of_arc, number_of_pair};
 
 use crate::lit::{Lit, opposite};
 use crate::triple::Triple;
@@ -46,7 +48,7 @@ impl TripleTable {
     /// How many triples there are. It takes no memory.
     pub fn len(&self) -> usize
         ensures len { result ≡ length self.now }
-        ensures few { length self.now ≤ 2 ^ 27 }
+        ensures few { length self.now ≤ most_triples }
         ensures nodes { All HasNodes self.now }
     {
         self.triples.len()
@@ -90,7 +92,7 @@ impl TripleTable {
     pub fn first_new(&self, steps: &[Step], from: usize) -> usize
         requires from { 0 < from }
         requires inside { from ≤ length steps.now }
-        requires few { All (λ step. step.edge < 2 ^ 26) steps.now }
+        requires few { All (λ step. step.edge < max_numbers) steps.now }
         ensures from { from ≤ result }
         ensures inside { result ≤ length steps.now }
         ensures known { AreKnownOn self.now steps.now from result }
@@ -111,13 +113,13 @@ impl TripleTable {
     /// Adds a triple, unless it or its reverse is there, and answers whether it was added. For want of memory nothing changes.
     pub fn add(&mut self, triple: Triple) -> Result<bool, NoMemory>
         requires nodes { HasNodes triple }
-        requires room { length self.old < 2 ^ 27 }
+        requires room { length self.old < most_triples }
         ensures ok { IfOk result (λ is_new. IsAdded triple self.old self.new is_new) }
         ensures err { OnErr result (self.new ≡ self.old) }
     {
         self.triples.reserve(1)?;
-        let pair = key(triple.first.node(), triple.second.node());
-        let is_new = self.known.insert(number_of(pair))?;
+        let number = number_of_triple(&triple);
+        let is_new = self.known.insert(number)?;
         if is_new {
             self.triples.push_reserved(triple);
         }
@@ -152,6 +154,14 @@ pub fn number_of(pair: (NodeId, NodeId)) -> u64
     ensures { result ≡ number_of_pair pair }
 {
     pair.0.place() as u64 * 4294967296 + pair.1.place() as u64 + 2
+}
+
+/// The number by which a table of numbers finds a triple or its reverse. It takes no memory.
+fn number_of_triple(triple: &Triple) -> u64
+    requires { HasNodes triple.now }
+    ensures { result ≡ number_of_pair (key_of triple.now) }
+{
+    number_of(key(triple.first.node(), triple.second.node()))
 }
 
 /// Whether the clause of a triple is satisfied: its second literal holds if its first does.

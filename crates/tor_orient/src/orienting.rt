@@ -1,11 +1,13 @@
 //! The preferred orientation.
-ghost use Rattle.std.specs.Prelude.{◌≡◌, ◌<◌, ◌^◌, ◌↔◌, ℕ, All, Contains, length, map, IfOk};
+ghost use Rattle.std.specs.Prelude.{◌≡◌, ◌<◌, ◌↔◌, ℕ, All, Contains, length, map, IfOk};
 ghost use Rattle.relationships.specs.declared.label.End.{End};
 ghost use Rattle.relationships.specs.Graph.{Edge, edges, orientation};
 ghost use Rattle.relationships.specs.Selection.{IsServable};
 ghost use Rattle.relationships.specs.Preference.{IsPreferred};
 ghost use Rattle.tor_arena.specs.Distinct.{AllDistinct};
+ghost use Rattle.tor_arena.specs.Limits.{max_numbers};
 ghost use Rattle.gao_prefs.specs.Preferences.{edges_of};
+ghost use Rattle.tor_clauses.specs.Literals.{most_edges};
 ghost use Rattle.tor_clauses.specs.Formulas.{FitsGraph, demands_of, MeetsDemands};
 ghost use Rattle.tor_orient.specs.Wishes.{wish, AreWishes};
 ghost use Rattle.tor_orient.specs.Steps.{IsEndOf, AreEndsOf};
@@ -21,7 +23,7 @@ use tor_digraph::Reached;
 
 /// The end that is settled of an edge, and the lower where none is. It takes no memory.
 fn settled_end(settled: &Reached<NodeId, ArcId>, edge: EdgeId) -> End
-    requires { edge < 2 ^ 27 }
+    requires { edge < most_edges }
     ensures { IsEndOf settled.now.nodes edge result }
 {
     let high = Lit {
@@ -35,22 +37,21 @@ fn settled_end(settled: &Reached<NodeId, ArcId>, edge: EdgeId) -> End
     }
 }
 
-/// The ends that are settled, so many.
+/// The orientation of the ends that are settled, so many.
 fn settled_ends(
     alloc: Global,
     settled: &Reached<NodeId, ArcId>,
     count: usize,
-) -> Result<Vec<End>, NoMemory>
-    requires { count < 2 ^ 26 }
-    ensures many { IfOk result (λ ends. length ends.items ≡ count) }
-    ensures ends { IfOk result (λ ends. AreEndsOf settled.now.nodes ends.items) }
+) -> Result<Orientation, NoMemory>
+    requires { count < max_numbers }
+    ensures { IfOk result (λ ends. (length ends ≡ count) × AreEndsOf settled.now.nodes ends) }
 {
     let mut ends = Vec::with_capacity(alloc, count)?;
     for place in 0..count {
         let edge = EdgeId::from_place(place).unwrap();
         ends.push(settled_end(settled, edge))?;
     }
-    Ok(ends)
+    Orientation::from_slice(alloc, ends.as_slice())
 }
 
 /// The preferred orientation: edges are settled in the order of the preferences. Each gets the end that its preference wants, if some
@@ -85,6 +86,5 @@ pub fn orient(
     clauses.facts();
     model_law();
     let settled = settle_all(alloc, graph, clauses, prefs)?;
-    let ends = settled_ends(alloc, &settled, graph.edge_count())?;
-    Orientation::from_slice(alloc, ends.as_slice())
+    settled_ends(alloc, &settled, graph.edge_count())
 }

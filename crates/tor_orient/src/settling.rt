@@ -1,7 +1,8 @@
 //! How an edge is settled with all that follows.
-ghost use Rattle.std.specs.Prelude.{◌≡◌, ◌<◌, ◌^◌, ℕ, All, length, OnOk, IfOk};
+ghost use Rattle.std.specs.Prelude.{◌≡◌, ◌<◌, ℕ, All, length, OnOk, IfOk};
 ghost use Rattle.relationships.specs.Selection.{IsServable};
 ghost use Rattle.relationships.specs.Graph.{edges};
+ghost use Rattle.tor_clauses.specs.Literals.{most_edges};
 ghost use Rattle.tor_clauses.specs.Formulas.{FitsGraph, demands_of};
 ghost use Rattle.tor_orient.specs.Steps.{node_wanted, IsClosed, IsSettledBy, AreSettled};
 
@@ -23,7 +24,7 @@ fn settle(
     settled: &mut Reached<NodeId, ArcId>,
 ) -> Result<(), NoMemory>
     requires rows { rows.now ≡ clauses.now.net }
-    requires few { pref.now.edge < 2 ^ 27 }
+    requires few { pref.now.edge < most_edges }
     requires there { node_wanted pref.now < clauses.now.net.nodes }
     requires closed { IsClosed clauses.now.net settled.old }
     ensures closed { OnOk result (IsClosed clauses.now.net settled.new) }

@@ -3,10 +3,10 @@ use Rattle.path_select.specs.Repairs.{flipped_back, AreInside}
 use Rattle.path_select.proofs.Flips.{IsFlipped}
 use Rattle.path_select.proofs.flipping.flip_all.Given as goal
 
-abbrev pub invariant-loop-visit : goal.invariant-loop-visit
-invariant-loop-visit l = record {
+abbrev pub invariant-loop-node : goal.invariant-loop-node
+invariant-loop-node l = record {
   many : length l.ends ≡ length l.fn.ends;
   flips : AreInside (length l.ends) l.flips;
   back : flipped_back l.ends l.flips ≡ flipped_back l.fn.ends l.fn.flips;
-  flipped : IsFlipped l.fn.ends l.ends l.visits l.visit-index;
+  flipped : IsFlipped l.fn.ends l.ends l.visited l.node-index;
 }

@@ -1,4 +1,4 @@
-use Rattle.std.proofs.Common.{◌≡◌, List, sym, ◌∙◌, subst}
+use Rattle.std.proofs.Common.{◌≡◌, List, length, ◌∙◌}
 use Rattle.std.proofs.lemmas.Result.{IfOk-weaker}
 use Rattle.relationships.specs.declared.label.End.{End}
 use Rattle.relationships.specs.Graph.{Edge, edges, orientation}
@@ -7,20 +7,28 @@ use Rattle.as_graph.specs.Paths.{paths_at}
 use Rattle.gao_prefs.specs.Preferences.{edges_of}
 use Rattle.tor_clauses.specs.Formulas.{IsServed}
 use Rattle.tor_orient.specs.Wishes.{wish, AreWishes}
+use Rattle.tor_orient.specs.Steps.{AreEndsOf}
 use Rattle.tor_orient.proofs.Preferences.{serves, preferred}
 use Rattle.tor_orient.proofs.WishLemmas.{wishes}
 use Rattle.tor_orient.proofs.orienting.orient.Goals as goal
+
+pub returns-clause-many : goal.returns-clause-many
+returns-clause-many c =
+    let settled = c.in_ok-settled.settled.nodes in
+    let count = c.edge_count.result in
+    IfOk-weaker c.settled_ends.result (λ (o : List End). (length o ≡ count) × AreEndsOf settled o) (λ (o : List End). length o ≡ length (edges c.args.graph.now))
+    (λ o is. is.0 ∙ c.edge_count.ensures.count) c.settled_ends.ensures
 
 pub returns-clause-serves : goal.returns-clause-serves
 returns-clause-serves c =
     let graph = c.args.graph.now in
     let f = c.args.clauses.now in
-    let made = c.in_ok-ends.ends.items in
-    let many = c.in_ok-ends.ensures.many ∙ c.edge_count.ensures.count in
-    let is = serves graph f c.facts.ensures.apart c.requires.fits c.args.prefs.now c.in_ok-settled.settled made c.in_ok-settled.ensures
-    c.requires.inside c.requires.each many c.in_ok-ends.ensures.ends c.model_law.ensures in
-    IfOk-weaker c.from_slice.result (λ (o : List End). o ≡ c.as_slice.result.now) (IsServed graph f.paths)
-    (λ o same. subst (IsServed graph f.paths) (sym (same ∙ c.as_slice.ensures.value)) is) c.from_slice.ensures
+    let settled = c.in_ok-settled.settled in
+    let count = c.edge_count.result in
+    IfOk-weaker c.settled_ends.result (λ (o : List End). (length o ≡ count) × AreEndsOf settled.nodes o) (IsServed graph f.paths)
+    (λ o is. serves graph f c.facts.ensures.apart c.requires.fits c.args.prefs.now settled o c.in_ok-settled.ensures c.requires.inside c.requires.each (is.0 ∙ c.edge_count.ensures.count) is.1
+    c.model_law.ensures)
+    c.settled_ends.ensures
 
 pub returns-clause-preferred : goal.returns-clause-preferred
 returns-clause-preferred c =
@@ -28,15 +36,13 @@ returns-clause-preferred c =
     let f = c.args.clauses.now in
     let prefs = c.args.prefs.now in
     let es = edges graph in
-    let made = c.in_ok-ends.ends.items in
-    let many = c.in_ok-ends.ensures.many ∙ c.edge_count.ensures.count in
-    let is =
-    preferred graph f c.facts.ensures.apart c.requires.fits prefs c.in_ok-settled.settled made c.in_ok-settled.ensures c.requires.inside
-    c.requires.each many c.in_ok-ends.ensures.ends c.model_law.ensures
-    (wish es prefs) (wishes graph prefs c.requires.inside c.requires.apart) in
-    IfOk-weaker c.from_slice.result (λ (o : List End). o ≡ c.as_slice.result.now)
+    let settled = c.in_ok-settled.settled in
+    let count = c.edge_count.result in
+    IfOk-weaker c.settled_ends.result (λ (o : List End). (length o ≡ count) × AreEndsOf settled.nodes o)
     (λ (o : List End). IsPreferred (paths_at graph f.paths) (wish es prefs) (edges_of es prefs) (orientation es o))
-    (λ o same. subst (λ (l : List End). IsPreferred (paths_at graph f.paths) (wish es prefs) (edges_of es prefs) (orientation es l)) (sym (same ∙ c.as_slice.ensures.value)) is) c.from_slice.ensures
+    (λ o is. preferred graph f c.facts.ensures.apart c.requires.fits prefs settled o c.in_ok-settled.ensures c.requires.inside c.requires.each (is.0 ∙ c.edge_count.ensures.count) is.1
+    c.model_law.ensures (wish es prefs) (wishes graph prefs c.requires.inside c.requires.apart))
+    c.settled_ends.ensures
 
 pub returns-clause-wishes : goal.returns-clause-wishes
 returns-clause-wishes c =
@@ -44,12 +50,10 @@ returns-clause-wishes c =
     let f = c.args.clauses.now in
     let prefs = c.args.prefs.now in
     let es = edges graph in
-    let made = c.in_ok-ends.ends.items in
-    let many = c.in_ok-ends.ensures.many ∙ c.edge_count.ensures.count in
-    let is = preferred graph f c.facts.ensures.apart c.requires.fits prefs c.in_ok-settled.settled made c.in_ok-settled.ensures c.requires.inside
-    c.requires.each many c.in_ok-ends.ensures.ends c.model_law.ensures in
-    IfOk-weaker c.from_slice.result (λ (o : List End). o ≡ c.as_slice.result.now)
+    let settled = c.in_ok-settled.settled in
+    let count = c.edge_count.result in
+    IfOk-weaker c.settled_ends.result (λ (o : List End). (length o ≡ count) × AreEndsOf settled.nodes o)
     (λ (o : List End). (wanted : Edge → End) → AreWishes es prefs wanted → IsPreferred (paths_at graph f.paths) wanted (edges_of es prefs) (orientation es o))
-    (λ o same. subst (λ (l : List End). (wanted : Edge → End) → AreWishes es prefs wanted →
-    IsPreferred (paths_at graph f.paths) wanted (edges_of es prefs) (orientation es l)) (sym (same ∙ c.as_slice.ensures.value)) is)
-    c.from_slice.ensures
+    (λ o is. preferred graph f c.facts.ensures.apart c.requires.fits prefs settled o c.in_ok-settled.ensures c.requires.inside c.requires.each (is.0 ∙ c.edge_count.ensures.count) is.1
+    c.model_law.ensures)
+    c.settled_ends.ensures

@@ -5,10 +5,10 @@ use Rattle.path_select.proofs.trail.Trail.scan.Given as goal
 
 abbrev pub invariant-loop-next : goal.invariant-loop-next
 invariant-loop-next l = record {
-  marked : IsMarked l.digraph.nodes l.self;
-  trail : IsTrail l.digraph.arcs l.ends l.self.visits;
-  grown : IsGrown l.fn.self.visits l.self.visits;
-  scan : IsScan l.digraph.arcs l.ends l.self.visits l.place l.next;
+  marked : IsMarked l.digraph.nodes l.self.nodes;
+  trail : IsTrail l.digraph.arcs l.ends l.self;
+  grown : IsGrown l.fn.self.nodes.items l.self.nodes.items;
+  scan : IsScan l.digraph.arcs l.ends l.self.nodes.items l.place l.next;
 }
 
 abbrev pub decreases-loop-next : goal.decreases-loop-next
