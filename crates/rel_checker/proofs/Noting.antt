@@ -7,7 +7,7 @@ use Rattle.result_text.specs.declared.file.EdgeLine.{EdgeLine}
 use Rattle.rel_checker.specs.declared.edges.step.Step.{Step}
 use Rattle.rel_checker.specs.Neighbours.{HasNext, with_next}
 use Rattle.rel_checker.specs.Flipping.{climbs_on, number_of, SameRows, HaveArcs, AreNoted, flipped, flipped_orders, edges_of, IsBuilt, IsProper, TripleBefore, with_implied, with_conflicting}
-use Rattle.rel_checker.specs.PathSteps.{place_in, IsStepAlong, AreSteps}
+use Rattle.rel_checker.specs.PathSteps.{place_in, IsStep, AreSteps}
 use Rattle.rel_checker.proofs.Buildings.{length-with_next, next_cases, next_kept, next_last, path_more, length-with_implied, length-with_conflicting}
 use Rattle.rel_checker.proofs.Climbing.{climb}
 use Rattle.result_rules.proofs.Gets.{Contains-none, slice_get-replicate}
@@ -158,8 +158,8 @@ noted_path_more lines path steps at d d' implied conflicting implied' conflictin
     let j : at - 1 < length steps = omega (arith, long, two, within) in
     let e : at - 2 + 1 ≡ at - 1 = omega (arith, two) in
     let e' : at - 1 + 1 ≡ at = omega (arith, two) in
-    let along = subst (λ k. IsStepAlong (edges_of lines) (slice_index path (at - 2)) (slice_index path k) first) e (step_at (edges_of lines) path steps (at - 2) d are i) in
-    let along' = subst (λ k. IsStepAlong (edges_of lines) (slice_index path (at - 1)) (slice_index path k) second) e' (step_at (edges_of lines) path steps (at - 1) d' are j) in
+    let along = subst (λ k. IsStep (edges_of lines) (slice_index path (at - 2)) (slice_index path k) first) e (step_at (edges_of lines) path steps (at - 2) d are i) in
+    let along' = subst (λ k. IsStep (edges_of lines) (slice_index path (at - 1)) (slice_index path k) second) e' (step_at (edges_of lines) path steps (at - 1) d' are j) in
     let lt : place_in first < length implied = (let h = inside_lines lines path steps are (at - 2) d i in omega (arith, h, many)) in
     let lt' : place_in second < length implied = (let h = inside_lines lines path steps are (at - 1) d' j in omega (arith, h, many)) in
     built-same (flipped_orders lines) (TripleBefore paths path (at + 1)) (with_implied up up' (place_in first) (place_in second) implied)

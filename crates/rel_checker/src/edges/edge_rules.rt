@@ -2,9 +2,10 @@
 ghost use Rattle.std.specs.Prelude.{◌≡◌, ◌↔◌, ◌+◌, ◌<◌, ◌≤◌, ◌^◌, ◌++◌, ◌∷◌, [], fold, length, map, slice_get, IsTrue, IfOk, IfNone, OnOk};
 ghost use Rattle.tor_arena.specs.Limits.{most_places};
 ghost use Rattle.relationships.specs.Graph.{edge_of, edges_on, edges};
+ghost use Rattle.relationships.specs.Steps.{end_left};
 ghost use Rattle.result_rules.specs.File.{its_paths, its_edges};
 ghost use Rattle.result_rules.specs.declared.rule.Rule.{Rule};
-ghost use Rattle.rel_checker.specs.PathSteps.{IsStepAlong, AreSteps, HaveSteps};
+ghost use Rattle.rel_checker.specs.PathSteps.{IsStep, AreSteps, HaveSteps};
 ghost use Rattle.result_rules.specs.Rules.{IsMet};
 ghost use Rattle.tor_numbers.specs.Edges.{with_edge};
 ghost use Rattle.rel_checker.specs.Steps.{Finds};
@@ -14,6 +15,7 @@ use crate::edges::step::Step;
 use crate::edges::supports::count_kept;
 use crate::edges::valleys::is_served;
 use crate::lending::{path_line_at, steps_at};
+use relationships::End;
 use result_text::{EdgeLine, PathLines, ResultFile};
 use std::alloc::Global;
 use tor_arena::{Keys, List, NoMemory, PathId, RowRefused, Rows};
@@ -81,10 +83,17 @@ fn add_steps(table: &mut EdgeTable, steps: &mut List<Step>, path: &[u32]) -> Res
 fn add_step(table: &mut EdgeTable, from: u32, to: u32) -> Result<Step, NoMemory>
     requires room { length table.old < 2 ^ 26 }
     ensures edge { OnOk result (table.new ≡ with_edge table.old (edge_of from to)) }
-    ensures step { IfOk result (IsStepAlong table.new from to) }
+    ensures step { IfOk result (IsStep table.new from to) }
 {
     let added = table.add(from, to)?;
-    Ok(Step::new(added.place, from < to))
+    Ok(Step::new(added.place, end_left(from, to)))
+}
+
+/// The end of their edge from which the step from the first AS to the second goes.
+fn end_left(from: u32, to: u32) -> End
+    ensures { result ≡ end_left from to }
+{
+    if from < to { End::Low } else { End::High }
 }
 
 /// The first place in which the edge lines and the edges of the paths differ. It takes no memory.
