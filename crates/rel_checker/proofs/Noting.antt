@@ -2,6 +2,7 @@
 use Rattle.std.proofs.Common.{Result, Ok, Err, OnOk, ◌≡◌, inl, inr, ℕ, ◌+◌, ◌-◌, ◌<◌, ◌≤◌, Bool, true, false, List, [], ◌∷◌, ◌++◌, length, get_or, replicate, slice_index, refl, sym, ap, ◌∙◌, subst, arith, Contains}
 use Rattle.std.proofs.lemmas.List.{length-map, length-replicate}
 use Rattle.std.proofs.lemmas.List.Elements.{Contains-push_cases}
+use Rattle.tor_arena.specs.Limits.{most_places}
 use Rattle.relationships.specs.Evidence.{IsTriple}
 use Rattle.result_text.specs.declared.file.EdgeLine.{EdgeLine}
 use Rattle.rel_checker.specs.declared.edges.step.Step.{Step}
@@ -98,7 +99,7 @@ pub noted-there : (lines : List EdgeLine) (numbers : List ℕ) (s t : Step) (num
 noted-there lines numbers s t number implied conflicting lt lt' e there noted = noted s t lt lt' (subst (Contains numbers) e there)
 
 pub noted-more : (lines : List EdgeLine) (numbers numbers' : List ℕ) (first second : Step) (number : ℕ) (implied conflicting implied' conflicting' : List (List ℕ)) →
-    length lines ≤ 268435456 → length implied ≡ length lines → length conflicting ≡ length lines → place_in first < length lines → place_in second < length lines →
+    length lines ≤ most_places → length implied ≡ length lines → length conflicting ≡ length lines → place_in first < length lines → place_in second < length lines →
     number ≡ number_of first second → numbers' ≡ numbers ++ number ∷ [] →
     implied' ≡ with_implied (climbs_on lines first) (climbs_on lines second) (place_in first) (place_in second) implied →
     conflicting' ≡ with_conflicting (climbs_on lines first) (climbs_on lines second) (place_in first) (place_in second) conflicting →

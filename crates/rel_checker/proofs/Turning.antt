@@ -2,6 +2,7 @@
 use Rattle.std.proofs.Common.{◌≡◌, ◌⊎◌, inl, inr, ℕ, zero, suc, ◌+◌, ◌*◌, ◌%◌, ◌<◌, Bool, true, false, not, if◌then◌else◌, List, get_or, refl, sym, ap, ap₂, ◌∙◌, arith}
 use Rattle.std.specs.Prelude.{◌^◌, nat_lt}
 use Rattle.std.proofs.lemmas.Bool.{cases_Bool}
+use Rattle.tor_arena.specs.Limits.{most_places}
 use Rattle.relationships.specs.declared.label.End.{End}
 use Rattle.relationships.specs.declared.label.Label.{Label}
 use Rattle.relationships.specs.declared.label.Label.TheVariants as label
@@ -65,10 +66,10 @@ steps_turned lines s t implied conflicting h =
 
 -- ---- two pairs of steps with one number
 
-code_small : (s : Step) → place_in s < 268435456 → (s.code < 2 ^ 32) × (turned s < 2 ^ 32)
+code_small : (s : Step) → place_in s < most_places → (s.code < 2 ^ 32) × (turned s < 2 ^ 32)
 code_small s h = (omega (arith, h), omega (arith, h))
 
-second_small : (s t : Step) → place_in s < 268435456 → place_in t < 268435456 → (pair_of s t).1 < 2 ^ 32
+second_small : (s t : Step) → place_in s < most_places → place_in t < most_places → (pair_of s t).1 < 2 ^ 32
 second_small s t h k = elim (cases_Bool (nat_lt (turned t) s.code)) [
   | inl yes' ↦ rw yes' (code_small s h).1
   | inr no' ↦ rw no' (code_small t k).0
@@ -84,7 +85,7 @@ abbrev step_with : ℕ → Step
 step_with n = record { code = n }
 
 -- the steps are the same, or the same the other way round
-pub steps_numbered : (s t s' t' : Step) → place_in s < 268435456 → place_in t < 268435456 → place_in s' < 268435456 → place_in t' < 268435456 →
+pub steps_numbered : (s t s' t' : Step) → place_in s < most_places → place_in t < most_places → place_in s' < most_places → place_in t' < most_places →
     number_of s t ≡ number_of s' t' → ((s ≡ s') × (t ≡ t')) ⊎ ((s' ≡ turned_step t) × (t' ≡ turned_step s))
 steps_numbered s t s' t' h k h' k' e =
     let same : pair_of s t ≡ pair_of s' t' = same_pair (pair_of s t) (pair_of s' t') (second_small s t h k) (second_small s' t' h' k') e in

@@ -1,6 +1,6 @@
 //! The rules on edge lines.
-ghost use Rattle.std.specs.Prelude.{◌≡◌, ◌↔◌, ◌+◌, ◌<◌, ◌≤◌, ◌^◌, ◌++◌, ◌∷◌, [], fold, length, map, slice_get, IsTrue, IfOk, IfNone, OnOk};
-ghost use Rattle.tor_arena.specs.Limits.{most_places};
+ghost use Rattle.std.specs.Prelude.{◌≡◌, ◌↔◌, ◌+◌, ◌<◌, ◌≤◌, ◌++◌, ◌∷◌, [], fold, length, map, slice_get, IsTrue, IfOk, IfNone, OnOk};
+ghost use Rattle.tor_arena.specs.Limits.{most_places, max_numbers};
 ghost use Rattle.relationships.specs.Graph.{edge_of, edges_on, edges};
 ghost use Rattle.relationships.specs.Steps.{end_left};
 ghost use Rattle.result_rules.specs.File.{its_paths, its_edges};
@@ -67,7 +67,7 @@ fn add_row(rows: &mut Rows<PathId, Step>, steps: &[Step]) -> Result<(), NoMemory
 
 /// Adds the edges along a path, and its steps, where there are no others.
 fn add_steps(table: &mut EdgeTable, steps: &mut List<Step>, path: &[u32]) -> Result<(), NoMemory>
-    requires room { length table.old + length path.now ≤ 2 ^ 26 }
+    requires room { length table.old + length path.now ≤ max_numbers }
     requires empty { steps.old ≡ [] }
     ensures edges { OnOk result (table.new ≡ fold with_edge table.old (edges_on path.now)) }
     ensures steps { OnOk result (AreSteps table.new path.now steps.new) }
@@ -81,7 +81,7 @@ fn add_steps(table: &mut EdgeTable, steps: &mut List<Step>, path: &[u32]) -> Res
 
 /// Adds the edge between two ASes, and answers the step from the first to the second.
 fn add_step(table: &mut EdgeTable, from: u32, to: u32) -> Result<Step, NoMemory>
-    requires room { length table.old < 2 ^ 26 }
+    requires room { length table.old < max_numbers }
     ensures edge { OnOk result (table.new ≡ with_edge table.old (edge_of from to)) }
     ensures step { IfOk result (IsStep table.new from to) }
 {

@@ -1,5 +1,6 @@
 //! Steps of paths, as places of edges.
-ghost use Rattle.std.specs.Prelude.{◌≡◌, ◌<◌, ◌^◌};
+ghost use Rattle.std.specs.Prelude.{◌≡◌, ◌<◌};
+ghost use Rattle.tor_arena.specs.Limits.{most_places};
 ghost use Rattle.rel_checker.specs.Flipping.{turned};
 ghost use Rattle.rel_checker.specs.PathSteps.{place_in, left_in};
 
@@ -14,7 +15,7 @@ pub(crate) struct Step {
 impl Step {
     /// The step from an end of the edge in a place. It takes no memory.
     pub fn new(place: usize, left: End) -> Step
-        requires { place < 2 ^ 31 }
+        requires { place < most_places }
         ensures place { place_in result ≡ place }
         ensures left { left_in result ≡ left }
     {
