@@ -33,15 +33,32 @@ pub(crate) fn list_edges(
 {
     let mut table = EdgeTable::new(alloc, keys);
     let mut rows = Rows::new(alloc);
+    add_paths(alloc, file, &mut table, &mut rows)?;
+    Ok((table, rows))
+}
+
+/// Adds the edges along the paths, and the steps of each, where there are no others.
+fn add_paths(
+    alloc: Global,
+    file: &ResultFile,
+    table: &mut EdgeTable,
+    rows: &mut Rows<PathId, Step>,
+) -> Result<(), NoMemory>
+    requires clean { IsMet file.now Rule.PathsCleaned }
+    requires no_edges { table.old ≡ [] }
+    requires no_rows { rows.old ≡ [] }
+    ensures edges { OnOk result (table.new ≡ edges (its_paths file.now)) }
+    ensures steps { OnOk result (HaveSteps table.new (its_paths file.now) rows.new) }
+{
     rows.reserve(file.paths.len(), numbers_on(&file.paths))?;
     let mut steps = List::new(alloc);
     for place in 0..file.paths.len() {
         let line = path_line_at(&file.paths, place);
         steps.clear();
-        add_steps(&mut table, &mut steps, line.path())?;
-        add_row(&mut rows, steps.as_slice())?;
+        add_steps(table, &mut steps, line.path())?;
+        add_row(rows, steps.as_slice())?;
     }
-    Ok((table, rows))
+    Ok(())
 }
 
 /// How many AS numbers the paths have in sum, for which memory is taken at once.
