@@ -24,8 +24,8 @@ pub fn parse(alloc: Global, bytes: &[u8]) -> Result<ResultFile, ParseError>
     }
 }
 
-/// Reads the lines into a draft with nothing in it, and answers how many there are. The draft is then the result whose text the bytes
-/// are, or they end too early. Errors are those of `parse`.
+/// Reads the lines into a draft with nothing in it, and answers how many there are. Where the draft is finished then, the bytes are the
+/// text of its result; else the line behind the last is their bad line. Errors are those of `parse`.
 fn read_lines(alloc: Global, draft: &mut Draft, bytes: &[u8]) -> Result<u64, ParseError>
     requires { draft.old ≡ start }
     ensures few { IfOk result (λ read. read ≤ length bytes.now) }
