@@ -6,7 +6,7 @@ use Rattle.std.proofs.lemmas.List.Elements.{Contains-push, Contains-push_cases, 
 use Rattle.relationships.specs.Evidence.{TripleAt, IsTriple}
 use Rattle.relationships.proofs.Places.{StandAt-from_index, index-from_StandAt}
 use Rattle.rel_checker.specs.Neighbours.{HasNext, IsInside, with_next}
-use Rattle.rel_checker.specs.Flipping.{FlipsTo, Implies, Conflicts, IsBuilt, IsStep, with_implied, with_conflicting, TripleBefore, IsProper}
+use Rattle.rel_checker.specs.Flipping.{FlipsTo, Implies, Conflicts, IsBuilt, IsClimb, with_implied, with_conflicting, TripleBefore, IsProper}
 use Rattle.result_rules.proofs.Gets.{slice_get-lt, slice_get-set_cases, slice_get-set_other, slice_get-set_same}
 
 -- ---- one more in a row
@@ -135,7 +135,7 @@ module _ (orders : List (ℕ × ℕ)) (proper : IsProper orders) (T T' : ℕ →
         ],
       )
 
-  pub built_more : (first second : ℕ) (up up' : Bool) (implied conflicting : List (List ℕ)) → IsStep orders first up p q → IsStep orders second up' q r →
+  pub built_more : (first second : ℕ) (up up' : Bool) (implied conflicting : List (List ℕ)) → IsClimb orders first up p q → IsClimb orders second up' q r →
       first < length implied → second < length implied → IsBuilt orders T implied conflicting →
       IsBuilt orders T' (with_implied up up' first second implied) (with_conflicting up up' first second conflicting)
   built_more first second true true implied conflicting s s' lt lt' b = record {
@@ -276,17 +276,17 @@ many_implied up up' first second n rows new e h = ap length e ∙ length-with_im
 pub many_conflicting : (up up' : Bool) (first second n : ℕ) (rows new : List (List ℕ)) → new ≡ with_conflicting up up' first second rows → length rows ≡ n → length new ≡ n
 many_conflicting up up' first second n rows new e h = ap length e ∙ length-with_conflicting up up' first second rows ∙ h
 
-pub step_on : (orders : List (ℕ × ℕ)) (path : List ℕ) (edge at : ℕ) (up : Bool) → 2 ≤ at → IsStep orders edge up (slice_index path (at - 1)) (slice_index path at) →
-    IsStep orders edge up (slice_index path (at + 1 - 2)) (slice_index path (at + 1 - 1))
+pub step_on : (orders : List (ℕ × ℕ)) (path : List ℕ) (edge at : ℕ) (up : Bool) → 2 ≤ at → IsClimb orders edge up (slice_index path (at - 1)) (slice_index path at) →
+    IsClimb orders edge up (slice_index path (at + 1 - 2)) (slice_index path (at + 1 - 1))
 step_on orders path edge at up two s =
     let e : at - 1 ≡ at + 1 - 2 = omega arith in
     let e' : at ≡ at + 1 - 1 = omega arith in
-    subst (λ k. IsStep orders edge up (slice_index path k) (slice_index path (at + 1 - 1))) e (subst (λ k. IsStep orders edge up (slice_index path (at - 1)) (slice_index path k)) e' s)
+    subst (λ k. IsClimb orders edge up (slice_index path k) (slice_index path (at + 1 - 1))) e (subst (λ k. IsClimb orders edge up (slice_index path (at - 1)) (slice_index path k)) e' s)
 
 -- the rows of the triples before the next place, and of the one there
 pub path_more : (orders : List (ℕ × ℕ)) (path : List ℕ) (at first second : ℕ) (up up' : Bool) (implied conflicting implied' conflicting' : List (List ℕ)) → IsProper orders → 2 ≤ at
     → at < length path →
-    IsStep orders first up (slice_index path (at - 2)) (slice_index path (at - 1)) → IsStep orders second up' (slice_index path (at - 1)) (slice_index path at) →
+    IsClimb orders first up (slice_index path (at - 2)) (slice_index path (at - 1)) → IsClimb orders second up' (slice_index path (at - 1)) (slice_index path at) →
     first < length implied → second < length implied → implied' ≡ with_implied up up' first second implied → conflicting' ≡ with_conflicting up up' first second conflicting →
     (paths : List (List ℕ)) → IsBuilt orders (TripleBefore paths path at) implied conflicting → IsBuilt orders (TripleBefore paths path (at + 1)) implied' conflicting'
 path_more orders path at first second up up' implied conflicting implied' conflicting' proper two within s s' lt lt' e e' paths b =

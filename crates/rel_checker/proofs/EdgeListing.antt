@@ -1,8 +1,8 @@
 -- The edges of paths and their steps, listed line by line.
-use Rattle.std.proofs.Common.{◌≡◌, ℕ, ◌+◌, ◌<◌, ◌≤◌, ◌^◌, List, [], ◌∷◌, ◌++◌, fold, length, take, sum_by, slice_get, Some, refl, sym, ap, ◌∙◌, subst, arith, length-take}
+use Rattle.std.proofs.Common.{◌≡◌, ℕ, ◌+◌, ◌<◌, ◌≤◌, List, [], ◌∷◌, ◌++◌, fold, length, take, sum_by, slice_get, Some, refl, sym, ap, ◌∙◌, subst, arith, length-take}
 use Rattle.std.proofs.lemmas.List.{take_all, take-map, length-map}
 use Rattle.relationships.specs.Graph.{Edge, edges_on, edges}
-use Rattle.tor_arena.specs.Limits.{most_places}
+use Rattle.tor_arena.specs.Limits.{most_places, max_numbers}
 use Rattle.result_text.specs.declared.file.PathLine.{PathLine}
 use Rattle.result_text.specs.declared.file.ResultFile.{ResultFile}
 use Rattle.rel_checker.specs.declared.edges.step.Step.{Step}
@@ -33,7 +33,7 @@ listing-few lines place es rows h within few =
     omega (arith, n, m, t, within, few)
 
 pub listing-room : (file : ResultFile) (place : ℕ) (es : List Edge) (rows : List (List Step)) (line : PathLine) → IsMet file PathsCleaned → IsListing file.paths place es rows →
-    slice_get file.paths place ≡ Some line → length es + length line.path ≤ 2 ^ 26
+    slice_get file.paths place ≡ Some line → length es + length line.path ≤ max_numbers
 listing-room file place es rows line met h at =
     let l = line-here file place line at in
     let n = ap length h.there in

@@ -1,9 +1,10 @@
 -- There are no more edges than numbers on the paths.
-use Rattle.std.proofs.Common.{◌≡◌, inl, inr, ℕ, suc, ◌+◌, ◌≤◌, ◌^◌, Bool, not, List, [], ◌∷◌, length, map, filter, flat_map, take, sum_by, refl, ap, subst, arith, length-append, get_or}
+use Rattle.std.proofs.Common.{◌≡◌, inl, inr, ℕ, suc, ◌+◌, ◌≤◌, Bool, not, List, [], ◌∷◌, length, map, filter, flat_map, take, sum_by, refl, ap, subst, arith, length-append, get_or}
 use Rattle.std.proofs.lemmas.Bool.{cases_Bool}
 use Rattle.std.proofs.lemmas.List.Sums.{sum_by-cons}
 use Rattle.std.proofs.lemmas.List.{take_all}
 use Rattle.std.proofs.lemmas.Option.{slice_get-get_or}
+use Rattle.tor_arena.specs.Limits.{max_numbers}
 use Rattle.relationships.specs.Graph.{Edge, is_same, edges_from, edges_on, distinct, edges}
 use Rattle.result_text.specs.declared.file.ResultFile.{ResultFile}
 use Rattle.result_text.specs.declared.file.PathLine.{PathLine}
@@ -46,10 +47,10 @@ pub few_edges : (paths : List (List ℕ)) → length (edges paths) ≤ sum_by le
 few_edges paths = let a = distinct_shorter (flat_map edges_on paths) in let b = steps_in_all paths in omega (arith, a, b)
 
 -- clean paths have few edges
-pub few_listed : (file : ResultFile) → IsMet file PathsCleaned → length (edges (its_paths file)) ≤ 2 ^ 26
+pub few_listed : (file : ResultFile) → IsMet file PathsCleaned → length (edges (its_paths file)) ≤ max_numbers
 few_listed file met = by_paths file.paths refl
   where
-    by_paths : (lines : List PathLine) → file.paths ≡ lines → length (edges (its_paths file)) ≤ 2 ^ 26
+    by_paths : (lines : List PathLine) → file.paths ≡ lines → length (edges (its_paths file)) ≤ max_numbers
     by_paths [] is = let none = few_edges (its_paths file) in let e : sum_by length (its_paths file) ≡ 0 = ap (λ (l : List PathLine). sum_by length (map (λ (p : PathLine). p.path) l)) is in
         omega (arith, none, e)
     by_paths (line ∷ lines) is =
@@ -58,6 +59,6 @@ few_listed file met = by_paths file.paths refl
         let sound = met (length lines) (omega (arith, count)) (get_or file.paths (length lines) line) last in
         let same = same_length (λ (p : PathLine). p.path) file.paths in
         let all : take (length lines + 1) (its_paths file) ≡ its_paths file = take_all (length lines + 1) (its_paths file) (omega (arith, count, same)) in
-        let sum : sum_by length (its_paths file) ≤ 2 ^ 26 = subst (λ (l : List (List ℕ)). sum_by length l ≤ 2 ^ 26) all sound.numbers in
+        let sum : sum_by length (its_paths file) ≤ max_numbers = subst (λ (l : List (List ℕ)). sum_by length l ≤ max_numbers) all sound.numbers in
         let few = few_edges (its_paths file) in
         omega (arith, sum, few)

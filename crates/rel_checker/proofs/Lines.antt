@@ -1,5 +1,5 @@
 -- The lines that a loop has passed, and one more.
-use Rattle.std.proofs.Common.{◌≡◌, inl, inr, Some, slice_get, ℕ, ◌+◌, ◌<◌, ◌≤◌, ◌^◌, Bool, true, false, cond, not, ◌&&◌, nat_le, List, [], ◌∷◌, ◌++◌, length, get_or, sum_by, take, map, filter, is_none, refl, sym, ap, ◌∙◌, subst, arith}
+use Rattle.std.proofs.Common.{◌≡◌, inl, inr, Some, slice_get, ℕ, ◌+◌, ◌<◌, ◌≤◌, Bool, true, false, cond, not, ◌&&◌, nat_le, List, [], ◌∷◌, ◌++◌, length, get_or, sum_by, take, map, filter, is_none, refl, sym, ap, ◌∙◌, subst, arith}
 use Rattle.std.specs.List.{list_any}
 use Rattle.std.proofs.lemmas.Bool.{false≢true, cases_lt}
 use Rattle.std.proofs.lemmas.List.{map-append, take_more, length-map, get_or-map}
@@ -8,6 +8,7 @@ use Rattle.std.proofs.lemmas.List.Sums.{length-filter, count_by-le-length, sum_b
 use Rattle.std.proofs.lemmas.Option.{slice_get_read, slice_get_within, get_or_from_slice_get, same_Some}
 use Rattle.relationships.specs.Evidence.{paths_of, kept_from}
 use Rattle.tor_arena.specs.Distinct.{is_distinct}
+use Rattle.tor_arena.specs.Limits.{max_numbers}
 use Rattle.path_clean.specs.Paths.{is_reserved, is_cleaned}
 use Rattle.relationships.specs.declared.fate.Fate.{Fate}
 use Rattle.relationships.specs.declared.fate.Fate.TheVariants.{Kept, Lost}
@@ -67,7 +68,7 @@ kept-lines file = kept-from 1 file.paths
 -- what a clean path gives
 pub record IsUsable (path : List ℕ) : Type 0 where
   pub distinct : is_distinct path ≡ true
-  pub short : length path ≤ 2 ^ 26
+  pub short : length path ≤ max_numbers
 
 distinct-from_clean : (path : List ℕ) → is_cleaned path ≡ true → is_distinct path ≡ true
 distinct-from_clean path h = by (nat_le 2 (length path)) (is_distinct path) (not (list_any is_reserved path)) h

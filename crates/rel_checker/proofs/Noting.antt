@@ -2,12 +2,13 @@
 use Rattle.std.proofs.Common.{Result, Ok, Err, OnOk, ◌≡◌, inl, inr, ℕ, ◌+◌, ◌-◌, ◌<◌, ◌≤◌, Bool, true, false, List, [], ◌∷◌, ◌++◌, length, get_or, replicate, slice_index, refl, sym, ap, ◌∙◌, subst, arith, Contains}
 use Rattle.std.proofs.lemmas.List.{length-map, length-replicate}
 use Rattle.std.proofs.lemmas.List.Elements.{Contains-push_cases}
+use Rattle.tor_arena.specs.Limits.{most_places}
 use Rattle.relationships.specs.Evidence.{IsTriple}
 use Rattle.result_text.specs.declared.file.EdgeLine.{EdgeLine}
 use Rattle.rel_checker.specs.declared.edges.step.Step.{Step}
 use Rattle.rel_checker.specs.Neighbours.{HasNext, with_next}
 use Rattle.rel_checker.specs.Flipping.{climbs_on, number_of, SameRows, HaveArcs, AreNoted, flipped, flipped_orders, edges_of, IsBuilt, IsProper, TripleBefore, with_implied, with_conflicting}
-use Rattle.rel_checker.specs.PathSteps.{place_in, IsStepAlong, AreSteps}
+use Rattle.rel_checker.specs.PathSteps.{place_in, IsStep, AreSteps}
 use Rattle.rel_checker.proofs.Buildings.{length-with_next, next_cases, next_kept, next_last, path_more, length-with_implied, length-with_conflicting}
 use Rattle.rel_checker.proofs.Climbing.{climb}
 use Rattle.result_rules.proofs.Gets.{Contains-none, slice_get-replicate}
@@ -98,7 +99,7 @@ pub noted-there : (lines : List EdgeLine) (numbers : List ℕ) (s t : Step) (num
 noted-there lines numbers s t number implied conflicting lt lt' e there noted = noted s t lt lt' (subst (Contains numbers) e there)
 
 pub noted-more : (lines : List EdgeLine) (numbers numbers' : List ℕ) (first second : Step) (number : ℕ) (implied conflicting implied' conflicting' : List (List ℕ)) →
-    length lines ≤ 268435456 → length implied ≡ length lines → length conflicting ≡ length lines → place_in first < length lines → place_in second < length lines →
+    length lines ≤ most_places → length implied ≡ length lines → length conflicting ≡ length lines → place_in first < length lines → place_in second < length lines →
     number ≡ number_of first second → numbers' ≡ numbers ++ number ∷ [] →
     implied' ≡ with_implied (climbs_on lines first) (climbs_on lines second) (place_in first) (place_in second) implied →
     conflicting' ≡ with_conflicting (climbs_on lines first) (climbs_on lines second) (place_in first) (place_in second) conflicting →
@@ -158,8 +159,8 @@ noted_path_more lines path steps at d d' implied conflicting implied' conflictin
     let j : at - 1 < length steps = omega (arith, long, two, within) in
     let e : at - 2 + 1 ≡ at - 1 = omega (arith, two) in
     let e' : at - 1 + 1 ≡ at = omega (arith, two) in
-    let along = subst (λ k. IsStepAlong (edges_of lines) (slice_index path (at - 2)) (slice_index path k) first) e (step_at (edges_of lines) path steps (at - 2) d are i) in
-    let along' = subst (λ k. IsStepAlong (edges_of lines) (slice_index path (at - 1)) (slice_index path k) second) e' (step_at (edges_of lines) path steps (at - 1) d' are j) in
+    let along = subst (λ k. IsStep (edges_of lines) (slice_index path (at - 2)) (slice_index path k) first) e (step_at (edges_of lines) path steps (at - 2) d are i) in
+    let along' = subst (λ k. IsStep (edges_of lines) (slice_index path (at - 1)) (slice_index path k) second) e' (step_at (edges_of lines) path steps (at - 1) d' are j) in
     let lt : place_in first < length implied = (let h = inside_lines lines path steps are (at - 2) d i in omega (arith, h, many)) in
     let lt' : place_in second < length implied = (let h = inside_lines lines path steps are (at - 1) d' j in omega (arith, h, many)) in
     built-same (flipped_orders lines) (TripleBefore paths path (at + 1)) (with_implied up up' (place_in first) (place_in second) implied)

@@ -1,9 +1,11 @@
 -- How steps go under labels, and a walk over them with a flag.
 use Rattle.std.proofs.Common.{◌≡◌, ◌≢◌, ◌↔◌, ℕ, suc, ◌+◌, ◌<◌, ◌≤◌, inl, inr, Bool, true, false, not, List, [], ◌∷◌, length, get_or, drop, min, max, refl, sym, ap, ap₂, ◌∙◌, arith, IsTrue, if◌then◌else◌, drop-cons, add-one, le-ltb, lt-ltb}
 use Rattle.std.proofs.lemmas.Bool.{false≢true, cases_order}
+use Rattle.relationships.specs.declared.label.End.{End}
 use Rattle.relationships.specs.declared.label.Label.{Label}
 use Rattle.tor_arena.specs.Distinct.{AllDistinct}
 use Rattle.relationships.specs.Relationship.{Labelling, is_low, is_high, is_over, Slope, Up, Down, Flat, slope, slopes_from, slopes, ValleyFree}
+use Rattle.relationships.specs.Steps.{step_slope, is_up, is_down}
 use Rattle.relationships.proofs.Slopes.{over-low, over-high, slope-up, slope-down}
 use Rattle.relationships.proofs.Deciding.{only_down, no_valley, no_valley_iff}
 use Rattle.relationships.specs.declared.fate.Fate.{Fate}
@@ -12,29 +14,29 @@ use Rattle.relationships.specs.Fates.{is_kept}
 use Rattle.result_text.specs.declared.file.EdgeLine.{EdgeLine}
 use Rattle.rel_checker.specs.declared.edges.step.Step.{Step}
 use Rattle.rel_checker.specs.Flipping.{edges_of, AreApart}
-use Rattle.rel_checker.specs.PathSteps.{place_in, rises_in, IsStepAlong, AreStepsFrom, AreSteps, step_slope, labels_on, slopes_by, is_up, is_down}
+use Rattle.rel_checker.specs.PathSteps.{place_in, left_in, IsStep, AreStepsFrom, AreSteps, labels_on, slopes_by}
 use Rattle.rel_checker.specs.Tables.{labels_in}
 use Rattle.rel_checker.proofs.ValleyLemmas.{label_of_edge}
 
 -- ---- slopes by steps
 
-slope-rising : (L : Labelling) (a b : ℕ) (v : Label) → a < b → L a b ≡ v → slope L a b ≡ step_slope v true
+slope-from_low : (L : Labelling) (a b : ℕ) (v : Label) → a < b → L a b ≡ v → slope L a b ≡ step_slope v End.Low
 unfolding slope is_over
-slope-rising L a b Label.Low lt e = slope-down L a b (over-low L a b lt (ap is_low e))
-slope-rising L a b Label.High lt e = slope-up L a b (over-high L a b lt (ap is_high e))
-slope-rising L a b Label.Peer lt e = let ge : a ≤ b = omega arith in rw (lt-ltb a b lt, le-ltb b a ge, e) refl
+slope-from_low L a b Label.Low lt e = slope-down L a b (over-low L a b lt (ap is_low e))
+slope-from_low L a b Label.High lt e = slope-up L a b (over-high L a b lt (ap is_high e))
+slope-from_low L a b Label.Peer lt e = let ge : a ≤ b = omega arith in rw (lt-ltb a b lt, le-ltb b a ge, e) refl
 
-slope-sinking : (L : Labelling) (a b : ℕ) (v : Label) → b < a → L b a ≡ v → slope L a b ≡ step_slope v false
+slope-from_high : (L : Labelling) (a b : ℕ) (v : Label) → b < a → L b a ≡ v → slope L a b ≡ step_slope v End.High
 unfolding slope is_over
-slope-sinking L a b Label.Low lt e = slope-up L a b (over-low L b a lt (ap is_low e))
-slope-sinking L a b Label.High lt e = slope-down L a b (over-high L b a lt (ap is_high e))
-slope-sinking L a b Label.Peer lt e = let ge : b ≤ a = omega arith in rw (lt-ltb b a lt, le-ltb a b ge, e) refl
+slope-from_high L a b Label.Low lt e = slope-up L a b (over-low L b a lt (ap is_low e))
+slope-from_high L a b Label.High lt e = slope-down L a b (over-high L b a lt (ap is_high e))
+slope-from_high L a b Label.Peer lt e = let ge : b ≤ a = omega arith in rw (lt-ltb b a lt, le-ltb a b ge, e) refl
 
 module _ (lines : List EdgeLine) (apart : AreApart lines) where
   abbrev label_at : Step → Label
   label_at step = get_or (labels_on lines) (place_in step) Label.Peer
 
-  slope-step : (a b : ℕ) (step : Step) → a ≢ b → IsStepAlong (edges_of lines) a b step → slope (labels_in lines) a b ≡ step_slope (label_at step) (rises_in step)
+  slope-step : (a b : ℕ) (step : Step) → a ≢ b → IsStep (edges_of lines) a b step → slope (labels_in lines) a b ≡ step_slope (label_at step) (left_in step)
   slope-step a b step ne h =
       let its : labels_in lines (min a b) (max a b) ≡ label_at step = label_of_edge lines apart (place_in step) a b h.0 in
       elim (cases_order a b) [
@@ -42,12 +44,14 @@ module _ (lines : List EdgeLine) (apart : AreApart lines) where
         | inr o ↦ elim o [
           | inl lt ↦
               let e₁ : min a b ≡ a = omega arith in let e₂ : max a b ≡ b = omega arith in
-              slope-rising (labels_in lines) a b (label_at step) lt (ap₂ (labels_in lines) (sym e₁) (sym e₂) ∙ its) ∙
-              ap (step_slope (label_at step)) (sym (h.1 ∙ lt-ltb a b lt))
+              let left : left_in step ≡ End.Low = h.1 ∙ ap (λ t. if t then End.Low else End.High) (lt-ltb a b lt) in
+              slope-from_low (labels_in lines) a b (label_at step) lt (ap₂ (labels_in lines) (sym e₁) (sym e₂) ∙ its) ∙
+              ap (step_slope (label_at step)) (sym left)
           | inr lt ↦
               let e₁ : min a b ≡ b = omega arith in let e₂ : max a b ≡ a = omega arith in let ge : b ≤ a = omega arith in
-              slope-sinking (labels_in lines) a b (label_at step) lt (ap₂ (labels_in lines) (sym e₁) (sym e₂) ∙ its) ∙
-              ap (step_slope (label_at step)) (sym (h.1 ∙ le-ltb a b ge))
+              let left : left_in step ≡ End.High = h.1 ∙ ap (λ t. if t then End.Low else End.High) (le-ltb a b ge) in
+              slope-from_high (labels_in lines) a b (label_at step) lt (ap₂ (labels_in lines) (sym e₁) (sym e₂) ∙ its) ∙
+              ap (step_slope (label_at step)) (sym left)
         ]
       ]
 
@@ -84,10 +88,10 @@ well-on false Down ss h = refl
 well-on false Flat ss h = refl
 
 pub next_slopes : (lines : List EdgeLine) (steps : List Step) (i : ℕ) (step : Step) → i < length steps → step ≡ get_or steps i step →
-    slopes_by lines (drop i steps) ≡ step_slope (get_or (labels_on lines) (place_in step) Label.Peer) (rises_in step) ∷ slopes_by lines (drop (i + 1) steps)
+    slopes_by lines (drop i steps) ≡ step_slope (get_or (labels_on lines) (place_in step) Label.Peer) (left_in step) ∷ slopes_by lines (drop (i + 1) steps)
 next_slopes lines steps i step within is =
     rw (add-one, drop-cons steps i step)
-    (ap (λ (s : Step). step_slope (get_or (labels_on lines) (place_in s) Label.Peer) (rises_in s) ∷ slopes_by lines (drop (suc i) steps)) (sym is))
+    (ap (λ (s : Step). step_slope (get_or (labels_on lines) (place_in s) Label.Peer) (left_in s) ∷ slopes_by lines (drop (suc i) steps)) (sym is))
 
 -- the answer, for each labelling and path that has these steps
 pub answer : (lines : List EdgeLine) (steps : List Step) (result : Bool) → no_valley (slopes_by lines steps) ≡ result →

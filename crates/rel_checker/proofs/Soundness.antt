@@ -1,5 +1,6 @@
 -- The path lines that are sound, up to a place.
-use Rattle.std.proofs.Common.{◌≡◌, ℕ, ◌+◌, ◌<◌, ◌≤◌, ◌^◌, length, take, sum_by, IsTrue, refl, sym, ap, ◌∙◌, arith}
+use Rattle.std.proofs.Common.{◌≡◌, ℕ, ◌+◌, ◌<◌, ◌≤◌, length, take, sum_by, IsTrue, refl, sym, ap, ◌∙◌, arith}
+use Rattle.tor_arena.specs.Limits.{max_paths, max_numbers}
 use Rattle.path_clean.specs.Paths.{is_cleaned}
 use Rattle.result_text.specs.declared.file.PathLine.{PathLine}
 use Rattle.result_text.specs.declared.file.ResultFile.{ResultFile}
@@ -12,12 +13,12 @@ use Rattle.std.proofs.lemmas.Option.{slice_get_read}
 -- the lines before are sound, and have so many numbers
 pub record AreSound (file : ResultFile) (place numbers : ℕ) : Type 0 where
   pub so_far : numbers ≡ sum_by length (take place (its_paths file))
-  pub short : numbers ≤ 2 ^ 26
+  pub short : numbers ≤ max_numbers
   pub before : (j : ℕ) → j < place → Asks file PathsCleaned j
 
 -- what is tested of a line
 abbrev pub Tested : ℕ → ℕ → PathLine → Type 0
-Tested place numbers line = IsTrue (is_cleaned line.path) × (1 ≤ line.times) × (place < 2 ^ 23) × (numbers + length line.path ≤ 2 ^ 26)
+Tested place numbers line = IsTrue (is_cleaned line.path) × (1 ≤ line.times) × (place < max_paths) × (numbers + length line.path ≤ max_numbers)
 
 sound-from_tested : (file : ResultFile) (place numbers : ℕ) (line : PathLine) → AreSound file place numbers → IsLine file place line → Tested place numbers line → IsSound file place line
 sound-from_tested file place numbers line a l t = record {

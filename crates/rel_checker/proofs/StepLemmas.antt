@@ -12,7 +12,7 @@ use Rattle.result_text.specs.declared.file.ResultFile.{ResultFile}
 use Rattle.rel_checker.specs.declared.edges.step.Step.{Step}
 use Rattle.result_rules.specs.File.{its_paths}
 use Rattle.rel_checker.specs.Flipping.{edges_of}
-use Rattle.rel_checker.specs.PathSteps.{place_in, IsStepAlong, AreStepsFrom, AreSteps, HaveSteps}
+use Rattle.rel_checker.specs.PathSteps.{place_in, IsStep, AreStepsFrom, AreSteps, HaveSteps}
 use Rattle.tor_numbers.specs.Edges.{with_edge}
 use Rattle.result_rules.proofs.Gets.{slice_get-push_old, slice_get-map}
 
@@ -85,7 +85,7 @@ edges_from_more a (b ∷ path) zero lt = refl
 edges_from_more a (b ∷ path) (suc i) lt = ap (λ (l : List Edge). edge_of a b ∷ l) (edges_from_more b path i (omega arith))
 
 steps_from_more : (es : List Edge) (a : ℕ) (path : List ℕ) (i : ℕ) (steps : List Step) (step : Step) → i < length path → AreStepsFrom es a (take i path) steps →
-    IsStepAlong es (get_or (a ∷ path) i 0) (get_or path i 0) step → AreStepsFrom es a (take (suc i) path) (steps ++ step ∷ [])
+    IsStep es (get_or (a ∷ path) i 0) (get_or path i 0) step → AreStepsFrom es a (take (suc i) path) (steps ++ step ∷ [])
 steps_from_more es a [] i steps step lt h k = absurd (omega arith)
 steps_from_more es a (b ∷ path) zero [] step lt h k = (k, tt)
 steps_from_more es a (b ∷ path) zero (s ∷ steps) step lt h k = absurd h
@@ -119,7 +119,7 @@ Walked-room before es (a ∷ path) (suc i) steps h lt =
     omega (arith, n, le, m, t, lt)
 
 pub Walked-more : (before es : List Edge) (path : List ℕ) (at : ℕ) (steps : List Step) (step : Step) (new : List Edge) → Walked before es path at steps → at < length path →
-    new ≡ with_edge es (edge_of (get_or path (at - 1) 0) (get_or path at 0)) → IsStepAlong new (get_or path (at - 1) 0) (get_or path at 0) step →
+    new ≡ with_edge es (edge_of (get_or path (at - 1) 0) (get_or path at 0)) → IsStep new (get_or path (at - 1) 0) (get_or path at 0) step →
     Walked before new path (at + 1) (steps ++ step ∷ [])
 Walked-more before es [] at steps step new h lt is k = absurd (omega arith)
 Walked-more before es (a ∷ path) zero steps step new h lt is k = absurd (let b = h.begun in omega (arith, b))
@@ -127,7 +127,7 @@ Walked-more before es (a ∷ path) (suc i) steps step new h lt is k =
     let back : suc i - 1 ≡ i = omega arith in
     let added : new ≡ with_edge es (edge_of (get_or (a ∷ path) i 0) (get_or path i 0)) =
     subst (λ j. new ≡ with_edge es (edge_of (get_or (a ∷ path) j 0) (get_or path i 0))) back is in
-    let goes : IsStepAlong new (get_or (a ∷ path) i 0) (get_or path i 0) step = subst (λ j. IsStepAlong new (get_or (a ∷ path) j 0) (get_or path i 0) step) back k in
+    let goes : IsStep new (get_or (a ∷ path) i 0) (get_or path i 0) step = subst (λ j. IsStep new (get_or (a ∷ path) j 0) (get_or path i 0) step) back k in
     let e : Edge = edge_of (get_or (a ∷ path) i 0) (get_or path i 0) in
     let there : new ≡ fold with_edge before (edges_from a (take (suc i) path)) =
     added ∙ ap (λ es. with_edge es e) h.there ∙ sym (with_edges-push before (edges_from a (take i path)) e) ∙ ap (fold with_edge before) (sym (edges_from_more a path i (omega arith))) in
@@ -182,7 +182,7 @@ inside_steps es (a ∷ path) steps h = inside-from es a path steps h
 
 -- the step of a place goes from its AS to the next
 step_from_at : (es : List Edge) (a : ℕ) (path : List ℕ) (steps : List Step) (i : ℕ) (d : Step) → AreStepsFrom es a path steps → i < length steps →
-    IsStepAlong es (get_or (a ∷ path) i 0) (get_or path i 0) (get_or steps i d)
+    IsStep es (get_or (a ∷ path) i 0) (get_or path i 0) (get_or steps i d)
 step_from_at es a [] [] i d h lt = absurd (omega arith)
 step_from_at es a [] (step ∷ steps) i d h lt = absurd h
 step_from_at es a (b ∷ path) [] i d h lt = absurd h
@@ -190,7 +190,7 @@ step_from_at es a (b ∷ path) (step ∷ steps) zero d h lt = h.0
 step_from_at es a (b ∷ path) (step ∷ steps) (suc i) d h lt = step_from_at es b path steps i d h.1 (omega arith)
 
 pub step_at : (es : List Edge) (path : List ℕ) (steps : List Step) (i : ℕ) (d : Step) → AreSteps es path steps → i < length steps →
-    IsStepAlong es (get_or path i 0) (get_or path (i + 1) 0) (get_or steps i d)
+    IsStep es (get_or path i 0) (get_or path (i + 1) 0) (get_or steps i d)
 step_at es [] steps i d h lt = absurd (let n = ap length h in omega (arith, n))
 step_at es (a ∷ path) steps i d h lt = let e : i + 1 ≡ suc i = omega arith in rw e (step_from_at es a path steps i d h lt)
 

@@ -2,12 +2,15 @@
 use Rattle.std.proofs.Common.{◌≡◌, ◌⊎◌, inl, inr, ℕ, zero, suc, ◌+◌, ◌*◌, ◌%◌, ◌<◌, Bool, true, false, not, if◌then◌else◌, List, get_or, refl, sym, ap, ap₂, ◌∙◌, arith}
 use Rattle.std.specs.Prelude.{◌^◌, nat_lt}
 use Rattle.std.proofs.lemmas.Bool.{cases_Bool}
+use Rattle.tor_arena.specs.Limits.{most_places}
+use Rattle.relationships.specs.declared.label.End.{End}
 use Rattle.relationships.specs.declared.label.Label.{Label}
 use Rattle.relationships.specs.declared.label.Label.TheVariants as label
+use Rattle.relationships.specs.Relationship.{opposite}
 use Rattle.result_text.specs.declared.file.EdgeLine.{EdgeLine}
 use Rattle.rel_checker.specs.declared.edges.step.Step.{Step}
 use Rattle.rel_checker.specs.Flipping.{climbs, climbs_on, HaveArcs, turned, pair_of, number_of}
-use Rattle.rel_checker.specs.PathSteps.{place_in, rises_in, labels_on}
+use Rattle.rel_checker.specs.PathSteps.{place_in, left_in, labels_on}
 
 -- ---- one step the other way round
 
@@ -28,24 +31,24 @@ place_turned s = omega arith
 turned_twice : (s : Step) → turned (turned_step s) ≡ s.code
 turned_twice s = omega arith
 
-rises_turned : (s : Step) → rises_in (turned_step s) ≡ not (rises_in s)
-rises_turned s = elim (halves s.code) [
+left_turned : (s : Step) → left_in (turned_step s) ≡ opposite (left_in s)
+left_turned s = elim (halves s.code) [
   | inl low ↦ (let e : turned s % 2 ≡ 1 = omega (arith, low) in rw (e, low) refl)
   | inr high ↦ (let e : turned s % 2 ≡ 0 = omega (arith, high) in rw (e, high) refl)
 ]
 
-climbs_turned : (l : Label) (r : Bool) → climbs l (not r) ≡ not (climbs l r)
-climbs_turned label.Low true = refl
-climbs_turned label.Low false = refl
-climbs_turned label.High true = refl
-climbs_turned label.High false = refl
-climbs_turned label.Peer true = refl
-climbs_turned label.Peer false = refl
+climbs_turned : (l : Label) (left : End) → climbs l (opposite left) ≡ not (climbs l left)
+climbs_turned label.Low End.Low = refl
+climbs_turned label.Low End.High = refl
+climbs_turned label.High End.Low = refl
+climbs_turned label.High End.High = refl
+climbs_turned label.Peer End.Low = refl
+climbs_turned label.Peer End.High = refl
 
 climbs_on_turned : (lines : List EdgeLine) (s : Step) → climbs_on lines (turned_step s) ≡ not (climbs_on lines s)
 climbs_on_turned lines s =
-    ap₂ (λ k r. climbs (get_or (labels_on lines) k label.Peer) r) (place_turned s) (rises_turned s) ∙
-    climbs_turned (get_or (labels_on lines) (place_in s) label.Peer) (rises_in s)
+    ap₂ (λ k left. climbs (get_or (labels_on lines) k label.Peer) left) (place_turned s) (left_turned s) ∙
+    climbs_turned (get_or (labels_on lines) (place_in s) label.Peer) (left_in s)
 
 arcs_turned : (up up' : Bool) (a b : ℕ) (implied conflicting : List (List ℕ)) → HaveArcs up up' a b implied conflicting → HaveArcs (not up') (not up) b a implied conflicting
 arcs_turned true true a b implied conflicting h = h
@@ -63,10 +66,10 @@ steps_turned lines s t implied conflicting h =
 
 -- ---- two pairs of steps with one number
 
-code_small : (s : Step) → place_in s < 268435456 → (s.code < 2 ^ 32) × (turned s < 2 ^ 32)
+code_small : (s : Step) → place_in s < most_places → (s.code < 2 ^ 32) × (turned s < 2 ^ 32)
 code_small s h = (omega (arith, h), omega (arith, h))
 
-second_small : (s t : Step) → place_in s < 268435456 → place_in t < 268435456 → (pair_of s t).1 < 2 ^ 32
+second_small : (s t : Step) → place_in s < most_places → place_in t < most_places → (pair_of s t).1 < 2 ^ 32
 second_small s t h k = elim (cases_Bool (nat_lt (turned t) s.code)) [
   | inl yes' ↦ rw yes' (code_small s h).1
   | inr no' ↦ rw no' (code_small t k).0
@@ -82,7 +85,7 @@ abbrev step_with : ℕ → Step
 step_with n = record { code = n }
 
 -- the steps are the same, or the same the other way round
-pub steps_numbered : (s t s' t' : Step) → place_in s < 268435456 → place_in t < 268435456 → place_in s' < 268435456 → place_in t' < 268435456 →
+pub steps_numbered : (s t s' t' : Step) → place_in s < most_places → place_in t < most_places → place_in s' < most_places → place_in t' < most_places →
     number_of s t ≡ number_of s' t' → ((s ≡ s') × (t ≡ t')) ⊎ ((s' ≡ turned_step t) × (t' ≡ turned_step s))
 steps_numbered s t s' t' h k h' k' e =
     let same : pair_of s t ≡ pair_of s' t' = same_pair (pair_of s t) (pair_of s' t') (second_small s t h k) (second_small s' t' h' k') e in

@@ -1,7 +1,8 @@
 -- Which orders imply which. Each edge has one order against its label; that the edge flips means that it has this order. Edge i
 -- implies edge j where, along a kept path, the order against i's label implies the order against j's label, and conflicts with it
 -- where it rules that order out. So the closure of an order against a label is read off the edges alone.
-use Rattle.std.specs.Prelude.{◌≡◌, ◌⊎◌, ◌↔◌, ℕ, ◌+◌, ◌-◌, ◌*◌, ◌%◌, ◌^◌, ◌<◌, Bool, true, false, not, nat_lt, if◌then◌else◌, List, ◌++◌, [], ◌∷◌, length, map, Some, All, Contains, slice_get, slice_index, slice_index_or}
+use Rattle.std.specs.Prelude.{◌≡◌, ◌⊎◌, ◌↔◌, ℕ, ◌+◌, ◌-◌, ◌*◌, ◌%◌, ◌^◌, ◌<◌, Bool, true, false, nat_lt, if◌then◌else◌, List, ◌++◌, [], ◌∷◌, length, map, Some, All, Contains, slice_get, slice_index, slice_index_or}
+use Rattle.relationships.specs.declared.label.End.{End}
 use Rattle.relationships.specs.declared.label.Label.{Label}
 use Rattle.relationships.specs.declared.label.Label.TheVariants as label
 use Rattle.relationships.specs.Graph.{Edge, edge_of}
@@ -13,7 +14,7 @@ use Rattle.result_text.specs.declared.file.PathLine.{PathLine}
 use Rattle.result_rules.specs.File.{kept_among}
 use Rattle.rel_checker.specs.declared.edges.step.Step.{Step}
 use Rattle.rel_checker.specs.Neighbours.{HasNext, with_next}
-use Rattle.rel_checker.specs.PathSteps.{place_in, rises_in, labels_on}
+use Rattle.rel_checker.specs.PathSteps.{place_in, left_in, labels_on}
 
 -- ---- orders
 
@@ -63,16 +64,19 @@ IsBuiltFor lines paths implied conflicting = IsBuilt (flipped_orders lines) (IsT
 
 -- ---- steps of a path
 
--- a step of a path: it goes up along an edge that would have to flip to have it go down, or goes down already
-abbrev pub IsStep : List (ℕ × ℕ) → ℕ → Bool → ℕ → ℕ → Type 0
-IsStep orders edge true x y = FlipsTo orders edge x y
-IsStep orders edge false x y = FlipsTo orders edge y x
+-- a step from x to y along the edge: it goes up, and down where the edge flips, or the other way round
+abbrev pub IsClimb : List (ℕ × ℕ) → ℕ → Bool → ℕ → ℕ → Type 0
+IsClimb orders edge true x y = FlipsTo orders edge x y
+IsClimb orders edge false x y = FlipsTo orders edge y x
 
--- whether a step goes up along an edge with this label, where a peering is read as if its lower number were the provider
-abbrev pub climbs : Label → Bool → Bool
-climbs label.Low rises = not rises
-climbs label.High rises = rises
-climbs label.Peer rises = not rises
+-- whether a step from this end of an edge with this label goes up, where a peering is read as if its lower number were the provider
+abbrev pub climbs : Label → End → Bool
+climbs label.Low End.Low = false
+climbs label.Low End.High = true
+climbs label.High End.Low = true
+climbs label.High End.High = false
+climbs label.Peer End.Low = false
+climbs label.Peer End.High = true
 
 -- the rows after two consecutive steps: both up, both down, or a peak
 abbrev pub with_implied : Bool → Bool → ℕ → ℕ → List (List ℕ) → List (List ℕ)
@@ -89,7 +93,7 @@ with_conflicting false false first second rows = rows
 
 -- whether a step goes up under the labels of the lines
 abbrev pub climbs_on : List EdgeLine → Step → Bool
-climbs_on lines step = climbs (slice_index_or (labels_on lines) (place_in step) label.Peer) (rises_in step)
+climbs_on lines step = climbs (slice_index_or (labels_on lines) (place_in step) label.Peer) (left_in step)
 
 -- the code of a step the other way round
 abbrev pub turned : Step → ℕ

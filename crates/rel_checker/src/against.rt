@@ -1,5 +1,6 @@
 //! Agreement with dumps, rule 11.
-ghost use Rattle.std.specs.Prelude.{◌≡◌, ◌+◌, ◌<◌, ◌≤◌, ◌^◌, ◌↔◌, IsTrue, length, slice_get, MatchOption};
+ghost use Rattle.std.specs.Prelude.{◌≡◌, ◌+◌, ◌<◌, ◌≤◌, ◌↔◌, IsTrue, length, slice_get, MatchOption};
+ghost use Rattle.result_rules.specs.File.{most_lines};
 ghost use Rattle.result_rules.specs.Against.{in_order, its_rows, JudgesAgainst};
 ghost use Rattle.rel_checker.specs.Steps.{Differs};
 
@@ -20,7 +21,7 @@ const FIRST_COUNT: u64 = 4;
 /// line that differs: one of lines 4 to 10, or a path line, or where a path is absent the line behind the last path line. The file
 /// may have at most 2^40 path lines. It takes no memory.
 pub fn check_against(file: &ResultFile, table: &PathTable, asides: &Asides) -> Verdict
-    requires lines { length file.now.paths ≤ 2 ^ 40 }
+    requires lines { length file.now.paths ≤ most_lines }
     ensures verdict { JudgesAgainst file.now table.now.rows asides.now result }
 {
     if let Some(place) = differing_count(&file.asides, asides) {

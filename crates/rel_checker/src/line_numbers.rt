@@ -1,8 +1,8 @@
 //! The numbers of lines, from 1, of what stands in a place, from 0.
 
-ghost use Rattle.std.specs.Prelude.{◌≡◌, ◌+◌, ◌-◌, ◌<◌, ◌≤◌, ◌^◌, length};
+ghost use Rattle.std.specs.Prelude.{◌≡◌, ◌+◌, ◌-◌, ◌*◌, ◌<◌, ◌≤◌, length};
 ghost use Rattle.result_rules.specs.File as said;
-ghost use Rattle.result_rules.specs.File.{HasFewLines};
+ghost use Rattle.result_rules.specs.File.{most_lines, HasFewLines};
 ghost use Rattle.result_rules.specs.declared.rule.Rule.TheVariants.{MarksBorneOut};
 ghost use Rattle.result_rules.specs.Rules.{line_for};
 
@@ -10,7 +10,7 @@ use result_text::ResultFile;
 
 /// Ten lines stand before the paths of every file.
 pub(crate) fn path_line(_file: &ResultFile, place: usize) -> u64
-    requires { place ≤ 2 ^ 41 }
+    requires { place ≤ 2 * most_lines }
     ensures { result ≡ said.path_line _file.now place }
 {
     11 + place as u64
@@ -18,7 +18,7 @@ pub(crate) fn path_line(_file: &ResultFile, place: usize) -> u64
 
 /// Behind the paths stand the edges.
 pub(crate) fn edge_line(file: &ResultFile, place: usize) -> u64
-    requires { length file.now.paths + place ≤ 2 ^ 41 }
+    requires { length file.now.paths + place ≤ 2 * most_lines }
     ensures { result ≡ said.edge_line file.now place }
 {
     path_line(file, file.paths.len()) + place as u64
@@ -26,7 +26,7 @@ pub(crate) fn edge_line(file: &ResultFile, place: usize) -> u64
 
 /// Behind the edges stand the why lines.
 pub(crate) fn why_line(file: &ResultFile, place: usize) -> u64
-    requires { length file.now.paths + length file.now.edges + place ≤ 2 ^ 41 }
+    requires { length file.now.paths + length file.now.edges + place ≤ 2 * most_lines }
     ensures { result ≡ said.why_line file.now place }
 {
     edge_line(file, file.edges.len()) + place as u64
@@ -34,7 +34,7 @@ pub(crate) fn why_line(file: &ResultFile, place: usize) -> u64
 
 /// Behind the why lines stand the open lines.
 pub(crate) fn open_line(file: &ResultFile, place: usize) -> u64
-    requires { length file.now.paths + length file.now.edges + length file.now.whys + place ≤ 2 ^ 41 }
+    requires { length file.now.paths + length file.now.edges + length file.now.whys + place ≤ 2 * most_lines }
     ensures { result ≡ said.open_line file.now place }
 {
     why_line(file, file.whys.len()) + place as u64

@@ -1,20 +1,15 @@
 //! The rules on paths.
-ghost use Rattle.std.specs.Prelude.{◌≡◌, ◌↔◌, ◌+◌, ◌<◌, ◌≤◌, ◌^◌, length, IsTrue, IfOk};
+ghost use Rattle.std.specs.Prelude.{◌≡◌, ◌↔◌, ◌+◌, ◌<◌, ◌≤◌, length, IsTrue, IfOk};
 ghost use Rattle.path_clean.specs.Paths.{is_cleaned};
+ghost use Rattle.tor_arena.specs.Limits.{max_paths, max_numbers};
 ghost use Rattle.result_rules.specs.declared.rule.Rule.{Rule};
 ghost use Rattle.rel_checker.specs.Steps.{Finds};
 
 use crate::lending::path_line_at;
-use path_clean::{first_repeated, is_clean_path};
+use path_clean::{MAX_NUMBERS, MAX_PATHS, first_repeated, is_clean_path};
 use result_text::{PathLineRef, ResultFile};
 use std::alloc::Global;
 use tor_arena::{Keys, NoMemory};
-
-/// The most paths that a file may have.
-const MAX_PATHS: u32 = 1 << 23;
-
-/// The most numbers that its paths may have in sum.
-const MAX_NUMBERS: usize = 1 << 26;
 
 /// The first path line whose path is not clean or was never seen, or with which there are too many paths or numbers.
 pub(crate) fn find_unclean(alloc: Global, file: &ResultFile) -> Result<Option<usize>, NoMemory>
@@ -38,9 +33,9 @@ fn is_sound(
     place: usize,
     numbers: usize,
 ) -> Result<bool, NoMemory>
-    requires { numbers ≤ 2 ^ 26 }
-    ensures { IfOk result (λ sound. IsTrue sound ↔ (IsTrue (is_cleaned line.now.path) × (1 ≤ line.now.times) × (place < 2 ^ 23) ×
-        (numbers + length line.now.path ≤ 2 ^ 26))) }
+    requires { numbers ≤ max_numbers }
+    ensures { IfOk result (λ sound. IsTrue sound ↔ (IsTrue (is_cleaned line.now.path) × (1 ≤ line.now.times) × (place < max_paths) ×
+        (numbers + length line.now.path ≤ max_numbers))) }
 {
     let path = line.path();
     if place >= MAX_PATHS as usize || path.len() > MAX_NUMBERS - numbers || line.times() == 0 {

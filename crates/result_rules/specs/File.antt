@@ -81,6 +81,10 @@ open_line file k = numbering.probe_line file (k + 1)
 abbrev pub last_line : ResultFile → ℕ
 last_line file = numbering.last_line file
 
--- there are at most 2 ^ 40 lines besides the first ten and the last
+-- how many lines a file that is judged may have besides the first ten and the last
+abbrev pub most_lines : ℕ
+most_lines = 2 ^ 40
+
+-- it has no more than that
 abbrev pub HasFewLines : ResultFile → Type 0
-HasFewLines file = length file.paths + length file.edges + length file.whys + length file.probes ≤ 2 ^ 40
+HasFewLines file = length file.paths + length file.edges + length file.whys + length file.probes ≤ most_lines

@@ -1,7 +1,8 @@
 -- The rules that a result has to meet, which are this project's own (docs/FORMATS.md, "The rules of a result"). Each asks
 -- something of some of its lines, one by one. That a path is valley-free is the notion of L. Gao, "On inferring autonomous system
 -- relationships in the Internet", 2001.
-use Rattle.std.specs.Prelude.{◌≡◌, ℕ, ◌+◌, ◌-◌, ◌<◌, ◌≤◌, ◌^◌, IsTrue, List, [], ◌∷◌, ◌++◌, length, map, max, take, Some, Contains, slice_get, sum_by, nat_lt, if◌then◌else◌}
+use Rattle.std.specs.Prelude.{◌≡◌, ℕ, ◌+◌, ◌-◌, ◌<◌, ◌≤◌, IsTrue, List, [], ◌∷◌, ◌++◌, length, map, max, take, Some, Contains, slice_get, sum_by, nat_lt, if◌then◌else◌}
+use Rattle.tor_arena.specs.Limits.{max_paths, max_numbers, max_ratio}
 use Rattle.relationships.specs.declared.walk.Walk.{Walk}
 use Rattle.relationships.specs.Relationship.{ValleyFree}
 use Rattle.relationships.specs.Graph.{edges, support}
@@ -35,12 +36,12 @@ number_of TotalsRight = 10
 
 -- ---- what the rules ask
 
--- a path line: its path is clean, it was seen, and with it there are at most 2 ^ 23 paths, of at most 2 ^ 26 numbers in sum
+-- a path line: its path is clean, it was seen, and with it there are not too many paths, nor too many numbers in sum
 pub record IsSound (file : ResultFile) (k : ℕ) (line : PathLine) : Type 0 where
   pub cleaned : IsTrue (is_cleaned line.path)
   pub seen : 1 ≤ line.times
-  pub few : k < 2 ^ 23
-  pub numbers : sum_by length (take (k + 1) (its_paths file)) ≤ 2 ^ 26
+  pub few : k < max_paths
+  pub numbers : sum_by length (take (k + 1) (its_paths file)) ≤ max_numbers
 
 -- no earlier path is the same
 abbrev pub IsNew : ResultFile → ℕ → PathLine → Type 0
@@ -105,7 +106,7 @@ AsksOfProbes file k =
 
 -- what a rule asks of the line in place k of these. An edge that is absent counts as a line behind the others
 abbrev pub Asks : ResultFile → Rule → ℕ → Type 0
-Asks file RatioBounded k = file.ratio ≤ 1000000
+Asks file RatioBounded k = file.ratio ≤ max_ratio
 Asks file PathsCleaned k = ForSome file.paths k (IsSound file k)
 Asks file PathsDistinct k = ForSome file.paths k (IsNew file k)
 Asks file LostRefuted k = ForSome file.paths k (IsLostRightly file k)

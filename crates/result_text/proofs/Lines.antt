@@ -1,5 +1,5 @@
 -- A line that is read is encoded as it was written, and what was written is read again.
-use Rattle.std.proofs.Common.{◌≡◌, ℕ, List, [], ◌∷◌, ◌++◌, Option, Some, drop, refl, sym, ap, subst, ◌∙◌, append_assoc, inl, inr}
+use Rattle.std.proofs.Common.{◌≡◌, ℕ, List, [], ◌∷◌, ◌++◌, Option, Some, refl, sym, ap, subst, ◌∙◌, append_assoc, inl, inr}
 use Rattle.std.specs.Prelude.{codes}
 use Rattle.std.specs.Fmt.{decimal}
 use Rattle.std.specs.List.{AllByRecursion}
@@ -20,7 +20,7 @@ use Rattle.result_text.specs.declared.line.Line.TheVariants as line
 use Rattle.result_text.specs.Text.{numbers, links, sets_name, cause_name, label_name, mark_name, line_text}
 use Rattle.result_text.specs.Ranges.{AreU32, LinkFits, WalkFits, LineFits}
 use Rattle.text_fields.specs.Fields.{IsU32, IsU64}
-use Rattle.result_text.specs.Reading.{list_at, link_at, name_at, sets_at, cause_at, label_at, mark_at, walk_from, walk_at, sets_line_at, ratio_at, aside_from, aside_at, kept_from, kept_at, lost_from, lost_at, edge_from, edge_at, why_at, probe_from, probe_at, end_from, end_at, version_at, line_readers, by_word, line_at}
+use Rattle.result_text.specs.Reading.{list_at, link_at, name_at, sets_at, cause_at, label_at, mark_at, walk_from, walk_at, sets_line_at, ratio_at, aside_from, aside_at, kept_from, kept_at, lost_from, lost_at, edge_from, edge_at, why_at, probe_from, probe_at, end_from, end_at, version_at, outer_readers, line_readers, by_word, line_at}
 use Rattle.text_fields.specs.Reading.{u64_at, u32_at, before, both}
 use Rattle.result_text.proofs.Lists.{EndsList, numbers_reads, links_reads}
 use Rattle.text_fields.proofs.Readers.{some_is, on_word_takes, Reads, ReadsAs, before_reads, both_reads, mapped_reads, NoDigit, u64_reads, u32_reads}
@@ -284,14 +284,14 @@ by_word_takes (entry ∷ more) bytes y all e =
       | inr t ↦ by_word_takes more bytes y all.1 t
     ]
 
--- those behind the first five, and all
-later_take : AllByRecursion Takes (drop 5 line_readers)
-later_take =
+-- those of the outer lines, and all
+outer_take : AllByRecursion Takes outer_readers
+outer_take =
     (line_takes_by aside_line, (version_takes, (line_takes_by sets_line, (line_takes_by ratio_line, (line_takes_by end_line, tt)))))
 
 all_take : AllByRecursion Takes line_readers
 all_take =
-    (line_takes_by kept_line, (line_takes_by edge_line, (line_takes_by why_line, (line_takes_by probe_line, (line_takes_by lost_line, later_take)))))
+    (line_takes_by kept_line, (line_takes_by edge_line, (line_takes_by why_line, (line_takes_by probe_line, (line_takes_by lost_line, outer_take)))))
 
 pub line_takes : (bytes : List ℕ) (y : Line × List ℕ) → line_at bytes ≡ Some y → LineFits y.0 × (bytes ≡ line_text y.0 ++ y.1)
 unfolding line_at

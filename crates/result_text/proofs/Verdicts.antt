@@ -1,6 +1,6 @@
 -- What is read so far begins a text; where reading ends, it is the text, or its bad line is named.
 use Rattle.std.proofs.Common.{◌≡◌, ℕ, zero, suc, ◌+◌, ◌<◌, ◌≤◌, Bool, cond, eqb, List, [], ◌∷◌, ◌++◌, length, map, take, drop, Option, Some, None, refl, sym, ap, subst, ◌∙◌, append_assoc, arith}
-use Rattle.std.specs.Prelude.{◌≢◌, slice_set, option_map, IsSomeAnd}
+use Rattle.std.specs.Prelude.{◌≢◌, slice_set, option_map, IsSomeAnd, MatchOption}
 use Rattle.std.specs.List.{AllByRecursion}
 use Rattle.std.proofs.lemmas.List.{append-nil, take-append-drop, length-append, length-take-le}
 use Rattle.std.proofs.lemmas.List.Concat.{flat_map-append}
@@ -412,3 +412,11 @@ unfinished d bytes rest read p e n =
 
 pub whole_text : (d : Draft) (bytes rest : List ℕ) (read : ℕ) (f : ResultFile) → Progress d bytes rest read → rest ≡ [] → finished d ≡ Some f → IsTextOf f bytes
 whole_text d bytes rest read f p e ends = is_text d bytes f p.reached (p.encoded ∙ ap (λ (x : List ℕ). text_of_lines (sofar d) ++ x) e) ends
+
+-- where nothing is left, the draft is finished, or the line behind the last is bad
+pub ended : (d : Draft) (bytes rest : List ℕ) (read : ℕ) → Progress d bytes rest read → rest ≡ [] → MatchOption (finished d) (IsBadLine (read + 1) bytes) (λ f. IsTextOf f bytes)
+ended d bytes rest read p e = by (finished d) refl
+  where
+    by : (o : Option ResultFile) → finished d ≡ o → MatchOption o (IsBadLine (read + 1) bytes) (λ f. IsTextOf f bytes)
+    by None is = unfinished d bytes rest read p e is
+    by (Some f) is = whole_text d bytes rest read f p e is

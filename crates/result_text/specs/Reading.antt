@@ -150,7 +150,17 @@ ratio_at bytes = mapped (λ n. line.Ratio n) (before 10 u32_at) bytes
 abbrev pub version_at : List ℕ → Option (Line × List ℕ)
 version_at bytes = Some (line.Version, bytes)
 
--- the readers of the lines, each beside the first word of its line
+-- the readers of the lines before the paths and of the last line, each beside the first word of its line
+abbrev pub outer_readers : List (List ℕ × (List ℕ → Option (Line × List ℕ)))
+outer_readers =
+    (codes "aside|", aside_at)
+    ∷ (codes "tor|1\n", version_at)
+    ∷ (codes "sets|", sets_line_at)
+    ∷ (codes "ratio|", ratio_at)
+    ∷ (codes "end|", end_at)
+    ∷ []
+
+-- the readers of all lines
 abbrev pub line_readers : List (List ℕ × (List ℕ → Option (Line × List ℕ)))
 line_readers =
     (codes "kept|", kept_at)
@@ -158,12 +168,7 @@ line_readers =
     ∷ (codes "why|", why_at)
     ∷ (codes "open|", probe_at)
     ∷ (codes "lost|", lost_at)
-    ∷ (codes "aside|", aside_at)
-    ∷ (codes "tor|1\n", version_at)
-    ∷ (codes "sets|", sets_line_at)
-    ∷ (codes "ratio|", ratio_at)
-    ∷ (codes "end|", end_at)
-    ∷ []
+    ∷ outer_readers
 
 -- a line, by its first word
 unfoldable pub line_at : List ℕ → Option (Line × List ℕ)

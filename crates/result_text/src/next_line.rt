@@ -1,7 +1,7 @@
 //! The line at the prefix of the bytes, read into the draft.
 
 ghost use Rattle.result_text.specs.Order.{with_line, next_at};
-ghost use Rattle.result_text.specs.Reading.{Gives, sets_line_at, ratio_at, aside_at, kept_at, lost_at, edge_at, why_at, probe_at, end_at, version_at};
+ghost use Rattle.result_text.specs.Reading.{Gives, by_word, outer_readers, sets_line_at, ratio_at, aside_at, kept_at, lost_at, edge_at, why_at, probe_at, end_at, version_at};
 
 use crate::draft::Draft;
 use crate::error::LineError;
@@ -151,7 +151,16 @@ pub fn next_line<'a>(
         next_probe(draft, rest)
     } else if let Some(rest) = after(b"lost|", bytes) {
         next_lost(draft, scratch, rest)
-    } else if let Some(rest) = after(b"aside|", bytes) {
+    } else {
+        next_outer(draft, bytes)
+    }
+}
+
+/// The same, where it is a line before the paths, or the last.
+fn next_outer<'a>(draft: &mut Draft, bytes: &'a [u8]) -> Result<&'a [u8], LineError>
+    ensures { Gives (λ rest. (draft.new, rest.now)) result (with_line draft.old (by_word outer_readers bytes.now)) }
+{
+    if let Some(rest) = after(b"aside|", bytes) {
         next_aside(draft, rest)
     } else if let Some(rest) = after(b"tor|1\n", bytes) {
         next_version(draft, rest)

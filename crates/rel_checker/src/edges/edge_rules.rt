@@ -1,10 +1,11 @@
 //! The rules on edge lines.
-ghost use Rattle.std.specs.Prelude.{◌≡◌, ◌↔◌, ◌+◌, ◌<◌, ◌≤◌, ◌^◌, ◌++◌, ◌∷◌, [], fold, length, map, slice_get, IsTrue, IfOk, IfNone, OnOk};
-ghost use Rattle.tor_arena.specs.Limits.{most_places};
+ghost use Rattle.std.specs.Prelude.{◌≡◌, ◌↔◌, ◌+◌, ◌<◌, ◌≤◌, ◌++◌, ◌∷◌, [], fold, length, map, slice_get, IsTrue, IfOk, IfNone, OnOk};
+ghost use Rattle.tor_arena.specs.Limits.{most_places, max_numbers};
 ghost use Rattle.relationships.specs.Graph.{edge_of, edges_on, edges};
+ghost use Rattle.relationships.specs.Steps.{end_left};
 ghost use Rattle.result_rules.specs.File.{its_paths, its_edges};
 ghost use Rattle.result_rules.specs.declared.rule.Rule.{Rule};
-ghost use Rattle.rel_checker.specs.PathSteps.{IsStepAlong, AreSteps, HaveSteps};
+ghost use Rattle.rel_checker.specs.PathSteps.{IsStep, AreSteps, HaveSteps};
 ghost use Rattle.result_rules.specs.Rules.{IsMet};
 ghost use Rattle.tor_numbers.specs.Edges.{with_edge};
 ghost use Rattle.rel_checker.specs.Steps.{Finds};
@@ -14,6 +15,7 @@ use crate::edges::step::Step;
 use crate::edges::supports::count_kept;
 use crate::edges::valleys::is_served;
 use crate::lending::{path_line_at, steps_at};
+use relationships::End;
 use result_text::{EdgeLine, PathLines, ResultFile};
 use std::alloc::Global;
 use tor_arena::{Keys, List, NoMemory, PathId, RowRefused, Rows};
@@ -31,15 +33,32 @@ pub(crate) fn list_edges(
 {
     let mut table = EdgeTable::new(alloc, keys);
     let mut rows = Rows::new(alloc);
+    add_paths(alloc, file, &mut table, &mut rows)?;
+    Ok((table, rows))
+}
+
+/// Adds the edges along the paths, and the steps of each, where there are no others.
+fn add_paths(
+    alloc: Global,
+    file: &ResultFile,
+    table: &mut EdgeTable,
+    rows: &mut Rows<PathId, Step>,
+) -> Result<(), NoMemory>
+    requires clean { IsMet file.now Rule.PathsCleaned }
+    requires no_edges { table.old ≡ [] }
+    requires no_rows { rows.old ≡ [] }
+    ensures edges { OnOk result (table.new ≡ edges (its_paths file.now)) }
+    ensures steps { OnOk result (HaveSteps table.new (its_paths file.now) rows.new) }
+{
     rows.reserve(file.paths.len(), numbers_on(&file.paths))?;
     let mut steps = List::new(alloc);
     for place in 0..file.paths.len() {
         let line = path_line_at(&file.paths, place);
         steps.clear();
-        add_steps(&mut table, &mut steps, line.path())?;
-        add_row(&mut rows, steps.as_slice())?;
+        add_steps(table, &mut steps, line.path())?;
+        add_row(rows, steps.as_slice())?;
     }
-    Ok((table, rows))
+    Ok(())
 }
 
 /// How many AS numbers the paths have in sum, for which memory is taken at once.
@@ -65,7 +84,7 @@ fn add_row(rows: &mut Rows<PathId, Step>, steps: &[Step]) -> Result<(), NoMemory
 
 /// Adds the edges along a path, and its steps, where there are no others.
 fn add_steps(table: &mut EdgeTable, steps: &mut List<Step>, path: &[u32]) -> Result<(), NoMemory>
-    requires room { length table.old + length path.now ≤ 2 ^ 26 }
+    requires room { length table.old + length path.now ≤ max_numbers }
     requires empty { steps.old ≡ [] }
     ensures edges { OnOk result (table.new ≡ fold with_edge table.old (edges_on path.now)) }
     ensures steps { OnOk result (AreSteps table.new path.now steps.new) }
@@ -79,12 +98,19 @@ fn add_steps(table: &mut EdgeTable, steps: &mut List<Step>, path: &[u32]) -> Res
 
 /// Adds the edge between two ASes, and answers the step from the first to the second.
 fn add_step(table: &mut EdgeTable, from: u32, to: u32) -> Result<Step, NoMemory>
-    requires room { length table.old < 2 ^ 26 }
+    requires room { length table.old < max_numbers }
     ensures edge { OnOk result (table.new ≡ with_edge table.old (edge_of from to)) }
-    ensures step { IfOk result (IsStepAlong table.new from to) }
+    ensures step { IfOk result (IsStep table.new from to) }
 {
     let added = table.add(from, to)?;
-    Ok(Step::new(added.place, from < to))
+    Ok(Step::new(added.place, end_left(from, to)))
+}
+
+/// The end of their edge from which the step from the first AS to the second goes.
+fn end_left(from: u32, to: u32) -> End
+    ensures { result ≡ end_left from to }
+{
+    if from < to { End::Low } else { End::High }
 }
 
 /// The first place in which the edge lines and the edges of the paths differ. It takes no memory.

@@ -1,23 +1,28 @@
 //! Steps of paths, as places of edges.
-ghost use Rattle.std.specs.Prelude.{◌≡◌, ◌<◌, ◌^◌};
+ghost use Rattle.std.specs.Prelude.{◌≡◌, ◌<◌};
+ghost use Rattle.tor_arena.specs.Limits.{most_places};
 ghost use Rattle.rel_checker.specs.Flipping.{turned};
-ghost use Rattle.rel_checker.specs.PathSteps.{place_in, rises_in};
+ghost use Rattle.rel_checker.specs.PathSteps.{place_in, left_in};
 
-/// A step of a path, from one AS to the next: the place of its edge, and whether it goes from the lower AS to the higher, in one
-/// number.
+use relationships::End;
+
+/// A step of a path, from one AS to the next: the place of its edge, and the end of the edge from which it goes, in one number.
 #[derive(Clone, Copy)]
 pub(crate) struct Step {
     code: u32,
 }
 
 impl Step {
-    /// The step along the edge in a place. It takes no memory.
-    pub fn new(place: usize, rises: bool) -> Step
-        requires { place < 2 ^ 31 }
+    /// The step from an end of the edge in a place. It takes no memory.
+    pub fn new(place: usize, left: End) -> Step
+        requires { place < most_places }
         ensures place { place_in result ≡ place }
-        ensures direction { rises_in result ≡ rises }
+        ensures left { left_in result ≡ left }
     {
-        let side = if rises { 1 } else { 0 };
+        let side = match left {
+            End::Low => 1,
+            End::High => 0,
+        };
         Step {
             code: place as u32 * 2 + side,
         }
@@ -30,11 +35,15 @@ impl Step {
         (self.code / 2) as usize
     }
 
-    /// Whether the step goes from the lower AS to the higher. It takes no memory.
-    pub fn rises(self) -> bool
-        ensures { result ≡ rises_in self }
+    /// The end of the edge from which the step goes. It takes no memory.
+    pub fn left(self) -> End
+        ensures { result ≡ left_in self }
     {
-        self.code % 2 == 1
+        if self.code % 2 == 1 {
+            End::Low
+        } else {
+            End::High
+        }
     }
 
     /// The step as one number. It takes no memory.

@@ -1,5 +1,6 @@
 //! How many kept paths hold each edge.
-ghost use Rattle.std.specs.Prelude.{◌≡◌, ◌+◌, ◌<◌, ◌≤◌, ◌^◌, ℕ, [], ◌∷◌, All, List, length, count_by, nat_eq, slice_index, IsTrue, IfOk};
+ghost use Rattle.std.specs.Prelude.{◌≡◌, ◌+◌, ◌<◌, ◌≤◌, ℕ, [], ◌∷◌, All, List, length, count_by, nat_eq, slice_index, IsTrue, IfOk};
+ghost use Rattle.tor_arena.specs.Limits.{max_paths, max_numbers};
 ghost use Rattle.relationships.specs.Evidence.{paths_of};
 ghost use Rattle.relationships.specs.Graph.{support};
 ghost use Rattle.result_text.specs.declared.file.EdgeLine.{EdgeLine};
@@ -40,8 +41,8 @@ pub(crate) fn count_kept(
 fn count_line(line: &PathLineRef<'_>, steps: &[Step], counts: &mut Vec<u64>)
     requires inside { All (λ s. place_in s < length counts.old.items) steps.now }
     requires distinct { IsTrue (is_distinct line.now.path) }
-    requires short { length steps.now ≤ 2 ^ 26 }
-    requires few { (k : ℕ) → slice_index counts.old.items k ≤ 2 ^ 23 }
+    requires short { length steps.now ≤ max_numbers }
+    requires few { (k : ℕ) → slice_index counts.old.items k ≤ max_paths }
     ensures { (lines : List EdgeLine) → AreApart lines → length counts.old.items ≡ length lines →
         AreSteps (edges_of lines) line.now.path steps.now →
         HaveRisen (edges_of lines) (support (kept_in (line.now ∷ []))) counts.old.items counts.new.items }
@@ -54,8 +55,8 @@ fn count_line(line: &PathLineRef<'_>, steps: &[Step], counts: &mut Vec<u64>)
 /// Counts each step at its edge.
 fn count_steps(steps: &[Step], counts: &mut Vec<u64>)
     requires inside { All (λ s. place_in s < length counts.old.items) steps.now }
-    requires short { length steps.now ≤ 2 ^ 26 }
-    requires few { (k : ℕ) → slice_index counts.old.items k ≤ 2 ^ 23 }
+    requires short { length steps.now ≤ max_numbers }
+    requires few { (k : ℕ) → slice_index counts.old.items k ≤ max_paths }
     ensures same { length counts.new.items ≡ length counts.old.items }
     ensures counted { (k : ℕ) → slice_index counts.new.items k ≡
         slice_index counts.old.items k + count_by (λ s. nat_eq (place_in s) k) steps.now }

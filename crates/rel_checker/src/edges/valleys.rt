@@ -3,13 +3,14 @@ ghost use Rattle.std.specs.Prelude.{◌≡◌, ◌↔◌, ◌<◌, ℕ, All, Lis
 ghost use Rattle.tor_arena.specs.Distinct.{AllDistinct};
 ghost use Rattle.relationships.specs.Relationship.{Labelling, slopes, ValleyFree};
 ghost use Rattle.relationships.specs.declared.fate.Fate.TheVariants.{Kept};
+ghost use Rattle.relationships.specs.Steps.{step_slope, is_up, is_down};
 ghost use Rattle.rel_checker.specs.Flipping.{edges_of, AreApart};
-ghost use Rattle.rel_checker.specs.PathSteps.{place_in, AreSteps, step_slope, slopes_by, is_up, is_down};
+ghost use Rattle.rel_checker.specs.PathSteps.{place_in, AreSteps, slopes_by};
 ghost use Rattle.rel_checker.specs.Tables.{labels_in};
 
 use crate::edges::labels::Labels;
 use crate::edges::step::Step;
-use relationships::Label;
+use relationships::{End, Label};
 use result_text::PathLineRef;
 
 /// Whether a path with these steps is valley-free under the labels, if it is kept. It takes no memory.
@@ -30,32 +31,30 @@ fn is_valley_free(labels: &Labels<'_>, steps: &[Step]) -> bool
     let mut falling = false;
     for step in steps {
         let label = labels.of(step.place());
-        if falling && !goes_down(label, step.rises()) {
+        if falling && !goes_down(label, step.left()) {
             return false;
         }
-        falling = !goes_up(label, step.rises());
+        falling = !goes_up(label, step.left());
     }
     true
 }
 
-/// Whether a step goes to a provider.
-fn goes_up(label: Label, rises: bool) -> bool
-    ensures { result ≡ is_up (step_slope label rises) }
+/// Whether the step from this end of an edge with this label goes to a provider.
+fn goes_up(label: Label, left: End) -> bool
+    ensures { result ≡ is_up (step_slope label left) }
 {
-    match label {
-        Label::Low => !rises,
-        Label::High => rises,
-        Label::Peer => false,
-    }
+    matches!(
+        (label, left),
+        (Label::Low, End::High) | (Label::High, End::Low)
+    )
 }
 
-/// Whether a step goes to a customer.
-fn goes_down(label: Label, rises: bool) -> bool
-    ensures { result ≡ is_down (step_slope label rises) }
+/// Whether the step from this end of an edge with this label goes to a customer.
+fn goes_down(label: Label, left: End) -> bool
+    ensures { result ≡ is_down (step_slope label left) }
 {
-    match label {
-        Label::Low => rises,
-        Label::High => !rises,
-        Label::Peer => false,
-    }
+    matches!(
+        (label, left),
+        (Label::Low, End::Low) | (Label::High, End::High)
+    )
 }

@@ -11,7 +11,7 @@ use crate::edges::labels::Labels;
 use crate::edges::step::Step;
 use crate::lending::{path_line_at, steps_at};
 use crate::marks::neighbours::Neighbours;
-use relationships::Label;
+use relationships::{End, Label};
 use result_text::{PathLineRef, ResultFile};
 use std::alloc::Global;
 use tor_arena::{EdgeId, Index, Keys, NoMemory, PathId, Rows};
@@ -43,18 +43,18 @@ fn climb_of(labels: &Labels<'_>, step: Step) -> Climb
     let Some(edge) = EdgeId::from_place(place) else {
         unreachable!();
     };
-    let up = climbs(labels.of(place), step.rises());
+    let up = climbs(labels.of(place), step.left());
     Climb { edge, up }
 }
 
-/// Whether a step goes up along an edge with this label.
-fn climbs(label: Label, rises: bool) -> bool
-    ensures { result ≡ climbs label rises }
+/// Whether the step from this end of an edge with this label goes up.
+fn climbs(label: Label, left: End) -> bool
+    ensures { result ≡ climbs label left }
 {
-    match label {
-        Label::High => rises,
-        _ => !rises,
-    }
+    matches!(
+        (label, left),
+        (Label::High, End::Low) | (Label::Low | Label::Peer, End::High)
+    )
 }
 
 /// The number of two consecutive steps, from 2 on, which is also that of the two the other way round.

@@ -2,7 +2,8 @@ use Rattle.std.proofs.Common.{◌≡◌, ◌+◌, ◌≤◌, true, false, drop, 
 use Rattle.std.proofs.lemmas.List.{get_or_default}
 use Rattle.relationships.specs.declared.label.Label.{Label}
 use Rattle.rel_checker.specs.declared.edges.step.Step.{Step}
-use Rattle.rel_checker.specs.PathSteps.{place_in, rises_in, labels_on, slopes_by, step_slope, is_down}
+use Rattle.relationships.specs.Steps.{step_slope, is_down}
+use Rattle.rel_checker.specs.PathSteps.{place_in, left_in, labels_on, slopes_by}
 use Rattle.rel_checker.proofs.SlopeLemmas.{well, well-stop, well-nil, next_slopes, answer}
 use Rattle.rel_checker.proofs.edges.valleys.is_valley_free.Goals as goal
 
@@ -14,9 +15,9 @@ returns-then-not-goes_down c =
     let none : Step = record { code = 0 } in
     let step = get_or steps i none in
     let here : step ≡ get_or steps i step = get_or_default steps i none step c.loop-step-test.true in
-    let s = step_slope (get_or (labels_on lines) (place_in step) Label.Peer) (rises_in step) in
+    let s = step_slope (get_or (labels_on lines) (place_in step) Label.Peer) (left_in step) in
     let label = c.of-label.ensures ∙ ap (λ k. get_or (labels_on lines) k Label.Peer) c.place.ensures in
-    let not_down : is_down s ≡ false = ap is_down (ap₂ step_slope (sym label) (sym c.rises.ensures)) ∙ sym c.goes_down.ensures ∙ c.if-not-goes_down.true in
+    let not_down : is_down s ≡ false = ap is_down (ap₂ step_slope (sym label) (sym c.left.ensures)) ∙ sym c.goes_down.ensures ∙ c.if-not-goes_down.true in
     answer lines steps false
     (c.loop-step.invariant ∙ ap (λ f. well f (slopes_by lines (drop i steps))) c.if-falling.true ∙ ap (well true) (next_slopes lines steps i step c.loop-step-test.true here) ∙
     well-stop s (slopes_by lines (drop (i + 1) steps)) not_down)

@@ -3,12 +3,12 @@ use Rattle.relationships.specs.Graph.{edges_on}
 use Rattle.rel_checker.specs.PathSteps.{AreSteps}
 use Rattle.tor_numbers.specs.Edges.{with_edge}
 use Rattle.rel_checker.proofs.EdgeListing.{IsListing, listing-few, listing-room, listing-more, listing-ends}
-use Rattle.rel_checker.proofs.edges.edge_rules.list_edges.Goals as goal
+use Rattle.rel_checker.proofs.edges.edge_rules.add_paths.Goals as goal
 
 pub add_steps-requires-clause-room : goal.add_steps-requires-clause-room
 add_steps-requires-clause-room c =
     let line = c.path_line_at-line.result in
-    let room = listing-room c.args.file.now c.loop-place.place c.loop-place.table c.loop-place.rows line c.requires c.loop-place.invariant c.path_line_at-line.ensures in
+    let room = listing-room c.args.file.now c.loop-place.place c.loop-place.table c.loop-place.rows line c.requires.clean c.loop-place.invariant c.path_line_at-line.ensures in
     let same = ap length c.path.ensures in
     omega (arith, room, same)
 
