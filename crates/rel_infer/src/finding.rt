@@ -2,10 +2,11 @@
 ghost use Rattle.std.specs.Prelude.{◌≡◌, ◌≢◌, ◌≤◌, ◌<◌, All, length, map, IfOk};
 ghost use Rattle.std.specs.List.{AllPairs};
 ghost use Rattle.tor_arena.specs.Distinct.{AllDistinct};
+ghost use Rattle.tor_arena.specs.Limits.{max_ratio};
 ghost use Rattle.relationships.specs.Relationship.{ValleyFree};
 ghost use Rattle.relationships.specs.Graph.{edges, labelling, support};
 ghost use Rattle.as_graph.specs.Paths.{paths_at};
-ghost use Rattle.tor_clauses.specs.Formulas.{FitsGraph};
+ghost use Rattle.tor_clauses.specs.Formulas.{FitsGraph, demands_of};
 ghost use Rattle.forced_edges.specs.Marked.{AreExact, AreBorneOut};
 ghost use Rattle.rel_infer.specs.Finding.{AreFound};
 
@@ -39,7 +40,7 @@ fn marks_of(
 ) -> Result<Marks, NoMemory>
     requires fits { FitsGraph graph.now selector.now.formula }
     requires count { length labels.now ≡ length (edges graph.now) }
-    requires free { All (ValleyFree (labelling (edges graph.now) labels.now)) (paths_at graph.now selector.now.formula.paths) }
+    requires free { All (ValleyFree (labelling (edges graph.now) labels.now)) (demands_of graph.now selector.now.formula) }
     ensures many { IfOk result (λ m. length m.marks ≡ length (edges graph.now)) }
     ensures marks { IfOk result (AreExact graph.now selector.now.formula labels.now) }
     ensures evidence { IfOk result (AreBorneOut graph.now selector.now.formula labels.now) }
@@ -67,8 +68,8 @@ pub(crate) fn found_in(
     requires fits { FitsGraph graph.now selector.now.formula }
     requires once { AllPairs ◌≢◌ selector.now.formula.paths }
     requires distinct { All AllDistinct (paths_at graph.now selector.now.formula.paths) }
-    requires small { ratio ≤ 1000000 }
-    ensures { IfOk result (AreFound ratio graph.now selector.now.formula.paths) }
+    requires small { ratio ≤ max_ratio }
+    ensures { IfOk result (AreFound ratio graph.now selector.now.formula) }
 {
     let labels = labels_of(alloc, graph, selector, ratio)?;
     let found = marks_of(alloc, graph, selector, &labels)?;

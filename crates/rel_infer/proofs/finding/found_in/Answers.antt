@@ -4,14 +4,12 @@ use Rattle.relationships.specs.declared.walk.Walk.{Walk}
 use Rattle.relationships.specs.Graph.{edges}
 use Rattle.relationships.specs.Checking.{MarksHold}
 use Rattle.relationships.specs.Marking.{claims_of, orders_of}
-use Rattle.tor_clauses.specs.Formulas.{numbered}
 use Rattle.rel_infer.specs.EdgeLines.{AreLinesOf}
 use Rattle.rel_infer.proofs.finding.found_in.Goals as goal
 
 pub returns : goal.returns
 returns c =
     let graph = c.args.graph.now in
-    let places = c.args.selector.now.formula.paths in
     let labels = c.in_ok-labels.labels in
     let found = c.in_ok-found.found in
     let lines = c.in_ok-edges.edges in
