@@ -8,6 +8,7 @@ ghost use Rattle.relationships.specs.Graph.{edges, labelling, support};
 ghost use Rattle.as_graph.specs.Paths.{paths_at};
 ghost use Rattle.tor_clauses.specs.Formulas.{FitsGraph, demands_of};
 ghost use Rattle.forced_edges.specs.Marked.{AreExact, AreBorneOut};
+ghost use Rattle.rel_infer.specs.EdgeLines.{AreLinesOf};
 ghost use Rattle.rel_infer.specs.Finding.{AreFound};
 
 use crate::edge_lines::edge_lines;
@@ -15,7 +16,7 @@ use crate::labelling::labels_of;
 use as_graph::{AsGraph, Labels};
 use forced_edges::{Marks, forced};
 use path_select::Selector;
-use relationships::{Probe, Walks};
+use relationships::{Mark, Probe, Walks};
 use result_text::EdgeLine;
 use std::alloc::Global;
 use tor_arena::{List, NoMemory};
@@ -58,6 +59,26 @@ fn supports_of(alloc: Global, graph: &AsGraph, selector: &Selector) -> Result<Li
     graph.support(alloc, selector.kept())
 }
 
+// The lines of the edges, with these labels and marks, each with how many of the kept paths hold its edge.
+fn lines_of(
+    alloc: Global,
+    graph: &AsGraph,
+    selector: &Selector,
+    labels: &Labels,
+    marks: &[Mark],
+) -> Result<List<EdgeLine>, NoMemory>
+    requires there { All (λ path. path < length graph.now) selector.now.formula.paths }
+    requires once { AllPairs ◌≢◌ selector.now.formula.paths }
+    requires distinct { All AllDistinct (paths_at graph.now selector.now.formula.paths) }
+    requires labels { length labels.now ≡ length (edges graph.now) }
+    requires marks { length marks.now ≡ length (edges graph.now) }
+    ensures { IfOk result (AreLinesOf (edges graph.now) labels.now marks.now
+        (map (support (paths_at graph.now selector.now.formula.paths)) (edges graph.now))) }
+{
+    let supports = supports_of(alloc, graph, selector)?;
+    edge_lines(alloc, graph, labels, marks, supports.as_slice())
+}
+
 /// What is found of the edges of a graph, where the paths that the selector has kept are kept. The only error is that memory ran out.
 pub(crate) fn found_in(
     alloc: Global,
@@ -73,9 +94,7 @@ pub(crate) fn found_in(
 {
     let labels = labels_of(alloc, graph, selector, ratio)?;
     let found = marks_of(alloc, graph, selector, &labels)?;
-    let supports = supports_of(alloc, graph, selector)?;
-    let marks = found.marks.as_slice();
-    let edges = edge_lines(alloc, graph, &labels, marks, supports.as_slice())?;
+    let edges = lines_of(alloc, graph, selector, &labels, found.marks.as_slice())?;
     Ok(Found {
         edges,
         whys: found.whys,
