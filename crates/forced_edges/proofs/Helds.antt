@@ -119,7 +119,7 @@ module _ (graph : List (List ℕ)) (labels : List Label) (same : length labels �
   -- no arc leads from what is held to what is not
   pub held_along : (f : Formula) → All NeighboursDiffer graph → FitsGraph graph f → All (ValleyFree (labelling (edges graph) labels)) (paths_at graph f.paths) → IsKeptAlong f.net.arcs (held labels)
   held_along f apart fits served l m arc h =
-      let serves = peering_law (labelling (edges graph) labels) O (paths_at graph f.paths) (λ k d within. (λ e. rw e, λ e. rw e)) served in
+      let serves = peering_law (labelling (edges graph) labels) (paths_at graph f.paths) served O (λ k d within. (λ e. rw e, λ e. rw e)) in
       let a = only_arcs graph f apart fits l m arc in
       (held_over m a.1 a.2 a.3.head).1 (serves_satisfies O (paths_at graph f.paths) serves a.0 a.1 a.2 a.4 ((held_over l a.0 a.1 a.3.tail).0 h))
 

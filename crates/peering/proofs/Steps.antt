@@ -10,11 +10,11 @@ use Rattle.relationships.specs.declared.label.End.{End}
 use Rattle.relationships.specs.declared.label.Label.{Label}
 use Rattle.relationships.specs.Relationship.{Labelling, label_of, ValleyFree}
 use Rattle.relationships.specs.Graph.{Edge, is_same, edges_on, edges, degree, support, orientation, labelling}
-use Rattle.relationships.specs.Preference.{MayPeer, with_peer}
+use Rattle.relationships.specs.Preference.{IsAlike, MayPeer, with_peer}
 use Rattle.relationships.proofs.Slopes.{Free, Free-from_valley_free}
 use Rattle.as_graph.specs.Paths.{path_at, paths_at}
 use Rattle.as_graph.proofs.Labelled.{NoneTwice, NoneTwice-distinct, labelling_at, orientation_at, slopes-steps}
-use Rattle.peering.specs.Peerings.{edge_at, holds, IsAlike, peer_at, StayFree, MayFlip, IsSettled}
+use Rattle.peering.specs.Peerings.{edge_at, holds, peer_at, StayFree, MayFlip, IsSettled}
 use Rattle.peering.specs.Exclusions.{IsExcluded}
 use Rattle.peering.proofs.ExclusionLemmas.{no_flip}
 use Rattle.peering.proofs.Reading.{some_same, labelling-set, free_same, free_without, all_at, edge_among}

@@ -1,11 +1,10 @@
--- Edges that may be peerings, and what the labels of edges leave of paths.
-use Rattle.std.specs.Prelude.{◌≡◌, ◌≢◌, ℕ, ◌*◌, ◌≤◌, ◌<◌, ◌⊎◌, max, min, Bool, List, All, Contains, length, slice_index_or, slice_set, IsTrue, IsFalse, [], ◌∷◌, ◌++◌}
+-- Edges that may be peerings, and what labels leave of paths.
+use Rattle.std.specs.Prelude.{◌≡◌, ℕ, ◌<◌, ◌⊎◌, Bool, List, All, Contains, length, slice_index_or, slice_set, IsTrue, IsFalse, [], ◌∷◌, ◌++◌}
 use Rattle.std.specs.List.{list_any}
 use Rattle.relationships.specs.declared.label.Label.{Label}
-use Rattle.relationships.specs.Relationship.{Orientation, Labelling, labels_of, ValleyFree, Serves}
-use Rattle.relationships.specs.Graph.{Edge, is_same, edges_on, edges, degree, support, labelling}
-use Rattle.relationships.specs.Preference.{with_peer}
-use Rattle.relationships.specs.Laws.Serving.{AgreesOn}
+use Rattle.relationships.specs.Relationship.{ValleyFree}
+use Rattle.relationships.specs.Graph.{Edge, is_same, edges_on, edges, degree, labelling}
+use Rattle.relationships.specs.Preference.{IsAlike}
 use Rattle.as_graph.specs.Paths.{path_at}
 use Rattle.as_graph.specs.declared.step.Step.{Step}
 
@@ -25,10 +24,6 @@ HasStep steps edge = (s : Step) × Contains steps s × (s.edge ≡ edge)
 abbrev pub IsAdded : Bool → ℕ → ℕ → List (List ℕ) → List (List ℕ) → Type 0
 IsAdded excluded edge path old new =
     (IsTrue excluded × (new ≡ old)) ⊎ (IsFalse excluded × (new ≡ slice_set old edge (slice_index_or old edge [] ++ path ∷ [])))
-
--- the ends of the edge are alike in degree: the greater degree is at most ratio times the lesser
-abbrev pub IsAlike : (ℕ → ℕ) → ℕ → Edge → Type 0
-IsAlike degree ratio e = max (degree e.0) (degree e.1) ≤ ratio * min (degree e.0) (degree e.1)
 
 -- the labels with the edge of a place as a peering
 abbrev pub peer_at : List Label → ℕ → List Label
@@ -54,13 +49,3 @@ abbrev pub IsSettled : List (List ℕ) → ℕ → Bool → List ℕ → ℕ →
 IsSettled paths ratio excluded places edge old new =
     (MayFlip paths ratio excluded places edge old × (new ≡ peer_at old edge)) ⊎
     ((MayFlip paths ratio excluded places edge old → ⊥) × (new ≡ old))
-
--- each orientation that has the providers of the edges that are no peerings serves the paths, whichever way the peerings are read
-abbrev pub ServeEitherWay : Labelling → List (List ℕ) → Type 0
-ServeEitherWay L paths = (O : Orientation) → AgreesOn (edges paths) L (labels_of O) → Serves O paths
-
--- no edge of these that is on one of the paths, with ends alike in degree, could be one peering more
-abbrev pub NoneLeftOut : (ℕ → ℕ) → ℕ → List (List ℕ) → List Edge → Labelling → Type 0
-NoneLeftOut degree ratio paths es L =
-    All (λ (e : Edge). L e.0 e.1 ≢ Label.Peer → 0 < support paths e → IsAlike degree ratio e →
-    All (ValleyFree (with_peer L e)) paths → ⊥) es

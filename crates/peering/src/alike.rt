@@ -2,7 +2,8 @@
 ghost use Rattle.std.specs.Prelude.{◌≡◌, ◌<◌, ◌≤◌, ◌*◌, ◌↔◌, max, min, length, slice_index_or, IsTrue};
 ghost use Rattle.tor_arena.specs.Limits.{max_numbers, max_ratio};
 ghost use Rattle.relationships.specs.Graph.{edges, degree};
-ghost use Rattle.peering.specs.Peerings.{edge_at, IsAlike};
+ghost use Rattle.relationships.specs.Preference.{IsAlike};
+ghost use Rattle.peering.specs.Peerings.{edge_at};
 
 use as_graph::AsGraph;
 use tor_arena::EdgeId;

@@ -5,9 +5,9 @@ ghost use Rattle.tor_arena.specs.Limits.{max_ratio};
 ghost use Rattle.relationships.specs.declared.label.Label.{Label};
 ghost use Rattle.relationships.specs.Relationship.{label_of, labels_of, ValleyFree, Serves};
 ghost use Rattle.relationships.specs.Graph.{edges, degree, support, orientation as orientation_of, labelling};
-ghost use Rattle.relationships.specs.Preference.{IsRelabelled};
+ghost use Rattle.relationships.specs.Preference.{IsRelabelled, ServeEitherWay, NoneLeftOut};
 ghost use Rattle.as_graph.specs.Paths.{path_at, paths_at};
-ghost use Rattle.peering.specs.Peerings.{StayFree, IsOffered, IsSettled, ServeEitherWay, NoneLeftOut};
+ghost use Rattle.peering.specs.Peerings.{StayFree, IsOffered, IsSettled};
 
 use crate::alike::is_alike;
 use crate::excluding::exclusions;

@@ -15,7 +15,7 @@ use Rattle.relationships.specs.Graph.{Edge, edge_of, is_same, edges_from, edges_
 use Rattle.tor_arena.specs.Distinct.{AllDistinct}
 use Rattle.relationships.specs.Relationship.{Orientation, Labelling, labels_of, label_of, is_low, is_high, is_over, ValleyFree, Serves}
 use Rattle.relationships.specs.Evidence.{IsTriple, TripleAt, kept_from}
-use Rattle.relationships.specs.Laws.Serving.{AgreesOn}
+use Rattle.relationships.specs.Preference.{AgreesOn}
 use Rattle.relationships.proofs.Edges.{along_each, peering_law}
 use Rattle.relationships.proofs.Places.{index-from_StandAt, kept_from-out}
 use Rattle.relationships.proofs.Serving.{Apart, Apart-from_differing, differ_if_distinct, serves_satisfies}
@@ -292,11 +292,12 @@ module _ (file : ResultFile) (cleaned : IsMet file PathsCleaned) (listed : IsMet
 
   kept_served : Serves O (kept_lines file.paths)
   kept_served =
-      peering_law (its_labels file) O (kept_lines file.paths) (reading_agrees (its_labels file) (edges (kept_lines file.paths)))
+      peering_law (its_labels file) (kept_lines file.paths)
       (λ i d lt.
       let path = get_or (kept_lines file.paths) i d in
       let w = kept_line file.paths path (Contains-from_get (kept_lines file.paths) i path (slice_get-get_or (kept_lines file.paths) i d lt)) in
       subst (ValleyFree (its_labels file)) w.3 (served w.0 (slice_get-lt file.paths w.0 w.1 w.2) w.1 w.2 w.4))
+      O (reading_agrees (its_labels file) (edges (kept_lines file.paths)))
 
   its_once : Once (edges_of file.edges)
   its_once = subst Once (sym (its_edges_are file cleaned listed)) (distinct_once (flat_map edges_on (its_paths file)))

@@ -1,6 +1,7 @@
 -- The whole result, from what is inferred and from a table of paths.
-use Rattle.std.proofs.Common.{◌≡◌, ◌≤◌, ◌∙◌, ◌^◌, ℕ, List, IsTrue, All, Option, map, length, sum_by, refl, sym, ap, subst}
+use Rattle.std.proofs.Common.{◌≡◌, ◌≤◌, ◌∙◌, ℕ, List, IsTrue, All, Option, map, length, sum_by, refl, sym, ap, subst}
 use Rattle.std.specs.List.{list_all}
+use Rattle.tor_arena.specs.Limits.{max_numbers, max_paths, max_ratio}
 use Rattle.relationships.specs.declared.walk.Walk.{Walk}
 use Rattle.relationships.specs.Fates.{walk_of}
 use Rattle.path_clean.specs.declared.cleaned.Sets.{Sets}
@@ -54,16 +55,16 @@ module _ (sets : Sets) (ratio : ℕ) (rows : List Counted) (counts : Counts) (pa
         totals = counted ∙ ap (λ fates. totals_by fates i.found.edges) (sym line_fates);
       }
 
-  pub whole_accepted : ratio ≤ 1000000 → IsTrue (list_all is_cleaned (paths_of rows)) → All (λ n. 1 ≤ n) (times_of rows) → IsTrue (none_twice (paths_of rows)) →
-      length (paths_of rows) ≤ 2 ^ 23 → sum_by length (paths_of rows) ≤ 2 ^ 26 → Accepts file
+  pub whole_accepted : ratio ≤ max_ratio → IsTrue (list_all is_cleaned (paths_of rows)) → All (λ n. 1 ≤ n) (times_of rows) → IsTrue (none_twice (paths_of rows)) →
+      length (paths_of rows) ≤ max_paths → sum_by length (paths_of rows) ≤ max_numbers → Accepts file
   whole_accepted small clean seen once few numbers =
       let same : its_paths file ≡ paths_of rows = line_paths ∙ its_rows in
       accepted sets ratio rows counts file small whole (record {
         clean = subst (λ ps. IsTrue (list_all is_cleaned ps)) (sym same) clean;
         seen = subst (All (λ n. 1 ≤ n)) (sym (line_times ∙ its_times)) seen;
         once = subst (λ ps. IsTrue (none_twice ps)) (sym same) once;
-        few = subst (λ ps. length ps ≤ 2 ^ 23) (sym same) few;
-        numbers = subst (λ ps. sum_by length ps ≤ 2 ^ 26) (sym same) numbers;
+        few = subst (λ ps. length ps ≤ max_paths) (sym same) few;
+        numbers = subst (λ ps. sum_by length ps ≤ max_numbers) (sym same) numbers;
       })
 
   pub whole_either_way : PeerEitherWay (its_paths file) (its_walks file) i.found.edges

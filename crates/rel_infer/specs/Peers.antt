@@ -3,8 +3,8 @@ use Rattle.std.specs.Prelude.{ℕ, List, Option, map}
 use Rattle.relationships.specs.declared.walk.Walk.{Walk}
 use Rattle.relationships.specs.Graph.{edges, degree}
 use Rattle.relationships.specs.Evidence.{paths_of}
+use Rattle.relationships.specs.Preference.{ServeEitherWay, NoneLeftOut}
 use Rattle.relationships.specs.Checking.{kept_of, claimed_labels}
-use Rattle.peering.specs.Peerings.{ServeEitherWay, NoneLeftOut}
 use Rattle.result_text.specs.declared.file.EdgeLine.{EdgeLine}
 use Rattle.result_rules.specs.File.{claim_on}
 

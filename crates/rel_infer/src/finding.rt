@@ -2,11 +2,13 @@
 ghost use Rattle.std.specs.Prelude.{◌≡◌, ◌≢◌, ◌≤◌, ◌<◌, All, length, map, IfOk};
 ghost use Rattle.std.specs.List.{AllPairs};
 ghost use Rattle.tor_arena.specs.Distinct.{AllDistinct};
+ghost use Rattle.tor_arena.specs.Limits.{max_ratio};
 ghost use Rattle.relationships.specs.Relationship.{ValleyFree};
 ghost use Rattle.relationships.specs.Graph.{edges, labelling, support};
 ghost use Rattle.as_graph.specs.Paths.{paths_at};
-ghost use Rattle.tor_clauses.specs.Formulas.{FitsGraph};
+ghost use Rattle.tor_clauses.specs.Formulas.{FitsGraph, demands_of};
 ghost use Rattle.forced_edges.specs.Marked.{AreExact, AreBorneOut};
+ghost use Rattle.rel_infer.specs.EdgeLines.{AreLinesOf};
 ghost use Rattle.rel_infer.specs.Finding.{AreFound};
 
 use crate::edge_lines::edge_lines;
@@ -14,7 +16,7 @@ use crate::labelling::labels_of;
 use as_graph::{AsGraph, Labels};
 use forced_edges::{Marks, forced};
 use path_select::Selector;
-use relationships::{Probe, Walks};
+use relationships::{Mark, Probe, Walks};
 use result_text::EdgeLine;
 use std::alloc::Global;
 use tor_arena::{List, NoMemory};
@@ -39,7 +41,7 @@ fn marks_of(
 ) -> Result<Marks, NoMemory>
     requires fits { FitsGraph graph.now selector.now.formula }
     requires count { length labels.now ≡ length (edges graph.now) }
-    requires free { All (ValleyFree (labelling (edges graph.now) labels.now)) (paths_at graph.now selector.now.formula.paths) }
+    requires free { All (ValleyFree (labelling (edges graph.now) labels.now)) (demands_of graph.now selector.now.formula) }
     ensures many { IfOk result (λ m. length m.marks ≡ length (edges graph.now)) }
     ensures marks { IfOk result (AreExact graph.now selector.now.formula labels.now) }
     ensures evidence { IfOk result (AreBorneOut graph.now selector.now.formula labels.now) }
@@ -57,6 +59,26 @@ fn supports_of(alloc: Global, graph: &AsGraph, selector: &Selector) -> Result<Li
     graph.support(alloc, selector.kept())
 }
 
+// The lines of the edges, with these labels and marks, each with how many of the kept paths hold its edge.
+fn lines_of(
+    alloc: Global,
+    graph: &AsGraph,
+    selector: &Selector,
+    labels: &Labels,
+    marks: &[Mark],
+) -> Result<List<EdgeLine>, NoMemory>
+    requires there { All (λ path. path < length graph.now) selector.now.formula.paths }
+    requires once { AllPairs ◌≢◌ selector.now.formula.paths }
+    requires distinct { All AllDistinct (paths_at graph.now selector.now.formula.paths) }
+    requires labels { length labels.now ≡ length (edges graph.now) }
+    requires marks { length marks.now ≡ length (edges graph.now) }
+    ensures { IfOk result (AreLinesOf (edges graph.now) labels.now marks.now
+        (map (support (paths_at graph.now selector.now.formula.paths)) (edges graph.now))) }
+{
+    let supports = supports_of(alloc, graph, selector)?;
+    edge_lines(alloc, graph, labels, marks, supports.as_slice())
+}
+
 /// What is found of the edges of a graph, where the paths that the selector has kept are kept. The only error is that memory ran out.
 pub(crate) fn found_in(
     alloc: Global,
@@ -67,14 +89,12 @@ pub(crate) fn found_in(
     requires fits { FitsGraph graph.now selector.now.formula }
     requires once { AllPairs ◌≢◌ selector.now.formula.paths }
     requires distinct { All AllDistinct (paths_at graph.now selector.now.formula.paths) }
-    requires small { ratio ≤ 1000000 }
-    ensures { IfOk result (AreFound ratio graph.now selector.now.formula.paths) }
+    requires small { ratio ≤ max_ratio }
+    ensures { IfOk result (AreFound ratio graph.now selector.now.formula) }
 {
     let labels = labels_of(alloc, graph, selector, ratio)?;
     let found = marks_of(alloc, graph, selector, &labels)?;
-    let supports = supports_of(alloc, graph, selector)?;
-    let marks = found.marks.as_slice();
-    let edges = edge_lines(alloc, graph, &labels, marks, supports.as_slice())?;
+    let edges = lines_of(alloc, graph, selector, &labels, found.marks.as_slice())?;
     Ok(Found {
         edges,
         whys: found.whys,

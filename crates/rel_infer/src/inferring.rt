@@ -1,6 +1,7 @@
 //! What is inferred from distinct paths.
-ghost use Rattle.std.specs.Prelude.{◌≡◌, ◌≤◌, ◌^◌, All, length, sum_by, IfOk};
+ghost use Rattle.std.specs.Prelude.{◌≡◌, ◌≤◌, All, length, sum_by, IfOk};
 ghost use Rattle.tor_arena.specs.Distinct.{AllDistinct};
+ghost use Rattle.tor_arena.specs.Limits.{max_numbers, max_paths, max_ratio};
 ghost use Rattle.rel_infer.specs.Inference.{AreInferred};
 
 use crate::finding::{Found, found_in};
@@ -22,7 +23,7 @@ pub(crate) struct Inferred {
 // What is inferred from the paths of a graph.
 fn inferred_in(alloc: Global, keys: Keys, graph: &AsGraph, ratio: u32) -> Result<Inferred, NoMemory>
     requires distinct { All AllDistinct graph.now }
-    requires small { ratio ≤ 1000000 }
+    requires small { ratio ≤ max_ratio }
     ensures many { IfOk result (λ inferred. length inferred.fates ≡ length graph.now) }
     ensures inferred { IfOk result (AreInferred ratio graph.now) }
 {
@@ -44,9 +45,9 @@ pub(crate) fn inferred_from(
 ) -> Result<Inferred, NoMemory>
     requires several { All (λ path. 2 ≤ length path) paths.now }
     requires apart { All AllDistinct paths.now }
-    requires few { length paths.now ≤ 2 ^ 23 }
-    requires short { sum_by length paths.now ≤ 2 ^ 26 }
-    requires small { ratio ≤ 1000000 }
+    requires few { length paths.now ≤ max_paths }
+    requires short { sum_by length paths.now ≤ max_numbers }
+    requires small { ratio ≤ max_ratio }
     ensures many { IfOk result (λ inferred. length inferred.fates ≡ length paths.now) }
     ensures inferred { IfOk result (AreInferred ratio paths.now) }
 {

@@ -2,11 +2,12 @@
 ghost use Rattle.std.specs.Prelude.{◌≡◌, ◌≢◌, ◌≤◌, All, length, IfOk};
 ghost use Rattle.std.specs.List.{AllPairs};
 ghost use Rattle.tor_arena.specs.Distinct.{AllDistinct};
+ghost use Rattle.tor_arena.specs.Limits.{max_ratio};
 ghost use Rattle.relationships.specs.Relationship.{ValleyFree};
 ghost use Rattle.relationships.specs.Graph.{edges, labelling, degree};
+ghost use Rattle.relationships.specs.Preference.{ServeEitherWay, NoneLeftOut};
 ghost use Rattle.as_graph.specs.Paths.{paths_at};
-ghost use Rattle.tor_clauses.specs.Formulas.{FitsGraph};
-ghost use Rattle.peering.specs.Peerings.{ServeEitherWay, NoneLeftOut};
+ghost use Rattle.tor_clauses.specs.Formulas.{FitsGraph, demands_of};
 ghost use Rattle.rel_infer.specs.Results.{AreLabels};
 
 use as_graph::{AsGraph, Labels};
@@ -28,14 +29,14 @@ pub(crate) fn labels_of(
     requires fits { FitsGraph graph.now selector.now.formula }
     requires once { AllPairs ◌≢◌ selector.now.formula.paths }
     requires distinct { All AllDistinct (paths_at graph.now selector.now.formula.paths) }
-    requires small { ratio ≤ 1000000 }
+    requires small { ratio ≤ max_ratio }
     ensures count { IfOk result (λ labels. length labels ≡ length (edges graph.now)) }
     ensures labels { IfOk result (λ labels. AreLabels ratio graph.now (paths_at graph.now selector.now.formula.paths)
         (labelling (edges graph.now) labels)) }
     ensures valley_free { IfOk result (λ labels. All (ValleyFree (labelling (edges graph.now) labels))
-        (paths_at graph.now selector.now.formula.paths)) }
+        (demands_of graph.now selector.now.formula)) }
     ensures either_way { IfOk result (λ labels. ServeEitherWay (labelling (edges graph.now) labels)
-        (paths_at graph.now selector.now.formula.paths)) }
+        (demands_of graph.now selector.now.formula)) }
     ensures none_left_out { IfOk result
         (λ labels. NoneLeftOut (degree graph.now) ratio (paths_at graph.now selector.now.formula.paths) (edges graph.now)
         (labelling (edges graph.now) labels)) }

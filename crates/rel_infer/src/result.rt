@@ -1,5 +1,6 @@
 //! The result of the paths of a table.
 ghost use Rattle.std.specs.Prelude.{◌≤◌, IfOk};
+ghost use Rattle.tor_arena.specs.Limits.{max_ratio};
 ghost use Rattle.result_rules.specs.File.{its_paths, its_walks};
 ghost use Rattle.result_rules.specs.Rules.{Accepts};
 ghost use Rattle.rel_infer.specs.Results.{IsResultOf};
@@ -25,7 +26,7 @@ pub fn result_of(
     table: PathTable,
     asides: Asides,
 ) -> Result<ResultFile, NoMemory>
-    requires { ratio ≤ 1000000 }
+    requires { ratio ≤ max_ratio }
     ensures result { IfOk result (IsResultOf sets ratio table.rows asides) }
     ensures accepted { IfOk result Accepts }
     ensures either_way { IfOk result (λ file. PeerEitherWay (its_paths file) (its_walks file) file.edges) }

@@ -10,7 +10,7 @@ use Rattle.relationships.specs.Relationship.{Orientation, Labelling, label_of, l
 use Rattle.relationships.specs.Evidence.{NeighboursDiffer, Numbered, paths_of, Closure, IsConsistent, kept_from}
 use Rattle.relationships.specs.Selection.{KeepsFrom, IsForced}
 use Rattle.relationships.specs.Checking.{LostFrom, kept_of, Claim, OtherOrder, IsBorneOut, ProbesFrom, MarksHold, claimed_labels}
-use Rattle.relationships.specs.Laws.Serving.{AgreesOn}
+use Rattle.relationships.specs.Preference.{AgreesOn}
 use Rattle.relationships.specs.Laws.Checking.{KeepingLaw, MarkingLaw, ForcedLaw, GraphRulesLaw, GraphRulesBehindLaw}
 use Rattle.relationships.proofs.Slopes.{over_parts, over-low, over-high}
 use Rattle.relationships.proofs.Edges.{peering_law}
@@ -33,7 +33,7 @@ reading_agrees : (e : End) (L : Labelling) (es : List Edge) → AgreesOn es L (l
 reading_agrees e L es = λ k d within. (λ h. rw h, λ h. rw h)
 
 pub reading_serves : (e : End) (L : Labelling) (paths : List (List ℕ)) → All (ValleyFree L) paths → Serves (reading e L) paths
-reading_serves e L paths h = peering_law L (reading e L) paths (reading_agrees e L (edges paths)) h
+reading_serves e L paths h = peering_law L paths h (reading e L) (reading_agrees e L (edges paths))
 
 pub keeps_from : (O : Orientation) (n : ℕ) (kept : Numbered) (paths : List (List ℕ)) (walks : List (Option Walk)) → LostFrom n kept paths walks →
     Serves O (paths_of kept) → Serves O (paths_of (kept_from n paths (map is_none walks))) → KeepsFrom (paths_of kept) paths (map is_none walks)

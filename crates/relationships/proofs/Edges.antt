@@ -99,7 +99,7 @@ relaxing_law L L' paths agrees h =
     All-from_recursion (ValleyFree L') paths (each_kept L L' paths (along_each (AgreesAt L L') paths agrees) (recursion_from_All (ValleyFree L) paths h))
 
 pub peering_law : PeeringLaw
-peering_law L O paths agrees h = relaxing_law L (labels_of O) paths agrees h
+peering_law L paths h O agrees = relaxing_law L (labels_of O) paths agrees h
 
 pub reading_law : ReadingLaw
 reading_law O O' paths same serves =

@@ -6,9 +6,8 @@ use Rattle.std.proofs.lemmas.List.Elements.{All-contains, All-nil, All-push, All
 use Rattle.relationships.specs.declared.label.End.{End}
 use Rattle.relationships.specs.declared.label.Label.{Label}
 use Rattle.relationships.specs.Relationship.{Orientation, Labelling, labels_of, ValleyFree, Serves}
-use Rattle.relationships.specs.Graph.{Edge, SameOn, is_same, edges}
-use Rattle.relationships.specs.Preference.{IsPreferred, with_peer, so_far, IsRelabelled}
-use Rattle.relationships.specs.Laws.Serving.{AgreesOn}
+use Rattle.relationships.specs.Graph.{Edge, SameOn, is_same, edges, support}
+use Rattle.relationships.specs.Preference.{IsPreferred, with_peer, so_far, IsRelabelled, IsAlike, AgreesOn}
 use Rattle.relationships.specs.Laws.Preference.{PreferenceLaw, RelabellingLaw, MaximalLaw}
 use Rattle.relationships.proofs.Edges.{same_edge, relaxing_law, reading_law}
 
@@ -153,8 +152,11 @@ earlier_same degree ratio kept es O last relabelled before f c not_peer =
     either true x y h = refl
     either false x y h = sym h
 
-pub maximal_law : MaximalLaw
-maximal_law degree ratio kept es O last relabelled each e among not_peer held alike all_free =
+-- an edge that is no peering in the end could not be one more
+no_more : (degree : ℕ → ℕ) (ratio : ℕ) (kept : List (List ℕ)) (es : List Edge) (O : Orientation) (last : Labelling) →
+    IsRelabelled degree ratio kept es (labels_of O) last → ((f : Edge) → Contains (edges kept) f → Contains es f) →
+    (e : Edge) → Contains es e → last e.0 e.1 ≢ Label.Peer → 0 < support kept e → IsAlike degree ratio e → All (ValleyFree (with_peer last e)) kept → ⊥
+no_more degree ratio kept es O last relabelled each e among not_peer held alike all_free =
     let at = split_at es e among.0 among.1 among.2 in
     let before = at.0 in
     let now = so_far before last (labels_of O) in
@@ -174,3 +176,7 @@ maximal_law degree ratio kept es O last relabelled each e among not_peer held al
               let h' : last f.0 f.1 ≡ l = rw n at h in
               rw n (earlier_same degree ratio kept es O last relabelled (split_at es e among.0 among.1 among.2).0 f c (λ p. no_peer (sym h' ∙ p)) ∙ h')
         ]
+
+pub maximal_law : MaximalLaw
+maximal_law degree ratio kept es O last relabelled each k d within =
+    no_more degree ratio kept es O last relabelled each (get_or es k d) (Contains-get_or es k d within)

@@ -1,10 +1,10 @@
--- Which serving orientation is preferred (the top of a path by Gao 2001), and which edges then become peerings.
+-- Which serving orientation is preferred (the top of a path by Gao 2001), which edges then become peerings, and what these leave.
 use Rattle.std.specs.Prelude.{◌≡◌, ◌≢◌, ◌↔◌, ◌⊎◌, ℕ, zero, suc, ◌+◌, ◌-◌, ◌*◌, ◌≤◌, ◌<◌, min, max, ℤ, pos, ◌-ℤ◌, List, [], ◌∷◌, ◌++◌, nat_lt, ◌==◌, if◌then◌else◌, All, AllPairs, Contains, fold, flat_map, count_by}
 use Rattle.std.specs.List.{position_or_len, list_any}
 use Rattle.relationships.specs.declared.label.End.{End}
 use Rattle.relationships.specs.declared.label.Label.{Label}
-use Rattle.relationships.specs.Relationship.{Orientation, Labelling, ValleyFree, Serves}
-use Rattle.relationships.specs.Graph.{Edge, SameOn, is_same, support}
+use Rattle.relationships.specs.Relationship.{Orientation, Labelling, labels_of, ValleyFree, Serves}
+use Rattle.relationships.specs.Graph.{Edge, SameOn, is_same, edges, support}
 
 -- the leftmost AS of highest degree, by its place from 0
 abbrev pub top_of : (ℕ → ℕ) → List ℕ → ℕ
@@ -62,10 +62,14 @@ IsPreferred kept wanted order O =
 abbrev pub with_peer : Labelling → Edge → Labelling
 with_peer L e low high = if is_same (low, high) e then Label.Peer else L low high
 
+-- the ends of the edge are alike in degree: the greater degree is at most ratio times the lesser
+abbrev pub IsAlike : (ℕ → ℕ) → ℕ → Edge → Type 0
+IsAlike degree ratio e = max (degree e.0) (degree e.1) ≤ ratio * min (degree e.0) (degree e.1)
+
 -- the edge may become a peering: it is on a kept path, its ends are alike in degree, and all kept paths stay valley-free
 pub record MayPeer (degree : ℕ → ℕ) (ratio : ℕ) (kept : List (List ℕ)) (L : Labelling) (e : Edge) : Type 0 where
   pub held : 0 < support kept e
-  pub alike : max (degree e.0) (degree e.1) ≤ ratio * min (degree e.0) (degree e.1)
+  pub alike : IsAlike degree ratio e
   pub stays : All (ValleyFree (with_peer L e)) kept
 
 -- the last labelling at these edges, and the first at all others
@@ -78,3 +82,18 @@ IsRelabelled degree ratio kept es first last =
     (before : List Edge) (e : Edge) (after : List Edge) → es ≡ before ++ (e ∷ after) →
     ((last e.0 e.1 ≡ Label.Peer) ↔ MayPeer degree ratio kept (so_far before last first) e) ×
     (last e.0 e.1 ≢ Label.Peer → last e.0 e.1 ≡ first e.0 e.1)
+
+-- the second labelling says what the first says, at each of these edges that the first does not call a peering
+abbrev pub AgreesOn : List Edge → Labelling → Labelling → Type 0
+AgreesOn es L L' =
+    All (λ (e : Edge). (L e.0 e.1 ≡ Label.Low → L' e.0 e.1 ≡ Label.Low) × (L e.0 e.1 ≡ Label.High → L' e.0 e.1 ≡ Label.High)) es
+
+-- each orientation that has the providers of the edges that are no peerings serves the paths, whichever way the peerings are read
+abbrev pub ServeEitherWay : Labelling → List (List ℕ) → Type 0
+ServeEitherWay L paths = (O : Orientation) → AgreesOn (edges paths) L (labels_of O) → Serves O paths
+
+-- no edge of these that is on one of the paths, with ends alike in degree, could be one peering more
+abbrev pub NoneLeftOut : (ℕ → ℕ) → ℕ → List (List ℕ) → List Edge → Labelling → Type 0
+NoneLeftOut degree ratio paths es L =
+    All (λ (e : Edge). L e.0 e.1 ≢ Label.Peer → 0 < support paths e → IsAlike degree ratio e →
+    All (ValleyFree (with_peer L e)) paths → ⊥) es

@@ -38,11 +38,24 @@ fn closing_order<N: Index, A: Index>(
     ensures few { IfOk result (λ order. length order ≤ N.LIMIT) }
 {
     let mut reached = graph.reach_none(alloc)?;
+    reach_each(graph, &mut reached)?;
+    Ok(reached.into_nodes())
+}
+
+/// Adds what is reached from each node in turn.
+fn reach_each<N: Index, A: Index>(
+    graph: &Digraph<N, A>,
+    reached: &mut Reached<N, A>,
+) -> Result<(), NoMemory>
+    requires { IsSearched N.place_of A.place_of graph.now.nodes graph.now.arcs reached.old }
+    ensures searched { OnOk result (IsSearched N.place_of A.place_of graph.now.nodes graph.now.arcs reached.new) }
+    ensures all { OnOk result ((x : N) → N.place_of x < graph.now.nodes → Has reached.new.nodes x) }
+{
     for place in 0..graph.node_count() {
         let node = N::from_place(place).unwrap();
-        graph.reach_more(node, &mut reached)?;
+        graph.reach_more(node, reached)?;
     }
-    Ok(reached.into_nodes())
+    Ok(())
 }
 
 /// The digraph with each arc reversed round.
@@ -54,12 +67,25 @@ fn reversed<N: Index, A: Index>(
 {
     let mut other = Digraph::new(alloc);
     other.add_nodes(graph.node_count()).map_err(for_memory)?;
+    add_reversed(graph, &mut other)?;
+    Ok(other)
+}
+
+/// Adds each arc of a digraph, reversed round, to one that has the same nodes and no arcs.
+fn add_reversed<N: Index, A: Index>(
+    graph: &Digraph<N, A>,
+    other: &mut Digraph<N, A>,
+) -> Result<(), NoMemory>
+    requires nodes { other.old.nodes ≡ graph.now.nodes }
+    requires arcs { other.old.arcs ≡ [] }
+    ensures { OnOk result (IsReversed graph.now other.new) }
+{
     for place in 0..graph.arc_count() {
         let arc = A::from_place(place).unwrap();
         let (tail, head) = graph.ends(arc);
         other.add_arc(head, tail).map_err(for_memory)?;
     }
-    Ok(other)
+    Ok(())
 }
 
 /// Why a digraph that is not full was not added to.

@@ -1,11 +1,10 @@
 -- The preferred orientation, and the peerings that it is given.
 -- Each law is proved as the contract of a function in src/laws/preference.rt.
-use Rattle.std.specs.Prelude.{◌≢◌, ℕ, ◌<◌, ◌≤◌, List, min, max, ◌*◌, All, Contains}
+use Rattle.std.specs.Prelude.{ℕ, List, All, Contains}
 use Rattle.relationships.specs.declared.label.End.{End}
-use Rattle.relationships.specs.declared.label.Label.{Label}
 use Rattle.relationships.specs.Relationship.{Orientation, Labelling, labels_of, ValleyFree, Serves}
-use Rattle.relationships.specs.Graph.{Edge, edges, support}
-use Rattle.relationships.specs.Preference.{IsPreferred, IsRelabelled, with_peer}
+use Rattle.relationships.specs.Graph.{Edge, edges}
+use Rattle.relationships.specs.Preference.{IsPreferred, IsRelabelled, NoneLeftOut}
 use Rattle.relationships.specs.Selection.{IsServable}
 
 -- where some orientation serves, the preferred one does
@@ -26,6 +25,4 @@ abbrev pub MaximalLaw : Type 0
 MaximalLaw =
     (degree : ℕ → ℕ) (ratio : ℕ) (kept : List (List ℕ)) (es : List Edge) (O : Orientation) (last : Labelling) →
     IsRelabelled degree ratio kept es (labels_of O) last → ((e : Edge) → Contains (edges kept) e → Contains es e) →
-    (e : Edge) → Contains es e → last e.0 e.1 ≢ Label.Peer → 0 < support kept e →
-    max (degree e.0) (degree e.1) ≤ ratio * min (degree e.0) (degree e.1) →
-    All (ValleyFree (with_peer last e)) kept → ⊥
+    NoneLeftOut degree ratio kept es last

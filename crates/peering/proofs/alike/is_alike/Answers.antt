@@ -1,7 +1,8 @@
 use Rattle.std.proofs.Common.{◌≡◌, ◌≤◌, ◌*◌, ◌↔◌, max, min, IsTrue, sym, ◌∙◌, subst, arith}
 use Rattle.std.proofs.lemmas.Option.{slice_get-get_or}
 use Rattle.relationships.specs.Graph.{Edge, edges, degree}
-use Rattle.peering.specs.Peerings.{edge_at, IsAlike}
+use Rattle.relationships.specs.Preference.{IsAlike}
+use Rattle.peering.specs.Peerings.{edge_at}
 use Rattle.peering.proofs.Reading.{some_same, degree_small}
 use Rattle.peering.proofs.alike.is_alike.Goals as goal
 

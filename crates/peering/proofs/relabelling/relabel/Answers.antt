@@ -80,11 +80,11 @@ returns-clause-relabelled c =
     (λ f at. edge_among paths c.args.kept.now f c.requires.there at) c.loop-place.place (labelling (edges paths) c.loop-place.labels) all c.loop-place.invariant.so_far
 
 pub returns-clause-either_way : goal.returns-clause-either_way
-returns-clause-either_way c = λ O agrees.
-    peering_law (labelling (edges c.args.graph.now) c.loop-place.labels) O (paths_at c.args.graph.now c.args.kept.now) agrees c.loop-place.invariant.so_far.free
+returns-clause-either_way c =
+    peering_law (labelling (edges c.args.graph.now) c.loop-place.labels) (paths_at c.args.graph.now c.args.kept.now) c.loop-place.invariant.so_far.free
 
 pub returns-clause-none_left_out : goal.returns-clause-none_left_out
-returns-clause-none_left_out c = λ k d lt not_peer held alike free.
+returns-clause-none_left_out c =
     let paths = c.args.graph.now in
     maximal_law (degree paths) c.args.ratio (paths_at paths c.args.kept.now) (edges paths) (orientation (edges paths) c.args.orientation.now) (labelling (edges paths) c.loop-place.labels)
-    (returns-clause-relabelled c) (λ f at. edge_among paths c.args.kept.now f c.requires.there at) (get_or (edges paths) k d) (Contains-get_or (edges paths) k d lt) not_peer held alike free
+    (returns-clause-relabelled c) (λ f at. edge_among paths c.args.kept.now f c.requires.there at)

@@ -30,13 +30,13 @@ returns-clause-inferred c =
     let graph = c.args.graph.now in
     let ratio = c.args.ratio in
     let fates = c.in_ok-selection.selection.fates in
-    let places = c.in_ok-selection.selection.selector.formula.paths in
+    let f = c.in_ok-selection.selection.selector.formula in
     let e = c.in_ok-selection.ensures in
     let found = c.in_ok-found.found in
     let are = c.in_ok-found.ensures in
     subst (λ (fs : List Fate). AreInferred ratio graph (record { fates = fs; found = found })) (sym c.into_fates.ensures)
     (record {
-      inferred = inferred ratio graph (map walk_of fates) places e.kept found are e.keeps e.lost;
-      either_way = either_way ratio graph (map walk_of fates) places e.kept found are;
-      none_left_out = none_left_out ratio graph (map walk_of fates) places e.kept found are;
+      inferred = inferred ratio graph (map walk_of fates) f e.kept found are e.keeps e.lost;
+      either_way = either_way ratio graph (map walk_of fates) f e.kept found are;
+      none_left_out = none_left_out ratio graph (map walk_of fates) f e.kept found are;
     })

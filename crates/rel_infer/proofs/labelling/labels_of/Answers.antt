@@ -3,19 +3,19 @@ use Rattle.std.proofs.lemmas.Result.{IfOk-weaker}
 use Rattle.relationships.specs.declared.label.Label.{Label}
 use Rattle.relationships.specs.Relationship.{ValleyFree, Serves}
 use Rattle.relationships.specs.Graph.{Edge, edges, labelling, orientation, degree}
+use Rattle.relationships.specs.Preference.{ServeEitherWay, NoneLeftOut}
 use Rattle.relationships.specs.Selection.{IsServable}
 use Rattle.tor_arena.specs.Distinct.{AllDistinct}
 use Rattle.as_graph.specs.Paths.{paths_at}
 use Rattle.gao_prefs.specs.declared.preferring.Pref.{Pref}
 use Rattle.gao_prefs.specs.Preferences.{edges_of}
-use Rattle.tor_clauses.specs.Formulas.{Formula}
-use Rattle.peering.specs.Peerings.{ServeEitherWay, NoneLeftOut}
+use Rattle.tor_clauses.specs.Formulas.{Formula, demands_of}
 use Rattle.rel_infer.proofs.Labels.{labels_from}
 use Rattle.rel_infer.proofs.labelling.labels_of.Goals as goal
 
 pub orient-requires-clause-servable : goal.orient-requires-clause-servable
 orient-requires-clause-servable c =
-    subst (λ (f : Formula). IsServable (paths_at c.args.graph.now f.paths)) (sym c.clauses.ensures)
+    subst (λ (f : Formula). IsServable (demands_of c.args.graph.now f)) (sym c.clauses.ensures)
     (c.kept-kept.ensures.served c.args.graph.now c.facts.ensures.apart c.requires.fits)
 
 pub orient-requires-clause-each : goal.orient-requires-clause-each

@@ -1,24 +1,8 @@
-use Rattle.std.proofs.Common.{◌≡◌, inl, inr, subst, arith}
-use Rattle.std.specs.Prelude.{IfSome}
-use Rattle.std.proofs.lemmas.Bool.{cases_lt}
+use Rattle.std.proofs.Common.{subst}
 use Rattle.tor_digraph.specs.Closing.{Has}
-use Rattle.tor_digraph.proofs.Gets.{has-from_Contains, Contains-from_has}
-use Rattle.tor_components.proofs.Orders.{grown-old}
+use Rattle.tor_digraph.proofs.Gets.{Contains-from_has}
 use Rattle.tor_components.proofs.strong.closing_order.Goals as goal
-
-pub loop-place-preserved : goal.loop-place-preserved
-loop-place-preserved g c = record {
-  searched = c.in_ok-reach_more.ensures.searched;
-  all = λ x lt. elim (cases_lt (g.N.Index.place_of x) c.loop-place.place) [
-    | inl less ↦ grown-old c.args.graph.now.arcs c.unwrap-node.result c.loop-place.reached.nodes c.reach_more.new.reached.nodes x c.in_ok-reach_more.ensures.grown (c.loop-place.invariant.all x less)
-    | inr le ↦ (let e : g.N.Index.place_of c.unwrap-node.result ≡ c.loop-place.place =
-        subst (λ o. IfSome o (λ i. g.N.Index.place_of i ≡ c.loop-place.place)) c.unwrap-node.ensures c.from_place.ensures.some in
-        let same : g.N.Index.place_of c.unwrap-node.result ≡ g.N.Index.place_of x = omega arith in
-        subst (λ z. Has c.reach_more.new.reached.nodes z) (g.met.N.Index.is_one c.unwrap-node.result x same)
-        (has-from_Contains c.reach_more.new.reached.nodes c.unwrap-node.result c.in_ok-reach_more.ensures.grown.has_start))
-  ];
-}
 
 pub returns-clause-inside : goal.returns-clause-inside
 returns-clause-inside g c = λ x h.
-    c.loop-place.invariant.searched.inside x (Contains-from_has c.loop-place.reached.nodes x (subst (λ z. Has z x) c.into_nodes.ensures.nodes h))
+    c.in_ok-reach_each.ensures.searched.inside x (Contains-from_has c.reach_each.new.reached.nodes x (subst (λ z. Has z x) c.into_nodes.ensures.nodes h))

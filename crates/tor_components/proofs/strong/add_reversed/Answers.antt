@@ -1,13 +1,13 @@
 use Rattle.std.proofs.Common.{◌≡◌, length, subst, arith}
 use Rattle.std.specs.Prelude.{IfSome}
 use Rattle.tor_components.proofs.Orders.{ok-before, reversed-more, reversed-done}
-use Rattle.tor_components.proofs.strong.reversed.Goals as goal
+use Rattle.tor_components.proofs.strong.add_reversed.Goals as goal
 
 pub loop-place-preserved : goal.loop-place-preserved
 loop-place-preserved g c =
     let at : g.A.Index.place_of c.unwrap-arc.result ≡ c.loop-place.place = subst (λ o. IfSome o (λ i. g.A.Index.place_of i ≡ c.loop-place.place)) c.unwrap-arc.ensures c.from_place.ensures.some in
     reversed-more c.args.graph.now c.loop-place.other c.add_arc.new.self c.loop-place.place c.ends-tail.result.0 c.ends-tail.result.1 c.loop-place.invariant
-    (ok-before c.add_arc.result c.map_err-in-loop-place.result c.in_ok-map_err-2.field-0 c.map_err-in-loop-place.ensures.variant c.in_ok-map_err-2.was c.add_arc.ensures.added)
+    (ok-before c.add_arc.result c.map_err.result c.in_ok-map_err.field-0 c.map_err.ensures.variant c.in_ok-map_err.was c.add_arc.ensures.added)
     (g.A.Index.place_of c.unwrap-arc.result) at c.ends-tail.ensures.arc
 
 pub returns : goal.returns

@@ -1,7 +1,7 @@
 use Rattle.std.proofs.Common.{◌<◌}
 use Rattle.tor_digraph.specs.Closing.{Has}
 use Rattle.tor_digraph.specs.Reached.{IsSearched}
-use Rattle.tor_components.proofs.strong.closing_order.Given as goal
+use Rattle.tor_components.proofs.strong.reach_each.Given as goal
 
 abbrev pub invariant-loop-place : goal.invariant-loop-place
 invariant-loop-place g l = record {
