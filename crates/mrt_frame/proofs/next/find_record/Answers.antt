@@ -1,6 +1,7 @@
-use Rattle.std.proofs.Common.{length, ◌≤◌, ◌+◌, ◌^◌, IfSome, arith, rules, false, refl, ◌≡◌, sym, ap, subst, ◌∙◌}
+use Rattle.std.proofs.Common.{length, ◌≤◌, ◌+◌, IfSome, arith, rules, false, refl, ◌≡◌, sym, ap, subst, ◌∙◌}
 use Rattle.std.specs.Prelude.{IfNone}
 use Rattle.record_counts.specs.Counting.{with_more}
+use Rattle.mrt_frame.specs.Limits.{max_file}
 use Rattle.mrt_frame.specs.Records.{Ends, Well, behind, next_of}
 use Rattle.mrt_frame.specs.Frames.{record_as}
 use Rattle.mrt_frame.proofs.CountLemmas.{counted_one, counted_end}
@@ -13,57 +14,65 @@ pub records-preserved : goal.records-preserved
 records-preserved g c =
     let shelf = g.H.Shelf in
     let at = c.records.at in
-    let header = c.in-Some.header in
-    let mid = shelf.left c.read_header.new.shelf in
+    let header = c.in-Ok-Some.header in
+    let mid = shelf.left c.count_header.new.shelf in
+    let e = c.in-Ok-Some.ensures in
+    let is = c.in-Ok-Some.field-0-is in
     let taken : IfSome (shelf.left c.records.shelf) (λ octets. TakesHeader at octets header mid) =
-    subst (λ o. IfSome o (λ h. IfSome (shelf.left c.records.shelf) (λ octets. TakesHeader at octets h mid))) c.in-Some.is c.in_ok-header.ensures.header in
-    let within : at.offset + 12 + header.len ≤ 2 ^ 40 = subst (λ o. IfSome o (λ h. at.offset + 12 + h.len ≤ 2 ^ 40)) c.in-Some.is c.in_ok-header.ensures.within in
-    let counts_are : c.add.new.self ≡ with_more (record { kind = header.kind; subtype = header.subtype }) 1 c.records.counts =
-    c.in_ok-add.ensures.ok ∙ ap (λ t. with_more t 1 c.records.counts) c.record_type.ensures in
+    subst (λ o. IfSome o (λ h. IfSome (shelf.left c.records.shelf) (λ octets. TakesHeader at octets h mid))) is e.header in
+    let within : at.offset + 12 + header.len ≤ max_file = subst (λ o. IfSome o (λ h. at.offset + 12 + h.len ≤ max_file)) is e.within in
+    let counts_are : c.count_header.new.counts ≡ with_more (record { kind = header.kind; subtype = header.subtype }) 1 c.records.counts =
+    subst (λ o. IfSome o (λ h. c.count_header.new.counts ≡ with_more (record { kind = h.kind; subtype = h.subtype }) 1 c.records.counts)) is e.counted in
     let unread : is_read header.kind header.subtype ≡ false = search rules in
+    let passed = c.in-Ok-pass_body.ensures in
     record {
-      files = c.in_ok-pass_body.ensures.files ∙ c.in_ok-header.ensures.files ∙ c.records.invariant.files;
+      files = passed.files ∙ e.files ∙ c.records.invariant.files;
       passed = passed_one (shelf.left c.args.shelf.now) (shelf.left c.records.shelf) mid (shelf.left c.pass_body.new.shelf) c.args.start at c.behind-at.result header
-          c.records.invariant.passed taken c.in_ok-pass_body.ensures.skipped unread c.behind-at.ensures.number c.behind-at.ensures.offset;
+          c.records.invariant.passed taken passed.skipped unread c.behind-at.ensures.number c.behind-at.ensures.offset;
       counted = counted_one (shelf.left c.args.shelf.now) (shelf.left c.records.shelf) mid (shelf.left c.pass_body.new.shelf) c.args.start at c.behind-at.result header
-          c.args.counts.now c.records.counts c.add.new.self c.records.invariant.passed c.records.invariant.counted taken c.in_ok-pass_body.ensures.skipped
+          c.args.counts.now c.records.counts c.count_header.new.counts c.records.invariant.passed c.records.invariant.counted taken passed.skipped
           counts_are c.behind-at.ensures.number c.behind-at.ensures.offset;
       onward = omega (arith, c.records.invariant.onward, c.behind-at.ensures.offset);
       numbered = omega (arith, c.records.invariant.numbered, c.behind-at.ensures.number, c.behind-at.ensures.offset);
       near = omega (arith, within, c.behind-at.ensures.offset);
-      quiet = c.in_ok-pass_body.ensures.quiet tt ∙ c.in_ok-header.ensures.quiet tt ∙ c.records.invariant.quiet;
-      steady = λ s. c.in_ok-pass_body.ensures.steady (c.in_ok-header.ensures.steady (c.records.invariant.steady s));
+      quiet = passed.quiet tt ∙ e.quiet tt ∙ c.records.invariant.quiet;
+      steady = λ s. passed.steady (e.steady (c.records.invariant.steady s));
     }
 
-pub returns-in-Some-record_kind-clause-record : goal.returns-in-Some-record_kind-clause-record
-returns-in-Some-record_kind-clause-record g c =
+pub returns-in-Ok-clause-record : goal.returns-in-Ok-clause-record
+returns-in-Ok-clause-record g c =
     let left = g.H.Shelf.left in
     let at = c.records.at in
-    let header = c.in-Some.header in
-    let mid = left c.read_header.new.shelf in
+    let header = c.in-Ok-Some.header in
+    let mid = left c.count_header.new.shelf in
     let taken : IfSome (left c.records.shelf) (λ octets. TakesHeader at octets header mid) =
-    subst (λ o. IfSome o (λ h. IfSome (left c.records.shelf) (λ octets. TakesHeader at octets h mid))) c.in-Some.is c.in_ok-header.ensures.header in
-    finds (left c.args.shelf.now) (left c.records.shelf) mid (left c.read_body.new.shelf) c.args.start at header c.in-Some-record_kind.kind c.read_body.new.body.items
-    c.records.invariant.passed taken c.in_ok-read_body.ensures.skipped c.in_ok-read_body.ensures.taken (sym c.in-Some-record_kind.ensures)
+    subst (λ o. IfSome o (λ h. IfSome (left c.records.shelf) (λ octets. TakesHeader at octets h mid))) c.in-Ok-Some.field-0-is c.in-Ok-Some.ensures.header in
+    finds (left c.args.shelf.now) (left c.records.shelf) mid (left c.read_body.new.shelf) c.args.start at header c.in-Some.kind c.read_body.new.body.items
+    c.records.invariant.passed taken c.in-Ok.ensures.skipped c.in-Ok.ensures.taken (sym c.in-Some.ensures)
 
-pub returns-in-Some-record_kind-clause-counted : goal.returns-in-Some-record_kind-clause-counted
-returns-in-Some-record_kind-clause-counted g c =
+pub returns-in-Ok-clause-counted : goal.returns-in-Ok-clause-counted
+returns-in-Ok-clause-counted g c =
     let left = g.H.Shelf.left in
     let at = c.records.at in
-    let header = c.in-Some.header in
-    let mid = left c.read_header.new.shelf in
+    let header = c.in-Ok-Some.header in
+    let mid = left c.count_header.new.shelf in
+    let e = c.in-Ok-Some.ensures in
+    let is = c.in-Ok-Some.field-0-is in
     let taken : IfSome (left c.records.shelf) (λ octets. TakesHeader at octets header mid) =
-    subst (λ o. IfSome o (λ h. IfSome (left c.records.shelf) (λ octets. TakesHeader at octets h mid))) c.in-Some.is c.in_ok-header.ensures.header in
-    let counts_are : c.add.new.self ≡ with_more (record { kind = header.kind; subtype = header.subtype }) 1 c.records.counts =
-    c.in_ok-add.ensures.ok ∙ ap (λ t. with_more t 1 c.records.counts) c.record_type.ensures in
+    subst (λ o. IfSome o (λ h. IfSome (left c.records.shelf) (λ octets. TakesHeader at octets h mid))) is e.header in
+    let counts_are : c.count_header.new.counts ≡ with_more (record { kind = header.kind; subtype = header.subtype }) 1 c.records.counts =
+    subst (λ o. IfSome o (λ h. c.count_header.new.counts ≡ with_more (record { kind = h.kind; subtype = h.subtype }) 1 c.records.counts)) is e.counted in
     let len : length c.read_body.new.body.items ≡ header.len = search rules in
-    counted_one (left c.args.shelf.now) (left c.records.shelf) mid (left c.read_body.new.shelf) c.args.start at (behind (record_as at c.in-Some-record_kind.kind c.read_body.new.body.items)) header
-    c.args.counts.now c.records.counts c.add.new.self c.records.invariant.passed c.records.invariant.counted taken c.in_ok-read_body.ensures.skipped counts_are
+    counted_one (left c.args.shelf.now) (left c.records.shelf) mid (left c.read_body.new.shelf) c.args.start at (behind (record_as at c.in-Some.kind c.read_body.new.body.items)) header
+    c.args.counts.now c.records.counts c.count_header.new.counts c.records.invariant.passed c.records.invariant.counted taken c.in-Ok.ensures.skipped counts_are
     refl (ap (λ n. at.offset + 12 + n) len)
 
-pub returns-clause-counted_all : goal.returns-clause-counted_all
-returns-clause-counted_all g c =
+pub returns-in-Ok-None-clause-counted_all : goal.returns-in-Ok-None-clause-counted_all
+returns-in-Ok-None-clause-counted_all g c =
     let left = g.H.Shelf.left in
+    let e = c.in-Ok-None.ensures in
+    let is = c.in-Ok-None.field-0-is in
     let ends : IfSome (left c.records.shelf) (λ octets. next_of c.records.at octets ≡ Ends Well) =
-    subst (λ o. IfNone o (IfSome (left c.records.shelf) (λ octets. next_of c.records.at octets ≡ Ends Well))) c.in_default.is c.in_ok-header.ensures.end in
-    counted_end (left c.args.shelf.now) (left c.records.shelf) c.args.start c.records.at c.args.counts.now c.records.counts c.records.invariant.passed c.records.invariant.counted ends
+    subst (λ o. IfNone o (IfSome (left c.records.shelf) (λ octets. next_of c.records.at octets ≡ Ends Well))) is e.end in
+    let same : c.count_header.new.counts ≡ c.records.counts = subst (λ o. IfNone o (c.count_header.new.counts ≡ c.records.counts)) is e.same in
+    rw same (counted_end (left c.args.shelf.now) (left c.records.shelf) c.args.start c.records.at c.args.counts.now c.records.counts c.records.invariant.passed c.records.invariant.counted ends)
