@@ -4,13 +4,13 @@ use Rattle.std.proofs.lemmas.Bool.{cases_Bool, ne_eqb}
 use Rattle.std.proofs.lemmas.List.Sums.{sum_by_push, count_by-le-length}
 use Rattle.std.proofs.lemmas.List.Elements.{All-push}
 use Rattle.relationships.specs.Graph.{Edge}
-use Rattle.as_graph.specs.Inside.{holds, count_of, CountsOneMore, AreGraphEdges}
+use Rattle.as_graph.specs.Inside.{is_incident, count_at, CountsOneMore, AreGraphEdges}
 
-pub counted_few : (es : List Edge) (counts : List (ℕ × ℕ)) (a : ℕ) → AreGraphEdges es counts → count_of counts a ≤ length es
-counted_few es counts a h = let e = h.degrees a in let le = count_by-le-length (holds a) es in omega (arith, e, le)
+pub counted_few : (es : List Edge) (counts : List (ℕ × ℕ)) (a : ℕ) → AreGraphEdges es counts → count_at counts a ≤ length es
+counted_few es counts a h = let e = h.degrees a in let le = count_by-le-length (is_incident a) es in omega (arith, e, le)
 
 -- an edge more has two ends more
-ends_of : (a low high : ℕ) → low < high → (if nat_eq low a then 1 else 0) + (if nat_eq high a then 1 else 0) ≡ cond (holds a (low, high)) 1 0
+ends_of : (a low high : ℕ) → low < high → (if nat_eq low a then 1 else 0) + (if nat_eq high a then 1 else 0) ≡ cond (is_incident a (low, high)) 1 0
 ends_of a low high lt =
     elim (cases_Bool (nat_eq low a)) [
       | inl t ↦ let apart : nat_eq high a ≡ false = ne_eqb high a (λ e. let s : low ≡ a = eqb-true low a t in omega arith) in rw (t, apart)
@@ -23,7 +23,7 @@ AreGraphEdges-push es counts once twice low high h lt room first second = record
   ordered = All-push (λ (e : Edge). e.0 < e.1) es (low, high) h.ordered lt;
   few = let n = length-append es ((low, high) ∷ []) in omega (arith, n, room);
   degrees = λ a.
-      let c = sum_by_push (λ e. cond (holds a e) 1 0) es (low, high) in
+      let c = sum_by_push (λ e. cond (is_incident a e) 1 0) es (low, high) in
       let e = h.degrees a in
       let f = first a in
       let s = second a in

@@ -16,20 +16,20 @@ use Rattle.as_graph.specs.Steps.{HaveSteps}
 
 -- ---- edges and degrees
 
-abbrev pub holds : ℕ → Edge → Bool
-holds a e = (e.0 == a) || (e.1 == a)
+abbrev pub is_incident : ℕ → Edge → Bool
+is_incident a e = (e.0 == a) || (e.1 == a)
 
 -- what is counted for an AS
-abbrev pub count_of : List (ℕ × ℕ) → ℕ → ℕ
-count_of counts a = unwrap_or (lookup (nat_eq a) counts) 0
+abbrev pub count_at : List (ℕ × ℕ) → ℕ → ℕ
+count_at counts a = unwrap_or (lookup (nat_eq a) counts) 0
 
 -- the counts are how many of the edges hold each AS
 abbrev pub AreDegrees : List Edge → List (ℕ × ℕ) → Type 0
-AreDegrees es counts = (a : ℕ) → count_of counts a ≡ count_by (holds a) es
+AreDegrees es counts = (a : ℕ) → count_at counts a ≡ count_by (is_incident a) es
 
 -- one more is counted for this AS, and none for any other
 abbrev pub CountsOneMore : List (ℕ × ℕ) → ℕ → List (ℕ × ℕ) → Type 0
-CountsOneMore counts end more = (a : ℕ) → count_of more a ≡ count_of counts a + (if nat_eq end a then 1 else 0)
+CountsOneMore counts end more = (a : ℕ) → count_at more a ≡ count_at counts a + (if nat_eq end a then 1 else 0)
 
 -- each edge has its lower number first, and there are few enough to be numbered
 pub record AreGraphEdges (es : List Edge) (counts : List (ℕ × ℕ)) : Type 0 where

@@ -8,10 +8,6 @@ use Rattle.relationships.specs.Steps as steps
 use Rattle.relationships.specs.Steps.{IsStepAlong, AreStepsBehind, AreStepsAlong, HaveStepsAlong, slopes_along}
 use Rattle.as_graph.specs.declared.step.Step.{Step}
 
--- the end of its edge from which a step from a to b goes
-abbrev pub end_left : ℕ → ℕ → End
-end_left = steps.end_left
-
 -- the step goes from a to b, where these are the edges
 abbrev pub IsStep : List Edge → ℕ → ℕ → Step → Type 0
 IsStep = IsStepAlong (λ (step : Step). step.edge) (λ (step : Step). step.left)

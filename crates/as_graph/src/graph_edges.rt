@@ -5,7 +5,7 @@ ghost use Rattle.tor_arena.specs.Limits.{max_numbers};
 ghost use Rattle.indexmap.specs.IndexMap.{spare};
 ghost use Rattle.relationships.specs.Graph.{edge_of, is_same};
 ghost use Rattle.tor_numbers.specs.Edges.{with_edge};
-ghost use Rattle.as_graph.specs.Inside.{holds, count_of, CountsOneMore};
+ghost use Rattle.as_graph.specs.Inside.{is_incident, count_at, CountsOneMore};
 
 use indexmap::IndexMap;
 use std::alloc::Global;
@@ -71,7 +71,7 @@ impl GraphEdges {
 
     /// How many of the edges have an end. It takes no memory.
     pub fn degree(&self, end: u32) -> u64
-        ensures { result ≡ count_by (holds end) self.now }
+        ensures { result ≡ count_by (is_incident end) self.now }
     {
         self.counts.get(&end).copied().unwrap_or(0) as u64
     }
@@ -99,7 +99,7 @@ impl GraphEdges {
 /// Counts one more edge with this end, for which there is room.
 fn count_end(counts: &mut IndexMap<u32, u32, Keys>, end: u32)
     requires room { 0 < spare counts.old }
-    requires few { count_of counts.old.entries end ≤ max_numbers }
+    requires few { count_at counts.old.entries end ≤ max_numbers }
     ensures counted { CountsOneMore counts.old.entries end counts.new.entries }
     ensures spare { spare counts.old ≤ spare counts.new + 1 }
 {

@@ -3,13 +3,13 @@ use Rattle.std.proofs.Common.{◌≡◌, ◌∙◌, ◌+◌, ◌<◌, ◌≤◌,
 use Rattle.std.specs.Prelude.{is_some, OnOk}
 use Rattle.std.proofs.lemmas.List.{length-append, length-map}
 use Rattle.std.proofs.Math.ListN.{drop_of_length-le}
+use Rattle.tor_arena.specs.Growth.{one_more}
 use Rattle.tor_arena.specs.Limits.{most_places}
 use Rattle.path_clean.specs.declared.cleaned.Sets.{Sets}
 use Rattle.path_clean.specs.declared.cleaned.Cause.{Cause}
 use Rattle.path_clean.specs.declared.cleaned.Cleaned.{Cleaned}
 use Rattle.path_clean.specs.declared.cleaned.Cleaned.TheVariants.{Path, Aside}
 use Rattle.path_clean.specs.Clean.{clean_of, cleaned_as}
-use Rattle.path_clean.specs.Counts.{one_more}
 use Rattle.path_clean.specs.Lookups.{StandWhereFound}
 use Rattle.path_clean.specs.Paths.{is_cleaned}
 use Rattle.path_clean.specs.Rows.{Counted, Table}
@@ -19,7 +19,7 @@ use Rattle.dump_read.specs.declared.error.LimitKind.{LimitKind}
 use Rattle.dump_read.specs.declared.error.LimitKind.TheVariants.{Paths, Numbers}
 use Rattle.dump_read.specs.Routes.{Route}
 use Rattle.dump_read.specs.declared.taking.Untaken.{Untaken}
-use Rattle.dump_read.specs.Batches.{AreFound, AreOf, Batched, cleaned_by, IsBatch, IsLimitAt, TakesAt}
+use Rattle.dump_read.specs.Batches.{StandAtPlaces, AreOf, Batched, cleaned_by, IsBatch, IsLimitAt, TakesAt}
 use Rattle.dump_read.specs.Refusals.{IsLimit}
 use Rattle.dump_read.specs.Taking.{Taken, take_cleaned, take_path, take_routes, Takes, with_one, has_too_many_numbers}
 use Rattle.dump_read.proofs.Takings.{SoFar, one_more as one_route_more, limit_at, all_taken}
@@ -136,7 +136,7 @@ stays-in taken new path is p k at =
     by false false true is = absurd cc
     by false false false is = stays is
 
-AreFound-taken : (batch : Batched) (old new : Taken) (route : Cleaned) → AreFound old.table.rows batch → take_cleaned old route ≡ Ok new → AreFound new.table.rows batch
+AreFound-taken : (batch : Batched) (old new : Taken) (route : Cleaned) → StandAtPlaces old.table.rows batch → take_cleaned old route ≡ Ok new → StandAtPlaces new.table.rows batch
 AreFound-taken batch old new (Path path) found is = λ k id p at route. stays-in old new path is p id (found k id p at route)
 AreFound-taken batch old new (Aside cause) found is =
     let same : old.table ≡ new.table = ap table_of is in
@@ -152,11 +152,11 @@ stands-at [] k lt = absurd (omega (arith, lt))
 stands-at (route ∷ routes) zero lt = (route, refl)
 stands-at (route ∷ routes) (suc k) lt = stands-at routes k (omega (arith, lt))
 
-pub AreFound-at : (batch : Batched) (k : ℕ) (old new : Taken) → k < length batch.routes → AreFound old.table.rows batch → TakesAt batch k old new → AreFound new.table.rows batch
+pub AreFound-at : (batch : Batched) (k : ℕ) (old new : Taken) → k < length batch.routes → StandAtPlaces old.table.rows batch → TakesAt batch k old new → StandAtPlaces new.table.rows batch
 AreFound-at batch k old new lt found takes = let route = stands-at batch.routes k lt in AreFound-taken batch old new route.0 found (takes route.0 route.1)
 
 pub AreFound-each : (rows : List Counted) (causes : List (Option Cause)) (paths : List (List ℕ)) (places : List (Option ℕ)) → length causes ≡ length paths → StandWhereFound rows paths places
-    → AreFound rows (record { routes = cleaned_by causes paths; places = places })
+    → StandAtPlaces rows (record { routes = cleaned_by causes paths; places = places })
 AreFound-each rows causes paths places same right = λ k id path at route. right k id path at (its_path causes paths k path route)
   where
     its_path : (causes : List (Option Cause)) (paths : List (List ℕ)) (k : ℕ) (path : List ℕ) → slice_get (cleaned_by causes paths) k ≡ Some (Path path) → slice_get paths k ≡ Some path

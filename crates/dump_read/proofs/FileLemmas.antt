@@ -11,13 +11,13 @@ use Rattle.mrt_frame.specs.declared.header.At.{At}
 use Rattle.mrt_frame.specs.declared.record_kind.RecordKind.{RecordKind}
 use Rattle.mrt_frame.specs.Counting.{with_records, records_in, CountsOn, CountsAll}
 use Rattle.mrt_frame.specs.Kinds.{kind_of}
-use Rattle.mrt_frame.specs.Records.{Record, Cut, Well, behind, onto, cut, cut_from, start}
+use Rattle.mrt_frame.specs.Records.{Record, Cut, Well, place_behind, onto, cut, cut_from, start}
 use Rattle.mrt_frame.specs.Frames.{Passes, FindsNext, StopsWith}
 use Rattle.mrt_frame.proofs.Cuts.{any_fuel, cut_onto, cut_ends}
 use Rattle.mrt_frame.proofs.Passing.{NoneIsRead, with_before, passes_over}
 use Rattle.dump_read.specs.Files.{FileCounts, file_counts, with_file, listed_in, peers_listed, many, with_one}
 use Rattle.dump_read.specs.Routes.{Route, routes_of, peers_behind}
-use Rattle.dump_read.specs.Reading.{Reading, end_of, onto as reading_onto, reading_from, file_reading}
+use Rattle.dump_read.specs.Reading.{Reading, file_end, routes_onto as reading_onto, reading_from, file_reading}
 use Rattle.dump_read.proofs.Goings.{at_end, skipped, through}
 
 -- ---- sums that stop
@@ -100,13 +100,13 @@ recounted file counts = record file { records = counts }
 
 -- one record that is read, and those that were passed over before it
 pub counted_one : (left₀ left left' : Option (List ℕ)) (at : At) (peers peers' : Option ℕ) (r : Record) (file new : FileCounts) (counts : Counts) (routes : List Route)
-    → CountsOf left₀ left at peers file → IfSome left (λ octets. FindsNext at octets r left') → CountsOn left at file.records left' (behind r) counts
-    → routes_of peers r ≡ Ok routes → peers' ≡ peers_behind peers r → new ≡ with_one peers r (recounted file counts) → CountsOf left₀ left' (behind r) peers' new
+    → CountsOf left₀ left at peers file → IfSome left (λ octets. FindsNext at octets r left') → CountsOn left at file.records left' (place_behind r) counts
+    → routes_of peers r ≡ Ok routes → peers' ≡ peers_behind peers r → new ≡ with_one peers r (recounted file counts) → CountsOf left₀ left' (place_behind r) peers' new
 counted_one None left left' at peers peers' r file new counts routes so_far finds on read after is = tt
 counted_one (Some octets) left left' at peers peers' r file new counts routes so_far finds on read after is =
     let f : FindsNext at so_far.rest r left' = subst (λ o. IfSome o (λ b. FindsNext at b r left')) so_far.is_left finds in
     let p = passed_to at so_far.rest r.at f.reached f.passes in
-    let more = cut_from (behind r) f.rest in
+    let more = cut_from (place_behind r) f.rest in
     let whole : cut_from at so_far.rest ≡ with_before p.records (onto r more) = p.same ∙ ap (with_before p.records) (cut_onto r.at f.reached r f.rest f.stands) in
     let sum : sum_by peers_listed (cut_from at so_far.rest).records ≡ peers_listed r + sum_by peers_listed more.records =
     ap (λ c. sum_by peers_listed c.records) whole ∙ none_listed p.records (r ∷ more.records) p.none ∙ sum_by-cons peers_listed r more.records in
@@ -114,9 +114,9 @@ counted_one (Some octets) left left' at peers peers' r file new counts routes so
     let reading : reading_from peers (cut_from at so_far.rest) ≡ record { routes = routes ++ further.routes; end = further.end } =
     ap (reading_from peers) whole ∙ all_skipped peers p.records (onto r more) p.none ∙ through peers r more ∙ ap (λ x. reading_onto r.at x further) read in
     let gained : many (routes_of peers r) ≡ length routes = ap many read in
-    let on_left : CountsOn (Some so_far.rest) at file.records (Some f.rest) (behind r) counts =
-    subst (λ o. CountsOn (Some so_far.rest) at file.records o (behind r) counts) f.leaves (subst (λ o. CountsOn o at file.records left' (behind r) counts) so_far.is_left on) in
-    subst (λ (x : FileCounts). CountsSoFar octets left' (behind r) peers' x) (sym is) (record {
+    let on_left : CountsOn (Some so_far.rest) at file.records (Some f.rest) (place_behind r) counts =
+    subst (λ o. CountsOn (Some so_far.rest) at file.records o (place_behind r) counts) f.leaves (subst (λ o. CountsOn o at file.records left' (place_behind r) counts) so_far.is_left on) in
+    subst (λ (x : FileCounts). CountsSoFar octets left' (place_behind r) peers' x) (sym is) (record {
       rest = f.rest;
       is_left = f.leaves;
       records = on_left ∙ so_far.records;
@@ -140,7 +140,7 @@ all_counted (Some octets) left at peers file counts so_far stops all =
     let none : Cut = record { records = []; end = Well } in
     let whole : cut_from at so_far.rest ≡ with_before p.records none = p.same ∙ ap (with_before p.records) (cut_ends s.place s.reached Well s.stands) in
     let sum : sum_by peers_listed (cut_from at so_far.rest).records ≡ 0 = ap (λ c. sum_by peers_listed c.records) whole ∙ none_listed p.records [] p.none in
-    let reading : reading_from peers (cut_from at so_far.rest) ≡ record { routes = []; end = end_of Well } =
+    let reading : reading_from peers (cut_from at so_far.rest) ≡ record { routes = []; end = file_end Well } =
     ap (reading_from peers) whole ∙ all_skipped peers p.records none p.none ∙ at_end peers Well in
     let counted : counts ≡ with_records (cut_from at so_far.rest).records file.records = subst (λ o. CountsAll o at file.records counts) so_far.is_left all in
     let listed : file.peers ≡ capped (sum_by peers_listed (cut octets).records) =

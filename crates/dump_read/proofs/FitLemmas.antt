@@ -5,15 +5,16 @@ use Rattle.std.proofs.lemmas.Bool.{and_parts, eqb-true, ltb-true, both_ways, lt-
 use Rattle.std.proofs.lemmas.List.{append-nil}
 use Rattle.std.proofs.lemmas.List.Elements.{filter_map-append}
 use Rattle.std.proofs.lemmas.List.Sums.{sum_by-cons}
+use Rattle.tor_arena.specs.Growth.{one_more}
+use Rattle.tor_arena.specs.Limits.{max_numbers}
 use Rattle.path_attrs.specs.Fields.{◌>>=◌}
 use Rattle.path_clean.specs.declared.cleaned.Sets.{Sets}
 use Rattle.path_clean.specs.declared.cleaned.Cleaned.{Cleaned}
 use Rattle.path_clean.specs.declared.cleaned.Cleaned.TheVariants.{Path, Aside}
 use Rattle.path_clean.specs.Clean.{clean_of}
-use Rattle.path_clean.specs.Counts.{counted_one, one_more}
-use Rattle.path_clean.specs.Limits.{max_numbers}
+use Rattle.path_clean.specs.Counts.{counted_one}
 use Rattle.path_clean.specs.Rows.{Counted, numbers_in}
-use Rattle.path_clean.specs.Table.{place_of, with_path, distinct, counted, times}
+use Rattle.path_clean.specs.Table.{place_of, with_path, distinct_paths, counted, times}
 use Rattle.path_clean.proofs.CountingLemmas.{counted_push}
 use Rattle.dump_read.specs.declared.error.LimitKind.{LimitKind}
 use Rattle.dump_read.specs.declared.error.LimitKind.TheVariants.{Paths, Numbers, Bytes}
@@ -31,14 +32,14 @@ record FitRows (limit : ℕ) (rows : List Counted) : Type 0 where
 
 of_rows : (limit : ℕ) (paths : List (List ℕ)) → FitRows limit (counted paths) → Fit limit paths
 of_rows limit paths fit = record {
-  paths_few = subst (λ n. n ≤ limit) (length_rows (times paths) (distinct paths)) fit.few;
-  numbers_few = subst (λ n. n ≤ max_numbers) (numbers_rows (times paths) (distinct paths)) fit.short;
+  paths_few = subst (λ n. n ≤ limit) (length_rows (times paths) (distinct_paths paths)) fit.few;
+  numbers_few = subst (λ n. n ≤ max_numbers) (numbers_rows (times paths) (distinct_paths paths)) fit.short;
 }
 
 to_rows : (limit : ℕ) (paths : List (List ℕ)) → Fit limit paths → FitRows limit (counted paths)
 to_rows limit paths fit = record {
-  few = subst (λ n. n ≤ limit) (sym (length_rows (times paths) (distinct paths))) fit.paths_few;
-  short = subst (λ n. n ≤ max_numbers) (sym (numbers_rows (times paths) (distinct paths))) fit.numbers_few;
+  few = subst (λ n. n ≤ limit) (sym (length_rows (times paths) (distinct_paths paths))) fit.paths_few;
+  short = subst (λ n. n ≤ max_numbers) (sym (numbers_rows (times paths) (distinct_paths paths))) fit.numbers_few;
 }
 
 -- ---- one path more

@@ -6,7 +6,7 @@ use Rattle.mrt_frame.specs.declared.header.At.{At}
 use Rattle.mrt_frame.specs.Kinds.{kind_of, is_read}
 use Rattle.mrt_frame.specs.declared.record_kind.RecordKind.{RecordKind}
 use Rattle.std.specs.Prelude.{is_some}
-use Rattle.mrt_frame.specs.Records.{Record, Cut, End, Well, HeadCut, TooManyBytes, Oversize, BodyCut, Ends, Holds, behind, next_of, start, cut_within}
+use Rattle.mrt_frame.specs.Records.{Record, Cut, RecordsEnd, Well, HeadCut, TooManyBytes, Oversize, BodyCut, Ends, Holds, place_behind, next_of, start, cut_within}
 use Rattle.mrt_frame.specs.declared.error.FrameError.{FrameError}
 use Rattle.mrt_frame.specs.declared.error.FrameError.TheVariants as frame
 use Rattle.mrt_frame.specs.Frames.{PassesOver, FindsNext, StopsWith, end_of_error}
@@ -24,7 +24,7 @@ use Rattle.dump_read.specs.declared.taking.Untaken.TheVariants as untaken
 use Rattle.dump_read.specs.Files.{with_file}
 use Rattle.dump_read.specs.Seen.{of_end, of_taking, of_octets, end_named}
 use Rattle.dump_read.specs.Refusals.{TakesRead, TakesSomeRead, IsUnread, of_frame, of_unread}
-use Rattle.dump_read.specs.Reading.{Reading, FileEnd, Broken, end_of, onto, reading_of, reading_from, file_reading}
+use Rattle.dump_read.specs.Reading.{Reading, FileEnd, Broken, file_end, routes_onto, reading_of, reading_from, file_reading}
 use Rattle.dump_read.specs.Taking.{Taken, take_route, take_routes, Takes, TakesSome}
 use Rattle.dump_read.proofs.Takings.{take_routes-append, no_entry}
 
@@ -50,7 +50,7 @@ starts sets (Some octets) old = record { fuel = length octets; rest = octets; pr
 -- ---- records that aren't read give nothing
 
 -- a reading from so many peers on, through one record
-pub through : (peers : Option ℕ) (r : Record) (c : Cut) → reading_from peers (record { records = r ∷ c.records; end = c.end }) ≡ onto r.at (routes_of peers r) (reading_from (peers_behind peers r) c)
+pub through : (peers : Option ℕ) (r : Record) (c : Cut) → reading_from peers (record { records = r ∷ c.records; end = c.end }) ≡ routes_onto r.at (routes_of peers r) (reading_from (peers_behind peers r) c)
 unfolding reading_of
 through peers r c = refl
 
@@ -67,7 +67,7 @@ pub skipped : (peers : Option ℕ) (r : Record) (c : Cut) → is_read r.kind r.s
     → reading_from peers (record { records = r ∷ c.records; end = c.end }) ≡ reading_from peers c
 skipped peers r c unread =
     through peers r c
-    ∙ ap (λ read. onto r.at read (reading_from (peers_behind peers r) c)) (none_in (kind_of r.kind r.subtype) peers r.body unread)
+    ∙ ap (λ read. routes_onto r.at read (reading_from (peers_behind peers r) c)) (none_in (kind_of r.kind r.subtype) peers r.body unread)
     ∙ ap (λ p. reading_from p c) (same_peers (kind_of r.kind r.subtype) peers r.body unread)
 
 -- where the records from a place on were passed over up to another, the reading is the same from there
@@ -85,11 +85,11 @@ passes_over peers [] fuel at octets place reached over le = record {
 }
 passes_over peers (r ∷ records) zero at octets place reached over le = absurd (omega (arith, shorter at octets r over.0 over.1))
 passes_over peers (r ∷ records) (suc fuel) at octets place reached over le =
-    let further = passes_over peers records fuel (behind r) over.0 place reached over.3 (omega (arith, shorter at octets r over.0 over.1)) in
+    let further = passes_over peers records fuel (place_behind r) over.0 place reached over.3 (omega (arith, shorter at octets r over.0 over.1)) in
     record {
       fuel = further.fuel;
       enough = further.enough;
-      same = ap (reading_from peers) (unrolled fuel at octets r over.0 over.1) ∙ skipped peers r (cut_within fuel (behind r) over.0) over.2 ∙ further.same;
+      same = ap (reading_from peers) (unrolled fuel at octets r over.0 over.1) ∙ skipped peers r (cut_within fuel (place_behind r) over.0) over.2 ∙ further.same;
     }
 
 -- ---- the next record
@@ -100,7 +100,7 @@ record Found (peers : Option ℕ) (whole : Reading) (r : Record) (left : Option 
   rest : List ℕ
   is_left : left ≡ Some rest
   enough : length rest ≤ fuel
-  same : whole ≡ onto r.at (routes_of peers r) (reading_from (peers_behind peers r) (cut_within fuel (behind r) rest))
+  same : whole ≡ routes_onto r.at (routes_of peers r) (reading_from (peers_behind peers r) (cut_within fuel (place_behind r) rest))
 
 found_behind : (peers : Option ℕ) (whole : Reading) (fuel : ℕ) (reached : List ℕ) (r : Record) (rest : List ℕ) (left : Option (List ℕ)) → next_of r.at reached ≡ Holds r rest → left ≡ Some rest
     → length reached ≤ fuel → whole ≡ reading_from peers (cut_within fuel r.at reached) → Found peers whole r left
@@ -110,7 +110,7 @@ found_behind peers whole (suc fuel) reached r rest left stands leaves le same = 
   rest = rest;
   is_left = leaves;
   enough = omega (arith, shorter r.at reached r rest stands);
-  same = same ∙ ap (reading_from peers) (unrolled fuel r.at reached r rest stands) ∙ through peers r (cut_within fuel (behind r) rest);
+  same = same ∙ ap (reading_from peers) (unrolled fuel r.at reached r rest stands) ∙ through peers r (cut_within fuel (place_behind r) rest);
 }
 
 found : (peers : Option ℕ) (fuel : ℕ) (at : At) (octets : List ℕ) (r : Record) (left : Option (List ℕ)) → FindsNext at octets r left → length octets ≤ fuel
@@ -120,13 +120,13 @@ found peers fuel at octets r left finds le =
     found_behind peers (reading_from peers (cut_within fuel at octets)) passed.fuel finds.reached r finds.rest left finds.stands finds.leaves passed.enough passed.same
 
 pub goes_on : (sets : Sets) (left₀ left left' : Option (List ℕ)) (at : At) (peers peers' : Option ℕ) (r : Record) (old mid new : Taken) → GoesOf sets left₀ left at peers old mid
-    → IfSome left (λ octets. FindsNext at octets r left') → TakesRead sets mid (routes_of peers r) new → peers' ≡ peers_behind peers r → GoesOf sets left₀ left' (behind r) peers' old new
+    → IfSome left (λ octets. FindsNext at octets r left') → TakesRead sets mid (routes_of peers r) new → peers' ≡ peers_behind peers r → GoesOf sets left₀ left' (place_behind r) peers' old new
 goes_on sets None left left' at peers peers' r old mid new goes finds takes after = tt
 goes_on sets (Some octets) left left' at peers peers' r old mid new goes finds takes after =
     let finds' : FindsNext at goes.rest r left' = subst (λ o. IfSome o (λ b. FindsNext at b r left')) goes.is_left finds in
     let f = found peers goes.fuel at goes.rest r left' finds' goes.enough in
-    let further = reading_from (peers_behind peers r) (cut_within f.fuel (behind r) f.rest) in
-    let same : reading_from peers (cut_within goes.fuel at goes.rest) ≡ record { routes = takes.0 ++ further.routes; end = further.end } = f.same ∙ ap (λ read. onto r.at read further) takes.1 in
+    let further = reading_from (peers_behind peers r) (cut_within f.fuel (place_behind r) f.rest) in
+    let same : reading_from peers (cut_within goes.fuel at goes.rest) ≡ record { routes = takes.0 ++ further.routes; end = further.end } = f.same ∙ ap (λ read. routes_onto r.at read further) takes.1 in
     record {
       fuel = f.fuel;
       rest = f.rest;
@@ -135,22 +135,22 @@ goes_on sets (Some octets) left left' at peers peers' r old mid new goes finds t
       enough = f.enough;
       so_far = take_routes-append sets old mid goes.prefix takes.0 goes.so_far ∙ takes.2;
       routes = goes.routes ∙ ap (λ reading. goes.prefix ++ reading.routes) same ∙ sym (append_assoc goes.prefix takes.0 further.routes)
-          ∙ ap (λ p. (goes.prefix ++ takes.0) ++ (reading_from p (cut_within f.fuel (behind r) f.rest)).routes) (sym after);
-      end = goes.end ∙ ap (λ reading. reading.end) same ∙ ap (λ p. (reading_from p (cut_within f.fuel (behind r) f.rest)).end) (sym after);
+          ∙ ap (λ p. (goes.prefix ++ takes.0) ++ (reading_from p (cut_within f.fuel (place_behind r) f.rest)).routes) (sym after);
+      end = goes.end ∙ ap (λ reading. reading.end) same ∙ ap (λ p. (reading_from p (cut_within f.fuel (place_behind r) f.rest)).end) (sym after);
     }
 
 -- ---- the end
 
-ended : (fuel : ℕ) (place : At) (reached : List ℕ) (end : End) → length reached ≤ fuel → next_of place reached ≡ Ends end → cut_within fuel place reached ≡ record { records = []; end = end }
+ended : (fuel : ℕ) (place : At) (reached : List ℕ) (end : RecordsEnd) → length reached ≤ fuel → next_of place reached ≡ Ends end → cut_within fuel place reached ≡ record { records = []; end = end }
 unfolding cut_within
 ended zero place [] end le stands = ap (λ e. record { records = []; end = e }) (well end stands)
   where
-    well : (e : End) → Ends Well ≡ Ends e → Well ≡ e
+    well : (e : RecordsEnd) → Ends Well ≡ Ends e → Well ≡ e
     well e is = cc
 ended zero place (octet ∷ octets) end le stands = absurd (omega arith)
 ended (suc fuel) place reached end le stands = ends_with fuel place reached end stands
 
-pub at_end : (peers : Option ℕ) (end : End) → reading_from peers (record { records = []; end = end }) ≡ record { routes = []; end = end_of end }
+pub at_end : (peers : Option ℕ) (end : RecordsEnd) → reading_from peers (record { records = []; end = end }) ≡ record { routes = []; end = file_end end }
 unfolding reading_of
 at_end peers end = refl
 
@@ -160,15 +160,15 @@ all_taken : (sets : Sets) (d : ℕ) (old new : Taken) (octets : List ℕ) (end :
 all_taken sets d old new octets end takes is =
     ap (λ taking. of_taking d taking >>= λ all. of_end d (file_reading octets).end (with_file octets all)) takes ∙ ap (λ e. of_end d e (with_file octets new)) is
 
-pub ends : (sets : Sets) (d : ℕ) (left₀ left : Option (List ℕ)) (at : At) (peers : Option ℕ) (old new : Taken) (end : End) → GoesOf sets left₀ left at peers old new
-    → IfSome left (λ octets. StopsWith at octets end) → IfSome left₀ (λ octets. of_octets sets d old octets ≡ of_end d (end_of end) (with_file octets new))
+pub ends : (sets : Sets) (d : ℕ) (left₀ left : Option (List ℕ)) (at : At) (peers : Option ℕ) (old new : Taken) (end : RecordsEnd) → GoesOf sets left₀ left at peers old new
+    → IfSome left (λ octets. StopsWith at octets end) → IfSome left₀ (λ octets. of_octets sets d old octets ≡ of_end d (file_end end) (with_file octets new))
 ends sets d None left at peers old new end goes stops = tt
 ends sets d (Some octets) left at peers old new end goes stops =
     let s : StopsWith at goes.rest end = subst (λ o. IfSome o (λ b. StopsWith at b end)) goes.is_left stops in
     let passed = passes_over peers s.passes.0 goes.fuel at goes.rest s.place s.reached s.passes.1 goes.enough in
-    let same : reading_from peers (cut_within goes.fuel at goes.rest) ≡ record { routes = []; end = end_of end } =
+    let same : reading_from peers (cut_within goes.fuel at goes.rest) ≡ record { routes = []; end = file_end end } =
     passed.same ∙ ap (reading_from peers) (ended passed.fuel s.place s.reached end passed.enough s.stands) ∙ at_end peers end in
-    all_taken sets d old new octets (end_of end)
+    all_taken sets d old new octets (file_end end)
     (ap (take_routes sets old) (goes.routes ∙ ap (λ reading. goes.prefix ++ reading.routes) same ∙ append-nil goes.prefix) ∙ goes.so_far)
     (goes.end ∙ ap (λ reading. reading.end) same)
 
@@ -194,16 +194,16 @@ breaks sets d None left left' at peers r old mid (unread.Untaken untaken.NoMemor
 breaks sets d (Some octets) left left' at peers r old mid (unread.Fault broken) goes finds is =
     let finds' : FindsNext at goes.rest r left' = subst (λ o. IfSome o (λ b. FindsNext at b r left')) goes.is_left finds in
     let f = found peers goes.fuel at goes.rest r left' finds' goes.enough in
-    let further = reading_from (peers_behind peers r) (cut_within f.fuel (behind r) f.rest) in
-    let same = f.same ∙ ap (λ read. onto r.at read further) is in
+    let further = reading_from (peers_behind peers r) (cut_within f.fuel (place_behind r) f.rest) in
+    let same = f.same ∙ ap (λ read. routes_onto r.at read further) is in
     all_taken sets d old mid octets (Broken r.at (fault.Rib broken))
     (ap (take_routes sets old) (goes.routes ∙ ap (λ reading. goes.prefix ++ reading.routes) same ∙ append-nil goes.prefix) ∙ goes.so_far)
     (goes.end ∙ ap (λ reading. reading.end) same)
 breaks sets d (Some octets) left left' at peers r old mid (unread.Untaken (untaken.Limit kind)) goes finds is =
     let finds' : FindsNext at goes.rest r left' = subst (λ o. IfSome o (λ b. FindsNext at b r left')) goes.is_left finds in
     let f = found peers goes.fuel at goes.rest r left' finds' goes.enough in
-    let further = reading_from (peers_behind peers r) (cut_within f.fuel (behind r) f.rest) in
-    let same = f.same ∙ ap (λ read. onto r.at read further) is.1 in
+    let further = reading_from (peers_behind peers r) (cut_within f.fuel (place_behind r) f.rest) in
+    let same = f.same ∙ ap (λ read. routes_onto r.at read further) is.1 in
     ap (λ taking. of_taking d taking >>= λ all. of_end d (file_reading octets).end (with_file octets all))
     (ap (take_routes sets old) (goes.routes ∙ ap (λ reading. goes.prefix ++ reading.routes) same)
     ∙ take_routes-append sets old mid goes.prefix (is.0 ++ further.routes) goes.so_far ∙ stops_in sets mid is.0 further.routes kind is.2)
@@ -227,7 +227,7 @@ some_so_far sets (Some octets) left at peers old new goes =
     (ap (take_routes sets old) (append-nil goes.prefix) ∙ goes.so_far))
 
 some_of : (sets : Sets) (old mid new : Taken) (prefix : List Route) (at : At) (read : Result (List Route) RibFault) (further : Reading) → Takes sets old prefix mid
-    → TakesSomeRead sets mid read new → TakesSome sets old (prefix ++ (onto at read further).routes) new
+    → TakesSomeRead sets mid read new → TakesSome sets old (prefix ++ (routes_onto at read further).routes) new
 some_of sets old mid new prefix at (Ok routes) further so_far some =
     prefix_of sets old new prefix (routes ++ further.routes) some.0 (omega (arith, some.1, length-append routes further.routes))
     (ap (λ (t : List Route). take_routes sets old (prefix ++ t)) (take-append-le some.0 routes further.routes some.1) ∙ take_routes-append sets old mid prefix (take some.0 routes) so_far ∙ some.2)
@@ -240,7 +240,7 @@ some_with sets None left left' at peers r old mid new goes finds some = tt
 some_with sets (Some octets) left left' at peers r old mid new goes finds some =
     let finds' : FindsNext at goes.rest r left' = subst (λ o. IfSome o (λ b. FindsNext at b r left')) goes.is_left finds in
     let f = found peers goes.fuel at goes.rest r left' finds' goes.enough in
-    let further = reading_from (peers_behind peers r) (cut_within f.fuel (behind r) f.rest) in
+    let further = reading_from (peers_behind peers r) (cut_within f.fuel (place_behind r) f.rest) in
     subst (λ (routes : List Route). TakesSome sets old routes new) (sym (goes.routes ∙ ap (λ reading. goes.prefix ++ reading.routes) f.same))
     (some_of sets old mid new goes.prefix r.at (routes_of peers r) further goes.so_far some)
 

@@ -4,20 +4,20 @@ use Rattle.std.specs.Prelude.{is_some, nat_lt, sum_by}
 use Rattle.std.specs.List.{list_any}
 use Rattle.std.proofs.lemmas.Bool.{and_parts, eqb-true, ltb-true}
 use Rattle.std.proofs.lemmas.List.Sums.{sum_by-cons}
+use Rattle.tor_arena.specs.Limits.{max_numbers}
 use Rattle.path_attrs.specs.Fields.{◌>>=◌}
 use Rattle.path_clean.specs.declared.cleaned.Sets.{Sets}
 use Rattle.path_clean.specs.declared.cleaned.Cleaned.{Cleaned}
 use Rattle.path_clean.specs.declared.cleaned.Cleaned.TheVariants.{Path, Aside}
 use Rattle.path_clean.specs.Clean.{clean_of}
 use Rattle.path_clean.specs.Counts.{counted_one}
-use Rattle.path_clean.specs.Limits.{max_numbers}
 use Rattle.path_clean.specs.Rows.{Counted, Table, numbers_in}
-use Rattle.path_clean.specs.Table.{place_of, distinct, counted, times}
+use Rattle.path_clean.specs.Table.{place_of, distinct_paths, counted, times}
 use Rattle.dump_read.specs.declared.error.LimitKind.{LimitKind}
 use Rattle.dump_read.specs.declared.error.LimitKind.TheVariants.{Paths, Numbers, Bytes}
 use Rattle.dump_read.specs.Routes.{Route}
 use Rattle.dump_read.specs.Taking.{Taken, with_one, has_too_many_numbers, take_path, take_cleaned, take_route, take_routes, Takes}
-use Rattle.dump_read.specs.Laws.{cleaned_paths, IsTakenOf, Passes, IsRefused, LimitLaw}
+use Rattle.dump_read.specs.Laws.{cleaned_paths, IsTakenOf, PassesLimit, StopsAtLimit, LimitLaw}
 use Rattle.dump_read.proofs.Takings.{no_entry, takes_one_more}
 use Rattle.dump_read.proofs.TakingLemmas.{further, path_counted, same_ok, choose}
 
@@ -72,7 +72,7 @@ refuses false false false made kind e = absurd cc
 
 record Stops (kind : LimitKind) (limit : ℕ) (known : List (List ℕ)) (path : List ℕ) : Type 0 where
   is_new : list_any (λ other. bytes_eq other path) known ≡ false
-  passes : Passes kind limit known path
+  passes : PassesLimit kind limit known path
 
 at_path : (f : List ℕ → ℕ) (known : List (List ℕ)) (limit : ℕ) (path : List ℕ) (kind : LimitKind)
     → Refuses kind (is_some (place_of (rows_by f known) path)) (length (rows_by f known) == limit) (nat_lt (length (rows_by f known)) limit && nat_lt max_numbers (numbers_in (rows_by f known) + length path))
@@ -93,11 +93,11 @@ at_path f known limit path Numbers by =
 at_path f known limit path Bytes by = absurd by
 
 stopped : (paths : List (List ℕ)) (taken : Taken) (limit : ℕ) (path : List ℕ) (kind : LimitKind) → taken.table.rows ≡ counted paths → taken.table.limit ≡ limit
-    → take_path taken path ≡ Err kind → Stops kind limit (distinct paths) path
+    → take_path taken path ≡ Err kind → Stops kind limit (distinct_paths paths) path
 stopped paths taken limit path kind rows stays e =
     let by = refuses (is_some (place_of taken.table.rows path)) (length taken.table.rows == taken.table.limit) (has_too_many_numbers taken.table path)
     (record taken { table = with_one taken.table path }) kind e in
-    at_path (times paths) (distinct paths) limit path kind
+    at_path (times paths) (distinct_paths paths) limit path kind
     (subst (λ (t : Table). Refuses kind (is_some (place_of t.rows path)) (length t.rows == t.limit) (has_too_many_numbers t path)) (same taken.table rows stays) by)
   where
     made : ℕ → List Counted → Table
@@ -109,7 +109,7 @@ stopped paths taken limit path kind rows stays e =
 -- ---- all routes
 
 walk : (sets : Sets) (before : List Route) (old : Taken) (kind : LimitKind) (first rest : List Route) (mid : Taken) → IsTakenOf sets before old → Takes sets old first mid
-    → mid.table.limit ≡ old.table.limit → take_routes sets mid rest ≡ Err kind → IsRefused sets before (first ++ rest) old kind
+    → mid.table.limit ≡ old.table.limit → take_routes sets mid rest ≡ Err kind → StopsAtLimit sets before (first ++ rest) old kind
 unfolding take_routes
 walk sets before old kind first [] mid so_far takes stays e = absurd cc
 walk sets before old kind first (route ∷ rest) mid so_far takes stays e =
@@ -118,10 +118,10 @@ walk sets before old kind first (route ∷ rest) mid so_far takes stays e =
     by : (one : Cleaned) → clean_of sets route.width route.attrs ≡ one → (taking : Result Taken LimitKind) → take_cleaned mid one ≡ taking
         → (taking >>= λ further. take_routes sets further rest) ≡ Err kind
         → ((new : Taken) → Takes sets old (first ++ route ∷ []) new → new.table.limit ≡ old.table.limit → take_routes sets new rest ≡ Err kind
-        → IsRefused sets before ((first ++ route ∷ []) ++ rest) old kind)
-        → IsRefused sets before (first ++ route ∷ rest) old kind
+        → StopsAtLimit sets before ((first ++ route ∷ []) ++ rest) old kind)
+        → StopsAtLimit sets before (first ++ route ∷ rest) old kind
     by one is (Ok new) made e ih =
-        subst (λ (t : List Route). IsRefused sets before t old kind) (append_assoc first (route ∷ []) rest)
+        subst (λ (t : List Route). StopsAtLimit sets before t old kind) (append_assoc first (route ∷ []) rest)
         (ih new (takes_one_more sets old mid new first route takes (ap (take_cleaned mid) is ∙ made)) (same_limit mid new one made ∙ stays) e)
     by (Aside found) is (Err k) made e ih = absurd cc
     by (Path path) is (Err k) made e ih =

@@ -7,7 +7,7 @@ use Rattle.mrt_frame.specs.Counted.{AreCountsOf}
 use Rattle.mrt_frame.specs.Records.{Record, cut}
 use Rattle.mrt_frame.specs.Counting.{with_records}
 use Rattle.mrt_frame.proofs.CountedLemmas.{counts_of, file_counts_law, counts_together_law}
-use Rattle.dump_read.specs.Files.{FileCounts, file_counts, peers_listed, no_counts, with_counts, with_all}
+use Rattle.dump_read.specs.Files.{FileCounts, file_counts, peers_listed, no_file_counts, with_counts, with_all}
 use Rattle.dump_read.specs.FileLaws.{records_of_all, routes_of_all, TogetherLaw}
 use Rattle.dump_read.specs.Reading.{file_reading}
 
@@ -61,11 +61,11 @@ none_counted : AreCountsOf [] []
 unfolding with_records
 none_counted = counts_of []
 
-nothing : Hold [] 0 no_counts
+nothing : Hold [] 0 no_file_counts
 nothing = record { types = none_counted; listed = refl; read = refl }
 
 pub together_law : TogetherLaw
 together_law files =
-    let all = with_others files [] 0 no_counts nothing in
+    let all = with_others files [] 0 no_file_counts nothing in
     let routes : 0 + routes_of_all files ≡ routes_of_all files = omega arith in
     record { types = all.types; listed = all.listed; read = all.read ∙ ap capped routes }

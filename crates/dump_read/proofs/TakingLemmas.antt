@@ -5,6 +5,7 @@ use Rattle.std.proofs.lemmas.List.{append-nil}
 use Rattle.std.proofs.lemmas.List.Elements.{filter_map-append}
 use Rattle.std.proofs.lemmas.Grind.{flat_map-append}
 use Rattle.std.proofs.lemmas.List.Sums.{sum_by_push}
+use Rattle.tor_arena.specs.Growth.{one_more}
 use Rattle.path_attrs.specs.Fields.{◌>>=◌}
 use Rattle.path_clean.specs.declared.cleaned.Sets.{Sets}
 use Rattle.path_clean.specs.declared.cleaned.Cause.{Cause}
@@ -12,7 +13,7 @@ use Rattle.path_clean.specs.declared.cleaned.Cause.TheVariants as cause
 use Rattle.path_clean.specs.declared.cleaned.Cleaned.{Cleaned}
 use Rattle.path_clean.specs.declared.cleaned.Cleaned.TheVariants.{Path, Aside}
 use Rattle.path_clean.specs.Clean.{clean_of}
-use Rattle.path_clean.specs.Counts.{Counts, no_counts, count_of, counted_one, one_more, place_of_cause}
+use Rattle.path_clean.specs.Counts.{CauseCounts, no_counts, cause_count, counted_one, place_of_cause}
 use Rattle.path_clean.specs.Table.{place_of, with_path, counted}
 use Rattle.path_clean.proofs.CountingLemmas.{counted_push}
 use Rattle.dump_read.specs.declared.error.LimitKind.{LimitKind}
@@ -22,7 +23,7 @@ use Rattle.dump_read.specs.Taking.{Taken, with_one, has_too_many_numbers, take_p
 use Rattle.dump_read.specs.Batches.{cleaned}
 use Rattle.dump_read.specs.Reading.{FileEnd, Whole, Broken, TooLong, file_reading}
 use Rattle.dump_read.specs.Files.{with_file}
-use Rattle.dump_read.specs.Seen.{End, of_end, of_taking, of_file}
+use Rattle.dump_read.specs.Seen.{DumpsEnd, of_end, of_taking, of_file}
 use Rattle.dump_read.specs.Laws.{path_in, is_aside, IsTakenOf, IsEmpty, TakingLaw, TakingOnLaw, routes_in_files, IsOneMore, DumpLaw}
 
 pub same_ok : (x y : Taken) → ◌≡◌ {A = Result Taken LimitKind} (Ok x) (Ok y) → x ≡ y
@@ -52,7 +53,7 @@ most = 2 ^ 64 - 1
 abbrev counted_at : Cause → ℕ → ℕ → ℕ
 counted_at found place count = cond (place_of_cause found == place) (one_more count) count
 
-abbrev each_counted : Cause → Counts → Counts
+abbrev each_counted : Cause → CauseCounts → CauseCounts
 each_counted found counts = record {
   no_path = counted_at found 0 counts.no_path;
   bad_segments = counted_at found 1 counts.bad_segments;
@@ -63,7 +64,7 @@ each_counted found counts = record {
   short = counted_at found 6 counts.short;
 }
 
-one_counted : (found : Cause) (counts : Counts) → counted_one found counts ≡ each_counted found counts
+one_counted : (found : Cause) (counts : CauseCounts) → counted_one found counts ≡ each_counted found counts
 one_counted cause.NoPath counts = refl
 one_counted cause.BadSegments counts = refl
 one_counted cause.Confed counts = refl
@@ -73,10 +74,10 @@ one_counted cause.Loop counts = refl
 one_counted cause.Short counts = refl
 
 -- the count of a cause, when a route is set aside for it or for another
-aside_counted : (asked found : Cause) (counts : Counts) → count_of asked (counted_one found counts) ≡ counted_at found (place_of_cause asked) (count_of asked counts)
-aside_counted asked found counts = ap (count_of asked) (one_counted found counts) ∙ by asked
+aside_counted : (asked found : Cause) (counts : CauseCounts) → cause_count asked (counted_one found counts) ≡ counted_at found (place_of_cause asked) (cause_count asked counts)
+aside_counted asked found counts = ap (cause_count asked) (one_counted found counts) ∙ by asked
   where
-    by : (cause : Cause) → count_of cause (each_counted found counts) ≡ counted_at found (place_of_cause cause) (count_of cause counts)
+    by : (cause : Cause) → cause_count cause (each_counted found counts) ≡ counted_at found (place_of_cause cause) (cause_count cause counts)
     by cause.NoPath = refl
     by cause.BadSegments = refl
     by cause.Confed = refl
@@ -88,7 +89,7 @@ aside_counted asked found counts = ap (count_of asked) (one_counted found counts
 -- what routes were cleaned to, and what is taken in of it
 pub record Sums (all : List Cleaned) (taken : Taken) : Type 0 where
   pub rows : taken.table.rows ≡ counted (filter_map path_in all)
-  pub asides : (asked : Cause) → count_of asked taken.counts ≡ min (count_by (is_aside asked) all) most
+  pub asides : (asked : Cause) → cause_count asked taken.counts ≡ min (count_by (is_aside asked) all) most
 
 pub one_route : (all : List Cleaned) (one : Cleaned) (old new : Taken) → Sums all old → take_cleaned old one ≡ Ok new → Sums (all ++ one ∷ []) new
 one_route all (Path path) old new so_far e = subst (Sums (all ++ Path path ∷ [])) (path_counted old new path e) (record {
@@ -138,9 +139,9 @@ taken_of : (sets : Sets) (routes : List Route) (taken : Taken) → Sums (cleaned
 taken_of sets routes taken so_far = record { rows = so_far.rows; asides = so_far.asides }
 
 pub nothing : (sets : Sets) (taken : Taken) → IsEmpty taken → IsTakenOf sets [] taken
-nothing sets taken empty = record { rows = empty.rows; asides = λ asked. ap (count_of asked) empty.counts ∙ none asked }
+nothing sets taken empty = record { rows = empty.rows; asides = λ asked. ap (cause_count asked) empty.counts ∙ none asked }
   where
-    none : (asked : Cause) → count_of asked no_counts ≡ 0
+    none : (asked : Cause) → cause_count asked no_counts ≡ 0
     none cause.NoPath = refl
     none cause.BadSegments = refl
     none cause.Confed = refl
@@ -159,7 +160,7 @@ taking sets routes old new empty takes = further sets [] routes old new (nothing
 
 -- ---- dumps
 
-one_end : (x y : Taken) → ◌≡◌ {A = Result Taken End} (Ok x) (Ok y) → x ≡ y
+one_end : (x y : Taken) → ◌≡◌ {A = Result Taken DumpsEnd} (Ok x) (Ok y) → x ≡ y
 one_end x y e = cc
 
 files_push : (files : List (List ℕ)) (octets : List ℕ) → routes_in_files (files ++ octets ∷ []) ≡ routes_in_files files ++ (file_reading octets).routes

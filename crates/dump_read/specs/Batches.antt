@@ -32,8 +32,8 @@ pub record IsBatch (causes : List (Option Cause)) (paths : List (List ℕ)) : Ty
   pub clean : (k : ℕ) (path : List ℕ) → slice_get (cleaned_by causes paths) k ≡ Some (Path path) → is_cleaned path ≡ true
 
 -- where the path of a route was found it stands
-abbrev pub AreFound : List Counted → Batched → Type 0
-AreFound rows batch =
+abbrev pub StandAtPlaces : List Counted → Batched → Type 0
+StandAtPlaces rows batch =
     (k id : ℕ) (path : List ℕ) → slice_get batch.places k ≡ Some (Some id) → slice_get batch.routes k ≡ Some (Path path) →
     place_of rows path ≡ Some id
 

@@ -2,7 +2,7 @@
 use Rattle.std.specs.Prelude.{ℕ, ◌+◌, List, [], ◌∷◌, ◌++◌, length, sum_by, option_map, unwrap_or, Option, Some, None, Result, Ok, Err}
 use Rattle.std.specs.Result.{result_ok}
 use Rattle.path_attrs.specs.declared.fault.RibFault.{RibFault}
-use Rattle.record_counts.specs.Counting.{capped, together as records_together}
+use Rattle.record_counts.specs.Counting.{capped, counts_together as records_together}
 use Rattle.rib_v2.specs.PeerTable.{peers_of}
 use Rattle.mrt_frame.specs.Counting.{records_in}
 use Rattle.mrt_frame.specs.Kinds.{kind_of}
@@ -39,8 +39,8 @@ with_file octets taken = record taken { files = taken.files ++ file_counts octet
 -- ---- several files
 
 -- nothing
-abbrev pub no_counts : FileCounts
-no_counts = record { records = []; peers = 0; routes = 0 }
+abbrev pub no_file_counts : FileCounts
+no_file_counts = record { records = []; peers = 0; routes = 0 }
 
 -- the counts with those of another file besides
 abbrev pub with_counts : FileCounts → FileCounts → FileCounts
@@ -56,7 +56,7 @@ with_all all (file ∷ files) = with_all (with_counts all file) files
 
 -- what files hold together
 abbrev pub together : List FileCounts → FileCounts
-together files = with_all no_counts files
+together files = with_all no_file_counts files
 
 -- ---- one record
 

@@ -1,14 +1,14 @@
 -- What taking routes in comes to: the distinct paths with their times, and how many routes are set aside for each cause.
 use Rattle.std.specs.Prelude.{◌≡◌, ◌↔◌, ◌≤◌, ◌<◌, ◌+◌, ◌-◌, ◌^◌, ◌==◌, ℕ, min, Bool, false, List, [], ◌∷◌, ◌++◌, length, sum_by, count_by, flat_map, filter_map, bytes_eq, Option, Some, None, Ok, Err}
 use Rattle.std.specs.List.{list_any}
+use Rattle.tor_arena.specs.Limits.{max_numbers}
 use Rattle.path_clean.specs.declared.cleaned.Sets.{Sets}
 use Rattle.path_clean.specs.declared.cleaned.Cause.{Cause}
 use Rattle.path_clean.specs.declared.cleaned.Cleaned.{Cleaned}
 use Rattle.path_clean.specs.declared.cleaned.Cleaned.TheVariants.{Path, Aside}
 use Rattle.path_clean.specs.Clean.{clean_of}
-use Rattle.path_clean.specs.Counts.{no_counts, count_of, place_of_cause}
-use Rattle.path_clean.specs.Limits.{max_numbers}
-use Rattle.path_clean.specs.Table.{distinct, counted}
+use Rattle.path_clean.specs.Counts.{no_counts, cause_count, place_of_cause}
+use Rattle.path_clean.specs.Table.{distinct_paths, counted}
 use Rattle.dump_read.specs.declared.error.LimitKind.{LimitKind}
 use Rattle.dump_read.specs.declared.error.LimitKind.TheVariants.{Paths, Numbers, Bytes}
 use Rattle.dump_read.specs.Routes.{Route}
@@ -39,7 +39,7 @@ set_aside sets cause routes = count_by (is_aside cause) (cleaned sets routes)
 -- came, and each count is how many of them are set aside for that cause, up to 2 ^ 64 - 1
 pub record IsTakenOf (sets : Sets) (routes : List Route) (taken : Taken) : Type 0 where
   pub rows : taken.table.rows ≡ counted (cleaned_paths sets routes)
-  pub asides : (cause : Cause) → count_of cause taken.counts ≡ min (set_aside sets cause routes) (2 ^ 64 - 1)
+  pub asides : (cause : Cause) → cause_count cause taken.counts ≡ min (set_aside sets cause routes) (2 ^ 64 - 1)
 
 -- nothing is taken in yet
 pub record IsEmpty (taken : Taken) : Type 0 where
@@ -80,13 +80,13 @@ pub record DumpLaw : Type 0 where
 
 -- with this path more than these distinct ones a limit would be passed: they are as many as may be, or fewer, and with it they
 -- would have too many numbers in sum
-abbrev pub Passes : LimitKind → (limit : ℕ) → (known : List (List ℕ)) → (path : List ℕ) → Type 0
-Passes Paths limit known path = length known ≡ limit
-Passes Numbers limit known path = (length known < limit) × (max_numbers < sum_by length known + length path)
-Passes Bytes limit known path = ⊥
+abbrev pub PassesLimit : LimitKind → (limit : ℕ) → (known : List (List ℕ)) → (path : List ℕ) → Type 0
+PassesLimit Paths limit known path = length known ≡ limit
+PassesLimit Numbers limit known path = (length known < limit) × (max_numbers < sum_by length known + length path)
+PassesLimit Bytes limit known path = ⊥
 
 -- some of the first routes were taken in, and the path of the next one is new and would pass the limit
-pub record IsRefused (sets : Sets) (before routes : List Route) (old : Taken) (kind : LimitKind) : Type 0 where
+pub record StopsAtLimit (sets : Sets) (before routes : List Route) (old : Taken) (kind : LimitKind) : Type 0 where
   pub first : List Route
   pub route : Route
   pub rest : List Route
@@ -95,19 +95,19 @@ pub record IsRefused (sets : Sets) (before routes : List Route) (old : Taken) (k
   pub takes : Takes sets old first mid
   pub path : List ℕ
   pub cleans : clean_of sets route.width route.attrs ≡ Path path
-  pub is_new : list_any (λ other. bytes_eq other path) (distinct (cleaned_paths sets (before ++ first))) ≡ false
-  pub passes : Passes kind old.table.limit (distinct (cleaned_paths sets (before ++ first))) path
+  pub is_new : list_any (λ other. bytes_eq other path) (distinct_paths (cleaned_paths sets (before ++ first))) ≡ false
+  pub passes : PassesLimit kind old.table.limit (distinct_paths (cleaned_paths sets (before ++ first))) path
 
 -- why routes are refused
 abbrev pub LimitLaw : Type 0
 LimitLaw =
     (sets : Sets) (before routes : List Route) (old : Taken) (kind : LimitKind)
-    → IsTakenOf sets before old → take_routes sets old routes ≡ Err kind → IsRefused sets before routes old kind
+    → IsTakenOf sets before old → take_routes sets old routes ≡ Err kind → StopsAtLimit sets before routes old kind
 
 -- the distinct ones of the paths are at most so many, and have at most 2 ^ 26 numbers in sum
 pub record Fit (limit : ℕ) (paths : List (List ℕ)) : Type 0 where
-  pub paths_few : length (distinct paths) ≤ limit
-  pub numbers_few : sum_by length (distinct paths) ≤ max_numbers
+  pub paths_few : length (distinct_paths paths) ≤ limit
+  pub numbers_few : sum_by length (distinct_paths paths) ≤ max_numbers
 
 -- routes are all taken in exactly where their paths and those before fit
 abbrev pub FitLaw : Type 0

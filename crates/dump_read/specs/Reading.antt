@@ -2,7 +2,7 @@
 use Rattle.std.specs.Prelude.{ℕ, List, [], ◌∷◌, ◌++◌, Option, None, Result, Ok, Err}
 use Rattle.path_attrs.specs.declared.fault.RibFault.{RibFault}
 use Rattle.mrt_frame.specs.declared.header.At.{At}
-use Rattle.mrt_frame.specs.Records.{Record, Cut, End, Well, HeadCut, TooManyBytes, Oversize, BodyCut, cut}
+use Rattle.mrt_frame.specs.Records.{Record, Cut, RecordsEnd, Well, HeadCut, TooManyBytes, Oversize, BodyCut, cut}
 use Rattle.dump_read.specs.declared.error.Fault.{Fault}
 use Rattle.dump_read.specs.declared.error.Fault.TheVariants as fault
 use Rattle.dump_read.specs.Routes.{Route, routes_of, peers_behind}
@@ -17,22 +17,22 @@ pub record Reading : Type 0 where
   pub routes : List Route
   pub end : FileEnd
 
-abbrev pub end_of : End → FileEnd
-end_of Well = Whole
-end_of (HeadCut at) = Broken at fault.HeadCut
-end_of TooManyBytes = TooLong
-end_of (Oversize at) = Broken at fault.Oversize
-end_of (BodyCut at) = Broken at fault.BodyCut
+abbrev pub file_end : RecordsEnd → FileEnd
+file_end Well = Whole
+file_end (HeadCut at) = Broken at fault.HeadCut
+file_end TooManyBytes = TooLong
+file_end (Oversize at) = Broken at fault.Oversize
+file_end (BodyCut at) = Broken at fault.BodyCut
 
 -- the routes of a record stand before those behind it; at its fault the reading ends, and none of its routes counts
-abbrev pub onto : At → Result (List Route) RibFault → Reading → Reading
-onto at (Ok routes) rest = record { routes = routes ++ rest.routes; end = rest.end }
-onto at (Err broken) rest = record { routes = []; end = Broken at (fault.Rib broken) }
+abbrev pub routes_onto : At → Result (List Route) RibFault → Reading → Reading
+routes_onto at (Ok routes) rest = record { routes = routes ++ rest.routes; end = rest.end }
+routes_onto at (Err broken) rest = record { routes = []; end = Broken at (fault.Rib broken) }
 
 -- the routes of records, each read with the last peer table before it
-unfoldable pub reading_of : Option ℕ → List Record → End → Reading
-reading_of peers [] end = record { routes = []; end = end_of end }
-reading_of peers (r ∷ records) end = onto r.at (routes_of peers r) (reading_of (peers_behind peers r) records end)
+unfoldable pub reading_of : Option ℕ → List Record → RecordsEnd → Reading
+reading_of peers [] end = record { routes = []; end = file_end end }
+reading_of peers (r ∷ records) end = routes_onto r.at (routes_of peers r) (reading_of (peers_behind peers r) records end)
 
 -- from records on, where the last peer table before them has so many peers
 abbrev pub reading_from : Option ℕ → Cut → Reading

@@ -31,8 +31,8 @@ IsLimit taking (untaken.Limit kind) = taking ≡ Err kind
 IsLimit taking untaken.NoMemory = Unit {0}
 
 -- how many peers a peer table has, if there is one
-abbrev pub count_of : Option Peers → Option ℕ
-count_of peers = option_map (λ table. table.count) peers
+abbrev pub peers_in : Option Peers → Option ℕ
+peers_in peers = option_map (λ table. table.count) peers
 
 -- the routes that were read were taken in
 abbrev pub TakesRead : Sets → Taken → Result (List Route) RibFault → Taken → Type 0

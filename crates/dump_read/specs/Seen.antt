@@ -13,37 +13,37 @@ use Rattle.dump_read.specs.Reading.{FileEnd, Whole, Broken, TooLong, file_readin
 use Rattle.dump_read.specs.Files.{with_file}
 use Rattle.dump_read.specs.Taking.{Taken, take_routes}
 
-pub data End : Type 0 where
+pub data DumpsEnd : Type 0 where
   -- the dump of this number, from 1, isn't there
-  Absent : ℕ → End
+  Absent : ℕ → DumpsEnd
   -- a record has a fault
-  Malformed : Place → Fault → End
+  Malformed : Place → Fault → DumpsEnd
   -- a limit is met in the dump of this number
-  Limit : LimitKind → ℕ → End
+  Limit : LimitKind → ℕ → DumpsEnd
 
 -- how the reading of the dump of this number ends, when its routes are taken in
-abbrev pub of_end : ℕ → FileEnd → Taken → Result Taken End
+abbrev pub of_end : ℕ → FileEnd → Taken → Result Taken DumpsEnd
 of_end dump Whole taken = Ok taken
 of_end dump (Broken at fault) taken = Err (Malformed (record { dump = dump; at = at }) fault)
 of_end dump TooLong taken = Err (Limit Bytes dump)
 
-abbrev pub of_taking : ℕ → Result Taken LimitKind → Result Taken End
+abbrev pub of_taking : ℕ → Result Taken LimitKind → Result Taken DumpsEnd
 of_taking dump (Ok taken) = Ok taken
 of_taking dump (Err kind) = Err (Limit kind dump)
 
 -- the routes of the file, and then its end; where it is read to its end, what it holds is counted
-abbrev pub of_octets : Sets → ℕ → Taken → List ℕ → Result Taken End
+abbrev pub of_octets : Sets → ℕ → Taken → List ℕ → Result Taken DumpsEnd
 of_octets sets dump taken octets =
     of_taking dump (take_routes sets taken (file_reading octets).routes) >>= λ all.
     of_end dump (file_reading octets).end (with_file octets all)
 
 -- the same of a file that may be absent
-abbrev pub of_file : Sets → ℕ → Taken → Option (List ℕ) → Result Taken End
+abbrev pub of_file : Sets → ℕ → Taken → Option (List ℕ) → Result Taken DumpsEnd
 of_file sets dump taken None = Err (Absent dump)
 of_file sets dump taken (Some octets) = of_octets sets dump taken octets
 
 -- the end that an error names
-abbrev pub end_named : ℕ → DumpError → Option End
+abbrev pub end_named : ℕ → DumpError → Option DumpsEnd
 end_named dump (error.Malformed place fault) = Some (Malformed place fault)
 end_named dump (error.Limit kind) = Some (Limit kind dump)
 end_named dump error.ReadFault = None

@@ -3,7 +3,7 @@ ghost use Rattle.std.specs.Prelude.{◌≡◌, ◌++◌, ◌∷◌, ◌<◌, ◌
 ghost use Rattle.tor_arena.specs.Limits.{most_places};
 ghost use Rattle.path_clean.specs.Clean.{clean_of};
 ghost use Rattle.path_clean.specs.Table.{place_of};
-ghost use Rattle.dump_read.specs.Batches.{AreFound, TakesAt, IsLimitAt, TakesBatch, IsBatchLimit, TakesSomeOfBatch};
+ghost use Rattle.dump_read.specs.Batches.{StandAtPlaces, TakesAt, IsLimitAt, TakesBatch, IsBatchLimit, TakesSomeOfBatch};
 
 use crate::taking::{Taken, Untaken, take_again, take_path};
 use path_attrs::{Attrs, Width};
@@ -90,7 +90,7 @@ impl Batch {
     pub fn look_up(&mut self, table: &PathTable) -> Result<(), NoMemory>
         requires none { self.old.places ≡ [] }
         ensures routes { self.new.routes ≡ self.old.routes }
-        ensures found { OnOk result (AreFound table.now.rows self.new) }
+        ensures found { OnOk result (StandAtPlaces table.now.rows self.new) }
     {
         if self.len() < 2 {
             return Ok(());
@@ -101,7 +101,7 @@ impl Batch {
     /// Takes in one of the routes. A route that isn't taken changes nothing.
     pub fn take(&self, place: usize, taken: &mut Taken) -> Result<(), Untaken>
         requires there { place < length self.now.routes }
-        requires found { AreFound taken.old.table.rows self.now }
+        requires found { StandAtPlaces taken.old.table.rows self.now }
         ensures taken { OnOk result (TakesAt self.now place taken.old taken.new) }
         ensures limit { IfErr result (IsLimitAt self.now place taken.old) }
         ensures unchanged { OnErr result (taken.new ≡ taken.old) }
@@ -131,7 +131,7 @@ fn row_at(paths: &Rows<PathId, u32>, place: usize) -> &[u32]
 
 /// Takes in the routes of a batch, whose paths were looked up, in order, up to the first that meets a limit.
 fn take_each(batch: &Batch, taken: &mut Taken) -> Result<(), Untaken>
-    requires found { AreFound taken.old.table.rows batch.now }
+    requires found { StandAtPlaces taken.old.table.rows batch.now }
     ensures taken { OnOk result (TakesBatch batch.now taken.old taken.new) }
     ensures limit { IfErr result (IsBatchLimit batch.now taken.old) }
     ensures some { OnErr result (TakesSomeOfBatch batch.now taken.old taken.new) }

@@ -5,7 +5,7 @@ ghost use Rattle.tor_io.specs.Counts.{Rose};
 ghost use Rattle.tor_io.specs.Contents.{LacksFile};
 ghost use Rattle.mrt_frame.specs.Records.{start};
 ghost use Rattle.mrt_frame.specs.Reader.{shelf_of, reference_of, next_place, is_live};
-ghost use Rattle.dump_read.specs.Files.{no_counts, file_counts, with_file};
+ghost use Rattle.dump_read.specs.Files.{no_file_counts, file_counts, with_file};
 ghost use Rattle.dump_read.specs.Reading.{file_reading};
 ghost use Rattle.dump_read.specs.Taking.{TakesSome};
 ghost use Rattle.dump_read.specs.Seen.{of_octets, of_file, end_named};
@@ -71,7 +71,7 @@ fn take_records<H: Shelf>(
 ) -> Result<(), DumpError>
     requires live { is_live frames.old ≡ true }
     requires start { next_place frames.old ≡ start }
-    requires none { file.old ≡ no_counts }
+    requires none { file.old ≡ no_file_counts }
     ensures read { OnOk result (IfSome (H.left (shelf_of frames.old)) (λ octets.
         of_octets sets dump taken.old octets ≡ Ok (with_file octets taken.new))) }
     ensures counted { OnOk result (IfSome (H.left (shelf_of frames.old)) (λ octets. file.new ≡ file_counts octets)) }
@@ -112,7 +112,7 @@ fn take_file<H: Shelf>(
     taken: &mut Taken,
     file: &mut FileCounts,
 ) -> Result<(), DumpError>
-    requires none { file.old ≡ no_counts }
+    requires none { file.old ≡ no_file_counts }
     ensures read { OnOk result (IfSome (H.left shelf.old) (λ octets.
         of_octets sets dump taken.old octets ≡ Ok (with_file octets taken.new))) }
     ensures counted { OnOk result (IfSome (H.left shelf.old) (λ octets. file.new ≡ file_counts octets)) }

@@ -1,10 +1,10 @@
 //! The reading of a record.
 ghost use Rattle.std.specs.Prelude.{◌≡◌, [], OnOk, OnErr, IfOk, IfErr};
-ghost use Rattle.mrt_frame.specs.Steps.{seen};
+ghost use Rattle.mrt_frame.specs.Steps.{lent_record};
 ghost use Rattle.dump_read.specs.Routes.{of_entries, of_table_dump, routes_in_table_dump, routes_in_rib, routes_of, peers_behind};
 ghost use Rattle.dump_read.specs.Files.{many, with_one};
 ghost use Rattle.dump_read.specs.Batches.{AreOf};
-ghost use Rattle.dump_read.specs.Refusals.{count_of, IsUnread, TakesRead, TakesSomeRead};
+ghost use Rattle.dump_read.specs.Refusals.{peers_in, IsUnread, TakesRead, TakesSomeRead};
 
 use crate::batch::{Batch, take_batch};
 use crate::file_counts::FileCounts;
@@ -120,10 +120,10 @@ fn take_rib(
     batch: &mut Batch,
     taken: &mut Taken,
 ) -> Result<usize, Unread>
-    ensures taken { OnOk result (TakesRead sets taken.old (routes_in_rib form (count_of peers) body.now) taken.new) }
-    ensures unread { IfErr result (IsUnread sets taken.old (routes_in_rib form (count_of peers) body.now)) }
-    ensures some { OnErr result (TakesSomeRead sets taken.old (routes_in_rib form (count_of peers) body.now) taken.new) }
-    ensures many { IfOk result (λ n. many (routes_in_rib form (count_of peers) body.now) ≡ n) }
+    ensures taken { OnOk result (TakesRead sets taken.old (routes_in_rib form (peers_in peers) body.now) taken.new) }
+    ensures unread { IfErr result (IsUnread sets taken.old (routes_in_rib form (peers_in peers) body.now)) }
+    ensures some { OnErr result (TakesSomeRead sets taken.old (routes_in_rib form (peers_in peers) body.now) taken.new) }
+    ensures many { IfOk result (λ n. many (routes_in_rib form (peers_in peers) body.now) ≡ n) }
 {
     let entries = EntryCursor::over(form, peers.as_ref(), body)?;
     clean_entries(alloc, sets, entries, batch)?;
@@ -143,11 +143,11 @@ pub(crate) fn take_record(
     taken: &mut Taken,
     file: &mut FileCounts,
 ) -> Result<Option<Peers>, Unread>
-    ensures peers { IfOk result (λ after. count_of after ≡ peers_behind (count_of peers) (seen found.now)) }
-    ensures taken { OnOk result (TakesRead sets taken.old (routes_of (count_of peers) (seen found.now)) taken.new) }
-    ensures unread { IfErr result (IsUnread sets taken.old (routes_of (count_of peers) (seen found.now))) }
-    ensures some { OnErr result (TakesSomeRead sets taken.old (routes_of (count_of peers) (seen found.now)) taken.new) }
-    ensures counted { OnOk result (file.new ≡ with_one (count_of peers) (seen found.now) file.old) }
+    ensures peers { IfOk result (λ after. peers_in after ≡ peers_behind (peers_in peers) (lent_record found.now)) }
+    ensures taken { OnOk result (TakesRead sets taken.old (routes_of (peers_in peers) (lent_record found.now)) taken.new) }
+    ensures unread { IfErr result (IsUnread sets taken.old (routes_of (peers_in peers) (lent_record found.now))) }
+    ensures some { OnErr result (TakesSomeRead sets taken.old (routes_of (peers_in peers) (lent_record found.now)) taken.new) }
+    ensures counted { OnOk result (file.new ≡ with_one (peers_in peers) (lent_record found.now) file.old) }
 {
     match found.kind {
         RecordKind::TableDump(family) => {

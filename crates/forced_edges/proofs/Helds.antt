@@ -4,6 +4,7 @@ use Rattle.std.proofs.Common.{flat_map, Contains}
 use Rattle.std.specs.Prelude.{slice_get}
 use Rattle.std.proofs.lemmas.Bool.{cases_lt, cases_order, false≢true}
 use Rattle.std.proofs.lemmas.Option.{same_Some, get_or_from_slice_get}
+use Rattle.relationships.specs.Steps.{end_left}
 use Rattle.relationships.specs.declared.label.End.{End}
 use Rattle.relationships.specs.declared.label.Label.{Label}
 use Rattle.relationships.specs.Evidence.{NeighboursDiffer}
@@ -15,7 +16,6 @@ use Rattle.relationships.proofs.Slopes.{over_parts, over-low, over-high}
 use Rattle.tor_digraph.specs.Walks.{Reaches}
 use Rattle.tor_digraph.proofs.Gets.{slice_get-lt}
 use Rattle.as_graph.specs.Paths.{paths_at}
-use Rattle.as_graph.specs.Steps.{end_left}
 use Rattle.as_graph.proofs.Labelled.{NoneTwice-distinct, labelling_at}
 use Rattle.tor_clauses.specs.declared.lit.Lit.{Lit}
 use Rattle.tor_clauses.specs.Literals.{negated, node_of, lit_of, opposite_node, Says}
@@ -27,7 +27,7 @@ use Rattle.tor_clauses.proofs.Exacts.{only_arcs}
 use Rattle.tor_clauses.proofs.Flips.{off_of}
 use Rattle.forced_edges.specs.Nodes.{IsClosed}
 use Rattle.tor_digraph.specs.NodeSets.{IsAdded}
-use Rattle.forced_edges.specs.Held.{end_by, is_end, held}
+use Rattle.forced_edges.specs.Held.{end_of_label, is_end, held}
 use Rattle.forced_edges.specs.Candidates.{against}
 use Rattle.tor_digraph.proofs.Members.{Contains-one_more}
 use Rattle.forced_edges.proofs.Ordering.{pair_with}
@@ -66,26 +66,26 @@ is_opposite End.High End.High = refl
 pub held_one : (labels : List Label) → HoldsOne (held labels)
 held_one labels n =
     let same : lit_of (opposite_node n) ≡ negated (lit_of n) = lit_of_node (negated (lit_of n)) in
-    subst (λ l. is_end (end_by (get_or labels l.edge Label.Low)) l.over ≡ not (held labels n)) (sym same) (is_opposite (end_by (get_or labels (n / 2) Label.Low)) (lit_of n).over)
+    subst (λ l. is_end (end_of_label (get_or labels l.edge Label.Low)) l.over ≡ not (held labels n)) (sym same) (is_opposite (end_of_label (get_or labels (n / 2) Label.Low)) (lit_of n).over)
 
 abbrev reading : Labelling → Orientation
-reading L low high = end_by (L low high)
+reading L low high = end_of_label (L low high)
 
 module _ (graph : List (List ℕ)) (labels : List Label) (same : length labels ≡ length (edges graph)) where
   abbrev O : Orientation
   O = reading (labelling (edges graph) labels)
 
   -- the end that the labels give an edge
-  end_at : (k low high : ℕ) → slice_get (edges graph) k ≡ Some (low, high) → O low high ≡ end_by (get_or labels k Label.Low)
+  end_at : (k low high : ℕ) → slice_get (edges graph) k ≡ Some (low, high) → O low high ≡ end_of_label (get_or labels k Label.Low)
   end_at k low high at =
       let lt = slice_get-lt (edges graph) k (low, high) at in
-      ap end_by (labelling_at (edges graph) labels k low high Label.Low (NoneTwice-distinct (flat_map edges_on graph)) at (omega (arith, lt, same)))
+      ap end_of_label (labelling_at (edges graph) labels k low high Label.Low (NoneTwice-distinct (flat_map edges_on graph)) at (omega (arith, lt, same)))
 
   held_over : (n x y : ℕ) → Says (edges graph) (lit_of n) x y → IsTrue (held labels n) ↔ IsTrue (is_over (labels_of O) x y)
   held_over n x y says = by_order (cases_lt x y)
     where
       end : ℕ → End
-      end k = end_by (get_or labels k Label.Low)
+      end k = end_of_label (get_or labels k Label.Low)
 
       by_order : (x < y) ⊎ (y ≤ x) → IsTrue (held labels n) ↔ IsTrue (is_over (labels_of (reading (labelling (edges graph) labels))) x y)
       by_order (inl lt) =
@@ -95,9 +95,9 @@ module _ (graph : List (List ℕ)) (labels : List Label) (same : length labels �
           let low : (lit_of n).over ≡ End.Low = says.end ∙ left_low x y lt in (
             λ h. over-low (labels_of O) x y lt
                 (ap (λ e. is_low (label_of e)) (is ∙
-                end_low (end_by (get_or labels (n / 2) Label.Low)) (ap (is_end (end_by (get_or labels (n / 2) Label.Low))) (sym low) ∙ h))),
+                end_low (end_of_label (get_or labels (n / 2) Label.Low)) (ap (is_end (end_of_label (get_or labels (n / 2) Label.Low))) (sym low) ∙ h))),
             λ h. elim (over_parts (labels_of O) x y h) [
-              | inl p ↦ ap (is_end (end_by (get_or labels (n / 2) Label.Low))) low ∙ low_end (end_by (get_or labels (n / 2) Label.Low)) (ap (λ e. is_low (label_of e)) (sym is) ∙ p.1)
+              | inl p ↦ ap (is_end (end_of_label (get_or labels (n / 2) Label.Low))) low ∙ low_end (end_of_label (get_or labels (n / 2) Label.Low)) (ap (λ e. is_low (label_of e)) (sym is) ∙ p.1)
               | inr p ↦ absurd (let less = p.0 in omega (arith, lt, less))
             ],
           )
@@ -109,10 +109,10 @@ module _ (graph : List (List ℕ)) (labels : List Label) (same : length labels �
           let high : (lit_of n).over ≡ End.High = says.end ∙ left_high x y le in (
             λ h. over-high (labels_of O) y x lt
                 (ap (λ e. is_high (label_of e))
-                (is ∙ end_high (end_by (get_or labels (n / 2) Label.Low)) (ap (is_end (end_by (get_or labels (n / 2) Label.Low))) (sym high) ∙ h))),
+                (is ∙ end_high (end_of_label (get_or labels (n / 2) Label.Low)) (ap (is_end (end_of_label (get_or labels (n / 2) Label.Low))) (sym high) ∙ h))),
             λ h. elim (over_parts (labels_of O) x y h) [
               | inl p ↦ absurd (let less = p.0 in omega (arith, lt, less))
-              | inr p ↦ ap (is_end (end_by (get_or labels (n / 2) Label.Low))) high ∙ high_end (end_by (get_or labels (n / 2) Label.Low)) (ap (λ e. is_high (label_of e)) (sym is) ∙ p.1)
+              | inr p ↦ ap (is_end (end_of_label (get_or labels (n / 2) Label.Low))) high ∙ high_end (end_of_label (get_or labels (n / 2) Label.Low)) (ap (λ e. is_high (label_of e)) (sym is) ∙ p.1)
             ],
           )
 
@@ -136,12 +136,12 @@ module _ (labels : List Label) (arcs : List (ℕ × ℕ)) (past nodes : List ℕ
 
 -- the node of an order of an edge
 at_end : (labels : List Label) (edge : ℕ) (over : End) (label : Label) → slice_get labels edge ≡ Some label → (m : ℕ) → m ≡ node_of (record { edge = edge; over = over }) →
-    held labels m ≡ is_end (end_by label) over
+    held labels m ≡ is_end (end_of_label label) over
 at_end labels edge over label at m e =
     let lit : Lit = record { edge = edge; over = over } in
     let same : lit_of m ≡ lit = ap lit_of e ∙ lit_of_node lit in
-    subst (λ (l : Lit). is_end (end_by (get_or labels l.edge Label.Low)) l.over ≡ is_end (end_by label) over) (sym same)
-    (ap (λ v. is_end (end_by v) over) (get_or_from_slice_get labels edge label Label.Low at))
+    subst (λ (l : Lit). is_end (end_of_label (get_or labels l.edge Label.Low)) l.over ≡ is_end (end_of_label label) over) (sym same)
+    (ap (λ v. is_end (end_of_label v) over) (get_or_from_slice_get labels edge label Label.Low at))
 
 -- the order against a label is not held
 pub against_off : (labels : List Label) (edge : ℕ) (label : Label) (n : ℕ) → slice_get labels edge ≡ Some label → against edge label ≡ Some n → held labels n ≡ false
@@ -156,7 +156,7 @@ against_off labels edge label n at is = by_label label at is
     by_label Label.Peer at is = absurd (cc is)
 
 -- the order of a label is held
-pub label_held : (labels : List Label) (edge : ℕ) (label : Label) (n : ℕ) → slice_get labels edge ≡ Some label → n ≡ node_of (record { edge = edge; over = end_by label }) → IsTrue (held labels n)
+pub label_held : (labels : List Label) (edge : ℕ) (label : Label) (n : ℕ) → slice_get labels edge ≡ Some label → n ≡ node_of (record { edge = edge; over = end_of_label label }) → IsTrue (held labels n)
 label_held labels edge Label.Low n at is = at_end labels edge End.Low Label.Low at n is
 label_held labels edge Label.High n at is = at_end labels edge End.High Label.High at n is
 label_held labels edge Label.Peer n at is = at_end labels edge End.Low Label.Peer at n is

@@ -8,7 +8,7 @@ use Rattle.tor_digraph.specs.InRows.{IsRow}
 use Rattle.tor_digraph.specs.Reached.{IsGrown}
 use Rattle.tor_digraph.proofs.Gets.{has-from_Contains, Contains-from_has, slice_get-lt, slice_get-some, slice_get-push_old, slice_get-push_cases}
 use Rattle.tor_digraph.specs.NodeSets.{IsAdded}
-use Rattle.forced_edges.specs.Nodes.{IsMet, Stays, HasLooked, IsClosed}
+use Rattle.forced_edges.specs.Nodes.{IsEntered, Stays, HasLooked, IsClosed}
 use Rattle.tor_digraph.proofs.Members.{Contains-more, Contains-last}
 use Rattle.tor_digraph.proofs.NodeSets.{added_there}
 
@@ -21,7 +21,7 @@ pub added_stays : (node : ℕ) (is_new : Bool) (old new : List ℕ) → IsAdded 
 added_stays node is_new old new (inl a) k x at = subst (λ (l : List ℕ). slice_get l k ≡ Some x) (sym a.2) (slice_get-push_old old (node ∷ []) k x at)
 added_stays node is_new old new (inr a) k x at = subst (λ (l : List ℕ). slice_get l k ≡ Some x) (sym a.2) at
 
-pub added_met : (past : List ℕ) (node : ℕ) (is_new : Bool) (old new : List ℕ) → IsAdded node is_new old new → IsMet past node old new
+pub added_met : (past : List ℕ) (node : ℕ) (is_new : Bool) (old new : List ℕ) → IsAdded node is_new old new → IsEntered past node old new
 added_met past node is_new old new (inl a) = inr a.2
 added_met past node is_new old new (inr a) = inl (inl a.1, a.2)
 
@@ -41,7 +41,7 @@ looking_begins arcs past tail row old = record {
 }
 
 pub looking_next : (arcs : List (ℕ × ℕ)) (past : List ℕ) (tail : ℕ) (row : List (ℕ × ℕ)) (upto : ℕ) (old nodes new : List ℕ) (e : ℕ × ℕ) →
-    IsLooking arcs past tail row upto old nodes → slice_get row upto ≡ Some e → HasArc arcs tail e.1 → IsMet past e.1 nodes new → IsLooking arcs past tail row (upto + 1) old new
+    IsLooking arcs past tail row upto old nodes → slice_get row upto ≡ Some e → HasArc arcs tail e.1 → IsEntered past e.1 nodes new → IsLooking arcs past tail row (upto + 1) old new
 looking_next arcs past tail row upto old nodes new e so at arc (inl m) = subst (IsLooking arcs past tail row (upto + 1) old) (sym m.1) (record {
   kept = so.kept;
   more = so.more;

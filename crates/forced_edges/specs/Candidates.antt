@@ -55,12 +55,12 @@ work found = 2 * (2 ^ 64 - length found.seen.items) + length found.stack
 -- ---- over the edges
 
 -- the search has come to the orders against the first labels, so many
-abbrev pub AreSeen : List Label → ℕ → List ℕ → Type 0
-AreSeen labels place seen =
+abbrev pub AreAgainstSeen : List Label → ℕ → List ℕ → Type 0
+AreAgainstSeen labels place seen =
     (k n : ℕ) (label : Label) → k < place → slice_get labels k ≡ Some label → against k label ≡ Some n → Contains seen n
 
 -- the search has come to the orders against the labels of the first edges, so many, and has left all nodes
 pub record IsChoosing (posed : Posed) (place : ℕ) (found : DepthSearch) : Type 0 where
   pub so_far : IsInDepth posed found
   pub idle : found.stack ≡ []
-  pub seen : AreSeen posed.labels place found.seen.items
+  pub seen : AreAgainstSeen posed.labels place found.seen.items

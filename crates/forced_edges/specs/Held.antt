@@ -5,10 +5,10 @@ use Rattle.relationships.specs.declared.label.Label.{Label}
 use Rattle.tor_clauses.specs.Literals.{lit_of}
 
 -- the end that is over the other by the label. A peering is read as if its lower number were the provider
-abbrev pub end_by : Label → End
-end_by Label.Low = End.Low
-end_by Label.High = End.High
-end_by Label.Peer = End.Low
+abbrev pub end_of_label : Label → End
+end_of_label Label.Low = End.Low
+end_of_label Label.High = End.High
+end_of_label Label.Peer = End.Low
 
 abbrev pub is_end : End → End → Bool
 is_end End.Low End.Low = true
@@ -18,4 +18,4 @@ is_end End.High End.High = true
 
 -- whether the order of the node is that of the label of its edge
 abbrev pub held : List Label → ℕ → Bool
-held labels n = is_end (end_by (slice_index_or labels (n / 2) Label.Low)) (lit_of n).over
+held labels n = is_end (end_of_label (slice_index_or labels (n / 2) Label.Low)) (lit_of n).over

@@ -8,8 +8,8 @@ abbrev pub Stays : List ℕ → List ℕ → Type 0
 Stays old new = (k x : ℕ) → slice_get old k ≡ Some x → slice_get new k ≡ Some x
 
 -- the nodes with one more, unless it is there, or one past which a search does not go
-abbrev pub IsMet : List ℕ → ℕ → List ℕ → List ℕ → Type 0
-IsMet past node old new = ((Contains old node ⊎ Contains past node) × (new ≡ old)) ⊎ (new ≡ old ++ node ∷ [])
+abbrev pub IsEntered : List ℕ → ℕ → List ℕ → List ℕ → Type 0
+IsEntered past node old new = ((Contains old node ⊎ Contains past node) × (new ≡ old)) ⊎ (new ≡ old ++ node ∷ [])
 
 -- the heads of the arcs of a node were met
 pub record HasLooked (arcs : List (ℕ × ℕ)) (past : List ℕ) (tail : ℕ) (old new : List ℕ) : Type 0 where

@@ -1,7 +1,7 @@
 //! Which end is over the other by a label.
 ghost use Rattle.std.specs.Prelude.{ℕ, ◌≡◌, ◌<◌, ◌*◌, length, IfOk, IsTrue, Contains};
 ghost use Rattle.tor_clauses.specs.Literals.{most_edges};
-ghost use Rattle.forced_edges.specs.Held.{end_by as end_of_label, held};
+ghost use Rattle.forced_edges.specs.Held.{end_of_label, held};
 
 use relationships::{End, Label};
 use std::alloc::Global;

@@ -7,13 +7,13 @@ ghost use Rattle.tor_digraph.specs.Walks.{HasArc, Reaches};
 ghost use Rattle.tor_clauses.specs.Literals.{lit_of, opposite_node};
 ghost use Rattle.tor_clauses.specs.Leading.{IsPlainWay};
 ghost use Rattle.forced_edges.specs.Nodes.{Stays};
-ghost use Rattle.forced_edges.specs.Settling.{IsShown, IsShowing, AreClosedTo, Keeps, LeadsBack, LeadsOn, IsTail};
+ghost use Rattle.forced_edges.specs.Settling.{IsFullyShown, IsShowing, AreClosedTo, StayShown, LeadsBack, LeadsAlongArc, IsTail};
 
 use crate::problem::Problem;
 use relationships::{Walk, Walks};
 use std::alloc::Global;
 use tor_arena::{ArcId, Index, NoMemory, NodeId};
-use tor_clauses::opposite;
+use tor_clauses::negation_node;
 use tor_digraph::{NodeSet, Reached, Way};
 
 /// Orders that hold in each orientation that serves, each with a walk that shows it.
@@ -93,7 +93,7 @@ impl Shown {
     fn show_from(&mut self, problem: &Problem<'_>, from: usize) -> Result<(), NoMemory>
         requires showing { IsShowing problem.now self.old }
         requires closed { AreClosedTo problem.now from self.old.nodes.items }
-        ensures shown { OnOk result (IsShown problem.now self.new) }
+        ensures shown { OnOk result (IsFullyShown problem.now self.new) }
         ensures kept { OnOk result (Stays self.old.nodes.items self.new.nodes.items) }
     {
         let mut at = from;
@@ -115,15 +115,15 @@ impl Shown {
         requires there { node < problem.now.formula.net.nodes }
         requires back { Reaches problem.now.formula.net.arcs node (opposite_node node) }
         requires new { Contains self.old.nodes.items (opposite_node node) → ⊥ }
-        requires shown { IsShown problem.now self.old }
-        ensures shown { OnOk result (IsShown problem.now self.new) }
-        ensures keeps { OnOk result (Keeps self.old self.new) }
+        requires shown { IsFullyShown problem.now self.old }
+        ensures shown { OnOk result (IsFullyShown problem.now self.new) }
+        ensures keeps { OnOk result (StayShown self.old self.new) }
         ensures added { OnOk result (Contains self.new.nodes.items (opposite_node node)) }
     {
         problem.facts();
         let walk = walk_back(alloc, problem, node, &mut self.near)?;
         let from = self.nodes.len();
-        self.nodes.add(opposite(node))?;
+        self.nodes.add(negation_node(node))?;
         self.whys.push(walk.ases.as_slice(), walk.links.as_slice())?;
         self.show_from(problem, from)
     }
@@ -139,7 +139,7 @@ fn push_walk(
 ) -> Result<(), NoMemory>
     requires there { arc < length problem.now.formula.net.arcs }
     requires head { (lit_of head).edge < length (edges problem.now.graph) }
-    ensures { OnOk result ((w : AWalk) × (whys.new ≡ whys.old ++ w ∷ []) × LeadsOn problem.now arc head tail.0 tail.1 w) }
+    ensures { OnOk result ((w : AWalk) × (whys.new ≡ whys.old ++ w ∷ []) × LeadsAlongArc problem.now arc head tail.0 tail.1 w) }
 {
     problem.facts();
     let (_, under) = problem.order(head);
@@ -173,7 +173,7 @@ fn way_back(
     requires back { Reaches problem.now.formula.net.arcs node (opposite_node node) }
     ensures { IfOk result (λ way. IsPlainWay problem.now.formula.net.arcs node (opposite_node node) way.nodes way.arcs) }
 {
-    let other = opposite(node);
+    let other = negation_node(node);
     problem.digraph().reach_none_again(near)?;
     let none = Reached::new(alloc);
     problem.rows().reach_near_to(node, other, &none, near)?;

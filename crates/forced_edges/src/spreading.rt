@@ -1,7 +1,7 @@
 //! A search that adds all that an order leads to, to an end or without one.
 ghost use Rattle.std.specs.Prelude.{◌≡◌, ◌<◌, ◌↔◌, IsTrue, IfSome, OnOk};
 ghost use Rattle.tor_digraph.specs.Reached.{IsGrown};
-ghost use Rattle.forced_edges.specs.Nodes.{IsMet, HasLooked, IsClosed, HasCome};
+ghost use Rattle.forced_edges.specs.Nodes.{IsEntered, HasLooked, IsClosed, HasCome};
 
 use tor_arena::{ArcId, Index, NoMemory, NodeId};
 use tor_digraph::{NodeSet, RowDigraph};
@@ -11,7 +11,7 @@ fn meet(node: NodeId, past: &NodeSet, found: &mut NodeSet) -> Result<(), NoMemor
     requires past { node < past.now.count }
     requires found { node < found.old.count }
     ensures count { found.new.count ≡ found.old.count }
-    ensures met { OnOk result (IsMet past.now.items node found.old.items found.new.items) }
+    ensures met { OnOk result (IsEntered past.now.items node found.old.items found.new.items) }
 {
     if !past.has(node) {
         found.add(node)?;

@@ -22,7 +22,7 @@ use Rattle.as_graph.proofs.Labelled.{NoneTwice, NoneTwice-distinct, same_itself}
 use Rattle.gao_prefs.specs.declared.per_end.PerEnd.{PerEnd}
 use Rattle.gao_prefs.specs.declared.preferring.Pref.{Pref}
 use Rattle.gao_prefs.specs.Ends.{degrees_of, votes_of}
-use Rattle.gao_prefs.specs.Preferences.{edge_at, edges_of, lean_by, wanted_by, IsPref, NotAfter}
+use Rattle.gao_prefs.specs.Preferences.{edge_preferred, edges_preferred, lean_by, wanted_by, IsPref, NotAfter}
 use Rattle.gao_prefs.proofs.VoteLemmas.{one_place}
 use Rattle.gao_prefs.proofs.PrefLemmas.{lead_abs}
 
@@ -48,8 +48,8 @@ Contains-map f xs x (k, lt, e) =
 -- what is said by the place of an edge, and by its votes and degrees
 pub record IsStated (degree : ℕ → ℕ) (kept : List (List ℕ)) (es : List Edge) (pref : Pref) : Type 0 where
   pub inside : pref.edge < length es
-  pub leans : pref.lean ≡ lean degree kept (edge_at es pref)
-  pub wants : pref.wanted ≡ wanted degree kept (edge_at es pref)
+  pub leans : pref.lean ≡ lean degree kept (edge_preferred es pref)
+  pub wants : pref.wanted ≡ wanted degree kept (edge_preferred es pref)
 
 module _ (paths kept : List (List ℕ)) (es : List Edge) (once : NoneTwice es) (table numbers : List PerEnd)
     (voted : table ≡ map (votes_of (degree paths) kept) es) (known : numbers ≡ map (degrees_of paths) es)
@@ -105,36 +105,36 @@ module _ (paths kept : List (List ℕ)) (es : List Edge) (once : NoneTwice es) (
         flips : (x y : ℕ) → nat_eq x y ≡ nat_eq y x
         flips x y = elim (cases_eq x y) [ inl e ↦ ap₂ nat_eq e (sym e) | inr n ↦ ne_eqb x y n ∙ sym (ne_eqb y x (λ e. n (sym e))) ]
 
-    each_edge : (e : Edge) → Contains es e ↔ Contains (edges_of es sorted) e
+    each_edge : (e : Edge) → Contains es e ↔ Contains (edges_preferred es sorted) e
     each_edge e = (forth, back)
       where
-        forth : Contains es e → Contains (edges_of es sorted) e
+        forth : Contains es e → Contains (edges_preferred es sorted) e
         forth (k, lt, is) =
             let n = as_long in
             let within : k < length prefs = omega (arith, n, lt) in
             let p : Pref = get_or prefs k any_pref in
-            let there : edge_at es p ≡ e = ap (λ j. get_or es j (0, 0)) (each k any_pref within).edge ∙ get_or_default es k (0, 0) e lt ∙ is in
-            subst (Contains (edges_of es sorted)) there
-            (Contains-map (edge_at es) sorted p (Contains-permutation prefs sorted p moved (k, within, get_or_default prefs k p any_pref within)))
+            let there : edge_preferred es p ≡ e = ap (λ j. get_or es j (0, 0)) (each k any_pref within).edge ∙ get_or_default es k (0, 0) e lt ∙ is in
+            subst (Contains (edges_preferred es sorted)) there
+            (Contains-map (edge_preferred es) sorted p (Contains-permutation prefs sorted p moved (k, within, get_or_default prefs k p any_pref within)))
 
-        back : Contains (edges_of es sorted) e → Contains es e
+        back : Contains (edges_preferred es sorted) e → Contains es e
         back (k, lt, is) =
-            let n = length-map sorted (edge_at es) in
+            let n = length-map sorted (edge_preferred es) in
             let within : k < length sorted = omega (arith, n, lt) in
             let p : Pref = get_or sorted k any_pref in
             let stated = stated_sorted k any_pref within in
-            (p.edge, stated.inside, get_or_default es p.edge e (0, 0) stated.inside ∙ sym (get_or-map (edge_at es) sorted k any_pref e within) ∙ is)
+            (p.edge, stated.inside, get_or_default es p.edge e (0, 0) stated.inside ∙ sym (get_or-map (edge_preferred es) sorted k any_pref e within) ∙ is)
 
-    lead_there : (p : Pref) → IsStated (degree paths) kept es p → unsigned_abs p.lean ≡ lead (degree paths) kept (edge_at es p)
+    lead_there : (p : Pref) → IsStated (degree paths) kept es p → unsigned_abs p.lean ≡ lead (degree paths) kept (edge_preferred es p)
     lead_there p stated =
-        let e : Edge = edge_at es p in ap unsigned_abs stated.leans ∙ lead_abs (votes (degree paths) kept e.0 e.1) (votes (degree paths) kept e.1 e.0)
+        let e : Edge = edge_preferred es p in ap unsigned_abs stated.leans ∙ lead_abs (votes (degree paths) kept e.0 e.1) (votes (degree paths) kept e.1 e.0)
 
     abbrev GoesFirst : Edge → Edge → Type 0
     GoesFirst e f =
         (lead (degree paths) kept f < lead (degree paths) kept e) ⊎
         ((lead (degree paths) kept f ≡ lead (degree paths) kept e) × (place es e < place es f))
 
-    goes_first : (p q : Pref) → IsStated (degree paths) kept es p → IsStated (degree paths) kept es q → p.edge ≢ q.edge → NotAfter p q → GoesFirst (edge_at es p) (edge_at es q)
+    goes_first : (p q : Pref) → IsStated (degree paths) kept es p → IsStated (degree paths) kept es q → p.edge ≢ q.edge → NotAfter p q → GoesFirst (edge_preferred es p) (edge_preferred es q)
     goes_first p q stated stated' ne (inl lt) =
         let a = lead_there p stated in
         let b = lead_there q stated' in inl (omega (arith, lt, a, b))
@@ -143,12 +143,12 @@ module _ (paths kept : List (List ℕ)) (es : List Edge) (once : NoneTwice es) (
         let b = place_of es q.edge once stated'.inside in
         inr (sym (lead_there q stated') ∙ same ∙ lead_there p stated, omega (arith, le, ne, a, b))
 
-    settling : IsSettlingOrder (lead (degree paths) kept) es (edges_of es sorted)
+    settling : IsSettlingOrder (lead (degree paths) kept) es (edges_preferred es sorted)
     settling = record { each = each_edge; falling = falling }
       where
-        falling : AllPairs GoesFirst (edges_of es sorted)
+        falling : AllPairs GoesFirst (edges_preferred es sorted)
         falling i j d lt within =
-            let n = length-map sorted (edge_at es) in
+            let n = length-map sorted (edge_preferred es) in
             let m = length-map sorted (λ (p : Pref). p.edge) in
             let i_lt : i < length sorted = omega (arith, n, lt, within) in
             let j_lt : j < length sorted = omega (arith, n, within) in
@@ -158,15 +158,15 @@ module _ (paths kept : List (List ℕ)) (es : List Edge) (once : NoneTwice es) (
             apart_sorted i j 0 lt (omega (arith, m, j_lt))
             (get_or-map (λ (p : Pref). p.edge) sorted i any_pref 0 i_lt ∙ e ∙ sym (get_or-map (λ (p : Pref). p.edge) sorted j any_pref 0 j_lt)) in
             let first = goes_first p q (stated_sorted i any_pref i_lt) (stated_sorted j any_pref j_lt) ne (falls i j any_pref (omega (arith, lt)) j_lt) in
-            subst (λ e. GoesFirst e (get_or (edges_of es sorted) j d)) (sym (get_or-map (edge_at es) sorted i any_pref d i_lt))
-            (subst (GoesFirst (edge_at es p)) (sym (get_or-map (edge_at es) sorted j any_pref d j_lt)) first)
+            subst (λ e. GoesFirst e (get_or (edges_preferred es sorted) j d)) (sym (get_or-map (edge_preferred es) sorted i any_pref d i_lt))
+            (subst (GoesFirst (edge_preferred es p)) (sym (get_or-map (edge_preferred es) sorted j any_pref d j_lt)) first)
 
 -- what the clauses of the sorted preferences say
 pub record AreSettled (degree : ℕ → ℕ) (kept : List (List ℕ)) (es : List Edge) (prefs : List Pref) : Type 0 where
   pub count : length prefs ≡ length es
   pub stated : All (IsStated degree kept es) prefs
   pub apart : AllDistinct (map (λ (p : Pref). p.edge) prefs)
-  pub order : IsSettlingOrder (lead degree kept) es (edges_of es prefs)
+  pub order : IsSettlingOrder (lead degree kept) es (edges_preferred es prefs)
 
 pub settled : (paths kept : List (List ℕ)) (table numbers : List PerEnd) (prefs sorted result : List Pref) →
     table ≡ map (votes_of (degree paths) kept) (edges paths) → numbers ≡ map (degrees_of paths) (edges paths) → length prefs ≡ length table →

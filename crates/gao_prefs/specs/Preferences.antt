@@ -9,28 +9,28 @@ use Rattle.gao_prefs.specs.declared.per_end.PerEnd.{PerEnd}
 use Rattle.gao_prefs.specs.declared.preferring.Pref.{Pref}
 
 -- the edge of a preference, where these are all edges
-abbrev pub edge_at : List Edge → Pref → Edge
-edge_at es pref = slice_index_or es pref.edge (0, 0)
+abbrev pub edge_preferred : List Edge → Pref → Edge
+edge_preferred es pref = slice_index_or es pref.edge (0, 0)
 
-abbrev pub edges_of : List Edge → List Pref → List Edge
-edges_of es prefs = map (edge_at es) prefs
+abbrev pub edges_preferred : List Edge → List Pref → List Edge
+edges_preferred es prefs = map (edge_preferred es) prefs
 
 -- ---- what the preferences of a graph's paths say, where the paths at these places are kept
 
 -- their edges stand in the order of settling
 abbrev pub AreInOrder : List (List ℕ) → List ℕ → List Pref → Type 0
 AreInOrder graph kept prefs =
-    IsSettlingOrder (lead (degree graph) (paths_at graph kept)) (edges graph) (edges_of (edges graph) prefs)
+    IsSettlingOrder (lead (degree graph) (paths_at graph kept)) (edges graph) (edges_preferred (edges graph) prefs)
 
 -- each has the lean of its edge
 abbrev pub HaveLeans : List (List ℕ) → List ℕ → List Pref → Type 0
 HaveLeans graph kept prefs =
-    All (λ pref. pref.lean ≡ lean (degree graph) (paths_at graph kept) (edge_at (edges graph) pref)) prefs
+    All (λ pref. pref.lean ≡ lean (degree graph) (paths_at graph kept) (edge_preferred (edges graph) pref)) prefs
 
 -- each has the end that its edge wants
 abbrev pub HaveWanted : List (List ℕ) → List ℕ → List Pref → Type 0
 HaveWanted graph kept prefs =
-    All (λ pref. pref.wanted ≡ wanted (degree graph) (paths_at graph kept) (edge_at (edges graph) pref)) prefs
+    All (λ pref. pref.wanted ≡ wanted (degree graph) (paths_at graph kept) (edge_preferred (edges graph) pref)) prefs
 
 -- ---- by the votes for the two ends of an edge, and their degrees
 

@@ -7,7 +7,7 @@ use Rattle.mrt_frame.specs.declared.header.Header.{Header}
 use Rattle.mrt_frame.specs.Counting.{type_of_record, with_records, CountsOn, CountsAll}
 use Rattle.mrt_frame.specs.Frames.{record_of}
 use Rattle.mrt_frame.specs.Part.{Skips, TakesHeader}
-use Rattle.mrt_frame.specs.Records.{Record, Well, Ends, behind, next_of, cut_from}
+use Rattle.mrt_frame.specs.Records.{Record, Well, Ends, place_behind, next_of, cut_from}
 use Rattle.mrt_frame.proofs.Cuts.{cut_onto, cut_ends}
 use Rattle.mrt_frame.proofs.Passing.{HasPassed, stood}
 
@@ -36,11 +36,11 @@ counted_one (Some octets) left mid after start at place header first counts seco
     let r : Record = record_of at header (take header.len (drop 12 reached)) in
     let rest = drop header.len (drop 12 reached) in
     let all = with_records (cut_from start octets).records first in
-    let same_place : behind r ≡ place = ap₂ (λ (n o : ℕ). record { number = n; offset = o }) (sym number) (ap (λ n. at.offset + 12 + n) s.2 ∙ sym offset) in
+    let same_place : place_behind r ≡ place = ap₂ (λ (n o : ℕ). record { number = n; offset = o }) (sym number) (ap (λ n. at.offset + 12 + n) s.2 ∙ sym offset) in
     let so_far : with_records (cut_from at reached).records counts ≡ all = subst (λ o. IfSome o (λ t. with_records (cut_from at t).records counts ≡ all)) passed.1 on in
     let counted : with_records (cut_from place rest).records second ≡ all =
     ap₂ (λ (p : At) (c : Counts). with_records (cut_from p rest).records c) (sym same_place) is
-    ∙ sym (with_first r (cut_from (behind r) rest).records counts)
+    ∙ sym (with_first r (cut_from (place_behind r) rest).records counts)
     ∙ sym (ap (λ cut. with_records cut.records counts) (cut_onto at reached r rest s.0)) ∙ so_far in
     subst (λ o. IfSome o (λ t. with_records (cut_from place t).records second ≡ all)) (sym s.1) counted
 

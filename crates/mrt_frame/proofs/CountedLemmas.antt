@@ -10,7 +10,7 @@ use Rattle.std.proofs.lemmas.List.Sums.{sum_by-cons, sum_by-append}
 use borrow.Author.Tests.{eqb-true, eq-eqb}
 use Rattle.record_counts.specs.declared.type_count.RecordType.{RecordType}
 use Rattle.record_counts.specs.Counting.{Counts, type_cmp, count_of, capped, with_more}
-use Rattle.record_counts.specs.Counted.{IsListed, AreCounted}
+use Rattle.record_counts.specs.Counted.{Occurs, AreCounted}
 use Rattle.record_counts.proofs.CountedLemmas.{same_at, at_itself, gained, kept, now_listed, was_listed}
 use Rattle.record_counts.proofs.CountedLemmas.{counted_none, counted_more, counted_both, together_law}
 use Rattle.mrt_frame.specs.Counted.{has_type, AreCountsOf, FileCountsLaw, CountsTogetherLaw}
@@ -85,8 +85,8 @@ either_of : (q x : RecordType) (xs : List RecordType) → (q ≡ x) ⊎ Contains
 either_of q x xs (inl same) = (0, omega arith, sym same)
 either_of q x xs (inr h) = let below = h.1 in (suc h.0, omega arith, h.2)
 
-listed_of : (t : RecordType) (records : List Record) (counts : Counts) → IsListed t (with_records records counts)
-    → IsListed t counts ⊎ Contains (types records) t
+listed_of : (t : RecordType) (records : List Record) (counts : Counts) → Occurs t (with_records records counts)
+    → Occurs t counts ⊎ Contains (types records) t
 unfolding with_records
 listed_of t [] counts h = inl h
 listed_of t (r ∷ records) counts h = ⊎_elim
@@ -97,8 +97,8 @@ listed_of t (r ∷ records) counts h = ⊎_elim
     (λ later. inr (either_of t (type_of_record r) (types records) (inr later)))
     (listed_of t records (with_more (type_of_record r) 1 counts) h)
 
-listed_with : (t : RecordType) (records : List Record) (counts : Counts) → IsListed t counts ⊎ Contains (types records) t
-    → IsListed t (with_records records counts)
+listed_with : (t : RecordType) (records : List Record) (counts : Counts) → Occurs t counts ⊎ Contains (types records) t
+    → Occurs t (with_records records counts)
 unfolding with_records
 listed_with t [] counts (inl h) = h
 listed_with t [] counts (inr h) = absurd (let below = h.1 in omega arith)
@@ -109,7 +109,7 @@ listed_with t (r ∷ records) counts (inr h) = listed_with t records (with_more 
     (λ later. inr later)
     (first_or_later t (type_of_record r) (types records) h.0 h.1 h.2))
 
-none_listed : (t : RecordType) → IsListed t [] → ⊥
+none_listed : (t : RecordType) → Occurs t [] → ⊥
 none_listed t h = let below = h.1 in omega arith
 
 -- ---- the laws

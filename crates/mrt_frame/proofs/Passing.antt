@@ -9,7 +9,7 @@ use Rattle.mrt_frame.specs.declared.record_kind.RecordKind.{RecordKind}
 use Rattle.mrt_frame.specs.Frames.{PassesOver, Passes, FindsNext, StopsWith, record_of, record_as}
 use Rattle.mrt_frame.specs.Part.{Skips, TakesHeader}
 use Rattle.mrt_frame.specs.Kinds.{kind_of, is_read}
-use Rattle.mrt_frame.specs.Records.{Record, Cut, End, Ends, Holds, BodyCut, behind, next_of, cut_within}
+use Rattle.mrt_frame.specs.Records.{Record, Cut, RecordsEnd, Ends, Holds, BodyCut, place_behind, next_of, cut_within}
 use Rattle.mrt_frame.proofs.KindNumbers.{numbers_of, read_kind}
 use Rattle.mrt_frame.proofs.Cuts.{shorter, unrolled}
 
@@ -18,19 +18,19 @@ nothing at octets = ([], (refl, refl))
 
 -- one record more before them
 pub one_more : (at : At) (octets : List ℕ) (r : Record) (rest : List ℕ) (place : At) (reached : List ℕ) → next_of at octets ≡ Holds r rest → is_read r.kind r.subtype ≡ false
-    → Passes (behind r) rest place reached → Passes at octets place reached
+    → Passes (place_behind r) rest place reached → Passes at octets place reached
 one_more at octets r rest place reached is not p = (r ∷ p.0, (rest, is, not, p.1))
 
 over_then : (records : List Record) (at : At) (octets : List ℕ) (place : At) (reached : List ℕ) (r : Record) (rest : List ℕ) → PassesOver records at octets place reached
-    → next_of place reached ≡ Holds r rest → is_read r.kind r.subtype ≡ false → Passes at octets (behind r) rest
+    → next_of place reached ≡ Holds r rest → is_read r.kind r.subtype ≡ false → Passes at octets (place_behind r) rest
 over_then [] at octets place reached r rest p is not =
-    one_more at octets r rest (behind r) rest (sym (ap₂ next_of p.0 p.1) ∙ is) not (nothing (behind r) rest)
+    one_more at octets r rest (place_behind r) rest (sym (ap₂ next_of p.0 p.1) ∙ is) not (nothing (place_behind r) rest)
 over_then (q ∷ records) at octets place reached r rest p is not =
-    one_more at octets q p.0 (behind r) rest p.1 p.2 (over_then records (behind q) p.0 place reached r rest p.3 is not)
+    one_more at octets q p.0 (place_behind r) rest p.1 p.2 (over_then records (place_behind q) p.0 place reached r rest p.3 is not)
 
 -- one record more behind
 pub and_then : (at : At) (octets : List ℕ) (place : At) (reached : List ℕ) (r : Record) (rest : List ℕ) → Passes at octets place reached → next_of place reached ≡ Holds r rest
-    → is_read r.kind r.subtype ≡ false → Passes at octets (behind r) rest
+    → is_read r.kind r.subtype ≡ false → Passes at octets (place_behind r) rest
 and_then at octets place reached r rest p is not = over_then p.0 at octets place reached r rest p.1 is not
 
 -- none of these records is read
@@ -61,7 +61,7 @@ over [] fuel at octets place reached p le = record {
 }
 over (r ∷ records) zero at octets place reached p le = absurd (omega (arith, shorter at octets r p.0 p.1))
 over (r ∷ records) (suc fuel) at octets place reached p le =
-    let later = over records fuel (behind r) p.0 place reached p.3 (omega (arith, shorter at octets r p.0 p.1)) in
+    let later = over records fuel (place_behind r) p.0 place reached p.3 (omega (arith, shorter at octets r p.0 p.1)) in
     record {
       records = r ∷ later.records;
       none = (p.2, later.none);
@@ -101,7 +101,7 @@ passed_one (Some octets) left mid after start at next header passed h skipped no
     let s = stood at reached header mid after here skipped in
     let r : Record = record_of at header (take header.len (drop 12 reached)) in
     let rest = drop header.len (drop 12 reached) in
-    let place : behind r ≡ next = ap₂ (λ (n o : ℕ). record { number = n; offset = o }) (sym number) (ap (λ n. at.offset + 12 + n) s.2 ∙ sym offset) in
+    let place : place_behind r ≡ next = ap₂ (λ (n o : ℕ). record { number = n; offset = o }) (sym number) (ap (λ n. at.offset + 12 + n) s.2 ∙ sym offset) in
     (rest, s.1, subst (λ (a : At). Passes start octets a rest) place (and_then start octets at reached r rest passed.2 s.0 not))
 
 -- the record of a header by its kind
@@ -129,7 +129,7 @@ finds (Some octets) left mid after start at header kind body passed h skipped ta
       leaves = s.1;
     }
 
-pub stops : (before left : Option (List ℕ)) (start at : At) (end : End) → HasPassed before start left at → IfSome left (λ octets. next_of at octets ≡ Ends end)
+pub stops : (before left : Option (List ℕ)) (start at : At) (end : RecordsEnd) → HasPassed before start left at → IfSome left (λ octets. next_of at octets ≡ Ends end)
     → IfSome before (λ octets. StopsWith start octets end)
 stops None left start at end passed is = tt
 stops (Some octets) left start at end passed is = record {
@@ -140,12 +140,12 @@ stops (Some octets) left start at end passed is = record {
 }
 
 -- a body is cut where fewer octets than its header says are behind it
-pub cut_body : (left mid : Option (List ℕ)) (at : At) (header : Header) (end : End) → IfSome left (λ octets. TakesHeader at octets header mid)
+pub cut_body : (left mid : Option (List ℕ)) (at : At) (header : Header) (end : RecordsEnd) → IfSome left (λ octets. TakesHeader at octets header mid)
     → (end ≡ BodyCut at) × IfSome mid (λ octets. length octets < header.len) → IfSome left (λ octets. next_of at octets ≡ Ends end)
 cut_body None mid at header end h short = tt
 cut_body (Some octets) mid at header end h short =
     let few : length (drop 12 octets) < header.len = subst (λ o. IfSome o (λ (t : List ℕ). length t < header.len)) h.0 short.1 in
-    h.1 ∙ rw (lt-ltb (length (drop 12 octets)) header.len few) (ap (λ (e : End). Ends e) (sym short.0))
+    h.1 ∙ rw (lt-ltb (length (drop 12 octets)) header.len few) (ap (λ (e : RecordsEnd). Ends e) (sym short.0))
 
 -- what holds of the value, where it follows
 pub if_some : {T : Type 0} (o : Option T) (P Q : T → Type 0) → ((x : T) → P x → Q x) → IfSome o P → IfSome o Q

@@ -3,8 +3,8 @@ use Rattle.std.specs.Prelude.{◌≡◌, ◌↔◌, ℕ, ◌&&◌, Bool, List, �
 use Rattle.std.specs.List.Sorted.{IsStrictlySortedBy}
 use Rattle.std.specs.Map.{keys_of}
 use Rattle.record_counts.specs.declared.type_count.RecordType.{RecordType}
-use Rattle.record_counts.specs.Counting.{Counts, type_cmp, count_of, capped, together}
-use Rattle.record_counts.specs.Counted.{IsListed}
+use Rattle.record_counts.specs.Counting.{Counts, type_cmp, count_of, capped, counts_together}
+use Rattle.record_counts.specs.Counted.{Occurs}
 use Rattle.mrt_frame.specs.Counting.{type_of_record, records_in}
 use Rattle.mrt_frame.specs.Records.{Record, cut}
 
@@ -16,7 +16,7 @@ has_type t r = nat_eq r.kind t.kind && nat_eq r.subtype t.subtype
 -- 2 ^ 64 - 1
 pub record AreCountsOf (records : List Record) (counts : Counts) : Type 0 where
   pub many : (t : RecordType) → count_of t counts ≡ capped (count_by (has_type t) records)
-  pub listed : (t : RecordType) → IsListed t counts ↔ Contains (map type_of_record records) t
+  pub listed : (t : RecordType) → Occurs t counts ↔ Contains (map type_of_record records) t
   pub ascend : IsStrictlySortedBy type_cmp (keys_of counts)
 
 -- the counts of a file are those of its records
@@ -27,4 +27,4 @@ FileCountsLaw = (octets : List ℕ) → AreCountsOf (cut octets).records (record
 abbrev pub CountsTogetherLaw : Type 0
 CountsTogetherLaw =
     (records others : List Record) (counts more : Counts) → AreCountsOf records counts → AreCountsOf others more →
-    AreCountsOf (records ++ others) (together counts more)
+    AreCountsOf (records ++ others) (counts_together counts more)

@@ -4,7 +4,7 @@ use Rattle.std.specs.Prelude.{◌≡◌, ◌↔◌, ℕ, ◌+◌, ◌<◌, ◌�
 use Rattle.mrt_frame.specs.declared.header.At.{At}
 use Rattle.mrt_frame.specs.Kinds.{is_read}
 use Rattle.mrt_frame.specs.Limits.{max_body, max_file}
-use Rattle.mrt_frame.specs.Records.{Record, End, Well, HeadCut, TooManyBytes, Oversize, BodyCut, kind_in, subtype_in, length_in, behind, start, cut}
+use Rattle.mrt_frame.specs.Records.{Record, RecordsEnd, Well, HeadCut, TooManyBytes, Oversize, BodyCut, kind_in, subtype_in, length_in, place_behind, start, cut}
 
 -- twelve octets are the header of this record; their first four, its timestamp, are free
 pub record IsHeader (header : List ℕ) (r : Record) : Type 0 where
@@ -34,7 +34,7 @@ abbrev pub IsRead : List ℕ → Type 0
 IsRead octets = IsTrue (is_read (kind_in octets) (subtype_in octets))
 
 -- no record stands at this place, for this reason
-abbrev pub IsEnd : At → List ℕ → End → Type 0
+abbrev pub IsEnd : At → List ℕ → RecordsEnd → Type 0
 IsEnd at octets Well = octets ≡ []
 IsEnd at octets (HeadCut a) = (a ≡ at) × (0 < length octets) × (length octets < 12)
 IsEnd at octets TooManyBytes = (12 ≤ length octets) × (max_file < at.offset + 12 + length_in octets)
@@ -43,20 +43,20 @@ IsEnd at octets (BodyCut a) =
     (a ≡ at) × IsNear at octets × (IsRead octets → length_in octets ≤ max_body) × (length octets < 12 + length_in octets)
 
 -- from this place on, the octets encode these records one behind the other, and then there is this end
-abbrev pub AreEncoded : At → List ℕ → List Record → End → Type 0
-AreEncoded at octets [] end = IsEnd at octets end
-AreEncoded at octets (r ∷ records) end =
-    (rest : List ℕ) × (r.at ≡ at) × IsWithin r × Encodes octets r rest × AreEncoded (behind r) rest records end
+abbrev pub EncodeRecords : At → List ℕ → List Record → RecordsEnd → Type 0
+EncodeRecords at octets [] end = IsEnd at octets end
+EncodeRecords at octets (r ∷ records) end =
+    (rest : List ℕ) × (r.at ≡ at) × IsWithin r × Encodes octets r rest × EncodeRecords (place_behind r) rest records end
 
 -- a file is cut into these records with this end exactly if it encodes them and then has this end; with the end Well, it
 -- is their encoding and nothing else
 abbrev pub EncodingLaw : Type 0
 EncodingLaw =
-    (octets : List ℕ) (records : List Record) (end : End) →
-    (cut octets ≡ record { records = records; end = end }) ↔ AreEncoded start octets records end
+    (octets : List ℕ) (records : List Record) (end : RecordsEnd) →
+    (cut octets ≡ record { records = records; end = end }) ↔ EncodeRecords start octets records end
 
 -- what a file encodes is one list of records, with one end
 abbrev pub OneReadingLaw : Type 0
 OneReadingLaw =
-    (octets : List ℕ) (records others : List Record) (end other : End) →
-    AreEncoded start octets records end → AreEncoded start octets others other → (records ≡ others) × (end ≡ other)
+    (octets : List ℕ) (records others : List Record) (end other : RecordsEnd) →
+    EncodeRecords start octets records end → EncodeRecords start octets others other → (records ≡ others) × (end ≡ other)

@@ -6,7 +6,7 @@ use Rattle.std.proofs.lemmas.List.{take-append-drop, length-take-le, length-appe
 use Rattle.byteorder.specs.Endian.{big_number}
 use Rattle.path_attrs.specs.declared.block.AttrCut.{AttrCut}
 use Rattle.path_attrs.specs.Fields.{◌>>=◌, octets, number}
-use Rattle.path_attrs.specs.Attributes.{Attribute, cut, length_octets, attribute, attributes_within, attributes_of, attributes_in, first_value, IsEncoded, AreEncoded, BlockLaw}
+use Rattle.path_attrs.specs.Attributes.{Attribute, attr_cut, length_octets, attribute, attributes_within, attributes_of, attributes_in, first_value, IsEncoded, AreEncoded, BlockLaw}
 use Rattle.path_attrs.proofs.Reading.{number_at, number_encoded, octets_encoded, octets_then, number_then, apart, ok_same}
 use Rattle.path_attrs.proofs.Encodings.{big_number-take, big_number-one, one_octet}
 
@@ -43,26 +43,26 @@ four_fields bytes h1 h2 h3 h4 =
 
 -- the steps of an attribute
 after_len : ℕ → ℕ × List ℕ → Result (Attribute × List ℕ) AttrCut
-after_len code len = octets cut len.0 len.1 >>= λ value. Ok (record { code = code; value = value.0 }, value.1)
+after_len code len = octets attr_cut len.0 len.1 >>= λ value. Ok (record { code = code; value = value.0 }, value.1)
 
 after_code : ℕ → ℕ × List ℕ → Result (Attribute × List ℕ) AttrCut
-after_code flags code = number cut (length_octets flags) code.1 >>= after_len code.0
+after_code flags code = number attr_cut (length_octets flags) code.1 >>= after_len code.0
 
 after_flags : ℕ × List ℕ → Result (Attribute × List ℕ) AttrCut
-after_flags flags = number cut 1 flags.1 >>= after_code flags.0
+after_flags flags = number attr_cut 1 flags.1 >>= after_code flags.0
 
 attribute_back : (bytes : List ℕ) (a : Attribute) (rest : List ℕ) → attribute bytes ≡ Ok (a, rest) → Begins a rest bytes
 unfolding attribute after_len after_code after_flags
 attribute_back bytes a rest is =
-    let s1 = number_then cut 1 bytes after_flags (a, rest) is in
+    let s1 = number_then attr_cut 1 bytes after_flags (a, rest) is in
     let b1 = drop 1 bytes in
-    let s2 = number_then cut 1 b1 (after_code (big_number 1 bytes)) (a, rest) s1.1 in
+    let s2 = number_then attr_cut 1 b1 (after_code (big_number 1 bytes)) (a, rest) s1.1 in
     let b2 = drop 1 b1 in
     let k = length_octets (big_number 1 bytes) in
-    let s3 = number_then cut k b2 (after_len (big_number 1 b1)) (a, rest) s2.1 in
+    let s3 = number_then attr_cut k b2 (after_len (big_number 1 b1)) (a, rest) s2.1 in
     let b3 = drop k b2 in
     let l = big_number k b2 in
-    let s4 = octets_then cut l b3 (λ value. Ok (record { code = big_number 1 b1; value = value.0 }, value.1)) (a, rest) s3.1 in
+    let s4 = octets_then attr_cut l b3 (λ value. Ok (record { code = big_number 1 b1; value = value.0 }, value.1)) (a, rest) s3.1 in
     let same = ok_same (record { code = big_number 1 b1; value = take l b3 }, drop l b3) (a, rest) s4.1 in
     subst (λ (x : Attribute × List ℕ). Begins x.0 x.1 bytes) same (four_fields bytes s1.0 s2.0 s3.0 s4.0)
 
@@ -73,12 +73,12 @@ attribute_at a prefix rest s =
     let behind = a.value ++ rest in
     let k = length_octets s.flags in
     let all : prefix ++ rest ≡ s.flags ∷ a.code ∷ (s.len ++ behind) = ap (λ f. f ++ rest) s.parts ∙ ap (λ t. s.flags ∷ a.code ∷ t) (append_assoc s.len a.value rest) in
-    let flags : number cut 1 (s.flags ∷ a.code ∷ (s.len ++ behind)) ≡ Ok (s.flags, a.code ∷ (s.len ++ behind)) =
-    number_at cut 1 (s.flags ∷ a.code ∷ (s.len ++ behind)) (omega arith) ∙ ap (λ x. Ok (x, a.code ∷ (s.len ++ behind))) (big_number-one s.flags (a.code ∷ (s.len ++ behind))) in
-    let code : number cut 1 (a.code ∷ (s.len ++ behind)) ≡ Ok (a.code, s.len ++ behind) =
-    number_at cut 1 (a.code ∷ (s.len ++ behind)) (omega arith) ∙ ap (λ x. Ok (x, s.len ++ behind)) (big_number-one a.code (s.len ++ behind)) in
-    let len = number_encoded cut k s.len behind (length a.value) s.width s.counts in
-    let value = octets_encoded cut a.value rest in
+    let flags : number attr_cut 1 (s.flags ∷ a.code ∷ (s.len ++ behind)) ≡ Ok (s.flags, a.code ∷ (s.len ++ behind)) =
+    number_at attr_cut 1 (s.flags ∷ a.code ∷ (s.len ++ behind)) (omega arith) ∙ ap (λ x. Ok (x, a.code ∷ (s.len ++ behind))) (big_number-one s.flags (a.code ∷ (s.len ++ behind))) in
+    let code : number attr_cut 1 (a.code ∷ (s.len ++ behind)) ≡ Ok (a.code, s.len ++ behind) =
+    number_at attr_cut 1 (a.code ∷ (s.len ++ behind)) (omega arith) ∙ ap (λ x. Ok (x, s.len ++ behind)) (big_number-one a.code (s.len ++ behind)) in
+    let len = number_encoded attr_cut k s.len behind (length a.value) s.width s.counts in
+    let value = octets_encoded attr_cut a.value rest in
     ap attribute all ∙ ap (λ r. r >>= after_flags) flags ∙ ap (λ r. r >>= after_code s.flags) code ∙ ap (λ r. r >>= after_len a.code) len
     ∙ ap (λ (r : Result (List ℕ × List ℕ) AttrCut). r >>= λ v. Ok (record { code = a.code; value = v.0 }, v.1)) value
 
@@ -158,7 +158,7 @@ attributes_in-whole bytes ok = at (attributes_of bytes) ok
 encoded_within : (n : ℕ) (bytes : List ℕ) (attrs : List Attribute) → attributes_within n bytes ≡ Ok attrs → AreEncoded attrs bytes
 unfolding attributes_within
 encoded_within n [] attrs is = subst (λ l. AreEncoded l []) (ok_same {E = AttrCut} [] attrs is) refl
-encoded_within zero (x ∷ xs) attrs is = absurd (apart cut attrs is)
+encoded_within zero (x ∷ xs) attrs is = absurd (apart attr_cut attrs is)
 encoded_within (suc n) (x ∷ xs) attrs is = of_first (attribute (x ∷ xs)) refl is (λ rest others h. encoded_within n rest others h)
   where
     of_others : (first : Attribute × List ℕ) (read : Result (List Attribute) AttrCut) → attribute (x ∷ xs) ≡ Ok first → attributes_within n first.1 ≡ read

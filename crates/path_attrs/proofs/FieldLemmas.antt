@@ -3,7 +3,7 @@ use Rattle.std.proofs.Common.{◌≡◌, ℕ, ◌==◌, ◌∷◌, ◌++◌, Boo
 use Rattle.std.proofs.lemmas.List.{take-append-drop, length-take-le, append_assoc, append-nil}
 use Rattle.std.proofs.Math.Dec.{eqb-suc-zero}
 use Rattle.byteorder.specs.Endian.{big_number}
-use Rattle.path_attrs.specs.Fields.{◌>>=◌, octets, number, check, or_fault}
+use Rattle.path_attrs.specs.Fields.{◌>>=◌, octets, number, fault_unless, or_fault}
 use Rattle.path_attrs.proofs.Encodings.{big_number-take}
 use Rattle.path_attrs.proofs.Reading.{apart, octets_encoded, octets_then, number_encoded, number_then}
 
@@ -52,7 +52,7 @@ number_back fault n bytes f y is =
       next = ap (λ k. f (k, drop n bytes)) (big_number-take n bytes t.0) ∙ t.1;
     }
 
-pub check_back : {B E : Type 0} (fault : E) (b : Bool) (f : Unit {0} → Result B E) (y : B) → (check fault b >>= f) ≡ Ok y → (b ≡ true) × (f tt ≡ Ok y)
+pub check_back : {B E : Type 0} (fault : E) (b : Bool) (f : Unit {0} → Result B E) (y : B) → (fault_unless fault b >>= f) ≡ Ok y → (b ≡ true) × (f tt ≡ Ok y)
 check_back fault true f y is = (refl, is)
 check_back fault false f y is = absurd (apart fault y is)
 
@@ -76,8 +76,8 @@ pub number_on : {B E : Type 0} (fault : E) (n : ℕ) (field rest : List ℕ) (x 
 number_on {E = E} fault n field rest x f y size is next =
     ap (λ (r : Result (ℕ × List ℕ) E). r >>= f) (number_encoded fault n field rest x size is) ∙ next
 
-pub check_on : {B E : Type 0} (fault : E) (b : Bool) (f : Unit {0} → Result B E) (y : Result B E) → b ≡ true → f tt ≡ y → (check fault b >>= f) ≡ y
-check_on fault b f y holds next = ap (λ c. check fault c >>= f) holds ∙ next
+pub check_on : {B E : Type 0} (fault : E) (b : Bool) (f : Unit {0} → Result B E) (y : Result B E) → b ≡ true → f tt ≡ y → (fault_unless fault b >>= f) ≡ y
+check_on fault b f y holds next = ap (λ c. fault_unless fault c >>= f) holds ∙ next
 
 pub or_fault_on : {A B E F : Type 0} (fault : E) (read : Result A F) (x : A) (f : A → Result B E) (y : Result B E) → read ≡ Ok x → f x ≡ y → (or_fault fault read >>= f) ≡ y
 or_fault_on fault read x f y is next = ap (λ r. or_fault fault r >>= f) is ∙ next

@@ -8,11 +8,11 @@ use Rattle.path_attrs.specs.declared.as_path.Width.{Width}
 use Rattle.path_attrs.specs.declared.as_path.SegKind.{SegKind}
 use Rattle.path_attrs.specs.declared.as_path.SegKind.TheVariants.{Set, Sequence, ConfedSequence, ConfedSet}
 use Rattle.path_attrs.specs.declared.as_path.Segment.{Segment}
-use Rattle.path_attrs.specs.Segments.{octets_in, code_of, kind_of, numbers, segment_of, segment, segments_within, segments_of, segments_in, NumbersAreEncoded, SegmentIsEncoded, SegmentsAreEncoded, ValueLaw}
+use Rattle.path_attrs.specs.Segments.{octets_in, code_of, segment_kind, big_numbers, segment_of, segment, segments_within, segments_of, segments_in, NumbersAreEncoded, SegmentIsEncoded, SegmentsAreEncoded, ValueLaw}
 use Rattle.path_attrs.proofs.Encodings.{big_number-append, big_number-take}
 
 -- numbers and their octets
-numbers-back : (n count : ℕ) (bytes : List ℕ) → n * count ≤ length bytes → NumbersAreEncoded n (numbers n count bytes) (take (n * count) bytes)
+numbers-back : (n count : ℕ) (bytes : List ℕ) → n * count ≤ length bytes → NumbersAreEncoded n (big_numbers n count bytes) (take (n * count) bytes)
 numbers-back n zero bytes h = let e : n * 0 ≡ 0 = omega arith in ap (λ k. take k bytes) e
 numbers-back n (suc count) bytes h =
     let e : n * suc count ≡ n + n * count = omega arith in (
@@ -24,11 +24,11 @@ numbers-back n (suc count) bytes h =
       ap (λ k. take k bytes) e ∙ take-add n (n * count) bytes,
     )
 
-pub numbers-length : (n count : ℕ) (bytes : List ℕ) → length (numbers n count bytes) ≡ count
+pub numbers-length : (n count : ℕ) (bytes : List ℕ) → length (big_numbers n count bytes) ≡ count
 numbers-length n zero bytes = refl
 numbers-length n (suc count) bytes = ap suc (numbers-length n count (drop n bytes))
 
-pub numbers-at : (n : ℕ) (xs octets rest : List ℕ) → NumbersAreEncoded n xs octets → (length octets ≡ n * length xs) × (numbers n (length xs) (octets ++ rest) ≡ xs)
+pub numbers-at : (n : ℕ) (xs octets rest : List ℕ) → NumbersAreEncoded n xs octets → (length octets ≡ n * length xs) × (big_numbers n (length xs) (octets ++ rest) ≡ xs)
 numbers-at n [] octets rest s = (ap length s ∙ (let e : 0 ≡ n * 0 = omega arith in e), refl)
 numbers-at n (x ∷ xs) octets rest s =
     let prefix = s.0 in
@@ -37,10 +37,10 @@ numbers-at n (x ∷ xs) octets rest s =
     let all : octets ++ rest ≡ prefix ++ (more ++ rest) = ap (λ o. o ++ rest) s.5 ∙ append_assoc prefix more rest in
     let first : big_number n (octets ++ rest) ≡ x = ap (big_number n) all ∙ big_number-append n prefix (more ++ rest) (omega (arith, s.2)) ∙ s.3 in
     let left : drop n (octets ++ rest) ≡ more ++ rest = ap (drop n) all ∙ subst (λ k. drop k (prefix ++ (more ++ rest)) ≡ more ++ rest) s.2 (drop-append_seam prefix (more ++ rest)) in
-    (omega (arith, ap length s.5, length-append prefix more, s.2, behind.0), ap₂ (λ y ys. y ∷ ys) first (ap (numbers n (length xs)) left ∙ behind.1))
+    (omega (arith, ap length s.5, length-append prefix more, s.2, behind.0), ap₂ (λ y ys. y ∷ ys) first (ap (big_numbers n (length xs)) left ∙ behind.1))
 
 -- the kinds and their codes
-kind-back : (code : ℕ) (kind : SegKind) → kind_of code ≡ Some kind → code_of kind ≡ code
+kind-back : (code : ℕ) (kind : SegKind) → segment_kind code ≡ Some kind → code_of kind ≡ code
 kind-back code kind is = by1 (code == 1) refl is
   where
     chosen : (k : SegKind) → code_of k ≡ code → ◌≡◌ {A = Option SegKind} (Some k) (Some kind) → code_of kind ≡ code
@@ -66,7 +66,7 @@ kind-back code kind is = by1 (code == 1) refl is
     by1 true t h = chosen Set (sym (eqb-true code 1 t)) h
     by1 false t h = by2 (code == 2) refl h
 
-kind-at : (kind : SegKind) → kind_of (code_of kind) ≡ Some kind
+kind-at : (kind : SegKind) → segment_kind (code_of kind) ≡ Some kind
 kind-at Set = refl
 kind-at Sequence = refl
 kind-at ConfedSequence = refl
@@ -84,7 +84,7 @@ same_pair x y h = cc
 none_apart : {A : Type 0} (x : A) → ◌≡◌ {A = Option A} None (Some x) → ⊥
 none_apart x h = cc
 
-kind_then : (width : Width) (code count : ℕ) (octets : List ℕ) (s : Segment) (rest : List ℕ) (k : Option SegKind) → kind_of code ≡ k → 0 < count → octets_in width * count ≤ length octets
+kind_then : (width : Width) (code count : ℕ) (octets : List ℕ) (s : Segment) (rest : List ℕ) (k : Option SegKind) → segment_kind code ≡ k → 0 < count → octets_in width * count ≤ length octets
     → option_map (segment_of width count octets) k ≡ Some (s, rest) → Begins width s rest (code ∷ count ∷ octets)
 kind_then width code count octets s rest None t some fits h = absurd (none_apart (s, rest) h)
 kind_then width code count octets s rest (Some kind) t some fits h =
@@ -108,11 +108,11 @@ segment-back width [] s rest is = absurd (none_apart (s, rest) is)
 segment-back width (code ∷ []) s rest is = absurd (none_apart (s, rest) is)
 segment-back width (code ∷ count ∷ octets) s rest is = by_test (ltb 0 count && leb (octets_in width * count) (length octets)) refl is
   where
-    by_test : (b : Bool) → (ltb 0 count && leb (octets_in width * count) (length octets)) ≡ b → cond b (option_map (segment_of width count octets) (kind_of code)) None ≡ Some (s, rest)
+    by_test : (b : Bool) → (ltb 0 count && leb (octets_in width * count) (length octets)) ≡ b → cond b (option_map (segment_of width count octets) (segment_kind code)) None ≡ Some (s, rest)
         → Begins width s rest (code ∷ count ∷ octets)
     by_test true t h =
         let p = and_parts (ltb 0 count) (leb (octets_in width * count) (length octets)) t in
-        kind_then width code count octets s rest (kind_of code) refl (ltb-true 0 count p.0) (leb-true (octets_in width * count) (length octets) p.1) h
+        kind_then width code count octets s rest (segment_kind code) refl (ltb-true 0 count p.0) (leb-true (octets_in width * count) (length octets) p.1) h
     by_test false t h = absurd (none_apart (s, rest) h)
 
 -- read from its encoding
@@ -127,7 +127,7 @@ segment-at width s prefix rest sp =
     let test : (ltb 0 count && leb (w * count) (length behind)) ≡ true = and_from (ltb 0 count) (leb (w * count) (length behind)) (lt-ltb 0 count sp.some) (le-leb (w * count) (length behind) fits) in
     let left : drop (w * count) behind ≡ rest = subst (λ k. drop k behind ≡ rest) read.0 (drop-append_seam sp.octets rest) in
     ap (λ f. segment width (f ++ rest)) sp.parts
-    ∙ ap (λ b. cond b (option_map (segment_of width count behind) (kind_of (code_of s.kind))) None) test
+    ∙ ap (λ b. cond b (option_map (segment_of width count behind) (segment_kind (code_of s.kind))) None) test
     ∙ ap (option_map (segment_of width count behind)) (kind-at s.kind)
     ∙ ap₂ (λ ases t. Some (record { kind = s.kind; ases = ases }, t)) read.1 left
 

@@ -2,7 +2,7 @@
 use Rattle.std.proofs.Common.{◌≡◌, ℕ, List, [], ◌∷◌, ◌++◌, Some, None, Ok, Err, refl}
 use Rattle.path_attrs.specs.declared.as_path.Width.TheVariants.{Two, Four}
 use Rattle.path_attrs.specs.declared.as_path.SegKind.TheVariants.{Set, Sequence, ConfedSequence, ConfedSet}
-use Rattle.path_attrs.specs.Attributes.{cut, attribute, attributes_within, attributes_of, attributes_in, first_value}
+use Rattle.path_attrs.specs.Attributes.{attr_cut, attribute, attributes_within, attributes_of, attributes_in, first_value}
 use Rattle.path_attrs.specs.Segments.{segment, segments_within, segments_of}
 
 -- the value of the AS_PATH 10 20, in two octets and in four
@@ -30,12 +30,12 @@ unfolding attributes_of attributes_within attribute origin four
 extended = refl
 
 -- a length of one octet more
-length_too_great : attributes_of (origin ++ 64 ∷ 2 ∷ 11 ∷ four) ≡ Err cut
+length_too_great : attributes_of (origin ++ 64 ∷ 2 ∷ 11 ∷ four) ≡ Err attr_cut
 unfolding attributes_of attributes_within attribute origin four
 length_too_great = refl
 
 -- a length of one octet less leaves an octet behind
-length_too_small : attributes_of (origin ++ 64 ∷ 2 ∷ 9 ∷ four) ≡ Err cut
+length_too_small : attributes_of (origin ++ 64 ∷ 2 ∷ 9 ∷ four) ≡ Err attr_cut
 unfolding attributes_of attributes_within attribute origin four
 length_too_small = refl
 

@@ -10,8 +10,8 @@ pub record Attribute : Type 0 where
   pub code : ℕ
   pub value : List ℕ
 
-abbrev pub cut : AttrCut
-cut = record {}
+abbrev pub attr_cut : AttrCut
+attr_cut = record {}
 
 -- how many octets the length of a value has: two where the flag 0x10 is set
 abbrev pub length_octets : ℕ → ℕ
@@ -20,16 +20,16 @@ length_octets flags = if bit_and flags 0x10 == 0 then 1 else 2
 -- the attribute that stands first, and the octets behind it
 unfoldable pub attribute : List ℕ → Result (Attribute × List ℕ) AttrCut
 attribute bytes = do
-  flags ← number cut 1 bytes
-  code ← number cut 1 flags.1
-  len ← number cut (length_octets flags.0) code.1
-  value ← octets cut len.0 len.1
+  flags ← number attr_cut 1 bytes
+  code ← number attr_cut 1 flags.1
+  len ← number attr_cut (length_octets flags.0) code.1
+  value ← octets attr_cut len.0 len.1
   Ok (record { code = code.0; value = value.0 }, value.1)
 
 -- at most n attributes, one behind the other, and nothing else
 unfoldable pub attributes_within : ℕ → List ℕ → Result (List Attribute) AttrCut
 attributes_within n [] = Ok []
-attributes_within zero (octet ∷ octets) = Err cut
+attributes_within zero (octet ∷ octets) = Err attr_cut
 attributes_within (suc n) (octet ∷ octets) = do
   first ← attribute (octet ∷ octets)
   others ← attributes_within n first.1

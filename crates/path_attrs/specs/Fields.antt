@@ -17,9 +17,9 @@ abbrev pub number : {E : Type 0} → E → ℕ → List ℕ → Result (ℕ × L
 number fault n bytes = if nat_lt (length bytes) n then Err fault else Ok (big_number n bytes, drop n bytes)
 
 -- the fault, unless the test holds
-abbrev pub check : {E : Type 0} → E → Bool → Result (Unit {0}) E
-check fault true = Ok tt
-check fault false = Err fault
+abbrev pub fault_unless : {E : Type 0} → E → Bool → Result (Unit {0}) E
+fault_unless fault true = Ok tt
+fault_unless fault false = Err fault
 
 -- what was read, or in place of its fault this one
 abbrev pub or_fault : {A E F : Type 0} → F → Result A E → Result A F

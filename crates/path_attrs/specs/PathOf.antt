@@ -82,9 +82,9 @@ count_by ConfedSet members = 0
 abbrev pub count_in : Segment → ℕ
 count_in s = count_by s.kind (length s.ases)
 
-abbrev pub count_of : List Segment → ℕ
-count_of [] = 0
-count_of (s ∷ segments) = count_in s + count_of segments
+abbrev pub ases_in : List Segment → ℕ
+ases_in [] = 0
+ases_in (s ∷ segments) = count_in s + ases_in segments
 
 -- all four, of the segments of AS_PATH and AS4_PATH
 abbrev pub is_merged : Width → List Attribute → (segments as4 : List Segment) → Bool
@@ -92,7 +92,7 @@ is_merged width attrs segments as4 =
     is_two width
     && has_no_confed segments
     && not (is_aggregated_anew attrs)
-    && nat_le (count_of as4) (count_of segments)
+    && nat_le (ases_in as4) (ases_in segments)
 
 -- ---- the merge
 
@@ -115,13 +115,13 @@ leading_in (Some n) segments = leading n segments
 
 -- what AS_PATH counts more than AS4_PATH stands before that
 abbrev pub merged : List Segment → List Segment → List Segment
-merged segments as4 = leading (count_of segments - count_of as4) segments ++ as4
+merged segments as4 = leading (ases_in segments - ases_in as4) segments ++ as4
 
 -- so the merged path counts as many ASes as AS_PATH (RFC 6793, section 4.2.3), and ends in AS4_PATH
 abbrev pub MergeLaw : Type 0
 MergeLaw =
-    (segments as4 : List Segment) → count_of as4 ≤ count_of segments
-    → (count_of (merged segments as4) ≡ count_of segments)
+    (segments as4 : List Segment) → ases_in as4 ≤ ases_in segments
+    → (ases_in (merged segments as4) ≡ ases_in segments)
     × ((before : List Segment) × (merged segments as4 ≡ before ++ as4))
 
 abbrev pub merged_with : Width → List Attribute → List Segment → Option (List Segment) → List Segment

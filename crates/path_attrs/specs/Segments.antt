@@ -20,8 +20,8 @@ code_of ConfedSequence = 3
 code_of ConfedSet = 4
 
 -- the kind of a type code
-abbrev pub kind_of : ℕ → Option SegKind
-kind_of code =
+abbrev pub segment_kind : ℕ → Option SegKind
+segment_kind code =
     if code == 1 then Some Set
     else if code == 2 then Some Sequence
     else if code == 3 then Some ConfedSequence
@@ -29,14 +29,14 @@ kind_of code =
     else None
 
 -- count numbers of n octets each
-abbrev pub numbers : ℕ → ℕ → List ℕ → List ℕ
-numbers n zero bytes = []
-numbers n (suc count) bytes = big_number n bytes ∷ numbers n count (drop n bytes)
+abbrev pub big_numbers : ℕ → ℕ → List ℕ → List ℕ
+big_numbers n zero bytes = []
+big_numbers n (suc count) bytes = big_number n bytes ∷ big_numbers n count (drop n bytes)
 
 -- the segment of a kind and a count of numbers that begins the octets, and the octets behind it
 abbrev pub segment_of : Width → ℕ → List ℕ → SegKind → Segment × List ℕ
 segment_of width count bytes kind =
-    (record { kind = kind; ases = numbers (octets_in width) count bytes }, drop (octets_in width * count) bytes)
+    (record { kind = kind; ases = big_numbers (octets_in width) count bytes }, drop (octets_in width * count) bytes)
 
 -- the segment that stands first, and the octets behind it: it is not empty, whole, and of a kind that there is
 unfoldable pub segment : Width → List ℕ → Option (Segment × List ℕ)
@@ -44,7 +44,7 @@ segment width [] = None
 segment width (code ∷ []) = None
 segment width (code ∷ count ∷ bytes) =
     if nat_lt 0 count && nat_le (octets_in width * count) (length bytes)
-    then option_map (segment_of width count bytes) (kind_of code)
+    then option_map (segment_of width count bytes) (segment_kind code)
     else None
 
 -- at most n segments, one behind the other, and nothing else

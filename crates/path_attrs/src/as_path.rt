@@ -1,7 +1,7 @@
 //! The segments of an AS_PATH.
 ghost use Rattle.std.specs.Prelude.{◌≡◌, ◌*◌, ◌<◌, ◌≤◌, length, IfSome, option_map};
 ghost use Rattle.byteorder.specs.Endian.{big_number};
-ghost use Rattle.path_attrs.specs.Segments.{octets_in, kind_of, segment, segment_of};
+ghost use Rattle.path_attrs.specs.Segments.{octets_in, segment_kind, segment, segment_of};
 ghost use Rattle.path_attrs.specs.PathOf.{is_confed};
 
 use byteorder::{BigEndian, ByteOrder};
@@ -70,7 +70,7 @@ impl SegKind {
     }
 
     fn from_code(code: u8) -> Option<SegKind>
-        ensures { result ≡ kind_of code }
+        ensures { result ≡ segment_kind code }
     {
         match code {
             1 => Some(SegKind::Set),

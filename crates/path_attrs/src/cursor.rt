@@ -80,13 +80,13 @@ pub struct SegmentRef<'a> {
 impl<'a> Model for SegmentRef<'a> {
     ghost use Rattle.std.specs.Prelude.{◌*◌, ◌≤◌, length};
     ghost use Rattle.path_attrs.specs.declared.as_path.Segment.{Segment};
-    ghost use Rattle.path_attrs.specs.Segments.{octets_in, numbers};
+    ghost use Rattle.path_attrs.specs.Segments.{octets_in, big_numbers};
 
     ghost Value = { Segment };
 
     ghost view = { λ segment. record {
       kind = segment.kind;
-      ases = numbers (octets_in segment.width) segment.count segment.octets.now;
+      ases = big_numbers (octets_in segment.width) segment.count segment.octets.now;
     } };
 
     ghost invariant = { λ segment. octets_in segment.width * segment.count ≤ length segment.octets.now };
@@ -145,11 +145,11 @@ pub struct NumberCursor<'a> {
 
 impl<'a> Model for NumberCursor<'a> {
     ghost use Rattle.std.specs.Prelude.{◌*◌, ◌≤◌, ℕ, List, length};
-    ghost use Rattle.path_attrs.specs.Segments.{octets_in, numbers};
+    ghost use Rattle.path_attrs.specs.Segments.{octets_in, big_numbers};
 
     ghost Value = { List ℕ };
 
-    ghost view = { λ cursor. numbers (octets_in cursor.width) cursor.count cursor.rest.now };
+    ghost view = { λ cursor. big_numbers (octets_in cursor.width) cursor.count cursor.rest.now };
 
     ghost invariant = { λ cursor. octets_in cursor.width * cursor.count ≤ length cursor.rest.now };
 }

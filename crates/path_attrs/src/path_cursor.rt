@@ -7,7 +7,7 @@ ghost use Rattle.path_attrs.specs.declared.as_path.Width.TheVariants.{Two, Four}
 ghost use Rattle.path_attrs.specs.PathOf.{
   as4_path,
   as4_segments,
-  count_of,
+  ases_in,
   has_no_confed,
   is_aggregated_anew,
   is_as4_aggregator,
@@ -227,8 +227,8 @@ fn has_no_confed(segments: SegmentCursor<'_>) -> bool
 
 // How many ASes the segments count.
 fn count_of(segments: SegmentCursor<'_>) -> usize
-    requires { count_of segments ≤ 65535 }
-    ensures { result ≡ count_of segments.entry }
+    requires { ases_in segments ≤ 65535 }
+    ensures { result ≡ ases_in segments.entry }
 {
     let mut left = segments;
     let mut count = 0;
@@ -266,14 +266,14 @@ fn is_aggregated_anew(attrs: &Attrs<'_>) -> bool
 // The segments of the first AS4_PATH, those of confederations among them. None: there is none that is well formed.
 fn as4_segments<'a>(attrs: &'a Attrs<'_>) -> Option<SegmentCursor<'a>>
     ensures as4 { result ≡ option_and_then (segments_of Four) (first_value as4_path attrs.now) }
-    ensures few { IfSome result (λ as4. count_of as4 ≤ 65535) }
+    ensures few { IfSome result (λ as4. ases_in as4 ≤ 65535) }
 {
     SegmentCursor::over(attrs.first(AS4_PATH)?, Width::Four)
 }
 
 // The segments of AS_PATH with numbers of two octets, merged with AS4_PATH where that counts.
 fn merged_with<'a>(attrs: &'a Attrs<'_>, segments: SegmentCursor<'a>) -> PathCursor<'a>
-    requires { count_of segments ≤ 65535 }
+    requires { ases_in segments ≤ 65535 }
     ensures { result ≡ merged_with Two attrs.now segments.entry (as4_segments attrs.now) }
 {
     let Some(as4) = as4_segments(attrs) else {

@@ -6,7 +6,7 @@ use Rattle.std.proofs.lemmas.Bool.{both_ways}
 use Rattle.std.proofs.lemmas.List.{append-nil}
 use Rattle.std.proofs.lemmas.List.Sums.{sum_by-append, sum_by-cons}
 use Rattle.path_clean.specs.Rows.{Counted}
-use Rattle.path_clean.specs.Table.{with_path, distinct, counted, CountingLaw}
+use Rattle.path_clean.specs.Table.{with_path, distinct_paths, counted, CountingLaw}
 
 eq_true : (x y : List ℕ) → bytes_eq x y ≡ true → x ≡ y
 eq_true x y e = (bytes_eq-Decides x y).0 e
@@ -63,10 +63,10 @@ others_once x (d ∷ ds) once = by (others_once x ds once.1) (bytes_eq d x) refl
     by ih true e = subst (λ c. NoTwice (cond (not c) (d ∷ others x ds) (others x ds))) (sym e) ih
     by ih false e = subst (λ c. NoTwice (cond (not c) (d ∷ others x ds) (others x ds))) (sym e) (mem_others d x ds e ∙ once.0, ih)
 
-distinct_once : (paths : List (List ℕ)) → NoTwice (distinct paths)
+distinct_once : (paths : List (List ℕ)) → NoTwice (distinct_paths paths)
 unfolding NoTwice
 distinct_once [] = tt
-distinct_once (x ∷ xs) = (mem_itself x (distinct xs), others_once x (distinct xs) (distinct_once xs))
+distinct_once (x ∷ xs) = (mem_itself x (distinct_paths xs), others_once x (distinct_paths xs) (distinct_once xs))
 
 -- ---- how often
 
@@ -82,16 +82,16 @@ count_push paths p q = omega (arith, sum_by-append (λ other. cond (bytes_eq oth
 count_cons : (x : List ℕ) (paths : List (List ℕ)) (q : List ℕ) → count (x ∷ paths) q ≡ one x q + count paths q
 count_cons x paths q = sum_by-cons (λ other. cond (bytes_eq other q) 1 0) x paths
 
-count_absent : (paths : List (List ℕ)) (p : List ℕ) → mem p (distinct paths) ≡ false → count paths p ≡ 0
+count_absent : (paths : List (List ℕ)) (p : List ℕ) → mem p (distinct_paths paths) ≡ false → count paths p ≡ 0
 unfolding mem
 count_absent [] p none = refl
 count_absent (x ∷ xs) p none = by (λ h. count_absent xs p h) (bytes_eq x p) refl
   where
-    by : (mem p (distinct xs) ≡ false → count xs p ≡ 0) → (b : Bool) → bytes_eq x p ≡ b → count (x ∷ xs) p ≡ 0
-    by ih true e = absurd (both_ways (cond (bytes_eq x p) true (mem p (others x (distinct xs)))) none (ap (λ c. cond c true (mem p (others x (distinct xs)))) e))
+    by : (mem p (distinct_paths xs) ≡ false → count xs p ≡ 0) → (b : Bool) → bytes_eq x p ≡ b → count (x ∷ xs) p ≡ 0
+    by ih true e = absurd (both_ways (cond (bytes_eq x p) true (mem p (others x (distinct_paths xs)))) none (ap (λ c. cond c true (mem p (others x (distinct_paths xs)))) e))
     by ih false e =
-        let rest : mem p (others x (distinct xs)) ≡ false = ap (λ c. cond c true (mem p (others x (distinct xs)))) (sym e) ∙ none in
-        let before : count xs p ≡ 0 = ih (sym (mem_others p x (distinct xs) (eq_flip x p false e)) ∙ rest) in
+        let rest : mem p (others x (distinct_paths xs)) ≡ false = ap (λ c. cond c true (mem p (others x (distinct_paths xs)))) (sym e) ∙ none in
+        let before : count xs p ≡ 0 = ih (sym (mem_others p x (distinct_paths xs) (eq_flip x p false e)) ∙ rest) in
         let here : one x p ≡ 0 = ap (λ c. cond c 1 0) e in
         count_cons x xs p ∙ omega arith
 
@@ -127,10 +127,10 @@ others_pushed x p ds = by (bytes_eq x p) refl
         other (mem p ds) e ∙ ap (λ c. cond c (x ∷ others x ds) (x ∷ others x ds ++ p ∷ [])) (sym (mem_others p x ds (eq_flip x p false e)))
         ∙ ap (λ c. cond (cond c true (mem p (others x ds))) (x ∷ others x ds) (x ∷ others x ds ++ p ∷ [])) (sym e)
 
-distinct_push : (paths : List (List ℕ)) (p : List ℕ) → distinct (paths ++ p ∷ []) ≡ pushed p (distinct paths)
+distinct_push : (paths : List (List ℕ)) (p : List ℕ) → distinct_paths (paths ++ p ∷ []) ≡ pushed p (distinct_paths paths)
 unfolding mem
 distinct_push [] p = refl
-distinct_push (x ∷ xs) p = ap (λ (t : List (List ℕ)). x ∷ others x t) (distinct_push xs p) ∙ others_pushed x p (distinct xs)
+distinct_push (x ∷ xs) p = ap (λ (t : List (List ℕ)). x ∷ others x t) (distinct_push xs p) ∙ others_pushed x p (distinct_paths xs)
 
 -- ---- the rows
 
@@ -198,21 +198,21 @@ rows_append f [] p = refl
 rows_append f (d ∷ ds) p = ap (λ (t : List Counted). record { path = d; times = min (f d) most } ∷ t) (rows_append f ds p)
 
 pub counted_push : (paths : List (List ℕ)) (path : List ℕ) → counted (paths ++ path ∷ []) ≡ with_path (counted paths) path
-counted_push paths path = by (mem path (distinct paths)) refl
+counted_push paths path = by (mem path (distinct_paths paths)) refl
   where
-    by : (b : Bool) → mem path (distinct paths) ≡ b → counted (paths ++ path ∷ []) ≡ with_path (counted paths) path
+    by : (b : Bool) → mem path (distinct_paths paths) ≡ b → counted (paths ++ path ∷ []) ≡ with_path (counted paths) path
     by true e =
-        rows_same (count (paths ++ path ∷ [])) (bumped (count paths) path) (distinct (paths ++ path ∷ [])) (count_push paths path)
-        ∙ ap (rows_by (bumped (count paths) path)) (distinct_push paths path ∙ ap (λ c. cond c (distinct paths) (distinct paths ++ path ∷ [])) e)
-        ∙ sym (with_again (count paths) path (distinct paths) e (distinct_once paths))
+        rows_same (count (paths ++ path ∷ [])) (bumped (count paths) path) (distinct_paths (paths ++ path ∷ [])) (count_push paths path)
+        ∙ ap (rows_by (bumped (count paths) path)) (distinct_push paths path ∙ ap (λ c. cond c (distinct_paths paths) (distinct_paths paths ++ path ∷ [])) e)
+        ∙ sym (with_again (count paths) path (distinct_paths paths) e (distinct_once paths))
     by false e =
         let once : min (count paths path + one path path) most ≡ 1 = omega (arith, count_absent paths path e, one_true path path (eq_self path)) in
-        rows_same (count (paths ++ path ∷ [])) (bumped (count paths) path) (distinct (paths ++ path ∷ [])) (count_push paths path)
-        ∙ ap (rows_by (bumped (count paths) path)) (distinct_push paths path ∙ ap (λ c. cond c (distinct paths) (distinct paths ++ path ∷ [])) e)
-        ∙ rows_append (bumped (count paths) path) (distinct paths) path
-        ∙ ap (λ k. rows_by (bumped (count paths) path) (distinct paths) ++ record { path = path; times = k } ∷ []) once
-        ∙ ap (λ (t : List Counted). t ++ record { path = path; times = 1 } ∷ []) (unchanged (count paths) path (distinct paths) e)
-        ∙ sym (with_new (count paths) path (distinct paths) e)
+        rows_same (count (paths ++ path ∷ [])) (bumped (count paths) path) (distinct_paths (paths ++ path ∷ [])) (count_push paths path)
+        ∙ ap (rows_by (bumped (count paths) path)) (distinct_push paths path ∙ ap (λ c. cond c (distinct_paths paths) (distinct_paths paths ++ path ∷ [])) e)
+        ∙ rows_append (bumped (count paths) path) (distinct_paths paths) path
+        ∙ ap (λ k. rows_by (bumped (count paths) path) (distinct_paths paths) ++ record { path = path; times = k } ∷ []) once
+        ∙ ap (λ (t : List Counted). t ++ record { path = path; times = 1 } ∷ []) (unchanged (count paths) path (distinct_paths paths) e)
+        ∙ sym (with_new (count paths) path (distinct_paths paths) e)
 
 counting_from : (done more : List (List ℕ)) → fold with_path (counted done) more ≡ counted (done ++ more)
 counting_from done [] = ap counted (sym (append-nil done))

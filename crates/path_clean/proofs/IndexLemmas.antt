@@ -11,7 +11,7 @@ use Rattle.path_clean.proofs.TableLemmas.{found-at}
 use Rattle.path_clean.specs.declared.slots.Slot.{Slot}
 use Rattle.path_clean.specs.declared.slots.SearchEnd.{SearchEnd}
 use Rattle.path_clean.specs.declared.slots.SearchEnd.TheVariants.{Held, Free, Full}
-use Rattle.path_clean.specs.Slots.{tag_of, start_at, row_from_one, Names, HeldFrom, IsVacant, IsVacancy, IsSearchEnd, IsAbsent, Tells, IsTold, AreWithin, IsIndexed}
+use Rattle.path_clean.specs.Slots.{tag_of, slot_of_tag, row_from_one, Names, NamedFrom, IsVacant, IsVacancy, IsRowSearchEnd, IsAbsent, Tells, IsTold, NameOnlyRows, IsIndexed}
 use Rattle.path_clean.proofs.SlotGets.{get-push_old, get-push_new, get-push_cases, get-set_cases}
 use Rattle.path_clean.proofs.SlotLemmas.{stays-set, keeps-set, names-set, held-stays}
 
@@ -23,26 +23,26 @@ same x y e = cc
 pub get-row : (rows : List (List ℕ)) (k : ℕ) → k < length rows → slice_get rows k ≡ Some (row_at rows k)
 get-row rows k lt = slice_get-get_or rows k [] lt ∙ ap (λ (r : List ℕ). Some r) (sym (unwrap_or-slice_get rows k []))
 
-absent-by : (seed : ℕ) (rows : List (List ℕ)) (slots : List Slot) (path : List ℕ) (start : ℕ) → IsIndexed seed rows slots → start ≡ start_at (tag_of seed path) (length slots) →
-    (HeldFrom rows slots path start (length slots) → ⊥) → IsAbsent rows path
+absent-by : (seed : ℕ) (rows : List (List ℕ)) (slots : List Slot) (path : List ℕ) (start : ℕ) → IsIndexed seed rows slots → start ≡ slot_of_tag (tag_of seed path) (length slots) →
+    (NamedFrom rows slots path start (length slots) → ⊥) → IsAbsent rows path
 absent-by seed rows slots path start index is none k lt e =
-    none (subst (λ s. HeldFrom rows slots path s (length slots)) (sym is) (index.each k path (get-row rows k lt ∙ ap (λ (r : List ℕ). Some r) e)))
+    none (subst (λ s. NamedFrom rows slots path s (length slots)) (sym is) (index.each k path (get-row rows k lt ∙ ap (λ (r : List ℕ). Some r) e)))
 
 pub tells-by : (seed : ℕ) (rows : List (List ℕ)) (slots : List Slot) (path : List ℕ) (tag : ℕ) (end : SearchEnd) → IsIndexed seed rows slots → tag ≡ tag_of seed path →
-    IsSearchEnd rows slots (start_at tag (length slots)) path end → Tells rows path end
+    IsRowSearchEnd rows slots (slot_of_tag tag (length slots)) path end → Tells rows path end
 tells-by seed rows slots path tag (Held id) index is p =
     let lt = slice_get_within rows id path p in
     (lt, same (row_at rows id) path (sym (get-row rows id lt) ∙ p))
 tells-by seed rows slots path tag (Free place) index is p =
-    absent-by seed rows slots path (start_at tag (length slots)) index (ap (λ t. start_at t (length slots)) is) p.1
+    absent-by seed rows slots path (slot_of_tag tag (length slots)) index (ap (λ t. slot_of_tag t (length slots)) is) p.1
 tells-by seed rows slots path tag Full index is p =
-    absent-by seed rows slots path (start_at tag (length slots)) index (ap (λ t. start_at t (length slots)) is) p
+    absent-by seed rows slots path (slot_of_tag tag (length slots)) index (ap (λ t. slot_of_tag t (length slots)) is) p
 
 pub not_there : (rows : List (List ℕ)) (path : List ℕ) (end : SearchEnd) → Tells rows path end → ((x : ℕ) × (end ≡ Free x)) ⊎ (end ≡ Full) → IsAbsent rows path
 not_there rows path end t (inl h) = subst (Tells rows path) h.1 t
 not_there rows path end t (inr h) = subst (Tells rows path) h t
 
-pub vacancy-of : (rows : List (List ℕ)) (slots : List Slot) (start : ℕ) (path : List ℕ) (end : SearchEnd) → IsSearchEnd rows slots start path end → IsVacancy slots start end
+pub vacancy-of : (rows : List (List ℕ)) (slots : List Slot) (start : ℕ) (path : List ℕ) (end : SearchEnd) → IsRowSearchEnd rows slots start path end → IsVacancy slots start end
 vacancy-of rows slots start path (Held id) p = tt
 vacancy-of rows slots start path (Free place) p = p.0
 vacancy-of rows slots start path Full p = tt
@@ -66,7 +66,7 @@ from-one-new rows p (suc k) is = let at : k ≡ length rows = omega (arith, is) 
 
 -- a row at the end, which a vacant slot is made to name
 pub index-push : (seed : ℕ) (rows : List (List ℕ)) (slots : List Slot) (path : List ℕ) (place : ℕ) (slot : Slot) → IsIndexed seed rows slots →
-    IsVacant slots (start_at slot.tag (length slots)) place → slot.tag ≡ tag_of seed path → slot.row ≡ length rows + 1 → length rows + 1 ≤ most_places →
+    IsVacant slots (slot_of_tag slot.tag (length slots)) place → slot.tag ≡ tag_of seed path → slot.row ≡ length rows + 1 → length rows + 1 ≤ most_places →
     IsIndexed seed (rows ++ path ∷ []) (set slots place slot)
 index-push seed rows slots path place slot index vacant tag row room = record { each = each; told = told; within = within; few = few }
   where
@@ -85,20 +85,20 @@ index-push seed rows slots path place slot index vacant tag row room = record { 
     keep : (q : List ℕ) (k : ℕ) → Names rows slots k q → Names (rows ++ path ∷ []) (set slots place slot) k q
     keep q k n = let m = keeps-set slots place slot vacant.free rows q k n in (m.0, m.1, from-one-old rows path m.0.row q m.2)
 
-    old : (k : ℕ) (q : List ℕ) → slice_get rows k ≡ Some q → HeldFrom (rows ++ path ∷ []) (set slots place slot) q (start_at (tag_of seed q) (length slots)) (length slots)
-    old k q e = held-stays rows (rows ++ path ∷ []) slots (set slots place slot) q (start_at (tag_of seed q) (length slots)) (length slots) len (keep q)
+    old : (k : ℕ) (q : List ℕ) → slice_get rows k ≡ Some q → NamedFrom (rows ++ path ∷ []) (set slots place slot) q (slot_of_tag (tag_of seed q) (length slots)) (length slots)
+    old k q e = held-stays rows (rows ++ path ∷ []) slots (set slots place slot) q (slot_of_tag (tag_of seed q) (length slots)) (length slots) len (keep q)
         (stays-set slots place slot vacant.free used) (index.each k q e)
 
-    last : HeldFrom (rows ++ path ∷ []) (set slots place slot) path (start_at (tag_of seed path) (length slots)) (length slots)
-    last = subst (λ t. HeldFrom (rows ++ path ∷ []) (set slots place slot) path (start_at t (length slots)) (length slots)) tag
+    last : NamedFrom (rows ++ path ∷ []) (set slots place slot) path (slot_of_tag (tag_of seed path) (length slots)) (length slots)
+    last = subst (λ t. NamedFrom (rows ++ path ∷ []) (set slots place slot) path (slot_of_tag t (length slots)) (length slots)) tag
         (vacant.leads (rows ++ path ∷ []) path (set slots place slot) len (stays-set slots place slot vacant.free used)
         (names-set slots place slot vacant.free (rows ++ path ∷ []) path (from-one-new rows path slot.row row)))
 
     each : (k : ℕ) (q : List ℕ) → slice_get (rows ++ path ∷ []) k ≡ Some q →
-        HeldFrom (rows ++ path ∷ []) (set slots place slot) q (start_at (tag_of seed q) (length (set slots place slot))) (length (set slots place slot))
-    each k q e = subst (λ n. HeldFrom (rows ++ path ∷ []) (set slots place slot) q (start_at (tag_of seed q) n) n) (sym len) (elim (get-push_cases rows path k q e) [
+        NamedFrom (rows ++ path ∷ []) (set slots place slot) q (slot_of_tag (tag_of seed q) (length (set slots place slot))) (length (set slots place slot))
+    each k q e = subst (λ n. NamedFrom (rows ++ path ∷ []) (set slots place slot) q (slot_of_tag (tag_of seed q) n) n) (sym len) (elim (get-push_cases rows path k q e) [
       | inl h ↦ old k q h
-      | inr h ↦ subst (λ x. HeldFrom (rows ++ path ∷ []) (set slots place slot) x (start_at (tag_of seed x) (length slots)) (length slots)) (sym h.1) last
+      | inr h ↦ subst (λ x. NamedFrom (rows ++ path ∷ []) (set slots place slot) x (slot_of_tag (tag_of seed x) (length slots)) (length slots)) (sym h.1) last
     ])
 
     told : (q : List ℕ) → IsTold (rows ++ path ∷ []) (set slots place slot) (tag_of seed q) q
@@ -109,7 +109,7 @@ index-push seed rows slots path place slot index vacant tag row room = record { 
       | inr h ↦ index.told q k s h.1 (from-one-within rows path s.row q (index.within k s h.1) names)
     ]
 
-    within : AreWithin (length (rows ++ path ∷ [])) (set slots place slot)
+    within : NameOnlyRows (length (rows ++ path ∷ [])) (set slots place slot)
     within k s e = elim (get-set_cases slots place slot k s e) [
       | inl h ↦ let is = ap (λ (x : Slot). x.row) h.1 in omega (arith, is, row, many)
       | inr h ↦ let le = index.within k s h.1 in omega (arith, le, many)

@@ -5,9 +5,10 @@ use Rattle.std.proofs.lemmas.Option.{slice_get_within, slice_get-get_or, unwrap_
 use Rattle.std.proofs.lemmas.List.{take-append-le}
 use Rattle.std.proofs.Math.Seq.{take-length}
 use Rattle.std.proofs.lemmas.Bool.{cases_lt, both_ways}
+use Rattle.tor_arena.specs.Growth.{next_slot}
 use Rattle.path_clean.specs.declared.slots.Slot.{Slot}
 use Rattle.path_clean.specs.Chains.{row_at}
-use Rattle.path_clean.specs.Slots.{tag_of, start_at, next_slot, row_from_one, Names, IsFree, HeldFrom, StaysUsed, IsVacant, IsTold, IsPut, KeepsAll}
+use Rattle.path_clean.specs.Slots.{tag_of, slot_of_tag, row_from_one, Names, IsFree, NamedFrom, NoneFreed, IsVacant, IsTold, IsPut, KeepsAll}
 use Rattle.path_clean.proofs.SlotGets.{get-set_cases, get-set_other, get-set_same, get-replicate}
 
 same : {X : Type 0} (x y : X) → ◌≡◌ {A = Option X} (Some x) (Some y) → x ≡ y
@@ -30,13 +31,13 @@ free_or_names rows slots place path f n =
 -- what a search from the start has shown when it comes to a place, with so many left
 pub record IsPassing (slots : List Slot) (start place left : ℕ) : Type 0 where
   pub inside : place < length slots
-  pub back : (rows : List (List ℕ)) (path : List ℕ) (new : List Slot) → length new ≡ length slots → StaysUsed slots new →
-      HeldFrom rows new path place left → HeldFrom rows new path start (length slots)
+  pub back : (rows : List (List ℕ)) (path : List ℕ) (new : List Slot) → length new ≡ length slots → NoneFreed slots new →
+      NamedFrom rows new path place left → NamedFrom rows new path start (length slots)
 
 -- and that the path wasn't met
 pub record IsSeeking (rows : List (List ℕ)) (slots : List Slot) (start : ℕ) (path : List ℕ) (place left : ℕ) : Type 0 where
   pub passing : IsPassing slots start place left
-  pub still : HeldFrom rows slots path start (length slots) → HeldFrom rows slots path place left
+  pub still : NamedFrom rows slots path start (length slots) → NamedFrom rows slots path place left
 
 pub passing_begins : (slots : List Slot) (start : ℕ) → start < length slots → IsPassing slots start start (length slots)
 passing_begins slots start h = record { inside = h; back = (λ rows path new len used k. k) }
@@ -45,10 +46,10 @@ pub passing_goes : (slots : List Slot) (start place left n next : ℕ) → left 
     (IsFree slots place → ⊥) → next ≡ next_slot (length slots) place → next < length slots → IsPassing slots start next n
 passing_goes slots start place left n next so k used is inside = record {
   inside = inside;
-  back = (λ rows path new len stays h. k.back rows path new len stays (subst (HeldFrom rows new path place) (sym so)
+  back = (λ rows path new len stays h. k.back rows path new len stays (subst (NamedFrom rows new path place) (sym so)
       (inr (
         (λ e. used (stays place e)),
-        subst (λ m. HeldFrom rows new path (next_slot m place) n) (sym len) (subst (λ p. HeldFrom rows new path p n) is h),
+        subst (λ m. NamedFrom rows new path (next_slot m place) n) (sym len) (subst (λ p. NamedFrom rows new path p n) is h),
       ))));
 }
 
@@ -64,50 +65,50 @@ pub seeking_goes : (rows : List (List ℕ)) (slots : List Slot) (start : ℕ) (p
     (IsFree slots place → ⊥) → (Names rows slots place path → ⊥) → next ≡ next_slot (length slots) place → next < length slots → IsSeeking rows slots start path next n
 seeking_goes rows slots start path place left n next so k used other is inside = record {
   passing = passing_goes slots start place left n next so k.passing used is inside;
-  still = (λ h. subst (λ p. HeldFrom rows slots path p n) (sym is) (rest (subst (HeldFrom rows slots path place) so (k.still h))));
+  still = (λ h. subst (λ p. NamedFrom rows slots path p n) (sym is) (rest (subst (NamedFrom rows slots path place) so (k.still h))));
 }
   where
-    rest : HeldFrom rows slots path place (suc n) → HeldFrom rows slots path (next_slot (length slots) place) n
+    rest : NamedFrom rows slots path place (suc n) → NamedFrom rows slots path (next_slot (length slots) place) n
     rest (inl e) = absurd (other e)
     rest (inr h) = h.1
 
 -- past a slot that is free nothing is found
 pub seeking_free : (rows : List (List ℕ)) (slots : List Slot) (start : ℕ) (path : List ℕ) (place left : ℕ) → 0 < left → IsSeeking rows slots start path place left →
-    IsFree slots place → HeldFrom rows slots path start (length slots) → ⊥
+    IsFree slots place → NamedFrom rows slots path start (length slots) → ⊥
 seeking_free rows slots start path place zero some k free h = absurd (omega arith)
 seeking_free rows slots start path place (suc n) some k free h = ends (k.still h)
   where
-    ends : HeldFrom rows slots path place (suc n) → ⊥
+    ends : NamedFrom rows slots path place (suc n) → ⊥
     ends (inl e) = free_or_names rows slots place path free e
     ends (inr r) = r.0 free
 
 pub seeking_full : (rows : List (List ℕ)) (slots : List Slot) (start : ℕ) (path : List ℕ) (place left : ℕ) → left ≤ 0 → IsSeeking rows slots start path place left →
-    HeldFrom rows slots path start (length slots) → ⊥
+    NamedFrom rows slots path start (length slots) → ⊥
 seeking_full rows slots start path place zero none k h = k.still h
 seeking_full rows slots start path place (suc n) none k h = absurd (omega arith)
 
 -- ---- a slot has changed
 
 pub held-stays : (rows more : List (List ℕ)) (slots new : List Slot) (path : List ℕ) (place n : ℕ) → length new ≡ length slots →
-    ((q : ℕ) → Names rows slots q path → Names more new q path) → StaysUsed slots new → HeldFrom rows slots path place n → HeldFrom more new path place n
+    ((q : ℕ) → Names rows slots q path → Names more new q path) → NoneFreed slots new → NamedFrom rows slots path place n → NamedFrom more new path place n
 held-stays rows more slots new path place zero len keep stays h = h
 held-stays rows more slots new path place (suc n) len keep stays (inl e) = inl (keep place e)
 held-stays rows more slots new path place (suc n) len keep stays (inr h) =
     inr (
       (λ e. h.0 (stays place e)),
-      subst (λ m. HeldFrom more new path (next_slot m place) n) (sym len)
+      subst (λ m. NamedFrom more new path (next_slot m place) n) (sym len)
           (held-stays rows more slots new path (next_slot (length slots) place) n len keep stays h.1),
     )
 
 -- what is held is named by some slot
-pub held-somewhere : (rows : List (List ℕ)) (slots : List Slot) (path : List ℕ) (place n : ℕ) → HeldFrom rows slots path place n → (q : ℕ) × Names rows slots q path
+pub held-somewhere : (rows : List (List ℕ)) (slots : List Slot) (path : List ℕ) (place n : ℕ) → NamedFrom rows slots path place n → (q : ℕ) × Names rows slots q path
 held-somewhere rows slots path place zero h = absurd h
 held-somewhere rows slots path place (suc n) (inl e) = (place, e)
 held-somewhere rows slots path place (suc n) (inr h) = held-somewhere rows slots path (next_slot (length slots) place) n h.1
 
 -- a slot that is put into a free one
 module _ (slots : List Slot) (place : ℕ) (slot : Slot) where
-  pub stays-set : IsFree slots place → (slot.row ≡ 0 → ⊥) → StaysUsed slots (set slots place slot)
+  pub stays-set : IsFree slots place → (slot.row ≡ 0 → ⊥) → NoneFreed slots (set slots place slot)
   stays-set free used q f = elim (get-set_cases slots place slot q f.0 f.1) [
     | inl a ↦ absurd (used (ap (λ (s : Slot). s.row) (sym a.1) ∙ f.2))
     | inr b ↦ (f.0, b.1, f.2)
@@ -121,13 +122,13 @@ module _ (slots : List Slot) (place : ℕ) (slot : Slot) where
   names-set free rows path is = (slot, get-set_same slots place slot (slice_get_within slots place free.0 free.1), is)
 
   -- what is put into the first free slot
-  pub put-set : (start : ℕ) → start ≡ start_at slot.tag (length slots) → (slot.row ≡ 0 → ⊥) → IsVacant slots start place → IsPut slot slots (set slots place slot)
+  pub put-set : (start : ℕ) → start ≡ slot_of_tag slot.tag (length slots) → (slot.row ≡ 0 → ⊥) → IsVacant slots start place → IsPut slot slots (set slots place slot)
   put-set start begins used v = record {
     many = length-set slots place slot;
     kept = (λ rows path start n. held-stays rows rows slots (set slots place slot) path start n (length-set slots place slot)
         (keeps-set v.free rows path) (stays-set v.free used));
-    there = (λ rows path is. subst (λ m. HeldFrom rows (set slots place slot) path (start_at slot.tag m) m) (sym (length-set slots place slot))
-        (subst (λ s. HeldFrom rows (set slots place slot) path s (length slots)) begins
+    there = (λ rows path is. subst (λ m. NamedFrom rows (set slots place slot) path (slot_of_tag slot.tag m) m) (sym (length-set slots place slot))
+        (subst (λ s. NamedFrom rows (set slots place slot) path s (length slots)) begins
         (v.leads rows path (set slots place slot) (length-set slots place slot) (stays-set v.free used) (names-set v.free rows path is))));
     only = (λ q s e. elim (get-set_cases slots place slot q s e) [ inl a ↦ inr a.1 | inr b ↦ inl b.1 ]);
   }
@@ -147,7 +148,7 @@ put-free slots slot z = record {
 pub record IsMoved (old new : List Slot) (place : ℕ) : Type 0 where
   pub some : 0 < length new
   pub there : (rows : List (List ℕ)) (path : List ℕ) (k : ℕ) (slot : Slot) → k < place → slice_get old k ≡ Some slot → row_from_one rows slot.row ≡ Some path →
-      HeldFrom rows new path (start_at slot.tag (length new)) (length new)
+      NamedFrom rows new path (slot_of_tag slot.tag (length new)) (length new)
   pub only : (k : ℕ) (slot : Slot) → slice_get new k ≡ Some slot → (slot.row ≡ 0) ⊎ ((j : ℕ) × (slice_get old j ≡ Some slot))
 
 pub moved-none : (old new : List Slot) (count : ℕ) (free : Slot) → 0 < length new → free.row ≡ 0 → new ≡ replicate count free → IsMoved old new 0
@@ -165,14 +166,14 @@ moved-next old new more place next slot is at put m = record {
 }
   where
     there : (rows : List (List ℕ)) (path : List ℕ) (k : ℕ) (s : Slot) → k < next → slice_get old k ≡ Some s → row_from_one rows s.row ≡ Some path →
-        HeldFrom rows more path (start_at s.tag (length more)) (length more)
+        NamedFrom rows more path (slot_of_tag s.tag (length more)) (length more)
     there rows path k s lt e names = elim (cases_lt k place) [
-      | inl below ↦ subst (λ n. HeldFrom rows more path (start_at s.tag n) n) (sym put.many)
-          (put.kept rows path (start_at s.tag (length new)) (length new) (m.there rows path k s below e names))
+      | inl below ↦ subst (λ n. NamedFrom rows more path (slot_of_tag s.tag n) n) (sym put.many)
+          (put.kept rows path (slot_of_tag s.tag (length new)) (length new) (m.there rows path k s below e names))
       | inr above ↦
           let here : k ≡ place = omega (arith, above, lt, is) in
           let it : s ≡ slot = same s slot (sym e ∙ ap (slice_get old) here ∙ at) in
-          subst (λ (x : Slot). HeldFrom rows more path (start_at x.tag (length more)) (length more)) (sym it)
+          subst (λ (x : Slot). NamedFrom rows more path (slot_of_tag x.tag (length more)) (length more)) (sym it)
           (put.there rows path (ap (λ (x : Slot). row_from_one rows x.row) (sym it) ∙ names))
     ]
 
@@ -180,11 +181,11 @@ moved-next old new more place next slot is at put m = record {
 pub moved-all : (old new : List Slot) (place : ℕ) → length old ≤ place → IsMoved old new place → KeepsAll old new
 moved-all old new place all m seed rows index = record {
   each = (λ k path e.
-      let h = held-somewhere rows old path (start_at (tag_of seed path) (length old)) (length old) (index.each k path e) in
+      let h = held-somewhere rows old path (slot_of_tag (tag_of seed path) (length old)) (length old) (index.each k path e) in
       let n = h.1 in
       let tag : n.0.tag ≡ tag_of seed path = index.told path h.0 n.0 n.1 n.2 in
       let lt = slice_get_within old h.0 n.0 n.1 in
-      subst (λ t. HeldFrom rows new path (start_at t (length new)) (length new)) tag (m.there rows path h.0 n.0 (omega (arith, lt, all)) n.1 n.2));
+      subst (λ t. NamedFrom rows new path (slot_of_tag t (length new)) (length new)) tag (m.there rows path h.0 n.0 (omega (arith, lt, all)) n.1 n.2));
   told = (λ path k slot e names. elim (m.only k slot e) [
     | inl z ↦ absurd (no_row rows slot.row path z names)
     | inr o ↦ index.told path o.0 slot o.1 names

@@ -8,10 +8,10 @@ use Rattle.std.proofs.lemmas.List.{length-set}
 use Rattle.std.proofs.lemmas.List.Elements.{All-cons, All-nil}
 use Rattle.std.proofs.lemmas.List.Folds.{list_all-append}
 use Rattle.std.proofs.lemmas.List.Sums.{sum_by-append, sum_by-cons}
+use Rattle.tor_arena.specs.Growth.{one_more}
 use Rattle.path_clean.specs.Paths.{is_cleaned}
-use Rattle.path_clean.specs.Counts.{one_more}
 use Rattle.path_clean.specs.Chains.{row_at}
-use Rattle.path_clean.specs.Rows.{Counted, Table, paths_of, times_of, numbers_in, none_twice}
+use Rattle.path_clean.specs.Rows.{Counted, Table, row_paths, times_of, numbers_in, none_twice}
 use Rattle.path_clean.specs.Inside.{counted_by, IsTable}
 use Rattle.path_clean.specs.Table.{place_of, with_path}
 
@@ -28,7 +28,7 @@ length-counted_by [] times same = refl
 length-counted_by (p ∷ ps) [] same = absurd (omega arith)
 length-counted_by (p ∷ ps) (n ∷ ns) same = ap suc (length-counted_by ps ns (omega arith))
 
-pub paths_of-counted_by : (paths : List (List ℕ)) (times : List ℕ) → length times ≡ length paths → paths_of (counted_by paths times) ≡ paths
+pub paths_of-counted_by : (paths : List (List ℕ)) (times : List ℕ) → length times ≡ length paths → row_paths (counted_by paths times) ≡ paths
 paths_of-counted_by [] times same = refl
 paths_of-counted_by (p ∷ ps) [] same = absurd (omega arith)
 paths_of-counted_by (p ∷ ps) (n ∷ ns) same = ap (λ (t : List (List ℕ)). p ∷ t) (paths_of-counted_by ps ns (omega arith))

@@ -1,9 +1,10 @@
 -- How many routes were set aside for each cause.
 use Rattle.std.specs.Prelude.{ℕ, List, ◌+◌, ◌-◌, ◌^◌, min, slice_index}
+use Rattle.tor_arena.specs.Growth.{one_more}
 use Rattle.path_clean.specs.declared.cleaned.Cause.{Cause}
 use Rattle.path_clean.specs.declared.cleaned.Cause.TheVariants.{NoPath, BadSegments, Confed, Sets, Reserved, Loop, Short}
 
-pub record Counts : Type 0 where
+pub record CauseCounts : Type 0 where
   pub no_path : ℕ
   pub bad_segments : ℕ
   pub confed : ℕ
@@ -12,7 +13,7 @@ pub record Counts : Type 0 where
   pub loop : ℕ
   pub short : ℕ
 
-abbrev pub no_counts : Counts
+abbrev pub no_counts : CauseCounts
 no_counts = record { no_path = 0; bad_segments = 0; confed = 0; sets = 0; reserved = 0; loop = 0; short = 0 }
 
 -- the place of a cause in their order, from 0
@@ -26,7 +27,7 @@ place_of_cause Loop = 5
 place_of_cause Short = 6
 
 -- seven numbers as counts, in the order of the causes
-abbrev pub counts_from : List ℕ → Counts
+abbrev pub counts_from : List ℕ → CauseCounts
 counts_from numbers = record {
   no_path = slice_index numbers 0;
   bad_segments = slice_index numbers 1;
@@ -37,21 +38,17 @@ counts_from numbers = record {
   short = slice_index numbers 6;
 }
 
-abbrev pub count_of : Cause → Counts → ℕ
-count_of NoPath counts = counts.no_path
-count_of BadSegments counts = counts.bad_segments
-count_of Confed counts = counts.confed
-count_of Sets counts = counts.sets
-count_of Reserved counts = counts.reserved
-count_of Loop counts = counts.loop
-count_of Short counts = counts.short
-
--- one more, where a count stops at 2 ^ 64 - 1
-abbrev pub one_more : ℕ → ℕ
-one_more n = min (n + 1) (2 ^ 64 - 1)
+abbrev pub cause_count : Cause → CauseCounts → ℕ
+cause_count NoPath counts = counts.no_path
+cause_count BadSegments counts = counts.bad_segments
+cause_count Confed counts = counts.confed
+cause_count Sets counts = counts.sets
+cause_count Reserved counts = counts.reserved
+cause_count Loop counts = counts.loop
+cause_count Short counts = counts.short
 
 -- the same with one more route set aside for the cause
-abbrev pub counted_one : Cause → Counts → Counts
+abbrev pub counted_one : Cause → CauseCounts → CauseCounts
 counted_one NoPath counts = record counts { no_path = one_more counts.no_path }
 counted_one BadSegments counts = record counts { bad_segments = one_more counts.bad_segments }
 counted_one Confed counts = record counts { confed = one_more counts.confed }

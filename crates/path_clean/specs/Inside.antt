@@ -1,7 +1,7 @@
 -- What a table of paths holds: the paths, and their times in a list of their own.
 use Rattle.std.specs.Prelude.{◌≡◌, ◌≤◌, nat_le, ℕ, true, List, [], ◌∷◌, length, sum_by}
 use Rattle.std.specs.List.{list_all}
-use Rattle.path_clean.specs.Limits.{max_paths, max_numbers}
+use Rattle.tor_arena.specs.Limits.{max_paths, max_numbers}
 use Rattle.path_clean.specs.Paths.{is_cleaned}
 use Rattle.path_clean.specs.Rows.{Counted, none_twice}
 

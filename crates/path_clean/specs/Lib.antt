@@ -1,4 +1,3 @@
-pub mod Limits
 pub mod Paths
 pub mod Clean
 pub mod Merging

@@ -12,8 +12,8 @@ pub record Table : Type 0 where
   pub limit : ℕ
   pub rows : List Counted
 
-abbrev pub paths_of : List Counted → List (List ℕ)
-paths_of rows = map (λ row. row.path) rows
+abbrev pub row_paths : List Counted → List (List ℕ)
+row_paths rows = map (λ row. row.path) rows
 
 abbrev pub times_of : List Counted → List ℕ
 times_of rows = map (λ row. row.times) rows

@@ -1,9 +1,9 @@
 -- The distinct paths, each with how often it was added.
 use Rattle.std.specs.Prelude.{◌≡◌, ◌<◌, ℕ, suc, ◌+◌, ◌-◌, ◌^◌, min, not, List, [], ◌∷◌, length, map, filter, count_by, fold, Option, Some, None, option_map, if◌then◌else◌, bytes_eq}
+use Rattle.tor_arena.specs.Growth.{one_more}
+use Rattle.tor_arena.specs.Limits.{max_numbers}
 use Rattle.path_clean.specs.declared.table.Added.{Added}
 use Rattle.path_clean.specs.declared.table.Added.TheVariants.{Known, New}
-use Rattle.path_clean.specs.Counts.{one_more}
-use Rattle.path_clean.specs.Limits.{max_numbers}
 use Rattle.path_clean.specs.Rows.{Counted, Table, numbers_in}
 
 -- the place of the row of a path, from 0
@@ -24,8 +24,8 @@ Names rows path (Known id) = place_of rows path ≡ Some id
 Names rows path (New id) = (place_of rows path ≡ None) × (id ≡ length rows)
 
 -- the path of this place counts once more
-abbrev pub IsCounted : ℕ → (old new : List Counted) → Type 0
-IsCounted id old new = (path : List ℕ) → place_of old path ≡ Some id → new ≡ with_path old path
+abbrev pub CountsOnceMore : ℕ → (old new : List Counted) → Type 0
+CountsOnceMore id old new = (path : List ℕ) → place_of old path ≡ Some id → new ≡ with_path old path
 
 -- the path is new, and as many are there as may be
 abbrev pub IsPathTooMany : Table → List ℕ → Type 0
@@ -38,16 +38,16 @@ HasNumbersTooMany table path =
     × (max_numbers < numbers_in table.rows + length path)
 
 -- the distinct paths, in order of first appearance
-abbrev pub distinct : List (List ℕ) → List (List ℕ)
-distinct [] = []
-distinct (path ∷ paths) = path ∷ filter (λ other. not (bytes_eq other path)) (distinct paths)
+abbrev pub distinct_paths : List (List ℕ) → List (List ℕ)
+distinct_paths [] = []
+distinct_paths (path ∷ paths) = path ∷ filter (λ other. not (bytes_eq other path)) (distinct_paths paths)
 
 -- how often a path stands there, which stops at 2 ^ 64 - 1
 abbrev pub times : List (List ℕ) → List ℕ → ℕ
 times paths path = min (count_by (λ other. bytes_eq other path) paths) (2 ^ 64 - 1)
 
 abbrev pub counted : List (List ℕ) → List Counted
-counted paths = map (λ path. record { path = path; times = times paths path }) (distinct paths)
+counted paths = map (λ path. record { path = path; times = times paths path }) (distinct_paths paths)
 
 -- counting paths one after the other gives the distinct ones with their times
 abbrev pub CountingLaw : Type 0

@@ -1,6 +1,6 @@
 //! How many routes were set aside.
 ghost use Rattle.std.specs.Prelude.{◌≡◌, ◌<◌};
-ghost use Rattle.path_clean.specs.Counts.{no_counts, count_of, counted_one, counts_from, place_of_cause};
+ghost use Rattle.path_clean.specs.Counts.{no_counts, cause_count, counted_one, counts_from, place_of_cause};
 
 use crate::cleaned::Cause;
 use std::marker::Model;
@@ -13,9 +13,9 @@ pub struct Asides {
 }
 
 impl Model for Asides {
-    ghost use Rattle.path_clean.specs.Counts.{Counts, counts_from};
+    ghost use Rattle.path_clean.specs.Counts.{CauseCounts, counts_from};
 
-    ghost Value = { Counts };
+    ghost Value = { CauseCounts };
 
     ghost view = { λ asides. counts_from asides.counts };
 }
@@ -61,7 +61,7 @@ impl Asides {
 
     /// How many routes were set aside for the cause. It takes no memory.
     pub fn get(&self, cause: Cause) -> u64
-        ensures { result ≡ count_of cause self.now }
+        ensures { result ≡ cause_count cause self.now }
     {
         self.counts[place_of(cause)]
     }

@@ -3,7 +3,7 @@ ghost use Rattle.std.specs.Prelude.{◌≡◌, ◌≢◌, ◌<◌, ◌≤◌, �
 ghost use Rattle.tor_arena.specs.Growth.{IsDoubled};
 ghost use Rattle.tor_arena.specs.Limits.{most_places};
 ghost use Rattle.path_clean.specs.Chains.{row_at};
-ghost use Rattle.path_clean.specs.Slots.{tag_of, start_at, IsVacant, IsVacancy, IsSearchEnd, OnFree, Tells};
+ghost use Rattle.path_clean.specs.Slots.{tag_of, slot_of_tag, IsVacant, IsVacancy, IsRowSearchEnd, OnFree, Tells};
 
 use crate::hashing::{hash_of, seed_of};
 use crate::slots::{Guess, SearchEnd, Slot, free_from, id_of, seek, start_of, widened};
@@ -69,7 +69,7 @@ impl IndexedPaths {
     /// Searches a path by its tag. It takes no memory.
     pub fn seek(&self, tag: u32, path: &[u32]) -> SearchEnd
         requires { tag ≡ tag_of self.now.seed path.now }
-        ensures end { IsSearchEnd self.now.rows self.now.slots (start_at tag (length self.now.slots)) path.now result }
+        ensures end { IsRowSearchEnd self.now.rows self.now.slots (slot_of_tag tag (length self.now.slots)) path.now result }
         ensures tells { Tells self.now.rows path.now result }
     {
         if self.slots.is_empty() {
@@ -120,7 +120,7 @@ impl IndexedPaths {
     pub fn push(&mut self, tag: u32, end: SearchEnd, path: &[u32]) -> Result<PathId, NoMemory>
         requires room { length self.old.rows < most_places }
         requires tag { tag ≡ tag_of self.old.seed path.now }
-        requires end { IsSearchEnd self.old.rows self.old.slots (start_at tag (length self.old.slots)) path.now end }
+        requires end { IsRowSearchEnd self.old.rows self.old.slots (slot_of_tag tag (length self.old.slots)) path.now end }
         ensures ok { OnOk result (self.new.rows ≡ self.old.rows ++ path.now ∷ []) }
         ensures index { IfOk result (λ id. id ≡ length self.old.rows) }
         ensures err { OnErr result (self.new.rows ≡ self.old.rows) }
@@ -138,10 +138,10 @@ impl IndexedPaths {
 
     // The free slot for a path of this tag, where a search for it has ended so. If half of the slots are in use, twice as many are made.
     fn vacancy(&mut self, tag: u32, end: SearchEnd) -> Result<usize, NoMemory>
-        requires end { IsVacancy self.old.slots (start_at tag (length self.old.slots)) end }
+        requires end { IsVacancy self.old.slots (slot_of_tag tag (length self.old.slots)) end }
         ensures rows { self.new.rows ≡ self.old.rows }
         ensures seed { self.new.seed ≡ self.old.seed }
-        ensures vacant { IfOk result (IsVacant self.new.slots (start_at tag (length self.new.slots))) }
+        ensures vacant { IfOk result (IsVacant self.new.slots (slot_of_tag tag (length self.new.slots))) }
         ensures stays { OnFree end (length self.old.rows < length self.old.slots / 2 → self.new.slots ≡ self.old.slots) }
         ensures grows { OnOk result (length self.old.slots / 2 ≤ length self.old.rows →
             IsDoubled 1024 (length self.old.slots) (length self.new.slots)) }

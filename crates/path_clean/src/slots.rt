@@ -1,8 +1,9 @@
 //! Slots by which rows are found, so that a look-up waits for memory once for its slot and once or twice for the row.
 
 ghost use Rattle.std.specs.Prelude.{◌≡◌, ◌<◌, ◌≤◌, ◌+◌, ◌↔◌, length, IsTrue, Some, IfSome, IfOk, OnOk};
+ghost use Rattle.tor_arena.specs.Growth.{next_slot};
 ghost use Rattle.tor_arena.specs.Limits.{most_places};
-ghost use Rattle.path_clean.specs.Slots.{start_at, next_slot, row_from_one, IsVacant, IsSearchEnd, AreWithin, IsTold, IsPut, KeepsAll};
+ghost use Rattle.path_clean.specs.Slots.{slot_of_tag, row_from_one, IsVacant, IsRowSearchEnd, NameOnlyRows, IsTold, IsPut, KeepsAll};
 
 use crate::hashing::row_of;
 use std::alloc::Global;
@@ -65,7 +66,7 @@ pub(crate) enum SearchEnd {
 /// The slot at which the search for a row of this tag begins, among so many, which should be a power of two.
 pub(crate) fn start_of(tag: u32, count: usize) -> usize
     requires { 0 < count }
-    ensures start { result ≡ start_at tag count }
+    ensures start { result ≡ slot_of_tag tag count }
     ensures inside { result < count }
 {
     tag as usize & (count - 1)
@@ -107,9 +108,9 @@ fn is_of(slot: Slot, rows: &Rows<PathId, u32>, tag: u32, path: &[u32]) -> bool
 pub(crate) fn seek(slots: &[Slot], rows: &Rows<PathId, u32>, tag: u32, path: &[u32]) -> SearchEnd
     requires some { 0 < length slots.now }
     requires few { length rows.now ≤ most_places }
-    requires within { AreWithin (length rows.now) slots.now }
+    requires within { NameOnlyRows (length rows.now) slots.now }
     requires told { IsTold rows.now slots.now tag path.now }
-    ensures { IsSearchEnd rows.now slots.now (start_at tag (length slots.now)) path.now result }
+    ensures { IsRowSearchEnd rows.now slots.now (slot_of_tag tag (length slots.now)) path.now result }
 {
     let mut place = start_of(tag, slots.len());
     let mut left = slots.len();

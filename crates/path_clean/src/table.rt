@@ -1,12 +1,12 @@
 //! The table of distinct paths.
 ghost use Rattle.std.specs.Prelude.{◌≡◌, ◌+◌, ◌<◌, ◌≤◌, ◌↔◌, [], All, Some, None, length, option_map, slice_get, sum_by, IsTrue, IsSome, IsOk, IfOk, OnOk, OnErr};
 ghost use Rattle.std.specs.List.{list_all};
+ghost use Rattle.tor_arena.specs.Limits.{max_paths, max_numbers};
 ghost use Rattle.tor_arena.specs.Distinct.{AllDistinct};
-ghost use Rattle.path_clean.specs.Limits.{max_paths, max_numbers};
 ghost use Rattle.path_clean.specs.Lookups.{StandWhereFound, AreCleanWhereFound};
 ghost use Rattle.path_clean.specs.Paths.{is_cleaned};
-ghost use Rattle.path_clean.specs.Rows.{paths_of, times_of, numbers_in, none_twice};
-ghost use Rattle.path_clean.specs.Table.{place_of, with_path, Names, IsCounted, IsPathTooMany, HasNumbersTooMany};
+ghost use Rattle.path_clean.specs.Rows.{row_paths, times_of, numbers_in, none_twice};
+ghost use Rattle.path_clean.specs.Table.{place_of, with_path, Names, CountsOnceMore, IsPathTooMany, HasNumbersTooMany};
 
 use crate::distinct_rows::IndexedPaths;
 use crate::lookup::Lookup;
@@ -105,7 +105,7 @@ impl PathTable {
     /// Counts the path of an index, which has to be there, once more: it gains one in its times, up to 2^64 - 1. It takes no memory.
     pub fn count(&mut self, id: PathId)
         requires there { id < length self.old.rows }
-        ensures counted { IsCounted id self.old.rows self.new.rows }
+        ensures counted { CountsOnceMore id self.old.rows self.new.rows }
         ensures limit { self.new.limit ≡ self.old.limit }
     {
         let times = &mut self.counts[id.place()];
@@ -169,7 +169,7 @@ impl PathTable {
     /// The paths in order: each is clean, so it has at least two ASes, all distinct; no two are the same, and they are at most
     /// 2^23 and have at most 2^26 numbers in sum. It takes no memory.
     pub fn rows(&self) -> &Rows<PathId, u32>
-        ensures paths { result.now ≡ paths_of self.now.rows }
+        ensures paths { result.now ≡ row_paths self.now.rows }
         ensures clean { IsTrue (list_all is_cleaned result.now) }
         ensures several { All (λ path. 2 ≤ length path) result.now }
         ensures apart { All AllDistinct result.now }
@@ -185,12 +185,12 @@ impl PathTable {
     /// What a table keeps true: each path is clean, so it has at least two ASes, all distinct; no two are the same, they are at most 2^23
     /// and have at most 2^26 numbers in sum; and each was added once at least. It does nothing when it runs.
     pub fn facts(&self)
-        ensures clean { IsTrue (list_all is_cleaned (paths_of self.now.rows)) }
-        ensures several { All (λ path. 2 ≤ length path) (paths_of self.now.rows) }
-        ensures apart { All AllDistinct (paths_of self.now.rows) }
-        ensures once { IsTrue (none_twice (paths_of self.now.rows)) }
-        ensures few { length (paths_of self.now.rows) ≤ max_paths }
-        ensures numbers { sum_by length (paths_of self.now.rows) ≤ max_numbers }
+        ensures clean { IsTrue (list_all is_cleaned (row_paths self.now.rows)) }
+        ensures several { All (λ path. 2 ≤ length path) (row_paths self.now.rows) }
+        ensures apart { All AllDistinct (row_paths self.now.rows) }
+        ensures once { IsTrue (none_twice (row_paths self.now.rows)) }
+        ensures few { length (row_paths self.now.rows) ≤ max_paths }
+        ensures numbers { sum_by length (row_paths self.now.rows) ≤ max_numbers }
         ensures seen { All (λ times. 1 ≤ times) (times_of self.now.rows) }
     {
         self.rows();
@@ -216,7 +216,7 @@ impl PathTable {
 
     /// The paths in order, and the times of each, without the table. It takes no memory.
     pub fn into_rows(self) -> (Rows<PathId, u32>, List<u64>)
-        ensures paths { result.0 ≡ paths_of self.rows }
+        ensures paths { result.0 ≡ row_paths self.rows }
         ensures times { result.1 ≡ times_of self.rows }
     {
         (self.paths.into_rows(), List::from_vec(self.counts))

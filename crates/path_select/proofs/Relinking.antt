@@ -21,7 +21,7 @@ use Rattle.tor_clauses.proofs.Overs.{Says-one}
 use Rattle.relationships.proofs.WalkLemmas.{apart_at, apart_next}
 use Rattle.path_select.specs.declared.refusals.Refusal.{Refusal}
 use Rattle.path_select.specs.declared.refusals.Met.{Met}
-use Rattle.path_select.specs.Refusals.{node_at, relink, relinked, NamesOnly, HasTriple, Refuses, IsRefused, AreRefused, IsMet, Remembers}
+use Rattle.path_select.specs.Refusals.{node_at, relink, relinked, NamesOnly, HasTriple, RefutesTriple, IsRefusalOf, AreRefused, HasLostTriple, Remembers}
 use Rattle.path_select.proofs.Ways.{some_same}
 
 -- ---- one place of a path, one triple
@@ -207,12 +207,12 @@ none_refused graph kept fates refusals none k r at = absurd (let bad = sym at �
 
 module _ (graph : List (List ℕ)) (kept : List ℕ) where
   -- what refuses, refuses also when more paths are kept
-  refuses_more : (first second own : ℕ) (w : Walk) (later : List ℕ) → Refuses graph kept first second own w → Refuses graph (kept ++ later) first second own w
+  refuses_more : (first second own : ℕ) (w : Walk) (later : List ℕ) → RefutesTriple graph kept first second own w → RefutesTriple graph (kept ++ later) first second own w
   refuses_more first second own w later r more link is =
       let e : (kept ++ later) ++ more ≡ kept ++ (later ++ more) = append_assoc kept later more in
       subst (λ paths. Refutes (numbered graph paths) (relinked own link w)) (sym e) (r (later ++ more) link (subst (λ paths. IsLinkOf graph paths link first second) e is))
 
-  refused_more : (fates : List Fate) (fate : Fate) (later : List ℕ) (r : Refusal) → IsRefused graph kept fates r → IsRefused graph (kept ++ later) (fates ++ fate ∷ []) r
+  refused_more : (fates : List Fate) (fate : Fate) (later : List ℕ) (r : Refusal) → IsRefusalOf graph kept fates r → IsRefusalOf graph (kept ++ later) (fates ++ fate ∷ []) r
   refused_more fates fate later r (w, lost, refuses) =
       (w, slice_get-push_old fates (fate ∷ []) r.path (Fate.Lost w) lost, refuses_more r.first r.second (r.path + 1) w later refuses)
 
@@ -220,7 +220,7 @@ module _ (graph : List (List ℕ)) (kept : List ℕ) where
   all_more fates fate later refusals all k r there = refused_more fates fate later r (all k r there)
 
   -- a path that meets a refusal is lost by the walk of its path
-  pub met_refutes : (path : ℕ) (fates : List Fate) (refusals : List Refusal) (met : Met) (walk : Walk) → AreRefused graph kept fates refusals → IsMet graph path refusals met →
+  pub met_refutes : (path : ℕ) (fates : List Fate) (refusals : List Refusal) (met : Met) (walk : Walk) → AreRefused graph kept fates refusals → HasLostTriple graph path refusals met →
       ((w : Walk) → slice_get fates met.lost ≡ Some (Fate.Lost w) → walk ≡ relinked (met.lost + 1) (record { path = path + 1; at = met.at }) w) →
       Refutes (numbered graph (kept ++ path ∷ [])) walk
   met_refutes path fates refusals met walk all (first, second, (k, there), has) again =
@@ -231,25 +231,25 @@ module _ (graph : List (List ℕ)) (kept : List ℕ) where
   -- a path is lost, and its triple is remembered
   module _ (path : ℕ) (fates : List Fate) (w : Walk) (next : length fates ≡ path)
       (refutes : Refutes (numbered graph (kept ++ path ∷ [])) w) (old new : List Refusal) (all : AreRefused graph kept fates old) where
-    one_refuses : (at : ℕ) (r : Refusal) → r.path ≡ path → NamesOnly (path + 1) at w.links → HasTriple graph path at r.first r.second → IsRefused graph kept (fates ++ Fate.Lost w ∷ []) r
+    one_refuses : (at : ℕ) (r : Refusal) → r.path ≡ path → NamesOnly (path + 1) at w.links → HasTriple graph path at r.first r.second → IsRefusalOf graph kept (fates ++ Fate.Lost w ∷ []) r
     one_refuses at r named only has =
         let here = link_of graph path (kept ++ path ∷ []) at r.first r.second (In-append_right path kept (path ∷ []) (inl refl)) has in
         let last : slice_get (fates ++ Fate.Lost w ∷ []) r.path ≡ Some (Fate.Lost w) =
         ap (slice_get (fates ++ Fate.Lost w ∷ [])) (named ∙ sym next) ∙ slice_get-push_last fates (Fate.Lost w) in (
           w,
           last,
-          subst (λ n. Refuses graph kept r.first r.second (n + 1) w) (sym named)
+          subst (λ n. RefutesTriple graph kept r.first r.second (n + 1) w) (sym named)
               (λ more link is. refutes_again graph kept path at r.first r.second here more link is w only refutes),
         )
 
-    still : (r : Refusal) → IsRefused graph kept fates r → IsRefused graph kept (fates ++ Fate.Lost w ∷ []) r
+    still : (r : Refusal) → IsRefusalOf graph kept fates r → IsRefusalOf graph kept (fates ++ Fate.Lost w ∷ []) r
     still r (v, lost, refuses) = (v, slice_get-push_old fates (Fate.Lost w ∷ []) r.path (Fate.Lost v) lost, refuses)
 
     lost_too : Remembers graph path (Fate.Lost w) old new → AreRefused graph kept (fates ++ Fate.Lost w ∷ []) new
     lost_too (inl same) k r there = still r (all k r (ap (λ (l : List Refusal). slice_get l k) (sym same) ∙ there))
     lost_too (inr adds) k r there = elim (slice_get-push_cases old adds.refusal k r (ap (λ (l : List Refusal). slice_get l k) (sym adds.added) ∙ there)) [
       | inl h ↦ still r (all k r h)
-      | inr h ↦ subst (IsRefused graph kept (fates ++ Fate.Lost w ∷ [])) (sym h.1) (one_refuses adds.at adds.refusal adds.named adds.alone adds.triple)
+      | inr h ↦ subst (IsRefusalOf graph kept (fates ++ Fate.Lost w ∷ [])) (sym h.1) (one_refuses adds.at adds.refusal adds.named adds.alone adds.triple)
     ]
 
   -- what becomes of a path is remembered

@@ -30,17 +30,17 @@ HasTriple graph path at first second = (x y z : ℕ) × StandAt (path_at graph p
     Says (edges graph) (lit_of first) x y × Says (edges graph) (lit_of second) y z
 
 -- with the link of any such triple, on a kept path or one of any more, the walk refutes over these
-abbrev pub Refuses : List (List ℕ) → List ℕ → ℕ → ℕ → ℕ → Walk → Type 0
-Refuses graph kept first second own w = (more : List ℕ) (link : Link) → IsLinkOf graph (kept ++ more) link first second →
+abbrev pub RefutesTriple : List (List ℕ) → List ℕ → ℕ → ℕ → ℕ → Walk → Type 0
+RefutesTriple graph kept first second own w = (more : List ℕ) (link : Link) → IsLinkOf graph (kept ++ more) link first second →
     Refutes (numbered graph (kept ++ more)) (relinked own link w)
 
 -- the path of the refusal was lost, with such a walk
-abbrev pub IsRefused : List (List ℕ) → List ℕ → List Fate → Refusal → Type 0
-IsRefused graph kept fates r =
-    (w : Walk) × (slice_get fates r.path ≡ Some (Fate.Lost w)) × Refuses graph kept r.first r.second (r.path + 1) w
+abbrev pub IsRefusalOf : List (List ℕ) → List ℕ → List Fate → Refusal → Type 0
+IsRefusalOf graph kept fates r =
+    (w : Walk) × (slice_get fates r.path ≡ Some (Fate.Lost w)) × RefutesTriple graph kept r.first r.second (r.path + 1) w
 
 abbrev pub AreRefused : List (List ℕ) → List ℕ → List Fate → List Refusal → Type 0
-AreRefused graph kept fates refusals = (k : ℕ) (r : Refusal) → slice_get refusals k ≡ Some r → IsRefused graph kept fates r
+AreRefused graph kept fates refusals = (k : ℕ) (r : Refusal) → slice_get refusals k ≡ Some r → IsRefusalOf graph kept fates r
 
 -- the node of the literal that the AS from which a step goes is over the one that it reaches
 abbrev pub node_at : Step → ℕ
@@ -56,8 +56,8 @@ abbrev pub IsLostBy : List Refusal → ℕ → ℕ → ℕ → Type 0
 IsLostBy refusals first second lost = (k : ℕ) × (slice_get refusals k ≡ Some (record { first = first; second = second; path = lost }))
 
 -- the path has the triple of a refusal, whose path is named
-abbrev pub IsMet : List (List ℕ) → ℕ → List Refusal → Met → Type 0
-IsMet graph path refusals met =
+abbrev pub HasLostTriple : List (List ℕ) → ℕ → List Refusal → Met → Type 0
+HasLostTriple graph path refusals met =
     (first second : ℕ) × IsLostBy refusals first second met.lost × HasTriple graph path met.at first second
 
 -- the refusals with one more of this path, whose walk has no link into it but of the triple

@@ -4,7 +4,7 @@ ghost use Rattle.relationships.specs.declared.fate.Fate.{Fate as Becoming};
 ghost use Rattle.relationships.specs.declared.walk.Walk.{Walk as Evidence};
 ghost use Rattle.relationships.specs.Graph.{edges};
 ghost use Rattle.tor_arena.specs.Limits.{max_numbers};
-ghost use Rattle.path_select.specs.Refusals.{node_at, AreSatisfiedOn, relink, relinked, NamesOnly, IsLostBy, IsMet, Remembers};
+ghost use Rattle.path_select.specs.Refusals.{node_at, AreSatisfiedOn, relink, relinked, NamesOnly, IsLostBy, HasLostTriple, Remembers};
 
 use as_graph::{AsGraph, Step};
 use relationships::{End, Fate, Fates, Link, Walk};
@@ -88,7 +88,7 @@ impl Refusals {
     pub(crate) fn find(&self, graph: &AsGraph, ends: &[End], path: PathId) -> Option<Met>
         requires there { path < length graph.now }
         requires ends { length ends.now ≡ length (edges graph.now) }
-        ensures { IfSome result (IsMet graph.now path self.now.items) }
+        ensures { IfSome result (HasLostTriple graph.now path self.now.items) }
     {
         graph.facts();
         let steps = graph.steps(path);

@@ -12,7 +12,7 @@ use Rattle.as_graph.specs.Paths.{path_at}
 use Rattle.as_graph.specs.Steps.{AreSteps}
 use Rattle.as_graph.proofs.Labelled.{NoneTwice, NoneTwice-distinct}
 use Rattle.as_graph.proofs.CountLemmas.{counts_same}
-use Rattle.peering.specs.Peerings.{edge_at, holds, HasStep, IsAdded}
+use Rattle.peering.specs.Peerings.{edge_in, holds, HasStep, IsPathAdded}
 
 abbrev one : Bool → ℕ
 one b = cond b 1 0
@@ -90,7 +90,7 @@ listed_none excluded first path = record {
 }
 
 pub listed_more : (excluded : List Bool) (first now new : List (List ℕ)) (path : ℕ) (steps : List Step) (i : ℕ) (step : Step) → i < length steps → get_or steps i step ≡ step → step.edge < length now →
-    IsAdded (get_or excluded step.edge false) step.edge path now new → IsListed excluded first now path (take i steps) → IsListed excluded first new path (take (i + 1) steps)
+    IsPathAdded (get_or excluded step.edge false) step.edge path now new → IsListed excluded first now path (take i steps) → IsListed excluded first new path (take (i + 1) steps)
 listed_more excluded first now new path steps i step lt at within (inl (t, is)) h =
     subst (λ l. IsListed excluded first l path (take (i + 1) steps)) (sym is) (record {
       long = h.long;
@@ -182,7 +182,7 @@ held_more excluded paths kept n id steps lists new lt at are listed h = record {
     | inr e ↦ (
       subst (Contains kept) (sym e.0) (subst (Contains kept) at (Contains-get_or kept n id lt)),
       subst (λ p. IsTrue (holds paths p k)) (sym e.0)
-          (with_step (edges paths) k (edge_at paths k) (path_at paths id) steps (NoneTwice-distinct (flat_map edges_on paths)) (slice_get-get_or (edges paths) k (0, 0) k_lt) are e.1.0 e.1.1 e.1.2),
+          (with_step (edges paths) k (edge_in paths k) (path_at paths id) steps (NoneTwice-distinct (flat_map edges_on paths)) (slice_get-get_or (edges paths) k (0, 0) k_lt) are e.1.0 e.1.1 e.1.2),
     )
   ];
   all = λ k q k_lt f c t.
@@ -190,7 +190,7 @@ held_more excluded paths kept n id steps lists new lt at are listed h = record {
         | inl old ↦ listed.stay k q (h.all k q k_lt f old t)
         | inr e ↦
             let here : IsTrue (holds paths id k) = subst (λ p. IsTrue (holds paths p k)) (sym e) t in
-            let s = step_with (edges paths) k (edge_at paths k) (path_at paths id) steps (NoneTwice-distinct (flat_map edges_on paths)) (slice_get-get_or (edges paths) k (0, 0) k_lt) are here in
+            let s = step_with (edges paths) k (edge_in paths k) (path_at paths id) steps (NoneTwice-distinct (flat_map edges_on paths)) (slice_get-get_or (edges paths) k (0, 0) k_lt) are here in
             let added = All-contains (λ (s : Step). IsFalse (get_or excluded s.edge false) → Contains (get_or new s.edge []) id) steps s.0 listed.added s.1 in
             subst (Contains (get_or new k [])) e (subst (λ m. IsFalse (get_or excluded m false) → Contains (get_or new m []) id) s.2 added f)
       ];

@@ -14,7 +14,7 @@ use Rattle.relationships.specs.Preference.{IsAlike, MayPeer, with_peer}
 use Rattle.relationships.proofs.Slopes.{Free, Free-from_valley_free}
 use Rattle.as_graph.specs.Paths.{path_at, paths_at}
 use Rattle.as_graph.proofs.Labelled.{NoneTwice, NoneTwice-distinct, labelling_at, orientation_at, slopes-steps}
-use Rattle.peering.specs.Peerings.{edge_at, holds, peer_at, StayFree, MayFlip, IsSettled}
+use Rattle.peering.specs.Peerings.{edge_in, holds, peer_at, StayFree, MayFlip, IsPeeredIfAllowed}
 use Rattle.peering.specs.Exclusions.{IsExcluded}
 use Rattle.peering.proofs.ExclusionLemmas.{no_flip}
 use Rattle.peering.proofs.Reading.{some_same, labelling-set, free_same, free_without, all_at, edge_among}
@@ -37,7 +37,7 @@ module _ (paths : List (List ℕ)) (kept : List ℕ) (ratio : ℕ) (ends : List 
     once : NoneTwice (edges paths)
     once = NoneTwice-distinct (flat_map edges_on paths)
 
-    at : edge_at paths n ≡ e
+    at : edge_in paths n ≡ e
     at = some_same (sym (slice_get-get_or (edges paths) n (0, 0) (slice_get_within (edges paths) n e is)) ∙ is)
 
     same : (low high : ℕ) → labelling (edges paths) (peer_at old n) low high ≡ with_peer Now e low high
@@ -131,7 +131,7 @@ module _ (paths : List (List ℕ)) (kept : List ℕ) (ratio : ℕ) (ends : List 
     each : (f : Edge) → Contains (edges (paths_at paths kept)) f → Contains (edges paths) f
     each f c = edge_among paths kept f there c
 
-    pub settled_next : (new : List Label) → IsSettled paths ratio excluded places n old new → AreSettled (n + 1) new
+    pub settled_next : (new : List Label) → IsPeeredIfAllowed paths ratio excluded places n old new → AreSettled (n + 1) new
     settled_next new (inl h) = record {
       count = ap length h.1 ∙ length-set old n Label.Peer ∙ settled.count;
       so_far =

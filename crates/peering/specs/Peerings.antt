@@ -9,20 +9,20 @@ use Rattle.as_graph.specs.Paths.{path_at}
 use Rattle.as_graph.specs.declared.step.Step.{Step}
 
 -- the edge of a place
-abbrev pub edge_at : List (List ℕ) → ℕ → Edge
-edge_at paths place = slice_index_or (edges paths) place (0, 0)
+abbrev pub edge_in : List (List ℕ) → ℕ → Edge
+edge_in paths place = slice_index_or (edges paths) place (0, 0)
 
 -- the path of a place holds the edge of a place
 abbrev pub holds : List (List ℕ) → ℕ → ℕ → Bool
-holds paths path edge = list_any (is_same (edge_at paths edge)) (edges_on (path_at paths path))
+holds paths path edge = list_any (is_same (edge_in paths edge)) (edges_on (path_at paths path))
 
 -- one of the steps has the edge of this place
 abbrev pub HasStep : List Step → ℕ → Type 0
 HasStep steps edge = (s : Step) × Contains steps s × (s.edge ≡ edge)
 
 -- the path is added to the list of the edge, unless this is excluded
-abbrev pub IsAdded : Bool → ℕ → ℕ → List (List ℕ) → List (List ℕ) → Type 0
-IsAdded excluded edge path old new =
+abbrev pub IsPathAdded : Bool → ℕ → ℕ → List (List ℕ) → List (List ℕ) → Type 0
+IsPathAdded excluded edge path old new =
     (IsTrue excluded × (new ≡ old)) ⊎ (IsFalse excluded × (new ≡ slice_set old edge (slice_index_or old edge [] ++ path ∷ [])))
 
 -- the labels with the edge of a place as a peering
@@ -34,8 +34,8 @@ abbrev pub StayFree : List (List ℕ) → List ℕ → List Label → Type 0
 StayFree paths places labels = All (λ place. ValleyFree (labelling (edges paths) labels) (path_at paths place)) places
 
 -- the edge becomes a peering if the paths of these places stay valley-free so, and else all labels stay as they are
-abbrev pub IsOffered : List (List ℕ) → List ℕ → ℕ → List Label → List Label → Type 0
-IsOffered paths places edge old new =
+abbrev pub IsPeeredIfFree : List (List ℕ) → List ℕ → ℕ → List Label → List Label → Type 0
+IsPeeredIfFree paths places edge old new =
     (StayFree paths places (peer_at old edge) × (new ≡ peer_at old edge)) ⊎
     ((StayFree paths places (peer_at old edge) → ⊥) × (new ≡ old))
 
@@ -43,9 +43,9 @@ IsOffered paths places edge old new =
 -- valley-free so; else all labels stay as they are
 abbrev pub MayFlip : List (List ℕ) → ℕ → Bool → List ℕ → ℕ → List Label → Type 0
 MayFlip paths ratio excluded places edge old =
-    IsFalse excluded × (0 < length places) × IsAlike (degree paths) ratio (edge_at paths edge) × StayFree paths places (peer_at old edge)
+    IsFalse excluded × (0 < length places) × IsAlike (degree paths) ratio (edge_in paths edge) × StayFree paths places (peer_at old edge)
 
-abbrev pub IsSettled : List (List ℕ) → ℕ → Bool → List ℕ → ℕ → List Label → List Label → Type 0
-IsSettled paths ratio excluded places edge old new =
+abbrev pub IsPeeredIfAllowed : List (List ℕ) → ℕ → Bool → List ℕ → ℕ → List Label → List Label → Type 0
+IsPeeredIfAllowed paths ratio excluded places edge old new =
     (MayFlip paths ratio excluded places edge old × (new ≡ peer_at old edge)) ⊎
     ((MayFlip paths ratio excluded places edge old → ⊥) × (new ≡ old))

@@ -3,7 +3,7 @@ ghost use Rattle.std.specs.Prelude.{◌≡◌, ◌<◌, ◌≤◌, ◌*◌, ◌�
 ghost use Rattle.tor_arena.specs.Limits.{max_numbers, max_ratio};
 ghost use Rattle.relationships.specs.Graph.{edges, degree};
 ghost use Rattle.relationships.specs.Preference.{IsAlike};
-ghost use Rattle.peering.specs.Peerings.{edge_at};
+ghost use Rattle.peering.specs.Peerings.{edge_in};
 
 use as_graph::AsGraph;
 use tor_arena::EdgeId;
@@ -22,7 +22,7 @@ fn is_within(a: u64, b: u64, ratio: u32) -> bool
 pub(crate) fn is_alike(graph: &AsGraph, edge: EdgeId, ratio: u32) -> bool
     requires there { edge < length (edges graph.now) }
     requires small { ratio ≤ max_ratio }
-    ensures { IsTrue result ↔ IsAlike (degree graph.now) ratio (edge_at graph.now edge) }
+    ensures { IsTrue result ↔ IsAlike (degree graph.now) ratio (edge_in graph.now edge) }
 {
     graph.facts();
     let ends = graph.edge(edge);

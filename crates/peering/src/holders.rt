@@ -1,7 +1,7 @@
 //! Which kept paths hold an edge.
 ghost use Rattle.std.specs.Prelude.{◌≡◌, ◌<◌, ◌⊎◌, ◌++◌, ◌∷◌, [], ℕ, All, Contains, length, replicate, slice_set, slice_index_or, IsTrue, IsFalse, false, IfOk, OnOk};
 ghost use Rattle.relationships.specs.Graph.{edges};
-ghost use Rattle.peering.specs.Peerings.{holds, HasStep, IsAdded};
+ghost use Rattle.peering.specs.Peerings.{holds, HasStep, IsPathAdded};
 
 use as_graph::{AsGraph, Step};
 use std::alloc::Global;
@@ -36,7 +36,7 @@ fn add_unless_excluded(
 ) -> Result<(), NoMemory>
     requires { edge < length lists.old.items }
     ensures length { length lists.new.items ≡ length lists.old.items }
-    ensures added { OnOk result (IsAdded excluded edge path lists.old.items lists.new.items) }
+    ensures added { OnOk result (IsPathAdded excluded edge path lists.old.items lists.new.items) }
 {
     if excluded {
         return Ok(());

@@ -7,7 +7,7 @@ ghost use Rattle.relationships.specs.Relationship.{label_of, labels_of, ValleyFr
 ghost use Rattle.relationships.specs.Graph.{edges, degree, support, orientation as orientation_of, labelling};
 ghost use Rattle.relationships.specs.Preference.{IsRelabelled, ServeEitherWay, NoneLeftOut};
 ghost use Rattle.as_graph.specs.Paths.{path_at, paths_at};
-ghost use Rattle.peering.specs.Peerings.{StayFree, IsOffered, IsSettled};
+ghost use Rattle.peering.specs.Peerings.{StayFree, IsPeeredIfFree, IsPeeredIfAllowed};
 
 use crate::alike::is_alike;
 use crate::excluding::exclusions;
@@ -57,7 +57,7 @@ fn offer(graph: &AsGraph, labels: &mut Labels, edge: EdgeId, paths: &[PathId])
     requires labels { length labels.old ≡ length (edges graph.now) }
     requires edge { edge < length (edges graph.now) }
     requires there { All (λ path. path < length graph.now) paths.now }
-    ensures { IsOffered graph.now paths.now edge labels.old labels.new }
+    ensures { IsPeeredIfFree graph.now paths.now edge labels.old labels.new }
 {
     let first = labels.as_slice()[edge.place()];
     labels.set(edge, Label::Peer);
@@ -80,7 +80,7 @@ fn settle(
     requires edge { edge < length (edges graph.now) }
     requires there { All (λ path. path < length graph.now) paths.now }
     requires small { ratio ≤ max_ratio }
-    ensures { IsSettled graph.now ratio excluded paths.now edge labels.old labels.new }
+    ensures { IsPeeredIfAllowed graph.now ratio excluded paths.now edge labels.old labels.new }
 {
     if !excluded && !paths.is_empty() && is_alike(graph, edge, ratio) {
         offer(graph, labels, edge, paths);

@@ -12,8 +12,8 @@ use Rattle.std.proofs.lemmas.Map.Keys.{sorted_tail, IsDistinct-from_sorted}
 use Rattle.std.proofs.lemmas.Map.Lookups.{exact_pairs, exact_unsigned}
 use Rattle.std.proofs.lemmas.Map.Views.{Contains-keys_from_lookup, IsSome-lookup_from_Contains}
 use Rattle.record_counts.specs.declared.type_count.RecordType.{RecordType}
-use Rattle.record_counts.specs.Counting.{Counts, type_cmp, count_of, capped, with_more, together}
-use Rattle.record_counts.specs.Counted.{IsListed, AreCounted, MoreLaw, TogetherLaw, CountedLaw}
+use Rattle.record_counts.specs.Counting.{Counts, type_cmp, count_of, capped, with_more, counts_together}
+use Rattle.record_counts.specs.Counted.{Occurs, AreCounted, MoreLaw, CountsBothLaw, CountedLaw}
 use Rattle.record_counts.proofs.Inserting.{lookup-insert_entry, sorted-insert_entry}
 
 -- ---- the order of types
@@ -44,10 +44,10 @@ same_key a b e = ap (λ x. is_at (type_cmp a) x) (sym e) ∙ at_itself a
 abbrev found : RecordType → Counts → Option ℕ
 found t counts = lookup (is_at (type_cmp t)) counts
 
-found_listed : (t : RecordType) (counts : Counts) → IsSome (found t counts) → IsListed t counts
+found_listed : (t : RecordType) (counts : Counts) → IsSome (found t counts) → Occurs t counts
 found_listed t counts h = Contains-keys_from_lookup same_at t counts h
 
-listed_found : (t : RecordType) (counts : Counts) → IsListed t counts → IsSome (found t counts)
+listed_found : (t : RecordType) (counts : Counts) → Occurs t counts → IsSome (found t counts)
 listed_found t counts h = IsSome-lookup_from_Contains (eq_by_cmp_equiv types_total) t counts h
 
 -- ---- more of a type
@@ -85,7 +85,7 @@ is_some-with_more q t n counts b e =
     passed true u = refl
     passed false u = refl
 
-pub now_listed : (q t : RecordType) (n : ℕ) (counts : Counts) → (q ≡ t) ⊎ IsListed q counts → IsListed q (with_more t n counts)
+pub now_listed : (q t : RecordType) (n : ℕ) (counts : Counts) → (q ≡ t) ⊎ Occurs q counts → Occurs q (with_more t n counts)
 now_listed q t n counts (inl e) =
     found_listed q (with_more t n counts) (is_some-with_more q t n counts true (same_key q t e))
 now_listed q t n counts (inr h) = found_listed q (with_more t n counts) (⊎_elim
@@ -93,7 +93,7 @@ now_listed q t n counts (inr h) = found_listed q (with_more t n counts) (⊎_eli
     (λ apart. is_some-with_more q t n counts false apart ∙ listed_found q counts h)
     (cases_Bool (is_at (type_cmp q) t)))
 
-pub was_listed : (q t : RecordType) (n : ℕ) (counts : Counts) → IsListed q (with_more t n counts) → (q ≡ t) ⊎ IsListed q counts
+pub was_listed : (q t : RecordType) (n : ℕ) (counts : Counts) → Occurs q (with_more t n counts) → (q ≡ t) ⊎ Occurs q counts
 was_listed q t n counts h = ⊎_elim
     (λ y. inl (same_at q t y))
     (λ apart.
@@ -138,8 +138,8 @@ counted_more t n counts c = record {
 
 -- ---- together
 
-pub counted_both : (counts more : Counts) → AreCounted counts → AreCounted (together counts more)
-unfolding together
+pub counted_both : (counts more : Counts) → AreCounted counts → AreCounted (counts_together counts more)
+unfolding counts_together
 counted_both counts [] c = c
 counted_both counts (e ∷ more) c = counted_both (with_more e.0 e.1 counts) more (counted_more e.0 e.1 counts c)
 
@@ -151,12 +151,12 @@ none_behind t e more s h =
     lookup-none (is_at (type_cmp t)) more (none_past_head (eq_by_cmp_equiv types_total) t e more apart h)
 
 pub summed : (t : RecordType) (more counts : Counts) → count_of t counts ≤ 2 ^ 64 - 1 → IsStrictlySortedBy type_cmp (keys_of more)
-    → count_of t (together counts more) ≡ capped (count_of t counts + count_of t more)
-unfolding together
+    → count_of t (counts_together counts more) ≡ capped (count_of t counts + count_of t more)
+unfolding counts_together
 summed t [] counts below s = omega (arith, below)
 summed t (e ∷ more) counts below s =
     let next = with_more e.0 e.1 counts in
-    let later : count_of t (together next more) ≡ capped (count_of t next + count_of t more) =
+    let later : count_of t (counts_together next more) ≡ capped (count_of t next + count_of t more) =
     summed t more next (bounded_with_more t e.0 e.1 counts below) (sorted_tail type_cmp e.0 (keys_of more) s) in
     ⊎_elim
     (λ y.
@@ -171,14 +171,14 @@ summed t (e ∷ more) counts below s =
     omega (arith, later, first, one))
     (cases_Bool (is_at (type_cmp t) e.0))
 
-first_or_later : (t : RecordType) (e : RecordType × ℕ) (more : Counts) → IsListed t (e ∷ more) → (t ≡ e.0) ⊎ IsListed t more
+first_or_later : (t : RecordType) (e : RecordType × ℕ) (more : Counts) → Occurs t (e ∷ more) → (t ≡ e.0) ⊎ Occurs t more
 first_or_later t e more h = ⊎_elim
     (λ y. inl (same_at t e.0 y))
     (λ apart.
     inr (found_listed t more (ap is_some (sym (lookup_tail (is_at (type_cmp t)) e more apart)) ∙ listed_found t (e ∷ more) h)))
     (cases_Bool (is_at (type_cmp t) e.0))
 
-either_of : (t : RecordType) (e : RecordType × ℕ) (more : Counts) → (t ≡ e.0) ⊎ IsListed t more → IsListed t (e ∷ more)
+either_of : (t : RecordType) (e : RecordType × ℕ) (more : Counts) → (t ≡ e.0) ⊎ Occurs t more → Occurs t (e ∷ more)
 either_of t e more (inl same) =
     found_listed t (e ∷ more) (ap is_some (lookup_head (is_at (type_cmp t)) e more (same_key t e.0 same)))
 either_of t e more (inr h) = found_listed t (e ∷ more) (⊎_elim
@@ -186,16 +186,16 @@ either_of t e more (inr h) = found_listed t (e ∷ more) (⊎_elim
     (λ apart. ap is_some (lookup_tail (is_at (type_cmp t)) e more apart) ∙ listed_found t more h)
     (cases_Bool (is_at (type_cmp t) e.0)))
 
-pub listed_of : (t : RecordType) (more counts : Counts) → IsListed t (together counts more) → IsListed t counts ⊎ IsListed t more
-unfolding together
+pub listed_of : (t : RecordType) (more counts : Counts) → Occurs t (counts_together counts more) → Occurs t counts ⊎ Occurs t more
+unfolding counts_together
 listed_of t [] counts h = inl h
 listed_of t (e ∷ more) counts h = ⊎_elim
     (λ now. ⊎_elim (λ same. inr (either_of t e more (inl same))) (λ old. inl old) (was_listed t e.0 e.1 counts now))
     (λ later. inr (either_of t e more (inr later)))
     (listed_of t more (with_more e.0 e.1 counts) h)
 
-pub listed_in_both : (t : RecordType) (more counts : Counts) → IsListed t counts ⊎ IsListed t more → IsListed t (together counts more)
-unfolding together
+pub listed_in_both : (t : RecordType) (more counts : Counts) → Occurs t counts ⊎ Occurs t more → Occurs t (counts_together counts more)
+unfolding counts_together
 listed_in_both t [] counts (inl h) = h
 listed_in_both t [] counts (inr h) = absurd (let below = h.1 in omega arith)
 listed_in_both t (e ∷ more) counts (inl h) = listed_in_both t more (with_more e.0 e.1 counts) (inl (now_listed t e.0 e.1 counts (inr h)))
@@ -204,7 +204,7 @@ listed_in_both t (e ∷ more) counts (inr h) = listed_in_both t more (with_more 
     (λ later. inr later)
     (first_or_later t e more h))
 
-pub together_law : TogetherLaw
+pub together_law : CountsBothLaw
 together_law counts more c m = record {
   sums = λ t. summed t more counts (c.bounded t) m.ascend;
   listed = λ t. (listed_of t more counts, listed_in_both t more counts);

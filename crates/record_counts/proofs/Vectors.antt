@@ -1,7 +1,7 @@
 -- The counts of a few records, computed.
 use Rattle.std.proofs.Common.{◌≡◌, ℕ, [], ◌∷◌, refl}
 use Rattle.record_counts.specs.declared.type_count.RecordType.{RecordType}
-use Rattle.record_counts.specs.Counting.{Counts, with_more, together}
+use Rattle.record_counts.specs.Counting.{Counts, with_more, counts_together}
 
 abbrev of : ℕ → ℕ → RecordType
 of kind subtype = record { kind = kind; subtype = subtype }
@@ -17,6 +17,6 @@ unfolding with_more
 by_subtype = refl
 
 -- of two counts
-joined : together ((of 13 2, 5) ∷ []) ((of 12 1, 1) ∷ (of 13 2, 7) ∷ []) ≡ (of 12 1, 1) ∷ (of 13 2, 12) ∷ []
-unfolding together with_more
+joined : counts_together ((of 13 2, 5) ∷ []) ((of 12 1, 1) ∷ (of 13 2, 7) ∷ []) ≡ (of 12 1, 1) ∷ (of 13 2, 12) ∷ []
+unfolding counts_together with_more
 joined = refl

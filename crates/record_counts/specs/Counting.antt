@@ -28,9 +28,9 @@ unfoldable pub with_more : RecordType → ℕ → Counts → Counts
 with_more t n counts = insert_entry type_cmp counts t (capped (count_of t counts + n))
 
 -- those of the second counts besides
-unfoldable pub together : Counts → Counts → Counts
-together counts [] = counts
-together counts (entry ∷ more) = together (with_more entry.0 entry.1 counts) more
+unfoldable pub counts_together : Counts → Counts → Counts
+counts_together counts [] = counts
+counts_together counts (entry ∷ more) = counts_together (with_more entry.0 entry.1 counts) more
 
 -- as plain values
 abbrev pub type_counts : Counts → List TypeCount

@@ -2,7 +2,7 @@
 ghost use Rattle.std.specs.Prelude.{◌≡◌, [], OnOk, OnErr, IfOk};
 ghost use Rattle.std.specs.List.Sorted.{IsStrictlySortedBy};
 ghost use Rattle.std.specs.Map.{keys_of};
-ghost use Rattle.record_counts.specs.Counting.{with_more, together, type_cmp, type_counts};
+ghost use Rattle.record_counts.specs.Counting.{with_more, counts_together, type_cmp, type_counts};
 
 use crate::type_count::{RecordType, TypeCount};
 use std::alloc::Global;
@@ -47,9 +47,9 @@ impl RecordCounts {
     }
 
     /// Counts the records of the others besides. For want of memory some of them are counted.
-    #[tactic(auto, unfolding(crate::specs::Counting::together))]
+    #[tactic(auto, unfolding(crate::specs::Counting::counts_together))]
     pub fn add_all(&mut self, others: &RecordCounts) -> Result<(), NoMemory>
-        ensures { OnOk result (self.new ≡ together self.old others.now) }
+        ensures { OnOk result (self.new ≡ counts_together self.old others.now) }
     {
         for (record_type, records) in others.counts.iter() {
             self.add(*record_type, *records)?;

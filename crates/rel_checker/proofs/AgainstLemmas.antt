@@ -1,11 +1,11 @@
 -- Paths and counts beside those of dumps.
 use Rattle.std.proofs.Common.{◌≡◌, ℕ, zero, suc, ◌+◌, ◌-◌, ◌<◌, ◌≤◌, List, [], ◌∷◌, length, refl, sym, ap, ap₂, ◌∙◌, subst, arith, Some, slice_get, option_map, false, nat_lt, if◌then◌else◌, le-ltb}
-use Rattle.path_clean.specs.Rows.{Counted, paths_of}
-use Rattle.path_clean.specs.Counts.{Counts}
+use Rattle.path_clean.specs.Rows.{Counted, row_paths}
+use Rattle.path_clean.specs.Counts.{CauseCounts}
 use Rattle.path_clean.specs.declared.cleaned.Cause.TheVariants.{NoPath}
 use Rattle.result_text.specs.declared.file.ResultFile.{ResultFile}
 use Rattle.result_text.specs.Numbering.{aside_line}
-use Rattle.result_rules.specs.File.{path_line}
+use Rattle.result_rules.specs.File.{path_line_number}
 use Rattle.result_rules.specs.Against.{in_order, its_rows, line_against, Departs}
 use Rattle.rel_checker.specs.Steps.{Differs}
 use Rattle.result_rules.proofs.Accepted.{some_parts, none_some}
@@ -14,7 +14,7 @@ abbrev made : List ℕ → ℕ → Counted
 made a b = record { path = a; times = b }
 
 -- the row in a place, from its path and its times
-pub row_parts : (rows : List Counted) (k : ℕ) (path : List ℕ) (times : ℕ) → slice_get (paths_of rows) k ≡ Some path → option_map (λ (row : Counted). row.times) (slice_get rows k) ≡ Some times →
+pub row_parts : (rows : List Counted) (k : ℕ) (path : List ℕ) (times : ℕ) → slice_get (row_paths rows) k ≡ Some path → option_map (λ (row : Counted). row.times) (slice_get rows k) ≡ Some times →
     slice_get rows k ≡ Some (record { path = path; times = times })
 row_parts [] k path times p t = absurd (none_some path p)
 row_parts (row ∷ rows) zero path times p t = let h = some_parts p in let h' = some_parts t in ap (λ (o : Counted). Some o) (same row path times h h')
@@ -30,17 +30,17 @@ same_lists [] (y ∷ ys) le h = absurd (omega (arith, le))
 same_lists (x ∷ xs) [] le h = absurd (none_some x (sym (h 0 (omega arith))))
 same_lists (x ∷ xs) (y ∷ ys) le h = ap₂ (λ z zs. z ∷ zs) (some_parts (h 0 (omega arith))) (same_lists xs ys (omega (arith, le)) (λ k lt. h (suc k) (omega arith)))
 
-mapped_at : (rows : List Counted) (k : ℕ) → slice_get (paths_of rows) k ≡ option_map (λ (row : Counted). row.path) (slice_get rows k)
+mapped_at : (rows : List Counted) (k : ℕ) → slice_get (row_paths rows) k ≡ option_map (λ (row : Counted). row.path) (slice_get rows k)
 mapped_at [] k = refl
 mapped_at (row ∷ rows) zero = refl
 mapped_at (row ∷ rows) (suc k) = mapped_at rows k
 
 -- what is read of the row in a place
-module _ (rows : List Counted) (all : List (List ℕ)) (k id t : ℕ) (row : List ℕ) (is : id ≡ k) (whole : all ≡ paths_of rows)
+module _ (rows : List Counted) (all : List (List ℕ)) (k id t : ℕ) (row : List ℕ) (is : id ≡ k) (whole : all ≡ row_paths rows)
     (read : slice_get all id ≡ Some row) (seen : option_map (λ (row : Counted). row.times) (slice_get rows id) ≡ Some t) where
   pub row_is : (path : List ℕ) (times : ℕ) → row ≡ path → t ≡ times → slice_get rows k ≡ Some (record { path = path; times = times })
   row_is path times p e =
-      let at : slice_get (paths_of rows) k ≡ Some path = ap (λ (l : List (List ℕ)). slice_get l k) (sym whole) ∙ ap (slice_get all) (sym is) ∙ read ∙ ap (λ (l : List ℕ). Some l) p in
+      let at : slice_get (row_paths rows) k ≡ Some path = ap (λ (l : List (List ℕ)). slice_get l k) (sym whole) ∙ ap (slice_get all) (sym is) ∙ read ∙ ap (λ (l : List ℕ). Some l) p in
       let times_at : option_map (λ (row : Counted). row.times) (slice_get rows k) ≡ Some times = ap (λ i. option_map (λ (row : Counted). row.times) (slice_get rows i)) (sym is) ∙ seen
       ∙ ap (λ (n : ℕ). Some n) e in
       row_parts rows k path times at times_at
@@ -49,13 +49,13 @@ module _ (rows : List Counted) (all : List (List ℕ)) (k id t : ℕ) (row : Lis
   times_were path times e =
       some_parts (sym seen ∙ ap (λ i. option_map (λ (row : Counted). row.times) (slice_get rows i)) is ∙ ap (option_map (λ (row : Counted). row.times)) e)
 
-pub path_at : (rows : List Counted) (all : List (List ℕ)) (k id : ℕ) (row : List ℕ) → id ≡ k → all ≡ paths_of rows → slice_get all id ≡ Some row →
+pub path_at : (rows : List Counted) (all : List (List ℕ)) (k id : ℕ) (row : List ℕ) → id ≡ k → all ≡ row_paths rows → slice_get all id ≡ Some row →
     (path : List ℕ) (times : ℕ) → slice_get rows k ≡ Some (record { path = path; times = times }) → row ≡ path
 path_at rows all k id row is whole read path times e =
     some_parts (sym read ∙ ap (slice_get all) is ∙ ap (λ (l : List (List ℕ)). slice_get l k) whole ∙ mapped_at rows k ∙ ap (option_map (λ (row : Counted). row.path)) e)
 
 -- the counts agree, and the paths differ first in this place
-pub path_departs : (file : ResultFile) (rows : List Counted) (counts : Counts) (k line rule : ℕ) → file.asides ≡ counts → Differs (its_rows file) rows k → line ≡ path_line file k → rule ≡ 11 →
+pub path_departs : (file : ResultFile) (rows : List Counted) (counts : CauseCounts) (k line rule : ℕ) → file.asides ≡ counts → Differs (its_rows file) rows k → line ≡ path_line_number file k → rule ≡ 11 →
     Departs file rows counts line rule
 path_departs file rows counts k line rule same d at named = record {
   named = named;
@@ -68,7 +68,7 @@ path_departs file rows counts k line rule same d at named = record {
     back : 7 + k - 7 ≡ k
     back = omega arith
 
-    path_line_back : path_line file k ≡ line_against file (7 + k)
+    path_line_back : path_line_number file k ≡ line_against file (7 + k)
     path_line_back =
         let behind : nat_lt (7 + k) 7 ≡ false = le-ltb (7 + k) 7 (omega arith) in
-        ap (path_line file) (sym back) ∙ ap (λ b. if b then aside_line NoPath + (7 + k) else path_line file (7 + k - 7)) (sym behind)
+        ap (path_line_number file) (sym back) ∙ ap (λ b. if b then aside_line NoPath + (7 + k) else path_line_number file (7 + k - 7)) (sym behind)

@@ -16,7 +16,7 @@ use Rattle.relationships.specs.Marking.{is_forced}
 use Rattle.result_rules.specs.File.{claim_on, its_probes, shown_orders}
 use Rattle.result_rules.specs.declared.rule.Rule.TheVariants.{MarksBorneOut}
 use Rattle.result_rules.specs.Rules.{Asks}
-use Rattle.rel_checker.specs.Steps.{Finds}
+use Rattle.rel_checker.specs.Steps.{FindsBreach}
 use Rattle.rel_checker.specs.Flipping.{flipped_by, flipped, flipped_orders, kept_lines}
 use Rattle.rel_checker.specs.Serving.{IsCovered, IsShownBy, First, MarkedAt, ServesAt, is_borne}
 use Rattle.result_rules.proofs.Gets.{slice_get-lt, slice_get-map, slice_get-unmap}
@@ -104,7 +104,7 @@ module _ (file : ResultFile) where
   many_lines : length (its_probes file) ≡ length file.probes
   many_lines = length-map file.probes (λ (p : Probe). (p.over, p.under))
 
-  pub none_breaks : First (MarkedAt file) (length file.edges) None → First (ServesAt file) (length file.probes) None → Finds file MarksBorneOut None
+  pub none_breaks : First (MarkedAt file) (length file.edges) None → First (ServesAt file) (length file.probes) None → FindsBreach file MarksBorneOut None
   none_breaks edges opens k lt = elim (cases_lt k (length file.edges)) [
     | inl less ↦ asks_edge k less (edges k less)
     | inr ge ↦
@@ -114,14 +114,14 @@ module _ (file : ResultFile) where
         asks_open k j e (opens j within)
   ]
 
-  pub edge_breaks : (k : ℕ) → First (MarkedAt file) (length file.edges) (Some k) → Finds file MarksBorneOut (Some k)
+  pub edge_breaks : (k : ℕ) → First (MarkedAt file) (length file.edges) (Some k) → FindsBreach file MarksBorneOut (Some k)
   edge_breaks k edges = let within = edges.0 in record {
     within = omega arith;
     breach = λ a. edges.1 (edge_asked k a);
     before = λ j lt. asks_edge j (omega arith) (edges.2 j lt);
   }
 
-  pub open_breaks : (k j : ℕ) → k ≡ length file.edges + j → First (MarkedAt file) (length file.edges) None → First (ServesAt file) (length file.probes) (Some j) → Finds file MarksBorneOut (Some k)
+  pub open_breaks : (k j : ℕ) → k ≡ length file.edges + j → First (MarkedAt file) (length file.edges) None → First (ServesAt file) (length file.probes) (Some j) → FindsBreach file MarksBorneOut (Some k)
   open_breaks k j e edges opens = let within = opens.0 in record {
     within = omega arith;
     breach = λ a. opens.1 (open_asked k j e a);

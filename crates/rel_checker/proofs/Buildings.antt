@@ -5,7 +5,7 @@ use Rattle.std.proofs.lemmas.Option.{get_or_from_slice_get, slice_get-get_or}
 use Rattle.std.proofs.lemmas.List.Elements.{Contains-push, Contains-push_cases, Contains-append_left}
 use Rattle.relationships.specs.Evidence.{TripleAt, IsTriple}
 use Rattle.relationships.proofs.Places.{StandAt-from_index, index-from_StandAt}
-use Rattle.rel_checker.specs.Neighbours.{HasNext, IsInside, with_next}
+use Rattle.rel_checker.specs.Neighbours.{HasNext, EachHasRow, with_next}
 use Rattle.rel_checker.specs.Flipping.{FlipsTo, Implies, Conflicts, IsBuilt, IsClimb, with_implied, with_conflicting, TripleBefore, IsProper}
 use Rattle.result_rules.proofs.Gets.{slice_get-lt, slice_get-set_cases, slice_get-set_other, slice_get-set_same}
 
@@ -306,12 +306,12 @@ path_end orders path end implied conflicting all paths b = built_same orders (Tr
 
 -- ---- what stands in the rows
 
-pub inside_implied : (orders : List (ℕ × ℕ)) (T : ℕ → ℕ → ℕ → Type 0) (implied conflicting : List (List ℕ)) → IsBuilt orders T implied conflicting → IsInside implied
+pub inside_implied : (orders : List (ℕ × ℕ)) (T : ℕ → ℕ → ℕ → Type 0) (implied conflicting : List (List ℕ)) → IsBuilt orders T implied conflicting → EachHasRow implied
 inside_implied orders T implied conflicting b i j h =
     let c = (b.implies i j).0 h in
     omega (arith, slice_get-lt orders j (c.1, c.2) c.4, b.implied_many)
 
-pub inside_conflicting : (orders : List (ℕ × ℕ)) (T : ℕ → ℕ → ℕ → Type 0) (implied conflicting : List (List ℕ)) → IsBuilt orders T implied conflicting → IsInside conflicting
+pub inside_conflicting : (orders : List (ℕ × ℕ)) (T : ℕ → ℕ → ℕ → Type 0) (implied conflicting : List (List ℕ)) → IsBuilt orders T implied conflicting → EachHasRow conflicting
 inside_conflicting orders T implied conflicting b i j h =
     let c = (b.conflicts i j).0 h in
     omega (arith, slice_get-lt orders j (c.2, c.1) c.4, b.conflicting_many)

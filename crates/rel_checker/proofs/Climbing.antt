@@ -10,7 +10,7 @@ use Rattle.relationships.specs.Steps.{end_left}
 use Rattle.result_text.specs.declared.file.EdgeLine.{EdgeLine}
 use Rattle.rel_checker.specs.declared.edges.step.Step.{Step}
 use Rattle.rel_checker.specs.Flipping.{climbs, flipped_by, flipped_orders, edges_of, FlipsTo, IsClimb}
-use Rattle.rel_checker.specs.PathSteps.{place_in, left_in, IsStep, labels_on}
+use Rattle.rel_checker.specs.PathSteps.{place_in, left_in, IsCodedStep, labels_on}
 use Rattle.result_rules.proofs.Gets.{slice_get-map, slice_get-unmap}
 use Rattle.rel_checker.proofs.OrderPlaces.{pair, flips_of}
 
@@ -50,7 +50,7 @@ step_by : (orders : List (ℕ × ℕ)) (k a b : ℕ) (up : Bool) → FlipsTo ord
 step_by orders k a b true h = h
 step_by orders k a b false h = h
 
-pub climb : (lines : List EdgeLine) (a b : ℕ) (step : Step) → IsStep (edges_of lines) a b step →
+pub climb : (lines : List EdgeLine) (a b : ℕ) (step : Step) → IsCodedStep (edges_of lines) a b step →
     IsClimb (flipped_orders lines) (place_in step) (climbs (get_or (labels_on lines) (place_in step) label.Peer) (left_in step)) a b
 climb lines a b step h =
     let w = slice_get-unmap (λ (e : EdgeLine). (e.low, e.high)) lines (place_in step) (edge_of a b) h.0 in

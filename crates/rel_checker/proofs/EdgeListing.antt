@@ -8,7 +8,7 @@ use Rattle.result_text.specs.declared.file.ResultFile.{ResultFile}
 use Rattle.rel_checker.specs.declared.edges.step.Step.{Step}
 use Rattle.result_rules.specs.declared.rule.Rule.TheVariants.{PathsCleaned}
 use Rattle.result_rules.specs.File.{its_paths}
-use Rattle.rel_checker.specs.PathSteps.{AreSteps, HaveSteps}
+use Rattle.rel_checker.specs.PathSteps.{AreCodedSteps, HaveCodedSteps}
 use Rattle.result_rules.specs.Rules.{IsMet}
 use Rattle.tor_numbers.specs.Edges.{with_edge}
 use Rattle.rel_checker.proofs.FewEdges.{few_edges}
@@ -19,7 +19,7 @@ use Rattle.rel_checker.proofs.StepLemmas.{HaveSteps-more, HaveSteps-push, length
 -- the edges and the steps of the first paths are there
 pub record IsListing (lines : List PathLine) (place : ℕ) (es : List Edge) (rows : List (List Step)) : Type 0 where
   pub there : es ≡ edges (paths_in (take place lines))
-  pub stepped : HaveSteps es (paths_in (take place lines)) rows
+  pub stepped : HaveCodedSteps es (paths_in (take place lines)) rows
 
 pub listing-begins : (lines : List PathLine) (es : List Edge) (rows : List (List Step)) → es ≡ [] → rows ≡ [] → IsListing lines 0 es rows
 listing-begins lines es rows h k = rw (h, k) (record { there = refl; stepped = tt })
@@ -45,19 +45,19 @@ listing-room file place es rows line met h at =
     omega (arith, n, few, sum, sound, same)
 
 pub listing-more : (file : ResultFile) (place : ℕ) (es new : List Edge) (rows : List (List Step)) (line : PathLine) (steps : List Step) → IsListing file.paths place es rows →
-    slice_get file.paths place ≡ Some line → new ≡ fold with_edge es (edges_on line.path) → AreSteps new line.path steps → IsListing file.paths (place + 1) new (rows ++ steps ∷ [])
+    slice_get file.paths place ≡ Some line → new ≡ fold with_edge es (edges_on line.path) → AreCodedSteps new line.path steps → IsListing file.paths (place + 1) new (rows ++ steps ∷ [])
 listing-more file place es new rows line steps h at is are =
     let l = line-here file place line at in
     let before = paths_in (take place file.paths) in
     let next = paths-more file.paths place line l.within l.is in
-    let kept = subst (λ es. HaveSteps es before rows) (sym is) (HaveSteps-more es (edges_on line.path) before rows h.stepped) in
+    let kept = subst (λ es. HaveCodedSteps es before rows) (sym is) (HaveSteps-more es (edges_on line.path) before rows h.stepped) in
     record {
       there = is ∙ ap (λ es. fold with_edge es (edges_on line.path)) h.there ∙ edges-push before line.path ∙ ap edges (sym next);
-      stepped = subst (λ ps. HaveSteps new ps (rows ++ steps ∷ [])) (sym next) (HaveSteps-push new before rows line.path steps kept are);
+      stepped = subst (λ ps. HaveCodedSteps new ps (rows ++ steps ∷ [])) (sym next) (HaveSteps-push new before rows line.path steps kept are);
     }
 
 pub listing-ends : (file : ResultFile) (place : ℕ) (es : List Edge) (rows : List (List Step)) → IsListing file.paths place es rows → length file.paths ≤ place →
-    (es ≡ edges (its_paths file)) × HaveSteps es (its_paths file) rows
+    (es ≡ edges (its_paths file)) × HaveCodedSteps es (its_paths file) rows
 listing-ends file place es rows h all =
     let whole = take_all place file.paths all in
-    (h.there ∙ ap (λ ls. edges (paths_in ls)) whole, subst (λ ls. HaveSteps es (paths_in ls) rows) whole h.stepped)
+    (h.there ∙ ap (λ ls. edges (paths_in ls)) whole, subst (λ ls. HaveCodedSteps es (paths_in ls) rows) whole h.stepped)

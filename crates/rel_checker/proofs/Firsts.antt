@@ -6,12 +6,12 @@ use Rattle.relationships.specs.Evidence.{IsTriple, IsConsistent}
 use Rattle.relationships.specs.declared.mark.Probe.{Probe}
 use Rattle.result_text.specs.declared.file.ResultFile.{ResultFile}
 use Rattle.result_rules.specs.File.{its_claims, its_probes}
-use Rattle.rel_checker.specs.Flipping.{IsFlipped, flipped_orders, kept_lines, IsBuilt, IsProper, IsSettled}
-use Rattle.rel_checker.specs.Serving.{Gains, GainsAt, ServesAt, First, first_of}
+use Rattle.rel_checker.specs.Flipping.{IsFlipped, flipped_orders, kept_lines, IsBuilt, IsProper, FlipsLeaveNoValley}
+use Rattle.rel_checker.specs.Serving.{Gains, GainsAt, ServesAt, First, first_failing}
 use Rattle.result_rules.proofs.Gets.{slice_get-map, take_get}
 use Rattle.rel_checker.proofs.Servings.{probe_of_gains, gains_of_probe, gains_flipped}
 
-pub first_more : (P : ℕ → Type 0) (k : ℕ) (first : Option ℕ) (holds : Bool) → First P k first → IsTrue holds ↔ P k → First P (k + 1) (first_of first k holds)
+pub first_more : (P : ℕ → Type 0) (k : ℕ) (first : Option ℕ) (holds : Bool) → First P k first → IsTrue holds ↔ P k → First P (k + 1) (first_failing first k holds)
 first_more P k (Some j) holds h exact = let lt = h.0 in (omega arith, h.1, h.2)
 first_more P k None true h exact = λ j lt.
     elim (cases_lt j k) [ inl less ↦ h j less | inr ge ↦ let e : k ≡ j = omega arith in subst P e (exact.0 refl) ]
@@ -63,7 +63,7 @@ module _ (file : ResultFile) where
       probe_of_gains (kept_lines file.paths) (its_claims file) (take k (its_probes file)) p (gains p at') (subst (λ (q : ℕ × ℕ). IsConsistent (kept_lines file.paths) q.0 q.1) same consistent)
 
   pub fails_here : (implied conflicting : List (List ℕ)) → IsBuilt (flipped_orders file.edges) (IsTriple (kept_lines file.paths)) implied conflicting → IsProper (flipped_orders file.edges)
-      → IsSettled (flipped_orders file.edges) (kept_lines file.paths) →
+      → FlipsLeaveNoValley (flipped_orders file.edges) (kept_lines file.paths) →
       (k : ℕ) (line : Probe) → slice_get file.probes k ≡ Some line →
       ((IsFlipped (flipped_orders file.edges) line.over line.under × IsConsistent (kept_lines file.paths) line.over line.under) → ⊥) → ServesAt file k → ⊥
   fails_here implied conflicting built proper settled k line at none serves =

@@ -3,8 +3,8 @@ use Rattle.std.proofs.Common.{◌≡◌, ◌↔◌, ◌⊎◌, inl, inr, ℕ, Li
 use Rattle.std.proofs.lemmas.Option.{same_Some}
 use Rattle.relationships.specs.Evidence.{IsTriple, Closure, start, imply, IsConsistent}
 use Rattle.relationships.proofs.Closures.{reversed_triple, consistency_law}
-use Rattle.rel_checker.specs.Neighbours.{HasNext, Reaches, here, onward}
-use Rattle.rel_checker.specs.Flipping.{FlipsTo, IsBuilt, IsProper, IsSettled}
+use Rattle.rel_checker.specs.Neighbours.{HasNext, ReachesRow, here, onward}
+use Rattle.rel_checker.specs.Flipping.{FlipsTo, IsBuilt, IsProper, FlipsLeaveNoValley}
 
 -- ---- closures run both ways
 
@@ -21,9 +21,9 @@ same_order : (orders : List (ℕ × ℕ)) (k x y u v : ℕ) → FlipsTo orders k
 same_order orders k x y u v h g = same_Some (x, y) (u, v) (sym h ∙ g)
 
 module _ (orders : List (ℕ × ℕ)) (paths implied conflicting : List (List ℕ)) (built : IsBuilt orders (IsTriple paths) implied conflicting) (proper : IsProper orders)
-    (settled : IsSettled orders paths) where
+    (settled : FlipsLeaveNoValley orders paths) where
   -- what flips with s follows
-  reached : (s a b : ℕ) → FlipsTo orders s a b → {k : ℕ} → Reaches implied s k → (y z : ℕ) → FlipsTo orders k y z → Closure paths a b y z
+  reached : (s a b : ℕ) → FlipsTo orders s a b → {k : ℕ} → ReachesRow implied s k → (y z : ℕ) → FlipsTo orders k y z → Closure paths a b y z
   reached s a b ts here y z tk =
       subst (λ (p : ℕ × ℕ). Closure paths a b p.0 p.1) (same_order orders s a b y z ts tk) start
   reached s a b ts (onward {i = i} {j = j} l n) y z tj =
@@ -36,7 +36,7 @@ module _ (orders : List (ℕ × ℕ)) (paths implied conflicting : List (List �
   second_listed x y z t = settled.listed z y x (reversed_triple paths x y z t)
 
   -- what follows from an order against a label is such an order too, which flips with the first, or one that a label has
-  follows : (s a b : ℕ) → FlipsTo orders s a b → {y z : ℕ} → Closure paths a b y z → ((k : ℕ) × FlipsTo orders k y z × Reaches implied s k) ⊎ ((k : ℕ) × FlipsTo orders k z y)
+  follows : (s a b : ℕ) → FlipsTo orders s a b → {y z : ℕ} → Closure paths a b y z → ((k : ℕ) × FlipsTo orders k y z × ReachesRow implied s k) ⊎ ((k : ℕ) × FlipsTo orders k z y)
   follows s a b ts start = inl (s, ts, here)
   follows s a b ts (imply {x = x} {y = y} {z = z} c t) =
       elim (follows s a b ts c) [
@@ -50,19 +50,19 @@ module _ (orders : List (ℕ × ℕ)) (paths implied conflicting : List (List �
         ]
       ]
 
-  pub reaches_exactly : (s a b k y z : ℕ) → FlipsTo orders s a b → FlipsTo orders k y z → Reaches implied s k ↔ Closure paths a b y z
+  pub reaches_exactly : (s a b k y z : ℕ) → FlipsTo orders s a b → FlipsTo orders k y z → ReachesRow implied s k ↔ Closure paths a b y z
   reaches_exactly s a b k y z ts tk = (
     λ l. reached s a b ts l y z tk,
     λ c. elim (follows s a b ts c) [
-      | inl h ↦ subst (Reaches implied s) (proper.one h.0 k y z h.1 tk) h.2
+      | inl h ↦ subst (ReachesRow implied s) (proper.one h.0 k y z h.1 tk) h.2
       | inr h ↦ absurd (proper.no_opposite k h.0 y z tk h.1)
     ],
   )
 
   -- where a closure leaves the orders against the labels, it does so at a triple
   leaves : (s a b : ℕ) → FlipsTo orders s a b → {y z : ℕ} → Closure paths a b y z →
-      ((k : ℕ) × FlipsTo orders k y z × Reaches implied s k) ⊎
-      ((x u v i j : ℕ) × FlipsTo orders i x u × Reaches implied s i × IsTriple paths x u v × FlipsTo orders j v u × Closure paths u v y z)
+      ((k : ℕ) × FlipsTo orders k y z × ReachesRow implied s k) ⊎
+      ((x u v i j : ℕ) × FlipsTo orders i x u × ReachesRow implied s i × IsTriple paths x u v × FlipsTo orders j v u × Closure paths u v y z)
   leaves s a b ts start = inl (s, ts, here)
   leaves s a b ts (imply {x = x} {y = y} {z = z} c t) =
       elim (leaves s a b ts c) [
@@ -74,7 +74,7 @@ module _ (orders : List (ℕ × ℕ)) (paths implied conflicting : List (List �
       ]
 
   pub consistent_exactly : (s a b : ℕ) → FlipsTo orders s a b →
-      IsConsistent paths a b ↔ ((i j : ℕ) → Reaches implied s i → Reaches implied s j → HasNext conflicting i j → ⊥)
+      IsConsistent paths a b ↔ ((i j : ℕ) → ReachesRow implied s i → ReachesRow implied s j → HasNext conflicting i j → ⊥)
   consistent_exactly s a b ts = (
     λ consistent i j li lj n.
         let w = (built.conflicts i j).0 n in

@@ -7,8 +7,8 @@ use Rattle.relationships.specs.Evidence.{IsTriple}
 use Rattle.result_text.specs.declared.file.EdgeLine.{EdgeLine}
 use Rattle.rel_checker.specs.declared.edges.step.Step.{Step}
 use Rattle.rel_checker.specs.Neighbours.{HasNext, with_next}
-use Rattle.rel_checker.specs.Flipping.{climbs_on, number_of, SameRows, HaveArcs, AreNoted, flipped, flipped_orders, edges_of, IsBuilt, IsProper, TripleBefore, with_implied, with_conflicting}
-use Rattle.rel_checker.specs.PathSteps.{place_in, IsStep, AreSteps}
+use Rattle.rel_checker.specs.Flipping.{climbs_on, number_of_steps, SameRows, HaveArcs, AreNoted, flipped, flipped_orders, edges_of, IsBuilt, IsProper, TripleBefore, with_implied, with_conflicting}
+use Rattle.rel_checker.specs.PathSteps.{place_in, IsCodedStep, AreCodedSteps}
 use Rattle.rel_checker.proofs.Buildings.{length-with_next, next_cases, next_kept, next_last, path_more, length-with_implied, length-with_conflicting}
 use Rattle.rel_checker.proofs.Climbing.{climb}
 use Rattle.result_rules.proofs.Gets.{Contains-none, slice_get-replicate}
@@ -90,17 +90,17 @@ arcs-new true false a b implied conflicting lt lt' k k' =
     (next_kept more b a a b within (next_last conflicting a b a b k refl refl), next_last more b a b a within refl refl)
 
 pub noted-none : (lines : List EdgeLine) (implied conflicting : List (List ℕ)) → AreNoted lines [] implied conflicting
-noted-none lines implied conflicting s t lt lt' c = absurd (Contains-none (number_of s t) c)
+noted-none lines implied conflicting s t lt lt' c = absurd (Contains-none (number_of_steps s t) c)
 
 -- where the number is there, so is what the two steps imply or rule out
 pub noted-there : (lines : List EdgeLine) (numbers : List ℕ) (s t : Step) (number : ℕ) (implied conflicting : List (List ℕ)) →
-    place_in s < length lines → place_in t < length lines → number ≡ number_of s t → Contains numbers number → AreNoted lines numbers implied conflicting →
+    place_in s < length lines → place_in t < length lines → number ≡ number_of_steps s t → Contains numbers number → AreNoted lines numbers implied conflicting →
     HaveArcs (climbs_on lines s) (climbs_on lines t) (place_in s) (place_in t) implied conflicting
 noted-there lines numbers s t number implied conflicting lt lt' e there noted = noted s t lt lt' (subst (Contains numbers) e there)
 
 pub noted-more : (lines : List EdgeLine) (numbers numbers' : List ℕ) (first second : Step) (number : ℕ) (implied conflicting implied' conflicting' : List (List ℕ)) →
     length lines ≤ most_places → length implied ≡ length lines → length conflicting ≡ length lines → place_in first < length lines → place_in second < length lines →
-    number ≡ number_of first second → numbers' ≡ numbers ++ number ∷ [] →
+    number ≡ number_of_steps first second → numbers' ≡ numbers ++ number ∷ [] →
     implied' ≡ with_implied (climbs_on lines first) (climbs_on lines second) (place_in first) (place_in second) implied →
     conflicting' ≡ with_conflicting (climbs_on lines first) (climbs_on lines second) (place_in first) (place_in second) conflicting →
     AreNoted lines numbers implied conflicting → AreNoted lines numbers' implied' conflicting'
@@ -113,7 +113,7 @@ noted-more lines numbers numbers' first second number implied conflicting implie
     let k₁ : b < length implied = omega (arith, many, lt') in
     let k₂ : a < length conflicting = omega (arith, many', lt) in
     let k₃ : b < length conflicting = omega (arith, many', lt') in
-    rw (i, c) (elim (Contains-push_cases numbers number (number_of s t) (subst (λ l. Contains l (number_of s t)) e there)) [
+    rw (i, c) (elim (Contains-push_cases numbers number (number_of_steps s t) (subst (λ l. Contains l (number_of_steps s t)) e there)) [
       | inl old ↦ arcs-kept (climbs_on lines s) (climbs_on lines t) a b (place_in s) (place_in t) implied conflicting (with_implied up up' a b implied) (with_conflicting up up' a b conflicting)
           (λ x y h. kept-implied up up' a b x y implied k₀ k₁ h) (λ x y h. kept-conflicting up up' a b x y conflicting k₂ k₃ h) (noted s t ls lt'' old)
       | inr is ↦
@@ -144,7 +144,7 @@ pub many_same' : (up up' : Bool) (a b n : ℕ) (rows rows' : List (List ℕ)) �
 many_same' up up' a b n rows rows' s many = s.0 ∙ length-with_conflicting up up' a b rows ∙ many
 
 pub noted_path_more : (lines : List EdgeLine) (path : List ℕ) (steps : List Step) (at : ℕ) (d d' : Step) (implied conflicting implied' conflicting' : List (List ℕ)) → IsProper (flipped_orders lines) →
-    AreSteps (edges_of lines) path steps → 2 ≤ at → at < length path → length implied ≡ length lines →
+    AreCodedSteps (edges_of lines) path steps → 2 ≤ at → at < length path → length implied ≡ length lines →
     SameRows implied' (with_implied (climbs_on lines (get_or steps (at - 2) d)) (climbs_on lines (get_or steps (at - 1) d')) (place_in (get_or steps (at - 2) d)) (place_in (get_or steps (at - 1) d')) implied) →
     SameRows conflicting'
     (with_conflicting (climbs_on lines (get_or steps (at - 2) d)) (climbs_on lines (get_or steps (at - 1) d')) (place_in (get_or steps (at - 2) d)) (place_in (get_or steps (at - 1) d')) conflicting) →
@@ -159,8 +159,8 @@ noted_path_more lines path steps at d d' implied conflicting implied' conflictin
     let j : at - 1 < length steps = omega (arith, long, two, within) in
     let e : at - 2 + 1 ≡ at - 1 = omega (arith, two) in
     let e' : at - 1 + 1 ≡ at = omega (arith, two) in
-    let along = subst (λ k. IsStep (edges_of lines) (slice_index path (at - 2)) (slice_index path k) first) e (step_at (edges_of lines) path steps (at - 2) d are i) in
-    let along' = subst (λ k. IsStep (edges_of lines) (slice_index path (at - 1)) (slice_index path k) second) e' (step_at (edges_of lines) path steps (at - 1) d' are j) in
+    let along = subst (λ k. IsCodedStep (edges_of lines) (slice_index path (at - 2)) (slice_index path k) first) e (step_at (edges_of lines) path steps (at - 2) d are i) in
+    let along' = subst (λ k. IsCodedStep (edges_of lines) (slice_index path (at - 1)) (slice_index path k) second) e' (step_at (edges_of lines) path steps (at - 1) d' are j) in
     let lt : place_in first < length implied = (let h = inside_lines lines path steps are (at - 2) d i in omega (arith, h, many)) in
     let lt' : place_in second < length implied = (let h = inside_lines lines path steps are (at - 1) d' j in omega (arith, h, many)) in
     built-same (flipped_orders lines) (TripleBefore paths path (at + 1)) (with_implied up up' (place_in first) (place_in second) implied)

@@ -10,7 +10,7 @@ use Rattle.result_text.specs.declared.file.ResultFile.{ResultFile}
 use Rattle.result_rules.specs.File.{its_paths}
 use Rattle.result_rules.specs.declared.rule.Rule.TheVariants.{PathsDistinct}
 use Rattle.result_rules.specs.Rules.{Asks}
-use Rattle.rel_checker.specs.Steps.{Finds}
+use Rattle.rel_checker.specs.Steps.{FindsBreach}
 use Rattle.result_rules.proofs.Gets.{slice_get-some}
 
 row_at-within : (rows : List (List ℕ)) (k : ℕ) (x : List ℕ) → k < length rows → row_at rows k ≡ get_or rows k x
@@ -51,7 +51,7 @@ broken-from file k within repeats asks =
     let long = length-map file.paths (λ (p : PathLine). p.path) in
     asks some.0 some.1 (subst (Contains (take k (its_paths file))) (path-at file k some.0 some.1) (repeats-contains (its_paths file) k (omega (arith, within, long)) repeats))
 
-pub finds-repeat : (file : ResultFile) (found : Option ℕ) → IsFirstRepeat (its_paths file) found → Finds file PathsDistinct found
+pub finds-repeat : (file : ResultFile) (found : Option ℕ) → IsFirstRepeat (its_paths file) found → FindsBreach file PathsDistinct found
 finds-repeat file None none = λ k lt. new-from file k (none k (let long = length-map file.paths (λ (p : PathLine). p.path) in omega (arith, lt, long)))
 finds-repeat file (Some k) (within, repeats, before) =
     let long = length-map file.paths (λ (p : PathLine). p.path) in

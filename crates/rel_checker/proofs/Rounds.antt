@@ -4,13 +4,13 @@ use Rattle.std.proofs.lemmas.Bool.{cases_lt, cases_Bool, eqb-true}
 use Rattle.std.proofs.lemmas.Option.{get_or_from_slice_get, same_Some}
 use Rattle.std.proofs.lemmas.List.Elements.{Contains-push, Contains-append_left, Contains-append_right, Contains-append_cases}
 use Rattle.std.proofs.lemmas.List.Sums.{sum_by-set}
-use Rattle.rel_checker.specs.Neighbours.{HasNext, Reaches, here, onward}
-use Rattle.rel_checker.specs.Searching.{IsVisited, unvisited, Visits, Search, IsClosed, IsSearched}
+use Rattle.rel_checker.specs.Neighbours.{HasNext, ReachesRow, here, onward}
+use Rattle.rel_checker.specs.Searching.{RoundCameTo, unvisited, RoundComesTo, Search, IsRoundClosed, HasSearchedFrom}
 use Rattle.result_rules.proofs.Gets.{get_from_Contains, Contains-from_get, Contains-none, Contains-one, slice_get-lt, slice_get-some, slice_get-push_old, slice_get-set_cases, slice_get-set_other, slice_get-set_same}
 
 -- ---- marks
 
-pub rounds-none : (round : ℕ) (rounds found : List ℕ) → Visits round [] rounds rounds found found
+pub rounds-none : (round : ℕ) (rounds found : List ℕ) → RoundComesTo round [] rounds rounds found found
 rounds-none round rounds found = record {
   added = [];
   more = sym (append-nil found);
@@ -22,11 +22,11 @@ rounds-none round rounds found = record {
   fewer = omega arith;
 }
 
-pub rounds-old : (round k : ℕ) (rounds found : List ℕ) → IsVisited rounds round k → Visits round (k ∷ []) rounds rounds found found
+pub rounds-old : (round k : ℕ) (rounds found : List ℕ) → RoundCameTo rounds round k → RoundComesTo round (k ∷ []) rounds rounds found found
 rounds-old round k rounds found h = record {
   added = [];
   more = sym (append-nil found);
-  visited = λ j c. subst (IsVisited rounds round) (Contains-one k j c) h;
+  visited = λ j c. subst (RoundCameTo rounds round) (Contains-one k j c) h;
   from = λ j c. absurd (Contains-none j c);
   others = λ j v at. inl at;
   kept = λ j m. m;
@@ -45,29 +45,29 @@ unvisited_less round k m rounds at ne =
     omega (arith, s, one, none)
 
 pub rounds-new : (round k m : ℕ) (rounds new found found' : List ℕ) → slice_get rounds k ≡ Some m → m ≢ round → new ≡ set rounds k round → found' ≡ found ++ k ∷ [] →
-    Visits round (k ∷ []) rounds new found found'
+    RoundComesTo round (k ∷ []) rounds new found found'
 rounds-new round k m rounds new found found' at ne e e' = rw (e, e') (record {
   added = k ∷ [];
   more = refl;
-  visited = λ j c. subst (IsVisited (set rounds k round) round) (Contains-one k j c) here_now;
+  visited = λ j c. subst (RoundCameTo (set rounds k round) round) (Contains-one k j c) here_now;
   from = λ j c. let same = Contains-one k j c in (
     c,
-    λ h. ne (same_Some m round (sym at ∙ subst (IsVisited rounds round) (sym same) h)),
-    subst (IsVisited (set rounds k round) round) same here_now,
+    λ h. ne (same_Some m round (sym at ∙ subst (RoundCameTo rounds round) (sym same) h)),
+    subst (RoundCameTo (set rounds k round) round) same here_now,
   );
   others = λ j v h. elim (slice_get-set_cases rounds k round j v h) [
     | inl p ↦ inr (p.1, subst (Contains (k ∷ [])) (sym p.0) (Contains-push [] k))
     | inr p ↦ inl p.1
   ];
-  kept = λ j h. slice_get-set_other rounds k round j (λ q. ne (same_Some m round (sym at ∙ subst (IsVisited rounds round) q h))) ∙ h;
+  kept = λ j h. slice_get-set_other rounds k round j (λ q. ne (same_Some m round (sym at ∙ subst (RoundCameTo rounds round) q h))) ∙ h;
   many = length-set rounds k round;
   fewer = omega (arith, unvisited_less round k m rounds at ne, length-append found (k ∷ []));
 })
   where
-    here_now : IsVisited (set rounds k round) round k
+    here_now : RoundCameTo (set rounds k round) round k
     here_now = slice_get-set_same rounds k round (slice_get-lt rounds k m at)
 
-pub rounds-more : (round : ℕ) (seen more old mid new f f' f'' : List ℕ) → Visits round seen old mid f f' → Visits round more mid new f' f'' → Visits round (seen ++ more) old new f f''
+pub rounds-more : (round : ℕ) (seen more old mid new f f' f'' : List ℕ) → RoundComesTo round seen old mid f f' → RoundComesTo round more mid new f' f'' → RoundComesTo round (seen ++ more) old new f f''
 rounds-more round seen more old mid new f f' f'' a b = record {
   added = a.added ++ b.added;
   more = b.more ∙ ap (λ l. l ++ b.added) a.more ∙ append_assoc f a.added b.added;
@@ -90,13 +90,13 @@ rounds-more round seen more old mid new f f' f'' a b = record {
 
 -- ---- the search
 
-pub search-start : (rows : List (List ℕ)) (start round : ℕ) (old new found found' : List ℕ) → found ≡ [] → Visits round (start ∷ []) old new found found' → Search rows start round old new found' 0
+pub search-start : (rows : List (List ℕ)) (start round : ℕ) (old new found found' : List ℕ) → found ≡ [] → RoundComesTo round (start ∷ []) old new found found' → Search rows start round old new found' 0
 search-start rows start round old new found found' e m =
     let is : found' ≡ m.added = m.more ∙ ap (λ l. l ++ m.added) e in record {
       begun = m.visited start (Contains-push [] start);
       reached = λ k c.
           let w = m.from k (subst (λ l. Contains l k) is c) in
-          (subst (Reaches rows start) (Contains-one start k w.0) here, w.1, w.2);
+          (subst (ReachesRow rows start) (Contains-one start k w.0) here, w.1, w.2);
       followed = λ i k lt. absurd (omega arith);
       others = λ k v at. elim (m.others k v at) [ inl h ↦ inl h | inr h ↦ inr (h.0, subst (λ l. Contains l k) (sym is) h.1) ];
       kept = m.kept;
@@ -105,7 +105,7 @@ search-start rows start round old new found found' e m =
     }
 
 pub search-more : (rows : List (List ℕ)) (start round next k : ℕ) (old mid new found found' row : List ℕ) → Search rows start round old mid found next →
-    slice_get found next ≡ Some k → slice_get rows k ≡ Some row → Visits round row mid new found found' → Search rows start round old new found' (next + 1)
+    slice_get found next ≡ Some k → slice_get rows k ≡ Some row → RoundComesTo round row mid new found found' → Search rows start round old new found' (next + 1)
 search-more rows start round next k old mid new found found' row s at its_row m = record {
   begun = m.kept start s.begun;
   reached = λ j c. elim (Contains-append_cases found m.added j (subst (λ l. Contains l j) m.more c)) [
@@ -143,8 +143,8 @@ search-more rows start round next k old mid new found found' row s at its_row m 
         let w = slice_get-some found n (omega (arith, slice_get-lt found next k at)) in
         w.1 ∙ sym (old_at n w.0 w.1) ∙ e
 
-pub search-end : (rows : List (List ℕ)) (start round next : ℕ) (old new found : List ℕ) → IsClosed rows old round → Search rows start round old new found next → length found ≤ next →
-    IsSearched rows start round old new found
+pub search-end : (rows : List (List ℕ)) (start round next : ℕ) (old new found : List ℕ) → IsRoundClosed rows old round → Search rows start round old new found next → length found ≤ next →
+    HasSearchedFrom rows start round old new found
 search-end rows start round next old new found closed s done = record {
   exact = λ k. (λ h. came k h, λ h. elim h [ inl o ↦ s.kept k o | inr l ↦ comes l ]);
   noted = λ k. (λ c. let w = s.reached k c in (w.2, w.1), λ h. elim (s.others k round h.0) [ inl o ↦ absurd (h.1 o) | inr o ↦ o.1 ]);
@@ -152,21 +152,21 @@ search-end rows start round next old new found closed s done = record {
   many = s.many;
 }
   where
-    came : (k : ℕ) → IsVisited new round k → IsVisited old round k ⊎ Reaches rows start k
+    came : (k : ℕ) → RoundCameTo new round k → RoundCameTo old round k ⊎ ReachesRow rows start k
     came k h = elim (s.others k round h) [ inl o ↦ inl o | inr o ↦ inr (s.reached k o.1).0 ]
 
-    new_closed : (i j : ℕ) → IsVisited new round i → HasNext rows i j → IsVisited new round j
+    new_closed : (i j : ℕ) → RoundCameTo new round i → HasNext rows i j → RoundCameTo new round j
     new_closed i j h n = elim (s.others i round h) [
       | inl o ↦ s.kept j (closed i j o n)
       | inr o ↦ let w = get_from_Contains found i o.1 in s.followed w.0 i (omega (arith, slice_get-lt found w.0 i w.1)) w.1 j n
     ]
 
-    comes : {k : ℕ} → Reaches rows start k → IsVisited new round k
+    comes : {k : ℕ} → ReachesRow rows start k → RoundCameTo new round k
     comes here = s.begun
     comes (onward {i = i} {j = j} l n) = new_closed i j (comes l) n
 
 -- what a search leaves is closed again
-pub closed-reach : (rows : List (List ℕ)) (start round : ℕ) (old new found : List ℕ) → IsClosed rows old round → IsSearched rows start round old new found → IsClosed rows new round
+pub closed-reach : (rows : List (List ℕ)) (start round : ℕ) (old new found : List ℕ) → IsRoundClosed rows old round → HasSearchedFrom rows start round old new found → IsRoundClosed rows new round
 closed-reach rows start round old new found closed s i j h n =
     elim ((s.exact i).0 h) [
       | inl o ↦ (s.exact j).1 (inl (closed i j o n))

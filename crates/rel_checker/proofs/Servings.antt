@@ -11,9 +11,9 @@ use Rattle.relationships.specs.declared.mark.Mark.TheVariants.{Forced, Open}
 use Rattle.result_text.specs.declared.file.EdgeLine.{EdgeLine}
 use Rattle.relationships.specs.Marking.{is_forced}
 use Rattle.result_rules.specs.File.{claim_on}
-use Rattle.rel_checker.specs.Neighbours.{Reaches}
-use Rattle.rel_checker.specs.Searching.{IsVisited, IsSearched}
-use Rattle.rel_checker.specs.Flipping.{flipped_by, flipped, flipped_orders, FlipsTo, IsBuilt, IsProper, IsSettled}
+use Rattle.rel_checker.specs.Neighbours.{ReachesRow}
+use Rattle.rel_checker.specs.Searching.{RoundCameTo, HasSearchedFrom}
+use Rattle.rel_checker.specs.Flipping.{flipped_by, flipped, flipped_orders, FlipsTo, IsBuilt, IsProper, FlipsLeaveNoValley}
 use Rattle.rel_checker.specs.Serving.{is_wanted, IsWantedAt, Gains, IsCovered}
 use Rattle.result_rules.proofs.Gets.{get_from_Contains, Contains-from_get, slice_get-map, slice_get-unmap}
 use Rattle.rel_checker.proofs.Flippings.{reaches_exactly, none_flips}
@@ -81,7 +81,7 @@ wanted_of_other line x y f (inr o) = wanted_open line.mark line.label f (inr o.0
 -- ---- cover
 
 module _ (lines : List EdgeLine) (kept implied conflicting : List (List ℕ)) (built : IsBuilt (flipped_orders lines) (IsTriple kept) implied conflicting)
-    (proper : IsProper (flipped_orders lines)) (settled : IsSettled (flipped_orders lines) kept) where
+    (proper : IsProper (flipped_orders lines)) (settled : FlipsLeaveNoValley (flipped_orders lines) kept) where
   pub covered-none : (earlier : List (ℕ × ℕ)) (p : ℕ × ℕ) (rounds : List ℕ) (round : ℕ) → ((k : ℕ) → FlipsTo (flipped_orders lines) k p.0 p.1 → ⊥) →
       IsCovered kept (flipped_orders lines) earlier rounds round → IsCovered kept (flipped_orders lines) (earlier ++ p ∷ []) rounds round
   covered-none earlier p rounds round none covered k x y t = (
@@ -92,7 +92,7 @@ module _ (lines : List EdgeLine) (kept implied conflicting : List (List ℕ)) (b
     ],
   )
 
-  pub covered-more : (earlier : List (ℕ × ℕ)) (p : ℕ × ℕ) (start round : ℕ) (old new found : List ℕ) → FlipsTo (flipped_orders lines) start p.0 p.1 → IsSearched implied start round old new found →
+  pub covered-more : (earlier : List (ℕ × ℕ)) (p : ℕ × ℕ) (start round : ℕ) (old new found : List ℕ) → FlipsTo (flipped_orders lines) start p.0 p.1 → HasSearchedFrom implied start round old new found →
       IsCovered kept (flipped_orders lines) earlier old round → IsCovered kept (flipped_orders lines) (earlier ++ p ∷ []) new round
   covered-more earlier p start round old new found ts reach covered k x y t = (
     λ m. elim ((reach.exact k).0 m) [
@@ -105,12 +105,12 @@ module _ (lines : List EdgeLine) (kept implied conflicting : List (List ℕ)) (b
     ],
   )
 
-  pub gains_of : (earlier : List (ℕ × ℕ)) (p : ℕ × ℕ) (start round : ℕ) (old new found : List ℕ) → FlipsTo (flipped_orders lines) start p.0 p.1 → IsSearched implied start round old new found →
+  pub gains_of : (earlier : List (ℕ × ℕ)) (p : ℕ × ℕ) (start round : ℕ) (old new found : List ℕ) → FlipsTo (flipped_orders lines) start p.0 p.1 → HasSearchedFrom implied start round old new found →
       IsCovered kept (flipped_orders lines) earlier old round → Any (IsWantedAt lines) found → Gains kept (map claim_on lines) earlier p
   gains_of earlier p start round old new found ts reach covered (i, k, lt, is, (line, at, wanted)) =
       let t : FlipsTo (flipped_orders lines) k (flipped line).0 (flipped line).1 = slice_get-map flipped lines k line at in
       let fresh = (reach.noted k).0 (i, lt, is) in
-      let led : Reaches implied start k = elim ((reach.exact k).0 fresh.0) [ inl o ↦ absurd (fresh.1 o) | inr l ↦ l ] in
+      let led : ReachesRow implied start k = elim ((reach.exact k).0 fresh.0) [ inl o ↦ absurd (fresh.1 o) | inr l ↦ l ] in
       record {
         claim = claim_on line;
         claimed = Contains-from_get (map claim_on lines) k (claim_on line) (slice_get-map claim_on lines k line at);
@@ -132,14 +132,14 @@ module _ (lines : List EdgeLine) (kept implied conflicting : List (List ℕ)) (b
       let open' = subst (λ (w : Claim). IsFalse w.forced) (sym l.2) g.is_open in
       (c.0, l.0, l.1, slice_get-map flipped lines c.0 l.0 l.1 ∙ ap (λ (q : ℕ × ℕ). Some q) (flipped_of_other l.0 g.over g.under other), wanted_of_other l.0 g.over g.under open' other)
 
-  pub finds_of : (earlier : List (ℕ × ℕ)) (p : ℕ × ℕ) (start round : ℕ) (old new found : List ℕ) → FlipsTo (flipped_orders lines) start p.0 p.1 → IsSearched implied start round old new found →
+  pub finds_of : (earlier : List (ℕ × ℕ)) (p : ℕ × ℕ) (start round : ℕ) (old new found : List ℕ) → FlipsTo (flipped_orders lines) start p.0 p.1 → HasSearchedFrom implied start round old new found →
       IsCovered kept (flipped_orders lines) earlier old round → Gains kept (map claim_on lines) earlier p → Any (IsWantedAt lines) found
   finds_of earlier p start round old new found ts reach covered g =
       let w = gained earlier p g in
       let k = w.0 in
       let t = w.3 in
       let led = (reaches_exactly (flipped_orders lines) kept implied conflicting built proper settled start p.0 p.1 k g.over g.under ts t).1 g.reached in
-      let unvisited : IsVisited old round k → ⊥ = λ m. let a = (covered k g.over g.under t).0 m in All-contains (λ q. Closure kept q.0 q.1 g.over g.under → ⊥) earlier a.1 g.new (a.0, a.2, a.3) a.4 in
+      let unvisited : RoundCameTo old round k → ⊥ = λ m. let a = (covered k g.over g.under t).0 m in All-contains (λ q. Closure kept q.0 q.1 g.over g.under → ⊥) earlier a.1 g.new (a.0, a.2, a.3) a.4 in
       Any-from (IsWantedAt lines) found k ((reach.noted k).1 ((reach.exact k).1 (inr led), unvisited)) (w.1, w.2, w.4)
 
   -- an order against no label gains nothing

@@ -30,7 +30,7 @@ use Rattle.relationships.specs.Fates.{walk_of}
 use Rattle.result_rules.specs.File.{its_paths, its_edges, its_labels, claim_on}
 use Rattle.result_rules.specs.declared.rule.Rule.TheVariants.{PathsCleaned, EdgesListed, KeptValleyFree}
 use Rattle.result_rules.specs.Rules.{IsMet}
-use Rattle.rel_checker.specs.Flipping.{flipped_by, flipped, flipped_orders, edges_of, FlipsTo, kept_lines, IsListed, IsBuilt, IsSettled, AreApart}
+use Rattle.rel_checker.specs.Flipping.{flipped_by, flipped, flipped_orders, edges_of, FlipsTo, kept_lines, IsListed, IsBuilt, FlipsLeaveNoValley, AreApart}
 use Rattle.result_rules.proofs.Gets.{slice_get-lt, slice_get-some, slice_get-map, slice_get-unmap, All-get, Contains-from_get, get_from_Contains}
 use Rattle.rel_checker.specs.Serving.{IsLaidOut}
 use Rattle.relationships.specs.Checking.{Claim}
@@ -331,7 +331,7 @@ module _ (file : ResultFile) (cleaned : IsMet file PathsCleaned) (listed : IsMet
         | inr t ↦ inr (at.0, flips_of file.edges at.0 y x w.0 w.1 t)
       ]
 
-  pub settled : IsSettled (flipped_orders file.edges) (kept_lines file.paths)
+  pub settled : FlipsLeaveNoValley (flipped_orders file.edges) (kept_lines file.paths)
   settled = record {
     listed = λ x y z t.
         let w = kept_line file.paths t.0 t.1 in

@@ -4,10 +4,10 @@ use Rattle.std.proofs.lemmas.Bool.{cases_order}
 use Rattle.result_text.specs.declared.file.ResultFile.{ResultFile}
 use Rattle.result_rules.specs.declared.rule.Rule.{Rule}
 use Rattle.result_rules.specs.declared.rule.Rule.TheVariants.{RatioBounded, PathsCleaned, PathsDistinct, LostRefuted, EdgesListed, KeptValleyFree, SupportCounted, OrdersShown, MarksBorneOut, TotalsRight}
-use Rattle.result_rules.specs.Rules.{number_of, line_for, IsMet, Accepts, BreaksFirst, IsRefused}
+use Rattle.result_rules.specs.Rules.{rule_number, line_for, IsMet, Accepts, BreaksFirst, IsRefused}
 use Rattle.rel_checker.specs.Steps.{MetUpTo}
 use Rattle.result_rules.specs.Judging.{Judges}
-use Rattle.rel_checker.specs.Steps.{Finds}
+use Rattle.rel_checker.specs.Steps.{FindsBreach}
 use Rattle.result_rules.specs.declared.verdict.Verdict.{Verdict}
 use Rattle.result_rules.specs.declared.verdict.Verdict.TheVariants.{No}
 
@@ -17,7 +17,7 @@ rule_of n =
     else if n == 5 then EdgesListed else if n == 6 then KeptValleyFree else if n == 7 then SupportCounted else if n == 8 then OrdersShown
     else if n == 9 then MarksBorneOut else TotalsRight
 
-back : (rule : Rule) → rule_of (number_of rule) ≡ rule
+back : (rule : Rule) → rule_of (rule_number rule) ≡ rule
 back RatioBounded = refl
 back PathsCleaned = refl
 back PathsDistinct = refl
@@ -29,7 +29,7 @@ back OrdersShown = refl
 back MarksBorneOut = refl
 back TotalsRight = refl
 
-bounded : (rule : Rule) → (1 ≤ number_of rule) × (number_of rule ≤ 10)
+bounded : (rule : Rule) → (1 ≤ rule_number rule) × (rule_number rule ≤ 10)
 bounded RatioBounded = (omega arith, omega arith)
 bounded PathsCleaned = (omega arith, omega arith)
 bounded PathsDistinct = (omega arith, omega arith)
@@ -41,16 +41,16 @@ bounded OrdersShown = (omega arith, omega arith)
 bounded MarksBorneOut = (omega arith, omega arith)
 bounded TotalsRight = (omega arith, omega arith)
 
-same_rule : (rule other : Rule) → number_of other ≡ number_of rule → other ≡ rule
+same_rule : (rule other : Rule) → rule_number other ≡ rule_number rule → other ≡ rule
 same_rule rule other e = sym (back other) ∙ ap rule_of e ∙ back rule
 
 module _ (file : ResultFile) where
   pub none_met : MetUpTo file 0
   none_met rule le = absurd (omega (arith, le, (bounded rule).0))
 
-  pub next_met : (rule : Rule) (n : ℕ) → n + 1 ≡ number_of rule → MetUpTo file n → IsMet file rule → MetUpTo file (n + 1)
+  pub next_met : (rule : Rule) (n : ℕ) → n + 1 ≡ rule_number rule → MetUpTo file n → IsMet file rule → MetUpTo file (n + 1)
   next_met rule n at met is other le =
-      elim (cases_order (number_of other) (number_of rule)) [
+      elim (cases_order (rule_number other) (rule_number rule)) [
         | inl e ↦ subst (IsMet file) (sym (same_rule rule other e)) is
         | inr o ↦ elim o [ inl lt ↦ met other (omega (arith, at, lt)) | inr lt ↦ absurd (omega (arith, at, le, lt)) ]
       ]
@@ -58,7 +58,7 @@ module _ (file : ResultFile) where
   pub all_met : MetUpTo file 10 → Accepts file
   all_met met rule = met rule (bounded rule).1
 
-  pub refused : (rule : Rule) (n place line number : ℕ) → n + 1 ≡ number_of rule → MetUpTo file n → BreaksFirst file rule place → number ≡ number_of rule → line ≡ line_for file rule place →
+  pub refused : (rule : Rule) (n place line number : ℕ) → n + 1 ≡ rule_number rule → MetUpTo file n → BreaksFirst file rule place → number ≡ rule_number rule → line ≡ line_for file rule place →
       IsRefused file line number
   refused rule n place line number at met first named numbered = record {
     rule = rule;
@@ -74,8 +74,8 @@ module _ (file : ResultFile) where
   judged verdict line number is r = subst (Judges file) (sym is) r
 
   -- what a search for a breach found
-  pub found_none : (rule : Rule) (found : Option ℕ) → Finds file rule found → found ≡ None → IsMet file rule
-  found_none rule found f is = subst (Finds file rule) is f
+  pub found_none : (rule : Rule) (found : Option ℕ) → FindsBreach file rule found → found ≡ None → IsMet file rule
+  found_none rule found f is = subst (FindsBreach file rule) is f
 
-  pub found_some : (rule : Rule) (found : Option ℕ) (place : ℕ) → Finds file rule found → found ≡ Some place → BreaksFirst file rule place
-  found_some rule found place f is = subst (Finds file rule) is f
+  pub found_some : (rule : Rule) (found : Option ℕ) (place : ℕ) → FindsBreach file rule found → found ≡ Some place → BreaksFirst file rule place
+  found_some rule found place f is = subst (FindsBreach file rule) is f

@@ -14,7 +14,7 @@ use Rattle.relationships.specs.Fates.{is_kept}
 use Rattle.result_text.specs.declared.file.EdgeLine.{EdgeLine}
 use Rattle.rel_checker.specs.declared.edges.step.Step.{Step}
 use Rattle.rel_checker.specs.Flipping.{edges_of, AreApart}
-use Rattle.rel_checker.specs.PathSteps.{place_in, left_in, IsStep, AreStepsFrom, AreSteps, labels_on, slopes_by}
+use Rattle.rel_checker.specs.PathSteps.{place_in, left_in, IsCodedStep, AreCodedStepsFrom, AreCodedSteps, labels_on, line_slopes}
 use Rattle.rel_checker.specs.Tables.{labels_in}
 use Rattle.rel_checker.proofs.ValleyLemmas.{label_of_edge}
 
@@ -36,7 +36,7 @@ module _ (lines : List EdgeLine) (apart : AreApart lines) where
   abbrev label_at : Step → Label
   label_at step = get_or (labels_on lines) (place_in step) Label.Peer
 
-  slope-step : (a b : ℕ) (step : Step) → a ≢ b → IsStep (edges_of lines) a b step → slope (labels_in lines) a b ≡ step_slope (label_at step) (left_in step)
+  slope-step : (a b : ℕ) (step : Step) → a ≢ b → IsCodedStep (edges_of lines) a b step → slope (labels_in lines) a b ≡ step_slope (label_at step) (left_in step)
   slope-step a b step ne h =
       let its : labels_in lines (min a b) (max a b) ≡ label_at step = label_of_edge lines apart (place_in step) a b h.0 in
       elim (cases_order a b) [
@@ -55,8 +55,8 @@ module _ (lines : List EdgeLine) (apart : AreApart lines) where
         ]
       ]
 
-  slopes-from_steps : (a : ℕ) (path : List ℕ) (steps : List Step) → AllDistinct (a ∷ path) → AreStepsFrom (edges_of lines) a path steps →
-      slopes_from (labels_in lines) a path ≡ slopes_by lines steps
+  slopes-from_steps : (a : ℕ) (path : List ℕ) (steps : List Step) → AllDistinct (a ∷ path) → AreCodedStepsFrom (edges_of lines) a path steps →
+      slopes_from (labels_in lines) a path ≡ line_slopes lines steps
   slopes-from_steps a [] [] distinct h = refl
   slopes-from_steps a [] (step ∷ steps) distinct h = absurd h
   slopes-from_steps a (b ∷ path) [] distinct h = absurd h
@@ -64,8 +64,8 @@ module _ (lines : List EdgeLine) (apart : AreApart lines) where
       ap₂ (λ s (ss : List Slope). s ∷ ss) (slope-step a b step (distinct 0 1 0 (omega arith) (omega arith)) h.0)
       (slopes-from_steps b path steps (λ i j d lt within. distinct (suc i) (suc j) d (omega arith) (omega arith)) h.1)
 
-  pub slopes-steps : (path : List ℕ) (steps : List Step) → AllDistinct path → AreSteps (edges_of lines) path steps → slopes (labels_in lines) path ≡ slopes_by lines steps
-  slopes-steps [] steps distinct h = ap (slopes_by lines) (sym h)
+  pub slopes-steps : (path : List ℕ) (steps : List Step) → AllDistinct path → AreCodedSteps (edges_of lines) path steps → slopes (labels_in lines) path ≡ line_slopes lines steps
+  slopes-steps [] steps distinct h = ap (line_slopes lines) (sym h)
   slopes-steps (a ∷ path) steps distinct h = slopes-from_steps a path steps distinct h
 
 -- ---- steps with a flag
@@ -88,14 +88,14 @@ well-on false Down ss h = refl
 well-on false Flat ss h = refl
 
 pub next_slopes : (lines : List EdgeLine) (steps : List Step) (i : ℕ) (step : Step) → i < length steps → step ≡ get_or steps i step →
-    slopes_by lines (drop i steps) ≡ step_slope (get_or (labels_on lines) (place_in step) Label.Peer) (left_in step) ∷ slopes_by lines (drop (i + 1) steps)
+    line_slopes lines (drop i steps) ≡ step_slope (get_or (labels_on lines) (place_in step) Label.Peer) (left_in step) ∷ line_slopes lines (drop (i + 1) steps)
 next_slopes lines steps i step within is =
     rw (add-one, drop-cons steps i step)
-    (ap (λ (s : Step). step_slope (get_or (labels_on lines) (place_in s) Label.Peer) (left_in s) ∷ slopes_by lines (drop (suc i) steps)) (sym is))
+    (ap (λ (s : Step). step_slope (get_or (labels_on lines) (place_in s) Label.Peer) (left_in s) ∷ line_slopes lines (drop (suc i) steps)) (sym is))
 
 -- the answer, for each labelling and path that has these steps
-pub answer : (lines : List EdgeLine) (steps : List Step) (result : Bool) → no_valley (slopes_by lines steps) ≡ result →
-    (L : Labelling) (path : List ℕ) → slopes L path ≡ slopes_by lines steps → IsTrue result ↔ ValleyFree L path
+pub answer : (lines : List EdgeLine) (steps : List Step) (result : Bool) → no_valley (line_slopes lines steps) ≡ result →
+    (L : Labelling) (path : List ℕ) → slopes L path ≡ line_slopes lines steps → IsTrue result ↔ ValleyFree L path
 answer lines steps result h L path e =
     let k = no_valley_iff L path in
     (λ t. k.0 (ap no_valley e ∙ h ∙ t), λ v. sym (ap no_valley e ∙ h) ∙ k.1 v)

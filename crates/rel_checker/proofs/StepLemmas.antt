@@ -12,7 +12,7 @@ use Rattle.result_text.specs.declared.file.ResultFile.{ResultFile}
 use Rattle.rel_checker.specs.declared.edges.step.Step.{Step}
 use Rattle.result_rules.specs.File.{its_paths}
 use Rattle.rel_checker.specs.Flipping.{edges_of}
-use Rattle.rel_checker.specs.PathSteps.{place_in, IsStep, AreStepsFrom, AreSteps, HaveSteps}
+use Rattle.rel_checker.specs.PathSteps.{place_in, IsCodedStep, AreCodedStepsFrom, AreCodedSteps, HaveCodedSteps}
 use Rattle.tor_numbers.specs.Edges.{with_edge}
 use Rattle.result_rules.proofs.Gets.{slice_get-push_old, slice_get-map}
 
@@ -49,28 +49,28 @@ stays es e k f h =
     ]
 
 -- and so steps stay steps
-AreStepsFrom-more : (es : List Edge) (e : Edge) (a : ℕ) (path : List ℕ) (steps : List Step) → AreStepsFrom es a path steps → AreStepsFrom (with_edge es e) a path steps
+AreStepsFrom-more : (es : List Edge) (e : Edge) (a : ℕ) (path : List ℕ) (steps : List Step) → AreCodedStepsFrom es a path steps → AreCodedStepsFrom (with_edge es e) a path steps
 AreStepsFrom-more es e a [] [] h = tt
 AreStepsFrom-more es e a [] (step ∷ steps) h = h
 AreStepsFrom-more es e a (b ∷ path) [] h = h
 AreStepsFrom-more es e a (b ∷ path) (step ∷ steps) h = ((stays es e (place_in step) (edge_of a b) h.0.0, h.0.1), AreStepsFrom-more es e b path steps h.1)
 
-AreSteps-more : (es : List Edge) (e : Edge) (path : List ℕ) (steps : List Step) → AreSteps es path steps → AreSteps (with_edge es e) path steps
+AreSteps-more : (es : List Edge) (e : Edge) (path : List ℕ) (steps : List Step) → AreCodedSteps es path steps → AreCodedSteps (with_edge es e) path steps
 AreSteps-more es e [] steps h = h
 AreSteps-more es e (a ∷ path) steps h = AreStepsFrom-more es e a path steps h
 
-HaveSteps-one_more : (es : List Edge) (e : Edge) (paths : List (List ℕ)) (rows : List (List Step)) → HaveSteps es paths rows → HaveSteps (with_edge es e) paths rows
+HaveSteps-one_more : (es : List Edge) (e : Edge) (paths : List (List ℕ)) (rows : List (List Step)) → HaveCodedSteps es paths rows → HaveCodedSteps (with_edge es e) paths rows
 HaveSteps-one_more es e [] [] h = tt
 HaveSteps-one_more es e [] (steps ∷ rows) h = h
 HaveSteps-one_more es e (path ∷ paths) [] h = h
 HaveSteps-one_more es e (path ∷ paths) (steps ∷ rows) h = (AreSteps-more es e path steps h.0, HaveSteps-one_more es e paths rows h.1)
 
-pub HaveSteps-more : (es more : List Edge) (paths : List (List ℕ)) (rows : List (List Step)) → HaveSteps es paths rows → HaveSteps (fold with_edge es more) paths rows
+pub HaveSteps-more : (es more : List Edge) (paths : List (List ℕ)) (rows : List (List Step)) → HaveCodedSteps es paths rows → HaveCodedSteps (fold with_edge es more) paths rows
 HaveSteps-more es [] paths rows h = h
 HaveSteps-more es (e ∷ more) paths rows h = HaveSteps-more (with_edge es e) more paths rows (HaveSteps-one_more es e paths rows h)
 
 pub HaveSteps-push : (es : List Edge) (paths : List (List ℕ)) (rows : List (List Step)) (path : List ℕ) (steps : List Step) →
-    HaveSteps es paths rows → AreSteps es path steps → HaveSteps es (paths ++ path ∷ []) (rows ++ steps ∷ [])
+    HaveCodedSteps es paths rows → AreCodedSteps es path steps → HaveCodedSteps es (paths ++ path ∷ []) (rows ++ steps ∷ [])
 HaveSteps-push es [] [] path steps h k = (k, tt)
 HaveSteps-push es [] (r ∷ rows) path steps h k = absurd h
 HaveSteps-push es (p ∷ paths) [] path steps h k = absurd h
@@ -84,8 +84,8 @@ edges_from_more a [] i lt = absurd (omega arith)
 edges_from_more a (b ∷ path) zero lt = refl
 edges_from_more a (b ∷ path) (suc i) lt = ap (λ (l : List Edge). edge_of a b ∷ l) (edges_from_more b path i (omega arith))
 
-steps_from_more : (es : List Edge) (a : ℕ) (path : List ℕ) (i : ℕ) (steps : List Step) (step : Step) → i < length path → AreStepsFrom es a (take i path) steps →
-    IsStep es (get_or (a ∷ path) i 0) (get_or path i 0) step → AreStepsFrom es a (take (suc i) path) (steps ++ step ∷ [])
+steps_from_more : (es : List Edge) (a : ℕ) (path : List ℕ) (i : ℕ) (steps : List Step) (step : Step) → i < length path → AreCodedStepsFrom es a (take i path) steps →
+    IsCodedStep es (get_or (a ∷ path) i 0) (get_or path i 0) step → AreCodedStepsFrom es a (take (suc i) path) (steps ++ step ∷ [])
 steps_from_more es a [] i steps step lt h k = absurd (omega arith)
 steps_from_more es a (b ∷ path) zero [] step lt h k = (k, tt)
 steps_from_more es a (b ∷ path) zero (s ∷ steps) step lt h k = absurd h
@@ -100,7 +100,7 @@ length-edges_from a (b ∷ path) = ap suc (length-edges_from b path)
 pub record Walked (before es : List Edge) (path : List ℕ) (at : ℕ) (steps : List Step) : Type 0 where
   pub begun : 1 ≤ at
   pub there : es ≡ fold with_edge before (edges_on (take at path))
-  pub stepped : AreSteps es (take at path) steps
+  pub stepped : AreCodedSteps es (take at path) steps
 
 pub Walked-begins : (es : List Edge) (path : List ℕ) (steps : List Step) → steps ≡ [] → Walked es es path 1 steps
 Walked-begins es [] steps h = record { begun = omega arith; there = refl; stepped = h }
@@ -119,7 +119,7 @@ Walked-room before es (a ∷ path) (suc i) steps h lt =
     omega (arith, n, le, m, t, lt)
 
 pub Walked-more : (before es : List Edge) (path : List ℕ) (at : ℕ) (steps : List Step) (step : Step) (new : List Edge) → Walked before es path at steps → at < length path →
-    new ≡ with_edge es (edge_of (get_or path (at - 1) 0) (get_or path at 0)) → IsStep new (get_or path (at - 1) 0) (get_or path at 0) step →
+    new ≡ with_edge es (edge_of (get_or path (at - 1) 0) (get_or path at 0)) → IsCodedStep new (get_or path (at - 1) 0) (get_or path at 0) step →
     Walked before new path (at + 1) (steps ++ step ∷ [])
 Walked-more before es [] at steps step new h lt is k = absurd (omega arith)
 Walked-more before es (a ∷ path) zero steps step new h lt is k = absurd (let b = h.begun in omega (arith, b))
@@ -127,84 +127,84 @@ Walked-more before es (a ∷ path) (suc i) steps step new h lt is k =
     let back : suc i - 1 ≡ i = omega arith in
     let added : new ≡ with_edge es (edge_of (get_or (a ∷ path) i 0) (get_or path i 0)) =
     subst (λ j. new ≡ with_edge es (edge_of (get_or (a ∷ path) j 0) (get_or path i 0))) back is in
-    let goes : IsStep new (get_or (a ∷ path) i 0) (get_or path i 0) step = subst (λ j. IsStep new (get_or (a ∷ path) j 0) (get_or path i 0) step) back k in
+    let goes : IsCodedStep new (get_or (a ∷ path) i 0) (get_or path i 0) step = subst (λ j. IsCodedStep new (get_or (a ∷ path) j 0) (get_or path i 0) step) back k in
     let e : Edge = edge_of (get_or (a ∷ path) i 0) (get_or path i 0) in
     let there : new ≡ fold with_edge before (edges_from a (take (suc i) path)) =
     added ∙ ap (λ es. with_edge es e) h.there ∙ sym (with_edges-push before (edges_from a (take i path)) e) ∙ ap (fold with_edge before) (sym (edges_from_more a path i (omega arith))) in
-    let here : AreStepsFrom new a (take i path) steps =
-    subst (λ es. AreStepsFrom es a (take i path) steps) (sym added) (AreStepsFrom-more es e a (take i path) steps h.stepped) in
+    let here : AreCodedStepsFrom new a (take i path) steps =
+    subst (λ es. AreCodedStepsFrom es a (take i path) steps) (sym added) (AreStepsFrom-more es e a (take i path) steps h.stepped) in
     let next : suc i + 1 ≡ suc (suc i) = omega arith in
     subst (λ n. Walked before new (a ∷ path) n (steps ++ step ∷ [])) (sym next)
     (record { begun = omega arith; there = there; stepped = steps_from_more new a path i steps step (omega arith) here goes })
 
 pub Walked-all : (before es : List Edge) (path : List ℕ) (at : ℕ) (steps : List Step) → Walked before es path at steps → length path ≤ at →
-    (es ≡ fold with_edge before (edges_on path)) × AreSteps es path steps
+    (es ≡ fold with_edge before (edges_on path)) × AreCodedSteps es path steps
 Walked-all before es path at steps h le =
     let all = take_all at path le in
-    (h.there ∙ ap (λ l. fold with_edge before (edges_on l)) all, subst (λ l. AreSteps es l steps) all h.stepped)
+    (h.there ∙ ap (λ l. fold with_edge before (edges_on l)) all, subst (λ l. AreCodedSteps es l steps) all h.stepped)
 
 -- ---- what steps say
 
-pub length-rows : (es : List Edge) (paths : List (List ℕ)) (rows : List (List Step)) → HaveSteps es paths rows → length rows ≡ length paths
+pub length-rows : (es : List Edge) (paths : List (List ℕ)) (rows : List (List Step)) → HaveCodedSteps es paths rows → length rows ≡ length paths
 length-rows es [] [] h = refl
 length-rows es [] (steps ∷ rows) h = absurd h
 length-rows es (path ∷ paths) [] h = absurd h
 length-rows es (path ∷ paths) (steps ∷ rows) h = ap suc (length-rows es paths rows h.1)
 
-pub steps_of_path : (es : List Edge) (paths : List (List ℕ)) (rows : List (List Step)) (k : ℕ) (path : List ℕ) (steps : List Step) → HaveSteps es paths rows →
-    slice_get paths k ≡ Some path → slice_get rows k ≡ Some steps → AreSteps es path steps
+pub steps_of_path : (es : List Edge) (paths : List (List ℕ)) (rows : List (List Step)) (k : ℕ) (path : List ℕ) (steps : List Step) → HaveCodedSteps es paths rows →
+    slice_get paths k ≡ Some path → slice_get rows k ≡ Some steps → AreCodedSteps es path steps
 steps_of_path es [] rows k path steps h is is' = absurd (cc is)
 steps_of_path es (p ∷ paths) [] k path steps h is is' = absurd h
 steps_of_path es (p ∷ paths) (r ∷ rows) zero path steps h is is' =
-    let e : r ≡ steps = cc is' in let e' : p ≡ path = cc is in subst (AreSteps es path) e (subst (λ q. AreSteps es q r) e' h.0)
+    let e : r ≡ steps = cc is' in let e' : p ≡ path = cc is in subst (AreCodedSteps es path) e (subst (λ q. AreCodedSteps es q r) e' h.0)
 steps_of_path es (p ∷ paths) (r ∷ rows) (suc k) path steps h is is' = steps_of_path es paths rows k path steps h.1 is is'
 
-length-from : (es : List Edge) (a : ℕ) (path : List ℕ) (steps : List Step) → AreStepsFrom es a path steps → length steps ≡ length path
+length-from : (es : List Edge) (a : ℕ) (path : List ℕ) (steps : List Step) → AreCodedStepsFrom es a path steps → length steps ≡ length path
 length-from es a [] [] h = refl
 length-from es a [] (step ∷ steps) h = absurd h
 length-from es a (b ∷ path) [] h = absurd h
 length-from es a (b ∷ path) (step ∷ steps) h = ap suc (length-from es b path steps h.1)
 
-pub length-steps : (es : List Edge) (path : List ℕ) (steps : List Step) → AreSteps es path steps → length steps ≡ length path - 1
+pub length-steps : (es : List Edge) (path : List ℕ) (steps : List Step) → AreCodedSteps es path steps → length steps ≡ length path - 1
 length-steps es [] steps h = ap length h
 length-steps es (a ∷ path) steps h = let n = length-from es a path steps h in omega (arith, n)
 
-inside-from : (es : List Edge) (a : ℕ) (path : List ℕ) (steps : List Step) → AreStepsFrom es a path steps → All (λ (s : Step). place_in s < length es) steps
+inside-from : (es : List Edge) (a : ℕ) (path : List ℕ) (steps : List Step) → AreCodedStepsFrom es a path steps → All (λ (s : Step). place_in s < length es) steps
 inside-from es a [] [] h = All-nil (λ (s : Step). place_in s < length es)
 inside-from es a [] (step ∷ steps) h = absurd h
 inside-from es a (b ∷ path) [] h = absurd h
 inside-from es a (b ∷ path) (step ∷ steps) h =
     All-cons (λ (s : Step). place_in s < length es) step steps (slice_get_within es (place_in step) (edge_of a b) h.0.0) (inside-from es b path steps h.1)
 
-pub inside_steps : (es : List Edge) (path : List ℕ) (steps : List Step) → AreSteps es path steps → All (λ (s : Step). place_in s < length es) steps
+pub inside_steps : (es : List Edge) (path : List ℕ) (steps : List Step) → AreCodedSteps es path steps → All (λ (s : Step). place_in s < length es) steps
 inside_steps es [] steps h = subst (All (λ (s : Step). place_in s < length es)) (sym h) (All-nil (λ (s : Step). place_in s < length es))
 inside_steps es (a ∷ path) steps h = inside-from es a path steps h
 
 -- the step of a place goes from its AS to the next
-step_from_at : (es : List Edge) (a : ℕ) (path : List ℕ) (steps : List Step) (i : ℕ) (d : Step) → AreStepsFrom es a path steps → i < length steps →
-    IsStep es (get_or (a ∷ path) i 0) (get_or path i 0) (get_or steps i d)
+step_from_at : (es : List Edge) (a : ℕ) (path : List ℕ) (steps : List Step) (i : ℕ) (d : Step) → AreCodedStepsFrom es a path steps → i < length steps →
+    IsCodedStep es (get_or (a ∷ path) i 0) (get_or path i 0) (get_or steps i d)
 step_from_at es a [] [] i d h lt = absurd (omega arith)
 step_from_at es a [] (step ∷ steps) i d h lt = absurd h
 step_from_at es a (b ∷ path) [] i d h lt = absurd h
 step_from_at es a (b ∷ path) (step ∷ steps) zero d h lt = h.0
 step_from_at es a (b ∷ path) (step ∷ steps) (suc i) d h lt = step_from_at es b path steps i d h.1 (omega arith)
 
-pub step_at : (es : List Edge) (path : List ℕ) (steps : List Step) (i : ℕ) (d : Step) → AreSteps es path steps → i < length steps →
-    IsStep es (get_or path i 0) (get_or path (i + 1) 0) (get_or steps i d)
+pub step_at : (es : List Edge) (path : List ℕ) (steps : List Step) (i : ℕ) (d : Step) → AreCodedSteps es path steps → i < length steps →
+    IsCodedStep es (get_or path i 0) (get_or path (i + 1) 0) (get_or steps i d)
 step_at es [] steps i d h lt = absurd (let n = ap length h in omega (arith, n))
 step_at es (a ∷ path) steps i d h lt = let e : i + 1 ≡ suc i = omega arith in rw e (step_from_at es a path steps i d h lt)
 
 -- ---- the steps of the lines of a file
 
-pub many_rows : (file : ResultFile) (es : List Edge) (rows : List (List Step)) → HaveSteps es (its_paths file) rows → length rows ≡ length file.paths
+pub many_rows : (file : ResultFile) (es : List Edge) (rows : List (List Step)) → HaveCodedSteps es (its_paths file) rows → length rows ≡ length file.paths
 many_rows file es rows h = length-rows es (its_paths file) rows h ∙ length-map file.paths (λ (p : PathLine). p.path)
 
-pub steps-here : (file : ResultFile) (es : List Edge) (rows : List (List Step)) (place : ℕ) (line : PathLine) (steps : List Step) → HaveSteps es (its_paths file) rows →
-    slice_get file.paths place ≡ Some line → slice_get rows place ≡ Some steps → AreSteps es line.path steps
+pub steps-here : (file : ResultFile) (es : List Edge) (rows : List (List Step)) (place : ℕ) (line : PathLine) (steps : List Step) → HaveCodedSteps es (its_paths file) rows →
+    slice_get file.paths place ≡ Some line → slice_get rows place ≡ Some steps → AreCodedSteps es line.path steps
 steps-here file es rows place line steps h at at' =
     steps_of_path es (its_paths file) rows place line.path steps h (slice_get-map (λ (p : PathLine). p.path) file.paths place line at) at'
 
 -- the steps along the edges of lines are steps of these lines
-pub inside_lines : (lines : List EdgeLine) (path : List ℕ) (steps : List Step) → AreSteps (edges_of lines) path steps → All (λ (s : Step). place_in s < length lines) steps
+pub inside_lines : (lines : List EdgeLine) (path : List ℕ) (steps : List Step) → AreCodedSteps (edges_of lines) path steps → All (λ (s : Step). place_in s < length lines) steps
 inside_lines lines path steps are =
     subst (λ n. All (λ (s : Step). place_in s < n) steps) (length-map lines (λ (e : EdgeLine). (e.low, e.high))) (inside_steps (edges_of lines) path steps are)

@@ -14,7 +14,7 @@ use Rattle.relationships.specs.Fates.{is_kept}
 use Rattle.result_text.specs.declared.file.EdgeLine.{EdgeLine}
 use Rattle.rel_checker.specs.declared.edges.step.Step.{Step}
 use Rattle.rel_checker.specs.Flipping.{edges_of, AreApart}
-use Rattle.rel_checker.specs.PathSteps.{place_in, AreStepsFrom, AreSteps}
+use Rattle.rel_checker.specs.PathSteps.{place_in, AreCodedStepsFrom, AreCodedSteps}
 use Rattle.tor_numbers.specs.Edges.{edge_at}
 use Rattle.rel_checker.specs.Tables.{HaveRisen, AreCounts, kept_in}
 use Rattle.rel_checker.proofs.Lines.{kept-more, kept-few}
@@ -50,7 +50,7 @@ same_place lines apart i k f e at at' =
 
 -- the edges of the steps are those of the path
 steps_from : (lines : List EdgeLine) → AreApart lines → (k : ℕ) (e : Edge) (a : ℕ) (path : List ℕ) (steps : List Step) → slice_get (edges_of lines) k ≡ Some e →
-    AreStepsFrom (edges_of lines) a path steps → count_by (λ (s : Step). nat_eq (place_in s) k) steps ≡ count_by (is_same e) (edges_from a path)
+    AreCodedStepsFrom (edges_of lines) a path steps → count_by (λ (s : Step). nat_eq (place_in s) k) steps ≡ count_by (is_same e) (edges_from a path)
 steps_from lines apart k e a [] [] at h = refl
 steps_from lines apart k e a [] (step ∷ steps) at h = absurd h
 steps_from lines apart k e a (b ∷ path) [] at h = absurd h
@@ -60,7 +60,7 @@ steps_from lines apart k e a (b ∷ path) (step ∷ steps) at h =
     sym (sum_by-cons (λ f. one (is_same e f)) (edge_of a b) (edges_from b path))
 
 steps_along : (lines : List EdgeLine) → AreApart lines → (k : ℕ) (e : Edge) (path : List ℕ) (steps : List Step) → slice_get (edges_of lines) k ≡ Some e →
-    AreSteps (edges_of lines) path steps → count_by (λ (s : Step). nat_eq (place_in s) k) steps ≡ count_by (is_same e) (edges_on path)
+    AreCodedSteps (edges_of lines) path steps → count_by (λ (s : Step). nat_eq (place_in s) k) steps ≡ count_by (is_same e) (edges_on path)
 steps_along lines apart k e [] steps at h = ap (count_by (λ (s : Step). nat_eq (place_in s) k)) h
 steps_along lines apart k e (a ∷ path) steps at h = steps_from lines apart k e a path steps at h
 
@@ -143,7 +143,7 @@ risen-kept es line old new kept distinct risen = (
 
 pub risen-line : (line : PathLine) (steps : List Step) (old new : List ℕ) → is_kept line.fate ≡ true → is_distinct line.path ≡ true → length new ≡ length old →
     ((k : ℕ) → slice_index new k ≡ slice_index old k + count_by (λ (s : Step). nat_eq (place_in s) k) steps) →
-    (lines : List EdgeLine) → AreApart lines → length old ≡ length lines → AreSteps (edges_of lines) line.path steps → HaveRisen (edges_of lines) (support (kept_in (line ∷ []))) old new
+    (lines : List EdgeLine) → AreApart lines → length old ≡ length lines → AreCodedSteps (edges_of lines) line.path steps → HaveRisen (edges_of lines) (support (kept_in (line ∷ []))) old new
 risen-line line steps old new kept distinct same counted lines apart many are =
     risen-kept (edges_of lines) line old new kept distinct (
       same,

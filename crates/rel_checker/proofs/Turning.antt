@@ -9,7 +9,7 @@ use Rattle.relationships.specs.declared.label.Label.TheVariants as label
 use Rattle.relationships.specs.Relationship.{opposite}
 use Rattle.result_text.specs.declared.file.EdgeLine.{EdgeLine}
 use Rattle.rel_checker.specs.declared.edges.step.Step.{Step}
-use Rattle.rel_checker.specs.Flipping.{climbs, climbs_on, HaveArcs, turned, pair_of, number_of}
+use Rattle.rel_checker.specs.Flipping.{climbs, climbs_on, HaveArcs, turned, code_pair, number_of_steps}
 use Rattle.rel_checker.specs.PathSteps.{place_in, left_in, labels_on}
 
 -- ---- one step the other way round
@@ -69,7 +69,7 @@ steps_turned lines s t implied conflicting h =
 code_small : (s : Step) → place_in s < most_places → (s.code < 2 ^ 32) × (turned s < 2 ^ 32)
 code_small s h = (omega (arith, h), omega (arith, h))
 
-second_small : (s t : Step) → place_in s < most_places → place_in t < most_places → (pair_of s t).1 < 2 ^ 32
+second_small : (s t : Step) → place_in s < most_places → place_in t < most_places → (code_pair s t).1 < 2 ^ 32
 second_small s t h k = elim (cases_Bool (nat_lt (turned t) s.code)) [
   | inl yes' ↦ rw yes' (code_small s h).1
   | inr no' ↦ rw no' (code_small t k).0
@@ -86,9 +86,9 @@ step_with n = record { code = n }
 
 -- the steps are the same, or the same the other way round
 pub steps_numbered : (s t s' t' : Step) → place_in s < most_places → place_in t < most_places → place_in s' < most_places → place_in t' < most_places →
-    number_of s t ≡ number_of s' t' → ((s ≡ s') × (t ≡ t')) ⊎ ((s' ≡ turned_step t) × (t' ≡ turned_step s))
+    number_of_steps s t ≡ number_of_steps s' t' → ((s ≡ s') × (t ≡ t')) ⊎ ((s' ≡ turned_step t) × (t' ≡ turned_step s))
 steps_numbered s t s' t' h k h' k' e =
-    let same : pair_of s t ≡ pair_of s' t' = same_pair (pair_of s t) (pair_of s' t') (second_small s t h k) (second_small s' t' h' k') e in
+    let same : code_pair s t ≡ code_pair s' t' = same_pair (code_pair s t) (code_pair s' t') (second_small s t h k) (second_small s' t' h' k') e in
     by_pairs (nat_lt (turned t) s.code) (nat_lt (turned t') s'.code) same
   where
     as_pair : Bool → Step → Step → ℕ × ℕ

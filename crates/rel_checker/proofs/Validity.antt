@@ -8,7 +8,7 @@ use Rattle.result_rules.specs.declared.verdict.Verdict.TheVariants.{Yes}
 use Rattle.result_rules.specs.Judging.{Judges}
 use Rattle.result_rules.specs.Valid.{Valid}
 use Rattle.result_rules.proofs.Acceptance.{acceptance_law}
-use Rattle.rel_checker.specs.Steps.{Settles}
+use Rattle.rel_checker.specs.Steps.{IsDecidedUpTo}
 
 abbrev judged_as : Verdict → Result Verdict NoMemory
 judged_as verdict = Ok verdict
@@ -22,5 +22,5 @@ valid_if_ok file r judged e = acceptance_law file (subst (λ s. IfOk s (Judges f
 valid_if_yes : (file : ResultFile) (verdict : Verdict) → Judges file verdict → judged_as verdict ≡ judged_as Yes → Valid file
 valid_if_yes file verdict judged e = acceptance_law file (subst (Judges file) (same_verdict verdict e) judged)
 
-pub valid_if_settled : (file : ResultFile) (n : ℕ) (found : Option Verdict) (verdict : Verdict) → Settles file n found → found ≡ Some verdict → judged_as verdict ≡ judged_as Yes → Valid file
-valid_if_settled file n found verdict settles is e = valid_if_yes file verdict (subst (Settles file n) is settles) e
+pub valid_if_settled : (file : ResultFile) (n : ℕ) (found : Option Verdict) (verdict : Verdict) → IsDecidedUpTo file n found → found ≡ Some verdict → judged_as verdict ≡ judged_as Yes → Valid file
+valid_if_settled file n found verdict settles is e = valid_if_yes file verdict (subst (IsDecidedUpTo file n) is settles) e

@@ -15,7 +15,7 @@ use Rattle.result_text.specs.declared.file.ResultFile.{ResultFile}
 use Rattle.result_rules.specs.File.{claim_on}
 use Rattle.result_rules.specs.declared.rule.Rule.TheVariants.{KeptValleyFree}
 use Rattle.rel_checker.specs.Flipping.{AreApart}
-use Rattle.result_rules.specs.Rules.{Asks, IsServed, BreaksFirst}
+use Rattle.result_rules.specs.Rules.{Asks, IsServedIfKept, BreaksFirst}
 use Rattle.tor_numbers.specs.Edges.{edge_at}
 use Rattle.rel_checker.specs.Tables.{labels_in}
 use Rattle.rel_checker.proofs.Lines.{IsLine, before-more, at-place}
@@ -71,7 +71,7 @@ labels-same lines = ap₂ labelling (pairs-same lines) (marks-same lines)
 
 -- ---- the kept paths, up to a place
 
-pub served-at : (file : ResultFile) (edges : List EdgeLine) (line : PathLine) → edges ≡ file.edges → (line.fate ≡ Kept → ValleyFree (labels_in edges) line.path) → IsServed file line
+pub served-at : (file : ResultFile) (edges : List EdgeLine) (line : PathLine) → edges ≡ file.edges → (line.fate ≡ Kept → ValleyFree (labels_in edges) line.path) → IsServedIfKept file line
 served-at file edges line same served kept =
     subst (λ (L : Labelling). ValleyFree L line.path) (ap labels_in same ∙ sym (labels-same file.edges)) (served kept)
 
@@ -87,4 +87,4 @@ valley-first file edges place line same before l bad = record {
 pub valley-more : (file : ResultFile) (edges : List EdgeLine) (place : ℕ) (line : PathLine) → edges ≡ file.edges → ((j : ℕ) → j < place → Asks file KeptValleyFree j) → IsLine file place line →
     (line.fate ≡ Kept → ValleyFree (labels_in edges) line.path) → (j : ℕ) → j < place + 1 → Asks file KeptValleyFree j
 valley-more file edges place line same before l served =
-    before-more (Asks file KeptValleyFree) place before (at-place (IsServed file) file.paths place line l.within l.is (served-at file edges line same served))
+    before-more (Asks file KeptValleyFree) place before (at-place (IsServedIfKept file) file.paths place line l.within l.is (served-at file edges line same served))

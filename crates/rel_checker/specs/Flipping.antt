@@ -100,12 +100,12 @@ abbrev pub turned : Step → ℕ
 turned step = place_in step * 2 + (1 - step.code % 2)
 
 -- the codes of two consecutive steps, or of the two the other way round, whichever begin with the lesser code
-abbrev pub pair_of : Step → Step → ℕ × ℕ
-pair_of first second = if nat_lt (turned second) first.code then (turned second, turned first) else (first.code, second.code)
+abbrev pub code_pair : Step → Step → ℕ × ℕ
+code_pair first second = if nat_lt (turned second) first.code then (turned second, turned first) else (first.code, second.code)
 
 -- the number of two consecutive steps, from 2 on, which is also that of the two the other way round
-abbrev pub number_of : Step → Step → ℕ
-number_of first second = (pair_of first second).0 * 2 ^ 32 + (pair_of first second).1 + 2
+abbrev pub number_of_steps : Step → Step → ℕ
+number_of_steps first second = (code_pair first second).0 * 2 ^ 32 + (code_pair first second).1 + 2
 
 -- the rows have the same edges
 abbrev pub SameRows : List (List ℕ) → List (List ℕ) → Type 0
@@ -121,7 +121,7 @@ HaveArcs false true first second implied conflicting = Unit {0}
 -- and so for each two steps that have one of these numbers
 abbrev pub AreNoted : List EdgeLine → List ℕ → List (List ℕ) → List (List ℕ) → Type 0
 AreNoted lines numbers implied conflicting = (s t : Step) → place_in s < length lines → place_in t < length lines →
-    Contains numbers (number_of s t) → HaveArcs (climbs_on lines s) (climbs_on lines t) (place_in s) (place_in t) implied conflicting
+    Contains numbers (number_of_steps s t) → HaveArcs (climbs_on lines s) (climbs_on lines t) (place_in s) (place_in t) implied conflicting
 
 -- the triples of the paths, and those of one path more at the places below `end`
 abbrev pub TripleBefore : List (List ℕ) → List ℕ → ℕ → ℕ → ℕ → ℕ → Type 0
@@ -149,7 +149,7 @@ pub record IsProper (orders : List (ℕ × ℕ)) : Type 0 where
 
 -- the first two ASes of a triple are an edge, so one of their orders is against its label. And no triple is a valley under the
 -- labels, which have the middle AS over one of the others: its orders over both are not both against the labels
-pub record IsSettled (orders : List (ℕ × ℕ)) (paths : List (List ℕ)) : Type 0 where
+pub record FlipsLeaveNoValley (orders : List (ℕ × ℕ)) (paths : List (List ℕ)) : Type 0 where
   pub listed : (x y z : ℕ) → IsTriple paths x y z → IsFlipped orders x y ⊎ IsFlipped orders y x
   pub no_valley : (x y z : ℕ) → IsTriple paths x y z → IsFlipped orders y x → IsFlipped orders y z → ⊥
 

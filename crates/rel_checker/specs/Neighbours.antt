@@ -6,8 +6,8 @@ abbrev pub HasNext : List (List ℕ) → ℕ → ℕ → Type 0
 HasNext rows i j = (row : List ℕ) × (slice_get rows i ≡ Some row) × Contains row j
 
 -- what stands in a row has a row
-abbrev pub IsInside : List (List ℕ) → Type 0
-IsInside rows = (i j : ℕ) → HasNext rows i j → j < length rows
+abbrev pub EachHasRow : List (List ℕ) → Type 0
+EachHasRow rows = (i j : ℕ) → HasNext rows i j → j < length rows
 
 -- where j stands in the row of i, i stands in the row of j
 abbrev pub IsMutual : List (List ℕ) → Type 0
@@ -18,6 +18,6 @@ abbrev pub with_next : List (List ℕ) → ℕ → ℕ → List (List ℕ)
 with_next rows i j = slice_set rows i (slice_index_or rows i [] ++ j ∷ [])
 
 -- what is reached from start along the rows
-pub data Reaches (rows : List (List ℕ)) (start : ℕ) : ℕ → Type 0 where
-  here : Reaches rows start start
-  onward : {i j : ℕ} → Reaches rows start i → HasNext rows i j → Reaches rows start j
+pub data ReachesRow (rows : List (List ℕ)) (start : ℕ) : ℕ → Type 0 where
+  here : ReachesRow rows start start
+  onward : {i j : ℕ} → ReachesRow rows start i → HasNext rows i j → ReachesRow rows start j

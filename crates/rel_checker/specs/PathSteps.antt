@@ -19,20 +19,20 @@ abbrev pub left_in : Step → End
 left_in step = if step.code % 2 == 1 then End.Low else End.High
 
 -- the step goes from a to b, where these are the edges
-abbrev pub IsStep : List Edge → ℕ → ℕ → Step → Type 0
-IsStep = IsStepAlong place_in left_in
+abbrev pub IsCodedStep : List Edge → ℕ → ℕ → Step → Type 0
+IsCodedStep = IsStepAlong place_in left_in
 
 -- one step for each AS behind a, in order
-abbrev pub AreStepsFrom : List Edge → ℕ → List ℕ → List Step → Type 0
-AreStepsFrom = AreStepsBehind place_in left_in
+abbrev pub AreCodedStepsFrom : List Edge → ℕ → List ℕ → List Step → Type 0
+AreCodedStepsFrom = AreStepsBehind place_in left_in
 
 -- one step for each two neighbours of the path, in order
-abbrev pub AreSteps : List Edge → List ℕ → List Step → Type 0
-AreSteps = AreStepsAlong place_in left_in
+abbrev pub AreCodedSteps : List Edge → List ℕ → List Step → Type 0
+AreCodedSteps = AreStepsAlong place_in left_in
 
 -- the paths have these steps, one list for each
-abbrev pub HaveSteps : List Edge → List (List ℕ) → List (List Step) → Type 0
-HaveSteps = HaveStepsAlong place_in left_in
+abbrev pub HaveCodedSteps : List Edge → List (List ℕ) → List (List Step) → Type 0
+HaveCodedSteps = HaveStepsAlong place_in left_in
 
 -- ---- slopes
 
@@ -40,5 +40,5 @@ abbrev pub labels_on : List EdgeLine → List Label
 labels_on lines = map (λ e. e.label) lines
 
 -- how the steps go under the labels of the edge lines
-abbrev pub slopes_by : List EdgeLine → List Step → List Slope
-slopes_by lines = slopes_along place_in left_in (labels_on lines)
+abbrev pub line_slopes : List EdgeLine → List Step → List Slope
+line_slopes lines = slopes_along place_in left_in (labels_on lines)

@@ -11,9 +11,9 @@ use Rattle.relationships.specs.declared.mark.Mark.TheVariants.{Forced, Open}
 use Rattle.result_text.specs.declared.file.EdgeLine.{EdgeLine}
 use Rattle.result_text.specs.declared.file.ResultFile.{ResultFile}
 use Rattle.result_rules.specs.File.{claim_on, its_claims, its_probes}
-use Rattle.rel_checker.specs.Searching.{IsVisited}
-use Rattle.result_rules.specs.Rules.{ForSome, IsServing, IsMarkedRightly}
-use Rattle.rel_checker.specs.Flipping.{FlipsTo, IsFlipped, edges_of, flipped_orders, kept_lines, IsBuiltFor, IsProper, IsSettled, AreApart}
+use Rattle.rel_checker.specs.Searching.{RoundCameTo}
+use Rattle.result_rules.specs.Rules.{ForSome, ServesNewEdge, IsMarkedRightly}
+use Rattle.rel_checker.specs.Flipping.{FlipsTo, IsFlipped, edges_of, flipped_orders, kept_lines, IsBuiltFor, IsProper, FlipsLeaveNoValley, AreApart}
 
 -- the edge is open, and no peering
 abbrev pub is_wanted : Mark → Label → Bool
@@ -40,7 +40,7 @@ pub record Gains (kept : List (List ℕ)) (claims : List Claim) (earlier : List 
 -- the round came to exactly the edges whose flipped orders are in the closure of one of the open lines
 abbrev pub IsCovered : List (List ℕ) → List (ℕ × ℕ) → List (ℕ × ℕ) → List ℕ → ℕ → Type 0
 IsCovered kept orders probes rounds round =
-    (k x y : ℕ) → FlipsTo orders k x y → IsVisited rounds round k ↔ Any (λ p. Closure kept p.0 p.1 x y) probes
+    (k x y : ℕ) → FlipsTo orders k x y → RoundCameTo rounds round k ↔ Any (λ p. Closure kept p.0 p.1 x y) probes
 
 -- the same in round 1, for the kept paths and the edges of a file
 abbrev pub Covers : ResultFile → List (ℕ × ℕ) → List ℕ → Type 0
@@ -56,7 +56,7 @@ GainsAt file k = ForSome (its_probes file) k (Gains (kept_lines file.paths) (its
 
 -- open line k serves
 abbrev pub ServesAt : ResultFile → ℕ → Type 0
-ServesAt file k = ForSome (its_probes file) k (IsServing file k)
+ServesAt file k = ForSome (its_probes file) k (ServesNewEdge file k)
 
 -- the mark of edge line k is borne out
 abbrev pub MarkedAt : ResultFile → ℕ → Type 0
@@ -68,10 +68,10 @@ First P end None = (k : ℕ) → k < end → P k
 First P end (Some k) = (k < end) × (P k → ⊥) × ((j : ℕ) → j < k → P j)
 
 -- the first of two places is kept
-abbrev pub first_of : Option ℕ → ℕ → Bool → Option ℕ
-first_of (Some j) k holds = Some j
-first_of None k true = None
-first_of None k false = Some k
+abbrev pub first_failing : Option ℕ → ℕ → Bool → Option ℕ
+first_failing (Some j) k holds = Some j
+first_failing None k true = None
+first_failing None k false = Some k
 
 -- one of the orders of the edge is shown
 abbrev pub IsShownOf : List (ℕ × ℕ) → EdgeLine → Type 0
@@ -94,5 +94,5 @@ pub record IsLaidOut (file : ResultFile) (table : List Edge) (implied conflictin
   pub few : length file.edges ≤ most_places
   pub apart : AreApart file.edges
   pub proper : IsProper (flipped_orders file.edges)
-  pub settled : IsSettled (flipped_orders file.edges) (kept_lines file.paths)
+  pub settled : FlipsLeaveNoValley (flipped_orders file.edges) (kept_lines file.paths)
   pub built : IsBuiltFor file.edges (kept_lines file.paths) implied conflicting

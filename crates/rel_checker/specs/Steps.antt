@@ -3,22 +3,22 @@ use Rattle.std.specs.Prelude.{◌≡◌, ℕ, ◌<◌, ◌≤◌, List, Option, 
 use Rattle.result_text.specs.declared.file.ResultFile.{ResultFile}
 use Rattle.result_rules.specs.declared.verdict.Verdict.{Verdict}
 use Rattle.result_rules.specs.declared.rule.Rule.{Rule}
-use Rattle.result_rules.specs.Rules.{number_of, IsMet, BreaksFirst}
+use Rattle.result_rules.specs.Rules.{rule_number, IsMet, BreaksFirst}
 use Rattle.result_rules.specs.Judging.{Judges}
 
 -- the rules up to this number are met
 abbrev pub MetUpTo : ResultFile → ℕ → Type 0
-MetUpTo file n = (rule : Rule) → number_of rule ≤ n → IsMet file rule
+MetUpTo file n = (rule : Rule) → rule_number rule ≤ n → IsMet file rule
 
 -- the verdict is found, or the rules up to this number are met
-abbrev pub Settles : ResultFile → ℕ → Option Verdict → Type 0
-Settles file n None = MetUpTo file n
-Settles file n (Some verdict) = Judges file verdict
+abbrev pub IsDecidedUpTo : ResultFile → ℕ → Option Verdict → Type 0
+IsDecidedUpTo file n None = MetUpTo file n
+IsDecidedUpTo file n (Some verdict) = Judges file verdict
 
 -- the place of the first line that breaks the rule, or none where it is met
-abbrev pub Finds : ResultFile → Rule → Option ℕ → Type 0
-Finds file rule None = IsMet file rule
-Finds file rule (Some k) = BreaksFirst file rule k
+abbrev pub FindsBreach : ResultFile → Rule → Option ℕ → Type 0
+FindsBreach file rule None = IsMet file rule
+FindsBreach file rule (Some k) = BreaksFirst file rule k
 
 -- the two lists differ first in this place
 pub record Differs {X : Type 0} (xs ys : List X) (k : ℕ) : Type 0 where

@@ -2,9 +2,9 @@
 ghost use Rattle.std.specs.Prelude.{◌≡◌, Some, IfOk};
 ghost use Rattle.relationships.specs.Graph.{edges};
 ghost use Rattle.result_rules.specs.File.{its_paths, HasFewLines};
-ghost use Rattle.rel_checker.specs.PathSteps.{HaveSteps};
-ghost use Rattle.result_rules.specs.Rules.{number_of};
-ghost use Rattle.rel_checker.specs.Steps.{MetUpTo, Settles};
+ghost use Rattle.rel_checker.specs.PathSteps.{HaveCodedSteps};
+ghost use Rattle.result_rules.specs.Rules.{rule_number};
+ghost use Rattle.rel_checker.specs.Steps.{MetUpTo, IsDecidedUpTo};
 ghost use Rattle.result_rules.specs.Valid.{Valid};
 ghost use Rattle.result_rules.specs.Judging.{Judges};
 
@@ -51,7 +51,7 @@ fn check_lines(
     requires lines { HasFewLines file.now }
     requires met { MetUpTo file.now 4 }
     requires table { table.now ≡ edges (its_paths file.now) }
-    requires steps { HaveSteps table.now (its_paths file.now) steps.now }
+    requires steps { HaveCodedSteps table.now (its_paths file.now) steps.now }
     ensures { IfOk result (Judges file.now) }
 {
     let labels = Labels::new(alloc, file.edges.as_slice())?;
@@ -67,7 +67,7 @@ fn check_lines(
 /// The rules on the head and on the paths.
 fn check_paths(alloc: Global, keys: Keys, file: &ResultFile) -> Result<Option<Verdict>, NoMemory>
     requires lines { HasFewLines file.now }
-    ensures { IfOk result (Settles file.now 4) }
+    ensures { IfOk result (IsDecidedUpTo file.now 4) }
 {
     if file.ratio > MAX_RATIO {
         return Ok(Some(no(3, Rule::RatioBounded)));
@@ -96,8 +96,8 @@ fn check_edges(
     requires met { MetUpTo file.now 4 }
     requires table { table.now ≡ edges (its_paths file.now) }
     requires labels { labels.now ≡ file.now.edges }
-    requires steps { HaveSteps table.now (its_paths file.now) steps.now }
-    ensures { IfOk result (Settles file.now 7) }
+    requires steps { HaveCodedSteps table.now (its_paths file.now) steps.now }
+    ensures { IfOk result (IsDecidedUpTo file.now 7) }
 {
     if let Some(place) = find_unlisted(file, table) {
         return Ok(Some(no(edge_line(file, place), Rule::EdgesListed)));
@@ -124,8 +124,8 @@ fn check_evidence(
     requires met { MetUpTo file.now 7 }
     requires table { table.now ≡ edges (its_paths file.now) }
     requires labels { labels.now ≡ file.now.edges }
-    requires steps { HaveSteps table.now (its_paths file.now) steps.now }
-    ensures { IfOk result (Settles file.now 9) }
+    requires steps { HaveCodedSteps table.now (its_paths file.now) steps.now }
+    ensures { IfOk result (IsDecidedUpTo file.now 9) }
 {
     if let Some(place) = find_unshown(alloc, keys, file)? {
         return Ok(Some(no(why_line(file, place), Rule::OrdersShown)));
@@ -151,7 +151,7 @@ fn check_totals(file: &ResultFile) -> Verdict
 
 /// The verdict that a line breaks a rule.
 fn no(line: u64, rule: Rule) -> Verdict
-    ensures { result ≡ Verdict.No line (number_of rule) }
+    ensures { result ≡ Verdict.No line (rule_number rule) }
 {
     Verdict::No {
         line,

@@ -11,7 +11,7 @@ use result_text::ResultFile;
 /// Ten lines stand before the paths of every file.
 pub(crate) fn path_line(_file: &ResultFile, place: usize) -> u64
     requires { place ≤ 2 * most_lines }
-    ensures { result ≡ said.path_line _file.now place }
+    ensures { result ≡ said.path_line_number _file.now place }
 {
     11 + place as u64
 }
@@ -19,7 +19,7 @@ pub(crate) fn path_line(_file: &ResultFile, place: usize) -> u64
 /// Behind the paths stand the edges.
 pub(crate) fn edge_line(file: &ResultFile, place: usize) -> u64
     requires { length file.now.paths + place ≤ 2 * most_lines }
-    ensures { result ≡ said.edge_line file.now place }
+    ensures { result ≡ said.edge_line_number file.now place }
 {
     path_line(file, file.paths.len()) + place as u64
 }
@@ -27,7 +27,7 @@ pub(crate) fn edge_line(file: &ResultFile, place: usize) -> u64
 /// Behind the edges stand the why lines.
 pub(crate) fn why_line(file: &ResultFile, place: usize) -> u64
     requires { length file.now.paths + length file.now.edges + place ≤ 2 * most_lines }
-    ensures { result ≡ said.why_line file.now place }
+    ensures { result ≡ said.why_line_number file.now place }
 {
     edge_line(file, file.edges.len()) + place as u64
 }

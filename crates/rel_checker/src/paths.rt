@@ -3,7 +3,7 @@ ghost use Rattle.std.specs.Prelude.{◌≡◌, ◌↔◌, ◌+◌, ◌<◌, ◌�
 ghost use Rattle.path_clean.specs.Paths.{is_cleaned};
 ghost use Rattle.tor_arena.specs.Limits.{max_paths, max_numbers};
 ghost use Rattle.result_rules.specs.declared.rule.Rule.{Rule};
-ghost use Rattle.rel_checker.specs.Steps.{Finds};
+ghost use Rattle.rel_checker.specs.Steps.{FindsBreach};
 
 use crate::lending::path_line_at;
 use path_clean::{MAX_NUMBERS, MAX_PATHS, first_repeated, is_clean_path};
@@ -13,7 +13,7 @@ use tor_arena::{Keys, NoMemory};
 
 /// The first path line whose path is not clean or was never seen, or with which there are too many paths or numbers.
 pub(crate) fn find_unclean(alloc: Global, file: &ResultFile) -> Result<Option<usize>, NoMemory>
-    ensures { IfOk result (Finds file.now Rule.PathsCleaned) }
+    ensures { IfOk result (FindsBreach file.now Rule.PathsCleaned) }
 {
     let mut numbers = 0;
     for place in 0..file.paths.len() {
@@ -50,7 +50,7 @@ pub(crate) fn find_repeated(
     keys: Keys,
     file: &ResultFile,
 ) -> Result<Option<usize>, NoMemory>
-    ensures { IfOk result (Finds file.now Rule.PathsDistinct) }
+    ensures { IfOk result (FindsBreach file.now Rule.PathsDistinct) }
 {
     first_repeated(alloc, keys, file.paths.paths())
 }

@@ -15,7 +15,7 @@ use Rattle.relationships.specs.Evidence.{Numbered, paths_of, kept_from, Refutes,
 use Rattle.relationships.specs.Checking.{LostFrom, Claim, IsBorneOut, IsProbe, ProbesFrom}
 use Rattle.relationships.specs.Fates.{walk_of}
 use Rattle.path_clean.specs.declared.cleaned.Sets.{Sets}
-use Rattle.path_clean.specs.Counts.{Counts}
+use Rattle.path_clean.specs.Counts.{CauseCounts}
 use Rattle.path_clean.specs.Paths.{is_cleaned}
 use Rattle.path_clean.specs.Rows.{Counted, none_twice}
 use Rattle.result_text.specs.declared.file.PathLine.{PathLine}
@@ -168,7 +168,7 @@ pub record AreSound (paths : List (List ℕ)) (times : List ℕ) : Type 0 where
 abbrev pub times_in : List PathLine → List ℕ
 times_in lines = map (λ (p : PathLine). p.times) lines
 
-module _ (sets : Sets) (ratio : ℕ) (rows : List Counted) (counts : Counts) (file : ResultFile) (small : ratio ≤ 1000000) (is : IsResultOf sets ratio rows counts file)
+module _ (sets : Sets) (ratio : ℕ) (rows : List Counted) (counts : CauseCounts) (file : ResultFile) (small : ratio ≤ 1000000) (is : IsResultOf sets ratio rows counts file)
     (sound : AreSound (its_paths file) (times_in file.paths)) where
   path_get : (k : ℕ) (line : PathLine) → slice_get file.paths k ≡ Some line → slice_get (its_paths file) k ≡ Some line.path
   path_get k line at = slice_get-map (λ (p : PathLine). p.path) file.paths k line at

@@ -5,9 +5,9 @@ use Rattle.tor_arena.specs.Limits.{max_numbers, max_paths, max_ratio}
 use Rattle.relationships.specs.declared.walk.Walk.{Walk}
 use Rattle.relationships.specs.Fates.{walk_of}
 use Rattle.path_clean.specs.declared.cleaned.Sets.{Sets}
-use Rattle.path_clean.specs.Counts.{Counts}
+use Rattle.path_clean.specs.Counts.{CauseCounts}
 use Rattle.path_clean.specs.Paths.{is_cleaned}
-use Rattle.path_clean.specs.Rows.{Counted, paths_of, times_of, none_twice}
+use Rattle.path_clean.specs.Rows.{Counted, row_paths, times_of, none_twice}
 use Rattle.result_text.specs.declared.file.PathLine.{PathLine}
 use Rattle.result_text.specs.declared.file.ResultFile.{ResultFile}
 use Rattle.result_text.specs.declared.file.Totals.{Totals}
@@ -21,8 +21,8 @@ use Rattle.result_rules.specs.Totals.{totals_by}
 use Rattle.rel_infer.proofs.Acceptance.{accepted}
 use Rattle.rel_infer.proofs.Assembling.{rows_same, walks_same}
 
-module _ (sets : Sets) (ratio : ℕ) (rows : List Counted) (counts : Counts) (paths : List (List ℕ)) (times : List ℕ) (i : Inferred) (lines : List PathLine) (totals : Totals)
-    (its_rows : paths ≡ paths_of rows) (its_times : times ≡ times_of rows) (are : AreInferred ratio paths i) (counted : totals ≡ totals_by i.fates i.found.edges)
+module _ (sets : Sets) (ratio : ℕ) (rows : List Counted) (counts : CauseCounts) (paths : List (List ℕ)) (times : List ℕ) (i : Inferred) (lines : List PathLine) (totals : Totals)
+    (its_rows : paths ≡ row_paths rows) (its_times : times ≡ times_of rows) (are : AreInferred ratio paths i) (counted : totals ≡ totals_by i.fates i.found.edges)
     (line_paths : map (λ (p : PathLine). p.path) lines ≡ paths) (line_times : map (λ (p : PathLine). p.times) lines ≡ times)
     (line_fates : map (λ (p : PathLine). p.fate) lines ≡ i.fates) where
   abbrev file : ResultFile
@@ -55,10 +55,10 @@ module _ (sets : Sets) (ratio : ℕ) (rows : List Counted) (counts : Counts) (pa
         totals = counted ∙ ap (λ fates. totals_by fates i.found.edges) (sym line_fates);
       }
 
-  pub whole_accepted : ratio ≤ max_ratio → IsTrue (list_all is_cleaned (paths_of rows)) → All (λ n. 1 ≤ n) (times_of rows) → IsTrue (none_twice (paths_of rows)) →
-      length (paths_of rows) ≤ max_paths → sum_by length (paths_of rows) ≤ max_numbers → Accepts file
+  pub whole_accepted : ratio ≤ max_ratio → IsTrue (list_all is_cleaned (row_paths rows)) → All (λ n. 1 ≤ n) (times_of rows) → IsTrue (none_twice (row_paths rows)) →
+      length (row_paths rows) ≤ max_paths → sum_by length (row_paths rows) ≤ max_numbers → Accepts file
   whole_accepted small clean seen once few numbers =
-      let same : its_paths file ≡ paths_of rows = line_paths ∙ its_rows in
+      let same : its_paths file ≡ row_paths rows = line_paths ∙ its_rows in
       accepted sets ratio rows counts file small whole (record {
         clean = subst (λ ps. IsTrue (list_all is_cleaned ps)) (sym same) clean;
         seen = subst (All (λ n. 1 ≤ n)) (sym (line_times ∙ its_times)) seen;

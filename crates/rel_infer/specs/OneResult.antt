@@ -1,7 +1,7 @@
 -- The result of distinct paths is one but for its evidence.
 use Rattle.std.specs.Prelude.{◌≡◌, ℕ, List, Option, map, is_none}
 use Rattle.path_clean.specs.declared.cleaned.Sets.{Sets}
-use Rattle.path_clean.specs.Counts.{Counts}
+use Rattle.path_clean.specs.Counts.{CauseCounts}
 use Rattle.path_clean.specs.Rows.{Counted}
 use Rattle.relationships.specs.declared.walk.Walk.{Walk}
 use Rattle.result_text.specs.declared.file.EdgeLine.{EdgeLine}
@@ -20,7 +20,7 @@ OneInferenceLaw =
 -- so are the counts of routes that are set aside, and the totals
 abbrev pub OneResultLaw : Type 0
 OneResultLaw =
-    (sets : Sets) (ratio : ℕ) (rows : List Counted) (counts : Counts) (file file' : ResultFile) →
+    (sets : Sets) (ratio : ℕ) (rows : List Counted) (counts : CauseCounts) (file file' : ResultFile) →
     IsResultOf sets ratio rows counts file → IsResultOf sets ratio rows counts file' →
     (file.asides ≡ file'.asides) × (map is_none (its_walks file) ≡ map is_none (its_walks file')) × (file.edges ≡ file'.edges) ×
     (file.totals ≡ file'.totals)

@@ -3,7 +3,7 @@
 -- votes, settling, peerings and the form of the evidence are this project's own (docs/FORMATS.md).
 use Rattle.std.specs.Prelude.{◌≡◌, ◌↔◌, ℕ, List, Option, map, is_none, All, IsTrue}
 use Rattle.path_clean.specs.declared.cleaned.Sets.{Sets}
-use Rattle.path_clean.specs.Counts.{Counts}
+use Rattle.path_clean.specs.Counts.{CauseCounts}
 use Rattle.path_clean.specs.Rows.{Counted}
 use Rattle.relationships.specs.declared.walk.Walk.{Walk}
 use Rattle.relationships.specs.Relationship.{Orientation, Labelling, ValleyFree, labels_of}
@@ -44,7 +44,7 @@ pub record IsInferred (ratio : ℕ) (paths : List (List ℕ)) (walks : List (Opt
   pub evidence : MarksHold (kept_of paths walks) (map claim_on lines) whys probes
 
 -- the result of distinct paths with their times, and of the counts of routes that were set aside
-pub record IsResultOf (sets : Sets) (ratio : ℕ) (rows : List Counted) (counts : Counts) (file : ResultFile) : Type 0 where
+pub record IsResultOf (sets : Sets) (ratio : ℕ) (rows : List Counted) (counts : CauseCounts) (file : ResultFile) : Type 0 where
   pub its_sets : file.sets ≡ sets
   pub its_ratio : file.ratio ≡ ratio
   pub its_counts : file.asides ≡ counts

@@ -11,7 +11,7 @@ use Rattle.relationships.specs.Graph.{Edge, is_same, edges}
 use Rattle.relationships.specs.Evidence.{paths_of}
 use Rattle.relationships.specs.Selection.{KeepsFrom, IsServable, IsForced}
 use Rattle.relationships.specs.Checking.{kept_of, Claim, claimed_labels}
-use Rattle.relationships.specs.Givens.{names_edge, Holds, return_of, returns, NameTwo, NameOnce, by_givens}
+use Rattle.relationships.specs.Givens.{names_edge, LabelsSay, return_of, returns, NameTwo, NameOnce, by_givens}
 use Rattle.relationships.specs.GivenEvidence.{served_with}
 use Rattle.relationships.specs.Laws.GivenEvidence.{AgreeingRulesLaw}
 use Rattle.relationships.proofs.Edges.{over_kept, relaxing_law}
@@ -86,8 +86,8 @@ module _ (givens : List Given) (paths : List (List ℕ)) (L : Labelling) where
   outside low high f = rw f refl
 
   -- they agree with all givens, if those of the claims do with the givens whose two are an edge
-  all_hold : (gs : List Given) → AllByRecursion (λ g. IsTrue (names_edge paths g) → Holds L g) gs → AllByRecursion (Holds (labels_of (by_givens givens))) gs →
-      AllByRecursion (Holds M) gs
+  all_hold : (gs : List Given) → AllByRecursion (λ g. IsTrue (names_edge paths g) → LabelsSay L g) gs → AllByRecursion (LabelsSay (labels_of (by_givens givens))) gs →
+      AllByRecursion (LabelsSay M) gs
   all_hold [] h k = tt
   all_hold (g ∷ gs) h k = (
     elim (cases_Bool (names_edge paths g)) [
@@ -97,10 +97,10 @@ module _ (givens : List Given) (paths : List (List ℕ)) (L : Labelling) where
     all_hold gs h.1 k.1,
   )
     where
-      moved : (L' : Labelling) → L' (min g.over g.under) (max g.over g.under) ≡ M (min g.over g.under) (max g.over g.under) → Holds L' g → Holds M g
+      moved : (L' : Labelling) → L' (min g.over g.under) (max g.over g.under) ≡ M (min g.over g.under) (max g.over g.under) → LabelsSay L' g → LabelsSay M g
       moved L' same holds = over_kept L' M g.over g.under ((λ h. sym same ∙ h), (λ h. sym same ∙ h)) holds
 
-  all_free : (gs : List Given) → AllByRecursion (Holds M) gs → AllByRecursion (ValleyFree M) (map return_of gs)
+  all_free : (gs : List Given) → AllByRecursion (LabelsSay M) gs → AllByRecursion (ValleyFree M) (map return_of gs)
   all_free [] h = tt
   all_free (g ∷ gs) h = (return_free M g h.0, all_free gs h.1)
 
@@ -141,9 +141,9 @@ agreeing_rules_law givens paths walks claims whys probes a = (
     on_edge : (c : Claim) → Contains claims c → Contains (edges paths) (c.low, c.high)
     on_edge c i = subst (λ (es : List Edge). Contains es (c.low, c.high)) a.each_edge (Contains-map (λ (c : Claim). (c.low, c.high)) claims c i)
 
-    hold : AllByRecursion (Holds (completed (edges paths) L givens)) givens
+    hold : AllByRecursion (LabelsSay (completed (edges paths) L givens)) givens
     hold =
-        all_hold givens paths L givens (recursion_from_All (λ g. IsTrue (names_edge paths g) → Holds L g) givens a.agrees)
+        all_hold givens paths L givens (recursion_from_All (λ g. IsTrue (names_edge paths g) → LabelsSay L g) givens a.agrees)
         (ends_hold (by_givens givens) givens (recursion_from_All (λ g. g.over ≢ g.under) givens a.two) (each_end givens (once_all givens a.once)))
 
     all : KeepsFrom (map return_of givens) paths (map is_none walks) ×

@@ -8,7 +8,7 @@ use Rattle.std.proofs.lemmas.List.Elements.{All-head, All-tail, All-push}
 use Rattle.relationships.specs.declared.walk.Link.{Link}
 use Rattle.relationships.specs.declared.walk.Walk.{Walk}
 use Rattle.relationships.specs.declared.fate.Fate.TheVariants as fate
-use Rattle.relationships.specs.Flat.{walk_with, walks_by, fate_by, fates_by, place_by, places_by, IsWithin, AreWithin}
+use Rattle.relationships.specs.Flat.{walk_with, walks_by, fate_by, fates_by, place_by, places_by, IsWalkPlace, AreWalkPlaces}
 
 -- ---- walks
 
@@ -43,12 +43,12 @@ index_or-last [] w d = refl
 index_or-last (v ∷ vs) w d = index_or-last vs w d
 
 -- one walk more at the end changes no fate
-pub fates_by-walk : (walks : List Walk) (w : Walk) (places : List (Option ℕ)) → AreWithin walks places → fates_by (walks ++ w ∷ []) places ≡ fates_by walks places
+pub fates_by-walk : (walks : List Walk) (w : Walk) (places : List (Option ℕ)) → AreWalkPlaces walks places → fates_by (walks ++ w ∷ []) places ≡ fates_by walks places
 fates_by-walk walks w [] within = refl
-fates_by-walk walks w (None ∷ places) within = ap (λ fs. fate.Kept ∷ fs) (fates_by-walk walks w places (All-tail (IsWithin walks) None places within))
+fates_by-walk walks w (None ∷ places) within = ap (λ fs. fate.Kept ∷ fs) (fates_by-walk walks w places (All-tail (IsWalkPlace walks) None places within))
 fates_by-walk walks w (Some k ∷ places) within =
-    ap₂ (λ v fs. fate.Lost v ∷ fs) (index_or-push walks w (walk_with [] []) k (All-head (IsWithin walks) (Some k) places within))
-    (fates_by-walk walks w places (All-tail (IsWithin walks) (Some k) places within))
+    ap₂ (λ v fs. fate.Lost v ∷ fs) (index_or-push walks w (walk_with [] []) k (All-head (IsWalkPlace walks) (Some k) places within))
+    (fates_by-walk walks w places (All-tail (IsWalkPlace walks) (Some k) places within))
 
 pub fates_by-kept : (walks : List Walk) (places : List (Option ℕ)) → fates_by walks (places ++ None ∷ []) ≡ fates_by walks places ++ fate.Kept ∷ []
 fates_by-kept walks [] = refl
@@ -60,24 +60,24 @@ fates_by-lost walks [] k = refl
 fates_by-lost walks (p ∷ places) k = ap (λ fs. fate_by walks p ∷ fs) (fates_by-lost walks places k)
 
 -- a path that is lost with one walk more
-pub fates_by-push : (walks : List Walk) (w : Walk) (places : List (Option ℕ)) → AreWithin walks places
+pub fates_by-push : (walks : List Walk) (w : Walk) (places : List (Option ℕ)) → AreWalkPlaces walks places
     → fates_by (walks ++ w ∷ []) (places ++ Some (length walks) ∷ []) ≡ fates_by walks places ++ fate.Lost w ∷ []
 fates_by-push walks w places within =
     fates_by-lost (walks ++ w ∷ []) places (length walks)
     ∙ ap₂ (λ fs v. fs ++ fate.Lost v ∷ []) (fates_by-walk walks w places within) (index_or-last walks w (walk_with [] []))
 
-pub AreWithin-kept : (walks : List Walk) (places : List (Option ℕ)) → AreWithin walks places → AreWithin walks (places ++ None ∷ [])
-AreWithin-kept walks places within = All-push (IsWithin walks) places None within tt
+pub AreWithin-kept : (walks : List Walk) (places : List (Option ℕ)) → AreWalkPlaces walks places → AreWalkPlaces walks (places ++ None ∷ [])
+AreWithin-kept walks places within = All-push (IsWalkPlace walks) places None within tt
 
 widen : (n m : ℕ) (p : Option ℕ) → n ≤ m → IfSome p (λ k. k < n) → IfSome p (λ k. k < m)
 widen n m None le within = tt
 widen n m (Some k) le within = omega (arith, le, within)
 
-pub AreWithin-push : (walks : List Walk) (w : Walk) (places : List (Option ℕ)) → AreWithin walks places
-    → AreWithin (walks ++ w ∷ []) (places ++ Some (length walks) ∷ [])
+pub AreWithin-push : (walks : List Walk) (w : Walk) (places : List (Option ℕ)) → AreWalkPlaces walks places
+    → AreWalkPlaces (walks ++ w ∷ []) (places ++ Some (length walks) ∷ [])
 AreWithin-push walks w places within =
     let more = length-append walks (w ∷ []) in
-    All-push (IsWithin (walks ++ w ∷ [])) places (Some (length walks))
+    All-push (IsWalkPlace (walks ++ w ∷ [])) places (Some (length walks))
     (λ k d lt. widen (length walks) (length (walks ++ w ∷ [])) (get_or places k d) (omega (arith, more)) (within k d lt))
     (omega (arith, more))
 
@@ -141,9 +141,9 @@ module _ (walks : List Walk) (numbers : List ℕ) (k : ℕ) (lt : k < length num
       ap (option_map walk_of) fate_there ∙ ap (λ p. Some (walk_of (fate_by walks p))) (numbered n some)
       ∙ ap (λ v. Some (Some v)) (get_or_from_slice_get walks (n - 1) w (walk_with [] []) at)
 
-  pub place_there : AreWithin walks (places_by numbers) → n ≢ 0 → n - 1 < length walks
+  pub place_there : AreWalkPlaces walks (places_by numbers) → n ≢ 0 → n - 1 < length walks
   place_there within some =
       let long = length-places_by numbers in
       let place : get_or (places_by numbers) k None ≡ Some (n - 1) =
       get_or_from_slice_get (places_by numbers) k (place_by (get_or numbers k 0)) None (place-at numbers k lt) ∙ ap place_by (sym is) ∙ numbered n some in
-      subst (IsWithin walks) place (within k None (omega (arith, lt, long)))
+      subst (IsWalkPlace walks) place (within k None (omega (arith, lt, long)))

@@ -11,7 +11,7 @@ use Rattle.relationships.specs.Graph.{Edge, edge_of, is_same, edges_on, distinct
 use Rattle.relationships.specs.Evidence.{StandAt, TripleAt, IsTriple, NeighboursDiffer, Closure}
 use Rattle.relationships.specs.Evidence.Closure.{start as closure_start, imply as closure_imply}
 use Rattle.relationships.specs.Selection.{IsServable, IsForced}
-use Rattle.relationships.specs.Givens.{names_edge, Holds, AgreesWith, return_of, returns, NameTwo, NameOnce, end_by, by_givens, IsReturn, GivenClosure}
+use Rattle.relationships.specs.Givens.{names_edge, LabelsSay, AgreesWith, return_of, returns, NameTwo, NameOnce, end_by, by_givens, IsReturn, GivenClosure}
 use Rattle.relationships.specs.Givens.GivenClosure.{start, imply, force}
 use Rattle.relationships.specs.Laws.Givens.{GivenServingLaw, GivenClosureLaw, GivenEdgesLaw, GivensServableLaw, AllGivensLaw}
 use Rattle.relationships.proofs.Slopes.{slope-up, slope-down, over-up, over-down, over-low, over-high, over_parts, Free-from_valley_free}
@@ -21,11 +21,11 @@ use Rattle.relationships.proofs.Places.{distinct-push_old}
 
 -- ---- a return is valley-free exactly where its given holds
 
-pub return_free : (L : Labelling) (g : Given) → Holds L g → ValleyFree L (return_of g)
+pub return_free : (L : Labelling) (g : Given) → LabelsSay L g → ValleyFree L (return_of g)
 return_free L g h =
     (1, 1, inl (ap₂ (λ s (ss : List Slope). s ∷ ss) (slope-up L g.under g.over h) (ap (λ (s : Slope). s ∷ []) (slope-down L g.over g.under h))))
 
-pub return_holds : (L : Labelling) (g : Given) → ValleyFree L (return_of g) → Holds L g
+pub return_holds : (L : Labelling) (g : Given) → ValleyFree L (return_of g) → LabelsSay L g
 return_holds L g v =
     elim (Free-from_valley_free L (return_of g) v) [ inl p ↦ over-up L g.under g.over p.0 | inr f ↦ over-down L g.over g.under f.0 ]
 
@@ -62,13 +62,13 @@ module _ (paths : List (List ℕ)) where
   agrees_free L givens h =
       All-from_recursion (ValleyFree L) (returns paths givens)
       (each_return (ValleyFree L) givens
-      (weaker (λ g. IsTrue (names_edge paths g) → Holds L g) (λ g. IsTrue (names_edge paths g) → ValleyFree L (return_of g)) (λ g f t. return_free L g (f t)) givens
-      (recursion_from_All (λ g. IsTrue (names_edge paths g) → Holds L g) givens h)))
+      (weaker (λ g. IsTrue (names_edge paths g) → LabelsSay L g) (λ g. IsTrue (names_edge paths g) → ValleyFree L (return_of g)) (λ g f t. return_free L g (f t)) givens
+      (recursion_from_All (λ g. IsTrue (names_edge paths g) → LabelsSay L g) givens h)))
 
   pub free_agrees : (L : Labelling) (givens : List Given) → All (ValleyFree L) (returns paths givens) → AgreesWith givens paths L
   free_agrees L givens h =
-      All-from_recursion (λ g. IsTrue (names_edge paths g) → Holds L g) givens
-      (weaker (λ g. IsTrue (names_edge paths g) → ValleyFree L (return_of g)) (λ g. IsTrue (names_edge paths g) → Holds L g) (λ g f t. return_holds L g (f t)) givens
+      All-from_recursion (λ g. IsTrue (names_edge paths g) → LabelsSay L g) givens
+      (weaker (λ g. IsTrue (names_edge paths g) → ValleyFree L (return_of g)) (λ g. IsTrue (names_edge paths g) → LabelsSay L g) (λ g f t. return_holds L g (f t)) givens
       (each_given (ValleyFree L) givens (recursion_from_All (ValleyFree L) (returns paths givens) h)))
 
 parts : {X : Type 0} (P : X → Type 0) (xs ys : List X) → AllByRecursion P (xs ++ ys) → AllByRecursion P xs × AllByRecursion P ys
@@ -356,7 +356,7 @@ each_end (g ∷ givens) h = (by_first g givens, later givens h.0 (each_end given
     )
 
 -- an orientation that has the end of each given agrees with all
-pub ends_hold : (O : Orientation) (givens : List Given) → AllByRecursion (λ g. g.over ≢ g.under) givens → AllByRecursion (HasEnd O) givens → AllByRecursion (Holds (labels_of O)) givens
+pub ends_hold : (O : Orientation) (givens : List Given) → AllByRecursion (λ g. g.over ≢ g.under) givens → AllByRecursion (HasEnd O) givens → AllByRecursion (LabelsSay (labels_of O)) givens
 ends_hold O [] two h = tt
 ends_hold O (g ∷ givens) two h = (over_by O g.over g.under two.0 h.0, ends_hold O givens two.1 h.1)
 
@@ -403,12 +403,12 @@ module _ (paths some : List (List ℕ)) (givens : List Given) (two : NameTwo giv
       sym (inside_same O f.0 f.1 (there f (among f (Contains-get_or (edges some) i (0, 0) within))))))
       serves
 
-  each_holds : (O : Orientation) → AgreesWith givens paths (labels_of O) → AllByRecursion (Holds (labels_of (outside es O givens))) givens
+  each_holds : (O : Orientation) → AgreesWith givens paths (labels_of O) → AllByRecursion (LabelsSay (labels_of (outside es O givens))) givens
   each_holds O agrees =
-      go givens (recursion_from_All (λ g. g.over ≢ g.under) givens two) (recursion_from_All (λ g. IsTrue (names_edge paths g) → Holds (labels_of O) g) givens agrees) (each_end givens (once_all givens once))
+      go givens (recursion_from_All (λ g. g.over ≢ g.under) givens two) (recursion_from_All (λ g. IsTrue (names_edge paths g) → LabelsSay (labels_of O) g) givens agrees) (each_end givens (once_all givens once))
     where
-      go : (gs : List Given) → AllByRecursion (λ g. g.over ≢ g.under) gs → AllByRecursion (λ g. IsTrue (names_edge paths g) → Holds (labels_of O) g) gs → AllByRecursion (HasEnd (by_givens givens)) gs →
-          AllByRecursion (Holds (labels_of (outside es O givens))) gs
+      go : (gs : List Given) → AllByRecursion (λ g. g.over ≢ g.under) gs → AllByRecursion (λ g. IsTrue (names_edge paths g) → LabelsSay (labels_of O) g) gs → AllByRecursion (HasEnd (by_givens givens)) gs →
+          AllByRecursion (LabelsSay (labels_of (outside es O givens))) gs
       go [] t a h = tt
       go (g ∷ gs) t a h = (
         elim (cases_Bool (names_edge paths g)) [
@@ -427,7 +427,7 @@ module _ (paths some : List (List ℕ)) (givens : List Given) (two : NameTwo giv
       (All-from_recursion (ValleyFree (labels_of (outside es O givens))) (map return_of givens) (free_all givens (each_holds O both.0)))
       (still_serves O both.1)
     where
-      free_all : (gs : List Given) → AllByRecursion (Holds (labels_of (outside es O givens))) gs → AllByRecursion (ValleyFree (labels_of (outside es O givens))) (map return_of gs)
+      free_all : (gs : List Given) → AllByRecursion (LabelsSay (labels_of (outside es O givens))) gs → AllByRecursion (ValleyFree (labels_of (outside es O givens))) (map return_of gs)
       free_all [] h = tt
       free_all (g ∷ gs) h = (return_free (labels_of (outside es O givens)) g h.0, free_all gs h.1)
 
@@ -463,7 +463,7 @@ pub givens_servable_law : GivensServableLaw
 givens_servable_law givens paths two once = (
   by_givens givens,
   agrees_free paths (labels_of (by_givens givens)) givens
-      (All-from_recursion (λ g. IsTrue (names_edge paths g) → Holds (labels_of (by_givens givens)) g) givens
-      (weaker paths (Holds (labels_of (by_givens givens))) (λ g. IsTrue (names_edge paths g) → Holds (labels_of (by_givens givens)) g) (λ g h _. h) givens
+      (All-from_recursion (λ g. IsTrue (names_edge paths g) → LabelsSay (labels_of (by_givens givens)) g) givens
+      (weaker paths (LabelsSay (labels_of (by_givens givens))) (λ g. IsTrue (names_edge paths g) → LabelsSay (labels_of (by_givens givens)) g) (λ g h _. h) givens
       (ends_hold (by_givens givens) givens (recursion_from_All (λ g. g.over ≢ g.under) givens two) (each_end givens (once_all givens once))))),
 )

@@ -31,8 +31,8 @@ abbrev pub fates_by : List Walk → List (Option ℕ) → List Fate
 fates_by walks places = map (fate_by walks) places
 
 -- the place, if there is one, is that of a walk
-abbrev pub IsWithin : List Walk → Option ℕ → Type 0
-IsWithin walks place = IfSome place (λ k. k < length walks)
+abbrev pub IsWalkPlace : List Walk → Option ℕ → Type 0
+IsWalkPlace walks place = IfSome place (λ k. k < length walks)
 
-abbrev pub AreWithin : List Walk → List (Option ℕ) → Type 0
-AreWithin walks places = All (IsWithin walks) places
+abbrev pub AreWalkPlaces : List Walk → List (Option ℕ) → Type 0
+AreWalkPlaces walks places = All (IsWalkPlace walks) places

@@ -12,12 +12,12 @@ abbrev pub names_edge : List (List ℕ) → Given → Bool
 names_edge paths g = list_any (is_same (edge_of g.over g.under)) (edges paths)
 
 -- the labels say what the given says
-abbrev pub Holds : Labelling → Given → Type 0
-Holds L g = IsTrue (is_over L g.over g.under)
+abbrev pub LabelsSay : Labelling → Given → Type 0
+LabelsSay L g = IsTrue (is_over L g.over g.under)
 
 -- they say it of each given whose two are neighbours on the paths
 abbrev pub AgreesWith : List Given → List (List ℕ) → Labelling → Type 0
-AgreesWith givens paths L = All (λ g. IsTrue (names_edge paths g) → Holds L g) givens
+AgreesWith givens paths L = All (λ g. IsTrue (names_edge paths g) → LabelsSay L g) givens
 
 -- the return of a given: from the customer to the provider and back. Its steps are up and down where the given holds, down and up
 -- where its opposite does, and both flat where the two are peers: so it is valley-free exactly where the given holds

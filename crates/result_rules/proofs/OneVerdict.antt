@@ -2,7 +2,7 @@
 use Rattle.std.proofs.Common.{◌≡◌, ◌-◌, inl, inr, ℕ, List, Option, Some, None, refl, sym, ap, subst, ◌∙◌, arith, ◌==◌}
 use Rattle.std.specs.Prelude.{slice_get, if◌then◌else◌}
 use Rattle.std.proofs.lemmas.Bool.{cases_order}
-use Rattle.path_clean.specs.Counts.{Counts}
+use Rattle.path_clean.specs.Counts.{CauseCounts}
 use Rattle.path_clean.specs.Rows.{Counted}
 use Rattle.result_text.specs.declared.file.ResultFile.{ResultFile}
 use Rattle.result_rules.specs.declared.verdict.Verdict.{Verdict}
@@ -10,7 +10,7 @@ use Rattle.result_rules.specs.declared.verdict.Verdict.TheVariants.{Yes, No}
 use Rattle.result_rules.specs.declared.rule.Rule.{Rule}
 use Rattle.result_rules.specs.declared.rule.Rule.TheVariants.{RatioBounded, PathsCleaned, PathsDistinct, LostRefuted, EdgesListed}
 use Rattle.result_rules.specs.declared.rule.Rule.TheVariants.{KeptValleyFree, SupportCounted, OrdersShown, MarksBorneOut, TotalsRight}
-use Rattle.result_rules.specs.Rules.{number_of, line_for, Accepts, BreaksFirst, IsRefused}
+use Rattle.result_rules.specs.Rules.{rule_number, line_for, Accepts, BreaksFirst, IsRefused}
 use Rattle.result_rules.specs.Against.{in_order, line_against, Departs, JudgesAgainst}
 use Rattle.result_rules.specs.Judging.{OneVerdictLaw, OneAgainstLaw}
 
@@ -28,7 +28,7 @@ numbered n =
     else if n == 10 then Some TotalsRight
     else None
 
-numbered_back : (rule : Rule) → numbered (number_of rule) ≡ Some rule
+numbered_back : (rule : Rule) → numbered (rule_number rule) ≡ Some rule
 numbered_back RatioBounded = refl
 numbered_back PathsCleaned = refl
 numbered_back PathsDistinct = refl
@@ -43,7 +43,7 @@ numbered_back TotalsRight = refl
 some_same : (r s : Rule) → ◌≡◌ {A = Option Rule} (Some r) (Some s) → r ≡ s
 some_same r s e = cc
 
-same_rule : (r s : Rule) → number_of r ≡ number_of s → r ≡ s
+same_rule : (r s : Rule) → rule_number r ≡ rule_number s → r ≡ s
 same_rule r s e = some_same r s (sym (numbered_back r) ∙ ap numbered e ∙ numbered_back s)
 
 one_place : (file : ResultFile) (rule : Rule) (j k : ℕ) → BreaksFirst file rule j → BreaksFirst file rule k → j ≡ k
@@ -56,7 +56,7 @@ one_place file rule j k a b = elim (cases_order j k) [
 ]
 
 one_rule : (file : ResultFile) (l n l' n' : ℕ) (a : IsRefused file l n) (b : IsRefused file l' n') → a.rule ≡ b.rule
-one_rule file l n l' n' a b = elim (cases_order (number_of a.rule) (number_of b.rule)) [
+one_rule file l n l' n' a b = elim (cases_order (rule_number a.rule) (rule_number b.rule)) [
   | inl e ↦ same_rule a.rule b.rule e
   | inr o ↦ elim o [
     | inl lt ↦ absurd (a.first.breach (b.earlier a.rule lt a.place a.first.within))
@@ -72,7 +72,7 @@ one_refused file l n l' n' a b =
     let same : a.rule ≡ b.rule = one_rule file l n l' n' a b in
     let place : a.place ≡ b.place = one_place file b.rule a.place b.place (subst (λ r. BreaksFirst file r a.place) same a.first) b.first in
     let line : line_for file a.rule a.place ≡ line_for file b.rule b.place = ap (λ r. line_for file r a.place) same ∙ ap (λ k. line_for file b.rule k) place in
-    verdicts_same l n l' n' (a.numbered ∙ line ∙ sym b.numbered) (a.named ∙ ap number_of same ∙ sym b.named)
+    verdicts_same l n l' n' (a.numbered ∙ line ∙ sym b.numbered) (a.named ∙ ap rule_number same ∙ sym b.named)
 
 refused_or_accepted : (file : ResultFile) (l n : ℕ) → Accepts file → IsRefused file l n → ⊥
 refused_or_accepted file l n accepts r = r.first.breach (accepts r.rule r.place r.first.within)
@@ -85,14 +85,14 @@ one_verdict_law file (No l n) (No l' n') a b = one_refused file l n l' n' a b
 
 -- ---- beside dumps
 
-departs_or_agrees : (file : ResultFile) (rows : List Counted) (counts : Counts) (l n : ℕ) → JudgesAgainst file rows counts Yes → Departs file rows counts l n → ⊥
+departs_or_agrees : (file : ResultFile) (rows : List Counted) (counts : CauseCounts) (l n : ℕ) → JudgesAgainst file rows counts Yes → Departs file rows counts l n → ⊥
 departs_or_agrees file rows counts l n right d =
     d.breach (record {
       count = λ lt. ap (λ c. slice_get (in_order c) d.place) right.0;
       path = λ le. ap (λ (t : List Counted). slice_get t (d.place - 7)) right.1;
     })
 
-one_departure : (file : ResultFile) (rows : List Counted) (counts : Counts) (l n l' n' : ℕ) → Departs file rows counts l n → Departs file rows counts l' n' → No l n ≡ No l' n'
+one_departure : (file : ResultFile) (rows : List Counted) (counts : CauseCounts) (l n l' n' : ℕ) → Departs file rows counts l n → Departs file rows counts l' n' → No l n ≡ No l' n'
 one_departure file rows counts l n l' n' a b =
     let place : a.place ≡ b.place = elim (cases_order a.place b.place) [
       | inl e ↦ e

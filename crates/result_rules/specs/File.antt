@@ -66,20 +66,17 @@ its_probes file = orders_of file.probes
 
 -- ---- numbers of lines, from 1. The places are from 0
 
-abbrev pub path_line : ResultFile → ℕ → ℕ
-path_line file k = numbering.path_line file (k + 1)
+abbrev pub path_line_number : ResultFile → ℕ → ℕ
+path_line_number file k = numbering.path_line file (k + 1)
 
-abbrev pub edge_line : ResultFile → ℕ → ℕ
-edge_line file k = numbering.edge_line file (k + 1)
+abbrev pub edge_line_number : ResultFile → ℕ → ℕ
+edge_line_number file k = numbering.edge_line file (k + 1)
 
-abbrev pub why_line : ResultFile → ℕ → ℕ
-why_line file k = numbering.why_line file (k + 1)
+abbrev pub why_line_number : ResultFile → ℕ → ℕ
+why_line_number file k = numbering.why_line file (k + 1)
 
 abbrev pub open_line : ResultFile → ℕ → ℕ
 open_line file k = numbering.probe_line file (k + 1)
-
-abbrev pub last_line : ResultFile → ℕ
-last_line file = numbering.last_line file
 
 -- how many lines a file that is judged may have besides the first ten and the last
 abbrev pub most_lines : ℕ

@@ -1,6 +1,6 @@
 -- What a verdict on a result means.
 use Rattle.std.specs.Prelude.{◌≡◌, List}
-use Rattle.path_clean.specs.Counts.{Counts}
+use Rattle.path_clean.specs.Counts.{CauseCounts}
 use Rattle.path_clean.specs.Rows.{Counted}
 use Rattle.result_rules.specs.Against.{JudgesAgainst}
 use Rattle.result_rules.specs.declared.verdict.Verdict.{Verdict}
@@ -20,5 +20,5 @@ OneVerdictLaw = (file : ResultFile) (verdict other : Verdict) → Judges file ve
 -- and one beside dumps
 abbrev pub OneAgainstLaw : Type 0
 OneAgainstLaw =
-    (file : ResultFile) (rows : List Counted) (counts : Counts) (verdict other : Verdict) → JudgesAgainst file rows counts verdict →
+    (file : ResultFile) (rows : List Counted) (counts : CauseCounts) (verdict other : Verdict) → JudgesAgainst file rows counts verdict →
     JudgesAgainst file rows counts other → verdict ≡ other

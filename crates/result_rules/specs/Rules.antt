@@ -14,25 +14,25 @@ use Rattle.result_text.specs.declared.file.PathLine.{PathLine}
 use Rattle.result_text.specs.declared.file.EdgeLine.{EdgeLine}
 use Rattle.result_text.specs.declared.file.Totals.{Totals}
 use Rattle.result_text.specs.declared.file.ResultFile.{ResultFile}
-use Rattle.result_text.specs.Numbering.{ratio_line}
+use Rattle.result_text.specs.Numbering.{ratio_line, last_line}
 use Rattle.result_rules.specs.declared.rule.Rule.{Rule}
 use Rattle.result_rules.specs.declared.rule.Rule.TheVariants.{RatioBounded, PathsCleaned, PathsDistinct, LostRefuted, EdgesListed}
 use Rattle.result_rules.specs.declared.rule.Rule.TheVariants.{KeptValleyFree, SupportCounted, OrdersShown, MarksBorneOut, TotalsRight}
 use Rattle.result_rules.specs.Totals.{totals_by}
-use Rattle.result_rules.specs.File.{its_paths, kept_before, its_kept, its_claims, its_edges, its_labels, shown_orders, its_probes, path_line, edge_line, why_line, open_line, last_line}
+use Rattle.result_rules.specs.File.{its_paths, kept_before, its_kept, its_claims, its_edges, its_labels, shown_orders, its_probes, path_line_number, edge_line_number, why_line_number, open_line}
 
 -- the number that a verdict names
-abbrev pub number_of : Rule → ℕ
-number_of RatioBounded = 1
-number_of PathsCleaned = 2
-number_of PathsDistinct = 3
-number_of LostRefuted = 4
-number_of EdgesListed = 5
-number_of KeptValleyFree = 6
-number_of SupportCounted = 7
-number_of OrdersShown = 8
-number_of MarksBorneOut = 9
-number_of TotalsRight = 10
+abbrev pub rule_number : Rule → ℕ
+rule_number RatioBounded = 1
+rule_number PathsCleaned = 2
+rule_number PathsDistinct = 3
+rule_number LostRefuted = 4
+rule_number EdgesListed = 5
+rule_number KeptValleyFree = 6
+rule_number SupportCounted = 7
+rule_number OrdersShown = 8
+rule_number MarksBorneOut = 9
+rule_number TotalsRight = 10
 
 -- ---- what the rules ask
 
@@ -53,8 +53,8 @@ IsLostRightly file k line =
     (walk : Walk) → line.fate ≡ Lost walk → Refutes (kept_before file k ++ (k + 1, line.path) ∷ []) walk
 
 -- a kept path is valley-free under the labels
-abbrev pub IsServed : ResultFile → PathLine → Type 0
-IsServed file line = line.fate ≡ Kept → ValleyFree (its_labels file) line.path
+abbrev pub IsServedIfKept : ResultFile → PathLine → Type 0
+IsServedIfKept file line = line.fate ≡ Kept → ValleyFree (its_labels file) line.path
 
 -- the support is the number of kept paths that hold the edge
 abbrev pub IsCounted : ResultFile → EdgeLine → Type 0
@@ -69,8 +69,8 @@ abbrev pub IsMarkedRightly : ResultFile → Claim → Type 0
 IsMarkedRightly file claim = IsBorneOut (paths_of (its_kept file)) (shown_orders file.whys) (its_probes file) claim
 
 -- an open line serves for an edge for which no earlier one serves
-abbrev pub IsServing : ResultFile → ℕ → ℕ × ℕ → Type 0
-IsServing file k probe = IsProbe (paths_of (its_kept file)) (its_claims file) (take k (its_probes file)) probe
+abbrev pub ServesNewEdge : ResultFile → ℕ → ℕ × ℕ → Type 0
+ServesNewEdge file k probe = IsProbe (paths_of (its_kept file)) (its_claims file) (take k (its_probes file)) probe
 
 -- what the last line has to say
 abbrev pub right_totals : ResultFile → Totals
@@ -102,7 +102,7 @@ AsksOfMarks file k = ForSome (its_claims file) k (IsMarkedRightly file)
 abbrev pub AsksOfProbes : ResultFile → ℕ → Type 0
 AsksOfProbes file k =
     let place = k - length file.edges in
-    length file.edges ≤ k → ForSome (its_probes file) place (IsServing file place)
+    length file.edges ≤ k → ForSome (its_probes file) place (ServesNewEdge file place)
 
 -- what a rule asks of the line in place k of these. An edge that is absent counts as a line behind the others
 abbrev pub Asks : ResultFile → Rule → ℕ → Type 0
@@ -111,7 +111,7 @@ Asks file PathsCleaned k = ForSome file.paths k (IsSound file k)
 Asks file PathsDistinct k = ForSome file.paths k (IsNew file k)
 Asks file LostRefuted k = ForSome file.paths k (IsLostRightly file k)
 Asks file EdgesListed k = slice_get (its_edges file) k ≡ slice_get (edges (its_paths file)) k
-Asks file KeptValleyFree k = ForSome file.paths k (IsServed file)
+Asks file KeptValleyFree k = ForSome file.paths k (IsServedIfKept file)
 Asks file SupportCounted k = ForSome file.edges k (IsCounted file)
 Asks file OrdersShown k = ForSome file.whys k (IsShown file k)
 Asks file MarksBorneOut k = AsksOfMarks file k × AsksOfProbes file k
@@ -120,14 +120,14 @@ Asks file TotalsRight k = file.totals ≡ right_totals file
 -- the number of that line in the file
 abbrev pub line_for : ResultFile → Rule → ℕ → ℕ
 line_for file RatioBounded k = ratio_line
-line_for file PathsCleaned k = path_line file k
-line_for file PathsDistinct k = path_line file k
-line_for file LostRefuted k = path_line file k
-line_for file EdgesListed k = edge_line file k
-line_for file KeptValleyFree k = path_line file k
-line_for file SupportCounted k = edge_line file k
-line_for file OrdersShown k = why_line file k
-line_for file MarksBorneOut k = if nat_lt k (length file.edges) then edge_line file k else open_line file (k - length file.edges)
+line_for file PathsCleaned k = path_line_number file k
+line_for file PathsDistinct k = path_line_number file k
+line_for file LostRefuted k = path_line_number file k
+line_for file EdgesListed k = edge_line_number file k
+line_for file KeptValleyFree k = path_line_number file k
+line_for file SupportCounted k = edge_line_number file k
+line_for file OrdersShown k = why_line_number file k
+line_for file MarksBorneOut k = if nat_lt k (length file.edges) then edge_line_number file k else open_line file (k - length file.edges)
 line_for file TotalsRight k = last_line file
 
 -- ---- verdicts
@@ -149,8 +149,8 @@ pub record BreaksFirst (file : ResultFile) (rule : Rule) (k : ℕ) : Type 0 wher
 -- the line and the number are those of the least rule that is broken
 pub record IsRefused (file : ResultFile) (line number : ℕ) : Type 0 where
   pub rule : Rule
-  pub named : number ≡ number_of rule
+  pub named : number ≡ rule_number rule
   pub place : ℕ
   pub numbered : line ≡ line_for file rule place
   pub first : BreaksFirst file rule place
-  pub earlier : (other : Rule) → number_of other < number_of rule → IsMet file other
+  pub earlier : (other : Rule) → rule_number other < rule_number rule → IsMet file other

@@ -1,6 +1,6 @@
 //! The rules on the file alone.
 ghost use Rattle.std.specs.Prelude.{◌≡◌};
-ghost use Rattle.result_rules.specs.Rules.{number_of};
+ghost use Rattle.result_rules.specs.Rules.{rule_number};
 
 /// The rules about the file alone, in the order in which they are tried.
 #[derive(Clone, Copy)]
@@ -30,7 +30,7 @@ pub enum Rule {
 impl Rule {
     /// The number that a verdict names.
     pub fn number(self) -> u8
-        ensures { result ≡ number_of self }
+        ensures { result ≡ rule_number self }
     {
         match self {
             Rule::RatioBounded => 1,

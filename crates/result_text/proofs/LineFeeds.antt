@@ -18,7 +18,7 @@ use Rattle.relationships.specs.declared.mark.Mark.{Mark}
 use Rattle.relationships.specs.declared.mark.Mark.TheVariants as mark
 use Rattle.result_text.specs.declared.line.Line.{Line}
 use Rattle.result_text.specs.declared.line.Line.TheVariants as line
-use Rattle.result_text.specs.Text.{fields, numbers, link, links, spaced, others, sets_name, cause_name, label_name, mark_name, path_fields, fields_of, line_text, text_of_lines}
+use Rattle.result_text.specs.Text.{fields, numbers_text, link, links, spaced, others, sets_name, cause_name, label_name, mark_name, path_fields, fields_of, line_text, text_of_lines}
 use Rattle.result_text.specs.Ranges.{AreU32, LinkFits, FateFits, LineFits}
 use Rattle.text_fields.specs.Fields.{IsU32, IsU64}
 use Rattle.result_text.specs.Grammar.{first_lines}
@@ -56,7 +56,7 @@ feedless_spaced : {X : Type 0} (F : X → Type 0) (s : X → List ℕ) (xs : Lis
 feedless_spaced F s [] h all = refl
 feedless_spaced F s (x ∷ xs) h all = feedless_append (s x) (others s xs) (h x all.0) (feedless_others F s xs h all.1)
 
-feedless_numbers : (ns : List ℕ) → AreU32 ns → feedless (numbers ns) ≡ true
+feedless_numbers : (ns : List ℕ) → AreU32 ns → feedless (numbers_text ns) ≡ true
 feedless_numbers ns all = feedless_spaced IsU32 decimal ns (λ n h. feedless_decimal n (omega arith)) all
 
 feedless_links : (ls : List Link) → AllByRecursion LinkFits ls → feedless (links ls) ≡ true

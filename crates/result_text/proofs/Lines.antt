@@ -17,10 +17,10 @@ use Rattle.relationships.specs.declared.mark.Mark.{Mark}
 use Rattle.relationships.specs.declared.mark.Mark.TheVariants as mark
 use Rattle.result_text.specs.declared.line.Line.{Line}
 use Rattle.result_text.specs.declared.line.Line.TheVariants as line
-use Rattle.result_text.specs.Text.{numbers, links, sets_name, cause_name, label_name, mark_name, line_text}
+use Rattle.result_text.specs.Text.{numbers_text, links, sets_name, cause_name, label_name, mark_name, line_text}
 use Rattle.result_text.specs.Ranges.{AreU32, LinkFits, WalkFits, LineFits}
 use Rattle.text_fields.specs.Fields.{IsU32, IsU64}
-use Rattle.result_text.specs.Reading.{list_at, link_at, name_at, sets_at, cause_at, label_at, mark_at, walk_from, walk_at, sets_line_at, ratio_at, aside_from, aside_at, kept_from, kept_at, lost_from, lost_at, edge_from, edge_at, why_at, probe_from, probe_at, end_from, end_at, version_at, outer_readers, line_readers, by_word, line_at}
+use Rattle.result_text.specs.Reading.{list_at, link_at, name_at, sets_at, cause_at, label_at, mark_at, walk_from, walk_at, sets_line_at, ratio_at, aside_from, aside_at, line_of_kept, kept_at, lost_from, lost_at, edge_from, edge_line_at, why_at, probe_from, probe_at, end_from, end_at, version_at, outer_readers, line_readers, by_word, line_at}
 use Rattle.text_fields.specs.Reading.{u64_at, u32_at, before, both}
 use Rattle.result_text.proofs.Lists.{EndsList, numbers_reads, links_reads}
 use Rattle.text_fields.proofs.Readers.{some_is, on_word_takes, Reads, ReadsAs, before_reads, both_reads, mapped_reads, NoDigit, u64_reads, u32_reads}
@@ -42,11 +42,11 @@ u32_bar = before_reads ℕ IsU32 decimal NoDigit u32_at 124 u32_reads (λ rest. 
 u32_end : Reads ℕ IsU32 (with decimal 10) (before 10 u32_at)
 u32_end = before_reads ℕ IsU32 decimal NoDigit u32_at 10 u32_reads (λ rest. refl)
 
-numbers_bar : Reads (List ℕ) AreU32 (with numbers 124) (before 124 (list_at u32_at))
-numbers_bar = before_reads (List ℕ) AreU32 numbers EndsList (list_at u32_at) 124 numbers_reads (λ rest. (refl, refl, refl))
+numbers_bar : Reads (List ℕ) AreU32 (with numbers_text 124) (before 124 (list_at u32_at))
+numbers_bar = before_reads (List ℕ) AreU32 numbers_text EndsList (list_at u32_at) 124 numbers_reads (λ rest. (refl, refl, refl))
 
-numbers_end : Reads (List ℕ) AreU32 (with numbers 10) (before 10 (list_at u32_at))
-numbers_end = before_reads (List ℕ) AreU32 numbers EndsList (list_at u32_at) 10 numbers_reads (λ rest. (refl, refl, refl))
+numbers_end : Reads (List ℕ) AreU32 (with numbers_text 10) (before 10 (list_at u32_at))
+numbers_end = before_reads (List ℕ) AreU32 numbers_text EndsList (list_at u32_at) 10 numbers_reads (λ rest. (refl, refl, refl))
 
 links_end : Reads (List Link) (AllByRecursion LinkFits) (with links 10) (before 10 (list_at link_at))
 links_end = before_reads (List Link) (AllByRecursion LinkFits) links EndsList (list_at link_at) 10 links_reads (λ rest. (refl, refl, refl))
@@ -125,13 +125,13 @@ mark_reads = record { takes = λ bytes x e. (tt, mark_takes bytes x e); again = 
 -- ---- walks
 
 abbrev walk_text : Walk → List ℕ
-walk_text w = with numbers 124 w.ases ++ with links 10 w.links
+walk_text w = with numbers_text 124 w.ases ++ with links 10 w.links
 
 walk_reads : Reads Walk WalkFits walk_text walk_at
 unfolding walk_at
 walk_reads =
-    let parts = both_reads (List ℕ) (List Link) AreU32 (AllByRecursion LinkFits) (with numbers 124) (with links 10) (before 124 (list_at u32_at)) (before 10 (list_at link_at)) numbers_bar links_end in
-    let whole = mapped_reads (List ℕ × List Link) Walk (λ z. AreU32 z.0 × AllByRecursion LinkFits z.1) (λ z. with numbers 124 z.0 ++ with links 10 z.1)
+    let parts = both_reads (List ℕ) (List Link) AreU32 (AllByRecursion LinkFits) (with numbers_text 124) (with links 10) (before 124 (list_at u32_at)) (before 10 (list_at link_at)) numbers_bar links_end in
+    let whole = mapped_reads (List ℕ × List Link) Walk (λ z. AreU32 z.0 × AllByRecursion LinkFits z.1) (λ z. with numbers_text 124 z.0 ++ with links 10 z.1)
     (both (before 124 (list_at u32_at)) (before 10 (list_at link_at))) walk_from parts in
     record {
       takes = λ bytes w e.
@@ -186,32 +186,32 @@ aside_line =
       fits = λ z h. h.1;
     }
 
-kept_line : ReadsLine (ℕ × List ℕ) (codes "kept|") kept_from (Both IsU64 AreU32) (then (with decimal 124) (with numbers 10)) kept_at
+kept_line : ReadsLine (ℕ × List ℕ) (codes "kept|") line_of_kept (Both IsU64 AreU32) (then (with decimal 124) (with numbers_text 10)) kept_at
 unfolding kept_at line_text
 kept_line =
-    let parts = both_reads ℕ (List ℕ) IsU64 AreU32 (with decimal 124) (with numbers 10) (before 124 u64_at) (before 10 (list_at u32_at)) u64_bar numbers_end in
+    let parts = both_reads ℕ (List ℕ) IsU64 AreU32 (with decimal 124) (with numbers_text 10) (before 124 u64_at) (before 10 (list_at u32_at)) u64_bar numbers_end in
     record {
-      reads = mapped_reads (ℕ × List ℕ) Line (Both IsU64 AreU32) (then (with decimal 124) (with numbers 10)) (both (before 124 u64_at) (before 10 (list_at u32_at))) kept_from parts;
+      reads = mapped_reads (ℕ × List ℕ) Line (Both IsU64 AreU32) (then (with decimal 124) (with numbers_text 10)) (both (before 124 u64_at) (before 10 (list_at u32_at))) line_of_kept parts;
       text = λ z. simp append_assoc;
       fits = λ z h. (h.0, h.1, tt);
     }
 
-lost_line : ReadsLine (ℕ × (List ℕ × Walk)) (codes "lost|") lost_from (Both IsU64 (Both AreU32 WalkFits)) (then (with decimal 124) (then (with numbers 124) walk_text)) lost_at
+lost_line : ReadsLine (ℕ × (List ℕ × Walk)) (codes "lost|") lost_from (Both IsU64 (Both AreU32 WalkFits)) (then (with decimal 124) (then (with numbers_text 124) walk_text)) lost_at
 unfolding lost_at line_text
 lost_line =
-    let second = both_reads (List ℕ) Walk AreU32 WalkFits (with numbers 124) walk_text (before 124 (list_at u32_at)) walk_at numbers_bar walk_reads in
-    let parts = both_reads ℕ (List ℕ × Walk) IsU64 (Both AreU32 WalkFits) (with decimal 124) (then (with numbers 124) walk_text) (before 124 u64_at)
+    let second = both_reads (List ℕ) Walk AreU32 WalkFits (with numbers_text 124) walk_text (before 124 (list_at u32_at)) walk_at numbers_bar walk_reads in
+    let parts = both_reads ℕ (List ℕ × Walk) IsU64 (Both AreU32 WalkFits) (with decimal 124) (then (with numbers_text 124) walk_text) (before 124 u64_at)
     (both (before 124 (list_at u32_at)) walk_at) u64_bar second in
     record {
-      reads = mapped_reads (ℕ × (List ℕ × Walk)) Line (Both IsU64 (Both AreU32 WalkFits)) (then (with decimal 124) (then (with numbers 124) walk_text))
+      reads = mapped_reads (ℕ × (List ℕ × Walk)) Line (Both IsU64 (Both AreU32 WalkFits)) (then (with decimal 124) (then (with numbers_text 124) walk_text))
           (both (before 124 u64_at) (both (before 124 (list_at u32_at)) walk_at)) lost_from parts;
       text = λ z. simp append_assoc;
       fits = λ z h. (h.0, h.1.0, h.1.1);
     }
 
 edge_line : ReadsLine (ℕ × (ℕ × (Label × (Mark × ℕ)))) (codes "edge|") edge_from (Both IsU32 (Both IsU32 (Both Any (Both Any IsU64))))
-    (then (with decimal 124) (then (with decimal 124) (then (with label_name 124) (then (with mark_name 124) (with decimal 10))))) edge_at
-unfolding edge_at line_text
+    (then (with decimal 124) (then (with decimal 124) (then (with label_name 124) (then (with mark_name 124) (with decimal 10))))) edge_line_at
+unfolding edge_line_at line_text
 edge_line =
     let r4 = both_reads Mark ℕ Any IsU64 (with mark_name 124) (with decimal 10) mark_at (before 10 u64_at) mark_reads u64_end in
     let r3 = both_reads Label (Mark × ℕ) Any (Both Any IsU64) (with label_name 124) (then (with mark_name 124) (with decimal 10)) label_at (both mark_at (before 10 u64_at)) label_reads r4 in

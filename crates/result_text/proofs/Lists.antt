@@ -7,7 +7,7 @@ use Rattle.std.proofs.lemmas.List.{length-append}
 use Rattle.relationships.specs.declared.walk.Link.{Link}
 use Rattle.result_text.specs.Ranges.{LinkFits}
 use Rattle.text_fields.specs.Fields.{IsU32}
-use Rattle.result_text.specs.Text.{numbers, link, links, spaced, others}
+use Rattle.result_text.specs.Text.{numbers_text, link, links, spaced, others}
 use Rattle.result_text.specs.Reading.{others_at, with_prefix, field_ends, list_at, link_from, link_at}
 use Rattle.text_fields.specs.Reading.{◌>>=◌, word_at, u32_at, before, both, mapped}
 use Rattle.text_fields.proofs.Readers.{bind_some, some_is, on_word_takes, on_word_none, ReadsOpen, before_reads, both_open, starts_with_digit, NoDigit, digit_range, chosen, u32_reads, first_digit}
@@ -136,7 +136,7 @@ link_member = record {
       ∙ digit_goes_on (decimal l.path ++ (58 ∷ decimal l.at ++ rest)) (first_digit l.path (58 ∷ decimal l.at ++ rest) (omega (arith, fits.0)));
 }
 
-pub numbers_reads : ReadsOpen (List ℕ) (AllByRecursion IsU32) numbers EndsList (list_at u32_at)
+pub numbers_reads : ReadsOpen (List ℕ) (AllByRecursion IsU32) numbers_text EndsList (list_at u32_at)
 numbers_reads = list_reads ℕ IsU32 decimal u32_at u32_member
 
 pub links_reads : ReadsOpen (List Link) (AllByRecursion LinkFits) links EndsList (list_at link_at)

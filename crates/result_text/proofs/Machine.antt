@@ -5,7 +5,7 @@ use Rattle.std.proofs.lemmas.Bool.{eqb-true}
 use Rattle.std.proofs.lemmas.List.{append-nil, map_push}
 use Rattle.path_clean.specs.declared.cleaned.Cause.{Cause}
 use Rattle.path_clean.specs.declared.cleaned.Cause.TheVariants as cause
-use Rattle.path_clean.specs.Counts.{Counts}
+use Rattle.path_clean.specs.Counts.{CauseCounts}
 use Rattle.result_text.specs.declared.file.ResultFile.{ResultFile}
 use Rattle.result_text.specs.declared.file.PathLine.{PathLine}
 use Rattle.result_text.specs.declared.file.EdgeLine.{EdgeLine}
@@ -19,7 +19,7 @@ use Rattle.result_text.specs.declared.draft.Section.{Section}
 use Rattle.result_text.specs.declared.draft.Section.TheVariants as section
 use Rattle.result_text.specs.Text.{head_lines, body_lines, lines_of}
 use Rattle.text_fields.specs.Reading.{◌>>=◌}
-use Rattle.result_text.specs.Order.{cause_index, is_head, after_head, takes_path, takes_edge, takes_why, takes_probe, pass_head, step, start, file_of}
+use Rattle.result_text.specs.Order.{cause_index, is_head, after_head, takes_path, takes_edge, takes_why, takes_probe, pass_head, step, empty_draft, file_of}
 use Rattle.text_fields.proofs.Readers.{some_is, if_some}
 
 -- the lines one after the other
@@ -37,7 +37,7 @@ run_append d (l ∷ ls) ms = by_step (λ e. run_append e ls ms) (step d l)
 
 -- ---- each result is read to its end
 
-abbrev pub listed : Counts → List ℕ
+abbrev pub listed : CauseCounts → List ℕ
 listed c = c.no_path ∷ c.bad_segments ∷ c.confed ∷ c.sets ∷ c.reserved ∷ c.loop ∷ c.short ∷ []
 
 -- the draft of a result that is read
@@ -115,11 +115,11 @@ headed f = record {
   totals = record { kept = 0; lost = 0; edges = 0; forced = 0; peers = 0 };
 }
 
-head_run : (f : ResultFile) (more : List Line) → run start (head_lines f ++ more) ≡ run (headed f) more
+head_run : (f : ResultFile) (more : List Line) → run empty_draft (head_lines f ++ more) ≡ run (headed f) more
 unfolding headed
 head_run f more = refl
 
-pub runs_to_end : (f : ResultFile) → run start (lines_of f) ≡ Some (done f)
+pub runs_to_end : (f : ResultFile) → run empty_draft (lines_of f) ≡ Some (done f)
 unfolding headed
 runs_to_end f =
     let d0 = headed f in

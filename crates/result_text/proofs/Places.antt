@@ -7,14 +7,14 @@ use Rattle.std.proofs.lemmas.List.Concat.{flat_map-append}
 use Rattle.std.proofs.lemmas.Option.{slice_get-map}
 use Rattle.path_clean.specs.declared.cleaned.Cause.{Cause}
 use Rattle.path_clean.specs.declared.cleaned.Cause.TheVariants as cause
-use Rattle.path_clean.specs.Counts.{count_of}
+use Rattle.path_clean.specs.Counts.{cause_count}
 use Rattle.result_text.specs.declared.file.ResultFile.{ResultFile}
 use Rattle.result_text.specs.declared.line.Line.{Line}
 use Rattle.result_text.specs.declared.line.Line.TheVariants as line
 use Rattle.result_text.specs.Text.{head_lines, body_lines, lines_of, line_text, text_of_lines, text}
 use Rattle.result_text.specs.Ranges.{LineFits, IsInRange}
 use Rattle.result_text.specs.Grammar.{first_lines}
-use Rattle.result_text.specs.Numbering.{IsLine, IsNumbered, LinesAreOfText, aside_line}
+use Rattle.result_text.specs.Numbering.{IsLineAt, IsNumbered, LinesAreOfText, aside_line}
 use Rattle.result_text.proofs.LineFeeds.{lines_first}
 use Rattle.result_text.proofs.Verdicts.{lines_fit, all_prefix}
 
@@ -41,7 +41,7 @@ get_past f xs ys k = ap (λ (n : ℕ). slice_get (map f xs ++ ys) (n + k)) (sym 
 get_body : (file : ResultFile) (k : ℕ) → slice_get (lines_of file) (10 + k) ≡ slice_get (body_lines file) k
 get_body file k = get_right (head_lines file) (body_lines file) k
 
-aside_is : (file : ResultFile) (c : Cause) → IsLine file (aside_line c) (line.Aside c (count_of c file.asides))
+aside_is : (file : ResultFile) (c : Cause) → IsLineAt file (aside_line c) (line.Aside c (cause_count c file.asides))
 aside_is file cause.NoPath = (3, refl, refl)
 aside_is file cause.BadSegments = (4, refl, refl)
 aside_is file cause.Confed = (5, refl, refl)

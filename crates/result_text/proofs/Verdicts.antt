@@ -19,7 +19,7 @@ use Rattle.text_fields.specs.Fields.{IsU64}
 use Rattle.result_text.specs.Grammar.{IsTextOf, IsText, BeginsText, first_lines, GoesWell, IsBadLine}
 use Rattle.result_text.specs.Reading.{line_at}
 use Rattle.text_fields.specs.Reading.{◌>>=◌}
-use Rattle.result_text.specs.Order.{cause_index, after_head, takes_path, takes_edge, takes_why, takes_probe, is_head, step, start, file_of, finished, next_at}
+use Rattle.result_text.specs.Order.{cause_index, after_head, takes_path, takes_edge, takes_why, takes_probe, is_head, step, empty_draft, file_of, finished, next_at}
 use Rattle.text_fields.proofs.Readers.{bind_some, some_is, if_some}
 use Rattle.result_text.proofs.Lines.{line_takes, line_again}
 use Rattle.result_text.proofs.Machine.{run, run_append, done, runs_to_end, sofar, no_sections, Placed, step_steps, seven_of}
@@ -106,10 +106,10 @@ pub record Reached (d : Draft) : Type 0 where
   pub seven : length d.counts ≡ 7
   pub placed : Placed d.section d
   pub in_range : IsInRange (file_of d)
-  pub ran : run start (sofar d) ≡ Some d
+  pub ran : run empty_draft (sofar d) ≡ Some d
   pub fit : AllByRecursion LineFits (sofar d)
 
-pub start_reached : Reached start
+pub start_reached : Reached empty_draft
 start_reached = record {
   seven = refl;
   placed = (refl, refl, refl, refl);
@@ -129,12 +129,12 @@ start_reached = record {
 pub step_reached : (d e : Draft) (l : Line) → Reached d → LineFits l → step d l ≡ Some e → Reached e × (sofar e ≡ sofar d ++ l ∷ [])
 step_reached d e l r h s =
     let t = step_steps d e l r.seven r.placed s in
-    let ran : run start (sofar d ++ l ∷ []) ≡ Some e = run_append start (sofar d) (l ∷ []) ∙ rw (r.ran, s) refl in (
+    let ran : run empty_draft (sofar d ++ l ∷ []) ≡ Some e = run_append empty_draft (sofar d) (l ∷ []) ∙ rw (r.ran, s) refl in (
       record {
         seven = t.seven;
         placed = t.placed;
         in_range = step_in_range d e l r.seven r.in_range h s;
-        ran = ap (run start) t.more ∙ ran;
+        ran = ap (run empty_draft) t.more ∙ ran;
         fit = subst (AllByRecursion LineFits) (sym t.more) (all_push LineFits (sofar d) l r.fit h);
       },
       t.more,
@@ -262,8 +262,8 @@ none_is_some x e = absurd cc
 -- a result whose lines begin with those so far goes on from the draft
 runs_on : (d : Draft) (f : ResultFile) (more : List Line) → Reached d → lines_of f ≡ sofar d ++ more → run d more ≡ Some (done f)
 runs_on d f more r e =
-    let whole : run start (sofar d ++ more) ≡ run d more = run_append start (sofar d) more ∙ rw r.ran refl in
-    sym whole ∙ ap (run start) (sym e) ∙ runs_to_end f
+    let whole : run empty_draft (sofar d ++ more) ≡ run d more = run_append empty_draft (sofar d) more ∙ rw r.ran refl in
+    sym whole ∙ ap (run empty_draft) (sym e) ∙ runs_to_end f
 
 no_step : (d : Draft) (rest after : List ℕ) (l : Line) (ms : List Line) (f : ResultFile) → Stops d rest → LineFits l → rest ≡ line_text l ++ after → run d (l ∷ ms) ≡ Some (done f) → ⊥
 no_step d rest after l ms f stops fits e runs =
@@ -338,7 +338,7 @@ one_value f g r s e =
     let fit = all_back LineFits (lines_of g) b.0 (subst (AllByRecursion LineFits) b.1 (lines_fit f r)) in
     let none : b.0 ≡ [] = no_lines b.0 fit b.2 in
     let same : lines_of f ≡ lines_of g = b.1 ∙ ap (λ (x : List Line). lines_of g ++ x) none ∙ append-nil (lines_of g) in
-    let ends : done f ≡ done g = some_is (done f) (done g) (sym (runs_to_end f) ∙ ap (run start) same ∙ runs_to_end g) in
+    let ends : done f ≡ done g = some_is (done f) (done g) (sym (runs_to_end f) ∙ ap (run empty_draft) same ∙ runs_to_end g) in
     ap file_of ends
   where
     no_lines : (ls : List Line) → AllByRecursion LineFits ls → text_of_lines ls ≡ [] → ls ≡ []
@@ -377,7 +377,7 @@ next_shorter d e rest after n =
     let r = line_takes rest (t.0, after) t.1 in
     omega (arith, ap length r.1, line_long t.0, length-append (line_text t.0) after)
 
-pub progress_starts : (bytes : List ℕ) → Progress start bytes bytes 0
+pub progress_starts : (bytes : List ℕ) → Progress empty_draft bytes bytes 0
 progress_starts bytes = record { reached = start_reached; encoded = refl; count = refl }
 
 pub progress_goes_on : (d e : Draft) (bytes rest after : List ℕ) (read : ℕ) → Progress d bytes rest read → next_at d rest ≡ Some (e, after) → Progress e bytes after (read + 1)

@@ -2,7 +2,7 @@
 -- walks and open lines of a result.
 use Rattle.std.specs.Prelude.{◌≡◌, ℕ, ◌+◌, ◌≤◌, List, length, take, Some, slice_get}
 use Rattle.path_clean.specs.declared.cleaned.Cause.{Cause}
-use Rattle.path_clean.specs.Counts.{count_of}
+use Rattle.path_clean.specs.Counts.{cause_count}
 use Rattle.relationships.specs.declared.walk.Walk.{Walk}
 use Rattle.result_text.specs.declared.file.PathLine.{PathLine}
 use Rattle.result_text.specs.declared.file.EdgeLine.{EdgeLine}
@@ -36,23 +36,23 @@ abbrev pub last_line : ResultFile → ℕ
 last_line file = 11 + length file.paths + length file.edges + length file.whys + length file.probes
 
 -- the line of this number
-abbrev pub IsLine : ResultFile → ℕ → Line → Type 0
-IsLine file number l = (place : ℕ) × (number ≡ place + 1) × (slice_get (lines_of file) place ≡ Some l)
+abbrev pub IsLineAt : ResultFile → ℕ → Line → Type 0
+IsLineAt file number l = (place : ℕ) × (number ≡ place + 1) × (slice_get (lines_of file) place ≡ Some l)
 
 -- each of these stands on the line that its own number has, from 1
 abbrev pub StandOn : {X : Type 0} → ResultFile → (ℕ → ℕ) → (X → Line) → List X → Type 0
 StandOn {X} file line_for line_with xs =
-    (place : ℕ) (x : X) → slice_get xs place ≡ Some x → IsLine file (line_for (place + 1)) (line_with x)
+    (place : ℕ) (x : X) → slice_get xs place ≡ Some x → IsLineAt file (line_for (place + 1)) (line_with x)
 
 -- the numbers above are those of the lines
 pub record IsNumbered (file : ResultFile) : Type 0 where
-  pub ratio : IsLine file ratio_line (line.Ratio file.ratio)
-  pub asides : (cause : Cause) → IsLine file (aside_line cause) (line.Aside cause (count_of cause file.asides))
+  pub ratio : IsLineAt file ratio_line (line.Ratio file.ratio)
+  pub asides : (cause : Cause) → IsLineAt file (aside_line cause) (line.Aside cause (cause_count cause file.asides))
   pub paths : StandOn file (path_line file) (λ (path : PathLine). line.Path path) file.paths
   pub edges : StandOn file (edge_line file) (λ (edge : EdgeLine). line.Edge edge) file.edges
   pub whys : StandOn file (why_line file) (λ (walk : Walk). line.Why walk) file.whys
   pub probes : StandOn file (probe_line file) (λ (probe : Probe). line.Probe probe) file.probes
-  pub last : IsLine file (last_line file) (line.End file.totals)
+  pub last : IsLineAt file (last_line file) (line.End file.totals)
   pub count : length (lines_of file) ≡ last_line file
 
 -- the first lines of the text, each with its line feed, are the texts of the first lines

@@ -69,8 +69,8 @@ abbrev pub Steps : {X : Type 0} → Result X LineError → Draft → Option Draf
 Steps (Ok x) new next = next ≡ Some new
 Steps (Err e) new next = Fails e next
 
-abbrev pub start : Draft
-start = record {
+abbrev pub empty_draft : Draft
+empty_draft = record {
   section = section.Head 0;
   sets = sets.Cut;
   ratio = 0;

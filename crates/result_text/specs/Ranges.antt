@@ -4,7 +4,7 @@ use Rattle.std.specs.List.{AllByRecursion}
 use Rattle.text_fields.specs.Fields.{IsU32, IsU64}
 use Rattle.relationships.specs.declared.walk.Link.{Link}
 use Rattle.relationships.specs.declared.walk.Walk.{Walk}
-use Rattle.path_clean.specs.Counts.{Counts}
+use Rattle.path_clean.specs.Counts.{CauseCounts}
 use Rattle.relationships.specs.declared.fate.Fate.{Fate}
 use Rattle.relationships.specs.declared.fate.Fate.TheVariants as fate
 use Rattle.result_text.specs.declared.file.PathLine.{PathLine}
@@ -40,7 +40,7 @@ ProbeFits p = IsU32 p.over × IsU32 p.under
 abbrev pub TotalsFit : Totals → Type 0
 TotalsFit t = IsU64 t.kept × IsU64 t.lost × IsU64 t.edges × IsU64 t.forced × IsU64 t.peers
 
-abbrev pub CountsFit : Counts → Type 0
+abbrev pub CountsFit : CauseCounts → Type 0
 CountsFit c = IsU64 c.no_path × IsU64 c.bad_segments × IsU64 c.confed × IsU64 c.sets × IsU64 c.reserved × IsU64 c.loop × IsU64 c.short
 
 abbrev pub LineFits : Line → Type 0

@@ -22,9 +22,9 @@ abbrev pub Fails : {Y : Type 0} → LineError → Option Y → Type 0
 Fails errors.NoMemory read = Unit {0}
 Fails errors.Bad read = read ≡ None
 
-abbrev pub Gives : {X Y : Type 0} → (X → Y) → Result X LineError → Option Y → Type 0
-Gives view (Ok x) read = read ≡ Some (view x)
-Gives view (Err e) read = Fails e read
+abbrev pub ReadsAs : {X Y : Type 0} → (X → Y) → Result X LineError → Option Y → Type 0
+ReadsAs view (Ok x) read = read ≡ Some (view x)
+ReadsAs view (Err e) read = Fails e read
 
 -- the first of the readers whose word is there, each beside its word
 abbrev pub by_word : {X : Type 0} → List (List ℕ × (List ℕ → Option X)) → List ℕ → Option X
@@ -104,11 +104,11 @@ walk_from x = record { ases = x.0; links = x.1 }
 unfoldable pub walk_at : List ℕ → Option (Walk × List ℕ)
 walk_at bytes = mapped walk_from (both (before 124 (list_at u32_at)) (before 10 (list_at link_at))) bytes
 
-abbrev pub kept_from : ℕ × List ℕ → Line
-kept_from x = line.Path (record { times = x.0; path = x.1; fate = fate.Kept })
+abbrev pub line_of_kept : ℕ × List ℕ → Line
+line_of_kept x = line.Path (record { times = x.0; path = x.1; fate = fate.Kept })
 
 unfoldable pub kept_at : List ℕ → Option (Line × List ℕ)
-kept_at bytes = mapped kept_from (both (before 124 u64_at) (before 10 (list_at u32_at))) bytes
+kept_at bytes = mapped line_of_kept (both (before 124 u64_at) (before 10 (list_at u32_at))) bytes
 
 abbrev pub lost_from : ℕ × (List ℕ × Walk) → Line
 lost_from x = line.Path (record { times = x.0; path = x.1.0; fate = fate.Lost x.1.1 })
@@ -119,8 +119,8 @@ lost_at bytes = mapped lost_from (both (before 124 u64_at) (both (before 124 (li
 abbrev pub edge_from : ℕ × (ℕ × (Label × (Mark × ℕ))) → Line
 edge_from x = line.Edge (record { low = x.0; high = x.1.0; label = x.1.1.0; mark = x.1.1.1.0; support = x.1.1.1.1 })
 
-unfoldable pub edge_at : List ℕ → Option (Line × List ℕ)
-edge_at bytes =
+unfoldable pub edge_line_at : List ℕ → Option (Line × List ℕ)
+edge_line_at bytes =
     mapped edge_from (both (before 124 u32_at) (both (before 124 u32_at) (both label_at (both mark_at (before 10 u64_at))))) bytes
 
 unfoldable pub why_at : List ℕ → Option (Line × List ℕ)
@@ -164,7 +164,7 @@ outer_readers =
 abbrev pub line_readers : List (List ℕ × (List ℕ → Option (Line × List ℕ)))
 line_readers =
     (codes "kept|", kept_at)
-    ∷ (codes "edge|", edge_at)
+    ∷ (codes "edge|", edge_line_at)
     ∷ (codes "why|", why_at)
     ∷ (codes "open|", probe_at)
     ∷ (codes "lost|", lost_at)

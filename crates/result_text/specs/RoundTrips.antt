@@ -13,5 +13,5 @@ abbrev pub PrintedLaw : Type 0
 PrintedLaw = (file : ResultFile) (bytes again : List ℕ) → IsTextOf file bytes → IsTextOf file again → again ≡ bytes
 
 -- no text has a bad line
-abbrev pub GoodLaw : Type 0
-GoodLaw = (bytes : List ℕ) (n : ℕ) → IsText bytes → IsBadLine n bytes → ⊥
+abbrev pub NoBadLineLaw : Type 0
+NoBadLineLaw = (bytes : List ℕ) (n : ℕ) → IsText bytes → IsBadLine n bytes → ⊥

@@ -10,7 +10,7 @@ use Rattle.path_clean.specs.declared.cleaned.Sets.{Sets}
 use Rattle.path_clean.specs.declared.cleaned.Sets.TheVariants as sets
 use Rattle.path_clean.specs.declared.cleaned.Cause.{Cause}
 use Rattle.path_clean.specs.declared.cleaned.Cause.TheVariants as cause
-use Rattle.path_clean.specs.Counts.{Counts}
+use Rattle.path_clean.specs.Counts.{CauseCounts}
 use Rattle.relationships.specs.declared.fate.Fate.{Fate}
 use Rattle.relationships.specs.declared.fate.Fate.TheVariants as fate
 use Rattle.relationships.specs.declared.mark.Mark.{Mark}
@@ -30,8 +30,8 @@ abbrev pub spaced : {X : Type 0} → (X → List ℕ) → List X → List ℕ
 spaced member [] = []
 spaced member (x ∷ xs) = member x ++ others member xs
 
-abbrev pub numbers : List ℕ → List ℕ
-numbers ns = spaced decimal ns
+abbrev pub numbers_text : List ℕ → List ℕ
+numbers_text ns = spaced decimal ns
 
 -- a path's number, a colon, and a place on it
 abbrev pub link : Link → List ℕ
@@ -65,8 +65,8 @@ mark_name mark.Open = codes "open"
 -- ---- lines
 
 abbrev pub path_fields : ℕ → List ℕ → Fate → List (List ℕ)
-path_fields times path fate.Kept = codes "kept" ∷ decimal times ∷ numbers path ∷ []
-path_fields times path (fate.Lost w) = codes "lost" ∷ decimal times ∷ numbers path ∷ numbers w.ases ∷ links w.links ∷ []
+path_fields times path fate.Kept = codes "kept" ∷ decimal times ∷ numbers_text path ∷ []
+path_fields times path (fate.Lost w) = codes "lost" ∷ decimal times ∷ numbers_text path ∷ numbers_text w.ases ∷ links w.links ∷ []
 
 abbrev pub fields_of : Line → List (List ℕ)
 fields_of line.Version = codes "tor" ∷ codes "1" ∷ []
@@ -75,7 +75,7 @@ fields_of (line.Ratio n) = codes "ratio" ∷ decimal n ∷ []
 fields_of (line.Aside c n) = codes "aside" ∷ cause_name c ∷ decimal n ∷ []
 fields_of (line.Path p) = path_fields p.times p.path p.fate
 fields_of (line.Edge e) = codes "edge" ∷ decimal e.low ∷ decimal e.high ∷ label_name e.label ∷ mark_name e.mark ∷ decimal e.support ∷ []
-fields_of (line.Why w) = codes "why" ∷ numbers w.ases ∷ links w.links ∷ []
+fields_of (line.Why w) = codes "why" ∷ numbers_text w.ases ∷ links w.links ∷ []
 fields_of (line.Probe p) = codes "open" ∷ decimal p.over ∷ decimal p.under ∷ []
 fields_of (line.End t) = codes "end" ∷ decimal t.kept ∷ decimal t.lost ∷ decimal t.edges ∷ decimal t.forced ∷ decimal t.peers ∷ []
 
@@ -85,7 +85,7 @@ line_text l = fields (fields_of l) ++ 10 ∷ []
 
 -- ---- the whole
 
-abbrev pub aside_lines : Counts → List Line
+abbrev pub aside_lines : CauseCounts → List Line
 aside_lines c =
     line.Aside cause.NoPath c.no_path
     ∷ line.Aside cause.BadSegments c.bad_segments

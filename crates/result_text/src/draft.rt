@@ -1,8 +1,8 @@
 //! A result that is read line by line.
 ghost use Rattle.std.specs.Prelude.{◌≡◌, ◌<◌};
 ghost use Rattle.result_text.specs.declared.line.Line.TheVariants as line;
-ghost use Rattle.result_text.specs.Reading.{kept_from, lost_from};
-ghost use Rattle.result_text.specs.Order.{cause_index, is_head, after_head, takes_path, takes_edge, takes_why, takes_probe, pass_head, step, Steps, start, finished};
+ghost use Rattle.result_text.specs.Reading.{line_of_kept, lost_from};
+ghost use Rattle.result_text.specs.Order.{cause_index, is_head, after_head, takes_path, takes_edge, takes_why, takes_probe, pass_head, step, Steps, empty_draft, finished};
 
 use crate::error::LineError;
 use crate::file::{EdgeLine, ResultFile, Totals};
@@ -127,7 +127,7 @@ impl Section {
 impl Draft {
     /// Nothing is read. It takes no memory.
     pub fn new(alloc: Global) -> Draft
-        ensures { result ≡ start }
+        ensures { result ≡ empty_draft }
     {
         Draft {
             section: Section::Head(0),
@@ -197,7 +197,7 @@ impl Draft {
 
     /// Adds the line of a kept path.
     pub fn add_kept(&mut self, times: u64, path: &[u32]) -> Result<(), LineError>
-        ensures { Steps result self.new (step self.old (kept_from (times, path.now))) }
+        ensures { Steps result self.new (step self.old (line_of_kept (times, path.now))) }
     {
         if !self.section.takes_path() {
             return Err(LineError::Bad);

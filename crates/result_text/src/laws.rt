@@ -4,7 +4,7 @@ ghost use Rattle.std.specs.Prelude.{◌≡◌};
 ghost use Rattle.result_text.specs.declared.file.ResultFile.{ResultFile};
 ghost use Rattle.result_text.specs.Numbering.{IsNumbered, LinesAreOfText};
 ghost use Rattle.result_text.specs.Ranges.{IsInRange};
-ghost use Rattle.result_text.specs.RoundTrips.{ReadLaw, PrintedLaw, GoodLaw};
+ghost use Rattle.result_text.specs.RoundTrips.{ReadLaw, PrintedLaw, NoBadLineLaw};
 ghost use Rattle.result_text.specs.Text.{text};
 
 /// Each text has one value.
@@ -22,5 +22,5 @@ pub fn line_numbers()
 pub fn round_trip_law()
     ensures read { ReadLaw }
     ensures printed { PrintedLaw }
-    ensures good { GoodLaw }
+    ensures good { NoBadLineLaw }
 {}

@@ -2,12 +2,12 @@
 
 ghost use Rattle.std.specs.Prelude.{◌≡◌};
 ghost use Rattle.relationships.specs.Flat.{walk_with};
-ghost use Rattle.result_text.specs.Reading.{Gives, sets_at, cause_at, label_at, mark_at, walk_at, aside_at, aside_from, kept_at, kept_from, lost_at, lost_from, edge_at, probe_at, end_at};
+ghost use Rattle.result_text.specs.Reading.{ReadsAs, sets_at, cause_at, label_at, mark_at, walk_at, aside_at, aside_from, kept_at, line_of_kept, lost_at, lost_from, edge_line_at, probe_at, end_at};
 ghost use Rattle.result_text.specs.declared.line.Line.TheVariants as line;
 
 use crate::error::LineError;
 use crate::file::{EdgeLine, Totals};
-use crate::reading::{links_before, numbers_before, u32_before, u64_before};
+use crate::reading::{links_before, numbers_before, read_u32, read_u64};
 use path_clean::{Cause, Sets};
 use relationships::{Label, Link, Mark, Probe};
 use text_fields::after;
@@ -15,8 +15,8 @@ use tor_arena::List;
 
 /// How sets were treated, and the line feed.
 #[tactic(auto, unfolding(crate::specs::Reading::sets_at))]
-pub fn sets_of(bytes: &[u8]) -> Result<(Sets, &[u8]), LineError>
-    ensures { Gives (λ x. (x.0, x.1.now)) result (sets_at bytes.now) }
+pub fn read_sets(bytes: &[u8]) -> Result<(Sets, &[u8]), LineError>
+    ensures { ReadsAs (λ x. (x.0, x.1.now)) result (sets_at bytes.now) }
 {
     if let Some(rest) = after(b"cut\n", bytes) {
         Ok((Sets::Cut, rest))
@@ -30,7 +30,7 @@ pub fn sets_of(bytes: &[u8]) -> Result<(Sets, &[u8]), LineError>
 // A cause, and the bar behind it.
 #[tactic(auto, unfolding(crate::specs::Reading::cause_at))]
 fn cause_of(bytes: &[u8]) -> Result<(Cause, &[u8]), LineError>
-    ensures { Gives (λ x. (x.0, x.1.now)) result (cause_at bytes.now) }
+    ensures { ReadsAs (λ x. (x.0, x.1.now)) result (cause_at bytes.now) }
 {
     if let Some(rest) = after(b"nopath|", bytes) {
         Ok((Cause::NoPath, rest))
@@ -54,7 +54,7 @@ fn cause_of(bytes: &[u8]) -> Result<(Cause, &[u8]), LineError>
 // A label, and the bar behind it.
 #[tactic(auto, unfolding(crate::specs::Reading::label_at))]
 fn label_of(bytes: &[u8]) -> Result<(Label, &[u8]), LineError>
-    ensures { Gives (λ x. (x.0, x.1.now)) result (label_at bytes.now) }
+    ensures { ReadsAs (λ x. (x.0, x.1.now)) result (label_at bytes.now) }
 {
     if let Some(rest) = after(b"low|", bytes) {
         Ok((Label::Low, rest))
@@ -70,7 +70,7 @@ fn label_of(bytes: &[u8]) -> Result<(Label, &[u8]), LineError>
 // A mark, and the bar behind it.
 #[tactic(auto, unfolding(crate::specs::Reading::mark_at))]
 fn mark_of(bytes: &[u8]) -> Result<(Mark, &[u8]), LineError>
-    ensures { Gives (λ x. (x.0, x.1.now)) result (mark_at bytes.now) }
+    ensures { ReadsAs (λ x. (x.0, x.1.now)) result (mark_at bytes.now) }
 {
     if let Some(rest) = after(b"forced|", bytes) {
         Ok((Mark::Forced, rest))
@@ -83,12 +83,12 @@ fn mark_of(bytes: &[u8]) -> Result<(Mark, &[u8]), LineError>
 
 /// A walk as the two last fields of a line.
 #[tactic(auto, unfolding(crate::specs::Reading::walk_at))]
-pub fn walk_of<'a>(
+pub fn read_walk<'a>(
     ases: &mut List<u32>,
     links: &mut List<Link>,
     bytes: &'a [u8],
 ) -> Result<&'a [u8], LineError>
-    ensures { Gives (λ rest. (walk_with ases.new links.new, rest.now)) result (walk_at bytes.now) }
+    ensures { ReadsAs (λ rest. (walk_with ases.new links.new, rest.now)) result (walk_at bytes.now) }
 {
     let rest = numbers_before(b'|', ases, bytes)?;
     links_before(b'\n', links, rest)
@@ -96,50 +96,50 @@ pub fn walk_of<'a>(
 
 /// The line of a cause.
 #[tactic(auto, unfolding(crate::specs::Reading::aside_at))]
-pub fn aside_of(bytes: &[u8]) -> Result<(Cause, u64, &[u8]), LineError>
-    ensures { Gives (λ x. (aside_from (x.0, x.1), x.2.now)) result (aside_at bytes.now) }
+pub fn read_aside(bytes: &[u8]) -> Result<(Cause, u64, &[u8]), LineError>
+    ensures { ReadsAs (λ x. (aside_from (x.0, x.1), x.2.now)) result (aside_at bytes.now) }
 {
     let (cause, rest) = cause_of(bytes)?;
-    let (count, rest) = u64_before(b'\n', rest)?;
+    let (count, rest) = read_u64(b'\n', rest)?;
     Ok((cause, count, rest))
 }
 
 /// The line of a kept path, and its times.
 #[tactic(auto, unfolding(crate::specs::Reading::kept_at))]
-pub fn kept_of<'a>(path: &mut List<u32>, bytes: &'a [u8]) -> Result<(u64, &'a [u8]), LineError>
-    ensures { Gives (λ x. (kept_from (x.0, path.new), x.1.now)) result (kept_at bytes.now) }
+pub fn read_kept<'a>(path: &mut List<u32>, bytes: &'a [u8]) -> Result<(u64, &'a [u8]), LineError>
+    ensures { ReadsAs (λ x. (line_of_kept (x.0, path.new), x.1.now)) result (kept_at bytes.now) }
 {
-    let (times, rest) = u64_before(b'|', bytes)?;
+    let (times, rest) = read_u64(b'|', bytes)?;
     let rest = numbers_before(b'\n', path, rest)?;
     Ok((times, rest))
 }
 
 /// The line of a lost path, and its times.
 #[tactic(auto, unfolding(crate::specs::Reading::lost_at))]
-pub fn lost_of<'a>(
+pub fn read_lost<'a>(
     path: &mut List<u32>,
     ases: &mut List<u32>,
     links: &mut List<Link>,
     bytes: &'a [u8],
 ) -> Result<(u64, &'a [u8]), LineError>
-    ensures { Gives (λ x. (lost_from (x.0, (path.new, walk_with ases.new links.new)), x.1.now)) result (lost_at bytes.now) }
+    ensures { ReadsAs (λ x. (lost_from (x.0, (path.new, walk_with ases.new links.new)), x.1.now)) result (lost_at bytes.now) }
 {
-    let (times, rest) = u64_before(b'|', bytes)?;
+    let (times, rest) = read_u64(b'|', bytes)?;
     let rest = numbers_before(b'|', path, rest)?;
-    let rest = walk_of(ases, links, rest)?;
+    let rest = read_walk(ases, links, rest)?;
     Ok((times, rest))
 }
 
 /// The line of an edge.
-#[tactic(auto, unfolding(crate::specs::Reading::edge_at))]
-pub fn edge_of(bytes: &[u8]) -> Result<(EdgeLine, &[u8]), LineError>
-    ensures { Gives (λ x. (line.Edge x.0, x.1.now)) result (edge_at bytes.now) }
+#[tactic(auto, unfolding(crate::specs::Reading::edge_line_at))]
+pub fn read_edge(bytes: &[u8]) -> Result<(EdgeLine, &[u8]), LineError>
+    ensures { ReadsAs (λ x. (line.Edge x.0, x.1.now)) result (edge_line_at bytes.now) }
 {
-    let (low, rest) = u32_before(b'|', bytes)?;
-    let (high, rest) = u32_before(b'|', rest)?;
+    let (low, rest) = read_u32(b'|', bytes)?;
+    let (high, rest) = read_u32(b'|', rest)?;
     let (label, rest) = label_of(rest)?;
     let (mark, rest) = mark_of(rest)?;
-    let (support, rest) = u64_before(b'\n', rest)?;
+    let (support, rest) = read_u64(b'\n', rest)?;
     let edge = EdgeLine {
         low,
         high,
@@ -152,24 +152,24 @@ pub fn edge_of(bytes: &[u8]) -> Result<(EdgeLine, &[u8]), LineError>
 
 /// An open line.
 #[tactic(auto, unfolding(crate::specs::Reading::probe_at))]
-pub fn probe_of(bytes: &[u8]) -> Result<(Probe, &[u8]), LineError>
-    ensures { Gives (λ x. (line.Probe x.0, x.1.now)) result (probe_at bytes.now) }
+pub fn read_probe(bytes: &[u8]) -> Result<(Probe, &[u8]), LineError>
+    ensures { ReadsAs (λ x. (line.Probe x.0, x.1.now)) result (probe_at bytes.now) }
 {
-    let (over, rest) = u32_before(b'|', bytes)?;
-    let (under, rest) = u32_before(b'\n', rest)?;
+    let (over, rest) = read_u32(b'|', bytes)?;
+    let (under, rest) = read_u32(b'\n', rest)?;
     Ok((Probe { over, under }, rest))
 }
 
 /// The last line.
 #[tactic(auto, unfolding(crate::specs::Reading::end_at))]
-pub fn end_of(bytes: &[u8]) -> Result<(Totals, &[u8]), LineError>
-    ensures { Gives (λ x. (line.End x.0, x.1.now)) result (end_at bytes.now) }
+pub fn read_end(bytes: &[u8]) -> Result<(Totals, &[u8]), LineError>
+    ensures { ReadsAs (λ x. (line.End x.0, x.1.now)) result (end_at bytes.now) }
 {
-    let (kept, rest) = u64_before(b'|', bytes)?;
-    let (lost, rest) = u64_before(b'|', rest)?;
-    let (edges, rest) = u64_before(b'|', rest)?;
-    let (forced, rest) = u64_before(b'|', rest)?;
-    let (peers, rest) = u64_before(b'\n', rest)?;
+    let (kept, rest) = read_u64(b'|', bytes)?;
+    let (lost, rest) = read_u64(b'|', rest)?;
+    let (edges, rest) = read_u64(b'|', rest)?;
+    let (forced, rest) = read_u64(b'|', rest)?;
+    let (peers, rest) = read_u64(b'\n', rest)?;
     let totals = Totals {
         kept,
         lost,

@@ -1,14 +1,14 @@
 //! The line at the prefix of the bytes, read into the draft.
 
 ghost use Rattle.result_text.specs.Order.{with_line, next_at};
-ghost use Rattle.result_text.specs.Reading.{Gives, by_word, outer_readers, sets_line_at, ratio_at, aside_at, kept_at, lost_at, edge_at, why_at, probe_at, end_at, version_at};
+ghost use Rattle.result_text.specs.Reading.{ReadsAs, by_word, outer_readers, sets_line_at, ratio_at, aside_at, kept_at, lost_at, edge_line_at, why_at, probe_at, end_at, version_at};
 
 use crate::draft::Draft;
 use crate::error::LineError;
 use crate::line_reading::{
-    aside_of, edge_of, end_of, kept_of, lost_of, probe_of, sets_of, walk_of,
+    read_aside, read_edge, read_end, read_kept, read_lost, read_probe, read_sets, read_walk,
 };
-use crate::reading::u32_before;
+use crate::reading::read_u32;
 use relationships::{Link, WalkRef};
 use std::alloc::Global;
 use text_fields::after;
@@ -35,7 +35,7 @@ impl Scratch {
 
 // Each function reads what stands behind the first word of a line, adds the line to the draft, and answers what stands behind it.
 fn next_version<'a>(draft: &mut Draft, bytes: &'a [u8]) -> Result<&'a [u8], LineError>
-    ensures { Gives (λ rest. (draft.new, rest.now)) result (with_line draft.old (version_at bytes.now)) }
+    ensures { ReadsAs (λ rest. (draft.new, rest.now)) result (with_line draft.old (version_at bytes.now)) }
 {
     draft.add_version()?;
     Ok(bytes)
@@ -43,26 +43,26 @@ fn next_version<'a>(draft: &mut Draft, bytes: &'a [u8]) -> Result<&'a [u8], Line
 
 #[tactic(auto, unfolding(crate::specs::Reading::sets_line_at))]
 fn next_sets<'a>(draft: &mut Draft, bytes: &'a [u8]) -> Result<&'a [u8], LineError>
-    ensures { Gives (λ rest. (draft.new, rest.now)) result (with_line draft.old (sets_line_at bytes.now)) }
+    ensures { ReadsAs (λ rest. (draft.new, rest.now)) result (with_line draft.old (sets_line_at bytes.now)) }
 {
-    let (sets, rest) = sets_of(bytes)?;
+    let (sets, rest) = read_sets(bytes)?;
     draft.add_sets(sets)?;
     Ok(rest)
 }
 
 #[tactic(auto, unfolding(crate::specs::Reading::ratio_at))]
 fn next_ratio<'a>(draft: &mut Draft, bytes: &'a [u8]) -> Result<&'a [u8], LineError>
-    ensures { Gives (λ rest. (draft.new, rest.now)) result (with_line draft.old (ratio_at bytes.now)) }
+    ensures { ReadsAs (λ rest. (draft.new, rest.now)) result (with_line draft.old (ratio_at bytes.now)) }
 {
-    let (ratio, rest) = u32_before(b'\n', bytes)?;
+    let (ratio, rest) = read_u32(b'\n', bytes)?;
     draft.add_ratio(ratio)?;
     Ok(rest)
 }
 
 fn next_aside<'a>(draft: &mut Draft, bytes: &'a [u8]) -> Result<&'a [u8], LineError>
-    ensures { Gives (λ rest. (draft.new, rest.now)) result (with_line draft.old (aside_at bytes.now)) }
+    ensures { ReadsAs (λ rest. (draft.new, rest.now)) result (with_line draft.old (aside_at bytes.now)) }
 {
-    let (cause, count, rest) = aside_of(bytes)?;
+    let (cause, count, rest) = read_aside(bytes)?;
     draft.add_aside(cause, count)?;
     Ok(rest)
 }
@@ -72,9 +72,9 @@ fn next_kept<'a>(
     scratch: &mut Scratch,
     bytes: &'a [u8],
 ) -> Result<&'a [u8], LineError>
-    ensures { Gives (λ rest. (draft.new, rest.now)) result (with_line draft.old (kept_at bytes.now)) }
+    ensures { ReadsAs (λ rest. (draft.new, rest.now)) result (with_line draft.old (kept_at bytes.now)) }
 {
-    let (times, rest) = kept_of(&mut scratch.path, bytes)?;
+    let (times, rest) = read_kept(&mut scratch.path, bytes)?;
     draft.add_kept(times, scratch.path.as_slice())?;
     Ok(rest)
 }
@@ -84,19 +84,19 @@ fn next_lost<'a>(
     scratch: &mut Scratch,
     bytes: &'a [u8],
 ) -> Result<&'a [u8], LineError>
-    ensures { Gives (λ rest. (draft.new, rest.now)) result (with_line draft.old (lost_at bytes.now)) }
+    ensures { ReadsAs (λ rest. (draft.new, rest.now)) result (with_line draft.old (lost_at bytes.now)) }
 {
     let Scratch { path, ases, links } = scratch;
-    let (times, rest) = lost_of(path, ases, links, bytes)?;
+    let (times, rest) = read_lost(path, ases, links, bytes)?;
     let walk = WalkRef::new(ases.as_slice(), links.as_slice());
     draft.add_lost(times, path.as_slice(), &walk)?;
     Ok(rest)
 }
 
 fn next_edge<'a>(draft: &mut Draft, bytes: &'a [u8]) -> Result<&'a [u8], LineError>
-    ensures { Gives (λ rest. (draft.new, rest.now)) result (with_line draft.old (edge_at bytes.now)) }
+    ensures { ReadsAs (λ rest. (draft.new, rest.now)) result (with_line draft.old (edge_line_at bytes.now)) }
 {
-    let (edge, rest) = edge_of(bytes)?;
+    let (edge, rest) = read_edge(bytes)?;
     draft.add_edge(edge)?;
     Ok(rest)
 }
@@ -107,27 +107,27 @@ fn next_why<'a>(
     scratch: &mut Scratch,
     bytes: &'a [u8],
 ) -> Result<&'a [u8], LineError>
-    ensures { Gives (λ rest. (draft.new, rest.now)) result (with_line draft.old (why_at bytes.now)) }
+    ensures { ReadsAs (λ rest. (draft.new, rest.now)) result (with_line draft.old (why_at bytes.now)) }
 {
     let Scratch { ases, links, .. } = scratch;
-    let rest = walk_of(ases, links, bytes)?;
+    let rest = read_walk(ases, links, bytes)?;
     let walk = WalkRef::new(ases.as_slice(), links.as_slice());
     draft.add_why(&walk)?;
     Ok(rest)
 }
 
 fn next_probe<'a>(draft: &mut Draft, bytes: &'a [u8]) -> Result<&'a [u8], LineError>
-    ensures { Gives (λ rest. (draft.new, rest.now)) result (with_line draft.old (probe_at bytes.now)) }
+    ensures { ReadsAs (λ rest. (draft.new, rest.now)) result (with_line draft.old (probe_at bytes.now)) }
 {
-    let (probe, rest) = probe_of(bytes)?;
+    let (probe, rest) = read_probe(bytes)?;
     draft.add_probe(probe)?;
     Ok(rest)
 }
 
 fn next_end<'a>(draft: &mut Draft, bytes: &'a [u8]) -> Result<&'a [u8], LineError>
-    ensures { Gives (λ rest. (draft.new, rest.now)) result (with_line draft.old (end_at bytes.now)) }
+    ensures { ReadsAs (λ rest. (draft.new, rest.now)) result (with_line draft.old (end_at bytes.now)) }
 {
-    let (totals, rest) = end_of(bytes)?;
+    let (totals, rest) = read_end(bytes)?;
     draft.add_end(totals)?;
     Ok(rest)
 }
@@ -139,7 +139,7 @@ pub fn next_line<'a>(
     scratch: &mut Scratch,
     bytes: &'a [u8],
 ) -> Result<&'a [u8], LineError>
-    ensures { Gives (λ rest. (draft.new, rest.now)) result (next_at draft.old bytes.now) }
+    ensures { ReadsAs (λ rest. (draft.new, rest.now)) result (next_at draft.old bytes.now) }
 {
     if let Some(rest) = after(b"kept|", bytes) {
         next_kept(draft, scratch, rest)
@@ -158,7 +158,7 @@ pub fn next_line<'a>(
 
 /// The same, where it is a line before the paths, or the last.
 fn next_outer<'a>(draft: &mut Draft, bytes: &'a [u8]) -> Result<&'a [u8], LineError>
-    ensures { Gives (λ rest. (draft.new, rest.now)) result (with_line draft.old (by_word outer_readers bytes.now)) }
+    ensures { ReadsAs (λ rest. (draft.new, rest.now)) result (with_line draft.old (by_word outer_readers bytes.now)) }
 {
     if let Some(rest) = after(b"aside|", bytes) {
         next_aside(draft, rest)

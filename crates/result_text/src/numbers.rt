@@ -4,7 +4,7 @@ ghost use Rattle.std.specs.Prelude.{◌≡◌, ◌++◌, OnOk};
 ghost use Rattle.std.specs.Fmt.{decimal};
 ghost use Rattle.std.specs.List.{AllByRecursion};
 ghost use Rattle.result_text.specs.Ranges.{AreU32, LinkFits};
-ghost use Rattle.result_text.specs.Text.{numbers, link, links, others};
+ghost use Rattle.result_text.specs.Text.{numbers_text, link, links, others};
 
 use relationships::Link;
 use text_fields::put_number;
@@ -23,7 +23,7 @@ fn put_other_numbers(out: &mut List<u8>, ns: &[u32]) -> Result<(), NoMemory>
 
 /// Puts the numbers at the end, joined by spaces.
 pub fn put_numbers(out: &mut List<u8>, ns: &[u32]) -> Result<(), NoMemory>
-    ensures encoded { OnOk result (out.new ≡ out.old ++ numbers ns.now) }
+    ensures encoded { OnOk result (out.new ≡ out.old ++ numbers_text ns.now) }
     ensures fits { OnOk result (AreU32 ns.now) }
 {
     match ns {

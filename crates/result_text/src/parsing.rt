@@ -1,7 +1,7 @@
 //! The reading of a text.
 ghost use Rattle.std.specs.Prelude.{◌≡◌, ◌+◌, ◌≤◌, length, IfOk, IfErr, MatchOption};
 ghost use Rattle.result_text.specs.Grammar.{IsTextOf, IsBadLine};
-ghost use Rattle.result_text.specs.Order.{start, finished};
+ghost use Rattle.result_text.specs.Order.{empty_draft, finished};
 ghost use Rattle.result_text.specs.Refusal.{Refuses};
 
 use crate::draft::Draft;
@@ -27,7 +27,7 @@ pub fn parse(alloc: Global, bytes: &[u8]) -> Result<ResultFile, ParseError>
 /// Reads the lines into a draft with nothing in it, and answers how many there are. Where the draft is finished then, the bytes are the
 /// text of its result; else the line behind the last is their bad line. Errors are those of `parse`.
 fn read_lines(alloc: Global, draft: &mut Draft, bytes: &[u8]) -> Result<u64, ParseError>
-    requires { draft.old ≡ start }
+    requires { draft.old ≡ empty_draft }
     ensures few { IfOk result (λ read. read ≤ length bytes.now) }
     ensures ended { IfOk result (λ read. MatchOption (finished draft.new) (IsBadLine (read + 1) bytes.now)
         (λ file. IsTextOf file bytes.now)) }

@@ -8,7 +8,7 @@ ghost use Rattle.result_text.specs.Grammar.{IsTextOf};
 ghost use Rattle.result_text.specs.PathLines.{line_with};
 ghost use Rattle.result_text.specs.Ranges.{CountsFit, LineFits, PathFits, EdgeFits, WalkFits, ProbeFits, TotalsFit};
 ghost use Rattle.text_fields.specs.Fields.{IsU32};
-ghost use Rattle.result_text.specs.Text.{text, text_of_lines, line_text, sets_name, cause_name, label_name, mark_name, numbers, links, aside_lines};
+ghost use Rattle.result_text.specs.Text.{text, text_of_lines, line_text, sets_name, cause_name, label_name, mark_name, numbers_text, links, aside_lines};
 
 use crate::file::{EdgeLine, ResultFile, Totals};
 use crate::numbers::{put_links, put_numbers};
@@ -94,7 +94,7 @@ pub fn put_asides(out: &mut List<u8>, asides: &Asides) -> Result<(), NoMemory>
 
 // A walk as two fields: its ASes, and its links.
 fn put_walk(out: &mut List<u8>, walk: &WalkRef<'_>) -> Result<(), NoMemory>
-    ensures encoded { OnOk result (out.new ≡ out.old ++ numbers walk.now.ases ++ 124 ∷ links walk.now.links) }
+    ensures encoded { OnOk result (out.new ≡ out.old ++ numbers_text walk.now.ases ++ 124 ∷ links walk.now.links) }
     ensures fits { OnOk result (WalkFits walk.now) }
 {
     put_numbers(out, walk.ases())?;

@@ -1,19 +1,19 @@
 //! Numbers and lists, read from the prefix of the bytes. Each reader answers the value and the bytes behind it.
 
 ghost use Rattle.std.specs.Prelude.{◌≡◌, ◌∷◌, [], length};
-ghost use Rattle.result_text.specs.Reading.{Gives, others_at, with_prefix, list_at, link_at, field_ends};
+ghost use Rattle.result_text.specs.Reading.{ReadsAs, others_at, with_prefix, list_at, link_at, field_ends};
 ghost use Rattle.text_fields.specs.Reading.{word_at, u64_at, u32_at, before};
 
 use crate::error::LineError;
 use relationships::Link;
-use text_fields::behind;
+use text_fields::after_byte;
 use tor_arena::List;
 
 // What stands behind this byte, where it has to stand there.
 fn past(byte: u8, bytes: &[u8]) -> Result<&[u8], LineError>
-    ensures { Gives (λ x. x.now) result (word_at (byte ∷ []) bytes.now) }
+    ensures { ReadsAs (λ x. x.now) result (word_at (byte ∷ []) bytes.now) }
 {
-    match behind(byte, bytes) {
+    match after_byte(byte, bytes) {
         Some(rest) => Ok(rest),
         None => Err(LineError::Bad),
     }
@@ -21,7 +21,7 @@ fn past(byte: u8, bytes: &[u8]) -> Result<&[u8], LineError>
 
 // A number below 2^32.
 fn u32_of(bytes: &[u8]) -> Result<(u32, &[u8]), LineError>
-    ensures { Gives (λ x. (x.0, x.1.now)) result (u32_at bytes.now) }
+    ensures { ReadsAs (λ x. (x.0, x.1.now)) result (u32_at bytes.now) }
 {
     match text_fields::u32_of(bytes) {
         Some(read) => Ok(read),
@@ -30,8 +30,8 @@ fn u32_of(bytes: &[u8]) -> Result<(u32, &[u8]), LineError>
 }
 
 /// A number, and behind it this byte.
-pub fn u64_before(byte: u8, bytes: &[u8]) -> Result<(u64, &[u8]), LineError>
-    ensures { Gives (λ x. (x.0, x.1.now)) result (before byte u64_at bytes.now) }
+pub fn read_u64(byte: u8, bytes: &[u8]) -> Result<(u64, &[u8]), LineError>
+    ensures { ReadsAs (λ x. (x.0, x.1.now)) result (before byte u64_at bytes.now) }
 {
     match text_fields::u64_before(byte, bytes) {
         Some(read) => Ok(read),
@@ -40,8 +40,8 @@ pub fn u64_before(byte: u8, bytes: &[u8]) -> Result<(u64, &[u8]), LineError>
 }
 
 /// A number below 2^32, and behind it this byte.
-pub fn u32_before(byte: u8, bytes: &[u8]) -> Result<(u32, &[u8]), LineError>
-    ensures { Gives (λ x. (x.0, x.1.now)) result (before byte u32_at bytes.now) }
+pub fn read_u32(byte: u8, bytes: &[u8]) -> Result<(u32, &[u8]), LineError>
+    ensures { ReadsAs (λ x. (x.0, x.1.now)) result (before byte u32_at bytes.now) }
 {
     match text_fields::u32_before(byte, bytes) {
         Some(read) => Ok(read),
@@ -61,11 +61,11 @@ fn field_ends(bytes: &[u8]) -> bool
 
 // Puts the numbers that follow, each behind a space, behind those that are there.
 fn other_numbers<'a>(numbers: &mut List<u32>, bytes: &'a [u8]) -> Result<&'a [u8], LineError>
-    ensures { Gives (λ rest. (numbers.new, rest.now)) result
+    ensures { ReadsAs (λ rest. (numbers.new, rest.now)) result
         (with_prefix numbers.old (others_at u32_at (length bytes.now) bytes.now)) }
 {
     let mut rest = bytes;
-    'members: while let Some(others) = behind(b' ', rest) {
+    'members: while let Some(others) = after_byte(b' ', rest) {
         let (number, after) = u32_of(others)?;
         numbers.push(number)?;
         rest = after;
@@ -76,7 +76,7 @@ fn other_numbers<'a>(numbers: &mut List<u32>, bytes: &'a [u8]) -> Result<&'a [u8
 // A list of numbers, in place of those that were there.
 #[tactic(auto, unfolding(crate::specs::Reading::list_at))]
 fn numbers_of<'a>(numbers: &mut List<u32>, bytes: &'a [u8]) -> Result<&'a [u8], LineError>
-    ensures { Gives (λ rest. (numbers.new, rest.now)) result (list_at u32_at bytes.now) }
+    ensures { ReadsAs (λ rest. (numbers.new, rest.now)) result (list_at u32_at bytes.now) }
 {
     numbers.clear();
     if field_ends(bytes) {
@@ -93,7 +93,7 @@ pub fn numbers_before<'a>(
     numbers: &mut List<u32>,
     bytes: &'a [u8],
 ) -> Result<&'a [u8], LineError>
-    ensures { Gives (λ rest. (numbers.new, rest.now)) result (before byte (list_at u32_at) bytes.now) }
+    ensures { ReadsAs (λ rest. (numbers.new, rest.now)) result (before byte (list_at u32_at) bytes.now) }
 {
     let rest = numbers_of(numbers, bytes)?;
     past(byte, rest)
@@ -102,20 +102,20 @@ pub fn numbers_before<'a>(
 // A link.
 #[tactic(auto, unfolding(crate::specs::Reading::link_at))]
 fn link_of(bytes: &[u8]) -> Result<(Link, &[u8]), LineError>
-    ensures { Gives (λ x. (x.0, x.1.now)) result (link_at bytes.now) }
+    ensures { ReadsAs (λ x. (x.0, x.1.now)) result (link_at bytes.now) }
 {
-    let (path, rest) = u32_before(b':', bytes)?;
+    let (path, rest) = read_u32(b':', bytes)?;
     let (at, rest) = u32_of(rest)?;
     Ok((Link { path, at }, rest))
 }
 
 // Puts the links that follow, each behind a space, behind those that are there.
 fn other_links<'a>(links: &mut List<Link>, bytes: &'a [u8]) -> Result<&'a [u8], LineError>
-    ensures { Gives (λ rest. (links.new, rest.now)) result
+    ensures { ReadsAs (λ rest. (links.new, rest.now)) result
         (with_prefix links.old (others_at link_at (length bytes.now) bytes.now)) }
 {
     let mut rest = bytes;
-    'members: while let Some(others) = behind(b' ', rest) {
+    'members: while let Some(others) = after_byte(b' ', rest) {
         let (link, after) = link_of(others)?;
         links.push(link)?;
         rest = after;
@@ -126,7 +126,7 @@ fn other_links<'a>(links: &mut List<Link>, bytes: &'a [u8]) -> Result<&'a [u8], 
 // A list of links, in place of those that were there.
 #[tactic(auto, unfolding(crate::specs::Reading::list_at))]
 fn links_of<'a>(links: &mut List<Link>, bytes: &'a [u8]) -> Result<&'a [u8], LineError>
-    ensures { Gives (λ rest. (links.new, rest.now)) result (list_at link_at bytes.now) }
+    ensures { ReadsAs (λ rest. (links.new, rest.now)) result (list_at link_at bytes.now) }
 {
     links.clear();
     if field_ends(bytes) {
@@ -143,7 +143,7 @@ pub fn links_before<'a>(
     links: &mut List<Link>,
     bytes: &'a [u8],
 ) -> Result<&'a [u8], LineError>
-    ensures { Gives (λ rest. (links.new, rest.now)) result (before byte (list_at link_at) bytes.now) }
+    ensures { ReadsAs (λ rest. (links.new, rest.now)) result (before byte (list_at link_at) bytes.now) }
 {
     let rest = links_of(links, bytes)?;
     past(byte, rest)

@@ -4,12 +4,12 @@ use Rattle.mrt_frame.specs.declared.record_kind.Family.{Family}
 use Rattle.mrt_frame.specs.Kinds.{address_octets}
 use Rattle.path_attrs.specs.declared.fault.RibFault.{RibFault}
 use Rattle.path_attrs.specs.declared.fault.RibFault.TheVariants.{Cut, Tail, PrefixLong, AttrCut}
-use Rattle.path_attrs.specs.Fields.{◌>>=◌, octets, number, check, or_fault}
+use Rattle.path_attrs.specs.Fields.{◌>>=◌, octets, number, fault_unless, or_fault}
 use Rattle.path_attrs.specs.Attributes.{Attribute, attributes_of}
 
 -- the octets behind the fields between the prefix and the attributes
-abbrev pub behind_peer : Family → List ℕ → Result (List ℕ) RibFault
-behind_peer family fields = do
+abbrev pub behind_route_fields : Family → List ℕ → Result (List ℕ) RibFault
+behind_route_fields family fields = do
   status ← octets Cut 1 fields
   originated ← octets Cut 4 status.1
   peer_ip ← octets Cut (address_octets family) originated.1
@@ -23,8 +23,8 @@ behind_fields family body = do
   sequence ← octets Cut 2 view.1
   prefix ← octets Cut (address_octets family) sequence.1
   prefix_length ← number Cut 1 prefix.1
-  fits ← check PrefixLong (nat_le prefix_length.0 (8 * address_octets family))
-  behind_peer family prefix_length.1
+  fits ← fault_unless PrefixLong (nat_le prefix_length.0 (8 * address_octets family))
+  behind_route_fields family prefix_length.1
 
 -- the attributes of the route, or the first fault in the order of the fields
 unfoldable pub route_of : Family → List ℕ → Result (List Attribute) RibFault
@@ -33,5 +33,5 @@ route_of family body = do
   attribute_length ← number Cut 2 rest
   block ← octets Cut attribute_length.0 attribute_length.1
   attributes ← or_fault AttrCut (attributes_of block.0)
-  end ← check Tail (length block.1 == 0)
+  end ← fault_unless Tail (length block.1 == 0)
   Ok attributes

@@ -1,14 +1,14 @@
 //! The route of a TABLE_DUMP record.
 ghost use Rattle.std.specs.Prelude.{◌≡◌, ◌≢◌, ◌⊎◌, IfErr};
 ghost use Rattle.path_attrs.specs.Fields.{Gives};
-ghost use Rattle.rib_v1.specs.TableDump.{behind_peer, behind_fields, route_of};
+ghost use Rattle.rib_v1.specs.TableDump.{behind_route_fields, behind_fields, route_of};
 
 use mrt_frame::Family;
 use path_attrs::{Attrs, RibFault, attributes, number16, octet, octets};
 
 // The octets behind the fields between the prefix and the attributes.
 fn behind_peer(family: Family, fields: &[u8]) -> Result<&[u8], RibFault>
-    ensures gives { Gives (λ rest. rest.now) result (behind_peer family fields.now) }
+    ensures gives { Gives (λ rest. rest.now) result (behind_route_fields family fields.now) }
     ensures only { IfErr result (λ fault. fault ≡ RibFault.Cut) }
 {
     let address_len = family.octets();

@@ -6,7 +6,7 @@ use Rattle.path_attrs.specs.declared.fault.RibFault.{RibFault}
 use Rattle.path_attrs.specs.declared.fault.RibFault.TheVariants.{Tail, NoPeerTable}
 use Rattle.path_attrs.specs.declared.fault.RibFault.TheVariants as faults
 use Rattle.path_attrs.specs.declared.block.AttrCut.{AttrCut}
-use Rattle.path_attrs.specs.Fields.{◌>>=◌, check, or_fault}
+use Rattle.path_attrs.specs.Fields.{◌>>=◌, fault_unless, or_fault}
 use Rattle.path_attrs.specs.Attributes.{Attribute, attributes_of, attributes_in}
 use Rattle.mrt_frame.specs.declared.record_kind.RibForm.{RibForm}
 use Rattle.mrt_frame.specs.declared.record_kind.EntryForm.{EntryForm}
@@ -70,14 +70,14 @@ pub entries-end : (form : EntryForm) (peers count i : ℕ) (bytes : List ℕ) (b
 unfolding entries_of
 entries-end form peers count i bytes before all le none same =
     sym same ∙ ap (λ k. with_head before (entries_of form peers k bytes)) (none_left count i le)
-    ∙ ap (λ b. with_head before (check Tail b >>= λ end. Ok [])) none ∙ ap (λ l. Ok l) (append-nil before)
+    ∙ ap (λ b. with_head before (fault_unless Tail b >>= λ end. Ok [])) none ∙ ap (λ l. Ok l) (append-nil before)
 
 pub entries-tail : (form : EntryForm) (peers count i : ℕ) (bytes : List ℕ) (before : List Entry) (all : Result (List Entry) RibFault) → count ≤ i → (length bytes == 0) ≡ false
     → with_head before (entries_of form peers (count - i) bytes) ≡ all → all ≡ Err Tail
 unfolding entries_of
 entries-tail form peers count i bytes before all le more same =
     sym same ∙ ap (λ k. with_head before (entries_of form peers k bytes)) (none_left count i le)
-    ∙ ap (λ b. with_head before (check Tail b >>= λ end. Ok [])) more
+    ∙ ap (λ b. with_head before (fault_unless Tail b >>= λ end. Ok [])) more
 
 -- ---- entries that are known to be whole
 
@@ -90,7 +90,7 @@ whole form peers count bytes ok = by (entries_of form peers count bytes) ok
     by (Err fault) t = absurd cc
 
 abbrev at_end : Bool → Result (List Entry) RibFault
-at_end b = check Tail b >>= λ end. Ok []
+at_end b = fault_unless Tail b >>= λ end. Ok []
 
 pub none_in : (form : EntryForm) (peers count : ℕ) (bytes : List ℕ) → count ≡ 0 → entries_in form peers count bytes ≡ []
 unfolding entries_of entries_in

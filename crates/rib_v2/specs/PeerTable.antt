@@ -2,7 +2,7 @@
 use Rattle.std.specs.Prelude.{ℕ, zero, suc, ◌==◌, bit_and, List, length, Result, Ok, if◌then◌else◌}
 use Rattle.path_attrs.specs.declared.fault.RibFault.{RibFault}
 use Rattle.path_attrs.specs.declared.fault.RibFault.TheVariants.{Cut, Tail}
-use Rattle.path_attrs.specs.Fields.{◌>>=◌, octets, number, check}
+use Rattle.path_attrs.specs.Fields.{◌>>=◌, octets, number, fault_unless}
 use Rattle.rib_v2.specs.declared.peer_table.Peers.{Peers}
 
 -- the octets behind a peer, whose type says by 0x01 an IPv6 address and by 0x02 an AS number of four octets
@@ -29,5 +29,5 @@ peers_of body = do
   name ← octets Cut name_length.0 name_length.1
   peer_count ← number Cut 2 name.1
   rest ← behind_peers peer_count.0 peer_count.1
-  end ← check Tail (length rest == 0)
+  end ← fault_unless Tail (length rest == 0)
   Ok (record { count = peer_count.0 })

@@ -9,7 +9,7 @@ use Rattle.mrt_frame.specs.declared.record_kind.RibForm.{RibForm}
 use Rattle.mrt_frame.specs.Kinds.{address_octets}
 use Rattle.path_attrs.specs.declared.fault.RibFault.{RibFault}
 use Rattle.path_attrs.specs.declared.fault.RibFault.TheVariants.{Cut, Tail, PrefixLong, NoPeerTable, PeerRange, AttrCut}
-use Rattle.path_attrs.specs.Fields.{◌>>=◌, octets, number, check, or_fault}
+use Rattle.path_attrs.specs.Fields.{◌>>=◌, octets, number, fault_unless, or_fault}
 use Rattle.path_attrs.specs.Attributes.{attributes_of}
 use Rattle.rib_v2.specs.declared.error.RibError.{RibError}
 use Rattle.rib_v2.specs.declared.error.RibError.TheVariants.{Fault, NoMemory}
@@ -25,7 +25,7 @@ unfoldable pub head : Family → List ℕ → Result (ℕ × List ℕ) RibFault
 head family body = do
   sequence ← octets Cut 4 body
   prefix_length ← number Cut 1 sequence.1
-  fits ← check PrefixLong (nat_le prefix_length.0 (8 * address_octets family))
+  fits ← fault_unless PrefixLong (nat_le prefix_length.0 (8 * address_octets family))
   prefix ← octets Cut ((prefix_length.0 + 7) / 8) prefix_length.1
   number Cut 2 prefix.1
 
@@ -39,7 +39,7 @@ pub record Fields : Type 0 where
 unfoldable pub entry_fields : EntryForm → ℕ → List ℕ → Result Fields RibFault
 entry_fields form peer_count bytes = do
   peer_index ← number Cut 2 bytes
-  in_range ← check PeerRange (nat_lt peer_index.0 peer_count)
+  in_range ← fault_unless PeerRange (nat_lt peer_index.0 peer_count)
   originated ← octets Cut 4 peer_index.1
   path_id ← octets Cut (path_id_octets form) originated.1
   attribute_length ← number Cut 2 path_id.1
@@ -56,7 +56,7 @@ entry form peer_count bytes = do
 -- so many entries, and nothing behind them
 unfoldable pub entries_of : EntryForm → ℕ → ℕ → List ℕ → Result (List Entry) RibFault
 entries_of form peer_count zero bytes = do
-  end ← check Tail (length bytes == 0)
+  end ← fault_unless Tail (length bytes == 0)
   Ok []
 entries_of form peer_count (suc count) bytes = do
   first ← entry form peer_count bytes

@@ -7,7 +7,7 @@ use Rattle.path_clean.specs.declared.cleaned.Sets.{Sets}
 use Rattle.tor_io.specs.Contents.{Files, LacksFile}
 use Rattle.dump_read.specs.declared.error.DumpError.{DumpError}
 use Rattle.dump_read.specs.declared.taking.Taken.{Taken}
-use Rattle.dump_read.specs.Seen.{End, Absent, of_file, end_named}
+use Rattle.dump_read.specs.Seen.{DumpsEnd, Absent, of_file, end_named}
 use Rattle.run_base.specs.Reading.{seen_from}
 
 -- the first dumps, and then the others
@@ -16,13 +16,13 @@ seen_from-append : (sets : Sets) (d : ℕ) (old mid : Taken) (prefix rest : List
 seen_from-append sets d old mid [] rest files is =
     ap₂ (λ n t. seen_from sets n t rest files) (omega arith) (same old mid is)
   where
-    same : (x y : Taken) → ◌≡◌ {A = Result Taken End} (Ok x) (Ok y) → x ≡ y
+    same : (x y : Taken) → ◌≡◌ {A = Result Taken DumpsEnd} (Ok x) (Ok y) → x ≡ y
     same x y e = cc
 seen_from-append sets d old mid (name ∷ prefix) rest files is =
     by (of_file sets d old (files name)) is (λ further h. seen_from-append sets (d + 1) further mid prefix rest files h)
     ∙ ap (λ n. seen_from sets n mid rest files) (omega arith)
   where
-    by : (one : Result Taken End) → (one >>= λ further. seen_from sets (d + 1) further prefix files) ≡ Ok mid
+    by : (one : Result Taken DumpsEnd) → (one >>= λ further. seen_from sets (d + 1) further prefix files) ≡ Ok mid
         → ((further : Taken) → seen_from sets (d + 1) further prefix files ≡ Ok mid → seen_from sets (d + 1) further (prefix ++ rest) files ≡ seen_from sets (d + 1 + length prefix) mid rest files)
         → (one >>= λ further. seen_from sets (d + 1) further (prefix ++ rest) files) ≡ seen_from sets (d + 1 + length prefix) mid rest files
     by (Ok further) h ih = ih further h
@@ -40,7 +40,7 @@ length_of names i lt = omega (arith, length-take i names)
 one_dump : (sets : Sets) (d : ℕ) (mid new : Taken) (name : List ℕ) (files : Files) → of_file sets d mid (files name) ≡ Ok new → seen_from sets d mid (name ∷ []) files ≡ Ok new
 one_dump sets d mid new name files is = rw is refl
 
-no_further : (sets : Sets) (d : ℕ) (mid : Taken) (name : List ℕ) (rest : List (List ℕ)) (files : Files) (end : End) →
+no_further : (sets : Sets) (d : ℕ) (mid : Taken) (name : List ℕ) (rest : List (List ℕ)) (files : Files) (end : DumpsEnd) →
     of_file sets d mid (files name) ≡ Err end → seen_from sets d mid (name ∷ rest) files ≡ Err end
 no_further sets d mid name rest files end is = rw is refl
 
@@ -55,7 +55,7 @@ one_more sets old mid new (Some files) names i name lt is before one =
     ∙ one_dump sets (i + 1) mid new name files one
 
 -- where the reading of a dump stops, that of all of them does
-stops_at : (sets : Sets) (old mid : Taken) (names : List (List ℕ)) (i : ℕ) (name : List ℕ) (files : Files) (end : End) → i < length names → name ≡ get_or names i name
+stops_at : (sets : Sets) (old mid : Taken) (names : List (List ℕ)) (i : ℕ) (name : List ℕ) (files : Files) (end : DumpsEnd) → i < length names → name ≡ get_or names i name
     → seen_from sets 1 old (take i names) files ≡ Ok mid → of_file sets (i + 1) mid (files name) ≡ Err end → seen_from sets 1 old names files ≡ Err end
 stops_at sets old mid names i name files end lt is before one =
     ap (λ (t : List (List ℕ)). seen_from sets 1 old t files) (parts_at names i name lt is)
@@ -69,7 +69,7 @@ pub stops : (sets : Sets) (old mid : Taken) (known : Option Files) (names : List
     → IfSome (end_named (i + 1) e) (λ end. IfSome known (λ files. seen_from sets 1 old names files ≡ Err end))
 stops sets old mid known names i name e lt is before one = by known (end_named (i + 1) e) before one
   where
-    by : (t : Option Files) (o : Option End) → IfSome t (λ files. seen_from sets 1 old (take i names) files ≡ Ok mid)
+    by : (t : Option Files) (o : Option DumpsEnd) → IfSome t (λ files. seen_from sets 1 old (take i names) files ≡ Ok mid)
         → IfSome o (λ end. IfSome t (λ files. of_file sets (i + 1) mid (files name) ≡ Err end)) → IfSome o (λ end. IfSome t (λ files. seen_from sets 1 old names files ≡ Err end))
     by t None b h = tt
     by None (Some end) b h = tt

@@ -28,14 +28,14 @@ abbrev pub IsNoMemory : Answer → Type 0
 IsNoMemory answer = (answer.status ≡ status.NoMemory) × (answer.note ≡ Plain)
 
 -- this status with this note, unless memory ran out for it
-abbrev pub Says : Status → List ℕ → Answer → Type 0
-Says s text answer = ((answer.status ≡ s) × (note_in answer ≡ text)) ⊎ IsNoMemory answer
+abbrev pub AnswersWith : Status → List ℕ → Answer → Type 0
+AnswersWith s text answer = ((answer.status ≡ s) × (note_in answer ≡ text)) ⊎ IsNoMemory answer
 
 -- the answer where the reading of this dump stopped
 abbrev pub AnswersStop : ℕ → DumpError → Answer → Type 0
-AnswersStop dump (error.Malformed place fault) answer = Says status.Malformed (malformed_note place fault) answer
-AnswersStop dump (error.Limit kind) answer = Says status.Limit (limit_note kind dump) answer
-AnswersStop dump error.ReadFault answer = Says status.ReadFault (read_fault_note dump) answer
+AnswersStop dump (error.Malformed place fault) answer = AnswersWith status.Malformed (malformed_note place fault) answer
+AnswersStop dump (error.Limit kind) answer = AnswersWith status.Limit (limit_note kind dump) answer
+AnswersStop dump error.ReadFault answer = AnswersWith status.ReadFault (read_fault_note dump) answer
 AnswersStop dump error.NoMemory answer = IsNoMemory answer
 
 abbrev pub Answers : Refusal → Answer → Type 0

@@ -10,15 +10,15 @@ use Rattle.dump_read.specs.declared.error.Fault.TheVariants as fault
 use Rattle.dump_read.specs.declared.error.LimitKind.{LimitKind}
 use Rattle.dump_read.specs.declared.error.LimitKind.TheVariants.{Paths, Numbers, Bytes}
 
-abbrev pub code_of : Status → ℕ
-code_of Done = 0
-code_of No = 1
-code_of Usage = 2
-code_of Malformed = 3
-code_of ReadFault = 4
-code_of WriteFault = 5
-code_of Limit = 6
-code_of NoMemory = 7
+abbrev pub exit_code : Status → ℕ
+exit_code Done = 0
+exit_code No = 1
+exit_code Usage = 2
+exit_code Malformed = 3
+exit_code ReadFault = 4
+exit_code WriteFault = 5
+exit_code Limit = 6
+exit_code NoMemory = 7
 
 -- the note of a status whose note has no part of its own
 abbrev pub plain_note : Status → List ℕ

@@ -5,10 +5,10 @@ use Rattle.path_clean.specs.declared.cleaned.Sets.{Sets}
 use Rattle.path_clean.specs.Counts.{no_counts}
 use Rattle.tor_io.specs.Contents.{Files}
 use Rattle.dump_read.specs.declared.taking.Taken.{Taken}
-use Rattle.dump_read.specs.Seen.{End, of_file}
+use Rattle.dump_read.specs.Seen.{DumpsEnd, of_file}
 
 -- the dumps from this number on, read one after the other: all that is taken in, or the first end
-abbrev pub seen_from : Sets → ℕ → Taken → List (List ℕ) → Files → Result Taken End
+abbrev pub seen_from : Sets → ℕ → Taken → List (List ℕ) → Files → Result Taken DumpsEnd
 seen_from sets dump taken [] files = Ok taken
 seen_from sets dump taken (name ∷ names) files =
     of_file sets dump taken (files name) >>= λ further. seen_from sets (dump + 1) further names files

@@ -30,11 +30,11 @@ pub enum Status {
 }
 
 impl Status {
-    ghost use Rattle.run_base.specs.Notes.{code_of, plain_note};
+    ghost use Rattle.run_base.specs.Notes.{exit_code, plain_note};
 
     /// The exit status, from 0 to 7.
     pub fn code(self) -> u8
-        ensures { result ≡ code_of self }
+        ensures { result ≡ exit_code self }
     {
         match self {
             Status::Done => 0,

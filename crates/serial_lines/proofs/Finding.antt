@@ -16,8 +16,8 @@ use Rattle.tor_numbers.specs.Edges.{with_edge, edge_at}
 use Rattle.tor_numbers.proofs.EdgeLists.{with_edge-same, with_edge-new}
 use Rattle.tor_numbers.proofs.Gets.{Contains-from_has, has-from_Contains}
 use Rattle.serial_lines.specs.declared.line.RelLine.{RelLine}
-use Rattle.serial_lines.specs.Serial.{IsLine, IsSound, IsTaken, pair_of, names, line_between, agrees, with_line}
-use Rattle.serial_lines.specs.Indexed.{IsIndexed}
+use Rattle.serial_lines.specs.Serial.{IsProperLine, NamesPairsOnce, IsTaken, pair_of, names_pair, line_between, agrees, with_rel_line}
+use Rattle.serial_lines.specs.Indexed.{AreEdgesOfLines}
 
 pub is_same-self : (e : Edge) → is_same e e ≡ true
 is_same-self e = same-equivalence.refl e
@@ -33,14 +33,14 @@ contains_first y xs x e = Contains-from_has (y ∷ xs) x (0, ap (λ (z : _). Som
 none_found : (ls : List RelLine) (a b : ℕ) → (Contains (map pair_of ls) (edge_of a b) → ⊥) → line_between ls a b ≡ None
 none_found [] a b never = refl
 none_found (l ∷ ls) a b never =
-    elim (cases_Bool (names l a b)) [
+    elim (cases_Bool (names_pair l a b)) [
       | inl t ↦ absurd (never (contains_first (pair_of l) (map pair_of ls) (edge_of a b) (same_edge (pair_of l) (edge_of a b) t)))
       | inr f ↦ rw f (none_found ls a b (λ c. never (contains_more (pair_of l) (map pair_of ls) (edge_of a b) c)))
     ]
 
 -- a line behind another names other two
 named_otherwise : (m : RelLine) (ls : List RelLine) (k a b : ℕ) → IsDistinct is_same (map pair_of (m ∷ ls)) → slice_get (map pair_of ls) k ≡ Some (edge_of a b) →
-    names m a b ≡ false
+    names_pair m a b ≡ false
 named_otherwise m ls k a b once at =
     let within = slice_get_within (map pair_of ls) k (edge_of a b) at in
     subst (λ (e : Edge). is_same (pair_of m) e ≡ false) (get_or_from_slice_get (map pair_of ls) k (edge_of a b) (0, 0) at)
@@ -55,7 +55,7 @@ one_found : (ls : List RelLine) (k a b : ℕ) (l : RelLine) → IsDistinct is_sa
 one_found [] k a b l once at there = absurd (cc there)
 one_found (m ∷ ls) zero a b l once at there =
     let same : pair_of m ≡ edge_of a b = same_Some (pair_of m) (edge_of a b) at in
-    let t : names m a b ≡ true = subst (λ (e : Edge). is_same (pair_of m) e ≡ true) same (is_same-self (pair_of m)) in
+    let t : names_pair m a b ≡ true = subst (λ (e : Edge). is_same (pair_of m) e ≡ true) same (is_same-self (pair_of m)) in
     rw t there
 one_found (m ∷ ls) (suc k) a b l once at there =
     let f = named_otherwise m ls k a b once at in
@@ -67,7 +67,7 @@ edge_beside : (es : List Edge) (lines : List RelLine) (k : ℕ) (l : RelLine) �
 edge_beside es lines k l e at =
     get_or_from_slice_get es k (pair_of l) (0, 0) (ap (λ (fs : List Edge). slice_get fs k) e ∙ slice_get-map pair_of lines k ∙ ap (option_map pair_of) at)
 
-pub index_sound : (es : List Edge) (lines : List RelLine) → IsIndexed es lines → IsSound lines
+pub index_sound : (es : List Edge) (lines : List RelLine) → AreEdgesOfLines es lines → NamesPairsOnce lines
 index_sound es lines h = record {
   proper = h.proper;
   apart = λ i j d lt within same.
@@ -83,15 +83,15 @@ index_sound es lines h = record {
       cc;
 }
 
-pub index_within : (es : List Edge) (lines : List RelLine) (k : ℕ) (e : Edge) → IsIndexed es lines → slice_get es k ≡ Some e → k < length lines
+pub index_within : (es : List Edge) (lines : List RelLine) (k : ℕ) (e : Edge) → AreEdgesOfLines es lines → slice_get es k ≡ Some e → k < length lines
 index_within es lines k e h at =
     let lt = slice_get_within es k e at in let long = ap length h.named in let count = length-map lines pair_of in omega (arith, lt, long, count)
 
 -- what a search for two ASes says
-pub between_none : (es : List Edge) (lines : List RelLine) (a b : ℕ) → IsIndexed es lines → (Contains es (edge_of a b) → ⊥) → line_between lines a b ≡ None
+pub between_none : (es : List Edge) (lines : List RelLine) (a b : ℕ) → AreEdgesOfLines es lines → (Contains es (edge_of a b) → ⊥) → line_between lines a b ≡ None
 between_none es lines a b h never = none_found lines a b (subst (λ (fs : List Edge). Contains fs (edge_of a b) → ⊥) h.named never)
 
-pub between_some : (es : List Edge) (lines : List RelLine) (k a b : ℕ) (l : RelLine) → IsIndexed es lines → slice_get es k ≡ Some (edge_of a b) →
+pub between_some : (es : List Edge) (lines : List RelLine) (k a b : ℕ) (l : RelLine) → AreEdgesOfLines es lines → slice_get es k ≡ Some (edge_of a b) →
     slice_get lines k ≡ Some l → line_between lines a b ≡ Some l
 between_some es lines k a b l h at there =
     one_found lines k a b l (subst (IsDistinct is_same) h.named h.once) (ap (λ (fs : List Edge). slice_get fs k) (sym h.named) ∙ at) there
@@ -115,14 +115,14 @@ stays_known es new a b is_new grown is f = grown ∙ with_edge-same es (edge_of 
     from_not false h = absurd (cc h)
 
 -- a line that goes last
-pub index_pushed : (es new : List Edge) (lines : List RelLine) (l : RelLine) → IsIndexed es lines → IsLine l → new ≡ with_edge es (pair_of l) →
-    list_any (is_same (pair_of l)) es ≡ false → IsIndexed new (lines ++ l ∷ [])
+pub index_pushed : (es new : List Edge) (lines : List RelLine) (l : RelLine) → AreEdgesOfLines es lines → IsProperLine l → new ≡ with_edge es (pair_of l) →
+    list_any (is_same (pair_of l)) es ≡ false → AreEdgesOfLines new (lines ++ l ∷ [])
 index_pushed es new lines l h its grown absent =
     let last : new ≡ es ++ pair_of l ∷ [] = grown ∙ with_edge-new es (pair_of l) absent in
     record {
       named = last ∙ ap (λ (fs : List Edge). fs ++ pair_of l ∷ []) h.named ∙ sym (map-append pair_of lines (l ∷ []));
       once = subst (IsDistinct is_same) (sym last) (IsDistinct-push same-equivalence es (pair_of l) h.once absent);
-      proper = All-push IsLine lines l h.proper its;
+      proper = All-push IsProperLine lines l h.proper its;
     }
 
 -- the line in a place, as it is read by its place
@@ -131,10 +131,10 @@ line_got lines read k d same lt = slice_get-get_or lines k d lt ∙ ap (λ (ls :
 
 -- ---- a line that is taken in
 
-pub with_line_none : (rel : List RelLine) (l : RelLine) → line_between rel l.first l.second ≡ None → with_line rel l ≡ Some (rel ++ l ∷ [])
+pub with_line_none : (rel : List RelLine) (l : RelLine) → line_between rel l.first l.second ≡ None → with_rel_line rel l ≡ Some (rel ++ l ∷ [])
 with_line_none rel l e = ap (λ (o : Option RelLine). elim o as (λ _. Option (List RelLine)) [ None ↦ Some (rel ++ l ∷ []) | Some m ↦ cond (agrees m l) (Some rel) None ]) e
 
-pub with_line_some : (rel : List RelLine) (l m : RelLine) (b : Bool) → line_between rel l.first l.second ≡ Some m → agrees m l ≡ b → with_line rel l ≡ cond b (Some rel) None
+pub with_line_some : (rel : List RelLine) (l m : RelLine) (b : Bool) → line_between rel l.first l.second ≡ Some m → agrees m l ≡ b → with_rel_line rel l ≡ cond b (Some rel) None
 with_line_some rel l m b e t =
     ap (λ (o : Option RelLine). elim o as (λ _. Option (List RelLine)) [ None ↦ Some (rel ++ l ∷ []) | Some m ↦ cond (agrees m l) (Some rel) None ]) e ∙ ap (λ (b : Bool). cond b (Some rel) None) t
 

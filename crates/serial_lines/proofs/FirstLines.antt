@@ -5,7 +5,7 @@ use Rattle.std.proofs.lemmas.Bool.{cases_Bool}
 use Rattle.relationships.specs.Graph.{is_same}
 use Rattle.relationships.proofs.Edges.{same_edge}
 use Rattle.serial_lines.specs.declared.line.RelLine.{RelLine}
-use Rattle.serial_lines.specs.Serial.{is_comment, lines, pair_of, said, names, line_between, agrees, after_line, rel_from, rel_in}
+use Rattle.serial_lines.specs.Serial.{is_comment, lines, pair_of, said, names_pair, line_between, agrees, after_line, rel_from, rel_in}
 use Rattle.serial_lines.specs.Good.{said_by, firsts, IsSaid, FirstsLaw}
 use Rattle.serial_lines.proofs.Finding.{with_line_none, with_line_some}
 use Rattle.serial_lines.proofs.ReadLemmas.{after_comment, after_said, after_unsaid}
@@ -22,18 +22,18 @@ unnamed rel ms = filter (is_unnamed rel) ms
 abbrev others : RelLine → List RelLine → List RelLine
 others l ms = filter (λ m. not (is_same (pair_of l) (pair_of m))) ms
 
-pushed_named : (rel : List RelLine) (l m : RelLine) → names l m.first m.second ≡ true → is_unnamed (rel ++ l ∷ []) m ≡ false
+pushed_named : (rel : List RelLine) (l m : RelLine) → names_pair l m.first m.second ≡ true → is_unnamed (rel ++ l ∷ []) m ≡ false
 pushed_named [] l m t = rw t refl
 pushed_named (x ∷ rel) l m t =
-    elim (cases_Bool (names x m.first m.second)) [
+    elim (cases_Bool (names_pair x m.first m.second)) [
       | inl u ↦ rw u refl
       | inr u ↦ rw u (pushed_named rel l m t)
     ]
 
-pushed_other : (rel : List RelLine) (l m : RelLine) → names l m.first m.second ≡ false → is_unnamed (rel ++ l ∷ []) m ≡ is_unnamed rel m
+pushed_other : (rel : List RelLine) (l m : RelLine) → names_pair l m.first m.second ≡ false → is_unnamed (rel ++ l ∷ []) m ≡ is_unnamed rel m
 pushed_other [] l m f = rw f refl
 pushed_other (x ∷ rel) l m f =
-    elim (cases_Bool (names x m.first m.second)) [
+    elim (cases_Bool (names_pair x m.first m.second)) [
       | inl u ↦ rw u refl
       | inr u ↦ rw u (pushed_other rel l m f)
     ]
@@ -41,7 +41,7 @@ pushed_other (x ∷ rel) l m f =
 unnamed_pushed : (rel : List RelLine) (l : RelLine) (ms : List RelLine) → unnamed (rel ++ l ∷ []) ms ≡ unnamed rel (others l ms)
 unnamed_pushed rel l [] = refl
 unnamed_pushed rel l (m ∷ ms) =
-    elim (cases_Bool (names l m.first m.second)) [
+    elim (cases_Bool (names_pair l m.first m.second)) [
       | inl t ↦ rw (pushed_named rel l m t, t) (unnamed_pushed rel l ms)
       | inr f ↦ elim (cases_Bool (is_unnamed rel m)) [
         | inl t ↦ rw (pushed_other rel l m f, f, t) (ap (λ (xs : List RelLine). m ∷ xs) (unnamed_pushed rel l ms))
@@ -52,7 +52,7 @@ unnamed_pushed rel l (m ∷ ms) =
 unnamed_known : (rel : List RelLine) (l r : RelLine) (ms : List RelLine) → line_between rel l.first l.second ≡ Some r → unnamed rel (others l ms) ≡ unnamed rel ms
 unnamed_known rel l r [] there = refl
 unnamed_known rel l r (m ∷ ms) there =
-    elim (cases_Bool (names l m.first m.second)) [
+    elim (cases_Bool (names_pair l m.first m.second)) [
       | inl t ↦
           let same : line_between rel m.first m.second ≡ Some r = between_same rel m.first m.second l.first l.second (sym (same_edge (pair_of l) (pair_of m) t)) ∙ there in
           rw (t, same) (unnamed_known rel l r ms there)

@@ -10,8 +10,8 @@ use Rattle.serial_lines.proofs.Places.{slice_get-push_old, slice_get-behind}
 use Rattle.serial_lines.specs.declared.line.RelKind.{RelKind}
 use Rattle.serial_lines.specs.declared.line.RelKind.TheVariants.{Transit, Peering}
 use Rattle.serial_lines.specs.declared.line.RelLine.{RelLine}
-use Rattle.serial_lines.specs.Serial.{is_comment, lines, line_with, pair_of, said, names, line_between, agree_in, agrees, after_line, rel_from, rel_in}
-use Rattle.serial_lines.specs.Good.{Says, SaySame, IsGood, AreGood, IsFirstBad, IsBadLine, GoodLaw, SayingLaw}
+use Rattle.serial_lines.specs.Serial.{is_comment, lines, rel_line, pair_of, said, names_pair, line_between, agree_in, agrees, after_line, rel_from, rel_in}
+use Rattle.serial_lines.specs.Good.{Spells, SaySame, IsGood, AreGood, IsFirstBad, IsFirstBadNumber, GoodLaw, SayingLaw}
 use Rattle.serial_lines.proofs.Finding.{is_same-self, with_line_none, with_line_some}
 use Rattle.serial_lines.proofs.ReadLemmas.{said_again, said_takes, line_no_comment, after_comment, after_said, after_unsaid}
 use Rattle.serial_lines.proofs.LineLemmas.{goes_on, is_refused}
@@ -24,17 +24,17 @@ saying_law line l = (
   λ s. ap said s.form ∙ said_again l s.fits,
 )
 
-says_read : (line : List ℕ) (l : RelLine) → Says line l → said line ≡ Some l
+says_read : (line : List ℕ) (l : RelLine) → Spells line l → said line ≡ Some l
 says_read line l s = (saying_law line l).1 s
 
-says_no_comment : (line : List ℕ) (l : RelLine) → Says line l → is_comment line ≡ false
+says_no_comment : (line : List ℕ) (l : RelLine) → Spells line l → is_comment line ≡ false
 says_no_comment line l s = ap is_comment s.form ∙ line_no_comment l s.fits
 
 -- ---- lines that say the same
 
 same_line : (l m : RelLine) → l.first ≡ m.first → l.second ≡ m.second → l.kind ≡ m.kind → l ≡ m
 same_line l m e f g =
-    ap (λ a. line_with a l.second l.kind) e ∙ ap (λ b. line_with m.first b l.kind) f ∙ ap (λ (k : RelKind). line_with m.first m.second k) g
+    ap (λ a. rel_line a l.second l.kind) e ∙ ap (λ b. rel_line m.first b l.kind) f ∙ ap (λ (k : RelKind). rel_line m.first m.second k) g
 
 pair_ends : (l m : RelLine) → pair_of l ≡ pair_of m → l.first ≡ m.first → l.second ≡ m.second
 pair_ends l m e same =
@@ -74,8 +74,8 @@ through r l m (inr p) (inr q) = inr (p.1, q.1)
 pub between_same : (ls : List RelLine) (a b c d : ℕ) → edge_of a b ≡ edge_of c d → line_between ls a b ≡ line_between ls c d
 between_same [] a b c d e = refl
 between_same (l ∷ ls) a b c d e =
-    let same : names l a b ≡ names l c d = ap (is_same (pair_of l)) e in
-    elim (cases_Bool (names l c d)) [
+    let same : names_pair l a b ≡ names_pair l c d = ap (is_same (pair_of l)) e in
+    elim (cases_Bool (names_pair l c d)) [
       | inl t ↦ rw (same, t) refl
       | inr f ↦ rw (same, f) (between_same ls a b c d e)
     ]
@@ -83,7 +83,7 @@ between_same (l ∷ ls) a b c d e =
 between_has : (ls : List RelLine) (a b : ℕ) (m : RelLine) → line_between ls a b ≡ Some m → Has ls m × (pair_of m ≡ edge_of a b)
 between_has [] a b m e = absurd (cc e)
 between_has (l ∷ ls) a b m e =
-    elim (cases_Bool (names l a b)) [
+    elim (cases_Bool (names_pair l a b)) [
       | inl t ↦
           let e₁ = rw t at e in
           let is : l ≡ m = same_Some l m e₁ in
@@ -94,7 +94,7 @@ between_has (l ∷ ls) a b m e =
 between_old : (ls : List RelLine) (l : RelLine) (a b : ℕ) (m : RelLine) → line_between ls a b ≡ Some m → line_between (ls ++ l ∷ []) a b ≡ Some m
 between_old [] l a b m e = absurd (cc e)
 between_old (x ∷ ls) l a b m e =
-    elim (cases_Bool (names x a b)) [
+    elim (cases_Bool (names_pair x a b)) [
       | inl t ↦ let e₁ = rw t at e in rw t e₁
       | inr f ↦ let e₁ = rw f at e in rw f (between_old ls l a b m e₁)
     ]
@@ -102,7 +102,7 @@ between_old (x ∷ ls) l a b m e =
 between_new : (ls : List RelLine) (l : RelLine) → line_between ls l.first l.second ≡ None → line_between (ls ++ l ∷ []) l.first l.second ≡ Some l
 between_new [] l e = rw (is_same-self (pair_of l)) refl
 between_new (x ∷ ls) l e =
-    elim (cases_Bool (names x l.first l.second)) [
+    elim (cases_Bool (names_pair x l.first l.second)) [
       | inl t ↦ let e₁ = rw t at e in absurd (cc e₁)
       | inr f ↦ let e₁ = rw f at e in rw f (between_new ls l e₁)
     ]
@@ -111,8 +111,8 @@ between_new (x ∷ ls) l e =
 
 -- each line is said by an earlier one, and for what an earlier one says there is a line that says the same
 record Stand (earlier : List (List ℕ)) (rel : List RelLine) : Type 0 where
-  from : (m : RelLine) → Has rel m → (other : List ℕ) × Has earlier other × Says other m
-  found : (other : List ℕ) (m : RelLine) → Has earlier other → Says other m → (r : RelLine) × (line_between rel m.first m.second ≡ Some r) × (agrees r m ≡ true)
+  from : (m : RelLine) → Has rel m → (other : List ℕ) × Has earlier other × Spells other m
+  found : (other : List ℕ) (m : RelLine) → Has earlier other → Spells other m → (r : RelLine) × (line_between rel m.first m.second ≡ Some r) × (agrees r m ≡ true)
 
 has_old : {X : Type 0} (xs : List X) (y x : X) → Has xs x → Has (xs ++ y ∷ []) x
 has_old xs y x h = (h.0, slice_get-push_old xs (y ∷ []) h.0 x h.1)
@@ -136,7 +136,7 @@ module _ (earlier : List (List ℕ)) (rel : List RelLine) (line : List ℕ) (h :
   }
 
   -- it says what is read of it, and nothing else
-  only : (l : RelLine) → said line ≡ Some l → (other : List ℕ) (m : RelLine) → other ≡ line → Says other m → m ≡ l
+  only : (l : RelLine) → said line ≡ Some l → (other : List ℕ) (m : RelLine) → other ≡ line → Spells other m → m ≡ l
   only l e other m is says = same_Some m l (sym (says_read other m says) ∙ ap said is ∙ e)
 
   stand_known : (l r : RelLine) → said line ≡ Some l → line_between rel l.first l.second ≡ Some r → agrees r l ≡ true → Stand (earlier ++ line ∷ []) rel
@@ -155,8 +155,8 @@ module _ (earlier : List (List ℕ)) (rel : List RelLine) (line : List ℕ) (h :
         elim (has_cases rel l m has) [
           | inl old ↦ let w = h.from m old in (w.0, has_old earlier line w.0 w.1, w.2)
           | inr last ↦
-              let its : Says line l = (saying_law line l).0 e in
-              (line, (length earlier, slice_get-behind earlier line []), subst (λ (x : RelLine). Says line x) (sym last) its)
+              let its : Spells line l = (saying_law line l).0 e in
+              (line, (length earlier, slice_get-behind earlier line []), subst (λ (x : RelLine). Spells line x) (sym last) its)
         ];
     found = λ other m has says.
         elim (has_cases earlier line other has) [
@@ -282,7 +282,7 @@ verdict bytes = verdict_from (lines bytes) [] (lines bytes) [] refl begun (λ k 
     begun : Stand [] []
     begun = record { from = λ m has. absurd (cc has.1); found = λ other m has says. absurd (cc has.1) }
 
-pub is_bad_line : (bytes : List ℕ) (number : ℕ) → rel_in bytes ≡ Err number → IsBadLine bytes number
+pub is_bad_line : (bytes : List ℕ) (number : ℕ) → rel_in bytes ≡ Err number → IsFirstBadNumber bytes number
 is_bad_line bytes number e = subst (Verdict (lines bytes)) e (verdict bytes)
 
 pub are_good : (bytes : List ℕ) (rel : List RelLine) → rel_in bytes ≡ Ok rel → AreGood (lines bytes)

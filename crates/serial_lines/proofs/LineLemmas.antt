@@ -7,7 +7,7 @@ use Rattle.std.proofs.lemmas.List.{append-nil, length-append, get_or_append_left
 use Rattle.std.proofs.lemmas.List.Elements.{recursion_from_All}
 use Rattle.relationships.proofs.Edges.{same_edge}
 use Rattle.serial_lines.specs.declared.line.RelLine.{RelLine}
-use Rattle.serial_lines.specs.Serial.{lines, onto_first, IsLine, IsSound, pair_of, names, line_between, after_line, rel_from, rel_in, text, line_text}
+use Rattle.serial_lines.specs.Serial.{lines, onto_first, IsProperLine, NamesPairsOnce, pair_of, names_pair, line_between, after_line, rel_from, rel_in, rel_text, rel_line_text}
 use Rattle.serial_lines.proofs.ReadLemmas.{line_first, line_goes_last}
 
 -- ---- the first line
@@ -51,42 +51,42 @@ is_refused n rel line more e = ap (λ (o : Option (List RelLine)). elim o as (λ
 -- these lines name no two ASes of those before, nor the same two twice
 abbrev AreNew : List RelLine → List RelLine → Type 0
 AreNew before [] = Unit {0}
-AreNew before (l ∷ ls) = IsLine l × (line_between before l.first l.second ≡ None) × AreNew (before ++ l ∷ []) ls
+AreNew before (l ∷ ls) = IsProperLine l × (line_between before l.first l.second ≡ None) × AreNew (before ++ l ∷ []) ls
 
-text_from : (n : ℕ) (before ls : List RelLine) → AreNew before ls → rel_from n before (lines (text ls)) ≡ Ok (before ++ ls)
+text_from : (n : ℕ) (before ls : List RelLine) → AreNew before ls → rel_from n before (lines (rel_text ls)) ≡ Ok (before ++ ls)
 text_from n before [] h = ap (λ (rel : List RelLine). Ok rel) (sym (append-nil before))
 text_from n before (l ∷ ls) h =
-    ap (rel_from n before) (line_first l (text ls) h.0) ∙ goes_on n before (before ++ l ∷ []) (line_text l) (lines (text ls)) (line_goes_last before l h.0 h.1)
+    ap (rel_from n before) (line_first l (rel_text ls) h.0) ∙ goes_on n before (before ++ l ∷ []) (rel_line_text l) (lines (rel_text ls)) (line_goes_last before l h.0 h.1)
     ∙ text_from (n + 1) (before ++ l ∷ []) ls h.2 ∙ ap (λ (rel : List RelLine). Ok rel) (append_assoc before (l ∷ []) ls)
 
 -- where no line names two ASes, none is found
-pub none_named : (ls : List RelLine) (a b : ℕ) → AllByRecursion (λ l. names l a b ≡ false) ls → line_between ls a b ≡ None
+pub none_named : (ls : List RelLine) (a b : ℕ) → AllByRecursion (λ l. names_pair l a b ≡ false) ls → line_between ls a b ≡ None
 none_named [] a b h = refl
 none_named (l ∷ ls) a b h = rw h.0 (none_named ls a b h.1)
 
 -- the lines of a sound list are new behind those before them
-pub are_new : (before ls : List RelLine) → IsSound (before ++ ls) → AreNew before ls
+pub are_new : (before ls : List RelLine) → NamesPairsOnce (before ++ ls) → AreNew before ls
 are_new before [] h = tt
 are_new before (l ∷ ls) h = (
   its,
-  none_named before l.first l.second (recursion_from_All (λ (m : RelLine). names m l.first l.second ≡ false) before others),
-  are_new (before ++ l ∷ []) ls (subst IsSound (sym (append_assoc before (l ∷ []) ls)) h),
+  none_named before l.first l.second (recursion_from_All (λ (m : RelLine). names_pair m l.first l.second ≡ false) before others),
+  are_new (before ++ l ∷ []) ls (subst NamesPairsOnce (sym (append_assoc before (l ∷ []) ls)) h),
 )
   where
     within : length before < length (before ++ (l ∷ ls))
     within = let n = length-append before (l ∷ ls) in omega (arith, n)
 
-    its : IsLine l
-    its = subst IsLine (get_or-append_seam before l ls l) (h.proper (length before) l within)
+    its : IsProperLine l
+    its = subst IsProperLine (get_or-append_seam before l ls l) (h.proper (length before) l within)
 
-    others : (k : ℕ) (d : RelLine) → k < length before → names (get_or before k d) l.first l.second ≡ false
+    others : (k : ℕ) (d : RelLine) → k < length before → names_pair (get_or before k d) l.first l.second ≡ false
     others k d lt =
         let apart = h.apart k (length before) d lt within in
         let m : RelLine = get_or before k d in
         let apart₁ : pair_of m ≢ pair_of (get_or (before ++ (l ∷ ls)) (length before) d) =
         subst (λ (x : RelLine). pair_of x ≢ pair_of (get_or (before ++ (l ∷ ls)) (length before) d)) (get_or_append_left before (l ∷ ls) d k lt) apart in
         let apart₂ : pair_of m ≢ pair_of l = subst (λ (x : RelLine). pair_of m ≢ pair_of x) (get_or-append_seam before l ls d) apart₁ in
-        false_from_ne_true (names m l.first l.second) (λ t. apart₂ (same_edge (pair_of m) (pair_of l) t))
+        false_from_ne_true (names_pair m l.first l.second) (λ t. apart₂ (same_edge (pair_of m) (pair_of l) t))
 
 -- ---- lines in turn
 
@@ -100,5 +100,5 @@ read_all read rel rest bytes h e = sym h.whole ∙ ap (λ (left : List ℕ). rel
 
 -- ---- the written form again
 
-pub text_again : (rel : List RelLine) (bytes : List ℕ) → IsSound rel → bytes ≡ text rel → rel_in bytes ≡ Ok rel
+pub text_again : (rel : List RelLine) (bytes : List ℕ) → NamesPairsOnce rel → bytes ≡ rel_text rel → rel_in bytes ≡ Ok rel
 text_again rel bytes h is = ap rel_in is ∙ text_from 0 [] rel (are_new [] rel h)

@@ -11,7 +11,7 @@ use Rattle.serial_lines.specs.declared.line.RelKind.{RelKind}
 use Rattle.serial_lines.specs.declared.line.RelKind.TheVariants.{Transit, Peering}
 use Rattle.serial_lines.specs.declared.line.RelLine.{RelLine}
 use Rattle.serial_lines.proofs.Finding.{with_line_none}
-use Rattle.serial_lines.specs.Serial.{IsLine, kind_text, line_text, line_with, ended, kind_at, said, is_comment, lines, onto_first, line_between, with_line, after_line}
+use Rattle.serial_lines.specs.Serial.{IsProperLine, kind_text, rel_line_text, rel_line, ended, kind_at, said, is_comment, lines, onto_first, line_between, with_rel_line, after_line}
 
 -- ---- what is written is read again
 
@@ -26,7 +26,7 @@ unfolding kind_at
 kind_again Transit = refl
 kind_again Peering = refl
 
-pub said_again : (l : RelLine) → IsLine l → said (line_text l) ≡ Some l
+pub said_again : (l : RelLine) → IsProperLine l → said (rel_line_text l) ≡ Some l
 unfolding said
 said_again l h =
     let apart : eqb l.first l.second ≡ false = ne_eqb l.first l.second h.apart in
@@ -49,24 +49,24 @@ kind_takes bytes k e =
       ]
     ]
 
-pub said_takes : (line : List ℕ) (l : RelLine) → said line ≡ Some l → IsLine l × (line ≡ line_text l)
+pub said_takes : (line : List ℕ) (l : RelLine) → said line ≡ Some l → IsProperLine l × (line ≡ rel_line_text l)
 unfolding said
 said_takes line l e =
     let a = bind_some (before 124 u32_at line) (λ first. before 124 u32_at first.1 >>= λ second. kind_at second.1 >>= λ kind.
-    cond (eqb first.0 second.0) None (Some (line_with first.0 second.0 kind))) l e in
-    let b = bind_some (before 124 u32_at a.0.1) (λ second. kind_at second.1 >>= λ kind. cond (eqb a.0.0 second.0) None (Some (line_with a.0.0 second.0 kind))) l a.2 in
-    let c = bind_some (kind_at b.0.1) (λ kind. cond (eqb a.0.0 b.0.0) None (Some (line_with a.0.0 b.0.0 kind))) l b.2 in
+    cond (eqb first.0 second.0) None (Some (rel_line first.0 second.0 kind))) l e in
+    let b = bind_some (before 124 u32_at a.0.1) (λ second. kind_at second.1 >>= λ kind. cond (eqb a.0.0 second.0) None (Some (rel_line a.0.0 second.0 kind))) l a.2 in
+    let c = bind_some (kind_at b.0.1) (λ kind. cond (eqb a.0.0 b.0.0) None (Some (rel_line a.0.0 b.0.0 kind))) l b.2 in
     let first = number_reads.takes line a.0 a.1 in
     let second = number_reads.takes a.0.1 b.0 b.1 in
     let kind = kind_takes b.0.1 c.0 c.1 in
-    let made : RelLine = line_with a.0.0 b.0.0 c.0 in
+    let made : RelLine = rel_line a.0.0 b.0.0 c.0 in
     elim (chosen (eqb a.0.0 b.0.0) None (Some made) (Some l) c.2) [
       | inl t ↦ absurd (cc t.1)
       | inr t ↦
-          let its : IsLine made = record { first = first.0; second = second.0; apart = eqb-false a.0.0 b.0.0 t.0 } in
+          let its : IsProperLine made = record { first = first.0; second = second.0; apart = eqb-false a.0.0 b.0.0 t.0 } in
           let rest : a.0.1 ≡ decimal b.0.0 ++ (124 ∷ kind_text c.0) = second.1 ∙ append_assoc (decimal b.0.0) (124 ∷ []) b.0.1 ∙ ap (λ k. decimal b.0.0 ++ (124 ∷ k)) kind in
-          let form : line ≡ line_text made = first.1 ∙ append_assoc (decimal a.0.0) (124 ∷ []) a.0.1 ∙ ap (λ k. decimal a.0.0 ++ (124 ∷ k)) rest in
-          subst (λ (m : RelLine). IsLine m × (line ≡ line_text m)) (some_is made l t.1) (its, form)
+          let form : line ≡ rel_line_text made = first.1 ∙ append_assoc (decimal a.0.0) (124 ∷ []) a.0.1 ∙ ap (λ k. decimal a.0.0 ++ (124 ∷ k)) rest in
+          subst (λ (m : RelLine). IsProperLine m × (line ≡ rel_line_text m)) (some_is made l t.1) (its, form)
     ]
 
 -- ---- a line that says something is no comment
@@ -78,8 +78,8 @@ no_comment (b ∷ bytes) e = ne_eqb b 35 (λ is. absurd (apart is))
     apart : b ≡ 35 → ⊥
     apart is = cc (subst (λ (c : ℕ). is_digit c ≡ true) is e)
 
-pub line_no_comment : (l : RelLine) → IsLine l → is_comment (line_text l) ≡ false
-line_no_comment l h = no_comment (line_text l) (first_digit l.first (124 ∷ (decimal l.second ++ (124 ∷ kind_text l.kind))) (omega (arith, h.first)))
+pub line_no_comment : (l : RelLine) → IsProperLine l → is_comment (rel_line_text l) ≡ false
+line_no_comment l h = no_comment (rel_line_text l) (first_digit l.first (124 ∷ (decimal l.second ++ (124 ∷ kind_text l.kind))) (omega (arith, h.first)))
 
 -- ---- a line holds no line feed
 
@@ -106,7 +106,7 @@ feedless_kind : (k : RelKind) → feedless (124 ∷ kind_text k) ≡ true
 feedless_kind Transit = refl
 feedless_kind Peering = refl
 
-feedless_line : (l : RelLine) → IsLine l → feedless (line_text l) ≡ true
+feedless_line : (l : RelLine) → IsProperLine l → feedless (rel_line_text l) ≡ true
 feedless_line l h =
     let second = feedless_append (decimal l.second) (124 ∷ kind_text l.kind) (feedless_decimal l.second (omega (arith, h.second))) (feedless_kind l.kind) in
     feedless_append (decimal l.first) (124 ∷ (decimal l.second ++ (124 ∷ kind_text l.kind))) (feedless_decimal l.first (omega (arith, h.first))) second
@@ -116,21 +116,21 @@ lines_cut [] more e = refl
 lines_cut (x ∷ xs) more e = let t = unless_parts (eqb x 10) (feedless xs) e in rw t.0 (ap (onto_first x) (lines_cut xs more t.1))
 
 -- the lines of a written line and more
-pub line_first : (l : RelLine) (more : List ℕ) → IsLine l → lines ((line_text l ++ 10 ∷ []) ++ more) ≡ line_text l ∷ lines more
-line_first l more h = ap lines (append_assoc (line_text l) (10 ∷ []) more) ∙ lines_cut (line_text l) more (feedless_line l h)
+pub line_first : (l : RelLine) (more : List ℕ) → IsProperLine l → lines ((rel_line_text l ++ 10 ∷ []) ++ more) ≡ rel_line_text l ∷ lines more
+line_first l more h = ap lines (append_assoc (rel_line_text l) (10 ∷ []) more) ∙ lines_cut (rel_line_text l) more (feedless_line l h)
 
 -- ---- what a line makes of what was said
 
 pub after_comment : (rel : List RelLine) (line : List ℕ) → is_comment line ≡ true → after_line rel line ≡ Some rel
-after_comment rel line c = ap (λ (b : Bool). cond b (Some rel) (said line >>= with_line rel)) c
+after_comment rel line c = ap (λ (b : Bool). cond b (Some rel) (said line >>= with_rel_line rel)) c
 
-pub after_said : (rel : List RelLine) (line : List ℕ) (l : RelLine) → is_comment line ≡ false → said line ≡ Some l → after_line rel line ≡ with_line rel l
-after_said rel line l c e = ap (λ (b : Bool). cond b (Some rel) (said line >>= with_line rel)) c ∙ ap (λ (o : Option RelLine). o >>= with_line rel) e
+pub after_said : (rel : List RelLine) (line : List ℕ) (l : RelLine) → is_comment line ≡ false → said line ≡ Some l → after_line rel line ≡ with_rel_line rel l
+after_said rel line l c e = ap (λ (b : Bool). cond b (Some rel) (said line >>= with_rel_line rel)) c ∙ ap (λ (o : Option RelLine). o >>= with_rel_line rel) e
 
 pub after_unsaid : (rel : List RelLine) (line : List ℕ) → is_comment line ≡ false → said line ≡ None → after_line rel line ≡ None
-after_unsaid rel line c e = ap (λ (b : Bool). cond b (Some rel) (said line >>= with_line rel)) c ∙ ap (λ (o : Option RelLine). o >>= with_line rel) e
+after_unsaid rel line c e = ap (λ (b : Bool). cond b (Some rel) (said line >>= with_rel_line rel)) c ∙ ap (λ (o : Option RelLine). o >>= with_rel_line rel) e
 
 -- ---- a new line goes last
 
-pub line_goes_last : (rel : List RelLine) (l : RelLine) → IsLine l → line_between rel l.first l.second ≡ None → after_line rel (line_text l) ≡ Some (rel ++ l ∷ [])
-line_goes_last rel l h none = after_said rel (line_text l) l (line_no_comment l h) (said_again l h) ∙ with_line_none rel l none
+pub line_goes_last : (rel : List RelLine) (l : RelLine) → IsProperLine l → line_between rel l.first l.second ≡ None → after_line rel (rel_line_text l) ≡ Some (rel ++ l ∷ [])
+line_goes_last rel l h none = after_said rel (rel_line_text l) l (line_no_comment l h) (said_again l h) ∙ with_line_none rel l none

@@ -5,16 +5,16 @@ use Rattle.std.specs.Fmt.{digits}
 use Rattle.text_fields.specs.Reading.{digit_at, digits_at, u64_at, u32_at}
 use Rattle.serial_lines.specs.declared.line.RelKind.TheVariants.{Transit, Peering}
 use Rattle.serial_lines.specs.declared.line.RelLine.{RelLine}
-use Rattle.serial_lines.specs.Serial.{line_with, kind_at, said, rel_in, text}
+use Rattle.serial_lines.specs.Serial.{rel_line, kind_at, said, rel_in, rel_text}
 
 abbrev worked : List RelLine
-worked = line_with 20 10 Transit ∷ line_with 20 30 Transit ∷ line_with 30 40 Peering ∷ line_with 10 50 Transit ∷ []
+worked = rel_line 20 10 Transit ∷ rel_line 20 30 Transit ∷ rel_line 30 40 Peering ∷ rel_line 10 50 Transit ∷ []
 
 worked_text : rel_in (codes "20|10|-1\n20|30|-1\n30|40|0\n10|50|-1\n") ≡ Ok worked
 unfolding kind_at said digit_at digits_at u64_at u32_at
 worked_text = refl
 
-worked_form : text worked ≡ codes "20|10|-1\n20|30|-1\n30|40|0\n10|50|-1\n"
+worked_form : rel_text worked ≡ codes "20|10|-1\n20|30|-1\n30|40|0\n10|50|-1\n"
 unfolding digits
 worked_form = refl
 
@@ -24,7 +24,7 @@ unfolding kind_at said digit_at digits_at u64_at u32_at
 worked_bad = refl
 
 -- comments, no last line feed, the same again, and the other way round
-said_again : rel_in (codes "# a|b\n1|2|-1\n3|4|0\n#\n1|2|-1\n4|3|0") ≡ Ok (line_with 1 2 Transit ∷ line_with 3 4 Peering ∷ [])
+said_again : rel_in (codes "# a|b\n1|2|-1\n3|4|0\n#\n1|2|-1\n4|3|0") ≡ Ok (rel_line 1 2 Transit ∷ rel_line 3 4 Peering ∷ [])
 unfolding kind_at said digit_at digits_at u64_at u32_at
 said_again = refl
 

@@ -5,12 +5,12 @@ use Rattle.serial_lines.specs.declared.line.RelKind.TheVariants.{Peering}
 use Rattle.serial_lines.specs.declared.line.RelLine.{RelLine}
 use Rattle.serial_lines.specs.declared.error.RelError.{RelError}
 use Rattle.serial_lines.specs.declared.error.RelError.TheVariants as errors
-use Rattle.serial_lines.specs.Serial.{IsLine, line_text, is_comment, lines, pair_of, said, rel_in}
+use Rattle.serial_lines.specs.Serial.{IsProperLine, rel_line_text, is_comment, lines, pair_of, said, rel_in}
 
 -- the line says this
-pub record Says (line : List ℕ) (l : RelLine) : Type 0 where
-  pub fits : IsLine l
-  pub form : line ≡ line_text l
+pub record Spells (line : List ℕ) (l : RelLine) : Type 0 where
+  pub fits : IsProperLine l
+  pub form : line ≡ rel_line_text l
 
 -- of two ASes, two lines say the same: they are equal, or both say that the two are peers
 abbrev pub SaySame : RelLine → RelLine → Type 0
@@ -20,8 +20,8 @@ SaySame l m = (l ≡ m) ⊎ ((l.kind ≡ Peering) × (m.kind ≡ Peering))
 abbrev pub IsGood : List (List ℕ) → List ℕ → Type 0
 IsGood earlier line =
     (is_comment line ≡ true) ⊎
-    ((l : RelLine) × Says line l ×
-    ((other : List ℕ) (m : RelLine) → Contains earlier other → Says other m → pair_of m ≡ pair_of l → SaySame m l))
+    ((l : RelLine) × Spells line l ×
+    ((other : List ℕ) (m : RelLine) → Contains earlier other → Spells other m → pair_of m ≡ pair_of l → SaySame m l))
 
 abbrev pub AreGood : List (List ℕ) → Type 0
 AreGood all = (k : ℕ) (line : List ℕ) → slice_get all k ≡ Some line → IsGood (take k all) line
@@ -49,12 +49,12 @@ pub record IsSaid (bytes : List ℕ) (rel : List RelLine) : Type 0 where
   pub first : rel ≡ firsts (said_by (lines bytes))
 
 -- the number, from 1, of the first bad line
-abbrev pub IsBadLine : List ℕ → ℕ → Type 0
-IsBadLine bytes number = (place : ℕ) × (number ≡ place + 1) × IsFirstBad (lines bytes) place
+abbrev pub IsFirstBadNumber : List ℕ → ℕ → Type 0
+IsFirstBadNumber bytes number = (place : ℕ) × (number ≡ place + 1) × IsFirstBad (lines bytes) place
 
 -- the error names the first bad line. Where memory ran out nothing is said
 abbrev pub NamesBadLine : RelError → List ℕ → Type 0
-NamesBadLine (errors.BadLine number) bytes = IsBadLine bytes number
+NamesBadLine (errors.BadLine number) bytes = IsFirstBadNumber bytes number
 NamesBadLine errors.NoMemory bytes = Unit {0}
 
 -- Bytes have a first bad line exactly where that is the answer, by its number from 1. Otherwise all lines are good.
@@ -66,7 +66,7 @@ GoodLaw =
 
 -- a line says something exactly where it is so read
 abbrev pub SayingLaw : Type 0
-SayingLaw = (line : List ℕ) (l : RelLine) → (said line ≡ Some l) ↔ Says line l
+SayingLaw = (line : List ℕ) (l : RelLine) → (said line ≡ Some l) ↔ Spells line l
 
 -- what good lines say is the first line of each two ASes
 abbrev pub FirstsLaw : Type 0

@@ -2,7 +2,7 @@
 
 ghost use Rattle.std.specs.Prelude.{◌≡◌, ◌≢◌, ℕ, ◌<◌, ◌≤◌, ◌∷◌, length, slice_index, IfOk, IfErr, OnErr};
 ghost use Rattle.serial_lines.specs.Good.{IsSaid, NamesBadLine};
-ghost use Rattle.serial_lines.specs.Serial.{lines, rel_in, IsGoodLine, Refuses};
+ghost use Rattle.serial_lines.specs.Serial.{lines, rel_in, IsGoodLine, IsReadingError};
 
 use crate::error::RelError;
 use crate::line::{is_comment, line_of};
@@ -16,7 +16,7 @@ use tor_arena::{Keys, NoMemory};
 #[tactic(auto, using(crate::proofs::Goods::is_bad_line))]
 pub fn parse_rel(alloc: Global, keys: Keys, bytes: &[u8]) -> Result<Rel, RelError>
     ensures ok { IfOk result (λ rel. rel_in bytes.now ≡ Ok rel) }
-    ensures err { IfErr result (λ e. Refuses e bytes.now) }
+    ensures err { IfErr result (λ e. IsReadingError e bytes.now) }
     ensures said { IfOk result (λ rel. IsSaid bytes.now rel) }
     ensures bad { IfErr result (λ e. NamesBadLine e bytes.now) }
 {

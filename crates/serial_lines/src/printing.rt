@@ -1,7 +1,7 @@
 //! The written form of relationships.
 
 ghost use Rattle.std.specs.Prelude.{◌≡◌, ◌++◌, ◌∷◌, [], IfOk, OnOk};
-ghost use Rattle.serial_lines.specs.Serial.{line_text, kind_text, text, rel_in};
+ghost use Rattle.serial_lines.specs.Serial.{rel_line_text, kind_text, rel_text, rel_in};
 
 use crate::line::{RelKind, RelLine};
 use crate::rel::Rel;
@@ -11,7 +11,7 @@ use tor_arena::{List, NoMemory};
 
 /// The written form: a line for each pair, ended by a line feed, and no comments. It is read as the same value.
 pub fn print_rel(alloc: Global, rel: &Rel) -> Result<List<u8>, NoMemory>
-    ensures text { IfOk result (λ out. out ≡ text rel.now) }
+    ensures rel_text { IfOk result (λ out. out ≡ rel_text rel.now) }
     ensures again { IfOk result (λ out. rel_in out ≡ Ok rel.now) }
 {
     let mut out = List::new(alloc);
@@ -21,7 +21,7 @@ pub fn print_rel(alloc: Global, rel: &Rel) -> Result<List<u8>, NoMemory>
 
 // Puts the lines at the end.
 fn put_lines(out: &mut List<u8>, lines: &[RelLine]) -> Result<(), NoMemory>
-    ensures { OnOk result (out.new ≡ out.old ++ text lines.now) }
+    ensures { OnOk result (out.new ≡ out.old ++ rel_text lines.now) }
 {
     for line in lines {
         put_line(out, *line)?;
@@ -31,7 +31,7 @@ fn put_lines(out: &mut List<u8>, lines: &[RelLine]) -> Result<(), NoMemory>
 
 // Puts a line at the end.
 fn put_line(out: &mut List<u8>, line: RelLine) -> Result<(), NoMemory>
-    ensures { OnOk result (out.new ≡ out.old ++ (line_text line ++ 10 ∷ [])) }
+    ensures { OnOk result (out.new ≡ out.old ++ (rel_line_text line ++ 10 ∷ [])) }
 {
     put_number(out, u64::from(line.first))?;
     out.push(b'|')?;

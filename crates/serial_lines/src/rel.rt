@@ -21,17 +21,17 @@ pub struct Rel {
 impl Model for Rel {
     ghost use Rattle.std.specs.Prelude.{List};
     ghost use Rattle.serial_lines.specs.declared.line.RelLine.{RelLine};
-    ghost use Rattle.serial_lines.specs.Indexed.{IsIndexed};
+    ghost use Rattle.serial_lines.specs.Indexed.{AreEdgesOfLines};
 
     ghost Value = { List RelLine };
 
     ghost view = { λ rel. rel.lines.items };
 
-    ghost invariant = { λ rel. IsIndexed rel.edges rel.lines.items };
+    ghost invariant = { λ rel. AreEdgesOfLines rel.edges rel.lines.items };
 }
 
 impl Rel {
-    ghost use Rattle.serial_lines.specs.Serial.{IsSound};
+    ghost use Rattle.serial_lines.specs.Serial.{NamesPairsOnce};
 
     /// No relationships, in a table with these keys. It takes no memory.
     pub fn new(alloc: Global, keys: Keys) -> Rel
@@ -46,7 +46,7 @@ impl Rel {
     /// The lines in order: no two name the same two ASes, and none names one AS twice. It takes no memory.
     pub fn lines(&self) -> &[RelLine]
         ensures lines { result.now ≡ self.now }
-        ensures sound { IsSound self.now }
+        ensures sound { NamesPairsOnce self.now }
     {
         self.lines.as_slice()
     }

@@ -2,7 +2,7 @@
 ghost use Rattle.std.specs.Prelude.{◌≡◌, ◌≢◌, ◌<◌, ◌↔◌, ◌∷◌, [], All, AllPairs, Contains, length, map, IfOk};
 ghost use Rattle.relationships.specs.Graph.{Edge, edges};
 ghost use Rattle.tor_arena.specs.Distinct.{AllDistinct};
-ghost use Rattle.gao_prefs.specs.Preferences.{edges_of};
+ghost use Rattle.gao_prefs.specs.Preferences.{edges_preferred};
 ghost use Rattle.tor_clauses.specs.Formulas.{FitsGraph};
 
 use crate::cases::{clauses_of, is_servable, path, three_path_graph};
@@ -40,7 +40,7 @@ fn oriented(
     requires fits { FitsGraph graph.now clauses.now }
     requires inside { All (λ pref. pref.edge < length (edges graph.now)) prefs.now }
     requires apart { AllDistinct (map (λ pref. pref.edge) prefs.now) }
-    requires each { (e : Edge) → Contains (edges graph.now) e ↔ Contains (edges_of (edges graph.now) prefs.now) e }
+    requires each { (e : Edge) → Contains (edges graph.now) e ↔ Contains (edges_preferred (edges graph.now) prefs.now) e }
 {
     if !is_servable(alloc, graph, clauses)? {
         return Err(Fail::from("an orientation that serves"));

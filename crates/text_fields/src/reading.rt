@@ -13,7 +13,7 @@ pub fn after<'a>(word: &[u8], bytes: &'a [u8]) -> Option<&'a [u8]>
 }
 
 /// The bytes behind this byte, if they begin with it.
-pub fn behind(byte: u8, bytes: &[u8]) -> Option<&[u8]>
+pub fn after_byte(byte: u8, bytes: &[u8]) -> Option<&[u8]>
     ensures { option_copied result ≡ word_at (byte ∷ []) bytes.now }
 {
     match bytes {
@@ -88,7 +88,7 @@ pub fn u64_before(byte: u8, bytes: &[u8]) -> Option<(u64, &[u8])>
     ensures { option_map (λ x. (x.0, x.1.now)) result ≡ before byte u64_at bytes.now }
 {
     let (number, rest) = u64_of(bytes)?;
-    let rest = behind(byte, rest)?;
+    let rest = after_byte(byte, rest)?;
     Some((number, rest))
 }
 
@@ -97,6 +97,6 @@ pub fn u32_before(byte: u8, bytes: &[u8]) -> Option<(u32, &[u8])>
     ensures { option_map (λ x. (x.0, x.1.now)) result ≡ before byte u32_at bytes.now }
 {
     let (number, rest) = u32_of(bytes)?;
-    let rest = behind(byte, rest)?;
+    let rest = after_byte(byte, rest)?;
     Some((number, rest))
 }

@@ -10,7 +10,7 @@ use Rattle.tor_clauses.specs.declared.triple.Triple.{Triple}
 use Rattle.tor_clauses.specs.Literals.{negated, node_of, opposite_node}
 use Rattle.tor_clauses.specs.Triples.{arc_of, partner_of, is_same_triple}
 use Rattle.tor_clauses.specs.declared.lit.Lit.{Lit}
-use Rattle.tor_clauses.specs.Tables.{HasNodes, IsKnown, IsAdded, key_of, key_of_arc, number_of_pair}
+use Rattle.tor_clauses.specs.Tables.{HasNodes, AreTripleKeys, IsTripleAdded, triple_key, key_of_arc, number_of_pair}
 use Rattle.tor_numbers.specs.Slots.{IsInserted}
 use Rattle.tor_numbers.proofs.SlotLemmas.{alone, contains_one, contains_none}
 use Rattle.tor_clauses.proofs.LiteralLemmas.{opposite_node_twice, node_below}
@@ -45,11 +45,11 @@ reverse_alike t h = sym (partner-reversed t) ∙ reversed_alike (arc_of t) (ap (
 
 -- ---- triples are the same exactly if their keys are
 
-key_same : (t u : Triple) → Same t u → key_of t ≡ key_of u
+key_same : (t u : Triple) → Same t u → triple_key t ≡ triple_key u
 key_same t u (inl e) = ap₂ lesser e (partner_arc t u e)
 key_same t u (inr e) = ap₂ lesser e (partner_same t u e) ∙ lesser_reversed (arc_of u) (partner_of u) (reverse_alike u)
 
-same_key : (t u : Triple) → key_of t ≡ key_of u → Same t u
+same_key : (t u : Triple) → triple_key t ≡ triple_key u → Same t u
 same_key t u e = elim (lesser_one (arc_of t) (partner_of t)) [
   | inl a ↦ elim (lesser_one (arc_of u) (partner_of u)) [
     | inl b ↦ inl (sym a ∙ e ∙ b)
@@ -70,7 +70,7 @@ same_key t u e = elim (lesser_one (arc_of t) (partner_of t)) [
 -- ---- pairs are the same exactly if their numbers are
 
 abbrev pub key_number : Triple → ℕ
-key_number t = number_of_pair (key_of t)
+key_number t = number_of_pair (triple_key t)
 
 same_pair : (e f : Edge) → e.1 < 2 ^ 32 → f.1 < 2 ^ 32 → number_of_pair e ≡ number_of_pair f → e ≡ f
 same_pair e f a b h = ap₂ pair (omega (arith, a, b, h)) (omega (arith, a, b, h))
@@ -81,7 +81,7 @@ same_pair e f a b h = ap₂ pair (omega (arith, a, b, h)) (omega (arith, a, b, h
 node_small : (l : Lit) → l.edge < 2 ^ 27 → node_of l < 2 ^ 32
 node_small l h = let n = node_below l (2 ^ 27) h in omega (arith, n)
 
-key_small : (t : Triple) → HasNodes t → (key_of t).1 < 2 ^ 32
+key_small : (t : Triple) → HasNodes t → (triple_key t).1 < 2 ^ 32
 key_small t h = elim (lesser_one (arc_of t) (partner_of t)) [
   | inl a ↦ subst (λ (e : Edge). e.1 < 2 ^ 32) (sym a) (node_small t.second h.1)
   | inr b ↦ subst (λ (e : Edge). e.1 < 2 ^ 32) (sym b) (node_small (negated t.first) h.0)
@@ -113,12 +113,12 @@ triple_there : (t : Triple) (ts : List Triple) → HasNodes t → All HasNodes t
 triple_there t [] h all c = absurd (contains_none (key_number t) c)
 triple_there t (u ∷ ts) h all c = elim (Contains-append_cases (key_number u ∷ []) (map key_number ts) (key_number t) c) [
   | inl a ↦ left_or (is_same_triple t u) (list_any (is_same_triple t) ts) (test-from_Same t u (same_key t u
-      (same_pair (key_of t) (key_of u) (key_small t h) (key_small u (All-head HasNodes u ts all)) (alone (key_number u) (key_number t) a))))
+      (same_pair (triple_key t) (triple_key u) (key_small t h) (key_small u (All-head HasNodes u ts all)) (alone (key_number u) (key_number t) a))))
   | inr b ↦ right_or (is_same_triple t u) (list_any (is_same_triple t) ts) (triple_there t ts h (All-tail HasNodes u ts all) b)
 ]
 
 -- so the number tells whether the triple is there
-pub is_known : (t : Triple) (number : ℕ) (keys : List ℕ) (ts : List Triple) → HasNodes t → IsKnown keys ts → number ≡ key_number t →
+pub is_known : (t : Triple) (number : ℕ) (keys : List ℕ) (ts : List Triple) → HasNodes t → AreTripleKeys keys ts → number ≡ key_number t →
     Contains keys number ↔ (list_any (is_same_triple t) ts ≡ true)
 is_known t number keys ts h known e = (
   (λ there. triple_there t ts h known.nodes (subst (Contains (map key_number ts)) e (subst (λ l. Contains l number) known.keys there))),
@@ -126,7 +126,7 @@ is_known t number keys ts h known e = (
 )
 
 -- the key of a triple is that of its nodes
-pub key-arc : (t : Triple) → key_of_arc (arc_of t) ≡ key_of t
+pub key-arc : (t : Triple) → key_of_arc (arc_of t) ≡ triple_key t
 key-arc t = ap (lesser (arc_of t)) (partner-reversed t)
 
 pub number_is : (t : Triple) (number first second : ℕ) (pair : Edge) → first ≡ node_of t.first → second ≡ node_of t.second → pair ≡ key_of_arc (first, second) →
@@ -137,17 +137,17 @@ number_is t number first second pair e f h n = n ∙ ap number_of_pair (h ∙ ap
     arc_with a b = key_of_arc (a, b)
 
 -- whether a triple's number is new tells whether the triple is
-pub added-new : (t : Triple) (number : ℕ) (keys new : List ℕ) (ts ts' : List Triple) (is_new : Bool) → IsKnown keys ts → number ≡ key_number t →
-    IsInserted number keys new is_new → is_new ≡ true → ts' ≡ ts ++ t ∷ [] → IsAdded t ts ts' is_new
-added-new t number keys new ts ts' is_new known e put is so = subst (IsAdded t ts ts') (sym is) (
+pub added-new : (t : Triple) (number : ℕ) (keys new : List ℕ) (ts ts' : List Triple) (is_new : Bool) → AreTripleKeys keys ts → number ≡ key_number t →
+    IsInserted number keys new is_new → is_new ≡ true → ts' ≡ ts ++ t ∷ [] → IsTripleAdded t ts ts' is_new
+added-new t number keys new ts ts' is_new known e put is so = subst (IsTripleAdded t ts ts') (sym is) (
   false_from_ne_true (list_any (is_same_triple t) ts) (λ there. (subst (IsInserted number keys new) is put).0
       (subst (λ l. Contains l number) (sym known.keys) (subst (Contains (map key_number ts)) (sym e) (number_there t ts there)))),
   so,
 )
 
-pub added-none : (t : Triple) (number : ℕ) (keys new : List ℕ) (ts ts' : List Triple) (is_new : Bool) → HasNodes t → IsKnown keys ts → number ≡ key_number t →
-    IsInserted number keys new is_new → is_new ≡ false → ts' ≡ ts → IsAdded t ts ts' is_new
-added-none t number keys new ts ts' is_new h known e put is so = subst (IsAdded t ts ts') (sym is) (
+pub added-none : (t : Triple) (number : ℕ) (keys new : List ℕ) (ts ts' : List Triple) (is_new : Bool) → HasNodes t → AreTripleKeys keys ts → number ≡ key_number t →
+    IsInserted number keys new is_new → is_new ≡ false → ts' ≡ ts → IsTripleAdded t ts ts' is_new
+added-none t number keys new ts ts' is_new h known e put is so = subst (IsTripleAdded t ts ts') (sym is) (
   triple_there t ts h known.nodes (subst (Contains (map key_number ts)) e
       (subst (λ l. Contains l number) known.keys (subst (IsInserted number keys new) is put).0)),
   so,
@@ -155,11 +155,11 @@ added-none t number keys new ts ts' is_new h known e put is so = subst (IsAdded 
 
 -- ---- one more triple, and fewer
 
-pub known-cut : (n : ℕ) (keys keys' : List ℕ) (ts ts' : List Triple) → IsKnown keys ts → n ≤ length ts → keys' ≡ take n keys → ts' ≡ take n ts → IsKnown keys' ts'
+pub known-cut : (n : ℕ) (keys keys' : List ℕ) (ts ts' : List Triple) → AreTripleKeys keys ts → n ≤ length ts → keys' ≡ take n keys → ts' ≡ take n ts → AreTripleKeys keys' ts'
 known-cut n keys keys' ts ts' k le e f =
     let l = length-take-le n ts le in
     let few = k.few in
-    subst (IsKnown keys') (sym f) (record {
+    subst (AreTripleKeys keys') (sym f) (record {
       keys = e ∙ ap (take n) k.keys ∙ take-map key_number n ts;
       nodes = All-take HasNodes n ts k.nodes;
       few = omega (arith, l, few, le);

@@ -3,6 +3,7 @@ use Rattle.std.proofs.Common.{◌≡◌, ◌≢◌, ℕ, ◌+◌, ◌<◌, ◌�
 use Rattle.std.specs.Prelude.{slice_get}
 use Rattle.std.proofs.lemmas.Bool.{cases_lt}
 use Rattle.std.proofs.lemmas.Option.{some_pair_parts}
+use Rattle.relationships.specs.Steps.{end_left}
 use Rattle.tor_digraph.specs.Walks.{IsArc}
 use Rattle.tor_digraph.proofs.Gets.{slice_get-lt, slice_get-some}
 use Rattle.relationships.specs.declared.label.End.{End}
@@ -11,7 +12,6 @@ use Rattle.relationships.specs.declared.walk.Walk.{Walk}
 use Rattle.relationships.specs.Graph.{Edge, edges}
 use Rattle.relationships.specs.Evidence.{Numbered, Fits, IsLinked, HasPair, Refutes}
 use Rattle.relationships.proofs.Ranks.{joined}
-use Rattle.as_graph.specs.Steps.{end_left}
 use Rattle.tor_clauses.specs.declared.lit.Lit.{Lit}
 use Rattle.tor_clauses.specs.Literals.{lit_of, Says}
 use Rattle.tor_clauses.specs.Formulas.{numbered, IsLinkOf}

@@ -3,13 +3,13 @@ use Rattle.std.proofs.Common.{◌≡◌, ◌≢◌, ℕ, zero, suc, ◌+◌, ◌
 use Rattle.std.specs.Prelude.{slice_get}
 use Rattle.std.specs.List.{position_or_len}
 use Rattle.std.proofs.lemmas.Bool.{cases_Bool, cases_order, false≢true}
+use Rattle.relationships.specs.Steps.{end_left}
 use Rattle.relationships.specs.declared.label.End.{End}
 use Rattle.relationships.specs.Relationship.{opposite, label_of, labels_of, is_low, is_high, is_over}
 use Rattle.relationships.specs.Graph.{Edge, edge_of, is_same, edges_from, edges_on, distinct, edges, orientation}
 use Rattle.relationships.proofs.Edges.{same_edge}
 use Rattle.relationships.proofs.Slopes.{over_parts, over-low, over-high}
 use Rattle.tor_digraph.proofs.Gets.{slice_get-lt, slice_get-some}
-use Rattle.as_graph.specs.Steps.{end_left}
 use Rattle.tor_clauses.specs.declared.lit.Lit.{Lit}
 use Rattle.tor_clauses.specs.Literals.{negated, over, Says, Holds}
 use Rattle.tor_clauses.proofs.Members.{In, In-flat_map, get-In}

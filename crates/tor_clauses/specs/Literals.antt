@@ -1,10 +1,10 @@
 -- Literals: which end of an edge is over the other. Each is a node of the implication graph of Aspvall, Plass and Tarjan (1979).
 use Rattle.std.specs.Prelude.{◌≡◌, ◌≢◌, ℕ, ◌+◌, ◌*◌, ◌/◌, ◌%◌, ◌^◌, ◌==◌, if◌then◌else◌, List, Some, slice_get}
 use Rattle.std.specs.List.{position_or_len}
+use Rattle.relationships.specs.Steps.{end_left}
 use Rattle.relationships.specs.declared.label.End.{End}
 use Rattle.relationships.specs.Relationship.{opposite}
 use Rattle.relationships.specs.Graph.{Edge, edge_of, is_same}
-use Rattle.as_graph.specs.Steps.{end_left}
 use Rattle.tor_clauses.specs.declared.lit.Lit.{Lit}
 
 -- the other end is over this one

@@ -15,8 +15,8 @@ abbrev pub HasNodes : Triple → Type 0
 HasNodes t = (t.first.edge < most_edges) × (t.second.edge < most_edges)
 
 -- the pair of nodes of the triple or that of its reverse, whichever begins with the lesser node: the same for both
-abbrev pub key_of : Triple → ℕ × ℕ
-key_of t = if nat_lt (node_of (negated t.second)) (node_of t.first) then partner_of t else arc_of t
+abbrev pub triple_key : Triple → ℕ × ℕ
+triple_key t = if nat_lt (node_of (negated t.second)) (node_of t.first) then partner_of t else arc_of t
 
 -- the same of a triple whose literals have these nodes
 abbrev pub key_of_arc : ℕ × ℕ → ℕ × ℕ
@@ -27,8 +27,8 @@ abbrev pub number_of_pair : ℕ × ℕ → ℕ
 number_of_pair pair = pair.0 * 2 ^ 32 + pair.1 + 2
 
 -- each triple is known by the number of the pair that it shares with its reverse
-pub record IsKnown (known : List ℕ) (triples : List Triple) : Type 0 where
-  pub keys : known ≡ map (λ t. number_of_pair (key_of t)) triples
+pub record AreTripleKeys (known : List ℕ) (triples : List Triple) : Type 0 where
+  pub keys : known ≡ map (λ t. number_of_pair (triple_key t)) triples
   pub nodes : All HasNodes triples
   pub few : length triples ≤ most_triples
 
@@ -37,9 +37,9 @@ abbrev pub with_triple : List Triple → Triple → List Triple
 with_triple ts t = if is_among ts t then ts else ts ++ t ∷ []
 
 -- the triple was added at the end, and is new; or the triples are as they were, and it or its reverse is among them
-abbrev pub IsAdded : Triple → List Triple → List Triple → Bool → Type 0
-IsAdded t old new true = (is_among old t ≡ false) × (new ≡ old ++ t ∷ [])
-IsAdded t old new false = (is_among old t ≡ true) × (new ≡ old)
+abbrev pub IsTripleAdded : Triple → List Triple → List Triple → Bool → Type 0
+IsTripleAdded t old new true = (is_among old t ≡ false) × (new ≡ old ++ t ∷ [])
+IsTripleAdded t old new false = (is_among old t ≡ true) × (new ≡ old)
 
 -- the triples with all of these
 abbrev pub with_triples : List Triple → List Triple → List Triple

@@ -79,7 +79,7 @@ impl Lit {
 }
 
 /// The node of the negation of a node's literal. It takes no memory.
-pub fn opposite(node: NodeId) -> NodeId
+pub fn negation_node(node: NodeId) -> NodeId
     ensures { result ≡ opposite_node node }
 {
     Lit::of_node(node).not().node()

@@ -3,9 +3,9 @@ ghost use Rattle.std.specs.Prelude.{◌≡◌, ◌<◌, ◌≤◌, ◌↔◌, []
 ghost use Rattle.tor_arena.specs.Limits.{max_numbers};
 ghost use Rattle.as_graph.specs.Limits.{most_triples};
 ghost use Rattle.tor_clauses.specs.Triples.{arc_of, is_among};
-ghost use Rattle.tor_clauses.specs.Tables.{HasNodes, IsSatisfied, IsAdded, AreKnownOn, IsNewAt, key_of, key_of_arc, number_of_pair};
+ghost use Rattle.tor_clauses.specs.Tables.{HasNodes, IsSatisfied, IsTripleAdded, AreKnownOn, IsNewAt, triple_key, key_of_arc, number_of_pair};
 
-use crate::lit::{Lit, opposite};
+use crate::lit::{Lit, negation_node};
 use crate::triple::Triple;
 use as_graph::Step;
 use relationships::End;
@@ -25,13 +25,13 @@ pub(crate) struct TripleTable {
 impl Model for TripleTable {
     ghost use Rattle.std.specs.Prelude.{List};
     ghost use Rattle.tor_clauses.specs.declared.triple.Triple.{Triple};
-    ghost use Rattle.tor_clauses.specs.Tables.{IsKnown};
+    ghost use Rattle.tor_clauses.specs.Tables.{AreTripleKeys};
 
     ghost Value = { List Triple };
 
     ghost view = { λ table. table.triples.items };
 
-    ghost invariant = { λ table. IsKnown table.known table.triples.items };
+    ghost invariant = { λ table. AreTripleKeys table.known table.triples.items };
 }
 
 impl TripleTable {
@@ -114,7 +114,7 @@ impl TripleTable {
     pub fn add(&mut self, triple: Triple) -> Result<bool, NoMemory>
         requires nodes { HasNodes triple }
         requires room { length self.old < most_triples }
-        ensures ok { IfOk result (λ is_new. IsAdded triple self.old self.new is_new) }
+        ensures ok { IfOk result (λ is_new. IsTripleAdded triple self.old self.new is_new) }
         ensures err { OnErr result (self.new ≡ self.old) }
     {
         self.triples.reserve(1)?;
@@ -141,9 +141,9 @@ impl TripleTable {
 fn key(first: NodeId, second: NodeId) -> (NodeId, NodeId)
     ensures { result ≡ key_of_arc (first, second) }
 {
-    let reverse_first = opposite(second);
+    let reverse_first = negation_node(second);
     if reverse_first.place() < first.place() {
-        (reverse_first, opposite(first))
+        (reverse_first, negation_node(first))
     } else {
         (first, second)
     }
@@ -159,7 +159,7 @@ pub fn number_of(pair: (NodeId, NodeId)) -> u64
 /// The number by which a table of numbers finds a triple or its reverse. It takes no memory.
 fn number_of_triple(triple: &Triple) -> u64
     requires { HasNodes triple.now }
-    ensures { result ≡ number_of_pair (key_of triple.now) }
+    ensures { result ≡ number_of_pair (triple_key triple.now) }
 {
     number_of(key(triple.first.node(), triple.second.node()))
 }

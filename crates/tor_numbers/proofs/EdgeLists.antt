@@ -14,7 +14,7 @@ use Rattle.relationships.proofs.Edges.{same_edge}
 use Rattle.relationships.proofs.FewReturns.{same-equivalence}
 use Rattle.tor_numbers.specs.EdgeNumbers.{edge_numbered, IsEdgeNumber}
 use Rattle.tor_numbers.specs.Edges.{with_edge, edge_at, edges_numbered}
-use Rattle.tor_numbers.specs.Places.{IsPut}
+use Rattle.tor_numbers.specs.Places.{GoesLastIfNew}
 use Rattle.tor_numbers.proofs.Gets.{Contains-from_has, slice_get-lt, slice_get-push_cases}
 use Rattle.tor_numbers.proofs.EdgeNumbers.{edge_got, edge_there, number_there, edges_pushed}
 
@@ -38,19 +38,19 @@ edge_new numbers n e all h is absent = false_from_ne_true (list_any (is_same e) 
     (λ any. absent (number_there numbers n e all h is (Contains-from_any same_edge e (edges_numbered numbers) any)))
 
 -- what a number that was put makes of the edges
-pub edges_put : (old new : List ℕ) (n : ℕ) (e : Edge) → All IsEdgeNumber old → 2 ≤ n → edge_numbered n ≡ e → IsPut n old new →
+pub edges_put : (old new : List ℕ) (n : ℕ) (e : Edge) → All IsEdgeNumber old → 2 ≤ n → edge_numbered n ≡ e → GoesLastIfNew n old new →
     edges_numbered new ≡ with_edge (edges_numbered old) e
 edges_put old new n e all h is (inl there) = rw (edge_known old n e is there.0) (ap edges_numbered there.1)
 edges_put old new n e all h is (inr put) = rw (edge_new old n e all h is put.0) (edges_pushed old new n e is put.1)
 
-pub distinct_put : (old new : List ℕ) (n : ℕ) → All IsEdgeNumber old → 2 ≤ n → IsPut n old new → IsDistinct is_same (edges_numbered old) →
+pub distinct_put : (old new : List ℕ) (n : ℕ) → All IsEdgeNumber old → 2 ≤ n → GoesLastIfNew n old new → IsDistinct is_same (edges_numbered old) →
     IsDistinct is_same (edges_numbered new)
 distinct_put old new n all h (inl there) d = subst (λ l. IsDistinct is_same (edges_numbered l)) (sym there.1) d
 distinct_put old new n all h (inr put) d = subst (IsDistinct is_same) (sym (edges_pushed old new n (edge_numbered n) refl put.1))
     (IsDistinct-push same-equivalence (edges_numbered old) (edge_numbered n) d (edge_new old n (edge_numbered n) all h refl put.0))
 
 -- a number that was put is new exactly if it stands behind all others
-pub put_is_new : (old new : List ℕ) (k count n : ℕ) (e : Edge) → All IsEdgeNumber old → 2 ≤ n → edge_numbered n ≡ e → count ≡ length old → IsPut n old new →
+pub put_is_new : (old new : List ℕ) (k count n : ℕ) (e : Edge) → All IsEdgeNumber old → 2 ≤ n → edge_numbered n ≡ e → count ≡ length old → GoesLastIfNew n old new →
     slice_get new k ≡ Some n → nat_eq k count ≡ not (list_any (is_same e) (edges_numbered old))
 put_is_new old new k count n e all h is long (inl there) at =
     let lt = slice_get-lt new k n at in

@@ -5,7 +5,7 @@ use Rattle.std.proofs.lemmas.List.{map-append}
 use Rattle.std.proofs.lemmas.List.Elements.{All-contains, All-push}
 use Rattle.std.proofs.lemmas.Option.{slice_get-map}
 use Rattle.tor_numbers.specs.EdgeNumbers.{number_of_edge, edge_numbered, IsEdgeNumber}
-use Rattle.tor_numbers.specs.Places.{IsPut}
+use Rattle.tor_numbers.specs.Places.{GoesLastIfNew}
 use Rattle.tor_numbers.proofs.Gets.{has-from_Contains, Contains-from_has, slice_get-unmap}
 
 -- ---- one number
@@ -43,6 +43,6 @@ number_there numbers n e all h is c =
 pub edges_pushed : (old new : List ℕ) (n : ℕ) (e : ℕ × ℕ) → edge_numbered n ≡ e → new ≡ old ++ n ∷ [] → map edge_numbered new ≡ map edge_numbered old ++ e ∷ []
 edges_pushed old new n e is put = ap (map edge_numbered) put ∙ map-append edge_numbered old (n ∷ []) ∙ ap (λ (f : ℕ × ℕ). map edge_numbered old ++ f ∷ []) is
 
-pub numbers_put : (old new : List ℕ) (n : ℕ) → All IsEdgeNumber old → IsEdgeNumber n → IsPut n old new → All IsEdgeNumber new
+pub numbers_put : (old new : List ℕ) (n : ℕ) → All IsEdgeNumber old → IsEdgeNumber n → GoesLastIfNew n old new → All IsEdgeNumber new
 numbers_put old new n all its (inl there) = subst (All IsEdgeNumber) (sym there.1) all
 numbers_put old new n all its (inr put) = subst (All IsEdgeNumber) (sym put.1) (All-push IsEdgeNumber old n all its)

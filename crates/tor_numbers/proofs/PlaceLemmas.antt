@@ -4,7 +4,7 @@ use Rattle.std.specs.Prelude.{◌^◌, slice_get, slice_index, Contains}
 use Rattle.std.proofs.lemmas.List.{length-map, length-append, map-set}
 use Rattle.std.proofs.lemmas.List.Elements.{All-contains, All-head, All-tail, All-set}
 use Rattle.std.proofs.lemmas.Option.{slice_get-get_or, get_or_from_slice_get}
-use Rattle.tor_numbers.specs.Slots.{start_at, LeadsTo, HeldFrom, IsHeld}
+use Rattle.tor_numbers.specs.Slots.{start_at, SearchLeadsTo, HeldFrom, IsHeld}
 use Rattle.tor_numbers.specs.Places.{named, names, AreWithin, IsPlaced}
 use Rattle.tor_numbers.proofs.Gets.{slice_get-lt, Contains-from_has}
 use Rattle.tor_numbers.proofs.SlotLemmas.{same_number, contains_at, one_more, held-put, held-room, apart-push}
@@ -94,7 +94,7 @@ wider count more slots le within k d lt = (let v = within k d lt in omega (arith
 
 -- a number that is put into a free slot
 pub placed-put : (seed : ℕ) (slots numbers : List ℕ) (slot start number : ℕ) → IsPlaced seed slots numbers → 2 ≤ number → length numbers + 1 < 2 ^ 32 →
-    start ≡ start_at seed number (length slots) → slice_get (names numbers slots) slot ≡ Some 0 → LeadsTo (names numbers slots) start number slot →
+    start ≡ start_at seed number (length slots) → slice_get (names numbers slots) slot ≡ Some 0 → SearchLeadsTo (names numbers slots) start number slot →
     (HeldFrom (names numbers slots) number start (length (names numbers slots)) → ⊥) →
     (Contains numbers number → ⊥) × IsPlaced seed (set slots slot (length numbers + 1)) (numbers ++ number ∷ [])
 placed-put seed slots numbers slot start number p some few is free leads none = (
@@ -116,7 +116,7 @@ placed-put seed slots numbers slot start number p some few is free leads none = 
 
     put : (Contains numbers number → ⊥) × IsHeld seed (set (names numbers slots) slot number) (numbers ++ number ∷ [])
     put = held-put seed number (names numbers slots) slot numbers some (slice_get-lt (names numbers slots) slot 0 free) free
-        (subst (λ s. LeadsTo (names numbers slots) s number slot) begins leads)
+        (subst (λ s. SearchLeadsTo (names numbers slots) s number slot) begins leads)
         (subst (λ s. HeldFrom (names numbers slots) number s (length (names numbers slots)) → ⊥) begins none) p.held
 
     same : names (numbers ++ number ∷ []) (set slots slot (length numbers + 1)) ≡ set (names numbers slots) slot number
@@ -148,7 +148,7 @@ names-free numbers (suc n) = ap (λ l. 0 ∷ l) (names-free numbers n)
 -- the next number's place is put into a free slot
 pub fill-next : (seed : ℕ) (slots numbers : List ℕ) (slot start place : ℕ) → place < length numbers → 2 ≤ slice_index numbers place →
     start ≡ start_at seed (slice_index numbers place) (length slots) → slice_get (names numbers slots) slot ≡ Some 0 →
-    LeadsTo (names numbers slots) start (slice_index numbers place) slot →
+    SearchLeadsTo (names numbers slots) start (slice_index numbers place) slot →
     (HeldFrom (names numbers slots) (slice_index numbers place) start (length (names numbers slots)) → ⊥) →
     IsHeld seed (names numbers slots) (take place numbers) → IsHeld seed (names numbers (set slots slot (place + 1))) (take (place + 1) numbers)
 fill-next seed slots numbers slot start place lt some is free leads none held =
@@ -163,7 +163,7 @@ fill-next seed slots numbers slot start place lt some is free leads none held =
     put : (Contains (take place numbers) (slice_index numbers place) → ⊥) ×
         IsHeld seed (set (names numbers slots) slot (slice_index numbers place)) (take place numbers ++ slice_index numbers place ∷ [])
     put = held-put seed (slice_index numbers place) (names numbers slots) slot (take place numbers) some (slice_get-lt (names numbers slots) slot 0 free) free
-        (subst (λ s. LeadsTo (names numbers slots) s (slice_index numbers place) slot) begins leads)
+        (subst (λ s. SearchLeadsTo (names numbers slots) s (slice_index numbers place) slot) begins leads)
         (subst (λ s. HeldFrom (names numbers slots) (slice_index numbers place) s (length (names numbers slots)) → ⊥) begins none) held
 
     same : names numbers (set slots slot (place + 1)) ≡ set (names numbers slots) slot (slice_index numbers place)

@@ -5,8 +5,9 @@ use Rattle.std.proofs.lemmas.List.{take-take, take-append-le}
 use Rattle.std.proofs.lemmas.List.Elements.{Contains-append_left, Contains-append_right, Contains-append_cases}
 use Rattle.std.proofs.Math.Seq.{take-append_seam, take-length, take-suc}
 use Rattle.std.proofs.lemmas.Option.{slice_get-get_or}
+use Rattle.tor_arena.specs.Growth.{next_slot}
 use Rattle.tor_numbers.proofs.Gets.{slice_get-push_cases, slice_get-lt, slice_get-take, slice_get-set_cases, slice_get-set_other, slice_get-set_same, slice_get-replicate, has-from_Contains, Contains-from_has}
-use Rattle.tor_numbers.specs.Slots.{start_at, next_slot, HeldFrom, StaysUsed, LeadsTo, IsSearchEnd, IsHeld, IsHolding, Leaves, IsApart}
+use Rattle.tor_numbers.specs.Slots.{start_at, HeldFrom, StaysUsed, SearchLeadsTo, IsSearchEnd, IsHeld, IsHolding, Leaves, IsApart}
 use Rattle.tor_numbers.specs.declared.slot_search.SearchEnd.{SearchEnd}
 use Rattle.tor_numbers.specs.declared.slot_search.SearchEnd.TheVariants.{Free, Full}
 
@@ -42,7 +43,7 @@ seeking_goes slots start number slot left n next s so k at other used is inside 
     rest (inr h) = h.1
 
 -- the number can be put where the search has come to
-pub seeking_leads : (slots : List ℕ) (start number slot left : ℕ) → 0 < left → IsSeeking slots start number slot left → LeadsTo slots start number slot
+pub seeking_leads : (slots : List ℕ) (start number slot left : ℕ) → 0 < left → IsSeeking slots start number slot left → SearchLeadsTo slots start number slot
 seeking_leads slots start number slot zero some k new len stays e = absurd (omega arith)
 seeking_leads slots start number slot (suc n) some k new len stays e = k.back new len stays (inl e)
 
@@ -110,7 +111,7 @@ held-again seed number slots numbers h c = record {
 
 -- a number that is put into a free slot
 pub held-put : (seed number : ℕ) (slots : List ℕ) (slot : ℕ) (numbers : List ℕ) → 2 ≤ number → slot < length slots → slice_get slots slot ≡ Some 0 →
-    LeadsTo slots (start_at seed number (length slots)) number slot → (HeldFrom slots number (start_at seed number (length slots)) (length slots) → ⊥) →
+    SearchLeadsTo slots (start_at seed number (length slots)) number slot → (HeldFrom slots number (start_at seed number (length slots)) (length slots) → ⊥) →
     IsHeld seed slots numbers → (Contains numbers number → ⊥) × IsHeld seed (set slots slot number) (numbers ++ number ∷ [])
 held-put seed number slots slot numbers some inside free leads none h =
     (absent, record { only = only; each = each; once = once; least = least })

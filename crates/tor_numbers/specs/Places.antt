@@ -23,5 +23,5 @@ pub record IsPlaced (seed : ℕ) (slots numbers : List ℕ) : Type 0 where
   pub few : length numbers < 2 ^ 32
 
 -- the number is there and nothing changes, or it is new and goes last
-abbrev pub IsPut : ℕ → List ℕ → List ℕ → Type 0
-IsPut number old new = (Contains old number × (new ≡ old)) ⊎ ((Contains old number → ⊥) × (new ≡ old ++ number ∷ []))
+abbrev pub GoesLastIfNew : ℕ → List ℕ → List ℕ → Type 0
+GoesLastIfNew number old new = (Contains old number × (new ≡ old)) ⊎ ((Contains old number → ⊥) × (new ≡ old ++ number ∷ []))

@@ -1,6 +1,6 @@
 -- Numbers in slots, each found from the slot that its hash names.
 use Rattle.std.specs.Prelude.{◌≡◌, ◌≢◌, ℕ, zero, suc, ◌+◌, ◌-◌, ◌*◌, ◌/◌, ◌^◌, ◌<◌, ◌≤◌, ◌⊎◌, Bool, true, false, nat_lt, if◌then◌else◌, List, [], ◌∷◌, ◌++◌, Some, length, take, slice_get, Contains, bit_and, bit_xor}
-use Rattle.tor_arena.specs.Growth.{IsDoubled}
+use Rattle.tor_arena.specs.Growth.{IsDoubled, next_slot}
 use Rattle.tor_numbers.specs.declared.slot_search.SearchEnd.{SearchEnd}
 use Rattle.tor_numbers.specs.declared.slot_search.SearchEnd.TheVariants.{Held, Free, Full}
 
@@ -11,10 +11,6 @@ hashed n = bit_xor (bit_and (n * 0x9e37_79b9_7f4a_7c15) (2 ^ 64 - 1)) (n * 0x9e3
 -- the slot, of so many, at which the search for a number begins; what goes into it differs from table to table
 abbrev pub start_at : (seed number count : ℕ) → ℕ
 start_at seed number count = bit_and (hashed (bit_xor number seed)) (count - 1)
-
--- the slot behind one, which is the first behind the last
-abbrev pub next_slot : (count slot : ℕ) → ℕ
-next_slot count slot = if nat_lt (slot + 1) count then slot + 1 else 0
 
 -- the number stands in the slot or one of the next, before any that is free, and among so many
 abbrev pub HeldFrom : (slots : List ℕ) (number slot many : ℕ) → Type 0
@@ -27,14 +23,14 @@ abbrev pub StaysUsed : (old new : List ℕ) → Type 0
 StaysUsed old new = (slot : ℕ) → slice_get new slot ≡ Some 0 → slice_get old slot ≡ Some 0
 
 -- the search for the number comes from the start to the slot, so that the number is found where it is put there
-abbrev pub LeadsTo : (slots : List ℕ) (start number slot : ℕ) → Type 0
-LeadsTo slots start number slot = (new : List ℕ) → length new ≡ length slots → StaysUsed slots new →
+abbrev pub SearchLeadsTo : (slots : List ℕ) (start number slot : ℕ) → Type 0
+SearchLeadsTo slots start number slot = (new : List ℕ) → length new ≡ length slots → StaysUsed slots new →
     slice_get new slot ≡ Some number → HeldFrom new number start (length slots)
 
 abbrev pub IsSearchEnd : (slots : List ℕ) (start number : ℕ) → SearchEnd → Type 0
-IsSearchEnd slots start number (Held slot) = (slice_get slots slot ≡ Some number) × LeadsTo slots start number slot
+IsSearchEnd slots start number (Held slot) = (slice_get slots slot ≡ Some number) × SearchLeadsTo slots start number slot
 IsSearchEnd slots start number (Free slot) =
-    (slice_get slots slot ≡ Some 0) × LeadsTo slots start number slot × (HeldFrom slots number start (length slots) → ⊥)
+    (slice_get slots slot ≡ Some 0) × SearchLeadsTo slots start number slot × (HeldFrom slots number start (length slots) → ⊥)
 IsSearchEnd slots start number Full = HeldFrom slots number start (length slots) → ⊥
 
 -- the slots hold these numbers alone, each in one of them

@@ -2,7 +2,7 @@
 ghost use Rattle.std.specs.Prelude.{◌≡◌, ◌<◌, ◌≤◌, ◌/◌, ◌^◌, ℕ, [], length, slice_get, Some, Contains, IfOk, OnOk, OnErr, MatchOption};
 ghost use Rattle.tor_numbers.specs.Slots.{IsSearchEnd, IsHeld, IsApart};
 ghost use Rattle.tor_arena.specs.Growth.{IsDoubled};
-ghost use Rattle.tor_numbers.specs.Places.{names, IsPlaced, AreWithin, IsPut};
+ghost use Rattle.tor_numbers.specs.Places.{names, IsPlaced, AreWithin, GoesLastIfNew};
 
 use crate::slot_search::{SearchEnd, next, start_of};
 use std::alloc::Global;
@@ -49,7 +49,7 @@ impl PlaceTable {
     /// are 2^32 - 1 numbers, and changes nothing.
     pub fn add(&mut self, number: u64) -> Result<usize, NoMemory>
         requires { 2 ≤ number }
-        ensures ok { OnOk result (IsPut number self.old self.new) }
+        ensures ok { OnOk result (GoesLastIfNew number self.old self.new) }
         ensures place { IfOk result (λ k. slice_get self.new k ≡ Some number) }
         ensures err { OnErr result (self.new ≡ self.old) }
     {

@@ -1,7 +1,8 @@
 //! Where the search for a number goes.
 
 ghost use Rattle.std.specs.Prelude.{◌≡◌, ◌<◌};
-ghost use Rattle.tor_numbers.specs.Slots.{hashed, start_at, next_slot};
+ghost use Rattle.tor_arena.specs.Growth.{next_slot};
+ghost use Rattle.tor_numbers.specs.Slots.{hashed, start_at};
 
 /// What each number is multiplied by, once the seed went into it.
 const MULTIPLIER: u64 = 0x9e37_79b9_7f4a_7c15;

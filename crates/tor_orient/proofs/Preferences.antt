@@ -9,7 +9,7 @@ use Rattle.relationships.specs.Relationship.{Orientation, Serves}
 use Rattle.relationships.specs.Graph.{Edge, is_same, edges, orientation, SameOn}
 use Rattle.relationships.specs.Preference.{IsPreferred}
 use Rattle.gao_prefs.specs.declared.preferring.Pref.{Pref}
-use Rattle.gao_prefs.specs.Preferences.{edge_at, edges_of}
+use Rattle.gao_prefs.specs.Preferences.{edge_preferred, edges_preferred}
 use Rattle.tor_digraph.specs.Reached.{Reach}
 use Rattle.tor_digraph.proofs.Gets.{has-from_Contains, Contains-from_has, slice_get-lt, slice_get-some}
 use Rattle.as_graph.specs.Paths.{paths_at}
@@ -51,7 +51,7 @@ read_end settled consistent k End.High End.Low is h = absurd (consistent (node_o
 
 module _ (graph : List (List ℕ)) (f : Formula) (apart : All NeighboursDiffer graph) (fits : FitsGraph graph f) (prefs : List Pref) (r : Reach ℕ ℕ) (ends : List End)
     (so : AreSettled f prefs (length prefs) r) (inside : All (λ (pref : Pref). pref.edge < length (edges graph)) prefs)
-    (each : (e : Edge) → Contains (edges graph) e ↔ Contains (edges_of (edges graph) prefs) e)
+    (each : (e : Edge) → Contains (edges graph) e ↔ Contains (edges_preferred (edges graph) prefs) e)
     (many : length ends ≡ length (edges graph)) (are : AreEndsOf r.nodes ends) where
   abbrev es : List Edge
   es = edges graph
@@ -72,8 +72,8 @@ module _ (graph : List (List ℕ)) (f : Formula) (apart : All NeighboursDiffer g
   preference_of k lt =
       let e = get_or es k (0, 0) in
       let at = slice_get-get_or es k (0, 0) lt in
-      let has = has-from_Contains (edges_of es prefs) e ((each e).0 (Contains-from_has es e (k, at))) in
-      let u = get-unmap (edge_at es) prefs has.0 e has.1 in
+      let has = has-from_Contains (edges_preferred es prefs) e ((each e).0 (Contains-from_has es e (k, at))) in
+      let u = get-unmap (edge_preferred es) prefs has.0 e has.1 in
       (has.0, u.0, u.1, one_place graph u.0.edge k e (subst (λ e. slice_get es u.0.edge ≡ Some e) u.2 (edge_stands es prefs inside has.0 u.0 u.1)) at)
 
   -- so one of the two literals of each edge is settled
@@ -101,12 +101,12 @@ module _ (graph : List (List ℕ)) (f : Formula) (apart : All NeighboursDiffer g
     pub serves : IsServed graph f.paths ends
     serves = (law graph f ends apart fits many).1 model
 
-    module _ (wanted : Edge → End) (wishes : AreWishes es prefs wanted) (before : List Edge) (e : Edge) (after : List Edge) (split : edges_of es prefs ≡ before ++ (e ∷ after)) where
+    module _ (wanted : Edge → End) (wishes : AreWishes es prefs wanted) (before : List Edge) (e : Edge) (after : List Edge) (split : edges_preferred es prefs ≡ before ++ (e ∷ after)) where
       abbrev O : Orientation
       O = orientation es ends
 
-      the_pref : (p : Pref) × (slice_get prefs (length before) ≡ Some p) × (edge_at es p ≡ e)
-      the_pref = get-unmap (edge_at es) prefs (length before) e (ap (λ (l : List Edge). slice_get l (length before)) split ∙ get-seam before e after)
+      the_pref : (p : Pref) × (slice_get prefs (length before) ≡ Some p) × (edge_preferred es p ≡ e)
+      the_pref = get-unmap (edge_preferred es) prefs (length before) e (ap (λ (l : List Edge). slice_get l (length before)) split ∙ get-seam before e after)
 
       abbrev p : Pref
       p = the_pref.0
@@ -115,7 +115,7 @@ module _ (graph : List (List ℕ)) (f : Formula) (apart : All NeighboursDiffer g
       p_stands = subst (λ e. slice_get es p.edge ≡ Some e) the_pref.2 (edge_stands es prefs inside (length before) p the_pref.1)
 
       p_wants : p.wanted ≡ wanted e
-      p_wants = All-contains (λ (pref : Pref). pref.wanted ≡ wanted (edge_at es pref)) prefs p wishes (Contains-from_has prefs p (length before, the_pref.1)) ∙ ap wanted the_pref.2
+      p_wants = All-contains (λ (pref : Pref). pref.wanted ≡ wanted (edge_preferred es pref)) prefs p wishes (Contains-from_has prefs p (length before, the_pref.1)) ∙ ap wanted the_pref.2
 
       forth : O e.0 e.1 ≡ wanted e → (O' : Orientation) × Serves O' (paths_at graph f.paths) × SameOn before O O' × (O' e.0 e.1 ≡ wanted e)
       forth is = (O, serves, (λ k d lt. refl), is)
@@ -127,8 +127,8 @@ module _ (graph : List (List ℕ)) (f : Formula) (apart : All NeighboursDiffer g
 
         agrees : AgreesUpTo prefs (length before) r.nodes (ends_of es O')
         agrees k q lt at =
-            let d = edge_at es q in
-            let there = get-before before (e ∷ after) k d lt (ap (λ (l : List Edge). slice_get l k) (sym split) ∙ get-map (edge_at es) prefs k q at) in
+            let d = edge_preferred es q in
+            let there = get-before before (e ∷ after) k d lt (ap (λ (l : List Edge). slice_get l k) (sym split) ∙ get-map (edge_preferred es) prefs k q at) in
             let alike = All-contains (λ (g : Edge). O g.0 g.1 ≡ O' g.0 g.1) before d same (Contains-from_has before d (k, there)) in
             let stands = edge_stands es prefs inside k q at in
             let n = node_wanted q in (
@@ -147,5 +147,5 @@ module _ (graph : List (List ℕ)) (f : Formula) (apart : All NeighboursDiffer g
           | inr out ↦ absurd (out (ends_of es O') (model_of graph f apart fits O' serves') agrees holds)
         ]
 
-    pub preferred : (wanted : Edge → End) → AreWishes es prefs wanted → IsPreferred (paths_at graph f.paths) wanted (edges_of es prefs) (orientation es ends)
+    pub preferred : (wanted : Edge → End) → AreWishes es prefs wanted → IsPreferred (paths_at graph f.paths) wanted (edges_preferred es prefs) (orientation es ends)
     preferred wanted wishes before e after split = (forth wanted wishes before e after split, λ o. back wanted wishes before e after split o.0 o.1 o.2 o.3)

@@ -14,7 +14,7 @@ use Rattle.tor_clauses.specs.Flipping.{HasPartners}
 use Rattle.tor_clauses.proofs.LiteralLemmas.{opposite_node_twice}
 use Rattle.tor_clauses.proofs.Sides.{holds_one}
 use Rattle.tor_clauses.proofs.Flips.{reach_back, reach_from, reach_own}
-use Rattle.tor_orient.specs.Steps.{node_wanted, IsClosed, IsSettledBy, AgreesUpTo, IsRuledOut, AreSettled}
+use Rattle.tor_orient.specs.Steps.{node_wanted, NoneLeadsOut, IsSettledBy, AgreesUpTo, IsRuledOut, AreSettled}
 
 -- ---- what is reached
 
@@ -42,12 +42,12 @@ found_way arcs start old new none grown n h = elim (grown_cases arcs start old n
 
 module _ (f : Formula) where
   -- no arc leads out of what is settled
-  pub settled_along : (r : Reach ℕ ℕ) → IsClosed f.net r → {a b : ℕ} → Contains r.nodes a → Reaches f.net.arcs a b → Contains r.nodes b
+  pub settled_along : (r : Reach ℕ ℕ) → NoneLeadsOut f.net r → {a b : ℕ} → Contains r.nodes a → Reaches f.net.arcs a b → Contains r.nodes b
   settled_along r closed h here = h
   settled_along r closed h (along {b = b} {c = c} w arc) = closed.heads b c (settled_along r closed h w) arc
 
   -- a walk from what was tried stays there, or comes to what is settled
-  tried_along : (settled tried : Reach ℕ ℕ) → IsClosed f.net settled → IsFlooded (λ n. n) (λ a. a) f.net.nodes f.net.arcs settled.nodes tried →
+  tried_along : (settled tried : Reach ℕ ℕ) → NoneLeadsOut f.net settled → IsFlooded (λ n. n) (λ a. a) f.net.nodes f.net.arcs settled.nodes tried →
       {a b : ℕ} → Contains tried.nodes a → Reaches f.net.arcs a b → Contains tried.nodes b ⊎ Contains settled.nodes b
   tried_along settled tried closed near h here = inl h
   tried_along settled tried closed near h (along {b = b} {c = c} w arc) = elim (tried_along settled tried closed near h w) [
@@ -56,7 +56,7 @@ module _ (f : Formula) where
   ]
 
   -- a search that has not come to the opposite of its start, where that is not settled
-  pub no_way : (settled tried : Reach ℕ ℕ) (node : ℕ) → IsClosed f.net settled → IsFlooded (λ n. n) (λ a. a) f.net.nodes f.net.arcs settled.nodes tried →
+  pub no_way : (settled tried : Reach ℕ ℕ) (node : ℕ) → NoneLeadsOut f.net settled → IsFlooded (λ n. n) (λ a. a) f.net.nodes f.net.arcs settled.nodes tried →
       Contains tried.nodes node → (Contains tried.nodes (opposite_node node) → ⊥) → (Contains settled.nodes (opposite_node node) → ⊥) →
       Reaches f.net.arcs node (opposite_node node) → ⊥
   no_way settled tried node closed near start unfound unsettled r = elim (tried_along settled tried closed near start r) [ inl h ↦ unfound h | inr h ↦ unsettled h ]
@@ -68,7 +68,7 @@ module _ (f : Formula) where
 -- ---- one edge more
 
 module _ (f : Formula) (prefs : List Pref) (count : ℕ) (old new : Reach ℕ ℕ) (p : Pref) (so : AreSettled f prefs count old)
-    (at : slice_get prefs count ≡ Some p) (closed : IsClosed f.net new) (keep : (n : ℕ) → Contains old.nodes n → Contains new.nodes n) where
+    (at : slice_get prefs count ≡ Some p) (closed : NoneLeadsOut f.net new) (keep : (n : ℕ) → Contains old.nodes n → Contains new.nodes n) where
   abbrev node : ℕ
   node = node_wanted p
 
@@ -123,7 +123,7 @@ module _ (f : Formula) (prefs : List Pref) (count : ℕ) (old new : Reach ℕ �
     }
 
   -- what an unsettled node reaches can be settled too, if it does not reach its opposite
-  grown_consistent : HasPartners f.net.arcs → IsClosed f.net old → (start : ℕ) → IsGrown f.net.arcs start old.nodes new.nodes → (Contains old.nodes (opposite_node start) → ⊥) →
+  grown_consistent : HasPartners f.net.arcs → NoneLeadsOut f.net old → (start : ℕ) → IsGrown f.net.arcs start old.nodes new.nodes → (Contains old.nodes (opposite_node start) → ⊥) →
       (Reaches f.net.arcs start (opposite_node start) → ⊥) → (n : ℕ) → Contains new.nodes n → Contains new.nodes (opposite_node n) → ⊥
   grown_consistent partners was_closed start grown unsettled apart n h k =
       elim (grown_cases f.net.arcs start old.nodes new.nodes grown n h) [
@@ -139,7 +139,7 @@ module _ (f : Formula) (prefs : List Pref) (count : ℕ) (old new : Reach ℕ �
 
 -- the search changes nothing
 module _ (f : Formula) (prefs : List Pref) (count : ℕ) (old new : Reach ℕ ℕ) (p : Pref) (so : AreSettled f prefs count old)
-    (at : slice_get prefs count ≡ Some p) (closed : IsClosed f.net new) where
+    (at : slice_get prefs count ≡ Some p) (closed : NoneLeadsOut f.net new) where
   abbrev wanted_one : ℕ
   wanted_one = node_wanted p
 
@@ -184,7 +184,7 @@ module _ (f : Formula) (prefs : List Pref) (count : ℕ) (old new : Reach ℕ �
 
 pub settled_next : (f : Formula) (prefs : List Pref) (count : ℕ) (old new : Reach ℕ ℕ) (p : Pref) → HasPartners f.net.arcs →
     (Reaches f.net.arcs (node_wanted p) (opposite_node (node_wanted p)) → Reaches f.net.arcs (opposite_node (node_wanted p)) (node_wanted p) → ⊥) →
-    AreSettled f prefs count old → slice_get prefs count ≡ Some p → IsClosed f.net new → IsSettledBy f.net.arcs (node_wanted p) old.nodes new.nodes →
+    AreSettled f prefs count old → slice_get prefs count ≡ Some p → NoneLeadsOut f.net new → IsSettledBy f.net.arcs (node_wanted p) old.nodes new.nodes →
     AreSettled f prefs (count + 1) new
 settled_next f prefs count old new p partners one_way so at closed (inl same) = unchanged f prefs count old new p so at closed same.1 same.0
 settled_next f prefs count old new p partners one_way so at closed (inr (unwanted, unsettled, inl new_one)) =
@@ -193,7 +193,7 @@ settled_next f prefs count old new p partners one_way so at closed (inr (unwante
     by_opposite f prefs count old new p so at closed partners unwanted new_one.0 (one_way new_one.0) new_one.1
 
 -- none is settled yet
-pub settled_none : (f : Formula) (prefs : List Pref) (r : Reach ℕ ℕ) → IsClosed f.net r → r.nodes ≡ [] → AreSettled f prefs 0 r
+pub settled_none : (f : Formula) (prefs : List Pref) (r : Reach ℕ ℕ) → NoneLeadsOut f.net r → r.nodes ≡ [] → AreSettled f prefs 0 r
 settled_none f prefs r closed none = record {
   closed = closed;
   consistent = λ n h. absurd (nothing none h);

@@ -13,8 +13,8 @@ abbrev pub node_wanted : Pref → ℕ
 node_wanted pref = node_of (record { edge = pref.edge; over = pref.wanted })
 
 -- no arc leads out of the nodes that are settled
-abbrev pub IsClosed : Net ℕ → Reach ℕ ℕ → Type 0
-IsClosed net r = IsSearched (λ n. n) (λ a. a) net.nodes net.arcs r
+abbrev pub NoneLeadsOut : Net ℕ → Reach ℕ ℕ → Type 0
+NoneLeadsOut net r = IsSearched (λ n. n) (λ a. a) net.nodes net.arcs r
 
 -- one edge more is settled: it was already, or by the node that is wanted, or by its opposite, if the one leads to the other. With the
 -- new node all are settled that it reaches
@@ -39,7 +39,7 @@ IsRuledOut f prefs count settled p = (ends : List End) → IsModel f ends → Ag
 
 -- the edges of the first preferences, so many, are settled
 pub record AreSettled (f : Formula) (prefs : List Pref) (count : ℕ) (r : Reach ℕ ℕ) : Type 0 where
-  pub closed : IsClosed f.net r
+  pub closed : NoneLeadsOut f.net r
   pub consistent : (n : ℕ) → Contains r.nodes n → Contains r.nodes (opposite_node n) → ⊥
   pub each : (k : ℕ) (p : Pref) → k < count → slice_get prefs k ≡ Some p → Contains r.nodes (node_wanted p) ⊎
       Contains r.nodes (opposite_node (node_wanted p))

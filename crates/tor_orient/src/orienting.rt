@@ -6,7 +6,7 @@ ghost use Rattle.relationships.specs.Selection.{IsServable};
 ghost use Rattle.relationships.specs.Preference.{IsPreferred};
 ghost use Rattle.tor_arena.specs.Distinct.{AllDistinct};
 ghost use Rattle.tor_arena.specs.Limits.{max_numbers};
-ghost use Rattle.gao_prefs.specs.Preferences.{edges_of};
+ghost use Rattle.gao_prefs.specs.Preferences.{edges_preferred};
 ghost use Rattle.tor_clauses.specs.Literals.{most_edges};
 ghost use Rattle.tor_clauses.specs.Formulas.{FitsGraph, demands_of, MeetsDemands};
 ghost use Rattle.tor_orient.specs.Wishes.{wish, AreWishes};
@@ -72,14 +72,14 @@ pub fn orient(
     requires servable { IsServable (demands_of graph.now clauses.now) }
     requires inside { All (λ pref. pref.edge < length (edges graph.now)) prefs.now }
     requires apart { AllDistinct (map (λ pref. pref.edge) prefs.now) }
-    requires each { (e : Edge) → Contains (edges graph.now) e ↔ Contains (edges_of (edges graph.now) prefs.now) e }
+    requires each { (e : Edge) → Contains (edges graph.now) e ↔ Contains (edges_preferred (edges graph.now) prefs.now) e }
     ensures many { IfOk result (λ ends. length ends ≡ length (edges graph.now)) }
     ensures serves { IfOk result (MeetsDemands graph.now clauses.now) }
     ensures preferred { IfOk result
         (λ ends. IsPreferred (demands_of graph.now clauses.now) (wish (edges graph.now) prefs.now)
-        (edges_of (edges graph.now) prefs.now) (orientation (edges graph.now) ends)) }
+        (edges_preferred (edges graph.now) prefs.now) (orientation (edges graph.now) ends)) }
     ensures wishes { IfOk result (λ ends. (wanted : Edge → End) → AreWishes (edges graph.now) prefs.now wanted →
-        IsPreferred (demands_of graph.now clauses.now) wanted (edges_of (edges graph.now) prefs.now)
+        IsPreferred (demands_of graph.now clauses.now) wanted (edges_preferred (edges graph.now) prefs.now)
         (orientation (edges graph.now) ends)) }
 {
     graph.facts();

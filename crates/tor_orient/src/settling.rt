@@ -4,13 +4,13 @@ ghost use Rattle.relationships.specs.Selection.{IsServable};
 ghost use Rattle.relationships.specs.Graph.{edges};
 ghost use Rattle.tor_clauses.specs.Literals.{most_edges};
 ghost use Rattle.tor_clauses.specs.Formulas.{FitsGraph, demands_of};
-ghost use Rattle.tor_orient.specs.Steps.{node_wanted, IsClosed, IsSettledBy, AreSettled};
+ghost use Rattle.tor_orient.specs.Steps.{node_wanted, NoneLeadsOut, IsSettledBy, AreSettled};
 
 use as_graph::AsGraph;
 use gao_prefs::Pref;
 use std::alloc::Global;
 use tor_arena::{ArcId, NoMemory, NodeId};
-use tor_clauses::{Clauses, Lit, opposite};
+use tor_clauses::{Clauses, Lit, negation_node};
 use tor_digraph::{Reached, RowDigraph};
 
 /// Settles an edge, with all that follows: by the literal that is wanted, or by the opposite one, where the wanted one leads to that.
@@ -26,8 +26,8 @@ fn settle(
     requires rows { rows.now ≡ clauses.now.net }
     requires few { pref.now.edge < most_edges }
     requires there { node_wanted pref.now < clauses.now.net.nodes }
-    requires closed { IsClosed clauses.now.net settled.old }
-    ensures closed { OnOk result (IsClosed clauses.now.net settled.new) }
+    requires closed { NoneLeadsOut clauses.now.net settled.old }
+    ensures closed { OnOk result (NoneLeadsOut clauses.now.net settled.new) }
     ensures settled { OnOk result (IsSettledBy clauses.now.net.arcs (node_wanted pref.now) settled.old.nodes settled.new.nodes) }
 {
     let node = Lit {
@@ -35,7 +35,7 @@ fn settle(
         over: pref.wanted,
     }
     .node();
-    let other = opposite(node);
+    let other = negation_node(node);
     if settled.has(node) {
         return Ok(());
     }

@@ -18,7 +18,7 @@ use Rattle.dump_read.specs.Files.{with_file}
 use Rattle.dump_read.specs.Laws.{IsTakenOf, Fit, routes_in_files}
 use Rattle.dump_read.specs.Reading.{FileEnd, Whole, Broken, TooLong, file_reading}
 use Rattle.dump_read.specs.Routes.{Route}
-use Rattle.dump_read.specs.Seen.{End, of_end, of_taking, of_file}
+use Rattle.dump_read.specs.Seen.{DumpsEnd, of_end, of_taking, of_file}
 use Rattle.dump_read.specs.Taking.{with_one, has_too_many_numbers, take_path, take_cleaned, take_route, take_routes, Takes}
 use Rattle.dump_read.proofs.FitLemmas.{fitting}
 use Rattle.dump_read.proofs.TakingLemmas as taking
@@ -149,7 +149,7 @@ are_taken sets dump (name ∷ names) (o ∷ octets) files old taken there e =
     by (of_file sets dump old (files name)) (ap (of_file sets dump old) (sym (first_there files name names o octets there))) e
     (λ further. are_taken sets (dump + 1) names octets files further taken (others_there files name names o octets there))
   where
-    by : (one : Result Taken End) → of_file sets dump old (Some o) ≡ one → (one >>= λ further. seen_from sets (dump + 1) further names files) ≡ Ok taken
+    by : (one : Result Taken DumpsEnd) → of_file sets dump old (Some o) ≡ one → (one >>= λ further. seen_from sets (dump + 1) further names files) ≡ Ok taken
         → ((further : Taken) → seen_from sets (dump + 1) further names files ≡ Ok taken → (new : Taken) × Takes sets further (routes_in_files octets) new)
         → (new : Taken) × Takes sets old (routes_in_files (o ∷ octets)) new
     by (Err end) is e ih = absurd cc
@@ -193,5 +193,5 @@ readable Labels settings files = dumps_readable settings.sets settings.max_paths
 readable Listing settings files = dumps_readable settings.sets settings.max_paths settings.dumps files
 readable Survey settings files = dumps_readable settings.sets settings.max_paths settings.dumps files
 readable (Sample seed) settings files =
-    subst (λ (given : Result Taken End). ((taken : Taken) × (given ≡ Ok taken)) ↔ AreReadable settings.sets settings.max_paths (Some (sample seed) ∷ []))
+    subst (λ (given : Result Taken DumpsEnd). ((taken : Taken) × (given ≡ Ok taken)) ↔ AreReadable settings.sets settings.max_paths (Some (sample seed) ∷ []))
     (as_dump settings seed) (dumps_readable settings.sets settings.max_paths ([] ∷ []) (sample_file seed))

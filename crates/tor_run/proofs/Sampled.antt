@@ -4,16 +4,16 @@ use Rattle.std.specs.Prelude.{IfSome, option_map}
 use Rattle.tor_io.specs.Contents.{Files}
 use Rattle.dump_read.specs.declared.error.DumpError.{DumpError}
 use Rattle.dump_read.specs.declared.error.DumpError.TheVariants as error
-use Rattle.dump_read.specs.Seen.{End}
+use Rattle.dump_read.specs.Seen.{DumpsEnd}
 use Rattle.tor_words.specs.declared.settings.Mode.{Mode}
 use Rattle.tor_words.specs.declared.settings.Mode.TheVariants.{Labels, Listing, Survey, Sample}
 use Rattle.tor_words.specs.declared.settings.Settings.{Settings}
 use Rattle.tor_words.specs.Given.{settings_given, HasDumps}
 use Rattle.run_base.specs.declared.answer.Refusal.{Refusal}
 use Rattle.run_base.specs.declared.answer.Refusal.TheVariants as refusal
-use Rattle.tor_run.specs.Answer.{IsEnd}
+use Rattle.tor_run.specs.Answer.{OutcomeIsEnd}
 use Rattle.tor_run.specs.Output.{IsOutputOf, IsAsked}
-use Rattle.tor_run.specs.Refusals.{IsEndIn, StopsIn, IsStop, IsStopIn, IsRefusal}
+use Rattle.tor_run.specs.Refusals.{IsEndIn, StopsIn, IsDumpStop, IsStopIn, IsRefusal}
 use Rattle.tor_run.specs.Sampling.{ByMode, ByModeOf, IfSample, known_for, known_by, known_in}
 use Rattle.tor_run.specs.Seen.{outcome, seen_in}
 use Rattle.tor_run.specs.Written.{Written}
@@ -79,14 +79,14 @@ asked-given words settings known output given h =
     }) h)
 
 end-given :
-    (words : List (List ℕ)) (settings : Settings) (known : Option Files) (end : End) → settings_given words ≡ Some settings → IsEndIn settings known end → IsEnd words known end
+    (words : List (List ℕ)) (settings : Settings) (known : Option Files) (end : DumpsEnd) → settings_given words ≡ Some settings → IsEndIn settings known end → OutcomeIsEnd words known end
 end-given words settings known end given h =
     all_known known (λ files. seen_in settings.mode settings files ≡ Err end) (λ files. outcome words files ≡ Some (Err end))
     (λ files is. outcome-given words settings files given ∙ ap Some is) h
 
 stop-given :
     (words : List (List ℕ)) (settings : Settings) (known : Option Files) (steady : Type 0) (dump : ℕ) (e : DumpError) → settings_given words ≡ Some settings
-    → StopsIn settings known steady dump e → IsStop words known steady dump e
+    → StopsIn settings known steady dump e → IsDumpStop words known steady dump e
 stop-given words settings known steady dump (error.Malformed place fault) given h = end-given words settings known _ given h
 stop-given words settings known steady dump (error.Limit kind) given h = end-given words settings known _ given h
 stop-given words settings known steady dump error.ReadFault given h = record {
@@ -104,7 +104,7 @@ pub refusal-given :
     → IsStopIn settings (known_in settings.mode known) steady r → IsRefusal words (known_by words known) steady r
 refusal-given words settings known steady (refusal.Words w) given h = absurd h
 refusal-given words settings known steady (refusal.Dumps stopped) given h =
-    known-given words settings known (λ o. IsStop words o steady stopped.dump stopped.error) given
+    known-given words settings known (λ o. IsDumpStop words o steady stopped.dump stopped.error) given
     (stop-given words settings (known_in settings.mode known) steady stopped.dump stopped.error given h)
 refusal-given words settings known steady refusal.NoMemory given h = tt
 

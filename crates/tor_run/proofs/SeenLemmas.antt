@@ -18,7 +18,7 @@ use Rattle.dump_read.specs.declared.file_counts.FileCounts.{FileCounts}
 use Rattle.dump_read.specs.Laws.{IsTakenOf, routes_in_files}
 use Rattle.dump_read.specs.Reading.{FileEnd, Whole, Broken, TooLong, file_reading}
 use Rattle.dump_read.specs.Routes.{Route}
-use Rattle.dump_read.specs.Seen.{End, of_end, of_taking, of_file}
+use Rattle.dump_read.specs.Seen.{DumpsEnd, of_end, of_taking, of_file}
 use Rattle.dump_read.specs.Taking.{take_cleaned, take_route, take_routes, Takes}
 use Rattle.dump_read.proofs.SumLemmas.{together_law}
 use Rattle.dump_read.proofs.TakingLemmas.{dumps, path_counted, same_ok}
@@ -29,7 +29,7 @@ use Rattle.run_base.specs.Reading.{nothing, seen_from}
 use Rattle.tor_run.specs.Seen.{seen_in_sample}
 use Rattle.tor_run.specs.SeenLaw.{IsWhole, IsSeenOf, DumpsLaw, SeenLaw}
 
-pub same : (x y : Taken) → ◌≡◌ {A = Result Taken End} (Ok x) (Ok y) → x ≡ y
+pub same : (x y : Taken) → ◌≡◌ {A = Result Taken DumpsEnd} (Ok x) (Ok y) → x ≡ y
 same x y e = cc
 
 -- ---- routes that are taken in leave the counts of files
@@ -106,7 +106,7 @@ rest sets dump before [] files old new so_far e = record {
 rest sets dump before (name ∷ names) files old new so_far e =
     by (files name) (of_file sets dump old (files name)) refl e (λ octets further. rest sets (dump + 1) (before ++ octets ∷ []) names files further new)
   where
-    by : (file : Option (List ℕ)) (one : Result Taken End) → of_file sets dump old file ≡ one → (one >>= λ further. seen_from sets (dump + 1) further names files) ≡ Ok new
+    by : (file : Option (List ℕ)) (one : Result Taken DumpsEnd) → of_file sets dump old file ≡ one → (one >>= λ further. seen_from sets (dump + 1) further names files) ≡ Ok new
         → ((octets : List ℕ) (further : Taken) → SoFar sets (before ++ octets ∷ []) further → seen_from sets (dump + 1) further names files ≡ Ok new
         → Further sets (before ++ octets ∷ []) (map files names) new)
         → Further sets before (file ∷ map files names) new
@@ -147,7 +147,7 @@ sample_file seed name = Some (sample seed)
 pub as_dump : (settings : Settings) (seed : ℕ) → seen_from settings.sets 1 (nothing settings.max_paths) ([] ∷ []) (sample_file seed) ≡ seen_in_sample settings seed
 as_dump settings seed = by (seen_in_sample settings seed)
   where
-    by : (one : Result Taken End) → (one >>= λ further. Ok further) ≡ one
+    by : (one : Result Taken DumpsEnd) → (one >>= λ further. Ok further) ≡ one
     by (Ok further) = refl
     by (Err end) = refl
 

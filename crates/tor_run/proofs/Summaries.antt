@@ -4,7 +4,7 @@ use Rattle.std.specs.Prelude.{[], ◌∷◌, decimal}
 use Rattle.std.specs.List.{concat}
 use Rattle.std.specs.Fmt.{digits}
 use Rattle.serde_json.proofs.OnLiterals.{serde_json_on_literals}
-use Rattle.path_clean.specs.Counts.{Counts, no_counts}
+use Rattle.path_clean.specs.Counts.{CauseCounts, no_counts}
 use Rattle.tor_run.specs.Summary.{all_asides, all_paths, summary_of}
 use Rattle.result_text.specs.declared.file.Totals.{Totals}
 
@@ -19,7 +19,7 @@ unfolding serde_json_on_literals digits
 summary_of-realistic = refl
 
 -- of any numbers
-summary_of-any : (asides : Counts) (totals : Totals) → summary_of asides totals ≡ concat (
+summary_of-any : (asides : CauseCounts) (totals : Totals) → summary_of asides totals ≡ concat (
     codes "{\"asides\":" ∷ decimal (all_asides asides)
     ∷ codes ",\"edges\":" ∷ decimal totals.edges
     ∷ codes ",\"forced\":" ∷ decimal totals.forced

@@ -3,10 +3,10 @@ use Rattle.std.proofs.Common.{◌≡◌, ◌≤◌, ◌<◌, ◌+◌, ◌==◌, 
 use Rattle.std.specs.Prelude.{is_some, nat_lt}
 use Rattle.std.specs.Str.{bytes_eq}
 use Rattle.std.proofs.lemmas.Bool.{cases_Bool, cases_order, both_ways, lt-ltb, ne_eqb}
+use Rattle.tor_arena.specs.Limits.{max_numbers}
 use Rattle.path_attrs.specs.Fields.{◌>>=◌}
 use Rattle.path_clean.specs.declared.cleaned.Sets.{Sets}
 use Rattle.path_clean.specs.Counts.{counted_one}
-use Rattle.path_clean.specs.Limits.{max_numbers}
 use Rattle.path_clean.specs.Rows.{Counted, numbers_in}
 use Rattle.path_clean.specs.Table.{place_of, with_path}
 use Rattle.path_clean.specs.declared.cleaned.Cleaned.{Cleaned}
@@ -19,7 +19,7 @@ use Rattle.dump_read.specs.declared.taking.Taken.{Taken}
 use Rattle.dump_read.specs.Routes.{Route}
 use Rattle.dump_read.specs.Reading.{FileEnd, Whole, Broken, TooLong, file_reading}
 use Rattle.dump_read.specs.Files.{with_file}
-use Rattle.dump_read.specs.Seen.{End, of_end, of_taking, of_octets, of_file}
+use Rattle.dump_read.specs.Seen.{DumpsEnd, of_end, of_taking, of_octets, of_file}
 use Rattle.dump_read.specs.Taking.{with_one, has_too_many_numbers, take_path, take_cleaned, take_route, take_routes}
 use Rattle.run_base.specs.Reading.{seen_from}
 
@@ -62,7 +62,7 @@ choose known met many made = if known then Ok made else if met then Err Paths el
 same_ok : (x y : Taken) → ◌≡◌ {A = Result Taken LimitKind} (Ok x) (Ok y) → x ≡ y
 same_ok x y e = cc
 
-same_end : (x y : Taken) → ◌≡◌ {A = Result Taken End} (Ok x) (Ok y) → x ≡ y
+same_end : (x y : Taken) → ◌≡◌ {A = Result Taken DumpsEnd} (Ok x) (Ok y) → x ≡ y
 same_end x y e = cc
 
 chosen : (most : ℕ) (known met many met' many' : Bool) (made new : Taken) →
@@ -183,14 +183,14 @@ module _ (limit most : ℕ) where
 
   pub all_files : (sets : Sets) (dump : ℕ) (taken new : Taken) (names : List (List ℕ)) (files : Files) → IsWithin limit most taken →
       seen_from sets dump taken names files ≡ Ok new → seen_from sets dump (widened most taken) names files ≡ Ok (widened most new)
-  all_files sets dump taken new [] files within e = ap (λ (r : Result Taken End). widened_in r) e
+  all_files sets dump taken new [] files within e = ap (λ (r : Result Taken DumpsEnd). widened_in r) e
     where
-      widened_in : Result Taken End → Result Taken End
+      widened_in : Result Taken DumpsEnd → Result Taken DumpsEnd
       widened_in (Ok t) = Ok (widened most t)
       widened_in (Err end) = Err end
   all_files sets dump taken new (name ∷ names) files within e = by (of_file sets dump taken (files name)) refl e (λ further. all_files sets (dump + 1) further new names files)
     where
-      by : (one : Result Taken End) → of_file sets dump taken (files name) ≡ one → (one >>= λ further. seen_from sets (dump + 1) further names files) ≡ Ok new →
+      by : (one : Result Taken DumpsEnd) → of_file sets dump taken (files name) ≡ one → (one >>= λ further. seen_from sets (dump + 1) further names files) ≡ Ok new →
           ((further : Taken) → IsWithin limit most further → seen_from sets (dump + 1) further names files ≡ Ok new → seen_from sets (dump + 1) (widened most further) names files ≡ Ok (widened most new)) →
           (of_file sets dump (widened most taken) (files name) >>= λ further. seen_from sets (dump + 1) further names files) ≡ Ok (widened most new)
       by (Err end) is e rest = absurd cc

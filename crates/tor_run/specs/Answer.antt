@@ -4,7 +4,7 @@ use Rattle.tor_io.specs.Contents.{Files}
 use Rattle.dump_read.specs.declared.error.Place.{Place}
 use Rattle.dump_read.specs.declared.error.Fault.{Fault}
 use Rattle.dump_read.specs.declared.error.LimitKind.{LimitKind}
-use Rattle.dump_read.specs.Seen.{End, Absent, Malformed, Limit}
+use Rattle.dump_read.specs.Seen.{DumpsEnd, Absent, Malformed, Limit}
 use Rattle.tor_words.specs.declared.settings.Settings.{Settings}
 use Rattle.tor_words.specs.Refused.{HasUsageLine}
 use Rattle.tor_words.specs.Given.{settings_given}
@@ -16,8 +16,8 @@ use Rattle.run_base.specs.Reading.{nothing, seen_from}
 use Rattle.tor_run.specs.Seen.{outcome}
 
 -- what the words and the files give, where these are known, is this end
-abbrev pub IsEnd : List (List ℕ) → Option Files → End → Type 0
-IsEnd words known end = IfSome known (λ files. outcome words files ≡ Some (Err end))
+abbrev pub OutcomeIsEnd : List (List ℕ) → Option Files → DumpsEnd → Type 0
+OutcomeIsEnd words known end = IfSome known (λ files. outcome words files ≡ Some (Err end))
 
 -- the dumps before this one have no end
 abbrev pub ReadBefore : Settings → Option Files → ℕ → Type 0
@@ -31,15 +31,15 @@ pub record FailedAt (words : List (List ℕ)) (known : Option Files) (steady : T
   pub from_one : 1 ≤ dump
   pub named : dump ≤ length settings.dumps
   pub before : ReadBefore settings known dump
-  pub absent : steady → IsEnd words known (Absent dump)
+  pub absent : steady → OutcomeIsEnd words known (Absent dump)
 
 -- the note of a status, with the place or the quantity of the end that the words and the files give
 abbrev pub IsNote : List (List ℕ) → Option Files → Type 0 → Status → List ℕ → Type 0
 IsNote words known steady status.Usage text = HasUsageLine text
 IsNote words known steady status.Malformed text =
-    (place : Place) × (fault : Fault) × (text ≡ malformed_note place fault) × IsEnd words known (Malformed place fault)
+    (place : Place) × (fault : Fault) × (text ≡ malformed_note place fault) × OutcomeIsEnd words known (Malformed place fault)
 IsNote words known steady status.Limit text =
-    (kind : LimitKind) × (dump : ℕ) × (text ≡ limit_note kind dump) × IsEnd words known (Limit kind dump)
+    (kind : LimitKind) × (dump : ℕ) × (text ≡ limit_note kind dump) × OutcomeIsEnd words known (Limit kind dump)
 IsNote words known steady status.ReadFault text = (dump : ℕ) × (text ≡ read_fault_note dump) × FailedAt words known steady dump
 IsNote words known steady status.Done text = IsNoteOfOutput words text
 IsNote words known steady status.No text = text ≡ plain_note status.No
@@ -56,5 +56,5 @@ abbrev pub IsLimited : List (List ℕ) → Option Files → Type 0
 IsLimited words known = IfSome known (λ files. (kind : LimitKind) × (dump : ℕ) × (outcome words files ≡ Some (Err (Limit kind dump))))
 
 -- it is a dump that isn't there
-abbrev pub IsAbsent : List (List ℕ) → Option Files → Type 0
-IsAbsent words known = IfSome known (λ files. (dump : ℕ) × (outcome words files ≡ Some (Err (Absent dump))))
+abbrev pub IsAbsentDump : List (List ℕ) → Option Files → Type 0
+IsAbsentDump words known = IfSome known (λ files. (dump : ℕ) × (outcome words files ≡ Some (Err (Absent dump))))

@@ -3,7 +3,7 @@ use Rattle.std.specs.Prelude.{◌≡◌, ◌++◌, ◌∷◌, [], ℕ, List, Opt
 use Rattle.std.specs.Io.KnownBytes.{append_known}
 use Rattle.tor_io.specs.Contents.{Files, GainsPrefix}
 use Rattle.dump_read.specs.declared.taking.Taken.{Taken}
-use Rattle.dump_read.specs.Seen.{End}
+use Rattle.dump_read.specs.Seen.{DumpsEnd}
 use Rattle.result_text.specs.declared.file.ResultFile.{ResultFile}
 use Rattle.result_text.specs.Grammar.{IsTextOf}
 use Rattle.result_rules.specs.declared.verdict.Verdict.TheVariants.{Yes}
@@ -53,7 +53,7 @@ abbrev pub IsOutput : Settings → Taken → Written → Type 0
 IsOutput settings taken output = IsOutputIn settings.mode settings taken output
 
 -- this is asked for where the dumps give that
-abbrev pub IsOutputOf : Settings → Result Taken End → Written → Type 0
+abbrev pub IsOutputOf : Settings → Result Taken DumpsEnd → Written → Type 0
 IsOutputOf settings given output = (taken : Taken) × (given ≡ Ok taken) × IsOutput settings taken output
 
 -- the words ask for it, and the dumps that they name give that

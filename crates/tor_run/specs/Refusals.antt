@@ -3,7 +3,7 @@ use Rattle.std.specs.Prelude.{◌≡◌, ◌≤◌, ℕ, List, length, Option, N
 use Rattle.tor_io.specs.Contents.{Files}
 use Rattle.dump_read.specs.declared.error.DumpError.{DumpError}
 use Rattle.dump_read.specs.declared.error.DumpError.TheVariants as error
-use Rattle.dump_read.specs.Seen.{End, Absent, Malformed, Limit}
+use Rattle.dump_read.specs.Seen.{DumpsEnd, Absent, Malformed, Limit}
 use Rattle.tor_words.specs.declared.settings.Settings.{Settings}
 use Rattle.tor_run.specs.Seen.{seen_in}
 use Rattle.tor_words.specs.declared.refused.WordsRefused.TheVariants as refused
@@ -12,24 +12,24 @@ use Rattle.tor_words.specs.Given.{settings_given}
 use Rattle.run_base.specs.declared.status.Status.TheVariants as status
 use Rattle.run_base.specs.declared.answer.Refusal.{Refusal}
 use Rattle.run_base.specs.declared.answer.Refusal.TheVariants as refusal
-use Rattle.tor_run.specs.Answer.{IsEnd, FailedAt, ReadBefore}
+use Rattle.tor_run.specs.Answer.{OutcomeIsEnd, FailedAt, ReadBefore}
 
 -- the reading of a dump stopped for this, by what the words and the files give, where these are known
-abbrev pub IsStop : List (List ℕ) → Option Files → Type 0 → ℕ → DumpError → Type 0
-IsStop words known steady dump (error.Malformed place fault) = IsEnd words known (Malformed place fault)
-IsStop words known steady dump (error.Limit kind) = IsEnd words known (Limit kind dump)
-IsStop words known steady dump error.ReadFault = FailedAt words known steady dump
-IsStop words known steady dump error.NoMemory = Unit {0}
+abbrev pub IsDumpStop : List (List ℕ) → Option Files → Type 0 → ℕ → DumpError → Type 0
+IsDumpStop words known steady dump (error.Malformed place fault) = OutcomeIsEnd words known (Malformed place fault)
+IsDumpStop words known steady dump (error.Limit kind) = OutcomeIsEnd words known (Limit kind dump)
+IsDumpStop words known steady dump error.ReadFault = FailedAt words known steady dump
+IsDumpStop words known steady dump error.NoMemory = Unit {0}
 
 -- there is no text for this, by what the words and the files give
 abbrev pub IsRefusal : List (List ℕ) → Option Files → Type 0 → Refusal → Type 0
 IsRefusal words known steady (refusal.Words (refused.Usage text)) = (settings_given words ≡ None) × HasUsageLine text
 IsRefusal words known steady (refusal.Words refused.NoMemory) = Unit {0}
-IsRefusal words known steady (refusal.Dumps stopped) = IsStop words known steady stopped.dump stopped.error
+IsRefusal words known steady (refusal.Dumps stopped) = IsDumpStop words known steady stopped.dump stopped.error
 IsRefusal words known steady refusal.NoMemory = Unit {0}
 
 -- what the dumps of the settings give, where the files are known, is this end
-abbrev pub IsEndIn : Settings → Option Files → End → Type 0
+abbrev pub IsEndIn : Settings → Option Files → DumpsEnd → Type 0
 IsEndIn settings known end = IfSome known (λ files. seen_in settings.mode settings files ≡ Err end)
 
 -- the reading of the dumps of these settings stopped for this

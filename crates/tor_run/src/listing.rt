@@ -5,7 +5,7 @@ ghost use Rattle.std.specs.List.{join_with_byte};
 ghost use Rattle.std.specs.Io.KnownBytes.{append_known};
 ghost use Rattle.tor_io.specs.Counts.{HasCause};
 ghost use Rattle.tor_io.specs.Contents.{GainsPrefix, PassesOn};
-ghost use Rattle.tor_run.specs.Listing.{line, listing, number_at};
+ghost use Rattle.tor_run.specs.Listing.{list_line, listing, spaced_number};
 
 use path_clean::PathTable;
 use result_text::write_digits;
@@ -40,8 +40,8 @@ fn put_number_at<O: Sink>(
     place: usize,
     number: u32,
 ) -> Result<(), Failed>
-    ensures all { OnOk result (PassesOn (O.held out.old) (O.held out.new) buffer.new (buffer.old ++ number_at place number)) }
-    ensures prefix { OnErr result (GainsPrefix (O.held out.old) (O.held out.new) (buffer.old ++ number_at place number)) }
+    ensures all { OnOk result (PassesOn (O.held out.old) (O.held out.new) buffer.new (buffer.old ++ spaced_number place number)) }
+    ensures prefix { OnErr result (GainsPrefix (O.held out.old) (O.held out.new) (buffer.old ++ spaced_number place number)) }
     ensures cause { HasCause (O.faults out.old) (O.faults out.new) result }
 {
     if place == 0 {
@@ -95,9 +95,9 @@ fn put_line<O: Sink>(
     path: &[u32],
 ) -> Result<(), Failed>
     ensures all { OnOk result (PassesOn (O.held out.old) (O.held out.new) buffer.new
-        (buffer.old ++ line (record { path = path.now; times = times }))) }
+        (buffer.old ++ list_line (record { path = path.now; times = times }))) }
     ensures prefix { OnErr result (GainsPrefix (O.held out.old) (O.held out.new)
-        (buffer.old ++ line (record { path = path.now; times = times }))) }
+        (buffer.old ++ list_line (record { path = path.now; times = times }))) }
     ensures cause { HasCause (O.faults out.old) (O.faults out.new) result }
 {
     put_times(out, buffer, times)?;

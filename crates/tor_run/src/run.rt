@@ -11,7 +11,7 @@ ghost use Rattle.dump_read.specs.declared.taking.Taken.{Taken};
 ghost use Rattle.tor_words.specs.Given.{settings_given};
 ghost use Rattle.tor_run.specs.Sampling.{IfSample, known_by};
 ghost use Rattle.tor_run.specs.Seen.{outcome};
-ghost use Rattle.tor_run.specs.Answer.{IsNote, IsMalformed, IsLimited, IsAbsent};
+ghost use Rattle.tor_run.specs.Answer.{IsNote, IsMalformed, IsLimited, IsAbsentDump};
 ghost use Rattle.run_base.specs.Answers.{IsNoted};
 ghost use Rattle.tor_run.specs.Output.{GainsOutput, GainsOutputPrefix, GainsSome, GainsSomePrefix};
 ghost use Rattle.run_base.specs.Answers.{note_in};
@@ -106,7 +106,7 @@ pub fn infer<H: Shelf, O: Sink, E: Sink>(
     ensures limit { result ≡ Status.Limit → IsLimited words.now (known_by words.now (H.files shelf.old)) }
     ensures read_fault { result ≡ Status.ReadFault → Rose (H.faults shelf.old) (H.faults shelf.new) }
     ensures steady_read_fault { H.steady shelf.old → result ≡ Status.ReadFault →
-        IsAbsent words.now (known_by words.now (H.files shelf.old)) }
+        IsAbsentDump words.now (known_by words.now (H.files shelf.old)) }
     ensures write_fault { result ≡ Status.WriteFault → Rose (O.faults out.old) (O.faults out.new) }
     ensures no_other { result ≢ Status.No }
 

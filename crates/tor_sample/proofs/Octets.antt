@@ -2,20 +2,20 @@
 use Rattle.std.proofs.Common.{◌≡◌, ℕ, zero, suc, ◌+◌, ◌*◌, List, [], ◌∷◌, ◌++◌, length, refl, sym, ap, subst, ◌∙◌, arith}
 use Rattle.std.proofs.lemmas.List.{append_assoc, append-nil}
 use Rattle.tor_sample.specs.declared.networks.Providers.{Providers}
-use Rattle.tor_sample.specs.Draws.{◌>>=◌, just, onto}
+use Rattle.tor_sample.specs.Draws.{◌>>=◌, just, draw_on}
 use Rattle.tor_sample.specs.Networks.{networks}
-use Rattle.tor_sample.specs.Paths.{path_of}
-use Rattle.tor_sample.specs.Records.{as_numbers, attributes, rib, record_of, peer_table, records, sample}
+use Rattle.tor_sample.specs.Paths.{route_path}
+use Rattle.tor_sample.specs.Records.{as_numbers, sample_attributes, sample_rib, sample_record, peer_table, records, sample}
 
 pub length-as_numbers : (path : List ℕ) → length (as_numbers path) ≡ 4 * length path
 length-as_numbers [] = refl
 length-as_numbers (network ∷ path) = let e = length-as_numbers path in omega (arith, e)
 
-pub length-attributes : (path : List ℕ) → length (attributes path) ≡ 9 + 4 * length path
+pub length-attributes : (path : List ℕ) → length (sample_attributes path) ≡ 9 + 4 * length path
 length-attributes path = let e = length-as_numbers path in omega (arith, e)
 
 -- the record of a route has 39 octets and four for each number of its path: 12 of them are its header
-pub length-rib : (k : ℕ) (path : List ℕ) → length (rib k path) ≡ 27 + 4 * length path
+pub length-rib : (k : ℕ) (path : List ℕ) → length (sample_rib k path) ≡ 27 + 4 * length path
 length-rib k path = let e = length-as_numbers path in omega (arith, e)
 
 -- three parts that were put at the end one after the other
@@ -26,12 +26,12 @@ three_put old a b now x y z first second third =
 
 -- the records of one route more
 pub records-next :
-    (k s t u : ℕ) (nets : List Providers) (before path : List ℕ) → records nets k s ≡ (before, t) → path_of nets k t ≡ (path, u)
-    → records nets (suc k) s ≡ (before ++ record_of 2 (rib k path), u)
+    (k s t u : ℕ) (nets : List Providers) (before path : List ℕ) → records nets k s ≡ (before, t) → route_path nets k t ≡ (path, u)
+    → records nets (suc k) s ≡ (before ++ sample_record 2 (sample_rib k path), u)
 unfolding records
 records-next k s t u nets before path first last =
-    ap (onto (λ before. path_of nets k >>= (λ path. just (before ++ record_of 2 (rib k path))))) first
-    ∙ ap (onto (λ path. just (before ++ record_of 2 (rib k path)))) last
+    ap (draw_on (λ before. route_path nets k >>= (λ path. just (before ++ sample_record 2 (sample_rib k path))))) first
+    ∙ ap (draw_on (λ path. just (before ++ sample_record 2 (sample_rib k path)))) last
 
 pub records-none : (nets : List Providers) (s : ℕ) → records nets zero s ≡ ([], s)
 unfolding records
@@ -45,12 +45,12 @@ pub puts-none : (nets : List Providers) (seed : ℕ) (old : List ℕ) → Puts n
 puts-none nets seed old = ([], sym (append-nil old), records-none nets seed)
 
 pub puts-next :
-    (nets : List Providers) (seed k s t : ℕ) (old before now path : List ℕ) → Puts nets seed old k before s → path_of nets k s ≡ (path, t)
-    → now ≡ before ++ record_of 2 (rib k path) → Puts nets seed old (k + 1) now t
+    (nets : List Providers) (seed k s t : ℕ) (old before now path : List ℕ) → Puts nets seed old k before s → route_path nets k s ≡ (path, t)
+    → now ≡ before ++ sample_record 2 (sample_rib k path) → Puts nets seed old (k + 1) now t
 puts-next nets seed k s t old before now path so_far drawn is = (
-  so_far.0 ++ record_of 2 (rib k path),
-  is ∙ ap (λ xs. xs ++ record_of 2 (rib k path)) so_far.1 ∙ append_assoc old so_far.0 (record_of 2 (rib k path)),
-  subst (λ n. records nets n seed ≡ (so_far.0 ++ record_of 2 (rib k path), t)) (omega arith) (records-next k seed s t nets so_far.0 path so_far.2 drawn),
+  so_far.0 ++ sample_record 2 (sample_rib k path),
+  is ∙ ap (λ xs. xs ++ sample_record 2 (sample_rib k path)) so_far.1 ∙ append_assoc old so_far.0 (sample_record 2 (sample_rib k path)),
+  subst (λ n. records nets n seed ≡ (so_far.0 ++ sample_record 2 (sample_rib k path), t)) (omega arith) (records-next k seed s t nets so_far.0 path so_far.2 drawn),
 )
 
 -- the dump from its parts
@@ -59,4 +59,4 @@ pub sample-is :
     → octets ≡ sample seed
 unfolding sample
 sample-is seed s nets octets made is =
-    is ∙ ap (λ r. r.0) (sym (ap (onto (λ nets. records nets 20000 >>= (λ octets. just (peer_table ++ octets)))) made))
+    is ∙ ap (λ r. r.0) (sym (ap (draw_on (λ nets. records nets 20000 >>= (λ octets. just (peer_table ++ octets)))) made))

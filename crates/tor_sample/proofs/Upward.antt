@@ -4,7 +4,7 @@ use Rattle.std.proofs.lemmas.List.{length-append, append_assoc, get_or_append_le
 use Rattle.std.proofs.lemmas.Grind.{common_steps}
 use Rattle.std.proofs.Math.Seq.{get_or-append_seam}
 use Rattle.tor_sample.specs.declared.networks.Providers.{Providers}
-use Rattle.tor_sample.specs.Draws.{◌>>=◌, just, onto}
+use Rattle.tor_sample.specs.Draws.{◌>>=◌, just, draw_on}
 use Rattle.tor_sample.specs.Networks.{providers_of, networks, provider_of, climb_within, climb}
 use Rattle.tor_sample.specs.Levels.{IsAbove, LeadUp}
 
@@ -18,8 +18,8 @@ pub networks-next :
     → networks (suc n) s ≡ (nets ++ p ∷ [], u)
 unfolding networks
 networks-next n s t u nets p before last =
-    ap (onto (λ before. providers_of (10 + n) >>= (λ last. just (before ++ last ∷ [])))) before
-    ∙ ap (onto (λ last. just (nets ++ last ∷ []))) last
+    ap (draw_on (λ before. providers_of (10 + n) >>= (λ last. just (before ++ last ∷ [])))) before
+    ∙ ap (draw_on (λ last. just (nets ++ last ∷ []))) last
 
 pub networks-none : (s : ℕ) → networks zero s ≡ ([], s)
 unfolding networks
@@ -86,7 +86,7 @@ pub climb-on :
 unfolding climb_within
 climb-on n nets network above s t low drawn =
     ap (λ b. (if b then just (network ∷ []) else provider_of nets network >>= (λ above. climb_within n nets above >>= (λ others. just (network ∷ others)))) s) (le-ltb network 10 low)
-    ∙ ap (onto (λ above. climb_within n nets above >>= (λ others. just (network ∷ others)))) drawn
+    ∙ ap (draw_on (λ above. climb_within n nets above >>= (λ others. just (network ∷ others)))) drawn
 
 -- what a climb has come to: these networks, and then the rest from this one on
 abbrev pub Climbs : List Providers → ℕ × ℕ → List ℕ → ℕ × ℕ → Type 0

@@ -3,8 +3,8 @@ use Rattle.std.proofs.Common.{◌≡◌, ℕ, ◌+◌, ◌*◌, List, [], ◌∷
 use Rattle.tor_sample.specs.declared.networks.Providers.{Providers}
 use Rattle.tor_sample.specs.Draws.{next, draw}
 use Rattle.tor_sample.specs.Networks.{networks, climb_within, climb}
-use Rattle.tor_sample.specs.Paths.{over_top, through_valley, prepended, path_of}
-use Rattle.tor_sample.specs.Records.{record_of, rib, peer_table}
+use Rattle.tor_sample.specs.Paths.{over_top, through_valley, prepended, route_path}
+use Rattle.tor_sample.specs.Records.{sample_record, sample_rib, peer_table}
 use Rattle.tor_sample.proofs.Octets.{length-rib}
 
 -- the first state behind the seed 0, and the first draw: a provider of the network 10
@@ -57,16 +57,16 @@ table : peer_table ≡ 0 ∷ 0 ∷ 0 ∷ 0 ∷ 0 ∷ 13 ∷ 0 ∷ 1 ∷ 0 ∷ 0 
 table = refl
 
 -- the record of a route from the AS 1010 to the AS 1020 in place 258
-one_record : record_of 2 (rib 258 (10 ∷ 20 ∷ [])) ≡
+one_record : sample_record 2 (sample_rib 258 (10 ∷ 20 ∷ [])) ≡
     0 ∷ 0 ∷ 0 ∷ 0 ∷ 0 ∷ 13 ∷ 0 ∷ 2 ∷ 0 ∷ 0 ∷ 0 ∷ 35 ∷ 0 ∷ 0 ∷ 1 ∷ 2 ∷ 24 ∷ 10 ∷ 1 ∷ 2 ∷ 0 ∷ 1 ∷ 0 ∷ 0 ∷ 0 ∷ 0 ∷ 0 ∷ 0 ∷ 0 ∷ 17 ∷
     64 ∷ 1 ∷ 1 ∷ 0 ∷ 64 ∷ 2 ∷ 10 ∷ 2 ∷ 2 ∷ 0 ∷ 0 ∷ 3 ∷ 242 ∷ 0 ∷ 0 ∷ 3 ∷ 252 ∷ []
 one_record = refl
 
 -- a record has 39 octets and four for each number of its path
-octets_of_a_record : (k : ℕ) (path : List ℕ) → length (record_of 2 (rib k path)) ≡ 39 + 4 * length path
+octets_of_a_record : (k : ℕ) (path : List ℕ) → length (sample_record 2 (sample_rib k path)) ≡ 39 + 4 * length path
 octets_of_a_record k path = let e = length-rib k path in omega (arith, e)
 
 -- the first route
-first_route : (path_of (networks 1990 0).0 0 (networks 1990 0).1).0 ≡ 544 ∷ 117 ∷ 26 ∷ 0 ∷ 9 ∷ 27 ∷ 134 ∷ 324 ∷ []
-unfolding networks climb_within path_of
+first_route : (route_path (networks 1990 0).0 0 (networks 1990 0).1).0 ≡ 544 ∷ 117 ∷ 26 ∷ 0 ∷ 9 ∷ 27 ∷ 134 ∷ 324 ∷ []
+unfolding networks climb_within route_path
 first_route = refl

@@ -14,12 +14,12 @@ abbrev pub just : {A : Type 0} → A → Drawn A
 just x s = (x, s)
 
 -- what was made goes into what is made next, and the draws go on
-abbrev pub onto : {A B : Type 0} → (A → Drawn B) → A × ℕ → B × ℕ
-onto f made = f made.0 made.1
+abbrev pub draw_on : {A B : Type 0} → (A → Drawn B) → A × ℕ → B × ℕ
+draw_on f made = f made.0 made.1
 
 infixl 10 ◌>>=◌
 abbrev pub ◌>>=◌ : {A B : Type 0} → Drawn A → (A → Drawn B) → Drawn B
-(made >>= f) s = onto f (made s)
+(made >>= f) s = draw_on f (made s)
 
 -- a number below the bound, by the high bits of the next state
 abbrev pub draw : ℕ → Drawn ℕ

@@ -24,16 +24,16 @@ abbrev pub prepended : List ℕ → List ℕ
 prepended path = path ++ last path ∷ last path ∷ []
 
 -- the path of route k between two climbs, the first of which begins at `from`; each fiftieth route, from 49 on, is a valley
-abbrev pub turned : List Providers → ℕ → ℕ → List ℕ → List ℕ → Drawn (List ℕ)
-turned nets k from up down = if k % 50 == 49 then climb nets from >>= (λ again. just (through_valley up again)) else just (over_top up down)
+abbrev pub path_between : List Providers → ℕ → ℕ → List ℕ → List ℕ → Drawn (List ℕ)
+path_between nets k from up down = if k % 50 == 49 then climb nets from >>= (λ again. just (through_valley up again)) else just (over_top up down)
 
 -- the path of route k, counted from 0
-unfoldable pub path_of : List Providers → ℕ → Drawn (List ℕ)
-path_of nets k = do
+unfoldable pub route_path : List Providers → ℕ → Drawn (List ℕ)
+route_path nets k = do
   from ← draw 2000
   to ← draw 2000
   up ← climb nets from
   down ← climb nets to
-  path ← turned nets k from up down
+  path ← path_between nets k from up down
   eighth ← draw 8
   just (if eighth == 0 then prepended path else path)

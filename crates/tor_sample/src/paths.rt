@@ -1,7 +1,7 @@
 //! The networks of a route, from left to right.
 ghost use Rattle.std.specs.Prelude.{◌≡◌, ◌<◌, ◌≤◌, ◌+◌, ◌++◌, length, reverse};
 ghost use Rattle.arrayvec.specs.ArrayVec.{array_vec_len};
-ghost use Rattle.tor_sample.specs.Paths.{last, over_top, through_valley, turned, path_of};
+ghost use Rattle.tor_sample.specs.Paths.{last, over_top, through_valley, path_between, route_path};
 
 use crate::draws::Draws;
 use crate::networks::{NETWORKS, Networks};
@@ -82,7 +82,7 @@ fn turned(
     requires there { from < 2000 }
     requires up { (0 < length up.now) × (length up.now ≤ 4) }
     requires down { (0 < length down.now) × (length down.now ≤ 4) }
-    ensures drawn { turned networks.now number from up.now down.now draws.old.state ≡ (result.items, draws.new.state) }
+    ensures drawn { path_between networks.now number from up.now down.now draws.old.state ≡ (result.items, draws.new.state) }
     ensures some { 0 < array_vec_len result }
     ensures room { array_vec_len result ≤ 8 }
 {
@@ -96,7 +96,7 @@ fn turned(
 /// The path of the route of this number.
 pub(crate) fn path_of(networks: &Networks, draws: &mut Draws, number: u16) -> Path
     requires { length networks.now ≡ 1990 }
-    ensures { path_of networks.now number draws.old.state ≡ (result.items, draws.new.state) }
+    ensures { route_path networks.now number draws.old.state ≡ (result.items, draws.new.state) }
 {
     let from = draws.below(NETWORKS);
     let to = draws.below(NETWORKS);

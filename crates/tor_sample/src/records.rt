@@ -1,6 +1,6 @@
 //! The records of a dump, octet by octet.
 ghost use Rattle.std.specs.Prelude.{◌≡◌, ◌≤◌, ◌++◌, OnOk, length};
-ghost use Rattle.tor_sample.specs.Records.{as_numbers, attributes, entry, record_of, rib, peer_table};
+ghost use Rattle.tor_sample.specs.Records.{as_numbers, sample_attributes, sample_entry, sample_record, sample_rib, peer_table};
 
 use tor_arena::{List, NoMemory};
 
@@ -39,7 +39,7 @@ fn put_as_numbers(out: &mut List<u8>, path: &[u16]) -> Result<(), NoMemory>
 // ORIGIN and AS_PATH.
 fn put_attributes(out: &mut List<u8>, path: &[u16]) -> Result<(), NoMemory>
     requires { length path.now ≤ 10 }
-    ensures { OnOk result (out.new ≡ out.old ++ attributes path.now) }
+    ensures { OnOk result (out.new ≡ out.old ++ sample_attributes path.now) }
 {
     let count = path.len() as u8;
     out.extend_from_slice(&[0x40, 1, 1, 0, 0x40, 2, 2 + 4 * count, 2, count])?;
@@ -49,7 +49,7 @@ fn put_attributes(out: &mut List<u8>, path: &[u16]) -> Result<(), NoMemory>
 // The only entry of a RIB: the index of the peer, the time, and the attributes behind their length.
 fn put_entry(out: &mut List<u8>, path: &[u16]) -> Result<(), NoMemory>
     requires { length path.now ≤ 10 }
-    ensures { OnOk result (out.new ≡ out.old ++ entry path.now) }
+    ensures { OnOk result (out.new ≡ out.old ++ sample_entry path.now) }
 {
     out.extend_from_slice(&[0, 0, 0, 0, 0, 0])?;
     out.extend_from_slice(&(ATTRIBUTE_OCTETS + 4 * path.len() as u16).to_be_bytes())?;
@@ -59,7 +59,7 @@ fn put_entry(out: &mut List<u8>, path: &[u16]) -> Result<(), NoMemory>
 // The body of a record: its number, a prefix of 24 bits and one entry.
 fn put_rib(out: &mut List<u8>, number: u16, path: &[u16]) -> Result<(), NoMemory>
     requires { length path.now ≤ 10 }
-    ensures { OnOk result (out.new ≡ out.old ++ rib number path.now) }
+    ensures { OnOk result (out.new ≡ out.old ++ sample_rib number path.now) }
 {
     out.extend_from_slice(&u32::from(number).to_be_bytes())?;
     out.extend_from_slice(&[24, 10])?;
@@ -71,7 +71,7 @@ fn put_rib(out: &mut List<u8>, number: u16, path: &[u16]) -> Result<(), NoMemory
 /// Puts the record of the route of this number at the end.
 pub(crate) fn put_record(out: &mut List<u8>, number: u16, path: &[u16]) -> Result<(), NoMemory>
     requires { length path.now ≤ 10 }
-    ensures { OnOk result (out.new ≡ out.old ++ record_of 2 (rib number path.now)) }
+    ensures { OnOk result (out.new ≡ out.old ++ sample_record 2 (sample_rib number path.now)) }
 {
     out.extend_from_slice(&[0, 0, 0, 0, 0, 13, 0, RIB_IPV4_UNICAST])?;
     out.extend_from_slice(&(RIB_OCTETS + 4 * path.len() as u32).to_be_bytes())?;

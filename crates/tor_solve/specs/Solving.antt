@@ -9,8 +9,8 @@ abbrev pub HasClass : List ℕ → Lit → ℕ → Type 0
 HasClass classes lit k = slice_get classes (node_of lit) ≡ Some k
 
 -- the two literals of the edge have one class
-abbrev pub IsClash : List ℕ → ℕ → Type 0
-IsClash classes edge =
+abbrev pub HaveOneClass : List ℕ → ℕ → Type 0
+HaveOneClass classes edge =
     (k : ℕ) × HasClass classes (record { edge = edge; over = End.Low }) k × HasClass classes (record { edge = edge; over = End.High }) k
 
 -- the class of the literal comes after that of its negation

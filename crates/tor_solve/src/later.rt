@@ -1,7 +1,7 @@
 //! The orientation that the order of the components gives.
 ghost use Rattle.std.specs.Prelude.{◌≡◌, ℕ, ◌+◌, ◌*◌, ◌<◌, ◌≤◌, ◌^◌, length, ◌↔◌, IsTrue, IfOk, IfSome, IfNone};
 ghost use Rattle.tor_clauses.specs.Literals.{node_of, lit_of};
-ghost use Rattle.tor_solve.specs.Solving.{IsClash, IsLater, AreLater};
+ghost use Rattle.tor_solve.specs.Solving.{HaveOneClass, IsLater, AreLater};
 
 use as_graph::Orientation;
 use relationships::End;
@@ -23,7 +23,7 @@ pub(crate) fn node_at(edge: EdgeId, over: End) -> NodeId
 fn has_clash(parts: &Components<NodeId>, edge: EdgeId) -> bool
     requires there { edge * 2 + 1 < length parts.now.of }
     requires few { edge < 2 ^ 26 }
-    ensures { IsTrue result ↔ IsClash parts.now.of edge }
+    ensures { IsTrue result ↔ HaveOneClass parts.now.of edge }
 {
     let low = parts.class_of(node_at(edge, End::Low));
     let high = parts.class_of(node_at(edge, End::High));
@@ -34,8 +34,8 @@ fn has_clash(parts: &Components<NodeId>, edge: EdgeId) -> bool
 pub(crate) fn clash(parts: &Components<NodeId>, count: usize) -> Option<EdgeId>
     requires there { count * 2 ≤ length parts.now.of }
     requires few { count ≤ 2 ^ 26 }
-    ensures some { IfSome result (λ edge. (edge < count) × IsClash parts.now.of edge) }
-    ensures none { IfNone result ((edge : ℕ) → edge < count → IsClash parts.now.of edge → ⊥) }
+    ensures some { IfSome result (λ edge. (edge < count) × HaveOneClass parts.now.of edge) }
+    ensures none { IfNone result ((edge : ℕ) → edge < count → HaveOneClass parts.now.of edge → ⊥) }
 {
     for place in 0..count {
         let edge = EdgeId::from_place(place).unwrap();
@@ -50,7 +50,7 @@ pub(crate) fn clash(parts: &Components<NodeId>, count: usize) -> Option<EdgeId>
 fn later_end(parts: &Components<NodeId>, edge: EdgeId) -> End
     requires there { edge * 2 + 1 < length parts.now.of }
     requires few { edge < 2 ^ 26 }
-    requires apart { IsClash parts.now.of edge → ⊥ }
+    requires apart { HaveOneClass parts.now.of edge → ⊥ }
     ensures { IsLater parts.now.of (record { edge = edge; over = result }) }
 {
     let low = parts.class_of(node_at(edge, End::Low));
@@ -66,7 +66,7 @@ pub(crate) fn later_ends(
 ) -> Result<Orientation, NoMemory>
     requires there { count * 2 ≤ length parts.now.of }
     requires few { count ≤ 2 ^ 26 }
-    requires apart { (edge : ℕ) → edge < count → IsClash parts.now.of edge → ⊥ }
+    requires apart { (edge : ℕ) → edge < count → HaveOneClass parts.now.of edge → ⊥ }
     ensures many { IfOk result (λ ends. length ends ≡ count) }
     ensures later { IfOk result (λ ends. AreLater parts.now.of ends) }
 {

@@ -11,7 +11,7 @@ use Rattle.relationships.specs.Graph.{Edge, edge_of, is_same}
 use Rattle.relationships.proofs.Edges.{same_edge}
 use Rattle.tor_numbers.specs.Edges.{with_edge}
 use Rattle.tor_numbers.specs.EdgeNumbers.{edge_numbered}
-use Rattle.tor_numbers.specs.Places.{IsPut}
+use Rattle.tor_numbers.specs.Places.{GoesLastIfNew}
 use Rattle.tor_numbers.specs.Slots.{IsInserted}
 use Rattle.tor_numbers.proofs.EdgeNumbers.{same_number}
 use Rattle.tor_survey.specs.Sets.{as_numbered, with_as}
@@ -37,7 +37,7 @@ number_known numbers n c = list_any-from_Contains nat_eq_equiv n numbers c
 number_new : (numbers : List ℕ) (n : ℕ) → (Contains numbers n → ⊥) → list_any (λ m. n == m) numbers ≡ false
 number_new numbers n absent = false_from_ne_true (list_any (λ m. n == m) numbers) (λ any. absent (Contains-from_any (λ x y t. eqb-true x y t) n numbers any))
 
-put : {X : Type 0} (same : X → X → Bool) (read : ℕ → X) (old new : List ℕ) (n : ℕ) → IsExact same read → AreNumbers old → 2 ≤ n → IsPut n old new →
+put : {X : Type 0} (same : X → X → Bool) (read : ℕ → X) (old new : List ℕ) (n : ℕ) → IsExact same read → AreNumbers old → 2 ≤ n → GoesLastIfNew n old new →
     map read new ≡ (if list_any (same (read n)) (map read old) then map read old else map read old ++ read n ∷ [])
 put same read old new n exact all h (inl there) =
     rw (any_read same read old n exact all h ∙ number_known old n there.0) (ap (map read) there.1)
@@ -53,7 +53,7 @@ inserted same read old new n false exact all h is =
     let there = any_read same read old n exact all h ∙ number_known old n is.0 in
     (put same read old new n exact all h (inl is), ap not (sym there))
 
-pub numbers_put : (old new : List ℕ) (n : ℕ) → AreNumbers old → 2 ≤ n → IsPut n old new → AreNumbers new
+pub numbers_put : (old new : List ℕ) (n : ℕ) → AreNumbers old → 2 ≤ n → GoesLastIfNew n old new → AreNumbers new
 numbers_put old new n all h (inl there) = subst AreNumbers (sym there.1) all
 numbers_put old new n all h (inr added) = subst AreNumbers (sym added.1) (All-push (λ m. 2 ≤ m) old n all h)
 
@@ -69,7 +69,7 @@ as_exact m n h k = both (m - 2 == n - 2) (m == n)
     (λ t. let e : m - 2 ≡ n - 2 = eqb-true (m - 2) (n - 2) t in eq-eqb m n (omega (arith, h, k, e)))
     (λ t. let e : m ≡ n = eqb-true m n t in eq-eqb (m - 2) (n - 2) (omega (arith, e)))
 
-pub as_put : (old new : List ℕ) (a n : ℕ) → n ≡ a + 2 → AreNumbers old → IsPut n old new → map as_numbered new ≡ with_as (map as_numbered old) a
+pub as_put : (old new : List ℕ) (a n : ℕ) → n ≡ a + 2 → AreNumbers old → GoesLastIfNew n old new → map as_numbered new ≡ with_as (map as_numbered old) a
 as_put old new a n e all is =
     let back : n - 2 ≡ a = omega (arith, e) in
     put (λ a b. a == b) as_numbered old new n as_exact all (omega (arith, e)) is ∙ ap (with_as (map as_numbered old)) back

@@ -4,13 +4,13 @@ use Rattle.relationships.specs.Graph.{edges}
 use Rattle.tor_survey.specs.declared.survey.Figures.{Figures}
 
 -- each number where it first appears, and nowhere else
-abbrev pub distinct : List ℕ → List ℕ
-distinct [] = []
-distinct (n ∷ ns) = n ∷ filter (λ m. not (n == m)) (distinct ns)
+abbrev pub distinct_ases : List ℕ → List ℕ
+distinct_ases [] = []
+distinct_ases (n ∷ ns) = n ∷ filter (λ m. not (n == m)) (distinct_ases ns)
 
 -- the ASes on the paths, in order of first appearance
 abbrev pub ases : List (List ℕ) → List ℕ
-ases paths = distinct (flat_map (λ path. path) paths)
+ases paths = distinct_ases (flat_map (λ path. path) paths)
 
 -- how many ASes the longest path has, and 0 without a path
 abbrev pub longest : List (List ℕ) → ℕ

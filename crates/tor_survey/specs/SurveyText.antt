@@ -8,15 +8,15 @@ use Rattle.tor_survey.specs.declared.survey.Figures.{Figures}
 use Rattle.tor_survey.specs.declared.survey.Survey.{Survey}
 
 -- fields, joined by a bar, and a line feed
-abbrev pub line : List (List ℕ) → List ℕ
-line parts = fields parts ++ 10 ∷ []
+abbrev pub survey_line : List (List ℕ) → List ℕ
+survey_line parts = fields parts ++ 10 ∷ []
 
 abbrev pub count_line : List ℕ → ℕ → List ℕ
-count_line word n = line (word ∷ decimal n ∷ [])
+count_line word n = survey_line (word ∷ decimal n ∷ [])
 
 -- a type, a subtype, and how many records of both there are
 abbrev pub type_line : List ℕ → TypeCount → List ℕ
-type_line word count = line (word ∷ decimal count.kind ∷ decimal count.subtype ∷ decimal count.records ∷ [])
+type_line word count = survey_line (word ∷ decimal count.kind ∷ decimal count.subtype ∷ decimal count.records ∷ [])
 
 -- the line of a type that is read, and that of one that is passed over
 abbrev pub read_line : TypeCount → List ℕ
@@ -39,7 +39,7 @@ figure_lines figures =
 
 -- how many dumps there are, and how many records in all
 abbrev pub end_line : ℕ → ℕ → List ℕ
-end_line dumps records = line (codes "end" ∷ decimal dumps ∷ decimal records ∷ [])
+end_line dumps records = survey_line (codes "end" ∷ decimal dumps ∷ decimal records ∷ [])
 
 abbrev pub survey_text : Survey → List ℕ
 survey_text survey =

@@ -1,7 +1,7 @@
 -- The survey of dumps.
 use Rattle.std.specs.Prelude.{ℕ, length, sum_by}
 use Rattle.record_counts.specs.Counting.{Counts, capped, type_counts}
-use Rattle.path_clean.specs.Rows.{paths_of}
+use Rattle.path_clean.specs.Rows.{row_paths}
 use Rattle.dump_read.specs.declared.taking.Taken.{Taken}
 use Rattle.dump_read.specs.Files.{together}
 use Rattle.tor_survey.specs.Figures.{figures_of}
@@ -18,7 +18,7 @@ survey_of taken = record {
   peers = (together taken.files).peers;
   routes = (together taken.files).routes;
   asides = taken.counts;
-  figures = figures_of (paths_of taken.table.rows);
+  figures = figures_of (row_paths taken.table.rows);
   dumps = length taken.files;
   records = all_records (together taken.files).records;
 }

@@ -9,15 +9,15 @@ use Rattle.dump_read.specs.Seen.{Absent, Malformed, Limit}
 use Rattle.tor_words.specs.CheckGiven.{check_settings_given}
 use Rattle.run_base.specs.declared.status.Status.{Status}
 use Rattle.run_base.specs.declared.status.Status.TheVariants as status
-use Rattle.torcheck_run.specs.Judging.{Outcome, Judged, NoResult, TooLong, Ends, Gives}
-use Rattle.torcheck_run.specs.CheckAnswer.{LeadsTo, LeadsToMalformed, LeadsToLimit, LeadsToAbsent, FailedAtResult, FailedAtDump, IsCheckNote, GainsVerdict, GainsNo, GainsVerdictPrefix, status_of}
+use Rattle.torcheck_run.specs.Judging.{Outcome, Judged, NoResult, TooLong, Ends, WordsGive}
+use Rattle.torcheck_run.specs.CheckAnswer.{KnownFilesGive, LeadsToMalformed, LeadsToLimit, LeadsToAbsent, FailedAtResult, FailedAtDump, IsCheckNote, GainsVerdict, GainsNo, GainsVerdictPrefix, status_of}
 use Rattle.torcheck_run.proofs.Comings.{OneValue, status_for, one_status}
 
 -- why a status came
 pub record Cause (words : List (List ℕ)) (known : Option Files) (steady : Type 0) (s : Status) (read_before read_now written_before written_now : ℕ) : Type 0 where
-  pub done : s ≡ status.Done → LeadsTo words known (Judged Yes)
-  pub refused : s ≡ status.No → (line : ℕ) × (rule : ℕ) × LeadsTo words known (Judged (No line rule))
-  pub cut_off : s ≡ status.WriteFault → (verdict : Verdict) × LeadsTo words known (Judged verdict)
+  pub done : s ≡ status.Done → KnownFilesGive words known (Judged Yes)
+  pub refused : s ≡ status.No → (line : ℕ) × (rule : ℕ) × KnownFilesGive words known (Judged (No line rule))
+  pub cut_off : s ≡ status.WriteFault → (verdict : Verdict) × KnownFilesGive words known (Judged verdict)
   pub usage : s ≡ status.Usage → IsNone (check_settings_given words)
   pub malformed : s ≡ status.Malformed → LeadsToMalformed words known
   pub limit : s ≡ status.Limit → LeadsToLimit words known
@@ -70,14 +70,14 @@ cause_of words known steady left s text old new rb rn wb wn done refused cut_off
 not_quiet : {X : Type 0} (before now : ℕ) → Rose before now → IsQuiet before now → X
 not_quiet before now rose quiet = absurd (omega (arith, rose, quiet))
 
-given_none : {X : Type 0} (words : List (List ℕ)) (files : Files) (x : Outcome) → Gives words files x → IsNone (check_settings_given words) → X
+given_none : {X : Type 0} (words : List (List ℕ)) (files : Files) (x : Outcome) → WordsGive words files x → IsNone (check_settings_given words) → X
 given_none words files x gives none = by (subst IsNone gives.1 none)
   where
     by : {X : Type 0} → IsNone (Some gives.0) → X
     by is = absurd cc
 
 -- an outcome that is no verdict has its status, if a read fault comes only where it has that status
-by_outcome : OneValue → (words : List (List ℕ)) (files : Files) (steady : Type 0) (s : Status) (rb rn wb wn : ℕ) (x : Outcome) → Cause words (Some files) steady s rb rn wb wn → Gives words files x
+by_outcome : OneValue → (words : List (List ℕ)) (files : Files) (steady : Type 0) (s : Status) (rb rn wb wn : ℕ) (x : Outcome) → Cause words (Some files) steady s rb rn wb wn → WordsGive words files x
     → ((verdict : Verdict) → status_for x ≡ status_of verdict → ⊥) → (s ≡ status.ReadFault → status_for x ≡ status.ReadFault) → (s ≡ status_for x) ⊎ (s ≡ status.NoMemory)
 by_outcome law words files steady status.Done rb rn wb wn x cause gives other read = absurd (other Yes (one_status law words files x (Judged Yes) gives (cause.done refl)))
 by_outcome law words files steady status.No rb rn wb wn x cause gives other read =
@@ -98,7 +98,7 @@ by_outcome law words files steady status.ReadFault rb rn wb wn x cause gives oth
 by_outcome law words files steady status.NoMemory rb rn wb wn x cause gives other read = inr refl
 
 -- where no call on the shelf failed, or none fails but an open at a name that isn't there
-reads : OneValue → (words : List (List ℕ)) (files : Files) (steady : Type 0) (s : Status) (rb rn wb wn : ℕ) (x : Outcome) → Cause words (Some files) steady s rb rn wb wn → Gives words files x
+reads : OneValue → (words : List (List ℕ)) (files : Files) (steady : Type 0) (s : Status) (rb rn wb wn : ℕ) (x : Outcome) → Cause words (Some files) steady s rb rn wb wn → WordsGive words files x
     → IsQuiet rb rn ⊎ steady → s ≡ status.ReadFault → status_for x ≡ status.ReadFault
 reads law words files steady s rb rn wb wn x cause gives (inl quiet) is = not_quiet rb rn (cause.read_fault is) quiet
 reads law words files steady s rb rn wb wn x cause gives (inr held) is = elim (cause.steady_read_fault held is) [
@@ -112,13 +112,13 @@ no_verdict_status s (No line rule) not_done not_no is = not_no is
 
 -- what comes where the files are known
 pub always_there : OneValue → (words : List (List ℕ)) (known : Option Files) (files : Files) (steady : Type 0) (s : Status) (rb rn wb wn : ℕ) (x : Outcome) → Cause words known steady s rb rn wb wn
-    → known ≡ Some files → Gives words files x → status_for x ≢ status.Done → status_for x ≢ status.No → IsQuiet rb rn ⊎ steady → (s ≡ status_for x) ⊎ (s ≡ status.NoMemory)
+    → known ≡ Some files → WordsGive words files x → status_for x ≢ status.Done → status_for x ≢ status.No → IsQuiet rb rn ⊎ steady → (s ≡ status_for x) ⊎ (s ≡ status.NoMemory)
 always_there law words known files steady s rb rn wb wn x cause is gives not_done not_no well =
     let known : Cause words (Some files) steady s rb rn wb wn = subst (λ (o : Option Files). Cause words o steady s rb rn wb wn) is cause in
     by_outcome law words files steady s rb rn wb wn x known gives (λ v h. no_verdict_status (status_for x) v not_done not_no h) (reads law words files steady s rb rn wb wn x known gives well)
 
 pub always_absent : OneValue → (words : List (List ℕ)) (known : Option Files) (files : Files) (steady : Type 0) (s : Status) (rb rn wb wn : ℕ) (x : Outcome) → Cause words known steady s rb rn wb wn
-    → known ≡ Some files → Gives words files x → status_for x ≡ status.ReadFault → (s ≡ status.ReadFault) ⊎ (s ≡ status.NoMemory)
+    → known ≡ Some files → WordsGive words files x → status_for x ≡ status.ReadFault → (s ≡ status.ReadFault) ⊎ (s ≡ status.NoMemory)
 always_absent law words known files steady s rb rn wb wn x cause is gives absent =
     let known : Cause words (Some files) steady s rb rn wb wn = subst (λ (o : Option Files). Cause words o steady s rb rn wb wn) is cause in
     subst (λ (t : Status). (s ≡ t) ⊎ (s ≡ status.NoMemory)) absent

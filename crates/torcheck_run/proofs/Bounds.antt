@@ -12,12 +12,12 @@ use Rattle.run_base.specs.declared.whole_file.Unread.TheVariants as unread
 use Rattle.torcheck_run.specs.declared.judging.Unjudged.{Unjudged}
 use Rattle.torcheck_run.specs.declared.judging.Unjudged.TheVariants as unjudged
 use Rattle.run_base.specs.Notes.{read_fault_note}
-use Rattle.run_base.specs.Answers.{Says, IsNoMemory}
+use Rattle.run_base.specs.Answers.{AnswersWith, IsNoMemory}
 use Rattle.torcheck_run.specs.Judging.{TooLong, LeavesRestOf}
 use Rattle.run_base.specs.WholeFile.{IsLongFile}
 use Rattle.result_rules.specs.declared.verdict.Verdict.{Verdict}
 use Rattle.result_rules.specs.declared.verdict.Verdict.TheVariants.{Yes, No}
-use Rattle.torcheck_run.specs.CheckAnswer.{LeadsTo, status_of}
+use Rattle.torcheck_run.specs.CheckAnswer.{KnownFilesGive, status_of}
 use Rattle.torcheck_run.specs.Unjudging.{IsUnjudged, IsTooLong, AnswersUnjudged}
 use Rattle.torcheck_run.proofs.Comings.{not_long}
 use Rattle.torcheck_run.specs.Limits.{max_result}
@@ -31,7 +31,7 @@ some_or_none o s none some = absurd cc
 no_limit : {X : Type 0} (answer : Answer) → IsNoMemory answer → answer.status ≡ status.Limit → X
 no_limit answer is limit = let both : status.NoMemory ≡ status.Limit = sym is.0 ∙ limit in absurd cc
 
-no_fault : {X : Type 0} (answer : Answer) → Says status.ReadFault (read_fault_note 0) answer → answer.status ≡ status.Limit → X
+no_fault : {X : Type 0} (answer : Answer) → AnswersWith status.ReadFault (read_fault_note 0) answer → answer.status ≡ status.Limit → X
 no_fault answer (inl is) limit = let both : status.ReadFault ≡ status.Limit = sym is.0 ∙ limit in absurd cc
 no_fault answer (inr is) limit = no_limit answer is limit
 
@@ -43,7 +43,7 @@ written verdict s (inr (inl is)) limit = let both : status.WriteFault ≡ status
 written verdict s (inr (inr is)) limit = let both : status.NoMemory ≡ status.Limit = sym is ∙ limit in absurd cc
 
 pub bounded : (words : List (List ℕ)) (known : Option Files) (steady : Type 0) (u : Unjudged) (answer : Answer) (left : Option (List ℕ)) → IsUnjudged words known steady u → AnswersUnjudged u answer
-    → (IsTooLong u → LeavesRestOf words known left) → answer.status ≡ status.Limit → LeadsTo words known TooLong → LeavesRestOf words known left
+    → (IsTooLong u → LeavesRestOf words known left) → answer.status ≡ status.Limit → KnownFilesGive words known TooLong → LeavesRestOf words known left
 bounded words None steady u answer left why answers rest limit long = λ settings given. tt
 bounded words (Some files) steady (unjudged.Result unread.TooLong) answer left why answers rest limit long = rest refl
 bounded words (Some files) steady (unjudged.Result unread.Failed) answer left why answers rest limit long = no_fault answer answers limit

@@ -14,17 +14,17 @@ use Rattle.result_rules.proofs.OneVerdict.{one_verdict_law, one_against_law}
 use Rattle.result_text.specs.Grammar.{IsBadLine}
 use Rattle.std.proofs.lemmas.Bool.{cases_order}
 use Rattle.result_rules.specs.Against.{in_order, its_rows, JudgesAgainst}
-use Rattle.path_clean.specs.Counts.{Counts}
+use Rattle.path_clean.specs.Counts.{CauseCounts}
 use Rattle.path_clean.specs.Rows.{Counted}
 use Rattle.dump_read.specs.declared.taking.Taken.{Taken}
-use Rattle.dump_read.specs.Seen.{End, Absent, Malformed, Limit}
+use Rattle.dump_read.specs.Seen.{DumpsEnd, Absent, Malformed, Limit}
 use Rattle.tor_words.specs.declared.check_settings.CheckSettings.{CheckSettings}
 use Rattle.tor_words.specs.CheckGiven.{check_settings_given}
 use Rattle.run_base.specs.declared.status.Status.{Status}
 use Rattle.run_base.specs.declared.status.Status.TheVariants as status
-use Rattle.torcheck_run.specs.Judging.{BreaksRule, IsAccepted, IsVerdict, JudgesByDumps, seen_for, Outcome, Judged, NoResult, TooLong, Ends, IsResult, ComesTo, Gives, IsVouched}
+use Rattle.torcheck_run.specs.Judging.{BreaksRule, IsAccepted, IsVerdict, JudgesByDumps, seen_for, Outcome, Judged, NoResult, TooLong, Ends, IsResult, SettingsGive, WordsGive, IsVouched}
 use Rattle.run_base.specs.WholeFile.{IsLongFile}
-use Rattle.torcheck_run.specs.CheckAnswer.{LeadsTo, status_of}
+use Rattle.torcheck_run.specs.CheckAnswer.{KnownFilesGive, status_of}
 use Rattle.torcheck_run.specs.Limits.{max_result}
 
 -- each text has one value
@@ -121,11 +121,11 @@ verdicts law bytes dumps files v w one other = ap status_of (one_verdict law byt
 -- ---- a verdict or an end of the dumps
 
 -- where a verdict comes of the dumps these have no end
-no_end : (file : ResultFile) (dumps : List (List ℕ)) (files : Files) (verdict : Verdict) (end : End) → JudgesByDumps file dumps files verdict → seen_for file dumps files ≡ Err end → ⊥
+no_end : (file : ResultFile) (dumps : List (List ℕ)) (files : Files) (verdict : Verdict) (end : DumpsEnd) → JudgesByDumps file dumps files verdict → seen_for file dumps files ≡ Err end → ⊥
 no_end file [] files verdict end judged ends = ok_not_err (seen_for file [] files) _ end refl ends
 no_end file (dump ∷ dumps) files verdict end judged ends = ok_not_err (seen_for file (dump ∷ dumps) files) judged.0 end judged.1 ends
 
-no_verdict : OneValue → (bytes : List ℕ) (dumps : List (List ℕ)) (files : Files) (verdict : Verdict) (file : ResultFile) (end : End) → IsVerdict bytes dumps files verdict
+no_verdict : OneValue → (bytes : List ℕ) (dumps : List (List ℕ)) (files : Files) (verdict : Verdict) (file : ResultFile) (end : DumpsEnd) → IsVerdict bytes dumps files verdict
     → IsAccepted file bytes → seen_for file dumps files ≡ Err end → ⊥
 no_verdict law bytes dumps files verdict file end (inl broken) accepted ends = none_broken law bytes file verdict accepted broken
 no_verdict law bytes dumps files verdict file end (inr judged) accepted ends =
@@ -159,7 +159,7 @@ none_long o is long =
 same_result : (settings : CheckSettings) (files : Files) (a b : List ℕ) → IsResult settings files a → IsResult settings files b → a ≡ b
 same_result settings files a b one other = some_is (files settings.result) a b one.there other.there
 
-same_status : OneValue → (settings : CheckSettings) (files : Files) (x y : Outcome) → ComesTo settings files x → ComesTo settings files y → status_for x ≡ status_for y
+same_status : OneValue → (settings : CheckSettings) (files : Files) (x y : Outcome) → SettingsGive settings files x → SettingsGive settings files y → status_for x ≡ status_for y
 same_status law settings files (Judged v) (Judged w) one other =
     let same : other.0 ≡ one.0 = same_result settings files other.0 one.0 other.1 one.1 in
     verdicts law one.0 settings.dumps files v w one.2 (subst (λ b. IsVerdict b settings.dumps files w) same other.2)
@@ -191,10 +191,10 @@ same_status law settings files (Ends end) (Ends end') one other =
 same_settings : (words : List (List ℕ)) (s t : CheckSettings) → check_settings_given words ≡ Some s → check_settings_given words ≡ Some t → s ≡ t
 same_settings words s t = some_is (check_settings_given words) s t
 
-pub one_status : OneValue → (words : List (List ℕ)) (files : Files) (x y : Outcome) → Gives words files x → Gives words files y → status_for x ≡ status_for y
+pub one_status : OneValue → (words : List (List ℕ)) (files : Files) (x y : Outcome) → WordsGive words files x → WordsGive words files y → status_for x ≡ status_for y
 one_status law words files x y one other =
     let same : other.0 ≡ one.0 = same_settings words other.0 one.0 other.1 one.1 in
-    same_status law one.0 files x y one.2 (subst (λ s. ComesTo s files y) same other.2)
+    same_status law one.0 files x y one.2 (subst (λ s. SettingsGive s files y) same other.2)
 
 -- ---- what a yes has shown
 
@@ -203,7 +203,7 @@ agrees : (file : ResultFile) (dumps : List (List ℕ)) (files : Files) → Judge
 agrees file [] files judged some = absurd (omega arith)
 agrees file (dump ∷ dumps) files judged some = (judged.0, judged.1, judged.2.0, judged.2.1)
 
-vouched : AcceptanceLaw → (words : List (List ℕ)) (files : Files) → Gives words files (Judged Yes) → IsVouched words files
+vouched : AcceptanceLaw → (words : List (List ℕ)) (files : Files) → WordsGive words files (Judged Yes) → IsVouched words files
 vouched law words files gives = by gives.2.2
   where
     by : IsVerdict gives.2.0 gives.0.dumps files Yes → IsVouched words files
@@ -219,6 +219,6 @@ vouched law words files gives = by gives.2.2
       agrees = agrees judged.0 gives.0.dumps files judged.2;
     }
 
-pub vouched_known : AcceptanceLaw → (words : List (List ℕ)) (known : Option Files) → LeadsTo words known (Judged Yes) → IfSome known (IsVouched words)
+pub vouched_known : AcceptanceLaw → (words : List (List ℕ)) (known : Option Files) → KnownFilesGive words known (Judged Yes) → IfSome known (IsVouched words)
 vouched_known law words None leads = tt
 vouched_known law words (Some files) leads = vouched law words files leads

@@ -6,7 +6,7 @@ use Rattle.result_text.specs.declared.file.ResultFile.{ResultFile}
 use Rattle.result_rules.specs.declared.verdict.Verdict.{Verdict}
 use Rattle.dump_read.specs.declared.error.DumpError.{DumpError}
 use Rattle.dump_read.specs.declared.error.DumpError.TheVariants as error
-use Rattle.dump_read.specs.Seen.{End, Absent, Malformed, Limit}
+use Rattle.dump_read.specs.Seen.{DumpsEnd, Absent, Malformed, Limit}
 use Rattle.tor_words.specs.declared.check_settings.CheckSettings.{CheckSettings}
 use Rattle.tor_words.specs.declared.refused.WordsRefused.TheVariants as refused
 use Rattle.tor_words.specs.CheckGiven.{check_settings_given}
@@ -18,16 +18,16 @@ use Rattle.run_base.specs.declared.whole_file.Unread.TheVariants as unread
 use Rattle.torcheck_run.specs.declared.judging.Unjudged.{Unjudged}
 use Rattle.torcheck_run.specs.declared.judging.Unjudged.TheVariants as unjudged
 use Rattle.run_base.specs.Notes.{malformed_note, limit_note, read_fault_note, result_note}
-use Rattle.run_base.specs.Answers.{AnswersStop, Says, IsNoMemory, note_in, note_text}
-use Rattle.torcheck_run.specs.Judging.{Outcome, Judged, NoResult, TooLong, Ends, IsAccepted, IsResult, IsVerdict, ComesTo, LeavesOnlyResult, seen_for}
-use Rattle.torcheck_run.specs.CheckAnswer.{LeadsTo, HoldsBefore, IsCheckNote}
-use Rattle.torcheck_run.specs.Unjudging.{EndsWith, StopsAt, IsUnjudged, IsFailedResult, AnswersUnjudged}
+use Rattle.run_base.specs.Answers.{AnswersStop, AnswersWith, IsNoMemory, note_in, note_text}
+use Rattle.torcheck_run.specs.Judging.{Outcome, Judged, NoResult, TooLong, Ends, IsAccepted, IsResult, IsVerdict, SettingsGive, LeavesOnlyResult, seen_for}
+use Rattle.torcheck_run.specs.CheckAnswer.{KnownFilesGive, HoldsBefore, IsCheckNote}
+use Rattle.torcheck_run.specs.Unjudging.{DumpsEndWith, StopsAt, IsUnjudged, IsFailedResult, AnswersUnjudged}
 use Rattle.torcheck_run.specs.Limits.{max_result}
 
 -- ---- what the words and the files give, where these are known
 
 leads : (words : List (List ℕ)) (known : Option Files) (settings : CheckSettings) (x : Outcome) → check_settings_given words ≡ Some settings
-    → IfSome known (λ files. ComesTo settings files x) → LeadsTo words known x
+    → IfSome known (λ files. SettingsGive settings files x) → KnownFilesGive words known x
 leads words None settings x given comes = tt
 leads words (Some files) settings x given comes = (settings, given, comes)
 
@@ -37,22 +37,22 @@ result_is None settings bytes name same read short = tt
 result_is (Some files) settings bytes name same read short = record { there = ap files (sym same) ∙ read; short = short }
 
 verdict_comes : (known : Option Files) (settings : CheckSettings) (bytes : List ℕ) (verdict : Verdict) → IfSome known (λ files. IsResult settings files bytes)
-    → IfSome known (λ files. IsVerdict bytes settings.dumps files verdict) → IfSome known (λ files. ComesTo settings files (Judged verdict))
+    → IfSome known (λ files. IsVerdict bytes settings.dumps files verdict) → IfSome known (λ files. SettingsGive settings files (Judged verdict))
 verdict_comes None settings bytes verdict is judged = tt
 verdict_comes (Some files) settings bytes verdict is judged = (bytes, is, judged)
 
 -- the file of this name was read, and its bytes were judged
 pub file_judged : (known after : Option Files) (settings : CheckSettings) (bytes name part : List ℕ) (dumps : List (List ℕ)) (verdict : Verdict)
     → name ≡ settings.result → after ≡ known → part ≡ bytes → dumps ≡ settings.dumps → IfSome known (λ files. files name ≡ Some bytes) → length bytes ≤ max_result
-    → IfSome after (λ files. IsVerdict part dumps files verdict) → IfSome known (λ files. ComesTo settings files (Judged verdict))
+    → IfSome after (λ files. IsVerdict part dumps files verdict) → IfSome known (λ files. SettingsGive settings files (Judged verdict))
 file_judged known after settings bytes name part dumps verdict same_name same_files same_bytes same_dumps read short judged =
     verdict_comes known settings bytes verdict (result_is known settings bytes name same_name read short)
     (subst (λ (o : Option Files). IfSome o (λ files. IsVerdict bytes settings.dumps files verdict)) same_files
     (subst (λ (b : List ℕ). IfSome after (λ files. IsVerdict b settings.dumps files verdict)) same_bytes
     (subst (λ (ds : List (List ℕ)). IfSome after (λ files. IsVerdict part ds files verdict)) same_dumps judged)))
 
-end_comes : (known : Option Files) (settings : CheckSettings) (bytes : List ℕ) (end : End) → IfSome known (λ files. IsResult settings files bytes)
-    → EndsWith bytes settings.dumps known end → IfSome known (λ files. ComesTo settings files (Ends end))
+end_comes : (known : Option Files) (settings : CheckSettings) (bytes : List ℕ) (end : DumpsEnd) → IfSome known (λ files. IsResult settings files bytes)
+    → DumpsEndWith bytes settings.dumps known end → IfSome known (λ files. SettingsGive settings files (Ends end))
 end_comes None settings bytes end is ends = tt
 end_comes (Some files) settings bytes end is ends = (bytes, ends.0, is, ends.1, ends.2)
 
@@ -67,7 +67,7 @@ no_memory : (words : List (List ℕ)) (known : Option Files) (steady : Type 0) (
 no_memory words known steady left answer is =
     subst (λ (s : Status). IsCheckNote words known steady left s (note_text s answer.note)) (sym is.0) (ap (note_text status.NoMemory) is.1)
 
-says_note : (words : List (List ℕ)) (known : Option Files) (steady : Type 0) (left : Option (List ℕ)) (s : Status) (text : List ℕ) (answer : Answer) → IsCheckNote words known steady left s text → Says s text answer
+says_note : (words : List (List ℕ)) (known : Option Files) (steady : Type 0) (left : Option (List ℕ)) (s : Status) (text : List ℕ) (answer : Answer) → IsCheckNote words known steady left s text → AnswersWith s text answer
     → IsCheckNote words known steady left answer.status (note_in answer)
 says_note words known steady left s text answer note (inl said) =
     subst (λ (t : Status). IsCheckNote words known steady left t (note_in answer)) (sym said.0) (subst (λ (n : List ℕ). IsCheckNote words known steady left s n) (sym said.1) note)

@@ -15,12 +15,12 @@ use Rattle.tor_words.specs.CheckGiven.{check_settings_given}
 use Rattle.run_base.specs.declared.status.Status.{Status}
 use Rattle.run_base.specs.declared.status.Status.TheVariants as status
 use Rattle.run_base.specs.Notes.{malformed_note, limit_note, read_fault_note, result_note, plain_note}
-use Rattle.torcheck_run.specs.Judging.{Outcome, Judged, NoResult, TooLong, Ends, Gives, IsResult, IsAccepted, seen_for}
+use Rattle.torcheck_run.specs.Judging.{Outcome, Judged, NoResult, TooLong, Ends, WordsGive, IsResult, IsAccepted, seen_for}
 use Rattle.run_base.specs.WholeFile.{LeavesOnly}
 
 -- what the words and the files give, where these are known
-abbrev pub LeadsTo : List (List ℕ) → Option Files → Outcome → Type 0
-LeadsTo words known outcome = IfSome known (λ files. Gives words files outcome)
+abbrev pub KnownFilesGive : List (List ℕ) → Option Files → Outcome → Type 0
+KnownFilesGive words known outcome = IfSome known (λ files. WordsGive words files outcome)
 
 -- ---- out
 
@@ -40,7 +40,7 @@ status_of (verdict.No line rule) = status.No
 
 -- a sink gained the text of this verdict, which is the one that the words and the files give
 abbrev pub GainsVerdict : List (List ℕ) → Option Files → Verdict → Option (List ℕ) → Option (List ℕ) → Type 0
-GainsVerdict words known answer old new = LeadsTo words known (Judged answer) × (new ≡ append_known old (verdict_text answer))
+GainsVerdict words known answer old new = KnownFilesGive words known (Judged answer) × (new ≡ append_known old (verdict_text answer))
 
 -- the text of a verdict that is no
 abbrev pub GainsNo : List (List ℕ) → Option Files → Option (List ℕ) → Option (List ℕ) → Type 0
@@ -48,22 +48,22 @@ GainsNo words known old new = (line : ℕ) × (rule : ℕ) × GainsVerdict words
 
 -- a prefix of the text of the verdict
 abbrev pub GainsVerdictPrefix : List (List ℕ) → Option Files → Option (List ℕ) → Option (List ℕ) → Type 0
-GainsVerdictPrefix words known old new = (answer : Verdict) × LeadsTo words known (Judged answer) ×
+GainsVerdictPrefix words known old new = (answer : Verdict) × KnownFilesGive words known (Judged answer) ×
     GainsPrefix old new (verdict_text answer)
 
 -- ---- statuses
 
 -- what the words and the files give, where these are known, is a fault of a record
 abbrev pub LeadsToMalformed : List (List ℕ) → Option Files → Type 0
-LeadsToMalformed words known = (place : Place) × (fault : Fault) × LeadsTo words known (Ends (Malformed place fault))
+LeadsToMalformed words known = (place : Place) × (fault : Fault) × KnownFilesGive words known (Ends (Malformed place fault))
 
 -- it is a limit
 abbrev pub LeadsToLimit : List (List ℕ) → Option Files → Type 0
-LeadsToLimit words known = LeadsTo words known TooLong ⊎ ((kind : LimitKind) × (dump : ℕ) × LeadsTo words known (Ends (Limit kind dump)))
+LeadsToLimit words known = KnownFilesGive words known TooLong ⊎ ((kind : LimitKind) × (dump : ℕ) × KnownFilesGive words known (Ends (Limit kind dump)))
 
 -- it is a file that isn't there
 abbrev pub LeadsToAbsent : List (List ℕ) → Option Files → Type 0
-LeadsToAbsent words known = LeadsTo words known NoResult ⊎ ((dump : ℕ) × LeadsTo words known (Ends (Absent dump)))
+LeadsToAbsent words known = KnownFilesGive words known NoResult ⊎ ((dump : ℕ) × KnownFilesGive words known (Ends (Absent dump)))
 
 -- the rules 0 to 10 are met, and the dumps before this one have no end
 abbrev pub HoldsBefore : CheckSettings → Files → ℕ → Type 0
@@ -79,7 +79,7 @@ pub record FailedAtResult (words : List (List ℕ)) (known : Option Files) (stea
   pub settings : CheckSettings
   pub given : check_settings_given words ≡ Some settings
   pub unread : LeavesOnly settings.result known left
-  pub absent : steady → LeadsTo words known NoResult
+  pub absent : steady → KnownFilesGive words known NoResult
 
 -- a read of one of the dumps failed, the rules 0 to 10 are met, and the dumps before it have no end; over a steady shelf it
 -- isn't there
@@ -89,16 +89,16 @@ pub record FailedAtDump (words : List (List ℕ)) (known : Option Files) (steady
   pub from_one : 1 ≤ dump
   pub named : dump ≤ length settings.dumps
   pub before : IfSome known (λ files. HoldsBefore settings files dump)
-  pub absent : steady → LeadsTo words known (Ends (Absent dump))
+  pub absent : steady → KnownFilesGive words known (Ends (Absent dump))
 
 -- the note of a status, with the place or the quantity of what the words and the files give, where this is left unread
 abbrev pub IsCheckNote : List (List ℕ) → Option Files → Type 0 → Option (List ℕ) → Status → List ℕ → Type 0
 IsCheckNote words known steady left status.Usage text = HasUsageLine text
 IsCheckNote words known steady left status.Malformed text =
-    (place : Place) × (fault : Fault) × (text ≡ malformed_note place fault) × LeadsTo words known (Ends (Malformed place fault))
+    (place : Place) × (fault : Fault) × (text ≡ malformed_note place fault) × KnownFilesGive words known (Ends (Malformed place fault))
 IsCheckNote words known steady left status.Limit text =
-    ((text ≡ result_note) × LeadsTo words known TooLong)
-    ⊎ ((kind : LimitKind) × (dump : ℕ) × (text ≡ limit_note kind dump) × LeadsTo words known (Ends (Limit kind dump)))
+    ((text ≡ result_note) × KnownFilesGive words known TooLong)
+    ⊎ ((kind : LimitKind) × (dump : ℕ) × (text ≡ limit_note kind dump) × KnownFilesGive words known (Ends (Limit kind dump)))
 IsCheckNote words known steady left status.ReadFault text =
     (dump : ℕ) × (text ≡ read_fault_note dump) × (FailedAtResult words known steady left dump ⊎ FailedAtDump words known steady dump)
 IsCheckNote words known steady left status.Done text = text ≡ plain_note status.Done

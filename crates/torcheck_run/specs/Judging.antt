@@ -1,5 +1,6 @@
 -- What the words and the files of a check give: a verdict on the result file, or why there is none.
 use Rattle.std.specs.Prelude.{◌≡◌, ◌≤◌, ◌<◌, ◌⊎◌, ℕ, List, [], ◌∷◌, length, Option, Some, None, Result, Ok, Err, IsOk}
+use Rattle.tor_arena.specs.Limits.{max_paths}
 use Rattle.tor_io.specs.Contents.{Files}
 use Rattle.result_text.specs.declared.file.ResultFile.{ResultFile}
 use Rattle.result_text.specs.Grammar.{IsTextOf, IsBadLine}
@@ -9,12 +10,11 @@ use Rattle.result_rules.specs.Rules.{Accepts, IsRefused}
 use Rattle.result_rules.specs.Valid.{Valid}
 use Rattle.result_rules.specs.Against.{its_rows, JudgesAgainst}
 use Rattle.dump_read.specs.declared.taking.Taken.{Taken}
-use Rattle.dump_read.specs.Seen.{End}
+use Rattle.dump_read.specs.Seen.{DumpsEnd}
 use Rattle.tor_words.specs.declared.check_settings.CheckSettings.{CheckSettings}
 use Rattle.tor_words.specs.CheckGiven.{check_settings_given}
 use Rattle.run_base.specs.Reading.{nothing, seen_from}
 use Rattle.torcheck_run.specs.Limits.{max_result}
-use Rattle.path_clean.specs.Limits.{max_paths}
 use Rattle.run_base.specs.WholeFile.{IsLongFile, LeavesRest, LeavesOnly}
 
 -- ---- the rules 0 to 10, which the bytes of the result file alone decide
@@ -33,7 +33,7 @@ BreaksRule bytes (No line rule) =
 -- ---- rule 11, agreement with dumps
 
 -- what the dumps give, read with the sets of the result
-abbrev pub seen_for : ResultFile → List (List ℕ) → Files → Result Taken End
+abbrev pub seen_for : ResultFile → List (List ℕ) → Files → Result Taken DumpsEnd
 seen_for file dumps files = seen_from file.sets 1 (nothing max_paths) dumps files
 
 -- yes where no dump is named. Else the dumps give paths and counts, and the verdict is on the agreement with these
@@ -48,8 +48,8 @@ IsVerdict bytes dumps files verdict =
     BreaksRule bytes verdict ⊎ ((file : ResultFile) × IsAccepted file bytes × JudgesByDumps file dumps files verdict)
 
 -- a result file has one verdict beside the same dumps: yes, or one line and one rule
-abbrev pub OneVerdictLaw : Type 0
-OneVerdictLaw =
+abbrev pub OneFileVerdictLaw : Type 0
+OneFileVerdictLaw =
     (bytes : List ℕ) (dumps : List (List ℕ)) (files : Files) (verdict other : Verdict) → IsVerdict bytes dumps files verdict →
     IsVerdict bytes dumps files other → verdict ≡ other
 
@@ -80,22 +80,22 @@ pub data Outcome : Type 0 where
   -- it has more octets than may be
   TooLong : Outcome
   -- it meets the rules 0 to 10, and the dumps have this end
-  Ends : End → Outcome
+  Ends : DumpsEnd → Outcome
 
 -- what the settings and the files give
-abbrev pub ComesTo : CheckSettings → Files → Outcome → Type 0
-ComesTo settings files (Judged verdict) =
+abbrev pub SettingsGive : CheckSettings → Files → Outcome → Type 0
+SettingsGive settings files (Judged verdict) =
     (bytes : List ℕ) × IsResult settings files bytes × IsVerdict bytes settings.dumps files verdict
-ComesTo settings files NoResult = files settings.result ≡ None
-ComesTo settings files TooLong = IsLongFile max_result (files settings.result)
-ComesTo settings files (Ends end) =
+SettingsGive settings files NoResult = files settings.result ≡ None
+SettingsGive settings files TooLong = IsLongFile max_result (files settings.result)
+SettingsGive settings files (Ends end) =
     (bytes : List ℕ) × (file : ResultFile) × IsResult settings files bytes × IsAccepted file bytes ×
     (seen_for file settings.dumps files ≡ Err end)
 
 -- what the words and the files give
-abbrev pub Gives : List (List ℕ) → Files → Outcome → Type 0
-Gives words files outcome =
-    (settings : CheckSettings) × (check_settings_given words ≡ Some settings) × ComesTo settings files outcome
+abbrev pub WordsGive : List (List ℕ) → Files → Outcome → Type 0
+WordsGive words files outcome =
+    (settings : CheckSettings) × (check_settings_given words ≡ Some settings) × SettingsGive settings files outcome
 
 -- ---- what follows
 

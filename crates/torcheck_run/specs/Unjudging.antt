@@ -6,7 +6,7 @@ use Rattle.result_rules.specs.declared.verdict.Verdict.TheVariants.{No}
 use Rattle.result_rules.specs.Rules.{Accepts, IsRefused}
 use Rattle.dump_read.specs.declared.error.DumpError.{DumpError}
 use Rattle.dump_read.specs.declared.error.DumpError.TheVariants as error
-use Rattle.dump_read.specs.Seen.{End, Absent, Malformed, Limit}
+use Rattle.dump_read.specs.Seen.{DumpsEnd, Absent, Malformed, Limit}
 use Rattle.tor_words.specs.declared.check_settings.CheckSettings.{CheckSettings}
 use Rattle.tor_words.specs.declared.refused.WordsRefused.TheVariants as refused
 use Rattle.tor_words.specs.Refused.{HasUsageLine}
@@ -21,7 +21,7 @@ use Rattle.torcheck_run.specs.declared.judging.Ruling.TheVariants as ruling
 use Rattle.torcheck_run.specs.declared.judging.Unjudged.{Unjudged}
 use Rattle.torcheck_run.specs.declared.judging.Unjudged.TheVariants as unjudged
 use Rattle.run_base.specs.Notes.{read_fault_note, result_note}
-use Rattle.run_base.specs.Answers.{Says, Answers, IsNoMemory, IsReadFault, IsOfWords}
+use Rattle.run_base.specs.Answers.{AnswersWith, Answers, IsNoMemory, IsReadFault, IsOfWords}
 use Rattle.torcheck_run.specs.Judging.{BreaksRule, IsAccepted, IsResult, seen_for}
 use Rattle.run_base.specs.WholeFile.{IsLongFile}
 use Rattle.torcheck_run.specs.Limits.{max_result}
@@ -37,18 +37,18 @@ IsRuling bytes (ruling.Broken line rule) = BreaksRule bytes (No line rule)
 IsRuling bytes (ruling.Met file) = IsAccepted file bytes
 
 -- the bytes meet the rules 0 to 10, and the dumps, where the files are known, have this end
-abbrev pub EndsWith : List ℕ → List (List ℕ) → Option Files → End → Type 0
-EndsWith bytes dumps known end =
+abbrev pub DumpsEndWith : List ℕ → List (List ℕ) → Option Files → DumpsEnd → Type 0
+DumpsEndWith bytes dumps known end =
     IfSome known (λ files. (file : ResultFile) × IsAccepted file bytes × (seen_for file dumps files ≡ Err end))
 
 -- the reading of the dumps stopped at this one for this
 abbrev pub StopsAt : List ℕ → List (List ℕ) → Option Files → Type 0 → ℕ → DumpError → Type 0
-StopsAt bytes dumps known steady dump (error.Malformed place fault) = EndsWith bytes dumps known (Malformed place fault)
-StopsAt bytes dumps known steady dump (error.Limit kind) = EndsWith bytes dumps known (Limit kind dump)
+StopsAt bytes dumps known steady dump (error.Malformed place fault) = DumpsEndWith bytes dumps known (Malformed place fault)
+StopsAt bytes dumps known steady dump (error.Limit kind) = DumpsEndWith bytes dumps known (Limit kind dump)
 StopsAt bytes dumps known steady dump error.ReadFault =
     (1 ≤ dump) × (dump ≤ length dumps)
     × IfSome known (λ files. (file : ResultFile) × IsAccepted file bytes × IsOk (seen_for file (take (dump - 1) dumps) files))
-    × (steady → EndsWith bytes dumps known (Absent dump))
+    × (steady → DumpsEndWith bytes dumps known (Absent dump))
 StopsAt bytes dumps known steady dump error.NoMemory = Unit {0}
 
 -- there is no verdict on these bytes for this
@@ -101,7 +101,7 @@ IsOfCheckWords (unjudged.Result why) = ⊥
 IsOfCheckWords (unjudged.Refused why) = IsOfWords why
 
 abbrev pub AnswersUnjudged : Unjudged → Answer → Type 0
-AnswersUnjudged (unjudged.Result unread.Failed) answer = Says status.ReadFault (read_fault_note 0) answer
-AnswersUnjudged (unjudged.Result unread.TooLong) answer = Says status.Limit result_note answer
+AnswersUnjudged (unjudged.Result unread.Failed) answer = AnswersWith status.ReadFault (read_fault_note 0) answer
+AnswersUnjudged (unjudged.Result unread.TooLong) answer = AnswersWith status.Limit result_note answer
 AnswersUnjudged (unjudged.Result unread.NoMemory) answer = IsNoMemory answer
 AnswersUnjudged (unjudged.Refused why) answer = Answers why answer

@@ -11,8 +11,8 @@ ghost use Rattle.std.specs.Io.KnownBytes.{IsAtEnd, append_known};
 ghost use Rattle.run_base.specs.Notes.{plain_note};
 ghost use Rattle.run_base.specs.Answers.{IsNoted};
 ghost use Rattle.run_base.specs.Answers.{note_in};
-ghost use Rattle.torcheck_run.specs.Judging.{NoResult, TooLong, Ends, Gives, IsVouched, CanBeJudged, LeavesRestOf};
-ghost use Rattle.torcheck_run.specs.CheckAnswer.{GainsVerdict, GainsNo, GainsVerdictPrefix, LeadsTo, LeadsToMalformed, LeadsToLimit, LeadsToAbsent, IsCheckNote, verdict_text, status_of};
+ghost use Rattle.torcheck_run.specs.Judging.{NoResult, TooLong, Ends, WordsGive, IsVouched, CanBeJudged, LeavesRestOf};
+ghost use Rattle.torcheck_run.specs.CheckAnswer.{GainsVerdict, GainsNo, GainsVerdictPrefix, KnownFilesGive, LeadsToMalformed, LeadsToLimit, LeadsToAbsent, IsCheckNote, verdict_text, status_of};
 
 use crate::judging::{answer_to_unjudged, verdict_of};
 use crate::verdicts::{status_of, verdict_text};
@@ -73,7 +73,7 @@ fn answer<H: Shelf, O: Sink>(
 
     // What is left in the objects.
     ensures read_out { (result.status ≡ Status.Done) ⊎ (result.status ≡ Status.No) → IsAtEnd (H.left shelf.new) }
-    ensures bounded { result.status ≡ Status.Limit → LeadsTo words.now (H.files shelf.old) TooLong →
+    ensures bounded { result.status ≡ Status.Limit → KnownFilesGive words.now (H.files shelf.old) TooLong →
         LeavesRestOf words.now (H.files shelf.old) (H.left shelf.new) }
     ensures untouched { result.status ≡ Status.Usage → shelf.new ≡ shelf.old }
     ensures files { H.files shelf.new ≡ H.files shelf.old }
@@ -130,25 +130,25 @@ pub fn check<H: Shelf, O: Sink, E: Sink>(
         IsQuiet (O.faults out.old) (O.faults out.new) →
         ((result ≡ Status.Done) ⊎ (result ≡ Status.No)) ⊎ (result ≡ Status.NoMemory) }
     ensures always_malformed { (files : Files) (place : Place) (fault : FaultKind) → H.files shelf.old ≡ Some files →
-        Gives words.now files (Ends (MalformedAt place fault)) →
+        WordsGive words.now files (Ends (MalformedAt place fault)) →
         IsQuiet (H.faults shelf.old) (H.faults shelf.new) ⊎ H.steady shelf.old →
         (result ≡ Status.Malformed) ⊎ (result ≡ Status.NoMemory) }
     ensures always_limit { (files : Files) (kind : Quantity) (dump : ℕ) → H.files shelf.old ≡ Some files →
-        Gives words.now files (Ends (LimitOf kind dump)) →
+        WordsGive words.now files (Ends (LimitOf kind dump)) →
         IsQuiet (H.faults shelf.old) (H.faults shelf.new) ⊎ H.steady shelf.old →
         (result ≡ Status.Limit) ⊎ (result ≡ Status.NoMemory) }
-    ensures always_too_long { (files : Files) → H.files shelf.old ≡ Some files → Gives words.now files TooLong →
+    ensures always_too_long { (files : Files) → H.files shelf.old ≡ Some files → WordsGive words.now files TooLong →
         IsQuiet (H.faults shelf.old) (H.faults shelf.new) ⊎ H.steady shelf.old →
         (result ≡ Status.Limit) ⊎ (result ≡ Status.NoMemory) }
     ensures always_absent { (files : Files) (dump : ℕ) → H.files shelf.old ≡ Some files →
-        Gives words.now files (Ends (Absent dump)) → (result ≡ Status.ReadFault) ⊎ (result ≡ Status.NoMemory) }
-    ensures always_no_result { (files : Files) → H.files shelf.old ≡ Some files → Gives words.now files NoResult →
+        WordsGive words.now files (Ends (Absent dump)) → (result ≡ Status.ReadFault) ⊎ (result ≡ Status.NoMemory) }
+    ensures always_no_result { (files : Files) → H.files shelf.old ≡ Some files → WordsGive words.now files NoResult →
         (result ≡ Status.ReadFault) ⊎ (result ≡ Status.NoMemory) }
 
     // What is left in the objects: at Done and No nothing unread, the files as they were, no count lowered, at Usage no
     // call made on the shelf, and no failed call passed over.
     ensures read_out { (result ≡ Status.Done) ⊎ (result ≡ Status.No) → IsAtEnd (H.left shelf.new) }
-    ensures bounded { result ≡ Status.Limit → LeadsTo words.now (H.files shelf.old) TooLong →
+    ensures bounded { result ≡ Status.Limit → KnownFilesGive words.now (H.files shelf.old) TooLong →
         LeavesRestOf words.now (H.files shelf.old) (H.left shelf.new) }
     ensures untouched { result ≡ Status.Usage → shelf.new ≡ shelf.old }
     ensures files { H.files shelf.new ≡ H.files shelf.old }

@@ -8,9 +8,9 @@ ghost use Rattle.result_text.specs.Grammar.{IsTextOf};
 ghost use Rattle.result_text.specs.Refusal.{Refuses};
 ghost use Rattle.tor_words.specs.CheckGiven.{check_settings_given};
 ghost use Rattle.run_base.specs.Answers.{IsReadFault};
-ghost use Rattle.torcheck_run.specs.Judging.{Judged, ComesTo, IsVerdict, JudgesByDumps, LeavesRestOf, LeavesOnlyResult, seen_for};
+ghost use Rattle.torcheck_run.specs.Judging.{Judged, SettingsGive, IsVerdict, JudgesByDumps, LeavesRestOf, LeavesOnlyResult, seen_for};
 ghost use Rattle.run_base.specs.WholeFile.{LeavesRest, LeavesOnly};
-ghost use Rattle.torcheck_run.specs.CheckAnswer.{LeadsTo};
+ghost use Rattle.torcheck_run.specs.CheckAnswer.{KnownFilesGive};
 ghost use Rattle.result_rules.specs.File.{HasFewLines};
 ghost use Rattle.torcheck_run.specs.Unjudging.{IsRuling, IsRulingOf, IsRefusedBy, IsUnjudged, IsUnjudgedIn, IsTooLong, IsFailedResult, IsFailedRead, IsOfCheckWords, AnswersUnjudged};
 ghost use Rattle.torcheck_run.specs.Limits.{max_result};
@@ -154,7 +154,7 @@ fn judge_file<H: Shelf>(
     settings: &CheckSettings,
     shelf: &mut H,
 ) -> Result<Verdict, Unjudged>
-    ensures verdict { IfOk result (λ verdict. IfSome (H.files shelf.old) (λ files. ComesTo settings.now files (Judged verdict))) }
+    ensures verdict { IfOk result (λ verdict. IfSome (H.files shelf.old) (λ files. SettingsGive settings.now files (Judged verdict))) }
     ensures unjudged { IfErr result (IsUnjudgedIn settings.now (H.files shelf.old) (H.steady shelf.old)) }
     ensures no_words { IfErr result (λ u. IsOfCheckWords u → ⊥) }
     ensures rest { IfErr result (λ u. IsTooLong u → LeavesRest max_result settings.now.result (H.files shelf.old) (H.left shelf.new)) }
@@ -185,7 +185,7 @@ pub(crate) fn verdict_of<H: Shelf>(
     words: &List<Name>,
     shelf: &mut H,
 ) -> Result<Verdict, Unjudged>
-    ensures verdict { IfOk result (λ verdict. LeadsTo words.now (H.files shelf.old) (Judged verdict)) }
+    ensures verdict { IfOk result (λ verdict. KnownFilesGive words.now (H.files shelf.old) (Judged verdict)) }
     ensures unjudged { IfErr result (IsUnjudged words.now (H.files shelf.old) (H.steady shelf.old)) }
 
     ensures rest { IfErr result (λ u. IsTooLong u → LeavesRestOf words.now (H.files shelf.old) (H.left shelf.new)) }

@@ -7,4 +7,4 @@ mod laws;
 mod verdicts;
 
 pub use checking::check;
-pub use laws::one_verdict_law;
+pub use laws::one_file_verdict_law;

@@ -5,10 +5,10 @@ ghost use Rattle.relationships.specs.Graph.{edge_of, edges_on, edges};
 ghost use Rattle.relationships.specs.Steps.{end_left};
 ghost use Rattle.result_rules.specs.File.{its_paths, its_edges};
 ghost use Rattle.result_rules.specs.declared.rule.Rule.{Rule};
-ghost use Rattle.rel_checker.specs.PathSteps.{IsStep, AreSteps, HaveSteps};
+ghost use Rattle.rel_checker.specs.PathSteps.{IsCodedStep, AreCodedSteps, HaveCodedSteps};
 ghost use Rattle.result_rules.specs.Rules.{IsMet};
 ghost use Rattle.tor_numbers.specs.Edges.{with_edge};
-ghost use Rattle.rel_checker.specs.Steps.{Finds};
+ghost use Rattle.rel_checker.specs.Steps.{FindsBreach};
 
 use crate::edges::labels::Labels;
 use crate::edges::step::Step;
@@ -29,7 +29,7 @@ pub(crate) fn list_edges(
 ) -> Result<(EdgeTable, Rows<PathId, Step>), NoMemory>
     requires { IsMet file.now Rule.PathsCleaned }
     ensures edges { IfOk result (λ listed. listed.0 ≡ edges (its_paths file.now)) }
-    ensures steps { IfOk result (λ listed. HaveSteps listed.0 (its_paths file.now) listed.1) }
+    ensures steps { IfOk result (λ listed. HaveCodedSteps listed.0 (its_paths file.now) listed.1) }
 {
     let mut table = EdgeTable::new(alloc, keys);
     let mut rows = Rows::new(alloc);
@@ -48,7 +48,7 @@ fn add_paths(
     requires no_edges { table.old ≡ [] }
     requires no_rows { rows.old ≡ [] }
     ensures edges { OnOk result (table.new ≡ edges (its_paths file.now)) }
-    ensures steps { OnOk result (HaveSteps table.new (its_paths file.now) rows.new) }
+    ensures steps { OnOk result (HaveCodedSteps table.new (its_paths file.now) rows.new) }
 {
     rows.reserve(file.paths.len(), numbers_on(&file.paths))?;
     let mut steps = List::new(alloc);
@@ -87,7 +87,7 @@ fn add_steps(table: &mut EdgeTable, steps: &mut List<Step>, path: &[u32]) -> Res
     requires room { length table.old + length path.now ≤ max_numbers }
     requires empty { steps.old ≡ [] }
     ensures edges { OnOk result (table.new ≡ fold with_edge table.old (edges_on path.now)) }
-    ensures steps { OnOk result (AreSteps table.new path.now steps.new) }
+    ensures steps { OnOk result (AreCodedSteps table.new path.now steps.new) }
 {
     for at in 1..path.len() {
         let step = add_step(table, path[at - 1], path[at])?;
@@ -100,7 +100,7 @@ fn add_steps(table: &mut EdgeTable, steps: &mut List<Step>, path: &[u32]) -> Res
 fn add_step(table: &mut EdgeTable, from: u32, to: u32) -> Result<Step, NoMemory>
     requires room { length table.old < max_numbers }
     ensures edge { OnOk result (table.new ≡ with_edge table.old (edge_of from to)) }
-    ensures step { IfOk result (IsStep table.new from to) }
+    ensures step { IfOk result (IsCodedStep table.new from to) }
 {
     let added = table.add(from, to)?;
     Ok(Step::new(added.place, end_left(from, to)))
@@ -116,7 +116,7 @@ fn end_left(from: u32, to: u32) -> End
 /// The first place in which the edge lines and the edges of the paths differ. It takes no memory.
 pub(crate) fn find_unlisted(file: &ResultFile, table: &EdgeTable) -> Option<usize>
     requires { table.now ≡ edges (its_paths file.now) }
-    ensures found { Finds file.now Rule.EdgesListed result }
+    ensures found { FindsBreach file.now Rule.EdgesListed result }
     ensures listed { IfNone result (its_edges file.now ≡ table.now) }
 {
     let lines = file.edges.as_slice();
@@ -148,8 +148,8 @@ pub(crate) fn find_miscounted(
 ) -> Result<Option<usize>, NoMemory>
     requires clean { IsMet file.now Rule.PathsCleaned }
     requires listed { IsMet file.now Rule.EdgesListed }
-    requires steps { HaveSteps (its_edges file.now) (its_paths file.now) steps.now }
-    ensures { IfOk result (Finds file.now Rule.SupportCounted) }
+    requires steps { HaveCodedSteps (its_edges file.now) (its_paths file.now) steps.now }
+    ensures { IfOk result (FindsBreach file.now Rule.SupportCounted) }
 {
     let counts = count_kept(alloc, file, steps)?;
     for (place, line) in file.edges.as_slice().iter().enumerate() {
@@ -169,8 +169,8 @@ pub(crate) fn find_valley(
     requires labels { labels.now ≡ file.now.edges }
     requires clean { IsMet file.now Rule.PathsCleaned }
     requires listed { IsMet file.now Rule.EdgesListed }
-    requires steps { HaveSteps (its_edges file.now) (its_paths file.now) steps.now }
-    ensures { Finds file.now Rule.KeptValleyFree result }
+    requires steps { HaveCodedSteps (its_edges file.now) (its_paths file.now) steps.now }
+    ensures { FindsBreach file.now Rule.KeptValleyFree result }
 {
     for place in 0..file.paths.len() {
         let line = path_line_at(&file.paths, place);

@@ -7,7 +7,7 @@ ghost use Rattle.result_text.specs.declared.file.EdgeLine.{EdgeLine};
 ghost use Rattle.tor_arena.specs.Distinct.{is_distinct};
 ghost use Rattle.result_rules.specs.File.{its_edges, its_kept, its_paths};
 ghost use Rattle.rel_checker.specs.Flipping.{edges_of, AreApart};
-ghost use Rattle.rel_checker.specs.PathSteps.{place_in, AreSteps, HaveSteps};
+ghost use Rattle.rel_checker.specs.PathSteps.{place_in, AreCodedSteps, HaveCodedSteps};
 ghost use Rattle.result_rules.specs.declared.rule.Rule.{Rule};
 ghost use Rattle.result_rules.specs.Rules.{IsMet};
 ghost use Rattle.rel_checker.specs.Tables.{HaveRisen, AreCounts, kept_in};
@@ -26,7 +26,7 @@ pub(crate) fn count_kept(
 ) -> Result<Vec<u64>, NoMemory>
     requires clean { IsMet file.now Rule.PathsCleaned }
     requires listed { IsMet file.now Rule.EdgesListed }
-    requires steps { HaveSteps (its_edges file.now) (its_paths file.now) steps.now }
+    requires steps { HaveCodedSteps (its_edges file.now) (its_paths file.now) steps.now }
     ensures { IfOk result (λ counts. AreCounts (its_edges file.now) (support (paths_of (its_kept file.now))) counts.items) }
 {
     let mut counts = vec![in alloc; 0; file.edges.len()]?;
@@ -44,7 +44,7 @@ fn count_line(line: &PathLineRef<'_>, steps: &[Step], counts: &mut Vec<u64>)
     requires short { length steps.now ≤ max_numbers }
     requires few { (k : ℕ) → slice_index counts.old.items k ≤ max_paths }
     ensures { (lines : List EdgeLine) → AreApart lines → length counts.old.items ≡ length lines →
-        AreSteps (edges_of lines) line.now.path steps.now →
+        AreCodedSteps (edges_of lines) line.now.path steps.now →
         HaveRisen (edges_of lines) (support (kept_in (line.now ∷ []))) counts.old.items counts.new.items }
 {
     if line.is_kept() {

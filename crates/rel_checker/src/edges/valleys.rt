@@ -5,7 +5,7 @@ ghost use Rattle.relationships.specs.Relationship.{Labelling, slopes, ValleyFree
 ghost use Rattle.relationships.specs.declared.fate.Fate.TheVariants.{Kept};
 ghost use Rattle.relationships.specs.Steps.{step_slope, is_up, is_down};
 ghost use Rattle.rel_checker.specs.Flipping.{edges_of, AreApart};
-ghost use Rattle.rel_checker.specs.PathSteps.{place_in, AreSteps, slopes_by};
+ghost use Rattle.rel_checker.specs.PathSteps.{place_in, AreCodedSteps, line_slopes};
 ghost use Rattle.rel_checker.specs.Tables.{labels_in};
 
 use crate::edges::labels::Labels;
@@ -17,7 +17,7 @@ use result_text::PathLineRef;
 pub(crate) fn is_served(labels: &Labels<'_>, line: &PathLineRef<'_>, steps: &[Step]) -> bool
     requires apart { AreApart labels.now }
     requires distinct { AllDistinct line.now.path }
-    requires steps { AreSteps (edges_of labels.now) line.now.path steps.now }
+    requires steps { AreCodedSteps (edges_of labels.now) line.now.path steps.now }
     ensures { IsTrue result ↔ (line.now.fate ≡ Kept → ValleyFree (labels_in labels.now) line.now.path) }
 {
     !line.is_kept() || is_valley_free(labels, steps)
@@ -26,7 +26,7 @@ pub(crate) fn is_served(labels: &Labels<'_>, line: &PathLineRef<'_>, steps: &[St
 /// Whether the steps go up and then down, with at most one flat one between. The path falls from the first that doesn't go up.
 fn is_valley_free(labels: &Labels<'_>, steps: &[Step]) -> bool
     requires { All (λ s. place_in s < length labels.now) steps.now }
-    ensures { (L : Labelling) (path : List ℕ) → slopes L path ≡ slopes_by labels.now steps.now → IsTrue result ↔ ValleyFree L path }
+    ensures { (L : Labelling) (path : List ℕ) → slopes L path ≡ line_slopes labels.now steps.now → IsTrue result ↔ ValleyFree L path }
 {
     let mut falling = false;
     for step in steps {

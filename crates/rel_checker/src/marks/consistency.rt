@@ -1,10 +1,10 @@
 //! Whether the closures of open lines are consistent.
 
 ghost use Rattle.std.specs.Prelude.{◌≡◌, ◌<◌, ◌≤◌, ◌↔◌, ℕ, length, All, Any, IsTrue, Some, OnOk, IfOk};
-ghost use Rattle.rel_checker.specs.Neighbours.{HasNext, IsInside, IsMutual};
-ghost use Rattle.rel_checker.specs.Searching.{IsVisited, IsSearched};
+ghost use Rattle.rel_checker.specs.Neighbours.{HasNext, EachHasRow, IsMutual};
+ghost use Rattle.rel_checker.specs.Searching.{RoundCameTo, HasSearchedFrom};
 ghost use Rattle.tor_arena.specs.Limits.{most_places};
-ghost use Rattle.rel_checker.specs.Batches.{IsAgreeing, IsBatch};
+ghost use Rattle.rel_checker.specs.Batches.{IsAgreeing, CanFlipTogether};
 ghost use Rattle.rel_checker.specs.Serving.{CanFlip, IsLaidOut, First, GainsAt, ServesAt};
 
 use crate::marks::flipping::Flips;
@@ -19,7 +19,7 @@ use tor_numbers::EdgeTable;
 /// Whether the round came to one of these edges.
 fn has_visited(row: &[EdgeId], rounds: &Arena<EdgeId, usize>, round: usize) -> bool
     requires { All (λ k. k < length rounds.now.items) row.now }
-    ensures { IsTrue result ↔ Any (IsVisited rounds.now.items round) row.now }
+    ensures { IsTrue result ↔ Any (RoundCameTo rounds.now.items round) row.now }
 {
     row.iter().any(|edge| *rounds.get(*edge) == round)
 }
@@ -31,10 +31,10 @@ fn conflicts_visited(
     round: usize,
     edge: EdgeId,
 ) -> bool
-    requires inside { IsInside conflicting.now }
+    requires inside { EachHasRow conflicting.now }
     requires many { length rounds.now.items ≡ length conflicting.now }
     requires edge { edge < length conflicting.now }
-    ensures { IsTrue result ↔ ((j : ℕ) × HasNext conflicting.now edge j × IsVisited rounds.now.items round j) }
+    ensures { IsTrue result ↔ ((j : ℕ) × HasNext conflicting.now edge j × RoundCameTo rounds.now.items round j) }
 {
     has_visited(conflicting.of(edge), rounds, round)
 }
@@ -46,10 +46,10 @@ fn has_clash(
     round: usize,
     found: &[EdgeId],
 ) -> bool
-    requires inside { IsInside conflicting.now }
+    requires inside { EachHasRow conflicting.now }
     requires many { length rounds.now.items ≡ length conflicting.now }
     requires found { All (λ k. k < length conflicting.now) found.now }
-    ensures { IsTrue result ↔ Any (λ i. (j : ℕ) × HasNext conflicting.now i j × IsVisited rounds.now.items round j) found.now }
+    ensures { IsTrue result ↔ Any (λ i. (j : ℕ) × HasNext conflicting.now i j × RoundCameTo rounds.now.items round j) found.now }
 {
     found.iter().any(|edge| conflicts_visited(conflicting, rounds, round, *edge))
 }
@@ -84,13 +84,13 @@ impl Batch {
         requires start { start < length flips.now.implied }
         requires many { length self.old.rounds.items ≡ length flips.now.implied }
         requires same { length flips.now.conflicting ≡ length flips.now.implied }
-        requires inside { IsInside flips.now.implied }
-        requires conflicts { IsInside flips.now.conflicting }
+        requires inside { EachHasRow flips.now.implied }
+        requires conflicts { EachHasRow flips.now.conflicting }
         requires both_ways { IsMutual flips.now.conflicting }
-        requires batch { IsBatch flips.now.implied flips.now.conflicting self.old.rounds.items self.old.round }
+        requires batch { CanFlipTogether flips.now.implied flips.now.conflicting self.old.rounds.items self.old.round }
         ensures round { OnOk result (self.new.round ≡ self.old.round) }
         ensures searched { OnOk result
-            (IsSearched flips.now.implied start self.old.round self.old.rounds.items self.new.rounds.items self.new.found) }
+            (HasSearchedFrom flips.now.implied start self.old.round self.old.rounds.items self.new.rounds.items self.new.found) }
         ensures agreeing { IfOk result (λ agrees.
             IsTrue agrees ↔ IsAgreeing flips.now.conflicting self.new.rounds.items self.old.round) }
     {
@@ -121,13 +121,13 @@ impl Batch {
     ) -> Result<bool, NoMemory>
         requires laid { IsLaidOut file.now table.now flips.now.implied flips.now.conflicting }
         requires many { length self.old.rounds.items ≡ length file.now.edges }
-        requires batch { IsBatch flips.now.implied flips.now.conflicting self.old.rounds.items self.old.round }
+        requires batch { CanFlipTogether flips.now.implied flips.now.conflicting self.old.rounds.items self.old.round }
         requires later { self.old.round ≤ next }
         requires alone { self.old.round ≡ next → All (λ m. m < next) self.old.rounds.items }
         ensures many { OnOk result (length self.new.rounds.items ≡ length file.now.edges) }
         ensures later { OnOk result (self.new.round ≤ next) }
         ensures batch { IfOk result (λ taken.
-            IsTrue taken → IsBatch flips.now.implied flips.now.conflicting self.new.rounds.items self.new.round) }
+            IsTrue taken → CanFlipTogether flips.now.implied flips.now.conflicting self.new.rounds.items self.new.round) }
         ensures consistent { IfOk result (λ taken. IsTrue taken ↔ CanFlip file.now (probe.now.over, probe.now.under)) }
     {
         let lines = file.edges.as_slice();

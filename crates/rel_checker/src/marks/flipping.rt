@@ -4,8 +4,8 @@
 ghost use Rattle.std.specs.Prelude.{◌≡◌, ◌<◌, ◌≤◌, ℕ, ◌∷◌, ◌++◌, [], List as Items, length, OnOk, IfOk};
 ghost use Rattle.tor_arena.specs.Limits.{most_places};
 ghost use Rattle.result_rules.specs.File.{its_edges, its_paths};
-ghost use Rattle.rel_checker.specs.Flipping.{climbs, climbs_on, number_of, SameRows, AreNoted, flipped_orders, edges_of, IsBuiltFor, with_implied, with_conflicting, with_kept, kept_lines, IsProper};
-ghost use Rattle.rel_checker.specs.PathSteps.{place_in, AreSteps, HaveSteps};
+ghost use Rattle.rel_checker.specs.Flipping.{climbs, climbs_on, number_of_steps, SameRows, AreNoted, flipped_orders, edges_of, IsBuiltFor, with_implied, with_conflicting, with_kept, kept_lines, IsProper};
+ghost use Rattle.rel_checker.specs.PathSteps.{place_in, AreCodedSteps, HaveCodedSteps};
 
 use crate::edges::labels::Labels;
 use crate::edges::step::Step;
@@ -61,7 +61,7 @@ fn climbs(label: Label, left: End) -> bool
 pub(crate) fn number_of(first: Step, second: Step) -> u64
     requires first { place_in first < most_places }
     requires second { place_in second < most_places }
-    ensures number { result ≡ number_of first second }
+    ensures number { result ≡ number_of_steps first second }
     ensures least { 2 ≤ result }
 {
     let (start, end) = if second.turned_code() < first.code() {
@@ -131,7 +131,7 @@ impl Flips {
     ) -> Result<(), NoMemory>
         requires few { length labels.now ≤ most_places }
         requires proper { IsProper (flipped_orders labels.now) }
-        requires steps { AreSteps (edges_of labels.now) path.now steps.now }
+        requires steps { AreCodedSteps (edges_of labels.now) path.now steps.now }
         requires implied { length self.old.implied ≡ length labels.now }
         requires conflicting { length self.old.conflicting ≡ length labels.now }
         requires noted { AreNoted labels.now noted.old self.old.implied self.old.conflicting }
@@ -157,7 +157,7 @@ impl Flips {
     ) -> Result<(), NoMemory>
         requires few { length labels.now ≤ most_places }
         requires proper { IsProper (flipped_orders labels.now) }
-        requires steps { AreSteps (edges_of labels.now) line.now.path steps.now }
+        requires steps { AreCodedSteps (edges_of labels.now) line.now.path steps.now }
         requires implied { length self.old.implied ≡ length labels.now }
         requires conflicting { length self.old.conflicting ≡ length labels.now }
         requires noted { AreNoted labels.now noted.old self.old.implied self.old.conflicting }
@@ -185,7 +185,7 @@ impl Flips {
         requires labels { labels.now ≡ file.now.edges }
         requires few { length file.now.edges ≤ most_places }
         requires proper { IsProper (flipped_orders file.now.edges) }
-        requires steps { HaveSteps (its_edges file.now) (its_paths file.now) steps.now }
+        requires steps { HaveCodedSteps (its_edges file.now) (its_paths file.now) steps.now }
         ensures { IfOk result (λ flips. IsBuiltFor file.now.edges (kept_lines file.now.paths) flips.implied flips.conflicting) }
     {
         let count = file.edges.len();

@@ -4,9 +4,9 @@ ghost use Rattle.std.specs.Prelude.{◌≡◌, ◌+◌, ◌≤◌, length, IfOk}
 ghost use Rattle.tor_arena.specs.Limits.{most_places};
 ghost use Rattle.result_rules.specs.File.{its_edges, its_paths, its_probes, shown_orders, HasFewLines};
 ghost use Rattle.result_rules.specs.declared.rule.Rule.{Rule};
-ghost use Rattle.rel_checker.specs.PathSteps.{HaveSteps};
+ghost use Rattle.rel_checker.specs.PathSteps.{HaveCodedSteps};
 ghost use Rattle.result_rules.specs.Rules.{IsMet};
-ghost use Rattle.rel_checker.specs.Steps.{Finds};
+ghost use Rattle.rel_checker.specs.Steps.{FindsBreach};
 ghost use Rattle.rel_checker.specs.Serving.{Covers, IsLaidOut, IsShownBy, First, MarkedAt, is_borne};
 
 use crate::edges::labels::Labels;
@@ -70,11 +70,11 @@ pub(crate) fn find_unmarked(
     requires lines { HasFewLines file.now }
     requires table { table.now ≡ its_edges file.now }
     requires labels { labels.now ≡ file.now.edges }
-    requires steps { HaveSteps (its_edges file.now) (its_paths file.now) steps.now }
+    requires steps { HaveCodedSteps (its_edges file.now) (its_paths file.now) steps.now }
     requires cleaned { IsMet file.now Rule.PathsCleaned }
     requires listed { IsMet file.now Rule.EdgesListed }
     requires served { IsMet file.now Rule.KeptValleyFree }
-    ensures { IfOk result (Finds file.now Rule.MarksBorneOut) }
+    ensures { IfOk result (FindsBreach file.now Rule.MarksBorneOut) }
 {
     let flips = Flips::of_file(alloc, keys, file, labels, steps)?;
     find_by_flips(alloc, file, table, &flips)
@@ -89,7 +89,7 @@ fn find_by_flips(
 ) -> Result<Option<usize>, NoMemory>
     requires lines { HasFewLines file.now }
     requires laid { IsLaidOut file.now table.now flips.now.implied flips.now.conflicting }
-    ensures { IfOk result (Finds file.now Rule.MarksBorneOut) }
+    ensures { IfOk result (FindsBreach file.now Rule.MarksBorneOut) }
 {
     let cover = cover_all(alloc, file, table, flips)?;
     let shown = list_shown(alloc, file, table)?;

@@ -1,8 +1,8 @@
 //! A search along rows of edges, in rounds.
 
 ghost use Rattle.std.specs.Prelude.{◌≡◌, ◌∷◌, [], ◌<◌, All, length, OnOk};
-ghost use Rattle.rel_checker.specs.Neighbours.{IsInside};
-ghost use Rattle.rel_checker.specs.Searching.{Visits, IsClosed, IsSearched};
+ghost use Rattle.rel_checker.specs.Neighbours.{EachHasRow};
+ghost use Rattle.rel_checker.specs.Searching.{RoundComesTo, IsRoundClosed, HasSearchedFrom};
 
 use crate::marks::neighbours::Neighbours;
 use tor_arena::{Arena, EdgeId, List, NoMemory};
@@ -15,7 +15,7 @@ fn visit(
     found: &mut List<EdgeId>,
 ) -> Result<(), NoMemory>
     requires { edge < length rounds.old.items }
-    ensures { OnOk result (Visits round (edge ∷ []) rounds.old.items rounds.new.items found.old found.new) }
+    ensures { OnOk result (RoundComesTo round (edge ∷ []) rounds.old.items rounds.new.items found.old found.new) }
 {
     if *rounds.get(edge) == round {
         return Ok(());
@@ -32,7 +32,7 @@ pub(crate) fn visit_each(
     found: &mut List<EdgeId>,
 ) -> Result<(), NoMemory>
     requires { All (λ k. k < length rounds.old.items) row.now }
-    ensures { OnOk result (Visits round row.now rounds.old.items rounds.new.items found.old found.new) }
+    ensures { OnOk result (RoundComesTo round row.now rounds.old.items rounds.new.items found.old found.new) }
 {
     for edge in row {
         visit(*edge, round, rounds, found)?;
@@ -50,9 +50,9 @@ pub(crate) fn reach(
 ) -> Result<(), NoMemory>
     requires start { start < length rows.now }
     requires many { length rounds.old.items ≡ length rows.now }
-    requires inside { IsInside rows.now }
-    requires closed { IsClosed rows.now rounds.old.items round }
-    ensures { OnOk result (IsSearched rows.now start round rounds.old.items rounds.new.items found.new) }
+    requires inside { EachHasRow rows.now }
+    requires closed { IsRoundClosed rows.now rounds.old.items round }
+    ensures { OnOk result (HasSearchedFrom rows.now start round rounds.old.items rounds.new.items found.new) }
 {
     found.clear();
     visit(start, round, rounds, found)?;

@@ -3,9 +3,9 @@
 ghost use Rattle.std.specs.Prelude.{◌≡◌, ◌<◌, ◌≤◌, ◌↔◌, ℕ, ◌++◌, ◌∷◌, [], List as Items, length, All, Any, IsTrue, MatchOption, OnOk, IfOk};
 ghost use Rattle.tor_arena.specs.Limits.{most_places};
 ghost use Rattle.result_rules.specs.File.{its_claims, its_probes};
-ghost use Rattle.rel_checker.specs.Searching.{IsClosed};
+ghost use Rattle.rel_checker.specs.Searching.{IsRoundClosed};
 ghost use Rattle.rel_checker.specs.Flipping.{flipped, flipped_orders, edges_of, FlipsTo, kept_lines, AreApart};
-ghost use Rattle.rel_checker.specs.Serving.{is_wanted, IsWantedAt, Gains, Covers, IsLaidOut, First, GainsAt, first_of};
+ghost use Rattle.rel_checker.specs.Serving.{is_wanted, IsWantedAt, Gains, Covers, IsLaidOut, First, GainsAt, first_failing};
 
 use crate::marks::flipping::Flips;
 use crate::marks::searching::reach;
@@ -74,9 +74,9 @@ fn cover_one(
 ) -> Result<bool, NoMemory>
     requires laid { IsLaidOut file.now table.now flips.now.implied flips.now.conflicting }
     requires many { length rounds.old.items ≡ length file.now.edges }
-    requires closed { IsClosed flips.now.implied rounds.old.items 1 }
+    requires closed { IsRoundClosed flips.now.implied rounds.old.items 1 }
     ensures many { OnOk result (length rounds.new.items ≡ length file.now.edges) }
-    ensures closed { OnOk result (IsClosed flips.now.implied rounds.new.items 1) }
+    ensures closed { OnOk result (IsRoundClosed flips.now.implied rounds.new.items 1) }
     ensures covered { OnOk result ((earlier : Items (ℕ × ℕ)) → Covers file.now earlier rounds.old.items →
         Covers file.now (earlier ++ (probe.now.over, probe.now.under) ∷ []) rounds.new.items) }
     ensures gains { IfOk result (λ gains. (earlier : Items (ℕ × ℕ)) → Covers file.now earlier rounds.old.items →
@@ -92,7 +92,7 @@ fn cover_one(
 
 /// Keeps the first place at which something doesn't hold.
 fn first_failing(first: Option<usize>, place: usize, holds: bool) -> Option<usize>
-    ensures { result ≡ first_of first place holds }
+    ensures { result ≡ first_failing first place holds }
 {
     match (first, holds) {
         (Some(earlier), _) => Some(earlier),

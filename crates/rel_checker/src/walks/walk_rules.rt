@@ -5,7 +5,7 @@ ghost use Rattle.relationships.specs.Evidence.{Refutes};
 ghost use Rattle.relationships.specs.declared.fate.Fate.TheVariants.{Lost};
 ghost use Rattle.rel_checker.specs.Naming.{nameable};
 ghost use Rattle.result_rules.specs.declared.rule.Rule.TheVariants.{LostRefuted, OrdersShown};
-ghost use Rattle.rel_checker.specs.Steps.{Finds};
+ghost use Rattle.rel_checker.specs.Steps.{FindsBreach};
 
 use crate::lending::{path_line_at, walk_at};
 use crate::walks::closed_walks::comes_back;
@@ -39,7 +39,7 @@ fn is_lost_rightly(lines: &PathLines, place: usize, line: &PathLineRef<'_>) -> b
 
 /// The place of the first lost line whose walk doesn't refute. It takes no memory.
 pub(crate) fn find_unrefuted(file: &ResultFile) -> Option<usize>
-    ensures { Finds file.now LostRefuted result }
+    ensures { FindsBreach file.now LostRefuted result }
 {
     for place in 0..file.paths.len() {
         let line = path_line_at(&file.paths, place);
@@ -56,7 +56,7 @@ pub(crate) fn find_unshown(
     keys: Keys,
     file: &ResultFile,
 ) -> Result<Option<usize>, NoMemory>
-    ensures { IfOk result (Finds file.now OrdersShown) }
+    ensures { IfOk result (FindsBreach file.now OrdersShown) }
 {
     let mut shown = Pairs::new(alloc, keys);
     for place in 0..file.whys.len() {

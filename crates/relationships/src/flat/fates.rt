@@ -22,13 +22,13 @@ pub struct Fates {
 impl Model for Fates {
     ghost use Rattle.std.specs.Prelude.{List};
     ghost use Rattle.relationships.specs.declared.fate.Fate.{Fate};
-    ghost use Rattle.relationships.specs.Flat.{places_by, fates_by, AreWithin};
+    ghost use Rattle.relationships.specs.Flat.{places_by, fates_by, AreWalkPlaces};
 
     ghost Value = { List Fate };
 
     ghost view = { λ fates. fates_by fates.walks (places_by fates.numbers.items) };
 
-    ghost invariant = { λ fates. AreWithin fates.walks (places_by fates.numbers.items) };
+    ghost invariant = { λ fates. AreWalkPlaces fates.walks (places_by fates.numbers.items) };
 }
 
 impl Fates {

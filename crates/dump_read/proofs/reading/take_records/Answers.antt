@@ -3,8 +3,8 @@ use Rattle.std.specs.Prelude.{IfSome, IfNone}
 use Rattle.mrt_frame.specs.Records.{Well}
 use Rattle.mrt_frame.specs.Reader.{shelf_of, next_place}
 use Rattle.mrt_frame.specs.Frames.{StopsWith}
-use Rattle.mrt_frame.specs.Steps.{seen}
-use Rattle.dump_read.specs.Refusals.{count_of}
+use Rattle.mrt_frame.specs.Steps.{lent_record}
+use Rattle.dump_read.specs.Refusals.{peers_in}
 use Rattle.mrt_frame.specs.Counting.{CountsOn, CountsAll}
 use Rattle.dump_read.proofs.FileLemmas.{CountsOf, nothing_counted, counted_one, all_counted}
 use Rattle.dump_read.proofs.Goings.{GoesOf, starts, goes_on, ends, breaks, some_so_far, some_with, frame_named}
@@ -27,7 +27,7 @@ records-init g c =
 pub returns-in-Ok-None-clause-some : goal.returns-in-Ok-None-clause-some
 returns-in-Ok-None-clause-some g c =
     let left = g.H.Shelf.left in
-    some_so_far c.args.sets (left (shelf_of c.args.frames.now)) (left (shelf_of c.records.frames)) (next_place c.records.frames) (count_of c.records.peers)
+    some_so_far c.args.sets (left (shelf_of c.args.frames.now)) (left (shelf_of c.records.frames)) (next_place c.records.frames) (peers_in c.records.peers)
     c.args.taken.now c.records.taken c.records.invariant.goes
 
 pub returns-in-Ok-None-clause-read : goal.returns-in-Ok-None-clause-read
@@ -37,7 +37,7 @@ returns-in-Ok-None-clause-read g c =
     let before = left (shelf_of c.records.frames) in
     let stops : IfSome before (λ octets. StopsWith at octets Well) =
     subst (λ o. IfNone o (IfSome before (λ octets. StopsWith at octets Well))) c.in-Ok-None.field-0-is c.in-Ok-None.ensures.end in
-    ends c.args.sets c.args.dump (left (shelf_of c.args.frames.now)) before at (count_of c.records.peers) c.args.taken.now c.records.taken Well c.records.invariant.goes stops
+    ends c.args.sets c.args.dump (left (shelf_of c.args.frames.now)) before at (peers_in c.records.peers) c.args.taken.now c.records.taken Well c.records.invariant.goes stops
 
 pub returns-in-Ok-None-clause-counted : goal.returns-in-Ok-None-clause-counted
 returns-in-Ok-None-clause-counted g c =
@@ -48,18 +48,18 @@ returns-in-Ok-None-clause-counted g c =
     subst (λ o. IfNone o (IfSome before (λ octets. StopsWith at octets Well))) c.in-Ok-None.field-0-is c.in-Ok-None.ensures.end in
     let all : CountsAll before at c.records.file.records c.next.new.counts =
     subst (λ o. IfNone o (CountsAll before at c.records.file.records c.next.new.counts)) c.in-Ok-None.field-0-is c.in-Ok-None.ensures.counted_all in
-    all_counted (left (shelf_of c.args.frames.now)) before at (count_of c.records.peers) c.records.file c.next.new.counts c.records.invariant.counted stops all
+    all_counted (left (shelf_of c.args.frames.now)) before at (peers_in c.records.peers) c.records.file c.next.new.counts c.records.invariant.counted stops all
 
 pub returns-in-Err-clause-stopped : goal.returns-in-Err-clause-stopped
 returns-in-Err-clause-stopped g c =
     let left = g.H.Shelf.left in
-    rw c.of_frame.ensures (frame_named c.args.sets c.args.dump (left (shelf_of c.args.frames.now)) (left (shelf_of c.records.frames)) (next_place c.records.frames) (count_of c.records.peers)
+    rw c.of_frame.ensures (frame_named c.args.sets c.args.dump (left (shelf_of c.args.frames.now)) (left (shelf_of c.records.frames)) (next_place c.records.frames) (peers_in c.records.peers)
     c.args.taken.now c.records.taken c.in-Err.error c.records.invariant.goes c.in-Err.ensures.stopped)
 
 pub returns-in-Err-clause-some : goal.returns-in-Err-clause-some
 returns-in-Err-clause-some g c =
     let left = g.H.Shelf.left in
-    some_so_far c.args.sets (left (shelf_of c.args.frames.now)) (left (shelf_of c.records.frames)) (next_place c.records.frames) (count_of c.records.peers)
+    some_so_far c.args.sets (left (shelf_of c.args.frames.now)) (left (shelf_of c.records.frames)) (next_place c.records.frames) (peers_in c.records.peers)
     c.args.taken.now c.records.taken c.records.invariant.goes
 
 pub records-preserved : goal.records-preserved
@@ -73,14 +73,14 @@ records-preserved g c =
     record {
       same_reference = step.same_reference ∙ c.records.invariant.same_reference;
       live = step.live;
-      goes = subst (λ at. GoesOf c.args.sets (left (shelf_of c.args.frames.now)) (left (shelf_of frames)) at (count_of c.in-Ok.behind) old new) (sym step.next)
+      goes = subst (λ at. GoesOf c.args.sets (left (shelf_of c.args.frames.now)) (left (shelf_of frames)) at (peers_in c.in-Ok.behind) old new) (sym step.next)
           (goes_on c.args.sets (left (shelf_of c.args.frames.now)) (left (shelf_of c.records.frames)) (left (shelf_of frames))
-          (next_place c.records.frames) (count_of c.records.peers) (count_of c.in-Ok.behind)
-          (seen c.in-Ok-Some.found) old mid new c.records.invariant.goes step.stands c.in-Ok.ensures.taken c.in-Ok.ensures.peers);
-      counted = subst (λ at. CountsOf (left (shelf_of c.args.frames.now)) (left (shelf_of frames)) at (count_of c.in-Ok.behind) c.take_record.new.file) (sym step.next)
+          (next_place c.records.frames) (peers_in c.records.peers) (peers_in c.in-Ok.behind)
+          (lent_record c.in-Ok-Some.found) old mid new c.records.invariant.goes step.stands c.in-Ok.ensures.taken c.in-Ok.ensures.peers);
+      counted = subst (λ at. CountsOf (left (shelf_of c.args.frames.now)) (left (shelf_of frames)) at (peers_in c.in-Ok.behind) c.take_record.new.file) (sym step.next)
           (counted_one (left (shelf_of c.args.frames.now)) (left (shelf_of c.records.frames)) (left (shelf_of frames))
-          (next_place c.records.frames) (count_of c.records.peers) (count_of c.in-Ok.behind)
-          (seen c.in-Ok-Some.found) c.records.file c.take_record.new.file c.next.new.counts c.in-Ok.ensures.taken.0 c.records.invariant.counted step.stands
+          (next_place c.records.frames) (peers_in c.records.peers) (peers_in c.in-Ok.behind)
+          (lent_record c.in-Ok-Some.found) c.records.file c.take_record.new.file c.next.new.counts c.in-Ok.ensures.taken.0 c.records.invariant.counted step.stands
           (subst (λ at. CountsOn (left (shelf_of c.records.frames)) (next_place c.records.frames) c.records.file.records (left (shelf_of frames)) at c.next.new.counts) step.next step.counted)
           c.in-Ok.ensures.taken.1 c.in-Ok.ensures.peers c.in-Ok.ensures.counted);
       files = step.leaves.files ∙ c.records.invariant.files;
@@ -94,7 +94,7 @@ returns-in-Err-take_record-clause-stopped g c =
     let step = rw (c.in-Ok-Some.is, c.in-Ok-Some.field-0-is) at c.next.follows.holds-at-none in
     rw c.of_unread.ensures (breaks c.args.sets c.args.dump (left (shelf_of c.args.frames.now)) (left (shelf_of c.records.frames)) (left (shelf_of c.next.follows.lender-at-none))
     (next_place c.records.frames)
-    (count_of c.records.peers) (seen c.in-Ok-Some.found) c.args.taken.now c.records.taken c.in-Err-take_record.unread
+    (peers_in c.records.peers) (lent_record c.in-Ok-Some.found) c.args.taken.now c.records.taken c.in-Err-take_record.unread
     c.records.invariant.goes step.stands c.in-Err-take_record.ensures.unread)
 
 pub returns-in-Err-take_record-clause-some : goal.returns-in-Err-take_record-clause-some
@@ -102,5 +102,5 @@ returns-in-Err-take_record-clause-some g c =
     let left = g.H.Shelf.left in
     let step = rw (c.in-Ok-Some.is, c.in-Ok-Some.field-0-is) at c.next.follows.holds-at-none in
     some_with c.args.sets (left (shelf_of c.args.frames.now)) (left (shelf_of c.records.frames)) (left (shelf_of c.next.follows.lender-at-none)) (next_place c.records.frames)
-    (count_of c.records.peers) (seen c.in-Ok-Some.found) c.args.taken.now c.records.taken
+    (peers_in c.records.peers) (lent_record c.in-Ok-Some.found) c.args.taken.now c.records.taken
     c.take_record.new.taken c.records.invariant.goes step.stands c.in-Err-take_record.ensures.some

@@ -1,6 +1,6 @@
 use Rattle.std.proofs.Common.{◌≡◌, ◌-◌, ◌^◌, true}
 use Rattle.mrt_frame.specs.Reader.{shelf_of, reference_of, next_place, is_live}
-use Rattle.dump_read.specs.Refusals.{count_of}
+use Rattle.dump_read.specs.Refusals.{peers_in}
 use Rattle.dump_read.proofs.Goings.{GoesOf}
 use Rattle.dump_read.proofs.FileLemmas.{CountsOf}
 use Rattle.dump_read.proofs.reading.take_records.Given as goal
@@ -11,8 +11,8 @@ invariant-records g l =
     record {
       same_reference : reference_of l.frames ≡ reference_of l.fn.frames;
       live : is_live l.frames ≡ true;
-      goes : GoesOf l.sets (shelf.left (shelf_of l.fn.frames)) (shelf.left (shelf_of l.frames)) (next_place l.frames) (count_of l.peers) l.fn.taken l.taken;
-      counted : CountsOf (shelf.left (shelf_of l.fn.frames)) (shelf.left (shelf_of l.frames)) (next_place l.frames) (count_of l.peers) l.file;
+      goes : GoesOf l.sets (shelf.left (shelf_of l.fn.frames)) (shelf.left (shelf_of l.frames)) (next_place l.frames) (peers_in l.peers) l.fn.taken l.taken;
+      counted : CountsOf (shelf.left (shelf_of l.fn.frames)) (shelf.left (shelf_of l.frames)) (next_place l.frames) (peers_in l.peers) l.file;
       files : shelf.files (shelf_of l.frames) ≡ shelf.files (shelf_of l.fn.frames);
       quiet : shelf.faults (shelf_of l.frames) ≡ shelf.faults (shelf_of l.fn.frames);
       steady : shelf.steady (shelf_of l.fn.frames) → shelf.steady (shelf_of l.frames);

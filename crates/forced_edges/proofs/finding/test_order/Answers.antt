@@ -17,7 +17,7 @@ returns-clause-found c =
     let new = c.spread.new.found.items in
     record {
       apart = λ h. false≢true (sym c.if-has-2.false ∙ c.has-2.ensures.1 h);
-      unshown = λ h. false≢true (sym c.if-has.false ∙ c.has.ensures.1 (subst (Contains c.args.shown.now.items) (sym c.opposite.ensures) h));
+      unshown = λ h. false≢true (sym c.if-has.false ∙ c.has.ensures.1 (subst (Contains c.args.shown.now.items) (sym c.negation_node.ensures) h));
       says = c.order-over.ensures;
       covers = subst (λ (n : Net ℕ). IsClosed n.arcs c.args.problem.now.held new) c.rows.ensures
           (subst (λ l. IsClosed c.rows.result.now.arcs l new) c.held.ensures.nodes (c.in_ok-spread.ensures.closed (λ e. e)));

@@ -22,7 +22,7 @@ unreachable-requires c =
     let flooded = subst (λ l. IsFlooded (λ n. n) (λ a. a) c.args.problem.now.formula.net.nodes c.args.problem.now.formula.net.arcs l new) c.new-none.ensures
     (subst (λ (n : Net ℕ). IsFlooded (λ n. n) (λ a. a) n.nodes n.arcs c.new-none.result.nodes new) c.rows.ensures (c.in_ok-reach_near_to.ensures.flooded apart)) in
     comes_to c.args.problem.now node old new c.in_ok-reach_none_again.ensures.nodes (opposite_node node) grown (λ none. flooded) c.requires.back
-    (subst (λ s. Contains new.nodes s → ⊥) c.opposite-other.ensures apart)
+    (subst (λ s. Contains new.nodes s → ⊥) c.negation_node-other.ensures apart)
 
 pub returns : goal.returns
 returns c =
@@ -31,7 +31,7 @@ returns c =
     let new = c.reach_near_to.new.reached in
     let way = c.in-Some.way in
     let some = subst (λ (n : Net ℕ). IsFlooded (λ n. n) (λ a. a) n.nodes n.arcs (heads_of n.arcs) new) c.rows.ensures c.in_ok-reach_near_to.ensures.some in
-    let leads = subst (λ s. LeadsFromNear (λ n. n) (λ a. a) new s way) c.opposite-other.ensures
-    (subst (λ o. IfSome o (LeadsFromNear (λ n. n) (λ a. a) new c.opposite-other.result)) c.in-Some.is c.in_ok-way.ensures.near) in
+    let leads = subst (λ s. LeadsFromNear (λ n. n) (λ a. a) new s way) c.negation_node-other.ensures
+    (subst (λ o. IfSome o (LeadsFromNear (λ n. n) (λ a. a) new c.negation_node-other.result)) c.in-Some.is c.in_ok-way.ensures.near) in
     way_from c.args.problem.now node old new c.in_ok-reach_none_again.ensures.nodes (heads_of c.args.problem.now.formula.net.arcs) way (opposite_node node)
     (c.in_ok-reach_none_again.ensures.flooded []).roots c.in_ok-reach_near_to.ensures.roots some leads

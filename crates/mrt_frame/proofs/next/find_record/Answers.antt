@@ -2,7 +2,7 @@ use Rattle.std.proofs.Common.{length, ◌≤◌, ◌+◌, IfSome, arith, rules, 
 use Rattle.std.specs.Prelude.{IfNone}
 use Rattle.record_counts.specs.Counting.{with_more}
 use Rattle.mrt_frame.specs.Limits.{max_file}
-use Rattle.mrt_frame.specs.Records.{Ends, Well, behind, next_of}
+use Rattle.mrt_frame.specs.Records.{Ends, Well, place_behind, next_of}
 use Rattle.mrt_frame.specs.Frames.{record_as}
 use Rattle.mrt_frame.proofs.CountLemmas.{counted_one, counted_end}
 use Rattle.mrt_frame.specs.Kinds.{is_read}
@@ -63,7 +63,7 @@ returns-in-Ok-clause-counted g c =
     let counts_are : c.count_header.new.counts ≡ with_more (record { kind = header.kind; subtype = header.subtype }) 1 c.records.counts =
     subst (λ o. IfSome o (λ h. c.count_header.new.counts ≡ with_more (record { kind = h.kind; subtype = h.subtype }) 1 c.records.counts)) is e.counted in
     let len : length c.read_body.new.body.items ≡ header.len = search rules in
-    counted_one (left c.args.shelf.now) (left c.records.shelf) mid (left c.read_body.new.shelf) c.args.start at (behind (record_as at c.in-Some.kind c.read_body.new.body.items)) header
+    counted_one (left c.args.shelf.now) (left c.records.shelf) mid (left c.read_body.new.shelf) c.args.start at (place_behind (record_as at c.in-Some.kind c.read_body.new.body.items)) header
     c.args.counts.now c.records.counts c.count_header.new.counts c.records.invariant.passed c.records.invariant.counted taken c.in-Ok.ensures.skipped counts_are
     refl (ap (λ n. at.offset + 12 + n) len)
 

@@ -4,7 +4,7 @@ use Rattle.relationships.specs.Evidence.{Refutes}
 use Rattle.relationships.specs.declared.fate.Fate.{Fate}
 use Rattle.tor_clauses.specs.Formulas.{numbered}
 use Rattle.relationships.specs.Fates.{walk_of}
-use Rattle.path_select.specs.Choices.{Choice, with_path}
+use Rattle.path_select.specs.Choices.{Choice, with_offered}
 use Rattle.path_select.proofs.Keepings.{not_servable}
 use Rattle.path_select.proofs.Relinking.{offered, lost_again}
 use Rattle.path_select.proofs.selecting.offer.Goals as goal
@@ -12,7 +12,7 @@ use Rattle.path_select.proofs.selecting.offer.Goals as goal
 pub returns-in-Some-clause-offered : goal.returns-in-Some-clause-offered
 returns-in-Some-clause-offered c =
     let graph = c.args.graph.now in
-    let paths : List _ = with_path c.args.selector.now c.args.path in
+    let paths : List _ = with_offered c.args.selector.now c.args.path in
     let refutes = subst (λ o. IfSome o (Refutes (numbered graph paths))) c.in-Some.is c.in_ok-walk.ensures in
     record {
       fits = c.requires.fits;

@@ -11,7 +11,7 @@ use Rattle.relationships.proofs.Preferring.{maximal_law}
 use Rattle.as_graph.specs.Paths.{paths_at}
 use Rattle.as_graph.proofs.Labelled.{NoneTwice-distinct}
 use Rattle.peering.specs.Exclusions.{IsExcluded}
-use Rattle.peering.specs.Peerings.{IsSettled}
+use Rattle.peering.specs.Peerings.{IsPeeredIfAllowed}
 use Rattle.peering.proofs.Reading.{edge_among}
 use Rattle.peering.proofs.Flipping.{begins, relabelled}
 use Rattle.peering.proofs.Steps.{AreSettled, settled_next}
@@ -67,7 +67,7 @@ loop-place-preserved c =
     (λ q at. c.in_ok-lists.ensures.inside place q lt (subst (λ l. Contains l q) is at))
     (λ f q at t. subst (λ l. Contains l q) (sym is) (c.in_ok-lists.ensures.all place q lt (ap (λ l. get_or l place false) c.as_slice.ensures.value ∙ sym is_excluded ∙ f) at t))
     (λ t. subst (λ (l : List End). IsExcluded paths kept l place) c.as_slice-ends.ensures (c.in_ok-excluded.ensures.excluded place (sym is_excluded ∙ t)))
-    c.loop-place.invariant c.settle.new.labels (subst (λ k. IsSettled paths ratio excluded places k c.loop-place.labels c.settle.new.labels) same c.settle.ensures)
+    c.loop-place.invariant c.settle.new.labels (subst (λ k. IsPeeredIfAllowed paths ratio excluded places k c.loop-place.labels c.settle.new.labels) same c.settle.ensures)
 
 pub returns-clause-relabelled : goal.returns-clause-relabelled
 returns-clause-relabelled c =

@@ -1,7 +1,7 @@
 use Rattle.std.proofs.Common.{refl, arith, sym, subst, ◌∙◌}
 use Rattle.result_rules.specs.declared.rule.Rule.TheVariants.{PathsCleaned, EdgesListed, KeptValleyFree, SupportCounted}
 use Rattle.result_rules.specs.File.{its_paths}
-use Rattle.rel_checker.specs.PathSteps.{HaveSteps}
+use Rattle.rel_checker.specs.PathSteps.{HaveCodedSteps}
 use Rattle.result_rules.proofs.Accepted.{edges_listed}
 use Rattle.rel_checker.proofs.Settling.{next_met, judged, refused, found_none, found_some}
 use Rattle.rel_checker.proofs.checking.check_edges.Goals as goal
@@ -22,7 +22,7 @@ find_valley-requires c =
       labels = c.requires.labels;
       clean = c.requires.met PathsCleaned (omega arith);
       listed = met5 EdgesListed (omega arith);
-      steps = subst (λ es. HaveSteps es (its_paths file) c.args.steps.now) (c.requires.table ∙ sym (edges_listed file (met5 EdgesListed (omega arith)))) c.requires.steps;
+      steps = subst (λ es. HaveCodedSteps es (its_paths file) c.args.steps.now) (c.requires.table ∙ sym (edges_listed file (met5 EdgesListed (omega arith)))) c.requires.steps;
     }
 
 pub find_miscounted-requires-clause-listed : goal.find_miscounted-requires-clause-listed
@@ -34,7 +34,7 @@ pub find_miscounted-requires-clause-steps : goal.find_miscounted-requires-clause
 find_miscounted-requires-clause-steps c =
     let file = c.args.file.now in
     let met5 = next_met file EdgesListed 4 refl c.requires.met (found_none file EdgesListed c.find_unlisted.result c.find_unlisted.ensures.found c.in_default.is) in
-    subst (λ es. HaveSteps es (its_paths file) c.args.steps.now) (c.requires.table ∙ sym (edges_listed file (met5 EdgesListed (omega arith)))) c.requires.steps
+    subst (λ es. HaveCodedSteps es (its_paths file) c.args.steps.now) (c.requires.table ∙ sym (edges_listed file (met5 EdgesListed (omega arith)))) c.requires.steps
 
 pub find_miscounted-requires-clause-clean : goal.find_miscounted-requires-clause-clean
 find_miscounted-requires-clause-clean c = c.requires.met PathsCleaned (omega arith)

@@ -1,7 +1,7 @@
 use Rattle.std.proofs.Common.{refl, sym, arith, subst, ◌∙◌}
 use Rattle.result_rules.specs.declared.rule.Rule.TheVariants.{PathsCleaned, EdgesListed, KeptValleyFree, OrdersShown, MarksBorneOut}
 use Rattle.result_rules.specs.File.{its_paths}
-use Rattle.rel_checker.specs.PathSteps.{HaveSteps}
+use Rattle.rel_checker.specs.PathSteps.{HaveCodedSteps}
 use Rattle.result_rules.proofs.Accepted.{edges_listed}
 use Rattle.rel_checker.proofs.Settling.{next_met, judged, refused, found_none, found_some}
 use Rattle.rel_checker.proofs.checking.check_evidence.Goals as goal
@@ -20,7 +20,7 @@ find_unmarked-requires-clause-table c = c.requires.table ∙ sym (edges_listed c
 
 pub find_unmarked-requires-clause-steps : goal.find_unmarked-requires-clause-steps
 find_unmarked-requires-clause-steps c =
-    subst (λ es. HaveSteps es (its_paths c.args.file.now) c.args.steps.now)
+    subst (λ es. HaveCodedSteps es (its_paths c.args.file.now) c.args.steps.now)
     (c.requires.table ∙ sym (edges_listed c.args.file.now (c.requires.met EdgesListed (omega arith)))) c.requires.steps
 
 pub returns-in-Some-2 : goal.returns-in-Some-2

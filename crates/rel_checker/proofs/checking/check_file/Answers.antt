@@ -1,6 +1,6 @@
 use Rattle.std.proofs.Common.{subst, arith}
 use Rattle.result_rules.specs.declared.rule.Rule.TheVariants.{PathsCleaned}
-use Rattle.rel_checker.specs.Steps.{MetUpTo, Settles}
+use Rattle.rel_checker.specs.Steps.{MetUpTo, IsDecidedUpTo}
 use Rattle.rel_checker.proofs.Validity.{valid_if_ok, valid_if_settled}
 use Rattle.rel_checker.proofs.checking.check_file.Goals as goal
 
@@ -12,5 +12,5 @@ returns-clause-valid c = valid_if_ok c.args.file.now c.check_lines.result c.chec
 
 pub list_edges-requires : goal.list_edges-requires
 list_edges-requires c =
-    let met : MetUpTo c.args.file.now 4 = subst (Settles c.args.file.now 4) c.in_default.is c.in_ok-verdict.ensures in
+    let met : MetUpTo c.args.file.now 4 = subst (IsDecidedUpTo c.args.file.now 4) c.in_default.is c.in_ok-verdict.ensures in
     met PathsCleaned (omega arith)

@@ -2,11 +2,11 @@ use Rattle.std.proofs.Common.{subst}
 use Rattle.std.proofs.lemmas.Result.{IfOk-weaker}
 use Rattle.path_clean.specs.Repeats.{IsFirstRepeat}
 use Rattle.result_rules.specs.declared.rule.Rule.TheVariants.{PathsDistinct}
-use Rattle.rel_checker.specs.Steps.{Finds}
+use Rattle.rel_checker.specs.Steps.{FindsBreach}
 use Rattle.rel_checker.proofs.Repeats.{finds-repeat}
 use Rattle.rel_checker.proofs.paths.find_repeated.Goals as goal
 
 pub returns : goal.returns
 returns c =
-    IfOk-weaker c.first_repeated.result (IsFirstRepeat c.paths.result.now) (Finds c.args.file.now PathsDistinct)
+    IfOk-weaker c.first_repeated.result (IsFirstRepeat c.paths.result.now) (FindsBreach c.args.file.now PathsDistinct)
     (λ found is. finds-repeat c.args.file.now found (subst (λ rows. IsFirstRepeat rows found) c.paths.ensures is)) c.first_repeated.ensures

@@ -8,7 +8,7 @@ use Rattle.relationships.specs.Selection.{IsServable}
 use Rattle.tor_arena.specs.Distinct.{AllDistinct}
 use Rattle.as_graph.specs.Paths.{paths_at}
 use Rattle.gao_prefs.specs.declared.preferring.Pref.{Pref}
-use Rattle.gao_prefs.specs.Preferences.{edges_of}
+use Rattle.gao_prefs.specs.Preferences.{edges_preferred}
 use Rattle.tor_clauses.specs.Formulas.{Formula, demands_of}
 use Rattle.rel_infer.proofs.Labels.{labels_from}
 use Rattle.rel_infer.proofs.labelling.labels_of.Goals as goal
@@ -21,7 +21,7 @@ orient-requires-clause-servable c =
 pub orient-requires-clause-each : goal.orient-requires-clause-each
 orient-requires-clause-each c =
     let es = edges c.args.graph.now in
-    subst (λ (l : List Pref). (e : Edge) → Contains es e ↔ Contains (edges_of es l) e) (sym c.as_slice.ensures) c.in_ok-prefs.ensures.order.each
+    subst (λ (l : List Pref). (e : Edge) → Contains es e ↔ Contains (edges_preferred es l) e) (sym c.as_slice.ensures) c.in_ok-prefs.ensures.order.each
 
 pub preferences-requires-clause-distinct : goal.preferences-requires-clause-distinct
 preferences-requires-clause-distinct c =

@@ -2,7 +2,7 @@ use Rattle.std.proofs.Common.{◌≡◌, ◌<◌, ◌-◌, ◌∙◌, length, su
 use Rattle.std.specs.Prelude.{Some, slice_get, slice_index_or}
 use Rattle.std.proofs.lemmas.Option.{slice_get-get_or}
 use Rattle.std.proofs.lemmas.List.{length-map}
-use Rattle.tor_numbers.specs.Slots.{next_slot}
+use Rattle.tor_arena.specs.Growth.{next_slot}
 use Rattle.tor_numbers.specs.Places.{named, names}
 use Rattle.tor_numbers.proofs.SlotLemmas.{seeking_goes, seeking_leads, seeking_free}
 use Rattle.tor_numbers.proofs.PlaceLemmas.{slice_get-names, named_before, named_least, within_at}

@@ -4,7 +4,7 @@ use Rattle.relationships.specs.declared.label.End.{End}
 use Rattle.relationships.specs.Graph.{Edge, edges, orientation}
 use Rattle.relationships.specs.Preference.{IsPreferred}
 use Rattle.as_graph.specs.Paths.{paths_at}
-use Rattle.gao_prefs.specs.Preferences.{edges_of}
+use Rattle.gao_prefs.specs.Preferences.{edges_preferred}
 use Rattle.tor_clauses.specs.Formulas.{IsServed}
 use Rattle.tor_orient.specs.Wishes.{wish, AreWishes}
 use Rattle.tor_orient.specs.Steps.{AreEndsOf}
@@ -39,7 +39,7 @@ returns-clause-preferred c =
     let settled = c.in_ok-settled.settled in
     let count = c.edge_count.result in
     IfOk-weaker c.settled_ends.result (λ (o : List End). (length o ≡ count) × AreEndsOf settled.nodes o)
-    (λ (o : List End). IsPreferred (paths_at graph f.paths) (wish es prefs) (edges_of es prefs) (orientation es o))
+    (λ (o : List End). IsPreferred (paths_at graph f.paths) (wish es prefs) (edges_preferred es prefs) (orientation es o))
     (λ o is. preferred graph f c.facts.ensures.apart c.requires.fits prefs settled o c.in_ok-settled.ensures c.requires.inside c.requires.each (is.0 ∙ c.edge_count.ensures.count) is.1
     c.model_law.ensures (wish es prefs) (wishes graph prefs c.requires.inside c.requires.apart))
     c.settled_ends.ensures
@@ -53,7 +53,7 @@ returns-clause-wishes c =
     let settled = c.in_ok-settled.settled in
     let count = c.edge_count.result in
     IfOk-weaker c.settled_ends.result (λ (o : List End). (length o ≡ count) × AreEndsOf settled.nodes o)
-    (λ (o : List End). (wanted : Edge → End) → AreWishes es prefs wanted → IsPreferred (paths_at graph f.paths) wanted (edges_of es prefs) (orientation es o))
+    (λ (o : List End). (wanted : Edge → End) → AreWishes es prefs wanted → IsPreferred (paths_at graph f.paths) wanted (edges_preferred es prefs) (orientation es o))
     (λ o is. preferred graph f c.facts.ensures.apart c.requires.fits prefs settled o c.in_ok-settled.ensures c.requires.inside c.requires.each (is.0 ∙ c.edge_count.ensures.count) is.1
     c.model_law.ensures)
     c.settled_ends.ensures

@@ -14,8 +14,8 @@ reach_near_to-requires-clause-flooded c =
 
 pub reach_more-requires-clause-start : goal.reach_more-requires-clause-start
 reach_more-requires-clause-start c =
-    subst (λ n. c.opposite-other.result < n.nodes) (c.requires.rows ∙ sym c.digraph-digraph.ensures)
-    (c.in_ok-reach_near_to.ensures.some.inside c.opposite-other.result (c.has-3.ensures.0 c.if-has-3.true))
+    subst (λ n. c.negation_node-other.result < n.nodes) (c.requires.rows ∙ sym c.digraph-digraph.ensures)
+    (c.in_ok-reach_near_to.ensures.some.inside c.negation_node-other.result (c.has-3.ensures.0 c.if-has-3.true))
 
 pub returns-then-has-3-clause-settled : goal.returns-then-has-3-clause-settled
 returns-then-has-3-clause-settled c =
@@ -24,7 +24,7 @@ returns-then-has-3-clause-settled c =
     let old = c.args.settled.now.nodes in
     let found = c.reach_near_to.new.reached.nodes in
     let node_is = c.node-node.ensures.node in
-    let other_is : c.opposite-other.result ≡ opposite_node node = c.opposite-other.ensures ∙ ap opposite_node node_is in
+    let other_is : c.negation_node-other.result ≡ opposite_node node = c.negation_node-other.ensures ∙ ap opposite_node node_is in
     let unwanted = subst (λ n. Contains old n → ⊥) node_is (λ h. false≢true (sym c.if-has.false ∙ c.has.ensures.1 h)) in
     let unsettled = subst (λ n. Contains old n → ⊥) other_is (λ h. false≢true (sym c.if-has-2.false ∙ c.has-2.ensures.1 h)) in
     let grown = subst (λ n. IsGrown n.arcs node c.reach_none_again.new.reached.nodes found) c.requires.rows
@@ -52,10 +52,10 @@ returns-clause-settled c =
     let old = settled.nodes in
     let tried = c.reach_near_to.new.reached in
     let node_is = c.node-node.ensures.node in
-    let other_is : c.opposite-other.result ≡ opposite_node node = c.opposite-other.ensures ∙ ap opposite_node node_is in
+    let other_is : c.negation_node-other.result ≡ opposite_node node = c.negation_node-other.ensures ∙ ap opposite_node node_is in
     let unwanted = subst (λ n. Contains old n → ⊥) node_is (λ h. false≢true (sym c.if-has.false ∙ c.has.ensures.1 h)) in
     let unsettled = subst (λ n. Contains old n → ⊥) other_is (λ h. false≢true (sym c.if-has-2.false ∙ c.has-2.ensures.1 h)) in
-    let not_found : Contains tried.nodes c.opposite-other.result → ⊥ = λ h. false≢true (sym c.if-has-3.false ∙ c.has-3.ensures.1 h) in
+    let not_found : Contains tried.nodes c.negation_node-other.result → ⊥ = λ h. false≢true (sym c.if-has-3.false ∙ c.has-3.ensures.1 h) in
     let near = subst (λ n. IsFlooded (λ n. n) (λ a. a) n.nodes n.arcs old tried) c.requires.rows (c.in_ok-reach_near_to.ensures.flooded not_found) in
     let apart =
     no_way c.args.clauses.now settled tried node c.requires.closed near

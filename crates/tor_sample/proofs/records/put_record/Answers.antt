@@ -1,7 +1,7 @@
 use Rattle.std.proofs.Common.{sym, ap, ◌∙◌}
 use Rattle.std.specs.Int.{w32, to_be_bytes}
 use Rattle.std.proofs.lemmas.Result.{on_ok_weaker}
-use Rattle.tor_sample.specs.Records.{rib}
+use Rattle.tor_sample.specs.Records.{sample_rib}
 use Rattle.tor_sample.proofs.Octets.{three_put, length-rib}
 use Rattle.tor_sample.proofs.records.put_record.Goals as goal
 
@@ -9,5 +9,5 @@ pub returns : goal.returns
 returns c =
     let length_octets = c.to_be_bytes.ensures ∙ ap (to_be_bytes w32) (sym (length-rib c.args.number c.args.path.now)) in
     on_ok_weaker c.put_rib.result
-    (λ last. three_put _ _ _ _ _ _ (rib c.args.number c.args.path.now) c.in_ok-extend_from_slice.ensures.ok (rw length_octets at c.in_ok-extend_from_slice-2.ensures.ok) last)
+    (λ last. three_put _ _ _ _ _ _ (sample_rib c.args.number c.args.path.now) c.in_ok-extend_from_slice.ensures.ok (rw length_octets at c.in_ok-extend_from_slice-2.ensures.ok) last)
     c.put_rib.ensures

@@ -1,13 +1,13 @@
 use Rattle.std.proofs.Common.{◌≡◌, ◌+◌, ◌∷◌, [], length, length-append, sym, ap, ◌∙◌, subst}
 use Rattle.std.specs.Prelude.{IfSome}
-use Rattle.tor_solve.specs.Solving.{IsClash, AreLater}
+use Rattle.tor_solve.specs.Solving.{HaveOneClass, AreLater}
 use Rattle.tor_solve.proofs.Classing.{later_more}
 use Rattle.tor_solve.proofs.later.later_ends.Goals as goal
 
 pub later_end-requires-clause-apart : goal.later_end-requires-clause-apart
 later_end-requires-clause-apart c =
     let at : c.unwrap-edge.result ≡ c.loop-place.place = subst (λ o. IfSome o (λ i. i ≡ c.loop-place.place)) c.unwrap-edge.ensures c.from_place.ensures.some in
-    subst (λ e. IsClash c.args.parts.now.of e → ⊥) (sym at) (c.requires.apart c.loop-place.place c.loop-place-test.true)
+    subst (λ e. HaveOneClass c.args.parts.now.of e → ⊥) (sym at) (c.requires.apart c.loop-place.place c.loop-place-test.true)
 
 pub loop-place-preserved : goal.loop-place-preserved
 loop-place-preserved c =

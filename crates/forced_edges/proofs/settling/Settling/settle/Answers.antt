@@ -13,9 +13,9 @@ show_opposite-requires-clause-back c =
     let old = c.args.self.now.together.items in
     let new = c.spread.new.found.items in
     let grown = subst (λ (n : Net ℕ). IsGrown n.arcs node old new) c.rows.ensures c.in_ok-spread.ensures.grown in
-    let come = subst (Contains new) c.opposite-other.ensures (c.has-4.ensures.0 c.if-has-4.true) in
+    let come = subst (Contains new) c.negation_node-other.ensures (c.has-4.ensures.0 c.if-has-4.true) in
     elim (grown-cases c.args.problem.now.formula.net.arcs node old new grown (opposite_node node) come) [
-      | inl was ↦ absurd (false≢true (sym c.if-has-3.false ∙ c.has-3.ensures.1 (subst (Contains old) (sym c.opposite-other.ensures) was)))
+      | inl was ↦ absurd (false≢true (sym c.if-has-3.false ∙ c.has-3.ensures.1 (subst (Contains old) (sym c.negation_node-other.ensures) was)))
       | inr r ↦ r
     ]
 
@@ -30,9 +30,9 @@ returns-else-has-4 c =
     let shown = c.args.self.now.shown.nodes.items in
     let old = c.args.self.now.together in
     let new = c.spread.new.found in
-    let apart : Contains new.items c.opposite-other.result → ⊥ = λ h. false≢true (sym c.if-has-4.false ∙ c.has-4.ensures.1 h) in
-    let none = subst (λ s. Contains new.items s → ⊥) c.opposite-other.ensures apart in
-    let unshown = subst (λ s. Contains shown s → ⊥) c.opposite-other.ensures (λ h. false≢true (sym c.if-has.false ∙ c.has.ensures.1 h)) in
+    let apart : Contains new.items c.negation_node-other.result → ⊥ = λ h. false≢true (sym c.if-has-4.false ∙ c.has-4.ensures.1 h) in
+    let none = subst (λ s. Contains new.items s → ⊥) c.negation_node-other.ensures apart in
+    let unshown = subst (λ s. Contains shown s → ⊥) c.negation_node-other.ensures (λ h. false≢true (sym c.if-has.false ∙ c.has.ensures.1 h)) in
     let near = subst (λ (n : Net ℕ). IsClosed n.arcs shown new.items) c.rows.ensures (c.in_ok-spread.ensures.closed apart) in
     let grown = subst (λ (n : Net ℕ). IsGrown n.arcs node old.items new.items) c.rows.ensures c.in_ok-spread.ensures.grown in
     let count = c.spread.ensures.count ∙ ap (λ (n : Net ℕ). n.nodes) c.rows.ensures in

@@ -1,5 +1,5 @@
 use Rattle.std.proofs.Common.{rules, ◌≡◌, inr, length, subst}
-use Rattle.forced_edges.specs.Settling.{IsBatch}
+use Rattle.forced_edges.specs.Settling.{IsBatchSettled}
 use Rattle.forced_edges.proofs.Settlings.{settling_next, settling_done}
 use Rattle.forced_edges.proofs.settling.Settling.settle_all.Goals as goal
 
@@ -13,7 +13,7 @@ pub loop-alloc-preserved : goal.loop-alloc-preserved
 loop-alloc-preserved c = record {
   settling = c.in_ok-waiting.ensures.settling;
   under_way = settling_next c.args.problem.now c.args.nodes c.loop-alloc.self.shown c.settle_batch.new.self.shown c.loop-alloc.waiting c.in_ok-waiting.waiting c.loop-alloc.invariant.under_way
-      (subst (λ l. IsBatch c.args.problem.now l c.loop-alloc.self.shown c.settle_batch.new.self.shown c.in_ok-waiting.waiting) c.as_slice.ensures c.in_ok-waiting.ensures.batch);
+      (subst (λ l. IsBatchSettled c.args.problem.now l c.loop-alloc.self.shown c.settle_batch.new.self.shown c.in_ok-waiting.waiting) c.as_slice.ensures c.in_ok-waiting.ensures.batch);
 }
 
 pub returns-clause-settled : goal.returns-clause-settled

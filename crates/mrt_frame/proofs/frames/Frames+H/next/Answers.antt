@@ -2,12 +2,12 @@ use Rattle.std.proofs.Common.{◌≡◌, ◌≤◌, Bool, true, false, Result, O
 use Rattle.std.specs.Prelude.{IfNone}
 use Rattle.mrt_frame.specs.declared.error.FrameError.{FrameError}
 use Rattle.mrt_frame.specs.declared.header.At.{At}
-use Rattle.mrt_frame.specs.Records.{Record, Well, behind}
+use Rattle.mrt_frame.specs.Records.{Record, Well, place_behind}
 use Rattle.mrt_frame.specs.declared.cursor.Cursor.{Cursor}
 use Rattle.mrt_frame.specs.declared.error.FrameError.TheVariants.{ReadFault}
 use Rattle.mrt_frame.specs.declared.frames.Frames.{Frames}
 use Rattle.mrt_frame.specs.Frames.{FindsNext, StopsWith, IfFault, record_as, end_of_error}
-use Rattle.mrt_frame.specs.Steps.{Answer, HasMoved, seen}
+use Rattle.mrt_frame.specs.Steps.{NextRecord, HasMoved, lent_record}
 use Rattle.mrt_frame.specs.Counting.{CountsAll}
 use Rattle.mrt_frame.proofs.Converse.{Matches, conversely, same_seen, of_octets}
 use Rattle.mrt_frame.proofs.frames.Frames+H.next.Goals as goal
@@ -16,7 +16,7 @@ pub returns-in_err-advance : goal.returns-in_err-advance
 returns-in_err-advance g c =
     let shelf = g.H.Shelf in
     let e = c.in_err-advance.field-0.0 in
-    let is : ◌≡◌ {A = Answer} (Err e) c.from_residual.result = search rules in
+    let is : ◌≡◌ {A = NextRecord} (Err e) c.from_residual.result = search rules in
     let facts = c.in_err-advance.ensures in
     let old = c.args.self.now in
     let place = old.cursor.next in
@@ -25,7 +25,7 @@ returns-in_err-advance g c =
     let second = c.advance.new.counts in
     let new : Frames g.row.H.Denot Cursor = record { shelf = record old.shelf { now = c.advance.new.shelf }; cursor = c.advance.new.self } in
     let matches : IfSome before (λ octets. Matches (Err e) place octets None) = of_octets (end_of_error e) before place facts.stopped in
-    let given = conversely c.from_residual.result before place None (subst (λ (r : Answer). IfSome before (λ octets. Matches r place octets None)) is matches) in
+    let given = conversely c.from_residual.result before place None (subst (λ (r : NextRecord). IfSome before (λ octets. Matches r place octets None)) is matches) in
     let moved : HasMoved shelf old first second (Err e) new = record {
       same_reference = refl;
       leaves = record { files = facts.files; later = facts.later; quiet = facts.quiet; failed = λ read. facts.failed (same_error e read); steady = facts.steady };
@@ -38,16 +38,16 @@ returns-in_err-advance g c =
       at_end = tt;
       broken = broken c.advance.new.self.live e facts.live.0;
     } in (
-      (refl, (λ _. tt), subst (λ (r : Answer). HasMoved shelf old first second r new) is moved),
+      (refl, (λ _. tt), subst (λ (r : NextRecord). HasMoved shelf old first second r new) is moved),
       record {
         ends = tt;
-        onward = subst (λ (r : Answer). IfOk r (λ found. IfSome found (λ r. place.offset ≤ r.at.offset))) is tt;
-        end = subst (λ (r : Answer). IfOk r (λ found. IfNone found (IfSome before (λ octets. StopsWith place octets Well)))) is tt;
-        stopped = subst (λ (r : Answer). IfFault r (λ end. IfSome before (λ octets. StopsWith place octets end))) is facts.stopped;
+        onward = subst (λ (r : NextRecord). IfOk r (λ found. IfSome found (λ r. place.offset ≤ r.at.offset))) is tt;
+        end = subst (λ (r : NextRecord). IfOk r (λ found. IfNone found (IfSome before (λ octets. StopsWith place octets Well)))) is tt;
+        stopped = subst (λ (r : NextRecord). IfFault r (λ end. IfSome before (λ octets. StopsWith place octets end))) is facts.stopped;
         record_is_given = given.record_is_given;
         end_is_none = given.end_is_none;
         stop_is_error = given.stop_is_error;
-        counted_all = subst (λ (r : Answer). IfOk r (λ found. IfNone found (CountsAll before place first second))) is tt;
+        counted_all = subst (λ (r : NextRecord). IfOk r (λ found. IfNone found (CountsAll before place first second))) is tt;
         steady_reads = λ s read. facts.steady_reads s (same_error e (is ∙ read));
       },
     )
@@ -56,10 +56,10 @@ returns-in_err-advance g c =
     broken false e h = refl
     broken true e h = let yes : ◌≡◌ {A = Result Bool FrameError} (Err e) (Ok true) = h refl in absurd cc
 
-    same_error : (e : FrameError) → ◌≡◌ {A = Answer} (Err e) (Err ReadFault) → ◌≡◌ {A = Result Bool FrameError} (Err e) (Err ReadFault)
+    same_error : (e : FrameError) → ◌≡◌ {A = NextRecord} (Err e) (Err ReadFault) → ◌≡◌ {A = Result Bool FrameError} (Err e) (Err ReadFault)
     same_error e is = ap (λ (x : FrameError). Err x) (error_is e is)
       where
-        error_is : (e : FrameError) → ◌≡◌ {A = Answer} (Err e) (Err ReadFault) → e ≡ ReadFault
+        error_is : (e : FrameError) → ◌≡◌ {A = NextRecord} (Err e) (Err ReadFault) → e ≡ ReadFault
         error_is e is = cc
 
 pub returns-then-branch : goal.returns-then-branch
@@ -72,9 +72,9 @@ returns-then-branch g c =
     let left = shelf.left c.advance.new.shelf in
     let before = shelf.left c.args.self.now.shelf.now in
     let lent = c.record.result in
-    let same : record_as cursor.at cursor.kind cursor.body.items ≡ seen lent =
+    let same : record_as cursor.at cursor.kind cursor.body.items ≡ lent_record lent =
     same_seen cursor.at cursor.kind cursor.body.items lent c.record.ensures.at c.record.ensures.kind c.record.ensures.body in
-    let stands : IfSome before (λ octets. FindsNext place octets (seen lent) left) = subst (λ (r : Record). IfSome before (λ octets. FindsNext place octets r left)) same (facts.record ok) in
+    let stands : IfSome before (λ octets. FindsNext place octets (lent_record lent) left) = subst (λ (r : Record). IfSome before (λ octets. FindsNext place octets r left)) same (facts.record ok) in
     let given = conversely (Ok (Some lent)) before place left stands in (
       (
         refl,
@@ -84,7 +84,7 @@ returns-then-branch g c =
           leaves = record { files = facts.files; later = facts.later; quiet = λ _. facts.quiet tt; failed = λ is. absurd cc; steady = facts.steady };
           stands = stands;
           counted = facts.counted ok;
-          next = facts.next ok ∙ ap behind same;
+          next = facts.next ok ∙ ap place_behind same;
           rises = omega (arith, ap (λ (a : At). a.offset) (facts.next ok), facts.onward ok);
           live = facts.live.1 ok;
           ended = tt;

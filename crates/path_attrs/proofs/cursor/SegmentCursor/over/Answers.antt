@@ -1,5 +1,5 @@
 use Rattle.std.proofs.Common.{◌≡◌, ◌*◌, None, length, drop, sym, ap, ◌∙◌, rules}
-use Rattle.path_attrs.specs.Segments.{octets_in, numbers}
+use Rattle.path_attrs.specs.Segments.{octets_in, big_numbers}
 use Rattle.path_attrs.specs.declared.as_path.Segment.{Segment}
 use Rattle.path_attrs.proofs.Reading.{not_empty, no_octet}
 use Rattle.path_attrs.proofs.Values.{is_some-next, malformed_value, whole_value, segments_in-whole}
@@ -17,7 +17,7 @@ segments-preserved c =
     let octets = c.in_ok-count.octets.now in
     let count = c.in_ok-count.count in
     let left : c.split_at.result.1.now ≡ drop (n * count) octets = c.split_at.ensures.back ∙ ap (λ k. drop (k * count) octets) c.octets.ensures in
-    let one : Segment = record { kind = c.in_ok-count.field-0-0; ases = numbers n count octets } in
+    let one : Segment = record { kind = c.in_ok-count.field-0-0; ases = big_numbers n count octets } in
     rw left (sym (is_some-next c.args.width c.segments.rest.now one (drop (n * count) octets) c.in_ok-count.ensures.gives) ∙ c.segments.invariant)
 
 pub invariant_of-result : goal.invariant_of-result

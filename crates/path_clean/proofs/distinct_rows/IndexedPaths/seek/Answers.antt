@@ -1,6 +1,6 @@
 use Rattle.std.proofs.Common.{rules, ◌≡◌, ◌∙◌, length, ap, sym, subst}
 use Rattle.path_clean.specs.declared.slots.SearchEnd.TheVariants.{Full}
-use Rattle.path_clean.specs.Slots.{tag_of, start_at, HeldFrom, IsSearchEnd, Indexed, Tells}
+use Rattle.path_clean.specs.Slots.{tag_of, slot_of_tag, NamedFrom, IsRowSearchEnd, Indexed, Tells}
 use Rattle.path_clean.proofs.IndexLemmas.{tells-by}
 use Rattle.path_clean.proofs.distinct_rows.IndexedPaths.seek.Goals as goal
 
@@ -12,7 +12,7 @@ returns-then-is_empty-clause-tells c =
     let path = c.args.path.now in
     let tag = c.args.tag in
     let is : tag ≡ tag_of seed path = c.requires ∙ sym (ap (λ (p : Indexed). tag_of p.seed path) c.self.view_is) in
-    let none : HeldFrom rows slots path (start_at tag (length slots)) (length slots) → ⊥ = search rules in
+    let none : NamedFrom rows slots path (slot_of_tag tag (length slots)) (length slots) → ⊥ = search rules in
     subst (λ (p : Indexed). Tells p.rows path Full) c.self.view_is (tells-by seed rows slots path tag Full c.self.invariant is none)
 
 pub returns-clause-tells : goal.returns-clause-tells
@@ -23,6 +23,6 @@ returns-clause-tells c =
     let path = c.args.path.now in
     let tag = c.args.tag in
     let is : tag ≡ tag_of seed path = c.requires ∙ sym (ap (λ (p : Indexed). tag_of p.seed path) c.self.view_is) in
-    let end : IsSearchEnd rows slots (start_at tag (length slots)) path c.seek.result =
-    subst (λ l. IsSearchEnd rows l (start_at tag (length l)) path c.seek.result) c.as_slice.ensures.value c.seek.ensures in
+    let end : IsRowSearchEnd rows slots (slot_of_tag tag (length slots)) path c.seek.result =
+    subst (λ l. IsRowSearchEnd rows l (slot_of_tag tag (length l)) path c.seek.result) c.as_slice.ensures.value c.seek.ensures in
     subst (λ (p : Indexed). Tells p.rows path c.seek.result) c.self.view_is (tells-by seed rows slots path tag c.seek.result c.self.invariant is end)

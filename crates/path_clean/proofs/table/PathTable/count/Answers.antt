@@ -1,6 +1,6 @@
 use Rattle.std.proofs.Common.{◌≡◌, ◌∙◌, ◌<◌, length, set, ap, sym, subst, arith}
 use Rattle.std.proofs.lemmas.List.{get_or_default}
-use Rattle.path_clean.specs.Counts.{one_more}
+use Rattle.tor_arena.specs.Growth.{one_more}
 use Rattle.path_clean.specs.Inside.{counted_by, IsTable}
 use Rattle.path_clean.specs.Table.{place_of, with_path}
 use Rattle.path_clean.proofs.TableLemmas.{again, again-at, there-at, IsTable-again, seen_as}

@@ -1,11 +1,11 @@
 use Rattle.std.proofs.Common.{◌∙◌, ap, sym}
-use Rattle.path_clean.specs.Rows.{paths_of, times_of}
+use Rattle.path_clean.specs.Rows.{row_paths, times_of}
 use Rattle.path_clean.proofs.TableLemmas.{paths_of-counted_by, times_of-counted_by}
 use Rattle.path_clean.proofs.table.PathTable.into_rows.Goals as goal
 
 pub returns-clause-paths : goal.returns-clause-paths
 returns-clause-paths c =
-    c.into_rows.ensures ∙ sym (paths_of-counted_by c.self.inside.paths.rows c.self.inside.counts.items c.self.invariant.same) ∙ ap (λ t. paths_of t.rows) c.self.view_is
+    c.into_rows.ensures ∙ sym (paths_of-counted_by c.self.inside.paths.rows c.self.inside.counts.items c.self.invariant.same) ∙ ap (λ t. row_paths t.rows) c.self.view_is
 
 pub returns-clause-times : goal.returns-clause-times
 returns-clause-times c =

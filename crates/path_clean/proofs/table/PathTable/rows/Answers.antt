@@ -2,14 +2,14 @@ use Rattle.std.proofs.Common.{◌≤◌, ◌^◌, IsTrue, All, length, ◌∙◌
 use Rattle.std.specs.Prelude.{sum_by}
 use Rattle.std.specs.List.{list_all}
 use Rattle.path_clean.specs.Paths.{is_cleaned}
-use Rattle.path_clean.specs.Rows.{paths_of, times_of, numbers_in}
+use Rattle.path_clean.specs.Rows.{row_paths, times_of, numbers_in}
 use Rattle.path_clean.proofs.TableLemmas.{paths_of-counted_by, times_of-counted_by, numbers_in-counted_by, all_some}
 use Rattle.path_clean.proofs.GraphPaths.{several, apart}
 use Rattle.path_clean.proofs.table.PathTable.rows.Goals as goal
 
 pub returns-clause-paths : goal.returns-clause-paths
 returns-clause-paths c =
-    c.rows.ensures ∙ sym (paths_of-counted_by c.self.inside.paths.rows c.self.inside.counts.items c.self.invariant.same) ∙ ap (λ t. paths_of t.rows) c.self.view_is
+    c.rows.ensures ∙ sym (paths_of-counted_by c.self.inside.paths.rows c.self.inside.counts.items c.self.invariant.same) ∙ ap (λ t. row_paths t.rows) c.self.view_is
 
 pub returns-clause-numbers : goal.returns-clause-numbers
 returns-clause-numbers c =

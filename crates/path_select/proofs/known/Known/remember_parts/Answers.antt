@@ -50,7 +50,7 @@ loop-skip-preserved c =
     let count = c.len-last.ensures in
     let to : slice_get way.nodes (length way.arcs - skip) ≡ Some last = subst (λ n. slice_get way.nodes (n - skip) ≡ Some last) count
     (read_at way.nodes items (c.len-last.result - skip) last c.as_slice-nodes.ensures (omega (arith, lt, long, more, count)) c.index-nodes-last.is) in
-    let opposite : last ≡ opposite_node from = eqb-true last c.opposite.result (not_false (last == c.opposite.result) (sym c.ne.ensures ∙ c.if-ne.false)) ∙ c.opposite.ensures in
+    let opposite : last ≡ opposite_node from = eqb-true last c.negation_node.result (not_false (last == c.negation_node.result) (sym c.ne.ensures ∙ c.if-ne.false)) ∙ c.negation_node.ensures in
     let part : Part = record { way = c.args.place; skip = skip } in
     let old : Known = c.loop-skip.self in
     let new : Known = record { places = c.put.new.self; parts = c.push.new.self; ways = c.loop-skip.self.ways } in

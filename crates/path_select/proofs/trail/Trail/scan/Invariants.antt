@@ -1,5 +1,5 @@
 use Rattle.tor_digraph.specs.Search.{steps_of}
-use Rattle.path_select.specs.Trails.{IsMarked, IsTrail, IsGrown}
+use Rattle.path_select.specs.Trails.{IsMarked, IsTrail, StaysVisited}
 use Rattle.path_select.proofs.Scans.{IsScan}
 use Rattle.path_select.proofs.trail.Trail.scan.Given as goal
 
@@ -7,7 +7,7 @@ abbrev pub invariant-loop-next : goal.invariant-loop-next
 invariant-loop-next l = record {
   marked : IsMarked l.digraph.nodes l.self.nodes;
   trail : IsTrail l.digraph.arcs l.ends l.self;
-  grown : IsGrown l.fn.self.nodes.items l.self.nodes.items;
+  grown : StaysVisited l.fn.self.nodes.items l.self.nodes.items;
   scan : IsScan l.digraph.arcs l.ends l.self.nodes.items l.place l.next;
 }
 

@@ -1,6 +1,6 @@
 use Rattle.std.proofs.Common.{◌≡◌, ◌+◌, ◌≤◌, ◌∙◌, ◌++◌, ◌∷◌, [], fold, length, sym, ap, subst, arith}
 use Rattle.relationships.specs.Graph.{edges_on}
-use Rattle.rel_checker.specs.PathSteps.{AreSteps}
+use Rattle.rel_checker.specs.PathSteps.{AreCodedSteps}
 use Rattle.tor_numbers.specs.Edges.{with_edge}
 use Rattle.rel_checker.proofs.EdgeListing.{IsListing, listing-few, listing-room, listing-more, listing-ends}
 use Rattle.rel_checker.proofs.edges.edge_rules.add_paths.Goals as goal
@@ -24,7 +24,7 @@ loop-place-preserved c =
     let line = c.path_line_at-line.result in
     let table : c.add_steps.new.table ≡ fold with_edge c.loop-place.table (edges_on line.path) =
     c.in_ok-add_steps.ensures.edges ∙ ap (λ p. fold with_edge c.loop-place.table (edges_on p)) c.path.ensures in
-    let steps = subst (λ p. AreSteps c.add_steps.new.table p c.add_steps.new.steps) c.path.ensures c.in_ok-add_steps.ensures.steps in
+    let steps = subst (λ p. AreCodedSteps c.add_steps.new.table p c.add_steps.new.steps) c.path.ensures c.in_ok-add_steps.ensures.steps in
     let rows : c.add_row.new.rows ≡ c.loop-place.rows ++ c.add_steps.new.steps ∷ [] =
     c.in_ok-add_row.ensures ∙ ap (λ steps. c.loop-place.rows ++ steps ∷ []) c.as_slice.ensures in
     subst (IsListing file.paths (place + 1) c.add_steps.new.table) (sym rows)

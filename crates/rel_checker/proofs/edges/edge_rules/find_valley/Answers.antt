@@ -3,7 +3,7 @@ use Rattle.std.proofs.lemmas.Bool.{both_ways}
 use Rattle.tor_arena.specs.Distinct.{AllDistinct}
 use Rattle.result_rules.specs.File.{its_edges}
 use Rattle.rel_checker.specs.Flipping.{AreApart, edges_of}
-use Rattle.rel_checker.specs.PathSteps.{AreSteps}
+use Rattle.rel_checker.specs.PathSteps.{AreCodedSteps}
 use Rattle.result_rules.proofs.Gets.{All-get}
 use Rattle.rel_checker.proofs.Lines.{line-here}
 use Rattle.rel_checker.proofs.Settled.{edges_apart, lines_distinct}
@@ -23,7 +23,7 @@ is_served-requires c =
     record {
       apart = subst AreApart (sym c.requires.labels) (edges_apart file c.requires.clean c.requires.listed);
       distinct = All-get (λ line. AllDistinct line.path) file.paths c.loop-place.place line (lines_distinct file c.requires.clean) c.path_line_at-line.ensures;
-      steps = subst (λ ls. AreSteps (edges_of ls) line.path c.steps_at.result.now) (sym c.requires.labels)
+      steps = subst (λ ls. AreCodedSteps (edges_of ls) line.path c.steps_at.result.now) (sym c.requires.labels)
           (steps-here file (its_edges file) c.args.steps.now c.loop-place.place line c.steps_at.result.now c.requires.steps c.path_line_at-line.ensures c.steps_at.ensures);
     }
 

@@ -3,7 +3,7 @@ use Rattle.std.proofs.lemmas.List.{get_or_default}
 use Rattle.relationships.specs.declared.label.Label.{Label}
 use Rattle.rel_checker.specs.declared.edges.step.Step.{Step}
 use Rattle.relationships.specs.Steps.{step_slope, is_down}
-use Rattle.rel_checker.specs.PathSteps.{place_in, left_in, labels_on, slopes_by}
+use Rattle.rel_checker.specs.PathSteps.{place_in, left_in, labels_on, line_slopes}
 use Rattle.rel_checker.proofs.SlopeLemmas.{well, well-stop, well-nil, next_slopes, answer}
 use Rattle.rel_checker.proofs.edges.valleys.is_valley_free.Goals as goal
 
@@ -19,8 +19,8 @@ returns-then-not-goes_down c =
     let label = c.of-label.ensures ∙ ap (λ k. get_or (labels_on lines) k Label.Peer) c.place.ensures in
     let not_down : is_down s ≡ false = ap is_down (ap₂ step_slope (sym label) (sym c.left.ensures)) ∙ sym c.goes_down.ensures ∙ c.if-not-goes_down.true in
     answer lines steps false
-    (c.loop-step.invariant ∙ ap (λ f. well f (slopes_by lines (drop i steps))) c.if-falling.true ∙ ap (well true) (next_slopes lines steps i step c.loop-step-test.true here) ∙
-    well-stop s (slopes_by lines (drop (i + 1) steps)) not_down)
+    (c.loop-step.invariant ∙ ap (λ f. well f (line_slopes lines (drop i steps))) c.if-falling.true ∙ ap (well true) (next_slopes lines steps i step c.loop-step-test.true here) ∙
+    well-stop s (line_slopes lines (drop (i + 1) steps)) not_down)
 
 pub returns : goal.returns
 returns c =
@@ -28,4 +28,4 @@ returns c =
     let steps = c.args.steps.now in
     let end : length steps ≤ c.loop-step.step-index = omega arith in
     answer lines steps true
-    (c.loop-step.invariant ∙ ap (λ l. well c.loop-step.falling (slopes_by lines l)) (drop_of_length-le steps end) ∙ well-nil c.loop-step.falling)
+    (c.loop-step.invariant ∙ ap (λ l. well c.loop-step.falling (line_slopes lines l)) (drop_of_length-le steps end) ∙ well-nil c.loop-step.falling)

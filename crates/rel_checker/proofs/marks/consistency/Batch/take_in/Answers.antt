@@ -1,7 +1,7 @@
 use Rattle.std.proofs.Common.{rules, ◌≡◌, ◌<◌, refl, sym, subst, All}
 use Rattle.std.proofs.lemmas.Bool.{false≢true, both_ways}
 use Rattle.relationships.specs.Evidence.{IsTriple}
-use Rattle.rel_checker.specs.Batches.{IsBatch}
+use Rattle.rel_checker.specs.Batches.{CanFlipTogether}
 use Rattle.rel_checker.specs.Flipping.{flipped_orders, kept_lines}
 use Rattle.rel_checker.proofs.Buildings.{inside_implied, inside_conflicting, flipping_within}
 use Rattle.rel_checker.proofs.Consistencies.{batch-none, batch-more, unused-next, mutual_conflicts, consistent_within, agreeing_alone}
@@ -37,7 +37,7 @@ returns-then-branch-clause-batch c = λ t.
     let implied = c.args.flips.now.implied in
     let conflicting = c.args.flips.now.conflicting in
     let rounds = c.join.new.self.rounds.items in
-    subst (IsBatch implied conflicting rounds) (sym c.in_ok-join.ensures.round)
+    subst (CanFlipTogether implied conflicting rounds) (sym c.in_ok-join.ensures.round)
     (batch-more implied conflicting c.in-Some.start c.args.self.now.round c.args.self.now.rounds.items rounds c.join.new.self.found c.requires.batch c.in_ok-join.ensures.searched
     (c.in_ok-join.ensures.agreeing.0 c.if-branch.true))
 
@@ -99,7 +99,7 @@ returns-clause-batch c = λ t.
     let begun = batch-none implied conflicting c.join.new.self.rounds.items c.args.next
     (unused-next implied c.in-Some.start c.args.self.now.round c.args.next c.args.self.now.rounds.items c.join.new.self.rounds.items c.join.new.self.found c.requires.later differ
     c.requires.batch.latest c.in_ok-join.ensures.searched) in
-    subst (IsBatch implied conflicting rounds) (sym c.in_ok-agrees.ensures.round)
+    subst (CanFlipTogether implied conflicting rounds) (sym c.in_ok-agrees.ensures.round)
     (batch-more implied conflicting c.in-Some.start c.args.next c.join.new.self.rounds.items rounds c.join-2.new.self.found begun c.in_ok-agrees.ensures.searched
     (c.in_ok-agrees.ensures.agreeing.0 t))
 

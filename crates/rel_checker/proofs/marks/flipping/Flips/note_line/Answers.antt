@@ -2,12 +2,12 @@ use Rattle.std.proofs.Common.{◌∙◌, ◌++◌, ◌∷◌, [], sym, ap, subst
 use Rattle.std.proofs.lemmas.Result.{on_ok_weaker}
 use Rattle.relationships.specs.Evidence.{IsTriple}
 use Rattle.rel_checker.specs.Flipping.{flipped_orders, edges_of, IsBuilt}
-use Rattle.rel_checker.specs.PathSteps.{AreSteps}
+use Rattle.rel_checker.specs.PathSteps.{AreCodedSteps}
 use Rattle.rel_checker.proofs.KeptLines.{with_kept-kept, with_kept-lost}
 use Rattle.rel_checker.proofs.marks.flipping.Flips.note_line.Goals as goal
 
 pub note_path-requires-clause-steps : goal.note_path-requires-clause-steps
-note_path-requires-clause-steps c = subst (λ path. AreSteps (edges_of c.args.labels.now) path c.args.steps.now) (sym c.path.ensures) c.requires.steps
+note_path-requires-clause-steps c = subst (λ path. AreCodedSteps (edges_of c.args.labels.now) path c.args.steps.now) (sym c.path.ensures) c.requires.steps
 
 pub returns-then-is_kept-clause-built : goal.returns-then-is_kept-clause-built
 returns-then-is_kept-clause-built c =

@@ -3,7 +3,7 @@ use Rattle.std.proofs.lemmas.List.{take_all}
 use Rattle.relationships.specs.Evidence.{IsTriple}
 use Rattle.result_rules.specs.File.{its_edges}
 use Rattle.rel_checker.specs.Flipping.{flipped_orders, edges_of, AreNoted, IsBuilt, kept_lines}
-use Rattle.rel_checker.specs.PathSteps.{AreSteps}
+use Rattle.rel_checker.specs.PathSteps.{AreCodedSteps}
 use Rattle.result_rules.proofs.Gets.{take_get}
 use Rattle.rel_checker.proofs.KeptLines.{kept_more}
 use Rattle.rel_checker.proofs.Noting.{built_none, noted-none}
@@ -27,7 +27,7 @@ pub note_line-requires-clause-steps : goal.note_line-requires-clause-steps
 note_line-requires-clause-steps c =
     let file = c.args.file.now in
     let line = c.path_line_at-line.result in
-    subst (λ ls. AreSteps (edges_of ls) line.path c.steps_at.result.now) (sym c.requires.labels)
+    subst (λ ls. AreCodedSteps (edges_of ls) line.path c.steps_at.result.now) (sym c.requires.labels)
     (steps-here file (its_edges file) c.args.steps.now c.loop-place.place line c.steps_at.result.now c.requires.steps c.path_line_at-line.ensures c.steps_at.ensures)
 
 pub note_line-requires-clause-noted : goal.note_line-requires-clause-noted
