@@ -2,12 +2,13 @@
 use Rattle.std.proofs.Common.{◌≡◌, ◌≢◌, ℕ, zero, suc, ◌+◌, ◌<◌, ◌≤◌, inl, inr, Bool, true, false, cond, List, [], ◌∷◌, ◌++◌, length, get_or, take, map, replicate, min, max, refl, sym, ap, ap₂, ◌∙◌, subst, arith, All, nat_eq, slice_get, Some, eq-eqb}
 use Rattle.std.specs.List.{list_any, count_by, AllPairs}
 use Rattle.std.proofs.lemmas.Bool.{cases_Bool, cases_eq, false_from_ne_true, ne_eqb, eqb-true, or_parts, or_cases, false≢true}
-use Rattle.std.proofs.lemmas.Option.{slice_get-get_or}
+use Rattle.std.proofs.lemmas.Option.{slice_get-get_or, same_Some}
 use Rattle.std.proofs.lemmas.List.{length-map, map-append, get_or-map, ext_get_or, take_more}
 use Rattle.std.proofs.lemmas.List.Elements.{All-map, All-get_or, All-weaker, All-head, All-tail}
 use Rattle.std.proofs.lemmas.List.Sums.{sum_by-cons, sum_by_push, count_by-le-length}
 use Rattle.std.proofs.lemmas.Map.Keys.{IsDistinct-from_apart}
 use Rattle.std.proofs.lemmas.Map.Steps.{length-le_from_distinct_below}
+use Rattle.tor_arena.proofs.Counting.{one, count-cons}
 use Rattle.tor_arena.specs.Distinct.{AllDistinct}
 use Rattle.relationships.specs.Graph.{Edge, edge_of, is_same, edges_from, edges_on, support}
 use Rattle.relationships.proofs.Edges.{same_edge}
@@ -15,12 +16,6 @@ use Rattle.as_graph.specs.declared.step.Step.{Step}
 use Rattle.as_graph.specs.Paths.{path_at, paths_at}
 use Rattle.as_graph.specs.Steps.{AreStepsFrom, AreSteps}
 use Rattle.as_graph.proofs.Labelled.{NoneTwice, none_at, same_itself}
-
-abbrev pub one : Bool → ℕ
-one b = cond b 1 0
-
-count-cons : {X : Type 0} (p : X → Bool) (x : X) (xs : List X) → count_by p (x ∷ xs) ≡ one (p x) + count_by p xs
-count-cons p x xs = sum_by-cons (λ y. cond (p y) 1 0) x xs
 
 zero_plus : (n : ℕ) → 0 + n ≡ n
 zero_plus n = omega arith
@@ -80,9 +75,6 @@ steps_with es k e a (b ∷ path) (step ∷ steps) once is h =
     ap₂ (λ t n. one t + n) (same_place es step.edge k (edge_of a b) e once h.0.0 is) (steps_with es k e b path steps once is h.1) ∙
     sym (count-cons (is_same e) (edge_of a b) (edges_from b path))
   where
-    some_same : {f g : Edge} → Some f ≡ Some g → f ≡ g
-    some_same h = cc
-
     ne_step : (i k : ℕ) → nat_eq (suc i) (suc k) ≡ nat_eq i k
     ne_step i k =
         elim (cases_eq i k) [
@@ -93,15 +85,15 @@ steps_with es k e a (b ∷ path) (step ∷ steps) once is h =
     same_place : (es : List Edge) (i k : ℕ) (f e : Edge) → NoneTwice es → slice_get es i ≡ Some f → slice_get es k ≡ Some e → nat_eq i k ≡ is_same e f
     same_place [] i k f e once h is = absurd (cc h)
     same_place (x ∷ es) zero zero f e once h is =
-        let s : f ≡ e = some_same (sym h ∙ is) in sym (subst (λ (g : Edge). is_same g f ≡ true) s (same_itself f))
+        let s : f ≡ e = same_Some _ _ (sym h ∙ is) in sym (subst (λ (g : Edge). is_same g f ≡ true) s (same_itself f))
     same_place (x ∷ es) zero (suc k) f e once h is =
-        let s : x ≡ f = some_same h in
+        let s : x ≡ f = same_Some _ _ h in
         ne_eqb zero (suc k) (λ d. absurd (omega (arith, d))) ∙
         sym (false_from_ne_true (is_same e f) (λ t.
         let g : e ≡ x = same_edge e f t ∙ sym s in
         false≢true (sym (none_at x es k e once.0 is) ∙ subst (λ (y : Edge). is_same x y ≡ true) (sym g) (same_itself x))))
     same_place (x ∷ es) (suc i) zero f e once h is =
-        let s : x ≡ e = some_same is in ne_eqb (suc i) zero (λ d. absurd (omega (arith, d))) ∙ sym (subst (λ (y : Edge). is_same y f ≡ false) s (none_at x es i f once.0 h))
+        let s : x ≡ e = same_Some _ _ is in ne_eqb (suc i) zero (λ d. absurd (omega (arith, d))) ∙ sym (subst (λ (y : Edge). is_same y f ≡ false) s (none_at x es i f once.0 h))
     same_place (x ∷ es) (suc i) (suc k) f e once h is = ne_step i k ∙ same_place es i k f e once.1 h is
 
 -- as many steps of a path have an edge as it holds that edge

@@ -6,13 +6,13 @@ use Rattle.std.proofs.lemmas.List.{append-nil}
 use Rattle.std.proofs.lemmas.List.Elements.{filter_map-append}
 use Rattle.std.proofs.lemmas.List.Sums.{sum_by-cons}
 use Rattle.tor_arena.specs.Growth.{one_more}
-use Rattle.tor_arena.specs.Limits.{max_numbers}
 use Rattle.path_attrs.specs.Fields.{◌>>=◌}
 use Rattle.path_clean.specs.declared.cleaned.Sets.{Sets}
 use Rattle.path_clean.specs.declared.cleaned.Cleaned.{Cleaned}
 use Rattle.path_clean.specs.declared.cleaned.Cleaned.TheVariants.{Path, Aside}
 use Rattle.path_clean.specs.Clean.{clean_of}
 use Rattle.path_clean.specs.Counts.{counted_one}
+use Rattle.tor_arena.specs.Limits.{max_numbers}
 use Rattle.path_clean.specs.Rows.{Counted, numbers_in}
 use Rattle.path_clean.specs.Table.{place_of, with_path, distinct_paths, counted, times}
 use Rattle.path_clean.proofs.CountingLemmas.{counted_push}

@@ -1,13 +1,13 @@
 -- What taking routes in comes to: the distinct paths with their times, and how many routes are set aside for each cause.
 use Rattle.std.specs.Prelude.{◌≡◌, ◌↔◌, ◌≤◌, ◌<◌, ◌+◌, ◌-◌, ◌^◌, ◌==◌, ℕ, min, Bool, false, List, [], ◌∷◌, ◌++◌, length, sum_by, count_by, flat_map, filter_map, bytes_eq, Option, Some, None, Ok, Err}
 use Rattle.std.specs.List.{list_any}
-use Rattle.tor_arena.specs.Limits.{max_numbers}
 use Rattle.path_clean.specs.declared.cleaned.Sets.{Sets}
 use Rattle.path_clean.specs.declared.cleaned.Cause.{Cause}
 use Rattle.path_clean.specs.declared.cleaned.Cleaned.{Cleaned}
 use Rattle.path_clean.specs.declared.cleaned.Cleaned.TheVariants.{Path, Aside}
 use Rattle.path_clean.specs.Clean.{clean_of}
 use Rattle.path_clean.specs.Counts.{no_counts, cause_count, place_of_cause}
+use Rattle.tor_arena.specs.Limits.{max_numbers}
 use Rattle.path_clean.specs.Table.{distinct_paths, counted}
 use Rattle.dump_read.specs.declared.error.LimitKind.{LimitKind}
 use Rattle.dump_read.specs.declared.error.LimitKind.TheVariants.{Paths, Numbers, Bytes}

@@ -1,12 +1,12 @@
 -- What is taken in, route by route: distinct paths with their times, and counts of the routes that are set aside.
 use Rattle.std.specs.Prelude.{◌≡◌, ◌≤◌, ◌+◌, ◌==◌, ◌&&◌, nat_lt, Bool, ℕ, List, [], ◌∷◌, length, take, is_some, Result, Ok, Err, if◌then◌else◌}
-use Rattle.tor_arena.specs.Limits.{max_numbers}
 use Rattle.path_attrs.specs.Fields.{◌>>=◌}
 use Rattle.path_clean.specs.declared.cleaned.Sets.{Sets}
 use Rattle.path_clean.specs.declared.cleaned.Cleaned.{Cleaned}
 use Rattle.path_clean.specs.declared.cleaned.Cleaned.TheVariants.{Path, Aside}
 use Rattle.path_clean.specs.Clean.{clean_of}
 use Rattle.path_clean.specs.Counts.{counted_one}
+use Rattle.tor_arena.specs.Limits.{max_numbers}
 use Rattle.path_clean.specs.Rows.{Table, numbers_in}
 use Rattle.path_clean.specs.Table.{place_of, with_path}
 use Rattle.dump_read.specs.declared.error.LimitKind.{LimitKind}

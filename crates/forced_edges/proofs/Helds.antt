@@ -3,7 +3,7 @@ use Rattle.std.proofs.Common.{◌≡◌, ◌↔◌, ℕ, ◌/◌, ◌<◌, ◌�
 use Rattle.std.proofs.Common.{flat_map, Contains}
 use Rattle.std.specs.Prelude.{slice_get}
 use Rattle.std.proofs.lemmas.Bool.{cases_lt, cases_order, false≢true}
-use Rattle.std.proofs.lemmas.Option.{same_Some, get_or_from_slice_get}
+use Rattle.std.proofs.lemmas.Option.{same_Some, get_or_from_slice_get, slice_get_within}
 use Rattle.relationships.specs.Steps.{end_left}
 use Rattle.relationships.specs.declared.label.End.{End}
 use Rattle.relationships.specs.declared.label.Label.{Label}
@@ -14,7 +14,6 @@ use Rattle.relationships.proofs.Edges.{peering_law}
 use Rattle.relationships.proofs.Serving.{serves_satisfies}
 use Rattle.relationships.proofs.Slopes.{over_parts, over-low, over-high}
 use Rattle.tor_digraph.specs.Walks.{Reaches}
-use Rattle.tor_digraph.proofs.Gets.{slice_get-lt}
 use Rattle.as_graph.specs.Paths.{paths_at}
 use Rattle.as_graph.proofs.Labelled.{NoneTwice-distinct, labelling_at}
 use Rattle.tor_clauses.specs.declared.lit.Lit.{Lit}
@@ -78,7 +77,7 @@ module _ (graph : List (List ℕ)) (labels : List Label) (same : length labels �
   -- the end that the labels give an edge
   end_at : (k low high : ℕ) → slice_get (edges graph) k ≡ Some (low, high) → O low high ≡ end_of_label (get_or labels k Label.Low)
   end_at k low high at =
-      let lt = slice_get-lt (edges graph) k (low, high) at in
+      let lt = slice_get_within (edges graph) k (low, high) at in
       ap end_of_label (labelling_at (edges graph) labels k low high Label.Low (NoneTwice-distinct (flat_map edges_on graph)) at (omega (arith, lt, same)))
 
   held_over : (n x y : ℕ) → Says (edges graph) (lit_of n) x y → IsTrue (held labels n) ↔ IsTrue (is_over (labels_of O) x y)

@@ -2,11 +2,11 @@
 use Rattle.std.proofs.Common.{◌≡◌, ℕ, ◌+◌, ◌<◌, ◌≤◌, ◌⊎◌, inl, inr, Bool, List, [], ◌∷◌, ◌++◌, Some, length, sym, ap, ◌∙◌, subst, arith, Contains}
 use Rattle.std.specs.Prelude.{slice_get, Result, Ok, Err, IfOk}
 use Rattle.std.proofs.lemmas.Bool.{cases_lt}
-use Rattle.std.proofs.lemmas.Option.{same_Some}
+use Rattle.std.proofs.lemmas.Option.{same_Some, slice_get_within}
 use Rattle.tor_digraph.specs.Walks.{HasArc, Reaches, here, along}
 use Rattle.tor_digraph.specs.InRows.{IsRow}
 use Rattle.tor_digraph.specs.Reached.{IsGrown}
-use Rattle.tor_digraph.proofs.Gets.{has-from_Contains, Contains-from_has, slice_get-lt, slice_get-some, slice_get-push_old, slice_get-push_cases}
+use Rattle.tor_arena.proofs.Gets.{has-from_Contains, Contains-from_has, slice_get-some, slice_get-push_old, slice_get-push_cases}
 use Rattle.tor_digraph.specs.NodeSets.{IsAdded}
 use Rattle.forced_edges.specs.Nodes.{IsEntered, Stays, HasLooked, IsClosed}
 use Rattle.tor_digraph.proofs.Members.{Contains-more, Contains-last}
@@ -36,7 +36,7 @@ pub record IsLooking (arcs : List (ℕ × ℕ)) (past : List ℕ) (tail : ℕ) (
 pub looking_begins : (arcs : List (ℕ × ℕ)) (past : List ℕ) (tail : ℕ) (row : List (ℕ × ℕ)) (old : List ℕ) → IsLooking arcs past tail row 0 old old
 looking_begins arcs past tail row old = record {
   kept = λ k x at. at;
-  more = λ k x le at. absurd (let lt = slice_get-lt old k x at in omega (arith, le, lt));
+  more = λ k x le at. absurd (let lt = slice_get_within old k x at in omega (arith, le, lt));
   heads = λ j e lt. absurd (omega (arith, lt));
 }
 
@@ -72,7 +72,7 @@ looking_done arcs past tail row upto old new so is end = record {
   more = so.more;
   heads = λ x h. (
       let w = is.each h.0 x h.1 in
-      let lt = slice_get-lt row w.0 (w.1, x) w.2 in
+      let lt = slice_get_within row w.0 (w.1, x) w.2 in
       so.heads w.0 (w.1, x) (omega (arith, lt, end)) w.2
       );
 }
@@ -102,10 +102,10 @@ spreading_begins arcs past start is_new old nodes at added closed is = record {
   where
     more : IsAdded start is_new old nodes → (k x : ℕ) → length old ≤ k → slice_get nodes k ≡ Some x → Reaches arcs start x
     more (inl a) k x le at-k = elim (slice_get-push_cases old start k x (subst (λ (l : List ℕ). slice_get l k ≡ Some x) a.2 at-k)) [
-      | inl was ↦ absurd (let lt = slice_get-lt old k x was in omega (arith, le, lt))
+      | inl was ↦ absurd (let lt = slice_get_within old k x was in omega (arith, le, lt))
       | inr is ↦ subst (Reaches arcs start) (sym is.1) here
     ]
-    more (inr a) k x le at-k = absurd (let lt = slice_get-lt old k x (subst (λ (l : List ℕ). slice_get l k ≡ Some x) a.2 at-k) in omega (arith, le, lt))
+    more (inr a) k x le at-k = absurd (let lt = slice_get_within old k x (subst (λ (l : List ℕ). slice_get l k ≡ Some x) a.2 at-k) in omega (arith, le, lt))
 
     old-at : IsAdded start is_new old nodes → (k x : ℕ) → k < length old → slice_get nodes k ≡ Some x → slice_get old k ≡ Some x
     old-at (inl a) k x lt at-k = elim (slice_get-push_cases old start k x (subst (λ (l : List ℕ). slice_get l k ≡ Some x) a.2 at-k)) [
@@ -127,7 +127,7 @@ spreading_next arcs past start old nodes new at tail so is looked = record {
   };
   heads = λ k x y lt at-k arc. elim (cases_lt k at) [
     | inl less ↦
-        let below = slice_get-lt nodes at tail is in
+        let below = slice_get_within nodes at tail is in
         elim (so.heads k x y less (old-at k x (omega (arith, less, below)) at-k) arc) [ inl h ↦ inl (stays_contained nodes new looked.kept y h) | inr h ↦ inr h ]
     | inr le ↦
         let here_k : at ≡ k = omega (arith, lt, le) in
@@ -145,7 +145,7 @@ spreading_next arcs past start old nodes new at tail so is looked = record {
 pub spreading_done : (arcs : List (ℕ × ℕ)) (past : List ℕ) (start : ℕ) (old nodes : List ℕ) (at : ℕ) → IsSpreading arcs past start old nodes at → length nodes ≤ at → IsClosed arcs past nodes
 spreading_done arcs past start old nodes at so le x y h arc =
     let has = has-from_Contains nodes x h in
-    let lt = slice_get-lt nodes has.0 x has.1 in
+    let lt = slice_get_within nodes has.0 x has.1 in
     so.heads has.0 x y (omega (arith, lt, le)) has.1 arc
 
 -- ---- results

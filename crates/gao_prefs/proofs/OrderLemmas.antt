@@ -13,6 +13,7 @@ use Rattle.std.proofs.lemmas.List.Sums.{position_or_len_is}
 use Rattle.std.proofs.lemmas.List.Sorted.{IsPermutation-map, All-permutation, Contains-permutation, length_permutation}
 use Rattle.std.proofs.lemmas.Map.Keys.{IsDistinct-from_apart, IsDistinct-IsPermutation}
 use Rattle.std.proofs.lemmas.Map.Made.{AllPairs-from_IsDistinct}
+use Rattle.tor_arena.proofs.Gets.{Contains-map}
 use Rattle.tor_arena.specs.Distinct.{AllDistinct}
 use Rattle.relationships.specs.declared.label.End.{End}
 use Rattle.relationships.specs.Graph.{Edge, is_same, edges_on, edges, degree}
@@ -40,10 +41,6 @@ place_of es k once lt =
 
 abbrev any_pref : Pref
 any_pref = record { edge = 0; lean = pos 0; wanted = End.Low }
-
-Contains-map : {X Y : Type 0} (f : X → Y) (xs : List X) (x : X) → Contains xs x → Contains (map f xs) (f x)
-Contains-map f xs x (k, lt, e) =
-    let n = length-map xs f in (k, omega (arith, n, lt), get_or-map f xs k x (f x) lt ∙ ap f e)
 
 -- what is said by the place of an edge, and by its votes and degrees
 pub record IsStated (degree : ℕ → ℕ) (kept : List (List ℕ)) (es : List Edge) (pref : Pref) : Type 0 where

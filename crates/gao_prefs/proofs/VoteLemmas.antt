@@ -2,11 +2,12 @@
 use Rattle.std.proofs.Common.{◌≡◌, ◌≢◌, ℕ, zero, suc, ◌+◌, ◌<◌, ◌≤◌, ◌⊎◌, inl, inr, Bool, true, false, ◌&&◌, cond, not, List, [], ◌∷◌, ◌++◌, length, get_or, take, drop, map, replicate, min, max, refl, sym, ap, ap₂, ◌∙◌, subst, arith, All, nat_eq, slice_get, Some, filter, take-append-drop, append-nil, eq-eqb, lt-ltb, le-ltb}
 use Rattle.std.specs.List.{count_by, flat_map, list_any}
 use Rattle.std.proofs.lemmas.Bool.{cases_eq, cases_order, ne_eqb, false_from_ne_true, false≢true}
-use Rattle.std.proofs.lemmas.Option.{slice_get-get_or, slice_get_within}
+use Rattle.std.proofs.lemmas.Option.{slice_get-get_or, slice_get_within, same_Some}
 use Rattle.std.proofs.lemmas.List.{length-map, map-append, get_or-map, get_or_past, ext_get_or, take_more}
 use Rattle.std.proofs.lemmas.List.Elements.{All-filter, All-append, All-nil, All-cons, All-get_or, All-head, All-tail}
 use Rattle.std.proofs.lemmas.List.Sums.{sum_by-cons, sum_by-append}
 use Rattle.std.proofs.lemmas.Grind.{flat_map-append}
+use Rattle.tor_arena.proofs.Counting.{one, count-cons, count-append}
 use Rattle.tor_arena.specs.Distinct.{AllDistinct}
 use Rattle.relationships.specs.declared.label.End.{End}
 use Rattle.relationships.specs.Relationship.{opposite}
@@ -51,16 +52,13 @@ rising_distinct (e ∷ es) h =
 rising : (paths : List (List ℕ)) → All IsRising (edges paths)
 rising paths = rising_distinct (flat_map edges_on paths) (rising_paths paths)
 
-some_same : {f g : Edge} → Some f ≡ Some g → f ≡ g
-some_same h = cc
-
 pub one_place : (es : List Edge) (i k : ℕ) (e : Edge) → NoneTwice es → slice_get es i ≡ Some e → slice_get es k ≡ Some e → i ≡ k
 one_place [] i k e once h is = absurd (cc h)
 one_place (x ∷ es) zero zero e once h is = refl
 one_place (x ∷ es) zero (suc k) e once h is =
-    absurd (false≢true (sym (none_at x es k e once.0 is) ∙ subst (λ (y : Edge). is_same x y ≡ true) (some_same h) (same_itself x)))
+    absurd (false≢true (sym (none_at x es k e once.0 is) ∙ subst (λ (y : Edge). is_same x y ≡ true) (same_Some _ _ h) (same_itself x)))
 one_place (x ∷ es) (suc i) zero e once h is =
-    absurd (false≢true (sym (none_at x es i e once.0 h) ∙ subst (λ (y : Edge). is_same x y ≡ true) (some_same is) (same_itself x)))
+    absurd (false≢true (sym (none_at x es i e once.0 h) ∙ subst (λ (y : Edge). is_same x y ≡ true) (same_Some _ _ is) (same_itself x)))
 one_place (x ∷ es) (suc i) (suc k) e once h is = ap suc (one_place es i k e once.1 h is)
 
 -- ---- one step
@@ -143,7 +141,7 @@ module _ (es : List Edge) (once : NoneTwice es) (k : ℕ) (e : Edge) (there : sl
   left_vote a b step end ne h =
       elim (cases_eq step.edge k) [
         | inl same ↦
-            let is : edge_of a b ≡ e = some_same (sym h.0 ∙ ap (slice_get es) same ∙ there) in
+            let is : edge_of a b ≡ e = same_Some _ _ (sym h.0 ∙ ap (slice_get es) same ∙ there) in
             rw (eq-eqb step.edge k same) (subst (λ (f : Edge). is_same (from_end f end) (a, b) ≡ same_end step.left end) is (from_left a b end ne ∙ ap (λ l. same_end l end) (sym h.1)))
         | inr not_same ↦
             rw (ne_eqb step.edge k not_same) (false_from_ne_true (is_same (from_end e end) (a, b)) (λ t.
@@ -155,7 +153,7 @@ module _ (es : List Edge) (once : NoneTwice es) (k : ℕ) (e : Edge) (there : sl
   next_vote a b step end ne h =
       elim (cases_eq step.edge k) [
         | inl same ↦
-            let is : edge_of a b ≡ e = some_same (sym h.0 ∙ ap (slice_get es) same ∙ there) in
+            let is : edge_of a b ≡ e = same_Some _ _ (sym h.0 ∙ ap (slice_get es) same ∙ there) in
             rw (eq-eqb step.edge k same)
             (subst (λ (f : Edge). is_same (from_end f end) (b, a) ≡ same_end (opposite step.left) end) is (from_next a b end ne ∙ ap (λ l. same_end (opposite l) end) (sym h.1)))
         | inr not_same ↦
@@ -165,15 +163,6 @@ module _ (es : List Edge) (once : NoneTwice es) (k : ℕ) (e : Edge) (there : sl
       ]
 
 -- ---- the steps of a path
-
-abbrev one : Bool → ℕ
-one b = cond b 1 0
-
-count-cons : {X : Type 0} (p : X → Bool) (x : X) (xs : List X) → count_by p (x ∷ xs) ≡ one (p x) + count_by p xs
-count-cons p x xs = sum_by-cons (λ y. cond (p y) 1 0) x xs
-
-count-append : {X : Type 0} (p : X → Bool) (xs ys : List X) → count_by p (xs ++ ys) ≡ count_by p xs + count_by p ys
-count-append p xs ys = sum_by-append (λ y. cond (p y) 1 0) xs ys
 
 module _ (es : List Edge) (once : NoneTwice es) (k : ℕ) (e : Edge) (there : slice_get es k ≡ Some e) (up : IsRising e) (end : End) where
   climb_votes : (climb a : ℕ) (path : List ℕ) (steps : List Step) → AllDistinct (a ∷ path) → AreStepsFrom es a path steps →

@@ -2,6 +2,7 @@
 use Rattle.std.proofs.Common.{◌≡◌, ℕ, ◌⊎◌, inl, inr, true, false, List, [], ◌∷◌, Option, Some, None, Ok, Err, IfSome, refl, sym, ap, subst, ◌∙◌}
 use Rattle.std.proofs.Math.Path.{ap₂}
 use Rattle.std.specs.Prelude.{IsErrOf}
+use Rattle.std.proofs.lemmas.Option.{same_Some}
 use Rattle.mrt_frame.specs.declared.error.FrameError.{FrameError}
 use Rattle.mrt_frame.specs.declared.error.FrameError.TheVariants as errors
 use Rattle.mrt_frame.specs.declared.cursor.Record as lent
@@ -85,9 +86,6 @@ well_is_no_error errors.TooManyBytes is = cc
 well_is_no_error errors.ReadFault is = cc
 well_is_no_error errors.NoMemory is = cc
 
-same_some : (x y : RecordsEnd) → Some x ≡ Some y → x ≡ y
-same_some x y is = cc
-
 -- the answer that its own error is, where that names no end
 no_end : (e : FrameError) → end_of_error e ≡ None → HasFailed (Err e)
 no_end (errors.HeadCut at) is = absurd cc
@@ -105,10 +103,10 @@ of_end (Oversize at) = errors.Oversize at
 of_end (BodyCut at) = errors.BodyCut at
 
 error_of_end : (e : FrameError) (end : RecordsEnd) → end_of_error e ≡ Some end → e ≡ of_end end
-error_of_end (errors.HeadCut at) end is = ap of_end (same_some (HeadCut at) end is)
-error_of_end (errors.BodyCut at) end is = ap of_end (same_some (BodyCut at) end is)
-error_of_end (errors.Oversize at) end is = ap of_end (same_some (Oversize at) end is)
-error_of_end errors.TooManyBytes end is = ap of_end (same_some TooManyBytes end is)
+error_of_end (errors.HeadCut at) end is = ap of_end (same_Some (HeadCut at) end is)
+error_of_end (errors.BodyCut at) end is = ap of_end (same_Some (BodyCut at) end is)
+error_of_end (errors.Oversize at) end is = ap of_end (same_Some (Oversize at) end is)
+error_of_end errors.TooManyBytes end is = ap of_end (same_Some TooManyBytes end is)
 error_of_end errors.ReadFault end is = absurd cc
 error_of_end errors.NoMemory end is = absurd cc
 

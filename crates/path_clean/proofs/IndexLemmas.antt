@@ -12,7 +12,7 @@ use Rattle.path_clean.specs.declared.slots.Slot.{Slot}
 use Rattle.path_clean.specs.declared.slots.SearchEnd.{SearchEnd}
 use Rattle.path_clean.specs.declared.slots.SearchEnd.TheVariants.{Held, Free, Full}
 use Rattle.path_clean.specs.Slots.{tag_of, slot_of_tag, row_from_one, Names, NamedFrom, IsVacant, IsVacancy, IsRowSearchEnd, IsAbsent, Tells, IsTold, NameOnlyRows, IsIndexed}
-use Rattle.path_clean.proofs.SlotGets.{get-push_old, get-push_new, get-push_cases, get-set_cases}
+use Rattle.tor_arena.proofs.Gets.{slice_get-push_old, slice_get-push_last, slice_get-push_cases, slice_get-set_cases}
 use Rattle.path_clean.proofs.SlotLemmas.{stays-set, keeps-set, names-set, held-stays}
 
 pub same : {X : Type 0} (x y : X) → ◌≡◌ {A = Option X} (Some x) (Some y) → x ≡ y
@@ -51,18 +51,18 @@ vacancy-of rows slots start path Full p = tt
 
 from-one-old : (rows : List (List ℕ)) (p : List ℕ) (row : ℕ) (path : List ℕ) → row_from_one rows row ≡ Some path → row_from_one (rows ++ p ∷ []) row ≡ Some path
 from-one-old rows p zero path e = absurd cc
-from-one-old rows p (suc k) path e = get-push_old rows p k path e
+from-one-old rows p (suc k) path e = slice_get-push_old rows (p ∷ []) k path e
 
 from-one-within : (rows : List (List ℕ)) (p : List ℕ) (row : ℕ) (path : List ℕ) → row ≤ length rows → row_from_one (rows ++ p ∷ []) row ≡ Some path → row_from_one rows row ≡ Some path
 from-one-within rows p zero path le e = absurd cc
-from-one-within rows p (suc k) path le e = elim (get-push_cases rows p k path e) [
+from-one-within rows p (suc k) path le e = elim (slice_get-push_cases rows p k path e) [
   | inl old ↦ old
   | inr last ↦ let at = last.0 in absurd (omega (arith, at, le))
 ]
 
 from-one-new : (rows : List (List ℕ)) (p : List ℕ) (row : ℕ) → row ≡ length rows + 1 → row_from_one (rows ++ p ∷ []) row ≡ Some p
 from-one-new rows p zero is = absurd (omega (arith, is))
-from-one-new rows p (suc k) is = let at : k ≡ length rows = omega (arith, is) in ap (slice_get (rows ++ p ∷ [])) at ∙ get-push_new rows p
+from-one-new rows p (suc k) is = let at : k ≡ length rows = omega (arith, is) in ap (slice_get (rows ++ p ∷ [])) at ∙ slice_get-push_last rows p
 
 -- a row at the end, which a vacant slot is made to name
 pub index-push : (seed : ℕ) (rows : List (List ℕ)) (slots : List Slot) (path : List ℕ) (place : ℕ) (slot : Slot) → IsIndexed seed rows slots →
@@ -96,13 +96,13 @@ index-push seed rows slots path place slot index vacant tag row room = record { 
 
     each : (k : ℕ) (q : List ℕ) → slice_get (rows ++ path ∷ []) k ≡ Some q →
         NamedFrom (rows ++ path ∷ []) (set slots place slot) q (slot_of_tag (tag_of seed q) (length (set slots place slot))) (length (set slots place slot))
-    each k q e = subst (λ n. NamedFrom (rows ++ path ∷ []) (set slots place slot) q (slot_of_tag (tag_of seed q) n) n) (sym len) (elim (get-push_cases rows path k q e) [
+    each k q e = subst (λ n. NamedFrom (rows ++ path ∷ []) (set slots place slot) q (slot_of_tag (tag_of seed q) n) n) (sym len) (elim (slice_get-push_cases rows path k q e) [
       | inl h ↦ old k q h
       | inr h ↦ subst (λ x. NamedFrom (rows ++ path ∷ []) (set slots place slot) x (slot_of_tag (tag_of seed x) (length slots)) (length slots)) (sym h.1) last
     ])
 
     told : (q : List ℕ) → IsTold (rows ++ path ∷ []) (set slots place slot) (tag_of seed q) q
-    told q k s e names = elim (get-set_cases slots place slot k s e) [
+    told q k s e names = elim (slice_get-set_cases slots place slot k s e) [
       | inl h ↦
           let is : path ≡ q = same path q (sym (from-one-new rows path slot.row row) ∙ ap (λ (x : Slot). row_from_one (rows ++ path ∷ []) x.row) (sym h.1) ∙ names) in
           ap (λ (x : Slot). x.tag) h.1 ∙ tag ∙ ap (tag_of seed) is
@@ -110,7 +110,7 @@ index-push seed rows slots path place slot index vacant tag row room = record { 
     ]
 
     within : NameOnlyRows (length (rows ++ path ∷ [])) (set slots place slot)
-    within k s e = elim (get-set_cases slots place slot k s e) [
+    within k s e = elim (slice_get-set_cases slots place slot k s e) [
       | inl h ↦ let is = ap (λ (x : Slot). x.row) h.1 in omega (arith, is, row, many)
       | inr h ↦ let le = index.within k s h.1 in omega (arith, le, many)
     ]

@@ -6,7 +6,6 @@ pub mod TableLemmas
 pub mod GraphPaths
 pub mod CountingLemmas
 pub mod RepeatLemmas
-pub mod SlotGets
 pub mod SlotLemmas
 pub mod IndexLemmas
 pub mod AddLemmas

@@ -9,7 +9,7 @@ use Rattle.tor_arena.specs.Growth.{next_slot}
 use Rattle.path_clean.specs.declared.slots.Slot.{Slot}
 use Rattle.path_clean.specs.Chains.{row_at}
 use Rattle.path_clean.specs.Slots.{tag_of, slot_of_tag, row_from_one, Names, IsFree, NamedFrom, NoneFreed, IsVacant, IsTold, IsPut, KeepsAll}
-use Rattle.path_clean.proofs.SlotGets.{get-set_cases, get-set_other, get-set_same, get-replicate}
+use Rattle.tor_arena.proofs.Gets.{slice_get-set_cases, slice_get-set_other, slice_get-set_same, slice_get-replicate}
 
 same : {X : Type 0} (x y : X) → ◌≡◌ {A = Option X} (Some x) (Some y) → x ≡ y
 same x y e = cc
@@ -109,17 +109,17 @@ held-somewhere rows slots path place (suc n) (inr h) = held-somewhere rows slots
 -- a slot that is put into a free one
 module _ (slots : List Slot) (place : ℕ) (slot : Slot) where
   pub stays-set : IsFree slots place → (slot.row ≡ 0 → ⊥) → NoneFreed slots (set slots place slot)
-  stays-set free used q f = elim (get-set_cases slots place slot q f.0 f.1) [
+  stays-set free used q f = elim (slice_get-set_cases slots place slot q f.0 f.1) [
     | inl a ↦ absurd (used (ap (λ (s : Slot). s.row) (sym a.1) ∙ f.2))
     | inr b ↦ (f.0, b.1, f.2)
   ]
 
   pub keeps-set : IsFree slots place → (rows : List (List ℕ)) (path : List ℕ) (q : ℕ) → Names rows slots q path → Names rows (set slots place slot) q path
   keeps-set free rows path q n =
-      (n.0, get-set_other slots place slot q (λ is. free_or_names rows slots place path free (subst (λ k. Names rows slots k path) is n)) ∙ n.1, n.2)
+      (n.0, slice_get-set_other slots place slot q (λ is. free_or_names rows slots place path free (subst (λ k. Names rows slots k path) is n)) ∙ n.1, n.2)
 
   pub names-set : IsFree slots place → (rows : List (List ℕ)) (path : List ℕ) → row_from_one rows slot.row ≡ Some path → Names rows (set slots place slot) place path
-  names-set free rows path is = (slot, get-set_same slots place slot (slice_get_within slots place free.0 free.1), is)
+  names-set free rows path is = (slot, slice_get-set_same slots place slot (slice_get_within slots place free.0 free.1), is)
 
   -- what is put into the first free slot
   pub put-set : (start : ℕ) → start ≡ slot_of_tag slot.tag (length slots) → (slot.row ≡ 0 → ⊥) → IsVacant slots start place → IsPut slot slots (set slots place slot)
@@ -130,7 +130,7 @@ module _ (slots : List Slot) (place : ℕ) (slot : Slot) where
     there = (λ rows path is. subst (λ m. NamedFrom rows (set slots place slot) path (slot_of_tag slot.tag m) m) (sym (length-set slots place slot))
         (subst (λ s. NamedFrom rows (set slots place slot) path s (length slots)) begins
         (v.leads rows path (set slots place slot) (length-set slots place slot) (stays-set v.free used) (names-set v.free rows path is))));
-    only = (λ q s e. elim (get-set_cases slots place slot q s e) [ inl a ↦ inr a.1 | inr b ↦ inl b.1 ]);
+    only = (λ q s e. elim (slice_get-set_cases slots place slot q s e) [ inl a ↦ inr a.1 | inr b ↦ inl b.1 ]);
   }
 
 -- a free slot has nothing to be put
@@ -155,7 +155,7 @@ pub moved-none : (old new : List Slot) (count : ℕ) (free : Slot) → 0 < lengt
 moved-none old new count free some zero_row is = record {
   some = some;
   there = (λ rows path k slot lt. absurd (omega (arith, lt)));
-  only = (λ k slot e. inl (ap (λ (s : Slot). s.row) (get-replicate count free k slot (ap (λ l. slice_get l k) (sym is) ∙ e)) ∙ zero_row));
+  only = (λ k slot e. inl (ap (λ (s : Slot). s.row) (slice_get-replicate count free k slot (ap (λ l. slice_get l k) (sym is) ∙ e)) ∙ zero_row));
 }
 
 pub moved-next : (old new more : List Slot) (place next : ℕ) (slot : Slot) → next ≡ place + 1 → slice_get old place ≡ Some slot → IsPut slot new more → IsMoved old new place → IsMoved old more next

@@ -1,9 +1,9 @@
 -- The distinct paths, each with how often it was added.
 use Rattle.std.specs.Prelude.{◌≡◌, ◌<◌, ℕ, suc, ◌+◌, ◌-◌, ◌^◌, min, not, List, [], ◌∷◌, length, map, filter, count_by, fold, Option, Some, None, option_map, if◌then◌else◌, bytes_eq}
 use Rattle.tor_arena.specs.Growth.{one_more}
-use Rattle.tor_arena.specs.Limits.{max_numbers}
 use Rattle.path_clean.specs.declared.table.Added.{Added}
 use Rattle.path_clean.specs.declared.table.Added.TheVariants.{Known, New}
+use Rattle.tor_arena.specs.Limits.{max_numbers}
 use Rattle.path_clean.specs.Rows.{Counted, Table, numbers_in}
 
 -- the place of the row of a path, from 0

@@ -19,4 +19,4 @@ pub use cleaning::{clean, clean_into, is_clean_path};
 pub use laws::{clean_paths_stay, counting, paths_are_clean};
 pub use lookup::Lookup;
 pub use repeats::first_repeated;
-pub use table::{AddRefused, Added, MAX_NUMBERS, MAX_PATHS, PathTable};
+pub use table::{AddRefused, Added, PathTable};

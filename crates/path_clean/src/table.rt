@@ -1,8 +1,8 @@
 //! The table of distinct paths.
 ghost use Rattle.std.specs.Prelude.{◌≡◌, ◌+◌, ◌<◌, ◌≤◌, ◌↔◌, [], All, Some, None, length, option_map, slice_get, sum_by, IsTrue, IsSome, IsOk, IfOk, OnOk, OnErr};
 ghost use Rattle.std.specs.List.{list_all};
-ghost use Rattle.tor_arena.specs.Limits.{max_paths, max_numbers};
 ghost use Rattle.tor_arena.specs.Distinct.{AllDistinct};
+ghost use Rattle.tor_arena.specs.Limits.{max_paths, max_numbers};
 ghost use Rattle.path_clean.specs.Lookups.{StandWhereFound, AreCleanWhereFound};
 ghost use Rattle.path_clean.specs.Paths.{is_cleaned};
 ghost use Rattle.path_clean.specs.Rows.{row_paths, times_of, numbers_in, none_twice};
@@ -13,13 +13,7 @@ use crate::lookup::Lookup;
 use crate::slots::SearchEnd;
 use std::alloc::Global;
 use std::marker::Model;
-use tor_arena::{Index, Keys, List, NoMemory, PathId, Rows};
-
-/// How many distinct paths a table may have.
-pub const MAX_PATHS: u32 = 1 << 23;
-
-/// How many numbers the distinct paths of a table may have in sum.
-pub const MAX_NUMBERS: usize = 1 << 26;
+use tor_arena::{Index, Keys, List, MAX_NUMBERS, NoMemory, PathId, Rows};
 
 /// Where a path that was added stands.
 #[derive(Clone, Copy, Debug, PartialEq, Eq)]

@@ -9,7 +9,7 @@ use Rattle.relationships.specs.Fates.{walk_of, is_kept}
 use Rattle.relationships.specs.Graph.{Edge, edges}
 use Rattle.relationships.specs.Evidence.{NeighboursDiffer, Numbered, StandAt, TripleAt, Fits, IsLinked, Refutes}
 use Rattle.relationships.proofs.Places.{index-from_StandAt}
-use Rattle.tor_digraph.proofs.Gets.{slice_get-push_old, slice_get-push_last, slice_get-push_cases}
+use Rattle.tor_arena.proofs.Gets.{slice_get-push_old, slice_get-push_last, slice_get-push_cases}
 use Rattle.as_graph.specs.declared.step.Step.{Step}
 use Rattle.as_graph.specs.Steps.{IsStep, AreStepsFrom, AreSteps}
 use Rattle.as_graph.specs.Paths.{path_at}

@@ -1,7 +1,7 @@
 -- A step that is flat beside one that goes the same way leaves a valley.
 use Rattle.std.proofs.Common.{◌≡◌, ◌≢◌, ℕ, zero, suc, ◌+◌, ◌<◌, ◌⊎◌, inl, inr, true, false, List, [], ◌∷◌, length, get_or, set, sym, ap, ◌∙◌, subst, arith, All, slice_get, Some}
 use Rattle.std.proofs.lemmas.Bool.{cases_eq, false≢true}
-use Rattle.std.proofs.lemmas.Option.{slice_get-get_or, slice_get_within}
+use Rattle.std.proofs.lemmas.Option.{slice_get-get_or, slice_get_within, same_Some}
 use Rattle.relationships.specs.declared.label.End.{End}
 use Rattle.relationships.specs.declared.label.Label.{Label}
 use Rattle.relationships.specs.Relationship.{label_of, Slope, Up, Down, Flat}
@@ -32,19 +32,16 @@ free_clash x y rest (inr c) (inl p) = c.0 p.0
 free_clash x y rest (inl c) (inr f) = c.1 f.0
 free_clash x y rest (inr c) (inr f) = down_flat (sym f.0 ∙ c.1)
 
-some_slope : {x y : Slope} → Some x ≡ Some y → x ≡ y
-some_slope h = cc
-
 falls_at : (ss : List Slope) (i : ℕ) (x : Slope) → slice_get ss i ≡ Some x → Falls ss → x ≡ Down
 falls_at [] i x at f = absurd (cc at)
-falls_at (s ∷ ss) zero x at f = sym (some_slope at) ∙ f.0
+falls_at (s ∷ ss) zero x at f = sym (same_Some _ _ at) ∙ f.0
 falls_at (s ∷ ss) (suc i) x at f = falls_at ss i x at f.1
 
 clash_at : (ss : List Slope) (i : ℕ) (x y : Slope) → slice_get ss i ≡ Some x → slice_get ss (suc i) ≡ Some y → Clash x y → Free ss → ⊥
 clash_at [] i x y at next c free = absurd (cc at)
 clash_at (s ∷ []) zero x y at next c free = absurd (cc next)
 clash_at (s ∷ t ∷ ss) zero x y at next c free =
-    free_clash s t ss (subst (λ z. Clash z t) (sym (some_slope at)) (subst (λ z. Clash x z) (sym (some_slope next)) c)) free
+    free_clash s t ss (subst (λ z. Clash z t) (sym (same_Some _ _ at)) (subst (λ z. Clash x z) (sym (same_Some _ _ next)) c)) free
 clash_at (s ∷ ss) (suc i) x y at next c (inl p) = clash_at ss i x y at next c p.1
 clash_at (s ∷ ss) (suc i) x y at next c (inr f) = falls_clash x y c (falls_at ss i x at f) (falls_at ss (suc i) y next f)
 
@@ -54,10 +51,7 @@ slope_of_step : (labels : List Label) (steps : List Step) (i : ℕ) (s : Step) �
     slice_get (slopes_by labels steps) i ≡ Some (step_slope (get_or labels s.edge Label.Peer) s.left)
 slope_of_step labels [] i s at = absurd (cc at)
 slope_of_step labels (t ∷ steps) zero s at =
-    ap (λ (u : Step). Some (step_slope (get_or labels u.edge Label.Peer) u.left)) (some_step at)
-  where
-    some_step : {x y : Step} → Some x ≡ Some y → x ≡ y
-    some_step h = cc
+    ap (λ (u : Step). Some (step_slope (get_or labels u.edge Label.Peer) u.left)) (same_Some _ _ at)
 slope_of_step labels (t ∷ steps) (suc i) s at = slope_of_step labels steps i s at
 
 flat_peer : (l : Label) (left : End) → l ≡ Label.Peer → step_slope l left ≡ Flat
@@ -89,13 +83,10 @@ still_not_up l over left (inr f) t = λ e. not_up (step_slope (label_of over) le
 
 All-slice_get : (P : Step → Type 0) (steps : List Step) (k : ℕ) (u : Step) → All P steps → slice_get steps k ≡ Some u → P u
 All-slice_get P steps k u all is =
-    subst P (some_step (sym (slice_get-get_or steps k u lt) ∙ is)) (all k u lt)
+    subst P (same_Some _ _ (sym (slice_get-get_or steps k u lt) ∙ is)) (all k u lt)
   where
     lt : k < length steps
     lt = slice_get_within steps k u is
-
-    some_step : {x y : Step} → Some x ≡ Some y → x ≡ y
-    some_step h = cc
 
 -- with a excluded edge as a peering there is a valley
 pub no_flip : (old : List Label) (ends : List End) (n many : ℕ) (steps : List Step) → n < length old →

@@ -2,7 +2,7 @@
 use Rattle.std.proofs.Common.{◌≡◌, ◌≢◌, ◌↔◌, ℕ, zero, suc, ◌+◌, ◌<◌, ◌≤◌, ◌⊎◌, inl, inr, true, false, List, [], ◌∷◌, ◌++◌, length, get_or, map, take, refl, sym, ap, ◌∙◌, subst, arith, All, Contains, slice_get, Some, if◌then◌else◌}
 use Rattle.std.specs.List.{list_any}
 use Rattle.std.proofs.lemmas.Bool.{cases_Bool, cases_lt, or_cases, false≢true}
-use Rattle.std.proofs.lemmas.Option.{slice_get_within}
+use Rattle.std.proofs.lemmas.Option.{slice_get_within, same_Some}
 use Rattle.std.proofs.lemmas.List.{length-map, get_or-map}
 use Rattle.relationships.specs.declared.label.End.{End}
 use Rattle.relationships.specs.declared.label.Label.{Label}
@@ -112,10 +112,7 @@ module _ (degree : ℕ → ℕ) (ratio : ℕ) (kept : List (List ℕ)) (es : Lis
     apart_before n j e f is at lt = before_other es n n e f once is (omega arith) (among_before es n j f at lt)
 
     same_place : (n j : ℕ) (e f : Edge) → j ≡ n → slice_get es n ≡ Some e → slice_get es j ≡ Some f → f ≡ e
-    same_place n j e f same is at = some_same (sym at ∙ ap (slice_get es) same ∙ is)
-      where
-        some_same : {x y : Edge} → Some x ≡ Some y → x ≡ y
-        some_same h = cc
+    same_place n j e f same is at = same_Some _ _ (sym at ∙ ap (slice_get es) same ∙ is)
 
     -- the edge of the place becomes a peering
     pub flips : (n : ℕ) (e : Edge) (L L' : Labelling) → slice_get es n ≡ Some e → ((low high : ℕ) → L' low high ≡ with_peer L e low high) →

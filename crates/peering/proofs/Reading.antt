@@ -5,6 +5,7 @@ use Rattle.std.proofs.lemmas.Bool.{cases_Bool, or_parts, false_from_ne_true, fal
 use Rattle.std.proofs.lemmas.List.{length-map, get_or-map}
 use Rattle.std.proofs.lemmas.List.Elements.{All-contains, All-cons, All-nil, All-head, All-from_recursion, Contains-get_or}
 use Rattle.std.proofs.lemmas.List.Sums.{count_by-le-length}
+use Rattle.std.proofs.lemmas.Option.{same_Some}
 use Rattle.relationships.specs.declared.label.Label.{Label}
 use Rattle.relationships.specs.Relationship.{Labelling, ValleyFree}
 use Rattle.relationships.specs.Graph.{Edge, is_same, edges_on, distinct, edges, degree, labelling}
@@ -104,9 +105,6 @@ edge_among paths places e there c =
         subst (Contains paths) is (Contains-get_or paths (get_or places c.0 0) [] (there c.0 0 k_lt))
 
 -- ---- places and degrees
-
-pub some_same : {x y : Edge} → Some x ≡ Some y → x ≡ y
-some_same h = cc
 
 pub degree_small : (paths : List (List ℕ)) (a : ℕ) → length (edges paths) < 2 ^ 26 → degree paths a ≤ 2 ^ 26
 degree_small paths a few = let le = count_by-le-length (λ (e : Edge). (e.0 == a) || (e.1 == a)) (edges paths) in omega (arith, le, few)

@@ -2,7 +2,7 @@
 use Rattle.std.proofs.Common.{◌≡◌, ◌⊎◌, ℕ, ◌+◌, ◌<◌, inl, inr, Bool, true, false, arith, List, [], length, get_or, sym, ap, ◌∙◌, subst, All, Contains, IsTrue, IsFalse, slice_get, Some}
 use Rattle.std.specs.List.{list_any, flat_map}
 use Rattle.std.proofs.lemmas.Bool.{cases_Bool, false_from_ne_true}
-use Rattle.std.proofs.lemmas.Option.{slice_get-get_or, slice_get_within}
+use Rattle.std.proofs.lemmas.Option.{slice_get-get_or, slice_get_within, same_Some}
 use Rattle.std.proofs.lemmas.List.{length-set, length-map, get_or-map}
 use Rattle.std.proofs.lemmas.List.Elements.{All-get_or, All-map, All-contains, Contains-get_or}
 use Rattle.relationships.specs.Evidence.{NeighboursDiffer}
@@ -17,7 +17,7 @@ use Rattle.as_graph.proofs.Labelled.{NoneTwice, NoneTwice-distinct, labelling_at
 use Rattle.peering.specs.Peerings.{edge_in, holds, peer_at, StayFree, MayFlip, IsPeeredIfAllowed}
 use Rattle.peering.specs.Exclusions.{IsExcluded}
 use Rattle.peering.proofs.ExclusionLemmas.{no_flip}
-use Rattle.peering.proofs.Reading.{some_same, labelling-set, free_same, free_without, all_at, edge_among}
+use Rattle.peering.proofs.Reading.{labelling-set, free_same, free_without, all_at, edge_among}
 use Rattle.peering.proofs.Holding.{some_counted, counted_some}
 use Rattle.peering.proofs.Flipping.{IsSoFar, first_or_peer, flips, keeps}
 
@@ -38,7 +38,7 @@ module _ (paths : List (List ℕ)) (kept : List ℕ) (ratio : ℕ) (ends : List 
     once = NoneTwice-distinct (flat_map edges_on paths)
 
     at : edge_in paths n ≡ e
-    at = some_same (sym (slice_get-get_or (edges paths) n (0, 0) (slice_get_within (edges paths) n e is)) ∙ is)
+    at = same_Some _ _ (sym (slice_get-get_or (edges paths) n (0, 0) (slice_get_within (edges paths) n e is)) ∙ is)
 
     same : (low high : ℕ) → labelling (edges paths) (peer_at old n) low high ≡ with_peer Now e low high
     same = labelling-set (edges paths) old n e Label.Peer once is (subst (λ m. n < m) (sym settled.count) (slice_get_within (edges paths) n e is))

@@ -1,5 +1,6 @@
 -- Paths and counts beside those of dumps.
 use Rattle.std.proofs.Common.{◌≡◌, ℕ, zero, suc, ◌+◌, ◌-◌, ◌<◌, ◌≤◌, List, [], ◌∷◌, length, refl, sym, ap, ap₂, ◌∙◌, subst, arith, Some, slice_get, option_map, false, nat_lt, if◌then◌else◌, le-ltb}
+use Rattle.std.proofs.lemmas.Option.{same_Some}
 use Rattle.path_clean.specs.Rows.{Counted, row_paths}
 use Rattle.path_clean.specs.Counts.{CauseCounts}
 use Rattle.path_clean.specs.declared.cleaned.Cause.TheVariants.{NoPath}
@@ -8,7 +9,7 @@ use Rattle.result_text.specs.Numbering.{aside_line}
 use Rattle.result_rules.specs.File.{path_line_number}
 use Rattle.result_rules.specs.Against.{in_order, its_rows, line_against, Departs}
 use Rattle.rel_checker.specs.Steps.{Differs}
-use Rattle.result_rules.proofs.Accepted.{some_parts, none_some}
+use Rattle.result_rules.proofs.Accepted.{none_some}
 
 abbrev made : List ℕ → ℕ → Counted
 made a b = record { path = a; times = b }
@@ -17,7 +18,7 @@ made a b = record { path = a; times = b }
 pub row_parts : (rows : List Counted) (k : ℕ) (path : List ℕ) (times : ℕ) → slice_get (row_paths rows) k ≡ Some path → option_map (λ (row : Counted). row.times) (slice_get rows k) ≡ Some times →
     slice_get rows k ≡ Some (record { path = path; times = times })
 row_parts [] k path times p t = absurd (none_some path p)
-row_parts (row ∷ rows) zero path times p t = let h = some_parts p in let h' = some_parts t in ap (λ (o : Counted). Some o) (same row path times h h')
+row_parts (row ∷ rows) zero path times p t = let h = same_Some _ _ p in let h' = same_Some _ _ t in ap (λ (o : Counted). Some o) (same row path times h h')
   where
     same : (row : Counted) (path : List ℕ) (times : ℕ) → row.path ≡ path → row.times ≡ times → row ≡ record { path = path; times = times }
     same row path times p t = ap₂ (λ (a : List ℕ) (b : ℕ). made a b) p t
@@ -28,7 +29,7 @@ pub same_lists : {X : Type 0} (xs ys : List X) → length ys ≤ length xs → (
 same_lists [] [] le h = refl
 same_lists [] (y ∷ ys) le h = absurd (omega (arith, le))
 same_lists (x ∷ xs) [] le h = absurd (none_some x (sym (h 0 (omega arith))))
-same_lists (x ∷ xs) (y ∷ ys) le h = ap₂ (λ z zs. z ∷ zs) (some_parts (h 0 (omega arith))) (same_lists xs ys (omega (arith, le)) (λ k lt. h (suc k) (omega arith)))
+same_lists (x ∷ xs) (y ∷ ys) le h = ap₂ (λ z zs. z ∷ zs) (same_Some _ _ (h 0 (omega arith))) (same_lists xs ys (omega (arith, le)) (λ k lt. h (suc k) (omega arith)))
 
 mapped_at : (rows : List Counted) (k : ℕ) → slice_get (row_paths rows) k ≡ option_map (λ (row : Counted). row.path) (slice_get rows k)
 mapped_at [] k = refl
@@ -47,12 +48,12 @@ module _ (rows : List Counted) (all : List (List ℕ)) (k id t : ℕ) (row : Lis
 
   pub times_were : (path : List ℕ) (times : ℕ) → slice_get rows k ≡ Some (record { path = path; times = times }) → t ≡ times
   times_were path times e =
-      some_parts (sym seen ∙ ap (λ i. option_map (λ (row : Counted). row.times) (slice_get rows i)) is ∙ ap (option_map (λ (row : Counted). row.times)) e)
+      same_Some _ _ (sym seen ∙ ap (λ i. option_map (λ (row : Counted). row.times) (slice_get rows i)) is ∙ ap (option_map (λ (row : Counted). row.times)) e)
 
 pub path_at : (rows : List Counted) (all : List (List ℕ)) (k id : ℕ) (row : List ℕ) → id ≡ k → all ≡ row_paths rows → slice_get all id ≡ Some row →
     (path : List ℕ) (times : ℕ) → slice_get rows k ≡ Some (record { path = path; times = times }) → row ≡ path
 path_at rows all k id row is whole read path times e =
-    some_parts (sym read ∙ ap (slice_get all) is ∙ ap (λ (l : List (List ℕ)). slice_get l k) whole ∙ mapped_at rows k ∙ ap (option_map (λ (row : Counted). row.path)) e)
+    same_Some _ _ (sym read ∙ ap (slice_get all) is ∙ ap (λ (l : List (List ℕ)). slice_get l k) whole ∙ mapped_at rows k ∙ ap (option_map (λ (row : Counted). row.path)) e)
 
 -- the counts agree, and the paths differ first in this place
 pub path_departs : (file : ResultFile) (rows : List Counted) (counts : CauseCounts) (k line rule : ℕ) → file.asides ≡ counts → Differs (its_rows file) rows k → line ≡ path_line_number file k → rule ≡ 11 →

@@ -2,7 +2,7 @@
 use Rattle.std.proofs.Common.{◌≡◌, ◌↔◌, ◌⊎◌, inl, inr, ℕ, ◌+◌, ◌-◌, ◌<◌, ◌≤◌, Bool, true, IsTrue, List, Some, None, length, slice_get, refl, sym, ap, ◌∙◌, subst, arith, Any, Contains}
 use Rattle.std.proofs.lemmas.Bool.{false≢true, cases_lt}
 use Rattle.std.proofs.lemmas.List.{length-map}
-use Rattle.std.proofs.lemmas.Option.{same_Some}
+use Rattle.std.proofs.lemmas.Option.{same_Some, slice_get_within}
 use Rattle.relationships.specs.declared.label.Label.{Label}
 use Rattle.relationships.specs.declared.label.Label.TheVariants as label
 use Rattle.relationships.specs.Evidence.{Closure}
@@ -19,7 +19,7 @@ use Rattle.result_rules.specs.Rules.{Asks}
 use Rattle.rel_checker.specs.Steps.{FindsBreach}
 use Rattle.rel_checker.specs.Flipping.{flipped_by, flipped, flipped_orders, kept_lines}
 use Rattle.rel_checker.specs.Serving.{IsCovered, IsShownBy, First, MarkedAt, ServesAt, is_borne}
-use Rattle.result_rules.proofs.Gets.{slice_get-lt, slice_get-map, slice_get-unmap}
+use Rattle.tor_arena.proofs.Gets.{slice_get-map, slice_get-unmap}
 
 -- the two tests decide
 borne_exactly : (kept : List (List ℕ)) (orders probes : List (ℕ × ℕ)) (low high : ℕ) (mark : Mark) (l : Label) (shown covered : Bool) →
@@ -91,7 +91,7 @@ module _ (file : ResultFile) where
 
   asks_open : (k j : ℕ) → k ≡ length file.edges + j → ServesAt file j → Asks file MarksBorneOut k
   asks_open k j e s = (
-    λ claim at. (let w = slice_get-unmap claim_on file.edges k claim at in let lt = slice_get-lt file.edges k w.0 w.1 in absurd (omega arith)),
+    λ claim at. (let w = slice_get-unmap claim_on file.edges k claim at in let lt = slice_get_within file.edges k w.0 w.1 in absurd (omega arith)),
     λ le. (let same : j ≡ k - length file.edges = omega arith in subst (ServesAt file) same s),
   )
 

@@ -1,13 +1,13 @@
 -- What two consecutive steps imply and rule out, and how the rows come to have it.
 use Rattle.std.proofs.Common.{◌≡◌, ◌↔◌, ◌⊎◌, inl, inr, ℕ, ◌+◌, ◌-◌, ◌<◌, ◌≤◌, Bool, true, false, List, [], ◌∷◌, ◌++◌, Some, length, slice_get, slice_index, slice_index_or, refl, sym, ap, ◌∙◌, subst, arith, Contains, length-set, nat_eq}
 use Rattle.std.proofs.lemmas.Bool.{cases_lt, cases_Bool, eqb-true, eq-eqb, both_ways}
-use Rattle.std.proofs.lemmas.Option.{get_or_from_slice_get, slice_get-get_or}
+use Rattle.std.proofs.lemmas.Option.{get_or_from_slice_get, slice_get-get_or, slice_get_within}
 use Rattle.std.proofs.lemmas.List.Elements.{Contains-push, Contains-push_cases, Contains-append_left}
 use Rattle.relationships.specs.Evidence.{TripleAt, IsTriple}
 use Rattle.relationships.proofs.Places.{StandAt-from_index, index-from_StandAt}
 use Rattle.rel_checker.specs.Neighbours.{HasNext, EachHasRow, with_next}
 use Rattle.rel_checker.specs.Flipping.{FlipsTo, Implies, Conflicts, IsBuilt, IsClimb, with_implied, with_conflicting, TripleBefore, IsProper}
-use Rattle.result_rules.proofs.Gets.{slice_get-lt, slice_get-set_cases, slice_get-set_other, slice_get-set_same}
+use Rattle.tor_arena.proofs.Gets.{slice_get-set_cases, slice_get-set_other, slice_get-set_same}
 
 -- ---- one more in a row
 
@@ -309,13 +309,13 @@ path_end orders path end implied conflicting all paths b = built_same orders (Tr
 pub inside_implied : (orders : List (ℕ × ℕ)) (T : ℕ → ℕ → ℕ → Type 0) (implied conflicting : List (List ℕ)) → IsBuilt orders T implied conflicting → EachHasRow implied
 inside_implied orders T implied conflicting b i j h =
     let c = (b.implies i j).0 h in
-    omega (arith, slice_get-lt orders j (c.1, c.2) c.4, b.implied_many)
+    omega (arith, slice_get_within orders j (c.1, c.2) c.4, b.implied_many)
 
 pub inside_conflicting : (orders : List (ℕ × ℕ)) (T : ℕ → ℕ → ℕ → Type 0) (implied conflicting : List (List ℕ)) → IsBuilt orders T implied conflicting → EachHasRow conflicting
 inside_conflicting orders T implied conflicting b i j h =
     let c = (b.conflicts i j).0 h in
-    omega (arith, slice_get-lt orders j (c.2, c.1) c.4, b.conflicting_many)
+    omega (arith, slice_get_within orders j (c.2, c.1) c.4, b.conflicting_many)
 
 pub flipping_within : (orders : List (ℕ × ℕ)) (T : ℕ → ℕ → ℕ → Type 0) (implied conflicting : List (List ℕ)) (k x y : ℕ) → IsBuilt orders T implied conflicting → FlipsTo orders k x y
     → k < length implied
-flipping_within orders T implied conflicting k x y b t = omega (arith, slice_get-lt orders k (x, y) t, b.implied_many)
+flipping_within orders T implied conflicting k x y b t = omega (arith, slice_get_within orders k (x, y) t, b.implied_many)

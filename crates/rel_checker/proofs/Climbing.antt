@@ -11,7 +11,7 @@ use Rattle.result_text.specs.declared.file.EdgeLine.{EdgeLine}
 use Rattle.rel_checker.specs.declared.edges.step.Step.{Step}
 use Rattle.rel_checker.specs.Flipping.{climbs, flipped_by, flipped_orders, edges_of, FlipsTo, IsClimb}
 use Rattle.rel_checker.specs.PathSteps.{place_in, left_in, IsCodedStep, labels_on}
-use Rattle.result_rules.proofs.Gets.{slice_get-map, slice_get-unmap}
+use Rattle.tor_arena.proofs.Gets.{slice_get-map, slice_get-unmap}
 use Rattle.rel_checker.proofs.OrderPlaces.{pair, flips_of}
 
 -- the order that the edge of a step from a to b would have to flip to, to have the step go down, or up

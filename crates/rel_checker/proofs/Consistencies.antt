@@ -8,7 +8,7 @@ use Rattle.rel_checker.specs.Batches.{IsAgreeing, CanFlipTogether}
 use Rattle.rel_checker.specs.Neighbours.{HasNext, IsMutual, ReachesRow}
 use Rattle.rel_checker.specs.Searching.{RoundCameTo, HasSearchedFrom}
 use Rattle.rel_checker.specs.Flipping.{IsFlipped, FlipsTo, IsBuilt, IsProper, FlipsLeaveNoValley}
-use Rattle.result_rules.proofs.Gets.{All-get}
+use Rattle.tor_arena.proofs.Gets.{All-get}
 use Rattle.rel_checker.proofs.Rounds.{closed-reach}
 use Rattle.rel_checker.proofs.Servings.{Any-from}
 use Rattle.rel_checker.proofs.Flippings.{consistent_exactly}

@@ -8,7 +8,7 @@ use Rattle.result_text.specs.declared.file.ResultFile.{ResultFile}
 use Rattle.result_rules.specs.File.{its_claims, its_probes}
 use Rattle.rel_checker.specs.Flipping.{IsFlipped, flipped_orders, kept_lines, IsBuilt, IsProper, FlipsLeaveNoValley}
 use Rattle.rel_checker.specs.Serving.{Gains, GainsAt, ServesAt, First, first_failing}
-use Rattle.result_rules.proofs.Gets.{slice_get-map, take_get}
+use Rattle.tor_arena.proofs.Gets.{slice_get-map, take_get}
 use Rattle.rel_checker.proofs.Servings.{probe_of_gains, gains_of_probe, gains_flipped}
 
 pub first_more : (P : ℕ → Type 0) (k : ℕ) (first : Option ℕ) (holds : Bool) → First P k first → IsTrue holds ↔ P k → First P (k + 1) (first_failing first k holds)

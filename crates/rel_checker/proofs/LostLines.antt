@@ -1,7 +1,7 @@
 -- What the rule on lost walks asks of a line, as code finds it.
 use Rattle.std.proofs.Common.{◌≡◌, ◌↔◌, ℕ, ◌+◌, ◌<◌, List, [], ◌∷◌, ◌++◌, length, take, Some, slice_get, sym, ap, ap₂, ◌∙◌, subst, arith}
 use Rattle.std.proofs.lemmas.List.{take-map, length-take-le}
-use Rattle.std.proofs.lemmas.Option.{slice_get_within}
+use Rattle.std.proofs.lemmas.Option.{slice_get_within, same_Some}
 use Rattle.relationships.specs.declared.walk.Walk.{Walk}
 use Rattle.relationships.specs.Evidence.{Refutes}
 use Rattle.relationships.specs.Checking.{kept_of}
@@ -33,12 +33,9 @@ asks_lost file k line at =
       within,
       (
         λ right other at' walk lost.
-            let e : line ≡ other = some (sym at ∙ at') in
+            let e : line ≡ other = same_Some _ _ (sym at ∙ at') in
             let l : line.fate ≡ Lost walk = ap (λ (p : PathLine). p.fate) e ∙ lost in
             subst (λ (p : PathLine). Refutes (kept_before file k ++ (k + 1, p.path) ∷ []) walk) e (subst (λ A. Refutes A walk) named (right walk l)),
         λ asks walk lost. subst (λ A. Refutes A walk) (sym named) (asks line at walk lost),
       ),
     )
-  where
-    some : {a b : PathLine} → Some a ≡ Some b → a ≡ b
-    some e = cc

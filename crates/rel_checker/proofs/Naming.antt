@@ -8,6 +8,7 @@ use Rattle.relationships.specs.declared.fate.Fate.{Fate}
 use Rattle.relationships.specs.declared.fate.Fate.TheVariants.{Kept, Lost}
 use Rattle.result_text.specs.declared.file.PathLine.{PathLine}
 use Rattle.std.specs.Prelude.{if◌then◌else◌}
+use Rattle.std.proofs.lemmas.Option.{same_Some}
 use Rattle.relationships.specs.Fates.{is_kept, walk_of}
 use Rattle.result_rules.specs.File.{kept_among}
 use Rattle.rel_checker.specs.Naming.{nameable, path_if_kept}
@@ -56,13 +57,10 @@ named_next lines (Some next) number path is = (
     | inr e ↦ ap (λ (p : ℕ × List ℕ). Some p.1) e
   ],
   λ e.
-      let same : next.path ≡ path = some e in
+      let same : next.path ≡ path = same_Some _ _ e in
       subst (λ p. Contains (nameable lines (Some next)) (number, p)) same
       (subst (λ n. Contains (nameable lines (Some next)) (n, next.path)) (sym is) (Contains-push (kept_among lines) (length lines + 1, next.path))),
 )
-  where
-    some : {a b : List ℕ} → Some a ≡ Some b → a ≡ b
-    some e = cc
 
 -- what a kept line's number names: its path
 named_kept : (lines : List PathLine) (next : Option PathLine) (k : ℕ) (line : PathLine) → k < length lines → line ≡ get_or lines k line → is_none (walk_of line.fate) ≡ true →
@@ -105,7 +103,7 @@ fate_path line (Lost walk) = None
 
 pub named_by : (lines : List PathLine) (next : Option PathLine) (number : ℕ) (line : PathLine) (path : List ℕ) → 0 < number → number ≤ length lines → line ≡ get_or lines (number - 1) line →
     Contains (nameable lines next) (number, path) ↔ fate_path line line.fate ≡ Some path
-named_by lines next number line path some within is =
+named_by lines next number line path same_Some _ _ within is =
     let e : 1 + (number - 1) ≡ number = omega arith in
     let k : number - 1 < length lines = omega arith in (
       λ c.

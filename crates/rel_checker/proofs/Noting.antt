@@ -11,7 +11,7 @@ use Rattle.rel_checker.specs.Flipping.{climbs_on, number_of_steps, SameRows, Hav
 use Rattle.rel_checker.specs.PathSteps.{place_in, IsCodedStep, AreCodedSteps}
 use Rattle.rel_checker.proofs.Buildings.{length-with_next, next_cases, next_kept, next_last, path_more, length-with_implied, length-with_conflicting}
 use Rattle.rel_checker.proofs.Climbing.{climb}
-use Rattle.result_rules.proofs.Gets.{Contains-none, slice_get-replicate}
+use Rattle.tor_arena.proofs.Gets.{Contains-none, slice_get-replicate}
 use Rattle.rel_checker.proofs.StepLemmas.{length-steps, inside_lines, step_at}
 use Rattle.rel_checker.proofs.Turning.{steps_turned, steps_numbered}
 

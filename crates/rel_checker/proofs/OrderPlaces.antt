@@ -1,13 +1,13 @@
 -- Edge lines, and the orders to which they flip.
 use Rattle.std.proofs.Common.{◌≡◌, ◌≢◌, ◌↔◌, ℕ, ◌<◌, ◌≤◌, min, max, Option, Some, None, IsNone, IfSome, MatchOption, List, length, slice_get, refl, sym, ap, ◌∙◌, subst, arith, Contains}
-use Rattle.std.proofs.lemmas.Option.{same_Some}
+use Rattle.std.proofs.lemmas.Option.{same_Some, slice_get_within}
 use Rattle.relationships.specs.declared.label.Label.{Label}
 use Rattle.relationships.specs.declared.label.Label.TheVariants as label
 use Rattle.tor_arena.specs.Limits.{most_places}
 use Rattle.relationships.specs.Graph.{Edge, edge_of}
 use Rattle.result_text.specs.declared.file.EdgeLine.{EdgeLine}
 use Rattle.rel_checker.specs.Flipping.{flipped_by, flipped, flipped_orders, edges_of, FlipsTo, IsProper, AreApart}
-use Rattle.result_rules.proofs.Gets.{slice_get-map, slice_get-unmap, slice_get-lt, All-get, Contains-from_get}
+use Rattle.tor_arena.proofs.Gets.{slice_get-map, slice_get-unmap, All-get, Contains-from_has}
 
 pub pair : {a b c d : ℕ} → a ≡ c → b ≡ d → ◌≡◌ {A = ℕ × ℕ} (a, b) (c, d)
 pair e f = cc
@@ -59,7 +59,7 @@ module _ (lines : List EdgeLine) (ok : AreApart lines) where
 
   -- an order whose edge is in no line is none to which an edge flips
   pub absent : (x y : ℕ) → (Contains (edges_of lines) (edge_of x y) → ⊥) → (k : ℕ) → FlipsTo (flipped_orders lines) k x y → ⊥
-  absent x y none k t = none (Contains-from_get (edges_of lines) k (edge_of x y) (edge_from_flipped k x y t))
+  absent x y none k t = none (Contains-from_has (edges_of lines) (edge_of x y) (k, edge_from_flipped k x y t))
 
   -- nor is one whose edge flips to another
   pub otherwise : (place : ℕ) (line : EdgeLine) (x y : ℕ) → slice_get (edges_of lines) place ≡ Some (edge_of x y) → slice_get lines place ≡ Some line → (flipped line ≡ (x, y) → ⊥) →
@@ -71,7 +71,7 @@ module _ (lines : List EdgeLine) (ok : AreApart lines) where
       other (ap flipped is ∙ w.2)
 
 pub within_lines : (lines : List EdgeLine) (place : ℕ) (e : Edge) → slice_get (edges_of lines) place ≡ Some e → place < length lines
-within_lines lines place e at = let w = slice_get-unmap (λ (l : EdgeLine). (l.low, l.high)) lines place e at in slice_get-lt lines place w.0 w.1
+within_lines lines place e at = let w = slice_get-unmap (λ (l : EdgeLine). (l.low, l.high)) lines place e at in slice_get_within lines place w.0 w.1
 
 pub flips_of : (lines : List EdgeLine) (k x y : ℕ) (line : EdgeLine) → slice_get lines k ≡ Some line → flipped line ≡ (x, y) → FlipsTo (flipped_orders lines) k x y
 flips_of lines k x y line at e = slice_get-map flipped lines k line at ∙ ap (λ (p : ℕ × ℕ). Some p) e

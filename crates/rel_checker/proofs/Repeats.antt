@@ -11,7 +11,7 @@ use Rattle.result_rules.specs.File.{its_paths}
 use Rattle.result_rules.specs.declared.rule.Rule.TheVariants.{PathsDistinct}
 use Rattle.result_rules.specs.Rules.{Asks}
 use Rattle.rel_checker.specs.Steps.{FindsBreach}
-use Rattle.result_rules.proofs.Gets.{slice_get-some}
+use Rattle.tor_arena.proofs.Gets.{slice_get-some}
 
 row_at-within : (rows : List (List ℕ)) (k : ℕ) (x : List ℕ) → k < length rows → row_at rows k ≡ get_or rows k x
 row_at-within rows k x within = unwrap_or-slice_get rows k [] ∙ get_or_default rows k [] x within

@@ -1,12 +1,12 @@
 -- A search along rows, in rounds: what one step adds, and what a whole search comes to.
 use Rattle.std.proofs.Common.{false, ◌≡◌, ◌≢◌, ◌⊎◌, inl, inr, ℕ, ◌+◌, ◌<◌, ◌≤◌, List, [], ◌∷◌, ◌++◌, Some, length, set, get_or, slice_get, refl, sym, ap, ◌∙◌, subst, arith, Contains, append_assoc, append-nil, length-append, length-set, eq-eqb, if◌then◌else◌, nat_eq}
 use Rattle.std.proofs.lemmas.Bool.{cases_lt, cases_Bool, eqb-true}
-use Rattle.std.proofs.lemmas.Option.{get_or_from_slice_get, same_Some}
+use Rattle.std.proofs.lemmas.Option.{get_or_from_slice_get, same_Some, slice_get_within}
 use Rattle.std.proofs.lemmas.List.Elements.{Contains-push, Contains-append_left, Contains-append_right, Contains-append_cases}
 use Rattle.std.proofs.lemmas.List.Sums.{sum_by-set}
 use Rattle.rel_checker.specs.Neighbours.{HasNext, ReachesRow, here, onward}
 use Rattle.rel_checker.specs.Searching.{RoundCameTo, unvisited, RoundComesTo, Search, IsRoundClosed, HasSearchedFrom}
-use Rattle.result_rules.proofs.Gets.{get_from_Contains, Contains-from_get, Contains-none, Contains-one, slice_get-lt, slice_get-some, slice_get-push_old, slice_get-set_cases, slice_get-set_other, slice_get-set_same}
+use Rattle.tor_arena.proofs.Gets.{has-from_Contains, Contains-from_has, Contains-none, Contains-one, slice_get-some, slice_get-push_old, slice_get-set_cases, slice_get-set_other, slice_get-set_same}
 
 -- ---- marks
 
@@ -37,7 +37,7 @@ rounds-old round k rounds found h = record {
 unvisited_less : (round k m : ℕ) (rounds : List ℕ) → slice_get rounds k ≡ Some m → m ≢ round → unvisited round (set rounds k round) + 1 ≡ unvisited round rounds
 unvisited_less round k m rounds at ne =
     let f : ℕ → ℕ = λ n. if nat_eq n round then 0 else 1 in
-    let lt = slice_get-lt rounds k m at in
+    let lt = slice_get_within rounds k m at in
     let s = sum_by-set f rounds k round 0 lt in
     let differs : nat_eq m round ≡ false = elim (cases_Bool (nat_eq m round)) [ inl t ↦ absurd (ne (eqb-true m round t)) | inr n ↦ n ] in
     let one : f (get_or rounds k 0) ≡ 1 = ap f (get_or_from_slice_get rounds k m 0 at) ∙ ap (λ b. if b then 0 else 1) differs in
@@ -65,7 +65,7 @@ rounds-new round k m rounds new found found' at ne e e' = rw (e, e') (record {
 })
   where
     here_now : RoundCameTo (set rounds k round) round k
-    here_now = slice_get-set_same rounds k round (slice_get-lt rounds k m at)
+    here_now = slice_get-set_same rounds k round (slice_get_within rounds k m at)
 
 pub rounds-more : (round : ℕ) (seen more old mid new f f' f'' : List ℕ) → RoundComesTo round seen old mid f f' → RoundComesTo round more mid new f' f'' → RoundComesTo round (seen ++ more) old new f f''
 rounds-more round seen more old mid new f f' f'' a b = record {
@@ -112,7 +112,7 @@ search-more rows start round next k old mid new found found' row s at its_row m 
     | inl h ↦ let w = s.reached j h in (w.0, w.1, m.kept j w.2)
     | inr h ↦
         let w = m.from j h in
-        let from = s.reached k (Contains-from_get found next k at) in
+        let from = s.reached k (Contains-from_has found k (next, at)) in
         (onward from.0 (row, its_row, w.0), λ o. w.1 (s.kept j o), w.2)
   ];
   followed = λ i j lt at_i l h. elim (cases_lt i next) [
@@ -132,7 +132,7 @@ search-more rows start round next k old mid new found found' row s at its_row m 
   ];
   kept = λ j h. m.kept j (s.kept j h);
   many = m.many ∙ s.many;
-  within = omega (arith, slice_get-lt found next k at, ap length m.more, length-append found m.added);
+  within = omega (arith, slice_get_within found next k at, ap length m.more, length-append found m.added);
 }
   where
     old_at : (n j : ℕ) → slice_get found n ≡ Some j → slice_get found' n ≡ Some j
@@ -140,7 +140,7 @@ search-more rows start round next k old mid new found found' row s at its_row m 
 
     old_get : (n j : ℕ) → n < next → slice_get found' n ≡ Some j → slice_get found n ≡ Some j
     old_get n j lt e =
-        let w = slice_get-some found n (omega (arith, slice_get-lt found next k at)) in
+        let w = slice_get-some found n (omega (arith, slice_get_within found next k at)) in
         w.1 ∙ sym (old_at n w.0 w.1) ∙ e
 
 pub search-end : (rows : List (List ℕ)) (start round next : ℕ) (old new found : List ℕ) → IsRoundClosed rows old round → Search rows start round old new found next → length found ≤ next →
@@ -158,7 +158,7 @@ search-end rows start round next old new found closed s done = record {
     new_closed : (i j : ℕ) → RoundCameTo new round i → HasNext rows i j → RoundCameTo new round j
     new_closed i j h n = elim (s.others i round h) [
       | inl o ↦ s.kept j (closed i j o n)
-      | inr o ↦ let w = get_from_Contains found i o.1 in s.followed w.0 i (omega (arith, slice_get-lt found w.0 i w.1)) w.1 j n
+      | inr o ↦ let w = has-from_Contains found i o.1 in s.followed w.0 i (omega (arith, slice_get_within found w.0 i w.1)) w.1 j n
     ]
 
     comes : {k : ℕ} → ReachesRow rows start k → RoundCameTo new round k

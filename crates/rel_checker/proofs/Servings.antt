@@ -15,7 +15,7 @@ use Rattle.rel_checker.specs.Neighbours.{ReachesRow}
 use Rattle.rel_checker.specs.Searching.{RoundCameTo, HasSearchedFrom}
 use Rattle.rel_checker.specs.Flipping.{flipped_by, flipped, flipped_orders, FlipsTo, IsBuilt, IsProper, FlipsLeaveNoValley}
 use Rattle.rel_checker.specs.Serving.{is_wanted, IsWantedAt, Gains, IsCovered}
-use Rattle.result_rules.proofs.Gets.{get_from_Contains, Contains-from_get, slice_get-map, slice_get-unmap}
+use Rattle.tor_arena.proofs.Gets.{has-from_Contains, Contains-from_has, slice_get-map, slice_get-unmap}
 use Rattle.rel_checker.proofs.Flippings.{reaches_exactly, none_flips}
 
 -- ---- any of a list
@@ -113,7 +113,7 @@ module _ (lines : List EdgeLine) (kept implied conflicting : List (List ℕ)) (b
       let led : ReachesRow implied start k = elim ((reach.exact k).0 fresh.0) [ inl o ↦ absurd (fresh.1 o) | inr l ↦ l ] in
       record {
         claim = claim_on line;
-        claimed = Contains-from_get (map claim_on lines) k (claim_on line) (slice_get-map claim_on lines k line at);
+        claimed = Contains-from_has (map claim_on lines) (claim_on line) (k, slice_get-map claim_on lines k line at);
         is_open = open_of_wanted line wanted;
         over = (flipped line).0;
         under = (flipped line).1;
@@ -126,7 +126,7 @@ module _ (lines : List EdgeLine) (kept implied conflicting : List (List ℕ)) (b
   gained : (earlier : List (ℕ × ℕ)) (p : ℕ × ℕ) (g : Gains kept (map claim_on lines) earlier p) →
       (k : ℕ) × (line : EdgeLine) × (slice_get lines k ≡ Some line) × FlipsTo (flipped_orders lines) k g.over g.under × (is_wanted line.mark line.label ≡ true)
   gained earlier p g =
-      let c = get_from_Contains (map claim_on lines) g.claim g.claimed in
+      let c = has-from_Contains (map claim_on lines) g.claim g.claimed in
       let l = slice_get-unmap claim_on lines c.0 g.claim c.1 in
       let other = subst (λ w. OtherOrder w g.over g.under) (sym l.2) g.other in
       let open' = subst (λ (w : Claim). IsFalse w.forced) (sym l.2) g.is_open in

@@ -3,7 +3,7 @@ use Rattle.std.proofs.Common.{◌≡◌, ◌⊎◌, inl, inr, ℕ, zero, suc, �
 use Rattle.std.proofs.Math.Dec.{lit≤}
 use Rattle.std.specs.List.{AllByRecursion}
 use Rattle.std.proofs.lemmas.Bool.{false≢true, cases_lt, cases_Bool, cases_order, both_ways}
-use Rattle.std.proofs.lemmas.Option.{same_Some, slice_get-get_or, slice_get_past, get_or_from_slice_get}
+use Rattle.std.proofs.lemmas.Option.{same_Some, slice_get-get_or, slice_get_past, get_or_from_slice_get, slice_get_within}
 use Rattle.std.proofs.lemmas.List.{length-map, take_all}
 use Rattle.std.proofs.lemmas.List.Elements.{All-contains_itself, All-cons, All-nil, All-head, All-tail}
 use Rattle.std.proofs.lemmas.List.Sums.{sum_by-cons}
@@ -31,7 +31,7 @@ use Rattle.result_rules.specs.File.{its_paths, its_edges, its_labels, claim_on}
 use Rattle.result_rules.specs.declared.rule.Rule.TheVariants.{PathsCleaned, EdgesListed, KeptValleyFree}
 use Rattle.result_rules.specs.Rules.{IsMet}
 use Rattle.rel_checker.specs.Flipping.{flipped_by, flipped, flipped_orders, edges_of, FlipsTo, kept_lines, IsListed, IsBuilt, FlipsLeaveNoValley, AreApart}
-use Rattle.result_rules.proofs.Gets.{slice_get-lt, slice_get-some, slice_get-map, slice_get-unmap, All-get, Contains-from_get, get_from_Contains}
+use Rattle.tor_arena.proofs.Gets.{slice_get-some, slice_get-map, slice_get-unmap, All-get, Contains-from_has, has-from_Contains}
 use Rattle.rel_checker.specs.Serving.{IsLaidOut}
 use Rattle.relationships.specs.Checking.{Claim}
 use Rattle.rel_checker.proofs.OrderPlaces.{pair, proper, flips_of, edge_of-swap}
@@ -49,7 +49,7 @@ same_lists (x ∷ xs) (y ∷ ys) h = let e : x ≡ y = same_Some x y (h 0) in le
 
 module _ (file : ResultFile) (cleaned : IsMet file PathsCleaned) where
   path_distinct : (k : ℕ) (line : PathLine) → slice_get file.paths k ≡ Some line → AllDistinct line.path
-  path_distinct k line at = apart_if_cleaned line.path (cleaned k (slice_get-lt file.paths k line at) line at).cleaned
+  path_distinct k line at = apart_if_cleaned line.path (cleaned k (slice_get_within file.paths k line at) line at).cleaned
 
   pub lines_distinct : All (λ line. AllDistinct line.path) file.paths
   lines_distinct i d lt = path_distinct i (get_or file.paths i d) (slice_get-get_or file.paths i d lt)
@@ -226,9 +226,9 @@ kept_line : (lines : List PathLine) (path : List ℕ) → Contains (kept_lines l
 kept_line lines path c =
     let paths = map (λ (p : PathLine). p.path) lines in
     let keeps = map is_none (map (λ (p : PathLine). walk_of p.fate) lines) in
-    let at = get_from_Contains (kept_lines lines) path c in
+    let at = has-from_Contains (kept_lines lines) path c in
     let pair = slice_get-unmap (λ (p : ℕ × List ℕ). p.1) (kept_from 1 paths keeps) at.0 path at.1 in
-    let r = kept_from-out 1 paths keeps pair.0.0 pair.0.1 (Contains-from_get (kept_from 1 paths keeps) at.0 pair.0 pair.1) in
+    let r = kept_from-out 1 paths keeps pair.0.0 pair.0.1 (Contains-from_has (kept_from 1 paths keeps) pair.0 (at.0, pair.1)) in
     let i = r.0 in
     let line = slice_get-some lines i (omega (arith, r.2, length-map lines (λ (p : PathLine). p.path))) in
     let its_path = slice_get-map (λ (p : PathLine). p.path) lines i line.0 line.1 in
@@ -295,8 +295,8 @@ module _ (file : ResultFile) (cleaned : IsMet file PathsCleaned) (listed : IsMet
       peering_law (its_labels file) (kept_lines file.paths)
       (λ i d lt.
       let path = get_or (kept_lines file.paths) i d in
-      let w = kept_line file.paths path (Contains-from_get (kept_lines file.paths) i path (slice_get-get_or (kept_lines file.paths) i d lt)) in
-      subst (ValleyFree (its_labels file)) w.3 (served w.0 (slice_get-lt file.paths w.0 w.1 w.2) w.1 w.2 w.4))
+      let w = kept_line file.paths path (Contains-from_has (kept_lines file.paths) path (i, slice_get-get_or (kept_lines file.paths) i d lt)) in
+      subst (ValleyFree (its_labels file)) w.3 (served w.0 (slice_get_within file.paths w.0 w.1 w.2) w.1 w.2 w.4))
       O (reading_agrees (its_labels file) (edges (kept_lines file.paths)))
 
   its_once : Once (edges_of file.edges)
@@ -324,7 +324,7 @@ module _ (file : ResultFile) (cleaned : IsMet file PathsCleaned) (listed : IsMet
   -- two neighbours on a kept path are the ends of an edge line
   neighbours : (x y : ℕ) → Contains (edges_of file.edges) (edge_of x y) → ((k : ℕ) × FlipsTo (flipped_orders file.edges) k x y) ⊎ ((k : ℕ) × FlipsTo (flipped_orders file.edges) k y x)
   neighbours x y c =
-      let at = get_from_Contains (edges_of file.edges) (edge_of x y) c in
+      let at = has-from_Contains (edges_of file.edges) (edge_of x y) c in
       let w = slice_get-unmap (λ (e : EdgeLine). (e.low, e.high)) file.edges at.0 (edge_of x y) at.1 in
       elim (flips_either w.0.label w.0.low w.0.high x y (sym w.2)) [
         | inl t ↦ inl (at.0, flips_of file.edges at.0 x y w.0 w.1 t)

@@ -9,7 +9,7 @@ use Rattle.result_text.specs.declared.file.EdgeLine.{EdgeLine}
 use Rattle.result_rules.specs.File.{last_two, shown_orders}
 use Rattle.rel_checker.specs.Flipping.{edges_of, AreApart}
 use Rattle.rel_checker.specs.Serving.{IsShownBy}
-use Rattle.result_rules.proofs.Gets.{slice_get-map, slice_get-set_cases, slice_get-set_other, slice_get-set_same, All-get, Contains-from_get}
+use Rattle.tor_arena.proofs.Gets.{slice_get-map, slice_get-set_cases, slice_get-set_other, slice_get-set_same, All-get, Contains-from_has}
 use Rattle.rel_checker.proofs.OrderPlaces.{pair, edge_of-rising, edge_of-falling}
 
 -- the orders of an edge are two
@@ -60,7 +60,7 @@ module _ (lines : List EdgeLine) (ok : AreApart lines) where
     λ t. still_one orders (a, b) line ((h k line at).0 t),
     λ one. elim (one_cases orders a b k line at one) [
       | inl o ↦ (h k line at).1 o
-      | inr e ↦ absurd (none (subst (Contains (edges_of lines)) (sym e) (Contains-from_get (edges_of lines) k (line.low, line.high) (edge_at k line at))))
+      | inr e ↦ absurd (none (subst (Contains (edges_of lines)) (sym e) (Contains-from_has (edges_of lines) (line.low, line.high) (k, edge_at k line at))))
     ],
   )
 

@@ -2,7 +2,7 @@
 use Rattle.std.proofs.Common.{◌≡◌, ◌↔◌, ℕ, zero, suc, ◌+◌, ◌<◌, List, [], ◌∷◌, ◌++◌, get_or, length, take, Some, slice_get, refl, sym, ap, ◌∙◌, subst, arith}
 use Rattle.std.proofs.lemmas.Grind.{flat_map-append}
 use Rattle.std.proofs.lemmas.List.{take_more}
-use Rattle.std.proofs.lemmas.Option.{slice_get_within, get_or_from_slice_get}
+use Rattle.std.proofs.lemmas.Option.{slice_get_within, get_or_from_slice_get, same_Some}
 use Rattle.relationships.specs.declared.walk.Walk.{Walk}
 use Rattle.relationships.specs.Evidence.{Numbered, EndsWith, Shows}
 use Rattle.result_text.specs.declared.file.ResultFile.{ResultFile}
@@ -70,10 +70,7 @@ module _ (file : ResultFile) (k : ℕ) (walk : Walk) (at : slice_get file.whys k
   asks_shown shown before = (
     in_file,
     (
-      λ h other at'. subst (λ (w : Walk). (a b : ℕ) × Shows (kept_among file.paths) (shown_orders (take k file.whys)) w a b) (some (sym at ∙ at')) (rw before at h),
+      λ h other at'. subst (λ (w : Walk). (a b : ℕ) × Shows (kept_among file.paths) (shown_orders (take k file.whys)) w a b) (same_Some _ _ (sym at ∙ at')) (rw before at h),
       λ asks. rw before (asks walk at),
     ),
   )
-    where
-      some : {a b : Walk} → Some a ≡ Some b → a ≡ b
-      some e = cc

@@ -14,7 +14,7 @@ use Rattle.result_rules.specs.File.{its_paths}
 use Rattle.rel_checker.specs.Flipping.{edges_of}
 use Rattle.rel_checker.specs.PathSteps.{place_in, IsCodedStep, AreCodedStepsFrom, AreCodedSteps, HaveCodedSteps}
 use Rattle.tor_numbers.specs.Edges.{with_edge}
-use Rattle.result_rules.proofs.Gets.{slice_get-push_old, slice_get-map}
+use Rattle.tor_arena.proofs.Gets.{slice_get-push_old, slice_get-map}
 
 -- ---- more edges
 

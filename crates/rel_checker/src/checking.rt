@@ -18,11 +18,8 @@ use crate::walks::walk_rules::{find_unrefuted, find_unshown};
 use result_rules::{Rule, Verdict, right_totals};
 use result_text::ResultFile;
 use std::alloc::Global;
-use tor_arena::{Keys, NoMemory, PathId, Rows};
+use tor_arena::{Keys, MAX_RATIO, NoMemory, PathId, Rows};
 use tor_numbers::EdgeTable;
-
-/// The most that the ratio of degrees of a peering may be.
-const MAX_RATIO: u32 = 1_000_000;
 
 /// Whether the file meets the rules on a result alone: the ratio, clean and distinct paths, walks that refute each lost path, the
 /// edges, valley-free kept paths, supports, why lines, marks and totals. Yes exactly if all are met, and the file is then valid. No

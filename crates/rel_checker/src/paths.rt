@@ -6,10 +6,10 @@ ghost use Rattle.result_rules.specs.declared.rule.Rule.{Rule};
 ghost use Rattle.rel_checker.specs.Steps.{FindsBreach};
 
 use crate::lending::path_line_at;
-use path_clean::{MAX_NUMBERS, MAX_PATHS, first_repeated, is_clean_path};
+use path_clean::{first_repeated, is_clean_path};
 use result_text::{PathLineRef, ResultFile};
 use std::alloc::Global;
-use tor_arena::{Keys, NoMemory};
+use tor_arena::{Keys, MAX_NUMBERS, MAX_PATHS, NoMemory};
 
 /// The first path line whose path is not clean or was never seen, or with which there are too many paths or numbers.
 pub(crate) fn find_unclean(alloc: Global, file: &ResultFile) -> Result<Option<usize>, NoMemory>

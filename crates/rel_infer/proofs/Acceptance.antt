@@ -7,6 +7,7 @@ use Rattle.std.proofs.lemmas.List.{take-map}
 use Rattle.std.proofs.lemmas.List.Sums.{sum_by-cons}
 use Rattle.std.proofs.lemmas.Slice.Eq.{bytes_eq-Decides}
 use Rattle.std.proofs.lemmas.List.Elements.{All-head, All-tail}
+use Rattle.std.proofs.lemmas.Option.{slice_get_within}
 use Rattle.relationships.specs.declared.walk.Walk.{Walk}
 use Rattle.relationships.specs.declared.fate.Fate.{Fate}
 use Rattle.relationships.specs.declared.fate.Fate.TheVariants.{Kept, Lost}
@@ -25,7 +26,7 @@ use Rattle.result_rules.specs.declared.rule.Rule.{Rule}
 use Rattle.result_rules.specs.declared.rule.Rule.TheVariants.{RatioBounded, PathsCleaned, PathsDistinct, LostRefuted, EdgesListed}
 use Rattle.result_rules.specs.declared.rule.Rule.TheVariants.{KeptValleyFree, SupportCounted, OrdersShown, MarksBorneOut, TotalsRight}
 use Rattle.result_rules.specs.Rules.{Asks, Accepts, IsSound, IsCounted}
-use Rattle.result_rules.proofs.Gets.{slice_get-map, slice_get-lt, All-get}
+use Rattle.tor_arena.proofs.Gets.{slice_get-map, All-get}
 use Rattle.result_rules.proofs.WalkLaws.{kept_lines, paths_in, walks_in, last_two-from_ends}
 use Rattle.rel_infer.specs.Results.{IsResultOf}
 
@@ -178,7 +179,7 @@ module _ (sets : Sets) (ratio : ℕ) (rows : List Counted) (counts : CauseCounts
     cleaned = all_at is_cleaned (its_paths file) k line.path sound.clean (path_get k line at);
     seen = All-get (λ n. 1 ≤ n) (times_in file.paths) k line.times sound.seen (slice_get-map (λ (p : PathLine). p.times) file.paths k line at);
     few =
-        let lt = slice_get-lt (its_paths file) k line.path (path_get k line at) in
+        let lt = slice_get_within (its_paths file) k line.path (path_get k line at) in
         let few = sound.few in
         omega arith;
     numbers =

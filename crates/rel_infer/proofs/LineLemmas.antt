@@ -9,7 +9,7 @@ use Rattle.relationships.specs.Checking.{Claim, claimed_labels}
 use Rattle.relationships.specs.Marking.{claims_of}
 use Rattle.result_text.specs.declared.file.EdgeLine.{EdgeLine}
 use Rattle.result_rules.specs.File.{claim_on}
-use Rattle.result_rules.proofs.Gets.{take_get}
+use Rattle.tor_arena.proofs.Gets.{take_get}
 use Rattle.rel_infer.specs.EdgeLines.{AreLinesOf}
 
 abbrev pub pair_of : EdgeLine → Edge

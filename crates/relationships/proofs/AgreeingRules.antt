@@ -3,6 +3,7 @@ use Rattle.std.proofs.Common.{◌≡◌, ◌≢◌, ◌↔◌, ℕ, min, max, in
 use Rattle.std.specs.List.{list_any, AllByRecursion}
 use Rattle.std.proofs.lemmas.Bool.{cases_Bool}
 use Rattle.std.proofs.lemmas.List.Elements.{All-append, All-contains, All-contains_itself, All-from_get_or, All-from_recursion, recursion_from_All, Contains-get_or, Contains-append_cases}
+use Rattle.tor_arena.proofs.Gets.{Contains-map}
 use Rattle.relationships.specs.declared.given.Given.{Given}
 use Rattle.relationships.specs.declared.label.Label.{Label}
 use Rattle.relationships.specs.declared.walk.Walk.{Walk}
@@ -18,7 +19,7 @@ use Rattle.relationships.proofs.Edges.{over_kept, relaxing_law}
 use Rattle.relationships.proofs.Neighbours.{edge_law}
 use Rattle.relationships.proofs.Checked.{kept_all, label_of_claim}
 use Rattle.relationships.proofs.GivenLemmas.{any_there, return_free, ends_hold, each_end, once_all, all_givens_law}
-use Rattle.relationships.proofs.GivenWalks.{Contains-map, rules_with}
+use Rattle.relationships.proofs.GivenWalks.{rules_with}
 
 -- ---- some of the paths have edges of the paths alone
 

@@ -5,6 +5,7 @@ use Rattle.std.proofs.lemmas.Bool.{cases_Bool, false≢true}
 use Rattle.std.proofs.lemmas.Option.{get_or_from_slice_get, slice_get_within}
 use Rattle.std.proofs.lemmas.List.{length-map, get_or-map, map-append}
 use Rattle.std.proofs.lemmas.List.Elements.{All-append, All-weaker, All-from_recursion, recursion_from_All, Contains-append_left, Contains-append_right, Contains-append_cases}
+use Rattle.tor_arena.proofs.Gets.{Contains-map}
 use Rattle.relationships.specs.declared.given.Given.{Given}
 use Rattle.relationships.specs.declared.label.Label.{Label}
 use Rattle.relationships.specs.declared.walk.Link.{Link}
@@ -99,11 +100,6 @@ no_givens_law = (
 )
 
 -- ---- the returns of all givens, under the number 0, in front of the paths
-
-pub Contains-map : {X Y : Type 0} (f : X → Y) (xs : List X) (x : X) → Contains xs x → Contains (map f xs) (f x)
-Contains-map f xs x c =
-    let many = length-map xs f in let lt = c.1 in
-    (c.0, omega (arith, many, lt), get_or-map f xs c.0 x (f x) c.1 ∙ ap f c.2)
 
 abbrev at_zero : Given → ℕ × List ℕ
 at_zero g = (0, return_of g)

@@ -1,7 +1,7 @@
 -- What follows where all rules are met.
 use Rattle.std.proofs.Common.{◌≡◌, ℕ, zero, suc, ◌+◌, ◌<◌, List, [], ◌∷◌, ◌++◌, length, map, max, refl, sym, ap, ap₂, ◌∙◌, subst, arith, All, Contains, Some, None, is_none, get_or, slice_get}
 use Rattle.std.specs.List.{AllByRecursion}
-use Rattle.std.proofs.lemmas.Option.{slice_get_within}
+use Rattle.std.proofs.lemmas.Option.{slice_get_within, same_Some}
 use Rattle.std.proofs.lemmas.List.{map-append}
 use Rattle.std.proofs.lemmas.List.Elements.{All-from_recursion}
 use Rattle.relationships.specs.declared.walk.Walk.{Walk}
@@ -32,9 +32,6 @@ pub each_at : {X : Type 0} (P : X → Type 0) (xs : List X) → ((k : ℕ) (x : 
 each_at P [] h = tt
 each_at P (x ∷ xs) h = (h 0 x refl, each_at P xs (λ k. h (suc k)))
 
-pub some_parts : {X : Type 0} {x y : X} → Some x ≡ Some y → x ≡ y
-some_parts {X} {x} {y} e = ap (λ o. elim o as (λ _. X) [ Some z ↦ z | None ↦ x ]) e
-
 pub none_some : {X : Type 0} (x : X) → None ≡ Some x → ⊥
 none_some x e = cc
 
@@ -42,7 +39,7 @@ pub same_at : (es fs : List Edge) → ((k : ℕ) → k < max (length es) (length
 same_at [] [] h = refl
 same_at [] (f ∷ fs) h = absurd (none_some f (h 0 (omega arith)))
 same_at (e ∷ es) [] h = absurd (none_some e (sym (h 0 (omega arith))))
-same_at (e ∷ es) (f ∷ fs) h = ap₂ (λ x xs. x ∷ xs) (some_parts (h 0 (omega arith))) (same_at es fs (λ k lt. h (suc k) (omega arith)))
+same_at (e ∷ es) (f ∷ fs) h = ap₂ (λ x xs. x ∷ xs) (same_Some _ _ (h 0 (omega arith))) (same_at es fs (λ k lt. h (suc k) (omega arith)))
 
 pub same_length : {X Y : Type 0} (f : X → Y) (xs : List X) → length (map f xs) ≡ length xs
 same_length f [] = refl

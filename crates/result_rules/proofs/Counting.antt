@@ -2,10 +2,11 @@
 use Rattle.std.proofs.Common.{◌≡◌, inl, inr, ℕ, ◌+◌, Bool, not, cond, List, [], ◌∷◌, map, Option, Some, None, option_map, slice_get, take, ◌++◌, length, count_by, refl, sym, ap, ap₂, ◌∙◌, arith}
 use Rattle.std.proofs.lemmas.List.Sums.{sum_by-cons, sum_by-append}
 use Rattle.std.proofs.lemmas.Bool.{cases_Bool}
+use Rattle.tor_arena.proofs.Counting.{count-append}
 use Rattle.relationships.specs.declared.fate.Fate.{Fate}
 use Rattle.relationships.specs.Fates.{is_kept}
 use Rattle.result_text.specs.declared.file.Totals.{Totals}
-use Rattle.result_rules.proofs.Gets.{take_get}
+use Rattle.tor_arena.proofs.Gets.{take_get}
 
 count-cons : {X : Type 0} (p : X → Bool) (x : X) (xs : List X) → count_by p (x ∷ xs) ≡ cond (p x) 1 0 + count_by p xs
 count-cons p x xs = sum_by-cons (λ y. cond (p y) 1 0) x xs
@@ -30,9 +31,6 @@ count_with_others p (x ∷ xs) =
           let b : count_by (λ x. not (p x)) (x ∷ xs) ≡ 1 + count_by (λ x. not (p x)) xs = others ∙ ap (λ b. cond (not b) 1 0 + count_by (λ x. not (p x)) xs) f in
           omega (arith, a, b, rest)
     ]
-
-count-append : {X : Type 0} (p : X → Bool) (xs ys : List X) → count_by p (xs ++ ys) ≡ count_by p xs + count_by p ys
-count-append p xs ys = sum_by-append (λ y. cond (p y) 1 0) xs ys
 
 pub totals_are : (kept kept' lost lost' edges forced forced' peers peers' : ℕ) → kept ≡ kept' → lost ≡ lost' → forced ≡ forced' → peers ≡ peers' →
     ◌≡◌ {A = Totals} (record { kept = kept; lost = lost; edges = edges; forced = forced; peers = peers })

@@ -1,7 +1,6 @@
 pub mod Acceptance
 pub mod Accepted
 pub mod Counting
-pub mod Gets
 pub mod MarkLaws
 pub mod OneVerdict
 pub mod WalkLaws

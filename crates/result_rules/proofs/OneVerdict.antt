@@ -2,6 +2,7 @@
 use Rattle.std.proofs.Common.{◌≡◌, ◌-◌, inl, inr, ℕ, List, Option, Some, None, refl, sym, ap, subst, ◌∙◌, arith, ◌==◌}
 use Rattle.std.specs.Prelude.{slice_get, if◌then◌else◌}
 use Rattle.std.proofs.lemmas.Bool.{cases_order}
+use Rattle.std.proofs.lemmas.Option.{same_Some}
 use Rattle.path_clean.specs.Counts.{CauseCounts}
 use Rattle.path_clean.specs.Rows.{Counted}
 use Rattle.result_text.specs.declared.file.ResultFile.{ResultFile}
@@ -40,11 +41,8 @@ numbered_back OrdersShown = refl
 numbered_back MarksBorneOut = refl
 numbered_back TotalsRight = refl
 
-some_same : (r s : Rule) → ◌≡◌ {A = Option Rule} (Some r) (Some s) → r ≡ s
-some_same r s e = cc
-
 same_rule : (r s : Rule) → rule_number r ≡ rule_number s → r ≡ s
-same_rule r s e = some_same r s (sym (numbered_back r) ∙ ap numbered e ∙ numbered_back s)
+same_rule r s e = same_Some r s (sym (numbered_back r) ∙ ap numbered e ∙ numbered_back s)
 
 one_place : (file : ResultFile) (rule : Rule) (j k : ℕ) → BreaksFirst file rule j → BreaksFirst file rule k → j ≡ k
 one_place file rule j k a b = elim (cases_order j k) [

@@ -4,6 +4,7 @@ use Rattle.std.specs.Prelude.{IfSome}
 use Rattle.std.proofs.Math.Seq.{drop-append_seam}
 use Rattle.std.proofs.lemmas.List.{append-nil, length-append}
 use Rattle.std.specs.Io.KnownBytes.{prepend_known, IsAtEnd}
+use Rattle.std.proofs.lemmas.Option.{same_Some}
 use Rattle.run_base.specs.WholeFile.{IsLong}
 
 -- one part more
@@ -17,26 +18,17 @@ gathered_more before mid (Some rest) bytes part new is more gains =
 pub gathered_all : (before now : Option (List ℕ)) (bytes : List ℕ) → before ≡ prepend_known bytes now → IsAtEnd now → IfSome before (λ left. left ≡ bytes)
 gathered_all None now bytes is end = tt
 gathered_all (Some left) None bytes is end = absurd cc
-gathered_all (Some left) (Some rest) bytes is end = some_is left (bytes ++ rest) is ∙ ap (λ (t : List ℕ). bytes ++ t) end ∙ append-nil bytes
-  where
-    some_is : (x y : List ℕ) → Some x ≡ Some y → x ≡ y
-    some_is x y e = cc
+gathered_all (Some left) (Some rest) bytes is end = same_Some left (bytes ++ rest) is ∙ ap (λ (t : List ℕ). bytes ++ t) end ∙ append-nil bytes
 
 -- too much is there where too much is gathered
 pub gathered_long : (most : ℕ) (before now : Option (List ℕ)) (bytes : List ℕ) → before ≡ prepend_known bytes now → most < length bytes → IfSome before (IsLong most)
 gathered_long most None now bytes is more = tt
 gathered_long most (Some left) None bytes is more = absurd cc
-gathered_long most (Some left) (Some rest) bytes is more = omega (arith, ap length (some_is left (bytes ++ rest) is), length-append bytes rest, more)
-  where
-    some_is : (x y : List ℕ) → Some x ≡ Some y → x ≡ y
-    some_is x y e = cc
+gathered_long most (Some left) (Some rest) bytes is more = omega (arith, ap length (same_Some left (bytes ++ rest) is), length-append bytes rest, more)
 
 -- what is left is all behind what is gathered
 pub gathered_rest : (before now : Option (List ℕ)) (bytes : List ℕ) (n : ℕ) → before ≡ prepend_known bytes now → length bytes ≡ n → IfSome before (λ left. now ≡ Some (drop n left))
 gathered_rest None now bytes n is size = tt
 gathered_rest (Some left) None bytes n is size = absurd cc
 gathered_rest (Some left) (Some rest) bytes n is size =
-    ap (λ (t : List ℕ). Some t) (sym (ap₂ drop (sym size) (some_is left (bytes ++ rest) is) ∙ drop-append_seam bytes rest))
-  where
-    some_is : (x y : List ℕ) → Some x ≡ Some y → x ≡ y
-    some_is x y e = cc
+    ap (λ (t : List ℕ). Some t) (sym (ap₂ drop (sym size) (same_Some left (bytes ++ rest) is) ∙ drop-append_seam bytes rest))

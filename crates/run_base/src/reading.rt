@@ -1,10 +1,10 @@
 //! The reading of dumps, one after the other.
 ghost use Rattle.std.specs.Prelude.{◌≡◌, ◌≢◌, ◌≤◌, ◌-◌, ◌<◌, Ok, Err, OnOk, IfErr, IfSome, IsOk, length, take};
 ghost use Rattle.std.specs.Io.KnownBytes.{IsAtEnd};
-ghost use Rattle.tor_arena.specs.Limits.{max_paths};
 ghost use Rattle.tor_io.specs.Counts.{Rose};
 ghost use Rattle.dump_read.specs.Seen.{Absent, end_named};
 ghost use Rattle.dump_read.specs.Refusals.{IsOfDump};
+ghost use Rattle.tor_arena.specs.Limits.{max_paths};
 ghost use Rattle.run_base.specs.Reading.{nothing, seen_from};
 
 use dump_read::{DumpError, Taken, read_dump};

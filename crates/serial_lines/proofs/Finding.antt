@@ -14,7 +14,7 @@ use Rattle.relationships.proofs.Edges.{same_edge}
 use Rattle.relationships.proofs.FewReturns.{same-equivalence}
 use Rattle.tor_numbers.specs.Edges.{with_edge, edge_at}
 use Rattle.tor_numbers.proofs.EdgeLists.{with_edge-same, with_edge-new}
-use Rattle.tor_numbers.proofs.Gets.{Contains-from_has, has-from_Contains}
+use Rattle.tor_arena.proofs.Gets.{Contains-from_has, has-from_Contains}
 use Rattle.serial_lines.specs.declared.line.RelLine.{RelLine}
 use Rattle.serial_lines.specs.Serial.{IsProperLine, NamesPairsOnce, IsTaken, pair_of, names_pair, line_between, agrees, with_rel_line}
 use Rattle.serial_lines.specs.Indexed.{AreEdgesOfLines}

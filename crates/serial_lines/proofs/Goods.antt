@@ -2,11 +2,10 @@
 use Rattle.std.proofs.Common.{◌≡◌, ℕ, suc, ◌+◌, ◌<◌, min, max, ◌⊎◌, inl, inr, Bool, true, false, List, [], ◌∷◌, ◌++◌, length, length-append, take, Option, Some, None, Result, Ok, Err, refl, sym, ap, ◌∙◌, subst, arith, append_assoc, append-nil, eqb}
 use Rattle.std.specs.Prelude.{slice_get}
 use Rattle.std.proofs.lemmas.Bool.{cases_Bool, cases_order, both_ways, eqb-true, eq-eqb}
-use Rattle.std.proofs.lemmas.Option.{same_Some}
+use Rattle.std.proofs.lemmas.Option.{same_Some, slice_get_within}
 use Rattle.relationships.specs.Graph.{Edge, edge_of, is_same}
 use Rattle.relationships.proofs.Edges.{same_edge}
-use Rattle.tor_numbers.proofs.Gets.{Has, has-from_Contains, Contains-from_has, slice_get-push_cases, slice_get-lt}
-use Rattle.serial_lines.proofs.Places.{slice_get-push_old, slice_get-behind}
+use Rattle.tor_arena.proofs.Gets.{Has, has-from_Contains, Contains-from_has, slice_get-push_cases, slice_get-push_old, slice_get-behind}
 use Rattle.serial_lines.specs.declared.line.RelKind.{RelKind}
 use Rattle.serial_lines.specs.declared.line.RelKind.TheVariants.{Transit, Peering}
 use Rattle.serial_lines.specs.declared.line.RelLine.{RelLine}
@@ -244,7 +243,7 @@ GoodTo all place = (k : ℕ) (line : List ℕ) → k < place → slice_get all k
 verdict_from : (all earlier more : List (List ℕ)) (rel : List RelLine) → all ≡ earlier ++ more → Stand earlier rel → GoodTo all (length earlier) → Verdict all (rel_from (length earlier) rel more)
 verdict_from all earlier [] rel e h good = λ k line at.
     let n : length all ≡ length earlier = ap length (e ∙ append-nil earlier) in
-    good k line (let lt = slice_get-lt all k line at in omega (arith, lt, n)) at
+    good k line (let lt = slice_get_within all k line at in omega (arith, lt, n)) at
 verdict_from all earlier (line ∷ more) rel e h good =
     by_next (λ next stand. verdict_from all (earlier ++ line ∷ []) more next (e ∙ sym (append_assoc earlier (line ∷ []) more)) stand) (after_line rel line) refl (judged earlier rel line h)
   where

@@ -2,6 +2,5 @@ pub mod Finding
 pub mod FirstLines
 pub mod Goods
 pub mod LineLemmas
-mod Places
 pub mod ReadLemmas
 mod Vectors

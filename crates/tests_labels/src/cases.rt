@@ -8,11 +8,11 @@ ghost use Rattle.tor_clauses.specs.Formulas.{FitsGraph, demands_of};
 ghost use Rattle.tests_labels.specs.Cases.{three};
 
 use as_graph::{AsGraph, Labels, build};
-use path_clean::{MAX_PATHS, PathTable, is_clean_path};
+use path_clean::{PathTable, is_clean_path};
 use relationships::{End, Label};
 use std::alloc::Global;
 use std::test::Fail;
-use tor_arena::{Index, Keys, List, PathId, Rows};
+use tor_arena::{Index, Keys, List, MAX_PATHS, PathId, Rows};
 use tor_clauses::Clauses;
 use tor_solve::{Solution, solve};
 

@@ -1,8 +1,8 @@
 //! Tables of paths that several tests take.
 
-use path_clean::{MAX_PATHS, PathTable, is_clean_path};
+use path_clean::{PathTable, is_clean_path};
 use std::alloc::Global;
-use tor_arena::{Keys, NoMemory};
+use tor_arena::{Keys, MAX_PATHS, NoMemory};
 
 /// Three paths, of which the first two can be kept.
 pub(crate) static THREE_PATHS: [&[u32]; 3] = [

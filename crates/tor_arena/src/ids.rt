@@ -3,7 +3,8 @@ ghost use Rattle.std.specs.Prelude.{◌<◌, ℕ};
 ghost use Rattle.std.proofs.Math.Dec.{lit≤};
 ghost use Rattle.tor_arena.specs.Limits.{most_places, most_walks};
 
-use crate::index::{Index, MOST_PLACES, MOST_WALKS, short_place};
+use crate::index::{Index, short_place};
+use crate::limits::{MOST_PLACES, MOST_WALKS};
 use std::marker::Model;
 
 /// A place among the autonomous systems.

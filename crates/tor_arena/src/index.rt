@@ -2,6 +2,8 @@
 ghost use Rattle.std.specs.Prelude.{◌≡◌, ◌<◌, ◌≤◌, ◌↔◌, ℕ, IsNone, IfSome};
 ghost use Rattle.tor_arena.specs.Limits.{most_places};
 
+use crate::limits::MOST_PLACES;
+
 /// A place among things of one kind, counted from 0. Each kind has a type of its own, so an
 /// index of one kind in place of one of another does not compile.
 pub trait Index: Copy + Eq {
@@ -28,12 +30,6 @@ pub trait Index: Copy + Eq {
     // a number of places is one of 32 bits
     ghost is_short: { LIMIT ≤ 4294967295 };
 }
-
-/// How many places each index type of this crate but that of walks can name.
-pub(crate) const MOST_PLACES: usize = 1 << 28;
-
-/// How many walks can be named.
-pub(crate) const MOST_WALKS: usize = 1 << 29;
 
 /// The place in 32 bits, if an index can name it.
 pub(crate) fn short_place(place: usize) -> Option<u32>

@@ -6,7 +6,7 @@ use Rattle.std.proofs.lemmas.List.{take_at, length-append, length_push, take_all
 use Rattle.std.proofs.lemmas.List.Concat.{flat_map-append}
 use Rattle.std.proofs.lemmas.List.Elements.{All-push}
 use Rattle.relationships.specs.Graph.{edges}
-use Rattle.tor_digraph.proofs.Gets.{slice_get-some}
+use Rattle.tor_arena.proofs.Gets.{slice_get-some}
 use Rattle.as_graph.specs.declared.step.Step.{Step}
 use Rattle.as_graph.specs.Paths.{path_at}
 use Rattle.as_graph.specs.Steps.{AreSteps}

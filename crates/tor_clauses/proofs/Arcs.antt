@@ -4,7 +4,8 @@ use Rattle.std.specs.Prelude.{slice_get}
 use Rattle.relationships.specs.Graph.{Edge}
 use Rattle.tor_digraph.specs.Walks.{IsArc, HasArc}
 use Rattle.std.proofs.lemmas.Bool.{cases_eq, cases_lt}
-use Rattle.tor_digraph.proofs.Gets.{slice_get-some}
+use Rattle.std.proofs.lemmas.Option.{same_Some}
+use Rattle.tor_arena.proofs.Gets.{slice_get-some}
 use Rattle.tor_clauses.specs.declared.triple.Triple.{Triple}
 use Rattle.tor_clauses.specs.Literals.{opposite_node}
 use Rattle.tor_clauses.specs.Triples.{arc_of, partner_of, arcs_of}
@@ -28,13 +29,10 @@ pub record IsTripleOf (ts : List Triple) (k : ℕ) (a : Edge) : Type 0 where
   pub there : slice_get ts (k / 2) ≡ Some t
   pub is : (a ≡ arc_of t) ⊎ (a ≡ partner_of t)
 
-some_same : {X : Type 0} {a b : X} → Some a ≡ Some b → b ≡ a
-some_same e = cc
-
 pub triple_at : (ts : List Triple) (k : ℕ) (a : Edge) → slice_get (flat_map arcs_of ts) k ≡ Some a → IsTripleOf ts k a
 triple_at [] k a h = absurd (cc h)
-triple_at (t ∷ ts) zero a h = record { t = t; there = refl; is = inl (some_same h) }
-triple_at (t ∷ ts) (suc zero) a h = record { t = t; there = refl; is = inr (some_same h) }
+triple_at (t ∷ ts) zero a h = record { t = t; there = refl; is = inl (sym (same_Some _ _ h)) }
+triple_at (t ∷ ts) (suc zero) a h = record { t = t; there = refl; is = inr (sym (same_Some _ _ h)) }
 triple_at (t ∷ ts) (suc (suc k)) a h =
     let r = triple_at ts k a h in
     let e : suc (suc k) / 2 ≡ suc (k / 2) = omega arith in
@@ -52,12 +50,9 @@ partners ts l m h =
     let r = flat_map-In arcs_of (l, m) ts (get-In (flat_map arcs_of ts) h.0 (l, m) h.1) in
     In-get (reversed_arc (l, m)) (flat_map arcs_of ts) (In-flat_map arcs_of r.0 (reversed_arc (l, m)) ts r.1 (reversed-In (l, m) r.0 r.2))
 
-pair_same : {X : Type 0} {a b : X} → Some a ≡ Some b → a ≡ b
-pair_same e = cc
-
 pair_second : (ts : List Triple) (n : ℕ) (a : Edge) → slice_get (flat_map arcs_of ts) (n * 2) ≡ Some a → slice_get (flat_map arcs_of ts) (n * 2 + 1) ≡ Some (reversed_arc a)
 pair_second [] n a h = absurd (cc h)
-pair_second (t ∷ ts) zero a h = ap Some (sym (partner-reversed t) ∙ ap reversed_arc (pair_same h))
+pair_second (t ∷ ts) zero a h = ap Some (sym (partner-reversed t) ∙ ap reversed_arc (same_Some _ _ h))
 pair_second (t ∷ ts) (suc n) a h =
     let e : suc n * 2 ≡ suc (suc (n * 2)) = omega arith in
     let f : suc n * 2 + 1 ≡ suc (suc (n * 2 + 1)) = omega arith in
@@ -66,7 +61,7 @@ pair_second (t ∷ ts) (suc n) a h =
 
 pair_first : (ts : List Triple) (n : ℕ) (a : Edge) → slice_get (flat_map arcs_of ts) (n * 2 + 1) ≡ Some a → slice_get (flat_map arcs_of ts) (n * 2) ≡ Some (reversed_arc a)
 pair_first [] n a h = absurd (cc h)
-pair_first (t ∷ ts) zero a h = ap Some (sym (reversed_arc_twice (arc_of t)) ∙ ap reversed_arc (partner-reversed t ∙ pair_same h))
+pair_first (t ∷ ts) zero a h = ap Some (sym (reversed_arc_twice (arc_of t)) ∙ ap reversed_arc (partner-reversed t ∙ same_Some _ _ h))
 pair_first (t ∷ ts) (suc n) a h =
     let e : suc n * 2 ≡ suc (suc (n * 2)) = omega arith in
     let f : suc n * 2 + 1 ≡ suc (suc (n * 2 + 1)) = omega arith in
@@ -115,7 +110,7 @@ pub triple_named : (ts : List Triple) (arcs : List Edge) (k : ℕ) (t : Triple) 
 triple_named ts arcs k t e below there =
     let a = slice_get-some arcs k below in
     let r = triple_at ts k a.0 (subst (λ l. slice_get l k ≡ Some a.0) e a.1) in
-    let same : t ≡ r.t = some_same (sym r.there ∙ there) in
+    let same : t ≡ r.t = same_Some _ _ (sym there ∙ r.there) in
     elim r.is [
       | inl f ↦ inl (a.1 ∙ ap Some (f ∙ ap arc_of (sym same)))
       | inr f ↦ inr (a.1 ∙ ap Some (f ∙ ap partner_of (sym same)))

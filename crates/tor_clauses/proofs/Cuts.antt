@@ -1,7 +1,7 @@
 -- What is left where arcs or triples are cut off.
 use Rattle.std.proofs.Common.{◌≡◌, ℕ, ◌+◌, ◌*◌, ◌<◌, ◌≤◌, ◌^◌, List, length, take, flat_map, sym, ap, ◌∙◌, subst, arith}
 use Rattle.tor_digraph.specs.Walks.{Net, IsInside, first_part}
-use Rattle.tor_digraph.proofs.Gets.{slice_get-take}
+use Rattle.tor_arena.proofs.Gets.{slice_get-take}
 use Rattle.tor_clauses.specs.declared.triple.Triple.{Triple}
 use Rattle.tor_clauses.specs.Triples.{arcs_of}
 use Rattle.tor_clauses.proofs.Arcs.{length-arcs, take-arcs}

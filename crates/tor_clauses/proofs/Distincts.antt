@@ -5,6 +5,7 @@ use Rattle.std.specs.List.{list_any}
 use Rattle.std.proofs.lemmas.Bool.{false≢true, cases_Bool, both_ways, or_parts, not-true, not_from_false, false_from_ne_true}
 use Rattle.std.proofs.lemmas.List.{append-nil}
 use Rattle.std.proofs.lemmas.List.Elements.{filter-append}
+use Rattle.std.proofs.lemmas.Option.{same_Some}
 use Rattle.tor_clauses.proofs.Members.{In, get-In, In-append_left, In-filter, filter-In, In-list_any, list_any-In}
 
 module _ {X : Type 0} (same : X → X → Bool) where
@@ -49,15 +50,9 @@ module _ {X : Type 0} (same : X → X → Bool) where
   apart-once reversed [] a j k x y h g t = absurd (cc h)
   apart-once reversed (z ∷ xs) a zero zero x y h g t = refl
   apart-once reversed (z ∷ xs) a zero (suc k) x y h g t =
-      absurd (both_ways (same z y) (a.0 y (get-In xs k y g)) (subst (λ w. same w y ≡ true) (sym (some_same h)) t))
-    where
-      some_same : Some z ≡ Some x → z ≡ x
-      some_same e = cc
+      absurd (both_ways (same z y) (a.0 y (get-In xs k y g)) (subst (λ w. same w y ≡ true) (sym (same_Some _ _ h)) t))
   apart-once reversed (z ∷ xs) a (suc j) zero x y h g t =
-      absurd (both_ways (same z x) (a.0 x (get-In xs j x h)) (reversed x z (subst (λ w. same x w ≡ true) (sym (some_same g)) t)))
-    where
-      some_same : Some z ≡ Some y → z ≡ y
-      some_same e = cc
+      absurd (both_ways (same z x) (a.0 x (get-In xs j x h)) (reversed x z (subst (λ w. same x w ≡ true) (sym (same_Some _ _ g)) t)))
   apart-once reversed (z ∷ xs) a (suc j) (suc k) x y h g t = ap suc (apart-once reversed xs a.1 j k x y h g t)
 
   -- ---- more items

@@ -4,6 +4,7 @@ use Rattle.std.specs.Prelude.{slice_get, sum_by, ◌^◌}
 use Rattle.std.proofs.lemmas.Bool.{cases_order, false≢true}
 use Rattle.std.proofs.lemmas.List.{take-take, get_or-take, length-take-le}
 use Rattle.std.proofs.lemmas.List.Sums.{sum_by_more_le}
+use Rattle.std.proofs.lemmas.Option.{same_Some}
 use Rattle.relationships.specs.Graph.{Edge, edges}
 use Rattle.tor_digraph.proofs.Few.{few}
 use Rattle.as_graph.specs.Paths.{path_at, triple_count}
@@ -92,10 +93,7 @@ module _ (graph : List (List ℕ)) where
   apart_get : (ts : List Triple) (i j : ℕ) (t u : Triple) → Apart is_same_triple ts → i < j → slice_get ts i ≡ Some t → slice_get ts j ≡ Some u → is_same_triple t u ≡ false
   apart_get [] i j t u a lt h k = absurd (cc h)
   apart_get (v ∷ ts) zero zero t u a lt h k = absurd (omega (arith, lt))
-  apart_get (v ∷ ts) zero (suc j) t u a lt h k = subst (λ w. is_same_triple w u ≡ false) (some_same h) (a.0 u (get-In ts j u k))
-    where
-      some_same : {X : Type 0} {b c : X} → Some b ≡ Some c → b ≡ c
-      some_same e = cc
+  apart_get (v ∷ ts) zero (suc j) t u a lt h k = subst (λ w. is_same_triple w u ≡ false) (same_Some _ _ h) (a.0 u (get-In ts j u k))
   apart_get (v ∷ ts) (suc i) zero t u a lt h k = absurd (omega (arith, lt))
   apart_get (v ∷ ts) (suc i) (suc j) t u a lt h k = apart_get ts i j t u a.1 (omega (arith, lt)) h k
 

@@ -3,9 +3,9 @@ use Rattle.std.proofs.Common.{◌≡◌, ℕ, suc, true, false, ◌+◌, ◌-◌
 use Rattle.std.specs.Prelude.{slice_get}
 use Rattle.std.proofs.lemmas.List.{length-take, get_or-take, take-take}
 use Rattle.std.proofs.lemmas.List.Elements.{All-head, All-tail, All-take}
-use Rattle.std.proofs.lemmas.Option.{get_or_from_slice_get}
+use Rattle.std.proofs.lemmas.Option.{get_or_from_slice_get, slice_get_within, same_Some}
 use Rattle.relationships.specs.Graph.{edges}
-use Rattle.tor_digraph.proofs.Gets.{slice_get-lt, slice_get-some}
+use Rattle.tor_arena.proofs.Gets.{slice_get-some}
 use Rattle.as_graph.specs.declared.step.Step.{Step}
 use Rattle.as_graph.specs.Paths.{path_at}
 use Rattle.as_graph.specs.Steps.{AreSteps}
@@ -13,9 +13,6 @@ use Rattle.tor_clauses.specs.declared.triple.Triple.{Triple}
 use Rattle.tor_clauses.specs.Triples.{is_among, AreAmong, triples_on}
 use Rattle.tor_clauses.specs.Tables.{with_triple, with_triples, triple_by, AreKnownOn, IsNewAt, IsFirstNew}
 use Rattle.tor_clauses.proofs.StepTriples.{triple_by_steps}
-
-some_same : {X : Type 0} {a b : X} → Some a ≡ Some b → a ≡ b
-some_same e = cc
 
 -- triples that are there already change nothing
 with_there : (ts : List Triple) (t : Triple) → is_among ts t ≡ true → with_triple ts t ≡ ts
@@ -48,9 +45,9 @@ among_on graph path steps are ts to inside known k d lt =
 pub first_new_on : (graph : List (List ℕ)) (path : ℕ) (steps : List Step) → AreSteps (edges graph) (path_at graph path) steps → (ts : List Triple) (place : ℕ) → 1 ≤ place → place < length steps →
     AreKnownOn ts steps 1 place → IsNewAt ts steps place → IsFirstNew graph path ts (place - 1)
 first_new_on graph path steps are ts place some inside known new = record {
-  there = slice_get-lt (triples_on graph path) k (triple_by path (2 + k) s.0 t.0) at;
+  there = slice_get_within (triples_on graph path) k (triple_by path (2 + k) s.0 t.0) at;
   before = among_on graph path steps are ts place (omega (arith, inside)) known;
-  new = λ u is. subst (λ t. is_among ts t ≡ false) (some_same (sym at ∙ is)) (new k s.0 t.0 (omega (arith, some)) s.1 (subst (λ i. slice_get steps i ≡ Some t.0) next t.1));
+  new = λ u is. subst (λ t. is_among ts t ≡ false) (same_Some _ _ (sym at ∙ is)) (new k s.0 t.0 (omega (arith, some)) s.1 (subst (λ i. slice_get steps i ≡ Some t.0) next t.1));
 }
   where
     k : ℕ

@@ -2,10 +2,10 @@
 use Rattle.std.proofs.Common.{◌≡◌, ◌≢◌, ℕ, ◌+◌, ◌<◌, ◌≤◌, ◌⊎◌, min, max, inl, inr, List, [], ◌∷◌, ◌++◌, Some, refl, sym, ap, ◌∙◌, subst, arith, append_assoc, lt-ltb, le-ltb}
 use Rattle.std.specs.Prelude.{slice_get}
 use Rattle.std.proofs.lemmas.Bool.{cases_lt}
-use Rattle.std.proofs.lemmas.Option.{some_pair_parts}
+use Rattle.std.proofs.lemmas.Option.{some_pair_parts, slice_get_within}
 use Rattle.relationships.specs.Steps.{end_left}
 use Rattle.tor_digraph.specs.Walks.{IsArc}
-use Rattle.tor_digraph.proofs.Gets.{slice_get-lt, slice_get-some}
+use Rattle.tor_arena.proofs.Gets.{slice_get-some}
 use Rattle.relationships.specs.declared.label.End.{End}
 use Rattle.relationships.specs.declared.walk.Link.{Link}
 use Rattle.relationships.specs.declared.walk.Walk.{Walk}
@@ -105,7 +105,7 @@ leads_made graph paths arcs k ends w a b l m over under link ases links r arc at
 pub way_arc : (arcs : List (ℕ × ℕ)) (from to : ℕ) (nodes steps : List ℕ) (k s : ℕ) → IsPlainWay arcs from to nodes steps → slice_get steps k ≡ Some s →
     (u v : ℕ) × (slice_get nodes k ≡ Some u) × (slice_get nodes (k + 1) ≡ Some v) × IsArc arcs s u v
 way_arc arcs from to nodes steps k s way at =
-    let lt = slice_get-lt steps k s at in
+    let lt = slice_get_within steps k s at in
     let many = way.one_more in
     let u = slice_get-some nodes k (omega (arith, lt, many)) in
     let v = slice_get-some nodes (k + 1) (omega (arith, lt, many)) in

@@ -4,6 +4,7 @@ use Rattle.std.specs.Prelude.{slice_get}
 use Rattle.std.specs.List.{list_any}
 use Rattle.std.proofs.lemmas.Bool.{false≢true, cases_Bool, or_cases, or_left, or_right}
 use Rattle.std.proofs.lemmas.List.Elements.{All-head, All-tail, All-push}
+use Rattle.std.proofs.lemmas.Option.{same_Some}
 
 module _ {X : Type 0} where
   abbrev pub In : X → List X → Type 0
@@ -61,10 +62,7 @@ module _ {X : Type 0} where
 
   pub get-In : (xs : List X) (k : ℕ) (x : X) → slice_get xs k ≡ Some x → In x xs
   get-In [] k x h = absurd (cc h)
-  get-In (y ∷ xs) zero x h = inl (some_same h)
-    where
-      some_same : {a b : X} → Some a ≡ Some b → a ≡ b
-      some_same e = cc
+  get-In (y ∷ xs) zero x h = inl (same_Some _ _ h)
   get-In (y ∷ xs) (suc k) x h = inr (get-In xs k x h)
 
   pub In-Contains : (x : X) (xs : List X) → In x xs → Contains xs x
@@ -108,10 +106,7 @@ map-In f y (x ∷ xs) (inr h) = let r = map-In f y xs h in (r.0, inr r.1, r.2)
 module _ {X : Type 0} where
   pub take_get : (xs : List X) (k : ℕ) (x : X) → slice_get xs k ≡ Some x → take (k + 1) xs ≡ take k xs ++ x ∷ []
   take_get [] k x h = absurd (cc h)
-  take_get (y ∷ xs) zero x h = ap (λ (z : X). z ∷ []) (some_same h)
-    where
-      some_same : {a b : X} → Some a ≡ Some b → a ≡ b
-      some_same e = cc
+  take_get (y ∷ xs) zero x h = ap (λ (z : X). z ∷ []) (same_Some _ _ h)
   take_get (y ∷ xs) (suc k) x h =
       let e : suc k + 1 ≡ suc (k + 1) = omega arith in ap (λ n. take n (y ∷ xs)) e ∙ ap (λ (l : List X). y ∷ l) (take_get xs k x h)
 

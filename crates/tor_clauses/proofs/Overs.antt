@@ -3,13 +3,14 @@ use Rattle.std.proofs.Common.{◌≡◌, ◌≢◌, ℕ, zero, suc, ◌+◌, ◌
 use Rattle.std.specs.Prelude.{slice_get}
 use Rattle.std.specs.List.{position_or_len}
 use Rattle.std.proofs.lemmas.Bool.{cases_Bool, cases_order, false≢true}
+use Rattle.std.proofs.lemmas.Option.{slice_get_within, same_Some}
 use Rattle.relationships.specs.Steps.{end_left}
 use Rattle.relationships.specs.declared.label.End.{End}
 use Rattle.relationships.specs.Relationship.{opposite, label_of, labels_of, is_low, is_high, is_over}
 use Rattle.relationships.specs.Graph.{Edge, edge_of, is_same, edges_from, edges_on, distinct, edges, orientation}
 use Rattle.relationships.proofs.Edges.{same_edge}
 use Rattle.relationships.proofs.Slopes.{over_parts, over-low, over-high}
-use Rattle.tor_digraph.proofs.Gets.{slice_get-lt, slice_get-some}
+use Rattle.tor_arena.proofs.Gets.{slice_get-some}
 use Rattle.tor_clauses.specs.declared.lit.Lit.{Lit}
 use Rattle.tor_clauses.specs.Literals.{negated, over, Says, Holds}
 use Rattle.tor_clauses.proofs.Members.{In, In-flat_map, get-In}
@@ -63,12 +64,9 @@ place_found e (f ∷ es) h = elim (cases_Bool (is_same e f)) [
     behind rest n (inl g) = absurd (false≢true (sym n ∙ edge_same e f (sym g)))
     behind rest n (inr h) = let k : 1 + position_or_len (is_same e) es ≡ suc (position_or_len (is_same e) es) = omega arith in rw k (rest h)
 
-some_same : {X : Type 0} {a b : X} → Some a ≡ Some b → a ≡ b
-some_same e = cc
-
 pub place_is : (es : List Edge) (k : ℕ) (e : Edge) → Apart is_same es → slice_get es k ≡ Some e → position_or_len (is_same e) es ≡ k
 place_is [] k e a h = absurd (cc h)
-place_is (f ∷ es) zero e a h = rw (edge_same e f (sym (some_same h))) refl
+place_is (f ∷ es) zero e a h = rw (edge_same e f (sym (same_Some _ _ h))) refl
 place_is (f ∷ es) (suc k) e a h =
     let n : is_same e f ≡ false = other (cases_Bool (is_same e f)) in
     let i = place_is es k e a.1 h in
@@ -138,10 +136,10 @@ Says-one es l x y a b s t = elim (cases_order x y) [
     second_same h = ap (λ (g : Edge). g.1) h
 
     lows : min x y ≡ min a b
-    lows = first_same (some_same (sym s.edge ∙ t.edge))
+    lows = first_same (same_Some _ _ (sym s.edge ∙ t.edge))
 
     highs : max x y ≡ max a b
-    highs = second_same (some_same (sym s.edge ∙ t.edge))
+    highs = second_same (same_Some _ _ (sym s.edge ∙ t.edge))
 
     ends : end_left x y ≡ end_left a b
     ends = sym s.end ∙ t.end
@@ -160,7 +158,7 @@ Says-one es l x y a b s t = elim (cases_order x y) [
 provider : (es : List Edge) (ends : List End) (k : ℕ) (e : Edge) (end : End) → Apart is_same es → slice_get es k ≡ Some e → slice_get ends k ≡ Some end → orientation es ends e.0 e.1 ≡ end
 provider [] ends k e end a h g = absurd (cc h)
 provider (f ∷ es) [] k e end a h g = absurd (cc g)
-provider (f ∷ es) (one ∷ ends) zero e end a h g = rw (edge_same f (e.0, e.1) (some_same h)) (some_same g)
+provider (f ∷ es) (one ∷ ends) zero e end a h g = rw (edge_same f (e.0, e.1) (same_Some _ _ h)) (same_Some _ _ g)
 provider (f ∷ es) (one ∷ ends) (suc k) e end a h g = rw (a.0 e (get-In es k e h)) (provider es ends k e end a.1 h g)
 
 is_low-end : (e : End) → is_low (label_of e) ≡ true → e ≡ End.Low
@@ -197,7 +195,7 @@ module _ (es : List Edge) (ends : List End) (apart : Apart is_same es) where
 
   pub holds-over : length ends ≡ length es → (l : Lit) (x y : ℕ) → Says es l x y → is_over (labels_of (orientation es ends)) x y ≡ true → Holds ends l
   holds-over same l x y s h =
-      let lt = slice_get-lt es l.edge (edge_of x y) s.edge in
+      let lt = slice_get_within es l.edge (edge_of x y) s.edge in
       let r = slice_get-some ends l.edge (omega (arith, lt, same)) in
       let p = provider es ends l.edge (edge_of x y) r.0 apart s.edge r.1 in
       let q : r.0 ≡ end_left x y = elim (over_parts (labels_of (orientation es ends)) x y h) [

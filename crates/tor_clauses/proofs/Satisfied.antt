@@ -3,11 +3,12 @@ use Rattle.std.proofs.Common.{◌≡◌, ℕ, ◌/◌, ◌<◌, ◌⊎◌, inl, 
 use Rattle.std.specs.Prelude.{slice_get}
 use Rattle.std.proofs.lemmas.List.Elements.{All-from_recursion}
 use Rattle.std.specs.List.{AllByRecursion}
+use Rattle.std.proofs.lemmas.Option.{same_Some}
 use Rattle.relationships.specs.declared.label.End.{End}
 use Rattle.relationships.specs.Evidence.{NeighboursDiffer}
 use Rattle.relationships.specs.Relationship.{opposite}
 use Rattle.relationships.specs.Graph.{Edge, edges}
-use Rattle.tor_digraph.proofs.Gets.{slice_get-some}
+use Rattle.tor_arena.proofs.Gets.{slice_get-some}
 use Rattle.tor_clauses.specs.declared.lit.Lit.{Lit}
 use Rattle.tor_clauses.specs.declared.triple.Triple.{Triple}
 use Rattle.tor_clauses.specs.Literals.{negated, node_of, lit_of, Holds}
@@ -18,9 +19,6 @@ use Rattle.tor_clauses.proofs.Members.{In, In-get, get-In, All-In, In-flat_map}
 use Rattle.tor_clauses.proofs.LiteralLemmas.{lit_of_node}
 use Rattle.tor_clauses.proofs.Arcs.{triple_at}
 use Rattle.tor_clauses.proofs.Standings.{triple_within}
-
-some_same : {X : Type 0} {a b : X} → Some a ≡ Some b → a ≡ b
-some_same e = cc
 
 opposite_not : (e : End) → e ≡ opposite e → ⊥
 opposite_not End.Low h = cc h
@@ -39,7 +37,7 @@ either ends l h =
     elim (one_of r.0 l.over) [ inl e ↦ inl (r.1 ∙ ap Some e) | inr e ↦ inr (r.1 ∙ ap Some e) ]
 
 not_both : (ends : List End) (l : Lit) → Holds ends l → Holds ends (negated l) → ⊥
-not_both ends l h k = opposite_not l.over (some_same (sym h ∙ k))
+not_both ends l h k = opposite_not l.over (same_Some _ _ (sym h ∙ k))
 
 module _ (graph : List (List ℕ)) (f : Formula) (ends : List End) (apart : All NeighboursDiffer graph) (fits : FitsGraph graph f) (same : length ends ≡ length (edges graph)) where
   pub within : (t : Triple) → In t f.triples → (t.first.edge < length ends) × (t.second.edge < length ends)

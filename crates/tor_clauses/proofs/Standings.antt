@@ -3,12 +3,12 @@ use Rattle.std.proofs.Common.{◌≡◌, ℕ, ◌+◌, ◌/◌, ◌<◌, inl, in
 use Rattle.std.specs.Prelude.{slice_get}
 use Rattle.std.proofs.lemmas.List.{length_push}
 use Rattle.std.proofs.lemmas.List.Elements.{Contains-get_or}
+use Rattle.std.proofs.lemmas.Option.{slice_get_within, same_Some}
 use Rattle.relationships.specs.declared.walk.Link.{Link}
 use Rattle.relationships.specs.Graph.{Edge, edge_of, edges}
 use Rattle.relationships.specs.Evidence.{NeighboursDiffer, StandAt, TripleAt, Fits}
 use Rattle.relationships.proofs.WalkLemmas.{apart_at, apart_next}
 use Rattle.tor_digraph.specs.Walks.{IsArc, HasArc}
-use Rattle.tor_digraph.proofs.Gets.{slice_get-lt}
 use Rattle.as_graph.specs.Paths.{path_at}
 use Rattle.tor_clauses.specs.declared.lit.Lit.{Lit}
 use Rattle.tor_clauses.specs.declared.triple.Triple.{Triple}
@@ -20,9 +20,6 @@ use Rattle.tor_clauses.proofs.LiteralLemmas.{lit_of_node}
 use Rattle.tor_clauses.proofs.Sames.{triple-In, In-triple, Same-arc, Same-partner}
 use Rattle.tor_clauses.proofs.Arcs.{triple_at}
 use Rattle.tor_clauses.proofs.Overs.{edge-In, over-reversed, Says-over, Says-negated}
-
-some_same : {X : Type 0} {a b : X} → Some a ≡ Some b → a ≡ b
-some_same e = cc
 
 -- three consecutive ASes of a path, and their triple
 pub record Stands (es : List Edge) (path : ℕ) (p : List ℕ) (t : Triple) : Type 0 where
@@ -124,7 +121,7 @@ module _ (graph : List (List ℕ)) (f : Formula) (apart : All NeighboursDiffer g
       let s = stands_along (edges graph) of.0 (path_at graph of.0) t of.2 in
       let one = subst (λ l. Says (edges graph) l s.x s.y) (sym s.first) (says_first of.0 t.at s.x s.y s.z of.1 s.stand) in
       let two = subst (λ l. Says (edges graph) l s.y s.z) (sym s.second) (says_second of.0 t.at s.x s.y s.z of.1 s.stand) in
-      (slice_get-lt (edges graph) t.first.edge (edge_of s.x s.y) one.edge, slice_get-lt (edges graph) t.second.edge (edge_of s.y s.z) two.edge)
+      (slice_get_within (edges graph) t.first.edge (edge_of s.x s.y) one.edge, slice_get_within (edges graph) t.second.edge (edge_of s.y s.z) two.edge)
 
   link_with : (path at x y z : ℕ) → In path f.paths → TripleAt (path_at graph path) at x y z → Fits (numbered graph f.paths) (record { path = path + 1; at = at }) x y z
   link_with path at x y z h t =
@@ -144,7 +141,7 @@ module _ (graph : List (List ℕ)) (f : Formula) (apart : All NeighboursDiffer g
       IsLinkOf graph f.paths (record { path = t.path + 1; at = t.at }) l m
   link_fits k l m t arc there =
       let r = triple_at f.triples k (l, m) (subst (λ arcs. slice_get arcs k ≡ Some (l, m)) fits.arcs arc) in
-      let same : r.t ≡ t = some_same (sym r.there ∙ there) in
+      let same : r.t ≡ t = same_Some _ _ (sym r.there ∙ there) in
       let of = flat_map-In (triples_on graph) t f.paths (triple-In t (flat_map (triples_on graph) f.paths) (subst (In t) fits.triples (get-In f.triples (k / 2) t there))) in
       let s = stands_along (edges graph) of.0 (path_at graph of.0) t of.2 in
       let first = says_first of.0 t.at s.x s.y s.z of.1 s.stand in

@@ -1,6 +1,7 @@
 -- The triples of a path, read off its steps.
 use Rattle.std.proofs.Common.{◌≡◌, ℕ, zero, suc, ◌+◌, ◌-◌, ◌≤◌, List, [], ◌∷◌, Some, length, refl, sym, ap, ap₂, ◌∙◌, arith}
 use Rattle.std.specs.Prelude.{slice_get}
+use Rattle.std.proofs.lemmas.Option.{same_Some}
 use Rattle.relationships.specs.declared.label.End.{End}
 use Rattle.relationships.specs.Graph.{Edge, edge_of, is_same, edges}
 use Rattle.as_graph.specs.declared.step.Step.{Step}
@@ -23,9 +24,6 @@ step_over es x y s a h = ap₂ lit_with (place_is es s.edge (edge_of x y) a h.0)
 abbrev triple_with : ℕ → ℕ → Lit → Lit → Triple
 triple_with path at l m = record { path = path; at = at; first = l; second = m }
 
-some_same : {X : Type 0} {a b : X} → Some a ≡ Some b → a ≡ b
-some_same e = cc
-
 triples_by : (es : List Edge) (path at x y : ℕ) (rest : List ℕ) (steps : List Step) (k : ℕ) (s t : Step) → Apart is_same es → AreStepsFrom es x (y ∷ rest) steps →
     slice_get steps k ≡ Some s → slice_get steps (suc k) ≡ Some t → slice_get (triples_from es path at x y rest) k ≡ Some (triple_by path (at + k) s t)
 triples_by es path at x y rest [] k s t a are h g = absurd (cc h)
@@ -33,8 +31,8 @@ triples_by es path at x y [] (u ∷ []) k s t a are h g = absurd (cc g)
 triples_by es path at x y [] (u ∷ v ∷ steps) k s t a are h g = absurd are.1
 triples_by es path at x y (z ∷ rest) (u ∷ []) k s t a are h g = absurd are.1
 triples_by es path at x y (z ∷ rest) (u ∷ v ∷ steps) zero s t a are h g =
-    let one : over es x y ≡ lit_at s = step_over es x y u a are.0 ∙ ap lit_at (some_same h) in
-    let two : over es y z ≡ lit_at t = step_over es y z v a are.1.0 ∙ ap lit_at (some_same g) in
+    let one : over es x y ≡ lit_at s = step_over es x y u a are.0 ∙ ap lit_at (same_Some _ _ h) in
+    let two : over es y z ≡ lit_at t = step_over es y z v a are.1.0 ∙ ap lit_at (same_Some _ _ g) in
     let e : at ≡ at + 0 = omega arith in
     ap Some (ap₂ (triple_with path at) one two ∙ ap (λ n. triple_by path n s t) e)
 triples_by es path at x y (z ∷ rest) (u ∷ v ∷ steps) (suc k) s t a are h g =

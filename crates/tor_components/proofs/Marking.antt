@@ -4,7 +4,7 @@ use Rattle.std.specs.Prelude.{slice_get, slice_set}
 use Rattle.std.proofs.lemmas.Bool.{cases_eq, cases_lt}
 use Rattle.std.proofs.lemmas.Option.{same_Some}
 use Rattle.std.proofs.lemmas.List.{length-set}
-use Rattle.tor_digraph.proofs.Gets.{slice_get-set_same, slice_get-set_other}
+use Rattle.tor_arena.proofs.Gets.{slice_get-set_same, slice_get-set_other}
 use Rattle.tor_components.specs.Classes.{IsClass}
 
 -- of the first nodes of a list, so many, each has the class, and all others have what they had

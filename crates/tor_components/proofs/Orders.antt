@@ -2,13 +2,13 @@
 use Rattle.std.proofs.Common.{◌≡◌, ℕ, zero, suc, ◌+◌, ◌<◌, ◌≤◌, ◌⊎◌, inl, inr, List, [], ◌∷◌, ◌++◌, Some, None, Ok, Err, true, false, length, drop, sym, ◌∙◌, ap, subst, arith}
 use Rattle.std.specs.Prelude.{slice_get, Result, OnOk, is_ok}
 use Rattle.std.proofs.lemmas.Bool.{cases_lt, cases_eq}
-use Rattle.std.proofs.lemmas.Option.{same_Some}
+use Rattle.std.proofs.lemmas.Option.{same_Some, slice_get_within}
 use Rattle.std.proofs.lemmas.List.{length_push}
 use Rattle.tor_digraph.specs.Walks.{Net, IsArc, HasArc, IsInside, Reaches, here, along}
 use Rattle.tor_digraph.specs.Closing.{Has, IsOnce, IsClosing}
 use Rattle.tor_digraph.specs.Reached.{IsGrown}
 use Rattle.tor_digraph.proofs.Closings.{reaches_trans, same_arc}
-use Rattle.tor_digraph.proofs.Gets.{has-from_Contains, slice_get-lt, slice_get-some, slice_get-push_old, slice_get-push_cases, slice_get-push_last}
+use Rattle.tor_arena.proofs.Gets.{has-from_Contains, slice_get-some, slice_get-push_old, slice_get-push_cases, slice_get-push_last}
 use Rattle.tor_components.specs.Classes.{IsClass, IsClassed, IsComponents, IsReversed, IsReversedTo}
 
 module _ {N : Type 0} (arcs : List (N × N)) where
@@ -67,7 +67,7 @@ module _ {N : Type 0} (back : List (N × N)) where
   pub grown-cases : (root : N) (old new : List N) (x : N) → IsOnce new → IsGrown back root old new → Has new x → Has old x ⊎ ((Has old x → ⊥) × Reaches back root x)
   grown-cases root old new x once w h = elim (cases_lt h.0 (length old)) [
     | inl lt ↦ (let y = slice_get-some old h.0 lt in inl (h.0, y.1 ∙ sym (w.kept h.0 y.0 y.1) ∙ h.1))
-    | inr le ↦ inr ((λ o. (let lt : o.0 < length old = slice_get-lt old o.0 x o.1 in let same : o.0 ≡ h.0 = once o.0 h.0 x (w.kept o.0 x o.1) h.1 in omega arith)), w.more h.0 x le h.1)
+    | inr le ↦ inr ((λ o. (let lt : o.0 < length old = slice_get_within old o.0 x o.1 in let same : o.0 ≡ h.0 = once o.0 h.0 x (w.kept o.0 x o.1) h.1 in omega arith)), w.more h.0 x le h.1)
   ]
 
   pub grown-old : (root : N) (old new : List N) (x : N) → IsGrown back root old new → Has old x → Has new x
@@ -144,7 +144,7 @@ module _ {N : Type 0} (place : N → ℕ) (net : Net N) where
   walk-order nodes of count w has tails x j cx (along {b} {c} r arc) k cy =
       let m = slice_get-some of (place b) (tails b c arc) in
       let low : j ≤ m.0 = walk-order nodes of count w has tails x j cx r m.0 m.1 in
-      let high : m.0 ≤ k = w.order b c m.0 k (has c (slice_get-lt of (place c) k cy)) arc m.1 cy in
+      let high : m.0 ≤ k = w.order b c m.0 k (has c (slice_get_within of (place c) k cy)) arc m.1 cy in
       omega arith
 
   pub classed-done : (nodes : List N) (of : List ℕ) (count : ℕ) → IsClassed place net.arcs nodes of count →
@@ -154,13 +154,13 @@ module _ {N : Type 0} (place : N → ℕ) (net : Net N) where
     many = many;
     same = λ x y j k cx cy. (
       (λ e. (
-        c.same x y k (has x (slice_get-lt of (place x) j cx)) (has y (slice_get-lt of (place y) k cy)) (cx ∙ ap Some e) cy,
-        c.same y x k (has y (slice_get-lt of (place y) k cy)) (has x (slice_get-lt of (place x) j cx)) cy (cx ∙ ap Some e),
+        c.same x y k (has x (slice_get_within of (place x) j cx)) (has y (slice_get_within of (place y) k cy)) (cx ∙ ap Some e) cy,
+        c.same y x k (has y (slice_get_within of (place y) k cy)) (has x (slice_get_within of (place x) j cx)) cy (cx ∙ ap Some e),
       )),
       (λ r. (let a : j ≤ k = walk-order nodes of count c has tails x j cx r.0 k cy in let b : k ≤ j = walk-order nodes of count c has tails y k cy r.1 j cx in omega arith)),
     );
-    order = λ x y j k arc cx cy. c.order x y j k (has y (slice_get-lt of (place y) k cy)) arc cx cy;
-    below = λ x k cx. c.below x k (has x (slice_get-lt of (place x) k cx)) cx;
+    order = λ x y j k arc cx cy. c.order x y j k (has y (slice_get_within of (place y) k cy)) arc cx cy;
+    below = λ x k cx. c.below x k (has x (slice_get_within of (place x) k cx)) cx;
     each = λ k lt. (let w = c.each k lt in (w.0, w.2));
   }
     where
@@ -193,7 +193,7 @@ module _ {N : Type 0} where
 module _ {N : Type 0} (back : List (N × N)) (root : N) (old new : List N) (grown : IsGrown back root old new) where
   pub grown-longer : (a b : List N) → a ≡ old → b ≡ new → length a ≤ length b
   grown-longer a b e e' = rw (e, e') (elim (cases_lt (length new) (length old)) [
-    | inl lt ↦ (let y = slice_get-some old (length new) lt in let bad : length new < length new = slice_get-lt new (length new) y.0 (grown.kept (length new) y.0 y.1) in absurd (omega arith))
+    | inl lt ↦ (let y = slice_get-some old (length new) lt in let bad : length new < length new = slice_get_within new (length new) y.0 (grown.kept (length new) y.0 y.1) in absurd (omega arith))
     | inr le ↦ le
   ])
 
@@ -207,7 +207,7 @@ module _ {N : Type 0} (back : List (N × N)) (root : N) (old new : List N) (grow
   fresh-old a b f e e' e'' once x o h =
       let h' = subst (λ z. Has z x) (e'' ∙ ap (λ z. drop (length z) b) e ∙ ap (λ z. drop (length old) z) e') h in
       let r = has-drop (length old) new h'.0 x h'.1 in
-      let lt : o.0 < length old = slice_get-lt old o.0 x o.1 in
+      let lt : o.0 < length old = slice_get_within old o.0 x o.1 in
       let same : o.0 ≡ r.0 = once o.0 r.0 x (grown.kept o.0 x o.1) r.2 in
       let le : length old ≤ r.0 = r.1 in
       omega arith
@@ -245,6 +245,6 @@ module _ {N : Type 0} (net other new : Net N) where
   pub reversed-done : (k : ℕ) → length net.arcs ≤ k → IsReversedTo net other k → IsReversed net other
   reversed-done k le r = record {
     nodes = r.nodes;
-    from = λ x y a. (let lt : a.0 < length net.arcs = slice_get-lt net.arcs a.0 (x, y) a.1 in r.from a.0 x y (omega arith) a.1);
+    from = λ x y a. (let lt : a.0 < length net.arcs = slice_get_within net.arcs a.0 (x, y) a.1 in r.from a.0 x y (omega arith) a.1);
     back = r.back;
   }

@@ -2,9 +2,10 @@
 use Rattle.std.proofs.Common.{◌≡◌, ◌≢◌, ℕ, zero, suc, ◌+◌, ◌<◌, ◌≤◌, inl, inr, List, [], ◌∷◌, ◌++◌, Option, Some, None, length, take, set, refl, sym, ◌∙◌, ap, subst, arith, length-append, length-set}
 use Rattle.std.specs.Prelude.{slice_get, replicate}
 use Rattle.std.proofs.lemmas.List.{length_push, length-take-le}
+use Rattle.std.proofs.lemmas.Option.{slice_get_within}
 use Rattle.tor_digraph.specs.Walks.{IsArc, IsInside}
 use Rattle.tor_digraph.specs.Links.{IsLatest, IsChained}
-use Rattle.tor_digraph.proofs.Gets.{slice_get-push_old, slice_get-push_cases, slice_get-push_last, slice_get-lt, slice_get-take, slice_get-take_back, slice_get-set_cases, slice_get-replicate, slice_get-append_cases}
+use Rattle.tor_arena.proofs.Gets.{slice_get-push_old, slice_get-push_cases, slice_get-push_last, slice_get-take, slice_get-take_back, slice_get-set_cases, slice_get-replicate, slice_get-append_cases}
 
 take-fewer : {X : Type 0} (m n : ℕ) (xs : List X) → m ≤ n → take m (take n xs) ≡ take m xs
 take-fewer zero n xs le = refl
@@ -25,7 +26,7 @@ module _ {N A : Type 0} (spot : A → ℕ) where
       IsLatest spot arcs u (length arcs) r → IsLatest spot (arcs ++ (t, h) ∷ []) u high r
   latest-more arcs t h u high None is-high ne l =
       λ k v lo hi is. elim (slice_get-push_cases arcs (t, h) k (u, v) is) [
-        | inl q ↦ l k v lo (slice_get-lt arcs k (u, v) q) q
+        | inl q ↦ l k v lo (slice_get_within arcs k (u, v) q) q
         | inr q ↦
             ne (ap (λ p. p.0) q.1)
       ]
@@ -33,7 +34,7 @@ module _ {N A : Type 0} (spot : A → ℕ) where
     omega arith,
     (l.1.0, slice_get-push_old arcs ((t, h) ∷ []) (spot a) (u, l.1.0) l.1.1),
     λ k v lo hi is. elim (slice_get-push_cases arcs (t, h) k (u, v) is) [
-      | inl q ↦ l.2 k v lo (slice_get-lt arcs k (u, v) q) q
+      | inl q ↦ l.2 k v lo (slice_get_within arcs k (u, v) q) q
       | inr q ↦
           ne (ap (λ p. p.0) q.1)
     ],
@@ -93,7 +94,7 @@ module _ {N A : Type 0} (place : N → ℕ) (spot : A → ℕ) (one : (u v : N) 
 
       older : (k : ℕ) (u v : N) (r' : Option A) → IsArc (arcs ++ (t, h) ∷ []) k u v → slice_get links k ≡ Some r' → IsLatest spot (arcs ++ (t, h) ∷ []) u k r'
       older k u v r' is at =
-          let in-links : k < length links = slice_get-lt links k r' at in
+          let in-links : k < length links = slice_get_within links k r' at in
           let many : length links ≡ length arcs = l.as_many in
           latest-old spot arcs (t, h) u k r' (omega arith) (l.before k u v r' (elim (slice_get-push_cases arcs (t, h) k (u, v) is) [ inl q ↦ q | inr q ↦ absurd (omega arith) ]) at)
 
@@ -102,7 +103,7 @@ module _ {N A : Type 0} (place : N → ℕ) (spot : A → ℕ) (one : (u v : N) 
           let many : length links ≡ length arcs = l.as_many in
           let k-is : k ≡ length arcs = omega arith in
           elim (slice_get-push_cases arcs (t, h) k (u, v) is) [
-            | inl q ↦ (let below : k < length arcs = slice_get-lt arcs k (u, v) q in absurd (omega arith))
+            | inl q ↦ (let below : k < length arcs = slice_get_within arcs k (u, v) q in absurd (omega arith))
             | inr q ↦ subst (λ x. IsLatest spot (arcs ++ (t, h) ∷ []) x k r') (sym (ap (λ p. p.0) q.1))
                 (subst (λ x. IsLatest spot (arcs ++ (t, h) ∷ []) t k x) (sym same)
                 (subst (λ i. IsLatest spot (arcs ++ (t, h) ∷ []) t i r) (sym k-is)

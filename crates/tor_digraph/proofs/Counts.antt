@@ -2,10 +2,9 @@
 use Rattle.std.proofs.Common.{◌≡◌, ◌≢◌, ℕ, zero, suc, ◌+◌, ◌-◌, ◌≤◌, inl, inr, Bool, true, false, cond, List, [], ◌∷◌, Some, length, take, refl, ◌∙◌, ap, subst, arith, lt-ltb, le-ltb}
 use Rattle.std.specs.Prelude.{slice_get, nat_eq, nat_lt}
 use Rattle.std.proofs.lemmas.Bool.{cases_order, eq-eqb, ne_eqb}
-use Rattle.std.proofs.lemmas.Option.{get_or_from_slice_get}
+use Rattle.std.proofs.lemmas.Option.{get_or_from_slice_get, slice_get_within}
 use Rattle.std.proofs.lemmas.List.Sums.{sum_by-cons, sum_by-take-le, count_by-le-length, count_by_more_yes, count_by_more_no}
 use Rattle.tor_digraph.specs.InRows.{count_at, count_before}
-use Rattle.tor_digraph.proofs.Gets.{slice_get-lt}
 
 abbrev one : Bool → ℕ
 one b = cond b 1 0
@@ -86,11 +85,11 @@ module _ {N : Type 0} (place : N → ℕ) where
   pub at-more : (arcs : List (N × N)) (i : ℕ) (e : N × N) (u : ℕ) → slice_get arcs i ≡ Some e → place e.0 ≡ u →
       count_at place (take (i + 1) arcs) u ≡ count_at place (take i arcs) u + 1
   at-more arcs i e u at same =
-      count_by_more_yes (λ (y : N × N). nat_eq (place y.0) u) arcs i e (slice_get-lt arcs i e at)
+      count_by_more_yes (λ (y : N × N). nat_eq (place y.0) u) arcs i e (slice_get_within arcs i e at)
       (ap (λ (y : N × N). nat_eq (place y.0) u) (get_or_from_slice_get arcs i e e at) ∙ eq-eqb (place e.0) u same)
 
   pub at-same : (arcs : List (N × N)) (i : ℕ) (e : N × N) (u : ℕ) → slice_get arcs i ≡ Some e → place e.0 ≢ u →
       count_at place (take (i + 1) arcs) u ≡ count_at place (take i arcs) u
   at-same arcs i e u at other =
-      count_by_more_no (λ (y : N × N). nat_eq (place y.0) u) arcs i e (slice_get-lt arcs i e at)
+      count_by_more_no (λ (y : N × N). nat_eq (place y.0) u) arcs i e (slice_get_within arcs i e at)
       (ap (λ (y : N × N). nat_eq (place y.0) u) (get_or_from_slice_get arcs i e e at) ∙ ne_eqb (place e.0) u other)

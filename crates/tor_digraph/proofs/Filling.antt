@@ -3,9 +3,10 @@ use Rattle.std.proofs.Common.{◌≡◌, ◌≢◌, ℕ, zero, suc, ◌+◌, ◌
 use Rattle.std.specs.Prelude.{slice_get, replicate}
 use Rattle.std.proofs.lemmas.Bool.{cases_eq, cases_order}
 use Rattle.std.proofs.lemmas.List.{take_all, length-drop, length-take-le}
+use Rattle.std.proofs.lemmas.Option.{slice_get_within}
 use Rattle.tor_digraph.specs.Walks.{IsArc}
 use Rattle.tor_digraph.specs.InRows.{count_at, count_before, IsFilled, IsRow}
-use Rattle.tor_digraph.proofs.Gets.{slice_get-lt, slice_get-set_cases, slice_get-set_same, slice_get-set_other, slice_get-replicate, slice_get-take, slice_get-take_back}
+use Rattle.tor_arena.proofs.Gets.{slice_get-set_cases, slice_get-set_same, slice_get-set_other, slice_get-replicate, slice_get-take, slice_get-take_back}
 use Rattle.tor_digraph.proofs.Closings.{same_arc}
 use Rattle.tor_digraph.proofs.Counts.{before-next, before-none, before-le, before-few, at-few, at-take, at-more, at-same}
 
@@ -96,7 +97,7 @@ module _ {N A : Type 0} (place : N → ℕ) (spot : A → ℕ) (one : (u v : N) 
         starts_at = λ u s at-s. so u s at-s ∙ full u;
         as_many = many;
         only = λ u p e ge lt. absurd (let is = full (place u) in omega (arith, ge, lt, is));
-        each = λ k u v ge arc. absurd (let lt = slice_get-lt arcs k (u, v) arc in omega (arith, ge, lt, all));
+        each = λ k u v ge arc. absurd (let lt = slice_get_within arcs k (u, v) arc in omega (arith, ge, lt, all));
       }
     where
       full : (u : ℕ) → count_before place arcs (u + 1) ≡ count_before place arcs u + count_at place (take left arcs) u

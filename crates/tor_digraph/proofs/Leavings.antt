@@ -3,12 +3,12 @@ use Rattle.std.proofs.Common.{◌≡◌, ℕ, zero, suc, ◌<◌, ◌⊎◌, inl
 use Rattle.std.specs.Prelude.{slice_get, ◌↔◌, nat_eq, IfSome, Contains}
 use Rattle.std.proofs.lemmas.Bool.{cases_eq, eq-eqb}
 use Rattle.std.proofs.lemmas.Bool.Decides.{eqb_tells}
-use Rattle.std.proofs.lemmas.Option.{same_Some}
+use Rattle.std.proofs.lemmas.Option.{same_Some, slice_get_within}
 use Rattle.tor_digraph.specs.Walks.{IsArc}
 use Rattle.tor_digraph.specs.Links.{NoArcIn, IsLatest}
 use Rattle.tor_digraph.specs.Closing.{Has, IsOnce}
 use Rattle.tor_digraph.specs.Leaving.{with_arc, arcs_below, from_arc, arcs_on}
-use Rattle.tor_digraph.proofs.Gets.{slice_get-lt, has-from_Contains, Contains-from_has}
+use Rattle.tor_arena.proofs.Gets.{has-from_Contains, Contains-from_has}
 
 nat_eq-same : (m n : ℕ) → m ≡ n → nat_eq m n ≡ true
 nat_eq-same m n e = eq-eqb m n e
@@ -111,11 +111,11 @@ module _ {N A : Type 0} (place : N → ℕ) (one : (u v : N) → place u ≡ pla
 
   pub latest-can : (u : N) (high : ℕ) (r : Option A) → IsLatest spot arcs u high r → IfSome r (λ a. spot a < length arcs)
   latest-can u high None l = tt
-  latest-can u high (Some a) l = slice_get-lt arcs (spot a) (u, l.1.0) l.1.1
+  latest-can u high (Some a) l = slice_get_within arcs (spot a) (u, l.1.0) l.1.1
 
   on-exact : (u : N) (r : Option A) → IsLatest spot arcs u (length arcs) r → (k : ℕ) (h : N) → Has (arcs_on place spot arcs r) (k, h) ↔ IsArc arcs k u h
   on-exact u r latest k h = subst (λ z. Has z (k, h) ↔ IsArc arcs k u h) (sym (on-latest u (length arcs) r latest))
-      ((λ w. (below-is place one arcs u (length arcs) (k, h) w).1), (λ e. below-has place one arcs u h (length arcs) k (slice_get-lt arcs k (u, h) e) e))
+      ((λ w. (below-is place one arcs u (length arcs) (k, h) w).1), (λ e. below-has place one arcs u h (length arcs) k (slice_get_within arcs k (u, h) e) e))
 
   pub on-exact_Contains : (u : N) (r : Option A) → IsLatest spot arcs u (length arcs) r → (k : ℕ) (h : N) → Contains (arcs_on place spot arcs r) (k, h) ↔ IsArc arcs k u h
   on-exact_Contains u r latest k h = let w = on-exact u r latest k h in

@@ -2,10 +2,7 @@
 use Rattle.std.proofs.Common.{◌≡◌, ℕ, ◌<◌, ◌⊎◌, inl, inr, List, [], ◌∷◌, ◌++◌, Some, length, get_or, refl, ap, subst, arith, Contains}
 use Rattle.std.specs.Prelude.{slice_get}
 use Rattle.std.proofs.lemmas.Option.{slice_get_read}
-use Rattle.tor_digraph.proofs.Gets.{has-from_Contains, Contains-from_has, slice_get-push_old, slice_get-push_cases, slice_get-push_last}
-
-pub none-in : {X : Type 0} {xs : List X} {x : X} → xs ≡ [] → Contains xs x → ⊥
-none-in e h = let n = ap length e in let lt = h.1 in omega (arith, n, lt)
+use Rattle.tor_arena.proofs.Gets.{has-from_Contains, Contains-from_has, slice_get-push_old, slice_get-push_cases, slice_get-push_last}
 
 pub Contains-more : {X : Type 0} (xs ys : List X) (x : X) → Contains xs x → Contains (xs ++ ys) x
 Contains-more xs ys x h = let has = has-from_Contains xs x h in Contains-from_has (xs ++ ys) x (has.0, slice_get-push_old xs ys has.0 x has.1)

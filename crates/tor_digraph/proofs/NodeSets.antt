@@ -2,9 +2,9 @@
 use Rattle.std.proofs.Common.{◌≡◌, ◌↔◌, ℕ, ◌<◌, inl, inr, Bool, true, false, List, [], ◌∷◌, ◌++◌, Some, length, set, refl, sym, ap, ◌∙◌, subst, IsTrue, Contains}
 use Rattle.std.specs.Prelude.{slice_get, replicate}
 use Rattle.std.proofs.lemmas.Bool.{cases_eq, false≢true}
-use Rattle.std.proofs.lemmas.Option.{same_Some}
-use Rattle.tor_digraph.proofs.Gets.{slice_get-lt, slice_get-set_cases, slice_get-set_same, slice_get-set_other, slice_get-replicate}
-use Rattle.tor_digraph.proofs.Members.{none-in, Contains-more, Contains-last, Contains-one_more}
+use Rattle.std.proofs.lemmas.Option.{same_Some, slice_get_within}
+use Rattle.tor_arena.proofs.Gets.{slice_get-set_cases, slice_get-set_same, slice_get-set_other, slice_get-replicate, none-in}
+use Rattle.tor_digraph.proofs.Members.{Contains-more, Contains-last, Contains-one_more}
 use Rattle.tor_digraph.specs.NodeSets.{AreMarked, IsAdded}
 
 -- ---- marks
@@ -31,7 +31,7 @@ marked_more nodes marks n lt m = record {
 }
 
 pub marked_below : (nodes : List ℕ) (marks : List Bool) (n : ℕ) → AreMarked nodes marks → Contains nodes n → n < length marks
-marked_below nodes marks n m h = slice_get-lt marks n true (m.noted n h)
+marked_below nodes marks n m h = slice_get_within marks n true (m.noted n h)
 
 -- nodes are taken out from the end
 pub record AreLeft (nodes : List ℕ) (marks : List Bool) (count : ℕ) : Type 0 where

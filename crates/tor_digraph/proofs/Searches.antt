@@ -2,7 +2,7 @@
 use Rattle.std.proofs.Common.{◌≡◌, ℕ, zero, suc, ◌+◌, ◌<◌, ◌≤◌, ◌⊎◌, inl, inr, List, [], ◌∷◌, ◌++◌, Option, Some, None, Ok, Err, length, set, take, refl, sym, ◌∙◌, ap, subst, arith, length-append}
 use Rattle.std.specs.Prelude.{slice_get, replicate, ◌↔◌, Result, OnOk, OnErr, IfOk, Contains}
 use Rattle.std.proofs.lemmas.List.{length-replicate}
-use Rattle.std.proofs.lemmas.Option.{same_Some}
+use Rattle.std.proofs.lemmas.Option.{same_Some, slice_get_within}
 use Rattle.tor_digraph.specs.Walks.{HasArc, Reaches, here, along, IsWay}
 use Rattle.tor_digraph.specs.Links.{IsLatest}
 use Rattle.tor_digraph.specs.Closing.{Has}
@@ -13,7 +13,7 @@ use Rattle.tor_digraph.specs.declared.found.Found.{Found}
 use Rattle.tor_digraph.specs.declared.found.Found.TheVariants.{No, Start, Along}
 use Rattle.tor_digraph.specs.declared.found.Open.{Open}
 use Rattle.tor_digraph.specs.declared.way.Way.{Way}
-use Rattle.tor_digraph.proofs.Gets.{has-from_Contains, Contains-from_has, slice_get-lt, slice_get-some, slice_get-set_cases, slice_get-set_same, slice_get-take, slice_get-replicate, slice_get-append_cases}
+use Rattle.tor_arena.proofs.Gets.{has-from_Contains, Contains-from_has, slice_get-some, slice_get-set_cases, slice_get-set_same, slice_get-take, slice_get-replicate, slice_get-append_cases}
 use Rattle.tor_digraph.proofs.Few.{few}
 use Rattle.tor_digraph.proofs.Steps.{search-open, seen-not_no, has-cases}
 
@@ -57,7 +57,7 @@ module _ {N A : Type 0} (place : N → ℕ) (spot : A → ℕ) (one : (u v : N) 
   pub search-searched : (found : List (Found N A)) (nodes : List N) (count : ℕ) → IsSearch place spot arcs found nodes [] → length found ≡ count →
       IsSearched place spot count arcs (record { nodes = nodes; found = found })
   search-searched found nodes count s many = let k = search-kept found nodes s in record {
-    inside = λ x h. (let f = k.nodes_seen x (has-from_Contains nodes x h) in subst (λ n. place x < n) many (slice_get-lt found (place x) f.0 f.1));
+    inside = λ x h. (let f = k.nodes_seen x (has-from_Contains nodes x h) in subst (λ n. place x < n) many (slice_get_within found (place x) f.0 f.1));
     heads = λ x y h arc. Contains-from_has nodes y (k.seen y (s.heads x y (has-from_Contains nodes x h) arc));
     order = s.order;
     forest = record { many = many; along = s.tree };
@@ -71,7 +71,7 @@ module _ {N A : Type 0} (arcs : List (N × N)) where
   pub growth-start : (nodes : List N) (s : N) (r : Option A) (empty stack : List (Open N A)) → empty ≡ [] → stack ≡ empty ++ (record { node = s; next = r }) ∷ [] → IsGrowth arcs s nodes nodes stack
   growth-start nodes s r empty stack e-empty e = subst (λ z. IsGrowth arcs s nodes nodes z) (sym (e ∙ ap (λ z. z ++ (record { node = s; next = r }) ∷ []) e-empty)) (record {
     kept = λ k x at. at;
-    more = λ k x le at. (let below : k < length nodes = slice_get-lt nodes k x at in absurd (omega arith));
+    more = λ k x le at. (let below : k < length nodes = slice_get_within nodes k x at in absurd (omega arith));
     waiting = one-node;
   })
     where
@@ -81,11 +81,11 @@ module _ {N A : Type 0} (arcs : List (N × N)) where
 
 module _ {N : Type 0} (arcs : List (N × N)) where
   pub grown-none : (start : N) (nodes : List N) → Contains nodes start → IsGrown arcs start nodes nodes
-  grown-none start nodes h = record { kept = λ k x at. at; more = λ k x le at. (let below : k < length nodes = slice_get-lt nodes k x at in absurd (omega arith)); has_start = h }
+  grown-none start nodes h = record { kept = λ k x at. at; more = λ k x le at. (let below : k < length nodes = slice_get_within nodes k x at in absurd (omega arith)); has_start = h }
 
 module _ {N A : Type 0} (place : N → ℕ) where
   pub start-found : (found found' : List (Found N A)) (s : N) → slice_get found (place s) ≡ Some No → found' ≡ set found (place s) Start → IsFound place found' s
-  start-found found found' s absent e = (Start, rw e (slice_get-set_same found (place s) Start (slice_get-lt found (place s) No absent)), tt)
+  start-found found found' s absent e = (Start, rw e (slice_get-set_same found (place s) Start (slice_get_within found (place s) No absent)), tt)
 
   pub start-starts : (one : (u v : N) → place u ≡ place v → u ≡ v) (found found' : List (Found N A)) (s : N) → found' ≡ set found (place s) Start →
       (x : N) → slice_get found' (place x) ≡ Some Start → (slice_get found (place x) ≡ Some Start) ⊎ (x ≡ s)
@@ -104,7 +104,7 @@ module _ {N A : Type 0} (place : N → ℕ) where
   pub kept-has_not : (found : List (Found N A)) (nodes : List N) (v : Reach N A) (x : N) → AreSeen place nodes found →
       record { nodes = nodes; found = found } ≡ v → length found ≤ place x → Contains v.nodes x → ⊥
   kept-has_not found nodes v x k e le h = let w = k.nodes_seen x (has-from_Contains nodes x (subst (λ z. Contains z.nodes x) (sym e) h)) in
-      let below : place x < length found = slice_get-lt found (place x) w.0 w.1 in omega arith
+      let below : place x < length found = slice_get_within found (place x) w.0 w.1 in omega arith
 
   no-or-seen : (f : Found N A) → (f ≡ No) ⊎ IsSeen f
   no-or-seen No = inl refl
@@ -216,4 +216,4 @@ if_ok_weaker (Err e) f h = h
 pub kept-few : {N A : Type 0} (place : N → ℕ) → ((u v : N) → place u ≡ place v → u ≡ v) → (found : List (Found N A)) (nodes : List N) → AreSeen place nodes found → length nodes ≤ length found
 kept-few place one found nodes k =
     few place nodes (length found) (λ i j x y lt a b e. (let same : i ≡ j = k.once i j x a (b ∙ ap Some (sym (one x y e))) in omega arith))
-    (λ i x at. (let w = k.nodes_seen x (i, at) in slice_get-lt found (place x) w.0 w.1))
+    (λ i x at. (let w = k.nodes_seen x (i, at) in slice_get_within found (place x) w.0 w.1))

@@ -3,7 +3,7 @@ use Rattle.std.proofs.Common.{◌≡◌, ℕ, ◌+◌, ◌<◌, ◌≤◌, ◌�
 use Rattle.std.specs.Prelude.{slice_get}
 use Rattle.std.proofs.lemmas.List.{set_at, set-append_left, length_push}
 use Rattle.std.proofs.lemmas.Bool.{cases_eq, cases_lt}
-use Rattle.std.proofs.lemmas.Option.{same_Some}
+use Rattle.std.proofs.lemmas.Option.{same_Some, slice_get_within}
 use Rattle.tor_digraph.specs.Walks.{IsArc, HasArc, Reaches, here, along}
 use Rattle.tor_digraph.specs.Links.{IsLatest}
 use Rattle.tor_digraph.specs.Closing.{Has}
@@ -12,7 +12,7 @@ use Rattle.tor_digraph.specs.Search.{IsAhead, IsSearch}
 use Rattle.tor_digraph.specs.declared.found.Found.{Found}
 use Rattle.tor_digraph.specs.declared.found.Found.TheVariants.{No, Start, Along}
 use Rattle.tor_digraph.specs.declared.found.Open.{Open}
-use Rattle.tor_digraph.proofs.Gets.{slice_get-push_old, slice_get-push_cases, slice_get-push_last, slice_get-lt, slice_get-set_cases, slice_get-set_same, slice_get-set_other}
+use Rattle.tor_arena.proofs.Gets.{slice_get-push_old, slice_get-push_cases, slice_get-push_last, slice_get-set_cases, slice_get-set_same, slice_get-set_other}
 use Rattle.tor_digraph.proofs.Closings.{same_arc, closing-push}
 use Rattle.tor_digraph.proofs.Few.{few}
 
@@ -29,7 +29,7 @@ module _ {X : Type 0} where
 module _ {N A : Type 0} (place : N → ℕ) where
   pub found-more : (found : List (Found N A)) (i : ℕ) (f : Found N A) (x : N) → IsSeen f → IsFound place found x → IsFound place (set found i f) x
   found-more found i f x s h = elim (cases_eq (place x) i) [
-    | inl e ↦ (f, subst (λ k. slice_get (set found i f) k ≡ Some f) (sym e) (slice_get-set_same found i f (subst (λ k. k < length found) e (slice_get-lt found (place x) h.0 h.1))), s)
+    | inl e ↦ (f, subst (λ k. slice_get (set found i f) k ≡ Some f) (sym e) (slice_get-set_same found i f (subst (λ k. k < length found) e (slice_get_within found (place x) h.0 h.1))), s)
     | inr ne ↦ (h.0, slice_get-set_other found i f (place x) ne ∙ h.1, h.2)
   ]
 
@@ -52,7 +52,7 @@ module _ {N A : Type 0} (place : N → ℕ) (spot : A → ℕ) (one : (u v : N) 
     depths = λ k o at. s.depths k o (slice_get-push_old rest (top ∷ []) k o at);
     apart = λ k o at h. elim (has-cases nodes top.node o.node h) [
       | inl p ↦ s.apart k o (slice_get-push_old rest (top ∷ []) k o at) p
-      | inr p ↦ s.once k (length rest) o top (slice_get-lt rest k o at) (slice_get-push_old rest (top ∷ []) k o at) (slice_get-push_last rest top) p
+      | inr p ↦ s.once k (length rest) o top (slice_get_within rest k o at) (slice_get-push_old rest (top ∷ []) k o at) (slice_get-push_last rest top) p
     ];
     path = λ i j o p lt a b. s.path i j o p lt (slice_get-push_old rest (top ∷ []) i o a) (slice_get-push_old rest (top ∷ []) j p b);
     once = λ i j o p lt a b. s.once i j o p lt (slice_get-push_old rest (top ∷ []) i o a) (slice_get-push_old rest (top ∷ []) j p b);
@@ -82,7 +82,7 @@ module _ {N A : Type 0} (place : N → ℕ) (spot : A → ℕ) (one : (u v : N) 
       exits v f = elim (s.seen v f) [
         | inl h ↦ inl h
         | inr h ↦ inr (elim (slice_get-push_cases rest top h.0 h.1 h.2) [
-          | inl p ↦ subst (λ z. Reaches arcs z top.node) h.3 (s.path h.0 (length rest) h.1 top (slice_get-lt rest h.0 h.1 p) h.2 (slice_get-push_last rest top))
+          | inl p ↦ subst (λ z. Reaches arcs z top.node) h.3 (s.path h.0 (length rest) h.1 top (slice_get_within rest h.0 h.1 p) h.2 (slice_get-push_last rest top))
           | inr p ↦ subst (λ z. Reaches arcs z top.node) (sym (ap (λ o. o.node) p.1) ∙ h.3) here
         ])
       ]
@@ -90,7 +90,7 @@ module _ {N A : Type 0} (place : N → ℕ) (spot : A → ℕ) (one : (u v : N) 
   -- the stack has at most as many nodes as there are
   pub stack-few : (found : List (Found N A)) (nodes : List N) (stack : List (Open N A)) → IsSearch place spot arcs found nodes stack → length stack ≤ length found
   stack-few found nodes stack s = few (λ o. place o.node) stack (length found) (λ i j o p lt a b e. s.once i j o p lt a b (one o.node p.node e))
-      (λ k o at. (let d = s.depths k o at in slice_get-lt found (place o.node) d.0 d.1))
+      (λ k o at. (let d = s.depths k o at in slice_get_within found (place o.node) d.0 d.1))
 
   -- the next arc of a node on the stack leads to a node that was found, so the one after it is next
   pub search-advance : (found : List (Found N A)) (nodes : List N) (stack : List (Open N A)) (k : ℕ) (top : Open N A) (a : A) (h : N) (r : Option A) →
@@ -101,7 +101,7 @@ module _ {N A : Type 0} (place : N → ℕ) (spot : A → ℕ) (one : (u v : N) 
     seen = λ x q. elim (s.seen x q) [
       | inl p ↦ inl p
       | inr p ↦ inr (elim (cases_eq p.0 k) [
-        | inl e ↦ (k, new, slice_get-set_same stack k new (slice_get-lt stack k top at-k), ap (λ o. o.node) (same_Some top p.1 (sym at-k ∙ (subst (λ i. slice_get stack i ≡ Some p.1) e p.2))) ∙ p.3)
+        | inl e ↦ (k, new, slice_get-set_same stack k new (slice_get_within stack k top at-k), ap (λ o. o.node) (same_Some top p.1 (sym at-k ∙ (subst (λ i. slice_get stack i ≡ Some p.1) e p.2))) ∙ p.3)
         | inr ne ↦ (p.0, p.1, slice_get-set_other stack k new p.0 ne ∙ p.2, p.3)
       ])
     ];
@@ -185,7 +185,7 @@ module _ {N A : Type 0} (place : N → ℕ) (spot : A → ℕ) (one : (u v : N) 
       | inr p ↦ (
         f,
         subst (λ z. slice_get (set found (place h) f) (place z) ≡ Some f) (sym (ap (λ z. z.node) p.1))
-            (slice_get-set_same found (place h) f (slice_get-lt found (place h) No absent)),
+            (slice_get-set_same found (place h) f (slice_get_within found (place h) No absent)),
         seen-f,
         deep ∙ sym p.0,
       )
@@ -195,11 +195,11 @@ module _ {N A : Type 0} (place : N → ℕ) (spot : A → ℕ) (one : (u v : N) 
       | inr p ↦ not-found found h absent (s.nodes_seen h (subst (λ z. Has nodes z) (ap (λ z. z.node) p.1) q))
     ];
     path = λ i j o p lt x y. elim (slice_get-push_cases stack new j p y) [
-      | inl b ↦ (let below : j < length stack = slice_get-lt stack j p b in s.path i j o p lt (older i o x (omega arith)) b)
+      | inl b ↦ (let below : j < length stack = slice_get_within stack j p b in s.path i j o p lt (older i o x (omega arith)) b)
       | inr b ↦ subst (λ z. Reaches arcs o.node z) (sym (ap (λ z. z.node) b.1)) (to-h i o (older i o x (omega arith)))
     ];
     once = λ i j o p lt x y e. elim (slice_get-push_cases stack new j p y) [
-      | inl b ↦ (let below : j < length stack = slice_get-lt stack j p b in s.once i j o p lt (older i o x (omega arith)) b e)
+      | inl b ↦ (let below : j < length stack = slice_get_within stack j p b in s.once i j o p lt (older i o x (omega arith)) b e)
       | inr b ↦ (let d = s.depths i o (older i o x (omega arith)) in not-found found h absent (subst (λ z. IsFound place found z) (e ∙ ap (λ z. z.node) b.1) (d.0, d.1, d.2)))
     ];
     heads = λ x y q arc. found-more place found (place h) f y seen-f (s.heads x y q arc);
@@ -228,9 +228,9 @@ module _ {N A : Type 0} (place : N → ℕ) (spot : A → ℕ) (one : (u v : N) 
       older i o x lt = elim (slice_get-push_cases stack (record { node = h; next = r }) i o x) [ inl p ↦ p | inr p ↦ absurd (omega arith) ]
 
       all-ahead : (r : Option A) → IsLatest spot arcs h (length arcs) r → (j : ℕ) (y : N) → IsArc arcs j h y → IsAhead spot r j
-      all-ahead None l j y arc = l j y (omega arith) (slice_get-lt arcs j (h, y) arc) arc
+      all-ahead None l j y arc = l j y (omega arith) (slice_get_within arcs j (h, y) arc) arc
       all-ahead (Some b) l j y arc = elim (cases_lt (spot b) j) [
-        | inl q ↦ absurd (l.2 j y (omega arith) (slice_get-lt arcs j (h, y) arc) arc)
+        | inl q ↦ absurd (l.2 j y (omega arith) (slice_get_within arcs j (h, y) arc) arc)
         | inr q ↦ q
       ]
 
@@ -259,7 +259,7 @@ module _ {N A : Type 0} (place : N → ℕ) (spot : A → ℕ) (one : (u v : N) 
       (search-advance found' nodes ((rest ++ top ∷ []) ++ new ∷ []) (length rest) top a h r opened
       (slice_get-push_old (rest ++ top ∷ []) (new ∷ []) (length rest) top (slice_get-push_last rest top)) is-next arc (
         Along top.node a d,
-        slice_get-set_same found (place h) (Along top.node a d) (slice_get-lt found (place h) No absent),
+        slice_get-set_same found (place h) (Along top.node a d) (slice_get_within found (place h) No absent),
         tt,
       ) latest)
     where
@@ -273,11 +273,11 @@ module _ {N A : Type 0} (place : N → ℕ) (spot : A → ℕ) (one : (u v : N) 
       top' = record { node = top.node; next = r }
 
       inside : length rest < length (rest ++ top ∷ [])
-      inside = slice_get-lt (rest ++ top ∷ []) (length rest) top (slice_get-push_last rest top)
+      inside = slice_get_within (rest ++ top ∷ []) (length rest) top (slice_get-push_last rest top)
 
       to-h : (i : ℕ) (o : Open N A) → slice_get (rest ++ top ∷ []) i ≡ Some o → Reaches arcs o.node h
       to-h i o at = elim (slice_get-push_cases rest top i o at) [
-        | inl p ↦ along (s.path i (length rest) o top (slice_get-lt rest i o p) at (slice_get-push_last rest top)) (spot a, arc)
+        | inl p ↦ along (s.path i (length rest) o top (slice_get_within rest i o p) at (slice_get-push_last rest top)) (spot a, arc)
         | inr p ↦ subst (λ z. Reaches arcs z h) (sym (ap (λ z. z.node) p.1)) (along here (spot a, arc))
       ]
 

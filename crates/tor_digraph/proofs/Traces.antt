@@ -3,18 +3,19 @@ use Rattle.std.proofs.Common.{◌≡◌, ℕ, ◌+◌, ◌<◌, ◌⊎◌, inl, 
 use Rattle.std.specs.Prelude.{slice_get, slice_set, replicate, ◌↔◌, IsTrue, Contains}
 use Rattle.std.proofs.lemmas.Bool.{false≢true}
 use Rattle.std.proofs.lemmas.List.{length-replicate}
+use Rattle.std.proofs.lemmas.Option.{slice_get_within}
 use Rattle.tor_digraph.specs.Found.{IsSeen, IsFound}
 use Rattle.tor_digraph.specs.Reached.{Reach, AreSeen}
 use Rattle.tor_digraph.specs.Traces.{AreMarked}
 use Rattle.tor_digraph.specs.declared.found.Found.{Found}
 use Rattle.tor_digraph.specs.declared.found.Found.TheVariants.{No, Start, Along}
-use Rattle.tor_digraph.proofs.Gets.{has-from_Contains, Contains-from_has, slice_get-lt, slice_get-some, slice_get-set_cases, slice_get-append_cases, slice_get-replicate}
+use Rattle.tor_arena.proofs.Gets.{has-from_Contains, Contains-from_has, slice_get-some, slice_get-set_cases, slice_get-append_cases, slice_get-replicate}
 
 module _ {N A : Type 0} (place : N → ℕ) (found : List (Found N A)) (x : N) where
   pub marked_seen : (marks : List Bool) (b : Bool) → AreMarked found marks → slice_get marks (place x) ≡ Some b → IsTrue b ↔ IsFound place found x
   marked_seen marks b m at = (
     λ t. (
-        let lt = slice_get-lt marks (place x) b at in
+        let lt = slice_get_within marks (place x) b at in
         let many = m.many in
         let f = slice_get-some found (place x) (omega (arith, lt, many)) in
         (f.0, f.1, (m.each (place x) f.0 b f.1 at).0 t)
@@ -74,11 +75,11 @@ module _ {N A : Type 0} where
         elim (slice_get-append_cases found (replicate n No) j g at) [
           | inl old ↦ elim (slice_get-append_cases marks (replicate n false) j c mark) [
             | inl too ↦ m.each j g c old too
-            | inr last ↦ (let lt = slice_get-lt found j g old in let many = m.many in let is = last.1 in absurd (omega (arith, lt, many, is)))
+            | inr last ↦ (let lt = slice_get_within found j g old in let many = m.many in let is = last.1 in absurd (omega (arith, lt, many, is)))
           ]
           | inr last ↦
               elim (slice_get-append_cases marks (replicate n false) j c mark) [
-                | inl old ↦ (let lt = slice_get-lt marks j c old in let many = m.many in let is = last.1 in absurd (omega (arith, lt, many, is)))
+                | inl old ↦ (let lt = slice_get_within marks j c old in let many = m.many in let is = last.1 in absurd (omega (arith, lt, many, is)))
                 | inr too ↦ unmarked g c (slice_get-replicate n No last.0 g last.2) (slice_get-replicate n false too.0 c too.2)
               ]
         ];

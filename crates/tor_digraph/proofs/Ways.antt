@@ -2,10 +2,10 @@
 use Rattle.std.proofs.Common.{◌≡◌, ℕ, ◌+◌, ◌<◌, inl, inr, List, [], ◌∷◌, ◌++◌, Some, None, length, refl, sym, ◌∙◌, ap, subst, arith}
 use Rattle.std.specs.Prelude.{slice_get}
 use Rattle.std.proofs.lemmas.List.{length_push}
-use Rattle.std.proofs.lemmas.Option.{same_Some}
+use Rattle.std.proofs.lemmas.Option.{same_Some, slice_get_within}
 use Rattle.tor_digraph.specs.Walks.{IsArc, IsWay}
 use Rattle.tor_digraph.specs.Back.{IsBack}
-use Rattle.tor_digraph.proofs.Gets.{slice_get-lt, slice_get-push_old, slice_get-push_cases, slice_get-push_last}
+use Rattle.tor_arena.proofs.Gets.{slice_get-push_old, slice_get-push_cases, slice_get-push_last}
 
 module _ {N A : Type 0} (spot : A → ℕ) (arcs : List (N × N)) where
   pub back-none : (x : N) (back : List (N × A)) → back ≡ [] → IsBack spot arcs x x back
@@ -24,11 +24,11 @@ module _ {N A : Type 0} (spot : A → ℕ) (arcs : List (N × N)) where
       | inr p ↦ ap (λ z. z.0) p.1 ∙ b.done (empty back (sym p.0))
     ];
     top = λ k s n at. (let m : length (back ++ (from, a) ∷ []) ≡ length back + 1 = length_push back (from, a) in elim (slice_get-push_cases back (from, a) k s at) [
-      | inl p ↦ (let lt : k < length back = slice_get-lt back k s p in absurd (omega arith))
+      | inl p ↦ (let lt : k < length back = slice_get_within back k s p in absurd (omega arith))
       | inr p ↦ subst (λ z. IsArc arcs (spot z.1) to z.0) (sym p.1) arc
     ]);
     between = λ k s t x y. elim (slice_get-push_cases back (from, a) (k + 1) t y) [
-      | inl q ↦ (let lt : k + 1 < length back = slice_get-lt back (k + 1) t q in elim (slice_get-push_cases back (from, a) k s x) [
+      | inl q ↦ (let lt : k + 1 < length back = slice_get_within back (k + 1) t q in elim (slice_get-push_cases back (from, a) k s x) [
         | inl p ↦ b.between k s t p q
         | inr p ↦ absurd (omega arith)
       ])
@@ -73,7 +73,7 @@ module _ {N A : Type 0} (spot : A → ℕ) (arcs : List (N × N)) where
         first = slice_get-push_old nodes (to ∷ []) 0 start w.first;
         last = subst (λ z. slice_get (nodes ++ to ∷ []) z ≡ Some to) (one ∙ sym m) (slice_get-push_last nodes to);
         between = λ k b u v x y z. elim (slice_get-push_cases steps a k b x) [
-          | inl p ↦ (let lt : k < length steps = slice_get-lt steps k b p in elim (slice_get-push_cases nodes to k u y) [
+          | inl p ↦ (let lt : k < length steps = slice_get_within steps k b p in elim (slice_get-push_cases nodes to k u y) [
             | inl q ↦ elim (slice_get-push_cases nodes to (k + 1) v z) [
               | inl r ↦ w.between k b u v p q r
               | inr r ↦ absurd (omega arith)
@@ -82,7 +82,7 @@ module _ {N A : Type 0} (spot : A → ℕ) (arcs : List (N × N)) where
           ])
           | inr p ↦ elim (slice_get-push_cases nodes to k u y) [
             | inl q ↦ elim (slice_get-push_cases nodes to (k + 1) v z) [
-              | inl r ↦ (let lt : k + 1 < length nodes = slice_get-lt nodes (k + 1) v r in absurd (omega arith))
+              | inl r ↦ (let lt : k + 1 < length nodes = slice_get_within nodes (k + 1) v r in absurd (omega arith))
               | inr r ↦ subst (λ t. IsArc arcs (spot b) u t) (sym r.1)
                   (subst (λ t. IsArc arcs (spot t) u to) (sym p.1)
                   (subst (λ t. IsArc arcs (spot a) t to) (same_Some from u (sym w.last ∙ subst (λ t. slice_get nodes t ≡ Some u) p.0 q)) arc))

@@ -15,7 +15,7 @@ use Rattle.relationships.proofs.FewReturns.{same-equivalence}
 use Rattle.tor_numbers.specs.EdgeNumbers.{edge_numbered, IsEdgeNumber}
 use Rattle.tor_numbers.specs.Edges.{with_edge, edge_at, edges_numbered}
 use Rattle.tor_numbers.specs.Places.{GoesLastIfNew}
-use Rattle.tor_numbers.proofs.Gets.{Contains-from_has, slice_get-lt, slice_get-push_cases}
+use Rattle.tor_arena.proofs.Gets.{Contains-from_has, slice_get-push_cases}
 use Rattle.tor_numbers.proofs.EdgeNumbers.{edge_got, edge_there, number_there, edges_pushed}
 
 -- ---- with one edge more
@@ -53,7 +53,7 @@ distinct_put old new n all h (inr put) d = subst (IsDistinct is_same) (sym (edge
 pub put_is_new : (old new : List ℕ) (k count n : ℕ) (e : Edge) → All IsEdgeNumber old → 2 ≤ n → edge_numbered n ≡ e → count ≡ length old → GoesLastIfNew n old new →
     slice_get new k ≡ Some n → nat_eq k count ≡ not (list_any (is_same e) (edges_numbered old))
 put_is_new old new k count n e all h is long (inl there) at =
-    let lt = slice_get-lt new k n at in
+    let lt = slice_get_within new k n at in
     let same = ap length there.1 in
     ne_eqb k count (λ q. absurd (omega (arith, lt, same, long, q))) ∙ ap not (sym (edge_known old n e is there.0))
 put_is_new old new k count n e all h is long (inr put) at =

@@ -6,7 +6,7 @@ use Rattle.std.proofs.lemmas.List.Elements.{All-contains, All-push}
 use Rattle.std.proofs.lemmas.Option.{slice_get-map}
 use Rattle.tor_numbers.specs.EdgeNumbers.{number_of_edge, edge_numbered, IsEdgeNumber}
 use Rattle.tor_numbers.specs.Places.{GoesLastIfNew}
-use Rattle.tor_numbers.proofs.Gets.{has-from_Contains, Contains-from_has, slice_get-unmap}
+use Rattle.tor_arena.proofs.Gets.{has-from_Contains, Contains-from_has, slice_get-unmap}
 
 -- ---- one number
 

@@ -3,22 +3,22 @@ use Rattle.std.proofs.Common.{◌≡◌, ◌≢◌, ℕ, zero, suc, ◌+◌, ◌
 use Rattle.std.specs.Prelude.{◌^◌, slice_get, slice_index, Contains}
 use Rattle.std.proofs.lemmas.List.{length-map, length-append, map-set}
 use Rattle.std.proofs.lemmas.List.Elements.{All-contains, All-head, All-tail, All-set}
-use Rattle.std.proofs.lemmas.Option.{slice_get-get_or, get_or_from_slice_get}
+use Rattle.std.proofs.lemmas.Option.{slice_get-get_or, get_or_from_slice_get, slice_get_within, same_Some}
 use Rattle.tor_numbers.specs.Slots.{start_at, SearchLeadsTo, HeldFrom, IsHeld}
 use Rattle.tor_numbers.specs.Places.{named, names, AreWithin, IsPlaced}
-use Rattle.tor_numbers.proofs.Gets.{slice_get-lt, Contains-from_has}
-use Rattle.tor_numbers.proofs.SlotLemmas.{same_number, contains_at, one_more, held-put, held-room, apart-push}
+use Rattle.tor_arena.proofs.Gets.{Contains-from_has}
+use Rattle.tor_numbers.proofs.SlotLemmas.{contains_at, one_more, held-put, held-room, apart-push}
 
 -- ---- what a slot names
 
 pub slice_get-names : (numbers slots : List ℕ) (k v : ℕ) → slice_get slots k ≡ Some v → slice_get (names numbers slots) k ≡ Some (named numbers v)
 slice_get-names numbers [] k v e = cc
-slice_get-names numbers (s ∷ slots) zero v e = ap (λ n. Some (named numbers n)) (same_number s v e)
+slice_get-names numbers (s ∷ slots) zero v e = ap (λ n. Some (named numbers n)) (same_Some s v e)
 slice_get-names numbers (s ∷ slots) (suc k) v e = slice_get-names numbers slots k v e
 
 pub slot_of : (numbers slots : List ℕ) (k n : ℕ) → slice_get (names numbers slots) k ≡ Some n → (v : ℕ) × (slice_get slots k ≡ Some v) × (named numbers v ≡ n)
 slot_of numbers [] k n e = cc
-slot_of numbers (s ∷ slots) zero n e = (s, refl, same_number (named numbers s) n e)
+slot_of numbers (s ∷ slots) zero n e = (s, refl, same_Some (named numbers s) n e)
 slot_of numbers (s ∷ slots) (suc k) n e = slot_of numbers slots k n e
 
 -- what a slot that is not free names
@@ -49,7 +49,7 @@ pub holds_place : (numbers slots : List ℕ) (k number : ℕ) → 2 ≤ number �
 holds_place numbers slots k number some within e =
     let w = slot_of numbers slots k number e in
     let v : slice_index slots k ≡ w.0 = get_or_from_slice_get slots k w.0 0 w.1 in
-    let lt : k < length slots = slice_get-lt slots k w.0 w.1 in
+    let lt : k < length slots = slice_get_within slots k w.0 w.1 in
     let le = within_at (length numbers) slots k lt within in
     let used = holds numbers slots k number some e in
     let inside : slice_index slots k - 1 < length numbers = below (slice_index slots k) (length numbers) used le in
@@ -60,7 +60,7 @@ holds_place numbers slots k number some within e =
     below (suc v) n h le = omega (arith, le)
 
 pub inside_of : (numbers slots : List ℕ) (k number : ℕ) → slice_get (names numbers slots) k ≡ Some number → k < length slots
-inside_of numbers slots k number e = let w = slot_of numbers slots k number e in slice_get-lt slots k w.0 w.1
+inside_of numbers slots k number e = let w = slot_of numbers slots k number e in slice_get_within slots k w.0 w.1
 
 -- ---- one number more
 
@@ -115,7 +115,7 @@ placed-put seed slots numbers slot start number p some few is free leads none = 
     begins = is ∙ ap (start_at seed number) (sym (length-map slots (named numbers)))
 
     put : (Contains numbers number → ⊥) × IsHeld seed (set (names numbers slots) slot number) (numbers ++ number ∷ [])
-    put = held-put seed number (names numbers slots) slot numbers some (slice_get-lt (names numbers slots) slot 0 free) free
+    put = held-put seed number (names numbers slots) slot numbers some (slice_get_within (names numbers slots) slot 0 free) free
         (subst (λ s. SearchLeadsTo (names numbers slots) s number slot) begins leads)
         (subst (λ s. HeldFrom (names numbers slots) number s (length (names numbers slots)) → ⊥) begins none) p.held
 
@@ -162,7 +162,7 @@ fill-next seed slots numbers slot start place lt some is free leads none held =
 
     put : (Contains (take place numbers) (slice_index numbers place) → ⊥) ×
         IsHeld seed (set (names numbers slots) slot (slice_index numbers place)) (take place numbers ++ slice_index numbers place ∷ [])
-    put = held-put seed (slice_index numbers place) (names numbers slots) slot (take place numbers) some (slice_get-lt (names numbers slots) slot 0 free) free
+    put = held-put seed (slice_index numbers place) (names numbers slots) slot (take place numbers) some (slice_get_within (names numbers slots) slot 0 free) free
         (subst (λ s. SearchLeadsTo (names numbers slots) s (slice_index numbers place) slot) begins leads)
         (subst (λ s. HeldFrom (names numbers slots) (slice_index numbers place) s (length (names numbers slots)) → ⊥) begins none) held
 

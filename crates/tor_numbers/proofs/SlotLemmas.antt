@@ -4,15 +4,12 @@ use Rattle.std.specs.Prelude.{slice_get, slice_index_or, replicate, Contains}
 use Rattle.std.proofs.lemmas.List.{take-take, take-append-le}
 use Rattle.std.proofs.lemmas.List.Elements.{Contains-append_left, Contains-append_right, Contains-append_cases}
 use Rattle.std.proofs.Math.Seq.{take-append_seam, take-length, take-suc}
-use Rattle.std.proofs.lemmas.Option.{slice_get-get_or}
+use Rattle.std.proofs.lemmas.Option.{slice_get-get_or, slice_get_within, same_Some}
 use Rattle.tor_arena.specs.Growth.{next_slot}
-use Rattle.tor_numbers.proofs.Gets.{slice_get-push_cases, slice_get-lt, slice_get-take, slice_get-set_cases, slice_get-set_other, slice_get-set_same, slice_get-replicate, has-from_Contains, Contains-from_has}
+use Rattle.tor_arena.proofs.Gets.{slice_get-push_cases, slice_get-take, slice_get-set_cases, slice_get-set_other, slice_get-set_same, slice_get-replicate, has-from_Contains, Contains-from_has}
 use Rattle.tor_numbers.specs.Slots.{start_at, HeldFrom, StaysUsed, SearchLeadsTo, IsSearchEnd, IsHeld, IsHolding, Leaves, IsApart}
 use Rattle.tor_numbers.specs.declared.slot_search.SearchEnd.{SearchEnd}
 use Rattle.tor_numbers.specs.declared.slot_search.SearchEnd.TheVariants.{Free, Full}
-
-pub same_number : (a b : ℕ) → Some a ≡ Some b → a ≡ b
-same_number a b e = cc
 
 -- ---- a search from slot to slot
 
@@ -33,13 +30,13 @@ seeking_goes slots start number slot left n next s so k at other used is inside 
       still = (λ h. subst (λ p. HeldFrom slots number p n) (sym is) (rest (subst (HeldFrom slots number slot) so (k.still h))));
       back = (λ new len stays h. k.back new len stays (subst (HeldFrom new number slot) (sym so)
           (inr (
-            (λ e. used (same_number s 0 (sym at ∙ stays slot e))),
+            (λ e. used (same_Some s 0 (sym at ∙ stays slot e))),
             subst (λ m. HeldFrom new number (next_slot m slot) n) (sym len) (subst (λ p. HeldFrom new number p n) is h),
           ))));
     }
   where
     rest : HeldFrom slots number slot (suc n) → HeldFrom slots number (next_slot (length slots) slot) n
-    rest (inl e) = absurd (other (same_number s number (sym at ∙ e)))
+    rest (inl e) = absurd (other (same_Some s number (sym at ∙ e)))
     rest (inr h) = h.1
 
 -- the number can be put where the search has come to
@@ -54,7 +51,7 @@ seeking_free slots start number slot zero some least k at h = absurd (omega arit
 seeking_free slots start number slot (suc n) some least k at h = ends (k.still h)
   where
     ends : HeldFrom slots number slot (suc n) → ⊥
-    ends (inl e) = let is : 0 ≡ number = same_number 0 number (sym at ∙ e) in omega (arith, is, least)
+    ends (inl e) = let is : 0 ≡ number = same_Some 0 number (sym at ∙ e) in omega (arith, is, least)
     ends (inr r) = r.0 at
 
 pub seeking_full : (slots : List ℕ) (start number slot left : ℕ) → left ≤ 0 → IsSeeking slots start number slot left → HeldFrom slots number start (length slots) → ⊥
@@ -133,7 +130,7 @@ held-put seed number slots slot numbers some inside free leads none h =
 
     keep : (k q : ℕ) → 2 ≤ k → slice_get slots q ≡ Some k → slice_get (set slots slot number) q ≡ Some k
     keep k q least e = slice_get-set_other slots slot number q (λ is.
-        let zero_is : k ≡ 0 = same_number k 0 (sym e ∙ ap (slice_get slots) is ∙ free) in omega (arith, zero_is, least)) ∙ e
+        let zero_is : k ≡ 0 = same_Some k 0 (sym e ∙ ap (slice_get slots) is ∙ free) in omega (arith, zero_is, least)) ∙ e
 
     only : (q k : ℕ) → slice_get (set slots slot number) q ≡ Some k → 2 ≤ k → Contains (numbers ++ number ∷ []) k
     only q k e least = elim (slice_get-set_cases slots slot number q k e) [
@@ -188,7 +185,7 @@ held-leave seed number slots slot numbers some at h absent = record { only = onl
 
     keep : (k q : ℕ) → Contains numbers k → slice_get slots q ≡ Some k → slice_get (set slots slot 1) q ≡ Some k
     keep k q c e = slice_get-set_other slots slot 1 q (λ is.
-        absent (subst (Contains numbers) (same_number k number (sym e ∙ ap (slice_get slots) is ∙ at)) c)) ∙ e
+        absent (subst (Contains numbers) (same_Some k number (sym e ∙ ap (slice_get slots) is ∙ at)) c)) ∙ e
 
     old : (q k : ℕ) → slice_get (set slots slot 1) q ≡ Some k → 2 ≤ k → (q ≢ slot) × (slice_get slots q ≡ Some k)
     old q k e least = elim (slice_get-set_cases slots slot 1 q k e) [
@@ -228,7 +225,7 @@ written_back len new old e f = take-append-le len new (drop (length new) old) (o
 
 pub apart-push : (numbers : List ℕ) (number : ℕ) → IsApart numbers → (Contains numbers number → ⊥) → IsApart (numbers ++ number ∷ [])
 apart-push numbers number a absent n m e c = elim (slice_get-push_cases numbers number n m e) [
-  | inl old ↦ (let lt : n < length numbers = slice_get-lt numbers n m old in
+  | inl old ↦ (let lt : n < length numbers = slice_get_within numbers n m old in
       a n m old (subst (λ l. Contains l m) (take-append-le n numbers (number ∷ []) (omega (arith, lt))) c))
   | inr last ↦ absent (subst (λ l. Contains l number) (ap (λ k. take k (numbers ++ number ∷ [])) last.0 ∙ take-append_seam numbers (number ∷ []))
       (subst (Contains (take n (numbers ++ number ∷ []))) last.1 c))

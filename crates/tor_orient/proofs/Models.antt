@@ -12,7 +12,7 @@ use Rattle.relationships.proofs.Places.{listed}
 use Rattle.relationships.proofs.Slopes.{over_parts, over-low, over-high}
 use Rattle.relationships.proofs.Serving.{serves_satisfies}
 use Rattle.tor_digraph.specs.Walks.{Reaches}
-use Rattle.tor_digraph.proofs.Gets.{Contains-from_has}
+use Rattle.tor_arena.proofs.Gets.{Contains-from_has}
 use Rattle.as_graph.specs.Paths.{paths_at}
 use Rattle.tor_clauses.specs.Literals.{lit_of, opposite_node}
 use Rattle.tor_clauses.specs.Formulas.{Formula, FitsGraph, IsModel}
@@ -20,11 +20,6 @@ use Rattle.tor_clauses.proofs.Overs.{edges-apart, over-holds, holds-over}
 use Rattle.tor_clauses.proofs.Exacts.{only_arcs}
 use Rattle.tor_clauses.proofs.Sides.{holds_one, holds_either}
 use Rattle.tor_orient.proofs.Settled.{model_along}
-
-pub get-map : {X Y : Type 0} (f : X → Y) (xs : List X) (k : ℕ) (x : X) → slice_get xs k ≡ Some x → slice_get (map f xs) k ≡ Some (f x)
-get-map f [] k x e = cc
-get-map f (a ∷ xs) zero x e = let same : a ≡ x = cc in ap (λ y. Some (f y)) same
-get-map f (a ∷ xs) (suc k) x e = get-map f xs k x e
 
 -- what is over depends on the edge alone
 over_same : (O O' : Orientation) (x y : ℕ) → O (min x y) (max x y) ≡ O' (min x y) (max x y) → is_over (labels_of O) x y ≡ true → is_over (labels_of O') x y ≡ true

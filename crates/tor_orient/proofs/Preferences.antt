@@ -1,7 +1,7 @@
 -- The ends that are settled make the preferred orientation.
 use Rattle.std.proofs.Common.{◌≡◌, ◌↔◌, ℕ, ◌/◌, ◌<◌, ◌⊎◌, inl, inr, List, [], ◌∷◌, ◌++◌, Some, length, get_or, refl, sym, ap, ◌∙◌, subst, arith, All, Contains}
 use Rattle.std.specs.Prelude.{zero, suc, slice_get}
-use Rattle.std.proofs.lemmas.Option.{slice_get-get_or}
+use Rattle.std.proofs.lemmas.Option.{slice_get-get_or, slice_get_within, same_Some}
 use Rattle.std.proofs.lemmas.List.Elements.{All-contains}
 use Rattle.relationships.specs.declared.label.End.{End}
 use Rattle.relationships.specs.Evidence.{NeighboursDiffer}
@@ -11,7 +11,7 @@ use Rattle.relationships.specs.Preference.{IsPreferred}
 use Rattle.gao_prefs.specs.declared.preferring.Pref.{Pref}
 use Rattle.gao_prefs.specs.Preferences.{edge_preferred, edges_preferred}
 use Rattle.tor_digraph.specs.Reached.{Reach}
-use Rattle.tor_digraph.proofs.Gets.{has-from_Contains, Contains-from_has, slice_get-lt, slice_get-some}
+use Rattle.tor_arena.proofs.Gets.{has-from_Contains, Contains-from_has, slice_get-some, slice_get-unmap, slice_get-behind, slice_get-map}
 use Rattle.as_graph.specs.Paths.{paths_at}
 use Rattle.tor_clauses.specs.declared.lit.Lit.{Lit}
 use Rattle.tor_clauses.specs.Literals.{node_of, lit_of, opposite_node, Holds}
@@ -25,17 +25,14 @@ use Rattle.tor_clauses.proofs.Sides.{same_edge as same_number, edge_opposite, ho
 use Rattle.tor_clauses.proofs.LiteralLemmas.{lit_of_node, node_of_lit, opposite_node-node, opposite_node_twice}
 use Rattle.tor_orient.specs.Wishes.{AreWishes}
 use Rattle.tor_orient.specs.Steps.{node_wanted, AgreesUpTo, AreSettled, IsEndOf, AreEndsOf}
-use Rattle.tor_orient.proofs.Models.{get-map, ends_of, model_of}
-use Rattle.tor_orient.proofs.WishLemmas.{get-unmap, get-seam, get-before, one_place, edge_stands}
-
-some_same : {X : Type 0} {a b : X} → Some a ≡ Some b → a ≡ b
-some_same e = cc
+use Rattle.tor_orient.proofs.Models.{ends_of, model_of}
+use Rattle.tor_orient.proofs.WishLemmas.{get-before, one_place, edge_stands}
 
 -- the end of an edge is the provider
 provider : (es : List Edge) (ends : List End) (k : ℕ) (e : Edge) (end : End) → Apart is_same es → slice_get es k ≡ Some e → slice_get ends k ≡ Some end → orientation es ends e.0 e.1 ≡ end
 provider [] ends k e end a h g = absurd (cc h)
 provider (f ∷ es) [] k e end a h g = absurd (cc g)
-provider (f ∷ es) (one ∷ ends) zero e end a h g = rw (edge_same f (e.0, e.1) (some_same h)) (some_same g)
+provider (f ∷ es) (one ∷ ends) zero e end a h g = rw (edge_same f (e.0, e.1) (same_Some _ _ h)) (same_Some _ _ g)
 provider (f ∷ es) (one ∷ ends) (suc k) e end a h g = rw (a.0 e (get-In es k e h)) (provider es ends k e end a.1 h g)
 
 abbrev lit : ℕ → End → Lit
@@ -73,7 +70,7 @@ module _ (graph : List (List ℕ)) (f : Formula) (apart : All NeighboursDiffer g
       let e = get_or es k (0, 0) in
       let at = slice_get-get_or es k (0, 0) lt in
       let has = has-from_Contains (edges_preferred es prefs) e ((each e).0 (Contains-from_has es e (k, at))) in
-      let u = get-unmap (edge_preferred es) prefs has.0 e has.1 in
+      let u = slice_get-unmap (edge_preferred es) prefs has.0 e has.1 in
       (has.0, u.0, u.1, one_place graph u.0.edge k e (subst (λ e. slice_get es u.0.edge ≡ Some e) u.2 (edge_stands es prefs inside has.0 u.0 u.1)) at)
 
   -- so one of the two literals of each edge is settled
@@ -81,8 +78,8 @@ module _ (graph : List (List ℕ)) (f : Formula) (apart : All NeighboursDiffer g
   one_settled n lt =
       let o = preference_of (n / 2) lt in
       elim (same_number (node_wanted o.1) n (half o.1 ∙ o.3)) [
-        | inl same ↦ subst (λ m. Contains r.nodes m ⊎ Contains r.nodes (opposite_node m)) same (so.each o.0 o.1 (slice_get-lt prefs o.0 o.1 o.2) o.2)
-        | inr other ↦ elim (subst (λ m. Contains r.nodes m ⊎ Contains r.nodes (opposite_node m)) other (so.each o.0 o.1 (slice_get-lt prefs o.0 o.1 o.2) o.2)) [
+        | inl same ↦ subst (λ m. Contains r.nodes m ⊎ Contains r.nodes (opposite_node m)) same (so.each o.0 o.1 (slice_get_within prefs o.0 o.1 o.2) o.2)
+        | inr other ↦ elim (subst (λ m. Contains r.nodes m ⊎ Contains r.nodes (opposite_node m)) other (so.each o.0 o.1 (slice_get_within prefs o.0 o.1 o.2) o.2)) [
           | inl h ↦ inr h
           | inr h ↦ inl (subst (Contains r.nodes) (opposite_node_twice n) h)
         ]
@@ -91,7 +88,7 @@ module _ (graph : List (List ℕ)) (f : Formula) (apart : All NeighboursDiffer g
   -- and what holds is settled
   settled_of : (n : ℕ) → Holds ends (lit_of n) → Contains r.nodes n
   settled_of n h =
-      let lt = slice_get-lt ends (n / 2) (lit_of n).over h in
+      let lt = slice_get_within ends (n / 2) (lit_of n).over h in
       elim (one_settled n (omega (arith, lt, many))) [ inl i ↦ i | inr o ↦ absurd (holds_one ends n h (held (opposite_node n) o)) ]
 
   model : IsModel f ends
@@ -106,7 +103,7 @@ module _ (graph : List (List ℕ)) (f : Formula) (apart : All NeighboursDiffer g
       O = orientation es ends
 
       the_pref : (p : Pref) × (slice_get prefs (length before) ≡ Some p) × (edge_preferred es p ≡ e)
-      the_pref = get-unmap (edge_preferred es) prefs (length before) e (ap (λ (l : List Edge). slice_get l (length before)) split ∙ get-seam before e after)
+      the_pref = slice_get-unmap (edge_preferred es) prefs (length before) e (ap (λ (l : List Edge). slice_get l (length before)) split ∙ slice_get-behind before e after)
 
       abbrev p : Pref
       p = the_pref.0
@@ -123,12 +120,12 @@ module _ (graph : List (List ℕ)) (f : Formula) (apart : All NeighboursDiffer g
       module _ (O' : Orientation) (serves' : Serves O' (paths_at graph f.paths)) (same : SameOn before O O') (is : O' e.0 e.1 ≡ wanted e) where
         moved : (n : ℕ) (d : Edge) → slice_get es (n / 2) ≡ Some d → O d.0 d.1 ≡ O' d.0 d.1 → Contains r.nodes n → Holds (ends_of es O') (lit_of n)
         moved n d at alike h =
-            get-map (λ (g : Edge). O' g.0 g.1) es (n / 2) d at ∙ ap Some (sym alike ∙ provider es ends (n / 2) d (lit_of n).over (edges-apart graph) at (held n h))
+            slice_get-map (λ (g : Edge). O' g.0 g.1) es (n / 2) d at ∙ ap Some (sym alike ∙ provider es ends (n / 2) d (lit_of n).over (edges-apart graph) at (held n h))
 
         agrees : AgreesUpTo prefs (length before) r.nodes (ends_of es O')
         agrees k q lt at =
             let d = edge_preferred es q in
-            let there = get-before before (e ∷ after) k d lt (ap (λ (l : List Edge). slice_get l k) (sym split) ∙ get-map (edge_preferred es) prefs k q at) in
+            let there = get-before before (e ∷ after) k d lt (ap (λ (l : List Edge). slice_get l k) (sym split) ∙ slice_get-map (edge_preferred es) prefs k q at) in
             let alike = All-contains (λ (g : Edge). O g.0 g.1 ≡ O' g.0 g.1) before d same (Contains-from_has before d (k, there)) in
             let stands = edge_stands es prefs inside k q at in
             let n = node_wanted q in (
@@ -137,10 +134,10 @@ module _ (graph : List (List ℕ)) (f : Formula) (apart : All NeighboursDiffer g
             )
 
         holds : Holds (ends_of es O') (lit_of (node_wanted p))
-        holds = subst (Holds (ends_of es O')) (sym (lit_of_node (lit p.edge p.wanted))) (get-map (λ (g : Edge). O' g.0 g.1) es p.edge e p_stands ∙ ap Some (is ∙ sym p_wants))
+        holds = subst (Holds (ends_of es O')) (sym (lit_of_node (lit p.edge p.wanted))) (slice_get-map (λ (g : Edge). O' g.0 g.1) es p.edge e p_stands ∙ ap Some (is ∙ sym p_wants))
 
         back : O e.0 e.1 ≡ wanted e
-        back = elim (so.best (length before) p (slice_get-lt prefs (length before) p the_pref.1) the_pref.1) [
+        back = elim (so.best (length before) p (slice_get_within prefs (length before) p the_pref.1) the_pref.1) [
           | inl h ↦
               let here : Holds ends (lit p.edge p.wanted) = subst (Holds ends) (lit_of_node (lit p.edge p.wanted)) (held (node_wanted p) h) in
               provider es ends p.edge e p.wanted (edges-apart graph) p_stands here ∙ p_wants

@@ -7,7 +7,7 @@ use Rattle.relationships.specs.declared.label.End.{End}
 use Rattle.gao_prefs.specs.declared.preferring.Pref.{Pref}
 use Rattle.tor_digraph.specs.Walks.{Reaches, here, along}
 use Rattle.tor_digraph.specs.Reached.{Reach, IsFlooded, IsGrown}
-use Rattle.tor_digraph.proofs.Gets.{has-from_Contains, Contains-from_has, slice_get-some}
+use Rattle.tor_arena.proofs.Gets.{has-from_Contains, Contains-from_has, slice_get-some, none-in}
 use Rattle.tor_clauses.specs.Literals.{lit_of, opposite_node, Holds}
 use Rattle.tor_clauses.specs.Formulas.{Formula, IsModel}
 use Rattle.tor_clauses.specs.Flipping.{HasPartners}
@@ -17,9 +17,6 @@ use Rattle.tor_clauses.proofs.Flips.{reach_back, reach_from, reach_own}
 use Rattle.tor_orient.specs.Steps.{node_wanted, NoneLeadsOut, IsSettledBy, AgreesUpTo, IsRuledOut, AreSettled}
 
 -- ---- what is reached
-
-pub nothing : {X : Type 0} {xs : List X} {x : X} → xs ≡ [] → Contains xs x → ⊥
-nothing {xs = xs} {x = x} none h = let many = ap length none in let lt = h.1 in omega (arith, lt, many)
 
 grown_keeps : (arcs : List (ℕ × ℕ)) (start : ℕ) (old new : List ℕ) → IsGrown arcs start old new → (n : ℕ) → Contains old n → Contains new n
 grown_keeps arcs start old new grown n h = let has = has-from_Contains old n h in Contains-from_has new n (has.0, grown.kept has.0 n has.1)
@@ -38,7 +35,7 @@ grown_cases arcs start old new w n h =
 
 -- what one search has found is reached from its start
 pub found_way : (arcs : List (ℕ × ℕ)) (start : ℕ) (old new : List ℕ) → old ≡ [] → IsGrown arcs start old new → (n : ℕ) → Contains new n → Reaches arcs start n
-found_way arcs start old new none grown n h = elim (grown_cases arcs start old new grown n h) [ inl was ↦ absurd (nothing none was) | inr r ↦ r ]
+found_way arcs start old new none grown n h = elim (grown_cases arcs start old new grown n h) [ inl was ↦ absurd (none-in none was) | inr r ↦ r ]
 
 module _ (f : Formula) where
   -- no arc leads out of what is settled
@@ -196,8 +193,8 @@ settled_next f prefs count old new p partners one_way so at closed (inr (unwante
 pub settled_none : (f : Formula) (prefs : List Pref) (r : Reach ℕ ℕ) → NoneLeadsOut f.net r → r.nodes ≡ [] → AreSettled f prefs 0 r
 settled_none f prefs r closed none = record {
   closed = closed;
-  consistent = λ n h. absurd (nothing none h);
+  consistent = λ n h. absurd (none-in none h);
   each = λ k q lt. absurd (omega (arith, lt));
-  follows = λ ends model agrees n h. absurd (nothing none h);
+  follows = λ ends model agrees n h. absurd (none-in none h);
   best = λ k q lt. absurd (omega (arith, lt));
 }

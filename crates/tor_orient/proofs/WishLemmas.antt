@@ -4,28 +4,18 @@ use Rattle.std.specs.Prelude.{slice_get}
 use Rattle.std.proofs.lemmas.Bool.{false_from_ne_true}
 use Rattle.std.proofs.lemmas.List.{length-map}
 use Rattle.std.proofs.lemmas.List.Elements.{All-contains}
-use Rattle.std.proofs.lemmas.Option.{slice_get-get_or, get_or_from_slice_get}
+use Rattle.std.proofs.lemmas.Option.{slice_get-get_or, get_or_from_slice_get, slice_get_within}
 use Rattle.tor_arena.specs.Distinct.{AllDistinct}
 use Rattle.relationships.specs.Graph.{Edge, is_same, edges}
 use Rattle.relationships.proofs.Edges.{same_edge}
 use Rattle.gao_prefs.specs.declared.preferring.Pref.{Pref}
 use Rattle.gao_prefs.specs.Preferences.{edge_preferred}
-use Rattle.tor_digraph.proofs.Gets.{Contains-from_has, slice_get-lt}
+use Rattle.tor_arena.proofs.Gets.{Contains-from_has, slice_get-map}
 use Rattle.tor_clauses.proofs.Overs.{edges-apart, place_is}
 use Rattle.tor_clauses.proofs.Sames.{edge_same}
 use Rattle.tor_orient.specs.Wishes.{wish, AreWishes}
-use Rattle.tor_orient.proofs.Models.{get-map}
 
 -- ---- lists
-
-pub get-unmap : {X Y : Type 0} (f : X → Y) (xs : List X) (k : ℕ) (y : Y) → slice_get (map f xs) k ≡ Some y → (x : X) × (slice_get xs k ≡ Some x) × (f x ≡ y)
-get-unmap f [] k y e = cc
-get-unmap f (x ∷ xs) zero y e = (x, refl, cc)
-get-unmap f (x ∷ xs) (suc k) y e = get-unmap f xs k y e
-
-pub get-seam : {X : Type 0} (xs : List X) (y : X) (ys : List X) → slice_get (xs ++ (y ∷ ys)) (length xs) ≡ Some y
-get-seam [] y ys = refl
-get-seam (x ∷ xs) y ys = get-seam xs y ys
 
 pub get-before : {X : Type 0} (xs ys : List X) (k : ℕ) (x : X) → k < length xs → slice_get (xs ++ ys) k ≡ Some x → slice_get xs k ≡ Some x
 get-before [] ys k x lt e = absurd (omega (arith, lt))
@@ -62,13 +52,13 @@ wishes graph prefs inside apart k d lt = wish_at es prefs each k (get_or prefs k
     es = edges graph
 
     edge_number : (j : ℕ) (p : Pref) → slice_get prefs j ≡ Some p → get_or (map (λ (pref : Pref). pref.edge) prefs) j 0 ≡ p.edge
-    edge_number j p at = get_or_from_slice_get (map (λ (pref : Pref). pref.edge) prefs) j p.edge 0 (get-map (λ (pref : Pref). pref.edge) prefs j p at)
+    edge_number j p at = get_or_from_slice_get (map (λ (pref : Pref). pref.edge) prefs) j p.edge 0 (slice_get-map (λ (pref : Pref). pref.edge) prefs j p at)
 
     each : (i j : ℕ) (p q : Pref) → i < j → slice_get prefs i ≡ Some p → slice_get prefs j ≡ Some q → is_same (edge_preferred es q) (edge_preferred es p) ≡ false
     each i j p q less at there = false_from_ne_true (is_same (edge_preferred es q) (edge_preferred es p)) (λ t.
         let same = same_edge (edge_preferred es q) (edge_preferred es p) t in
         let first = edge_stands es prefs inside i p at in
         let second = subst (λ e. slice_get es q.edge ≡ Some e) same (edge_stands es prefs inside j q there) in
-        let within = slice_get-lt prefs j q there in
+        let within = slice_get_within prefs j q there in
         let many = length-map prefs (λ (pref : Pref). pref.edge) in
         apart i j 0 less (omega (arith, within, many)) (edge_number i p at ∙ one_place graph p.edge q.edge (edge_preferred es p) first second ∙ sym (edge_number j q there)))

@@ -1,8 +1,8 @@
 -- A check says yes to a result, beside the dumps that it was made of too.
 use Rattle.std.proofs.Common.{◌≡◌, ◌≤◌, ◌⊎◌, ℕ, List, [], ◌∷◌, length, Some, Result, Ok, inl, inr, refl, sym, subst, arith}
 use Rattle.std.specs.Prelude.{IsOk}
-use Rattle.tor_arena.specs.Limits.{max_paths}
 use Rattle.path_clean.specs.declared.cleaned.Sets.{Sets}
+use Rattle.tor_arena.specs.Limits.{max_paths}
 use Rattle.tor_io.specs.Contents.{Files}
 use Rattle.dump_read.specs.declared.taking.Taken.{Taken}
 use Rattle.result_text.specs.declared.file.ResultFile.{ResultFile}

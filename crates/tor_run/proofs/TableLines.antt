@@ -4,6 +4,7 @@ use Rattle.std.specs.Prelude.{option_map}
 use Rattle.std.specs.List.{slice_get}
 use Rattle.std.proofs.lemmas.Grind.{flat_map-append}
 use Rattle.std.proofs.lemmas.List.{append-nil, take-append-drop}
+use Rattle.std.proofs.lemmas.Option.{same_Some}
 use Rattle.tor_io.specs.Contents.{GainsPrefix}
 use Rattle.tor_io.proofs.Passing.{longer}
 use Rattle.path_clean.specs.Rows.{Counted, row_paths}
@@ -13,13 +14,7 @@ use Rattle.tor_run.specs.Listing.{list_line, listing}
 row_at : (rows : List Counted) (i : ℕ) (path : List ℕ) (times : ℕ) → slice_get (row_paths rows) i ≡ Some path → option_map (λ row. row.times) (slice_get rows i) ≡ Some times
     → take (suc i) rows ≡ take i rows ++ record { path = path; times = times } ∷ []
 row_at [] i path times is counted = absurd cc
-row_at (row ∷ rows) zero path times is counted = ap₂ (λ p t. record { path = p; times = t } ∷ []) (some_path row.path path is) (some_times row.times times counted)
-  where
-    some_path : (x y : List ℕ) → Some x ≡ Some y → x ≡ y
-    some_path x y e = cc
-
-    some_times : (x y : ℕ) → Some x ≡ Some y → x ≡ y
-    some_times x y e = cc
+row_at (row ∷ rows) zero path times is counted = ap₂ (λ p t. record { path = p; times = t } ∷ []) (same_Some row.path path is) (same_Some row.times times counted)
 row_at (row ∷ rows) (suc i) path times is counted = ap (λ (t : List Counted). row ∷ t) (row_at rows i path times is counted)
 
 pub one_line_more : (rows : List Counted) (i : ℕ) (path : List ℕ) (times : ℕ) → slice_get (row_paths rows) i ≡ Some path → option_map (λ row. row.times) (slice_get rows i) ≡ Some times

@@ -5,6 +5,7 @@ use Rattle.std.specs.Str.{bytes_eq}
 use Rattle.std.specs.Str.Parse.{digits_value, without_leading_plus}
 use Rattle.clap.specs.ValueTests.{is_unsigned_in}
 use Rattle.clap.specs.Words.{Kinds, Row, Text, all_of, first_of, fault_of, matches_of}
+use Rattle.tor_arena.specs.Limits.{max_paths, max_ratio}
 use Rattle.path_clean.specs.declared.cleaned.Sets.{Sets}
 use Rattle.path_clean.specs.declared.cleaned.Sets.TheVariants.{Cut, Skip}
 use Rattle.tor_words.specs.declared.settings.Mode.{Mode}
@@ -72,8 +73,8 @@ settings_in rows =
       ratio = ratio;
       max_paths = most;
       dumps = dumps_in rows;
-    }) (number_or 1 8388608 8388608 (first_of (codes "max-paths") rows)))
-    (number_or 0 1000000 60 (first_of (codes "ratio") rows)))
+    }) (number_or 1 max_paths max_paths (first_of (codes "max-paths") rows)))
+    (number_or 0 max_ratio 60 (first_of (codes "ratio") rows)))
     (sets_or_cut (first_of (codes "as-sets") rows)))
     (mode_in rows)
 

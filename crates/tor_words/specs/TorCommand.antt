@@ -6,6 +6,7 @@ use Rattle.clap.specs.Simple.{on_top}
 use Rattle.clap.specs.Lexer.{usize_max}
 use Rattle.clap.specs.declared.builder.value_parser.ValueParser.TheVariants as vp
 use Rattle.clap.specs.declared.builder.action.ArgAction.TheVariants.{Set, SetTrue}
+use Rattle.tor_arena.specs.Limits.{max_paths, max_ratio}
 
 -- an option with one value
 abbrev pub option_rule : Text → Rule
@@ -36,8 +37,8 @@ with_choices app =
 abbrev pub with_numbers : App → App
 with_numbers app =
     with_rule (with_rule (with_rule app
-    (number_rule (codes "ratio") 0 1000000))
-    (number_rule (codes "max-paths") 1 8388608))
+    (number_rule (codes "ratio") 0 max_ratio))
+    (number_rule (codes "max-paths") 1 max_paths))
     (number_rule (codes "sample") 0 18446744073709551615)
 
 unfoldable pub tor_command : App

@@ -7,6 +7,7 @@ ghost use Rattle.tor_words.specs.TorcheckCommand.{torcheck_command, needed_rule}
 use clap::builder::ValueParser;
 use clap::{Arg, ArgAction, Command};
 use std::alloc::{AllocError, Global};
+use tor_arena::{MAX_PATHS, MAX_RATIO};
 
 fn flag<'a>(alloc: Global, name: &'a str, help: &'a str) -> Arg<'a>
     ensures rule { rule_of result ≡ flag_rule name.now }
@@ -150,8 +151,8 @@ fn with_choices<'a>(alloc: Global, command: Command<'a>) -> Result<Command<'a>, 
 fn with_numbers<'a>(alloc: Global, command: Command<'a>) -> Result<Command<'a>, AllocError>
     ensures { IfOk result (λ c. app_of c ≡ with_numbers (app_of command.entry)) }
 {
-    let command = with_number(alloc, command, "ratio", 0, 1_000_000, RATIO_HELP)?;
-    let command = with_number(alloc, command, "max-paths", 1, 8_388_608, MOST_HELP)?;
+    let command = with_number(alloc, command, "ratio", 0, MAX_RATIO as u64, RATIO_HELP)?;
+    let command = with_number(alloc, command, "max-paths", 1, MAX_PATHS as u64, MOST_HELP)?;
     with_number(alloc, command, "sample", 0, u64::MAX, SAMPLE_HELP)
 }
 

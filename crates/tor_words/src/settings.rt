@@ -1,6 +1,7 @@
 //! The settings of a run.
 ghost use Rattle.std.specs.Prelude.{◌≡◌, ◌≤◌, IfOk, IfErr, OnErr, Some, None, map, option_map};
 ghost use Rattle.clap.specs.Words.{found_of, rows_of, first_of};
+ghost use Rattle.tor_arena.specs.Limits.{max_paths, max_ratio};
 ghost use Rattle.tor_words.specs.Given.{settings_in, settings_given, dumps_in, mode_of, HasDumps};
 ghost use Rattle.tor_words.specs.Refused.{IsUsage, SaysUsage};
 
@@ -11,7 +12,7 @@ use crate::values::{is_true_text, number_in, number_or, sets_or_cut};
 use clap::ArgMatches;
 use path_clean::Sets;
 use std::alloc::Global;
-use tor_arena::{List, NoMemory};
+use tor_arena::{List, MAX_PATHS, MAX_RATIO, NoMemory};
 
 /// What a run of `tor` writes.
 #[derive(Clone, Copy, Debug, PartialEq, Eq)]
@@ -102,9 +103,9 @@ fn settings_in(alloc: Global, matches: &ArgMatches) -> Result<Settings, WordsRef
     ensures ok { IfOk result (λ s. settings_in (rows_of (found_of matches.now)) ≡ Some s) }
     ensures err { IfErr result (λ e. IsUsage e → settings_in (rows_of (found_of matches.now)) ≡ None) }
     ensures text { IfErr result SaysUsage }
-    ensures ratio { IfOk result (λ s. s.ratio ≤ 1000000) }
+    ensures ratio { IfOk result (λ s. s.ratio ≤ max_ratio) }
     ensures some { IfOk result (λ s. 1 ≤ s.max_paths) }
-    ensures most { IfOk result (λ s. s.max_paths ≤ 8388608) }
+    ensures most { IfOk result (λ s. s.max_paths ≤ max_paths) }
     ensures named { IfOk result (λ s. HasDumps s.mode s.dumps) }
 {
     let Ok(dumps) = dumps_in(alloc, matches) else {
@@ -119,10 +120,10 @@ fn settings_in(alloc: Global, matches: &ArgMatches) -> Result<Settings, WordsRef
     let Some(sets) = sets_or_cut(first(matches, "as-sets")) else {
         return Err(usage(alloc, "--as-sets takes cut or skip\n"));
     };
-    let Some(ratio) = number_or(first(matches, "ratio"), 0, 1_000_000, 60) else {
+    let Some(ratio) = number_or(first(matches, "ratio"), 0, MAX_RATIO as u64, 60) else {
         return Err(usage(alloc, "--ratio takes a number from 0 to 1000000\n"));
     };
-    let Some(max_paths) = number_or(first(matches, "max-paths"), 1, 8_388_608, 8_388_608) else {
+    let Some(max_paths) = number_or(first(matches, "max-paths"), 1, MAX_PATHS as u64, MAX_PATHS as u64) else {
         return Err(usage(alloc, "--max-paths takes a number from 1 to 8388608\n"));
     };
     Ok(Settings {
@@ -140,9 +141,9 @@ pub fn settings_of(alloc: Global, words: &List<Name>) -> Result<Settings, WordsR
     ensures given { IfOk result (λ s. settings_given words.now ≡ Some s) }
     ensures refused { IfErr result (λ e. IsUsage e → settings_given words.now ≡ None) }
     ensures text { IfErr result SaysUsage }
-    ensures ratio { IfOk result (λ s. s.ratio ≤ 1000000) }
+    ensures ratio { IfOk result (λ s. s.ratio ≤ max_ratio) }
     ensures some { IfOk result (λ s. 1 ≤ s.max_paths) }
-    ensures most { IfOk result (λ s. s.max_paths ≤ 8388608) }
+    ensures most { IfOk result (λ s. s.max_paths ≤ max_paths) }
     ensures named { IfOk result (λ s. HasDumps s.mode s.dumps) }
 {
     let Ok(command) = command(alloc) else {

@@ -1,6 +1,5 @@
 -- What the words and the files of a check give: a verdict on the result file, or why there is none.
 use Rattle.std.specs.Prelude.{◌≡◌, ◌≤◌, ◌<◌, ◌⊎◌, ℕ, List, [], ◌∷◌, length, Option, Some, None, Result, Ok, Err, IsOk}
-use Rattle.tor_arena.specs.Limits.{max_paths}
 use Rattle.tor_io.specs.Contents.{Files}
 use Rattle.result_text.specs.declared.file.ResultFile.{ResultFile}
 use Rattle.result_text.specs.Grammar.{IsTextOf, IsBadLine}
@@ -15,6 +14,7 @@ use Rattle.tor_words.specs.declared.check_settings.CheckSettings.{CheckSettings}
 use Rattle.tor_words.specs.CheckGiven.{check_settings_given}
 use Rattle.run_base.specs.Reading.{nothing, seen_from}
 use Rattle.torcheck_run.specs.Limits.{max_result}
+use Rattle.tor_arena.specs.Limits.{max_paths}
 use Rattle.run_base.specs.WholeFile.{IsLongFile, LeavesRest, LeavesOnly}
 
 -- ---- the rules 0 to 10, which the bytes of the result file alone decide

@@ -1,6 +1,7 @@
 -- The limit of a check.
-use Rattle.std.specs.Prelude.{ℕ, ◌^◌}
+use Rattle.std.specs.Prelude.{ℕ}
+use Rattle.torcheck_run.specs.declared.judging.TheConstants.{MAX_RESULT}
 
 -- the most octets of a result file
 abbrev pub max_result : ℕ
-max_result = 2 ^ 31
+max_result = MAX_RESULT

@@ -15,7 +15,6 @@ ghost use Rattle.result_rules.specs.File.{HasFewLines};
 ghost use Rattle.torcheck_run.specs.Unjudging.{IsRuling, IsRulingOf, IsRefusedBy, IsUnjudged, IsUnjudgedIn, IsTooLong, IsFailedResult, IsFailedRead, IsOfCheckWords, AnswersUnjudged};
 ghost use Rattle.torcheck_run.specs.Limits.{max_result};
 
-use path_clean::MAX_PATHS;
 use rel_checker::{check_against, check_file};
 use result_rules::Verdict;
 use result_text::{ParseError, ResultFile, parse};
@@ -24,7 +23,7 @@ use run_base::{
     read_fault_note, read_whole, result_note,
 };
 use std::alloc::Global;
-use tor_arena::{Keys, List, NoMemory};
+use tor_arena::{Keys, List, MAX_PATHS, NoMemory};
 use tor_io::Shelf;
 use tor_words::{CheckSettings, Name, check_settings_of};
 

@@ -1,7 +1,8 @@
 use Rattle.std.proofs.Common.{◌≡◌, ◌+◌, ◌-◌, ◌<◌, ◌↔◌, ℕ, Bool, true, false, not, ◌&&◌, ◌||◌, Some, refl, sym, ap, ◌∙◌, subst, arith, inl, inr}
 use Rattle.std.specs.Prelude.{slice_get}
 use Rattle.std.proofs.lemmas.Bool.{cases_eq, false≢true}
-use Rattle.tor_digraph.proofs.Gets.{slice_get-lt, slice_get-some}
+use Rattle.std.proofs.lemmas.Option.{slice_get_within}
+use Rattle.tor_arena.proofs.Gets.{slice_get-some}
 use Rattle.as_graph.specs.declared.step.Step.{Step}
 use Rattle.tor_clauses.specs.Literals.{lit_of, Holds}
 use Rattle.tor_clauses.specs.Tables.{lit_at}
@@ -66,6 +67,6 @@ loop-step-preserved c = record { none = λ e. absurd (omega (arith, e)); before 
 
 pub returns : goal.returns
 returns c = (
-  λ so k s t a b. let lt = slice_get-lt c.args.steps.now (k + 1) t b in let past = c.loop-step-test.false in c.loop-step.invariant.satisfied.0 so k s t (omega (arith, lt, past)) a b,
+  λ so k s t a b. let lt = slice_get_within c.args.steps.now (k + 1) t b in let past = c.loop-step-test.false in c.loop-step.invariant.satisfied.0 so k s t (omega (arith, lt, past)) a b,
   λ all. c.loop-step.invariant.satisfied.1 (λ k s t lt a b. all k s t a b),
 )

@@ -1,9 +1,9 @@
 use Rattle.std.proofs.Common.{◌≡◌, ◌≤◌, ◌*◌, ◌↔◌, max, min, IsTrue, sym, ◌∙◌, subst, arith}
-use Rattle.std.proofs.lemmas.Option.{slice_get-get_or}
+use Rattle.std.proofs.lemmas.Option.{slice_get-get_or, same_Some}
 use Rattle.relationships.specs.Graph.{Edge, edges, degree}
 use Rattle.relationships.specs.Preference.{IsAlike}
 use Rattle.peering.specs.Peerings.{edge_in}
-use Rattle.peering.proofs.Reading.{some_same, degree_small}
+use Rattle.peering.proofs.Reading.{degree_small}
 use Rattle.peering.proofs.alike.is_alike.Goals as goal
 
 pub is_within-requires-clause-first : goal.is_within-requires-clause-first
@@ -21,7 +21,7 @@ returns c =
     let r = c.is_within.result in
     let low = c.edge-ends.result.low in
     let high = c.edge-ends.result.high in
-    let at : edge_in paths c.args.edge ≡ (low, high) = some_same (sym (slice_get-get_or (edges paths) c.args.edge (0, 0) c.requires.there) ∙ c.edge-ends.ensures.pair) in
+    let at : edge_in paths c.args.edge ≡ (low, high) = same_Some _ _ (sym (slice_get-get_or (edges paths) c.args.edge (0, 0) c.requires.there) ∙ c.edge-ends.ensures.pair) in
     let one : IsTrue r ↔ (max (degree paths low) c.degree-2.result ≤ ratio * min (degree paths low) c.degree-2.result) =
     subst (λ m. IsTrue r ↔ (max m c.degree-2.result ≤ ratio * min m c.degree-2.result)) c.degree.ensures c.is_within.ensures in
     let two : IsTrue r ↔ (max (degree paths low) (degree paths high) ≤ ratio * min (degree paths low) (degree paths high)) =

@@ -1,7 +1,6 @@
 use Rattle.std.proofs.Common.{◌≡◌, length, Some, refl, ap, subst, arith}
 use Rattle.std.specs.Prelude.{slice_get}
-use Rattle.std.proofs.lemmas.Option.{slice_get_read}
-use Rattle.tor_digraph.proofs.Gets.{slice_get-lt}
+use Rattle.std.proofs.lemmas.Option.{slice_get_read, slice_get_within}
 use Rattle.tor_clauses.proofs.Leadings.{way_arc}
 use Rattle.tor_clauses.proofs.walking.follow_way.Goals as goal
 
@@ -13,7 +12,7 @@ step-requires-clause-there c =
     subst (λ l. slice_get l c.loop-arc.arc-index ≡ Some c.arc-item.result) c.as_slice-arc-items.ensures here in
     let way = c.requires.way in
     let arc = way_arc c.args.clauses.now.net.arcs way.0 way.1 c.args.way.now.nodes c.args.way.now.arcs c.loop-arc.arc-index c.arc-item.result way.2 at in
-    slice_get-lt c.args.clauses.now.net.arcs c.arc-item.result (arc.0, arc.1) arc.4
+    slice_get_within c.args.clauses.now.net.arcs c.arc-item.result (arc.0, arc.1) arc.4
 
 pub loop-arc-preserved : goal.loop-arc-preserved
 loop-arc-preserved c =

@@ -1,5 +1,5 @@
 use Rattle.std.proofs.Common.{◌<◌, sym, subst}
-use Rattle.tor_digraph.proofs.Gets.{Contains-from_has}
+use Rattle.tor_arena.proofs.Gets.{Contains-from_has}
 use Rattle.tor_components.proofs.Orders.{grown-longer, fresh-new, fresh-old, fresh-has}
 use Rattle.tor_components.proofs.strong.add_class.Goals as goal
 

@@ -1,8 +1,8 @@
 use Rattle.std.proofs.Common.{◌≡◌, ◌+◌, ◌-◌, ◌<◌, Some, length, refl, sym, ◌∙◌, subst, arith}
 use Rattle.std.specs.Prelude.{slice_get}
 use Rattle.std.proofs.lemmas.Bool.{false≢true}
-use Rattle.std.proofs.lemmas.Option.{slice_get_read}
-use Rattle.tor_digraph.proofs.Gets.{has-from_Contains, Contains-from_has, slice_get-lt}
+use Rattle.std.proofs.lemmas.Option.{slice_get_read, slice_get_within}
+use Rattle.tor_arena.proofs.Gets.{has-from_Contains, Contains-from_has}
 use Rattle.tor_digraph.proofs.Searches.{searched-closed}
 use Rattle.tor_components.proofs.Orders.{classed-none, classed-more, classed-done, later-more, grown-old}
 use Rattle.tor_components.proofs.strong.class_each.Goals as goal
@@ -11,7 +11,7 @@ pub loop-left-init : goal.loop-left-init
 loop-left-init g c = record {
   searched = c.requires.searched;
   many = c.requires.many ∙ sym c.requires.other.nodes;
-  later = λ k x le at. absurd (let lt : k < length c.args.order.now = slice_get-lt c.args.order.now k x at in omega arith);
+  later = λ k x le at. absurd (let lt : k < length c.args.order.now = slice_get_within c.args.order.now k x at in omega arith);
   classed = classed-none g.N.Index.place_of c.args.graph.now c.args.classes.now.items c.args.reached.now.nodes c.requires.none;
   room = omega arith;
 }

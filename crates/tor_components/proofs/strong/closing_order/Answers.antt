@@ -1,6 +1,6 @@
 use Rattle.std.proofs.Common.{subst}
 use Rattle.tor_digraph.specs.Closing.{Has}
-use Rattle.tor_digraph.proofs.Gets.{Contains-from_has}
+use Rattle.tor_arena.proofs.Gets.{Contains-from_has}
 use Rattle.tor_components.proofs.strong.closing_order.Goals as goal
 
 pub returns-clause-inside : goal.returns-clause-inside

@@ -1,7 +1,6 @@
 use Rattle.std.proofs.Common.{◌≡◌, ◌<◌, Some, length, refl, sym, subst, arith}
 use Rattle.std.specs.Prelude.{slice_get}
-use Rattle.std.proofs.lemmas.Option.{slice_get_read}
-use Rattle.tor_digraph.proofs.Gets.{slice_get-lt}
+use Rattle.std.proofs.lemmas.Option.{slice_get_read, slice_get_within}
 use Rattle.tor_components.proofs.Marking.{marked_next}
 use Rattle.tor_components.proofs.strong.mark.Goals as goal
 
@@ -32,7 +31,7 @@ returns-clause-many g c = c.loop-node.invariant.many
 pub returns-clause-marked : goal.returns-clause-marked
 returns-clause-marked g c = λ x h.
     let test = c.loop-node-test.false in
-    let lt = slice_get-lt c.args.nodes.now h.0 x h.1 in
+    let lt = slice_get_within c.args.nodes.now h.0 x h.1 in
     c.loop-node.invariant.marked h.0 x (omega (arith, test, lt)) h.1
 
 pub returns-clause-kept : goal.returns-clause-kept

@@ -2,7 +2,7 @@ use Rattle.std.proofs.Common.{◌≡◌, inl, inr, subst, arith}
 use Rattle.std.specs.Prelude.{IfSome}
 use Rattle.std.proofs.lemmas.Bool.{cases_lt}
 use Rattle.tor_digraph.specs.Closing.{Has}
-use Rattle.tor_digraph.proofs.Gets.{has-from_Contains}
+use Rattle.tor_arena.proofs.Gets.{has-from_Contains}
 use Rattle.tor_components.proofs.Orders.{grown-old}
 use Rattle.tor_components.proofs.strong.reach_each.Goals as goal
 

@@ -1,7 +1,7 @@
 use Rattle.std.proofs.Common.{rules, ◌≡◌, ◌+◌, Some, set, sym, subst, arith, refl}
 use Rattle.std.specs.Prelude.{slice_get}
+use Rattle.std.proofs.lemmas.Option.{slice_get_within}
 use Rattle.tor_digraph.proofs.Filling.{AreCounted, counting-next, counting-few, summing-begins, summing-next, summing-few}
-use Rattle.tor_digraph.proofs.Gets.{slice_get-lt}
 use Rattle.tor_digraph.proofs.Floods.{read-at}
 use Rattle.tor_digraph.proofs.rows.ends_of_rows.Goals as goal
 
@@ -70,6 +70,6 @@ returns-clause-ends g c =
     let test = c.loop-place-2-test.false in
     let end = c.loop-place-2.auto.place-end in
     λ u n at. c.loop-place-2.invariant.summed u n (
-    let lt = slice_get-lt c.loop-place-2.ends.items u n at in
+    let lt = slice_get_within c.loop-place-2.ends.items u n at in
     omega (arith, lt, test, end)
     ) at

@@ -1,7 +1,8 @@
 use Rattle.std.proofs.Common.{[], ◌∷◌, ◌++◌, length, refl, ap, arith}
 use Rattle.std.proofs.lemmas.List.{length_push}
 use Rattle.std.proofs.lemmas.Result.{on_ok_weaker}
-use Rattle.tor_digraph.proofs.Gets.{slice_get-push_last, slice_get-lt}
+use Rattle.std.proofs.lemmas.Option.{slice_get_within}
+use Rattle.tor_arena.proofs.Gets.{slice_get-push_last}
 use Rattle.tor_digraph.proofs.Steps.{stack-few, search-close, search-skip, search-along_made, search-arc, seen-not_no}
 use Rattle.tor_digraph.proofs.Growths.{later-refl, later-along, growth-close, growth-skip, growth-along_made, work-skip, work-along_made}
 use Rattle.tor_digraph.proofs.search.step.Goals as goal
@@ -9,10 +10,10 @@ use Rattle.tor_digraph.proofs.search.step.Goals as goal
 pub ends-requires : goal.ends-requires
 ends-requires g c =
     let arc = c.requires.search.next (length c.args.stack.now) c.args.top c.in-Some.arc (slice_get-push_last c.args.stack.now c.args.top) c.in-Some.is in
-    slice_get-lt c.args.graph.now.arcs (g.A.Index.place_of c.in-Some.arc) (c.args.top.node, arc.0) arc.1
+    slice_get_within c.args.graph.now.arcs (g.A.Index.place_of c.in-Some.arc) (c.args.top.node, arc.0) arc.1
 
 pub next_arc-next-requires : goal.next_arc-next-requires
-next_arc-next-requires g c = slice_get-lt c.args.graph.now.arcs (g.A.Index.place_of c.in-Some.arc) c.ends.result c.ends.ensures.arc
+next_arc-next-requires g c = slice_get_within c.args.graph.now.arcs (g.A.Index.place_of c.in-Some.arc) c.ends.result c.ends.ensures.arc
 
 pub overflow_cast-along : goal.overflow_cast-along
 overflow_cast-along g c =

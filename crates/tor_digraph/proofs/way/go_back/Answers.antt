@@ -1,6 +1,6 @@
 use Rattle.std.proofs.Common.{Some, sym, ◌∙◌, ap, subst}
+use Rattle.std.proofs.lemmas.Option.{slice_get_within}
 use Rattle.tor_digraph.specs.Back.{IsBack}
-use Rattle.tor_digraph.proofs.Gets.{slice_get-lt}
 use Rattle.tor_digraph.proofs.Ways.{back-none, back-push}
 use Rattle.tor_digraph.proofs.way.go_back.Goals as goal
 
@@ -22,7 +22,7 @@ loop-tail-init g c = record {
 }
 
 pub get-requires : goal.get-requires
-get-requires g c = let found = c.loop-tail.invariant.found in slice_get-lt c.args.found.now.items (g.N.Index.place_of c.loop-tail.root) found.0 found.1
+get-requires g c = let found = c.loop-tail.invariant.found in slice_get_within c.args.found.now.items (g.N.Index.place_of c.loop-tail.root) found.0 found.1
 
 pub returns-clause-back : goal.returns-clause-back
 returns-clause-back g c = c.loop-tail.invariant.back

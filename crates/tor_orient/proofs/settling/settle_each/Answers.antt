@@ -4,7 +4,7 @@ use Rattle.std.proofs.lemmas.Option.{slice_get_read}
 use Rattle.std.proofs.lemmas.List.Elements.{All-contains}
 use Rattle.relationships.specs.Graph.{edges}
 use Rattle.gao_prefs.specs.declared.preferring.Pref.{Pref}
-use Rattle.tor_digraph.proofs.Gets.{Contains-from_has}
+use Rattle.tor_arena.proofs.Gets.{Contains-from_has}
 use Rattle.tor_clauses.proofs.LiteralLemmas.{node_below}
 use Rattle.tor_orient.specs.Steps.{node_wanted}
 use Rattle.tor_orient.proofs.Models.{one_way}

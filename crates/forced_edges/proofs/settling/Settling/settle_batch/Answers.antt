@@ -1,6 +1,6 @@
 use Rattle.std.proofs.Common.{◌<◌, ◌∙◌, refl, arith}
 use Rattle.std.proofs.lemmas.List.Elements.{All-contains}
-use Rattle.tor_digraph.proofs.Gets.{Contains-from_has}
+use Rattle.tor_arena.proofs.Gets.{Contains-from_has}
 use Rattle.tor_digraph.proofs.Members.{read-at}
 use Rattle.forced_edges.proofs.Settlings.{batch_begins, batch_next, batch_done}
 use Rattle.forced_edges.proofs.settling.Settling.settle_batch.Goals as goal

@@ -1,5 +1,5 @@
 use Rattle.std.proofs.Common.{arith}
-use Rattle.tor_digraph.proofs.Gets.{Contains-from_has}
+use Rattle.tor_arena.proofs.Gets.{Contains-from_has}
 use Rattle.forced_edges.proofs.Settlings.{closed_next, closed_all}
 use Rattle.forced_edges.proofs.showing.Shown.show_from.Goals as goal
 

@@ -1,8 +1,7 @@
 use Rattle.std.proofs.Common.{◌≡◌, ℕ, inl, inr, refl, sym, ap, ◌∙◌, subst, arith, Contains}
 use Rattle.std.specs.Prelude.{slice_get}
 use Rattle.std.proofs.lemmas.Bool.{cases_lt}
-use Rattle.std.proofs.lemmas.Option.{same_Some}
-use Rattle.tor_digraph.proofs.Gets.{slice_get-lt}
+use Rattle.std.proofs.lemmas.Option.{same_Some, slice_get_within}
 use Rattle.forced_edges.proofs.Sets.{stays_contained}
 use Rattle.tor_digraph.proofs.Members.{read-at}
 use Rattle.forced_edges.proofs.showing.Shown.show_heads.Goals as goal
@@ -57,5 +56,5 @@ returns-clause-heads c = λ y h.
     let test = c.loop-entry-test.false in
     let end = c.loop-entry.auto.entry-index-end in
     let w = c.row-entry-items.ensures.each h.0 y h.1 in
-    let lt = slice_get-lt row w.0 (w.1, y) w.2 in
+    let lt = slice_get_within row w.0 (w.1, y) w.2 in
     c.loop-entry.invariant.heads w.0 (w.1, y) (omega (arith, lt, test, end)) w.2

@@ -1,9 +1,8 @@
 use Rattle.std.proofs.Common.{◌≡◌, ◌∙◌, ℕ, List, Some, length, refl, sym, ap, subst}
 use Rattle.std.specs.Prelude.{slice_get, slice_index_or}
-use Rattle.std.proofs.lemmas.Option.{slice_get_read, get_or_from_slice_get}
+use Rattle.std.proofs.lemmas.Option.{slice_get_read, get_or_from_slice_get, slice_get_within}
 use Rattle.std.proofs.lemmas.Result.{on_ok_weaker}
 use Rattle.tor_digraph.specs.declared.way.Way.{Way}
-use Rattle.tor_digraph.proofs.Gets.{slice_get-lt}
 use Rattle.tor_clauses.specs.Literals.{opposite_node}
 use Rattle.path_select.specs.declared.known.Part.{Part}
 use Rattle.path_select.specs.Rounds.{IsPart, IsPartOf}
@@ -24,7 +23,7 @@ returns c =
     let ways : List (Way ℕ ℕ) = c.as_slice-2.result.now in
     let along : Way ℕ ℕ = c.index-as_slice-part.result in
     let there : slice_get ways part.way ≡ Some of.way = ap (λ (l : List (Way ℕ ℕ)). slice_get l part.way) c.as_slice-2.ensures ∙ of.there in
-    let below = slice_get-lt ways part.way of.way there in
+    let below = slice_get_within ways part.way of.way there in
     let same : of.way ≡ along = some_same (sym there ∙ slice_get_read ways (length ways) part.way along refl below c.index-as_slice-part.is) in
     let leads : IsPart arcs along part.skip node = subst (λ w. IsPart arcs w part.skip node) same of.leads in
     on leads.from leads.to node (opposite_node node) leads.led leads.begins leads.ends)

@@ -4,7 +4,7 @@ use Rattle.tor_arena.specs.Distinct.{AllDistinct}
 use Rattle.result_rules.specs.File.{its_edges}
 use Rattle.rel_checker.specs.Flipping.{AreApart, edges_of}
 use Rattle.rel_checker.specs.PathSteps.{AreCodedSteps}
-use Rattle.result_rules.proofs.Gets.{All-get}
+use Rattle.tor_arena.proofs.Gets.{All-get}
 use Rattle.rel_checker.proofs.Lines.{line-here}
 use Rattle.rel_checker.proofs.Settled.{edges_apart, lines_distinct}
 use Rattle.rel_checker.proofs.StepLemmas.{many_rows, steps-here}

@@ -1,7 +1,7 @@
 use Rattle.std.proofs.Common.{◌<◌, length, ap, arith}
 use Rattle.std.proofs.lemmas.Bool.{both_ways}
 use Rattle.rel_checker.specs.Serving.{ServesAt}
-use Rattle.result_rules.proofs.Gets.{read_of}
+use Rattle.tor_arena.proofs.Gets.{read_of}
 use Rattle.rel_checker.proofs.Firsts.{below_and, gains_here, idle_fails, serves_here, fails_here}
 use Rattle.rel_checker.proofs.marks.consistency.find_useless.Goals as goal
 

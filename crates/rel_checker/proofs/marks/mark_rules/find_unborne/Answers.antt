@@ -1,7 +1,7 @@
 use Rattle.std.proofs.Common.{◌≡◌, ◌↔◌, ℕ, IsTrue, Some, length, nat_eq, slice_get, sym, ap, ◌∙◌, subst, arith}
 use Rattle.std.proofs.lemmas.Bool.{false≢true, eqb-true, eq-eqb}
 use Rattle.rel_checker.specs.Serving.{MarkedAt}
-use Rattle.result_rules.proofs.Gets.{read_of}
+use Rattle.tor_arena.proofs.Gets.{read_of}
 use Rattle.rel_checker.proofs.Firsts.{below_and}
 use Rattle.rel_checker.proofs.Borne.{marked_at}
 use Rattle.rel_checker.proofs.marks.mark_rules.find_unborne.Goals as goal

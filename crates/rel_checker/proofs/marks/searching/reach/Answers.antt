@@ -1,7 +1,7 @@
 use Rattle.std.proofs.Common.{◌≡◌, ◌<◌, List, length, Some, slice_get, get_or, ◌∙◌, ap, arith, length-append, ℕ}
-use Rattle.std.proofs.lemmas.Option.{slice_get_read}
+use Rattle.std.proofs.lemmas.Option.{slice_get_read, slice_get_within}
 use Rattle.std.proofs.lemmas.List.Elements.{Contains-get_or}
-use Rattle.result_rules.proofs.Gets.{slice_get-lt, Contains-from_get}
+use Rattle.tor_arena.proofs.Gets.{Contains-from_has}
 use Rattle.rel_checker.proofs.Rounds.{search-start, search-more, search-end}
 use Rattle.rel_checker.proofs.marks.searching.reach.Goals as goal
 
@@ -17,8 +17,8 @@ pub of-requires : goal.of-requires
 of-requires c =
     let at = found_at c.loop-next.found c.as_slice.result.now c.loop-next.next c.len.result c.index-as_slice-next.result c.as_slice.ensures c.len.ensures c.loop-next-test.true
     c.index-as_slice-next.is in
-    let r = c.loop-next.invariant.reached c.index-as_slice-next.result (Contains-from_get c.loop-next.found c.loop-next.next c.index-as_slice-next.result at) in
-    omega (arith, slice_get-lt c.loop-next.rounds.items c.index-as_slice-next.result c.args.round r.2, c.loop-next.invariant.many, c.requires.many)
+    let r = c.loop-next.invariant.reached c.index-as_slice-next.result (Contains-from_has c.loop-next.found c.index-as_slice-next.result (c.loop-next.next, at)) in
+    omega (arith, slice_get_within c.loop-next.rounds.items c.index-as_slice-next.result c.args.round r.2, c.loop-next.invariant.many, c.requires.many)
 
 pub visit_each-requires : goal.visit_each-requires
 visit_each-requires c = λ k d lt.

@@ -1,5 +1,5 @@
 use Rattle.std.proofs.Common.{[], ◌∷◌, take}
-use Rattle.result_rules.proofs.Gets.{take_item}
+use Rattle.tor_arena.proofs.Gets.{take_item}
 use Rattle.rel_checker.proofs.Rounds.{rounds-more}
 use Rattle.rel_checker.proofs.marks.searching.visit_each.Goals as goal
 

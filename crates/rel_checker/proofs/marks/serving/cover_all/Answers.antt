@@ -3,7 +3,7 @@ use Rattle.std.proofs.lemmas.List.{length-map, take_all}
 use Rattle.result_rules.specs.File.{its_probes}
 use Rattle.rel_checker.specs.Flipping.{flipped_orders, kept_lines}
 use Rattle.rel_checker.specs.Serving.{GainsAt, IsCovered}
-use Rattle.result_rules.proofs.Gets.{read_of}
+use Rattle.tor_arena.proofs.Gets.{read_of}
 use Rattle.rel_checker.proofs.Firsts.{first_more, gains_at, probes_more, order_of}
 use Rattle.rel_checker.proofs.marks.serving.cover_all.Goals as goal
 

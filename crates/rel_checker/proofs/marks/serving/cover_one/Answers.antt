@@ -1,9 +1,9 @@
 use Rattle.std.proofs.Common.{length, get_or, ap, arith, subst, Contains}
 use Rattle.std.proofs.lemmas.Bool.{false≢true}
 use Rattle.std.proofs.lemmas.List.Elements.{Contains-get_or}
+use Rattle.std.proofs.lemmas.Option.{slice_get_within}
 use Rattle.relationships.specs.Evidence.{IsTriple}
 use Rattle.rel_checker.specs.Flipping.{flipped_orders, kept_lines}
-use Rattle.result_rules.proofs.Gets.{slice_get-lt}
 use Rattle.rel_checker.proofs.Buildings.{inside_implied, flipping_within}
 use Rattle.rel_checker.proofs.Rounds.{closed-reach}
 use Rattle.rel_checker.proofs.Servings.{covered-none, covered-more, gains_of, finds_of, gains_flipped}
@@ -37,7 +37,7 @@ pub has_open-requires : goal.has_open-requires
 has_open-requires c = λ k d lt.
     let found = subst (λ l. Contains l (get_or c.as_slice.result.now k d)) c.as_slice.ensures (Contains-get_or c.as_slice.result.now k d lt) in
     let visited = (c.in_ok-reach.ensures.noted (get_or c.as_slice.result.now k d)).0 found in
-    let within = slice_get-lt c.reach.new.rounds.items (get_or c.as_slice.result.now k d) 1 visited.0 in
+    let within = slice_get_within c.reach.new.rounds.items (get_or c.as_slice.result.now k d) 1 visited.0 in
     omega (arith, within, c.in_ok-reach.ensures.many, c.requires.many, ap length c.as_slice-lines.ensures)
 
 pub returns-clause-closed : goal.returns-clause-closed

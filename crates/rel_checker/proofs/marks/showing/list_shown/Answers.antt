@@ -2,7 +2,7 @@ use Rattle.std.proofs.Common.{◌≤◌, take, length, subst, sym, ap, ◌∙◌
 use Rattle.std.proofs.lemmas.List.{take_all}
 use Rattle.result_rules.specs.File.{shown_orders}
 use Rattle.rel_checker.specs.Serving.{IsShownBy}
-use Rattle.result_rules.proofs.Gets.{take_get}
+use Rattle.tor_arena.proofs.Gets.{take_get}
 use Rattle.rel_checker.proofs.Showings.{orders_more}
 use Rattle.rel_checker.proofs.marks.showing.list_shown.Goals as goal
 

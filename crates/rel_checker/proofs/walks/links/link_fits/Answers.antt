@@ -1,6 +1,7 @@
 use Rattle.std.proofs.Common.{◌≡◌, ℕ, List, Some, None, sym, ap, ◌∙◌, subst}
 use Rattle.std.proofs.lemmas.Bool.{false≢true}
 use Rattle.std.specs.Option.{option_copied}
+use Rattle.std.proofs.lemmas.Option.{same_Some}
 use Rattle.relationships.specs.Evidence.{TripleAt}
 use Rattle.rel_checker.proofs.walks.links.link_fits.Goals as goal
 
@@ -8,12 +9,9 @@ pub returns-in-Some : goal.returns-in-Some
 returns-in-Some c = (
   λ t. (c.in-Some.path.now, (c.path_named.ensures c.in-Some.path.now).1 (ap option_copied c.in-Some.is), c.fits.ensures.0 t),
   λ f.
-      let e : c.in-Some.path.now ≡ f.0 = some (sym (ap option_copied c.in-Some.is) ∙ (c.path_named.ensures f.0).0 f.1) in
+      let e : c.in-Some.path.now ≡ f.0 = same_Some _ _ (sym (ap option_copied c.in-Some.is) ∙ (c.path_named.ensures f.0).0 f.1) in
       c.fits.ensures.1 (subst (λ p. TripleAt p c.args.link.now.at c.args.x c.args.y c.args.z) (sym e) f.2),
 )
-  where
-    some : {a b : List ℕ} → Some a ≡ Some b → a ≡ b
-    some e = cc
 
 pub returns-in-None : goal.returns-in-None
 returns-in-None c = (

@@ -1,7 +1,7 @@
 use Rattle.std.proofs.Common.{◌<◌, length, sym, ◌∙◌, ap, subst}
 use Rattle.std.proofs.lemmas.Bool.{false≢true}
 use Rattle.tor_digraph.specs.Reached.{IsGrown}
-use Rattle.tor_digraph.proofs.Gets.{Contains-from_has}
+use Rattle.tor_arena.proofs.Gets.{Contains-from_has}
 use Rattle.tor_digraph.proofs.Searches.{kept-search, kept-absent, search-kept, search-searched, growth-grown}
 use Rattle.tor_digraph.proofs.reached.Reached.grow.Goals as goal
 

@@ -1,15 +1,15 @@
 use Rattle.std.proofs.Common.{◌<◌, ◌≤◌, ◌∷◌, [], length, sym, ◌∙◌, ap, subst, arith, length-set}
 use Rattle.std.proofs.lemmas.List.{length-take-le}
 use Rattle.std.proofs.lemmas.Result.{on_ok_weaker}
+use Rattle.std.proofs.lemmas.Option.{slice_get_within}
 use Rattle.tor_digraph.specs.Closing.{Has}
-use Rattle.tor_digraph.proofs.Gets.{slice_get-lt}
 use Rattle.tor_digraph.proofs.Steps.{has-old, has-last}
 use Rattle.tor_digraph.proofs.Searches.{length-copies, blank-pop, blank-done, blank-copies, blank-kept, blank-cut, blank-more}
 use Rattle.tor_digraph.proofs.reached.Reached.reset.Goals as goal
 
 pub loop-node-init : goal.loop-node-init
 loop-node-init g c = record {
-  inside = λ x h. (let f = c.self.invariant.nodes_seen x h in slice_get-lt c.self.inside.found.items (g.N.Index.place_of x) f.0 f.1);
+  inside = λ x h. (let f = c.self.invariant.nodes_seen x h in slice_get_within c.self.inside.found.items (g.N.Index.place_of x) f.0 f.1);
   seen = c.self.invariant.seen;
 }
 

@@ -4,7 +4,7 @@ use Rattle.relationships.specs.Evidence.{IsTriple}
 use Rattle.result_rules.specs.File.{its_edges}
 use Rattle.rel_checker.specs.Flipping.{flipped_orders, edges_of, AreNoted, IsBuilt, kept_lines}
 use Rattle.rel_checker.specs.PathSteps.{AreCodedSteps}
-use Rattle.result_rules.proofs.Gets.{take_get}
+use Rattle.tor_arena.proofs.Gets.{take_get}
 use Rattle.rel_checker.proofs.KeptLines.{kept_more}
 use Rattle.rel_checker.proofs.Noting.{built_none, noted-none}
 use Rattle.rel_checker.proofs.StepLemmas.{many_rows, steps-here}

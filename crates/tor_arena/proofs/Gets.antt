@@ -1,13 +1,17 @@
 -- What a list has at a place, after the list has changed.
 use Rattle.std.proofs.Common.{◌≡◌, ◌≢◌, ℕ, zero, suc, ◌+◌, ◌<◌, ◌⊎◌, inl, inr, List, [], ◌∷◌, ◌++◌, Some, length, take, map, set, get_or, refl, sym, ap, ◌∙◌, arith}
 use Rattle.std.specs.Prelude.{slice_get, replicate, Contains, All}
-use Rattle.std.proofs.lemmas.List.{take_more}
+use Rattle.std.proofs.lemmas.List.{take_more, get_or-map, length-map}
 use Rattle.std.proofs.lemmas.List.Elements.{Contains-push_cases, All-contains}
-use Rattle.std.proofs.lemmas.Option.{slice_get_read, get_or_from_slice_get, slice_get-get_or}
+use Rattle.std.proofs.lemmas.Option.{slice_get_read, slice_get_within, get_or_from_slice_get, slice_get-get_or}
 
 module _ {X : Type 0} where
-  pub get_from_Contains : (xs : List X) (x : X) → Contains xs x → (k : ℕ) × (slice_get xs k ≡ Some x)
-  get_from_Contains xs x h = (h.0, slice_get_read xs (length xs) h.0 x refl h.1 (sym h.2))
+  -- x stands in some place
+  abbrev pub Has : List X → X → Type 0
+  Has xs x = (k : ℕ) × (slice_get xs k ≡ Some x)
+
+  pub has-from_Contains : (xs : List X) (x : X) → Contains xs x → Has xs x
+  has-from_Contains xs x h = (h.0, slice_get_read xs (length xs) h.0 x refl h.1 (sym h.2))
 
   pub slice_get-push_old : (xs ys : List X) (k : ℕ) (x : X) → slice_get xs k ≡ Some x → slice_get (xs ++ ys) k ≡ Some x
   slice_get-push_old [] ys k x e = cc
@@ -20,14 +24,12 @@ module _ {X : Type 0} where
   slice_get-push_cases (a ∷ xs) y zero x e = inl e
   slice_get-push_cases (a ∷ xs) y (suc k) x e = elim (slice_get-push_cases xs y k x e) [ inl h ↦ inl h | inr h ↦ inr (ap suc h.0, h.1) ]
 
-  pub slice_get-push_last : (xs : List X) (y : X) → slice_get (xs ++ y ∷ []) (length xs) ≡ Some y
-  slice_get-push_last [] y = refl
-  slice_get-push_last (a ∷ xs) y = slice_get-push_last xs y
+  pub slice_get-behind : (xs : List X) (y : X) (ys : List X) → slice_get (xs ++ y ∷ ys) (length xs) ≡ Some y
+  slice_get-behind [] y ys = refl
+  slice_get-behind (a ∷ xs) y ys = slice_get-behind xs y ys
 
-  pub slice_get-lt : (xs : List X) (k : ℕ) (x : X) → slice_get xs k ≡ Some x → k < length xs
-  slice_get-lt [] k x e = cc
-  slice_get-lt (a ∷ xs) zero x e = omega arith
-  slice_get-lt (a ∷ xs) (suc k) x e = let r : k < length xs = slice_get-lt xs k x e in omega arith
+  pub slice_get-push_last : (xs : List X) (y : X) → slice_get (xs ++ y ∷ []) (length xs) ≡ Some y
+  slice_get-push_last xs y = slice_get-behind xs y []
 
   pub slice_get-some : (xs : List X) (k : ℕ) → k < length xs → (x : X) × (slice_get xs k ≡ Some x)
   slice_get-some [] k h = absurd (omega arith)
@@ -75,11 +77,14 @@ module _ {X : Type 0} where
   slice_get-append_cases (a ∷ xs) ys zero x e = inl e
   slice_get-append_cases (a ∷ xs) ys (suc k) x e = elim (slice_get-append_cases xs ys k x e) [ inl h ↦ inl h | inr h ↦ inr (h.0, omega arith, h.2) ]
 
-  pub Contains-from_get : (xs : List X) (k : ℕ) (x : X) → slice_get xs k ≡ Some x → Contains xs x
-  Contains-from_get xs k x e = (k, slice_get-lt xs k x e, get_or_from_slice_get xs k x x e)
+  pub Contains-from_has : (xs : List X) (x : X) → Has xs x → Contains xs x
+  Contains-from_has xs x h = (h.0, slice_get_within xs h.0 x h.1, get_or_from_slice_get xs h.0 x x h.1)
 
   pub Contains-none : (x : X) → Contains [] x → ⊥
   Contains-none x c = absurd (omega (arith, c.1))
+
+  pub none-in : {xs : List X} {x : X} → xs ≡ [] → Contains xs x → ⊥
+  none-in e h = let n = ap length e in let lt = h.1 in omega (arith, n, lt)
 
   pub Contains-one : (y x : X) → Contains (y ∷ []) x → y ≡ x
   Contains-one y x c = elim (Contains-push_cases [] y x c) [ inl h ↦ absurd (Contains-none x h) | inr e ↦ e ]
@@ -93,10 +98,10 @@ module _ {X : Type 0} where
   item_of xs ys i x e lt is = ap (λ l. slice_get l i) (sym e) ∙ slice_get_read xs (length xs) i x refl lt is
 
   pub take_get : (xs : List X) (i : ℕ) (x : X) → slice_get xs i ≡ Some x → take (i + 1) xs ≡ take i xs ++ x ∷ []
-  take_get xs i x e = take_item xs i x (slice_get-lt xs i x e) (sym (get_or_from_slice_get xs i x x e))
+  take_get xs i x e = take_item xs i x (slice_get_within xs i x e) (sym (get_or_from_slice_get xs i x x e))
 
   pub All-get : (P : X → Type 0) (xs : List X) (i : ℕ) (x : X) → All P xs → slice_get xs i ≡ Some x → P x
-  All-get P xs i x h e = All-contains P xs x h (Contains-from_get xs i x e)
+  All-get P xs i x h e = All-contains P xs x h (Contains-from_has xs x (i, e))
 
 -- ---- mapped lists
 
@@ -110,6 +115,11 @@ module _ {X Y : Type 0} (f : X → Y) where
   slice_get-unmap [] k y e = cc
   slice_get-unmap (a ∷ xs) zero y e = (a, refl, cc)
   slice_get-unmap (a ∷ xs) (suc k) y e = slice_get-unmap xs k y e
+
+  pub Contains-map : (xs : List X) (x : X) → Contains xs x → Contains (map f xs) (f x)
+  Contains-map xs x c =
+      let many = length-map xs f in let lt = c.1 in
+      (c.0, omega (arith, many, lt), get_or-map f xs c.0 x (f x) c.1 ∙ ap f c.2)
 
 -- what a loop reads from a list that stands for ys
 pub read_of : {X : Type 0} (xs ys : List X) (k : ℕ) (d : X) → xs ≡ ys → k < length xs → slice_get ys k ≡ Some (get_or xs k d)
