@@ -6,4 +6,5 @@ pub mod TakingLemmas
 pub mod LimitLemmas
 pub mod FitLemmas
 pub mod SumLemmas
+pub mod Reaches
 mod Vectors

@@ -5,5 +5,6 @@ pub mod Files
 pub mod FileLaws
 pub mod Seen
 pub mod Refusals
+pub mod Reach
 pub mod Batches
 pub mod Laws

@@ -10,6 +10,8 @@ ghost use Rattle.dump_read.specs.Reading.{file_reading};
 ghost use Rattle.dump_read.specs.Taking.{TakesSome};
 ghost use Rattle.dump_read.specs.Seen.{of_octets, of_file, end_named};
 ghost use Rattle.dump_read.specs.Refusals.{of_frame, of_unread, IsOfDump};
+ghost use Rattle.mrt_frame.specs.Reach.{ReadsUpTo, LeavesBehindHeader, max_read};
+ghost use Rattle.dump_read.specs.Reach.{ReadsBounded, StopsBounded, LeavesRestOfDump};
 
 use crate::batch::Batch;
 use crate::error::{DumpError, Fault, LimitKind, Place};
@@ -80,6 +82,9 @@ fn take_records<H: Shelf>(
     ensures some { IfSome (H.left (shelf_of frames.old)) (λ octets. TakesSome sets taken.old (file_reading octets).routes taken.new) }
     ensures place { IfErr result (IsOfDump dump) }
     ensures at_end { OnOk result (IsAtEnd (H.left (shelf_of frames.new))) }
+    ensures bounded { ReadsUpTo 0 max_read (H.left (shelf_of frames.old)) (H.left (shelf_of frames.new)) }
+    ensures shown { IsErrOf result (DumpError.Limit LimitKind.Bytes) →
+        LeavesBehindHeader start (H.left (shelf_of frames.old)) (H.left (shelf_of frames.new)) }
 
     ensures same_reference { reference_of frames.new ≡ reference_of frames.old }
     ensures files { H.files (shelf_of frames.new) ≡ H.files (shelf_of frames.old) }
@@ -121,6 +126,8 @@ fn take_file<H: Shelf>(
     ensures some { IfSome (H.left shelf.old) (λ octets. TakesSome sets taken.old (file_reading octets).routes taken.new) }
     ensures place { IfErr result (IsOfDump dump) }
     ensures at_end { OnOk result (IsAtEnd (H.left shelf.new)) }
+    ensures bounded { ReadsUpTo 0 max_read (H.left shelf.old) (H.left shelf.new) }
+    ensures shown { IsErrOf result (DumpError.Limit LimitKind.Bytes) → LeavesBehindHeader start (H.left shelf.old) (H.left shelf.new) }
 
     ensures files { H.files shelf.new ≡ H.files shelf.old }
     ensures later { H.faults shelf.old ≤ H.faults shelf.new }
@@ -150,6 +157,8 @@ fn read_records<H: Shelf>(
         TakesSome sets taken.old (file_reading octets).routes taken.new)) }
     ensures place { IfErr result (IsOfDump dump) }
     ensures at_end { OnOk result (IsAtEnd (H.left shelf.new)) }
+    ensures bounded { ReadsUpTo 0 max_read (H.left shelf.old) (H.left shelf.new) }
+    ensures shown { IsErrOf result (DumpError.Limit LimitKind.Bytes) → LeavesBehindHeader start (H.left shelf.old) (H.left shelf.new) }
 
     ensures files { H.files shelf.new ≡ H.files shelf.old }
     ensures later { H.faults shelf.old ≤ H.faults shelf.new }
@@ -186,8 +195,12 @@ pub fn read_dump<H: Shelf>(
     ensures absent { IfSome (H.files shelf.old) (λ files. files name.now ≡ None → taken.new ≡ taken.old) }
     ensures place { IfErr result (IsOfDump dump) }
 
-    // The shelf: after Ok nothing of the file is left unread.
+    // The shelf: after Ok nothing of the file is left unread, and never is an octet behind 2^40 + 12 read; at the limit on bytes the last
+    // that is read is the header that shows it.
     ensures at_end { OnOk result (IsAtEnd (H.left shelf.new)) }
+    ensures bounded { OnOk result (ReadsBounded name.now (H.files shelf.old) (H.left shelf.new)) }
+    ensures bounded_stop { IfErr result (λ e. StopsBounded e name.now (H.files shelf.old) (H.left shelf.new)) }
+    ensures shown { IsErrOf result (DumpError.Limit LimitKind.Bytes) → LeavesRestOfDump name.now (H.files shelf.old) (H.left shelf.new) }
     ensures files { H.files shelf.new ≡ H.files shelf.old }
     ensures later { H.faults shelf.old ≤ H.faults shelf.new }
     ensures failed { IsErrOf result DumpError.ReadFault → Rose (H.faults shelf.old) (H.faults shelf.new) }

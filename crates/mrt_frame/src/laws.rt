@@ -1,11 +1,14 @@
 //! The laws of the definitions. Each is the contract of a function that does nothing.
 ghost use Rattle.mrt_frame.specs.Encoding.{EncodingLaw, OneReadingLaw};
+ghost use Rattle.mrt_frame.specs.Reach.{ReachLaw};
 ghost use Rattle.mrt_frame.specs.Counted.{FileCountsLaw, CountsTogetherLaw};
 
 /// A file is cut into exactly the records that it encodes, and ends as what stands behind them says (RFC 6396, section 2).
+/// They have at most 2^40 octets, and are all of it where it ends behind a whole record.
 pub fn encoding_law()
     ensures cut { EncodingLaw }
     ensures one_reading { OneReadingLaw }
+    ensures reach { ReachLaw }
 {}
 
 /// The counts of a file list the types of its records in ascending order, none twice and no other, each with how many of the records

@@ -8,7 +8,7 @@ use Rattle.tor_io.specs.Contents.{Files, LacksFile}
 use Rattle.dump_read.specs.declared.error.DumpError.{DumpError}
 use Rattle.dump_read.specs.declared.taking.Taken.{Taken}
 use Rattle.dump_read.specs.Seen.{DumpsEnd, Absent, of_file, end_named}
-use Rattle.run_base.specs.Reading.{seen_from}
+use Rattle.run_base.specs.Reading.{seen_from, name_of_dump}
 
 -- the first dumps, and then the others
 seen_from-append : (sets : Sets) (d : ℕ) (old mid : Taken) (prefix rest : List (List ℕ)) (files : Files) → seen_from sets d old prefix files ≡ Ok mid
@@ -90,3 +90,12 @@ pub absent : (sets : Sets) (old mid : Taken) (known : Option Files) (names : Lis
 absent sets old mid None names i name lt is before lacks = tt
 absent sets old mid (Some files) names i name lt is before lacks =
     stops_at sets old mid names i name files (Absent (i + 1)) lt is before (ap (of_file sets (i + 1) mid) lacks)
+
+-- the name that stands at a place is that of the dump whose number is one more
+pub named : (names : List (List ℕ)) (i : ℕ) (name : List ℕ) → i < length names → name ≡ get_or names i name → name ≡ name_of_dump names (i + 1)
+named names i name lt is = is ∙ by names i lt ∙ ap (λ n. get_or names n []) (omega arith)
+  where
+    by : (xs : List (List ℕ)) (k : ℕ) → k < length xs → get_or xs k name ≡ get_or xs k []
+    by [] k below = absurd (omega arith)
+    by (x ∷ xs) zero below = refl
+    by (x ∷ xs) (suc k) below = by xs k (omega arith)

@@ -1,5 +1,5 @@
 -- Dumps that are read one after the other.
-use Rattle.std.specs.Prelude.{ℕ, ◌+◌, List, [], ◌∷◌, Result, Ok}
+use Rattle.std.specs.Prelude.{ℕ, ◌+◌, ◌-◌, List, [], ◌∷◌, get_or, Result, Ok}
 use Rattle.path_attrs.specs.Fields.{◌>>=◌}
 use Rattle.path_clean.specs.declared.cleaned.Sets.{Sets}
 use Rattle.path_clean.specs.Counts.{no_counts}
@@ -16,3 +16,7 @@ seen_from sets dump taken (name ∷ names) files =
 -- before the first dump
 abbrev pub nothing : ℕ → Taken
 nothing limit = record { table = record { limit = limit; rows = [] }; counts = no_counts; files = [] }
+
+-- the name of the dump of this number, from 1
+abbrev pub name_of_dump : List (List ℕ) → ℕ → List ℕ
+name_of_dump dumps dump = get_or dumps (dump - 1) []

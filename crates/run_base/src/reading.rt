@@ -5,9 +5,10 @@ ghost use Rattle.tor_io.specs.Counts.{Rose};
 ghost use Rattle.dump_read.specs.Seen.{Absent, end_named};
 ghost use Rattle.dump_read.specs.Refusals.{IsOfDump};
 ghost use Rattle.tor_arena.specs.Limits.{max_paths};
-ghost use Rattle.run_base.specs.Reading.{nothing, seen_from};
+ghost use Rattle.dump_read.specs.Reach.{StopsBounded, LeavesRestOfDump};
+ghost use Rattle.run_base.specs.Reading.{nothing, seen_from, name_of_dump};
 
-use dump_read::{DumpError, Taken, read_dump};
+use dump_read::{DumpError, LimitKind, Taken, read_dump};
 use path_clean::{Asides, PathTable, Sets};
 use std::alloc::Global;
 use tor_arena::{Keys, List};
@@ -53,6 +54,10 @@ pub fn read_dumps<H: Shelf>(
     ensures before { IfErr result (λ e. IfSome (H.files shelf.old) (λ files.
         IsOk (seen_from sets 1 taken.old (take (e.dump - 1) dumps.now) files))) }
     ensures read_out { OnOk result (0 < length dumps.now → IsAtEnd (H.left shelf.new)) }
+    ensures bounded { IfErr result (λ e.
+        StopsBounded e.error (name_of_dump dumps.now e.dump) (H.files shelf.old) (H.left shelf.new)) }
+    ensures shown { IfErr result (λ e. e.error ≡ DumpError.Limit LimitKind.Bytes →
+        LeavesRestOfDump (name_of_dump dumps.now e.dump) (H.files shelf.old) (H.left shelf.new)) }
 
     ensures files { H.files shelf.new ≡ H.files shelf.old }
     ensures later { H.faults shelf.old ≤ H.faults shelf.new }

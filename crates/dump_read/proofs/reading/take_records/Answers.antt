@@ -1,4 +1,4 @@
-use Rattle.std.proofs.Common.{sym, subst, ◌∙◌, refl}
+use Rattle.std.proofs.Common.{◌≡◌, Err, sym, ap, subst, ◌∙◌, refl, arith}
 use Rattle.std.specs.Prelude.{IfSome, IfNone}
 use Rattle.mrt_frame.specs.Records.{Well}
 use Rattle.mrt_frame.specs.Reader.{shelf_of, next_place}
@@ -8,6 +8,13 @@ use Rattle.dump_read.specs.Refusals.{peers_in}
 use Rattle.mrt_frame.specs.Counting.{CountsOn, CountsAll}
 use Rattle.dump_read.proofs.FileLemmas.{CountsOf, nothing_counted, counted_one, all_counted}
 use Rattle.dump_read.proofs.Goings.{GoesOf, starts, goes_on, ends, breaks, some_so_far, some_with, frame_named}
+use Rattle.mrt_frame.proofs.Reaches.{reads_none, reads_then}
+use Rattle.mrt_frame.specs.Reach.{max_read}
+use Rattle.mrt_frame.specs.declared.error.FrameError.{FrameError}
+use Rattle.dump_read.specs.declared.error.DumpError.TheVariants as error
+use Rattle.dump_read.specs.declared.error.LimitKind.TheVariants.{Bytes}
+use Rattle.dump_read.specs.Routes.{routes_of}
+use Rattle.dump_read.proofs.Reaches.{BehindOf, begins, goes_behind, shown_behind, frame_bytes, no_record}
 use Rattle.dump_read.proofs.reading.take_records.Goals as goal
 
 pub records-init : goal.records-init
@@ -19,6 +26,8 @@ records-init g c =
       live = c.requires.live;
       goes = rw c.requires.start (starts c.args.sets (left shelf) c.args.taken.now);
       counted = rw (c.requires.start, c.requires.none) (nothing_counted (left shelf));
+      reads = reads_none (left shelf) 0 (next_place c.args.frames.now).offset (omega arith);
+      behind = rw c.requires.start (begins (left shelf));
       files = refl;
       quiet = refl;
       steady = λ s. s;
@@ -83,6 +92,11 @@ records-preserved g c =
           (lent_record c.in-Ok-Some.found) c.records.file c.take_record.new.file c.next.new.counts c.in-Ok.ensures.taken.0 c.records.invariant.counted step.stands
           (subst (λ at. CountsOn (left (shelf_of c.records.frames)) (next_place c.records.frames) c.records.file.records (left (shelf_of frames)) at c.next.new.counts) step.next step.counted)
           c.in-Ok.ensures.taken.1 c.in-Ok.ensures.peers c.in-Ok.ensures.counted);
+      reads = reads_then (left (shelf_of c.args.frames.now)) (left (shelf_of c.records.frames)) (left (shelf_of frames)) 0 (next_place c.records.frames).offset (next_place frames).offset
+          c.records.invariant.reads step.reached;
+      behind = subst (λ at. BehindOf (left (shelf_of c.args.frames.now)) (left (shelf_of frames)) at) (sym step.next)
+          (goes_behind (left (shelf_of c.args.frames.now)) (left (shelf_of c.records.frames)) (left (shelf_of frames)) (next_place c.records.frames) (lent_record c.in-Ok-Some.found)
+          c.records.invariant.behind step.stands);
       files = step.leaves.files ∙ c.records.invariant.files;
       quiet = step.leaves.quiet tt ∙ c.records.invariant.quiet;
       steady = λ s. step.leaves.steady (c.records.invariant.steady s);
@@ -104,3 +118,35 @@ returns-in-Err-take_record-clause-some g c =
     some_with c.args.sets (left (shelf_of c.args.frames.now)) (left (shelf_of c.records.frames)) (left (shelf_of c.next.follows.lender-at-none)) (next_place c.records.frames)
     (peers_in c.records.peers) (lent_record c.in-Ok-Some.found) c.args.taken.now c.records.taken
     c.take_record.new.taken c.records.invariant.goes step.stands c.in-Err-take_record.ensures.some
+
+pub returns-in-Ok-None-clause-bounded : goal.returns-in-Ok-None-clause-bounded
+returns-in-Ok-None-clause-bounded g c =
+    let left = g.H.Shelf.left in
+    reads_then (left (shelf_of c.args.frames.now)) (left (shelf_of c.records.frames)) (left (shelf_of c.next.follows.lender-at-none)) 0 (next_place c.records.frames).offset max_read
+    c.records.invariant.reads c.next.follows.holds-at-none.bounded
+
+pub returns-in-Err-clause-bounded : goal.returns-in-Err-clause-bounded
+returns-in-Err-clause-bounded g c =
+    let left = g.H.Shelf.left in
+    reads_then (left (shelf_of c.args.frames.now)) (left (shelf_of c.records.frames)) (left (shelf_of c.next.follows.lender-at-none)) 0 (next_place c.records.frames).offset max_read
+    c.records.invariant.reads c.next.follows.holds-at-none.bounded
+
+pub returns-in-Err-take_record-clause-bounded : goal.returns-in-Err-take_record-clause-bounded
+returns-in-Err-take_record-clause-bounded g c =
+    let left = g.H.Shelf.left in
+    reads_then (left (shelf_of c.args.frames.now)) (left (shelf_of c.records.frames)) (left (shelf_of c.next.follows.lender-at-none)) 0 (next_place c.records.frames).offset max_read
+    c.records.invariant.reads c.next.follows.holds-at-none.bounded
+
+pub returns-in-Err-clause-shown : goal.returns-in-Err-clause-shown
+returns-in-Err-clause-shown g c = λ is.
+    let left = g.H.Shelf.left in
+    let same : c.of_frame.result ≡ error.Limit Bytes = cc in
+    let bytes = frame_bytes c.args.dump c.in-Err.error (sym c.of_frame.ensures ∙ same) in
+    shown_behind (left (shelf_of c.args.frames.now)) (left (shelf_of c.records.frames)) (left (shelf_of c.next.follows.lender-at-none)) (next_place c.records.frames)
+    c.records.invariant.behind (c.next.follows.holds-at-none.shown (c.in-Err.is ∙ ap (λ (e : FrameError). Err e) bytes))
+
+pub returns-in-Err-take_record-clause-shown : goal.returns-in-Err-take_record-clause-shown
+returns-in-Err-take_record-clause-shown g c = λ is.
+    let same : c.of_unread.result ≡ error.Limit Bytes = cc in
+    absurd (no_record c.args.sets c.args.dump c.in-Ok-Some.found.at c.records.taken (routes_of (peers_in c.records.peers) (lent_record c.in-Ok-Some.found)) c.in-Err-take_record.unread
+    c.in-Err-take_record.ensures.unread (sym c.of_unread.ensures ∙ same))

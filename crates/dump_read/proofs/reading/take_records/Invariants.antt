@@ -3,6 +3,8 @@ use Rattle.mrt_frame.specs.Reader.{shelf_of, reference_of, next_place, is_live}
 use Rattle.dump_read.specs.Refusals.{peers_in}
 use Rattle.dump_read.proofs.Goings.{GoesOf}
 use Rattle.dump_read.proofs.FileLemmas.{CountsOf}
+use Rattle.mrt_frame.specs.Reach.{ReadsUpTo}
+use Rattle.dump_read.proofs.Reaches.{BehindOf}
 use Rattle.dump_read.proofs.reading.take_records.Given as goal
 
 abbrev pub invariant-records : goal.invariant-records
@@ -13,6 +15,8 @@ invariant-records g l =
       live : is_live l.frames ≡ true;
       goes : GoesOf l.sets (shelf.left (shelf_of l.fn.frames)) (shelf.left (shelf_of l.frames)) (next_place l.frames) (peers_in l.peers) l.fn.taken l.taken;
       counted : CountsOf (shelf.left (shelf_of l.fn.frames)) (shelf.left (shelf_of l.frames)) (next_place l.frames) (peers_in l.peers) l.file;
+      reads : ReadsUpTo 0 (next_place l.frames).offset (shelf.left (shelf_of l.fn.frames)) (shelf.left (shelf_of l.frames));
+      behind : BehindOf (shelf.left (shelf_of l.fn.frames)) (shelf.left (shelf_of l.frames)) (next_place l.frames);
       files : shelf.files (shelf_of l.frames) ≡ shelf.files (shelf_of l.fn.frames);
       quiet : shelf.faults (shelf_of l.frames) ≡ shelf.faults (shelf_of l.fn.frames);
       steady : shelf.steady (shelf_of l.fn.frames) → shelf.steady (shelf_of l.frames);

@@ -1,13 +1,17 @@
-use Rattle.std.proofs.Common.{length, ◌≤◌, ◌+◌, IfSome, arith, rules, false, refl, ◌≡◌, sym, ap, subst, ◌∙◌}
+use Rattle.std.proofs.Common.{length, ◌≤◌, ◌+◌, IfSome, Err, arith, rules, false, refl, ◌≡◌, sym, ap, subst, ◌∙◌}
 use Rattle.std.specs.Prelude.{IfNone}
 use Rattle.record_counts.specs.Counting.{with_more}
 use Rattle.mrt_frame.specs.Limits.{max_file}
-use Rattle.mrt_frame.specs.Records.{Ends, Well, place_behind, next_of}
-use Rattle.mrt_frame.specs.Frames.{record_as}
+use Rattle.mrt_frame.specs.Records.{Ends, Well, TooManyBytes as too_many, place_behind, next_of}
+use Rattle.mrt_frame.specs.Frames.{record_as, end_of_error}
+use Rattle.mrt_frame.specs.Reach.{max_read}
+use Rattle.mrt_frame.specs.declared.error.FrameError.{FrameError}
+use Rattle.mrt_frame.specs.declared.error.FrameError.TheVariants.{TooManyBytes}
 use Rattle.mrt_frame.proofs.CountLemmas.{counted_one, counted_end}
 use Rattle.mrt_frame.specs.Kinds.{is_read}
 use Rattle.mrt_frame.specs.Part.{TakesHeader}
 use Rattle.mrt_frame.proofs.Passing.{passed_one, finds}
+use Rattle.mrt_frame.proofs.Reaches.{reads_then, reads_from, shown_at}
 use Rattle.mrt_frame.proofs.next.find_record.Goals as goal
 
 pub records-preserved : goal.records-preserved
@@ -32,6 +36,11 @@ records-preserved g c =
       counted = counted_one (shelf.left c.args.shelf.now) (shelf.left c.records.shelf) mid (shelf.left c.pass_body.new.shelf) c.args.start at c.behind-at.result header
           c.args.counts.now c.records.counts c.count_header.new.counts c.records.invariant.passed c.records.invariant.counted taken passed.skipped
           counts_are c.behind-at.ensures.number c.behind-at.ensures.offset;
+      reads = reads_then (shelf.left c.args.shelf.now) (shelf.left c.records.shelf) (shelf.left c.pass_body.new.shelf) c.args.start.offset at.offset c.behind-at.result.offset
+          c.records.invariant.reads
+          (reads_then (shelf.left c.records.shelf) mid (shelf.left c.pass_body.new.shelf) at.offset (at.offset + 12) c.behind-at.result.offset
+          (reads_from (shelf.left c.records.shelf) mid 12 at.offset (at.offset + 12) e.reads (omega arith))
+          (reads_from mid (shelf.left c.pass_body.new.shelf) header.len (at.offset + 12) c.behind-at.result.offset passed.reads (omega (arith, c.behind-at.ensures.offset))));
       onward = omega (arith, c.records.invariant.onward, c.behind-at.ensures.offset);
       numbered = omega (arith, c.records.invariant.numbered, c.behind-at.ensures.number, c.behind-at.ensures.offset);
       near = omega (arith, within, c.behind-at.ensures.offset);
@@ -76,3 +85,69 @@ returns-in-Ok-None-clause-counted_all g c =
     subst (λ o. IfNone o (IfSome (left c.records.shelf) (λ octets. next_of c.records.at octets ≡ Ends Well))) is e.end in
     let same : c.count_header.new.counts ≡ c.records.counts = subst (λ o. IfNone o (c.count_header.new.counts ≡ c.records.counts)) is e.same in
     rw same (counted_end (left c.args.shelf.now) (left c.records.shelf) c.args.start c.records.at c.args.counts.now c.records.counts c.records.invariant.passed c.records.invariant.counted ends)
+
+-- how far the last step read, where it began at the place of the next header
+pub returns-in-Err-clause-reads : goal.returns-in-Err-clause-reads
+returns-in-Err-clause-reads g c =
+    let left = g.H.Shelf.left in
+    let at = c.records.at in
+    reads_then (left c.args.shelf.now) (left c.records.shelf) (left c.count_header.new.shelf) c.args.start.offset at.offset max_read c.records.invariant.reads
+    (reads_from (left c.records.shelf) (left c.count_header.new.shelf) 12 at.offset max_read c.count_header.ensures.reads (omega (arith, c.records.invariant.near)))
+
+pub returns-in-Err-clause-shown : goal.returns-in-Err-clause-shown
+returns-in-Err-clause-shown g c = λ is.
+    let left = g.H.Shelf.left in
+    let at = c.records.at in
+    let bytes : c.in-Err.error ≡ TooManyBytes = cc in
+    let stops : IfSome (left c.records.shelf) (λ octets. next_of at octets ≡ Ends too_many) =
+    subst (λ (e : FrameError). IfSome (end_of_error e) (λ end. IfSome (left c.records.shelf) (λ octets. next_of at octets ≡ Ends end))) bytes c.in-Err.ensures.stopped in
+    shown_at (left c.args.shelf.now) (left c.records.shelf) (left c.count_header.new.shelf) c.args.start at too_many c.records.invariant.passed stops
+    (c.in-Err.ensures.shown (ap (λ (e : FrameError). Err e) bytes))
+
+pub returns-in-Ok-clause-reached : goal.returns-in-Ok-clause-reached
+returns-in-Ok-clause-reached g c =
+    let left = g.H.Shelf.left in
+    let at = c.records.at in
+    let header = c.in-Ok-Some.header in
+    let last = at.offset + 12 + header.len in
+    let mid = left c.count_header.new.shelf in
+    reads_then (left c.args.shelf.now) (left c.records.shelf) (left c.read_body.new.shelf) c.args.start.offset at.offset last c.records.invariant.reads
+    (reads_then (left c.records.shelf) mid (left c.read_body.new.shelf) at.offset (at.offset + 12) last
+    (reads_from (left c.records.shelf) mid 12 at.offset (at.offset + 12) c.count_header.ensures.reads (omega arith))
+    (reads_from mid (left c.read_body.new.shelf) header.len (at.offset + 12) last c.read_body.ensures.reads (omega arith)))
+
+pub returns-in-Ok-clause-reads : goal.returns-in-Ok-clause-reads
+returns-in-Ok-clause-reads g c =
+    let left = g.H.Shelf.left in
+    let at = c.records.at in
+    let header = c.in-Ok-Some.header in
+    let mid = left c.count_header.new.shelf in
+    let within : at.offset + 12 + header.len ≤ max_file = subst (λ o. IfSome o (λ h. at.offset + 12 + h.len ≤ max_file)) c.in-Ok-Some.field-0-is c.in-Ok-Some.ensures.within in
+    reads_then (left c.args.shelf.now) (left c.records.shelf) (left c.read_body.new.shelf) c.args.start.offset at.offset max_read c.records.invariant.reads
+    (reads_then (left c.records.shelf) mid (left c.read_body.new.shelf) at.offset (at.offset + 12) max_read
+    (reads_from (left c.records.shelf) mid 12 at.offset (at.offset + 12) c.count_header.ensures.reads (omega arith))
+    (reads_from mid (left c.read_body.new.shelf) header.len (at.offset + 12) max_read c.read_body.ensures.reads (omega (arith, within))))
+
+pub returns-in-Err-read_body-clause-reads : goal.returns-in-Err-read_body-clause-reads
+returns-in-Err-read_body-clause-reads g c =
+    let left = g.H.Shelf.left in
+    let at = c.records.at in
+    let header = c.in-Ok-Some.header in
+    let mid = left c.count_header.new.shelf in
+    let within : at.offset + 12 + header.len ≤ max_file = subst (λ o. IfSome o (λ h. at.offset + 12 + h.len ≤ max_file)) c.in-Ok-Some.field-0-is c.in-Ok-Some.ensures.within in
+    reads_then (left c.args.shelf.now) (left c.records.shelf) (left c.read_body.new.shelf) c.args.start.offset at.offset max_read c.records.invariant.reads
+    (reads_then (left c.records.shelf) mid (left c.read_body.new.shelf) at.offset (at.offset + 12) max_read
+    (reads_from (left c.records.shelf) mid 12 at.offset (at.offset + 12) c.count_header.ensures.reads (omega arith))
+    (reads_from mid (left c.read_body.new.shelf) header.len (at.offset + 12) max_read c.read_body.ensures.reads (omega (arith, within))))
+
+pub returns-in-Err-pass_body-clause-reads : goal.returns-in-Err-pass_body-clause-reads
+returns-in-Err-pass_body-clause-reads g c =
+    let left = g.H.Shelf.left in
+    let at = c.records.at in
+    let header = c.in-Ok-Some.header in
+    let mid = left c.count_header.new.shelf in
+    let within : at.offset + 12 + header.len ≤ max_file = subst (λ o. IfSome o (λ h. at.offset + 12 + h.len ≤ max_file)) c.in-Ok-Some.field-0-is c.in-Ok-Some.ensures.within in
+    reads_then (left c.args.shelf.now) (left c.records.shelf) (left c.pass_body.new.shelf) c.args.start.offset at.offset max_read c.records.invariant.reads
+    (reads_then (left c.records.shelf) mid (left c.pass_body.new.shelf) at.offset (at.offset + 12) max_read
+    (reads_from (left c.records.shelf) mid 12 at.offset (at.offset + 12) c.count_header.ensures.reads (omega arith))
+    (reads_from mid (left c.pass_body.new.shelf) header.len (at.offset + 12) max_read c.pass_body.ensures.reads (omega (arith, within))))

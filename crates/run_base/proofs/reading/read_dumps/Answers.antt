@@ -2,7 +2,9 @@ use Rattle.std.proofs.Common.{◌≡◌, ◌+◌, ◌∙◌, ℕ, List, Ok, Err,
 use Rattle.std.specs.Prelude.{IfSome}
 use Rattle.tor_io.specs.Contents.{LacksFile}
 use Rattle.dump_read.specs.Seen.{end_named, of_file}
-use Rattle.run_base.proofs.Dumps.{absent, one_more, stops}
+use Rattle.dump_read.specs.Reach.{StopsBounded, LeavesRestOfDump}
+use Rattle.run_base.specs.Reading.{name_of_dump}
+use Rattle.run_base.proofs.Dumps.{absent, one_more, stops, named}
 use Rattle.run_base.proofs.reading.read_dumps.Goals as goal
 
 pub returns-in-Err-clause-stopped : goal.returns-in-Err-clause-stopped
@@ -46,3 +48,23 @@ loop-place-preserved g c =
       quiet = c.in-Ok.ensures.quiet (λ e. cc) ∙ c.loop-place.invariant.quiet;
       steady = λ s. c.in-Ok.ensures.steady (c.loop-place.invariant.steady s);
     }
+
+pub returns-in-Err-clause-bounded : goal.returns-in-Err-clause-bounded
+returns-in-Err-clause-bounded g c =
+    let known = g.H.Shelf.files c.args.shelf.now in
+    let left = g.H.Shelf.left c.read_dump.new.shelf in
+    let i = c.loop-place.place in
+    let name = c.index-dumps-place.result in
+    let same : c.as_text.result.now ≡ name_of_dump c.args.dumps.now (i + 1) = c.as_text.ensures ∙ named c.args.dumps.now i name c.loop-place-test.true c.index-dumps-place.is in
+    subst (λ (n : List ℕ). StopsBounded c.in-Err.error n known left) same
+    (subst (λ o. StopsBounded c.in-Err.error c.as_text.result.now o left) c.loop-place.invariant.files c.in-Err.ensures.bounded_stop)
+
+pub returns-in-Err-clause-shown : goal.returns-in-Err-clause-shown
+returns-in-Err-clause-shown g c = λ is.
+    let known = g.H.Shelf.files c.args.shelf.now in
+    let left = g.H.Shelf.left c.read_dump.new.shelf in
+    let i = c.loop-place.place in
+    let name = c.index-dumps-place.result in
+    let same : c.as_text.result.now ≡ name_of_dump c.args.dumps.now (i + 1) = c.as_text.ensures ∙ named c.args.dumps.now i name c.loop-place-test.true c.index-dumps-place.is in
+    subst (λ (n : List ℕ). LeavesRestOfDump n known left) same
+    (subst (λ o. LeavesRestOfDump c.as_text.result.now o left) c.loop-place.invariant.files (c.in-Err.ensures.shown (ap (λ x. Err x) is)))

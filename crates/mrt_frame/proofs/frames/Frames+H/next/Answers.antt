@@ -4,7 +4,7 @@ use Rattle.mrt_frame.specs.declared.error.FrameError.{FrameError}
 use Rattle.mrt_frame.specs.declared.header.At.{At}
 use Rattle.mrt_frame.specs.Records.{Record, Well, place_behind}
 use Rattle.mrt_frame.specs.declared.cursor.Cursor.{Cursor}
-use Rattle.mrt_frame.specs.declared.error.FrameError.TheVariants.{ReadFault}
+use Rattle.mrt_frame.specs.declared.error.FrameError.TheVariants.{TooManyBytes, ReadFault}
 use Rattle.mrt_frame.specs.declared.frames.Frames.{Frames}
 use Rattle.mrt_frame.specs.Frames.{FindsNext, StopsWith, IfFault, record_as, end_of_error}
 use Rattle.mrt_frame.specs.Steps.{NextRecord, HasMoved, lent_record}
@@ -37,6 +37,10 @@ returns-in_err-advance g c =
       ended = tt;
       at_end = tt;
       broken = broken c.advance.new.self.live e facts.live.0;
+      bounded = facts.bounded;
+      reached = tt;
+      within = facts.within;
+      shown = λ is. facts.shown (same_kind e TooManyBytes is);
     } in (
       (refl, (λ _. tt), subst (λ (r : NextRecord). HasMoved shelf old first second r new) is moved),
       record {
@@ -55,6 +59,9 @@ returns-in_err-advance g c =
     broken : (live : Bool) (e : FrameError) → (live ≡ true → ◌≡◌ {A = Result Bool FrameError} (Err e) (Ok true)) → live ≡ false
     broken false e h = refl
     broken true e h = let yes : ◌≡◌ {A = Result Bool FrameError} (Err e) (Ok true) = h refl in absurd cc
+
+    same_kind : (e f : FrameError) → ◌≡◌ {A = NextRecord} (Err e) (Err f) → ◌≡◌ {A = Result Bool FrameError} (Err e) (Err f)
+    same_kind e f is = let same : e ≡ f = cc in ap (λ (x : FrameError). Err x) same
 
     same_error : (e : FrameError) → ◌≡◌ {A = NextRecord} (Err e) (Err ReadFault) → ◌≡◌ {A = Result Bool FrameError} (Err e) (Err ReadFault)
     same_error e is = ap (λ (x : FrameError). Err x) (error_is e is)
@@ -90,6 +97,10 @@ returns-then-branch g c =
           ended = tt;
           at_end = tt;
           broken = tt;
+          bounded = facts.bounded;
+          reached = facts.reached ok;
+          within = facts.within;
+          shown = λ is. absurd cc;
         },
       ),
       record {
@@ -128,6 +139,10 @@ returns-else-branch g c =
           ended = not_live c.advance.new.self.live c.in_ok-advance.field-0 c.if-branch.false facts.live.0;
           at_end = facts.at_end no;
           broken = tt;
+          bounded = facts.bounded;
+          reached = tt;
+          within = facts.within;
+          shown = λ is. absurd cc;
         },
       ),
       record {
