@@ -6,3 +6,4 @@ pub mod KeptPlaces
 pub mod Labels
 pub mod LineLemmas
 pub mod OneResult
+pub mod SelfAcceptance

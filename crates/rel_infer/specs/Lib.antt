@@ -4,3 +4,4 @@ pub mod Inference
 pub mod OneResult
 pub mod Peers
 pub mod Results
+pub mod SelfAcceptance

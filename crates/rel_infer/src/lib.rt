@@ -8,5 +8,5 @@ mod labelling;
 mod laws;
 mod result;
 
-pub use laws::{one_inference_law, one_result_law};
+pub use laws::{one_inference_law, one_result_law, self_acceptance_law};
 pub use result::result_of;

@@ -1,0 +1,40 @@
+-- What follows from the definitions meets the rules of a checker.
+use Rattle.std.specs.Prelude.{ℕ, ◌≤◌, List, length, sum_by, All, IsTrue}
+use Rattle.std.specs.List.{list_all}
+use Rattle.tor_arena.specs.Limits.{max_paths, max_numbers, max_ratio}
+use Rattle.path_clean.specs.declared.cleaned.Sets.{Sets}
+use Rattle.path_clean.specs.Counts.{CauseCounts}
+use Rattle.path_clean.specs.Paths.{is_cleaned}
+use Rattle.path_clean.specs.Rows.{Counted, row_paths, times_of, none_twice}
+use Rattle.result_text.specs.declared.file.ResultFile.{ResultFile}
+use Rattle.result_rules.specs.declared.verdict.Verdict.TheVariants.{Yes}
+use Rattle.result_rules.specs.File.{its_paths, its_walks}
+use Rattle.result_rules.specs.Rules.{Accepts}
+use Rattle.result_rules.specs.Valid.{Valid}
+use Rattle.result_rules.specs.Against.{JudgesAgainst}
+use Rattle.rel_infer.specs.Results.{IsResultOf}
+use Rattle.rel_infer.specs.Peers.{PeerEitherWay, LeaveNoneOut}
+
+-- rows as a table of paths has them: clean paths, each seen and none there twice, and no more of them and of their numbers than may be
+pub record AreTableRows (rows : List Counted) : Type 0 where
+  pub clean : IsTrue (list_all is_cleaned (row_paths rows))
+  pub seen : All (λ times. 1 ≤ times) (times_of rows)
+  pub once : IsTrue (none_twice (row_paths rows))
+  pub few : length (row_paths rows) ≤ max_paths
+  pub numbers : sum_by length (row_paths rows) ≤ max_numbers
+
+-- what a result has of which a checker says yes
+pub record IsVouchedFor (ratio : ℕ) (rows : List Counted) (counts : CauseCounts) (file : ResultFile) : Type 0 where
+  -- it meets the rules 1 to 10, and rule 11 over these paths and counts; so it is valid
+  pub accepted : Accepts file
+  pub agrees : JudgesAgainst file rows counts Yes
+  pub valid : Valid file
+  -- its peerings may be read either way, and none is left out
+  pub either_way : PeerEitherWay (its_paths file) (its_walks file) file.edges
+  pub none_left_out : LeaveNoneOut ratio (its_paths file) (its_walks file) file.edges
+
+-- each result of these rows and counts has it
+abbrev pub SelfAcceptanceLaw : Type 0
+SelfAcceptanceLaw =
+    (sets : Sets) (ratio : ℕ) (rows : List Counted) (counts : CauseCounts) (file : ResultFile) → ratio ≤ max_ratio → AreTableRows rows →
+    IsResultOf sets ratio rows counts file → IsVouchedFor ratio rows counts file
