@@ -30,10 +30,10 @@ return_holds L g v =
     elim (Free-from_valley_free L (return_of g) v) [ inl p ↦ over-up L g.under g.over p.0 | inr f ↦ over-down L g.over g.under f.0 ]
 
 module _ (paths : List (List ℕ)) where
-  with_return : (g : Given) (givens : List Given) → names_edge paths g ≡ true → returns paths (g ∷ givens) ≡ return_of g ∷ returns paths givens
+  pub with_return : (g : Given) (givens : List Given) → names_edge paths g ≡ true → returns paths (g ∷ givens) ≡ return_of g ∷ returns paths givens
   with_return g givens h = rw h refl
 
-  without_return : (g : Given) (givens : List Given) → names_edge paths g ≡ false → returns paths (g ∷ givens) ≡ returns paths givens
+  pub without_return : (g : Given) (givens : List Given) → names_edge paths g ≡ false → returns paths (g ∷ givens) ≡ returns paths givens
   without_return g givens h = rw h refl
 
   -- what holds of the return of each given whose two are neighbours holds of each return, and the other way round
@@ -302,7 +302,7 @@ over_by O a b two e =
     ]
 
 -- and the other way round
-over_end : (O : Orientation) (a b : ℕ) → is_over (labels_of O) a b ≡ true → O (min a b) (max a b) ≡ end_by a b
+pub over_end : (O : Orientation) (a b : ℕ) → is_over (labels_of O) a b ≡ true → O (min a b) (max a b) ≡ end_by a b
 over_end O a b o =
     elim (over_parts (labels_of O) a b o) [
       | inl p ↦

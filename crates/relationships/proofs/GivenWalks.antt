@@ -401,7 +401,7 @@ given_links_law givens n numbers rows are = (
 
 -- ---- marks over rows of returns
 
-any_contains : (fs : List Edge) (e : Edge) → list_any (is_same e) fs ≡ true → Contains fs e
+pub any_contains : (fs : List Edge) (e : Edge) → list_any (is_same e) fs ≡ true → Contains fs e
 any_contains [] e h = absurd (false≢true h)
 any_contains (f ∷ fs) e h =
     elim (cases_Bool (is_same e f)) [

@@ -7,6 +7,7 @@ pub mod Forcing
 pub mod FewReturns
 pub mod FlatLemmas
 pub mod GivenLemmas
+pub mod GivenPeerings
 pub mod GivenWalks
 pub mod Neighbours
 pub mod Places

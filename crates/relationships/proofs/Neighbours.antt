@@ -76,7 +76,7 @@ module _ (paths : List (List ℕ)) where
       (on_path path (among path (Contains-append_left (path ∷ []) some path (0, omega arith, refl))))
       (on_paths some (λ p c. among p (Contains-append_right (path ∷ []) some p c)))
 
-  edge-neighbours : (e : Edge) → Contains (edges paths) e → IsOfNeighbours e
+  pub edge-neighbours : (e : Edge) → Contains (edges paths) e → IsOfNeighbours e
   edge-neighbours e c =
       All-contains IsOfNeighbours (edges paths) e
       (All-from_recursion IsOfNeighbours (edges paths) (distinct_ones IsOfNeighbours (flat_map edges_on paths) (on_paths paths (λ path h. h)))) c

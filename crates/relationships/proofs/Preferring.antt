@@ -56,7 +56,7 @@ preference_law kept wanted order O servable preferred each =
 
 -- ---- peerings
 
-split_at : (es : List Edge) (e : Edge) (k : ℕ) → k < length es → get_or es k e ≡ e → (before after : List Edge) × (es ≡ before ++ (e ∷ after))
+pub split_at : (es : List Edge) (e : Edge) (k : ℕ) → k < length es → get_or es k e ≡ e → (before after : List Edge) × (es ≡ before ++ (e ∷ after))
 split_at [] e k lt h = absurd (omega arith)
 split_at (f ∷ es) e zero lt h = ([], es, ap (λ w. w ∷ es) h)
 split_at (f ∷ es) e (suc k) lt h = let r = split_at es e k (omega arith) h in (f ∷ r.0, r.1, ap (λ (l : List Edge). f ∷ l) r.2)
@@ -89,7 +89,7 @@ pick_same true t x y h = refl
 pick_same false true x y h = sym (h refl)
 pick_same false false x y h = refl
 
-same_as_peer : (l : Label) → (l ≡ Label.Peer) ⊎ (l ≡ Label.Peer → ⊥)
+pub same_as_peer : (l : Label) → (l ≡ Label.Peer) ⊎ (l ≡ Label.Peer → ⊥)
 same_as_peer Label.Low = inr (λ e. cc)
 same_as_peer Label.High = inr (λ e. cc)
 same_as_peer Label.Peer = inl refl

@@ -3,6 +3,7 @@ pub mod Checking
 pub mod Components
 pub mod Evidence
 pub mod GivenEvidence
+pub mod GivenPreference
 pub mod Givens
 pub mod Graph
 pub mod Preference

@@ -2,6 +2,7 @@ pub mod Checking
 pub mod Evidence
 pub mod Fates
 pub mod GivenEvidence
+pub mod GivenPreference
 pub mod Givens
 pub mod Graph
 pub mod Flat

@@ -4,6 +4,7 @@ mod checking;
 mod components;
 mod evidence;
 mod given_evidence;
+mod given_preference;
 mod givens;
 mod graph;
 mod preference;
@@ -19,6 +20,9 @@ pub use evidence::{
 pub use given_evidence::{
     agreeing_rules_law, given_links_law, given_marks_law, given_rules_law, given_walks_law,
     no_givens_law, same_closure_law,
+};
+pub use given_preference::{
+    given_forced_law, given_peering_law, given_peers_law, given_relabelling_law,
 };
 pub use givens::{
     all_givens_law, few_returns_law, given_closure_law, given_edges_law, given_serving_law,

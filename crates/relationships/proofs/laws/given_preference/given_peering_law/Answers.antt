@@ -1,0 +1,5 @@
+use Rattle.relationships.proofs.GivenPeerings
+use Rattle.relationships.proofs.laws.given_preference.given_peering_law.Goals as goal
+
+pub returns : goal.returns
+returns c = GivenPeerings.given_peering_law
