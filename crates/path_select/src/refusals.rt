@@ -33,6 +33,15 @@ pub(crate) struct Refusals {
     pub(crate) items: List<Refusal>,
 }
 
+/// What is known of the paths that were offered before.
+#[derive(Clone, Copy)]
+pub(crate) struct Past<'a> {
+    /// What became of each.
+    pub(crate) fates: &'a Fates,
+    /// The triples that were refused alone.
+    pub(crate) refusals: &'a Refusals,
+}
+
 /// The refusal that a path meets.
 #[derive(Clone, Copy)]
 pub(crate) struct Met {

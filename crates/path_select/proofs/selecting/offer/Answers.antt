@@ -1,35 +1,9 @@
-use Rattle.std.proofs.Common.{◌≡◌, List, IfSome, refl, ap, subst}
-use Rattle.std.proofs.lemmas.Bool.{false≢true}
-use Rattle.relationships.specs.Evidence.{Refutes}
+use Rattle.std.proofs.Common.{◌≡◌, IfSome, ap}
 use Rattle.relationships.specs.declared.fate.Fate.{Fate}
-use Rattle.tor_clauses.specs.Formulas.{numbered}
 use Rattle.relationships.specs.Fates.{walk_of}
-use Rattle.path_select.specs.Choices.{Choice, with_offered}
-use Rattle.path_select.proofs.Keepings.{not_servable}
-use Rattle.path_select.proofs.Relinking.{offered, lost_again}
+use Rattle.path_select.specs.Choices.{Choice}
+use Rattle.path_select.proofs.Relinking.{offered}
 use Rattle.path_select.proofs.selecting.offer.Goals as goal
-
-pub returns-in-Some-clause-offered : goal.returns-in-Some-clause-offered
-returns-in-Some-clause-offered c =
-    let graph = c.args.graph.now in
-    let paths : List _ = with_offered c.args.selector.now c.args.path in
-    let refutes = subst (λ o. IfSome o (Refutes (numbered graph paths))) c.in-Some.is c.in_ok-walk.ensures in
-    record {
-      fits = c.requires.fits;
-      exact = (
-        λ kept. absurd (false≢true kept),
-        λ can. absurd (not_servable graph paths c.in-Some.walk c.refuting_law.ensures refutes can),
-      );
-      kept = λ kept. absurd (false≢true kept);
-      lost = refl;
-      walk = refutes;
-      same = λ serves. refl;
-      changed = λ x held not. absurd (not held);
-    }
-
-pub returns-in-Some-clause-refused : goal.returns-in-Some-clause-refused
-returns-in-Some-clause-refused c =
-    lost_again c.args.graph.now c.args.selector.now.formula.paths c.args.fates.now c.in-Some.walk c.args.refusals.now.items c.requires.refused
 
 same_paths : (fate : Fate) (new old : Choice) → IfSome (walk_of fate) (λ walk. new ≡ old) → IfSome (walk_of fate) (λ walk. new.formula.paths ≡ old.formula.paths)
 same_paths Fate.Kept new old lost = tt
@@ -42,5 +16,5 @@ pub returns-clause-refused : goal.returns-clause-refused
 returns-clause-refused c =
     let e = c.in_ok-fate.ensures.offered in
     let fate = c.in_ok-fate.fate in
-    offered c.args.graph.now c.args.selector.now.formula.paths c.args.path c.args.fates.now fate c.offer_behind.new.self.formula.paths c.args.refusals.now.items
-    c.remember.new.self.items c.requires.next e.kept (same_paths fate c.offer_behind.new.self c.args.selector.now e.lost) e.walk c.requires.refused c.in_ok-remember.ensures
+    offered c.args.graph.now c.args.selector.now.formula.paths c.args.path c.args.fates.now fate c.offer_after.new.self.formula.paths c.args.refusals.now.items
+    c.remember.new.self.items c.requires.next e.kept (same_paths fate c.offer_after.new.self c.args.selector.now e.lost) e.walk c.requires.refused c.in_ok-remember.ensures

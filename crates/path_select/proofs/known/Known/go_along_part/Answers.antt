@@ -14,12 +14,12 @@ returns c =
     on_ok_weaker c.go_along.result
     (λ on node found.
     let arcs = c.args.digraph.now.arcs in
-    let known = c.requires.3 node c.args.place found in
+    let known = c.requires.known.1 node c.args.place found in
     let parts : List Part = c.as_slice.result.now in
     let part : Part = slice_index_or parts c.args.place (record { way = 0; skip = 0 }) in
     let part_there : slice_get parts c.args.place ≡ Some known.0 = ap (λ (l : List Part). slice_get l c.args.place) c.as_slice.ensures ∙ known.1 in
     let part_same : known.0 ≡ part = sym (get_or_from_slice_get parts c.args.place known.0 (record { way = 0; skip = 0 }) part_there) in
-    let of = subst (λ p. IsPartOf arcs c.requires.1 c.args.self.now.ways p node) part_same known.2 in
+    let of = subst (λ p. IsPartOf arcs c.requires.known.0 c.args.self.now.ways p node) part_same known.2 in
     let ways : List (Way ℕ ℕ) = c.as_slice-2.result.now in
     let along : Way ℕ ℕ = c.index-as_slice-part.result in
     let there : slice_get ways part.way ≡ Some of.way = ap (λ (l : List (Way ℕ ℕ)). slice_get l part.way) c.as_slice-2.ensures ∙ of.there in
