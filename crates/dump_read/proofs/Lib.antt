@@ -7,4 +7,5 @@ pub mod LimitLemmas
 pub mod FitLemmas
 pub mod SumLemmas
 pub mod Reaches
+pub mod Somes
 mod Vectors

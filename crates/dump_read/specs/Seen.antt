@@ -1,6 +1,6 @@
 -- What a dump gives to what was taken in before it, or the first end in the order of reading: a fault of a record comes
 -- before any of its routes, and a limit at the route that meets it.
-use Rattle.std.specs.Prelude.{ℕ, List, Option, Some, None, Result, Ok, Err}
+use Rattle.std.specs.Prelude.{◌≡◌, ℕ, List, Option, Some, None, Result, Ok, Err}
 use Rattle.path_attrs.specs.Fields.{◌>>=◌}
 use Rattle.path_clean.specs.declared.cleaned.Sets.{Sets}
 use Rattle.dump_read.specs.declared.error.Place.{Place}
@@ -10,7 +10,7 @@ use Rattle.dump_read.specs.declared.error.LimitKind.TheVariants.{Bytes}
 use Rattle.dump_read.specs.declared.error.DumpError.{DumpError}
 use Rattle.dump_read.specs.declared.error.DumpError.TheVariants as error
 use Rattle.dump_read.specs.Reading.{FileEnd, Whole, Broken, TooLong, file_reading}
-use Rattle.dump_read.specs.Files.{with_file}
+use Rattle.dump_read.specs.Files.{FileCounts, file_counts, with_file}
 use Rattle.dump_read.specs.Taking.{Taken, take_routes}
 
 pub data DumpsEnd : Type 0 where
@@ -48,3 +48,12 @@ end_named dump (error.Malformed place fault) = Some (Malformed place fault)
 end_named dump (error.Limit kind) = Some (Limit kind dump)
 end_named dump error.ReadFault = None
 end_named dump error.NoMemory = None
+
+-- this is what some file gives that is read to its end
+abbrev pub IsOfSomeFile : Sets → ℕ → (old new : Taken) → Type 0
+IsOfSomeFile sets dump old new = (octets : List ℕ) × (of_octets sets dump old octets ≡ Ok new)
+
+-- the same before what the file holds is kept, which is this
+abbrev pub IsOfSomeHolding : Sets → ℕ → (old new : Taken) → FileCounts → Type 0
+IsOfSomeHolding sets dump old new file =
+    (octets : List ℕ) × (of_octets sets dump old octets ≡ Ok (with_file octets new)) × (file ≡ file_counts octets)

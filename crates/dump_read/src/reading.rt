@@ -8,7 +8,7 @@ ghost use Rattle.mrt_frame.specs.Reader.{shelf_of, reference_of, next_place, is_
 ghost use Rattle.dump_read.specs.Files.{no_file_counts, file_counts, with_file};
 ghost use Rattle.dump_read.specs.Reading.{file_reading};
 ghost use Rattle.dump_read.specs.Taking.{TakesSome};
-ghost use Rattle.dump_read.specs.Seen.{of_octets, of_file, end_named};
+ghost use Rattle.dump_read.specs.Seen.{of_octets, of_file, end_named, IsOfSomeFile, IsOfSomeHolding};
 ghost use Rattle.dump_read.specs.Refusals.{of_frame, of_unread, IsOfDump};
 ghost use Rattle.mrt_frame.specs.Reach.{ReadsUpTo, LeavesBehindHeader, max_read};
 ghost use Rattle.dump_read.specs.Reach.{ReadsBounded, StopsBounded, LeavesRestOfDump};
@@ -79,6 +79,7 @@ fn take_records<H: Shelf>(
     ensures counted { OnOk result (IfSome (H.left (shelf_of frames.old)) (λ octets. file.new ≡ file_counts octets)) }
     ensures stopped { IfErr result (λ e. IfSome (end_named dump e) (λ end. IfSome (H.left (shelf_of frames.old)) (λ octets.
         of_octets sets dump taken.old octets ≡ Err end))) }
+    ensures some_file { OnOk result (IsOfSomeHolding sets dump taken.old taken.new file.new) }
     ensures some { IfSome (H.left (shelf_of frames.old)) (λ octets. TakesSome sets taken.old (file_reading octets).routes taken.new) }
     ensures place { IfErr result (IsOfDump dump) }
     ensures at_end { OnOk result (IsAtEnd (H.left (shelf_of frames.new))) }
@@ -123,6 +124,7 @@ fn take_file<H: Shelf>(
     ensures counted { OnOk result (IfSome (H.left shelf.old) (λ octets. file.new ≡ file_counts octets)) }
     ensures stopped { IfErr result (λ e. IfSome (end_named dump e) (λ end. IfSome (H.left shelf.old) (λ octets.
         of_octets sets dump taken.old octets ≡ Err end))) }
+    ensures some_file { OnOk result (IsOfSomeHolding sets dump taken.old taken.new file.new) }
     ensures some { IfSome (H.left shelf.old) (λ octets. TakesSome sets taken.old (file_reading octets).routes taken.new) }
     ensures place { IfErr result (IsOfDump dump) }
     ensures at_end { OnOk result (IsAtEnd (H.left shelf.new)) }
@@ -153,6 +155,7 @@ fn read_records<H: Shelf>(
         of_octets sets dump taken.old octets ≡ Ok taken.new)) }
     ensures stopped { IfErr result (λ e. IfSome (end_named dump e) (λ end. IfSome (H.left shelf.old) (λ octets.
         of_octets sets dump taken.old octets ≡ Err end))) }
+    ensures some_file { OnOk result (IsOfSomeFile sets dump taken.old taken.new) }
     ensures some { OnErr result (IfSome (H.left shelf.old) (λ octets.
         TakesSome sets taken.old (file_reading octets).routes taken.new)) }
     ensures place { IfErr result (IsOfDump dump) }
@@ -185,11 +188,12 @@ pub fn read_dump<H: Shelf>(
     sets: Sets,
     taken: &mut Taken,
 ) -> Result<(), DumpError>
-    // What is taken in, and where the reading ends.
+    // What is taken in, and where the reading ends; at Ok it is what some file gives, also where nothing is known of the shelf's.
     ensures read { OnOk result (IfSome (H.files shelf.old) (λ files.
         of_file sets dump taken.old (files name.now) ≡ Ok taken.new)) }
     ensures stopped { IfErr result (λ e. IfSome (end_named dump e) (λ end. IfSome (H.files shelf.old) (λ files.
         of_file sets dump taken.old (files name.now) ≡ Err end))) }
+    ensures some_file { OnOk result (IsOfSomeFile sets dump taken.old taken.new) }
     ensures some { OnErr result (IfSome (H.files shelf.old) (λ files. IfSome (files name.now) (λ octets.
         TakesSome sets taken.old (file_reading octets).routes taken.new))) }
     ensures absent { IfSome (H.files shelf.old) (λ files. files name.now ≡ None → taken.new ≡ taken.old) }

@@ -1,14 +1,14 @@
 -- Dumps that are read one after the other.
 use Rattle.std.proofs.Common.{◌≡◌, ℕ, zero, suc, ◌+◌, ◌-◌, ◌<◌, List, [], ◌∷◌, ◌++◌, length, take, drop, get_or, Option, Some, None, Result, Ok, Err, refl, sym, ap, ap₂, subst, ◌∙◌, arith}
 use Rattle.std.specs.Prelude.{IfSome, IsOk}
-use Rattle.std.proofs.lemmas.List.{take_more, length-take}
+use Rattle.std.proofs.lemmas.List.{take_more, length-take, length-append}
 use Rattle.path_attrs.specs.Fields.{◌>>=◌}
 use Rattle.path_clean.specs.declared.cleaned.Sets.{Sets}
 use Rattle.tor_io.specs.Contents.{Files, LacksFile}
 use Rattle.dump_read.specs.declared.error.DumpError.{DumpError}
 use Rattle.dump_read.specs.declared.taking.Taken.{Taken}
-use Rattle.dump_read.specs.Seen.{DumpsEnd, Absent, of_file, end_named}
-use Rattle.run_base.specs.Reading.{seen_from, name_of_dump}
+use Rattle.dump_read.specs.Seen.{DumpsEnd, Absent, IsOfSomeFile, of_file, of_octets, end_named}
+use Rattle.run_base.specs.Reading.{IsOfSomeDumps, seen_from, seen_of, name_of_dump}
 
 -- the first dumps, and then the others
 seen_from-append : (sets : Sets) (d : ℕ) (old mid : Taken) (prefix rest : List (List ℕ)) (files : Files) → seen_from sets d old prefix files ≡ Ok mid
@@ -99,3 +99,28 @@ named names i name lt is = is ∙ by names i lt ∙ ap (λ n. get_or names n [])
     by [] k below = absurd (omega arith)
     by (x ∷ xs) zero below = refl
     by (x ∷ xs) (suc k) below = by xs k (omega arith)
+
+-- ---- dumps of some octets
+
+-- the first dumps, and then one more
+seen_of-push : (sets : Sets) (d : ℕ) (old mid new : Taken) (dumps : List (List ℕ)) (octets : List ℕ) → seen_of sets d old dumps ≡ Ok mid
+    → of_octets sets (d + length dumps) mid octets ≡ Ok new → seen_of sets d old (dumps ++ octets ∷ []) ≡ Ok new
+seen_of-push sets d old mid new [] octets is one =
+    let same : old ≡ mid = cc in
+    let here : of_octets sets d old octets ≡ Ok new = ap₂ (λ n t. of_octets sets n t octets) (omega arith) same ∙ one in
+    rw here refl
+seen_of-push sets d old mid new (first ∷ dumps) octets is one =
+    by (of_octets sets d old first) is (λ further h. seen_of-push sets (d + 1) further mid new dumps octets h (ap (λ n. of_octets sets n mid octets) (omega arith) ∙ one))
+  where
+    by : (taking : Result Taken DumpsEnd) → (taking >>= λ further. seen_of sets (d + 1) further dumps) ≡ Ok mid
+        → ((further : Taken) → seen_of sets (d + 1) further dumps ≡ Ok mid → seen_of sets (d + 1) further (dumps ++ octets ∷ []) ≡ Ok new)
+        → (taking >>= λ further. seen_of sets (d + 1) further (dumps ++ octets ∷ [])) ≡ Ok new
+    by (Ok further) h ih = ih further h
+    by (Err end) h ih = absurd cc
+
+pub some_more : (sets : Sets) (old mid new : Taken) (i : ℕ) → IsOfSomeDumps sets i old mid → IsOfSomeFile sets (i + 1) mid new → IsOfSomeDumps sets (i + 1) old new
+some_more sets old mid new i so_far one = (
+  so_far.0 ++ one.0 ∷ [],
+  omega (arith, length-append so_far.0 (one.0 ∷ []), so_far.1),
+  seen_of-push sets 1 old mid new so_far.0 one.0 so_far.2 (ap (λ n. of_octets sets n mid one.0) (omega (arith, so_far.1)) ∙ one.1),
+)

@@ -6,7 +6,7 @@ ghost use Rattle.dump_read.specs.Seen.{Absent, end_named};
 ghost use Rattle.dump_read.specs.Refusals.{IsOfDump};
 ghost use Rattle.tor_arena.specs.Limits.{max_paths};
 ghost use Rattle.dump_read.specs.Reach.{StopsBounded, LeavesRestOfDump};
-ghost use Rattle.run_base.specs.Reading.{nothing, seen_from, name_of_dump};
+ghost use Rattle.run_base.specs.Reading.{nothing, seen_from, name_of_dump, IsOfSomeDumps};
 
 use dump_read::{DumpError, LimitKind, Taken, read_dump};
 use path_clean::{Asides, PathTable, Sets};
@@ -37,7 +37,8 @@ pub fn nothing_taken(alloc: Global, keys: Keys, limit: u32) -> Taken
     }
 }
 
-/// Reads the dumps in order, and takes in their routes.
+/// Reads the dumps in order, and takes in their routes. At Ok that is what dumps of some octets give, also where nothing is known of the
+/// shelf's files.
 pub fn read_dumps<H: Shelf>(
     alloc: Global,
     shelf: &mut H,
@@ -47,6 +48,7 @@ pub fn read_dumps<H: Shelf>(
 ) -> Result<(), Stopped>
     ensures read { OnOk result (IfSome (H.files shelf.old) (λ files.
         seen_from sets 1 taken.old dumps.now files ≡ Ok taken.new)) }
+    ensures some_dumps { OnOk result (IsOfSomeDumps sets (length dumps.now) taken.old taken.new) }
     ensures stopped { IfErr result (λ e. IfSome (end_named e.dump e.error) (λ end. IfSome (H.files shelf.old) (λ files.
         seen_from sets 1 taken.old dumps.now files ≡ Err end))) }
     ensures place { IfErr result (λ e. IsOfDump e.dump e.error) }

@@ -1,4 +1,4 @@
-use Rattle.std.proofs.Common.{sym, subst}
+use Rattle.std.proofs.Common.{Some, sym, subst}
 use Rattle.std.specs.Prelude.{IfSome}
 use Rattle.dump_read.specs.Reading.{file_reading}
 use Rattle.dump_read.specs.Taking.{Taken, TakesSome}
@@ -16,3 +16,11 @@ returns-clause-read g c =
     on_ok c.keep_file.result c.keep_file.ensures.ok (λ kept.
     read_to_end c.args.sets c.args.dump (g.H.Shelf.left c.args.shelf.now) c.args.taken.now c.take_file.new.taken c.keep_file.new.taken c.take_file.new.file kept
     c.in_ok-take_file.ensures.read c.in_ok-take_file.ensures.counted)
+
+pub returns-clause-some_file : goal.returns-clause-some_file
+returns-clause-some_file g c =
+    on_ok c.keep_file.result c.keep_file.ensures.ok (λ kept.
+    let file = c.in_ok-take_file.ensures.some_file in (
+      file.0,
+      read_to_end c.args.sets c.args.dump (Some file.0) c.args.taken.now c.take_file.new.taken c.keep_file.new.taken c.take_file.new.file kept file.1 file.2,
+    ))

@@ -15,6 +15,8 @@ use Rattle.dump_read.specs.declared.error.DumpError.TheVariants as error
 use Rattle.dump_read.specs.declared.error.LimitKind.TheVariants.{Bytes}
 use Rattle.dump_read.specs.Routes.{routes_of}
 use Rattle.dump_read.proofs.Reaches.{BehindOf, begins, goes_behind, shown_behind, frame_bytes, no_record}
+use Rattle.mrt_frame.specs.Some.{HasRead}
+use Rattle.dump_read.proofs.Somes.{AreTaken, none_taken, taken_more, all_taken}
 use Rattle.dump_read.proofs.reading.take_records.Goals as goal
 
 pub records-init : goal.records-init
@@ -26,6 +28,7 @@ records-init g c =
       live = c.requires.live;
       goes = rw c.requires.start (starts c.args.sets (left shelf) c.args.taken.now);
       counted = rw (c.requires.start, c.requires.none) (nothing_counted (left shelf));
+      some = rw (c.requires.start, c.requires.none) (none_taken (left shelf) c.args.sets c.args.taken.now);
       reads = reads_none (left shelf) 0 (next_place c.args.frames.now).offset (omega arith);
       behind = rw c.requires.start (begins (left shelf));
       files = refl;
@@ -92,6 +95,10 @@ records-preserved g c =
           (lent_record c.in-Ok-Some.found) c.records.file c.take_record.new.file c.next.new.counts c.in-Ok.ensures.taken.0 c.records.invariant.counted step.stands
           (subst (λ at. CountsOn (left (shelf_of c.records.frames)) (next_place c.records.frames) c.records.file.records (left (shelf_of frames)) at c.next.new.counts) step.next step.counted)
           c.in-Ok.ensures.taken.1 c.in-Ok.ensures.peers c.in-Ok.ensures.counted);
+      some = subst (λ at. HasRead (left (shelf_of c.args.frames.now)) (left (shelf_of frames)) (AreTaken c.args.sets at (peers_in c.in-Ok.behind) old new c.take_record.new.file)) (sym step.next)
+          (taken_more (left (shelf_of c.args.frames.now)) (left (shelf_of c.records.frames)) (left (shelf_of frames)) c.args.sets
+          (next_place c.records.frames) (peers_in c.records.peers) (peers_in c.in-Ok.behind) (lent_record c.in-Ok-Some.found) old mid new c.records.file c.take_record.new.file c.next.new.counts
+          c.records.invariant.some step.some c.in-Ok.ensures.taken c.in-Ok.ensures.peers c.in-Ok.ensures.counted);
       reads = reads_then (left (shelf_of c.args.frames.now)) (left (shelf_of c.records.frames)) (left (shelf_of frames)) 0 (next_place c.records.frames).offset (next_place frames).offset
           c.records.invariant.reads step.reached;
       behind = subst (λ at. BehindOf (left (shelf_of c.args.frames.now)) (left (shelf_of frames)) at) (sym step.next)
@@ -150,3 +157,10 @@ returns-in-Err-take_record-clause-shown g c = λ is.
     let same : c.of_unread.result ≡ error.Limit Bytes = cc in
     absurd (no_record c.args.sets c.args.dump c.in-Ok-Some.found.at c.records.taken (routes_of (peers_in c.records.peers) (lent_record c.in-Ok-Some.found)) c.in-Err-take_record.unread
     c.in-Err-take_record.ensures.unread (sym c.of_unread.ensures ∙ same))
+
+pub returns-in-Ok-None-clause-some_file : goal.returns-in-Ok-None-clause-some_file
+returns-in-Ok-None-clause-some_file g c =
+    let left = g.H.Shelf.left in
+    let step = rw (c.in-Ok-None.is, c.in-Ok-None.field-0-is) at c.next.follows.holds-at-none in
+    all_taken (left (shelf_of c.args.frames.now)) (left (shelf_of c.records.frames)) (left (shelf_of c.next.follows.lender-at-none)) c.args.sets c.args.dump
+    (next_place c.records.frames) (peers_in c.records.peers) c.args.taken.now c.records.taken c.records.file c.next.new.counts c.records.invariant.some step.some_end

@@ -4,6 +4,8 @@ use Rattle.dump_read.specs.Refusals.{peers_in}
 use Rattle.dump_read.proofs.Goings.{GoesOf}
 use Rattle.dump_read.proofs.FileLemmas.{CountsOf}
 use Rattle.mrt_frame.specs.Reach.{ReadsUpTo}
+use Rattle.mrt_frame.specs.Some.{HasRead}
+use Rattle.dump_read.proofs.Somes.{AreTaken}
 use Rattle.dump_read.proofs.Reaches.{BehindOf}
 use Rattle.dump_read.proofs.reading.take_records.Given as goal
 
@@ -15,6 +17,8 @@ invariant-records g l =
       live : is_live l.frames ≡ true;
       goes : GoesOf l.sets (shelf.left (shelf_of l.fn.frames)) (shelf.left (shelf_of l.frames)) (next_place l.frames) (peers_in l.peers) l.fn.taken l.taken;
       counted : CountsOf (shelf.left (shelf_of l.fn.frames)) (shelf.left (shelf_of l.frames)) (next_place l.frames) (peers_in l.peers) l.file;
+      some : HasRead (shelf.left (shelf_of l.fn.frames)) (shelf.left (shelf_of l.frames))
+          (AreTaken l.sets (next_place l.frames) (peers_in l.peers) l.fn.taken l.taken l.file);
       reads : ReadsUpTo 0 (next_place l.frames).offset (shelf.left (shelf_of l.fn.frames)) (shelf.left (shelf_of l.frames));
       behind : BehindOf (shelf.left (shelf_of l.fn.frames)) (shelf.left (shelf_of l.frames)) (next_place l.frames);
       files : shelf.files (shelf_of l.frames) ≡ shelf.files (shelf_of l.fn.frames);

@@ -7,12 +7,30 @@ use Rattle.mrt_frame.specs.Frames.{record_as, end_of_error}
 use Rattle.mrt_frame.specs.Reach.{max_read}
 use Rattle.mrt_frame.specs.declared.error.FrameError.{FrameError}
 use Rattle.mrt_frame.specs.declared.error.FrameError.TheVariants.{TooManyBytes}
-use Rattle.mrt_frame.proofs.CountLemmas.{counted_one, counted_end}
+use Rattle.mrt_frame.proofs.CountLemmas.{begins_counting, counted_one, counted_end}
 use Rattle.mrt_frame.specs.Kinds.{is_read}
 use Rattle.mrt_frame.specs.Part.{TakesHeader}
-use Rattle.mrt_frame.proofs.Passing.{passed_one, finds}
-use Rattle.mrt_frame.proofs.Reaches.{reads_then, reads_from, shown_at}
+use Rattle.mrt_frame.proofs.Passing.{begins, passed_one, finds}
+use Rattle.mrt_frame.proofs.Reaches.{reads_none, reads_then, reads_from, shown_at}
+use Rattle.mrt_frame.specs.Some.{HasRead, AreHeader}
+use Rattle.mrt_frame.proofs.Somes.{none_passed, passed_more, found_some, ended_some}
 use Rattle.mrt_frame.proofs.next.find_record.Goals as goal
+
+pub records-init : goal.records-init
+records-init g c =
+    let left = g.H.Shelf.left c.args.shelf.now in
+    record {
+      files = refl;
+      passed = begins left c.args.start;
+      counted = begins_counting left c.args.start c.args.counts.now;
+      some = none_passed left c.args.start c.args.counts.now;
+      reads = reads_none left c.args.start.offset c.args.start.offset (omega arith);
+      onward = omega arith;
+      numbered = c.requires.numbered;
+      near = c.requires.near;
+      quiet = refl;
+      steady = λ s. s;
+    }
 
 pub records-preserved : goal.records-preserved
 records-preserved g c =
@@ -36,6 +54,10 @@ records-preserved g c =
       counted = counted_one (shelf.left c.args.shelf.now) (shelf.left c.records.shelf) mid (shelf.left c.pass_body.new.shelf) c.args.start at c.behind-at.result header
           c.args.counts.now c.records.counts c.count_header.new.counts c.records.invariant.passed c.records.invariant.counted taken passed.skipped
           counts_are c.behind-at.ensures.number c.behind-at.ensures.offset;
+      some = passed_more (shelf.left c.args.shelf.now) (shelf.left c.records.shelf) mid (shelf.left c.pass_body.new.shelf) c.args.start at c.behind-at.result header
+          c.args.counts.now c.records.counts c.count_header.new.counts c.records.invariant.some
+          (subst (λ o. IfSome o (λ h. HasRead (shelf.left c.records.shelf) mid (AreHeader at h))) is e.some) passed.gathered
+          counts_are unread c.behind-at.ensures.number c.behind-at.ensures.offset;
       reads = reads_then (shelf.left c.args.shelf.now) (shelf.left c.records.shelf) (shelf.left c.pass_body.new.shelf) c.args.start.offset at.offset c.behind-at.result.offset
           c.records.invariant.reads
           (reads_then (shelf.left c.records.shelf) mid (shelf.left c.pass_body.new.shelf) at.offset (at.offset + 12) c.behind-at.result.offset
@@ -151,3 +173,28 @@ returns-in-Err-pass_body-clause-reads g c =
     (reads_then (left c.records.shelf) mid (left c.pass_body.new.shelf) at.offset (at.offset + 12) max_read
     (reads_from (left c.records.shelf) mid 12 at.offset (at.offset + 12) c.count_header.ensures.reads (omega arith))
     (reads_from mid (left c.pass_body.new.shelf) header.len (at.offset + 12) max_read c.pass_body.ensures.reads (omega (arith, within))))
+
+pub returns-in-Ok-clause-some : goal.returns-in-Ok-clause-some
+returns-in-Ok-clause-some g c =
+    let left = g.H.Shelf.left in
+    let at = c.records.at in
+    let header = c.in-Ok-Some.header in
+    let mid = left c.count_header.new.shelf in
+    let e = c.in-Ok-Some.ensures in
+    let is = c.in-Ok-Some.field-0-is in
+    let counts_are : c.count_header.new.counts ≡ with_more (record { kind = header.kind; subtype = header.subtype }) 1 c.records.counts =
+    subst (λ o. IfSome o (λ h. c.count_header.new.counts ≡ with_more (record { kind = h.kind; subtype = h.subtype }) 1 c.records.counts)) is e.counted in
+    let len : length c.read_body.new.body.items ≡ header.len = search rules in
+    found_some (left c.args.shelf.now) (left c.records.shelf) mid (left c.read_body.new.shelf) c.args.start at header c.in-Some.kind c.read_body.new.body.items
+    c.args.counts.now c.records.counts c.count_header.new.counts c.records.invariant.some
+    (subst (λ o. IfSome o (λ h. HasRead (left c.records.shelf) mid (AreHeader at h))) is e.some) c.in-Ok.ensures.gathered len counts_are (sym c.in-Some.ensures)
+
+pub returns-in-Ok-None-clause-some_end : goal.returns-in-Ok-None-clause-some_end
+returns-in-Ok-None-clause-some_end g c =
+    let left = g.H.Shelf.left in
+    let e = c.in-Ok-None.ensures in
+    let is = c.in-Ok-None.field-0-is in
+    let nothing : left c.records.shelf ≡ left c.count_header.new.shelf = subst (λ o. IfNone o (left c.records.shelf ≡ left c.count_header.new.shelf)) is e.nothing in
+    let same : c.count_header.new.counts ≡ c.records.counts = subst (λ o. IfNone o (c.count_header.new.counts ≡ c.records.counts)) is e.same in
+    ended_some (left c.args.shelf.now) (left c.records.shelf) (left c.count_header.new.shelf) c.args.start c.records.at c.args.counts.now c.records.counts c.count_header.new.counts
+    c.records.invariant.some nothing same

@@ -1,6 +1,7 @@
 use Rattle.std.proofs.Common.{◌≡◌, ◌≤◌, ◌-◌, ◌^◌, min, vec_len}
 use Rattle.mrt_frame.specs.Part.{Skips}
 use Rattle.mrt_frame.specs.Reach.{ReadsUpTo}
+use Rattle.mrt_frame.specs.Some.{HasReadSo}
 use Rattle.mrt_frame.proofs.part.skip_part.Given as goal
 
 abbrev pub invariant-parts : goal.invariant-parts
@@ -9,6 +10,7 @@ invariant-parts g l =
     record {
       files : shelf.files l.shelf ≡ shelf.files l.fn.shelf;
       skipped : Skips (shelf.left l.fn.shelf) l.passed (shelf.left l.shelf);
+      gathered : HasReadSo l.passed (shelf.left l.fn.shelf) (shelf.left l.shelf);
       reads : ReadsUpTo 0 l.passed (shelf.left l.fn.shelf) (shelf.left l.shelf);
       no_more : l.passed ≤ l.wanted;
       room : vec_len l.buffer ≡ min (2 ^ 16) l.wanted;

@@ -4,7 +4,7 @@ use Rattle.tor_io.specs.Contents.{LacksFile}
 use Rattle.dump_read.specs.Seen.{end_named, of_file}
 use Rattle.dump_read.specs.Reach.{StopsBounded, LeavesRestOfDump}
 use Rattle.run_base.specs.Reading.{name_of_dump}
-use Rattle.run_base.proofs.Dumps.{absent, one_more, stops, named}
+use Rattle.run_base.proofs.Dumps.{absent, one_more, stops, named, some_more}
 use Rattle.run_base.proofs.reading.read_dumps.Goals as goal
 
 pub returns-in-Err-clause-stopped : goal.returns-in-Err-clause-stopped
@@ -43,6 +43,7 @@ loop-place-preserved g c =
     (subst (λ o. IfSome o (λ files. of_file c.args.sets (i + 1) mid (files c.as_text.result.now) ≡ Ok new)) c.loop-place.invariant.files c.in-Ok.ensures.read) in
     record {
       seen = one_more c.args.sets c.args.taken.now mid new known c.args.dumps.now i name c.loop-place-test.true c.index-dumps-place.is c.loop-place.invariant.seen one;
+      some = some_more c.args.sets c.args.taken.now mid new i c.loop-place.invariant.some c.in-Ok.ensures.some_file;
       read_out = λ _. c.in-Ok.ensures.at_end;
       files = c.in-Ok.ensures.files ∙ c.loop-place.invariant.files;
       quiet = c.in-Ok.ensures.quiet (λ e. cc) ∙ c.loop-place.invariant.quiet;

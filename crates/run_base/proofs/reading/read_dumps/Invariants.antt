@@ -1,7 +1,7 @@
 use Rattle.std.proofs.Common.{◌≡◌, ◌<◌, take, Ok}
 use Rattle.std.specs.Prelude.{IfSome}
 use Rattle.std.specs.Io.KnownBytes.{IsAtEnd}
-use Rattle.run_base.specs.Reading.{seen_from}
+use Rattle.run_base.specs.Reading.{IsOfSomeDumps, seen_from}
 use Rattle.run_base.proofs.reading.read_dumps.Given as goal
 
 -- the dumps so far were read to their ends, and no call on the shelf failed
@@ -11,6 +11,7 @@ invariant-loop-place g l =
     record {
       seen : IfSome (shelf.files l.fn.shelf) (λ files.
           seen_from l.sets 1 l.fn.taken (take l.place l.dumps) files ≡ Ok l.taken);
+      some : IsOfSomeDumps l.sets l.place l.fn.taken l.taken;
       read_out : 0 < l.place → IsAtEnd (shelf.left l.shelf);
       files : shelf.files l.shelf ≡ shelf.files l.fn.shelf;
       quiet : shelf.faults l.shelf ≡ shelf.faults l.fn.shelf;

@@ -10,6 +10,7 @@ use Rattle.mrt_frame.specs.Frames.{FindsNext, StopsWith, IfFault, record_as, end
 use Rattle.mrt_frame.specs.Steps.{NextRecord, HasMoved, lent_record}
 use Rattle.mrt_frame.specs.Counting.{CountsAll}
 use Rattle.mrt_frame.proofs.Converse.{Matches, conversely, same_seen, of_octets}
+use Rattle.mrt_frame.specs.Some.{HasRead, GiveRecord}
 use Rattle.mrt_frame.proofs.frames.Frames+H.next.Goals as goal
 
 pub returns-in_err-advance : goal.returns-in_err-advance
@@ -37,6 +38,8 @@ returns-in_err-advance g c =
       ended = tt;
       at_end = tt;
       broken = broken c.advance.new.self.live e facts.live.0;
+      some = tt;
+      some_end = tt;
       bounded = facts.bounded;
       reached = tt;
       within = facts.within;
@@ -98,6 +101,8 @@ returns-then-branch g c =
           at_end = tt;
           broken = tt;
           bounded = facts.bounded;
+          some = subst (λ (r : Record). HasRead before left (GiveRecord place c.args.counts.now r c.advance.new.counts)) same (facts.some ok);
+          some_end = tt;
           reached = facts.reached ok;
           within = facts.within;
           shown = λ is. absurd cc;
@@ -139,6 +144,8 @@ returns-else-branch g c =
           ended = not_live c.advance.new.self.live c.in_ok-advance.field-0 c.if-branch.false facts.live.0;
           at_end = facts.at_end no;
           broken = tt;
+          some = tt;
+          some_end = facts.some_end no;
           bounded = facts.bounded;
           reached = tt;
           within = facts.within;
