@@ -1,4 +1,5 @@
 pub mod Answers
 pub mod Notes
+pub mod Pieces
 pub mod Reading
 pub mod WholeFile

@@ -31,7 +31,7 @@ map-same [] = refl
 map-same (x ∷ xs) = ap (λ rest. x ∷ rest) (map-same xs)
 
 -- a command that takes the words gives what is in the rows
-given-taken : {X : Type 0} (command : App) (read : List Row → Option X) (a : App) (ws words : List Text) (rows : List Row) → a ≡ command → ws ≡ words
+pub given-taken : {X : Type 0} (command : App) (read : List Row → Option X) (a : App) (ws words : List Text) (rows : List Row) → a ≡ command → ws ≡ words
     → fault_of a ws ≡ [] → rows ≡ matches_of a ws → unless_fault (fault_of command words) (read (matches_of command words)) ≡ read rows
 given-taken command read a ws words rows app same taken found =
     let faults : fault_of command words ≡ [] = ap₂ fault_of (sym app) (sym same) ∙ taken in
@@ -53,7 +53,7 @@ no_settings [] settings k among = absurd among
 no_settings (x ∷ xs) settings k among = refl
 
 -- one that refuses them gives nothing
-given-refused : {X : Type 0} (command : App) (settings : Option X) (a : App) (ws words : List Text) (e : Error) → a ≡ command → ws ≡ words
+pub given-refused : {X : Type 0} (command : App) (settings : Option X) (a : App) (ws words : List Text) (e : Error) → a ≡ command → ws ≡ words
     → HasKind (fault_of a ws) e → kind_of e ≢ kind.OutOfMemory → unless_fault (fault_of command words) settings ≡ None
 given-refused command settings a ws words e app same fails other =
     let same_faults : fault_of command words ≡ fault_of a ws = ap₂ fault_of (sym app) (sym same) in

@@ -74,7 +74,7 @@ fn with_option<'a>(
     command.arg(arg)
 }
 
-fn with_number<'a>(
+pub(crate) fn with_number<'a>(
     alloc: Global,
     command: Command<'a>,
     name: &'a str,
@@ -88,7 +88,7 @@ fn with_number<'a>(
     command.arg(arg)
 }
 
-fn with_rest<'a>(
+pub(crate) fn with_rest<'a>(
     alloc: Global,
     command: Command<'a>,
     name: &'a str,
@@ -100,7 +100,7 @@ fn with_rest<'a>(
     command.arg(arg)
 }
 
-fn with_needed<'a>(
+pub(crate) fn with_needed<'a>(
     alloc: Global,
     command: Command<'a>,
     name: &'a str,

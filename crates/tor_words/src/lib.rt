@@ -3,6 +3,8 @@
 
 mod check_settings;
 mod command;
+mod grade_command;
+mod grade_settings;
 mod name;
 mod refused;
 mod settings;
@@ -10,6 +12,7 @@ mod values;
 mod words;
 
 pub use check_settings::{CheckSettings, check_settings_of};
+pub use grade_settings::{GradeSettings, grade_settings_of};
 pub use name::Name;
 pub use refused::WordsRefused;
 pub use settings::{Mode, Settings, settings_of};
