@@ -50,7 +50,8 @@ starts sets (Some octets) old = record { fuel = length octets; rest = octets; pr
 -- ---- records that aren't read give nothing
 
 -- a reading from so many peers on, through one record
-pub through : (peers : Option ℕ) (r : Record) (c : Cut) → reading_from peers (record { records = r ∷ c.records; end = c.end }) ≡ routes_onto r.at (routes_of peers r) (reading_from (peers_behind peers r) c)
+pub through : (peers : Option ℕ) (r : Record) (c : Cut) → reading_from peers (record { records = r ∷ c.records; end = c.end })
+    ≡ routes_onto r.at (routes_of peers r) (reading_from (peers_behind peers r) c)
 unfolding reading_of
 through peers r c = refl
 
@@ -126,7 +127,8 @@ goes_on sets (Some octets) left left' at peers peers' r old mid new goes finds t
     let finds' : FindsNext at goes.rest r left' = subst (λ o. IfSome o (λ b. FindsNext at b r left')) goes.is_left finds in
     let f = found peers goes.fuel at goes.rest r left' finds' goes.enough in
     let further = reading_from (peers_behind peers r) (cut_within f.fuel (place_behind r) f.rest) in
-    let same : reading_from peers (cut_within goes.fuel at goes.rest) ≡ record { routes = takes.0 ++ further.routes; end = further.end } = f.same ∙ ap (λ read. routes_onto r.at read further) takes.1 in
+    let same : reading_from peers (cut_within goes.fuel at goes.rest) ≡ record { routes = takes.0 ++ further.routes; end = further.end } =
+          f.same ∙ ap (λ read. routes_onto r.at read further) takes.1 in
     record {
       fuel = f.fuel;
       rest = f.rest;

@@ -155,7 +155,8 @@ against_off labels edge label n at is = by_label label at is
     by_label Label.Peer at is = absurd (cc is)
 
 -- the order of a label is held
-pub label_held : (labels : List Label) (edge : ℕ) (label : Label) (n : ℕ) → slice_get labels edge ≡ Some label → n ≡ node_of (record { edge = edge; over = end_of_label label }) → IsTrue (held labels n)
+pub label_held : (labels : List Label) (edge : ℕ) (label : Label) (n : ℕ) → slice_get labels edge ≡ Some label → n ≡ node_of (record { edge = edge; over = end_of_label label })
+    → IsTrue (held labels n)
 label_held labels edge Label.Low n at is = at_end labels edge End.Low Label.Low at n is
 label_held labels edge Label.High n at is = at_end labels edge End.High Label.High at n is
 label_held labels edge Label.Peer n at is = at_end labels edge End.Low Label.Peer at n is

@@ -1,5 +1,5 @@
 -- How many routes were set aside for each cause.
-use Rattle.std.specs.Prelude.{ℕ, List, ◌+◌, ◌-◌, ◌^◌, min, slice_index}
+use Rattle.std.specs.Prelude.{ℕ, List, slice_index}
 use Rattle.tor_arena.specs.Growth.{one_more}
 use Rattle.path_clean.specs.declared.cleaned.Cause.{Cause}
 use Rattle.path_clean.specs.declared.cleaned.Cause.TheVariants.{NoPath, BadSegments, Confed, Sets, Reserved, Loop, Short}

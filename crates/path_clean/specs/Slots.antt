@@ -1,5 +1,5 @@
 -- Rows that are found by slots: each stands in a slot that the tag of its hash names, or in one of the next, before any that is free.
-use Rattle.std.specs.Prelude.{◌≡◌, ◌≢◌, ◌<◌, ◌⊎◌, ℕ, zero, suc, ◌+◌, ◌-◌, ◌/◌, ◌^◌, ◌≤◌, nat_lt, if◌then◌else◌, List, length, Option, Some, None, slice_get, bit_and}
+use Rattle.std.specs.Prelude.{◌≡◌, ◌≢◌, ◌<◌, ◌⊎◌, ℕ, zero, suc, ◌-◌, ◌/◌, ◌^◌, ◌≤◌, List, length, Option, Some, None, slice_get, bit_and}
 use Rattle.tor_arena.specs.Growth.{next_slot}
 use Rattle.tor_arena.specs.Limits.{most_places}
 use Rattle.path_clean.specs.Chains.{path_hash, row_at}

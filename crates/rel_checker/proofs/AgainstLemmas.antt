@@ -56,7 +56,8 @@ path_at rows all k id row is whole read path times e =
     same_Some _ _ (sym read ∙ ap (slice_get all) is ∙ ap (λ (l : List (List ℕ)). slice_get l k) whole ∙ mapped_at rows k ∙ ap (option_map (λ (row : Counted). row.path)) e)
 
 -- the counts agree, and the paths differ first in this place
-pub path_departs : (file : ResultFile) (rows : List Counted) (counts : CauseCounts) (k line rule : ℕ) → file.asides ≡ counts → Differs (its_rows file) rows k → line ≡ path_line_number file k → rule ≡ 11 →
+pub path_departs : (file : ResultFile) (rows : List Counted) (counts : CauseCounts) (k line rule : ℕ) → file.asides ≡ counts → Differs (its_rows file) rows k
+    → line ≡ path_line_number file k → rule ≡ 11 →
     Departs file rows counts line rule
 path_departs file rows counts k line rule same d at named = record {
   named = named;

@@ -121,7 +121,8 @@ module _ (file : ResultFile) where
     before = λ j lt. asks_edge j (omega arith) (edges.2 j lt);
   }
 
-  pub open_breaks : (k j : ℕ) → k ≡ length file.edges + j → First (MarkedAt file) (length file.edges) None → First (ServesAt file) (length file.probes) (Some j) → FindsBreach file MarksBorneOut (Some k)
+  pub open_breaks : (k j : ℕ) → k ≡ length file.edges + j → First (MarkedAt file) (length file.edges) None → First (ServesAt file) (length file.probes) (Some j)
+      → FindsBreach file MarksBorneOut (Some k)
   open_breaks k j e edges opens = let within = opens.0 in record {
     within = omega arith;
     breach = λ a. opens.1 (open_asked k j e a);

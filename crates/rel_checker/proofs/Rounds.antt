@@ -67,7 +67,8 @@ rounds-new round k m rounds new found found' at ne e e' = rw (e, e') (record {
     here_now : RoundCameTo (set rounds k round) round k
     here_now = slice_get-set_same rounds k round (slice_get_within rounds k m at)
 
-pub rounds-more : (round : ℕ) (seen more old mid new f f' f'' : List ℕ) → RoundComesTo round seen old mid f f' → RoundComesTo round more mid new f' f'' → RoundComesTo round (seen ++ more) old new f f''
+pub rounds-more : (round : ℕ) (seen more old mid new f f' f'' : List ℕ) → RoundComesTo round seen old mid f f' → RoundComesTo round more mid new f' f''
+    → RoundComesTo round (seen ++ more) old new f f''
 rounds-more round seen more old mid new f f' f'' a b = record {
   added = a.added ++ b.added;
   more = b.more ∙ ap (λ l. l ++ b.added) a.more ∙ append_assoc f a.added b.added;
@@ -90,7 +91,8 @@ rounds-more round seen more old mid new f f' f'' a b = record {
 
 -- ---- the search
 
-pub search-start : (rows : List (List ℕ)) (start round : ℕ) (old new found found' : List ℕ) → found ≡ [] → RoundComesTo round (start ∷ []) old new found found' → Search rows start round old new found' 0
+pub search-start : (rows : List (List ℕ)) (start round : ℕ) (old new found found' : List ℕ) → found ≡ [] → RoundComesTo round (start ∷ []) old new found found'
+    → Search rows start round old new found' 0
 search-start rows start round old new found found' e m =
     let is : found' ≡ m.added = m.more ∙ ap (λ l. l ++ m.added) e in record {
       begun = m.visited start (Contains-push [] start);

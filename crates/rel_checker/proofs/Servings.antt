@@ -92,7 +92,8 @@ module _ (lines : List EdgeLine) (kept implied conflicting : List (List ℕ)) (b
     ],
   )
 
-  pub covered-more : (earlier : List (ℕ × ℕ)) (p : ℕ × ℕ) (start round : ℕ) (old new found : List ℕ) → FlipsTo (flipped_orders lines) start p.0 p.1 → HasSearchedFrom implied start round old new found →
+  pub covered-more : (earlier : List (ℕ × ℕ)) (p : ℕ × ℕ) (start round : ℕ) (old new found : List ℕ) → FlipsTo (flipped_orders lines) start p.0 p.1
+      → HasSearchedFrom implied start round old new found →
       IsCovered kept (flipped_orders lines) earlier old round → IsCovered kept (flipped_orders lines) (earlier ++ p ∷ []) new round
   covered-more earlier p start round old new found ts reach covered k x y t = (
     λ m. elim ((reach.exact k).0 m) [
@@ -139,7 +140,8 @@ module _ (lines : List EdgeLine) (kept implied conflicting : List (List ℕ)) (b
       let k = w.0 in
       let t = w.3 in
       let led = (reaches_exactly (flipped_orders lines) kept implied conflicting built proper settled start p.0 p.1 k g.over g.under ts t).1 g.reached in
-      let unvisited : RoundCameTo old round k → ⊥ = λ m. let a = (covered k g.over g.under t).0 m in All-contains (λ q. Closure kept q.0 q.1 g.over g.under → ⊥) earlier a.1 g.new (a.0, a.2, a.3) a.4 in
+      let unvisited : RoundCameTo old round k → ⊥ =
+            λ m. let a = (covered k g.over g.under t).0 m in All-contains (λ q. Closure kept q.0 q.1 g.over g.under → ⊥) earlier a.1 g.new (a.0, a.2, a.3) a.4 in
       Any-from (IsWantedAt lines) found k ((reach.noted k).1 ((reach.exact k).1 (inr led), unvisited)) (w.1, w.2, w.4)
 
   -- an order against no label gains nothing

@@ -1,6 +1,7 @@
 -- How steps go under labels, and a walk over them with a flag.
 use Rattle.std.proofs.Common.{◌≡◌, ◌≢◌, ◌↔◌, ℕ, suc, ◌+◌, ◌<◌, ◌≤◌, inl, inr, Bool, true, false, not, List, [], ◌∷◌, length, get_or, drop, min, max, refl, sym, ap, ap₂, ◌∙◌, arith, IsTrue, if◌then◌else◌, drop-cons, add-one, le-ltb, lt-ltb}
 use Rattle.std.proofs.lemmas.Bool.{false≢true, cases_order}
+use Rattle.result_text.specs.EdgeLabels.{labels_in}
 use Rattle.relationships.specs.declared.label.End.{End}
 use Rattle.relationships.specs.declared.label.Label.{Label}
 use Rattle.tor_arena.specs.Distinct.{AllDistinct}
@@ -15,7 +16,6 @@ use Rattle.result_text.specs.declared.file.EdgeLine.{EdgeLine}
 use Rattle.rel_checker.specs.declared.edges.step.Step.{Step}
 use Rattle.rel_checker.specs.Flipping.{edges_of, AreApart}
 use Rattle.rel_checker.specs.PathSteps.{place_in, left_in, IsCodedStep, AreCodedStepsFrom, AreCodedSteps, labels_on, line_slopes}
-use Rattle.rel_checker.specs.Tables.{labels_in}
 use Rattle.rel_checker.proofs.ValleyLemmas.{label_of_edge}
 
 -- ---- slopes by steps

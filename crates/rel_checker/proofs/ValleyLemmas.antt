@@ -3,6 +3,7 @@ use Rattle.std.proofs.Common.{◌≡◌, ℕ, zero, suc, ◌+◌, ◌<◌, true,
 use Rattle.std.proofs.lemmas.Bool.{false_from_ne_true}
 use Rattle.std.proofs.lemmas.List.{length-map}
 use Rattle.std.proofs.lemmas.Option.{slice_get-get_or, slice_get_within, slice_get_read, get_or_from_slice_get}
+use Rattle.result_text.specs.EdgeLabels.{labels_in}
 use Rattle.relationships.specs.declared.label.Label.{Label}
 use Rattle.relationships.specs.Relationship.{Labelling, ValleyFree}
 use Rattle.relationships.specs.Graph.{Edge, edge_of, is_same, labelling}
@@ -17,7 +18,6 @@ use Rattle.result_rules.specs.declared.rule.Rule.TheVariants.{KeptValleyFree}
 use Rattle.rel_checker.specs.Flipping.{AreApart}
 use Rattle.result_rules.specs.Rules.{Asks, IsServedIfKept, BreaksFirst}
 use Rattle.tor_numbers.specs.Edges.{edge_at}
-use Rattle.rel_checker.specs.Tables.{labels_in}
 use Rattle.rel_checker.proofs.Lines.{IsLine, before-more, at-place}
 use Rattle.rel_checker.proofs.EdgeTables.{is_same-self}
 use Rattle.rel_checker.proofs.SupportLemmas.{same-flipped}

@@ -1,9 +1,7 @@
 -- Counts for the edges that a table holds, kept paths, and labels.
 use Rattle.std.specs.Prelude.{◌≡◌, ℕ, ◌+◌, ◌<◌, List, length, map, filter, slice_index}
-use Rattle.relationships.specs.Relationship.{Labelling}
-use Rattle.relationships.specs.Graph.{Edge, labelling}
+use Rattle.relationships.specs.Graph.{Edge}
 use Rattle.tor_numbers.specs.Edges.{edge_at}
-use Rattle.result_text.specs.declared.file.EdgeLine.{EdgeLine}
 use Rattle.result_text.specs.declared.file.PathLine.{PathLine}
 use Rattle.relationships.specs.Fates.{is_kept}
 
@@ -20,7 +18,3 @@ AreCounts es many counts =
 -- the kept paths of the lines
 abbrev pub kept_in : List PathLine → List (List ℕ)
 kept_in lines = map (λ p. p.path) (filter (λ p. is_kept p.fate) lines)
-
--- the labelling that edge lines give
-abbrev pub labels_in : List EdgeLine → Labelling
-labels_in lines = labelling (map (λ e. (e.low, e.high)) lines) (map (λ e. e.label) lines)

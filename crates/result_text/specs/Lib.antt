@@ -1,3 +1,4 @@
+pub mod EdgeLabels
 pub mod Grammar
 pub mod Numbering
 pub mod Order

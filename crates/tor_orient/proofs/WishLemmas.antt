@@ -35,7 +35,8 @@ edge_stands es prefs inside k p at =
 
 -- ---- what is wanted
 
-wish_at : (es : List Edge) (prefs : List Pref) → ((i j : ℕ) (p q : Pref) → i < j → slice_get prefs i ≡ Some p → slice_get prefs j ≡ Some q → is_same (edge_preferred es q) (edge_preferred es p) ≡ false) →
+wish_at : (es : List Edge) (prefs : List Pref) → ((i j : ℕ) (p q : Pref) → i < j → slice_get prefs i ≡ Some p → slice_get prefs j ≡ Some q
+    → is_same (edge_preferred es q) (edge_preferred es p) ≡ false) →
     (k : ℕ) (p : Pref) → slice_get prefs k ≡ Some p → p.wanted ≡ wish es prefs (edge_preferred es p)
 wish_at es [] apart k p at = cc
 wish_at es (q ∷ prefs) apart zero p at =

@@ -25,7 +25,8 @@ prepended path = path ++ last path ∷ last path ∷ []
 
 -- the path of route k between two climbs, the first of which begins at `from`; each fiftieth route, from 49 on, is a valley
 abbrev pub path_between : List Providers → ℕ → ℕ → List ℕ → List ℕ → Drawn (List ℕ)
-path_between nets k from up down = if k % 50 == 49 then climb nets from >>= (λ again. just (through_valley up again)) else just (over_top up down)
+path_between nets k from up down =
+    if k % 50 == 49 then climb nets from >>= (λ again. just (through_valley up again)) else just (over_top up down)
 
 -- the path of route k, counted from 0
 unfoldable pub route_path : List Providers → ℕ → Drawn (List ℕ)

@@ -9,7 +9,8 @@ use Rattle.tor_sample.specs.Paths.{route_path}
 
 -- a record of TABLE_DUMP_V2, whose type is 13: its header, which is timestamp, type, subtype and the length of the body, and the body
 abbrev pub sample_record : ℕ → List ℕ → List ℕ
-sample_record subtype body = to_be_bytes w32 0 ++ (to_be_bytes w16 13 ++ (to_be_bytes w16 subtype ++ (to_be_bytes w32 (length body) ++ body)))
+sample_record subtype body =
+    to_be_bytes w32 0 ++ (to_be_bytes w16 13 ++ (to_be_bytes w16 subtype ++ (to_be_bytes w32 (length body) ++ body)))
 
 -- a peer table with an empty view name and one peer, whose AS number has four octets: the collector 192.0.2.1, and of the
 -- peer its identifier 10.0.0.1, its address 192.0.2.2 and its AS number 10
@@ -28,7 +29,8 @@ sample_attributes path = 64 ∷ 1 ∷ 1 ∷ 0 ∷ 64 ∷ 2 ∷ (2 + 4 * length p
 
 -- the only entry of a RIB: the peer's index, the time and the attributes with their length in front
 abbrev pub sample_entry : List ℕ → List ℕ
-sample_entry path = to_be_bytes w16 0 ++ (to_be_bytes w32 0 ++ (to_be_bytes w16 (length (sample_attributes path)) ++ sample_attributes path))
+sample_entry path =
+    to_be_bytes w16 0 ++ (to_be_bytes w32 0 ++ (to_be_bytes w16 (length (sample_attributes path)) ++ sample_attributes path))
 
 -- the RIB of route k: its number, the prefix 10.x.y.0/24, in which x and y are the two octets of k, and one entry
 abbrev pub sample_rib : ℕ → List ℕ → List ℕ

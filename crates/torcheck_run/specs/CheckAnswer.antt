@@ -59,7 +59,8 @@ LeadsToMalformed words known = (place : Place) × (fault : Fault) × KnownFilesG
 
 -- it is a limit
 abbrev pub LeadsToLimit : List (List ℕ) → Option Files → Type 0
-LeadsToLimit words known = KnownFilesGive words known TooLong ⊎ ((kind : LimitKind) × (dump : ℕ) × KnownFilesGive words known (Ends (Limit kind dump)))
+LeadsToLimit words known =
+    KnownFilesGive words known TooLong ⊎ ((kind : LimitKind) × (dump : ℕ) × KnownFilesGive words known (Ends (Limit kind dump)))
 
 -- it is a file that isn't there
 abbrev pub LeadsToAbsent : List (List ℕ) → Option Files → Type 0

@@ -1,12 +1,12 @@
 //! Whether kept paths are valley-free.
 ghost use Rattle.std.specs.Prelude.{◌≡◌, ◌↔◌, ◌<◌, ℕ, All, List, length, IsTrue};
+ghost use Rattle.result_text.specs.EdgeLabels.{labels_in};
 ghost use Rattle.tor_arena.specs.Distinct.{AllDistinct};
 ghost use Rattle.relationships.specs.Relationship.{Labelling, slopes, ValleyFree};
 ghost use Rattle.relationships.specs.declared.fate.Fate.TheVariants.{Kept};
 ghost use Rattle.relationships.specs.Steps.{step_slope, is_up, is_down};
 ghost use Rattle.rel_checker.specs.Flipping.{edges_of, AreApart};
 ghost use Rattle.rel_checker.specs.PathSteps.{place_in, AreCodedSteps, line_slopes};
-ghost use Rattle.rel_checker.specs.Tables.{labels_in};
 
 use crate::edges::labels::Labels;
 use crate::edges::step::Step;

@@ -1,5 +1,5 @@
 use Rattle.std.proofs.Common.{◌∙◌, sym}
-use Rattle.rel_checker.specs.Tables.{labels_in}
+use Rattle.result_text.specs.EdgeLabels.{labels_in}
 use Rattle.rel_checker.proofs.SlopeLemmas.{slopes-steps, kept_fate}
 use Rattle.rel_checker.proofs.StepLemmas.{inside_lines}
 use Rattle.rel_checker.proofs.edges.valleys.is_served.Goals as goal
