@@ -104,7 +104,7 @@ LimitLaw =
     (sets : Sets) (before routes : List Route) (old : Taken) (kind : LimitKind)
     → IsTakenOf sets before old → take_routes sets old routes ≡ Err kind → StopsAtLimit sets before routes old kind
 
--- the distinct ones of the paths are at most so many, and have at most 2 ^ 26 numbers in sum
+-- the distinct ones of the paths are at most so many, and have at most `max_numbers` numbers in sum
 pub record Fit (limit : ℕ) (paths : List (List ℕ)) : Type 0 where
   pub paths_few : length (distinct_paths paths) ≤ limit
   pub numbers_few : sum_by length (distinct_paths paths) ≤ max_numbers

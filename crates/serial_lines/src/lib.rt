@@ -9,7 +9,7 @@ mod printing;
 mod rel;
 
 pub use error::RelError;
-pub use laws::{line_laws, parse_printed};
+pub use laws::line_laws;
 pub use line::{RelKind, RelLine};
 pub use parsing::parse_rel;
 pub use printing::print_rel;

@@ -1,5 +1,6 @@
 //! Tests of peerings.
 ghost use Rattle.std.specs.Prelude.{◌≡◌, ◌≤◌, IfOk};
+ghost use Rattle.tor_arena.specs.Limits.{max_ratio};
 ghost use Rattle.tests_labels.specs.Cases.{three, three_ends, short, short_ends, bent, bent_ends};
 
 use crate::cases::{path, three_path_graph};
@@ -8,13 +9,13 @@ use peering::relabel;
 use relationships::{End, Label};
 use std::alloc::Global;
 use std::test::Fail;
-use tor_arena::{Keys, Rows};
+use tor_arena::{Keys, MAX_RATIO, Rows};
 
 /// A ratio that may be asked for.
 fn allowed(ratio: u32) -> Result<u32, Fail>
-    ensures { IfOk result (λ ratio. ratio ≤ 1000000) }
+    ensures { IfOk result (λ ratio. ratio ≤ max_ratio) }
 {
-    if ratio > 1000000 {
+    if ratio > MAX_RATIO {
         return Err(Fail::from("a ratio"));
     }
     Ok(ratio)
@@ -40,7 +41,7 @@ fn three_path_ends(alloc: Global) -> Result<Orientation, Fail>
 
 fn relabel_three(alloc: Global, graph: &AsGraph, ratio: u32) -> Result<Labels, Fail>
     requires graph { graph.now ≡ three }
-    requires small { ratio ≤ 1000000 }
+    requires small { ratio ≤ max_ratio }
 {
     let ends = three_path_ends(alloc)?;
     Ok(relabel(alloc, graph, &[path(0), path(1)], &ends, ratio)?)
@@ -103,7 +104,7 @@ fn short_path_ends(alloc: Global) -> Result<Orientation, Fail>
 
 fn relabel_short(alloc: Global, graph: &AsGraph, ratio: u32) -> Result<Labels, Fail>
     requires graph { graph.now ≡ short }
-    requires small { ratio ≤ 1000000 }
+    requires small { ratio ≤ max_ratio }
 {
     let ends = short_path_ends(alloc)?;
     Ok(relabel(alloc, graph, &[path(0)], &ends, ratio)?)
@@ -142,7 +143,7 @@ fn bent_path_ends(alloc: Global) -> Result<Orientation, Fail>
 
 fn relabel_bent(alloc: Global, graph: &AsGraph, ratio: u32) -> Result<Labels, Fail>
     requires graph { graph.now ≡ bent }
-    requires small { ratio ≤ 1000000 }
+    requires small { ratio ≤ max_ratio }
 {
     let ends = bent_path_ends(alloc)?;
     Ok(relabel(alloc, graph, &[path(0)], &ends, ratio)?)

@@ -52,7 +52,7 @@ SeenLaw =
 -- ---- when all is read
 
 -- each of these dumps is there and is read to its end, and the distinct cleaned paths of all of them are at most so many and have at
--- most 2 ^ 26 numbers in sum
+-- most `max_numbers` numbers in sum
 pub record AreReadable (sets : Sets) (limit : ℕ) (dumps : List (Option (List ℕ))) : Type 0 where
   pub octets : List (List ℕ)
   pub there : dumps ≡ map Some octets

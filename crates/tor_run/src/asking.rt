@@ -1,6 +1,7 @@
 //! What the words ask for, as a text that can be written, or why there is none.
 ghost use Rattle.std.specs.Prelude.{◌≡◌, ◌≢◌, ◌≤◌, ◌<◌, Ok, IfOk, IfErr, IfSome, IsNone, IsErrAnd, OnOk, length, ⊤};
 ghost use Rattle.std.specs.Io.KnownBytes.{IsAtEnd};
+ghost use Rattle.tor_arena.specs.Limits.{max_paths, max_ratio};
 ghost use Rattle.tor_io.specs.Counts.{Rose};
 ghost use Rattle.tor_words.specs.Given.{settings_given};
 ghost use Rattle.tor_run.specs.Sampling.{ByMode, IfSample, known_by, known_in};
@@ -61,8 +62,8 @@ fn output_for<H: Shelf>(
     shelf: &mut H,
 ) -> Result<Output, Refusal>
     requires some { 1 ≤ settings.now.max_paths }
-    requires most { settings.now.max_paths ≤ 8388608 }
-    requires ratio { settings.now.ratio ≤ 1000000 }
+    requires most { settings.now.max_paths ≤ max_paths }
+    requires ratio { settings.now.ratio ≤ max_ratio }
     ensures output { IfOk result (λ output. IfSome (known_in settings.now.mode (H.files shelf.old)) (λ files.
         IsOutputOf settings.now (seen_in settings.now.mode settings.now files) (written output))) }
     ensures of_some { IfOk result (λ output. (taken : Taken) × IsOutput settings.now taken (written output)) }

@@ -1,6 +1,7 @@
 //! What a run that is done writes.
 ghost use Rattle.std.specs.Prelude.{◌≡◌, ◌≤◌, ◌++◌, ◌∷◌, [], IfOk, OnOk, OnErr, string_bytes};
 ghost use Rattle.std.specs.Io.KnownBytes.{append_known};
+ghost use Rattle.tor_arena.specs.Limits.{max_ratio};
 ghost use Rattle.tor_io.specs.Counts.{HasCause};
 ghost use Rattle.tor_io.specs.Contents.{GainsPrefix};
 ghost use Rattle.tor_run.specs.Output.{Faithful, IsOutput, IsOutputIn};
@@ -74,7 +75,7 @@ fn faithful_result(
     settings: &Settings,
     taken: Taken,
 ) -> Result<ResultFile, NoMemory>
-    requires { settings.now.ratio ≤ 1000000 }
+    requires { settings.now.ratio ≤ max_ratio }
     ensures { IfOk result (Faithful settings.now taken) }
 {
     acceptance_law();
@@ -103,7 +104,7 @@ fn labels_output(
     settings: &Settings,
     taken: Taken,
 ) -> Result<Output, NoMemory>
-    requires { settings.now.ratio ≤ 1000000 }
+    requires { settings.now.ratio ≤ max_ratio }
     ensures { IfOk result (λ output. IsOutputIn Mode.Labels settings.now taken (written output)) }
 {
     let file = faithful_result(alloc, keys, settings, taken)?;
@@ -127,7 +128,7 @@ fn sample_output(
     seed: u64,
     taken: Taken,
 ) -> Result<Output, NoMemory>
-    requires { settings.now.ratio ≤ 1000000 }
+    requires { settings.now.ratio ≤ max_ratio }
     ensures { IfOk result (λ output. IsOutputIn (Mode.Sample seed) settings.now taken (written output)) }
 {
     let file = faithful_result(alloc, keys, settings, taken)?;
@@ -162,7 +163,7 @@ pub(crate) fn output_of(
     settings: &Settings,
     taken: Taken,
 ) -> Result<Output, NoMemory>
-    requires { settings.now.ratio ≤ 1000000 }
+    requires { settings.now.ratio ≤ max_ratio }
     ensures { IfOk result (λ output. IsOutput settings.now taken (written output)) }
 {
     match settings.mode {

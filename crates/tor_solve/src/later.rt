@@ -1,5 +1,6 @@
 //! The orientation that the order of the components gives.
 ghost use Rattle.std.specs.Prelude.{◌≡◌, ℕ, ◌+◌, ◌*◌, ◌<◌, ◌≤◌, ◌^◌, length, ◌↔◌, IsTrue, IfOk, IfSome, IfNone};
+ghost use Rattle.tor_arena.specs.Limits.{max_numbers};
 ghost use Rattle.tor_clauses.specs.Literals.{node_of, lit_of};
 ghost use Rattle.tor_solve.specs.Solving.{HaveOneClass, IsLater, AreLater};
 
@@ -22,7 +23,7 @@ pub(crate) fn node_at(edge: EdgeId, over: End) -> NodeId
 /// Whether the two literals of an edge have one class. It takes no memory.
 fn has_clash(parts: &Components<NodeId>, edge: EdgeId) -> bool
     requires there { edge * 2 + 1 < length parts.now.of }
-    requires few { edge < 2 ^ 26 }
+    requires few { edge < max_numbers }
     ensures { IsTrue result ↔ HaveOneClass parts.now.of edge }
 {
     let low = parts.class_of(node_at(edge, End::Low));
@@ -33,7 +34,7 @@ fn has_clash(parts: &Components<NodeId>, edge: EdgeId) -> bool
 /// The first edge, if any, whose two literals have one class. It takes no memory.
 pub(crate) fn clash(parts: &Components<NodeId>, count: usize) -> Option<EdgeId>
     requires there { count * 2 ≤ length parts.now.of }
-    requires few { count ≤ 2 ^ 26 }
+    requires few { count ≤ max_numbers }
     ensures some { IfSome result (λ edge. (edge < count) × HaveOneClass parts.now.of edge) }
     ensures none { IfNone result ((edge : ℕ) → edge < count → HaveOneClass parts.now.of edge → ⊥) }
 {
@@ -49,7 +50,7 @@ pub(crate) fn clash(parts: &Components<NodeId>, count: usize) -> Option<EdgeId>
 /// The end of an edge whose literal is the later of the two. It takes no memory.
 fn later_end(parts: &Components<NodeId>, edge: EdgeId) -> End
     requires there { edge * 2 + 1 < length parts.now.of }
-    requires few { edge < 2 ^ 26 }
+    requires few { edge < max_numbers }
     requires apart { HaveOneClass parts.now.of edge → ⊥ }
     ensures { IsLater parts.now.of (record { edge = edge; over = result }) }
 {
@@ -65,7 +66,7 @@ pub(crate) fn later_ends(
     count: usize,
 ) -> Result<Orientation, NoMemory>
     requires there { count * 2 ≤ length parts.now.of }
-    requires few { count ≤ 2 ^ 26 }
+    requires few { count ≤ max_numbers }
     requires apart { (edge : ℕ) → edge < count → HaveOneClass parts.now.of edge → ⊥ }
     ensures many { IfOk result (λ ends. length ends ≡ count) }
     ensures later { IfOk result (λ ends. AreLater parts.now.of ends) }

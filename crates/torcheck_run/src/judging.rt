@@ -1,5 +1,5 @@
 //! The verdict on a result file.
-ghost use Rattle.std.specs.Prelude.{◌≡◌, ◌≢◌, ◌≤◌, ◌-◌, ◌^◌, [], Err, IfOk, IfErr, OnOk, IfSome, IsNone, IsErrAnd, IsOk, length, take};
+ghost use Rattle.std.specs.Prelude.{◌≡◌, ◌≢◌, ◌≤◌, ◌-◌, [], Err, IfOk, IfErr, OnOk, IfSome, IsNone, IsErrAnd, IsOk, length, take};
 ghost use Rattle.std.specs.Io.KnownBytes.{IsAtEnd};
 ghost use Rattle.tor_io.specs.Counts.{Rose};
 ghost use Rattle.dump_read.specs.declared.error.DumpError.TheVariants.{ReadFault as read_failed};
@@ -11,7 +11,7 @@ ghost use Rattle.run_base.specs.Answers.{IsReadFault};
 ghost use Rattle.torcheck_run.specs.Judging.{Judged, SettingsGive, IsVerdict, JudgesByDumps, LeavesRestOf, LeavesOnlyResult, seen_for};
 ghost use Rattle.run_base.specs.WholeFile.{LeavesRest, LeavesOnly};
 ghost use Rattle.torcheck_run.specs.CheckAnswer.{KnownFilesGive};
-ghost use Rattle.result_rules.specs.File.{HasFewLines};
+ghost use Rattle.result_rules.specs.File.{HasFewLines, most_lines};
 ghost use Rattle.torcheck_run.specs.Unjudging.{IsRuling, IsRulingOf, IsRefusedBy, IsUnjudged, IsUnjudgedIn, IsTooLong, IsFailedResult, IsFailedRead, IsOfCheckWords, AnswersUnjudged};
 ghost use Rattle.torcheck_run.specs.Limits.{max_result};
 
@@ -87,7 +87,7 @@ fn judged_by_dumps<H: Shelf>(
     file: &ResultFile,
     dumps: &[Name],
 ) -> Result<Verdict, Stopped>
-    requires lines { length file.now.paths ≤ 2 ^ 40 }
+    requires lines { length file.now.paths ≤ most_lines }
     ensures verdict { IfOk result (λ verdict. IfSome (H.files shelf.old) (λ files. JudgesByDumps file.now dumps.now files verdict)) }
     ensures stopped { IfErr result (λ e. IfSome (end_named e.dump e.error) (λ end. IfSome (H.files shelf.old) (λ files.
         seen_for file.now dumps.now files ≡ Err end))) }
