@@ -1,6 +1,6 @@
 -- Batches of cleaned routes.
 use Rattle.std.proofs.Common.{◌≡◌, ◌∙◌, ◌+◌, ◌<◌, ◌≤◌, ◌++◌, ◌∷◌, [], List, ℕ, zero, suc, Bool, true, false, cond, Option, Some, None, Result, Ok, Err, option_map, bytes_eq, length, drop, map, slice_get, nat_eq, refl, ap, sym, subst, arith}
-use Rattle.std.specs.Prelude.{is_some, OnOk}
+use Rattle.std.specs.Prelude.{is_some}
 use Rattle.std.proofs.lemmas.List.{length-append, length-map}
 use Rattle.std.proofs.Math.ListN.{drop_of_length-le}
 use Rattle.tor_arena.specs.Growth.{one_more}
@@ -201,8 +201,3 @@ pub batch-all : (sets : Sets) (routes : List Route) (batch : Batched) (k : ℕ) 
 batch-all sets routes batch k old new is le so_far =
     let many = ap length is ∙ length-map routes (λ (route : Route). clean_of sets route.width route.attrs) in
     all_taken sets old new routes (drop k routes) so_far (drop_of_length-le routes {i = k} (omega (arith, many, le)))
-
--- where it ends well, what follows from that
-pub on_ok : {T E A B : Type 0} (result : Result T E) → OnOk result A → (A → B) → OnOk result B
-on_ok (Ok x) a f = f a
-on_ok (Err e) a f = tt

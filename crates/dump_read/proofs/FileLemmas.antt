@@ -1,6 +1,6 @@
 -- What a file holds is counted record by record.
 use Rattle.std.proofs.Common.{◌≡◌, false, ℕ, ◌+◌, ◌≤◌, ◌^◌, ◌-◌, List, [], ◌∷◌, ◌++◌, length, Option, Some, None, IfSome, Result, Ok, Err, refl, sym, ap, ap₂, subst, ◌∙◌, arith}
-use Rattle.std.specs.Prelude.{sum_by, is_some, OnOk, OnErr}
+use Rattle.std.specs.Prelude.{sum_by, is_some, OnErr}
 use Rattle.path_clean.specs.declared.cleaned.Sets.{Sets}
 use Rattle.dump_read.specs.Seen.{of_octets}
 use Rattle.dump_read.specs.Taking.{Taken}
@@ -157,11 +157,7 @@ read_to_end sets d None old mid new file kept read held = tt
 read_to_end sets d (Some octets) old mid new file kept read held =
     read ∙ ap (λ (f : FileCounts). Ok (record mid { files = mid.files ++ f ∷ [] })) (sym held) ∙ ap (λ (t : Taken). Ok t) (sym kept)
 
--- what follows where a result is one of its two kinds
-pub on_ok : {T E : Type 0} (result : Result T E) {P Q : Type 0} → OnOk result P → (P → Q) → OnOk result Q
-on_ok (Ok x) p f = f p
-on_ok (Err e) p f = tt
-
+-- what follows where a result is an error
 pub on_err : {T E : Type 0} (result : Result T E) {P Q : Type 0} → OnErr result P → (P → Q) → OnErr result Q
 on_err (Ok x) p f = tt
 on_err (Err e) p f = f p

@@ -5,6 +5,7 @@ use Rattle.std.specs.Prelude.{slice_get}
 use Rattle.std.proofs.lemmas.Bool.{cases_lt, cases_order, false≢true}
 use Rattle.std.proofs.lemmas.Option.{same_Some, get_or_from_slice_get, slice_get_within}
 use Rattle.relationships.specs.Steps.{end_left}
+use Rattle.tor_arena.proofs.Pairs.{pair_with}
 use Rattle.relationships.specs.declared.label.End.{End}
 use Rattle.relationships.specs.declared.label.Label.{Label}
 use Rattle.relationships.specs.Evidence.{NeighboursDiffer}
@@ -29,7 +30,6 @@ use Rattle.tor_digraph.specs.NodeSets.{IsAdded}
 use Rattle.forced_edges.specs.Held.{end_of_label, is_end, held}
 use Rattle.forced_edges.specs.Candidates.{against}
 use Rattle.tor_digraph.proofs.Members.{Contains-one_more}
-use Rattle.forced_edges.proofs.Ordering.{pair_with}
 
 -- ---- what is held is what the labels say
 

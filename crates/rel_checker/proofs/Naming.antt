@@ -103,7 +103,7 @@ fate_path line (Lost walk) = None
 
 pub named_by : (lines : List PathLine) (next : Option PathLine) (number : ℕ) (line : PathLine) (path : List ℕ) → 0 < number → number ≤ length lines → line ≡ get_or lines (number - 1) line →
     Contains (nameable lines next) (number, path) ↔ fate_path line line.fate ≡ Some path
-named_by lines next number line path same_Some _ _ within is =
+named_by lines next number line path some within is =
     let e : 1 + (number - 1) ≡ number = omega arith in
     let k : number - 1 < length lines = omega arith in (
       λ c.
