@@ -11,14 +11,9 @@ use Rattle.as_graph.specs.declared.step.Step.{Step}
 use Rattle.as_graph.specs.Paths.{triple_count}
 use Rattle.as_graph.specs.Steps.{AreSteps, HaveSteps}
 use Rattle.tor_numbers.specs.Edges.{with_edges}
-use Rattle.as_graph.specs.Inside.{path_by, IsGraph}
+use Rattle.as_graph.specs.Inside.{path_by, IsGraph, IsBuilt}
 use Rattle.as_graph.proofs.Distinct.{edges-push, edges_within, few_edges}
 use Rattle.as_graph.proofs.StepLemmas.{HaveSteps-more, HaveSteps-push, paths_by_steps}
-
--- the edges and the steps of the first paths are there
-pub record IsBuilt (paths : List (List ℕ)) (place : ℕ) (es : List Edge) (rows : List (List Step)) : Type 0 where
-  pub there : es ≡ edges (take place paths)
-  pub stepped : HaveSteps es (take place paths) rows
 
 length-rows : (es : List Edge) (paths : List (List ℕ)) (rows : List (List Step)) → HaveSteps es paths rows → length rows ≡ length paths
 length-rows es [] [] h = refl

@@ -1,5 +1,5 @@
 -- What the fields of a graph hold.
-use Rattle.std.specs.Prelude.{◌≡◌, ℕ, ◌+◌, ◌<◌, ◌≤◌, ◌||◌, ◌==◌, Bool, List, [], ◌∷◌, ◌++◌, All, length, map, sum_by, count_by, filter, slice_index_or, unwrap_or, nat_eq, if◌then◌else◌}
+use Rattle.std.specs.Prelude.{◌≡◌, ℕ, ◌+◌, ◌<◌, ◌≤◌, ◌||◌, ◌==◌, Bool, List, [], ◌∷◌, ◌++◌, All, length, map, sum_by, count_by, filter, take, slice_index_or, unwrap_or, nat_eq, if◌then◌else◌}
 use Rattle.std.specs.List.{list_any}
 use Rattle.std.specs.Map.{lookup}
 use Rattle.tor_arena.specs.Limits.{max_numbers}
@@ -53,6 +53,13 @@ next_as es step = as_at (slice_index_or es step.edge (0, 0)) (opposite step.left
 abbrev pub path_by : List Edge → List Step → List ℕ
 path_by es [] = []
 path_by es (step ∷ steps) = left_as es step ∷ map (next_as es) (step ∷ steps)
+
+-- ---- a graph that is built path by path
+
+-- the edges and the steps of the first paths are there
+pub record IsBuilt (paths : List (List ℕ)) (place : ℕ) (es : List Edge) (rows : List (List Step)) : Type 0 where
+  pub there : es ≡ edges (take place paths)
+  pub stepped : HaveSteps es (take place paths) rows
 
 -- ---- returns of givens
 

@@ -8,7 +8,7 @@ ghost use Rattle.relationships.specs.Givens.{returns, NameTwo, NameOnce};
 ghost use Rattle.relationships.specs.Steps.{end_left};
 ghost use Rattle.as_graph.specs.Steps.{IsStep, AreSteps};
 ghost use Rattle.tor_numbers.specs.Edges.{with_edge, with_edges};
-ghost use Rattle.as_graph.specs.Inside.{AddsReturns};
+ghost use Rattle.as_graph.specs.Inside.{AddsReturns, IsBuilt};
 
 use crate::graph::AsGraph;
 use crate::graph_edges::GraphEdges;
@@ -27,16 +27,52 @@ pub fn build(alloc: Global, keys: Keys, paths: &Rows<PathId, u32>) -> Result<AsG
     ensures { IfOk result (λ graph. graph ≡ paths.now) }
 {
     let mut edges = GraphEdges::new(alloc, keys);
+    let rows = rows_of(alloc, paths, &mut edges)?;
+    Ok(AsGraph { edges, rows })
+}
+
+/// The steps of each path. Their edges are added, where there are no others.
+fn rows_of(
+    alloc: Global,
+    paths: &Rows<PathId, u32>,
+    edges: &mut GraphEdges,
+) -> Result<Rows<PathId, Step>, NoMemory>
+    requires several { All (λ path. 2 ≤ length path) paths.now }
+    requires apart { All AllDistinct paths.now }
+    requires few { length paths.now ≤ max_paths }
+    requires short { sum_by length paths.now ≤ max_numbers }
+    requires empty { edges.old ≡ [] }
+    ensures { IfOk result (IsBuilt paths.now (length paths.now) edges.new) }
+{
     let mut rows = Rows::new(alloc);
     rows.reserve(paths.len(), steps_on(paths))?;
+    add_paths(alloc, paths, edges, &mut rows)?;
+    Ok(rows)
+}
+
+/// Adds the edges of the paths, and a row of steps for each, where there are no others.
+fn add_paths(
+    alloc: Global,
+    paths: &Rows<PathId, u32>,
+    edges: &mut GraphEdges,
+    rows: &mut Rows<PathId, Step>,
+) -> Result<(), NoMemory>
+    requires several { All (λ path. 2 ≤ length path) paths.now }
+    requires apart { All AllDistinct paths.now }
+    requires few { length paths.now ≤ max_paths }
+    requires short { sum_by length paths.now ≤ max_numbers }
+    requires empty { edges.old ≡ [] }
+    requires none { rows.old ≡ [] }
+    ensures { OnOk result (IsBuilt paths.now (length paths.now) edges.new rows.new) }
+{
     let mut steps = List::new(alloc);
     for place in 0..paths.len() {
         let path = PathId::from_place(place).unwrap();
         steps.clear();
-        add_steps(&mut edges, &mut steps, paths.row(path))?;
-        add_row(&mut rows, steps.as_slice())?;
+        add_steps(edges, &mut steps, paths.row(path))?;
+        add_row(rows, steps.as_slice())?;
     }
-    Ok(AsGraph { edges, rows })
+    Ok(())
 }
 
 /// The graph of the paths and, behind these, of the returns of those givens whose two are neighbours on them: from the customer to the

@@ -62,7 +62,6 @@ impl<N: Index, A: Index> Trace<N, A> {
     }
 
     /// Notes how the node was found.
-    #[tactic(auto, using(crate::proofs::Traces::marked_set))]
     pub fn put(&mut self, node: N, found: Found<N, A>)
         requires { N.place_of node < length self.old.items }
         ensures items { self.new.items ≡ slice_set self.old.items (N.place_of node) found }
@@ -72,7 +71,6 @@ impl<N: Index, A: Index> Trace<N, A> {
     }
 
     /// Adds `n` nodes that are not found, all or, for want of memory, none.
-    #[tactic(auto, using(crate::proofs::Traces::marked_push))]
     pub fn push_none(&mut self, n: usize) -> Result<(), NoMemory>
         requires { length self.old.items + n ≤ N.LIMIT }
         ensures ok { OnOk result (self.new.items ≡ self.old.items ++ replicate n Found.No) }

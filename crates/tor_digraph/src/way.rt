@@ -1,5 +1,5 @@
 //! Ways: walks of arcs.
-ghost use Rattle.std.specs.Prelude.{◌≡◌, ◌+◌, ◌<◌, ◌↔◌, List, Some, slice_get, length, IfOk, IfSome, IsNone};
+ghost use Rattle.std.specs.Prelude.{◌≡◌, ◌+◌, ◌<◌, ◌↔◌, List, Some, slice_get, length, IfOk, IfSome, IsNone, OnOk};
 ghost use Rattle.tor_digraph.specs.Found.{IsFound, IsRoot, IsFalling, HasTreeArcs, LeadsFromRoot};
 ghost use Rattle.tor_digraph.specs.Walks.{IsWay};
 ghost use Rattle.tor_digraph.specs.Back.{IsBack};
@@ -46,20 +46,38 @@ fn go_back<N: Index, A: Index>(
     Ok(Back { root, steps })
 }
 
-/// The same steps, the other way round.
-fn reversed<N: Index, A: Index>(alloc: Global, back: Back<N, A>) -> Result<Way<N, A>, NoMemory>
-    ensures { IfOk result (λ w. (arcs : List (N × N)) (end : N) → IsBack A.place_of arcs back.root end back.steps →
-        IsWay A.place_of arcs back.root end w.nodes w.arcs) }
+/// The way that stays at a node.
+fn way_at<N: Index, A: Index>(alloc: Global, node: N) -> Result<Way<N, A>, NoMemory>
+    ensures { IfOk result (λ w. (arcs : List (N × N)) → IsWay A.place_of arcs node node w.nodes w.arcs) }
 {
-    let Back { root, mut steps } = back;
     let mut nodes = List::new(alloc);
-    let mut arcs = List::new(alloc);
-    nodes.push(root)?;
+    nodes.push(node)?;
+    Ok(Way {
+        nodes,
+        arcs: List::new(alloc),
+    })
+}
+
+/// Goes on along steps back, the last first.
+fn go_on<N: Index, A: Index>(steps: &mut List<(N, A)>, way: &mut Way<N, A>) -> Result<(), NoMemory>
+    ensures { OnOk result ((arcs : List (N × N)) (start from end : N) → IsBack A.place_of arcs from end steps.old →
+        IsWay A.place_of arcs start from way.old.nodes way.old.arcs → IsWay A.place_of arcs start end way.new.nodes way.new.arcs) }
+{
     while let Some(step) = steps.pop() {
-        nodes.push(step.0)?;
-        arcs.push(step.1)?;
+        way.nodes.push(step.0)?;
+        way.arcs.push(step.1)?;
     }
-    Ok(Way { nodes, arcs })
+    Ok(())
+}
+
+/// The same steps, the other way round.
+fn reversed<N: Index, A: Index>(alloc: Global, back: &mut Back<N, A>) -> Result<Way<N, A>, NoMemory>
+    ensures { IfOk result (λ w. (arcs : List (N × N)) (end : N) → IsBack A.place_of arcs back.old.root end back.old.steps →
+        IsWay A.place_of arcs back.old.root end w.nodes w.arcs) }
+{
+    let mut way = way_at(alloc, back.root)?;
+    go_on(&mut back.steps, &mut way)?;
+    Ok(way)
 }
 
 /// A walk to a node that was found, from the start of its search tree.
@@ -72,5 +90,6 @@ pub(crate) fn way_to<N: Index, A: Index>(
     requires falls { IsFalling N.place_of found.now.items }
     ensures { IfOk result (λ w. LeadsFromRoot N.place_of A.place_of found.now.items node w.nodes w.arcs) }
 {
-    reversed(alloc, go_back(alloc, found, node)?)
+    let mut back = go_back(alloc, found, node)?;
+    reversed(alloc, &mut back)
 }

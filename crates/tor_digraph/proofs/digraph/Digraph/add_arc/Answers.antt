@@ -3,10 +3,7 @@ use Rattle.tor_digraph.proofs.Chains.{linked-add_made}
 use Rattle.tor_digraph.proofs.digraph.Digraph.add_arc.Goals as goal
 
 pub invariant_of-self : goal.invariant_of-self
-invariant_of-self g c = rw c.reserve.ensures.items c.self.invariant
-
-pub invariant_of-self-in_err-reserve-2 : goal.invariant_of-self-in_err-reserve-2
-invariant_of-self-in_err-reserve-2 g c = rw (c.reserve.ensures.items, c.reserve-2.ensures.items) c.self.invariant
+invariant_of-self g c = rw (c.make_room.ensures.ends, c.make_room.ensures.links) c.self.invariant
 
 pub invariant_of-self-2 : goal.invariant_of-self-2
 invariant_of-self-2 g c =
@@ -14,5 +11,5 @@ invariant_of-self-2 g c =
     c.self.inside.links.items c.args.tail c.args.head c.push_reserved-arc.result c.get-link.result.now c.self.invariant
     (subst (λ v. g.N.Index.place_of c.args.tail < v.nodes) (sym c.self.view_is) c.requires.tail)
     (subst (λ v. g.N.Index.place_of c.args.head < v.nodes) (sym c.self.view_is) c.requires.head)
-    _ _ c.reserve.ensures.items c.reserve-2.ensures.items c.push_reserved-arc.ensures.index c.get-link.ensures
+    _ _ c.make_room.ensures.ends c.make_room.ensures.links c.push_reserved-arc.ensures.index c.get-link.ensures
     _ _ _ c.put.ensures.items c.push_reserved-arc.ensures.added c.push_reserved.ensures.added
