@@ -3,6 +3,7 @@
 
 mod check_settings;
 mod command;
+mod laws;
 mod name;
 mod refused;
 mod settings;
@@ -10,7 +11,8 @@ mod values;
 mod words;
 
 pub use check_settings::{CheckSettings, check_settings_of};
+pub use laws::bounds_law;
 pub use name::Name;
 pub use refused::WordsRefused;
-pub use settings::{Mode, Settings, settings_of};
+pub use settings::{Mode, Settings, Source, settings_of};
 pub use words::words_of;
