@@ -1,4 +1,5 @@
 pub mod Answers
+pub mod Frames
 pub mod Notes
 pub mod Pieces
 pub mod Reading

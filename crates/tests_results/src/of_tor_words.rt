@@ -2,7 +2,7 @@
 use path_clean::Sets;
 use std::alloc::Global;
 use tor_arena::{List, NoMemory};
-use tor_words::{Mode, Name, WordsRefused, check_settings_of, settings_of};
+use tor_words::{Mode, Name, Source, WordsRefused, check_settings_of, settings_of};
 
 fn add_name(alloc: Global, names: &mut List<Name>, text: &str) -> Result<(), NoMemory> {
     names.push(Name::from_text(alloc, text)?)
@@ -17,8 +17,8 @@ fn names_of(alloc: Global, texts: &[&str]) -> Result<List<Name>, NoMemory> {
     Ok(names)
 }
 
-/// The mode, the way with sets, the ratio, the most paths and the number of dumps.
-type Asked = (Mode, Sets, u32, u32, usize);
+/// The mode, where the dumps come from, the way with sets, the ratio, the most paths and the number of dumps that are named.
+type Asked = (Mode, Source, Sets, u32, u32, usize);
 
 /// What words give, or the exit status that refuses them.
 fn asked(alloc: Global, texts: &[&str]) -> Result<Asked, u8> {
@@ -26,7 +26,14 @@ fn asked(alloc: Global, texts: &[&str]) -> Result<Asked, u8> {
         return Err(9);
     };
     match settings_of(alloc, &words) {
-        Ok(s) => Ok((s.mode, s.sets, s.ratio, s.max_paths, s.dumps.len())),
+        Ok(s) => Ok((
+            s.mode,
+            s.source,
+            s.sets,
+            s.ratio,
+            s.max_paths,
+            s.dumps.len(),
+        )),
         Err(WordsRefused::Usage(_)) => Err(2),
         Err(WordsRefused::NoMemory) => Err(7),
     }
@@ -37,47 +44,69 @@ const MOST: u32 = 8_388_608;
 
 /// Words, and the settings that they give.
 static TAKEN: [(&'static [&'static str], Asked); 15] = [
-    (&["d"], (Mode::Labels, Sets::Cut, 60, MOST, 1)),
+    (
+        &["d"],
+        (Mode::Labels, Source::Files, Sets::Cut, 60, MOST, 1),
+    ),
     (
         &["--as-sets=skip", "--", "d"],
-        (Mode::Labels, Sets::Skip, 60, MOST, 1),
+        (Mode::Labels, Source::Files, Sets::Skip, 60, MOST, 1),
     ),
     (
         &["a", "--list", "b", "--as-sets", "cut", "c"],
-        (Mode::Listing, Sets::Cut, 60, MOST, 3),
+        (Mode::Listing, Source::Files, Sets::Cut, 60, MOST, 3),
     ),
     (
         &["--ratio", "0", "d"],
-        (Mode::Labels, Sets::Cut, 0, MOST, 1),
+        (Mode::Labels, Source::Files, Sets::Cut, 0, MOST, 1),
     ),
     (
         &["--list", "--ratio=1000000", "d", "d"],
-        (Mode::Listing, Sets::Cut, 1_000_000, MOST, 2),
+        (Mode::Listing, Source::Files, Sets::Cut, 1_000_000, MOST, 2),
     ),
     (
         &["--ratio", "+007", "--max-paths", "+007", "d"],
-        (Mode::Labels, Sets::Cut, 7, 7, 1),
+        (Mode::Labels, Source::Files, Sets::Cut, 7, 7, 1),
     ),
     (
         &["--list", "--", "--list"],
-        (Mode::Listing, Sets::Cut, 60, MOST, 1),
+        (Mode::Listing, Source::Files, Sets::Cut, 60, MOST, 1),
     ),
-    (&["--", "--list"], (Mode::Labels, Sets::Cut, 60, MOST, 1)),
-    (&["-", "", "help"], (Mode::Labels, Sets::Cut, 60, MOST, 3)),
+    (
+        &["--", "--list"],
+        (Mode::Labels, Source::Files, Sets::Cut, 60, MOST, 1),
+    ),
+    (
+        &["-", "", "help"],
+        (Mode::Labels, Source::Files, Sets::Cut, 60, MOST, 3),
+    ),
     (
         &["--sample", "7"],
-        (Mode::Sample(7), Sets::Cut, 60, MOST, 0),
+        (Mode::Summary, Source::Sample(7), Sets::Cut, 60, MOST, 0),
     ),
     (
         &["--sample=18446744073709551615", "--ratio", "0"],
-        (Mode::Sample(u64::MAX), Sets::Cut, 0, MOST, 0),
+        (
+            Mode::Summary,
+            Source::Sample(u64::MAX),
+            Sets::Cut,
+            0,
+            MOST,
+            0,
+        ),
     ),
     (
         &["--max-paths", "9", "--sample", "0", "--as-sets", "skip"],
-        (Mode::Sample(0), Sets::Skip, 60, 9, 0),
+        (Mode::Summary, Source::Sample(0), Sets::Skip, 60, 9, 0),
     ),
-    (&["--survey", "d"], (Mode::Survey, Sets::Cut, 60, MOST, 1)),
-    (&["--", "--survey"], (Mode::Labels, Sets::Cut, 60, MOST, 1)),
+    (
+        &["--survey", "d"],
+        (Mode::Survey, Source::Files, Sets::Cut, 60, MOST, 1),
+    ),
+    (
+        &["--", "--survey"],
+        (Mode::Labels, Source::Files, Sets::Cut, 60, MOST, 1),
+    ),
     (
         &[
             "--survey",
@@ -88,7 +117,7 @@ static TAKEN: [(&'static [&'static str], Asked); 15] = [
             "d1",
             "d2",
         ],
-        (Mode::Survey, Sets::Skip, 60, 5, 2),
+        (Mode::Survey, Source::Files, Sets::Skip, 60, 5, 2),
     ),
 ];
 

@@ -7,14 +7,19 @@ use Rattle.tor_io.specs.Contents.{Files}
 use Rattle.dump_read.specs.declared.taking.Taken.{Taken}
 use Rattle.result_text.specs.declared.file.ResultFile.{ResultFile}
 use Rattle.result_rules.specs.declared.verdict.Verdict.TheVariants.{Yes}
+use Rattle.result_rules.specs.Rules.{Accepts}
 use Rattle.tor_words.specs.declared.settings.Mode.{Mode}
+use Rattle.tor_words.specs.declared.settings.Mode.TheVariants.{Labels}
+use Rattle.tor_words.specs.declared.settings.Source.{Source}
+use Rattle.tor_words.specs.declared.settings.Source.TheVariants as source
+use Rattle.tor_words.specs.Given.{BoundsLaw, IsWrittenOf}
 use Rattle.tor_words.specs.declared.settings.Settings.{Settings}
 use Rattle.tor_run.specs.Agreement.{AgreementLaw}
-use Rattle.result_rules.specs.declared.verdict.Verdict.{Verdict}
 use Rattle.result_text.specs.Grammar.{IsTextOf}
 use Rattle.tor_words.specs.declared.check_settings.CheckSettings.{CheckSettings}
 use Rattle.tor_words.specs.CheckGiven.{check_settings_given}
-use Rattle.tor_run.specs.Seen.{seen}
+use Rattle.tor_run.specs.Accepting.{FaithfulLaw, TableLaw}
+use Rattle.tor_run.specs.Seen.{seen, seen_in}
 use Rattle.torcheck_run.specs.Judging.{CanBeJudged, IsVerdict, JudgesByDumps, seen_for}
 use Rattle.torcheck_run.specs.Limits.{max_result}
 use Rattle.torcheck_run.proofs.Comings.{OneValue, same_file, one_verdict}
@@ -28,22 +33,22 @@ sees : (settings : Settings) (files : Files) (taken : Taken) (file : ResultFile)
 sees settings files taken file dumps few gives faithful =
     let wide = all_files settings.max_paths max_paths settings.sets 1 (nothing settings.max_paths) taken dumps files
     (record { same = refl; few = omega arith; less = few }) gives in
-    subst (λ (s : Sets). seen_from s 1 (nothing max_paths) dumps files ≡ Ok (widened max_paths taken)) (sym faithful.result.its_sets) wide
+    subst (λ (s : Sets). seen_from s 1 (nothing max_paths) dumps files ≡ Ok (widened max_paths taken)) (sym faithful.its_sets) wide
 
 by_dumps : (settings : Settings) (files : Files) (taken : Taken) (file : ResultFile) (dumps : List (List ℕ)) → settings.max_paths ≤ max_paths →
     seen_from settings.sets 1 (nothing settings.max_paths) dumps files ≡ Ok taken → Faithful settings taken file → JudgesByDumps file dumps files Yes
 by_dumps settings files taken file [] few gives faithful = refl
 by_dumps settings files taken file (dump ∷ dumps) few gives faithful =
-    (widened max_paths taken, sees settings files taken file (dump ∷ dumps) few gives faithful, faithful.agrees)
+    (widened max_paths taken, sees settings files taken file (dump ∷ dumps) few gives faithful, (faithful.its_counts, faithful.paths))
 
 -- what a check of the text is beside
 told : (settings : Settings) (files : Files) (taken : Taken) (file : ResultFile) (text : List ℕ) → settings.max_paths ≤ max_paths → seen settings files ≡ Ok taken
-    → Faithful settings taken file → IsTextOf file text → (dumps : List (List ℕ)) → (dumps ≡ []) ⊎ (dumps ≡ settings.dumps) → IsVerdict text dumps files Yes
-told settings files taken file text few gives faithful is dumps (inl e) =
-    subst (λ (ds : List (List ℕ)). IsVerdict text ds files Yes) (sym e) (inr (file, record { text = is; rules = faithful.accepted }, refl))
-told settings files taken file text few gives faithful is dumps (inr e) =
+    → Faithful settings taken file → Accepts file → IsTextOf file text → (dumps : List (List ℕ)) → (dumps ≡ []) ⊎ (dumps ≡ settings.dumps) → IsVerdict text dumps files Yes
+told settings files taken file text few gives faithful accepted is dumps (inl e) =
+    subst (λ (ds : List (List ℕ)). IsVerdict text ds files Yes) (sym e) (inr (file, record { text = is; rules = accepted }, refl))
+told settings files taken file text few gives faithful accepted is dumps (inr e) =
     subst (λ (ds : List (List ℕ)). IsVerdict text ds files Yes) (sym e)
-    (inr (file, record { text = is; rules = faithful.accepted }, by_dumps settings files taken file settings.dumps few gives faithful))
+    (inr (file, record { text = is; rules = accepted }, by_dumps settings files taken file settings.dumps few gives faithful))
 
 is_ok : {T E : Type 0} (r : Result T E) (x : T) → r ≡ Ok x → IsOk r
 is_ok r x e = subst (λ q. IsOk q) (sym e) refl
@@ -65,10 +70,20 @@ can_be law settings files taken file text few gives faithful is words check give
   ]);
 }
 
-pub agreement : OneValue → AgreementLaw
-agreement law settings files taken output labels few gives written =
-    let (file, faithful, text, note) = subst (λ (m : Mode). IsOutputIn m settings taken output) labels written in
-    let yes = told settings files taken file output.text few gives faithful text in
+-- a run that writes a result reads files
+of_files : (from : Source) (mode : Mode) → mode ≡ Labels → IsWrittenOf from mode → from ≡ source.Files
+of_files source.Files mode labels written = refl
+of_files (source.Sample seed) mode labels written = absurd cc
+
+pub agreement : OneValue → BoundsLaw → FaithfulLaw → TableLaw → AgreementLaw
+agreement law bounds faithful_is table_is words settings files taken output given labels comes asked =
+    let (file, faithful, text, note) = subst (λ (m : Mode). IsOutputIn m settings taken output) labels asked in
+    let within = bounds words settings given in
+    let from = of_files settings.source settings.mode labels within.written in
+    let gives : seen settings files ≡ Ok taken = subst (λ (s : Source). seen_in s settings files ≡ Ok taken) from comes in
+    let few = within.most in
+    let accepted = (faithful_is words settings taken file given (table_is words settings files taken given comes) faithful).accepted in
+    let yes = told settings files taken file output.text few gives faithful accepted text in
     record {
       alone = yes [] (inl refl);
       beside = yes settings.dumps (inr refl);

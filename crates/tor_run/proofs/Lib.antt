@@ -1,8 +1,11 @@
+pub mod AcceptingLemmas
 pub mod Agreeing
 pub mod Lines
+pub mod Outcomes
 pub mod ReadableLemmas
 pub mod Sampled
 pub mod SeenLemmas
 mod Summaries
 pub mod TableLines
+pub mod TableRows
 pub mod WiderLimit

@@ -23,7 +23,7 @@ use Rattle.dump_read.specs.Taking.{with_one, has_too_many_numbers, take_path, ta
 use Rattle.dump_read.proofs.FitLemmas.{fitting}
 use Rattle.dump_read.proofs.TakingLemmas as taking
 use Rattle.tor_sample.specs.Records.{sample}
-use Rattle.tor_words.specs.declared.settings.Mode.TheVariants.{Labels, Listing, Survey, Sample}
+use Rattle.tor_words.specs.declared.settings.Source.TheVariants as source
 use Rattle.run_base.specs.Reading.{nothing, seen_from}
 use Rattle.tor_run.specs.SeenLaw.{AreReadable, IsWhole, DumpsReadableLaw, ReadableLaw}
 use Rattle.tor_run.proofs.SeenLemmas.{same, dumps_law, sample_file, as_dump}
@@ -189,9 +189,7 @@ dumps_readable sets limit names files = (λ seen. forth seen.0 seen.1, λ readab
         are_seen sets 1 names readable.octets files (nothing limit) all.0 readable.there readable.whole all.1
 
 pub readable : ReadableLaw
-readable Labels settings files = dumps_readable settings.sets settings.max_paths settings.dumps files
-readable Listing settings files = dumps_readable settings.sets settings.max_paths settings.dumps files
-readable Survey settings files = dumps_readable settings.sets settings.max_paths settings.dumps files
-readable (Sample seed) settings files =
+readable source.Files settings files = dumps_readable settings.sets settings.max_paths settings.dumps files
+readable (source.Sample seed) settings files =
     subst (λ (given : Result Taken DumpsEnd). ((taken : Taken) × (given ≡ Ok taken)) ↔ AreReadable settings.sets settings.max_paths (Some (sample seed) ∷ []))
     (as_dump settings seed) (dumps_readable settings.sets settings.max_paths ([] ∷ []) (sample_file seed))

@@ -1,63 +1,53 @@
 -- What holds by the settings that words give, where these may ask for a sample.
-use Rattle.std.proofs.Common.{◌≡◌, ℕ, ◌<◌, List, length, Option, Some, None, Err, sym, ap, subst, ◌∙◌}
-use Rattle.std.specs.Prelude.{IfSome, option_map}
+use Rattle.std.proofs.Common.{◌≡◌, ℕ, ◌<◌, List, length, Option, Some, None, sym, subst}
+use Rattle.std.specs.Prelude.{IfSome}
 use Rattle.tor_io.specs.Contents.{Files}
 use Rattle.dump_read.specs.declared.error.DumpError.{DumpError}
 use Rattle.dump_read.specs.declared.error.DumpError.TheVariants as error
 use Rattle.dump_read.specs.Seen.{DumpsEnd}
-use Rattle.tor_words.specs.declared.settings.Mode.{Mode}
-use Rattle.tor_words.specs.declared.settings.Mode.TheVariants.{Labels, Listing, Survey, Sample}
+use Rattle.tor_words.specs.declared.settings.Source.{Source}
+use Rattle.tor_words.specs.declared.settings.Source.TheVariants as source
 use Rattle.tor_words.specs.declared.settings.Settings.{Settings}
 use Rattle.tor_words.specs.Given.{settings_given, HasDumps}
 use Rattle.run_base.specs.declared.answer.Refusal.{Refusal}
 use Rattle.run_base.specs.declared.answer.Refusal.TheVariants as refusal
-use Rattle.tor_run.specs.Answer.{OutcomeIsEnd}
 use Rattle.tor_run.specs.Output.{IsOutputOf, IsAsked}
 use Rattle.tor_run.specs.Refusals.{IsEndIn, StopsIn, IsDumpStop, IsStopIn, IsRefusal}
-use Rattle.tor_run.specs.Sampling.{ByMode, ByModeOf, IfSample, known_for, known_by, known_in}
-use Rattle.tor_run.specs.Seen.{outcome, seen_in}
+use Rattle.tor_run.specs.Sampling.{BySource, BySourceOf, IfSample, known_for, known_by, known_in}
+use Rattle.tor_run.specs.Seen.{ComesTo, Ends, LeadsTo}
 use Rattle.tor_run.specs.Written.{Written}
 
--- this in both modes
-pub by_mode : (m : Mode) {P Q : Type 0} → P → Q → ByMode m P Q
-by_mode Labels p q = q
-by_mode Listing p q = q
-by_mode Survey p q = q
-by_mode (Sample seed) p q = p
+-- this of both sources
+pub by_source : (s : Source) {P Q : Type 0} → P → Q → BySource s P Q
+by_source source.Files p q = q
+by_source (source.Sample seed) p q = p
 
-pub mode_more : (m : Mode) {P Q R S : Type 0} → (P → R) → (Q → S) → ByMode m P Q → ByMode m R S
-mode_more Labels f g h = g h
-mode_more Listing f g h = g h
-mode_more Survey f g h = g h
-mode_more (Sample seed) f g h = f h
+pub source_more : (s : Source) {P Q R S : Type 0} → (P → R) → (Q → S) → BySource s P Q → BySource s R S
+source_more source.Files f g h = g h
+source_more (source.Sample seed) f g h = f h
 
-settings_more : (o : Option Settings) {P Q R S : Type 0} → (P → R) → (Q → S) → ByModeOf o P Q → ByModeOf o R S
+settings_more : (o : Option Settings) {P Q R S : Type 0} → (P → R) → (Q → S) → BySourceOf o P Q → BySourceOf o R S
 settings_more None f g h = tt
-settings_more (Some settings) f g h = mode_more settings.mode f g h
+settings_more (Some settings) f g h = source_more settings.source f g h
 
 pub sample_more : (words : List (List ℕ)) {P Q R S : Type 0} → (P → R) → (Q → S) → IfSample words P Q → IfSample words R S
 sample_more words f g h = settings_more (settings_given words) f g h
 
-of_settings : (o : Option Settings) {P Q : Type 0} → P → Q → ByModeOf o P Q
+of_settings : (o : Option Settings) {P Q : Type 0} → P → Q → BySourceOf o P Q
 of_settings None p q = tt
-of_settings (Some settings) p q = by_mode settings.mode p q
+of_settings (Some settings) p q = by_source settings.source p q
 
 pub if_sample : (words : List (List ℕ)) {P Q : Type 0} → P → Q → IfSample words P Q
 if_sample words p q = of_settings (settings_given words) p q
 
 -- where the words give these settings
-pub sample-given : (words : List (List ℕ)) (settings : Settings) (P Q : Type 0) → settings_given words ≡ Some settings → ByMode settings.mode P Q → IfSample words P Q
-sample-given words settings P Q given h = subst (λ o. ByModeOf o P Q) (sym given) h
+pub sample-given : (words : List (List ℕ)) (settings : Settings) (P Q : Type 0) → settings_given words ≡ Some settings → BySource settings.source P Q → IfSample words P Q
+sample-given words settings P Q given h = subst (λ o. BySourceOf o P Q) (sym given) h
 
 pub known-given :
     (words : List (List ℕ)) (settings : Settings) (known : Option Files) (P : Option Files → Type 0) → settings_given words ≡ Some settings
-    → P (known_in settings.mode known) → P (known_by words known)
+    → P (known_in settings.source known) → P (known_by words known)
 known-given words settings known P given h = subst (λ o. P (known_for o known)) (sym given) h
-
-pub outcome-given :
-    (words : List (List ℕ)) (settings : Settings) (files : Files) → settings_given words ≡ Some settings
-    → outcome words files ≡ Some (seen_in settings.mode settings files)
-outcome-given words settings files given = ap (option_map (λ s. seen_in s.mode s files)) given
 
 all_known : (known : Option Files) (P Q : Files → Type 0) → ((files : Files) → P files → Q files) → IfSome known P → IfSome known Q
 all_known None P Q f h = tt
@@ -65,24 +55,25 @@ all_known (Some files) P Q f h = f files h
 
 pub asked-given :
     (words : List (List ℕ)) (settings : Settings) (known : Option Files) (output : Written) → settings_given words ≡ Some settings
-    → IfSome (known_in settings.mode known) (λ files. IsOutputOf settings (seen_in settings.mode settings files) output)
+    → IfSome (known_in settings.source known) (λ files. IsOutputOf settings files output)
     → IfSome (known_by words known) (λ files. IsAsked words files output)
 asked-given words settings known output given h =
     known-given words settings known (λ o. IfSome o (λ files. IsAsked words files output)) given
-    (all_known (known_in settings.mode known) (λ files. IsOutputOf settings (seen_in settings.mode settings files) output) (λ files. IsAsked words files output)
+    (all_known (known_in settings.source known) (λ files. IsOutputOf settings files output) (λ files. IsAsked words files output)
     (λ files out. record {
       settings = settings;
       given = given;
       taken = out.0;
-      seen = outcome-given words settings files given ∙ ap Some out.1;
+      seen = out.1;
       written = out.2;
     }) h)
 
 end-given :
-    (words : List (List ℕ)) (settings : Settings) (known : Option Files) (end : DumpsEnd) → settings_given words ≡ Some settings → IsEndIn settings known end → OutcomeIsEnd words known end
+    (words : List (List ℕ)) (settings : Settings) (known : Option Files) (end : DumpsEnd) → settings_given words ≡ Some settings → IsEndIn settings known end
+    → LeadsTo words known (Ends end)
 end-given words settings known end given h =
-    all_known known (λ files. seen_in settings.mode settings files ≡ Err end) (λ files. outcome words files ≡ Some (Err end))
-    (λ files is. outcome-given words settings files given ∙ ap Some is) h
+    all_known known (λ files. ComesTo settings files (Ends end)) (λ files. (s : Settings) × (settings_given words ≡ Some s) × ComesTo s files (Ends end))
+    (λ files is. (settings, given, is)) h
 
 stop-given :
     (words : List (List ℕ)) (settings : Settings) (known : Option Files) (steady : Type 0) (dump : ℕ) (e : DumpError) → settings_given words ≡ Some settings
@@ -101,17 +92,15 @@ stop-given words settings known steady dump error.NoMemory given h = tt
 
 pub refusal-given :
     (words : List (List ℕ)) (settings : Settings) (known : Option Files) (steady : Type 0) (r : Refusal) → settings_given words ≡ Some settings
-    → IsStopIn settings (known_in settings.mode known) steady r → IsRefusal words (known_by words known) steady r
+    → IsStopIn settings (known_in settings.source known) steady r → IsRefusal words (known_by words known) steady r
 refusal-given words settings known steady (refusal.Words w) given h = absurd h
 refusal-given words settings known steady (refusal.Dumps stopped) given h =
     known-given words settings known (λ o. IsDumpStop words o steady stopped.dump stopped.error) given
-    (stop-given words settings (known_in settings.mode known) steady stopped.dump stopped.error given h)
+    (stop-given words settings (known_in settings.source known) steady stopped.dump stopped.error given h)
 refusal-given words settings known steady refusal.NoMemory given h = tt
 
--- dumps are named but for a sample
+-- files are named unless there is a sample
 pub named-read :
-    (m : Mode) (dumps : List (List ℕ)) (P Q : Type 0) → HasDumps m dumps → ByMode m P (0 < length dumps → Q) → ByMode m P Q
-named-read Labels dumps P Q named h = h named
-named-read Listing dumps P Q named h = h named
-named-read Survey dumps P Q named h = h named
-named-read (Sample seed) dumps P Q named h = h
+    (s : Source) (dumps : List (List ℕ)) (P Q : Type 0) → HasDumps s dumps → BySource s P (0 < length dumps → Q) → BySource s P Q
+named-read source.Files dumps P Q named h = h named
+named-read (source.Sample seed) dumps P Q named h = h

@@ -24,7 +24,7 @@ use Rattle.dump_read.proofs.SumLemmas.{together_law}
 use Rattle.dump_read.proofs.TakingLemmas.{dumps, path_counted, same_ok}
 use Rattle.tor_sample.specs.Records.{sample}
 use Rattle.tor_words.specs.declared.settings.Settings.{Settings}
-use Rattle.tor_words.specs.declared.settings.Mode.TheVariants.{Labels, Listing, Survey, Sample}
+use Rattle.tor_words.specs.declared.settings.Source.TheVariants as source
 use Rattle.run_base.specs.Reading.{nothing, seen_from}
 use Rattle.tor_run.specs.Seen.{seen_in_sample}
 use Rattle.tor_run.specs.SeenLaw.{IsWhole, IsSeenOf, DumpsLaw, SeenLaw}
@@ -152,8 +152,6 @@ as_dump settings seed = by (seen_in_sample settings seed)
     by (Err end) = refl
 
 pub seen_law : SeenLaw
-seen_law Labels settings files taken e = dumps_law settings.sets settings.max_paths settings.dumps files taken e
-seen_law Listing settings files taken e = dumps_law settings.sets settings.max_paths settings.dumps files taken e
-seen_law Survey settings files taken e = dumps_law settings.sets settings.max_paths settings.dumps files taken e
-seen_law (Sample seed) settings files taken e =
+seen_law source.Files settings files taken e = dumps_law settings.sets settings.max_paths settings.dumps files taken e
+seen_law (source.Sample seed) settings files taken e =
     dumps_law settings.sets settings.max_paths ([] ∷ []) (sample_file seed) taken (as_dump settings seed ∙ e)

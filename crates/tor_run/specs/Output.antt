@@ -1,67 +1,55 @@
 -- What a run that is done has written, by its mode.
-use Rattle.std.specs.Prelude.{◌≡◌, ◌++◌, ◌∷◌, [], ℕ, List, Option, Some, Result, Ok}
+use Rattle.std.specs.Prelude.{◌≡◌, ◌++◌, ◌∷◌, [], ℕ, List, Option, Some}
 use Rattle.std.specs.Io.KnownBytes.{append_known}
 use Rattle.tor_io.specs.Contents.{Files, GainsPrefix}
 use Rattle.dump_read.specs.declared.taking.Taken.{Taken}
-use Rattle.dump_read.specs.Seen.{DumpsEnd}
 use Rattle.result_text.specs.declared.file.ResultFile.{ResultFile}
 use Rattle.result_text.specs.Grammar.{IsTextOf}
-use Rattle.result_rules.specs.declared.verdict.Verdict.TheVariants.{Yes}
-use Rattle.result_rules.specs.File.{its_paths, its_walks}
-use Rattle.result_rules.specs.Rules.{Accepts}
-use Rattle.result_rules.specs.Valid.{Valid}
-use Rattle.result_rules.specs.Against.{JudgesAgainst}
 use Rattle.rel_infer.specs.Results.{IsResultOf}
-use Rattle.rel_infer.specs.Peers.{PeerEitherWay, LeaveNoneOut}
+use Rattle.rel_infer.specs.SelfAcceptance.{AreTableRows}
 use Rattle.tor_words.specs.declared.settings.Mode.{Mode}
-use Rattle.tor_words.specs.declared.settings.Mode.TheVariants.{Labels, Listing, Survey, Sample}
+use Rattle.tor_words.specs.declared.settings.Mode.TheVariants.{Labels, Listing, Survey, Summary}
 use Rattle.tor_words.specs.declared.settings.Settings.{Settings}
 use Rattle.tor_words.specs.Given.{settings_given}
 use Rattle.tor_survey.specs.SurveyText.{survey_text}
 use Rattle.tor_survey.specs.Surveys.{survey_of}
 use Rattle.tor_run.specs.Listing.{listing}
-use Rattle.tor_run.specs.Seen.{outcome}
+use Rattle.tor_run.specs.Seen.{ComesTo, Reads}
 use Rattle.tor_run.specs.Summary.{summary}
 use Rattle.tor_run.specs.Written.{Written}
 
 -- ---- the result of what the dumps gave
 
-pub record Faithful (settings : Settings) (taken : Taken) (file : ResultFile) : Type 0 where
-  -- it has exactly their paths, times and counts, and for these what follows from the definitions
-  pub result : IsResultOf settings.sets settings.ratio taken.table.rows taken.counts file
-  -- it meets the rules 1 to 10 of a checker, and rule 11 over these paths and counts; so it is valid
-  pub accepted : Accepts file
-  pub agrees : JudgesAgainst file taken.table.rows taken.counts Yes
-  pub valid : Valid file
-  -- its peerings may be read either way, and none is left out
-  pub either_way : PeerEitherWay (its_paths file) (its_walks file) file.edges
-  pub none_left_out : LeaveNoneOut settings.ratio (its_paths file) (its_walks file) file.edges
+-- it has exactly their paths, times and counts, and for these what follows from the definitions; that a checker accepts it follows too
+-- (Accepting.antt)
+abbrev pub Faithful : Settings → Taken → ResultFile → Type 0
+Faithful settings taken file = IsResultOf settings.sets settings.ratio taken.table.rows taken.counts file
 
 -- ---- what is written
 
 -- in this mode, of what the dumps gave: in Labels the text of the result, and its summary as a note; in Listing a line for each path;
--- in Survey the lines of the survey; in Sample the summary of the result
+-- in Survey the lines of the survey; in Summary the summary of the result
 abbrev pub IsOutputIn : Mode → Settings → Taken → Written → Type 0
 IsOutputIn Labels settings taken output =
     (file : ResultFile) × Faithful settings taken file × IsTextOf file output.text × (output.note ≡ summary file ++ 10 ∷ [])
 IsOutputIn Listing settings taken output = (output.text ≡ listing taken.table.rows) × (output.note ≡ [])
 IsOutputIn Survey settings taken output = (output.text ≡ survey_text (survey_of taken)) × (output.note ≡ [])
-IsOutputIn (Sample seed) settings taken output =
+IsOutputIn Summary settings taken output =
     (file : ResultFile) × Faithful settings taken file × (output.text ≡ summary file ++ 10 ∷ []) × (output.note ≡ [])
 
 abbrev pub IsOutput : Settings → Taken → Written → Type 0
 IsOutput settings taken output = IsOutputIn settings.mode settings taken output
 
--- this is asked for where the dumps give that
-abbrev pub IsOutputOf : Settings → Result Taken DumpsEnd → Written → Type 0
-IsOutputOf settings given output = (taken : Taken) × (given ≡ Ok taken) × IsOutput settings taken output
+-- this is asked for of what the files give
+abbrev pub IsOutputOf : Settings → Files → Written → Type 0
+IsOutputOf settings files output = (taken : Taken) × ComesTo settings files (Reads taken) × IsOutput settings taken output
 
 -- the words ask for it, and the dumps that they name give that
 pub record IsAsked (words : List (List ℕ)) (files : Files) (output : Written) : Type 0 where
   pub settings : Settings
   pub given : settings_given words ≡ Some settings
   pub taken : Taken
-  pub seen : outcome words files ≡ Some (Ok taken)
+  pub seen : ComesTo settings files (Reads taken)
   pub written : IsOutput settings taken output
 
 -- a sink gained the text that is asked for, whose note is this
@@ -77,11 +65,13 @@ GainsOutputPrefix words files old new = (output : Written) × IsAsked words file
 
 -- ---- what is written whatever the files hold, also where nothing is known of them
 
--- the words ask for this of some dumps: in Labels it is the text of a result that is faithful to what some dumps give, with its summary
+-- the words ask for this of some paths with their times, as a table has them, and of some counts: in Labels it is the text of a result
+-- that is faithful to these, with its summary
 pub record IsOfSome (words : List (List ℕ)) (output : Written) : Type 0 where
   pub settings : Settings
   pub given : settings_given words ≡ Some settings
   pub taken : Taken
+  pub table : AreTableRows taken.table.rows
   pub written : IsOutput settings taken output
 
 -- a sink gained a text that the words ask for of some dumps, whose note is this

@@ -1,23 +1,22 @@
 -- Why there is no text to write, and the answer then.
-use Rattle.std.specs.Prelude.{◌≡◌, ◌≤◌, ℕ, List, length, Option, None, IfSome, Err}
+use Rattle.std.specs.Prelude.{◌≡◌, ◌≤◌, ℕ, List, length, Option, None, IfSome}
 use Rattle.tor_io.specs.Contents.{Files}
 use Rattle.dump_read.specs.declared.error.DumpError.{DumpError}
 use Rattle.dump_read.specs.declared.error.DumpError.TheVariants as error
 use Rattle.dump_read.specs.Seen.{DumpsEnd, Absent, Malformed, Limit}
 use Rattle.tor_words.specs.declared.settings.Settings.{Settings}
-use Rattle.tor_run.specs.Seen.{seen_in}
+use Rattle.tor_run.specs.Seen.{ComesTo, Ends, LeadsTo}
 use Rattle.tor_words.specs.declared.refused.WordsRefused.TheVariants as refused
 use Rattle.tor_words.specs.Refused.{HasUsageLine}
 use Rattle.tor_words.specs.Given.{settings_given}
-use Rattle.run_base.specs.declared.status.Status.TheVariants as status
 use Rattle.run_base.specs.declared.answer.Refusal.{Refusal}
 use Rattle.run_base.specs.declared.answer.Refusal.TheVariants as refusal
-use Rattle.tor_run.specs.Answer.{OutcomeIsEnd, FailedAt, ReadBefore}
+use Rattle.tor_run.specs.Answer.{FailedAt, ReadBefore}
 
 -- the reading of a dump stopped for this, by what the words and the files give, where these are known
 abbrev pub IsDumpStop : List (List ℕ) → Option Files → Type 0 → ℕ → DumpError → Type 0
-IsDumpStop words known steady dump (error.Malformed place fault) = OutcomeIsEnd words known (Malformed place fault)
-IsDumpStop words known steady dump (error.Limit kind) = OutcomeIsEnd words known (Limit kind dump)
+IsDumpStop words known steady dump (error.Malformed place fault) = LeadsTo words known (Ends (Malformed place fault))
+IsDumpStop words known steady dump (error.Limit kind) = LeadsTo words known (Ends (Limit kind dump))
 IsDumpStop words known steady dump error.ReadFault = FailedAt words known steady dump
 IsDumpStop words known steady dump error.NoMemory = Unit {0}
 
@@ -30,7 +29,7 @@ IsRefusal words known steady refusal.NoMemory = Unit {0}
 
 -- what the dumps of the settings give, where the files are known, is this end
 abbrev pub IsEndIn : Settings → Option Files → DumpsEnd → Type 0
-IsEndIn settings known end = IfSome known (λ files. seen_in settings.mode settings files ≡ Err end)
+IsEndIn settings known end = IfSome known (λ files. ComesTo settings files (Ends end))
 
 -- the reading of the dumps of these settings stopped for this
 abbrev pub StopsIn : Settings → Option Files → Type 0 → ℕ → DumpError → Type 0

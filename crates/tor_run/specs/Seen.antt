@@ -1,14 +1,16 @@
 -- What the dumps that the words name give, in their order, or the sample that they ask for.
-use Rattle.std.specs.Prelude.{ℕ, List, Option, Some, option_map, Result}
+use Rattle.std.specs.Prelude.{◌≡◌, ℕ, List, Option, Some, IfSome, Result, Ok, Err}
 use Rattle.tor_io.specs.Contents.{Files}
 use Rattle.dump_read.specs.declared.taking.Taken.{Taken}
 use Rattle.dump_read.specs.Seen.{DumpsEnd, of_file}
 use Rattle.tor_sample.specs.Records.{sample}
-use Rattle.tor_words.specs.declared.settings.Mode.{Mode}
-use Rattle.tor_words.specs.declared.settings.Mode.TheVariants.{Labels, Listing, Survey, Sample}
+use Rattle.tor_words.specs.declared.settings.Source.{Source}
+use Rattle.tor_words.specs.declared.settings.Source.TheVariants as source
 use Rattle.tor_words.specs.declared.settings.Settings.{Settings}
 use Rattle.tor_words.specs.Given.{settings_given}
 use Rattle.run_base.specs.Reading.{seen_from, nothing}
+
+-- ---- what dumps give
 
 abbrev pub seen : Settings → Files → Result Taken DumpsEnd
 seen settings files = seen_from settings.sets 1 (nothing settings.max_paths) settings.dumps files
@@ -17,12 +19,32 @@ seen settings files = seen_from settings.sets 1 (nothing settings.max_paths) set
 abbrev pub seen_in_sample : Settings → ℕ → Result Taken DumpsEnd
 seen_in_sample settings seed = of_file settings.sets 1 (nothing settings.max_paths) (Some (sample seed))
 
-abbrev pub seen_in : Mode → Settings → Files → Result Taken DumpsEnd
-seen_in Labels settings files = seen settings files
-seen_in Listing settings files = seen settings files
-seen_in Survey settings files = seen settings files
-seen_in (Sample seed) settings files = seen_in_sample settings seed
+abbrev pub seen_in : Source → Settings → Files → Result Taken DumpsEnd
+seen_in source.Files settings files = seen settings files
+seen_in (source.Sample seed) settings files = seen_in_sample settings seed
 
--- what a run is to answer, by the words and the files alone; None where the words give no settings
-abbrev pub outcome : List (List ℕ) → Files → Option (Result Taken DumpsEnd)
-outcome words files = option_map (λ settings. seen_in settings.mode settings files) (settings_given words)
+-- ---- what a run comes to
+
+pub data Outcome : Type 0 where
+  -- all dumps are read, and gave this
+  Reads : Taken → Outcome
+  -- they have this end
+  Ends : DumpsEnd → Outcome
+
+-- what the settings and the files give
+abbrev pub ComesTo : Settings → Files → Outcome → Type 0
+ComesTo settings files (Reads taken) = seen_in settings.source settings files ≡ Ok taken
+ComesTo settings files (Ends end) = seen_in settings.source settings files ≡ Err end
+
+-- what the words and the files give
+abbrev pub Gives : List (List ℕ) → Files → Outcome → Type 0
+Gives words files outcome = (settings : Settings) × (settings_given words ≡ Some settings) × ComesTo settings files outcome
+
+-- what the words and the files give, where these are known
+abbrev pub LeadsTo : List (List ℕ) → Option Files → Outcome → Type 0
+LeadsTo words known outcome = IfSome known (λ files. Gives words files outcome)
+
+-- words and files give one outcome at most
+abbrev pub OneOutcomeLaw : Type 0
+OneOutcomeLaw =
+    (words : List (List ℕ)) (files : Files) (outcome other : Outcome) → Gives words files outcome → Gives words files other → outcome ≡ other

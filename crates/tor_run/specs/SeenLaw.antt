@@ -9,18 +9,16 @@ use Rattle.dump_read.specs.Files.{file_counts, together}
 use Rattle.dump_read.specs.Laws.{IsTakenOf, routes_in_files, cleaned_paths, Fit}
 use Rattle.dump_read.specs.Reading.{Whole, file_reading}
 use Rattle.tor_sample.specs.Records.{sample}
-use Rattle.tor_words.specs.declared.settings.Mode.{Mode}
-use Rattle.tor_words.specs.declared.settings.Mode.TheVariants.{Labels, Listing, Survey, Sample}
+use Rattle.tor_words.specs.declared.settings.Source.{Source}
+use Rattle.tor_words.specs.declared.settings.Source.TheVariants as source
 use Rattle.tor_words.specs.declared.settings.Settings.{Settings}
 use Rattle.run_base.specs.Reading.{nothing, seen_from}
 use Rattle.tor_run.specs.Seen.{seen_in}
 
 -- the dumps of a run, in their order, each with its octets if it is there: those that the words name, or the sample that they ask for
-abbrev pub dumps_of : Mode → Settings → Files → List (Option (List ℕ))
-dumps_of Labels settings files = map files settings.dumps
-dumps_of Listing settings files = map files settings.dumps
-dumps_of Survey settings files = map files settings.dumps
-dumps_of (Sample seed) settings files = Some (sample seed) ∷ []
+abbrev pub dumps_of : Source → Settings → Files → List (Option (List ℕ))
+dumps_of source.Files settings files = map files settings.dumps
+dumps_of (source.Sample seed) settings files = Some (sample seed) ∷ []
 
 -- a dump of these octets is read to its end
 abbrev pub IsWhole : List ℕ → Type 0
@@ -46,8 +44,8 @@ DumpsLaw =
 -- what a run has seen is of all its dumps
 abbrev pub SeenLaw : Type 0
 SeenLaw =
-    (mode : Mode) (settings : Settings) (files : Files) (taken : Taken)
-    → seen_in mode settings files ≡ Ok taken → IsSeenOf settings.sets (dumps_of mode settings files) taken
+    (from : Source) (settings : Settings) (files : Files) (taken : Taken)
+    → seen_in from settings files ≡ Ok taken → IsSeenOf settings.sets (dumps_of from settings files) taken
 
 -- ---- when all is read
 
@@ -68,6 +66,6 @@ DumpsReadableLaw =
 -- a run sees all its dumps exactly where they are readable
 abbrev pub ReadableLaw : Type 0
 ReadableLaw =
-    (mode : Mode) (settings : Settings) (files : Files)
-    → ((taken : Taken) × (seen_in mode settings files ≡ Ok taken)) ↔
-    AreReadable settings.sets settings.max_paths (dumps_of mode settings files)
+    (from : Source) (settings : Settings) (files : Files)
+    → ((taken : Taken) × (seen_in from settings files ≡ Ok taken)) ↔
+    AreReadable settings.sets settings.max_paths (dumps_of from settings files)

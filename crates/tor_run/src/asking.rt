@@ -1,26 +1,28 @@
 //! What the words ask for, as a text that can be written, or why there is none.
-ghost use Rattle.std.specs.Prelude.{◌≡◌, ◌≢◌, ◌≤◌, ◌<◌, Ok, IfOk, IfErr, IfSome, IsNone, IsErrAnd, OnOk, length, ⊤};
+ghost use Rattle.std.specs.Prelude.{◌≡◌, ◌≢◌, ◌≤◌, ◌<◌, IfOk, IfErr, IfSome, IsNone, IsErrAnd, OnOk, length, ⊤};
 ghost use Rattle.std.specs.Io.KnownBytes.{IsAtEnd};
 ghost use Rattle.tor_arena.specs.Limits.{max_paths, max_ratio};
-ghost use Rattle.tor_io.specs.Counts.{Rose};
 ghost use Rattle.tor_words.specs.Given.{settings_given};
-ghost use Rattle.tor_run.specs.Sampling.{ByMode, IfSample, known_by, known_in};
+ghost use Rattle.tor_run.specs.Sampling.{BySource, IfSample, known_by, known_in};
 ghost use Rattle.run_base.specs.Reading.{nothing};
-ghost use Rattle.tor_run.specs.Seen.{seen_in};
+ghost use Rattle.tor_run.specs.Seen.{ComesTo, Reads};
 ghost use Rattle.tor_run.specs.Output.{IsOutput, IsOutputOf, IsAsked, IsOfSome};
+ghost use Rattle.rel_infer.specs.SelfAcceptance.{AreTableRows};
 ghost use Rattle.tor_run.specs.Written.{written};
 ghost use Rattle.run_base.specs.Answers.{IsReadFault, IsOfWords};
+ghost use Rattle.run_base.specs.Frames.{ReadsShelf};
 ghost use Rattle.tor_run.specs.Refusals.{IsRefusal, IsStopIn, StopsIn};
 ghost use Rattle.dump_read.specs.declared.taking.Taken.{Taken};
 
 use crate::output::{Output, output_of};
 use crate::sampling::read_sample;
 use dump_read::{DumpError, Taken};
+use path_clean::PathTable;
 use run_base::{Refusal, Stopped, nothing_taken, read_dumps};
 use std::alloc::Global;
 use tor_arena::{Keys, List, NoMemory};
 use tor_io::Shelf;
-use tor_words::{Mode, Name, Settings, settings_of};
+use tor_words::{Name, Settings, Source, settings_of};
 
 // Takes in the routes of the dumps that the settings name, or of the sample that they ask for.
 fn read_asked<H: Shelf>(
@@ -30,28 +32,30 @@ fn read_asked<H: Shelf>(
     taken: &mut Taken,
 ) -> Result<(), Stopped>
     requires { taken.old ≡ nothing settings.now.max_paths }
-    ensures read { OnOk result (IfSome (known_in settings.now.mode (H.files shelf.old)) (λ files.
-        seen_in settings.now.mode settings.now files ≡ Ok taken.new)) }
-    ensures stopped { IfErr result (λ e. StopsIn settings.now (known_in settings.now.mode (H.files shelf.old))
+    ensures read { OnOk result (IfSome (known_in settings.now.source (H.files shelf.old)) (λ files.
+        ComesTo settings.now files (Reads taken.new))) }
+    ensures stopped { IfErr result (λ e. StopsIn settings.now (known_in settings.now.source (H.files shelf.old))
         (H.steady shelf.old) e.dump e.error) }
-    ensures read_out { OnOk result (ByMode settings.now.mode ⊤ (0 < length settings.now.dumps → IsAtEnd (H.left shelf.new))) }
-    ensures sample { ByMode settings.now.mode (shelf.new ≡ shelf.old) ⊤ }
-    ensures no_fault { IfErr result (λ e. ByMode settings.now.mode (e.error ≢ DumpError.ReadFault) ⊤) }
+    ensures read_out { OnOk result (BySource settings.now.source ⊤ (0 < length settings.now.dumps → IsAtEnd (H.left shelf.new))) }
+    ensures sample { BySource settings.now.source (shelf.new ≡ shelf.old) ⊤ }
+    ensures no_fault { IfErr result (λ e. BySource settings.now.source (e.error ≢ DumpError.ReadFault) ⊤) }
 
-    ensures files { H.files shelf.new ≡ H.files shelf.old }
-    ensures later { H.faults shelf.old ≤ H.faults shelf.new }
-    ensures failed { IfErr result (λ e. e.error ≡ DumpError.ReadFault → Rose (H.faults shelf.old) (H.faults shelf.new)) }
-    ensures quiet { OnOk result (H.faults shelf.new ≡ H.faults shelf.old) }
-    ensures quiet_stop { IfErr result (λ e. e.error ≢ DumpError.ReadFault → H.faults shelf.new ≡ H.faults shelf.old) }
-    ensures steady { H.steady shelf.old → H.steady shelf.new }
+    ensures reads_shelf { ReadsShelf H.Shelf (IsErrAnd result (λ e. e.error ≡ DumpError.ReadFault)) shelf.old shelf.new }
 {
-    let dumps = settings.dumps.as_slice();
-    match settings.mode {
-        Mode::Labels => read_dumps(alloc, shelf, dumps, settings.sets, taken),
-        Mode::Listing => read_dumps(alloc, shelf, dumps, settings.sets, taken),
-        Mode::Survey => read_dumps(alloc, shelf, dumps, settings.sets, taken),
-        Mode::Sample(seed) => read_sample(alloc, seed, settings.sets, taken),
+    match settings.source {
+        Source::Files => {
+            let dumps = settings.dumps.as_slice();
+            read_dumps(alloc, shelf, dumps, settings.sets, taken)
+        }
+        Source::Sample(seed) => read_sample(alloc, seed, settings.sets, taken),
     }
+}
+
+// The rows of a table are as a table has them.
+fn has_table_rows(table: &PathTable)
+    ensures { AreTableRows table.now.rows }
+{
+    table.facts();
 }
 
 // What the settings ask for. All memory is taken here.
@@ -64,27 +68,26 @@ fn output_for<H: Shelf>(
     requires some { 1 ≤ settings.now.max_paths }
     requires most { settings.now.max_paths ≤ max_paths }
     requires ratio { settings.now.ratio ≤ max_ratio }
-    ensures output { IfOk result (λ output. IfSome (known_in settings.now.mode (H.files shelf.old)) (λ files.
-        IsOutputOf settings.now (seen_in settings.now.mode settings.now files) (written output))) }
-    ensures of_some { IfOk result (λ output. (taken : Taken) × IsOutput settings.now taken (written output)) }
-    ensures refused { IfErr result (IsStopIn settings.now (known_in settings.now.mode (H.files shelf.old)) (H.steady shelf.old)) }
-    ensures read_out { OnOk result (ByMode settings.now.mode ⊤ (0 < length settings.now.dumps → IsAtEnd (H.left shelf.new))) }
-    ensures sample { ByMode settings.now.mode (shelf.new ≡ shelf.old) ⊤ }
-    ensures no_fault { IfErr result (λ r. ByMode settings.now.mode (IsReadFault r → ⊥) ⊤) }
+    ensures output { IfOk result (λ output. IfSome (known_in settings.now.source (H.files shelf.old)) (λ files.
+        IsOutputOf settings.now files (written output))) }
+    ensures of_some { IfOk result (λ output. (taken : Taken) × AreTableRows taken.table.rows ×
+        IsOutput settings.now taken (written output)) }
+    ensures refused { IfErr result (IsStopIn settings.now (known_in settings.now.source (H.files shelf.old)) (H.steady shelf.old)) }
+    ensures read_out { OnOk result (BySource settings.now.source ⊤ (0 < length settings.now.dumps → IsAtEnd (H.left shelf.new))) }
+    ensures sample { BySource settings.now.source (shelf.new ≡ shelf.old) ⊤ }
+    ensures no_fault { IfErr result (λ r. BySource settings.now.source (IsReadFault r → ⊥) ⊤) }
 
-    ensures files { H.files shelf.new ≡ H.files shelf.old }
-    ensures later { H.faults shelf.old ≤ H.faults shelf.new }
-    ensures quiet { OnOk result (H.faults shelf.new ≡ H.faults shelf.old) }
-    ensures failed { IfErr result (λ r. IsReadFault r → Rose (H.faults shelf.old) (H.faults shelf.new)) }
-    ensures quiet_stop { IfErr result (λ r. (IsReadFault r → ⊥) → H.faults shelf.new ≡ H.faults shelf.old) }
-    ensures steady { H.steady shelf.old → H.steady shelf.new }
+    ensures reads_shelf { ReadsShelf H.Shelf (IsErrAnd result IsReadFault) shelf.old shelf.new }
 {
     let mut taken = nothing_taken(alloc, keys, settings.max_paths);
     match read_asked(alloc, settings, shelf, &mut taken) {
-        Ok(()) => match output_of(alloc, keys, settings, taken) {
-            Ok(output) => Ok(output),
-            Err(NoMemory) => Err(Refusal::NoMemory),
-        },
+        Ok(()) => {
+            has_table_rows(&taken.table);
+            match output_of(alloc, keys, settings, taken) {
+                Ok(output) => Ok(output),
+                Err(NoMemory) => Err(Refusal::NoMemory),
+            }
+        }
         Err(stopped) => Err(Refusal::Dumps(stopped)),
     }
 }
@@ -107,12 +110,7 @@ pub(crate) fn output_asked<H: Shelf>(
     ensures no_fault { IfErr result (λ r. IfSample words.now (IsReadFault r → ⊥) ⊤) }
 
     ensures untouched { IfErr result (λ r. IsOfWords r → shelf.new ≡ shelf.old) }
-    ensures files { H.files shelf.new ≡ H.files shelf.old }
-    ensures later { H.faults shelf.old ≤ H.faults shelf.new }
-    ensures quiet { OnOk result (H.faults shelf.new ≡ H.faults shelf.old) }
-    ensures failed { IfErr result (λ r. IsReadFault r → Rose (H.faults shelf.old) (H.faults shelf.new)) }
-    ensures quiet_stop { IfErr result (λ r. (IsReadFault r → ⊥) → H.faults shelf.new ≡ H.faults shelf.old) }
-    ensures steady { H.steady shelf.old → H.steady shelf.new }
+    ensures reads_shelf { ReadsShelf H.Shelf (IsErrAnd result IsReadFault) shelf.old shelf.new }
 {
     match settings_of(alloc, words) {
         Ok(settings) => output_for(alloc, keys, &settings, shelf),

@@ -1,9 +1,28 @@
 //! The laws of the runs. Each is the contract of a function.
 
 ghost use Rattle.tor_run.specs.Agreement.{AgreementLaw, OneSummaryLaw};
+ghost use Rattle.tor_run.specs.Accepting.{FaithfulLaw, TableLaw};
+ghost use Rattle.tor_run.specs.Seen.{OneOutcomeLaw};
 ghost use Rattle.tor_run.specs.SeenLaw.{DumpsLaw, SeenLaw, DumpsReadableLaw, ReadableLaw};
 
+use rel_infer::self_acceptance_law;
 use result_text::one_value;
+use tor_words::bounds_law;
+
+/// Words and files give one outcome at most: what all dumps gave, or their first end.
+pub fn one_outcome_law()
+    ensures { OneOutcomeLaw }
+{}
+
+/// What follows from the definitions is accepted: what dumps give is as a table of paths has it, and each result that is faithful to such
+/// paths meets the rules 1 to 10 of a checker, and rule 11 over them, is valid, may have its peerings read either way, and leaves none out.
+pub fn faithful_law()
+    ensures table { TableLaw }
+    ensures result { FaithfulLaw }
+{
+    bounds_law();
+    self_acceptance_law();
+}
 
 /// What `torcheck` says of a result that `tor` has written: yes and nothing else, alone and beside the same dumps, whatever limit on
 /// paths they were read under; and that it can judge each that isn't too long.
@@ -11,6 +30,8 @@ pub fn agreement_law()
     ensures { AgreementLaw }
 {
     one_value();
+    bounds_law();
+    faithful_law();
 }
 
 /// What `tor` sums up is determined: all results that are faithful to what dumps or a sample gave have the same summary.

@@ -9,5 +9,7 @@ mod run;
 mod sampling;
 mod summary;
 
-pub use laws::{agreement_law, one_summary_law, readable_law, seen_law};
+pub use laws::{
+    agreement_law, faithful_law, one_outcome_law, one_summary_law, readable_law, seen_law,
+};
 pub use run::infer;

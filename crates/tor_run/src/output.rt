@@ -14,7 +14,6 @@ use crate::summary::summary_text;
 use dump_read::Taken;
 use path_clean::PathTable;
 use rel_infer::result_of;
-use result_rules::acceptance_law;
 use result_text::{ResultFile, print};
 use std::alloc::Global;
 use tor_arena::{Keys, List, NoMemory};
@@ -78,7 +77,6 @@ fn faithful_result(
     requires { settings.now.ratio ≤ max_ratio }
     ensures { IfOk result (Faithful settings.now taken) }
 {
-    acceptance_law();
     let Taken {
         table,
         counts,
@@ -120,16 +118,15 @@ fn summary_alone(alloc: Global, file: &ResultFile) -> Result<Output, NoMemory>
     Ok(Output::Text(text, List::new(alloc)))
 }
 
-// The summary of the result of what the sample gave.
-fn sample_output(
+// The summary of the result of what the dumps gave.
+fn summary_output(
     alloc: Global,
     keys: Keys,
     settings: &Settings,
-    seed: u64,
     taken: Taken,
 ) -> Result<Output, NoMemory>
     requires { settings.now.ratio ≤ max_ratio }
-    ensures { IfOk result (λ output. IsOutputIn (Mode.Sample seed) settings.now taken (written output)) }
+    ensures { IfOk result (λ output. IsOutputIn Mode.Summary settings.now taken (written output)) }
 {
     let file = faithful_result(alloc, keys, settings, taken)?;
     summary_alone(alloc, &file)
@@ -170,6 +167,6 @@ pub(crate) fn output_of(
         Mode::Labels => labels_output(alloc, keys, settings, taken),
         Mode::Listing => listing_output(alloc, settings, taken),
         Mode::Survey => survey_output(alloc, keys, settings, taken),
-        Mode::Sample(seed) => sample_output(alloc, keys, settings, seed, taken),
+        Mode::Summary => summary_output(alloc, keys, settings, taken),
     }
 }

@@ -1,7 +1,7 @@
 //! The run of `tor`.
-ghost use Rattle.std.specs.Prelude.{◌≡◌, ◌≢◌, ◌≤◌, ◌⊎◌, List, Some, Ok, Err, IfSome, IsNone, ℕ, ⊤};
+ghost use Rattle.std.specs.Prelude.{◌≡◌, ◌≢◌, ◌≤◌, ◌⊎◌, Some, IfSome, IsNone, ℕ, ⊤};
 ghost use Rattle.std.specs.Io.KnownBytes.{IsAtEnd};
-ghost use Rattle.tor_io.specs.Counts.{Rose, IsQuiet};
+ghost use Rattle.tor_io.specs.Counts.{IsQuiet};
 ghost use Rattle.tor_io.specs.Contents.{Files};
 ghost use Rattle.dump_read.specs.declared.error.Place.{Place};
 ghost use Rattle.dump_read.specs.declared.error.Fault.{Fault as FaultKind};
@@ -10,11 +10,12 @@ ghost use Rattle.dump_read.specs.Seen.{Absent, Malformed as MalformedAt, Limit a
 ghost use Rattle.dump_read.specs.declared.taking.Taken.{Taken};
 ghost use Rattle.tor_words.specs.Given.{settings_given};
 ghost use Rattle.tor_run.specs.Sampling.{IfSample, known_by};
-ghost use Rattle.tor_run.specs.Seen.{outcome};
-ghost use Rattle.tor_run.specs.Answer.{IsNote, IsMalformed, IsLimited, IsAbsentDump};
+ghost use Rattle.tor_run.specs.Seen.{Reads, Ends, Gives};
+ghost use Rattle.tor_run.specs.Answer.{IsNote, LeadsToMalformed, LeadsToLimit, LeadsToAbsent};
 ghost use Rattle.run_base.specs.Answers.{IsNoted};
 ghost use Rattle.tor_run.specs.Output.{GainsOutput, GainsOutputPrefix, GainsSome, GainsSomePrefix};
 ghost use Rattle.run_base.specs.Answers.{note_in};
+ghost use Rattle.run_base.specs.Frames.{RunLeavesShelf, RunLeavesOut};
 
 use crate::asking::output_asked;
 use run_base::{Answer, Note, Status, answer_to};
@@ -45,8 +46,6 @@ fn answer<H: Shelf, O: Sink>(
     ensures usage { result.status ≡ Status.Usage → IsNone (settings_given words.now) }
     ensures always_usage { IsNone (settings_given words.now) →
         (result.status ≡ Status.Usage) ⊎ (result.status ≡ Status.NoMemory) }
-    ensures read_fault { result.status ≡ Status.ReadFault → Rose (H.faults shelf.old) (H.faults shelf.new) }
-    ensures write_fault { result.status ≡ Status.WriteFault → Rose (O.faults out.old) (O.faults out.new) }
     ensures no_other { result.status ≢ Status.No }
 
     // What is left in the objects.
@@ -54,13 +53,8 @@ fn answer<H: Shelf, O: Sink>(
     ensures sample { IfSample words.now (shelf.new ≡ shelf.old) ⊤ }
     ensures no_fault { IfSample words.now (result.status ≢ Status.ReadFault) ⊤ }
     ensures untouched { result.status ≡ Status.Usage → shelf.new ≡ shelf.old }
-    ensures files { H.files shelf.new ≡ H.files shelf.old }
-    ensures steady { H.steady shelf.old → H.steady shelf.new }
-    ensures shelf_later { H.faults shelf.old ≤ H.faults shelf.new }
-    ensures out_later { O.faults out.old ≤ O.faults out.new }
-    ensures no_lost_read { result.status ≢ Status.ReadFault → result.status ≢ Status.NoMemory →
-        H.faults shelf.new ≡ H.faults shelf.old }
-    ensures no_lost_write { result.status ≢ Status.WriteFault → O.faults out.new ≡ O.faults out.old }
+    ensures leaves_shelf { RunLeavesShelf H.Shelf result.status shelf.old shelf.new }
+    ensures leaves_out { RunLeavesOut O.Sink result.status out.old out.new }
 {
     match output_asked(alloc, keys, words, shelf) {
         Ok(output) => match output.write_to(alloc, out) {
@@ -94,7 +88,7 @@ pub fn infer<H: Shelf, O: Sink, E: Sink>(
         (E.faults err.old) (E.faults err.new) (E.held err.old) (E.held err.new)) }
     ensures cut_off { result ≡ Status.WriteFault → IfSome (known_by words.now (H.files shelf.old)) (λ files.
         GainsOutputPrefix words.now files (O.held out.old) (O.held out.new)) }
-    // The same of files of which nothing is known: the text is one that the words ask for of some dumps.
+    // The same of files of which nothing is known: the text is one that the words ask for of some paths and counts.
     ensures some { result ≡ Status.Done → IsNoted (GainsSome words.now (O.held out.old) (O.held out.new))
         (E.faults err.old) (E.faults err.new) (E.held err.old) (E.held err.new) }
     ensures some_cut_off { result ≡ Status.WriteFault → GainsSomePrefix words.now (O.held out.old) (O.held out.new) }
@@ -102,45 +96,38 @@ pub fn infer<H: Shelf, O: Sink, E: Sink>(
 
     // When each status may come.
     ensures usage { result ≡ Status.Usage → IsNone (settings_given words.now) }
-    ensures malformed { result ≡ Status.Malformed → IsMalformed words.now (known_by words.now (H.files shelf.old)) }
-    ensures limit { result ≡ Status.Limit → IsLimited words.now (known_by words.now (H.files shelf.old)) }
-    ensures read_fault { result ≡ Status.ReadFault → Rose (H.faults shelf.old) (H.faults shelf.new) }
+    ensures malformed { result ≡ Status.Malformed → LeadsToMalformed words.now (known_by words.now (H.files shelf.old)) }
+    ensures limit { result ≡ Status.Limit → LeadsToLimit words.now (known_by words.now (H.files shelf.old)) }
     ensures steady_read_fault { H.steady shelf.old → result ≡ Status.ReadFault →
-        IsAbsentDump words.now (known_by words.now (H.files shelf.old)) }
-    ensures write_fault { result ≡ Status.WriteFault → Rose (O.faults out.old) (O.faults out.new) }
+        LeadsToAbsent words.now (known_by words.now (H.files shelf.old)) }
     ensures no_other { result ≢ Status.No }
 
     // When each status has to come, or NoMemory.
     ensures always_usage { IsNone (settings_given words.now) → (result ≡ Status.Usage) ⊎ (result ≡ Status.NoMemory) }
     ensures always_done { (files : Files) (taken : Taken) → known_by words.now (H.files shelf.old) ≡ Some files →
-        outcome words.now files ≡ Some (Ok taken) → IsQuiet (H.faults shelf.old) (H.faults shelf.new) ⊎ H.steady shelf.old →
+        Gives words.now files (Reads taken) → IsQuiet (H.faults shelf.old) (H.faults shelf.new) ⊎ H.steady shelf.old →
         IsQuiet (O.faults out.old) (O.faults out.new) → (result ≡ Status.Done) ⊎ (result ≡ Status.NoMemory) }
     ensures always_malformed { (files : Files) (place : Place) (fault : FaultKind) →
         known_by words.now (H.files shelf.old) ≡ Some files →
-        outcome words.now files ≡ Some (Err (MalformedAt place fault)) →
+        Gives words.now files (Ends (MalformedAt place fault)) →
         IsQuiet (H.faults shelf.old) (H.faults shelf.new) ⊎ H.steady shelf.old →
         (result ≡ Status.Malformed) ⊎ (result ≡ Status.NoMemory) }
     ensures always_limit { (files : Files) (kind : Quantity) (dump : ℕ) → known_by words.now (H.files shelf.old) ≡ Some files →
-        outcome words.now files ≡ Some (Err (LimitOf kind dump)) →
+        Gives words.now files (Ends (LimitOf kind dump)) →
         IsQuiet (H.faults shelf.old) (H.faults shelf.new) ⊎ H.steady shelf.old →
         (result ≡ Status.Limit) ⊎ (result ≡ Status.NoMemory) }
     ensures always_absent { (files : Files) (dump : ℕ) → known_by words.now (H.files shelf.old) ≡ Some files →
-        outcome words.now files ≡ Some (Err (Absent dump)) → (result ≡ Status.ReadFault) ⊎ (result ≡ Status.NoMemory) }
+        Gives words.now files (Ends (Absent dump)) → (result ≡ Status.ReadFault) ⊎ (result ≡ Status.NoMemory) }
 
     // What is left in the objects: at Done nothing unread, the files as they were, no count lowered, at Usage and with `--sample` no
-    // call made on the shelf, and no failed call passed over.
+    // call made on the shelf, no failed call passed over, and no fault where none failed.
     ensures read_out { result ≡ Status.Done → IfSample words.now ⊤ (IsAtEnd (H.left shelf.new)) }
     ensures sample { IfSample words.now (shelf.new ≡ shelf.old) ⊤ }
     ensures no_fault { IfSample words.now (result ≢ Status.ReadFault) ⊤ }
     ensures untouched { result ≡ Status.Usage → shelf.new ≡ shelf.old }
-    ensures files { H.files shelf.new ≡ H.files shelf.old }
-    ensures steady { H.steady shelf.old → H.steady shelf.new }
-    ensures shelf_later { H.faults shelf.old ≤ H.faults shelf.new }
-    ensures out_later { O.faults out.old ≤ O.faults out.new }
+    ensures leaves_shelf { RunLeavesShelf H.Shelf result shelf.old shelf.new }
+    ensures leaves_out { RunLeavesOut O.Sink result out.old out.new }
     ensures err_later { E.faults err.old ≤ E.faults err.new }
-    ensures no_lost_read { result ≢ Status.ReadFault → result ≢ Status.NoMemory →
-        H.faults shelf.new ≡ H.faults shelf.old }
-    ensures no_lost_write { result ≢ Status.WriteFault → O.faults out.new ≡ O.faults out.old }
 
     // What is written to err: the status' note, or a prefix of it where err failed.
     ensures note { IsNoted (IsNote words.now (known_by words.now (H.files shelf.old)) (H.steady shelf.old) result)

@@ -1,5 +1,5 @@
 -- The settings that words give.
-use Rattle.std.specs.Prelude.{◌≡◌, ℕ, ◌<◌, Bool, true, false, List, [], ◌∷◌, length, Option, Some, None}
+use Rattle.std.specs.Prelude.{◌≡◌, ◌≢◌, ℕ, ◌<◌, ◌≤◌, Bool, true, false, List, [], ◌∷◌, length, Option, Some, None}
 use Rattle.std.specs.Prelude.{option_map, option_and_then, unwrap_or, if◌then◌else◌, codes}
 use Rattle.std.specs.Str.{bytes_eq}
 use Rattle.std.specs.Str.Parse.{digits_value, without_leading_plus}
@@ -9,7 +9,9 @@ use Rattle.tor_arena.specs.Limits.{max_paths, max_ratio}
 use Rattle.path_clean.specs.declared.cleaned.Sets.{Sets}
 use Rattle.path_clean.specs.declared.cleaned.Sets.TheVariants.{Cut, Skip}
 use Rattle.tor_words.specs.declared.settings.Mode.{Mode}
-use Rattle.tor_words.specs.declared.settings.Mode.TheVariants.{Labels, Listing, Survey, Sample}
+use Rattle.tor_words.specs.declared.settings.Mode.TheVariants.{Labels, Listing, Survey, Summary}
+use Rattle.tor_words.specs.declared.settings.Source.{Source}
+use Rattle.tor_words.specs.declared.settings.Source.TheVariants.{Files, Sample}
 use Rattle.tor_words.specs.declared.settings.Settings.{Settings}
 use Rattle.tor_words.specs.TorCommand.{tor_command}
 
@@ -43,32 +45,42 @@ is_true_text (Some text) = bytes_eq text (codes "true")
 abbrev pub dumps_in : List Row → List Text
 dumps_in rows = unwrap_or (all_of (codes "dump") rows) []
 
--- what is asked for. Without `--sample` at least one dump has to be named, and it is the list of the paths with `--list`, what the
--- dumps hold with `--survey`, and the labels with neither; both are refused. With `--sample` neither a dump nor one of the two
--- stands beside it, and it is the sample of that number
-abbrev pub mode_of : (sample : Option Text) (list survey : Bool) (dumps : List Text) → Option Mode
-mode_of None list survey [] = None
-mode_of None true true (dump ∷ dumps) = None
-mode_of None true false (dump ∷ dumps) = Some Listing
-mode_of None false true (dump ∷ dumps) = Some Survey
-mode_of None false false (dump ∷ dumps) = Some Labels
-mode_of (Some text) true survey dumps = None
-mode_of (Some text) false true dumps = None
-mode_of (Some text) false false [] = option_map Sample (number_in 0 18446744073709551615 text)
-mode_of (Some text) false false (dump ∷ dumps) = None
+-- where the dumps come from: from the files that are named, at least one; or with `--sample`, beside which none is named, from the
+-- sample of that number
+abbrev pub source_of : (sample : Option Text) (dumps : List Text) → Option Source
+source_of None [] = None
+source_of None (dump ∷ dumps) = Some Files
+source_of (Some text) [] = option_map Sample (number_in 0 18446744073709551615 text)
+source_of (Some text) (dump ∷ dumps) = None
 
-abbrev pub mode_in : List Row → Option Mode
-mode_in rows = mode_of (first_of (codes "sample") rows) (is_true_text (first_of (codes "list") rows))
-    (is_true_text (first_of (codes "survey") rows)) (dumps_in rows)
+-- what is written. Of files it is the list of the paths with `--list`, what the dumps hold with `--survey`, and the labels with
+-- neither; both are refused. Of a sample it is the summary, and neither of the two stands beside it
+abbrev pub mode_of : Source → (list survey : Bool) → Option Mode
+mode_of Files true true = None
+mode_of Files true false = Some Listing
+mode_of Files false true = Some Survey
+mode_of Files false false = Some Labels
+mode_of (Sample seed) true survey = None
+mode_of (Sample seed) false true = None
+mode_of (Sample seed) false false = Some Summary
+
+abbrev pub source_in : List Row → Option Source
+source_in rows = source_of (first_of (codes "sample") rows) (dumps_in rows)
+
+abbrev pub mode_in : List Row → Source → Option Mode
+mode_in rows source =
+    mode_of source (is_true_text (first_of (codes "list") rows)) (is_true_text (first_of (codes "survey") rows))
 
 -- the settings that these matches give, if they ask for something and their values are some
 abbrev pub settings_in : List Row → Option Settings
 settings_in rows =
+    option_and_then (λ source.
     option_and_then (λ mode.
     option_and_then (λ sets.
     option_and_then (λ ratio.
     option_map (λ most. record {
       mode = mode;
+      source = source;
       sets = sets;
       ratio = ratio;
       max_paths = most;
@@ -76,14 +88,18 @@ settings_in rows =
     }) (number_or 1 max_paths max_paths (first_of (codes "max-paths") rows)))
     (number_or 0 max_ratio 60 (first_of (codes "ratio") rows)))
     (sets_or_cut (first_of (codes "as-sets") rows)))
-    (mode_in rows)
+    (mode_in rows source))
+    (source_in rows)
 
--- a sample has no dump, and all else at least one
-abbrev pub HasDumps : Mode → List Text → Type 0
+-- files are at least one, and a sample stands in place of them
+abbrev pub HasDumps : Source → List Text → Type 0
+HasDumps Files dumps = 0 < length dumps
 HasDumps (Sample seed) dumps = dumps ≡ []
-HasDumps Labels dumps = 0 < length dumps
-HasDumps Listing dumps = 0 < length dumps
-HasDumps Survey dumps = 0 < length dumps
+
+-- a sample is summed up, and nothing else is
+abbrev pub IsWrittenOf : Source → Mode → Type 0
+IsWrittenOf Files mode = mode ≢ Summary
+IsWrittenOf (Sample seed) mode = mode ≡ Summary
 
 -- the same where clap finds no fault, and nothing where it does
 abbrev pub unless_fault : {X : Type 0} → Kinds → Option X → Option X
@@ -93,3 +109,16 @@ unless_fault (kind ∷ kinds) settings = None
 -- the settings that the words give, where clap takes them
 unfoldable pub settings_given : List Text → Option Settings
 settings_given words = unless_fault (fault_of tor_command words) (settings_in (matches_of tor_command words))
+
+-- ---- what holds of each
+
+-- the numbers are within their bounds, files are named unless there is a sample, and this is summed up
+pub record AreBounded (settings : Settings) : Type 0 where
+  pub ratio : settings.ratio ≤ max_ratio
+  pub some : 1 ≤ settings.max_paths
+  pub most : settings.max_paths ≤ max_paths
+  pub named : HasDumps settings.source settings.dumps
+  pub written : IsWrittenOf settings.source settings.mode
+
+abbrev pub BoundsLaw : Type 0
+BoundsLaw = (words : List Text) (settings : Settings) → settings_given words ≡ Some settings → AreBounded settings

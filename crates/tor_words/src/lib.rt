@@ -5,6 +5,7 @@ mod check_settings;
 mod command;
 mod grade_command;
 mod grade_settings;
+mod laws;
 mod name;
 mod refused;
 mod settings;
@@ -13,7 +14,8 @@ mod words;
 
 pub use check_settings::{CheckSettings, check_settings_of};
 pub use grade_settings::{GradeSettings, grade_settings_of};
+pub use laws::bounds_law;
 pub use name::Name;
 pub use refused::WordsRefused;
-pub use settings::{Mode, Settings, settings_of};
+pub use settings::{Mode, Settings, Source, settings_of};
 pub use words::words_of;

@@ -2,7 +2,7 @@
 ghost use Rattle.std.specs.Prelude.{◌≡◌, ◌≤◌, IfOk, IfErr, OnErr, Some, None, map, option_map};
 ghost use Rattle.clap.specs.Words.{found_of, rows_of, first_of};
 ghost use Rattle.tor_arena.specs.Limits.{max_paths, max_ratio};
-ghost use Rattle.tor_words.specs.Given.{settings_in, settings_given, dumps_in, mode_of, HasDumps};
+ghost use Rattle.tor_words.specs.Given.{settings_in, settings_given, dumps_in, mode_of, source_of, HasDumps};
 ghost use Rattle.tor_words.specs.Refused.{IsUsage, SaysUsage};
 
 use crate::command::command;
@@ -23,7 +23,16 @@ pub enum Mode {
     Listing,
     /// What the dumps hold, and what of it counts.
     Survey,
-    /// The summary of the result over the sample of this number, in place of dumps.
+    /// The summary of the result alone.
+    Summary,
+}
+
+/// Where the dumps of a run come from.
+#[derive(Clone, Copy, Debug, PartialEq, Eq)]
+pub enum Source {
+    /// They are the files that the words name.
+    Files,
+    /// The sample of this number is the one dump, and no file is read.
     Sample(u64),
 }
 
@@ -32,6 +41,8 @@ pub enum Mode {
 pub struct Settings {
     /// What is written.
     pub mode: Mode,
+    /// Where the dumps come from.
+    pub source: Source,
     /// What becomes of sets in AS_PATHs.
     pub sets: Sets,
     /// How many times the lesser degree of an edge's two ends the greater one may be at most, so that the edge can become a
@@ -42,6 +53,9 @@ pub struct Settings {
     /// The names of the dumps in the order in which they are read: none for a sample, and else one at least.
     pub dumps: List<Name>,
 }
+
+/// Why words are refused where something stands beside `--sample`.
+const SAMPLE_ALONE: &str = "--sample takes no --list, no --survey and no dump\n";
 
 /// The first value of an option.
 pub(crate) fn first<'a>(matches: &ArgMatches<'a>, id: &str) -> Option<&'a str>
@@ -71,30 +85,35 @@ pub(crate) fn dumps_in(alloc: Global, matches: &ArgMatches) -> Result<List<Name>
     }
 }
 
-// What is asked for over these dumps, or why it is nothing.
-fn mode_of(
-    sample: Option<&str>,
-    list: bool,
-    survey: bool,
-    dumps: &[Name],
-) -> Result<Mode, &'static str>
-    ensures ok { IfOk result (λ mode. mode_of (option_map (λ s. s.now) sample.entry) list survey dumps.now ≡ Some mode) }
-    ensures err { OnErr result (mode_of (option_map (λ s. s.now) sample.entry) list survey dumps.now ≡ None) }
-    ensures named { IfOk result (λ mode. HasDumps mode dumps.now) }
+// Where the dumps come from, or why from nowhere.
+fn source_of(sample: Option<&str>, dumps: &[Name]) -> Result<Source, &'static str>
+    ensures ok { IfOk result (λ source. source_of (option_map (λ s. s.now) sample.entry) dumps.now ≡ Some source) }
+    ensures err { OnErr result (source_of (option_map (λ s. s.now) sample.entry) dumps.now ≡ None) }
+    ensures named { IfOk result (λ source. HasDumps source dumps.now) }
 {
     match sample {
         None if dumps.is_empty() => Err("no dump is named\n"),
-        None if list && survey => Err("--survey takes no --list\n"),
-        None if list => Ok(Mode::Listing),
-        None if survey => Ok(Mode::Survey),
-        None => Ok(Mode::Labels),
-        Some(_) if list || survey || !dumps.is_empty() => {
-            Err("--sample takes no --list, no --survey and no dump\n")
-        }
+        None => Ok(Source::Files),
+        Some(_) if !dumps.is_empty() => Err(SAMPLE_ALONE),
         Some(text) => match number_in(text, 0, u64::MAX) {
-            Some(seed) => Ok(Mode::Sample(seed)),
+            Some(seed) => Ok(Source::Sample(seed)),
             None => Err("--sample takes a number from 0 to 18446744073709551615\n"),
         },
+    }
+}
+
+// What is written of dumps that come from there, or why nothing.
+fn mode_of(source: Source, list: bool, survey: bool) -> Result<Mode, &'static str>
+    ensures ok { IfOk result (λ mode. mode_of source list survey ≡ Some mode) }
+    ensures err { OnErr result (mode_of source list survey ≡ None) }
+{
+    match source {
+        Source::Files if list && survey => Err("--survey takes no --list\n"),
+        Source::Files if list => Ok(Mode::Listing),
+        Source::Files if survey => Ok(Mode::Survey),
+        Source::Files => Ok(Mode::Labels),
+        Source::Sample(_) if list || survey => Err(SAMPLE_ALONE),
+        Source::Sample(_) => Ok(Mode::Summary),
     }
 }
 
@@ -106,14 +125,18 @@ fn settings_in(alloc: Global, matches: &ArgMatches) -> Result<Settings, WordsRef
     ensures ratio { IfOk result (λ s. s.ratio ≤ max_ratio) }
     ensures some { IfOk result (λ s. 1 ≤ s.max_paths) }
     ensures most { IfOk result (λ s. s.max_paths ≤ max_paths) }
-    ensures named { IfOk result (λ s. HasDumps s.mode s.dumps) }
+    ensures named { IfOk result (λ s. HasDumps s.source s.dumps) }
 {
     let Ok(dumps) = dumps_in(alloc, matches) else {
         return Err(WordsRefused::NoMemory);
     };
     let list = is_true_text(first(matches, "list"));
     let survey = is_true_text(first(matches, "survey"));
-    let mode = match mode_of(first(matches, "sample"), list, survey, dumps.as_slice()) {
+    let source = match source_of(first(matches, "sample"), dumps.as_slice()) {
+        Ok(source) => source,
+        Err(why) => return Err(usage(alloc, why)),
+    };
+    let mode = match mode_of(source, list, survey) {
         Ok(mode) => mode,
         Err(why) => return Err(usage(alloc, why)),
     };
@@ -128,6 +151,7 @@ fn settings_in(alloc: Global, matches: &ArgMatches) -> Result<Settings, WordsRef
     };
     Ok(Settings {
         mode,
+        source,
         sets,
         ratio: ratio as u32,
         max_paths: max_paths as u32,
@@ -144,7 +168,7 @@ pub fn settings_of(alloc: Global, words: &List<Name>) -> Result<Settings, WordsR
     ensures ratio { IfOk result (λ s. s.ratio ≤ max_ratio) }
     ensures some { IfOk result (λ s. 1 ≤ s.max_paths) }
     ensures most { IfOk result (λ s. s.max_paths ≤ max_paths) }
-    ensures named { IfOk result (λ s. HasDumps s.mode s.dumps) }
+    ensures named { IfOk result (λ s. HasDumps s.source s.dumps) }
 {
     let Ok(command) = command(alloc) else {
         return Err(WordsRefused::NoMemory);

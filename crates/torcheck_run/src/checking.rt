@@ -1,6 +1,6 @@
 //! The run of `torcheck`.
 ghost use Rattle.std.specs.Prelude.{◌≡◌, ◌≢◌, ◌≤◌, ◌⊎◌, Some, IfSome, IsNone, ℕ};
-ghost use Rattle.tor_io.specs.Counts.{Rose, IsQuiet};
+ghost use Rattle.tor_io.specs.Counts.{IsQuiet};
 ghost use Rattle.tor_io.specs.Contents.{Files, GainsPrefix};
 ghost use Rattle.dump_read.specs.declared.error.Place.{Place};
 ghost use Rattle.dump_read.specs.declared.error.Fault.{Fault as FaultKind};
@@ -8,6 +8,7 @@ ghost use Rattle.dump_read.specs.declared.error.LimitKind.{LimitKind as Quantity
 ghost use Rattle.dump_read.specs.Seen.{Absent, Malformed as MalformedAt, Limit as LimitOf};
 ghost use Rattle.tor_words.specs.CheckGiven.{check_settings_given};
 ghost use Rattle.std.specs.Io.KnownBytes.{IsAtEnd, append_known};
+ghost use Rattle.run_base.specs.Frames.{RunLeavesShelf, RunLeavesOut};
 ghost use Rattle.run_base.specs.Notes.{plain_note};
 ghost use Rattle.run_base.specs.Answers.{IsNoted};
 ghost use Rattle.run_base.specs.Answers.{note_in};
@@ -31,9 +32,7 @@ fn write_verdict<O: Sink>(alloc: Global, verdict: Verdict, out: &mut O) -> Answe
     ensures cut_off { result.status ≡ Status.WriteFault → GainsPrefix (O.held out.old) (O.held out.new) (verdict_text verdict) }
     ensures nothing { result.status ≡ Status.NoMemory → out.new ≡ out.old }
     ensures note { note_in result ≡ plain_note result.status }
-    ensures write_fault { result.status ≡ Status.WriteFault → Rose (O.faults out.old) (O.faults out.new) }
-    ensures later { O.faults out.old ≤ O.faults out.new }
-    ensures no_lost_write { result.status ≢ Status.WriteFault → O.faults out.new ≡ O.faults out.old }
+    ensures leaves_out { RunLeavesOut O.Sink result.status out.old out.new }
 {
     let status = status_of(verdict);
     let Ok(text) = verdict_text(alloc, verdict) else {
@@ -68,21 +67,14 @@ fn answer<H: Shelf, O: Sink>(
     ensures usage { result.status ≡ Status.Usage → IsNone (check_settings_given words.now) }
     ensures always_usage { IsNone (check_settings_given words.now) →
         (result.status ≡ Status.Usage) ⊎ (result.status ≡ Status.NoMemory) }
-    ensures read_fault { result.status ≡ Status.ReadFault → Rose (H.faults shelf.old) (H.faults shelf.new) }
-    ensures write_fault { result.status ≡ Status.WriteFault → Rose (O.faults out.old) (O.faults out.new) }
 
     // What is left in the objects.
     ensures read_out { (result.status ≡ Status.Done) ⊎ (result.status ≡ Status.No) → IsAtEnd (H.left shelf.new) }
     ensures bounded { result.status ≡ Status.Limit → KnownFilesGive words.now (H.files shelf.old) TooLong →
         LeavesRestOf words.now (H.files shelf.old) (H.left shelf.new) }
     ensures untouched { result.status ≡ Status.Usage → shelf.new ≡ shelf.old }
-    ensures files { H.files shelf.new ≡ H.files shelf.old }
-    ensures steady { H.steady shelf.old → H.steady shelf.new }
-    ensures shelf_later { H.faults shelf.old ≤ H.faults shelf.new }
-    ensures out_later { O.faults out.old ≤ O.faults out.new }
-    ensures no_lost_read { result.status ≢ Status.ReadFault → result.status ≢ Status.NoMemory →
-        H.faults shelf.new ≡ H.faults shelf.old }
-    ensures no_lost_write { result.status ≢ Status.WriteFault → O.faults out.new ≡ O.faults out.old }
+    ensures leaves_shelf { RunLeavesShelf H.Shelf result.status shelf.old shelf.new }
+    ensures leaves_out { RunLeavesOut O.Sink result.status out.old out.new }
 {
     match verdict_of(alloc, keys, words, shelf) {
         Ok(verdict) => write_verdict(alloc, verdict, out),
@@ -118,10 +110,8 @@ pub fn check<H: Shelf, O: Sink, E: Sink>(
     ensures usage { result ≡ Status.Usage → IsNone (check_settings_given words.now) }
     ensures malformed { result ≡ Status.Malformed → LeadsToMalformed words.now (H.files shelf.old) }
     ensures limit { result ≡ Status.Limit → LeadsToLimit words.now (H.files shelf.old) }
-    ensures read_fault { result ≡ Status.ReadFault → Rose (H.faults shelf.old) (H.faults shelf.new) }
     ensures steady_read_fault { H.steady shelf.old → result ≡ Status.ReadFault →
         LeadsToAbsent words.now (H.files shelf.old) }
-    ensures write_fault { result ≡ Status.WriteFault → Rose (O.faults out.old) (O.faults out.new) }
 
     // When each status has to come, or NoMemory.
     ensures always_usage { IsNone (check_settings_given words.now) → (result ≡ Status.Usage) ⊎ (result ≡ Status.NoMemory) }
@@ -146,19 +136,14 @@ pub fn check<H: Shelf, O: Sink, E: Sink>(
         (result ≡ Status.ReadFault) ⊎ (result ≡ Status.NoMemory) }
 
     // What is left in the objects: at Done and No nothing unread, the files as they were, no count lowered, at Usage no
-    // call made on the shelf, and no failed call passed over.
+    // call made on the shelf, no failed call passed over, and no fault where none failed.
     ensures read_out { (result ≡ Status.Done) ⊎ (result ≡ Status.No) → IsAtEnd (H.left shelf.new) }
     ensures bounded { result ≡ Status.Limit → KnownFilesGive words.now (H.files shelf.old) TooLong →
         LeavesRestOf words.now (H.files shelf.old) (H.left shelf.new) }
     ensures untouched { result ≡ Status.Usage → shelf.new ≡ shelf.old }
-    ensures files { H.files shelf.new ≡ H.files shelf.old }
-    ensures steady { H.steady shelf.old → H.steady shelf.new }
-    ensures shelf_later { H.faults shelf.old ≤ H.faults shelf.new }
-    ensures out_later { O.faults out.old ≤ O.faults out.new }
+    ensures leaves_shelf { RunLeavesShelf H.Shelf result shelf.old shelf.new }
+    ensures leaves_out { RunLeavesOut O.Sink result out.old out.new }
     ensures err_later { E.faults err.old ≤ E.faults err.new }
-    ensures no_lost_read { result ≢ Status.ReadFault → result ≢ Status.NoMemory →
-        H.faults shelf.new ≡ H.faults shelf.old }
-    ensures no_lost_write { result ≢ Status.WriteFault → O.faults out.new ≡ O.faults out.old }
 
     // What is written to err: the status' note, or a prefix of it where err failed; at Done and No nothing.
     ensures note { IsNoted (IsCheckNote words.now (H.files shelf.old) (H.steady shelf.old) (H.left shelf.new) result)

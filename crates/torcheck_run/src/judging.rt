@@ -1,13 +1,13 @@
 //! The verdict on a result file.
 ghost use Rattle.std.specs.Prelude.{◌≡◌, ◌≢◌, ◌≤◌, ◌-◌, [], Err, IfOk, IfErr, OnOk, IfSome, IsNone, IsErrAnd, IsOk, length, take};
 ghost use Rattle.std.specs.Io.KnownBytes.{IsAtEnd};
-ghost use Rattle.tor_io.specs.Counts.{Rose};
 ghost use Rattle.dump_read.specs.declared.error.DumpError.TheVariants.{ReadFault as read_failed};
 ghost use Rattle.dump_read.specs.Seen.{Absent, end_named};
 ghost use Rattle.result_text.specs.Grammar.{IsTextOf};
 ghost use Rattle.result_text.specs.Refusal.{Refuses};
 ghost use Rattle.tor_words.specs.CheckGiven.{check_settings_given};
 ghost use Rattle.run_base.specs.Answers.{IsReadFault};
+ghost use Rattle.run_base.specs.Frames.{ReadsShelf};
 ghost use Rattle.torcheck_run.specs.Judging.{Judged, SettingsGive, IsVerdict, JudgesByDumps, LeavesRestOf, LeavesOnlyResult, seen_for};
 ghost use Rattle.run_base.specs.WholeFile.{LeavesRest, LeavesOnly};
 ghost use Rattle.torcheck_run.specs.CheckAnswer.{KnownFilesGive};
@@ -96,13 +96,8 @@ fn judged_by_dumps<H: Shelf>(
         (λ files. IsOk (seen_for file.now (take (e.dump - 1) dumps.now) files))) }
     ensures read_out { OnOk result (IsAtEnd (H.left shelf.old) → IsAtEnd (H.left shelf.new)) }
 
-    ensures files { H.files shelf.new ≡ H.files shelf.old }
-    ensures later { H.faults shelf.old ≤ H.faults shelf.new }
-    ensures failed { IfErr result (λ e. e.error ≡ read_failed → Rose (H.faults shelf.old) (H.faults shelf.new)) }
-    ensures quiet { OnOk result (H.faults shelf.new ≡ H.faults shelf.old) }
-    ensures quiet_stop { IfErr result (λ e. e.error ≢ read_failed → H.faults shelf.new ≡ H.faults shelf.old) }
+    ensures reads_shelf { ReadsShelf H.Shelf (IsErrAnd result (λ e. e.error ≡ read_failed)) shelf.old shelf.new }
     ensures unasked { dumps.now ≡ [] → shelf.new ≡ shelf.old }
-    ensures steady { H.steady shelf.old → H.steady shelf.new }
     ensures steady_failed { H.steady shelf.old → IfErr result (λ e. e.error ≡ read_failed →
         IfSome (H.files shelf.old) (λ files. seen_for file.now dumps.now files ≡ Err (Absent e.dump))) }
 {
@@ -129,12 +124,7 @@ fn judge<H: Shelf>(
     ensures refused { IfErr result (IsRefusedBy bytes dumps.now (H.files shelf.old) (H.steady shelf.old)) }
     ensures read_out { OnOk result (IsAtEnd (H.left shelf.old) → IsAtEnd (H.left shelf.new)) }
 
-    ensures files { H.files shelf.new ≡ H.files shelf.old }
-    ensures later { H.faults shelf.old ≤ H.faults shelf.new }
-    ensures quiet { OnOk result (H.faults shelf.new ≡ H.faults shelf.old) }
-    ensures failed { IfErr result (λ r. IsReadFault r → Rose (H.faults shelf.old) (H.faults shelf.new)) }
-    ensures quiet_stop { IfErr result (λ r. (IsReadFault r → ⊥) → H.faults shelf.new ≡ H.faults shelf.old) }
-    ensures steady { H.steady shelf.old → H.steady shelf.new }
+    ensures reads_shelf { ReadsShelf H.Shelf (IsErrAnd result IsReadFault) shelf.old shelf.new }
 {
     match ruling_on(alloc, keys, bytes) {
         Ok(Ruling::Broken { line, rule }) => Ok(Verdict::No { line, rule }),
@@ -161,12 +151,7 @@ fn judge_file<H: Shelf>(
         LeavesOnly settings.now.result (H.files shelf.old) (H.left shelf.new)) }
     ensures read_out { OnOk result (IsAtEnd (H.left shelf.new)) }
 
-    ensures files { H.files shelf.new ≡ H.files shelf.old }
-    ensures later { H.faults shelf.old ≤ H.faults shelf.new }
-    ensures quiet { OnOk result (H.faults shelf.new ≡ H.faults shelf.old) }
-    ensures failed { IfErr result (λ u. IsFailedRead u → Rose (H.faults shelf.old) (H.faults shelf.new)) }
-    ensures quiet_stop { IfErr result (λ u. (IsFailedRead u → ⊥) → H.faults shelf.new ≡ H.faults shelf.old) }
-    ensures steady { H.steady shelf.old → H.steady shelf.new }
+    ensures reads_shelf { ReadsShelf H.Shelf (IsErrAnd result IsFailedRead) shelf.old shelf.new }
 {
     match read_whole(alloc, shelf, settings.result.as_text(), MAX_RESULT) {
         Ok(bytes) => match judge(alloc, keys, shelf, bytes, settings.dumps.as_slice()) {
@@ -195,12 +180,7 @@ pub(crate) fn verdict_of<H: Shelf>(
     ensures read_out { OnOk result (IsAtEnd (H.left shelf.new)) }
 
     ensures untouched { IfErr result (λ u. IsOfCheckWords u → shelf.new ≡ shelf.old) }
-    ensures files { H.files shelf.new ≡ H.files shelf.old }
-    ensures later { H.faults shelf.old ≤ H.faults shelf.new }
-    ensures quiet { OnOk result (H.faults shelf.new ≡ H.faults shelf.old) }
-    ensures failed { IfErr result (λ u. IsFailedRead u → Rose (H.faults shelf.old) (H.faults shelf.new)) }
-    ensures quiet_stop { IfErr result (λ u. (IsFailedRead u → ⊥) → H.faults shelf.new ≡ H.faults shelf.old) }
-    ensures steady { H.steady shelf.old → H.steady shelf.new }
+    ensures reads_shelf { ReadsShelf H.Shelf (IsErrAnd result IsFailedRead) shelf.old shelf.new }
 {
     match check_settings_of(alloc, words) {
         Ok(settings) => judge_file(alloc, keys, &settings, shelf),

@@ -19,7 +19,7 @@ returns-in-Ok-clause-refused g c =
 pub returns-in-Ok-clause-read_out : goal.returns-in-Ok-clause-read_out
 returns-in-Ok-clause-read_out g c =
     on_ok_weaker c.output_for.result
-    (λ out. sample-given c.args.words.now c.in-Ok.settings _ _ c.in-Ok.ensures.given (named-read c.in-Ok.settings.mode c.in-Ok.settings.dumps _ _ c.in-Ok.ensures.named out))
+    (λ out. sample-given c.args.words.now c.in-Ok.settings _ _ c.in-Ok.ensures.given (named-read c.in-Ok.settings.source c.in-Ok.settings.dumps _ _ c.in-Ok.ensures.named out))
     c.output_for.ensures.read_out
 
 pub returns-in-Ok-clause-sample : goal.returns-in-Ok-clause-sample

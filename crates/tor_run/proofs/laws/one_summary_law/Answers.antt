@@ -5,5 +5,5 @@ use Rattle.tor_run.proofs.laws.one_summary_law.Goals as goal
 
 pub returns : goal.returns
 returns c = λ settings taken file file' faithful faithful'.
-    let one = one_result_law settings.sets settings.ratio taken.table.rows taken.counts file file' faithful.result faithful'.result in
+    let one = one_result_law settings.sets settings.ratio taken.table.rows taken.counts file file' faithful faithful' in
     ap₂ summary_of one.0 one.3

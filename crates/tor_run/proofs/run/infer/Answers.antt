@@ -5,6 +5,9 @@ use Rattle.tor_run.specs.Output.{GainsOutput}
 use Rattle.run_base.specs.Answers.{note_in}
 use Rattle.tor_run.specs.Sampling.{known_by}
 use Rattle.run_base.proofs.Prefixes.{all_if_quiet, either_way, noted_if}
+use Rattle.dump_read.specs.Seen.{Malformed, Limit}
+use Rattle.tor_run.specs.Seen.{Reads, Ends}
+use Rattle.tor_run.proofs.Outcomes.{always, always_absent, cause_of, note_absent, note_limit, note_malformed}
 use Rattle.tor_run.proofs.run.infer.Goals as goal
 
 pub returns-clause-done : goal.returns-clause-done
@@ -48,3 +51,83 @@ returns-clause-some g c = λ is.
           ∙ ap (append_known old) c.note.ensures;
       prefix = subst (λ t. GainsPrefix old new t) c.note.ensures (either_way c.write_all.result old new text c.write_all.ensures.all c.write_all.ensures.prefix);
     }
+
+pub returns-clause-malformed : goal.returns-clause-malformed
+returns-clause-malformed g c =
+    let shelf = g.H.Shelf in
+    let words = c.args.words.now in
+    let old = c.args.shelf.now in
+    let a = c.answer-answer in
+    note_malformed words (known_by words (shelf.files old)) (shelf.steady old) a.result.status (note_in a.result) a.ensures.note
+
+pub returns-clause-limit : goal.returns-clause-limit
+returns-clause-limit g c =
+    let shelf = g.H.Shelf in
+    let words = c.args.words.now in
+    let old = c.args.shelf.now in
+    let a = c.answer-answer in
+    note_limit words (known_by words (shelf.files old)) (shelf.steady old) a.result.status (note_in a.result) a.ensures.note
+
+pub returns-clause-steady_read_fault : goal.returns-clause-steady_read_fault
+returns-clause-steady_read_fault g c =
+    let shelf = g.H.Shelf in
+    let words = c.args.words.now in
+    let old = c.args.shelf.now in
+    let a = c.answer-answer in
+    note_absent words (known_by words (shelf.files old)) (shelf.steady old) a.result.status (note_in a.result) a.ensures.note
+
+pub returns-clause-always_done : goal.returns-clause-always_done
+returns-clause-always_done g c = λ files taken is gives well quiet.
+    let shelf = g.H.Shelf in
+    let sink = g.O.Sink in
+    let words = c.args.words.now in
+    let old = c.args.shelf.now in
+    let a = c.answer-answer in
+    let known = known_by words (shelf.files old) in
+    let cause = cause_of words known (shelf.steady old) a.result.status (note_in a.result) a.ensures.note (sink.held c.args.out.now) (sink.held a.new.out)
+    (shelf.faults old) (shelf.faults a.new.shelf) (sink.faults c.args.out.now) (sink.faults a.new.out)
+    a.ensures.done a.ensures.cut_off a.ensures.usage a.ensures.leaves_shelf.read_fault a.ensures.leaves_out.write_fault a.ensures.no_other in
+    always words known files (shelf.steady old) a.result.status (shelf.faults old) (shelf.faults a.new.shelf) (sink.faults c.args.out.now) (sink.faults a.new.out)
+    (Reads taken) cause is gives well (λ e. quiet)
+
+pub returns-clause-always_malformed : goal.returns-clause-always_malformed
+returns-clause-always_malformed g c = λ files place fault is gives well.
+    let shelf = g.H.Shelf in
+    let sink = g.O.Sink in
+    let words = c.args.words.now in
+    let old = c.args.shelf.now in
+    let a = c.answer-answer in
+    let known = known_by words (shelf.files old) in
+    let cause = cause_of words known (shelf.steady old) a.result.status (note_in a.result) a.ensures.note (sink.held c.args.out.now) (sink.held a.new.out)
+    (shelf.faults old) (shelf.faults a.new.shelf) (sink.faults c.args.out.now) (sink.faults a.new.out)
+    a.ensures.done a.ensures.cut_off a.ensures.usage a.ensures.leaves_shelf.read_fault a.ensures.leaves_out.write_fault a.ensures.no_other in
+    always words known files (shelf.steady old) a.result.status (shelf.faults old) (shelf.faults a.new.shelf) (sink.faults c.args.out.now) (sink.faults a.new.out)
+    (Ends (Malformed place fault)) cause is gives well (λ e. absurd cc)
+
+pub returns-clause-always_limit : goal.returns-clause-always_limit
+returns-clause-always_limit g c = λ files kind dump is gives well.
+    let shelf = g.H.Shelf in
+    let sink = g.O.Sink in
+    let words = c.args.words.now in
+    let old = c.args.shelf.now in
+    let a = c.answer-answer in
+    let known = known_by words (shelf.files old) in
+    let cause = cause_of words known (shelf.steady old) a.result.status (note_in a.result) a.ensures.note (sink.held c.args.out.now) (sink.held a.new.out)
+    (shelf.faults old) (shelf.faults a.new.shelf) (sink.faults c.args.out.now) (sink.faults a.new.out)
+    a.ensures.done a.ensures.cut_off a.ensures.usage a.ensures.leaves_shelf.read_fault a.ensures.leaves_out.write_fault a.ensures.no_other in
+    always words known files (shelf.steady old) a.result.status (shelf.faults old) (shelf.faults a.new.shelf) (sink.faults c.args.out.now) (sink.faults a.new.out)
+    (Ends (Limit kind dump)) cause is gives well (λ e. absurd cc)
+
+pub returns-clause-always_absent : goal.returns-clause-always_absent
+returns-clause-always_absent g c = λ files dump is gives.
+    let shelf = g.H.Shelf in
+    let sink = g.O.Sink in
+    let words = c.args.words.now in
+    let old = c.args.shelf.now in
+    let a = c.answer-answer in
+    let known = known_by words (shelf.files old) in
+    let cause = cause_of words known (shelf.steady old) a.result.status (note_in a.result) a.ensures.note (sink.held c.args.out.now) (sink.held a.new.out)
+    (shelf.faults old) (shelf.faults a.new.shelf) (sink.faults c.args.out.now) (sink.faults a.new.out)
+    a.ensures.done a.ensures.cut_off a.ensures.usage a.ensures.leaves_shelf.read_fault a.ensures.leaves_out.write_fault a.ensures.no_other in
+    always_absent words known files (shelf.steady old) a.result.status (shelf.faults old) (shelf.faults a.new.shelf) (sink.faults c.args.out.now) (sink.faults a.new.out)
+    dump cause is gives

@@ -24,7 +24,7 @@ returns-clause-always_malformed g c = λ files place fault is gives well.
     (sink.faults c.args.out.now) (sink.faults a.new.out) (Ends (Malformed place fault))
     (cause_of words (shelf.files old) (shelf.steady old) (shelf.left a.new.shelf) a.result.status (note_in a.result) (sink.held c.args.out.now) (sink.held a.new.out)
     (shelf.faults old) (shelf.faults a.new.shelf) (sink.faults c.args.out.now) (sink.faults a.new.out)
-    a.ensures.done a.ensures.no a.ensures.cut_off a.ensures.usage a.ensures.note a.ensures.read_fault a.ensures.write_fault)
+    a.ensures.done a.ensures.no a.ensures.cut_off a.ensures.usage a.ensures.note a.ensures.leaves_shelf.read_fault a.ensures.leaves_out.write_fault)
     is gives (λ e. absurd cc) (λ e. absurd cc) well
 
 pub returns-clause-always_limit : goal.returns-clause-always_limit
@@ -38,7 +38,7 @@ returns-clause-always_limit g c = λ files kind dump is gives well.
     (sink.faults c.args.out.now) (sink.faults a.new.out) (Ends (Limit kind dump))
     (cause_of words (shelf.files old) (shelf.steady old) (shelf.left a.new.shelf) a.result.status (note_in a.result) (sink.held c.args.out.now) (sink.held a.new.out)
     (shelf.faults old) (shelf.faults a.new.shelf) (sink.faults c.args.out.now) (sink.faults a.new.out)
-    a.ensures.done a.ensures.no a.ensures.cut_off a.ensures.usage a.ensures.note a.ensures.read_fault a.ensures.write_fault)
+    a.ensures.done a.ensures.no a.ensures.cut_off a.ensures.usage a.ensures.note a.ensures.leaves_shelf.read_fault a.ensures.leaves_out.write_fault)
     is gives (λ e. absurd cc) (λ e. absurd cc) well
 
 pub returns-clause-always_absent : goal.returns-clause-always_absent
@@ -52,7 +52,7 @@ returns-clause-always_absent g c = λ files dump is gives.
     (sink.faults c.args.out.now) (sink.faults a.new.out) (Ends (Absent dump))
     (cause_of words (shelf.files old) (shelf.steady old) (shelf.left a.new.shelf) a.result.status (note_in a.result) (sink.held c.args.out.now) (sink.held a.new.out)
     (shelf.faults old) (shelf.faults a.new.shelf) (sink.faults c.args.out.now) (sink.faults a.new.out)
-    a.ensures.done a.ensures.no a.ensures.cut_off a.ensures.usage a.ensures.note a.ensures.read_fault a.ensures.write_fault)
+    a.ensures.done a.ensures.no a.ensures.cut_off a.ensures.usage a.ensures.note a.ensures.leaves_shelf.read_fault a.ensures.leaves_out.write_fault)
     is gives refl
 
 pub returns-clause-note : goal.returns-clause-note

@@ -1,0 +1,27 @@
+-- What a result has beside the definitions that it follows from.
+use Rattle.std.specs.Prelude.{◌≡◌, ℕ, List, Some}
+use Rattle.tor_io.specs.Contents.{Files}
+use Rattle.dump_read.specs.declared.taking.Taken.{Taken}
+use Rattle.result_text.specs.declared.file.ResultFile.{ResultFile}
+use Rattle.rel_infer.specs.SelfAcceptance.{AreTableRows, IsVouchedFor}
+use Rattle.tor_words.specs.declared.settings.Settings.{Settings}
+use Rattle.tor_words.specs.Given.{settings_given}
+use Rattle.tor_run.specs.Output.{Faithful}
+use Rattle.tor_run.specs.Seen.{ComesTo, Reads}
+
+-- the result meets the rules 1 to 10 of a checker, and rule 11 over what the dumps gave; its peerings may be read either way, and none
+-- is left out
+abbrev pub IsVouchedIn : Settings → Taken → ResultFile → Type 0
+IsVouchedIn settings taken file = IsVouchedFor settings.ratio taken.table.rows taken.counts file
+
+-- of paths as a table has them, and of settings that words give, each result that is faithful has all this
+abbrev pub FaithfulLaw : Type 0
+FaithfulLaw =
+    (words : List (List ℕ)) (settings : Settings) (taken : Taken) (file : ResultFile) → settings_given words ≡ Some settings →
+    AreTableRows taken.table.rows → Faithful settings taken file → IsVouchedIn settings taken file
+
+-- the paths that dumps give are as a table has them
+abbrev pub TableLaw : Type 0
+TableLaw =
+    (words : List (List ℕ)) (settings : Settings) (files : Files) (taken : Taken) → settings_given words ≡ Some settings →
+    ComesTo settings files (Reads taken) → AreTableRows taken.table.rows

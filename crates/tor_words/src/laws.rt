@@ -1,0 +1,9 @@
+//! The law of settings.
+
+ghost use Rattle.tor_words.specs.Given.{BoundsLaw};
+
+/// The settings that words give are within their bounds: the ratio is at most 1000000, the most paths are from 1 to 8388608, a dump is
+/// named unless there is a sample, and a sample is summed up, and nothing else is.
+pub fn bounds_law()
+    ensures { BoundsLaw }
+{}
