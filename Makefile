@@ -5,7 +5,7 @@
 # each of their allocations refused, and `make container` what `make dist` made on a bare system.
 
 # A program has its man page in man/, its completions in completions/, and its stored run (args, data, stdout) in its crate.
-PROGRAMS = tor torcheck
+PROGRAMS = tor torcheck torgrade
 
 # The logic of the kit with which all is proved, as `rt version` has it.
 LOGIC = dac8208d650f15bf

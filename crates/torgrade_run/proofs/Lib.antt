@@ -1,0 +1,6 @@
+pub mod Always
+pub mod Bounds
+pub mod Comings
+pub mod GradeLines
+pub mod Ungradings
+mod Vectors

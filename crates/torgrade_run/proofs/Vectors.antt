@@ -1,0 +1,28 @@
+-- Lines and notes of a worked grading, by computation.
+use Rattle.std.proofs.Common.{◌≡◌, ◌∷◌, [], List, codes, refl}
+use Rattle.std.specs.Fmt.{digits}
+use Rattle.path_clean.specs.Rows.{Counted}
+use Rattle.serial_lines.specs.declared.line.RelKind.TheVariants.{Transit, Peering}
+use Rattle.serial_lines.specs.declared.line.RelLine.{RelLine}
+use Rattle.serial_lines.specs.Serial.{rel_line}
+use Rattle.torgrade_run.specs.GradeAnswer.{bad_line_note, long_rel_note}
+use Rattle.torgrade_run.specs.GradeText.{grades_text}
+
+abbrev known : List RelLine
+known = rel_line 20 10 Transit ∷ rel_line 20 30 Transit ∷ rel_line 30 40 Peering ∷ rel_line 10 50 Transit ∷ []
+
+abbrev paths : List Counted
+paths =
+    record { path = 10 ∷ 20 ∷ 30 ∷ 40 ∷ []; times = 1 } ∷ record { path = 50 ∷ 10 ∷ 20 ∷ 30 ∷ []; times = 1 }
+    ∷ record { path = 10 ∷ 20 ∷ 60 ∷ []; times = 1 } ∷ []
+
+worked : grades_text known paths ≡ codes "valley|1|10 20 30 40|3\nfree|1|50 10 20 30\nunknown|1|10 20 60|2\ngrade|1|1|1\n"
+unfolding digits
+worked = refl
+
+bad_line : bad_line_note 2 ≡ codes "malformed|0|2|0|rel\n"
+unfolding digits
+bad_line = refl
+
+too_long : long_rel_note ≡ codes "limit|rel|0\n"
+too_long = refl

@@ -1,0 +1,5 @@
+pub mod GradeAnswer
+pub mod GradeText
+pub mod Limits
+pub mod Outcomes
+pub mod Ungrading
