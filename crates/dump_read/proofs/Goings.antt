@@ -128,7 +128,7 @@ goes_on sets (Some octets) left left' at peers peers' r old mid new goes finds t
     let f = found peers goes.fuel at goes.rest r left' finds' goes.enough in
     let further = reading_from (peers_behind peers r) (cut_within f.fuel (place_behind r) f.rest) in
     let same : reading_from peers (cut_within goes.fuel at goes.rest) ≡ record { routes = takes.0 ++ further.routes; end = further.end } =
-          f.same ∙ ap (λ read. routes_onto r.at read further) takes.1 in
+    f.same ∙ ap (λ read. routes_onto r.at read further) takes.1 in
     record {
       fuel = f.fuel;
       rest = f.rest;

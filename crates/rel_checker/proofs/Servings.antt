@@ -141,7 +141,7 @@ module _ (lines : List EdgeLine) (kept implied conflicting : List (List ℕ)) (b
       let t = w.3 in
       let led = (reaches_exactly (flipped_orders lines) kept implied conflicting built proper settled start p.0 p.1 k g.over g.under ts t).1 g.reached in
       let unvisited : RoundCameTo old round k → ⊥ =
-            λ m. let a = (covered k g.over g.under t).0 m in All-contains (λ q. Closure kept q.0 q.1 g.over g.under → ⊥) earlier a.1 g.new (a.0, a.2, a.3) a.4 in
+      λ m. let a = (covered k g.over g.under t).0 m in All-contains (λ q. Closure kept q.0 q.1 g.over g.under → ⊥) earlier a.1 g.new (a.0, a.2, a.3) a.4 in
       Any-from (IsWantedAt lines) found k ((reach.noted k).1 ((reach.exact k).1 (inr led), unvisited)) (w.1, w.2, w.4)
 
   -- an order against no label gains nothing

@@ -131,7 +131,7 @@ walk_reads : Reads Walk WalkFits walk_text walk_at
 unfolding walk_at
 walk_reads =
     let parts = both_reads (List ℕ) (List Link) AreU32 (AllByRecursion LinkFits) (with numbers_text 124) (with links 10) (before 124 (list_at u32_at)) (before 10 (list_at link_at))
-          numbers_bar links_end in
+    numbers_bar links_end in
     let whole = mapped_reads (List ℕ × List Link) Walk (λ z. AreU32 z.0 × AllByRecursion LinkFits z.1) (λ z. with numbers_text 124 z.0 ++ with links 10 z.1)
     (both (before 124 (list_at u32_at)) (before 10 (list_at link_at))) walk_from parts in
     record {

@@ -22,7 +22,7 @@ pub one_line_more : (rows : List Counted) (i : ℕ) (path : List ℕ) (times : �
 one_line_more rows i path times is counted =
     let row : Counted = record { path = path; times = times } in
     sym (ap listing (rw add-one (row_at rows i path times is counted)) ∙ flat_map-append list_line (take i rows) (row ∷ [])
-        ∙ ap (λ (t : List ℕ). listing (take i rows) ++ t) (append-nil (list_line row)))
+    ∙ ap (λ (t : List ℕ). listing (take i rows) ++ t) (append-nil (list_line row)))
 
 -- the lines so far are a first part of all
 pub lines_stop : (rows : List Counted) (i : ℕ) (old new : Option (List ℕ)) (before : List ℕ) → GainsPrefix old new (before ++ listing (take i rows)) → GainsPrefix old new (before ++ listing rows)

@@ -146,7 +146,12 @@ fn settings_in(alloc: Global, matches: &ArgMatches) -> Result<Settings, WordsRef
     let Some(ratio) = number_or(first(matches, "ratio"), 0, MAX_RATIO as u64, 60) else {
         return Err(usage(alloc, "--ratio takes a number from 0 to 1000000\n"));
     };
-    let Some(max_paths) = number_or(first(matches, "max-paths"), 1, MAX_PATHS as u64, MAX_PATHS as u64) else {
+    let Some(max_paths) = number_or(
+        first(matches, "max-paths"),
+        1,
+        MAX_PATHS as u64,
+        MAX_PATHS as u64,
+    ) else {
         return Err(usage(alloc, "--max-paths takes a number from 1 to 8388608\n"));
     };
     Ok(Settings {
