@@ -1,5 +1,6 @@
 -- How many paths hold an edge, counted step by step.
-use Rattle.std.proofs.Common.{◌≡◌, ◌≢◌, ℕ, zero, suc, ◌+◌, ◌<◌, ◌≤◌, inl, inr, Bool, true, false, cond, List, [], ◌∷◌, ◌++◌, length, get_or, take, map, replicate, min, max, refl, sym, ap, ap₂, ◌∙◌, subst, arith, All, nat_eq, slice_get, Some, eq-eqb}
+use Rattle.std.proofs.Common.{◌≡◌, ◌≢◌, ℕ, zero, suc, ◌+◌, ◌<◌, ◌≤◌, inl, inr, Bool, true, false, cond, List, [], ◌∷◌, ◌++◌, length, get_or, take, map, replicate, min, max, refl, sym, ap, ap₂, ◌∙◌}
+use Rattle.std.proofs.Common.{subst, arith, All, nat_eq, slice_get, Some, eq-eqb}
 use Rattle.std.specs.List.{list_any, count_by, AllPairs}
 use Rattle.std.proofs.lemmas.Bool.{cases_Bool, cases_eq, false_from_ne_true, ne_eqb, eqb-true, or_parts, or_cases, false≢true}
 use Rattle.std.proofs.lemmas.Option.{slice_get-get_or, same_Some}

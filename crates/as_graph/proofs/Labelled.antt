@@ -1,5 +1,6 @@
 -- A label, or a provider, for each edge in a list.
-use Rattle.std.proofs.Common.{◌≡◌, ◌≢◌, ℕ, zero, suc, ◌<◌, ◌≤◌, inl, inr, true, false, not, List, [], ◌∷◌, length, get_or, min, max, refl, sym, ap, ap₂, ◌∙◌, subst, arith, filter, slice_get, Some, if◌then◌else◌, eq-eqb, le-ltb, lt-ltb}
+use Rattle.std.proofs.Common.{◌≡◌, ◌≢◌, ℕ, zero, suc, ◌<◌, ◌≤◌, inl, inr, true, false, not, List, [], ◌∷◌, length, get_or, min, max, refl, sym, ap, ap₂, ◌∙◌, subst, arith, filter, slice_get, Some}
+use Rattle.std.proofs.Common.{if◌then◌else◌, eq-eqb, le-ltb, lt-ltb}
 use Rattle.std.specs.List.{list_any}
 use Rattle.std.proofs.lemmas.Bool.{cases_Bool, cases_order, or_parts}
 use Rattle.std.proofs.lemmas.Option.{slice_get_within}

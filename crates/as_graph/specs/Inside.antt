@@ -1,5 +1,6 @@
 -- What the fields of a graph hold.
-use Rattle.std.specs.Prelude.{◌≡◌, ℕ, ◌+◌, ◌<◌, ◌≤◌, ◌||◌, ◌==◌, Bool, List, [], ◌∷◌, ◌++◌, All, length, map, sum_by, count_by, filter, take, slice_index_or, unwrap_or, nat_eq, if◌then◌else◌}
+use Rattle.std.specs.Prelude.{◌≡◌, ℕ, ◌+◌, ◌<◌, ◌≤◌, ◌||◌, ◌==◌, Bool, List, [], ◌∷◌, ◌++◌, All, length, map, sum_by, count_by, filter}
+use Rattle.std.specs.Prelude.{take, slice_index_or, unwrap_or, nat_eq, if◌then◌else◌}
 use Rattle.std.specs.List.{list_any}
 use Rattle.std.specs.Map.{lookup}
 use Rattle.tor_arena.specs.Limits.{max_numbers}

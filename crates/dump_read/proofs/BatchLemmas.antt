@@ -1,5 +1,6 @@
 -- Batches of cleaned routes.
-use Rattle.std.proofs.Common.{◌≡◌, ◌∙◌, ◌+◌, ◌<◌, ◌≤◌, ◌++◌, ◌∷◌, [], List, ℕ, zero, suc, Bool, true, false, cond, Option, Some, None, Result, Ok, Err, option_map, bytes_eq, length, drop, map, slice_get, nat_eq, refl, ap, sym, subst, arith}
+use Rattle.std.proofs.Common.{◌≡◌, ◌∙◌, ◌+◌, ◌<◌, ◌≤◌, ◌++◌, ◌∷◌, [], List, ℕ, zero, suc, Bool, true, false, cond, Option, Some, None, Result, Ok, Err, option_map, bytes_eq, length, drop, map}
+use Rattle.std.proofs.Common.{slice_get, nat_eq, refl, ap, sym, subst, arith}
 use Rattle.std.specs.Prelude.{is_some}
 use Rattle.std.proofs.lemmas.List.{length-append, length-map}
 use Rattle.std.proofs.Math.ListN.{drop_of_length-le}
@@ -188,13 +189,15 @@ batch-step sets routes batch k old mid new is lt so_far takes =
     let h = head-of sets routes batch k is lt in
     let next : suc k ≡ k + 1 = omega arith in
     subst (λ j. SoFar sets old new routes (drop j routes)) next
-    (one_route_more sets old mid new routes (drop (suc k) routes) h.route (subst (SoFar sets old mid routes) h.parts so_far) (takes (clean_of sets h.route.width h.route.attrs) (ap (λ cs. slice_get cs k) is ∙ h.at)))
+    (one_route_more sets old mid new routes (drop (suc k) routes) h.route (subst (SoFar sets old mid routes) h.parts so_far) (takes (clean_of sets h.route.width h.route.attrs) (ap (λ cs. slice_get cs
+    k) is ∙ h.at)))
 
 pub batch-limit : (sets : Sets) (routes : List Route) (batch : Batched) (k : ℕ) (old mid : Taken) (why : Untaken) → AreOf sets routes batch → k < length batch.routes
     → SoFar sets old mid routes (drop k routes) → IsLimitAt batch k mid why → IsLimit (take_routes sets old routes) why
 batch-limit sets routes batch k old mid why is lt so_far limit =
     let h = head-of sets routes batch k is lt in
-    limit_at sets old mid routes (drop (suc k) routes) h.route why (subst (SoFar sets old mid routes) h.parts so_far) (limit (clean_of sets h.route.width h.route.attrs) (ap (λ cs. slice_get cs k) is ∙ h.at))
+    limit_at sets old mid routes (drop (suc k) routes) h.route why (subst (SoFar sets old mid routes) h.parts so_far) (limit (clean_of sets h.route.width h.route.attrs) (ap (λ cs. slice_get cs k) is
+    ∙ h.at))
 
 pub batch-all : (sets : Sets) (routes : List Route) (batch : Batched) (k : ℕ) (old new : Taken) → AreOf sets routes batch → length batch.routes ≤ k → SoFar sets old new routes (drop k routes)
     → Takes sets old routes new

@@ -1,5 +1,6 @@
 -- Routes are all taken in exactly where their distinct paths fit.
-use Rattle.std.proofs.Common.{◌≡◌, ◌∙◌, ◌+◌, ◌≤◌, ◌<◌, ◌==◌, ◌&&◌, inl, inr, ◌++◌, ◌∷◌, [], List, ℕ, suc, Bool, true, false, cond, Option, Some, None, option_map, Result, Ok, Err, length, bytes_eq, refl, sym, ap, subst, arith, append_assoc}
+use Rattle.std.proofs.Common.{◌≡◌, ◌∙◌, ◌+◌, ◌≤◌, ◌<◌, ◌==◌, ◌&&◌, inl, inr, ◌++◌, ◌∷◌, [], List, ℕ, suc, Bool, true, false, cond, Option, Some, None, option_map, Result, Ok, Err, length, bytes_eq}
+use Rattle.std.proofs.Common.{refl, sym, ap, subst, arith, append_assoc}
 use Rattle.std.specs.Prelude.{is_some, nat_lt, filter_map}
 use Rattle.std.proofs.lemmas.Bool.{and_parts, eqb-true, ltb-true, both_ways, lt-ltb, cases_order, eq-eqb}
 use Rattle.std.proofs.lemmas.List.{append-nil}

@@ -1,5 +1,6 @@
 -- Where the taking in of routes ends: at the first whose path is new and would pass a limit.
-use Rattle.std.proofs.Common.{◌≡◌, ◌∙◌, ◌+◌, ◌<◌, ◌==◌, ◌&&◌, ◌||◌, ◌++◌, ◌∷◌, [], List, ℕ, suc, Bool, true, false, cond, Option, Some, None, option_map, Result, Ok, Err, length, map, bytes_eq, refl, sym, ap, subst, append_assoc}
+use Rattle.std.proofs.Common.{◌≡◌, ◌∙◌, ◌+◌, ◌<◌, ◌==◌, ◌&&◌, ◌||◌, ◌++◌, ◌∷◌, [], List, ℕ, suc, Bool, true, false, cond, Option, Some, None, option_map, Result, Ok, Err, length, map, bytes_eq, refl}
+use Rattle.std.proofs.Common.{sym, ap, subst, append_assoc}
 use Rattle.std.specs.Prelude.{is_some, nat_lt, sum_by}
 use Rattle.std.specs.List.{list_any}
 use Rattle.std.proofs.lemmas.Bool.{and_parts, eqb-true, ltb-true}
@@ -75,7 +76,8 @@ record Stops (kind : LimitKind) (limit : ℕ) (known : List (List ℕ)) (path : 
   passes : PassesLimit kind limit known path
 
 at_path : (f : List ℕ → ℕ) (known : List (List ℕ)) (limit : ℕ) (path : List ℕ) (kind : LimitKind)
-    → Refuses kind (is_some (place_of (rows_by f known) path)) (length (rows_by f known) == limit) (nat_lt (length (rows_by f known)) limit && nat_lt max_numbers (numbers_in (rows_by f known) + length path))
+    → Refuses kind (is_some (place_of (rows_by f known) path)) (length (rows_by f known) == limit) (nat_lt (length (rows_by f known)) limit && nat_lt max_numbers (numbers_in (rows_by f known) +
+    length path))
     → Stops kind limit known path
 at_path f known limit path Paths by = record {
   is_new = unplaced f known path by.0;

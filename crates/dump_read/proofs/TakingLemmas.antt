@@ -1,5 +1,6 @@
 -- What taking routes in comes to, route by route.
-use Rattle.std.proofs.Common.{◌≡◌, ◌∙◌, ◌+◌, ◌-◌, ◌^◌, ◌==◌, ◌++◌, ◌∷◌, [], List, ℕ, min, Bool, true, false, cond, Option, Some, None, Result, Ok, Err, if◌then◌else◌, length, refl, sym, ap, subst, arith, append_assoc}
+use Rattle.std.proofs.Common.{◌≡◌, ◌∙◌, ◌+◌, ◌-◌, ◌^◌, ◌==◌, ◌++◌, ◌∷◌, [], List, ℕ, min, Bool, true, false, cond, Option, Some, None, Result, Ok, Err, if◌then◌else◌, length, refl, sym, ap, subst}
+use Rattle.std.proofs.Common.{arith, append_assoc}
 use Rattle.std.specs.Prelude.{is_some, count_by, filter_map}
 use Rattle.std.proofs.lemmas.List.{append-nil}
 use Rattle.std.proofs.lemmas.List.Elements.{filter_map-append}

@@ -1,5 +1,6 @@
 -- What taking routes in comes to: the distinct paths with their times, and how many routes are set aside for each cause.
-use Rattle.std.specs.Prelude.{◌≡◌, ◌↔◌, ◌≤◌, ◌<◌, ◌+◌, ◌-◌, ◌^◌, ◌==◌, ℕ, min, Bool, false, List, [], ◌∷◌, ◌++◌, length, sum_by, count_by, flat_map, filter_map, bytes_eq, Option, Some, None, Ok, Err}
+use Rattle.std.specs.Prelude.{◌≡◌, ◌↔◌, ◌≤◌, ◌<◌, ◌+◌, ◌-◌, ◌^◌, ◌==◌, ℕ, min, Bool, false, List, [], ◌∷◌, ◌++◌, length, sum_by, count_by}
+use Rattle.std.specs.Prelude.{flat_map, filter_map, bytes_eq, Option, Some, None, Ok, Err}
 use Rattle.std.specs.List.{list_any}
 use Rattle.path_clean.specs.declared.cleaned.Sets.{Sets}
 use Rattle.path_clean.specs.declared.cleaned.Cause.{Cause}

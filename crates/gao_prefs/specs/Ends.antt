@@ -1,5 +1,6 @@
 -- Numbers for the ends of edges: degrees, and votes.
-use Rattle.std.specs.Prelude.{ℕ, ◌+◌, ◌&&◌, Bool, true, false, List, [], ◌∷◌, map, take, drop, count_by, nat_eq, slice_index_or, if◌then◌else◌}
+use Rattle.std.specs.Prelude.{ℕ, ◌+◌, ◌&&◌, Bool, true, false, List, [], ◌∷◌, map, take, drop, count_by, nat_eq, slice_index_or}
+use Rattle.std.specs.Prelude.{if◌then◌else◌}
 use Rattle.relationships.specs.declared.label.End.{End}
 use Rattle.relationships.specs.Relationship.{opposite}
 use Rattle.relationships.specs.Graph.{Edge, degree}

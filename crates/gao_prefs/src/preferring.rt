@@ -11,7 +11,8 @@ ghost use Rattle.tor_arena.specs.Limits.{max_numbers};
 ghost use Rattle.as_graph.specs.Limits.{most_paths};
 ghost use Rattle.as_graph.specs.Paths.{paths_at};
 ghost use Rattle.gao_prefs.specs.Ends.{number_at};
-ghost use Rattle.gao_prefs.specs.Preferences.{AreInOrder, HaveLeans, HaveWanted, IsPref, NotAfter, edge_preferred, edges_preferred, key_of, lean_by, wanted_by};
+ghost use Rattle.gao_prefs.specs.Preferences.{AreInOrder, HaveLeans, HaveWanted, IsPref, NotAfter, edge_preferred, edges_preferred, key_of};
+ghost use Rattle.gao_prefs.specs.Preferences.{lean_by, wanted_by};
 
 use crate::per_end::{PerEnd, end_degrees};
 use crate::tally::count_votes;

@@ -17,11 +17,13 @@ max_read = max_file + 12
 abbrev pub octets_in : List Record → ℕ
 octets_in records = sum_by (λ r. 12 + length r.body) records
 
--- where the octets are known, all records from this place on were read or passed over, and behind them one header; what is behind that is left
+-- where the octets are known, all records from this place on were read or passed over, and behind them one header; what is behind that is
+-- left
 abbrev pub LeavesBehindHeader : At → (before left : Option (List ℕ)) → Type 0
 LeavesBehindHeader at before left = IfSome before (λ octets. left ≡ Some (drop (octets_in (cut_from at octets).records + 12) octets))
 
 -- the records of a file have at most 2 ^ 40 octets, and they are all of its octets where it ends behind a whole record
 abbrev pub ReachLaw : Type 0
 ReachLaw =
-    (octets : List ℕ) → (octets_in (cut octets).records ≤ max_file) × ((cut octets).end ≡ Well → octets_in (cut octets).records ≡ length octets)
+    (octets : List ℕ) → (octets_in (cut octets).records ≤ max_file) × ((cut octets).end ≡ Well →
+    octets_in (cut octets).records ≡ length octets)

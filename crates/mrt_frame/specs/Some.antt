@@ -24,7 +24,8 @@ AreHeader at header octets = (rest : List ℕ) → TakesHeader at (octets ++ res
 -- whatever stands behind these octets, from this place on this is the first record of them that is read, and they are counted
 abbrev pub GiveRecord : At → Counts → Record → Counts → List ℕ → Type 0
 GiveRecord at first r second octets =
-    (rest : List ℕ) → FindsNext at (octets ++ rest) r (Some rest) × CountsOn (Some (octets ++ rest)) at first (Some rest) (place_behind r) second
+    (rest : List ℕ) → FindsNext at (octets ++ rest) r (Some rest) × CountsOn (Some (octets ++ rest)) at first (Some rest) (place_behind r)
+    second
 
 -- from this place on these octets have no record that is read, and end well, and they are counted
 abbrev pub GiveEnd : At → Counts → Counts → List ℕ → Type 0

@@ -1,5 +1,6 @@
 -- The segments of a path that is merged.
-use Rattle.std.proofs.Common.{◌≡◌, ℕ, zero, suc, ◌+◌, ◌-◌, ◌*◌, ◌&&◌, ◌<◌, ◌≤◌, min, Bool, true, false, cond, leb, not, List, [], ◌∷◌, ◌++◌, length, take, drop, filter, Option, Some, None, IfSome, option_map, option_and_then, refl, sym, ap, subst, ◌∙◌, arith}
+use Rattle.std.proofs.Common.{◌≡◌, ℕ, zero, suc, ◌+◌, ◌-◌, ◌*◌, ◌&&◌, ◌<◌, ◌≤◌, min, Bool, true, false, cond, leb, not, List, [], ◌∷◌, ◌++◌, length, take, drop, filter, Option, Some, None, IfSome}
+use Rattle.std.proofs.Common.{option_map, option_and_then, refl, sym, ap, subst, ◌∙◌, arith}
 use Rattle.std.proofs.lemmas.Bool.{lt-leb, le-leb, leb-true, leb-false}
 use Rattle.std.proofs.lemmas.List.{length-append, length-take-le}
 use Rattle.byteorder.specs.Endian.{big_number}

@@ -59,13 +59,15 @@ malformed_as4_path : path_of Two (attr 2 (2 ∷ 3 ∷ 0 ∷ 10 ∷ 91 ∷ 160 �
 unfolding segments_of segments_within segment
 malformed_as4_path = refl
 
-first_as4_path_counts : path_of Two (attr 2 (2 ∷ 3 ∷ 0 ∷ 10 ∷ 91 ∷ 160 ∷ 0 ∷ 20 ∷ []) ∷ attr 17 (2 ∷ 2 ∷ 0 ∷ 1 ∷ 17 ∷ 112 ∷ 0 ∷ 0 ∷ 0 ∷ 20 ∷ []) ∷ attr 17 (2 ∷ 2 ∷ 0 ∷ 1 ∷ 17 ∷ 113 ∷ 0 ∷ 0 ∷ 0 ∷ 30 ∷ []) ∷ [])
+first_as4_path_counts : path_of Two (attr 2 (2 ∷ 3 ∷ 0 ∷ 10 ∷ 91 ∷ 160 ∷ 0 ∷ 20 ∷ []) ∷ attr 17 (2 ∷ 2 ∷ 0 ∷ 1 ∷ 17 ∷ 112 ∷ 0 ∷ 0 ∷ 0 ∷ 20 ∷ []) ∷ attr 17 (2 ∷ 2 ∷ 0 ∷ 1 ∷ 17 ∷ 113 ∷ 0 ∷ 0 ∷ 0 ∷ 30 ∷
+    []) ∷ [])
     ≡ Segments (sequence (10 ∷ []) ∷ sequence (70000 ∷ 20 ∷ []) ∷ [])
 unfolding segments_of segments_within segment
 first_as4_path_counts = refl
 
 -- where the first is malformed the second doesn't help
-first_is_malformed : path_of Two (attr 2 (2 ∷ 3 ∷ 0 ∷ 10 ∷ 91 ∷ 160 ∷ 0 ∷ 20 ∷ []) ∷ attr 17 (9 ∷ 2 ∷ 0 ∷ 1 ∷ 17 ∷ 112 ∷ 0 ∷ 0 ∷ 0 ∷ 20 ∷ []) ∷ attr 17 (2 ∷ 2 ∷ 0 ∷ 1 ∷ 17 ∷ 112 ∷ 0 ∷ 0 ∷ 0 ∷ 20 ∷ []) ∷ [])
+first_is_malformed : path_of Two (attr 2 (2 ∷ 3 ∷ 0 ∷ 10 ∷ 91 ∷ 160 ∷ 0 ∷ 20 ∷ []) ∷ attr 17 (9 ∷ 2 ∷ 0 ∷ 1 ∷ 17 ∷ 112 ∷ 0 ∷ 0 ∷ 0 ∷ 20 ∷ []) ∷ attr 17 (2 ∷ 2 ∷ 0 ∷ 1 ∷ 17 ∷ 112 ∷ 0 ∷ 0 ∷ 0 ∷ 20 ∷
+    []) ∷ [])
     ≡ Segments (sequence (10 ∷ 23456 ∷ 20 ∷ []) ∷ [])
 unfolding segments_of segments_within segment
 first_is_malformed = refl
@@ -82,13 +84,15 @@ unfolding segments_of segments_within segment
 confed_in_as4_path = refl
 
 -- AGGREGATOR of AS 10 beside AS4_AGGREGATOR
-aggregated_anew : path_of Two (attr 2 (2 ∷ 3 ∷ 0 ∷ 10 ∷ 91 ∷ 160 ∷ 0 ∷ 20 ∷ []) ∷ attr 17 (2 ∷ 2 ∷ 0 ∷ 1 ∷ 17 ∷ 112 ∷ 0 ∷ 0 ∷ 0 ∷ 20 ∷ []) ∷ attr 7 (0 ∷ 10 ∷ 192 ∷ 0 ∷ 2 ∷ 1 ∷ []) ∷ attr 18 (0 ∷ 1 ∷ 17 ∷ 112 ∷ 192 ∷ 0 ∷ 2 ∷ 1 ∷ []) ∷ [])
+aggregated_anew : path_of Two (attr 2 (2 ∷ 3 ∷ 0 ∷ 10 ∷ 91 ∷ 160 ∷ 0 ∷ 20 ∷ []) ∷ attr 17 (2 ∷ 2 ∷ 0 ∷ 1 ∷ 17 ∷ 112 ∷ 0 ∷ 0 ∷ 0 ∷ 20 ∷ []) ∷ attr 7 (0 ∷ 10 ∷ 192 ∷ 0 ∷ 2 ∷ 1 ∷ []) ∷ attr 18 (0 ∷ 1 ∷
+    17 ∷ 112 ∷ 192 ∷ 0 ∷ 2 ∷ 1 ∷ []) ∷ [])
     ≡ Segments (sequence (10 ∷ 23456 ∷ 20 ∷ []) ∷ [])
 unfolding segments_of segments_within segment
 aggregated_anew = refl
 
 -- AGGREGATOR of AS_TRANS beside AS4_AGGREGATOR
-aggregated_in_four_octets : path_of Two (attr 2 (2 ∷ 3 ∷ 0 ∷ 10 ∷ 91 ∷ 160 ∷ 0 ∷ 20 ∷ []) ∷ attr 17 (2 ∷ 2 ∷ 0 ∷ 1 ∷ 17 ∷ 112 ∷ 0 ∷ 0 ∷ 0 ∷ 20 ∷ []) ∷ attr 7 (91 ∷ 160 ∷ 192 ∷ 0 ∷ 2 ∷ 1 ∷ []) ∷ attr 18 (0 ∷ 1 ∷ 17 ∷ 112 ∷ 192 ∷ 0 ∷ 2 ∷ 1 ∷ []) ∷ [])
+aggregated_in_four_octets : path_of Two (attr 2 (2 ∷ 3 ∷ 0 ∷ 10 ∷ 91 ∷ 160 ∷ 0 ∷ 20 ∷ []) ∷ attr 17 (2 ∷ 2 ∷ 0 ∷ 1 ∷ 17 ∷ 112 ∷ 0 ∷ 0 ∷ 0 ∷ 20 ∷ []) ∷ attr 7 (91 ∷ 160 ∷ 192 ∷ 0 ∷ 2 ∷ 1 ∷ []) ∷ attr
+    18 (0 ∷ 1 ∷ 17 ∷ 112 ∷ 192 ∷ 0 ∷ 2 ∷ 1 ∷ []) ∷ [])
     ≡ Segments (sequence (10 ∷ []) ∷ sequence (70000 ∷ 20 ∷ []) ∷ [])
 unfolding segments_of segments_within segment
 aggregated_in_four_octets = refl
@@ -99,18 +103,21 @@ aggregated_once : path_of Two (attr 2 (2 ∷ 3 ∷ 0 ∷ 10 ∷ 91 ∷ 160 ∷ 0
 unfolding segments_of segments_within segment
 aggregated_once = refl
 
-as4_aggregator_alone : path_of Two (attr 2 (2 ∷ 3 ∷ 0 ∷ 10 ∷ 91 ∷ 160 ∷ 0 ∷ 20 ∷ []) ∷ attr 17 (2 ∷ 2 ∷ 0 ∷ 1 ∷ 17 ∷ 112 ∷ 0 ∷ 0 ∷ 0 ∷ 20 ∷ []) ∷ attr 18 (0 ∷ 1 ∷ 17 ∷ 112 ∷ 192 ∷ 0 ∷ 2 ∷ 1 ∷ []) ∷ [])
+as4_aggregator_alone : path_of Two (attr 2 (2 ∷ 3 ∷ 0 ∷ 10 ∷ 91 ∷ 160 ∷ 0 ∷ 20 ∷ []) ∷ attr 17 (2 ∷ 2 ∷ 0 ∷ 1 ∷ 17 ∷ 112 ∷ 0 ∷ 0 ∷ 0 ∷ 20 ∷ []) ∷ attr 18 (0 ∷ 1 ∷ 17 ∷ 112 ∷ 192 ∷ 0 ∷ 2 ∷ 1 ∷ []) ∷
+    [])
     ≡ Segments (sequence (10 ∷ []) ∷ sequence (70000 ∷ 20 ∷ []) ∷ [])
 unfolding segments_of segments_within segment
 as4_aggregator_alone = refl
 
 -- an AGGREGATOR of 8 octets, or an AS4_AGGREGATOR of 6, is as if absent
-other_lengths : path_of Two (attr 2 (2 ∷ 3 ∷ 0 ∷ 10 ∷ 91 ∷ 160 ∷ 0 ∷ 20 ∷ []) ∷ attr 17 (2 ∷ 2 ∷ 0 ∷ 1 ∷ 17 ∷ 112 ∷ 0 ∷ 0 ∷ 0 ∷ 20 ∷ []) ∷ attr 7 (0 ∷ 0 ∷ 0 ∷ 10 ∷ 192 ∷ 0 ∷ 2 ∷ 1 ∷ []) ∷ attr 18 (0 ∷ 1 ∷ 17 ∷ 112 ∷ 192 ∷ 0 ∷ 2 ∷ 1 ∷ []) ∷ [])
+other_lengths : path_of Two (attr 2 (2 ∷ 3 ∷ 0 ∷ 10 ∷ 91 ∷ 160 ∷ 0 ∷ 20 ∷ []) ∷ attr 17 (2 ∷ 2 ∷ 0 ∷ 1 ∷ 17 ∷ 112 ∷ 0 ∷ 0 ∷ 0 ∷ 20 ∷ []) ∷ attr 7 (0 ∷ 0 ∷ 0 ∷ 10 ∷ 192 ∷ 0 ∷ 2 ∷ 1 ∷ []) ∷ attr 18 (0
+    ∷ 1 ∷ 17 ∷ 112 ∷ 192 ∷ 0 ∷ 2 ∷ 1 ∷ []) ∷ [])
     ≡ Segments (sequence (10 ∷ []) ∷ sequence (70000 ∷ 20 ∷ []) ∷ [])
 unfolding segments_of segments_within segment
 other_lengths = refl
 
-other_lengths_of_as4_aggregator : path_of Two (attr 2 (2 ∷ 3 ∷ 0 ∷ 10 ∷ 91 ∷ 160 ∷ 0 ∷ 20 ∷ []) ∷ attr 17 (2 ∷ 2 ∷ 0 ∷ 1 ∷ 17 ∷ 112 ∷ 0 ∷ 0 ∷ 0 ∷ 20 ∷ []) ∷ attr 7 (0 ∷ 10 ∷ 192 ∷ 0 ∷ 2 ∷ 1 ∷ []) ∷ attr 18 (0 ∷ 10 ∷ 192 ∷ 0 ∷ 2 ∷ 1 ∷ []) ∷ [])
+other_lengths_of_as4_aggregator : path_of Two (attr 2 (2 ∷ 3 ∷ 0 ∷ 10 ∷ 91 ∷ 160 ∷ 0 ∷ 20 ∷ []) ∷ attr 17 (2 ∷ 2 ∷ 0 ∷ 1 ∷ 17 ∷ 112 ∷ 0 ∷ 0 ∷ 0 ∷ 20 ∷ []) ∷ attr 7 (0 ∷ 10 ∷ 192 ∷ 0 ∷ 2 ∷ 1 ∷ []) ∷
+    attr 18 (0 ∷ 10 ∷ 192 ∷ 0 ∷ 2 ∷ 1 ∷ []) ∷ [])
     ≡ Segments (sequence (10 ∷ []) ∷ sequence (70000 ∷ 20 ∷ []) ∷ [])
 unfolding segments_of segments_within segment
 other_lengths_of_as4_aggregator = refl

@@ -1,5 +1,6 @@
 -- The segments of a value, one behind the other.
-use Rattle.std.proofs.Common.{◌≡◌, ℕ, zero, suc, ◌+◌, ◌*◌, ◌<◌, ◌≤◌, ◌==◌, ◌&&◌, Bool, cond, true, false, ltb, leb, List, [], ◌∷◌, ◌++◌, length, take, drop, Option, Some, None, is_some, unwrap_or, option_map, option_and_then, refl, sym, ap, ap₂, subst, ◌∙◌, arith, length-drop}
+use Rattle.std.proofs.Common.{◌≡◌, ℕ, zero, suc, ◌+◌, ◌*◌, ◌<◌, ◌≤◌, ◌==◌, ◌&&◌, Bool, cond, true, false, ltb, leb, List, [], ◌∷◌, ◌++◌, length, take, drop, Option, Some, None, is_some, unwrap_or}
+use Rattle.std.proofs.Common.{option_map, option_and_then, refl, sym, ap, ap₂, subst, ◌∙◌, arith, length-drop}
 use Rattle.std.proofs.lemmas.Bool.{ltb-true, lt-ltb, leb-true, le-leb, eqb-true, and_parts, and_from}
 use Rattle.std.proofs.lemmas.List.{take-append-drop, length-take-le, length-append, append_assoc}
 use Rattle.std.proofs.Math.Seq.{drop-append_seam, take-add}
@@ -8,7 +9,8 @@ use Rattle.path_attrs.specs.declared.as_path.Width.{Width}
 use Rattle.path_attrs.specs.declared.as_path.SegKind.{SegKind}
 use Rattle.path_attrs.specs.declared.as_path.SegKind.TheVariants.{Set, Sequence, ConfedSequence, ConfedSet}
 use Rattle.path_attrs.specs.declared.as_path.Segment.{Segment}
-use Rattle.path_attrs.specs.Segments.{octets_in, code_of, segment_kind, big_numbers, segment_of, segment, segments_within, segments_of, segments_in, NumbersAreEncoded, SegmentIsEncoded, SegmentsAreEncoded, ValueLaw}
+use Rattle.path_attrs.specs.Segments.{octets_in, code_of, segment_kind, big_numbers, segment_of, segment, segments_within, segments_of, segments_in, NumbersAreEncoded, SegmentIsEncoded}
+use Rattle.path_attrs.specs.Segments.{SegmentsAreEncoded, ValueLaw}
 use Rattle.path_attrs.proofs.Encodings.{big_number-append, big_number-take}
 
 -- numbers and their octets

@@ -1,7 +1,8 @@
 -- The AS path of a route. A TABLE_DUMP record has AS numbers of two octets, where AS_TRANS stands for each greater one; then
 -- AS4_PATH may have the numbers themselves (RFC 6793). How the two are merged follows section 4.2.3 of that document. What
 -- it leaves open, or says of a speaker with confederations of its own, is decided here, as is said at each line.
-use Rattle.std.specs.Prelude.{◌≡◌, ◌≤◌, ℕ, zero, suc, ◌+◌, ◌-◌, ◌==◌, Bool, true, false, not, ◌&&◌, nat_le, List, [], ◌∷◌, ◌++◌, length, take, filter, Option, Some, None, option_map, option_and_then, Result, Ok, Err, if◌then◌else◌}
+use Rattle.std.specs.Prelude.{◌≡◌, ◌≤◌, ℕ, zero, suc, ◌+◌, ◌-◌, ◌==◌, Bool, true, false, not, ◌&&◌, nat_le, List, [], ◌∷◌, ◌++◌, length}
+use Rattle.std.specs.Prelude.{take, filter, Option, Some, None, option_map, option_and_then, Result, Ok, Err, if◌then◌else◌}
 use Rattle.std.specs.List.{list_all}
 use Rattle.byteorder.specs.Endian.{big_number}
 use Rattle.path_attrs.specs.Attributes.{Attribute, first_value}

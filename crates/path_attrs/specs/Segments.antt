@@ -1,5 +1,6 @@
 -- The segments of an AS_PATH (RFC 4271, section 4.3; RFC 5065, section 3). Where a value is malformed: RFC 7606, section 7.2.
-use Rattle.std.specs.Prelude.{◌≡◌, ℕ, zero, suc, ◌*◌, ◌<◌, ◌==◌, ◌&&◌, nat_lt, nat_le, List, [], ◌∷◌, ◌++◌, length, drop, Option, Some, None, option_map, option_and_then, unwrap_or, if◌then◌else◌, ◌↔◌}
+use Rattle.std.specs.Prelude.{◌≡◌, ℕ, zero, suc, ◌*◌, ◌<◌, ◌==◌, ◌&&◌, nat_lt, nat_le, List, [], ◌∷◌, ◌++◌, length, drop, Option, Some}
+use Rattle.std.specs.Prelude.{None, option_map, option_and_then, unwrap_or, if◌then◌else◌, ◌↔◌}
 use Rattle.byteorder.specs.Endian.{big_number}
 use Rattle.path_attrs.specs.declared.as_path.Width.{Width}
 use Rattle.path_attrs.specs.declared.as_path.Width.TheVariants.{Two, Four}

@@ -1,5 +1,6 @@
 -- A table of paths with their times, when a path is added.
-use Rattle.std.proofs.Common.{◌≡◌, ◌≢◌, ℕ, zero, suc, ◌+◌, ◌^◌, ◌<◌, ◌≤◌, Bool, true, false, not, cond, Option, IfSome, ◌&&◌, ◌||◌, leb, List, [], ◌∷◌, ◌++◌, length, get_or, set, slice_get, Some, None, option_map, bytes_eq, All, refl, sym, ap, ap₂, ◌∙◌, arith, length-append}
+use Rattle.std.proofs.Common.{◌≡◌, ◌≢◌, ℕ, zero, suc, ◌+◌, ◌^◌, ◌<◌, ◌≤◌, Bool, true, false, not, cond, Option, IfSome, ◌&&◌, ◌||◌, leb, List, [], ◌∷◌, ◌++◌, length, get_or, set, slice_get, Some}
+use Rattle.std.proofs.Common.{None, option_map, bytes_eq, All, refl, sym, ap, ap₂, ◌∙◌, arith, length-append}
 use Rattle.std.specs.Prelude.{sum_by, nat_le, IfNone}
 use Rattle.std.specs.List.{list_any, list_all}
 use Rattle.std.proofs.lemmas.Bool.{both_ways, le-leb, leb-true, and_parts}

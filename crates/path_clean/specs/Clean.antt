@@ -1,5 +1,6 @@
 -- What a route's AS path is cleaned to. The first rule that sets the route aside decides.
-use Rattle.std.specs.Prelude.{◌≡◌, ℕ, ◌==◌, Bool, true, false, not, ◌&&◌, nat_lt, nat_eq, List, [], ◌∷◌, length, take, Option, Some, None, if◌then◌else◌}
+use Rattle.std.specs.Prelude.{◌≡◌, ℕ, ◌==◌, Bool, true, false, not, ◌&&◌, nat_lt, nat_eq, List, [], ◌∷◌, length, take, Option, Some, None}
+use Rattle.std.specs.Prelude.{if◌then◌else◌}
 use Rattle.std.specs.List.{list_any, list_all, flat_map, before_first, dedup}
 use Rattle.path_attrs.specs.Attributes.{Attribute}
 use Rattle.path_attrs.specs.PathOf.{is_confed, path_of}

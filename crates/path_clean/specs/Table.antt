@@ -1,5 +1,6 @@
 -- The distinct paths, each with how often it was added.
-use Rattle.std.specs.Prelude.{◌≡◌, ◌<◌, ℕ, suc, ◌+◌, ◌-◌, ◌^◌, min, not, List, [], ◌∷◌, length, map, filter, count_by, fold, Option, Some, None, option_map, if◌then◌else◌, bytes_eq}
+use Rattle.std.specs.Prelude.{◌≡◌, ◌<◌, ℕ, suc, ◌+◌, ◌-◌, ◌^◌, min, not, List, [], ◌∷◌, length, map, filter, count_by, fold, Option, Some}
+use Rattle.std.specs.Prelude.{None, option_map, if◌then◌else◌, bytes_eq}
 use Rattle.tor_arena.specs.Growth.{one_more}
 use Rattle.path_clean.specs.declared.table.Added.{Added}
 use Rattle.path_clean.specs.declared.table.Added.TheVariants.{Known, New}

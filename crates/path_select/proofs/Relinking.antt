@@ -1,5 +1,6 @@
 -- Why the walk of a path that was lost by one triple alone refutes each later path with this triple.
-use Rattle.std.proofs.Common.{◌≡◌, ◌≢◌, ℕ, zero, suc, ◌+◌, ◌<◌, ◌⊎◌, inl, inr, List, [], ◌∷◌, ◌++◌, Some, length, map, refl, sym, ap, ◌∙◌, subst, arith, append_assoc, All, Contains, eq-eqb, ne_eqb, length-append, append-nil, IfSome, IsTrue}
+use Rattle.std.proofs.Common.{◌≡◌, ◌≢◌, ℕ, zero, suc, ◌+◌, ◌<◌, ◌⊎◌, inl, inr, List, [], ◌∷◌, ◌++◌, Some, length, map, refl, sym, ap, ◌∙◌, subst, arith, append_assoc, All, Contains, eq-eqb, ne_eqb}
+use Rattle.std.proofs.Common.{length-append, append-nil, IfSome, IsTrue}
 use Rattle.std.specs.Prelude.{slice_get}
 use Rattle.std.proofs.lemmas.Bool.{cases_eq}
 use Rattle.relationships.specs.declared.walk.Link.{Link}

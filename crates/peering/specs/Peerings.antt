@@ -1,5 +1,6 @@
 -- Edges that may be peerings, and what labels leave of paths.
-use Rattle.std.specs.Prelude.{◌≡◌, ℕ, ◌<◌, ◌⊎◌, Bool, List, All, Contains, length, slice_index_or, slice_set, IsTrue, IsFalse, [], ◌∷◌, ◌++◌}
+use Rattle.std.specs.Prelude.{◌≡◌, ℕ, ◌<◌, ◌⊎◌, Bool, List, All, Contains, length, slice_index_or, slice_set, IsTrue, IsFalse, [], ◌∷◌}
+use Rattle.std.specs.Prelude.{◌++◌}
 use Rattle.std.specs.List.{list_any}
 use Rattle.relationships.specs.declared.label.Label.{Label}
 use Rattle.relationships.specs.Relationship.{ValleyFree}

@@ -1,5 +1,6 @@
 //! Which kept paths hold an edge.
-ghost use Rattle.std.specs.Prelude.{◌≡◌, ◌<◌, ◌⊎◌, ◌++◌, ◌∷◌, [], ℕ, All, Contains, length, replicate, slice_set, slice_index_or, IsTrue, IsFalse, false, IfOk, OnOk};
+ghost use Rattle.std.specs.Prelude.{◌≡◌, ◌<◌, ◌⊎◌, ◌++◌, ◌∷◌, [], ℕ, All, Contains, length, replicate, slice_set, slice_index_or, IsTrue};
+ghost use Rattle.std.specs.Prelude.{IsFalse, false, IfOk, OnOk};
 ghost use Rattle.relationships.specs.Graph.{edges};
 ghost use Rattle.peering.specs.Peerings.{holds, HasStep, IsPathAdded};
 

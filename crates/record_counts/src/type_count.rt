@@ -1,3 +1,5 @@
+//! The types of records, each with its count.
+
 /// The type and the subtype of a record (RFC 6396, section 2). They are ordered by type, and then by subtype.
 #[derive(Clone, Copy, Debug, PartialEq, Eq, PartialOrd, Ord)]
 pub struct RecordType {

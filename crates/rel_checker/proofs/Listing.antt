@@ -1,5 +1,6 @@
 -- The edges of paths, as a table takes them in.
-use Rattle.std.proofs.Common.{◌≡◌, ℕ, suc, ap₂, ◌<◌, inl, inr, false, not, ◌||◌, List, [], ◌∷◌, ◌++◌, filter, fold, flat_map, length, max, slice_get, refl, sym, ap, ◌∙◌, subst, arith, append_assoc, append-nil}
+use Rattle.std.proofs.Common.{◌≡◌, ℕ, suc, ap₂, ◌<◌, inl, inr, false, not, ◌||◌, List, [], ◌∷◌, ◌++◌, filter, fold, flat_map, length, max, slice_get, refl, sym, ap, ◌∙◌, subst, arith, append_assoc}
+use Rattle.std.proofs.Common.{append-nil}
 use Rattle.std.specs.List.{list_any}
 use Rattle.std.proofs.lemmas.Bool.{cases_Bool}
 use Rattle.std.proofs.lemmas.List.{length-map}

@@ -1,5 +1,6 @@
 -- Pairs of steps that are noted once.
-use Rattle.std.proofs.Common.{Result, Ok, Err, OnOk, ◌≡◌, inl, inr, ℕ, ◌+◌, ◌-◌, ◌<◌, ◌≤◌, Bool, true, false, List, [], ◌∷◌, ◌++◌, length, get_or, replicate, slice_index, refl, sym, ap, ◌∙◌, subst, arith, Contains}
+use Rattle.std.proofs.Common.{Result, Ok, Err, OnOk, ◌≡◌, inl, inr, ℕ, ◌+◌, ◌-◌, ◌<◌, ◌≤◌, Bool, true, false, List, [], ◌∷◌, ◌++◌, length, get_or, replicate, slice_index, refl, sym, ap, ◌∙◌, subst}
+use Rattle.std.proofs.Common.{arith, Contains}
 use Rattle.std.proofs.lemmas.List.{length-map, length-replicate}
 use Rattle.std.proofs.lemmas.List.Elements.{Contains-push_cases}
 use Rattle.tor_arena.specs.Limits.{most_places}
@@ -145,7 +146,8 @@ many_same' up up' a b n rows rows' s many = s.0 ∙ length-with_conflicting up u
 
 pub noted_path_more : (lines : List EdgeLine) (path : List ℕ) (steps : List Step) (at : ℕ) (d d' : Step) (implied conflicting implied' conflicting' : List (List ℕ)) → IsProper (flipped_orders lines) →
     AreCodedSteps (edges_of lines) path steps → 2 ≤ at → at < length path → length implied ≡ length lines →
-    SameRows implied' (with_implied (climbs_on lines (get_or steps (at - 2) d)) (climbs_on lines (get_or steps (at - 1) d')) (place_in (get_or steps (at - 2) d)) (place_in (get_or steps (at - 1) d')) implied) →
+    SameRows implied' (with_implied (climbs_on lines (get_or steps (at - 2) d)) (climbs_on lines (get_or steps (at - 1) d')) (place_in (get_or steps (at - 2) d)) (place_in (get_or steps (at - 1) d'))
+    implied) →
     SameRows conflicting'
     (with_conflicting (climbs_on lines (get_or steps (at - 2) d)) (climbs_on lines (get_or steps (at - 1) d')) (place_in (get_or steps (at - 2) d)) (place_in (get_or steps (at - 1) d')) conflicting) →
     (paths : List (List ℕ)) → IsBuilt (flipped_orders lines) (TripleBefore paths path at) implied conflicting → IsBuilt (flipped_orders lines) (TripleBefore paths path (at + 1)) implied' conflicting'

@@ -1,5 +1,6 @@
 -- A search along rows, in rounds: what one step adds, and what a whole search comes to.
-use Rattle.std.proofs.Common.{false, ◌≡◌, ◌≢◌, ◌⊎◌, inl, inr, ℕ, ◌+◌, ◌<◌, ◌≤◌, List, [], ◌∷◌, ◌++◌, Some, length, set, get_or, slice_get, refl, sym, ap, ◌∙◌, subst, arith, Contains, append_assoc, append-nil, length-append, length-set, eq-eqb, if◌then◌else◌, nat_eq}
+use Rattle.std.proofs.Common.{false, ◌≡◌, ◌≢◌, ◌⊎◌, inl, inr, ℕ, ◌+◌, ◌<◌, ◌≤◌, List, [], ◌∷◌, ◌++◌, Some, length, set, get_or, slice_get, refl, sym, ap, ◌∙◌, subst, arith, Contains, append_assoc}
+use Rattle.std.proofs.Common.{append-nil, length-append, length-set, eq-eqb, if◌then◌else◌, nat_eq}
 use Rattle.std.proofs.lemmas.Bool.{cases_lt, cases_Bool, eqb-true}
 use Rattle.std.proofs.lemmas.Option.{get_or_from_slice_get, same_Some, slice_get_within}
 use Rattle.std.proofs.lemmas.List.Elements.{Contains-push, Contains-append_left, Contains-append_right, Contains-append_cases}

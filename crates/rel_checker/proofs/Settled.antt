@@ -1,5 +1,6 @@
 -- What the earlier rules give of a file: its edges, and that there is no valley.
-use Rattle.std.proofs.Common.{◌≡◌, ◌⊎◌, inl, inr, ℕ, zero, suc, ◌+◌, ◌-◌, ◌<◌, ◌≤◌, max, Bool, true, false, not, List, [], ◌∷◌, ◌++◌, Some, None, is_none, length, map, flat_map, filter, take, sum_by, get_or, slice_get, slice_index, refl, sym, ap, ◌∙◌, subst, arith, All, Contains, length-append, eq-eqb}
+use Rattle.std.proofs.Common.{◌≡◌, ◌⊎◌, inl, inr, ℕ, zero, suc, ◌+◌, ◌-◌, ◌<◌, ◌≤◌, max, Bool, true, false, not, List, [], ◌∷◌, ◌++◌, Some, None, is_none, length, map, flat_map, filter, take, sum_by}
+use Rattle.std.proofs.Common.{get_or, slice_get, slice_index, refl, sym, ap, ◌∙◌, subst, arith, All, Contains, length-append, eq-eqb}
 use Rattle.std.proofs.Math.Dec.{lit≤}
 use Rattle.std.specs.List.{AllByRecursion}
 use Rattle.std.proofs.lemmas.Bool.{false≢true, cases_lt, cases_Bool, cases_order, both_ways}

@@ -3,7 +3,8 @@ use Rattle.std.proofs.Common.{◌≡◌, ℕ, ◌+◌, ◌≤◌, ◌∙◌, ref
 use Rattle.std.proofs.lemmas.Bool.{cases_order}
 use Rattle.result_text.specs.declared.file.ResultFile.{ResultFile}
 use Rattle.result_rules.specs.declared.rule.Rule.{Rule}
-use Rattle.result_rules.specs.declared.rule.Rule.TheVariants.{RatioBounded, PathsCleaned, PathsDistinct, LostRefuted, EdgesListed, KeptValleyFree, SupportCounted, OrdersShown, MarksBorneOut, TotalsRight}
+use Rattle.result_rules.specs.declared.rule.Rule.TheVariants.{RatioBounded, PathsCleaned, PathsDistinct, LostRefuted, EdgesListed, KeptValleyFree, SupportCounted, OrdersShown, MarksBorneOut}
+use Rattle.result_rules.specs.declared.rule.Rule.TheVariants.{TotalsRight}
 use Rattle.result_rules.specs.Rules.{rule_number, line_for, IsMet, Accepts, BreaksFirst, IsRefused}
 use Rattle.rel_checker.specs.Steps.{MetUpTo}
 use Rattle.result_rules.specs.Judging.{Judges}

@@ -1,5 +1,6 @@
 -- How steps go under labels, and a walk over them with a flag.
-use Rattle.std.proofs.Common.{◌≡◌, ◌≢◌, ◌↔◌, ℕ, suc, ◌+◌, ◌<◌, ◌≤◌, inl, inr, Bool, true, false, not, List, [], ◌∷◌, length, get_or, drop, min, max, refl, sym, ap, ap₂, ◌∙◌, arith, IsTrue, if◌then◌else◌, drop-cons, add-one, le-ltb, lt-ltb}
+use Rattle.std.proofs.Common.{◌≡◌, ◌≢◌, ◌↔◌, ℕ, suc, ◌+◌, ◌<◌, ◌≤◌, inl, inr, Bool, true, false, not, List, [], ◌∷◌, length, get_or, drop, min, max, refl, sym, ap, ap₂, ◌∙◌, arith, IsTrue}
+use Rattle.std.proofs.Common.{if◌then◌else◌, drop-cons, add-one, le-ltb, lt-ltb}
 use Rattle.std.proofs.lemmas.Bool.{false≢true, cases_order}
 use Rattle.result_text.specs.EdgeLabels.{labels_in}
 use Rattle.relationships.specs.declared.label.End.{End}

@@ -1,5 +1,6 @@
 -- The steps of paths.
-use Rattle.std.proofs.Common.{◌≡◌, ℕ, zero, suc, ◌+◌, ◌-◌, ◌<◌, ◌≤◌, inl, inr, true, false, List, [], ◌∷◌, ◌++◌, fold, length, get_or, take, length-take, refl, sym, ap, ◌∙◌, subst, arith, All, slice_get, Some, length-append, if◌then◌else◌}
+use Rattle.std.proofs.Common.{◌≡◌, ℕ, zero, suc, ◌+◌, ◌-◌, ◌<◌, ◌≤◌, inl, inr, true, false, List, [], ◌∷◌, ◌++◌, fold, length, get_or, take, length-take, refl, sym, ap, ◌∙◌, subst, arith, All}
+use Rattle.std.proofs.Common.{slice_get, Some, length-append, if◌then◌else◌}
 use Rattle.std.specs.List.{list_any}
 use Rattle.std.proofs.lemmas.Bool.{cases_Bool}
 use Rattle.std.proofs.lemmas.Option.{slice_get_within}

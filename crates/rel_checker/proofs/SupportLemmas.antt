@@ -1,5 +1,6 @@
 -- Counts for the edges of a table.
-use Rattle.std.proofs.Common.{◌≡◌, ℕ, ◌+◌, ◌<◌, ◌≤◌, inl, inr, ◌⊎◌, not, min, max, ◌||◌, ◌==◌, Bool, true, false, List, [], ◌∷◌, length, take, get_or, replicate, slice_index, count_by, nat_eq, Some, slice_get, refl, sym, ap, ap₂, ◌∙◌, arith, if◌then◌else◌, eq-eqb}
+use Rattle.std.proofs.Common.{◌≡◌, ℕ, ◌+◌, ◌<◌, ◌≤◌, inl, inr, ◌⊎◌, not, min, max, ◌||◌, ◌==◌, Bool, true, false, List, [], ◌∷◌, length, take, get_or, replicate, slice_index, count_by, nat_eq, Some}
+use Rattle.std.proofs.Common.{slice_get, refl, sym, ap, ap₂, ◌∙◌, arith, if◌then◌else◌, eq-eqb}
 use Rattle.std.specs.List.{list_any}
 use Rattle.std.proofs.lemmas.Bool.{eqb-false, or_parts, and_parts, not-true, cases_Bool, cases_lt, both_ways, false_from_ne_true, ne_eqb}
 use Rattle.std.proofs.lemmas.Option.{slice_get-get_or, same_Some}
@@ -174,7 +175,8 @@ counts-more es lines i line old new within is counts risen = (
   λ k inside. risen.1 k inside ∙ ap (λ n. n + support (kept_in (line ∷ [])) (edge_at es k)) (counts.1 k inside) ∙ sym (support-more (edge_at es k) lines i line within is),
 )
 
-pub counts-few : (es : List Edge) (lines : List PathLine) (i : ℕ) (counts : List ℕ) → i ≤ max_paths → AreCounts es (support (kept_in (take i lines))) counts → (k : ℕ) → slice_index counts k ≤ max_paths
+pub counts-few : (es : List Edge) (lines : List PathLine) (i : ℕ) (counts : List ℕ) → i ≤ max_paths → AreCounts es (support (kept_in (take i lines))) counts → (k : ℕ) →
+    slice_index counts k ≤ max_paths
 counts-few es lines i counts few are k =
     elim (cases_lt k (length es)) [
       | inl within ↦

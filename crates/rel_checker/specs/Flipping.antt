@@ -1,7 +1,8 @@
 -- Which orders imply which. Each edge has one order against its label; that the edge flips means that it has this order. Edge i
 -- implies edge j where, along a kept path, the order against i's label implies the order against j's label, and conflicts with it
 -- where it rules that order out. So the closure of an order against a label is read off the edges alone.
-use Rattle.std.specs.Prelude.{◌≡◌, ◌⊎◌, ◌↔◌, ℕ, ◌+◌, ◌-◌, ◌*◌, ◌%◌, ◌^◌, ◌<◌, Bool, true, false, nat_lt, if◌then◌else◌, List, ◌++◌, [], ◌∷◌, length, map, Some, All, Contains, slice_get, slice_index, slice_index_or}
+use Rattle.std.specs.Prelude.{◌≡◌, ◌⊎◌, ◌↔◌, ℕ, ◌+◌, ◌-◌, ◌*◌, ◌%◌, ◌^◌, ◌<◌, Bool, true, false, nat_lt, if◌then◌else◌, List, ◌++◌, [], ◌∷◌}
+use Rattle.std.specs.Prelude.{length, map, Some, All, Contains, slice_get, slice_index, slice_index_or}
 use Rattle.relationships.specs.declared.label.End.{End}
 use Rattle.relationships.specs.declared.label.Label.{Label}
 use Rattle.relationships.specs.declared.label.Label.TheVariants as label

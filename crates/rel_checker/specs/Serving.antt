@@ -1,5 +1,6 @@
 -- What open lines serve for.
-use Rattle.std.specs.Prelude.{◌≡◌, ◌⊎◌, ◌↔◌, ℕ, ◌<◌, ◌≤◌, Bool, true, false, IsTrue, IsFalse, List, length, take, Option, Some, None, All, Any, Contains, slice_get}
+use Rattle.std.specs.Prelude.{◌≡◌, ◌⊎◌, ◌↔◌, ℕ, ◌<◌, ◌≤◌, Bool, true, false, IsTrue, IsFalse, List, length, take, Option, Some, None, All}
+use Rattle.std.specs.Prelude.{Any, Contains, slice_get}
 use Rattle.relationships.specs.declared.label.Label.{Label}
 use Rattle.relationships.specs.declared.label.Label.TheVariants as label
 use Rattle.relationships.specs.Graph.{Edge}
@@ -13,7 +14,8 @@ use Rattle.result_text.specs.declared.file.ResultFile.{ResultFile}
 use Rattle.result_rules.specs.File.{claim_on, its_claims, its_probes}
 use Rattle.rel_checker.specs.Searching.{RoundCameTo}
 use Rattle.result_rules.specs.Rules.{ForSome, ServesNewEdge, IsMarkedRightly}
-use Rattle.rel_checker.specs.Flipping.{FlipsTo, IsFlipped, edges_of, flipped_orders, kept_lines, IsBuiltFor, IsProper, FlipsLeaveNoValley, AreApart}
+use Rattle.rel_checker.specs.Flipping.{FlipsTo, IsFlipped, edges_of, flipped_orders, kept_lines, IsBuiltFor, IsProper, FlipsLeaveNoValley}
+use Rattle.rel_checker.specs.Flipping.{AreApart}
 
 -- the edge is open, and no peering
 abbrev pub is_wanted : Mark → Label → Bool

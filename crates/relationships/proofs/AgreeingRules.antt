@@ -1,5 +1,6 @@
 -- The rules with givens, of which those whose two are no edge bind nothing.
-use Rattle.std.proofs.Common.{◌≡◌, ◌≢◌, ◌↔◌, ℕ, min, max, inl, inr, true, false, Bool, List, [], ◌∷◌, ◌++◌, get_or, map, is_none, Option, if◌then◌else◌, refl, sym, ◌∙◌, subst, arith, append_assoc, append-nil, All, Contains, IsTrue}
+use Rattle.std.proofs.Common.{◌≡◌, ◌≢◌, ◌↔◌, ℕ, min, max, inl, inr, true, false, Bool, List, [], ◌∷◌, ◌++◌, get_or, map, is_none, Option, if◌then◌else◌, refl, sym, ◌∙◌, subst, arith, append_assoc}
+use Rattle.std.proofs.Common.{append-nil, All, Contains, IsTrue}
 use Rattle.std.specs.List.{list_any, AllByRecursion}
 use Rattle.std.proofs.lemmas.Bool.{cases_Bool}
 use Rattle.std.proofs.lemmas.List.Elements.{All-append, All-contains, All-contains_itself, All-from_get_or, All-from_recursion, recursion_from_All, Contains-get_or, Contains-append_cases}

@@ -1,5 +1,6 @@
 -- What the rules of a checker give: the keeping law and the marking law.
-use Rattle.std.proofs.Common.{◌↔◌, IsTrue, ◌≡◌, ◌≢◌, ℕ, ◌+◌, ◌<◌, ◌⊎◌, inl, inr, true, List, [], ◌∷◌, ◌++◌, map, refl, sym, ap, ◌∙◌, subst, arith, All, Any, Contains, Option, Some, None, is_none, filter, flat_map, not, get_or, length, zero, suc, eq-eqb, false, Bool}
+use Rattle.std.proofs.Common.{◌↔◌, IsTrue, ◌≡◌, ◌≢◌, ℕ, ◌+◌, ◌<◌, ◌⊎◌, inl, inr, true, List, [], ◌∷◌, ◌++◌, map, refl, sym, ap, ◌∙◌, subst, arith, All, Any, Contains, Option, Some, None, is_none}
+use Rattle.std.proofs.Common.{filter, flat_map, not, get_or, length, zero, suc, eq-eqb, false, Bool}
 use Rattle.std.proofs.lemmas.Bool.{both_ways, false≢true, cases_Bool, cases_order}
 use Rattle.std.proofs.lemmas.List.{map-append}
 use Rattle.std.proofs.lemmas.List.Elements.{All-append, All-contains, All-cons, All-nil, All-push, All-head, All-tail, All-from_recursion, recursion_from_All}

@@ -1,5 +1,6 @@
 -- What a consistent closure allows.
-use Rattle.std.proofs.Common.{◌≡◌, ◌≢◌, ◌↔◌, ℕ, zero, suc, ◌<◌, ◌⊎◌, inl, inr, Bool, true, false, List, [], ◌∷◌, ◌++◌, length, get_or, refl, sym, ap, ◌∙◌, subst, arith, append_assoc, IsTrue, flat_map, ◌==◌, ◌&&◌, ◌||◌}
+use Rattle.std.proofs.Common.{◌≡◌, ◌≢◌, ◌↔◌, ℕ, zero, suc, ◌<◌, ◌⊎◌, inl, inr, Bool, true, false, List, [], ◌∷◌, ◌++◌, length, get_or, refl, sym, ap, ◌∙◌, subst, arith, append_assoc, IsTrue, flat_map}
+use Rattle.std.proofs.Common.{◌==◌, ◌&&◌, ◌||◌}
 use Rattle.std.proofs.lemmas.Bool.{cases_Bool, cases_order, and_parts, or_cases, both_ways, eqb-true, eq-eqb}
 use Rattle.relationships.specs.declared.label.End.{End}
 use Rattle.relationships.specs.Relationship.{Orientation, label_of, labels_of, is_low, is_high, is_over}

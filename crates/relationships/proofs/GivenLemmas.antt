@@ -1,5 +1,6 @@
 -- Returns of givens: what is said of paths is said of givens by them.
-use Rattle.std.proofs.Common.{◌≡◌, ◌≢◌, ◌↔◌, ℕ, zero, suc, ◌<◌, ◌≤◌, ◌⊎◌, inl, inr, Bool, true, false, not, min, max, List, [], ◌∷◌, ◌++◌, length, get_or, map, filter, flat_map, if◌then◌else◌, refl, sym, ap, ap₂, ◌∙◌, subst, arith, append_assoc, append-nil, lt-ltb, le-ltb, eq-eqb, All, Contains, IsTrue}
+use Rattle.std.proofs.Common.{◌≡◌, ◌≢◌, ◌↔◌, ℕ, zero, suc, ◌<◌, ◌≤◌, ◌⊎◌, inl, inr, Bool, true, false, not, min, max, List, [], ◌∷◌, ◌++◌, length, get_or, map, filter, flat_map, if◌then◌else◌, refl}
+use Rattle.std.proofs.Common.{sym, ap, ap₂, ◌∙◌, subst, arith, append_assoc, append-nil, lt-ltb, le-ltb, eq-eqb, All, Contains, IsTrue}
 use Rattle.std.specs.List.{list_any, AllByRecursion}
 use Rattle.std.proofs.lemmas.Bool.{cases_Bool, cases_order, false_from_ne_true, false≢true}
 use Rattle.std.proofs.lemmas.List.Elements.{All-append, All-from_recursion, All-from_get_or, recursion_from_All, Contains-get_or, Contains-append_left, Contains-append_right, Contains-append_cases}
@@ -405,9 +406,11 @@ module _ (paths some : List (List ℕ)) (givens : List Given) (two : NameTwo giv
 
   each_holds : (O : Orientation) → AgreesWith givens paths (labels_of O) → AllByRecursion (LabelsSay (labels_of (outside es O givens))) givens
   each_holds O agrees =
-      go givens (recursion_from_All (λ g. g.over ≢ g.under) givens two) (recursion_from_All (λ g. IsTrue (names_edge paths g) → LabelsSay (labels_of O) g) givens agrees) (each_end givens (once_all givens once))
+      go givens (recursion_from_All (λ g. g.over ≢ g.under) givens two) (recursion_from_All (λ g. IsTrue (names_edge paths g) →
+      LabelsSay (labels_of O) g) givens agrees) (each_end givens (once_all givens once))
     where
-      go : (gs : List Given) → AllByRecursion (λ g. g.over ≢ g.under) gs → AllByRecursion (λ g. IsTrue (names_edge paths g) → LabelsSay (labels_of O) g) gs → AllByRecursion (HasEnd (by_givens givens)) gs →
+      go : (gs : List Given) → AllByRecursion (λ g. g.over ≢ g.under) gs → AllByRecursion (λ g. IsTrue (names_edge paths g) → LabelsSay (labels_of O) g) gs →
+          AllByRecursion (HasEnd (by_givens givens)) gs →
           AllByRecursion (LabelsSay (labels_of (outside es O givens))) gs
       go [] t a h = tt
       go (g ∷ gs) t a h = (

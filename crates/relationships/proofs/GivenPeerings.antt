@@ -1,5 +1,6 @@
 -- Which edges become peerings where relationships are given, and that an edge that a given names is forced.
-use Rattle.std.proofs.Common.{if◌then◌else◌, ◌≡◌, ◌≢◌, ℕ, ◌+◌, inl, inr, Bool, true, false, cond, ◌||◌, min, max, List, [], ◌∷◌, ◌++◌, get_or, count_by, refl, sym, ap, ◌∙◌, subst, arith, All, Contains, IsTrue, eq-eqb}
+use Rattle.std.proofs.Common.{if◌then◌else◌, ◌≡◌, ◌≢◌, ℕ, ◌+◌, inl, inr, Bool, true, false, cond, ◌||◌, min, max, List, [], ◌∷◌, ◌++◌, get_or, count_by, refl, sym, ap, ◌∙◌, subst, arith, All}
+use Rattle.std.proofs.Common.{Contains, IsTrue, eq-eqb}
 use Rattle.std.specs.List.{list_any, AllByRecursion}
 use Rattle.std.proofs.lemmas.Bool.{cases_Bool, false_from_ne_true, false≢true, or_cases}
 use Rattle.std.proofs.lemmas.List.Sums.{sum_by-cons, sum_by-append}

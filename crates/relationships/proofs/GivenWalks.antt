@@ -1,5 +1,6 @@
 -- Walks whose links may name a given are walks over the returns of the givens.
-use Rattle.std.proofs.Common.{◌≡◌, ◌≢◌, ◌↔◌, ℕ, zero, suc, ◌+◌, ◌-◌, ◌<◌, ◌≤◌, ◌⊎◌, inl, inr, true, List, [], ◌∷◌, ◌++◌, length, get_or, map, Bool, Option, Some, None, option_map, lt-ltb, le-ltb, is_none, refl, sym, ap, ap₂, ◌∙◌, subst, arith, append_assoc, append-nil, All, Contains, IsTrue}
+use Rattle.std.proofs.Common.{◌≡◌, ◌≢◌, ◌↔◌, ℕ, zero, suc, ◌+◌, ◌-◌, ◌<◌, ◌≤◌, ◌⊎◌, inl, inr, true, List, [], ◌∷◌, ◌++◌, length, get_or, map, Bool, Option, Some, None, option_map, lt-ltb, le-ltb}
+use Rattle.std.proofs.Common.{is_none, refl, sym, ap, ap₂, ◌∙◌, subst, arith, append_assoc, append-nil, All, Contains, IsTrue}
 use Rattle.std.specs.List.{list_any, AllByRecursion}
 use Rattle.std.proofs.lemmas.Bool.{cases_Bool, false≢true}
 use Rattle.std.proofs.lemmas.Option.{get_or_from_slice_get, slice_get_within}
@@ -17,7 +18,8 @@ use Rattle.relationships.specs.Evidence.{StandAt, TripleAt, IsTriple, Neighbours
 use Rattle.relationships.specs.Selection.{KeepsFrom, IsForced}
 use Rattle.relationships.specs.Checking.{LostFrom, kept_of, Claim, OtherOrder, IsBorneOut, ProbesFrom, MarksHold, claimed_labels}
 use Rattle.relationships.specs.Givens.{names_edge, return_of, returns, NameTwo, IsReturn}
-use Rattle.relationships.specs.GivenEvidence.{given_link, with_given_links, AreReturnRows, AreUpTo, FitsGiven, FitsWith, IsLinkedWith, RefutesWith, ShowFromWith, LostFromWith, served_with, MarksHoldWith}
+use Rattle.relationships.specs.GivenEvidence.{given_link, with_given_links, AreReturnRows, AreUpTo, FitsGiven, FitsWith, IsLinkedWith, RefutesWith, ShowFromWith, LostFromWith, served_with}
+use Rattle.relationships.specs.GivenEvidence.{MarksHoldWith}
 use Rattle.relationships.specs.Laws.GivenEvidence.{GivenLinksLaw, GivenMarksLaw, NoGivensLaw, GivenWalksLaw, GivenRulesLaw, SameClosureLaw}
 use Rattle.relationships.proofs.WalkLemmas.{refuting_law, showing_law}
 use Rattle.relationships.proofs.Checked.{label_of_claim, rules_behind}

@@ -1,5 +1,6 @@
 -- The definitions on three paths, of which the third is lost.
-use Rattle.std.proofs.Common.{◌≡◌, ℕ, zero, suc, ◌+◌, ◌⊎◌, inl, inr, Bool, true, false, List, [], ◌∷◌, ◌++◌, length, map, refl, sym, subst, arith, All, Contains, Some, None, lit<, ◌==◌, ◌&&◌, ◌||◌, eq-eqb}
+use Rattle.std.proofs.Common.{◌≡◌, ℕ, zero, suc, ◌+◌, ◌⊎◌, inl, inr, Bool, true, false, List, [], ◌∷◌, ◌++◌, length, map, refl, sym, subst, arith, All, Contains, Some, None, lit<, ◌==◌, ◌&&◌, ◌||◌}
+use Rattle.std.proofs.Common.{eq-eqb}
 use Rattle.std.proofs.lemmas.List.Elements.{All-nil, All-from_recursion}
 use Rattle.relationships.specs.declared.label.End.{End}
 use Rattle.relationships.specs.declared.label.Label.{Label}

@@ -1,6 +1,7 @@
 -- What a checker asks of the lines of a result: which paths are lost, which orders are shown, which edges are open.
 -- These rules are this project's own (docs/FORMATS.md).
-use Rattle.std.specs.Prelude.{◌≡◌, ◌⊎◌, ℕ, ◌+◌, Bool, List, [], ◌∷◌, ◌++◌, map, Option, Some, None, is_none, All, Any, Contains, IsTrue, IsFalse, ⊤}
+use Rattle.std.specs.Prelude.{◌≡◌, ◌⊎◌, ℕ, ◌+◌, Bool, List, [], ◌∷◌, ◌++◌, map, Option, Some, None, is_none, All, Any, Contains, IsTrue}
+use Rattle.std.specs.Prelude.{IsFalse, ⊤}
 use Rattle.relationships.specs.declared.label.Label.{Label}
 use Rattle.relationships.specs.declared.walk.Walk.{Walk}
 use Rattle.relationships.specs.Evidence.{Numbered, paths_of, kept_from, NeighboursDiffer, Refutes, Show, Closure, IsConsistent}

@@ -1,3 +1,5 @@
+//! Relationships that are known beforehand.
+
 /// A relationship that is known beforehand: wherever the two are neighbours, the one is the provider
 /// of the other.
 #[derive(Clone, Copy, Debug, PartialEq, Eq)]

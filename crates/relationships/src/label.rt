@@ -1,3 +1,5 @@
+//! The ends of an edge, and its labels.
+
 /// The end of an edge that is the provider: the lower or the higher number of its two.
 #[derive(Clone, Copy, Debug, PartialEq, Eq)]
 pub enum End {

@@ -1,3 +1,5 @@
+//! The marks of edges.
+
 /// Whether the kept paths force an edge.
 #[derive(Clone, Copy, Debug, PartialEq, Eq)]
 pub enum Mark {

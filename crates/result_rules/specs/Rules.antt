@@ -1,7 +1,8 @@
 -- The rules that a result has to meet, which are this project's own (docs/FORMATS.md, "The rules of a result"). Each asks
 -- something of some of its lines, one by one. That a path is valley-free is the notion of L. Gao, "On inferring autonomous system
 -- relationships in the Internet", 2001.
-use Rattle.std.specs.Prelude.{◌≡◌, ℕ, ◌+◌, ◌-◌, ◌<◌, ◌≤◌, IsTrue, List, [], ◌∷◌, ◌++◌, length, map, max, take, Some, Contains, slice_get, sum_by, nat_lt, if◌then◌else◌}
+use Rattle.std.specs.Prelude.{◌≡◌, ℕ, ◌+◌, ◌-◌, ◌<◌, ◌≤◌, IsTrue, List, [], ◌∷◌, ◌++◌, length, map, max, take, Some, Contains, slice_get}
+use Rattle.std.specs.Prelude.{sum_by, nat_lt, if◌then◌else◌}
 use Rattle.tor_arena.specs.Limits.{max_paths, max_numbers, max_ratio}
 use Rattle.relationships.specs.declared.walk.Walk.{Walk}
 use Rattle.relationships.specs.Relationship.{ValleyFree}
@@ -19,7 +20,8 @@ use Rattle.result_rules.specs.declared.rule.Rule.{Rule}
 use Rattle.result_rules.specs.declared.rule.Rule.TheVariants.{RatioBounded, PathsCleaned, PathsDistinct, LostRefuted, EdgesListed}
 use Rattle.result_rules.specs.declared.rule.Rule.TheVariants.{KeptValleyFree, SupportCounted, OrdersShown, MarksBorneOut, TotalsRight}
 use Rattle.result_rules.specs.Totals.{totals_by}
-use Rattle.result_rules.specs.File.{its_paths, kept_before, its_kept, its_claims, its_edges, its_labels, shown_orders, its_probes, path_line_number, edge_line_number, why_line_number, open_line}
+use Rattle.result_rules.specs.File.{its_paths, kept_before, its_kept, its_claims, its_edges, its_labels, shown_orders, its_probes}
+use Rattle.result_rules.specs.File.{path_line_number, edge_line_number, why_line_number, open_line}
 
 -- the number that a verdict names
 abbrev pub rule_number : Rule → ℕ

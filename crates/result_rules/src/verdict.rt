@@ -1,3 +1,5 @@
+//! The verdict on a result.
+
 /// What a checker says of a result.
 #[derive(Clone, Copy, Debug, PartialEq, Eq)]
 pub enum Verdict {

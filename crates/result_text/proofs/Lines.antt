@@ -20,7 +20,8 @@ use Rattle.result_text.specs.declared.line.Line.TheVariants as line
 use Rattle.result_text.specs.Text.{numbers_text, links, sets_name, cause_name, label_name, mark_name, line_text}
 use Rattle.result_text.specs.Ranges.{AreU32, LinkFits, WalkFits, LineFits}
 use Rattle.text_fields.specs.Fields.{IsU32, IsU64}
-use Rattle.result_text.specs.Reading.{list_at, link_at, name_at, sets_at, cause_at, label_at, mark_at, walk_from, walk_at, sets_line_at, ratio_at, aside_from, aside_at, line_of_kept, kept_at, lost_from, lost_at, edge_from, edge_line_at, why_at, probe_from, probe_at, end_from, end_at, version_at, outer_readers, line_readers, by_word, line_at}
+use Rattle.result_text.specs.Reading.{list_at, link_at, name_at, sets_at, cause_at, label_at, mark_at, walk_from, walk_at, sets_line_at, ratio_at, aside_from, aside_at, line_of_kept, kept_at}
+use Rattle.result_text.specs.Reading.{lost_from, lost_at, edge_from, edge_line_at, why_at, probe_from, probe_at, end_from, end_at, version_at, outer_readers, line_readers, by_word, line_at}
 use Rattle.text_fields.specs.Reading.{u64_at, u32_at, before, both}
 use Rattle.result_text.proofs.Lists.{EndsList, numbers_reads, links_reads}
 use Rattle.text_fields.proofs.Readers.{some_is, on_word_takes, Reads, ReadsAs, before_reads, both_reads, mapped_reads, NoDigit, u64_reads, u32_reads}

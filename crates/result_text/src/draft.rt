@@ -2,7 +2,8 @@
 ghost use Rattle.std.specs.Prelude.{◌≡◌, ◌<◌};
 ghost use Rattle.result_text.specs.declared.line.Line.TheVariants as line;
 ghost use Rattle.result_text.specs.Reading.{line_of_kept, lost_from};
-ghost use Rattle.result_text.specs.Order.{cause_index, is_head, after_head, takes_path, takes_edge, takes_why, takes_probe, pass_head, step, Steps, empty_draft, finished};
+ghost use Rattle.result_text.specs.Order.{cause_index, is_head, after_head, takes_path, takes_edge, takes_why, takes_probe, pass_head};
+ghost use Rattle.result_text.specs.Order.{step, Steps, empty_draft, finished};
 
 use crate::error::LineError;
 use crate::file::{EdgeLine, ResultFile, Totals};

@@ -2,7 +2,8 @@
 
 ghost use Rattle.std.specs.Prelude.{◌≡◌};
 ghost use Rattle.relationships.specs.Flat.{walk_with};
-ghost use Rattle.result_text.specs.Reading.{ReadsAs, sets_at, cause_at, label_at, mark_at, walk_at, aside_at, aside_from, kept_at, line_of_kept, lost_at, lost_from, edge_line_at, probe_at, end_at};
+ghost use Rattle.result_text.specs.Reading.{ReadsAs, sets_at, cause_at, label_at, mark_at, walk_at, aside_at, aside_from, kept_at};
+ghost use Rattle.result_text.specs.Reading.{line_of_kept, lost_at, lost_from, edge_line_at, probe_at, end_at};
 ghost use Rattle.result_text.specs.declared.line.Line.TheVariants as line;
 
 use crate::error::LineError;

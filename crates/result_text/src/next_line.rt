@@ -1,7 +1,8 @@
 //! The line at the prefix of the bytes, read into the draft.
 
 ghost use Rattle.result_text.specs.Order.{with_line, next_at};
-ghost use Rattle.result_text.specs.Reading.{ReadsAs, by_word, outer_readers, sets_line_at, ratio_at, aside_at, kept_at, lost_at, edge_line_at, why_at, probe_at, end_at, version_at};
+ghost use Rattle.result_text.specs.Reading.{ReadsAs, by_word, outer_readers, sets_line_at, ratio_at, aside_at, kept_at, lost_at};
+ghost use Rattle.result_text.specs.Reading.{edge_line_at, why_at, probe_at, end_at, version_at};
 
 use crate::draft::Draft;
 use crate::error::LineError;

@@ -8,7 +8,8 @@ ghost use Rattle.result_text.specs.Grammar.{IsTextOf};
 ghost use Rattle.result_text.specs.PathLines.{line_with};
 ghost use Rattle.result_text.specs.Ranges.{CountsFit, LineFits, PathFits, EdgeFits, WalkFits, ProbeFits, TotalsFit};
 ghost use Rattle.text_fields.specs.Fields.{IsU32};
-ghost use Rattle.result_text.specs.Text.{text, text_of_lines, line_text, sets_name, cause_name, label_name, mark_name, numbers_text, links, aside_lines};
+ghost use Rattle.result_text.specs.Text.{text, text_of_lines, line_text, sets_name, cause_name, label_name, mark_name, numbers_text, links};
+ghost use Rattle.result_text.specs.Text.{aside_lines};
 
 use crate::file::{EdgeLine, ResultFile, Totals};
 use crate::numbers::{put_links, put_numbers};

@@ -45,7 +45,8 @@ pub from_none : (read : Result (List Entry) RibFault) → with_head [] read ≡ 
 from_none (Ok entries) = refl
 from_none (Err fault) = refl
 
-pub entries-step : (form : EntryForm) (peers count i : ℕ) (bytes rest : List ℕ) (first : Entry) (before : List Entry) (all : Result (List Entry) RibFault) → i < count → entry form peers bytes ≡ Ok (first, rest)
+pub entries-step : (form : EntryForm) (peers count i : ℕ) (bytes rest : List ℕ) (first : Entry) (before : List Entry) (all : Result (List Entry) RibFault) → i < count →
+    entry form peers bytes ≡ Ok (first, rest)
     → with_head before (entries_of form peers (count - i) bytes) ≡ all → with_head (before ++ first ∷ []) (entries_of form peers (count - (i + 1)) rest) ≡ all
 unfolding entries_of
 entries-step form peers count i bytes rest first before all lt is same =
@@ -58,7 +59,8 @@ entries-step form peers count i bytes rest first before all lt is same =
     regroup (Ok others) = ap (λ l. Ok l) (append_assoc before (first ∷ []) others)
     regroup (Err fault) = refl
 
-pub entries-fault : (form : EntryForm) (peers count i : ℕ) (bytes : List ℕ) (fault : RibFault) (before : List Entry) (all : Result (List Entry) RibFault) → i < count → entry form peers bytes ≡ Err fault
+pub entries-fault : (form : EntryForm) (peers count i : ℕ) (bytes : List ℕ) (fault : RibFault) (before : List Entry) (all : Result (List Entry) RibFault) → i < count →
+    entry form peers bytes ≡ Err fault
     → with_head before (entries_of form peers (count - i) bytes) ≡ all → all ≡ Err fault
 unfolding entries_of
 entries-fault form peers count i bytes fault before all lt is same =
@@ -125,12 +127,14 @@ unrolled : (form : EntryForm) (peers k : ℕ) (bytes : List ℕ) → entries_of 
 unfolding entry entries_of
 unrolled form peers k bytes = refl
 
-by_fields : (form : EntryForm) (peers count : ℕ) (bytes : List ℕ) (read : Result Fields RibFault) → 0 < count → entry_fields form peers bytes ≡ read → entries_of form peers count bytes ≡ by_read form peers (count - 1) read
+by_fields : (form : EntryForm) (peers count : ℕ) (bytes : List ℕ) (read : Result Fields RibFault) → 0 < count → entry_fields form peers bytes ≡ read →
+    entries_of form peers count bytes ≡ by_read form peers (count - 1) read
 by_fields form peers count bytes read lt is =
     let e : count ≡ suc (count - 1) = omega (arith, lt) in
     ap (λ n. entries_of form peers n bytes) e ∙ unrolled form peers (count - 1) bytes ∙ ap (by_read form peers (count - 1)) is
 
-pub first_in : (form : EntryForm) (peers count : ℕ) (bytes : List ℕ) (f : Fields) → 0 < count → entry_fields form peers bytes ≡ Ok f → is_ok (entries_of form peers count bytes) ≡ true → First form peers count bytes f
+pub first_in : (form : EntryForm) (peers count : ℕ) (bytes : List ℕ) (f : Fields) → 0 < count → entry_fields form peers bytes ≡ Ok f → is_ok (entries_of form peers count bytes) ≡ true →
+    First form peers count bytes f
 unfolding entries_in attributes_in
 first_in form peers count bytes f lt is ok = by (attributes_of f.block) (entries_of form peers (count - 1) f.rest) refl refl
   where
@@ -140,7 +144,8 @@ first_in form peers count bytes f lt is ok = by (attributes_of f.block) (entries
     one : List Attribute → Entry
     one attrs = record { peer = f.peer; attrs = attrs }
 
-    by : (attrs : Result (List Attribute) AttrCut) (others : Result (List Entry) RibFault) → attributes_of f.block ≡ attrs → entries_of form peers (count - 1) f.rest ≡ others → First form peers count bytes f
+    by : (attrs : Result (List Attribute) AttrCut) (others : Result (List Entry) RibFault) → attributes_of f.block ≡ attrs → entries_of form peers (count - 1) f.rest ≡ others →
+        First form peers count bytes f
     by (Ok attrs) (Ok entries) ea eo =
         let all : entries_of form peers count bytes ≡ Ok (one attrs ∷ entries) =
         first ∙ ap (behind_first form peers (count - 1) f) ea ∙ ap (λ (r : Result (List Entry) RibFault). r >>= λ others. Ok (one attrs ∷ others)) eo in

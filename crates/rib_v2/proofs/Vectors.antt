@@ -106,7 +106,8 @@ one_octet_more : rib_of (form Ipv4 Plain) (Some 1) (one 0 ++ 0 ∷ []) ≡ Err T
 unfolding rib_of head entries_of entry entry_fields attributes_of attributes_within attribute one fields path
 one_octet_more = refl
 
-one_octet_less : rib_of (form Ipv4 Plain) (Some 1) (0 ∷ 0 ∷ 0 ∷ 0 ∷ 24 ∷ 10 ∷ 0 ∷ 1 ∷ 0 ∷ 1 ∷ 0 ∷ 0 ∷ 0 ∷ 0 ∷ 0 ∷ 0 ∷ 0 ∷ 17 ∷ 64 ∷ 1 ∷ 1 ∷ 0 ∷ 64 ∷ 2 ∷ 10 ∷ 2 ∷ 2 ∷ 0 ∷ 0 ∷ 0 ∷ 10 ∷ 0 ∷ 0 ∷ 0 ∷ []) ≡ Err Cut
+one_octet_less : rib_of (form Ipv4 Plain) (Some 1) (0 ∷ 0 ∷ 0 ∷ 0 ∷ 24 ∷ 10 ∷ 0 ∷ 1 ∷ 0 ∷ 1 ∷ 0 ∷ 0 ∷ 0 ∷ 0 ∷ 0 ∷ 0 ∷ 0 ∷ 17 ∷ 64 ∷ 1 ∷ 1 ∷ 0 ∷ 64 ∷ 2 ∷ 10 ∷ 2 ∷ 2 ∷ 0 ∷ 0 ∷ 0 ∷ 10 ∷ 0 ∷ 0 ∷ 0 ∷ [])
+    ≡ Err Cut
 unfolding rib_of head entries_of entry entry_fields
 one_octet_less = refl
 

@@ -1,6 +1,7 @@
 -- How the body of a PEER_INDEX_TABLE record is encoded (RFC 6396, section 4.3.1), and that of a RIB (sections 4.3.2 and 4.3.4;
 -- RFC 8050, section 4), and the laws that a body is read exactly if it is so encoded.
-use Rattle.std.specs.Prelude.{◌≡◌, ◌↔◌, ℕ, zero, suc, ◌+◌, ◌*◌, ◌/◌, ◌<◌, ◌≤◌, ◌==◌, bit_and, List, [], ◌∷◌, ◌++◌, length, Some, Ok, if◌then◌else◌}
+use Rattle.std.specs.Prelude.{◌≡◌, ◌↔◌, ℕ, zero, suc, ◌+◌, ◌*◌, ◌/◌, ◌<◌, ◌≤◌, ◌==◌, bit_and, List, [], ◌∷◌, ◌++◌, length, Some, Ok}
+use Rattle.std.specs.Prelude.{if◌then◌else◌}
 use Rattle.byteorder.specs.Endian.{big_number}
 use Rattle.mrt_frame.specs.declared.record_kind.EntryForm.{EntryForm}
 use Rattle.mrt_frame.specs.declared.record_kind.RibForm.{RibForm}

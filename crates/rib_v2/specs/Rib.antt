@@ -1,6 +1,7 @@
 -- The bodies of RIB_IPV4_UNICAST and RIB_IPV6_UNICAST records (RFC 6396, sections 4.3.2 and 4.3.4), and of
 -- RIB_IPV4_UNICAST_ADDPATH and RIB_IPV6_UNICAST_ADDPATH records (RFC 8050, section 4).
-use Rattle.std.specs.Prelude.{◌≡◌, ℕ, zero, suc, ◌+◌, ◌*◌, ◌/◌, ◌==◌, nat_lt, nat_le, List, [], ◌∷◌, length, Option, Some, None, Result, Ok, Err}
+use Rattle.std.specs.Prelude.{◌≡◌, ℕ, zero, suc, ◌+◌, ◌*◌, ◌/◌, ◌==◌, nat_lt, nat_le, List, [], ◌∷◌, length, Option, Some, None, Result, Ok}
+use Rattle.std.specs.Prelude.{Err}
 use Rattle.std.specs.Result.{result_unwrap_or}
 use Rattle.mrt_frame.specs.declared.record_kind.Family.{Family}
 use Rattle.mrt_frame.specs.declared.record_kind.EntryForm.{EntryForm}

@@ -1,5 +1,6 @@
 -- What makes a line good, which line is the first bad one, and what good lines say.
-use Rattle.std.specs.Prelude.{◌≡◌, ◌⊎◌, ℕ, ◌+◌, ◌<◌, ◌↔◌, true, not, if◌then◌else◌, List, [], ◌∷◌, take, filter, slice_get, Contains, Some, None, Ok, Err}
+use Rattle.std.specs.Prelude.{◌≡◌, ◌⊎◌, ℕ, ◌+◌, ◌<◌, ◌↔◌, true, not, if◌then◌else◌, List, [], ◌∷◌, take, filter, slice_get, Contains, Some}
+use Rattle.std.specs.Prelude.{None, Ok, Err}
 use Rattle.relationships.specs.Graph.{is_same}
 use Rattle.serial_lines.specs.declared.line.RelKind.TheVariants.{Peering}
 use Rattle.serial_lines.specs.declared.line.RelLine.{RelLine}

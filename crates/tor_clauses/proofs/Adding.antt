@@ -71,7 +71,8 @@ skipped graph f now path steps are from to some le inside ts these known_there e
         let next : k + 1 ≡ suc k = omega arith in
         let at = triple_by_steps graph path steps are k s.0 t.0 s.1 (subst (λ i. slice_get steps i ≡ Some t.0) next t.1) in
         let there = known k s.0 t.0 (omega (arith, some)) (omega (arith, lt, some)) s.1 t.1 in
-        let more = added_one f now now (triples_on graph path) k (triple_by path (2 + k) s.0 t.0) h at (still (with_triples f.triples (take k (triples_on graph path))) (triple_by path (2 + k) s.0 t.0) h there) in
+        let more = added_one f now now (triples_on graph path) k (triple_by path (2 + k) s.0 t.0) h at (still (with_triples f.triples (take k (triples_on graph path))) (triple_by path (2 + k) s.0
+        t.0) h there) in
         let m : from - 1 + n + 1 ≡ from - 1 + suc n = omega arith in
         subst (λ i. now ≡ having f (with_triples f.triples (take i (triples_on graph path)))) m more
 

@@ -1,5 +1,6 @@
 -- The literal "x over y" among the edges of paths, and what it says.
-use Rattle.std.proofs.Common.{◌≡◌, ◌≢◌, ℕ, zero, suc, ◌+◌, ◌<◌, ◌⊎◌, inl, inr, min, max, true, false, not, List, [], ◌∷◌, ◌++◌, Some, length, flat_map, filter, refl, sym, ap, ap₂, ◌∙◌, subst, arith, lt-ltb, le-ltb}
+use Rattle.std.proofs.Common.{◌≡◌, ◌≢◌, ℕ, zero, suc, ◌+◌, ◌<◌, ◌⊎◌, inl, inr, min, max, true, false, not, List, [], ◌∷◌, ◌++◌, Some, length, flat_map, filter, refl, sym, ap, ap₂, ◌∙◌, subst, arith}
+use Rattle.std.proofs.Common.{lt-ltb, le-ltb}
 use Rattle.std.specs.Prelude.{slice_get}
 use Rattle.std.specs.List.{position_or_len}
 use Rattle.std.proofs.lemmas.Bool.{cases_Bool, cases_order, false≢true}

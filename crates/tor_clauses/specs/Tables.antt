@@ -1,5 +1,6 @@
 -- What the fields of clauses hold, and what one more triple makes of them.
-use Rattle.std.specs.Prelude.{◌≡◌, ℕ, ◌<◌, ◌≤◌, ◌+◌, ◌*◌, ◌^◌, Bool, true, false, nat_lt, List, [], ◌∷◌, ◌++◌, All, Some, length, map, take, flat_map, slice_get, if◌then◌else◌}
+use Rattle.std.specs.Prelude.{◌≡◌, ℕ, ◌<◌, ◌≤◌, ◌+◌, ◌*◌, ◌^◌, Bool, true, false, nat_lt, List, [], ◌∷◌, ◌++◌, All, Some, length, map, take}
+use Rattle.std.specs.Prelude.{flat_map, slice_get, if◌then◌else◌}
 use Rattle.relationships.specs.declared.label.End.{End}
 use Rattle.tor_digraph.specs.Walks.{Net}
 use Rattle.as_graph.specs.Limits.{most_triples}

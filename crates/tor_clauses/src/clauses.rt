@@ -1,5 +1,6 @@
 //! Clauses: triples as a digraph of implications.
-ghost use Rattle.std.specs.Prelude.{◌≡◌, ℕ, ◌+◌, ◌*◌, ◌<◌, ◌≤◌, ◌↔◌, ◌∷◌, ◌++◌, [], List, length, flat_map, take, slice_get, Some, IsTrue, IfNone, IfSome, IfOk, OnOk, OnErr};
+ghost use Rattle.std.specs.Prelude.{◌≡◌, ℕ, ◌+◌, ◌*◌, ◌<◌, ◌≤◌, ◌↔◌, ◌∷◌, ◌++◌, [], List, length, flat_map, take, slice_get, Some, IsTrue};
+ghost use Rattle.std.specs.Prelude.{IfNone, IfSome, IfOk, OnOk, OnErr};
 ghost use Rattle.relationships.specs.Graph.{edges};
 ghost use Rattle.tor_arena.specs.Limits.{most_places};
 ghost use Rattle.as_graph.specs.Limits.{most_triples};
@@ -7,7 +8,8 @@ ghost use Rattle.tor_clauses.specs.Literals.{most_edges, node_of};
 ghost use Rattle.tor_clauses.specs.Triples.{arcs_of, AreAmong, triples_on};
 ghost use Rattle.tor_clauses.specs.Tables.{HasNodes, with_triple, with_triples_on, with_arc, having, IsRoomy, IsFirst, IsFirstNew};
 ghost use Rattle.tor_clauses.specs.Flipping.{HasPartners, IsPartner};
-ghost use Rattle.tor_clauses.specs.Formulas.{FitsGraph, IsMark, mark_of, first_of, arcs_before, triple_place, IsModel, IsArcOfTriple, IsLinkOfTriple, IsLinkOfArc, MeetsDemands};
+ghost use Rattle.tor_clauses.specs.Formulas.{FitsGraph, IsMark, mark_of, first_of, arcs_before, triple_place, IsModel, IsArcOfTriple};
+ghost use Rattle.tor_clauses.specs.Formulas.{IsLinkOfTriple, IsLinkOfArc, MeetsDemands};
 
 use crate::lit::Lit;
 use crate::triple::Triple;

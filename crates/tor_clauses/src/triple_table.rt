@@ -3,7 +3,8 @@ ghost use Rattle.std.specs.Prelude.{◌≡◌, ◌<◌, ◌≤◌, ◌↔◌, []
 ghost use Rattle.tor_arena.specs.Limits.{max_numbers};
 ghost use Rattle.as_graph.specs.Limits.{most_triples};
 ghost use Rattle.tor_clauses.specs.Triples.{arc_of, is_among};
-ghost use Rattle.tor_clauses.specs.Tables.{HasNodes, IsSatisfied, IsTripleAdded, AreKnownOn, IsNewAt, triple_key, key_of_arc, number_of_pair};
+ghost use Rattle.tor_clauses.specs.Tables.{HasNodes, IsSatisfied, IsTripleAdded, AreKnownOn, IsNewAt, triple_key, key_of_arc};
+ghost use Rattle.tor_clauses.specs.Tables.{number_of_pair};
 
 use crate::lit::{Lit, negation_node};
 use crate::triple::Triple;

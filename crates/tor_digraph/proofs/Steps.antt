@@ -101,7 +101,13 @@ module _ {N A : Type 0} (place : N → ℕ) (spot : A → ℕ) (one : (u v : N) 
     seen = λ x q. elim (s.seen x q) [
       | inl p ↦ inl p
       | inr p ↦ inr (elim (cases_eq p.0 k) [
-        | inl e ↦ (k, new, slice_get-set_same stack k new (slice_get_within stack k top at-k), ap (λ o. o.node) (same_Some top p.1 (sym at-k ∙ (subst (λ i. slice_get stack i ≡ Some p.1) e p.2))) ∙ p.3)
+        | inl e ↦ (
+          k,
+          new,
+          slice_get-set_same stack k new (slice_get_within stack k top at-k),
+          ap (λ o. o.node) (same_Some top p.1 (sym at-k ∙ (subst (λ i. slice_get stack i ≡ Some p.1) e p.2)))
+              ∙ p.3,
+        )
         | inr ne ↦ (p.0, p.1, slice_get-set_other stack k new p.0 ne ∙ p.2, p.3)
       ])
     ];

@@ -1,5 +1,6 @@
 //! How each node of a search was found.
-ghost use Rattle.std.specs.Prelude.{◌≡◌, ◌+◌, ◌<◌, ◌≤◌, ◌↔◌, ◌++◌, [], Some, length, take, replicate, slice_get, slice_set, OnOk, OnErr, IsTrue};
+ghost use Rattle.std.specs.Prelude.{◌≡◌, ◌+◌, ◌<◌, ◌≤◌, ◌↔◌, ◌++◌, [], Some, length, take, replicate, slice_get, slice_set, OnOk, OnErr};
+ghost use Rattle.std.specs.Prelude.{IsTrue};
 ghost use Rattle.tor_digraph.specs.Found.{IsFound};
 
 use crate::found::Found;

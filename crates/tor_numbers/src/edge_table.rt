@@ -1,5 +1,6 @@
 //! Distinct edges, found by their two ASes.
-ghost use Rattle.std.specs.Prelude.{◌≡◌, ◌↔◌, ◌<◌, ℕ, [], not, length, slice_get, Contains, Some, IsNone, IsTrue, IsFalse, IfOk, OnOk, OnErr, MatchOption};
+ghost use Rattle.std.specs.Prelude.{◌≡◌, ◌↔◌, ◌<◌, ℕ, [], not, length, slice_get, Contains, Some, IsNone, IsTrue, IsFalse, IfOk, OnOk};
+ghost use Rattle.std.specs.Prelude.{OnErr, MatchOption};
 ghost use Rattle.std.specs.List.{list_any, IsDistinct};
 ghost use Rattle.relationships.specs.Graph.{edge_of, is_same};
 ghost use Rattle.tor_numbers.specs.Edges.{with_edge, edge_at};

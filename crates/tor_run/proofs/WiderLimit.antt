@@ -1,5 +1,6 @@
 -- What dumps give under a limit on paths that isn't met they give under each greater one.
-use Rattle.std.proofs.Common.{◌≡◌, ◌≤◌, ◌<◌, ◌+◌, ◌==◌, ◌&&◌, ℕ, suc, Bool, true, false, List, [], ◌∷◌, length, Option, Some, None, Result, Ok, Err, if◌then◌else◌, refl, ap, subst, inl, inr, arith, option_map, eq-eqb}
+use Rattle.std.proofs.Common.{◌≡◌, ◌≤◌, ◌<◌, ◌+◌, ◌==◌, ◌&&◌, ℕ, suc, Bool, true, false, List, [], ◌∷◌, length, Option, Some, None, Result, Ok, Err, if◌then◌else◌, refl, ap, subst, inl, inr, arith}
+use Rattle.std.proofs.Common.{option_map, eq-eqb}
 use Rattle.std.specs.Prelude.{is_some, nat_lt}
 use Rattle.std.specs.Str.{bytes_eq}
 use Rattle.std.proofs.lemmas.Bool.{cases_Bool, cases_order, both_ways, lt-ltb, ne_eqb}
@@ -102,7 +103,8 @@ module _ (limit most : ℕ) where
       let few : nat_lt (length taken.table.rows) taken.table.limit ≡ true = lt-ltb (length taken.table.rows) taken.table.limit (omega (arith, lt, same)) in (
         ne_eqb (length taken.table.rows) most (λ e. absurd (omega (arith, e, wide))),
         elim (cases_Bool (nat_lt max_numbers (numbers_in taken.table.rows + length path))) [
-          | inl t ↦ absurd (both_ways (has_too_many_numbers taken.table path) many (both_true (nat_lt (length taken.table.rows) taken.table.limit) (nat_lt max_numbers (numbers_in taken.table.rows + length path)) few t))
+          | inl t ↦ absurd (both_ways (has_too_many_numbers taken.table path) many (both_true (nat_lt (length taken.table.rows) taken.table.limit) (nat_lt max_numbers (numbers_in taken.table.rows +
+              length path)) few t))
           | inr f ↦ no_and (nat_lt (length taken.table.rows) most) (nat_lt max_numbers (numbers_in taken.table.rows + length path)) f
         ],
       )
@@ -117,7 +119,10 @@ module _ (limit most : ℕ) where
       elim (cases_Bool (is_some (place_of taken.table.rows path))) [
         | inl known ↦ omega (arith, few, known_length taken.table.rows path known)
         | inr fresh ↦ elim (cases_Bool (length taken.table.rows == taken.table.limit)) [
-          | inl met ↦ absurd (refused (is_some (place_of taken.table.rows path)) (length taken.table.rows == taken.table.limit) (has_too_many_numbers taken.table path) (record taken { table = with_one taken.table path }) fresh met e)
+          | inl met ↦ absurd (refused (is_some (place_of taken.table.rows path)) (length taken.table.rows == taken.table.limit) (has_too_many_numbers taken.table path) (record taken {
+            table =
+                with_one taken.table path;
+          }) fresh met e)
           | inr not_met ↦ omega (arith, below taken within not_met, one_more_at_most taken.table.rows path)
         ]
       ]
@@ -191,7 +196,8 @@ module _ (limit most : ℕ) where
   all_files sets dump taken new (name ∷ names) files within e = by (of_file sets dump taken (files name)) refl e (λ further. all_files sets (dump + 1) further new names files)
     where
       by : (one : Result Taken DumpsEnd) → of_file sets dump taken (files name) ≡ one → (one >>= λ further. seen_from sets (dump + 1) further names files) ≡ Ok new →
-          ((further : Taken) → IsWithin limit most further → seen_from sets (dump + 1) further names files ≡ Ok new → seen_from sets (dump + 1) (widened most further) names files ≡ Ok (widened most new)) →
+          ((further : Taken) → IsWithin limit most further → seen_from sets (dump + 1) further names files ≡ Ok new →
+          seen_from sets (dump + 1) (widened most further) names files ≡ Ok (widened most new)) →
           (of_file sets dump (widened most taken) (files name) >>= λ further. seen_from sets (dump + 1) further names files) ≡ Ok (widened most new)
       by (Err end) is e rest = absurd cc
       by (Ok further) is e rest =

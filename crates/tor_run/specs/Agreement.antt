@@ -31,7 +31,8 @@ pub record IsAgreedOn (settings : Settings) (files : Files) (text : List ℕ) : 
 
 abbrev pub AgreementLaw : Type 0
 AgreementLaw =
-    (words : List (List ℕ)) (settings : Settings) (files : Files) (taken : Taken) (output : Written) → settings_given words ≡ Some settings →
+    (words : List (List ℕ)) (settings : Settings) (files : Files) (taken : Taken) (output : Written) →
+    settings_given words ≡ Some settings →
     settings.mode ≡ Labels → ComesTo settings files (Reads taken) → IsOutput settings taken output → IsAgreedOn settings files output.text
 
 -- all results that are faithful to what dumps gave have the same summary

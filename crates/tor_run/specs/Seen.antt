@@ -47,4 +47,5 @@ LeadsTo words known outcome = IfSome known (λ files. Gives words files outcome)
 -- words and files give one outcome at most
 abbrev pub OneOutcomeLaw : Type 0
 OneOutcomeLaw =
-    (words : List (List ℕ)) (files : Files) (outcome other : Outcome) → Gives words files outcome → Gives words files other → outcome ≡ other
+    (words : List (List ℕ)) (files : Files) (outcome other : Outcome) → Gives words files outcome → Gives words files other →
+    outcome ≡ other

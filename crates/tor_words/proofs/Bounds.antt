@@ -11,7 +11,8 @@ use Rattle.tor_words.specs.declared.settings.Mode.{Mode}
 use Rattle.tor_words.specs.declared.settings.Source.{Source}
 use Rattle.tor_words.specs.declared.settings.Source.TheVariants.{Files, Sample}
 use Rattle.tor_words.specs.declared.settings.Settings.{Settings}
-use Rattle.tor_words.specs.Given.{number_in, number_or, source_of, source_in, mode_of, mode_in, sets_or_cut, settings_in, dumps_in, is_true_text, HasDumps, IsWrittenOf, AreBounded, BoundsLaw, settings_given, unless_fault}
+use Rattle.tor_words.specs.Given.{number_in, number_or, source_of, source_in, mode_of, mode_in, sets_or_cut, settings_in, dumps_in, is_true_text, HasDumps, IsWrittenOf, AreBounded, BoundsLaw}
+use Rattle.tor_words.specs.Given.{settings_given, unless_fault}
 use Rattle.tor_words.specs.TorCommand.{tor_command}
 
 abbrev within : ℕ → ℕ → ℕ → Type 0
@@ -73,7 +74,8 @@ module _ (dumps : List Text) (settings : Settings) (mode_at : Source → Option 
       })
 
   of_source : (sets : Option Sets) (source : Option Source) → ((s : Source) → source ≡ Some s → HasDumps s dumps)
-      → option_and_then (λ source. option_and_then (λ m. option_and_then (λ s. option_and_then (λ r. option_map (λ p. made dumps source m s r p) in_most) in_ratio) sets) (mode_at source)) source ≡ Some settings
+      → option_and_then (λ source. option_and_then (λ m. option_and_then (λ s. option_and_then (λ r. option_map (λ p. made dumps source m s r p) in_most) in_ratio) sets) (mode_at source)) source ≡
+      Some settings
       → AreBounded settings
   of_source sets None named e = absurd cc
   of_source sets (Some source) named e = of_parts source (named source refl) (mode_at source) refl sets in_ratio in_most refl refl e

@@ -10,7 +10,8 @@ use Rattle.tor_words.specs.CheckGiven.{check_settings_given}
 use Rattle.run_base.specs.declared.status.Status.{Status}
 use Rattle.run_base.specs.declared.status.Status.TheVariants as status
 use Rattle.torcheck_run.specs.Judging.{Outcome, Judged, NoResult, TooLong, Ends, WordsGive}
-use Rattle.torcheck_run.specs.CheckAnswer.{KnownFilesGive, LeadsToMalformed, LeadsToLimit, LeadsToAbsent, FailedAtResult, FailedAtDump, IsCheckNote, GainsVerdict, GainsNo, GainsVerdictPrefix, status_of}
+use Rattle.torcheck_run.specs.CheckAnswer.{KnownFilesGive, LeadsToMalformed, LeadsToLimit, LeadsToAbsent, FailedAtResult, FailedAtDump, IsCheckNote, GainsVerdict, GainsNo, GainsVerdictPrefix}
+use Rattle.torcheck_run.specs.CheckAnswer.{status_of}
 use Rattle.torcheck_run.proofs.Comings.{OneValue, status_for, one_status}
 
 -- why a status came
@@ -33,7 +34,8 @@ note_malformed words known steady left s text note is = by (subst (λ (t : Statu
     by : IsCheckNote words known steady left status.Malformed text → LeadsToMalformed words known
     by is = (is.0, is.1, is.3)
 
-note_limit : (words : List (List ℕ)) (known : Option Files) (steady : Type 0) (left : Option (List ℕ)) (s : Status) (text : List ℕ) → IsCheckNote words known steady left s text → s ≡ status.Limit → LeadsToLimit words known
+note_limit : (words : List (List ℕ)) (known : Option Files) (steady : Type 0) (left : Option (List ℕ)) (s : Status) (text : List ℕ) → IsCheckNote words known steady left s text → s ≡ status.Limit →
+    LeadsToLimit words known
 note_limit words known steady left s text note is = by (subst (λ (t : Status). IsCheckNote words known steady left t text) is note)
   where
     by : IsCheckNote words known steady left status.Limit text → LeadsToLimit words known

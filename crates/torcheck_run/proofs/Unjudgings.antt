@@ -63,11 +63,13 @@ holds_before (Some files) settings bytes dump is holds = (bytes, holds.0, is, ho
 
 -- ---- notes
 
-no_memory : (words : List (List ℕ)) (known : Option Files) (steady : Type 0) (left : Option (List ℕ)) (answer : Answer) → IsNoMemory answer → IsCheckNote words known steady left answer.status (note_in answer)
+no_memory : (words : List (List ℕ)) (known : Option Files) (steady : Type 0) (left : Option (List ℕ)) (answer : Answer) → IsNoMemory answer →
+    IsCheckNote words known steady left answer.status (note_in answer)
 no_memory words known steady left answer is =
     subst (λ (s : Status). IsCheckNote words known steady left s (note_text s answer.note)) (sym is.0) (ap (note_text status.NoMemory) is.1)
 
-says_note : (words : List (List ℕ)) (known : Option Files) (steady : Type 0) (left : Option (List ℕ)) (s : Status) (text : List ℕ) (answer : Answer) → IsCheckNote words known steady left s text → AnswersWith s text answer
+says_note : (words : List (List ℕ)) (known : Option Files) (steady : Type 0) (left : Option (List ℕ)) (s : Status) (text : List ℕ) (answer : Answer) → IsCheckNote words known steady left s text →
+    AnswersWith s text answer
     → IsCheckNote words known steady left answer.status (note_in answer)
 says_note words known steady left s text answer note (inl said) =
     subst (λ (t : Status). IsCheckNote words known steady left t (note_in answer)) (sym said.0) (subst (λ (n : List ℕ). IsCheckNote words known steady left s n) (sym said.1) note)
@@ -97,7 +99,8 @@ stop_note words known steady left settings bytes dump error.ReadFault answer giv
     ) says
 stop_note words known steady left settings bytes dump error.NoMemory answer given is stops says = no_memory words known steady left answer says
 
-pub unjudged_note : (words : List (List ℕ)) (known : Option Files) (steady : Type 0) (left : Option (List ℕ)) (u : Unjudged) (answer : Answer) → IsUnjudged words known steady u → AnswersUnjudged u answer
+pub unjudged_note : (words : List (List ℕ)) (known : Option Files) (steady : Type 0) (left : Option (List ℕ)) (u : Unjudged) (answer : Answer) → IsUnjudged words known steady u →
+    AnswersUnjudged u answer
     → (IsFailedResult u → LeavesOnlyResult words known left) → IsCheckNote words known steady left answer.status (note_in answer)
 unjudged_note words known steady left (unjudged.Result unread.Failed) answer why says rest =
     says_note words known steady left status.ReadFault (read_fault_note 0) answer

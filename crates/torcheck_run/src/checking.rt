@@ -13,7 +13,8 @@ ghost use Rattle.run_base.specs.Notes.{plain_note};
 ghost use Rattle.run_base.specs.Answers.{IsNoted};
 ghost use Rattle.run_base.specs.Answers.{note_in};
 ghost use Rattle.torcheck_run.specs.Judging.{NoResult, TooLong, Ends, WordsGive, IsVouched, CanBeJudged, LeavesRestOf};
-ghost use Rattle.torcheck_run.specs.CheckAnswer.{GainsVerdict, GainsNo, GainsVerdictPrefix, KnownFilesGive, LeadsToMalformed, LeadsToLimit, LeadsToAbsent, IsCheckNote, verdict_text, status_of};
+ghost use Rattle.torcheck_run.specs.CheckAnswer.{GainsVerdict, GainsNo, GainsVerdictPrefix, KnownFilesGive, LeadsToMalformed, LeadsToLimit};
+ghost use Rattle.torcheck_run.specs.CheckAnswer.{LeadsToAbsent, IsCheckNote, verdict_text, status_of};
 
 use crate::judging::{answer_to_unjudged, verdict_of};
 use crate::verdicts::{status_of, verdict_text};

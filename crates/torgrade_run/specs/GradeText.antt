@@ -1,5 +1,6 @@
 -- What a grading writes: a line for each distinct path, how many paths have each grade, and the customer cone that is asked for.
-use Rattle.std.specs.Prelude.{◌≡◌, ◌↔◌, ℕ, ◌+◌, Bool, true, false, List, [], ◌∷◌, ◌++◌, Contains, map, flat_map, count_by, Option, Some, None, codes, decimal}
+use Rattle.std.specs.Prelude.{◌≡◌, ◌↔◌, ℕ, ◌+◌, Bool, true, false, List, [], ◌∷◌, ◌++◌, Contains, map, flat_map, count_by, Option, Some}
+use Rattle.std.specs.Prelude.{None, codes, decimal}
 use Rattle.std.specs.List.Sorted.{IsStrictlyIncreasing}
 use Rattle.path_clean.specs.Rows.{Counted}
 use Rattle.serial_lines.specs.declared.line.RelLine.{RelLine}

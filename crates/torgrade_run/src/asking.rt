@@ -10,19 +10,20 @@ ghost use Rattle.run_base.specs.WholeFile.{LeavesRest, LeavesOnly};
 ghost use Rattle.torgrade_run.specs.Limits.{max_rel};
 ghost use Rattle.torgrade_run.specs.Outcomes.{LeavesRestOf, LeavesOnlyRel, seen_by};
 ghost use Rattle.torgrade_run.specs.GradeAnswer.{IsGraded};
-ghost use Rattle.torgrade_run.specs.Ungrading.{IsKnown, IsGradedFrom, IsGradedIn, IsUngradedBy, IsUngradedIn, IsUngraded, IsTooLong, IsFailedRel, IsFailedRead, IsOfGradeWords, AnswersUngraded, text_of};
+ghost use Rattle.torgrade_run.specs.Ungrading.{IsKnown, IsGradedFrom, IsGradedIn, IsUngradedBy, IsUngradedIn, IsUngraded, IsTooLong};
+ghost use Rattle.torgrade_run.specs.Ungrading.{IsFailedRel, IsFailedRead, IsOfGradeWords, AnswersUngraded, text_of};
 
 use crate::cones::{Cone, cone_asked};
 use crate::notes::{bad_line_note, long_rel_note};
 use as_rel::{Rel, RelError, parse_rel};
 use dump_read::Taken;
-use path_clean::{MAX_PATHS, Sets};
+use path_clean::Sets;
 use run_base::{
     Answer, Refusal, Status, Stopped, Unread, answer_to, nothing_taken, read_dumps,
     read_fault_note, read_whole,
 };
 use std::alloc::Global;
-use tor_arena::{Keys, List, NoMemory};
+use tor_arena::{Keys, List, MAX_PATHS, NoMemory};
 use tor_io::Shelf;
 use tor_words::{GradeSettings, Name, grade_settings_of};
 

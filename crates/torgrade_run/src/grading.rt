@@ -12,7 +12,8 @@ ghost use Rattle.tor_words.specs.GradeGiven.{grade_settings_given};
 ghost use Rattle.std.specs.Io.KnownBytes.{IsAtEnd};
 ghost use Rattle.run_base.specs.Answers.{IsNoted, note_in};
 ghost use Rattle.torgrade_run.specs.Outcomes.{Reads, NoRel, LongRel, BadRel, Ends, Gives, LeavesRestOf};
-ghost use Rattle.torgrade_run.specs.GradeAnswer.{GainsGrades, GainsGradesPrefix, LeadsTo, LeadsToMalformed, LeadsToLimit, LeadsToAbsent, IsGradeNote};
+ghost use Rattle.torgrade_run.specs.GradeAnswer.{GainsGrades, GainsGradesPrefix, LeadsTo, LeadsToMalformed, LeadsToLimit, LeadsToAbsent};
+ghost use Rattle.torgrade_run.specs.GradeAnswer.{IsGradeNote};
 
 use crate::asking::{answer_to_ungraded, graded_asked};
 use crate::writing::write_graded;

@@ -4,7 +4,8 @@
 ghost use Rattle.std.specs.Prelude.{◌≡◌, ◌<◌, ◌≤◌, ℕ, ◌∷◌, ◌++◌, [], List as Items, length, OnOk, IfOk};
 ghost use Rattle.tor_arena.specs.Limits.{most_places};
 ghost use Rattle.result_rules.specs.File.{its_edges, its_paths};
-ghost use Rattle.rel_checker.specs.Flipping.{climbs, climbs_on, number_of_steps, SameRows, AreNoted, flipped_orders, edges_of, IsBuiltFor, with_implied, with_conflicting, with_kept, kept_lines, IsProper};
+ghost use Rattle.rel_checker.specs.Flipping.{climbs, climbs_on, number_of_steps, SameRows, AreNoted, flipped_orders, edges_of, IsBuiltFor};
+ghost use Rattle.rel_checker.specs.Flipping.{with_implied, with_conflicting, with_kept, kept_lines, IsProper};
 ghost use Rattle.rel_checker.specs.PathSteps.{place_in, AreCodedSteps, HaveCodedSteps};
 
 use crate::edges::labels::Labels;

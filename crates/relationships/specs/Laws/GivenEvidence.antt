@@ -10,7 +10,8 @@ use Rattle.relationships.specs.Givens.{return_of, returns, NameTwo}
 use Rattle.relationships.specs.Evidence.{NeighboursDiffer, Numbered, paths_of, Refutes, Show, Closure, IsConsistent}
 use Rattle.relationships.specs.Selection.{KeepsFrom, IsForced}
 use Rattle.relationships.specs.Checking.{kept_of, Claim, MarksHold, LostFrom}
-use Rattle.relationships.specs.GivenEvidence.{AreReturnRows, AreUpTo, with_given_links, RefutesWith, ShowFromWith, LostFromWith, served_with, MarksHoldWith, MeetsRulesWith, MeetsAgreeingRules}
+use Rattle.relationships.specs.GivenEvidence.{AreReturnRows, AreUpTo, with_given_links, RefutesWith, ShowFromWith, LostFromWith}
+use Rattle.relationships.specs.GivenEvidence.{served_with, MarksHoldWith, MeetsRulesWith, MeetsAgreeingRules}
 
 -- where nothing is given, evidence with givens is evidence
 abbrev pub NoGivensLaw : Type 0

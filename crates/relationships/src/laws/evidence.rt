@@ -1,6 +1,7 @@
 //! What walks and closures show of the orientations that serve.
 
-ghost use Rattle.relationships.specs.Laws.Evidence.{RefutingLaw, ShowingLaw, ClosureLaw, AllowedLaw, ConsistencyLaw, ImpliedLaw, OpenLaw, UnheldLaw};
+ghost use Rattle.relationships.specs.Laws.Evidence.{RefutingLaw, ShowingLaw, ClosureLaw, AllowedLaw, ConsistencyLaw, ImpliedLaw, OpenLaw};
+ghost use Rattle.relationships.specs.Laws.Evidence.{UnheldLaw};
 
 /// A walk that refutes leaves no orientation that serves.
 pub fn refuting_law()

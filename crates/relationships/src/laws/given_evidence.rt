@@ -1,6 +1,7 @@
 //! Evidence where relationships are given.
 
-ghost use Rattle.relationships.specs.Laws.GivenEvidence.{NoGivensLaw, GivenWalksLaw, GivenLinksLaw, GivenMarksLaw, GivenRulesLaw, AgreeingRulesLaw, SameClosureLaw};
+ghost use Rattle.relationships.specs.Laws.GivenEvidence.{NoGivensLaw, GivenWalksLaw, GivenLinksLaw, GivenMarksLaw, GivenRulesLaw};
+ghost use Rattle.relationships.specs.Laws.GivenEvidence.{AgreeingRulesLaw, SameClosureLaw};
 
 /// Where nothing is given, evidence with givens is evidence.
 pub fn no_givens_law()

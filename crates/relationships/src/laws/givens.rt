@@ -1,6 +1,7 @@
 //! What is said of paths is said of givens by their returns, which stand in front of the paths.
 
-ghost use Rattle.relationships.specs.Laws.Givens.{GivenServingLaw, GivenClosureLaw, GivenEdgesLaw, FewReturnsLaw, GivensServableLaw, AllGivensLaw};
+ghost use Rattle.relationships.specs.Laws.Givens.{GivenServingLaw, GivenClosureLaw, GivenEdgesLaw, FewReturnsLaw, GivensServableLaw};
+ghost use Rattle.relationships.specs.Laws.Givens.{AllGivensLaw};
 
 /// An orientation agrees with givens and serves paths exactly if it serves the returns of the givens
 /// and then the paths; so do labels.

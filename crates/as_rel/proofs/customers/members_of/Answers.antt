@@ -17,6 +17,7 @@ returns c =
     IfOk-weaker c.ases_from.result _ _
     (λ members found b.
     let is = found.2 ∙ ap (λ l. map (slice_index l) found.0) c.ases-numbers.ensures.ases in
-    let exact = nodes_members c.args.lines.now ases c.add_net.new.graph c.args.of c.in_ok-start.start c.in_ok-start.ensures.net c.in_ok-start.ensures.node c.ases-numbers.ensures.once found.0 found.1 b in
+    let exact = nodes_members c.args.lines.now ases c.add_net.new.graph c.args.of c.in_ok-start.start c.in_ok-start.ensures.net c.in_ok-start.ensures.node c.ases-numbers.ensures.once found.0 found.1
+    b in
     subst (λ l. Contains l b ↔ InCone c.args.lines.now c.args.of b) (sym is) exact)
     c.ases_from.ensures

@@ -61,7 +61,8 @@ loop-place-preserved c =
     c.as_slice-in-loop-place.ensures ∙ c.index-in-loop-place.ensures ∙ get_or_default c.in_ok-lists.lists.items place c.index-in-loop-place.result.now [] (omega (arith, lt, lists)) in
     let excluded = c.index.result.now in
     let exclusions = c.in_ok-excluded.ensures.long in
-    let is_excluded : excluded ≡ get_or c.in_ok-excluded.excluded.items place false = c.index.ensures ∙ get_or_default c.in_ok-excluded.excluded.items place excluded false (omega (arith, lt, exclusions)) in
+    let is_excluded : excluded ≡ get_or c.in_ok-excluded.excluded.items place false = c.index.ensures
+    ∙ get_or_default c.in_ok-excluded.excluded.items place excluded false (omega (arith, lt, exclusions)) in
     settled_next paths kept ratio c.args.orientation.now c.requires.there c.facts.ensures.apart c.requires.ends place e excluded places
     c.loop-place.labels (slice_get-get_or es place (0, 0) lt)
     (λ q at. c.in_ok-lists.ensures.inside place q lt (subst (λ l. Contains l q) is at))

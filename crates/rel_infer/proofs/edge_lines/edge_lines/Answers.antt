@@ -24,7 +24,8 @@ loop-place-preserved c =
     let count = c.edge_count-place-end.ensures.count in
     let lt : place < length es = omega (arith, test, count) in
     let same : c.unwrap.result ≡ place = search rules in
-    let edge : slice_get es place ≡ Some (c.edge-edge.result.low, c.edge-edge.result.high) = subst (λ k. slice_get es k ≡ Some (c.edge-edge.result.low, c.edge-edge.result.high)) same c.edge-edge.ensures.pair in
+    let edge : slice_get es place ≡ Some (c.edge-edge.result.low, c.edge-edge.result.high) = subst (λ k. slice_get es k ≡ Some (c.edge-edge.result.low, c.edge-edge.result.high)) same
+    c.edge-edge.ensures.pair in
     let label : slice_get labels place ≡ Some (get_or c.as_slice-labels.result.now place Label.Low) =
     slice_get-get_or labels place Label.Low (omega (arith, lt, c.requires.labels)) ∙ ap (λ (l : List Label). Some (get_or l place Label.Low)) (sym c.as_slice-labels.ensures) in
     let mark : slice_get marks place ≡ Some (get_or marks place Mark.Forced) = slice_get-get_or marks place Mark.Forced (omega (arith, lt, c.requires.marks)) in

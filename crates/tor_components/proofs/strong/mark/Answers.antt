@@ -14,13 +14,15 @@ loop-node-init g c = record {
 pub put-requires : goal.put-requires
 put-requires g c =
     let nodes = c.args.nodes.now in
-    let at : slice_get nodes c.loop-node.node-index ≡ Some c.node-item.result = slice_get_read nodes (length nodes) c.loop-node.node-index c.node-item.result refl c.loop-node-test.true c.node-item.is in
+    let at : slice_get nodes c.loop-node.node-index ≡ Some c.node-item.result = slice_get_read nodes (length nodes) c.loop-node.node-index c.node-item.result refl c.loop-node-test.true c.node-item.is
+    in
     subst (λ n. g.N.Index.place_of c.node-item.result < n) (sym c.loop-node.invariant.many) (c.requires c.node-item.result (c.loop-node.node-index, at))
 
 pub loop-node-preserved : goal.loop-node-preserved
 loop-node-preserved g c =
     let nodes = c.args.nodes.now in
-    let at : slice_get nodes c.loop-node.node-index ≡ Some c.node-item.result = slice_get_read nodes (length nodes) c.loop-node.node-index c.node-item.result refl c.loop-node-test.true c.node-item.is in
+    let at : slice_get nodes c.loop-node.node-index ≡ Some c.node-item.result = slice_get_read nodes (length nodes) c.loop-node.node-index c.node-item.result refl c.loop-node-test.true c.node-item.is
+    in
     let inside = subst (λ n. g.N.Index.place_of c.node-item.result < n) (sym c.loop-node.invariant.many) (c.requires c.node-item.result (c.loop-node.node-index, at)) in
     marked_next g.N.Index.place_of g.met.N.Index.is_one nodes c.args.class c.loop-node.node-index c.node-item.result at c.args.classes.now.items c.loop-node.classes.items c.put.new.self.items
     inside c.put.ensures.items c.loop-node.invariant

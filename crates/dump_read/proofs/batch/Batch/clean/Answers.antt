@@ -32,7 +32,8 @@ invariant_of-self-2 c =
     c.push_reserved.ensures.items ∙ ap (λ t. t ++ c.in_ok-cause.cause ∷ []) c.reserve.ensures.items in
     let new_paths = c.in-Ok.ensures.added ∙ ap (λ p. paths ++ p ∷ []) c.as_slice.ensures in
     let few = c.self.invariant.few in
-    let room : length paths < most_places = elim (cases_lt (length paths) (most_places)) [ inl lt ↦ lt | inr ge ↦ absurd (not_full c.in-Ok.field-0 (c.in-Ok.ensures.full.1 (omega (arith, ge, few)))) ] in
+    let room : length paths < most_places = elim (cases_lt (length paths) (most_places)) [ inl lt ↦ lt | inr ge ↦ absurd (not_full c.in-Ok.field-0 (c.in-Ok.ensures.full.1 (omega (arith, ge, few)))) ]
+    in
     let more = length-append paths (c.clean_into.new.path ∷ []) in
     subst (IsBatch c.push_reserved.new.self.items) (sym new_paths) (subst (λ causes. IsBatch causes (paths ++ c.clean_into.new.path ∷ [])) (sym new_causes)
     (IsBatch-push c.args.sets route causes paths c.in_ok-cause.cause c.clean_into.new.path c.self.invariant (omega (arith, more, room)) c.in_ok-cause.ensures))

@@ -95,4 +95,5 @@ returns-in_ok-take_path-in-None-place-clause-taken c =
     let within : c.args.place < length causes = within-causes causes paths c.args.self.now c.self.inside.lookup c.args.place same c.self.view_is c.requires.there in
     let none = slice_get_read causes (length causes) c.args.place c.index.result.now refl within c.index.ensures ∙ ap (λ o. Some o) c.in-None.is in
     let stands = ap (λ b. slice_get b.routes c.args.place) (sym c.self.view_is) ∙ cleaned-at causes paths c.args.place None c.row_at.result.now none c.row_at.ensures in
-    λ route is. subst (λ r. take_cleaned c.args.taken.now r ≡ Ok c.take_path.new.taken) (one-route c.args.self.now.routes c.args.place (Path c.row_at.result.now) route stands is) c.in_ok-take_path-in-None-place.ensures.taken
+    λ route is. subst (λ r. take_cleaned c.args.taken.now r ≡ Ok c.take_path.new.taken) (one-route c.args.self.now.routes c.args.place (Path c.row_at.result.now) route stands is)
+    c.in_ok-take_path-in-None-place.ensures.taken

@@ -65,6 +65,7 @@ loop-skip-preserved c =
     record {
       room = subst (λ n. c.args.digraph.now.nodes ≤ n) (sym (ap length c.put.ensures.items ∙ length-set c.loop-skip.self.places.items from (Some c.in-Ok.part))) c.loop-skip.invariant.room;
       there = c.loop-skip.invariant.there;
-      known = known_part arcs c.args.first from c.in-Ok.part part way old new c.loop-skip.invariant.there is c.requires.early (c.in-Ok.ensures.1 ∙ c.len-in-loop-skip.ensures) refl c.in_ok-push.ensures.ok
+      known = known_part arcs c.args.first from c.in-Ok.part part way old new c.loop-skip.invariant.there is c.requires.early (c.in-Ok.ensures.1
+          ∙ c.len-in-loop-skip.ensures) refl c.in_ok-push.ensures.ok
           c.put.ensures.items c.loop-skip.invariant.known;
     }

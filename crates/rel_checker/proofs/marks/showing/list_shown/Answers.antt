@@ -14,7 +14,8 @@ loop-place-preserved c =
     let shown = rw c.as_slice.ensures at c.show_last.ensures.shown in
     record {
       many = c.show_last.ensures.many ∙ ap length c.as_slice.ensures;
-      shown = subst (λ l. IsShownBy file.edges l c.show_last.new.shown.items) (sym (ap shown_orders (take_get file.whys i c.walk_at-walk.result item) ∙ orders_more (take i file.whys) c.walk_at-walk.result))
+      shown = subst (λ l. IsShownBy file.edges l c.show_last.new.shown.items) (sym (ap shown_orders (take_get file.whys i c.walk_at-walk.result item)
+          ∙ orders_more (take i file.whys) c.walk_at-walk.result))
           (shown (shown_orders (take i file.whys)) c.loop-place.invariant.shown);
     }
 

@@ -45,7 +45,8 @@ pub returns-then-branch-clause-consistent : goal.returns-then-branch-clause-cons
 returns-then-branch-clause-consistent c =
     let flips = rw c.as_slice-lines.ensures at c.in-Some.ensures in (
       λ t. consistent_within (flipped_orders c.args.file.now.edges) (kept_lines c.args.file.now.paths) c.args.flips.now.implied c.args.flips.now.conflicting c.requires.laid.built
-          c.requires.laid.proper c.requires.laid.settled c.in-Some.start c.args.probe.now.over c.args.probe.now.under c.args.self.now.round c.args.self.now.rounds.items c.join.new.self.rounds.items c.join.new.self.found
+          c.requires.laid.proper c.requires.laid.settled c.in-Some.start c.args.probe.now.over c.args.probe.now.under c.args.self.now.round c.args.self.now.rounds.items c.join.new.self.rounds.items
+          c.join.new.self.found
           flips c.in_ok-join.ensures.searched (c.in_ok-join.ensures.agreeing.0 c.if-branch.true),
       λ h. refl,
     )
