@@ -1,6 +1,9 @@
 pub mod EdgeLines
 pub mod Finding
+pub mod GivenLaws
+pub mod GivenResults
 pub mod Inference
 pub mod OneResult
 pub mod Peers
 pub mod Results
+pub mod Returns
