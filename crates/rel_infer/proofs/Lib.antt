@@ -5,5 +5,10 @@ pub mod Whole
 pub mod KeptPlaces
 pub mod Labels
 pub mod LineLemmas
+pub mod Linking
+pub mod OneGivenResult
 pub mod OneResult
+pub mod Relinked
+pub mod ReturnRows
 pub mod SelfAcceptance
+pub mod Ungiven

@@ -37,7 +37,7 @@ claims_same : (lines : List EdgeLine) → claims_of (map pair_of lines) (map (λ
 claims_same [] = refl
 claims_same (line ∷ lines) = ap (λ l. claim_on line ∷ l) (claims_same lines)
 
-pairs_same : (lines : List EdgeLine) → map {B = Edge} (λ (c : Claim). (c.low, c.high)) (map claim_on lines) ≡ map pair_of lines
+pub pairs_same : (lines : List EdgeLine) → map {B = Edge} (λ (c : Claim). (c.low, c.high)) (map claim_on lines) ≡ map pair_of lines
 pairs_same [] = refl
 pairs_same (line ∷ lines) = ap (λ l. pair_of line ∷ l) (pairs_same lines)
 

@@ -2,19 +2,19 @@
 use Rattle.std.proofs.Common.{◌≡◌, ◌≢◌, ◌↔◌, ℕ, zero, suc, ◌+◌, ◌<◌, ◌⊎◌, inl, inr, Bool, true, false, not, ◌||◌, List, [], ◌∷◌, ◌++◌, length, get_or, map, Option, Some, None, is_none, refl, sym, ap}
 use Rattle.std.proofs.Common.{ap₂, ◌∙◌, subst, arith, append_assoc, append-nil, All, Contains, IsTrue, eq-eqb, if◌then◌else◌}
 use Rattle.std.specs.List.{AllPairs, list_any, count_by}
-use Rattle.std.proofs.lemmas.Bool.{cases_Bool, both_ways}
+use Rattle.std.proofs.lemmas.Bool.{cases_Bool}
 use Rattle.std.proofs.lemmas.List.Elements.{All-contains, All-nil, All-push, Contains-get_or, Contains-append_right}
 use Rattle.relationships.specs.declared.label.End.{End}
 use Rattle.relationships.specs.declared.label.Label.{Label}
 use Rattle.relationships.specs.declared.mark.Mark.{Mark}
 use Rattle.relationships.specs.declared.walk.Walk.{Walk}
-use Rattle.relationships.specs.Relationship.{Orientation, Labelling, label_of, labels_of, ValleyFree, Serves}
-use Rattle.relationships.specs.Graph.{Edge, SameOn, is_same, edges, degree, support, labelling}
+use Rattle.relationships.specs.Relationship.{Orientation, Labelling, label_of, labels_of}
+use Rattle.relationships.specs.Graph.{Edge, SameOn, is_same, edges, degree, support}
 use Rattle.relationships.specs.Evidence.{paths_of, kept_from}
-use Rattle.relationships.specs.Selection.{Keeps, IsForced}
+use Rattle.relationships.specs.Selection.{IsForced}
 use Rattle.relationships.specs.Preference.{IsSettlingOrder, IsPreferred, IsRelabelled, MayPeer, place, lead, wanted, with_peer, so_far}
 use Rattle.relationships.specs.Marking.{is_forced}
-use Rattle.relationships.specs.Checking.{kept_of, claimed_labels}
+use Rattle.relationships.specs.Checking.{claimed_labels}
 use Rattle.relationships.proofs.Edges.{same_edge, relaxing_law}
 use Rattle.relationships.proofs.Neighbours.{edge_law}
 use Rattle.relationships.proofs.Selecting.{selection_law}
@@ -212,7 +212,7 @@ kept_is_one n (x ∷ xs) (true ∷ keeps) p (zero, lt, is) = (zero, omega arith,
 kept_is_one n (x ∷ xs) (true ∷ keeps) p (suc k, lt, is) = let r = kept_is_one (n + 1) xs keeps p (k, omega (arith, lt), is) in (suc r.0, omega (arith, r.1), r.2)
 kept_is_one n (x ∷ xs) (false ∷ keeps) p c = let r = kept_is_one (n + 1) xs keeps p c in (suc r.0, omega (arith, r.1), r.2)
 
-kept_edge : (n : ℕ) (paths : List (List ℕ)) (keeps : List Bool) (e : Edge) → Contains (edges (paths_of (kept_from n paths keeps))) e → Contains (edges paths) e
+pub kept_edge : (n : ℕ) (paths : List (List ℕ)) (keeps : List Bool) (e : Edge) → Contains (edges (paths_of (kept_from n paths keeps))) e → Contains (edges paths) e
 kept_edge n paths keeps e c =
     let (a, b, neighbours, is) = ((edge_law (paths_of (kept_from n paths keeps))).1 e).0 c in
     ((edge_law paths).1 e).1 (a, b, (neighbours.0, kept_is_one n paths keeps neighbours.0 neighbours.1, neighbours.2), is)
@@ -231,13 +231,13 @@ one_labelling ratio paths keeps L L' a a' =
 
 -- ---- the lines
 
-abbrev pair_of : EdgeLine → Edge
+abbrev pub pair_of : EdgeLine → Edge
 pair_of line = (line.low, line.high)
 
-abbrev pairs_of : List EdgeLine → List Edge
+abbrev pub pairs_of : List EdgeLine → List Edge
 pairs_of lines = map pair_of lines
 
-abbrev labels_by : List EdgeLine → Labelling
+abbrev pub labels_by : List EdgeLine → Labelling
 labels_by lines = claimed_labels (map claim_on lines)
 
 same_mark : (m m' : Mark) (P : Type 0) → IsTrue (is_forced m) ↔ P → IsTrue (is_forced m') ↔ P → m ≡ m'
@@ -274,25 +274,25 @@ others_label line lines e apart =
       | inr n ↦ rw n
     ]
 
-one_list : (kept : List (List ℕ)) (lines lines' : List EdgeLine) → pairs_of lines ≡ pairs_of lines' → AllPairs ◌≢◌ (pairs_of lines) →
+pub one_list : (kept served : List (List ℕ)) (lines lines' : List EdgeLine) → pairs_of lines ≡ pairs_of lines' → AllPairs ◌≢◌ (pairs_of lines) →
     ((e : Edge) → Contains (pairs_of lines) e → labels_by lines e.0 e.1 ≡ labels_by lines' e.0 e.1) →
     All (λ line. line.support ≡ support kept (line.low, line.high)) lines → All (λ line. line.support ≡ support kept (line.low, line.high)) lines' →
-    All (λ line. IsTrue (is_forced line.mark) ↔ IsForced kept line.low line.high) lines →
-    All (λ line. IsTrue (is_forced line.mark) ↔ IsForced kept line.low line.high) lines' → lines ≡ lines'
-one_list kept [] [] pairs apart same s s' f f' = refl
-one_list kept [] (b ∷ bs) pairs apart same s s' f f' = absurd cc
-one_list kept (a ∷ more) [] pairs apart same s s' f f' = absurd cc
-one_list kept (a ∷ more) (b ∷ bs) pairs apart same s s' f f' =
+    All (λ line. IsTrue (is_forced line.mark) ↔ IsForced served line.low line.high) lines →
+    All (λ line. IsTrue (is_forced line.mark) ↔ IsForced served line.low line.high) lines' → lines ≡ lines'
+one_list kept served [] [] pairs apart same s s' f f' = refl
+one_list kept served [] (b ∷ bs) pairs apart same s s' f f' = absurd cc
+one_list kept served (a ∷ more) [] pairs apart same s s' f f' = absurd cc
+one_list kept served (a ∷ more) (b ∷ bs) pairs apart same s s' f f' =
     let pair : pair_of a ≡ pair_of b = head_pair (a.low, a.high) (b.low, b.high) (pairs_of more) (pairs_of bs) pairs in
     let label : a.label ≡ b.label =
     sym (own_label a more) ∙ same (a.low, a.high) (zero, omega arith, refl) ∙ ap (λ (p : Edge). labels_by (b ∷ bs) p.0 p.1) pair ∙ own_label b bs in
     let mark : a.mark ≡ b.mark =
-    same_mark a.mark b.mark (IsForced kept a.low a.high) (f zero a (omega arith))
-    (subst (λ (p : Edge). IsTrue (is_forced b.mark) ↔ IsForced kept p.0 p.1) (sym pair) (f' zero b (omega arith))) in
+    same_mark a.mark b.mark (IsForced served a.low a.high) (f zero a (omega arith))
+    (subst (λ (p : Edge). IsTrue (is_forced b.mark) ↔ IsForced served p.0 p.1) (sym pair) (f' zero b (omega arith))) in
     let times : a.support ≡ b.support = s zero a (omega arith) ∙ ap (support kept) pair ∙ sym (s' zero b (omega arith)) in
     let rest = tail_pairs_same (a.low, a.high) (b.low, b.high) (pairs_of more) (pairs_of bs) pairs in
     ap₂ (λ (l : EdgeLine) (ls : List EdgeLine). l ∷ ls) (same_line a b pair label mark times)
-    (one_list kept more bs rest (λ i j d lt within. apart (suc i) (suc j) d (omega (arith, lt)) (omega (arith, within)))
+    (one_list kept served more bs rest (λ i j d lt within. apart (suc i) (suc j) d (omega (arith, lt)) (omega (arith, within)))
     (λ e c.
     let not_a : (a.low, a.high) ≡ e → ⊥ = λ h. apart zero (suc c.0) e (omega arith) (omega (arith, c.1)) (h ∙ sym c.2) in
     let not_b : (b.low, b.high) ≡ e → ⊥ = λ h. not_a (pair ∙ h) in
@@ -314,7 +314,7 @@ one_inference_law ratio paths walks walks' lines lines' whys whys' probes probes
     let forced' : All (λ line. IsTrue (is_forced line.mark) ↔ IsForced kept line.low line.high) lines' =
     subst (λ ks. All (λ line. IsTrue (is_forced line.mark) ↔ IsForced (paths_of (kept_from 1 paths ks)) line.low line.high) lines') (sym flags) r'.forced in (
       flags,
-      one_list kept lines lines' pairs (subst (AllPairs ◌≢◌) (sym r.edges_listed) ((edge_law paths).0))
+      one_list kept kept lines lines' pairs (subst (AllPairs ◌≢◌) (sym r.edges_listed) ((edge_law paths).0))
           (λ e c. one_labelling ratio paths keeps (labels_by lines) (labels_by lines') r.labels labels' e (subst (λ es. Contains es e) r.edges_listed c)) r.supports supports' r.forced forced',
     )
 

@@ -1,28 +1,23 @@
 -- The whole result, from what is inferred and from a table of paths.
-use Rattle.std.proofs.Common.{◌≡◌, ◌≤◌, ◌∙◌, ℕ, List, IsTrue, All, Option, map, length, sum_by, refl, sym, ap, subst}
-use Rattle.std.specs.List.{list_all}
-use Rattle.tor_arena.specs.Limits.{max_numbers, max_paths, max_ratio}
+use Rattle.std.proofs.Common.{◌≡◌, ◌∙◌, ℕ, List, Option, map, refl, sym, ap, subst}
 use Rattle.relationships.specs.declared.walk.Walk.{Walk}
 use Rattle.relationships.specs.Fates.{walk_of}
 use Rattle.path_clean.specs.declared.cleaned.Sets.{Sets}
 use Rattle.path_clean.specs.Counts.{CauseCounts}
-use Rattle.path_clean.specs.Paths.{is_cleaned}
-use Rattle.path_clean.specs.Rows.{Counted, row_paths, times_of, none_twice}
+use Rattle.path_clean.specs.Rows.{Counted, row_paths, times_of}
 use Rattle.result_text.specs.declared.file.PathLine.{PathLine}
 use Rattle.result_text.specs.declared.file.ResultFile.{ResultFile}
 use Rattle.result_text.specs.declared.file.Totals.{Totals}
 use Rattle.result_rules.specs.File.{its_paths, its_walks, its_probes}
-use Rattle.result_rules.specs.Rules.{Accepts}
 use Rattle.rel_infer.specs.declared.inferring.Inferred.{Inferred}
-use Rattle.rel_infer.specs.Inference.{AreInferred}
-use Rattle.rel_infer.specs.Peers.{PeerEitherWay, LeaveNoneOut}
-use Rattle.rel_infer.specs.Results.{IsResultOf, IsInferred}
+use Rattle.relationships.specs.declared.given.Given.{Given}
+use Rattle.rel_infer.specs.Inference.{AreInferredWith}
+use Rattle.rel_infer.specs.GivenResults.{IsResultWith, IsInferredWith, PeerEitherWayWith, LeaveNoneOutWith}
 use Rattle.result_rules.specs.Totals.{totals_by}
-use Rattle.rel_infer.proofs.Acceptance.{accepted}
 use Rattle.rel_infer.proofs.Assembling.{rows_same, walks_same}
 
-module _ (sets : Sets) (ratio : ℕ) (rows : List Counted) (counts : CauseCounts) (paths : List (List ℕ)) (times : List ℕ) (i : Inferred) (lines : List PathLine) (totals : Totals)
-    (its_rows : paths ≡ row_paths rows) (its_times : times ≡ times_of rows) (are : AreInferred ratio paths i) (counted : totals ≡ totals_by i.fates i.found.edges)
+module _ (givens : List Given) (sets : Sets) (ratio : ℕ) (rows : List Counted) (counts : CauseCounts) (paths : List (List ℕ)) (times : List ℕ) (i : Inferred) (lines : List PathLine) (totals : Totals)
+    (its_rows : paths ≡ row_paths rows) (its_times : times ≡ times_of rows) (are : AreInferredWith givens ratio paths i) (counted : totals ≡ totals_by i.fates i.found.edges)
     (line_paths : map (λ (p : PathLine). p.path) lines ≡ paths) (line_times : map (λ (p : PathLine). p.times) lines ≡ times)
     (line_fates : map (λ (p : PathLine). p.fate) lines ≡ i.fates) where
   abbrev file : ResultFile
@@ -44,31 +39,19 @@ module _ (sets : Sets) (ratio : ℕ) (rows : List Counted) (counts : CauseCounts
   moved : (P : List (List ℕ) → List (Option Walk) → Type 0) → P paths (map walk_of i.fates) → P (its_paths file) (its_walks file)
   moved P h = subst (P (its_paths file)) (sym walks) (subst (λ ps. P ps (map walk_of i.fates)) (sym line_paths) h)
 
-  pub whole : IsResultOf sets ratio rows counts file
+  pub whole : IsResultWith givens sets ratio rows counts file
   whole =
       record {
         its_sets = refl;
         its_ratio = refl;
         its_counts = refl;
         paths = rows_same lines rows (line_paths ∙ its_rows) (line_times ∙ its_times);
-        inferred = moved (λ ps ws. IsInferred ratio ps ws i.found.edges i.found.whys (its_probes file)) are.inferred;
+        inferred = moved (λ ps ws. IsInferredWith givens ratio ps ws i.found.edges i.found.whys (its_probes file)) are.inferred;
         totals = counted ∙ ap (λ fates. totals_by fates i.found.edges) (sym line_fates);
       }
 
-  pub whole_accepted : ratio ≤ max_ratio → IsTrue (list_all is_cleaned (row_paths rows)) → All (λ n. 1 ≤ n) (times_of rows) → IsTrue (none_twice (row_paths rows)) →
-      length (row_paths rows) ≤ max_paths → sum_by length (row_paths rows) ≤ max_numbers → Accepts file
-  whole_accepted small clean seen once few numbers =
-      let same : its_paths file ≡ row_paths rows = line_paths ∙ its_rows in
-      accepted sets ratio rows counts file small whole (record {
-        clean = subst (λ ps. IsTrue (list_all is_cleaned ps)) (sym same) clean;
-        seen = subst (All (λ n. 1 ≤ n)) (sym (line_times ∙ its_times)) seen;
-        once = subst (λ ps. IsTrue (none_twice ps)) (sym same) once;
-        few = subst (λ ps. length ps ≤ max_paths) (sym same) few;
-        numbers = subst (λ ps. sum_by length ps ≤ max_numbers) (sym same) numbers;
-      })
+  pub whole_either_way : PeerEitherWayWith givens (its_paths file) (its_walks file) i.found.edges
+  whole_either_way = moved (λ ps ws. PeerEitherWayWith givens ps ws i.found.edges) are.either_way
 
-  pub whole_either_way : PeerEitherWay (its_paths file) (its_walks file) i.found.edges
-  whole_either_way = moved (λ ps ws. PeerEitherWay ps ws i.found.edges) are.either_way
-
-  pub whole_none_left_out : LeaveNoneOut ratio (its_paths file) (its_walks file) i.found.edges
-  whole_none_left_out = moved (λ ps ws. LeaveNoneOut ratio ps ws i.found.edges) are.none_left_out
+  pub whole_none_left_out : LeaveNoneOutWith givens ratio (its_paths file) (its_walks file) i.found.edges
+  whole_none_left_out = moved (λ ps ws. LeaveNoneOutWith givens ratio ps ws i.found.edges) are.none_left_out

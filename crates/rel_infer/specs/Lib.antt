@@ -1,7 +1,10 @@
 pub mod EdgeLines
 pub mod Finding
+pub mod GivenLaws
+pub mod GivenResults
 pub mod Inference
 pub mod OneResult
 pub mod Peers
 pub mod Results
+pub mod Returns
 pub mod SelfAcceptance

@@ -19,7 +19,7 @@ use path_select::Selector;
 use relationships::{Mark, Probe, Walks};
 use result_text::EdgeLine;
 use std::alloc::Global;
-use tor_arena::{List, NoMemory};
+use tor_arena::{List, NoMemory, PathId};
 
 /// What is found of the edges of a graph.
 #[derive(Drop)]
@@ -49,52 +49,46 @@ fn marks_of(
     forced(alloc, graph, selector.clauses(), labels)
 }
 
-// How many of the kept paths hold each edge.
-fn supports_of(alloc: Global, graph: &AsGraph, selector: &Selector) -> Result<List<u32>, NoMemory>
-    requires there { All (λ path. path < length graph.now) selector.now.formula.paths }
-    requires once { AllPairs ◌≢◌ selector.now.formula.paths }
-    requires distinct { All AllDistinct (paths_at graph.now selector.now.formula.paths) }
-    ensures { IfOk result (λ counts. counts ≡ map (support (paths_at graph.now selector.now.formula.paths)) (edges graph.now)) }
-{
-    graph.support(alloc, selector.kept())
-}
-
-// The lines of the edges, with these labels and marks, each with how many of the kept paths hold its edge.
+// The lines of the edges, with these labels and marks, each with how many of the counted paths hold its edge.
 fn lines_of(
     alloc: Global,
     graph: &AsGraph,
-    selector: &Selector,
+    counted: &[PathId],
     labels: &Labels,
     marks: &[Mark],
 ) -> Result<List<EdgeLine>, NoMemory>
-    requires there { All (λ path. path < length graph.now) selector.now.formula.paths }
-    requires once { AllPairs ◌≢◌ selector.now.formula.paths }
-    requires distinct { All AllDistinct (paths_at graph.now selector.now.formula.paths) }
+    requires there { All (λ path. path < length graph.now) counted.now }
+    requires once { AllPairs ◌≢◌ counted.now }
+    requires distinct { All AllDistinct (paths_at graph.now counted.now) }
     requires labels { length labels.now ≡ length (edges graph.now) }
     requires marks { length marks.now ≡ length (edges graph.now) }
     ensures { IfOk result (AreLinesOf (edges graph.now) labels.now marks.now
-        (map (support (paths_at graph.now selector.now.formula.paths)) (edges graph.now))) }
+        (map (support (paths_at graph.now counted.now)) (edges graph.now))) }
 {
-    let supports = supports_of(alloc, graph, selector)?;
+    let supports = graph.support(alloc, counted)?;
     edge_lines(alloc, graph, labels, marks, supports.as_slice())
 }
 
-/// What is found of the edges of a graph, where the paths that the selector has kept are kept. The only error is that memory ran out.
+/// What is found of the edges of a graph, where the paths that the selector has kept are kept, and `counted` of them vote and are
+/// counted. The only error is that memory ran out.
 pub(crate) fn found_in(
     alloc: Global,
     graph: &AsGraph,
     selector: &Selector,
+    counted: &[PathId],
     ratio: u32,
 ) -> Result<Found, NoMemory>
     requires fits { FitsGraph graph.now selector.now.formula }
-    requires once { AllPairs ◌≢◌ selector.now.formula.paths }
-    requires distinct { All AllDistinct (paths_at graph.now selector.now.formula.paths) }
+    requires apart { AllPairs ◌≢◌ selector.now.formula.paths }
+    requires there { All (λ path. path < length graph.now) counted.now }
+    requires once { AllPairs ◌≢◌ counted.now }
+    requires distinct { All AllDistinct (paths_at graph.now counted.now) }
     requires small { ratio ≤ max_ratio }
-    ensures { IfOk result (AreFound ratio graph.now selector.now.formula) }
+    ensures { IfOk result (AreFound ratio graph.now selector.now.formula counted.now) }
 {
-    let labels = labels_of(alloc, graph, selector, ratio)?;
+    let labels = labels_of(alloc, graph, selector, counted, ratio)?;
     let found = marks_of(alloc, graph, selector, &labels)?;
-    let edges = lines_of(alloc, graph, selector, &labels, found.marks.as_slice())?;
+    let edges = lines_of(alloc, graph, counted, &labels, found.marks.as_slice())?;
     Ok(Found {
         edges,
         whys: found.whys,

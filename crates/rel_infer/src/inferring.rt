@@ -1,15 +1,25 @@
 //! What is inferred from distinct paths.
-ghost use Rattle.std.specs.Prelude.{◌≡◌, ◌≤◌, All, length, sum_by, IfOk};
+ghost use Rattle.std.specs.Prelude.{◌≡◌, ◌≢◌, ◌-◌, ◌≤◌, ◌<◌, [], All, drop, length, sum_by, take, IfOk};
+ghost use Rattle.std.specs.List.{AllPairs};
 ghost use Rattle.tor_arena.specs.Distinct.{AllDistinct};
 ghost use Rattle.tor_arena.specs.Limits.{max_numbers, max_paths, max_ratio};
-ghost use Rattle.rel_infer.specs.Inference.{AreInferred};
+ghost use Rattle.relationships.specs.Givens.{NameOnce, NameTwo};
+ghost use Rattle.relationships.specs.Selection.{IsServable};
+ghost use Rattle.as_graph.specs.Paths.{paths_at};
+ghost use Rattle.tor_clauses.specs.Formulas.{FitsGraph};
+ghost use Rattle.rel_infer.specs.Finding.{AreFound, AreInferredIn};
+ghost use Rattle.rel_infer.specs.GivenResults.{max_givens};
+ghost use Rattle.rel_infer.specs.Inference.{AreInferredWith};
+ghost use Rattle.rel_infer.specs.Returns.{IsLinked, IsRelinked, IsUnlinked, places_from};
 
 use crate::finding::{Found, found_in};
-use as_graph::{AsGraph, build};
-use path_select::select;
-use relationships::Fates;
+use crate::relinking::{relinked_fates, relinked_walks};
+use crate::returns::{numbers_of, places_behind};
+use as_graph::{AsGraph, build_with};
+use path_select::{Selector, select_behind};
+use relationships::{Fates, Given};
 use std::alloc::Global;
-use tor_arena::{Keys, NoMemory, PathId, Rows};
+use tor_arena::{Keys, List, NoMemory, PathId, Rows};
 
 /// What is inferred from distinct paths.
 #[derive(Drop)]
@@ -20,27 +30,139 @@ pub(crate) struct Inferred {
     pub found: Found,
 }
 
-// What is inferred from the paths of a graph.
-fn inferred_in(alloc: Global, keys: Keys, graph: &AsGraph, ratio: u32) -> Result<Inferred, NoMemory>
-    requires distinct { All AllDistinct graph.now }
-    requires small { ratio ≤ max_ratio }
-    ensures many { IfOk result (λ inferred. length inferred.fates ≡ length graph.now) }
-    ensures inferred { IfOk result (AreInferred ratio graph.now) }
+// The places but for the first, so many.
+fn behind(places: &[PathId], first: usize) -> &[PathId]
+    requires { first ≤ length places.now }
+    ensures { result.now ≡ drop first places.now }
 {
-    let selection = select(alloc, keys, graph)?;
-    let found = found_in(alloc, graph, &selection.selector, ratio)?;
+    &places[first..]
+}
+
+// What is found of the edges of a graph, where the paths that the selector has kept are kept, and all but the first of them, so many,
+// are counted.
+fn found_behind(
+    alloc: Global,
+    graph: &AsGraph,
+    selector: &Selector,
+    first: usize,
+    ratio: u32,
+) -> Result<Found, NoMemory>
+    requires fits { FitsGraph graph.now selector.now.formula }
+    requires apart { AllPairs ◌≢◌ selector.now.formula.paths }
+    requires first { first ≤ length selector.now.formula.paths }
+    requires there { All (λ path. path < length graph.now) (drop first selector.now.formula.paths) }
+    requires once { AllPairs ◌≢◌ (drop first selector.now.formula.paths) }
+    requires distinct { All AllDistinct (paths_at graph.now (drop first selector.now.formula.paths)) }
+    requires small { ratio ≤ max_ratio }
+    ensures { IfOk result (AreFound ratio graph.now selector.now.formula (drop first selector.now.formula.paths)) }
+{
+    let counted = behind(selector.kept(), first);
+    found_in(alloc, graph, selector, counted, ratio)
+}
+
+// What is inferred from the first paths of a graph, so many, behind all others, whose places are `first`: these are kept, and not
+// counted.
+fn inferred_in(
+    alloc: Global,
+    keys: Keys,
+    graph: &AsGraph,
+    first: &[PathId],
+    count: usize,
+    ratio: u32,
+) -> Result<Inferred, NoMemory>
+    requires behind { first.now ≡ places_from count (length graph.now - count) }
+    requires servable { IsServable (paths_at graph.now first.now) }
+    requires count { count ≤ length graph.now }
+    requires distinct { All AllDistinct (take count graph.now) }
+    requires small { ratio ≤ max_ratio }
+    ensures { IfOk result (AreInferredIn ratio graph.now first.now count) }
+{
+    let selection = select_behind(alloc, keys, graph, first, count)?;
+    let found = found_behind(alloc, graph, &selection.selector, first.len(), ratio)?;
     Ok(Inferred {
         fates: selection.into_fates(),
         found,
     })
 }
 
-/// What is inferred from distinct paths, each of at least two ASes, all distinct; there are at most 2^23 paths, of at most 2^26 numbers in
-/// sum. The only error is that memory ran out.
+// What is inferred from distinct paths under givens, before the links into rows of returns are changed. The numbers of the givens of
+// these rows are added, where there are none yet.
+fn inferred_behind(
+    alloc: Global,
+    keys: Keys,
+    paths: &Rows<PathId, u32>,
+    givens: &[Given],
+    ratio: u32,
+    numbers: &mut List<u32>,
+) -> Result<Inferred, NoMemory>
+    requires several { All (λ path. 2 ≤ length path) paths.now }
+    requires apart { All AllDistinct paths.now }
+    requires few { length paths.now ≤ max_paths }
+    requires short { sum_by length paths.now ≤ max_numbers }
+    requires small { ratio ≤ max_ratio }
+    requires two { NameTwo givens.now }
+    requires once { NameOnce givens.now }
+    requires few_givens { length givens.now ≤ max_givens }
+    requires none { numbers.old ≡ [] }
+    ensures { IfOk result (IsUnlinked givens.now ratio paths.now numbers.new) }
+{
+    let graph = build_with(alloc, keys, paths, givens)?;
+    let count = paths.len();
+    numbers_of(&graph, givens, numbers)?;
+    let first = places_behind(alloc, &graph, count)?;
+    inferred_in(alloc, keys, &graph, first.as_slice(), count, ratio)
+}
+
+// The same with links into rows of returns, which stand behind so many paths, changed to name the givens of these numbers.
+fn relinked(
+    alloc: Global,
+    inferred: Inferred,
+    paths: usize,
+    numbers: &[u32],
+) -> Result<Inferred, NoMemory>
+    requires few { length inferred.fates ≤ max_paths }
+    requires paths { paths ≤ max_paths }
+    ensures { IfOk result (IsRelinked paths numbers.now inferred) }
+{
+    let fates = relinked_fates(alloc, &inferred.fates, paths as u32, numbers)?;
+    let found = inferred.found;
+    let whys = relinked_walks(alloc, &found.whys, paths as u32, numbers)?;
+    Ok(Inferred {
+        fates,
+        found: Found {
+            edges: found.edges,
+            whys,
+            probes: found.probes,
+        },
+    })
+}
+
+// The same where no relationship is given: there is no such link.
+fn relinked_if_given(
+    alloc: Global,
+    inferred: Inferred,
+    paths: usize,
+    givens: &[Given],
+    numbers: &[u32],
+) -> Result<Inferred, NoMemory>
+    requires few { length inferred.fates ≤ max_paths }
+    requires paths { paths ≤ max_paths }
+    ensures { IfOk result (IsLinked paths givens.now numbers.now inferred) }
+{
+    if givens.is_empty() {
+        return Ok(inferred);
+    }
+    relinked(alloc, inferred, paths, numbers)
+}
+
+/// What is inferred from distinct paths under givens. Each path has at least two ASes, all distinct; there are at most 2^23 paths, of at
+/// most 2^26 numbers in sum. There are at most 2^28 givens; each names two ASes, and no two of them the same two. The only error is that
+/// memory ran out.
 pub(crate) fn inferred_from(
     alloc: Global,
     keys: Keys,
     paths: &Rows<PathId, u32>,
+    givens: &[Given],
     ratio: u32,
 ) -> Result<Inferred, NoMemory>
     requires several { All (λ path. 2 ≤ length path) paths.now }
@@ -48,9 +170,12 @@ pub(crate) fn inferred_from(
     requires few { length paths.now ≤ max_paths }
     requires short { sum_by length paths.now ≤ max_numbers }
     requires small { ratio ≤ max_ratio }
-    ensures many { IfOk result (λ inferred. length inferred.fates ≡ length paths.now) }
-    ensures inferred { IfOk result (AreInferred ratio paths.now) }
+    requires two { NameTwo givens.now }
+    requires once { NameOnce givens.now }
+    requires few_givens { length givens.now ≤ max_givens }
+    ensures { IfOk result (AreInferredWith givens.now ratio paths.now) }
 {
-    let graph = build(alloc, keys, paths)?;
-    inferred_in(alloc, keys, &graph, ratio)
+    let mut numbers = List::new(alloc);
+    let inferred = inferred_behind(alloc, keys, paths, givens, ratio, &mut numbers)?;
+    relinked_if_given(alloc, inferred, paths.len(), givens, numbers.as_slice())
 }

@@ -3,10 +3,14 @@
 
 mod edge_lines;
 mod finding;
+mod given_laws;
 mod inferring;
 mod labelling;
 mod laws;
+mod relinking;
 mod result;
+mod returns;
 
+pub use given_laws::{given_inference_law, no_givens_result_law};
 pub use laws::{one_inference_law, one_result_law, self_acceptance_law};
-pub use result::result_of;
+pub use result::{ResultHead, result_of, result_with};

@@ -1,17 +1,31 @@
 //! The result of the paths of a table.
-ghost use Rattle.std.specs.Prelude.{◌≤◌, IfOk};
+ghost use Rattle.std.specs.Prelude.{◌≤◌, [], length, IfOk};
 ghost use Rattle.tor_arena.specs.Limits.{max_ratio};
+ghost use Rattle.relationships.specs.Givens.{NameOnce, NameTwo};
 ghost use Rattle.result_rules.specs.File.{its_paths, its_walks};
 ghost use Rattle.result_rules.specs.Rules.{Accepts};
+ghost use Rattle.rel_infer.specs.GivenResults.{max_givens, IsResultWith, PeerEitherWayWith, LeaveNoneOutWith};
 ghost use Rattle.rel_infer.specs.Results.{IsResultOf};
 ghost use Rattle.rel_infer.specs.Peers.{PeerEitherWay, LeaveNoneOut};
 
 use crate::inferring::inferred_from;
 use path_clean::{Asides, PathTable, Sets};
+use relationships::Given;
 use result_rules::totals_of;
 use result_text::{PathLines, ResultFile};
 use std::alloc::Global;
 use tor_arena::{Keys, NoMemory};
+
+/// What a result says before its paths.
+#[derive(Drop)]
+pub struct ResultHead {
+    /// What became of sets, which is only written down.
+    pub sets: Sets,
+    /// How many times the lesser degree the greater one of two peers may be.
+    pub ratio: u32,
+    /// How many routes were set aside.
+    pub asides: Asides,
+}
 
 /// The result of the distinct paths of a table and of the counts of routes that were set aside. Each path is kept exactly if some
 /// orientation serves it together with those kept before it; each edge has its preferred provider, and then, edge by edge, becomes a
@@ -33,14 +47,42 @@ pub fn result_of(
     ensures none_left_out { IfOk result (λ file. LeaveNoneOut ratio (its_paths file) (its_walks file) file.edges) }
 {
     table.facts();
-    let (rows, times) = table.into_rows();
-    let inferred = inferred_from(alloc, keys, &rows, ratio)?;
-    let found = inferred.found;
-    let totals = totals_of(&inferred.fates, found.edges.as_slice());
-    Ok(ResultFile {
+    let head = ResultHead {
         sets,
         ratio,
         asides,
+    };
+    result_with(alloc, keys, head, &[], table)
+}
+
+/// The result of the distinct paths of a table under relationships that are given, at most 2^28, each of two ASes and no two of the same
+/// two. Every orientation that is asked for agrees with them, so all is as `result_of` says, but that no edge that a given names becomes
+/// a peering, and each of them is forced. Votes, degrees and supports are of the paths alone. In walks, links with path 0 name givens, by
+/// their numbers from 1. The only error is that memory ran out.
+pub fn result_with(
+    alloc: Global,
+    keys: Keys,
+    head: ResultHead,
+    givens: &[Given],
+    table: PathTable,
+) -> Result<ResultFile, NoMemory>
+    requires small { head.ratio ≤ max_ratio }
+    requires two { NameTwo givens.now }
+    requires once { NameOnce givens.now }
+    requires few { length givens.now ≤ max_givens }
+    ensures result { IfOk result (IsResultWith givens.now head.sets head.ratio table.rows head.asides) }
+    ensures either_way { IfOk result (λ file. PeerEitherWayWith givens.now (its_paths file) (its_walks file) file.edges) }
+    ensures none_left_out { IfOk result (λ file. LeaveNoneOutWith givens.now head.ratio (its_paths file) (its_walks file) file.edges) }
+{
+    table.facts();
+    let (rows, times) = table.into_rows();
+    let inferred = inferred_from(alloc, keys, &rows, givens, head.ratio)?;
+    let found = inferred.found;
+    let totals = totals_of(&inferred.fates, found.edges.as_slice());
+    Ok(ResultFile {
+        sets: head.sets,
+        ratio: head.ratio,
+        asides: head.asides,
         paths: PathLines::from_parts(rows, times, inferred.fates),
         edges: found.edges,
         whys: found.whys,

@@ -10,7 +10,7 @@ returns c =
     let graph = c.args.graph.now in
     let labels = c.in_ok-labels.labels in
     let found = c.in_ok-found.found in
-    let supports = map (support (paths_at graph c.args.selector.now.formula.paths)) (edges graph) in
+    let supports = map (support (paths_at graph c.args.counted.now)) (edges graph) in
     record {
       labels = labels;
       marks = found.marks;

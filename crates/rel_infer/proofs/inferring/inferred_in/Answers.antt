@@ -1,42 +1,93 @@
-use Rattle.std.proofs.Common.{◌∙◌, List, [], map, is_none, length, sym, ap, subst}
-use Rattle.std.proofs.lemmas.List.{length-map}
+use Rattle.std.proofs.Common.{◌≡◌, ◌≢◌, ◌-◌, ◌≤◌, ◌<◌, ◌++◌, List, ℕ, All, drop, take, map, is_none, length, sym, subst, arith, length-take}
+use Rattle.std.specs.List.{AllPairs}
+use Rattle.std.proofs.lemmas.List.Elements.{All-from_recursion, All-drop}
 use Rattle.relationships.specs.declared.fate.Fate.{Fate}
 use Rattle.relationships.specs.Fates.{walk_of}
+use Rattle.relationships.specs.Evidence.{paths_of}
+use Rattle.relationships.specs.Checking.{kept_of}
 use Rattle.tor_arena.specs.Distinct.{AllDistinct}
-use Rattle.as_graph.proofs.CountLemmas.{all_places}
-use Rattle.rel_infer.specs.Inference.{AreInferred}
-use Rattle.rel_infer.proofs.KeptPlaces.{kept_apart, keeps_many}
-use Rattle.rel_infer.proofs.Together.{inferred, either_way, none_left_out}
+use Rattle.as_graph.specs.Paths.{paths_at}
+use Rattle.tor_clauses.specs.Formulas.{numbered}
+use Rattle.rel_infer.specs.Returns.{places_from}
+use Rattle.rel_infer.specs.Finding.{AreInferredIn}
+use Rattle.rel_infer.proofs.ReturnRows.{places_all}
+use Rattle.rel_infer.proofs.KeptPlaces.{first_fits, counted_once, all_once, counted_distinct, counted_paths}
 use Rattle.rel_infer.proofs.inferring.inferred_in.Goals as goal
 
-pub found_in-requires-clause-once : goal.found_in-requires-clause-once
-found_in-requires-clause-once c =
-    let fates = c.in_ok-selection.selection.fates in
-    kept_apart c.args.graph.now c.in_ok-selection.selection.selector.formula.paths (map is_none (map walk_of fates)) c.in_ok-selection.ensures.kept
-
-pub found_in-requires-clause-distinct : goal.found_in-requires-clause-distinct
-found_in-requires-clause-distinct c =
-    let e = c.in_ok-selection.ensures in
-    all_places AllDistinct c.args.graph.now c.in_ok-selection.selection.selector.formula.paths c.requires.distinct e.fits.there
-
-pub returns-clause-many : goal.returns-clause-many
-returns-clause-many c =
-    let fates = c.in_ok-selection.selection.fates in
-    let many = keeps_many [] c.args.graph.now (map is_none (map walk_of fates)) c.in_ok-selection.ensures.keeps in
-    ap length c.into_fates.ensures ∙ sym (length-map fates walk_of) ∙ sym (length-map (map walk_of fates) is_none) ∙ many
-
-pub returns-clause-inferred : goal.returns-clause-inferred
-returns-clause-inferred c =
+pub select_behind-requires-clause-there : goal.select_behind-requires-clause-there
+select_behind-requires-clause-there c =
     let graph = c.args.graph.now in
-    let ratio = c.args.ratio in
+    let count = c.args.count in
+    let le = c.requires.count in
+    subst (All (λ path. path < length graph)) (sym c.requires.behind)
+    (All-from_recursion (λ path. path < length graph) (places_from count (length graph - count))
+    (places_all (λ path. path < length graph) count (length graph - count) (λ i low high. omega (arith, high, le))))
+
+pub found_behind-requires-clause-apart : goal.found_behind-requires-clause-apart
+found_behind-requires-clause-apart c =
+    let graph = c.args.graph.now in
+    let count = c.args.count in
+    let some = take count graph in
+    let walks = map walk_of c.in_ok-selection.selection.fates in
+    let all = c.in_ok-selection.selection.selector.formula.paths in
+    let same = subst (λ first. numbered graph all ≡ numbered graph first ++ kept_of some walks) c.requires.behind c.in_ok-selection.ensures.kept in
+    let short = length-take count graph in
+    all_once graph some all count (length graph - count) (map is_none walks) same (omega (arith, short))
+
+pub found_behind-requires-clause-first : goal.found_behind-requires-clause-first
+found_behind-requires-clause-first c =
+    let graph = c.args.graph.now in
+    let count = c.args.count in
+    let some = take count graph in
+    let walks = map walk_of c.in_ok-selection.selection.fates in
+    let all = c.in_ok-selection.selection.selector.formula.paths in
+    let same = subst (λ first. numbered graph all ≡ numbered graph first ++ kept_of some walks) c.requires.behind c.in_ok-selection.ensures.kept in
+    subst (λ (l : List ℕ). length l ≤ length all) (sym c.requires.behind) (first_fits graph some all count (length graph - count) (map is_none walks) same)
+
+pub found_behind-requires-clause-there : goal.found_behind-requires-clause-there
+found_behind-requires-clause-there c =
+    All-drop (λ path. path < length c.args.graph.now) (length c.args.first.now) c.in_ok-selection.selection.selector.formula.paths c.in_ok-selection.ensures.fits.there
+
+pub found_behind-requires-clause-once : goal.found_behind-requires-clause-once
+found_behind-requires-clause-once c =
+    let graph = c.args.graph.now in
+    let count = c.args.count in
+    let some = take count graph in
+    let walks = map walk_of c.in_ok-selection.selection.fates in
+    let all = c.in_ok-selection.selection.selector.formula.paths in
+    let same = subst (λ first. numbered graph all ≡ numbered graph first ++ kept_of some walks) c.requires.behind c.in_ok-selection.ensures.kept in
+    subst (λ (l : List ℕ). AllPairs ◌≢◌ (drop (length l) all)) (sym c.requires.behind) (counted_once graph some all count (length graph - count) (map is_none walks) same)
+
+pub found_behind-requires-clause-distinct : goal.found_behind-requires-clause-distinct
+found_behind-requires-clause-distinct c =
+    let graph = c.args.graph.now in
+    let count = c.args.count in
+    let some = take count graph in
+    let walks = map walk_of c.in_ok-selection.selection.fates in
+    let all = c.in_ok-selection.selection.selector.formula.paths in
+    let same = subst (λ first. numbered graph all ≡ numbered graph first ++ kept_of some walks) c.requires.behind c.in_ok-selection.ensures.kept in
+    subst (λ (l : List ℕ). All AllDistinct (paths_at graph (drop (length l) all))) (sym c.requires.behind)
+    (counted_distinct graph some all count (length graph - count) (map is_none walks) same AllDistinct c.requires.distinct)
+
+pub returns : goal.returns
+returns c =
+    let graph = c.args.graph.now in
+    let count = c.args.count in
+    let some = take count graph in
     let fates = c.in_ok-selection.selection.fates in
-    let f = c.in_ok-selection.selection.selector.formula in
+    let walks = map walk_of fates in
+    let all = c.in_ok-selection.selection.selector.formula.paths in
     let e = c.in_ok-selection.ensures in
     let found = c.in_ok-found.found in
-    let are = c.in_ok-found.ensures in
-    subst (λ (fs : List Fate). AreInferred ratio graph (record { fates = fs; found = found })) (sym c.into_fates.ensures)
+    let same = subst (λ first. numbered graph all ≡ numbered graph first ++ kept_of some walks) c.requires.behind e.kept in
+    subst (λ (fs : List Fate). AreInferredIn c.args.ratio graph c.args.first.now count (record { fates = fs; found = found })) (sym c.into_fates.ensures)
     (record {
-      inferred = inferred ratio graph (map walk_of fates) f e.kept found are e.keeps e.lost;
-      either_way = either_way ratio graph (map walk_of fates) f e.kept found are;
-      none_left_out = none_left_out ratio graph (map walk_of fates) f e.kept found are;
+      formula = c.in_ok-selection.selection.selector.formula;
+      real = drop (length c.args.first.now) all;
+      kept = e.keeps;
+      lost = e.lost;
+      all_kept = e.kept;
+      counted = subst (λ (l : List ℕ). paths_at graph (drop (length l) all) ≡ paths_of (kept_of some walks)) (sym c.requires.behind)
+          (counted_paths graph some all count (length graph - count) (map is_none walks) same);
+      found = c.in_ok-found.ensures;
     })

@@ -5,7 +5,6 @@ use Rattle.relationships.specs.Relationship.{ValleyFree, Serves}
 use Rattle.relationships.specs.Graph.{Edge, edges, labelling, orientation, degree}
 use Rattle.relationships.specs.Preference.{ServeEitherWay, NoneLeftOut}
 use Rattle.relationships.specs.Selection.{IsServable}
-use Rattle.tor_arena.specs.Distinct.{AllDistinct}
 use Rattle.as_graph.specs.Paths.{paths_at}
 use Rattle.gao_prefs.specs.declared.preferring.Pref.{Pref}
 use Rattle.gao_prefs.specs.Preferences.{edges_preferred}
@@ -23,10 +22,6 @@ orient-requires-clause-each c =
     let es = edges c.args.graph.now in
     subst (λ (l : List Pref). (e : Edge) → Contains es e ↔ Contains (edges_preferred es l) e) (sym c.as_slice.ensures) c.in_ok-prefs.ensures.order.each
 
-pub preferences-requires-clause-distinct : goal.preferences-requires-clause-distinct
-preferences-requires-clause-distinct c =
-    subst (λ places. All AllDistinct (paths_at c.args.graph.now places)) (sym c.kept-kept.ensures.paths) c.requires.distinct
-
 pub relabel-requires-clause-served : goal.relabel-requires-clause-served
 relabel-requires-clause-served c =
     let same = ap (λ (f : Formula). f.paths) c.clauses.ensures ∙ sym c.kept-kept.ensures.paths in
@@ -37,7 +32,7 @@ returns-clause-labels c =
     let graph = c.args.graph.now in
     let same = ap (λ (f : Formula). f.paths) c.clauses.ensures in
     IfOk-weaker c.relabel.result _ _ (λ (labels : List Label) relabelled.
-    labels_from c.args.ratio graph c.args.selector.now.formula.paths c.kept-kept.result.now c.clauses.result.now.paths c.in_ok-prefs.prefs c.as_slice.result.now
+    labels_from c.args.ratio graph c.args.selector.now.formula.paths c.kept-kept.result.now c.clauses.result.now.paths c.args.counted.now c.in_ok-prefs.prefs c.as_slice.result.now
     c.in_ok-ends.ends labels c.kept-kept.ensures.paths same c.as_slice.ensures c.in_ok-prefs.ensures.order c.in_ok-prefs.ensures.wanted c.in_ok-ends.ensures.wishes relabelled)
     c.relabel.ensures.relabelled
 

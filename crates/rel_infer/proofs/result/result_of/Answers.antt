@@ -1,34 +1,28 @@
-use Rattle.std.proofs.Common.{◌∙◌, ap}
-use Rattle.result_rules.specs.Totals.{totals_by}
-use Rattle.rel_infer.proofs.Whole.{whole, whole_accepted, whole_either_way, whole_none_left_out}
+use Rattle.std.proofs.lemmas.Result.{IfOk-weaker}
+use Rattle.result_text.specs.declared.file.ResultFile.{ResultFile}
+use Rattle.result_rules.specs.File.{its_paths, its_walks, its_probes}
+use Rattle.rel_infer.proofs.Ungiven.{result_alone, accepted_alone, alone_either_way, alone_none_left}
 use Rattle.rel_infer.proofs.result.result_of.Goals as goal
 
 pub returns-clause-result : goal.returns-clause-result
 returns-clause-result c =
-    let i = c.in_ok-inferred.inferred in
-    let counted = c.totals_of-totals.ensures ∙ ap (totals_by i.fates) c.as_slice.ensures in
-    whole c.args.sets c.args.ratio c.args.table.rows c.args.asides c.into_rows-rows.result.0 c.into_rows-rows.result.1 i c.from_parts.result c.totals_of-totals.result
-    c.into_rows-rows.ensures.paths c.into_rows-rows.ensures.times c.in_ok-inferred.ensures.inferred counted c.from_parts.ensures.paths c.from_parts.ensures.times c.from_parts.ensures.fates
+    IfOk-weaker c.result_with.result _ _ (λ (file : ResultFile) r. result_alone c.args.sets c.args.ratio c.args.table.rows c.args.asides file r) c.result_with.ensures.result
 
 pub returns-clause-accepted : goal.returns-clause-accepted
 returns-clause-accepted c =
-    let i = c.in_ok-inferred.inferred in
-    let counted = c.totals_of-totals.ensures ∙ ap (totals_by i.fates) c.as_slice.ensures in
     let facts = c.facts.ensures in
-    whole_accepted c.args.sets c.args.ratio c.args.table.rows c.args.asides c.into_rows-rows.result.0 c.into_rows-rows.result.1 i c.from_parts.result c.totals_of-totals.result
-    c.into_rows-rows.ensures.paths c.into_rows-rows.ensures.times c.in_ok-inferred.ensures.inferred counted c.from_parts.ensures.paths c.from_parts.ensures.times c.from_parts.ensures.fates
-    c.requires facts.clean facts.seen facts.once facts.few facts.numbers
+    IfOk-weaker c.result_with.result _ _ (λ (file : ResultFile) r.
+    accepted_alone c.args.sets c.args.ratio c.args.table.rows c.args.asides file c.requires facts.clean facts.seen facts.once facts.few facts.numbers r)
+    c.result_with.ensures.result
 
 pub returns-clause-either_way : goal.returns-clause-either_way
 returns-clause-either_way c =
-    let i = c.in_ok-inferred.inferred in
-    let counted = c.totals_of-totals.ensures ∙ ap (totals_by i.fates) c.as_slice.ensures in
-    whole_either_way c.args.sets c.args.ratio c.args.table.rows c.args.asides c.into_rows-rows.result.0 c.into_rows-rows.result.1 i c.from_parts.result c.totals_of-totals.result
-    c.into_rows-rows.ensures.paths c.into_rows-rows.ensures.times c.in_ok-inferred.ensures.inferred counted c.from_parts.ensures.paths c.from_parts.ensures.times c.from_parts.ensures.fates
+    IfOk-weaker c.result_with.result _ _ (λ (file : ResultFile) r.
+    alone_either_way c.args.ratio (its_paths file) (its_walks file) file.edges file.whys (its_probes file) r.inferred)
+    c.result_with.ensures.result
 
 pub returns-clause-none_left_out : goal.returns-clause-none_left_out
 returns-clause-none_left_out c =
-    let i = c.in_ok-inferred.inferred in
-    let counted = c.totals_of-totals.ensures ∙ ap (totals_by i.fates) c.as_slice.ensures in
-    whole_none_left_out c.args.sets c.args.ratio c.args.table.rows c.args.asides c.into_rows-rows.result.0 c.into_rows-rows.result.1 i c.from_parts.result c.totals_of-totals.result
-    c.into_rows-rows.ensures.paths c.into_rows-rows.ensures.times c.in_ok-inferred.ensures.inferred counted c.from_parts.ensures.paths c.from_parts.ensures.times c.from_parts.ensures.fates
+    IfOk-weaker c.result_with.result _ _ (λ (file : ResultFile) h.
+    alone_none_left c.args.ratio (its_paths file) (its_walks file) file.edges file.whys (its_probes file) h)
+    c.result_with.ensures.none_left_out

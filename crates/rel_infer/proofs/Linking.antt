@@ -1,0 +1,153 @@
+-- What is inferred behind the returns, once its links name givens.
+use Rattle.std.proofs.Common.{◌≡◌, ℕ, ◌≤◌, ◌-◌, ◌+◌, if◌then◌else◌, List, [], ◌∷◌, ◌++◌, map, take, length, Option, option_map, is_none, refl, sym, ap, ap₂, ◌∙◌, subst, arith, length-append}
+use Rattle.std.specs.List.{list_any}
+use Rattle.std.proofs.lemmas.List.{length-map}
+use Rattle.std.proofs.lemmas.List.Elements.{All-contains, All-from_recursion}
+use Rattle.relationships.specs.declared.given.Given.{Given}
+use Rattle.relationships.specs.declared.walk.Walk.{Walk}
+use Rattle.relationships.specs.Graph.{Edge, edge_of, is_same, edges}
+use Rattle.relationships.specs.Evidence.{Numbered}
+use Rattle.relationships.specs.Fates.{walk_of}
+use Rattle.relationships.specs.Selection.{IsServable}
+use Rattle.relationships.specs.Checking.{kept_of}
+use Rattle.relationships.specs.Marking.{orders_of}
+use Rattle.relationships.specs.Givens.{returns, names_edge, NameTwo, NameOnce}
+use Rattle.relationships.specs.GivenEvidence.{AreReturnRows, AreUpTo, MarksHoldWith, LostFromWith, with_given_links}
+use Rattle.relationships.proofs.GivenLemmas.{same_edges, givens_servable_law}
+use Rattle.relationships.proofs.GivenWalks.{no_givens_law, given_links_law, given_marks_law}
+use Rattle.result_rules.specs.File.{claim_on}
+use Rattle.as_graph.specs.Paths.{paths_at}
+use Rattle.tor_clauses.specs.Formulas.{numbered}
+use Rattle.tor_clauses.proofs.Exacts.{numbered_paths}
+use Rattle.rel_infer.specs.declared.inferring.Inferred.{Inferred}
+use Rattle.rel_infer.specs.Finding.{AreInferredIn}
+use Rattle.rel_infer.specs.GivenResults.{IsInferredWith, PeerEitherWayWith, LeaveNoneOutWith}
+use Rattle.rel_infer.specs.Inference.{AreInferredWith}
+use Rattle.rel_infer.specs.Returns.{places_from, numbers_from, IsUnlinked, IsRelinked, IsLinked}
+use Rattle.rel_infer.proofs.KeptPlaces.{keeps_many}
+use Rattle.rel_infer.proofs.Relinked.{still_lost}
+use Rattle.rel_infer.proofs.ReturnRows.{rows_behind, are_rows, take_front, numbers_below}
+use Rattle.rel_infer.proofs.Together.{inferred, either_way, none_left_out, lost_in, marks_in, kept_among, claims_on}
+
+-- ---- a graph of paths and, behind these, the returns
+
+pub numbers_same : (graph paths : List (List ℕ)) → edges graph ≡ edges paths → (n : ℕ) (givens : List Given) → numbers_from graph n givens ≡ numbers_from paths n givens
+numbers_same graph paths e n [] = refl
+numbers_same graph paths e n (g ∷ givens) =
+    ap (λ (es : List Edge). if list_any (is_same (edge_of g.over g.under)) es then n ∷ numbers_from graph (n + 1) givens else numbers_from graph (n + 1) givens) e ∙
+    ap (λ (l : List ℕ). if names_edge paths g then n ∷ l else l) (numbers_same graph paths e (n + 1) givens)
+
+module _ (givens : List Given) (paths graph : List (List ℕ)) (same : graph ≡ paths ++ returns paths givens) where
+  pub edges_same : edges graph ≡ edges paths
+  edges_same = ap edges same ∙ same_edges paths givens
+
+  pub long : length graph ≡ length paths + length (returns paths givens)
+  long = ap length same ∙ length-append paths (returns paths givens)
+
+  pub behind_are : (n : ℕ) → n ≡ length paths → places_from n (length graph - n) ≡ places_from (length paths) (length (returns paths givens))
+  behind_are n is = let sum = long in let e : length graph - n ≡ length (returns paths givens) = omega (arith, is, sum) in ap₂ places_from is e
+
+  pub front_is : (n : ℕ) → n ≡ length paths → take n graph ≡ paths
+  front_is n is = ap₂ (λ (m : ℕ) (ps : List (List ℕ)). take m ps) is same ∙ take_front paths (returns paths givens)
+
+  pub returns_at : (n : ℕ) (places : List ℕ) → n ≡ length paths → places ≡ places_from n (length graph - n) → paths_at graph places ≡ returns paths givens
+  returns_at n places is at = ap₂ paths_at same (at ∙ behind_are n is) ∙ rows_behind paths (returns paths givens)
+
+  pub servable_at : (n : ℕ) (places : List ℕ) → n ≡ length paths → places ≡ places_from n (length graph - n) → NameTwo givens → NameOnce givens → IsServable (paths_at graph places)
+  servable_at n places is at two once = subst IsServable (sym (returns_at n places is at)) (givens_servable_law givens paths two once)
+
+  pub unlinked : (ratio n : ℕ) (places numbers : List ℕ) (i : Inferred) → n ≡ length paths → places ≡ places_from n (length graph - n) → numbers ≡ numbers_from graph 1 givens →
+      AreInferredIn ratio graph places n i → IsUnlinked givens ratio paths numbers i
+  unlinked ratio n places numbers i is at numbered are = record {
+    numbered = numbered ∙ numbers_same graph paths edges_same 1 givens;
+    inferred = subst (λ ps. AreInferredIn ratio ps (places_from (length paths) (length (returns paths givens))) (length paths) i) same
+        (subst (λ m. AreInferredIn ratio graph (places_from (length paths) (length (returns paths givens))) m i) is
+        (subst (λ ps. AreInferredIn ratio graph ps n i) (at ∙ behind_are n is) are));
+  }
+
+-- ---- all of it
+
+module _ (givens : List Given) (ratio : ℕ) (paths : List (List ℕ)) (numbers : List ℕ) (old : Inferred) (un : IsUnlinked givens ratio paths numbers old) where
+  abbrev graph : List (List ℕ)
+  graph = paths ++ returns paths givens
+
+  abbrev first : List ℕ
+  first = places_from (length paths) (length (returns paths givens))
+
+  e₁ : edges graph ≡ edges paths
+  e₁ = same_edges paths givens
+
+  e₂ : take (length paths) graph ≡ paths
+  e₂ = take_front paths (returns paths givens)
+
+  e₃ : paths_at graph first ≡ returns paths givens
+  e₃ = rows_behind paths (returns paths givens)
+
+  pub many_fates : length old.fates ≡ length paths
+  many_fates =
+      sym (length-map old.fates walk_of) ∙ sym (length-map (map walk_of old.fates) is_none) ∙
+      keeps_many (paths_at graph first) (take (length paths) graph) (map is_none (map walk_of old.fates)) un.inferred.kept ∙ ap length e₂
+
+  abbrev rows : Numbered
+  rows = numbered graph first
+
+  up_to : (walks : List (Option Walk)) → AreUpTo (length paths) (kept_of paths walks)
+  up_to walks m path c =
+      All-contains (λ (p : ℕ × List ℕ). p.0 ≤ length paths) (kept_of paths walks) (m, path)
+      (All-from_recursion (λ (p : ℕ × List ℕ). p.0 ≤ length paths) (kept_of paths walks) (numbers_below (length paths) 1 paths (map is_none walks) (omega arith))) c
+
+  pub relinked : (new : Inferred) → IsRelinked (length paths) numbers old new → AreInferredWith givens ratio paths new
+  relinked new re =
+      let F = with_given_links (length paths) numbers in
+      let walks = map walk_of new.fates in
+      let flags : map is_none (map walk_of old.fates) ≡ map is_none walks = sym (ap (map is_none) re.fates ∙ still_lost (length paths) numbers (map walk_of old.fates)) in
+      let named = subst (λ ns. AreReturnRows givens (length paths) ns rows) (sym un.numbered) (are_rows givens paths) in
+      let lost : LostFromWith givens 1 [] paths walks =
+      subst (LostFromWith givens 1 [] paths) (sym re.fates)
+      ((given_links_law givens (length paths) numbers rows named).1 paths (map walk_of old.fates) (omega arith) (lost_in givens ratio paths graph first old walks e₁ e₂ e₃ un.inferred flags)) in
+      let marks : MarksHoldWith givens (kept_of paths walks) (map claim_on old.found.edges) (map F old.found.whys) (orders_of old.found.probes) =
+      given_marks_law givens paths (length paths) numbers rows (kept_of paths walks) named (numbered_paths graph first ∙ e₃) (up_to walks)
+      (kept_among givens ratio paths graph first old walks e₁ e₂ e₃ un.inferred flags) (map claim_on old.found.edges) old.found.whys (orders_of old.found.probes)
+      (claims_on givens ratio paths graph first old walks e₁ e₂ e₃ un.inferred flags) (marks_in givens ratio paths graph first old walks e₁ e₂ e₃ un.inferred flags) in
+      let all = inferred givens ratio paths graph first old walks e₁ e₂ e₃ un.inferred flags (map F old.found.whys) lost marks in
+      record {
+        many = same_length re ∙ many_fates;
+        inferred = subst (λ es. IsInferredWith givens ratio paths walks es new.found.whys (orders_of new.found.probes)) (sym re.edges)
+            (subst (λ ps. IsInferredWith givens ratio paths walks old.found.edges new.found.whys (orders_of ps)) (sym re.probes)
+            (subst (λ ws. IsInferredWith givens ratio paths walks old.found.edges ws (orders_of old.found.probes)) (sym re.whys) all));
+        either_way = subst (PeerEitherWayWith givens paths walks) (sym re.edges) (either_way givens ratio paths graph first old walks e₁ e₂ e₃ un.inferred flags);
+        none_left_out = subst (LeaveNoneOutWith givens ratio paths walks) (sym re.edges) (none_left_out givens ratio paths graph first old walks e₁ e₂ e₃ un.inferred flags);
+      }
+    where
+      same_length : IsRelinked (length paths) numbers old new → length new.fates ≡ length old.fates
+      same_length re =
+          sym (length-map new.fates walk_of) ∙ ap length re.fates ∙ length-map (map walk_of old.fates) (option_map (with_given_links (length paths) numbers)) ∙ length-map old.fates walk_of
+
+-- where nothing is given no link is changed
+pub linked : (givens : List Given) (ratio : ℕ) (paths : List (List ℕ)) (numbers : List ℕ) (old new : Inferred) → IsUnlinked givens ratio paths numbers old →
+    IsLinked (length paths) givens numbers old new → AreInferredWith givens ratio paths new
+linked (g ∷ givens) ratio paths numbers old new un re = relinked (g ∷ givens) ratio paths numbers old un new re
+linked [] ratio paths numbers old new un same = subst (AreInferredWith [] ratio paths) (sym same) plain
+  where
+    graph : List (List ℕ)
+    graph = paths ++ []
+
+    e₁ : edges (paths ++ []) ≡ edges paths
+    e₁ = same_edges paths []
+
+    e₂ : take (length paths) (paths ++ []) ≡ paths
+    e₂ = take_front paths []
+
+    walks : List (Option Walk)
+    walks = map walk_of old.fates
+
+    plain : AreInferredWith [] ratio paths old
+    plain = record {
+      many = many_fates [] ratio paths numbers old un;
+      inferred = inferred [] ratio paths (paths ++ []) [] old (map walk_of old.fates) e₁ e₂ refl un.inferred refl old.found.whys
+          ((no_givens_law.2 1 [] paths (map walk_of old.fates)).1 (lost_in [] ratio paths (paths ++ []) [] old (map walk_of old.fates) e₁ e₂ refl un.inferred refl))
+          ((no_givens_law.3 (kept_of paths (map walk_of old.fates)) (map claim_on old.found.edges) old.found.whys (orders_of old.found.probes)).1
+          (marks_in [] ratio paths (paths ++ []) [] old (map walk_of old.fates) e₁ e₂ refl un.inferred refl));
+      either_way = either_way [] ratio paths (paths ++ []) [] old (map walk_of old.fates) e₁ e₂ refl un.inferred refl;
+      none_left_out = none_left_out [] ratio paths (paths ++ []) [] old (map walk_of old.fates) e₁ e₂ refl un.inferred refl;
+    }

@@ -1,0 +1,17 @@
+use Rattle.std.proofs.Common.{rules, ◌≡◌, ◌+◌, ◌-◌, suc, List, ℕ, [], ◌∷◌, ◌++◌, sym, ap, ◌∙◌, arith}
+use Rattle.rel_infer.specs.Returns.{places_from}
+use Rattle.rel_infer.proofs.ReturnRows.{places_push}
+use Rattle.rel_infer.proofs.returns.places_behind.Goals as goal
+
+pub loop-place-preserved : goal.loop-place-preserved
+loop-place-preserved c =
+    let count = c.args.count in
+    let place = c.loop-place.place in
+    let le = c.loop-place.invariant.0 in
+    let same : c.unwrap.result ≡ place = search rules in
+    let more : place + 1 - count ≡ suc (place - count) = omega (arith, le) in
+    let at : place ≡ count + (place - count) = omega (arith, le) in (
+      omega (arith, le),
+      c.in_ok-push.ensures.ok ∙ ap (λ (l : List ℕ). l ++ c.unwrap.result ∷ []) c.loop-place.invariant.1 ∙
+          ap (λ n. places_from count (place - count) ++ n ∷ []) (same ∙ at) ∙ sym (places_push count (place - count)) ∙ ap (places_from count) (sym more),
+    )
