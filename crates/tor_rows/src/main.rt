@@ -1,4 +1,4 @@
-// Runs `infer` and `check` over files and streams in memory, as the rows on standard input say, and prints of each row its name and `ok`,
+// Runs `infer`, `check` and `grade` over files and streams in memory, as the rows on standard input say, and prints of each row its name and `ok`,
 // or what differs.
 //
 // A row is a block of lines between empty lines, and begins with `row NAME`. The first word of a line says what it is; a line that begins
@@ -36,6 +36,7 @@
 // A run, and behind it what is expected of it: what isn't named is empty.
 //   tor --list d            infer with these words
 //   torcheck r d            check with these words
+//   torgrade r d            grade with these words
 //   status 0                the status of the run; each run has such a line
 //   out LINE                a line that is written to out
 //   out-part TEXT           the same without LF

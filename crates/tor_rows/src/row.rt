@@ -2,7 +2,7 @@
 use crate::building::Building;
 use crate::conditions::Conditions;
 use crate::refused::Refused;
-use crate::runs::{Asked, Told, run};
+use crate::runs::{Asked, Program, Told, run};
 use crate::wanted::{Outcome, Turns, Wanted};
 use std::alloc::{AllocError, Global};
 use tor_arena::Keys;
@@ -48,7 +48,7 @@ impl Row {
         let line = self.run.as_str();
         let (program, words) = line.split_once(' ').unwrap_or((line, ""));
         let asked = Asked {
-            is_check: program == "torcheck",
+            program: Program::of_name(program),
             words,
         };
         Ok(run(alloc, keys, self.building.files(), conditions, asked)?)
@@ -239,7 +239,7 @@ impl Row {
         }
         match kind {
             "row" => self.begin(alloc, text),
-            "tor" | "torcheck" => self.begin_run(alloc, line),
+            "tor" | "torcheck" | "torgrade" => self.begin_run(alloc, line),
             "common" => self.put_common(alloc, text),
             "keep" => self.building.put(alloc, text, &self.written),
             _ => Err(Refused::NotUnderstood),

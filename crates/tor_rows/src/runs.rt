@@ -1,4 +1,4 @@
-//! Runs of `infer` and `check` in memory.
+//! Runs of `infer`, `check` and `grade` in memory.
 use crate::conditions::Conditions;
 use crate::endless::Endless;
 use crate::files::Files;
@@ -9,12 +9,37 @@ use tor_io::{MemShelf, MemSink, Shelf};
 use tor_run::infer;
 use tor_words::Name;
 use torcheck_run::check;
+use torgrade_run::grade;
+
+/// What is run.
+#[derive(Clone, Copy)]
+pub enum Program {
+    /// `infer`.
+    Infer,
+    /// `check`.
+    Check,
+    /// `grade`.
+    Grade,
+}
+
+impl Program {
+    /// The one of that name.
+    pub fn of_name(name: &str) -> Program {
+        if name == "torcheck" {
+            Program::Check
+        } else if name == "torgrade" {
+            Program::Grade
+        } else {
+            Program::Infer
+        }
+    }
+}
 
 /// What is run, and with which words.
 #[derive(Clone, Copy)]
 pub struct Asked<'a> {
-    /// Whether it is `check`, and not `infer`.
-    pub is_check: bool,
+    /// What is run.
+    pub program: Program,
     /// The words, with spaces between them.
     pub words: &'a str,
 }
@@ -79,6 +104,17 @@ fn check_over<H: Shelf>(
     check(alloc, keys, words, shelf, out, err)
 }
 
+fn grade_over<H: Shelf>(
+    alloc: Global,
+    keys: Keys,
+    words: &List<Name>,
+    shelf: &mut H,
+    out: &mut MemSink,
+    err: &mut MemSink,
+) -> Status {
+    grade(alloc, keys, words, shelf, out, err)
+}
+
 fn told_of(alloc: Global, status: Status, out: &[u8], err: &[u8]) -> Result<Told, NoMemory> {
     Ok(Told {
         status: status.code(),
@@ -97,10 +133,10 @@ fn run_into<H: Shelf>(
     err: &mut MemSink,
 ) -> Result<Told, NoMemory> {
     let words = words_of(alloc, asked.words)?;
-    let status = if asked.is_check {
-        check_over(alloc, keys, &words, shelf, out, err)
-    } else {
-        infer_over(alloc, keys, &words, shelf, out, err)
+    let status = match asked.program {
+        Program::Infer => infer_over(alloc, keys, &words, shelf, out, err),
+        Program::Check => check_over(alloc, keys, &words, shelf, out, err),
+        Program::Grade => grade_over(alloc, keys, &words, shelf, out, err),
     };
     told_of(alloc, status, out.held(), err.held())
 }
