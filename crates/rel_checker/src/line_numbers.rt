@@ -2,6 +2,7 @@
 
 ghost use Rattle.std.specs.Prelude.{◌≡◌, ◌+◌, ◌-◌, ◌*◌, ◌<◌, ◌≤◌, length};
 ghost use Rattle.result_rules.specs.File as said;
+ghost use Rattle.result_text.specs.Numbering as numbering;
 ghost use Rattle.result_rules.specs.File.{most_lines, HasFewLines};
 ghost use Rattle.result_rules.specs.declared.rule.Rule.TheVariants.{MarksBorneOut};
 ghost use Rattle.result_rules.specs.Rules.{line_for};
@@ -57,7 +58,7 @@ pub(crate) fn mark_line(file: &ResultFile, place: usize) -> u64
 /// The last line stands behind the open lines.
 pub(crate) fn last_line(file: &ResultFile) -> u64
     requires { HasFewLines file.now }
-    ensures { result ≡ said.last_line file.now }
+    ensures { result ≡ numbering.last_line file.now }
 {
     open_line(file, file.probes.len())
 }

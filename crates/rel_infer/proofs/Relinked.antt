@@ -1,5 +1,6 @@
 -- Walks and fates with changed links, one more, and the numbers of givens.
-use Rattle.std.proofs.Common.{◌≡◌, ◌↔◌, ℕ, ◌+◌, Bool, true, false, List, [], ◌∷◌, ◌++◌, map, take, length, if◌then◌else◌, Option, Some, None, is_some, is_none, option_map, slice_get, refl, sym, ap, ap₂, ◌∙◌, subst, IsNone, IsFalse}
+use Rattle.std.proofs.Common.{◌≡◌, ◌↔◌, ℕ, ◌+◌, Bool, true, false, List, [], ◌∷◌, ◌++◌, map, take, length, if◌then◌else◌, Option, Some, None, is_some, is_none, option_map, slice_get, refl, sym, ap}
+use Rattle.std.proofs.Common.{ap₂, ◌∙◌, subst, IsNone, IsFalse}
 use Rattle.std.proofs.lemmas.List.{map-append}
 use Rattle.relationships.specs.declared.given.Given.{Given}
 use Rattle.relationships.specs.declared.fate.Fate.{Fate}
