@@ -8,7 +8,7 @@ use Rattle.relationships.specs.declared.walk.Walk.{Walk}
 use Rattle.relationships.specs.Fates.{walk_of}
 use Rattle.relationships.specs.Givens.{names_edge}
 use Rattle.relationships.specs.GivenEvidence.{with_given_links}
-use Rattle.result_rules.proofs.Gets.{take_get}
+use Rattle.tor_arena.proofs.Gets.{take_get}
 use Rattle.rel_infer.specs.Returns.{numbers_from, AreRelinked}
 use Rattle.rel_infer.proofs.ReturnRows.{numbers_push}
 
