@@ -18,7 +18,7 @@ use Rattle.relationships.proofs.Checked.{reading, reading_serves}
 use Rattle.relationships.proofs.Preferring.{preference_law}
 use Rattle.relationships.proofs.Neighbours.{edge_law}
 use Rattle.relationships.proofs.GivenLemmas.{free_agrees, all_parts, given_serving_law}
-use Rattle.relationships.proofs.GivenWalks.{Contains-map}
+use Rattle.tor_arena.proofs.Gets.{Contains-map}
 use Rattle.relationships.proofs.GivenPeerings.{edge_among, given_relabelling_law, given_peers_law}
 use Rattle.as_graph.specs.Paths.{paths_at}
 use Rattle.tor_clauses.specs.Formulas.{demands_of, numbered, numbered_of}
