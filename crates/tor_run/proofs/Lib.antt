@@ -2,6 +2,7 @@ pub mod AcceptingLemmas
 pub mod Agreeing
 pub mod Lines
 pub mod Outcomes
+pub mod Reaching
 pub mod ReadableLemmas
 pub mod Sampled
 pub mod SeenLemmas

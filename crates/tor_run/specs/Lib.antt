@@ -3,6 +3,7 @@ pub mod Agreement
 pub mod Answer
 pub mod Listing
 pub mod Output
+pub mod Reach
 pub mod Refusals
 pub mod Sampling
 pub mod Seen

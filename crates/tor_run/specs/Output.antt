@@ -14,7 +14,7 @@ use Rattle.tor_words.specs.Given.{settings_given}
 use Rattle.tor_survey.specs.SurveyText.{survey_text}
 use Rattle.tor_survey.specs.Surveys.{survey_of}
 use Rattle.tor_run.specs.Listing.{listing}
-use Rattle.tor_run.specs.Seen.{ComesTo, Reads}
+use Rattle.tor_run.specs.Seen.{ComesTo, IsSeenOfSome, Reads}
 use Rattle.tor_run.specs.Summary.{summary}
 use Rattle.tor_run.specs.Written.{Written}
 
@@ -71,6 +71,7 @@ pub record IsOfSome (words : List (List ℕ)) (output : Written) : Type 0 where
   pub settings : Settings
   pub given : settings_given words ≡ Some settings
   pub taken : Taken
+  pub seen : IsSeenOfSome settings.source settings taken
   pub table : AreTableRows taken.table.rows
   pub written : IsOutput settings taken output
 

@@ -1,5 +1,5 @@
 -- What the dumps that the words name give, in their order, or the sample that they ask for.
-use Rattle.std.specs.Prelude.{◌≡◌, ℕ, List, Option, Some, IfSome, Result, Ok, Err}
+use Rattle.std.specs.Prelude.{◌≡◌, ℕ, List, length, Option, Some, IfSome, Result, Ok, Err}
 use Rattle.tor_io.specs.Contents.{Files}
 use Rattle.dump_read.specs.declared.taking.Taken.{Taken}
 use Rattle.dump_read.specs.Seen.{DumpsEnd, of_file}
@@ -8,7 +8,7 @@ use Rattle.tor_words.specs.declared.settings.Source.{Source}
 use Rattle.tor_words.specs.declared.settings.Source.TheVariants as source
 use Rattle.tor_words.specs.declared.settings.Settings.{Settings}
 use Rattle.tor_words.specs.Given.{settings_given}
-use Rattle.run_base.specs.Reading.{seen_from, nothing}
+use Rattle.run_base.specs.Reading.{seen_from, IsOfSomeDumps, nothing}
 
 -- ---- what dumps give
 
@@ -22,6 +22,11 @@ seen_in_sample settings seed = of_file settings.sets 1 (nothing settings.max_pat
 abbrev pub seen_in : Source → Settings → Files → Result Taken DumpsEnd
 seen_in source.Files settings files = seen settings files
 seen_in (source.Sample seed) settings files = seen_in_sample settings seed
+
+-- this is what some octets give, a file for each name of a dump; or it is what the sample gives
+abbrev pub IsSeenOfSome : Source → Settings → Taken → Type 0
+IsSeenOfSome source.Files settings taken = IsOfSomeDumps settings.sets (length settings.dumps) (nothing settings.max_paths) taken
+IsSeenOfSome (source.Sample seed) settings taken = seen_in_sample settings seed ≡ Ok taken
 
 -- ---- what a run comes to
 

@@ -5,12 +5,13 @@ ghost use Rattle.tor_arena.specs.Limits.{max_paths, max_ratio};
 ghost use Rattle.tor_words.specs.Given.{settings_given};
 ghost use Rattle.tor_run.specs.Sampling.{BySource, IfSample, known_by, known_in};
 ghost use Rattle.run_base.specs.Reading.{nothing};
-ghost use Rattle.tor_run.specs.Seen.{ComesTo, Reads};
+ghost use Rattle.tor_run.specs.Seen.{ComesTo, IsSeenOfSome, Reads};
 ghost use Rattle.tor_run.specs.Output.{IsOutput, IsOutputOf, IsAsked, IsOfSome};
 ghost use Rattle.rel_infer.specs.SelfAcceptance.{AreTableRows};
 ghost use Rattle.tor_run.specs.Written.{written};
 ghost use Rattle.run_base.specs.Answers.{IsReadFault, IsOfWords};
 ghost use Rattle.run_base.specs.Frames.{ReadsShelf};
+ghost use Rattle.tor_run.specs.Reach.{IsBounded, IsShownByHeader, StopsInReach, IsRefusedInReach};
 ghost use Rattle.tor_run.specs.Refusals.{IsRefusal, IsStopIn, StopsIn};
 ghost use Rattle.dump_read.specs.declared.taking.Taken.{Taken};
 
@@ -34,11 +35,14 @@ fn read_asked<H: Shelf>(
     requires { taken.old ≡ nothing settings.now.max_paths }
     ensures read { OnOk result (IfSome (known_in settings.now.source (H.files shelf.old)) (λ files.
         ComesTo settings.now files (Reads taken.new))) }
+    ensures some { OnOk result (IsSeenOfSome settings.now.source settings.now taken.new) }
     ensures stopped { IfErr result (λ e. StopsIn settings.now (known_in settings.now.source (H.files shelf.old))
         (H.steady shelf.old) e.dump e.error) }
     ensures read_out { OnOk result (BySource settings.now.source ⊤ (0 < length settings.now.dumps → IsAtEnd (H.left shelf.new))) }
     ensures sample { BySource settings.now.source (shelf.new ≡ shelf.old) ⊤ }
     ensures no_fault { IfErr result (λ e. BySource settings.now.source (e.error ≢ DumpError.ReadFault) ⊤) }
+    ensures bounded { IfErr result (λ e. IsBounded settings.now (H.files shelf.old) (H.left shelf.new) e.dump e.error) }
+    ensures shown { IfErr result (λ e. IsShownByHeader settings.now (H.files shelf.old) (H.left shelf.new) e.dump e.error) }
 
     ensures reads_shelf { ReadsShelf H.Shelf (IsErrAnd result (λ e. e.error ≡ DumpError.ReadFault)) shelf.old shelf.new }
 {
@@ -70,12 +74,13 @@ fn output_for<H: Shelf>(
     requires ratio { settings.now.ratio ≤ max_ratio }
     ensures output { IfOk result (λ output. IfSome (known_in settings.now.source (H.files shelf.old)) (λ files.
         IsOutputOf settings.now files (written output))) }
-    ensures of_some { IfOk result (λ output. (taken : Taken) × AreTableRows taken.table.rows ×
-        IsOutput settings.now taken (written output)) }
+    ensures of_some { IfOk result (λ output. (taken : Taken) × IsSeenOfSome settings.now.source settings.now taken ×
+        AreTableRows taken.table.rows × IsOutput settings.now taken (written output)) }
     ensures refused { IfErr result (IsStopIn settings.now (known_in settings.now.source (H.files shelf.old)) (H.steady shelf.old)) }
     ensures read_out { OnOk result (BySource settings.now.source ⊤ (0 < length settings.now.dumps → IsAtEnd (H.left shelf.new))) }
     ensures sample { BySource settings.now.source (shelf.new ≡ shelf.old) ⊤ }
     ensures no_fault { IfErr result (λ r. BySource settings.now.source (IsReadFault r → ⊥) ⊤) }
+    ensures reach { IfErr result (StopsInReach settings.now (H.files shelf.old) (H.left shelf.new)) }
 
     ensures reads_shelf { ReadsShelf H.Shelf (IsErrAnd result IsReadFault) shelf.old shelf.new }
 {
@@ -108,6 +113,7 @@ pub(crate) fn output_asked<H: Shelf>(
     ensures read_out { OnOk result (IfSample words.now ⊤ (IsAtEnd (H.left shelf.new))) }
     ensures sample { IfSample words.now (shelf.new ≡ shelf.old) ⊤ }
     ensures no_fault { IfErr result (λ r. IfSample words.now (IsReadFault r → ⊥) ⊤) }
+    ensures reach { IfErr result (IsRefusedInReach words.now (H.files shelf.old) (H.left shelf.new)) }
 
     ensures untouched { IfErr result (λ r. IsOfWords r → shelf.new ≡ shelf.old) }
     ensures reads_shelf { ReadsShelf H.Shelf (IsErrAnd result IsReadFault) shelf.old shelf.new }

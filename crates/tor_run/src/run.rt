@@ -9,6 +9,7 @@ ghost use Rattle.dump_read.specs.declared.error.LimitKind.{LimitKind as Quantity
 ghost use Rattle.dump_read.specs.Seen.{Absent, Malformed as MalformedAt, Limit as LimitOf};
 ghost use Rattle.dump_read.specs.declared.taking.Taken.{Taken};
 ghost use Rattle.tor_words.specs.Given.{settings_given};
+ghost use Rattle.tor_run.specs.Reach.{EndsInReach};
 ghost use Rattle.tor_run.specs.Sampling.{IfSample, known_by};
 ghost use Rattle.tor_run.specs.Seen.{Reads, Ends, Gives};
 ghost use Rattle.tor_run.specs.Answer.{IsNote, LeadsToMalformed, LeadsToLimit, LeadsToAbsent};
@@ -52,6 +53,7 @@ fn answer<H: Shelf, O: Sink>(
     ensures read_out { result.status ≡ Status.Done → IfSample words.now ⊤ (IsAtEnd (H.left shelf.new)) }
     ensures sample { IfSample words.now (shelf.new ≡ shelf.old) ⊤ }
     ensures no_fault { IfSample words.now (result.status ≢ Status.ReadFault) ⊤ }
+    ensures reach { EndsInReach words.now (H.files shelf.old) (H.left shelf.new) result.status }
     ensures untouched { result.status ≡ Status.Usage → shelf.new ≡ shelf.old }
     ensures leaves_shelf { RunLeavesShelf H.Shelf result.status shelf.old shelf.new }
     ensures leaves_out { RunLeavesOut O.Sink result.status out.old out.new }
@@ -124,6 +126,7 @@ pub fn infer<H: Shelf, O: Sink, E: Sink>(
     ensures read_out { result ≡ Status.Done → IfSample words.now ⊤ (IsAtEnd (H.left shelf.new)) }
     ensures sample { IfSample words.now (shelf.new ≡ shelf.old) ⊤ }
     ensures no_fault { IfSample words.now (result ≢ Status.ReadFault) ⊤ }
+    ensures reach { EndsInReach words.now (H.files shelf.old) (H.left shelf.new) result }
     ensures untouched { result ≡ Status.Usage → shelf.new ≡ shelf.old }
     ensures leaves_shelf { RunLeavesShelf H.Shelf result shelf.old shelf.new }
     ensures leaves_out { RunLeavesOut O.Sink result out.old out.new }

@@ -2,6 +2,7 @@ use Rattle.std.proofs.Common.{refl}
 use Rattle.std.proofs.lemmas.Result.{IfOk-weaker, IfErr-weaker, on_ok_weaker}
 use Rattle.tor_run.specs.Written.{written}
 use Rattle.tor_run.proofs.Sampled.{asked-given, refusal-given, sample-given, named-read, if_sample}
+use Rattle.tor_run.proofs.Reaching.{reach-given}
 use Rattle.tor_run.proofs.asking.output_asked.Goals as goal
 
 pub returns-in-Ok-clause-asked : goal.returns-in-Ok-clause-asked
@@ -34,3 +35,12 @@ returns-in-Err-clause-sample g c = if_sample c.args.words.now refl tt
 
 pub returns-in-Err-clause-no_fault : goal.returns-in-Err-clause-no_fault
 returns-in-Err-clause-no_fault g c = if_sample c.args.words.now (λ h. h) tt
+
+pub returns-in-Ok-clause-reach : goal.returns-in-Ok-clause-reach
+returns-in-Ok-clause-reach g c =
+    IfErr-weaker c.output_for.result _ _
+    (λ r h. reach-given c.args.words.now c.in-Ok.settings (g.H.Shelf.files c.args.shelf.now) (g.H.Shelf.left c.output_for.new.shelf) r c.in-Ok.ensures.given h)
+    c.output_for.ensures.reach
+
+pub returns-in-Err-clause-reach : goal.returns-in-Err-clause-reach
+returns-in-Err-clause-reach g c = λ s is. tt
