@@ -1,4 +1,5 @@
 pub mod CheckAnswer
 pub mod Judging
 pub mod Limits
+pub mod Reach
 pub mod Unjudging

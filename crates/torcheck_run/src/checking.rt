@@ -12,6 +12,7 @@ ghost use Rattle.run_base.specs.Frames.{RunLeavesShelf, RunLeavesOut};
 ghost use Rattle.run_base.specs.Notes.{plain_note};
 ghost use Rattle.run_base.specs.Answers.{IsNoted};
 ghost use Rattle.run_base.specs.Answers.{note_in};
+ghost use Rattle.torcheck_run.specs.Reach.{CheckEndsInReach};
 ghost use Rattle.torcheck_run.specs.Judging.{NoResult, TooLong, Ends, WordsGive, IsVouched, CanBeJudged, LeavesRestOf};
 ghost use Rattle.torcheck_run.specs.CheckAnswer.{GainsVerdict, GainsNo, GainsVerdictPrefix, KnownFilesGive, LeadsToMalformed, LeadsToLimit};
 ghost use Rattle.torcheck_run.specs.CheckAnswer.{LeadsToAbsent, IsCheckNote, verdict_text, status_of};
@@ -73,6 +74,7 @@ fn answer<H: Shelf, O: Sink>(
     ensures read_out { (result.status ≡ Status.Done) ⊎ (result.status ≡ Status.No) → IsAtEnd (H.left shelf.new) }
     ensures bounded { result.status ≡ Status.Limit → KnownFilesGive words.now (H.files shelf.old) TooLong →
         LeavesRestOf words.now (H.files shelf.old) (H.left shelf.new) }
+    ensures reach { CheckEndsInReach words.now (H.files shelf.old) (H.left shelf.new) result.status }
     ensures untouched { result.status ≡ Status.Usage → shelf.new ≡ shelf.old }
     ensures leaves_shelf { RunLeavesShelf H.Shelf result.status shelf.old shelf.new }
     ensures leaves_out { RunLeavesOut O.Sink result.status out.old out.new }
@@ -141,6 +143,7 @@ pub fn check<H: Shelf, O: Sink, E: Sink>(
     ensures read_out { (result ≡ Status.Done) ⊎ (result ≡ Status.No) → IsAtEnd (H.left shelf.new) }
     ensures bounded { result ≡ Status.Limit → KnownFilesGive words.now (H.files shelf.old) TooLong →
         LeavesRestOf words.now (H.files shelf.old) (H.left shelf.new) }
+    ensures reach { CheckEndsInReach words.now (H.files shelf.old) (H.left shelf.new) result }
     ensures untouched { result ≡ Status.Usage → shelf.new ≡ shelf.old }
     ensures leaves_shelf { RunLeavesShelf H.Shelf result shelf.old shelf.new }
     ensures leaves_out { RunLeavesOut O.Sink result out.old out.new }

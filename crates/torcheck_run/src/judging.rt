@@ -12,6 +12,7 @@ ghost use Rattle.torcheck_run.specs.Judging.{Judged, SettingsGive, IsVerdict, Ju
 ghost use Rattle.run_base.specs.WholeFile.{LeavesRest, LeavesOnly};
 ghost use Rattle.torcheck_run.specs.CheckAnswer.{KnownFilesGive};
 ghost use Rattle.result_rules.specs.File.{HasFewLines, most_lines};
+ghost use Rattle.torcheck_run.specs.Reach.{IsDumpInReach, IsRefusalInReach, IsUnjudgedInReach, StaysUnjudgedInReach};
 ghost use Rattle.torcheck_run.specs.Unjudging.{IsRuling, IsRulingOf, IsRefusedBy, IsUnjudged, IsUnjudgedIn, IsTooLong, IsFailedResult};
 ghost use Rattle.torcheck_run.specs.Unjudging.{IsFailedRead, IsOfCheckWords, AnswersUnjudged};
 ghost use Rattle.torcheck_run.specs.Limits.{max_result};
@@ -96,6 +97,7 @@ fn judged_by_dumps<H: Shelf>(
     ensures before { IfErr result (λ e. IfSome (H.files shelf.old)
         (λ files. IsOk (seen_for file.now (take (e.dump - 1) dumps.now) files))) }
     ensures read_out { OnOk result (IsAtEnd (H.left shelf.old) → IsAtEnd (H.left shelf.new)) }
+    ensures reach { IfErr result (λ e. IsDumpInReach dumps.now (H.files shelf.old) (H.left shelf.new) e.dump e.error) }
 
     ensures reads_shelf { ReadsShelf H.Shelf (IsErrAnd result (λ e. e.error ≡ read_failed)) shelf.old shelf.new }
     ensures unasked { dumps.now ≡ [] → shelf.new ≡ shelf.old }
@@ -124,6 +126,7 @@ fn judge<H: Shelf>(
     ensures verdict { IfOk result (λ verdict. IfSome (H.files shelf.old) (λ files. IsVerdict bytes dumps.now files verdict)) }
     ensures refused { IfErr result (IsRefusedBy bytes dumps.now (H.files shelf.old) (H.steady shelf.old)) }
     ensures read_out { OnOk result (IsAtEnd (H.left shelf.old) → IsAtEnd (H.left shelf.new)) }
+    ensures reach { IfErr result (IsRefusalInReach dumps.now (H.files shelf.old) (H.left shelf.new)) }
 
     ensures reads_shelf { ReadsShelf H.Shelf (IsErrAnd result IsReadFault) shelf.old shelf.new }
 {
@@ -150,6 +153,7 @@ fn judge_file<H: Shelf>(
     ensures rest { IfErr result (λ u. IsTooLong u → LeavesRest max_result settings.now.result (H.files shelf.old) (H.left shelf.new)) }
     ensures unread { IfErr result (λ u. IsFailedResult u →
         LeavesOnly settings.now.result (H.files shelf.old) (H.left shelf.new)) }
+    ensures reach { IfErr result (IsUnjudgedInReach settings.now.dumps (H.files shelf.old) (H.left shelf.new)) }
     ensures read_out { OnOk result (IsAtEnd (H.left shelf.new)) }
 
     ensures reads_shelf { ReadsShelf H.Shelf (IsErrAnd result IsFailedRead) shelf.old shelf.new }
@@ -176,6 +180,7 @@ pub(crate) fn verdict_of<H: Shelf>(
     ensures rest { IfErr result (λ u. IsTooLong u → LeavesRestOf words.now (H.files shelf.old) (H.left shelf.new)) }
     ensures unread { IfErr result (λ u. IsFailedResult u →
         LeavesOnlyResult words.now (H.files shelf.old) (H.left shelf.new)) }
+    ensures reach { IfErr result (StaysUnjudgedInReach words.now (H.files shelf.old) (H.left shelf.new)) }
 
     ensures settled { IsNone (check_settings_given words.now) → IsErrAnd result IsOfCheckWords }
     ensures read_out { OnOk result (IsAtEnd (H.left shelf.new)) }

@@ -1,4 +1,5 @@
 use Rattle.torcheck_run.proofs.Bounds.{bounded, written}
+use Rattle.torcheck_run.proofs.Reaching.{answered, judged}
 use Rattle.torcheck_run.proofs.Unjudgings.{unjudged_note}
 use Rattle.torcheck_run.proofs.checking.answer.Goals as goal
 
@@ -16,3 +17,15 @@ returns-in-Err-clause-bounded g c =
 
 pub returns-in-Ok-clause-bounded : goal.returns-in-Ok-clause-bounded
 returns-in-Ok-clause-bounded g c = λ limit _. written c.in-Ok.verdict c.write_verdict.result.status c.write_verdict.ensures.status limit
+
+pub returns-in-Err-clause-reach : goal.returns-in-Err-clause-reach
+returns-in-Err-clause-reach g c =
+    let shelf = g.H.Shelf in
+    answered c.args.words.now (shelf.files c.args.shelf.now) (shelf.left c.verdict_of.new.shelf) (shelf.steady c.args.shelf.now) c.in-Err.unjudged c.answer_to_unjudged.result
+    c.in-Err.ensures.unjudged c.answer_to_unjudged.ensures c.in-Err.ensures.unread c.in-Err.ensures.reach
+
+pub returns-in-Ok-clause-reach : goal.returns-in-Ok-clause-reach
+returns-in-Ok-clause-reach g c =
+    let shelf = g.H.Shelf in
+    judged c.args.words.now (shelf.files c.args.shelf.now) (shelf.left c.verdict_of.new.shelf) (shelf.steady c.args.shelf.now) c.in-Ok.verdict c.write_verdict.result.status
+    c.write_verdict.ensures.status
