@@ -1,18 +1,23 @@
 -- How far a run has read, by its answer.
-use Rattle.std.proofs.Common.{◌≡◌, ◌⊎◌, inl, inr, ℕ, List, Option, Some, sym, subst, ◌∙◌}
+use Rattle.std.proofs.Common.{◌≡◌, ◌≤◌, ◌⊎◌, inl, inr, ℕ, List, length, Option, Some, sym, subst, ◌∙◌}
+use Rattle.std.specs.Prelude.{⊤}
 use Rattle.tor_io.specs.Contents.{Files}
 use Rattle.dump_read.specs.declared.error.DumpError.{DumpError}
 use Rattle.dump_read.specs.declared.error.DumpError.TheVariants as error
+use Rattle.dump_read.specs.Reach.{StopsBounded}
 use Rattle.tor_words.specs.declared.settings.Settings.{Settings}
+use Rattle.tor_words.specs.declared.settings.Source.{Source}
+use Rattle.tor_words.specs.declared.settings.Source.TheVariants as source
 use Rattle.tor_words.specs.declared.refused.WordsRefused.TheVariants as refused
 use Rattle.tor_words.specs.Given.{settings_given}
 use Rattle.run_base.specs.declared.answer.Answer.{Answer}
 use Rattle.run_base.specs.declared.answer.Refusal.{Refusal}
 use Rattle.run_base.specs.declared.answer.Refusal.TheVariants as refusal
-use Rattle.run_base.specs.Answers.{Answers, AnswersStop, IsNoMemory}
-use Rattle.tor_run.specs.Reach.{IsBounded, IsShownByHeader, StopsInReach, IsRefusedInReach, EndsInReach}
-use Rattle.tor_run.specs.Refusals.{IsDumpStop, IsRefusal}
-use Rattle.tor_run.specs.Sampling.{known_by}
+use Rattle.run_base.specs.Answers.{Answers, AnswersStop, IsNoMemory, note_in}
+use Rattle.run_base.specs.Reading.{name_of_dump}
+use Rattle.run_base.specs.declared.status.Status.{Status}
+use Rattle.tor_run.specs.Reach.{IsDumpNumber, IsPlacedIn, IsBounded, IsShownByHeader, StopsInReach, IsRefusedInReach, EndsInReach}
+use Rattle.tor_run.specs.Sampling.{BySource}
 
 same_settings : (s t : Settings) → ◌≡◌ {A = Option Settings} (Some s) (Some t) → s ≡ t
 same_settings s t e = cc
@@ -23,28 +28,43 @@ pub reach-given :
 reach-given words settings known left r given h =
     λ s is. subst (λ (t : Settings). StopsInReach t known left r) (same_settings settings s (sym given ∙ is)) h
 
-module _ (words : List (List ℕ)) (known : Option Files) (left : Option (List ℕ)) (steady : Type 0) where
-  no_memory : (a : Answer) → IsNoMemory a → EndsInReach words known left a.status
-  no_memory a h = subst (EndsInReach words known left) (sym h.0) tt
+-- what holds of a dump's number holds of the one that its place names
+placed : (s : Source) (P : ℕ → Type 0) (dump other : ℕ) → BySource s ⊤ (other ≡ dump) → BySource s ⊤ (P dump) → BySource s ⊤ (P other)
+placed source.Files P dump other same h = subst P (sym same) h
+placed (source.Sample seed) P dump other same h = tt
+
+module _ (words : List (List ℕ)) (known : Option Files) (left : Option (List ℕ)) where
+  no_memory : (a : Answer) → IsNoMemory a → EndsInReach words known left a.status (note_in a)
+  no_memory a h = subst (λ (s : Status). EndsInReach words known left s (note_in a)) (sym h.0) tt
 
   abbrev InReach : ℕ → DumpError → Type 0
-  InReach dump e = (s : Settings) → settings_given words ≡ Some s → IsBounded s known left dump e × IsShownByHeader s known left dump e
+  InReach dump e = (s : Settings) → settings_given words ≡ Some s → IsDumpNumber s dump × IsPlacedIn s dump e × IsBounded s known left dump e × IsShownByHeader s known left dump e
 
-  stopped : (dump : ℕ) (e : DumpError) (a : Answer) → AnswersStop dump e a → IsDumpStop words (known_by words known) steady dump e → InReach dump e →
-      EndsInReach words known left a.status
-  stopped dump (error.Malformed place fault) a (inl h) leads reach =
-      subst (EndsInReach words known left) (sym h.0) (λ s given. (dump, (place, (fault, leads, (reach s given).0))))
-  stopped dump (error.Malformed place fault) a (inr h) leads reach = no_memory a h
-  stopped dump (error.Limit kind) a (inl h) leads reach =
-      subst (EndsInReach words known left) (sym h.0) (λ s given. (dump, (kind, leads, (reach s given).0, (reach s given).1)))
-  stopped dump (error.Limit kind) a (inr h) leads reach = no_memory a h
-  stopped dump error.ReadFault a (inl h) leads reach = subst (EndsInReach words known left) (sym h.0) (λ s given. (dump, (reach s given).0))
-  stopped dump error.ReadFault a (inr h) leads reach = no_memory a h
-  stopped dump error.NoMemory a h leads reach = no_memory a h
+  stopped : (dump : ℕ) (e : DumpError) (a : Answer) → AnswersStop dump e a → InReach dump e → EndsInReach words known left a.status (note_in a)
+  stopped dump (error.Malformed place fault) a (inl h) reach =
+      subst (λ (s : Status). EndsInReach words known left s (note_in a)) (sym h.0)
+      (λ s given.
+      let r = reach s given in (
+        place,
+        (
+          fault,
+          h.1,
+          placed s.source (λ d. (1 ≤ d) × (d ≤ length s.dumps)) dump place.dump r.1 r.0,
+          placed s.source (λ d. StopsBounded (error.Malformed place fault) (name_of_dump s.dumps d) known left) dump place.dump r.1 r.2,
+        ),
+      ))
+  stopped dump (error.Malformed place fault) a (inr h) reach = no_memory a h
+  stopped dump (error.Limit kind) a (inl h) reach =
+      subst (λ (s : Status). EndsInReach words known left s (note_in a)) (sym h.0)
+      (λ s given. let r = reach s given in (dump, (kind, h.1, r.0, r.2, r.3)))
+  stopped dump (error.Limit kind) a (inr h) reach = no_memory a h
+  stopped dump error.ReadFault a (inl h) reach =
+      subst (λ (s : Status). EndsInReach words known left s (note_in a)) (sym h.0) (λ s given. let r = reach s given in (dump, h.1, r.0, r.2))
+  stopped dump error.ReadFault a (inr h) reach = no_memory a h
+  stopped dump error.NoMemory a h reach = no_memory a h
 
-  pub answered : (r : Refusal) (a : Answer) → Answers r a → IsRefusal words (known_by words known) steady r → IsRefusedInReach words known left r →
-      EndsInReach words known left a.status
-  answered (refusal.Words (refused.Usage text)) a h is reach = subst (EndsInReach words known left) (sym h.0) tt
-  answered (refusal.Words refused.NoMemory) a h is reach = no_memory a h
-  answered (refusal.Dumps stop) a h is reach = stopped stop.dump stop.error a h is reach
-  answered refusal.NoMemory a h is reach = no_memory a h
+  pub answered : (r : Refusal) (a : Answer) → Answers r a → IsRefusedInReach words known left r → EndsInReach words known left a.status (note_in a)
+  answered (refusal.Words (refused.Usage text)) a h reach = subst (λ (s : Status). EndsInReach words known left s (note_in a)) (sym h.0) tt
+  answered (refusal.Words refused.NoMemory) a h reach = no_memory a h
+  answered (refusal.Dumps stop) a h reach = stopped stop.dump stop.error a h reach
+  answered refusal.NoMemory a h reach = no_memory a h

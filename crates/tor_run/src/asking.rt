@@ -11,7 +11,7 @@ ghost use Rattle.rel_infer.specs.SelfAcceptance.{AreTableRows};
 ghost use Rattle.tor_run.specs.Written.{written};
 ghost use Rattle.run_base.specs.Answers.{IsReadFault, IsOfWords};
 ghost use Rattle.run_base.specs.Frames.{ReadsShelf};
-ghost use Rattle.tor_run.specs.Reach.{IsBounded, IsShownByHeader, StopsInReach, IsRefusedInReach};
+ghost use Rattle.tor_run.specs.Reach.{IsDumpNumber, IsPlacedIn, IsBounded, IsShownByHeader, StopsInReach, IsRefusedInReach};
 ghost use Rattle.tor_run.specs.Refusals.{IsRefusal, IsStopIn, StopsIn};
 ghost use Rattle.dump_read.specs.declared.taking.Taken.{Taken};
 
@@ -41,6 +41,8 @@ fn read_asked<H: Shelf>(
     ensures read_out { OnOk result (BySource settings.now.source ⊤ (0 < length settings.now.dumps → IsAtEnd (H.left shelf.new))) }
     ensures sample { BySource settings.now.source (shelf.new ≡ shelf.old) ⊤ }
     ensures no_fault { IfErr result (λ e. BySource settings.now.source (e.error ≢ DumpError.ReadFault) ⊤) }
+    ensures numbered { IfErr result (λ e. IsDumpNumber settings.now e.dump) }
+    ensures placed { IfErr result (λ e. IsPlacedIn settings.now e.dump e.error) }
     ensures bounded { IfErr result (λ e. IsBounded settings.now (H.files shelf.old) (H.left shelf.new) e.dump e.error) }
     ensures shown { IfErr result (λ e. IsShownByHeader settings.now (H.files shelf.old) (H.left shelf.new) e.dump e.error) }
 

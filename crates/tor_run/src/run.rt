@@ -53,7 +53,7 @@ fn answer<H: Shelf, O: Sink>(
     ensures read_out { result.status ≡ Status.Done → IfSample words.now ⊤ (IsAtEnd (H.left shelf.new)) }
     ensures sample { IfSample words.now (shelf.new ≡ shelf.old) ⊤ }
     ensures no_fault { IfSample words.now (result.status ≢ Status.ReadFault) ⊤ }
-    ensures reach { EndsInReach words.now (H.files shelf.old) (H.left shelf.new) result.status }
+    ensures reach { EndsInReach words.now (H.files shelf.old) (H.left shelf.new) result.status (note_in result) }
     ensures untouched { result.status ≡ Status.Usage → shelf.new ≡ shelf.old }
     ensures leaves_shelf { RunLeavesShelf H.Shelf result.status shelf.old shelf.new }
     ensures leaves_out { RunLeavesOut O.Sink result.status out.old out.new }
@@ -126,7 +126,6 @@ pub fn infer<H: Shelf, O: Sink, E: Sink>(
     ensures read_out { result ≡ Status.Done → IfSample words.now ⊤ (IsAtEnd (H.left shelf.new)) }
     ensures sample { IfSample words.now (shelf.new ≡ shelf.old) ⊤ }
     ensures no_fault { IfSample words.now (result ≢ Status.ReadFault) ⊤ }
-    ensures reach { EndsInReach words.now (H.files shelf.old) (H.left shelf.new) result }
     ensures untouched { result ≡ Status.Usage → shelf.new ≡ shelf.old }
     ensures leaves_shelf { RunLeavesShelf H.Shelf result shelf.old shelf.new }
     ensures leaves_out { RunLeavesOut O.Sink result out.old out.new }
@@ -134,6 +133,9 @@ pub fn infer<H: Shelf, O: Sink, E: Sink>(
 
     // What is written to err: the status' note, or a prefix of it where err failed.
     ensures note { IsNoted (IsNote words.now (known_by words.now (H.files shelf.old)) (H.steady shelf.old) result)
+        (E.faults err.old) (E.faults err.new) (E.held err.old) (E.held err.new) }
+    // And how far the dump that it names was read.
+    ensures reach { IsNoted (EndsInReach words.now (H.files shelf.old) (H.left shelf.new) result)
         (E.faults err.old) (E.faults err.new) (E.held err.old) (E.held err.new) }
 {
     let answer = answer(alloc, keys, words, shelf, out);

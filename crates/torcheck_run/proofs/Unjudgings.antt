@@ -51,7 +51,7 @@ file_judged known after settings bytes name part dumps verdict same_name same_fi
     (subst (λ (b : List ℕ). IfSome after (λ files. IsVerdict b settings.dumps files verdict)) same_bytes
     (subst (λ (ds : List (List ℕ)). IfSome after (λ files. IsVerdict part ds files verdict)) same_dumps judged)))
 
-pub end_comes : (known : Option Files) (settings : CheckSettings) (bytes : List ℕ) (end : DumpsEnd) → IfSome known (λ files. IsResult settings files bytes)
+end_comes : (known : Option Files) (settings : CheckSettings) (bytes : List ℕ) (end : DumpsEnd) → IfSome known (λ files. IsResult settings files bytes)
     → DumpsEndWith bytes settings.dumps known end → IfSome known (λ files. SettingsGive settings files (Ends end))
 end_comes None settings bytes end is ends = tt
 end_comes (Some files) settings bytes end is ends = (bytes, ends.0, is, ends.1, ends.2)

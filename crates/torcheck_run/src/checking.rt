@@ -74,7 +74,7 @@ fn answer<H: Shelf, O: Sink>(
     ensures read_out { (result.status ≡ Status.Done) ⊎ (result.status ≡ Status.No) → IsAtEnd (H.left shelf.new) }
     ensures bounded { result.status ≡ Status.Limit → KnownFilesGive words.now (H.files shelf.old) TooLong →
         LeavesRestOf words.now (H.files shelf.old) (H.left shelf.new) }
-    ensures reach { CheckEndsInReach words.now (H.files shelf.old) (H.left shelf.new) result.status }
+    ensures reach { CheckEndsInReach words.now (H.files shelf.old) (H.left shelf.new) result.status (note_in result) }
     ensures untouched { result.status ≡ Status.Usage → shelf.new ≡ shelf.old }
     ensures leaves_shelf { RunLeavesShelf H.Shelf result.status shelf.old shelf.new }
     ensures leaves_out { RunLeavesOut O.Sink result.status out.old out.new }
@@ -143,7 +143,6 @@ pub fn check<H: Shelf, O: Sink, E: Sink>(
     ensures read_out { (result ≡ Status.Done) ⊎ (result ≡ Status.No) → IsAtEnd (H.left shelf.new) }
     ensures bounded { result ≡ Status.Limit → KnownFilesGive words.now (H.files shelf.old) TooLong →
         LeavesRestOf words.now (H.files shelf.old) (H.left shelf.new) }
-    ensures reach { CheckEndsInReach words.now (H.files shelf.old) (H.left shelf.new) result }
     ensures untouched { result ≡ Status.Usage → shelf.new ≡ shelf.old }
     ensures leaves_shelf { RunLeavesShelf H.Shelf result shelf.old shelf.new }
     ensures leaves_out { RunLeavesOut O.Sink result out.old out.new }
@@ -151,6 +150,8 @@ pub fn check<H: Shelf, O: Sink, E: Sink>(
 
     // What is written to err: the status' note, or a prefix of it where err failed; at Done and No nothing.
     ensures note { IsNoted (IsCheckNote words.now (H.files shelf.old) (H.steady shelf.old) (H.left shelf.new) result)
+        (E.faults err.old) (E.faults err.new) (E.held err.old) (E.held err.new) }
+    ensures reach { IsNoted (CheckEndsInReach words.now (H.files shelf.old) (H.left shelf.new) result)
         (E.faults err.old) (E.faults err.new) (E.held err.old) (E.held err.new) }
     ensures silent { (result ≡ Status.Done) ⊎ (result ≡ Status.No) → E.held err.new ≡ E.held err.old }
 {

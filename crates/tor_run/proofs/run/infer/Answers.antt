@@ -37,6 +37,21 @@ returns-clause-note g c =
       prefix = subst (λ t. GainsPrefix old new t) c.note.ensures (either_way c.write_all.result old new text c.write_all.ensures.all c.write_all.ensures.prefix);
     }
 
+pub returns-clause-reach : goal.returns-clause-reach
+returns-clause-reach g c =
+    let held = g.E.Sink.held in
+    let faults = g.E.Sink.faults in
+    let old = held c.args.err.now in
+    let new = held c.write_all.new.sink in
+    let text = c.note.result.now in
+    record {
+      text = note_in c.answer-answer.result;
+      is_note = c.answer-answer.ensures.reach;
+      whole = λ quiet. all_if_quiet c.write_all.result (faults c.args.err.now) (faults c.write_all.new.sink) old new text c.write_all.ensures.cause c.write_all.ensures.all quiet
+          ∙ ap (append_known old) c.note.ensures;
+      prefix = subst (λ t. GainsPrefix old new t) c.note.ensures (either_way c.write_all.result old new text c.write_all.ensures.all c.write_all.ensures.prefix);
+    }
+
 pub returns-clause-some : goal.returns-clause-some
 returns-clause-some g c = λ is.
     let held = g.E.Sink.held in

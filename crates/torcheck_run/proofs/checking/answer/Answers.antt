@@ -1,3 +1,4 @@
+use Rattle.run_base.specs.Answers.{note_in}
 use Rattle.torcheck_run.proofs.Bounds.{bounded, written}
 use Rattle.torcheck_run.proofs.Reaching.{answered, judged}
 use Rattle.torcheck_run.proofs.Unjudgings.{unjudged_note}
@@ -28,4 +29,4 @@ pub returns-in-Ok-clause-reach : goal.returns-in-Ok-clause-reach
 returns-in-Ok-clause-reach g c =
     let shelf = g.H.Shelf in
     judged c.args.words.now (shelf.files c.args.shelf.now) (shelf.left c.verdict_of.new.shelf) (shelf.steady c.args.shelf.now) c.in-Ok.verdict c.write_verdict.result.status
-    c.write_verdict.ensures.status
+    (note_in c.write_verdict.result) c.write_verdict.ensures.status
