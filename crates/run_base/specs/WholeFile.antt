@@ -1,5 +1,5 @@
 -- A file that is read whole, where it has at most so many octets.
-use Rattle.std.specs.Prelude.{◌≡◌, ◌<◌, ◌⊎◌, ◌+◌, ℕ, List, [], length, drop, Option, Some, None, IfSome, IsSomeAnd}
+use Rattle.std.specs.Prelude.{◌≡◌, ◌≤◌, ◌<◌, ◌⊎◌, ◌+◌, ℕ, List, [], length, drop, Option, Some, None, IfSome, IsSomeAnd}
 use Rattle.tor_io.specs.Contents.{Files}
 
 -- a file of these octets has more
@@ -15,10 +15,10 @@ IsLongFile most (Some bytes) = IsLong most bytes
 abbrev pub LeavesRest : ℕ → List ℕ → Option Files → Option (List ℕ) → Type 0
 LeavesRest most name known left = IfSome known (λ files. IfSome (files name) (λ bytes. left ≡ Some (drop (most + 1) bytes)))
 
--- some of these octets were read, maybe none, maybe all, and the rest of them is left
-abbrev pub IsRestOf : Option (List ℕ) → List ℕ → Type 0
-IsRestOf left bytes = (read : ℕ) × (left ≡ Some (drop read bytes))
+-- of these octets some were read, maybe none, and at most one more than may be; the rest of them is left
+abbrev pub IsRestOf : ℕ → Option (List ℕ) → List ℕ → Type 0
+IsRestOf most left bytes = (read : ℕ) × (read ≤ most + 1) × (left ≡ Some (drop read bytes))
 
--- where the files are known, nothing is left unread, or a rest of the file of this name
-abbrev pub LeavesOnly : List ℕ → Option Files → Option (List ℕ) → Type 0
-LeavesOnly name known left = IfSome known (λ files. (left ≡ Some []) ⊎ IsSomeAnd (files name) (IsRestOf left))
+-- where the files are known, nothing is left unread, or such a rest of the file of this name
+abbrev pub LeavesOnly : ℕ → List ℕ → Option Files → Option (List ℕ) → Type 0
+LeavesOnly most name known left = IfSome known (λ files. (left ≡ Some []) ⊎ IsSomeAnd (files name) (IsRestOf most left))

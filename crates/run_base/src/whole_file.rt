@@ -75,7 +75,7 @@ fn read_open<H: Shelf>(alloc: Global, shelf: &mut H, most: usize) -> Result<List
     ensures long { IsErrOf result Unread.TooLong → IfSome (H.left shelf.old) (IsLong most) }
     ensures rest { IsErrOf result Unread.TooLong → IfSome (H.left shelf.old) (λ left.
         H.left shelf.new ≡ Some (drop (most + 1) left)) }
-    ensures unread { IsErrOf result Unread.Failed → IfSome (H.left shelf.old) (IsRestOf (H.left shelf.new)) }
+    ensures unread { IfSome (H.left shelf.old) (IsRestOf most (H.left shelf.new)) }
 
     ensures files { H.files shelf.new ≡ H.files shelf.old }
     ensures later { H.faults shelf.old ≤ H.faults shelf.new }
@@ -99,7 +99,7 @@ fn read_open<H: Shelf>(alloc: Global, shelf: &mut H, most: usize) -> Result<List
 }
 
 /// Reads the file of this name whole, at most `most` octets. Failed: the open or a read failed. TooLong: it has more, of which one was
-/// read. NoMemory: memory ran out.
+/// read. NoMemory: memory ran out. Whatever it answers, no octet behind the one beyond `most` was read.
 pub fn read_whole<H: Shelf>(
     alloc: Global,
     shelf: &mut H,
@@ -112,7 +112,7 @@ pub fn read_whole<H: Shelf>(
     ensures read_out { OnOk result (IsAtEnd (H.left shelf.new)) }
     ensures long { IsErrOf result Unread.TooLong → IfSome (H.files shelf.old) (λ files. IsLongFile most (files name.now)) }
     ensures rest { IsErrOf result Unread.TooLong → LeavesRest most name.now (H.files shelf.old) (H.left shelf.new) }
-    ensures unread { IsErrOf result Unread.Failed → LeavesOnly name.now (H.files shelf.old) (H.left shelf.new) }
+    ensures unread { LeavesOnly most name.now (H.files shelf.old) (H.left shelf.new) }
 
     ensures files { H.files shelf.new ≡ H.files shelf.old }
     ensures later { H.faults shelf.old ≤ H.faults shelf.new }

@@ -15,6 +15,7 @@ use Rattle.tor_words.specs.CheckGiven.{check_settings_given}
 use Rattle.run_base.specs.declared.status.Status.{Status}
 use Rattle.run_base.specs.declared.status.Status.TheVariants as status
 use Rattle.run_base.specs.Notes.{malformed_note, limit_note, read_fault_note, result_note, plain_note}
+use Rattle.torcheck_run.specs.Limits.{max_result}
 use Rattle.torcheck_run.specs.Judging.{Outcome, Judged, NoResult, TooLong, Ends, WordsGive, IsResult, IsAccepted, seen_for}
 use Rattle.run_base.specs.WholeFile.{LeavesOnly}
 
@@ -79,7 +80,7 @@ pub record FailedAtResult (words : List (List ℕ)) (known : Option Files) (stea
   pub number : dump ≡ 0
   pub settings : CheckSettings
   pub given : check_settings_given words ≡ Some settings
-  pub unread : LeavesOnly settings.result known left
+  pub unread : LeavesOnly max_result settings.result known left
   pub absent : steady → KnownFilesGive words known NoResult
 
 -- a read of one of the dumps failed, the rules 0 to 10 are met, and the dumps before it have no end; over a steady shelf it

@@ -63,7 +63,7 @@ LeavesRestOf words known left =
 -- the same of the result file that the words name
 abbrev pub LeavesOnlyResult : List (List ℕ) → Option Files → Option (List ℕ) → Type 0
 LeavesOnlyResult words known left =
-    (settings : CheckSettings) → check_settings_given words ≡ Some settings → LeavesOnly settings.result known left
+    (settings : CheckSettings) → check_settings_given words ≡ Some settings → LeavesOnly max_result settings.result known left
 
 -- the result file is there with these bytes, and they are few enough
 pub record IsResult (settings : CheckSettings) (files : Files) (bytes : List ℕ) : Type 0 where

@@ -152,7 +152,7 @@ fn judge_file<H: Shelf>(
     ensures no_words { IfErr result (λ u. IsOfCheckWords u → ⊥) }
     ensures rest { IfErr result (λ u. IsTooLong u → LeavesRest max_result settings.now.result (H.files shelf.old) (H.left shelf.new)) }
     ensures unread { IfErr result (λ u. IsFailedResult u →
-        LeavesOnly settings.now.result (H.files shelf.old) (H.left shelf.new)) }
+        LeavesOnly max_result settings.now.result (H.files shelf.old) (H.left shelf.new)) }
     ensures reach { IfErr result (IsUnjudgedInReach settings.now.dumps (H.files shelf.old) (H.left shelf.new)) }
     ensures read_out { OnOk result (IsAtEnd (H.left shelf.new)) }
 

@@ -18,6 +18,7 @@ use Rattle.run_base.specs.Notes.{malformed_note, limit_note, read_fault_note, pl
 use Rattle.run_base.specs.WholeFile.{LeavesOnly}
 use Rattle.torgrade_run.specs.declared.cones.Cone.{Cone}
 use Rattle.torgrade_run.specs.GradeText.{IsConeAsked, grading_text}
+use Rattle.torgrade_run.specs.Limits.{max_rel}
 use Rattle.torgrade_run.specs.Outcomes.{Outcome, Reads, NoRel, LongRel, BadRel, Ends, Gives, IsRel, seen_by}
 
 -- what the words and the files give, where these are known
@@ -84,7 +85,7 @@ pub record FailedAtRel (words : List (List ℕ)) (known : Option Files) (steady 
   pub number : dump ≡ 0
   pub settings : GradeSettings
   pub given : grade_settings_given words ≡ Some settings
-  pub unread : LeavesOnly settings.rel known left
+  pub unread : LeavesOnly max_rel settings.rel known left
   pub absent : steady → LeadsTo words known NoRel
 
 -- a read of one of the dumps failed, the file of known relationships is good, and the dumps before it have no end; over a steady

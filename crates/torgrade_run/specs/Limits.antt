@@ -1,6 +1,7 @@
 -- The bound on a file of known relationships.
-use Rattle.std.specs.Prelude.{ℕ, ◌^◌}
+use Rattle.std.specs.Prelude.{ℕ}
+use Rattle.torgrade_run.specs.declared.asking.TheConstants.{MAX_REL}
 
 -- how many octets it may have
 abbrev pub max_rel : ℕ
-max_rel = 2 ^ 28
+max_rel = MAX_REL

@@ -62,4 +62,4 @@ LeavesRestOf words known left =
 -- nothing is left, or a rest of that file
 abbrev pub LeavesOnlyRel : List (List ℕ) → Option Files → Option (List ℕ) → Type 0
 LeavesOnlyRel words known left =
-    (settings : GradeSettings) → grade_settings_given words ≡ Some settings → LeavesOnly settings.rel known left
+    (settings : GradeSettings) → grade_settings_given words ≡ Some settings → LeavesOnly max_rel settings.rel known left

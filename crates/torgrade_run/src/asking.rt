@@ -160,7 +160,7 @@ fn graded_in<H: Shelf>(
     ensures no_words { IfErr result (λ u. IsOfGradeWords u → ⊥) }
     ensures rest { IfErr result (λ u. IsTooLong u → LeavesRest max_rel settings.now.rel (H.files shelf.old) (H.left shelf.new)) }
     ensures unread { IfErr result (λ u. IsFailedRel u →
-        LeavesOnly settings.now.rel (H.files shelf.old) (H.left shelf.new)) }
+        LeavesOnly max_rel settings.now.rel (H.files shelf.old) (H.left shelf.new)) }
     ensures read_out { OnOk result (IsAtEnd (H.left shelf.new)) }
 
     ensures files { H.files shelf.new ≡ H.files shelf.old }
