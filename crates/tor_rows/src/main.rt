@@ -1,5 +1,5 @@
-// Runs `infer`, `check` and `grade` over files and streams in memory, as the rows on standard input say, and prints of each row its name and `ok`,
-// or what differs.
+// Runs `infer`, `check` and `grade` over files and streams in memory, as the rows on standard input say, and prints of each row its name
+// and `ok`, or what differs.
 //
 // A row is a block of lines between empty lines, and begins with `row NAME`. The first word of a line says what it is; a line that begins
 // with `#` is a comment, of which one begins with `# source:` and says where the row has what it expects from. A block without a name
