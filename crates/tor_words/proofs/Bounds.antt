@@ -1,6 +1,7 @@
 -- The settings that words give are within their bounds.
-use Rattle.std.proofs.Common.{◌≡◌, ℕ, ◌≤◌, Bool, true, false, List, [], ◌∷◌, refl, subst, arith}
+use Rattle.std.proofs.Common.{◌≡◌, ◌≢◌, ℕ, ◌≤◌, Bool, true, false, List, [], ◌∷◌, refl, subst, arith}
 use Rattle.std.specs.Prelude.{Option, Some, None, option_map, option_and_then, if◌then◌else◌, codes}
+use Rattle.std.specs.List.{AllByRecursion}
 use Rattle.std.specs.Str.Parse.{digits_value, without_leading_plus}
 use Rattle.clap.specs.ValueTests.{is_unsigned_in}
 use Rattle.clap.specs.Words.{Kinds, Row, Text, first_of, fault_of, matches_of}
@@ -8,10 +9,11 @@ use Rattle.clap.specs.declared.builder.value_parser.ValueParser.TheVariants as v
 use Rattle.clap.proofs.ValueTestLemmas.{accepts-Accepts}
 use Rattle.path_clean.specs.declared.cleaned.Sets.{Sets}
 use Rattle.tor_words.specs.declared.settings.Mode.{Mode}
+use Rattle.tor_words.specs.declared.settings.Mode.TheVariants.{Listing, Survey, Ties, Serial, Summary}
 use Rattle.tor_words.specs.declared.settings.Source.{Source}
 use Rattle.tor_words.specs.declared.settings.Source.TheVariants.{Files, Sample}
 use Rattle.tor_words.specs.declared.settings.Settings.{Settings}
-use Rattle.tor_words.specs.Given.{number_in, number_or, source_of, source_in, mode_of, mode_in, sets_or_cut, settings_in, dumps_in, is_true_text, HasDumps, IsWrittenOf, AreBounded, BoundsLaw}
+use Rattle.tor_words.specs.Given.{number_in, number_or, source_of, source_in, is_set, with_flag, asked_in, mode_of, mode_in, sets_or_cut, settings_in, dumps_in, HasDumps, IsWrittenOf, AreBounded, BoundsLaw}
 use Rattle.tor_words.specs.Given.{settings_given, unless_fault}
 use Rattle.tor_words.specs.TorCommand.{tor_command}
 
@@ -43,14 +45,27 @@ has_dumps (Some text) [] source is = by (number_in 0 18446744073709551615 text) 
     by (Some seed) e = let same : Sample seed ≡ source = cc in subst (λ (s : Source). HasDumps s []) same refl
 has_dumps (Some text) (dump ∷ dumps) source is = absurd cc
 
-is_written : (source : Source) (list survey : Bool) (mode : Mode) → mode_of source list survey ≡ Some mode → IsWrittenOf source mode
-is_written Files true true mode is = absurd cc
-is_written Files true false mode is = λ e. cc
-is_written Files false true mode is = λ e. cc
-is_written Files false false mode is = λ e. cc
-is_written (Sample seed) true survey mode is = absurd cc
-is_written (Sample seed) false true mode is = absurd cc
-is_written (Sample seed) false false mode is = cc
+-- no flag asks for the summary
+abbrev NoneSums : List Mode → Type 0
+NoneSums asked = AllByRecursion (λ mode. mode ≢ Summary) asked
+
+flagged : (b : Bool) (mode : Mode) (asked : List Mode) → mode ≢ Summary → NoneSums asked → NoneSums (with_flag b mode asked)
+flagged true mode asked other all = (other, all)
+flagged false mode asked other all = all
+
+none_sums : (rows : List Row) → NoneSums (asked_in rows)
+none_sums rows =
+    flagged (is_set (codes "list") rows) Listing _ (λ e. cc)
+    (flagged (is_set (codes "survey") rows) Survey _ (λ e. cc)
+    (flagged (is_set (codes "ties") rows) Ties _ (λ e. cc)
+    (flagged (is_set (codes "serial1") rows) Serial [] (λ e. cc) tt)))
+
+is_written : (source : Source) (asked : List Mode) (mode : Mode) → NoneSums asked → mode_of source asked ≡ Some mode → IsWrittenOf source mode
+is_written Files [] mode all is = λ e. cc
+is_written Files (m ∷ []) mode all is = λ e. all.0 cc
+is_written Files (m ∷ n ∷ ms) mode all is = absurd cc
+is_written (Sample seed) [] mode all is = cc
+is_written (Sample seed) (m ∷ ms) mode all is = absurd cc
 
 abbrev made : List Text → Source → Mode → Sets → ℕ → ℕ → Settings
 made dumps source mode sets ratio most = record { mode = mode; source = source; sets = sets; ratio = ratio; max_paths = most; dumps = dumps }
@@ -83,7 +98,7 @@ module _ (dumps : List Text) (settings : Settings) (mode_at : Source → Option 
 bounds_in : (rows : List Row) (settings : Settings) → settings_in rows ≡ Some settings → AreBounded settings
 bounds_in rows settings is =
     of_source (dumps_in rows) settings (mode_in rows) (number_or 0 1000000 60 (first_of (codes "ratio") rows)) (number_or 1 8388608 8388608 (first_of (codes "max-paths") rows))
-    (λ s m e. is_written s (is_true_text (first_of (codes "list") rows)) (is_true_text (first_of (codes "survey") rows)) m e)
+    (λ s m e. is_written s (asked_in rows) m (none_sums rows) e)
     (λ n e. within_or 0 1000000 60 n (first_of (codes "ratio") rows) (omega arith) (omega arith) e)
     (λ n e. within_or 1 8388608 8388608 n (first_of (codes "max-paths") rows) (omega arith) (omega arith) e)
     (sets_or_cut (first_of (codes "as-sets") rows)) (source_in rows)

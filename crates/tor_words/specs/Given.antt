@@ -9,7 +9,7 @@ use Rattle.tor_arena.specs.Limits.{max_paths, max_ratio}
 use Rattle.path_clean.specs.declared.cleaned.Sets.{Sets}
 use Rattle.path_clean.specs.declared.cleaned.Sets.TheVariants.{Cut, Skip}
 use Rattle.tor_words.specs.declared.settings.Mode.{Mode}
-use Rattle.tor_words.specs.declared.settings.Mode.TheVariants.{Labels, Listing, Survey, Summary}
+use Rattle.tor_words.specs.declared.settings.Mode.TheVariants.{Labels, Listing, Survey, Ties, Serial, Summary}
 use Rattle.tor_words.specs.declared.settings.Source.{Source}
 use Rattle.tor_words.specs.declared.settings.Source.TheVariants.{Files, Sample}
 use Rattle.tor_words.specs.declared.settings.Settings.{Settings}
@@ -53,23 +53,41 @@ source_of None (dump ∷ dumps) = Some Files
 source_of (Some text) [] = option_map Sample (number_in 0 18446744073709551615 text)
 source_of (Some text) (dump ∷ dumps) = None
 
--- what is written. Of files it is the list of the paths with `--list`, what the dumps hold with `--survey`, and the labels with
--- neither; both are refused. Of a sample it is the summary, and neither of the two stands beside it
-abbrev pub mode_of : Source → (list survey : Bool) → Option Mode
-mode_of Files true true = None
-mode_of Files true false = Some Listing
-mode_of Files false true = Some Survey
-mode_of Files false false = Some Labels
-mode_of (Sample seed) true survey = None
-mode_of (Sample seed) false true = None
-mode_of (Sample seed) false false = Some Summary
+-- a mode before others, if its flag is set
+abbrev pub with_flag : Bool → Mode → List Mode → List Mode
+with_flag true mode modes = mode ∷ modes
+with_flag false mode modes = modes
+
+-- what flags ask for, where one of them is set at most
+abbrev pub alone : List Mode → Option (Option Mode)
+alone [] = Some None
+alone (mode ∷ []) = Some (Some mode)
+alone (mode ∷ other ∷ modes) = None
+
+-- what is written. Of files it is the result, or what a flag asks for in its place; two flags are refused. Of a sample it is the
+-- summary, and no flag stands beside it
+abbrev pub mode_of : Source → (asked : List Mode) → Option Mode
+mode_of Files asked = option_map (λ mode. unwrap_or mode Labels) (alone asked)
+mode_of (Sample seed) [] = Some Summary
+mode_of (Sample seed) (mode ∷ modes) = None
 
 abbrev pub source_in : List Row → Option Source
 source_in rows = source_of (first_of (codes "sample") rows) (dumps_in rows)
 
+abbrev pub is_set : Text → List Row → Bool
+is_set name rows = is_true_text (first_of name rows)
+
+-- what the flags ask for: with `--list` the list of the paths, with `--survey` what the dumps hold, with `--ties` the ties of the open
+-- edges, and with `--serial1` the labels as lines of serial-1
+abbrev pub asked_in : List Row → List Mode
+asked_in rows =
+    with_flag (is_set (codes "list") rows) Listing
+    (with_flag (is_set (codes "survey") rows) Survey
+    (with_flag (is_set (codes "ties") rows) Ties
+    (with_flag (is_set (codes "serial1") rows) Serial [])))
+
 abbrev pub mode_in : List Row → Source → Option Mode
-mode_in rows source =
-    mode_of source (is_true_text (first_of (codes "list") rows)) (is_true_text (first_of (codes "survey") rows))
+mode_in rows source = mode_of source (asked_in rows)
 
 -- the settings that these matches give, if they ask for something and their values are some
 abbrev pub settings_in : List Row → Option Settings

@@ -1,5 +1,5 @@
 -- The command line of `tor`, as clap reads it:
--- `tor [--list] [--survey] [--as-sets VALUE] [--ratio NUMBER] [--max-paths NUMBER] [--sample NUMBER] [DUMP ..]`.
+-- `tor [--list] [--survey] [--ties] [--serial1] [--as-sets VALUE] [--ratio NUMBER] [--max-paths NUMBER] [--sample NUMBER] [DUMP ..]`.
 use Rattle.std.specs.Prelude.{ℕ, codes, Some, true}
 use Rattle.clap.specs.Words.{App, Rule, Text, new_app, new_rule, with_rule}
 use Rattle.clap.specs.Simple.{on_top}
@@ -25,13 +25,17 @@ rest_rule name = record (new_rule name) {
   range = Some (record { start_inclusive = 1; end_inclusive = usize_max });
 }
 
+-- the command with the flags for what reading gives
+abbrev pub with_lists : App → App
+with_lists app = with_rule (with_rule app (flag_rule (codes "list"))) (flag_rule (codes "survey"))
+
+-- the command with the flags for what labels and marks say
+abbrev pub with_uses : App → App
+with_uses app = with_rule (with_rule app (flag_rule (codes "ties"))) (flag_rule (codes "serial1"))
+
 -- the command with the options that have no number
 abbrev pub with_choices : App → App
-with_choices app =
-    with_rule (with_rule (with_rule app
-    (flag_rule (codes "list")))
-    (flag_rule (codes "survey")))
-    (option_rule (codes "as-sets"))
+with_choices app = with_rule (with_uses (with_lists app)) (option_rule (codes "as-sets"))
 
 -- the command with the options that have one
 abbrev pub with_numbers : App → App

@@ -1,7 +1,7 @@
 //! The commands, as clap takes them.
 ghost use Rattle.std.specs.Prelude.{◌≡◌, IfOk, codes, false};
 ghost use Rattle.clap.specs.Words.{app_of, rule_of, with_rule};
-ghost use Rattle.tor_words.specs.TorCommand.{tor_command, with_choices, with_numbers, option_rule, number_rule, flag_rule, rest_rule};
+ghost use Rattle.tor_words.specs.TorCommand.{tor_command, with_lists, with_uses, with_choices, with_numbers, option_rule, number_rule, flag_rule, rest_rule};
 ghost use Rattle.tor_words.specs.TorcheckCommand.{torcheck_command, needed_rule};
 
 use clap::builder::ValueParser;
@@ -119,6 +119,12 @@ const LIST_HELP: &str =
 const SURVEY_HELP: &str =
     "Write what the dumps hold, and what of it counts, in place of the result";
 
+const TIES_HELP: &str =
+    "Write which of the open edges stand or fall together, in place of the result";
+
+const SERIAL_HELP: &str =
+    "Write the labels as lines provider|customer|-1 and peer|peer|0, in place of the result";
+
 const SETS_HELP: &str =
     "With an AS_SET of several ASes, cut ends the path before it and skip sets the route aside [default: cut]";
 
@@ -138,12 +144,28 @@ const RESULT_HELP: &str = "The result to judge";
 const COMPARED_HELP: &str =
     "The dumps, in order, that the paths of the result, their times and its seven counts have to be those of";
 
+// The command with the flags for what reading gives.
+fn with_lists<'a>(alloc: Global, command: Command<'a>) -> Result<Command<'a>, AllocError>
+    ensures { IfOk result (λ c. app_of c ≡ with_lists (app_of command.entry)) }
+{
+    let command = with_flag(alloc, command, "list", LIST_HELP)?;
+    with_flag(alloc, command, "survey", SURVEY_HELP)
+}
+
+// The command with the flags for what labels and marks say.
+fn with_uses<'a>(alloc: Global, command: Command<'a>) -> Result<Command<'a>, AllocError>
+    ensures { IfOk result (λ c. app_of c ≡ with_uses (app_of command.entry)) }
+{
+    let command = with_flag(alloc, command, "ties", TIES_HELP)?;
+    with_flag(alloc, command, "serial1", SERIAL_HELP)
+}
+
 // The command with the options that have no number.
 fn with_choices<'a>(alloc: Global, command: Command<'a>) -> Result<Command<'a>, AllocError>
     ensures { IfOk result (λ c. app_of c ≡ with_choices (app_of command.entry)) }
 {
-    let command = with_flag(alloc, command, "list", LIST_HELP)?;
-    let command = with_flag(alloc, command, "survey", SURVEY_HELP)?;
+    let command = with_lists(alloc, command)?;
+    let command = with_uses(alloc, command)?;
     with_option(alloc, command, "as-sets", SETS_HELP)
 }
 

@@ -2,7 +2,7 @@
 ghost use Rattle.std.specs.Prelude.{◌≡◌, ◌≤◌, IfOk, IfErr, OnErr, Some, None, map, option_map};
 ghost use Rattle.clap.specs.Words.{found_of, rows_of, first_of};
 ghost use Rattle.tor_arena.specs.Limits.{max_paths, max_ratio};
-ghost use Rattle.tor_words.specs.Given.{settings_in, settings_given, dumps_in, mode_of, source_of, HasDumps};
+ghost use Rattle.tor_words.specs.Given.{settings_in, settings_given, dumps_in, is_set, asked_in, alone, mode_of, source_of, HasDumps};
 ghost use Rattle.tor_words.specs.Refused.{IsUsage, SaysUsage};
 
 use crate::command::command;
@@ -23,6 +23,10 @@ pub enum Mode {
     Listing,
     /// What the dumps hold, and what of it counts.
     Survey,
+    /// The ties: which of the open edges stand or fall together.
+    Ties,
+    /// The relationships that the result's labels say, as lines of serial-1.
+    Serial,
     /// The summary of the result alone.
     Summary,
 }
@@ -54,8 +58,12 @@ pub struct Settings {
     pub dumps: List<Name>,
 }
 
+/// Why words are refused where two flags each ask for something of their own.
+const ONE_ALONE: &str = "of --list, --survey, --ties and --serial1 one can be given\n";
+
 /// Why words are refused where something stands beside `--sample`.
-const SAMPLE_ALONE: &str = "--sample takes no --list, no --survey and no dump\n";
+const SAMPLE_ALONE: &str =
+    "--sample takes no --list, no --survey, no --ties, no --serial1 and no dump\n";
 
 /// The first value of an option.
 pub(crate) fn first<'a>(matches: &ArgMatches<'a>, id: &str) -> Option<&'a str>
@@ -102,18 +110,43 @@ fn source_of(sample: Option<&str>, dumps: &[Name]) -> Result<Source, &'static st
     }
 }
 
-// What is written of dumps that come from there, or why nothing.
-fn mode_of(source: Source, list: bool, survey: bool) -> Result<Mode, &'static str>
-    ensures ok { IfOk result (λ mode. mode_of source list survey ≡ Some mode) }
-    ensures err { OnErr result (mode_of source list survey ≡ None) }
+// Whether the flag of this name is set.
+fn is_set(matches: &ArgMatches, name: &str) -> bool
+    ensures { result ≡ is_set name.now (rows_of (found_of matches.now)) }
 {
-    match source {
-        Source::Files if list && survey => Err("--survey takes no --list\n"),
-        Source::Files if list => Ok(Mode::Listing),
-        Source::Files if survey => Ok(Mode::Survey),
-        Source::Files => Ok(Mode::Labels),
-        Source::Sample(_) if list || survey => Err(SAMPLE_ALONE),
-        Source::Sample(_) => Ok(Mode::Summary),
+    is_true_text(first(matches, name))
+}
+
+// What the flags ask for in place of the result, if one of them is set; or why more than one can't be.
+fn asked_in(matches: &ArgMatches) -> Result<Option<Mode>, &'static str>
+    ensures ok { IfOk result (λ mode. alone (asked_in (rows_of (found_of matches.now))) ≡ Some mode) }
+    ensures err { OnErr result (alone (asked_in (rows_of (found_of matches.now))) ≡ None) }
+{
+    let list = is_set(matches, "list");
+    let survey = is_set(matches, "survey");
+    let ties = is_set(matches, "ties");
+    let serial = is_set(matches, "serial1");
+    match (list, survey, ties, serial) {
+        (false, false, false, false) => Ok(None),
+        (true, false, false, false) => Ok(Some(Mode::Listing)),
+        (false, true, false, false) => Ok(Some(Mode::Survey)),
+        (false, false, true, false) => Ok(Some(Mode::Ties)),
+        (false, false, false, true) => Ok(Some(Mode::Serial)),
+        _ => Err(ONE_ALONE),
+    }
+}
+
+// What is written of dumps that come from there, or why nothing.
+fn mode_of(source: Source, matches: &ArgMatches) -> Result<Mode, &'static str>
+    ensures ok { IfOk result (λ mode. mode_of source (asked_in (rows_of (found_of matches.now))) ≡ Some mode) }
+    ensures err { OnErr result (mode_of source (asked_in (rows_of (found_of matches.now))) ≡ None) }
+{
+    match (source, asked_in(matches)) {
+        (Source::Files, Ok(None)) => Ok(Mode::Labels),
+        (Source::Files, Ok(Some(mode))) => Ok(mode),
+        (Source::Files, Err(why)) => Err(why),
+        (Source::Sample(_), Ok(None)) => Ok(Mode::Summary),
+        (Source::Sample(_), _) => Err(SAMPLE_ALONE),
     }
 }
 
@@ -130,13 +163,11 @@ fn settings_in(alloc: Global, matches: &ArgMatches) -> Result<Settings, WordsRef
     let Ok(dumps) = dumps_in(alloc, matches) else {
         return Err(WordsRefused::NoMemory);
     };
-    let list = is_true_text(first(matches, "list"));
-    let survey = is_true_text(first(matches, "survey"));
     let source = match source_of(first(matches, "sample"), dumps.as_slice()) {
         Ok(source) => source,
         Err(why) => return Err(usage(alloc, why)),
     };
-    let mode = match mode_of(source, list, survey) {
+    let mode = match mode_of(source, matches) {
         Ok(mode) => mode,
         Err(why) => return Err(usage(alloc, why)),
     };
