@@ -1,14 +1,20 @@
 -- What a run that is done has written, by its mode.
-use Rattle.std.specs.Prelude.{◌≡◌, ◌++◌, ◌∷◌, [], ℕ, List, Option, Some}
+use Rattle.std.specs.Prelude.{◌≡◌, ◌++◌, ◌∷◌, [], ℕ, List, map, Option, Some}
 use Rattle.std.specs.Io.KnownBytes.{append_known}
 use Rattle.tor_io.specs.Contents.{Files, GainsPrefix}
+use Rattle.path_clean.specs.Rows.{row_paths}
 use Rattle.dump_read.specs.declared.taking.Taken.{Taken}
+use Rattle.serial_lines.specs.Serial.{rel_text}
+use Rattle.as_rel.specs.Labelled.{line_of_edge}
+use Rattle.table_ties.specs.declared.tying.TieLine.{TieLine}
+use Rattle.table_ties.specs.Ties.{AreTieLinesOf}
+use Rattle.table_ties.specs.TiesText.{ties_text}
 use Rattle.result_text.specs.declared.file.ResultFile.{ResultFile}
 use Rattle.result_text.specs.Grammar.{IsTextOf}
 use Rattle.rel_infer.specs.Results.{IsResultOf}
 use Rattle.rel_infer.specs.SelfAcceptance.{AreTableRows}
 use Rattle.tor_words.specs.declared.settings.Mode.{Mode}
-use Rattle.tor_words.specs.declared.settings.Mode.TheVariants.{Labels, Listing, Survey, Summary}
+use Rattle.tor_words.specs.declared.settings.Mode.TheVariants.{Labels, Listing, Survey, Ties, Serial, Summary}
 use Rattle.tor_words.specs.declared.settings.Settings.{Settings}
 use Rattle.tor_words.specs.Given.{settings_given}
 use Rattle.tor_survey.specs.SurveyText.{survey_text}
@@ -28,12 +34,17 @@ Faithful settings taken file = IsResultOf settings.sets settings.ratio taken.tab
 -- ---- what is written
 
 -- in this mode, of what the dumps gave: in Labels the text of the result, and its summary as a note; in Listing a line for each path;
--- in Survey the lines of the survey; in Summary the summary of the result
+-- in Survey the lines of the survey; in Ties the lines of the ties of their paths; in Serial the lines of what the labels of the result
+-- say; in Summary the summary of the result
 abbrev pub IsOutputIn : Mode → Settings → Taken → Written → Type 0
 IsOutputIn Labels settings taken output =
     (file : ResultFile) × Faithful settings taken file × IsTextOf file output.text × (output.note ≡ summary file ++ 10 ∷ [])
 IsOutputIn Listing settings taken output = (output.text ≡ listing taken.table.rows) × (output.note ≡ [])
 IsOutputIn Survey settings taken output = (output.text ≡ survey_text (survey_of taken)) × (output.note ≡ [])
+IsOutputIn Ties settings taken output =
+    (lines : List TieLine) × AreTieLinesOf (row_paths taken.table.rows) lines × (output.text ≡ ties_text lines) × (output.note ≡ [])
+IsOutputIn Serial settings taken output =
+    (file : ResultFile) × Faithful settings taken file × (output.text ≡ rel_text (map line_of_edge file.edges)) × (output.note ≡ [])
 IsOutputIn Summary settings taken output =
     (file : ResultFile) × Faithful settings taken file × (output.text ≡ summary file ++ 10 ∷ []) × (output.note ≡ [])
 

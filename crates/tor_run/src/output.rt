@@ -1,21 +1,27 @@
 //! What a run that is done writes.
-ghost use Rattle.std.specs.Prelude.{◌≡◌, ◌≤◌, ◌++◌, ◌∷◌, [], IfOk, OnOk, OnErr, string_bytes};
+ghost use Rattle.std.specs.Prelude.{◌≡◌, ◌≢◌, ◌<◌, ◌≤◌, ◌++◌, ◌∷◌, [], All, map, IfOk, OnOk, OnErr, string_bytes};
+ghost use Rattle.std.specs.List.{AllPairs};
 ghost use Rattle.std.specs.Io.KnownBytes.{append_known};
 ghost use Rattle.tor_arena.specs.Limits.{max_ratio};
 ghost use Rattle.tor_io.specs.Counts.{HasCause};
 ghost use Rattle.tor_io.specs.Contents.{GainsPrefix};
 ghost use Rattle.tor_run.specs.Output.{Faithful, IsOutput, IsOutputIn};
 ghost use Rattle.result_text.specs.Grammar.{IsTextOf};
+ghost use Rattle.serial_lines.specs.Serial.{rel_text};
+ghost use Rattle.as_rel.specs.Labelled.{ends_of, line_of_edge};
+ghost use Rattle.table_ties.specs.TiesText.{ties_text};
 ghost use Rattle.tor_run.specs.Summary.{summary};
 ghost use Rattle.tor_run.specs.Written.{written};
 
 use crate::listing::write_list;
 use crate::summary::summary_text;
+use as_rel::{print_rel, rel_of};
 use dump_read::Taken;
 use path_clean::PathTable;
 use rel_infer::result_of;
-use result_text::{ResultFile, print};
+use result_text::{EdgeLine, ResultFile, print};
 use std::alloc::Global;
+use table_ties::{TieLine, ties_of_table};
 use tor_arena::{Keys, List, NoMemory};
 use tor_io::{Buffer, Failed, Sink, write_all};
 use tor_survey::{survey_of, text_of};
@@ -153,6 +159,54 @@ fn survey_output(
     Ok(Output::Text(text, List::new(alloc)))
 }
 
+// The text of ties, without a note.
+fn ties_alone(alloc: Global, lines: &[TieLine]) -> Result<Output, NoMemory>
+    ensures text { IfOk result (λ output. (written output).text ≡ ties_text lines.now) }
+    ensures note { IfOk result (λ output. (written output).note ≡ []) }
+{
+    let text = table_ties::text_of(alloc, lines)?;
+    Ok(Output::Text(text, List::new(alloc)))
+}
+
+// The ties of the paths that the dumps gave.
+fn ties_output(
+    alloc: Global,
+    keys: Keys,
+    settings: &Settings,
+    taken: Taken,
+) -> Result<Output, NoMemory>
+    ensures { IfOk result (λ output. IsOutputIn Mode.Ties settings.now taken (written output)) }
+{
+    let lines = ties_of_table(alloc, keys, taken.table)?;
+    ties_alone(alloc, lines.as_slice())
+}
+
+// What the labels of edges say, without a note.
+fn serial_alone(alloc: Global, keys: Keys, edges: &[EdgeLine]) -> Result<Output, NoMemory>
+    requires order { All (λ e. e.low < e.high) edges.now }
+    requires once { AllPairs (λ e f. ends_of e ≢ ends_of f) edges.now }
+    ensures text { IfOk result (λ output. (written output).text ≡ rel_text (map line_of_edge edges.now)) }
+    ensures note { IfOk result (λ output. (written output).note ≡ []) }
+{
+    let rel = rel_of(alloc, keys, edges)?;
+    let text = print_rel(alloc, &rel)?;
+    Ok(Output::Text(text, List::new(alloc)))
+}
+
+// What the labels of the result of what the dumps gave say.
+fn serial_output(
+    alloc: Global,
+    keys: Keys,
+    settings: &Settings,
+    taken: Taken,
+) -> Result<Output, NoMemory>
+    requires { settings.now.ratio ≤ max_ratio }
+    ensures { IfOk result (λ output. IsOutputIn Mode.Serial settings.now taken (written output)) }
+{
+    let file = faithful_result(alloc, keys, settings, taken)?;
+    serial_alone(alloc, keys, file.edges.as_slice())
+}
+
 /// What the settings ask for, of what the dumps gave. The only error is that memory ran out.
 pub(crate) fn output_of(
     alloc: Global,
@@ -167,6 +221,8 @@ pub(crate) fn output_of(
         Mode::Labels => labels_output(alloc, keys, settings, taken),
         Mode::Listing => listing_output(alloc, settings, taken),
         Mode::Survey => survey_output(alloc, keys, settings, taken),
+        Mode::Ties => ties_output(alloc, keys, settings, taken),
+        Mode::Serial => serial_output(alloc, keys, settings, taken),
         Mode::Summary => summary_output(alloc, keys, settings, taken),
     }
 }
