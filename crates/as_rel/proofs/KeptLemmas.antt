@@ -1,5 +1,5 @@
 -- Exactly the kept paths are free under the labels of the edges of all paths.
-use Rattle.std.proofs.Common.{◌≡◌, ◌≢◌, ◌↔◌, ℕ, zero, suc, ◌<◌, Bool, true, false, List, [], ◌∷◌, ◌++◌, length, map, flat_map, get_or, Option, Some, refl, sym, ap, ◌∙◌, subst, All, Contains, IsTrue}
+use Rattle.std.proofs.Common.{◌≡◌, ◌≢◌, ◌↔◌, ℕ, zero, suc, ◌<◌, Bool, true, false, List, [], ◌∷◌, ◌++◌, map, flat_map, Some, refl, sym, ◌∙◌, subst, All, IsTrue}
 use Rattle.std.specs.Prelude.{slice_get}
 use Rattle.std.specs.List.{AllByRecursion, AllPairs, items_where_true}
 use Rattle.std.proofs.lemmas.Bool.{false≢true}
@@ -10,7 +10,7 @@ use Rattle.std.proofs.Math.ListN.{get_or-map}
 use Rattle.tor_digraph.specs.Closing.{Has}
 use Rattle.relationships.specs.declared.label.End.{End}
 use Rattle.relationships.specs.Relationship.{Labelling, ValleyFree, slopes}
-use Rattle.relationships.specs.Graph.{Edge, distinct, edges, edges_on}
+use Rattle.relationships.specs.Graph.{Edge, edges, edges_on}
 use Rattle.relationships.specs.Evidence.{NeighboursDiffer}
 use Rattle.relationships.specs.Selection.{IsServable, KeepsFrom}
 use Rattle.relationships.proofs.Checked.{distinct_keeps, reading, reading_serves, rising_all}
@@ -21,7 +21,7 @@ use Rattle.result_text.specs.declared.file.EdgeLine.{EdgeLine}
 use Rattle.as_rel.specs.declared.grading.Grade.TheVariants.{Free, Unknown}
 use Rattle.as_rel.specs.Grading.{AreFree, IsGrade, steps_on}
 use Rattle.as_rel.specs.Labelled.{AreAlong, ends_of, line_of_edge}
-use Rattle.as_rel.specs.Keeping.{ExactlyKeptAreFree, KeptFreeLaw, EndsLaw}
+use Rattle.as_rel.specs.Keeping.{KeptFreeLaw, EndsLaw}
 use Rattle.as_rel.proofs.Grades.{known_law}
 use Rattle.as_rel.proofs.LabelSteps.{label_law}
 
