@@ -1,2 +1,3 @@
 mod Labels
 mod Tyings
+mod Vectors

@@ -2,6 +2,8 @@
 #![tactic(auto)]
 
 mod marking;
+mod printing;
 mod tying;
 
+pub use printing::text_of;
 pub use tying::{TieLine, ties_of_table};
