@@ -1,10 +1,10 @@
 -- What a run that is done has written, by its mode.
-use Rattle.std.specs.Prelude.{◌≡◌, ◌++◌, ◌∷◌, [], ℕ, List, map, Option, Some}
+use Rattle.std.specs.Prelude.{◌≡◌, ◌++◌, ◌∷◌, [], ℕ, List, map, Ok, Option, Some}
 use Rattle.std.specs.Io.KnownBytes.{append_known}
 use Rattle.tor_io.specs.Contents.{Files, GainsPrefix}
 use Rattle.path_clean.specs.Rows.{row_paths}
 use Rattle.dump_read.specs.declared.taking.Taken.{Taken}
-use Rattle.serial_lines.specs.Serial.{rel_text}
+use Rattle.serial_lines.specs.Serial.{rel_in, rel_text}
 use Rattle.as_rel.specs.Labelled.{line_of_edge}
 use Rattle.table_ties.specs.declared.tying.TieLine.{TieLine}
 use Rattle.table_ties.specs.Ties.{AreTieLinesOf}
@@ -33,6 +33,10 @@ Faithful settings taken file = IsResultOf settings.sets settings.ratio taken.tab
 
 -- ---- what is written
 
+-- the lines of serial-1 that say what the labels of a result say; read again they say it
+abbrev pub IsSerialOf : ResultFile → List ℕ → Type 0
+IsSerialOf file text = (text ≡ rel_text (map line_of_edge file.edges)) × (rel_in text ≡ Ok (map line_of_edge file.edges))
+
 -- in this mode, of what the dumps gave: in Labels the text of the result, and its summary as a note; in Listing a line for each path;
 -- in Survey the lines of the survey; in Ties the lines of the ties of their paths; in Serial the lines of what the labels of the result
 -- say; in Summary the summary of the result
@@ -44,7 +48,7 @@ IsOutputIn Survey settings taken output = (output.text ≡ survey_text (survey_o
 IsOutputIn Ties settings taken output =
     (lines : List TieLine) × AreTieLinesOf (row_paths taken.table.rows) lines × (output.text ≡ ties_text lines) × (output.note ≡ [])
 IsOutputIn Serial settings taken output =
-    (file : ResultFile) × Faithful settings taken file × (output.text ≡ rel_text (map line_of_edge file.edges)) × (output.note ≡ [])
+    (file : ResultFile) × Faithful settings taken file × IsSerialOf file output.text × (output.note ≡ [])
 IsOutputIn Summary settings taken output =
     (file : ResultFile) × Faithful settings taken file × (output.text ≡ summary file ++ 10 ∷ []) × (output.note ≡ [])
 

@@ -15,10 +15,9 @@ ghost use Rattle.tor_run.specs.Reach.{IsDumpNumber, IsPlacedIn, IsBounded, IsSho
 ghost use Rattle.tor_run.specs.Refusals.{IsRefusal, IsStopIn, StopsIn};
 ghost use Rattle.dump_read.specs.declared.taking.Taken.{Taken};
 
-use crate::output::{Output, output_of};
+use crate::output::{Output, has_table_rows, output_of};
 use crate::sampling::read_sample;
 use dump_read::{DumpError, Taken};
-use path_clean::PathTable;
 use run_base::{Refusal, Stopped, nothing_taken, read_dumps};
 use std::alloc::Global;
 use tor_arena::{Keys, List, NoMemory};
@@ -55,13 +54,6 @@ fn read_asked<H: Shelf>(
         }
         Source::Sample(seed) => read_sample(alloc, seed, settings.sets, taken),
     }
-}
-
-// The rows of a table are as a table has them.
-fn has_table_rows(table: &PathTable)
-    ensures { AreTableRows table.now.rows }
-{
-    table.facts();
 }
 
 // What the settings ask for. All memory is taken here.

@@ -1,5 +1,5 @@
 //! What a run that is done writes.
-ghost use Rattle.std.specs.Prelude.{◌≡◌, ◌≢◌, ◌<◌, ◌≤◌, ◌++◌, ◌∷◌, [], All, map, IfOk, OnOk, OnErr, string_bytes};
+ghost use Rattle.std.specs.Prelude.{◌≡◌, ◌≢◌, ◌<◌, ◌≤◌, ◌++◌, ◌∷◌, [], All, map, Ok, IfOk, OnOk, OnErr, string_bytes};
 ghost use Rattle.std.specs.List.{AllPairs};
 ghost use Rattle.std.specs.Io.KnownBytes.{append_known};
 ghost use Rattle.tor_arena.specs.Limits.{max_ratio};
@@ -7,7 +7,8 @@ ghost use Rattle.tor_io.specs.Counts.{HasCause};
 ghost use Rattle.tor_io.specs.Contents.{GainsPrefix};
 ghost use Rattle.tor_run.specs.Output.{Faithful, IsOutput, IsOutputIn};
 ghost use Rattle.result_text.specs.Grammar.{IsTextOf};
-ghost use Rattle.serial_lines.specs.Serial.{rel_text};
+ghost use Rattle.rel_infer.specs.SelfAcceptance.{AreTableRows};
+ghost use Rattle.serial_lines.specs.Serial.{rel_in, rel_text};
 ghost use Rattle.as_rel.specs.Labelled.{ends_of, line_of_edge};
 ghost use Rattle.table_ties.specs.TiesText.{ties_text};
 ghost use Rattle.tor_run.specs.Summary.{summary};
@@ -55,6 +56,13 @@ impl Output {
             }
         }
     }
+}
+
+/// The rows of a table are as a table has them.
+pub(crate) fn has_table_rows(table: &PathTable)
+    ensures { AreTableRows table.now.rows }
+{
+    table.facts();
 }
 
 /// The octets of a text.
@@ -186,6 +194,7 @@ fn serial_alone(alloc: Global, keys: Keys, edges: &[EdgeLine]) -> Result<Output,
     requires order { All (λ e. e.low < e.high) edges.now }
     requires once { AllPairs (λ e f. ends_of e ≢ ends_of f) edges.now }
     ensures text { IfOk result (λ output. (written output).text ≡ rel_text (map line_of_edge edges.now)) }
+    ensures again { IfOk result (λ output. rel_in (written output).text ≡ Ok (map line_of_edge edges.now)) }
     ensures note { IfOk result (λ output. (written output).note ≡ []) }
 {
     let rel = rel_of(alloc, keys, edges)?;
@@ -203,6 +212,7 @@ fn serial_output(
     requires { settings.now.ratio ≤ max_ratio }
     ensures { IfOk result (λ output. IsOutputIn Mode.Serial settings.now taken (written output)) }
 {
+    has_table_rows(&taken.table);
     let file = faithful_result(alloc, keys, settings, taken)?;
     serial_alone(alloc, keys, file.edges.as_slice())
 }
