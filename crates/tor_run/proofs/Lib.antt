@@ -1,5 +1,6 @@
 pub mod AcceptingLemmas
 pub mod Agreeing
+pub mod GradingLemmas
 pub mod Lines
 pub mod Outcomes
 pub mod Reaching

@@ -1,6 +1,7 @@
 pub mod Accepting
 pub mod Agreement
 pub mod Answer
+pub mod Grading
 pub mod Listing
 pub mod Output
 pub mod Reach

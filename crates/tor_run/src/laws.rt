@@ -2,6 +2,7 @@
 
 ghost use Rattle.tor_run.specs.Agreement.{AgreementLaw, OneSummaryLaw};
 ghost use Rattle.tor_run.specs.Accepting.{FaithfulLaw, TableLaw};
+ghost use Rattle.tor_run.specs.Grading.{GradingLaw, ResultEndsLaw};
 ghost use Rattle.tor_run.specs.Seen.{OneOutcomeLaw};
 ghost use Rattle.tor_run.specs.SeenLaw.{DumpsLaw, SeenLaw, DumpsReadableLaw, ReadableLaw};
 
@@ -53,4 +54,13 @@ pub fn seen_law()
 pub fn readable_law()
     ensures dumps { DumpsReadableLaw }
     ensures runs { ReadableLaw }
+{}
+
+/// What a grading by the labels that were found for the same paths says: of a result that is faithful to paths as a table has them, exactly
+/// the kept ones are free under the lines of its edges, and none is unknown. A path is kept exactly if some orientation serves it together
+/// with those kept before it. And these edges are as lines of known relationships have to be: the lower AS stands first, and no two are
+/// the same.
+pub fn grading_law()
+    ensures free { GradingLaw }
+    ensures ends { ResultEndsLaw }
 {}

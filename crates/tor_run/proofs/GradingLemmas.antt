@@ -1,0 +1,76 @@
+-- Exactly the kept paths are free under the lines of the edges of a result.
+use Rattle.std.proofs.Common.{◌≡◌, ◌≢◌, ◌<◌, ℕ, List, [], ◌∷◌, Ok, All, map, is_none, refl, sym, ap, ap₂, ◌∙◌, subst}
+use Rattle.std.specs.List.{AllPairs, items_where_true}
+use Rattle.relationships.specs.declared.label.Label.{Label}
+use Rattle.relationships.specs.Relationship.{Labelling, ValleyFree}
+use Rattle.relationships.specs.Graph.{Edge, edges, labelling}
+use Rattle.relationships.specs.Evidence.{NeighboursDiffer, paths_of}
+use Rattle.relationships.specs.Checking.{Claim, claimed_labels, kept_of}
+use Rattle.relationships.proofs.Selecting.{paths_of-kept_from}
+use Rattle.relationships.proofs.Serving.{all_differ_if_distinct}
+use Rattle.path_clean.specs.Rows.{Counted, row_paths}
+use Rattle.path_clean.specs.Counts.{CauseCounts}
+use Rattle.path_clean.specs.declared.cleaned.Sets.{Sets}
+use Rattle.path_clean.proofs.GraphPaths.{apart}
+use Rattle.result_text.specs.EdgeLabels.{labels_in}
+use Rattle.result_text.specs.declared.file.EdgeLine.{EdgeLine}
+use Rattle.result_text.specs.declared.file.PathLine.{PathLine}
+use Rattle.result_text.specs.declared.file.ResultFile.{ResultFile}
+use Rattle.result_rules.specs.File.{claim_on, its_paths, its_walks}
+use Rattle.result_rules.specs.Against.{row_of}
+use Rattle.rel_infer.specs.Results.{IsResultOf}
+use Rattle.rel_infer.specs.SelfAcceptance.{AreTableRows}
+use Rattle.serial_lines.specs.Serial.{rel_in}
+use Rattle.as_rel.specs.Keeping.{ExactlyKeptAreFree}
+use Rattle.as_rel.specs.Labelled.{ends_of, line_of_edge}
+use Rattle.as_rel.proofs.KeptLemmas.{kept_free_law, ends_law}
+use Rattle.tor_run.specs.Grading.{GradesExactly, GradingLaw, ResultEndsLaw}
+
+-- ---- the lists of a result
+
+ends_in : (lines : List EdgeLine) → map {B = Edge} (λ (c : Claim). (c.low, c.high)) (map claim_on lines) ≡ map ends_of lines
+ends_in [] = refl
+ends_in (line ∷ lines) = ap (λ (es : List Edge). (line.low, line.high) ∷ es) (ends_in lines)
+
+labels_of_lines : (lines : List EdgeLine) → map (λ (c : Claim). c.label) (map claim_on lines) ≡ map (λ (e : EdgeLine). e.label) lines
+labels_of_lines [] = refl
+labels_of_lines (line ∷ lines) = ap (λ (ls : List Label). line.label ∷ ls) (labels_of_lines lines)
+
+same_labels : (lines : List EdgeLine) → claimed_labels (map claim_on lines) ≡ labels_in lines
+same_labels lines = ap₂ labelling (ends_in lines) (labels_of_lines lines)
+
+paths_in : (lines : List PathLine) → row_paths (map row_of lines) ≡ map (λ (p : PathLine). p.path) lines
+paths_in [] = refl
+paths_in (line ∷ lines) = ap (λ (ps : List (List ℕ)). line.path ∷ ps) (paths_in lines)
+
+-- ---- a result of rows
+
+module _ (sets : Sets) (ratio : ℕ) (rows : List Counted) (counts : CauseCounts) (file : ResultFile) (are : AreTableRows rows)
+    (is : IsResultOf sets ratio rows counts file) where
+  same_paths : row_paths rows ≡ its_paths file
+  same_paths = ap row_paths (sym is.paths) ∙ paths_in file.paths
+
+  differ : All NeighboursDiffer (its_paths file)
+  differ = subst (All NeighboursDiffer) same_paths (all_differ_if_distinct (row_paths rows) (apart (row_paths rows) are.clean))
+
+  free : All (ValleyFree (labels_in file.edges)) (items_where_true (map is_none (its_walks file)) (its_paths file))
+  free =
+      subst (All (ValleyFree (labels_in file.edges))) (paths_of-kept_from 1 (its_paths file) (map is_none (its_walks file)))
+      (subst (λ (L : Labelling). All (ValleyFree L) (paths_of (kept_of (its_paths file) (its_walks file)))) (same_labels file.edges) is.inferred.valley_free)
+
+  pub result_graded : ExactlyKeptAreFree (row_paths rows) (map line_of_edge file.edges)
+  result_graded =
+      subst (λ paths. ExactlyKeptAreFree paths (map line_of_edge file.edges)) (sym same_paths)
+      (kept_free_law file.edges (its_paths file) (map is_none (its_walks file)) differ is.inferred.edges_listed is.inferred.kept free)
+
+  pub result_ends : All (λ (e : EdgeLine). e.low < e.high) file.edges × AllPairs (λ (e f : EdgeLine). ends_of e ≢ ends_of f) file.edges
+  result_ends = ends_law file.edges (its_paths file) differ is.inferred.edges_listed
+
+  pub text_graded : (text : List ℕ) → rel_in text ≡ Ok (map line_of_edge file.edges) → GradesExactly (row_paths rows) text
+  text_graded text read = record { lines = map line_of_edge file.edges; read = read; graded = result_graded }
+
+pub grading_law : GradingLaw
+grading_law settings taken file are faithful = result_graded settings.sets settings.ratio taken.table.rows taken.counts file are faithful
+
+pub result_ends_law : ResultEndsLaw
+result_ends_law settings taken file are faithful = result_ends settings.sets settings.ratio taken.table.rows taken.counts file are faithful

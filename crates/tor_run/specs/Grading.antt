@@ -1,0 +1,31 @@
+-- What grading makes of paths by the relationships that were found for them: exactly the kept ones are free.
+use Rattle.std.specs.Prelude.{◌≡◌, ◌≢◌, ℕ, ◌<◌, List, All, Ok, map}
+use Rattle.std.specs.List.{AllPairs}
+use Rattle.path_clean.specs.Rows.{row_paths}
+use Rattle.dump_read.specs.declared.taking.Taken.{Taken}
+use Rattle.result_text.specs.declared.file.ResultFile.{ResultFile}
+use Rattle.rel_infer.specs.SelfAcceptance.{AreTableRows}
+use Rattle.serial_lines.specs.declared.line.RelLine.{RelLine}
+use Rattle.serial_lines.specs.Serial.{rel_in}
+use Rattle.as_rel.specs.Keeping.{ExactlyKeptAreFree}
+use Rattle.as_rel.specs.Labelled.{ends_of, line_of_edge}
+use Rattle.tor_words.specs.declared.settings.Settings.{Settings}
+use Rattle.tor_run.specs.Output.{Faithful}
+
+-- the text is read as relationships under which exactly the kept paths are free, and none is unknown
+pub record GradesExactly (paths : List (List ℕ)) (text : List ℕ) : Type 0 where
+  pub lines : List RelLine
+  pub read : rel_in text ≡ Ok lines
+  pub graded : ExactlyKeptAreFree paths lines
+
+-- under the lines of the edges of a result exactly the kept paths are free, and none is unknown
+abbrev pub GradingLaw : Type 0
+GradingLaw =
+    (settings : Settings) (taken : Taken) (file : ResultFile) → AreTableRows taken.table.rows → Faithful settings taken file →
+    ExactlyKeptAreFree (row_paths taken.table.rows) (map line_of_edge file.edges)
+
+-- the lower AS of each edge of a result stands first, and no two of its edges are the same
+abbrev pub ResultEndsLaw : Type 0
+ResultEndsLaw =
+    (settings : Settings) (taken : Taken) (file : ResultFile) → AreTableRows taken.table.rows → Faithful settings taken file →
+    All (λ e. e.low < e.high) file.edges × AllPairs (λ e f. ends_of e ≢ ends_of f) file.edges
