@@ -3,7 +3,7 @@ use Rattle.std.proofs.Common.{◌≡◌, ◌≢◌, ◌<◌, ℕ, List, [], ◌�
 use Rattle.std.specs.List.{AllPairs, items_where_true}
 use Rattle.relationships.specs.declared.label.Label.{Label}
 use Rattle.relationships.specs.Relationship.{Labelling, ValleyFree}
-use Rattle.relationships.specs.Graph.{Edge, edges, labelling}
+use Rattle.relationships.specs.Graph.{Edge, labelling}
 use Rattle.relationships.specs.Evidence.{NeighboursDiffer, paths_of}
 use Rattle.relationships.specs.Checking.{Claim, claimed_labels, kept_of}
 use Rattle.relationships.proofs.Selecting.{paths_of-kept_from}
