@@ -1,9 +1,9 @@
 -- Exactly the kept paths are free under the lines of the edges of a result.
-use Rattle.std.proofs.Common.{◌≡◌, ◌≢◌, ◌<◌, ℕ, List, [], ◌∷◌, Ok, All, map, is_none, refl, sym, ap, ap₂, ◌∙◌, subst}
+use Rattle.std.proofs.Common.{◌≡◌, ◌≢◌, ◌<◌, ℕ, List, [], ◌∷◌, Ok, Option, Some, All, map, is_none, refl, sym, ap, ap₂, ◌∙◌, subst}
 use Rattle.std.specs.List.{AllPairs, items_where_true}
 use Rattle.relationships.specs.declared.label.Label.{Label}
 use Rattle.relationships.specs.Relationship.{Labelling, ValleyFree}
-use Rattle.relationships.specs.Graph.{Edge, edges, labelling}
+use Rattle.relationships.specs.Graph.{Edge, labelling}
 use Rattle.relationships.specs.Evidence.{NeighboursDiffer, paths_of}
 use Rattle.relationships.specs.Checking.{Claim, claimed_labels, kept_of}
 use Rattle.relationships.proofs.Selecting.{paths_of-kept_from}
@@ -24,7 +24,16 @@ use Rattle.serial_lines.specs.Serial.{rel_in}
 use Rattle.as_rel.specs.Keeping.{ExactlyKeptAreFree}
 use Rattle.as_rel.specs.Labelled.{ends_of, line_of_edge}
 use Rattle.as_rel.proofs.KeptLemmas.{kept_free_law, ends_law}
-use Rattle.tor_run.specs.Grading.{GradesExactly, GradingLaw, ResultEndsLaw}
+use Rattle.tor_words.specs.declared.settings.Settings.{Settings}
+use Rattle.tor_words.specs.declared.settings.Mode.{Mode}
+use Rattle.tor_words.specs.declared.settings.Mode.TheVariants.{Serial}
+use Rattle.tor_words.proofs.Bounds.{bounds}
+use Rattle.tor_io.specs.Contents.{Files}
+use Rattle.dump_read.specs.declared.taking.Taken.{Taken}
+use Rattle.tor_run.specs.Grading.{GradesExactly, GradingLaw, ResultEndsLaw, AsksForSerial, GainsGrading}
+use Rattle.tor_run.specs.Output.{IsOutputIn, GainsOutput}
+use Rattle.tor_run.specs.Written.{Written}
+use Rattle.tor_run.proofs.AcceptingLemmas.{table_law}
 
 -- ---- the lists of a result
 
@@ -74,3 +83,31 @@ grading_law settings taken file are faithful = result_graded settings.sets setti
 
 pub result_ends_law : ResultEndsLaw
 result_ends_law settings taken file are faithful = result_ends settings.sets settings.ratio taken.table.rows taken.counts file are faithful
+
+-- ---- what a run that writes lines of serial-1 has written
+
+one_settings : (s t : Settings) → ◌≡◌ {A = Option Settings} (Some s) (Some t) → s ≡ t
+one_settings s t e = cc
+
+written_by : (mode : Mode) (settings : Settings) (taken : Taken) (output : Written) → mode ≡ Serial → AreTableRows taken.table.rows →
+    IsOutputIn mode settings taken output → GradesExactly (row_paths taken.table.rows) output.text
+written_by mode settings taken output is are made =
+    let (file, faithful, serial, bare) = subst (λ (m : Mode). IsOutputIn m settings taken output) is made in
+    text_graded settings.sets settings.ratio taken.table.rows taken.counts file are faithful output.text serial.1
+
+pub gains_grading : (words : List (List ℕ)) (files : Files) (old new : Option (List ℕ)) (note : List ℕ) → AsksForSerial words →
+    GainsOutput words files old new note → GainsGrading words files old new
+gains_grading words files old new note asks gains =
+    let asked = gains.asked in
+    let same : asks.0 ≡ asked.settings = one_settings asks.0 asked.settings (sym asks.1 ∙ asked.given) in
+    record {
+      settings = asked.settings;
+      given = asked.given;
+      taken = asked.taken;
+      seen = asked.seen;
+      text = gains.output.text;
+      gained = gains.gained;
+      exact =
+          written_by asked.settings.mode asked.settings asked.taken gains.output (subst (λ (s : Settings). s.mode ≡ Serial) same asks.2)
+          (table_law bounds words asked.settings files asked.taken asked.given asked.seen) asked.written;
+    }

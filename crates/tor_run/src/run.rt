@@ -14,6 +14,7 @@ ghost use Rattle.tor_run.specs.Sampling.{IfSample, known_by};
 ghost use Rattle.tor_run.specs.Seen.{Reads, Ends, Gives};
 ghost use Rattle.tor_run.specs.Answer.{IsNote, LeadsToMalformed, LeadsToLimit, LeadsToAbsent};
 ghost use Rattle.run_base.specs.Answers.{IsNoted};
+ghost use Rattle.tor_run.specs.Grading.{AsksForSerial, GainsGrading};
 ghost use Rattle.tor_run.specs.Output.{GainsOutput, GainsOutputPrefix, GainsSome, GainsSomePrefix};
 ghost use Rattle.run_base.specs.Answers.{note_in};
 ghost use Rattle.run_base.specs.Frames.{RunLeavesShelf, RunLeavesOut};
@@ -71,7 +72,8 @@ fn answer<H: Shelf, O: Sink>(
 }
 
 /// Runs `tor`: of the dumps that the words name, it writes the result, and its summary as a line to err, or with `--list` the distinct
-/// paths, with `--survey` what the dumps hold; with `--sample`, of the sample of that number in place of dumps, the summary alone.
+/// paths, with `--survey` what the dumps hold, with `--ties` the ties of the open edges, with `--serial1` the labels as lines of serial-1;
+/// with `--sample`, of the sample of that number in place of dumps, the summary alone.
 /// Done: this was written. Usage: the words are no command. Malformed, Limit: the first end of the dumps is that fault or that limit.
 /// ReadFault: a call on the shelf failed, as an open does at a file that isn't there. WriteFault: a call on out failed. NoMemory:
 /// memory ran out, before anything went to out. `docs/PROMISES.md` has each promise by name.
@@ -94,6 +96,10 @@ pub fn infer<H: Shelf, O: Sink, E: Sink>(
     ensures some { result ≡ Status.Done → IsNoted (GainsSome words.now (O.held out.old) (O.held out.new))
         (E.faults err.old) (E.faults err.new) (E.held err.old) (E.held err.new) }
     ensures some_cut_off { result ≡ Status.WriteFault → GainsSomePrefix words.now (O.held out.old) (O.held out.new) }
+    // With `--serial1` what is written says of the paths of the dumps which ones are kept: read as known relationships, exactly these
+    // are free under it, and no path is unknown.
+    ensures graded { result ≡ Status.Done → AsksForSerial words.now → IfSome (known_by words.now (H.files shelf.old)) (λ files.
+        GainsGrading words.now files (O.held out.old) (O.held out.new)) }
     ensures nothing { result ≢ Status.Done → result ≢ Status.WriteFault → out.new ≡ out.old }
 
     // When each status may come.
