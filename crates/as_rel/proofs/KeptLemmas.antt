@@ -18,11 +18,12 @@ use Rattle.relationships.proofs.Edges.{along_each}
 use Rattle.relationships.proofs.Neighbours.{edge_law}
 use Rattle.result_text.specs.EdgeLabels.{labels_in}
 use Rattle.result_text.specs.declared.file.EdgeLine.{EdgeLine}
+use Rattle.serial_lines.specs.declared.line.RelLine.{RelLine}
 use Rattle.as_rel.specs.declared.grading.Grade.TheVariants.{Free, Unknown}
-use Rattle.as_rel.specs.Grading.{AreFree, IsGrade, steps_on}
+use Rattle.as_rel.specs.Grading.{AreFree, IsGrade, grade, steps_on}
 use Rattle.as_rel.specs.Labelled.{AreAlong, ends_of, line_of_edge}
 use Rattle.as_rel.specs.Keeping.{KeptFreeLaw, EndsLaw}
-use Rattle.as_rel.proofs.Grades.{known_law}
+use Rattle.as_rel.proofs.Grades.{grade_is, known_law, one_grade}
 use Rattle.as_rel.proofs.LabelSteps.{label_law}
 
 -- ---- lists, place by place
@@ -111,3 +112,14 @@ kept_free_law labelled paths keeps differ listed kept free = record {
 
     exact : (k : ℕ) (path : List ℕ) (keep : Bool) → slice_get paths k ≡ Some path → slice_get keeps k ≡ Some keep → ValleyFree L path ↔ IsTrue keep
     exact = exactly L [] paths keeps kept (All-from_recursion (ValleyFree L) [] tt) (recursion_from_All (ValleyFree L) (items_where_true keeps paths) free)
+
+-- ---- the same of the grade that is found
+
+pub free_exactly : (lines : List RelLine) (path : List ℕ) (keep : Bool) → IsGrade (steps_on lines path) Free ↔ IsTrue keep → (grade lines path ≡ Free) ↔ IsTrue keep
+free_exactly lines path keep h = (
+  λ e. h.0 (subst (IsGrade (steps_on lines path)) e (grade_is lines path)),
+  λ t. one_grade (steps_on lines path) (grade lines path) Free (grade_is lines path) (h.1 t),
+)
+
+pub never_unknown : (lines : List RelLine) (path : List ℕ) (number : ℕ) → (IsGrade (steps_on lines path) (Unknown number) → ⊥) → grade lines path ≡ Unknown number → ⊥
+never_unknown lines path number never e = never (subst (IsGrade (steps_on lines path)) e (grade_is lines path))

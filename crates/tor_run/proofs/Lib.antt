@@ -7,6 +7,7 @@ pub mod Reaching
 pub mod ReadableLemmas
 pub mod Sampled
 pub mod SeenLemmas
+pub mod SelfGradings
 mod Summaries
 pub mod TableLines
 pub mod TableRows

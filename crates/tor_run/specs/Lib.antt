@@ -9,5 +9,6 @@ pub mod Refusals
 pub mod Sampling
 pub mod Seen
 pub mod SeenLaw
+pub mod SelfGrading
 pub mod Summary
 pub mod Written

@@ -4,6 +4,7 @@ ghost use Rattle.tor_run.specs.Agreement.{AgreementLaw, OneSummaryLaw};
 ghost use Rattle.tor_run.specs.Accepting.{FaithfulLaw, TableLaw};
 ghost use Rattle.tor_run.specs.Grading.{GradingLaw, ResultEndsLaw};
 ghost use Rattle.tor_run.specs.Seen.{OneOutcomeLaw};
+ghost use Rattle.tor_run.specs.SelfGrading.{SelfGradingLaw};
 ghost use Rattle.tor_run.specs.SeenLaw.{DumpsLaw, SeenLaw, DumpsReadableLaw, ReadableLaw};
 
 use rel_infer::self_acceptance_law;
@@ -64,3 +65,12 @@ pub fn grading_law()
     ensures free { GradingLaw }
     ensures ends { ResultEndsLaw }
 {}
+
+/// What `torgrade` says of paths by the relationships that `tor` found for them: where its file of known relationships is a text under
+/// which exactly the kept paths of the dumps are free, as each is that `tor` writes, a grading of the same dumps says of exactly the kept
+/// ones that they are free, and of none that it is unknown. Both read the dumps with sets cut, under whatever limit on paths.
+pub fn self_grading_law()
+    ensures { SelfGradingLaw }
+{
+    bounds_law();
+}

@@ -1,0 +1,36 @@
+-- What `torgrade` says of paths by the relationships that `tor` found for the same paths.
+use Rattle.std.specs.Prelude.{◌≡◌, ◌++◌, ℕ, Bool, List, map, Some, Ok}
+use Rattle.tor_io.specs.Contents.{Files}
+use Rattle.path_clean.specs.declared.cleaned.Sets.TheVariants.{Cut}
+use Rattle.path_clean.specs.Rows.{Counted, row_paths}
+use Rattle.dump_read.specs.declared.taking.Taken.{Taken}
+use Rattle.relationships.specs.Selection.{Keeps}
+use Rattle.serial_lines.specs.declared.line.RelLine.{RelLine}
+use Rattle.tor_words.specs.declared.settings.Settings.{Settings}
+use Rattle.tor_words.specs.declared.grade_settings.GradeSettings.{GradeSettings}
+use Rattle.tor_words.specs.Given.{settings_given}
+use Rattle.tor_words.specs.GradeGiven.{grade_settings_given}
+use Rattle.torgrade_run.specs.GradeAnswer.{IsGraded}
+use Rattle.torgrade_run.specs.GradeText.{is_free, grades_of, grades_text, totals_of}
+use Rattle.tor_run.specs.Grading.{GradesExactly}
+use Rattle.tor_run.specs.Seen.{seen}
+
+-- the text begins with the lines of these paths and their totals, and there exactly the kept ones are free, and none is unknown.
+-- A path is kept exactly if some orientation serves it together with those kept before it
+pub record IsGradedAsKept (rows : List Counted) (text : List ℕ) : Type 0 where
+  pub rel : List RelLine
+  pub cone : List ℕ
+  pub is_text : text ≡ grades_text rel rows ++ cone
+  pub keeps : List Bool
+  pub kept : Keeps (row_paths rows) keeps
+  pub free : map is_free (grades_of rel rows) ≡ keeps
+  pub known : (totals_of (grades_of rel rows)).unknown ≡ 0
+
+-- so grades each grading of the same dumps whose file of known relationships is a text under which exactly the kept paths are free
+abbrev pub SelfGradingLaw : Type 0
+SelfGradingLaw =
+    (words : List (List ℕ)) (settings : Settings) (files : Files) (taken : Taken) (rel : List ℕ) → settings_given words ≡ Some settings →
+    settings.sets ≡ Cut → seen settings files ≡ Ok taken → GradesExactly (row_paths taken.table.rows) rel →
+    (grade_words : List (List ℕ)) (grading : GradeSettings) (text : List ℕ) → grade_settings_given grade_words ≡ Some grading →
+    files grading.rel ≡ Some rel → grading.dumps ≡ settings.dumps → IsGraded grade_words files text →
+    IsGradedAsKept taken.table.rows text
