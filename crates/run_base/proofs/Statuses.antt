@@ -1,5 +1,5 @@
 -- A status has to come, by what the words and the files give.
-use Rattle.std.proofs.Common.{◌≡◌, ◌⊎◌, inl, inr, ℕ, Option, Some, refl, sym, subst, arith}
+use Rattle.std.proofs.Common.{◌≡◌, ◌≢◌, ◌⊎◌, inl, inr, ℕ, Option, Some, refl, sym, subst, arith}
 use Rattle.std.specs.Prelude.{IfSome}
 use Rattle.tor_io.specs.Counts.{Rose, IsQuiet}
 use Rattle.tor_io.specs.Contents.{Files}
@@ -13,6 +13,10 @@ Asks {Outcome = Outcome} Gives status_for Such known = IfSome known (λ files. (
 -- the status of a run that has a text
 abbrev pub IsOfText : Status → Type 0
 IsOfText s = (s ≡ status.Done) ⊎ (s ≡ status.No)
+
+pub not_text : {X : Type 0} (s : Status) → s ≢ status.Done → s ≢ status.No → IsOfText s → X
+not_text s not_done not_no (inl e) = absurd (not_done e)
+not_text s not_done not_no (inr e) = absurd (not_no e)
 
 -- why a status came
 pub record Cause {Outcome : Type 0} (Gives : Files → Outcome → Type 0) (status_for : Outcome → Status) (NoWords : Type 0) (known : Option Files) (steady : Type 0) (s : Status)

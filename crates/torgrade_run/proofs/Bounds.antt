@@ -17,7 +17,8 @@ use Rattle.torgrade_run.specs.declared.asking.Ungraded.TheVariants as ungraded
 use Rattle.torgrade_run.specs.Limits.{max_rel}
 use Rattle.torgrade_run.specs.Outcomes.{LongRel, LeavesRestOf}
 use Rattle.torgrade_run.specs.GradeAnswer.{LeadsTo, bad_line_note}
-use Rattle.torgrade_run.specs.Ungrading.{IsUngraded, IsTooLong, AnswersUngraded}
+use Rattle.torgrade_run.specs.Reach.{StaysUngradedInReach}
+use Rattle.torgrade_run.specs.Ungrading.{IsUngraded, AnswersUngraded}
 use Rattle.torgrade_run.proofs.Comings.{not_long}
 
 same_settings : (o : Option GradeSettings) (s t : GradeSettings) → o ≡ Some s → o ≡ Some t → s ≡ t
@@ -44,16 +45,16 @@ written s (inr (inl is)) limit = let both : status.WriteFault ≡ status.Limit =
 written s (inr (inr is)) limit = let both : status.NoMemory ≡ status.Limit = sym is ∙ limit in absurd cc
 
 pub bounded : (words : List (List ℕ)) (known : Option Files) (steady : Type 0) (u : Ungraded) (answer : Answer) (left : Option (List ℕ)) → IsUngraded words known steady u → AnswersUngraded u answer
-    → (IsTooLong u → LeavesRestOf words known left) → answer.status ≡ status.Limit → LeadsTo words known LongRel → LeavesRestOf words known left
-bounded words None steady u answer left why answers rest limit long = λ settings given. tt
-bounded words (Some files) steady (ungraded.Rel unread.TooLong) answer left why answers rest limit long = rest refl
-bounded words (Some files) steady (ungraded.Rel unread.Failed) answer left why answers rest limit long = no_fault answer answers limit
-bounded words (Some files) steady (ungraded.Rel unread.NoMemory) answer left why answers rest limit long = no_limit answer answers limit
-bounded words (Some files) steady (ungraded.BadLine line) answer left why answers rest limit long = no_bad_line line answer answers limit
-bounded words (Some files) steady (ungraded.Refused (refusal.Words (refused.Usage text))) answer left why answers rest limit long =
+    → StaysUngradedInReach words known left u → answer.status ≡ status.Limit → LeadsTo words known LongRel → LeavesRestOf words known left
+bounded words None steady u answer left why answers reach limit long = λ settings given. tt
+bounded words (Some files) steady (ungraded.Rel unread.TooLong) answer left why answers reach limit long = reach
+bounded words (Some files) steady (ungraded.Rel unread.Failed) answer left why answers reach limit long = no_fault answer answers limit
+bounded words (Some files) steady (ungraded.Rel unread.NoMemory) answer left why answers reach limit long = no_limit answer answers limit
+bounded words (Some files) steady (ungraded.BadLine line) answer left why answers reach limit long = no_bad_line line answer answers limit
+bounded words (Some files) steady (ungraded.Refused (refusal.Words (refused.Usage text))) answer left why answers reach limit long =
     some_or_none (grade_settings_given words) long.0 why.0 long.1
-bounded words (Some files) steady (ungraded.Refused (refusal.Words refused.NoMemory)) answer left why answers rest limit long = no_limit answer answers limit
-bounded words (Some files) steady (ungraded.Refused (refusal.Dumps stopped)) answer left why answers rest limit long =
+bounded words (Some files) steady (ungraded.Refused (refusal.Words refused.NoMemory)) answer left why answers reach limit long = no_limit answer answers limit
+bounded words (Some files) steady (ungraded.Refused (refusal.Dumps stopped)) answer left why answers reach limit long =
     let same = same_settings (grade_settings_given words) long.0 why.0 long.1 why.1 in
     not_long why.0 files why.2.0 why.2.1 (subst (λ (s : GradeSettings). IsLongFile max_rel (files s.rel)) same long.2)
-bounded words (Some files) steady (ungraded.Refused refusal.NoMemory) answer left why answers rest limit long = no_limit answer answers limit
+bounded words (Some files) steady (ungraded.Refused refusal.NoMemory) answer left why answers reach limit long = no_limit answer answers limit
