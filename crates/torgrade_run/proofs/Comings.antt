@@ -1,5 +1,5 @@
 -- The words and the files of a grading give one outcome.
-use Rattle.std.proofs.Common.{◌≡◌, ℕ, List, Option, Some, None, Result, Ok, Err, refl, ap, ap₂, subst, ◌∙◌}
+use Rattle.std.proofs.Common.{◌≡◌, ℕ, List, None, Result, Ok, Err, refl, ap, ap₂, subst, ◌∙◌}
 use Rattle.tor_io.specs.Contents.{Files}
 use Rattle.dump_read.specs.Seen.{Absent, Malformed, Limit}
 use Rattle.serial_lines.specs.declared.line.RelLine.{RelLine}

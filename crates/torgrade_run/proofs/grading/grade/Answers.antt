@@ -87,11 +87,13 @@ returns-clause-always_no_rel g c = λ files is gives.
 pub returns-clause-note : goal.returns-clause-note
 returns-clause-note g c =
     let err = g.E.Sink in
-    noted _ c.write_all.result (err.faults c.args.err.now) (err.faults c.write_all.new.sink) (err.held c.args.err.now) (err.held c.write_all.new.sink) c.note.result.now (note_in c.answer-answer.result)
+    noted _ c.write_all.result (err.faults c.args.err.now) (err.faults c.write_all.new.sink) (err.held c.args.err.now) (err.held c.write_all.new.sink)
+    c.note.result.now (note_in c.answer-answer.result)
     c.answer-answer.ensures.note c.note.ensures c.write_all.ensures.cause c.write_all.ensures.all c.write_all.ensures.prefix
 
 pub returns-clause-reach : goal.returns-clause-reach
 returns-clause-reach g c =
     let err = g.E.Sink in
-    noted _ c.write_all.result (err.faults c.args.err.now) (err.faults c.write_all.new.sink) (err.held c.args.err.now) (err.held c.write_all.new.sink) c.note.result.now (note_in c.answer-answer.result)
+    noted _ c.write_all.result (err.faults c.args.err.now) (err.faults c.write_all.new.sink) (err.held c.args.err.now) (err.held c.write_all.new.sink)
+    c.note.result.now (note_in c.answer-answer.result)
     c.answer-answer.ensures.reach c.note.ensures c.write_all.ensures.cause c.write_all.ensures.all c.write_all.ensures.prefix
