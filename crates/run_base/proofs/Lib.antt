@@ -4,3 +4,5 @@ pub mod Notings
 pub mod NumberLines
 pub mod PieceLines
 pub mod Prefixes
+pub mod Statuses
+pub mod Values

@@ -1,5 +1,5 @@
 -- A sink that gained a text or a prefix of it.
-use Rattle.std.proofs.Common.{◌≡◌, ℕ, List, length, Option, Some, None, Result, Ok, Err, sym, ap, ◌∙◌, arith}
+use Rattle.std.proofs.Common.{◌≡◌, ℕ, List, length, Option, Some, None, Result, Ok, Err, sym, ap, subst, ◌∙◌, arith}
 use Rattle.std.specs.Prelude.{OnOk, OnErr, IfSome}
 use Rattle.std.specs.Io.KnownBytes.{append_known}
 use Rattle.std.proofs.Math.Seq.{take-length}
@@ -16,6 +16,16 @@ pub all_if_quiet : {T E : Type 0} (r : Result T E) (before now : ℕ) (old new :
     → IsQuiet before now → new ≡ append_known old text
 all_if_quiet (Ok x) before now old new text cause all quiet = all
 all_if_quiet (Err e) before now old new text cause all quiet = absurd (omega (arith, cause.failed, quiet))
+
+-- a note such as this was written, or a prefix of it where the write failed
+pub noted : {T E : Type 0} (Such : List ℕ → Type 0) (r : Result T E) (before now : ℕ) (old new : Option (List ℕ)) (written text : List ℕ) → Such text → written ≡ text
+    → HasCause before now r → OnOk r (new ≡ append_known old written) → OnErr r (GainsPrefix old new written) → IsNoted Such before now old new
+noted Such r before now old new written text such same cause all part = record {
+  text = text;
+  is_note = such;
+  whole = λ quiet. all_if_quiet r before now old new written cause all quiet ∙ ap (append_known old) same;
+  prefix = subst (GainsPrefix old new) same (either_way r old new written all part);
+}
 
 -- a note that was written whole, or of which a prefix was, where the files are known
 pub noted_if : (known : Option Files) (Such : Files → List ℕ → Type 0) (text : List ℕ) (before now : ℕ) (old new : Option (List ℕ)) → IfSome known (λ files. Such files text) →

@@ -2,5 +2,6 @@ pub mod Answers
 pub mod Frames
 pub mod Notes
 pub mod Pieces
+pub mod Reach
 pub mod Reading
 pub mod WholeFile

@@ -1,6 +1,6 @@
 -- The words and the files of a check give outcomes of one status.
-use Rattle.std.proofs.Common.{◌≡◌, ◌<◌, inl, inr, ℕ, List, [], ◌∷◌, length, Option, Some, None, Result, Ok, Err, refl, sym, ap, subst, ◌∙◌, arith}
-use Rattle.std.specs.Prelude.{◌-◌, IfSome, slice_get}
+use Rattle.std.proofs.Common.{◌≡◌, ◌<◌, inl, inr, ℕ, List, [], ◌∷◌, length, Option, Some, None, Ok, Err, refl, sym, ap, subst, ◌∙◌, arith}
+use Rattle.std.specs.Prelude.{IfSome}
 use Rattle.tor_io.specs.Contents.{Files}
 use Rattle.result_text.specs.declared.file.ResultFile.{ResultFile}
 use Rattle.result_text.specs.Grammar.{IsTextOf}
@@ -13,9 +13,7 @@ use Rattle.result_rules.specs.Valid.{AcceptanceLaw}
 use Rattle.result_rules.proofs.OneVerdict.{one_verdict_law, one_against_law}
 use Rattle.result_text.specs.Grammar.{IsBadLine}
 use Rattle.std.proofs.lemmas.Bool.{cases_order}
-use Rattle.result_rules.specs.Against.{in_order, its_rows, JudgesAgainst}
-use Rattle.path_clean.specs.Counts.{CauseCounts}
-use Rattle.path_clean.specs.Rows.{Counted}
+use Rattle.result_rules.specs.Against.{its_rows, JudgesAgainst}
 use Rattle.dump_read.specs.declared.taking.Taken.{Taken}
 use Rattle.dump_read.specs.Seen.{DumpsEnd, Absent, Malformed, Limit}
 use Rattle.tor_words.specs.declared.check_settings.CheckSettings.{CheckSettings}
@@ -24,6 +22,7 @@ use Rattle.run_base.specs.declared.status.Status.{Status}
 use Rattle.run_base.specs.declared.status.Status.TheVariants as status
 use Rattle.torcheck_run.specs.Judging.{BreaksRule, IsAccepted, IsVerdict, JudgesByDumps, seen_for, Outcome, Judged, NoResult, TooLong, Ends, IsResult, SettingsGive, WordsGive, IsVouched}
 use Rattle.run_base.specs.WholeFile.{IsLongFile}
+use Rattle.run_base.proofs.Values as values
 use Rattle.torcheck_run.specs.CheckAnswer.{KnownFilesGive, status_of}
 use Rattle.torcheck_run.specs.Limits.{max_result}
 
@@ -34,43 +33,13 @@ OneValue = (file other : ResultFile) → IsInRange file → IsInRange other → 
 pub same_file : OneValue → (bytes : List ℕ) (f g : ResultFile) → IsTextOf f bytes → IsTextOf g bytes → f ≡ g
 same_file law bytes f g a b = law f g a.in_range b.in_range (sym a.encoded ∙ b.encoded)
 
-some_is : {X : Type 0} (o : Option X) (x y : X) → o ≡ Some x → o ≡ Some y → x ≡ y
-some_is {X = X} o x y p q = by x y (sym p ∙ q)
-  where
-    by : (x y : X) → ◌≡◌ {A = Option X} (Some x) (Some y) → x ≡ y
-    by x y e = cc
-
-ok_is : {X Y : Type 0} (r : Result X Y) (x y : X) → r ≡ Ok x → r ≡ Ok y → x ≡ y
-ok_is {X = X} {Y = Y} r x y p q = by x y (sym p ∙ q)
-  where
-    by : (x y : X) → ◌≡◌ {A = Result X Y} (Ok x) (Ok y) → x ≡ y
-    by x y e = cc
-
-err_is : {X Y : Type 0} (r : Result X Y) (x y : Y) → r ≡ Err x → r ≡ Err y → x ≡ y
-err_is {X = X} {Y = Y} r x y p q = by x y (sym p ∙ q)
-  where
-    by : (x y : Y) → ◌≡◌ {A = Result X Y} (Err x) (Err y) → x ≡ y
-    by x y e = cc
-
-ok_not_err : {X Y : Type 0} (r : Result X Y) (x : X) (y : Y) → r ≡ Ok x → r ≡ Err y → ⊥
-ok_not_err {X = X} {Y = Y} r x y p q = by (sym p ∙ q)
-  where
-    by : ◌≡◌ {A = Result X Y} (Ok x) (Err y) → ⊥
-    by e = absurd cc
-
-some_not_none : {X : Type 0} (o : Option X) (x : X) → o ≡ Some x → o ≡ None → ⊥
-some_not_none {X = X} o x p q = by (sym p ∙ q)
-  where
-    by : ◌≡◌ {A = Option X} (Some x) None → ⊥
-    by e = absurd cc
-
 -- ---- yes and no
 
 -- the dumps say one thing
 by_dumps : (file : ResultFile) (dumps : List (List ℕ)) (files : Files) (v w : Verdict) → JudgesByDumps file dumps files v → JudgesByDumps file dumps files w → v ≡ w
 by_dumps file [] files v w one other = one ∙ sym other
 by_dumps file (dump ∷ dumps) files v w one other =
-    let same : other.0 ≡ one.0 = ok_is (seen_for file (dump ∷ dumps) files) other.0 one.0 other.1 one.1 in
+    let same : other.0 ≡ one.0 = values.ok_is (seen_for file (dump ∷ dumps) files) other.0 one.0 other.1 one.1 in
     one_against_law file one.0.table.rows one.0.counts v w one.2 (subst (λ (t : Taken). JudgesAgainst file t.table.rows t.counts w) same other.2)
 
 -- bytes that are accepted break no rule of 0 to 10
@@ -122,8 +91,8 @@ verdicts law bytes dumps files v w one other = ap status_of (one_verdict law byt
 
 -- where a verdict comes of the dumps these have no end
 no_end : (file : ResultFile) (dumps : List (List ℕ)) (files : Files) (verdict : Verdict) (end : DumpsEnd) → JudgesByDumps file dumps files verdict → seen_for file dumps files ≡ Err end → ⊥
-no_end file [] files verdict end judged ends = ok_not_err (seen_for file [] files) _ end refl ends
-no_end file (dump ∷ dumps) files verdict end judged ends = ok_not_err (seen_for file (dump ∷ dumps) files) judged.0 end judged.1 ends
+no_end file [] files verdict end judged ends = values.ok_not_err (seen_for file [] files) _ end refl ends
+no_end file (dump ∷ dumps) files verdict end judged ends = values.ok_not_err (seen_for file (dump ∷ dumps) files) judged.0 end judged.1 ends
 
 no_verdict : OneValue → (bytes : List ℕ) (dumps : List (List ℕ)) (files : Files) (verdict : Verdict) (file : ResultFile) (end : DumpsEnd) → IsVerdict bytes dumps files verdict
     → IsAccepted file bytes → seen_for file dumps files ≡ Err end → ⊥
@@ -144,20 +113,16 @@ status_for (Ends (Malformed place fault)) = status.Malformed
 status_for (Ends (Limit kind dump)) = status.Limit
 
 not_there : {X : Type 0} (settings : CheckSettings) (files : Files) (bytes : List ℕ) → IsResult settings files bytes → files settings.result ≡ None → X
-not_there settings files bytes is none = absurd (some_not_none (files settings.result) bytes is.there none)
+not_there settings files bytes is none = values.some_not_none (files settings.result) bytes is.there none
 
 pub not_long : {X : Type 0} (settings : CheckSettings) (files : Files) (bytes : List ℕ) → IsResult settings files bytes → IsLongFile max_result (files settings.result) → X
-not_long settings files bytes is long =
-    let more : max_result < length bytes = subst (IsLongFile max_result) is.there long in
-    absurd (omega (arith, more, is.short))
+not_long settings files bytes is long = values.not_long max_result (files settings.result) bytes is.there is.short long
 
-none_long : {X : Type 0} (o : Option (List ℕ)) → o ≡ None → IsLongFile max_result o → X
-none_long o is long =
-    let none : ⊥ = subst (IsLongFile max_result) is long in
-    absurd none
+none_long : {X : Type 0} (settings : CheckSettings) (files : Files) → files settings.result ≡ None → IsLongFile max_result (files settings.result) → X
+none_long settings files is long = values.none_long max_result (files settings.result) is long
 
 same_result : (settings : CheckSettings) (files : Files) (a b : List ℕ) → IsResult settings files a → IsResult settings files b → a ≡ b
-same_result settings files a b one other = some_is (files settings.result) a b one.there other.there
+same_result settings files a b one other = values.some_is (files settings.result) a b one.there other.there
 
 same_status : OneValue → (settings : CheckSettings) (files : Files) (x y : Outcome) → SettingsGive settings files x → SettingsGive settings files y → status_for x ≡ status_for y
 same_status law settings files (Judged v) (Judged w) one other =
@@ -170,10 +135,10 @@ same_status law settings files (Judged v) (Ends end) one other =
     absurd (no_verdict law one.0 settings.dumps files v other.1 end one.2 (subst (λ b. IsAccepted other.1 b) same other.3) other.4)
 same_status law settings files NoResult (Judged w) one other = not_there settings files other.0 other.1 one
 same_status law settings files NoResult NoResult one other = refl
-same_status law settings files NoResult TooLong one other = none_long (files settings.result) one other
+same_status law settings files NoResult TooLong one other = none_long settings files one other
 same_status law settings files NoResult (Ends end) one other = not_there settings files other.0 other.2 one
 same_status law settings files TooLong (Judged w) one other = not_long settings files other.0 other.1 one
-same_status law settings files TooLong NoResult one other = none_long (files settings.result) other one
+same_status law settings files TooLong NoResult one other = none_long settings files other one
 same_status law settings files TooLong TooLong one other = refl
 same_status law settings files TooLong (Ends end) one other = not_long settings files other.0 other.2 one
 same_status law settings files (Ends end) (Judged w) one other =
@@ -186,10 +151,10 @@ same_status law settings files (Ends end) (Ends end') one other =
     let text : IsTextOf other.1 one.0 = subst (λ b. IsTextOf other.1 b) bytes other.3.text in
     let file : other.1 ≡ one.1 = same_file law one.0 other.1 one.1 text one.3.text in
     let ends : seen_for one.1 settings.dumps files ≡ Err end' = subst (λ f. seen_for f settings.dumps files ≡ Err end') file other.4 in
-    ap (λ e. status_for (Ends e)) (err_is (seen_for one.1 settings.dumps files) end end' one.4 ends)
+    ap (λ e. status_for (Ends e)) (values.err_is (seen_for one.1 settings.dumps files) end end' one.4 ends)
 
 same_settings : (words : List (List ℕ)) (s t : CheckSettings) → check_settings_given words ≡ Some s → check_settings_given words ≡ Some t → s ≡ t
-same_settings words s t = some_is (check_settings_given words) s t
+same_settings words s t = values.some_is (check_settings_given words) s t
 
 pub one_status : OneValue → (words : List (List ℕ)) (files : Files) (x y : Outcome) → WordsGive words files x → WordsGive words files y → status_for x ≡ status_for y
 one_status law words files x y one other =

@@ -1,5 +1,6 @@
 -- How far a check has read, by its answer.
 use Rattle.std.proofs.Common.{◌≡◌, ◌⊎◌, inl, inr, ℕ, List, Option, Some, refl, sym, subst, ◌∙◌}
+use Rattle.std.proofs.lemmas.Option.{same_Some}
 use Rattle.tor_io.specs.Contents.{Files}
 use Rattle.dump_read.specs.declared.error.DumpError.{DumpError}
 use Rattle.dump_read.specs.declared.error.DumpError.TheVariants as error
@@ -19,18 +20,16 @@ use Rattle.torcheck_run.specs.declared.judging.Unjudged.{Unjudged}
 use Rattle.torcheck_run.specs.declared.judging.Unjudged.TheVariants as unjudged
 use Rattle.torcheck_run.specs.CheckAnswer.{status_of}
 use Rattle.torcheck_run.specs.Judging.{TooLong, LeavesOnlyResult}
-use Rattle.torcheck_run.specs.Reach.{IsDumpInReach, IsRefusalInReach, IsUnjudgedInReach, StaysUnjudgedInReach, CheckEndsInReach}
+use Rattle.run_base.specs.Reach.{IsDumpInReach, IsRefusalInReach}
+use Rattle.torcheck_run.specs.Reach.{IsUnjudgedInReach, StaysUnjudgedInReach, CheckEndsInReach}
 use Rattle.torcheck_run.specs.Unjudging.{IsUnjudged, IsFailedResult, AnswersUnjudged}
 use Rattle.torcheck_run.proofs.Unjudgings.{leads}
-
-same_settings : (s t : CheckSettings) → ◌≡◌ {A = Option CheckSettings} (Some s) (Some t) → s ≡ t
-same_settings s t e = cc
 
 pub reach-given :
     (words : List (List ℕ)) (settings : CheckSettings) (known : Option Files) (left : Option (List ℕ)) (u : Unjudged) → check_settings_given words ≡ Some settings
     → IsUnjudgedInReach settings.dumps known left u → StaysUnjudgedInReach words known left u
 reach-given words settings known left u given h =
-    λ s is. subst (λ (t : CheckSettings). IsUnjudgedInReach t.dumps known left u) (same_settings settings s (sym given ∙ is)) h
+    λ s is. subst (λ (t : CheckSettings). IsUnjudgedInReach t.dumps known left u) (same_Some settings s (sym given ∙ is)) h
 
 -- a file that was read before leaves what is known of the files
 pub reach-before :

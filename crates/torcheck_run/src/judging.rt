@@ -12,7 +12,8 @@ ghost use Rattle.torcheck_run.specs.Judging.{Judged, SettingsGive, IsVerdict, Ju
 ghost use Rattle.run_base.specs.WholeFile.{LeavesRest, LeavesOnly};
 ghost use Rattle.torcheck_run.specs.CheckAnswer.{KnownFilesGive};
 ghost use Rattle.result_rules.specs.File.{HasFewLines, most_lines};
-ghost use Rattle.torcheck_run.specs.Reach.{IsDumpInReach, IsRefusalInReach, IsUnjudgedInReach, StaysUnjudgedInReach};
+ghost use Rattle.run_base.specs.Reach.{IsDumpInReach, IsRefusalInReach};
+ghost use Rattle.torcheck_run.specs.Reach.{IsUnjudgedInReach, StaysUnjudgedInReach};
 ghost use Rattle.torcheck_run.specs.Unjudging.{IsRuling, IsRulingOf, IsRefusedBy, IsUnjudged, IsUnjudgedIn, IsTooLong, IsFailedResult};
 ghost use Rattle.torcheck_run.specs.Unjudging.{IsFailedRead, IsOfCheckWords, AnswersUnjudged};
 ghost use Rattle.torcheck_run.specs.Limits.{max_result};

@@ -20,9 +20,11 @@ use Rattle.torgrade_run.specs.declared.asking.Graded.{Graded}
 use Rattle.torgrade_run.specs.declared.asking.Ungraded.{Ungraded}
 use Rattle.torgrade_run.specs.declared.asking.Ungraded.TheVariants as ungraded
 use Rattle.torgrade_run.specs.Limits.{max_rel}
-use Rattle.torgrade_run.specs.Outcomes.{Outcome, NoRel, LongRel, BadRel, Ends, ComesTo, IsRel, LeavesOnlyRel, seen_by}
-use Rattle.torgrade_run.specs.GradeAnswer.{LeadsTo, HoldsBefore, IsGraded, IsGradeNote, bad_line_note, long_rel_note}
-use Rattle.torgrade_run.specs.Ungrading.{IsGood, EndsWith, StopsAt, IsGradedFrom, IsGradedIn, IsUngradedBy, IsUngradedIn, IsUngraded, IsFailedRel, AnswersUngraded, text_of}
+use Rattle.torgrade_run.specs.Outcomes.{Outcome, NoRel, LongRel, BadRel, Ends, ComesTo, IsRel, seen_by}
+use Rattle.torgrade_run.specs.GradeAnswer.{LeadsTo, HoldsBefore, IsGraded, IsGradedOfSome, IsGradeNote, bad_line_note, long_rel_note}
+use Rattle.torgrade_run.specs.Reach.{StaysUngradedInReach}
+use Rattle.torgrade_run.specs.Ungrading.{IsGood, EndsWith, StopsAt, IsGradedFrom, IsGradedIn, IsGradedOfSomeFrom, IsGradedOfSomeIn, IsUngradedBy}
+use Rattle.torgrade_run.specs.Ungrading.{IsUngradedIn, IsUngraded, AnswersUngraded, text_of}
 
 -- ---- the bytes of the file
 
@@ -39,6 +41,12 @@ file_graded None after settings bytes name (Ok g) same_name same_files read shor
 file_graded (Some files) after settings bytes name (Ok g) same_name same_files read short is =
     (bytes, rel_is (Some files) settings bytes name same_name read short, subst (λ (o : Option Files). IfSome o (λ files. IsGradedFrom settings bytes files g)) same_files is)
 file_graded known after settings bytes name (Err e) same_name same_files read short is = tt
+
+-- the same where nothing is known of the files
+pub file_of_some : {E : Type 0} (settings : GradeSettings) (bytes : List ℕ) (r : Result Graded E) → length bytes ≤ max_rel → IfOk r (IsGradedOfSomeFrom settings bytes)
+    → IfOk r (IsGradedOfSomeIn settings)
+file_of_some settings bytes (Ok g) short is = (bytes, short, is)
+file_of_some settings bytes (Err e) short is = tt
 
 -- nothing is graded by the bytes, and so nothing by the file
 ungraded_in : (known : Option Files) (steady : Type 0) (settings : GradeSettings) (bytes : List ℕ) (u : Ungraded) → IfSome known (λ files. IsRel settings files bytes)
@@ -93,6 +101,23 @@ words_graded words (Some files) settings (Ok g) given is = record {
   is_text = refl;
 }
 words_graded words known settings (Err e) given is = tt
+
+pub words_of_some : {E : Type 0} (words : List (List ℕ)) (settings : GradeSettings) (r : Result Graded E) → grade_settings_given words ≡ Some settings
+    → IfOk r (IsGradedOfSomeIn settings) → IfOk r (λ g. IsGradedOfSome words (text_of g))
+words_of_some words settings (Ok g) given is = record {
+  settings = settings;
+  given = given;
+  bytes = is.0;
+  short = is.1;
+  rel = g.known.rel;
+  is_rel = is.2.0.0;
+  taken = g.taken;
+  seen = is.2.1;
+  found = g.known.cone;
+  is_cone = is.2.0.1;
+  is_text = refl;
+}
+words_of_some words settings (Err e) given is = tt
 
 -- nothing is graded with the settings, nor by the words
 pub words_ungraded : {T : Type 0} (words : List (List ℕ)) (known : Option Files) (steady : Type 0) (settings : GradeSettings) (r : Result T Ungraded) → grade_settings_given words ≡ Some settings
@@ -164,19 +189,19 @@ stop_note words known steady left settings bytes dump error.NoMemory answer give
 
 pub ungraded_note : (words : List (List ℕ)) (known : Option Files) (steady : Type 0) (left : Option (List ℕ)) (u : Ungraded) (answer : Answer)
     → IsUngraded words known steady u → AnswersUngraded u answer
-    → (IsFailedRel u → LeavesOnlyRel words known left) → IsGradeNote words known steady left answer.status (note_in answer)
-ungraded_note words known steady left (ungraded.Rel unread.Failed) answer why says rest =
+    → StaysUngradedInReach words known left u → IsGradeNote words known steady left answer.status (note_in answer)
+ungraded_note words known steady left (ungraded.Rel unread.Failed) answer why says reach =
     says_note words known steady left status.ReadFault (read_fault_note 0) answer
-    (0, refl, inl (record { number = refl; settings = why.0; given = why.1; unread = rest refl why.0 why.1; absent = λ held. leads words known why.0 NoRel why.1 (why.2 held) })) says
-ungraded_note words known steady left (ungraded.Rel unread.TooLong) answer why says rest =
+    (0, refl, inl (record { number = refl; settings = why.0; given = why.1; unread = reach why.0 why.1; absent = λ held. leads words known why.0 NoRel why.1 (why.2 held) })) says
+ungraded_note words known steady left (ungraded.Rel unread.TooLong) answer why says reach =
     says_note words known steady left status.Limit long_rel_note answer (inl (refl, leads words known why.0 LongRel why.1 why.2)) says
-ungraded_note words known steady left (ungraded.Rel unread.NoMemory) answer why says rest = no_memory words known steady left answer says
-ungraded_note words known steady left (ungraded.BadLine line) answer why says rest =
+ungraded_note words known steady left (ungraded.Rel unread.NoMemory) answer why says reach = no_memory words known steady left answer says
+ungraded_note words known steady left (ungraded.BadLine line) answer why says reach =
     says_note words known steady left status.Malformed (bad_line_note line) answer
     (inl (line, refl, leads words known why.0 (BadRel line) why.1 (bad_comes known why.0 why.2.0 line why.2.1 why.2.2))) says
-ungraded_note words known steady left (ungraded.Refused (refusal.Words (refused.Usage text))) answer why says rest =
+ungraded_note words known steady left (ungraded.Refused (refusal.Words (refused.Usage text))) answer why says reach =
     says_note words known steady left status.Usage text answer why.1 (inl says)
-ungraded_note words known steady left (ungraded.Refused (refusal.Words refused.NoMemory)) answer why says rest = no_memory words known steady left answer says
-ungraded_note words known steady left (ungraded.Refused (refusal.Dumps stopped)) answer why says rest =
+ungraded_note words known steady left (ungraded.Refused (refusal.Words refused.NoMemory)) answer why says reach = no_memory words known steady left answer says
+ungraded_note words known steady left (ungraded.Refused (refusal.Dumps stopped)) answer why says reach =
     stop_note words known steady left why.0 why.2.0 stopped.dump stopped.error answer why.1 why.2.1 why.2.2.0 why.2.2.1 says
-ungraded_note words known steady left (ungraded.Refused refusal.NoMemory) answer why says rest = no_memory words known steady left answer says
+ungraded_note words known steady left (ungraded.Refused refusal.NoMemory) answer why says reach = no_memory words known steady left answer says

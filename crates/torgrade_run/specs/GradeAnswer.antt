@@ -1,12 +1,14 @@
 -- What a grading answers, writes and notes, by what its words and files give.
 use Rattle.std.specs.Prelude.{◌≡◌, ◌≤◌, ◌⊎◌, ◌-◌, ◌++◌, ◌∷◌, [], ℕ, List, length, take, Option, Some, Ok, IfSome, IsOk, codes, decimal}
 use Rattle.std.specs.Io.KnownBytes.{append_known}
+use Rattle.tor_arena.specs.Limits.{max_paths}
 use Rattle.tor_io.specs.Contents.{Files, GainsPrefix}
 use Rattle.dump_read.specs.declared.error.Place.{Place}
 use Rattle.dump_read.specs.declared.error.Fault.{Fault}
 use Rattle.dump_read.specs.declared.error.LimitKind.{LimitKind}
 use Rattle.dump_read.specs.declared.taking.Taken.{Taken}
 use Rattle.dump_read.specs.Seen.{Absent, Malformed, Limit}
+use Rattle.path_clean.specs.declared.cleaned.Sets.TheVariants.{Cut}
 use Rattle.serial_lines.specs.declared.line.RelLine.{RelLine}
 use Rattle.serial_lines.specs.Serial.{rel_in}
 use Rattle.tor_words.specs.declared.grade_settings.GradeSettings.{GradeSettings}
@@ -15,6 +17,7 @@ use Rattle.tor_words.specs.GradeGiven.{grade_settings_given}
 use Rattle.run_base.specs.declared.status.Status.{Status}
 use Rattle.run_base.specs.declared.status.Status.TheVariants as status
 use Rattle.run_base.specs.Notes.{malformed_note, limit_note, read_fault_note, plain_note}
+use Rattle.run_base.specs.Reading.{nothing, IsOfSomeDumps}
 use Rattle.run_base.specs.WholeFile.{LeavesOnly}
 use Rattle.torgrade_run.specs.declared.cones.Cone.{Cone}
 use Rattle.torgrade_run.specs.GradeText.{IsConeAsked, grading_text}
@@ -46,6 +49,30 @@ GainsGrades words known old new =
 abbrev pub GainsGradesPrefix : List (List ℕ) → Option Files → Option (List ℕ) → Option (List ℕ) → Type 0
 GainsGradesPrefix words known old new =
     (text : List ℕ) × IfSome known (λ files. IsGraded words files text) × GainsPrefix old new text
+
+-- ---- out, whatever the files hold, also where nothing is known of them
+
+-- the words ask for this text of some octets that say known relationships, and of what some octets give, a file for each name of a dump
+pub record IsGradedOfSome (words : List (List ℕ)) (text : List ℕ) : Type 0 where
+  pub settings : GradeSettings
+  pub given : grade_settings_given words ≡ Some settings
+  pub bytes : List ℕ
+  pub short : length bytes ≤ max_rel
+  pub rel : List RelLine
+  pub is_rel : rel_in bytes ≡ Ok rel
+  pub taken : Taken
+  pub seen : IsOfSomeDumps Cut (length settings.dumps) (nothing max_paths) taken
+  pub found : Option Cone
+  pub is_cone : IsConeAsked rel settings.cone found
+  pub is_text : text ≡ grading_text rel taken.table.rows found
+
+-- a sink gained such a text
+abbrev pub GainsSomeGrades : List (List ℕ) → Option (List ℕ) → Option (List ℕ) → Type 0
+GainsSomeGrades words old new = (text : List ℕ) × IsGradedOfSome words text × (new ≡ append_known old text)
+
+-- a prefix of one
+abbrev pub GainsSomeGradesPrefix : List (List ℕ) → Option (List ℕ) → Option (List ℕ) → Type 0
+GainsSomeGradesPrefix words old new = (text : List ℕ) × IsGradedOfSome words text × GainsPrefix old new text
 
 -- ---- notes on the file of known relationships
 

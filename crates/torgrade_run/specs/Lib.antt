@@ -2,4 +2,5 @@ pub mod GradeAnswer
 pub mod GradeText
 pub mod Limits
 pub mod Outcomes
+pub mod Reach
 pub mod Ungrading

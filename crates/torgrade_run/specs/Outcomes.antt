@@ -10,7 +10,7 @@ use Rattle.serial_lines.specs.Serial.{rel_in}
 use Rattle.tor_words.specs.declared.grade_settings.GradeSettings.{GradeSettings}
 use Rattle.tor_words.specs.GradeGiven.{grade_settings_given}
 use Rattle.run_base.specs.Reading.{nothing, seen_from}
-use Rattle.run_base.specs.WholeFile.{IsLongFile, LeavesRest, LeavesOnly}
+use Rattle.run_base.specs.WholeFile.{IsLongFile, LeavesRest}
 use Rattle.torgrade_run.specs.Limits.{max_rel}
 
 -- what the dumps give: sets are cut, and the limit on paths is the greatest
@@ -52,14 +52,15 @@ abbrev pub Gives : List (List ℕ) → Files → Outcome → Type 0
 Gives words files outcome =
     (settings : GradeSettings) × (grade_settings_given words ≡ Some settings) × ComesTo settings files outcome
 
+-- words and files give one outcome at most
+abbrev pub OneOutcomeLaw : Type 0
+OneOutcomeLaw =
+    (words : List (List ℕ)) (files : Files) (outcome other : Outcome) → Gives words files outcome → Gives words files other →
+    outcome ≡ other
+
 -- ---- what is left of the file of known relationships that the words name
 
 -- of one that is too long all behind the octet that shows it
 abbrev pub LeavesRestOf : List (List ℕ) → Option Files → Option (List ℕ) → Type 0
 LeavesRestOf words known left =
     (settings : GradeSettings) → grade_settings_given words ≡ Some settings → LeavesRest max_rel settings.rel known left
-
--- nothing is left, or a rest of that file
-abbrev pub LeavesOnlyRel : List (List ℕ) → Option Files → Option (List ℕ) → Type 0
-LeavesOnlyRel words known left =
-    (settings : GradeSettings) → grade_settings_given words ≡ Some settings → LeavesOnly max_rel settings.rel known left

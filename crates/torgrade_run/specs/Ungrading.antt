@@ -1,9 +1,11 @@
 -- What is graded, or why nothing is, and the answer then.
 use Rattle.std.specs.Prelude.{◌≡◌, ◌≤◌, ◌-◌, ℕ, List, length, take, Option, None, Some, IfSome, IsOk, Ok, Err}
+use Rattle.tor_arena.specs.Limits.{max_paths}
 use Rattle.tor_io.specs.Contents.{Files}
 use Rattle.dump_read.specs.declared.error.DumpError.{DumpError}
 use Rattle.dump_read.specs.declared.error.DumpError.TheVariants as error
 use Rattle.dump_read.specs.Seen.{DumpsEnd, Absent, Malformed, Limit}
+use Rattle.path_clean.specs.declared.cleaned.Sets.TheVariants.{Cut}
 use Rattle.serial_lines.specs.declared.line.RelLine.{RelLine}
 use Rattle.serial_lines.specs.Serial.{rel_in}
 use Rattle.tor_words.specs.declared.grade_settings.GradeSettings.{GradeSettings}
@@ -17,6 +19,7 @@ use Rattle.run_base.specs.declared.answer.Refusal.TheVariants as refusal
 use Rattle.run_base.specs.declared.whole_file.Unread.TheVariants as unread
 use Rattle.run_base.specs.Notes.{read_fault_note}
 use Rattle.run_base.specs.Answers.{AnswersWith, Answers, IsNoMemory, IsReadFault, IsOfWords}
+use Rattle.run_base.specs.Reading.{nothing, IsOfSomeDumps}
 use Rattle.run_base.specs.WholeFile.{IsLongFile}
 use Rattle.torgrade_run.specs.declared.asking.Graded.{Graded}
 use Rattle.torgrade_run.specs.declared.asking.Known.{Known}
@@ -43,6 +46,17 @@ text_of g = grading_text g.known.rel g.taken.table.rows g.known.cone
 -- the same of the file that the settings name
 abbrev pub IsGradedIn : GradeSettings → Files → Graded → Type 0
 IsGradedIn settings files g = (bytes : List ℕ) × IsRel settings files bytes × IsGradedFrom settings bytes files g
+
+-- ---- what is graded of files of which nothing is known
+
+-- the bytes say the relationships, and the paths are what dumps of some octets give
+abbrev pub IsGradedOfSomeFrom : GradeSettings → List ℕ → Graded → Type 0
+IsGradedOfSomeFrom settings bytes g =
+    IsKnown bytes settings.cone g.known × IsOfSomeDumps Cut (length settings.dumps) (nothing max_paths) g.taken
+
+-- the same of some bytes, few enough
+abbrev pub IsGradedOfSomeIn : GradeSettings → Graded → Type 0
+IsGradedOfSomeIn settings g = (bytes : List ℕ) × (length bytes ≤ max_rel) × IsGradedOfSomeFrom settings bytes g
 
 -- ---- why nothing is graded
 
@@ -105,18 +119,6 @@ IsUngraded words known steady (ungraded.Refused (refusal.Dumps stopped)) =
 IsUngraded words known steady (ungraded.Refused refusal.NoMemory) = Unit {0}
 IsUngraded words known steady (ungraded.BadLine line) = IsUngradedGiven words known steady (ungraded.BadLine line)
 IsUngraded words known steady (ungraded.Rel why) = IsUngradedGiven words known steady (ungraded.Rel why)
-
--- the file of known relationships has too many octets
-abbrev pub IsTooLong : Ungraded → Type 0
-IsTooLong (ungraded.Rel why) = why ≡ unread.TooLong
-IsTooLong (ungraded.BadLine line) = ⊥
-IsTooLong (ungraded.Refused why) = ⊥
-
--- its open or a read of it failed
-abbrev pub IsFailedRel : Ungraded → Type 0
-IsFailedRel (ungraded.Rel why) = why ≡ unread.Failed
-IsFailedRel (ungraded.BadLine line) = ⊥
-IsFailedRel (ungraded.Refused why) = ⊥
 
 -- a read failed
 abbrev pub IsFailedRead : Ungraded → Type 0

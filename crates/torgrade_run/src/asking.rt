@@ -1,17 +1,20 @@
 //! What is graded: known relationships, and the paths of dumps.
-ghost use Rattle.std.specs.Prelude.{◌≡◌, ◌≢◌, ◌≤◌, ◌-◌, ◌<◌, Ok, Err, IfOk, IfErr, OnOk, IfSome, IsNone, IsErrAnd, IsOk, length, take};
+ghost use Rattle.std.specs.Prelude.{◌≡◌, ◌≤◌, ◌-◌, ◌<◌, Ok, Err, IfOk, IfErr, OnOk, IfSome, IsNone, IsErrAnd, IsOk, length, take};
 ghost use Rattle.std.specs.Io.KnownBytes.{IsAtEnd};
-ghost use Rattle.tor_io.specs.Counts.{Rose};
+ghost use Rattle.tor_arena.specs.Limits.{max_paths};
+ghost use Rattle.path_clean.specs.declared.cleaned.Sets.TheVariants.{Cut};
 ghost use Rattle.dump_read.specs.declared.error.DumpError.TheVariants.{ReadFault as read_failed};
 ghost use Rattle.dump_read.specs.Seen.{Absent, end_named};
 ghost use Rattle.serial_lines.specs.Serial.{rel_in, IsReadingError};
 ghost use Rattle.tor_words.specs.GradeGiven.{grade_settings_given};
-ghost use Rattle.run_base.specs.WholeFile.{LeavesRest, LeavesOnly};
-ghost use Rattle.torgrade_run.specs.Limits.{max_rel};
-ghost use Rattle.torgrade_run.specs.Outcomes.{LeavesRestOf, LeavesOnlyRel, seen_by};
-ghost use Rattle.torgrade_run.specs.GradeAnswer.{IsGraded};
-ghost use Rattle.torgrade_run.specs.Ungrading.{IsKnown, IsGradedFrom, IsGradedIn, IsUngradedBy, IsUngradedIn, IsUngraded, IsTooLong};
-ghost use Rattle.torgrade_run.specs.Ungrading.{IsFailedRel, IsFailedRead, IsOfGradeWords, AnswersUngraded, text_of};
+ghost use Rattle.run_base.specs.Frames.{ReadsShelf};
+ghost use Rattle.run_base.specs.Reach.{IsDumpInReach};
+ghost use Rattle.run_base.specs.Reading.{nothing, IsOfSomeDumps};
+ghost use Rattle.torgrade_run.specs.Outcomes.{seen_by};
+ghost use Rattle.torgrade_run.specs.GradeAnswer.{IsGraded, IsGradedOfSome};
+ghost use Rattle.torgrade_run.specs.Reach.{IsUngradedInReach, StaysUngradedInReach};
+ghost use Rattle.torgrade_run.specs.Ungrading.{IsKnown, IsGradedFrom, IsGradedIn, IsGradedOfSomeFrom, IsGradedOfSomeIn, IsUngradedBy};
+ghost use Rattle.torgrade_run.specs.Ungrading.{IsUngradedIn, IsUngraded, IsFailedRead, IsOfGradeWords, AnswersUngraded, text_of};
 
 use crate::cones::{Cone, cone_asked};
 use crate::notes::{bad_line_note, long_rel_note};
@@ -99,14 +102,11 @@ fn taken_of<H: Shelf>(
         seen_by dumps.now files ≡ Err end))) }
     ensures named { IfErr result (λ e. (1 ≤ e.dump) × (e.dump ≤ length dumps.now)) }
     ensures before { IfErr result (λ e. IfSome (H.files shelf.old) (λ files. IsOk (seen_by (take (e.dump - 1) dumps.now) files))) }
+    ensures some { IfOk result (IsOfSomeDumps Cut (length dumps.now) (nothing max_paths)) }
     ensures read_out { OnOk result (0 < length dumps.now → IsAtEnd (H.left shelf.new)) }
+    ensures reach { IfErr result (λ e. IsDumpInReach dumps.now (H.files shelf.old) (H.left shelf.new) e.dump e.error) }
 
-    ensures files { H.files shelf.new ≡ H.files shelf.old }
-    ensures later { H.faults shelf.old ≤ H.faults shelf.new }
-    ensures failed { IfErr result (λ e. e.error ≡ read_failed → Rose (H.faults shelf.old) (H.faults shelf.new)) }
-    ensures quiet { OnOk result (H.faults shelf.new ≡ H.faults shelf.old) }
-    ensures quiet_stop { IfErr result (λ e. e.error ≢ read_failed → H.faults shelf.new ≡ H.faults shelf.old) }
-    ensures steady { H.steady shelf.old → H.steady shelf.new }
+    ensures reads_shelf { ReadsShelf H.Shelf (IsErrAnd result (λ e. e.error ≡ read_failed)) shelf.old shelf.new }
     ensures steady_failed { H.steady shelf.old → IfErr result (λ e. e.error ≡ read_failed →
         IfSome (H.files shelf.old) (λ files. seen_by dumps.now files ≡ Err (Absent e.dump))) }
 {
@@ -127,15 +127,12 @@ fn graded_from<H: Shelf>(
 ) -> Result<Graded, Ungraded>
     requires named { 0 < length settings.now.dumps }
     ensures graded { IfOk result (λ graded. IfSome (H.files shelf.old) (λ files. IsGradedFrom settings.now bytes files graded)) }
+    ensures of_some { IfOk result (IsGradedOfSomeFrom settings.now bytes) }
     ensures ungraded { IfErr result (IsUngradedBy bytes settings.now.dumps (H.files shelf.old) (H.steady shelf.old)) }
     ensures read_out { OnOk result (IsAtEnd (H.left shelf.new)) }
+    ensures reach { IsAtEnd (H.left shelf.old) → IfErr result (IsUngradedInReach settings.now (H.files shelf.old) (H.left shelf.new)) }
 
-    ensures files { H.files shelf.new ≡ H.files shelf.old }
-    ensures later { H.faults shelf.old ≤ H.faults shelf.new }
-    ensures quiet { OnOk result (H.faults shelf.new ≡ H.faults shelf.old) }
-    ensures failed { IfErr result (λ u. IsFailedRead u → Rose (H.faults shelf.old) (H.faults shelf.new)) }
-    ensures quiet_stop { IfErr result (λ u. (IsFailedRead u → ⊥) → H.faults shelf.new ≡ H.faults shelf.old) }
-    ensures steady { H.steady shelf.old → H.steady shelf.new }
+    ensures reads_shelf { ReadsShelf H.Shelf (IsErrAnd result IsFailedRead) shelf.old shelf.new }
 {
     match known_in(alloc, keys, bytes, settings.cone) {
         Ok(known) => match taken_of(alloc, keys, shelf, settings.dumps.as_slice()) {
@@ -156,19 +153,13 @@ fn graded_in<H: Shelf>(
 ) -> Result<Graded, Ungraded>
     requires named { 0 < length settings.now.dumps }
     ensures graded { IfOk result (λ graded. IfSome (H.files shelf.old) (λ files. IsGradedIn settings.now files graded)) }
+    ensures of_some { IfOk result (IsGradedOfSomeIn settings.now) }
     ensures ungraded { IfErr result (IsUngradedIn settings.now (H.files shelf.old) (H.steady shelf.old)) }
     ensures no_words { IfErr result (λ u. IsOfGradeWords u → ⊥) }
-    ensures rest { IfErr result (λ u. IsTooLong u → LeavesRest max_rel settings.now.rel (H.files shelf.old) (H.left shelf.new)) }
-    ensures unread { IfErr result (λ u. IsFailedRel u →
-        LeavesOnly max_rel settings.now.rel (H.files shelf.old) (H.left shelf.new)) }
+    ensures reach { IfErr result (IsUngradedInReach settings.now (H.files shelf.old) (H.left shelf.new)) }
     ensures read_out { OnOk result (IsAtEnd (H.left shelf.new)) }
 
-    ensures files { H.files shelf.new ≡ H.files shelf.old }
-    ensures later { H.faults shelf.old ≤ H.faults shelf.new }
-    ensures quiet { OnOk result (H.faults shelf.new ≡ H.faults shelf.old) }
-    ensures failed { IfErr result (λ u. IsFailedRead u → Rose (H.faults shelf.old) (H.faults shelf.new)) }
-    ensures quiet_stop { IfErr result (λ u. (IsFailedRead u → ⊥) → H.faults shelf.new ≡ H.faults shelf.old) }
-    ensures steady { H.steady shelf.old → H.steady shelf.new }
+    ensures reads_shelf { ReadsShelf H.Shelf (IsErrAnd result IsFailedRead) shelf.old shelf.new }
 {
     match read_whole(alloc, shelf, settings.rel.as_text(), MAX_REL) {
         Ok(bytes) => graded_from(alloc, keys, settings, shelf, bytes),
@@ -184,22 +175,15 @@ pub(crate) fn graded_asked<H: Shelf>(
     shelf: &mut H,
 ) -> Result<Graded, Ungraded>
     ensures graded { IfOk result (λ graded. IfSome (H.files shelf.old) (λ files. IsGraded words.now files (text_of graded))) }
+    ensures of_some { IfOk result (λ graded. IsGradedOfSome words.now (text_of graded)) }
     ensures ungraded { IfErr result (IsUngraded words.now (H.files shelf.old) (H.steady shelf.old)) }
-
-    ensures rest { IfErr result (λ u. IsTooLong u → LeavesRestOf words.now (H.files shelf.old) (H.left shelf.new)) }
-    ensures unread { IfErr result (λ u. IsFailedRel u →
-        LeavesOnlyRel words.now (H.files shelf.old) (H.left shelf.new)) }
+    ensures reach { IfErr result (StaysUngradedInReach words.now (H.files shelf.old) (H.left shelf.new)) }
 
     ensures settled { IsNone (grade_settings_given words.now) → IsErrAnd result IsOfGradeWords }
     ensures read_out { OnOk result (IsAtEnd (H.left shelf.new)) }
 
     ensures untouched { IfErr result (λ u. IsOfGradeWords u → shelf.new ≡ shelf.old) }
-    ensures files { H.files shelf.new ≡ H.files shelf.old }
-    ensures later { H.faults shelf.old ≤ H.faults shelf.new }
-    ensures quiet { OnOk result (H.faults shelf.new ≡ H.faults shelf.old) }
-    ensures failed { IfErr result (λ u. IsFailedRead u → Rose (H.faults shelf.old) (H.faults shelf.new)) }
-    ensures quiet_stop { IfErr result (λ u. (IsFailedRead u → ⊥) → H.faults shelf.new ≡ H.faults shelf.old) }
-    ensures steady { H.steady shelf.old → H.steady shelf.new }
+    ensures reads_shelf { ReadsShelf H.Shelf (IsErrAnd result IsFailedRead) shelf.old shelf.new }
 {
     match grade_settings_of(alloc, words) {
         Ok(settings) => graded_in(alloc, keys, &settings, shelf),

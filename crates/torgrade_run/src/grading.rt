@@ -1,6 +1,6 @@
 //! The run of `torgrade`.
 ghost use Rattle.std.specs.Prelude.{◌≡◌, ◌≢◌, ◌≤◌, ◌⊎◌, List, Some, IfSome, IsNone, ℕ};
-ghost use Rattle.tor_io.specs.Counts.{Rose, IsQuiet};
+ghost use Rattle.tor_io.specs.Counts.{IsQuiet};
 ghost use Rattle.tor_io.specs.Contents.{Files};
 ghost use Rattle.dump_read.specs.declared.error.Place.{Place};
 ghost use Rattle.dump_read.specs.declared.error.Fault.{Fault as FaultKind};
@@ -11,9 +11,11 @@ ghost use Rattle.serial_lines.specs.declared.line.RelLine.{RelLine};
 ghost use Rattle.tor_words.specs.GradeGiven.{grade_settings_given};
 ghost use Rattle.std.specs.Io.KnownBytes.{IsAtEnd};
 ghost use Rattle.run_base.specs.Answers.{IsNoted, note_in};
+ghost use Rattle.run_base.specs.Frames.{RunLeavesShelf, RunLeavesOut};
+ghost use Rattle.torgrade_run.specs.Reach.{GradingEndsInReach};
 ghost use Rattle.torgrade_run.specs.Outcomes.{Reads, NoRel, LongRel, BadRel, Ends, Gives, LeavesRestOf};
 ghost use Rattle.torgrade_run.specs.GradeAnswer.{GainsGrades, GainsGradesPrefix, LeadsTo, LeadsToMalformed, LeadsToLimit, LeadsToAbsent};
-ghost use Rattle.torgrade_run.specs.GradeAnswer.{IsGradeNote};
+ghost use Rattle.torgrade_run.specs.GradeAnswer.{GainsSomeGrades, GainsSomeGradesPrefix, IsGradeNote};
 
 use crate::asking::{answer_to_ungraded, graded_asked};
 use crate::writing::write_graded;
@@ -35,6 +37,8 @@ fn answer<H: Shelf, O: Sink>(
     ensures done { result.status ≡ Status.Done → GainsGrades words.now (H.files shelf.old) (O.held out.old) (O.held out.new) }
     ensures cut_off { result.status ≡ Status.WriteFault →
         GainsGradesPrefix words.now (H.files shelf.old) (O.held out.old) (O.held out.new) }
+    ensures some { result.status ≡ Status.Done → GainsSomeGrades words.now (O.held out.old) (O.held out.new) }
+    ensures some_cut_off { result.status ≡ Status.WriteFault → GainsSomeGradesPrefix words.now (O.held out.old) (O.held out.new) }
     ensures nothing { result.status ≢ Status.Done → result.status ≢ Status.WriteFault → out.new ≡ out.old }
 
     // Why it is answered.
@@ -43,22 +47,16 @@ fn answer<H: Shelf, O: Sink>(
     ensures usage { result.status ≡ Status.Usage → IsNone (grade_settings_given words.now) }
     ensures always_usage { IsNone (grade_settings_given words.now) →
         (result.status ≡ Status.Usage) ⊎ (result.status ≡ Status.NoMemory) }
-    ensures read_fault { result.status ≡ Status.ReadFault → Rose (H.faults shelf.old) (H.faults shelf.new) }
-    ensures write_fault { result.status ≡ Status.WriteFault → Rose (O.faults out.old) (O.faults out.new) }
     ensures no_other { result.status ≢ Status.No }
 
     // What is left in the objects.
     ensures read_out { result.status ≡ Status.Done → IsAtEnd (H.left shelf.new) }
     ensures bounded { result.status ≡ Status.Limit → LeadsTo words.now (H.files shelf.old) LongRel →
         LeavesRestOf words.now (H.files shelf.old) (H.left shelf.new) }
+    ensures reach { GradingEndsInReach words.now (H.files shelf.old) (H.left shelf.new) result.status (note_in result) }
     ensures untouched { result.status ≡ Status.Usage → shelf.new ≡ shelf.old }
-    ensures files { H.files shelf.new ≡ H.files shelf.old }
-    ensures steady { H.steady shelf.old → H.steady shelf.new }
-    ensures shelf_later { H.faults shelf.old ≤ H.faults shelf.new }
-    ensures out_later { O.faults out.old ≤ O.faults out.new }
-    ensures no_lost_read { result.status ≢ Status.ReadFault → result.status ≢ Status.NoMemory →
-        H.faults shelf.new ≡ H.faults shelf.old }
-    ensures no_lost_write { result.status ≢ Status.WriteFault → O.faults out.new ≡ O.faults out.old }
+    ensures leaves_shelf { RunLeavesShelf H.Shelf result.status shelf.old shelf.new }
+    ensures leaves_out { RunLeavesOut O.Sink result.status out.old out.new }
 {
     match graded_asked(alloc, keys, words, shelf) {
         Ok(graded) => write_graded(alloc, &graded, out),
@@ -84,16 +82,17 @@ pub fn grade<H: Shelf, O: Sink, E: Sink>(
     ensures done { result ≡ Status.Done → GainsGrades words.now (H.files shelf.old) (O.held out.old) (O.held out.new) }
     ensures cut_off { result ≡ Status.WriteFault →
         GainsGradesPrefix words.now (H.files shelf.old) (O.held out.old) (O.held out.new) }
+    // The same of files of which nothing is known: the text is one that the words ask for of some relationships and paths.
+    ensures some { result ≡ Status.Done → GainsSomeGrades words.now (O.held out.old) (O.held out.new) }
+    ensures some_cut_off { result ≡ Status.WriteFault → GainsSomeGradesPrefix words.now (O.held out.old) (O.held out.new) }
     ensures nothing { result ≢ Status.Done → result ≢ Status.WriteFault → out.new ≡ out.old }
 
     // When each status may come.
     ensures usage { result ≡ Status.Usage → IsNone (grade_settings_given words.now) }
     ensures malformed { result ≡ Status.Malformed → LeadsToMalformed words.now (H.files shelf.old) }
     ensures limit { result ≡ Status.Limit → LeadsToLimit words.now (H.files shelf.old) }
-    ensures read_fault { result ≡ Status.ReadFault → Rose (H.faults shelf.old) (H.faults shelf.new) }
     ensures steady_read_fault { H.steady shelf.old → result ≡ Status.ReadFault →
         LeadsToAbsent words.now (H.files shelf.old) }
-    ensures write_fault { result ≡ Status.WriteFault → Rose (O.faults out.old) (O.faults out.new) }
     ensures no_other { result ≢ Status.No }
 
     // When each status has to come, or NoMemory.
@@ -121,22 +120,20 @@ pub fn grade<H: Shelf, O: Sink, E: Sink>(
         (result ≡ Status.ReadFault) ⊎ (result ≡ Status.NoMemory) }
 
     // What is left in the objects: at Done nothing unread, the files as they were, no count lowered, at Usage no call made on the
-    // shelf, and no failed call passed over.
+    // shelf, no failed call passed over, and no fault where none failed.
     ensures read_out { result ≡ Status.Done → IsAtEnd (H.left shelf.new) }
     ensures bounded { result ≡ Status.Limit → LeadsTo words.now (H.files shelf.old) LongRel →
         LeavesRestOf words.now (H.files shelf.old) (H.left shelf.new) }
     ensures untouched { result ≡ Status.Usage → shelf.new ≡ shelf.old }
-    ensures files { H.files shelf.new ≡ H.files shelf.old }
-    ensures steady { H.steady shelf.old → H.steady shelf.new }
-    ensures shelf_later { H.faults shelf.old ≤ H.faults shelf.new }
-    ensures out_later { O.faults out.old ≤ O.faults out.new }
+    ensures leaves_shelf { RunLeavesShelf H.Shelf result shelf.old shelf.new }
+    ensures leaves_out { RunLeavesOut O.Sink result out.old out.new }
     ensures err_later { E.faults err.old ≤ E.faults err.new }
-    ensures no_lost_read { result ≢ Status.ReadFault → result ≢ Status.NoMemory →
-        H.faults shelf.new ≡ H.faults shelf.old }
-    ensures no_lost_write { result ≢ Status.WriteFault → O.faults out.new ≡ O.faults out.old }
 
     // What is written to err: the status' note, or a prefix of it where err failed; at Done nothing.
     ensures note { IsNoted (IsGradeNote words.now (H.files shelf.old) (H.steady shelf.old) (H.left shelf.new) result)
+        (E.faults err.old) (E.faults err.new) (E.held err.old) (E.held err.new) }
+    // And how far the file or the dump that it names was read.
+    ensures reach { IsNoted (GradingEndsInReach words.now (H.files shelf.old) (H.left shelf.new) result)
         (E.faults err.old) (E.faults err.new) (E.held err.old) (E.held err.new) }
     ensures silent { result ≡ Status.Done → E.held err.new ≡ E.held err.old }
 {

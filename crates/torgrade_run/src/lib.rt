@@ -4,8 +4,10 @@
 mod asking;
 mod cones;
 mod grading;
+mod laws;
 mod notes;
 mod totals;
 mod writing;
 
 pub use grading::grade;
+pub use laws::one_outcome_law;

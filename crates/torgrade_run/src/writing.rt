@@ -1,9 +1,10 @@
 //! What a grading writes, a line at a time.
-ghost use Rattle.std.specs.Prelude.{◌≡◌, ◌≢◌, ◌⊎◌, ◌≤◌, ◌++◌, OnOk, OnErr, IfOk};
+ghost use Rattle.std.specs.Prelude.{◌≡◌, ◌⊎◌, ◌++◌, OnOk, OnErr, IfOk};
 ghost use Rattle.std.specs.Io.KnownBytes.{append_known};
-ghost use Rattle.tor_io.specs.Counts.{HasCause, Rose};
+ghost use Rattle.tor_io.specs.Counts.{HasCause};
 ghost use Rattle.tor_io.specs.Contents.{GainsPrefix, PassesOn};
 ghost use Rattle.run_base.specs.Answers.{note_in};
+ghost use Rattle.run_base.specs.Frames.{RunLeavesOut};
 ghost use Rattle.run_base.specs.Notes.{plain_note};
 ghost use Rattle.torgrade_run.specs.GradeText.{grade_line, graded_lines, grades_of, grades_text, totals_of, totals_line, cone_text};
 ghost use Rattle.torgrade_run.specs.GradeText.{grading_text};
@@ -169,9 +170,7 @@ pub(crate) fn write_graded<O: Sink>(alloc: Global, graded: &Graded, out: &mut O)
     ensures cut_off { result.status ≡ Status.WriteFault → GainsPrefix (O.held out.old) (O.held out.new) (text_of graded.now) }
     ensures nothing { result.status ≡ Status.NoMemory → out.new ≡ out.old }
     ensures note { note_in result ≡ plain_note result.status }
-    ensures write_fault { result.status ≡ Status.WriteFault → Rose (O.faults out.old) (O.faults out.new) }
-    ensures later { O.faults out.old ≤ O.faults out.new }
-    ensures no_lost_write { result.status ≢ Status.WriteFault → O.faults out.new ≡ O.faults out.old }
+    ensures leaves_out { RunLeavesOut O.Sink result.status out.old out.new }
 {
     let Ok(mut buffer) = Buffer::new(alloc) else {
         return Answer::plain(Status::NoMemory);

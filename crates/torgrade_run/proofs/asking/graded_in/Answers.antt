@@ -1,4 +1,6 @@
-use Rattle.torgrade_run.proofs.Ungradings.{file_graded, file_ungraded}
+use Rattle.std.proofs.Common.{Err, ap}
+use Rattle.torgrade_run.proofs.Reaching.{reach-behind, reach-unread}
+use Rattle.torgrade_run.proofs.Ungradings.{file_graded, file_of_some, file_ungraded}
 use Rattle.torgrade_run.proofs.asking.graded_in.Goals as goal
 
 pub returns-in-Ok-clause-graded : goal.returns-in-Ok-clause-graded
@@ -13,3 +15,18 @@ returns-in-Ok-clause-ungraded g c =
     file_ungraded (shelf.files c.args.shelf.now) (shelf.files c.read_whole.new.shelf) (shelf.steady c.args.shelf.now) (shelf.steady c.read_whole.new.shelf)
     c.args.settings.now c.in-Ok.bytes c.as_text.result.now c.graded_from.result
     c.as_text.ensures c.in-Ok.ensures.files c.in-Ok.ensures.steady c.in-Ok.ensures.read c.in-Ok.ensures.short c.graded_from.ensures.ungraded
+
+pub returns-in-Ok-clause-of_some : goal.returns-in-Ok-clause-of_some
+returns-in-Ok-clause-of_some g c = file_of_some c.args.settings.now c.in-Ok.bytes c.graded_from.result c.in-Ok.ensures.short c.graded_from.ensures.of_some
+
+pub returns-in-Ok-clause-reach : goal.returns-in-Ok-clause-reach
+returns-in-Ok-clause-reach g c =
+    let shelf = g.H.Shelf in
+    reach-behind c.args.settings.now (shelf.files c.args.shelf.now) (shelf.files c.read_whole.new.shelf) (shelf.left c.graded_from.new.shelf) c.graded_from.result
+    c.in-Ok.ensures.files (c.graded_from.ensures.reach c.in-Ok.ensures.read_out)
+
+pub returns-in-Err-clause-reach : goal.returns-in-Err-clause-reach
+returns-in-Err-clause-reach g c =
+    let shelf = g.H.Shelf in
+    reach-unread c.args.settings.now (shelf.files c.args.shelf.now) (shelf.left c.read_whole.new.shelf) c.as_text.result.now c.in-Err.unread
+    c.as_text.ensures (λ is. c.in-Err.ensures.rest (ap (λ e. Err e) is)) c.in-Err.ensures.unread

@@ -1,0 +1,7 @@
+//! The law of outcomes.
+ghost use Rattle.torgrade_run.specs.Outcomes.{OneOutcomeLaw};
+
+/// Words and files give one outcome at most: known relationships and what all dumps gave, or why there are none.
+pub fn one_outcome_law()
+    ensures { OneOutcomeLaw }
+{}
