@@ -155,6 +155,69 @@ fn main(rt: HostRuntime) -> Result<()> {
     Ok(())
 }
 RUST
+cat > "$bench/proofs/Givens.antt" <<'ANTT'
+-- One given more.
+use Rattle.std.proofs.Common.{◌≡◌, ◌≢◌, ℕ, ◌+◌, ◌<◌, not, true, false, Bool, List, [], ◌∷◌, ◌++◌, get_or, map, take, length, Some, slice_get, refl, sym, ap, ◌∙◌, subst, All, Contains, IsTrue}
+use Rattle.std.specs.List.{AllPairs, list_any}
+use Rattle.std.proofs.lemmas.Bool.{false≢true}
+use Rattle.std.proofs.lemmas.List.{map-append}
+use Rattle.std.proofs.lemmas.List.Elements.{All-append, All-from_recursion, Contains-get_or}
+use Rattle.std.proofs.lemmas.List.Quantifiers.{all_pairs_push}
+use Rattle.tor_arena.proofs.Gets.{Contains-map, take_get}
+use Rattle.tor_numbers.specs.Edges.{with_edge}
+use Rattle.relationships.specs.declared.given.Given.{Given}
+use Rattle.relationships.specs.Graph.{Edge, edge_of, is_same}
+use Rattle.relationships.specs.Givens.{NameTwo, NameOnce}
+use Rattle.relationships.proofs.GivenLemmas.{any_there}
+
+abbrev pub edge_on : Given → Edge
+edge_on g = edge_of g.over g.under
+
+-- the edges are those of the givens, each of two ASes and no two of the same two
+pub record AreGivens (edges : List Edge) (givens : List Given) : Type 0 where
+  pub its_edges : edges ≡ map edge_on givens
+  pub two : NameTwo givens
+  pub once : NameOnce givens
+
+module _ (givens : List Given) (g : Given) (apart : g.over ≢ g.under) (absent : list_any (is_same (edge_on g)) (map edge_on givens) ≡ false) where
+  differs : (k : ℕ) (d : Given) → k < length givens → edge_on (get_or givens k d) ≢ edge_on g
+  differs k d lt same =
+      let there = Contains-map edge_on givens (get_or givens k d) (Contains-get_or givens k d lt) in
+      false≢true (sym absent ∙ any_there (map edge_on givens) (edge_on g) (subst (Contains (map edge_on givens)) same there))
+
+  two_more : NameTwo givens → NameTwo (givens ++ g ∷ [])
+  two_more h = All-append (λ g. g.over ≢ g.under) givens (g ∷ []) h (All-from_recursion (λ g. g.over ≢ g.under) (g ∷ []) (apart, tt))
+
+  once_more : NameOnce givens → NameOnce (givens ++ g ∷ [])
+  once_more h = all_pairs_push (λ g h. edge_on g ≢ edge_on h) givens g h differs
+
+  edges_more : (edges : List Edge) → edges ≡ map edge_on givens → with_edge edges (edge_on g) ≡ map edge_on (givens ++ g ∷ [])
+  edges_more edges is = rw (is, absent) (sym (map-append edge_on givens (g ∷ [])))
+
+pub given_more : (all : List Given) (k : ℕ) (g : Given) (old new : List Edge) (is_new : Bool) → slice_get all k ≡ Some g → g.over ≢ g.under →
+    new ≡ with_edge old (edge_on g) → is_new ≡ not (list_any (is_same (edge_on g)) old) → is_new ≡ true → AreGivens old (take k all) → AreGivens new (take (k + 1) all)
+given_more all k g old new is_new at apart added said yes h =
+    let absent : list_any (is_same (edge_on g)) (map edge_on (take k all)) ≡ false =
+    subst (λ es. list_any (is_same (edge_on g)) es ≡ false) h.its_edges (off (list_any (is_same (edge_on g)) old) (sym said ∙ yes)) in
+    subst (AreGivens new) (sym (take_get all k g at)) (record {
+      its_edges = added ∙ edges_more (take k all) g apart absent old h.its_edges;
+      two = two_more (take k all) g apart absent h.two;
+      once = once_more (take k all) g apart absent h.once;
+    })
+  where
+    off : (b : Bool) → not b ≡ true → b ≡ false
+    off true h = absurd (false≢true h)
+    off false h = refl
+ANTT
+echo 'pub mod Givens' > "$bench/proofs/Lib.antt"
+cat > "$bench/proofs/are_givens/Invariants.antt" <<'ANTT'
+use Rattle.std.proofs.Common.{take}
+use Rattle.given_bench.proofs.Givens.{AreGivens}
+use Rattle.given_bench.proofs.are_givens.Given as goal
+
+abbrev pub invariant-loop-place : goal.invariant-loop-place
+invariant-loop-place l = AreGivens l.edges (take l.place l.givens)
+ANTT
 if [ -n "${PLACE:-}" ]; then exit; fi
 (cd "$bench" && rt run > /dev/null < /dev/null)
 python3 "$top/bench/given.py" "$bench/out/given_bench" "$@"

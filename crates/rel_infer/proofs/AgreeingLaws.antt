@@ -1,5 +1,5 @@
 -- What stands behind the returns of givens, said of the orientations that agree with these; and the line of an edge that a given names.
-use Rattle.std.proofs.Common.{◌≡◌, ◌↔◌, ℕ, ◌≤◌, ◌∙◌, min, max, inl, inr, true, false, Bool, List, [], ◌∷◌, ◌++◌, map, Option, if◌then◌else◌, refl, sym, ap, ap₂, subst, arith}
+use Rattle.std.proofs.Common.{◌≡◌, ◌≢◌, ◌↔◌, ℕ, ◌≤◌, ◌∙◌, min, max, inl, inr, true, false, Bool, List, [], ◌∷◌, ◌++◌, map, Option, if◌then◌else◌, refl, sym, ap, ap₂, subst, arith}
 use Rattle.std.proofs.Common.{append-nil, append_assoc, lt-ltb, le-ltb, All, Contains, IsTrue}
 use Rattle.std.specs.List.{AllByRecursion}
 use Rattle.std.proofs.lemmas.Bool.{false≢true}
@@ -16,17 +16,19 @@ use Rattle.relationships.specs.Selection.{KeepsFrom, IsServable, IsForced}
 use Rattle.relationships.specs.Preference.{IsPreferred}
 use Rattle.relationships.specs.Checking.{Claim, kept_of, claimed_labels}
 use Rattle.relationships.specs.Marking.{is_forced}
+use Rattle.relationships.specs.GivenEvidence.{MeetsAgreeingRules}
 use Rattle.relationships.specs.Givens.{names_edge, LabelsSay, return_of, returns, NameTwo, NameOnce, end_by}
 use Rattle.relationships.proofs.Slopes.{over_parts}
 use Rattle.relationships.proofs.Neighbours.{edge_law}
 use Rattle.relationships.proofs.Checked.{label_of_claim}
 use Rattle.relationships.proofs.GivenLemmas.{any_there, return_free, return_holds, all_parts, given_serving_law, all_givens_law}
 use Rattle.relationships.proofs.GivenPeerings.{given_forced_law}
+use Rattle.relationships.proofs.AgreeingRules.{agreeing_rules_law}
 use Rattle.result_text.specs.declared.file.EdgeLine.{EdgeLine}
 use Rattle.result_rules.specs.File.{claim_on}
 use Rattle.rel_infer.specs.Agreeing.{AgreesOnEdges, AgreesWithAll, KeepsAmong, IsForcedAmong, IsPreferredAmong}
 use Rattle.rel_infer.specs.GivenResults.{IsInferredWith}
-use Rattle.rel_infer.specs.GivenLaws.{AgreeingLaw, AllAgreeingLaw, GivenLineLaw}
+use Rattle.rel_infer.specs.GivenLaws.{AgreeingLaw, AllAgreeingLaw, GivenLineLaw, GivenRulesMetLaw}
 use Rattle.rel_infer.proofs.LineLemmas.{pairs_same}
 
 -- ---- to serve what stands in front and some paths is to be admitted and to serve these
@@ -231,3 +233,22 @@ given_line_law givens ratio paths walks lines whys probes i g there =
           (All-contains (λ line. IsTrue (is_forced line.mark) ↔ IsForced (returns paths givens ++ kept) line.low line.high) lines line i.forced c).1 forced,
           sym claimed ∙ ap₂ L low high ∙ over_label L g.over g.under says,
         )
+
+-- ---- the rules with givens
+
+pub given_rules_met_law : GivenRulesMetLaw
+given_rules_met_law givens ratio paths walks lines whys probes two once differ i =
+    (rules, All-weaker (Contains lines) (λ line. IsTrue (is_forced line.mark) → line.label ≢ Label.Peer)
+        (λ line c. (agreeing_rules_law givens paths walks (map claim_on lines) whys probes rules).2 (claim_on line) (Contains-map claim_on lines line c)) lines (All-contains_itself lines))
+  where
+    rules : MeetsAgreeingRules givens paths walks (map claim_on lines) whys probes
+    rules = record {
+      two = two;
+      once = once;
+      neighbours_differ = differ;
+      lost = i.lost;
+      each_edge = pairs_same lines ∙ i.edges_listed;
+      agrees = i.agrees;
+      valley_free = i.valley_free;
+      marks = i.evidence;
+    }

@@ -1,22 +1,25 @@
 -- The result under givens: it is the result of before where nothing is given, and one but for its evidence, which alone depends on givens
 -- that name no edge; what it says is said of the orientations that agree with the givens; and an edge that a given names has its line.
 -- Each law is proved as the contract of a function in src/given_laws.rt.
-use Rattle.std.specs.Prelude.{◌≡◌, ◌↔◌, ℕ, Bool, List, [], ◌++◌, Option, map, filter, is_none, All, Contains, IsTrue}
+use Rattle.std.specs.Prelude.{◌≡◌, ◌≢◌, ◌↔◌, ℕ, Bool, List, [], ◌++◌, Option, map, filter, is_none, All, Contains, IsTrue}
 use Rattle.path_clean.specs.declared.cleaned.Sets.{Sets}
 use Rattle.path_clean.specs.Counts.{CauseCounts}
 use Rattle.path_clean.specs.Rows.{Counted, row_paths}
 use Rattle.relationships.specs.declared.label.End.{End}
+use Rattle.relationships.specs.declared.label.Label.{Label}
 use Rattle.relationships.specs.declared.given.Given.{Given}
 use Rattle.relationships.specs.declared.walk.Walk.{Walk}
 use Rattle.relationships.specs.Relationship.{Orientation, label_of}
 use Rattle.relationships.specs.Graph.{Edge, edge_of, edges}
+use Rattle.relationships.specs.Evidence.{NeighboursDiffer}
 use Rattle.relationships.specs.Selection.{KeepsFrom, IsForced}
 use Rattle.relationships.specs.Preference.{IsPreferred}
 use Rattle.relationships.specs.Marking.{is_forced}
+use Rattle.relationships.specs.GivenEvidence.{MeetsAgreeingRules}
 use Rattle.relationships.specs.Givens.{names_edge, return_of, returns, NameTwo, NameOnce, end_by}
 use Rattle.result_text.specs.declared.file.EdgeLine.{EdgeLine}
 use Rattle.result_text.specs.declared.file.ResultFile.{ResultFile}
-use Rattle.result_rules.specs.File.{its_walks}
+use Rattle.result_rules.specs.File.{its_walks, claim_on}
 use Rattle.rel_infer.specs.Agreeing.{AgreesOnEdges, AgreesWithAll, KeepsAmong, IsForcedAmong, IsPreferredAmong}
 use Rattle.rel_infer.specs.GivenResults.{IsInferredWith, IsResultWith}
 use Rattle.rel_infer.specs.Results.{IsInferred, IsResultOf}
@@ -78,3 +81,12 @@ GivenLineLaw =
     (probes : List (ℕ × ℕ)) → IsInferredWith givens ratio paths walks lines whys probes → (g : Given) → Contains givens g →
     All (λ line. (line.low, line.high) ≡ edge_of g.over g.under →
     IsTrue (is_forced line.mark) × (line.label ≡ label_of (end_by g.over g.under))) lines
+
+-- what is inferred meets the rules with givens, so no edge that is marked forced is a peering
+abbrev pub GivenRulesMetLaw : Type 0
+GivenRulesMetLaw =
+    (givens : List Given) (ratio : ℕ) (paths : List (List ℕ)) (walks : List (Option Walk)) (lines : List EdgeLine) (whys : List Walk)
+    (probes : List (ℕ × ℕ)) → NameTwo givens → NameOnce givens → All NeighboursDiffer paths →
+    IsInferredWith givens ratio paths walks lines whys probes →
+    MeetsAgreeingRules givens paths walks (map claim_on lines) whys probes ×
+    All (λ line. IsTrue (is_forced line.mark) → line.label ≢ Label.Peer) lines

@@ -1,7 +1,7 @@
 //! Laws of the result under givens, each as the contract of a function that does nothing.
 
 ghost use Rattle.rel_infer.specs.GivenLaws.{NoGivensResultLaw, GivenInferenceLaw, GivenResultLaw, AgreeingLaw, AllAgreeingLaw};
-ghost use Rattle.rel_infer.specs.GivenLaws.{GivenLineLaw};
+ghost use Rattle.rel_infer.specs.GivenLaws.{GivenLineLaw, GivenRulesMetLaw};
 
 /// Where nothing is given, what is inferred under givens is what is inferred, and the result is that of before.
 pub fn no_givens_result_law()
@@ -34,4 +34,9 @@ pub fn all_agreeing_law()
 /// The line of an edge that a given names says that it is forced and which provider is given, also where no kept path holds it.
 pub fn given_line_law()
     ensures { GivenLineLaw }
+{}
+
+/// What is inferred under givens meets the rules of a checker with givens, so no edge that is marked forced is a peering.
+pub fn given_rules_met_law()
+    ensures { GivenRulesMetLaw }
 {}

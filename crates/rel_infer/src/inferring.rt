@@ -16,7 +16,7 @@ use crate::finding::{Found, found_in};
 use crate::relinking::{relinked_fates, relinked_walks};
 use crate::returns::{numbers_of, places_behind};
 use as_graph::{AsGraph, build_with};
-use path_select::{Selector, select_behind};
+use path_select::{Selection, Selector, select_behind};
 use relationships::{Fates, Given};
 use std::alloc::Global;
 use tor_arena::{Keys, List, NoMemory, PathId, Rows};
@@ -60,6 +60,32 @@ fn found_behind(
     found_in(alloc, graph, selector, counted, ratio)
 }
 
+// What becomes of the paths that were selected, and what is found of the edges, where the paths that the selector has kept are kept, and
+// all but the first of them, so many, are counted.
+fn inferred_by(
+    alloc: Global,
+    graph: &AsGraph,
+    selection: Selection,
+    first: usize,
+    ratio: u32,
+) -> Result<Inferred, NoMemory>
+    requires fits { FitsGraph graph.now selection.selector.formula }
+    requires apart { AllPairs ◌≢◌ selection.selector.formula.paths }
+    requires first { first ≤ length selection.selector.formula.paths }
+    requires there { All (λ path. path < length graph.now) (drop first selection.selector.formula.paths) }
+    requires once { AllPairs ◌≢◌ (drop first selection.selector.formula.paths) }
+    requires distinct { All AllDistinct (paths_at graph.now (drop first selection.selector.formula.paths)) }
+    requires small { ratio ≤ max_ratio }
+    ensures { IfOk result (λ inferred. (inferred.fates ≡ selection.fates) ×
+        AreFound ratio graph.now selection.selector.formula (drop first selection.selector.formula.paths) inferred.found) }
+{
+    let found = found_behind(alloc, graph, &selection.selector, first, ratio)?;
+    Ok(Inferred {
+        fates: selection.into_fates(),
+        found,
+    })
+}
+
 // What is inferred from the first paths of a graph, so many, behind all others, whose places are `first`: these are kept, and not
 // counted.
 fn inferred_in(
@@ -78,11 +104,7 @@ fn inferred_in(
     ensures { IfOk result (AreInferredIn ratio graph.now first.now count) }
 {
     let selection = select_behind(alloc, keys, graph, first, count)?;
-    let found = found_behind(alloc, graph, &selection.selector, first.len(), ratio)?;
-    Ok(Inferred {
-        fates: selection.into_fates(),
-        found,
-    })
+    inferred_by(alloc, graph, selection, first.len(), ratio)
 }
 
 // The same behind all others of the graph.
