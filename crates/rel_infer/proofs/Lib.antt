@@ -1,3 +1,4 @@
+pub mod AgreeingLaws
 pub mod Acceptance
 pub mod Assembling
 pub mod Together

@@ -1,5 +1,5 @@
 -- What is inferred under givens is determined, but for the evidence.
-use Rattle.std.proofs.Common.{◌≡◌, ◌≢◌, ◌↔◌, ℕ, List, ◌++◌, map, is_none, sym, ap, ◌∙◌, subst, All, Contains, IsTrue}
+use Rattle.std.proofs.Common.{◌≡◌, ◌≢◌, ◌↔◌, ℕ, List, ◌++◌, map, filter, is_none, sym, ap, ◌∙◌, subst, All, Contains, IsTrue}
 use Rattle.std.specs.List.{AllPairs}
 use Rattle.std.proofs.lemmas.List.Elements.{All-contains, All-append}
 use Rattle.relationships.specs.declared.given.Given.{Given}
@@ -10,17 +10,19 @@ use Rattle.relationships.specs.Evidence.{paths_of, kept_from}
 use Rattle.relationships.specs.Selection.{KeepsFrom, IsForced}
 use Rattle.relationships.specs.Preference.{IsPreferred, lead, wanted}
 use Rattle.relationships.specs.Marking.{is_forced}
-use Rattle.relationships.specs.Givens.{AgreesWith, return_of, returns}
+use Rattle.relationships.specs.Givens.{AgreesWith, names_edge, return_of, returns}
 use Rattle.relationships.proofs.Checked.{reading, reading_serves}
 use Rattle.relationships.proofs.Preferring.{preference_law}
 use Rattle.relationships.proofs.Neighbours.{edge_law}
 use Rattle.relationships.proofs.Selecting.{selection_behind_law}
 use Rattle.relationships.proofs.GivenLemmas.{agrees_free, given_serving_law}
 use Rattle.relationships.proofs.GivenPeerings.{edge_among, given_relabelling_law}
+use Rattle.path_clean.specs.Rows.{row_paths as counted_paths}
+use Rattle.result_rules.specs.File.{its_paths, its_walks, its_probes}
 use Rattle.rel_infer.specs.Finding.{AreLabelsBy}
-use Rattle.rel_infer.specs.GivenResults.{AreLabelsWith}
-use Rattle.rel_infer.specs.GivenLaws.{GivenInferenceLaw}
-use Rattle.rel_infer.proofs.OneResult.{one_settling, one_orientation, one_relabelling, one_list, kept_edge, labels_by}
+use Rattle.rel_infer.specs.GivenResults.{AreLabelsWith, IsInferredWith}
+use Rattle.rel_infer.specs.GivenLaws.{GivenInferenceLaw, GivenResultLaw}
+use Rattle.rel_infer.proofs.OneResult.{one_settling, one_orientation, one_relabelling, one_list, kept_edge, labels_by, paths_in, same_totals}
 
 -- labels with the givens are labels by votes and by what is served
 labels_behind : (givens : List Given) (ratio : ℕ) (paths kept : List (List ℕ)) (L : Labelling) → ((e : Edge) → Contains (edges kept) e → Contains (edges paths) e) →
@@ -77,3 +79,15 @@ given_inference_law givens givens' ratio paths walks walks' lines lines' whys wh
           (λ e c. one_labelling_by ratio paths (begun ++ kept) kept (labels_by lines) (labels_by lines') (edge_among givens paths kept among) a a' e
           (subst (λ es. Contains es e) r.edges_listed c)) r.supports supports' r.forced forced',
     )
+
+pub given_result_law : GivenResultLaw
+given_result_law givens givens' sets ratio rows counts file file' same r r' =
+    let mine : counted_paths rows ≡ its_paths file = ap counted_paths (sym r.paths) ∙ paths_in file.paths in
+    let paths : its_paths file ≡ its_paths file' = sym mine ∙ ap counted_paths (sym r'.paths) ∙ paths_in file'.paths in
+    let inferred' : IsInferredWith givens' ratio (its_paths file) (its_walks file') file'.edges file'.whys (its_probes file') =
+    subst (λ ps. IsInferredWith givens' ratio ps (its_walks file') file'.edges file'.whys (its_probes file')) (sym paths) r'.inferred in
+    let near = subst (λ ps. filter (names_edge ps) givens ≡ filter (names_edge ps) givens') mine same in
+    let both =
+    given_inference_law givens givens' ratio (its_paths file) (its_walks file) (its_walks file') file.edges file'.edges file.whys file'.whys
+    (its_probes file) (its_probes file') near r.inferred inferred' in
+    (r.its_counts ∙ sym r'.its_counts, both.0, both.1, r.totals ∙ same_totals file file' both.0 both.1 ∙ sym r'.totals)

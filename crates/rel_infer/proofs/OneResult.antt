@@ -320,7 +320,7 @@ one_inference_law ratio paths walks walks' lines lines' whys whys' probes probes
 
 -- ---- the result
 
-paths_in : (lines : List PathLine) → counted_paths (map row_of lines) ≡ map (λ p. p.path) lines
+pub paths_in : (lines : List PathLine) → counted_paths (map row_of lines) ≡ map (λ p. p.path) lines
 paths_in [] = refl
 paths_in (line ∷ lines) = ap (λ ps. line.path ∷ ps) (paths_in lines)
 
@@ -333,7 +333,7 @@ flag_count q lines =
     sym (count-map (λ (p : PathLine). p.fate) (λ fate. q (is_kept fate)) lines) ∙
     count-map (λ (p : PathLine). walk_of p.fate) (λ (w : Option Walk). q (is_none w)) lines ∙ count-map (λ (w : Option Walk). is_none w) q (map (λ (p : PathLine). walk_of p.fate) lines)
 
-same_totals : (file file' : ResultFile) → flags_of file.paths ≡ flags_of file'.paths → file.edges ≡ file'.edges → right_totals file ≡ right_totals file'
+pub same_totals : (file file' : ResultFile) → flags_of file.paths ≡ flags_of file'.paths → file.edges ≡ file'.edges → right_totals file ≡ right_totals file'
 same_totals file file' flags es =
     let same : (q : Bool → Bool) → count_by (λ fate. q (is_kept fate)) (map (λ (p : PathLine). p.fate) file.paths) ≡ count_by (λ fate. q (is_kept fate)) (map (λ (p : PathLine). p.fate) file'.paths) =
     λ q. flag_count q file.paths ∙ ap (count_by q) flags ∙ sym (flag_count q file'.paths) in

@@ -1,3 +1,4 @@
+pub mod Agreeing
 pub mod EdgeLines
 pub mod Finding
 pub mod GivenLaws

@@ -1,5 +1,5 @@
 //! What is inferred from distinct paths.
-ghost use Rattle.std.specs.Prelude.{◌≡◌, ◌≢◌, ◌-◌, ◌≤◌, ◌<◌, [], All, drop, length, sum_by, take, IfOk};
+ghost use Rattle.std.specs.Prelude.{◌≡◌, ◌≢◌, ◌-◌, ◌≤◌, ◌<◌, [], All, drop, length, sum_by, take, IfOk, OnOk};
 ghost use Rattle.std.specs.List.{AllPairs};
 ghost use Rattle.tor_arena.specs.Distinct.{AllDistinct};
 ghost use Rattle.tor_arena.specs.Limits.{max_numbers, max_paths, max_ratio};
@@ -16,7 +16,7 @@ use crate::finding::{Found, found_in};
 use crate::relinking::{relinked_fates, relinked_walks};
 use crate::returns::{numbers_of, places_behind};
 use as_graph::{AsGraph, build_with};
-use path_select::{Selector, select_behind};
+use path_select::{Selection, Selector, select_behind};
 use relationships::{Fates, Given};
 use std::alloc::Global;
 use tor_arena::{Keys, List, NoMemory, PathId, Rows};
@@ -60,6 +60,32 @@ fn found_behind(
     found_in(alloc, graph, selector, counted, ratio)
 }
 
+// What becomes of the paths that were selected, and what is found of the edges, where the paths that the selector has kept are kept, and
+// all but the first of them, so many, are counted.
+fn inferred_by(
+    alloc: Global,
+    graph: &AsGraph,
+    selection: Selection,
+    first: usize,
+    ratio: u32,
+) -> Result<Inferred, NoMemory>
+    requires fits { FitsGraph graph.now selection.selector.formula }
+    requires apart { AllPairs ◌≢◌ selection.selector.formula.paths }
+    requires first { first ≤ length selection.selector.formula.paths }
+    requires there { All (λ path. path < length graph.now) (drop first selection.selector.formula.paths) }
+    requires once { AllPairs ◌≢◌ (drop first selection.selector.formula.paths) }
+    requires distinct { All AllDistinct (paths_at graph.now (drop first selection.selector.formula.paths)) }
+    requires small { ratio ≤ max_ratio }
+    ensures { IfOk result (λ inferred. (inferred.fates ≡ selection.fates) ×
+        AreFound ratio graph.now selection.selector.formula (drop first selection.selector.formula.paths) inferred.found) }
+{
+    let found = found_behind(alloc, graph, &selection.selector, first, ratio)?;
+    Ok(Inferred {
+        fates: selection.into_fates(),
+        found,
+    })
+}
+
 // What is inferred from the first paths of a graph, so many, behind all others, whose places are `first`: these are kept, and not
 // counted.
 fn inferred_in(
@@ -78,11 +104,25 @@ fn inferred_in(
     ensures { IfOk result (AreInferredIn ratio graph.now first.now count) }
 {
     let selection = select_behind(alloc, keys, graph, first, count)?;
-    let found = found_behind(alloc, graph, &selection.selector, first.len(), ratio)?;
-    Ok(Inferred {
-        fates: selection.into_fates(),
-        found,
-    })
+    inferred_by(alloc, graph, selection, first.len(), ratio)
+}
+
+// The same behind all others of the graph.
+fn inferred_after(
+    alloc: Global,
+    keys: Keys,
+    graph: &AsGraph,
+    count: usize,
+    ratio: u32,
+) -> Result<Inferred, NoMemory>
+    requires count { count ≤ length graph.now }
+    requires servable { IsServable (paths_at graph.now (places_from count (length graph.now - count))) }
+    requires distinct { All AllDistinct (take count graph.now) }
+    requires small { ratio ≤ max_ratio }
+    ensures { IfOk result (AreInferredIn ratio graph.now (places_from count (length graph.now - count)) count) }
+{
+    let first = places_behind(alloc, graph, count)?;
+    inferred_in(alloc, keys, graph, first.as_slice(), count, ratio)
 }
 
 // What is inferred from distinct paths under givens, before the links into rows of returns are changed. The numbers of the givens of
@@ -107,40 +147,30 @@ fn inferred_behind(
     ensures { IfOk result (IsUnlinked givens.now ratio paths.now numbers.new) }
 {
     let graph = build_with(alloc, keys, paths, givens)?;
-    let count = paths.len();
     numbers_of(&graph, givens, numbers)?;
-    let first = places_behind(alloc, &graph, count)?;
-    inferred_in(alloc, keys, &graph, first.as_slice(), count, ratio)
+    inferred_after(alloc, keys, &graph, paths.len(), ratio)
 }
 
-// The same with links into rows of returns, which stand behind so many paths, changed to name the givens of these numbers.
-fn relinked(
+// Links into rows of returns, which stand behind so many paths, are changed to name the givens of these numbers.
+fn name_givens(
     alloc: Global,
-    inferred: Inferred,
+    inferred: &mut Inferred,
     paths: usize,
     numbers: &[u32],
-) -> Result<Inferred, NoMemory>
-    requires few { length inferred.fates ≤ max_paths }
+) -> Result<(), NoMemory>
+    requires few { length inferred.old.fates ≤ max_paths }
     requires paths { paths ≤ max_paths }
-    ensures { IfOk result (IsRelinked paths numbers.now inferred) }
+    ensures { OnOk result (IsRelinked paths numbers.now inferred.old inferred.new) }
 {
-    let fates = relinked_fates(alloc, &inferred.fates, paths as u32, numbers)?;
-    let found = inferred.found;
-    let whys = relinked_walks(alloc, &found.whys, paths as u32, numbers)?;
-    Ok(Inferred {
-        fates,
-        found: Found {
-            edges: found.edges,
-            whys,
-            probes: found.probes,
-        },
-    })
+    inferred.fates = relinked_fates(alloc, &inferred.fates, paths as u32, numbers)?;
+    inferred.found.whys = relinked_walks(alloc, &inferred.found.whys, paths as u32, numbers)?;
+    Ok(())
 }
 
-// The same where no relationship is given: there is no such link.
+// What is inferred, with its links so changed. Where no relationship is given, there is no such link.
 fn relinked_if_given(
     alloc: Global,
-    inferred: Inferred,
+    mut inferred: Inferred,
     paths: usize,
     givens: &[Given],
     numbers: &[u32],
@@ -149,10 +179,10 @@ fn relinked_if_given(
     requires paths { paths ≤ max_paths }
     ensures { IfOk result (IsLinked paths givens.now numbers.now inferred) }
 {
-    if givens.is_empty() {
-        return Ok(inferred);
+    if !givens.is_empty() {
+        name_givens(alloc, &mut inferred, paths, numbers)?;
     }
-    relinked(alloc, inferred, paths, numbers)
+    Ok(inferred)
 }
 
 /// What is inferred from distinct paths under givens. Each path has at least two ASes, all distinct; there are at most 2^23 paths, of at

@@ -1,5 +1,5 @@
 //! Links into rows of returns, changed to name givens.
-ghost use Rattle.std.specs.Prelude.{◌≡◌, ◌≤◌, length, map, slice_index_or, IfOk, OnOk};
+ghost use Rattle.std.specs.Prelude.{◌≡◌, ◌+◌, ◌≤◌, ◌<◌, length, map, slice_index_or, take, IfOk, OnOk};
 ghost use Rattle.tor_arena.specs.Limits.{max_paths};
 ghost use Rattle.relationships.specs.GivenEvidence.{given_link, with_given_links};
 ghost use Rattle.rel_infer.specs.Returns.{AreRelinked};
@@ -65,6 +65,28 @@ pub(crate) fn relinked_walks(
     Ok(relinked)
 }
 
+// The fate of a path, with its links so changed, is put behind those of the paths before it. `links` is for use within.
+fn relink_fate(
+    fates: &Fates,
+    path: PathId,
+    paths: u32,
+    numbers: &[u32],
+    links: &mut List<Link>,
+    relinked: &mut Fates,
+) -> Result<(), NoMemory>
+    requires there { path < length fates.now }
+    requires before { AreRelinked paths numbers.now (take path fates.now) relinked.old }
+    ensures { OnOk result (AreRelinked paths numbers.now (take (path + 1) fates.now) relinked.new) }
+{
+    match fates.walk(path) {
+        None => relinked.push_kept(),
+        Some(walk) => {
+            relink(walk.links(), paths, numbers, links)?;
+            relinked.push_lost(walk.ases(), links.as_slice())
+        }
+    }
+}
+
 /// The fates with the links of their walks so changed.
 pub(crate) fn relinked_fates(
     alloc: Global,
@@ -78,13 +100,8 @@ pub(crate) fn relinked_fates(
     let mut links = List::new(alloc);
     let mut relinked = Fates::new(alloc);
     for place in 0..fates.len() {
-        match fates.walk(PathId::from_place(place).unwrap()) {
-            None => relinked.push_kept()?,
-            Some(walk) => {
-                relink(walk.links(), paths, numbers, &mut links)?;
-                relinked.push_lost(walk.ases(), links.as_slice())?;
-            }
-        }
+        let path = PathId::from_place(place).unwrap();
+        relink_fate(fates, path, paths, numbers, &mut links, &mut relinked)?;
     }
     Ok(relinked)
 }

@@ -6,10 +6,10 @@ ghost use Rattle.rel_infer.specs.GivenResults.{max_givens};
 use crate::tables::{THREE_PATHS, table_of};
 use path_clean::{Asides, Sets};
 use rel_infer::{ResultHead, result_of, result_with};
-use relationships::{Given, Label, Mark};
+use relationships::{Given, Label, Link, Mark, WalkRef};
 use result_text::{EdgeLine, ResultFile, Totals};
 use std::alloc::Global;
-use tor_arena::{Index, Keys, NoMemory, WalkId};
+use tor_arena::{Index, Keys, NoMemory, PathId, WalkId};
 
 static TWO_PATHS: [&[u32]; 2] = [&[10, 20, 30], &[40, 20, 30]];
 
@@ -109,6 +109,75 @@ fn a_path_against_two_givens_is_lost(rt: HostRuntime) {
     assert_eq!(rt; first.links()[0].at, 1);
 }
 
+// Whether the link fits these three, where 10 over 20 and 30 over 20 are given, and the first path is 10 20 30.
+fn fits(link: Link, x: u32, y: u32, z: u32) -> bool {
+    match (link.path, link.at) {
+        (0, 1) => (x, y, z) == (20, 10, 20),
+        (0, 2) => (x, y, z) == (20, 30, 20),
+        (1, 2) => (x, y, z) == (10, 20, 30) || (x, y, z) == (30, 20, 10),
+        _ => false,
+    }
+}
+
+// Whether each link fits, and the walk comes from its first order to the opposite and back.
+fn refutes(walk: &WalkRef<'_>) -> bool {
+    let ases = walk.ases();
+    let links = walk.links();
+    if ases.len() < 2 || ases.len() - 2 != links.len() {
+        return false;
+    }
+    for place in 0..links.len() {
+        if !fits(links[place], ases[place], ases[place + 1], ases[place + 2]) {
+            return false;
+        }
+    }
+    let mut has_turned = false;
+    for place in 1..ases.len() {
+        has_turned |= ases[place - 1] == ases[1] && ases[place] == ases[0];
+    }
+    has_turned && ases[0] != ases[1] && ases[ases.len() - 2..] == ases[..2]
+}
+
+// Whether a link of the walk is this one.
+fn names(walk: &WalkRef<'_>, path: u32, at: u32) -> bool {
+    for link in walk.links() {
+        if *link == (Link { path, at }) {
+            return true;
+        }
+    }
+    false
+}
+
+// Whether the first path is lost by a walk that refutes, and that names both givens and the middle of the path.
+fn walk_of_the_first(file: &ResultFile) -> [bool; 4] {
+    if file.paths.len() == 0 {
+        return [false; 4];
+    }
+    let line = file.paths.get(PathId::from_place(0).unwrap());
+    match line.walk() {
+        None => [false; 4],
+        Some(walk) => [refutes(walk), names(walk, 0, 1), names(walk, 0, 2), names(walk, 1, 2)],
+    }
+}
+
+#[test]
+fn its_walk_names_both_givens_and_the_path(rt: HostRuntime) {
+    let givens = [
+        Given {
+            over: 10,
+            under: 20,
+        },
+        Given {
+            over: 30,
+            under: 20,
+        },
+    ];
+    let Ok(file) = result_under(rt.alloc(), Keys::new(&rt), &TWO_PATHS, &givens) else {
+        panic!(&rt; "memory ran out");
+    };
+    assert_eq!(rt; walk_of_the_first(&file), [true; 4]);
+}
+
 #[test]
 fn a_given_of_no_edge_changes_nothing(rt: HostRuntime) {
     let givens = [Given {
@@ -139,4 +208,44 @@ fn a_given_that_is_forced_anyway_changes_no_line(rt: HostRuntime) {
     };
     assert_eq!(rt; file.totals, plain.totals);
     assert_eq!(rt; file.edges.as_slice(), plain.edges.as_slice());
+}
+
+// Whether the first of the three paths is kept under these givens, and the last edge on it is forced.
+fn first_under(
+    alloc: Global,
+    keys: Keys,
+    givens: &[Given],
+) -> Result<(bool, bool), NoMemory>
+    requires two { NameTwo givens.now }
+    requires once { NameOnce givens.now }
+    requires few { length givens.now ≤ max_givens }
+{
+    let file = result_under(alloc, keys, &THREE_PATHS, givens)?;
+    if file.paths.len() == 0 {
+        return Ok((false, false));
+    }
+    let is_kept = file.paths.get(PathId::from_place(0).unwrap()).is_kept();
+    let is_forced = file.edges.as_slice().contains(&edge(50, 60, Label::Low, Mark::Forced, 1));
+    Ok((is_kept, is_forced))
+}
+
+// 40 over 20 forces what stands behind it on the path 30 40 20 10 50 60: 20 over 10, 10 over 50 and 50 over 60.
+#[test]
+fn a_given_against_an_edge_that_another_forces_loses_the_path(rt: HostRuntime) {
+    let first = Given {
+        over: 40,
+        under: 20,
+    };
+    let against = Given {
+        over: 60,
+        under: 50,
+    };
+    let Ok(kept) = first_under(rt.alloc(), Keys::new(&rt), &[first]) else {
+        panic!(&rt; "memory ran out");
+    };
+    assert_eq!(rt; kept, (true, true));
+    let Ok(lost) = first_under(rt.alloc(), Keys::new(&rt), &[first, against]) else {
+        panic!(&rt; "memory ran out");
+    };
+    assert_eq!(rt; lost, (false, false));
 }

@@ -1,5 +1,6 @@
 use Rattle.std.proofs.Common.{◌≡◌, ◌≢◌, ◌-◌, ◌≤◌, ◌<◌, ◌++◌, List, ℕ, All, drop, take, map, is_none, length, sym, subst, arith, length-take}
 use Rattle.std.specs.List.{AllPairs}
+use Rattle.std.proofs.lemmas.Result.{IfOk-weaker}
 use Rattle.std.proofs.lemmas.List.Elements.{All-from_recursion, All-drop}
 use Rattle.relationships.specs.declared.fate.Fate.{Fate}
 use Rattle.relationships.specs.Fates.{walk_of}
@@ -9,6 +10,7 @@ use Rattle.tor_arena.specs.Distinct.{AllDistinct}
 use Rattle.as_graph.specs.Paths.{paths_at}
 use Rattle.tor_clauses.specs.Formulas.{numbered}
 use Rattle.rel_infer.specs.Returns.{places_from}
+use Rattle.rel_infer.specs.declared.inferring.Inferred.{Inferred}
 use Rattle.rel_infer.specs.Finding.{AreInferredIn}
 use Rattle.rel_infer.proofs.ReturnRows.{places_all}
 use Rattle.rel_infer.proofs.KeptPlaces.{first_fits, counted_once, all_once, counted_distinct, counted_paths}
@@ -23,8 +25,8 @@ select_behind-requires-clause-there c =
     (All-from_recursion (λ path. path < length graph) (places_from count (length graph - count))
     (places_all (λ path. path < length graph) count (length graph - count) (λ i low high. omega (arith, high, le))))
 
-pub found_behind-requires-clause-apart : goal.found_behind-requires-clause-apart
-found_behind-requires-clause-apart c =
+pub inferred_by-requires-clause-apart : goal.inferred_by-requires-clause-apart
+inferred_by-requires-clause-apart c =
     let graph = c.args.graph.now in
     let count = c.args.count in
     let some = take count graph in
@@ -34,8 +36,8 @@ found_behind-requires-clause-apart c =
     let short = length-take count graph in
     all_once graph some all count (length graph - count) (map is_none walks) same (omega (arith, short))
 
-pub found_behind-requires-clause-first : goal.found_behind-requires-clause-first
-found_behind-requires-clause-first c =
+pub inferred_by-requires-clause-first : goal.inferred_by-requires-clause-first
+inferred_by-requires-clause-first c =
     let graph = c.args.graph.now in
     let count = c.args.count in
     let some = take count graph in
@@ -44,12 +46,12 @@ found_behind-requires-clause-first c =
     let same = subst (λ first. numbered graph all ≡ numbered graph first ++ kept_of some walks) c.requires.behind c.in_ok-selection.ensures.kept in
     subst (λ (l : List ℕ). length l ≤ length all) (sym c.requires.behind) (first_fits graph some all count (length graph - count) (map is_none walks) same)
 
-pub found_behind-requires-clause-there : goal.found_behind-requires-clause-there
-found_behind-requires-clause-there c =
+pub inferred_by-requires-clause-there : goal.inferred_by-requires-clause-there
+inferred_by-requires-clause-there c =
     All-drop (λ path. path < length c.args.graph.now) (length c.args.first.now) c.in_ok-selection.selection.selector.formula.paths c.in_ok-selection.ensures.fits.there
 
-pub found_behind-requires-clause-once : goal.found_behind-requires-clause-once
-found_behind-requires-clause-once c =
+pub inferred_by-requires-clause-once : goal.inferred_by-requires-clause-once
+inferred_by-requires-clause-once c =
     let graph = c.args.graph.now in
     let count = c.args.count in
     let some = take count graph in
@@ -58,8 +60,8 @@ found_behind-requires-clause-once c =
     let same = subst (λ first. numbered graph all ≡ numbered graph first ++ kept_of some walks) c.requires.behind c.in_ok-selection.ensures.kept in
     subst (λ (l : List ℕ). AllPairs ◌≢◌ (drop (length l) all)) (sym c.requires.behind) (counted_once graph some all count (length graph - count) (map is_none walks) same)
 
-pub found_behind-requires-clause-distinct : goal.found_behind-requires-clause-distinct
-found_behind-requires-clause-distinct c =
+pub inferred_by-requires-clause-distinct : goal.inferred_by-requires-clause-distinct
+inferred_by-requires-clause-distinct c =
     let graph = c.args.graph.now in
     let count = c.args.count in
     let some = take count graph in
@@ -78,16 +80,20 @@ returns c =
     let walks = map walk_of fates in
     let all = c.in_ok-selection.selection.selector.formula.paths in
     let e = c.in_ok-selection.ensures in
-    let found = c.in_ok-found.found in
     let same = subst (λ first. numbered graph all ≡ numbered graph first ++ kept_of some walks) c.requires.behind e.kept in
-    subst (λ (fs : List Fate). AreInferredIn c.args.ratio graph c.args.first.now count (record { fates = fs; found = found })) (sym c.into_fates.ensures)
+    let first = c.args.first.now in
+    let real = drop (length first) all in
+    IfOk-weaker c.inferred_by.result _ _
+    (λ (i : Inferred) is.
+    subst (λ (fs : List Fate). AreInferredIn c.args.ratio graph first count (record { fates = fs; found = i.found })) (sym is.0)
     (record {
       formula = c.in_ok-selection.selection.selector.formula;
-      real = drop (length c.args.first.now) all;
+      real = real;
       kept = e.keeps;
       lost = e.lost;
       all_kept = e.kept;
       counted = subst (λ (l : List ℕ). paths_at graph (drop (length l) all) ≡ paths_of (kept_of some walks)) (sym c.requires.behind)
           (counted_paths graph some all count (length graph - count) (map is_none walks) same);
-      found = c.in_ok-found.ensures;
-    })
+      found = is.1;
+    }))
+    c.inferred_by.ensures
