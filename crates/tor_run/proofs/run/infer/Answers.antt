@@ -1,13 +1,15 @@
 use Rattle.std.proofs.Common.{◌∙◌, ap, subst}
+use Rattle.std.proofs.lemmas.Option.{IfSome_then}
 use Rattle.std.specs.Io.KnownBytes.{append_known}
 use Rattle.tor_io.specs.Contents.{GainsPrefix}
 use Rattle.tor_run.specs.Output.{GainsOutput}
 use Rattle.run_base.specs.Answers.{note_in}
 use Rattle.tor_run.specs.Sampling.{known_by}
-use Rattle.run_base.proofs.Prefixes.{all_if_quiet, either_way, noted_if}
+use Rattle.run_base.proofs.Prefixes.{all_if_quiet, either_way, noted, noted_if}
 use Rattle.dump_read.specs.Seen.{Malformed, Limit}
 use Rattle.tor_run.specs.Seen.{Reads, Ends}
 use Rattle.tor_run.proofs.Outcomes.{always, always_absent, cause_of, note_absent, note_limit, note_malformed}
+use Rattle.tor_run.proofs.GradingLemmas.{gains_grading}
 use Rattle.tor_run.proofs.run.infer.Goals as goal
 
 pub returns-clause-done : goal.returns-clause-done
@@ -24,48 +26,21 @@ returns-clause-done g c = λ is.
 
 pub returns-clause-note : goal.returns-clause-note
 returns-clause-note g c =
-    let held = g.E.Sink.held in
-    let faults = g.E.Sink.faults in
-    let old = held c.args.err.now in
-    let new = held c.write_all.new.sink in
-    let text = c.note.result.now in
-    record {
-      text = note_in c.answer-answer.result;
-      is_note = c.answer-answer.ensures.note;
-      whole = λ quiet. all_if_quiet c.write_all.result (faults c.args.err.now) (faults c.write_all.new.sink) old new text c.write_all.ensures.cause c.write_all.ensures.all quiet
-          ∙ ap (append_known old) c.note.ensures;
-      prefix = subst (λ t. GainsPrefix old new t) c.note.ensures (either_way c.write_all.result old new text c.write_all.ensures.all c.write_all.ensures.prefix);
-    }
+    let err = g.E.Sink in
+    noted _ c.write_all.result (err.faults c.args.err.now) (err.faults c.write_all.new.sink) (err.held c.args.err.now) (err.held c.write_all.new.sink)
+    c.note.result.now (note_in c.answer-answer.result) c.answer-answer.ensures.note c.note.ensures c.write_all.ensures.cause c.write_all.ensures.all c.write_all.ensures.prefix
 
 pub returns-clause-reach : goal.returns-clause-reach
 returns-clause-reach g c =
-    let held = g.E.Sink.held in
-    let faults = g.E.Sink.faults in
-    let old = held c.args.err.now in
-    let new = held c.write_all.new.sink in
-    let text = c.note.result.now in
-    record {
-      text = note_in c.answer-answer.result;
-      is_note = c.answer-answer.ensures.reach;
-      whole = λ quiet. all_if_quiet c.write_all.result (faults c.args.err.now) (faults c.write_all.new.sink) old new text c.write_all.ensures.cause c.write_all.ensures.all quiet
-          ∙ ap (append_known old) c.note.ensures;
-      prefix = subst (λ t. GainsPrefix old new t) c.note.ensures (either_way c.write_all.result old new text c.write_all.ensures.all c.write_all.ensures.prefix);
-    }
+    let err = g.E.Sink in
+    noted _ c.write_all.result (err.faults c.args.err.now) (err.faults c.write_all.new.sink) (err.held c.args.err.now) (err.held c.write_all.new.sink)
+    c.note.result.now (note_in c.answer-answer.result) c.answer-answer.ensures.reach c.note.ensures c.write_all.ensures.cause c.write_all.ensures.all c.write_all.ensures.prefix
 
 pub returns-clause-some : goal.returns-clause-some
 returns-clause-some g c = λ is.
-    let held = g.E.Sink.held in
-    let faults = g.E.Sink.faults in
-    let old = held c.args.err.now in
-    let new = held c.write_all.new.sink in
-    let text = c.note.result.now in
-    record {
-      text = note_in c.answer-answer.result;
-      is_note = c.answer-answer.ensures.some is;
-      whole = λ quiet. all_if_quiet c.write_all.result (faults c.args.err.now) (faults c.write_all.new.sink) old new text c.write_all.ensures.cause c.write_all.ensures.all quiet
-          ∙ ap (append_known old) c.note.ensures;
-      prefix = subst (λ t. GainsPrefix old new t) c.note.ensures (either_way c.write_all.result old new text c.write_all.ensures.all c.write_all.ensures.prefix);
-    }
+    let err = g.E.Sink in
+    noted _ c.write_all.result (err.faults c.args.err.now) (err.faults c.write_all.new.sink) (err.held c.args.err.now) (err.held c.write_all.new.sink)
+    c.note.result.now (note_in c.answer-answer.result) (c.answer-answer.ensures.some is) c.note.ensures c.write_all.ensures.cause c.write_all.ensures.all c.write_all.ensures.prefix
 
 pub returns-clause-malformed : goal.returns-clause-malformed
 returns-clause-malformed g c =
@@ -146,3 +121,11 @@ returns-clause-always_absent g c = λ files dump is gives.
     a.ensures.done a.ensures.cut_off a.ensures.usage a.ensures.leaves_shelf.read_fault a.ensures.leaves_out.write_fault a.ensures.no_other in
     always_absent words known files (shelf.steady old) a.result.status (shelf.faults old) (shelf.faults a.new.shelf) (sink.faults c.args.out.now) (sink.faults a.new.out)
     dump cause is gives
+
+pub returns-clause-graded : goal.returns-clause-graded
+returns-clause-graded g c = λ is asks.
+    let out = g.O.Sink.held in
+    let words = c.args.words.now in
+    let a = c.answer-answer in
+    IfSome_then (known_by words (g.H.Shelf.files c.args.shelf.now)) (a.ensures.done is)
+    (λ files gains. gains_grading words files (out c.args.out.now) (out a.new.out) (note_in a.result) asks gains)
