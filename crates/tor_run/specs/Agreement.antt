@@ -5,7 +5,6 @@ use Rattle.dump_read.specs.declared.taking.Taken.{Taken}
 use Rattle.result_text.specs.declared.file.ResultFile.{ResultFile}
 use Rattle.result_rules.specs.declared.verdict.Verdict.{Verdict}
 use Rattle.result_rules.specs.declared.verdict.Verdict.TheVariants.{Yes}
-use Rattle.tor_arena.specs.Limits.{max_paths}
 use Rattle.tor_words.specs.declared.settings.Mode.TheVariants.{Labels}
 use Rattle.tor_words.specs.declared.settings.Settings.{Settings}
 use Rattle.tor_words.specs.declared.check_settings.CheckSettings.{CheckSettings}

@@ -10,7 +10,7 @@ mod sampling;
 mod summary;
 
 pub use laws::{
-    agreement_law, faithful_law, grading_law, one_outcome_law, one_summary_law, readable_law, seen_law,
-    self_grading_law,
+    agreement_law, faithful_law, grading_law, one_outcome_law, one_summary_law, readable_law,
+    seen_law, self_grading_law,
 };
 pub use run::infer;

@@ -1,4 +1,4 @@
-use Rattle.std.proofs.Common.{◌≡◌, ◌≢◌, ◌<◌, List, All, sym, subst}
+use Rattle.std.proofs.Common.{◌≢◌, ◌<◌, List, All, sym, subst}
 use Rattle.std.specs.List.{AllPairs}
 use Rattle.result_text.specs.declared.file.EdgeLine.{EdgeLine}
 use Rattle.as_rel.specs.Labelled.{ends_of}

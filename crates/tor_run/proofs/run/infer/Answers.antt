@@ -2,7 +2,9 @@ use Rattle.std.proofs.Common.{◌∙◌, ap, subst}
 use Rattle.std.proofs.lemmas.Option.{IfSome_then}
 use Rattle.std.specs.Io.KnownBytes.{append_known}
 use Rattle.tor_io.specs.Contents.{GainsPrefix}
-use Rattle.tor_run.specs.Output.{GainsOutput}
+use Rattle.tor_run.specs.Answer.{IsNote}
+use Rattle.tor_run.specs.Output.{GainsOutput, GainsSome}
+use Rattle.tor_run.specs.Reach.{EndsInReach}
 use Rattle.run_base.specs.Answers.{note_in}
 use Rattle.tor_run.specs.Sampling.{known_by}
 use Rattle.run_base.proofs.Prefixes.{all_if_quiet, either_way, noted, noted_if}
@@ -27,20 +29,33 @@ returns-clause-done g c = λ is.
 pub returns-clause-note : goal.returns-clause-note
 returns-clause-note g c =
     let err = g.E.Sink in
-    noted _ c.write_all.result (err.faults c.args.err.now) (err.faults c.write_all.new.sink) (err.held c.args.err.now) (err.held c.write_all.new.sink)
-    c.note.result.now (note_in c.answer-answer.result) c.answer-answer.ensures.note c.note.ensures c.write_all.ensures.cause c.write_all.ensures.all c.write_all.ensures.prefix
+    let shelf = g.H.Shelf in
+    let old = c.args.shelf.now in
+    let words = c.args.words.now in
+    let a = c.answer-answer in
+    noted (IsNote words (known_by words (shelf.files old)) (shelf.steady old) a.result.status) c.write_all.result
+    (err.faults c.args.err.now) (err.faults c.write_all.new.sink) (err.held c.args.err.now) (err.held c.write_all.new.sink)
+    c.note.result.now (note_in a.result) a.ensures.note c.note.ensures c.write_all.ensures.cause c.write_all.ensures.all c.write_all.ensures.prefix
 
 pub returns-clause-reach : goal.returns-clause-reach
 returns-clause-reach g c =
     let err = g.E.Sink in
-    noted _ c.write_all.result (err.faults c.args.err.now) (err.faults c.write_all.new.sink) (err.held c.args.err.now) (err.held c.write_all.new.sink)
-    c.note.result.now (note_in c.answer-answer.result) c.answer-answer.ensures.reach c.note.ensures c.write_all.ensures.cause c.write_all.ensures.all c.write_all.ensures.prefix
+    let shelf = g.H.Shelf in
+    let old = c.args.shelf.now in
+    let words = c.args.words.now in
+    let a = c.answer-answer in
+    noted (EndsInReach words (shelf.files old) (shelf.left a.new.shelf) a.result.status) c.write_all.result
+    (err.faults c.args.err.now) (err.faults c.write_all.new.sink) (err.held c.args.err.now) (err.held c.write_all.new.sink)
+    c.note.result.now (note_in a.result) a.ensures.reach c.note.ensures c.write_all.ensures.cause c.write_all.ensures.all c.write_all.ensures.prefix
 
 pub returns-clause-some : goal.returns-clause-some
 returns-clause-some g c = λ is.
     let err = g.E.Sink in
-    noted _ c.write_all.result (err.faults c.args.err.now) (err.faults c.write_all.new.sink) (err.held c.args.err.now) (err.held c.write_all.new.sink)
-    c.note.result.now (note_in c.answer-answer.result) (c.answer-answer.ensures.some is) c.note.ensures c.write_all.ensures.cause c.write_all.ensures.all c.write_all.ensures.prefix
+    let words = c.args.words.now in
+    let a = c.answer-answer in
+    noted (GainsSome words (g.O.Sink.held c.args.out.now) (g.O.Sink.held a.new.out)) c.write_all.result
+    (err.faults c.args.err.now) (err.faults c.write_all.new.sink) (err.held c.args.err.now) (err.held c.write_all.new.sink)
+    c.note.result.now (note_in a.result) (a.ensures.some is) c.note.ensures c.write_all.ensures.cause c.write_all.ensures.all c.write_all.ensures.prefix
 
 pub returns-clause-malformed : goal.returns-clause-malformed
 returns-clause-malformed g c =
