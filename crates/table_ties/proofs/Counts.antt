@@ -1,5 +1,5 @@
 -- The classes of ties are numbered from 1 to the greatest number of one.
-use Rattle.std.proofs.Common.{◌≡◌, ◌↔◌, ◌⊎◌, inl, inr, ℕ, zero, suc, ◌+◌, ◌<◌, ◌≤◌, max, eqb, List, [], ◌∷◌, ◌++◌, length, map, get_or, Some, Contains, refl, sym, ap, ◌∙◌, subst, append_assoc, append-nil, arith}
+use Rattle.std.proofs.Common.{◌≡◌, ◌↔◌, ◌⊎◌, inl, inr, ℕ, zero, suc, ◌+◌, ◌<◌, ◌≤◌, max, eqb, List, [], ◌∷◌, ◌++◌, map, Some, Contains, refl, sym, ap, ◌∙◌, subst, append_assoc, append-nil, arith}
 use Rattle.std.specs.Prelude.{fold}
 use Rattle.std.proofs.lemmas.Bool.{cases_Bool, cases_order, eqb-true}
 use Rattle.std.proofs.lemmas.List.{length-map}
@@ -11,7 +11,7 @@ use Rattle.relationships.specs.Evidence.{kept_from, paths_of}
 use Rattle.ties.specs.declared.tie.Tie.{Tie}
 use Rattle.ties.specs.Tied.{Begins, Joins, classes, first_in_class}
 use Rattle.table_ties.specs.declared.tying.TieLine.{TieLine}
-use Rattle.table_ties.specs.Ties.{AreTieLinesOf, tie_line_of}
+use Rattle.table_ties.specs.Ties.{tie_line_of}
 use Rattle.table_ties.specs.TiesText.{ClassCountLaw, class_count}
 
 -- ---- ties
