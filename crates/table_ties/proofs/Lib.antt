@@ -1,3 +1,4 @@
+mod Counts
 mod Labels
 mod Tyings
 mod Vectors

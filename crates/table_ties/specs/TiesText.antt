@@ -1,9 +1,10 @@
 -- The text of ties: a line for each open edge, in order, and a last line that counts.
-use Rattle.std.specs.Prelude.{ℕ, List, [], ◌∷◌, ◌++◌, length, max, fold, flat_map, codes}
+use Rattle.std.specs.Prelude.{◌≡◌, ◌↔◌, ◌≤◌, Contains, ℕ, List, [], ◌∷◌, ◌++◌, length, max, fold, flat_map, codes}
 use Rattle.std.specs.Fmt.{decimal}
 use Rattle.text_fields.specs.Fields.{fields}
 use Rattle.ties.specs.declared.tie.Side.{Side}
 use Rattle.table_ties.specs.declared.tying.TieLine.{TieLine}
+use Rattle.table_ties.specs.Ties.{AreTieLinesOf}
 
 abbrev pub side_text : Side → List ℕ
 side_text Side.With = codes "with"
@@ -20,7 +21,7 @@ tie_text l = ties_line (codes "tie" ∷ decimal l.low ∷ decimal l.high ∷ dec
 abbrev pub tie_texts : List TieLine → List ℕ
 tie_texts lines = flat_map tie_text lines
 
--- how many classes there are: they are numbered from 1, so it is the greatest number
+-- how many classes there are: they are numbered from 1 on, so it is the greatest number
 abbrev pub class_count : List TieLine → ℕ
 class_count lines = fold (λ n l. max n l.class) 0 lines
 
@@ -30,3 +31,9 @@ counts_text lines = ties_line (codes "ties" ∷ decimal (length lines) ∷ decim
 
 abbrev pub ties_text : List TieLine → List ℕ
 ties_text lines = tie_texts lines ++ counts_text lines
+
+-- the numbers from 1 to that count are those of classes, and no others are
+abbrev pub ClassCountLaw : Type 0
+ClassCountLaw =
+    (paths : List (List ℕ)) (lines : List TieLine) (number : ℕ) → AreTieLinesOf paths lines →
+    ((1 ≤ number) × (number ≤ class_count lines)) ↔ ((line : TieLine) × Contains lines line × (line.class ≡ number))

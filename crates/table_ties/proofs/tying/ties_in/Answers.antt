@@ -1,4 +1,4 @@
-use Rattle.std.proofs.Common.{◌≡◌, ◌∙◌, length, sym, ap, subst}
+use Rattle.std.proofs.Common.{◌∙◌, length, sym, ap, subst}
 use Rattle.relationships.specs.Graph.{edges, orientation}
 use Rattle.relationships.specs.Selection.{IsServable}
 use Rattle.as_graph.specs.Paths.{paths_at}
