@@ -237,9 +237,11 @@ given_line_law givens ratio paths walks lines whys probes i g there =
 -- ---- the rules with givens
 
 pub given_rules_met_law : GivenRulesMetLaw
-given_rules_met_law givens ratio paths walks lines whys probes two once differ i =
-    (rules, All-weaker (Contains lines) (λ line. IsTrue (is_forced line.mark) → line.label ≢ Label.Peer)
-        (λ line c. (agreeing_rules_law givens paths walks (map claim_on lines) whys probes rules).2 (claim_on line) (Contains-map claim_on lines line c)) lines (All-contains_itself lines))
+given_rules_met_law givens ratio paths walks lines whys probes two once differ i = (
+  rules,
+  All-weaker (Contains lines) (λ line. IsTrue (is_forced line.mark) → line.label ≢ Label.Peer)
+      (λ line c. (agreeing_rules_law givens paths walks (map claim_on lines) whys probes rules).2 (claim_on line) (Contains-map claim_on lines line c)) lines (All-contains_itself lines),
+)
   where
     rules : MeetsAgreeingRules givens paths walks (map claim_on lines) whys probes
     rules = record {
