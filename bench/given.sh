@@ -157,8 +157,8 @@ fn main(rt: HostRuntime) -> Result<()> {
 RUST
 cat > "$bench/proofs/Givens.antt" <<'ANTT'
 -- One given more.
-use Rattle.std.proofs.Common.{◌≡◌, ◌≢◌, ℕ, ◌+◌, ◌<◌, not, true, false, Bool, List, [], ◌∷◌, ◌++◌, get_or, map, take, length, Some, slice_get, refl, sym, ap, ◌∙◌, subst, All, Contains, IsTrue}
-use Rattle.std.specs.List.{AllPairs, list_any}
+use Rattle.std.proofs.Common.{◌≡◌, ◌≢◌, ℕ, ◌+◌, ◌<◌, not, true, false, Bool, List, [], ◌∷◌, ◌++◌, get_or, map, take, length, Some, slice_get, refl, sym, ◌∙◌, subst, Contains}
+use Rattle.std.specs.List.{list_any}
 use Rattle.std.proofs.lemmas.Bool.{false≢true}
 use Rattle.std.proofs.lemmas.List.{map-append}
 use Rattle.std.proofs.lemmas.List.Elements.{All-append, All-from_recursion, Contains-get_or}
@@ -196,9 +196,9 @@ module _ (givens : List Given) (g : Given) (apart : g.over ≢ g.under) (absent 
 
 pub given_more : (all : List Given) (k : ℕ) (g : Given) (old new : List Edge) (is_new : Bool) → slice_get all k ≡ Some g → g.over ≢ g.under →
     new ≡ with_edge old (edge_on g) → is_new ≡ not (list_any (is_same (edge_on g)) old) → is_new ≡ true → AreGivens old (take k all) → AreGivens new (take (k + 1) all)
-given_more all k g old new is_new at apart added said yes h =
+given_more all k g old new is_new at apart added said fresh h =
     let absent : list_any (is_same (edge_on g)) (map edge_on (take k all)) ≡ false =
-    subst (λ es. list_any (is_same (edge_on g)) es ≡ false) h.its_edges (off (list_any (is_same (edge_on g)) old) (sym said ∙ yes)) in
+    subst (λ es. list_any (is_same (edge_on g)) es ≡ false) h.its_edges (off (list_any (is_same (edge_on g)) old) (sym said ∙ fresh)) in
     subst (AreGivens new) (sym (take_get all k g at)) (record {
       its_edges = added ∙ edges_more (take k all) g apart absent old h.its_edges;
       two = two_more (take k all) g apart absent h.two;
@@ -217,6 +217,27 @@ use Rattle.given_bench.proofs.are_givens.Given as goal
 
 abbrev pub invariant-loop-place : goal.invariant-loop-place
 invariant-loop-place l = AreGivens l.edges (take l.place l.givens)
+ANTT
+cat > "$bench/proofs/are_givens/Answers.antt" <<'ANTT'
+use Rattle.std.proofs.Common.{◌≡◌, true, false, not, Bool, Some, get_or, slice_get, refl, sym}
+use Rattle.std.proofs.lemmas.Bool.{false≢true}
+use Rattle.std.proofs.lemmas.Option.{slice_get-get_or}
+use Rattle.relationships.specs.declared.given.Given.{Given}
+use Rattle.given_bench.proofs.Givens.{given_more}
+use Rattle.given_bench.proofs.are_givens.Goals as goal
+
+on : (b : Bool) → not b ≡ false → b ≡ true
+on true h = refl
+on false h = absurd (false≢true (sym h))
+
+pub loop-place-preserved : goal.loop-place-preserved
+loop-place-preserved c =
+    let givens = c.args.givens.now in
+    let place = c.loop-place.place in
+    let g : Given = get_or givens place (record { over = 0; under = 0 }) in
+    let at : slice_get givens place ≡ Some g = slice_get-get_or givens place (record { over = 0; under = 0 }) c.loop-place-test.true in
+    given_more givens place g c.loop-place.edges c.add.new.self c.in_ok-added.added.is_new at c.if-given.false c.in_ok-added.ensures.ok c.in_ok-added.ensures.is_new
+    (on c.in_ok-added.added.is_new c.if-not-added.false) c.loop-place.invariant
 ANTT
 if [ -n "${PLACE:-}" ]; then exit; fi
 (cd "$bench" && rt run > /dev/null < /dev/null)

@@ -1,6 +1,6 @@
 -- What stands behind the returns of givens, said of the orientations that agree with these; and the line of an edge that a given names.
-use Rattle.std.proofs.Common.{◌≡◌, ◌≢◌, ◌↔◌, ℕ, ◌≤◌, ◌∙◌, min, max, inl, inr, true, false, Bool, List, [], ◌∷◌, ◌++◌, map, Option, if◌then◌else◌, refl, sym, ap, ap₂, subst, arith}
-use Rattle.std.proofs.Common.{append-nil, append_assoc, lt-ltb, le-ltb, All, Contains, IsTrue}
+use Rattle.std.proofs.Common.{◌≡◌, ◌≢◌, ◌↔◌, ℕ, ◌≤◌, ◌∙◌, min, max, inl, inr, true, false, Bool, List, [], ◌∷◌, ◌++◌, map, if◌then◌else◌, refl, sym, ap, ap₂, subst, arith}
+use Rattle.std.proofs.Common.{append-nil, append_assoc, lt-ltb, le-ltb, Contains, IsTrue}
 use Rattle.std.specs.List.{AllByRecursion}
 use Rattle.std.proofs.lemmas.Bool.{false≢true}
 use Rattle.std.proofs.lemmas.List.Elements.{All-append, All-contains, All-contains_itself, All-from_recursion, All-weaker, recursion_from_All, Contains-append_cases}
@@ -8,16 +8,15 @@ use Rattle.tor_arena.proofs.Gets.{Contains-map}
 use Rattle.relationships.specs.declared.given.Given.{Given}
 use Rattle.relationships.specs.declared.label.End.{End}
 use Rattle.relationships.specs.declared.label.Label.{Label}
-use Rattle.relationships.specs.declared.walk.Walk.{Walk}
 use Rattle.relationships.specs.Relationship.{Orientation, Labelling, label_of, labels_of, is_low, is_high, is_over, ValleyFree, Serves}
-use Rattle.relationships.specs.Graph.{Edge, edge_of, edges, SameOn}
+use Rattle.relationships.specs.Graph.{Edge, edge_of, edges}
 use Rattle.relationships.specs.Evidence.{paths_of}
 use Rattle.relationships.specs.Selection.{KeepsFrom, IsServable, IsForced}
 use Rattle.relationships.specs.Preference.{IsPreferred}
-use Rattle.relationships.specs.Checking.{Claim, kept_of, claimed_labels}
+use Rattle.relationships.specs.Checking.{kept_of, claimed_labels}
 use Rattle.relationships.specs.Marking.{is_forced}
 use Rattle.relationships.specs.GivenEvidence.{MeetsAgreeingRules}
-use Rattle.relationships.specs.Givens.{names_edge, LabelsSay, return_of, returns, NameTwo, NameOnce, end_by}
+use Rattle.relationships.specs.Givens.{names_edge, LabelsSay, return_of, returns, end_by}
 use Rattle.relationships.proofs.Slopes.{over_parts}
 use Rattle.relationships.proofs.Neighbours.{edge_law}
 use Rattle.relationships.proofs.Checked.{label_of_claim}
@@ -27,7 +26,6 @@ use Rattle.relationships.proofs.AgreeingRules.{agreeing_rules_law}
 use Rattle.result_text.specs.declared.file.EdgeLine.{EdgeLine}
 use Rattle.result_rules.specs.File.{claim_on}
 use Rattle.rel_infer.specs.Agreeing.{AgreesOnEdges, AgreesWithAll, KeepsAmong, IsForcedAmong, IsPreferredAmong}
-use Rattle.rel_infer.specs.GivenResults.{IsInferredWith}
 use Rattle.rel_infer.specs.GivenLaws.{AgreeingLaw, AllAgreeingLaw, GivenLineLaw, GivenRulesMetLaw}
 use Rattle.rel_infer.proofs.LineLemmas.{pairs_same}
 
@@ -237,9 +235,11 @@ given_line_law givens ratio paths walks lines whys probes i g there =
 -- ---- the rules with givens
 
 pub given_rules_met_law : GivenRulesMetLaw
-given_rules_met_law givens ratio paths walks lines whys probes two once differ i =
-    (rules, All-weaker (Contains lines) (λ line. IsTrue (is_forced line.mark) → line.label ≢ Label.Peer)
-        (λ line c. (agreeing_rules_law givens paths walks (map claim_on lines) whys probes rules).2 (claim_on line) (Contains-map claim_on lines line c)) lines (All-contains_itself lines))
+given_rules_met_law givens ratio paths walks lines whys probes two once differ i = (
+  rules,
+  All-weaker (Contains lines) (λ line. IsTrue (is_forced line.mark) → line.label ≢ Label.Peer)
+      (λ line c. (agreeing_rules_law givens paths walks (map claim_on lines) whys probes rules).2 (claim_on line) (Contains-map claim_on lines line c)) lines (All-contains_itself lines),
+)
   where
     rules : MeetsAgreeingRules givens paths walks (map claim_on lines) whys probes
     rules = record {

@@ -5,7 +5,7 @@ use Rattle.std.proofs.lemmas.List.Elements.{All-contains, All-contains_itself, A
 use Rattle.relationships.specs.declared.walk.Walk.{Walk}
 use Rattle.relationships.specs.Graph.{Edge, edges, degree}
 use Rattle.relationships.specs.Evidence.{paths_of}
-use Rattle.relationships.specs.Checking.{kept_of, claimed_labels}
+use Rattle.relationships.specs.Checking.{kept_of}
 use Rattle.relationships.proofs.Checked.{kept_all}
 use Rattle.relationships.proofs.Edges.{peering_law}
 use Rattle.relationships.proofs.Neighbours.{edge_law}
@@ -15,7 +15,6 @@ use Rattle.path_clean.specs.Paths.{is_cleaned}
 use Rattle.path_clean.specs.Rows as rows
 use Rattle.path_clean.specs.Rows.{Counted}
 use Rattle.result_text.specs.declared.file.PathLine.{PathLine}
-use Rattle.result_text.specs.declared.file.ResultFile.{ResultFile}
 use Rattle.result_rules.specs.File.{its_paths, its_walks, its_labels}
 use Rattle.result_rules.specs.Against.{row_of}
 use Rattle.result_rules.specs.Valid.{AcceptanceLaw}

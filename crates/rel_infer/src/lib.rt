@@ -12,7 +12,8 @@ mod result;
 mod returns;
 
 pub use given_laws::{
-    agreeing_law, all_agreeing_law, given_inference_law, given_line_law, given_result_law, given_rules_met_law, no_givens_result_law,
+    agreeing_law, all_agreeing_law, given_inference_law, given_line_law, given_result_law,
+    given_rules_met_law, no_givens_result_law,
 };
 pub use laws::{one_inference_law, one_result_law, self_acceptance_law};
 pub use result::{ResultHead, result_of, result_with};

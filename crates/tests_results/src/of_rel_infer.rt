@@ -156,7 +156,12 @@ fn walk_of_the_first(file: &ResultFile) -> [bool; 4] {
     let line = file.paths.get(PathId::from_place(0).unwrap());
     match line.walk() {
         None => [false; 4],
-        Some(walk) => [refutes(walk), names(walk, 0, 1), names(walk, 0, 2), names(walk, 1, 2)],
+        Some(walk) => [
+            refutes(walk),
+            names(walk, 0, 1),
+            names(walk, 0, 2),
+            names(walk, 1, 2),
+        ],
     }
 }
 
@@ -211,11 +216,7 @@ fn a_given_that_is_forced_anyway_changes_no_line(rt: HostRuntime) {
 }
 
 // Whether the first of the three paths is kept under these givens, and the last edge on it is forced.
-fn first_under(
-    alloc: Global,
-    keys: Keys,
-    givens: &[Given],
-) -> Result<(bool, bool), NoMemory>
+fn first_under(alloc: Global, keys: Keys, givens: &[Given]) -> Result<(bool, bool), NoMemory>
     requires two { NameTwo givens.now }
     requires once { NameOnce givens.now }
     requires few { length givens.now ≤ max_givens }
@@ -225,7 +226,10 @@ fn first_under(
         return Ok((false, false));
     }
     let is_kept = file.paths.get(PathId::from_place(0).unwrap()).is_kept();
-    let is_forced = file.edges.as_slice().contains(&edge(50, 60, Label::Low, Mark::Forced, 1));
+    let is_forced = file
+        .edges
+        .as_slice()
+        .contains(&edge(50, 60, Label::Low, Mark::Forced, 1));
     Ok((is_kept, is_forced))
 }
 

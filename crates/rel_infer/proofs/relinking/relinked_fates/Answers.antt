@@ -1,5 +1,4 @@
-use Rattle.std.proofs.Common.{rules, ◌≡◌, ◌+◌, sym, ◌∙◌, subst}
-use Rattle.std.proofs.Common.{take}
+use Rattle.std.proofs.Common.{rules, ◌≡◌, ◌+◌, sym, subst, take}
 use Rattle.rel_infer.specs.Returns.{AreRelinked}
 use Rattle.rel_infer.proofs.relinking.relinked_fates.Goals as goal
 
