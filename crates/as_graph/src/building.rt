@@ -156,6 +156,7 @@ fn steps_on(paths: &Rows<PathId, u32>) -> usize {
 }
 
 /// Adds a row, where there are not too many.
+#[inline(always)]
 fn add_row(rows: &mut Rows<PathId, Step>, steps: &[Step]) -> Result<(), NoMemory>
     requires { length rows.old < most_places }
     ensures { OnOk result (rows.new ≡ rows.old ++ steps.now ∷ []) }

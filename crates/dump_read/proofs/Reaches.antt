@@ -1,6 +1,6 @@
 -- How far a dump is read.
 use Rattle.std.proofs.Common.{◌≡◌, ℕ, List, [], ◌∷◌, Option, Some, None, IfSome, Result, Ok, Err, refl, sym, ap, subst, ◌∙◌, arith}
-use Rattle.std.specs.Prelude.{◌==◌, ◌+◌, drop, is_some, length}
+use Rattle.std.specs.Prelude.{◌==◌, ◌+◌, IsSomeAnd, drop, is_some, length}
 use Rattle.std.proofs.lemmas.List.{drop-drop}
 use Rattle.tor_io.specs.Contents.{Files, Opens}
 use Rattle.mrt_frame.specs.declared.header.At.{At}
@@ -97,11 +97,11 @@ no_record sets d at mid read (unread.Untaken untaken.NoMemory) is e = absurd cc
 pub opened_bounded : (known : Option Files) (name : List ℕ) (before left : Option (List ℕ)) → Opens known name before → ReadsUpTo 0 max_read before left → ReadsBounded name known left
 opened_bounded None name before left opens reads = tt
 opened_bounded (Some files) name before left opens reads =
-    subst (λ (file : Option (List ℕ)). IfSome file (λ octets. ReadsUpTo 0 max_read (Some octets) left)) (sym opens.1)
+    subst (λ (file : Option (List ℕ)). IsSomeAnd file (λ octets. ReadsUpTo 0 max_read (Some octets) left)) (sym opens.1)
     (subst (λ (b : Option (List ℕ)). ReadsUpTo 0 max_read b left) opens.2 reads)
 
 pub opened_shown : (known : Option Files) (name : List ℕ) (before left : Option (List ℕ)) → Opens known name before → LeavesBehindHeader start before left → LeavesRestOfDump name known left
 opened_shown None name before left opens shown = tt
 opened_shown (Some files) name before left opens shown =
-    subst (λ (file : Option (List ℕ)). IfSome file (λ octets. LeavesBehindHeader start (Some octets) left)) (sym opens.1)
+    subst (λ (file : Option (List ℕ)). IsSomeAnd file (λ octets. LeavesBehindHeader start (Some octets) left)) (sym opens.1)
     (subst (λ (b : Option (List ℕ)). LeavesBehindHeader start b left) opens.2 shown)

@@ -1,6 +1,6 @@
 //! Slots by which rows are found, so that a look-up waits for memory once for its slot and once or twice for the row.
 
-ghost use Rattle.std.specs.Prelude.{◌≡◌, ◌<◌, ◌≤◌, ◌+◌, ◌↔◌, length, IsTrue, Some, IfSome, IfOk, OnOk};
+ghost use Rattle.std.specs.Prelude.{◌≡◌, ◌<◌, ◌≤◌, ◌+◌, ◌↔◌, length, get_or, IsTrue, Some, IfSome, IfOk, OnOk};
 ghost use Rattle.tor_arena.specs.Growth.{next_slot};
 ghost use Rattle.tor_arena.specs.Limits.{most_places};
 ghost use Rattle.path_clean.specs.Slots.{slot_of_tag, row_from_one, IsVacant, IsRowSearchEnd, NameOnlyRows, IsTold, IsPut, KeepsAll};
@@ -31,7 +31,10 @@ pub(crate) struct Guess {
 
 impl Guess {
     /// What the first slot has for a path of this tag. Nothing is compared here, so no branch waits for the slot.
-    pub fn new(slots: &[Slot], tag: u32) -> Guess {
+    pub fn new(slots: &[Slot], tag: u32) -> Guess
+        ensures tag { result.tag ≡ tag }
+        ensures slot { result.slot ≡ get_or slots.now (slot_of_tag tag (length slots.now)) (record { tag = 0; row = 0 }) }
+    {
         if slots.is_empty() {
             return Guess { tag, slot: FREE };
         }

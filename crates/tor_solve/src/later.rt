@@ -1,7 +1,7 @@
 //! The orientation that the order of the components gives.
-ghost use Rattle.std.specs.Prelude.{◌≡◌, ℕ, ◌+◌, ◌*◌, ◌<◌, ◌≤◌, ◌^◌, length, ◌↔◌, IsTrue, IfOk, IfSome, IfNone};
+ghost use Rattle.std.specs.Prelude.{◌≡◌, ℕ, ◌+◌, ◌*◌, ◌<◌, ◌≤◌, length, ◌↔◌, IsTrue, IfOk, IfSome, IfNone};
 ghost use Rattle.tor_arena.specs.Limits.{max_numbers};
-ghost use Rattle.tor_clauses.specs.Literals.{node_of, lit_of};
+ghost use Rattle.tor_clauses.specs.Literals.{most_edges, node_of, lit_of};
 ghost use Rattle.tor_solve.specs.Solving.{HaveOneClass, IsLater, AreLater};
 
 use as_graph::Orientation;
@@ -13,7 +13,7 @@ use tor_components::Components;
 
 /// The node of an edge's literal that says that this end is over the other. It takes no memory.
 pub(crate) fn node_at(edge: EdgeId, over: End) -> NodeId
-    requires { edge < 2 ^ 27 }
+    requires { edge < most_edges }
     ensures node { result ≡ node_of (record { edge = edge; over = over }) }
     ensures literal { lit_of result ≡ record { edge = edge; over = over } }
 {
