@@ -13,7 +13,7 @@ use Rattle.tor_words.specs.declared.settings.Mode.TheVariants.{Listing, Survey, 
 use Rattle.tor_words.specs.declared.settings.Source.{Source}
 use Rattle.tor_words.specs.declared.settings.Source.TheVariants.{Files, Sample}
 use Rattle.tor_words.specs.declared.settings.Settings.{Settings}
-use Rattle.tor_words.specs.Given.{number_in, number_or, source_of, source_in, is_set, with_flag, asked_in, mode_of, mode_in, sets_or_cut, settings_in, dumps_in, HasDumps, IsWrittenOf, AreBounded, BoundsLaw}
+use Rattle.tor_words.specs.Given.{number_in, number_or, source_of, source_in, has_flag, with_flag, asked_in, mode_of, mode_in, sets_or_cut, settings_in, dumps_in, HasDumps, IsWrittenOf, AreBounded, BoundsLaw}
 use Rattle.tor_words.specs.Given.{settings_given, unless_fault}
 use Rattle.tor_words.specs.TorCommand.{tor_command}
 
@@ -55,10 +55,10 @@ flagged false mode asked other all = all
 
 none_sums : (rows : List Row) → NoneSums (asked_in rows)
 none_sums rows =
-    flagged (is_set (codes "list") rows) Listing _ (λ e. cc)
-    (flagged (is_set (codes "survey") rows) Survey _ (λ e. cc)
-    (flagged (is_set (codes "ties") rows) Ties _ (λ e. cc)
-    (flagged (is_set (codes "serial1") rows) Serial [] (λ e. cc) tt)))
+    flagged (has_flag (codes "list") rows) Listing _ (λ e. cc)
+    (flagged (has_flag (codes "survey") rows) Survey _ (λ e. cc)
+    (flagged (has_flag (codes "ties") rows) Ties _ (λ e. cc)
+    (flagged (has_flag (codes "serial1") rows) Serial [] (λ e. cc) tt)))
 
 is_written : (source : Source) (asked : List Mode) (mode : Mode) → NoneSums asked → mode_of source asked ≡ Some mode → IsWrittenOf source mode
 is_written Files [] mode all is = λ e. cc

@@ -74,17 +74,17 @@ mode_of (Sample seed) (mode ∷ modes) = None
 abbrev pub source_in : List Row → Option Source
 source_in rows = source_of (first_of (codes "sample") rows) (dumps_in rows)
 
-abbrev pub is_set : Text → List Row → Bool
-is_set name rows = is_true_text (first_of name rows)
+abbrev pub has_flag : Text → List Row → Bool
+has_flag name rows = is_true_text (first_of name rows)
 
 -- what the flags ask for: with `--list` the list of the paths, with `--survey` what the dumps hold, with `--ties` the ties of the open
 -- edges, and with `--serial1` the labels as lines of serial-1
 abbrev pub asked_in : List Row → List Mode
 asked_in rows =
-    with_flag (is_set (codes "list") rows) Listing
-    (with_flag (is_set (codes "survey") rows) Survey
-    (with_flag (is_set (codes "ties") rows) Ties
-    (with_flag (is_set (codes "serial1") rows) Serial [])))
+    with_flag (has_flag (codes "list") rows) Listing
+    (with_flag (has_flag (codes "survey") rows) Survey
+    (with_flag (has_flag (codes "ties") rows) Ties
+    (with_flag (has_flag (codes "serial1") rows) Serial [])))
 
 abbrev pub mode_in : List Row → Source → Option Mode
 mode_in rows source = mode_of source (asked_in rows)

@@ -2,7 +2,7 @@
 ghost use Rattle.std.specs.Prelude.{◌≡◌, ◌≤◌, IfOk, IfErr, OnErr, Some, None, map, option_map};
 ghost use Rattle.clap.specs.Words.{found_of, rows_of, first_of};
 ghost use Rattle.tor_arena.specs.Limits.{max_paths, max_ratio};
-ghost use Rattle.tor_words.specs.Given.{settings_in, settings_given, dumps_in, is_set, asked_in, alone, mode_of, source_of, HasDumps};
+ghost use Rattle.tor_words.specs.Given.{settings_in, settings_given, dumps_in, has_flag, asked_in, alone, mode_of, source_of, HasDumps};
 ghost use Rattle.tor_words.specs.Refused.{IsUsage, SaysUsage};
 
 use crate::command::command;
@@ -110,9 +110,9 @@ fn source_of(sample: Option<&str>, dumps: &[Name]) -> Result<Source, &'static st
     }
 }
 
-// Whether the flag of this name is set.
-fn is_set(matches: &ArgMatches, name: &str) -> bool
-    ensures { result ≡ is_set name.now (rows_of (found_of matches.now)) }
+// Whether the flag of this name stands among the words.
+fn has_flag(matches: &ArgMatches, name: &str) -> bool
+    ensures { result ≡ has_flag name.now (rows_of (found_of matches.now)) }
 {
     is_true_text(first(matches, name))
 }
@@ -122,10 +122,10 @@ fn asked_in(matches: &ArgMatches) -> Result<Option<Mode>, &'static str>
     ensures ok { IfOk result (λ mode. alone (asked_in (rows_of (found_of matches.now))) ≡ Some mode) }
     ensures err { OnErr result (alone (asked_in (rows_of (found_of matches.now))) ≡ None) }
 {
-    let list = is_set(matches, "list");
-    let survey = is_set(matches, "survey");
-    let ties = is_set(matches, "ties");
-    let serial = is_set(matches, "serial1");
+    let list = has_flag(matches, "list");
+    let survey = has_flag(matches, "survey");
+    let ties = has_flag(matches, "ties");
+    let serial = has_flag(matches, "serial1");
     match (list, survey, ties, serial) {
         (false, false, false, false) => Ok(None),
         (true, false, false, false) => Ok(Some(Mode::Listing)),
