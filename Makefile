@@ -57,10 +57,10 @@ samples: $(BUILT)
 	@echo "the lists are the same, and the results are right"
 
 system: $(BUILT)
-	bench/system.sh bin/tor bin/torcheck samples
+	bench/system.sh bin/tor bin/torcheck bin/torgrade samples
 
 memory: $(BUILT)
-	bench/memory.sh bin/tor bin/torcheck samples
+	bench/memory.sh bin/tor bin/torcheck bin/torgrade samples
 
 container: dist
 	tools/container.sh $(ARCHIVE)

@@ -1,11 +1,11 @@
 #!/usr/bin/env bash
-# What the two programs do when memory is refused. Each command is run with its first allocation refused, then with its second, and so on
+# What the programs do when memory is refused. Each command is run with its first allocation refused, then with its second, and so on
 # until none is left to refuse: once that allocation alone, and once with all behind it. Such a run has to end with status 7, nothing on
 # standard output, and the note `no-memory`, which may be missing only as long as the words aren't held. Each line says the command, how
 # many of its allocations were refused and whether all was as it should be; the script ends with 1 if it was not.
-#   bench/memory.sh TOR TORCHECK SAMPLES
+#   bench/memory.sh TOR TORCHECK TORGRADE SAMPLES
 set -uo pipefail
-tor=$1 torcheck=$2 samples=$3
+tor=$1 torcheck=$2 torgrade=$3 samples=$4
 work=$(mktemp -d)
 trap 'rm -rf "$work"' EXIT
 failed=0
@@ -138,6 +138,8 @@ refuse() { # NAME STEP COMMAND ..
 
 dump=$samples/three-paths.mrt
 head -c 60 "$samples/two-paths.mrt" > "$work/cut.mrt"
+printf '20|10|-1\n20|30|0\n' > "$work/rel"
+printf '20|10|-1\n10|20\n' > "$work/bad"
 sed '16s/forced/open/' "$samples/three-paths.result.txt" > "$work/changed.txt"
 
 refuse "a result" 1 "$tor" "$dump"
@@ -151,5 +153,8 @@ refuse "no words" 1 "$tor"
 refuse "a check" 1 "$torcheck" "$samples/three-paths.result.txt"
 refuse "a check beside the dump" 1 "$torcheck" "$samples/three-paths.result.txt" "$dump"
 refuse "a check of a changed result" 1 "$torcheck" "$work/changed.txt" "$dump"
+refuse "a grading" 1 "$torgrade" "$work/rel" "$dump"
+refuse "a grading and a cone" 1 "$torgrade" --cone 20 "$work/rel" "$dump"
+refuse "a bad line of relationships" 1 "$torgrade" "$work/bad" "$dump"
 
 exit $failed

@@ -1,10 +1,10 @@
 #!/usr/bin/env bash
-# What the two programs do at the ends that touch the system: full devices, closed pipes, folders, absent files, standard input, many
-# dumps and few descriptors, endless results. Each line says the run and whether status, output and note were as they should be; the
+# What the programs do at the ends that touch the system: full devices, closed pipes, folders, absent files, standard input, many dumps and
+# few descriptors, endless results and relationships. Each line says the run and whether status, output and note were as they should be; the
 # script ends with 1 if one was not.
-#   bench/system.sh TOR TORCHECK SAMPLES
+#   bench/system.sh TOR TORCHECK TORGRADE SAMPLES
 set -uo pipefail
-tor=$1 torcheck=$2 samples=$3
+tor=$1 torcheck=$2 torgrade=$3 samples=$4
 work=$(mktemp -d)
 trap 'rm -rf "$work"' EXIT
 failed=0
@@ -97,6 +97,45 @@ expect "an absent result" $? 4 "read-fault|0"
 
 "$torcheck" "$samples" > "$work/out" 2> "$work/note"
 expect "a folder for a result" $? 4 "read-fault|0"
+
+echo '10|20|-1' > "$work/rel"
+grades=$'free|1|10 20\ngrade|1|0|0'
+"$torgrade" "$work/rel" "$one" > "$work/out" 2> "$work/note"
+expect "a grading" $? 0 ""
+same "a grading" "$work/out" "$grades"
+
+"$torgrade" /dev/stdin "$one" < "$work/rel" > "$work/out" 2> "$work/note"
+expect "relationships on standard input" $? 0 ""
+same "relationships on standard input" "$work/out" "$grades"
+
+"$torgrade" "$work/rel" "$one" > /dev/full 2> "$work/note"
+expect "a grading on a full device" $? 5 "write-fault"
+
+{ sleep 0.3; "$torgrade" "$work/rel" "$one" 2> "$work/note"; echo $? > "$work/status"; } | true
+expect "a grading into a closed pipe" "$(cat "$work/status")" 5 "write-fault"
+
+"$torgrade" "$work/absent" "$one" > "$work/out" 2> "$work/note"
+expect "absent relationships" $? 4 "read-fault|0"
+
+"$torgrade" "$samples" "$one" > "$work/out" 2> "$work/note"
+expect "a folder for relationships" $? 4 "read-fault|0"
+
+"$torgrade" "$work/rel" "$one" "$samples" > "$work/out" 2> "$work/note"
+expect "a folder for a dump that is graded" $? 4 "read-fault|2"
+same "a folder for a dump that is graded" "$work/out" ""
+
+# Of longer relationships 2^28 + 1 octets are read.
+truncate -s 268435456 "$work/long"
+"$torgrade" "$work/long" "$one" > "$work/out" 2> "$work/note"
+expect "relationships of 2^28 octets" $? 3 "malformed|0|1|0|rel"
+
+truncate -s 268435457 "$work/long"
+"$torgrade" "$work/long" "$work/absent" > "$work/out" 2> "$work/note"
+expect "relationships of 2^28 + 1 octets" $? 6 "limit|rel|0"
+
+"$torgrade" /dev/zero "$one" > "$work/out" 2> "$work/note"
+expect "endless relationships" $? 6 "limit|rel|0"
+same "endless relationships" "$work/out" ""
 
 # Of a longer result 2^31 + 1 octets are read, so these runs hold 2 GiB each.
 if [ "$(awk '/^MemAvailable/ { print $2 }' /proc/meminfo)" -gt 6000000 ]; then
