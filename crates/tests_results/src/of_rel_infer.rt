@@ -1,5 +1,5 @@
 //! Tests of results.
-ghost use Rattle.std.specs.Prelude.{◌≤◌, length};
+ghost use Rattle.std.specs.Prelude.{◌≢◌, ◌≤◌, length};
 ghost use Rattle.relationships.specs.Givens.{NameOnce, NameTwo};
 ghost use Rattle.rel_infer.specs.GivenResults.{max_givens};
 
@@ -28,19 +28,18 @@ fn edge(low: u32, high: u32, label: Label, mark: Mark, support: u64) -> EdgeLine
     }
 }
 
+// The totals of a result, and whether its edge lines are these.
+fn lines_of(file: &ResultFile, edges: &[EdgeLine]) -> (Totals, bool) {
+    (file.totals, file.edges.as_slice() == edges)
+}
+
+fn lines_over(alloc: Global, keys: Keys, edges: &[EdgeLine]) -> Result<(Totals, bool), NoMemory> {
+    let file = result_over(alloc, keys)?;
+    Ok(lines_of(&file, edges))
+}
+
 #[test]
 fn three_paths_have_a_result(rt: HostRuntime) {
-    let Ok(file) = result_over(rt.alloc(), Keys::new(&rt)) else {
-        panic!(&rt; "memory ran out");
-    };
-    let totals = Totals {
-        kept: 2,
-        lost: 1,
-        edges: 7,
-        forced: 3,
-        peers: 1,
-    };
-    assert_eq!(rt; file.totals, totals);
     let edges: [EdgeLine; 7] = [
         edge(30, 40, Label::High, Mark::Open, 2),
         edge(20, 40, Label::Peer, Mark::Open, 1),
@@ -50,7 +49,17 @@ fn three_paths_have_a_result(rt: HostRuntime) {
         edge(20, 30, Label::High, Mark::Open, 1),
         edge(10, 60, Label::Low, Mark::Open, 0),
     ];
-    assert_eq!(rt; file.edges.as_slice(), edges.as_slice());
+    let Ok(lines) = lines_over(rt.alloc(), Keys::new(&rt), &edges) else {
+        panic!(&rt; "memory ran out");
+    };
+    let totals = Totals {
+        kept: 2,
+        lost: 1,
+        edges: 7,
+        forced: 3,
+        peers: 1,
+    };
+    assert_eq!(rt; lines, (totals, true));
 }
 
 // The result of these paths under givens.
@@ -73,19 +82,53 @@ fn result_under(
     result_with(alloc, keys, head, givens, table)
 }
 
+// The totals of the result of two paths under givens, whether its edge lines are these, and the one link of its first why walk.
+fn two_under(
+    alloc: Global,
+    keys: Keys,
+    givens: &[Given],
+    edges: &[EdgeLine],
+) -> Result<(Totals, bool, Option<Link>), NoMemory>
+    requires two { NameTwo givens.now }
+    requires once { NameOnce givens.now }
+    requires few { length givens.now ≤ max_givens }
+{
+    let file = result_under(alloc, keys, &TWO_PATHS, givens)?;
+    let (totals, is_same) = lines_of(&file, edges);
+    Ok((totals, is_same, first_link(&file)))
+}
+
+// The link of the first why walk, if there is a walk, with one link.
+fn first_link(file: &ResultFile) -> Option<Link> {
+    if file.whys.len() == 0 {
+        return None;
+    }
+    match file.whys.get(WalkId::from_place(0).unwrap()).links() {
+        [link] => Some(*link),
+        _ => None,
+    }
+}
+
+// 10 over 20, and 30 over 20.
+static BOTH_ENDS: [Given; 2] = [
+    Given {
+        over: 10,
+        under: 20,
+    },
+    Given {
+        over: 30,
+        under: 20,
+    },
+];
+
 #[test]
 fn a_path_against_two_givens_is_lost(rt: HostRuntime) {
-    let givens = [
-        Given {
-            over: 10,
-            under: 20,
-        },
-        Given {
-            over: 30,
-            under: 20,
-        },
+    let edges: [EdgeLine; 3] = [
+        edge(10, 20, Label::Low, Mark::Forced, 0),
+        edge(20, 30, Label::High, Mark::Forced, 1),
+        edge(20, 40, Label::Low, Mark::Forced, 1),
     ];
-    let Ok(file) = result_under(rt.alloc(), Keys::new(&rt), &TWO_PATHS, &givens) else {
+    let Ok(lines) = two_under(rt.alloc(), Keys::new(&rt), &BOTH_ENDS, &edges) else {
         panic!(&rt; "memory ran out");
     };
     let totals = Totals {
@@ -95,18 +138,7 @@ fn a_path_against_two_givens_is_lost(rt: HostRuntime) {
         forced: 3,
         peers: 0,
     };
-    assert_eq!(rt; file.totals, totals);
-    let edges: [EdgeLine; 3] = [
-        edge(10, 20, Label::Low, Mark::Forced, 0),
-        edge(20, 30, Label::High, Mark::Forced, 1),
-        edge(20, 40, Label::Low, Mark::Forced, 1),
-    ];
-    assert_eq!(rt; file.edges.as_slice(), edges.as_slice());
-    assert_eq!(rt; file.whys.len(), 3);
-    let first = file.whys.get(WalkId::from_place(0).unwrap());
-    assert_eq!(rt; first.links().len(), 1);
-    assert_eq!(rt; first.links()[0].path, 0);
-    assert_eq!(rt; first.links()[0].at, 1);
+    assert_eq!(rt; lines, (totals, true, Some(Link { path: 0, at: 1 })));
 }
 
 // Whether the link fits these three, where 10 over 20 and 30 over 20 are given, and the first path is 10 20 30.
@@ -165,54 +197,65 @@ fn walk_of_the_first(file: &ResultFile) -> [bool; 4] {
     }
 }
 
+fn walk_under(alloc: Global, keys: Keys) -> Result<[bool; 4], NoMemory> {
+    let file = result_under(alloc, keys, &TWO_PATHS, &BOTH_ENDS)?;
+    Ok(walk_of_the_first(&file))
+}
+
 #[test]
 fn its_walk_names_both_givens_and_the_path(rt: HostRuntime) {
-    let givens = [
-        Given {
-            over: 10,
-            under: 20,
-        },
-        Given {
-            over: 30,
-            under: 20,
-        },
-    ];
-    let Ok(file) = result_under(rt.alloc(), Keys::new(&rt), &TWO_PATHS, &givens) else {
+    let Ok(walk) = walk_under(rt.alloc(), Keys::new(&rt)) else {
         panic!(&rt; "memory ran out");
     };
-    assert_eq!(rt; walk_of_the_first(&file), [true; 4]);
+    assert_eq!(rt; walk, [true; 4]);
+}
+
+// Whether the result of these paths has the totals and the edge lines of the other.
+fn is_like(
+    alloc: Global,
+    keys: Keys,
+    paths: &[&[u32]],
+    other: &ResultFile,
+) -> Result<bool, NoMemory> {
+    let plain = result_under(alloc, keys, paths, &[])?;
+    Ok(lines_of(&plain, other.edges.as_slice()) == (other.totals, true))
+}
+
+// Whether the result of these paths under a given has the totals and the edge lines that it has without.
+fn changes_nothing(
+    alloc: Global,
+    keys: Keys,
+    paths: &[&[u32]],
+    given: Given,
+) -> Result<bool, NoMemory>
+    requires { given.over ≢ given.under }
+{
+    let file = result_under(alloc, keys, paths, &[given])?;
+    is_like(alloc, keys, paths, &file)
 }
 
 #[test]
 fn a_given_of_no_edge_changes_nothing(rt: HostRuntime) {
-    let givens = [Given {
+    let given = Given {
         over: 10,
         under: 30,
-    }];
-    let Ok(file) = result_under(rt.alloc(), Keys::new(&rt), &TWO_PATHS, &givens) else {
+    };
+    let Ok(is_same) = changes_nothing(rt.alloc(), Keys::new(&rt), &TWO_PATHS, given) else {
         panic!(&rt; "memory ran out");
     };
-    let Ok(plain) = result_under(rt.alloc(), Keys::new(&rt), &TWO_PATHS, &[]) else {
-        panic!(&rt; "memory ran out");
-    };
-    assert_eq!(rt; file.totals, plain.totals);
-    assert_eq!(rt; file.edges.as_slice(), plain.edges.as_slice());
+    assert!(rt; is_same);
 }
 
 #[test]
 fn a_given_that_is_forced_anyway_changes_no_line(rt: HostRuntime) {
-    let givens = [Given {
+    let given = Given {
         over: 20,
         under: 10,
-    }];
-    let Ok(file) = result_under(rt.alloc(), Keys::new(&rt), &THREE_PATHS, &givens) else {
+    };
+    let Ok(is_same) = changes_nothing(rt.alloc(), Keys::new(&rt), &THREE_PATHS, given) else {
         panic!(&rt; "memory ran out");
     };
-    let Ok(plain) = result_under(rt.alloc(), Keys::new(&rt), &THREE_PATHS, &[]) else {
-        panic!(&rt; "memory ran out");
-    };
-    assert_eq!(rt; file.totals, plain.totals);
-    assert_eq!(rt; file.edges.as_slice(), plain.edges.as_slice());
+    assert!(rt; is_same);
 }
 
 // Whether the first of the three paths is kept under these givens, and the last edge on it is forced.
