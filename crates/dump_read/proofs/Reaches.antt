@@ -7,7 +7,7 @@ use Rattle.mrt_frame.specs.declared.header.At.{At}
 use Rattle.mrt_frame.specs.declared.error.FrameError.{FrameError}
 use Rattle.mrt_frame.specs.declared.error.FrameError.TheVariants as frame
 use Rattle.mrt_frame.specs.Frames.{FindsNext}
-use Rattle.mrt_frame.specs.Reach.{ReadsUpTo, LeavesBehindHeader, octets_in, max_read}
+use Rattle.mrt_frame.specs.Reach.{ReadsUpTo, LeavesBehindHeader, octets_of_records, max_read}
 use Rattle.mrt_frame.specs.Records.{Record, place_behind, start, cut_from}
 use Rattle.mrt_frame.proofs.Reaches.{IsBehind, behind_none, behind_found, behind_then}
 use Rattle.path_attrs.specs.Fields.{◌>>=◌}
@@ -50,9 +50,9 @@ shown_behind None left after at so_far shown = tt
 shown_behind (Some octets) left after at so_far shown =
     let rest = so_far.0 in
     let b = so_far.2 in
-    let more = octets_in (cut_from at rest).records in
+    let more = octets_of_records (cut_from at rest).records in
     let is : after ≡ Some (drop (more + 12) rest) = subst (λ o. LeavesBehindHeader at o after) so_far.1 shown in
-    let same : b.many + (more + 12) ≡ octets_in (cut_from start octets).records + 12 = omega (arith, b.records) in
+    let same : b.many + (more + 12) ≡ octets_of_records (cut_from start octets).records + 12 = omega (arith, b.records) in
     is ∙ ap (λ (t : List ℕ). Some (drop (more + 12) t)) b.rest ∙ ap (λ (t : List ℕ). Some t) (drop-drop (more + 12) b.many octets) ∙ ap (λ n. Some (drop n octets)) same
 
 -- ---- the limit on bytes

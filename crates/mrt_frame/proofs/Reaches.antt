@@ -7,7 +7,7 @@ use Rattle.mrt_frame.specs.declared.header.At.{At}
 use Rattle.mrt_frame.specs.Encoding.{IsEnd, EncodeRecords}
 use Rattle.mrt_frame.specs.Frames.{PassesOver, FindsNext}
 use Rattle.mrt_frame.specs.Limits.{max_file}
-use Rattle.mrt_frame.specs.Reach.{ReadsUpTo, LeavesBehindHeader, ReachLaw, octets_in}
+use Rattle.mrt_frame.specs.Reach.{ReadsUpTo, LeavesBehindHeader, ReachLaw, octets_of_records}
 use Rattle.mrt_frame.specs.Records.{Record, RecordsEnd, Ends, Holds, Well, place_behind, next_of, cut, cut_from, start}
 use Rattle.mrt_frame.proofs.Cuts.{cut_onto, cut_ends, encoding_law}
 use Rattle.mrt_frame.proofs.Nexts.{StandsAt, IsNext, next_is}
@@ -39,7 +39,7 @@ reads_more before left first last more reads le = (reads.0, omega (arith, reads.
 -- so many octets stand between two places, and they are those of whole records
 pub record IsBehind (at : At) (octets : List ℕ) (place : At) (reached : List ℕ) : Type 0 where
   pub many : ℕ
-  pub records : octets_in (cut_from at octets).records ≡ many + octets_in (cut_from place reached).records
+  pub records : octets_of_records (cut_from at octets).records ≡ many + octets_of_records (cut_from place reached).records
   pub rest : reached ≡ drop many octets
 
 pub behind_none : (at : At) (octets : List ℕ) → IsBehind at octets at octets
@@ -52,7 +52,7 @@ behind_one at octets r rest is =
     let whole : length (s.header ++ r.body) ≡ 12 + length r.body = omega (arith, length-append s.header r.body, s.is_header.octets) in
     record {
       many = 12 + length r.body;
-      records = ap (λ c. octets_in c.records) (cut_onto at octets r rest is) ∙ sum_by-cons (λ (x : Record). 12 + length x.body) r (cut_from (place_behind r) rest).records;
+      records = ap (λ c. octets_of_records c.records) (cut_onto at octets r rest is) ∙ sum_by-cons (λ (x : Record). 12 + length x.body) r (cut_from (place_behind r) rest).records;
       rest = sym (ap (drop (12 + length r.body)) s.encoded ∙ drop_at (s.header ++ r.body) rest (12 + length r.body) whole);
     }
 
@@ -77,9 +77,9 @@ behind_found at octets r left finds =
 
 -- where no record stands at a place, and twelve octets were read there
 pub ends_behind : (at : At) (octets : List ℕ) (place : At) (reached : List ℕ) (end : RecordsEnd) (left : Option (List ℕ)) → IsBehind at octets place reached → next_of place reached ≡ Ends end
-    → left ≡ Some (drop 12 reached) → left ≡ Some (drop (octets_in (cut_from at octets).records + 12) octets)
+    → left ≡ Some (drop 12 reached) → left ≡ Some (drop (octets_of_records (cut_from at octets).records + 12) octets)
 ends_behind at octets place reached end left b stands is =
-    let all : octets_in (cut_from at octets).records ≡ b.many = omega (arith, b.records, ap (λ c. octets_in c.records) (cut_ends place reached end stands)) in
+    let all : octets_of_records (cut_from at octets).records ≡ b.many = omega (arith, b.records, ap (λ c. octets_of_records c.records) (cut_ends place reached end stands)) in
     is ∙ ap (λ (t : List ℕ). Some (drop 12 t)) b.rest ∙ ap (λ (t : List ℕ). Some t) (drop-drop 12 b.many octets) ∙ ap (λ n. Some (drop (n + 12) octets)) (sym all)
 
 pub shown_at : (before left after : Option (List ℕ)) (first at : At) (end : RecordsEnd) → HasPassed before first left at → IfSome left (λ octets. next_of at octets ≡ Ends end)
@@ -93,13 +93,13 @@ shown_at (Some octets) left after first at end passed stands is =
 -- ---- the law
 
 reaches : (records : List Record) (at : At) (octets : List ℕ) (end : RecordsEnd) → at.offset ≤ max_file → EncodeRecords at octets records end
-    → (at.offset + octets_in records ≤ max_file) × (end ≡ Well → octets_in records ≡ length octets)
+    → (at.offset + octets_of_records records ≤ max_file) × (end ≡ Well → octets_of_records records ≡ length octets)
 reaches [] at octets end le is = (omega arith, λ well. let none : octets ≡ [] = subst (IsEnd at octets) well is in omega (arith, ap length none))
 reaches (r ∷ records) at octets end le is =
     let rest = is.0 in
     let s = is.3 in
     let place : r.at.offset ≡ at.offset = ap (λ (a : At). a.offset) is.1 in
-    let one : octets_in (r ∷ records) ≡ 12 + length r.body + octets_in records = sum_by-cons (λ (x : Record). 12 + length x.body) r records in
+    let one : octets_of_records (r ∷ records) ≡ 12 + length r.body + octets_of_records records = sum_by-cons (λ (x : Record). 12 + length x.body) r records in
     let within = is.2.file in
     let later = reaches records (place_behind r) rest end within is.4 in
     let whole : length octets ≡ 12 + length r.body + length rest = omega (arith, ap length s.encoded, length-append (s.header ++ r.body) rest, length-append s.header r.body, s.is_header.octets) in (

@@ -14,16 +14,16 @@ abbrev pub max_read : ℕ
 max_read = max_file + 12
 
 -- how many octets records have, with their headers
-abbrev pub octets_in : List Record → ℕ
-octets_in records = sum_by (λ r. 12 + length r.body) records
+abbrev pub octets_of_records : List Record → ℕ
+octets_of_records records = sum_by (λ r. 12 + length r.body) records
 
 -- where the octets are known, all records from this place on were read or passed over, and behind them one header; what is behind that is
 -- left
 abbrev pub LeavesBehindHeader : At → (before left : Option (List ℕ)) → Type 0
-LeavesBehindHeader at before left = IfSome before (λ octets. left ≡ Some (drop (octets_in (cut_from at octets).records + 12) octets))
+LeavesBehindHeader at before left = IfSome before (λ octets. left ≡ Some (drop (octets_of_records (cut_from at octets).records + 12) octets))
 
 -- the records of a file have at most 2 ^ 40 octets, and they are all of its octets where it ends behind a whole record
 abbrev pub ReachLaw : Type 0
 ReachLaw =
-    (octets : List ℕ) → (octets_in (cut octets).records ≤ max_file) × ((cut octets).end ≡ Well →
-    octets_in (cut octets).records ≡ length octets)
+    (octets : List ℕ) → (octets_of_records (cut octets).records ≤ max_file) × ((cut octets).end ≡ Well →
+    octets_of_records (cut octets).records ≡ length octets)

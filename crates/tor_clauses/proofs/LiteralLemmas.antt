@@ -10,11 +10,11 @@ pub opposite_twice : (e : End) → opposite (opposite e) ≡ e
 opposite_twice End.Low = refl
 opposite_twice End.High = refl
 
-lit_with : (k : ℕ) {e f : End} → e ≡ f → ◌≡◌ {A = Lit} (record { edge = k; over = e }) (record { edge = k; over = f })
-lit_with k h = ap (λ e. record { edge = k; over = e }) h
+abbrev pub lit_with : ℕ → End → Lit
+lit_with k e = record { edge = k; over = e }
 
 pub negated_twice : (l : Lit) → negated (negated l) ≡ l
-negated_twice l = lit_with l.edge (opposite_twice l.over)
+negated_twice l = ap (lit_with l.edge) (opposite_twice l.over)
 
 half : (k : ℕ) (e : End) → (k * 2 + side e) / 2 ≡ k
 half k End.Low = omega arith

@@ -14,6 +14,7 @@ use Rattle.relationships.proofs.Slopes.{over_parts, over-low, over-high}
 use Rattle.tor_arena.proofs.Gets.{slice_get-some}
 use Rattle.tor_clauses.specs.declared.lit.Lit.{Lit}
 use Rattle.tor_clauses.specs.Literals.{negated, over, Says, Holds}
+use Rattle.tor_clauses.proofs.LiteralLemmas.{lit_with}
 use Rattle.tor_clauses.proofs.Members.{In, In-flat_map, get-In}
 use Rattle.tor_clauses.proofs.Distincts.{distinct_by, Apart, apart-distinct, In-distinct}
 use Rattle.tor_clauses.proofs.Sames.{edge_same}
@@ -93,9 +94,6 @@ edge_with a b = (a, b)
 
 pub edge_reverse : (x y : ℕ) → edge_of y x ≡ edge_of x y
 edge_reverse x y = let e : min y x ≡ min x y = omega arith in let f : max y x ≡ max x y = omega arith in ap₂ edge_with e f
-
-abbrev lit_with : ℕ → End → Lit
-lit_with k e = record { edge = k; over = e }
 
 pub over-reversed : (es : List Edge) (x y : ℕ) → x ≢ y → over es y x ≡ negated (over es x y)
 over-reversed es x y ne = ap₂ lit_with (ap (λ e. position_or_len (is_same e) es) (edge_reverse x y)) (end_reversed x y ne)

@@ -2,7 +2,6 @@
 use Rattle.std.proofs.Common.{◌≡◌, ℕ, zero, suc, ◌+◌, ◌-◌, ◌≤◌, List, [], ◌∷◌, Some, length, refl, sym, ap, ap₂, ◌∙◌, arith}
 use Rattle.std.specs.Prelude.{slice_get}
 use Rattle.std.proofs.lemmas.Option.{same_Some}
-use Rattle.relationships.specs.declared.label.End.{End}
 use Rattle.relationships.specs.Graph.{Edge, edge_of, is_same, edges}
 use Rattle.as_graph.specs.declared.step.Step.{Step}
 use Rattle.as_graph.specs.Steps.{IsStep, AreStepsFrom, AreSteps}
@@ -13,10 +12,8 @@ use Rattle.tor_clauses.specs.Literals.{over}
 use Rattle.tor_clauses.specs.Triples.{triples_from, triples_along, triples_on}
 use Rattle.tor_clauses.specs.Tables.{lit_at, triple_by}
 use Rattle.tor_clauses.proofs.Distincts.{Apart}
+use Rattle.tor_clauses.proofs.LiteralLemmas.{lit_with}
 use Rattle.tor_clauses.proofs.Overs.{place_is, edges-apart}
-
-abbrev lit_with : ℕ → End → Lit
-lit_with k e = record { edge = k; over = e }
 
 step_over : (es : List Edge) (x y : ℕ) (s : Step) → Apart is_same es → IsStep es x y s → over es x y ≡ lit_at s
 step_over es x y s a h = ap₂ lit_with (place_is es s.edge (edge_of x y) a h.0) (sym h.1)
