@@ -3,10 +3,10 @@
 
     python3 bench/given.py PROGRAM SEED COUNT
 
-PROGRAM is what bench/given.sh makes: it reads lines `path 10 20 30`, `given 10 20`, `ratio 60` and `result`, and writes results. Each list
-has up to six paths over four to seven ASes, and up to five givens, of which some name no edge. What is kept, which end each edge gets, which
-edges become peerings, which are forced and the supports are found by going over all orientations; the walks, the why lines and the open lines
-are followed link by link. The first difference ends it with status 1.
+PROGRAM is what bench/given.sh makes: it reads lines `path 10 20 30`, `given 10 20`, `ratio 60` and `result`, and writes results. Each
+list has up to six paths over four to seven ASes, and up to five givens, of which some name no edge. What is kept, which end each edge
+gets, which edges become peerings, which are forced and the supports are found by going over all orientations; the walks, the why lines
+and the open lines are followed link by link. The first difference ends it with status 1.
 """
 import itertools
 import random

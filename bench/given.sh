@@ -2,8 +2,8 @@
 # Results under givens, beside all orientations of small lists, and the times of large ones.
 #   bench/given.sh SEED COUNT
 #   PLACE=FOLDER bench/given.sh        only makes the program, in FOLDER/crates/given_bench
-# A small program is made beside a copy of the crates, proved and built; it makes the result of paths under givens. `given.py` hands it COUNT
-# random lists of paths with random givens, tries all orientations of each, and compares; then it is thrown away.
+# A small program is made beside a copy of the crates, proved and built; it makes the result of paths under givens. `given.py` hands it
+# COUNT random lists of paths with random givens, tries all orientations of each, and compares; then it is thrown away.
 set -euo pipefail
 top=$(cd "$(dirname "$0")/.." && pwd)
 copy=${PLACE:-$(mktemp -d)}

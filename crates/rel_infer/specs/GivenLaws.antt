@@ -63,8 +63,8 @@ AgreeingLaw =
     IsPreferred (returns paths givens ++ kept) wants order O ↔ IsPreferredAmong (AgreesOnEdges givens paths) kept wants order O)
 
 -- where each given names two ASes, and no two of them the same two, a path is kept exactly if some orientation that agrees with all givens
--- serves it together with those kept before it, whether the returns of all givens stand in front or those of edges alone; and an edge of the
--- paths is forced exactly if all orientations that agree with all givens and serve the kept paths agree on it
+-- serves it together with those kept before it, whether the returns of all givens stand in front or those of edges alone; and an edge of
+-- the paths is forced exactly if all orientations that agree with all givens and serve the kept paths agree on it
 abbrev pub AllAgreeingLaw : Type 0
 AllAgreeingLaw =
     (givens : List Given) (paths : List (List ℕ)) → NameTwo givens → NameOnce givens →

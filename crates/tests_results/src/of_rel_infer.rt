@@ -258,27 +258,29 @@ fn a_given_that_is_forced_anyway_changes_no_line(rt: HostRuntime) {
     assert!(rt; is_same);
 }
 
-// Whether the first of the three paths is kept under these givens, and the last edge on it is forced.
+// Whether the first path is kept, and the edge of 50 and 60 is forced.
+fn first_of(file: &ResultFile) -> (bool, bool) {
+    if file.paths.len() == 0 {
+        return (false, false);
+    }
+    let is_kept = file.paths.get(PathId::from_place(0).unwrap()).is_kept();
+    let line = edge(50, 60, Label::Low, Mark::Forced, 1);
+    (is_kept, file.edges.as_slice().contains(&line))
+}
+
+// The same of three paths under these givens.
 fn first_under(alloc: Global, keys: Keys, givens: &[Given]) -> Result<(bool, bool), NoMemory>
     requires two { NameTwo givens.now }
     requires once { NameOnce givens.now }
     requires few { length givens.now ≤ max_givens }
 {
     let file = result_under(alloc, keys, &THREE_PATHS, givens)?;
-    if file.paths.len() == 0 {
-        return Ok((false, false));
-    }
-    let is_kept = file.paths.get(PathId::from_place(0).unwrap()).is_kept();
-    let is_forced = file
-        .edges
-        .as_slice()
-        .contains(&edge(50, 60, Label::Low, Mark::Forced, 1));
-    Ok((is_kept, is_forced))
+    Ok(first_of(&file))
 }
 
-// 40 over 20 forces what stands behind it on the path 30 40 20 10 50 60: 20 over 10, 10 over 50 and 50 over 60.
-#[test]
-fn a_given_against_an_edge_that_another_forces_loses_the_path(rt: HostRuntime) {
+// 40 over 20 forces what stands behind it on the path 30 40 20 10 50 60: 20 over 10, 10 over 50 and 50 over 60. Then 60 over 50 is given
+// too.
+fn with_and_against(alloc: Global, keys: Keys) -> Result<[(bool, bool); 2], NoMemory> {
     let first = Given {
         over: 40,
         under: 20,
@@ -287,12 +289,15 @@ fn a_given_against_an_edge_that_another_forces_loses_the_path(rt: HostRuntime) {
         over: 60,
         under: 50,
     };
-    let Ok(kept) = first_under(rt.alloc(), Keys::new(&rt), &[first]) else {
+    let kept = first_under(alloc, keys, &[first])?;
+    let lost = first_under(alloc, keys, &[first, against])?;
+    Ok([kept, lost])
+}
+
+#[test]
+fn a_given_against_an_edge_that_another_forces_loses_the_path(rt: HostRuntime) {
+    let Ok(told) = with_and_against(rt.alloc(), Keys::new(&rt)) else {
         panic!(&rt; "memory ran out");
     };
-    assert_eq!(rt; kept, (true, true));
-    let Ok(lost) = first_under(rt.alloc(), Keys::new(&rt), &[first, against]) else {
-        panic!(&rt; "memory ran out");
-    };
-    assert_eq!(rt; lost, (false, false));
+    assert_eq!(rt; told, [(true, true), (false, false)]);
 }
