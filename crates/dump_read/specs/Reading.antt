@@ -7,7 +7,7 @@ use Rattle.dump_read.specs.declared.error.Fault.{Fault}
 use Rattle.dump_read.specs.declared.error.Fault.TheVariants as fault
 use Rattle.dump_read.specs.Routes.{Route, routes_of, peers_behind}
 
--- the file is read to its end; a record has a fault; or the file has too many bytes
+-- the file is read to its end; a record has a fault; or the file has too many octets
 pub data FileEnd : Type 0 where
   Whole : FileEnd
   Broken : At → Fault → FileEnd

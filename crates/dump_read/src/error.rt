@@ -32,7 +32,7 @@ pub enum LimitKind {
     Paths,
     /// Numbers on the distinct paths, in sum.
     Numbers,
-    /// Bytes of a dump.
+    /// Octets of a dump.
     Bytes,
 }
 

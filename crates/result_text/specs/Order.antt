@@ -101,13 +101,13 @@ finished d = elim d.section [
   | _ ↦ None
 ]
 
--- the draft with the line that was read, if it may come next, and the bytes behind that
+-- the draft with the line that was read, if it may come next, and the octets behind that
 abbrev pub with_line : Draft → Option (Line × List ℕ) → Option (Draft × List ℕ)
 with_line d read = do
   x ← read
   e ← step d x.0
   Some (e, x.1)
 
--- the draft with the line at the prefix of the bytes, and the bytes behind that
+-- the draft with the line at the prefix of the octets, and the octets behind that
 unfoldable pub next_at : Draft → List ℕ → Option (Draft × List ℕ)
 next_at d bytes = with_line d (line_at bytes)

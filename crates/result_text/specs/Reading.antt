@@ -1,4 +1,4 @@
--- Reading the lists, the names and the lines of a result: a value, and the bytes behind it.
+-- Reading the lists, the names and the lines of a result: a value, and the octets behind it.
 use Rattle.std.specs.Prelude.{◌≡◌, ℕ, zero, suc, Bool, true, ◌||◌, List, [], ◌∷◌, ◌++◌, length, Option, Some, None, Result, Ok, Err, codes}
 use Rattle.std.specs.Prelude.{◌==◌, if◌then◌else◌}
 use Rattle.relationships.specs.declared.label.Label.{Label}
@@ -46,12 +46,12 @@ others_at member (suc k) bytes =
 abbrev pub with_prefix : {X : Type 0} → List X → Option (List X × List ℕ) → Option (List X × List ℕ)
 with_prefix prefix read = read >>= λ x. Some (prefix ++ x.0, x.1)
 
--- a field ends at a bar, at a line feed, and with the bytes
+-- a field ends at a bar, at a line feed, and with the octets
 abbrev pub field_ends : List ℕ → Bool
 field_ends [] = true
 field_ends (b ∷ bytes) = b == 124 || b == 10
 
--- an empty field is an empty list; else the list has as many members as the bytes give
+-- an empty field is an empty list; else the list has as many members as the octets give
 unfoldable pub list_at : {X : Type 0} → (List ℕ → Option (X × List ℕ)) → List ℕ → Option (List X × List ℕ)
 list_at member bytes = if field_ends bytes then Some ([], bytes) else (do
   x ← member bytes

@@ -1,14 +1,14 @@
-//! Why bytes were not read as a result.
+//! Why octets were not read as a result.
 ghost use Rattle.std.specs.Prelude.{◌≡◌};
 ghost use Rattle.result_text.specs.declared.error.LineError.TheVariants.{NoMemory as no_memory};
 
 use thiserror::Error;
 use tor_arena::NoMemory;
 
-/// Why bytes were not read as a result.
+/// Why octets were not read as a result.
 #[derive(Clone, Copy, Debug, PartialEq, Eq, Error)]
 pub enum ParseError {
-    /// The bytes are no text, and this is the number of their bad line, from 1.
+    /// The octets are no text, and this is the number of their bad line, from 1.
     #[error("line {0} is bad")]
     BadLine(u64),
     /// Memory ran out.

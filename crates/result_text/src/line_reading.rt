@@ -1,4 +1,4 @@
-//! What lines say behind their first word, read from the prefix of the bytes, with the line feed. Lists go into lists that are there.
+//! What lines say behind their first word, read from the prefix of the octets, with the line feed. Lists go into lists that are there.
 
 ghost use Rattle.std.specs.Prelude.{◌≡◌};
 ghost use Rattle.relationships.specs.Flat.{walk_with};

@@ -1,4 +1,4 @@
-//! The line at the prefix of the bytes, read into the draft.
+//! The line at the prefix of the octets, read into the draft.
 
 ghost use Rattle.result_text.specs.Order.{with_line, next_at};
 ghost use Rattle.result_text.specs.Reading.{ReadsAs, by_word, outer_readers, sets_line_at, ratio_at, aside_at, kept_at, lost_at};

@@ -10,7 +10,7 @@ use crate::file::ResultFile;
 use crate::next_line::{Scratch, next_line};
 use std::alloc::Global;
 
-/// The result whose text this is, or want of memory. BadLine comes only where the bytes are no text, and names their bad line:
+/// The result whose text this is, or want of memory. BadLine comes only where the octets are no text, and names their bad line:
 /// the first n lines don't stand there or begin no text, and n is the least such number.
 pub fn parse(alloc: Global, bytes: &[u8]) -> Result<ResultFile, ParseError>
     ensures text { IfOk result (λ file. IsTextOf file bytes.now) }
@@ -24,7 +24,7 @@ pub fn parse(alloc: Global, bytes: &[u8]) -> Result<ResultFile, ParseError>
     }
 }
 
-/// Reads the lines into a draft with nothing in it, and answers how many there are. Where the draft is finished then, the bytes are the
+/// Reads the lines into a draft with nothing in it, and answers how many there are. Where the draft is finished then, the octets are the
 /// text of its result; else the line behind the last is their bad line. Errors are those of `parse`.
 fn read_lines(alloc: Global, draft: &mut Draft, bytes: &[u8]) -> Result<u64, ParseError>
     requires { draft.old ≡ empty_draft }

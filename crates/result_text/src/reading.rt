@@ -1,4 +1,4 @@
-//! Numbers and lists, read from the prefix of the bytes. Each reader answers the value and the bytes behind it.
+//! Numbers and lists, read from the prefix of the octets. Each reader answers the value and the octets behind it.
 
 ghost use Rattle.std.specs.Prelude.{◌≡◌, ◌∷◌, [], length};
 ghost use Rattle.result_text.specs.Reading.{ReadsAs, others_at, with_prefix, list_at, link_at, field_ends};
@@ -9,7 +9,7 @@ use relationships::Link;
 use text_fields::after_byte;
 use tor_arena::List;
 
-// What stands behind this byte, where it has to stand there.
+// What stands behind this octet, where it has to stand there.
 fn past(byte: u8, bytes: &[u8]) -> Result<&[u8], LineError>
     ensures { ReadsAs (λ x. x.now) result (word_at (byte ∷ []) bytes.now) }
 {
@@ -29,7 +29,7 @@ fn u32_of(bytes: &[u8]) -> Result<(u32, &[u8]), LineError>
     }
 }
 
-/// A number, and behind it this byte.
+/// A number, and behind it this octet.
 pub fn read_u64(byte: u8, bytes: &[u8]) -> Result<(u64, &[u8]), LineError>
     ensures { ReadsAs (λ x. (x.0, x.1.now)) result (before byte u64_at bytes.now) }
 {
@@ -39,7 +39,7 @@ pub fn read_u64(byte: u8, bytes: &[u8]) -> Result<(u64, &[u8]), LineError>
     }
 }
 
-/// A number below 2^32, and behind it this byte.
+/// A number below 2^32, and behind it this octet.
 pub fn read_u32(byte: u8, bytes: &[u8]) -> Result<(u32, &[u8]), LineError>
     ensures { ReadsAs (λ x. (x.0, x.1.now)) result (before byte u32_at bytes.now) }
 {
@@ -87,7 +87,7 @@ fn numbers_of<'a>(numbers: &mut List<u32>, bytes: &'a [u8]) -> Result<&'a [u8], 
     other_numbers(numbers, rest)
 }
 
-/// A list of numbers, in place of those that were there, and behind it this byte.
+/// A list of numbers, in place of those that were there, and behind it this octet.
 pub fn numbers_before<'a>(
     byte: u8,
     numbers: &mut List<u32>,
@@ -137,7 +137,7 @@ fn links_of<'a>(links: &mut List<Link>, bytes: &'a [u8]) -> Result<&'a [u8], Lin
     other_links(links, rest)
 }
 
-/// A list of links, in place of those that were there, and behind it this byte.
+/// A list of links, in place of those that were there, and behind it this octet.
 pub fn links_before<'a>(
     byte: u8,
     links: &mut List<Link>,

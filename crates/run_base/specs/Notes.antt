@@ -60,7 +60,7 @@ malformed_note place broken =
 abbrev pub limit_note : LimitKind → ℕ → List ℕ
 limit_note kind dump = codes "limit|" ++ limit_word kind ++ codes "|" ++ decimal dump ++ 10 ∷ []
 
--- the result file has too many bytes
+-- the result file has too many octets
 abbrev pub result_note : List ℕ
 result_note = codes "limit|result|0" ++ 10 ∷ []
 

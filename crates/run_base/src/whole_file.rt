@@ -48,7 +48,7 @@ impl From<AllocError> for Unread {
     }
 }
 
-/// Reads once, at most so many bytes, to the prefix of the buffer. It answers how many came.
+/// Reads once, at most so many octets, to the prefix of the buffer. It answers how many came.
 fn read_prefix<H: Shelf>(shelf: &mut H, buffer: &mut [u8], most: usize) -> Result<usize, Failed>
     requires some { 0 < most }
     requires room { most ≤ length buffer.old }

@@ -44,7 +44,7 @@ abbrev pub firsts : List RelLine → List RelLine
 firsts [] = []
 firsts (l ∷ ls) = l ∷ filter (λ m. not (is_same (pair_of l) (pair_of m))) (firsts ls)
 
--- what bytes say: all their lines are good, and this is the first line of each two ASes
+-- what octets say: all their lines are good, and this is the first line of each two ASes
 pub record IsSaid (bytes : List ℕ) (rel : List RelLine) : Type 0 where
   pub good : AreGood (lines bytes)
   pub first : rel ≡ firsts (said_by (lines bytes))
@@ -58,7 +58,7 @@ abbrev pub NamesBadLine : RelError → List ℕ → Type 0
 NamesBadLine (errors.BadLine number) bytes = IsFirstBadNumber bytes number
 NamesBadLine errors.NoMemory bytes = Unit {0}
 
--- Bytes have a first bad line exactly where that is the answer, by its number from 1. Otherwise all lines are good.
+-- Octets have a first bad line exactly where that is the answer, by its number from 1. Otherwise all lines are good.
 abbrev pub GoodLaw : Type 0
 GoodLaw =
     (bytes : List ℕ) →

@@ -15,12 +15,12 @@ use Rattle.serial_lines.specs.declared.error.RelError.TheVariants as errors
 
 -- ---- lines
 
--- the byte in front of the first line
+-- the octet in front of the first line
 abbrev pub onto_first : ℕ → List (List ℕ) → List (List ℕ)
 onto_first b [] = (b ∷ []) ∷ []
 onto_first b (line ∷ more) = (b ∷ line) ∷ more
 
--- the lines of bytes. Each ends with a line feed, and what stands behind the last line feed is a line too, unless it is empty
+-- the lines of octets. Each ends with a line feed, and what stands behind the last line feed is a line too, unless it is empty
 abbrev pub lines : List ℕ → List (List ℕ)
 lines [] = []
 lines (b ∷ bytes) = if b == 10 then [] ∷ lines bytes else onto_first b (lines bytes)
@@ -105,7 +105,7 @@ abbrev pub rel_from : ℕ → List RelLine → List (List ℕ) → Result (List 
 rel_from n rel [] = Ok rel
 rel_from n rel (line ∷ more) = elim (after_line rel line) [ Some next ↦ rel_from (n + 1) next more | None ↦ Err (n + 1) ]
 
--- what bytes say, or the number of their first bad line
+-- what octets say, or the number of their first bad line
 abbrev pub rel_in : List ℕ → Result (List RelLine) ℕ
 rel_in bytes = rel_from 0 [] (lines bytes)
 

@@ -1,9 +1,9 @@
-//! Why bytes were not read as relationships.
+//! Why octets were not read as relationships.
 ghost use Rattle.std.specs.Prelude.{◌≡◌};
 
 use tor_arena::NoMemory;
 
-/// Why bytes were not read as relationships.
+/// Why octets were not read as relationships.
 #[derive(Clone, Copy, Debug, PartialEq, Eq)]
 pub enum RelError {
     /// A line is bad, and this is the number, from 1, of the first that is.

@@ -35,7 +35,7 @@ pub(crate) fn is_comment(line: &[u8]) -> bool
     }
 }
 
-// The kind whose word these bytes are.
+// The kind whose word these octets are.
 #[tactic(auto, unfolding(crate::specs::Serial::kind_at))]
 fn kind_of(bytes: &[u8]) -> Option<RelKind>
     ensures { result ≡ kind_at bytes.now }

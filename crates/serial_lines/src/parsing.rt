@@ -10,7 +10,7 @@ use crate::rel::Rel;
 use std::alloc::Global;
 use tor_arena::{Keys, NoMemory};
 
-/// What the lines of these bytes say: comments aside, the line of each pair of ASes where it is named first. BadLine names the first
+/// What the lines of these octets say: comments aside, the line of each pair of ASes where it is named first. BadLine names the first
 /// bad line: one that is no comment and hasn't the form, or says of its two ASes something else than an earlier line. The last line
 /// needs no line feed. The only other error is that memory ran out.
 #[tactic(auto, using(crate::proofs::Goods::is_bad_line))]

@@ -198,7 +198,7 @@ fn seven_kinds_of_index_end_where_they_have_to(rt: HostRuntime) {
     assert_eq!(rt; ends, [true; 7]);
 }
 
-/// A source that has no bytes.
+/// A source that has no octets.
 struct NoBytes;
 
 impl RandomSource for NoBytes {

@@ -9,7 +9,7 @@ use tor_io::{
     Buffer, Failed, FileShelf, MemShelf, MemSink, OpenRefused, Shelf, Sink, StdSink, write_all,
 };
 
-/// A writer that takes one byte a call.
+/// A writer that takes one octet a call.
 #[derive(Drop)]
 struct Slow {
     taken: Vec<u8>,

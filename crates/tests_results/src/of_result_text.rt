@@ -126,7 +126,7 @@ static CASES: [Case; 36] = [
         body: "",
         bad_line: Some(1),
     },
-    // bytes behind the last line feed
+    // octets behind the last line feed
     Case {
         head: HEAD,
         body: "end|0|0|0|0|0\nx",

@@ -1,4 +1,4 @@
--- Reading from left to right: a value, and the bytes behind it.
+-- Reading from left to right: a value, and the octets behind it.
 use Rattle.std.specs.Prelude.{ℕ, ◌+◌, ◌-◌, ◌*◌, ◌^◌, Bool, ◌&&◌, List, [], ◌∷◌, Option, Some, None, nat_lt, nat_le, ◌==◌, if◌then◌else◌}
 
 infixl 10 ◌>>=◌
@@ -6,7 +6,7 @@ abbrev pub ◌>>=◌ : {A B : Type 0} → Option A → (A → Option B) → Opti
 (Some x) >>= f = f x
 None >>= f = None
 
--- the bytes behind a word
+-- the octets behind a word
 abbrev pub word_at : List ℕ → List ℕ → Option (List ℕ)
 word_at [] bytes = Some bytes
 word_at (c ∷ cs) [] = None
@@ -25,7 +25,7 @@ is_digit b = nat_le 48 b && nat_le b 57
 abbrev pub with_digit : ℕ → ℕ → Option ℕ
 with_digit n digit = if nat_lt (n * 10 + digit) (2 ^ 64) then Some (n * 10 + digit) else None
 
--- the digit that the bytes begin with
+-- the digit that the octets begin with
 unfoldable pub digit_at : List ℕ → Option (ℕ × List ℕ)
 digit_at [] = None
 digit_at (b ∷ bytes) = if is_digit b then Some (b - 48, bytes) else None
@@ -47,7 +47,7 @@ below limit x = if nat_lt x.0 limit then Some x else None
 unfoldable pub u32_at : List ℕ → Option (ℕ × List ℕ)
 u32_at bytes = u64_at bytes >>= below (2 ^ 32)
 
--- a value, and behind it this byte
+-- a value, and behind it this octet
 abbrev pub before : {X : Type 0} → ℕ → (List ℕ → Option (X × List ℕ)) → List ℕ → Option (X × List ℕ)
 before c read bytes = do
   x ← read bytes

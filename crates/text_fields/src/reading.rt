@@ -1,18 +1,18 @@
-//! Words and numbers that bytes begin with. Each reader answers the value and the bytes behind it, or nothing where the bytes don't
+//! Words and numbers that octets begin with. Each reader answers the value and the octets behind it, or nothing where the octets don't
 //! begin so. None takes memory.
 
 ghost use Rattle.std.specs.Prelude.{◌≡◌, ◌∷◌, [], option_map};
 ghost use Rattle.std.specs.Option.{option_copied};
 ghost use Rattle.text_fields.specs.Reading.{word_at, digit_at, digits_at, with_digit, u64_at, u32_at, before, is_digit};
 
-/// The bytes behind a word, if they begin with it.
+/// The octets behind a word, if they begin with it.
 pub fn after<'a>(word: &[u8], bytes: &'a [u8]) -> Option<&'a [u8]>
     ensures { option_copied result ≡ word_at word.now bytes.now }
 {
     bytes.strip_prefix(word)
 }
 
-/// The bytes behind this byte, if they begin with it.
+/// The octets behind this octet, if they begin with it.
 pub fn after_byte(byte: u8, bytes: &[u8]) -> Option<&[u8]>
     ensures { option_copied result ≡ word_at (byte ∷ []) bytes.now }
 {
@@ -22,14 +22,14 @@ pub fn after_byte(byte: u8, bytes: &[u8]) -> Option<&[u8]>
     }
 }
 
-// Whether the byte is a decimal digit.
+// Whether the octet is a decimal digit.
 fn is_digit(byte: u8) -> bool
     ensures { result ≡ is_digit byte }
 {
     b'0' <= byte && byte <= b'9'
 }
 
-// The digit that the bytes begin with.
+// The digit that the octets begin with.
 #[tactic(auto, unfolding(crate::specs::Reading::digit_at))]
 fn digit_of(bytes: &[u8]) -> Option<(u8, &[u8])>
     ensures { option_map (λ x. (x.0, x.1.now)) result ≡ digit_at bytes.now }
@@ -83,7 +83,7 @@ pub fn u32_of(bytes: &[u8]) -> Option<(u32, &[u8])>
     }
 }
 
-/// A number below 2^64, and behind it this byte.
+/// A number below 2^64, and behind it this octet.
 pub fn u64_before(byte: u8, bytes: &[u8]) -> Option<(u64, &[u8])>
     ensures { option_map (λ x. (x.0, x.1.now)) result ≡ before byte u64_at bytes.now }
 {
@@ -92,7 +92,7 @@ pub fn u64_before(byte: u8, bytes: &[u8]) -> Option<(u64, &[u8])>
     Some((number, rest))
 }
 
-/// A number below 2^32, and behind it this byte.
+/// A number below 2^32, and behind it this octet.
 pub fn u32_before(byte: u8, bytes: &[u8]) -> Option<(u32, &[u8])>
     ensures { option_map (λ x. (x.0, x.1.now)) result ≡ before byte u32_at bytes.now }
 {

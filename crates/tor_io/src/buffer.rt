@@ -10,10 +10,10 @@ use std::alloc::Global;
 use std::marker::Model;
 use tor_arena::NoMemory;
 
-/// How many bytes are written at once.
+/// How many octets are written at once.
 const SIZE: usize = 65536;
 
-/// Bytes on their way to a sink, so that these are written in large pieces.
+/// Octets on their way to a sink, so that these are written in large pieces.
 #[derive(Drop)]
 pub struct Buffer {
     bytes: Vec<u8>,
@@ -30,7 +30,7 @@ impl Model for Buffer {
     ghost invariant = { λ buffer. buffer.filled ≤ vec_len buffer.bytes };
 }
 
-// Copies the piece to its place behind the first `filled` bytes, where there has to be room, and answers where it ends.
+// Copies the piece to its place behind the first `filled` octets, where there has to be room, and answers where it ends.
 fn copy_behind(bytes: &mut [u8], filled: usize, piece: &[u8]) -> usize
     requires { filled + length piece.now ≤ length bytes.old }
     ensures end { result ≤ length bytes.new }
@@ -53,7 +53,7 @@ impl Buffer {
         })
     }
 
-    /// Puts bytes behind those that wait. Where there is no room, what waits is written first. Failed: a write failed, and the
+    /// Puts octets behind those that wait. Where there is no room, what waits is written first. Failed: a write failed, and the
     /// sink took a prefix of what waited and the piece. It takes no memory.
     pub fn put<S: Sink>(&mut self, sink: &mut S, piece: &[u8]) -> Result<(), Failed>
         ensures all { OnOk result (PassesOn (S.held sink.old) (S.held sink.new) self.new (self.old ++ piece.now)) }
@@ -71,7 +71,7 @@ impl Buffer {
         Ok(())
     }
 
-    /// Puts one byte behind those that wait. Where there is no room, what waits is written first. Failed: a write failed, and the
+    /// Puts one octet behind those that wait. Where there is no room, what waits is written first. Failed: a write failed, and the
     /// sink took a prefix of these. It takes no memory.
     pub fn put_byte<S: Sink>(&mut self, sink: &mut S, byte: u8) -> Result<(), Failed>
         ensures all { OnOk result (PassesOn (S.held sink.old) (S.held sink.new) self.new (self.old ++ byte ∷ [])) }

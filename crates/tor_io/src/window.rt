@@ -7,10 +7,10 @@ use std::alloc::{AllocError, Global};
 use std::io;
 use std::io::Read;
 
-/// How many bytes are read at once.
+/// How many octets are read at once.
 const SIZE: usize = 65536;
 
-/// A buffer, and which of its bytes were read and not yet given.
+/// A buffer, and which of its octets were read and not yet given.
 #[derive(Drop)]
 pub(crate) struct Window {
     bytes: Vec<u8>,
@@ -21,7 +21,7 @@ pub(crate) struct Window {
 }
 
 impl Window {
-    /// A buffer without bytes. It takes no memory.
+    /// A buffer without octets. It takes no memory.
     pub(crate) fn new(alloc: Global) -> Window {
         Window {
             bytes: Vec::new(alloc),
@@ -42,7 +42,7 @@ impl Window {
         self.start == self.end
     }
 
-    /// Reads the next bytes of the file, in place of those that are there.
+    /// Reads the next octets of the file, in place of those that are there.
     pub(crate) fn fill<F: Read>(&mut self, file: &mut F) -> io::Result<()> {
         self.start = 0;
         self.end = 0;
@@ -50,7 +50,7 @@ impl Window {
         Ok(())
     }
 
-    /// Moves as many of the bytes as fit to the start of `buf`, and answers how many.
+    /// Moves as many of the octets as fit to the start of `buf`, and answers how many.
     pub(crate) fn give(&mut self, buf: &mut [u8]) -> usize
         ensures bound { result ≤ length buf.old }
         ensures rest { drop result buf.new ≡ drop result buf.old }

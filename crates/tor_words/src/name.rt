@@ -6,7 +6,7 @@ use std::convert::AsStr;
 use std::marker::Model;
 use tor_arena::NoMemory;
 
-/// A text, as a word of a command line or the name of a file: seen as its bytes, in UTF-8.
+/// A text, as a word of a command line or the name of a file: seen as its octets, in UTF-8.
 #[derive(Drop)]
 pub struct Name {
     text: String,

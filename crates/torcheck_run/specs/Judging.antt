@@ -17,14 +17,14 @@ use Rattle.torcheck_run.specs.Limits.{max_result}
 use Rattle.tor_arena.specs.Limits.{max_paths}
 use Rattle.run_base.specs.WholeFile.{IsLongFile, LeavesRest, LeavesOnly}
 
--- ---- the rules 0 to 10, which the bytes of the result file alone decide
+-- ---- the rules 0 to 10, which the octets of the result file alone decide
 
--- the bytes are the text of this result, which meets the rules 1 to 10
+-- the octets are the text of this result, which meets the rules 1 to 10
 pub record IsAccepted (file : ResultFile) (bytes : List ℕ) : Type 0 where
   pub text : IsTextOf file bytes
   pub rules : Accepts file
 
--- rule 0 says that the bytes are a text. The least rule that is broken, and its first line
+-- rule 0 says that the octets are a text. The least rule that is broken, and its first line
 abbrev pub BreaksRule : List ℕ → Verdict → Type 0
 BreaksRule bytes Yes = ⊥
 BreaksRule bytes (No line rule) =
@@ -65,7 +65,7 @@ abbrev pub LeavesOnlyResult : List (List ℕ) → Option Files → Option (List 
 LeavesOnlyResult words known left =
     (settings : CheckSettings) → check_settings_given words ≡ Some settings → LeavesOnly max_result settings.result known left
 
--- the result file is there with these bytes, and they are few enough
+-- the result file is there with these octets, and they are few enough
 pub record IsResult (settings : CheckSettings) (files : Files) (bytes : List ℕ) : Type 0 where
   pub there : files settings.result ≡ Some bytes
   pub short : length bytes ≤ max_result

@@ -36,7 +36,7 @@ abbrev pub IsRuling : List ℕ → Ruling → Type 0
 IsRuling bytes (ruling.Broken line rule) = BreaksRule bytes (No line rule)
 IsRuling bytes (ruling.Met file) = IsAccepted file bytes
 
--- the bytes meet the rules 0 to 10, and the dumps, where the files are known, have this end
+-- the octets meet the rules 0 to 10, and the dumps, where the files are known, have this end
 abbrev pub DumpsEndWith : List ℕ → List (List ℕ) → Option Files → DumpsEnd → Type 0
 DumpsEndWith bytes dumps known end =
     IfSome known (λ files. (file : ResultFile) × IsAccepted file bytes × (seen_for file dumps files ≡ Err end))
@@ -51,7 +51,7 @@ StopsAt bytes dumps known steady dump error.ReadFault =
     × (steady → DumpsEndWith bytes dumps known (Absent dump))
 StopsAt bytes dumps known steady dump error.NoMemory = Unit {0}
 
--- there is no verdict on these bytes for this
+-- there is no verdict on these octets for this
 abbrev pub IsRefusedBy : List ℕ → List (List ℕ) → Option Files → Type 0 → Refusal → Type 0
 IsRefusedBy bytes dumps known steady (refusal.Words w) = ⊥
 IsRefusedBy bytes dumps known steady (refusal.Dumps stopped) = StopsAt bytes dumps known steady stopped.dump stopped.error
@@ -80,7 +80,7 @@ IsUnjudged words known steady (unjudged.Refused (refusal.Dumps stopped)) =
 IsUnjudged words known steady (unjudged.Refused refusal.NoMemory) = Unit {0}
 IsUnjudged words known steady (unjudged.Result why) = IsUnjudgedGiven words known steady (unjudged.Result why)
 
--- the result file has too many bytes
+-- the result file has too many octets
 abbrev pub IsTooLong : Unjudged → Type 0
 IsTooLong (unjudged.Result why) = why ≡ unread.TooLong
 IsTooLong (unjudged.Refused why) = ⊥

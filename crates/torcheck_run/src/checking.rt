@@ -87,7 +87,7 @@ fn answer<H: Shelf, O: Sink>(
 
 /// Runs `torcheck`: the words name a result file, and maybe the dumps that it has to agree with, which are read only where
 /// it meets the rules 0 to 10. Done: the verdict is yes. No: a rule is broken. Usage: the words are no command. Malformed:
-/// the first end of the dumps is that fault. Limit: it is that limit, or the result file has more than 2^31 bytes.
+/// the first end of the dumps is that fault. Limit: it is that limit, or the result file has more than 2^31 octets.
 /// ReadFault: a call on the shelf failed, as an open does at a file that isn't there. WriteFault: a call on out failed.
 /// NoMemory: memory ran out, before anything went to out. `docs/PROMISES.md` has each promise by name.
 pub fn check<H: Shelf, O: Sink, E: Sink>(

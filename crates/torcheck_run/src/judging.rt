@@ -70,7 +70,7 @@ fn ruling_of(alloc: Global, keys: Keys, file: ResultFile) -> Result<Ruling, NoMe
     }
 }
 
-/// What the rules 0 to 10 say of the bytes.
+/// What the rules 0 to 10 say of the octets.
 fn ruling_on(alloc: Global, keys: Keys, bytes: List<u8>) -> Result<Ruling, NoMemory>
     requires short { length bytes ≤ max_result }
     ensures { IfOk result (IsRuling bytes) }
@@ -115,7 +115,7 @@ fn judged_by_dumps<H: Shelf>(
     }
 }
 
-/// The verdict on the bytes of the result file.
+/// The verdict on the octets of the result file.
 fn judge<H: Shelf>(
     alloc: Global,
     keys: Keys,

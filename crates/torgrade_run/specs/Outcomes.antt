@@ -17,7 +17,7 @@ use Rattle.torgrade_run.specs.Limits.{max_rel}
 abbrev pub seen_by : List (List ℕ) → Files → Result Taken DumpsEnd
 seen_by dumps files = seen_from Cut 1 (nothing max_paths) dumps files
 
--- the file of known relationships is there with these bytes, and they are few enough
+-- the file of known relationships is there with these octets, and they are few enough
 pub record IsRel (settings : GradeSettings) (files : Files) (bytes : List ℕ) : Type 0 where
   pub there : files settings.rel ≡ Some bytes
   pub short : length bytes ≤ max_rel

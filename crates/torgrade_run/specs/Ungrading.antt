@@ -32,7 +32,7 @@ use Rattle.torgrade_run.specs.Outcomes.{IsRel, seen_by}
 
 -- ---- what is graded
 
--- the bytes say these relationships, and the cone that is asked for is found
+-- the octets say these relationships, and the cone that is asked for is found
 abbrev pub IsKnown : List ℕ → Option ℕ → Known → Type 0
 IsKnown bytes asked known = (rel_in bytes ≡ Ok known.rel) × IsConeAsked known.rel asked known.cone
 
@@ -49,18 +49,18 @@ IsGradedIn settings files g = (bytes : List ℕ) × IsRel settings files bytes �
 
 -- ---- what is graded of files of which nothing is known
 
--- the bytes say the relationships, and the paths are what dumps of some octets give
+-- the octets say the relationships, and the paths are what dumps of some octets give
 abbrev pub IsGradedOfSomeFrom : GradeSettings → List ℕ → Graded → Type 0
 IsGradedOfSomeFrom settings bytes g =
     IsKnown bytes settings.cone g.known × IsOfSomeDumps Cut (length settings.dumps) (nothing max_paths) g.taken
 
--- the same of some bytes, few enough
+-- the same of some octets, few enough
 abbrev pub IsGradedOfSomeIn : GradeSettings → Graded → Type 0
 IsGradedOfSomeIn settings g = (bytes : List ℕ) × (length bytes ≤ max_rel) × IsGradedOfSomeFrom settings bytes g
 
 -- ---- why nothing is graded
 
--- the bytes say some relationships
+-- the octets say some relationships
 abbrev pub IsGood : List ℕ → Type 0
 IsGood bytes = (rel : List RelLine) × (rel_in bytes ≡ Ok rel)
 
@@ -84,7 +84,7 @@ IsRefusedBy dumps known steady (refusal.Words w) = ⊥
 IsRefusedBy dumps known steady (refusal.Dumps stopped) = StopsAt dumps known steady stopped.dump stopped.error
 IsRefusedBy dumps known steady refusal.NoMemory = Unit {0}
 
--- under these bytes nothing is graded for this
+-- under these octets nothing is graded for this
 abbrev pub IsUngradedBy : List ℕ → List (List ℕ) → Option Files → Type 0 → Ungraded → Type 0
 IsUngradedBy bytes dumps known steady (ungraded.Rel why) = ⊥
 IsUngradedBy bytes dumps known steady (ungraded.BadLine line) = rel_in bytes ≡ Err line

@@ -62,7 +62,7 @@ pub(crate) enum Ungraded {
     Refused(Refusal),
 }
 
-// What the bytes say. They are let go.
+// What the octets say. They are let go.
 fn parse_all(alloc: Global, keys: Keys, bytes: List<u8>) -> Result<Rel, RelError>
     ensures ok { IfOk result (λ rel. rel_in bytes ≡ Ok rel) }
     ensures err { IfErr result (λ e. IsReadingError e bytes) }
@@ -70,7 +70,7 @@ fn parse_all(alloc: Global, keys: Keys, bytes: List<u8>) -> Result<Rel, RelError
     parse_rel(alloc, keys, bytes.as_slice())
 }
 
-// What the bytes say, and the cone.
+// What the octets say, and the cone.
 fn known_in(
     alloc: Global,
     keys: Keys,
@@ -117,7 +117,7 @@ fn taken_of<H: Shelf>(
     }
 }
 
-// What is graded under the relationships that the bytes say.
+// What is graded under the relationships that the octets say.
 fn graded_from<H: Shelf>(
     alloc: Global,
     keys: Keys,

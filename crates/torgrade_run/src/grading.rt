@@ -67,7 +67,7 @@ fn answer<H: Shelf, O: Sink>(
 /// Runs `torgrade`: the words name a file of known relationships, and dumps, which are read only where that file is good. It writes
 /// each distinct path with its grade under these relationships, how many paths have each grade, and with `--cone` the customer cone of
 /// an AS. Done: this was written, also where valleys are found. Usage: the words are no command. Malformed: the file has a bad line, or
-/// the first end of the dumps is that fault. Limit: the file has more than 2^28 bytes, or the first end of the dumps is that limit.
+/// the first end of the dumps is that fault. Limit: the file has more than 2^28 octets, or the first end of the dumps is that limit.
 /// ReadFault: a call on the shelf failed, as an open does at a file that isn't there. WriteFault: a call on out failed. NoMemory:
 /// memory ran out, before anything went to out. `docs/PROMISES.md` has each promise by name.
 pub fn grade<H: Shelf, O: Sink, E: Sink>(
