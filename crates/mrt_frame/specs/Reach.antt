@@ -20,7 +20,8 @@ octets_of_records records = sum_by (λ r. 12 + length r.body) records
 -- where the octets are known, all records from this place on were read or passed over, and behind them one header; what is behind that is
 -- left
 abbrev pub LeavesBehindHeader : At → (before left : Option (List ℕ)) → Type 0
-LeavesBehindHeader at before left = IfSome before (λ octets. left ≡ Some (drop (octets_of_records (cut_from at octets).records + 12) octets))
+LeavesBehindHeader at before left =
+    IfSome before (λ octets. left ≡ Some (drop (octets_of_records (cut_from at octets).records + 12) octets))
 
 -- the records of a file have at most 2 ^ 40 octets, and they are all of its octets where it ends behind a whole record
 abbrev pub ReachLaw : Type 0

@@ -13,7 +13,8 @@ use Rattle.tor_words.specs.declared.settings.Mode.TheVariants.{Listing, Survey, 
 use Rattle.tor_words.specs.declared.settings.Source.{Source}
 use Rattle.tor_words.specs.declared.settings.Source.TheVariants.{Files, Sample}
 use Rattle.tor_words.specs.declared.settings.Settings.{Settings}
-use Rattle.tor_words.specs.Given.{number_in, number_or, source_of, source_in, has_flag, with_flag, asked_in, mode_of, mode_in, sets_or_cut, settings_in, dumps_in, HasDumps, IsWrittenOf, AreBounded, BoundsLaw}
+use Rattle.tor_words.specs.Given.{number_in, number_or, source_of, source_in, has_flag, with_flag, asked_in, mode_of, mode_in, sets_or_cut, settings_in, dumps_in, HasDumps}
+use Rattle.tor_words.specs.Given.{IsWrittenOf, AreBounded, BoundsLaw}
 use Rattle.tor_words.specs.Given.{settings_given, unless_fault}
 use Rattle.tor_words.specs.TorCommand.{tor_command}
 

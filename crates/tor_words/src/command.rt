@@ -1,7 +1,8 @@
 //! The commands, as clap takes them.
 ghost use Rattle.std.specs.Prelude.{◌≡◌, IfOk, codes, false};
 ghost use Rattle.clap.specs.Words.{app_of, rule_of, with_rule};
-ghost use Rattle.tor_words.specs.TorCommand.{tor_command, with_lists, with_uses, with_choices, with_numbers, option_rule, number_rule, flag_rule, rest_rule};
+ghost use Rattle.tor_words.specs.TorCommand.{tor_command, with_lists, with_uses, with_choices, with_numbers};
+ghost use Rattle.tor_words.specs.TorCommand.{option_rule, number_rule, flag_rule, rest_rule};
 ghost use Rattle.tor_words.specs.TorcheckCommand.{torcheck_command, needed_rule};
 
 use clap::builder::ValueParser;
