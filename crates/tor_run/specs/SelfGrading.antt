@@ -1,5 +1,5 @@
 -- What `torgrade` says of paths by the relationships that `tor` found for the same paths.
-use Rattle.std.specs.Prelude.{◌≡◌, ◌++◌, ℕ, Bool, List, map, Some, Ok}
+use Rattle.std.specs.Prelude.{◌≡◌, ◌++◌, ℕ, Bool, List, Contains, map, Some}
 use Rattle.tor_io.specs.Contents.{Files}
 use Rattle.path_clean.specs.declared.cleaned.Sets.TheVariants.{Cut}
 use Rattle.path_clean.specs.Rows.{Counted, row_paths}
@@ -8,12 +8,13 @@ use Rattle.relationships.specs.Selection.{Keeps}
 use Rattle.serial_lines.specs.declared.line.RelLine.{RelLine}
 use Rattle.tor_words.specs.declared.settings.Settings.{Settings}
 use Rattle.tor_words.specs.declared.grade_settings.GradeSettings.{GradeSettings}
+use Rattle.tor_words.specs.declared.settings.Mode.TheVariants.{Serial}
 use Rattle.tor_words.specs.Given.{settings_given}
 use Rattle.tor_words.specs.GradeGiven.{grade_settings_given}
 use Rattle.torgrade_run.specs.GradeAnswer.{IsGraded}
 use Rattle.torgrade_run.specs.GradeText.{is_free, grades_of, grades_text, totals_of}
 use Rattle.tor_run.specs.Grading.{GradesExactly}
-use Rattle.tor_run.specs.Seen.{seen}
+use Rattle.tor_run.specs.Seen.{ComesTo, Reads}
 
 -- the text begins with the lines of these paths and their totals, and there exactly the kept ones are free, and none is unknown.
 -- A path is kept exactly if some orientation serves it together with those kept before it
@@ -26,11 +27,16 @@ pub record IsGradedAsKept (rows : List Counted) (text : List ℕ) : Type 0 where
   pub free : map is_free (grades_of rel rows) ≡ keeps
   pub known : (totals_of (grades_of rel rows)).unknown ≡ 0
 
--- so grades each grading of the same dumps whose file of known relationships is a text under which exactly the kept paths are free
+-- later files have under the names of dumps what these have
+abbrev pub KeepDumps : List (List ℕ) → (files later : Files) → Type 0
+KeepDumps dumps files later = (name : List ℕ) → Contains dumps name → later name ≡ files name
+
+-- so grades each grading of the same dumps, later on, whose file of known relationships is a text under which exactly the kept paths are
+-- free, as a run with `--serial1` that cuts sets has written it
 abbrev pub SelfGradingLaw : Type 0
 SelfGradingLaw =
     (words : List (List ℕ)) (settings : Settings) (files : Files) (taken : Taken) (rel : List ℕ) → settings_given words ≡ Some settings →
-    settings.sets ≡ Cut → seen settings files ≡ Ok taken → GradesExactly (row_paths taken.table.rows) rel →
-    (grade_words : List (List ℕ)) (grading : GradeSettings) (text : List ℕ) → grade_settings_given grade_words ≡ Some grading →
-    files grading.rel ≡ Some rel → grading.dumps ≡ settings.dumps → IsGraded grade_words files text →
-    IsGradedAsKept taken.table.rows text
+    settings.mode ≡ Serial → settings.sets ≡ Cut → ComesTo settings files (Reads taken) → GradesExactly (row_paths taken.table.rows) rel →
+    (grade_words : List (List ℕ)) (grading : GradeSettings) (later : Files) (text : List ℕ) →
+    grade_settings_given grade_words ≡ Some grading → later grading.rel ≡ Some rel → grading.dumps ≡ settings.dumps →
+    KeepDumps settings.dumps files later → IsGraded grade_words later text → IsGradedAsKept taken.table.rows text
