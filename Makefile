@@ -53,8 +53,13 @@ samples: $(BUILT)
 		bin/tor --list --as-sets skip $$dump | cmp - $$dump.skip.txt || exit 1; \
 		bin/tor $$dump > bin/sample.result.txt || exit 1; \
 		bin/torcheck bin/sample.result.txt $$dump || exit 1; \
+		bin/tor --serial1 $$dump > bin/sample.rel.txt || exit 1; \
+		bin/torgrade bin/sample.rel.txt $$dump > bin/sample.grades.txt || exit 1; \
+		sed -n 's/^kept|//p' bin/sample.result.txt > bin/sample.kept.txt || exit 1; \
+		sed -n 's/^free|//p' bin/sample.grades.txt | cmp - bin/sample.kept.txt || exit 1; \
+		grep '^grade|[0-9]*|[0-9]*|0$$' bin/sample.grades.txt || exit 1; \
 	done
-	@echo "the lists are the same, and the results are right"
+	@echo "the lists are the same, the results are right, and exactly the kept paths are free"
 
 system: $(BUILT)
 	bench/system.sh bin/tor bin/torcheck bin/torgrade samples
