@@ -109,7 +109,7 @@ same_later sets dump taken (name ∷ names) files later keep =
 pub self_grading : BoundsLaw → SelfGradingLaw
 self_grading bounds words settings files taken rel given serial cut comes_to exact grade_words grading later text graded_given there dumps keep is =
     let sees = same_later settings.sets 1 (nothing settings.max_paths) settings.dumps files later keep
-        ∙ of_files settings.source settings.mode settings files taken (bounds words settings given).written serial comes_to in
+    ∙ of_files settings.source settings.mode settings files taken (bounds words settings given).written serial comes_to in
     let (g, g_given, comes) = is.reads in
     let (bytes, is_rel, read, gave) = comes in
     let same : g ≡ grading = same_Some g grading (sym g_given ∙ graded_given) in
