@@ -146,6 +146,8 @@ refuse "a result" 1 "$tor" "$dump"
 refuse "a list" 1 "$tor" --list "$dump"
 refuse "a list of two dumps" 1 "$tor" --list --as-sets skip "$dump" "$samples/one-edge.mrt"
 refuse "a survey" 1 "$tor" --survey "$dump"
+refuse "ties" 1 "$tor" --ties "$dump"
+refuse "lines of serial-1" 1 "$tor" --serial1 "$dump"
 refuse "a sample, each 97th" 97 "$tor" --sample 0
 refuse "a cut dump" 1 "$tor" "$work/cut.mrt"
 refuse "an absent dump" 1 "$tor" "$work/absent"

@@ -38,6 +38,12 @@ expect "a full device" $? 5 "write-fault"
 "$tor" "$one" > /dev/full 2> "$work/note"
 expect "a full device for a result" $? 5 "write-fault"
 
+"$tor" --ties "$one" > /dev/full 2> "$work/note"
+expect "a full device for ties" $? 5 "write-fault"
+
+"$tor" --serial1 "$one" > /dev/full 2> "$work/note"
+expect "a full device for lines of serial-1" $? 5 "write-fault"
+
 { sleep 0.3; "$tor" --list "$one" 2> "$work/note"; echo $? > "$work/status"; } | true
 expect "a closed pipe" "$(cat "$work/status")" 5 "write-fault"
 
