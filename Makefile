@@ -1,8 +1,9 @@
 # `make` proves and builds the programs, compares their pages and the stored results with them, and runs every command of the README
 # (`make tour`). `make install` puts them where a shell finds them, and `make dist` into an archive for machines without the kit. `make
-# test` is the whole gate. Outside the gate, `make samples` compares the lists of two real tables with what other readers give, and
-# checks the results of both; `make system` tries the programs on full devices, closed pipes, folders and the like, `make memory` with
-# each of their allocations refused, and `make container` what `make dist` made on a bare system.
+# test` is the whole gate. Outside the gate, `make samples` compares the lists of two real tables with what other readers give, checks
+# the results of both, and grades their paths by the labels of their own results; `make system` tries the programs on full devices,
+# closed pipes, folders and the like, `make memory` with each of their allocations refused, and `make container` what `make dist` made on
+# a bare system.
 
 # A program has its man page in man/, its completions in completions/, and its stored run (args, data, stdout) in its crate.
 PROGRAMS = tor torcheck torgrade
