@@ -1,5 +1,5 @@
 -- Each line of a text has one line feed, its last byte. So the first lines of the bytes are the texts of the first lines.
-use Rattle.std.proofs.Common.{◌≡◌, ℕ, suc, ◌+◌, ◌%◌, ◌^◌, ◌<◌, Bool, true, false, cond, eqb, List, [], ◌∷◌, ◌++◌, length, Option, Some, None, refl, sym, ap, ◌∙◌, append_assoc, arith}
+use Rattle.std.proofs.Common.{◌≡◌, ℕ, zero, suc, ◌+◌, ◌%◌, ◌^◌, ◌<◌, Bool, true, false, cond, eqb, List, [], ◌∷◌, ◌++◌, length, Option, Some, None, refl, sym, ap, ◌∙◌, append_assoc, arith}
 use Rattle.std.specs.Prelude.{option_map}
 use Rattle.std.specs.Fmt.{decimal}
 use Rattle.std.specs.List.{join_with_byte, AllByRecursion}
@@ -18,7 +18,10 @@ use Rattle.relationships.specs.declared.mark.Mark.{Mark}
 use Rattle.relationships.specs.declared.mark.Mark.TheVariants as mark
 use Rattle.result_text.specs.declared.line.Line.{Line}
 use Rattle.result_text.specs.declared.line.Line.TheVariants as line
-use Rattle.result_text.specs.Text.{fields, numbers_text, link, links, spaced, others, sets_name, cause_name, label_name, mark_name, path_fields, fields_of, line_text, text_of_lines}
+use Rattle.result_text.specs.declared.line.Version.{Version}
+use Rattle.result_text.specs.declared.line.Version.TheVariants as version
+use Rattle.result_text.specs.Text.{fields, numbers_text, version_name, path_name, link, links, spaced, others, sets_name, cause_name, label_name, mark_name, path_fields, fields_of}
+use Rattle.result_text.specs.Text.{line_text, text_of_lines}
 use Rattle.result_text.specs.Ranges.{AreU32, LinkFits, FateFits, LineFits}
 use Rattle.text_fields.specs.Fields.{IsU32, IsU64}
 use Rattle.result_text.specs.Grammar.{first_lines}
@@ -59,8 +62,13 @@ feedless_spaced F s (x ∷ xs) h all = feedless_append (s x) (others s xs) (h x 
 feedless_numbers : (ns : List ℕ) → AreU32 ns → feedless (numbers_text ns) ≡ true
 feedless_numbers ns all = feedless_spaced IsU32 decimal ns (λ n h. feedless_decimal n (omega arith)) all
 
-feedless_links : (ls : List Link) → AllByRecursion LinkFits ls → feedless (links ls) ≡ true
-feedless_links ls all = feedless_spaced LinkFits link ls (λ l h. feedless_append (decimal l.path) (58 ∷ decimal l.at) (feedless_decimal l.path (omega (arith, h.0)))
+feedless_name : (v : Version) (n : ℕ) → n < 2 ^ 64 → feedless (path_name v n) ≡ true
+feedless_name version.One n fits = feedless_decimal n fits
+feedless_name version.Two zero fits = refl
+feedless_name version.Two (suc n) fits = feedless_decimal (suc n) fits
+
+feedless_links : (v : Version) (ls : List Link) → AllByRecursion LinkFits ls → feedless (links v ls) ≡ true
+feedless_links v ls all = feedless_spaced LinkFits (link v) ls (λ l h. feedless_append (path_name v l.path) (58 ∷ decimal l.at) (feedless_name v l.path (omega (arith, h.0)))
     (feedless_decimal l.at (omega (arith, h.1)))) all
 
 AreFeedless : List (List ℕ) → Type 0
@@ -70,6 +78,10 @@ feedless_fields : (parts : List (List ℕ)) → AllByRecursion (λ p. feedless p
 feedless_fields [] all = refl
 feedless_fields (x ∷ []) all = all.0
 feedless_fields (x ∷ y ∷ xs) all = feedless_append x (124 ∷ join_with_byte 124 (y ∷ xs)) all.0 (feedless_fields (y ∷ xs) all.1)
+
+feedless_version : (v : Version) → feedless (version_name v) ≡ true
+feedless_version version.One = refl
+feedless_version version.Two = refl
 
 feedless_sets : (s : Sets) → feedless (sets_name s) ≡ true
 feedless_sets sets.Cut = refl
@@ -93,17 +105,18 @@ feedless_mark : (m : Mark) → feedless (mark_name m) ≡ true
 feedless_mark mark.Forced = refl
 feedless_mark mark.Open = refl
 
-path_feedless : (times : ℕ) (path : List ℕ) (f : Fate) → IsU64 times → AreU32 path → FateFits f → AllByRecursion (λ p. feedless p ≡ true) (path_fields times path f)
-path_feedless times path fate.Kept t p h = (refl, (feedless_decimal times t, (feedless_numbers path p, tt)))
-path_feedless times path (fate.Lost w) t p h = (refl, (feedless_decimal times t, (feedless_numbers path p, (feedless_numbers w.ases h.0, (feedless_links w.links h.1, tt)))))
+path_feedless : (v : Version) (times : ℕ) (path : List ℕ) (f : Fate) → IsU64 times → AreU32 path → FateFits f → AllByRecursion (λ p. feedless p ≡ true) (path_fields v times path f)
+path_feedless v times path fate.Kept t p h = (refl, (feedless_decimal times t, (feedless_numbers path p, tt)))
+path_feedless v times path (fate.Lost w) t p h = (refl, (feedless_decimal times t, (feedless_numbers path p, (feedless_numbers w.ases h.0, (feedless_links v w.links h.1, tt)))))
 
-parts_feedless : (l : Line) → LineFits l → AllByRecursion (λ p. feedless p ≡ true) (fields_of l)
-parts_feedless line.Version h = (refl, (refl, tt))
-parts_feedless (line.Sets s) h = (refl, (feedless_sets s, tt))
-parts_feedless (line.Ratio n) h = (refl, (feedless_decimal n (omega (arith, h)), tt))
-parts_feedless (line.Aside c n) h = (refl, (feedless_cause c, (feedless_decimal n h, tt)))
-parts_feedless (line.Path p) h = path_feedless p.times p.path p.fate h.0 h.1 h.2
-parts_feedless (line.Edge e) h = (
+parts_feedless : (v : Version) (l : Line) → LineFits l → AllByRecursion (λ p. feedless p ≡ true) (fields_of v l)
+parts_feedless v (line.Version w) h = (refl, (feedless_version w, tt))
+parts_feedless v (line.Sets s) h = (refl, (feedless_sets s, tt))
+parts_feedless v (line.Ratio n) h = (refl, (feedless_decimal n (omega (arith, h)), tt))
+parts_feedless v (line.Aside c n) h = (refl, (feedless_cause c, (feedless_decimal n h, tt)))
+parts_feedless v (line.Given g) h = (refl, (feedless_decimal g.over (omega (arith, h.0)), (feedless_decimal g.under (omega (arith, h.1)), tt)))
+parts_feedless v (line.Path p) h = path_feedless v p.times p.path p.fate h.0 h.1 h.2
+parts_feedless v (line.Edge e) h = (
   refl,
   (
     feedless_decimal e.low (omega (arith, h.0)),
@@ -113,9 +126,9 @@ parts_feedless (line.Edge e) h = (
     ),
   ),
 )
-parts_feedless (line.Why w) h = (refl, (feedless_numbers w.ases h.0, (feedless_links w.links h.1, tt)))
-parts_feedless (line.Probe p) h = (refl, (feedless_decimal p.over (omega (arith, h.0)), (feedless_decimal p.under (omega (arith, h.1)), tt)))
-parts_feedless (line.End t) h = (
+parts_feedless v (line.Why w) h = (refl, (feedless_numbers w.ases h.0, (feedless_links v w.links h.1, tt)))
+parts_feedless v (line.Probe p) h = (refl, (feedless_decimal p.over (omega (arith, h.0)), (feedless_decimal p.under (omega (arith, h.1)), tt)))
+parts_feedless v (line.End t) h = (
   refl,
   (
     feedless_decimal t.kept h.0,
@@ -139,28 +152,28 @@ first_line_of (x ∷ xs) more n e =
     let one : first_lines (suc n) ((x ∷ xs ++ 10 ∷ []) ++ more) ≡ option_map (λ f. x ∷ f) (first_lines (suc n) ((xs ++ 10 ∷ []) ++ more)) = rw t.0 refl in
     one ∙ ap (option_map (λ (f : List ℕ). x ∷ f)) (first_line_of xs more n t.1) ∙ option_map_twice (λ (f : List ℕ). x ∷ f) (λ f. (xs ++ 10 ∷ []) ++ f) (first_lines n more)
 
-pub line_first : (l : Line) (more : List ℕ) (n : ℕ) → LineFits l → first_lines (suc n) (line_text l ++ more) ≡ option_map (λ f. line_text l ++ f) (first_lines n more)
+pub line_first : (v : Version) (l : Line) (more : List ℕ) (n : ℕ) → LineFits l → first_lines (suc n) (line_text v l ++ more) ≡ option_map (λ f. line_text v l ++ f) (first_lines n more)
 unfolding line_text
-line_first l more n fits = first_line_of (fields (fields_of l)) more n (feedless_fields (fields_of l) (parts_feedless l fits))
+line_first v l more n fits = first_line_of (fields (fields_of v l)) more n (feedless_fields (fields_of v l) (parts_feedless v l fits))
 
 option_map_same : {A : Type 0} (f : A → A) (o : Option A) → ((x : A) → f x ≡ x) → option_map f o ≡ o
 option_map_same f (Some x) h = ap (λ y. Some y) (h x)
 option_map_same f None h = refl
 
-pub lines_first : (ls : List Line) (more : List ℕ) (n : ℕ) → AllByRecursion LineFits ls → first_lines (length ls + n) (text_of_lines ls ++ more) ≡ option_map
-    (λ f. text_of_lines ls ++ f) (first_lines n more)
-lines_first [] more n all =
+pub lines_first : (v : Version) (ls : List Line) (more : List ℕ) (n : ℕ) → AllByRecursion LineFits ls → first_lines (length ls + n) (text_of_lines v ls ++ more) ≡ option_map
+    (λ f. text_of_lines v ls ++ f) (first_lines n more)
+lines_first v [] more n all =
     let e : length {A = Line} [] + n ≡ n = omega arith in
     rw e (sym (option_map_same (λ (f : List ℕ). [] ++ f) (first_lines n more) (λ x. refl)))
-lines_first (l ∷ ls) more n all =
+lines_first v (l ∷ ls) more n all =
     let e : length (l ∷ ls) + n ≡ suc (length ls + n) = omega arith in
-    ap (λ (k : ℕ). first_lines k ((line_text l ++ text_of_lines ls) ++ more)) e
-    ∙ ap (first_lines (suc (length ls + n))) (append_assoc (line_text l) (text_of_lines ls) more)
-    ∙ line_first l (text_of_lines ls ++ more) (length ls + n) all.0
-    ∙ ap (option_map (λ (f : List ℕ). line_text l ++ f)) (lines_first ls more n all.1)
-    ∙ option_map_twice (λ (f : List ℕ). line_text l ++ f) (λ f. text_of_lines ls ++ f) (first_lines n more)
+    ap (λ (k : ℕ). first_lines k ((line_text v l ++ text_of_lines v ls) ++ more)) e
+    ∙ ap (first_lines (suc (length ls + n))) (append_assoc (line_text v l) (text_of_lines v ls) more)
+    ∙ line_first v l (text_of_lines v ls ++ more) (length ls + n) all.0
+    ∙ ap (option_map (λ (f : List ℕ). line_text v l ++ f)) (lines_first v ls more n all.1)
+    ∙ option_map_twice (λ (f : List ℕ). line_text v l ++ f) (λ f. text_of_lines v ls ++ f) (first_lines n more)
     ∙ regrouped (first_lines n more)
   where
-    regrouped : (o : Option (List ℕ)) → option_map (λ f. line_text l ++ (text_of_lines ls ++ f)) o ≡ option_map (λ f. (line_text l ++ text_of_lines ls) ++ f) o
-    regrouped (Some f) = ap (λ (x : List ℕ). Some x) (sym (append_assoc (line_text l) (text_of_lines ls) f))
+    regrouped : (o : Option (List ℕ)) → option_map (λ f. line_text v l ++ (text_of_lines v ls ++ f)) o ≡ option_map (λ f. (line_text v l ++ text_of_lines v ls) ++ f) o
+    regrouped (Some f) = ap (λ (x : List ℕ). Some x) (sym (append_assoc (line_text v l) (text_of_lines v ls) f))
     regrouped None = refl

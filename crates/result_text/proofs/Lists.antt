@@ -1,14 +1,17 @@
 -- A list that is read is encoded as it was written, and what was written is read again.
-use Rattle.std.proofs.Common.{◌≡◌, ℕ, zero, suc, ◌≤◌, Bool, true, false, eqb, List, [], ◌∷◌, ◌++◌, length, Option, Some, None, refl, sym, ap, subst, ◌∙◌, append_assoc, arith, inl, inr}
+use Rattle.std.proofs.Common.{◌≡◌, ℕ, zero, suc, ◌≤◌, Bool, true, false, cond, eqb, List, [], ◌∷◌, ◌++◌, length, Option, Some, None, refl, sym, ap, subst, ◌∙◌, append_assoc, arith, inl, inr}
+use Rattle.std.specs.Prelude.{codes}
 use Rattle.std.specs.Fmt.{decimal}
 use Rattle.std.specs.List.{AllByRecursion}
-use Rattle.std.proofs.lemmas.Bool.{ne_eqb}
+use Rattle.std.proofs.lemmas.Bool.{ne_eqb, eqb-false}
 use Rattle.std.proofs.lemmas.List.{length-append}
 use Rattle.relationships.specs.declared.walk.Link.{Link}
 use Rattle.result_text.specs.Ranges.{LinkFits}
 use Rattle.text_fields.specs.Fields.{IsU32}
-use Rattle.result_text.specs.Text.{numbers_text, link, links, spaced, others}
-use Rattle.result_text.specs.Reading.{others_at, with_prefix, field_ends, list_at, link_from, link_at}
+use Rattle.result_text.specs.declared.line.Version.{Version}
+use Rattle.result_text.specs.declared.line.Version.TheVariants as version
+use Rattle.result_text.specs.Text.{numbers_text, path_name, link, links, spaced, others}
+use Rattle.result_text.specs.Reading.{others_at, with_prefix, field_ends, list_at, link_from, positive_at, path_name_at, link_at}
 use Rattle.text_fields.specs.Reading.{◌>>=◌, word_at, u32_at, before, both, mapped}
 use Rattle.text_fields.proofs.Readers.{bind_some, some_is, on_word_takes, on_word_none, ReadsOpen, before_reads, both_open, starts_with_digit, NoDigit, digit_range, chosen, u32_reads, first_digit}
 
@@ -112,32 +115,87 @@ digit_goes_on (b ∷ bytes) e =
 pub u32_member : IsMember ℕ IsU32 decimal u32_at
 u32_member = record { reads = u32_reads; first = λ n rest fits. digit_goes_on (decimal n ++ rest) (first_digit n rest (omega arith)) }
 
-link_reads : ReadsOpen Link LinkFits link NoDigit link_at
+-- the name of a path that isn't 0 is its number
+named : (n : ℕ) → (n ≡ 0 → ⊥) → path_name version.Two n ≡ decimal n
+named zero h = absurd (h refl)
+named (suc n) h = refl
+
+-- no digit is the letter g
+no_letter : (bytes : List ℕ) → starts_with_digit bytes ≡ true → word_at (codes "g") bytes ≡ None
+no_letter [] e = absurd cc
+no_letter (b ∷ bytes) e = rw (ne_eqb b 103 (omega (arith, (digit_range b e).1))) refl
+
+positive_takes : (bytes : List ℕ) (x : ℕ × List ℕ) → positive_at bytes ≡ Some x → IsU32 x.0 × (bytes ≡ path_name version.Two x.0 ++ x.1)
+unfolding positive_at
+positive_takes bytes x e =
+    let a = bind_some (u32_at bytes) (λ y. cond (eqb y.0 0) None (Some y)) x e in
+    let t = u32_reads.takes bytes a.0 a.1 in
+    elim (chosen (eqb a.0.0 0) None (Some a.0) (Some x) a.2) [
+      | inl none ↦ absurd (none_is none.1)
+      | inr some ↦
+          let text : bytes ≡ path_name version.Two a.0.0 ++ a.0.1 = t.1 ∙ ap (λ (y : List ℕ). y ++ a.0.1) (sym (named a.0.0 (eqb-false a.0.0 0 some.0))) in
+          subst (λ (y : ℕ × List ℕ). IsU32 y.0 × (bytes ≡ path_name version.Two y.0 ++ y.1)) (some_is a.0 x some.1) (t.0, text)
+    ]
+  where
+    none_is : (let none : Option (ℕ × List ℕ) = None in none) ≡ Some x → ⊥
+    none_is e = absurd cc
+
+name_takes : (v : Version) (bytes : List ℕ) (x : ℕ × List ℕ) → path_name_at v bytes ≡ Some x → IsU32 x.0 × (bytes ≡ path_name v x.0 ++ x.1)
+unfolding path_name_at
+name_takes version.One bytes x e = u32_reads.takes bytes x e
+name_takes version.Two bytes x e =
+    elim (on_word_takes (codes "g") (λ rest. Some (0, rest)) positive_at bytes x e) [
+      | inl t ↦
+          subst (λ (y : ℕ × List ℕ). IsU32 y.0 × (bytes ≡ path_name version.Two y.0 ++ y.1)) (some_is (0, t.0) x t.2) (omega arith, t.1)
+      | inr t ↦ positive_takes bytes x t
+    ]
+
+name_again : (v : Version) (n : ℕ) (rest : List ℕ) → IsU32 n → NoDigit rest → path_name_at v (path_name v n ++ rest) ≡ Some (n, rest)
+unfolding path_name_at positive_at
+name_again version.One n rest fits ends = u32_reads.again n rest fits ends
+name_again version.Two zero rest fits ends = refl
+name_again version.Two (suc n) rest fits ends =
+    let bytes = decimal (suc n) ++ rest in
+    let number : word_at (codes "g") bytes ≡ None = no_letter bytes (first_digit (suc n) rest (omega arith)) in
+    let read : u32_at bytes ≡ Some (suc n, rest) = u32_reads.again (suc n) rest fits ends in
+    on_word_none (codes "g") (λ rest. Some (0, rest)) positive_at bytes number ∙ rw (read, ne_eqb (suc n) 0 (omega arith)) refl
+
+name_reads : (v : Version) → ReadsOpen ℕ IsU32 (path_name v) NoDigit (path_name_at v)
+name_reads v = record { takes = name_takes v; again = name_again v }
+
+-- a path's name doesn't end a field
+name_goes_on : (v : Version) (n : ℕ) (rest : List ℕ) → IsU32 n → field_ends (path_name v n ++ rest) ≡ false
+name_goes_on version.One n rest fits = digit_goes_on (decimal n ++ rest) (first_digit n rest (omega arith))
+name_goes_on version.Two zero rest fits = refl
+name_goes_on version.Two (suc n) rest fits = digit_goes_on (decimal (suc n) ++ rest) (first_digit (suc n) rest (omega arith))
+
+link_reads : (v : Version) → ReadsOpen Link LinkFits (link v) NoDigit (link_at v)
 unfolding link_at
-link_reads =
-    let path = before_reads ℕ IsU32 decimal NoDigit u32_at 58 u32_reads (λ rest. refl) in
-    let parts = both_open ℕ ℕ IsU32 IsU32 (λ n. decimal n ++ 58 ∷ []) decimal NoDigit (before 58 u32_at) u32_at path u32_reads in
+link_reads v =
+    let path = before_reads ℕ IsU32 (path_name v) NoDigit (path_name_at v) 58 (name_reads v) (λ rest. refl) in
+    let parts = both_open ℕ ℕ IsU32 IsU32 (λ n. path_name v n ++ 58 ∷ []) decimal NoDigit (before 58 (path_name_at v)) u32_at path u32_reads in
     record {
       takes = λ bytes z e.
-          let a = bind_some (both (before 58 u32_at) u32_at bytes) (λ x. Some (link_from x.0, x.1)) z e in
+          let a = bind_some (both (before 58 (path_name_at v)) u32_at bytes) (λ x. Some (link_from x.0, x.1)) z e in
           let t = parts.takes bytes a.0 a.1 in
           let made : Link × List ℕ = (link_from a.0.0, a.0.1) in
-          let encoded : bytes ≡ link made.0 ++ made.1 = t.1 ∙ ap (λ (y : List ℕ). y ++ a.0.1) (append_assoc (decimal a.0.0.0) (58 ∷ []) (decimal a.0.0.1)) in
-          subst (λ (y : Link × List ℕ). LinkFits y.0 × (bytes ≡ link y.0 ++ y.1)) (some_is made z a.2) (t.0, encoded);
+          let encoded : bytes ≡ link v made.0 ++ made.1 = t.1 ∙ ap (λ (y : List ℕ). y ++ a.0.1) (append_assoc (path_name v a.0.0.0) (58 ∷ []) (decimal a.0.0.1)) in
+          subst (λ (y : Link × List ℕ). LinkFits y.0 × (bytes ≡ link v y.0 ++ y.1)) (some_is made z a.2) (t.0, encoded);
       again = λ l rest fits ends.
-          let regrouped : link l ++ rest ≡ ((decimal l.path ++ 58 ∷ []) ++ decimal l.at) ++ rest = ap (λ (y : List ℕ). y ++ rest) (sym (append_assoc (decimal l.path) (58 ∷ []) (decimal l.at))) in
-          ap (λ (y : List ℕ). mapped link_from (both (before 58 u32_at) u32_at) y) regrouped ∙ rw (parts.again (l.path, l.at) rest fits ends) refl;
+          let regrouped : link v l ++ rest ≡ ((path_name v l.path ++ 58 ∷ []) ++ decimal l.at) ++ rest =
+          ap (λ (y : List ℕ). y ++ rest) (sym (append_assoc (path_name v l.path) (58 ∷ []) (decimal l.at))) in
+          ap (λ (y : List ℕ). mapped link_from (both (before 58 (path_name_at v)) u32_at) y) regrouped ∙ rw (parts.again (l.path, l.at) rest fits ends) refl;
     }
 
-pub link_member : IsMember Link LinkFits link link_at
-link_member = record {
-  reads = link_reads;
-  first = λ l rest fits. ap field_ends (append_assoc (decimal l.path) (58 ∷ decimal l.at) rest)
-      ∙ digit_goes_on (decimal l.path ++ (58 ∷ decimal l.at ++ rest)) (first_digit l.path (58 ∷ decimal l.at ++ rest) (omega (arith, fits.0)));
+pub link_member : (v : Version) → IsMember Link LinkFits (link v) (link_at v)
+link_member v = record {
+  reads = link_reads v;
+  first = λ l rest fits. ap field_ends (append_assoc (path_name v l.path) (58 ∷ decimal l.at) rest)
+      ∙ name_goes_on v l.path (58 ∷ decimal l.at ++ rest) fits.0;
 }
 
 pub numbers_reads : ReadsOpen (List ℕ) (AllByRecursion IsU32) numbers_text EndsList (list_at u32_at)
 numbers_reads = list_reads ℕ IsU32 decimal u32_at u32_member
 
-pub links_reads : ReadsOpen (List Link) (AllByRecursion LinkFits) links EndsList (list_at link_at)
-links_reads = list_reads Link LinkFits link link_at link_member
+pub links_reads : (v : Version) → ReadsOpen (List Link) (AllByRecursion LinkFits) (links v) EndsList (list_at (link_at v))
+links_reads v = list_reads Link LinkFits (link v) (link_at v) (link_member v)

@@ -1,6 +1,6 @@
 -- Lines in order: each result's lines are read to its end, and what is read so far can be gone on with.
 use Rattle.std.proofs.Common.{◌≡◌, ℕ, ◌+◌, Bool, true, cond, List, [], ◌∷◌, ◌++◌, length, map, take, Option, Some, None, refl, sym, ap, subst, ◌∙◌, append_assoc, arith}
-use Rattle.std.specs.Prelude.{slice_set}
+use Rattle.std.specs.Prelude.{slice_set, option_map}
 use Rattle.std.proofs.lemmas.Bool.{eqb-true}
 use Rattle.std.proofs.lemmas.List.{append-nil, map_push}
 use Rattle.path_clean.specs.declared.cleaned.Cause.{Cause}
@@ -9,17 +9,20 @@ use Rattle.path_clean.specs.Counts.{CauseCounts}
 use Rattle.result_text.specs.declared.file.ResultFile.{ResultFile}
 use Rattle.result_text.specs.declared.file.PathLine.{PathLine}
 use Rattle.result_text.specs.declared.file.EdgeLine.{EdgeLine}
+use Rattle.relationships.specs.declared.given.Given.{Given}
 use Rattle.relationships.specs.declared.mark.Probe.{Probe}
 use Rattle.result_text.specs.declared.file.Totals.{Totals}
 use Rattle.relationships.specs.declared.walk.Walk.{Walk}
 use Rattle.result_text.specs.declared.line.Line.{Line}
 use Rattle.result_text.specs.declared.line.Line.TheVariants as line
+use Rattle.result_text.specs.declared.line.Version.{Version}
+use Rattle.result_text.specs.declared.line.Version.TheVariants as version
 use Rattle.result_text.specs.declared.draft.Draft.{Draft}
 use Rattle.result_text.specs.declared.draft.Section.{Section}
 use Rattle.result_text.specs.declared.draft.Section.TheVariants as section
-use Rattle.result_text.specs.Text.{head_lines, body_lines, lines_of}
+use Rattle.result_text.specs.Text.{version_of, its_givens, head_lines, body_lines, lines_of}
 use Rattle.text_fields.specs.Reading.{◌>>=◌}
-use Rattle.result_text.specs.Order.{cause_index, is_head, after_head, takes_path, takes_edge, takes_why, takes_probe, pass_head, step, empty_draft, file_of}
+use Rattle.result_text.specs.Order.{cause_index, is_head, after_head, takes_given, takes_path, takes_edge, takes_why, takes_probe, pass_head, no_givens, with_given, step, empty_draft, file_of}
 use Rattle.text_fields.proofs.Readers.{some_is, if_some}
 
 -- the lines one after the other
@@ -47,6 +50,7 @@ done f = record {
   sets = f.sets;
   ratio = f.ratio;
   counts = listed f.asides;
+  givens = f.givens;
   paths = f.paths;
   edges = f.edges;
   whys = f.whys;
@@ -54,8 +58,18 @@ done f = record {
   totals = f.totals;
 }
 
+path_takes_edge : (q : Section) → takes_path q ≡ true → takes_edge q ≡ true
+path_takes_edge (section.Head n) t = absurd cc
+path_takes_edge section.Givens t = refl
+path_takes_edge section.Paths t = refl
+path_takes_edge section.Edges t = absurd cc
+path_takes_edge section.Whys t = absurd cc
+path_takes_edge section.Probes t = absurd cc
+path_takes_edge section.End t = absurd cc
+
 edge_takes_why : (q : Section) → takes_edge q ≡ true → takes_why q ≡ true
 edge_takes_why (section.Head n) t = absurd cc
+edge_takes_why section.Givens t = refl
 edge_takes_why section.Paths t = refl
 edge_takes_why section.Edges t = refl
 edge_takes_why section.Whys t = refl
@@ -64,6 +78,7 @@ edge_takes_why section.End t = absurd cc
 
 why_takes_probe : (q : Section) → takes_why q ≡ true → takes_probe q ≡ true
 why_takes_probe (section.Head n) t = absurd cc
+why_takes_probe section.Givens t = refl
 why_takes_probe section.Paths t = refl
 why_takes_probe section.Edges t = refl
 why_takes_probe section.Whys t = refl
@@ -71,11 +86,19 @@ why_takes_probe section.Probes t = refl
 why_takes_probe section.End t = absurd cc
 
 -- a section goes through
-paths_run : (d : Draft) (ps : List PathLine) (more : List Line) → run (record d { section = section.Paths }) (map (λ p. line.Path p) ps ++ more) ≡ run
-    (record d { section = section.Paths; paths = d.paths ++ ps }) more
-paths_run d [] more = ap (λ (ps : List PathLine). run (record d { section = section.Paths; paths = ps }) more) (sym (append-nil d.paths))
-paths_run d (p ∷ ps) more = paths_run (record d { paths = d.paths ++ p ∷ [] }) ps more ∙ ap
-    (λ (qs : List PathLine). run (record d { section = section.Paths; paths = qs }) more) (append_assoc d.paths (p ∷ []) ps)
+givens_run : (d : Draft) (old gs : List Given) (more : List Line) → run (record d { section = section.Givens; givens = Some old }) (map (λ g. line.Given g) gs ++ more) ≡ run
+    (record d { section = section.Givens; givens = Some (old ++ gs) }) more
+givens_run d old [] more = ap (λ (gs : List Given). run (record d { section = section.Givens; givens = Some gs }) more) (sym (append-nil old))
+givens_run d old (g ∷ gs) more = givens_run d (old ++ g ∷ []) gs more ∙ ap
+    (λ (hs : List Given). run (record d { section = section.Givens; givens = Some hs }) more) (append_assoc old (g ∷ []) gs)
+
+paths_run : (d : Draft) (ps : List PathLine) (more : List Line) → takes_path d.section ≡ true
+    → (q : Section) × (takes_path q ≡ true) × (run d (map (λ p. line.Path p) ps ++ more) ≡ run (record d { section = q; paths = d.paths ++ ps }) more)
+paths_run d [] more t = (d.section, t, ap (λ (ps : List PathLine). run (record d { paths = ps }) more) (sym (append-nil d.paths)))
+paths_run d (p ∷ ps) more t =
+    let next = paths_run (record d { section = section.Paths; paths = d.paths ++ p ∷ [] }) ps more refl in
+    let one : run d (line.Path p ∷ (map (λ p. line.Path p) ps ++ more)) ≡ run (record d { section = section.Paths; paths = d.paths ++ p ∷ [] }) (map (λ p. line.Path p) ps ++ more) = rw t refl in
+    (next.0, next.1, one ∙ next.2 ∙ ap (λ (xs : List PathLine). run (record d { section = next.0; paths = xs }) more) (append_assoc d.paths (p ∷ []) ps))
 
 edges_run : (d : Draft) (es : List EdgeLine) (more : List Line) → takes_edge d.section ≡ true
     → (q : Section) × (takes_edge q ≡ true) × (run d (map (λ e. line.Edge e) es ++ more) ≡ run (record d { section = q; edges = d.edges ++ es }) more)
@@ -101,13 +124,14 @@ probes_run d (p ∷ ps) more t =
     let one : run d (line.Probe p ∷ (map (λ p. line.Probe p) ps ++ more)) ≡ run (record d { section = section.Probes; probes = d.probes ++ p ∷ [] }) (map (λ p. line.Probe p) ps ++ more) = rw t refl in
     (next.0, next.1, one ∙ next.2 ∙ ap (λ (xs : List Probe). run (record d { section = next.0; probes = xs }) more) (append_assoc d.probes (p ∷ []) ps))
 
--- where the ten first lines are read
-headed : ResultFile → Draft
-headed f = record {
-  section = section.Paths;
+-- where the ten first lines are read, and there are these givens
+headed : ResultFile → Option (List Given) → Draft
+headed f givens = record {
+  section = section.Givens;
   sets = f.sets;
   ratio = f.ratio;
   counts = listed f.asides;
+  givens = givens;
   paths = [];
   edges = [];
   whys = [];
@@ -115,37 +139,51 @@ headed f = record {
   totals = record { kept = 0; lost = 0; edges = 0; forced = 0; peers = 0 };
 }
 
-head_run : (f : ResultFile) (more : List Line) → run empty_draft (head_lines f ++ more) ≡ run (headed f) more
+head_run : (f : ResultFile) (more : List Line) → run empty_draft (head_lines f ++ more) ≡ run (headed f (no_givens (version_of f.givens))) more
 unfolding headed
 head_run f more = refl
+
+-- the given lines of a result that has these
+its_givens_run : (f : ResultFile) (givens : Option (List Given)) (more : List Line)
+    → run (headed f (no_givens (version_of givens))) (map (λ g. line.Given g) (its_givens (record f { givens = givens })) ++ more) ≡ run (headed f givens) more
+unfolding headed
+its_givens_run f None more = refl
+its_givens_run f (Some gs) more = givens_run (headed f None) [] gs more
 
 pub runs_to_end : (f : ResultFile) → run empty_draft (lines_of f) ≡ Some (done f)
 unfolding headed
 runs_to_end f =
-    let d0 = headed f in
+    let d0 = headed f f.givens in
     let m4 : List Line = line.End f.totals ∷ [] in
     let m3 : List Line = map (λ p. line.Probe p) f.probes ++ m4 in
     let m2 : List Line = map (λ w. line.Why w) f.whys ++ m3 in
     let m1 : List Line = map (λ e. line.Edge e) f.edges ++ m2 in
-    let d1 : Draft = record d0 { paths = f.paths } in
-    let a = paths_run d0 f.paths m1 in
-    let b = edges_run d1 f.edges m2 refl in
+    let m0 : List Line = map (λ p. line.Path p) f.paths ++ m1 in
+    let a = paths_run d0 f.paths m1 refl in
+    let d1 : Draft = record d0 { section = a.0; paths = f.paths } in
+    let b = edges_run d1 f.edges m2 (path_takes_edge a.0 a.1) in
     let d2 : Draft = record d1 { section = b.0; edges = f.edges } in
     let c = whys_run d2 f.whys m3 (edge_takes_why b.0 b.1) in
     let d3 : Draft = record d2 { section = c.0; whys = f.whys } in
     let d = probes_run d3 f.probes m4 (why_takes_probe c.0 c.1) in
     let d4 : Draft = record d3 { section = d.0; probes = f.probes } in
     let last : run d4 m4 ≡ Some (done f) = rw d.1 refl in
-    head_run f (body_lines f) ∙ a ∙ b.2 ∙ c.2 ∙ d.2 ∙ last
+    let begun : run empty_draft (lines_of f) ≡ run d0 m0 = head_run f (body_lines f) ∙ its_givens_run f f.givens m0 in
+    begun ∙ a.2 ∙ b.2 ∙ c.2 ∙ ◌∙◌ {b = run d4 m4} d.2 last
 
 -- ---- what is read so far
 
 -- the lines of the sections
-abbrev pub sections : List PathLine → List EdgeLine → List Walk → List Probe → List Line
-sections ps es ws os = map (λ p. line.Path p) ps ++ (map (λ e. line.Edge e) es ++ (map (λ w. line.Why w) ws ++ map (λ p. line.Probe p) os))
+abbrev pub sections : List Given → List PathLine → List EdgeLine → List Walk → List Probe → List Line
+sections gs ps es ws os =
+    map (λ g. line.Given g) gs ++ (map (λ p. line.Path p) ps ++ (map (λ e. line.Edge e) es ++ (map (λ w. line.Why w) ws ++ map (λ p. line.Probe p) os)))
+
+-- the givens that are read so far
+abbrev pub givens_of : Draft → List Given
+givens_of d = its_givens (file_of d)
 
 abbrev pub sections_of : Draft → List Line
-sections_of d = sections d.paths d.edges d.whys d.probes
+sections_of d = sections (givens_of d) d.paths d.edges d.whys d.probes
 
 abbrev pub head_part : Section → ResultFile → List Line
 head_part (section.Head n) f = take n (head_lines f)
@@ -161,7 +199,8 @@ sofar d = head_part d.section (file_of d) ++ (sections_of d ++ end_part d.sectio
 
 -- the sections that are still to come are empty
 abbrev pub Placed : Section → Draft → Type 0
-Placed (section.Head n) d = (d.paths ≡ []) × (d.edges ≡ []) × (d.whys ≡ []) × (d.probes ≡ [])
+Placed (section.Head n) d = (givens_of d ≡ []) × (d.paths ≡ []) × (d.edges ≡ []) × (d.whys ≡ []) × (d.probes ≡ [])
+Placed section.Givens d = (d.paths ≡ []) × (d.edges ≡ []) × (d.whys ≡ []) × (d.probes ≡ [])
 Placed section.Paths d = (d.edges ≡ []) × (d.whys ≡ []) × (d.probes ≡ [])
 Placed section.Edges d = (d.whys ≡ []) × (d.probes ≡ [])
 Placed section.Whys d = d.probes ≡ []
@@ -170,49 +209,67 @@ Placed section.End d = Unit {0}
 
 Placed-elsewhere : (p q : Section) (d : Draft) → Placed p d → Placed p (record d { section = q })
 Placed-elsewhere (section.Head n) q d h = h
+Placed-elsewhere section.Givens q d h = h
 Placed-elsewhere section.Paths q d h = h
 Placed-elsewhere section.Edges q d h = h
 Placed-elsewhere section.Whys q d h = h
 Placed-elsewhere section.Probes q d h = h
 Placed-elsewhere section.End q d h = h
 
-pub no_sections : (d : Draft) → d.paths ≡ [] → d.edges ≡ [] → d.whys ≡ [] → d.probes ≡ [] → sections_of d ≡ []
-no_sections d p e w o = rw (p, e, w, o) refl
+pub no_sections : (d : Draft) → givens_of d ≡ [] → d.paths ≡ [] → d.edges ≡ [] → d.whys ≡ [] → d.probes ≡ [] → sections_of d ≡ []
+no_sections d g p e w o = rw (g, p, e, w, o) refl
 
-path_section : (ps : List PathLine) (es : List EdgeLine) (ws : List Walk) (os : List Probe) (x : PathLine) → es ≡ [] → ws ≡ [] → os ≡ []
-    → sections (ps ++ x ∷ []) es ws os ≡ sections ps es ws os ++ line.Path x ∷ []
-path_section ps es ws os x e w o = rw (e, w, o) (append-nil (map (λ p. line.Path p) (ps ++ x ∷ [])) ∙ map_push (λ p. line.Path p) ps x
+given_section : (gs : List Given) (ps : List PathLine) (es : List EdgeLine) (ws : List Walk) (os : List Probe) (x : Given) → ps ≡ [] → es ≡ [] → ws ≡ [] → os ≡ []
+    → sections (gs ++ x ∷ []) ps es ws os ≡ sections gs ps es ws os ++ line.Given x ∷ []
+given_section gs ps es ws os x p e w o = rw (p, e, w, o) (append-nil (map (λ g. line.Given g) (gs ++ x ∷ [])) ∙ map_push (λ g. line.Given g) gs x
+    ∙ ap (λ (ls : List Line). ls ++ line.Given x ∷ []) (sym (append-nil (map (λ g. line.Given g) gs))))
+
+path_section : (gs : List Given) (ps : List PathLine) (es : List EdgeLine) (ws : List Walk) (os : List Probe) (x : PathLine) → es ≡ [] → ws ≡ [] → os ≡ []
+    → sections gs (ps ++ x ∷ []) es ws os ≡ sections gs ps es ws os ++ line.Path x ∷ []
+path_section gs ps es ws os x e w o =
+    let a = map (λ g. line.Given g) gs in
+    rw (e, w, o) (ap (λ (ls : List Line). a ++ ls) (append-nil (map (λ p. line.Path p) (ps ++ x ∷ [])) ∙ map_push (λ p. line.Path p) ps x
     ∙ ap (λ (ls : List Line). ls ++ line.Path x ∷ []) (sym (append-nil (map (λ p. line.Path p) ps))))
+    ∙ sym (append_assoc a (map (λ p. line.Path p) ps ++ []) (line.Path x ∷ [])))
 
-edge_section : (ps : List PathLine) (es : List EdgeLine) (ws : List Walk) (os : List Probe) (x : EdgeLine) → ws ≡ [] → os ≡ []
-    → sections ps (es ++ x ∷ []) ws os ≡ sections ps es ws os ++ line.Edge x ∷ []
-edge_section ps es ws os x w o =
-    let a = map (λ p. line.Path p) ps in
-    rw (w, o) (ap (λ (ls : List Line). a ++ ls) (append-nil (map (λ e. line.Edge e) (es ++ x ∷ [])) ∙ map_push (λ e. line.Edge e) es x
-    ∙ ap (λ (ls : List Line). ls ++ line.Edge x ∷ []) (sym (append-nil (map (λ e. line.Edge e) es))))
-    ∙ sym (append_assoc a (map (λ e. line.Edge e) es ++ []) (line.Edge x ∷ [])))
-
-why_section : (ps : List PathLine) (es : List EdgeLine) (ws : List Walk) (os : List Probe) (x : Walk) → os ≡ [] → sections ps es (ws ++ x ∷ []) os ≡ sections ps es ws os ++ line.Why x ∷ []
-why_section ps es ws os x o =
-    let a = map (λ p. line.Path p) ps in
-    let b = map (λ e. line.Edge e) es in
-    let c = map (λ w. line.Why w) ws in
-    rw o (ap (λ (ls : List Line). a ++ (b ++ ls)) (append-nil (map (λ w. line.Why w) (ws ++ x ∷ [])) ∙ map_push (λ w. line.Why w) ws x
-    ∙ ap (λ (ls : List Line). ls ++ line.Why x ∷ []) (sym (append-nil c)))
-    ∙ two a b (c ++ []) (line.Why x ∷ []))
+edge_section : (gs : List Given) (ps : List PathLine) (es : List EdgeLine) (ws : List Walk) (os : List Probe) (x : EdgeLine) → ws ≡ [] → os ≡ []
+    → sections gs ps (es ++ x ∷ []) ws os ≡ sections gs ps es ws os ++ line.Edge x ∷ []
+edge_section gs ps es ws os x w o =
+    let a = map (λ g. line.Given g) gs in
+    let b = map (λ p. line.Path p) ps in
+    let c = map (λ e. line.Edge e) es in
+    rw (w, o) (ap (λ (ls : List Line). a ++ (b ++ ls)) (append-nil (map (λ e. line.Edge e) (es ++ x ∷ [])) ∙ map_push (λ e. line.Edge e) es x
+    ∙ ap (λ (ls : List Line). ls ++ line.Edge x ∷ []) (sym (append-nil c)))
+    ∙ two a b (c ++ []) (line.Edge x ∷ []))
   where
     two : (a b c d : List Line) → a ++ (b ++ (c ++ d)) ≡ (a ++ (b ++ c)) ++ d
     two a b c d = simp append_assoc
 
-probe_section : (ps : List PathLine) (es : List EdgeLine) (ws : List Walk) (os : List Probe) (x : Probe) → sections ps es ws (os ++ x ∷ []) ≡ sections ps es ws os ++ line.Probe x ∷ []
-probe_section ps es ws os x =
-    let a = map (λ p. line.Path p) ps in
-    let b = map (λ e. line.Edge e) es in
-    let c = map (λ w. line.Why w) ws in
-    ap (λ (ls : List Line). a ++ (b ++ (c ++ ls))) (map_push (λ p. line.Probe p) os x) ∙ three a b c (map (λ p. line.Probe p) os) (line.Probe x ∷ [])
+why_section : (gs : List Given) (ps : List PathLine) (es : List EdgeLine) (ws : List Walk) (os : List Probe) (x : Walk) → os ≡ []
+    → sections gs ps es (ws ++ x ∷ []) os ≡ sections gs ps es ws os ++ line.Why x ∷ []
+why_section gs ps es ws os x o =
+    let a = map (λ g. line.Given g) gs in
+    let b = map (λ p. line.Path p) ps in
+    let c = map (λ e. line.Edge e) es in
+    let d = map (λ w. line.Why w) ws in
+    rw o (ap (λ (ls : List Line). a ++ (b ++ (c ++ ls))) (append-nil (map (λ w. line.Why w) (ws ++ x ∷ [])) ∙ map_push (λ w. line.Why w) ws x
+    ∙ ap (λ (ls : List Line). ls ++ line.Why x ∷ []) (sym (append-nil d)))
+    ∙ three a b c (d ++ []) (line.Why x ∷ []))
   where
     three : (a b c d e : List Line) → a ++ (b ++ (c ++ (d ++ e))) ≡ (a ++ (b ++ (c ++ d))) ++ e
     three a b c d e = simp append_assoc
+
+probe_section : (gs : List Given) (ps : List PathLine) (es : List EdgeLine) (ws : List Walk) (os : List Probe) (x : Probe)
+    → sections gs ps es ws (os ++ x ∷ []) ≡ sections gs ps es ws os ++ line.Probe x ∷ []
+probe_section gs ps es ws os x =
+    let a = map (λ g. line.Given g) gs in
+    let b = map (λ p. line.Path p) ps in
+    let c = map (λ e. line.Edge e) es in
+    let d = map (λ w. line.Why w) ws in
+    ap (λ (ls : List Line). a ++ (b ++ (c ++ (d ++ ls)))) (map_push (λ p. line.Probe p) os x) ∙ four a b c d (map (λ p. line.Probe p) os) (line.Probe x ∷ [])
+  where
+    four : (a b c d e f : List Line) → a ++ (b ++ (c ++ (d ++ (e ++ f)))) ≡ (a ++ (b ++ (c ++ (d ++ e)))) ++ f
+    four a b c d e f = simp append_assoc
 
 -- e is d with one more line
 pub record Stepped (d e : Draft) (l : Line) : Type 0 where
@@ -231,8 +288,9 @@ head_sofar d new k l p s t en h =
     ap (λ (x : List Line). prefix ++ (x ++ end_part p (file_of new))) t ∙ ap (λ (x : List Line). prefix ++ x) en ∙ append-nil prefix ∙ h
     ∙ sym (ap (λ (x : List Line). (old ++ (x ++ [])) ++ l ∷ []) s ∙ ap (λ (x : List Line). x ++ l ∷ []) (append-nil old))
 
-head_section : (k : ℕ) (p : Section) → is_head k p ≡ true → p ≡ section.Head k
+pub head_section : (k : ℕ) (p : Section) → is_head k p ≡ true → p ≡ section.Head k
 head_section k (section.Head n) t = ap (λ (m : ℕ). section.Head m) (eqb-true n k t)
+head_section k section.Givens t = absurd cc
 head_section k section.Paths t = absurd cc
 head_section k section.Edges t = absurd cc
 head_section k section.Whys t = absurd cc
@@ -241,6 +299,7 @@ head_section k section.End t = absurd cc
 
 -- the new draft differs in what its first lines say
 record ChangesHead (d new : Draft) (k : ℕ) (l : Line) : Type 0 where
+  givens : givens_of d ≡ [] → givens_of new ≡ []
   paths : new.paths ≡ d.paths
   edges : new.edges ≡ d.edges
   whys : new.whys ≡ d.whys
@@ -255,9 +314,9 @@ head_stepped k d new e l c placed s =
     let g = if_some (is_head k d.section) (Some (record new { section = after_head (k + 1) })) e s in
     let at : d.section ≡ section.Head k = head_section k d.section g.0 in
     let h : Placed (section.Head k) d = subst (λ (p : Section). Placed p d) at placed in
-    let old : sections_of d ≡ [] = no_sections d h.0 h.1 h.2 h.3 in
-    let hn : Placed (section.Head k) new = (c.paths ∙ h.0, c.edges ∙ h.1, c.whys ∙ h.2, c.probes ∙ h.3) in
-    let fresh : sections_of new ≡ [] = no_sections new hn.0 hn.1 hn.2 hn.3 in
+    let old : sections_of d ≡ [] = no_sections d h.0 h.1 h.2 h.3 h.4 in
+    let hn : Placed (section.Head k) new = (c.givens h.0, c.paths ∙ h.1, c.edges ∙ h.2, c.whys ∙ h.3, c.probes ∙ h.4) in
+    let fresh : sections_of new ≡ [] = no_sections new hn.0 hn.1 hn.2 hn.3 hn.4 in
     let made : Stepped (record d { section = section.Head k }) (record new { section = after_head (k + 1) }) l = record {
       seven = c.seven;
       placed = Placed-elsewhere (after_head (k + 1)) (after_head (k + 1)) new (c.placed hn);
@@ -314,7 +373,7 @@ aside_placed cause.Confed new h = h
 aside_placed cause.Sets new h = h
 aside_placed cause.Reserved new h = h
 aside_placed cause.Loop new h = h
-aside_placed cause.Short new h = (h.1, h.2, h.3)
+aside_placed cause.Short new h = (h.1, h.2, h.3, h.4)
 
 aside_ends : (c : Cause) (f : ResultFile) → end_part (after_head (3 + cause_index c + 1)) f ≡ []
 aside_ends cause.NoPath f = refl
@@ -336,14 +395,54 @@ body_more h s t l e = ap (λ (x : List Line). h ++ (x ++ [])) e ∙ regroup h s 
 end_more : (h s : List Line) (l : Line) → h ++ (s ++ l ∷ []) ≡ (h ++ (s ++ [])) ++ l ∷ []
 end_more h s l = simp (append-nil, append_assoc)
 
+-- a draft with a list of givens, and one more
+given_added : (d : Draft) (gs : List Given) (x : Given) → Placed section.Givens d → length d.counts ≡ 7
+    → Stepped (record d { section = section.Givens; givens = Some gs }) (record d { section = section.Givens; givens = Some (gs ++ x ∷ []) }) (line.Given x)
+given_added d gs x h seven = record {
+  seven = seven;
+  placed = h;
+  more = body_more (head_lines (file_of (record d { givens = Some gs }))) (sections gs d.paths d.edges d.whys d.probes) (sections (gs ++ x ∷ []) d.paths d.edges d.whys d.probes) (line.Given x)
+      (given_section gs d.paths d.edges d.whys d.probes x h.0 h.1 h.2 h.3);
+}
+
+givens_section : (p : Section) → takes_given p ≡ true → p ≡ section.Givens
+givens_section (section.Head n) t = absurd cc
+givens_section section.Givens t = refl
+givens_section section.Paths t = absurd cc
+givens_section section.Edges t = absurd cc
+givens_section section.Whys t = absurd cc
+givens_section section.Probes t = absurd cc
+givens_section section.End t = absurd cc
+
+-- where a given was added there is a list of them
+pub some_givens : (d e : Draft) (x : Given) → with_given d x ≡ Some e → (gs : List Given) × (d.givens ≡ Some gs) × (record d { givens = Some (gs ++ x ∷ []) } ≡ e)
+some_givens d e x s = by d.givens refl s
+  where
+    by : (o : Option (List Given)) → d.givens ≡ o → option_map (λ gs. record d { givens = Some (gs ++ x ∷ []) }) o ≡ Some e
+        → (gs : List Given) × (d.givens ≡ Some gs) × (record d { givens = Some (gs ++ x ∷ []) } ≡ e)
+    by None is s = absurd cc
+    by (Some gs) is s = (gs, is, some_is (record d { givens = Some (gs ++ x ∷ []) }) e s)
+
+given_stepped : (d e : Draft) (x : Given) → Placed d.section d → length d.counts ≡ 7 → takes_given d.section ≡ true → with_given d x ≡ Some e → Stepped d e (line.Given x)
+given_stepped d e x placed seven t s =
+    let some = some_givens d e x s in
+    let at : d.section ≡ section.Givens = givens_section d.section t in
+    let made = given_added d some.0 x (subst (λ (p : Section). Placed p d) at placed) seven in
+    let there : Stepped (record d { givens = Some some.0 }) (record d { givens = Some (some.0 ++ x ∷ []) }) (line.Given x) =
+    subst (λ (p : Section). Stepped (record d { section = p; givens = Some some.0 }) (record d { section = p; givens = Some (some.0 ++ x ∷ []) }) (line.Given x)) (sym at) made in
+    subst (λ (y : Draft). Stepped d y (line.Given x)) some.2
+    (subst (λ (o : Option (List Given)). Stepped (record d { givens = o }) (record d { givens = Some (some.0 ++ x ∷ []) }) (line.Given x)) (sym some.1) there)
+
+path_added : (d : Draft) (x : PathLine) → d.edges ≡ [] → d.whys ≡ [] → d.probes ≡ [] → sofar (record d { section = section.Paths; paths = d.paths ++ x ∷ [] }) ≡ sofar
+    (record d { section = section.Paths }) ++ line.Path x ∷ []
+path_added d x e w o = body_more (head_lines (file_of d)) (sections_of d) (sections (givens_of d) (d.paths ++ x ∷ []) d.edges d.whys d.probes) (line.Path x)
+    (path_section (givens_of d) d.paths d.edges d.whys d.probes x e w o)
+
 path_stepped : (p : Section) (d : Draft) (x : PathLine) → takes_path p ≡ true → Placed p d → length d.counts ≡ 7
     → Stepped (record d { section = p }) (record d { section = section.Paths; paths = d.paths ++ x ∷ [] }) (line.Path x)
 path_stepped (section.Head n) d x t h seven = absurd cc
-path_stepped section.Paths d x t h seven = record {
-  seven = seven;
-  placed = h;
-  more = body_more (head_lines (file_of d)) (sections_of d) (sections (d.paths ++ x ∷ []) d.edges d.whys d.probes) (line.Path x) (path_section d.paths d.edges d.whys d.probes x h.0 h.1 h.2);
-}
+path_stepped section.Givens d x t h seven = record { seven = seven; placed = (h.1, h.2, h.3); more = path_added d x h.1 h.2 h.3 }
+path_stepped section.Paths d x t h seven = record { seven = seven; placed = h; more = path_added d x h.0 h.1 h.2 }
 path_stepped section.Edges d x t h seven = absurd cc
 path_stepped section.Whys d x t h seven = absurd cc
 path_stepped section.Probes d x t h seven = absurd cc
@@ -351,11 +450,13 @@ path_stepped section.End d x t h seven = absurd cc
 
 edge_added : (d : Draft) (x : EdgeLine) → d.whys ≡ [] → d.probes ≡ [] → sofar (record d { section = section.Edges; edges = d.edges ++ x ∷ [] }) ≡ sofar
     (record d { section = section.Edges }) ++ line.Edge x ∷ []
-edge_added d x w o = body_more (head_lines (file_of d)) (sections_of d) (sections d.paths (d.edges ++ x ∷ []) d.whys d.probes) (line.Edge x) (edge_section d.paths d.edges d.whys d.probes x w o)
+edge_added d x w o = body_more (head_lines (file_of d)) (sections_of d) (sections (givens_of d) d.paths (d.edges ++ x ∷ []) d.whys d.probes) (line.Edge x)
+    (edge_section (givens_of d) d.paths d.edges d.whys d.probes x w o)
 
 edge_stepped : (p : Section) (d : Draft) (x : EdgeLine) → takes_edge p ≡ true → Placed p d → length d.counts ≡ 7
     → Stepped (record d { section = p }) (record d { section = section.Edges; edges = d.edges ++ x ∷ [] }) (line.Edge x)
 edge_stepped (section.Head n) d x t h seven = absurd cc
+edge_stepped section.Givens d x t h seven = record { seven = seven; placed = (h.2, h.3); more = edge_added d x h.2 h.3 }
 edge_stepped section.Paths d x t h seven = record { seven = seven; placed = (h.1, h.2); more = edge_added d x h.1 h.2 }
 edge_stepped section.Edges d x t h seven = record { seven = seven; placed = h; more = edge_added d x h.0 h.1 }
 edge_stepped section.Whys d x t h seven = absurd cc
@@ -363,11 +464,13 @@ edge_stepped section.Probes d x t h seven = absurd cc
 edge_stepped section.End d x t h seven = absurd cc
 
 why_added : (d : Draft) (x : Walk) → d.probes ≡ [] → sofar (record d { section = section.Whys; whys = d.whys ++ x ∷ [] }) ≡ sofar (record d { section = section.Whys }) ++ line.Why x ∷ []
-why_added d x o = body_more (head_lines (file_of d)) (sections_of d) (sections d.paths d.edges (d.whys ++ x ∷ []) d.probes) (line.Why x) (why_section d.paths d.edges d.whys d.probes x o)
+why_added d x o = body_more (head_lines (file_of d)) (sections_of d) (sections (givens_of d) d.paths d.edges (d.whys ++ x ∷ []) d.probes) (line.Why x)
+    (why_section (givens_of d) d.paths d.edges d.whys d.probes x o)
 
 why_stepped : (p : Section) (d : Draft) (x : Walk) → takes_why p ≡ true → Placed p d → length d.counts ≡ 7
     → Stepped (record d { section = p }) (record d { section = section.Whys; whys = d.whys ++ x ∷ [] }) (line.Why x)
 why_stepped (section.Head n) d x t h seven = absurd cc
+why_stepped section.Givens d x t h seven = record { seven = seven; placed = h.3; more = why_added d x h.3 }
 why_stepped section.Paths d x t h seven = record { seven = seven; placed = h.2; more = why_added d x h.2 }
 why_stepped section.Edges d x t h seven = record { seven = seven; placed = h.1; more = why_added d x h.1 }
 why_stepped section.Whys d x t h seven = record { seven = seven; placed = h; more = why_added d x h }
@@ -375,11 +478,13 @@ why_stepped section.Probes d x t h seven = absurd cc
 why_stepped section.End d x t h seven = absurd cc
 
 probe_added : (d : Draft) (x : Probe) → sofar (record d { section = section.Probes; probes = d.probes ++ x ∷ [] }) ≡ sofar (record d { section = section.Probes }) ++ line.Probe x ∷ []
-probe_added d x = body_more (head_lines (file_of d)) (sections_of d) (sections d.paths d.edges d.whys (d.probes ++ x ∷ [])) (line.Probe x) (probe_section d.paths d.edges d.whys d.probes x)
+probe_added d x = body_more (head_lines (file_of d)) (sections_of d) (sections (givens_of d) d.paths d.edges d.whys (d.probes ++ x ∷ [])) (line.Probe x)
+    (probe_section (givens_of d) d.paths d.edges d.whys d.probes x)
 
 probe_stepped : (p : Section) (d : Draft) (x : Probe) → takes_probe p ≡ true → Placed p d → length d.counts ≡ 7
     → Stepped (record d { section = p }) (record d { section = section.Probes; probes = d.probes ++ x ∷ [] }) (line.Probe x)
 probe_stepped (section.Head n) d x t h seven = absurd cc
+probe_stepped section.Givens d x t h seven = record { seven = seven; placed = tt; more = probe_added d x }
 probe_stepped section.Paths d x t h seven = record { seven = seven; placed = tt; more = probe_added d x }
 probe_stepped section.Edges d x t h seven = record { seven = seven; placed = tt; more = probe_added d x }
 probe_stepped section.Whys d x t h seven = record { seven = seven; placed = tt; more = probe_added d x }
@@ -389,6 +494,7 @@ probe_stepped section.End d x t h seven = absurd cc
 end_stepped : (p : Section) (d : Draft) (x : Totals) → takes_probe p ≡ true → Placed p d → length d.counts ≡ 7
     → Stepped (record d { section = p }) (record d { section = section.End; totals = x }) (line.End x)
 end_stepped (section.Head n) d x t h seven = absurd cc
+end_stepped section.Givens d x t h seven = record { seven = seven; placed = tt; more = end_more (head_lines (file_of d)) (sections_of d) (line.End x) }
 end_stepped section.Paths d x t h seven = record { seven = seven; placed = tt; more = end_more (head_lines (file_of d)) (sections_of d) (line.End x) }
 end_stepped section.Edges d x t h seven = record { seven = seven; placed = tt; more = end_more (head_lines (file_of d)) (sections_of d) (line.End x) }
 end_stepped section.Whys d x t h seven = record { seven = seven; placed = tt; more = end_more (head_lines (file_of d)) (sections_of d) (line.End x) }
@@ -402,17 +508,44 @@ body_step b d new e l made s =
     let g = if_some b (Some new) e s in
     subst (λ (x : Draft). Stepped d x l) (some_is new e g.1) (made g.0)
 
+-- the first line changes the version
+version_changes : (d : Draft) (v : Version) → length d.counts ≡ 7 → ChangesHead d (record d { givens = no_givens v }) 0 (line.Version v)
+version_changes d version.One seven = record {
+  givens = λ h. refl;
+  paths = refl;
+  edges = refl;
+  whys = refl;
+  probes = refl;
+  seven = seven;
+  ends = refl;
+  placed = λ h. h;
+  head = refl;
+}
+version_changes d version.Two seven = record {
+  givens = λ h. refl;
+  paths = refl;
+  edges = refl;
+  whys = refl;
+  probes = refl;
+  seven = seven;
+  ends = refl;
+  placed = λ h. h;
+  head = refl;
+}
+
 pub step_steps : (d e : Draft) (l : Line) → length d.counts ≡ 7 → Placed d.section d → step d l ≡ Some e → Stepped d e l
-step_steps d e line.Version seven placed s =
-    head_stepped 0 d d e line.Version (record { paths = refl; edges = refl; whys = refl; probes = refl; seven = seven; ends = refl; placed = λ h. h; head = refl }) placed s
+step_steps d e (line.Version v) seven placed s = head_stepped 0 d (record d { givens = no_givens v }) e (line.Version v) (version_changes d v seven) placed s
 step_steps d e (line.Sets x) seven placed s =
-    head_stepped 1 d (record d { sets = x }) e (line.Sets x) (record { paths = refl; edges = refl; whys = refl; probes = refl; seven = seven; ends = refl; placed = λ h. h; head = refl }) placed s
+    head_stepped 1 d (record d { sets = x }) e (line.Sets x)
+    (record { givens = λ h. h; paths = refl; edges = refl; whys = refl; probes = refl; seven = seven; ends = refl; placed = λ h. h; head = refl }) placed s
 step_steps d e (line.Ratio n) seven placed s =
-    head_stepped 2 d (record d { ratio = n }) e (line.Ratio n) (record { paths = refl; edges = refl; whys = refl; probes = refl; seven = seven; ends = refl; placed = λ h. h; head = refl }) placed s
+    head_stepped 2 d (record d { ratio = n }) e (line.Ratio n)
+    (record { givens = λ h. h; paths = refl; edges = refl; whys = refl; probes = refl; seven = seven; ends = refl; placed = λ h. h; head = refl }) placed s
 step_steps d e (line.Aside c n) seven placed s =
     let set = sets_count d c n seven in
     let new : Draft = record d { counts = slice_set d.counts (cause_index c) n } in
     head_stepped (3 + cause_index c) d new e (line.Aside c n) (record {
+      givens = λ h. h;
       paths = refl;
       edges = refl;
       whys = refl;
@@ -423,6 +556,9 @@ step_steps d e (line.Aside c n) seven placed s =
       placed = aside_placed c new;
       head = set.0;
     }) placed s
+step_steps d e (line.Given x) seven placed s =
+    let g = if_some (takes_given d.section) (with_given d x) e s in
+    given_stepped d e x placed seven g.0 g.1
 step_steps d e (line.Path x) seven placed s = body_step (takes_path d.section) d (record d { section = section.Paths; paths = d.paths ++ x ∷ [] }) e (line.Path x)
     (λ t. path_stepped d.section d x t placed seven) s
 step_steps d e (line.Edge x) seven placed s = body_step (takes_edge d.section) d (record d { section = section.Edges; edges = d.edges ++ x ∷ [] }) e (line.Edge x)

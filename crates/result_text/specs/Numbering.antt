@@ -1,8 +1,9 @@
--- On which line of its text each thing of a result stands. Lines are counted from 1, and so are the paths, edges,
+-- On which line of its text each thing of a result stands. Lines are counted from 1, and so are the givens, paths, edges,
 -- walks and open lines of a result.
 use Rattle.std.specs.Prelude.{◌≡◌, ℕ, ◌+◌, ◌≤◌, List, length, take, Some, slice_get}
 use Rattle.path_clean.specs.declared.cleaned.Cause.{Cause}
 use Rattle.path_clean.specs.Counts.{cause_count}
+use Rattle.relationships.specs.declared.given.Given.{Given}
 use Rattle.relationships.specs.declared.walk.Walk.{Walk}
 use Rattle.result_text.specs.declared.file.PathLine.{PathLine}
 use Rattle.result_text.specs.declared.file.EdgeLine.{EdgeLine}
@@ -10,7 +11,7 @@ use Rattle.relationships.specs.declared.mark.Probe.{Probe}
 use Rattle.result_text.specs.declared.file.ResultFile.{ResultFile}
 use Rattle.result_text.specs.declared.line.Line.{Line}
 use Rattle.result_text.specs.declared.line.Line.TheVariants as line
-use Rattle.result_text.specs.Text.{lines_of, text_of_lines, text}
+use Rattle.result_text.specs.Text.{its_givens, version_of, lines_of, text_of_lines, text}
 use Rattle.result_text.specs.Order.{cause_index}
 use Rattle.result_text.specs.Grammar.{first_lines}
 
@@ -20,20 +21,24 @@ ratio_line = 3
 abbrev pub aside_line : Cause → ℕ
 aside_line cause = 4 + cause_index cause
 
+abbrev pub given_line : ResultFile → ℕ → ℕ
+given_line file number = 10 + number
+
 abbrev pub path_line : ResultFile → ℕ → ℕ
-path_line file number = 10 + number
+path_line file number = 10 + length (its_givens file) + number
 
 abbrev pub edge_line : ResultFile → ℕ → ℕ
-edge_line file number = 10 + length file.paths + number
+edge_line file number = 10 + length (its_givens file) + length file.paths + number
 
 abbrev pub why_line : ResultFile → ℕ → ℕ
-why_line file number = 10 + length file.paths + length file.edges + number
+why_line file number = 10 + length (its_givens file) + length file.paths + length file.edges + number
 
 abbrev pub probe_line : ResultFile → ℕ → ℕ
-probe_line file number = 10 + length file.paths + length file.edges + length file.whys + number
+probe_line file number = 10 + length (its_givens file) + length file.paths + length file.edges + length file.whys + number
 
 abbrev pub last_line : ResultFile → ℕ
-last_line file = 11 + length file.paths + length file.edges + length file.whys + length file.probes
+last_line file =
+    11 + length (its_givens file) + length file.paths + length file.edges + length file.whys + length file.probes
 
 -- the line of this number
 abbrev pub IsLineAt : ResultFile → ℕ → Line → Type 0
@@ -48,6 +53,7 @@ StandOn {X} file line_for line_with xs =
 pub record IsNumbered (file : ResultFile) : Type 0 where
   pub ratio : IsLineAt file ratio_line (line.Ratio file.ratio)
   pub asides : (cause : Cause) → IsLineAt file (aside_line cause) (line.Aside cause (cause_count cause file.asides))
+  pub givens : StandOn file (given_line file) (λ (given : Given). line.Given given) (its_givens file)
   pub paths : StandOn file (path_line file) (λ (path : PathLine). line.Path path) file.paths
   pub edges : StandOn file (edge_line file) (λ (edge : EdgeLine). line.Edge edge) file.edges
   pub whys : StandOn file (why_line file) (λ (walk : Walk). line.Why walk) file.whys
@@ -58,4 +64,5 @@ pub record IsNumbered (file : ResultFile) : Type 0 where
 -- the first lines of the text, each with its line feed, are the texts of the first lines
 abbrev pub LinesAreOfText : ResultFile → Type 0
 LinesAreOfText file =
-    (count : ℕ) → count ≤ last_line file → first_lines count (text file) ≡ Some (text_of_lines (take count (lines_of file)))
+    (count : ℕ) → count ≤ last_line file →
+    first_lines count (text file) ≡ Some (text_of_lines (version_of file.givens) (take count (lines_of file)))

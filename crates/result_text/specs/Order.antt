@@ -1,10 +1,11 @@
 -- In which order lines come: what is read so far, and what may come next.
-use Rattle.std.specs.Prelude.{◌≡◌, ℕ, ◌+◌, Bool, true, false, List, [], ◌∷◌, ◌++◌, Option, Some, None, Result, Ok, Err, nat_lt, ◌==◌}
-use Rattle.std.specs.Prelude.{slice_set, if◌then◌else◌}
+use Rattle.std.specs.Prelude.{◌≡◌, ℕ, ◌+◌, Bool, true, false, List, [], ◌∷◌, ◌++◌, Option, Some, None, option_map, Result, Ok, Err, nat_lt}
+use Rattle.std.specs.Prelude.{◌==◌, slice_set, if◌then◌else◌}
 use Rattle.path_clean.specs.declared.cleaned.Cause.{Cause}
 use Rattle.path_clean.specs.declared.cleaned.Cause.TheVariants as cause
 use Rattle.path_clean.specs.declared.cleaned.Sets.TheVariants as sets
 use Rattle.path_clean.specs.Counts.{counts_from}
+use Rattle.relationships.specs.declared.given.Given.{Given}
 use Rattle.result_text.specs.declared.error.LineError.{LineError}
 use Rattle.result_text.specs.declared.file.ResultFile.{ResultFile}
 use Rattle.result_text.specs.declared.line.Line.{Line}
@@ -12,6 +13,9 @@ use Rattle.result_text.specs.declared.line.Line.TheVariants as line
 use Rattle.result_text.specs.declared.draft.Draft.{Draft}
 use Rattle.result_text.specs.declared.draft.Section.{Section}
 use Rattle.result_text.specs.declared.draft.Section.TheVariants as section
+use Rattle.result_text.specs.declared.line.Version.{Version}
+use Rattle.result_text.specs.declared.line.Version.TheVariants as version
+use Rattle.result_text.specs.Text.{version_of}
 use Rattle.result_text.specs.Reading.{Fails, line_at}
 use Rattle.text_fields.specs.Reading.{◌>>=◌}
 
@@ -31,11 +35,15 @@ is_head n (section.Head m) = m == n
 is_head n _ = false
 
 abbrev pub after_head : ℕ → Section
-after_head n = if nat_lt n 10 then section.Head n else section.Paths
+after_head n = if nat_lt n 10 then section.Head n else section.Givens
+
+abbrev pub takes_given : Section → Bool
+takes_given section.Givens = true
+takes_given _ = false
 
 abbrev pub takes_path : Section → Bool
 takes_path section.Paths = true
-takes_path _ = false
+takes_path p = takes_given p
 
 abbrev pub takes_edge : Section → Bool
 takes_edge section.Edges = true
@@ -53,12 +61,22 @@ takes_probe p = takes_why p
 abbrev pub pass_head : ℕ → Draft → Draft → Option Draft
 pass_head n old new = if is_head n old.section then Some (record new { section = after_head (n + 1) }) else None
 
+-- a text of version 2 has givens, of which none is read where its first line is
+abbrev pub no_givens : Version → Option (List Given)
+no_givens version.One = None
+no_givens version.Two = Some []
+
+-- the draft with a given more, if there is a list of them
+abbrev pub with_given : Draft → Given → Option Draft
+with_given d g = option_map (λ givens. record d { givens = Some (givens ++ g ∷ []) }) d.givens
+
 -- the draft with one more line, if the line may come next
 abbrev pub step : Draft → Line → Option Draft
-step d line.Version = pass_head 0 d d
+step d (line.Version v) = pass_head 0 d (record d { givens = no_givens v })
 step d (line.Sets s) = pass_head 1 d (record d { sets = s })
 step d (line.Ratio n) = pass_head 2 d (record d { ratio = n })
 step d (line.Aside c n) = pass_head (3 + cause_index c) d (record d { counts = slice_set d.counts (cause_index c) n })
+step d (line.Given g) = if takes_given d.section then with_given d g else None
 step d (line.Path p) = if takes_path d.section then Some (record d { section = section.Paths; paths = d.paths ++ p ∷ [] }) else None
 step d (line.Edge e) = if takes_edge d.section then Some (record d { section = section.Edges; edges = d.edges ++ e ∷ [] }) else None
 step d (line.Why w) = if takes_why d.section then Some (record d { section = section.Whys; whys = d.whys ++ w ∷ [] }) else None
@@ -76,6 +94,7 @@ empty_draft = record {
   sets = sets.Cut;
   ratio = 0;
   counts = 0 ∷ 0 ∷ 0 ∷ 0 ∷ 0 ∷ 0 ∷ 0 ∷ [];
+  givens = None;
   paths = [];
   edges = [];
   whys = [];
@@ -88,6 +107,7 @@ file_of d = record {
   sets = d.sets;
   ratio = d.ratio;
   asides = counts_from d.counts;
+  givens = d.givens;
   paths = d.paths;
   edges = d.edges;
   whys = d.whys;
@@ -110,4 +130,4 @@ with_line d read = do
 
 -- the draft with the line at the prefix of the octets, and the octets behind that
 unfoldable pub next_at : Draft → List ℕ → Option (Draft × List ℕ)
-next_at d bytes = with_line d (line_at bytes)
+next_at d bytes = with_line d (line_at (version_of d.givens) bytes)

@@ -1,4 +1,5 @@
--- Reading the lists, the names and the lines of a result: a value, and the octets behind it.
+-- Reading the lists, the names and the lines of a result: a value, and the octets behind it. What may name a given is read by the version
+-- of the text.
 use Rattle.std.specs.Prelude.{◌≡◌, ℕ, zero, suc, Bool, true, ◌||◌, List, [], ◌∷◌, ◌++◌, length, Option, Some, None, Result, Ok, Err, codes}
 use Rattle.std.specs.Prelude.{◌==◌, if◌then◌else◌}
 use Rattle.relationships.specs.declared.label.Label.{Label}
@@ -15,6 +16,8 @@ use Rattle.relationships.specs.declared.mark.Mark.TheVariants as mark
 use Rattle.text_fields.specs.Reading.{◌>>=◌, on_word, u64_at, u32_at, before, both, mapped}
 use Rattle.result_text.specs.declared.line.Line.{Line}
 use Rattle.result_text.specs.declared.line.Line.TheVariants as line
+use Rattle.result_text.specs.declared.line.Version.{Version}
+use Rattle.result_text.specs.declared.line.Version.TheVariants as version
 use Rattle.result_text.specs.declared.error.LineError.{LineError}
 use Rattle.result_text.specs.declared.error.LineError.TheVariants as errors
 
@@ -60,8 +63,17 @@ list_at member bytes = if field_ends bytes then Some ([], bytes) else (do
 abbrev pub link_from : ℕ × ℕ → Link
 link_from p = record { path = p.0; at = p.1 }
 
-unfoldable pub link_at : List ℕ → Option (Link × List ℕ)
-link_at bytes = mapped link_from (both (before 58 u32_at) u32_at) bytes
+-- a number that is not 0
+unfoldable pub positive_at : List ℕ → Option (ℕ × List ℕ)
+positive_at bytes = u32_at bytes >>= λ x. if x.0 == 0 then None else Some x
+
+-- a path's number, or in a text of version 2 the letter g for 0
+unfoldable pub path_name_at : Version → List ℕ → Option (ℕ × List ℕ)
+path_name_at version.One bytes = u32_at bytes
+path_name_at version.Two bytes = on_word (codes "g") (λ rest. Some (0, rest)) positive_at bytes
+
+unfoldable pub link_at : Version → List ℕ → Option (Link × List ℕ)
+link_at v bytes = mapped link_from (both (before 58 (path_name_at v)) u32_at) bytes
 
 -- ---- names
 
@@ -102,8 +114,8 @@ abbrev pub walk_from : List ℕ × List Link → Walk
 walk_from x = record { ases = x.0; links = x.1 }
 
 -- a walk ends its line
-unfoldable pub walk_at : List ℕ → Option (Walk × List ℕ)
-walk_at bytes = mapped walk_from (both (before 124 (list_at u32_at)) (before 10 (list_at link_at))) bytes
+unfoldable pub walk_at : Version → List ℕ → Option (Walk × List ℕ)
+walk_at v bytes = mapped walk_from (both (before 124 (list_at u32_at)) (before 10 (list_at (link_at v)))) bytes
 
 abbrev pub line_of_kept : ℕ × List ℕ → Line
 line_of_kept x = line.Path (record { times = x.0; path = x.1; fate = fate.Kept })
@@ -114,8 +126,8 @@ kept_at bytes = mapped line_of_kept (both (before 124 u64_at) (before 10 (list_a
 abbrev pub lost_from : ℕ × (List ℕ × Walk) → Line
 lost_from x = line.Path (record { times = x.0; path = x.1.0; fate = fate.Lost x.1.1 })
 
-unfoldable pub lost_at : List ℕ → Option (Line × List ℕ)
-lost_at bytes = mapped lost_from (both (before 124 u64_at) (both (before 124 (list_at u32_at)) walk_at)) bytes
+unfoldable pub lost_at : Version → List ℕ → Option (Line × List ℕ)
+lost_at v bytes = mapped lost_from (both (before 124 u64_at) (both (before 124 (list_at u32_at)) (walk_at v))) bytes
 
 abbrev pub edge_from : ℕ × (ℕ × (Label × (Mark × ℕ))) → Line
 edge_from x = line.Edge (record { low = x.0; high = x.1.0; label = x.1.1.0; mark = x.1.1.1.0; support = x.1.1.1.1 })
@@ -124,8 +136,14 @@ unfoldable pub edge_line_at : List ℕ → Option (Line × List ℕ)
 edge_line_at bytes =
     mapped edge_from (both (before 124 u32_at) (both (before 124 u32_at) (both label_at (both mark_at (before 10 u64_at))))) bytes
 
-unfoldable pub why_at : List ℕ → Option (Line × List ℕ)
-why_at bytes = mapped (λ w. line.Why w) walk_at bytes
+unfoldable pub why_at : Version → List ℕ → Option (Line × List ℕ)
+why_at v bytes = mapped (λ w. line.Why w) (walk_at v) bytes
+
+abbrev pub given_from : ℕ × ℕ → Line
+given_from x = line.Given (record { over = x.0; under = x.1 })
+
+unfoldable pub given_at : List ℕ → Option (Line × List ℕ)
+given_at bytes = mapped given_from (both (before 124 u32_at) (before 10 u32_at)) bytes
 
 abbrev pub probe_from : ℕ × ℕ → Line
 probe_from x = line.Probe (record { over = x.0; under = x.1 })
@@ -147,30 +165,32 @@ sets_line_at bytes = mapped (λ s. line.Sets s) sets_at bytes
 unfoldable pub ratio_at : List ℕ → Option (Line × List ℕ)
 ratio_at bytes = mapped (λ n. line.Ratio n) (before 10 u32_at) bytes
 
--- the first line has its word alone
-abbrev pub version_at : List ℕ → Option (Line × List ℕ)
-version_at bytes = Some (line.Version, bytes)
+-- the first line has its words alone
+abbrev pub version_at : Version → List ℕ → Option (Line × List ℕ)
+version_at v bytes = Some (line.Version v, bytes)
 
--- the readers of the lines before the paths and of the last line, each beside the first word of its line
+-- the readers of the lines before the paths and of the last line, each beside the first words of its line
 abbrev pub outer_readers : List (List ℕ × (List ℕ → Option (Line × List ℕ)))
 outer_readers =
     (codes "aside|", aside_at)
-    ∷ (codes "tor|1\n", version_at)
+    ∷ (codes "tor|1\n", version_at version.One)
+    ∷ (codes "tor|2\n", version_at version.Two)
     ∷ (codes "sets|", sets_line_at)
     ∷ (codes "ratio|", ratio_at)
+    ∷ (codes "given|", given_at)
     ∷ (codes "end|", end_at)
     ∷ []
 
--- the readers of all lines
-abbrev pub line_readers : List (List ℕ × (List ℕ → Option (Line × List ℕ)))
-line_readers =
+-- the readers of all lines of a text of this version
+abbrev pub line_readers : Version → List (List ℕ × (List ℕ → Option (Line × List ℕ)))
+line_readers v =
     (codes "kept|", kept_at)
     ∷ (codes "edge|", edge_line_at)
-    ∷ (codes "why|", why_at)
+    ∷ (codes "why|", why_at v)
     ∷ (codes "open|", probe_at)
-    ∷ (codes "lost|", lost_at)
+    ∷ (codes "lost|", lost_at v)
     ∷ outer_readers
 
 -- a line, by its first word
-unfoldable pub line_at : List ℕ → Option (Line × List ℕ)
-line_at bytes = by_word line_readers bytes
+unfoldable pub line_at : Version → List ℕ → Option (Line × List ℕ)
+line_at v bytes = by_word (line_readers v) bytes

@@ -2,22 +2,26 @@
 ghost use Rattle.std.specs.Prelude.{◌≡◌, ◌<◌};
 ghost use Rattle.result_text.specs.declared.line.Line.TheVariants as line;
 ghost use Rattle.result_text.specs.Reading.{line_of_kept, lost_from};
-ghost use Rattle.result_text.specs.Order.{cause_index, is_head, after_head, takes_path, takes_edge, takes_why, takes_probe, pass_head};
-ghost use Rattle.result_text.specs.Order.{step, Steps, empty_draft, finished};
+ghost use Rattle.result_text.specs.Text.{version_of};
+ghost use Rattle.result_text.specs.Order.{cause_index, is_head, after_head, takes_given, takes_path, takes_edge, takes_why, takes_probe};
+ghost use Rattle.result_text.specs.Order.{pass_head, step, Steps, empty_draft, finished};
 
 use crate::error::LineError;
 use crate::file::{EdgeLine, ResultFile, Totals};
+use crate::line::{Version, version_of};
 use crate::path_lines::PathLines;
 use path_clean::{Asides, Cause, Sets};
-use relationships::{Probe, WalkRef, Walks};
+use relationships::{Given, Probe, WalkRef, Walks};
 use std::alloc::Global;
 use tor_arena::List;
 
 /// What may come next in a text.
-#[derive(Clone, Copy, Debug, PartialEq, Eq)]
+#[derive(Clone, Copy, PartialEq, Eq)]
 pub enum Section {
     /// So many of the ten first lines are read.
     Head(u8),
+    /// A given line, if the text is of version 2, or a line of a later section.
+    Givens,
     /// A path line, or a line of a later section.
     Paths,
     /// An edge line, or a line of a later section.
@@ -31,12 +35,13 @@ pub enum Section {
 }
 
 /// What is read of a result so far. Each line is added if it may come next; after an error the draft is of no use.
-#[derive(Debug, Drop)]
+#[derive(Drop)]
 pub struct Draft {
     pub section: Section,
     pub sets: Sets,
     pub ratio: u32,
     pub counts: [u64; 7],
+    pub givens: Option<List<Given>>,
     pub paths: PathLines,
     pub edges: List<EdgeLine>,
     pub whys: Walks,
@@ -67,8 +72,12 @@ impl Section {
     {
         match self {
             Section::Head(read) => read == count,
-            Section::Paths | Section::Edges | Section::Whys | Section::Probes | Section::End =>
-                false,
+            Section::Givens
+            | Section::Paths
+            | Section::Edges
+            | Section::Whys
+            | Section::Probes
+            | Section::End => false,
         }
     }
 
@@ -79,7 +88,22 @@ impl Section {
         if count < 10 {
             Section::Head(count)
         } else {
-            Section::Paths
+            Section::Givens
+        }
+    }
+
+    // Whether a given line may come next, if the text is of version 2.
+    fn takes_given(self) -> bool
+        ensures { result ≡ takes_given self }
+    {
+        match self {
+            Section::Givens => true,
+            Section::Head(_)
+            | Section::Paths
+            | Section::Edges
+            | Section::Whys
+            | Section::Probes
+            | Section::End => false,
         }
     }
 
@@ -88,7 +112,7 @@ impl Section {
         ensures { result ≡ takes_path self }
     {
         match self {
-            Section::Paths => true,
+            Section::Givens | Section::Paths => true,
             Section::Head(_) | Section::Edges | Section::Whys | Section::Probes | Section::End =>
                 false,
         }
@@ -99,7 +123,7 @@ impl Section {
         ensures { result ≡ takes_edge self }
     {
         match self {
-            Section::Paths | Section::Edges => true,
+            Section::Givens | Section::Paths | Section::Edges => true,
             Section::Head(_) | Section::Whys | Section::Probes | Section::End => false,
         }
     }
@@ -109,7 +133,7 @@ impl Section {
         ensures { result ≡ takes_why self }
     {
         match self {
-            Section::Paths | Section::Edges | Section::Whys => true,
+            Section::Givens | Section::Paths | Section::Edges | Section::Whys => true,
             Section::Head(_) | Section::Probes | Section::End => false,
         }
     }
@@ -119,7 +143,8 @@ impl Section {
         ensures { result ≡ takes_probe self }
     {
         match self {
-            Section::Paths | Section::Edges | Section::Whys | Section::Probes => true,
+            Section::Givens | Section::Paths | Section::Edges | Section::Whys | Section::Probes =>
+                true,
             Section::Head(_) | Section::End => false,
         }
     }
@@ -135,6 +160,7 @@ impl Draft {
             sets: Sets::Cut,
             ratio: 0,
             counts: [0, 0, 0, 0, 0, 0, 0],
+            givens: None,
             paths: PathLines::new(alloc),
             edges: List::new(alloc),
             whys: Walks::new(alloc),
@@ -161,11 +187,23 @@ impl Draft {
         Ok(())
     }
 
-    /// Adds the first line.
-    pub fn add_version(&mut self) -> Result<(), LineError>
-        ensures { Steps result self.new (step self.old line.Version) }
+    /// The version of the text, which is 1 before the first line is read.
+    pub fn version(&self) -> Version
+        ensures { result ≡ version_of self.now.givens }
     {
-        self.pass_head(0)
+        version_of(&self.givens)
+    }
+
+    /// Adds the first line.
+    pub fn add_version(&mut self, alloc: Global, version: Version) -> Result<(), LineError>
+        ensures { Steps result self.new (step self.old (line.Version version)) }
+    {
+        self.pass_head(0)?;
+        self.givens = match version {
+            Version::One => None,
+            Version::Two => Some(List::new(alloc)),
+        };
+        Ok(())
     }
 
     /// Adds the line of the sets.
@@ -193,6 +231,20 @@ impl Draft {
         let index = index_of(cause);
         self.pass_head(3 + index)?;
         self.counts[index as usize] = count;
+        Ok(())
+    }
+
+    /// Adds a given line.
+    pub fn add_given(&mut self, given: Given) -> Result<(), LineError>
+        ensures { Steps result self.new (step self.old (line.Given given)) }
+    {
+        if !self.section.takes_given() {
+            return Err(LineError::Bad);
+        }
+        match &mut self.givens {
+            Some(givens) => givens.push(given)?,
+            None => return Err(LineError::Bad),
+        }
         Ok(())
     }
 
@@ -282,14 +334,19 @@ impl Draft {
                 sets: self.sets,
                 ratio: self.ratio,
                 asides: Asides::from_counts(self.counts),
+                givens: self.givens,
                 paths: self.paths,
                 edges: self.edges,
                 whys: self.whys,
                 probes: self.probes,
                 totals: self.totals,
             }),
-            Section::Head(_) | Section::Paths | Section::Edges | Section::Whys | Section::Probes =>
-                None,
+            Section::Head(_)
+            | Section::Givens
+            | Section::Paths
+            | Section::Edges
+            | Section::Whys
+            | Section::Probes => None,
         }
     }
 }

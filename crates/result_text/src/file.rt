@@ -1,11 +1,11 @@
 //! A result as plain data.
 use crate::path_lines::PathLines;
 use path_clean::{Asides, Sets};
-use relationships::{Fate, Label, Mark, Probe, Walks};
+use relationships::{Fate, Given, Label, Mark, Probe, Walks};
 use tor_arena::List;
 
 /// A distinct path, as definitions speak of it.
-#[derive(Debug, Drop)]
+#[derive(Drop)]
 pub struct PathLine {
     /// How often it stood in the dumps.
     pub times: u64,
@@ -16,7 +16,7 @@ pub struct PathLine {
 }
 
 /// An edge, which is a pair of neighbours.
-#[derive(Clone, Copy, Debug, PartialEq, Eq)]
+#[derive(Clone, Copy, PartialEq, Eq)]
 pub struct EdgeLine {
     /// The lower of its two AS numbers.
     pub low: u32,
@@ -46,7 +46,7 @@ pub struct Totals {
 }
 
 /// What a result says. Nothing is asked of it but the ranges of its numbers: what makes a result right is for others to say.
-#[derive(Debug, Drop)]
+#[derive(Drop)]
 pub struct ResultFile {
     /// What became of an AS_SET whose members differ.
     pub sets: Sets,
@@ -54,6 +54,9 @@ pub struct ResultFile {
     pub ratio: u32,
     /// How many routes were set aside, by cause.
     pub asides: Asides,
+    /// The relationships that were known beforehand, in order. A text of version 1 has none; one of version 2 has a list, which may be
+    /// empty.
+    pub givens: Option<List<Given>>,
     /// The distinct paths, in order of first appearance.
     pub paths: PathLines,
     /// The edges of the paths, in order of first appearance.

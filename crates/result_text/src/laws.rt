@@ -12,7 +12,7 @@ pub fn one_value()
     ensures { (file other : ResultFile) → IsInRange file → IsInRange other → text file ≡ text other → file ≡ other }
 {}
 
-/// The paths, edges, walks, open lines and the last line stand on the lines of the text that the numbers name.
+/// The givens, paths, edges, walks, open lines and the last line stand on the lines of the text that the numbers name.
 pub fn line_numbers()
     ensures numbered { (file : ResultFile) → IsNumbered file }
     ensures text { (file : ResultFile) → IsInRange file → LinesAreOfText file }

@@ -20,5 +20,5 @@ pub use laws::{line_numbers, one_value, round_trip_law};
 pub use parsing::parse;
 pub use path_lines::{PathLineRef, PathLines};
 pub use printing::{print, put_asides};
-pub use relationships::{Fate, Mark, Probe};
+pub use relationships::{Fate, Given, Mark, Probe};
 pub use text_fields::{put_number, write_digits};

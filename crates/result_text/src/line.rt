@@ -1,18 +1,42 @@
-//! The kinds of lines.
+//! The kinds of lines, and the versions of a text.
+ghost use Rattle.std.specs.Prelude.{◌≡◌};
+ghost use Rattle.result_text.specs.Text.{version_of};
+
 use crate::file::{EdgeLine, PathLine, Totals};
 use path_clean::{Cause, Sets};
-use relationships::{Probe, Walk};
+use relationships::{Given, Probe, Walk};
+use tor_arena::List;
+
+/// The version of a text.
+#[derive(Clone, Copy, PartialEq, Eq)]
+pub enum Version {
+    /// Nothing is given.
+    One,
+    /// Relationships are given, and links may name them.
+    Two,
+}
 
 /// One line of a text, by its kind, as definitions speak of it.
-#[derive(Debug, Drop)]
+#[derive(Drop)]
 pub enum Line {
-    Version,
+    Version(Version),
     Sets(Sets),
     Ratio(u32),
     Aside(Cause, u64),
+    Given(Given),
     Path(PathLine),
     Edge(EdgeLine),
     Why(Walk),
     Probe(Probe),
     End(Totals),
+}
+
+/// The version of the text of a result with these givens: 1 where there are none, not even an empty list.
+pub(crate) fn version_of(givens: &Option<List<Given>>) -> Version
+    ensures { result ≡ version_of givens.now }
+{
+    match givens {
+        None => Version::One,
+        Some(_) => Version::Two,
+    }
 }

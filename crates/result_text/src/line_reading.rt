@@ -3,14 +3,15 @@
 ghost use Rattle.std.specs.Prelude.{◌≡◌};
 ghost use Rattle.relationships.specs.Flat.{walk_with};
 ghost use Rattle.result_text.specs.Reading.{ReadsAs, sets_at, cause_at, label_at, mark_at, walk_at, aside_at, aside_from, kept_at};
-ghost use Rattle.result_text.specs.Reading.{line_of_kept, lost_at, lost_from, edge_line_at, probe_at, end_at};
+ghost use Rattle.result_text.specs.Reading.{line_of_kept, lost_at, lost_from, edge_line_at, given_at, probe_at, end_at};
 ghost use Rattle.result_text.specs.declared.line.Line.TheVariants as line;
 
 use crate::error::LineError;
 use crate::file::{EdgeLine, Totals};
+use crate::line::Version;
 use crate::reading::{links_before, numbers_before, read_u32, read_u64};
 use path_clean::{Cause, Sets};
-use relationships::{Label, Link, Mark, Probe};
+use relationships::{Given, Label, Link, Mark, Probe};
 use text_fields::after;
 use tor_arena::List;
 
@@ -85,14 +86,15 @@ fn mark_of(bytes: &[u8]) -> Result<(Mark, &[u8]), LineError>
 /// A walk as the two last fields of a line.
 #[tactic(auto, unfolding(crate::specs::Reading::walk_at))]
 pub fn read_walk<'a>(
+    version: Version,
     ases: &mut List<u32>,
     links: &mut List<Link>,
     bytes: &'a [u8],
 ) -> Result<&'a [u8], LineError>
-    ensures { ReadsAs (λ rest. (walk_with ases.new links.new, rest.now)) result (walk_at bytes.now) }
+    ensures { ReadsAs (λ rest. (walk_with ases.new links.new, rest.now)) result (walk_at version bytes.now) }
 {
     let rest = numbers_before(b'|', ases, bytes)?;
-    links_before(b'\n', links, rest)
+    links_before(version, b'\n', links, rest)
 }
 
 /// The line of a cause.
@@ -118,16 +120,17 @@ pub fn read_kept<'a>(path: &mut List<u32>, bytes: &'a [u8]) -> Result<(u64, &'a 
 /// The line of a lost path, and its times.
 #[tactic(auto, unfolding(crate::specs::Reading::lost_at))]
 pub fn read_lost<'a>(
+    version: Version,
     path: &mut List<u32>,
     ases: &mut List<u32>,
     links: &mut List<Link>,
     bytes: &'a [u8],
 ) -> Result<(u64, &'a [u8]), LineError>
-    ensures { ReadsAs (λ x. (lost_from (x.0, (path.new, walk_with ases.new links.new)), x.1.now)) result (lost_at bytes.now) }
+    ensures { ReadsAs (λ x. (lost_from (x.0, (path.new, walk_with ases.new links.new)), x.1.now)) result (lost_at version bytes.now) }
 {
     let (times, rest) = read_u64(b'|', bytes)?;
     let rest = numbers_before(b'|', path, rest)?;
-    let rest = read_walk(ases, links, rest)?;
+    let rest = read_walk(version, ases, links, rest)?;
     Ok((times, rest))
 }
 
@@ -149,6 +152,16 @@ pub fn read_edge(bytes: &[u8]) -> Result<(EdgeLine, &[u8]), LineError>
         support,
     };
     Ok((edge, rest))
+}
+
+/// A given line.
+#[tactic(auto, unfolding(crate::specs::Reading::given_at))]
+pub fn read_given(bytes: &[u8]) -> Result<(Given, &[u8]), LineError>
+    ensures { ReadsAs (λ x. (line.Given x.0, x.1.now)) result (given_at bytes.now) }
+{
+    let (over, rest) = read_u32(b'|', bytes)?;
+    let (under, rest) = read_u32(b'\n', rest)?;
+    Ok((Given { over, under }, rest))
 }
 
 /// An open line.

@@ -2,12 +2,15 @@
 
 ghost use Rattle.result_text.specs.Order.{with_line, next_at};
 ghost use Rattle.result_text.specs.Reading.{ReadsAs, by_word, outer_readers, sets_line_at, ratio_at, aside_at, kept_at, lost_at};
-ghost use Rattle.result_text.specs.Reading.{edge_line_at, why_at, probe_at, end_at, version_at};
+ghost use Rattle.result_text.specs.Reading.{edge_line_at, given_at, why_at, probe_at, end_at, version_at};
+ghost use Rattle.result_text.specs.Text.{version_of};
 
 use crate::draft::Draft;
 use crate::error::LineError;
+use crate::line::Version;
 use crate::line_reading::{
-    read_aside, read_edge, read_end, read_kept, read_lost, read_probe, read_sets, read_walk,
+    read_aside, read_edge, read_end, read_given, read_kept, read_lost, read_probe, read_sets,
+    read_walk,
 };
 use crate::reading::read_u32;
 use relationships::{Link, WalkRef};
@@ -35,10 +38,15 @@ impl Scratch {
 }
 
 // Each function reads what stands behind the first word of a line, adds the line to the draft, and answers what stands behind it.
-fn next_version<'a>(draft: &mut Draft, bytes: &'a [u8]) -> Result<&'a [u8], LineError>
-    ensures { ReadsAs (λ rest. (draft.new, rest.now)) result (with_line draft.old (version_at bytes.now)) }
+fn next_version<'a>(
+    alloc: Global,
+    draft: &mut Draft,
+    version: Version,
+    bytes: &'a [u8],
+) -> Result<&'a [u8], LineError>
+    ensures { ReadsAs (λ rest. (draft.new, rest.now)) result (with_line draft.old (version_at version bytes.now)) }
 {
-    draft.add_version()?;
+    draft.add_version(alloc, version)?;
     Ok(bytes)
 }
 
@@ -68,6 +76,14 @@ fn next_aside<'a>(draft: &mut Draft, bytes: &'a [u8]) -> Result<&'a [u8], LineEr
     Ok(rest)
 }
 
+fn next_given<'a>(draft: &mut Draft, bytes: &'a [u8]) -> Result<&'a [u8], LineError>
+    ensures { ReadsAs (λ rest. (draft.new, rest.now)) result (with_line draft.old (given_at bytes.now)) }
+{
+    let (given, rest) = read_given(bytes)?;
+    draft.add_given(given)?;
+    Ok(rest)
+}
+
 fn next_kept<'a>(
     draft: &mut Draft,
     scratch: &mut Scratch,
@@ -85,10 +101,10 @@ fn next_lost<'a>(
     scratch: &mut Scratch,
     bytes: &'a [u8],
 ) -> Result<&'a [u8], LineError>
-    ensures { ReadsAs (λ rest. (draft.new, rest.now)) result (with_line draft.old (lost_at bytes.now)) }
+    ensures { ReadsAs (λ rest. (draft.new, rest.now)) result (with_line draft.old (lost_at (version_of draft.old.givens) bytes.now)) }
 {
     let Scratch { path, ases, links } = scratch;
-    let (times, rest) = read_lost(path, ases, links, bytes)?;
+    let (times, rest) = read_lost(draft.version(), path, ases, links, bytes)?;
     let walk = WalkRef::new(ases.as_slice(), links.as_slice());
     draft.add_lost(times, path.as_slice(), &walk)?;
     Ok(rest)
@@ -108,10 +124,10 @@ fn next_why<'a>(
     scratch: &mut Scratch,
     bytes: &'a [u8],
 ) -> Result<&'a [u8], LineError>
-    ensures { ReadsAs (λ rest. (draft.new, rest.now)) result (with_line draft.old (why_at bytes.now)) }
+    ensures { ReadsAs (λ rest. (draft.new, rest.now)) result (with_line draft.old (why_at (version_of draft.old.givens) bytes.now)) }
 {
     let Scratch { ases, links, .. } = scratch;
-    let rest = read_walk(ases, links, bytes)?;
+    let rest = read_walk(draft.version(), ases, links, bytes)?;
     let walk = WalkRef::new(ases.as_slice(), links.as_slice());
     draft.add_why(&walk)?;
     Ok(rest)
@@ -136,6 +152,7 @@ fn next_end<'a>(draft: &mut Draft, bytes: &'a [u8]) -> Result<&'a [u8], LineErro
 /// Reads the line at the prefix into the draft, by its first word, and answers what stands behind it.
 #[tactic(auto, unfolding(crate::specs::Order::next_at, crate::specs::Reading::line_at))]
 pub fn next_line<'a>(
+    alloc: Global,
     draft: &mut Draft,
     scratch: &mut Scratch,
     bytes: &'a [u8],
@@ -153,22 +170,26 @@ pub fn next_line<'a>(
     } else if let Some(rest) = after(b"lost|", bytes) {
         next_lost(draft, scratch, rest)
     } else {
-        next_outer(draft, bytes)
+        next_outer(alloc, draft, bytes)
     }
 }
 
 /// The same, where it is a line before the paths, or the last.
-fn next_outer<'a>(draft: &mut Draft, bytes: &'a [u8]) -> Result<&'a [u8], LineError>
+fn next_outer<'a>(alloc: Global, draft: &mut Draft, bytes: &'a [u8]) -> Result<&'a [u8], LineError>
     ensures { ReadsAs (λ rest. (draft.new, rest.now)) result (with_line draft.old (by_word outer_readers bytes.now)) }
 {
     if let Some(rest) = after(b"aside|", bytes) {
         next_aside(draft, rest)
     } else if let Some(rest) = after(b"tor|1\n", bytes) {
-        next_version(draft, rest)
+        next_version(alloc, draft, Version::One, rest)
+    } else if let Some(rest) = after(b"tor|2\n", bytes) {
+        next_version(alloc, draft, Version::Two, rest)
     } else if let Some(rest) = after(b"sets|", bytes) {
         next_sets(draft, rest)
     } else if let Some(rest) = after(b"ratio|", bytes) {
         next_ratio(draft, rest)
+    } else if let Some(rest) = after(b"given|", bytes) {
+        next_given(draft, rest)
     } else if let Some(rest) = after(b"end|", bytes) {
         next_end(draft, rest)
     } else {

@@ -37,7 +37,7 @@ fn read_lines(alloc: Global, draft: &mut Draft, bytes: &[u8]) -> Result<u64, Par
     let mut rest = bytes;
     let mut read = 0u64;
     'lines: while !rest.is_empty() {
-        match next_line(draft, &mut scratch, rest) {
+        match next_line(alloc, draft, &mut scratch, rest) {
             Ok(after) => rest = after,
             Err(LineError::Bad) => return Err(ParseError::BadLine(read + 1)),
             Err(LineError::NoMemory) => return Err(ParseError::NoMemory),

@@ -62,7 +62,7 @@ impl<'a> PathLineRef<'a> {
 
 /// Path lines in order, seen as a list of them. Their AS numbers lie one behind the other, and so do their times and what becomes of
 /// them.
-#[derive(Debug, Drop)]
+#[derive(Drop)]
 pub struct PathLines {
     paths: Rows<PathId, u32>,
     times: Vec<u64>,

@@ -6,21 +6,24 @@ ghost use Rattle.std.specs.List.{AllByRecursion};
 ghost use Rattle.relationships.specs.declared.fate.Fate.TheVariants.{Kept, Lost};
 ghost use Rattle.result_text.specs.Grammar.{IsTextOf};
 ghost use Rattle.result_text.specs.PathLines.{line_with};
-ghost use Rattle.result_text.specs.Ranges.{CountsFit, LineFits, PathFits, EdgeFits, WalkFits, ProbeFits, TotalsFit};
+ghost use Rattle.result_text.specs.Ranges.{CountsFit, LineFits, GivenFits, PathFits, EdgeFits, WalkFits, ProbeFits, TotalsFit};
 ghost use Rattle.text_fields.specs.Fields.{IsU32};
-ghost use Rattle.result_text.specs.Text.{text, text_of_lines, line_text, sets_name, cause_name, label_name, mark_name, numbers_text, links};
-ghost use Rattle.result_text.specs.Text.{aside_lines};
+ghost use Rattle.result_text.specs.Text.{text, text_of_lines, text_of_asides, line_text, sets_name, cause_name, label_name, mark_name};
+ghost use Rattle.result_text.specs.Text.{numbers_text, links, head_lines, version_of, its_givens};
+ghost use Rattle.result_text.specs.declared.line.Version.{Version};
 
 use crate::file::{EdgeLine, ResultFile, Totals};
+use crate::line::{Version, version_of};
 use crate::numbers::{put_links, put_numbers};
 use crate::path_lines::{PathLineRef, PathLines};
 use path_clean::{Asides, Cause, Sets};
-use relationships::{Label, Mark, Probe, WalkRef, Walks};
+use relationships::{Given, Label, Mark, Probe, WalkRef, Walks};
 use std::alloc::Global;
 use text_fields::put_number;
 use tor_arena::{Index, List, NoMemory, PathId, WalkId};
 
-// Each function puts something at the end, lines with their line feed.
+// Each function puts something at the end, lines with their line feed. Where a line is the same in texts of both versions, the function
+// has no version, and what it ensures is said for either.
 fn put_bar(out: &mut List<u8>) -> Result<(), NoMemory>
     ensures { OnOk result (out.new ≡ out.old ++ 124 ∷ []) }
 {
@@ -35,7 +38,7 @@ fn put_line_end(out: &mut List<u8>) -> Result<(), NoMemory>
 
 #[tactic(auto, unfolding(crate::specs::Text::line_text))]
 fn put_sets(out: &mut List<u8>, sets: Sets) -> Result<(), NoMemory>
-    ensures { OnOk result (out.new ≡ out.old ++ line_text (line.Sets sets)) }
+    ensures { OnOk result ((v : Version) → out.new ≡ out.old ++ line_text v (line.Sets sets)) }
 {
     match sets {
         Sets::Cut => out.extend_from_slice(b"sets|cut\n"),
@@ -45,7 +48,7 @@ fn put_sets(out: &mut List<u8>, sets: Sets) -> Result<(), NoMemory>
 
 #[tactic(auto, unfolding(crate::specs::Text::line_text))]
 fn put_ratio(out: &mut List<u8>, ratio: u32) -> Result<(), NoMemory>
-    ensures encoded { OnOk result (out.new ≡ out.old ++ line_text (line.Ratio ratio)) }
+    ensures encoded { OnOk result ((v : Version) → out.new ≡ out.old ++ line_text v (line.Ratio ratio)) }
     ensures fits { OnOk result (LineFits (line.Ratio ratio)) }
 {
     out.extend_from_slice(b"ratio|")?;
@@ -69,7 +72,7 @@ fn put_cause(out: &mut List<u8>, cause: Cause) -> Result<(), NoMemory>
 
 #[tactic(auto, unfolding(crate::specs::Text::line_text))]
 fn put_aside(out: &mut List<u8>, cause: Cause, count: u64) -> Result<(), NoMemory>
-    ensures encoded { OnOk result (out.new ≡ out.old ++ line_text (line.Aside cause count)) }
+    ensures encoded { OnOk result ((v : Version) → out.new ≡ out.old ++ line_text v (line.Aside cause count)) }
     ensures fits { OnOk result (LineFits (line.Aside cause count)) }
 {
     out.extend_from_slice(b"aside|")?;
@@ -81,7 +84,7 @@ fn put_aside(out: &mut List<u8>, cause: Cause, count: u64) -> Result<(), NoMemor
 
 /// Puts a line for each cause at the end, in the order of the causes. The only error is that memory ran out.
 pub fn put_asides(out: &mut List<u8>, asides: &Asides) -> Result<(), NoMemory>
-    ensures encoded { OnOk result (out.new ≡ out.old ++ text_of_lines (aside_lines asides.now)) }
+    ensures encoded { OnOk result (out.new ≡ out.old ++ text_of_asides asides.now) }
     ensures fits { OnOk result (CountsFit asides.now) }
 {
     put_aside(out, Cause::NoPath, asides.get(Cause::NoPath))?;
@@ -94,18 +97,18 @@ pub fn put_asides(out: &mut List<u8>, asides: &Asides) -> Result<(), NoMemory>
 }
 
 // A walk as two fields: its ASes, and its links.
-fn put_walk(out: &mut List<u8>, walk: &WalkRef<'_>) -> Result<(), NoMemory>
-    ensures encoded { OnOk result (out.new ≡ out.old ++ numbers_text walk.now.ases ++ 124 ∷ links walk.now.links) }
+fn put_walk(out: &mut List<u8>, version: Version, walk: &WalkRef<'_>) -> Result<(), NoMemory>
+    ensures encoded { OnOk result (out.new ≡ out.old ++ numbers_text walk.now.ases ++ 124 ∷ links version walk.now.links) }
     ensures fits { OnOk result (WalkFits walk.now) }
 {
     put_numbers(out, walk.ases())?;
     put_bar(out)?;
-    put_links(out, walk.links())
+    put_links(out, version, walk.links())
 }
 
 #[tactic(auto, unfolding(crate::specs::Text::line_text))]
 fn put_kept(out: &mut List<u8>, times: u64, path: &[u32]) -> Result<(), NoMemory>
-    ensures encoded { OnOk result (out.new ≡ out.old ++ line_text (line.Path (line_with times path.now Kept))) }
+    ensures encoded { OnOk result ((v : Version) → out.new ≡ out.old ++ line_text v (line.Path (line_with times path.now Kept))) }
     ensures fits { OnOk result (PathFits (line_with times path.now Kept)) }
 {
     out.extend_from_slice(b"kept|")?;
@@ -118,11 +121,12 @@ fn put_kept(out: &mut List<u8>, times: u64, path: &[u32]) -> Result<(), NoMemory
 #[tactic(auto, unfolding(crate::specs::Text::line_text))]
 fn put_lost(
     out: &mut List<u8>,
+    version: Version,
     times: u64,
     path: &[u32],
     walk: &WalkRef<'_>,
 ) -> Result<(), NoMemory>
-    ensures encoded { OnOk result (out.new ≡ out.old ++ line_text (line.Path (line_with times path.now (Lost walk.now)))) }
+    ensures encoded { OnOk result (out.new ≡ out.old ++ line_text version (line.Path (line_with times path.now (Lost walk.now)))) }
     ensures fits { OnOk result (PathFits (line_with times path.now (Lost walk.now))) }
 {
     out.extend_from_slice(b"lost|")?;
@@ -130,18 +134,18 @@ fn put_lost(
     put_bar(out)?;
     put_numbers(out, path)?;
     put_bar(out)?;
-    put_walk(out, walk)?;
+    put_walk(out, version, walk)?;
     put_line_end(out)
 }
 
 #[tactic(auto, using(crate::proofs::PathLineLemmas::line_kept, crate::proofs::PathLineLemmas::line_lost))]
-fn put_path(out: &mut List<u8>, path: &PathLineRef<'_>) -> Result<(), NoMemory>
-    ensures encoded { OnOk result (out.new ≡ out.old ++ line_text (line.Path path.now)) }
+fn put_path(out: &mut List<u8>, version: Version, path: &PathLineRef<'_>) -> Result<(), NoMemory>
+    ensures encoded { OnOk result (out.new ≡ out.old ++ line_text version (line.Path path.now)) }
     ensures fits { OnOk result (PathFits path.now) }
 {
     match path.walk() {
         None => put_kept(out, path.times(), path.path()),
-        Some(walk) => put_lost(out, path.times(), path.path(), walk),
+        Some(walk) => put_lost(out, version, path.times(), path.path(), walk),
     }
 }
 
@@ -177,7 +181,7 @@ fn put_label_and_mark(out: &mut List<u8>, label: Label, mark: Mark) -> Result<()
 
 #[tactic(auto, unfolding(crate::specs::Text::line_text))]
 fn put_edge(out: &mut List<u8>, edge: &EdgeLine) -> Result<(), NoMemory>
-    ensures encoded { OnOk result (out.new ≡ out.old ++ line_text (line.Edge edge.now)) }
+    ensures encoded { OnOk result ((v : Version) → out.new ≡ out.old ++ line_text v (line.Edge edge.now)) }
     ensures fits { OnOk result (EdgeFits edge.now) }
 {
     out.extend_from_slice(b"edge|")?;
@@ -190,18 +194,18 @@ fn put_edge(out: &mut List<u8>, edge: &EdgeLine) -> Result<(), NoMemory>
 }
 
 #[tactic(auto, unfolding(crate::specs::Text::line_text))]
-fn put_why(out: &mut List<u8>, walk: &WalkRef<'_>) -> Result<(), NoMemory>
-    ensures encoded { OnOk result (out.new ≡ out.old ++ line_text (line.Why walk.now)) }
+fn put_why(out: &mut List<u8>, version: Version, walk: &WalkRef<'_>) -> Result<(), NoMemory>
+    ensures encoded { OnOk result (out.new ≡ out.old ++ line_text version (line.Why walk.now)) }
     ensures fits { OnOk result (WalkFits walk.now) }
 {
     out.extend_from_slice(b"why|")?;
-    put_walk(out, walk)?;
+    put_walk(out, version, walk)?;
     put_line_end(out)
 }
 
 #[tactic(auto, unfolding(crate::specs::Text::line_text))]
 fn put_probe(out: &mut List<u8>, probe: &Probe) -> Result<(), NoMemory>
-    ensures encoded { OnOk result (out.new ≡ out.old ++ line_text (line.Probe probe.now)) }
+    ensures encoded { OnOk result ((v : Version) → out.new ≡ out.old ++ line_text v (line.Probe probe.now)) }
     ensures fits { OnOk result (ProbeFits probe.now) }
 {
     out.extend_from_slice(b"open|")?;
@@ -221,7 +225,7 @@ fn put_count(out: &mut List<u8>, count: u64) -> Result<(), NoMemory>
 
 #[tactic(auto, unfolding(crate::specs::Text::line_text))]
 fn put_end(out: &mut List<u8>, totals: &Totals) -> Result<(), NoMemory>
-    ensures encoded { OnOk result (out.new ≡ out.old ++ line_text (line.End totals.now)) }
+    ensures encoded { OnOk result ((v : Version) → out.new ≡ out.old ++ line_text v (line.End totals.now)) }
     ensures fits { OnOk result (TotalsFit totals.now) }
 {
     out.extend_from_slice(b"end|")?;
@@ -234,39 +238,75 @@ fn put_end(out: &mut List<u8>, totals: &Totals) -> Result<(), NoMemory>
 }
 
 #[tactic(auto, unfolding(crate::specs::Text::line_text))]
-fn put_version(out: &mut List<u8>) -> Result<(), NoMemory>
-    ensures { OnOk result (out.new ≡ out.old ++ line_text line.Version) }
+fn put_version(out: &mut List<u8>, version: Version) -> Result<(), NoMemory>
+    ensures { OnOk result ((v : Version) → out.new ≡ out.old ++ line_text v (line.Version version)) }
 {
-    out.extend_from_slice(b"tor|1\n")
+    match version {
+        Version::One => out.extend_from_slice(b"tor|1\n"),
+        Version::Two => out.extend_from_slice(b"tor|2\n"),
+    }
 }
 
 // The ten first lines.
-fn put_head(out: &mut List<u8>, file: &ResultFile) -> Result<(), NoMemory>
-    ensures encoded { OnOk result (out.new ≡ out.old ++ text_of_lines (line.Version ∷ line.Sets file.now.sets ∷ line.Ratio file.now.ratio ∷
-        aside_lines file.now.asides)) }
+fn put_head(out: &mut List<u8>, version: Version, file: &ResultFile) -> Result<(), NoMemory>
+    requires { version ≡ version_of file.now.givens }
+    ensures encoded { OnOk result (out.new ≡ out.old ++ text_of_lines version (head_lines file.now)) }
     ensures fits { OnOk result (IsU32 file.now.ratio × CountsFit file.now.asides) }
 {
-    put_version(out)?;
+    put_version(out, version)?;
     put_sets(out, file.sets)?;
     put_ratio(out, file.ratio)?;
     put_asides(out, &file.asides)
 }
 
-fn put_paths(out: &mut List<u8>, paths: &PathLines) -> Result<(), NoMemory>
-    ensures encoded { OnOk result (out.new ≡ out.old ++ text_of_lines (map (λ p. line.Path p) paths.now)) }
+#[tactic(auto, unfolding(crate::specs::Text::line_text))]
+fn put_given(out: &mut List<u8>, given: &Given) -> Result<(), NoMemory>
+    ensures encoded { OnOk result ((v : Version) → out.new ≡ out.old ++ line_text v (line.Given given.now)) }
+    ensures fits { OnOk result (GivenFits given.now) }
+{
+    out.extend_from_slice(b"given|")?;
+    put_number(out, u64::from(given.over))?;
+    put_bar(out)?;
+    put_number(out, u64::from(given.under))?;
+    put_line_end(out)
+}
+
+fn put_given_lines(out: &mut List<u8>, givens: &[Given]) -> Result<(), NoMemory>
+    ensures encoded { OnOk result ((v : Version) → out.new ≡ out.old ++ text_of_lines v (map (λ g. line.Given g) givens.now)) }
+    ensures fits { OnOk result (AllByRecursion GivenFits givens.now) }
+{
+    for given in givens {
+        put_given(out, given)?;
+    }
+    Ok(())
+}
+
+// The given lines, of which a text of version 1 has none.
+fn put_givens(out: &mut List<u8>, file: &ResultFile) -> Result<(), NoMemory>
+    ensures encoded { OnOk result ((v : Version) → out.new ≡ out.old ++ text_of_lines v (map (λ g. line.Given g) (its_givens file.now))) }
+    ensures fits { OnOk result (AllByRecursion GivenFits (its_givens file.now)) }
+{
+    match &file.givens {
+        None => Ok(()),
+        Some(givens) => put_given_lines(out, givens.as_slice()),
+    }
+}
+
+fn put_paths(out: &mut List<u8>, version: Version, paths: &PathLines) -> Result<(), NoMemory>
+    ensures encoded { OnOk result (out.new ≡ out.old ++ text_of_lines version (map (λ p. line.Path p) paths.now)) }
     ensures fits { OnOk result (AllByRecursion PathFits paths.now) }
 {
     for place in 0..paths.len() {
         let Some(id) = PathId::from_place(place) else {
             unreachable!();
         };
-        put_path(out, &paths.get(id))?;
+        put_path(out, version, &paths.get(id))?;
     }
     Ok(())
 }
 
 fn put_edges(out: &mut List<u8>, edges: &[EdgeLine]) -> Result<(), NoMemory>
-    ensures encoded { OnOk result (out.new ≡ out.old ++ text_of_lines (map (λ e. line.Edge e) edges.now)) }
+    ensures encoded { OnOk result ((v : Version) → out.new ≡ out.old ++ text_of_lines v (map (λ e. line.Edge e) edges.now)) }
     ensures fits { OnOk result (AllByRecursion EdgeFits edges.now) }
 {
     for edge in edges {
@@ -275,21 +315,21 @@ fn put_edges(out: &mut List<u8>, edges: &[EdgeLine]) -> Result<(), NoMemory>
     Ok(())
 }
 
-fn put_whys(out: &mut List<u8>, whys: &Walks) -> Result<(), NoMemory>
-    ensures encoded { OnOk result (out.new ≡ out.old ++ text_of_lines (map (λ w. line.Why w) whys.now)) }
+fn put_whys(out: &mut List<u8>, version: Version, whys: &Walks) -> Result<(), NoMemory>
+    ensures encoded { OnOk result (out.new ≡ out.old ++ text_of_lines version (map (λ w. line.Why w) whys.now)) }
     ensures fits { OnOk result (AllByRecursion WalkFits whys.now) }
 {
     for place in 0..whys.len() {
         let Some(id) = WalkId::from_place(place) else {
             unreachable!();
         };
-        put_why(out, &whys.get(id))?;
+        put_why(out, version, &whys.get(id))?;
     }
     Ok(())
 }
 
 fn put_probes(out: &mut List<u8>, probes: &[Probe]) -> Result<(), NoMemory>
-    ensures encoded { OnOk result (out.new ≡ out.old ++ text_of_lines (map (λ p. line.Probe p) probes.now)) }
+    ensures encoded { OnOk result ((v : Version) → out.new ≡ out.old ++ text_of_lines v (map (λ p. line.Probe p) probes.now)) }
     ensures fits { OnOk result (AllByRecursion ProbeFits probes.now) }
 {
     for probe in probes {
@@ -302,11 +342,13 @@ fn put_probes(out: &mut List<u8>, probes: &[Probe]) -> Result<(), NoMemory>
 pub fn print(alloc: Global, file: &ResultFile) -> Result<List<u8>, NoMemory>
     ensures { IfOk result (λ out. IsTextOf file.now out) }
 {
+    let version = version_of(&file.givens);
     let mut out = List::new(alloc);
-    put_head(&mut out, file)?;
-    put_paths(&mut out, &file.paths)?;
+    put_head(&mut out, version, file)?;
+    put_givens(&mut out, file)?;
+    put_paths(&mut out, version, &file.paths)?;
     put_edges(&mut out, file.edges.as_slice())?;
-    put_whys(&mut out, &file.whys)?;
+    put_whys(&mut out, version, &file.whys)?;
     put_probes(&mut out, file.probes.as_slice())?;
     put_end(&mut out, &file.totals)?;
     Ok(out)

@@ -1,12 +1,13 @@
 //! Numbers and lists, read from the prefix of the octets. Each reader answers the value and the octets behind it.
 
 ghost use Rattle.std.specs.Prelude.{◌≡◌, ◌∷◌, [], length};
-ghost use Rattle.result_text.specs.Reading.{ReadsAs, others_at, with_prefix, list_at, link_at, field_ends};
+ghost use Rattle.result_text.specs.Reading.{ReadsAs, others_at, with_prefix, list_at, positive_at, path_name_at, link_at, field_ends};
 ghost use Rattle.text_fields.specs.Reading.{word_at, u64_at, u32_at, before};
 
 use crate::error::LineError;
+use crate::line::Version;
 use relationships::Link;
-use text_fields::after_byte;
+use text_fields::{after, after_byte};
 use tor_arena::List;
 
 // What stands behind this octet, where it has to stand there.
@@ -99,24 +100,55 @@ pub fn numbers_before<'a>(
     past(byte, rest)
 }
 
+// A number that is not 0.
+#[tactic(auto, unfolding(crate::specs::Reading::positive_at))]
+fn positive_of(bytes: &[u8]) -> Result<(u32, &[u8]), LineError>
+    ensures { ReadsAs (λ x. (x.0, x.1.now)) result (positive_at bytes.now) }
+{
+    let (number, rest) = u32_of(bytes)?;
+    if number == 0 {
+        return Err(LineError::Bad);
+    }
+    Ok((number, rest))
+}
+
+// The number of a link's path; 0 where the link names a given.
+#[tactic(auto, unfolding(crate::specs::Reading::path_name_at))]
+fn path_name_of(version: Version, bytes: &[u8]) -> Result<(u32, &[u8]), LineError>
+    ensures { ReadsAs (λ x. (x.0, x.1.now)) result (path_name_at version bytes.now) }
+{
+    match version {
+        Version::One => u32_of(bytes),
+        Version::Two => match after(b"g", bytes) {
+            Some(rest) => Ok((0, rest)),
+            None => positive_of(bytes),
+        },
+    }
+}
+
 // A link.
 #[tactic(auto, unfolding(crate::specs::Reading::link_at))]
-fn link_of(bytes: &[u8]) -> Result<(Link, &[u8]), LineError>
-    ensures { ReadsAs (λ x. (x.0, x.1.now)) result (link_at bytes.now) }
+fn link_of(version: Version, bytes: &[u8]) -> Result<(Link, &[u8]), LineError>
+    ensures { ReadsAs (λ x. (x.0, x.1.now)) result (link_at version bytes.now) }
 {
-    let (path, rest) = read_u32(b':', bytes)?;
+    let (path, rest) = path_name_of(version, bytes)?;
+    let rest = past(b':', rest)?;
     let (at, rest) = u32_of(rest)?;
     Ok((Link { path, at }, rest))
 }
 
 // Puts the links that follow, each behind a space, behind those that are there.
-fn other_links<'a>(links: &mut List<Link>, bytes: &'a [u8]) -> Result<&'a [u8], LineError>
+fn other_links<'a>(
+    version: Version,
+    links: &mut List<Link>,
+    bytes: &'a [u8],
+) -> Result<&'a [u8], LineError>
     ensures { ReadsAs (λ rest. (links.new, rest.now)) result
-        (with_prefix links.old (others_at link_at (length bytes.now) bytes.now)) }
+        (with_prefix links.old (others_at (link_at version) (length bytes.now) bytes.now)) }
 {
     let mut rest = bytes;
     'members: while let Some(others) = after_byte(b' ', rest) {
-        let (link, after) = link_of(others)?;
+        let (link, after) = link_of(version, others)?;
         links.push(link)?;
         rest = after;
     }
@@ -125,26 +157,31 @@ fn other_links<'a>(links: &mut List<Link>, bytes: &'a [u8]) -> Result<&'a [u8], 
 
 // A list of links, in place of those that were there.
 #[tactic(auto, unfolding(crate::specs::Reading::list_at))]
-fn links_of<'a>(links: &mut List<Link>, bytes: &'a [u8]) -> Result<&'a [u8], LineError>
-    ensures { ReadsAs (λ rest. (links.new, rest.now)) result (list_at link_at bytes.now) }
+fn links_of<'a>(
+    version: Version,
+    links: &mut List<Link>,
+    bytes: &'a [u8],
+) -> Result<&'a [u8], LineError>
+    ensures { ReadsAs (λ rest. (links.new, rest.now)) result (list_at (link_at version) bytes.now) }
 {
     links.clear();
     if field_ends(bytes) {
         return Ok(bytes);
     }
-    let (first, rest) = link_of(bytes)?;
+    let (first, rest) = link_of(version, bytes)?;
     links.push(first)?;
-    other_links(links, rest)
+    other_links(version, links, rest)
 }
 
 /// A list of links, in place of those that were there, and behind it this octet.
 pub fn links_before<'a>(
+    version: Version,
     byte: u8,
     links: &mut List<Link>,
     bytes: &'a [u8],
 ) -> Result<&'a [u8], LineError>
-    ensures { ReadsAs (λ rest. (links.new, rest.now)) result (before byte (list_at link_at) bytes.now) }
+    ensures { ReadsAs (λ rest. (links.new, rest.now)) result (before byte (list_at (link_at version)) bytes.now) }
 {
-    let rest = links_of(links, bytes)?;
+    let rest = links_of(version, links, bytes)?;
     past(byte, rest)
 }

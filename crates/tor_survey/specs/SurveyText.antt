@@ -3,7 +3,7 @@ use Rattle.std.specs.Prelude.{ℕ, List, [], ◌∷◌, ◌++◌, flat_map, code
 use Rattle.std.specs.Fmt.{decimal}
 use Rattle.record_counts.specs.declared.type_count.TypeCount.{TypeCount}
 use Rattle.mrt_frame.specs.Kinds.{is_read}
-use Rattle.result_text.specs.Text.{fields, text_of_lines, aside_lines}
+use Rattle.result_text.specs.Text.{fields, text_of_asides}
 use Rattle.tor_survey.specs.declared.survey.Figures.{Figures}
 use Rattle.tor_survey.specs.declared.survey.Survey.{Survey}
 
@@ -47,4 +47,4 @@ survey_text survey =
     ++ (passed_lines survey.types
     ++ (count_line (codes "peers") survey.peers
     ++ (count_line (codes "routes") survey.routes
-    ++ (text_of_lines (aside_lines survey.asides) ++ (figure_lines survey.figures ++ end_line survey.dumps survey.records)))))
+    ++ (text_of_asides survey.asides ++ (figure_lines survey.figures ++ end_line survey.dumps survey.records)))))

@@ -17,7 +17,7 @@ pub struct Figures {
 }
 
 /// What dumps hold, and what of it counts. Each count stops at 2^64 - 1.
-#[derive(Debug, Drop)]
+#[derive(Drop)]
 pub struct Survey {
     /// The records of each type and subtype that occurs, by type and then by subtype.
     pub types: List<TypeCount>,

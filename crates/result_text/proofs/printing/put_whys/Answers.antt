@@ -8,6 +8,6 @@ pub loop-place-preserved : goal.loop-place-preserved
 loop-place-preserved c =
     let at : slice_get c.args.whys.now c.loop-place.place ≡ Some c.get.result = ap (λ k. slice_get c.args.whys.now k) (sym c.in-Some.ensures.some) ∙ c.get.ensures in
     let done = c.loop-place.invariant in (
-      one_more (λ x. line.Why x) WalkFits c.args.out.now c.loop-place.out c.put_why.new.out c.args.whys.now c.loop-place.place c.get.result at done.0 c.in_ok-put_why.ensures.encoded,
-      one_fits (λ x. line.Why x) WalkFits c.args.whys.now c.loop-place.place c.get.result at done.1 c.in_ok-put_why.ensures.fits,
+      one_more c.args.version (λ x. line.Why x) WalkFits c.args.out.now c.loop-place.out c.put_why.new.out c.args.whys.now c.loop-place.place c.get.result at done.0 c.in_ok-put_why.ensures.encoded,
+      one_fits c.args.version (λ x. line.Why x) WalkFits c.args.whys.now c.loop-place.place c.get.result at done.1 c.in_ok-put_why.ensures.fits,
     )
