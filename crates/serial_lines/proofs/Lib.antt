@@ -1,5 +1,6 @@
 pub mod Finding
 pub mod FirstLines
+pub mod GivenLines
 pub mod Goods
 pub mod LineLemmas
 pub mod ReadLemmas

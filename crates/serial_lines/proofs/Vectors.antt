@@ -5,6 +5,7 @@ use Rattle.std.specs.Fmt.{digits}
 use Rattle.text_fields.specs.Reading.{digit_at, digits_at, u64_at, u32_at}
 use Rattle.serial_lines.specs.declared.line.RelKind.TheVariants.{Transit, Peering}
 use Rattle.serial_lines.specs.declared.line.RelLine.{RelLine}
+use Rattle.serial_lines.specs.Givens.{givens_in}
 use Rattle.serial_lines.specs.Serial.{rel_line, kind_at, said, rel_in, rel_text}
 
 abbrev worked : List RelLine
@@ -17,6 +18,10 @@ worked_text = refl
 worked_form : rel_text worked ≡ codes "20|10|-1\n20|30|-1\n30|40|0\n10|50|-1\n"
 unfolding digits
 worked_form = refl
+
+-- the peering between 30 and 40 gives nothing
+worked_givens : givens_in worked ≡ record { over = 20; under = 10 } ∷ record { over = 20; under = 30 } ∷ record { over = 10; under = 50 } ∷ []
+worked_givens = refl
 
 -- the second line is of another form
 worked_bad : rel_in (codes "20|10|-1\n10|20\n30|40|0\n10|50|-1\n") ≡ Err 2

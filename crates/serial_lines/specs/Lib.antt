@@ -1,3 +1,4 @@
+pub mod Givens
 pub mod Good
 pub mod Indexed
 pub mod Serial

@@ -2,6 +2,7 @@
 #![tactic(auto)]
 
 mod error;
+mod givens;
 mod laws;
 mod line;
 mod parsing;
@@ -9,6 +10,7 @@ mod printing;
 mod rel;
 
 pub use error::RelError;
+pub use givens::parse_given;
 pub use laws::line_laws;
 pub use line::{RelKind, RelLine};
 pub use parsing::parse_rel;

@@ -6,7 +6,7 @@ ghost use Rattle.serial_lines.specs.Serial.{is_comment, kind_at, ended, said, ag
 use text_fields::{after, u32_before};
 
 /// What two ASes are to each other.
-#[derive(Clone, Copy, Debug, PartialEq, Eq)]
+#[derive(Clone, Copy, PartialEq, Eq)]
 pub enum RelKind {
     /// The first is the provider of the second.
     Transit,
@@ -15,7 +15,7 @@ pub enum RelKind {
 }
 
 /// What is known of two ASes.
-#[derive(Clone, Copy, Debug, PartialEq, Eq)]
+#[derive(Clone, Copy, PartialEq, Eq)]
 pub struct RelLine {
     /// The AS that is named first, which is the provider in a transit.
     pub first: u32,
