@@ -13,13 +13,15 @@ use Rattle.result_text.specs.declared.file.EdgeLine.{EdgeLine}
 use Rattle.relationships.specs.declared.mark.Probe.{Probe}
 use Rattle.result_text.specs.declared.file.ResultFile.{ResultFile}
 use Rattle.relationships.specs.Marking.{is_forced}
-use Rattle.result_rules.specs.File.{claim_on, its_probes, shown_orders}
+use Rattle.relationships.specs.Graph.{edges}
+use Rattle.result_rules.specs.File.{claim_on, its_edges, its_paths, its_probes, shown_orders}
 use Rattle.result_rules.specs.declared.rule.Rule.TheVariants.{MarksBorneOut}
-use Rattle.result_rules.specs.Rules.{Asks}
+use Rattle.result_rules.specs.Rules.{Asks, its_served}
 use Rattle.rel_checker.specs.Steps.{FindsBreach}
-use Rattle.rel_checker.specs.Flipping.{flipped_by, flipped, flipped_orders, kept_lines}
+use Rattle.rel_checker.specs.Flipping.{flipped_by, flipped, flipped_orders, served_lines}
 use Rattle.rel_checker.specs.Serving.{IsCovered, IsShownBy, First, MarkedAt, ServesAt, is_borne}
 use Rattle.tor_arena.proofs.Gets.{slice_get-map, slice_get-unmap}
+use Rattle.rel_checker.proofs.Carrying.{any_same, line_edge}
 
 -- the two tests decide
 borne_exactly : (kept : List (List ℕ)) (orders probes : List (ℕ × ℕ)) (low high : ℕ) (mark : Mark) (l : Label) (shown covered : Bool) →
@@ -59,22 +61,24 @@ borne_exactly kept orders probes low high Open label.High shown covered s v = (
 )
 
 module _ (file : ResultFile) where
-  pub marked_at : (rounds : List ℕ) (shown : List Bool) (k round : ℕ) (line : EdgeLine) (is_shown covered : Bool) → slice_get file.edges k ≡ Some line → slice_get shown k ≡ Some is_shown
+  pub marked_at : its_edges file ≡ edges (its_paths file) → (rounds : List ℕ) (shown : List Bool) (k round : ℕ) (line : EdgeLine) (is_shown covered : Bool) →
+      slice_get file.edges k ≡ Some line → slice_get shown k ≡ Some is_shown
       → slice_get rounds k ≡ Some round →
-      IsTrue covered ↔ (round ≡ 1) → IsShownBy file.edges (shown_orders file.whys) shown → IsCovered (kept_lines file.paths) (flipped_orders file.edges) (its_probes file) rounds 1 →
+      IsTrue covered ↔ (round ≡ 1) → IsShownBy file.edges (shown_orders file.whys) shown → IsCovered (served_lines file) (flipped_orders file.edges) (its_probes file) rounds 1 →
       IsTrue (is_borne line.mark line.label is_shown covered) ↔ MarkedAt file k
-  marked_at rounds shown k round line is_shown covered at at_shown at_round test by_shown by_rounds =
+  marked_at whole rounds shown k round line is_shown covered at at_shown at_round test by_shown by_rounds =
       let s : IsTrue is_shown ↔ (Contains (shown_orders file.whys) (line.low, line.high) ⊎ Contains (shown_orders file.whys) (line.high, line.low)) = (
         λ t. (by_shown k line at).0 (at_shown ∙ ap (λ b. Some b) t),
         λ h. same_Some is_shown true (sym at_shown ∙ (by_shown k line at).1 h),
       ) in
       let flips = slice_get-map flipped file.edges k line at in
-      let v : IsTrue covered ↔ Any (λ p. Closure (kept_lines file.paths) p.0 p.1 (flipped line).0 (flipped line).1) (its_probes file) = (
-        λ t. (by_rounds k (flipped line).0 (flipped line).1 flips).0 (at_round ∙ ap (λ m. Some m) (test.0 t)),
-        λ a. test.1 (same_Some round 1 (sym at_round ∙ (by_rounds k (flipped line).0 (flipped line).1 flips).1 a)),
+      let same = any_same file (its_probes file) (flipped line).0 (flipped line).1 (line_edge file whole k line at) in
+      let v : IsTrue covered ↔ Any (λ p. Closure (its_served file) p.0 p.1 (flipped line).0 (flipped line).1) (its_probes file) = (
+        λ t. same.0 ((by_rounds k (flipped line).0 (flipped line).1 flips).0 (at_round ∙ ap (λ m. Some m) (test.0 t))),
+        λ a. test.1 (same_Some round 1 (sym at_round ∙ (by_rounds k (flipped line).0 (flipped line).1 flips).1 (same.1 a))),
       ) in
-      let b = borne_exactly (kept_lines file.paths) (shown_orders file.whys) (its_probes file) line.low line.high line.mark line.label is_shown covered s v in (
-        λ t line' at'. subst (λ l. IsBorneOut (kept_lines file.paths) (shown_orders file.whys) (its_probes file) (claim_on l)) (same_Some line line' (sym at ∙ at')) (b.0 t),
+      let b = borne_exactly (its_served file) (shown_orders file.whys) (its_probes file) line.low line.high line.mark line.label is_shown covered s v in (
+        λ t line' at'. subst (λ l. IsBorneOut (its_served file) (shown_orders file.whys) (its_probes file) (claim_on l)) (same_Some line line' (sym at ∙ at')) (b.0 t),
         λ m. b.1 (m line at),
       )
 
@@ -82,7 +86,7 @@ module _ (file : ResultFile) where
 
   asks_edge : (k : ℕ) → k < length file.edges → MarkedAt file k → Asks file MarksBorneOut k
   asks_edge k lt m = (
-    λ claim at. (let w = slice_get-unmap claim_on file.edges k claim at in subst (λ c. IsBorneOut (kept_lines file.paths) (shown_orders file.whys) (its_probes file) c) w.2 (m w.0 w.1)),
+    λ claim at. (let w = slice_get-unmap claim_on file.edges k claim at in subst (λ c. IsBorneOut (its_served file) (shown_orders file.whys) (its_probes file) c) w.2 (m w.0 w.1)),
     λ le probe at. absurd (omega arith),
   )
 

@@ -1,6 +1,7 @@
 pub mod AgainstLemmas
 pub mod Borne
 pub mod Buildings
+pub mod Carrying
 pub mod Climbing
 pub mod ComingBacks
 pub mod Consistencies
@@ -8,7 +9,9 @@ pub mod EdgeListing
 pub mod EdgeTables
 pub mod FewEdges
 pub mod Firsts
+pub mod GivenFirsts
 pub mod Flippings
+pub mod GivenPlaces
 pub mod KeptLines
 pub mod Lines
 pub mod Linking
@@ -20,6 +23,7 @@ pub mod OrderLemmas
 pub mod OrderPlaces
 pub mod Passing
 pub mod Repeats
+pub mod Returns
 pub mod Rounds
 pub mod Servings
 pub mod Settled

@@ -1,12 +1,12 @@
 -- What the earlier rules give of a file: its edges, and that there is no valley.
 use Rattle.std.proofs.Common.{◌≡◌, ◌⊎◌, inl, inr, ℕ, zero, suc, ◌+◌, ◌-◌, ◌<◌, ◌≤◌, max, Bool, true, false, not, List, [], ◌∷◌, ◌++◌, Some, None, is_none, length, map, flat_map, filter, take, sum_by}
-use Rattle.std.proofs.Common.{get_or, slice_get, slice_index, refl, sym, ap, ◌∙◌, subst, arith, All, Contains, length-append, eq-eqb}
+use Rattle.std.proofs.Common.{get_or, slice_get, slice_index, refl, sym, ap, ◌∙◌, subst, arith, All, Contains, length-append, eq-eqb, lt-ltb, le-ltb, IsTrue, if◌then◌else◌}
 use Rattle.std.proofs.Math.Dec.{lit≤}
 use Rattle.std.specs.List.{AllByRecursion}
 use Rattle.std.proofs.lemmas.Bool.{false≢true, cases_lt, cases_Bool, cases_order, both_ways}
 use Rattle.std.proofs.lemmas.Option.{same_Some, slice_get-get_or, slice_get_past, get_or_from_slice_get, slice_get_within}
 use Rattle.std.proofs.lemmas.List.{length-map, take_all}
-use Rattle.std.proofs.lemmas.List.Elements.{All-contains_itself, All-cons, All-nil, All-head, All-tail}
+use Rattle.std.proofs.lemmas.List.Elements.{All-contains, All-contains_itself, All-cons, All-nil, All-head, All-tail}
 use Rattle.std.proofs.lemmas.List.Sums.{sum_by-cons}
 use Rattle.relationships.specs.declared.label.End.{End}
 use Rattle.relationships.specs.declared.label.Label.{Label}
@@ -17,7 +17,11 @@ use Rattle.tor_arena.specs.Distinct.{AllDistinct}
 use Rattle.relationships.specs.Relationship.{Orientation, Labelling, labels_of, label_of, is_low, is_high, is_over, ValleyFree, Serves}
 use Rattle.relationships.specs.Evidence.{IsTriple, TripleAt, kept_from}
 use Rattle.relationships.specs.Preference.{AgreesOn}
+use Rattle.relationships.specs.declared.given.Given.{Given}
+use Rattle.relationships.specs.Givens.{end_by, names_edge, IsReturn}
 use Rattle.relationships.proofs.Edges.{along_each, peering_law}
+use Rattle.relationships.proofs.GivenLemmas.{triple_split}
+use Rattle.relationships.proofs.GivenWalks.{any_contains}
 use Rattle.relationships.proofs.Places.{index-from_StandAt, kept_from-out}
 use Rattle.relationships.proofs.Serving.{Apart, Apart-from_differing, differ_if_distinct, serves_satisfies}
 use Rattle.relationships.proofs.Slopes.{over-low, over-high, over_one_way}
@@ -28,14 +32,14 @@ use Rattle.result_text.specs.declared.file.PathLine.{PathLine}
 use Rattle.result_text.specs.declared.file.EdgeLine.{EdgeLine}
 use Rattle.result_text.specs.declared.file.ResultFile.{ResultFile}
 use Rattle.relationships.specs.Fates.{walk_of}
-use Rattle.result_rules.specs.File.{its_paths, its_edges, its_labels, claim_on}
-use Rattle.result_rules.specs.declared.rule.Rule.TheVariants.{PathsCleaned, EdgesListed, KeptValleyFree}
+use Rattle.result_rules.specs.File.{its_givens, its_paths, its_edges, its_labels, claim_on}
+use Rattle.result_rules.specs.declared.rule.Rule.TheVariants.{PathsCleaned, EdgesListed, LabelsServe}
 use Rattle.result_rules.specs.Rules.{IsMet}
-use Rattle.rel_checker.specs.Flipping.{flipped_by, flipped, flipped_orders, edges_of, FlipsTo, kept_lines, IsListed, IsBuilt, FlipsLeaveNoValley, AreApart}
+use Rattle.rel_checker.specs.Flipping.{flipped_by, flipped, flipped_orders, edges_of, FlipsTo, kept_lines, served_lines, IsListed, IsBuilt, FlipsLeaveNoValley, AreApart}
 use Rattle.tor_arena.proofs.Gets.{slice_get-some, slice_get-map, slice_get-unmap, All-get, Contains-from_has, has-from_Contains}
 use Rattle.rel_checker.specs.Serving.{IsLaidOut}
 use Rattle.relationships.specs.Checking.{Claim}
-use Rattle.rel_checker.proofs.OrderPlaces.{pair, proper, flips_of, edge_of-swap}
+use Rattle.rel_checker.proofs.OrderPlaces.{pair, proper, flips_of, line_of, edge_of-flipped, edge_of-swap}
 use Rattle.rel_checker.proofs.Showings.{two_orders}
 
 -- ---- lists
@@ -175,7 +179,7 @@ module _ (file : ResultFile) (cleaned : IsMet file PathsCleaned) (listed : IsMet
   many_edges = length-map file.edges (λ (e : EdgeLine). (e.low, e.high))
 
   -- the edge lines are those of the edges of the paths
-  its_edges_are : its_edges file ≡ edges (its_paths file)
+  pub its_edges_are : its_edges file ≡ edges (its_paths file)
   its_edges_are = same_lists (its_edges file) (edges (its_paths file)) (λ k. elim (cases_lt k (max (length file.edges) (length (edges (its_paths file))))) [
     | inl lt ↦ listed k lt
     | inr ge ↦
@@ -223,7 +227,7 @@ module _ (file : ResultFile) (cleaned : IsMet file PathsCleaned) (listed : IsMet
 -- ---- the kept paths
 
 -- a kept path is one of the paths, and its line is kept
-kept_line : (lines : List PathLine) (path : List ℕ) → Contains (kept_lines lines) path → (i : ℕ) × (line : PathLine) × (slice_get lines i ≡ Some line) × (line.path ≡ path) × (line.fate ≡ Kept)
+pub kept_line : (lines : List PathLine) (path : List ℕ) → Contains (kept_lines lines) path → (i : ℕ) × (line : PathLine) × (slice_get lines i ≡ Some line) × (line.path ≡ path) × (line.fate ≡ Kept)
 kept_line lines path c =
     let paths = map (λ (p : PathLine). p.path) lines in
     let keeps = map is_none (map (λ (p : PathLine). walk_of p.fate) lines) in
@@ -287,7 +291,29 @@ flips_either label.Low low high x y e = elim (two_orders x y low high e) [ inl h
 flips_either label.High low high x y e = elim (two_orders x y low high e) [ inl h ↦ inl (sym h) | inr h ↦ inr (pair (sym (ap (λ (p : ℕ × ℕ). p.1) h)) (sym (ap (λ (p : ℕ × ℕ). p.0) h))) ]
 flips_either label.Peer low high x y e = elim (two_orders x y low high e) [ inl h ↦ inr (pair (sym (ap (λ (p : ℕ × ℕ). p.1) h)) (sym (ap (λ (p : ℕ × ℕ). p.0) h))) | inr h ↦ inl (sym h) ]
 
-module _ (file : ResultFile) (cleaned : IsMet file PathsCleaned) (listed : IsMet file EdgesListed) (served : IsMet file KeptValleyFree) where
+-- an edge whose label has the first of two as provider doesn't flip to that order
+unflipped : (l : Label) (low high over under : ℕ) → low < high → l ≡ label_of (end_by over under) → flipped_by l low high ≡ (over, under) → ⊥
+unflipped label.Low low high over under lt is t =
+    let h : ◌≡◌ {A = ℕ × ℕ} (high, low) (over, under) = t in
+    let e : high ≡ over = ap (λ (p : ℕ × ℕ). p.0) h in
+    let e' : low ≡ under = ap (λ (p : ℕ × ℕ). p.1) h in
+    let le : under ≤ over = omega (arith, e, e', lt) in
+    let other : label.Low ≡ label.High = is ∙ ap (λ b. label_of (if b then End.Low else End.High)) (le-ltb over under le) in
+    cc
+unflipped label.High low high over under lt is t =
+    let h : ◌≡◌ {A = ℕ × ℕ} (low, high) (over, under) = t in
+    let e : low ≡ over = ap (λ (p : ℕ × ℕ). p.0) h in
+    let e' : high ≡ under = ap (λ (p : ℕ × ℕ). p.1) h in
+    let less : over < under = omega (arith, e, e', lt) in
+    let other : label.High ≡ label.Low = is ∙ ap (λ b. label_of (if b then End.Low else End.High)) (lt-ltb over under less) in
+    cc
+unflipped label.Peer low high over under lt is t = no_peer (end_by over under) is
+  where
+    no_peer : (end : End) → label.Peer ≡ label_of end → ⊥
+    no_peer End.Low h = cc
+    no_peer End.High h = cc
+
+module _ (file : ResultFile) (cleaned : IsMet file PathsCleaned) (listed : IsMet file EdgesListed) (served : IsMet file LabelsServe) where
   abbrev O : Orientation
   O = reading (its_labels file)
 
@@ -297,7 +323,8 @@ module _ (file : ResultFile) (cleaned : IsMet file PathsCleaned) (listed : IsMet
       (λ i d lt.
       let path = get_or (kept_lines file.paths) i d in
       let w = kept_line file.paths path (Contains-from_has (kept_lines file.paths) path (i, slice_get-get_or (kept_lines file.paths) i d lt)) in
-      subst (ValleyFree (its_labels file)) w.3 (served w.0 (slice_get_within file.paths w.0 w.1 w.2) w.1 w.2 w.4))
+      let within = slice_get_within file.paths w.0 w.1 w.2 in
+      subst (ValleyFree (its_labels file)) w.3 ((served w.0 (omega (arith, within))).0 w.1 w.2 w.4))
       O (reading_agrees (its_labels file) (edges (kept_lines file.paths)))
 
   its_once : Once (edges_of file.edges)
@@ -332,14 +359,48 @@ module _ (file : ResultFile) (cleaned : IsMet file PathsCleaned) (listed : IsMet
         | inr t ↦ inr (at.0, flips_of file.edges at.0 y x w.0 w.1 t)
       ]
 
-  pub settled : FlipsLeaveNoValley (flipped_orders file.edges) (kept_lines file.paths)
+  -- the label of an edge line has the provider of a given of its two
+  has_given : (k : ℕ) (line : EdgeLine) → slice_get file.edges k ≡ Some line → (g : Given) → Contains (its_givens file) g → edge_of g.over g.under ≡ (line.low, line.high) →
+      line.label ≡ label_of (end_by g.over g.under)
+  has_given k line at g c e =
+      let lt = slice_get_within file.edges k line at in
+      let asked = (served (length file.paths + k) (omega (arith, lt))).1 (omega arith) in
+      let same : length file.paths + k - length file.paths ≡ k = omega arith in
+      All-contains (λ (h : Given). edge_of h.over h.under ≡ (line.low, line.high) → line.label ≡ label_of (end_by h.over h.under)) (its_givens file) g
+      (asked line (ap (slice_get file.edges) same ∙ at)) c e
+
+  -- so its edge doesn't flip to the given's order
+  pub not_given : (k : ℕ) (g : Given) → Contains (its_givens file) g → FlipsTo (flipped_orders file.edges) k g.over g.under → ⊥
+  not_given k g c t =
+      let apart = edges_apart file cleaned listed in
+      let w = line_of file.edges apart k g.over g.under t in
+      let lt = All-get (λ (l : EdgeLine). l.low < l.high) file.edges k w.0 apart.rising w.1 in
+      let e = edge_of-flipped w.0.label w.0.low w.0.high g.over g.under lt w.2 in
+      unflipped w.0.label w.0.low w.0.high g.over g.under lt (has_given k w.0 w.1 g c e) w.2
+
+  edge_named : (g : Given) → IsTrue (names_edge (its_paths file) g) → Contains (edges_of file.edges) (edge_of g.over g.under)
+  edge_named g t = subst (λ es. Contains es (edge_of g.over g.under)) (sym (its_edges_are file cleaned listed)) (any_contains (edges (its_paths file)) (edge_of g.over g.under) t)
+
+  -- the triples of returns, and those of kept paths
+  returned : (x y z : ℕ) → IsTriple (served_lines file) x y z → IsReturn (its_paths file) (its_givens file) x y z ⊎ IsTriple (kept_lines file.paths) x y z
+  returned x y z t = triple_split (its_givens file) (its_paths file) (kept_lines file.paths) x y z t
+
+  pub settled : FlipsLeaveNoValley (flipped_orders file.edges) (served_lines file)
   settled = record {
-    listed = λ x y z t.
-        let w = kept_line file.paths t.0 t.1 in
-        let each = subst (IsListed (its_edges file)) w.3 (All-get (λ line. IsListed (its_edges file) line.path) file.paths w.0 w.1 (lines_listed file cleaned listed) w.2) in
-        first_two t.0 t.2.0 x y z each t.2.1;
-    no_valley = λ x y z t (i, ti) (j, tj).
-        over_one_way (labels_of O) y z (serves_satisfies O (kept_lines file.paths) kept_served x y z t (holds i x y ti)) (holds j z y tj);
+    listed = λ x y z t. elim (returned x y z t) [
+      | inl r ↦ neighbours x y (subst (λ v. Contains (edges_of file.edges) (edge_of v y)) (sym r.first)
+          (subst (λ v. Contains (edges_of file.edges) (edge_of r.given.under v)) (sym r.second)
+          (subst (Contains (edges_of file.edges)) (edge_of-swap r.given.over r.given.under) (edge_named r.given r.named))))
+      | inr u ↦
+          let w = kept_line file.paths u.0 u.1 in
+          let each = subst (IsListed (its_edges file)) w.3 (All-get (λ line. IsListed (its_edges file) line.path) file.paths w.0 w.1 (lines_listed file cleaned listed) w.2) in
+          first_two u.0 u.2.0 x y z each u.2.1
+    ];
+    no_valley = λ x y z t i j. elim (returned x y z t) [
+      | inl r ↦ not_given i.0 r.given r.there (subst (λ v. FlipsTo (flipped_orders file.edges) i.0 r.given.over v) r.first
+          (subst (λ v. FlipsTo (flipped_orders file.edges) i.0 v x) r.second i.1))
+      | inr u ↦ over_one_way (labels_of O) y z (serves_satisfies O (kept_lines file.paths) kept_served x y z u (holds i.0 x y i.1)) (holds j.0 z y j.1)
+    ];
   }
     where
       first_two : (path : List ℕ) (at x y z : ℕ) → IsListed (edges_of file.edges) path → TripleAt path at x y z →
@@ -362,9 +423,10 @@ module _ (file : ResultFile) (cleaned : IsMet file PathsCleaned) (listed : IsMet
           (subst (λ v. Contains (edges_of file.edges) (edge_of (slice_index path (at - 1)) v)) (ap (slice_index path) e ∙ w.4) c) in
           neighbours x y (subst (Contains (edges_of file.edges)) (edge_of-swap y x) c')
 
-  pub laid : (implied conflicting : List (List ℕ)) → IsBuilt (flipped_orders file.edges) (IsTriple (kept_lines file.paths)) implied conflicting → IsLaidOut file (its_edges file) implied conflicting
+  pub laid : (implied conflicting : List (List ℕ)) → IsBuilt (flipped_orders file.edges) (IsTriple (served_lines file)) implied conflicting → IsLaidOut file (its_edges file) implied conflicting
   laid implied conflicting built = record {
     listed = refl;
+    whole = its_edges_are file cleaned listed;
     few = edges_few file cleaned listed;
     apart = edges_apart file cleaned listed;
     proper = proper file.edges (edges_apart file cleaned listed);

@@ -3,7 +3,7 @@ use Rattle.std.proofs.Common.{◌≡◌, ℕ, ◌+◌, ◌≤◌, ◌∙◌, ref
 use Rattle.std.proofs.lemmas.Bool.{cases_order}
 use Rattle.result_text.specs.declared.file.ResultFile.{ResultFile}
 use Rattle.result_rules.specs.declared.rule.Rule.{Rule}
-use Rattle.result_rules.specs.declared.rule.Rule.TheVariants.{RatioBounded, PathsCleaned, PathsDistinct, LostRefuted, EdgesListed, KeptValleyFree, SupportCounted, OrdersShown, MarksBorneOut}
+use Rattle.result_rules.specs.declared.rule.Rule.TheVariants.{HeadSound, PathsCleaned, PathsDistinct, LostRefuted, EdgesListed, LabelsServe, SupportCounted, OrdersShown, MarksBorneOut}
 use Rattle.result_rules.specs.declared.rule.Rule.TheVariants.{TotalsRight}
 use Rattle.result_rules.specs.Rules.{rule_number, line_for, IsMet, Accepts, BreaksFirst, IsRefused}
 use Rattle.rel_checker.specs.Steps.{MetUpTo}
@@ -14,29 +14,29 @@ use Rattle.result_rules.specs.declared.verdict.Verdict.TheVariants.{No}
 
 abbrev rule_of : ℕ → Rule
 rule_of n =
-    if n == 1 then RatioBounded else if n == 2 then PathsCleaned else if n == 3 then PathsDistinct else if n == 4 then LostRefuted
-    else if n == 5 then EdgesListed else if n == 6 then KeptValleyFree else if n == 7 then SupportCounted else if n == 8 then OrdersShown
+    if n == 1 then HeadSound else if n == 2 then PathsCleaned else if n == 3 then PathsDistinct else if n == 4 then LostRefuted
+    else if n == 5 then EdgesListed else if n == 6 then LabelsServe else if n == 7 then SupportCounted else if n == 8 then OrdersShown
     else if n == 9 then MarksBorneOut else TotalsRight
 
 back : (rule : Rule) → rule_of (rule_number rule) ≡ rule
-back RatioBounded = refl
+back HeadSound = refl
 back PathsCleaned = refl
 back PathsDistinct = refl
 back LostRefuted = refl
 back EdgesListed = refl
-back KeptValleyFree = refl
+back LabelsServe = refl
 back SupportCounted = refl
 back OrdersShown = refl
 back MarksBorneOut = refl
 back TotalsRight = refl
 
 bounded : (rule : Rule) → (1 ≤ rule_number rule) × (rule_number rule ≤ 10)
-bounded RatioBounded = (omega arith, omega arith)
+bounded HeadSound = (omega arith, omega arith)
 bounded PathsCleaned = (omega arith, omega arith)
 bounded PathsDistinct = (omega arith, omega arith)
 bounded LostRefuted = (omega arith, omega arith)
 bounded EdgesListed = (omega arith, omega arith)
-bounded KeptValleyFree = (omega arith, omega arith)
+bounded LabelsServe = (omega arith, omega arith)
 bounded SupportCounted = (omega arith, omega arith)
 bounded OrdersShown = (omega arith, omega arith)
 bounded MarksBorneOut = (omega arith, omega arith)

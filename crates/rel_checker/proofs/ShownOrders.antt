@@ -4,10 +4,11 @@ use Rattle.std.proofs.lemmas.Grind.{flat_map-append}
 use Rattle.std.proofs.lemmas.List.{take_more}
 use Rattle.std.proofs.lemmas.Option.{slice_get_within, get_or_from_slice_get, same_Some}
 use Rattle.relationships.specs.declared.walk.Walk.{Walk}
-use Rattle.relationships.specs.Evidence.{Numbered, EndsWith, Shows}
+use Rattle.relationships.specs.Evidence.{Numbered, EndsWith}
+use Rattle.relationships.specs.declared.given.Given.{Given}
+use Rattle.relationships.specs.GivenEvidence.{ShowsWith}
 use Rattle.result_text.specs.declared.file.ResultFile.{ResultFile}
-use Rattle.result_rules.specs.File.{last_two, shown_orders}
-use Rattle.result_rules.specs.File.{kept_among}
+use Rattle.result_rules.specs.File.{its_givens, its_kept, last_two, shown_orders}
 use Rattle.result_rules.specs.declared.rule.Rule.TheVariants.{OrdersShown}
 use Rattle.result_rules.specs.Rules.{Asks}
 use Rattle.result_rules.proofs.WalkLaws.{last_two-from_ends}
@@ -39,13 +40,14 @@ ends-from_last_two (c ∷ d ∷ f ∷ ases) a b e =
     (c ∷ r.0, ap (λ (l : List ℕ). c ∷ l) r.1)
 
 -- what a walk shows is the order of its last two
-pub shows_last : (A : Numbered) (shown : List (ℕ × ℕ)) (w : Walk) (over under a b : ℕ) → last_two w.ases ≡ (over, under) ∷ [] → Shows A shown w a b → Shows A shown w over under
-shows_last A shown w over under a b e s =
+pub shows_last : (givens : List Given) (A : Numbered) (shown : List (ℕ × ℕ)) (w : Walk) (over under a b : ℕ) → last_two w.ases ≡ (over, under) ∷ [] →
+    ShowsWith givens A shown w a b → ShowsWith givens A shown w over under
+shows_last givens A shown w over under a b e s =
     let same = ap (λ l. get_or l 0 (0, 0)) (sym (last_two-from_ends w.ases a b s.ends) ∙ e) in
-    subst (λ (p : ℕ × ℕ). Shows A shown w p.0 p.1) same s
+    subst (λ (p : ℕ × ℕ). ShowsWith givens A shown w p.0 p.1) same s
 
-pub shows_none : (A : Numbered) (shown : List (ℕ × ℕ)) (w : Walk) (a b : ℕ) → last_two w.ases ≡ [] → Shows A shown w a b → ⊥
-shows_none A shown w a b e s =
+pub shows_none : (givens : List Given) (A : Numbered) (shown : List (ℕ × ℕ)) (w : Walk) (a b : ℕ) → last_two w.ases ≡ [] → ShowsWith givens A shown w a b → ⊥
+shows_none givens A shown w a b e s =
     let n = ap length (sym (last_two-from_ends w.ases a b s.ends) ∙ e) in
     absurd (omega arith)
 
@@ -66,11 +68,11 @@ module _ (file : ResultFile) (k : ℕ) (walk : Walk) (at : slice_get file.whys k
       ap (λ (w : Walk). orders ++ (last_two w.ases ++ [])) (get_or_from_slice_get file.whys k walk walk at) ∙ ap (λ l. orders ++ (l ++ [])) e)
 
   pub asks_shown : (shown : List (ℕ × ℕ)) → shown ≡ shown_orders (take k file.whys) →
-      (k < length file.whys) × (((a b : ℕ) × Shows (kept_among file.paths) shown walk a b) ↔ Asks file OrdersShown k)
+      (k < length file.whys) × (((a b : ℕ) × ShowsWith (its_givens file) (its_kept file) shown walk a b) ↔ Asks file OrdersShown k)
   asks_shown shown before = (
     in_file,
     (
-      λ h other at'. subst (λ (w : Walk). (a b : ℕ) × Shows (kept_among file.paths) (shown_orders (take k file.whys)) w a b) (same_Some _ _ (sym at ∙ at')) (rw before at h),
+      λ h other at'. subst (λ (w : Walk). (a b : ℕ) × ShowsWith (its_givens file) (its_kept file) (shown_orders (take k file.whys)) w a b) (same_Some _ _ (sym at ∙ at')) (rw before at h),
       λ asks. rw before (asks walk at),
     ),
   )

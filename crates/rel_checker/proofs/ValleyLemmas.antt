@@ -14,9 +14,10 @@ use Rattle.relationships.specs.declared.fate.Fate.TheVariants.{Kept}
 use Rattle.result_text.specs.declared.file.PathLine.{PathLine}
 use Rattle.result_text.specs.declared.file.ResultFile.{ResultFile}
 use Rattle.result_rules.specs.File.{claim_on}
-use Rattle.result_rules.specs.declared.rule.Rule.TheVariants.{KeptValleyFree}
 use Rattle.rel_checker.specs.Flipping.{AreApart}
-use Rattle.result_rules.specs.Rules.{Asks, IsServedIfKept, BreaksFirst}
+use Rattle.result_rules.specs.Rules.{IsServedIfKept}
+use Rattle.rel_checker.specs.GivenLabels.{ServedAt}
+use Rattle.rel_checker.specs.Serving.{First}
 use Rattle.tor_numbers.specs.Edges.{edge_at}
 use Rattle.rel_checker.proofs.Lines.{IsLine, before-more, at-place}
 use Rattle.rel_checker.proofs.EdgeTables.{is_same-self}
@@ -75,16 +76,16 @@ pub served-at : (file : ResultFile) (edges : List EdgeLine) (line : PathLine) �
 served-at file edges line same served kept =
     subst (λ (L : Labelling). ValleyFree L line.path) (ap labels_in same ∙ sym (labels-same file.edges)) (served kept)
 
-pub valley-first : (file : ResultFile) (edges : List EdgeLine) (place : ℕ) (line : PathLine) → edges ≡ file.edges → ((j : ℕ) → j < place → Asks file KeptValleyFree j) → IsLine file place line →
-    ((line.fate ≡ Kept → ValleyFree (labels_in edges) line.path) → ⊥) → BreaksFirst file KeptValleyFree place
-valley-first file edges place line same before l bad = record {
-  within = l.within;
-  breach = λ asks. bad (λ kept. subst (λ (L : Labelling). ValleyFree L line.path) (labels-same file.edges ∙ ap labels_in (sym same))
-      (asks line (slice_get_read file.paths (length file.paths) place line refl l.within l.is) kept));
-  before = before;
-}
+pub valley-first : (file : ResultFile) (edges : List EdgeLine) (place : ℕ) (line : PathLine) → edges ≡ file.edges → ((j : ℕ) → j < place → ServedAt file j) → IsLine file place line →
+    ((line.fate ≡ Kept → ValleyFree (labels_in edges) line.path) → ⊥) → First (ServedAt file) (length file.paths) (Some place)
+valley-first file edges place line same before l bad = (
+  l.within,
+  (λ serves. bad (λ kept. subst (λ (L : Labelling). ValleyFree L line.path) (labels-same file.edges ∙ ap labels_in (sym same))
+      (serves line (slice_get_read file.paths (length file.paths) place line refl l.within l.is) kept))),
+  before,
+)
 
-pub valley-more : (file : ResultFile) (edges : List EdgeLine) (place : ℕ) (line : PathLine) → edges ≡ file.edges → ((j : ℕ) → j < place → Asks file KeptValleyFree j) → IsLine file place line →
-    (line.fate ≡ Kept → ValleyFree (labels_in edges) line.path) → (j : ℕ) → j < place + 1 → Asks file KeptValleyFree j
+pub valley-more : (file : ResultFile) (edges : List EdgeLine) (place : ℕ) (line : PathLine) → edges ≡ file.edges → ((j : ℕ) → j < place → ServedAt file j) → IsLine file place line →
+    (line.fate ≡ Kept → ValleyFree (labels_in edges) line.path) → (j : ℕ) → j < place + 1 → ServedAt file j
 valley-more file edges place line same before l served =
-    before-more (Asks file KeptValleyFree) place before (at-place (IsServedIfKept file) file.paths place line l.within l.is (served-at file edges line same served))
+    before-more (ServedAt file) place before (at-place (IsServedIfKept file) file.paths place line l.within l.is (served-at file edges line same served))

@@ -1,18 +1,23 @@
 -- Which orders imply which. Each edge has one order against its label; that the edge flips means that it has this order. Edge i
 -- implies edge j where, along a kept path, the order against i's label implies the order against j's label, and conflicts with it
--- where it rules that order out. So the closure of an order against a label is read off the edges alone.
+-- where it rules that order out. So the closure of an order against a label is read off the edges alone. Along the return of a given
+-- whose two are an edge, this edge conflicts with itself.
 use Rattle.std.specs.Prelude.{◌≡◌, ◌⊎◌, ◌↔◌, ℕ, ◌+◌, ◌-◌, ◌*◌, ◌%◌, ◌^◌, ◌<◌, Bool, true, false, nat_lt, if◌then◌else◌, List, ◌++◌, [], ◌∷◌}
-use Rattle.std.specs.Prelude.{length, map, Some, All, Contains, slice_get, slice_index, slice_index_or}
+use Rattle.std.specs.Prelude.{length, map, filter, Some, All, Contains, slice_get, slice_index, slice_index_or}
+use Rattle.std.specs.List.{list_any}
 use Rattle.relationships.specs.declared.label.End.{End}
 use Rattle.relationships.specs.declared.label.Label.{Label}
 use Rattle.relationships.specs.declared.label.Label.TheVariants as label
-use Rattle.relationships.specs.Graph.{Edge, edge_of}
+use Rattle.relationships.specs.declared.given.Given.{Given}
+use Rattle.relationships.specs.Graph.{Edge, edge_of, is_same}
 use Rattle.relationships.specs.Evidence.{TripleAt, IsTriple, paths_of}
+use Rattle.relationships.specs.Givens.{return_of}
 use Rattle.relationships.specs.declared.fate.Fate.{Fate}
 use Rattle.relationships.specs.declared.fate.Fate.TheVariants.{Kept, Lost}
 use Rattle.result_text.specs.declared.file.EdgeLine.{EdgeLine}
 use Rattle.result_text.specs.declared.file.PathLine.{PathLine}
-use Rattle.result_rules.specs.File.{kept_among}
+use Rattle.result_text.specs.declared.file.ResultFile.{ResultFile}
+use Rattle.result_rules.specs.File.{kept_among, its_returns}
 use Rattle.rel_checker.specs.declared.edges.step.Step.{Step}
 use Rattle.rel_checker.specs.Neighbours.{HasNext, with_next}
 use Rattle.rel_checker.specs.PathSteps.{place_in, left_in, labels_on}
@@ -136,6 +141,19 @@ with_kept paths path (Lost walk) = paths
 -- the kept paths of these lines
 abbrev pub kept_lines : List PathLine → List (List ℕ)
 kept_lines lines = paths_of (kept_among lines)
+
+-- the paths, and the return of a given where its two are one of the edges
+abbrev pub with_return : List Edge → List (List ℕ) → Given → List (List ℕ)
+with_return es paths g = if list_any (is_same (edge_of g.over g.under)) es then paths ++ return_of g ∷ [] else paths
+
+-- the returns of those givens whose two are one of the edges
+abbrev pub returns_on : List Edge → List Given → List (List ℕ)
+returns_on es givens = map return_of (filter (λ g. list_any (is_same (edge_of g.over g.under)) es) givens)
+
+-- what closures are followed along: the returns of those givens whose two are an edge, and the kept paths. The returns of the others
+-- add nothing to a closure that begins with an edge
+abbrev pub served_lines : ResultFile → List (List ℕ)
+served_lines file = its_returns file ++ kept_lines file.paths
 
 -- ---- what the earlier rules give
 

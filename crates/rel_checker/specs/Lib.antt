@@ -1,6 +1,8 @@
 pub mod Batches
 pub mod ComingBack
 pub mod Flipping
+pub mod GivenHeads
+pub mod GivenLabels
 pub mod Naming
 pub mod Neighbours
 pub mod PathSteps

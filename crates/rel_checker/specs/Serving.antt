@@ -3,7 +3,7 @@ use Rattle.std.specs.Prelude.{◌≡◌, ◌⊎◌, ◌↔◌, ℕ, ◌<◌, ◌
 use Rattle.std.specs.Prelude.{Any, Contains, slice_get}
 use Rattle.relationships.specs.declared.label.Label.{Label}
 use Rattle.relationships.specs.declared.label.Label.TheVariants as label
-use Rattle.relationships.specs.Graph.{Edge}
+use Rattle.relationships.specs.Graph.{Edge, edges}
 use Rattle.tor_arena.specs.Limits.{most_places}
 use Rattle.relationships.specs.Evidence.{Closure, IsConsistent}
 use Rattle.relationships.specs.Checking.{Claim, OtherOrder}
@@ -11,10 +11,10 @@ use Rattle.relationships.specs.declared.mark.Mark.{Mark}
 use Rattle.relationships.specs.declared.mark.Mark.TheVariants.{Forced, Open}
 use Rattle.result_text.specs.declared.file.EdgeLine.{EdgeLine}
 use Rattle.result_text.specs.declared.file.ResultFile.{ResultFile}
-use Rattle.result_rules.specs.File.{claim_on, its_claims, its_probes}
+use Rattle.result_rules.specs.File.{claim_on, its_claims, its_edges, its_paths, its_probes}
 use Rattle.rel_checker.specs.Searching.{RoundCameTo}
 use Rattle.result_rules.specs.Rules.{ForSome, ServesNewEdge, IsMarkedRightly}
-use Rattle.rel_checker.specs.Flipping.{FlipsTo, IsFlipped, edges_of, flipped_orders, kept_lines, IsBuiltFor, IsProper, FlipsLeaveNoValley}
+use Rattle.rel_checker.specs.Flipping.{FlipsTo, IsFlipped, edges_of, flipped_orders, served_lines, IsBuiltFor, IsProper, FlipsLeaveNoValley}
 use Rattle.rel_checker.specs.Flipping.{AreApart}
 
 -- the edge is open, and no peering
@@ -29,32 +29,32 @@ abbrev pub IsWantedAt : List EdgeLine → ℕ → Type 0
 IsWantedAt lines k = (line : EdgeLine) × (slice_get lines k ≡ Some line) × IsTrue (is_wanted line.mark line.label)
 
 -- the closure of the order has the other order of an open edge that is no peering, and no earlier one has it
-pub record Gains (kept : List (List ℕ)) (claims : List Claim) (earlier : List (ℕ × ℕ)) (p : ℕ × ℕ) : Type 0 where
+pub record Gains (paths : List (List ℕ)) (claims : List Claim) (earlier : List (ℕ × ℕ)) (p : ℕ × ℕ) : Type 0 where
   pub claim : Claim
   pub claimed : Contains claims claim
   pub is_open : IsFalse claim.forced
   pub over : ℕ
   pub under : ℕ
   pub other : OtherOrder claim over under
-  pub reached : Closure kept p.0 p.1 over under
-  pub new : All (λ q. Closure kept q.0 q.1 over under → ⊥) earlier
+  pub reached : Closure paths p.0 p.1 over under
+  pub new : All (λ q. Closure paths q.0 q.1 over under → ⊥) earlier
 
 -- the round came to exactly the edges whose flipped orders are in the closure of one of the open lines
 abbrev pub IsCovered : List (List ℕ) → List (ℕ × ℕ) → List (ℕ × ℕ) → List ℕ → ℕ → Type 0
-IsCovered kept orders probes rounds round =
-    (k x y : ℕ) → FlipsTo orders k x y → RoundCameTo rounds round k ↔ Any (λ p. Closure kept p.0 p.1 x y) probes
+IsCovered paths orders probes rounds round =
+    (k x y : ℕ) → FlipsTo orders k x y → RoundCameTo rounds round k ↔ Any (λ p. Closure paths p.0 p.1 x y) probes
 
--- the same in round 1, for the kept paths and the edges of a file
+-- the same in round 1, for what is served of a file and its edges
 abbrev pub Covers : ResultFile → List (ℕ × ℕ) → List ℕ → Type 0
-Covers file probes rounds = IsCovered (kept_lines file.paths) (flipped_orders file.edges) probes rounds 1
+Covers file probes rounds = IsCovered (served_lines file) (flipped_orders file.edges) probes rounds 1
 
 -- it is one against a label, and its closure is consistent
 abbrev pub CanFlip : ResultFile → ℕ × ℕ → Type 0
-CanFlip file p = IsFlipped (flipped_orders file.edges) p.0 p.1 × IsConsistent (kept_lines file.paths) p.0 p.1
+CanFlip file p = IsFlipped (flipped_orders file.edges) p.0 p.1 × IsConsistent (served_lines file) p.0 p.1
 
 -- open line k gains
 abbrev pub GainsAt : ResultFile → ℕ → Type 0
-GainsAt file k = ForSome (its_probes file) k (Gains (kept_lines file.paths) (its_claims file) (take k (its_probes file)))
+GainsAt file k = ForSome (its_probes file) k (Gains (served_lines file) (its_claims file) (take k (its_probes file)))
 
 -- open line k serves
 abbrev pub ServesAt : ResultFile → ℕ → Type 0
@@ -93,8 +93,9 @@ is_borne Open label.High shown covered = covered
 -- what is known of the file, of the table of its edges, and of the rows: which edges each edge implies, and with which it conflicts
 pub record IsLaidOut (file : ResultFile) (table : List Edge) (implied conflicting : List (List ℕ)) : Type 0 where
   pub listed : table ≡ edges_of file.edges
+  pub whole : its_edges file ≡ edges (its_paths file)
   pub few : length file.edges ≤ most_places
   pub apart : AreApart file.edges
   pub proper : IsProper (flipped_orders file.edges)
-  pub settled : FlipsLeaveNoValley (flipped_orders file.edges) (kept_lines file.paths)
-  pub built : IsBuiltFor file.edges (kept_lines file.paths) implied conflicting
+  pub settled : FlipsLeaveNoValley (flipped_orders file.edges) (served_lines file)
+  pub built : IsBuiltFor file.edges (served_lines file) implied conflicting

@@ -1,6 +1,6 @@
 //! Agreement with dumps, rule 11.
 ghost use Rattle.std.specs.Prelude.{◌≡◌, ◌+◌, ◌<◌, ◌≤◌, ◌↔◌, IsTrue, length, slice_get, MatchOption};
-ghost use Rattle.result_rules.specs.File.{most_lines};
+ghost use Rattle.result_rules.specs.File.{its_givens, most_lines};
 ghost use Rattle.result_rules.specs.Against.{in_order, its_rows, JudgesAgainst};
 ghost use Rattle.rel_checker.specs.Steps.{Differs};
 
@@ -19,9 +19,9 @@ const FIRST_COUNT: u64 = 4;
 
 /// Whether the result's counts, and its paths in order with their times, are those of the table and the counts. No names the first
 /// line that differs: one of lines 4 to 10, or a path line, or where a path is absent the line behind the last path line. The file
-/// may have at most 2^40 path lines. It takes no memory.
+/// may have at most 2^40 given lines and path lines. It takes no memory.
 pub fn check_against(file: &ResultFile, table: &PathTable, asides: &Asides) -> Verdict
-    requires lines { length file.now.paths ≤ most_lines }
+    requires lines { length (its_givens file.now) + length file.now.paths ≤ most_lines }
     ensures verdict { JudgesAgainst file.now table.now.rows asides.now result }
 {
     if let Some(place) = differing_count(&file.asides, asides) {

@@ -11,7 +11,8 @@ ghost use Rattle.result_rules.specs.Judging.{Judges};
 use crate::edges::edge_rules::{find_miscounted, find_unlisted, find_valley, list_edges};
 use crate::edges::labels::Labels;
 use crate::edges::step::Step;
-use crate::line_numbers::{edge_line, last_line, mark_line, path_line, why_line};
+use crate::givens::find_unsound_given;
+use crate::line_numbers::{edge_line, given_line, last_line, mark_line, path_line, why_line};
 use crate::marks::mark_rules::find_unmarked;
 use crate::paths::{find_repeated, find_unclean};
 use crate::walks::walk_rules::{find_unrefuted, find_unshown};
@@ -21,15 +22,22 @@ use std::alloc::Global;
 use tor_arena::{Keys, MAX_RATIO, NoMemory, PathId, Rows};
 use tor_numbers::EdgeTable;
 
-/// Whether the file meets the rules on a result alone: the ratio, clean and distinct paths, walks that refute each lost path, the
-/// edges, valley-free kept paths, supports, why lines, marks and totals. Yes exactly if all are met, and the file is then valid. No
-/// names the least rule that is broken, 1 to 10, and its first line, from 1. The file may have at most 2^40 lines besides its first
-/// ten and its last. The keys are those of its hash tables, and the verdict doesn't depend on them. NoMemory where memory ran out.
+/// The line of the ratio.
+const RATIO_LINE: u64 = 3;
+
+/// Whether the file meets the rules on a result alone: the ratio and distinct givens, clean and distinct paths, walks that refute each
+/// lost path, the edges, labels that serve the kept paths and the givens, supports, why lines, marks and totals. Yes exactly if all are
+/// met, and the file is then valid. No names the least rule that is broken, 1 to 10, and its first line, from 1. The file may have at
+/// most 2^40 lines besides its first ten and its last. The keys are those of its hash tables, and the verdict doesn't depend on them.
+/// NoMemory where memory ran out.
 pub fn check_file(alloc: Global, keys: Keys, file: &ResultFile) -> Result<Verdict, NoMemory>
     requires lines { HasFewLines file.now }
     ensures verdict { IfOk result (Judges file.now) }
     ensures valid { result ≡ Ok Verdict.Yes → Valid file.now }
 {
+    if let Some(verdict) = check_head(alloc, keys, file)? {
+        return Ok(verdict);
+    }
     if let Some(verdict) = check_paths(alloc, keys, file)? {
         return Ok(verdict);
     }
@@ -61,14 +69,26 @@ fn check_lines(
     Ok(check_totals(file))
 }
 
-/// The rules on the head and on the paths.
-fn check_paths(alloc: Global, keys: Keys, file: &ResultFile) -> Result<Option<Verdict>, NoMemory>
+/// The rule on the head.
+fn check_head(alloc: Global, keys: Keys, file: &ResultFile) -> Result<Option<Verdict>, NoMemory>
     requires lines { HasFewLines file.now }
-    ensures { IfOk result (IsDecidedUpTo file.now 4) }
+    ensures { IfOk result (IsDecidedUpTo file.now 1) }
 {
     if file.ratio > MAX_RATIO {
-        return Ok(Some(no(3, Rule::RatioBounded)));
+        return Ok(Some(no(RATIO_LINE, Rule::HeadSound)));
     }
+    match find_unsound_given(alloc, keys, file)? {
+        Some(place) => Ok(Some(no(given_line(file, place), Rule::HeadSound))),
+        None => Ok(None),
+    }
+}
+
+/// The rules on the paths.
+fn check_paths(alloc: Global, keys: Keys, file: &ResultFile) -> Result<Option<Verdict>, NoMemory>
+    requires lines { HasFewLines file.now }
+    requires met { MetUpTo file.now 1 }
+    ensures { IfOk result (IsDecidedUpTo file.now 4) }
+{
     if let Some(place) = find_unclean(alloc, file)? {
         return Ok(Some(no(path_line(file, place), Rule::PathsCleaned)));
     }
@@ -99,8 +119,8 @@ fn check_edges(
     if let Some(place) = find_unlisted(file, table) {
         return Ok(Some(no(edge_line(file, place), Rule::EdgesListed)));
     }
-    if let Some(place) = find_valley(file, labels, steps) {
-        return Ok(Some(no(path_line(file, place), Rule::KeptValleyFree)));
+    if let Some(place) = find_valley(file, table, labels, steps) {
+        return Ok(Some(no(path_line(file, place), Rule::LabelsServe)));
     }
     match find_miscounted(alloc, file, steps)? {
         Some(place) => Ok(Some(no(edge_line(file, place), Rule::SupportCounted))),

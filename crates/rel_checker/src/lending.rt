@@ -1,10 +1,11 @@
 //! Lines of a result, and the steps of its paths, by their places.
 
 ghost use Rattle.std.specs.Prelude.{◌≡◌, ◌<◌, Some, length, slice_get};
+ghost use Rattle.result_rules.specs.File.{its_givens};
 
 use crate::edges::step::Step;
-use relationships::{WalkRef, Walks};
-use result_text::{PathLineRef, PathLines};
+use relationships::{Given, WalkRef, Walks};
+use result_text::{PathLineRef, PathLines, ResultFile};
 use tor_arena::{Index, PathId, Rows, WalkId};
 
 /// The path line in a place, from 0, which has to be there. It takes no memory.
@@ -43,5 +44,15 @@ pub(crate) fn walk_at(walks: &Walks, place: usize) -> WalkRef<'_>
     match WalkId::from_place(place) {
         Some(id) => walks.get(id),
         None => unreachable!(),
+    }
+}
+
+/// The givens of a file, which are none where its text is of version 1. It takes no memory.
+pub(crate) fn givens_of(file: &ResultFile) -> &[Given]
+    ensures { result.now ≡ its_givens file.now }
+{
+    match &file.givens {
+        Some(givens) => givens.as_slice(),
+        None => &[],
     }
 }

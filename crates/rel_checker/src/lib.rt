@@ -5,6 +5,7 @@
 mod against;
 mod checking;
 mod edges;
+mod givens;
 mod lending;
 mod line_numbers;
 mod marks;

@@ -3,23 +3,32 @@
 ghost use Rattle.std.specs.Prelude.{◌≡◌, ◌+◌, ◌-◌, ◌*◌, ◌<◌, ◌≤◌, length};
 ghost use Rattle.result_rules.specs.File as said;
 ghost use Rattle.result_text.specs.Numbering as numbering;
-ghost use Rattle.result_rules.specs.File.{most_lines, HasFewLines};
+ghost use Rattle.result_rules.specs.File.{its_givens, most_lines, HasFewLines};
 ghost use Rattle.result_rules.specs.declared.rule.Rule.TheVariants.{MarksBorneOut};
 ghost use Rattle.result_rules.specs.Rules.{line_for};
 
+use crate::lending::givens_of;
 use result_text::ResultFile;
 
-/// Ten lines stand before the paths of every file.
-pub(crate) fn path_line(_file: &ResultFile, place: usize) -> u64
+/// Ten lines stand before the givens of every file.
+pub(crate) fn given_line(_file: &ResultFile, place: usize) -> u64
     requires { place ≤ 2 * most_lines }
-    ensures { result ≡ said.path_line_number _file.now place }
+    ensures { result ≡ said.given_line_number _file.now place }
 {
     11 + place as u64
 }
 
+/// Behind the givens stand the paths.
+pub(crate) fn path_line(file: &ResultFile, place: usize) -> u64
+    requires { length (its_givens file.now) + place ≤ 2 * most_lines }
+    ensures { result ≡ said.path_line_number file.now place }
+{
+    given_line(file, givens_of(file).len()) + place as u64
+}
+
 /// Behind the paths stand the edges.
 pub(crate) fn edge_line(file: &ResultFile, place: usize) -> u64
-    requires { length file.now.paths + place ≤ 2 * most_lines }
+    requires { length (its_givens file.now) + length file.now.paths + place ≤ 2 * most_lines }
     ensures { result ≡ said.edge_line_number file.now place }
 {
     path_line(file, file.paths.len()) + place as u64
@@ -27,7 +36,7 @@ pub(crate) fn edge_line(file: &ResultFile, place: usize) -> u64
 
 /// Behind the edges stand the why lines.
 pub(crate) fn why_line(file: &ResultFile, place: usize) -> u64
-    requires { length file.now.paths + length file.now.edges + place ≤ 2 * most_lines }
+    requires { length (its_givens file.now) + length file.now.paths + length file.now.edges + place ≤ 2 * most_lines }
     ensures { result ≡ said.why_line_number file.now place }
 {
     edge_line(file, file.edges.len()) + place as u64
@@ -35,7 +44,8 @@ pub(crate) fn why_line(file: &ResultFile, place: usize) -> u64
 
 /// Behind the why lines stand the open lines.
 pub(crate) fn open_line(file: &ResultFile, place: usize) -> u64
-    requires { length file.now.paths + length file.now.edges + length file.now.whys + place ≤ 2 * most_lines }
+    requires { length (its_givens file.now) + length file.now.paths + length file.now.edges + length file.now.whys + place ≤
+        2 * most_lines }
     ensures { result ≡ said.open_line file.now place }
 {
     why_line(file, file.whys.len()) + place as u64

@@ -3,19 +3,18 @@ use Rattle.std.proofs.Common.{◌≡◌, ℕ, suc, ◌+◌, ◌-◌, ◌<◌, Li
 use Rattle.std.proofs.lemmas.Option.{slice_get_within}
 use Rattle.std.proofs.lemmas.List.Elements.{All-from_recursion}
 use Rattle.relationships.specs.Checking.{Claim, IsBorneOut, IsProbe, ProbesFrom}
-use Rattle.relationships.specs.Evidence.{paths_of}
 use Rattle.result_text.specs.declared.file.ResultFile.{ResultFile}
 use Rattle.relationships.specs.declared.mark.Probe.{Probe}
-use Rattle.result_rules.specs.File.{claim_on, its_kept, its_claims, its_probes, shown_orders}
+use Rattle.result_rules.specs.File.{claim_on, its_claims, its_probes, shown_orders}
 use Rattle.result_rules.specs.declared.rule.Rule.TheVariants.{MarksBorneOut}
-use Rattle.result_rules.specs.Rules.{IsMet}
+use Rattle.result_rules.specs.Rules.{its_served, IsMet}
 use Rattle.result_rules.proofs.Accepted.{each_at, same_length}
 
 pub marks_are_borne_out : (file : ResultFile) → IsMet file MarksBorneOut →
-    All (IsBorneOut (paths_of (its_kept file)) (shown_orders file.whys) (its_probes file)) (its_claims file)
+    All (IsBorneOut (its_served file) (shown_orders file.whys) (its_probes file)) (its_claims file)
 marks_are_borne_out file met =
-    All-from_recursion (IsBorneOut (paths_of (its_kept file)) (shown_orders file.whys) (its_probes file)) (its_claims file)
-    (each_at (IsBorneOut (paths_of (its_kept file)) (shown_orders file.whys) (its_probes file)) (its_claims file)
+    All-from_recursion (IsBorneOut (its_served file) (shown_orders file.whys) (its_probes file)) (its_claims file)
+    (each_at (IsBorneOut (its_served file) (shown_orders file.whys) (its_probes file)) (its_claims file)
     (λ k claim at. (met k (within k claim at)).0 claim at))
   where
     within : (k : ℕ) (claim : Claim) → slice_get (its_claims file) k ≡ Some claim → k < length file.edges + length file.probes
@@ -35,14 +34,14 @@ module _ (kept : List (List ℕ)) (claims : List Claim) where
         (λ k q at. subst (λ l. IsProbe kept claims l q) (sym (append_assoc earlier (p ∷ []) (take k probes))) (h (suc k) q at)),
   )
 
-pub probes_serve : (file : ResultFile) → IsMet file MarksBorneOut → ProbesFrom (paths_of (its_kept file)) (its_claims file) [] (its_probes file)
-probes_serve file met = probes_from (paths_of (its_kept file)) (its_claims file) [] (its_probes file) each
+pub probes_serve : (file : ResultFile) → IsMet file MarksBorneOut → ProbesFrom (its_served file) (its_claims file) [] (its_probes file)
+probes_serve file met = probes_from (its_served file) (its_claims file) [] (its_probes file) each
   where
-    each : (k : ℕ) (p : ℕ × ℕ) → slice_get (its_probes file) k ≡ Some p → IsProbe (paths_of (its_kept file)) (its_claims file) (take k (its_probes file)) p
+    each : (k : ℕ) (p : ℕ × ℕ) → slice_get (its_probes file) k ≡ Some p → IsProbe (its_served file) (its_claims file) (take k (its_probes file)) p
     each k p at =
         let lt = slice_get_within (its_probes file) k p at in
         let same = same_length {Y = ℕ × ℕ} (λ (q : Probe). (q.over, q.under)) file.probes in
         let back : length file.edges + k - length file.edges ≡ k = omega arith in
         let at_back : slice_get (its_probes file) (length file.edges + k - length file.edges) ≡ Some p = subst (λ n. slice_get (its_probes file) n ≡ Some p) (sym back) at in
-        subst (λ n. IsProbe (paths_of (its_kept file)) (its_claims file) (take n (its_probes file)) p) back
+        subst (λ n. IsProbe (its_served file) (its_claims file) (take n (its_probes file)) p) back
         ((met (length file.edges + k) (omega (arith, lt, same))).1 (omega arith) p at_back)

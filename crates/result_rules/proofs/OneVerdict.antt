@@ -9,20 +9,20 @@ use Rattle.result_text.specs.declared.file.ResultFile.{ResultFile}
 use Rattle.result_rules.specs.declared.verdict.Verdict.{Verdict}
 use Rattle.result_rules.specs.declared.verdict.Verdict.TheVariants.{Yes, No}
 use Rattle.result_rules.specs.declared.rule.Rule.{Rule}
-use Rattle.result_rules.specs.declared.rule.Rule.TheVariants.{RatioBounded, PathsCleaned, PathsDistinct, LostRefuted, EdgesListed}
-use Rattle.result_rules.specs.declared.rule.Rule.TheVariants.{KeptValleyFree, SupportCounted, OrdersShown, MarksBorneOut, TotalsRight}
+use Rattle.result_rules.specs.declared.rule.Rule.TheVariants.{HeadSound, PathsCleaned, PathsDistinct, LostRefuted, EdgesListed}
+use Rattle.result_rules.specs.declared.rule.Rule.TheVariants.{LabelsServe, SupportCounted, OrdersShown, MarksBorneOut, TotalsRight}
 use Rattle.result_rules.specs.Rules.{rule_number, line_for, Accepts, BreaksFirst, IsRefused}
 use Rattle.result_rules.specs.Against.{in_order, line_against, Departs, JudgesAgainst}
 use Rattle.result_rules.specs.Judging.{OneVerdictLaw, OneAgainstLaw}
 
 abbrev numbered : ℕ → Option Rule
 numbered n =
-    if n == 1 then Some RatioBounded
+    if n == 1 then Some HeadSound
     else if n == 2 then Some PathsCleaned
     else if n == 3 then Some PathsDistinct
     else if n == 4 then Some LostRefuted
     else if n == 5 then Some EdgesListed
-    else if n == 6 then Some KeptValleyFree
+    else if n == 6 then Some LabelsServe
     else if n == 7 then Some SupportCounted
     else if n == 8 then Some OrdersShown
     else if n == 9 then Some MarksBorneOut
@@ -30,12 +30,12 @@ numbered n =
     else None
 
 numbered_back : (rule : Rule) → numbered (rule_number rule) ≡ Some rule
-numbered_back RatioBounded = refl
+numbered_back HeadSound = refl
 numbered_back PathsCleaned = refl
 numbered_back PathsDistinct = refl
 numbered_back LostRefuted = refl
 numbered_back EdgesListed = refl
-numbered_back KeptValleyFree = refl
+numbered_back LabelsServe = refl
 numbered_back SupportCounted = refl
 numbered_back OrdersShown = refl
 numbered_back MarksBorneOut = refl

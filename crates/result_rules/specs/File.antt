@@ -5,12 +5,14 @@ use Rattle.relationships.specs.Relationship.{Labelling}
 use Rattle.relationships.specs.Graph.{Edge}
 use Rattle.relationships.specs.Evidence.{Numbered}
 use Rattle.relationships.specs.Checking.{Claim, kept_of, claimed_labels}
+use Rattle.relationships.specs.Givens.{returns}
 use Rattle.relationships.specs.Fates.{walk_of}
 use Rattle.relationships.specs.Marking.{claim_of, orders_of}
 use Rattle.result_text.specs.declared.file.EdgeLine.{EdgeLine}
 use Rattle.result_text.specs.declared.file.PathLine.{PathLine}
 use Rattle.result_text.specs.declared.file.ResultFile.{ResultFile}
 use Rattle.result_text.specs.Numbering as numbering
+pub use Rattle.result_text.specs.Text.{its_givens}
 
 -- ---- paths
 
@@ -20,6 +22,10 @@ its_paths file = map (λ p. p.path) file.paths
 -- the walks that refute them; a kept path has none
 abbrev pub its_walks : ResultFile → List (Option Walk)
 its_walks file = map (λ p. walk_of p.fate) file.paths
+
+-- the returns of those givens whose two are neighbours on the paths
+abbrev pub its_returns : ResultFile → List (List ℕ)
+its_returns file = returns (its_paths file) (its_givens file)
 
 -- the kept paths among the first k, each with its number
 abbrev pub kept_before : ResultFile → ℕ → Numbered
@@ -66,6 +72,9 @@ its_probes file = orders_of file.probes
 
 -- ---- numbers of lines, from 1. The places are from 0
 
+abbrev pub given_line_number : ResultFile → ℕ → ℕ
+given_line_number file k = numbering.given_line file (k + 1)
+
 abbrev pub path_line_number : ResultFile → ℕ → ℕ
 path_line_number file k = numbering.path_line file (k + 1)
 
@@ -84,4 +93,4 @@ most_lines = 2 ^ 40
 
 -- it has no more than that
 abbrev pub HasFewLines : ResultFile → Type 0
-HasFewLines file = length file.paths + length file.edges + length file.whys + length file.probes ≤ most_lines
+HasFewLines file = length (its_givens file) + length file.paths + length file.edges + length file.whys + length file.probes ≤ most_lines

@@ -5,8 +5,8 @@ ghost use Rattle.result_rules.specs.Rules.{rule_number};
 /// The rules about the file alone, in the order in which they are tried.
 #[derive(Clone, Copy)]
 pub enum Rule {
-    /// The ratio is at most 1000000.
-    RatioBounded,
+    /// The ratio is at most 1000000, and each given names two ASes that no earlier one names.
+    HeadSound,
     /// Each path is clean and was seen, and there are not too many paths and numbers.
     PathsCleaned,
     /// No path stands twice.
@@ -15,8 +15,8 @@ pub enum Rule {
     LostRefuted,
     /// The edge lines are the edges of the paths.
     EdgesListed,
-    /// Each kept path is valley-free.
-    KeptValleyFree,
+    /// Each kept path is valley-free under the labels, and these say what the givens say.
+    LabelsServe,
     /// Each support is right.
     SupportCounted,
     /// Each why line shows an order.
@@ -33,12 +33,12 @@ impl Rule {
         ensures { result ≡ rule_number self }
     {
         match self {
-            Rule::RatioBounded => 1,
+            Rule::HeadSound => 1,
             Rule::PathsCleaned => 2,
             Rule::PathsDistinct => 3,
             Rule::LostRefuted => 4,
             Rule::EdgesListed => 5,
-            Rule::KeptValleyFree => 6,
+            Rule::LabelsServe => 6,
             Rule::SupportCounted => 7,
             Rule::OrdersShown => 8,
             Rule::MarksBorneOut => 9,

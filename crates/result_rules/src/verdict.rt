@@ -1,7 +1,7 @@
 //! The verdict on a result.
 
 /// What a checker says of a result.
-#[derive(Clone, Copy, Debug, PartialEq, Eq)]
+#[derive(Clone, Copy, PartialEq, Eq)]
 pub enum Verdict {
     /// Every rule is met.
     Yes,

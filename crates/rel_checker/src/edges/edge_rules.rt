@@ -2,20 +2,21 @@
 ghost use Rattle.std.specs.Prelude.{◌≡◌, ◌↔◌, ◌+◌, ◌<◌, ◌≤◌, ◌++◌, ◌∷◌, [], fold, length, map, slice_get, IsTrue, IfOk, IfNone, OnOk};
 ghost use Rattle.tor_arena.specs.Limits.{most_places, max_numbers};
 ghost use Rattle.relationships.specs.Graph.{edge_of, edges_on, edges};
-ghost use Rattle.relationships.specs.Steps.{end_left};
-ghost use Rattle.result_rules.specs.File.{its_paths, its_edges};
+ghost use Rattle.result_rules.specs.File.{its_paths, its_edges, HasFewLines};
 ghost use Rattle.result_rules.specs.declared.rule.Rule.{Rule};
 ghost use Rattle.rel_checker.specs.PathSteps.{IsCodedStep, AreCodedSteps, HaveCodedSteps};
 ghost use Rattle.result_rules.specs.Rules.{IsMet};
 ghost use Rattle.tor_numbers.specs.Edges.{with_edge};
+ghost use Rattle.rel_checker.specs.GivenLabels.{ServedAt};
+ghost use Rattle.rel_checker.specs.Serving.{First};
 ghost use Rattle.rel_checker.specs.Steps.{FindsBreach};
 
+use crate::edges::given_labels::find_contradicted;
 use crate::edges::labels::Labels;
-use crate::edges::step::Step;
+use crate::edges::step::{Step, end_left};
 use crate::edges::supports::count_kept;
 use crate::edges::valleys::is_served;
-use crate::lending::{path_line_at, steps_at};
-use relationships::End;
+use crate::lending::{givens_of, path_line_at, steps_at};
 use result_text::{EdgeLine, PathLines, ResultFile};
 use std::alloc::Global;
 use tor_arena::{Keys, List, NoMemory, PathId, RowRefused, Rows};
@@ -106,13 +107,6 @@ fn add_step(table: &mut EdgeTable, from: u32, to: u32) -> Result<Step, NoMemory>
     Ok(Step::new(added.place, end_left(from, to)))
 }
 
-/// The end of their edge from which the step from the first AS to the second goes.
-fn end_left(from: u32, to: u32) -> End
-    ensures { result ≡ end_left from to }
-{
-    if from < to { End::Low } else { End::High }
-}
-
 /// The first place in which the edge lines and the edges of the paths differ. It takes no memory.
 pub(crate) fn find_unlisted(file: &ResultFile, table: &EdgeTable) -> Option<usize>
     requires { table.now ≡ edges (its_paths file.now) }
@@ -161,7 +155,7 @@ pub(crate) fn find_miscounted(
 }
 
 /// The first kept path that is not valley-free under the labels. It takes no memory.
-pub(crate) fn find_valley(
+fn find_unserved(
     file: &ResultFile,
     labels: &Labels<'_>,
     steps: &Rows<PathId, Step>,
@@ -170,7 +164,7 @@ pub(crate) fn find_valley(
     requires clean { IsMet file.now Rule.PathsCleaned }
     requires listed { IsMet file.now Rule.EdgesListed }
     requires steps { HaveCodedSteps (its_edges file.now) (its_paths file.now) steps.now }
-    ensures { FindsBreach file.now Rule.KeptValleyFree result }
+    ensures { First (ServedAt file.now) (length file.now.paths) result }
 {
     for place in 0..file.paths.len() {
         let line = path_line_at(&file.paths, place);
@@ -179,4 +173,29 @@ pub(crate) fn find_valley(
         }
     }
     None
+}
+
+/// The first line that the labels don't serve: a kept path with a valley, and where there is none an edge line whose label
+/// contradicts a given, so that the given's return is a valley. The edge lines stand behind the path lines. It takes no memory.
+pub(crate) fn find_valley(
+    file: &ResultFile,
+    table: &EdgeTable,
+    labels: &Labels<'_>,
+    steps: &Rows<PathId, Step>,
+) -> Option<usize>
+    requires lines { HasFewLines file.now }
+    requires table { table.now ≡ its_edges file.now }
+    requires labels { labels.now ≡ file.now.edges }
+    requires clean { IsMet file.now Rule.PathsCleaned }
+    requires listed { IsMet file.now Rule.EdgesListed }
+    requires steps { HaveCodedSteps (its_edges file.now) (its_paths file.now) steps.now }
+    ensures { FindsBreach file.now Rule.LabelsServe result }
+{
+    if let Some(place) = find_unserved(file, labels, steps) {
+        return Some(place);
+    }
+    match find_contradicted(givens_of(file), table, labels) {
+        Some(place) => Some(file.paths.len() + place),
+        None => None,
+    }
 }

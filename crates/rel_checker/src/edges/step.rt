@@ -1,6 +1,7 @@
 //! Steps of paths, as places of edges.
 ghost use Rattle.std.specs.Prelude.{◌≡◌, ◌<◌};
 ghost use Rattle.tor_arena.specs.Limits.{most_places};
+ghost use Rattle.relationships.specs.Steps.{end_left};
 ghost use Rattle.rel_checker.specs.Flipping.{turned};
 ghost use Rattle.rel_checker.specs.PathSteps.{place_in, left_in};
 
@@ -59,4 +60,11 @@ impl Step {
     {
         self.code / 2 * 2 + (1 - self.code % 2)
     }
+}
+
+/// The end of their edge from which the step from the first AS to the second goes.
+pub(crate) fn end_left(from: u32, to: u32) -> End
+    ensures { result ≡ end_left from to }
+{
+    if from < to { End::Low } else { End::High }
 }

@@ -3,20 +3,21 @@
 
 ghost use Rattle.std.specs.Prelude.{◌≡◌, ◌<◌, ◌≤◌, ℕ, ◌∷◌, ◌++◌, [], List as Items, length, OnOk, IfOk};
 ghost use Rattle.tor_arena.specs.Limits.{most_places};
+ghost use Rattle.relationships.specs.Graph.{edges};
 ghost use Rattle.result_rules.specs.File.{its_edges, its_paths};
 ghost use Rattle.rel_checker.specs.Flipping.{climbs, climbs_on, number_of_steps, SameRows, AreNoted, flipped_orders, edges_of, IsBuiltFor};
-ghost use Rattle.rel_checker.specs.Flipping.{with_implied, with_conflicting, with_kept, kept_lines, IsProper};
+ghost use Rattle.rel_checker.specs.Flipping.{with_implied, with_conflicting, with_kept, with_return, returns_on, served_lines, IsProper};
 ghost use Rattle.rel_checker.specs.PathSteps.{place_in, AreCodedSteps, HaveCodedSteps};
 
 use crate::edges::labels::Labels;
-use crate::edges::step::Step;
-use crate::lending::{path_line_at, steps_at};
+use crate::edges::step::{Step, end_left};
+use crate::lending::{givens_of, path_line_at, steps_at};
 use crate::marks::neighbours::Neighbours;
-use relationships::{End, Label};
+use relationships::{End, Given, Label};
 use result_text::{PathLineRef, ResultFile};
 use std::alloc::Global;
 use tor_arena::{EdgeId, Index, Keys, NoMemory, PathId, Rows};
-use tor_numbers::NumberSet;
+use tor_numbers::{EdgeTable, NumberSet};
 
 /// For each edge the edges that it implies, which flip where it does, and those with which it
 /// conflicts, which can't flip where it does.
@@ -175,19 +176,101 @@ impl Flips {
         }
     }
 
-    /// What the kept paths imply and rule out. The keys are those of a hash table, and no answer depends on them.
+    /// Notes what the return of a given rules out, where its two are an edge: that the edge flips, which conflicts with itself.
+    fn note_given(
+        &mut self,
+        labels: &Labels<'_>,
+        noted: &mut NumberSet,
+        table: &EdgeTable,
+        given: &Given,
+    ) -> Result<(), NoMemory>
+        requires few { length labels.now ≤ most_places }
+        requires proper { IsProper (flipped_orders labels.now) }
+        requires table { table.now ≡ edges_of labels.now }
+        requires implied { length self.old.implied ≡ length labels.now }
+        requires conflicting { length self.old.conflicting ≡ length labels.now }
+        requires noted { AreNoted labels.now noted.old self.old.implied self.old.conflicting }
+        ensures implied { OnOk result (length self.new.implied ≡ length labels.now) }
+        ensures conflicting { OnOk result (length self.new.conflicting ≡ length labels.now) }
+        ensures noted { OnOk result (AreNoted labels.now noted.new self.new.implied self.new.conflicting) }
+        ensures built { OnOk result ((paths : Items (Items ℕ)) → IsBuiltFor labels.now paths self.old.implied self.old.conflicting →
+            IsBuiltFor labels.now (with_return (edges_of labels.now) paths given.now) self.new.implied self.new.conflicting) }
+    {
+        let Some(place) = table.place(given.over, given.under) else {
+            return Ok(());
+        };
+        let up = Step::new(place, end_left(given.under, given.over));
+        let down = Step::new(place, end_left(given.over, given.under));
+        let path = [given.under, given.over, given.under];
+        self.note_path(labels, noted, &path, &[up, down])
+    }
+
+    /// Notes what the returns of givens rule out, where nothing was noted.
+    fn note_givens(
+        &mut self,
+        labels: &Labels<'_>,
+        noted: &mut NumberSet,
+        table: &EdgeTable,
+        givens: &[Given],
+    ) -> Result<(), NoMemory>
+        requires few { length labels.now ≤ most_places }
+        requires proper { IsProper (flipped_orders labels.now) }
+        requires table { table.now ≡ edges_of labels.now }
+        requires noted { AreNoted labels.now noted.old self.old.implied self.old.conflicting }
+        requires none { IsBuiltFor labels.now [] self.old.implied self.old.conflicting }
+        ensures noted { OnOk result (AreNoted labels.now noted.new self.new.implied self.new.conflicting) }
+        ensures built { OnOk result
+            (IsBuiltFor labels.now (returns_on (edges_of labels.now) givens.now) self.new.implied self.new.conflicting) }
+    {
+        for given in givens {
+            self.note_given(labels, noted, table, given)?;
+        }
+        Ok(())
+    }
+
+    /// Notes what the kept paths and the givens imply and rule out, where nothing was noted.
+    fn note_file(
+        &mut self,
+        labels: &Labels<'_>,
+        noted: &mut NumberSet,
+        file: &ResultFile,
+        table: &EdgeTable,
+        steps: &Rows<PathId, Step>,
+    ) -> Result<(), NoMemory>
+        requires labels { labels.now ≡ file.now.edges }
+        requires few { length file.now.edges ≤ most_places }
+        requires proper { IsProper (flipped_orders file.now.edges) }
+        requires table { table.now ≡ its_edges file.now }
+        requires whole { its_edges file.now ≡ edges (its_paths file.now) }
+        requires steps { HaveCodedSteps (its_edges file.now) (its_paths file.now) steps.now }
+        requires noted { AreNoted file.now.edges noted.old self.old.implied self.old.conflicting }
+        requires none { IsBuiltFor file.now.edges [] self.old.implied self.old.conflicting }
+        ensures { OnOk result (IsBuiltFor file.now.edges (served_lines file.now) self.new.implied self.new.conflicting) }
+    {
+        self.note_givens(labels, noted, table, givens_of(file))?;
+        for place in 0..file.paths.len() {
+            let line = path_line_at(&file.paths, place);
+            self.note_line(labels, noted, &line, steps_at(steps, place))?;
+        }
+        Ok(())
+    }
+
+    /// What the kept paths and the givens imply and rule out. The keys are those of a hash table, and no answer depends on them.
     pub fn of_file(
         alloc: Global,
         keys: Keys,
         file: &ResultFile,
+        table: &EdgeTable,
         labels: &Labels<'_>,
         steps: &Rows<PathId, Step>,
     ) -> Result<Flips, NoMemory>
         requires labels { labels.now ≡ file.now.edges }
         requires few { length file.now.edges ≤ most_places }
         requires proper { IsProper (flipped_orders file.now.edges) }
+        requires table { table.now ≡ its_edges file.now }
+        requires whole { its_edges file.now ≡ edges (its_paths file.now) }
         requires steps { HaveCodedSteps (its_edges file.now) (its_paths file.now) steps.now }
-        ensures { IfOk result (λ flips. IsBuiltFor file.now.edges (kept_lines file.now.paths) flips.implied flips.conflicting) }
+        ensures { IfOk result (λ flips. IsBuiltFor file.now.edges (served_lines file.now) flips.implied flips.conflicting) }
     {
         let count = file.edges.len();
         let mut flips = Flips {
@@ -195,10 +278,7 @@ impl Flips {
             conflicting: Neighbours::new(alloc, count)?,
         };
         let mut noted = NumberSet::new(alloc, keys);
-        for place in 0..file.paths.len() {
-            let line = path_line_at(&file.paths, place);
-            flips.note_line(labels, &mut noted, &line, steps_at(steps, place))?;
-        }
+        flips.note_file(labels, &mut noted, file, table, steps)?;
         Ok(flips)
     }
 }

@@ -2,6 +2,7 @@
 
 ghost use Rattle.std.specs.Prelude.{◌≡◌, ◌+◌, ◌≤◌, length, IfOk};
 ghost use Rattle.tor_arena.specs.Limits.{most_places};
+ghost use Rattle.relationships.specs.Graph.{edges};
 ghost use Rattle.result_rules.specs.File.{its_edges, its_paths, its_probes, shown_orders, HasFewLines};
 ghost use Rattle.result_rules.specs.declared.rule.Rule.{Rule};
 ghost use Rattle.rel_checker.specs.PathSteps.{HaveCodedSteps};
@@ -40,6 +41,7 @@ fn find_unborne(
     rounds: &Arena<EdgeId, usize>,
 ) -> Option<usize>
     requires few { length file.now.edges ≤ most_places }
+    requires whole { its_edges file.now ≡ edges (its_paths file.now) }
     requires many { length shown.now.items ≡ length file.now.edges }
     requires rounds { length rounds.now.items ≡ length file.now.edges }
     requires shown { IsShownBy file.now.edges (shown_orders file.now.whys) shown.now.items }
@@ -73,10 +75,10 @@ pub(crate) fn find_unmarked(
     requires steps { HaveCodedSteps (its_edges file.now) (its_paths file.now) steps.now }
     requires cleaned { IsMet file.now Rule.PathsCleaned }
     requires listed { IsMet file.now Rule.EdgesListed }
-    requires served { IsMet file.now Rule.KeptValleyFree }
+    requires served { IsMet file.now Rule.LabelsServe }
     ensures { IfOk result (FindsBreach file.now Rule.MarksBorneOut) }
 {
-    let flips = Flips::of_file(alloc, keys, file, labels, steps)?;
+    let flips = Flips::of_file(alloc, keys, file, table, labels, steps)?;
     find_by_flips(alloc, file, table, &flips)
 }
 

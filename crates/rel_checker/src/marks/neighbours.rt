@@ -1,4 +1,4 @@
-//! Which edges stand next to each other on kept paths.
+//! Which edges stand next to each other on kept paths and on returns of givens.
 ghost use Rattle.std.specs.Prelude.{◌≡◌, ◌<◌, ◌≤◌, [], Some, length, replicate, slice_get, OnOk, IfOk};
 ghost use Rattle.tor_arena.specs.Limits.{most_places};
 ghost use Rattle.rel_checker.specs.Neighbours.{with_next};

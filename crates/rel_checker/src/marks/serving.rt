@@ -4,7 +4,7 @@ ghost use Rattle.std.specs.Prelude.{◌≡◌, ◌<◌, ◌≤◌, ◌↔◌, �
 ghost use Rattle.tor_arena.specs.Limits.{most_places};
 ghost use Rattle.result_rules.specs.File.{its_claims, its_probes};
 ghost use Rattle.rel_checker.specs.Searching.{IsRoundClosed};
-ghost use Rattle.rel_checker.specs.Flipping.{flipped, flipped_orders, edges_of, FlipsTo, kept_lines, AreApart};
+ghost use Rattle.rel_checker.specs.Flipping.{flipped, flipped_orders, edges_of, FlipsTo, served_lines, AreApart};
 ghost use Rattle.rel_checker.specs.Serving.{is_wanted, IsWantedAt, Gains, Covers, IsLaidOut, First, GainsAt, first_failing};
 
 use crate::marks::flipping::Flips;
@@ -80,7 +80,7 @@ fn cover_one(
     ensures covered { OnOk result ((earlier : Items (ℕ × ℕ)) → Covers file.now earlier rounds.old.items →
         Covers file.now (earlier ++ (probe.now.over, probe.now.under) ∷ []) rounds.new.items) }
     ensures gains { IfOk result (λ gains. (earlier : Items (ℕ × ℕ)) → Covers file.now earlier rounds.old.items →
-        IsTrue gains ↔ Gains (kept_lines file.now.paths) (its_claims file.now) earlier (probe.now.over, probe.now.under)) }
+        IsTrue gains ↔ Gains (served_lines file.now) (its_claims file.now) earlier (probe.now.over, probe.now.under)) }
 {
     let lines = file.edges.as_slice();
     let Some(start) = start_of(lines, table, probe) else {

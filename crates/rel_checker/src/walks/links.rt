@@ -1,12 +1,15 @@
 //! Whether a link fits.
-ghost use Rattle.std.specs.Prelude.{◌≡◌, ◌<◌, ◌≤◌, ◌↔◌, ℕ, List, Some, IsTrue, Contains, length, take, option_map};
+ghost use Rattle.std.specs.Prelude.{◌≡◌, ◌⊎◌, ◌<◌, ◌≤◌, ◌↔◌, ℕ, List, Some, IsTrue, Contains, length, take, option_map};
 ghost use Rattle.std.specs.Option.{option_copied};
-ghost use Rattle.relationships.specs.Evidence.{StandAt, TripleAt, Fits, IsWalk};
-ghost use Rattle.rel_checker.specs.Naming.{path_if_kept, nameable};
+ghost use Rattle.relationships.specs.declared.given.Given.{Given as Known};
+ghost use Rattle.relationships.specs.Evidence.{StandAt, TripleAt};
+ghost use Rattle.relationships.specs.GivenEvidence.{IsGiven, FitsGiven, IsLinkedWith};
+ghost use Rattle.result_rules.specs.File.{its_givens};
+ghost use Rattle.rel_checker.specs.Naming.{path_if_kept, nameable, FitsOn};
 
-use crate::lending::path_line_at;
-use relationships::{Link, WalkRef};
-use result_text::{PathLineRef, PathLines};
+use crate::lending::{givens_of, path_line_at};
+use relationships::{Given, Link, WalkRef};
+use result_text::{PathLineRef, PathLines, ResultFile};
 
 /// Whether x, y, z stand in the path one behind the other, with y as its `at`-th AS, from 1.
 fn stand_at(path: &[u32], at: usize, x: u32, y: u32, z: u32) -> bool
@@ -76,42 +79,69 @@ fn path_named<'a>(
     kept_path(&path_line_at(lines, place))
 }
 
-/// Whether the link names one of these paths, and where on it x, y, z are a triple.
-fn link_fits<'a>(
-    lines: &'a PathLines,
-    count: usize,
-    next: Option<&PathLineRef<'a>>,
-    link: &Link,
-    x: u32,
-    y: u32,
-    z: u32,
-) -> bool
-    requires { count ≤ length lines.now }
-    ensures { IsTrue result ↔ Fits (nameable (take count lines.now) (option_copied next.entry)) link.now x y z }
+/// The given that has this number, from 1.
+fn given_named(givens: &[Given], number: u32) -> Option<Given>
+    ensures { (g : Known) → IsGiven givens.now number g ↔ result ≡ Some g }
 {
-    match path_named(lines, count, next, link.path) {
+    if number == 0 {
+        return None;
+    }
+    givens.get(number as usize - 1).copied()
+}
+
+/// Whether x, y, z are the customer of the given, its provider, and the customer again.
+fn is_return(given: &Given, x: u32, y: u32, z: u32) -> bool
+    ensures { IsTrue result ↔ ((x ≡ given.now.under) × (y ≡ given.now.over) × (z ≡ given.now.under)) }
+{
+    x == given.under && y == given.over && z == given.under
+}
+
+/// Whether the link names a given, with path 0, whose return is x, y, z.
+fn fits_given(givens: &[Given], link: &Link, x: u32, y: u32, z: u32) -> bool
+    ensures { IsTrue result ↔ FitsGiven givens.now link.now x y z }
+{
+    if link.path != 0 {
+        return false;
+    }
+    match given_named(givens, link.at) {
+        Some(given) => is_return(&given, x, y, z),
+        None => false,
+    }
+}
+
+/// Whether the link fits x, y, z as the name of a given, or on the path that it names, if there is one.
+fn link_fits(givens: &[Given], path: Option<&[u32]>, link: &Link, x: u32, y: u32, z: u32) -> bool
+    ensures { IsTrue result ↔ FitsGiven givens.now link.now x y z ⊎ FitsOn (option_copied path.entry) link.now.at x y z }
+{
+    if fits_given(givens, link, x, y, z) {
+        return true;
+    }
+    match path {
         Some(path) => fits(path, link.at as usize, x, y, z),
         None => false,
     }
 }
 
-/// Whether it is a walk over the paths of the kept lines among the first ones and that of the line behind them.
+/// Whether it is a walk over the givens, the paths of the kept lines among the first ones, and that of the line behind them.
 pub(crate) fn is_walk<'a>(
-    lines: &'a PathLines,
+    file: &'a ResultFile,
     count: usize,
     next: Option<&PathLineRef<'a>>,
     walk: &WalkRef<'_>,
 ) -> bool
-    requires { count ≤ length lines.now }
-    ensures { IsTrue result ↔ IsWalk (nameable (take count lines.now) (option_copied next.entry)) walk.now }
+    requires { count ≤ length file.now.paths }
+    ensures { IsTrue result ↔ IsLinkedWith (its_givens file.now) (nameable (take count file.now.paths) (option_copied next.entry))
+        walk.now.ases walk.now.links }
 {
     let ases = walk.ases();
     let links = walk.links();
     if ases.len() != links.len() + 2 {
         return false;
     }
+    let givens = givens_of(file);
     for (i, link) in links.iter().enumerate() {
-        if !link_fits(lines, count, next, link, ases[i], ases[i + 1], ases[i + 2]) {
+        let path = path_named(&file.paths, count, next, link.path);
+        if !link_fits(givens, path, link, ases[i], ases[i + 1], ases[i + 2]) {
             return false;
         }
     }

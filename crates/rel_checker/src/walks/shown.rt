@@ -1,14 +1,13 @@
 //! What a walk shows.
 ghost use Rattle.std.specs.Prelude.{◌≡◌, ◌↔◌, ℕ, [], ◌∷◌, None, IsTrue, IfSome, IfNone, MatchOption, Contains, ◌⊎◌};
-ghost use Rattle.relationships.specs.Evidence.{Shows};
-ghost use Rattle.result_rules.specs.File.{last_two};
-ghost use Rattle.result_rules.specs.File.{kept_among};
+ghost use Rattle.relationships.specs.GivenEvidence.{ShowsWith};
+ghost use Rattle.result_rules.specs.File.{last_two, its_givens, its_kept};
 ghost use Rattle.rel_checker.specs.Showing.{Starts};
 
 use crate::walks::links::is_walk;
 use crate::walks::pairs::Pairs;
 use relationships::WalkRef;
-use result_text::PathLines;
+use result_text::ResultFile;
 
 /// The order that a walk shows: its last two ASes. It takes no memory.
 pub(crate) fn last_two(ases: &[u32]) -> Option<(u32, u32)>
@@ -40,10 +39,10 @@ fn is_known(shown: &Pairs, over: u32, under: u32) -> bool
     shown.has(over, under) || shown.has(under, over)
 }
 
-/// The order that the walk shows over the paths of the kept lines, if it shows one that is new.
-pub(crate) fn shown_by(lines: &PathLines, shown: &Pairs, walk: &WalkRef<'_>) -> Option<(u32, u32)>
-    ensures some { IfSome result (λ order. Shows (kept_among lines.now) shown.now walk.now order.0 order.1) }
-    ensures none { IfNone result ((a b : ℕ) → Shows (kept_among lines.now) shown.now walk.now a b → ⊥) }
+/// The order that the walk shows by the givens over the kept paths, if it shows one that is new.
+pub(crate) fn shown_by(file: &ResultFile, shown: &Pairs, walk: &WalkRef<'_>) -> Option<(u32, u32)>
+    ensures some { IfSome result (λ order. ShowsWith (its_givens file.now) (its_kept file.now) shown.now walk.now order.0 order.1) }
+    ensures none { IfNone result ((a b : ℕ) → ShowsWith (its_givens file.now) (its_kept file.now) shown.now walk.now a b → ⊥) }
 {
     let ases = walk.ases();
     let Some((over, under)) = last_two(ases) else {
@@ -55,7 +54,7 @@ pub(crate) fn shown_by(lines: &PathLines, shown: &Pairs, walk: &WalkRef<'_>) -> 
     if is_known(shown, over, under) {
         return None;
     }
-    if !is_walk(lines, lines.len(), None, walk) {
+    if !is_walk(file, file.paths.len(), None, walk) {
         return None;
     }
     Some((over, under))

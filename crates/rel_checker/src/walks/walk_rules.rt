@@ -1,9 +1,10 @@
 //! The rules on walks.
 ghost use Rattle.std.specs.Prelude.{◌≡◌, ◌≤◌, ◌↔◌, IsTrue, Some, IfOk, length, take};
 ghost use Rattle.relationships.specs.declared.walk.Walk.{Walk};
-ghost use Rattle.relationships.specs.Evidence.{Refutes};
+ghost use Rattle.relationships.specs.GivenEvidence.{RefutesWith};
 ghost use Rattle.relationships.specs.declared.fate.Fate.TheVariants.{Lost};
 ghost use Rattle.rel_checker.specs.Naming.{nameable};
+ghost use Rattle.result_rules.specs.File.{its_givens};
 ghost use Rattle.result_rules.specs.declared.rule.Rule.TheVariants.{LostRefuted, OrdersShown};
 ghost use Rattle.rel_checker.specs.Steps.{FindsBreach};
 
@@ -13,27 +14,27 @@ use crate::walks::links::is_walk;
 use crate::walks::pairs::Pairs;
 use crate::walks::shown::shown_by;
 use relationships::WalkRef;
-use result_text::{PathLineRef, PathLines, ResultFile};
+use result_text::{PathLineRef, ResultFile};
 use std::alloc::Global;
 use tor_arena::{Keys, NoMemory};
 
-/// Whether the walk refutes over the paths of the kept lines before a place and of the line in it.
-fn refutes(lines: &PathLines, place: usize, line: &PathLineRef<'_>, walk: &WalkRef<'_>) -> bool
-    requires { place ≤ length lines.now }
-    ensures { IsTrue result ↔ Refutes (nameable (take place lines.now) (Some line.now)) walk.now }
+/// Whether the walk refutes by the givens over the paths of the kept lines before a place and of the line in it.
+fn refutes(file: &ResultFile, place: usize, line: &PathLineRef<'_>, walk: &WalkRef<'_>) -> bool
+    requires { place ≤ length file.now.paths }
+    ensures { IsTrue result ↔ RefutesWith (its_givens file.now) (nameable (take place file.now.paths) (Some line.now)) walk.now }
 {
-    comes_back(walk.ases()) && is_walk(lines, place, Some(line), walk)
+    comes_back(walk.ases()) && is_walk(file, place, Some(line), walk)
 }
 
-/// Whether the line in a place is kept, or its walk refutes over the paths of the kept lines before it and its own.
-fn is_lost_rightly(lines: &PathLines, place: usize, line: &PathLineRef<'_>) -> bool
-    requires { place ≤ length lines.now }
+/// Whether the line in a place is kept, or its walk refutes by the givens over the paths of the kept lines before it and its own.
+fn is_lost_rightly(file: &ResultFile, place: usize, line: &PathLineRef<'_>) -> bool
+    requires { place ≤ length file.now.paths }
     ensures { IsTrue result ↔ ((walk : Walk) → line.now.fate ≡ Lost walk →
-        Refutes (nameable (take place lines.now) (Some line.now)) walk) }
+        RefutesWith (its_givens file.now) (nameable (take place file.now.paths) (Some line.now)) walk) }
 {
     match line.walk() {
         None => true,
-        Some(walk) => refutes(lines, place, line, walk),
+        Some(walk) => refutes(file, place, line, walk),
     }
 }
 
@@ -43,7 +44,7 @@ pub(crate) fn find_unrefuted(file: &ResultFile) -> Option<usize>
 {
     for place in 0..file.paths.len() {
         let line = path_line_at(&file.paths, place);
-        if !is_lost_rightly(&file.paths, place, &line) {
+        if !is_lost_rightly(file, place, &line) {
             return Some(place);
         }
     }
@@ -61,7 +62,7 @@ pub(crate) fn find_unshown(
     let mut shown = Pairs::new(alloc, keys);
     for place in 0..file.whys.len() {
         let walk = walk_at(&file.whys, place);
-        let Some((over, under)) = shown_by(&file.paths, &shown, &walk) else {
+        let Some((over, under)) = shown_by(file, &shown, &walk) else {
             return Ok(Some(place));
         };
         shown.push(over, under)?;

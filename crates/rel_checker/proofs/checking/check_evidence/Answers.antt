@@ -1,5 +1,5 @@
 use Rattle.std.proofs.Common.{refl, sym, arith, subst, ◌∙◌}
-use Rattle.result_rules.specs.declared.rule.Rule.TheVariants.{PathsCleaned, EdgesListed, KeptValleyFree, OrdersShown, MarksBorneOut}
+use Rattle.result_rules.specs.declared.rule.Rule.TheVariants.{PathsCleaned, EdgesListed, LabelsServe, OrdersShown, MarksBorneOut}
 use Rattle.result_rules.specs.File.{its_paths}
 use Rattle.rel_checker.specs.PathSteps.{HaveCodedSteps}
 use Rattle.result_rules.proofs.Accepted.{edges_listed}
@@ -13,7 +13,7 @@ pub find_unmarked-requires-clause-listed : goal.find_unmarked-requires-clause-li
 find_unmarked-requires-clause-listed c = c.requires.met EdgesListed (omega arith)
 
 pub find_unmarked-requires-clause-served : goal.find_unmarked-requires-clause-served
-find_unmarked-requires-clause-served c = c.requires.met KeptValleyFree (omega arith)
+find_unmarked-requires-clause-served c = c.requires.met LabelsServe (omega arith)
 
 pub find_unmarked-requires-clause-table : goal.find_unmarked-requires-clause-table
 find_unmarked-requires-clause-table c = c.requires.table ∙ sym (edges_listed c.args.file.now (c.requires.met EdgesListed (omega arith)))

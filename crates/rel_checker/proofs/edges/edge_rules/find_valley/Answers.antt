@@ -1,40 +1,23 @@
-use Rattle.std.proofs.Common.{arith, subst, sym}
-use Rattle.std.proofs.lemmas.Bool.{both_ways}
-use Rattle.tor_arena.specs.Distinct.{AllDistinct}
-use Rattle.result_rules.specs.File.{its_edges}
-use Rattle.rel_checker.specs.Flipping.{AreApart, edges_of}
-use Rattle.rel_checker.specs.PathSteps.{AreCodedSteps}
-use Rattle.tor_arena.proofs.Gets.{All-get}
-use Rattle.rel_checker.proofs.Lines.{line-here}
-use Rattle.rel_checker.proofs.Settled.{edges_apart, lines_distinct}
-use Rattle.rel_checker.proofs.StepLemmas.{many_rows, steps-here}
-use Rattle.rel_checker.proofs.ValleyLemmas.{valley-first, valley-more}
+use Rattle.std.proofs.Common.{◌+◌, Some, None, length, subst, sym, ap}
+use Rattle.rel_checker.specs.Flipping.{AreApart}
+use Rattle.rel_checker.specs.GivenLabels.{HasLabelsAt}
+use Rattle.rel_checker.specs.Serving.{First}
+use Rattle.rel_checker.proofs.Settled.{edges_apart}
+use Rattle.rel_checker.proofs.GivenPlaces.{all_serve, label_fails}
 use Rattle.rel_checker.proofs.edges.edge_rules.find_valley.Goals as goal
 
-pub steps_at-requires : goal.steps_at-requires
-steps_at-requires c =
+pub find_contradicted-requires-clause-apart : goal.find_contradicted-requires-clause-apart
+find_contradicted-requires-clause-apart c = subst AreApart (sym c.requires.labels) (edges_apart c.args.file.now c.requires.clean c.requires.listed)
+
+pub returns-in-Some-find_contradicted : goal.returns-in-Some-find_contradicted
+returns-in-Some-find_contradicted c =
     let file = c.args.file.now in
-    omega (arith, many_rows file (its_edges file) c.args.steps.now c.requires.steps, c.loop-place-test.true, c.len-place-end.ensures.length)
+    let j = c.in-Some-find_contradicted.place in
+    label_fails file (c.len.result + j) j (ap (λ n. n + j) c.len.ensures.length) c.in_default.ensures
+    (subst (λ gs. First (HasLabelsAt file.edges gs) (length file.edges) (Some j)) c.givens_of.ensures (rw c.requires.labels at c.in-Some-find_contradicted.ensures))
 
-pub is_served-requires : goal.is_served-requires
-is_served-requires c =
+pub returns-in-None : goal.returns-in-None
+returns-in-None c =
     let file = c.args.file.now in
-    let line = c.path_line_at-line.result in
-    record {
-      apart = subst AreApart (sym c.requires.labels) (edges_apart file c.requires.clean c.requires.listed);
-      distinct = All-get (λ line. AllDistinct line.path) file.paths c.loop-place.place line (lines_distinct file c.requires.clean) c.path_line_at-line.ensures;
-      steps = subst (λ ls. AreCodedSteps (edges_of ls) line.path c.steps_at.result.now) (sym c.requires.labels)
-          (steps-here file (its_edges file) c.args.steps.now c.loop-place.place line c.steps_at.result.now c.requires.steps c.path_line_at-line.ensures c.steps_at.ensures);
-    }
-
-pub returns-then-not-is_served : goal.returns-then-not-is_served
-returns-then-not-is_served c =
-    let l = line-here c.args.file.now c.loop-place.place c.path_line_at-line.result c.path_line_at-line.ensures in
-    valley-first c.args.file.now c.args.labels.now c.loop-place.place c.path_line_at-line.result c.requires.labels c.loop-place.invariant l
-    (λ served. both_ways c.is_served.result c.if-not-is_served.true (c.is_served.ensures.1 served))
-
-pub loop-place-preserved : goal.loop-place-preserved
-loop-place-preserved c =
-    let l = line-here c.args.file.now c.loop-place.place c.path_line_at-line.result c.path_line_at-line.ensures in
-    valley-more c.args.file.now c.args.labels.now c.loop-place.place c.path_line_at-line.result c.requires.labels c.loop-place.invariant l
-    (c.is_served.ensures.0 c.if-not-is_served.false)
+    all_serve file c.in_default.ensures
+    (subst (λ gs. First (HasLabelsAt file.edges gs) (length file.edges) None) c.givens_of.ensures (rw c.requires.labels at c.in-None.ensures))

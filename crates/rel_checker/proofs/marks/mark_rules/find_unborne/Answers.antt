@@ -17,7 +17,7 @@ returns-then-not-is_borne_out c =
     let at = read_of c.as_slice-line-items.result.now file.edges k _ c.as_slice-line-items.ensures c.loop-k-test.true in
     let at_round = subst (λ i. slice_get c.args.rounds.now.items i ≡ Some c.get.result.now) edge c.get.ensures in
     let at_shown = subst (λ i. slice_get c.args.shown.now.items i ≡ Some c.get-in-loop-k.result.now) edge c.get-in-loop-k.ensures in
-    let exact = marked_at file c.args.rounds.now.items c.args.shown.now.items k c.get.result.now _ c.get-in-loop-k.result.now (nat_eq c.get.result.now 1) at at_shown at_round
+    let exact = marked_at file c.requires.whole c.args.rounds.now.items c.args.shown.now.items k c.get.result.now _ c.get-in-loop-k.result.now (nat_eq c.get.result.now 1) at at_shown at_round
     (is_one c.get.result.now) c.requires.shown c.requires.covered in (
       omega (arith, c.loop-k-test.true, ap length c.as_slice-line-items.ensures),
       λ m. false≢true (sym c.if-not-is_borne_out.true ∙ c.is_borne_out.ensures ∙ exact.1 m),
@@ -32,6 +32,6 @@ loop-k-preserved c =
     let at = read_of c.as_slice-line-items.result.now file.edges k _ c.as_slice-line-items.ensures c.loop-k-test.true in
     let at_round = subst (λ i. slice_get c.args.rounds.now.items i ≡ Some c.get.result.now) edge c.get.ensures in
     let at_shown = subst (λ i. slice_get c.args.shown.now.items i ≡ Some c.get-in-loop-k.result.now) edge c.get-in-loop-k.ensures in
-    let exact = marked_at file c.args.rounds.now.items c.args.shown.now.items k c.get.result.now _ c.get-in-loop-k.result.now (nat_eq c.get.result.now 1) at at_shown at_round
+    let exact = marked_at file c.requires.whole c.args.rounds.now.items c.args.shown.now.items k c.get.result.now _ c.get-in-loop-k.result.now (nat_eq c.get.result.now 1) at at_shown at_round
     (is_one c.get.result.now) c.requires.shown c.requires.covered in
     below_and (MarkedAt file) k c.loop-k.invariant (exact.0 (sym c.is_borne_out.ensures ∙ c.if-not-is_borne_out.false))

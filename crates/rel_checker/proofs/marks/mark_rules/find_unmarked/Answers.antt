@@ -1,5 +1,5 @@
 use Rattle.rel_checker.proofs.OrderPlaces.{proper}
-use Rattle.rel_checker.proofs.Settled.{edges_few, edges_apart, laid}
+use Rattle.rel_checker.proofs.Settled.{edges_few, edges_apart, its_edges_are, laid}
 use Rattle.rel_checker.proofs.marks.mark_rules.find_unmarked.Goals as goal
 
 pub of_file-requires-clause-few : goal.of_file-requires-clause-few
@@ -7,6 +7,9 @@ of_file-requires-clause-few c = edges_few c.args.file.now c.requires.cleaned c.r
 
 pub of_file-requires-clause-proper : goal.of_file-requires-clause-proper
 of_file-requires-clause-proper c = proper c.args.file.now.edges (edges_apart c.args.file.now c.requires.cleaned c.requires.listed)
+
+pub of_file-requires-clause-whole : goal.of_file-requires-clause-whole
+of_file-requires-clause-whole c = its_edges_are c.args.file.now c.requires.cleaned c.requires.listed
 
 pub find_by_flips-requires-clause-laid : goal.find_by_flips-requires-clause-laid
 find_by_flips-requires-clause-laid c =

@@ -1,7 +1,7 @@
 use Rattle.std.proofs.Common.{◌≡◌, length, take}
 use Rattle.result_rules.specs.File.{its_probes}
 use Rattle.rel_checker.specs.Searching.{IsRoundClosed}
-use Rattle.rel_checker.specs.Flipping.{flipped_orders, kept_lines}
+use Rattle.rel_checker.specs.Flipping.{flipped_orders, served_lines}
 use Rattle.rel_checker.specs.Serving.{IsCovered, First, GainsAt}
 use Rattle.rel_checker.proofs.marks.serving.cover_all.Given as goal
 
@@ -9,6 +9,6 @@ abbrev pub invariant-loop-k : goal.invariant-loop-k
 invariant-loop-k l = record {
   many : length l.rounds.items ≡ length l.file.edges;
   closed : IsRoundClosed l.flips.implied l.rounds.items 1;
-  covered : IsCovered (kept_lines l.file.paths) (flipped_orders l.file.edges) (take l.k (its_probes l.file)) l.rounds.items 1;
+  covered : IsCovered (served_lines l.file) (flipped_orders l.file.edges) (take l.k (its_probes l.file)) l.rounds.items 1;
   idle : First (GainsAt l.file) l.k l.idle;
 }

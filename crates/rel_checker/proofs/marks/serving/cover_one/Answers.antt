@@ -3,7 +3,7 @@ use Rattle.std.proofs.lemmas.Bool.{false≢true}
 use Rattle.std.proofs.lemmas.List.Elements.{Contains-get_or}
 use Rattle.std.proofs.lemmas.Option.{slice_get_within}
 use Rattle.relationships.specs.Evidence.{IsTriple}
-use Rattle.rel_checker.specs.Flipping.{flipped_orders, kept_lines}
+use Rattle.rel_checker.specs.Flipping.{flipped_orders, served_lines}
 use Rattle.rel_checker.proofs.Buildings.{inside_implied, flipping_within}
 use Rattle.rel_checker.proofs.Rounds.{closed-reach}
 use Rattle.rel_checker.proofs.Servings.{covered-none, covered-more, gains_of, finds_of, gains_flipped}
@@ -12,26 +12,26 @@ use Rattle.rel_checker.proofs.marks.serving.cover_one.Goals as goal
 pub returns-in_default-clause-covered : goal.returns-in_default-clause-covered
 returns-in_default-clause-covered c = λ earlier covered.
     let lines = c.args.file.now.edges in
-    covered-none lines (kept_lines c.args.file.now.paths) c.args.flips.now.implied c.args.flips.now.conflicting c.requires.laid.built c.requires.laid.proper c.requires.laid.settled
+    covered-none lines (served_lines c.args.file.now) c.args.flips.now.implied c.args.flips.now.conflicting c.requires.laid.built c.requires.laid.proper c.requires.laid.settled
     earlier (c.args.probe.now.over, c.args.probe.now.under) c.args.rounds.now.items 1 (rw c.as_slice-lines.ensures at c.in_default.ensures) covered
 
 pub returns-in_default-clause-gains : goal.returns-in_default-clause-gains
 returns-in_default-clause-gains c = λ earlier covered.
     let lines = c.args.file.now.edges in (
       λ t. absurd (false≢true t),
-      λ g. absurd (gains_flipped lines (kept_lines c.args.file.now.paths) c.args.flips.now.implied c.args.flips.now.conflicting c.requires.laid.built c.requires.laid.proper c.requires.laid.settled
+      λ g. absurd (gains_flipped lines (served_lines c.args.file.now) c.args.flips.now.implied c.args.flips.now.conflicting c.requires.laid.built c.requires.laid.proper c.requires.laid.settled
           earlier (c.args.probe.now.over, c.args.probe.now.under) (rw c.as_slice-lines.ensures at c.in_default.ensures) g),
     )
 
 pub reach-requires-clause-start : goal.reach-requires-clause-start
 reach-requires-clause-start c =
-    flipping_within (flipped_orders c.args.file.now.edges) (IsTriple (kept_lines c.args.file.now.paths)) c.args.flips.now.implied c.args.flips.now.conflicting c.in-Some.start
+    flipping_within (flipped_orders c.args.file.now.edges) (IsTriple (served_lines c.args.file.now)) c.args.flips.now.implied c.args.flips.now.conflicting c.in-Some.start
     c.args.probe.now.over c.args.probe.now.under
     c.requires.laid.built (rw c.as_slice-lines.ensures at c.in-Some.ensures)
 
 pub reach-requires-clause-inside : goal.reach-requires-clause-inside
 reach-requires-clause-inside c =
-    inside_implied (flipped_orders c.args.file.now.edges) (IsTriple (kept_lines c.args.file.now.paths)) c.args.flips.now.implied c.args.flips.now.conflicting c.requires.laid.built
+    inside_implied (flipped_orders c.args.file.now.edges) (IsTriple (served_lines c.args.file.now)) c.args.flips.now.implied c.args.flips.now.conflicting c.requires.laid.built
 
 pub has_open-requires : goal.has_open-requires
 has_open-requires c = λ k d lt.
@@ -47,7 +47,7 @@ returns-clause-closed c =
 pub returns-clause-covered : goal.returns-clause-covered
 returns-clause-covered c = λ earlier covered.
     let lines = c.args.file.now.edges in
-    covered-more lines (kept_lines c.args.file.now.paths) c.args.flips.now.implied c.args.flips.now.conflicting c.requires.laid.built c.requires.laid.proper c.requires.laid.settled
+    covered-more lines (served_lines c.args.file.now) c.args.flips.now.implied c.args.flips.now.conflicting c.requires.laid.built c.requires.laid.proper c.requires.laid.settled
     earlier (c.args.probe.now.over, c.args.probe.now.under) c.in-Some.start 1 c.args.rounds.now.items c.reach.new.rounds.items c.reach.new.found
     (rw c.as_slice-lines.ensures at c.in-Some.ensures) c.in_ok-reach.ensures covered
 
@@ -56,8 +56,8 @@ returns-clause-gains c = λ earlier covered.
     let lines = c.args.file.now.edges in
     let flips = rw c.as_slice-lines.ensures at c.in-Some.ensures in
     let has = rw (c.as_slice-lines.ensures, c.as_slice.ensures) at c.has_open.ensures in (
-      λ t. gains_of lines (kept_lines c.args.file.now.paths) c.args.flips.now.implied c.args.flips.now.conflicting c.requires.laid.built c.requires.laid.proper c.requires.laid.settled
+      λ t. gains_of lines (served_lines c.args.file.now) c.args.flips.now.implied c.args.flips.now.conflicting c.requires.laid.built c.requires.laid.proper c.requires.laid.settled
           earlier (c.args.probe.now.over, c.args.probe.now.under) c.in-Some.start 1 c.args.rounds.now.items c.reach.new.rounds.items c.reach.new.found flips c.in_ok-reach.ensures covered (has.0 t),
-      λ g. has.1 (finds_of lines (kept_lines c.args.file.now.paths) c.args.flips.now.implied c.args.flips.now.conflicting c.requires.laid.built c.requires.laid.proper c.requires.laid.settled
+      λ g. has.1 (finds_of lines (served_lines c.args.file.now) c.args.flips.now.implied c.args.flips.now.conflicting c.requires.laid.built c.requires.laid.proper c.requires.laid.settled
           earlier (c.args.probe.now.over, c.args.probe.now.under) c.in-Some.start 1 c.args.rounds.now.items c.reach.new.rounds.items c.reach.new.found flips c.in_ok-reach.ensures covered g),
     )

@@ -1,5 +1,5 @@
-use Rattle.relationships.specs.Evidence.{Shows}
-use Rattle.result_rules.specs.File.{kept_among}
+use Rattle.relationships.specs.GivenEvidence.{ShowsWith}
+use Rattle.result_rules.specs.File.{its_givens, its_kept}
 use Rattle.result_rules.specs.declared.rule.Rule.TheVariants.{OrdersShown}
 use Rattle.rel_checker.proofs.Passing.{asks_more}
 use Rattle.rel_checker.proofs.ShownOrders.{orders_more, asks_shown}
@@ -17,7 +17,7 @@ returns-in_default c =
 pub loop-place-preserved : goal.loop-place-preserved
 loop-place-preserved c =
     let k = asks_shown c.args.file.now c.loop-place.place c.walk_at-walk.result c.walk_at-walk.ensures c.loop-place.shown c.loop-place.invariant.orders in
-    let shows : Shows (kept_among c.args.file.now.paths) c.loop-place.shown c.walk_at-walk.result c.in-Some.over c.in-Some.under = c.in-Some.ensures.some in
+    let shows : ShowsWith (its_givens c.args.file.now) (its_kept c.args.file.now) c.loop-place.shown c.walk_at-walk.result c.in-Some.over c.in-Some.under = c.in-Some.ensures.some in
     record {
       met = asks_more c.args.file.now OrdersShown c.loop-place.place c.loop-place.invariant.met (k.1.0 (c.in-Some.over, c.in-Some.under, shows));
       orders = orders_more c.args.file.now c.loop-place.place c.walk_at-walk.result c.walk_at-walk.ensures c.loop-place.shown c.push.new.self c.in-Some.over c.in-Some.under

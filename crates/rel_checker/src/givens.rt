@@ -1,0 +1,31 @@
+//! Rule 1 on given lines.
+ghost use Rattle.std.specs.Prelude.{length, IfOk};
+ghost use Rattle.result_rules.specs.File.{its_givens};
+ghost use Rattle.rel_checker.specs.GivenHeads.{IsNewAt};
+ghost use Rattle.rel_checker.specs.Serving.{First};
+
+use crate::lending::givens_of;
+use result_text::ResultFile;
+use std::alloc::Global;
+use tor_arena::{Keys, NoMemory};
+use tor_numbers::EdgeTable;
+
+/// The place of the first given line that names one AS twice, or the two ASes of an earlier one.
+pub(crate) fn find_unsound_given(
+    alloc: Global,
+    keys: Keys,
+    file: &ResultFile,
+) -> Result<Option<usize>, NoMemory>
+    ensures { IfOk result (First (IsNewAt file.now) (length (its_givens file.now))) }
+{
+    let mut table = EdgeTable::new(alloc, keys);
+    for (place, given) in givens_of(file).iter().enumerate() {
+        if given.over == given.under {
+            return Ok(Some(place));
+        }
+        if !table.add(given.over, given.under)?.is_new {
+            return Ok(Some(place));
+        }
+    }
+    Ok(None)
+}
