@@ -9,8 +9,9 @@ use Rattle.relationships.proofs.Checked.{kept_all}
 use Rattle.as_graph.specs.Paths.{path_at, paths_at}
 use Rattle.tor_clauses.specs.Formulas.{numbered}
 use Rattle.tor_clauses.proofs.Exacts.{numbered_paths}
-use Rattle.rel_infer.specs.Returns.{places_from}
-use Rattle.rel_infer.proofs.ReturnRows.{numbers_below, places_all, places_apart}
+use Rattle.path_select.specs.Behind.{places_from}
+use Rattle.path_select.proofs.BehindLemmas.{places_all}
+use Rattle.rel_infer.proofs.ReturnRows.{numbers_below, places_apart}
 
 -- the numbers begin with that of the first path, and rise
 

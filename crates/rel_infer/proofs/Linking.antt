@@ -19,14 +19,16 @@ use Rattle.result_rules.specs.File.{claim_on}
 use Rattle.as_graph.specs.Paths.{paths_at}
 use Rattle.tor_clauses.specs.Formulas.{numbered}
 use Rattle.tor_clauses.proofs.Exacts.{numbered_paths}
+use Rattle.path_select.specs.Behind.{places_from}
+use Rattle.path_select.proofs.BehindLemmas.{rows_behind}
 use Rattle.rel_infer.specs.declared.inferring.Inferred.{Inferred}
 use Rattle.rel_infer.specs.Finding.{AreInferredIn}
 use Rattle.rel_infer.specs.GivenResults.{IsInferredWith, PeerEitherWayWith, LeaveNoneOutWith}
 use Rattle.rel_infer.specs.Inference.{AreInferredWith}
-use Rattle.rel_infer.specs.Returns.{places_from, numbers_from, IsUnlinked, IsRelinked, IsLinked}
+use Rattle.rel_infer.specs.Returns.{numbers_from, IsUnlinked, IsRelinked, IsLinked}
 use Rattle.rel_infer.proofs.KeptPlaces.{keeps_many}
 use Rattle.rel_infer.proofs.Relinked.{still_lost}
-use Rattle.rel_infer.proofs.ReturnRows.{rows_behind, are_rows, take_front, numbers_below}
+use Rattle.rel_infer.proofs.ReturnRows.{are_rows, take_front, numbers_below}
 use Rattle.rel_infer.proofs.Together.{inferred, either_way, none_left_out, lost_in, marks_in, kept_among, claims_on}
 
 -- ---- a graph of paths and, behind these, the returns

@@ -1,5 +1,5 @@
 -- What is inferred under givens is determined, but for the evidence.
-use Rattle.std.proofs.Common.{◌≡◌, ◌≢◌, ◌↔◌, ℕ, List, ◌++◌, map, filter, is_none, sym, ap, ◌∙◌, subst, All, Contains, IsTrue}
+use Rattle.std.proofs.Common.{◌≡◌, ◌≢◌, ◌↔◌, ℕ, List, [], ◌++◌, unwrap_or, map, filter, is_none, sym, ap, ◌∙◌, subst, All, Contains, IsTrue}
 use Rattle.std.specs.List.{AllPairs}
 use Rattle.std.proofs.lemmas.List.Elements.{All-contains, All-append}
 use Rattle.relationships.specs.declared.given.Given.{Given}
@@ -25,7 +25,7 @@ use Rattle.rel_infer.specs.GivenLaws.{GivenInferenceLaw, GivenResultLaw}
 use Rattle.rel_infer.proofs.OneResult.{one_settling, one_orientation, one_relabelling, one_list, kept_edge, labels_by, paths_in, same_totals}
 
 -- labels with the givens are labels by votes and by what is served
-labels_behind : (givens : List Given) (ratio : ℕ) (paths kept : List (List ℕ)) (L : Labelling) → ((e : Edge) → Contains (edges kept) e → Contains (edges paths) e) →
+pub labels_behind : (givens : List Given) (ratio : ℕ) (paths kept : List (List ℕ)) (L : Labelling) → ((e : Edge) → Contains (edges kept) e → Contains (edges paths) e) →
     AgreesWith givens paths L → All (ValleyFree L) kept → AreLabelsWith givens ratio paths kept L → AreLabelsBy (degree paths) ratio (edges paths) (returns paths givens ++ kept) kept L
 labels_behind givens ratio paths kept L among says free a =
     let all = returns paths givens ++ kept in
@@ -81,7 +81,9 @@ given_inference_law givens givens' ratio paths walks walks' lines lines' whys wh
     )
 
 pub given_result_law : GivenResultLaw
-given_result_law givens givens' sets ratio rows counts file file' same r r' =
+given_result_law known known' sets ratio rows counts file file' same r r' =
+    let givens = unwrap_or known [] in
+    let givens' = unwrap_or known' [] in
     let mine : counted_paths rows ≡ its_paths file = ap counted_paths (sym r.paths) ∙ paths_in file.paths in
     let paths : its_paths file ≡ its_paths file' = sym mine ∙ ap counted_paths (sym r'.paths) ∙ paths_in file'.paths in
     let inferred' : IsInferredWith givens' ratio (its_paths file) (its_walks file') file'.edges file'.whys (its_probes file') =

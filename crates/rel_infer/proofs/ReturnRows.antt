@@ -1,6 +1,6 @@
 -- The rows of the returns behind the paths of a graph: their places, and the numbers of their givens.
-use Rattle.std.proofs.Common.{◌≡◌, ◌≢◌, ℕ, zero, suc, ◌+◌, ◌-◌, ◌<◌, ◌≤◌, inl, inr, Bool, true, false, if◌then◌else◌, List, [], ◌∷◌, ◌++◌, length, take, get_or, Some, slice_get, refl, sym, ap, ap₂}
-use Rattle.std.proofs.Common.{◌∙◌, subst, arith, append_assoc, length-append, Contains}
+use Rattle.std.proofs.Common.{◌≡◌, ◌≢◌, ℕ, zero, suc, ◌+◌, ◌-◌, ◌<◌, ◌≤◌, inl, inr, Bool, true, false, if◌then◌else◌, List, [], ◌∷◌, ◌++◌, length, take, get_or, Some, slice_get, refl, sym, ap}
+use Rattle.std.proofs.Common.{◌∙◌, subst, arith, Contains}
 use Rattle.std.specs.List.{AllByRecursion}
 use Rattle.std.proofs.lemmas.Bool.{cases_Bool}
 use Rattle.relationships.specs.declared.given.Given.{Given}
@@ -9,43 +9,17 @@ use Rattle.relationships.specs.Givens.{names_edge, return_of, returns}
 use Rattle.relationships.specs.GivenEvidence.{IsGiven, AreReturnRows}
 use Rattle.relationships.proofs.Deciding.{PairsByRecursion}
 use Rattle.relationships.proofs.GivenLemmas.{with_return, without_return}
-use Rattle.as_graph.specs.Paths.{path_at, paths_at}
+use Rattle.as_graph.specs.Paths.{path_at}
 use Rattle.tor_clauses.specs.Formulas.{numbered}
-use Rattle.rel_infer.specs.Returns.{places_from, numbers_from}
+use Rattle.path_select.specs.Behind.{places_from}
+use Rattle.path_select.proofs.BehindLemmas.{at_behind, places_all}
+use Rattle.rel_infer.specs.Returns.{numbers_from}
 
 -- ---- places
-
-pub places_push : (n k : ℕ) → places_from n (suc k) ≡ places_from n k ++ (n + k) ∷ []
-places_push n zero = let e : n ≡ n + 0 = omega arith in ap (λ m. m ∷ []) e
-places_push n (suc k) =
-    let e : n + 1 + k ≡ n + suc k = omega arith in
-    ap (λ (l : List ℕ). n ∷ l) (places_push (n + 1) k ∙ ap (λ m. places_from (n + 1) k ++ m ∷ []) e)
-
-pub places_all : (P : ℕ → Type 0) (n k : ℕ) → ((i : ℕ) → n ≤ i → i < n + k → P i) → AllByRecursion P (places_from n k)
-places_all P n zero h = tt
-places_all P n (suc k) h = (h n (omega arith) (omega arith), places_all P (n + 1) k (λ i le lt. h i (omega (arith, le)) (omega (arith, lt))))
 
 pub places_apart : (n k : ℕ) → PairsByRecursion ◌≢◌ (places_from n k)
 places_apart n zero = tt
 places_apart n (suc k) = (places_all (λ i. n ≢ i) (n + 1) k (λ i le lt same. absurd (omega (arith, le, same))), places_apart (n + 1) k)
-
-at_behind : (xs ys : List (List ℕ)) (j : ℕ) → path_at (xs ++ ys) (length xs + j) ≡ path_at ys j
-at_behind [] ys j = let e : 0 + j ≡ j = omega arith in ap (path_at ys) e
-at_behind (x ∷ xs) ys j =
-    let e : suc (length xs) + j ≡ suc (length xs + j) = omega arith in
-    ap (path_at (x ∷ xs ++ ys)) e ∙ at_behind xs ys j
-
-at_end : (xs ys : List (List ℕ)) (y : List ℕ) → path_at (xs ++ y ∷ ys) (length xs) ≡ y
-at_end [] ys y = refl
-at_end (x ∷ xs) ys y = at_end xs ys y
-
-pub rows_behind : (xs ys : List (List ℕ)) → paths_at (xs ++ ys) (places_from (length xs) (length ys)) ≡ ys
-rows_behind xs [] = refl
-rows_behind xs (y ∷ ys) =
-    let longer : length (xs ++ y ∷ []) ≡ length xs + 1 = length-append xs (y ∷ []) in
-    let rest : paths_at (xs ++ (y ∷ ys)) (places_from (length xs + 1) (length ys)) ≡ ys =
-    ap₂ (λ (l : List (List ℕ)) (n : ℕ). paths_at l (places_from n (length ys))) (sym (append_assoc xs (y ∷ []) ys)) (sym longer) ∙ rows_behind (xs ++ y ∷ []) ys in
-    ap₂ (λ (p : List ℕ) (ps : List (List ℕ)). p ∷ ps) (at_end xs ys y) rest
 
 -- ---- numbers
 

@@ -1,25 +1,37 @@
 -- Each result of the rows of a table meets all rules of a checker, and has the peerings that are promised.
-use Rattle.std.proofs.Common.{◌≡◌, ◌≤◌, ◌∙◌, ℕ, List, [], ◌∷◌, IsTrue, All, Contains, Option, map, is_none, length, sum_by, refl, sym, ap, subst}
+use Rattle.std.proofs.Common.{◌≡◌, ◌≤◌, ◌∙◌, ℕ, List, [], ◌∷◌, ◌++◌, IsTrue, All, Contains, Option, unwrap_or, map, is_none, length, sum_by, refl, sym, ap, subst}
 use Rattle.std.specs.List.{list_all}
-use Rattle.std.proofs.lemmas.List.Elements.{All-contains, All-contains_itself, All-from_recursion, recursion_from_All}
+use Rattle.std.proofs.lemmas.List.Elements.{All-append, All-contains, All-contains_itself, All-from_recursion, recursion_from_All}
+use Rattle.relationships.specs.declared.given.Given.{Given}
 use Rattle.relationships.specs.declared.walk.Walk.{Walk}
+use Rattle.relationships.specs.Relationship.{Labelling, ValleyFree}
 use Rattle.relationships.specs.Graph.{Edge, edges, degree}
 use Rattle.relationships.specs.Evidence.{paths_of}
 use Rattle.relationships.specs.Checking.{kept_of}
+use Rattle.relationships.specs.Givens.{NameOnce, NameTwo, returns}
 use Rattle.relationships.proofs.Checked.{kept_all}
 use Rattle.relationships.proofs.Edges.{peering_law}
+use Rattle.relationships.proofs.GivenLemmas.{agrees_free}
+use Rattle.relationships.proofs.GivenPeerings.{edge_among, given_peers_law}
 use Rattle.relationships.proofs.Neighbours.{edge_law}
 use Rattle.relationships.proofs.Preferring.{maximal_law}
-use Rattle.tor_arena.specs.Limits.{max_paths, max_numbers}
+use Rattle.tor_arena.specs.Limits.{max_paths, max_numbers, max_ratio}
+use Rattle.path_clean.specs.declared.cleaned.Sets.{Sets}
+use Rattle.path_clean.specs.Counts.{CauseCounts}
 use Rattle.path_clean.specs.Paths.{is_cleaned}
 use Rattle.path_clean.specs.Rows as rows
 use Rattle.path_clean.specs.Rows.{Counted}
 use Rattle.result_text.specs.declared.file.PathLine.{PathLine}
-use Rattle.result_rules.specs.File.{its_paths, its_walks, its_labels}
+use Rattle.result_text.specs.declared.file.ResultFile.{ResultFile}
+use Rattle.result_text.specs.Text.{its_givens}
+use Rattle.result_rules.specs.File.{its_paths, its_walks, its_labels, its_probes}
 use Rattle.result_rules.specs.Against.{row_of}
+use Rattle.result_rules.specs.Rules.{Accepts}
 use Rattle.result_rules.specs.Valid.{AcceptanceLaw}
+use Rattle.rel_infer.specs.GivenResults.{IsInferredWith, IsResultWith, LeaveNoneOutWith, PeerEitherWayWith}
 use Rattle.rel_infer.specs.SelfAcceptance.{AreTableRows, SelfAcceptanceLaw}
-use Rattle.rel_infer.proofs.Acceptance.{AreSound, accepted, times_in}
+use Rattle.rel_infer.proofs.Acceptance.{AreSound, IsInferredBy, accepted, same_givens, times_in}
+use Rattle.rel_infer.proofs.OneGivenResult.{labels_behind}
 
 paths_same : (lines : List PathLine) → rows.row_paths (map row_of lines) ≡ map (λ (p : PathLine). p.path) lines
 paths_same [] = refl
@@ -54,15 +66,50 @@ sound_in lines table same are =
       numbers = subst (λ l. sum_by length l ≤ max_numbers) ps are.numbers;
     }
 
+module _ (known : Option (List Given)) (sets : Sets) (ratio : ℕ) (table : List Counted) (counts : CauseCounts) (file : ResultFile)
+    (is : IsResultWith known sets ratio table counts file) where
+  abbrev givens : List Given
+  givens = its_givens file
+
+  abbrev paths : List (List ℕ)
+  paths = its_paths file
+
+  abbrev kept : List (List ℕ)
+  kept = paths_of (kept_of (its_paths file) (its_walks file))
+
+  abbrev L : Labelling
+  L = its_labels file
+
+  inferred : IsInferredBy ratio file
+  inferred = subst (λ gs. IsInferredWith gs ratio (its_paths file) (its_walks file) file.edges file.whys (its_probes file)) (same_givens file known is.its_givens) is.inferred
+
+  pub its_acceptance : ratio ≤ max_ratio → AreTableRows table → NameTwo (unwrap_or known []) → NameOnce (unwrap_or known []) → Accepts file
+  its_acceptance small are two once =
+      let same = same_givens file known is.its_givens in
+      accepted ratio file (subst (λ r. r ≤ max_ratio) (sym is.its_ratio) small) (subst NameTwo same two) (subst NameOnce same once) inferred is.totals
+      (sound_in file.paths table is.paths are)
+
+  all_free : All (ValleyFree L) (returns paths givens ++ kept)
+  all_free = All-append (ValleyFree L) (returns paths givens) kept (agrees_free paths L givens inferred.agrees) inferred.valley_free
+
+  pub as_given : PeerEitherWayWith givens paths (its_walks file) file.edges
+  as_given = (given_peers_law givens paths kept L (edges_among paths (its_walks file))).0 (peering_law L (returns paths givens ++ kept) all_free)
+
+  pub none_left_out : LeaveNoneOutWith givens ratio paths (its_walks file) file.edges
+  none_left_out =
+      let inside = edges_among paths (its_walks file) in
+      let labels = labels_behind givens ratio paths kept L inside inferred.agrees inferred.valley_free inferred.labels in
+      (given_peers_law givens paths kept L inside).1 (degree paths) ratio inferred.agrees
+      (maximal_law (degree paths) ratio (returns paths givens ++ kept) (edges paths) labels.providers L labels.relabelled (edge_among givens paths kept inside))
+
 pub self_acceptance : AcceptanceLaw → SelfAcceptanceLaw
-self_acceptance valid sets ratio table counts file small are is =
-    let meets = accepted sets ratio table counts file small is (sound_in file.paths table is.paths are) in
-    let labels = is.inferred.labels in
+self_acceptance valid known sets ratio table counts file small are two once is =
+    let meets = its_acceptance known sets ratio table counts file is small are two once in
     record {
       accepted = meets;
       agrees = (is.its_counts, is.paths);
       valid = valid file meets;
       either_way = peering_law (its_labels file) (paths_of (kept_of (its_paths file) (its_walks file))) is.inferred.valley_free;
-      none_left_out = maximal_law (degree (its_paths file)) ratio (paths_of (kept_of (its_paths file) (its_walks file))) (edges (its_paths file)) labels.providers (its_labels file)
-          labels.relabelled (edges_among (its_paths file) (its_walks file));
+      as_given = as_given known sets ratio table counts file is;
+      none_left_out = none_left_out known sets ratio table counts file is;
     }

@@ -1,8 +1,7 @@
 -- Where nothing is given, what is inferred under givens is what is inferred.
-use Rattle.std.proofs.Common.{◌≡◌, ◌≤◌, ◌∙◌, ℕ, List, [], ◌∷◌, Option, map, length, sum_by, refl, sym, ap, subst, arith, All, IsTrue}
-use Rattle.std.specs.List.{list_all}
+use Rattle.std.proofs.Common.{◌≢◌, ◌≤◌, ℕ, List, [], Option, None, map, arith, IsTrue}
 use Rattle.std.proofs.lemmas.List.Elements.{All-nil}
-use Rattle.tor_arena.specs.Limits.{max_numbers, max_paths, max_ratio}
+use Rattle.tor_arena.specs.Limits.{max_ratio}
 use Rattle.relationships.specs.declared.given.Given.{Given}
 use Rattle.relationships.specs.declared.walk.Walk.{Walk}
 use Rattle.relationships.specs.Relationship.{Labelling, labels_of}
@@ -15,18 +14,16 @@ use Rattle.relationships.proofs.GivenWalks.{no_givens_law}
 use Rattle.relationships.proofs.GivenPeerings.{given_relabelling_law}
 use Rattle.path_clean.specs.declared.cleaned.Sets.{Sets}
 use Rattle.path_clean.specs.Counts.{CauseCounts}
-use Rattle.path_clean.specs.Paths.{is_cleaned}
-use Rattle.path_clean.specs.Rows.{Counted, row_paths as counted_paths, times_of, none_twice}
+use Rattle.path_clean.specs.Rows.{Counted}
 use Rattle.result_text.specs.declared.file.EdgeLine.{EdgeLine}
-use Rattle.result_text.specs.declared.file.PathLine.{PathLine}
 use Rattle.result_text.specs.declared.file.ResultFile.{ResultFile}
-use Rattle.result_rules.specs.Against.{row_of}
 use Rattle.result_rules.specs.File.{its_paths, its_walks, its_probes, claim_on}
 use Rattle.result_rules.specs.Rules.{Accepts}
 use Rattle.rel_infer.specs.GivenResults.{AreLabelsWith, IsInferredWith, IsResultWith, LeaveNoneOutWith}
 use Rattle.rel_infer.specs.Results.{AreLabels, IsInferred, IsResultOf}
 use Rattle.rel_infer.specs.Peers.{PeerEitherWay, LeaveNoneOut}
-use Rattle.rel_infer.proofs.Acceptance.{accepted}
+use Rattle.rel_infer.specs.SelfAcceptance.{AreTableRows}
+use Rattle.rel_infer.proofs.SelfAcceptance.{its_acceptance}
 
 none_given : (paths : List (List ℕ)) (L : Labelling) → AgreesWith [] paths L
 none_given paths L = All-nil (λ (g : Given). IsTrue (names_edge paths g) → LabelsSay L g)
@@ -87,44 +84,32 @@ module _ (ratio : ℕ) (paths : List (List ℕ)) (walks : List (Option Walk)) (l
   pub alone_none_left : LeaveNoneOutWith [] ratio paths walks lines → LeaveNoneOut ratio paths walks lines
   alone_none_left h = λ k d within not_peer held alike stays. h k d within (λ i g lt same. absurd (omega (arith, lt))) not_peer held alike stays
 
+  pub none_left_too : LeaveNoneOut ratio paths walks lines → LeaveNoneOutWith [] ratio paths walks lines
+  none_left_too h = λ k d within no_name not_peer held alike stays. h k d within not_peer held alike stays
+
 module _ (sets : Sets) (ratio : ℕ) (rows : List Counted) (counts : CauseCounts) (file : ResultFile) where
-  pub result_alone : IsResultWith [] sets ratio rows counts file → IsResultOf sets ratio rows counts file
+  pub result_alone : IsResultWith None sets ratio rows counts file → IsResultOf sets ratio rows counts file
   result_alone r = record {
     its_sets = r.its_sets;
     its_ratio = r.its_ratio;
     its_counts = r.its_counts;
+    its_givens = r.its_givens;
     paths = r.paths;
     inferred = inferred_alone ratio (its_paths file) (its_walks file) file.edges file.whys (its_probes file) r.inferred;
     totals = r.totals;
   }
 
-  pub result_too : IsResultOf sets ratio rows counts file → IsResultWith [] sets ratio rows counts file
+  pub result_too : IsResultOf sets ratio rows counts file → IsResultWith None sets ratio rows counts file
   result_too r = record {
     its_sets = r.its_sets;
     its_ratio = r.its_ratio;
     its_counts = r.its_counts;
+    its_givens = r.its_givens;
     paths = r.paths;
     inferred = inferred_too ratio (its_paths file) (its_walks file) file.edges file.whys (its_probes file) r.inferred;
     totals = r.totals;
   }
 
-  row_paths : (lines : List PathLine) → counted_paths (map row_of lines) ≡ map (λ (p : PathLine). p.path) lines
-  row_paths [] = refl
-  row_paths (line ∷ lines) = ap (λ (ps : List (List ℕ)). line.path ∷ ps) (row_paths lines)
-
-  row_times : (lines : List PathLine) → times_of (map row_of lines) ≡ map (λ (p : PathLine). p.times) lines
-  row_times [] = refl
-  row_times (line ∷ lines) = ap (λ (ns : List ℕ). line.times ∷ ns) (row_times lines)
-
-  pub accepted_alone : ratio ≤ max_ratio → IsTrue (list_all is_cleaned (counted_paths rows)) → All (λ n. 1 ≤ n) (times_of rows) → IsTrue (none_twice (counted_paths rows)) →
-      length (counted_paths rows) ≤ max_paths → sum_by length (counted_paths rows) ≤ max_numbers → IsResultWith [] sets ratio rows counts file → Accepts file
-  accepted_alone small clean seen once few numbers r =
-      let same : counted_paths rows ≡ its_paths file = ap counted_paths (sym r.paths) ∙ row_paths file.paths in
-      let times : times_of rows ≡ map (λ (p : PathLine). p.times) file.paths = ap times_of (sym r.paths) ∙ row_times file.paths in
-      accepted sets ratio rows counts file small (result_alone r) (record {
-        clean = subst (λ ps. IsTrue (list_all is_cleaned ps)) same clean;
-        seen = subst (All (λ n. 1 ≤ n)) times seen;
-        once = subst (λ ps. IsTrue (none_twice ps)) same once;
-        few = subst (λ ps. length ps ≤ max_paths) same few;
-        numbers = subst (λ ps. sum_by length ps ≤ max_numbers) same numbers;
-      })
+  pub accepted_alone : ratio ≤ max_ratio → AreTableRows rows → IsResultWith None sets ratio rows counts file → Accepts file
+  accepted_alone small are r =
+      its_acceptance None sets ratio rows counts file r small are (All-nil (λ (g : Given). g.over ≢ g.under)) (λ i j d lt within. absurd (omega (arith, within)))

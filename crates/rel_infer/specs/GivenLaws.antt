@@ -1,7 +1,8 @@
 -- The result under givens: it is the result of before where nothing is given, and one but for its evidence, which alone depends on givens
 -- that name no edge; what it says is said of the orientations that agree with the givens; and an edge that a given names has its line.
 -- Each law is proved as the contract of a function in src/given_laws.rt.
-use Rattle.std.specs.Prelude.{◌≡◌, ◌≢◌, ◌↔◌, ℕ, Bool, List, [], ◌++◌, Option, map, filter, is_none, All, Contains, IsTrue}
+use Rattle.std.specs.Prelude.{◌≡◌, ◌≢◌, ◌↔◌, ℕ, Bool, List, [], ◌++◌, Option, None, map, filter, is_none, unwrap_or}
+use Rattle.std.specs.Prelude.{All, Contains, IsTrue}
 use Rattle.path_clean.specs.declared.cleaned.Sets.{Sets}
 use Rattle.path_clean.specs.Counts.{CauseCounts}
 use Rattle.path_clean.specs.Rows.{Counted, row_paths}
@@ -21,16 +22,19 @@ use Rattle.result_text.specs.declared.file.EdgeLine.{EdgeLine}
 use Rattle.result_text.specs.declared.file.ResultFile.{ResultFile}
 use Rattle.result_rules.specs.File.{its_walks, claim_on}
 use Rattle.rel_infer.specs.Agreeing.{AgreesOnEdges, AgreesWithAll, KeepsAmong, IsForcedAmong, IsPreferredAmong}
-use Rattle.rel_infer.specs.GivenResults.{IsInferredWith, IsResultWith}
+use Rattle.rel_infer.specs.GivenResults.{IsInferredWith, IsResultWith, LeaveNoneOutWith}
+use Rattle.rel_infer.specs.Peers.{LeaveNoneOut}
 use Rattle.rel_infer.specs.Results.{IsInferred, IsResultOf}
 
--- where nothing is given
+-- where nothing is given, with a list that is empty or with none
 abbrev pub NoGivensResultLaw : Type 0
 NoGivensResultLaw =
     ((ratio : ℕ) (paths : List (List ℕ)) (walks : List (Option Walk)) (lines : List EdgeLine) (whys : List Walk) (probes : List (ℕ × ℕ)) →
     IsInferredWith [] ratio paths walks lines whys probes ↔ IsInferred ratio paths walks lines whys probes) ×
     ((sets : Sets) (ratio : ℕ) (rows : List Counted) (counts : CauseCounts) (file : ResultFile) →
-    IsResultWith [] sets ratio rows counts file ↔ IsResultOf sets ratio rows counts file)
+    IsResultWith None sets ratio rows counts file ↔ IsResultOf sets ratio rows counts file) ×
+    ((ratio : ℕ) (paths : List (List ℕ)) (walks : List (Option Walk)) (lines : List EdgeLine) →
+    LeaveNoneOutWith [] ratio paths walks lines ↔ LeaveNoneOut ratio paths walks lines)
 
 -- which paths are kept, and each edge's label, mark and support, are determined by the paths and by those givens whose two are neighbours
 -- on them: all givens or these alone give the same
@@ -45,9 +49,9 @@ GivenInferenceLaw =
 -- so are the counts of routes that are set aside, and the totals
 abbrev pub GivenResultLaw : Type 0
 GivenResultLaw =
-    (givens givens' : List Given) (sets : Sets) (ratio : ℕ) (rows : List Counted) (counts : CauseCounts) (file file' : ResultFile) →
-    filter (names_edge (row_paths rows)) givens ≡ filter (names_edge (row_paths rows)) givens' →
-    IsResultWith givens sets ratio rows counts file → IsResultWith givens' sets ratio rows counts file' →
+    (known known' : Option (List Given)) (sets : Sets) (ratio : ℕ) (rows : List Counted) (counts : CauseCounts) (file file' : ResultFile) →
+    filter (names_edge (row_paths rows)) (unwrap_or known []) ≡ filter (names_edge (row_paths rows)) (unwrap_or known' []) →
+    IsResultWith known sets ratio rows counts file → IsResultWith known' sets ratio rows counts file' →
     (file.asides ≡ file'.asides) × (map is_none (its_walks file) ≡ map is_none (its_walks file')) × (file.edges ≡ file'.edges) ×
     (file.totals ≡ file'.totals)
 

@@ -1,7 +1,7 @@
 -- What the result of distinct paths says where relationships are given. An orientation that agrees with the givens and serves paths is one
 -- that serves the returns of the givens and these paths (`given_serving_law`), so the returns stand in front of the kept paths wherever an
 -- orientation is asked for. What is counted is counted on the paths alone.
-use Rattle.std.specs.Prelude.{◌≡◌, ◌↔◌, ℕ, ◌^◌, List, [], ◌++◌, Option, map, is_none, All, IsTrue}
+use Rattle.std.specs.Prelude.{◌≡◌, ◌↔◌, ℕ, ◌^◌, List, [], ◌++◌, Option, unwrap_or, map, is_none, All, IsTrue}
 use Rattle.path_clean.specs.declared.cleaned.Sets.{Sets}
 use Rattle.path_clean.specs.Counts.{CauseCounts}
 use Rattle.path_clean.specs.Rows.{Counted}
@@ -67,12 +67,14 @@ abbrev pub LeaveNoneOutWith : List Given → ℕ → List (List ℕ) → List (O
 LeaveNoneOutWith givens ratio paths walks lines =
     NoneLeftOutWith givens (degree paths) ratio (paths_of (kept_of paths walks)) (edges paths) (claimed_labels (map claim_on lines))
 
--- the result of distinct paths with their times, and of the counts of routes that were set aside, under givens
-pub record IsResultWith (givens : List Given) (sets : Sets) (ratio : ℕ) (rows : List Counted) (counts : CauseCounts) (file : ResultFile) :
-    Type 0 where
+-- the result of distinct paths with their times, and of the counts of routes that were set aside, where these relationships are known, if
+-- any are
+pub record IsResultWith (known : Option (List Given)) (sets : Sets) (ratio : ℕ) (rows : List Counted) (counts : CauseCounts)
+    (file : ResultFile) : Type 0 where
   pub its_sets : file.sets ≡ sets
   pub its_ratio : file.ratio ≡ ratio
   pub its_counts : file.asides ≡ counts
+  pub its_givens : file.givens ≡ known
   pub paths : its_rows file ≡ rows
-  pub inferred : IsInferredWith givens ratio (its_paths file) (its_walks file) file.edges file.whys (its_probes file)
+  pub inferred : IsInferredWith (unwrap_or known []) ratio (its_paths file) (its_walks file) file.edges file.whys (its_probes file)
   pub totals : file.totals ≡ right_totals file

@@ -1,7 +1,7 @@
 -- What the result of distinct paths says. The top of a path is that of L. Gao, "On inferring autonomous system relationships in the
 -- Internet", 2001, and that an orientation serves paths goes back to Di Battista, Patrignani and Pizzonia, 2003. Selection in order,
 -- votes, settling, peerings and the form of the evidence are this project's own (docs/FORMATS.md).
-use Rattle.std.specs.Prelude.{◌≡◌, ◌↔◌, ℕ, List, Option, map, is_none, All, IsTrue}
+use Rattle.std.specs.Prelude.{◌≡◌, ◌↔◌, ℕ, List, Option, None, map, is_none, All, IsTrue}
 use Rattle.path_clean.specs.declared.cleaned.Sets.{Sets}
 use Rattle.path_clean.specs.Counts.{CauseCounts}
 use Rattle.path_clean.specs.Rows.{Counted}
@@ -43,11 +43,12 @@ pub record IsInferred (ratio : ℕ) (paths : List (List ℕ)) (walks : List (Opt
   pub forced : All (λ line. IsTrue (is_forced line.mark) ↔ IsForced (paths_of (kept_of paths walks)) line.low line.high) lines
   pub evidence : MarksHold (kept_of paths walks) (map claim_on lines) whys probes
 
--- the result of distinct paths with their times, and of the counts of routes that were set aside
+-- the result of distinct paths with their times, and of the counts of routes that were set aside, where nothing is given
 pub record IsResultOf (sets : Sets) (ratio : ℕ) (rows : List Counted) (counts : CauseCounts) (file : ResultFile) : Type 0 where
   pub its_sets : file.sets ≡ sets
   pub its_ratio : file.ratio ≡ ratio
   pub its_counts : file.asides ≡ counts
+  pub its_givens : file.givens ≡ None
   pub paths : its_rows file ≡ rows
   pub inferred : IsInferred ratio (its_paths file) (its_walks file) file.edges file.whys (its_probes file)
   pub totals : file.totals ≡ right_totals file

@@ -1,17 +1,13 @@
 -- The rows of the returns behind the paths of a graph, and the numbers of their givens. These words are the crate's own.
-use Rattle.std.specs.Prelude.{◌≡◌, ℕ, zero, suc, ◌+◌, List, [], ◌∷◌, ◌++◌, length, if◌then◌else◌, map, option_map}
+use Rattle.std.specs.Prelude.{◌≡◌, ℕ, ◌+◌, List, [], ◌∷◌, ◌++◌, length, if◌then◌else◌, map, option_map}
 use Rattle.relationships.specs.declared.given.Given.{Given}
 use Rattle.relationships.specs.declared.fate.Fate.{Fate}
 use Rattle.relationships.specs.Fates.{walk_of}
 use Rattle.relationships.specs.Givens.{names_edge, returns}
 use Rattle.relationships.specs.GivenEvidence.{with_given_links}
+use Rattle.path_select.specs.Behind.{places_from}
 use Rattle.rel_infer.specs.declared.inferring.Inferred.{Inferred}
 use Rattle.rel_infer.specs.Finding.{AreInferredIn}
-
--- so many places, from n on
-abbrev pub places_from : ℕ → ℕ → List ℕ
-places_from n zero = []
-places_from n (suc many) = n ∷ places_from (n + 1) many
 
 -- the numbers, from n on, of those givens whose two are neighbours on the paths
 abbrev pub numbers_from : List (List ℕ) → ℕ → List Given → List ℕ

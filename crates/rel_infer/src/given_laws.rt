@@ -3,7 +3,8 @@
 ghost use Rattle.rel_infer.specs.GivenLaws.{NoGivensResultLaw, GivenInferenceLaw, GivenResultLaw, AgreeingLaw, AllAgreeingLaw};
 ghost use Rattle.rel_infer.specs.GivenLaws.{GivenLineLaw, GivenRulesMetLaw};
 
-/// Where nothing is given, what is inferred under givens is what is inferred, and the result is that of before.
+/// Where nothing is given, what is inferred under givens is what is inferred, and a peering is left out of it exactly if one is left out
+/// under no givens; and the result where no relationships are known is that without givens.
 pub fn no_givens_result_law()
     ensures { NoGivensResultLaw }
 {}
@@ -14,8 +15,8 @@ pub fn given_inference_law()
     ensures { GivenInferenceLaw }
 {}
 
-/// So the result under givens of distinct paths with their times and of counts is one but for the evidence: its counts, which paths are
-/// kept, its edge lines and its totals.
+/// So the result under givens of distinct paths with their times and of counts is one but for the evidence and the givens themselves: its
+/// counts, which paths are kept, its edge lines and its totals.
 pub fn given_result_law()
     ensures { GivenResultLaw }
 {}

@@ -16,8 +16,9 @@ pub fn one_result_law()
     ensures { OneResultLaw }
 {}
 
-/// What follows from the definitions meets the rules: each result of rows as a table of paths has them, and of a ratio up to 1000000, is
-/// accepted by a checker, alone and beside its paths and counts, is valid, may have its peerings read either way, and leaves none out.
+/// What follows from the definitions meets the rules: each result of rows as a table of paths has them, of a ratio up to 1000000, and of
+/// relationships that are given, if any are, each of two ASes and no two of the same two, is accepted by a checker, alone and beside its
+/// paths and counts, is valid, may have its peerings read either way, and leaves none out.
 pub fn self_acceptance_law()
     ensures { SelfAcceptanceLaw }
 {

@@ -1,5 +1,5 @@
 //! The result of the paths of a table.
-ghost use Rattle.std.specs.Prelude.{◌≤◌, [], length, IfOk};
+ghost use Rattle.std.specs.Prelude.{◌≡◌, ◌≤◌, [], length, unwrap_or, IfOk};
 ghost use Rattle.tor_arena.specs.Limits.{max_ratio};
 ghost use Rattle.relationships.specs.Givens.{NameOnce, NameTwo};
 ghost use Rattle.result_rules.specs.File.{its_paths, its_walks};
@@ -14,7 +14,7 @@ use relationships::Given;
 use result_rules::totals_of;
 use result_text::{PathLines, ResultFile};
 use std::alloc::Global;
-use tor_arena::{Keys, NoMemory};
+use tor_arena::{Keys, List, NoMemory};
 
 /// What a result says before its paths.
 #[derive(Drop)]
@@ -52,37 +52,49 @@ pub fn result_of(
         ratio,
         asides,
     };
-    result_with(alloc, keys, head, &[], table)
+    result_with(alloc, keys, head, None, table)
 }
 
-/// The result of the distinct paths of a table under relationships that are given, at most 2^28, each of two ASes and no two of the same
-/// two. Every orientation that is asked for agrees with them, so all is as `result_of` says, but that no edge that a given names becomes
-/// a peering, and each of them is forced. Votes, degrees and supports are of the paths alone. In walks, links with path 0 name givens, by
-/// their numbers from 1. The only error is that memory ran out.
+// The relationships that are given, if any are.
+fn given_slice(givens: &Option<List<Given>>) -> &[Given]
+    ensures { result.now ≡ unwrap_or givens.now [] }
+{
+    match givens {
+        None => &[],
+        Some(givens) => givens.as_slice(),
+    }
+}
+
+/// The result of the distinct paths of a table under relationships that are given, if any are, at most 2^28, each of two ASes and no two
+/// of the same two. Every orientation that is asked for agrees with them, so all is as `result_of` says, but that no edge that a given
+/// names becomes a peering, and each of them is forced. Votes, degrees and supports are of the paths alone. In walks, links with path 0
+/// name givens, by their numbers from 1. The result has the givens as they came. The only error is that memory ran out.
 pub fn result_with(
     alloc: Global,
     keys: Keys,
     head: ResultHead,
-    givens: &[Given],
+    givens: Option<List<Given>>,
     table: PathTable,
 ) -> Result<ResultFile, NoMemory>
     requires small { head.ratio ≤ max_ratio }
-    requires two { NameTwo givens.now }
-    requires once { NameOnce givens.now }
-    requires few { length givens.now ≤ max_givens }
-    ensures result { IfOk result (IsResultWith givens.now head.sets head.ratio table.rows head.asides) }
-    ensures either_way { IfOk result (λ file. PeerEitherWayWith givens.now (its_paths file) (its_walks file) file.edges) }
-    ensures none_left_out { IfOk result (λ file. LeaveNoneOutWith givens.now head.ratio (its_paths file) (its_walks file) file.edges) }
+    requires two { NameTwo (unwrap_or givens []) }
+    requires once { NameOnce (unwrap_or givens []) }
+    requires few { length (unwrap_or givens []) ≤ max_givens }
+    ensures result { IfOk result (IsResultWith givens head.sets head.ratio table.rows head.asides) }
+    ensures either_way { IfOk result (λ file. PeerEitherWayWith (unwrap_or givens []) (its_paths file) (its_walks file) file.edges) }
+    ensures none_left_out { IfOk result
+        (λ file. LeaveNoneOutWith (unwrap_or givens []) head.ratio (its_paths file) (its_walks file) file.edges) }
 {
     table.facts();
     let (rows, times) = table.into_rows();
-    let inferred = inferred_from(alloc, keys, &rows, givens, head.ratio)?;
+    let inferred = inferred_from(alloc, keys, &rows, given_slice(&givens), head.ratio)?;
     let found = inferred.found;
     let totals = totals_of(&inferred.fates, found.edges.as_slice());
     Ok(ResultFile {
         sets: head.sets,
         ratio: head.ratio,
         asides: head.asides,
+        givens,
         paths: PathLines::from_parts(rows, times, inferred.fates),
         edges: found.edges,
         whys: found.whys,

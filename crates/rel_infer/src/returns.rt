@@ -1,29 +1,11 @@
-//! The rows of the returns behind the paths of a graph, and the numbers of their givens.
-ghost use Rattle.std.specs.Prelude.{◌≡◌, ◌-◌, ◌≤◌, [], length, IfOk, OnOk};
+//! The numbers of the givens whose returns stand behind the paths of a graph.
+ghost use Rattle.std.specs.Prelude.{◌≡◌, ◌≤◌, [], length, OnOk};
 ghost use Rattle.rel_infer.specs.GivenResults.{max_givens};
-ghost use Rattle.rel_infer.specs.Returns.{numbers_from, places_from};
+ghost use Rattle.rel_infer.specs.Returns.{numbers_from};
 
 use as_graph::AsGraph;
 use relationships::Given;
-use std::alloc::Global;
-use tor_arena::{Index, List, NoMemory, PathId};
-
-/// The places of a graph but for the first, so many.
-pub(crate) fn places_behind(
-    alloc: Global,
-    graph: &AsGraph,
-    count: usize,
-) -> Result<List<PathId>, NoMemory>
-    requires { count ≤ length graph.now }
-    ensures { IfOk result (λ places. places ≡ places_from count (length graph.now - count)) }
-{
-    graph.facts();
-    let mut places = List::new(alloc);
-    for place in count..graph.path_count() {
-        places.push(PathId::from_place(place).unwrap())?;
-    }
-    Ok(places)
-}
+use tor_arena::{List, NoMemory};
 
 /// Adds the numbers, from 1, of those givens whose two are an edge of the graph, where there are no numbers yet.
 pub(crate) fn numbers_of(

@@ -1,8 +1,8 @@
 use Rattle.std.proofs.Common.{◌-◌, All, length, refl, sym, subst, arith}
 use Rattle.std.proofs.lemmas.Result.{IfOk-weaker}
 use Rattle.tor_arena.specs.Distinct.{AllDistinct}
+use Rattle.path_select.specs.Behind.{places_from}
 use Rattle.rel_infer.specs.declared.inferring.Inferred.{Inferred}
-use Rattle.rel_infer.specs.Returns.{places_from}
 use Rattle.rel_infer.proofs.Linking.{long, front_is, servable_at, unlinked}
 use Rattle.rel_infer.proofs.inferring.inferred_behind.Goals as goal
 

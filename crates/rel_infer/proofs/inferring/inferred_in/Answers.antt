@@ -9,10 +9,10 @@ use Rattle.relationships.specs.Checking.{kept_of}
 use Rattle.tor_arena.specs.Distinct.{AllDistinct}
 use Rattle.as_graph.specs.Paths.{paths_at}
 use Rattle.tor_clauses.specs.Formulas.{numbered}
-use Rattle.rel_infer.specs.Returns.{places_from}
+use Rattle.path_select.specs.Behind.{places_from}
+use Rattle.path_select.proofs.BehindLemmas.{places_all}
 use Rattle.rel_infer.specs.declared.inferring.Inferred.{Inferred}
 use Rattle.rel_infer.specs.Finding.{AreInferredIn}
-use Rattle.rel_infer.proofs.ReturnRows.{places_all}
 use Rattle.rel_infer.proofs.KeptPlaces.{first_fits, counted_once, all_once, counted_distinct, counted_paths}
 use Rattle.rel_infer.proofs.inferring.inferred_in.Goals as goal
 

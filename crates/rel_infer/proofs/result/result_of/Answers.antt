@@ -12,7 +12,8 @@ pub returns-clause-accepted : goal.returns-clause-accepted
 returns-clause-accepted c =
     let facts = c.facts.ensures in
     IfOk-weaker c.result_with.result _ _ (λ (file : ResultFile) r.
-    accepted_alone c.args.sets c.args.ratio c.args.table.rows c.args.asides file c.requires facts.clean facts.seen facts.once facts.few facts.numbers r)
+    accepted_alone c.args.sets c.args.ratio c.args.table.rows c.args.asides file c.requires
+    (record { clean = facts.clean; seen = facts.seen; once = facts.once; few = facts.few; numbers = facts.numbers }) r)
     c.result_with.ensures.result
 
 pub returns-clause-either_way : goal.returns-clause-either_way

@@ -1,7 +1,7 @@
 use Rattle.std.proofs.Common.{rules, ◌≡◌, ◌+◌, ◌-◌, suc, List, ℕ, [], ◌∷◌, ◌++◌, sym, ap, ◌∙◌, arith}
-use Rattle.rel_infer.specs.Returns.{places_from}
-use Rattle.rel_infer.proofs.ReturnRows.{places_push}
-use Rattle.rel_infer.proofs.returns.places_behind.Goals as goal
+use Rattle.path_select.specs.Behind.{places_from}
+use Rattle.path_select.proofs.BehindLemmas.{places_push}
+use Rattle.path_select.proofs.behind.places_behind.Goals as goal
 
 pub loop-place-preserved : goal.loop-place-preserved
 loop-place-preserved c =
