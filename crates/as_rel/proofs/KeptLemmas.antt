@@ -12,9 +12,11 @@ use Rattle.relationships.specs.declared.label.End.{End}
 use Rattle.relationships.specs.Relationship.{Labelling, ValleyFree, slopes}
 use Rattle.relationships.specs.Graph.{Edge, edges, edges_on}
 use Rattle.relationships.specs.Evidence.{NeighboursDiffer}
+use Rattle.relationships.specs.Givens.{returns}
 use Rattle.relationships.specs.Selection.{IsServable, KeepsFrom}
 use Rattle.relationships.proofs.Checked.{distinct_keeps, reading, reading_serves, rising_all}
 use Rattle.relationships.proofs.Edges.{along_each}
+use Rattle.relationships.proofs.GivenLemmas.{given_serving_law}
 use Rattle.relationships.proofs.Neighbours.{edge_law}
 use Rattle.result_text.specs.EdgeLabels.{labels_in}
 use Rattle.result_text.specs.declared.file.EdgeLine.{EdgeLine}
@@ -89,7 +91,7 @@ module _ (L : Labelling) where
 -- ---- the grades
 
 pub kept_free_law : KeptFreeLaw
-kept_free_law labelled paths keeps differ listed kept free = record {
+kept_free_law givens labelled paths keeps differ listed kept agrees free = record {
   keeps = keeps;
   kept = kept;
   free = λ k path keep at flag. (
@@ -111,7 +113,9 @@ kept_free_law labelled paths keeps differ listed kept free = record {
     grades path each = known_law (steps_on (map line_of_edge labelled) path) (slopes L path) (label_law labelled path (rising labelled paths listed differ) each)
 
     exact : (k : ℕ) (path : List ℕ) (keep : Bool) → slice_get paths k ≡ Some path → slice_get keeps k ≡ Some keep → ValleyFree L path ↔ IsTrue keep
-    exact = exactly L [] paths keeps kept (All-from_recursion (ValleyFree L) [] tt) (recursion_from_All (ValleyFree L) (items_where_true keeps paths) free)
+    exact =
+        exactly L (returns paths givens) paths keeps kept (((given_serving_law givens paths).0 L).0 agrees)
+        (recursion_from_All (ValleyFree L) (items_where_true keeps paths) free)
 
 -- ---- the same of the grade that is found
 

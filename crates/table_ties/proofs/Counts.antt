@@ -8,6 +8,7 @@ use Rattle.std.proofs.lemmas.List.Sums.{fold-append}
 use Rattle.std.proofs.Math.ListN.{get_or-map}
 use Rattle.relationships.specs.Graph.{Edge, edges}
 use Rattle.relationships.specs.Evidence.{kept_from, paths_of}
+use Rattle.relationships.specs.Givens.{returns}
 use Rattle.ties.specs.declared.tie.Tie.{Tie}
 use Rattle.ties.specs.Tied.{Begins, Joins, classes, first_in_class}
 use Rattle.table_ties.specs.declared.tying.TieLine.{TieLine}
@@ -112,10 +113,10 @@ unmapped f (t ∷ ts) line (zero, lt, is) = (t, (0, omega arith, refl), is)
 unmapped f (t ∷ ts) line (suc k, lt, is) = let r = unmapped f ts line (k, omega (arith, lt), is) in (r.0, (suc r.1.0, omega (arith, r.1.1), r.1.2), r.2)
 
 pub class_count_law : ClassCountLaw
-class_count_law paths lines number of =
+class_count_law givens paths lines number of =
     let (ts, are, is) = of in
     let f : Tie → TieLine = tie_line_of (edges paths) in
-    let numbered = all_numbered (paths_of (kept_from 1 paths are.keeps)) (edges paths) [] ts are.by.ties.placed none_numbered in
+    let numbered = all_numbered (returns paths givens ++ paths_of (kept_from 1 paths are.keeps)) (edges paths) [] ts are.by.ties.placed none_numbered in
     let same = same_count (edges paths) 0 ts in
     subst (λ (ls : List TieLine). ((1 ≤ number) × (number ≤ class_count ls)) ↔ ((line : TieLine) × Contains ls line × (line.class ≡ number))) (sym is) (
       λ h. let r = numbered.all number h.0 (subst (λ n. number ≤ n) same h.1) in (f r.0, mapped f ts r.0 r.1, r.2),

@@ -1,4 +1,5 @@
 mod Counts
+mod GivenTyings
 mod Labels
 mod Tyings
 mod Vectors

@@ -1,2 +1,4 @@
+pub mod Behind
+pub mod GivenTies
 pub mod Ties
 pub mod TiesText

@@ -1,6 +1,7 @@
 -- The text of ties: a line for each open edge, in order, and a last line that counts.
 use Rattle.std.specs.Prelude.{◌≡◌, ◌↔◌, ◌≤◌, Contains, ℕ, List, [], ◌∷◌, ◌++◌, length, max, fold, flat_map, codes}
 use Rattle.std.specs.Fmt.{decimal}
+use Rattle.relationships.specs.declared.given.Given.{Given}
 use Rattle.text_fields.specs.Fields.{fields}
 use Rattle.ties.specs.declared.tie.Side.{Side}
 use Rattle.table_ties.specs.declared.tying.TieLine.{TieLine}
@@ -35,5 +36,5 @@ ties_text lines = tie_texts lines ++ counts_text lines
 -- the numbers from 1 to that count are those of classes, and no others are
 abbrev pub ClassCountLaw : Type 0
 ClassCountLaw =
-    (paths : List (List ℕ)) (lines : List TieLine) (number : ℕ) → AreTieLinesOf paths lines →
+    (givens : List Given) (paths : List (List ℕ)) (lines : List TieLine) (number : ℕ) → AreTieLinesOf givens paths lines →
     ((1 ≤ number) × (number ≤ class_count lines)) ↔ ((line : TieLine) × Contains lines line × (line.class ≡ number))

@@ -6,6 +6,6 @@ mod marking;
 mod printing;
 mod tying;
 
-pub use laws::class_count_law;
+pub use laws::{class_count_law, given_ties_law};
 pub use printing::text_of;
 pub use tying::{TieLine, ties_of_table};
