@@ -1,7 +1,6 @@
 -- The settings that words give are within their bounds.
 use Rattle.std.proofs.Common.{◌≡◌, ◌≢◌, ℕ, ◌≤◌, Bool, true, false, List, [], ◌∷◌, refl, subst, arith}
 use Rattle.std.specs.Prelude.{Option, Some, None, option_map, option_and_then, if◌then◌else◌, codes}
-use Rattle.std.specs.List.{AllByRecursion}
 use Rattle.std.specs.Str.Parse.{digits_value, without_leading_plus}
 use Rattle.clap.specs.ValueTests.{is_unsigned_in}
 use Rattle.clap.specs.Words.{Kinds, Row, Text, first_of, fault_of, matches_of}
@@ -9,12 +8,12 @@ use Rattle.clap.specs.declared.builder.value_parser.ValueParser.TheVariants as v
 use Rattle.clap.proofs.ValueTestLemmas.{accepts-Accepts}
 use Rattle.path_clean.specs.declared.cleaned.Sets.{Sets}
 use Rattle.tor_words.specs.declared.settings.Mode.{Mode}
-use Rattle.tor_words.specs.declared.settings.Mode.TheVariants.{Listing, Survey, Ties, Serial, Summary}
+use Rattle.tor_words.specs.declared.settings.Mode.TheVariants.{Labels, Listing, Survey, Ties, Serial, Summary, Migrate}
 use Rattle.tor_words.specs.declared.settings.Source.{Source}
-use Rattle.tor_words.specs.declared.settings.Source.TheVariants.{Files, Sample}
+use Rattle.tor_words.specs.declared.settings.Source.TheVariants.{Files, Sample, Result}
 use Rattle.tor_words.specs.declared.settings.Settings.{Settings}
-use Rattle.tor_words.specs.Given.{number_in, number_or, source_of, source_in, has_flag, with_flag, asked_in, mode_of, mode_in, sets_or_cut, settings_in, dumps_in, HasDumps}
-use Rattle.tor_words.specs.Given.{IsWrittenOf, AreBounded, BoundsLaw}
+use Rattle.tor_words.specs.Given.{number_in, number_or, sets_or_cut, mode_in, names_in, of_dumps, of_sample, of_result, source_of}
+use Rattle.tor_words.specs.Given.{dumps_of, takes_given, given_of, settings_in, HasDumps, IsWrittenOf, IsGivenTo, AreBounded, BoundsLaw}
 use Rattle.tor_words.specs.Given.{settings_given, unless_fault}
 use Rattle.tor_words.specs.TorCommand.{tor_command}
 
@@ -35,75 +34,99 @@ within_or : (low high default n : ℕ) (text : Option Text) → low ≤ default 
 within_or low high default n None le ge is = let same : default ≡ n = cc in subst (within low high) same (le, ge)
 within_or low high default n (Some text) le ge is = within_in low high n text is
 
-has_dumps : (sample : Option Text) (dumps : List Text) (source : Source) → source_of sample dumps ≡ Some source → HasDumps source dumps
-has_dumps None [] source is = absurd cc
-has_dumps None (dump ∷ dumps) source is =
-    let same : Files ≡ source = cc in subst (λ (s : Source). HasDumps s (dump ∷ dumps)) same (omega arith)
-has_dumps (Some text) [] source is = by (number_in 0 18446744073709551615 text) is
+-- a source that these names give to this mode
+record IsSourceOf (mode : Mode) (names : List Text) (source : Source) : Type 0 where
+  pub named : HasDumps source (dumps_of source names)
+  pub written : IsWrittenOf source mode
+
+files : (mode : Mode) (names : List Text) (source : Source) → mode ≢ Summary → mode ≢ Migrate → of_dumps names ≡ Some source → IsSourceOf mode names source
+files mode [] source other unlike is = absurd cc
+files mode (dump ∷ dumps) source other unlike is =
+    let same : Files ≡ source = cc in
+    subst (IsSourceOf mode (dump ∷ dumps)) same (record { named = omega arith; written = (other, unlike) })
+
+sampled : (sample : Option Text) (names : List Text) (source : Source) → of_sample sample names ≡ Some source → IsSourceOf Summary names source
+sampled None names source is = absurd cc
+sampled (Some text) [] source is = by (number_in 0 18446744073709551615 text) is
   where
-    by : (n : Option ℕ) → option_map Sample n ≡ Some source → HasDumps source []
+    by : (n : Option ℕ) → option_map Sample n ≡ Some source → IsSourceOf Summary [] source
     by None e = absurd cc
-    by (Some seed) e = let same : Sample seed ≡ source = cc in subst (λ (s : Source). HasDumps s []) same refl
-has_dumps (Some text) (dump ∷ dumps) source is = absurd cc
+    by (Some seed) e = let same : Sample seed ≡ source = cc in subst (IsSourceOf Summary []) same (record { named = refl; written = refl })
+sampled (Some text) (name ∷ names) source is = absurd cc
 
--- no flag asks for the summary
-abbrev NoneSums : List Mode → Type 0
-NoneSums asked = AllByRecursion (λ mode. mode ≢ Summary) asked
+migrated : (names : List Text) (source : Source) → of_result names ≡ Some source → IsSourceOf Migrate names source
+migrated [] source is = absurd cc
+migrated (result ∷ []) source is =
+    let same : Result result ≡ source = cc in
+    subst (IsSourceOf Migrate (result ∷ [])) same (record { named = refl; written = refl })
+migrated (result ∷ other ∷ names) source is = absurd cc
 
-flagged : (b : Bool) (mode : Mode) (asked : List Mode) → mode ≢ Summary → NoneSums asked → NoneSums (with_flag b mode asked)
-flagged true mode asked other all = (other, all)
-flagged false mode asked other all = all
+is_source : (mode : Mode) (sample : Option Text) (names : List Text) (source : Source) → source_of mode sample names ≡ Some source → IsSourceOf mode names source
+is_source Labels sample names source is = files Labels names source (λ e. cc) (λ e. cc) is
+is_source Listing sample names source is = files Listing names source (λ e. cc) (λ e. cc) is
+is_source Survey sample names source is = files Survey names source (λ e. cc) (λ e. cc) is
+is_source Ties sample names source is = files Ties names source (λ e. cc) (λ e. cc) is
+is_source Serial sample names source is = files Serial names source (λ e. cc) (λ e. cc) is
+is_source Summary sample names source is = sampled sample names source is
+is_source Migrate sample names source is = migrated names source is
 
-none_sums : (rows : List Row) → NoneSums (asked_in rows)
-none_sums rows =
-    flagged (has_flag (codes "list") rows) Listing _ (λ e. cc)
-    (flagged (has_flag (codes "survey") rows) Survey _ (λ e. cc)
-    (flagged (has_flag (codes "ties") rows) Ties _ (λ e. cc)
-    (flagged (has_flag (codes "serial1") rows) Serial [] (λ e. cc) tt)))
+is_given : (mode : Mode) (asked given : Option Text) → given_of mode asked ≡ Some given → IsGivenTo mode given
+is_given mode None given is = let same : None ≡ given = cc in subst (IsGivenTo mode) same tt
+is_given mode (Some name) given is = by (takes_given mode) refl is
+  where
+    by : (b : Bool) → takes_given mode ≡ b → (if b then Some (Some name) else None) ≡ Some given → IsGivenTo mode given
+    by true takes e = let same : Some name ≡ given = cc in subst (IsGivenTo mode) same takes
+    by false takes e = absurd cc
 
-is_written : (source : Source) (asked : List Mode) (mode : Mode) → NoneSums asked → mode_of source asked ≡ Some mode → IsWrittenOf source mode
-is_written Files [] mode all is = λ e. cc
-is_written Files (m ∷ []) mode all is = λ e. all.0 cc
-is_written Files (m ∷ n ∷ ms) mode all is = absurd cc
-is_written (Sample seed) [] mode all is = cc
-is_written (Sample seed) (m ∷ ms) mode all is = absurd cc
+abbrev made : List Text → Mode → Sets → ℕ → ℕ → Source → Option Text → Settings
+made names mode sets ratio most source given = record {
+  mode = mode;
+  source = source;
+  sets = sets;
+  ratio = ratio;
+  max_paths = most;
+  given = given;
+  dumps = dumps_of source names;
+}
 
-abbrev made : List Text → Source → Mode → Sets → ℕ → ℕ → Settings
-made dumps source mode sets ratio most = record { mode = mode; source = source; sets = sets; ratio = ratio; max_paths = most; dumps = dumps }
+module _ (names : List Text) (sample asked : Option Text) (settings : Settings) where
+  -- what is made with these values
+  abbrev parts : Mode → Sets → ℕ → ℕ → Option Source → Option (Option Text) → Option Settings
+  parts mode sets ratio most source given = option_and_then (λ s. option_map (λ g. made names mode sets ratio most s g) given) source
 
-module _ (dumps : List Text) (settings : Settings) (mode_at : Source → Option Mode) (in_ratio in_most : Option ℕ) (written : (s : Source) (m : Mode) → mode_at s ≡ Some m → IsWrittenOf s m)
-    (ratio_within : (n : ℕ) → in_ratio ≡ Some n → within 0 1000000 n) (most_within : (n : ℕ) → in_most ≡ Some n → within 1 8388608 n) where
-  of_parts : (source : Source) → HasDumps source dumps → (mode : Option Mode) → mode_at source ≡ mode → (sets : Option Sets) (ratio most : Option ℕ) → in_ratio ≡ ratio → in_most ≡ most
-      → option_and_then (λ m. option_and_then (λ s. option_and_then (λ r. option_map (λ p. made dumps source m s r p) most) ratio) sets) mode ≡ Some settings → AreBounded settings
-  of_parts source named None m sets ratio most r p e = absurd cc
-  of_parts source named (Some mode) m None ratio most r p e = absurd cc
-  of_parts source named (Some mode) m (Some sets) None most r p e = absurd cc
-  of_parts source named (Some mode) m (Some sets) (Some ratio) None r p e = absurd cc
-  of_parts source named (Some mode) m (Some sets) (Some ratio) (Some most) r p e =
-      let same : made dumps source mode sets ratio most ≡ settings = cc in
+  of_parts : (mode : Mode) (sets : Sets) (ratio most : ℕ) → within 0 1000000 ratio → within 1 8388608 most → (source : Option Source) → source_of mode sample names ≡ source
+      → (given : Option (Option Text)) → given_of mode asked ≡ given → parts mode sets ratio most source given ≡ Some settings → AreBounded settings
+  of_parts mode sets ratio most r p None s given g e = absurd cc
+  of_parts mode sets ratio most r p (Some source) s None g e = absurd cc
+  of_parts mode sets ratio most r p (Some source) s (Some given) g e =
+      let same : made names mode sets ratio most source given ≡ settings = cc in
+      let is = is_source mode sample names source s in
       subst AreBounded same (record {
-        ratio = (ratio_within ratio r).1;
-        some = (most_within most p).0;
-        most = (most_within most p).1;
-        named = named;
-        written = written source mode m;
+        ratio = r.1;
+        some = p.0;
+        most = p.1;
+        named = is.named;
+        written = is.written;
+        bound = is_given mode asked given g;
       })
 
-  of_source : (sets : Option Sets) (source : Option Source) → ((s : Source) → source ≡ Some s → HasDumps s dumps)
-      → option_and_then (λ source. option_and_then (λ m. option_and_then (λ s. option_and_then (λ r. option_map (λ p. made dumps source m s r p) in_most) in_ratio) sets) (mode_at source)) source ≡
-      Some settings
+  of_values : (mode : Option Mode) (sets : Option Sets) (ratio most : Option ℕ) → ((n : ℕ) → ratio ≡ Some n → within 0 1000000 n) → ((n : ℕ) → most ≡ Some n → within 1 8388608 n)
+      → option_and_then (λ m. option_and_then (λ t. option_and_then (λ r. option_and_then (λ p. parts m t r p (source_of m sample names) (given_of m asked)) most) ratio) sets) mode ≡ Some settings
       → AreBounded settings
-  of_source sets None named e = absurd cc
-  of_source sets (Some source) named e = of_parts source (named source refl) (mode_at source) refl sets in_ratio in_most refl refl e
+  of_values None sets ratio most r p e = absurd cc
+  of_values (Some mode) None ratio most r p e = absurd cc
+  of_values (Some mode) (Some sets) None most r p e = absurd cc
+  of_values (Some mode) (Some sets) (Some ratio) None r p e = absurd cc
+  of_values (Some mode) (Some sets) (Some ratio) (Some most) r p e =
+      of_parts mode sets ratio most (r ratio refl) (p most refl) (source_of mode sample names) refl (given_of mode asked) refl e
 
 bounds_in : (rows : List Row) (settings : Settings) → settings_in rows ≡ Some settings → AreBounded settings
 bounds_in rows settings is =
-    of_source (dumps_in rows) settings (mode_in rows) (number_or 0 1000000 60 (first_of (codes "ratio") rows)) (number_or 1 8388608 8388608 (first_of (codes "max-paths") rows))
-    (λ s m e. is_written s (asked_in rows) m (none_sums rows) e)
+    of_values (names_in rows) (first_of (codes "sample") rows) (first_of (codes "given") rows) settings
+    (mode_in rows) (sets_or_cut (first_of (codes "as-sets") rows))
+    (number_or 0 1000000 60 (first_of (codes "ratio") rows)) (number_or 1 8388608 8388608 (first_of (codes "max-paths") rows))
     (λ n e. within_or 0 1000000 60 n (first_of (codes "ratio") rows) (omega arith) (omega arith) e)
-    (λ n e. within_or 1 8388608 8388608 n (first_of (codes "max-paths") rows) (omega arith) (omega arith) e)
-    (sets_or_cut (first_of (codes "as-sets") rows)) (source_in rows)
-    (λ s e. has_dumps (first_of (codes "sample") rows) (dumps_in rows) s e) is
+    (λ n e. within_or 1 8388608 8388608 n (first_of (codes "max-paths") rows) (omega arith) (omega arith) e) is
 
 unfaulted : {X : Type 0} (faults : Kinds) (o : Option X) (x : X) → unless_fault faults o ≡ Some x → o ≡ Some x
 unfaulted [] o x e = e

@@ -1,6 +1,6 @@
 -- The settings that words give.
 use Rattle.std.specs.Prelude.{◌≡◌, ◌≢◌, ℕ, ◌<◌, ◌≤◌, Bool, true, false, List, [], ◌∷◌, length, Option, Some, None}
-use Rattle.std.specs.Prelude.{option_map, option_and_then, unwrap_or, if◌then◌else◌, codes}
+use Rattle.std.specs.Prelude.{IfSome, IsTrue, is_some, option_map, option_and_then, unwrap_or, if◌then◌else◌, codes}
 use Rattle.std.specs.Str.{bytes_eq}
 use Rattle.std.specs.Str.Parse.{digits_value, without_leading_plus}
 use Rattle.clap.specs.ValueTests.{is_unsigned_in}
@@ -9,9 +9,9 @@ use Rattle.tor_arena.specs.Limits.{max_paths, max_ratio}
 use Rattle.path_clean.specs.declared.cleaned.Sets.{Sets}
 use Rattle.path_clean.specs.declared.cleaned.Sets.TheVariants.{Cut, Skip}
 use Rattle.tor_words.specs.declared.settings.Mode.{Mode}
-use Rattle.tor_words.specs.declared.settings.Mode.TheVariants.{Labels, Listing, Survey, Ties, Serial, Summary}
+use Rattle.tor_words.specs.declared.settings.Mode.TheVariants.{Labels, Listing, Survey, Ties, Serial, Summary, Migrate}
 use Rattle.tor_words.specs.declared.settings.Source.{Source}
-use Rattle.tor_words.specs.declared.settings.Source.TheVariants.{Files, Sample}
+use Rattle.tor_words.specs.declared.settings.Source.TheVariants.{Files, Sample, Result}
 use Rattle.tor_words.specs.declared.settings.Settings.{Settings}
 use Rattle.tor_words.specs.TorCommand.{tor_command}
 
@@ -41,83 +41,111 @@ is_true_text (Some text) = bytes_eq text (codes "true")
 
 -- ---- settings
 
--- the dumps in the order of the words
-abbrev pub dumps_in : List Row → List Text
-dumps_in rows = unwrap_or (all_of (codes "dump") rows) []
+-- the names behind the options, in the order of the words
+abbrev pub names_in : List Row → List Text
+names_in rows = unwrap_or (all_of (codes "dump") rows) []
 
--- where the dumps come from: from the files that are named, at least one; or with `--sample`, beside which none is named, from the
--- sample of that number
-abbrev pub source_of : (sample : Option Text) (dumps : List Text) → Option Source
-source_of None [] = None
-source_of None (dump ∷ dumps) = Some Files
-source_of (Some text) [] = option_map Sample (number_in 0 18446744073709551615 text)
-source_of (Some text) (dump ∷ dumps) = None
+-- a mode before others, if it is asked for
+abbrev pub with_asked : Bool → Mode → List Mode → List Mode
+with_asked true mode modes = mode ∷ modes
+with_asked false mode modes = modes
 
--- a mode before others, if its flag is set
-abbrev pub with_flag : Bool → Mode → List Mode → List Mode
-with_flag true mode modes = mode ∷ modes
-with_flag false mode modes = modes
-
--- what flags ask for, where one of them is set at most
+-- what is asked for, where it is one thing at most
 abbrev pub alone : List Mode → Option (Option Mode)
 alone [] = Some None
 alone (mode ∷ []) = Some (Some mode)
 alone (mode ∷ other ∷ modes) = None
 
--- what is written. Of files it is the result, or what a flag asks for in its place; two flags are refused. Of a sample it is the
--- summary, and no flag stands beside it
-abbrev pub mode_of : Source → (asked : List Mode) → Option Mode
-mode_of Files asked = option_map (λ mode. unwrap_or mode Labels) (alone asked)
-mode_of (Sample seed) [] = Some Summary
-mode_of (Sample seed) (mode ∷ modes) = None
-
-abbrev pub source_in : List Row → Option Source
-source_in rows = source_of (first_of (codes "sample") rows) (dumps_in rows)
-
 abbrev pub has_flag : Text → List Row → Bool
 has_flag name rows = is_true_text (first_of name rows)
 
--- what the flags ask for: with `--list` the list of the paths, with `--survey` what the dumps hold, with `--ties` the ties of the open
--- edges, and with `--serial1` the labels as lines of serial-1
+abbrev pub has_option : Text → List Row → Bool
+has_option name rows = is_some (first_of name rows)
+
+-- what is asked for in place of the result: with `--list` the list of the paths, with `--survey` what the dumps hold, with `--ties` the
+-- ties of the open edges, with `--serial1` the labels as lines of serial-1, with `--sample` the summary of the result over a sample, and
+-- with `--migrate` a result in the text of version 2
 abbrev pub asked_in : List Row → List Mode
 asked_in rows =
-    with_flag (has_flag (codes "list") rows) Listing
-    (with_flag (has_flag (codes "survey") rows) Survey
-    (with_flag (has_flag (codes "ties") rows) Ties
-    (with_flag (has_flag (codes "serial1") rows) Serial [])))
+    with_asked (has_flag (codes "list") rows) Listing
+    (with_asked (has_flag (codes "survey") rows) Survey
+    (with_asked (has_flag (codes "ties") rows) Ties
+    (with_asked (has_flag (codes "serial1") rows) Serial
+    (with_asked (has_option (codes "sample") rows) Summary
+    (with_asked (has_flag (codes "migrate") rows) Migrate [])))))
 
-abbrev pub mode_in : List Row → Source → Option Mode
-mode_in rows source = mode_of source (asked_in rows)
+-- what is written: the result, or what is asked for in its place, which is one thing at most
+abbrev pub mode_in : List Row → Option Mode
+mode_in rows = option_map (λ mode. unwrap_or mode Labels) (alone (asked_in rows))
+
+-- files of dumps are named, at least one
+abbrev pub of_dumps : List Text → Option Source
+of_dumps [] = None
+of_dumps (dump ∷ dumps) = Some Files
+
+-- a sample is named by its number, and no file beside it
+abbrev pub of_sample : Option Text → List Text → Option Source
+of_sample None names = None
+of_sample (Some text) [] = option_map Sample (number_in 0 18446744073709551615 text)
+of_sample (Some text) (name ∷ names) = None
+
+-- one file is named, which holds a result
+abbrev pub of_result : List Text → Option Source
+of_result [] = None
+of_result (result ∷ []) = Some (Result result)
+of_result (result ∷ other ∷ names) = None
+
+-- what is read
+abbrev pub source_of : Mode → (sample : Option Text) (names : List Text) → Option Source
+source_of Summary sample names = of_sample sample names
+source_of Migrate sample names = of_result names
+source_of _ sample names = of_dumps names
+
+-- the dumps among the names: all, but for a result
+abbrev pub dumps_of : Source → List Text → List Text
+dumps_of (Result result) names = []
+dumps_of _ names = names
+
+-- whether orientations that are made of dumps stand behind what is written, and known relationships may bind them
+abbrev pub takes_given : Mode → Bool
+takes_given Labels = true
+takes_given Ties = true
+takes_given Serial = true
+takes_given _ = false
+
+-- the file of known relationships, if one is named, which is refused where nothing is bound by it
+abbrev pub given_of : Mode → Option Text → Option (Option Text)
+given_of mode None = Some None
+given_of mode (Some name) = if takes_given mode then Some (Some name) else None
+
+abbrev pub source_in : List Row → Mode → Option Source
+source_in rows mode = source_of mode (first_of (codes "sample") rows) (names_in rows)
+
+abbrev pub given_in : List Row → Mode → Option (Option Text)
+given_in rows mode = given_of mode (first_of (codes "given") rows)
 
 -- the settings that these matches give, if they ask for something and their values are some
 abbrev pub settings_in : List Row → Option Settings
 settings_in rows =
-    option_and_then (λ source.
     option_and_then (λ mode.
     option_and_then (λ sets.
     option_and_then (λ ratio.
-    option_map (λ most. record {
+    option_and_then (λ most.
+    option_and_then (λ source.
+    option_map (λ given. record {
       mode = mode;
       source = source;
       sets = sets;
       ratio = ratio;
       max_paths = most;
-      dumps = dumps_in rows;
-    }) (number_or 1 max_paths max_paths (first_of (codes "max-paths") rows)))
+      given = given;
+      dumps = dumps_of source (names_in rows);
+    }) (given_in rows mode))
+    (source_in rows mode))
+    (number_or 1 max_paths max_paths (first_of (codes "max-paths") rows)))
     (number_or 0 max_ratio 60 (first_of (codes "ratio") rows)))
     (sets_or_cut (first_of (codes "as-sets") rows)))
-    (mode_in rows source))
-    (source_in rows)
-
--- files are at least one, and a sample stands in place of them
-abbrev pub HasDumps : Source → List Text → Type 0
-HasDumps Files dumps = 0 < length dumps
-HasDumps (Sample seed) dumps = dumps ≡ []
-
--- a sample is summed up, and nothing else is
-abbrev pub IsWrittenOf : Source → Mode → Type 0
-IsWrittenOf Files mode = mode ≢ Summary
-IsWrittenOf (Sample seed) mode = mode ≡ Summary
+    (mode_in rows)
 
 -- the same where clap finds no fault, and nothing where it does
 abbrev pub unless_fault : {X : Type 0} → Kinds → Option X → Option X
@@ -130,13 +158,30 @@ settings_given words = unless_fault (fault_of tor_command words) (settings_in (m
 
 -- ---- what holds of each
 
--- the numbers are within their bounds, files are named unless there is a sample, and this is summed up
+-- where files of dumps are read at least one is named, and else none
+abbrev pub HasDumps : Source → List Text → Type 0
+HasDumps Files dumps = 0 < length dumps
+HasDumps _ dumps = dumps ≡ []
+
+-- a sample is summed up, a result is written in the text of version 2, and nothing else is either
+abbrev pub IsWrittenOf : Source → Mode → Type 0
+IsWrittenOf Files mode = (mode ≢ Summary) × (mode ≢ Migrate)
+IsWrittenOf (Sample seed) mode = mode ≡ Summary
+IsWrittenOf (Result result) mode = mode ≡ Migrate
+
+-- known relationships stand only where they bind something
+abbrev pub IsGivenTo : Mode → Option Text → Type 0
+IsGivenTo mode given = IfSome given (λ name. IsTrue (takes_given mode))
+
+-- the numbers are within their bounds, dumps are named exactly where files of dumps are read, and what is written and what is given go
+-- with what is read
 pub record AreBounded (settings : Settings) : Type 0 where
   pub ratio : settings.ratio ≤ max_ratio
   pub some : 1 ≤ settings.max_paths
   pub most : settings.max_paths ≤ max_paths
   pub named : HasDumps settings.source settings.dumps
   pub written : IsWrittenOf settings.source settings.mode
+  pub bound : IsGivenTo settings.mode settings.given
 
 abbrev pub BoundsLaw : Type 0
 BoundsLaw = (words : List Text) (settings : Settings) → settings_given words ≡ Some settings → AreBounded settings

@@ -2,7 +2,7 @@
 use Rattle.std.specs.Prelude.{ℕ, List, [], ◌∷◌, Option, Some, None, option_map, codes}
 use Rattle.clap.specs.Words.{Row, Text, first_of, fault_of, matches_of}
 use Rattle.tor_words.specs.declared.grade_settings.GradeSettings.{GradeSettings}
-use Rattle.tor_words.specs.Given.{dumps_in, number_in, unless_fault}
+use Rattle.tor_words.specs.Given.{names_in, number_in, unless_fault}
 use Rattle.tor_words.specs.TorgradeCommand.{torgrade_command}
 
 -- the AS whose cone is asked for, if `--cone` is there; nothing where it is there and names none
@@ -19,7 +19,7 @@ grading_of (Some name) asked (dump ∷ dumps) =
 
 -- the settings that these matches give: the first word is the file of relationships, and the others are dumps
 abbrev pub grade_settings_in : List Row → Option GradeSettings
-grade_settings_in rows = grading_of (first_of (codes "rel") rows) (first_of (codes "cone") rows) (dumps_in rows)
+grade_settings_in rows = grading_of (first_of (codes "rel") rows) (first_of (codes "cone") rows) (names_in rows)
 
 -- the settings that the words give, where clap takes them
 unfoldable pub grade_settings_given : List Text → Option GradeSettings

@@ -1,5 +1,6 @@
 -- The command line of `tor`, as clap reads it:
--- `tor [--list] [--survey] [--ties] [--serial1] [--as-sets VALUE] [--ratio NUMBER] [--max-paths NUMBER] [--sample NUMBER] [DUMP ..]`.
+-- `tor [--list] [--survey] [--ties] [--serial1] [--as-sets VALUE] [--ratio NUMBER] [--max-paths NUMBER] [--sample NUMBER]
+-- [--given FILE] [--migrate] [DUMP ..]`.
 use Rattle.std.specs.Prelude.{ℕ, codes, Some, true}
 use Rattle.clap.specs.Words.{App, Rule, Text, new_app, new_rule, with_rule}
 use Rattle.clap.specs.Simple.{on_top}
@@ -45,8 +46,12 @@ with_numbers app =
     (number_rule (codes "max-paths") 1 max_paths))
     (number_rule (codes "sample") 0 18446744073709551615)
 
+-- the command with what asks for a file that is no dump: known relationships, or a result
+abbrev pub with_others : App → App
+with_others app = with_rule (with_rule app (option_rule (codes "given"))) (flag_rule (codes "migrate"))
+
 unfoldable pub tor_command : App
 tor_command =
-    with_rule (with_numbers (with_choices
-    (on_top (λ s. record s { no_binary_name = true }) (new_app (codes "tor")))))
+    with_rule (with_others (with_numbers (with_choices
+    (on_top (λ s. record s { no_binary_name = true }) (new_app (codes "tor"))))))
     (rest_rule (codes "dump"))

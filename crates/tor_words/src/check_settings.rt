@@ -7,7 +7,7 @@ ghost use Rattle.tor_words.specs.Refused.{IsUsage, SaysUsage};
 use crate::command::check_command;
 use crate::name::Name;
 use crate::refused::{WordsRefused, refusal, usage};
-use crate::settings::{dumps_in, first};
+use crate::settings::{first, names_in};
 use clap::ArgMatches;
 use std::alloc::Global;
 use tor_arena::List;
@@ -33,7 +33,7 @@ fn check_settings_in(alloc: Global, matches: &ArgMatches) -> Result<CheckSetting
     let Ok(name) = Name::from_text(alloc, text) else {
         return Err(WordsRefused::NoMemory);
     };
-    match dumps_in(alloc, matches) {
+    match names_in(alloc, matches) {
         Ok(dumps) => Ok(CheckSettings {
             result: name,
             dumps,

@@ -1,7 +1,7 @@
 //! The commands, as clap takes them.
 ghost use Rattle.std.specs.Prelude.{◌≡◌, IfOk, codes, false};
 ghost use Rattle.clap.specs.Words.{app_of, rule_of, with_rule};
-ghost use Rattle.tor_words.specs.TorCommand.{tor_command, with_lists, with_uses, with_choices, with_numbers};
+ghost use Rattle.tor_words.specs.TorCommand.{tor_command, with_lists, with_uses, with_choices, with_numbers, with_others};
 ghost use Rattle.tor_words.specs.TorCommand.{option_rule, number_rule, flag_rule, rest_rule};
 ghost use Rattle.tor_words.specs.TorcheckCommand.{torcheck_command, needed_rule};
 
@@ -137,6 +137,12 @@ const MOST_HELP: &str = "The most distinct paths, 1 to 8388608 [default: 8388608
 const SAMPLE_HELP: &str =
     "Write the summary of the result over a dump made from this number, 0 to 18446744073709551615, in place of dumps";
 
+const GIVEN_HELP: &str =
+    "Known relationships, lines of serial-1: provider|customer|-1 binds the inference, peer|peer|0 is read and checked and binds nothing";
+
+const MIGRATE_HELP: &str =
+    "Write the result that is named in place of dumps in the text of version 2; --as-sets, --ratio and --max-paths change nothing";
+
 const DUMPS_HELP: &str =
     "Uncompressed MRT table dumps, read in this order; /dev/stdin can be named once";
 
@@ -179,6 +185,14 @@ fn with_numbers<'a>(alloc: Global, command: Command<'a>) -> Result<Command<'a>, 
     with_number(alloc, command, "sample", 0, u64::MAX, SAMPLE_HELP)
 }
 
+// The command with what asks for a file that is no dump: known relationships, or a result.
+fn with_others<'a>(alloc: Global, command: Command<'a>) -> Result<Command<'a>, AllocError>
+    ensures { IfOk result (λ c. app_of c ≡ with_others (app_of command.entry)) }
+{
+    let command = with_option(alloc, command, "given", GIVEN_HELP)?;
+    with_flag(alloc, command, "migrate", MIGRATE_HELP)
+}
+
 /// The command line of `tor`.
 pub(crate) fn command<'a>(alloc: Global) -> Result<Command<'a>, AllocError>
     ensures { IfOk result (λ c. app_of c ≡ tor_command) }
@@ -186,6 +200,7 @@ pub(crate) fn command<'a>(alloc: Global) -> Result<Command<'a>, AllocError>
     let tor = Command::new(alloc, "tor").no_binary_name(true);
     let tor = with_choices(alloc, tor)?;
     let tor = with_numbers(alloc, tor)?;
+    let tor = with_others(alloc, tor)?;
     with_rest(alloc, tor, "dump", DUMPS_HELP)
 }
 

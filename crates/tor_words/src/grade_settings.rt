@@ -7,7 +7,7 @@ ghost use Rattle.tor_words.specs.Refused.{IsUsage, SaysUsage};
 use crate::grade_command::grade_command;
 use crate::name::Name;
 use crate::refused::{WordsRefused, refusal, usage};
-use crate::settings::{dumps_in, first};
+use crate::settings::{first, names_in};
 use crate::values::number_in;
 use clap::ArgMatches;
 use std::alloc::Global;
@@ -47,7 +47,7 @@ fn grade_settings_in(alloc: Global, matches: &ArgMatches) -> Result<GradeSetting
     let Some(text) = first(matches, "rel") else {
         return Err(usage(alloc, "no file of relationships is named\n"));
     };
-    let Ok(dumps) = dumps_in(alloc, matches) else {
+    let Ok(dumps) = names_in(alloc, matches) else {
         return Err(WordsRefused::NoMemory);
     };
     if dumps.is_empty() {

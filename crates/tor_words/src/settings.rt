@@ -1,8 +1,9 @@
 //! The settings of a run.
-ghost use Rattle.std.specs.Prelude.{◌≡◌, ◌≤◌, IfOk, IfErr, OnErr, Some, None, map, option_map};
+ghost use Rattle.std.specs.Prelude.{◌≡◌, ◌≤◌, IfOk, IfErr, OnErr, Some, None, map, option_map, codes};
 ghost use Rattle.clap.specs.Words.{found_of, rows_of, first_of};
 ghost use Rattle.tor_arena.specs.Limits.{max_paths, max_ratio};
-ghost use Rattle.tor_words.specs.Given.{settings_in, settings_given, dumps_in, has_flag, asked_in, alone, mode_of, source_of, HasDumps};
+ghost use Rattle.tor_words.specs.Given.{settings_in, settings_given, names_in, has_flag, has_option, mode_in, of_sample, of_result};
+ghost use Rattle.tor_words.specs.Given.{source_of, dumps_of, takes_given, given_of, number_or, sets_or_cut, HasDumps};
 ghost use Rattle.tor_words.specs.Refused.{IsUsage, SaysUsage};
 
 use crate::command::command;
@@ -15,7 +16,7 @@ use std::alloc::Global;
 use tor_arena::{List, MAX_PATHS, MAX_RATIO, NoMemory};
 
 /// What a run of `tor` writes.
-#[derive(Clone, Copy, Debug, PartialEq, Eq)]
+#[derive(Clone, Copy, PartialEq, Eq)]
 pub enum Mode {
     /// The result: which paths are kept, and the labels and the marks of the edges.
     Labels,
@@ -29,23 +30,39 @@ pub enum Mode {
     Serial,
     /// The summary of the result alone.
     Summary,
+    /// A result in the text of version 2.
+    Migrate,
 }
 
-/// Where the dumps of a run come from.
-#[derive(Clone, Copy, Debug, PartialEq, Eq)]
+impl Mode {
+    // Whether orientations that are made of dumps stand behind what is written, and known relationships may bind them.
+    fn takes_given(self) -> bool
+        ensures { result ≡ takes_given self }
+    {
+        match self {
+            Mode::Labels | Mode::Ties | Mode::Serial => true,
+            Mode::Listing | Mode::Survey | Mode::Summary | Mode::Migrate => false,
+        }
+    }
+}
+
+/// What a run of `tor` reads, beside known relationships.
+#[derive(Drop)]
 pub enum Source {
-    /// They are the files that the words name.
+    /// The files of dumps that the words name.
     Files,
     /// The sample of this number is the one dump, and no file is read.
     Sample(u64),
+    /// The file of this name, which holds a result, and no dump.
+    Result(Name),
 }
 
-/// What a run of `tor` is asked for, and over which dumps.
+/// What a run of `tor` is asked for, and over which files.
 #[derive(Drop)]
 pub struct Settings {
     /// What is written.
     pub mode: Mode,
-    /// Where the dumps come from.
+    /// What is read.
     pub source: Source,
     /// What becomes of sets in AS_PATHs.
     pub sets: Sets,
@@ -54,16 +71,27 @@ pub struct Settings {
     pub ratio: u32,
     /// The most distinct paths, from 1 to 8388608.
     pub max_paths: u32,
-    /// The names of the dumps in the order in which they are read: none for a sample, and else one at least.
+    /// The name of the file of known relationships, if one is named.
+    pub given: Option<Name>,
+    /// The names of the dumps in the order in which they are read: one at least, but none for a sample or a result.
     pub dumps: List<Name>,
 }
 
-/// Why words are refused where two flags each ask for something of their own.
-const ONE_ALONE: &str = "of --list, --survey, --ties and --serial1 one can be given\n";
+/// What is written, and the values that no file has.
+#[derive(Clone, Copy)]
+struct Choices {
+    mode: Mode,
+    sets: Sets,
+    ratio: u32,
+    max_paths: u32,
+}
 
-/// Why words are refused where something stands beside `--sample`.
-const SAMPLE_ALONE: &str =
-    "--sample takes no --list, no --survey, no --ties, no --serial1 and no dump\n";
+/// Why words are refused where two of them each ask for something in place of the result.
+const ONE_ALONE: &str =
+    "of --list, --survey, --ties, --serial1, --sample and --migrate one can be given\n";
+
+/// Why words are refused where known relationships would bind nothing.
+const GIVEN_ALONE: &str = "--given takes no --list, no --survey, no --sample and no --migrate\n";
 
 /// The first value of an option.
 pub(crate) fn first<'a>(matches: &ArgMatches<'a>, id: &str) -> Option<&'a str>
@@ -83,30 +111,13 @@ pub(crate) fn names_of(alloc: Global, texts: &[&str]) -> Result<List<Name>, NoMe
     Ok(names)
 }
 
-/// The names of the dumps.
-pub(crate) fn dumps_in(alloc: Global, matches: &ArgMatches) -> Result<List<Name>, NoMemory>
-    ensures { IfOk result (λ names. names ≡ dumps_in (rows_of (found_of matches.now))) }
+/// The names behind the options.
+pub(crate) fn names_in(alloc: Global, matches: &ArgMatches) -> Result<List<Name>, NoMemory>
+    ensures { IfOk result (λ names. names ≡ names_in (rows_of (found_of matches.now))) }
 {
     match matches.get_strs("dump") {
         Some(texts) => names_of(alloc, texts),
         None => Ok(List::new(alloc)),
-    }
-}
-
-// Where the dumps come from, or why from nowhere.
-fn source_of(sample: Option<&str>, dumps: &[Name]) -> Result<Source, &'static str>
-    ensures ok { IfOk result (λ source. source_of (option_map (λ s. s.now) sample.entry) dumps.now ≡ Some source) }
-    ensures err { OnErr result (source_of (option_map (λ s. s.now) sample.entry) dumps.now ≡ None) }
-    ensures named { IfOk result (λ source. HasDumps source dumps.now) }
-{
-    match sample {
-        None if dumps.is_empty() => Err("no dump is named\n"),
-        None => Ok(Source::Files),
-        Some(_) if !dumps.is_empty() => Err(SAMPLE_ALONE),
-        Some(text) => match number_in(text, 0, u64::MAX) {
-            Some(seed) => Ok(Source::Sample(seed)),
-            None => Err("--sample takes a number from 0 to 18446744073709551615\n"),
-        },
     }
 }
 
@@ -117,36 +128,133 @@ fn has_flag(matches: &ArgMatches, name: &str) -> bool
     is_true_text(first(matches, name))
 }
 
-// What the flags ask for in place of the result, if one of them is set; or why more than one can't be.
-fn asked_in(matches: &ArgMatches) -> Result<Option<Mode>, &'static str>
-    ensures ok { IfOk result (λ mode. alone (asked_in (rows_of (found_of matches.now))) ≡ Some mode) }
-    ensures err { OnErr result (alone (asked_in (rows_of (found_of matches.now))) ≡ None) }
+// Whether the option of this name does.
+fn has_option(matches: &ArgMatches, name: &str) -> bool
+    ensures { result ≡ has_option name.now (rows_of (found_of matches.now)) }
+{
+    first(matches, name).is_some()
+}
+
+// What is written: the result, or what is asked for in its place; or why nothing.
+fn mode_in(matches: &ArgMatches) -> Result<Mode, &'static str>
+    ensures ok { IfOk result (λ mode. mode_in (rows_of (found_of matches.now)) ≡ Some mode) }
+    ensures err { OnErr result (mode_in (rows_of (found_of matches.now)) ≡ None) }
 {
     let list = has_flag(matches, "list");
     let survey = has_flag(matches, "survey");
     let ties = has_flag(matches, "ties");
     let serial = has_flag(matches, "serial1");
-    match (list, survey, ties, serial) {
-        (false, false, false, false) => Ok(None),
-        (true, false, false, false) => Ok(Some(Mode::Listing)),
-        (false, true, false, false) => Ok(Some(Mode::Survey)),
-        (false, false, true, false) => Ok(Some(Mode::Ties)),
-        (false, false, false, true) => Ok(Some(Mode::Serial)),
+    let sample = has_option(matches, "sample");
+    let migrate = has_flag(matches, "migrate");
+    match (list, survey, ties, serial, sample, migrate) {
+        (false, false, false, false, false, false) => Ok(Mode::Labels),
+        (true, false, false, false, false, false) => Ok(Mode::Listing),
+        (false, true, false, false, false, false) => Ok(Mode::Survey),
+        (false, false, true, false, false, false) => Ok(Mode::Ties),
+        (false, false, false, true, false, false) => Ok(Mode::Serial),
+        (false, false, false, false, true, false) => Ok(Mode::Summary),
+        (false, false, false, false, false, true) => Ok(Mode::Migrate),
         _ => Err(ONE_ALONE),
     }
 }
 
-// What is written of dumps that come from there, or why nothing.
-fn mode_of(source: Source, matches: &ArgMatches) -> Result<Mode, &'static str>
-    ensures ok { IfOk result (λ mode. mode_of source (asked_in (rows_of (found_of matches.now))) ≡ Some mode) }
-    ensures err { OnErr result (mode_of source (asked_in (rows_of (found_of matches.now))) ≡ None) }
+// What is written, and the values that no file has; or why none are.
+fn choices_in(matches: &ArgMatches) -> Result<Choices, &'static str>
+    ensures mode { IfOk result (λ c. mode_in (rows_of (found_of matches.now)) ≡ Some c.mode) }
+    ensures sets { IfOk result (λ c. sets_or_cut (first_of (codes "as-sets") (rows_of (found_of matches.now))) ≡ Some c.sets) }
+    ensures ratio { IfOk result (λ c. number_or 0 max_ratio 60 (first_of (codes "ratio") (rows_of (found_of matches.now))) ≡ Some c.ratio) }
+    ensures most { IfOk result (λ c.
+        number_or 1 max_paths max_paths (first_of (codes "max-paths") (rows_of (found_of matches.now))) ≡ Some c.max_paths) }
+    ensures err { OnErr result (settings_in (rows_of (found_of matches.now)) ≡ None) }
+    ensures least_paths { IfOk result (λ c. 1 ≤ c.max_paths) }
+    ensures most_paths { IfOk result (λ c. c.max_paths ≤ max_paths) }
+    ensures most_ratio { IfOk result (λ c. c.ratio ≤ max_ratio) }
 {
-    match (source, asked_in(matches)) {
-        (Source::Files, Ok(None)) => Ok(Mode::Labels),
-        (Source::Files, Ok(Some(mode))) => Ok(mode),
-        (Source::Files, Err(why)) => Err(why),
-        (Source::Sample(_), Ok(None)) => Ok(Mode::Summary),
-        (Source::Sample(_), _) => Err(SAMPLE_ALONE),
+    let mode = mode_in(matches)?;
+    let Some(sets) = sets_or_cut(first(matches, "as-sets")) else {
+        return Err("--as-sets takes cut or skip\n");
+    };
+    let Some(ratio) = number_or(first(matches, "ratio"), 0, MAX_RATIO as u64, 60) else {
+        return Err("--ratio takes a number from 0 to 1000000\n");
+    };
+    let Some(max_paths) = number_or(
+        first(matches, "max-paths"),
+        1,
+        MAX_PATHS as u64,
+        MAX_PATHS as u64,
+    ) else {
+        return Err("--max-paths takes a number from 1 to 8388608\n");
+    };
+    Ok(Choices {
+        mode,
+        sets,
+        ratio: ratio as u32,
+        max_paths: max_paths as u32,
+    })
+}
+
+// The sample of a number, beside which no file is named; or why none.
+fn sampled(sample: Option<&str>, names: &[Name]) -> Result<Source, &'static str>
+    ensures ok { IfOk result (λ source. of_sample (option_map (λ s. s.now) sample.entry) names.now ≡ Some source) }
+    ensures err { OnErr result (of_sample (option_map (λ s. s.now) sample.entry) names.now ≡ None) }
+{
+    match (sample, names) {
+        (Some(text), []) => match number_in(text, 0, u64::MAX) {
+            Some(seed) => Ok(Source::Sample(seed)),
+            None => Err("--sample takes a number from 0 to 18446744073709551615\n"),
+        },
+        _ => Err("--sample takes no dump\n"),
+    }
+}
+
+// The file of a result, whose name is the only one and is taken out; or why none.
+fn migrated(names: &mut List<Name>) -> Result<Source, &'static str>
+    ensures ok { IfOk result (λ source. of_result names.old ≡ Some source) }
+    ensures err { OnErr result (of_result names.old ≡ None) }
+    ensures left { IfOk result (λ source. names.new ≡ dumps_of source names.old) }
+{
+    match (names.pop(), names.is_empty()) {
+        (Some(result), true) => Ok(Source::Result(result)),
+        (Some(_), false) => Err("--migrate takes one result\n"),
+        (None, _) => Err("no result is named\n"),
+    }
+}
+
+// What is read for a mode, or why nothing. Only the names of dumps are left.
+fn source_of(
+    mode: Mode,
+    sample: Option<&str>,
+    names: &mut List<Name>,
+) -> Result<Source, &'static str>
+    ensures ok { IfOk result (λ source. source_of mode (option_map (λ s. s.now) sample.entry) names.old ≡ Some source) }
+    ensures err { OnErr result (source_of mode (option_map (λ s. s.now) sample.entry) names.old ≡ None) }
+    ensures left { IfOk result (λ source. names.new ≡ dumps_of source names.old) }
+{
+    match mode {
+        Mode::Summary => sampled(sample, names.as_slice()),
+        Mode::Migrate => migrated(names),
+        Mode::Labels | Mode::Listing | Mode::Survey | Mode::Ties | Mode::Serial => {
+            if names.is_empty() {
+                return Err("no dump is named\n");
+            }
+            Ok(Source::Files)
+        }
+    }
+}
+
+// The file of known relationships, if one is named; or why it can't be.
+fn given_of(alloc: Global, mode: Mode, given: Option<&str>) -> Result<Option<Name>, WordsRefused>
+    ensures ok { IfOk result (λ name. given_of mode (option_map (λ s. s.now) given.entry) ≡ Some name) }
+    ensures err { IfErr result (λ e. IsUsage e → given_of mode (option_map (λ s. s.now) given.entry) ≡ None) }
+    ensures text { IfErr result SaysUsage }
+{
+    match given {
+        None => Ok(None),
+        Some(_) if !mode.takes_given() => Err(usage(alloc, GIVEN_ALONE)),
+        Some(text) => match Name::from_text(alloc, text) {
+            Ok(name) => Ok(Some(name)),
+            Err(_) => Err(WordsRefused::NoMemory),
+        },
     }
 }
 
@@ -160,39 +268,29 @@ fn settings_in(alloc: Global, matches: &ArgMatches) -> Result<Settings, WordsRef
     ensures most { IfOk result (λ s. s.max_paths ≤ max_paths) }
     ensures named { IfOk result (λ s. HasDumps s.source s.dumps) }
 {
-    let Ok(dumps) = dumps_in(alloc, matches) else {
+    let choices = match choices_in(matches) {
+        Ok(choices) => choices,
+        Err(why) => return Err(usage(alloc, why)),
+    };
+    let Ok(mut dumps) = names_in(alloc, matches) else {
         return Err(WordsRefused::NoMemory);
     };
-    let source = match source_of(first(matches, "sample"), dumps.as_slice()) {
+    let source = match source_of(choices.mode, first(matches, "sample"), &mut dumps) {
         Ok(source) => source,
         Err(why) => return Err(usage(alloc, why)),
     };
-    let mode = match mode_of(source, matches) {
-        Ok(mode) => mode,
-        Err(why) => return Err(usage(alloc, why)),
-    };
-    let Some(sets) = sets_or_cut(first(matches, "as-sets")) else {
-        return Err(usage(alloc, "--as-sets takes cut or skip\n"));
-    };
-    let Some(ratio) = number_or(first(matches, "ratio"), 0, MAX_RATIO as u64, 60) else {
-        return Err(usage(alloc, "--ratio takes a number from 0 to 1000000\n"));
-    };
-    let Some(max_paths) = number_or(
-        first(matches, "max-paths"),
-        1,
-        MAX_PATHS as u64,
-        MAX_PATHS as u64,
-    ) else {
-        return Err(usage(alloc, "--max-paths takes a number from 1 to 8388608\n"));
-    };
-    Ok(Settings {
-        mode,
-        source,
-        sets,
-        ratio: ratio as u32,
-        max_paths: max_paths as u32,
-        dumps,
-    })
+    match given_of(alloc, choices.mode, first(matches, "given")) {
+        Ok(given) => Ok(Settings {
+            mode: choices.mode,
+            source,
+            sets: choices.sets,
+            ratio: choices.ratio,
+            max_paths: choices.max_paths,
+            given,
+            dumps,
+        }),
+        Err(refused) => Err(refused),
+    }
 }
 
 /// The settings that the words after the program's name give, by clap's meaning of the command. Usage comes exactly
