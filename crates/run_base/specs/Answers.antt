@@ -13,7 +13,10 @@ use Rattle.run_base.specs.declared.answer.Note.{Note}
 use Rattle.run_base.specs.declared.answer.Note.TheVariants.{Plain, Octets, Text}
 use Rattle.run_base.specs.declared.answer.Refusal.{Refusal}
 use Rattle.run_base.specs.declared.answer.Refusal.TheVariants as refusal
-use Rattle.run_base.specs.Notes.{plain_note, malformed_note, limit_note, read_fault_note}
+use Rattle.run_base.specs.declared.notes.FirstFile.{FirstFile}
+use Rattle.run_base.specs.declared.whole_file.Unread.{Unread}
+use Rattle.run_base.specs.declared.whole_file.Unread.TheVariants as unread
+use Rattle.run_base.specs.Notes.{plain_note, malformed_note, limit_note, read_fault_note, too_long_note}
 
 abbrev pub note_text : Status → Note → List ℕ
 note_text s Plain = plain_note s
@@ -43,6 +46,12 @@ Answers (refusal.Words (refused.Usage text)) answer = (answer.status ≡ status.
 Answers (refusal.Words refused.NoMemory) answer = IsNoMemory answer
 Answers (refusal.Dumps stopped) answer = AnswersStop stopped.dump stopped.error answer
 Answers refusal.NoMemory answer = IsNoMemory answer
+
+-- the answer where the file that is read first was not read
+abbrev pub AnswersUnread : FirstFile → Unread → Answer → Type 0
+AnswersUnread file unread.Failed answer = AnswersWith status.ReadFault (read_fault_note 0) answer
+AnswersUnread file unread.TooLong answer = AnswersWith status.Limit (too_long_note file) answer
+AnswersUnread file unread.NoMemory answer = IsNoMemory answer
 
 -- a read failed
 abbrev pub IsReadFault : Refusal → Type 0

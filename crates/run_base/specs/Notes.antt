@@ -9,6 +9,8 @@ use Rattle.dump_read.specs.declared.error.Fault.{Fault}
 use Rattle.dump_read.specs.declared.error.Fault.TheVariants as fault
 use Rattle.dump_read.specs.declared.error.LimitKind.{LimitKind}
 use Rattle.dump_read.specs.declared.error.LimitKind.TheVariants.{Paths, Numbers, Bytes}
+use Rattle.run_base.specs.declared.notes.FirstFile.{FirstFile}
+use Rattle.run_base.specs.declared.notes.FirstFile.TheVariants as first
 
 abbrev pub exit_code : Status → ℕ
 exit_code Done = 0
@@ -60,9 +62,23 @@ malformed_note place broken =
 abbrev pub limit_note : LimitKind → ℕ → List ℕ
 limit_note kind dump = codes "limit|" ++ limit_word kind ++ codes "|" ++ decimal dump ++ 10 ∷ []
 
--- the result file has too many octets
-abbrev pub result_note : List ℕ
-result_note = codes "limit|result|0" ++ 10 ∷ []
+-- ---- notes on a file that is read whole, before any dump
 
+abbrev pub first_word : FirstFile → List ℕ
+first_word first.Given = codes "given"
+first_word first.Result = codes "result"
+first_word first.Rel = codes "rel"
+
+-- its first bad line
+abbrev pub bad_line_note : FirstFile → ℕ → List ℕ
+bad_line_note file line = codes "malformed|0|" ++ decimal line ++ codes "|0|" ++ first_word file ++ 10 ∷ []
+
+-- it has too many octets
+abbrev pub too_long_note : FirstFile → List ℕ
+too_long_note file = codes "limit|" ++ first_word file ++ codes "|0" ++ 10 ∷ []
+
+-- ---- a failed read
+
+-- of the dump of this number, or at 0 of the file that is read before any dump
 abbrev pub read_fault_note : ℕ → List ℕ
 read_fault_note dump = codes "read-fault|" ++ decimal dump ++ 10 ∷ []

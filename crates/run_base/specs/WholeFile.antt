@@ -2,6 +2,11 @@
 use Rattle.std.specs.Prelude.{◌≡◌, ◌≤◌, ◌<◌, ◌⊎◌, ◌+◌, ℕ, List, [], length, drop, Option, Some, None, IfSome, IsSomeAnd}
 use Rattle.tor_io.specs.Contents.{Files}
 
+-- the file of this name is there with these octets, and they are few enough
+pub record IsFile (most : ℕ) (files : Files) (name bytes : List ℕ) : Type 0 where
+  pub there : files name ≡ Some bytes
+  pub short : length bytes ≤ most
+
 -- a file of these octets has more
 abbrev pub IsLong : ℕ → List ℕ → Type 0
 IsLong most bytes = most < length bytes

@@ -1,10 +1,11 @@
 //! What a run answers where it has nothing to write.
 ghost use Rattle.std.specs.Prelude.{◌≡◌, IfOk, OnErr, string_bytes};
-ghost use Rattle.run_base.specs.Answers.{note_in, Answers, IsNoMemory};
+ghost use Rattle.run_base.specs.Answers.{note_in, Answers, AnswersUnread, IsNoMemory};
 
-use crate::notes::{limit_note, malformed_note, read_fault_note};
+use crate::notes::{FirstFile, limit_note, malformed_note, read_fault_note, too_long_note};
 use crate::reading::Stopped;
 use crate::status::Status;
+use crate::whole_file::Unread;
 use dump_read::DumpError;
 use std::alloc::{AllocError, Global};
 use tor_arena::List;
@@ -108,5 +109,17 @@ pub fn answer_to(alloc: Global, refusal: Refusal) -> Answer
         Refusal::Words(WordsRefused::NoMemory) | Refusal::NoMemory => {
             Answer::plain(Status::NoMemory)
         }
+    }
+}
+
+/// The answer where the file that is read first was not read.
+#[tactic(auto, using(crate::proofs::Notings::says))]
+pub fn answer_to_unread(alloc: Global, file: FirstFile, unread: Unread) -> Answer
+    ensures { AnswersUnread file unread result }
+{
+    match unread {
+        Unread::Failed => Answer::noted(Status::ReadFault, read_fault_note(alloc, 0)),
+        Unread::TooLong => Answer::noted(Status::Limit, too_long_note(alloc, file)),
+        Unread::NoMemory => Answer::plain(Status::NoMemory),
     }
 }

@@ -9,8 +9,8 @@ mod reading;
 mod status;
 mod whole_file;
 
-pub use answer::{Answer, Note, Refusal, answer_to};
-pub use notes::{read_fault_note, result_note};
+pub use answer::{Answer, Note, Refusal, answer_to, answer_to_unread};
+pub use notes::{FirstFile, bad_line_note};
 pub use pieces::{Piece, put_pieces};
 pub use reading::{Stopped, nothing_taken, read_dumps};
 pub use status::{Status, code_of_failure};

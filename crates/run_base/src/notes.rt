@@ -1,10 +1,22 @@
 //! The notes of what ended a run.
 ghost use Rattle.std.specs.Prelude.{◌≡◌, IfOk, string_bytes};
-ghost use Rattle.run_base.specs.Notes.{rib_word, fault_word, limit_word, malformed_note, limit_note, result_note, read_fault_note};
+ghost use Rattle.run_base.specs.Notes.{rib_word, fault_word, limit_word, malformed_note, limit_note, read_fault_note};
+ghost use Rattle.run_base.specs.Notes.{first_word, bad_line_note, too_long_note};
 
 use dump_read::{Fault, LimitKind, Place};
 use path_attrs::RibFault;
 use std::alloc::{AllocError, Global};
+
+/// A file that a run reads whole, before any dump.
+#[derive(Clone, Copy, PartialEq, Eq)]
+pub enum FirstFile {
+    /// Relationships that are given.
+    Given,
+    /// A result.
+    Result,
+    /// Known relationships, by which paths are graded.
+    Rel,
+}
 
 fn rib_word(fault: RibFault) -> &'static str
     ensures { result.now ≡ rib_word fault }
@@ -66,15 +78,36 @@ pub(crate) fn limit_note(alloc: Global, kind: LimitKind, dump: u64) -> Result<St
     format!(in alloc; "limit|{word}|{dump}\n")
 }
 
-/// The note of a result file that is too long.
-pub fn result_note(alloc: Global) -> Result<String, AllocError>
-    ensures { IfOk result (λ text. string_bytes text ≡ result_note) }
+fn first_word(file: FirstFile) -> &'static str
+    ensures { result.now ≡ first_word file }
 {
-    String::from_str(alloc, "limit|result|0\n")
+    match file {
+        FirstFile::Given => "given",
+        FirstFile::Result => "result",
+        FirstFile::Rel => "rel",
+    }
 }
 
-/// The note of a failed read of the dump of this number, or at 0 of the result file.
-pub fn read_fault_note(alloc: Global, dump: u64) -> Result<String, AllocError>
+/// The note of the first bad line of a file that is read whole, before any dump.
+pub fn bad_line_note(alloc: Global, file: FirstFile, line: u64) -> Result<String, AllocError>
+    ensures { IfOk result (λ text. string_bytes text ≡ bad_line_note file line) }
+{
+    let word = first_word(file);
+    let mut text = format!(in alloc; "malformed|0|{line}|0|")?;
+    write!(text, "{word}\n")?;
+    Ok(text)
+}
+
+/// The note of such a file that is too long.
+pub(crate) fn too_long_note(alloc: Global, file: FirstFile) -> Result<String, AllocError>
+    ensures { IfOk result (λ text. string_bytes text ≡ too_long_note file) }
+{
+    let word = first_word(file);
+    format!(in alloc; "limit|{word}|0\n")
+}
+
+/// The note of a failed read of the dump of this number, or at 0 of the file that is read before any dump.
+pub(crate) fn read_fault_note(alloc: Global, dump: u64) -> Result<String, AllocError>
     ensures { IfOk result (λ text. string_bytes text ≡ read_fault_note dump) }
 {
     format!(in alloc; "read-fault|{dump}\n")

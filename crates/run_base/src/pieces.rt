@@ -8,7 +8,7 @@ use text_fields::write_digits;
 use tor_io::{Buffer, Failed, Sink};
 
 /// A piece of a text.
-#[derive(Clone, Copy, Debug)]
+#[derive(Clone, Copy)]
 pub enum Piece<'a> {
     /// These octets.
     Word(&'static [u8]),

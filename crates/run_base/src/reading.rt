@@ -16,7 +16,7 @@ use tor_io::Shelf;
 use tor_words::Name;
 
 /// Where the reading of dumps stopped: the number of the dump, from 1, and why.
-#[derive(Clone, Copy, Debug, PartialEq, Eq)]
+#[derive(Clone, Copy, PartialEq, Eq)]
 pub struct Stopped {
     /// The number of the dump, from 1.
     pub dump: u64,

@@ -9,21 +9,21 @@ use std::io::ErrorKind;
 const NO_WORDS: u8 = 9;
 
 /// How a run ended.
-#[derive(Clone, Copy, Debug, PartialEq, Eq)]
+#[derive(Clone, Copy, PartialEq, Eq)]
 pub enum Status {
-    /// The result, the list, the survey or the summary of a sample was written whole, or of a check the yes.
+    /// The text that was asked for was written whole, or of a check the yes.
     Done,
     /// The no of a check was written whole.
     No,
     /// The words are no command of the program.
     Usage,
-    /// A record of a dump has a fault.
+    /// A record of a dump has a fault, or a file that is read whole has a bad line.
     Malformed,
     /// A call on the shelf failed, as an open does at a file that isn't there.
     ReadFault,
     /// A call on out failed. A prefix of the text may have been written.
     WriteFault,
-    /// There is too much: distinct paths, numbers on them, octets of a dump, or octets of a result file.
+    /// There is too much: distinct paths, numbers on them, octets of a dump, or octets of a file that is read whole.
     Limit,
     /// Memory ran out. Nothing was written to out.
     NoMemory,

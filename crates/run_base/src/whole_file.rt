@@ -14,7 +14,7 @@ use tor_io::{Failed, OpenRefused, Shelf};
 const STEP: usize = 1 << 16;
 
 /// Why a file was not read whole.
-#[derive(Clone, Copy, Debug, PartialEq, Eq)]
+#[derive(Clone, Copy, PartialEq, Eq)]
 pub enum Unread {
     /// A call on the shelf failed.
     Failed,

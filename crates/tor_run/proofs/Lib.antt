@@ -1,14 +1,19 @@
+mod Summaries
 pub mod AcceptingLemmas
 pub mod Agreeing
+pub mod Always
+pub mod Comings
+pub mod EqualLengths
 pub mod GradingLemmas
+pub mod Known
 pub mod Lines
-pub mod Outcomes
+pub mod Migrating
 pub mod Reaching
 pub mod ReadableLemmas
 pub mod Sampled
 pub mod SeenLemmas
 pub mod SelfGradings
-mod Summaries
 pub mod TableLines
 pub mod TableRows
+pub mod Unwritings
 pub mod WiderLimit

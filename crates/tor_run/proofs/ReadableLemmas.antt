@@ -190,6 +190,7 @@ dumps_readable sets limit names files = (λ seen. forth seen.0 seen.1, λ readab
 
 pub readable : ReadableLaw
 readable source.Files settings files = dumps_readable settings.sets settings.max_paths settings.dumps files
+readable (source.Result name) settings files = dumps_readable settings.sets settings.max_paths settings.dumps files
 readable (source.Sample seed) settings files =
     subst (λ (given : Result Taken DumpsEnd). ((taken : Taken) × (given ≡ Ok taken)) ↔ AreReadable settings.sets settings.max_paths (Some (sample seed) ∷ []))
     (as_dump settings seed) (dumps_readable settings.sets settings.max_paths ([] ∷ []) (sample_file seed))

@@ -153,5 +153,6 @@ as_dump settings seed = by (seen_in_sample settings seed)
 
 pub seen_law : SeenLaw
 seen_law source.Files settings files taken e = dumps_law settings.sets settings.max_paths settings.dumps files taken e
+seen_law (source.Result name) settings files taken e = dumps_law settings.sets settings.max_paths settings.dumps files taken e
 seen_law (source.Sample seed) settings files taken e =
     dumps_law settings.sets settings.max_paths ([] ∷ []) (sample_file seed) taken (as_dump settings seed ∙ e)

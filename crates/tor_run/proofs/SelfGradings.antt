@@ -1,5 +1,6 @@
 -- A grading by the relationships that were found for the same paths.
 use Rattle.std.proofs.Common.{◌≡◌, ◌↔◌, ℕ, suc, ◌+◌, ◌≤◌, Bool, false, cond, List, [], ◌∷◌, ◌++◌, map, Some, Result, Ok, Err, Contains, IsTrue, refl, sym, ap, ap₂, ◌∙◌, subst, arith, if◌then◌else◌}
+use Rattle.std.proofs.Common.{unwrap_or}
 use Rattle.std.specs.Prelude.{count_by, slice_get}
 use Rattle.std.proofs.lemmas.Bool.{false_from_ne_true}
 use Rattle.std.proofs.lemmas.List.Sums.{sum_by-cons}
@@ -12,6 +13,7 @@ use Rattle.path_clean.specs.Rows.{Counted, row_paths}
 use Rattle.dump_read.specs.declared.taking.Taken.{Taken}
 use Rattle.dump_read.specs.Seen.{DumpsEnd, of_file}
 use Rattle.path_attrs.specs.Fields.{◌>>=◌}
+use Rattle.relationships.specs.Givens.{returns}
 use Rattle.relationships.specs.Selection.{KeepsFrom}
 use Rattle.run_base.specs.Reading.{nothing, seen_from}
 use Rattle.serial_lines.specs.declared.line.RelLine.{RelLine}
@@ -92,6 +94,7 @@ of_files : (source : Source) (mode : Mode) (settings : Settings) (files : Files)
     seen_in source settings files ≡ Ok taken → seen settings files ≡ Ok taken
 of_files source.Files mode settings files taken written is sees = sees
 of_files (source.Sample seed) mode settings files taken written is sees = let e : Serial ≡ Summary = sym is ∙ written in absurd (cc e)
+of_files (source.Result name) mode settings files taken written is sees = sees
 
 then_same : (r : Result Taken DumpsEnd) (f g : Taken → Result Taken DumpsEnd) → ((t : Taken) → f t ≡ g t) → (r >>= f) ≡ (r >>= g)
 then_same (Ok t) f g same = same t
@@ -107,9 +110,9 @@ same_later sets dump taken (name ∷ names) files later keep =
     (λ further. same_later sets (dump + 1) further names files later (λ n c. keep n (suc c.0, omega (arith, c.1), c.2)))
 
 pub self_grading : BoundsLaw → SelfGradingLaw
-self_grading bounds words settings files taken rel given serial cut comes_to exact grade_words grading later text graded_given there dumps keep is =
+self_grading bounds words settings files known taken rel given serial cut comes_to exact grade_words grading later text graded_given there dumps keep is =
     let sees = same_later settings.sets 1 (nothing settings.max_paths) settings.dumps files later keep
-    ∙ of_files settings.source settings.mode settings files taken (bounds words settings given).written serial comes_to in
+    ∙ of_files settings.source settings.mode settings files taken (bounds words settings given).written serial comes_to.1 in
     let (g, g_given, comes) = is.reads in
     let (bytes, is_rel, read, gave) = comes in
     let same : g ≡ grading = same_Some g grading (sym g_given ∙ graded_given) in
@@ -125,7 +128,7 @@ self_grading bounds words settings files taken rel given serial cut comes_to exa
       keeps = exact.graded.keeps;
       kept = exact.graded.kept;
       free = subst (λ (ls : List RelLine). map is_free (grades_of ls taken.table.rows) ≡ exact.graded.keeps) (sym lines_same)
-          (free_flags exact.lines [] taken.table.rows exact.graded.keeps exact.graded.kept exact.graded.free);
+          (free_flags exact.lines (returns (row_paths taken.table.rows) (unwrap_or known [])) taken.table.rows exact.graded.keeps exact.graded.kept exact.graded.free);
       known = subst (λ (ls : List RelLine). (totals_of (grades_of ls taken.table.rows)).unknown ≡ 0) (sym lines_same)
           (none_unknown exact.lines taken.table.rows exact.graded.known);
     }

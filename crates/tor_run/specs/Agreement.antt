@@ -1,8 +1,10 @@
 -- What a check says of a result that was made of dumps, and that its summary is one.
-use Rattle.std.specs.Prelude.{◌≡◌, ◌≤◌, ◌⊎◌, ℕ, List, [], length, Some}
+use Rattle.std.specs.Prelude.{◌≡◌, ◌≤◌, ◌⊎◌, ◌↔◌, ℕ, List, [], length, Option, Some}
 use Rattle.tor_io.specs.Contents.{Files}
+use Rattle.relationships.specs.declared.given.Given.{Given}
 use Rattle.dump_read.specs.declared.taking.Taken.{Taken}
 use Rattle.result_text.specs.declared.file.ResultFile.{ResultFile}
+use Rattle.result_text.specs.Grammar.{IsTextOf}
 use Rattle.result_rules.specs.declared.verdict.Verdict.{Verdict}
 use Rattle.result_rules.specs.declared.verdict.Verdict.TheVariants.{Yes}
 use Rattle.tor_words.specs.declared.settings.Mode.TheVariants.{Labels}
@@ -10,11 +12,12 @@ use Rattle.tor_words.specs.declared.settings.Settings.{Settings}
 use Rattle.tor_words.specs.declared.check_settings.CheckSettings.{CheckSettings}
 use Rattle.tor_words.specs.CheckGiven.{check_settings_given}
 use Rattle.tor_words.specs.Given.{settings_given}
-use Rattle.torcheck_run.specs.Judging.{CanBeJudged, IsVerdict}
+use Rattle.torcheck_run.specs.Judging.{CanBeJudged, IsVerdict, Outcome, SettingsGive}
 use Rattle.torcheck_run.specs.Limits.{max_result}
-use Rattle.tor_run.specs.Output.{Faithful, IsOutput}
+use Rattle.tor_run.specs.Output.{Faithful, IsOutput, migrated}
 use Rattle.tor_run.specs.Written.{Written}
 use Rattle.tor_run.specs.Seen.{ComesTo, Reads}
+use Rattle.tor_run.specs.SelfGrading.{KeepDumps}
 use Rattle.tor_run.specs.Summary.{summary}
 
 -- the text of a result is judged yes, alone and beside the dumps that it was made of, and no other way; and a check of it, alone or
@@ -28,14 +31,24 @@ pub record IsAgreedOn (settings : Settings) (files : Files) (text : List ℕ) : 
       files check.result ≡ Some text → (check.dumps ≡ []) ⊎ (check.dumps ≡ settings.dumps) → length text ≤ max_result →
       CanBeJudged words files
 
+-- so it is whether relationships are known or not
 abbrev pub AgreementLaw : Type 0
 AgreementLaw =
-    (words : List (List ℕ)) (settings : Settings) (files : Files) (taken : Taken) (output : Written) →
-    settings_given words ≡ Some settings →
-    settings.mode ≡ Labels → ComesTo settings files (Reads taken) → IsOutput settings taken output → IsAgreedOn settings files output.text
+    (words : List (List ℕ)) (settings : Settings) (files : Files) (known : Option (List Given)) (taken : Taken) (output : Written) →
+    settings_given words ≡ Some settings → settings.mode ≡ Labels → ComesTo settings files (Reads known taken) →
+    IsOutput settings (Reads known taken) output → IsAgreedOn settings files output.text
 
--- all results that are faithful to what dumps gave have the same summary
+-- all results that are faithful to what is known and to what dumps gave have the same summary
 abbrev pub OneSummaryLaw : Type 0
 OneSummaryLaw =
-    (settings : Settings) (taken : Taken) (file file' : ResultFile) → Faithful settings taken file → Faithful settings taken file' →
-    summary file ≡ summary file'
+    (settings : Settings) (known : Option (List Given)) (taken : Taken) (file file' : ResultFile) → Faithful settings known taken file →
+    Faithful settings known taken file' → summary file ≡ summary file'
+
+-- a text of version 2 stays as it is. And what a check comes to is the same with the text of a result as with its text of version 2 in its
+-- place, beside the same dumps
+abbrev pub MigrateLaw : Type 0
+MigrateLaw =
+    (file : ResultFile) (before after : List ℕ) → IsTextOf file before → IsTextOf (migrated file) after →
+    ((givens : List Given) → file.givens ≡ Some givens → after ≡ before) ×
+    ((check : CheckSettings) (files later : Files) → files check.result ≡ Some before → later check.result ≡ Some after →
+    KeepDumps check.dumps files later → (outcome : Outcome) → SettingsGive check files outcome ↔ SettingsGive check later outcome)

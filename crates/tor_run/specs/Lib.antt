@@ -1,7 +1,9 @@
 pub mod Accepting
 pub mod Agreement
 pub mod Answer
+pub mod First
 pub mod Grading
+pub mod Limits
 pub mod Listing
 pub mod Output
 pub mod Reach

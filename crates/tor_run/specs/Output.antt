@@ -1,8 +1,9 @@
 -- What a run that is done has written, by its mode.
-use Rattle.std.specs.Prelude.{◌≡◌, ◌++◌, ◌∷◌, [], ℕ, List, map, Ok, Option, Some}
+use Rattle.std.specs.Prelude.{◌≡◌, ◌++◌, ◌∷◌, [], ℕ, List, map, Ok, Option, Some, unwrap_or}
 use Rattle.std.specs.Io.KnownBytes.{append_known}
 use Rattle.tor_io.specs.Contents.{Files, GainsPrefix}
 use Rattle.path_clean.specs.Rows.{row_paths}
+use Rattle.relationships.specs.declared.given.Given.{Given}
 use Rattle.dump_read.specs.declared.taking.Taken.{Taken}
 use Rattle.serial_lines.specs.Serial.{rel_in, rel_text}
 use Rattle.as_rel.specs.Labelled.{line_of_edge}
@@ -11,25 +12,25 @@ use Rattle.table_ties.specs.Ties.{AreTieLinesOf}
 use Rattle.table_ties.specs.TiesText.{ties_text}
 use Rattle.result_text.specs.declared.file.ResultFile.{ResultFile}
 use Rattle.result_text.specs.Grammar.{IsTextOf}
-use Rattle.rel_infer.specs.Results.{IsResultOf}
-use Rattle.rel_infer.specs.SelfAcceptance.{AreTableRows}
+use Rattle.result_text.specs.Text.{its_givens}
+use Rattle.rel_infer.specs.GivenResults.{IsResultWith}
 use Rattle.tor_words.specs.declared.settings.Mode.{Mode}
-use Rattle.tor_words.specs.declared.settings.Mode.TheVariants.{Labels, Listing, Survey, Ties, Serial, Summary}
+use Rattle.tor_words.specs.declared.settings.Mode.TheVariants.{Labels, Listing, Survey, Ties, Serial, Summary, Migrate}
 use Rattle.tor_words.specs.declared.settings.Settings.{Settings}
 use Rattle.tor_words.specs.Given.{settings_given}
 use Rattle.tor_survey.specs.SurveyText.{survey_text}
 use Rattle.tor_survey.specs.Surveys.{survey_of}
 use Rattle.tor_run.specs.Listing.{listing}
-use Rattle.tor_run.specs.Seen.{ComesTo, IsSeenOfSome, Reads}
+use Rattle.tor_run.specs.Seen.{Outcome, Reads, Holds, Stops, Ends, ComesTo, ComesOfSome}
 use Rattle.tor_run.specs.Summary.{summary}
 use Rattle.tor_run.specs.Written.{Written}
 
 -- ---- the result of what the dumps gave
 
--- it has exactly their paths, times and counts, and for these what follows from the definitions; that a checker accepts it follows too
--- (Accepting.antt)
-abbrev pub Faithful : Settings → Taken → ResultFile → Type 0
-Faithful settings taken file = IsResultOf settings.sets settings.ratio taken.table.rows taken.counts file
+-- it has exactly their paths, times and counts, has what is known, and for these what follows from the definitions; that a checker
+-- accepts it follows too (Accepting.antt)
+abbrev pub Faithful : Settings → Option (List Given) → Taken → ResultFile → Type 0
+Faithful settings known taken file = IsResultWith known settings.sets settings.ratio taken.table.rows taken.counts file
 
 -- ---- what is written
 
@@ -37,35 +38,48 @@ Faithful settings taken file = IsResultOf settings.sets settings.ratio taken.tab
 abbrev pub IsSerialOf : ResultFile → List ℕ → Type 0
 IsSerialOf file text = (text ≡ rel_text (map line_of_edge file.edges)) × (rel_in text ≡ Ok (map line_of_edge file.edges))
 
--- in this mode, of what the dumps gave: in Labels the text of the result, and its summary as a note; in Listing a line for each path;
--- in Survey the lines of the survey; in Ties the lines of the ties of their paths; in Serial the lines of what the labels of the result
--- say; in Summary the summary of the result
-abbrev pub IsOutputIn : Mode → Settings → Taken → Written → Type 0
-IsOutputIn Labels settings taken output =
-    (file : ResultFile) × Faithful settings taken file × IsTextOf file output.text × (output.note ≡ summary file ++ 10 ∷ [])
-IsOutputIn Listing settings taken output = (output.text ≡ listing taken.table.rows) × (output.note ≡ [])
-IsOutputIn Survey settings taken output = (output.text ≡ survey_text (survey_of taken)) × (output.note ≡ [])
-IsOutputIn Ties settings taken output =
-    (lines : List TieLine) × AreTieLinesOf (row_paths taken.table.rows) lines × (output.text ≡ ties_text lines) × (output.note ≡ [])
-IsOutputIn Serial settings taken output =
-    (file : ResultFile) × Faithful settings taken file × IsSerialOf file output.text × (output.note ≡ [])
-IsOutputIn Summary settings taken output =
-    (file : ResultFile) × Faithful settings taken file × (output.text ≡ summary file ++ 10 ∷ []) × (output.note ≡ [])
+-- in this mode, of what is known and what the dumps gave: in Labels the text of the result, and its summary as a note; in Listing a line
+-- for each path; in Survey the lines of the survey; in Ties the lines of the ties of their paths; in Serial the lines of what the labels of
+-- the result say; in Summary the summary of the result; in Migrate nothing, since no dump is read
+abbrev pub IsOutputIn : Mode → Settings → Option (List Given) → Taken → Written → Type 0
+IsOutputIn Labels settings known taken output =
+    (file : ResultFile) × Faithful settings known taken file × IsTextOf file output.text × (output.note ≡ summary file ++ 10 ∷ [])
+IsOutputIn Listing settings known taken output = (output.text ≡ listing taken.table.rows) × (output.note ≡ [])
+IsOutputIn Survey settings known taken output = (output.text ≡ survey_text (survey_of taken)) × (output.note ≡ [])
+IsOutputIn Ties settings known taken output = (lines : List TieLine) ×
+    AreTieLinesOf (unwrap_or known []) (row_paths taken.table.rows) lines × (output.text ≡ ties_text lines) × (output.note ≡ [])
+IsOutputIn Serial settings known taken output =
+    (file : ResultFile) × Faithful settings known taken file × IsSerialOf file output.text × (output.note ≡ [])
+IsOutputIn Summary settings known taken output =
+    (file : ResultFile) × Faithful settings known taken file × (output.text ≡ summary file ++ 10 ∷ []) × (output.note ≡ [])
+IsOutputIn Migrate settings known taken output = ⊥
 
-abbrev pub IsOutput : Settings → Taken → Written → Type 0
-IsOutput settings taken output = IsOutputIn settings.mode settings taken output
+-- the same result with a list of givens, which is empty where it had none
+abbrev pub migrated : ResultFile → ResultFile
+migrated file = record file { givens = Some (its_givens file) }
+
+-- its text, which is of version 2
+abbrev pub IsMigrated : ResultFile → Written → Type 0
+IsMigrated file output = IsTextOf (migrated file) output.text × (output.note ≡ [])
+
+-- what is written of this outcome: of dumps by the mode, and of a result its text of version 2
+abbrev pub IsOutput : Settings → Outcome → Written → Type 0
+IsOutput settings (Reads known taken) output = IsOutputIn settings.mode settings known taken output
+IsOutput settings (Holds file) output = IsMigrated file output
+IsOutput settings (Stops end) output = ⊥
+IsOutput settings (Ends end) output = ⊥
 
 -- this is asked for of what the files give
 abbrev pub IsOutputOf : Settings → Files → Written → Type 0
-IsOutputOf settings files output = (taken : Taken) × ComesTo settings files (Reads taken) × IsOutput settings taken output
+IsOutputOf settings files output = (outcome : Outcome) × ComesTo settings files outcome × IsOutput settings outcome output
 
--- the words ask for it, and the dumps that they name give that
+-- the words ask for it, and the files that they name give that
 pub record IsAsked (words : List (List ℕ)) (files : Files) (output : Written) : Type 0 where
   pub settings : Settings
   pub given : settings_given words ≡ Some settings
-  pub taken : Taken
-  pub seen : ComesTo settings files (Reads taken)
-  pub written : IsOutput settings taken output
+  pub outcome : Outcome
+  pub comes : ComesTo settings files outcome
+  pub written : IsOutput settings outcome output
 
 -- a sink gained the text that is asked for, whose note is this
 pub record GainsOutput (words : List (List ℕ)) (files : Files) (old new : Option (List ℕ)) (note : List ℕ) : Type 0 where
@@ -80,17 +94,16 @@ GainsOutputPrefix words files old new = (output : Written) × IsAsked words file
 
 -- ---- what is written whatever the files hold, also where nothing is known of them
 
--- the words ask for this of some paths with their times, as a table has them, and of some counts: in Labels it is the text of a result
--- that is faithful to these, with its summary
+-- the words ask for this of what some octets give: in Labels it is the text of a result that is faithful to some paths with their times,
+-- as a table has them, and to some counts and givens, with its summary
 pub record IsOfSome (words : List (List ℕ)) (output : Written) : Type 0 where
   pub settings : Settings
   pub given : settings_given words ≡ Some settings
-  pub taken : Taken
-  pub seen : IsSeenOfSome settings.source settings taken
-  pub table : AreTableRows taken.table.rows
-  pub written : IsOutput settings taken output
+  pub outcome : Outcome
+  pub comes : ComesOfSome settings outcome
+  pub written : IsOutput settings outcome output
 
--- a sink gained a text that the words ask for of some dumps, whose note is this
+-- a sink gained a text that the words ask for of some files, whose note is this
 pub record GainsSome (words : List (List ℕ)) (old new : Option (List ℕ)) (note : List ℕ) : Type 0 where
   pub output : Written
   pub of_some : IsOfSome words output

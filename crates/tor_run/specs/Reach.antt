@@ -1,5 +1,6 @@
--- How far a run reads a dump at which it stops.
-use Rattle.std.specs.Prelude.{◌≡◌, ◌≤◌, ℕ, List, length, Option, Some, ⊤}
+-- How far a run reads the file or the dump at which it stops.
+use Rattle.std.specs.Prelude.{◌≡◌, ◌≤◌, ◌⊎◌, ℕ, List, length, Option, Some, ⊤}
+use Rattle.std.specs.Io.KnownBytes.{IsAtEnd}
 use Rattle.tor_io.specs.Contents.{Files}
 use Rattle.dump_read.specs.declared.error.DumpError.{DumpError}
 use Rattle.dump_read.specs.declared.error.DumpError.TheVariants as error
@@ -15,9 +16,40 @@ use Rattle.run_base.specs.declared.answer.Refusal.{Refusal}
 use Rattle.run_base.specs.declared.answer.Refusal.TheVariants as refusal
 use Rattle.run_base.specs.declared.status.Status.{Status}
 use Rattle.run_base.specs.declared.status.Status.TheVariants as status
+use Rattle.run_base.specs.declared.notes.FirstFile.{FirstFile}
+use Rattle.run_base.specs.declared.whole_file.Unread.{Unread}
+use Rattle.run_base.specs.declared.whole_file.Unread.TheVariants as unread
 use Rattle.run_base.specs.Reading.{name_of_dump}
-use Rattle.run_base.specs.Notes.{malformed_note, limit_note, read_fault_note}
+use Rattle.run_base.specs.Notes.{malformed_note, limit_note, bad_line_note, too_long_note, read_fault_note}
+use Rattle.run_base.specs.WholeFile.{LeavesRest, LeavesOnly}
+use Rattle.tor_run.specs.declared.unwritten.Unwritten.{Unwritten}
+use Rattle.tor_run.specs.declared.unwritten.Unwritten.TheVariants as unwritten
+use Rattle.tor_run.specs.First.{First, OfFirst, first_in}
 use Rattle.tor_run.specs.Sampling.{BySource}
+
+-- ---- the file that is read first
+
+-- of one that is too long all behind the octet that shows it is left
+abbrev pub LeavesRestOfFirst : First → Option Files → Option (List ℕ) → Type 0
+LeavesRestOfFirst f known left = OfFirst f (λ most name. LeavesRest most name known left)
+
+-- nothing is left unread, or a rest of it, and no more was read than shows that it is too long
+abbrev pub LeavesOnlyFirst : First → Option Files → Option (List ℕ) → Type 0
+LeavesOnlyFirst f known left = OfFirst f (λ most name. LeavesOnly most name known left)
+
+-- so it is where it was not read for this
+abbrev pub IsUnreadInReach : First → Option Files → Option (List ℕ) → Unread → Type 0
+IsUnreadInReach f known left unread.Failed = LeavesOnlyFirst f known left
+IsUnreadInReach f known left unread.TooLong = LeavesRestOfFirst f known left
+IsUnreadInReach f known left unread.NoMemory = ⊤
+
+-- there is no text for this, since it gives nothing, and so far it was read: one with a bad line whole
+abbrev pub IsFirstInReach : First → Option Files → Option (List ℕ) → Unwritten → Type 0
+IsFirstInReach f known left (unwritten.First file why) = IsUnreadInReach f known left why
+IsFirstInReach f known left (unwritten.BadLine file line) = IsAtEnd left
+IsFirstInReach f known left (unwritten.Refused why) = ⊤
+
+-- ---- dumps
 
 -- of a run over files this number is that of a dump that is named, and in a fault the place names it
 abbrev pub IsDumpNumber : Settings → ℕ → Type 0
@@ -44,17 +76,30 @@ StopsInReach settings known left (refusal.Dumps stopped) =
     IsBounded settings known left stopped.dump stopped.error × IsShownByHeader settings known left stopped.dump stopped.error
 StopsInReach settings known left refusal.NoMemory = ⊤
 
-abbrev pub IsRefusedInReach : List (List ℕ) → Option Files → Option (List ℕ) → Refusal → Type 0
-IsRefusedInReach words known left r = (settings : Settings) → settings_given words ≡ Some settings → StopsInReach settings known left r
+-- ---- either
 
--- a run that ends at a dump, the one that its note names, has read so far in it
+-- with these settings there is no text for this, and so far it was read: a file with a bad line whole
+abbrev pub IsUnwrittenInReach : Settings → Option Files → Option (List ℕ) → Unwritten → Type 0
+IsUnwrittenInReach settings known left (unwritten.First file why) = IsUnreadInReach (first_in settings) known left why
+IsUnwrittenInReach settings known left (unwritten.BadLine file line) = IsAtEnd left
+IsUnwrittenInReach settings known left (unwritten.Refused why) = StopsInReach settings known left why
+
+-- the same by the words
+abbrev pub StaysUnwrittenInReach : List (List ℕ) → Option Files → Option (List ℕ) → Unwritten → Type 0
+StaysUnwrittenInReach words known left u =
+    (settings : Settings) → settings_given words ≡ Some settings → IsUnwrittenInReach settings known left u
+
+-- a run that ends at the file that is read first or at a dump, the one that its note names, has read so far in it
 abbrev pub EndsInReach : List (List ℕ) → Option Files → Option (List ℕ) → Status → List ℕ → Type 0
 EndsInReach words known left status.Malformed text = (settings : Settings) → settings_given words ≡ Some settings →
-    (place : Place) × ((fault : Fault) × (text ≡ malformed_note place fault) × IsDumpNumber settings place.dump ×
-    IsBounded settings known left place.dump (error.Malformed place fault))
+    ((file : FirstFile) × (line : ℕ) × (text ≡ bad_line_note file line) × IsAtEnd left) ⊎
+    ((place : Place) × ((fault : Fault) × (text ≡ malformed_note place fault) × IsDumpNumber settings place.dump ×
+    IsBounded settings known left place.dump (error.Malformed place fault)))
 EndsInReach words known left status.Limit text = (settings : Settings) → settings_given words ≡ Some settings →
-    (dump : ℕ) × ((kind : LimitKind) × (text ≡ limit_note kind dump) × IsDumpNumber settings dump ×
-    IsBounded settings known left dump (error.Limit kind) × IsShownByHeader settings known left dump (error.Limit kind))
+    ((file : FirstFile) × (text ≡ too_long_note file) × LeavesRestOfFirst (first_in settings) known left) ⊎
+    ((dump : ℕ) × ((kind : LimitKind) × (text ≡ limit_note kind dump) × IsDumpNumber settings dump ×
+    IsBounded settings known left dump (error.Limit kind) × IsShownByHeader settings known left dump (error.Limit kind)))
 EndsInReach words known left status.ReadFault text = (settings : Settings) → settings_given words ≡ Some settings →
-    (dump : ℕ) × (text ≡ read_fault_note dump) × IsDumpNumber settings dump × IsBounded settings known left dump error.ReadFault
+    ((text ≡ read_fault_note 0) × LeavesOnlyFirst (first_in settings) known left) ⊎
+    ((dump : ℕ) × (text ≡ read_fault_note dump) × IsDumpNumber settings dump × IsBounded settings known left dump error.ReadFault)
 EndsInReach words known left _ text = ⊤

@@ -9,10 +9,11 @@ use Rattle.tor_words.specs.Given.{settings_given}
 abbrev pub no_files : Files
 no_files name = None
 
--- what is known of the files that a run over dumps from there reads: over a sample all, since it reads none
+-- what is known of the files that a run reads: over a sample all, since it reads none
 abbrev pub known_in : Source → Option Files → Option Files
 known_in source.Files known = known
 known_in (source.Sample seed) known = Some no_files
+known_in (source.Result name) known = known
 
 abbrev pub known_for : Option Settings → Option Files → Option Files
 known_for None known = known
@@ -25,6 +26,7 @@ known_by words known = known_for (settings_given words) known
 abbrev pub BySource : Source → Type 0 → Type 0 → Type 0
 BySource source.Files of_sample of_files = of_files
 BySource (source.Sample seed) of_sample of_files = of_sample
+BySource (source.Result name) of_sample of_files = of_files
 
 abbrev pub BySourceOf : Option Settings → Type 0 → Type 0 → Type 0
 BySourceOf None of_sample of_files = Unit {0}

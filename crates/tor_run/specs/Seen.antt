@@ -1,14 +1,18 @@
--- What the dumps that the words name give, in their order, or the sample that they ask for.
+-- What the words and the files give: what is known, and what the dumps give in their order, or the sample; or a result.
 use Rattle.std.specs.Prelude.{◌≡◌, ℕ, List, length, Option, Some, IfSome, Result, Ok, Err}
 use Rattle.tor_io.specs.Contents.{Files}
+use Rattle.relationships.specs.declared.given.Given.{Given}
 use Rattle.dump_read.specs.declared.taking.Taken.{Taken}
 use Rattle.dump_read.specs.Seen.{DumpsEnd, of_file}
+use Rattle.result_text.specs.declared.file.ResultFile.{ResultFile}
 use Rattle.tor_sample.specs.Records.{sample}
 use Rattle.tor_words.specs.declared.settings.Source.{Source}
 use Rattle.tor_words.specs.declared.settings.Source.TheVariants as source
 use Rattle.tor_words.specs.declared.settings.Settings.{Settings}
 use Rattle.tor_words.specs.Given.{settings_given}
 use Rattle.run_base.specs.Reading.{seen_from, IsOfSomeDumps, nothing}
+use Rattle.rel_infer.specs.SelfAcceptance.{AreTableRows}
+use Rattle.tor_run.specs.First.{FirstEnd, first_in, AreGivens, HoldsResult, EndsAtFirst, AreSomeGivens, IsSomeResult}
 
 -- ---- what dumps give
 
@@ -22,24 +26,42 @@ seen_in_sample settings seed = of_file settings.sets 1 (nothing settings.max_pat
 abbrev pub seen_in : Source → Settings → Files → Result Taken DumpsEnd
 seen_in source.Files settings files = seen settings files
 seen_in (source.Sample seed) settings files = seen_in_sample settings seed
+seen_in (source.Result name) settings files = seen settings files
 
 -- this is what some octets give, a file for each name of a dump; or it is what the sample gives
 abbrev pub IsSeenOfSome : Source → Settings → Taken → Type 0
 IsSeenOfSome source.Files settings taken = IsOfSomeDumps settings.sets (length settings.dumps) (nothing settings.max_paths) taken
 IsSeenOfSome (source.Sample seed) settings taken = seen_in_sample settings seed ≡ Ok taken
+IsSeenOfSome (source.Result name) settings taken = IsOfSomeDumps settings.sets (length settings.dumps) (nothing settings.max_paths) taken
 
 -- ---- what a run comes to
 
 pub data Outcome : Type 0 where
-  -- all dumps are read, and gave this
-  Reads : Taken → Outcome
-  -- they have this end
+  -- these relationships are known, where a file of them is named, and all dumps gave that
+  Reads : Option (List Given) → Taken → Outcome
+  -- the file that is read first holds this result
+  Holds : ResultFile → Outcome
+  -- it gives nothing for this
+  Stops : FirstEnd → Outcome
+  -- what it says is known, and the dumps have this end
   Ends : DumpsEnd → Outcome
 
 -- what the settings and the files give
 abbrev pub ComesTo : Settings → Files → Outcome → Type 0
-ComesTo settings files (Reads taken) = seen_in settings.source settings files ≡ Ok taken
-ComesTo settings files (Ends end) = seen_in settings.source settings files ≡ Err end
+ComesTo settings files (Reads known taken) =
+    AreGivens (first_in settings) files known × (seen_in settings.source settings files ≡ Ok taken)
+ComesTo settings files (Holds file) = HoldsResult (first_in settings) files file
+ComesTo settings files (Stops end) = EndsAtFirst (first_in settings) files end
+ComesTo settings files (Ends end) = (known : Option (List Given)) × AreGivens (first_in settings) files known ×
+    (seen_in settings.source settings files ≡ Err end)
+
+-- what the settings and some octets give, in place of each file that they name; rows are then as a table has them
+abbrev pub ComesOfSome : Settings → Outcome → Type 0
+ComesOfSome settings (Reads known taken) =
+    AreSomeGivens (first_in settings) known × IsSeenOfSome settings.source settings taken × AreTableRows taken.table.rows
+ComesOfSome settings (Holds file) = IsSomeResult (first_in settings) file
+ComesOfSome settings (Stops end) = ⊥
+ComesOfSome settings (Ends end) = ⊥
 
 -- what the words and the files give
 abbrev pub Gives : List (List ℕ) → Files → Outcome → Type 0

@@ -19,6 +19,7 @@ use Rattle.tor_run.specs.Seen.{seen_in}
 abbrev pub dumps_of : Source → Settings → Files → List (Option (List ℕ))
 dumps_of source.Files settings files = map files settings.dumps
 dumps_of (source.Sample seed) settings files = Some (sample seed) ∷ []
+dumps_of (source.Result name) settings files = map files settings.dumps
 
 -- a dump of these octets is read to its end
 abbrev pub IsWhole : List ℕ → Type 0

@@ -1,10 +1,12 @@
 -- What `torgrade` says of paths by the relationships that `tor` found for the same paths.
-use Rattle.std.specs.Prelude.{◌≡◌, ◌++◌, ℕ, Bool, List, Contains, map, Some}
+use Rattle.std.specs.Prelude.{◌≡◌, ◌++◌, ℕ, Bool, List, [], Contains, map, Option, Some, unwrap_or}
 use Rattle.tor_io.specs.Contents.{Files}
 use Rattle.path_clean.specs.declared.cleaned.Sets.TheVariants.{Cut}
 use Rattle.path_clean.specs.Rows.{Counted, row_paths}
 use Rattle.dump_read.specs.declared.taking.Taken.{Taken}
-use Rattle.relationships.specs.Selection.{Keeps}
+use Rattle.relationships.specs.declared.given.Given.{Given}
+use Rattle.relationships.specs.Givens.{returns}
+use Rattle.relationships.specs.Selection.{KeepsFrom}
 use Rattle.serial_lines.specs.declared.line.RelLine.{RelLine}
 use Rattle.tor_words.specs.declared.settings.Settings.{Settings}
 use Rattle.tor_words.specs.declared.grade_settings.GradeSettings.{GradeSettings}
@@ -17,13 +19,13 @@ use Rattle.tor_run.specs.Grading.{GradesExactly}
 use Rattle.tor_run.specs.Seen.{ComesTo, Reads}
 
 -- the text begins with the lines of these paths and their totals, and there exactly the kept ones are free, and none is unknown.
--- A path is kept exactly if some orientation serves it together with those kept before it
-pub record IsGradedAsKept (rows : List Counted) (text : List ℕ) : Type 0 where
+-- A path is kept exactly if some orientation that agrees with the givens serves it together with those kept before it
+pub record IsGradedAsKept (givens : List Given) (rows : List Counted) (text : List ℕ) : Type 0 where
   pub rel : List RelLine
   pub cone : List ℕ
   pub is_text : text ≡ grades_text rel rows ++ cone
   pub keeps : List Bool
-  pub kept : Keeps (row_paths rows) keeps
+  pub kept : KeepsFrom (returns (row_paths rows) givens) (row_paths rows) keeps
   pub free : map is_free (grades_of rel rows) ≡ keeps
   pub known : (totals_of (grades_of rel rows)).unknown ≡ 0
 
@@ -35,8 +37,10 @@ KeepDumps dumps files later = (name : List ℕ) → Contains dumps name → late
 -- free, as a run with `--serial1` that cuts sets has written it
 abbrev pub SelfGradingLaw : Type 0
 SelfGradingLaw =
-    (words : List (List ℕ)) (settings : Settings) (files : Files) (taken : Taken) (rel : List ℕ) → settings_given words ≡ Some settings →
-    settings.mode ≡ Serial → settings.sets ≡ Cut → ComesTo settings files (Reads taken) → GradesExactly (row_paths taken.table.rows) rel →
+    (words : List (List ℕ)) (settings : Settings) (files : Files) (known : Option (List Given)) (taken : Taken) (rel : List ℕ) →
+    settings_given words ≡ Some settings → settings.mode ≡ Serial → settings.sets ≡ Cut → ComesTo settings files (Reads known taken) →
+    GradesExactly (unwrap_or known []) (row_paths taken.table.rows) rel →
     (grade_words : List (List ℕ)) (grading : GradeSettings) (later : Files) (text : List ℕ) →
     grade_settings_given grade_words ≡ Some grading → later grading.rel ≡ Some rel → grading.dumps ≡ settings.dumps →
-    KeepDumps settings.dumps files later → IsGraded grade_words later text → IsGradedAsKept taken.table.rows text
+    KeepDumps settings.dumps files later → IsGraded grade_words later text →
+    IsGradedAsKept (unwrap_or known []) taken.table.rows text

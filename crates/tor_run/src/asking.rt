@@ -1,28 +1,36 @@
 //! What the words ask for, as a text that can be written, or why there is none.
-ghost use Rattle.std.specs.Prelude.{◌≡◌, ◌≢◌, ◌≤◌, ◌<◌, IfOk, IfErr, IfSome, IsNone, IsErrAnd, OnOk, length, ⊤};
+ghost use Rattle.std.specs.Prelude.{◌≡◌, ◌≢◌, ◌≤◌, ◌<◌, Ok, Some, IfOk, IfErr, IfSome, IsNone, IsErrAnd, OnOk, length, [], ⊤};
+ghost use Rattle.std.specs.Prelude.{unwrap_or};
 ghost use Rattle.std.specs.Io.KnownBytes.{IsAtEnd};
 ghost use Rattle.tor_arena.specs.Limits.{max_paths, max_ratio};
-ghost use Rattle.tor_words.specs.Given.{settings_given};
+ghost use Rattle.tor_words.specs.Given.{settings_given, HasDumps, IsWrittenOf};
 ghost use Rattle.tor_run.specs.Sampling.{BySource, IfSample, known_by, known_in};
 ghost use Rattle.run_base.specs.Reading.{nothing};
-ghost use Rattle.tor_run.specs.Seen.{ComesTo, IsSeenOfSome, Reads};
-ghost use Rattle.tor_run.specs.Output.{IsOutput, IsOutputOf, IsAsked, IsOfSome};
+ghost use Rattle.tor_run.specs.Accepting.{AreSound};
+ghost use Rattle.tor_run.specs.First.{Nothing, first_in};
+ghost use Rattle.rel_infer.specs.GivenResults.{max_givens};
+ghost use Rattle.tor_run.specs.Seen.{Outcome, ComesOfSome, IsSeenOfSome, seen_in};
+ghost use Rattle.tor_run.specs.Output.{IsOutput, IsOutputIn, IsOutputOf, IsAsked, IsOfSome};
 ghost use Rattle.rel_infer.specs.SelfAcceptance.{AreTableRows};
 ghost use Rattle.tor_run.specs.Written.{written};
-ghost use Rattle.run_base.specs.Answers.{IsReadFault, IsOfWords};
+ghost use Rattle.run_base.specs.Answers.{IsReadFault};
 ghost use Rattle.run_base.specs.Frames.{ReadsShelf};
-ghost use Rattle.tor_run.specs.Reach.{IsDumpNumber, IsPlacedIn, IsBounded, IsShownByHeader, StopsInReach, IsRefusedInReach};
-ghost use Rattle.tor_run.specs.Refusals.{IsRefusal, IsStopIn, StopsIn};
+ghost use Rattle.tor_run.specs.Reach.{IsDumpNumber, IsPlacedIn, IsBounded, IsShownByHeader, StopsInReach};
+ghost use Rattle.tor_run.specs.Reach.{IsUnwrittenInReach, StaysUnwrittenInReach};
+ghost use Rattle.tor_run.specs.Refusals.{IsStopIn, StopsIn, IsUnwrittenIn, IsUnwritten, IsFailedRead, IsOfTheWords};
 ghost use Rattle.dump_read.specs.declared.taking.Taken.{Taken};
 
-use crate::output::{Output, has_table_rows, output_of};
+use crate::first::{givens_in, result_in};
+use crate::output::{Output, has_table_rows, migrated_output, output_of};
 use crate::sampling::read_sample;
+use crate::unwritten::Unwritten;
 use dump_read::{DumpError, Taken};
+use relationships::Given;
 use run_base::{Refusal, Stopped, nothing_taken, read_dumps};
 use std::alloc::Global;
 use tor_arena::{Keys, List, NoMemory};
 use tor_io::Shelf;
-use tor_words::{Name, Settings, Source, settings_of};
+use tor_words::{Mode, Name, Settings, Source, bounds_law, settings_of};
 
 // Takes in the routes of the dumps that the settings name, or of the sample that they ask for.
 fn read_asked<H: Shelf>(
@@ -33,7 +41,7 @@ fn read_asked<H: Shelf>(
 ) -> Result<(), Stopped>
     requires { taken.old ≡ nothing settings.now.max_paths }
     ensures read { OnOk result (IfSome (known_in settings.now.source (H.files shelf.old)) (λ files.
-        ComesTo settings.now files (Reads taken.new))) }
+        seen_in settings.now.source settings.now files ≡ Ok taken.new)) }
     ensures some { OnOk result (IsSeenOfSome settings.now.source settings.now taken.new) }
     ensures stopped { IfErr result (λ e. StopsIn settings.now (known_in settings.now.source (H.files shelf.old))
         (H.steady shelf.old) e.dump e.error) }
@@ -47,29 +55,34 @@ fn read_asked<H: Shelf>(
 
     ensures reads_shelf { ReadsShelf H.Shelf (IsErrAnd result (λ e. e.error ≡ DumpError.ReadFault)) shelf.old shelf.new }
 {
-    match settings.source {
-        Source::Files => {
+    match &settings.source {
+        Source::Sample(seed) => read_sample(alloc, *seed, settings.sets, taken),
+        Source::Files | Source::Result(_) => {
             let dumps = settings.dumps.as_slice();
             read_dumps(alloc, shelf, dumps, settings.sets, taken)
         }
-        Source::Sample(seed) => read_sample(alloc, seed, settings.sets, taken),
     }
 }
 
-// What the settings ask for. All memory is taken here.
-fn output_for<H: Shelf>(
+// What the settings ask for, where this is known. All memory is taken here.
+fn output_under<H: Shelf>(
     alloc: Global,
     keys: Keys,
     settings: &Settings,
+    givens: Option<List<Given>>,
     shelf: &mut H,
 ) -> Result<Output, Refusal>
+    requires read { settings.now.mode ≢ Mode.Migrate }
     requires some { 1 ≤ settings.now.max_paths }
     requires most { settings.now.max_paths ≤ max_paths }
     requires ratio { settings.now.ratio ≤ max_ratio }
-    ensures output { IfOk result (λ output. IfSome (known_in settings.now.source (H.files shelf.old)) (λ files.
-        IsOutputOf settings.now files (written output))) }
+    requires sound { AreSound givens }
+    requires few { length (unwrap_or givens []) ≤ max_givens }
+    ensures output { IfOk result (λ output. IfSome (known_in settings.now.source (H.files shelf.old)) (λ files. (taken : Taken) ×
+        (seen_in settings.now.source settings.now files ≡ Ok taken) ×
+        IsOutputIn settings.now.mode settings.now givens taken (written output))) }
     ensures of_some { IfOk result (λ output. (taken : Taken) × IsSeenOfSome settings.now.source settings.now taken ×
-        AreTableRows taken.table.rows × IsOutput settings.now taken (written output)) }
+        AreTableRows taken.table.rows × IsOutputIn settings.now.mode settings.now givens taken (written output)) }
     ensures refused { IfErr result (IsStopIn settings.now (known_in settings.now.source (H.files shelf.old)) (H.steady shelf.old)) }
     ensures read_out { OnOk result (BySource settings.now.source ⊤ (0 < length settings.now.dumps → IsAtEnd (H.left shelf.new))) }
     ensures sample { BySource settings.now.source (shelf.new ≡ shelf.old) ⊤ }
@@ -82,12 +95,134 @@ fn output_for<H: Shelf>(
     match read_asked(alloc, settings, shelf, &mut taken) {
         Ok(()) => {
             has_table_rows(&taken.table);
-            match output_of(alloc, keys, settings, taken) {
+            match output_of(alloc, keys, settings, givens, taken) {
                 Ok(output) => Ok(output),
                 Err(NoMemory) => Err(Refusal::NoMemory),
             }
         }
         Err(stopped) => Err(Refusal::Dumps(stopped)),
+    }
+}
+
+// The same where nothing is known.
+fn free_output<H: Shelf>(
+    alloc: Global,
+    keys: Keys,
+    settings: &Settings,
+    shelf: &mut H,
+) -> Result<Output, Unwritten>
+    requires nothing { first_in settings.now ≡ Nothing }
+    requires read { settings.now.mode ≢ Mode.Migrate }
+    requires some { 1 ≤ settings.now.max_paths }
+    requires most { settings.now.max_paths ≤ max_paths }
+    requires ratio { settings.now.ratio ≤ max_ratio }
+    ensures output { IfOk result (λ output. IfSome (known_in settings.now.source (H.files shelf.old)) (λ files.
+        IsOutputOf settings.now files (written output))) }
+    ensures of_some { IfOk result (λ output. (outcome : Outcome) × ComesOfSome settings.now outcome ×
+        IsOutput settings.now outcome (written output)) }
+    ensures unwritten { IfErr result (IsUnwrittenIn settings.now (known_in settings.now.source (H.files shelf.old)) (H.steady shelf.old)) }
+    ensures read_out { OnOk result (BySource settings.now.source ⊤ (0 < length settings.now.dumps → IsAtEnd (H.left shelf.new))) }
+    ensures sample { BySource settings.now.source (shelf.new ≡ shelf.old) ⊤ }
+    ensures no_fault { IfErr result (λ u. BySource settings.now.source (IsFailedRead u → ⊥) ⊤) }
+    ensures reach { IfErr result (IsUnwrittenInReach settings.now (H.files shelf.old) (H.left shelf.new)) }
+
+    ensures reads_shelf { ReadsShelf H.Shelf (IsErrAnd result IsFailedRead) shelf.old shelf.new }
+{
+    match output_under(alloc, keys, settings, None, shelf) {
+        Ok(output) => Ok(output),
+        Err(refusal) => Err(Unwritten::Refused(refusal)),
+    }
+}
+
+// The same where the file of this name says what is known.
+fn bound_output<H: Shelf>(
+    alloc: Global,
+    keys: Keys,
+    settings: &Settings,
+    name: &Name,
+    shelf: &mut H,
+) -> Result<Output, Unwritten>
+    requires files { settings.now.source ≡ Source.Files }
+    requires given { settings.now.given ≡ Some name.now }
+    requires read { settings.now.mode ≢ Mode.Migrate }
+    requires some { 1 ≤ settings.now.max_paths }
+    requires most { settings.now.max_paths ≤ max_paths }
+    requires ratio { settings.now.ratio ≤ max_ratio }
+    ensures output { IfOk result (λ output. IfSome (H.files shelf.old) (λ files. IsOutputOf settings.now files (written output))) }
+    ensures of_some { IfOk result (λ output. (outcome : Outcome) × ComesOfSome settings.now outcome ×
+        IsOutput settings.now outcome (written output)) }
+    ensures unwritten { IfErr result (IsUnwrittenIn settings.now (H.files shelf.old) (H.steady shelf.old)) }
+    ensures read_out { OnOk result (0 < length settings.now.dumps → IsAtEnd (H.left shelf.new)) }
+    ensures reach { IfErr result (IsUnwrittenInReach settings.now (H.files shelf.old) (H.left shelf.new)) }
+
+    ensures reads_shelf { ReadsShelf H.Shelf (IsErrAnd result IsFailedRead) shelf.old shelf.new }
+{
+    match givens_in(alloc, keys, shelf, name) {
+        Ok(givens) => match output_under(alloc, keys, settings, Some(givens), shelf) {
+            Ok(output) => Ok(output),
+            Err(refusal) => Err(Unwritten::Refused(refusal)),
+        },
+        Err(unwritten) => Err(unwritten),
+    }
+}
+
+// The text of version 2 of the result that the file of this name holds.
+fn result_output<H: Shelf>(
+    alloc: Global,
+    settings: &Settings,
+    name: &Name,
+    shelf: &mut H,
+) -> Result<Output, Unwritten>
+    requires result { settings.now.source ≡ Source.Result name.now }
+    ensures output { IfOk result (λ output. IfSome (H.files shelf.old) (λ files. IsOutputOf settings.now files (written output))) }
+    ensures of_some { IfOk result (λ output. (outcome : Outcome) × ComesOfSome settings.now outcome ×
+        IsOutput settings.now outcome (written output)) }
+    ensures unwritten { IfErr result (IsUnwrittenIn settings.now (H.files shelf.old) (H.steady shelf.old)) }
+    ensures read_out { OnOk result (IsAtEnd (H.left shelf.new)) }
+    ensures reach { IfErr result (IsUnwrittenInReach settings.now (H.files shelf.old) (H.left shelf.new)) }
+
+    ensures reads_shelf { ReadsShelf H.Shelf (IsErrAnd result IsFailedRead) shelf.old shelf.new }
+{
+    match result_in(alloc, shelf, name) {
+        Ok(file) => match migrated_output(alloc, file) {
+            Ok(output) => Ok(output),
+            Err(NoMemory) => Err(Unwritten::Refused(Refusal::NoMemory)),
+        },
+        Err(unwritten) => Err(unwritten),
+    }
+}
+
+// What the settings ask for. All memory is taken here.
+fn output_for<H: Shelf>(
+    alloc: Global,
+    keys: Keys,
+    settings: &Settings,
+    shelf: &mut H,
+) -> Result<Output, Unwritten>
+    requires written { IsWrittenOf settings.now.source settings.now.mode }
+    requires named { HasDumps settings.now.source settings.now.dumps }
+    requires some { 1 ≤ settings.now.max_paths }
+    requires most { settings.now.max_paths ≤ max_paths }
+    requires ratio { settings.now.ratio ≤ max_ratio }
+    ensures output { IfOk result (λ output. IfSome (known_in settings.now.source (H.files shelf.old)) (λ files.
+        IsOutputOf settings.now files (written output))) }
+    ensures of_some { IfOk result (λ output. (outcome : Outcome) × ComesOfSome settings.now outcome ×
+        IsOutput settings.now outcome (written output)) }
+    ensures unwritten { IfErr result (IsUnwrittenIn settings.now (known_in settings.now.source (H.files shelf.old)) (H.steady shelf.old)) }
+    ensures read_out { OnOk result (BySource settings.now.source ⊤ (IsAtEnd (H.left shelf.new))) }
+    ensures sample { BySource settings.now.source (shelf.new ≡ shelf.old) ⊤ }
+    ensures no_fault { IfErr result (λ u. BySource settings.now.source (IsFailedRead u → ⊥) ⊤) }
+    ensures reach { IfErr result (IsUnwrittenInReach settings.now (H.files shelf.old) (H.left shelf.new)) }
+
+    ensures reads_shelf { ReadsShelf H.Shelf (IsErrAnd result IsFailedRead) shelf.old shelf.new }
+{
+    match &settings.source {
+        Source::Files => match &settings.given {
+            None => free_output(alloc, keys, settings, shelf),
+            Some(name) => bound_output(alloc, keys, settings, name, shelf),
+        },
+        Source::Sample(_) => free_output(alloc, keys, settings, shelf),
+        Source::Result(name) => result_output(alloc, settings, name, shelf),
     }
 }
 
@@ -97,23 +232,24 @@ pub(crate) fn output_asked<H: Shelf>(
     keys: Keys,
     words: &List<Name>,
     shelf: &mut H,
-) -> Result<Output, Refusal>
+) -> Result<Output, Unwritten>
     ensures asked { IfOk result (λ output. IfSome (known_by words.now (H.files shelf.old)) (λ files.
         IsAsked words.now files (written output))) }
     ensures of_some { IfOk result (λ output. IsOfSome words.now (written output)) }
-    ensures refused { IfErr result (IsRefusal words.now (known_by words.now (H.files shelf.old)) (H.steady shelf.old)) }
+    ensures unwritten { IfErr result (IsUnwritten words.now (known_by words.now (H.files shelf.old)) (H.steady shelf.old)) }
 
-    ensures settled { IsNone (settings_given words.now) → IsErrAnd result IsOfWords }
+    ensures settled { IsNone (settings_given words.now) → IsErrAnd result IsOfTheWords }
     ensures read_out { OnOk result (IfSample words.now ⊤ (IsAtEnd (H.left shelf.new))) }
     ensures sample { IfSample words.now (shelf.new ≡ shelf.old) ⊤ }
-    ensures no_fault { IfErr result (λ r. IfSample words.now (IsReadFault r → ⊥) ⊤) }
-    ensures reach { IfErr result (IsRefusedInReach words.now (H.files shelf.old) (H.left shelf.new)) }
+    ensures no_fault { IfErr result (λ u. IfSample words.now (IsFailedRead u → ⊥) ⊤) }
+    ensures reach { IfErr result (StaysUnwrittenInReach words.now (H.files shelf.old) (H.left shelf.new)) }
 
-    ensures untouched { IfErr result (λ r. IsOfWords r → shelf.new ≡ shelf.old) }
-    ensures reads_shelf { ReadsShelf H.Shelf (IsErrAnd result IsReadFault) shelf.old shelf.new }
+    ensures untouched { IfErr result (λ u. IsOfTheWords u → shelf.new ≡ shelf.old) }
+    ensures reads_shelf { ReadsShelf H.Shelf (IsErrAnd result IsFailedRead) shelf.old shelf.new }
 {
+    bounds_law();
     match settings_of(alloc, words) {
         Ok(settings) => output_for(alloc, keys, &settings, shelf),
-        Err(refused) => Err(Refusal::Words(refused)),
+        Err(refused) => Err(Unwritten::Refused(Refusal::Words(refused))),
     }
 }

@@ -1,6 +1,6 @@
 //! The laws of the runs. Each is the contract of a function.
 
-ghost use Rattle.tor_run.specs.Agreement.{AgreementLaw, OneSummaryLaw};
+ghost use Rattle.tor_run.specs.Agreement.{AgreementLaw, MigrateLaw, OneSummaryLaw};
 ghost use Rattle.tor_run.specs.Accepting.{FaithfulLaw, TableLaw};
 ghost use Rattle.tor_run.specs.Grading.{GradingLaw, ResultEndsLaw};
 ghost use Rattle.tor_run.specs.Seen.{OneOutcomeLaw};
@@ -11,13 +11,16 @@ use rel_infer::self_acceptance_law;
 use result_text::one_value;
 use tor_words::bounds_law;
 
-/// Words and files give one outcome at most: what all dumps gave, or their first end.
+/// Words and files give one outcome at most: what is known and what all dumps gave, a result, or the first end of these.
 pub fn one_outcome_law()
     ensures { OneOutcomeLaw }
-{}
+{
+    one_value();
+}
 
-/// What follows from the definitions is accepted: what dumps give is as a table of paths has it, and each result that is faithful to such
-/// paths meets the rules 1 to 10 of a checker, and rule 11 over them, is valid, may have its peerings read either way, and leaves none out.
+/// What follows from the definitions is accepted: what dumps give is as a table of paths has it, what a file of known relationships says
+/// names two ASes each time and no two of them twice, and each result that is faithful to such paths and such givens meets the rules 1 to
+/// 10 of a checker, and rule 11 over them, is valid, may have its peerings read either way, and leaves none out.
 pub fn faithful_law()
     ensures table { TableLaw }
     ensures result { FaithfulLaw }
@@ -26,14 +29,22 @@ pub fn faithful_law()
     self_acceptance_law();
 }
 
-/// What `torcheck` says of a result that `tor` has written: yes and nothing else, alone and beside the same dumps, whatever limit on
-/// paths they were read under; and that it can judge each that isn't too long.
+/// What `torcheck` says of a result that `tor` has written, with known relationships or without: yes and nothing else, alone and beside the
+/// same dumps, whatever limit on paths they were read under; and that it can judge each that isn't too long.
 pub fn agreement_law()
     ensures { AgreementLaw }
 {
     one_value();
     bounds_law();
     faithful_law();
+}
+
+/// A text of version 2 stays as it is under `tor --migrate`. And what `torcheck` comes to is the same with what `tor --migrate` writes in
+/// the place of a result, alone and beside dumps that stay.
+pub fn migrate_law()
+    ensures { MigrateLaw }
+{
+    one_value();
 }
 
 /// What `tor` sums up is determined: all results that are faithful to what dumps or a sample gave have the same summary.
@@ -58,9 +69,9 @@ pub fn readable_law()
 {}
 
 /// What a grading by the labels that were found for the same paths says: of a result that is faithful to paths as a table has them, exactly
-/// the kept ones are free under the lines of its edges, and none is unknown. A path is kept exactly if some orientation serves it together
-/// with those kept before it. And these edges are as lines of known relationships have to be: the lower AS stands first, and no two are
-/// the same.
+/// the kept ones are free under the lines of its edges, and none is unknown. A path is kept exactly if some orientation that agrees with
+/// what is known serves it together with those kept before it. And these edges are as lines of known relationships have to be: the lower
+/// AS stands first, and no two are the same.
 pub fn grading_law()
     ensures free { GradingLaw }
     ensures ends { ResultEndsLaw }

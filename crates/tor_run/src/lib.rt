@@ -2,15 +2,17 @@
 #![tactic(auto)]
 
 mod asking;
+mod first;
 mod laws;
 mod listing;
 mod output;
 mod run;
 mod sampling;
 mod summary;
+mod unwritten;
 
 pub use laws::{
-    agreement_law, faithful_law, grading_law, one_outcome_law, one_summary_law, readable_law,
-    seen_law, self_grading_law,
+    agreement_law, faithful_law, grading_law, migrate_law, one_outcome_law, one_summary_law,
+    readable_law, seen_law, self_grading_law,
 };
 pub use run::infer;

@@ -1,16 +1,22 @@
 //! What a run that is done writes.
-ghost use Rattle.std.specs.Prelude.{◌≡◌, ◌≢◌, ◌<◌, ◌≤◌, ◌++◌, ◌∷◌, [], All, map, Ok, IfOk, OnOk, OnErr, string_bytes};
+ghost use Rattle.std.specs.Prelude.{◌≡◌, ◌≢◌, ◌<◌, ◌≤◌, ◌++◌, ◌∷◌, [], All, map, Ok, Some, IfOk, OnOk, OnErr, length, string_bytes};
+ghost use Rattle.std.specs.Prelude.{unwrap_or};
 ghost use Rattle.std.specs.List.{AllPairs};
 ghost use Rattle.std.specs.Io.KnownBytes.{append_known};
 ghost use Rattle.tor_arena.specs.Limits.{max_ratio};
 ghost use Rattle.tor_io.specs.Counts.{HasCause};
 ghost use Rattle.tor_io.specs.Contents.{GainsPrefix};
-ghost use Rattle.tor_run.specs.Output.{Faithful, IsOutput, IsOutputIn};
+ghost use Rattle.tor_run.specs.Accepting.{AreSound};
+ghost use Rattle.rel_infer.specs.GivenResults.{max_givens};
+ghost use Rattle.tor_run.specs.Output.{Faithful, IsMigrated, IsOutputIn, migrated};
 ghost use Rattle.result_text.specs.Grammar.{IsTextOf};
 ghost use Rattle.rel_infer.specs.SelfAcceptance.{AreTableRows};
 ghost use Rattle.serial_lines.specs.Serial.{rel_in, rel_text};
 ghost use Rattle.as_rel.specs.Labelled.{ends_of, line_of_edge};
 ghost use Rattle.table_ties.specs.TiesText.{ties_text};
+ghost use Rattle.tor_survey.specs.SurveyText.{survey_text};
+ghost use Rattle.tor_survey.specs.Surveys.{survey_of};
+ghost use Rattle.tor_run.specs.Listing.{listing};
 ghost use Rattle.tor_run.specs.Summary.{summary};
 ghost use Rattle.tor_run.specs.Written.{written};
 
@@ -19,7 +25,8 @@ use crate::summary::summary_text;
 use as_rel::{print_rel, rel_of};
 use dump_read::Taken;
 use path_clean::PathTable;
-use rel_infer::result_of;
+use rel_infer::{ResultHead, result_with};
+use relationships::Given;
 use result_text::{EdgeLine, ResultFile, print};
 use std::alloc::Global;
 use table_ties::{TieLine, ties_of_table};
@@ -86,17 +93,25 @@ fn faithful_result(
     alloc: Global,
     keys: Keys,
     settings: &Settings,
+    givens: Option<List<Given>>,
     taken: Taken,
 ) -> Result<ResultFile, NoMemory>
-    requires { settings.now.ratio ≤ max_ratio }
-    ensures { IfOk result (Faithful settings.now taken) }
+    requires ratio { settings.now.ratio ≤ max_ratio }
+    requires sound { AreSound givens }
+    requires few { length (unwrap_or givens []) ≤ max_givens }
+    ensures { IfOk result (Faithful settings.now givens taken) }
 {
     let Taken {
         table,
         counts,
         files: _,
     } = taken;
-    result_of(alloc, keys, settings.sets, settings.ratio, table, counts)
+    let head = ResultHead {
+        sets: settings.sets,
+        ratio: settings.ratio,
+        asides: counts,
+    };
+    result_with(alloc, keys, head, givens, table)
 }
 
 // The text of a result, and its summary as the note.
@@ -114,12 +129,15 @@ fn labels_output(
     alloc: Global,
     keys: Keys,
     settings: &Settings,
+    givens: Option<List<Given>>,
     taken: Taken,
 ) -> Result<Output, NoMemory>
-    requires { settings.now.ratio ≤ max_ratio }
-    ensures { IfOk result (λ output. IsOutputIn Mode.Labels settings.now taken (written output)) }
+    requires ratio { settings.now.ratio ≤ max_ratio }
+    requires sound { AreSound givens }
+    requires few { length (unwrap_or givens []) ≤ max_givens }
+    ensures { IfOk result (λ output. IsOutputIn Mode.Labels settings.now givens taken (written output)) }
 {
-    let file = faithful_result(alloc, keys, settings, taken)?;
+    let file = faithful_result(alloc, keys, settings, givens, taken)?;
     text_and_summary(alloc, &file)
 }
 
@@ -137,30 +155,30 @@ fn summary_output(
     alloc: Global,
     keys: Keys,
     settings: &Settings,
+    givens: Option<List<Given>>,
     taken: Taken,
 ) -> Result<Output, NoMemory>
-    requires { settings.now.ratio ≤ max_ratio }
-    ensures { IfOk result (λ output. IsOutputIn Mode.Summary settings.now taken (written output)) }
+    requires ratio { settings.now.ratio ≤ max_ratio }
+    requires sound { AreSound givens }
+    requires few { length (unwrap_or givens []) ≤ max_givens }
+    ensures { IfOk result (λ output. IsOutputIn Mode.Summary settings.now givens taken (written output)) }
 {
-    let file = faithful_result(alloc, keys, settings, taken)?;
+    let file = faithful_result(alloc, keys, settings, givens, taken)?;
     summary_alone(alloc, &file)
 }
 
 // The list of the distinct paths that the dumps gave. What it takes is all taken here.
-fn listing_output(alloc: Global, settings: &Settings, taken: Taken) -> Result<Output, NoMemory>
-    ensures { IfOk result (λ output. IsOutputIn Mode.Listing settings.now taken (written output)) }
+fn listing_output(alloc: Global, taken: Taken) -> Result<Output, NoMemory>
+    ensures text { IfOk result (λ output. (written output).text ≡ listing taken.table.rows) }
+    ensures note { IfOk result (λ output. (written output).note ≡ []) }
 {
     Ok(Output::Paths(taken.table, Buffer::new(alloc)?))
 }
 
 // The survey of what the dumps gave.
-fn survey_output(
-    alloc: Global,
-    keys: Keys,
-    settings: &Settings,
-    taken: Taken,
-) -> Result<Output, NoMemory>
-    ensures { IfOk result (λ output. IsOutputIn Mode.Survey settings.now taken (written output)) }
+fn survey_output(alloc: Global, keys: Keys, taken: Taken) -> Result<Output, NoMemory>
+    ensures text { IfOk result (λ output. (written output).text ≡ survey_text (survey_of taken)) }
+    ensures note { IfOk result (λ output. (written output).note ≡ []) }
 {
     let survey = survey_of(alloc, keys, taken)?;
     let text = text_of(alloc, &survey)?;
@@ -176,16 +194,28 @@ fn ties_alone(alloc: Global, lines: &[TieLine]) -> Result<Output, NoMemory>
     Ok(Output::Text(text, List::new(alloc)))
 }
 
+// The relationships that are known, if any are.
+fn given_slice(givens: &Option<List<Given>>) -> &[Given]
+    ensures { result.now ≡ unwrap_or givens.now [] }
+{
+    match givens {
+        None => &[],
+        Some(givens) => givens.as_slice(),
+    }
+}
+
 // The ties of the paths that the dumps gave.
 fn ties_output(
     alloc: Global,
     keys: Keys,
     settings: &Settings,
+    givens: Option<List<Given>>,
     taken: Taken,
 ) -> Result<Output, NoMemory>
-    ensures { IfOk result (λ output. IsOutputIn Mode.Ties settings.now taken (written output)) }
+    requires { AreSound givens }
+    ensures { IfOk result (λ output. IsOutputIn Mode.Ties settings.now givens taken (written output)) }
 {
-    let lines = ties_of_table(alloc, keys, taken.table)?;
+    let lines = ties_of_table(alloc, keys, given_slice(&givens), taken.table)?;
     ties_alone(alloc, lines.as_slice())
 }
 
@@ -207,32 +237,60 @@ fn serial_output(
     alloc: Global,
     keys: Keys,
     settings: &Settings,
+    givens: Option<List<Given>>,
     taken: Taken,
 ) -> Result<Output, NoMemory>
-    requires { settings.now.ratio ≤ max_ratio }
-    ensures { IfOk result (λ output. IsOutputIn Mode.Serial settings.now taken (written output)) }
+    requires ratio { settings.now.ratio ≤ max_ratio }
+    requires sound { AreSound givens }
+    requires few { length (unwrap_or givens []) ≤ max_givens }
+    ensures { IfOk result (λ output. IsOutputIn Mode.Serial settings.now givens taken (written output)) }
 {
     has_table_rows(&taken.table);
-    let file = faithful_result(alloc, keys, settings, taken)?;
+    let file = faithful_result(alloc, keys, settings, givens, taken)?;
     serial_alone(alloc, keys, file.edges.as_slice())
 }
 
-/// What the settings ask for, of what the dumps gave. The only error is that memory ran out.
+/// What the settings ask for, of what is known and what the dumps gave; with `--migrate` no dump is read. The only error is that memory ran
+/// out.
 pub(crate) fn output_of(
     alloc: Global,
     keys: Keys,
     settings: &Settings,
+    givens: Option<List<Given>>,
     taken: Taken,
 ) -> Result<Output, NoMemory>
-    requires { settings.now.ratio ≤ max_ratio }
-    ensures { IfOk result (λ output. IsOutput settings.now taken (written output)) }
+    requires read { settings.now.mode ≢ Mode.Migrate }
+    requires ratio { settings.now.ratio ≤ max_ratio }
+    requires sound { AreSound givens }
+    requires few { length (unwrap_or givens []) ≤ max_givens }
+    ensures { IfOk result (λ output. IsOutputIn settings.now.mode settings.now givens taken (written output)) }
 {
     match settings.mode {
-        Mode::Labels => labels_output(alloc, keys, settings, taken),
-        Mode::Listing => listing_output(alloc, settings, taken),
-        Mode::Survey => survey_output(alloc, keys, settings, taken),
-        Mode::Ties => ties_output(alloc, keys, settings, taken),
-        Mode::Serial => serial_output(alloc, keys, settings, taken),
-        Mode::Summary => summary_output(alloc, keys, settings, taken),
+        Mode::Labels => labels_output(alloc, keys, settings, givens, taken),
+        Mode::Listing => listing_output(alloc, taken),
+        Mode::Survey => survey_output(alloc, keys, taken),
+        Mode::Ties => ties_output(alloc, keys, settings, givens, taken),
+        Mode::Serial => serial_output(alloc, keys, settings, givens, taken),
+        Mode::Summary => summary_output(alloc, keys, settings, givens, taken),
+        Mode::Migrate => unreachable!(),
     }
+}
+
+// The same result with a list of givens.
+fn with_givens(alloc: Global, mut file: ResultFile) -> ResultFile
+    ensures { result ≡ migrated file }
+{
+    if file.givens.is_none() {
+        file.givens = Some(List::new(alloc));
+    }
+    file
+}
+
+/// The text of version 2 of a result, without a note.
+pub(crate) fn migrated_output(alloc: Global, file: ResultFile) -> Result<Output, NoMemory>
+    ensures { IfOk result (λ output. IsMigrated file (written output)) }
+{
+    let file = with_givens(alloc, file);
+    let text = print(alloc, &file)?;
+    Ok(Output::Text(text, List::new(alloc)))
 }

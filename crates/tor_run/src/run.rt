@@ -1,5 +1,5 @@
 //! The run of `tor`.
-ghost use Rattle.std.specs.Prelude.{◌≡◌, ◌≢◌, ◌≤◌, ◌⊎◌, Some, IfSome, IsNone, ℕ, ⊤};
+ghost use Rattle.std.specs.Prelude.{◌≡◌, ◌≢◌, ◌≤◌, ◌⊎◌, List, Option, Some, IfSome, IsNone, ℕ, ⊤};
 ghost use Rattle.std.specs.Io.KnownBytes.{IsAtEnd};
 ghost use Rattle.tor_io.specs.Counts.{IsQuiet};
 ghost use Rattle.tor_io.specs.Contents.{Files};
@@ -9,9 +9,12 @@ ghost use Rattle.dump_read.specs.declared.error.LimitKind.{LimitKind as Quantity
 ghost use Rattle.dump_read.specs.Seen.{Absent, Malformed as MalformedAt, Limit as LimitOf};
 ghost use Rattle.dump_read.specs.declared.taking.Taken.{Taken};
 ghost use Rattle.tor_words.specs.Given.{settings_given};
+ghost use Rattle.relationships.specs.declared.given.Given.{Given};
+ghost use Rattle.result_text.specs.declared.file.ResultFile.{ResultFile};
+ghost use Rattle.tor_run.specs.First.{NoFile, TooLong, BadLine};
 ghost use Rattle.tor_run.specs.Reach.{EndsInReach};
 ghost use Rattle.tor_run.specs.Sampling.{IfSample, known_by};
-ghost use Rattle.tor_run.specs.Seen.{Reads, Ends, Gives};
+ghost use Rattle.tor_run.specs.Seen.{Reads, Holds, Stops, Ends, Gives};
 ghost use Rattle.tor_run.specs.Answer.{IsNote, LeadsToMalformed, LeadsToLimit, LeadsToAbsent};
 ghost use Rattle.run_base.specs.Answers.{IsNoted};
 ghost use Rattle.tor_run.specs.Grading.{AsksForSerial, GainsGrading};
@@ -20,7 +23,9 @@ ghost use Rattle.run_base.specs.Answers.{note_in};
 ghost use Rattle.run_base.specs.Frames.{RunLeavesShelf, RunLeavesOut};
 
 use crate::asking::output_asked;
-use run_base::{Answer, Note, Status, answer_to};
+use crate::unwritten::answer_to_unwritten;
+use result_text::one_value;
+use run_base::{Answer, Note, Status};
 use std::alloc::Global;
 use tor_arena::{Keys, List};
 use tor_io::{Failed, Shelf, Sink, write_all};
@@ -44,7 +49,8 @@ fn answer<H: Shelf, O: Sink>(
     ensures nothing { result.status ≢ Status.Done → result.status ≢ Status.WriteFault → out.new ≡ out.old }
 
     // Why it is answered.
-    ensures note { IsNote words.now (known_by words.now (H.files shelf.old)) (H.steady shelf.old) result.status (note_in result) }
+    ensures note { IsNote words.now (known_by words.now (H.files shelf.old)) (H.steady shelf.old) (H.left shelf.new) result.status
+        (note_in result) }
     ensures usage { result.status ≡ Status.Usage → IsNone (settings_given words.now) }
     ensures always_usage { IsNone (settings_given words.now) →
         (result.status ≡ Status.Usage) ⊎ (result.status ≡ Status.NoMemory) }
@@ -67,16 +73,18 @@ fn answer<H: Shelf, O: Sink>(
             },
             Err(Failed) => Answer::plain(Status::WriteFault),
         },
-        Err(refusal) => answer_to(alloc, refusal),
+        Err(unwritten) => answer_to_unwritten(alloc, unwritten),
     }
 }
 
 /// Runs `tor`: of the dumps that the words name, it writes the result, and its summary as a line to err, or with `--list` the distinct
 /// paths, with `--survey` what the dumps hold, with `--ties` the ties of the open edges, with `--serial1` the labels as lines of serial-1;
-/// with `--sample`, of the sample of that number in place of dumps, the summary alone.
-/// Done: this was written. Usage: the words are no command. Malformed, Limit: the first end of the dumps is that fault or that limit.
-/// ReadFault: a call on the shelf failed, as an open does at a file that isn't there. WriteFault: a call on out failed. NoMemory:
-/// memory ran out, before anything went to out. `docs/PROMISES.md` has each promise by name.
+/// with `--sample`, of the sample of that number in place of dumps, the summary alone; and with `--migrate`, of the result that the words
+/// name, its text of version 2. With `--given` the file of known relationships is read before the dumps, and binds the result.
+/// Done: this was written. Usage: the words are no command. Malformed, Limit: the first end of the file that is read before any dump, or
+/// else of the dumps, is that bad line, that fault or that limit. ReadFault: a call on the shelf failed, as an open does at a file that
+/// isn't there. WriteFault: a call on out failed. NoMemory: memory ran out, before anything went to out. `docs/PROMISES.md` has each
+/// promise by name.
 pub fn infer<H: Shelf, O: Sink, E: Sink>(
     alloc: Global,
     keys: Keys,
@@ -92,12 +100,13 @@ pub fn infer<H: Shelf, O: Sink, E: Sink>(
         (E.faults err.old) (E.faults err.new) (E.held err.old) (E.held err.new)) }
     ensures cut_off { result ≡ Status.WriteFault → IfSome (known_by words.now (H.files shelf.old)) (λ files.
         GainsOutputPrefix words.now files (O.held out.old) (O.held out.new)) }
-    // The same of files of which nothing is known: the text is one that the words ask for of some paths and counts.
+    // The same of files of which nothing is known: the text is one that the words ask for of some paths, counts and givens, or of some
+    // result.
     ensures some { result ≡ Status.Done → IsNoted (GainsSome words.now (O.held out.old) (O.held out.new))
         (E.faults err.old) (E.faults err.new) (E.held err.old) (E.held err.new) }
     ensures some_cut_off { result ≡ Status.WriteFault → GainsSomePrefix words.now (O.held out.old) (O.held out.new) }
-    // With `--serial1` what is written says of the paths of the dumps which ones are kept: read as known relationships, exactly these
-    // are free under it, and no path is unknown.
+    // With `--serial1` what is written says of the paths of the dumps which ones are kept under what is known: read as known relationships,
+    // exactly these are free under it, and no path is unknown.
     ensures graded { result ≡ Status.Done → AsksForSerial words.now → IfSome (known_by words.now (H.files shelf.old)) (λ files.
         GainsGrading words.now files (O.held out.old) (O.held out.new)) }
     ensures nothing { result ≢ Status.Done → result ≢ Status.WriteFault → out.new ≡ out.old }
@@ -112,20 +121,38 @@ pub fn infer<H: Shelf, O: Sink, E: Sink>(
 
     // When each status has to come, or NoMemory.
     ensures always_usage { IsNone (settings_given words.now) → (result ≡ Status.Usage) ⊎ (result ≡ Status.NoMemory) }
-    ensures always_done { (files : Files) (taken : Taken) → known_by words.now (H.files shelf.old) ≡ Some files →
-        Gives words.now files (Reads taken) → IsQuiet (H.faults shelf.old) (H.faults shelf.new) ⊎ H.steady shelf.old →
-        IsQuiet (O.faults out.old) (O.faults out.new) → (result ≡ Status.Done) ⊎ (result ≡ Status.NoMemory) }
-    ensures always_malformed { (files : Files) (place : Place) (fault : FaultKind) →
-        known_by words.now (H.files shelf.old) ≡ Some files →
-        Gives words.now files (Ends (MalformedAt place fault)) →
+    ensures always_done { (files : Files) (known : Option (List Given)) (taken : Taken) →
+        known_by words.now (H.files shelf.old) ≡ Some files → Gives words.now files (Reads known taken) →
+        IsQuiet (H.faults shelf.old) (H.faults shelf.new) ⊎ H.steady shelf.old →
+        IsQuiet (O.faults out.old) (O.faults out.new) →
+        (result ≡ Status.Done) ⊎ (result ≡ Status.NoMemory) }
+    ensures always_migrated { (files : Files) (file : ResultFile) →
+        known_by words.now (H.files shelf.old) ≡ Some files → Gives words.now files (Holds file) →
+        IsQuiet (H.faults shelf.old) (H.faults shelf.new) ⊎ H.steady shelf.old →
+        IsQuiet (O.faults out.old) (O.faults out.new) →
+        (result ≡ Status.Done) ⊎ (result ≡ Status.NoMemory) }
+    ensures always_bad_line { (files : Files) (line : ℕ) →
+        known_by words.now (H.files shelf.old) ≡ Some files → Gives words.now files (Stops (BadLine line)) →
         IsQuiet (H.faults shelf.old) (H.faults shelf.new) ⊎ H.steady shelf.old →
         (result ≡ Status.Malformed) ⊎ (result ≡ Status.NoMemory) }
-    ensures always_limit { (files : Files) (kind : Quantity) (dump : ℕ) → known_by words.now (H.files shelf.old) ≡ Some files →
-        Gives words.now files (Ends (LimitOf kind dump)) →
+    ensures always_malformed { (files : Files) (place : Place) (fault : FaultKind) →
+        known_by words.now (H.files shelf.old) ≡ Some files → Gives words.now files (Ends (MalformedAt place fault)) →
+        IsQuiet (H.faults shelf.old) (H.faults shelf.new) ⊎ H.steady shelf.old →
+        (result ≡ Status.Malformed) ⊎ (result ≡ Status.NoMemory) }
+    ensures always_too_long { (files : Files) →
+        known_by words.now (H.files shelf.old) ≡ Some files → Gives words.now files (Stops TooLong) →
         IsQuiet (H.faults shelf.old) (H.faults shelf.new) ⊎ H.steady shelf.old →
         (result ≡ Status.Limit) ⊎ (result ≡ Status.NoMemory) }
-    ensures always_absent { (files : Files) (dump : ℕ) → known_by words.now (H.files shelf.old) ≡ Some files →
-        Gives words.now files (Ends (Absent dump)) → (result ≡ Status.ReadFault) ⊎ (result ≡ Status.NoMemory) }
+    ensures always_limit { (files : Files) (kind : Quantity) (dump : ℕ) →
+        known_by words.now (H.files shelf.old) ≡ Some files → Gives words.now files (Ends (LimitOf kind dump)) →
+        IsQuiet (H.faults shelf.old) (H.faults shelf.new) ⊎ H.steady shelf.old →
+        (result ≡ Status.Limit) ⊎ (result ≡ Status.NoMemory) }
+    ensures always_no_first { (files : Files) →
+        known_by words.now (H.files shelf.old) ≡ Some files → Gives words.now files (Stops NoFile) →
+        (result ≡ Status.ReadFault) ⊎ (result ≡ Status.NoMemory) }
+    ensures always_absent { (files : Files) (dump : ℕ) →
+        known_by words.now (H.files shelf.old) ≡ Some files → Gives words.now files (Ends (Absent dump)) →
+        (result ≡ Status.ReadFault) ⊎ (result ≡ Status.NoMemory) }
 
     // What is left in the objects: at Done nothing unread, the files as they were, no count lowered, at Usage and with `--sample` no
     // call made on the shelf, no failed call passed over, and no fault where none failed.
@@ -138,12 +165,14 @@ pub fn infer<H: Shelf, O: Sink, E: Sink>(
     ensures err_later { E.faults err.old ≤ E.faults err.new }
 
     // What is written to err: the status' note, or a prefix of it where err failed.
-    ensures note { IsNoted (IsNote words.now (known_by words.now (H.files shelf.old)) (H.steady shelf.old) result)
+    ensures note { IsNoted (IsNote words.now (known_by words.now (H.files shelf.old)) (H.steady shelf.old) (H.left shelf.new) result)
         (E.faults err.old) (E.faults err.new) (E.held err.old) (E.held err.new) }
-    // And how far the dump that it names was read.
+    // And how far the file or the dump that it names was read.
     ensures reach { IsNoted (EndsInReach words.now (H.files shelf.old) (H.left shelf.new) result)
         (E.faults err.old) (E.faults err.new) (E.held err.old) (E.held err.new) }
 {
+    // A law that the promises rest on: a text has one value.
+    one_value();
     let answer = answer(alloc, keys, words, shelf, out);
     let _ = write_all(err, answer.note());
     answer.status

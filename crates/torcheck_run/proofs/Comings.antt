@@ -52,7 +52,7 @@ none_broken law bytes file (No line rule) accepted (inr broken) =
     refused.first.breach (accepted.rules refused.rule refused.place refused.first.within)
 
 -- a bad line is one
-one_bad_line : (bytes : List ℕ) (n m : ℕ) → IsBadLine n bytes → IsBadLine m bytes → n ≡ m
+pub one_bad_line : (bytes : List ℕ) (n m : ℕ) → IsBadLine n bytes → IsBadLine m bytes → n ≡ m
 one_bad_line bytes n m a b = elim (cases_order n m) [
   | inl e ↦ e
   | inr o ↦ elim o [

@@ -17,10 +17,10 @@ use Rattle.run_base.specs.declared.answer.Refusal.TheVariants as refusal
 use Rattle.run_base.specs.declared.whole_file.Unread.TheVariants as unread
 use Rattle.torcheck_run.specs.declared.judging.Unjudged.{Unjudged}
 use Rattle.torcheck_run.specs.declared.judging.Unjudged.TheVariants as unjudged
-use Rattle.run_base.specs.Notes.{malformed_note, limit_note, read_fault_note, result_note}
+use Rattle.run_base.specs.Notes.{malformed_note, limit_note, read_fault_note}
 use Rattle.run_base.specs.Answers.{AnswersStop, AnswersWith, IsNoMemory, note_in, note_text}
 use Rattle.torcheck_run.specs.Judging.{Outcome, Judged, NoResult, TooLong, Ends, IsAccepted, IsResult, IsVerdict, SettingsGive, LeavesOnlyResult, seen_for}
-use Rattle.torcheck_run.specs.CheckAnswer.{KnownFilesGive, HoldsBefore, IsCheckNote}
+use Rattle.torcheck_run.specs.CheckAnswer.{result_note, KnownFilesGive, HoldsBefore, IsCheckNote}
 use Rattle.torcheck_run.specs.Unjudging.{DumpsEndWith, StopsAt, IsUnjudged, IsFailedResult, AnswersUnjudged}
 use Rattle.torcheck_run.specs.Limits.{max_result}
 

@@ -14,7 +14,8 @@ use Rattle.tor_words.specs.Refused.{HasUsageLine}
 use Rattle.tor_words.specs.CheckGiven.{check_settings_given}
 use Rattle.run_base.specs.declared.status.Status.{Status}
 use Rattle.run_base.specs.declared.status.Status.TheVariants as status
-use Rattle.run_base.specs.Notes.{malformed_note, limit_note, read_fault_note, result_note, plain_note}
+use Rattle.run_base.specs.declared.notes.FirstFile.TheVariants.{Result}
+use Rattle.run_base.specs.Notes.{malformed_note, limit_note, read_fault_note, too_long_note, plain_note}
 use Rattle.torcheck_run.specs.Limits.{max_result}
 use Rattle.torcheck_run.specs.Judging.{Outcome, Judged, NoResult, TooLong, Ends, WordsGive, IsResult, IsAccepted, seen_for}
 use Rattle.run_base.specs.WholeFile.{LeavesOnly}
@@ -53,6 +54,10 @@ GainsVerdictPrefix words known old new = (answer : Verdict) × KnownFilesGive wo
     GainsPrefix old new (verdict_text answer)
 
 -- ---- statuses
+
+-- the note of a result file that has too many octets
+abbrev pub result_note : List ℕ
+result_note = too_long_note Result
 
 -- what the words and the files give, where these are known, is a fault of a record
 abbrev pub LeadsToMalformed : List (List ℕ) → Option Files → Type 0

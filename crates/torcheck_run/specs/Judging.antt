@@ -1,5 +1,5 @@
 -- What the words and the files of a check give: a verdict on the result file, or why there is none.
-use Rattle.std.specs.Prelude.{◌≡◌, ◌≤◌, ◌<◌, ◌⊎◌, ℕ, List, [], ◌∷◌, length, Option, Some, None, Result, Ok, Err, IsOk}
+use Rattle.std.specs.Prelude.{◌≡◌, ◌<◌, ◌⊎◌, ℕ, List, [], ◌∷◌, length, Option, Some, None, Result, Ok, Err, IsOk}
 use Rattle.tor_io.specs.Contents.{Files}
 use Rattle.result_text.specs.declared.file.ResultFile.{ResultFile}
 use Rattle.result_text.specs.Grammar.{IsTextOf, IsBadLine}
@@ -15,7 +15,7 @@ use Rattle.tor_words.specs.CheckGiven.{check_settings_given}
 use Rattle.run_base.specs.Reading.{nothing, seen_from}
 use Rattle.torcheck_run.specs.Limits.{max_result}
 use Rattle.tor_arena.specs.Limits.{max_paths}
-use Rattle.run_base.specs.WholeFile.{IsLongFile, LeavesRest, LeavesOnly}
+use Rattle.run_base.specs.WholeFile.{IsFile, IsLongFile, LeavesRest, LeavesOnly}
 
 -- ---- the rules 0 to 10, which the octets of the result file alone decide
 
@@ -66,9 +66,8 @@ LeavesOnlyResult words known left =
     (settings : CheckSettings) → check_settings_given words ≡ Some settings → LeavesOnly max_result settings.result known left
 
 -- the result file is there with these octets, and they are few enough
-pub record IsResult (settings : CheckSettings) (files : Files) (bytes : List ℕ) : Type 0 where
-  pub there : files settings.result ≡ Some bytes
-  pub short : length bytes ≤ max_result
+abbrev pub IsResult : CheckSettings → Files → List ℕ → Type 0
+IsResult settings files bytes = IsFile max_result files settings.result bytes
 
 -- ---- what a check comes to
 

@@ -9,11 +9,11 @@ use Rattle.tor_words.specs.declared.check_settings.CheckSettings.{CheckSettings}
 use Rattle.tor_words.specs.CheckGiven.{check_settings_given}
 use Rattle.run_base.specs.declared.status.Status.{Status}
 use Rattle.run_base.specs.declared.status.Status.TheVariants as status
-use Rattle.run_base.specs.Notes.{malformed_note, limit_note, read_fault_note, result_note}
+use Rattle.run_base.specs.Notes.{malformed_note, limit_note, read_fault_note}
 use Rattle.run_base.specs.Reach.{IsDumpInReach, IsRefusalInReach}
 use Rattle.torcheck_run.specs.declared.judging.Unjudged.{Unjudged}
 use Rattle.torcheck_run.specs.declared.judging.Unjudged.TheVariants as unjudged
-use Rattle.torcheck_run.specs.CheckAnswer.{KnownFilesGive}
+use Rattle.torcheck_run.specs.CheckAnswer.{KnownFilesGive, result_note}
 use Rattle.torcheck_run.specs.Judging.{TooLong, LeavesOnlyResult}
 
 -- so it is where there is no verdict since the reading of the dumps stopped

@@ -11,8 +11,8 @@ use Rattle.tor_words.specs.declared.check_settings.CheckSettings.{CheckSettings}
 use Rattle.tor_words.specs.declared.refused.WordsRefused.TheVariants as refused
 use Rattle.tor_words.specs.Refused.{HasUsageLine}
 use Rattle.tor_words.specs.CheckGiven.{check_settings_given}
-use Rattle.run_base.specs.declared.status.Status.TheVariants as status
 use Rattle.run_base.specs.declared.answer.Answer.{Answer}
+use Rattle.run_base.specs.declared.notes.FirstFile.TheVariants.{Result as result_file}
 use Rattle.run_base.specs.declared.answer.Refusal.{Refusal}
 use Rattle.run_base.specs.declared.answer.Refusal.TheVariants as refusal
 use Rattle.run_base.specs.declared.whole_file.Unread.TheVariants as unread
@@ -20,8 +20,7 @@ use Rattle.torcheck_run.specs.declared.judging.Ruling.{Ruling}
 use Rattle.torcheck_run.specs.declared.judging.Ruling.TheVariants as ruling
 use Rattle.torcheck_run.specs.declared.judging.Unjudged.{Unjudged}
 use Rattle.torcheck_run.specs.declared.judging.Unjudged.TheVariants as unjudged
-use Rattle.run_base.specs.Notes.{read_fault_note, result_note}
-use Rattle.run_base.specs.Answers.{AnswersWith, Answers, IsNoMemory, IsReadFault, IsOfWords}
+use Rattle.run_base.specs.Answers.{Answers, AnswersUnread, IsReadFault, IsOfWords}
 use Rattle.torcheck_run.specs.Judging.{BreaksRule, IsAccepted, IsResult, seen_for}
 use Rattle.run_base.specs.WholeFile.{IsLongFile}
 use Rattle.torcheck_run.specs.Limits.{max_result}
@@ -101,7 +100,5 @@ IsOfCheckWords (unjudged.Result why) = ⊥
 IsOfCheckWords (unjudged.Refused why) = IsOfWords why
 
 abbrev pub AnswersUnjudged : Unjudged → Answer → Type 0
-AnswersUnjudged (unjudged.Result unread.Failed) answer = AnswersWith status.ReadFault (read_fault_note 0) answer
-AnswersUnjudged (unjudged.Result unread.TooLong) answer = AnswersWith status.Limit result_note answer
-AnswersUnjudged (unjudged.Result unread.NoMemory) answer = IsNoMemory answer
+AnswersUnjudged (unjudged.Result why) answer = AnswersUnread result_file why answer
 AnswersUnjudged (unjudged.Refused why) answer = Answers why answer

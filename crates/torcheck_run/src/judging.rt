@@ -1,5 +1,5 @@
 //! The verdict on a result file.
-ghost use Rattle.std.specs.Prelude.{◌≡◌, ◌≢◌, ◌≤◌, ◌-◌, [], Err, IfOk, IfErr, OnOk, IfSome, IsNone, IsErrAnd, IsOk, length, take};
+ghost use Rattle.std.specs.Prelude.{◌≡◌, ◌+◌, ◌≢◌, ◌≤◌, ◌-◌, [], Err, IfOk, IfErr, OnOk, IfSome, IsNone, IsErrAnd, IsOk, length, take};
 ghost use Rattle.std.specs.Io.KnownBytes.{IsAtEnd};
 ghost use Rattle.dump_read.specs.declared.error.DumpError.TheVariants.{ReadFault as read_failed};
 ghost use Rattle.dump_read.specs.Seen.{Absent, end_named};
@@ -11,7 +11,7 @@ ghost use Rattle.run_base.specs.Frames.{ReadsShelf};
 ghost use Rattle.torcheck_run.specs.Judging.{Judged, SettingsGive, IsVerdict, JudgesByDumps, LeavesRestOf, LeavesOnlyResult, seen_for};
 ghost use Rattle.run_base.specs.WholeFile.{LeavesRest, LeavesOnly};
 ghost use Rattle.torcheck_run.specs.CheckAnswer.{KnownFilesGive};
-ghost use Rattle.result_rules.specs.File.{HasFewLines, most_lines};
+ghost use Rattle.result_rules.specs.File.{HasFewLines, its_givens, most_lines};
 ghost use Rattle.run_base.specs.Reach.{IsDumpInReach, IsRefusalInReach};
 ghost use Rattle.torcheck_run.specs.Reach.{IsUnjudgedInReach, StaysUnjudgedInReach};
 ghost use Rattle.torcheck_run.specs.Unjudging.{IsRuling, IsRulingOf, IsRefusedBy, IsUnjudged, IsUnjudgedIn, IsTooLong, IsFailedResult};
@@ -22,8 +22,8 @@ use rel_checker::{check_against, check_file};
 use result_rules::Verdict;
 use result_text::{ParseError, ResultFile, parse};
 use run_base::{
-    Answer, Refusal, Status, Stopped, Unread, answer_to, nothing_taken, read_dumps,
-    read_fault_note, read_whole, result_note,
+    Answer, FirstFile, Refusal, Stopped, Unread, answer_to, answer_to_unread, nothing_taken,
+    read_dumps, read_whole,
 };
 use std::alloc::Global;
 use tor_arena::{Keys, List, MAX_PATHS, NoMemory};
@@ -31,7 +31,7 @@ use tor_io::Shelf;
 use tor_words::{CheckSettings, Name, check_settings_of};
 
 /// The most octets of a result file.
-const MAX_RESULT: usize = 1 << 31;
+pub const MAX_RESULT: usize = 1 << 31;
 
 /// Why there is no verdict.
 #[derive(Drop)]
@@ -90,7 +90,7 @@ fn judged_by_dumps<H: Shelf>(
     file: &ResultFile,
     dumps: &[Name],
 ) -> Result<Verdict, Stopped>
-    requires lines { length file.now.paths ≤ most_lines }
+    requires lines { length (its_givens file.now) + length file.now.paths ≤ most_lines }
     ensures verdict { IfOk result (λ verdict. IfSome (H.files shelf.old) (λ files. JudgesByDumps file.now dumps.now files verdict)) }
     ensures stopped { IfErr result (λ e. IfSome (end_named e.dump e.error) (λ end. IfSome (H.files shelf.old) (λ files.
         seen_for file.now dumps.now files ≡ Err end))) }
@@ -196,16 +196,11 @@ pub(crate) fn verdict_of<H: Shelf>(
 }
 
 /// The answer where there is no verdict.
-#[tactic(auto, using(run_base::proofs::Notings::says))]
 pub(crate) fn answer_to_unjudged(alloc: Global, unjudged: Unjudged) -> Answer
     ensures { AnswersUnjudged unjudged result }
 {
     match unjudged {
-        Unjudged::Result(Unread::Failed) => {
-            Answer::noted(Status::ReadFault, read_fault_note(alloc, 0))
-        }
-        Unjudged::Result(Unread::TooLong) => Answer::noted(Status::Limit, result_note(alloc)),
-        Unjudged::Result(Unread::NoMemory) => Answer::plain(Status::NoMemory),
+        Unjudged::Result(unread) => answer_to_unread(alloc, FirstFile::Result, unread),
         Unjudged::Refused(refusal) => answer_to(alloc, refusal),
     }
 }

@@ -7,4 +7,5 @@ mod laws;
 mod verdicts;
 
 pub use checking::check;
+pub use judging::MAX_RESULT;
 pub use laws::one_file_verdict_law;

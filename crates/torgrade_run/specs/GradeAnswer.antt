@@ -1,5 +1,5 @@
 -- What a grading answers, writes and notes, by what its words and files give.
-use Rattle.std.specs.Prelude.{◌≡◌, ◌≤◌, ◌⊎◌, ◌-◌, ◌++◌, ◌∷◌, [], ℕ, List, length, take, Option, Some, Ok, IfSome, IsOk, codes, decimal}
+use Rattle.std.specs.Prelude.{◌≡◌, ◌≤◌, ◌⊎◌, ◌-◌, ℕ, List, length, take, Option, Some, Ok, IfSome, IsOk}
 use Rattle.std.specs.Io.KnownBytes.{append_known}
 use Rattle.tor_arena.specs.Limits.{max_paths}
 use Rattle.tor_io.specs.Contents.{Files, GainsPrefix}
@@ -16,6 +16,8 @@ use Rattle.tor_words.specs.Refused.{HasUsageLine}
 use Rattle.tor_words.specs.GradeGiven.{grade_settings_given}
 use Rattle.run_base.specs.declared.status.Status.{Status}
 use Rattle.run_base.specs.declared.status.Status.TheVariants as status
+use Rattle.run_base.specs.declared.notes.FirstFile.TheVariants.{Rel}
+use Rattle.run_base.specs.Notes as notes
 use Rattle.run_base.specs.Notes.{malformed_note, limit_note, read_fault_note, plain_note}
 use Rattle.run_base.specs.Reading.{nothing, IsOfSomeDumps}
 use Rattle.run_base.specs.WholeFile.{LeavesOnly}
@@ -78,11 +80,11 @@ GainsSomeGradesPrefix words old new = (text : List ℕ) × IsGradedOfSome words 
 
 -- its first bad line
 abbrev pub bad_line_note : ℕ → List ℕ
-bad_line_note line = codes "malformed|0|" ++ decimal line ++ codes "|0|rel\n"
+bad_line_note line = notes.bad_line_note Rel line
 
 -- it has too many octets
 abbrev pub long_rel_note : List ℕ
-long_rel_note = codes "limit|rel|0" ++ 10 ∷ []
+long_rel_note = notes.too_long_note Rel
 
 -- ---- statuses
 

@@ -1,5 +1,5 @@
 -- What the words and the files of a grading give: known relationships and paths, or why there are none.
-use Rattle.std.specs.Prelude.{◌≡◌, ◌≤◌, ℕ, List, length, Option, Some, None, Result, Ok, Err}
+use Rattle.std.specs.Prelude.{◌≡◌, ℕ, List, Option, Some, None, Result, Ok, Err}
 use Rattle.tor_arena.specs.Limits.{max_paths}
 use Rattle.tor_io.specs.Contents.{Files}
 use Rattle.dump_read.specs.declared.taking.Taken.{Taken}
@@ -10,7 +10,7 @@ use Rattle.serial_lines.specs.Serial.{rel_in}
 use Rattle.tor_words.specs.declared.grade_settings.GradeSettings.{GradeSettings}
 use Rattle.tor_words.specs.GradeGiven.{grade_settings_given}
 use Rattle.run_base.specs.Reading.{nothing, seen_from}
-use Rattle.run_base.specs.WholeFile.{IsLongFile, LeavesRest}
+use Rattle.run_base.specs.WholeFile.{IsFile, IsLongFile, LeavesRest}
 use Rattle.torgrade_run.specs.Limits.{max_rel}
 
 -- what the dumps give: sets are cut, and the limit on paths is the greatest
@@ -18,9 +18,8 @@ abbrev pub seen_by : List (List ℕ) → Files → Result Taken DumpsEnd
 seen_by dumps files = seen_from Cut 1 (nothing max_paths) dumps files
 
 -- the file of known relationships is there with these octets, and they are few enough
-pub record IsRel (settings : GradeSettings) (files : Files) (bytes : List ℕ) : Type 0 where
-  pub there : files settings.rel ≡ Some bytes
-  pub short : length bytes ≤ max_rel
+abbrev pub IsRel : GradeSettings → Files → List ℕ → Type 0
+IsRel settings files bytes = IsFile max_rel files settings.rel bytes
 
 -- ---- what a grading comes to
 

@@ -17,15 +17,15 @@ use Rattle.run_base.specs.declared.answer.Answer.{Answer}
 use Rattle.run_base.specs.declared.answer.Refusal.{Refusal}
 use Rattle.run_base.specs.declared.answer.Refusal.TheVariants as refusal
 use Rattle.run_base.specs.declared.whole_file.Unread.TheVariants as unread
-use Rattle.run_base.specs.Notes.{read_fault_note}
-use Rattle.run_base.specs.Answers.{AnswersWith, Answers, IsNoMemory, IsReadFault, IsOfWords}
+use Rattle.run_base.specs.declared.notes.FirstFile.TheVariants.{Rel as rel_file}
+use Rattle.run_base.specs.Answers.{AnswersUnread, AnswersWith, Answers, IsReadFault, IsOfWords}
 use Rattle.run_base.specs.Reading.{nothing, IsOfSomeDumps}
 use Rattle.run_base.specs.WholeFile.{IsLongFile}
 use Rattle.torgrade_run.specs.declared.asking.Graded.{Graded}
 use Rattle.torgrade_run.specs.declared.asking.Known.{Known}
 use Rattle.torgrade_run.specs.declared.asking.Ungraded.{Ungraded}
 use Rattle.torgrade_run.specs.declared.asking.Ungraded.TheVariants as ungraded
-use Rattle.torgrade_run.specs.GradeAnswer.{bad_line_note, long_rel_note}
+use Rattle.torgrade_run.specs.GradeAnswer.{bad_line_note}
 use Rattle.torgrade_run.specs.GradeText.{IsConeAsked, grading_text}
 use Rattle.torgrade_run.specs.Limits.{max_rel}
 use Rattle.torgrade_run.specs.Outcomes.{IsRel, seen_by}
@@ -133,8 +133,6 @@ IsOfGradeWords (ungraded.BadLine line) = ⊥
 IsOfGradeWords (ungraded.Refused why) = IsOfWords why
 
 abbrev pub AnswersUngraded : Ungraded → Answer → Type 0
-AnswersUngraded (ungraded.Rel unread.Failed) answer = AnswersWith status.ReadFault (read_fault_note 0) answer
-AnswersUngraded (ungraded.Rel unread.TooLong) answer = AnswersWith status.Limit long_rel_note answer
-AnswersUngraded (ungraded.Rel unread.NoMemory) answer = IsNoMemory answer
+AnswersUngraded (ungraded.Rel why) answer = AnswersUnread rel_file why answer
 AnswersUngraded (ungraded.BadLine line) answer = AnswersWith status.Malformed (bad_line_note line) answer
 AnswersUngraded (ungraded.Refused why) answer = Answers why answer

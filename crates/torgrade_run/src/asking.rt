@@ -17,13 +17,12 @@ ghost use Rattle.torgrade_run.specs.Ungrading.{IsKnown, IsGradedFrom, IsGradedIn
 ghost use Rattle.torgrade_run.specs.Ungrading.{IsUngradedIn, IsUngraded, IsFailedRead, IsOfGradeWords, AnswersUngraded, text_of};
 
 use crate::cones::{Cone, cone_asked};
-use crate::notes::{bad_line_note, long_rel_note};
 use as_rel::{Rel, RelError, parse_rel};
 use dump_read::Taken;
 use path_clean::Sets;
 use run_base::{
-    Answer, Refusal, Status, Stopped, Unread, answer_to, nothing_taken, read_dumps,
-    read_fault_note, read_whole,
+    Answer, FirstFile, Refusal, Status, Stopped, Unread, answer_to, answer_to_unread,
+    bad_line_note, nothing_taken, read_dumps, read_whole,
 };
 use std::alloc::Global;
 use tor_arena::{Keys, List, MAX_PATHS, NoMemory};
@@ -197,12 +196,13 @@ pub(crate) fn answer_to_ungraded(alloc: Global, ungraded: Ungraded) -> Answer
     ensures { AnswersUngraded ungraded result }
 {
     match ungraded {
-        Ungraded::Rel(Unread::Failed) => {
-            Answer::noted(Status::ReadFault, read_fault_note(alloc, 0))
+        Ungraded::Rel(unread) => answer_to_unread(alloc, FirstFile::Rel, unread),
+        Ungraded::BadLine(line) => {
+            Answer::noted(
+                Status::Malformed,
+                bad_line_note(alloc, FirstFile::Rel, line),
+            )
         }
-        Ungraded::Rel(Unread::TooLong) => Answer::noted(Status::Limit, long_rel_note(alloc)),
-        Ungraded::Rel(Unread::NoMemory) => Answer::plain(Status::NoMemory),
-        Ungraded::BadLine(line) => Answer::noted(Status::Malformed, bad_line_note(alloc, line)),
         Ungraded::Refused(refusal) => answer_to(alloc, refusal),
     }
 }

@@ -5,7 +5,6 @@ mod asking;
 mod cones;
 mod grading;
 mod laws;
-mod notes;
 mod totals;
 mod writing;
 

@@ -1,5 +1,5 @@
-use Rattle.tor_run.proofs.Outcomes.{one_outcome}
+use Rattle.tor_run.proofs.Comings.{one_outcome}
 use Rattle.tor_run.proofs.laws.one_outcome_law.Goals as goal
 
 pub returns : goal.returns
-returns c = one_outcome
+returns c = one_outcome c.one_value.ensures

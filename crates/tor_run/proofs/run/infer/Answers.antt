@@ -1,4 +1,4 @@
-use Rattle.std.proofs.Common.{◌∙◌, ap, subst}
+use Rattle.std.proofs.Common.{◌∙◌, inl, inr, refl, ap, subst}
 use Rattle.std.proofs.lemmas.Option.{IfSome_then}
 use Rattle.std.specs.Io.KnownBytes.{append_known}
 use Rattle.tor_io.specs.Contents.{GainsPrefix}
@@ -8,9 +8,11 @@ use Rattle.tor_run.specs.Reach.{EndsInReach}
 use Rattle.run_base.specs.Answers.{note_in}
 use Rattle.tor_run.specs.Sampling.{known_by}
 use Rattle.run_base.proofs.Prefixes.{all_if_quiet, either_way, noted, noted_if}
-use Rattle.dump_read.specs.Seen.{Malformed, Limit}
-use Rattle.tor_run.specs.Seen.{Reads, Ends}
-use Rattle.tor_run.proofs.Outcomes.{always, always_absent, cause_of, note_absent, note_limit, note_malformed}
+use Rattle.run_base.proofs.Statuses.{not_text}
+use Rattle.dump_read.specs.Seen.{Absent, Malformed, Limit}
+use Rattle.tor_run.specs.First.{NoFile, TooLong, BadLine}
+use Rattle.tor_run.specs.Seen.{Reads, Holds, Stops, Ends}
+use Rattle.tor_run.proofs.Always.{always, leads_absent, leads_limit, leads_malformed}
 use Rattle.tor_run.proofs.GradingLemmas.{gains_grading}
 use Rattle.tor_run.proofs.run.infer.Goals as goal
 
@@ -33,7 +35,7 @@ returns-clause-note g c =
     let old = c.args.shelf.now in
     let words = c.args.words.now in
     let a = c.answer-answer in
-    noted (IsNote words (known_by words (shelf.files old)) (shelf.steady old) a.result.status) c.write_all.result
+    noted (IsNote words (known_by words (shelf.files old)) (shelf.steady old) (shelf.left a.new.shelf) a.result.status) c.write_all.result
     (err.faults c.args.err.now) (err.faults c.write_all.new.sink) (err.held c.args.err.now) (err.held c.write_all.new.sink)
     c.note.result.now (note_in a.result) a.ensures.note c.note.ensures c.write_all.ensures.cause c.write_all.ensures.all c.write_all.ensures.prefix
 
@@ -63,7 +65,7 @@ returns-clause-malformed g c =
     let words = c.args.words.now in
     let old = c.args.shelf.now in
     let a = c.answer-answer in
-    note_malformed words (known_by words (shelf.files old)) (shelf.steady old) a.result.status (note_in a.result) a.ensures.note
+    leads_malformed words (known_by words (shelf.files old)) (shelf.steady old) (shelf.left a.new.shelf) a.result.status (note_in a.result) a.ensures.note
 
 pub returns-clause-limit : goal.returns-clause-limit
 returns-clause-limit g c =
@@ -71,7 +73,7 @@ returns-clause-limit g c =
     let words = c.args.words.now in
     let old = c.args.shelf.now in
     let a = c.answer-answer in
-    note_limit words (known_by words (shelf.files old)) (shelf.steady old) a.result.status (note_in a.result) a.ensures.note
+    leads_limit words (known_by words (shelf.files old)) (shelf.steady old) (shelf.left a.new.shelf) a.result.status (note_in a.result) a.ensures.note
 
 pub returns-clause-steady_read_fault : goal.returns-clause-steady_read_fault
 returns-clause-steady_read_fault g c =
@@ -79,63 +81,103 @@ returns-clause-steady_read_fault g c =
     let words = c.args.words.now in
     let old = c.args.shelf.now in
     let a = c.answer-answer in
-    note_absent words (known_by words (shelf.files old)) (shelf.steady old) a.result.status (note_in a.result) a.ensures.note
+    leads_absent words (known_by words (shelf.files old)) (shelf.steady old) (shelf.left a.new.shelf) a.result.status (note_in a.result) a.ensures.note
 
 pub returns-clause-always_done : goal.returns-clause-always_done
-returns-clause-always_done g c = λ files taken is gives well quiet.
+returns-clause-always_done g c = λ files known taken is gives well quiet.
     let shelf = g.H.Shelf in
-    let sink = g.O.Sink in
-    let words = c.args.words.now in
+    let out = g.O.Sink in
     let old = c.args.shelf.now in
+    let words = c.args.words.now in
     let a = c.answer-answer in
-    let known = known_by words (shelf.files old) in
-    let cause = cause_of words known (shelf.steady old) a.result.status (note_in a.result) a.ensures.note (sink.held c.args.out.now) (sink.held a.new.out)
-    (shelf.faults old) (shelf.faults a.new.shelf) (sink.faults c.args.out.now) (sink.faults a.new.out)
-    a.ensures.done a.ensures.cut_off a.ensures.usage a.ensures.leaves_shelf.read_fault a.ensures.leaves_out.write_fault a.ensures.no_other in
-    always words known files (shelf.steady old) a.result.status (shelf.faults old) (shelf.faults a.new.shelf) (sink.faults c.args.out.now) (sink.faults a.new.out)
-    (Reads taken) cause is gives well (λ e. quiet)
+    always words (known_by words (shelf.files old)) (shelf.steady old) (shelf.left a.new.shelf) a.result.status (note_in a.result) a.ensures.note c.one_value.ensures
+    (out.held c.args.out.now) (out.held a.new.out) (shelf.faults old) (shelf.faults a.new.shelf) (out.faults c.args.out.now) (out.faults a.new.out)
+    a.ensures.done a.ensures.cut_off a.ensures.usage a.ensures.leaves_shelf.read_fault a.ensures.leaves_out.write_fault a.ensures.no_other
+    files (Reads known taken) is gives (inl well) (λ _. quiet)
+
+pub returns-clause-always_migrated : goal.returns-clause-always_migrated
+returns-clause-always_migrated g c = λ files file is gives well quiet.
+    let shelf = g.H.Shelf in
+    let out = g.O.Sink in
+    let old = c.args.shelf.now in
+    let words = c.args.words.now in
+    let a = c.answer-answer in
+    always words (known_by words (shelf.files old)) (shelf.steady old) (shelf.left a.new.shelf) a.result.status (note_in a.result) a.ensures.note c.one_value.ensures
+    (out.held c.args.out.now) (out.held a.new.out) (shelf.faults old) (shelf.faults a.new.shelf) (out.faults c.args.out.now) (out.faults a.new.out)
+    a.ensures.done a.ensures.cut_off a.ensures.usage a.ensures.leaves_shelf.read_fault a.ensures.leaves_out.write_fault a.ensures.no_other
+    files (Holds file) is gives (inl well) (λ _. quiet)
+
+pub returns-clause-always_bad_line : goal.returns-clause-always_bad_line
+returns-clause-always_bad_line g c = λ files line is gives well.
+    let shelf = g.H.Shelf in
+    let out = g.O.Sink in
+    let old = c.args.shelf.now in
+    let words = c.args.words.now in
+    let a = c.answer-answer in
+    always words (known_by words (shelf.files old)) (shelf.steady old) (shelf.left a.new.shelf) a.result.status (note_in a.result) a.ensures.note c.one_value.ensures
+    (out.held c.args.out.now) (out.held a.new.out) (shelf.faults old) (shelf.faults a.new.shelf) (out.faults c.args.out.now) (out.faults a.new.out)
+    a.ensures.done a.ensures.cut_off a.ensures.usage a.ensures.leaves_shelf.read_fault a.ensures.leaves_out.write_fault a.ensures.no_other
+    files (Stops (BadLine line)) is gives (inl well) (not_text _ (λ e. absurd cc) (λ e. absurd cc))
 
 pub returns-clause-always_malformed : goal.returns-clause-always_malformed
 returns-clause-always_malformed g c = λ files place fault is gives well.
     let shelf = g.H.Shelf in
-    let sink = g.O.Sink in
-    let words = c.args.words.now in
+    let out = g.O.Sink in
     let old = c.args.shelf.now in
+    let words = c.args.words.now in
     let a = c.answer-answer in
-    let known = known_by words (shelf.files old) in
-    let cause = cause_of words known (shelf.steady old) a.result.status (note_in a.result) a.ensures.note (sink.held c.args.out.now) (sink.held a.new.out)
-    (shelf.faults old) (shelf.faults a.new.shelf) (sink.faults c.args.out.now) (sink.faults a.new.out)
-    a.ensures.done a.ensures.cut_off a.ensures.usage a.ensures.leaves_shelf.read_fault a.ensures.leaves_out.write_fault a.ensures.no_other in
-    always words known files (shelf.steady old) a.result.status (shelf.faults old) (shelf.faults a.new.shelf) (sink.faults c.args.out.now) (sink.faults a.new.out)
-    (Ends (Malformed place fault)) cause is gives well (λ e. absurd cc)
+    always words (known_by words (shelf.files old)) (shelf.steady old) (shelf.left a.new.shelf) a.result.status (note_in a.result) a.ensures.note c.one_value.ensures
+    (out.held c.args.out.now) (out.held a.new.out) (shelf.faults old) (shelf.faults a.new.shelf) (out.faults c.args.out.now) (out.faults a.new.out)
+    a.ensures.done a.ensures.cut_off a.ensures.usage a.ensures.leaves_shelf.read_fault a.ensures.leaves_out.write_fault a.ensures.no_other
+    files (Ends (Malformed place fault)) is gives (inl well) (not_text _ (λ e. absurd cc) (λ e. absurd cc))
+
+pub returns-clause-always_too_long : goal.returns-clause-always_too_long
+returns-clause-always_too_long g c = λ files is gives well.
+    let shelf = g.H.Shelf in
+    let out = g.O.Sink in
+    let old = c.args.shelf.now in
+    let words = c.args.words.now in
+    let a = c.answer-answer in
+    always words (known_by words (shelf.files old)) (shelf.steady old) (shelf.left a.new.shelf) a.result.status (note_in a.result) a.ensures.note c.one_value.ensures
+    (out.held c.args.out.now) (out.held a.new.out) (shelf.faults old) (shelf.faults a.new.shelf) (out.faults c.args.out.now) (out.faults a.new.out)
+    a.ensures.done a.ensures.cut_off a.ensures.usage a.ensures.leaves_shelf.read_fault a.ensures.leaves_out.write_fault a.ensures.no_other
+    files (Stops TooLong) is gives (inl well) (not_text _ (λ e. absurd cc) (λ e. absurd cc))
 
 pub returns-clause-always_limit : goal.returns-clause-always_limit
 returns-clause-always_limit g c = λ files kind dump is gives well.
     let shelf = g.H.Shelf in
-    let sink = g.O.Sink in
-    let words = c.args.words.now in
+    let out = g.O.Sink in
     let old = c.args.shelf.now in
+    let words = c.args.words.now in
     let a = c.answer-answer in
-    let known = known_by words (shelf.files old) in
-    let cause = cause_of words known (shelf.steady old) a.result.status (note_in a.result) a.ensures.note (sink.held c.args.out.now) (sink.held a.new.out)
-    (shelf.faults old) (shelf.faults a.new.shelf) (sink.faults c.args.out.now) (sink.faults a.new.out)
-    a.ensures.done a.ensures.cut_off a.ensures.usage a.ensures.leaves_shelf.read_fault a.ensures.leaves_out.write_fault a.ensures.no_other in
-    always words known files (shelf.steady old) a.result.status (shelf.faults old) (shelf.faults a.new.shelf) (sink.faults c.args.out.now) (sink.faults a.new.out)
-    (Ends (Limit kind dump)) cause is gives well (λ e. absurd cc)
+    always words (known_by words (shelf.files old)) (shelf.steady old) (shelf.left a.new.shelf) a.result.status (note_in a.result) a.ensures.note c.one_value.ensures
+    (out.held c.args.out.now) (out.held a.new.out) (shelf.faults old) (shelf.faults a.new.shelf) (out.faults c.args.out.now) (out.faults a.new.out)
+    a.ensures.done a.ensures.cut_off a.ensures.usage a.ensures.leaves_shelf.read_fault a.ensures.leaves_out.write_fault a.ensures.no_other
+    files (Ends (Limit kind dump)) is gives (inl well) (not_text _ (λ e. absurd cc) (λ e. absurd cc))
+
+pub returns-clause-always_no_first : goal.returns-clause-always_no_first
+returns-clause-always_no_first g c = λ files is gives.
+    let shelf = g.H.Shelf in
+    let out = g.O.Sink in
+    let old = c.args.shelf.now in
+    let words = c.args.words.now in
+    let a = c.answer-answer in
+    always words (known_by words (shelf.files old)) (shelf.steady old) (shelf.left a.new.shelf) a.result.status (note_in a.result) a.ensures.note c.one_value.ensures
+    (out.held c.args.out.now) (out.held a.new.out) (shelf.faults old) (shelf.faults a.new.shelf) (out.faults c.args.out.now) (out.faults a.new.out)
+    a.ensures.done a.ensures.cut_off a.ensures.usage a.ensures.leaves_shelf.read_fault a.ensures.leaves_out.write_fault a.ensures.no_other
+    files (Stops NoFile) is gives (inr refl) (not_text _ (λ e. absurd cc) (λ e. absurd cc))
 
 pub returns-clause-always_absent : goal.returns-clause-always_absent
 returns-clause-always_absent g c = λ files dump is gives.
     let shelf = g.H.Shelf in
-    let sink = g.O.Sink in
-    let words = c.args.words.now in
+    let out = g.O.Sink in
     let old = c.args.shelf.now in
+    let words = c.args.words.now in
     let a = c.answer-answer in
-    let known = known_by words (shelf.files old) in
-    let cause = cause_of words known (shelf.steady old) a.result.status (note_in a.result) a.ensures.note (sink.held c.args.out.now) (sink.held a.new.out)
-    (shelf.faults old) (shelf.faults a.new.shelf) (sink.faults c.args.out.now) (sink.faults a.new.out)
-    a.ensures.done a.ensures.cut_off a.ensures.usage a.ensures.leaves_shelf.read_fault a.ensures.leaves_out.write_fault a.ensures.no_other in
-    always_absent words known files (shelf.steady old) a.result.status (shelf.faults old) (shelf.faults a.new.shelf) (sink.faults c.args.out.now) (sink.faults a.new.out)
-    dump cause is gives
+    always words (known_by words (shelf.files old)) (shelf.steady old) (shelf.left a.new.shelf) a.result.status (note_in a.result) a.ensures.note c.one_value.ensures
+    (out.held c.args.out.now) (out.held a.new.out) (shelf.faults old) (shelf.faults a.new.shelf) (out.faults c.args.out.now) (out.faults a.new.out)
+    a.ensures.done a.ensures.cut_off a.ensures.usage a.ensures.leaves_shelf.read_fault a.ensures.leaves_out.write_fault a.ensures.no_other
+    files (Ends (Absent dump)) is gives (inr refl) (not_text _ (λ e. absurd cc) (λ e. absurd cc))
 
 pub returns-clause-graded : goal.returns-clause-graded
 returns-clause-graded g c = λ is asks.
