@@ -279,10 +279,13 @@ fn is_cleaned_into(alloc: Global, path: &mut List<u32>, block: &[u8], want: &Wan
 #[test]
 fn blocks_are_cleaned_to_paths_or_set_aside(rt: HostRuntime) {
     for (place, case) in CASES.iter().enumerate() {
-        for (sets, want) in [(Sets::Cut, &case.cut), (Sets::Skip, &case.skip)] {
+        for (name, sets, want) in [
+            ("cut", Sets::Cut, &case.cut),
+            ("skip", Sets::Skip, &case.skip),
+        ] {
             assert!(rt;
                 is_cleaned_to(rt.alloc(), case.block, Width::Two, sets, want),
-                "{sets:?} of {place}"
+                "{name} of {place}"
             );
         }
     }

@@ -1,4 +1,7 @@
 //! Tests of verdicts.
+ghost use Rattle.std.specs.Prelude.{◌<◌, length, IsTrue};
+ghost use Rattle.result_text.specs.Text.{its_givens};
+
 use path_clean::{Asides, PathTable, is_cleaned};
 use rel_checker::{check_against, check_file};
 use result_rules::Verdict;
@@ -16,9 +19,20 @@ const THREE_PATHS: &str =
         edge|20|30|high|open|1\nedge|10|60|low|open|0\nwhy|10 20 30 40 20 10|2:2 2:3 1:2 1:3\nwhy|20 10 50|1:4\n\
         why|10 50 60|1:5\nopen|20|30\nopen|60|10\nend|2|1|7|3|1\n";
 
+/// Whether there are fewer than a hundred given lines.
+fn has_few_givens(file: &ResultFile) -> bool
+    ensures { IsTrue result → length (its_givens file.now) < 100 }
+{
+    match &file.givens {
+        Some(givens) => givens.len() < 100,
+        None => true,
+    }
+}
+
 /// The verdict on a file of a few lines.
 fn verdict_on_file(alloc: Global, keys: Keys, file: &ResultFile) -> Option<Verdict> {
-    if file.paths.len() < 100
+    if has_few_givens(file)
+        && file.paths.len() < 100
         && file.edges.len() < 100
         && file.whys.len() < 100
         && file.probes.len() < 100
@@ -30,7 +44,7 @@ fn verdict_on_file(alloc: Global, keys: Keys, file: &ResultFile) -> Option<Verdi
 }
 
 /// The verdict on a text of a few lines, if it is that of a result.
-fn verdict_on(alloc: Global, keys: Keys, text: &str) -> Option<Verdict> {
+pub(crate) fn verdict_on(alloc: Global, keys: Keys, text: &str) -> Option<Verdict> {
     match parse(alloc, text.as_bytes()) {
         Ok(file) => verdict_on_file(alloc, keys, &file),
         Err(_) => None,
@@ -233,8 +247,11 @@ fn why_lines_show_each_order_once_from_those_before(rt: HostRuntime) -> Result<(
     Ok(())
 }
 
-/// Which line and rule is named where one line is another.
-static CHANGES: [(usize, &'static str, u64, u8); 17] = [
+/// Another text for a line, by its number from 1, and the line and the rule that are then named.
+type Change = (usize, &'static str, u64, u8);
+
+/// Changes of the three paths.
+static CHANGES: [Change; 17] = [
     (3, "ratio|1000001", 3, 1),
     (11, "kept|0|30 40 20 10 50 60", 11, 2),
     (12, "kept|1|10 20 23456 40", 12, 2),
@@ -259,27 +276,71 @@ static CHANGES: [(usize, &'static str, u64, u8); 17] = [
     (26, "end|2|1|7|3|2", 26, 10),
 ];
 
-/// The text of the three paths with another line in place of one, by its number from 1.
-fn with_line(alloc: Global, number: usize, line: &str) -> Result<String, Fail> {
+/// A path that is lost by two givens, and a path that is kept. The edge of the one given is on no kept path.
+const WITH_GIVENS: &str =
+    "tor|2\nsets|cut\nratio|60\naside|nopath|0\naside|badsegments|0\naside|confed|0\naside|sets|0\naside|reserved|0\n\
+        aside|loop|0\naside|short|0\ngiven|10|20\ngiven|30|20\n\
+        lost|1|10 20 30|20 10 20 30 20 10|g:1 1:2 g:2 1:2\nkept|1|40 20 30\nedge|10|20|low|forced|0\n\
+        edge|20|30|high|forced|1\nedge|20|40|low|forced|1\nwhy|20 10 20|g:1\nwhy|20 30 20|g:2\nwhy|30 20 40|2:2\n\
+        end|1|1|3|3|0\n";
+
+/// Its changes.
+static GIVEN_CHANGES: [Change; 12] = [
+    (3, "ratio|1000001", 3, 1),
+    // one AS twice, and the two of the line before in both orders
+    (11, "given|10|10", 11, 1),
+    (12, "given|10|20", 12, 1),
+    (12, "given|20|10", 12, 1),
+    // given lines are counted
+    (14, "kept|0|40 20 30", 14, 2),
+    // links into another given, and into none
+    (
+        13,
+        "lost|1|10 20 30|20 10 20 30 20 10|g:1 1:2 g:1 1:2",
+        13,
+        4,
+    ),
+    (
+        13,
+        "lost|1|10 20 30|20 10 20 30 20 10|g:3 1:2 g:2 1:2",
+        13,
+        4,
+    ),
+    // a label that a given contradicts
+    (15, "edge|10|20|high|forced|0", 15, 6),
+    (15, "edge|10|20|peer|forced|0", 15, 6),
+    (18, "why|20 10 20|g:2", 18, 8),
+    // the order against a given can't be open
+    (15, "edge|10|20|low|open|0", 15, 9),
+    (21, "end|1|1|3|2|0", 21, 10),
+];
+
+/// The text with another line in place of one.
+fn with_line(alloc: Global, old_text: &str, number: usize, line: &str) -> Result<String, Fail> {
     let mut text = String::new(alloc);
-    for (place, old) in THREE_PATHS.lines().enumerate() {
+    for (place, old) in old_text.lines().enumerate() {
         text.push_str(if place + 1 == number { line } else { old })?;
         text.push_str("\n")?;
     }
     Ok(text)
 }
 
-/// Whether this is the line and the rule that are named where one line is another.
-fn is_named(alloc: Global, keys: Keys, change: (usize, &str, u64, u8)) -> Result<bool, Fail> {
-    let (number, text, line, rule) = change;
-    let changed = with_line(alloc, number, text)?;
+/// Whether a change of a text has the verdict that it should.
+fn is_named(alloc: Global, keys: Keys, text: &str, change: Change) -> Result<bool, Fail> {
+    let (number, other, line, rule) = change;
+    let changed = with_line(alloc, text, number, other)?;
     Ok(verdict_on(alloc, keys, changed.as_str()) == Some(Verdict::No { line, rule }))
 }
 
-/// The first change of which another line or rule is named.
-fn first_other_change(alloc: Global, keys: Keys) -> Result<Option<usize>, Fail> {
-    for (place, change) in CHANGES.iter().enumerate() {
-        if !is_named(alloc, keys, *change)? {
+/// The first change of a text of which another line or rule is named.
+fn first_other_change(
+    alloc: Global,
+    keys: Keys,
+    text: &str,
+    changes: &[Change],
+) -> Result<Option<usize>, Fail> {
+    for (place, change) in changes.iter().enumerate() {
+        if !is_named(alloc, keys, text, *change)? {
             return Ok(Some(place));
         }
     }
@@ -288,7 +349,20 @@ fn first_other_change(alloc: Global, keys: Keys) -> Result<Option<usize>, Fail> 
 
 #[test]
 fn the_first_broken_rule_and_its_line_are_named(rt: HostRuntime) -> Result<(), Fail> {
-    assert_eq!(rt; first_other_change(rt.alloc(), Keys::new(&rt))?, None);
+    assert_eq!(rt;
+        first_other_change(rt.alloc(), Keys::new(&rt), THREE_PATHS, &CHANGES)?,
+        None
+    );
+    Ok(())
+}
+
+#[test]
+fn given_lines_bind_links_labels_and_marks(rt: HostRuntime) -> Result<(), Fail> {
+    assert!(rt; verdict_on(rt.alloc(), Keys::new(&rt), WITH_GIVENS) == Some(Verdict::Yes));
+    assert_eq!(rt;
+        first_other_change(rt.alloc(), Keys::new(&rt), WITH_GIVENS, &GIVEN_CHANGES)?,
+        None
+    );
     Ok(())
 }
 
@@ -309,7 +383,7 @@ fn adds_each(table: &mut PathTable, paths: &[&[u32]]) -> bool {
 }
 
 fn verdict_beside_file(file: &ResultFile, table: &PathTable, asides: &Asides) -> Option<Verdict> {
-    if file.paths.len() < 100 {
+    if has_few_givens(file) && file.paths.len() < 100 {
         Some(check_against(file, table, asides))
     } else {
         None

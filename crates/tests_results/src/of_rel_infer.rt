@@ -1,15 +1,18 @@
 //! Tests of results.
-ghost use Rattle.std.specs.Prelude.{◌≢◌, ◌≤◌, length};
+ghost use Rattle.std.specs.Prelude.{◌≡◌, ◌≢◌, ◌≤◌, [], length, unwrap_or, IfOk};
 ghost use Rattle.relationships.specs.Givens.{NameOnce, NameTwo};
 ghost use Rattle.rel_infer.specs.GivenResults.{max_givens};
 
+use crate::of_rel_checker::verdict_on;
+use crate::of_result_text::{is_printed, is_read};
 use crate::tables::{THREE_PATHS, table_of};
 use path_clean::{Asides, Sets};
 use rel_infer::{ResultHead, result_of, result_with};
 use relationships::{Given, Label, Link, Mark, WalkRef};
+use result_rules::Verdict;
 use result_text::{EdgeLine, ResultFile, Totals};
 use std::alloc::Global;
-use tor_arena::{Index, Keys, NoMemory, PathId, WalkId};
+use tor_arena::{Index, Keys, List, NoMemory, PathId, WalkId};
 
 static TWO_PATHS: [&[u32]; 2] = [&[10, 20, 30], &[40, 20, 30]];
 
@@ -62,6 +65,34 @@ fn three_paths_have_a_result(rt: HostRuntime) {
     assert_eq!(rt; lines, (totals, true));
 }
 
+fn list_of(alloc: Global, givens: &[Given]) -> Result<List<Given>, NoMemory>
+    ensures { IfOk result (λ list. list ≡ givens.now) }
+{
+    let mut list = List::new(alloc);
+    list.extend_from_slice(givens)?;
+    Ok(list)
+}
+
+// The result of these paths where these relationships are known.
+fn result_where(
+    alloc: Global,
+    keys: Keys,
+    paths: &[&[u32]],
+    known: Option<List<Given>>,
+) -> Result<ResultFile, NoMemory>
+    requires two { NameTwo (unwrap_or known []) }
+    requires once { NameOnce (unwrap_or known []) }
+    requires few { length (unwrap_or known []) ≤ max_givens }
+{
+    let table = table_of(alloc, keys, paths)?;
+    let head = ResultHead {
+        sets: Sets::Cut,
+        ratio: 60,
+        asides: Asides::new(),
+    };
+    result_with(alloc, keys, head, known, table)
+}
+
 // The result of these paths under givens.
 fn result_under(
     alloc: Global,
@@ -73,13 +104,8 @@ fn result_under(
     requires once { NameOnce givens.now }
     requires few { length givens.now ≤ max_givens }
 {
-    let table = table_of(alloc, keys, paths)?;
-    let head = ResultHead {
-        sets: Sets::Cut,
-        ratio: 60,
-        asides: Asides::new(),
-    };
-    result_with(alloc, keys, head, givens, table)
+    let list = list_of(alloc, givens)?;
+    result_where(alloc, keys, paths, Some(list))
 }
 
 // The totals of the result of two paths under givens, whether its edge lines are these, and the one link of its first why walk.
@@ -208,6 +234,25 @@ fn its_walk_names_both_givens_and_the_path(rt: HostRuntime) {
         panic!(&rt; "memory ran out");
     };
     assert_eq!(rt; walk, [true; 4]);
+}
+
+const TWO_UNDER_GIVENS: &str =
+    "tor|2\nsets|cut\nratio|60\naside|nopath|0\naside|badsegments|0\naside|confed|0\naside|sets|0\naside|reserved|0\n\
+        aside|loop|0\naside|short|0\ngiven|10|20\ngiven|30|20\nlost|1|10 20 30|20 30 20 10 20 30|g:2 1:2 g:1 1:2\n\
+        kept|1|40 20 30\nedge|10|20|low|forced|0\nedge|20|30|high|forced|1\nedge|20|40|low|forced|1\n\
+        why|20 10 20|g:1\nwhy|20 30 20|g:2\nwhy|30 20 40|2:2\nend|1|1|3|3|0\n";
+
+// Whether the result of two paths under givens has this text, of which a result is read that has it too.
+fn has_text(alloc: Global, keys: Keys, text: &[u8]) -> Result<bool, NoMemory> {
+    let file = result_under(alloc, keys, &TWO_PATHS, &BOTH_ENDS)?;
+    Ok(is_printed(alloc, &file, text) && is_read(alloc, text, None))
+}
+
+#[test]
+fn a_result_under_givens_has_a_text_of_version_2_that_a_checker_accepts(rt: HostRuntime) {
+    let text = TWO_UNDER_GIVENS.as_bytes();
+    assert_eq!(rt; has_text(rt.alloc(), Keys::new(&rt), text), Ok(true));
+    assert!(rt; verdict_on(rt.alloc(), Keys::new(&rt), TWO_UNDER_GIVENS) == Some(Verdict::Yes));
 }
 
 // Whether the result of these paths has the totals and the edge lines of the other.

@@ -18,6 +18,11 @@ const HEAD: &str =
     "tor|1\nsets|cut\nratio|60\naside|nopath|0\naside|badsegments|0\naside|confed|0\naside|sets|0\naside|reserved|0\n\
         aside|loop|0\naside|short|0\n";
 
+/// The ten first lines of a text of version 2.
+const SECOND_HEAD: &str =
+    "tor|2\nsets|cut\nratio|60\naside|nopath|0\naside|badsegments|0\naside|confed|0\naside|sets|0\naside|reserved|0\n\
+        aside|loop|0\naside|short|0\n";
+
 /// A result without lines of any list, and one with a path without ASes.
 const NO_LINES: &str =
     "tor|1\nsets|cut\nratio|60\naside|nopath|0\naside|badsegments|0\naside|confed|0\naside|sets|0\naside|reserved|0\n\
@@ -31,7 +36,7 @@ const ASIDES: &str =
     "aside|nopath|0\naside|badsegments|0\naside|confed|0\naside|sets|0\naside|reserved|0\naside|loop|0\naside|short|0\n\
         end|0|0|0|0|0\n";
 
-static CASES: [Case; 36] = [
+static CASES: [Case; 44] = [
     // an empty dump
     Case {
         head: HEAD,
@@ -170,7 +175,7 @@ static CASES: [Case; 36] = [
     },
     // another version
     Case {
-        head: "tor|2\nsets|cut\nratio|60\n",
+        head: "tor|3\nsets|cut\nratio|60\n",
         body: ASIDES,
         bad_line: Some(1),
     },
@@ -253,7 +258,52 @@ static CASES: [Case; 36] = [
     // a line of another kind
     Case {
         head: HEAD,
+        body: "taken|10|20\nend|0|0|0|0|0\n",
+        bad_line: Some(11),
+    },
+    // no givens in a text of version 2
+    Case {
+        head: SECOND_HEAD,
+        body: "end|0|0|0|0|0\n",
+        bad_line: None,
+    },
+    // givens, and links that name them
+    Case {
+        head: SECOND_HEAD,
+        body: "given|20|30\ngiven|20|10\nkept|1|10 20\nlost|2|30 20 10|20 10 20|1:1 g:2\nwhy|30 20 30|g:1\nend|0|0|0|0|0\n",
+        bad_line: None,
+    },
+    // a given, and a link that names one, in a text of version 1
+    Case {
+        head: HEAD,
         body: "given|10|20\nend|0|0|0|0|0\n",
+        bad_line: Some(11),
+    },
+    Case {
+        head: HEAD,
+        body: "why|10 20 10|g:1\nend|0|0|0|0|0\n",
+        bad_line: Some(11),
+    },
+    // a link of number 0 in a text of each version
+    Case {
+        head: HEAD,
+        body: "why|10 20 10|0:1\nend|0|0|0|0|0\n",
+        bad_line: None,
+    },
+    Case {
+        head: SECOND_HEAD,
+        body: "why|10 20 10|0:1\nend|0|0|0|0|0\n",
+        bad_line: Some(11),
+    },
+    // a given behind a path, and one with a field too many
+    Case {
+        head: SECOND_HEAD,
+        body: "given|10|20\nkept|1|10 20\ngiven|10|30\nend|0|0|0|0|0\n",
+        bad_line: Some(13),
+    },
+    Case {
+        head: SECOND_HEAD,
+        body: "given|10|20|-1\nend|0|0|0|0|0\n",
         bad_line: Some(11),
     },
 ];
@@ -267,7 +317,7 @@ fn joined(alloc: Global, case: &Case) -> Result<List<u8>, NoMemory> {
 }
 
 /// Whether a result has this text.
-fn is_printed(alloc: Global, file: &ResultFile, text: &[u8]) -> bool {
+pub(crate) fn is_printed(alloc: Global, file: &ResultFile, text: &[u8]) -> bool {
     match print(alloc, file) {
         Ok(again) => again.as_slice() == text,
         Err(NoMemory) => false,
@@ -275,7 +325,7 @@ fn is_printed(alloc: Global, file: &ResultFile, text: &[u8]) -> bool {
 }
 
 /// Whether this is the bad line of a text. A text without one has to be that of what is read.
-fn is_read(alloc: Global, text: &[u8], bad_line: Option<u64>) -> bool {
+pub(crate) fn is_read(alloc: Global, text: &[u8], bad_line: Option<u64>) -> bool {
     match parse(alloc, text) {
         Ok(file) => bad_line.is_none() && is_printed(alloc, &file, text),
         Err(ParseError::BadLine(line)) => bad_line == Some(line),
@@ -463,6 +513,7 @@ fn without_lines(alloc: Global) -> ResultFile {
         sets: Sets::Cut,
         ratio: 60,
         asides: Asides::new(),
+        givens: None,
         paths: PathLines::new(alloc),
         edges: List::new(alloc),
         whys: Walks::new(alloc),

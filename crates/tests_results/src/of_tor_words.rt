@@ -2,7 +2,7 @@
 use path_clean::Sets;
 use std::alloc::Global;
 use tor_arena::{List, NoMemory};
-use tor_words::{Mode, Name, Source, WordsRefused, check_settings_of, settings_of};
+use tor_words::{Mode, Name, Settings, Source, WordsRefused, check_settings_of, settings_of};
 
 fn add_name(alloc: Global, names: &mut List<Name>, text: &str) -> Result<(), NoMemory> {
     names.push(Name::from_text(alloc, text)?)
@@ -17,8 +17,16 @@ fn names_of(alloc: Global, texts: &[&str]) -> Result<List<Name>, NoMemory> {
     Ok(names)
 }
 
-/// The mode, where the dumps come from, the way with sets, the ratio, the most paths and the number of dumps that are named.
-type Asked = (Mode, Source, Sets, u32, u32, usize);
+/// The mode, the number of the sample if there is one, the way with sets, the ratio, the most paths and the number of dumps that are
+/// named.
+type Asked = (Mode, Option<u64>, Sets, u32, u32, usize);
+
+fn sample_of(source: &Source) -> Option<u64> {
+    match source {
+        Source::Sample(seed) => Some(*seed),
+        Source::Files | Source::Result(_) => None,
+    }
+}
 
 /// What words give, or the exit status that refuses them.
 fn asked(alloc: Global, texts: &[&str]) -> Result<Asked, u8> {
@@ -28,7 +36,7 @@ fn asked(alloc: Global, texts: &[&str]) -> Result<Asked, u8> {
     match settings_of(alloc, &words) {
         Ok(s) => Ok((
             s.mode,
-            s.source,
+            sample_of(&s.source),
             s.sets,
             s.ratio,
             s.max_paths,
@@ -43,69 +51,59 @@ fn asked(alloc: Global, texts: &[&str]) -> Result<Asked, u8> {
 const MOST: u32 = 8_388_608;
 
 /// Words, and the settings that they give.
-static TAKEN: [(&'static [&'static str], Asked); 15] = [
-    (
-        &["d"],
-        (Mode::Labels, Source::Files, Sets::Cut, 60, MOST, 1),
-    ),
+static TAKEN: [(&'static [&'static str], Asked); 18] = [
+    (&["d"], (Mode::Labels, None, Sets::Cut, 60, MOST, 1)),
     (
         &["--as-sets=skip", "--", "d"],
-        (Mode::Labels, Source::Files, Sets::Skip, 60, MOST, 1),
+        (Mode::Labels, None, Sets::Skip, 60, MOST, 1),
     ),
     (
         &["a", "--list", "b", "--as-sets", "cut", "c"],
-        (Mode::Listing, Source::Files, Sets::Cut, 60, MOST, 3),
+        (Mode::Listing, None, Sets::Cut, 60, MOST, 3),
     ),
     (
         &["--ratio", "0", "d"],
-        (Mode::Labels, Source::Files, Sets::Cut, 0, MOST, 1),
+        (Mode::Labels, None, Sets::Cut, 0, MOST, 1),
     ),
     (
         &["--list", "--ratio=1000000", "d", "d"],
-        (Mode::Listing, Source::Files, Sets::Cut, 1_000_000, MOST, 2),
+        (Mode::Listing, None, Sets::Cut, 1_000_000, MOST, 2),
     ),
     (
         &["--ratio", "+007", "--max-paths", "+007", "d"],
-        (Mode::Labels, Source::Files, Sets::Cut, 7, 7, 1),
+        (Mode::Labels, None, Sets::Cut, 7, 7, 1),
     ),
     (
         &["--list", "--", "--list"],
-        (Mode::Listing, Source::Files, Sets::Cut, 60, MOST, 1),
+        (Mode::Listing, None, Sets::Cut, 60, MOST, 1),
     ),
     (
         &["--", "--list"],
-        (Mode::Labels, Source::Files, Sets::Cut, 60, MOST, 1),
+        (Mode::Labels, None, Sets::Cut, 60, MOST, 1),
     ),
     (
         &["-", "", "help"],
-        (Mode::Labels, Source::Files, Sets::Cut, 60, MOST, 3),
+        (Mode::Labels, None, Sets::Cut, 60, MOST, 3),
     ),
     (
         &["--sample", "7"],
-        (Mode::Summary, Source::Sample(7), Sets::Cut, 60, MOST, 0),
+        (Mode::Summary, Some(7), Sets::Cut, 60, MOST, 0),
     ),
     (
         &["--sample=18446744073709551615", "--ratio", "0"],
-        (
-            Mode::Summary,
-            Source::Sample(u64::MAX),
-            Sets::Cut,
-            0,
-            MOST,
-            0,
-        ),
+        (Mode::Summary, Some(u64::MAX), Sets::Cut, 0, MOST, 0),
     ),
     (
         &["--max-paths", "9", "--sample", "0", "--as-sets", "skip"],
-        (Mode::Summary, Source::Sample(0), Sets::Skip, 60, 9, 0),
+        (Mode::Summary, Some(0), Sets::Skip, 60, 9, 0),
     ),
     (
         &["--survey", "d"],
-        (Mode::Survey, Source::Files, Sets::Cut, 60, MOST, 1),
+        (Mode::Survey, None, Sets::Cut, 60, MOST, 1),
     ),
     (
         &["--", "--survey"],
-        (Mode::Labels, Source::Files, Sets::Cut, 60, MOST, 1),
+        (Mode::Labels, None, Sets::Cut, 60, MOST, 1),
     ),
     (
         &[
@@ -117,7 +115,19 @@ static TAKEN: [(&'static [&'static str], Asked); 15] = [
             "d1",
             "d2",
         ],
-        (Mode::Survey, Source::Files, Sets::Skip, 60, 5, 2),
+        (Mode::Survey, None, Sets::Skip, 60, 5, 2),
+    ),
+    (
+        &["--ties", "--given", "k", "d"],
+        (Mode::Ties, None, Sets::Cut, 60, MOST, 1),
+    ),
+    (
+        &["d", "d", "--given=k", "--serial1"],
+        (Mode::Serial, None, Sets::Cut, 60, MOST, 2),
+    ),
+    (
+        &["--migrate", "--as-sets", "skip", "--ratio", "5", "r"],
+        (Mode::Migrate, None, Sets::Skip, 5, MOST, 0),
     ),
 ];
 
@@ -134,6 +144,55 @@ fn first_not_taken(alloc: Global) -> Option<usize> {
 #[test]
 fn words_give_settings(rt: HostRuntime) {
     assert_eq!(rt; first_not_taken(rt.alloc()), None);
+}
+
+fn is_given(settings: &Settings, text: &str) -> bool {
+    match &settings.given {
+        Some(name) => name.as_text() == text,
+        None => text == "none",
+    }
+}
+
+fn is_result(settings: &Settings, text: &str) -> bool {
+    match &settings.source {
+        Source::Result(name) => name.as_text() == text,
+        Source::Files | Source::Sample(_) => text == "none",
+    }
+}
+
+// Whether words name this file of known relationships and this result, or none where a text says so.
+fn are_named(alloc: Global, texts: &[&str], given: &str, migrated: &str) -> bool {
+    let Ok(words) = names_of(alloc, texts) else {
+        return false;
+    };
+    match settings_of(alloc, &words) {
+        Ok(settings) => is_given(&settings, given) && is_result(&settings, migrated),
+        Err(_) => false,
+    }
+}
+
+/// Words, and the file of known relationships and the result that they name, or `none`.
+static NAMED: [(&'static [&'static str], &'static str, &'static str); 5] = [
+    (&["d"], "none", "none"),
+    (&["d", "--given", "k"], "k", "none"),
+    (&["--given=--list", "d"], "--list", "none"),
+    (&["--migrate", "r"], "none", "r"),
+    (&["--migrate", "--", "--migrate"], "none", "--migrate"),
+];
+
+/// The first words that name other files.
+fn first_otherwise_named(alloc: Global) -> Option<usize> {
+    for (place, (words, given, migrated)) in NAMED.iter().enumerate() {
+        if !are_named(alloc, words, given, migrated) {
+            return Some(place);
+        }
+    }
+    None
+}
+
+#[test]
+fn words_name_files_that_are_no_dumps(rt: HostRuntime) {
+    assert_eq!(rt; first_otherwise_named(rt.alloc()), None);
 }
 
 /// Words that are refused.
@@ -255,7 +314,7 @@ fn says(alloc: Global, texts: &[&str], part: &str) -> bool {
 }
 
 /// What the help says.
-const PARTS: [&str; 7] = [
+const PARTS: [&str; 9] = [
     "--list",
     "--survey",
     "what of it counts, in place of the result",
@@ -263,6 +322,8 @@ const PARTS: [&str; 7] = [
     "0 (no peers) to 1000000 [default: 60]",
     "1 to 8388608 [default: 8388608]",
     "0 to 18446744073709551615",
+    "peer|peer|0 is read and checked and binds nothing",
+    "--as-sets, --ratio and --max-paths change nothing",
 ];
 
 /// The first part that the help does not say.
