@@ -21,7 +21,7 @@ use std::marker::Model;
 use tor_arena::{EdgeId, List, NoMemory, PathId, Rows};
 
 /// An edge: two neighbours on some path, the lower number and the higher.
-#[derive(Clone, Copy, Debug, PartialEq, Eq)]
+#[derive(Clone, Copy, PartialEq, Eq)]
 pub struct Edge {
     /// The lower number.
     pub low: u32,

@@ -7,7 +7,7 @@ use std::marker::Model;
 use tor_arena::{EdgeId, Index, NoMemory};
 
 /// One of these for each edge, in the order of the edges.
-#[derive(Debug, Drop)]
+#[derive(Drop)]
 pub struct PerEdge<E> {
     items: Vec<E>,
 }

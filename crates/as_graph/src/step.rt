@@ -3,7 +3,7 @@ use relationships::End;
 use tor_arena::EdgeId;
 
 /// A step of a path, from one AS to the next.
-#[derive(Clone, Copy, Debug, PartialEq, Eq)]
+#[derive(Clone, Copy, PartialEq, Eq)]
 pub struct Step {
     /// The edge of the two.
     pub edge: EdgeId,

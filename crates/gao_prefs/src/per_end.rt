@@ -10,7 +10,7 @@ use std::alloc::Global;
 use tor_arena::{EdgeId, Index, NoMemory};
 
 /// A number for each end of an edge.
-#[derive(Clone, Copy, Debug, PartialEq, Eq)]
+#[derive(Clone, Copy, PartialEq, Eq)]
 pub(crate) struct PerEnd {
     /// That of the lower number.
     pub(crate) low: u32,

@@ -22,7 +22,7 @@ use std::alloc::Global;
 use tor_arena::{EdgeId, Index, List, NoMemory, PathId};
 
 /// What an edge prefers.
-#[derive(Clone, Copy, Debug, PartialEq, Eq)]
+#[derive(Clone, Copy, PartialEq, Eq)]
 pub struct Pref {
     /// The edge.
     pub edge: EdgeId,

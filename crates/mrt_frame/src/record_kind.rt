@@ -9,7 +9,7 @@ const TABLE_DUMP: u16 = 12;
 const TABLE_DUMP_V2: u16 = 13;
 
 /// The family of an address.
-#[derive(Clone, Copy, Debug, PartialEq, Eq)]
+#[derive(Clone, Copy, PartialEq, Eq)]
 pub enum Family {
     /// IPv4, addresses of 4 octets.
     Ipv4,
@@ -18,7 +18,7 @@ pub enum Family {
 }
 
 /// Which fields an entry of a RIB has.
-#[derive(Clone, Copy, Debug, PartialEq, Eq)]
+#[derive(Clone, Copy, PartialEq, Eq)]
 pub enum EntryForm {
     /// Those of RFC 6396, section 4.3.4.
     Plain,
@@ -27,7 +27,7 @@ pub enum EntryForm {
 }
 
 /// How the body of a RIB is to be read.
-#[derive(Clone, Copy, Debug, PartialEq, Eq)]
+#[derive(Clone, Copy, PartialEq, Eq)]
 pub struct RibForm {
     /// That of its prefix.
     pub family: Family,
@@ -36,7 +36,7 @@ pub struct RibForm {
 }
 
 /// What the body of a record is, of the records that are read.
-#[derive(Clone, Copy, Debug, PartialEq, Eq)]
+#[derive(Clone, Copy, PartialEq, Eq)]
 pub enum RecordKind {
     /// A route of TABLE_DUMP (RFC 6396, section 4.2).
     TableDump(Family),

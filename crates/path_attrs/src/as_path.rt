@@ -8,7 +8,7 @@ use byteorder::{BigEndian, ByteOrder};
 use tor_arena::List;
 
 /// How many octets an AS number has.
-#[derive(Clone, Copy, Debug, PartialEq, Eq)]
+#[derive(Clone, Copy, PartialEq, Eq)]
 pub enum Width {
     /// Two octets, as in TABLE_DUMP.
     Two,
@@ -17,7 +17,7 @@ pub enum Width {
 }
 
 /// The kinds of segment of an AS_PATH (RFC 4271, section 4.3; RFC 5065, section 3).
-#[derive(Clone, Copy, Debug, PartialEq, Eq)]
+#[derive(Clone, Copy, PartialEq, Eq)]
 pub enum SegKind {
     /// AS_SET, type 1.
     Set,

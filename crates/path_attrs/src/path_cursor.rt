@@ -41,7 +41,7 @@ const AS4_AGGREGATOR: u8 = 18;
 const AS_TRANS: u16 = 23456;
 
 /// Why a route has no AS path.
-#[derive(Clone, Copy, Debug, PartialEq, Eq)]
+#[derive(Clone, Copy, PartialEq, Eq)]
 pub enum Pathless {
     /// It has no AS_PATH.
     Absent,

@@ -6,7 +6,7 @@ use crate::cleaned::Cause;
 use std::marker::Model;
 
 /// How many routes were set aside for each cause.
-#[derive(Debug, Drop)]
+#[derive(Drop)]
 pub struct Asides {
     // in the order of the causes
     counts: [u64; 7],

@@ -7,7 +7,7 @@ ghost use Rattle.path_clean.specs.Paths.{is_reserved, is_cleaned};
 use tor_arena::List;
 
 /// What becomes of an AS_SET whose members differ.
-#[derive(Clone, Copy, Debug, PartialEq, Eq)]
+#[derive(Clone, Copy, PartialEq, Eq)]
 pub enum Sets {
     /// The path ends before it.
     Cut,

@@ -17,7 +17,7 @@ use std::marker::Model;
 use tor_arena::{Index, Keys, List, MAX_NUMBERS, NoMemory, PathId, Rows};
 
 /// Where a path that was added stands.
-#[derive(Clone, Copy, Debug, PartialEq, Eq)]
+#[derive(Clone, Copy, PartialEq, Eq)]
 pub enum Added {
     /// It stood there before.
     Known(PathId),

@@ -1,7 +1,7 @@
 //! The types of records, each with its count.
 
 /// The type and the subtype of a record (RFC 6396, section 2). They are ordered by type, and then by subtype.
-#[derive(Clone, Copy, Debug, PartialEq, Eq, PartialOrd, Ord)]
+#[derive(Clone, Copy, PartialEq, Eq, PartialOrd, Ord)]
 pub struct RecordType {
     /// The type.
     pub kind: u16,
@@ -10,7 +10,7 @@ pub struct RecordType {
 }
 
 /// How many records of a type and subtype there are.
-#[derive(Clone, Copy, Debug, PartialEq, Eq)]
+#[derive(Clone, Copy, PartialEq, Eq)]
 pub struct TypeCount {
     /// The type.
     pub kind: u16,

@@ -2,7 +2,7 @@
 use crate::walk::Walk;
 
 /// What becomes of a path that is offered to a list of kept paths.
-#[derive(Debug, Drop)]
+#[derive(Drop)]
 pub enum Fate {
     /// It is kept: some orientation serves it together with the paths that were kept before.
     Kept,

@@ -2,7 +2,7 @@
 
 /// A relationship that is known beforehand: wherever the two are neighbours, the one is the provider
 /// of the other.
-#[derive(Clone, Copy, Debug, PartialEq, Eq)]
+#[derive(Clone, Copy, PartialEq, Eq)]
 pub struct Given {
     /// The AS number of the provider.
     pub over: u32,

@@ -11,7 +11,7 @@ pub struct Link {
 }
 
 /// A walk over autonomous systems, with a link for each three consecutive ones of it.
-#[derive(Debug, Drop)]
+#[derive(Drop)]
 pub struct Walk {
     /// The AS numbers, in order.
     pub ases: List<u32>,

@@ -12,7 +12,7 @@ const IPV6: u8 = 0x01;
 const AS4: u8 = 0x02;
 
 /// A peer table, of which only the number of its peers is kept.
-#[derive(Clone, Copy, Debug, PartialEq, Eq)]
+#[derive(Clone, Copy, PartialEq, Eq)]
 pub struct Peers {
     /// How many peers the table has.
     pub count: u32,

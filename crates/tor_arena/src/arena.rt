@@ -17,7 +17,7 @@ pub enum PushRefused<T> {
 }
 
 /// Items in the order in which they were added, named by an index of their own kind.
-#[derive(Debug, Drop)]
+#[derive(Drop)]
 pub struct Arena<I: Index, T> {
     items: Vec<T>,
     kind: PhantomData<I>,

@@ -19,7 +19,7 @@ pub enum RowRefused {
 
 /// Rows of any length, in the order in which they were added, named by an index of their own
 /// kind.
-#[derive(Debug, Drop)]
+#[derive(Drop)]
 pub struct Rows<I: Index, T: Copy> {
     // all items of all rows
     items: Vec<T>,

@@ -7,7 +7,7 @@ use relationships::End;
 use tor_arena::{EdgeId, Index, NodeId};
 
 /// A literal: one end of an edge is over the other, which is to say its provider.
-#[derive(Clone, Copy, Debug, PartialEq, Eq)]
+#[derive(Clone, Copy, PartialEq, Eq)]
 pub struct Lit {
     /// The edge whose two ends are ordered.
     pub edge: EdgeId,

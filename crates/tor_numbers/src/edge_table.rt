@@ -34,7 +34,7 @@ impl Model for EdgeTable {
 }
 
 /// What adding an edge came to.
-#[derive(Clone, Copy, Debug, PartialEq, Eq)]
+#[derive(Clone, Copy, PartialEq, Eq)]
 pub struct AddedEdge {
     /// The place of the edge, from 0.
     pub place: usize,

@@ -12,7 +12,7 @@ use std::marker::Model;
 use tor_arena::{Index, NoMemory, PathId, WalkId};
 
 /// What becomes of paths, in their order, seen as a list of fates. The walks of the lost ones lie one behind the other.
-#[derive(Debug, Drop)]
+#[derive(Drop)]
 pub struct Fates {
     // for each path the number of its walk, from 1, and 0 where it is kept
     numbers: Vec<u32>,

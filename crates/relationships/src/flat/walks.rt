@@ -50,7 +50,7 @@ impl<'a> WalkRef<'a> {
 
 /// Walks in the order in which they were added, seen as a list of walks. Their AS numbers lie one behind the other, and so do their
 /// links.
-#[derive(Debug, Drop)]
+#[derive(Drop)]
 pub struct Walks {
     ases: Rows<WalkId, u32>,
     links: Rows<WalkId, Link>,
