@@ -1,17 +1,51 @@
 #!/usr/bin/env python3
 """Results under givens, beside all orientations of small random lists of paths.
 
-    python3 bench/given.py PROGRAM SEED COUNT
+    python3 bench/given.py TOR TORCHECK SEED COUNT
 
-PROGRAM is what bench/given.sh makes: it reads lines `path 10 20 30`, `given 10 20`, `ratio 60` and `result`, and writes results. Each
-list has up to six paths over four to seven ASes, and up to five givens, of which some name no edge. What is kept, which end each edge
-gets, which edges become peerings, which are forced and the supports are found by going over all orientations; the walks, the why lines
-and the open lines are followed link by link. The first difference ends it with status 1.
+Makes COUNT dumps with up to six paths over four to seven ASes, and for each a file of up to five givens, of which some name no edge, with
+comments and peerings between them. What is kept in the result of `TOR --given FILE DUMP`, which end each edge gets, which edges become
+peerings, which are forced and the supports are found by going over all orientations; the walks, the why lines and the open lines are
+followed link by link. `TORCHECK` has to say yes to it, alone and with the dump; and of a copy in which one given line is turned round it
+has to say what following the rules says. The first difference ends it with status 1.
 """
 import itertools
+import os
 import random
+import struct
 import subprocess
 import sys
+import tempfile
+
+
+def record(kind, subtype, body):
+    return struct.pack(">IHHI", 0, kind, subtype, len(body)) + body
+
+
+def dump_of(paths):
+    """A peer table, and a prefix with one route for each path."""
+    octets = record(13, 1, struct.pack(">IHH", 0, 0, 1) + struct.pack(">BIII", 2, 0, 0, 1))
+    for place, path in enumerate(paths):
+        segment = struct.pack(">BB", 2, len(path)) + b"".join(struct.pack(">I", number) for number in path)
+        attributes = struct.pack(">BBB", 0x40, 2, len(segment)) + segment
+        entry = struct.pack(">HIH", 0, 0, len(attributes)) + attributes
+        octets += record(13, 2, struct.pack(">IBH", place, 0, 1) + entry)
+    return octets
+
+
+def given_file(rng, givens, edges):
+    """The lines of the givens, in order, with comments and with peerings of other ASes between them."""
+    said = {edge_of(*given) for given in givens}
+    lines = []
+    for over, under in givens:
+        if rng.random() < 0.2:
+            lines.append("# %d|%d|-1" % (under, over))
+        if rng.random() < 0.2:
+            a, b = rng.choice(edges)
+            if (a, b) not in said:
+                lines.append("%d|%d|0" % rng.choice([(a, b), (b, a)]))
+        lines.append("%d|%d|-1" % (over, under))
+    return "".join(line + "\n" for line in lines)
 
 
 def edge_of(a, b):
@@ -127,6 +161,8 @@ class Text:
 
     def __init__(self, lines):
         fields = [line.split("|") for line in lines]
+        self.head = lines[:10]
+        self.givens = [(int(f[1]), int(f[2])) for f in fields if f[0] == "given"]
         self.paths = [(f[0] == "kept", *map(numbers, f[2:4])) for f in fields if f[0] in ("kept", "lost")]
         self.links = [links(f[4]) if f[0] == "lost" else None for f in fields if f[0] in ("kept", "lost")]
         self.edges = [((int(f[1]), int(f[2])), f[3], f[4] == "forced", int(f[5])) for f in fields if f[0] == "edge"]
@@ -140,7 +176,8 @@ def numbers(text):
 
 
 def links(text):
-    return [tuple(map(int, word.split(":"))) for word in text.split()]
+    """Pairs of a path and a place, or of 0 and the number of a given."""
+    return [tuple(map(int, ("0" + word[1:] if word[0] == "g" else word).split(":"))) for word in text.split()]
 
 
 def provider_of(edge, label):
@@ -149,6 +186,8 @@ def provider_of(edge, label):
 
 def fault(text, paths, givens, ratio):
     """What is wrong with a result, or nothing."""
+    if text.head[:3] != ["tor|2", "sets|cut", "ratio|%d" % ratio] or text.givens != givens:
+        return "head"
     flags, edges = result_of(paths, givens, ratio)
     if [line[0] for line in text.paths] != flags or [line[1] for line in text.paths] != paths:
         return "kept"
@@ -198,38 +237,74 @@ def random_case(rng):
     return paths, givens, rng.choice([0, 1, 2, 60])
 
 
+def first_breach(text, givens, paths, ratio):
+    """The line and the rule of a result of these givens, which differ from those that it was made of in that one is turned round: the
+    first lost path whose walk goes along it; else the edge whose label it is against; else the first why line that goes along it."""
+    kept, behind = {}, 11 + len(givens)
+    for number, (line, its_links) in enumerate(zip(text.paths, text.links), 1):
+        if line[0]:
+            kept[number] = line[1]
+        elif not refutes(line[2], its_links, {**kept, number: line[1]}, givens):
+            return behind + number - 1, 4
+    behind += len(text.paths)
+    said = {edge_of(*given): given[0] for given in givens}
+    for number, (edge, label, _, _) in enumerate(text.edges):
+        if edge in said and provider_of(edge, label) != said[edge]:
+            return behind + number, 6
+    behind += len(text.edges)
+    for number, (ases, its_links) in enumerate(text.whys):
+        if not is_walk(ases, its_links, kept, givens):
+            return behind + number, 8
+    return None
+
+
+def answer(command):
+    return subprocess.run(command, stdout=subprocess.PIPE, universal_newlines=True).stdout
+
+
 def main():
-    program, seed, count = sys.argv[1], int(sys.argv[2]), int(sys.argv[3])
+    tor, torcheck, seed, count = sys.argv[1], sys.argv[2], int(sys.argv[3]), int(sys.argv[4])
     rng = random.Random(seed)
-    cases = [random_case(rng) for _ in range(count)]
-    lines = []
-    for paths, givens, ratio in cases:
-        lines += ["path " + " ".join(map(str, path)) for path in paths]
-        lines += ["given %d %d" % given for given in givens]
-        lines += ["ratio %d" % ratio, "result"]
-    said = subprocess.run([program], input="\n".join(lines) + "\n", stdout=subprocess.PIPE, universal_newlines=True, check=True).stdout
-    texts, lines = [], []
-    for line in said.splitlines():
-        lines.append(line)
-        if line.startswith("end|"):
-            texts.append(Text(lines))
-            lines = []
-    if len(texts) != count or lines:
-        sys.exit("%d results of %d: %s" % (len(texts), count, lines))
-    seen = dict.fromkeys(["lost", "forced without a kept path", "peers", "givens", "givens of no edge", "links into givens"], 0)
-    for text, (paths, givens, ratio) in zip(texts, cases):
-        wrong = fault(text, paths, givens, ratio)
-        if wrong:
-            sys.exit("%s of the paths %s under %s with ratio %d" % (wrong, paths, givens, ratio))
-        edges = [edge for edge, _, _, _ in text.edges]
-        seen["lost"] += sum(not line[0] for line in text.paths)
-        seen["forced without a kept path"] += sum(mark and not support for _, _, mark, support in text.edges)
-        seen["peers"] += sum(label == "peer" for _, label, _, _ in text.edges)
-        seen["givens"] += len(givens)
-        seen["givens of no edge"] += sum(edge_of(*given) not in edges for given in givens)
-        all_links = [its for its in text.links if its] + [its for _, its in text.whys]
-        seen["links into givens"] += sum(number == 0 for its in all_links for number, _ in its)
-    print("%d lists, none different: " % count + ", ".join("%d %s" % (n, what) for what, n in seen.items()))
+    kinds = ["lost", "forced without a kept path", "peers", "givens", "givens of no edge", "links to givens", "turned round"]
+    seen = dict.fromkeys(kinds, 0)
+    with tempfile.TemporaryDirectory() as folder:
+        dump, known, result, changed = (os.path.join(folder, name) for name in ("dump", "known", "result", "changed"))
+        for _ in range(count):
+            paths, givens, ratio = random_case(rng)
+            with open(dump, "wb") as file:
+                file.write(dump_of(paths))
+            with open(known, "w") as file:
+                file.write(given_file(rng, givens, edges_of(paths)))
+            with open(result, "w") as file:
+                subprocess.run([tor, "--given", known, "--ratio", str(ratio), dump], stdout=file, stderr=subprocess.DEVNULL, check=True)
+            with open(result) as file:
+                lines = file.read().splitlines()
+            text = Text(lines)
+            case = "of the paths %s under %s with ratio %d" % (paths, givens, ratio)
+            wrong = fault(text, paths, givens, ratio)
+            if wrong:
+                sys.exit("%s %s" % (wrong, case))
+            if answer([torcheck, result]) != "yes\n" or answer([torcheck, result, dump]) != "yes\n":
+                sys.exit("a verdict that isn't yes %s" % case)
+            edges = [edge for edge, _, _, _ in text.edges]
+            all_links = [its for its in text.links if its] + [its for _, its in text.whys]
+            if givens:
+                turned = rng.randrange(len(givens))
+                others = [given[::-1] if number == turned else given for number, given in enumerate(givens)]
+                lines[10 + turned] = "given|%d|%d" % others[turned]
+                with open(changed, "w") as file:
+                    file.writelines(line + "\n" for line in lines)
+                breach, verdict = first_breach(text, others, paths, ratio), answer([torcheck, changed])
+                if breach and verdict != "no|%d|%d\n" % breach or not breach and verdict not in ("yes\n",) and "|9\n" not in verdict:
+                    sys.exit("the verdict %s for %s with given %d turned round, %s" % (verdict.strip(), breach, turned + 1, case))
+                seen["turned round"] += bool(breach)
+            seen["lost"] += sum(not line[0] for line in text.paths)
+            seen["forced without a kept path"] += sum(mark and not support for _, _, mark, support in text.edges)
+            seen["peers"] += sum(label == "peer" for _, label, _, _ in text.edges)
+            seen["givens"] += len(givens)
+            seen["givens of no edge"] += sum(edge_of(*given) not in edges for given in givens)
+            seen["links to givens"] += sum(number == 0 for its in all_links for number, _ in its)
+    print("%d dumps, none different: " % count + ", ".join("%d %s" % (n, what) for what, n in seen.items()))
 
 
 if __name__ == "__main__":

@@ -1,6 +1,6 @@
 #!/usr/bin/env bash
 # What the programs do at the ends that touch the system: full devices, closed pipes, folders, absent files, standard input, many dumps and
-# few descriptors, endless results and relationships. Each line says the run and whether status, output and note were as they should be; the
+# few descriptors, endless results, relationships and givens. Each line says the run and whether status, output and note were as they should be; the
 # script ends with 1 if one was not.
 #   bench/system.sh TOR TORCHECK TORGRADE SAMPLES
 set -uo pipefail
@@ -90,7 +90,7 @@ expect "a result" $? 0 '{"asides":0,"edges":1'
 expect "a check" $? 0 ""
 same "a check" "$work/out" "yes"
 
-sed 's/^tor|1/tor|2/' "$work/result" > "$work/changed"
+sed 's/^tor|1/tor|3/' "$work/result" > "$work/changed"
 "$torcheck" "$work/changed" > "$work/out" 2> "$work/note"
 expect "a check of a changed result" $? 1 ""
 same "a check of a changed result" "$work/out" "no|1|0"
@@ -143,6 +143,36 @@ expect "relationships of 2^28 + 1 octets" $? 6 "limit|rel|0"
 expect "endless relationships" $? 6 "limit|rel|0"
 same "endless relationships" "$work/out" ""
 
+"$tor" --given "$work/rel" "$one" > /dev/full 2> "$work/note"
+expect "a full device for a result under givens" $? 5 "write-fault"
+
+"$tor" --given "$samples" "$one" > "$work/out" 2> "$work/note"
+expect "a folder for givens" $? 4 "read-fault|0"
+same "a folder for givens" "$work/out" ""
+
+"$tor" --given "$work/rel" "$samples" > "$work/out" 2> "$work/note"
+expect "a folder for a dump beside givens" $? 4 "read-fault|1"
+same "a folder for a dump beside givens" "$work/out" ""
+
+truncate -s 268435456 "$work/long"
+"$tor" --given "$work/long" "$one" > "$work/out" 2> "$work/note"
+expect "givens of 2^28 octets" $? 3 "malformed|0|1|0|given"
+
+truncate -s 268435457 "$work/long"
+"$tor" --given "$work/long" "$work/absent" > "$work/out" 2> "$work/note"
+expect "givens of 2^28 + 1 octets" $? 6 "limit|given|0"
+
+"$tor" --given /dev/zero "$one" > "$work/out" 2> "$work/note"
+expect "endless givens" $? 6 "limit|given|0"
+same "endless givens" "$work/out" ""
+
+"$tor" --migrate "$samples/three-paths.result.txt" > /dev/full 2> "$work/note"
+expect "a full device for a migrated result" $? 5 "write-fault"
+
+"$tor" --migrate "$samples" > "$work/out" 2> "$work/note"
+expect "a folder for a result to migrate" $? 4 "read-fault|0"
+same "a folder for a result to migrate" "$work/out" ""
+
 # Of a longer result 2^31 + 1 octets are read, so these runs hold 2 GiB each.
 if [ "$(awk '/^MemAvailable/ { print $2 }' /proc/meminfo)" -gt 6000000 ]; then
     truncate -s 2147483648 "$work/long"
@@ -158,6 +188,10 @@ if [ "$(awk '/^MemAvailable/ { print $2 }' /proc/meminfo)" -gt 6000000 ]; then
     "$torcheck" /dev/zero > "$work/out" 2> "$work/note"
     expect "an endless result" $? 6 "limit|result|0"
     same "an endless result" "$work/out" ""
+
+    "$tor" --migrate /dev/zero > "$work/out" 2> "$work/note"
+    expect "an endless result to migrate" $? 6 "limit|result|0"
+    same "an endless result to migrate" "$work/out" ""
 else
     echo "left out: results of 2^31 octets, for want of memory"
 fi
