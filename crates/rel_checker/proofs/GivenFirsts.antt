@@ -16,7 +16,7 @@ use Rattle.result_text.specs.declared.file.ResultFile.{ResultFile}
 use Rattle.result_rules.specs.File.{its_givens}
 use Rattle.result_rules.specs.declared.rule.Rule.TheVariants.{HeadSound}
 use Rattle.result_rules.specs.Rules.{Asks, IsNewGiven, IsMet, BreaksFirst}
-use Rattle.rel_checker.specs.GivenHeads.{IsNewAt, edges_given}
+use Rattle.rel_checker.specs.GivenHeads.{IsNewGivenAt, edges_given}
 use Rattle.rel_checker.specs.Serving.{First}
 
 -- ---- edges of givens
@@ -56,12 +56,12 @@ was_not_there false is_new e t = refl
 
 module _ (file : ResultFile) (k : ℕ) (given : Given) (at : slice_get (its_givens file) k ≡ Some given) (table : List Edge)
     (known : table ≡ edges_given (take k (its_givens file))) where
-  pub not_new : list_any (is_same (edge_in given)) table ≡ true → IsNewAt file k → ⊥
+  pub not_new : list_any (is_same (edge_in given)) table ≡ true → IsNewGivenAt file k → ⊥
   not_new h new =
       known_among (edge_in given) (take k (its_givens file)) (subst (λ (es : List Edge). list_any (is_same (edge_in given)) es ≡ true) known h)
       (recursion_from_All (λ (g : Given). edge_in g ≢ edge_in given) (take k (its_givens file)) (new given at).new)
 
-  pub is_new : given.over ≢ given.under → list_any (is_same (edge_in given)) table ≡ false → IsNewAt file k
+  pub is_new : given.over ≢ given.under → list_any (is_same (edge_in given)) table ≡ false → IsNewGivenAt file k
   is_new two h other at' = subst (IsNewGiven file k) (same_Some _ _ (sym at ∙ at')) here
     where
       here : IsNewGiven file k given
@@ -88,17 +88,17 @@ ratio_breaks file over = record { within = omega arith; breach = over; before = 
 
 -- and behind it come the given lines
 module _ (file : ResultFile) (bounded : file.ratio ≤ max_ratio) where
-  head_before : (n : ℕ) → ((j : ℕ) → j < n → IsNewAt file j) → (j : ℕ) → j < suc n → Asks file HeadSound j
+  head_before : (n : ℕ) → ((j : ℕ) → j < n → IsNewGivenAt file j) → (j : ℕ) → j < suc n → Asks file HeadSound j
   head_before n new zero lt = bounded
   head_before n new (suc j) lt = new j (omega (arith, lt))
 
-  pub given_breaks : (found : Option ℕ) → First (IsNewAt file) (length (its_givens file)) found → (place : ℕ) → found ≡ Some place → BreaksFirst file HeadSound (suc place)
+  pub given_breaks : (found : Option ℕ) → First (IsNewGivenAt file) (length (its_givens file)) found → (place : ℕ) → found ≡ Some place → BreaksFirst file HeadSound (suc place)
   given_breaks found first place is =
-      let f : First (IsNewAt file) (length (its_givens file)) (Some place) = subst (First (IsNewAt file) (length (its_givens file))) is first in
+      let f : First (IsNewGivenAt file) (length (its_givens file)) (Some place) = subst (First (IsNewGivenAt file) (length (its_givens file))) is first in
       let lt = f.0 in
       record { within = omega (arith, lt); breach = f.1; before = head_before place f.2 }
 
-  pub head_met : (found : Option ℕ) → First (IsNewAt file) (length (its_givens file)) found → found ≡ None → IsMet file HeadSound
+  pub head_met : (found : Option ℕ) → First (IsNewGivenAt file) (length (its_givens file)) found → found ≡ None → IsMet file HeadSound
   head_met found first is =
-      let f : First (IsNewAt file) (length (its_givens file)) None = subst (First (IsNewAt file) (length (its_givens file))) is first in
+      let f : First (IsNewGivenAt file) (length (its_givens file)) None = subst (First (IsNewGivenAt file) (length (its_givens file))) is first in
       λ j lt. head_before (length (its_givens file)) f j (omega (arith, lt))

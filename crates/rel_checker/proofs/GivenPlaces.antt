@@ -15,7 +15,7 @@ use Rattle.result_rules.specs.File.{its_givens}
 use Rattle.result_rules.specs.declared.rule.Rule.TheVariants.{LabelsServe}
 use Rattle.result_rules.specs.Rules.{Asks}
 use Rattle.rel_checker.specs.Flipping.{edges_of, AreApart}
-use Rattle.rel_checker.specs.GivenLabels.{HasLabelOf, HasLabelAt, HasLabelsAt, ServedAt, lesser}
+use Rattle.rel_checker.specs.GivenLabels.{HasLabelOf, HasLabelAt, HasLabelsAt, ServedAt, lesser_place}
 use Rattle.rel_checker.specs.Serving.{First}
 use Rattle.rel_checker.specs.Steps.{FindsBreach}
 use Rattle.rel_checker.specs.PathSteps.{labels_on}
@@ -25,7 +25,7 @@ use Rattle.tor_arena.proofs.Gets.{slice_get-map, slice_get-unmap}
 
 -- the first place where one of the two doesn't hold
 pub first_of_two : (P Q R : ℕ → Type 0) (end : ℕ) (a b : Option ℕ) → ((k : ℕ) → P k → Q k → R k) → ((k : ℕ) → R k → P k × Q k) → First P end a → First Q end b →
-    First R end (lesser a b)
+    First R end (lesser_place a b)
 first_of_two P Q R end None None join parts h g = λ k lt. join k (h k lt) (g k lt)
 first_of_two P Q R end None (Some b) join parts h g =
     (g.0, (λ r. g.1 (parts b r).1), λ j lt. (let within = g.0 in join j (h j (omega (arith, lt, within))) (g.2 j lt)))
@@ -47,9 +47,9 @@ labels_none lines k lt line at = All-nil (HasLabelOf line)
 
 -- one given more
 pub labels_more : (lines : List EdgeLine) (givens givens' : List Given) (g : Given) (a b : Option ℕ) → givens' ≡ givens ++ g ∷ [] → First (HasLabelsAt lines givens) (length lines) a →
-    First (HasLabelAt lines g) (length lines) b → First (HasLabelsAt lines givens') (length lines) (lesser a b)
+    First (HasLabelAt lines g) (length lines) b → First (HasLabelsAt lines givens') (length lines) (lesser_place a b)
 labels_more lines givens givens' g a b e h k =
-    subst (λ gs. First (HasLabelsAt lines gs) (length lines) (lesser a b)) (sym e)
+    subst (λ gs. First (HasLabelsAt lines gs) (length lines) (lesser_place a b)) (sym e)
     (first_of_two (HasLabelsAt lines givens) (HasLabelAt lines g) (HasLabelsAt lines (givens ++ g ∷ [])) (length lines) a b
     (λ i p q line at. All-append (HasLabelOf line) givens (g ∷ []) (p line at) (All-cons (HasLabelOf line) g [] (q line at) (All-nil (HasLabelOf line))))
     (λ i r. (

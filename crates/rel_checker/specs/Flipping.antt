@@ -105,7 +105,7 @@ climbs_on lines step = climbs (slice_index_or (labels_on lines) (place_in step) 
 abbrev pub turned : Step → ℕ
 turned step = place_in step * 2 + (1 - step.code % 2)
 
--- the codes of two consecutive steps, or of the two the other way round, whichever begin with the lesser code
+-- the codes of two consecutive steps, or of the two the other way round, whichever begin with the lesser_place code
 abbrev pub code_pair : Step → Step → ℕ × ℕ
 code_pair first second = if nat_lt (turned second) first.code then (turned second, turned first) else (first.code, second.code)
 

@@ -7,8 +7,8 @@ use Rattle.result_rules.specs.File.{its_givens}
 use Rattle.result_rules.specs.Rules.{ForSome, IsNewGiven}
 
 -- given line k names two ASes, and no earlier one names the same two
-abbrev pub IsNewAt : ResultFile → ℕ → Type 0
-IsNewAt file k = ForSome (its_givens file) k (IsNewGiven file k)
+abbrev pub IsNewGivenAt : ResultFile → ℕ → Type 0
+IsNewGivenAt file k = ForSome (its_givens file) k (IsNewGiven file k)
 
 -- the edges of the two ASes of givens
 abbrev pub edges_given : List Given → List Edge

@@ -23,8 +23,8 @@ HasLabelsAt lines givens k = ForSome lines k (λ line. All (HasLabelOf line) giv
 abbrev pub ServedAt : ResultFile → ℕ → Type 0
 ServedAt file k = ForSome file.paths k (IsServedIfKept file)
 
--- the lesser of two places, if there is one
-abbrev pub lesser : Option ℕ → Option ℕ → Option ℕ
-lesser None second = second
-lesser (Some a) None = Some a
-lesser (Some a) (Some b) = Some (min a b)
+-- the lesser_place of two places, if there is one
+abbrev pub lesser_place : Option ℕ → Option ℕ → Option ℕ
+lesser_place None second = second
+lesser_place (Some a) None = Some a
+lesser_place (Some a) (Some b) = Some (min a b)

@@ -1,7 +1,7 @@
 //! Rule 1 on given lines.
 ghost use Rattle.std.specs.Prelude.{length, IfOk};
 ghost use Rattle.result_rules.specs.File.{its_givens};
-ghost use Rattle.rel_checker.specs.GivenHeads.{IsNewAt};
+ghost use Rattle.rel_checker.specs.GivenHeads.{IsNewGivenAt};
 ghost use Rattle.rel_checker.specs.Serving.{First};
 
 use crate::lending::givens_of;
@@ -16,7 +16,7 @@ pub(crate) fn find_unsound_given(
     keys: Keys,
     file: &ResultFile,
 ) -> Result<Option<usize>, NoMemory>
-    ensures { IfOk result (First (IsNewAt file.now) (length (its_givens file.now))) }
+    ensures { IfOk result (First (IsNewGivenAt file.now) (length (its_givens file.now))) }
 {
     let mut table = EdgeTable::new(alloc, keys);
     for (place, given) in givens_of(file).iter().enumerate() {

@@ -146,6 +146,7 @@ Asks file OrdersShown k = ForSome file.whys k (IsShown file k)
 Asks file MarksBorneOut k = AsksOfMarks file k × AsksOfProbes file k
 Asks file TotalsRight k = file.totals ≡ right_totals file
 
+-- the number of a line of the head that is asked
 abbrev pub head_line : ResultFile → ℕ → ℕ
 head_line file zero = ratio_line
 head_line file (suc k) = given_line_number file k

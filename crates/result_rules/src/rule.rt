@@ -5,7 +5,7 @@ ghost use Rattle.result_rules.specs.Rules.{rule_number};
 /// The rules about the file alone, in the order in which they are tried.
 #[derive(Clone, Copy)]
 pub enum Rule {
-    /// The ratio is at most 1000000, and each given names two ASes that no earlier one names.
+    /// The ratio is at most 1000000, and each given names two different ASes, and not the two of an earlier one.
     HeadSound,
     /// Each path is clean and was seen, and there are not too many paths and numbers.
     PathsCleaned,

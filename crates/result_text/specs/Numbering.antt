@@ -21,6 +21,7 @@ ratio_line = 3
 abbrev pub aside_line : Cause → ℕ
 aside_line cause = 4 + cause_index cause
 
+-- the line of each by its number
 abbrev pub given_line : ResultFile → ℕ → ℕ
 given_line file number = 10 + number
 

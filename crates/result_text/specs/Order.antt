@@ -37,6 +37,7 @@ is_head n _ = false
 abbrev pub after_head : ℕ → Section
 after_head n = if nat_lt n 10 then section.Head n else section.Givens
 
+-- which lines may come next
 abbrev pub takes_given : Section → Bool
 takes_given section.Givens = true
 takes_given _ = false

@@ -30,6 +30,7 @@ abbrev pub FateFits : Fate → Type 0
 FateFits fate.Kept = Unit {0}
 FateFits (fate.Lost w) = WalkFits w
 
+-- of a given
 abbrev pub GivenFits : Given → Type 0
 GivenFits g = IsU32 g.over × IsU32 g.under
 

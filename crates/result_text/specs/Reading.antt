@@ -139,9 +139,11 @@ edge_line_at bytes =
 unfoldable pub why_at : Version → List ℕ → Option (Line × List ℕ)
 why_at v bytes = mapped (λ w. line.Why w) (walk_at v) bytes
 
+-- a given line of these two
 abbrev pub given_from : ℕ × ℕ → Line
 given_from x = line.Given (record { over = x.0; under = x.1 })
 
+-- the provider, and the customer
 unfoldable pub given_at : List ℕ → Option (Line × List ℕ)
 given_at bytes = mapped given_from (both (before 124 u32_at) (before 10 u32_at)) bytes
 

@@ -24,10 +24,12 @@ use Rattle.result_text.specs.declared.line.Version.TheVariants as version
 
 -- ---- versions
 
+-- the version of the text of a result with these givens, or with none
 abbrev pub version_of : Option (List Given) → Version
 version_of None = version.One
 version_of (Some givens) = version.Two
 
+-- how the first line names it
 abbrev pub version_name : Version → List ℕ
 version_name version.One = codes "1"
 version_name version.Two = codes "2"

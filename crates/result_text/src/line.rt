@@ -10,9 +10,9 @@ use tor_arena::List;
 /// The version of a text.
 #[derive(Clone, Copy, PartialEq, Eq)]
 pub enum Version {
-    /// Nothing is given.
+    /// It has no givens.
     One,
-    /// Relationships are given, and links may name them.
+    /// It may have given lines, and links that name them.
     Two,
 }
 

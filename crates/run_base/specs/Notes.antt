@@ -64,6 +64,7 @@ limit_note kind dump = codes "limit|" ++ limit_word kind ++ codes "|" ++ decimal
 
 -- ---- notes on a file that is read whole, before any dump
 
+-- what a note calls it
 abbrev pub first_word : FirstFile → List ℕ
 first_word first.Given = codes "given"
 first_word first.Result = codes "result"

@@ -5,6 +5,7 @@ use Rattle.serial_lines.specs.declared.line.RelKind.{RelKind}
 use Rattle.serial_lines.specs.declared.line.RelKind.TheVariants.{Transit, Peering}
 use Rattle.serial_lines.specs.declared.line.RelLine.{RelLine}
 
+-- whether the first AS of a line is the provider of the second
 abbrev pub is_transit : RelKind → Bool
 is_transit Transit = true
 is_transit Peering = false

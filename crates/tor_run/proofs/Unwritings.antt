@@ -33,7 +33,7 @@ use Rattle.tor_run.specs.First.{Result as ResultAt}
 use Rattle.tor_run.specs.Output.{IsMigrated, IsOutput, IsOutputIn, IsOutputOf}
 use Rattle.tor_run.specs.Reach.{LeavesOnlyFirst, IsFirstInReach, StopsInReach, IsUnwrittenInReach, StaysUnwrittenInReach}
 use Rattle.torcheck_run.specs.Limits.{max_result}
-use Rattle.tor_run.specs.Refusals.{AreKnown, DumpsEndIn, FirstEnds, StopsIn, IsStopIn, IsUnwrittenAtFirst, IsUnwrittenIn, IsUnwritten, AnswersUnwritten}
+use Rattle.tor_run.specs.Refusals.{AreGivensIn, DumpsEndIn, FirstEnds, StopsIn, IsStopIn, IsUnwrittenAtFirst, IsUnwrittenIn, IsUnwritten, AnswersUnwritten}
 use Rattle.tor_run.specs.Sampling.{known_by, known_in}
 use Rattle.tor_run.specs.Seen.{Outcome, Reads, Holds, Stops, Ends, ComesTo, ComesOfSome, IsSeenOfSome, LeadsTo, seen_in}
 use Rattle.tor_run.specs.Written.{Written}
@@ -74,10 +74,10 @@ module _ (settings : Settings) (givens : Option (List Given)) (output : Written)
   made None are m = tt
   made (Some files) are m = (Reads givens m.0, (are, m.1), m.2)
 
-  pub bound_made : (f : First) (mid known : Option Files) → first_in settings ≡ f → settings.source ≡ source.Files → mid ≡ known → AreKnown f known givens
+  pub bound_made : (f : First) (mid known : Option Files) → first_in settings ≡ f → settings.source ≡ source.Files → mid ≡ known → AreGivensIn f known givens
       → IfSome (known_in settings.source mid) Made → IfSome known (λ files. IsOutputOf settings files output)
   bound_made f mid known is at same are m =
-      made known (subst (λ (x : First). AreKnown x known givens) (sym is) are)
+      made known (subst (λ (x : First). AreGivensIn x known givens) (sym is) are)
       (subst (λ (o : Option Files). IfSome o Made) same (subst (λ (s : Source). IfSome (known_in s mid) Made) at m))
 
   pub some_made : (f : First) → first_in settings ≡ f → AreSomeGivens f givens
@@ -85,10 +85,10 @@ module _ (settings : Settings) (givens : Option (List Given)) (output : Written)
       → (outcome : Outcome) × ComesOfSome settings outcome × IsOutput settings outcome output
   some_made f is some m = (Reads givens m.0, (subst (λ (x : First). AreSomeGivens x givens) (sym is) some, m.1, m.2), m.3)
 
-none_known : (f : First) (o : Option Files) → f ≡ Nothing → AreKnown f o None
-none_known f o is = subst (λ (x : First). AreKnown x o None) (sym is) (by o)
+none_known : (f : First) (o : Option Files) → f ≡ Nothing → AreGivensIn f o None
+none_known f o is = subst (λ (x : First). AreGivensIn x o None) (sym is) (by o)
   where
-    by : (k : Option Files) → AreKnown Nothing k None
+    by : (k : Option Files) → AreGivensIn Nothing k None
     by None = tt
     by (Some files) = tt
 
@@ -127,7 +127,7 @@ weaker settings known steady later dump (error.Limit kind) on stops = stops
 weaker settings known steady later dump error.ReadFault on stops = (stops.0, stops.1, stops.2, λ held. stops.3 (on held))
 weaker settings known steady later dump error.NoMemory on stops = tt
 
-refused_in : (settings : Settings) (known : Option Files) (steady later : Type 0) (givens : Option (List Given)) (r : Refusal) → (steady → later) → AreKnown (first_in settings) known givens
+refused_in : (settings : Settings) (known : Option Files) (steady later : Type 0) (givens : Option (List Given)) (r : Refusal) → (steady → later) → AreGivensIn (first_in settings) known givens
     → IsStopIn settings known later r → IsUnwrittenIn settings known steady (unwritten.Refused r)
 refused_in settings known steady later givens (refusal.Words w) on are h = absurd h
 refused_in settings known steady later givens (refusal.Dumps stopped) on are h = (
@@ -143,10 +143,10 @@ free_refused settings known steady r is h = refused_in settings known steady ste
 
 -- where a file that was read before says what is known
 pub bound_refused : (settings : Settings) (f : First) (mid known : Option Files) (steady later : Type 0) (givens : Option (List Given)) (r : Refusal) → first_in settings ≡ f
-    → settings.source ≡ source.Files → mid ≡ known → (steady → later) → AreKnown f known givens → IsStopIn settings (known_in settings.source mid) later r
+    → settings.source ≡ source.Files → mid ≡ known → (steady → later) → AreGivensIn f known givens → IsStopIn settings (known_in settings.source mid) later r
     → IsUnwrittenIn settings known steady (unwritten.Refused r)
 bound_refused settings f mid known steady later givens r is at same on are h =
-    refused_in settings known steady later givens r on (subst (λ (x : First). AreKnown x known givens) (sym is) are)
+    refused_in settings known steady later givens r on (subst (λ (x : First). AreGivensIn x known givens) (sym is) are)
     (subst (λ (o : Option Files). IsStopIn settings o later r) same (subst (λ (s : Source). IsStopIn settings (known_in s mid) later r) at h))
 
 -- where the file that is read first gives nothing

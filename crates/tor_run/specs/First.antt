@@ -25,24 +25,26 @@ pub data First : Type 0 where
   -- the file of this name, which holds a result
   Result : List ℕ → First
 
+-- with `--given` that of known relationships, and for `--migrate` the result; a sample stands in no file
 abbrev pub first_by : Source → Option (List ℕ) → First
 first_by source.Files None = Nothing
 first_by source.Files (Some name) = Givens name
 first_by (source.Sample seed) given = Nothing
 first_by (source.Result name) given = Result name
 
+-- which file the settings name
 abbrev pub first_in : Settings → First
 first_in settings = first_by settings.source settings.given
 
 -- what notes call it
-abbrev pub file_of : First → Option FirstFile
-file_of Nothing = None
-file_of (Givens name) = Some first.Given
-file_of (Result name) = Some first.Result
+abbrev pub first_kind : First → Option FirstFile
+first_kind Nothing = None
+first_kind (Givens name) = Some first.Given
+first_kind (Result name) = Some first.Result
 
 -- the words name such a file
 abbrev pub ReadsFirst : List (List ℕ) → FirstFile → Type 0
-ReadsFirst words file = (settings : Settings) × (settings_given words ≡ Some settings) × (file_of (first_in settings) ≡ Some file)
+ReadsFirst words file = (settings : Settings) × (settings_given words ≡ Some settings) × (first_kind (first_in settings) ≡ Some file)
 
 -- there is such a file, and of the most octets that it may have and of its name this holds
 abbrev pub OfFirst : First → (ℕ → List ℕ → Type 0) → Type 0
@@ -85,6 +87,7 @@ pub data FirstEnd : Type 0 where
   -- this is its first bad line
   BadLine : ℕ → FirstEnd
 
+-- it gives nothing for this
 abbrev pub EndsAtFirst : First → Files → FirstEnd → Type 0
 EndsAtFirst f files NoFile = OfFirst f (λ most name. files name ≡ None)
 EndsAtFirst f files TooLong = OfFirst f (λ most name. IsLongFile most (files name))

@@ -21,7 +21,7 @@ use Rattle.run_base.specs.Notes.{bad_line_note}
 use Rattle.tor_run.specs.declared.unwritten.Unwritten.{Unwritten}
 use Rattle.tor_run.specs.declared.unwritten.Unwritten.TheVariants as unwritten
 use Rattle.tor_run.specs.Answer.{ReadBefore, AreGivensGood}
-use Rattle.tor_run.specs.First.{First, FirstEnd, NoFile, TooLong, BadLine, AreGivens, EndsAtFirst, first_in, file_of}
+use Rattle.tor_run.specs.First.{First, FirstEnd, NoFile, TooLong, BadLine, AreGivens, EndsAtFirst, first_in, first_kind}
 use Rattle.tor_run.specs.Seen.{seen_in}
 
 -- ---- dumps
@@ -38,6 +38,7 @@ StopsIn settings known steady dump error.ReadFault =
     (1 ≤ dump) × (dump ≤ length settings.dumps) × ReadBefore settings known dump × (steady → DumpsEndIn settings known (Absent dump))
 StopsIn settings known steady dump error.NoMemory = Unit {0}
 
+-- the same of why there is nothing to write
 abbrev pub IsStopIn : Settings → Option Files → Type 0 → Refusal → Type 0
 IsStopIn settings known steady (refusal.Words w) = ⊥
 IsStopIn settings known steady (refusal.Dumps stopped) = StopsIn settings known steady stopped.dump stopped.error
@@ -46,23 +47,23 @@ IsStopIn settings known steady refusal.NoMemory = Unit {0}
 -- ---- the file that is read first
 
 -- what is known, if a file says it, is this
-abbrev pub AreKnown : First → Option Files → Option (List Given) → Type 0
-AreKnown f known givens = IfSome known (λ files. AreGivens f files givens)
+abbrev pub AreGivensIn : First → Option Files → Option (List Given) → Type 0
+AreGivensIn f known givens = IfSome known (λ files. AreGivens f files givens)
 
 -- there is such a file, and it gives nothing for this
 abbrev pub FirstEnds : First → Option Files → FirstFile → FirstEnd → Type 0
-FirstEnds f known file end = (file_of f ≡ Some file) × IfSome known (λ files. EndsAtFirst f files end)
+FirstEnds f known file end = (first_kind f ≡ Some file) × IfSome known (λ files. EndsAtFirst f files end)
 
 -- it was not read for this
-abbrev pub IsUnread : First → Option Files → Type 0 → FirstFile → Unread → Type 0
-IsUnread f known steady file unread.Failed =
-    (file_of f ≡ Some file) × (steady → IfSome known (λ files. EndsAtFirst f files NoFile))
-IsUnread f known steady file unread.TooLong = FirstEnds f known file TooLong
-IsUnread f known steady file unread.NoMemory = Unit {0}
+abbrev pub IsFirstUnread : First → Option Files → Type 0 → FirstFile → Unread → Type 0
+IsFirstUnread f known steady file unread.Failed =
+    (first_kind f ≡ Some file) × (steady → IfSome known (λ files. EndsAtFirst f files NoFile))
+IsFirstUnread f known steady file unread.TooLong = FirstEnds f known file TooLong
+IsFirstUnread f known steady file unread.NoMemory = Unit {0}
 
 -- there is no text for this, since it gives nothing
 abbrev pub IsUnwrittenAtFirst : First → Option Files → Type 0 → Unwritten → Type 0
-IsUnwrittenAtFirst f known steady (unwritten.First file why) = IsUnread f known steady file why
+IsUnwrittenAtFirst f known steady (unwritten.First file why) = IsFirstUnread f known steady file why
 IsUnwrittenAtFirst f known steady (unwritten.BadLine file line) = FirstEnds f known file (BadLine line)
 IsUnwrittenAtFirst f known steady (unwritten.Refused (refusal.Words w)) = ⊥
 IsUnwrittenAtFirst f known steady (unwritten.Refused (refusal.Dumps stopped)) = ⊥
@@ -72,7 +73,7 @@ IsUnwrittenAtFirst f known steady (unwritten.Refused refusal.NoMemory) = Unit {0
 
 -- with these settings there is none for this
 abbrev pub IsUnwrittenIn : Settings → Option Files → Type 0 → Unwritten → Type 0
-IsUnwrittenIn settings known steady (unwritten.First file why) = IsUnread (first_in settings) known steady file why
+IsUnwrittenIn settings known steady (unwritten.First file why) = IsFirstUnread (first_in settings) known steady file why
 IsUnwrittenIn settings known steady (unwritten.BadLine file line) = FirstEnds (first_in settings) known file (BadLine line)
 IsUnwrittenIn settings known steady (unwritten.Refused (refusal.Words w)) = ⊥
 IsUnwrittenIn settings known steady (unwritten.Refused (refusal.Dumps stopped)) =
@@ -106,6 +107,7 @@ IsOfTheWords (unwritten.First file why) = ⊥
 IsOfTheWords (unwritten.BadLine file line) = ⊥
 IsOfTheWords (unwritten.Refused why) = IsOfWords why
 
+-- the answer where there is nothing to write
 abbrev pub AnswersUnwritten : Unwritten → Answer → Type 0
 AnswersUnwritten (unwritten.First file why) answer = AnswersUnread file why answer
 AnswersUnwritten (unwritten.BadLine file line) answer = AnswersWith status.Malformed (bad_line_note file line) answer

@@ -16,6 +16,7 @@ use Rattle.tor_run.specs.First.{FirstEnd, first_in, AreGivens, HoldsResult, Ends
 
 -- ---- what dumps give
 
+-- of the dumps that are named, in their order
 abbrev pub seen : Settings → Files → Result Taken DumpsEnd
 seen settings files = seen_from settings.sets 1 (nothing settings.max_paths) settings.dumps files
 
@@ -23,6 +24,7 @@ seen settings files = seen_from settings.sets 1 (nothing settings.max_paths) set
 abbrev pub seen_in_sample : Settings → ℕ → Result Taken DumpsEnd
 seen_in_sample settings seed = of_file settings.sets 1 (nothing settings.max_paths) (Some (sample seed))
 
+-- of what is read: these dumps, or the sample
 abbrev pub seen_in : Source → Settings → Files → Result Taken DumpsEnd
 seen_in source.Files settings files = seen settings files
 seen_in (source.Sample seed) settings files = seen_in_sample settings seed
@@ -36,6 +38,7 @@ IsSeenOfSome (source.Result name) settings taken = IsOfSomeDumps settings.sets (
 
 -- ---- what a run comes to
 
+-- what is known and what dumps gave, a result, or why there is neither
 pub data Outcome : Type 0 where
   -- these relationships are known, where a file of them is named, and all dumps gave that
   Reads : Option (List Given) → Taken → Outcome

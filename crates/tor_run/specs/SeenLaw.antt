@@ -16,10 +16,10 @@ use Rattle.run_base.specs.Reading.{nothing, seen_from}
 use Rattle.tor_run.specs.Seen.{seen_in}
 
 -- the dumps of a run, in their order, each with its octets if it is there: those that the words name, or the sample that they ask for
-abbrev pub dumps_of : Source → Settings → Files → List (Option (List ℕ))
-dumps_of source.Files settings files = map files settings.dumps
-dumps_of (source.Sample seed) settings files = Some (sample seed) ∷ []
-dumps_of (source.Result name) settings files = map files settings.dumps
+abbrev pub dumps_for : Source → Settings → Files → List (Option (List ℕ))
+dumps_for source.Files settings files = map files settings.dumps
+dumps_for (source.Sample seed) settings files = Some (sample seed) ∷ []
+dumps_for (source.Result name) settings files = map files settings.dumps
 
 -- a dump of these octets is read to its end
 abbrev pub IsWhole : List ℕ → Type 0
@@ -46,7 +46,7 @@ DumpsLaw =
 abbrev pub SeenLaw : Type 0
 SeenLaw =
     (from : Source) (settings : Settings) (files : Files) (taken : Taken)
-    → seen_in from settings files ≡ Ok taken → IsSeenOf settings.sets (dumps_of from settings files) taken
+    → seen_in from settings files ≡ Ok taken → IsSeenOf settings.sets (dumps_for from settings files) taken
 
 -- ---- when all is read
 
@@ -69,4 +69,4 @@ abbrev pub ReadableLaw : Type 0
 ReadableLaw =
     (from : Source) (settings : Settings) (files : Files)
     → ((taken : Taken) × (seen_in from settings files ≡ Ok taken)) ↔
-    AreReadable settings.sets settings.max_paths (dumps_of from settings files)
+    AreReadable settings.sets settings.max_paths (dumps_for from settings files)

@@ -33,5 +33,6 @@ summary_object asides totals = object
 abbrev pub summary_of : CauseCounts → Totals → List ℕ
 summary_of asides totals = compact_text (summary_object asides totals)
 
+-- the same of a result
 abbrev pub summary : ResultFile → List ℕ
 summary file = summary_of file.asides file.totals

@@ -9,7 +9,7 @@ ghost use Rattle.run_base.specs.Frames.{ReadsShelf};
 ghost use Rattle.tor_run.specs.First.{Givens, Result as ResultAt, AreGivens, AreSomeGivens, SaysGivens, HoldsResult, IsSomeResult};
 ghost use Rattle.rel_infer.specs.GivenResults.{max_givens};
 ghost use Rattle.tor_run.specs.Reach.{IsFirstInReach};
-ghost use Rattle.tor_run.specs.Refusals.{AreKnown, IsUnwrittenAtFirst, IsFailedRead};
+ghost use Rattle.tor_run.specs.Refusals.{AreGivensIn, IsUnwrittenAtFirst, IsFailedRead};
 
 use crate::unwritten::Unwritten;
 use relationships::Given;
@@ -51,7 +51,7 @@ pub(crate) fn givens_in<H: Shelf>(
     shelf: &mut H,
     name: &Name,
 ) -> Result<List<Given>, Unwritten>
-    ensures known { IfOk result (λ givens. AreKnown (Givens name.now) (H.files shelf.old) (Some givens)) }
+    ensures known { IfOk result (λ givens. AreGivensIn (Givens name.now) (H.files shelf.old) (Some givens)) }
     ensures of_some { IfOk result (λ givens. AreSomeGivens (Givens name.now) (Some givens)) }
     ensures two { IfOk result NameTwo }
     ensures once { IfOk result NameOnce }

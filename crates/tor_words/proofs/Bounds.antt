@@ -13,7 +13,7 @@ use Rattle.tor_words.specs.declared.settings.Source.{Source}
 use Rattle.tor_words.specs.declared.settings.Source.TheVariants.{Files, Sample, Result}
 use Rattle.tor_words.specs.declared.settings.Settings.{Settings}
 use Rattle.tor_words.specs.Given.{number_in, number_or, sets_or_cut, mode_in, names_in, of_dumps, of_sample, of_result, source_of}
-use Rattle.tor_words.specs.Given.{dumps_of, takes_given, given_of, settings_in, HasDumps, IsWrittenOf, IsGivenTo, AreBounded, BoundsLaw}
+use Rattle.tor_words.specs.Given.{dumps_of, may_have_given, given_for, settings_in, HasDumps, IsWrittenOf, IsGivenTo, AreBounded, BoundsLaw}
 use Rattle.tor_words.specs.Given.{settings_given, unless_fault}
 use Rattle.tor_words.specs.TorCommand.{tor_command}
 
@@ -70,11 +70,11 @@ is_source Serial sample names source is = files Serial names source (λ e. cc) (
 is_source Summary sample names source is = sampled sample names source is
 is_source Migrate sample names source is = migrated names source is
 
-is_given : (mode : Mode) (asked given : Option Text) → given_of mode asked ≡ Some given → IsGivenTo mode given
+is_given : (mode : Mode) (asked given : Option Text) → given_for mode asked ≡ Some given → IsGivenTo mode given
 is_given mode None given is = let same : None ≡ given = cc in subst (IsGivenTo mode) same tt
-is_given mode (Some name) given is = by (takes_given mode) refl is
+is_given mode (Some name) given is = by (may_have_given mode) refl is
   where
-    by : (b : Bool) → takes_given mode ≡ b → (if b then Some (Some name) else None) ≡ Some given → IsGivenTo mode given
+    by : (b : Bool) → may_have_given mode ≡ b → (if b then Some (Some name) else None) ≡ Some given → IsGivenTo mode given
     by true takes e = let same : Some name ≡ given = cc in subst (IsGivenTo mode) same takes
     by false takes e = absurd cc
 
@@ -95,7 +95,7 @@ module _ (names : List Text) (sample asked : Option Text) (settings : Settings) 
   parts mode sets ratio most source given = option_and_then (λ s. option_map (λ g. made names mode sets ratio most s g) given) source
 
   of_parts : (mode : Mode) (sets : Sets) (ratio most : ℕ) → within 0 1000000 ratio → within 1 8388608 most → (source : Option Source) → source_of mode sample names ≡ source
-      → (given : Option (Option Text)) → given_of mode asked ≡ given → parts mode sets ratio most source given ≡ Some settings → AreBounded settings
+      → (given : Option (Option Text)) → given_for mode asked ≡ given → parts mode sets ratio most source given ≡ Some settings → AreBounded settings
   of_parts mode sets ratio most r p None s given g e = absurd cc
   of_parts mode sets ratio most r p (Some source) s None g e = absurd cc
   of_parts mode sets ratio most r p (Some source) s (Some given) g e =
@@ -111,14 +111,14 @@ module _ (names : List Text) (sample asked : Option Text) (settings : Settings) 
       })
 
   of_values : (mode : Option Mode) (sets : Option Sets) (ratio most : Option ℕ) → ((n : ℕ) → ratio ≡ Some n → within 0 1000000 n) → ((n : ℕ) → most ≡ Some n → within 1 8388608 n)
-      → option_and_then (λ m. option_and_then (λ t. option_and_then (λ r. option_and_then (λ p. parts m t r p (source_of m sample names) (given_of m asked)) most) ratio) sets) mode ≡ Some settings
+      → option_and_then (λ m. option_and_then (λ t. option_and_then (λ r. option_and_then (λ p. parts m t r p (source_of m sample names) (given_for m asked)) most) ratio) sets) mode ≡ Some settings
       → AreBounded settings
   of_values None sets ratio most r p e = absurd cc
   of_values (Some mode) None ratio most r p e = absurd cc
   of_values (Some mode) (Some sets) None most r p e = absurd cc
   of_values (Some mode) (Some sets) (Some ratio) None r p e = absurd cc
   of_values (Some mode) (Some sets) (Some ratio) (Some most) r p e =
-      of_parts mode sets ratio most (r ratio refl) (p most refl) (source_of mode sample names) refl (given_of mode asked) refl e
+      of_parts mode sets ratio most (r ratio refl) (p most refl) (source_of mode sample names) refl (given_for mode asked) refl e
 
 bounds_in : (rows : List Row) (settings : Settings) → settings_in rows ≡ Some settings → AreBounded settings
 bounds_in rows settings is =

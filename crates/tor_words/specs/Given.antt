@@ -59,6 +59,7 @@ alone (mode ∷ other ∷ modes) = None
 abbrev pub has_flag : Text → List Row → Bool
 has_flag name rows = is_true_text (first_of name rows)
 
+-- whether the option is there
 abbrev pub has_option : Text → List Row → Bool
 has_option name rows = is_some (first_of name rows)
 
@@ -107,22 +108,24 @@ dumps_of (Result result) names = []
 dumps_of _ names = names
 
 -- whether orientations that are made of dumps stand behind what is written, and known relationships may bind them
-abbrev pub takes_given : Mode → Bool
-takes_given Labels = true
-takes_given Ties = true
-takes_given Serial = true
-takes_given _ = false
+abbrev pub may_have_given : Mode → Bool
+may_have_given Labels = true
+may_have_given Ties = true
+may_have_given Serial = true
+may_have_given _ = false
 
 -- the file of known relationships, if one is named, which is refused where nothing is bound by it
-abbrev pub given_of : Mode → Option Text → Option (Option Text)
-given_of mode None = Some None
-given_of mode (Some name) = if takes_given mode then Some (Some name) else None
+abbrev pub given_for : Mode → Option Text → Option (Option Text)
+given_for mode None = Some None
+given_for mode (Some name) = if may_have_given mode then Some (Some name) else None
 
+-- what the matches say of what is read
 abbrev pub source_in : List Row → Mode → Option Source
 source_in rows mode = source_of mode (first_of (codes "sample") rows) (names_in rows)
 
+-- and of known relationships
 abbrev pub given_in : List Row → Mode → Option (Option Text)
-given_in rows mode = given_of mode (first_of (codes "given") rows)
+given_in rows mode = given_for mode (first_of (codes "given") rows)
 
 -- the settings that these matches give, if they ask for something and their values are some
 abbrev pub settings_in : List Row → Option Settings
@@ -171,7 +174,7 @@ IsWrittenOf (Result result) mode = mode ≡ Migrate
 
 -- known relationships stand only where they bind something
 abbrev pub IsGivenTo : Mode → Option Text → Type 0
-IsGivenTo mode given = IfSome given (λ name. IsTrue (takes_given mode))
+IsGivenTo mode given = IfSome given (λ name. IsTrue (may_have_given mode))
 
 -- the numbers are within their bounds, dumps are named exactly where files of dumps are read, and what is written and what is given go
 -- with what is read

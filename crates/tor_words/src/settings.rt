@@ -3,7 +3,7 @@ ghost use Rattle.std.specs.Prelude.{◌≡◌, ◌≤◌, IfOk, IfErr, OnErr, So
 ghost use Rattle.clap.specs.Words.{found_of, rows_of, first_of};
 ghost use Rattle.tor_arena.specs.Limits.{max_paths, max_ratio};
 ghost use Rattle.tor_words.specs.Given.{settings_in, settings_given, names_in, has_flag, has_option, mode_in, of_sample, of_result};
-ghost use Rattle.tor_words.specs.Given.{source_of, dumps_of, takes_given, given_of, number_or, sets_or_cut, HasDumps};
+ghost use Rattle.tor_words.specs.Given.{source_of, dumps_of, may_have_given, given_for, number_or, sets_or_cut, HasDumps};
 ghost use Rattle.tor_words.specs.Refused.{IsUsage, SaysUsage};
 
 use crate::command::command;
@@ -36,8 +36,8 @@ pub enum Mode {
 
 impl Mode {
     // Whether orientations that are made of dumps stand behind what is written, and known relationships may bind them.
-    fn takes_given(self) -> bool
-        ensures { result ≡ takes_given self }
+    fn may_have_given(self) -> bool
+        ensures { result ≡ may_have_given self }
     {
         match self {
             Mode::Labels | Mode::Ties | Mode::Serial => true,
@@ -243,14 +243,14 @@ fn source_of(
 }
 
 // The file of known relationships, if one is named; or why it can't be.
-fn given_of(alloc: Global, mode: Mode, given: Option<&str>) -> Result<Option<Name>, WordsRefused>
-    ensures ok { IfOk result (λ name. given_of mode (option_map (λ s. s.now) given.entry) ≡ Some name) }
-    ensures err { IfErr result (λ e. IsUsage e → given_of mode (option_map (λ s. s.now) given.entry) ≡ None) }
+fn given_for(alloc: Global, mode: Mode, given: Option<&str>) -> Result<Option<Name>, WordsRefused>
+    ensures ok { IfOk result (λ name. given_for mode (option_map (λ s. s.now) given.entry) ≡ Some name) }
+    ensures err { IfErr result (λ e. IsUsage e → given_for mode (option_map (λ s. s.now) given.entry) ≡ None) }
     ensures text { IfErr result SaysUsage }
 {
     match given {
         None => Ok(None),
-        Some(_) if !mode.takes_given() => Err(usage(alloc, GIVEN_ALONE)),
+        Some(_) if !mode.may_have_given() => Err(usage(alloc, GIVEN_ALONE)),
         Some(text) => match Name::from_text(alloc, text) {
             Ok(name) => Ok(Some(name)),
             Err(_) => Err(WordsRefused::NoMemory),
@@ -279,7 +279,7 @@ fn settings_in(alloc: Global, matches: &ArgMatches) -> Result<Settings, WordsRef
         Ok(source) => source,
         Err(why) => return Err(usage(alloc, why)),
     };
-    match given_of(alloc, choices.mode, first(matches, "given")) {
+    match given_for(alloc, choices.mode, first(matches, "given")) {
         Ok(given) => Ok(Settings {
             mode: choices.mode,
             source,

@@ -3,7 +3,7 @@ ghost use Rattle.std.specs.Prelude.{◌≡◌, ◌↔◌, ◌<◌, length, IsTru
 ghost use Rattle.relationships.specs.Relationship.{label_of};
 ghost use Rattle.relationships.specs.Givens.{end_by};
 ghost use Rattle.rel_checker.specs.Flipping.{edges_of, AreApart};
-ghost use Rattle.rel_checker.specs.GivenLabels.{HasLabelAt, HasLabelsAt, lesser};
+ghost use Rattle.rel_checker.specs.GivenLabels.{HasLabelAt, HasLabelsAt, lesser_place};
 ghost use Rattle.rel_checker.specs.Serving.{First};
 
 use crate::edges::labels::Labels;
@@ -22,7 +22,7 @@ pub(crate) fn find_contradicted(
 {
     let mut first = None;
     for given in givens {
-        first = lesser(first, contradicted_by(given, table, labels));
+        first = lesser_place(first, contradicted_by(given, table, labels));
     }
     first
 }
@@ -54,9 +54,9 @@ fn has_provider(label: Label, given: &Given) -> bool
     }
 }
 
-/// The lesser of two places, if there is one.
-fn lesser(first: Option<usize>, second: Option<usize>) -> Option<usize>
-    ensures { result ≡ lesser first second }
+/// The lesser_place of two places, if there is one.
+fn lesser_place(first: Option<usize>, second: Option<usize>) -> Option<usize>
+    ensures { result ≡ lesser_place first second }
 {
     match (first, second) {
         (None, _) => second,

@@ -5,7 +5,7 @@ use Rattle.tor_arena.proofs.Gets.{read_of}
 use Rattle.relationships.specs.declared.given.Given.{Given}
 use Rattle.relationships.specs.Graph.{edge_of, is_same}
 use Rattle.result_rules.specs.File.{its_givens}
-use Rattle.rel_checker.specs.GivenHeads.{IsNewAt}
+use Rattle.rel_checker.specs.GivenHeads.{IsNewGivenAt}
 use Rattle.rel_checker.proofs.GivenFirsts.{was_there, was_not_there, not_new, is_new, known_more}
 use Rattle.rel_checker.proofs.Lines.{before-more}
 use Rattle.rel_checker.proofs.givens.find_unsound_given.Goals as goal
@@ -35,7 +35,7 @@ loop-place-preserved c =
     let at = read_of items givens c.loop-place.place no_given c.givens_of-given-items.ensures lt in
     let absent = was_not_there (list_any (is_same (edge_of g.over g.under)) c.loop-place.table) c.in_ok-add.field-0.is_new c.in_ok-add.ensures.is_new c.if-not-branch.false in
     record {
-      new = before-more (IsNewAt c.args.file.now) c.loop-place.place c.loop-place.invariant.new
+      new = before-more (IsNewGivenAt c.args.file.now) c.loop-place.place c.loop-place.invariant.new
           (is_new c.args.file.now c.loop-place.place g at c.loop-place.table c.loop-place.invariant.known c.if-given.false absent);
       known = known_more c.args.file.now c.loop-place.place g at c.loop-place.table c.loop-place.invariant.known c.add.new.self absent c.in_ok-add.ensures.ok;
     }

@@ -12,7 +12,7 @@ loop-given-preserved c =
     let lines = c.args.labels.now in
     let givens = c.args.givens.now in
     let i = c.loop-given.given-index in
-    subst (First (HasLabelsAt lines (take (i + 1) givens)) (length lines)) (sym c.lesser-first.ensures)
+    subst (First (HasLabelsAt lines (take (i + 1) givens)) (length lines)) (sym c.lesser_place-first.ensures)
     (labels_more lines (take i givens) (take (i + 1) givens) _ c.loop-given.first c.contradicted_by.result (take_get givens i _ (slice_get-get_or givens i _ c.loop-given-test.true))
     c.loop-given.invariant c.contradicted_by.ensures)
 
