@@ -173,31 +173,41 @@ found-within (row ∷ others) path k is = by (bytes_eq row.path path) (place_of 
 
 -- a path that is new
 
-pub record IsLast (paths : List (List ℕ)) (times path : List ℕ) : Type 0 where
-  pub place : place_of (counted_by paths times) path ≡ None
-  pub rows : counted_by (paths ++ path ∷ []) (times ++ 1 ∷ []) ≡ with_path (counted_by paths times) path
-
-pub last-at : (paths : List (List ℕ)) (times path : List ℕ) → length times ≡ length paths → list_any (λ other. bytes_eq other path) paths ≡ false → IsLast paths times path
-last-at [] [] path same none = record { place = refl; rows = refl }
-last-at [] (n ∷ ns) path same none = absurd (omega arith)
-last-at (x ∷ xs) [] path same none = absurd (omega arith)
-last-at (x ∷ xs) (n ∷ ns) path same none = by (λ h. last-at xs ns path (omega arith) h) (bytes_eq x path) refl none
+pub last-at : (paths : List (List ℕ)) (times path : List ℕ) → length times ≡ length paths → list_any (λ other. bytes_eq other path) paths ≡ false → place_of (counted_by paths times) path ≡ None
+last-at [] times path same none = refl
+last-at (x ∷ xs) [] path same none = absurd (omega (arith, same))
+last-at (x ∷ xs) (n ∷ ns) path same none = by (λ h. last-at xs ns path (omega (arith, same)) h) (bytes_eq x path) refl none
   where
-    by : (list_any (λ other. bytes_eq other path) xs ≡ false → IsLast xs ns path) → (b : Bool) → bytes_eq x path ≡ b → (b || list_any (λ other. bytes_eq other path) xs) ≡ false
-        → IsLast (x ∷ xs) (n ∷ ns) path
+    by : (list_any (λ other. bytes_eq other path) xs ≡ false → place_of (counted_by xs ns) path ≡ None) → (b : Bool) → bytes_eq x path ≡ b → (b || list_any (λ other. bytes_eq other path) xs) ≡ false
+        → place_of (counted_by (x ∷ xs) (n ∷ ns)) path ≡ None
     by ih true e h = absurd cc
-    by ih false e h = record {
-      place = ap (λ b. cond b (Some 0) (option_map suc (place_of (counted_by xs ns) path))) e ∙ ap (option_map suc) (ih h).place;
-      rows = ap (λ (t : List Counted). record { path = x; times = n } ∷ t) (ih h).rows
-          ∙ sym (ap (λ b. cond b (record { path = x; times = one_more n } ∷ counted_by xs ns) (record { path = x; times = n } ∷ with_path (counted_by xs ns) path)) e);
-    }
+    by ih false e h = ap (λ b. cond b (Some 0) (option_map suc (place_of (counted_by xs ns) path))) e ∙ ap (option_map suc) (ih h)
+
+-- a path with its times at the end
+pub counted_by-push : (paths : List (List ℕ)) (times path : List ℕ) (n : ℕ) → length times ≡ length paths
+    → counted_by (paths ++ path ∷ []) (times ++ n ∷ []) ≡ counted_by paths times ++ record { path = path; times = n } ∷ []
+counted_by-push [] [] path n same = refl
+counted_by-push [] (m ∷ ms) path n same = absurd (omega (arith, same))
+counted_by-push (x ∷ xs) [] path n same = absurd (omega (arith, same))
+counted_by-push (x ∷ xs) (m ∷ ms) path n same = ap (λ (t : List Counted). record { path = x; times = m } ∷ t) (counted_by-push xs ms path n (omega (arith, same)))
+
+-- a path that has no place is counted once, at the end
+pub with_path-new : (rows : List Counted) (path : List ℕ) → place_of rows path ≡ None → with_path rows path ≡ rows ++ record { path = path; times = 1 } ∷ []
+with_path-new [] path none = refl
+with_path-new (row ∷ rows) path none = by (bytes_eq row.path path) refl (place_of rows path) none (with_path-new rows path)
+  where
+    by : (b : Bool) → bytes_eq row.path path ≡ b → (o : Option ℕ) → cond b (Some 0) (option_map suc o) ≡ None
+        → (o ≡ None → with_path rows path ≡ rows ++ record { path = path; times = 1 } ∷ []) → with_path (row ∷ rows) path ≡ row ∷ (rows ++ record { path = path; times = 1 } ∷ [])
+    by true e o is ih = absurd cc
+    by false e None is ih = ap (λ b. cond b (record { path = row.path; times = one_more row.times } ∷ rows) (row ∷ with_path rows path)) e ∙ ap (λ (t : List Counted). row ∷ t) (ih refl)
+    by false e (Some k) is ih = absurd cc
 
 -- what was found is where the path stands
 pub found-at : (paths : List (List ℕ)) (times path : List ℕ) (found : Option ℕ) → length times ≡ length paths → none_twice paths ≡ true
     → IfSome found (λ k. (k < length paths) × (row_at paths k ≡ path)) → IfNone found ((k : ℕ) → k < length paths → row_at paths k ≢ path)
     → found ≡ place_of (counted_by paths times) path
 found-at paths times path (Some k) same once is absent = sym (again-at paths times path k same once is.0 is.1).place
-found-at paths times path None same once is absent = sym (last-at paths times path same (none-any paths path absent)).place
+found-at paths times path None same once is absent = sym (last-at paths times path same (none-any paths path absent))
 
 -- a path that has no place is none of the paths
 pub absent-at : (paths : List (List ℕ)) (times path : List ℕ) → length times ≡ length paths → place_of (counted_by paths times) path ≡ None
@@ -236,11 +246,11 @@ once-push (x ∷ xs) p once none =
     by ih false true e f first h = absurd (both_ways (bytes_eq x p) e (eq_self x p (sym (eq_true p x f))))
     by ih false false e f first h = ap₂ (λ a b. not a && b) (any-append xs p x ∙ ap₂ (λ a b. a || b) first f) (ih h)
 
-pub IsTable-push : (limit numbers : ℕ) (paths : List (List ℕ)) (times path : List ℕ) → IsTable limit numbers paths times → length paths < limit → numbers + length path ≤ 2 ^ 26
-    → is_cleaned path ≡ true → list_any (λ other. bytes_eq other path) paths ≡ false → IsTable limit (numbers + length path) (paths ++ path ∷ []) (times ++ 1 ∷ [])
-IsTable-push limit numbers paths times path t room short clean none =
+pub IsTable-push : (limit numbers : ℕ) (paths : List (List ℕ)) (times path : List ℕ) (n : ℕ) → IsTable limit numbers paths times → length paths < limit → numbers + length path ≤ 2 ^ 26
+    → is_cleaned path ≡ true → 1 ≤ n → list_any (λ other. bytes_eq other path) paths ≡ false → IsTable limit (numbers + length path) (paths ++ path ∷ []) (times ++ n ∷ [])
+IsTable-push limit numbers paths times path n t room short clean seen none =
     let more = length-append paths (path ∷ []) in
-    let many = length-append times (1 ∷ []) in
+    let many = length-append times (n ∷ []) in
     let same = t.same in record {
       bound = t.bound;
       few = omega (arith, more, room);
@@ -249,7 +259,7 @@ IsTable-push limit numbers paths times path t room short clean none =
       short = short;
       clean = list_all-append is_cleaned paths (path ∷ []) ∙ ap₂ (λ a b. a && (b && true)) t.clean clean;
       once = once-push paths path t.once none;
-      some = list_all-append (nat_le 1) times (1 ∷ []) ∙ ap (λ a. a && true) t.some;
+      some = list_all-append (nat_le 1) times (n ∷ []) ∙ ap₂ (λ a b. a && (b && true)) t.some (le-leb 1 n seen);
     }
 
 -- how many rows, numbers and rows at most a table is seen to have, beside what it holds

@@ -1,6 +1,6 @@
 //! The table of distinct paths.
 ghost use Rattle.std.specs.Prelude.{◌≡◌, ◌+◌, ◌<◌, ◌≤◌, ◌↔◌, [], All, Some, None, length, option_map, slice_get, sum_by, IsTrue, IsSome};
-ghost use Rattle.std.specs.Prelude.{IsOk, IfOk, OnOk, OnErr};
+ghost use Rattle.std.specs.Prelude.{◌++◌, ◌∷◌, IsOk, IfOk, OnOk, OnErr};
 ghost use Rattle.std.specs.List.{list_all};
 ghost use Rattle.tor_arena.specs.Distinct.{AllDistinct};
 ghost use Rattle.tor_arena.specs.Limits.{max_paths, max_numbers};
@@ -121,6 +121,46 @@ impl PathTable {
         ensures limit { self.new.limit ≡ self.old.limit }
         ensures unchanged { OnErr result (self.new.rows ≡ self.old.rows) }
     {
+        self.add_or_count(path, 1)
+    }
+
+    /// Adds a clean path that isn't there so many times at once, at least 1: it goes last with these times. TooManyPaths exactly where as
+    /// many paths are there as may be. TooManyNumbers exactly where fewer are there, and the lengths would sum above 2^26. NoMemory where
+    /// memory ran out. All three leave the table as it was.
+    pub fn add_times(&mut self, path: &[u32], times: u64) -> Result<PathId, AddRefused>
+        requires clean { IsTrue (is_cleaned path.now) }
+        requires new { place_of self.old.rows path.now ≡ None }
+        requires seen { 1 ≤ times }
+        ensures added { OnOk result (self.new.rows ≡ self.old.rows ++ record { path = path.now; times = times } ∷ []) }
+        ensures place { IfOk result (λ id. id ≡ length self.old.rows) }
+        ensures paths { (result ≡ Err AddRefused.TooManyPaths) ↔ IsPathTooMany self.old path.now }
+        ensures numbers { (result ≡ Err AddRefused.TooManyNumbers) ↔ HasNumbersTooMany self.old path.now }
+        ensures limit { self.new.limit ≡ self.old.limit }
+        ensures unchanged { OnErr result (self.new.rows ≡ self.old.rows) }
+    {
+        match self.add_or_count(path, times) {
+            Ok(added) => match added {
+                Added::New(id) => Ok(id),
+                Added::Known(_) => unreachable!(),
+            },
+            Err(refused) => Err(refused),
+        }
+    }
+
+    // Counts a clean path that is there once more, and adds one that isn't with these times: it goes last. It is refused as by `add`.
+    fn add_or_count(&mut self, path: &[u32], times: u64) -> Result<Added, AddRefused>
+        requires clean { IsTrue (is_cleaned path.now) }
+        requires seen { 1 ≤ times }
+        ensures counted { IsSome (place_of self.old.rows path.now) → self.new.rows ≡ with_path self.old.rows path.now }
+        ensures added { OnOk result (place_of self.old.rows path.now ≡ None →
+            self.new.rows ≡ self.old.rows ++ record { path = path.now; times = times } ∷ []) }
+        ensures answer { IfOk result (Names self.old.rows path.now) }
+        ensures known { IsSome (place_of self.old.rows path.now) → IsOk result }
+        ensures paths { (result ≡ Err AddRefused.TooManyPaths) ↔ IsPathTooMany self.old path.now }
+        ensures numbers { (result ≡ Err AddRefused.TooManyNumbers) ↔ HasNumbersTooMany self.old path.now }
+        ensures limit { self.new.limit ≡ self.old.limit }
+        ensures unchanged { OnErr result (self.new.rows ≡ self.old.rows) }
+    {
         let tag = self.paths.tag_of(path);
         match self.paths.seek(tag, path) {
             SearchEnd::Held(id) => {
@@ -137,7 +177,7 @@ impl PathTable {
                 let Ok(id) = self.paths.push(tag, end, path) else {
                     return Err(AddRefused::NoMemory);
                 };
-                self.counts.push_reserved(1);
+                self.counts.push_reserved(times);
                 self.numbers += path.len();
                 Ok(Added::New(id))
             }

@@ -417,6 +417,33 @@ fn a_table_of_two_paths(rt: HostRuntime) {
     assert!(rt; are_rows(table.rows(), &ADDED) && are_parts(table));
 }
 
+/// Where a clean path that isn't there stands in a table, to which it is added so many times at once.
+fn place_with_times(
+    table: &mut PathTable,
+    path: &[u32],
+    times: u64,
+) -> Option<Result<usize, AddRefused>> {
+    if times == 0 || !is_cleaned(path) || table.find(path).is_some() {
+        return None;
+    }
+    match table.add_times(path, times) {
+        Ok(id) => Some(Ok(id.place())),
+        Err(refused) => Some(Err(refused)),
+    }
+}
+
+#[test]
+fn a_path_is_added_with_its_times(rt: HostRuntime) {
+    let mut table = PathTable::new(rt.alloc(), Keys::new(&rt), 1);
+    assert!(rt;
+        place_with_times(&mut table, &[10, 20], 3) == Some(Ok(0))
+            && place_with_times(&mut table, &[10, 30], 1) == Some(Err(AddRefused::TooManyPaths))
+    );
+    assert!(rt;
+        place_added(&mut table, &[10, 20]) == Some(Ok(0)) && times_at(&table, 0) == Some(4)
+    );
+}
+
 /// How many paths the table of many paths has.
 const MANY: u32 = 5000;
 
