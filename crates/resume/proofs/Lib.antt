@@ -1,0 +1,4 @@
+pub mod EarlierRows
+pub mod Keeping
+pub mod Orienting
+pub mod Turning
