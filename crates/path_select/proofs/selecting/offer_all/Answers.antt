@@ -1,14 +1,10 @@
-use Rattle.std.proofs.Common.{rules, ◌+◌, ◌≡◌, ◌<◌, ◌≤◌, ◌++◌, ◌∙◌, ℕ, List, length, take, map, is_none, refl, subst, sym, ap, arith}
+use Rattle.std.proofs.Common.{rules, ◌+◌, ◌≡◌, ◌<◌, length, refl, subst, sym, ap, arith}
 use Rattle.std.specs.Prelude.{IfSome}
-use Rattle.relationships.specs.Selection.{KeepsFrom}
-use Rattle.as_graph.specs.Paths.{paths_at}
-use Rattle.tor_clauses.specs.Formulas.{numbered}
-use Rattle.relationships.specs.Checking.{LostFrom, kept_of}
 use Rattle.relationships.specs.declared.fate.Fate.{Fate}
 use Rattle.relationships.specs.Fates.{walk_of}
 use Rattle.path_select.specs.Choices.{Choice}
 use Rattle.path_select.specs.Refusals.{AreRefused}
-use Rattle.path_select.proofs.Selections.{IsSoFar, next_at, none_so_far}
+use Rattle.path_select.proofs.Selections.{IsSoFar, next_at, none_so_far, same_so_far, keeps_rest, lost_rest, kept_rest}
 use Rattle.path_select.proofs.Relinking.{none_refused}
 use Rattle.path_select.proofs.selecting.offer_all.Goals as goal
 
@@ -17,10 +13,14 @@ same_formula Fate.Kept new old lost = tt
 same_formula (Fate.Lost walk) new old lost = ap (λ (c : Choice). c.formula) lost
 
 pub loop-place-init : goal.loop-place-init
-loop-place-init c = record {
-  so = none_so_far c.args.graph.now c.args.selector.now.formula.paths c.args.fates.now c.args.selector.now.formula c.requires.none c.requires.fits refl;
-  refused = none_refused c.args.graph.now c.args.selector.now.formula.paths c.args.fates.now c.args.refusals.now.items c.requires.refused;
-}
+loop-place-init c =
+    let le = c.requires.begun in
+    let all = c.requires.count in
+    record {
+      so = none_so_far c.args.graph.now c.args.selector.now.formula.paths c.args.fates.now c.len-place.result c.args.selector.now.formula
+          c.len-place.ensures (omega (arith, le, all)) c.requires.fits refl;
+      refused = none_refused c.args.graph.now c.args.selector.now.formula.paths c.args.fates.now c.args.refusals.now.items c.requires.refused;
+    }
 
 pub offer-requires-clause-next : goal.offer-requires-clause-next
 offer-requires-clause-next c =
@@ -37,31 +37,40 @@ loop-place-preserved c =
     let refused = c.in_ok-fate.ensures.refused in
     let e = c.in_ok-fate.ensures.offered in
     let added = sym c.in_ok-add.ensures in
-    let next = next_at graph c.args.selector.now.formula.paths c.loop-place.place c.loop-place.fates c.loop-place.selector.formula c.loop-place.invariant.so lt c.unwrap-path.result same fate
-    c.offer.new.selector.formula e.fits e.exact e.kept (same_formula fate c.offer.new.selector c.loop-place.selector e.lost) e.walk in
+    let next = next_at graph c.args.selector.now.formula.paths c.args.fates.now c.loop-place.place c.loop-place.fates c.loop-place.selector.formula c.loop-place.invariant.so lt
+    c.unwrap-path.result same fate c.offer.new.selector.formula e.fits e.exact e.kept (same_formula fate c.offer.new.selector c.loop-place.selector e.lost) e.walk in
     record {
-      so = subst (λ fates. IsSoFar graph c.args.selector.now.formula.paths (c.loop-place.place + 1) fates c.offer.new.selector.formula) added next;
+      so = subst (λ fates. IsSoFar graph c.args.selector.now.formula.paths c.args.fates.now (c.loop-place.place + 1) fates c.offer.new.selector.formula) added next;
       refused = subst (λ fates. AreRefused graph c.offer.new.selector.formula.paths fates c.offer.new.refusals.items) added refused;
     }
 
--- all are offered
-all_offered : (graph : List (List ℕ)) (place count : ℕ) → count ≤ place → place ≤ count → take place graph ≡ take count graph
-all_offered graph place count end le = let same : place ≡ count = omega (arith, end, le) in ap (λ k. take k graph) same
+pub returns-clause-same : goal.returns-clause-same
+returns-clause-same c =
+    let end = c.loop-place-test.false in
+    let le = c.loop-place.auto.place-end in
+    same_so_far c.args.graph.now c.args.selector.now.formula.paths c.args.fates.now c.loop-place.place c.args.count c.loop-place.fates c.loop-place.selector.formula
+    (omega (arith, end, le)) c.loop-place.invariant.so
 
 pub returns-clause-keeps : goal.returns-clause-keeps
 returns-clause-keeps c =
-    let whole = all_offered c.args.graph.now c.loop-place.place c.args.count c.loop-place-test.false c.loop-place.auto.place-end in
-    subst (λ paths. KeepsFrom (paths_at c.args.graph.now c.args.selector.now.formula.paths) paths (map is_none (map walk_of c.loop-place.fates))) whole c.loop-place.invariant.so.keeps
+    let end = c.loop-place-test.false in
+    let le = c.loop-place.auto.place-end in
+    keeps_rest c.args.graph.now c.args.selector.now.formula.paths c.args.fates.now c.loop-place.place c.args.count c.loop-place.fates c.loop-place.selector.formula
+    (omega (arith, end, le)) c.loop-place.invariant.so
 
 pub returns-clause-lost : goal.returns-clause-lost
 returns-clause-lost c =
-    let whole = all_offered c.args.graph.now c.loop-place.place c.args.count c.loop-place-test.false c.loop-place.auto.place-end in
-    subst (λ paths. LostFrom 1 (numbered c.args.graph.now c.args.selector.now.formula.paths) paths (map walk_of c.loop-place.fates)) whole c.loop-place.invariant.so.lost
+    let end = c.loop-place-test.false in
+    let le = c.loop-place.auto.place-end in
+    lost_rest c.args.graph.now c.args.selector.now.formula.paths c.args.fates.now c.loop-place.place c.args.count c.loop-place.fates c.loop-place.selector.formula
+    (omega (arith, end, le)) c.loop-place.invariant.so
 
 pub returns-clause-kept : goal.returns-clause-kept
 returns-clause-kept c =
-    let whole = all_offered c.args.graph.now c.loop-place.place c.args.count c.loop-place-test.false c.loop-place.auto.place-end in
-    c.loop-place.invariant.so.kept ∙ ap (λ paths. numbered c.args.graph.now c.args.selector.now.formula.paths ++ kept_of paths (map walk_of c.loop-place.fates)) whole
+    let end = c.loop-place-test.false in
+    let le = c.loop-place.auto.place-end in
+    kept_rest c.args.graph.now c.args.selector.now.formula.paths c.args.fates.now c.loop-place.place c.args.count c.loop-place.fates c.loop-place.selector.formula
+    (omega (arith, end, le)) c.loop-place.invariant.so
 
 pub returns-clause-fits : goal.returns-clause-fits
 returns-clause-fits c = c.loop-place.invariant.so.fits
