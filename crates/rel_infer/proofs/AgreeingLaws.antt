@@ -16,7 +16,7 @@ use Rattle.relationships.specs.Preference.{IsPreferred}
 use Rattle.relationships.specs.Checking.{kept_of, claimed_labels}
 use Rattle.relationships.specs.Marking.{is_forced}
 use Rattle.relationships.specs.GivenEvidence.{MeetsAgreeingRules}
-use Rattle.relationships.specs.Givens.{names_edge, LabelsSay, return_of, returns, end_by}
+use Rattle.relationships.specs.Givens.{names_edge, LabelsSay, return_of, returns, end_by, NameTwo, NameOnce}
 use Rattle.relationships.proofs.Slopes.{over_parts}
 use Rattle.relationships.proofs.Neighbours.{edge_law}
 use Rattle.relationships.proofs.Checked.{label_of_claim}
@@ -175,6 +175,16 @@ all_agreeing_law givens paths two once = (
       let all = forced_among (AgreesWithAll givens) (map return_of givens) kept (with_all givens kept) low high in
       ((λ f. all.0 (near.0 f)), (λ f. near.1 (all.1 f))),
 )
+
+-- some of the paths are kept behind the returns of the givens on all paths as they are behind those on themselves
+pub kept_among_more : (givens : List Given) (paths some : List (List ℕ)) → NameTwo givens → NameOnce givens → ((p : List ℕ) → Contains some p → Contains paths p) → (keeps : List Bool) →
+    KeepsFrom (returns some givens) some keeps → KeepsFrom (returns paths givens) some keeps
+kept_among_more givens paths some two once sub keeps h =
+    (keeps_among some (AgreesWithAll givens) (returns paths givens)
+    (λ ps inside.
+    let near = (all_givens_law givens paths ps two once (edges_in ps paths (λ p c. sub p (inside p c)))).0 in
+    let all = servable_among (AgreesWithAll givens) (map return_of givens) ps (with_all givens ps) in
+    ((λ s. all.0 (near.0 s)), (λ s. near.1 (all.1 s)))) keeps).1 (((all_agreeing_law givens some two once).1 keeps).0 h)
 
 -- ---- the line of an edge that a given names
 

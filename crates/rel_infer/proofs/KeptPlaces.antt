@@ -1,5 +1,5 @@
 -- The places of kept paths, behind those that are kept first: no two are the same.
-use Rattle.std.proofs.Common.{◌≡◌, ◌≢◌, ℕ, suc, ◌+◌, ◌≤◌, ◌<◌, Bool, true, false, if◌then◌else◌, List, [], ◌∷◌, ◌++◌, length, drop, refl, sym, ap, ap₂, ◌∙◌, subst, arith, length-append, All}
+use Rattle.std.proofs.Common.{◌≡◌, ◌≢◌, ℕ, zero, suc, ◌+◌, ◌≤◌, ◌<◌, Bool, true, false, if◌then◌else◌, List, [], ◌∷◌, ◌++◌, length, drop, refl, sym, ap, ap₂, ◌∙◌, subst, arith, length-append, All}
 use Rattle.std.specs.List.{AllByRecursion, AllPairs}
 use Rattle.std.proofs.lemmas.List.Elements.{All-from_recursion, recursion_from_All}
 use Rattle.relationships.specs.Evidence.{kept_from, paths_of}
@@ -128,6 +128,11 @@ module _ (graph paths : List (List ℕ)) (all : List ℕ) (n k : ℕ) (keeps : L
   counted_distinct P h =
       subst (All P) (sym counted_paths)
       (All-from_recursion P (paths_of (kept_from 1 paths keeps)) (kept_all P 1 paths keeps (recursion_from_All P paths h)))
+
+-- there are so many places
+pub places_many : (n k : ℕ) → length (places_from n k) ≡ k
+places_many n zero = refl
+places_many n (suc k) = ap suc (places_many (n + 1) k)
 
 -- there is a flag for each path
 pub keeps_many : (kept paths : List (List ℕ)) (keeps : List Bool) → KeepsFrom kept paths keeps → length keeps ≡ length paths

@@ -6,9 +6,13 @@ pub mod Whole
 pub mod KeptPlaces
 pub mod Labels
 pub mod LineLemmas
+pub mod Continuing
+pub mod Joined
 pub mod Linking
+pub mod LinksLeft
 pub mod OneGivenResult
 pub mod OneResult
+pub mod Past
 pub mod Relinked
 pub mod ReturnRows
 pub mod SelfAcceptance

@@ -1,6 +1,7 @@
 -- What the parts of an inference give together.
 use Rattle.std.proofs.Common.{◌≡◌, ◌↔◌, ◌==◌, ◌||◌, min, max, ℕ, Bool, List, [], ◌++◌, map, take, length, Option, is_none, count_by, sym, ap, ap₂, ◌∙◌, subst, arith, All, Contains, IsTrue}
 use Rattle.std.proofs.lemmas.List.{map-append}
+use Rattle.relationships.specs.declared.fate.Fate.{Fate}
 use Rattle.relationships.specs.declared.given.Given.{Given}
 use Rattle.relationships.specs.declared.label.End.{End}
 use Rattle.relationships.specs.declared.walk.Walk.{Walk}
@@ -10,7 +11,7 @@ use Rattle.relationships.specs.Evidence.{Numbered, paths_of, kept_from}
 use Rattle.relationships.specs.Fates.{walk_of}
 use Rattle.relationships.specs.Preference.{ServeEitherWay, NoneLeftOut, wanted}
 use Rattle.relationships.specs.Selection.{KeepsFrom, IsForced}
-use Rattle.relationships.specs.Checking.{Claim, MarksHold, LostFrom, kept_of, claimed_labels}
+use Rattle.relationships.specs.Checking.{Claim, MarksHold, kept_of, claimed_labels}
 use Rattle.relationships.specs.Marking.{claims_of, orders_of}
 use Rattle.relationships.specs.Givens.{AgreesWith, returns}
 use Rattle.relationships.specs.GivenEvidence.{LostFromWith, MarksHoldWith}
@@ -52,9 +53,9 @@ labels_with givens ratio paths kept L among free by =
     }
 
 -- the flags are those of these walks, and the graph has the edges of the paths
-module _ (givens : List Given) (ratio : ℕ) (paths graph : List (List ℕ)) (first : List ℕ) (i : Inferred) (walks : List (Option Walk))
+module _ (givens : List Given) (ratio : ℕ) (paths graph : List (List ℕ)) (first : List ℕ) (begun : List Fate) (i : Inferred) (walks : List (Option Walk))
     (same_edges : edges graph ≡ edges paths) (front : take (length paths) graph ≡ paths) (at_first : paths_at graph first ≡ returns paths givens)
-    (are : AreInferredIn ratio graph first (length paths) i) (flags : map is_none (map walk_of i.fates) ≡ map is_none walks) where
+    (are : AreInferredIn ratio graph first (length paths) begun i) (flags : map is_none (map walk_of i.fates) ≡ map is_none walks) where
   abbrev kept : Numbered
   kept = kept_of paths walks
 
@@ -110,9 +111,6 @@ module _ (givens : List Given) (ratio : ℕ) (paths graph : List (List ℕ)) (fi
   borne =
       subst (λ A. MarksHold A (map claim_on i.found.edges) i.found.whys (orders_of i.found.probes)) all_kept
       (subst (λ l. MarksHold (numbered_of graph are.formula) l i.found.whys (orders_of i.found.probes)) same_claims are.found.borne)
-
-  pub lost_in : LostFrom 1 (numbered graph first) paths (map walk_of i.fates)
-  lost_in = subst (λ ps. LostFrom 1 (numbered graph first) ps (map walk_of i.fates)) front are.lost
 
   pub marks_in : MarksHold (numbered graph first ++ kept_of paths walks) (map claim_on i.found.edges) i.found.whys (orders_of i.found.probes)
   marks_in = borne

@@ -16,8 +16,8 @@ use Rattle.rel_infer.specs.GivenResults.{IsResultWith, IsInferredWith, PeerEithe
 use Rattle.result_rules.specs.Totals.{totals_by}
 use Rattle.rel_infer.proofs.Assembling.{rows_same, walks_same}
 
-module _ (known : Option (List Given)) (sets : Sets) (ratio : ℕ) (rows : List Counted) (counts : CauseCounts) (paths : List (List ℕ)) (times : List ℕ) (i : Inferred) (lines : List PathLine)
-    (totals : Totals) (its_rows : paths ≡ row_paths rows) (its_times : times ≡ times_of rows) (are : AreInferredWith (unwrap_or known []) ratio paths i)
+module _ (known : Option (List Given)) (sets : Sets) (ratio : ℕ) (counts : CauseCounts) (paths : List (List ℕ)) (times : List ℕ) (i : Inferred) (lines : List PathLine)
+    (totals : Totals) (are : AreInferredWith (unwrap_or known []) ratio paths i)
     (counted : totals ≡ totals_by i.fates i.found.edges) (line_paths : map (λ (p : PathLine). p.path) lines ≡ paths) (line_times : map (λ (p : PathLine). p.times) lines ≡ times)
     (line_fates : map (λ (p : PathLine). p.fate) lines ≡ i.fates) where
   abbrev file : ResultFile
@@ -40,8 +40,8 @@ module _ (known : Option (List Given)) (sets : Sets) (ratio : ℕ) (rows : List 
   moved : (P : List (List ℕ) → List (Option Walk) → Type 0) → P paths (map walk_of i.fates) → P (its_paths file) (its_walks file)
   moved P h = subst (P (its_paths file)) (sym walks) (subst (λ ps. P ps (map walk_of i.fates)) (sym line_paths) h)
 
-  pub whole : IsResultWith known sets ratio rows counts file
-  whole =
+  pub whole : (rows : List Counted) → paths ≡ row_paths rows → times ≡ times_of rows → IsResultWith known sets ratio rows counts file
+  whole rows its_rows its_times =
       record {
         its_sets = refl;
         its_ratio = refl;

@@ -1,6 +1,7 @@
 -- What is found of the edges of a graph, where the paths of some clauses are kept. These words are the crate's own: no reader of a
 -- public clause needs them.
-use Rattle.std.specs.Prelude.{◌≡◌, ◌↔◌, ℕ, List, ◌++◌, map, take, is_none, All, IsTrue}
+use Rattle.std.specs.Prelude.{◌≡◌, ◌↔◌, ℕ, ◌+◌, List, ◌++◌, length, map, take, drop, is_none, All, IsTrue}
+use Rattle.relationships.specs.declared.fate.Fate.{Fate}
 use Rattle.relationships.specs.declared.label.Label.{Label}
 use Rattle.relationships.specs.declared.mark.Mark.{Mark}
 use Rattle.relationships.specs.Relationship.{Orientation, Labelling, ValleyFree, labels_of}
@@ -38,12 +39,21 @@ pub record AreFound (ratio : ℕ) (graph : List (List ℕ)) (f : Formula) (real 
   pub either_way : ServeEitherWay (labelling (edges graph) labels) (demands_of graph f)
   pub none_left_out : NoneLeftOut (degree graph) ratio (demands_of graph f) (edges graph) (labelling (edges graph) labels)
 
--- what is inferred from the first `count` paths of a graph, behind those at the places `first`, which are kept and not counted
-pub record AreInferredIn (ratio : ℕ) (graph : List (List ℕ)) (first : List ℕ) (count : ℕ) (i : Inferred) : Type 0 where
+-- each lost one of the first `count` paths of a graph, but for those with the fates `begun`, has a walk that refutes over the paths at the
+-- places `first`, the kept ones among those before it, and itself
+abbrev pub LostBehind : List (List ℕ) → List ℕ → ℕ → List Fate → List Fate → Type 0
+LostBehind graph first count begun fates =
+    LostFrom (length begun + 1) (numbered graph first ++ kept_of (take (length begun) graph) (map walk_of begun))
+    (drop (length begun) (take count graph)) (map walk_of (drop (length begun) fates))
+
+-- what is inferred from the first `count` paths of a graph, behind those at the places `first`, which are kept and not counted. The first
+-- paths have the fates `begun` beforehand; the others are offered behind them
+pub record AreInferredIn (ratio : ℕ) (graph : List (List ℕ)) (first : List ℕ) (count : ℕ) (begun : List Fate) (i : Inferred) : Type 0 where
   pub formula : Formula
   pub real : List ℕ
   pub kept : KeepsFrom (paths_at graph first) (take count graph) (map is_none (map walk_of i.fates))
-  pub lost : LostFrom 1 (numbered graph first) (take count graph) (map walk_of i.fates)
+  pub same : take (length begun) i.fates ≡ begun
+  pub lost : LostBehind graph first count begun i.fates
   pub all_kept : numbered_of graph formula ≡ numbered graph first ++ kept_of (take count graph) (map walk_of i.fates)
   pub counted : paths_at graph real ≡ paths_of (kept_of (take count graph) (map walk_of i.fates))
   pub found : AreFound ratio graph formula real i.found

@@ -7,5 +7,6 @@ pub mod Inference
 pub mod OneResult
 pub mod Peers
 pub mod Results
+pub mod Resumed
 pub mod Returns
 pub mod SelfAcceptance

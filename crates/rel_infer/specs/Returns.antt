@@ -27,11 +27,12 @@ pub record IsRelinked (n : ℕ) (numbers : List ℕ) (old new : Inferred) : Type
   pub probes : new.found.probes ≡ old.found.probes
 
 -- what is inferred under givens, with links into the rows of the returns, which are behind the paths, and the numbers of the givens of
--- these rows
-pub record IsUnlinked (givens : List Given) (ratio : ℕ) (paths : List (List ℕ)) (numbers : List ℕ) (i : Inferred) : Type 0 where
+-- these rows. The first paths have the fates `begun` beforehand
+pub record IsUnlinked (givens : List Given) (ratio : ℕ) (paths : List (List ℕ)) (begun : List Fate) (numbers : List ℕ) (i : Inferred) :
+    Type 0 where
   pub numbered : numbers ≡ numbers_from paths 1 givens
-  pub inferred :
-      AreInferredIn ratio (paths ++ returns paths givens) (places_from (length paths) (length (returns paths givens))) (length paths) i
+  pub inferred : AreInferredIn ratio (paths ++ returns paths givens) (places_from (length paths) (length (returns paths givens)))
+      (length paths) begun i
 
 -- the links name givens, where some are given, and else are as they were
 abbrev pub IsLinked : ℕ → List Given → List ℕ → Inferred → Inferred → Type 0

@@ -61,9 +61,9 @@ fn found_behind(
     found_in(alloc, graph, selector, counted, ratio)
 }
 
-// What becomes of the paths that were selected, and what is found of the edges, where the paths that the selector has kept are kept, and
-// all but the first of them, so many, are counted.
-fn inferred_by(
+/// What becomes of the paths that were selected, and what is found of the edges, where the paths that the selector has kept are kept, and
+/// all but the first of them, so many, are counted.
+pub(crate) fn inferred_by(
     alloc: Global,
     graph: &AsGraph,
     selection: Selection,
@@ -102,7 +102,7 @@ fn inferred_in(
     requires count { count ≤ length graph.now }
     requires distinct { All AllDistinct (take count graph.now) }
     requires small { ratio ≤ max_ratio }
-    ensures { IfOk result (AreInferredIn ratio graph.now first.now count) }
+    ensures { IfOk result (AreInferredIn ratio graph.now first.now count []) }
 {
     let selection = select_behind(alloc, keys, graph, first, count)?;
     inferred_by(alloc, graph, selection, first.len(), ratio)
@@ -120,7 +120,7 @@ fn inferred_after(
     requires servable { IsServable (paths_at graph.now (places_from count (length graph.now - count))) }
     requires distinct { All AllDistinct (take count graph.now) }
     requires small { ratio ≤ max_ratio }
-    ensures { IfOk result (AreInferredIn ratio graph.now (places_from count (length graph.now - count)) count) }
+    ensures { IfOk result (AreInferredIn ratio graph.now (places_from count (length graph.now - count)) count []) }
 {
     let first = places_behind(alloc, graph, count)?;
     inferred_in(alloc, keys, graph, first.as_slice(), count, ratio)
@@ -145,7 +145,7 @@ fn inferred_behind(
     requires once { NameOnce givens.now }
     requires few_givens { length givens.now ≤ max_givens }
     requires none { numbers.old ≡ [] }
-    ensures { IfOk result (IsUnlinked givens.now ratio paths.now numbers.new) }
+    ensures { IfOk result (IsUnlinked givens.now ratio paths.now [] numbers.new) }
 {
     let graph = build_with(alloc, keys, paths, givens)?;
     numbers_of(&graph, givens, numbers)?;
@@ -168,8 +168,8 @@ fn name_givens(
     Ok(())
 }
 
-// What is inferred, with its links so changed. Where no relationship is given, there is no such link.
-fn relinked_if_given(
+/// What is inferred, with its links so changed. Where no relationship is given, there is no such link.
+pub(crate) fn relinked_if_given(
     alloc: Global,
     mut inferred: Inferred,
     paths: usize,

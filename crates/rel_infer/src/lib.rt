@@ -9,7 +9,9 @@ mod labelling;
 mod laws;
 mod relinking;
 mod result;
+mod resuming;
 mod returns;
+mod taking_up;
 
 pub use given_laws::{
     agreeing_law, all_agreeing_law, given_inference_law, given_line_law, given_result_law,
@@ -17,3 +19,4 @@ pub use given_laws::{
 };
 pub use laws::{one_inference_law, one_result_law, self_acceptance_law};
 pub use result::{ResultHead, result_of, result_with};
+pub use resuming::result_resumed;

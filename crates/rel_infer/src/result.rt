@@ -1,20 +1,23 @@
 //! The result of the paths of a table.
-ghost use Rattle.std.specs.Prelude.{◌≡◌, ◌≤◌, [], length, unwrap_or, IfOk};
-ghost use Rattle.tor_arena.specs.Limits.{max_ratio};
+ghost use Rattle.std.specs.Prelude.{◌≡◌, ◌≤◌, List, [], length, unwrap_or, IfOk};
+ghost use Rattle.tor_arena.specs.Limits.{max_paths, max_ratio};
+ghost use Rattle.path_clean.specs.Rows.{Counted, row_paths, times_of};
 ghost use Rattle.relationships.specs.Givens.{NameOnce, NameTwo};
 ghost use Rattle.result_rules.specs.File.{its_paths, its_walks};
 ghost use Rattle.result_rules.specs.Rules.{Accepts};
 ghost use Rattle.rel_infer.specs.GivenResults.{max_givens, IsResultWith, PeerEitherWayWith, LeaveNoneOutWith};
+ghost use Rattle.rel_infer.specs.Inference.{AreInferredWith};
+ghost use Rattle.rel_infer.specs.Resumed.{its_fates};
 ghost use Rattle.rel_infer.specs.Results.{IsResultOf};
 ghost use Rattle.rel_infer.specs.Peers.{PeerEitherWay, LeaveNoneOut};
 
-use crate::inferring::inferred_from;
+use crate::inferring::{Inferred, inferred_from};
 use path_clean::{Asides, PathTable, Sets};
 use relationships::Given;
 use result_rules::totals_of;
 use result_text::{PathLines, ResultFile};
 use std::alloc::Global;
-use tor_arena::{Keys, List, NoMemory};
+use tor_arena::{Keys, List, NoMemory, PathId, Rows};
 
 /// What a result says before its paths.
 #[derive(Drop)]
@@ -55,8 +58,8 @@ pub fn result_of(
     result_with(alloc, keys, head, None, table)
 }
 
-// The relationships that are given, if any are.
-fn given_slice(givens: &Option<List<Given>>) -> &[Given]
+/// The relationships that are given, if any are.
+pub(crate) fn given_slice(givens: &Option<List<Given>>) -> &[Given]
     ensures { result.now ≡ unwrap_or givens.now [] }
 {
     match givens {
@@ -88,17 +91,39 @@ pub fn result_with(
     table.facts();
     let (rows, times) = table.into_rows();
     let inferred = inferred_from(alloc, keys, &rows, given_slice(&givens), head.ratio)?;
+    Ok(result_by(head, givens, rows, times, inferred))
+}
+
+/// The result of distinct paths, at most 2^23, and of how often each was seen, by what is inferred from them under relationships that are
+/// given, if any are.
+pub(crate) fn result_by(
+    head: ResultHead,
+    givens: Option<List<Given>>,
+    paths: Rows<PathId, u32>,
+    times: List<u64>,
+    inferred: Inferred,
+) -> ResultFile
+    requires few { length paths ≤ max_paths }
+    requires times { length times ≡ length paths }
+    requires inferred { AreInferredWith (unwrap_or givens []) head.ratio paths inferred }
+    ensures result { (rows : List Counted) → paths ≡ row_paths rows → times ≡ times_of rows →
+        IsResultWith givens head.sets head.ratio rows head.asides result }
+    ensures either_way { PeerEitherWayWith (unwrap_or givens []) (its_paths result) (its_walks result) result.edges }
+    ensures none_left_out { LeaveNoneOutWith (unwrap_or givens []) head.ratio (its_paths result) (its_walks result) result.edges }
+    ensures paths { its_paths result ≡ paths }
+    ensures fates { its_fates result ≡ inferred.fates }
+{
     let found = inferred.found;
     let totals = totals_of(&inferred.fates, found.edges.as_slice());
-    Ok(ResultFile {
+    ResultFile {
         sets: head.sets,
         ratio: head.ratio,
         asides: head.asides,
         givens,
-        paths: PathLines::from_parts(rows, times, inferred.fates),
+        paths: PathLines::from_parts(paths, times, inferred.fates),
         edges: found.edges,
         whys: found.whys,
         probes: found.probes,
         totals,
-    })
+    }
 }

@@ -1,4 +1,4 @@
-use Rattle.std.proofs.Common.{◌∙◌, sym, subst}
+use Rattle.std.proofs.Common.{◌∙◌, [], sym, subst}
 use Rattle.std.proofs.lemmas.Result.{IfOk-weaker}
 use Rattle.relationships.specs.Selection.{IsServable}
 use Rattle.as_graph.specs.Paths.{paths_at}
@@ -16,5 +16,5 @@ inferred_in-requires-clause-servable c =
 pub returns : goal.returns
 returns c =
     IfOk-weaker c.inferred_in.result _ _
-    (λ (i : Inferred) are. subst (λ ps. AreInferredIn c.args.ratio c.args.graph.now ps c.args.count i) (c.as_slice.ensures ∙ c.in_ok-first.ensures) are)
+    (λ (i : Inferred) are. subst (λ ps. AreInferredIn c.args.ratio c.args.graph.now ps c.args.count [] i) (c.as_slice.ensures ∙ c.in_ok-first.ensures) are)
     c.inferred_in.ensures

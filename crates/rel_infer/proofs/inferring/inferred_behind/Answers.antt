@@ -1,4 +1,4 @@
-use Rattle.std.proofs.Common.{◌-◌, All, length, refl, sym, subst, arith}
+use Rattle.std.proofs.Common.{◌-◌, [], All, length, refl, sym, subst, arith}
 use Rattle.std.proofs.lemmas.Result.{IfOk-weaker}
 use Rattle.tor_arena.specs.Distinct.{AllDistinct}
 use Rattle.path_select.specs.Behind.{places_from}
@@ -25,5 +25,5 @@ pub returns : goal.returns
 returns c =
     IfOk-weaker c.inferred_after.result _ _ (λ (i : Inferred) are.
     unlinked c.args.givens.now c.args.paths.now c.in_ok-graph.graph c.in_ok-graph.ensures c.args.ratio c.len.result
-    (places_from c.len.result (length c.in_ok-graph.graph - c.len.result)) c.numbers_of.new.numbers i c.len.ensures.length refl c.in_ok-numbers_of.ensures are)
+    (places_from c.len.result (length c.in_ok-graph.graph - c.len.result)) [] c.numbers_of.new.numbers i c.len.ensures.length refl c.in_ok-numbers_of.ensures are)
     c.inferred_after.ensures

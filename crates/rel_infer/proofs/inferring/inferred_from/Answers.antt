@@ -1,4 +1,4 @@
-use Rattle.std.proofs.Common.{length, subst, arith}
+use Rattle.std.proofs.Common.{[], length, subst, arith}
 use Rattle.std.proofs.lemmas.Result.{IfOk-weaker}
 use Rattle.rel_infer.specs.declared.inferring.Inferred.{Inferred}
 use Rattle.rel_infer.specs.Returns.{IsLinked}
@@ -7,7 +7,7 @@ use Rattle.rel_infer.proofs.inferring.inferred_from.Goals as goal
 
 pub relinked_if_given-requires-clause-few : goal.relinked_if_given-requires-clause-few
 relinked_if_given-requires-clause-few c =
-    let many = many_fates c.args.givens.now c.args.ratio c.args.paths.now c.inferred_behind.new.numbers c.in_ok-inferred.inferred c.in_ok-inferred.ensures in
+    let many = many_fates c.args.givens.now c.args.ratio c.args.paths.now [] c.inferred_behind.new.numbers c.in_ok-inferred.inferred c.in_ok-inferred.ensures in
     let few = c.requires.few in
     omega (arith, many, few)
 
@@ -20,7 +20,7 @@ relinked_if_given-requires-clause-paths c =
 pub returns : goal.returns
 returns c =
     IfOk-weaker c.relinked_if_given.result _ _ (λ (i : Inferred) is.
-    linked c.args.givens.now c.args.ratio c.args.paths.now c.inferred_behind.new.numbers c.in_ok-inferred.inferred i c.in_ok-inferred.ensures
+    (linked c.args.givens.now c.args.ratio c.args.paths.now [] c.inferred_behind.new.numbers c.in_ok-inferred.inferred i c.in_ok-inferred.ensures tt
     (subst (λ ns. IsLinked (length c.args.paths.now) c.args.givens.now ns c.in_ok-inferred.inferred i) c.as_slice.ensures
-    (subst (λ n. IsLinked n c.args.givens.now c.as_slice.result.now c.in_ok-inferred.inferred i) c.len.ensures.length is)))
+    (subst (λ n. IsLinked n c.args.givens.now c.as_slice.result.now c.in_ok-inferred.inferred i) c.len.ensures.length is))).0)
     c.relinked_if_given.ensures

@@ -1,11 +1,11 @@
-use Rattle.std.proofs.Common.{◌≡◌, ◌≢◌, ◌-◌, ◌≤◌, ◌<◌, ◌++◌, List, ℕ, All, drop, take, map, is_none, length, sym, subst, arith, length-take}
+use Rattle.std.proofs.Common.{◌≡◌, ◌≢◌, ◌-◌, ◌≤◌, ◌<◌, ◌++◌, List, [], ℕ, All, drop, take, map, is_none, length, refl, sym, subst, arith, append-nil, length-take}
 use Rattle.std.specs.List.{AllPairs}
 use Rattle.std.proofs.lemmas.Result.{IfOk-weaker}
 use Rattle.std.proofs.lemmas.List.Elements.{All-from_recursion, All-drop}
 use Rattle.relationships.specs.declared.fate.Fate.{Fate}
 use Rattle.relationships.specs.Fates.{walk_of}
-use Rattle.relationships.specs.Evidence.{paths_of}
-use Rattle.relationships.specs.Checking.{kept_of}
+use Rattle.relationships.specs.Evidence.{Numbered, paths_of}
+use Rattle.relationships.specs.Checking.{LostFrom, kept_of}
 use Rattle.tor_arena.specs.Distinct.{AllDistinct}
 use Rattle.as_graph.specs.Paths.{paths_at}
 use Rattle.tor_clauses.specs.Formulas.{numbered}
@@ -85,12 +85,13 @@ returns c =
     let real = drop (length first) all in
     IfOk-weaker c.inferred_by.result _ _
     (λ (i : Inferred) is.
-    subst (λ (fs : List Fate). AreInferredIn c.args.ratio graph first count (record { fates = fs; found = i.found })) (sym is.0)
+    subst (λ (fs : List Fate). AreInferredIn c.args.ratio graph first count [] (record { fates = fs; found = i.found })) (sym is.0)
     (record {
       formula = c.in_ok-selection.selection.selector.formula;
       real = real;
       kept = e.keeps;
-      lost = e.lost;
+      same = refl;
+      lost = subst (λ (A : Numbered). LostFrom 1 A some walks) (sym (append-nil (numbered graph first))) e.lost;
       all_kept = e.kept;
       counted = subst (λ (l : List ℕ). paths_at graph (drop (length l) all) ≡ paths_of (kept_of some walks)) (sym c.requires.behind)
           (counted_paths graph some all count (length graph - count) (map is_none walks) same);

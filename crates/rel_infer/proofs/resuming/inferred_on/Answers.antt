@@ -1,0 +1,10 @@
+use Rattle.rel_infer.proofs.resuming.inferred_on.Goals as goal
+
+pub inferred_past-requires-clause-kept : goal.inferred_past-requires-clause-kept
+inferred_past-requires-clause-kept c = c.requires.kept
+
+pub inferred_past-requires-clause-keeps : goal.inferred_past-requires-clause-keeps
+inferred_past-requires-clause-keeps c = c.requires.keeps
+
+pub inferred_past-requires-clause-begun : goal.inferred_past-requires-clause-begun
+inferred_past-requires-clause-begun c = c.requires.begun

@@ -1,0 +1,80 @@
+use Rattle.std.proofs.Common.{◌≡◌, ◌≤◌, ◌++◌, ◌∙◌, List, length, refl, sym, ap, subst, arith}
+use Rattle.relationships.specs.declared.given.Given.{Given}
+use Rattle.relationships.specs.Givens.{returns, NameTwo, NameOnce}
+use Rattle.tor_clauses.specs.Formulas.{numbered_of}
+use Rattle.result_text.specs.Text.{its_givens}
+use Rattle.rel_infer.specs.GivenResults.{max_givens}
+use Rattle.rel_infer.specs.Resumed.{kept_first}
+use Rattle.rel_infer.specs.Returns.{numbers_from}
+use Rattle.rel_infer.proofs.Acceptance.{same_givens}
+use Rattle.rel_infer.proofs.Continuing.{its_two, its_once, graph_begins, returns_behind}
+use Rattle.rel_infer.proofs.Linking.{long, edges_same, numbers_same}
+use Rattle.rel_infer.proofs.taking_up.started_in.Goals as goal
+
+pub build_with-requires-clause-two : goal.build_with-requires-clause-two
+build_with-requires-clause-two c =
+    let earlier = c.args.earlier.now in
+    let paths = c.args.paths.now in
+    let givens : c.given_slice-givens.result.now ≡ its_givens earlier = c.given_slice-givens.ensures ∙ same_givens earlier earlier.givens refl in
+    subst NameTwo (sym givens) (its_two earlier c.requires.accepted)
+
+pub build_with-requires-clause-once : goal.build_with-requires-clause-once
+build_with-requires-clause-once c =
+    let earlier = c.args.earlier.now in
+    let paths = c.args.paths.now in
+    let givens : c.given_slice-givens.result.now ≡ its_givens earlier = c.given_slice-givens.ensures ∙ same_givens earlier earlier.givens refl in
+    subst NameOnce (sym givens) (its_once earlier c.requires.accepted)
+
+pub numbers_of-requires-clause-few : goal.numbers_of-requires-clause-few
+numbers_of-requires-clause-few c =
+    let earlier = c.args.earlier.now in
+    let paths = c.args.paths.now in
+    let givens : c.given_slice-givens.result.now ≡ its_givens earlier = c.given_slice-givens.ensures ∙ same_givens earlier earlier.givens refl in
+    subst (λ (gs : List Given). length gs ≤ max_givens) (sym givens) c.requires.few_givens
+
+pub selector_over-requires-clause-begins : goal.selector_over-requires-clause-begins
+selector_over-requires-clause-begins c =
+    let earlier = c.args.earlier.now in
+    let paths = c.args.paths.now in
+    let givens : c.given_slice-givens.result.now ≡ its_givens earlier = c.given_slice-givens.ensures ∙ same_givens earlier earlier.givens refl in
+    let same = c.in_ok-graph.ensures ∙ ap (λ (gs : List Given). paths ++ returns paths gs) givens in
+    graph_begins earlier paths c.in_ok-graph.graph c.requires.begins same
+
+pub selector_over-requires-clause-count : goal.selector_over-requires-clause-count
+selector_over-requires-clause-count c =
+    let earlier = c.args.earlier.now in
+    let paths = c.args.paths.now in
+    let givens : c.given_slice-givens.result.now ≡ its_givens earlier = c.given_slice-givens.ensures ∙ same_givens earlier earlier.givens refl in
+    let same = c.in_ok-graph.ensures ∙ ap (λ (gs : List Given). paths ++ returns paths gs) givens in
+    let sum = long (its_givens earlier) paths c.in_ok-graph.graph same in
+    let n = c.len.ensures.length in
+    omega (arith, sum, n)
+
+pub selector_over-requires-clause-behind : goal.selector_over-requires-clause-behind
+selector_over-requires-clause-behind c =
+    let earlier = c.args.earlier.now in
+    let paths = c.args.paths.now in
+    let givens : c.given_slice-givens.result.now ≡ its_givens earlier = c.given_slice-givens.ensures ∙ same_givens earlier earlier.givens refl in
+    let same = c.in_ok-graph.ensures ∙ ap (λ (gs : List Given). paths ++ returns paths gs) givens in
+    returns_behind earlier paths c.in_ok-graph.graph c.requires.begins same c.len.result c.len.ensures.length
+
+pub returns-clause-graph : goal.returns-clause-graph
+returns-clause-graph c =
+    let earlier = c.args.earlier.now in
+    let paths = c.args.paths.now in
+    let givens : c.given_slice-givens.result.now ≡ its_givens earlier = c.given_slice-givens.ensures ∙ same_givens earlier earlier.givens refl in
+    c.in_ok-graph.ensures ∙ ap (λ (gs : List Given). paths ++ returns paths gs) givens
+
+pub returns-clause-kept : goal.returns-clause-kept
+returns-clause-kept c =
+    subst (λ n. numbered_of c.in_ok-graph.graph c.in_ok-selector.selector.formula ≡ kept_first c.in_ok-graph.graph n c.args.earlier.now) c.len.ensures.length
+    c.in_ok-selector.ensures.kept
+
+pub returns-clause-numbers : goal.returns-clause-numbers
+returns-clause-numbers c =
+    let earlier = c.args.earlier.now in
+    let paths = c.args.paths.now in
+    let givens : c.given_slice-givens.result.now ≡ its_givens earlier = c.given_slice-givens.ensures ∙ same_givens earlier earlier.givens refl in
+    let same = c.in_ok-graph.ensures ∙ ap (λ (gs : List Given). paths ++ returns paths gs) givens in
+    c.in_ok-numbers_of.ensures ∙ ap (numbers_from c.in_ok-graph.graph 1) givens ∙
+    numbers_same c.in_ok-graph.graph paths (edges_same (its_givens earlier) paths c.in_ok-graph.graph same) 1 (its_givens earlier)

@@ -1,0 +1,250 @@
+//! The result that resumes an earlier one.
+ghost use Rattle.std.specs.Prelude.{◌≡◌, ◌-◌, ◌≤◌, [], All, length, map, sum_by, take, is_none, IfOk, OnOk};
+ghost use Rattle.tor_arena.specs.Distinct.{AllDistinct};
+ghost use Rattle.tor_arena.specs.Limits.{max_numbers, max_paths, max_ratio};
+ghost use Rattle.relationships.specs.Fates.{walk_of};
+ghost use Rattle.relationships.specs.Selection.{KeepsFrom};
+ghost use Rattle.as_graph.specs.Paths.{paths_at};
+ghost use Rattle.tor_clauses.specs.Formulas.{FitsGraph};
+ghost use Rattle.path_select.specs.Behind.{places_from};
+ghost use Rattle.path_select.specs.Offers.{HasKeptBehind};
+ghost use Rattle.result_text.specs.Text.{its_givens};
+ghost use Rattle.result_rules.specs.File.{its_paths, its_walks};
+ghost use Rattle.result_rules.specs.Rules.{Accepts};
+ghost use Rattle.path_clean.specs.Rows.{row_paths};
+ghost use Rattle.resume.specs.Earlier.{BeginsWithPathsOf};
+ghost use Rattle.rel_infer.specs.Finding.{AreInferredIn, LostBehind};
+ghost use Rattle.rel_infer.specs.GivenResults.{max_givens, IsResultWith, PeerEitherWayWith, LeaveNoneOutWith};
+ghost use Rattle.rel_infer.specs.Resumed.{Continues, IsInferredOnTop, its_fates};
+ghost use Rattle.rel_infer.specs.Returns.{IsUnlinked};
+
+use crate::inferring::{Inferred, inferred_by, relinked_if_given};
+use crate::result::{ResultHead, given_slice, result_by};
+use crate::taking_up::{Started, started_in};
+use as_graph::AsGraph;
+use path_clean::{Asides, PathTable, Sets};
+use path_select::{Selection, select_rest};
+use relationships::{Fates, Given};
+use result_text::ResultFile;
+use std::alloc::Global;
+use tor_arena::{Keys, List, NoMemory, PathId, Rows};
+
+/// What a result that resumes an earlier one has of it, and what is inferred.
+#[derive(Drop)]
+pub(crate) struct Resumed {
+    /// What became of sets.
+    pub sets: Sets,
+    /// The relationships that are given, if any are.
+    pub givens: Option<List<Given>>,
+    /// What is inferred from all paths.
+    pub inferred: Inferred,
+}
+
+// What is left of an earlier result once its kept paths are known.
+#[derive(Drop)]
+struct EarlierParts {
+    sets: Sets,
+    givens: Option<List<Given>>,
+    fates: Fates,
+}
+
+// Offers the first paths of a graph, so many, but for those whose fates are there, where a selector has kept the rows behind all of them,
+// and the kept ones of those.
+fn select_past(
+    alloc: Global,
+    keys: Keys,
+    graph: &AsGraph,
+    count: usize,
+    selection: &mut Selection,
+) -> Result<(), NoMemory>
+    requires fits { FitsGraph graph.now selection.old.selector.formula }
+    requires kept { HasKeptBehind graph.now (places_from count (length graph.now - count)) (length selection.old.fates)
+        selection.old.selector selection.old.fates }
+    requires keeps { KeepsFrom (paths_at graph.now (places_from count (length graph.now - count)))
+        (take (length selection.old.fates) graph.now) (map is_none (map walk_of selection.old.fates)) }
+    requires begun { length selection.old.fates ≤ count }
+    requires count { count ≤ length graph.now }
+    ensures fits { OnOk result (FitsGraph graph.now selection.new.selector.formula) }
+    ensures kept { OnOk result (HasKeptBehind graph.now (places_from count (length graph.now - count)) count
+        selection.new.selector selection.new.fates) }
+    ensures keeps { OnOk result (KeepsFrom (paths_at graph.now (places_from count (length graph.now - count)))
+        (take count graph.now) (map is_none (map walk_of selection.new.fates))) }
+    ensures same { OnOk result (take (length selection.old.fates) selection.new.fates ≡ selection.old.fates) }
+    ensures lost { OnOk result (LostBehind graph.now (places_from count (length graph.now - count)) count
+        selection.old.fates selection.new.fates) }
+{
+    select_rest(
+        alloc,
+        keys,
+        graph,
+        count,
+        &mut selection.selector,
+        &mut selection.fates,
+    )?;
+    Ok(())
+}
+
+// What is inferred from these paths: only those are offered whose fates are not there.
+fn inferred_past(
+    alloc: Global,
+    keys: Keys,
+    graph: &AsGraph,
+    mut selection: Selection,
+    count: usize,
+    ratio: u32,
+) -> Result<Inferred, NoMemory>
+    requires fits { FitsGraph graph.now selection.selector.formula }
+    requires kept { HasKeptBehind graph.now (places_from count (length graph.now - count)) (length selection.fates) selection.selector
+        selection.fates }
+    requires keeps { KeepsFrom (paths_at graph.now (places_from count (length graph.now - count)))
+        (take (length selection.fates) graph.now) (map is_none (map walk_of selection.fates)) }
+    requires begun { length selection.fates ≤ count }
+    requires count { count ≤ length graph.now }
+    requires distinct { All AllDistinct (take count graph.now) }
+    requires small { ratio ≤ max_ratio }
+    ensures { IfOk result
+        (AreInferredIn ratio graph.now (places_from count (length graph.now - count)) count selection.fates) }
+{
+    select_past(alloc, keys, graph, count, &mut selection)?;
+    inferred_by(alloc, graph, selection, graph.path_count() - count, ratio)
+}
+
+// The same of a graph and a selector that are owned.
+fn inferred_on(
+    alloc: Global,
+    keys: Keys,
+    started: Started,
+    fates: Fates,
+    count: usize,
+    ratio: u32,
+) -> Result<Inferred, NoMemory>
+    requires fits { FitsGraph started.graph started.selector.formula }
+    requires kept { HasKeptBehind started.graph (places_from count (length started.graph - count)) (length fates) started.selector fates }
+    requires keeps { KeepsFrom (paths_at started.graph (places_from count (length started.graph - count)))
+        (take (length fates) started.graph) (map is_none (map walk_of fates)) }
+    requires begun { length fates ≤ count }
+    requires count { count ≤ length started.graph }
+    requires distinct { All AllDistinct (take count started.graph) }
+    requires small { ratio ≤ max_ratio }
+    ensures { IfOk result
+        (AreInferredIn ratio started.graph (places_from count (length started.graph - count)) count fates) }
+{
+    let Started { graph, selector } = started;
+    let selection = Selection { fates, selector };
+    inferred_past(alloc, keys, &graph, selection, count, ratio)
+}
+
+// What is left of an earlier result; the rest of it is let go.
+fn parts_of(earlier: ResultFile) -> EarlierParts
+    ensures sets { result.sets ≡ earlier.sets }
+    ensures givens { result.givens ≡ earlier.givens }
+    ensures fates { result.fates ≡ its_fates earlier }
+{
+    let (_, _, fates) = earlier.paths.into_parts();
+    EarlierParts {
+        sets: earlier.sets,
+        givens: earlier.givens,
+        fates,
+    }
+}
+
+// What is inferred from distinct paths, of which the first are those of an earlier result, before the links into rows of returns are
+// changed. The numbers of the givens of these rows are added, where there are none yet.
+fn resumed_behind(
+    alloc: Global,
+    keys: Keys,
+    paths: &Rows<PathId, u32>,
+    earlier: ResultFile,
+    ratio: u32,
+    numbers: &mut List<u32>,
+) -> Result<Resumed, NoMemory>
+    requires several { All (λ path. 2 ≤ length path) paths.now }
+    requires apart { All AllDistinct paths.now }
+    requires few { length paths.now ≤ max_paths }
+    requires short { sum_by length paths.now ≤ max_numbers }
+    requires small { ratio ≤ max_ratio }
+    requires accepted { Accepts earlier }
+    requires few_givens { length (its_givens earlier) ≤ max_givens }
+    requires begins { BeginsWithPathsOf paths.now earlier }
+    requires none { numbers.old ≡ [] }
+    ensures sets { IfOk result (λ resumed. resumed.sets ≡ earlier.sets) }
+    ensures givens { IfOk result (λ resumed. resumed.givens ≡ earlier.givens) }
+    ensures inferred { IfOk result
+        (λ resumed. IsUnlinked (its_givens earlier) ratio paths.now (its_fates earlier) numbers.new resumed.inferred) }
+{
+    let started = started_in(alloc, keys, paths, &earlier, numbers)?;
+    let parts = parts_of(earlier);
+    let inferred = inferred_on(alloc, keys, started, parts.fates, paths.len(), ratio)?;
+    Ok(Resumed {
+        sets: parts.sets,
+        givens: parts.givens,
+        inferred,
+    })
+}
+
+// What is inferred from distinct paths, of which the first are those of an earlier result.
+fn resumed_from(
+    alloc: Global,
+    keys: Keys,
+    paths: &Rows<PathId, u32>,
+    earlier: ResultFile,
+    ratio: u32,
+) -> Result<Resumed, NoMemory>
+    requires several { All (λ path. 2 ≤ length path) paths.now }
+    requires apart { All AllDistinct paths.now }
+    requires few { length paths.now ≤ max_paths }
+    requires short { sum_by length paths.now ≤ max_numbers }
+    requires small { ratio ≤ max_ratio }
+    requires accepted { Accepts earlier }
+    requires few_givens { length (its_givens earlier) ≤ max_givens }
+    requires begins { BeginsWithPathsOf paths.now earlier }
+    ensures { IfOk result (IsInferredOnTop earlier ratio paths.now) }
+{
+    let mut numbers = List::new(alloc);
+    let resumed = resumed_behind(alloc, keys, paths, earlier, ratio, &mut numbers)?;
+    let Resumed {
+        sets,
+        givens,
+        inferred,
+    } = resumed;
+    let slice = given_slice(&givens);
+    let inferred = relinked_if_given(alloc, inferred, paths.len(), slice, numbers.as_slice())?;
+    Ok(Resumed {
+        sets,
+        givens,
+        inferred,
+    })
+}
+
+/// The result of the distinct paths of a table, of which the first are those of an earlier result that meets all rules, with its sets and
+/// its givens, at most 2^28, and of counts of routes that were set aside. All is as `result_with` says of the whole table. The first path
+/// lines are those of the earlier result but for their times: its kept paths are kept, and its lost ones lost with the walks that they have
+/// there; only the paths behind them are offered. `ratio` is from 0 to 1000000. The only error is that memory ran out.
+pub fn result_resumed(
+    alloc: Global,
+    keys: Keys,
+    ratio: u32,
+    earlier: ResultFile,
+    table: PathTable,
+    asides: Asides,
+) -> Result<ResultFile, NoMemory>
+    requires small { ratio ≤ max_ratio }
+    requires accepted { Accepts earlier }
+    requires few { length (its_givens earlier) ≤ max_givens }
+    requires begins { BeginsWithPathsOf (row_paths table.rows) earlier }
+    ensures result { IfOk result (IsResultWith earlier.givens earlier.sets ratio table.rows asides) }
+    ensures continues { IfOk result (Continues earlier) }
+    ensures either_way { IfOk result (λ file. PeerEitherWayWith (its_givens earlier) (its_paths file) (its_walks file) file.edges) }
+    ensures none_left_out { IfOk result
+        (λ file. LeaveNoneOutWith (its_givens earlier) ratio (its_paths file) (its_walks file) file.edges) }
+{
+    table.facts();
+    let (rows, times) = table.into_rows();
+    let resumed = resumed_from(alloc, keys, &rows, earlier, ratio)?;
+    let head = ResultHead {
+        sets: resumed.sets,
+        ratio,
+        asides,
+    };
+    Ok(result_by(head, resumed.givens, rows, times, resumed.inferred))
+}

@@ -1,0 +1,101 @@
+//! What is kept before a path is offered behind those of an earlier result.
+ghost use Rattle.std.specs.Prelude.{◌≡◌, ◌-◌, ◌≤◌, ◌<◌, ◌++◌, [], All, length, sum_by, IfOk, OnOk};
+ghost use Rattle.tor_arena.specs.Distinct.{AllDistinct};
+ghost use Rattle.tor_arena.specs.Limits.{max_numbers, max_paths};
+ghost use Rattle.relationships.specs.Givens.{returns};
+ghost use Rattle.as_graph.specs.Paths.{paths_at};
+ghost use Rattle.tor_clauses.specs.Formulas.{FitsGraph, numbered, numbered_of};
+ghost use Rattle.path_select.specs.Behind.{places_from};
+ghost use Rattle.result_text.specs.Text.{its_givens};
+ghost use Rattle.result_rules.specs.Rules.{Accepts};
+ghost use Rattle.resume.specs.Earlier.{BeginsWithPathsOf};
+ghost use Rattle.rel_infer.specs.GivenResults.{max_givens};
+ghost use Rattle.rel_infer.specs.Resumed.{kept_first};
+ghost use Rattle.rel_infer.specs.Returns.{numbers_from};
+
+use crate::result::given_slice;
+use crate::returns::numbers_of;
+use as_graph::{AsGraph, build_with};
+use path_select::{Selector, places_behind};
+use result_text::ResultFile;
+use resume::{kept_orientation, kept_places};
+use std::alloc::Global;
+use tor_arena::{Keys, List, NoMemory, PathId, Rows};
+
+/// The graph of all paths and, behind these, of returns, and a selector that keeps returns and kept paths of an earlier result.
+#[derive(Drop)]
+pub(crate) struct Started {
+    /// The graph.
+    pub graph: AsGraph,
+    /// The selector.
+    pub selector: Selector,
+}
+
+// The places of what is kept before a path is offered: the rows behind so many paths, which are the returns, and then the kept paths of an
+// earlier result.
+fn places_first(
+    alloc: Global,
+    graph: &AsGraph,
+    count: usize,
+    earlier: &ResultFile,
+) -> Result<List<PathId>, NoMemory>
+    requires begins { BeginsWithPathsOf graph.now earlier.now }
+    requires count { count ≤ length graph.now }
+    ensures there { IfOk result (All (λ path. path < length graph.now)) }
+    ensures kept { IfOk result (λ places. numbered graph.now places ≡ kept_first graph.now count earlier.now) }
+{
+    let mut places = places_behind(alloc, graph, count)?;
+    let kept = kept_places(alloc, graph, earlier)?;
+    places.extend_from_slice(kept.as_slice())?;
+    Ok(places)
+}
+
+// A selector that keeps these, by an orientation that the labels of the earlier result give.
+fn selector_over(
+    alloc: Global,
+    keys: Keys,
+    graph: &AsGraph,
+    count: usize,
+    earlier: &ResultFile,
+) -> Result<Selector, NoMemory>
+    requires accepted { Accepts earlier.now }
+    requires begins { BeginsWithPathsOf graph.now earlier.now }
+    requires count { count ≤ length graph.now }
+    requires behind { paths_at graph.now (places_from count (length graph.now - count)) ≡ returns graph.now (its_givens earlier.now) }
+    ensures fits { IfOk result (λ selector. FitsGraph graph.now selector.formula) }
+    ensures kept { IfOk result (λ selector. numbered_of graph.now selector.formula ≡ kept_first graph.now count earlier.now) }
+{
+    let places = places_first(alloc, graph, count, earlier)?;
+    let ends = kept_orientation(alloc, graph, earlier)?;
+    Selector::resumed(alloc, keys, graph, places.as_slice(), ends)
+}
+
+/// The graph of all paths and of returns, and that selector. The numbers of the givens of these returns are added, where there are none
+/// yet.
+pub(crate) fn started_in(
+    alloc: Global,
+    keys: Keys,
+    paths: &Rows<PathId, u32>,
+    earlier: &ResultFile,
+    numbers: &mut List<u32>,
+) -> Result<Started, NoMemory>
+    requires several { All (λ path. 2 ≤ length path) paths.now }
+    requires apart { All AllDistinct paths.now }
+    requires few { length paths.now ≤ max_paths }
+    requires short { sum_by length paths.now ≤ max_numbers }
+    requires accepted { Accepts earlier.now }
+    requires few_givens { length (its_givens earlier.now) ≤ max_givens }
+    requires begins { BeginsWithPathsOf paths.now earlier.now }
+    requires none { numbers.old ≡ [] }
+    ensures graph { IfOk result (λ started. started.graph ≡ paths.now ++ returns paths.now (its_givens earlier.now)) }
+    ensures fits { IfOk result (λ started. FitsGraph started.graph started.selector.formula) }
+    ensures kept { IfOk result (λ started. numbered_of started.graph started.selector.formula ≡
+        kept_first started.graph (length paths.now) earlier.now) }
+    ensures numbers { OnOk result (numbers.new ≡ numbers_from paths.now 1 (its_givens earlier.now)) }
+{
+    let givens = given_slice(&earlier.givens);
+    let graph = build_with(alloc, keys, paths, givens)?;
+    numbers_of(&graph, givens, numbers)?;
+    let selector = selector_over(alloc, keys, &graph, paths.len(), earlier)?;
+    Ok(Started { graph, selector })
+}
