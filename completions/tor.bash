@@ -8,7 +8,7 @@ _tor() {
         --ratio | --max-paths | --sample) compopt +o default ;;
         *)
             case $word in
-                -*) mapfile -t COMPREPLY < <(compgen -W '--list --survey --ties --serial1 --as-sets --ratio --max-paths --sample --given --migrate' -- "$word") ;;
+                -*) mapfile -t COMPREPLY < <(compgen -W '--list --survey --ties --serial1 --as-sets --ratio --max-paths --sample --given --migrate --resume' -- "$word") ;;
             esac ;;
     esac
 }

@@ -24,7 +24,7 @@ type Asked = (Mode, Option<u64>, Sets, u32, u32, usize);
 fn sample_of(source: &Source) -> Option<u64> {
     match source {
         Source::Sample(seed) => Some(*seed),
-        Source::Files | Source::Result(_) => None,
+        Source::Files | Source::Result(_) | Source::Earlier(_) => None,
     }
 }
 
@@ -51,7 +51,7 @@ fn asked(alloc: Global, texts: &[&str]) -> Result<Asked, u8> {
 const MOST: u32 = 8_388_608;
 
 /// Words, and the settings that they give.
-static TAKEN: [(&'static [&'static str], Asked); 18] = [
+static TAKEN: [(&'static [&'static str], Asked); 20] = [
     (&["d"], (Mode::Labels, None, Sets::Cut, 60, MOST, 1)),
     (
         &["--as-sets=skip", "--", "d"],
@@ -129,6 +129,22 @@ static TAKEN: [(&'static [&'static str], Asked); 18] = [
         &["--migrate", "--as-sets", "skip", "--ratio", "5", "r"],
         (Mode::Migrate, None, Sets::Skip, 5, MOST, 0),
     ),
+    (
+        &["--resume", "r", "d"],
+        (Mode::Resume, None, Sets::Cut, 60, MOST, 1),
+    ),
+    (
+        &[
+            "d1",
+            "--resume=r",
+            "--as-sets",
+            "skip",
+            "--ratio",
+            "5",
+            "d2",
+        ],
+        (Mode::Resume, None, Sets::Skip, 5, MOST, 2),
+    ),
 ];
 
 /// The first words that give other settings.
@@ -155,35 +171,38 @@ fn is_given(settings: &Settings, text: &str) -> bool {
 
 fn is_result(settings: &Settings, text: &str) -> bool {
     match &settings.source {
-        Source::Result(name) => name.as_text() == text,
+        Source::Result(name) | Source::Earlier(name) => name.as_text() == text,
         Source::Files | Source::Sample(_) => text == "none",
     }
 }
 
 // Whether words name this file of known relationships and this result, or none where a text says so.
-fn are_named(alloc: Global, texts: &[&str], given: &str, migrated: &str) -> bool {
+fn are_named(alloc: Global, texts: &[&str], given: &str, named: &str) -> bool {
     let Ok(words) = names_of(alloc, texts) else {
         return false;
     };
     match settings_of(alloc, &words) {
-        Ok(settings) => is_given(&settings, given) && is_result(&settings, migrated),
+        Ok(settings) => is_given(&settings, given) && is_result(&settings, named),
         Err(_) => false,
     }
 }
 
 /// Words, and the file of known relationships and the result that they name, or `none`.
-static NAMED: [(&'static [&'static str], &'static str, &'static str); 5] = [
+static NAMED: [(&'static [&'static str], &'static str, &'static str); 8] = [
     (&["d"], "none", "none"),
     (&["d", "--given", "k"], "k", "none"),
     (&["--given=--list", "d"], "--list", "none"),
     (&["--migrate", "r"], "none", "r"),
     (&["--migrate", "--", "--migrate"], "none", "--migrate"),
+    (&["--resume", "r", "d"], "none", "r"),
+    (&["d", "--resume=--list", "d"], "none", "--list"),
+    (&["--resume", "-", "-"], "none", "-"),
 ];
 
 /// The first words that name other files.
 fn first_otherwise_named(alloc: Global) -> Option<usize> {
-    for (place, (words, given, migrated)) in NAMED.iter().enumerate() {
-        if !are_named(alloc, words, given, migrated) {
+    for (place, (words, given, named)) in NAMED.iter().enumerate() {
+        if !are_named(alloc, words, given, named) {
             return Some(place);
         }
     }
@@ -196,7 +215,7 @@ fn words_name_files_that_are_no_dumps(rt: HostRuntime) {
 }
 
 /// Words that are refused.
-static REFUSED: [&'static [&'static str]; 31] = [
+static REFUSED: [&'static [&'static str]; 42] = [
     &[],
     &["--list"],
     &["--ratio", "60"],
@@ -228,6 +247,17 @@ static REFUSED: [&'static [&'static str]; 31] = [
     &["--survey", "--sample", "7"],
     &["--survey", "--survey", "d"],
     &["--survey=true", "d"],
+    &["--resume", "d"],
+    &["--resume"],
+    &["d", "--resume"],
+    &["--resume", "r", "--list", "d"],
+    &["--resume", "r", "--survey", "d"],
+    &["--resume", "r", "--ties", "d"],
+    &["--resume", "r", "--serial1", "d"],
+    &["--resume", "r", "--sample", "7"],
+    &["--resume", "r", "--migrate", "d"],
+    &["--resume", "r", "--given", "k", "d"],
+    &["--resume", "r", "--resume", "r", "d"],
 ];
 
 /// The first words that are not refused with the status 2.
@@ -314,7 +344,7 @@ fn says(alloc: Global, texts: &[&str], part: &str) -> bool {
 }
 
 /// What the help says.
-const PARTS: [&str; 9] = [
+const PARTS: [&str; 10] = [
     "--list",
     "--survey",
     "what of it counts, in place of the result",
@@ -324,6 +354,7 @@ const PARTS: [&str; 9] = [
     "0 to 18446744073709551615",
     "peer|peer|0 is read and checked and binds nothing",
     "--as-sets, --ratio and --max-paths change nothing",
+    "Add the dumps to this result, which has to meet all rules",
 ];
 
 /// The first part that the help does not say.

@@ -8,11 +8,11 @@ use Rattle.clap.specs.declared.builder.value_parser.ValueParser.TheVariants as v
 use Rattle.clap.proofs.ValueTestLemmas.{accepts-Accepts}
 use Rattle.path_clean.specs.declared.cleaned.Sets.{Sets}
 use Rattle.tor_words.specs.declared.settings.Mode.{Mode}
-use Rattle.tor_words.specs.declared.settings.Mode.TheVariants.{Labels, Listing, Survey, Ties, Serial, Summary, Migrate}
+use Rattle.tor_words.specs.declared.settings.Mode.TheVariants.{Labels, Listing, Survey, Ties, Serial, Summary, Migrate, Resume}
 use Rattle.tor_words.specs.declared.settings.Source.{Source}
-use Rattle.tor_words.specs.declared.settings.Source.TheVariants.{Files, Sample, Result}
+use Rattle.tor_words.specs.declared.settings.Source.TheVariants.{Files, Sample, Result, Earlier}
 use Rattle.tor_words.specs.declared.settings.Settings.{Settings}
-use Rattle.tor_words.specs.Given.{number_in, number_or, sets_or_cut, mode_in, names_in, of_dumps, of_sample, of_result, source_of}
+use Rattle.tor_words.specs.Given.{number_in, number_or, sets_or_cut, mode_in, names_in, of_dumps, of_sample, of_result, of_earlier, source_of}
 use Rattle.tor_words.specs.Given.{dumps_of, may_have_given, given_for, settings_in, HasDumps, IsWrittenOf, IsGivenTo, AreBounded, BoundsLaw}
 use Rattle.tor_words.specs.Given.{settings_given, unless_fault}
 use Rattle.tor_words.specs.TorCommand.{tor_command}
@@ -39,11 +39,11 @@ record IsSourceOf (mode : Mode) (names : List Text) (source : Source) : Type 0 w
   pub named : HasDumps source (dumps_of source names)
   pub written : IsWrittenOf source mode
 
-files : (mode : Mode) (names : List Text) (source : Source) → mode ≢ Summary → mode ≢ Migrate → of_dumps names ≡ Some source → IsSourceOf mode names source
-files mode [] source other unlike is = absurd cc
-files mode (dump ∷ dumps) source other unlike is =
+files : (mode : Mode) (names : List Text) (source : Source) → mode ≢ Summary → mode ≢ Migrate → mode ≢ Resume → of_dumps names ≡ Some source → IsSourceOf mode names source
+files mode [] source other unlike fresh is = absurd cc
+files mode (dump ∷ dumps) source other unlike fresh is =
     let same : Files ≡ source = cc in
-    subst (IsSourceOf mode (dump ∷ dumps)) same (record { named = omega arith; written = (other, unlike) })
+    subst (IsSourceOf mode (dump ∷ dumps)) same (record { named = omega arith; written = (other, unlike, fresh) })
 
 sampled : (sample : Option Text) (names : List Text) (source : Source) → of_sample sample names ≡ Some source → IsSourceOf Summary names source
 sampled None names source is = absurd cc
@@ -61,14 +61,23 @@ migrated (result ∷ []) source is =
     subst (IsSourceOf Migrate (result ∷ [])) same (record { named = refl; written = refl })
 migrated (result ∷ other ∷ names) source is = absurd cc
 
-is_source : (mode : Mode) (sample : Option Text) (names : List Text) (source : Source) → source_of mode sample names ≡ Some source → IsSourceOf mode names source
-is_source Labels sample names source is = files Labels names source (λ e. cc) (λ e. cc) is
-is_source Listing sample names source is = files Listing names source (λ e. cc) (λ e. cc) is
-is_source Survey sample names source is = files Survey names source (λ e. cc) (λ e. cc) is
-is_source Ties sample names source is = files Ties names source (λ e. cc) (λ e. cc) is
-is_source Serial sample names source is = files Serial names source (λ e. cc) (λ e. cc) is
-is_source Summary sample names source is = sampled sample names source is
-is_source Migrate sample names source is = migrated names source is
+resumed : (earlier : Option Text) (names : List Text) (source : Source) → of_earlier earlier names ≡ Some source → IsSourceOf Resume names source
+resumed None names source is = absurd cc
+resumed (Some text) [] source is = absurd cc
+resumed (Some text) (dump ∷ dumps) source is =
+    let same : Earlier text ≡ source = cc in
+    subst (IsSourceOf Resume (dump ∷ dumps)) same (record { named = omega arith; written = refl })
+
+is_source : (mode : Mode) (sample earlier : Option Text) (names : List Text) (source : Source) → source_of mode sample earlier names ≡ Some source
+    → IsSourceOf mode names source
+is_source Labels sample earlier names source is = files Labels names source (λ e. cc) (λ e. cc) (λ e. cc) is
+is_source Listing sample earlier names source is = files Listing names source (λ e. cc) (λ e. cc) (λ e. cc) is
+is_source Survey sample earlier names source is = files Survey names source (λ e. cc) (λ e. cc) (λ e. cc) is
+is_source Ties sample earlier names source is = files Ties names source (λ e. cc) (λ e. cc) (λ e. cc) is
+is_source Serial sample earlier names source is = files Serial names source (λ e. cc) (λ e. cc) (λ e. cc) is
+is_source Summary sample earlier names source is = sampled sample names source is
+is_source Migrate sample earlier names source is = migrated names source is
+is_source Resume sample earlier names source is = resumed earlier names source is
 
 is_given : (mode : Mode) (asked given : Option Text) → given_for mode asked ≡ Some given → IsGivenTo mode given
 is_given mode None given is = let same : None ≡ given = cc in subst (IsGivenTo mode) same tt
@@ -89,18 +98,18 @@ made names mode sets ratio most source given = record {
   dumps = dumps_of source names;
 }
 
-module _ (names : List Text) (sample asked : Option Text) (settings : Settings) where
+module _ (names : List Text) (sample earlier asked : Option Text) (settings : Settings) where
   -- what is made with these values
   abbrev parts : Mode → Sets → ℕ → ℕ → Option Source → Option (Option Text) → Option Settings
   parts mode sets ratio most source given = option_and_then (λ s. option_map (λ g. made names mode sets ratio most s g) given) source
 
-  of_parts : (mode : Mode) (sets : Sets) (ratio most : ℕ) → within 0 1000000 ratio → within 1 8388608 most → (source : Option Source) → source_of mode sample names ≡ source
+  of_parts : (mode : Mode) (sets : Sets) (ratio most : ℕ) → within 0 1000000 ratio → within 1 8388608 most → (source : Option Source) → source_of mode sample earlier names ≡ source
       → (given : Option (Option Text)) → given_for mode asked ≡ given → parts mode sets ratio most source given ≡ Some settings → AreBounded settings
   of_parts mode sets ratio most r p None s given g e = absurd cc
   of_parts mode sets ratio most r p (Some source) s None g e = absurd cc
   of_parts mode sets ratio most r p (Some source) s (Some given) g e =
       let same : made names mode sets ratio most source given ≡ settings = cc in
-      let is = is_source mode sample names source s in
+      let is = is_source mode sample earlier names source s in
       subst AreBounded same (record {
         ratio = r.1;
         some = p.0;
@@ -111,18 +120,19 @@ module _ (names : List Text) (sample asked : Option Text) (settings : Settings) 
       })
 
   of_values : (mode : Option Mode) (sets : Option Sets) (ratio most : Option ℕ) → ((n : ℕ) → ratio ≡ Some n → within 0 1000000 n) → ((n : ℕ) → most ≡ Some n → within 1 8388608 n)
-      → option_and_then (λ m. option_and_then (λ t. option_and_then (λ r. option_and_then (λ p. parts m t r p (source_of m sample names) (given_for m asked)) most) ratio) sets) mode ≡ Some settings
+      → option_and_then (λ m. option_and_then (λ t. option_and_then (λ r.
+      option_and_then (λ p. parts m t r p (source_of m sample earlier names) (given_for m asked)) most) ratio) sets) mode ≡ Some settings
       → AreBounded settings
   of_values None sets ratio most r p e = absurd cc
   of_values (Some mode) None ratio most r p e = absurd cc
   of_values (Some mode) (Some sets) None most r p e = absurd cc
   of_values (Some mode) (Some sets) (Some ratio) None r p e = absurd cc
   of_values (Some mode) (Some sets) (Some ratio) (Some most) r p e =
-      of_parts mode sets ratio most (r ratio refl) (p most refl) (source_of mode sample names) refl (given_for mode asked) refl e
+      of_parts mode sets ratio most (r ratio refl) (p most refl) (source_of mode sample earlier names) refl (given_for mode asked) refl e
 
 bounds_in : (rows : List Row) (settings : Settings) → settings_in rows ≡ Some settings → AreBounded settings
 bounds_in rows settings is =
-    of_values (names_in rows) (first_of (codes "sample") rows) (first_of (codes "given") rows) settings
+    of_values (names_in rows) (first_of (codes "sample") rows) (first_of (codes "resume") rows) (first_of (codes "given") rows) settings
     (mode_in rows) (sets_or_cut (first_of (codes "as-sets") rows))
     (number_or 0 1000000 60 (first_of (codes "ratio") rows)) (number_or 1 8388608 8388608 (first_of (codes "max-paths") rows))
     (λ n e. within_or 0 1000000 60 n (first_of (codes "ratio") rows) (omega arith) (omega arith) e)

@@ -9,9 +9,9 @@ use Rattle.tor_arena.specs.Limits.{max_paths, max_ratio}
 use Rattle.path_clean.specs.declared.cleaned.Sets.{Sets}
 use Rattle.path_clean.specs.declared.cleaned.Sets.TheVariants.{Cut, Skip}
 use Rattle.tor_words.specs.declared.settings.Mode.{Mode}
-use Rattle.tor_words.specs.declared.settings.Mode.TheVariants.{Labels, Listing, Survey, Ties, Serial, Summary, Migrate}
+use Rattle.tor_words.specs.declared.settings.Mode.TheVariants.{Labels, Listing, Survey, Ties, Serial, Summary, Migrate, Resume}
 use Rattle.tor_words.specs.declared.settings.Source.{Source}
-use Rattle.tor_words.specs.declared.settings.Source.TheVariants.{Files, Sample, Result}
+use Rattle.tor_words.specs.declared.settings.Source.TheVariants.{Files, Sample, Result, Earlier}
 use Rattle.tor_words.specs.declared.settings.Settings.{Settings}
 use Rattle.tor_words.specs.TorCommand.{tor_command}
 
@@ -64,8 +64,8 @@ abbrev pub has_option : Text → List Row → Bool
 has_option name rows = is_some (first_of name rows)
 
 -- what is asked for in place of the result: with `--list` the list of the paths, with `--survey` what the dumps hold, with `--ties` the
--- ties of the open edges, with `--serial1` the labels as lines of serial-1, with `--sample` the summary of the result over a sample, and
--- with `--migrate` a result in the text of version 2
+-- ties of the open edges, with `--serial1` the labels as lines of serial-1, with `--sample` the summary of the result over a sample,
+-- with `--migrate` a result in the text of version 2, and with `--resume` the result of dumps on top of an earlier one
 abbrev pub asked_in : List Row → List Mode
 asked_in rows =
     with_asked (has_flag (codes "list") rows) Listing
@@ -73,7 +73,8 @@ asked_in rows =
     (with_asked (has_flag (codes "ties") rows) Ties
     (with_asked (has_flag (codes "serial1") rows) Serial
     (with_asked (has_option (codes "sample") rows) Summary
-    (with_asked (has_flag (codes "migrate") rows) Migrate [])))))
+    (with_asked (has_flag (codes "migrate") rows) Migrate
+    (with_asked (has_option (codes "resume") rows) Resume []))))))
 
 -- what is written: the result, or what is asked for in its place, which is one thing at most
 abbrev pub mode_in : List Row → Option Mode
@@ -96,13 +97,20 @@ of_result [] = None
 of_result (result ∷ []) = Some (Result result)
 of_result (result ∷ other ∷ names) = None
 
--- what is read
-abbrev pub source_of : Mode → (sample : Option Text) (names : List Text) → Option Source
-source_of Summary sample names = of_sample sample names
-source_of Migrate sample names = of_result names
-source_of _ sample names = of_dumps names
+-- an earlier result is named by the option, and beside it files of dumps, at least one
+abbrev pub of_earlier : Option Text → List Text → Option Source
+of_earlier None names = None
+of_earlier (Some text) [] = None
+of_earlier (Some text) (dump ∷ dumps) = Some (Earlier text)
 
--- the dumps among the names: all, but for a result
+-- what is read
+abbrev pub source_of : Mode → (sample earlier : Option Text) (names : List Text) → Option Source
+source_of Summary sample earlier names = of_sample sample names
+source_of Migrate sample earlier names = of_result names
+source_of Resume sample earlier names = of_earlier earlier names
+source_of _ sample earlier names = of_dumps names
+
+-- the dumps among the names: all, but for a result that is read in place of dumps
 abbrev pub dumps_of : Source → List Text → List Text
 dumps_of (Result result) names = []
 dumps_of _ names = names
@@ -119,9 +127,9 @@ abbrev pub given_for : Mode → Option Text → Option (Option Text)
 given_for mode None = Some None
 given_for mode (Some name) = if may_have_given mode then Some (Some name) else None
 
--- what the matches say of what is read
-abbrev pub source_in : List Row → Mode → Option Source
-source_in rows mode = source_of mode (first_of (codes "sample") rows) (names_in rows)
+-- what the matches and these names say of what is read
+abbrev pub source_in : List Row → Mode → (names : List Text) → Option Source
+source_in rows mode names = source_of mode (first_of (codes "sample") rows) (first_of (codes "resume") rows) names
 
 -- and of known relationships
 abbrev pub given_in : List Row → Mode → Option (Option Text)
@@ -144,7 +152,7 @@ settings_in rows =
       given = given;
       dumps = dumps_of source (names_in rows);
     }) (given_in rows mode))
-    (source_in rows mode))
+    (source_in rows mode (names_in rows)))
     (number_or 1 max_paths max_paths (first_of (codes "max-paths") rows)))
     (number_or 0 max_ratio 60 (first_of (codes "ratio") rows)))
     (sets_or_cut (first_of (codes "as-sets") rows)))
@@ -164,13 +172,15 @@ settings_given words = unless_fault (fault_of tor_command words) (settings_in (m
 -- where files of dumps are read at least one is named, and else none
 abbrev pub HasDumps : Source → List Text → Type 0
 HasDumps Files dumps = 0 < length dumps
+HasDumps (Earlier name) dumps = 0 < length dumps
 HasDumps _ dumps = dumps ≡ []
 
--- a sample is summed up, a result is written in the text of version 2, and nothing else is either
+-- a sample is summed up, a result is written in the text of version 2, an earlier result is resumed, and nothing else is any of these
 abbrev pub IsWrittenOf : Source → Mode → Type 0
-IsWrittenOf Files mode = (mode ≢ Summary) × (mode ≢ Migrate)
+IsWrittenOf Files mode = (mode ≢ Summary) × (mode ≢ Migrate) × (mode ≢ Resume)
 IsWrittenOf (Sample seed) mode = mode ≡ Summary
 IsWrittenOf (Result result) mode = mode ≡ Migrate
+IsWrittenOf (Earlier name) mode = mode ≡ Resume
 
 -- known relationships stand only where they bind something
 abbrev pub IsGivenTo : Mode → Option Text → Type 0

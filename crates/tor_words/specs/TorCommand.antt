@@ -1,6 +1,6 @@
 -- The command line of `tor`, as clap reads it:
 -- `tor [--list] [--survey] [--ties] [--serial1] [--as-sets VALUE] [--ratio NUMBER] [--max-paths NUMBER] [--sample NUMBER]
--- [--given FILE] [--migrate] [DUMP ..]`.
+-- [--given FILE] [--migrate] [--resume RESULT] [DUMP ..]`.
 use Rattle.std.specs.Prelude.{ℕ, codes, Some, true}
 use Rattle.clap.specs.Words.{App, Rule, Text, new_app, new_rule, with_rule}
 use Rattle.clap.specs.Simple.{on_top}
@@ -48,7 +48,11 @@ with_numbers app =
 
 -- the command with what asks for a file that is no dump: known relationships, or a result
 abbrev pub with_others : App → App
-with_others app = with_rule (with_rule app (option_rule (codes "given"))) (flag_rule (codes "migrate"))
+with_others app =
+    with_rule (with_rule (with_rule app
+    (option_rule (codes "given")))
+    (flag_rule (codes "migrate")))
+    (option_rule (codes "resume"))
 
 unfoldable pub tor_command : App
 tor_command =

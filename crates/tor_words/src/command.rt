@@ -143,6 +143,9 @@ const GIVEN_HELP: &str =
 const MIGRATE_HELP: &str =
     "Write the result that is named in place of dumps in the text of version 2; --as-sets, --ratio and --max-paths change nothing";
 
+const RESUME_HELP: &str =
+    "Add the dumps to this result, which has to meet all rules: what became of its paths stays, labels are new; --as-sets changes nothing";
+
 const DUMPS_HELP: &str =
     "Uncompressed MRT table dumps, read in this order; /dev/stdin can be named once";
 
@@ -190,7 +193,8 @@ fn with_others<'a>(alloc: Global, command: Command<'a>) -> Result<Command<'a>, A
     ensures { IfOk result (λ c. app_of c ≡ with_others (app_of command.entry)) }
 {
     let command = with_option(alloc, command, "given", GIVEN_HELP)?;
-    with_flag(alloc, command, "migrate", MIGRATE_HELP)
+    let command = with_flag(alloc, command, "migrate", MIGRATE_HELP)?;
+    with_option(alloc, command, "resume", RESUME_HELP)
 }
 
 /// The command line of `tor`.

@@ -3,7 +3,8 @@ ghost use Rattle.std.specs.Prelude.{◌≡◌, ◌≤◌, IfOk, IfErr, OnErr, So
 ghost use Rattle.clap.specs.Words.{found_of, rows_of, first_of};
 ghost use Rattle.tor_arena.specs.Limits.{max_paths, max_ratio};
 ghost use Rattle.tor_words.specs.Given.{settings_in, settings_given, names_in, has_flag, has_option, mode_in, of_sample, of_result};
-ghost use Rattle.tor_words.specs.Given.{source_of, dumps_of, may_have_given, given_for, number_or, sets_or_cut, HasDumps};
+ghost use Rattle.tor_words.specs.Given.{of_earlier, source_of, source_in, dumps_of, may_have_given, given_for, number_or, sets_or_cut};
+ghost use Rattle.tor_words.specs.Given.{HasDumps};
 ghost use Rattle.tor_words.specs.Refused.{IsUsage, SaysUsage};
 
 use crate::command::command;
@@ -32,6 +33,8 @@ pub enum Mode {
     Summary,
     /// A result in the text of version 2.
     Migrate,
+    /// The result of dumps on top of an earlier one.
+    Resume,
 }
 
 impl Mode {
@@ -41,7 +44,7 @@ impl Mode {
     {
         match self {
             Mode::Labels | Mode::Ties | Mode::Serial => true,
-            Mode::Listing | Mode::Survey | Mode::Summary | Mode::Migrate => false,
+            Mode::Listing | Mode::Survey | Mode::Summary | Mode::Migrate | Mode::Resume => false,
         }
     }
 }
@@ -55,6 +58,8 @@ pub enum Source {
     Sample(u64),
     /// The file of this name, which holds a result, and no dump.
     Result(Name),
+    /// The files of dumps that the words name, on top of the result that the file of this name holds.
+    Earlier(Name),
 }
 
 /// What a run of `tor` is asked for, and over which files.
@@ -64,7 +69,7 @@ pub struct Settings {
     pub mode: Mode,
     /// What is read.
     pub source: Source,
-    /// What becomes of sets in AS_PATHs.
+    /// What becomes of sets in AS_PATHs, but where an earlier result is taken up, which says it.
     pub sets: Sets,
     /// How many times the lesser degree of an edge's two ends the greater one may be at most, so that the edge can become a
     /// peering: from 0, where none can, to 1000000.
@@ -73,7 +78,7 @@ pub struct Settings {
     pub max_paths: u32,
     /// The name of the file of known relationships, if one is named.
     pub given: Option<Name>,
-    /// The names of the dumps in the order in which they are read: one at least, but none for a sample or a result.
+    /// The names of the dumps in the order in which they are read: one at least, but none for a sample or a result in their place.
     pub dumps: List<Name>,
 }
 
@@ -88,10 +93,11 @@ struct Choices {
 
 /// Why words are refused where two of them each ask for something in place of the result.
 const ONE_ALONE: &str =
-    "of --list, --survey, --ties, --serial1, --sample and --migrate one can be given\n";
+    "of --list, --survey, --ties, --serial1, --sample, --migrate and --resume one can be given\n";
 
 /// Why words are refused where known relationships would bind nothing.
-const GIVEN_ALONE: &str = "--given takes no --list, no --survey, no --sample and no --migrate\n";
+const GIVEN_ALONE: &str =
+    "--given takes no --list, no --survey, no --sample, no --migrate and no --resume\n";
 
 /// The first value of an option.
 pub(crate) fn first<'a>(matches: &ArgMatches<'a>, id: &str) -> Option<&'a str>
@@ -146,14 +152,16 @@ fn mode_in(matches: &ArgMatches) -> Result<Mode, &'static str>
     let serial = has_flag(matches, "serial1");
     let sample = has_option(matches, "sample");
     let migrate = has_flag(matches, "migrate");
-    match (list, survey, ties, serial, sample, migrate) {
-        (false, false, false, false, false, false) => Ok(Mode::Labels),
-        (true, false, false, false, false, false) => Ok(Mode::Listing),
-        (false, true, false, false, false, false) => Ok(Mode::Survey),
-        (false, false, true, false, false, false) => Ok(Mode::Ties),
-        (false, false, false, true, false, false) => Ok(Mode::Serial),
-        (false, false, false, false, true, false) => Ok(Mode::Summary),
-        (false, false, false, false, false, true) => Ok(Mode::Migrate),
+    let resume = has_option(matches, "resume");
+    match (list, survey, ties, serial, sample, migrate, resume) {
+        (false, false, false, false, false, false, false) => Ok(Mode::Labels),
+        (true, false, false, false, false, false, false) => Ok(Mode::Listing),
+        (false, true, false, false, false, false, false) => Ok(Mode::Survey),
+        (false, false, true, false, false, false, false) => Ok(Mode::Ties),
+        (false, false, false, true, false, false, false) => Ok(Mode::Serial),
+        (false, false, false, false, true, false, false) => Ok(Mode::Summary),
+        (false, false, false, false, false, true, false) => Ok(Mode::Migrate),
+        (false, false, false, false, false, false, true) => Ok(Mode::Resume),
         _ => Err(ONE_ALONE),
     }
 }
@@ -220,25 +228,69 @@ fn migrated(names: &mut List<Name>) -> Result<Source, &'static str>
     }
 }
 
+// The earlier result, beside which dumps are named; or why none.
+fn resumed(earlier: Option<Name>, names: &[Name]) -> Result<Source, &'static str>
+    ensures ok { IfOk result (λ source. of_earlier earlier names.now ≡ Some source) }
+    ensures err { OnErr result (of_earlier earlier names.now ≡ None) }
+{
+    match (earlier, names.is_empty()) {
+        (Some(name), false) => Ok(Source::Earlier(name)),
+        _ => Err("no dump is named\n"),
+    }
+}
+
 // What is read for a mode, or why nothing. Only the names of dumps are left.
 fn source_of(
     mode: Mode,
     sample: Option<&str>,
+    earlier: Option<Name>,
     names: &mut List<Name>,
 ) -> Result<Source, &'static str>
-    ensures ok { IfOk result (λ source. source_of mode (option_map (λ s. s.now) sample.entry) names.old ≡ Some source) }
-    ensures err { OnErr result (source_of mode (option_map (λ s. s.now) sample.entry) names.old ≡ None) }
+    ensures ok { IfOk result (λ source. source_of mode (option_map (λ s. s.now) sample.entry) earlier names.old ≡ Some source) }
+    ensures err { OnErr result (source_of mode (option_map (λ s. s.now) sample.entry) earlier names.old ≡ None) }
     ensures left { IfOk result (λ source. names.new ≡ dumps_of source names.old) }
 {
     match mode {
         Mode::Summary => sampled(sample, names.as_slice()),
         Mode::Migrate => migrated(names),
+        Mode::Resume => resumed(earlier, names.as_slice()),
         Mode::Labels | Mode::Listing | Mode::Survey | Mode::Ties | Mode::Serial => {
             if names.is_empty() {
                 return Err("no dump is named\n");
             }
             Ok(Source::Files)
         }
+    }
+}
+
+// A copy of a text, if there is one.
+fn name_of(alloc: Global, text: Option<&str>) -> Result<Option<Name>, NoMemory>
+    ensures { IfOk result (λ name. name ≡ option_map (λ s. s.now) text.entry) }
+{
+    match text {
+        None => Ok(None),
+        Some(text) => Ok(Some(Name::from_text(alloc, text)?)),
+    }
+}
+
+// What is read for a mode, by the matches, or why nothing. Only the names of dumps are left.
+fn source_in(
+    alloc: Global,
+    matches: &ArgMatches,
+    mode: Mode,
+    names: &mut List<Name>,
+) -> Result<Source, WordsRefused>
+    ensures ok { IfOk result (λ source. source_in (rows_of (found_of matches.now)) mode names.old ≡ Some source) }
+    ensures err { IfErr result (λ e. IsUsage e → source_in (rows_of (found_of matches.now)) mode names.old ≡ None) }
+    ensures text { IfErr result SaysUsage }
+    ensures left { IfOk result (λ source. names.new ≡ dumps_of source names.old) }
+{
+    let Ok(earlier) = name_of(alloc, first(matches, "resume")) else {
+        return Err(WordsRefused::NoMemory);
+    };
+    match source_of(mode, first(matches, "sample"), earlier, names) {
+        Ok(source) => Ok(source),
+        Err(why) => Err(usage(alloc, why)),
     }
 }
 
@@ -275,9 +327,9 @@ fn settings_in(alloc: Global, matches: &ArgMatches) -> Result<Settings, WordsRef
     let Ok(mut dumps) = names_in(alloc, matches) else {
         return Err(WordsRefused::NoMemory);
     };
-    let source = match source_of(choices.mode, first(matches, "sample"), &mut dumps) {
+    let source = match source_in(alloc, matches, choices.mode, &mut dumps) {
         Ok(source) => source,
-        Err(why) => return Err(usage(alloc, why)),
+        Err(refused) => return Err(refused),
     };
     match given_for(alloc, choices.mode, first(matches, "given")) {
         Ok(given) => Ok(Settings {
