@@ -15,10 +15,10 @@ use tor_arena::{Keys, List};
 use tor_io::Shelf;
 use tor_words::Name;
 
-/// Where the reading of dumps stopped: the number of the dump, from 1, and why.
+/// Where the reading of dumps stopped, and why.
 #[derive(Clone, Copy, PartialEq, Eq)]
 pub struct Stopped {
-    /// The number of the dump, from 1.
+    /// The number of the dump, from 1; 0 where a result on top of which dumps are to be read has too many paths, so that none is opened.
     pub dump: u64,
     /// Why.
     pub error: DumpError,

@@ -13,7 +13,7 @@ const NO_WORDS: u8 = 9;
 pub enum Status {
     /// The text that was asked for was written whole, or of a check the yes.
     Done,
-    /// The no of a check was written whole.
+    /// A rule of a result is broken: the no of a check was written whole, or a run of `tor` didn't take the result up, as its note says.
     No,
     /// The words are no command of the program.
     Usage,

@@ -6,7 +6,7 @@ use Rattle.tor_io.specs.Contents.{Files}
 use Rattle.rel_infer.specs.SelfAcceptance.{AreTableRows, SelfAcceptanceLaw}
 use Rattle.tor_words.specs.Given.{BoundsLaw}
 use Rattle.tor_run.specs.Accepting.{AreSound, FaithfulLaw, TableLaw}
-use Rattle.tor_run.specs.First.{First, Nothing, Givens, Result, AreGivens, first_in}
+use Rattle.tor_run.specs.First.{First, Nothing, Givens, Result, Earlier, AreGivens, first_in}
 use Rattle.tor_run.proofs.Known.{says_sound}
 use Rattle.tor_run.proofs.ReadableLemmas.{readable}
 use Rattle.tor_run.proofs.SeenLemmas.{seen_law}
@@ -31,6 +31,7 @@ givens_sound Nothing files (Some givens) is = absurd is
 givens_sound (Givens name) files None is = absurd is
 givens_sound (Givens name) files (Some givens) is = says_sound is.0 givens is.2
 givens_sound (Result name) files known is = absurd is
+givens_sound (Earlier name) files known is = absurd is
 
 pub table_law : BoundsLaw → TableLaw
 table_law bounds words settings files known taken given comes =

@@ -1,6 +1,7 @@
 -- A status has to come, by what the words and the files of a run give.
-use Rattle.std.proofs.Common.{◌≡◌, ◌⊎◌, inl, inr, ℕ, List, Option, Some, None, refl, subst}
+use Rattle.std.proofs.Common.{◌≡◌, ◌⊎◌, inl, inr, ℕ, List, Option, Some, None, refl, sym, subst, ◌∙◌, arith}
 use Rattle.std.specs.Prelude.{IsNone, IfSome}
+use Rattle.tor_arena.specs.Growth.{one_more}
 use Rattle.tor_io.specs.Counts.{Rose, IsQuiet}
 use Rattle.tor_io.specs.Contents.{Files}
 use Rattle.dump_read.specs.Seen.{Absent, Malformed, Limit}
@@ -11,10 +12,10 @@ use Rattle.run_base.specs.declared.status.Status.TheVariants as status
 use Rattle.run_base.proofs.Statuses.{Asks, Cause, IsOfText}
 use Rattle.run_base.proofs.Statuses as statuses
 use Rattle.torcheck_run.proofs.Comings.{OneValue}
-use Rattle.tor_run.specs.Answer.{IsNote, FailedAtFirst, FailedAt, LeadsToMalformed, LeadsToLimit, LeadsToAbsent}
-use Rattle.tor_run.specs.First.{NoFile, TooLong, BadLine}
+use Rattle.tor_run.specs.Answer.{IsNote, FailedAtFirst, FailedAt, LeadsToBroken, LeadsToMalformed, LeadsToLimit, LeadsToAbsent}
+use Rattle.tor_run.specs.First.{NoFile, TooLong, BadLine, Broken}
 use Rattle.tor_run.specs.Output.{GainsOutput, GainsOutputPrefix, IsOutput}
-use Rattle.tor_run.specs.Seen.{Outcome, Reads, Holds, Stops, Ends, Gives, LeadsTo}
+use Rattle.tor_run.specs.Seen.{Outcome, Reads, Joins, Holds, Stops, Ends, Gives, LeadsTo}
 use Rattle.tor_run.specs.Written.{Written}
 use Rattle.tor_run.proofs.Comings.{status_for, one_status}
 
@@ -31,6 +32,7 @@ module _ (words : List (List ℕ)) (known : Option Files) where
 -- of what something is written a run is done
 written_done : (settings : Settings) (x : Outcome) (output : Written) → IsOutput settings x output → status_for x ≡ status.Done
 written_done settings (Reads known taken) output is = refl
+written_done settings (Joins earlier taken) output is = refl
 written_done settings (Holds file) output is = refl
 written_done settings (Stops end) output is = absurd is
 written_done settings (Ends end) output is = absurd is
@@ -76,6 +78,15 @@ module _ (words : List (List ℕ)) (known : Option Files) (steady : Type 0) (lef
       by : IsNote words known steady left status.ReadFault text → LeadsToAbsent words known
       by why = or_dump why.0 why.2
 
+  pub leads_broken : s ≡ status.No → LeadsToBroken words known
+  leads_broken is = by (subst (λ (t : Status). IsNote words known steady left t text) is note)
+    where
+      by : IsNote words known steady left status.No text → LeadsToBroken words known
+      by why = (why.0, why.1, why.3)
+
+  note_no : s ≡ status.No → AsksFor words known (λ t. t ≡ status.No)
+  note_no is = let why = leads_broken is in leads words (λ t. t ≡ status.No) known (Stops (Broken why.0 why.1)) refl why.2
+
   note_malformed : s ≡ status.Malformed → AsksFor words known (λ t. t ≡ status.Malformed)
   note_malformed is = by (leads_malformed is)
     where
@@ -101,13 +112,13 @@ module _ (words : List (List ℕ)) (known : Option Files) (steady : Type 0) (lef
   pub always : OneValue → (old new : Option (List ℕ)) (rb rn wb wn : ℕ)
       → (s ≡ status.Done → IfSome known (λ files. GainsOutput words files old new text)) → (s ≡ status.WriteFault → IfSome known (λ files. GainsOutputPrefix words files old new))
       → (s ≡ status.Usage → IsNone (settings_given words))
-      → (s ≡ status.ReadFault → Rose rb rn) → (s ≡ status.WriteFault → Rose wb wn) → (s ≡ status.No → ⊥) → (files : Files) (x : Outcome) → known ≡ Some files → Gives words files x
+      → (s ≡ status.ReadFault → Rose rb rn) → (s ≡ status.WriteFault → Rose wb wn) → (files : Files) (x : Outcome) → known ≡ Some files → Gives words files x
       → (IsQuiet rb rn ⊎ steady) ⊎ (status_for x ≡ status.ReadFault) → (IsOfText (status_for x) → IsQuiet wb wn) → (s ≡ status_for x) ⊎ (s ≡ status.NoMemory)
-  always law old new rb rn wb wn done cut_off usage read_fault write_fault no_other files x is gives well quiet =
+  always law old new rb rn wb wn done cut_off usage read_fault write_fault files x is gives well quiet =
       statuses.always (Gives words) status_for (IsNone (settings_given words)) steady rb rn wb wn files (one_status law words files) (given_none words files) x gives known s
       (record {
         done = λ e. gained words known old new text (done e);
-        no = λ e. absurd (no_other e);
+        no = note_no;
         cut_off = λ e. gained_prefix words known old new (cut_off e);
         usage = usage;
         malformed = note_malformed;
@@ -116,3 +127,23 @@ module _ (words : List (List ℕ)) (known : Option Files) (steady : Type 0) (lef
         absent = note_absent;
         write_fault = write_fault;
       }) is well quiet
+
+  -- where it is a broken rule, nothing is written, so that no write fails
+  pub always_broken : OneValue → (old new : Option (List ℕ)) (rb rn : ℕ)
+      → (s ≡ status.Done → IfSome known (λ files. GainsOutput words files old new text)) → (s ≡ status.WriteFault → IfSome known (λ files. GainsOutputPrefix words files old new))
+      → (s ≡ status.Usage → IsNone (settings_given words))
+      → (s ≡ status.ReadFault → Rose rb rn) → (files : Files) (line rule : ℕ) → known ≡ Some files → Gives words files (Stops (Broken line rule))
+      → IsQuiet rb rn ⊎ steady → (s ≡ status.No) ⊎ (s ≡ status.NoMemory)
+  always_broken law old new rb rn done cut_off usage read_fault files line rule is gives well =
+      always law old new rb rn 0 0 done cut_off usage read_fault (λ e. absurd (whole (subst (λ (o : Option Files). IfSome o (λ fs. GainsOutputPrefix words fs old new)) is (cut_off e))))
+      files (Stops (Broken line rule)) is gives (inl well) (λ _. quiet)
+    where
+      quiet : IsQuiet 0 0
+      quiet = let one : one_more 0 ≡ 1 = refl in omega (arith, one)
+
+      whole : GainsOutputPrefix words files old new → ⊥
+      whole gains =
+          let a = gains.1 in
+          let same = one_status law words files a.outcome (Stops (Broken line rule)) (a.settings, a.given, a.comes) gives in
+          let both : status.Done ≡ status.No = sym (written_done a.settings a.outcome gains.0 a.written) ∙ same in
+          absurd cc

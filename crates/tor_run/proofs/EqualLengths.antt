@@ -1,5 +1,5 @@
 -- The texts of a result in both versions are equally long: the letter g stands for the digit 0, and the digit 2 for 1.
-use Rattle.std.proofs.Common.{◌≡◌, ◌<◌, ℕ, zero, suc, ◌+◌, List, [], ◌∷◌, ◌++◌, length, Option, Some, None, refl, sym, ap, ap₂, ◌∙◌, subst, arith}
+use Rattle.std.proofs.Common.{◌≡◌, ℕ, zero, suc, ◌+◌, List, [], ◌∷◌, ◌++◌, length, Option, None, refl, sym, ap, ap₂, ◌∙◌, subst, arith}
 use Rattle.std.specs.List.{flat_map, join_with_byte}
 use Rattle.std.proofs.lemmas.List.{length-append}
 use Rattle.std.specs.Fmt.{decimal}
@@ -8,12 +8,11 @@ use Rattle.relationships.specs.declared.fate.Fate.{Fate}
 use Rattle.relationships.specs.declared.fate.Fate.TheVariants as fate
 use Rattle.relationships.specs.declared.given.Given.{Given}
 use Rattle.relationships.specs.declared.walk.Link.{Link}
-use Rattle.relationships.specs.declared.walk.Walk.{Walk}
 use Rattle.result_text.specs.declared.file.ResultFile.{ResultFile}
 use Rattle.result_text.specs.declared.line.Line.{Line}
 use Rattle.result_text.specs.declared.line.Line.TheVariants as line
 use Rattle.result_text.specs.declared.line.Version.TheVariants as version
-use Rattle.result_text.specs.Text.{path_name, link, links, fields_of, line_text, text, aside_lines, body_lines, others, numbers_text}
+use Rattle.result_text.specs.Text.{path_name, link, links, line_text, text, aside_lines, body_lines, others, numbers_text}
 use Rattle.tor_run.specs.Output.{migrated}
 
 -- ---- lists

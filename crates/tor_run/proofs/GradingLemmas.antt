@@ -28,7 +28,7 @@ use Rattle.as_rel.specs.Labelled.{ends_of, line_of_edge}
 use Rattle.as_rel.proofs.KeptLemmas.{kept_free_law, ends_law}
 use Rattle.tor_words.specs.declared.settings.Settings.{Settings}
 use Rattle.tor_words.specs.declared.settings.Mode.{Mode}
-use Rattle.tor_words.specs.declared.settings.Mode.TheVariants.{Serial, Migrate}
+use Rattle.tor_words.specs.declared.settings.Mode.TheVariants.{Serial, Migrate, Resume}
 use Rattle.tor_words.specs.declared.settings.Source.{Source}
 use Rattle.tor_words.specs.declared.settings.Source.TheVariants as source
 use Rattle.tor_words.specs.Given.{settings_given, IsWrittenOf}
@@ -37,9 +37,9 @@ use Rattle.tor_io.specs.Contents.{Files}
 use Rattle.dump_read.specs.declared.taking.Taken.{Taken}
 use Rattle.tor_run.specs.Grading.{GradesExactly, GradingLaw, ResultEndsLaw, AsksForSerial, GainsGrading}
 use Rattle.std.specs.Io.KnownBytes.{append_known}
-use Rattle.tor_run.specs.First.{HoldsResult, first_by}
+use Rattle.tor_run.specs.First.{HoldsResult, TakesUp, first_by}
 use Rattle.tor_run.specs.Output.{IsOutput, IsOutputIn, GainsOutput}
-use Rattle.tor_run.specs.Seen.{Outcome, Reads, Holds, Stops, Ends, ComesTo}
+use Rattle.tor_run.specs.Seen.{Outcome, Reads, Joins, Holds, Stops, Ends, ComesTo}
 use Rattle.tor_run.specs.Written.{Written}
 use Rattle.tor_run.proofs.AcceptingLemmas.{table_law}
 
@@ -106,7 +106,7 @@ written_by mode settings known taken output is are made =
     let (file, faithful, serial, bare) = subst (λ (m : Mode). IsOutputIn m settings known taken output) is made in
     text_graded known settings.sets settings.ratio taken.table.rows taken.counts file are faithful output.text serial.1
 
--- a result is held where it is migrated, and no labels are written of it
+-- a result is taken up where it is resumed, and held where it is migrated, and lines of serial-1 are written of neither
 by_outcome : (words : List (List ℕ)) (files : Files) (old new : Option (List ℕ)) (settings : Settings) (x : Outcome) (output : Written) → settings_given words ≡ Some settings →
     settings.mode ≡ Serial → new ≡ append_known old output.text → ComesTo settings files x → IsOutput settings x output → GainsGrading words files old new
 by_outcome words files old new settings (Reads known taken) output given serial gained comes is = record {
@@ -119,6 +119,15 @@ by_outcome words files old new settings (Reads known taken) output given serial 
   gained = gained;
   exact = written_by settings.mode settings known taken output serial (table_law bounds words settings files known taken given comes).0 is;
 }
+by_outcome words files old new settings (Joins earlier taken) output given serial gained comes is =
+    absurd (of_earlier settings.source settings.given settings.mode files earlier (bounds words settings given).written serial comes.0)
+  where
+    of_earlier : (from : Source) (name : Option (List ℕ)) (mode : Mode) (fs : Files) (f : ResultFile) → IsWrittenOf from mode → mode ≡ Serial → TakesUp (first_by from name) fs f → ⊥
+    of_earlier source.Files None mode fs f written is takes = takes
+    of_earlier source.Files (Some n) mode fs f written is takes = takes
+    of_earlier (source.Sample seed) n mode fs f written is takes = takes
+    of_earlier (source.Result r) n mode fs f written is takes = takes
+    of_earlier (source.Earlier r) n mode fs f written is takes = let e : Serial ≡ Resume = sym is ∙ written in absurd (cc e)
 by_outcome words files old new settings (Holds file) output given serial gained comes is =
     absurd (of_result settings.source settings.given settings.mode files file (bounds words settings given).written serial comes)
   where
@@ -127,6 +136,7 @@ by_outcome words files old new settings (Holds file) output given serial gained 
     of_result source.Files (Some n) mode fs f written is holds = holds
     of_result (source.Sample seed) n mode fs f written is holds = holds
     of_result (source.Result r) n mode fs f written is holds = let e : Serial ≡ Migrate = sym is ∙ written in absurd (cc e)
+    of_result (source.Earlier r) n mode fs f written is holds = holds
 by_outcome words files old new settings (Stops end) output given serial gained comes is = absurd is
 by_outcome words files old new settings (Ends end) output given serial gained comes is = absurd is
 

@@ -4,12 +4,17 @@ pub mod Agreeing
 pub mod Always
 pub mod Comings
 pub mod EqualLengths
+pub mod FewGivens
 pub mod GradingLemmas
+pub mod JoinedRows
+pub mod Joining
 pub mod Known
 pub mod Lines
 pub mod Migrating
 pub mod Reaching
 pub mod ReadableLemmas
+pub mod ResumeLemmas
+pub mod Resumings
 pub mod Sampled
 pub mod SeenLemmas
 pub mod SelfGradings

@@ -1,6 +1,6 @@
 -- A check comes to the same with the text of a result and with its text of version 2: what the rules read is the same, and the texts are
 -- equally long.
-use Rattle.std.proofs.Common.{◌≡◌, ◌≤◌, ◌<◌, ◌+◌, inl, inr, ℕ, zero, suc, arith, true, false, List, [], ◌∷◌, length, Option, Some, None, Ok, Err, Result, is_none, refl, sym, ap, ◌∙◌, subst, Contains}
+use Rattle.std.proofs.Common.{◌≡◌, ◌≤◌, ◌<◌, ◌+◌, inl, inr, ℕ, zero, suc, arith, true, false, List, [], ◌∷◌, length, Option, Some, None, Ok, Err, Result, is_none, refl, sym, ap, ◌∙◌, subst}
 use Rattle.tor_io.specs.Contents.{Files}
 use Rattle.path_clean.specs.Counts.{CauseCounts}
 use Rattle.path_clean.specs.Rows.{Counted}
@@ -25,7 +25,7 @@ use Rattle.run_base.specs.WholeFile.{IsLongFile}
 use Rattle.tor_arena.specs.Limits.{max_paths}
 use Rattle.tor_words.specs.declared.check_settings.CheckSettings.{CheckSettings}
 use Rattle.torcheck_run.specs.Limits.{max_result}
-use Rattle.torcheck_run.specs.Judging.{BreaksRule, IsAccepted, IsVerdict, JudgesByDumps, seen_for, Outcome, Judged, NoResult, TooLong, Ends, SettingsGive}
+use Rattle.torcheck_run.specs.Judging.{BreaksRule, IsVerdict, JudgesByDumps, seen_for, Outcome, Judged, NoResult, TooLong, Ends, SettingsGive}
 use Rattle.torcheck_run.proofs.Comings.{OneValue, same_file}
 use Rattle.tor_run.specs.Agreement.{MigrateLaw}
 use Rattle.tor_run.specs.Output.{migrated}

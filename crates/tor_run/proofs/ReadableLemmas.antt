@@ -31,7 +31,7 @@ use Rattle.tor_run.proofs.SeenLemmas.{same, dumps_law, sample_file, as_dump}
 -- ---- the counts of files play no part in what is taken in
 
 -- the same with these counts of files
-abbrev beside : List FileCounts → Taken → Taken
+abbrev pub beside : List FileCounts → Taken → Taken
 beside files taken = record taken { files = files }
 
 path_beside : (files : List FileCounts) (old new : Taken) (path : List ℕ) → take_path old path ≡ Ok new → take_path (beside files old) path ≡ Ok (beside files new)
@@ -51,7 +51,7 @@ one_beside : (files : List FileCounts) (old new : Taken) (one : Cleaned) → tak
 one_beside files old new (Path path) e = path_beside files old new path e
 one_beside files old new (Aside found) e = ap (λ (t : Taken). Ok (beside files t)) (taking.same_ok (record old { counts = counted_one found old.counts }) new e)
 
-routes_beside : (sets : Sets) (files : List FileCounts) (routes : List Route) (old new : Taken) → Takes sets old routes new
+pub routes_beside : (sets : Sets) (files : List FileCounts) (routes : List Route) (old new : Taken) → Takes sets old routes new
     → Takes sets (beside files old) routes (beside files new)
 unfolding take_routes
 routes_beside sets files [] old new e = ap (λ (t : Taken). Ok (beside files t)) (taking.same_ok old new e)
@@ -99,7 +99,7 @@ join sets (route ∷ first) rest old mid new e takes = by (take_route sets old r
 -- ---- dumps that are seen are taken in at once
 
 -- a dump is seen where its routes are taken in and it is whole
-one_seen : (sets : Sets) (dump : ℕ) (octets : List ℕ) (old new : Taken) → IsWhole octets → Takes sets old (file_reading octets).routes new
+pub one_seen : (sets : Sets) (dump : ℕ) (octets : List ℕ) (old new : Taken) → IsWhole octets → Takes sets old (file_reading octets).routes new
     → of_file sets dump old (Some octets) ≡ Ok (with_file octets new)
 one_seen sets dump octets old new whole takes = rw takes (rw whole refl)
 
@@ -124,12 +124,12 @@ are_seen sets dump (name ∷ names) (o ∷ octets) files old new there whole tak
     (rest.0, rw (first_there files name names o octets there) (rw here rest.1))
 
 -- a dump that was seen is whole, and its routes were taken in
-record IsTaken (sets : Sets) (octets : List ℕ) (old new : Taken) : Type 0 where
-  all : Taken
-  takes : Takes sets old (file_reading octets).routes all
-  same : with_file octets all ≡ new
+pub record IsTaken (sets : Sets) (octets : List ℕ) (old new : Taken) : Type 0 where
+  pub all : Taken
+  pub takes : Takes sets old (file_reading octets).routes all
+  pub same : with_file octets all ≡ new
 
-one_taken : (sets : Sets) (dump : ℕ) (octets : List ℕ) (old new : Taken) → of_file sets dump old (Some octets) ≡ Ok new → IsTaken sets octets old new
+pub one_taken : (sets : Sets) (dump : ℕ) (octets : List ℕ) (old new : Taken) → of_file sets dump old (Some octets) ≡ Ok new → IsTaken sets octets old new
 one_taken sets dump octets old new e = by (take_routes sets old (file_reading octets).routes) refl (file_reading octets).end e
   where
     by : (taking : Result Taken LimitKind) → take_routes sets old (file_reading octets).routes ≡ taking → (end : FileEnd)
@@ -191,6 +191,7 @@ dumps_readable sets limit names files = (λ seen. forth seen.0 seen.1, λ readab
 pub readable : ReadableLaw
 readable source.Files settings files = dumps_readable settings.sets settings.max_paths settings.dumps files
 readable (source.Result name) settings files = dumps_readable settings.sets settings.max_paths settings.dumps files
+readable (source.Earlier name) settings files = dumps_readable settings.sets settings.max_paths settings.dumps files
 readable (source.Sample seed) settings files =
     subst (λ (given : Result Taken DumpsEnd). ((taken : Taken) × (given ≡ Ok taken)) ↔ AreReadable settings.sets settings.max_paths (Some (sample seed) ∷ []))
     (as_dump settings seed) (dumps_readable settings.sets settings.max_paths ([] ∷ []) (sample_file seed))

@@ -19,11 +19,13 @@ pub by_source : (s : Source) {P Q : Type 0} → P → Q → BySource s P Q
 by_source source.Files p q = q
 by_source (source.Sample seed) p q = p
 by_source (source.Result name) p q = q
+by_source (source.Earlier name) p q = q
 
 pub source_more : (s : Source) {P Q R S : Type 0} → (P → R) → (Q → S) → BySource s P Q → BySource s R S
 source_more source.Files f g h = g h
 source_more (source.Sample seed) f g h = f h
 source_more (source.Result name) f g h = g h
+source_more (source.Earlier name) f g h = g h
 
 settings_more : (o : Option Settings) {P Q R S : Type 0} → (P → R) → (Q → S) → BySourceOf o P Q → BySourceOf o R S
 settings_more None f g h = tt
@@ -74,6 +76,8 @@ unwritten-given words settings known steady (unwritten.First file why) given h =
     known-given words settings known (λ o. IsUnwrittenGiven words o steady (unwritten.First file why)) given (settings, given, h)
 unwritten-given words settings known steady (unwritten.BadLine file line) given h =
     known-given words settings known (λ o. IsUnwrittenGiven words o steady (unwritten.BadLine file line)) given (settings, given, h)
+unwritten-given words settings known steady (unwritten.Broken line rule) given h =
+    known-given words settings known (λ o. IsUnwrittenGiven words o steady (unwritten.Broken line rule)) given (settings, given, h)
 unwritten-given words settings known steady (unwritten.Refused (refusal.Words w)) given h = absurd h
 unwritten-given words settings known steady (unwritten.Refused (refusal.Dumps stopped)) given h =
     known-given words settings known (λ o. IsUnwrittenGiven words o steady (unwritten.Refused (refusal.Dumps stopped))) given (settings, given, h)

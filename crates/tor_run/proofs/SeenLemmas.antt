@@ -51,11 +51,11 @@ files_kept sets (route ∷ routes) old new e = by (take_route sets old route) re
 -- ---- one dump
 
 -- a dump was read to its end, and what it holds is counted behind the others
-record Adds (octets : List ℕ) (old new : Taken) : Type 0 where
-  whole : IsWhole octets
-  files : new.files ≡ old.files ++ file_counts octets ∷ []
+pub record Adds (octets : List ℕ) (old new : Taken) : Type 0 where
+  pub whole : IsWhole octets
+  pub files : new.files ≡ old.files ++ file_counts octets ∷ []
 
-adds : (sets : Sets) (dump : ℕ) (octets : List ℕ) (old new : Taken) → of_file sets dump old (Some octets) ≡ Ok new → Adds octets old new
+pub adds : (sets : Sets) (dump : ℕ) (octets : List ℕ) (old new : Taken) → of_file sets dump old (Some octets) ≡ Ok new → Adds octets old new
 adds sets dump octets old new e = by (take_routes sets old (file_reading octets).routes) refl (file_reading octets).end refl e
   where
     by : (taking : Result Taken LimitKind) → take_routes sets old (file_reading octets).routes ≡ taking → (end : FileEnd) → (file_reading octets).end ≡ end
@@ -154,5 +154,6 @@ as_dump settings seed = by (seen_in_sample settings seed)
 pub seen_law : SeenLaw
 seen_law source.Files settings files taken e = dumps_law settings.sets settings.max_paths settings.dumps files taken e
 seen_law (source.Result name) settings files taken e = dumps_law settings.sets settings.max_paths settings.dumps files taken e
+seen_law (source.Earlier name) settings files taken e = dumps_law settings.sets settings.max_paths settings.dumps files taken e
 seen_law (source.Sample seed) settings files taken e =
     dumps_law settings.sets settings.max_paths ([] ∷ []) (sample_file seed) taken (as_dump settings seed ∙ e)

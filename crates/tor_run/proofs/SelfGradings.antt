@@ -95,6 +95,7 @@ of_files : (source : Source) (mode : Mode) (settings : Settings) (files : Files)
 of_files source.Files mode settings files taken written is sees = sees
 of_files (source.Sample seed) mode settings files taken written is sees = let e : Serial ≡ Summary = sym is ∙ written in absurd (cc e)
 of_files (source.Result name) mode settings files taken written is sees = sees
+of_files (source.Earlier name) mode settings files taken written is sees = sees
 
 then_same : (r : Result Taken DumpsEnd) (f g : Taken → Result Taken DumpsEnd) → ((t : Taken) → f t ≡ g t) → (r >>= f) ≡ (r >>= g)
 then_same (Ok t) f g same = same t

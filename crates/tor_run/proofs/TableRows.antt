@@ -20,13 +20,13 @@ use Rattle.dump_read.specs.Laws.{Fit, path_in, cleaned_paths}
 use Rattle.dump_read.specs.Routes.{Route}
 use Rattle.rel_infer.specs.SelfAcceptance.{AreTableRows}
 
-eq_true : (x y : List ℕ) → bytes_eq x y ≡ true → x ≡ y
+pub eq_true : (x y : List ℕ) → bytes_eq x y ≡ true → x ≡ y
 eq_true x y e = (bytes_eq-Decides x y).0 e
 
 eq_self : (x : List ℕ) → bytes_eq x x ≡ true
 eq_self x = (bytes_eq-Decides x x).1 refl
 
-eq_flip : (x y : List ℕ) → bytes_eq x y ≡ false → bytes_eq y x ≡ false
+pub eq_flip : (x y : List ℕ) → bytes_eq x y ≡ false → bytes_eq y x ≡ false
 eq_flip x y e = by (bytes_eq y x) refl
   where
     by : (c : Bool) → bytes_eq y x ≡ c → bytes_eq y x ≡ false
@@ -35,7 +35,7 @@ eq_flip x y e = by (bytes_eq y x) refl
 
 -- ---- none twice
 
-abbrev has : List ℕ → List (List ℕ) → Bool
+abbrev pub has : List ℕ → List (List ℕ) → Bool
 has p paths = list_any (λ other. bytes_eq other p) paths
 
 abbrev others : List ℕ → List (List ℕ) → List (List ℕ)
@@ -59,11 +59,11 @@ lacks_itself x (d ∷ ds) = by (lacks_itself x ds) (bytes_eq d x) refl
     by ih true e = ap (λ c. has x (cond (not c) (d ∷ others x ds) (others x ds))) e ∙ ih
     by ih false e = ap (λ c. has x (cond (not c) (d ∷ others x ds) (others x ds))) e ∙ ap (λ c. c || has x (others x ds)) e ∙ ih
 
-both : (a b : Bool) → a ≡ false → b ≡ true → (not a && b) ≡ true
+pub both : (a b : Bool) → a ≡ false → b ≡ true → (not a && b) ≡ true
 both true b n h = cc
 both false b n h = h
 
-parts : (a b : Bool) → (not a && b) ≡ true → (a ≡ false) × (b ≡ true)
+pub parts : (a b : Bool) → (not a && b) ≡ true → (a ≡ false) × (b ≡ true)
 parts true b h = cc
 parts false b h = (refl, h)
 

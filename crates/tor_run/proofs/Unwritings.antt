@@ -1,6 +1,6 @@
 -- Why there is no text, and the note then.
-use Rattle.std.proofs.Common.{◌≡◌, ◌≢◌, ◌≤◌, inl, inr, ℕ, List, length, Option, Some, None, Ok, refl, sym, ap, subst, ◌∙◌}
-use Rattle.std.specs.Prelude.{IfSome}
+use Rattle.std.proofs.Common.{◌≡◌, ◌≢◌, ◌≤◌, ◌-◌, inl, inr, ℕ, List, length, take, Option, Some, None, Ok, refl, sym, ap, subst, ◌∙◌}
+use Rattle.std.specs.Prelude.{IfSome, IsOk}
 use Rattle.tor_io.specs.Contents.{Files}
 use Rattle.relationships.specs.declared.given.Given.{Given}
 use Rattle.dump_read.specs.declared.error.DumpError.{DumpError}
@@ -10,7 +10,8 @@ use Rattle.dump_read.specs.Seen.{DumpsEnd, Absent, Malformed, Limit}
 use Rattle.rel_infer.specs.SelfAcceptance.{AreTableRows}
 use Rattle.result_text.specs.declared.file.ResultFile.{ResultFile}
 use Rattle.result_text.specs.Grammar.{IsBadLine}
-use Rattle.tor_words.specs.declared.settings.Mode.TheVariants.{Summary, Migrate}
+use Rattle.result_rules.specs.declared.verdict.Verdict.TheVariants.{No}
+use Rattle.tor_words.specs.declared.settings.Mode.TheVariants.{Summary, Migrate, Resume}
 use Rattle.tor_words.specs.declared.settings.Settings.{Settings}
 use Rattle.tor_words.specs.declared.settings.Source.{Source}
 use Rattle.tor_words.specs.declared.settings.Source.TheVariants as source
@@ -27,15 +28,18 @@ use Rattle.run_base.specs.Notes.{malformed_note, limit_note, bad_line_note, too_
 use Rattle.run_base.specs.Answers.{AnswersStop, AnswersWith, IsNoMemory, note_in, note_text}
 use Rattle.tor_run.specs.declared.unwritten.Unwritten.{Unwritten}
 use Rattle.tor_run.specs.declared.unwritten.Unwritten.TheVariants as unwritten
-use Rattle.tor_run.specs.Answer.{AreGivensGood, IsNote}
-use Rattle.tor_run.specs.First.{First, Nothing, Givens, NoFile, TooLong, BadLine, AreGivens, AreSomeGivens, HoldsResult, IsSomeResult, first_by, first_in}
+use Rattle.torcheck_run.specs.CheckAnswer.{no_text}
+use Rattle.tor_run.specs.Answer.{AreGivensGood, JoinsBefore, IsNote}
+use Rattle.tor_run.specs.First.{First, Nothing, Givens, Earlier, NoFile, TooLong, BadLine, Broken, AreGivens, AreSomeGivens, HoldsResult, IsSomeResult, TakesUpSome, EndsAtFirst, first_by, first_in}
 use Rattle.tor_run.specs.First.{Result as ResultAt}
-use Rattle.tor_run.specs.Output.{IsMigrated, IsOutput, IsOutputIn, IsOutputOf}
+use Rattle.tor_run.specs.Output.{IsMigrated, IsOutput, IsOutputIn, IsOutputOf, IsOutputOnEarlier, IsOutputOnSome}
 use Rattle.tor_run.specs.Reach.{LeavesOnlyFirst, IsFirstInReach, StopsInReach, IsUnwrittenInReach, StaysUnwrittenInReach}
+use Rattle.torcheck_run.specs.Judging.{BreaksRule, IsAccepted}
 use Rattle.torcheck_run.specs.Limits.{max_result}
-use Rattle.tor_run.specs.Refusals.{AreGivensIn, DumpsEndIn, FirstEnds, StopsIn, IsStopIn, IsUnwrittenAtFirst, IsUnwrittenIn, IsUnwritten, AnswersUnwritten}
+use Rattle.tor_run.specs.Refusals.{AreGivensIn, TakesUpIn, DumpsEndIn, JoinedEndIn, FirstEnds, StopsIn, StopsOn, IsStopIn, IsStopOn, IsStopBehindFirst}
+use Rattle.tor_run.specs.Refusals.{IsUnwrittenAtFirst, IsUnwrittenIn, IsUnwritten, AnswersUnwritten}
 use Rattle.tor_run.specs.Sampling.{known_by, known_in}
-use Rattle.tor_run.specs.Seen.{Outcome, Reads, Holds, Stops, Ends, ComesTo, ComesOfSome, IsSeenOfSome, LeadsTo, seen_in}
+use Rattle.tor_run.specs.Seen.{Outcome, Reads, Joins, Holds, Stops, Ends, ComesTo, ComesOfSome, IsSeenOfSome, LeadsTo, seen_in, joined}
 use Rattle.tor_run.specs.Written.{Written}
 use Rattle.tor_run.proofs.Sampled.{all_known, known-given}
 
@@ -53,7 +57,10 @@ sample_first settings seed is = ap (λ (s : Source). first_by s settings.given) 
 pub result_first : (settings : Settings) (name : List ℕ) → settings.source ≡ source.Result name → first_in settings ≡ ResultAt name
 result_first settings name is = ap (λ (s : Source). first_by s settings.given) is
 
--- what is read is not migrated
+pub earlier_first : (settings : Settings) (name : List ℕ) → settings.source ≡ source.Earlier name → first_in settings ≡ Earlier name
+earlier_first settings name is = ap (λ (s : Source). first_by s settings.given) is
+
+-- what is read is not migrated, and no result is taken up
 pub files_read : (settings : Settings) → settings.source ≡ source.Files → IsWrittenOf settings.source settings.mode → settings.mode ≢ Migrate
 files_read settings is written = (subst (λ (s : Source). IsWrittenOf s settings.mode) is written).1
 
@@ -61,6 +68,15 @@ pub sample_read : (settings : Settings) (seed : ℕ) → settings.source ≡ sou
 sample_read settings seed is written = λ e.
     let summed : settings.mode ≡ Summary = subst (λ (s : Source). IsWrittenOf s settings.mode) is written in
     let both : Summary ≡ Migrate = sym summed ∙ e in
+    absurd (cc both)
+
+pub files_fresh : (settings : Settings) → settings.source ≡ source.Files → IsWrittenOf settings.source settings.mode → settings.mode ≢ Resume
+files_fresh settings is written = (subst (λ (s : Source). IsWrittenOf s settings.mode) is written).2
+
+pub sample_fresh : (settings : Settings) (seed : ℕ) → settings.source ≡ source.Sample seed → IsWrittenOf settings.source settings.mode → settings.mode ≢ Resume
+sample_fresh settings seed is written = λ e.
+    let summed : settings.mode ≡ Summary = subst (λ (s : Source). IsWrittenOf s settings.mode) is written in
+    let both : Summary ≡ Resume = sym summed ∙ e in
     absurd (cc both)
 
 -- ---- what is written of what is known and of dumps
@@ -112,6 +128,23 @@ pub held_some : (settings : Settings) (name : List ℕ) (file : ResultFile) (out
     → (outcome : Outcome) × ComesOfSome settings outcome × IsOutput settings outcome output
 held_some settings name file output is some m = (Holds file, subst (λ (x : First). IsSomeResult x file) (sym is) some, m)
 
+-- ---- what is written of dumps on top of a result
+
+pub taken_made : (settings : Settings) (name : List ℕ) (mid known : Option Files) (earlier : ResultFile) (output : Written) → first_in settings ≡ Earlier name → mid ≡ known
+    → TakesUpIn (Earlier name) known earlier → IfSome mid (λ files. IsOutputOnEarlier settings earlier files output)
+    → IfSome known (λ files. IsOutputOf settings files output)
+taken_made settings name mid known earlier output is same takes m =
+    by known (subst (λ (x : First). TakesUpIn x known earlier) (sym is) takes) (subst (λ (o : Option Files). IfSome o (λ files. IsOutputOnEarlier settings earlier files output)) same m)
+  where
+    by : (o : Option Files) → TakesUpIn (first_in settings) o earlier → IfSome o (λ files. IsOutputOnEarlier settings earlier files output) → IfSome o (λ files. IsOutputOf settings files output)
+    by None t w = tt
+    by (Some files) t w = (Joins earlier w.0, (t, w.1), w.2)
+
+pub taken_some : (settings : Settings) (name : List ℕ) (earlier : ResultFile) (output : Written) → first_in settings ≡ Earlier name → TakesUpSome (Earlier name) earlier
+    → IsOutputOnSome settings earlier output → (outcome : Outcome) × ComesOfSome settings outcome × IsOutput settings outcome output
+taken_some settings name earlier output is some m =
+    (Joins earlier m.0, (subst (λ (x : First). TakesUpSome x earlier) (sym is) some, m.1, m.2, m.3), m.4)
+
 -- ---- why there is no text
 
 -- the file that was read holds these octets, and this is their bad line
@@ -119,6 +152,17 @@ pub result_bad : (known : Option Files) (name read bytes : List ℕ) (line : ℕ
     → FirstEnds (ResultAt name) known first.Result (BadLine line)
 result_bad None name read bytes line same there short bad = (refl, tt)
 result_bad (Some files) name read bytes line same there short bad = (refl, (bytes, record { there = ap files (sym same) ∙ there; short = short }, bad))
+
+-- the same of a result that is taken up, and of one that breaks a rule
+pub earlier_held : (known : Option Files) (name read bytes : List ℕ) (file : ResultFile) → read ≡ name → IfSome known (λ files. files read ≡ Some bytes) → length bytes ≤ max_result
+    → IsAccepted file bytes → TakesUpIn (Earlier name) known file
+earlier_held None name read bytes file same there short accepted = tt
+earlier_held (Some files) name read bytes file same there short accepted = (bytes, record { there = ap files (sym same) ∙ there; short = short }, accepted)
+
+pub earlier_broken : (known : Option Files) (name read bytes : List ℕ) (line rule : ℕ) → read ≡ name → IfSome known (λ files. files read ≡ Some bytes) → length bytes ≤ max_result
+    → BreaksRule bytes (No line rule) → IfSome known (λ files. EndsAtFirst (Earlier name) files (Broken line rule))
+earlier_broken None name read bytes line rule same there short broken = tt
+earlier_broken (Some files) name read bytes line rule same there short broken = (bytes, record { there = ap files (sym same) ∙ there; short = short }, broken)
 
 weaker : (settings : Settings) (known : Option Files) (steady later : Type 0) (dump : ℕ) (e : DumpError) → (steady → later) → StopsIn settings known later dump e
     → StopsIn settings known steady dump e
@@ -130,11 +174,29 @@ weaker settings known steady later dump error.NoMemory on stops = tt
 refused_in : (settings : Settings) (known : Option Files) (steady later : Type 0) (givens : Option (List Given)) (r : Refusal) → (steady → later) → AreGivensIn (first_in settings) known givens
     → IsStopIn settings known later r → IsUnwrittenIn settings known steady (unwritten.Refused r)
 refused_in settings known steady later givens (refusal.Words w) on are h = absurd h
-refused_in settings known steady later givens (refusal.Dumps stopped) on are h = (
+refused_in settings known steady later givens (refusal.Dumps stopped) on are h = inl (
   all_known known (λ files. AreGivens (first_in settings) files givens) (λ files. (gs : Option (List Given)) × AreGivens (first_in settings) files gs) (λ files is. (givens, is)) are,
   weaker settings known steady later stopped.dump stopped.error on h,
 )
 refused_in settings known steady later givens refusal.NoMemory on are h = tt
+
+weaker_on : (file : ResultFile) (settings : Settings) (known : Option Files) (steady later : Type 0) (dump : ℕ) (e : DumpError) → (steady → later) → StopsOn file settings known later dump e
+    → StopsOn file settings known steady dump e
+weaker_on file settings known steady later dump (error.Malformed place fault) on stops = stops
+weaker_on file settings known steady later dump (error.Limit kind) on stops = stops
+weaker_on file settings known steady later dump error.ReadFault on stops = (stops.0, stops.1, stops.2, λ held. stops.3 (on held))
+weaker_on file settings known steady later dump error.NoMemory on stops = tt
+
+-- where a result that was read before is taken up
+pub taken_refused : (settings : Settings) (name : List ℕ) (mid known : Option Files) (steady later : Type 0) (earlier : ResultFile) (r : Refusal) → first_in settings ≡ Earlier name → mid ≡ known
+    → (steady → later) → TakesUpIn (Earlier name) known earlier → IsStopOn earlier settings mid later r → IsUnwrittenIn settings known steady (unwritten.Refused r)
+taken_refused settings name mid known steady later earlier r is same on takes h =
+    by r (subst (λ (x : First). TakesUpIn x known earlier) (sym is) takes) (subst (λ (o : Option Files). IsStopOn earlier settings o later r) same h)
+  where
+    by : (q : Refusal) → TakesUpIn (first_in settings) known earlier → IsStopOn earlier settings known later q → IsUnwrittenIn settings known steady (unwritten.Refused q)
+    by (refusal.Words w) t stops = absurd stops
+    by (refusal.Dumps stopped) t stops = inr (earlier, t, weaker_on earlier settings known steady later stopped.dump stopped.error on stops)
+    by refusal.NoMemory t stops = tt
 
 -- where nothing is known
 pub free_refused : (settings : Settings) (known : Option Files) (steady : Type 0) (r : Refusal) → first_in settings ≡ Nothing → IsStopIn settings known steady r
@@ -157,6 +219,7 @@ first_unwritten settings f known steady u is h = by u (subst (λ (x : First). Is
     by : (v : Unwritten) → IsUnwrittenAtFirst (first_in settings) known steady v → IsUnwrittenIn settings known steady v
     by (unwritten.First file why) w = w
     by (unwritten.BadLine file line) w = w
+    by (unwritten.Broken line rule) w = w
     by (unwritten.Refused (refusal.Words o)) w = absurd w
     by (unwritten.Refused (refusal.Dumps stopped)) w = absurd w
     by (unwritten.Refused refusal.NoMemory) w = tt
@@ -170,6 +233,7 @@ first_reach settings f known steady left u is h reach =
     by : (v : Unwritten) → IsUnwrittenAtFirst (first_in settings) known steady v → IsFirstInReach (first_in settings) known left v → IsUnwrittenInReach settings known left v
     by (unwritten.First file why) w r = r
     by (unwritten.BadLine file line) w r = r
+    by (unwritten.Broken line rule) w r = r
     by (unwritten.Refused (refusal.Words o)) w r = absurd w
     by (unwritten.Refused (refusal.Dumps stopped)) w r = absurd w
     by (unwritten.Refused refusal.NoMemory) w r = tt
@@ -189,7 +253,17 @@ leads words known settings x given comes =
 end_comes : (settings : Settings) (known : Option Files) (end : DumpsEnd) → AreGivensGood settings known → DumpsEndIn settings known end
     → IfSome known (λ files. ComesTo settings files (Ends end))
 end_comes settings None end are ends = tt
-end_comes settings (Some files) end are ends = (are.0, are.1, ends)
+end_comes settings (Some files) end are ends = inl (are.0, are.1, ends)
+
+end_comes_on : (settings : Settings) (known : Option Files) (file : ResultFile) (end : DumpsEnd) → TakesUpIn (first_in settings) known file → JoinedEndIn file settings known end
+    → IfSome known (λ files. ComesTo settings files (Ends end))
+end_comes_on settings None file end takes ends = tt
+end_comes_on settings (Some files) file end takes ends = inr (file, takes, ends)
+
+joins_before : (settings : Settings) (known : Option Files) (file : ResultFile) (dump : ℕ) → TakesUpIn (first_in settings) known file
+    → IfSome known (λ files. IsOk (joined file settings.max_paths (take (dump - 1) settings.dumps) files)) → JoinsBefore settings known dump
+joins_before settings None file dump takes before = tt
+joins_before settings (Some files) file dump takes before = (file, takes, before)
 
 -- what is left of the file that is read first is the same of what is known, since over a sample there is none
 left_known : (from : Source) (name : Option (List ℕ)) (known : Option Files) (left : Option (List ℕ)) → LeavesOnlyFirst (first_by from name) known left
@@ -197,6 +271,7 @@ left_known : (from : Source) (name : Option (List ℕ)) (known : Option Files) (
 left_known source.Files name known left h = h
 left_known (source.Sample seed) name known left h = absurd h
 left_known (source.Result file) name known left h = h
+left_known (source.Earlier file) name known left h = h
 
 -- ---- notes
 
@@ -227,12 +302,39 @@ module _ (words : List (List ℕ)) (known : Option Files) (steady : Type 0) (lef
           given = given;
           from_one = stops.0;
           named = stops.1;
-          givens = are;
-          before = stops.2;
+          before = inl (are, stops.2);
           absent = λ held. leads words known settings (Ends (Absent dump)) given (end_comes settings known (Absent dump) are (stops.3 held));
         }),
       ) says
   stop_note settings dump error.NoMemory answer given are stops says = no_memory answer says
+
+  stop_note_on : (settings : Settings) (file : ResultFile) (dump : ℕ) (e : DumpError) (answer : Answer) → settings_given words ≡ Some settings → TakesUpIn (first_in settings) known file
+      → StopsOn file settings known steady dump e → AnswersStop dump e answer → IsNote words known steady left answer.status (note_in answer)
+  stop_note_on settings file dump (error.Malformed place fault) answer given takes stops says =
+      says_note status.Malformed (malformed_note place fault) answer
+      (inr (place, fault, refl, leads words known settings (Ends (Malformed place fault)) given (end_comes_on settings known file (Malformed place fault) takes stops))) says
+  stop_note_on settings file dump (error.Limit kind) answer given takes stops says =
+      says_note status.Limit (limit_note kind dump) answer
+      (inr (kind, dump, refl, leads words known settings (Ends (Limit kind dump)) given (end_comes_on settings known file (Limit kind dump) takes stops))) says
+  stop_note_on settings file dump error.ReadFault answer given takes stops says =
+      says_note status.ReadFault (read_fault_note dump) answer (
+        dump,
+        refl,
+        inr (record {
+          settings = settings;
+          given = given;
+          from_one = stops.0;
+          named = stops.1;
+          before = inr (joins_before settings known file dump takes stops.2);
+          absent = λ held. leads words known settings (Ends (Absent dump)) given (end_comes_on settings known file (Absent dump) takes (stops.3 held));
+        }),
+      ) says
+  stop_note_on settings file dump error.NoMemory answer given takes stops says = no_memory answer says
+
+  stop_note_behind : (settings : Settings) (dump : ℕ) (e : DumpError) (answer : Answer) → settings_given words ≡ Some settings → IsStopBehindFirst settings known steady dump e
+      → AnswersStop dump e answer → IsNote words known steady left answer.status (note_in answer)
+  stop_note_behind settings dump e answer given (inl h) says = stop_note settings dump e answer given h.0 h.1 says
+  stop_note_behind settings dump e answer given (inr h) says = stop_note_on settings h.0 dump e answer given h.1 h.2 says
 
   -- what is left where a read of the file that is read first failed
   abbrev LeftIn : Settings → Unwritten → Type 0
@@ -240,6 +342,7 @@ module _ (words : List (List ℕ)) (known : Option Files) (steady : Type 0) (lef
   LeftIn settings (unwritten.First file unread.TooLong) = Unit {0}
   LeftIn settings (unwritten.First file unread.NoMemory) = Unit {0}
   LeftIn settings (unwritten.BadLine file line) = Unit {0}
+  LeftIn settings (unwritten.Broken line rule) = Unit {0}
   LeftIn settings (unwritten.Refused why) = Unit {0}
 
   noted : (u : Unwritten) (answer : Answer) → IsUnwritten words known steady u → AnswersUnwritten u answer
@@ -262,9 +365,11 @@ module _ (words : List (List ℕ)) (known : Option Files) (steady : Type 0) (lef
   noted (unwritten.BadLine file line) answer why says reach =
       says_note status.Malformed (bad_line_note file line) answer
       (inl (file, line, (why.0, why.1, why.2.0), refl, leads words known why.0 (Stops (BadLine line)) why.1 why.2.1)) says
+  noted (unwritten.Broken line rule) answer why says reach =
+      says_note status.No (no_text line rule) answer (line, rule, refl, leads words known why.0 (Stops (Broken line rule)) why.1 why.2) says
   noted (unwritten.Refused (refusal.Words (refused.Usage text))) answer why says reach = says_note status.Usage text answer why.1 (inl says)
   noted (unwritten.Refused (refusal.Words refused.NoMemory)) answer why says reach = no_memory answer says
-  noted (unwritten.Refused (refusal.Dumps stopped)) answer why says reach = stop_note why.0 stopped.dump stopped.error answer why.1 why.2.0 why.2.1 says
+  noted (unwritten.Refused (refusal.Dumps stopped)) answer why says reach = stop_note_behind why.0 stopped.dump stopped.error answer why.1 why.2 says
   noted (unwritten.Refused refusal.NoMemory) answer why says reach = no_memory answer says
 
 pub unwritten_note : (words : List (List ℕ)) (known : Option Files) (steady : Type 0) (left : Option (List ℕ)) (u : Unwritten) (answer : Answer)
@@ -278,4 +383,5 @@ unwritten_note words known steady left u answer why says reach = noted words (kn
     by settings given (unwritten.First file unread.TooLong) r = tt
     by settings given (unwritten.First file unread.NoMemory) r = tt
     by settings given (unwritten.BadLine file line) r = tt
+    by settings given (unwritten.Broken line rule) r = tt
     by settings given (unwritten.Refused why) r = tt

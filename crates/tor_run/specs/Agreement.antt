@@ -14,29 +14,31 @@ use Rattle.tor_words.specs.CheckGiven.{check_settings_given}
 use Rattle.tor_words.specs.Given.{settings_given}
 use Rattle.torcheck_run.specs.Judging.{CanBeJudged, IsVerdict, Outcome, SettingsGive}
 use Rattle.torcheck_run.specs.Limits.{max_result}
+use Rattle.tor_run.specs.First.{Earlier, TakesUp}
 use Rattle.tor_run.specs.Output.{Faithful, IsOutput, migrated}
 use Rattle.tor_run.specs.Written.{Written}
 use Rattle.tor_run.specs.Seen.{ComesTo, Reads}
 use Rattle.tor_run.specs.SelfGrading.{KeepDumps}
 use Rattle.tor_run.specs.Summary.{summary}
 
--- the text of a result is judged yes, alone and beside the dumps that it was made of, and no other way; and a check of it, alone or
--- beside these dumps, can judge it if it isn't too long
-pub record IsAgreedOn (settings : Settings) (files : Files) (text : List ℕ) : Type 0 where
+-- the text of a result is judged yes, alone and beside these dumps, and no other way. If it isn't too long, a check of it, alone or beside
+-- these dumps, can judge it, and a later run can take it up
+pub record IsAgreedOn (dumps : List (List ℕ)) (files : Files) (text : List ℕ) : Type 0 where
   pub alone : IsVerdict text [] files Yes
-  pub beside : IsVerdict text settings.dumps files Yes
-  pub no_other : (dumps : List (List ℕ)) (verdict : Verdict) → (dumps ≡ []) ⊎ (dumps ≡ settings.dumps) →
-      IsVerdict text dumps files verdict → verdict ≡ Yes
+  pub beside : IsVerdict text dumps files Yes
+  pub no_other : (named : List (List ℕ)) (verdict : Verdict) → (named ≡ []) ⊎ (named ≡ dumps) → IsVerdict text named files verdict →
+      verdict ≡ Yes
   pub judged : (words : List (List ℕ)) (check : CheckSettings) → check_settings_given words ≡ Some check →
-      files check.result ≡ Some text → (check.dumps ≡ []) ⊎ (check.dumps ≡ settings.dumps) → length text ≤ max_result →
-      CanBeJudged words files
+      files check.result ≡ Some text → (check.dumps ≡ []) ⊎ (check.dumps ≡ dumps) → length text ≤ max_result → CanBeJudged words files
+  pub takes_up : (name : List ℕ) (later : Files) → later name ≡ Some text → length text ≤ max_result →
+      (file : ResultFile) × TakesUp (Earlier name) later file
 
--- so it is whether relationships are known or not
+-- so it is beside the dumps that the result was made of, whether relationships are known or not
 abbrev pub AgreementLaw : Type 0
 AgreementLaw =
     (words : List (List ℕ)) (settings : Settings) (files : Files) (known : Option (List Given)) (taken : Taken) (output : Written) →
     settings_given words ≡ Some settings → settings.mode ≡ Labels → ComesTo settings files (Reads known taken) →
-    IsOutput settings (Reads known taken) output → IsAgreedOn settings files output.text
+    IsOutput settings (Reads known taken) output → IsAgreedOn settings.dumps files output.text
 
 -- all results that are faithful to what is known and to what dumps gave have the same summary
 abbrev pub OneSummaryLaw : Type 0

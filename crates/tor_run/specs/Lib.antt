@@ -8,6 +8,7 @@ pub mod Listing
 pub mod Output
 pub mod Reach
 pub mod Refusals
+pub mod Resuming
 pub mod Sampling
 pub mod Seen
 pub mod SeenLaw

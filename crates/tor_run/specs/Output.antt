@@ -1,5 +1,5 @@
 -- What a run that is done has written, by its mode.
-use Rattle.std.specs.Prelude.{◌≡◌, ◌++◌, ◌∷◌, [], ℕ, List, map, Ok, Option, Some, unwrap_or}
+use Rattle.std.specs.Prelude.{◌≡◌, ◌≤◌, ◌++◌, ◌∷◌, [], ℕ, List, length, map, Ok, Option, Some, unwrap_or}
 use Rattle.std.specs.Io.KnownBytes.{append_known}
 use Rattle.tor_io.specs.Contents.{Files, GainsPrefix}
 use Rattle.path_clean.specs.Rows.{row_paths}
@@ -14,14 +14,17 @@ use Rattle.result_text.specs.declared.file.ResultFile.{ResultFile}
 use Rattle.result_text.specs.Grammar.{IsTextOf}
 use Rattle.result_text.specs.Text.{its_givens}
 use Rattle.rel_infer.specs.GivenResults.{IsResultWith}
+use Rattle.rel_infer.specs.Resumed.{Continues}
+use Rattle.rel_infer.specs.SelfAcceptance.{AreTableRows}
+use Rattle.run_base.specs.Reading.{IsOfSomeDumps}
 use Rattle.tor_words.specs.declared.settings.Mode.{Mode}
-use Rattle.tor_words.specs.declared.settings.Mode.TheVariants.{Labels, Listing, Survey, Ties, Serial, Summary, Migrate}
+use Rattle.tor_words.specs.declared.settings.Mode.TheVariants.{Labels, Listing, Survey, Ties, Serial, Summary, Migrate, Resume}
 use Rattle.tor_words.specs.declared.settings.Settings.{Settings}
 use Rattle.tor_words.specs.Given.{settings_given}
 use Rattle.tor_survey.specs.SurveyText.{survey_text}
 use Rattle.tor_survey.specs.Surveys.{survey_of}
 use Rattle.tor_run.specs.Listing.{listing}
-use Rattle.tor_run.specs.Seen.{Outcome, Reads, Holds, Stops, Ends, ComesTo, ComesOfSome}
+use Rattle.tor_run.specs.Seen.{Outcome, Reads, Joins, Holds, Stops, Ends, ComesTo, ComesOfSome, joined, taken_up}
 use Rattle.tor_run.specs.Summary.{summary}
 use Rattle.tor_run.specs.Written.{Written}
 
@@ -32,6 +35,12 @@ use Rattle.tor_run.specs.Written.{Written}
 abbrev pub Faithful : Settings → Option (List Given) → Taken → ResultFile → Type 0
 Faithful settings known taken file = IsResultWith known settings.sets settings.ratio taken.table.rows taken.counts file
 
+-- the result of what the dumps gave on top of an earlier one: it has exactly the paths, times and counts of both, the earlier one's sets
+-- and givens, and for these what follows from the definitions; and its first path lines are those of the earlier one but for their times
+abbrev pub IsResumed : Settings → (earlier : ResultFile) → Taken → ResultFile → Type 0
+IsResumed settings earlier taken file =
+    IsResultWith earlier.givens earlier.sets settings.ratio taken.table.rows taken.counts file × Continues earlier file
+
 -- ---- what is written
 
 -- the lines of serial-1 that say what the labels of a result say; read again they say it
@@ -40,7 +49,8 @@ IsSerialOf file text = (text ≡ rel_text (map line_of_edge file.edges)) × (rel
 
 -- in this mode, of what is known and what the dumps gave: in Labels the text of the result, and its summary as a note; in Listing a line
 -- for each path; in Survey the lines of the survey; in Ties the lines of the ties of their paths; in Serial the lines of what the labels of
--- the result say; in Summary the summary of the result; in Migrate nothing, since no dump is read
+-- the result say; in Summary the summary of the result; in Migrate nothing, since no dump is read, and in Resume nothing, since what is
+-- read first is no list of what is known
 abbrev pub IsOutputIn : Mode → Settings → Option (List Given) → Taken → Written → Type 0
 IsOutputIn Labels settings known taken output =
     (file : ResultFile) × Faithful settings known taken file × IsTextOf file output.text × (output.note ≡ summary file ++ 10 ∷ [])
@@ -53,6 +63,7 @@ IsOutputIn Serial settings known taken output =
 IsOutputIn Summary settings known taken output =
     (file : ResultFile) × Faithful settings known taken file × (output.text ≡ summary file ++ 10 ∷ []) × (output.note ≡ [])
 IsOutputIn Migrate settings known taken output = ⊥
+IsOutputIn Resume settings known taken output = ⊥
 
 -- the same result with a list of givens, which is empty where it had none
 abbrev pub migrated : ResultFile → ResultFile
@@ -62,9 +73,27 @@ migrated file = record file { givens = Some (its_givens file) }
 abbrev pub IsMigrated : ResultFile → Written → Type 0
 IsMigrated file output = IsTextOf (migrated file) output.text × (output.note ≡ [])
 
--- what is written of this outcome: of dumps by the mode, and of a result its text of version 2
+-- the text of the result of what the dumps gave on top of an earlier one, and its summary as a note
+abbrev pub IsOutputOn : Settings → (earlier : ResultFile) → Taken → Written → Type 0
+IsOutputOn settings earlier taken output = (file : ResultFile) × IsResumed settings earlier taken file × IsTextOf file output.text ×
+    (output.note ≡ summary file ++ 10 ∷ [])
+
+-- the dumps of these files give that on top of it
+abbrev pub IsOutputOnEarlier : Settings → (earlier : ResultFile) → Files → Written → Type 0
+IsOutputOnEarlier settings earlier files output = (taken : Taken) ×
+    (joined earlier settings.max_paths settings.dumps files ≡ Ok taken) × IsOutputOn settings earlier taken output
+
+-- dumps of some octets give that, a file for each name of a dump
+abbrev pub IsOutputOnSome : Settings → (earlier : ResultFile) → Written → Type 0
+IsOutputOnSome settings earlier output = (taken : Taken) × (length earlier.paths ≤ settings.max_paths) ×
+    IsOfSomeDumps earlier.sets (length settings.dumps) (taken_up earlier settings.max_paths) taken × AreTableRows taken.table.rows ×
+    IsOutputOn settings earlier taken output
+
+-- what is written of this outcome: of dumps by the mode, of dumps on top of a result the result of both, and of a result its text of
+-- version 2
 abbrev pub IsOutput : Settings → Outcome → Written → Type 0
 IsOutput settings (Reads known taken) output = IsOutputIn settings.mode settings known taken output
+IsOutput settings (Joins earlier taken) output = IsOutputOn settings earlier taken output
 IsOutput settings (Holds file) output = IsMigrated file output
 IsOutput settings (Stops end) output = ⊥
 IsOutput settings (Ends end) output = ⊥
@@ -95,7 +124,7 @@ GainsOutputPrefix words files old new = (output : Written) × IsAsked words file
 -- ---- what is written whatever the files hold, also where nothing is known of them
 
 -- the words ask for this of what some octets give: in Labels it is the text of a result that is faithful to some paths with their times,
--- as a table has them, and to some counts and givens, with its summary
+-- as a table has them, and to some counts and givens, with its summary; in Resume of one that continues some result that meets all rules
 pub record IsOfSome (words : List (List ℕ)) (output : Written) : Type 0 where
   pub settings : Settings
   pub given : settings_given words ≡ Some settings

@@ -6,10 +6,12 @@ use Rattle.dump_read.specs.declared.error.DumpError.{DumpError}
 use Rattle.dump_read.specs.declared.error.DumpError.TheVariants as error
 use Rattle.dump_read.specs.declared.error.Fault.{Fault}
 use Rattle.dump_read.specs.declared.error.LimitKind.{LimitKind}
-use Rattle.dump_read.specs.declared.error.LimitKind.TheVariants.{Bytes}
+use Rattle.dump_read.specs.declared.error.LimitKind.TheVariants.{Bytes, Paths}
 use Rattle.dump_read.specs.declared.error.Place.{Place}
 use Rattle.dump_read.specs.Reach.{StopsBounded, LeavesRestOfDump}
 use Rattle.dump_read.specs.Refusals.{IsOfDump}
+use Rattle.tor_words.specs.declared.settings.Source.{Source}
+use Rattle.tor_words.specs.declared.settings.Source.TheVariants as source
 use Rattle.tor_words.specs.declared.settings.Settings.{Settings}
 use Rattle.tor_words.specs.Given.{settings_given}
 use Rattle.run_base.specs.declared.answer.Refusal.{Refusal}
@@ -43,10 +45,11 @@ IsUnreadInReach f known left unread.Failed = LeavesOnlyFirst f known left
 IsUnreadInReach f known left unread.TooLong = LeavesRestOfFirst f known left
 IsUnreadInReach f known left unread.NoMemory = ⊤
 
--- there is no text for this, since it gives nothing, and so far it was read: one with a bad line whole
+-- there is no text for this, since it gives nothing, and so far it was read: one with a bad line or a broken rule whole
 abbrev pub IsFirstInReach : First → Option Files → Option (List ℕ) → Unwritten → Type 0
 IsFirstInReach f known left (unwritten.First file why) = IsUnreadInReach f known left why
 IsFirstInReach f known left (unwritten.BadLine file line) = IsAtEnd left
+IsFirstInReach f known left (unwritten.Broken line rule) = IsAtEnd left
 IsFirstInReach f known left (unwritten.Refused why) = ⊤
 
 -- ---- dumps
@@ -69,19 +72,29 @@ IsShownByHeader settings known left dump e =
     e ≡ error.Limit Bytes → BySource settings.source ⊤ (LeavesRestOfDump (name_of_dump settings.dumps dump) known left)
 
 -- all this, where there is no text since the reading of the dumps of these settings stopped
+abbrev pub IsStopInReach : Settings → Option Files → Option (List ℕ) → ℕ → DumpError → Type 0
+IsStopInReach settings known left dump e =
+    IsDumpNumber settings dump × IsPlacedIn settings dump e × IsBounded settings known left dump e ×
+    IsShownByHeader settings known left dump e
+
+-- a result that is taken up has more paths than may be: nothing is left unread
+abbrev pub IsPastLimit : Source → Option (List ℕ) → ℕ → DumpError → Type 0
+IsPastLimit (source.Earlier name) left dump e = (dump ≡ 0) × (e ≡ error.Limit Paths) × IsAtEnd left
+IsPastLimit _ left dump e = ⊥
+
 abbrev pub StopsInReach : Settings → Option Files → Option (List ℕ) → Refusal → Type 0
 StopsInReach settings known left (refusal.Words w) = ⊤
 StopsInReach settings known left (refusal.Dumps stopped) =
-    IsDumpNumber settings stopped.dump × IsPlacedIn settings stopped.dump stopped.error ×
-    IsBounded settings known left stopped.dump stopped.error × IsShownByHeader settings known left stopped.dump stopped.error
+    IsPastLimit settings.source left stopped.dump stopped.error ⊎ IsStopInReach settings known left stopped.dump stopped.error
 StopsInReach settings known left refusal.NoMemory = ⊤
 
 -- ---- either
 
--- with these settings there is no text for this, and so far it was read: a file with a bad line whole
+-- with these settings there is no text for this, and so far it was read: a file with a bad line or a broken rule whole
 abbrev pub IsUnwrittenInReach : Settings → Option Files → Option (List ℕ) → Unwritten → Type 0
 IsUnwrittenInReach settings known left (unwritten.First file why) = IsUnreadInReach (first_in settings) known left why
 IsUnwrittenInReach settings known left (unwritten.BadLine file line) = IsAtEnd left
+IsUnwrittenInReach settings known left (unwritten.Broken line rule) = IsAtEnd left
 IsUnwrittenInReach settings known left (unwritten.Refused why) = StopsInReach settings known left why
 
 -- the same by the words
@@ -97,9 +110,11 @@ EndsInReach words known left status.Malformed text = (settings : Settings) → s
     IsBounded settings known left place.dump (error.Malformed place fault)))
 EndsInReach words known left status.Limit text = (settings : Settings) → settings_given words ≡ Some settings →
     ((file : FirstFile) × (text ≡ too_long_note file) × LeavesRestOfFirst (first_in settings) known left) ⊎
+    (((text ≡ limit_note Paths 0) × IsPastLimit settings.source left 0 (error.Limit Paths)) ⊎
     ((dump : ℕ) × ((kind : LimitKind) × (text ≡ limit_note kind dump) × IsDumpNumber settings dump ×
-    IsBounded settings known left dump (error.Limit kind) × IsShownByHeader settings known left dump (error.Limit kind)))
+    IsBounded settings known left dump (error.Limit kind) × IsShownByHeader settings known left dump (error.Limit kind))))
 EndsInReach words known left status.ReadFault text = (settings : Settings) → settings_given words ≡ Some settings →
     ((text ≡ read_fault_note 0) × LeavesOnlyFirst (first_in settings) known left) ⊎
     ((dump : ℕ) × (text ≡ read_fault_note dump) × IsDumpNumber settings dump × IsBounded settings known left dump error.ReadFault)
+EndsInReach words known left status.No text = IsAtEnd left
 EndsInReach words known left _ text = ⊤

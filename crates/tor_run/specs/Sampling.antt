@@ -1,5 +1,5 @@
 -- What is known and what is left of a shelf where the words ask for a sample, which reads no file.
-use Rattle.std.specs.Prelude.{ℕ, List, Option, Some, None}
+use Rattle.std.specs.Prelude.{◌≡◌, ℕ, List, Option, Some, None}
 use Rattle.tor_io.specs.Contents.{Files}
 use Rattle.tor_words.specs.declared.settings.Source.{Source}
 use Rattle.tor_words.specs.declared.settings.Source.TheVariants as source
@@ -14,6 +14,11 @@ abbrev pub known_in : Source → Option Files → Option Files
 known_in source.Files known = known
 known_in (source.Sample seed) known = Some no_files
 known_in (source.Result name) known = known
+known_in (source.Earlier name) known = known
+
+-- a result is taken up
+abbrev pub IsEarlier : Source → Type 0
+IsEarlier s = (name : List ℕ) × (s ≡ source.Earlier name)
 
 abbrev pub known_for : Option Settings → Option Files → Option Files
 known_for None known = known
@@ -27,6 +32,7 @@ abbrev pub BySource : Source → Type 0 → Type 0 → Type 0
 BySource source.Files of_sample of_files = of_files
 BySource (source.Sample seed) of_sample of_files = of_sample
 BySource (source.Result name) of_sample of_files = of_files
+BySource (source.Earlier name) of_sample of_files = of_files
 
 abbrev pub BySourceOf : Option Settings → Type 0 → Type 0 → Type 0
 BySourceOf None of_sample of_files = Unit {0}

@@ -20,6 +20,7 @@ abbrev pub dumps_for : Source → Settings → Files → List (Option (List ℕ)
 dumps_for source.Files settings files = map files settings.dumps
 dumps_for (source.Sample seed) settings files = Some (sample seed) ∷ []
 dumps_for (source.Result name) settings files = map files settings.dumps
+dumps_for (source.Earlier name) settings files = map files settings.dumps
 
 -- a dump of these octets is read to its end
 abbrev pub IsWhole : List ℕ → Type 0

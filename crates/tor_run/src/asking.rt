@@ -22,6 +22,7 @@ ghost use Rattle.dump_read.specs.declared.taking.Taken.{Taken};
 
 use crate::first::{givens_in, result_in};
 use crate::output::{Output, has_table_rows, migrated_output, output_of};
+use crate::resuming::resumed_output;
 use crate::sampling::read_sample;
 use crate::unwritten::Unwritten;
 use dump_read::{DumpError, Taken};
@@ -57,7 +58,7 @@ fn read_asked<H: Shelf>(
 {
     match &settings.source {
         Source::Sample(seed) => read_sample(alloc, *seed, settings.sets, taken),
-        Source::Files | Source::Result(_) => {
+        Source::Files | Source::Result(_) | Source::Earlier(_) => {
             let dumps = settings.dumps.as_slice();
             read_dumps(alloc, shelf, dumps, settings.sets, taken)
         }
@@ -73,6 +74,7 @@ fn output_under<H: Shelf>(
     shelf: &mut H,
 ) -> Result<Output, Refusal>
     requires read { settings.now.mode ≢ Mode.Migrate }
+    requires fresh { settings.now.mode ≢ Mode.Resume }
     requires some { 1 ≤ settings.now.max_paths }
     requires most { settings.now.max_paths ≤ max_paths }
     requires ratio { settings.now.ratio ≤ max_ratio }
@@ -113,6 +115,7 @@ fn free_output<H: Shelf>(
 ) -> Result<Output, Unwritten>
     requires nothing { first_in settings.now ≡ Nothing }
     requires read { settings.now.mode ≢ Mode.Migrate }
+    requires fresh { settings.now.mode ≢ Mode.Resume }
     requires some { 1 ≤ settings.now.max_paths }
     requires most { settings.now.max_paths ≤ max_paths }
     requires ratio { settings.now.ratio ≤ max_ratio }
@@ -145,6 +148,7 @@ fn bound_output<H: Shelf>(
     requires files { settings.now.source ≡ Source.Files }
     requires given { settings.now.given ≡ Some name.now }
     requires read { settings.now.mode ≢ Mode.Migrate }
+    requires fresh { settings.now.mode ≢ Mode.Resume }
     requires some { 1 ≤ settings.now.max_paths }
     requires most { settings.now.max_paths ≤ max_paths }
     requires ratio { settings.now.ratio ≤ max_ratio }
@@ -223,6 +227,7 @@ fn output_for<H: Shelf>(
         },
         Source::Sample(_) => free_output(alloc, keys, settings, shelf),
         Source::Result(name) => result_output(alloc, settings, name, shelf),
+        Source::Earlier(name) => resumed_output(alloc, keys, settings, name, shelf),
     }
 }
 

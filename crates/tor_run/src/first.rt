@@ -1,4 +1,4 @@
-//! The file that a run reads whole before any dump: known relationships, or a result.
+//! The file that a run reads whole before any dump: known relationships, or a result, which may be taken up.
 ghost use Rattle.std.specs.Prelude.{◌≤◌, Some, IfOk, IfErr, IfSome, OnOk, IsErrAnd, length};
 ghost use Rattle.std.specs.Io.KnownBytes.{IsAtEnd};
 ghost use Rattle.relationships.specs.Givens.{NameTwo, NameOnce};
@@ -6,10 +6,11 @@ ghost use Rattle.serial_lines.specs.Serial.{IsReadingError};
 ghost use Rattle.result_text.specs.Grammar.{IsTextOf};
 ghost use Rattle.result_text.specs.Refusal.{Refuses};
 ghost use Rattle.run_base.specs.Frames.{ReadsShelf};
-ghost use Rattle.tor_run.specs.First.{Givens, Result as ResultAt, AreGivens, AreSomeGivens, SaysGivens, HoldsResult, IsSomeResult};
+ghost use Rattle.tor_run.specs.First.{Givens, Result as ResultAt, Earlier, AreGivens, AreSomeGivens, SaysGivens, HoldsResult, IsSomeResult};
+ghost use Rattle.tor_run.specs.First.{TakesUpSome};
 ghost use Rattle.rel_infer.specs.GivenResults.{max_givens};
 ghost use Rattle.tor_run.specs.Reach.{IsFirstInReach};
-ghost use Rattle.tor_run.specs.Refusals.{AreGivensIn, IsUnwrittenAtFirst, IsFailedRead};
+ghost use Rattle.tor_run.specs.Refusals.{AreGivensIn, TakesUpIn, IsUnwrittenAtFirst, IsFailedRead};
 
 use crate::unwritten::Unwritten;
 use relationships::Given;
@@ -17,10 +18,10 @@ use result_text::{ParseError, ResultFile, parse};
 use run_base::{FirstFile, Refusal, read_whole};
 use serial_lines::{RelError, parse_given};
 use std::alloc::Global;
-use tor_arena::{Keys, List};
+use tor_arena::{Keys, List, NoMemory};
 use tor_io::Shelf;
 use tor_words::Name;
-use torcheck_run::MAX_RESULT;
+use torcheck_run::{MAX_RESULT, Ruling, ruling_on};
 
 /// The most octets of a file of known relationships.
 const MAX_GIVEN: usize = 1 << 28;
@@ -90,6 +91,31 @@ pub(crate) fn result_in<H: Shelf>(
             Ok(file) => Ok(file),
             Err(ParseError::BadLine(line)) => Err(Unwritten::BadLine(FirstFile::Result, line)),
             Err(ParseError::NoMemory) => Err(Unwritten::Refused(Refusal::NoMemory)),
+        },
+        Err(unread) => Err(Unwritten::First(FirstFile::Result, unread)),
+    }
+}
+
+/// The result that the file of this name holds, where it meets all rules.
+pub(crate) fn earlier_in<H: Shelf>(
+    alloc: Global,
+    keys: Keys,
+    shelf: &mut H,
+    name: &Name,
+) -> Result<ResultFile, Unwritten>
+    ensures held { IfOk result (TakesUpIn (Earlier name.now) (H.files shelf.old)) }
+    ensures of_some { IfOk result (TakesUpSome (Earlier name.now)) }
+    ensures unwritten { IfErr result (IsUnwrittenAtFirst (Earlier name.now) (H.files shelf.old) (H.steady shelf.old)) }
+    ensures reach { IfErr result (IsFirstInReach (Earlier name.now) (H.files shelf.old) (H.left shelf.new)) }
+    ensures read_out { OnOk result (IsAtEnd (H.left shelf.new)) }
+
+    ensures reads_shelf { ReadsShelf H.Shelf (IsErrAnd result IsFailedRead) shelf.old shelf.new }
+{
+    match read_whole(alloc, shelf, name.as_text(), MAX_RESULT) {
+        Ok(bytes) => match ruling_on(alloc, keys, bytes) {
+            Ok(Ruling::Met(file)) => Ok(file),
+            Ok(Ruling::Broken { line, rule }) => Err(Unwritten::Broken(line, rule)),
+            Err(NoMemory) => Err(Unwritten::Refused(Refusal::NoMemory)),
         },
         Err(unread) => Err(Unwritten::First(FirstFile::Result, unread)),
     }

@@ -4,6 +4,7 @@ ghost use Rattle.tor_run.specs.Agreement.{AgreementLaw, MigrateLaw, OneSummaryLa
 ghost use Rattle.tor_run.specs.Accepting.{FaithfulLaw, TableLaw};
 ghost use Rattle.tor_run.specs.Grading.{GradingLaw, ResultEndsLaw};
 ghost use Rattle.tor_run.specs.Seen.{OneOutcomeLaw};
+ghost use Rattle.tor_run.specs.Resuming.{OfDumpsLaw, ResumeLaw, InPartsLaw, ResumedAcceptanceLaw};
 ghost use Rattle.tor_run.specs.SelfGrading.{SelfGradingLaw};
 ghost use Rattle.tor_run.specs.SeenLaw.{DumpsLaw, SeenLaw, DumpsReadableLaw, ReadableLaw};
 
@@ -30,7 +31,7 @@ pub fn faithful_law()
 }
 
 /// What `torcheck` says of a result that `tor` has written, with known relationships or without: yes and nothing else, alone and beside the
-/// same dumps, whatever limit on paths they were read under; and that it can judge each that isn't too long.
+/// same dumps, whatever limit on paths they were read under. And each that isn't too long it can judge, and `tor --resume` can take up.
 pub fn agreement_law()
     ensures { AgreementLaw }
 {
@@ -84,4 +85,19 @@ pub fn self_grading_law()
     ensures { SelfGradingLaw }
 {
     bounds_law();
+}
+
+/// What resuming gives: where the earlier result is of some dumps, as each is that a run makes of dumps, the one that is written has the
+/// paths, times and counts of these and then the new ones, and is the same in all but its evidence as that of one run over all of them,
+/// with the same sets, ratio and givens. Resuming in two runs gives what resuming in one gives. What is written is accepted as every result
+/// is, so that it can be taken up again, and alone and beside all these dumps it is judged yes and nothing else.
+pub fn resume_law()
+    ensures begun { OfDumpsLaw }
+    ensures resumed { ResumeLaw }
+    ensures in_parts { InPartsLaw }
+    ensures accepted { ResumedAcceptanceLaw }
+{
+    one_value();
+    bounds_law();
+    self_acceptance_law();
 }

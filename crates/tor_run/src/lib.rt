@@ -6,6 +6,7 @@ mod first;
 mod laws;
 mod listing;
 mod output;
+mod resuming;
 mod run;
 mod sampling;
 mod summary;
@@ -13,6 +14,6 @@ mod unwritten;
 
 pub use laws::{
     agreement_law, faithful_law, grading_law, migrate_law, one_outcome_law, one_summary_law,
-    readable_law, seen_law, self_grading_law,
+    readable_law, resume_law, seen_law, self_grading_law,
 };
 pub use run::infer;

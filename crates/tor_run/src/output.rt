@@ -114,8 +114,8 @@ fn faithful_result(
     result_with(alloc, keys, head, givens, table)
 }
 
-// The text of a result, and its summary as the note.
-fn text_and_summary(alloc: Global, file: &ResultFile) -> Result<Output, NoMemory>
+/// The text of a result, and its summary as the note.
+pub(crate) fn text_and_summary(alloc: Global, file: &ResultFile) -> Result<Output, NoMemory>
     ensures text { IfOk result (λ output. IsTextOf file.now (written output).text) }
     ensures note { IfOk result (λ output. (written output).note ≡ summary file.now ++ 10 ∷ []) }
 {
@@ -250,8 +250,8 @@ fn serial_output(
     serial_alone(alloc, keys, file.edges.as_slice())
 }
 
-/// What the settings ask for, of what is known and what the dumps gave; with `--migrate` no dump is read. The only error is that memory ran
-/// out.
+/// What the settings ask for, of what is known and what the dumps gave; with `--migrate` no dump is read, and with `--resume` they are read
+/// on top of a result. The only error is that memory ran out.
 pub(crate) fn output_of(
     alloc: Global,
     keys: Keys,
@@ -260,6 +260,7 @@ pub(crate) fn output_of(
     taken: Taken,
 ) -> Result<Output, NoMemory>
     requires read { settings.now.mode ≢ Mode.Migrate }
+    requires fresh { settings.now.mode ≢ Mode.Resume }
     requires ratio { settings.now.ratio ≤ max_ratio }
     requires sound { AreSound givens }
     requires few { length (unwrap_or givens []) ≤ max_givens }
@@ -272,7 +273,7 @@ pub(crate) fn output_of(
         Mode::Ties => ties_output(alloc, keys, settings, givens, taken),
         Mode::Serial => serial_output(alloc, keys, settings, givens, taken),
         Mode::Summary => summary_output(alloc, keys, settings, givens, taken),
-        Mode::Migrate => unreachable!(),
+        Mode::Migrate | Mode::Resume => unreachable!(),
     }
 }
 

@@ -11,14 +11,15 @@ ghost use Rattle.dump_read.specs.declared.taking.Taken.{Taken};
 ghost use Rattle.tor_words.specs.Given.{settings_given};
 ghost use Rattle.relationships.specs.declared.given.Given.{Given};
 ghost use Rattle.result_text.specs.declared.file.ResultFile.{ResultFile};
-ghost use Rattle.tor_run.specs.First.{NoFile, TooLong, BadLine};
+ghost use Rattle.tor_run.specs.First.{NoFile, TooLong, BadLine, Broken};
 ghost use Rattle.tor_run.specs.Reach.{EndsInReach};
 ghost use Rattle.tor_run.specs.Sampling.{IfSample, known_by};
-ghost use Rattle.tor_run.specs.Seen.{Reads, Holds, Stops, Ends, Gives};
-ghost use Rattle.tor_run.specs.Answer.{IsNote, LeadsToMalformed, LeadsToLimit, LeadsToAbsent};
+ghost use Rattle.tor_run.specs.Seen.{Reads, Joins, Holds, Stops, Ends, Gives};
+ghost use Rattle.tor_run.specs.Answer.{IsNote, LeadsToBroken, LeadsToMalformed, LeadsToLimit, LeadsToAbsent};
 ghost use Rattle.run_base.specs.Answers.{IsNoted};
 ghost use Rattle.tor_run.specs.Grading.{AsksForSerial, GainsGrading};
 ghost use Rattle.tor_run.specs.Output.{GainsOutput, GainsOutputPrefix, GainsSome, GainsSomePrefix};
+ghost use Rattle.tor_run.specs.Resuming.{AsksToResume, GainsResumed};
 ghost use Rattle.run_base.specs.Answers.{note_in};
 ghost use Rattle.run_base.specs.Frames.{RunLeavesShelf, RunLeavesOut};
 
@@ -29,7 +30,7 @@ use run_base::{Answer, Note, Status};
 use std::alloc::Global;
 use tor_arena::{Keys, List};
 use tor_io::{Failed, Shelf, Sink, write_all};
-use tor_words::Name;
+use tor_words::{Name, bounds_law};
 
 // The run without its note: what it answers doesn't depend on where the note goes.
 fn answer<H: Shelf, O: Sink>(
@@ -54,7 +55,6 @@ fn answer<H: Shelf, O: Sink>(
     ensures usage { result.status ≡ Status.Usage → IsNone (settings_given words.now) }
     ensures always_usage { IsNone (settings_given words.now) →
         (result.status ≡ Status.Usage) ⊎ (result.status ≡ Status.NoMemory) }
-    ensures no_other { result.status ≢ Status.No }
 
     // What is left in the objects.
     ensures read_out { result.status ≡ Status.Done → IfSample words.now ⊤ (IsAtEnd (H.left shelf.new)) }
@@ -80,11 +80,13 @@ fn answer<H: Shelf, O: Sink>(
 /// Runs `tor`: of the dumps that the words name, it writes the result, and its summary as a line to err, or with `--list` the distinct
 /// paths, with `--survey` what the dumps hold, with `--ties` the ties of the open edges, with `--serial1` the labels as lines of serial-1;
 /// with `--sample`, of the sample of that number in place of dumps, the summary alone; and with `--migrate`, of the result that the words
-/// name, its text of version 2. With `--given` the file of known relationships is read before the dumps, and binds the result.
-/// Done: this was written. Usage: the words are no command. Malformed, Limit: the first end of the file that is read before any dump, or
-/// else of the dumps, is that bad line, that fault or that limit. ReadFault: a call on the shelf failed, as an open does at a file that
-/// isn't there. WriteFault: a call on out failed. NoMemory: memory ran out, before anything went to out. `docs/PROMISES.md` has each
-/// promise by name.
+/// name, its text of version 2. With `--given` the file of known relationships is read before the dumps, and binds the result. With
+/// `--resume` the result that it names is read before the dumps and taken up: what became of its paths stays, and the result of both is
+/// written.
+/// Done: this was written. No: the result that was to be taken up breaks a rule. Usage: the words are no command. Malformed, Limit: the
+/// first end of the file that is read before any dump, or else of the dumps, is that bad line, that fault or that limit. ReadFault: a call
+/// on the shelf failed, as an open does at a file that isn't there. WriteFault: a call on out failed. NoMemory: memory ran out, before
+/// anything went to out. `docs/PROMISES.md` has each promise by name.
 pub fn infer<H: Shelf, O: Sink, E: Sink>(
     alloc: Global,
     keys: Keys,
@@ -100,8 +102,8 @@ pub fn infer<H: Shelf, O: Sink, E: Sink>(
         (E.faults err.old) (E.faults err.new) (E.held err.old) (E.held err.new)) }
     ensures cut_off { result ≡ Status.WriteFault → IfSome (known_by words.now (H.files shelf.old)) (λ files.
         GainsOutputPrefix words.now files (O.held out.old) (O.held out.new)) }
-    // The same of files of which nothing is known: the text is one that the words ask for of some paths, counts and givens, or of some
-    // result.
+    // The same of files of which nothing is known: the text is one that the words ask for of some paths, counts and givens, of some
+    // result, or of some paths and counts on top of one.
     ensures some { result ≡ Status.Done → IsNoted (GainsSome words.now (O.held out.old) (O.held out.new))
         (E.faults err.old) (E.faults err.new) (E.held err.old) (E.held err.new) }
     ensures some_cut_off { result ≡ Status.WriteFault → GainsSomePrefix words.now (O.held out.old) (O.held out.new) }
@@ -109,6 +111,10 @@ pub fn infer<H: Shelf, O: Sink, E: Sink>(
     // exactly these are free under it, and no path is unknown.
     ensures graded { result ≡ Status.Done → AsksForSerial words.now → IfSome (known_by words.now (H.files shelf.old)) (λ files.
         GainsGrading words.now files (O.held out.old) (O.held out.new)) }
+    // With `--resume` it is the text of a result such that, where the one that was taken up is of some dumps, this one is of these and then
+    // of those that the words name.
+    ensures resumed { result ≡ Status.Done → AsksToResume words.now → IfSome (known_by words.now (H.files shelf.old)) (λ files.
+        GainsResumed words.now files (O.held out.old) (O.held out.new)) }
     ensures nothing { result ≢ Status.Done → result ≢ Status.WriteFault → out.new ≡ out.old }
 
     // When each status may come.
@@ -117,7 +123,7 @@ pub fn infer<H: Shelf, O: Sink, E: Sink>(
     ensures limit { result ≡ Status.Limit → LeadsToLimit words.now (known_by words.now (H.files shelf.old)) }
     ensures steady_read_fault { H.steady shelf.old → result ≡ Status.ReadFault →
         LeadsToAbsent words.now (known_by words.now (H.files shelf.old)) }
-    ensures no_other { result ≢ Status.No }
+    ensures no { result ≡ Status.No → LeadsToBroken words.now (known_by words.now (H.files shelf.old)) }
 
     // When each status has to come, or NoMemory.
     ensures always_usage { IsNone (settings_given words.now) → (result ≡ Status.Usage) ⊎ (result ≡ Status.NoMemory) }
@@ -126,6 +132,15 @@ pub fn infer<H: Shelf, O: Sink, E: Sink>(
         IsQuiet (H.faults shelf.old) (H.faults shelf.new) ⊎ H.steady shelf.old →
         IsQuiet (O.faults out.old) (O.faults out.new) →
         (result ≡ Status.Done) ⊎ (result ≡ Status.NoMemory) }
+    ensures always_resumed { (files : Files) (earlier : ResultFile) (taken : Taken) →
+        known_by words.now (H.files shelf.old) ≡ Some files → Gives words.now files (Joins earlier taken) →
+        IsQuiet (H.faults shelf.old) (H.faults shelf.new) ⊎ H.steady shelf.old →
+        IsQuiet (O.faults out.old) (O.faults out.new) →
+        (result ≡ Status.Done) ⊎ (result ≡ Status.NoMemory) }
+    ensures always_no { (files : Files) (line rule : ℕ) →
+        known_by words.now (H.files shelf.old) ≡ Some files → Gives words.now files (Stops (Broken line rule)) →
+        IsQuiet (H.faults shelf.old) (H.faults shelf.new) ⊎ H.steady shelf.old →
+        (result ≡ Status.No) ⊎ (result ≡ Status.NoMemory) }
     ensures always_migrated { (files : Files) (file : ResultFile) →
         known_by words.now (H.files shelf.old) ≡ Some files → Gives words.now files (Holds file) →
         IsQuiet (H.faults shelf.old) (H.faults shelf.new) ⊎ H.steady shelf.old →
@@ -171,8 +186,9 @@ pub fn infer<H: Shelf, O: Sink, E: Sink>(
     ensures reach { IsNoted (EndsInReach words.now (H.files shelf.old) (H.left shelf.new) result)
         (E.faults err.old) (E.faults err.new) (E.held err.old) (E.held err.new) }
 {
-    // A law that the promises rest on: a text has one value.
+    // Laws that the promises rest on: a text has one value, and settings have bounds.
     one_value();
+    bounds_law();
     let answer = answer(alloc, keys, words, shelf, out);
     let _ = write_all(err, answer.note());
     answer.status

@@ -44,7 +44,7 @@ pub(crate) enum Unjudged {
 
 /// What the rules 0 to 10 say of a text.
 #[derive(Drop)]
-pub(crate) enum Ruling {
+pub enum Ruling {
     /// The least that is broken, and its first line.
     Broken { line: u64, rule: u8 },
     /// All are met, by this result.
@@ -70,8 +70,8 @@ fn ruling_of(alloc: Global, keys: Keys, file: ResultFile) -> Result<Ruling, NoMe
     }
 }
 
-/// What the rules 0 to 10 say of the octets.
-fn ruling_on(alloc: Global, keys: Keys, bytes: List<u8>) -> Result<Ruling, NoMemory>
+/// What the rules 0 to 10 say of the octets of a result file, at most 2^31. The octets are let go. The only error is that memory ran out.
+pub fn ruling_on(alloc: Global, keys: Keys, bytes: List<u8>) -> Result<Ruling, NoMemory>
     requires short { length bytes ≤ max_result }
     ensures { IfOk result (IsRuling bytes) }
 {

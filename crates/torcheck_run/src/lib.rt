@@ -7,5 +7,6 @@ mod laws;
 mod verdicts;
 
 pub use checking::check;
-pub use judging::MAX_RESULT;
+pub use judging::{MAX_RESULT, Ruling, ruling_on};
 pub use laws::one_file_verdict_law;
+pub use verdicts::verdict_text;

@@ -6,8 +6,8 @@ use result_rules::Verdict;
 use run_base::Status;
 use std::alloc::{AllocError, Global};
 
-/// The text of a verdict.
-pub(crate) fn verdict_text(alloc: Global, verdict: Verdict) -> Result<String, AllocError>
+/// The text of a verdict, as a line. The only error is that memory ran out.
+pub fn verdict_text(alloc: Global, verdict: Verdict) -> Result<String, AllocError>
     ensures { IfOk result (λ text. string_bytes text ≡ verdict_text verdict) }
 {
     match verdict {

@@ -11,9 +11,10 @@ use Rattle.run_base.proofs.Prefixes.{all_if_quiet, either_way, noted, noted_if}
 use Rattle.run_base.proofs.Statuses.{not_text}
 use Rattle.dump_read.specs.Seen.{Absent, Malformed, Limit}
 use Rattle.tor_run.specs.First.{NoFile, TooLong, BadLine}
-use Rattle.tor_run.specs.Seen.{Reads, Holds, Stops, Ends}
-use Rattle.tor_run.proofs.Always.{always, leads_absent, leads_limit, leads_malformed}
+use Rattle.tor_run.specs.Seen.{Reads, Joins, Holds, Stops, Ends}
+use Rattle.tor_run.proofs.Always.{always, always_broken, leads_absent, leads_broken, leads_limit, leads_malformed}
 use Rattle.tor_run.proofs.GradingLemmas.{gains_grading}
+use Rattle.tor_run.proofs.Resumings.{gains_resumed}
 use Rattle.tor_run.proofs.run.infer.Goals as goal
 
 pub returns-clause-done : goal.returns-clause-done
@@ -59,6 +60,14 @@ returns-clause-some g c = λ is.
     (err.faults c.args.err.now) (err.faults c.write_all.new.sink) (err.held c.args.err.now) (err.held c.write_all.new.sink)
     c.note.result.now (note_in a.result) (a.ensures.some is) c.note.ensures c.write_all.ensures.cause c.write_all.ensures.all c.write_all.ensures.prefix
 
+pub returns-clause-no : goal.returns-clause-no
+returns-clause-no g c =
+    let shelf = g.H.Shelf in
+    let words = c.args.words.now in
+    let old = c.args.shelf.now in
+    let a = c.answer-answer in
+    leads_broken words (known_by words (shelf.files old)) (shelf.steady old) (shelf.left a.new.shelf) a.result.status (note_in a.result) a.ensures.note
+
 pub returns-clause-malformed : goal.returns-clause-malformed
 returns-clause-malformed g c =
     let shelf = g.H.Shelf in
@@ -92,8 +101,31 @@ returns-clause-always_done g c = λ files known taken is gives well quiet.
     let a = c.answer-answer in
     always words (known_by words (shelf.files old)) (shelf.steady old) (shelf.left a.new.shelf) a.result.status (note_in a.result) a.ensures.note c.one_value.ensures
     (out.held c.args.out.now) (out.held a.new.out) (shelf.faults old) (shelf.faults a.new.shelf) (out.faults c.args.out.now) (out.faults a.new.out)
-    a.ensures.done a.ensures.cut_off a.ensures.usage a.ensures.leaves_shelf.read_fault a.ensures.leaves_out.write_fault a.ensures.no_other
+    a.ensures.done a.ensures.cut_off a.ensures.usage a.ensures.leaves_shelf.read_fault a.ensures.leaves_out.write_fault
     files (Reads known taken) is gives (inl well) (λ _. quiet)
+
+pub returns-clause-always_resumed : goal.returns-clause-always_resumed
+returns-clause-always_resumed g c = λ files earlier taken is gives well quiet.
+    let shelf = g.H.Shelf in
+    let out = g.O.Sink in
+    let old = c.args.shelf.now in
+    let words = c.args.words.now in
+    let a = c.answer-answer in
+    always words (known_by words (shelf.files old)) (shelf.steady old) (shelf.left a.new.shelf) a.result.status (note_in a.result) a.ensures.note c.one_value.ensures
+    (out.held c.args.out.now) (out.held a.new.out) (shelf.faults old) (shelf.faults a.new.shelf) (out.faults c.args.out.now) (out.faults a.new.out)
+    a.ensures.done a.ensures.cut_off a.ensures.usage a.ensures.leaves_shelf.read_fault a.ensures.leaves_out.write_fault
+    files (Joins earlier taken) is gives (inl well) (λ _. quiet)
+
+pub returns-clause-always_no : goal.returns-clause-always_no
+returns-clause-always_no g c = λ files line rule is gives well.
+    let shelf = g.H.Shelf in
+    let out = g.O.Sink in
+    let old = c.args.shelf.now in
+    let words = c.args.words.now in
+    let a = c.answer-answer in
+    always_broken words (known_by words (shelf.files old)) (shelf.steady old) (shelf.left a.new.shelf) a.result.status (note_in a.result) a.ensures.note c.one_value.ensures
+    (out.held c.args.out.now) (out.held a.new.out) (shelf.faults old) (shelf.faults a.new.shelf) a.ensures.done a.ensures.cut_off a.ensures.usage a.ensures.leaves_shelf.read_fault
+    files line rule is gives well
 
 pub returns-clause-always_migrated : goal.returns-clause-always_migrated
 returns-clause-always_migrated g c = λ files file is gives well quiet.
@@ -104,7 +136,7 @@ returns-clause-always_migrated g c = λ files file is gives well quiet.
     let a = c.answer-answer in
     always words (known_by words (shelf.files old)) (shelf.steady old) (shelf.left a.new.shelf) a.result.status (note_in a.result) a.ensures.note c.one_value.ensures
     (out.held c.args.out.now) (out.held a.new.out) (shelf.faults old) (shelf.faults a.new.shelf) (out.faults c.args.out.now) (out.faults a.new.out)
-    a.ensures.done a.ensures.cut_off a.ensures.usage a.ensures.leaves_shelf.read_fault a.ensures.leaves_out.write_fault a.ensures.no_other
+    a.ensures.done a.ensures.cut_off a.ensures.usage a.ensures.leaves_shelf.read_fault a.ensures.leaves_out.write_fault
     files (Holds file) is gives (inl well) (λ _. quiet)
 
 pub returns-clause-always_bad_line : goal.returns-clause-always_bad_line
@@ -116,7 +148,7 @@ returns-clause-always_bad_line g c = λ files line is gives well.
     let a = c.answer-answer in
     always words (known_by words (shelf.files old)) (shelf.steady old) (shelf.left a.new.shelf) a.result.status (note_in a.result) a.ensures.note c.one_value.ensures
     (out.held c.args.out.now) (out.held a.new.out) (shelf.faults old) (shelf.faults a.new.shelf) (out.faults c.args.out.now) (out.faults a.new.out)
-    a.ensures.done a.ensures.cut_off a.ensures.usage a.ensures.leaves_shelf.read_fault a.ensures.leaves_out.write_fault a.ensures.no_other
+    a.ensures.done a.ensures.cut_off a.ensures.usage a.ensures.leaves_shelf.read_fault a.ensures.leaves_out.write_fault
     files (Stops (BadLine line)) is gives (inl well) (not_text _ (λ e. absurd cc) (λ e. absurd cc))
 
 pub returns-clause-always_malformed : goal.returns-clause-always_malformed
@@ -128,7 +160,7 @@ returns-clause-always_malformed g c = λ files place fault is gives well.
     let a = c.answer-answer in
     always words (known_by words (shelf.files old)) (shelf.steady old) (shelf.left a.new.shelf) a.result.status (note_in a.result) a.ensures.note c.one_value.ensures
     (out.held c.args.out.now) (out.held a.new.out) (shelf.faults old) (shelf.faults a.new.shelf) (out.faults c.args.out.now) (out.faults a.new.out)
-    a.ensures.done a.ensures.cut_off a.ensures.usage a.ensures.leaves_shelf.read_fault a.ensures.leaves_out.write_fault a.ensures.no_other
+    a.ensures.done a.ensures.cut_off a.ensures.usage a.ensures.leaves_shelf.read_fault a.ensures.leaves_out.write_fault
     files (Ends (Malformed place fault)) is gives (inl well) (not_text _ (λ e. absurd cc) (λ e. absurd cc))
 
 pub returns-clause-always_too_long : goal.returns-clause-always_too_long
@@ -140,7 +172,7 @@ returns-clause-always_too_long g c = λ files is gives well.
     let a = c.answer-answer in
     always words (known_by words (shelf.files old)) (shelf.steady old) (shelf.left a.new.shelf) a.result.status (note_in a.result) a.ensures.note c.one_value.ensures
     (out.held c.args.out.now) (out.held a.new.out) (shelf.faults old) (shelf.faults a.new.shelf) (out.faults c.args.out.now) (out.faults a.new.out)
-    a.ensures.done a.ensures.cut_off a.ensures.usage a.ensures.leaves_shelf.read_fault a.ensures.leaves_out.write_fault a.ensures.no_other
+    a.ensures.done a.ensures.cut_off a.ensures.usage a.ensures.leaves_shelf.read_fault a.ensures.leaves_out.write_fault
     files (Stops TooLong) is gives (inl well) (not_text _ (λ e. absurd cc) (λ e. absurd cc))
 
 pub returns-clause-always_limit : goal.returns-clause-always_limit
@@ -152,7 +184,7 @@ returns-clause-always_limit g c = λ files kind dump is gives well.
     let a = c.answer-answer in
     always words (known_by words (shelf.files old)) (shelf.steady old) (shelf.left a.new.shelf) a.result.status (note_in a.result) a.ensures.note c.one_value.ensures
     (out.held c.args.out.now) (out.held a.new.out) (shelf.faults old) (shelf.faults a.new.shelf) (out.faults c.args.out.now) (out.faults a.new.out)
-    a.ensures.done a.ensures.cut_off a.ensures.usage a.ensures.leaves_shelf.read_fault a.ensures.leaves_out.write_fault a.ensures.no_other
+    a.ensures.done a.ensures.cut_off a.ensures.usage a.ensures.leaves_shelf.read_fault a.ensures.leaves_out.write_fault
     files (Ends (Limit kind dump)) is gives (inl well) (not_text _ (λ e. absurd cc) (λ e. absurd cc))
 
 pub returns-clause-always_no_first : goal.returns-clause-always_no_first
@@ -164,7 +196,7 @@ returns-clause-always_no_first g c = λ files is gives.
     let a = c.answer-answer in
     always words (known_by words (shelf.files old)) (shelf.steady old) (shelf.left a.new.shelf) a.result.status (note_in a.result) a.ensures.note c.one_value.ensures
     (out.held c.args.out.now) (out.held a.new.out) (shelf.faults old) (shelf.faults a.new.shelf) (out.faults c.args.out.now) (out.faults a.new.out)
-    a.ensures.done a.ensures.cut_off a.ensures.usage a.ensures.leaves_shelf.read_fault a.ensures.leaves_out.write_fault a.ensures.no_other
+    a.ensures.done a.ensures.cut_off a.ensures.usage a.ensures.leaves_shelf.read_fault a.ensures.leaves_out.write_fault
     files (Stops NoFile) is gives (inr refl) (not_text _ (λ e. absurd cc) (λ e. absurd cc))
 
 pub returns-clause-always_absent : goal.returns-clause-always_absent
@@ -176,7 +208,7 @@ returns-clause-always_absent g c = λ files dump is gives.
     let a = c.answer-answer in
     always words (known_by words (shelf.files old)) (shelf.steady old) (shelf.left a.new.shelf) a.result.status (note_in a.result) a.ensures.note c.one_value.ensures
     (out.held c.args.out.now) (out.held a.new.out) (shelf.faults old) (shelf.faults a.new.shelf) (out.faults c.args.out.now) (out.faults a.new.out)
-    a.ensures.done a.ensures.cut_off a.ensures.usage a.ensures.leaves_shelf.read_fault a.ensures.leaves_out.write_fault a.ensures.no_other
+    a.ensures.done a.ensures.cut_off a.ensures.usage a.ensures.leaves_shelf.read_fault a.ensures.leaves_out.write_fault
     files (Ends (Absent dump)) is gives (inr refl) (not_text _ (λ e. absurd cc) (λ e. absurd cc))
 
 pub returns-clause-graded : goal.returns-clause-graded
@@ -186,3 +218,11 @@ returns-clause-graded g c = λ is asks.
     let a = c.answer-answer in
     IfSome_then (known_by words (g.H.Shelf.files c.args.shelf.now)) (a.ensures.done is)
     (λ files gains. gains_grading words files (out c.args.out.now) (out a.new.out) (note_in a.result) asks gains)
+
+pub returns-clause-resumed : goal.returns-clause-resumed
+returns-clause-resumed g c = λ is asks.
+    let out = g.O.Sink.held in
+    let words = c.args.words.now in
+    let a = c.answer-answer in
+    IfSome_then (known_by words (g.H.Shelf.files c.args.shelf.now)) (a.ensures.done is)
+    (λ files gains. gains_resumed c.bounds_law.ensures words files (out c.args.out.now) (out a.new.out) (note_in a.result) asks gains)
