@@ -1,7 +1,7 @@
 # `make` proves and builds the programs, compares their pages and the stored results with them, and runs every command of the README
 # (`make tour`). `make install` puts them where a shell finds them, and `make dist` into an archive for machines without the kit. `make
 # test` is the whole gate. Outside the gate, `make samples` compares the lists of two real tables with what other readers give, checks
-# the results of both, and grades their paths by the labels of their own results; `make system` tries the programs on full devices,
+# the results of both, grades their paths by the labels of their own results, and makes both again in four pieces; `make system` tries the programs on full devices,
 # closed pipes, folders and the like, `make memory` with each of their allocations refused, and `make container` what `make dist` made on
 # a bare system.
 
@@ -60,7 +60,8 @@ samples: $(BUILT)
 		sed -n 's/^free|//p' bin/sample.grades.txt | cmp - bin/sample.kept.txt || exit 1; \
 		grep '^grade|[0-9]*|[0-9]*|0$$' bin/sample.grades.txt || exit 1; \
 	done
-	@echo "the lists are the same, the results are right, and exactly the kept paths are free"
+	python3 bench/resume.py bin/tor bin/torcheck 1 0 samples/openbgpd.table samples/frr.routes-mrt
+	@echo "the lists are the same, the results are right, exactly the kept paths are free, and results can be resumed"
 
 system: $(BUILT)
 	bench/system.sh bin/tor bin/torcheck bin/torgrade samples

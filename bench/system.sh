@@ -1,7 +1,7 @@
 #!/usr/bin/env bash
 # What the programs do at the ends that touch the system: full devices, closed pipes, folders, absent files, standard input, many dumps and
-# few descriptors, endless results, relationships and givens. Each line says the run and whether status, output and note were as they should be; the
-# script ends with 1 if one was not.
+# few descriptors, endless results, relationships and givens. Each line says the run and whether status, output and note were as they should
+# be; the script ends with 1 if one was not.
 #   bench/system.sh TOR TORCHECK TORGRADE SAMPLES
 set -uo pipefail
 tor=$1 torcheck=$2 torgrade=$3 samples=$4
@@ -173,6 +173,28 @@ expect "a full device for a migrated result" $? 5 "write-fault"
 expect "a folder for a result to migrate" $? 4 "read-fault|0"
 same "a folder for a result to migrate" "$work/out" ""
 
+result=$samples/three-paths.result.txt
+"$tor" --resume "$result" "$one" > /dev/full 2> "$work/note"
+expect "a full device for a resumed result" $? 5 "write-fault"
+
+"$tor" --resume "$samples" "$one" > "$work/out" 2> "$work/note"
+expect "a folder for a result to take up" $? 4 "read-fault|0"
+same "a folder for a result to take up" "$work/out" ""
+
+"$tor" --resume "$result" "$samples" > "$work/out" 2> "$work/note"
+expect "a folder for a dump on top of a result" $? 4 "read-fault|1"
+same "a folder for a dump on top of a result" "$work/out" ""
+
+"$tor" --resume /dev/stdin "$one" < "$result" > "$work/out" 2> "$work/note"
+expect "a result to take up on standard input" $? 0 '{"asides":0,"edges":7,"forced":3,"kept":3,"lost":1,"paths":4,"peers":1}'
+
+# What a run writes over the result that it took up stands there whole, since nothing is written before all is read.
+"$tor" --resume "$result" "$one" > "$work/first" 2> "$work/note"
+cat "$result" > "$work/over"
+"$tor" --resume "$work/over" "$one" 2> "$work/note" 1<> "$work/over"
+expect "a result that is written over" $? 0 '{"asides":0,"edges":7,"forced":3,"kept":3,"lost":1,"paths":4,"peers":1}'
+same "a result that is written over" "$work/over" "$(cat "$work/first")"
+
 # Of a longer result 2^31 + 1 octets are read, so these runs hold 2 GiB each.
 if [ "$(awk '/^MemAvailable/ { print $2 }' /proc/meminfo)" -gt 6000000 ]; then
     truncate -s 2147483648 "$work/long"
@@ -188,6 +210,10 @@ if [ "$(awk '/^MemAvailable/ { print $2 }' /proc/meminfo)" -gt 6000000 ]; then
     "$torcheck" /dev/zero > "$work/out" 2> "$work/note"
     expect "an endless result" $? 6 "limit|result|0"
     same "an endless result" "$work/out" ""
+
+    "$tor" --resume /dev/zero "$work/absent" > "$work/out" 2> "$work/note"
+    expect "an endless result to take up" $? 6 "limit|result|0"
+    same "an endless result to take up" "$work/out" ""
 
     "$tor" --migrate /dev/zero > "$work/out" 2> "$work/note"
     expect "an endless result to migrate" $? 6 "limit|result|0"
