@@ -12,7 +12,7 @@ trap 'rm -rf "$work"' EXIT
 
 # The first nine tenths of the records of a dump, and the rest behind the peer table that stands first.
 part() { # DUMP
-    python3 - "$1" "$work/first" "$work/rest" << 'END'
+    python3 - "$1" "$work/first.mrt" "$work/rest.mrt" << 'END'
 import struct, sys
 octets = open(sys.argv[1], "rb").read()
 starts, at = [], 0
@@ -46,16 +46,16 @@ plain() {
 for dump in "$@"; do
     rm -f "$work"/*
     part "$dump"
-    : > "$work/nothing"
+    : > "$work/nothing.mrt"
     "$tor" "$dump" > "$work/whole.text" 2> /dev/null
-    "$tor" "$work/first" > "$work/first.text" 2> /dev/null
+    "$tor" "$work/first.mrt" > "$work/first.text" 2> /dev/null
     for _ in $(seq "${RUNS:-5}"); do
         run list "$tor" --list "$dump"
         run result "$tor" "$dump"
         run check "$torcheck" "$work/whole.text"
-        run again "$tor" --resume "$work/whole.text" "$work/nothing"
-        run both "$tor" "$work/first" "$work/rest"
-        run rest "$tor" --resume "$work/first.text" "$work/rest"
+        run again "$tor" --resume "$work/whole.text" "$work/nothing.mrt"
+        run both "$tor" "$work/first.mrt" "$work/rest.mrt"
+        run rest "$tor" --resume "$work/first.text" "$work/rest.mrt"
     done
     cmp <(plain "$work/again") <(plain "$work/result")
     cmp <(plain "$work/rest") <(plain "$work/both")
