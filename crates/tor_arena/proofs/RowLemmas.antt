@@ -1,8 +1,8 @@
 -- Rows and their ends.
-use Rattle.std.proofs.Common.{◌≡◌, ◌∙◌, ◌+◌, ◌-◌, ◌<◌, ◌≤◌, ℕ, zero, suc, List, [], ◌∷◌, ◌++◌, take, drop, length, refl, sym, ap, ap₂, arith, slice_get, slice_index, Some, length-drop}
+use Rattle.std.proofs.Common.{◌≡◌, ◌∙◌, ◌+◌, ◌-◌, ◌<◌, ◌≤◌, ℕ, zero, suc, List, [], ◌∷◌, ◌++◌, take, drop, length, refl, sym, ap, ap₂, subst, arith, slice_get, slice_index, Some, length-drop, length-append}
 use Rattle.std.proofs.lemmas.List.{take_all, take-append-le, drop-append-le, take-take, drop-take}
 use Rattle.std.proofs.Math.Seq.{drop-append_seam}
-use Rattle.tor_arena.specs.RowLists.{Rises, between, last_end, rows_from}
+use Rattle.tor_arena.specs.RowLists.{Rises, ArePartedBy, with_end, between, last_end, rows_from, rows_between}
 
 pub Rises-le : (most start : ℕ) (ends : List ℕ) → Rises most start ends → start ≤ most
 Rises-le most start [] r = r
@@ -15,10 +15,11 @@ Rises-at most start [] k r lt = absurd (omega arith)
 Rises-at most start (e ∷ es) zero r lt = (r.0, Rises-le most e es r.1)
 Rises-at most start (e ∷ es) (suc k) r lt = Rises-at most e es k r.1 (omega arith)
 
-pub last_end-take : (start : ℕ) (ends : List ℕ) (k : ℕ) → k < length ends → last_end start (take (suc k) ends) ≡ slice_index ends k
-last_end-take start [] k lt = absurd (omega arith)
-last_end-take start (e ∷ es) zero lt = refl
-last_end-take start (e ∷ es) (suc k) lt = last_end-take e es k (omega arith)
+-- a row begins where the one before it ends
+pub last_end-at : (start : ℕ) (ends : List ℕ) (k : ℕ) → k ≤ length ends → last_end start (take k ends) ≡ slice_index (start ∷ ends) k
+last_end-at start ends zero le = refl
+last_end-at start [] (suc k) le = absurd (omega arith)
+last_end-at start (e ∷ es) (suc k) le = last_end-at e es k (omega arith)
 
 pub last_end-push : (start : ℕ) (ends : List ℕ) (e : ℕ) → last_end start (ends ++ e ∷ []) ≡ e
 last_end-push start [] e = refl
@@ -39,6 +40,40 @@ pub Rises-take : (most start : ℕ) (ends : List ℕ) (k : ℕ) → Rises most s
 Rises-take most start ends zero r = omega arith
 Rises-take most start [] (suc k) r = omega arith
 Rises-take most start (e ∷ es) (suc k) r = (r.0, Rises-take most e es k r.1)
+
+-- each bound is at most the next one, and this at most the number of items
+pub bounds-rise : (bounds : List ℕ) (count k : ℕ) → ArePartedBy bounds count → suc k < length bounds
+    → (slice_index bounds k ≤ slice_index bounds (suc k)) × (slice_index bounds (suc k) ≤ count)
+bounds-rise [] count k parted lt = absurd (omega arith)
+bounds-rise (s ∷ es) count k parted lt =
+    let at = Rises-at count s es k parted.0 (omega arith) in
+    let start = last_end-at s es k (omega arith) in
+    let low = at.0 in
+    let high = at.1 in
+    (omega (arith, start, low), high)
+
+pub bound-le : (bounds : List ℕ) (count k : ℕ) → ArePartedBy bounds count → k < length bounds → slice_index bounds k ≤ count
+bound-le [] count k parted lt = absurd (omega arith)
+bound-le (s ∷ es) count k parted lt =
+    let low = last_end-le count s es k parted.0 in
+    let start = last_end-at s es k (omega arith) in
+    omega (arith, start, low)
+
+pub parted-push : (bounds : List ℕ) (count more : ℕ) → ArePartedBy bounds count → ArePartedBy (with_end bounds (count + more)) (count + more)
+parted-push [] count more parted = ((omega arith, omega arith), refl)
+parted-push (s ∷ es) count more parted = (
+  Rises-push count (count + more) s es (count + more) parted.0 (let last = parted.1 in omega (arith, last)) (omega arith),
+  last_end-push s es (count + more),
+)
+
+pub length-with_end : (bounds : List ℕ) (end : ℕ) → length (with_end bounds end) ≡ length bounds - 1 + 2
+length-with_end [] end = refl
+length-with_end (s ∷ es) end = let many : length (es ++ end ∷ []) ≡ length es + 1 = length-append es (end ∷ []) in omega (arith, many)
+
+pub parted-cut : (bounds : List ℕ) (count k : ℕ) → ArePartedBy bounds count → k < length bounds → ArePartedBy (take (suc k) bounds) (slice_index bounds k)
+parted-cut [] count k parted lt = absurd (omega arith)
+parted-cut (s ∷ es) count k parted lt =
+    subst (λ end. Rises end s (take k es) × (last_end s (take k es) ≡ end)) (last_end-at s es k (omega arith)) (Rises-take count s es k parted.0, refl)
 
 module _ {T : Type 0} where
   pub length-rows_from : (items : List T) (start : ℕ) (ends : List ℕ) → length (rows_from items start ends) ≡ length ends
@@ -89,3 +124,25 @@ module _ {T : Type 0} where
       → rows_from (take (last_end start (take k ends)) items) start (take k ends) ≡ take k (rows_from items start ends)
   rows_from-take items start ends k r =
       rows_from-cut items (last_end start (take k ends)) start (take k ends) (Rises-take (length items) start ends k r) ∙ rows_from-first items start ends k
+
+  pub length-rows_between : (items : List T) (bounds : List ℕ) → length (rows_between items bounds) ≡ length bounds - 1
+  length-rows_between items [] = refl
+  length-rows_between items (s ∷ es) = let many = length-rows_from items s es in omega (arith, many)
+
+  pub slice_get-rows_between : (items : List T) (bounds : List ℕ) (k : ℕ) → suc k < length bounds
+      → slice_get (rows_between items bounds) k ≡ Some (between items (slice_index bounds k) (slice_index bounds (suc k)))
+  slice_get-rows_between items [] k lt = absurd (omega arith)
+  slice_get-rows_between items (s ∷ es) k lt =
+      slice_get-rows_from items s es k (omega arith) ∙ ap (λ start. Some (between items start (slice_index es k))) (last_end-at s es k (omega arith))
+
+  pub rows_between-push : (items row : List T) (bounds : List ℕ) → ArePartedBy bounds (length items)
+      → rows_between (items ++ row) (with_end bounds (length items + length row)) ≡ rows_between items bounds ++ row ∷ []
+  rows_between-push items row [] parted = rows_from-push items row 0 [] (omega arith) (sym parted)
+  rows_between-push items row (s ∷ es) parted = rows_from-push items row s es parted.0 parted.1
+
+  -- the first rows, where the items behind them are cut
+  pub rows_between-cut : (items : List T) (bounds : List ℕ) (k : ℕ) → ArePartedBy bounds (length items) → k < length bounds
+      → rows_between (take (slice_index bounds k) items) (take (suc k) bounds) ≡ take k (rows_between items bounds)
+  rows_between-cut items [] k parted lt = absurd (omega arith)
+  rows_between-cut items (s ∷ es) k parted lt =
+      ap (λ end. rows_from (take end items) s (take k es)) (sym (last_end-at s es k (omega arith))) ∙ rows_from-take items s es k parted.0

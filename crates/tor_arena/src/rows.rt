@@ -1,7 +1,7 @@
 //! Rows of items that lie one behind the other.
 ghost use Rattle.std.specs.Prelude.{◌≡◌, ◌+◌, ◌-◌, ◌<◌, ◌≤◌, ◌↔◌, ◌++◌, ◌∷◌, [], length, take, drop, slice_get, slice_index, OnOk, OnErr};
-ghost use Rattle.std.specs.Prelude.{IfOk, IfErr};
-ghost use Rattle.tor_arena.specs.RowLists.{last_end};
+ghost use Rattle.std.specs.Prelude.{IfOk, IfErr, IfSome, vec_capacity};
+ghost use Rattle.tor_arena.specs.RowLists.{with_end};
 
 use crate::index::Index;
 use crate::memory::NoMemory;
@@ -23,21 +23,20 @@ pub enum RowRefused {
 pub struct Rows<I: Index, T: Copy> {
     // all items of all rows
     items: Vec<T>,
-    // for each row, how many items there are up to its end
-    ends: Vec<usize>,
+    // where the first row begins, and for each row where it ends; none as long as there was no row
+    bounds: Vec<u32>,
     kind: PhantomData<I>,
 }
 
 impl<I: Index, T: Copy> Model for Rows<I, T> {
-    ghost use Rattle.std.specs.Prelude.{◌≡◌, ◌≤◌, List, length};
-    ghost use Rattle.tor_arena.specs.RowLists.{rows_from, last_end, Rises};
+    ghost use Rattle.std.specs.Prelude.{◌+◌, ◌≤◌, List, length};
+    ghost use Rattle.tor_arena.specs.RowLists.{rows_between, ArePartedBy};
 
     ghost Value = { List (List T) };
 
-    ghost view = { λ rows. rows_from rows.items.items 0 rows.ends.items };
+    ghost view = { λ rows. rows_between rows.items.items rows.bounds.items };
 
-    ghost invariant = { λ rows. (length rows.ends.items ≤ I.LIMIT) × (last_end 0 rows.ends.items ≡ length rows.items.items) ×
-        Rises (length rows.items.items) 0 rows.ends.items };
+    ghost invariant = { λ rows. (length rows.bounds.items ≤ I.LIMIT + 1) × ArePartedBy rows.bounds.items (length rows.items.items) };
 }
 
 impl<I: Index, T: Copy> Rows<I, T> {
@@ -47,7 +46,7 @@ impl<I: Index, T: Copy> Rows<I, T> {
     {
         Rows {
             items: Vec::new(alloc),
-            ends: Vec::new(alloc),
+            bounds: Vec::new(alloc),
             kind: PhantomData,
         }
     }
@@ -57,7 +56,7 @@ impl<I: Index, T: Copy> Rows<I, T> {
     pub fn reserve(&mut self, rows: usize, items: usize) -> Result<(), NoMemory>
         ensures { self.new ≡ self.old }
     {
-        self.ends.reserve(rows)?;
+        self.bounds.reserve(rows.saturating_add(1))?;
         self.items.reserve(items)?;
         Ok(())
     }
@@ -67,7 +66,7 @@ impl<I: Index, T: Copy> Rows<I, T> {
         ensures length { result ≡ length self.now }
         ensures below { length self.now ≤ I.LIMIT }
     {
-        self.ends.len()
+        self.bounds.len().saturating_sub(1)
     }
 
     /// The row of an index, which has to be there. It takes no memory.
@@ -76,31 +75,33 @@ impl<I: Index, T: Copy> Rows<I, T> {
         ensures { slice_get self.now (I.place_of id) ≡ Some result.now }
     {
         let place = id.place();
-        let start = start_of(self.ends.as_slice(), place);
-        let end = self.ends[place];
+        let start = self.bounds[place] as usize;
+        let end = self.bounds[place + 1] as usize;
         part(self.items.as_slice(), start, end)
     }
 
     /// Adds a copy of the row at the end, and answers its index, whose place is the old number of
-    /// rows. Full comes exactly where there are LIMIT rows, else NoMemory may come. Both change
-    /// nothing.
+    /// rows. Full comes exactly where there are LIMIT rows, else NoMemory may come: where memory
+    /// ran out, and where there would be 2^32 items or more in sum. Both change nothing.
     pub fn push_row(&mut self, row: &[T]) -> Result<I, RowRefused>
         ensures added { OnOk result (self.new ≡ self.old ++ row.now ∷ []) }
         ensures index { IfOk result (λ id. I.place_of id ≡ length self.old) }
         ensures full { (result ≡ Err RowRefused.Full) ↔ (length self.old ≡ I.LIMIT) }
         ensures unchanged { OnErr result (self.new ≡ self.old) }
     {
-        let Some(id) = I::from_place(self.ends.len()) else {
+        let Some(id) = I::from_place(self.len()) else {
             return Err(RowRefused::Full);
         };
-        if self.ends.reserve(1).is_err() {
+        let Some(end) = end_behind(self.items.len(), row.len()) else {
+            return Err(RowRefused::NoMemory);
+        };
+        if self.bounds.reserve(2).is_err() {
             return Err(RowRefused::NoMemory);
         }
         if self.items.extend_from_slice(row).is_err() {
             return Err(RowRefused::NoMemory);
         }
-        let end = self.items.len();
-        self.ends.push_reserved(end);
+        put_end(&mut self.bounds, end);
         Ok(id)
     }
 
@@ -109,21 +110,32 @@ impl<I: Index, T: Copy> Rows<I, T> {
         requires { rows ≤ length self.old }
         ensures { self.new ≡ take rows self.old }
     {
-        let end = start_of(self.ends.as_slice(), rows);
-        self.ends.truncate(rows);
+        if self.bounds.is_empty() {
+            return;
+        }
+        let end = self.bounds[rows] as usize;
+        self.bounds.truncate(rows + 1);
         self.items.truncate(end);
     }
 }
 
-/// Where the row of a place begins: where the row before it ends.
-fn start_of(ends: &[usize], place: usize) -> usize
-    requires { place ≤ length ends.now }
-    ensures { result ≡ last_end 0 (take place ends.now) }
+/// Where a row of so many items ends that begins at `start`, if that can be written in 32 bits.
+fn end_behind(start: usize, items: usize) -> Option<u32>
+    ensures { IfSome result (λ end. end ≡ start + items) }
 {
-    if place == 0 {
-        return 0;
+    let end = start.checked_add(items)?;
+    u32::try_from(end).ok()
+}
+
+/// Puts the end of a row behind the ends of the others, and the start of the first row in front of its end.
+fn put_end(bounds: &mut Vec<u32>, end: u32)
+    requires room { length bounds.old.items + 2 ≤ vec_capacity bounds.old }
+    ensures bounds { bounds.new.items ≡ with_end bounds.old.items end }
+{
+    if bounds.is_empty() {
+        bounds.push_reserved(0);
     }
-    ends[place - 1]
+    bounds.push_reserved(end);
 }
 
 /// The items from `start` up to `end`.
