@@ -14,7 +14,7 @@ use Rattle.path_clean.specs.declared.cleaned.Cause.TheVariants.{Confed, Reserved
 use Rattle.path_clean.specs.declared.cleaned.Cleaned.TheVariants.{Path, Aside}
 use Rattle.tor_arena.specs.Distinct.{is_distinct}
 use Rattle.path_clean.specs.Paths.{is_reserved, is_cleaned}
-use Rattle.path_clean.specs.Clean.{is_skip, is_mixed_set, merged_path, judged, clean_segments, clean_path, PathsAreClean, CleanPathsStay}
+use Rattle.path_clean.specs.Clean.{is_skip, is_mixed_set, merged_path, judged, clean_segments, clean_path, merge_path, judge_merged, PathsAreClean, CleanPathsStay, JudgedLast}
 
 long_enough : (n : ℕ) → ltb n 2 ≡ false → leb 2 n ≡ true
 long_enough zero e = absurd cc
@@ -28,7 +28,7 @@ not_short n e = by (ltb n 2) refl
     by true t = absurd (omega (arith, ltb-true n 2 t, leb-true 2 n e))
     by false t = t
 
-judged-clean : (m path : List ℕ) → judged m ≡ Path path → is_cleaned path ≡ true
+pub judged-clean : (m path : List ℕ) → judged m ≡ Path path → is_cleaned path ≡ true
 judged-clean m path h = by (list_any is_reserved m) (is_distinct m) (ltb (length m) 2) refl refl refl h
   where
     by : (r d s : Bool) → list_any is_reserved m ≡ r → is_distinct m ≡ d → ltb (length m) 2 ≡ s
@@ -56,6 +56,20 @@ path-clean sets (Segments segments) path h = segments-clean sets segments path h
 
 pub paths_are_clean : PathsAreClean
 paths_are_clean sets width attrs path h = path-clean sets (path_of width attrs) path h
+
+judged-last : (sets : Sets) (found : PathOf) → clean_path sets found ≡ judge_merged (merge_path sets found)
+judged-last sets Absent = refl
+judged-last sets Malformed = refl
+judged-last sets (Segments segments) = by (list_any (λ s. is_confed s.kind) segments) (is_skip sets && list_any is_mixed_set segments) (merged_path segments)
+  where
+    by : (confed skips : Bool) (path : List ℕ)
+        → cond confed (Aside Confed) (cond skips (Aside Cause.Sets) (judged path)) ≡ judge_merged (cond confed (Aside Confed) (cond skips (Aside Cause.Sets) (Path path)))
+    by true skips path = refl
+    by false true path = refl
+    by false false path = refl
+
+pub judged_last : JudgedLast
+judged_last sets width attrs = judged-last sets (path_of width attrs)
 
 -- where no number stands twice, none is merged
 dedup-distinct : (k : ℕ) (xs : List ℕ) → list_any (λ y. nat_eq y k) xs ≡ false → is_distinct xs ≡ true → dedup_from nat_eq k xs ≡ k ∷ xs
@@ -92,7 +106,7 @@ clean-parts path h = by (leb 2 (length path)) (is_distinct path) (list_any is_re
     by true true true el ed er h = absurd cc
     by true true false el ed er h = record { long = el; once = ed; free = er }
 
-judged-stays : (path : List ℕ) → is_cleaned path ≡ true → judged path ≡ Path path
+pub judged-stays : (path : List ℕ) → is_cleaned path ≡ true → judged path ≡ Path path
 judged-stays path h =
     let parts = clean-parts path h in
     ap (λ r. cond r (Aside Reserved) (cond (not (is_distinct path)) (Aside Loop) (cond (ltb (length path) 2) (Aside Short) (Path path)))) parts.free

@@ -1,5 +1,5 @@
 -- Numbers that go onto a path one by one are the numbers with equal neighbours merged.
-use Rattle.std.proofs.Common.{◌≡◌, ℕ, suc, take, not, ◌+◌, ◌-◌, ◌<◌, ◌&&◌, ◌||◌, Bool, true, false, cond, nat_eq, List, [], ◌∷◌, ◌++◌, length, refl, sym, ap, ◌∙◌, arith, append_assoc, length-append}
+use Rattle.std.proofs.Common.{◌≡◌, ℕ, suc, take, not, ◌+◌, ◌-◌, ◌<◌, ◌&&◌, ◌||◌, Bool, true, false, cond, nat_eq, List, [], ◌∷◌, ◌++◌, Option, Some, None, length, refl, sym, ap, ◌∙◌, arith, append_assoc, length-append}
 use Rattle.std.specs.Prelude.{slice_index}
 use Rattle.std.specs.List.{fold, dedup, dedup_from, flat_map, before_first, prefix_len, list_any}
 use Rattle.std.proofs.lemmas.Bool.{lt-ltb}
@@ -9,11 +9,14 @@ use Rattle.std.proofs.lemmas.List.Concat.{flat_map-cons}
 use Rattle.path_attrs.specs.declared.as_path.Segment.{Segment}
 use Rattle.path_attrs.specs.PathOf.{is_confed}
 use Rattle.path_clean.specs.declared.cleaned.Sets.{Sets}
+use Rattle.path_clean.specs.declared.cleaned.Sets.TheVariants.{Cut, Skip}
 use Rattle.path_clean.specs.declared.cleaned.Cause.{Cause}
 use Rattle.path_clean.specs.declared.cleaned.Cause.TheVariants.{Confed}
-use Rattle.path_clean.specs.declared.cleaned.Cleaned.TheVariants.{Aside}
-use Rattle.path_clean.specs.Clean.{is_skip, is_mixed_set, ases_of, merged_path, judged, clean_segments}
-use Rattle.path_clean.specs.Merging.{ends_in, merged_onto}
+use Rattle.path_clean.specs.declared.cleaned.Cleaned.TheVariants.{Path, Aside}
+use Rattle.path_clean.specs.declared.merging.Oddity.{Oddity}
+use Rattle.path_clean.specs.declared.merging.Oddity.TheVariants.{Confederation, MixedSet}
+use Rattle.path_clean.specs.Clean.{is_skip, is_mixed_set, ases_of, merged_path, cleaned_as, merge_segments}
+use Rattle.path_clean.specs.Merging.{ends_in, merged_onto, oddity_in, cause_of, MergesOnto}
 
 last-is : (path : List ℕ) (k x : ℕ) → ends_in (path ++ k ∷ []) x ≡ nat_eq x k
 last-is path k x =
@@ -56,10 +59,33 @@ one_segment path path' s left plain is =
 pub none_mixed : (s : Segment) (left : List Segment) → is_mixed_set s ≡ false → list_any is_mixed_set left ≡ list_any is_mixed_set (s ∷ left)
 none_mixed s left plain = sym (ap (λ b. b || list_any is_mixed_set left) plain)
 
--- where no segment sets the route aside, the path is judged
-pub path_judged : (sets : Sets) (segments : List Segment) (path : List ℕ) → list_any (λ s. is_confed s.kind) segments ≡ false → (is_skip sets && list_any is_mixed_set segments) ≡ false
-    → path ≡ fold merged_onto [] (flat_map ases_of (before_first is_mixed_set segments)) → judged path ≡ clean_segments sets segments
-path_judged sets segments path confed skips is =
-    ap judged (is ∙ merged-dedup (flat_map ases_of (before_first is_mixed_set segments)))
-    ∙ sym (ap (λ b. cond b (Aside Confed) (cond (is_skip sets && list_any is_mixed_set segments) (Aside Cause.Sets) (judged (merged_path segments)))) confed
-    ∙ ap (λ b. cond b (Aside Cause.Sets) (judged (merged_path segments))) skips)
+pub none_confed : (s : Segment) (left : List Segment) → is_confed s.kind ≡ false
+    → list_any (λ segment. is_confed segment.kind) left ≡ list_any (λ segment. is_confed segment.kind) (s ∷ left)
+none_confed s left outside = sym (ap (λ b. b || list_any (λ segment. is_confed segment.kind) left) outside)
+
+-- ---- what stands among segments
+
+abbrev pub oddity_by : (confed mixed : Bool) → Option Oddity
+oddity_by confed mixed = cond confed (Some Confederation) (cond mixed (Some MixedSet) None)
+
+-- why a route is set aside, by what stands among its segments
+abbrev pub cause_by : Sets → Option Oddity → Option Cause
+cause_by sets None = None
+cause_by sets (Some oddity) = cause_of sets oddity
+
+merged_with : (sets : Sets) (confed mixed : Bool) (path whole : List ℕ) → (confed ≡ false → path ≡ whole)
+    → cleaned_as (cause_by sets (oddity_by confed mixed)) path ≡ cond confed (Aside Confed) (cond (is_skip sets && mixed) (Aside Cause.Sets) (Path whole))
+merged_with Cut true mixed path whole is = refl
+merged_with Skip true mixed path whole is = refl
+merged_with Cut false true path whole is = ap Path (is refl)
+merged_with Skip false true path whole is = refl
+merged_with Cut false false path whole is = ap Path (is refl)
+merged_with Skip false false path whole is = ap Path (is refl)
+
+-- what the segments of a route are merged to
+pub merged_by : (sets : Sets) (segments : List Segment) (path : List ℕ) (oddity : Option Oddity) → oddity ≡ oddity_in segments → MergesOnto [] segments path
+    → cleaned_as (cause_by sets oddity) path ≡ merge_segments sets segments
+merged_by sets segments path oddity is merges =
+    ap (λ o. cleaned_as (cause_by sets o) path) is
+    ∙ merged_with sets (list_any (λ s. is_confed s.kind) segments) (list_any is_mixed_set segments) path (merged_path segments)
+    (λ none. merges none ∙ merged-dedup (flat_map ases_of (before_first is_mixed_set segments)))

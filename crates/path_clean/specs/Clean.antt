@@ -77,6 +77,35 @@ clean_path sets (Segments segments) = clean_segments sets segments
 abbrev pub clean_of : Sets → Width → List Attribute → Cleaned
 clean_of sets width attrs = clean_path sets (path_of width attrs)
 
+-- ---- cleaning in two steps: what is known of a route before its path is judged, and the judging
+
+-- a segment of a confederation; with `skip`, an AS_SET whose members differ; else the path before the first such set, unjudged
+abbrev pub merge_segments : Sets → List Segment → Cleaned
+merge_segments sets segments =
+    if list_any (λ s. is_confed s.kind) segments then Aside Confed
+    else if is_skip sets && list_any is_mixed_set segments then Aside Cause.Sets
+    else Path (merged_path segments)
+
+abbrev pub merge_path : Sets → PathOf → Cleaned
+merge_path sets Absent = Aside NoPath
+merge_path sets Malformed = Aside BadSegments
+merge_path sets (Segments segments) = merge_segments sets segments
+
+-- the cause for which a route is set aside before its path is judged, or the path that is left to judge
+abbrev pub merged_of : Sets → Width → List Attribute → Cleaned
+merged_of sets width attrs = merge_path sets (path_of width attrs)
+
+-- the path is judged, where there is no cause before
+abbrev pub judge_merged : Cleaned → Cleaned
+judge_merged (Path path) = judged path
+judge_merged (Aside cause) = Aside cause
+
+-- a route is cleaned to what it is merged to, judged
+abbrev pub JudgedLast : Type 0
+JudgedLast = (sets : Sets) (width : Width) (attrs : List Attribute) → clean_of sets width attrs ≡ judge_merged (merged_of sets width attrs)
+
+-- ---- the laws
+
 -- what is cleaned to a path has at least two ASes, all distinct, none reserved
 abbrev pub PathsAreClean : Type 0
 PathsAreClean =

@@ -1,13 +1,12 @@
 //! How a route is cleaned.
-ghost use Rattle.std.specs.Prelude.{◌≡◌, ◌&&◌, IfOk};
-ghost use Rattle.std.specs.List.{list_any};
+ghost use Rattle.std.specs.Prelude.{◌≡◌, IfOk};
 ghost use Rattle.tor_arena.specs.Distinct.{is_distinct};
 ghost use Rattle.path_clean.specs.Paths.{is_cleaned};
-ghost use Rattle.path_attrs.specs.PathOf.{is_confed};
-ghost use Rattle.path_clean.specs.Clean.{is_skip, judged, cleaned_as, clean_segments, clean_of};
+ghost use Rattle.path_clean.specs.Clean.{judged, cleaned_as, clean_of, merge_segments, merged_of};
+ghost use Rattle.path_clean.specs.Merging.{cause_of};
 
 use crate::cleaned::{Cause, Cleaned, Sets, are_distinct, has_reserved};
-use crate::merging::append_segments;
+use crate::merging::{Oddity, append_segments};
 use path_attrs::{Attrs, PathCursor, Pathless, Width};
 use std::alloc::Global;
 use std::collections::BTreeSet;
@@ -48,53 +47,55 @@ pub fn clean_into(
 ) -> Result<Option<Cause>, NoMemory>
     ensures { IfOk result (λ cause. cleaned_as cause path.new ≡ clean_of sets width attrs.now) }
 {
-    let segments = match PathCursor::over(attrs, width) {
-        Ok(segments) => segments,
-        Err(Pathless::Absent) => return Ok(Some(Cause::NoPath)),
-        Err(Pathless::Malformed) => return Ok(Some(Cause::BadSegments)),
-    };
-    clean_segments(alloc, sets, segments, path)
+    match merge_into(sets, attrs, width, path)? {
+        None => judge(alloc, path.as_slice()),
+        Some(cause) => Ok(Some(cause)),
+    }
 }
 
-fn clean_segments(
-    alloc: Global,
+/// The first step of `clean_into`, up to the merging of equal neighbours. None: `path`, whatever it held, is now what is left to
+/// `judge`; a path that was judged before needn't be judged again. Else the cause for which the route is set aside, and `path` may
+/// be anything. NoMemory where memory ran out.
+pub fn merge_into(
+    sets: Sets,
+    attrs: &Attrs<'_>,
+    width: Width,
+    path: &mut List<u32>,
+) -> Result<Option<Cause>, NoMemory>
+    ensures { IfOk result (λ cause. cleaned_as cause path.new ≡ merged_of sets width attrs.now) }
+{
+    match PathCursor::over(attrs, width) {
+        Ok(segments) => merge_segments(sets, segments, path),
+        Err(Pathless::Absent) => Ok(Some(Cause::NoPath)),
+        Err(Pathless::Malformed) => Ok(Some(Cause::BadSegments)),
+    }
+}
+
+fn merge_segments(
     sets: Sets,
     segments: PathCursor<'_>,
     path: &mut List<u32>,
 ) -> Result<Option<Cause>, NoMemory>
-    ensures { IfOk result (λ cause. cleaned_as cause path.new ≡ clean_segments sets segments.entry) }
+    ensures { IfOk result (λ cause. cleaned_as cause path.new ≡ merge_segments sets segments.entry) }
 {
-    if has_confederation(segments.again()) {
-        return Ok(Some(Cause::Confed));
-    }
     path.clear();
-    let has_mixed_set = append_segments(path, segments)?;
-    if skips_for_sets(sets, has_mixed_set) {
-        return Ok(Some(Cause::Sets));
-    }
-    judge(alloc, path.as_slice())
-}
-
-/// Whether a route is set aside for an AS_SET whose members differ, where there is one or not.
-fn skips_for_sets(sets: Sets, has_mixed_set: bool) -> bool
-    ensures { result ≡ (is_skip sets && has_mixed_set) }
-{
-    match sets {
-        Sets::Cut => false,
-        Sets::Skip => has_mixed_set,
+    match append_segments(path, segments)? {
+        None => Ok(None),
+        Some(oddity) => Ok(cause_of(sets, oddity)),
     }
 }
 
-fn has_confederation(segments: PathCursor<'_>) -> bool
-    ensures { result ≡ list_any (λ segment. is_confed segment.kind) segments.entry }
+/// Why a route with this among its segments is set aside, if it is.
+fn cause_of(sets: Sets, oddity: Oddity) -> Option<Cause>
+    ensures { result ≡ cause_of sets oddity }
 {
-    let mut left = segments;
-    'segments: while let Some(segment) = left.next() {
-        if segment.kind().is_confed() {
-            return true;
-        }
+    match oddity {
+        Oddity::Confederation => Some(Cause::Confed),
+        Oddity::MixedSet => match sets {
+            Sets::Cut => None,
+            Sets::Skip => Some(Cause::Sets),
+        },
     }
-    false
 }
 
 /// Whether no number stands there twice. Long paths are sorted into a set, since the time for a search in place grows with the
@@ -134,8 +135,9 @@ fn are_distinct_by_set(alloc: Global, path: &[u32]) -> Result<bool, NoMemory>
     Ok(true)
 }
 
-/// Why a route with this path is set aside, if it is.
-fn judge(alloc: Global, path: &[u32]) -> Result<Option<Cause>, NoMemory>
+/// The second step of `clean_into`: why a route with this merged path is set aside, if it is. A reserved number: Reserved. An AS
+/// stands twice: Loop. Fewer than two ASes: Short. NoMemory where memory ran out.
+pub fn judge(alloc: Global, path: &[u32]) -> Result<Option<Cause>, NoMemory>
     ensures { IfOk result (λ cause. cleaned_as cause path.now ≡ judged path.now) }
 {
     if has_reserved(path) {

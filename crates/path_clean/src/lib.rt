@@ -15,8 +15,8 @@ mod table;
 
 pub use asides::Asides;
 pub use cleaned::{Cause, Cleaned, Sets, is_cleaned};
-pub use cleaning::{clean, clean_into, is_clean_path};
-pub use laws::{clean_paths_stay, counting, paths_are_clean};
+pub use cleaning::{clean, clean_into, is_clean_path, judge, merge_into};
+pub use laws::{clean_paths_stay, counting, judged_last, paths_are_clean};
 pub use lookup::Lookup;
 pub use repeats::first_repeated;
 pub use table::{AddRefused, Added, PathTable};

@@ -1,12 +1,22 @@
 //! The ASes of segments, with equal neighbours merged as they go onto a path.
 
 ghost use Rattle.std.specs.Prelude.{◌≡◌, ◌==◌, fold, take, IfOk, OnOk};
-ghost use Rattle.std.specs.List.{flat_map, before_first, list_any, list_all};
+ghost use Rattle.std.specs.List.{list_any, list_all};
+ghost use Rattle.path_attrs.specs.PathOf.{is_confed};
 ghost use Rattle.path_clean.specs.Clean.{are_equal, is_set, is_mixed_set, ases_of};
-ghost use Rattle.path_clean.specs.Merging.{ends_in, merged_onto};
+ghost use Rattle.path_clean.specs.Merging.{ends_in, merged_onto, oddity_in, oddity_from_set, MergesOnto};
 
 use path_attrs::{NumberCursor, PathCursor, SegKind, SegmentRef};
 use tor_arena::{List, NoMemory};
+
+/// What among segments is no plain part of a path. The first of the two decides.
+#[derive(Clone, Copy, PartialEq, Eq)]
+pub(crate) enum Oddity {
+    /// A segment of a confederation.
+    Confederation,
+    /// An AS_SET whose members differ.
+    MixedSet,
+}
 
 fn is_set(kind: SegKind) -> bool
     ensures { result ≡ is_set kind }
@@ -89,20 +99,47 @@ fn append_segment(path: &mut List<u32>, segment: &SegmentRef<'_>) -> Result<(), 
     }
 }
 
-/// Puts the ASes before the first AS_SET whose members differ at the end of a path, and answers whether there is such a set.
-pub(crate) fn append_segments(
-    path: &mut List<u32>,
-    segments: PathCursor<'_>,
-) -> Result<bool, NoMemory>
-    ensures path { OnOk result (path.new ≡ fold merged_onto path.old (flat_map ases_of (before_first is_mixed_set segments.entry))) }
-    ensures mixed { IfOk result (λ mixed. mixed ≡ list_any is_mixed_set segments.entry) }
+fn has_confederation(segments: PathCursor<'_>) -> bool
+    ensures { result ≡ list_any (λ segment. is_confed segment.kind) segments.entry }
 {
     let mut left = segments;
     'segments: while let Some(segment) = left.next() {
+        if segment.kind().is_confed() {
+            return true;
+        }
+    }
+    false
+}
+
+/// What stands first of the two, where an AS_SET whose members differ stands before these segments.
+fn oddity_from_set(segments: PathCursor<'_>) -> Oddity
+    ensures { result ≡ oddity_from_set segments.entry }
+{
+    if has_confederation(segments) {
+        Oddity::Confederation
+    } else {
+        Oddity::MixedSet
+    }
+}
+
+/// Puts the ASes before the first AS_SET whose members differ at the end of a path, where no segment is a confederation's, and
+/// answers what stands among the segments that is no plain part of a path. It goes over them once.
+pub(crate) fn append_segments(
+    path: &mut List<u32>,
+    segments: PathCursor<'_>,
+) -> Result<Option<Oddity>, NoMemory>
+    ensures path { OnOk result (MergesOnto path.old segments.entry path.new) }
+    ensures oddity { IfOk result (λ oddity. oddity ≡ oddity_in segments.entry) }
+{
+    let mut left = segments;
+    'segments: while let Some(segment) = left.next() {
+        if segment.kind().is_confed() {
+            return Ok(Some(Oddity::Confederation));
+        }
         if has_mixed_set(&segment) {
-            return Ok(true);
+            return Ok(Some(oddity_from_set(left)));
         }
         append_segment(path, &segment)?;
     }
-    Ok(false)
+    Ok(None)
 }
