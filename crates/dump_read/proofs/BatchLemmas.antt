@@ -1,7 +1,7 @@
--- Batches of cleaned routes.
+-- Batches of merged routes.
 use Rattle.std.proofs.Common.{◌≡◌, ◌∙◌, ◌+◌, ◌<◌, ◌≤◌, ◌++◌, ◌∷◌, [], List, ℕ, zero, suc, Bool, true, false, cond, Option, Some, None, Result, Ok, Err, option_map, bytes_eq, length, drop, map}
 use Rattle.std.proofs.Common.{slice_get, nat_eq, refl, ap, sym, subst, arith}
-use Rattle.std.specs.Prelude.{is_some}
+use Rattle.std.specs.Prelude.{is_some, OnOk}
 use Rattle.std.proofs.lemmas.List.{length-append, length-map}
 use Rattle.std.proofs.Math.ListN.{drop_of_length-le}
 use Rattle.tor_arena.specs.Growth.{one_more}
@@ -10,9 +10,8 @@ use Rattle.path_clean.specs.declared.cleaned.Sets.{Sets}
 use Rattle.path_clean.specs.declared.cleaned.Cause.{Cause}
 use Rattle.path_clean.specs.declared.cleaned.Cleaned.{Cleaned}
 use Rattle.path_clean.specs.declared.cleaned.Cleaned.TheVariants.{Path, Aside}
-use Rattle.path_clean.specs.Clean.{clean_of, cleaned_as}
-use Rattle.path_clean.specs.Lookups.{StandWhereFound}
-use Rattle.path_clean.specs.Paths.{is_cleaned}
+use Rattle.path_clean.specs.Clean.{cleaned_as, merged_of, judge_merged}
+use Rattle.path_clean.specs.Lookups.{StandWhereFound, AreCleanWhereFound}
 use Rattle.path_clean.specs.Rows.{Counted, Table}
 use Rattle.path_clean.specs.Table.{place_of, with_path}
 use Rattle.path_clean.proofs.Judged as judged
@@ -20,28 +19,28 @@ use Rattle.dump_read.specs.declared.error.LimitKind.{LimitKind}
 use Rattle.dump_read.specs.declared.error.LimitKind.TheVariants.{Paths, Numbers}
 use Rattle.dump_read.specs.Routes.{Route}
 use Rattle.dump_read.specs.declared.taking.Untaken.{Untaken}
-use Rattle.dump_read.specs.Batches.{StandAtPlaces, AreOf, Batched, cleaned_by, IsBatch, IsLimitAt, TakesAt}
+use Rattle.dump_read.specs.Batches.{StandAtPlaces, StandsAt, AreOf, Batched, merged, merged_by, IsBatch, IsLimitAt, TakesAt}
 use Rattle.dump_read.specs.Refusals.{IsLimit}
 use Rattle.dump_read.specs.Taking.{Taken, take_cleaned, take_path, take_routes, Takes, with_one, has_too_many_numbers}
 use Rattle.dump_read.proofs.Takings.{SoFar, one_more as one_route_more, limit_at, all_taken}
 
 -- ---- what stands at a place
 
-pub length-cleaned_by : (causes : List (Option Cause)) (paths : List (List ℕ)) → length causes ≡ length paths → length (cleaned_by causes paths) ≡ length causes
-length-cleaned_by [] paths same = refl
-length-cleaned_by (cause ∷ causes) [] same = absurd (omega (arith, same))
-length-cleaned_by (cause ∷ causes) (path ∷ paths) same = ap suc (length-cleaned_by causes paths (omega (arith, same)))
+pub length-merged_by : (causes : List (Option Cause)) (paths : List (List ℕ)) → length causes ≡ length paths → length (merged_by causes paths) ≡ length causes
+length-merged_by [] paths same = refl
+length-merged_by (cause ∷ causes) [] same = absurd (omega (arith, same))
+length-merged_by (cause ∷ causes) (path ∷ paths) same = ap suc (length-merged_by causes paths (omega (arith, same)))
 
-pub cleaned-at : (causes : List (Option Cause)) (paths : List (List ℕ)) (k : ℕ) (cause : Option Cause) (path : List ℕ) → slice_get causes k ≡ Some cause → slice_get paths k ≡ Some path
-    → slice_get (cleaned_by causes paths) k ≡ Some (cleaned_as cause path)
-cleaned-at [] paths k cause path c p = absurd cc
-cleaned-at (x ∷ causes) [] k cause path c p = absurd cc
-cleaned-at (x ∷ causes) (y ∷ paths) zero cause path c p = cc
-cleaned-at (x ∷ causes) (y ∷ paths) (suc k) cause path c p = cleaned-at causes paths k cause path c p
+pub merged-at : (causes : List (Option Cause)) (paths : List (List ℕ)) (k : ℕ) (cause : Option Cause) (path : List ℕ) → slice_get causes k ≡ Some cause → slice_get paths k ≡ Some path
+    → slice_get (merged_by causes paths) k ≡ Some (cleaned_as cause path)
+merged-at [] paths k cause path c p = absurd cc
+merged-at (x ∷ causes) [] k cause path c p = absurd cc
+merged-at (x ∷ causes) (y ∷ paths) zero cause path c p = cc
+merged-at (x ∷ causes) (y ∷ paths) (suc k) cause path c p = merged-at causes paths k cause path c p
 
 -- the path of a route that is set aside is any
 pub aside-at : (causes : List (Option Cause)) (paths : List (List ℕ)) (k : ℕ) (cause : Cause) → length causes ≡ length paths → slice_get causes k ≡ Some (Some cause)
-    → slice_get (cleaned_by causes paths) k ≡ Some (Aside cause)
+    → slice_get (merged_by causes paths) k ≡ Some (Aside cause)
 aside-at [] paths k cause same c = absurd cc
 aside-at (x ∷ causes) [] k cause same c = absurd (omega (arith, same))
 aside-at (x ∷ causes) (y ∷ paths) zero cause same c = ap (λ (o : Option (Option Cause)). Some (of o)) c
@@ -53,7 +52,7 @@ aside-at (x ∷ causes) (y ∷ paths) (suc k) cause same c = aside-at causes pat
 
 -- a route that has no cause has its path
 pub path-at : (causes : List (Option Cause)) (paths : List (List ℕ)) (k : ℕ) → length causes ≡ length paths → slice_get causes k ≡ Some None
-    → (path : List ℕ) × (slice_get (cleaned_by causes paths) k ≡ Some (Path path))
+    → (path : List ℕ) × (slice_get (merged_by causes paths) k ≡ Some (Path path))
 path-at [] paths k same c = absurd cc
 path-at (x ∷ causes) [] k same c = absurd (omega (arith, same))
 path-at (x ∷ causes) (y ∷ paths) zero same c = (y, ap (λ (o : Option (Option Cause)). Some (of o)) c)
@@ -64,9 +63,9 @@ path-at (x ∷ causes) (y ∷ paths) zero same c = (y, ap (λ (o : Option (Optio
 path-at (x ∷ causes) (y ∷ paths) (suc k) same c = path-at causes paths k (omega (arith, same)) c
 
 pub within-causes : (causes : List (Option Cause)) (paths : List (List ℕ)) (batch : Batched) (places : List (Option ℕ)) (k : ℕ) → length causes ≡ length paths
-    → record { routes = cleaned_by causes paths; places = places } ≡ batch → k < length batch.routes → k < length causes
+    → record { routes = merged_by causes paths; places = places } ≡ batch → k < length batch.routes → k < length causes
 within-causes causes paths batch places k same is lt =
-    let many = length-cleaned_by causes paths same in
+    let many = length-merged_by causes paths same in
     let seen = ap (λ (b : Batched). length b.routes) is in omega (arith, many, seen, lt)
 
 pub one-route : (routes : List Cleaned) (k : ℕ) (x y : Cleaned) → slice_get routes k ≡ Some x → slice_get routes k ≡ Some y → x ≡ y
@@ -77,31 +76,19 @@ one-route routes k x y a b = inside (sym a ∙ b)
 
 -- ---- one route more
 
-pub cleaned_by-push : (causes : List (Option Cause)) (paths : List (List ℕ)) (cause : Option Cause) (path : List ℕ) → length causes ≡ length paths
-    → cleaned_by (causes ++ cause ∷ []) (paths ++ path ∷ []) ≡ cleaned_by causes paths ++ cleaned_as cause path ∷ []
-cleaned_by-push [] [] cause path same = refl
-cleaned_by-push [] (y ∷ paths) cause path same = absurd (omega (arith, same))
-cleaned_by-push (x ∷ causes) [] cause path same = absurd (omega (arith, same))
-cleaned_by-push (x ∷ causes) (y ∷ paths) cause path same = ap (λ (cs : List Cleaned). cleaned_as x y ∷ cs) (cleaned_by-push causes paths cause path (omega (arith, same)))
+pub merged_by-push : (causes : List (Option Cause)) (paths : List (List ℕ)) (cause : Option Cause) (path : List ℕ) → length causes ≡ length paths
+    → merged_by (causes ++ cause ∷ []) (paths ++ path ∷ []) ≡ merged_by causes paths ++ cleaned_as cause path ∷ []
+merged_by-push [] [] cause path same = refl
+merged_by-push [] (y ∷ paths) cause path same = absurd (omega (arith, same))
+merged_by-push (x ∷ causes) [] cause path same = absurd (omega (arith, same))
+merged_by-push (x ∷ causes) (y ∷ paths) cause path same = ap (λ (cs : List Cleaned). cleaned_as x y ∷ cs) (merged_by-push causes paths cause path (omega (arith, same)))
 
-clean-one : (xs : List Cleaned) (x : Cleaned) (k : ℕ) (path : List ℕ) → ((j : ℕ) (p : List ℕ) → slice_get xs j ≡ Some (Path p) → is_cleaned p ≡ true)
-    → ((p : List ℕ) → x ≡ Path p → is_cleaned p ≡ true) → slice_get (xs ++ x ∷ []) k ≡ Some (Path path) → is_cleaned path ≡ true
-clean-one [] x zero path all one at = one path cc
-clean-one [] x (suc k) path all one at = absurd cc
-clean-one (y ∷ xs) x zero path all one at = all 0 path at
-clean-one (y ∷ xs) x (suc k) path all one at = clean-one xs x k path (λ j. all (suc j)) one at
-
-pub IsBatch-push : (sets : Sets) (route : Route) (causes : List (Option Cause)) (paths : List (List ℕ)) (cause : Option Cause) (path : List ℕ) → IsBatch causes paths
-    → length (paths ++ path ∷ []) ≤ most_places → cleaned_as cause path ≡ clean_of sets route.width route.attrs → IsBatch (causes ++ cause ∷ []) (paths ++ path ∷ [])
-IsBatch-push sets route causes paths cause path batch few is =
+pub IsBatch-push : (causes : List (Option Cause)) (paths : List (List ℕ)) (cause : Option Cause) (path : List ℕ) → IsBatch causes paths
+    → length (paths ++ path ∷ []) ≤ most_places → IsBatch (causes ++ cause ∷ []) (paths ++ path ∷ [])
+IsBatch-push causes paths cause path batch few =
     let same = batch.same in
     let many = length-append causes (cause ∷ []) in
-    let more = length-append paths (path ∷ []) in record {
-      same = omega (arith, same, many, more);
-      few = few;
-      clean = λ k p at. clean-one (cleaned_by causes paths) (cleaned_as cause path) k p batch.clean (λ q e. judged.paths_are_clean sets route.width route.attrs q (sym is ∙ e))
-          (ap (λ cs. slice_get cs k) (sym (cleaned_by-push causes paths cause path batch.same)) ∙ at);
-    }
+    let more = length-append paths (path ∷ []) in record { same = omega (arith, same, many, more); few = few }
 
 -- ---- paths that were found
 
@@ -138,10 +125,12 @@ stays-in taken new path is p k at =
     by false false false is = stays is
 
 AreFound-taken : (batch : Batched) (old new : Taken) (route : Cleaned) → StandAtPlaces old.table.rows batch → take_cleaned old route ≡ Ok new → StandAtPlaces new.table.rows batch
-AreFound-taken batch old new (Path path) found is = λ k id p at route. stays-in old new path is p id (found k id p at route)
+AreFound-taken batch old new (Path path) found is = λ k id p at route.
+    let there = found k id p at route in record { place = stays-in old new path is p id there.place; clean = there.clean }
 AreFound-taken batch old new (Aside cause) found is =
     let same : old.table ≡ new.table = ap table_of is in
-    λ k id p at route. ap (λ (t : Table). place_of t.rows p) (sym same) ∙ found k id p at route
+    λ k id p at route.
+    let there = found k id p at route in record { place = ap (λ (t : Table). place_of t.rows p) (sym same) ∙ there.place; clean = there.clean }
   where
     table_of : Result Taken LimitKind → Table
     table_of (Ok t) = t.table
@@ -154,25 +143,30 @@ stands-at (route ∷ routes) zero lt = (route, refl)
 stands-at (route ∷ routes) (suc k) lt = stands-at routes k (omega (arith, lt))
 
 pub AreFound-at : (batch : Batched) (k : ℕ) (old new : Taken) → k < length batch.routes → StandAtPlaces old.table.rows batch → TakesAt batch k old new → StandAtPlaces new.table.rows batch
-AreFound-at batch k old new lt found takes = let route = stands-at batch.routes k lt in AreFound-taken batch old new route.0 found (takes route.0 route.1)
+AreFound-at batch k old new lt found takes = let route = stands-at batch.routes k lt in AreFound-taken batch old new (judge_merged route.0) found (takes route.0 route.1)
 
-pub AreFound-each : (rows : List Counted) (causes : List (Option Cause)) (paths : List (List ℕ)) (places : List (Option ℕ)) → length causes ≡ length paths → StandWhereFound rows paths places
-    → StandAtPlaces rows (record { routes = cleaned_by causes paths; places = places })
-AreFound-each rows causes paths places same right = λ k id path at route. right k id path at (its_path causes paths k path route)
+pub AreFound-each : (rows : List Counted) (causes : List (Option Cause)) (paths : List (List ℕ)) (places : List (Option ℕ)) → StandWhereFound rows paths places
+    → AreCleanWhereFound paths places → StandAtPlaces rows (record { routes = merged_by causes paths; places = places })
+AreFound-each rows causes paths places right clean = λ k id path at route.
+    let here = its_path causes paths k path route in record { place = right k id path at here; clean = clean k id path at here }
   where
-    its_path : (causes : List (Option Cause)) (paths : List (List ℕ)) (k : ℕ) (path : List ℕ) → slice_get (cleaned_by causes paths) k ≡ Some (Path path) → slice_get paths k ≡ Some path
+    its_path : (causes : List (Option Cause)) (paths : List (List ℕ)) (k : ℕ) (path : List ℕ) → slice_get (merged_by causes paths) k ≡ Some (Path path) → slice_get paths k ≡ Some path
     its_path [] paths k path route = absurd cc
     its_path (x ∷ causes) [] k path route = absurd cc
     its_path (None ∷ causes) (y ∷ paths) zero path route = cc
     its_path (Some cause ∷ causes) (y ∷ paths) zero path route = absurd cc
     its_path (x ∷ causes) (y ∷ paths) (suc k) path route = its_path causes paths k path route
 
+pub on_both : {A E P Q R : Type 0} (r : Result A E) → OnOk r P → OnOk r Q → (P → Q → R) → OnOk r R
+on_both (Ok x) p q f = f p q
+on_both (Err e) p q f = tt
+
 -- ---- one route after the other
 
 record Head (sets : Sets) (routes : List Route) (k : ℕ) : Type 0 where
   pub route : Route
   pub parts : drop k routes ≡ route ∷ drop (suc k) routes
-  pub at : slice_get (map (λ route. clean_of sets route.width route.attrs) routes) k ≡ Some (clean_of sets route.width route.attrs)
+  pub at : slice_get (merged sets routes) k ≡ Some (merged_of sets route.width route.attrs)
 
 head-at : (sets : Sets) (routes : List Route) (k : ℕ) → k < length routes → Head sets routes k
 head-at sets [] k lt = absurd (omega (arith, lt))
@@ -181,7 +175,7 @@ head-at sets (route ∷ routes) (suc k) lt = let h = head-at sets routes k (omeg
 
 head-of : (sets : Sets) (routes : List Route) (batch : Batched) (k : ℕ) → AreOf sets routes batch → k < length batch.routes → Head sets routes k
 head-of sets routes batch k is lt =
-    let many = ap length is ∙ length-map routes (λ (route : Route). clean_of sets route.width route.attrs) in head-at sets routes k (omega (arith, many, lt))
+    let many = ap length is ∙ length-map routes (λ (route : Route). merged_of sets route.width route.attrs) in head-at sets routes k (omega (arith, many, lt))
 
 pub batch-step : (sets : Sets) (routes : List Route) (batch : Batched) (k : ℕ) (old mid new : Taken) → AreOf sets routes batch → k < length batch.routes → SoFar sets old mid routes (drop k routes)
     → TakesAt batch k mid new → SoFar sets old new routes (drop (k + 1) routes)
@@ -189,18 +183,20 @@ batch-step sets routes batch k old mid new is lt so_far takes =
     let h = head-of sets routes batch k is lt in
     let next : suc k ≡ k + 1 = omega arith in
     subst (λ j. SoFar sets old new routes (drop j routes)) next
-    (one_route_more sets old mid new routes (drop (suc k) routes) h.route (subst (SoFar sets old mid routes) h.parts so_far) (takes (clean_of sets h.route.width h.route.attrs) (ap (λ cs. slice_get cs
-    k) is ∙ h.at)))
+    (one_route_more sets old mid new routes (drop (suc k) routes) h.route (subst (SoFar sets old mid routes) h.parts so_far)
+    (ap (take_cleaned mid) (judged.judged_last sets h.route.width h.route.attrs)
+    ∙ takes (merged_of sets h.route.width h.route.attrs) (ap (λ cs. slice_get cs k) is ∙ h.at)))
 
 pub batch-limit : (sets : Sets) (routes : List Route) (batch : Batched) (k : ℕ) (old mid : Taken) (why : Untaken) → AreOf sets routes batch → k < length batch.routes
     → SoFar sets old mid routes (drop k routes) → IsLimitAt batch k mid why → IsLimit (take_routes sets old routes) why
 batch-limit sets routes batch k old mid why is lt so_far limit =
     let h = head-of sets routes batch k is lt in
-    limit_at sets old mid routes (drop (suc k) routes) h.route why (subst (SoFar sets old mid routes) h.parts so_far) (limit (clean_of sets h.route.width h.route.attrs) (ap (λ cs. slice_get cs k) is
-    ∙ h.at))
+    limit_at sets old mid routes (drop (suc k) routes) h.route why (subst (SoFar sets old mid routes) h.parts so_far)
+    (subst (λ c. IsLimit (take_cleaned mid c) why) (sym (judged.judged_last sets h.route.width h.route.attrs))
+    (limit (merged_of sets h.route.width h.route.attrs) (ap (λ cs. slice_get cs k) is ∙ h.at)))
 
 pub batch-all : (sets : Sets) (routes : List Route) (batch : Batched) (k : ℕ) (old new : Taken) → AreOf sets routes batch → length batch.routes ≤ k → SoFar sets old new routes (drop k routes)
     → Takes sets old routes new
 batch-all sets routes batch k old new is le so_far =
-    let many = ap length is ∙ length-map routes (λ (route : Route). clean_of sets route.width route.attrs) in
+    let many = ap length is ∙ length-map routes (λ (route : Route). merged_of sets route.width route.attrs) in
     all_taken sets old new routes (drop k routes) so_far (drop_of_length-le routes {i = k} (omega (arith, many, le)))

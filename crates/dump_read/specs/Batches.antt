@@ -1,11 +1,11 @@
--- The routes of one record, each cleaned before the first of them is taken in.
+-- The routes of one record, each merged before the first of them is taken in, and judged only where its path wasn't found.
 use Rattle.std.specs.Prelude.{◌≡◌, ◌≤◌, ℕ, true, List, [], ◌∷◌, length, map, slice_get, Option, Some, Ok}
 use Rattle.tor_arena.specs.Limits.{most_places}
 use Rattle.path_clean.specs.declared.cleaned.Sets.{Sets}
 use Rattle.path_clean.specs.declared.cleaned.Cause.{Cause}
 use Rattle.path_clean.specs.declared.cleaned.Cleaned.{Cleaned}
 use Rattle.path_clean.specs.declared.cleaned.Cleaned.TheVariants.{Path}
-use Rattle.path_clean.specs.Clean.{clean_of, cleaned_as}
+use Rattle.path_clean.specs.Clean.{clean_of, cleaned_as, merged_of, judge_merged}
 use Rattle.path_clean.specs.Paths.{is_cleaned}
 use Rattle.path_clean.specs.Rows.{Counted}
 use Rattle.path_clean.specs.Table.{place_of}
@@ -14,44 +14,50 @@ use Rattle.dump_read.specs.Refusals.{IsLimit}
 use Rattle.dump_read.specs.Routes.{Route}
 use Rattle.dump_read.specs.Taking.{Taken, take_cleaned, take_routes, Takes, TakesSome}
 
--- what the routes were cleaned to, and at which places in a table the paths of the first of them were found
+-- what the routes were merged to, and at which places in a table the paths of the first of them were found
 pub record Batched : Type 0 where
   pub routes : List Cleaned
   pub places : List (Option ℕ)
 
 -- each route by its cause and its path
-abbrev pub cleaned_by : List (Option Cause) → List (List ℕ) → List Cleaned
-cleaned_by [] paths = []
-cleaned_by (cause ∷ causes) [] = []
-cleaned_by (cause ∷ causes) (path ∷ paths) = cleaned_as cause path ∷ cleaned_by causes paths
+abbrev pub merged_by : List (Option Cause) → List (List ℕ) → List Cleaned
+merged_by [] paths = []
+merged_by (cause ∷ causes) [] = []
+merged_by (cause ∷ causes) (path ∷ paths) = cleaned_as cause path ∷ merged_by causes paths
 
--- a cause and a path for each route; where there is no cause the path is clean
+-- a cause and a path for each route
 pub record IsBatch (causes : List (Option Cause)) (paths : List (List ℕ)) : Type 0 where
   pub same : length causes ≡ length paths
   pub few : length paths ≤ most_places
-  pub clean : (k : ℕ) (path : List ℕ) → slice_get (cleaned_by causes paths) k ≡ Some (Path path) → is_cleaned path ≡ true
 
--- where the path of a route was found it stands
+-- where the path of a route was found it stands, so it is clean
+pub record StandsAt (rows : List Counted) (id : ℕ) (path : List ℕ) : Type 0 where
+  pub place : place_of rows path ≡ Some id
+  pub clean : is_cleaned path ≡ true
+
 abbrev pub StandAtPlaces : List Counted → Batched → Type 0
 StandAtPlaces rows batch =
-    (k id : ℕ) (path : List ℕ) → slice_get batch.places k ≡ Some (Some id) → slice_get batch.routes k ≡ Some (Path path) →
-    place_of rows path ≡ Some id
+    (k id : ℕ) (path : List ℕ) → slice_get batch.places k ≡ Some (Some id) → slice_get batch.routes k ≡ Some (Path path) → StandsAt rows id path
 
 -- the route of this place was taken in
 abbrev pub TakesAt : Batched → ℕ → (old new : Taken) → Type 0
-TakesAt batch k old new = (route : Cleaned) → slice_get batch.routes k ≡ Some route → take_cleaned old route ≡ Ok new
+TakesAt batch k old new = (route : Cleaned) → slice_get batch.routes k ≡ Some route → take_cleaned old (judge_merged route) ≡ Ok new
 
 -- the limit that was answered is the one that the route of this place meets
 abbrev pub IsLimitAt : Batched → ℕ → Taken → Untaken → Type 0
-IsLimitAt batch k old why = (route : Cleaned) → slice_get batch.routes k ≡ Some route → IsLimit (take_cleaned old route) why
+IsLimitAt batch k old why = (route : Cleaned) → slice_get batch.routes k ≡ Some route → IsLimit (take_cleaned old (judge_merged route)) why
 
 -- what each of the routes is cleaned to
 abbrev pub cleaned : Sets → List Route → List Cleaned
 cleaned sets routes = map (λ route. clean_of sets route.width route.attrs) routes
 
--- these routes were cleaned to what stands in the batch
+-- what each of the routes is merged to
+abbrev pub merged : Sets → List Route → List Cleaned
+merged sets routes = map (λ route. merged_of sets route.width route.attrs) routes
+
+-- these routes were merged to what stands in the batch
 abbrev pub AreOf : Sets → List Route → Batched → Type 0
-AreOf sets routes batch = batch.routes ≡ cleaned sets routes
+AreOf sets routes batch = batch.routes ≡ merged sets routes
 
 -- all routes of the batch were taken in
 abbrev pub TakesBatch : Batched → (old new : Taken) → Type 0

@@ -1,37 +1,37 @@
 //! The routes of one record.
 ghost use Rattle.std.specs.Prelude.{◌≡◌, ◌++◌, ◌∷◌, ◌<◌, ◌≤◌, [], length, slice_get, Some, OnOk, OnErr, IfErr};
 ghost use Rattle.tor_arena.specs.Limits.{most_places};
-ghost use Rattle.path_clean.specs.Clean.{clean_of};
-ghost use Rattle.path_clean.specs.Table.{place_of};
+ghost use Rattle.path_clean.specs.Clean.{merged_of};
 ghost use Rattle.dump_read.specs.Batches.{StandAtPlaces, TakesAt, IsLimitAt, TakesBatch, IsBatchLimit, TakesSomeOfBatch};
 
-use crate::taking::{Taken, Untaken, take_again, take_path};
+use crate::taking::{Taken, Untaken, take_again, take_merged};
 use path_attrs::{Attrs, Width};
-use path_clean::{Cause, Lookup, PathTable, Sets, clean_into};
+use path_clean::{Cause, Lookup, PathTable, Sets, merge_into};
 use std::alloc::Global;
 use std::marker::Model;
 use tor_arena::{Index, List, NoMemory, PathId, Rows};
 
-/// The routes of one record, each cleaned before the first of them is taken in. Their paths are looked up one right after the other,
-/// so that the waits for memory of these look-ups overlap.
+/// The routes of one record, each merged before the first of them is taken in. Their paths are looked up one right after the other,
+/// so that the waits for memory of these look-ups overlap, and only those are judged that aren't found: what stands in the table is
+/// clean.
 #[derive(Drop)]
 pub(crate) struct Batch {
-    // of each route the cause for which it is set aside
+    // of each route the cause for which it is set aside, where that is known before its path is judged
     causes: Vec<Option<Cause>>,
-    // of each route its path
+    // of each route its path, unjudged
     paths: Rows<PathId, u32>,
     // where the paths of the routes were found in the table
     lookup: Lookup,
-    // the path of the route that is being cleaned
+    // the path of the route that is being merged
     path: List<u32>,
 }
 
 impl Model for Batch {
-    ghost use Rattle.dump_read.specs.Batches.{Batched, cleaned_by, IsBatch};
+    ghost use Rattle.dump_read.specs.Batches.{Batched, merged_by, IsBatch};
 
     ghost Value = { Batched };
 
-    ghost view = { λ batch. record { routes = cleaned_by batch.causes.items batch.paths; places = batch.lookup } };
+    ghost view = { λ batch. record { routes = merged_by batch.causes.items batch.paths; places = batch.lookup } };
 
     ghost invariant = { λ batch. IsBatch batch.causes.items batch.paths };
 }
@@ -66,18 +66,12 @@ impl Batch {
         self.causes.len()
     }
 
-    /// Adds a route, cleaned.
-    pub fn clean(
-        &mut self,
-        alloc: Global,
-        sets: Sets,
-        width: Width,
-        attrs: &Attrs<'_>,
-    ) -> Result<(), NoMemory>
-        ensures routes { OnOk result (self.new.routes ≡ self.old.routes ++ clean_of sets width attrs.now ∷ []) }
+    /// Adds a route, merged.
+    pub fn merge(&mut self, sets: Sets, width: Width, attrs: &Attrs<'_>) -> Result<(), NoMemory>
+        ensures routes { OnOk result (self.new.routes ≡ self.old.routes ++ merged_of sets width attrs.now ∷ []) }
         ensures places { self.new.places ≡ self.old.places }
     {
-        let cause = clean_into(alloc, sets, attrs, width, &mut self.path)?;
+        let cause = merge_into(sets, attrs, width, &mut self.path)?;
         self.causes.reserve(1)?;
         let Ok(_) = self.paths.push_row(self.path.as_slice()) else {
             return Err(NoMemory);
@@ -86,20 +80,17 @@ impl Batch {
         Ok(())
     }
 
-    /// Looks the paths of all routes up in the table. There is nothing to gain for a single one.
+    /// Looks the paths of all routes up in the table.
     pub fn look_up(&mut self, table: &PathTable) -> Result<(), NoMemory>
         requires none { self.old.places ≡ [] }
         ensures routes { self.new.routes ≡ self.old.routes }
         ensures found { OnOk result (StandAtPlaces table.now.rows self.new) }
     {
-        if self.len() < 2 {
-            return Ok(());
-        }
         table.find_batch(&self.paths, &mut self.lookup)
     }
 
-    /// Takes in one of the routes. A route that isn't taken changes nothing.
-    pub fn take(&self, place: usize, taken: &mut Taken) -> Result<(), Untaken>
+    /// Takes in one of the routes, judged, where its path wasn't found. A route that isn't taken changes nothing.
+    pub fn take(&self, alloc: Global, place: usize, taken: &mut Taken) -> Result<(), Untaken>
         requires there { place < length self.now.routes }
         requires found { StandAtPlaces taken.old.table.rows self.now }
         ensures taken { OnOk result (TakesAt self.now place taken.old taken.new) }
@@ -110,7 +101,7 @@ impl Batch {
             Some(cause) => taken.counts.add(cause),
             None => match self.lookup.place(place) {
                 Some(id) => take_again(taken, id),
-                None => take_path(taken, row_at(&self.paths, place))?,
+                None => take_merged(alloc, taken, row_at(&self.paths, place))?,
             },
         }
         Ok(())
@@ -130,25 +121,25 @@ fn row_at(paths: &Rows<PathId, u32>, place: usize) -> &[u32]
 }
 
 /// Takes in the routes of a batch, whose paths were looked up, in order, up to the first that meets a limit.
-fn take_each(batch: &Batch, taken: &mut Taken) -> Result<(), Untaken>
+fn take_each(alloc: Global, batch: &Batch, taken: &mut Taken) -> Result<(), Untaken>
     requires found { StandAtPlaces taken.old.table.rows batch.now }
     ensures taken { OnOk result (TakesBatch batch.now taken.old taken.new) }
     ensures limit { IfErr result (IsBatchLimit batch.now taken.old) }
     ensures some { OnErr result (TakesSomeOfBatch batch.now taken.old taken.new) }
 {
     for place in 0..batch.len() {
-        batch.take(place, taken)?;
+        batch.take(alloc, place, taken)?;
     }
     Ok(())
 }
 
 /// Takes in the routes of a batch in order, up to the first that meets a limit.
-pub(crate) fn take_batch(batch: &mut Batch, taken: &mut Taken) -> Result<(), Untaken>
+pub(crate) fn take_batch(alloc: Global, batch: &mut Batch, taken: &mut Taken) -> Result<(), Untaken>
     requires none { batch.old.places ≡ [] }
     ensures taken { OnOk result (TakesBatch batch.old taken.old taken.new) }
     ensures limit { IfErr result (IsBatchLimit batch.old taken.old) }
     ensures some { OnErr result (TakesSomeOfBatch batch.old taken.old taken.new) }
 {
     batch.look_up(&taken.table)?;
-    take_each(batch, taken)
+    take_each(alloc, batch, taken)
 }

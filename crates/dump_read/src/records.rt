@@ -58,36 +58,26 @@ impl From<Untaken> for Unread {
     }
 }
 
-// Cleans the routes of entries, in order.
-fn clean_entries(
-    alloc: Global,
-    sets: Sets,
-    entries: EntryCursor<'_>,
-    batch: &mut Batch,
-) -> Result<(), NoMemory>
+// Merges the routes of entries, in order.
+fn merge_entries(sets: Sets, entries: EntryCursor<'_>, batch: &mut Batch) -> Result<(), NoMemory>
     ensures routes { OnOk result (AreOf sets (of_entries entries.entry) batch.new) }
     ensures places { OnOk result (batch.new.places ≡ []) }
 {
     batch.clear();
     let mut left = entries;
     'entries: while let Some(entry) = left.next() {
-        batch.clean(alloc, sets, Width::Four, &entry.attrs)?;
+        batch.merge(sets, Width::Four, &entry.attrs)?;
     }
     Ok(())
 }
 
-// Cleans the one route of a TABLE_DUMP record.
-fn clean_alone(
-    alloc: Global,
-    sets: Sets,
-    attrs: &Attrs<'_>,
-    batch: &mut Batch,
-) -> Result<(), NoMemory>
+// Merges the one route of a TABLE_DUMP record.
+fn merge_alone(sets: Sets, attrs: &Attrs<'_>, batch: &mut Batch) -> Result<(), NoMemory>
     ensures routes { OnOk result (AreOf sets (of_table_dump attrs.now) batch.new) }
     ensures places { OnOk result (batch.new.places ≡ []) }
 {
     batch.clear();
-    batch.clean(alloc, sets, Width::Two, attrs)
+    batch.merge(sets, Width::Two, attrs)
 }
 
 // Takes in the route of a TABLE_DUMP record.
@@ -105,8 +95,8 @@ fn take_table_dump(
     ensures many { OnOk result (many (routes_in_table_dump family body.now) ≡ 1) }
 {
     let attrs = read_v1(family, body)?;
-    clean_alone(alloc, sets, &attrs, batch)?;
-    take_batch(batch, taken)?;
+    merge_alone(sets, &attrs, batch)?;
+    take_batch(alloc, batch, taken)?;
     Ok(())
 }
 
@@ -126,13 +116,13 @@ fn take_rib(
     ensures many { IfOk result (λ n. many (routes_in_rib form (peers_in peers) body.now) ≡ n) }
 {
     let entries = EntryCursor::over(form, peers.as_ref(), body)?;
-    clean_entries(alloc, sets, entries, batch)?;
+    merge_entries(sets, entries, batch)?;
     let routes = batch.len();
-    take_batch(batch, taken)?;
+    take_batch(alloc, batch, taken)?;
     Ok(routes)
 }
 
-/// Takes in the routes of a record, which are cleaned into the batch, counts them or its peer entries in the file, and answers the last
+/// Takes in the routes of a record, which are merged into the batch, counts them or its peer entries in the file, and answers the last
 /// peer table behind it.
 pub(crate) fn take_record(
     alloc: Global,

@@ -1,13 +1,15 @@
 //! What is taken in of dumps.
 ghost use Rattle.std.specs.Prelude.{◌≡◌, ◌<◌, ℕ, List, Some, Ok, OnOk, OnErr, IfErr, IsTrue, length};
+ghost use Rattle.path_clean.specs.Clean.{judged};
 ghost use Rattle.path_clean.specs.Paths.{is_cleaned};
 ghost use Rattle.path_clean.specs.Table.{place_of};
-ghost use Rattle.dump_read.specs.Taking.{take_path as path_taken};
+ghost use Rattle.dump_read.specs.Taking.{take_cleaned, take_path as path_taken};
 ghost use Rattle.dump_read.specs.Refusals.{IsLimit};
 
 use crate::error::LimitKind;
 use crate::file_counts::FileCounts;
-use path_clean::{AddRefused, Asides, PathTable};
+use path_clean::{AddRefused, Asides, PathTable, judge};
+use std::alloc::Global;
 use tor_arena::{List, NoMemory, PathId};
 
 /// What is taken in of dumps: the distinct paths with their times, how many routes are set aside for each cause, and what each file that
@@ -56,7 +58,7 @@ impl From<AddRefused> for Untaken {
 }
 
 /// Counts a clean path, and adds it if it is new. One that isn't taken changes nothing.
-pub(crate) fn take_path(taken: &mut Taken, path: &[u32]) -> Result<(), Untaken>
+fn take_path(taken: &mut Taken, path: &[u32]) -> Result<(), Untaken>
     requires { IsTrue (is_cleaned path.now) }
     ensures taken { OnOk result (path_taken taken.old path.now ≡ Ok taken.new) }
     ensures limit { IfErr result (IsLimit (path_taken taken.old path.now)) }
@@ -64,6 +66,21 @@ pub(crate) fn take_path(taken: &mut Taken, path: &[u32]) -> Result<(), Untaken>
 {
     taken.table.add(path)?;
     Ok(())
+}
+
+/// Judges a merged path, and counts it, or the cause for which its route is set aside. One that isn't taken changes nothing.
+pub(crate) fn take_merged(alloc: Global, taken: &mut Taken, path: &[u32]) -> Result<(), Untaken>
+    ensures taken { OnOk result (take_cleaned taken.old (judged path.now) ≡ Ok taken.new) }
+    ensures limit { IfErr result (IsLimit (take_cleaned taken.old (judged path.now))) }
+    ensures unchanged { OnErr result (taken.new ≡ taken.old) }
+{
+    match judge(alloc, path)? {
+        None => take_path(taken, path),
+        Some(cause) => {
+            taken.counts.add(cause);
+            Ok(())
+        }
+    }
 }
 
 /// Counts the path that stands at this place in the table.

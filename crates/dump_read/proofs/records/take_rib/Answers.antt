@@ -10,7 +10,7 @@ returns-in_err-entries-clause-some c =
     let p = err_from_is_err_and c.from_residual.result c.from_residual.ensures.1 in
     rw p.1 (none_of c.args.sets c.args.taken.now c.args.taken.now (routes_in_rib c.args.form (peers_in c.args.peers) c.args.body.now) refl)
 
-pub returns-in_err-clean_entries-clause-some : goal.returns-in_err-clean_entries-clause-some
-returns-in_err-clean_entries-clause-some c =
-    let p = err_from_is_err_and c.from_residual-in_err-clean_entries.result c.from_residual-in_err-clean_entries.ensures.1 in
+pub returns-in_err-merge_entries-clause-some : goal.returns-in_err-merge_entries-clause-some
+returns-in_err-merge_entries-clause-some c =
+    let p = err_from_is_err_and c.from_residual-in_err-merge_entries.result c.from_residual-in_err-merge_entries.ensures.1 in
     rw p.1 (none_of c.args.sets c.args.taken.now c.args.taken.now (routes_in_rib c.args.form (peers_in c.args.peers) c.args.body.now) refl)

@@ -2,12 +2,14 @@ use Rattle.std.proofs.Common.{◌≡◌, ◌∙◌, ◌<◌, Some, None, Ok, len
 use Rattle.std.proofs.lemmas.Option.{slice_get_read}
 use Rattle.std.proofs.lemmas.Result.{err_from_is_err_and}
 use Rattle.dump_read.specs.Refusals.{IsLimit}
-use Rattle.path_clean.specs.Table.{place_of}
+use Rattle.path_clean.specs.Clean.{judge_merged}
 use Rattle.path_clean.specs.declared.cleaned.Cleaned.TheVariants.{Path, Aside}
 use Rattle.path_clean.proofs.TableLemmas.{found-within}
 use Rattle.path_clean.proofs.LookupLemmas.{at-found}
+use Rattle.path_clean.proofs.Judged as judged
+use Rattle.dump_read.specs.Batches.{StandsAt}
 use Rattle.dump_read.specs.Taking.{take_cleaned}
-use Rattle.dump_read.proofs.BatchLemmas.{aside-at, cleaned-at, one-route, path-at, within-causes}
+use Rattle.dump_read.proofs.BatchLemmas.{aside-at, merged-at, one-route, path-at, within-causes}
 use Rattle.dump_read.proofs.batch.Batch.take.Goals as goal
 
 pub index-requires : goal.index-requires
@@ -27,7 +29,7 @@ returns-in-Some-clause-taken c =
     let some = slice_get_read causes (length causes) c.args.place c.index.result.now refl within c.index.ensures ∙ ap (λ o. Some o) c.in-Some.is in
     let stands = ap (λ b. slice_get b.routes c.args.place) (sym c.self.view_is) ∙ aside-at causes paths c.args.place c.in-Some.cause same some in
     λ route is.
-    subst (λ r. take_cleaned c.args.taken.now r ≡ Ok (record { table = c.args.taken.now.table; counts = c.add.new.self; files = c.args.taken.now.files }))
+    subst (λ r. take_cleaned c.args.taken.now (judge_merged r) ≡ Ok (record { table = c.args.taken.now.table; counts = c.add.new.self; files = c.args.taken.now.files }))
     (one-route c.args.self.now.routes c.args.place (Aside c.in-Some.cause) route stands is)
     (ap (λ counts. Ok (record { table = c.args.taken.now.table; counts = counts; files = c.args.taken.now.files })) (sym c.add.ensures))
 
@@ -41,8 +43,8 @@ take_again-requires c =
     let path = path-at causes paths c.args.place same none in
     let stands = ap (λ b. slice_get b.routes c.args.place) (sym c.self.view_is) ∙ path.1 in
     let place = ap (λ b. slice_get b.places c.args.place) (sym c.self.view_is) ∙ at-found c.self.inside.lookup c.args.place c.in-Some-place.id c.in-Some-place.ensures in
-    let found : place_of c.args.taken.now.table.rows path.0 ≡ Some c.in-Some-place.id = c.requires.found c.args.place c.in-Some-place.id path.0 place stands in
-    record { there = found-within c.args.taken.now.table.rows path.0 c.in-Some-place.id found }
+    let found : StandsAt c.args.taken.now.table.rows c.in-Some-place.id path.0 = c.requires.found c.args.place c.in-Some-place.id path.0 place stands in
+    record { there = found-within c.args.taken.now.table.rows path.0 c.in-Some-place.id found.place }
 
 pub row_at-requires-clause-there : goal.row_at-requires-clause-there
 row_at-requires-clause-there c =
@@ -52,26 +54,17 @@ row_at-requires-clause-there c =
     let within : c.args.place < length causes = within-causes causes paths c.args.self.now c.self.inside.lookup c.args.place same c.self.view_is c.requires.there in
     omega (arith, within, same)
 
-pub take_path-requires : goal.take_path-requires
-take_path-requires c =
+pub returns-in_err-take_merged-in-None-place-clause-limit : goal.returns-in_err-take_merged-in-None-place-clause-limit
+returns-in_err-take_merged-in-None-place-clause-limit c =
     let causes = c.self.inside.causes.items in
     let paths = c.self.inside.paths in
     let same = c.self.invariant.same in
     let within : c.args.place < length causes = within-causes causes paths c.args.self.now c.self.inside.lookup c.args.place same c.self.view_is c.requires.there in
     let none = slice_get_read causes (length causes) c.args.place c.index.result.now refl within c.index.ensures ∙ ap (λ o. Some o) c.in-None.is in
-    c.self.invariant.clean c.args.place c.row_at.result.now (cleaned-at causes paths c.args.place None c.row_at.result.now none c.row_at.ensures)
-
-pub returns-in_err-take_path-in-None-place-clause-limit : goal.returns-in_err-take_path-in-None-place-clause-limit
-returns-in_err-take_path-in-None-place-clause-limit c =
-    let causes = c.self.inside.causes.items in
-    let paths = c.self.inside.paths in
-    let same = c.self.invariant.same in
-    let within : c.args.place < length causes = within-causes causes paths c.args.self.now c.self.inside.lookup c.args.place same c.self.view_is c.requires.there in
-    let none = slice_get_read causes (length causes) c.args.place c.index.result.now refl within c.index.ensures ∙ ap (λ o. Some o) c.in-None.is in
-    let stands = ap (λ b. slice_get b.routes c.args.place) (sym c.self.view_is) ∙ cleaned-at causes paths c.args.place None c.row_at.result.now none c.row_at.ensures in
+    let stands = ap (λ b. slice_get b.routes c.args.place) (sym c.self.view_is) ∙ merged-at causes paths c.args.place None c.row_at.result.now none c.row_at.ensures in
     let p = err_from_is_err_and c.from_residual.result c.from_residual.ensures.1 in
-    rw (p.1, p.2) (λ route is. subst (λ r. IsLimit (take_cleaned c.args.taken.now r) c.in_err-take_path-in-None-place.field-0.0)
-    (one-route c.args.self.now.routes c.args.place (Path c.row_at.result.now) route stands is) c.in_err-take_path-in-None-place.ensures.limit)
+    rw (p.1, p.2) (λ route is. subst (λ r. IsLimit (take_cleaned c.args.taken.now (judge_merged r)) c.in_err-take_merged-in-None-place.field-0.0)
+    (one-route c.args.self.now.routes c.args.place (Path c.row_at.result.now) route stands is) c.in_err-take_merged-in-None-place.ensures.limit)
 
 pub returns-in-Some-place-clause-taken : goal.returns-in-Some-place-clause-taken
 returns-in-Some-place-clause-taken c =
@@ -83,17 +76,18 @@ returns-in-Some-place-clause-taken c =
     let path = path-at causes paths c.args.place same none in
     let stands = ap (λ b. slice_get b.routes c.args.place) (sym c.self.view_is) ∙ path.1 in
     let place = ap (λ b. slice_get b.places c.args.place) (sym c.self.view_is) ∙ at-found c.self.inside.lookup c.args.place c.in-Some-place.id c.in-Some-place.ensures in
-    let found : place_of c.args.taken.now.table.rows path.0 ≡ Some c.in-Some-place.id = c.requires.found c.args.place c.in-Some-place.id path.0 place stands in
-    λ route is. subst (λ r. take_cleaned c.args.taken.now r ≡ Ok c.take_again.new.taken)
-    (one-route c.args.self.now.routes c.args.place (Path path.0) route stands is) (c.take_again.ensures path.0 found)
+    let found : StandsAt c.args.taken.now.table.rows c.in-Some-place.id path.0 = c.requires.found c.args.place c.in-Some-place.id path.0 place stands in
+    λ route is. subst (λ r. take_cleaned c.args.taken.now (judge_merged r) ≡ Ok c.take_again.new.taken)
+    (one-route c.args.self.now.routes c.args.place (Path path.0) route stands is)
+    (ap (take_cleaned c.args.taken.now) (judged.judged-stays path.0 found.clean) ∙ c.take_again.ensures path.0 found.place)
 
-pub returns-in_ok-take_path-in-None-place-clause-taken : goal.returns-in_ok-take_path-in-None-place-clause-taken
-returns-in_ok-take_path-in-None-place-clause-taken c =
+pub returns-in_ok-take_merged-in-None-place-clause-taken : goal.returns-in_ok-take_merged-in-None-place-clause-taken
+returns-in_ok-take_merged-in-None-place-clause-taken c =
     let causes = c.self.inside.causes.items in
     let paths = c.self.inside.paths in
     let same = c.self.invariant.same in
     let within : c.args.place < length causes = within-causes causes paths c.args.self.now c.self.inside.lookup c.args.place same c.self.view_is c.requires.there in
     let none = slice_get_read causes (length causes) c.args.place c.index.result.now refl within c.index.ensures ∙ ap (λ o. Some o) c.in-None.is in
-    let stands = ap (λ b. slice_get b.routes c.args.place) (sym c.self.view_is) ∙ cleaned-at causes paths c.args.place None c.row_at.result.now none c.row_at.ensures in
-    λ route is. subst (λ r. take_cleaned c.args.taken.now r ≡ Ok c.take_path.new.taken) (one-route c.args.self.now.routes c.args.place (Path c.row_at.result.now) route stands is)
-    c.in_ok-take_path-in-None-place.ensures.taken
+    let stands = ap (λ b. slice_get b.routes c.args.place) (sym c.self.view_is) ∙ merged-at causes paths c.args.place None c.row_at.result.now none c.row_at.ensures in
+    λ route is. subst (λ r. take_cleaned c.args.taken.now (judge_merged r) ≡ Ok c.take_merged.new.taken) (one-route c.args.self.now.routes c.args.place (Path c.row_at.result.now) route stands is)
+    c.in_ok-take_merged-in-None-place.ensures.taken
