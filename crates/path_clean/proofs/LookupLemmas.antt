@@ -1,11 +1,12 @@
 -- Paths that were looked up.
-use Rattle.std.proofs.Common.{◌≡◌, ◌∙◌, ℕ, zero, suc, ◌⊎◌, inl, inr, true, List, [], ◌∷◌, ◌++◌, length, Option, Some, IfSome, refl, sym, ap, subst}
+use Rattle.std.proofs.Common.{◌≡◌, ◌≢◌, ◌∙◌, ℕ, zero, suc, ◌+◌, ◌<◌, inl, inr, true, List, [], ◌∷◌, length, set, Option, Some, IfSome, sym, ap, subst, arith}
 use Rattle.std.specs.Prelude.{slice_get, OnOk}
 use Rattle.std.specs.List.{list_all}
 use Rattle.std.specs.declared.result.Result.{Result}
 use Rattle.std.specs.declared.result.Result.TheVariants.{Ok, Err}
 use Rattle.std.proofs.lemmas.Bool.{and_parts}
 use Rattle.std.proofs.lemmas.Option.{slice_get_within}
+use Rattle.tor_arena.proofs.Gets.{slice_get-set_cases}
 use Rattle.path_clean.specs.Chains.{row_at}
 use Rattle.path_clean.specs.Inside.{counted_by}
 use Rattle.path_clean.specs.Paths.{is_cleaned}
@@ -14,27 +15,25 @@ use Rattle.path_clean.specs.Lookups.{found_at, AreRowsWhereFound, StandWhereFoun
 use Rattle.path_clean.proofs.TableLemmas.{again-at}
 use Rattle.path_clean.proofs.IndexLemmas.{get-row, same}
 
--- what is at a place of a list with one item more
-at_push : {X : Type 0} (xs : List X) (y : X) (k : ℕ) (x : X) → slice_get (xs ++ y ∷ []) k ≡ Some x → (slice_get xs k ≡ Some x) ⊎ ((k ≡ length xs) × (x ≡ y))
-at_push [] y zero x e = inr (refl, cc)
-at_push [] y (suc k) x e = inl e
-at_push (a ∷ xs) y zero x e = inl e
-at_push (a ∷ xs) y (suc k) x e = elim (at_push xs y k x e) [ inl h ↦ inl h | inr h ↦ inr (ap suc h.0, h.1) ]
-
 -- a path was found where the list says so
 pub at-found : (places : List (Option ℕ)) (k id : ℕ) → Some id ≡ found_at places k → slice_get places k ≡ Some (Some id)
 at-found [] k id is = absurd cc
 at-found (found ∷ places) zero id is = ap (λ (o : Option ℕ). Some o) (sym is)
 at-found (found ∷ places) (suc k) id is = at-found places k id is
 
--- one place more
-pub rows-push : (rows paths : List (List ℕ)) (places : List (Option ℕ)) (place : ℕ) (path : List ℕ) (found : Option ℕ) → length places ≡ place
-    → slice_get paths place ≡ Some path → IfSome found (λ id. slice_get rows id ≡ Some path) → AreRowsWhereFound rows paths places → AreRowsWhereFound rows paths (places ++ found ∷ [])
-rows-push rows paths places place path found many here stands rows_so_far k id other at route = elim (at_push places found k (Some id) at) [
-  | inl old ↦ rows_so_far k id other old route
-  | inr new ↦
-      let is : path ≡ other = same path other (sym here ∙ ap (slice_get paths) (sym (new.0 ∙ many)) ∙ route) in
+-- the first so many guesses are compared: those that are left are right
+abbrev pub AreRowsBefore : (count : ℕ) (rows paths : List (List ℕ)) (places : List (Option ℕ)) → Type 0
+AreRowsBefore count rows paths places =
+    (k id : ℕ) (path : List ℕ) → k < count → slice_get places k ≡ Some (Some id) → slice_get paths k ≡ Some path → slice_get rows id ≡ Some path
+
+-- one guess more is compared
+pub rows-next : (rows paths : List (List ℕ)) (places : List (Option ℕ)) (place : ℕ) (path : List ℕ) (found : Option ℕ) → slice_get paths place ≡ Some path
+    → IfSome found (λ id. slice_get rows id ≡ Some path) → AreRowsBefore place rows paths places → AreRowsBefore (place + 1) rows paths (set places place found)
+rows-next rows paths places place path found here stands before k id other lt at route = elim (slice_get-set_cases places place found k (Some id) at) [
+  | inl new ↦
+      let is : path ≡ other = same path other (sym here ∙ ap (slice_get paths) (sym new.0) ∙ route) in
       subst (λ p. slice_get rows id ≡ Some p) is (subst (λ o. IfSome o (λ i. slice_get rows i ≡ Some path)) (sym new.1) stands)
+  | inr old ↦ let apart : k ≢ place = old.0 in before k id other (omega (arith, lt, apart)) old.1 route
 ]
 
 -- the row of a place in a table stands there

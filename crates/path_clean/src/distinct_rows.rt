@@ -1,12 +1,12 @@
 //! Distinct paths with slots by which they are found.
-ghost use Rattle.std.specs.Prelude.{◌≡◌, ◌≢◌, ◌<◌, ◌≤◌, ◌/◌, ◌++◌, ◌∷◌, [], ℕ, Some, length, slice_get, OnOk, OnErr, IfOk, IfSome, IfNone};
+ghost use Rattle.std.specs.Prelude.{◌≡◌, ◌≢◌, ◌<◌, ◌≤◌, ◌++◌, ◌∷◌, [], ℕ, Some, length, slice_get, OnOk, OnErr, IfOk, IfSome, IfNone};
 ghost use Rattle.tor_arena.specs.Growth.{IsDoubled};
-ghost use Rattle.tor_arena.specs.Limits.{most_places};
+ghost use Rattle.tor_arena.specs.Limits.{max_paths};
 ghost use Rattle.path_clean.specs.Chains.{row_at};
-ghost use Rattle.path_clean.specs.Slots.{tag_of, slot_of_tag, IsVacant, IsVacancy, IsRowSearchEnd, OnFree, Tells};
+ghost use Rattle.path_clean.specs.Slots.{short_hash, slot_of_hash, three_quarters, IsVacant, IsVacancy, IsRowSearchEnd, OnFree, Tells};
 
-use crate::hashing::{hash_of, seed_of};
-use crate::slots::{Guess, SearchEnd, Slot, free_from, id_of, seek, start_of, widened};
+use crate::hashing::{seed_of, short_hash_of};
+use crate::slots::{SearchEnd, Slot, filled, free_from, guess, id_of, seek, start_of};
 use std::alloc::Global;
 use std::marker::Model;
 use tor_arena::{Index, Keys, NoMemory, PathId, Rows, doubled};
@@ -16,7 +16,7 @@ use tor_arena::{Index, Keys, NoMemory, PathId, Rows, doubled};
 pub(crate) struct IndexedPaths {
     alloc: Global,
     rows: Rows<PathId, u32>,
-    // at most half of them are in use
+    // at most three quarters of them are in use
     slots: Vec<Slot>,
     // with which each hash begins, so that no one can choose paths of one slot
     seed: u64,
@@ -59,23 +59,23 @@ impl IndexedPaths {
         self.rows
     }
 
-    /// The tag of a path in this table.
-    pub fn tag_of(&self, path: &[u32]) -> u32
-        ensures { result ≡ tag_of self.now.seed path.now }
+    /// The hash by which a path is found in this table.
+    pub fn hash_of(&self, path: &[u32]) -> u32
+        ensures { result ≡ short_hash self.now.seed path.now }
     {
-        (hash_of(self.seed, path) >> 32) as u32
+        short_hash_of(self.seed, path)
     }
 
-    /// Searches a path by its tag. It takes no memory.
-    pub fn seek(&self, tag: u32, path: &[u32]) -> SearchEnd
-        requires { tag ≡ tag_of self.now.seed path.now }
-        ensures end { IsRowSearchEnd self.now.rows self.now.slots (slot_of_tag tag (length self.now.slots)) path.now result }
+    /// Searches a path by its hash. It takes no memory.
+    pub fn seek(&self, hash: u32, path: &[u32]) -> SearchEnd
+        requires { hash ≡ short_hash self.now.seed path.now }
+        ensures end { IsRowSearchEnd self.now.rows self.now.slots (slot_of_hash hash (length self.now.slots)) path.now result }
         ensures tells { Tells self.now.rows path.now result }
     {
         if self.slots.is_empty() {
             return SearchEnd::Full;
         }
-        seek(self.slots.as_slice(), &self.rows, tag, path)
+        seek(self.slots.as_slice(), &self.rows, hash, path)
     }
 
     /// The index of a path. It takes no memory.
@@ -83,7 +83,7 @@ impl IndexedPaths {
         ensures found { IfSome result (λ k. (k < length self.now.rows) × (row_at self.now.rows k ≡ path.now)) }
         ensures absent { IfNone result ((k : ℕ) → k < length self.now.rows → row_at self.now.rows k ≢ path.now) }
     {
-        match self.seek(self.tag_of(path), path) {
+        match self.seek(self.hash_of(path), path) {
             SearchEnd::Held(id) => Some(id),
             SearchEnd::Free(_) | SearchEnd::Full => None,
         }
@@ -94,64 +94,58 @@ impl IndexedPaths {
         self.seed == seed_of(keys)
     }
 
-    /// A guess where a path of this tag stands. It is one look into memory, on which nothing else here waits, so the looks for several
+    /// A guess where a path of this hash stands. It is one look into memory, on which nothing else here waits, so the looks for several
     /// paths overlap if they follow one another. No row is looked at, and no memory is taken.
-    pub fn guess(&self, tag: u32) -> Guess {
-        Guess::new(self.slots.as_slice(), tag)
+    pub fn guess(&self, hash: u32) -> Option<PathId> {
+        guess(self.slots.as_slice(), hash)
     }
 
     /// Where a path stands, if a guess, which may be any, says so. It takes no memory.
-    pub fn find_guessed(&self, guess: Guess, path: &[u32]) -> Option<PathId>
+    pub fn find_guessed(&self, guess: Option<PathId>, path: &[u32]) -> Option<PathId>
         ensures { IfSome result (λ id. slice_get self.now.rows id ≡ Some path.now) }
     {
-        let row = guess.row();
-        if row == 0 || row as usize > self.rows.len() {
-            return None;
-        }
-        let id = id_of(row);
-        if self.rows.row(id) == path {
+        let id = guess?;
+        if id.place() < self.rows.len() && self.rows.row(id) == path {
             Some(id)
         } else {
             None
         }
     }
 
-    /// Adds a path of this tag, where a search for it has ended so. For want of memory the paths stay.
-    pub fn push(&mut self, tag: u32, end: SearchEnd, path: &[u32]) -> Result<PathId, NoMemory>
-        requires room { length self.old.rows < most_places }
-        requires tag { tag ≡ tag_of self.old.seed path.now }
-        requires end { IsRowSearchEnd self.old.rows self.old.slots (slot_of_tag tag (length self.old.slots)) path.now end }
+    /// Adds a path of this hash, where a search for it has ended so. For want of memory the paths stay.
+    pub fn push(&mut self, hash: u32, end: SearchEnd, path: &[u32]) -> Result<PathId, NoMemory>
+        requires room { length self.old.rows < max_paths }
+        requires hash { hash ≡ short_hash self.old.seed path.now }
+        requires end { IsRowSearchEnd self.old.rows self.old.slots (slot_of_hash hash (length self.old.slots)) path.now end }
         ensures ok { OnOk result (self.new.rows ≡ self.old.rows ++ path.now ∷ []) }
         ensures index { IfOk result (λ id. id ≡ length self.old.rows) }
         ensures err { OnErr result (self.new.rows ≡ self.old.rows) }
     {
-        let slot = self.vacancy(tag, end)?;
+        let slot = self.vacancy(hash, end)?;
         let Ok(id) = self.rows.push_row(path) else {
             return Err(NoMemory);
         };
-        self.slots[slot] = Slot {
-            tag,
-            row: id.place() as u32 + 1,
-        };
+        self.slots[slot] = Slot::new(hash, id.place() as u32 + 1);
         Ok(id)
     }
 
-    // The free slot for a path of this tag, where a search for it has ended so. If half of the slots are in use, twice as many are made.
-    fn vacancy(&mut self, tag: u32, end: SearchEnd) -> Result<usize, NoMemory>
-        requires end { IsVacancy self.old.slots (slot_of_tag tag (length self.old.slots)) end }
+    // The free slot for a path of this hash, where a search for it has ended so. If three quarters of the slots are in use, twice as many
+    // are made.
+    fn vacancy(&mut self, hash: u32, end: SearchEnd) -> Result<usize, NoMemory>
+        requires end { IsVacancy self.old.slots (slot_of_hash hash (length self.old.slots)) end }
         ensures rows { self.new.rows ≡ self.old.rows }
         ensures seed { self.new.seed ≡ self.old.seed }
-        ensures vacant { IfOk result (IsVacant self.new.slots (slot_of_tag tag (length self.new.slots))) }
-        ensures stays { OnFree end (length self.old.rows < length self.old.slots / 2 → self.new.slots ≡ self.old.slots) }
-        ensures grows { OnOk result (length self.old.slots / 2 ≤ length self.old.rows →
+        ensures vacant { IfOk result (IsVacant self.new.slots (slot_of_hash hash (length self.new.slots))) }
+        ensures stays { OnFree end (length self.old.rows < three_quarters (length self.old.slots) → self.new.slots ≡ self.old.slots) }
+        ensures grows { OnOk result (three_quarters (length self.old.slots) ≤ length self.old.rows →
             IsDoubled 1024 (length self.old.slots) (length self.new.slots)) }
     {
         match end {
-            SearchEnd::Free(slot) if self.rows.len() < self.slots.len() / 2 => Ok(slot),
+            SearchEnd::Free(slot) if self.rows.len() < self.slots.len() / 4 * 3 => Ok(slot),
             _ => {
                 let count = doubled(self.slots.len(), FIRST);
-                self.slots = widened(self.alloc, self.slots.as_slice(), count)?;
-                let start = start_of(tag, self.slots.len());
+                self.slots = filled(self.alloc, self.seed, &self.rows, count)?;
+                let start = start_of(hash, self.slots.len());
                 free_from(self.slots.as_slice(), start).ok_or(NoMemory)
             }
         }

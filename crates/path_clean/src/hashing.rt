@@ -3,6 +3,7 @@
 ghost use Rattle.std.specs.Prelude.{◌≡◌, ◌<◌, ◌≤◌, length};
 ghost use Rattle.tor_arena.specs.Limits.{most_places};
 ghost use Rattle.path_clean.specs.Chains.{mixed, path_hash, row_at};
+ghost use Rattle.path_clean.specs.Slots.{short_hash};
 
 use std::hash::BuildHasher;
 use tor_arena::{Index, Keys, PathId, Rows};
@@ -29,6 +30,13 @@ pub(crate) fn hash_of(seed: u64, path: &[u32]) -> u64
     ensures { result ≡ path_hash seed path.now }
 {
     path.iter().fold(seed, |hash, number| mix(hash, *number))
+}
+
+/// The upper half of the hash of a path, by which it is found.
+pub(crate) fn short_hash_of(seed: u64, path: &[u32]) -> u32
+    ensures { result ≡ short_hash seed path.now }
+{
+    (hash_of(seed, path) >> 32) as u32
 }
 
 /// The hash with one number more.

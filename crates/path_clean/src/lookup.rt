@@ -5,7 +5,6 @@ ghost use Rattle.path_clean.specs.Lookups.{found_at, AreRowsWhereFound};
 
 use crate::distinct_rows::IndexedPaths;
 use crate::hashing::row_of;
-use crate::slots::Guess;
 use std::alloc::Global;
 use std::marker::Model;
 use tor_arena::{List, NoMemory, PathId, Rows};
@@ -13,11 +12,10 @@ use tor_arena::{List, NoMemory, PathId, Rows};
 /// Where the paths of a batch were found in a table. Its lists serve one batch after the other.
 #[derive(Drop)]
 pub struct Lookup {
-    // the tags of the paths, and guesses where these stand in the table
-    tags: List<u32>,
-    guesses: List<Guess>,
-    // where the paths stand, as far as it was guessed
-    places: List<Option<PathId>>,
+    // the hashes of the paths
+    hashes: List<u32>,
+    // where the paths may stand in the table, and in the end those places where they do
+    places: Vec<Option<PathId>>,
 }
 
 impl Model for Lookup {
@@ -25,7 +23,7 @@ impl Model for Lookup {
 
     ghost Value = { Sequence (Option ℕ) };
 
-    ghost view = { λ lookup. lookup.places };
+    ghost view = { λ lookup. lookup.places.items };
 }
 
 impl Lookup {
@@ -34,9 +32,8 @@ impl Lookup {
         ensures { result ≡ [] }
     {
         Lookup {
-            tags: List::new(alloc),
-            guesses: List::new(alloc),
-            places: List::new(alloc),
+            hashes: List::new(alloc),
+            places: Vec::new(alloc),
         }
     }
 
@@ -68,52 +65,50 @@ impl Lookup {
         ensures rows { OnOk result (AreRowsWhereFound table.now.rows paths.now self.new) }
         ensures each { OnOk result (length self.new ≡ length paths.now) }
     {
-        tag_each(table, paths, &mut self.tags)?;
-        guess_each(table, self.tags.as_slice(), &mut self.guesses)?;
-        find_each(table, paths, self.guesses.as_slice(), &mut self.places)
+        hash_each(table, paths, &mut self.hashes)?;
+        guess_each(table, self.hashes.as_slice(), &mut self.places)?;
+        compare_each(table, paths, &mut self.places);
+        Ok(())
     }
 }
 
-/// The tag of each of the paths.
-fn tag_each(
+/// The hash of each of the paths.
+fn hash_each(
     table: &IndexedPaths,
     paths: &Rows<PathId, u32>,
-    tags: &mut List<u32>,
+    hashes: &mut List<u32>,
 ) -> Result<(), NoMemory>
-    ensures { OnOk result (length tags.new ≡ length paths.now) }
+    ensures { OnOk result (length hashes.new ≡ length paths.now) }
 {
-    tags.clear();
+    hashes.clear();
     for place in 0..paths.len() {
-        tags.push(table.tag_of(row_of(paths, place)))?;
+        hashes.push(table.hash_of(row_of(paths, place)))?;
     }
     Ok(())
 }
 
-/// A guess for each of the tags. These looks into memory follow one another with nothing between them.
-fn guess_each(table: &IndexedPaths, tags: &[u32], guesses: &mut List<Guess>) -> Result<(), NoMemory>
-    ensures { OnOk result (length guesses.new ≡ length tags.now) }
-{
-    guesses.clear();
-    for place in 0..tags.len() {
-        guesses.push(table.guess(tags[place]))?;
-    }
-    Ok(())
-}
-
-/// Where each of the paths stands in the table, if its guess says so.
-fn find_each(
+/// A guess for each of the hashes. These looks into memory follow one another with nothing between them.
+fn guess_each(
     table: &IndexedPaths,
-    paths: &Rows<PathId, u32>,
-    guesses: &[Guess],
-    places: &mut List<Option<PathId>>,
+    hashes: &[u32],
+    places: &mut Vec<Option<PathId>>,
 ) -> Result<(), NoMemory>
-    requires many { length guesses.now ≡ length paths.now }
-    ensures rows { OnOk result (AreRowsWhereFound table.now.rows paths.now places.new) }
-    ensures each { OnOk result (length places.new ≡ length paths.now) }
+    ensures { OnOk result (length places.new.items ≡ length hashes.now) }
 {
     places.clear();
-    for place in 0..paths.len() {
-        places.push(table.find_guessed(guesses[place], row_of(paths, place)))?;
+    for place in 0..hashes.len() {
+        places.push(table.guess(hashes[place]))?;
     }
     Ok(())
+}
+
+/// Keeps those guesses that are right: each of the paths stands in the table where it was guessed.
+fn compare_each(table: &IndexedPaths, paths: &Rows<PathId, u32>, places: &mut [Option<PathId>])
+    requires many { length places.old ≡ length paths.now }
+    ensures rows { AreRowsWhereFound table.now.rows paths.now places.new }
+    ensures each { length places.new ≡ length places.old }
+{
+    for place in 0..paths.len() {
+        places[place] = table.find_guessed(places[place], row_of(paths, place));
+    }
 }

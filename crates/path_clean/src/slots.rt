@@ -1,57 +1,66 @@
 //! Slots by which rows are found, so that a look-up waits for memory once for its slot and once or twice for the row.
 
-ghost use Rattle.std.specs.Prelude.{◌≡◌, ◌<◌, ◌≤◌, ◌+◌, ◌↔◌, length, get_or, IsTrue, Some, IfSome, IfOk, OnOk};
+ghost use Rattle.std.specs.Prelude.{◌≡◌, ◌<◌, ◌≤◌, ◌+◌, ◌^◌, ◌↔◌, length, IsTrue, Some, IfSome, IfOk, OnOk};
 ghost use Rattle.tor_arena.specs.Growth.{next_slot};
-ghost use Rattle.tor_arena.specs.Limits.{most_places};
-ghost use Rattle.path_clean.specs.Slots.{slot_of_tag, row_from_one, IsVacant, IsRowSearchEnd, NameOnlyRows, IsTold, IsPut, KeepsAll};
+ghost use Rattle.tor_arena.specs.Limits.{most_places, max_paths};
+ghost use Rattle.path_clean.specs.Slots.{tag_of, slot_of_hash, row_from_one, IsVacant, IsRowSearchEnd, NameOnlyRows, IsTold, IsPut, IsIndexed};
 
-use crate::hashing::row_of;
+use crate::hashing::{row_of, short_hash_of};
 use std::alloc::Global;
+use std::marker::Model;
 use tor_arena::{Index, NoMemory, PathId, Rows};
 
-/// A slot, which names a row or is free.
-#[derive(Clone, Copy, PartialEq, Eq)]
+/// A slot, which names a row or is free, in four octets. The highest is the tag of the row, so that hardly any other row has to be looked
+/// at. The others are the place of the row, from 1, and 0 where the slot is free.
+#[derive(Clone, Copy)]
 pub(crate) struct Slot {
-    /// The tag of the row, so that hardly any other row has to be looked at.
-    pub tag: u32,
-    /// The place of the row, from 1, and 0 where the slot is free.
-    pub row: u32,
+    word: u32,
 }
+
+impl Model for Slot {
+    ghost use Rattle.std.specs.Prelude.{◌+◌, ◌*◌, ◌/◌, ◌%◌, ◌^◌};
+    ghost use Rattle.std.proofs.Math.Nat.{div-add-mod};
+    ghost use Rattle.path_clean.specs.Slots.{TaggedRow};
+
+    ghost Value = { TaggedRow };
+
+    ghost view = { λ slot. record { tag = slot.word / 2 ^ 24; row = slot.word % 2 ^ 24 } };
+
+    ghost inverse = { λ named. record { word = 2 ^ 24 * named.tag + named.row } };
+
+    ghost inverse_ok = { λ slot _ i. record { word = div-add-mod slot.word (2 ^ 24) i } };
+}
+
+/// What one more in the tag is to a slot.
+const TAG: u32 = 16_777_216;
 
 /// A slot that names no row.
-const FREE: Slot = Slot { tag: 0, row: 0 };
+const FREE: Slot = Slot { word: 0 };
 
-/// Where a path may stand in a table: what the slot has at which the search for it begins.
-#[derive(Clone, Copy, PartialEq, Eq)]
-pub(crate) struct Guess {
-    // the tag of the path
-    tag: u32,
-    slot: Slot,
-}
-
-impl Guess {
-    /// What the first slot has for a path of this tag. Nothing is compared here, so no branch waits for the slot.
-    pub fn new(slots: &[Slot], tag: u32) -> Guess
-        ensures tag { result.tag ≡ tag }
-        ensures slot { result.slot ≡ get_or slots.now (slot_of_tag tag (length slots.now)) (record { tag = 0; row = 0 }) }
+impl Slot {
+    /// The slot that names the row of a place, from 1, and has the tag of a path of this hash.
+    pub fn new(hash: u32, row: u32) -> Slot
+        requires { row < 2 ^ 24 }
+        ensures tag { result.tag ≡ tag_of hash }
+        ensures row { result.row ≡ row }
     {
-        if slots.is_empty() {
-            return Guess { tag, slot: FREE };
-        }
-        let start = start_of(tag, slots.len());
-        Guess {
-            tag,
-            slot: slots[start],
+        Slot {
+            word: hash / TAG * TAG + row,
         }
     }
 
-    /// The place, from 1, at which the path may stand, or 0 where it is no row that the slot names.
-    pub fn row(self) -> u32 {
-        if self.slot.tag == self.tag {
-            self.slot.row
-        } else {
-            0
-        }
+    /// The tag of the row.
+    fn tag(self) -> u32
+        ensures { result ≡ self.tag }
+    {
+        self.word / TAG
+    }
+
+    /// The place of the row, from 1, and 0 where the slot is free.
+    fn row(self) -> u32
+        ensures { result ≡ self.row }
+    {
+        self.word % TAG
     }
 }
 
@@ -66,13 +75,13 @@ pub(crate) enum SearchEnd {
     Full,
 }
 
-/// The slot at which the search for a row of this tag begins, among so many, which should be a power of two.
-pub(crate) fn start_of(tag: u32, count: usize) -> usize
+/// The slot at which the search for a path of this hash begins, among so many, which should be a power of two.
+pub(crate) fn start_of(hash: u32, count: usize) -> usize
     requires { 0 < count }
-    ensures start { result ≡ slot_of_tag tag count }
+    ensures start { result ≡ slot_of_hash hash count }
     ensures inside { result < count }
 {
-    tag as usize & (count - 1)
+    hash as usize & (count - 1)
 }
 
 /// The slot behind one, which is the first behind the last.
@@ -97,6 +106,17 @@ pub(crate) fn id_of(row: u32) -> PathId
     }
 }
 
+/// Where a path of this hash may stand: at the row that the first slot of its search names, if this has the path's tag. Nothing is
+/// compared here, so no branch waits for the slot: with another tag the place is more than that of any row.
+pub(crate) fn guess(slots: &[Slot], hash: u32) -> Option<PathId> {
+    if slots.is_empty() {
+        return None;
+    }
+    let slot = slots[start_of(hash, slots.len())];
+    let row = slot.word ^ (hash / TAG * TAG);
+    PathId::from_place(row.wrapping_sub(1) as usize)
+}
+
 /// Whether a slot, which isn't free, has the tag and names the path.
 fn is_of(slot: Slot, rows: &Rows<PathId, u32>, tag: u32, path: &[u32]) -> bool
     requires used { 0 < slot.row }
@@ -104,26 +124,27 @@ fn is_of(slot: Slot, rows: &Rows<PathId, u32>, tag: u32, path: &[u32]) -> bool
     requires few { length rows.now ≤ most_places }
     ensures { IsTrue result ↔ ((slot.tag ≡ tag) × (row_from_one rows.now slot.row ≡ Some path.now)) }
 {
-    slot.tag == tag && row_of(rows, slot.row as usize - 1) == path
+    slot.tag() == tag && row_of(rows, slot.row() as usize - 1) == path
 }
 
-/// Searches a path of this tag.
-pub(crate) fn seek(slots: &[Slot], rows: &Rows<PathId, u32>, tag: u32, path: &[u32]) -> SearchEnd
+/// Searches a path of this hash.
+pub(crate) fn seek(slots: &[Slot], rows: &Rows<PathId, u32>, hash: u32, path: &[u32]) -> SearchEnd
     requires some { 0 < length slots.now }
     requires few { length rows.now ≤ most_places }
     requires within { NameOnlyRows (length rows.now) slots.now }
-    requires told { IsTold rows.now slots.now tag path.now }
-    ensures { IsRowSearchEnd rows.now slots.now (slot_of_tag tag (length slots.now)) path.now result }
+    requires told { IsTold rows.now slots.now (tag_of hash) path.now }
+    ensures { IsRowSearchEnd rows.now slots.now (slot_of_hash hash (length slots.now)) path.now result }
 {
-    let mut place = start_of(tag, slots.len());
+    let tag = hash / TAG;
+    let mut place = start_of(hash, slots.len());
     let mut left = slots.len();
     while left > 0 {
         let slot = slots[place];
-        if slot.row == 0 {
+        if slot.row() == 0 {
             return SearchEnd::Free(place);
         }
         if is_of(slot, rows, tag, path) {
-            return SearchEnd::Held(id_of(slot.row));
+            return SearchEnd::Held(id_of(slot.row()));
         }
         place = next(place, slots.len());
         left -= 1;
@@ -139,7 +160,7 @@ pub(crate) fn free_from(slots: &[Slot], start: usize) -> Option<usize>
     let mut place = start;
     let mut left = slots.len();
     while left > 0 {
-        if slots[place].row == 0 {
+        if slots[place].row() == 0 {
             return Some(place);
         }
         place = next(place, slots.len());
@@ -148,34 +169,39 @@ pub(crate) fn free_from(slots: &[Slot], start: usize) -> Option<usize>
     None
 }
 
-/// Writes what a slot has into the first free one. NoMemory comes where none is free.
-fn put(slots: &mut [Slot], slot: Slot) -> Result<(), NoMemory>
+/// Has the first free slot of the search for a path of this hash name its row, by the place from 1. NoMemory comes where none is free.
+fn put(slots: &mut [Slot], hash: u32, row: u32) -> Result<(), NoMemory>
     requires some { 0 < length slots.old }
+    requires row { row < 2 ^ 24 }
+    ensures put { OnOk result (IsPut hash row slots.old slots.new) }
     ensures many { length slots.new ≡ length slots.old }
-    ensures put { OnOk result (IsPut slot slots.old slots.new) }
 {
-    if slot.row == 0 {
-        return Ok(());
-    }
-    match free_from(slots, start_of(slot.tag, slots.len())) {
+    match free_from(slots, start_of(hash, slots.len())) {
         Some(place) => {
-            slots[place] = slot;
+            slots[place] = Slot::new(hash, row);
             Ok(())
         }
         None => Err(NoMemory),
     }
 }
 
-/// So many slots, which name what these slots name. They are gone over in order and written nearly in order, and no row is looked at.
-pub(crate) fn widened(alloc: Global, slots: &[Slot], count: usize) -> Result<Vec<Slot>, NoMemory>
+/// So many slots, which name these rows. The rows are gone over in order and hashed again, so that no hash has to be kept.
+pub(crate) fn filled(
+    alloc: Global,
+    seed: u64,
+    rows: &Rows<PathId, u32>,
+    count: usize,
+) -> Result<Vec<Slot>, NoMemory>
     requires some { 0 < count }
-    ensures many { IfOk result (λ wider. length wider.items ≡ count) }
-    ensures all { IfOk result (λ wider. KeepsAll slots.now wider.items) }
+    requires few { length rows.now ≤ max_paths }
+    ensures many { IfOk result (λ slots. length slots.items ≡ count) }
+    ensures indexed { IfOk result (λ slots. IsIndexed seed rows.now slots.items) }
 {
-    let mut wider = Vec::new(alloc);
-    wider.resize(count, FREE)?;
-    for place in 0..slots.len() {
-        put(&mut wider, slots[place])?;
+    let mut slots = Vec::new(alloc);
+    slots.resize(count, FREE)?;
+    for place in 0..rows.len() {
+        let hash = short_hash_of(seed, row_of(rows, place));
+        put(&mut slots, hash, place as u32 + 1)?;
     }
-    Ok(wider)
+    Ok(slots)
 }

@@ -161,8 +161,8 @@ impl PathTable {
         ensures limit { self.new.limit ≡ self.old.limit }
         ensures unchanged { OnErr result (self.new.rows ≡ self.old.rows) }
     {
-        let tag = self.paths.tag_of(path);
-        match self.paths.seek(tag, path) {
+        let hash = self.paths.hash_of(path);
+        match self.paths.seek(hash, path) {
             SearchEnd::Held(id) => {
                 self.count(id);
                 Ok(Added::Known(id))
@@ -174,7 +174,7 @@ impl PathTable {
                 if self.counts.reserve(1).is_err() {
                     return Err(AddRefused::NoMemory);
                 }
-                let Ok(id) = self.paths.push(tag, end, path) else {
+                let Ok(id) = self.paths.push(hash, end, path) else {
                     return Err(AddRefused::NoMemory);
                 };
                 self.counts.push_reserved(times);

@@ -1,10 +1,10 @@
 use Rattle.std.proofs.Common.{length}
-use Rattle.path_clean.specs.Slots.{slot_of_tag}
+use Rattle.path_clean.specs.Slots.{slot_of_hash}
 use Rattle.path_clean.proofs.SlotLemmas.{IsSeeking}
 use Rattle.path_clean.proofs.slots.seek.Given as goal
 
 abbrev pub invariant-loop-left : goal.invariant-loop-left
-invariant-loop-left l = IsSeeking l.rows l.slots (slot_of_tag l.tag (length l.slots)) l.path l.place l.left
+invariant-loop-left l = IsSeeking l.rows l.slots (slot_of_hash l.hash (length l.slots)) l.path l.place l.left
 
 abbrev pub decreases-loop-left : goal.decreases-loop-left
 decreases-loop-left l = l.left

@@ -1,6 +1,6 @@
 use Rattle.std.proofs.Common.{rules, ◌≡◌, ◌∙◌, length, ap, sym, subst}
 use Rattle.path_clean.specs.declared.slots.SearchEnd.TheVariants.{Full}
-use Rattle.path_clean.specs.Slots.{tag_of, slot_of_tag, NamedFrom, IsRowSearchEnd, Indexed, Tells}
+use Rattle.path_clean.specs.Slots.{short_hash, slot_of_hash, NamedFrom, IsRowSearchEnd, Indexed, Tells}
 use Rattle.path_clean.proofs.IndexLemmas.{tells-by}
 use Rattle.path_clean.proofs.distinct_rows.IndexedPaths.seek.Goals as goal
 
@@ -10,10 +10,10 @@ returns-then-is_empty-clause-tells c =
     let rows = c.self.inside.rows in
     let slots = c.self.inside.slots.items in
     let path = c.args.path.now in
-    let tag = c.args.tag in
-    let is : tag ≡ tag_of seed path = c.requires ∙ sym (ap (λ (p : Indexed). tag_of p.seed path) c.self.view_is) in
-    let none : NamedFrom rows slots path (slot_of_tag tag (length slots)) (length slots) → ⊥ = search rules in
-    subst (λ (p : Indexed). Tells p.rows path Full) c.self.view_is (tells-by seed rows slots path tag Full c.self.invariant is none)
+    let hash = c.args.hash in
+    let is : hash ≡ short_hash seed path = c.requires ∙ sym (ap (λ (p : Indexed). short_hash p.seed path) c.self.view_is) in
+    let none : NamedFrom rows slots path (slot_of_hash hash (length slots)) (length slots) → ⊥ = search rules in
+    subst (λ (p : Indexed). Tells p.rows path Full) c.self.view_is (tells-by seed rows slots path hash Full c.self.invariant is none)
 
 pub returns-clause-tells : goal.returns-clause-tells
 returns-clause-tells c =
@@ -21,8 +21,8 @@ returns-clause-tells c =
     let rows = c.self.inside.rows in
     let slots = c.self.inside.slots.items in
     let path = c.args.path.now in
-    let tag = c.args.tag in
-    let is : tag ≡ tag_of seed path = c.requires ∙ sym (ap (λ (p : Indexed). tag_of p.seed path) c.self.view_is) in
-    let end : IsRowSearchEnd rows slots (slot_of_tag tag (length slots)) path c.seek.result =
-    subst (λ l. IsRowSearchEnd rows l (slot_of_tag tag (length l)) path c.seek.result) c.as_slice.ensures.value c.seek.ensures in
-    subst (λ (p : Indexed). Tells p.rows path c.seek.result) c.self.view_is (tells-by seed rows slots path tag c.seek.result c.self.invariant is end)
+    let hash = c.args.hash in
+    let is : hash ≡ short_hash seed path = c.requires ∙ sym (ap (λ (p : Indexed). short_hash p.seed path) c.self.view_is) in
+    let end : IsRowSearchEnd rows slots (slot_of_hash hash (length slots)) path c.seek.result =
+    subst (λ l. IsRowSearchEnd rows l (slot_of_hash hash (length l)) path c.seek.result) c.as_slice.ensures.value c.seek.ensures in
+    subst (λ (p : Indexed). Tells p.rows path c.seek.result) c.self.view_is (tells-by seed rows slots path hash c.seek.result c.self.invariant is end)

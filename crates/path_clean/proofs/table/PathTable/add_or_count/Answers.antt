@@ -191,3 +191,13 @@ returns-in-Ok c =
       limit = search rules;
       unchanged = search rules;
     }
+
+pub push-requires : goal.push-requires
+push-requires c =
+    let room : length c.args.self.now.rows < c.args.self.now.limit = ok-of c.check_room.result c.check_room.ensures.room c.in_default-check_room.not-Err in
+    let seen = seen_as c.self.inside.max_paths c.self.inside.numbers c.self.inside.paths.rows c.self.inside.counts.items c.args.self.now c.self.invariant c.self.view_is in
+    let rows = seen.rows in
+    let same = c.self.invariant.same in
+    let limit = seen.limit_is in
+    let bound = c.self.invariant.bound in
+    record { room = omega (arith, room, rows, same, limit, bound); hash = search rules; end = search rules }
