@@ -136,13 +136,14 @@ fn add_return(
     }
 }
 
-/// The step from one end of an edge to the other.
+/// The step from one end of an edge of a graph to the other.
 fn step_on(edge: EdgeId, from: u32, to: u32) -> Step
+    requires { edge < max_numbers }
     ensures edge { result.edge ≡ edge }
     ensures left { result.left ≡ end_left from to }
 {
     let left = if from < to { End::Low } else { End::High };
-    Step { edge, left }
+    Step::new(edge, left)
 }
 
 /// How many steps the paths have in sum, for which memory is taken at once.

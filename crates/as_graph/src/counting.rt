@@ -15,6 +15,6 @@ pub(crate) fn count_steps(counts: &mut Vec<u32>, steps: &[Step])
         (λ s. nat_eq s.edge k) steps.now }
 {
     for step in steps {
-        counts[step.edge.place()] += 1;
+        counts[step.edge().place()] += 1;
     }
 }

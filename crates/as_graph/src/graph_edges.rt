@@ -65,6 +65,7 @@ impl GraphEdges {
     pub fn find(&self, a: u32, b: u32) -> Option<EdgeId>
         ensures edge { IfSome result (λ id. slice_get self.now id ≡ Some (edge_of a b)) }
         ensures none { IsNone result ↔ IsFalse (list_any (is_same (edge_of a b)) self.now) }
+        ensures below { IfSome result (λ id. id < max_numbers) }
     {
         let place = self.table.place(a, b)?;
         EdgeId::from_place(place)
@@ -83,6 +84,7 @@ impl GraphEdges {
         requires room { length self.old < max_numbers }
         ensures ok { OnOk result (self.new ≡ with_edge self.old (edge_of a b)) }
         ensures edge { IfOk result (λ id. slice_get self.new id ≡ Some (edge_of a b)) }
+        ensures below { IfOk result (λ id. id < max_numbers) }
         ensures err { OnErr result (self.new ≡ self.old) }
     {
         // most edges are there, and a short way to them lets the processor go on to the next

@@ -15,15 +15,15 @@ pub(crate) fn is_valley_free(steps: &[Step], labels: &[Label]) -> bool
 {
     let mut falling = false;
     for step in steps {
-        let label = labels[step.edge.place()];
-        if goes_down(label, step.left) {
+        let label = labels[step.edge().place()];
+        if goes_down(label, step.left()) {
             falling = true;
             continue;
         }
         if falling {
             return false;
         }
-        falling = !goes_up(label, step.left);
+        falling = !goes_up(label, step.left());
     }
     true
 }

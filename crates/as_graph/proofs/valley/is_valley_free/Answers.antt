@@ -15,9 +15,10 @@ returns-then-falling c =
     let step = c.step-item.result in
     let within : step.edge < length labels = subst (λ (s : Step). s.edge < length labels) (sym c.step-item.is) (c.requires i step c.loop-step-test.true) in
     let same : get_or labels step.edge Label.Peer ≡ get_or labels c.place.result Label.Low =
-    get_or_default labels step.edge Label.Peer Label.Low within ∙ ap (λ k. get_or labels k Label.Low) (sym c.place.ensures.place) in
+    get_or_default labels step.edge Label.Peer Label.Low within ∙ ap (λ k. get_or labels k Label.Low) (sym (c.place.ensures.place ∙ c.edge.ensures)) in
     let not_down : is_down (step_slope (get_or labels step.edge Label.Peer) step.left) ≡ false =
-    ap (λ l. is_down (step_slope l step.left)) same ∙ sym c.goes_down.ensures ∙ c.if-goes_down.false in
+    ap (λ l. is_down (step_slope l step.left)) same ∙ ap (λ left. is_down (step_slope (get_or labels c.place.result Label.Low) left)) (sym c.left.ensures) ∙
+    sym c.goes_down.ensures ∙ c.if-goes_down.false in
     answer labels steps false
     (c.loop-step.invariant ∙ ap (λ f. well f (slopes_by labels (drop i steps))) c.if-falling.true ∙ ap (well true) (next_slopes labels steps i step c.loop-step-test.true c.step-item.is) ∙
     well-stop (step_slope (get_or labels step.edge Label.Peer) step.left) (slopes_by labels (drop (i + 1) steps)) not_down)
