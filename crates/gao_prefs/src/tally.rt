@@ -42,11 +42,11 @@ fn vote_each(votes: &mut Vec<PerEnd>, steps: &[Step], climbing: bool)
 {
     for step in steps {
         let end = if climbing {
-            other_end(step.left)
+            other_end(step.left())
         } else {
-            step.left
+            step.left()
         };
-        vote(votes, step.edge, end);
+        vote(votes, step.edge(), end);
     }
 }
 

@@ -18,10 +18,10 @@ pub(crate) fn top_place(steps: &[Step], degrees: &[PerEnd]) -> usize
         return 0;
     };
     let mut top = 0;
-    let mut highest = degrees[first.edge.place()].of(first.left);
+    let mut highest = degrees[first.edge().place()].of(first.left());
     for place in 0..steps.len() {
         let step = &steps[place];
-        let reached = degrees[step.edge.place()].of(other_end(step.left));
+        let reached = degrees[step.edge().place()].of(other_end(step.left()));
         if highest < reached {
             highest = reached;
             top = place + 1;
