@@ -1,5 +1,5 @@
 -- Triples known by the pair of nodes that each shares with its reverse.
-use Rattle.std.proofs.Common.{◌≡◌, ℕ, ◌≤◌, ◌⊎◌, inl, inr, Bool, true, false, List, [], ◌∷◌, ◌++◌, length, map, take, refl, sym, ap, ap₂, ◌∙◌, subst, arith, ltb, lt-ltb, le-ltb, if◌then◌else◌, ◌||◌}
+use Rattle.std.proofs.Common.{◌≡◌, ℕ, ◌≤◌, ◌⊎◌, inl, inr, Bool, true, false, List, [], ◌∷◌, length, map, take, refl, sym, ap, ap₂, ◌∙◌, subst, arith, ltb, lt-ltb, le-ltb, if◌then◌else◌, ◌||◌}
 use Rattle.std.specs.List.{list_any}
 use Rattle.std.specs.Prelude.{Contains, All, ◌^◌, ◌<◌, ◌↔◌}
 use Rattle.std.proofs.lemmas.Bool.{cases_Bool, cases_order, false_from_ne_true}
@@ -10,7 +10,7 @@ use Rattle.tor_clauses.specs.declared.triple.Triple.{Triple}
 use Rattle.tor_clauses.specs.Literals.{negated, node_of, opposite_node}
 use Rattle.tor_clauses.specs.Triples.{arc_of, partner_of, is_same_triple}
 use Rattle.tor_clauses.specs.declared.lit.Lit.{Lit}
-use Rattle.tor_clauses.specs.Tables.{HasNodes, AreTripleKeys, IsTripleAdded, triple_key, key_of_arc, number_of_pair}
+use Rattle.tor_clauses.specs.Tables.{HasNodes, AreTripleKeys, triple_key, key_of_arc, number_of_pair}
 use Rattle.tor_numbers.specs.Slots.{IsInserted}
 use Rattle.tor_numbers.proofs.SlotLemmas.{alone, contains_one, contains_none}
 use Rattle.tor_clauses.proofs.LiteralLemmas.{opposite_node_twice, node_below}
@@ -137,21 +137,15 @@ number_is t number first second pair e f h n = n ∙ ap number_of_pair (h ∙ ap
     arc_with a b = key_of_arc (a, b)
 
 -- whether a triple's number is new tells whether the triple is
-pub added-new : (t : Triple) (number : ℕ) (keys new : List ℕ) (ts ts' : List Triple) (is_new : Bool) → AreTripleKeys keys ts → number ≡ key_number t →
-    IsInserted number keys new is_new → is_new ≡ true → ts' ≡ ts ++ t ∷ [] → IsTripleAdded t ts ts' is_new
-added-new t number keys new ts ts' is_new known e put is so = subst (IsTripleAdded t ts ts') (sym is) (
-  false_from_ne_true (list_any (is_same_triple t) ts) (λ there. (subst (IsInserted number keys new) is put).0
-      (subst (λ l. Contains l number) (sym known.keys) (subst (Contains (map key_number ts)) (sym e) (number_there t ts there)))),
-  so,
-)
+pub new-triple : (t : Triple) (number : ℕ) (keys new : List ℕ) (ts : List Triple) → AreTripleKeys keys ts → number ≡ key_number t → IsInserted number keys new true →
+    list_any (is_same_triple t) ts ≡ false
+new-triple t number keys new ts known e put =
+    false_from_ne_true (list_any (is_same_triple t) ts) (λ there. put.0 (subst (λ l. Contains l number) (sym known.keys) (subst (Contains (map key_number ts)) (sym e) (number_there t ts there))))
 
-pub added-none : (t : Triple) (number : ℕ) (keys new : List ℕ) (ts ts' : List Triple) (is_new : Bool) → HasNodes t → AreTripleKeys keys ts → number ≡ key_number t →
-    IsInserted number keys new is_new → is_new ≡ false → ts' ≡ ts → IsTripleAdded t ts ts' is_new
-added-none t number keys new ts ts' is_new h known e put is so = subst (IsTripleAdded t ts ts') (sym is) (
-  triple_there t ts h known.nodes (subst (Contains (map key_number ts)) e
-      (subst (λ l. Contains l number) known.keys (subst (IsInserted number keys new) is put).0)),
-  so,
-)
+pub old-triple : (t : Triple) (number : ℕ) (keys new : List ℕ) (ts : List Triple) → HasNodes t → AreTripleKeys keys ts → number ≡ key_number t →
+    IsInserted number keys new false → list_any (is_same_triple t) ts ≡ true
+old-triple t number keys new ts h known e put =
+    triple_there t ts h known.nodes (subst (Contains (map key_number ts)) e (subst (λ l. Contains l number) known.keys put.0))
 
 -- ---- one more triple, and fewer
 

@@ -7,7 +7,8 @@ use Rattle.as_graph.specs.Limits.{most_triples}
 use Rattle.as_graph.specs.declared.step.Step.{Step}
 use Rattle.tor_clauses.specs.declared.lit.Lit.{Lit}
 use Rattle.tor_clauses.specs.declared.triple.Triple.{Triple}
-use Rattle.tor_clauses.specs.Literals.{most_edges, negated, node_of, opposite_node, Holds}
+use Rattle.tor_clauses.specs.declared.triple.TriplePlace.{TriplePlace}
+use Rattle.tor_clauses.specs.Literals.{most_edges, negated, node_of, lit_of, opposite_node, Holds}
 use Rattle.tor_clauses.specs.Triples.{arc_of, partner_of, arcs_of, is_among, AreAmong, triples_on}
 use Rattle.tor_clauses.specs.Formulas.{Formula}
 
@@ -33,14 +34,43 @@ pub record AreTripleKeys (known : List ℕ) (triples : List Triple) : Type 0 whe
   pub nodes : All HasNodes triples
   pub few : length triples ≤ most_triples
 
+-- ---- triples and their arcs
+
+-- distinct triples, and a digraph with the arcs of these
+pub record Implications : Type 0 where
+  pub triples : List Triple
+  pub net : Net ℕ
+
+-- where a triple stands
+abbrev pub standing : Triple → TriplePlace
+standing t = record { path = t.path; at = t.at }
+
+-- the triple that stands here and has this arc
+abbrev pub triple_with : TriplePlace → ℕ × ℕ → Triple
+triple_with place arc = record { path = place.path; at = place.at; first = lit_of arc.0; second = lit_of arc.1 }
+
+-- the triples that stand at these places, of whose two arcs each the first leads from the first literal to the second
+abbrev pub triples_at : List TriplePlace → List (ℕ × ℕ) → List Triple
+triples_at [] arcs = []
+triples_at (place ∷ places) [] = []
+triples_at (place ∷ places) (arc ∷ []) = []
+triples_at (place ∷ places) (arc ∷ partner ∷ arcs) = triple_with place arc ∷ triples_at places arcs
+
+-- the arcs are those of the triples, which are known by their numbers
+pub record AreStanding (known : List ℕ) (places : List TriplePlace) (arcs : List (ℕ × ℕ)) : Type 0 where
+  pub many : length arcs ≡ length places * 2
+  pub of_triples : arcs ≡ flat_map arcs_of (triples_at places arcs)
+  pub keys : AreTripleKeys known (triples_at places arcs)
+
+-- these triples and their arcs, over the nodes that are there
+abbrev pub implying : Implications → List Triple → Implications
+implying old ts = record { triples = ts; net = record old.net { arcs = flat_map arcs_of ts } }
+
+-- ---- one more triple
+
 -- the triples with one more, which goes last unless it is there
 abbrev pub with_triple : List Triple → Triple → List Triple
 with_triple ts t = if is_among ts t then ts else ts ++ t ∷ []
-
--- the triple was added at the end, and is new; or the triples are as they were, and it or its reverse is among them
-abbrev pub IsTripleAdded : Triple → List Triple → List Triple → Bool → Type 0
-IsTripleAdded t old new true = (is_among old t ≡ false) × (new ≡ old ++ t ∷ [])
-IsTripleAdded t old new false = (is_among old t ≡ true) × (new ≡ old)
 
 -- the triples with all of these
 abbrev pub with_triples : List Triple → List Triple → List Triple

@@ -2,11 +2,9 @@
 ghost use Rattle.std.specs.Prelude.{◌≡◌, ℕ, ◌+◌, ◌*◌, ◌<◌, ◌≤◌, ◌↔◌, ◌∷◌, ◌++◌, [], List, length, flat_map, take, slice_get, Some, IsTrue};
 ghost use Rattle.std.specs.Prelude.{IfNone, IfSome, IfOk, OnOk, OnErr};
 ghost use Rattle.relationships.specs.Graph.{edges};
-ghost use Rattle.tor_arena.specs.Limits.{most_places};
 ghost use Rattle.as_graph.specs.Limits.{most_triples};
-ghost use Rattle.tor_clauses.specs.Literals.{most_edges, node_of};
 ghost use Rattle.tor_clauses.specs.Triples.{arcs_of, AreAmong, triples_on};
-ghost use Rattle.tor_clauses.specs.Tables.{HasNodes, with_triple, with_triples_on, with_arc, having, IsRoomy, IsFirst, IsFirstNew};
+ghost use Rattle.tor_clauses.specs.Tables.{HasNodes, with_triple, with_triples_on, having, IsRoomy, IsFirst, IsFirstNew};
 ghost use Rattle.tor_clauses.specs.Flipping.{HasPartners, IsPartner};
 ghost use Rattle.tor_clauses.specs.Formulas.{FitsGraph, IsMark, mark_of, first_of, arcs_before, triple_place, IsModel, IsArcOfTriple};
 ghost use Rattle.tor_clauses.specs.Formulas.{IsLinkOfTriple, IsLinkOfArc, MeetsDemands};
@@ -19,7 +17,7 @@ use relationships::Link;
 use std::alloc::Global;
 use std::marker::Model;
 use tor_arena::{ArcId, Index, Keys, NoMemory, NodeId, PathId};
-use tor_digraph::{Digraph, GraphMark, GraphRefused};
+use tor_digraph::{Digraph, GraphRefused};
 
 /// How many paths and triples there are, for a later `undo_to`.
 #[derive(Clone, Copy, Debug, PartialEq, Eq)]
@@ -36,7 +34,6 @@ pub struct ClauseMark {
 pub struct Clauses {
     paths: Vec<PathId>,
     table: TripleTable,
-    digraph: Digraph<NodeId, ArcId>,
 }
 
 impl Model for Clauses {
@@ -46,9 +43,9 @@ impl Model for Clauses {
 
     ghost Value = { Formula };
 
-    ghost view = { λ c. record { paths = c.paths.items; triples = c.table; net = c.digraph } };
+    ghost view = { λ c. record { paths = c.paths.items; triples = c.table.triples; net = c.table.net } };
 
-    ghost invariant = { λ c. c.digraph.arcs ≡ flat_map arcs_of c.table };
+    ghost invariant = { λ c. c.table.net.arcs ≡ flat_map arcs_of c.table.triples };
 }
 
 impl Clauses {
@@ -66,8 +63,7 @@ impl Clauses {
         }
         Ok(Clauses {
             paths: Vec::new(alloc),
-            table: TripleTable::new(alloc, keys),
-            digraph,
+            table: TripleTable::new(alloc, keys, digraph),
         })
     }
 
@@ -195,17 +191,8 @@ impl Clauses {
         ensures ok { OnOk result (self.new ≡ having self.old (with_triple self.old.triples triple)) }
         ensures err { OnErr result (self.new ≡ self.old) }
     {
-        let count = self.table.len();
-        if !self.table.add(triple)? {
-            return Ok(());
-        }
-        match add_arcs(&mut self.digraph, triple) {
-            Ok(()) => Ok(()),
-            Err(NoMemory) => {
-                self.table.cut_to(count);
-                Err(NoMemory)
-            }
-        }
+        self.table.add(triple)?;
+        Ok(())
     }
 
     /// Takes away all but the first paths and triples, by these counts.
@@ -214,11 +201,6 @@ impl Clauses {
         requires triples { mark.triples ≤ length self.old.triples }
         ensures { self.new ≡ first_of self.old mark }
     {
-        prove!(mark.triples <= self.table.len());
-        let nodes = self.digraph.node_count();
-        let arcs = mark.triples * 2;
-        prove!(arcs <= self.digraph.arc_count());
-        self.digraph.undo_to(GraphMark { nodes, arcs });
         self.table.cut_to(mark.triples);
         self.paths.truncate(mark.paths);
     }
@@ -266,7 +248,7 @@ impl Clauses {
     pub fn digraph(&self) -> &Digraph<NodeId, ArcId>
         ensures { result.now ≡ self.now.net }
     {
-        &self.digraph
+        self.table.digraph()
     }
 
     /// How many arcs stand before those of the triple at a place, or, behind the last triple, how many there are. It takes no memory.
@@ -299,7 +281,7 @@ impl Clauses {
     {
         let place = arc.place();
         let other = if place % 2 == 0 { place + 1 } else { place - 1 };
-        prove!(other < self.digraph.arc_count());
+        prove!(other < self.table.digraph().arc_count());
         ArcId::from_place(other).unwrap()
     }
 
@@ -321,46 +303,10 @@ impl Clauses {
         ensures link { IsLinkOfTriple self.now arc result }
         ensures fits { IsLinkOfArc self.now arc result }
     {
-        let triple = self.triple_of(arc);
+        let place = self.table.place_of(arc.place() / 2);
         Link {
-            path: triple.path.place() as u32 + 1,
-            at: triple.at,
+            path: place.path.place() as u32 + 1,
+            at: place.at,
         }
-    }
-}
-
-/// Adds the two arcs of a triple, both or, for want of memory, none.
-fn add_arcs(digraph: &mut Digraph<NodeId, ArcId>, triple: Triple) -> Result<(), NoMemory>
-    requires nodes { HasNodes triple }
-    requires first { triple.first.edge * 2 + 1 < digraph.old.nodes }
-    requires second { triple.second.edge * 2 + 1 < digraph.old.nodes }
-    requires few { length digraph.old.arcs + 2 ≤ most_places }
-    ensures ok { OnOk result (digraph.new ≡ record digraph.old { arcs = digraph.old.arcs ++ arcs_of triple }) }
-    ensures err { OnErr result (digraph.new ≡ digraph.old) }
-{
-    let mark = digraph.mark();
-    add_arc(digraph, triple.first, triple.second)?;
-    match add_arc(digraph, triple.second.not(), triple.first.not()) {
-        Ok(()) => Ok(()),
-        Err(NoMemory) => {
-            digraph.undo_to(mark);
-            Err(NoMemory)
-        }
-    }
-}
-
-/// Adds the arc from one literal to another. For want of memory nothing changes.
-fn add_arc(digraph: &mut Digraph<NodeId, ArcId>, tail: Lit, head: Lit) -> Result<(), NoMemory>
-    requires nodes { (tail.edge < most_edges) × (head.edge < most_edges) }
-    requires tail { node_of tail < digraph.old.nodes }
-    requires head { node_of head < digraph.old.nodes }
-    requires few { length digraph.old.arcs < most_places }
-    ensures ok { OnOk result (digraph.new ≡ with_arc digraph.old tail head) }
-    ensures err { OnErr result (digraph.new ≡ digraph.old) }
-{
-    match digraph.add_arc(tail.node(), head.node()) {
-        Ok(_) => Ok(()),
-        Err(GraphRefused::Full) => unreachable!(),
-        Err(GraphRefused::NoMemory) => Err(NoMemory),
     }
 }

@@ -15,3 +15,12 @@ pub struct Triple {
     /// That y is over z.
     pub second: Lit,
 }
+
+/// Where a triple stands: what is kept of it beside its arcs.
+#[derive(Clone, Copy)]
+pub(crate) struct TriplePlace {
+    /// The path on which its three ASes stand.
+    pub path: PathId,
+    /// The place on the path, from 1, of the middle one.
+    pub at: u32,
+}

@@ -1,79 +1,121 @@
-//! Distinct triples, found by their literals.
-ghost use Rattle.std.specs.Prelude.{◌≡◌, ◌<◌, ◌≤◌, ◌↔◌, [], All, length, take, slice_get, IsTrue, IfOk, OnErr};
-ghost use Rattle.tor_arena.specs.Limits.{max_numbers};
+//! Distinct triples, found by their literals, and their arcs.
+ghost use Rattle.std.specs.Prelude.{◌≡◌, ◌+◌, ◌*◌, ◌<◌, ◌≤◌, ◌↔◌, ◌++◌, [], All, length, take, slice_get, Some, IsTrue, OnOk, OnErr};
+ghost use Rattle.tor_arena.specs.Limits.{max_numbers, most_places};
+ghost use Rattle.tor_digraph.specs.Walks.{first_part};
 ghost use Rattle.as_graph.specs.Limits.{most_triples};
-ghost use Rattle.tor_clauses.specs.Triples.{arc_of, is_among};
-ghost use Rattle.tor_clauses.specs.Tables.{HasNodes, IsSatisfied, IsTripleAdded, AreKnownOn, IsNewAt, triple_key, key_of_arc};
-ghost use Rattle.tor_clauses.specs.Tables.{number_of_pair};
+ghost use Rattle.tor_clauses.specs.declared.triple.Triple.{Triple};
+ghost use Rattle.tor_clauses.specs.Literals.{most_edges, node_of, Holds};
+ghost use Rattle.tor_clauses.specs.Triples.{arc_of, arcs_of, is_among};
+ghost use Rattle.tor_clauses.specs.Tables.{HasNodes, IsSatisfied, AreKnownOn, IsNewAt, triple_key, key_of_arc, number_of_pair};
+ghost use Rattle.tor_clauses.specs.Tables.{standing, implying, with_triple, with_arc};
 
 use crate::lit::{Lit, negation_node};
-use crate::triple::Triple;
+use crate::triple::{Triple, TriplePlace};
 use as_graph::Step;
 use relationships::End;
 use std::alloc::Global;
 use std::marker::Model;
-use tor_arena::{Arena, Index, Keys, NoMemory, NodeId, TripleId};
+use tor_arena::{ArcId, Arena, Index, Keys, NoMemory, NodeId, TripleId};
+use tor_digraph::{Digraph, GraphMark, GraphRefused};
 use tor_numbers::NumberSet;
 
-/// Triples in the order in which they were added, to be found by their literals.
+/// Triples in the order in which they were added, to be found by their literals, and the digraph of their arcs, in which these literals
+/// stand.
 #[derive(Drop)]
 pub(crate) struct TripleTable {
-    triples: Arena<TripleId, Triple>,
+    places: Arena<TripleId, TriplePlace>,
     // for each triple the number of the pair of nodes that it shares with its reverse
     known: NumberSet,
+    // for each triple two arcs, the first of which leads from its first literal to its second
+    digraph: Digraph<NodeId, ArcId>,
 }
 
 impl Model for TripleTable {
-    ghost use Rattle.std.specs.Prelude.{List};
-    ghost use Rattle.tor_clauses.specs.declared.triple.Triple.{Triple};
-    ghost use Rattle.tor_clauses.specs.Tables.{AreTripleKeys};
+    ghost use Rattle.tor_clauses.specs.Tables.{Implications, triples_at, AreStanding};
 
-    ghost Value = { List Triple };
+    ghost Value = { Implications };
 
-    ghost view = { λ table. table.triples.items };
+    ghost view = { λ table. record { triples = triples_at table.places.items table.digraph.arcs; net = table.digraph } };
 
-    ghost invariant = { λ table. AreTripleKeys table.known table.triples.items };
+    ghost invariant = { λ table. AreStanding table.known table.places.items table.digraph.arcs };
 }
 
 impl TripleTable {
-    /// No triples, in a table with these keys. It takes no memory.
-    pub fn new(alloc: Global, keys: Keys) -> TripleTable
-        ensures { result ≡ [] }
+    /// No triples, in a table with these keys, over a digraph without arcs. It takes no memory.
+    pub fn new(alloc: Global, keys: Keys, digraph: Digraph<NodeId, ArcId>) -> TripleTable
+        requires { digraph.arcs ≡ [] }
+        ensures triples { result.triples ≡ [] }
+        ensures net { result.net ≡ digraph }
     {
         TripleTable {
-            triples: Arena::new(alloc),
+            places: Arena::new(alloc),
             known: NumberSet::new(alloc, keys),
+            digraph,
         }
     }
 
     /// How many triples there are. It takes no memory.
     pub fn len(&self) -> usize
-        ensures len { result ≡ length self.now }
-        ensures few { length self.now ≤ most_triples }
-        ensures nodes { All HasNodes self.now }
+        ensures len { result ≡ length self.now.triples }
+        ensures few { length self.now.triples ≤ most_triples }
+        ensures nodes { All HasNodes self.now.triples }
     {
-        self.triples.len()
+        self.places.len()
+    }
+
+    /// The digraph of the arcs. It takes no memory.
+    pub fn digraph(&self) -> &Digraph<NodeId, ArcId>
+        ensures { result.now ≡ self.now.net }
+    {
+        &self.digraph
+    }
+
+    /// Where the triple at a place stands, which has to be there. It takes no memory.
+    pub fn place_of(&self, place: usize) -> TriplePlace
+        requires { place < length self.now.triples }
+        ensures { (t : Triple) → slice_get self.now.triples place ≡ Some t → result ≡ standing t }
+    {
+        prove!(place < self.len());
+        let id = TripleId::from_place(place).unwrap();
+        *self.places.get(id)
+    }
+
+    /// The literals of the triple at a place, which has to be there. It takes no memory.
+    fn literals(&self, place: usize) -> (Lit, Lit)
+        requires { place < length self.now.triples }
+        ensures { (t : Triple) → slice_get self.now.triples place ≡ Some t → (result.0 ≡ t.first) × (result.1 ≡ t.second) }
+    {
+        prove!(place < self.len());
+        let arc = ArcId::from_place(place * 2).unwrap();
+        let (tail, head) = self.digraph.ends(arc);
+        (Lit::of_node(tail), Lit::of_node(head))
     }
 
     /// The triple at a place, which has to be there. It takes no memory.
     pub fn get(&self, place: usize) -> Triple
-        requires { place < length self.now }
-        ensures { slice_get self.now place ≡ Some result }
+        requires { place < length self.now.triples }
+        ensures { slice_get self.now.triples place ≡ Some result }
     {
-        prove!(place < self.len());
-        let id = TripleId::from_place(place).unwrap();
-        *self.triples.get(id)
+        let stands = self.place_of(place);
+        let (first, second) = self.literals(place);
+        Triple {
+            path: stands.path,
+            at: stands.at,
+            first,
+            second,
+        }
     }
 
     /// Whether the providers of the edges satisfy each triple: its second literal holds if its first does, and so for the
     /// negations of the second and the first. It takes no memory.
     pub fn are_satisfied(&self, ends: &[End]) -> bool
-        requires { All (λ t. (t.first.edge < length ends.now) × (t.second.edge < length ends.now)) self.now }
-        ensures { IsTrue result ↔ All (IsSatisfied ends.now) self.now }
+        requires { All (λ t. (t.first.edge < length ends.now) × (t.second.edge < length ends.now)) self.now.triples }
+        ensures { IsTrue result ↔ All (IsSatisfied ends.now) self.now.triples }
     {
         let mut place = 0;
         while place < self.len() {
-            if !is_satisfied(&self.get(place), ends) {
+            let (first, second) = self.literals(place);
+            if !is_satisfied(first, second, ends) {
                 return false;
             }
             place += 1;
@@ -83,7 +125,7 @@ impl TripleTable {
 
     /// Whether a triple is there whose literals have these nodes, or its reverse. It takes no memory.
     fn holds(&self, first: NodeId, second: NodeId) -> bool
-        ensures { (t : Triple) → HasNodes t → arc_of t ≡ (first, second) → (IsTrue result ↔ IsTrue (is_among self.now t)) }
+        ensures { (t : Triple) → HasNodes t → arc_of t ≡ (first, second) → (IsTrue result ↔ IsTrue (is_among self.now.triples t)) }
     {
         self.known.holds(number_of(key(first, second)))
     }
@@ -96,8 +138,8 @@ impl TripleTable {
         requires few { All (λ step. step.edge < max_numbers) steps.now }
         ensures from { from ≤ result }
         ensures inside { result ≤ length steps.now }
-        ensures known { AreKnownOn self.now steps.now from result }
-        ensures new { result < length steps.now → IsNewAt self.now steps.now result }
+        ensures known { AreKnownOn self.now.triples steps.now from result }
+        ensures new { result < length steps.now → IsNewAt self.now.triples steps.now result }
     {
         // a short way from one look-up to the next, so that the processor begins some before one has ended
         let mut first = Lit::of_step(&steps[from - 1]).node();
@@ -111,28 +153,47 @@ impl TripleTable {
         steps.len()
     }
 
-    /// Adds a triple, unless it or its reverse is there, and answers whether it was added. For want of memory nothing changes.
-    pub fn add(&mut self, triple: Triple) -> Result<bool, NoMemory>
+    /// Adds a triple and its arcs, unless it or its reverse is there. For want of memory nothing changes.
+    pub fn add(&mut self, triple: Triple) -> Result<(), NoMemory>
         requires nodes { HasNodes triple }
-        requires room { length self.old < most_triples }
-        ensures ok { IfOk result (λ is_new. IsTripleAdded triple self.old self.new is_new) }
+        requires first { triple.first.edge * 2 + 1 < self.old.net.nodes }
+        requires second { triple.second.edge * 2 + 1 < self.old.net.nodes }
+        requires room { length self.old.triples < most_triples }
+        ensures ok { OnOk result (self.new ≡ implying self.old (with_triple self.old.triples triple)) }
         ensures err { OnErr result (self.new ≡ self.old) }
     {
-        self.triples.reserve(1)?;
-        let number = number_of_triple(&triple);
-        let is_new = self.known.insert(number)?;
-        if is_new {
-            self.triples.push_reserved(triple);
+        let count = self.len();
+        self.places.reserve(1)?;
+        if !self.known.insert(number_of_triple(&triple))? {
+            return Ok(());
         }
-        Ok(is_new)
+        match add_arcs(&mut self.digraph, triple) {
+            Ok(()) => {
+                self.places.push_reserved(TriplePlace {
+                    path: triple.path,
+                    at: triple.at,
+                });
+                Ok(())
+            }
+            Err(NoMemory) => {
+                self.known.cut_to(count);
+                Err(NoMemory)
+            }
+        }
     }
 
-    /// Keeps the first `count` triples, of which there have to be as many. It takes no memory.
+    /// Keeps the first `count` triples, of which there have to be as many, and their arcs. It takes no memory.
     pub fn cut_to(&mut self, count: usize)
-        requires { count ≤ length self.old }
-        ensures { self.new ≡ take count self.old }
+        requires { count ≤ length self.old.triples }
+        ensures triples { self.new.triples ≡ take count self.old.triples }
+        ensures net { self.new.net ≡ first_part self.old.net self.old.net.nodes (count * 2) }
     {
-        self.triples.cut_to(count);
+        prove!(count <= self.len());
+        let nodes = self.digraph.node_count();
+        let arcs = count * 2;
+        prove!(arcs <= self.digraph.arc_count());
+        self.digraph.undo_to(GraphMark { nodes, arcs });
+        self.places.cut_to(count);
         self.known.cut_to(count);
     }
 }
@@ -165,11 +226,47 @@ fn number_of_triple(triple: &Triple) -> u64
     number_of(key(triple.first.node(), triple.second.node()))
 }
 
-/// Whether the clause of a triple is satisfied: its second literal holds if its first does.
-fn is_satisfied(triple: &Triple, ends: &[End]) -> bool
-    requires first { triple.now.first.edge < length ends.now }
-    requires second { triple.now.second.edge < length ends.now }
-    ensures { IsTrue result ↔ IsSatisfied ends.now triple.now }
+/// Adds the two arcs of a triple, both or, for want of memory, none.
+fn add_arcs(digraph: &mut Digraph<NodeId, ArcId>, triple: Triple) -> Result<(), NoMemory>
+    requires nodes { HasNodes triple }
+    requires first { triple.first.edge * 2 + 1 < digraph.old.nodes }
+    requires second { triple.second.edge * 2 + 1 < digraph.old.nodes }
+    requires few { length digraph.old.arcs + 2 ≤ most_places }
+    ensures ok { OnOk result (digraph.new ≡ record digraph.old { arcs = digraph.old.arcs ++ arcs_of triple }) }
+    ensures err { OnErr result (digraph.new ≡ digraph.old) }
 {
-    !triple.first.holds(ends) || triple.second.holds(ends)
+    let mark = digraph.mark();
+    add_arc(digraph, triple.first, triple.second)?;
+    match add_arc(digraph, triple.second.not(), triple.first.not()) {
+        Ok(()) => Ok(()),
+        Err(NoMemory) => {
+            digraph.undo_to(mark);
+            Err(NoMemory)
+        }
+    }
+}
+
+/// Adds the arc from one literal to another. For want of memory nothing changes.
+fn add_arc(digraph: &mut Digraph<NodeId, ArcId>, tail: Lit, head: Lit) -> Result<(), NoMemory>
+    requires nodes { (tail.edge < most_edges) × (head.edge < most_edges) }
+    requires tail { node_of tail < digraph.old.nodes }
+    requires head { node_of head < digraph.old.nodes }
+    requires few { length digraph.old.arcs < most_places }
+    ensures ok { OnOk result (digraph.new ≡ with_arc digraph.old tail head) }
+    ensures err { OnErr result (digraph.new ≡ digraph.old) }
+{
+    match digraph.add_arc(tail.node(), head.node()) {
+        Ok(_) => Ok(()),
+        Err(GraphRefused::Full) => unreachable!(),
+        Err(GraphRefused::NoMemory) => Err(NoMemory),
+    }
+}
+
+/// Whether the clause of a triple with these literals is satisfied: the second one holds if the first does.
+fn is_satisfied(first: Lit, second: Lit, ends: &[End]) -> bool
+    requires first { first.edge < length ends.now }
+    requires second { second.edge < length ends.now }
+    ensures { IsTrue result ↔ (Holds ends.now first → Holds ends.now second) }
+{
+    !first.holds(ends) || second.holds(ends)
 }

@@ -12,14 +12,14 @@ add_triples-requires-clause-few c =
 
 pub returns-in-Ok-clause-fits : goal.returns-in-Ok-clause-fits
 returns-in-Ok-clause-fits c =
-    let with_paths : List ℕ → Formula = λ ps. record { paths = ps; triples = c.self.inside.table; net = c.self.inside.digraph } in
+    let with_paths : List ℕ → Formula = λ ps. record { paths = ps; triples = c.self.inside.table.triples; net = c.self.inside.table.net } in
     let here : with_paths c.push.new.self.items ≡ record c.args.self.now { paths = c.args.self.now.paths ++ c.args.path ∷ [] } =
     subst (λ (f : Formula). with_paths c.push.new.self.items ≡ record f { paths = f.paths ++ c.args.path ∷ [] }) c.self.view_is (ap with_paths c.in_ok-push.ensures.items) in
     added_path c.args.graph.now c.args.self.now (with_paths c.push.new.self.items) c.add_triples.new.self c.args.path c.requires.fits c.requires.there here c.in-Ok.ensures.ok
 
 pub returns-in-Err-clause-err : goal.returns-in-Err-clause-err
 returns-in-Err-clause-err c =
-    let with_paths : List ℕ → Formula = λ ps. record { paths = ps; triples = c.self.inside.table; net = c.self.inside.digraph } in
+    let with_paths : List ℕ → Formula = λ ps. record { paths = ps; triples = c.self.inside.table.triples; net = c.self.inside.table.net } in
     let here : with_paths c.push.new.self.items ≡ record c.args.self.now { paths = c.args.self.now.paths ++ c.args.path ∷ [] } =
     subst (λ (f : Formula). with_paths c.push.new.self.items ≡ record f { paths = f.paths ++ c.args.path ∷ [] }) c.self.view_is (ap with_paths c.in_ok-push.ensures.items) in
     cut_back c.args.self.now (with_paths c.push.new.self.items) c.add_triples.new.self c.cut_to.new.self c.args.path c.mark-mark.result c.requires.fits.arcs here

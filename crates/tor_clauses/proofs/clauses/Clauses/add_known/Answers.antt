@@ -14,7 +14,7 @@ returns-clause-fits c =
     let known = c.requires.known in
     let old : Formula = c.args.self.now in
     let new : Formula = record old { paths = old.paths ++ c.args.path ∷ [] } in
-    let with_paths : List ℕ → Formula = λ ps. record { paths = ps; triples = c.self.inside.table; net = c.self.inside.digraph } in
+    let with_paths : List ℕ → Formula = λ ps. record { paths = ps; triples = c.self.inside.table.triples; net = c.self.inside.table.net } in
     let here : with_paths c.push.new.self.items ≡ new =
     subst (λ (f : Formula). with_paths c.push.new.self.items ≡ record f { paths = f.paths ++ c.args.path ∷ [] }) c.self.view_is (ap with_paths c.in_ok-push.ensures.items) in
     let same : new ≡ having new (with_triples new.triples (triples_on graph c.args.path)) =

@@ -56,7 +56,7 @@ loop-next-preserved c =
     record {
       from = omega (arith, on);
       added = skipped c.args.graph.now c.args.self.now c.add_triple.new.self c.args.path steps c.steps-steps.ensures.steps (c.loop-next.next + 1) c.first_new-next.result
-          (omega arith) on e.inside c.self.inside.table (ap (λ (f : Formula). f.triples) c.self.view_is) e.known added;
+          (omega arith) on e.inside c.self.inside.table.triples (ap (λ (f : Formula). f.triples) c.self.view_is) e.known added;
     }
 
 pub returns-in_err-add_triple-clause-err : goal.returns-in_err-add_triple-clause-err

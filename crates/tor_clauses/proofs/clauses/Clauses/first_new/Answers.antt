@@ -10,7 +10,7 @@ pub returns-then-place-steps-clause-some : goal.returns-then-place-steps-clause-
 returns-then-place-steps-clause-some c =
     let e = c.first_new-place.ensures in
     subst (λ (f : Formula). IsFirstNew c.args.graph.now c.args.path f.triples (c.first_new-place.result - 1)) c.self.view_is
-    (first_new_on c.args.graph.now c.args.path c.steps-steps.result.now c.steps-steps.ensures.steps c.self.inside.table c.first_new-place.result
+    (first_new_on c.args.graph.now c.args.path c.steps-steps.result.now c.steps-steps.ensures.steps c.self.inside.table.triples c.first_new-place.result
     e.from c.if-place-steps.true e.known (e.new c.if-place-steps.true))
 
 pub returns-else-place-steps-clause-none : goal.returns-else-place-steps-clause-none
@@ -19,8 +19,8 @@ returns-else-place-steps-clause-none c =
     let steps = c.steps-steps.result.now in
     let place = c.first_new-place.result in
     let e = c.first_new-place.ensures in
-    let known = among_on graph c.args.path steps c.steps-steps.ensures.steps c.self.inside.table place e.inside e.known in
+    let known = among_on graph c.args.path steps c.steps-steps.ensures.steps c.self.inside.table.triples place e.inside e.known in
     let short = triples_by_steps graph c.args.path steps c.steps-steps.ensures.steps in
     let past = c.if-place-steps.false in
-    let all = subst (AreAmong c.self.inside.table) (take_all (place - 1) (triples_on graph c.args.path) (omega (arith, short, past))) known in
+    let all = subst (AreAmong c.self.inside.table.triples) (take_all (place - 1) (triples_on graph c.args.path) (omega (arith, short, past))) known in
     subst (λ (f : Formula). AreAmong f.triples (triples_on graph c.args.path)) c.self.view_is all

@@ -9,13 +9,13 @@ use Rattle.tor_clauses.proofs.clauses.Clauses.holds.Goals as goal
 pub are_satisfied-requires : goal.are_satisfied-requires
 are_satisfied-requires c =
     let all = all_within c.args.graph.now c.args.self.now c.args.orientation.now c.facts.ensures.apart c.requires.fits c.requires.ends in
-    subst (λ ends. All (λ (t : Triple). (t.first.edge < length ends) × (t.second.edge < length ends)) c.self.inside.table) (sym c.as_slice.ensures)
+    subst (λ ends. All (λ (t : Triple). (t.first.edge < length ends) × (t.second.edge < length ends)) c.self.inside.table.triples) (sym c.as_slice.ensures)
     (subst (λ (f : Formula). All (λ (t : Triple). (t.first.edge < length c.args.orientation.now) × (t.second.edge < length c.args.orientation.now)) f.triples) (sym c.self.view_is) all)
 
 satisfied : (c : goal.After-are_satisfied) → (c.are_satisfied.result ≡ true) ↔ All (IsSatisfied c.args.orientation.now) c.args.self.now.triples
 satisfied c =
     subst (λ (f : Formula). (c.are_satisfied.result ≡ true) ↔ All (IsSatisfied c.args.orientation.now) f.triples) c.self.view_is
-    (subst (λ ends. (c.are_satisfied.result ≡ true) ↔ All (IsSatisfied ends) c.self.inside.table) c.as_slice.ensures c.are_satisfied.ensures)
+    (subst (λ ends. (c.are_satisfied.result ≡ true) ↔ All (IsSatisfied ends) c.self.inside.table.triples) c.as_slice.ensures c.are_satisfied.ensures)
 
 pub returns-clause-model : goal.returns-clause-model
 returns-clause-model c =

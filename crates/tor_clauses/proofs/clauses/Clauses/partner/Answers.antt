@@ -1,4 +1,5 @@
-use Rattle.std.proofs.Common.{rules, ◌≡◌, ◌*◌, ◌<◌, flat_map, length, sym, ap, ◌∙◌, subst, arith}
+use Rattle.std.proofs.Common.{rules, ℕ, ◌≡◌, ◌*◌, ◌<◌, flat_map, length, sym, ap, ◌∙◌, subst, arith}
+use Rattle.tor_digraph.specs.Walks.{Net}
 use Rattle.tor_clauses.specs.Triples.{arcs_of}
 use Rattle.tor_clauses.specs.Formulas.{Formula}
 use Rattle.tor_clauses.proofs.Arcs.{length-arcs, partner_even, partner_odd}
@@ -7,11 +8,12 @@ use Rattle.tor_clauses.proofs.clauses.Clauses.partner.Goals.{then-place-eq0, els
 
 pub prove-unreachable-requires : goal.prove-unreachable-requires
 prove-unreachable-requires c =
-    let many : length c.self.inside.digraph.arcs ≡ length c.self.inside.table * 2 = ap length c.self.invariant ∙ length-arcs c.self.inside.table in
-    let below : c.args.arc < length c.self.inside.digraph.arcs = subst (λ (f : Formula). c.args.arc < length f.net.arcs) (sym c.self.view_is) c.requires in
+    let many : length c.self.inside.table.net.arcs ≡ length c.self.inside.table.triples * 2 = ap length c.self.invariant ∙ length-arcs c.self.inside.table.triples in
+    let below : c.args.arc < length c.self.inside.table.net.arcs = subst (λ (f : Formula). c.args.arc < length f.net.arcs) (sym c.self.view_is) c.requires in
+    let same : length c.digraph.result.now.arcs ≡ length c.self.inside.table.net.arcs = ap (λ (n : Net ℕ). length n.arcs) c.digraph.ensures in
     elim c.if-place-eq0.branch [
-      | then-place-eq0 w ↦ omega (arith, many, below)
-      | else-place-eq0 w ↦ omega (arith, many, below)
+      | then-place-eq0 w ↦ omega (arith, many, below, same)
+      | else-place-eq0 w ↦ omega (arith, many, below, same)
     ]
 
 pub returns-clause-partner : goal.returns-clause-partner

@@ -7,8 +7,8 @@ use Rattle.tor_clauses.proofs.clauses.Clauses.triple_of.Goals as goal
 
 pub get-requires : goal.get-requires
 get-requires c =
-    let l : length c.self.inside.digraph.arcs ≡ length c.self.inside.table * 2 = ap length c.self.invariant ∙ length-arcs c.self.inside.table in
-    let below : c.args.arc < length c.self.inside.digraph.arcs = subst (λ (f : Formula). c.args.arc < length f.net.arcs) (sym c.self.view_is) c.requires in
+    let l : length c.self.inside.table.net.arcs ≡ length c.self.inside.table.triples * 2 = ap length c.self.invariant ∙ length-arcs c.self.inside.table.triples in
+    let below : c.args.arc < length c.self.inside.table.net.arcs = subst (λ (f : Formula). c.args.arc < length f.net.arcs) (sym c.self.view_is) c.requires in
     omega (arith, l, below, c.place.ensures.place)
 
 pub returns-clause-arc : goal.returns-clause-arc

@@ -45,7 +45,7 @@ loop-next-preserved c = record { first = first; known = known }
     first : (s : Step) → slice_get c.args.steps.now (next + 1 - 1) ≡ Some s → c.node-second.result ≡ node_of (lit_at s)
     first s at = let e : next + 1 - 1 ≡ next = omega arith in second s (subst (λ k. slice_get c.args.steps.now k ≡ Some s) e at)
 
-    known : AreKnownOn c.args.self.now c.args.steps.now c.args.from (next + 1)
+    known : AreKnownOn c.args.self.now.triples c.args.steps.now c.args.from (next + 1)
     known k s t le lt a b = elim (cases_eq (k + 1) next) [
       | inl e ↦ (
           let before : k ≡ next - 1 = omega (arith, e) in
@@ -70,4 +70,4 @@ returns-then-not-holds-clause-new c = λ lt k s t e a b.
     let before : k ≡ next - 1 = omega (arith, e) in
     let first = c.loop-next.invariant.first s (subst (λ n. slice_get steps n ≡ Some s) before a) in
     let is = c.holds.ensures (triple_by 0 0 s t) (small steps c.requires.few k s a, small steps c.requires.few (k + 1) t b) (ap₂ pair (sym first) (sym second)) in
-    false_from_ne_true (is_there c.args.self.now s t) (λ there. false≢true (sym c.if-not-holds.true ∙ is.1 there))
+    false_from_ne_true (is_there c.args.self.now.triples s t) (λ there. false≢true (sym c.if-not-holds.true ∙ is.1 there))

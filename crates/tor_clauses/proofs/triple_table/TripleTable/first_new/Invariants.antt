@@ -8,5 +8,5 @@ use Rattle.tor_clauses.proofs.triple_table.TripleTable.first_new.Given as goal
 abbrev pub invariant-loop-next : goal.invariant-loop-next
 invariant-loop-next l = record {
   first : (s : Step) → slice_get l.steps (l.next - 1) ≡ Some s → l.first ≡ node_of (lit_at s);
-  known : AreKnownOn l.self l.steps l.from l.next;
+  known : AreKnownOn l.self.triples l.steps l.from l.next;
 }
