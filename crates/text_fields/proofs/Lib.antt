@@ -1,4 +1,5 @@
 mod Digits
 mod DigitsRead
+mod Padding
 pub mod Readers
 mod Words

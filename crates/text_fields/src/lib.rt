@@ -4,5 +4,5 @@
 mod numbers;
 mod reading;
 
-pub use numbers::{put_number, write_digits};
+pub use numbers::{put_number, write_digits, write_number};
 pub use reading::{after, after_byte, u32_before, u32_of, u64_before};
