@@ -1,6 +1,6 @@
 -- The chains of arcs stay right as arcs and nodes come and go.
 use Rattle.std.proofs.Common.{◌≡◌, ◌≢◌, ℕ, zero, suc, ◌+◌, ◌<◌, ◌≤◌, inl, inr, List, [], ◌∷◌, ◌++◌, Option, Some, None, length, take, set, refl, sym, ◌∙◌, ap, subst, arith, length-append, length-set}
-use Rattle.std.specs.Prelude.{slice_get, replicate}
+use Rattle.std.specs.Prelude.{slice_get, replicate, option_map, IfSome}
 use Rattle.std.proofs.lemmas.List.{length_push, length-take-le}
 use Rattle.std.proofs.lemmas.Option.{slice_get_within}
 use Rattle.tor_digraph.specs.Walks.{IsArc, IsInside}
@@ -58,6 +58,21 @@ module _ {N A : Type 0} (spot : A → ℕ) where
     where
       same-arc : spot a ≡ m → ◌≡◌ {A = N × N} (u, l.1.0) (t, h)
       same-arc q = let at : slice_get arcs m ≡ Some (u, l.1.0) = subst (λ i. slice_get arcs i ≡ Some (u, l.1.0)) q l.1.1 in cc
+
+-- what the latest arc is by its place, it is by its index
+module _ {N A : Type 0} (spot : A → ℕ) where
+  latest-named : (arcs : List (N × N)) (u : N) (high : ℕ) (r : Option A) → IsLatest (λ k. k) arcs u high (option_map spot r) → IsLatest spot arcs u high r
+  latest-named arcs u high None l = l
+  latest-named arcs u high (Some a) l = l
+
+  pub latest-by_index : (arcs : List (N × N)) (u : N) (high : ℕ) (at : Option ℕ) (r : Option A) → option_map spot r ≡ at → IsLatest (λ k. k) arcs u high at
+      → IsLatest spot arcs u high r
+  latest-by_index arcs u high at r is l = latest-named arcs u high r (subst (λ z. IsLatest (λ k. k) arcs u high z) (sym is) l)
+
+-- its place has an index
+pub latest-below : {N : Type 0} (arcs : List (N × N)) (u : N) (high most : ℕ) (at : Option ℕ) → high ≤ most → IsLatest (λ k. k) arcs u high at → IfSome at (λ k. k < most)
+latest-below arcs u high most None le l = tt
+latest-below arcs u high most (Some k) le l = let below : k < high = l.0 in omega (arith, below, le)
 
 module _ {N A : Type 0} (place : N → ℕ) (spot : A → ℕ) (one : (u v : N) → place u ≡ place v → u ≡ v) (first : List (Option A)) (arcs : List (N × N)) (links : List (Option A)) where
   pub linked-add : (t h : N) (a : A) (r : Option A) → IsChained place spot first arcs links → place t < length first → place h < length first →

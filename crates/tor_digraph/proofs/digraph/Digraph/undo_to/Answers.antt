@@ -1,4 +1,5 @@
 use Rattle.std.proofs.Common.{◌≡◌, ◌-◌, ◌≤◌, length, refl, sym, ◌∙◌, ap, subst, arith, length-set}
+use Rattle.std.proofs.lemmas.List.{length-take-le}
 use Rattle.std.specs.Prelude.{IfSome, Some, slice_get}
 use Rattle.tor_digraph.specs.Walks.{IsArc}
 use Rattle.tor_digraph.proofs.Chains.{linked-drop_made, linked-undo}
@@ -12,7 +13,7 @@ loop-left-preserved g c =
       within = omega arith;
       ends = c.loop-left.invariant.ends;
       nodes = ap length c.put.ensures.items ∙ length-set _ _ _ ∙ c.loop-left.invariant.nodes;
-      linked = linked-drop_made g.N.Index.place_of g.A.Index.place_of g.met.N.Index.is_one c.loop-left.self-inside.first.items _ _ c.loop-left.left
+      linked = linked-drop_made g.N.Index.place_of (λ place. place) g.met.N.Index.is_one c.loop-left.self-inside.first.items _ _ c.loop-left.left
           (c.loop-left.left - 1) c.get.result.now.0 c.get.result.now.1 c.get-link.result.now
           c.loop-left.self-inside.ends.items c.loop-left.self-inside.links.items (omega arith) c.loop-left.invariant.within refl refl c.loop-left.invariant.linked
           (subst (λ k. IsArc c.loop-left.self-inside.ends.items k c.get.result.now.0 c.get.result.now.1) at c.get.ensures)
@@ -24,8 +25,14 @@ pub invariant_of-self : goal.invariant_of-self
 invariant_of-self g c =
     let left-is : c.loop-left.left ≡ c.args.mark.arcs = omega arith in
     let le : c.args.mark.nodes ≤ length c.loop-left.self-inside.first.items = subst (λ n. c.args.mark.nodes ≤ n) (sym c.loop-left.invariant.nodes) c.requires.nodes in
-    linked-undo g.N.Index.place_of g.A.Index.place_of g.met.N.Index.is_one c.loop-left.self-inside.first.items c.cut_to-3.new.self.items
-    c.loop-left.self-inside.ends.items c.cut_to.new.self.items c.args.self.now.arcs c.loop-left.self-inside.links.items c.cut_to-2.new.self.items
-    c.loop-left.left c.args.mark.arcs c.args.mark.nodes
-    left-is c.loop-left.invariant.linked le c.loop-left.invariant.ends c.requires.inside
-    c.cut_to-3.ensures.items c.cut_to.ensures.items c.cut_to-2.ensures.items
+    let cut = ap length c.cut_to.ensures.items ∙ length-take-le c.args.mark.arcs c.loop-left.self-inside.ends.items (subst (λ k. k ≤ length c.loop-left.self-inside.ends.items) left-is c.loop-left.invariant.within) in
+    let whole : length c.self.inside.ends.items ≡ length c.args.self.now.arcs = ap (λ net. length net.arcs) c.self.view_is in
+    let there = c.requires.arcs in
+    let few = c.self.invariant.0 in (
+      omega (arith, cut, whole, there, few),
+      linked-undo g.N.Index.place_of (λ place. place) g.met.N.Index.is_one c.loop-left.self-inside.first.items c.cut_to-3.new.self.items
+          c.loop-left.self-inside.ends.items c.cut_to.new.self.items c.args.self.now.arcs c.loop-left.self-inside.links.items c.cut_to-2.new.self.items
+          c.loop-left.left c.args.mark.arcs c.args.mark.nodes
+          left-is c.loop-left.invariant.linked le c.loop-left.invariant.ends c.requires.inside
+          c.cut_to-3.ensures.items c.cut_to.ensures.items c.cut_to-2.ensures.items,
+    )

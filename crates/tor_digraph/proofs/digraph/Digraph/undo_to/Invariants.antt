@@ -8,7 +8,7 @@ invariant-loop-left g l = record {
   within : l.left ≤ length l.self-inside.ends.items;
   ends : l.self-inside.ends.items ≡ l.fn.self.arcs;
   nodes : length l.self-inside.first.items ≡ l.fn.self.nodes;
-  linked : IsChained g.N.Index.place_of g.A.Index.place_of l.self-inside.first.items (take l.left l.self-inside.ends.items) (take l.left l.self-inside.links.items);
+  linked : IsChained g.N.Index.place_of (λ place. place) l.self-inside.first.items (take l.left l.self-inside.ends.items) (take l.left l.self-inside.links.items);
 }
 
 abbrev pub decreases-loop-left : goal.decreases-loop-left
