@@ -1,5 +1,5 @@
 -- Batches of merged routes.
-use Rattle.std.proofs.Common.{◌≡◌, ◌∙◌, ◌+◌, ◌<◌, ◌≤◌, ◌++◌, ◌∷◌, [], List, ℕ, zero, suc, Bool, true, false, cond, Option, Some, None, Result, Ok, Err, option_map, bytes_eq, length, drop, map}
+use Rattle.std.proofs.Common.{◌≡◌, ◌∙◌, ◌+◌, ◌<◌, ◌≤◌, ◌++◌, ◌∷◌, [], List, ℕ, zero, suc, Bool, true, false, cond, Option, Some, None, Result, Ok, Err, option_map, bytes_eq, length, drop}
 use Rattle.std.proofs.Common.{slice_get, nat_eq, refl, ap, sym, subst, arith}
 use Rattle.std.specs.Prelude.{is_some, OnOk}
 use Rattle.std.proofs.lemmas.List.{length-append, length-map}
@@ -19,7 +19,7 @@ use Rattle.dump_read.specs.declared.error.LimitKind.{LimitKind}
 use Rattle.dump_read.specs.declared.error.LimitKind.TheVariants.{Paths, Numbers}
 use Rattle.dump_read.specs.Routes.{Route}
 use Rattle.dump_read.specs.declared.taking.Untaken.{Untaken}
-use Rattle.dump_read.specs.Batches.{StandAtPlaces, StandsAt, AreOf, Batched, merged, merged_by, IsBatch, IsLimitAt, TakesAt}
+use Rattle.dump_read.specs.Batches.{StandAtPlaces, AreOf, Batched, merged, merged_by, IsBatch, IsLimitAt, TakesAt}
 use Rattle.dump_read.specs.Refusals.{IsLimit}
 use Rattle.dump_read.specs.Taking.{Taken, take_cleaned, take_path, take_routes, Takes, with_one, has_too_many_numbers}
 use Rattle.dump_read.proofs.Takings.{SoFar, one_more as one_route_more, limit_at, all_taken}
