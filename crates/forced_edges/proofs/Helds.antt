@@ -17,8 +17,7 @@ use Rattle.relationships.proofs.Slopes.{over_parts, over-low, over-high}
 use Rattle.tor_digraph.specs.Walks.{Reaches}
 use Rattle.as_graph.specs.Paths.{paths_at}
 use Rattle.as_graph.proofs.Labelled.{NoneTwice-distinct, labelling_at}
-use Rattle.tor_clauses.specs.declared.lit.Lit.{Lit}
-use Rattle.tor_clauses.specs.Literals.{negated, node_of, lit_of, opposite_node, Says}
+use Rattle.tor_clauses.specs.Literals.{Literal, negated, node_of, lit_of, opposite_node, Says}
 use Rattle.tor_clauses.specs.Formulas.{Formula, FitsGraph}
 use Rattle.tor_clauses.specs.Flipping as flipping
 use Rattle.tor_clauses.specs.Flipping.{HasPartners, HoldsOne, IsKeptAlong, ReachesOff}
@@ -137,9 +136,9 @@ module _ (labels : List Label) (arcs : List (ℕ × ℕ)) (past nodes : List ℕ
 at_end : (labels : List Label) (edge : ℕ) (over : End) (label : Label) → slice_get labels edge ≡ Some label → (m : ℕ) → m ≡ node_of (record { edge = edge; over = over }) →
     held labels m ≡ is_end (end_of_label label) over
 at_end labels edge over label at m e =
-    let lit : Lit = record { edge = edge; over = over } in
+    let lit : Literal = record { edge = edge; over = over } in
     let same : lit_of m ≡ lit = ap lit_of e ∙ lit_of_node lit in
-    subst (λ (l : Lit). is_end (end_of_label (get_or labels l.edge Label.Low)) l.over ≡ is_end (end_of_label label) over) (sym same)
+    subst (λ (l : Literal). is_end (end_of_label (get_or labels l.edge Label.Low)) l.over ≡ is_end (end_of_label label) over) (sym same)
     (ap (λ v. is_end (end_of_label v) over) (get_or_from_slice_get labels edge label Label.Low at))
 
 -- the order against a label is not held

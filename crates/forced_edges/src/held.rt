@@ -29,7 +29,7 @@ pub(crate) fn held_nodes(alloc: Global, labels: &[Label]) -> Result<NodeSet, NoM
     for place in 0..labels.len() {
         let edge = EdgeId::from_place(place).unwrap();
         let over = end_by(labels[place]);
-        nodes.add(Lit { edge, over }.node())?;
+        nodes.add(Lit::new(edge, over).node())?;
     }
     Ok(nodes)
 }

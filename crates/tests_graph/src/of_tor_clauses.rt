@@ -28,10 +28,7 @@ fn literal(place: usize, over: End) -> Lit
     requires { place < 3 }
     ensures { result ≡ record { edge = place; over = over } }
 {
-    Lit {
-        edge: EdgeId::from_place(place).unwrap(),
-        over,
-    }
+    Lit::new(EdgeId::from_place(place).unwrap(), over)
 }
 
 /// Whether two literals are opposite, the place of the node of the first, and whether that node is that of the first.

@@ -7,7 +7,7 @@ use Rattle.std.proofs.lemmas.List.Concat.{flat_map-append}
 use Rattle.std.proofs.lemmas.List.Elements.{All-push}
 use Rattle.relationships.specs.Graph.{edges}
 use Rattle.tor_arena.proofs.Gets.{slice_get-some}
-use Rattle.as_graph.specs.declared.step.Step.{Step}
+use Rattle.as_graph.specs.EdgeSteps.{EdgeStep}
 use Rattle.as_graph.specs.Paths.{path_at}
 use Rattle.as_graph.specs.Steps.{AreSteps}
 use Rattle.tor_clauses.specs.declared.triple.Triple.{Triple}
@@ -42,7 +42,7 @@ added_one f now new ts k t e there h =
     ap (having f) (sym (ap (with_triples f.triples) (take_get ts k t there) ∙ with_triples-push (take k ts) f.triples t))
 
 -- triples that are there already change nothing
-pub skipped : (graph : List (List ℕ)) (f now : Formula) (path : ℕ) (steps : List Step) → AreSteps (edges graph) (path_at graph path) steps → (from to : ℕ) → 1 ≤ from → from ≤ to →
+pub skipped : (graph : List (List ℕ)) (f now : Formula) (path : ℕ) (steps : List EdgeStep) → AreSteps (edges graph) (path_at graph path) steps → (from to : ℕ) → 1 ≤ from → from ≤ to →
     to ≤ length steps → (ts : List Triple) → ts ≡ now.triples → AreKnownOn ts steps from to → now ≡ having f (with_triples f.triples (take (from - 1) (triples_on graph path))) →
     now ≡ having f (with_triples f.triples (take (to - 1) (triples_on graph path)))
 skipped graph f now path steps are from to some le inside ts these known_there e =

@@ -6,7 +6,7 @@ use Rattle.std.proofs.lemmas.List.Elements.{All-head, All-tail, All-take}
 use Rattle.std.proofs.lemmas.Option.{get_or_from_slice_get, slice_get_within, same_Some}
 use Rattle.relationships.specs.Graph.{edges}
 use Rattle.tor_arena.proofs.Gets.{slice_get-some}
-use Rattle.as_graph.specs.declared.step.Step.{Step}
+use Rattle.as_graph.specs.EdgeSteps.{EdgeStep}
 use Rattle.as_graph.specs.Paths.{path_at}
 use Rattle.as_graph.specs.Steps.{AreSteps}
 use Rattle.tor_clauses.specs.declared.triple.Triple.{Triple}
@@ -28,7 +28,7 @@ pub known_first : (ts more : List Triple) (n m : ℕ) → n ≤ m → AreAmong t
 known_first ts more n m le there = subst (AreAmong ts) (take-take n m more le) (All-take (λ u. is_among ts u ≡ true) n (take m more) there)
 
 -- what is known of steps is known of the triples that they make
-pub among_on : (graph : List (List ℕ)) (path : ℕ) (steps : List Step) → AreSteps (edges graph) (path_at graph path) steps → (ts : List Triple) (to : ℕ) → to ≤ length steps →
+pub among_on : (graph : List (List ℕ)) (path : ℕ) (steps : List EdgeStep) → AreSteps (edges graph) (path_at graph path) steps → (ts : List Triple) (to : ℕ) → to ≤ length steps →
     AreKnownOn ts steps 1 to → AreAmong ts (take (to - 1) (triples_on graph path))
 among_on graph path steps are ts to inside known k d lt =
     let n = length-take (to - 1) (triples_on graph path) in
@@ -42,7 +42,7 @@ among_on graph path steps are ts to inside known k d lt =
     (known k s.0 t.0 (omega arith) (omega (arith, lt, n)) s.1 (subst (λ i. slice_get steps i ≡ Some t.0) next t.1))
 
 -- where the triple of two steps is new, and those of the steps before are there, it is the first of the path's that is
-pub first_new_on : (graph : List (List ℕ)) (path : ℕ) (steps : List Step) → AreSteps (edges graph) (path_at graph path) steps → (ts : List Triple) (place : ℕ) → 1 ≤ place → place < length steps →
+pub first_new_on : (graph : List (List ℕ)) (path : ℕ) (steps : List EdgeStep) → AreSteps (edges graph) (path_at graph path) steps → (ts : List Triple) (place : ℕ) → 1 ≤ place → place < length steps →
     AreKnownOn ts steps 1 place → IsNewAt ts steps place → IsFirstNew graph path ts (place - 1)
 first_new_on graph path steps are ts place some inside known new = record {
   there = slice_get_within (triples_on graph path) k (triple_by path (2 + k) s.0 t.0) at;
@@ -56,10 +56,10 @@ first_new_on graph path steps are ts place some inside known new = record {
     next : suc k ≡ k + 1
     next = omega arith
 
-    s : (x : Step) × (slice_get steps k ≡ Some x)
+    s : (x : EdgeStep) × (slice_get steps k ≡ Some x)
     s = slice_get-some steps k (omega (arith, some, inside))
 
-    t : (x : Step) × (slice_get steps (suc k) ≡ Some x)
+    t : (x : EdgeStep) × (slice_get steps (suc k) ≡ Some x)
     t = slice_get-some steps (suc k) (omega (arith, some, inside))
 
     at : slice_get (triples_on graph path) k ≡ Some (triple_by path (2 + k) s.0 t.0)

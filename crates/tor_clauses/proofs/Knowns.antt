@@ -7,9 +7,8 @@ use Rattle.std.proofs.lemmas.List.{take-map, length-take-le}
 use Rattle.std.proofs.lemmas.List.Elements.{All-take, All-head, All-tail, Contains-append_left, Contains-append_right, Contains-append_cases}
 use Rattle.relationships.specs.Graph.{Edge}
 use Rattle.tor_clauses.specs.declared.triple.Triple.{Triple}
-use Rattle.tor_clauses.specs.Literals.{negated, node_of, opposite_node}
+use Rattle.tor_clauses.specs.Literals.{Literal, negated, node_of, opposite_node}
 use Rattle.tor_clauses.specs.Triples.{arc_of, partner_of, is_same_triple}
-use Rattle.tor_clauses.specs.declared.lit.Lit.{Lit}
 use Rattle.tor_clauses.specs.Tables.{HasNodes, AreTripleKeys, triple_key, key_of_arc, number_of_pair}
 use Rattle.tor_numbers.specs.Slots.{IsInserted}
 use Rattle.tor_numbers.proofs.SlotLemmas.{alone, contains_one, contains_none}
@@ -78,7 +77,7 @@ same_pair e f a b h = ap₂ pair (omega (arith, a, b, h)) (omega (arith, a, b, h
     pair : ℕ → ℕ → Edge
     pair m n = (m, n)
 
-node_small : (l : Lit) → l.edge < 2 ^ 27 → node_of l < 2 ^ 32
+node_small : (l : Literal) → l.edge < 2 ^ 27 → node_of l < 2 ^ 32
 node_small l h = let n = node_below l (2 ^ 27) h in omega (arith, n)
 
 key_small : (t : Triple) → HasNodes t → (triple_key t).1 < 2 ^ 32
@@ -129,9 +128,9 @@ is_known t number keys ts h known e = (
 pub key-arc : (t : Triple) → key_of_arc (arc_of t) ≡ triple_key t
 key-arc t = ap (lesser (arc_of t)) (partner-reversed t)
 
-pub number_is : (t : Triple) (number first second : ℕ) (pair : Edge) → first ≡ node_of t.first → second ≡ node_of t.second → pair ≡ key_of_arc (first, second) →
-    number ≡ number_of_pair pair → number ≡ key_number t
-number_is t number first second pair e f h n = n ∙ ap number_of_pair (h ∙ ap₂ arc_with e f ∙ key-arc t)
+pub number_is : (t : Triple) (number first second : ℕ) → first ≡ node_of t.first → second ≡ node_of t.second → number ≡ number_of_pair (key_of_arc (first, second)) →
+    number ≡ key_number t
+number_is t number first second e f n = n ∙ ap number_of_pair (ap₂ arc_with e f ∙ key-arc t)
   where
     arc_with : ℕ → ℕ → Edge
     arc_with a b = key_of_arc (a, b)

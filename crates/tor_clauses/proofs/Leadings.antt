@@ -12,8 +12,7 @@ use Rattle.relationships.specs.declared.walk.Walk.{Walk}
 use Rattle.relationships.specs.Graph.{Edge, edges}
 use Rattle.relationships.specs.Evidence.{Numbered, Fits, IsLinked, HasPair, Refutes}
 use Rattle.relationships.proofs.Ranks.{joined}
-use Rattle.tor_clauses.specs.declared.lit.Lit.{Lit}
-use Rattle.tor_clauses.specs.Literals.{lit_of, Says}
+use Rattle.tor_clauses.specs.Literals.{Literal, lit_of, Says}
 use Rattle.tor_clauses.specs.Formulas.{numbered, IsLinkOf}
 use Rattle.tor_clauses.specs.Leading.{Leads, LeadsTo, IsPlainWay}
 
@@ -53,7 +52,7 @@ left_high : (x y : ℕ) → y ≤ x → end_left x y ≡ End.High
 left_high x y le = rw (le-ltb x y le)
 
 -- a literal says one order
-says_one : (es : List Edge) (lit : Lit) (x y u v : ℕ) → Says es lit x y → Says es lit u v → (x ≡ u) × (y ≡ v)
+says_one : (es : List Edge) (lit : Literal) (x y u v : ℕ) → Says es lit x y → Says es lit u v → (x ≡ u) × (y ≡ v)
 says_one es lit x y u v s t = both (cases_lt x y) (cases_lt u v)
   where
     same : ◌≡◌ {A = ℕ × ℕ} (min x y, max x y) (min u v, max u v)

@@ -3,17 +3,17 @@ use Rattle.std.proofs.Common.{◌≡◌, ℕ, inl, inr, ◌+◌, ◌*◌, ◌/�
 use Rattle.std.proofs.lemmas.Bool.{cases_eq}
 use Rattle.relationships.specs.declared.label.End.{End}
 use Rattle.relationships.specs.Relationship.{opposite}
-use Rattle.tor_clauses.specs.declared.lit.Lit.{Lit}
-use Rattle.tor_clauses.specs.Literals.{negated, side, end_of, node_of, lit_of, opposite_node}
+use Rattle.as_graph.specs.EdgeSteps.{side, end_of}
+use Rattle.tor_clauses.specs.Literals.{Literal, negated, node_of, lit_of, opposite_node}
 
 pub opposite_twice : (e : End) → opposite (opposite e) ≡ e
 opposite_twice End.Low = refl
 opposite_twice End.High = refl
 
-abbrev pub lit_with : ℕ → End → Lit
+abbrev pub lit_with : ℕ → End → Literal
 lit_with k e = record { edge = k; over = e }
 
-pub negated_twice : (l : Lit) → negated (negated l) ≡ l
+pub negated_twice : (l : Literal) → negated (negated l) ≡ l
 negated_twice l = ap (lit_with l.edge) (opposite_twice l.over)
 
 half : (k : ℕ) (e : End) → (k * 2 + side e) / 2 ≡ k
@@ -24,10 +24,10 @@ rest : (k : ℕ) (e : End) → end_of ((k * 2 + side e) % 2) ≡ e
 rest k End.Low = let h : (k * 2 + 0) % 2 ≡ 0 = omega arith in rw h refl
 rest k End.High = let h : (k * 2 + 1) % 2 ≡ 1 = omega arith in rw h refl
 
-abbrev lit : ℕ → End → Lit
+abbrev lit : ℕ → End → Literal
 lit k e = record { edge = k; over = e }
 
-pub lit_of_node : (l : Lit) → lit_of (node_of l) ≡ l
+pub lit_of_node : (l : Literal) → lit_of (node_of l) ≡ l
 lit_of_node l = ap₂ lit (half l.edge l.over) (rest l.edge l.over)
 
 side_of_end : (n : ℕ) → side (end_of (n % 2)) ≡ n % 2
@@ -39,12 +39,12 @@ side_of_end n = elim (cases_eq (n % 2) 0) [
 pub node_of_lit : (n : ℕ) → node_of (lit_of n) ≡ n
 node_of_lit n = let h = side_of_end n in omega (arith, h)
 
-pub same_literal : (l m : Lit) → node_of l ≡ node_of m → l ≡ m
+pub same_literal : (l m : Literal) → node_of l ≡ node_of m → l ≡ m
 same_literal l m e = sym (lit_of_node l) ∙ ap lit_of e ∙ lit_of_node m
 
 -- ---- the node of the negation
 
-pub opposite_node-node : (l : Lit) → opposite_node (node_of l) ≡ node_of (negated l)
+pub opposite_node-node : (l : Literal) → opposite_node (node_of l) ≡ node_of (negated l)
 opposite_node-node l = ap (λ m. node_of (negated m)) (lit_of_node l)
 
 pub opposite_node_twice : (n : ℕ) → opposite_node (opposite_node n) ≡ n
@@ -52,7 +52,7 @@ opposite_node_twice n = opposite_node-node (negated (lit_of n)) ∙ ap node_of (
 
 -- ---- how many nodes there are
 
-pub node_below : (l : Lit) (n : ℕ) → l.edge < n → node_of l < n * 2
+pub node_below : (l : Literal) (n : ℕ) → l.edge < n → node_of l < n * 2
 node_below l n h = let s = side_below l.over in omega (arith, h, s)
   where
     side_below : (e : End) → side e < 2

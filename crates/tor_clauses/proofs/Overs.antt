@@ -12,8 +12,7 @@ use Rattle.relationships.specs.Graph.{Edge, edge_of, is_same, edges_from, edges_
 use Rattle.relationships.proofs.Edges.{same_edge}
 use Rattle.relationships.proofs.Slopes.{over_parts, over-low, over-high}
 use Rattle.tor_arena.proofs.Gets.{slice_get-some}
-use Rattle.tor_clauses.specs.declared.lit.Lit.{Lit}
-use Rattle.tor_clauses.specs.Literals.{negated, over, Says, Holds}
+use Rattle.tor_clauses.specs.Literals.{Literal, negated, over, Says, Holds}
 use Rattle.tor_clauses.proofs.LiteralLemmas.{lit_with}
 use Rattle.tor_clauses.proofs.Members.{In, In-flat_map, get-In}
 use Rattle.tor_clauses.proofs.Distincts.{distinct_by, Apart, apart-distinct, In-distinct}
@@ -102,7 +101,7 @@ pub Says-over : (es : List Edge) (x y : ℕ) → In (edge_of x y) es → x ≢ y
 Says-over es x y h ne = record { edge = place_found (edge_of x y) es h; end = refl; two = ne }
 
 -- the negation says the other order
-pub Says-negated : (es : List Edge) (l : Lit) (x y : ℕ) → Says es l x y → Says es (negated l) y x
+pub Says-negated : (es : List Edge) (l : Literal) (x y : ℕ) → Says es l x y → Says es (negated l) y x
 Says-negated es l x y s = record {
   edge = s.edge ∙ ap Some (sym (edge_reverse x y));
   end = ap opposite s.end ∙ sym (end_reversed x y s.two);
@@ -110,7 +109,7 @@ Says-negated es l x y s = record {
 }
 
 -- a literal says one order only
-pub Says-one : (es : List Edge) (l : Lit) (x y a b : ℕ) → Says es l x y → Says es l a b → (x ≡ a) × (y ≡ b)
+pub Says-one : (es : List Edge) (l : Literal) (x y a b : ℕ) → Says es l x y → Says es l a b → (x ≡ a) × (y ≡ b)
 Says-one es l x y a b s t = elim (cases_order x y) [
   | inl e ↦ absurd (s.two e)
   | inr o ↦ elim (cases_order a b) [
@@ -169,7 +168,7 @@ is_high-end End.Low h = absurd (false≢true h)
 is_high-end End.High h = refl
 
 module _ (es : List Edge) (ends : List End) (apart : Apart is_same es) where
-  pub over-holds : (l : Lit) (x y : ℕ) → Says es l x y → Holds ends l → is_over (labels_of (orientation es ends)) x y ≡ true
+  pub over-holds : (l : Literal) (x y : ℕ) → Says es l x y → Holds ends l → is_over (labels_of (orientation es ends)) x y ≡ true
   over-holds l x y s h =
       let p = provider es ends l.edge (edge_of x y) l.over apart s.edge h in
       elim (cases_order x y) [
@@ -192,7 +191,7 @@ module _ (es : List Edge) (ends : List End) (apart : Apart is_same es) where
       high_left : (c d : ℕ) → d < c → end_left c d ≡ End.High
       high_left c d lt = rw (le-ltb c d (omega (arith, lt))) refl
 
-  pub holds-over : length ends ≡ length es → (l : Lit) (x y : ℕ) → Says es l x y → is_over (labels_of (orientation es ends)) x y ≡ true → Holds ends l
+  pub holds-over : length ends ≡ length es → (l : Literal) (x y : ℕ) → Says es l x y → is_over (labels_of (orientation es ends)) x y ≡ true → Holds ends l
   holds-over same l x y s h =
       let lt = slice_get_within es l.edge (edge_of x y) s.edge in
       let r = slice_get-some ends l.edge (omega (arith, lt, same)) in

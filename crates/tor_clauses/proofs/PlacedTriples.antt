@@ -9,20 +9,19 @@ use Rattle.relationships.specs.declared.label.End.{End}
 use Rattle.relationships.specs.Graph.{Edge}
 use Rattle.tor_arena.proofs.Gets.{slice_get-some}
 use Rattle.tor_digraph.specs.Walks.{Net}
-use Rattle.tor_clauses.specs.declared.lit.Lit.{Lit}
 use Rattle.tor_clauses.specs.declared.triple.Triple.{Triple}
 use Rattle.tor_clauses.specs.declared.triple.TriplePlace.{TriplePlace}
-use Rattle.tor_clauses.specs.Literals.{lit_of, Holds}
+use Rattle.tor_clauses.specs.Literals.{Literal, lit_of, Holds}
 use Rattle.tor_clauses.specs.Triples.{arc_of, partner_of, arcs_of, is_among}
 use Rattle.tor_clauses.specs.Tables.{Implications, HasNodes, IsSatisfied, AreTripleKeys, AreStanding, standing, triple_with, triples_at, implying, with_triple}
 use Rattle.tor_clauses.proofs.LiteralLemmas.{lit_of_node}
 use Rattle.tor_clauses.proofs.Arcs.{take-arcs}
 use Rattle.tor_clauses.proofs.Knowns.{key_number, known-cut}
 
-abbrev pub with_literals : TriplePlace → Lit → Lit → Triple
+abbrev pub with_literals : TriplePlace → Literal → Literal → Triple
 with_literals p l m = record { path = p.path; at = p.at; first = l; second = m }
 
-pub read_triple : (t : Triple) (p : TriplePlace) (l m : Lit) → p ≡ standing t → (l ≡ t.first) × (m ≡ t.second) → with_literals p l m ≡ t
+pub read_triple : (t : Triple) (p : TriplePlace) (l m : Literal) → p ≡ standing t → (l ≡ t.first) × (m ≡ t.second) → with_literals p l m ≡ t
 read_triple t p l m e f = ap (λ q. with_literals q l m) e ∙ ap₂ (with_literals (standing t)) f.0 f.1
 
 pub same_triple : (t : Triple) → triple_with (standing t) (arc_of t) ≡ t
@@ -89,7 +88,7 @@ module _ (known : List ℕ) (ps : List TriplePlace) (arcs : List Edge) (are : Ar
         let same : triple_with p.0 e ≡ t = same_Some _ _ (sym (triples_at-get ps arcs k p.0 e are.many p.1 arc) ∙ there) in
         (ap (λ (u : Triple). u.first) same, ap (λ (u : Triple). u.second) same)
 
-module _ (ends : List End) (t : Triple) (l m : Lit) (are : (l ≡ t.first) × (m ≡ t.second)) where
+module _ (ends : List End) (t : Triple) (l m : Literal) (are : (l ≡ t.first) × (m ≡ t.second)) where
   pub satisfied_by : (Holds ends l → Holds ends m) → IsSatisfied ends t
   satisfied_by h = λ first. subst (Holds ends) are.1 (h (subst (Holds ends) (sym are.0) first))
 

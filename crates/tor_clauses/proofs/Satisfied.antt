@@ -9,9 +9,8 @@ use Rattle.relationships.specs.Evidence.{NeighboursDiffer}
 use Rattle.relationships.specs.Relationship.{opposite}
 use Rattle.relationships.specs.Graph.{Edge, edges}
 use Rattle.tor_arena.proofs.Gets.{slice_get-some}
-use Rattle.tor_clauses.specs.declared.lit.Lit.{Lit}
 use Rattle.tor_clauses.specs.declared.triple.Triple.{Triple}
-use Rattle.tor_clauses.specs.Literals.{negated, node_of, lit_of, Holds}
+use Rattle.tor_clauses.specs.Literals.{Literal, negated, node_of, lit_of, Holds}
 use Rattle.tor_clauses.specs.Triples.{arc_of, arcs_of}
 use Rattle.tor_clauses.specs.Tables.{IsSatisfied}
 use Rattle.tor_clauses.specs.Formulas.{Formula, FitsGraph, IsModel}
@@ -31,12 +30,12 @@ one_of End.High End.Low = inr refl
 one_of End.High End.High = inl refl
 
 -- a literal or its negation holds, and not both
-either : (ends : List End) (l : Lit) → l.edge < length ends → Holds ends l ⊎ Holds ends (negated l)
+either : (ends : List End) (l : Literal) → l.edge < length ends → Holds ends l ⊎ Holds ends (negated l)
 either ends l h =
     let r = slice_get-some ends l.edge h in
     elim (one_of r.0 l.over) [ inl e ↦ inl (r.1 ∙ ap Some e) | inr e ↦ inr (r.1 ∙ ap Some e) ]
 
-not_both : (ends : List End) (l : Lit) → Holds ends l → Holds ends (negated l) → ⊥
+not_both : (ends : List End) (l : Literal) → Holds ends l → Holds ends (negated l) → ⊥
 not_both ends l h k = opposite_not l.over (same_Some _ _ (sym h ∙ k))
 
 module _ (graph : List (List ℕ)) (f : Formula) (ends : List End) (apart : All NeighboursDiffer graph) (fits : FitsGraph graph f) (same : length ends ≡ length (edges graph)) where
@@ -49,10 +48,10 @@ module _ (graph : List (List ℕ)) (f : Formula) (ends : List End) (apart : All 
     | inr other ↦ other
   ]
 
-  at_node : (l : ℕ) (m : Lit) → l ≡ node_of m → Holds ends (lit_of l) → Holds ends m
+  at_node : (l : ℕ) (m : Literal) → l ≡ node_of m → Holds ends (lit_of l) → Holds ends m
   at_node l m e h = subst (Holds ends) (ap lit_of e ∙ lit_of_node m) h
 
-  from_node : (l : ℕ) (m : Lit) → l ≡ node_of m → Holds ends m → Holds ends (lit_of l)
+  from_node : (l : ℕ) (m : Literal) → l ≡ node_of m → Holds ends m → Holds ends (lit_of l)
   from_node l m e h = subst (Holds ends) (sym (ap lit_of e ∙ lit_of_node m)) h
 
   pub model_from_satisfied : All (IsSatisfied ends) f.triples → IsModel f ends

@@ -10,9 +10,8 @@ use Rattle.relationships.specs.Evidence.{NeighboursDiffer, StandAt, TripleAt, Fi
 use Rattle.relationships.proofs.WalkLemmas.{apart_at, apart_next}
 use Rattle.tor_digraph.specs.Walks.{IsArc, HasArc}
 use Rattle.as_graph.specs.Paths.{path_at}
-use Rattle.tor_clauses.specs.declared.lit.Lit.{Lit}
 use Rattle.tor_clauses.specs.declared.triple.Triple.{Triple}
-use Rattle.tor_clauses.specs.Literals.{negated, node_of, lit_of, over, Says}
+use Rattle.tor_clauses.specs.Literals.{Literal, negated, node_of, lit_of, over, Says}
 use Rattle.tor_clauses.specs.Triples.{triples_from, triples_along, triples_on, arc_of, partner_of, arcs_of, is_same_triple}
 use Rattle.tor_clauses.specs.Formulas.{Formula, FitsGraph, numbered, IsLinkOf}
 use Rattle.tor_clauses.proofs.Members.{In, In-get, get-In, In-flat_map, flat_map-In, In-Contains, Contains-In, In-map, All-In}
@@ -127,7 +126,7 @@ module _ (graph : List (List ℕ)) (f : Formula) (apart : All NeighboursDiffer g
   link_with path at x y z h t =
       (path_at graph path, In-Contains (path + 1, path_at graph path) (numbered graph f.paths) (In-map (λ q. (q + 1, path_at graph q)) path f.paths h), t)
 
-  says_node : (l : ℕ) (m : Lit) (x y : ℕ) → l ≡ node_of m → Says (edges graph) m x y → Says (edges graph) (lit_of l) x y
+  says_node : (l : ℕ) (m : Literal) (x y : ℕ) → l ≡ node_of m → Says (edges graph) m x y → Says (edges graph) (lit_of l) x y
   says_node l m x y e s = subst (λ k. Says (edges graph) k x y) (sym (lit_of_node m) ∙ ap lit_of (sym e)) s
 
   first_same : {a b : Edge} → a ≡ b → a.0 ≡ b.0

@@ -1,19 +1,18 @@
 -- The triples and arcs of paths that were worked by hand.
 use Rattle.std.proofs.Common.{◌≡◌, ℕ, List, [], ◌∷◌, length, map, flat_map, refl}
 use Rattle.relationships.specs.declared.label.End.{End}
-use Rattle.tor_clauses.specs.declared.lit.Lit.{Lit}
 use Rattle.tor_clauses.specs.declared.triple.Triple.{Triple}
-use Rattle.tor_clauses.specs.Literals.{opposite_node}
+use Rattle.tor_clauses.specs.Literals.{Literal, opposite_node}
 use Rattle.tor_clauses.specs.Triples.{arcs_of, triples_on, triples_of}
 
 -- there and back, and on
 abbrev paths : List (List ℕ)
 paths = (10 ∷ 20 ∷ 30 ∷ []) ∷ (30 ∷ 20 ∷ 10 ∷ []) ∷ (20 ∷ 30 ∷ 40 ∷ []) ∷ []
 
-abbrev lit : ℕ → End → Lit
+abbrev lit : ℕ → End → Literal
 lit edge end = record { edge = edge; over = end }
 
-abbrev triple : ℕ → ℕ → Lit → Lit → Triple
+abbrev triple : ℕ → ℕ → Literal → Literal → Triple
 triple path at first second = record { path = path; at = at; first = first; second = second }
 
 there : triples_of paths (0 ∷ []) ≡ triple 0 2 (lit 0 End.Low) (lit 1 End.Low) ∷ []

@@ -4,11 +4,10 @@ use Rattle.std.specs.Prelude.{flat_map, slice_get, if◌then◌else◌}
 use Rattle.relationships.specs.declared.label.End.{End}
 use Rattle.tor_digraph.specs.Walks.{Net}
 use Rattle.as_graph.specs.Limits.{most_triples}
-use Rattle.as_graph.specs.declared.step.Step.{Step}
-use Rattle.tor_clauses.specs.declared.lit.Lit.{Lit}
+use Rattle.as_graph.specs.EdgeSteps.{EdgeStep}
 use Rattle.tor_clauses.specs.declared.triple.Triple.{Triple}
 use Rattle.tor_clauses.specs.declared.triple.TriplePlace.{TriplePlace}
-use Rattle.tor_clauses.specs.Literals.{most_edges, negated, node_of, lit_of, opposite_node, Holds}
+use Rattle.tor_clauses.specs.Literals.{Literal, most_edges, negated, node_of, lit_of, opposite_node, Holds}
 use Rattle.tor_clauses.specs.Triples.{arc_of, partner_of, arcs_of, is_among, AreAmong, triples_on}
 use Rattle.tor_clauses.specs.Formulas.{Formula}
 
@@ -82,31 +81,31 @@ abbrev pub having : Formula → List Triple → Formula
 having f ts = record f { triples = ts; net = record f.net { arcs = flat_map arcs_of ts } }
 
 -- the net with an arc more, from one literal to another
-abbrev pub with_arc : Net ℕ → Lit → Lit → Net ℕ
+abbrev pub with_arc : Net ℕ → Literal → Literal → Net ℕ
 with_arc net tail head = record net { arcs = net.arcs ++ (node_of tail, node_of head) ∷ [] }
 
 -- ---- adding a path
 
 -- the literal of a step, that the AS from which it goes is over the one that it reaches
-abbrev pub lit_at : Step → Lit
+abbrev pub lit_at : EdgeStep → Literal
 lit_at s = record { edge = s.edge; over = s.left }
 
 -- the triple of two steps that follow each other, whose middle AS stands at this place of the path
-abbrev pub triple_by : ℕ → ℕ → Step → Step → Triple
+abbrev pub triple_by : ℕ → ℕ → EdgeStep → EdgeStep → Triple
 triple_by path at s t = record { path = path; at = at; first = lit_at s; second = lit_at t }
 
 -- whether a triple of these two steps is there, or its reverse, wherever it stands
-abbrev pub is_there : List Triple → Step → Step → Bool
+abbrev pub is_there : List Triple → EdgeStep → EdgeStep → Bool
 is_there ts s t = is_among ts (triple_by 0 0 s t)
 
 -- so of all two steps that follow each other, where the second step is behind the first ones, so many, and before this place
-abbrev pub AreKnownOn : List Triple → List Step → ℕ → ℕ → Type 0
-AreKnownOn ts steps from to = (k : ℕ) (s t : Step) → from ≤ k + 1 → k + 1 < to → slice_get steps k ≡ Some s →
+abbrev pub AreKnownOn : List Triple → List EdgeStep → ℕ → ℕ → Type 0
+AreKnownOn ts steps from to = (k : ℕ) (s t : EdgeStep) → from ≤ k + 1 → k + 1 < to → slice_get steps k ≡ Some s →
     slice_get steps (k + 1) ≡ Some t → is_there ts s t ≡ true
 
 -- no triple of the step at this place and the one before it is there, nor its reverse
-abbrev pub IsNewAt : List Triple → List Step → ℕ → Type 0
-IsNewAt ts steps place = (k : ℕ) (s t : Step) → k + 1 ≡ place → slice_get steps k ≡ Some s → slice_get steps (k + 1) ≡ Some t →
+abbrev pub IsNewAt : List Triple → List EdgeStep → ℕ → Type 0
+IsNewAt ts steps place = (k : ℕ) (s t : EdgeStep) → k + 1 ≡ place → slice_get steps k ≡ Some s → slice_get steps (k + 1) ≡ Some t →
     is_there ts s t ≡ false
 
 -- the triple at this place of the path's, from 0, is new: it is not among these, and those before it are

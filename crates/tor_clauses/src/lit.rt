@@ -4,30 +4,69 @@ ghost use Rattle.tor_clauses.specs.Literals.{most_edges, negated, node_of, lit_o
 
 use as_graph::Step;
 use relationships::End;
+use std::marker::Model;
 use tor_arena::{EdgeId, Index, NodeId};
 
-/// A literal: one end of an edge is over the other, which is to say its provider.
+/// A literal: one end of an edge is over the other, which is to say its provider. It takes four octets.
 #[derive(Clone, Copy, PartialEq, Eq)]
 pub struct Lit {
-    /// The edge whose two ends are ordered.
-    pub edge: EdgeId,
-    /// The end that is over the other.
-    pub over: End,
+    // the number of its node: twice the place of the edge, and one more where the higher end is over the lower
+    number: u32,
+}
+
+impl Model for Lit {
+    ghost use Rattle.std.specs.Prelude.{◌*◌, ◌<◌};
+    ghost use Rattle.std.proofs.Common.{ap};
+    ghost use Rattle.tor_arena.specs.Limits.{most_places};
+    ghost use Rattle.as_graph.specs.StepPlaces.{place_of_step_of_place};
+    ghost use Rattle.tor_clauses.specs.Literals.{Literal, node_of, lit_of};
+
+    ghost Value = { Literal };
+
+    ghost view = { λ lit. lit_of lit.number };
+
+    ghost invariant = { λ lit. lit.number < most_places * 2 };
+
+    ghost inverse = { λ lit. record { number = node_of lit } };
+
+    ghost inverse_ok = { λ lit small. ap (λ number. record { number = number }) (place_of_step_of_place lit.number) };
 }
 
 impl Lit {
+    /// The literal that this end of an edge is over the other. It takes no memory.
+    pub fn new(edge: EdgeId, over: End) -> Lit
+        ensures { result ≡ record { edge = edge; over = over } }
+    {
+        Lit {
+            number: edge.place() as u32 * 2 + u32::from(over == End::High),
+        }
+    }
+
+    /// The edge whose two ends are ordered. It takes no memory.
+    pub fn edge(self) -> EdgeId
+        ensures { result ≡ self.edge }
+    {
+        EdgeId::from_place(self.number as usize / 2).unwrap()
+    }
+
+    /// The end that is over the other. It takes no memory.
+    pub fn over(self) -> End
+        ensures { result ≡ self.over }
+    {
+        if self.number % 2 == 0 {
+            End::Low
+        } else {
+            End::High
+        }
+    }
+
     /// The other order of the two ends. It takes no memory.
     pub fn not(self) -> Lit
         ensures negation { result ≡ negated self }
         ensures back { negated result ≡ self }
     {
-        let over = match self.over {
-            End::Low => End::High,
-            End::High => End::Low,
-        };
         Lit {
-            edge: self.edge,
-            over,
+            number: self.number ^ 1,
         }
     }
 
@@ -38,11 +77,7 @@ impl Lit {
         ensures node { result ≡ node_of self }
         ensures back { lit_of result ≡ self }
     {
-        let side = match self.over {
-            End::Low => 0,
-            End::High => 1,
-        };
-        NodeId::from_place(self.edge.place() * 2 + side).unwrap()
+        NodeId::from_place(self.number as usize).unwrap()
     }
 
     /// The literal that has this node. It takes no memory.
@@ -50,13 +85,9 @@ impl Lit {
         ensures literal { result ≡ lit_of node }
         ensures back { node_of result ≡ node }
     {
-        let edge = EdgeId::from_place(node.place() / 2).unwrap();
-        let over = if node.place() % 2 == 0 {
-            End::Low
-        } else {
-            End::High
-        };
-        Lit { edge, over }
+        Lit {
+            number: node.place() as u32,
+        }
     }
 
     /// Whether this literal holds where the edges have these providers, one each. It takes no memory.
@@ -64,7 +95,7 @@ impl Lit {
         requires { self.edge < length ends.now }
         ensures { IsTrue result ↔ Holds ends.now self }
     {
-        ends[self.edge.place()] == self.over
+        ends[self.edge().place()] == self.over()
     }
 
     /// The literal that the AS from which a step goes is over the one that it reaches. It takes no memory.
@@ -72,8 +103,7 @@ impl Lit {
         ensures { result ≡ record { edge = step.now.edge; over = step.now.left } }
     {
         Lit {
-            edge: step.edge,
-            over: step.left,
+            number: step.place() as u32,
         }
     }
 }

@@ -6,7 +6,7 @@ ghost use Rattle.as_graph.specs.Limits.{most_triples};
 ghost use Rattle.tor_clauses.specs.declared.triple.Triple.{Triple};
 ghost use Rattle.tor_clauses.specs.Literals.{most_edges, node_of, Holds};
 ghost use Rattle.tor_clauses.specs.Triples.{arc_of, arcs_of, is_among};
-ghost use Rattle.tor_clauses.specs.Tables.{HasNodes, IsSatisfied, AreKnownOn, IsNewAt, triple_key, key_of_arc, number_of_pair};
+ghost use Rattle.tor_clauses.specs.Tables.{HasNodes, IsSatisfied, AreKnownOn, IsNewAt, key_of_arc, number_of_pair};
 ghost use Rattle.tor_clauses.specs.Tables.{standing, implying, with_triple, with_arc};
 
 use crate::lit::{Lit, negation_node};
@@ -127,7 +127,7 @@ impl TripleTable {
     fn holds(&self, first: NodeId, second: NodeId) -> bool
         ensures { (t : Triple) → HasNodes t → arc_of t ≡ (first, second) → (IsTrue result ↔ IsTrue (is_among self.now.triples t)) }
     {
-        self.known.holds(number_of(key(first, second)))
+        self.known.holds(key(first, second))
     }
 
     /// The first place from this one on at which a step and the one before it make a triple that is new, or how many steps there
@@ -164,7 +164,8 @@ impl TripleTable {
     {
         let count = self.len();
         self.places.reserve(1)?;
-        if !self.known.insert(number_of_triple(&triple))? {
+        let number = key(triple.first.node(), triple.second.node());
+        if !self.known.insert(number)? {
             return Ok(());
         }
         match add_arcs(&mut self.digraph, triple) {
@@ -198,19 +199,6 @@ impl TripleTable {
     }
 }
 
-/// The nodes of a triple's literals or those of its reverse, whichever begin with the lesser node: the same pair for both. It
-/// takes no memory.
-fn key(first: NodeId, second: NodeId) -> (NodeId, NodeId)
-    ensures { result ≡ key_of_arc (first, second) }
-{
-    let reverse_first = negation_node(second);
-    if reverse_first.place() < first.place() {
-        (reverse_first, negation_node(first))
-    } else {
-        (first, second)
-    }
-}
-
 /// The number of a pair of nodes, from 2 on, by which a table of numbers finds it. It takes no memory.
 pub fn number_of(pair: (NodeId, NodeId)) -> u64
     ensures { result ≡ number_of_pair pair }
@@ -218,12 +206,14 @@ pub fn number_of(pair: (NodeId, NodeId)) -> u64
     pair.0.place() as u64 * 4294967296 + pair.1.place() as u64 + 2
 }
 
-/// The number by which a table of numbers finds a triple or its reverse. It takes no memory.
-fn number_of_triple(triple: &Triple) -> u64
-    requires { HasNodes triple.now }
-    ensures { result ≡ number_of_pair (triple_key triple.now) }
+/// The number by which a table of numbers finds a triple whose literals have these nodes, or its reverse: the lesser of their two numbers.
+/// It takes no memory.
+fn key(first: NodeId, second: NodeId) -> u64
+    ensures { result ≡ number_of_pair (key_of_arc (first, second)) }
 {
-    number_of(key(triple.first.node(), triple.second.node()))
+    let number = number_of((first, second));
+    let of_reverse = number_of((negation_node(second), negation_node(first)));
+    number.min(of_reverse)
 }
 
 /// Adds the two arcs of a triple, both or, for want of memory, none.

@@ -20,8 +20,8 @@ pub fn order(graph: &AsGraph, node: NodeId) -> (u32, u32)
     ensures { Says (edges graph.now) (lit_of node) result.0 result.1 }
 {
     let lit = Lit::of_node(node);
-    let edge = graph.edge(lit.edge);
-    match lit.over {
+    let edge = graph.edge(lit.edge());
+    match lit.over() {
         End::Low => (edge.low, edge.high),
         End::High => (edge.high, edge.low),
     }

@@ -13,8 +13,7 @@ use Rattle.gao_prefs.specs.Preferences.{edge_preferred, edges_preferred}
 use Rattle.tor_digraph.specs.Reached.{Reach}
 use Rattle.tor_arena.proofs.Gets.{has-from_Contains, Contains-from_has, slice_get-some, slice_get-unmap, slice_get-behind, slice_get-map}
 use Rattle.as_graph.specs.Paths.{paths_at}
-use Rattle.tor_clauses.specs.declared.lit.Lit.{Lit}
-use Rattle.tor_clauses.specs.Literals.{node_of, lit_of, opposite_node, Holds}
+use Rattle.tor_clauses.specs.Literals.{Literal, node_of, lit_of, opposite_node, Holds}
 use Rattle.tor_clauses.specs.Formulas.{Formula, FitsGraph, IsServed, IsModel}
 use Rattle.tor_clauses.specs.ClauseLaws.{ModelLaw}
 use Rattle.tor_clauses.proofs.Members.{get-In}
@@ -35,7 +34,7 @@ provider (f ∷ es) [] k e end a h g = absurd (cc g)
 provider (f ∷ es) (one ∷ ends) zero e end a h g = rw (edge_same f (e.0, e.1) (same_Some _ _ h)) (same_Some _ _ g)
 provider (f ∷ es) (one ∷ ends) (suc k) e end a h g = rw (a.0 e (get-In es k e h)) (provider es ends k e end a.1 h g)
 
-abbrev lit : ℕ → End → Lit
+abbrev lit : ℕ → End → Literal
 lit k e = record { edge = k; over = e }
 
 -- the end that is read is that whose literal is settled
@@ -62,7 +61,7 @@ module _ (graph : List (List ℕ)) (f : Formula) (apart : All NeighboursDiffer g
       v.1 ∙ ap Some (read_end r.nodes so.consistent (n / 2) v.0 (lit_of n).over (are (n / 2) v.0 v.1) (subst (Contains r.nodes) (sym (node_of_lit n)) h))
 
   half : (p : Pref) → node_wanted p / 2 ≡ p.edge
-  half p = ap (λ (l : Lit). l.edge) (lit_of_node (lit p.edge p.wanted))
+  half p = ap (λ (l : Literal). l.edge) (lit_of_node (lit p.edge p.wanted))
 
   -- each edge has a preference
   preference_of : (k : ℕ) → k < length es → (j : ℕ) × (p : Pref) × (slice_get prefs j ≡ Some p) × (p.edge ≡ k)

@@ -26,10 +26,7 @@ fn settled_end(settled: &Reached<NodeId, ArcId>, edge: EdgeId) -> End
     requires { edge < most_edges }
     ensures { IsEndOf settled.now.nodes edge result }
 {
-    let high = Lit {
-        edge,
-        over: End::High,
-    };
+    let high = Lit::new(edge, End::High);
     if settled.has(high.node()) {
         End::High
     } else {

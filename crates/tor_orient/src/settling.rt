@@ -30,11 +30,7 @@ fn settle(
     ensures closed { OnOk result (NoneLeadsOut clauses.now.net settled.new) }
     ensures settled { OnOk result (IsSettledBy clauses.now.net.arcs (node_wanted pref.now) settled.old.nodes settled.new.nodes) }
 {
-    let node = Lit {
-        edge: pref.edge,
-        over: pref.wanted,
-    }
-    .node();
+    let node = Lit::new(pref.edge, pref.wanted).node();
     let other = negation_node(node);
     if settled.has(node) {
         return Ok(());

@@ -1,11 +1,10 @@
 -- What the strong components of implications say of the literals (Aspvall, Plass and Tarjan 1979).
 use Rattle.std.specs.Prelude.{◌≡◌, ℕ, ◌<◌, List, slice_get, Some}
 use Rattle.relationships.specs.declared.label.End.{End}
-use Rattle.tor_clauses.specs.declared.lit.Lit.{Lit}
-use Rattle.tor_clauses.specs.Literals.{negated, node_of}
+use Rattle.tor_clauses.specs.Literals.{Literal, negated, node_of}
 
 -- the node of the literal has this class
-abbrev pub HasClass : List ℕ → Lit → ℕ → Type 0
+abbrev pub HasClass : List ℕ → Literal → ℕ → Type 0
 HasClass classes lit k = slice_get classes (node_of lit) ≡ Some k
 
 -- the two literals of the edge have one class
@@ -14,7 +13,7 @@ HaveOneClass classes edge =
     (k : ℕ) × HasClass classes (record { edge = edge; over = End.Low }) k × HasClass classes (record { edge = edge; over = End.High }) k
 
 -- the class of the literal comes after that of its negation
-abbrev pub IsLater : List ℕ → Lit → Type 0
+abbrev pub IsLater : List ℕ → Literal → Type 0
 IsLater classes lit = (j k : ℕ) × HasClass classes lit j × HasClass classes (negated lit) k × (k < j)
 
 -- each edge has the end whose literal is the later of the two

@@ -17,7 +17,7 @@ pub(crate) fn node_at(edge: EdgeId, over: End) -> NodeId
     ensures node { result ≡ node_of (record { edge = edge; over = over }) }
     ensures literal { lit_of result ≡ record { edge = edge; over = over } }
 {
-    Lit { edge, over }.node()
+    Lit::new(edge, over).node()
 }
 
 /// Whether the two literals of an edge have one class. It takes no memory.

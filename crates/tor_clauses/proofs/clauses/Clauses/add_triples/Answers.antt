@@ -1,6 +1,6 @@
 use Rattle.std.proofs.Common.{List, ◌≡◌, ℕ, suc, ◌+◌, ◌-◌, ◌≤◌, Some, get_or, take, sym, ap, ap₂, ◌∙◌, subst, arith}
 use Rattle.std.specs.Prelude.{slice_get}
-use Rattle.tor_clauses.specs.declared.lit.Lit.{Lit}
+use Rattle.tor_clauses.specs.Literals.{Literal}
 use Rattle.tor_clauses.specs.declared.triple.Triple.{Triple}
 use Rattle.tor_clauses.specs.Triples.{triples_on}
 use Rattle.tor_clauses.specs.Formulas.{Formula}
@@ -10,7 +10,7 @@ use Rattle.tor_clauses.proofs.FirstNews.{with_known, known_first}
 use Rattle.tor_clauses.proofs.StepTriples.{triple_by_steps, triples_by_steps}
 use Rattle.tor_clauses.proofs.clauses.Clauses.add_triples.Goals as goal
 
-abbrev triple_with : ℕ → ℕ → Lit → Lit → Triple
+abbrev triple_with : ℕ → ℕ → Literal → Literal → Triple
 triple_with path at l m = record { path = path; at = at; first = l; second = m }
 
 pub loop-next-init : goal.loop-next-init

@@ -3,7 +3,7 @@ use Rattle.std.specs.Prelude.{slice_get}
 use Rattle.std.proofs.lemmas.Bool.{false≢true}
 use Rattle.std.proofs.lemmas.List.{take_all}
 use Rattle.tor_arena.proofs.Gets.{slice_get-some, All-get}
-use Rattle.tor_clauses.specs.declared.lit.Lit.{Lit}
+use Rattle.tor_clauses.specs.Literals.{Literal}
 use Rattle.tor_clauses.specs.declared.triple.Triple.{Triple}
 use Rattle.tor_clauses.specs.Tables.{IsSatisfied}
 use Rattle.tor_clauses.proofs.Members.{All-take_get}
@@ -18,7 +18,7 @@ both c =
     let t = there c.args.self.now.triples c.loop-place.place c.len.result c.loop-place-test.true c.len.ensures.len in
     let are = c.literals-first.ensures t.0 t.1 in
     let w = All-get (λ (t : Triple). (t.first.edge < length c.args.ends.now) × (t.second.edge < length c.args.ends.now)) c.args.self.now.triples c.loop-place.place t.0 c.requires t.1 in
-    (subst (λ (l : Lit). l.edge < length c.args.ends.now) (sym are.0) w.0, subst (λ (l : Lit). l.edge < length c.args.ends.now) (sym are.1) w.1)
+    (subst (λ (l : Literal). l.edge < length c.args.ends.now) (sym are.0) w.0, subst (λ (l : Literal). l.edge < length c.args.ends.now) (sym are.1) w.1)
 
 pub is_satisfied-requires-clause-first : goal.is_satisfied-requires-clause-first
 is_satisfied-requires-clause-first c = (both c).0

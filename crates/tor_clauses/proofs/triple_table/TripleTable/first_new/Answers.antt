@@ -3,7 +3,7 @@ use Rattle.std.specs.Prelude.{slice_get}
 use Rattle.std.proofs.lemmas.Bool.{cases_eq, false_from_ne_true, false≢true}
 use Rattle.std.proofs.lemmas.Option.{get_or_from_slice_get, slice_get_within, same_Some}
 use Rattle.relationships.specs.Graph.{Edge}
-use Rattle.as_graph.specs.declared.step.Step.{Step}
+use Rattle.as_graph.specs.EdgeSteps.{EdgeStep}
 use Rattle.tor_clauses.specs.Literals.{node_of}
 use Rattle.tor_clauses.specs.Tables.{AreKnownOn, is_there, lit_at, triple_by}
 use Rattle.tor_clauses.proofs.Adding.{get_from_or}
@@ -12,17 +12,17 @@ use Rattle.tor_clauses.proofs.triple_table.TripleTable.first_new.Goals as goal
 abbrev pair : ℕ → ℕ → Edge
 pair m n = (m, n)
 
-small : (steps : List Step) → All (λ (t : Step). t.edge < 67108864) steps → (k : ℕ) (s : Step) → slice_get steps k ≡ Some s → s.edge < 134217728
+small : (steps : List EdgeStep) → All (λ (t : EdgeStep). t.edge < 67108864) steps → (k : ℕ) (s : EdgeStep) → slice_get steps k ≡ Some s → s.edge < 134217728
 small steps few k s at =
     let lt = slice_get_within steps k s at in
     let one = few k s lt in
-    let is : (get_or steps k s).edge ≡ s.edge = ap (λ (t : Step). t.edge) (get_or_from_slice_get steps k s s at) in
+    let is : (get_or steps k s).edge ≡ s.edge = ap (λ (t : EdgeStep). t.edge) (get_or_from_slice_get steps k s s at) in
     omega (arith, one, is)
 
 pub loop-next-init : goal.loop-next-init
 loop-next-init c = record { first = first; known = λ k s t le lt a b. absurd (omega (arith, le, lt)) }
   where
-    first : (s : Step) → slice_get c.args.steps.now (c.args.from - 1) ≡ Some s → c.node-first.result ≡ node_of (lit_at s)
+    first : (s : EdgeStep) → slice_get c.args.steps.now (c.args.from - 1) ≡ Some s → c.node-first.result ≡ node_of (lit_at s)
     first s at =
         let some = c.requires.from in
         let inside = c.requires.inside in
@@ -36,13 +36,13 @@ loop-next-preserved c = record { first = first; known = known }
     next : ℕ
     next = c.loop-next.next
 
-    second : (s : Step) → slice_get c.args.steps.now next ≡ Some s → c.node-second.result ≡ node_of (lit_at s)
+    second : (s : EdgeStep) → slice_get c.args.steps.now next ≡ Some s → c.node-second.result ≡ node_of (lit_at s)
     second s at =
         let here : slice_get c.args.steps.now next ≡ Some c.index-steps-next.result =
         get_from_or c.args.steps.now next c.index-steps-next.result c.loop-next-test.true c.index-steps-next.is in
         c.node-second.ensures.node ∙ ap node_of (c.of_step-in-loop-next.ensures ∙ ap lit_at (same_Some _ _ (sym here ∙ at)))
 
-    first : (s : Step) → slice_get c.args.steps.now (next + 1 - 1) ≡ Some s → c.node-second.result ≡ node_of (lit_at s)
+    first : (s : EdgeStep) → slice_get c.args.steps.now (next + 1 - 1) ≡ Some s → c.node-second.result ≡ node_of (lit_at s)
     first s at = let e : next + 1 - 1 ≡ next = omega arith in second s (subst (λ k. slice_get c.args.steps.now k ≡ Some s) e at)
 
     known : AreKnownOn c.args.self.now.triples c.args.steps.now c.args.from (next + 1)
