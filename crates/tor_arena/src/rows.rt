@@ -56,7 +56,8 @@ impl<I: Index, T: Copy> Rows<I, T> {
     pub fn reserve(&mut self, rows: usize, items: usize) -> Result<(), NoMemory>
         ensures { self.new ≡ self.old }
     {
-        self.bounds.reserve(rows.saturating_add(1))?;
+        // two bounds more: the start of the first row, and the one further that `push_row` makes sure of
+        self.bounds.reserve(rows.saturating_add(2))?;
         self.items.reserve(items)?;
         Ok(())
     }
