@@ -19,7 +19,7 @@ use crate::path_lines::{PathLineRef, PathLines};
 use path_clean::{Asides, Cause, Sets};
 use relationships::{Given, Label, Mark, Probe, WalkRef, Walks};
 use std::alloc::Global;
-use text_fields::put_number;
+use text_fields::{TextSoFar, put_number};
 use tor_arena::{Index, List, NoMemory, PathId, WalkId};
 
 // Each function puts something at the end, lines with their line feed. Where a line is the same in texts of both versions, the function
@@ -96,147 +96,6 @@ pub fn put_asides(out: &mut List<u8>, asides: &Asides) -> Result<(), NoMemory>
     put_aside(out, Cause::Short, asides.get(Cause::Short))
 }
 
-// A walk as two fields: its ASes, and its links.
-fn put_walk(out: &mut List<u8>, version: Version, walk: &WalkRef<'_>) -> Result<(), NoMemory>
-    ensures encoded { OnOk result (out.new ≡ out.old ++ numbers_text walk.now.ases ++ 124 ∷ links version walk.now.links) }
-    ensures fits { OnOk result (WalkFits walk.now) }
-{
-    put_numbers(out, walk.ases())?;
-    put_bar(out)?;
-    put_links(out, version, walk.links())
-}
-
-#[tactic(auto, unfolding(crate::specs::Text::line_text))]
-fn put_kept(out: &mut List<u8>, times: u64, path: &[u32]) -> Result<(), NoMemory>
-    ensures encoded { OnOk result ((v : Version) → out.new ≡ out.old ++ line_text v (line.Path (line_with times path.now Kept))) }
-    ensures fits { OnOk result (PathFits (line_with times path.now Kept)) }
-{
-    out.extend_from_slice(b"kept|")?;
-    put_number(out, times)?;
-    put_bar(out)?;
-    put_numbers(out, path)?;
-    put_line_end(out)
-}
-
-#[tactic(auto, unfolding(crate::specs::Text::line_text))]
-fn put_lost(
-    out: &mut List<u8>,
-    version: Version,
-    times: u64,
-    path: &[u32],
-    walk: &WalkRef<'_>,
-) -> Result<(), NoMemory>
-    ensures encoded { OnOk result (out.new ≡ out.old ++ line_text version (line.Path (line_with times path.now (Lost walk.now)))) }
-    ensures fits { OnOk result (PathFits (line_with times path.now (Lost walk.now))) }
-{
-    out.extend_from_slice(b"lost|")?;
-    put_number(out, times)?;
-    put_bar(out)?;
-    put_numbers(out, path)?;
-    put_bar(out)?;
-    put_walk(out, version, walk)?;
-    put_line_end(out)
-}
-
-#[tactic(auto, using(crate::proofs::PathLineLemmas::line_kept, crate::proofs::PathLineLemmas::line_lost))]
-fn put_path(out: &mut List<u8>, version: Version, path: &PathLineRef<'_>) -> Result<(), NoMemory>
-    ensures encoded { OnOk result (out.new ≡ out.old ++ line_text version (line.Path path.now)) }
-    ensures fits { OnOk result (PathFits path.now) }
-{
-    match path.walk() {
-        None => put_kept(out, path.times(), path.path()),
-        Some(walk) => put_lost(out, version, path.times(), path.path(), walk),
-    }
-}
-
-fn put_label(out: &mut List<u8>, label: Label) -> Result<(), NoMemory>
-    ensures { OnOk result (out.new ≡ out.old ++ label_name label) }
-{
-    match label {
-        Label::Low => out.extend_from_slice(b"low"),
-        Label::High => out.extend_from_slice(b"high"),
-        Label::Peer => out.extend_from_slice(b"peer"),
-    }
-}
-
-fn put_mark(out: &mut List<u8>, mark: Mark) -> Result<(), NoMemory>
-    ensures { OnOk result (out.new ≡ out.old ++ mark_name mark) }
-{
-    match mark {
-        Mark::Forced => out.extend_from_slice(b"forced"),
-        Mark::Open => out.extend_from_slice(b"open"),
-    }
-}
-
-// The fields of a label and a mark, and the bars around them.
-fn put_label_and_mark(out: &mut List<u8>, label: Label, mark: Mark) -> Result<(), NoMemory>
-    ensures { OnOk result (out.new ≡ out.old ++ 124 ∷ label_name label ++ 124 ∷ mark_name mark ++ 124 ∷ []) }
-{
-    put_bar(out)?;
-    put_label(out, label)?;
-    put_bar(out)?;
-    put_mark(out, mark)?;
-    put_bar(out)
-}
-
-#[tactic(auto, unfolding(crate::specs::Text::line_text))]
-fn put_edge(out: &mut List<u8>, edge: &EdgeLine) -> Result<(), NoMemory>
-    ensures encoded { OnOk result ((v : Version) → out.new ≡ out.old ++ line_text v (line.Edge edge.now)) }
-    ensures fits { OnOk result (EdgeFits edge.now) }
-{
-    out.extend_from_slice(b"edge|")?;
-    put_number(out, u64::from(edge.low))?;
-    put_bar(out)?;
-    put_number(out, u64::from(edge.high))?;
-    put_label_and_mark(out, edge.label, edge.mark)?;
-    put_number(out, edge.support)?;
-    put_line_end(out)
-}
-
-#[tactic(auto, unfolding(crate::specs::Text::line_text))]
-fn put_why(out: &mut List<u8>, version: Version, walk: &WalkRef<'_>) -> Result<(), NoMemory>
-    ensures encoded { OnOk result (out.new ≡ out.old ++ line_text version (line.Why walk.now)) }
-    ensures fits { OnOk result (WalkFits walk.now) }
-{
-    out.extend_from_slice(b"why|")?;
-    put_walk(out, version, walk)?;
-    put_line_end(out)
-}
-
-#[tactic(auto, unfolding(crate::specs::Text::line_text))]
-fn put_probe(out: &mut List<u8>, probe: &Probe) -> Result<(), NoMemory>
-    ensures encoded { OnOk result ((v : Version) → out.new ≡ out.old ++ line_text v (line.Probe probe.now)) }
-    ensures fits { OnOk result (ProbeFits probe.now) }
-{
-    out.extend_from_slice(b"open|")?;
-    put_number(out, u64::from(probe.over))?;
-    put_bar(out)?;
-    put_number(out, u64::from(probe.under))?;
-    put_line_end(out)
-}
-
-// A count, and the bar behind it.
-fn put_count(out: &mut List<u8>, count: u64) -> Result<(), NoMemory>
-    ensures { OnOk result (out.new ≡ out.old ++ (decimal count ++ 124 ∷ [])) }
-{
-    put_number(out, count)?;
-    put_bar(out)
-}
-
-#[tactic(auto, unfolding(crate::specs::Text::line_text))]
-fn put_end(out: &mut List<u8>, totals: &Totals) -> Result<(), NoMemory>
-    ensures encoded { OnOk result ((v : Version) → out.new ≡ out.old ++ line_text v (line.End totals.now)) }
-    ensures fits { OnOk result (TotalsFit totals.now) }
-{
-    out.extend_from_slice(b"end|")?;
-    put_count(out, totals.kept)?;
-    put_count(out, totals.lost)?;
-    put_count(out, totals.edges)?;
-    put_count(out, totals.forced)?;
-    put_number(out, totals.peers)?;
-    put_line_end(out)
-}
-
 #[tactic(auto, unfolding(crate::specs::Text::line_text))]
 fn put_version(out: &mut List<u8>, version: Version) -> Result<(), NoMemory>
     ensures { OnOk result ((v : Version) → out.new ≡ out.old ++ line_text v (line.Version version)) }
@@ -259,19 +118,160 @@ fn put_head(out: &mut List<u8>, version: Version, file: &ResultFile) -> Result<(
     put_asides(out, &file.asides)
 }
 
+// A walk as two fields: its ASes, and its links.
+fn put_walk(out: &mut TextSoFar, version: Version, walk: &WalkRef<'_>) -> Result<(), NoMemory>
+    ensures encoded { OnOk result (out.new ≡ out.old ++ numbers_text walk.now.ases ++ 124 ∷ links version walk.now.links) }
+    ensures fits { OnOk result (WalkFits walk.now) }
+{
+    put_numbers(out, walk.ases())?;
+    out.put_byte(b'|')?;
+    put_links(out, version, walk.links())
+}
+
 #[tactic(auto, unfolding(crate::specs::Text::line_text))]
-fn put_given(out: &mut List<u8>, given: &Given) -> Result<(), NoMemory>
+fn put_kept(out: &mut TextSoFar, times: u64, path: &[u32]) -> Result<(), NoMemory>
+    ensures encoded { OnOk result ((v : Version) → out.new ≡ out.old ++ line_text v (line.Path (line_with times path.now Kept))) }
+    ensures fits { OnOk result (PathFits (line_with times path.now Kept)) }
+{
+    out.put(b"kept|")?;
+    out.put_number(times)?;
+    out.put_byte(b'|')?;
+    put_numbers(out, path)?;
+    out.put_byte(b'\n')
+}
+
+#[tactic(auto, unfolding(crate::specs::Text::line_text))]
+fn put_lost(
+    out: &mut TextSoFar,
+    version: Version,
+    times: u64,
+    path: &[u32],
+    walk: &WalkRef<'_>,
+) -> Result<(), NoMemory>
+    ensures encoded { OnOk result (out.new ≡ out.old ++ line_text version (line.Path (line_with times path.now (Lost walk.now)))) }
+    ensures fits { OnOk result (PathFits (line_with times path.now (Lost walk.now))) }
+{
+    out.put(b"lost|")?;
+    out.put_number(times)?;
+    out.put_byte(b'|')?;
+    put_numbers(out, path)?;
+    out.put_byte(b'|')?;
+    put_walk(out, version, walk)?;
+    out.put_byte(b'\n')
+}
+
+#[tactic(auto, using(crate::proofs::PathLineLemmas::line_kept, crate::proofs::PathLineLemmas::line_lost))]
+fn put_path(out: &mut TextSoFar, version: Version, path: &PathLineRef<'_>) -> Result<(), NoMemory>
+    ensures encoded { OnOk result (out.new ≡ out.old ++ line_text version (line.Path path.now)) }
+    ensures fits { OnOk result (PathFits path.now) }
+{
+    match path.walk() {
+        None => put_kept(out, path.times(), path.path()),
+        Some(walk) => put_lost(out, version, path.times(), path.path(), walk),
+    }
+}
+
+fn put_label(out: &mut TextSoFar, label: Label) -> Result<(), NoMemory>
+    ensures { OnOk result (out.new ≡ out.old ++ label_name label) }
+{
+    match label {
+        Label::Low => out.put(b"low"),
+        Label::High => out.put(b"high"),
+        Label::Peer => out.put(b"peer"),
+    }
+}
+
+fn put_mark(out: &mut TextSoFar, mark: Mark) -> Result<(), NoMemory>
+    ensures { OnOk result (out.new ≡ out.old ++ mark_name mark) }
+{
+    match mark {
+        Mark::Forced => out.put(b"forced"),
+        Mark::Open => out.put(b"open"),
+    }
+}
+
+// The fields of a label and a mark, and the bars around them.
+fn put_label_and_mark(out: &mut TextSoFar, label: Label, mark: Mark) -> Result<(), NoMemory>
+    ensures { OnOk result (out.new ≡ out.old ++ 124 ∷ label_name label ++ 124 ∷ mark_name mark ++ 124 ∷ []) }
+{
+    out.put_byte(b'|')?;
+    put_label(out, label)?;
+    out.put_byte(b'|')?;
+    put_mark(out, mark)?;
+    out.put_byte(b'|')
+}
+
+#[tactic(auto, unfolding(crate::specs::Text::line_text))]
+fn put_edge(out: &mut TextSoFar, edge: &EdgeLine) -> Result<(), NoMemory>
+    ensures encoded { OnOk result ((v : Version) → out.new ≡ out.old ++ line_text v (line.Edge edge.now)) }
+    ensures fits { OnOk result (EdgeFits edge.now) }
+{
+    out.put(b"edge|")?;
+    out.put_number(u64::from(edge.low))?;
+    out.put_byte(b'|')?;
+    out.put_number(u64::from(edge.high))?;
+    put_label_and_mark(out, edge.label, edge.mark)?;
+    out.put_number(edge.support)?;
+    out.put_byte(b'\n')
+}
+
+#[tactic(auto, unfolding(crate::specs::Text::line_text))]
+fn put_why(out: &mut TextSoFar, version: Version, walk: &WalkRef<'_>) -> Result<(), NoMemory>
+    ensures encoded { OnOk result (out.new ≡ out.old ++ line_text version (line.Why walk.now)) }
+    ensures fits { OnOk result (WalkFits walk.now) }
+{
+    out.put(b"why|")?;
+    put_walk(out, version, walk)?;
+    out.put_byte(b'\n')
+}
+
+#[tactic(auto, unfolding(crate::specs::Text::line_text))]
+fn put_probe(out: &mut TextSoFar, probe: &Probe) -> Result<(), NoMemory>
+    ensures encoded { OnOk result ((v : Version) → out.new ≡ out.old ++ line_text v (line.Probe probe.now)) }
+    ensures fits { OnOk result (ProbeFits probe.now) }
+{
+    out.put(b"open|")?;
+    out.put_number(u64::from(probe.over))?;
+    out.put_byte(b'|')?;
+    out.put_number(u64::from(probe.under))?;
+    out.put_byte(b'\n')
+}
+
+// A count, and the bar behind it.
+fn put_count(out: &mut TextSoFar, count: u64) -> Result<(), NoMemory>
+    ensures { OnOk result (out.new ≡ out.old ++ (decimal count ++ 124 ∷ [])) }
+{
+    out.put_number(count)?;
+    out.put_byte(b'|')
+}
+
+#[tactic(auto, unfolding(crate::specs::Text::line_text))]
+fn put_end(out: &mut TextSoFar, totals: &Totals) -> Result<(), NoMemory>
+    ensures encoded { OnOk result ((v : Version) → out.new ≡ out.old ++ line_text v (line.End totals.now)) }
+    ensures fits { OnOk result (TotalsFit totals.now) }
+{
+    out.put(b"end|")?;
+    put_count(out, totals.kept)?;
+    put_count(out, totals.lost)?;
+    put_count(out, totals.edges)?;
+    put_count(out, totals.forced)?;
+    out.put_number(totals.peers)?;
+    out.put_byte(b'\n')
+}
+
+#[tactic(auto, unfolding(crate::specs::Text::line_text))]
+fn put_given(out: &mut TextSoFar, given: &Given) -> Result<(), NoMemory>
     ensures encoded { OnOk result ((v : Version) → out.new ≡ out.old ++ line_text v (line.Given given.now)) }
     ensures fits { OnOk result (GivenFits given.now) }
 {
-    out.extend_from_slice(b"given|")?;
-    put_number(out, u64::from(given.over))?;
-    put_bar(out)?;
-    put_number(out, u64::from(given.under))?;
-    put_line_end(out)
+    out.put(b"given|")?;
+    out.put_number(u64::from(given.over))?;
+    out.put_byte(b'|')?;
+    out.put_number(u64::from(given.under))?;
+    out.put_byte(b'\n')
 }
 
-fn put_given_lines(out: &mut List<u8>, givens: &[Given]) -> Result<(), NoMemory>
+fn put_given_lines(out: &mut TextSoFar, givens: &[Given]) -> Result<(), NoMemory>
     ensures encoded { OnOk result ((v : Version) → out.new ≡ out.old ++ text_of_lines v (map (λ g. line.Given g) givens.now)) }
     ensures fits { OnOk result (AllByRecursion GivenFits givens.now) }
 {
@@ -282,7 +282,7 @@ fn put_given_lines(out: &mut List<u8>, givens: &[Given]) -> Result<(), NoMemory>
 }
 
 // The given lines, of which a text of version 1 has none.
-fn put_givens(out: &mut List<u8>, file: &ResultFile) -> Result<(), NoMemory>
+fn put_givens(out: &mut TextSoFar, file: &ResultFile) -> Result<(), NoMemory>
     ensures encoded { OnOk result ((v : Version) → out.new ≡ out.old ++ text_of_lines v (map (λ g. line.Given g) (its_givens file.now))) }
     ensures fits { OnOk result (AllByRecursion GivenFits (its_givens file.now)) }
 {
@@ -292,7 +292,7 @@ fn put_givens(out: &mut List<u8>, file: &ResultFile) -> Result<(), NoMemory>
     }
 }
 
-fn put_paths(out: &mut List<u8>, version: Version, paths: &PathLines) -> Result<(), NoMemory>
+fn put_paths(out: &mut TextSoFar, version: Version, paths: &PathLines) -> Result<(), NoMemory>
     ensures encoded { OnOk result (out.new ≡ out.old ++ text_of_lines version (map (λ p. line.Path p) paths.now)) }
     ensures fits { OnOk result (AllByRecursion PathFits paths.now) }
 {
@@ -305,7 +305,7 @@ fn put_paths(out: &mut List<u8>, version: Version, paths: &PathLines) -> Result<
     Ok(())
 }
 
-fn put_edges(out: &mut List<u8>, edges: &[EdgeLine]) -> Result<(), NoMemory>
+fn put_edges(out: &mut TextSoFar, edges: &[EdgeLine]) -> Result<(), NoMemory>
     ensures encoded { OnOk result ((v : Version) → out.new ≡ out.old ++ text_of_lines v (map (λ e. line.Edge e) edges.now)) }
     ensures fits { OnOk result (AllByRecursion EdgeFits edges.now) }
 {
@@ -315,7 +315,7 @@ fn put_edges(out: &mut List<u8>, edges: &[EdgeLine]) -> Result<(), NoMemory>
     Ok(())
 }
 
-fn put_whys(out: &mut List<u8>, version: Version, whys: &Walks) -> Result<(), NoMemory>
+fn put_whys(out: &mut TextSoFar, version: Version, whys: &Walks) -> Result<(), NoMemory>
     ensures encoded { OnOk result (out.new ≡ out.old ++ text_of_lines version (map (λ w. line.Why w) whys.now)) }
     ensures fits { OnOk result (AllByRecursion WalkFits whys.now) }
 {
@@ -328,7 +328,7 @@ fn put_whys(out: &mut List<u8>, version: Version, whys: &Walks) -> Result<(), No
     Ok(())
 }
 
-fn put_probes(out: &mut List<u8>, probes: &[Probe]) -> Result<(), NoMemory>
+fn put_probes(out: &mut TextSoFar, probes: &[Probe]) -> Result<(), NoMemory>
     ensures encoded { OnOk result ((v : Version) → out.new ≡ out.old ++ text_of_lines v (map (λ p. line.Probe p) probes.now)) }
     ensures fits { OnOk result (AllByRecursion ProbeFits probes.now) }
 {
@@ -343,13 +343,14 @@ pub fn print(alloc: Global, file: &ResultFile) -> Result<List<u8>, NoMemory>
     ensures { IfOk result (λ out. IsTextOf file.now out) }
 {
     let version = version_of(&file.givens);
-    let mut out = List::new(alloc);
-    put_head(&mut out, version, file)?;
+    let mut head = List::new(alloc);
+    put_head(&mut head, version, file)?;
+    let mut out = TextSoFar::behind(head);
     put_givens(&mut out, file)?;
     put_paths(&mut out, version, &file.paths)?;
     put_edges(&mut out, file.edges.as_slice())?;
     put_whys(&mut out, version, &file.whys)?;
     put_probes(&mut out, file.probes.as_slice())?;
     put_end(&mut out, &file.totals)?;
-    Ok(out)
+    Ok(out.into_list())
 }
