@@ -62,6 +62,7 @@ fn made(alloc: Global, count: u32) -> Result<ResultFile, NoMemory> {
         sets: Sets::Cut,
         ratio: 60,
         asides: Asides::new(),
+        givens: None,
         paths,
         edges,
         whys: Walks::new(alloc),
