@@ -29,13 +29,13 @@ fn exclude_pair(excluded: &mut Vec<bool>, first: &Step, second: &Step, ends: &[E
     ensures excluded { (k : ℕ) → IsTrue (slice_index_or excluded.new.items k false) →
         IsTrue (slice_index_or excluded.old.items k false) ⊎ ExcludedBy ends.now first.now second.now k }
 {
-    let up = climbs(ends[first.edge.place()], first.left);
-    let next_up = climbs(ends[second.edge.place()], second.left);
+    let up = climbs(ends[first.edge().place()], first.left());
+    let next_up = climbs(ends[second.edge().place()], second.left());
     if up && next_up {
-        excluded[first.edge.place()] = true;
+        excluded[first.edge().place()] = true;
     }
     if !up && !next_up {
-        excluded[second.edge.place()] = true;
+        excluded[second.edge().place()] = true;
     }
 }
 

@@ -63,8 +63,8 @@ fn add_along(
         Contains (slice_index_or lists.new.items step.edge []) path) steps.now) }
 {
     for step in steps {
-        let is_excluded = excluded[step.edge.place()];
-        add_unless_excluded(lists, step.edge, path, is_excluded)?;
+        let is_excluded = excluded[step.edge().place()];
+        add_unless_excluded(lists, step.edge(), path, is_excluded)?;
     }
     Ok(())
 }

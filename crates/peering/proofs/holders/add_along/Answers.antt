@@ -1,4 +1,4 @@
-use Rattle.std.proofs.Common.{◌<◌, ◌≤◌, inl, inr, List, [], length, get_or, rules, sym, subst, arith, All, Contains, IsFalse, false}
+use Rattle.std.proofs.Common.{◌<◌, ◌≤◌, ◌∙◌, inl, inr, List, [], length, get_or, rules, sym, subst, arith, All, Contains, IsFalse, false}
 use Rattle.std.proofs.lemmas.List.{take_all}
 use Rattle.as_graph.specs.declared.step.Step.{Step}
 use Rattle.peering.specs.Peerings.{HasStep, IsPathAdded}
@@ -11,10 +11,13 @@ loop-step-init c = listed_none c.args.excluded.now c.args.lists.now.items c.args
 pub loop-step-preserved : goal.loop-step-preserved
 loop-step-preserved c =
     let within : c.step-item.result.edge < length c.loop-step.lists.items = search rules in
-    let place = c.place.ensures.place in
+    let placed = c.place.ensures.place ∙ c.edge.ensures in
+    let looked : IsPathAdded (get_or c.args.excluded.now c.step-item.result.edge false) c.edge-in-loop-step.result c.args.path c.loop-step.lists.items c.add_unless_excluded.new.lists.items =
+    subst (λ k. IsPathAdded (get_or c.args.excluded.now k false) c.edge-in-loop-step.result c.args.path c.loop-step.lists.items
+    c.add_unless_excluded.new.lists.items) placed c.in_ok-add_unless_excluded.ensures.added in
     let added : IsPathAdded (get_or c.args.excluded.now c.step-item.result.edge false) c.step-item.result.edge c.args.path c.loop-step.lists.items c.add_unless_excluded.new.lists.items =
-    subst (λ k. IsPathAdded (get_or c.args.excluded.now k false) c.step-item.result.edge c.args.path c.loop-step.lists.items
-    c.add_unless_excluded.new.lists.items) place c.in_ok-add_unless_excluded.ensures.added in
+    subst (λ k. IsPathAdded (get_or c.args.excluded.now c.step-item.result.edge false) k c.args.path c.loop-step.lists.items
+    c.add_unless_excluded.new.lists.items) c.edge-in-loop-step.ensures looked in
     listed_more c.args.excluded.now c.args.lists.now.items c.loop-step.lists.items c.add_unless_excluded.new.lists.items c.args.path c.args.steps.now
     c.loop-step.step-index c.step-item.result c.loop-step-test.true (sym c.step-item.is) within
     added c.loop-step.invariant
