@@ -11,7 +11,7 @@ use Rattle.relationships.specs.Graph.{Edge, edges}
 use Rattle.relationships.specs.Evidence.{NeighboursDiffer, Numbered, StandAt, TripleAt, Fits, IsLinked, Refutes}
 use Rattle.relationships.proofs.Places.{index-from_StandAt}
 use Rattle.tor_arena.proofs.Gets.{slice_get-push_old, slice_get-push_last, slice_get-push_cases}
-use Rattle.as_graph.specs.declared.step.Step.{Step}
+use Rattle.as_graph.specs.EdgeSteps.{EdgeStep}
 use Rattle.as_graph.specs.Steps.{IsStep, AreStepsFrom, AreSteps}
 use Rattle.as_graph.specs.Paths.{path_at}
 use Rattle.tor_clauses.specs.Literals.{lit_of, Says}
@@ -154,10 +154,10 @@ link_of graph path paths at first second h (x, y, z, stand, tail, head) = record
 }
 
 -- three ASes, and the steps between them
-abbrev AreStepsAt : List Edge → List ℕ → ℕ → Step → Step → Type 0
+abbrev AreStepsAt : List Edge → List ℕ → ℕ → EdgeStep → EdgeStep → Type 0
 AreStepsAt es path at s t = (x y z : ℕ) × StandAt path at x y z × IsStep es x y s × IsStep es y z t
 
-steps_stand : (es : List Edge) (before : List ℕ) (x : ℕ) (rest : List ℕ) (steps : List Step) (k : ℕ) (s t : Step) (at : ℕ) → AreStepsFrom es x rest steps →
+steps_stand : (es : List Edge) (before : List ℕ) (x : ℕ) (rest : List ℕ) (steps : List EdgeStep) (k : ℕ) (s t : EdgeStep) (at : ℕ) → AreStepsFrom es x rest steps →
     slice_get steps k ≡ Some s → slice_get steps (suc k) ≡ Some t → at ≡ length before + k + 2 → AreStepsAt es (before ++ (x ∷ rest)) at s t
 steps_stand es before x rest [] k s t at are h g is = absurd (cc h)
 steps_stand es before x [] (u ∷ steps) k s t at are h g is = absurd are
@@ -177,17 +177,17 @@ steps_stand es before x (y ∷ rest) (u ∷ steps) (suc k) s t at are h g is =
     subst (λ p. AreStepsAt es p at s t) (append_assoc before (x ∷ []) (y ∷ rest))
     (steps_stand es (before ++ (x ∷ [])) y rest steps k s t at are.1 h g (omega (arith, is, more)))
 
-all_steps : (es : List Edge) (path : List ℕ) (steps : List Step) (k : ℕ) (s t : Step) (at : ℕ) → AreSteps es path steps →
+all_steps : (es : List Edge) (path : List ℕ) (steps : List EdgeStep) (k : ℕ) (s t : EdgeStep) (at : ℕ) → AreSteps es path steps →
     slice_get steps k ≡ Some s → slice_get steps (suc k) ≡ Some t → 2 + k ≡ at → AreStepsAt es path at s t
 all_steps es [] steps k s t at are h g is = absurd (cc (are, h))
 all_steps es (x ∷ rest) steps k s t at are h g is = steps_stand es [] x rest steps k s t at are h g (omega (arith, is))
 
-says_at : (es : List Edge) (x y : ℕ) (s : Step) → x ≢ y → IsStep es x y s → Says es (lit_of (node_at s)) x y
+says_at : (es : List Edge) (x y : ℕ) (s : EdgeStep) → x ≢ y → IsStep es x y s → Says es (lit_of (node_at s)) x y
 says_at es x y s two is =
     subst (λ l. Says es l x y) (sym (lit_of_node (record { edge = s.edge; over = s.left }))) (record { edge = is.0; end = is.1; two = two })
 
 -- two steps of a path, one behind the other
-pub step_triple : (graph : List (List ℕ)) (path : ℕ) (steps : List Step) (k : ℕ) (s t : Step) (at : ℕ) → All NeighboursDiffer graph → path < length graph →
+pub step_triple : (graph : List (List ℕ)) (path : ℕ) (steps : List EdgeStep) (k : ℕ) (s t : EdgeStep) (at : ℕ) → All NeighboursDiffer graph → path < length graph →
     AreSteps (edges graph) (path_at graph path) steps → slice_get steps k ≡ Some s → slice_get steps (suc k) ≡ Some t → 2 + k ≡ at →
     HasTriple graph path at (node_at s) (node_at t)
 step_triple graph path steps k s t at apart lt are here next is =

@@ -6,7 +6,7 @@ use Rattle.relationships.specs.declared.fate.Fate.{Fate}
 use Rattle.relationships.specs.declared.label.End.{End}
 use Rattle.relationships.specs.Graph.{edges}
 use Rattle.relationships.specs.Evidence.{StandAt, Refutes}
-use Rattle.as_graph.specs.declared.step.Step.{Step}
+use Rattle.as_graph.specs.EdgeSteps.{EdgeStep}
 use Rattle.as_graph.specs.Paths.{path_at}
 use Rattle.tor_clauses.specs.Literals.{node_of, lit_of, Holds, Says}
 use Rattle.tor_clauses.specs.Formulas.{numbered, IsLinkOf}
@@ -43,12 +43,12 @@ abbrev pub AreRefused : List (List ℕ) → List ℕ → List Fate → List Refu
 AreRefused graph kept fates refusals = (k : ℕ) (r : Refusal) → slice_get refusals k ≡ Some r → IsRefusalOf graph kept fates r
 
 -- the node of the literal that the AS from which a step goes is over the one that it reaches
-abbrev pub node_at : Step → ℕ
+abbrev pub node_at : EdgeStep → ℕ
 node_at step = node_of (record { edge = step.edge; over = step.left })
 
 -- each step whose literal holds is followed by one whose literal holds
-abbrev pub AreSatisfiedOn : List End → List Step → Type 0
-AreSatisfiedOn ends steps = (k : ℕ) (s t : Step) → slice_get steps k ≡ Some s → slice_get steps (k + 1) ≡ Some t →
+abbrev pub AreSatisfiedOn : List End → List EdgeStep → Type 0
+AreSatisfiedOn ends steps = (k : ℕ) (s t : EdgeStep) → slice_get steps k ≡ Some s → slice_get steps (k + 1) ≡ Some t →
     Holds ends (lit_of (node_at s)) → Holds ends (lit_of (node_at t))
 
 -- one of the refusals is of this path and of a triple of these nodes

@@ -3,7 +3,7 @@ use Rattle.std.specs.Prelude.{slice_get}
 use Rattle.std.proofs.lemmas.Bool.{cases_eq, false≢true}
 use Rattle.std.proofs.lemmas.Option.{slice_get_within}
 use Rattle.tor_arena.proofs.Gets.{slice_get-some}
-use Rattle.as_graph.specs.declared.step.Step.{Step}
+use Rattle.as_graph.specs.EdgeSteps.{EdgeStep}
 use Rattle.tor_clauses.specs.Literals.{lit_of, Holds}
 use Rattle.tor_clauses.specs.Tables.{lit_at}
 use Rattle.tor_clauses.proofs.Adding.{get_from_or}
@@ -28,15 +28,15 @@ loop-step-preserved c = record { none = λ e. absurd (omega (arith, e)); before 
     here : slice_get c.args.steps.now c.loop-step.step-index ≡ Some c.step-item.result
     here = get_from_or c.args.steps.now c.loop-step.step-index c.step-item.result c.loop-step-test.true c.step-item.is
 
-    holds : (s : Step) → slice_get c.args.steps.now c.loop-step.step-index ≡ Some s → (c.holds-holds.result ≡ true) ↔ Holds c.args.ends.now (lit_of (node_at s))
+    holds : (s : EdgeStep) → slice_get c.args.steps.now c.loop-step.step-index ≡ Some s → (c.holds-holds.result ≡ true) ↔ Holds c.args.ends.now (lit_of (node_at s))
     holds s there =
         let same : c.of_step.result ≡ lit_of (node_at s) = c.of_step.ensures ∙ ap lit_at (some_same (sym here ∙ there)) ∙ sym (lit_of_node (lit_at s)) in
         subst (λ l. (c.holds-holds.result ≡ true) ↔ Holds c.args.ends.now l) same c.holds-holds.ensures
 
-    before : (k : ℕ) (s : Step) → k + 1 ≡ c.loop-step.step-index + 1 → slice_get c.args.steps.now k ≡ Some s → (c.holds-holds.result ≡ true) ↔ Holds c.args.ends.now (lit_of (node_at s))
+    before : (k : ℕ) (s : EdgeStep) → k + 1 ≡ c.loop-step.step-index + 1 → slice_get c.args.steps.now k ≡ Some s → (c.holds-holds.result ≡ true) ↔ Holds c.args.ends.now (lit_of (node_at s))
     before k s e there = let same : k ≡ c.loop-step.step-index = omega (arith, e) in holds s (subst (λ n. slice_get c.args.steps.now n ≡ Some s) same there)
 
-    forth : (c.loop-step.satisfied && (not c.loop-step.before || c.holds-holds.result)) ≡ true → (k : ℕ) (s t : Step) → k + 1 < c.loop-step.step-index + 1 →
+    forth : (c.loop-step.satisfied && (not c.loop-step.before || c.holds-holds.result)) ≡ true → (k : ℕ) (s t : EdgeStep) → k + 1 < c.loop-step.step-index + 1 →
         slice_get c.args.steps.now k ≡ Some s → slice_get c.args.steps.now (k + 1) ≡ Some t → Holds c.args.ends.now (lit_of (node_at s)) → Holds c.args.ends.now (lit_of (node_at t))
     forth so k s t lt a b h =
         let all = split c.loop-step.satisfied c.loop-step.before c.holds-holds.result so in
@@ -46,7 +46,7 @@ loop-step-preserved c = record { none = λ e. absurd (omega (arith, e)); before 
         ]
 
     -- the step before this one, if its literal holds
-    previous : ((k : ℕ) (s t : Step) → k + 1 < c.loop-step.step-index + 1 → slice_get c.args.steps.now k ≡ Some s → slice_get c.args.steps.now (k + 1) ≡ Some t →
+    previous : ((k : ℕ) (s t : EdgeStep) → k + 1 < c.loop-step.step-index + 1 → slice_get c.args.steps.now k ≡ Some s → slice_get c.args.steps.now (k + 1) ≡ Some t →
         Holds c.args.ends.now (lit_of (node_at s)) → Holds c.args.ends.now (lit_of (node_at t))) → c.loop-step.before ≡ true → c.holds-holds.result ≡ true
     previous all so = elim (cases_eq c.loop-step.step-index 0) [
       | inl none ↦ absurd (false≢true (sym (c.loop-step.invariant.none none) ∙ so))
@@ -61,7 +61,7 @@ loop-step-preserved c = record { none = λ e. absurd (omega (arith, e)); before 
           )
     ]
 
-    back : ((k : ℕ) (s t : Step) → k + 1 < c.loop-step.step-index + 1 → slice_get c.args.steps.now k ≡ Some s → slice_get c.args.steps.now (k + 1) ≡ Some t →
+    back : ((k : ℕ) (s t : EdgeStep) → k + 1 < c.loop-step.step-index + 1 → slice_get c.args.steps.now k ≡ Some s → slice_get c.args.steps.now (k + 1) ≡ Some t →
         Holds c.args.ends.now (lit_of (node_at s)) → Holds c.args.ends.now (lit_of (node_at t))) → (c.loop-step.satisfied && (not c.loop-step.before || c.holds-holds.result)) ≡ true
     back all = join c.loop-step.satisfied c.loop-step.before c.holds-holds.result (c.loop-step.invariant.satisfied.1 (λ k s t lt. all k s t (omega (arith, lt)))) (previous all)
 
