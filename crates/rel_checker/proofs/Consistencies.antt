@@ -1,11 +1,11 @@
 -- Consistency by batches: what a search adds to a batch, and what it says of a closure whether the batch still agrees.
 use Rattle.std.proofs.Common.{◌≡◌, ◌↔◌, inl, inr, ℕ, ◌<◌, ◌≤◌, Bool, false, not, IsTrue, List, get_or, sym, ap, ◌∙◌, arith, All, Any}
-use Rattle.std.proofs.lemmas.Bool.{false≢true, cases_Bool, cases_lt}
+use Rattle.std.proofs.lemmas.Bool.{false≢true, cases_Bool}
 use Rattle.std.proofs.lemmas.Option.{slice_get-get_or}
 use Rattle.relationships.specs.Evidence.{IsTriple, IsConsistent}
 use Rattle.relationships.proofs.Closures.{reversed_triple}
-use Rattle.rel_checker.specs.Batches.{IsAgreeing, CanFlipTogether}
-use Rattle.rel_checker.specs.Neighbours.{HasNext, IsMutual, ReachesRow}
+use Rattle.rel_checker.specs.Batches.{IsAgreeing, AgreesAlone, CanFlipTogether}
+use Rattle.rel_checker.specs.Neighbours.{HasNext, IsMutual}
 use Rattle.rel_checker.specs.Searching.{RoundCameTo, HasSearchedFrom}
 use Rattle.rel_checker.specs.Flipping.{IsFlipped, FlipsTo, IsBuilt, IsProper, FlipsLeaveNoValley}
 use Rattle.tor_arena.proofs.Gets.{All-get}
@@ -24,20 +24,11 @@ batch-none implied conflicting rounds round below = record {
   latest = λ i d lt. (let less = below i d lt in omega arith);
 }
 
-latest-reach : (rows : List (List ℕ)) (start round : ℕ) (old new found : List ℕ) → All (λ m. m ≤ round) old → HasSearchedFrom rows start round old new found → All (λ m. m ≤ round) new
+pub latest-reach : (rows : List (List ℕ)) (start round : ℕ) (old new found : List ℕ) → All (λ m. m ≤ round) old → HasSearchedFrom rows start round old new found → All (λ m. m ≤ round) new
 latest-reach rows start round old new found latest s i d lt =
     elim (s.others i (get_or new i d) (slice_get-get_or new i d lt)) [
       | inl o ↦ All-get (λ m. m ≤ round) old i (get_or new i d) latest o
       | inr e ↦ omega arith
-    ]
-
--- no edge bears the number of the next batch
-pub unused-next : (rows : List (List ℕ)) (start batch next : ℕ) (old new found : List ℕ) → batch ≤ next → (batch ≡ next → ⊥) → All (λ m. m ≤ batch) old →
-    HasSearchedFrom rows start batch old new found → All (λ m. m < next) new
-unused-next rows start batch next old new found le ne latest s i d lt =
-    elim (cases_lt batch next) [
-      | inl less ↦ (let most = latest-reach rows start batch old new found latest s i d lt in omega arith)
-      | inr ge ↦ absurd (ne (omega arith))
     ]
 
 -- what follows from an edge joins a batch if the batch still agrees
@@ -75,19 +66,9 @@ module _ (orders : List (ℕ × ℕ)) (paths implied conflicting : List (List �
       (built.conflicts j i).1 (w.2, w.1, w.0, w.4, w.3, reversed_triple paths w.0 w.1 w.2 w.5)
 
   module _ (proper : IsProper orders) (settled : FlipsLeaveNoValley orders paths) where
-    -- what follows from an edge of a batch is consistent
-    pub consistent_within : (s a b round : ℕ) (old new found : List ℕ) → FlipsTo orders s a b → HasSearchedFrom implied s round old new found → IsAgreeing conflicting new round →
-        IsFlipped orders a b × IsConsistent paths a b
-    consistent_within s a b round old new found ts reach agreeing = (
-      (s, ts),
-      (consistent_exactly orders paths implied conflicting built proper settled s a b ts).1 (λ i j li lj n. agreeing i j ((reach.exact i).1 (inr li)) ((reach.exact j).1 (inr lj)) n),
-    )
+    -- an order against a label is consistent if what follows from it agrees
+    pub flips_if_agrees : (s a b : ℕ) → FlipsTo orders s a b → AgreesAlone implied conflicting s → IsFlipped orders a b × IsConsistent paths a b
+    flips_if_agrees s a b ts agrees = ((s, ts), (consistent_exactly orders paths implied conflicting built proper settled s a b ts).1 agrees)
 
-    -- what follows from an edge is a batch of its own if it is consistent
-    pub agreeing_alone : (s a b round : ℕ) (old new found : List ℕ) → FlipsTo orders s a b → All (λ m. m < round) old → HasSearchedFrom implied s round old new found → IsConsistent paths a b →
-        IsAgreeing conflicting new round
-    agreeing_alone s a b round old new found ts below reach consistent i j vi vj n =
-        (consistent_exactly orders paths implied conflicting built proper settled s a b ts).0 consistent i j (led i vi) (led j vj) n
-      where
-        led : (k : ℕ) → RoundCameTo new round k → ReachesRow implied s k
-        led k v = elim ((reach.exact k).0 v) [ inl o ↦ absurd (unvisited_below old round below k o) | inr l ↦ l ]
+    pub agrees_if_flips : (s a b : ℕ) → FlipsTo orders s a b → IsConsistent paths a b → AgreesAlone implied conflicting s
+    agrees_if_flips s a b ts consistent = (consistent_exactly orders paths implied conflicting built proper settled s a b ts).0 consistent

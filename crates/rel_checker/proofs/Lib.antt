@@ -25,6 +25,7 @@ pub mod Passing
 pub mod Repeats
 pub mod Returns
 pub mod Rounds
+pub mod RuledOut
 pub mod Servings
 pub mod Settled
 pub mod Settling
@@ -34,7 +35,9 @@ pub mod SlopeLemmas
 pub mod Soundness
 pub mod StepLemmas
 pub mod SupportLemmas
+pub mod TestingLemmas
 pub mod TotalLemmas
+pub mod TurnedRows
 pub mod Turning
 pub mod Validity
 pub mod ValleyLemmas

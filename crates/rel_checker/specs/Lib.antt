@@ -11,3 +11,4 @@ pub mod Serving
 pub mod Showing
 pub mod Steps
 pub mod Tables
+pub mod Testing

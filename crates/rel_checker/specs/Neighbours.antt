@@ -1,5 +1,5 @@
 -- For each edge a row of other edges, and what is reached from an edge along the rows.
-use Rattle.std.specs.Prelude.{◌≡◌, ℕ, ◌<◌, List, [], ◌∷◌, ◌++◌, length, Some, Contains, slice_get, slice_set, slice_index_or}
+use Rattle.std.specs.Prelude.{◌≡◌, ◌⊎◌, ℕ, ◌<◌, List, [], ◌∷◌, ◌++◌, length, Some, Contains, slice_get, slice_set, slice_index_or}
 
 -- j stands in the row of i
 abbrev pub HasNext : List (List ℕ) → ℕ → ℕ → Type 0
@@ -21,3 +21,16 @@ with_next rows i j = slice_set rows i (slice_index_or rows i [] ++ j ∷ [])
 pub data ReachesRow (rows : List (List ℕ)) (start : ℕ) : ℕ → Type 0 where
   here : ReachesRow rows start start
   onward : {i j : ℕ} → ReachesRow rows start i → HasNext rows i j → ReachesRow rows start j
+
+-- the rows with j behind the others in each row of `seen`
+pub record HasBack (j : ℕ) (seen : List ℕ) (old new : List (List ℕ)) : Type 0 where
+  pub many : length new ≡ length old
+  pub kept : (k l : ℕ) → HasNext old k l → HasNext new k l
+  pub added : (i : ℕ) → Contains seen i → HasNext new i j
+  pub only : (k l : ℕ) → HasNext new k l → HasNext old k l ⊎ (l ≡ j)
+
+-- these are the rows the other way round
+pub record IsTurned (rows turned : List (List ℕ)) : Type 0 where
+  pub many : length turned ≡ length rows
+  pub inside : EachHasRow turned
+  pub back : (i j : ℕ) → HasNext rows i j → HasNext turned j i

@@ -1,5 +1,6 @@
 //! Rule 9: each mark is borne out, and each open line serves. What flips with an edge is searched along rows of edges.
 
+pub(crate) mod batch;
 pub(crate) mod consistency;
 pub(crate) mod flipping;
 pub(crate) mod mark_rules;

@@ -1,163 +1,163 @@
 //! Whether the closures of open lines are consistent.
 
-ghost use Rattle.std.specs.Prelude.{◌≡◌, ◌<◌, ◌≤◌, ◌↔◌, ℕ, length, All, Any, IsTrue, Some, OnOk, IfOk};
-ghost use Rattle.rel_checker.specs.Neighbours.{HasNext, EachHasRow, IsMutual};
-ghost use Rattle.rel_checker.specs.Searching.{RoundCameTo, HasSearchedFrom};
-ghost use Rattle.tor_arena.specs.Limits.{most_places};
-ghost use Rattle.rel_checker.specs.Batches.{IsAgreeing, CanFlipTogether};
-ghost use Rattle.rel_checker.specs.Serving.{CanFlip, IsLaidOut, First, GainsAt, ServesAt};
+ghost use Rattle.std.specs.Prelude.{◌≡◌, ◌<◌, ◌≤◌, ◌↔◌, ◌+◌, ◌*◌, ◌^◌, ℕ, length, All, Contains, IsTrue, OnOk, IfOk};
+ghost use Rattle.result_rules.specs.File.{HasFewLines};
+ghost use Rattle.rel_checker.specs.Batches.{AreRows, IsBegun, IsBatch};
+ghost use Rattle.rel_checker.specs.Serving.{IsLaidOut, First, GainsAt, ServesAt};
+ghost use Rattle.rel_checker.specs.Testing.{IsBehind, end_before, IsFailing, IsTested, Tests, IsWaiting, IsBatchTested, AreAllTested};
 
+use crate::marks::batch::Batch;
 use crate::marks::flipping::Flips;
 use crate::marks::neighbours::Neighbours;
-use crate::marks::searching::reach;
 use crate::marks::serving::start_of;
-use result_text::{Probe, ResultFile};
+use result_text::ResultFile;
 use std::alloc::Global;
-use tor_arena::{Arena, EdgeId, List, NoMemory};
+use tor_arena::{List, NoMemory};
 use tor_numbers::EdgeTable;
 
-/// Whether the round came to one of these edges.
-fn has_visited(row: &[EdgeId], rounds: &Arena<EdgeId, usize>, round: usize) -> bool
-    requires { All (λ k. k < length rounds.now.items) row.now }
-    ensures { IsTrue result ↔ Any (RoundCameTo rounds.now.items round) row.now }
+/// Whether a line stands at the failing one, if there is one, or behind it.
+fn is_behind(failing: Option<usize>, place: usize) -> bool
+    ensures { IsTrue result ↔ IsBehind failing place }
 {
-    row.iter().any(|edge| *rounds.get(*edge) == round)
-}
-
-/// Whether an edge conflicts with one to which the round came.
-fn conflicts_visited(
-    conflicting: &Neighbours,
-    rounds: &Arena<EdgeId, usize>,
-    round: usize,
-    edge: EdgeId,
-) -> bool
-    requires inside { EachHasRow conflicting.now }
-    requires many { length rounds.now.items ≡ length conflicting.now }
-    requires edge { edge < length conflicting.now }
-    ensures { IsTrue result ↔ ((j : ℕ) × HasNext conflicting.now edge j × RoundCameTo rounds.now.items round j) }
-{
-    has_visited(conflicting.of(edge), rounds, round)
-}
-
-/// Whether one of these edges conflicts with one to which the round came.
-fn has_clash(
-    conflicting: &Neighbours,
-    rounds: &Arena<EdgeId, usize>,
-    round: usize,
-    found: &[EdgeId],
-) -> bool
-    requires inside { EachHasRow conflicting.now }
-    requires many { length rounds.now.items ≡ length conflicting.now }
-    requires found { All (λ k. k < length conflicting.now) found.now }
-    ensures { IsTrue result ↔ Any (λ i. (j : ℕ) × HasNext conflicting.now i j × RoundCameTo rounds.now.items round j) found.now }
-{
-    found.iter().any(|edge| conflicts_visited(conflicting, rounds, round, *edge))
-}
-
-/// Open lines that are tested together, by what follows from them: the edges to which the round came.
-#[derive(Drop)]
-struct Batch {
-    round: usize,
-    rounds: Arena<EdgeId, usize>,
-    found: List<EdgeId>,
-}
-
-impl Batch {
-    /// A batch of no lines, for so many edges.
-    fn new(alloc: Global, count: usize) -> Result<Batch, NoMemory>
-        requires { count ≤ most_places }
-        ensures many { IfOk result (λ batch. length batch.rounds.items ≡ count) }
-        ensures round { IfOk result (λ batch. batch.round ≡ 1) }
-        ensures none { IfOk result (λ batch. All (λ m. m < 1) batch.rounds.items) }
-    {
-        let mut rounds = Arena::new(alloc);
-        rounds.push_copies(0, count)?;
-        Ok(Batch {
-            round: 1,
-            rounds,
-            found: List::new(alloc),
-        })
-    }
-
-    /// Adds what follows from an edge. Answers whether still no edge of the batch conflicts with another.
-    fn join(&mut self, flips: &Flips, start: EdgeId) -> Result<bool, NoMemory>
-        requires start { start < length flips.now.implied }
-        requires many { length self.old.rounds.items ≡ length flips.now.implied }
-        requires same { length flips.now.conflicting ≡ length flips.now.implied }
-        requires inside { EachHasRow flips.now.implied }
-        requires conflicts { EachHasRow flips.now.conflicting }
-        requires both_ways { IsMutual flips.now.conflicting }
-        requires batch { CanFlipTogether flips.now.implied flips.now.conflicting self.old.rounds.items self.old.round }
-        ensures round { OnOk result (self.new.round ≡ self.old.round) }
-        ensures searched { OnOk result
-            (HasSearchedFrom flips.now.implied start self.old.round self.old.rounds.items self.new.rounds.items self.new.found) }
-        ensures agreeing { IfOk result (λ agrees.
-            IsTrue agrees ↔ IsAgreeing flips.now.conflicting self.new.rounds.items self.old.round) }
-    {
-        reach(
-            &flips.implied,
-            start,
-            self.round,
-            &mut self.rounds,
-            &mut self.found,
-        )?;
-        Ok(!has_clash(
-            &flips.conflicting,
-            &self.rounds,
-            self.round,
-            self.found.as_slice(),
-        ))
-    }
-
-    /// Takes in an open line, or begins anew with it, as round `next`, where it conflicts with others of the batch. False
-    /// exactly if its order is against no label, or its closure is not consistent.
-    fn take_in(
-        &mut self,
-        file: &ResultFile,
-        table: &EdgeTable,
-        flips: &Flips,
-        probe: &Probe,
-        next: usize,
-    ) -> Result<bool, NoMemory>
-        requires laid { IsLaidOut file.now table.now flips.now.implied flips.now.conflicting }
-        requires many { length self.old.rounds.items ≡ length file.now.edges }
-        requires batch { CanFlipTogether flips.now.implied flips.now.conflicting self.old.rounds.items self.old.round }
-        requires later { self.old.round ≤ next }
-        requires alone { self.old.round ≡ next → All (λ m. m < next) self.old.rounds.items }
-        ensures many { OnOk result (length self.new.rounds.items ≡ length file.now.edges) }
-        ensures later { OnOk result (self.new.round ≤ next) }
-        ensures batch { IfOk result (λ taken.
-            IsTrue taken → CanFlipTogether flips.now.implied flips.now.conflicting self.new.rounds.items self.new.round) }
-        ensures consistent { IfOk result (λ taken. IsTrue taken ↔ CanFlip file.now (probe.now.over, probe.now.under)) }
-    {
-        let lines = file.edges.as_slice();
-        let Some(start) = start_of(lines, table, probe) else {
-            return Ok(false);
-        };
-        if self.join(flips, start)? {
-            return Ok(true);
-        }
-        if self.round == next {
-            return Ok(false);
-        }
-        self.round = next;
-        let agrees = self.join(flips, start)?;
-        Ok(agrees)
-    }
-}
-
-/// Whether it is this place.
-fn is_place(found: Option<usize>, place: usize) -> bool
-    ensures { IsTrue result ↔ (found ≡ Some place) }
-{
-    match found {
-        Some(at) => at == place,
+    match failing {
+        Some(first) => first <= place,
         None => false,
     }
 }
 
-/// The place of the first open line that doesn't serve, where `idle` is that of the first one that
-/// gains nothing.
+/// Where the lines before this one end, of so many; if there is none, where all end.
+fn end_before(first: Option<usize>, count: usize) -> usize
+    ensures { result ≡ end_before first count }
+{
+    match first {
+        Some(place) => place,
+        None => count,
+    }
+}
+
+/// Adds a line that is not tested to those that wait.
+fn let_wait(done: bool, place: usize, waiting: &mut List<usize>) -> Result<(), NoMemory>
+    ensures { OnOk result (IsWaiting done place waiting.old waiting.new) }
+{
+    if !done {
+        waiting.push(place)?;
+    }
+    Ok(())
+}
+
+/// The numbers below `end`.
+fn places_before(alloc: Global, end: usize) -> Result<List<usize>, NoMemory>
+    ensures many { IfOk result (λ places. length places ≡ end) }
+    ensures inside { IfOk result (All (λ k. k < end)) }
+    ensures all { IfOk result (λ places. (k : ℕ) → k < end → Contains places k) }
+{
+    let mut places = List::new(alloc);
+    for place in 0..end {
+        places.push(place)?;
+    }
+    Ok(places)
+}
+
+/// Open lines that are tested in batches, and the first of them so far that doesn't serve.
+#[derive(Drop)]
+struct Testing {
+    batch: Batch,
+    failing: Option<usize>,
+}
+
+impl Testing {
+    /// Tests a line, unless it stands behind one that doesn't serve. False if it has to wait for another batch, since it can't flip with
+    /// the lines of this one.
+    fn test(
+        &mut self,
+        file: &ResultFile,
+        table: &EdgeTable,
+        flips: &Flips,
+        implying: &Neighbours,
+        place: usize,
+    ) -> Result<bool, NoMemory>
+        requires laid { IsLaidOut file.now table.now flips.now.implied flips.now.conflicting }
+        requires rows { AreRows flips.now.implied flips.now.conflicting implying.now }
+        requires there { place < length file.now.probes }
+        requires batch { IsBatch flips.now.implied flips.now.conflicting implying.now self.old.batch }
+        requires room { self.old.batch.round + 1 < 2 ^ 64 }
+        ensures { IfOk result
+            (Tests file.now flips.now.implied flips.now.conflicting implying.now place self.old self.new) }
+    {
+        if is_behind(self.failing, place) {
+            return Ok(true);
+        }
+        let probe = &file.probes.as_slice()[place];
+        let Some(start) = start_of(file.edges.as_slice(), table, probe) else {
+            self.failing = Some(place);
+            return Ok(true);
+        };
+        if self.batch.rules_out(start) {
+            return Ok(false);
+        }
+        if !self.batch.join(flips, implying, start)? {
+            self.failing = Some(place);
+            self.batch.begin();
+        }
+        Ok(true)
+    }
+
+    /// Tests those of the lines that need not wait, in one batch, and answers the others.
+    fn test_batch(
+        &mut self,
+        alloc: Global,
+        file: &ResultFile,
+        table: &EdgeTable,
+        flips: &Flips,
+        implying: &Neighbours,
+        places: &[usize],
+    ) -> Result<List<usize>, NoMemory>
+        requires laid { IsLaidOut file.now table.now flips.now.implied flips.now.conflicting }
+        requires rows { AreRows flips.now.implied flips.now.conflicting implying.now }
+        requires inside { All (λ k. k < length file.now.probes) places.now }
+        requires batch { IsBatch flips.now.implied flips.now.conflicting implying.now self.old.batch }
+        requires failing { IsFailing file.now self.old.failing }
+        requires room { self.old.batch.round + 2 + length places.now < 2 ^ 64 }
+        ensures { IfOk result (IsBatchTested file.now flips.now.implied flips.now.conflicting implying.now places.now self.old self.new) }
+    {
+        self.batch.begin();
+        let mut waiting = List::new(alloc);
+        for at in 0..places.len() {
+            let place = places[at];
+            let done = self.test(file, table, flips, implying, place)?;
+            let_wait(done, place, &mut waiting)?;
+        }
+        Ok(waiting)
+    }
+
+    /// Tests the lines before `end`, in batches: within a batch what follows from all of them is visited once.
+    fn test_all(
+        &mut self,
+        alloc: Global,
+        file: &ResultFile,
+        table: &EdgeTable,
+        flips: &Flips,
+        implying: &Neighbours,
+        end: usize,
+    ) -> Result<(), NoMemory>
+        requires lines { HasFewLines file.now }
+        requires laid { IsLaidOut file.now table.now flips.now.implied flips.now.conflicting }
+        requires rows { AreRows flips.now.implied flips.now.conflicting implying.now }
+        requires end { end ≤ length file.now.probes }
+        requires batch { IsBegun (length flips.now.implied) self.old.batch }
+        requires round { self.old.batch.round ≡ 1 }
+        requires failing { IsFailing file.now self.old.failing }
+        ensures { OnOk result (AreAllTested file.now end self.old.failing self.new.failing) }
+    {
+        let mut waiting = places_before(alloc, end)?;
+        while !waiting.is_empty() {
+            waiting = self.test_batch(alloc, file, table, flips, implying, waiting.as_slice())?;
+        }
+        Ok(())
+    }
+}
+
+/// The place of the first open line that doesn't serve, where `idle` is that of the first one that gains nothing.
 pub(crate) fn find_useless(
     alloc: Global,
     file: &ResultFile,
@@ -165,18 +165,36 @@ pub(crate) fn find_useless(
     flips: &Flips,
     idle: Option<usize>,
 ) -> Result<Option<usize>, NoMemory>
+    requires lines { HasFewLines file.now }
     requires laid { IsLaidOut file.now table.now flips.now.implied flips.now.conflicting }
     requires idle { First (GainsAt file.now) (length file.now.probes) idle }
     ensures { IfOk result (First (ServesAt file.now) (length file.now.probes)) }
 {
-    let mut batch = Batch::new(alloc, file.edges.len())?;
-    for (k, probe) in file.probes.as_slice().iter().enumerate() {
-        if is_place(idle, k) {
-            return Ok(Some(k));
-        }
-        if !batch.take_in(file, table, flips, probe, k + 1)? {
-            return Ok(Some(k));
-        }
-    }
-    Ok(None)
+    let implying = flips.implied.turned(alloc)?;
+    find_by_batches(alloc, file, table, flips, &implying, idle)
+}
+
+/// The same, by the rows of implied edges the other way round.
+fn find_by_batches(
+    alloc: Global,
+    file: &ResultFile,
+    table: &EdgeTable,
+    flips: &Flips,
+    implying: &Neighbours,
+    idle: Option<usize>,
+) -> Result<Option<usize>, NoMemory>
+    requires lines { HasFewLines file.now }
+    requires laid { IsLaidOut file.now table.now flips.now.implied flips.now.conflicting }
+    requires rows { AreRows flips.now.implied flips.now.conflicting implying.now }
+    requires idle { First (GainsAt file.now) (length file.now.probes) idle }
+    ensures { IfOk result (First (ServesAt file.now) (length file.now.probes)) }
+{
+    let batch = Batch::new(alloc, file.edges.len())?;
+    let mut testing = Testing {
+        batch,
+        failing: idle,
+    };
+    let end = end_before(idle, file.probes.len());
+    testing.test_all(alloc, file, table, flips, implying, end)?;
+    Ok(testing.failing)
 }

@@ -1,11 +1,11 @@
 //! Which edges stand next to each other on kept paths and on returns of givens.
-ghost use Rattle.std.specs.Prelude.{◌≡◌, ◌<◌, ◌≤◌, [], Some, length, replicate, slice_get, OnOk, IfOk};
+ghost use Rattle.std.specs.Prelude.{◌≡◌, ◌<◌, ◌≤◌, [], All, Some, length, replicate, slice_get, OnOk, IfOk};
 ghost use Rattle.tor_arena.specs.Limits.{most_places};
-ghost use Rattle.rel_checker.specs.Neighbours.{with_next};
+ghost use Rattle.rel_checker.specs.Neighbours.{with_next, EachHasRow, HasBack, IsTurned};
 
 use std::alloc::Global;
 use std::marker::Model;
-use tor_arena::{Arena, EdgeId, List, NoMemory};
+use tor_arena::{Arena, EdgeId, Index, List, NoMemory};
 
 /// For each edge a row of other edges.
 #[derive(Drop)]
@@ -51,6 +51,31 @@ impl Neighbours {
         ensures { slice_get self.now edge ≡ Some result.now }
     {
         self.rows.get(edge).as_slice()
+    }
+
+    /// Puts an edge behind the others in each of these rows.
+    fn add_to_each(&mut self, row: &[EdgeId], to: EdgeId) -> Result<(), NoMemory>
+        requires { All (λ k. k < length self.old) row.now }
+        ensures { OnOk result (HasBack to row.now self.old self.new) }
+    {
+        for from in row {
+            self.add(*from, to)?;
+        }
+        Ok(())
+    }
+
+    /// The rows the other way round: for each edge those in whose rows it stands.
+    pub fn turned(&self, alloc: Global) -> Result<Neighbours, NoMemory>
+        requires few { length self.now ≤ most_places }
+        requires inside { EachHasRow self.now }
+        ensures { IfOk result (IsTurned self.now) }
+    {
+        let mut turned = Neighbours::new(alloc, self.len())?;
+        for place in 0..self.len() {
+            let edge = EdgeId::from_place(place).unwrap();
+            turned.add_to_each(self.of(edge), edge)?;
+        }
+        Ok(turned)
     }
 
     /// How many rows there are. It takes no memory.

@@ -1,7 +1,7 @@
 use Rattle.std.proofs.Common.{get_or, subst, sym, ◌∙◌, arith, Contains}
 use Rattle.std.proofs.lemmas.Option.{same_Some}
 use Rattle.std.proofs.lemmas.List.Elements.{Contains-get_or}
-use Rattle.rel_checker.proofs.marks.consistency.conflicts_visited.Goals as goal
+use Rattle.rel_checker.proofs.marks.batch.conflicts_visited.Goals as goal
 
 pub has_visited-requires : goal.has_visited-requires
 has_visited-requires c = λ k d lt.

@@ -1,0 +1,128 @@
+-- What a batch rules out, and what that says of an edge that it doesn't.
+use Rattle.std.proofs.Common.{◌≡◌, ◌⊎◌, inl, inr, ℕ, ◌+◌, ◌≤◌, List, [], ◌∷◌, ◌++◌, take, Option, Some, None, slice_get, length, refl, sym, ap, ◌∙◌, arith, subst, All, Contains, nat_eq, eq-eqb}
+use Rattle.std.proofs.lemmas.Bool.{false≢true, cases_Bool, eqb-true}
+use Rattle.std.proofs.lemmas.Option.{same_Some}
+use Rattle.std.proofs.lemmas.List.Elements.{Contains-push_cases}
+use Rattle.rel_checker.specs.Batches.{IsAgreeing, AgreesAlone, CanFlipTogether, RulesOut, HasRuledOut, AreRows, HasRounds, IsBegun, IsBatch}
+use Rattle.rel_checker.specs.Neighbours.{HasNext, ReachesRow, here, onward}
+use Rattle.rel_checker.specs.Searching.{RoundCameTo, IsRoundClosed, HasSearchedFrom}
+use Rattle.rel_checker.specs.declared.marks.batch.Batch.{Batch}
+use Rattle.rel_checker.proofs.Rounds.{closed-reach}
+use Rattle.rel_checker.proofs.Consistencies.{latest-reach, unvisited_below, batch-none}
+
+module _ (implying : List (List ℕ)) (round : ℕ) where
+  pub ruled-none : (P : ℕ → Type 0) (ruled : List ℕ) → IsRoundClosed implying ruled round → All (λ m. m ≤ round) ruled → ((k : ℕ) → P k → ⊥) → HasRuledOut implying round P ruled ruled
+  ruled-none P ruled closed latest none = record {
+    came = λ k h. absurd (none k h);
+    kept = λ k h. h;
+    closed = closed;
+    latest = latest;
+    many = refl;
+  }
+
+  pub ruled-one : (start : ℕ) (old new found : List ℕ) → IsRoundClosed implying old round → All (λ m. m ≤ round) old → HasSearchedFrom implying start round old new found →
+      HasRuledOut implying round (λ k. start ≡ k) old new
+  ruled-one start old new found closed latest s = record {
+    came = λ k e. subst (RoundCameTo new round) e ((s.exact start).1 (inr here));
+    kept = λ k h. (s.exact k).1 (inl h);
+    closed = closed-reach implying start round old new found closed s;
+    latest = latest-reach implying start round old new found latest s;
+    many = s.many;
+  }
+
+  pub ruled-more : (P Q R : ℕ → Type 0) (old mid new : List ℕ) → HasRuledOut implying round P old mid → HasRuledOut implying round Q mid new → ((k : ℕ) → R k → P k ⊎ Q k) →
+      HasRuledOut implying round R old new
+  ruled-more P Q R old mid new a b cases = record {
+    came = λ k h. elim (cases k h) [ inl p ↦ b.kept k (a.came k p) | inr q ↦ b.came k q ];
+    kept = λ k h. b.kept k (a.kept k h);
+    closed = b.closed;
+    latest = b.latest;
+    many = b.many ∙ a.many;
+  }
+
+  -- what conflicts with one edge more
+  pub ruled_next : (conflicting : List (List ℕ)) (found : List ℕ) (n edge : ℕ) (row old mid new : List ℕ) → take (n + 1) found ≡ take n found ++ edge ∷ [] → slice_get conflicting edge ≡ Some row →
+      HasRuledOut implying round (λ k. (i : ℕ) × Contains (take n found) i × HasNext conflicting i k) old mid → HasRuledOut implying round (Contains row) mid new →
+      HasRuledOut implying round (λ k. (i : ℕ) × Contains (take (n + 1) found) i × HasNext conflicting i k) old new
+  ruled_next conflicting found n edge row old mid new more its_row a b =
+      ruled-more (λ k. (i : ℕ) × Contains (take n found) i × HasNext conflicting i k) (Contains row) (λ k. (i : ℕ) × Contains (take (n + 1) found) i × HasNext conflicting i k) old mid new a b cases
+    where
+      in_row : (i k : ℕ) → edge ≡ i → HasNext conflicting i k → Contains row k
+      in_row i k same h =
+          let is : row ≡ h.0 = same_Some row h.0 (sym its_row ∙ ap (slice_get conflicting) same ∙ h.1) in
+          subst (λ (l : List ℕ). Contains l k) (sym is) h.2
+
+      cases : (k : ℕ) → (i : ℕ) × Contains (take (n + 1) found) i × HasNext conflicting i k → ((i : ℕ) × Contains (take n found) i × HasNext conflicting i k) ⊎ Contains row k
+      cases k h = elim (Contains-push_cases (take n found) edge h.0 (subst (λ (l : List ℕ). Contains l h.0) more h.1)) [
+        | inl c ↦ inl (h.0, c, h.2)
+        | inr e ↦ inr (in_row h.0 k e h.2)
+      ]
+
+-- what leads to an edge that is ruled out is ruled out
+ruled_back : (implied implying : List (List ℕ)) (ruled : List ℕ) (round : ℕ) → ((i j : ℕ) → HasNext implied i j → HasNext implying j i) → IsRoundClosed implying ruled round →
+    (start : ℕ) {k : ℕ} → ReachesRow implied start k → RoundCameTo ruled round k → RoundCameTo ruled round start
+ruled_back implied implying ruled round turned closed start here h = h
+ruled_back implied implying ruled round turned closed start (onward {i = i} {j = j} l n) h =
+    ruled_back implied implying ruled round turned closed start l (closed j i h (turned i j n))
+
+module _ (implied conflicting implying : List (List ℕ)) (rows : AreRows implied conflicting implying) where
+  -- what flips with an edge that is not ruled out agrees with the batch if it agrees with itself
+  pub agrees_together : (start round : ℕ) (old new found ruled : List ℕ) → CanFlipTogether implied conflicting old round → RulesOut conflicting implying old ruled round →
+      (RoundCameTo ruled round start → ⊥) → HasSearchedFrom implied start round old new found → AgreesAlone implied conflicting start → IsAgreeing conflicting new round
+  agrees_together start round old new found ruled batch out free reach alone i j vi vj n =
+      elim ((reach.exact i).0 vi) [
+        | inl oi ↦ elim ((reach.exact j).0 vj) [
+          | inl oj ↦ batch.agreeing i j oi oj n
+          | inr lj ↦ free (back lj (out.clashing i j oi n))
+        ]
+        | inr li ↦ elim ((reach.exact j).0 vj) [
+          | inl oj ↦ free (back li (out.clashing j i oj (rows.both_ways i j n)))
+          | inr lj ↦ alone i j li lj n
+        ]
+      ]
+    where
+      back : {k : ℕ} → ReachesRow implied start k → RoundCameTo ruled round k → RoundCameTo ruled round start
+      back l h = ruled_back implied implying ruled round rows.turned out.closed start l h
+
+  pub agrees_alone : (start round : ℕ) (old new found : List ℕ) → HasSearchedFrom implied start round old new found → IsAgreeing conflicting new round → AgreesAlone implied conflicting start
+  agrees_alone start round old new found reach agreeing i j li lj n = agreeing i j ((reach.exact i).1 (inr li)) ((reach.exact j).1 (inr lj)) n
+
+  -- the round had come to an edge, or the search found it
+  was_or_found : (start round : ℕ) (old new found : List ℕ) → HasSearchedFrom implied start round old new found → (k : ℕ) → RoundCameTo new round k → RoundCameTo old round k ⊎ Contains found k
+  was_or_found start round old new found reach k h =
+      elim (decided (slice_get old k)) [ inl o ↦ inl o | inr n ↦ inr ((reach.noted k).1 (h, n)) ]
+    where
+      decided : (o : Option ℕ) → (o ≡ Some round) ⊎ (o ≡ Some round → ⊥)
+      decided None = inr (λ e. absurd (cc e))
+      decided (Some m) = elim (cases_Bool (nat_eq m round)) [
+        | inl t ↦ inl (ap (λ v. Some v) (eqb-true m round t))
+        | inr f ↦ inr (λ e. false≢true (sym f ∙ eq-eqb m round (same_Some m round e)))
+      ]
+
+  -- what conflicts with what was found is ruled out
+  pub out_more : (start round : ℕ) (old new found ruled ruled' : List ℕ) → RulesOut conflicting implying old ruled round → HasSearchedFrom implied start round old new found →
+      HasRuledOut implying round (λ k. (i : ℕ) × Contains found i × HasNext conflicting i k) ruled ruled' → RulesOut conflicting implying new ruled' round
+  out_more start round old new found ruled ruled' out reach more = record {
+    clashing = λ i j vi n. elim (was_or_found start round old new found reach i vi) [
+      | inl oi ↦ more.kept j (out.clashing i j oi n)
+      | inr c ↦ more.came j (i, c, n)
+    ];
+    closed = more.closed;
+    latest = more.latest;
+  }
+
+  -- a batch that begins
+  pub begun : (batch : Batch) → IsBegun (length implied) batch → IsBatch implied conflicting implying batch
+  begun batch b = record {
+    many = b.many;
+    ruled_many = b.ruled_many;
+    together = batch-none implied conflicting batch.rounds.items batch.round b.none;
+    out = record {
+      clashing = λ i j vi n. absurd (unvisited_below batch.rounds.items batch.round b.none i vi);
+      closed = λ i j h n. absurd (unvisited_below batch.ruled.items batch.round b.none_ruled i h);
+      latest = λ i d lt. (let less = b.none_ruled i d lt in omega arith);
+    };
+  }
+
+  pub rounds_of : (batch : Batch) → IsBatch implied conflicting implying batch → HasRounds (length implied) batch
+  rounds_of batch b = record { many = b.many; ruled_many = b.ruled_many; latest = b.together.latest; ruled_latest = b.out.latest }
