@@ -5,6 +5,7 @@ use Rattle.std.specs.List.{fold, dedup, dedup_from, flat_map, before_first, pref
 use Rattle.std.proofs.lemmas.Bool.{lt-ltb}
 use Rattle.std.proofs.Math.Seq.{get_or-append_seam}
 use Rattle.std.proofs.lemmas.List.Sums.{fold-append}
+use Rattle.std.proofs.lemmas.List.{append-nil}
 use Rattle.std.proofs.lemmas.List.Concat.{flat_map-cons}
 use Rattle.path_attrs.specs.declared.as_path.Segment.{Segment}
 use Rattle.path_attrs.specs.PathOf.{is_confed}
@@ -16,7 +17,7 @@ use Rattle.path_clean.specs.declared.cleaned.Cleaned.TheVariants.{Path, Aside}
 use Rattle.path_clean.specs.declared.merging.Oddity.{Oddity}
 use Rattle.path_clean.specs.declared.merging.Oddity.TheVariants.{Confederation, MixedSet}
 use Rattle.path_clean.specs.Clean.{is_skip, is_mixed_set, ases_of, merged_path, cleaned_as, merge_segments}
-use Rattle.path_clean.specs.Merging.{ends_in, merged_onto, oddity_in, cause_of, MergesOnto}
+use Rattle.path_clean.specs.Merging.{ends_in, merged_onto, one_sequence, oddity_in, cause_of, MergesOnto}
 
 last-is : (path : List ℕ) (k x : ℕ) → ends_in (path ++ k ∷ []) x ≡ nat_eq x k
 last-is path k x =
@@ -89,3 +90,15 @@ merged_by sets segments path oddity is merges =
     ap (λ o. cleaned_as (cause_by sets o) path) is
     ∙ merged_with sets (list_any (λ s. is_confed s.kind) segments) (list_any is_mixed_set segments) path (merged_path segments)
     (λ none. merges none ∙ merged-dedup (flat_map ases_of (before_first is_mixed_set segments)))
+
+-- ---- one AS_SEQUENCE
+
+none_skipped : (sets : Sets) → (is_skip sets && false) ≡ false
+none_skipped Cut = refl
+none_skipped Skip = refl
+
+-- what a path that is one AS_SEQUENCE is merged to
+pub plain-merged : (sets : Sets) (ases path : List ℕ) → path ≡ fold merged_onto [] ases → Path path ≡ merge_segments sets (one_sequence ases)
+plain-merged sets ases path is =
+    ap Path (is ∙ merged-dedup ases ∙ sym (ap (dedup nat_eq) (append-nil ases)))
+    ∙ sym (ap (λ skips. cond skips (Aside Cause.Sets) (Path (dedup nat_eq (ases ++ [])))) (none_skipped sets))

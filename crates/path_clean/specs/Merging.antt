@@ -3,6 +3,7 @@ use Rattle.std.specs.Prelude.{◌≡◌, ℕ, ◌-◌, ◌==◌, Bool, false, �
 use Rattle.std.specs.List.{list_any, flat_map, before_first}
 use Rattle.path_attrs.specs.PathOf.{is_confed}
 use Rattle.path_attrs.specs.declared.as_path.Segment.{Segment}
+use Rattle.path_attrs.specs.declared.as_path.SegKind.TheVariants.{Sequence}
 use Rattle.path_clean.specs.declared.cleaned.Sets.{Sets}
 use Rattle.path_clean.specs.declared.cleaned.Sets.TheVariants.{Cut, Skip}
 use Rattle.path_clean.specs.declared.cleaned.Cause.{Cause}
@@ -18,6 +19,10 @@ ends_in path number = nat_lt 0 (length path) && number == slice_index path (leng
 -- a number goes last, unless it stands last already
 abbrev pub merged_onto : List ℕ → ℕ → List ℕ
 merged_onto path number = if ends_in path number then path else path ++ number ∷ []
+
+-- the segments of a path that is one AS_SEQUENCE
+abbrev pub one_sequence : (ases : List ℕ) → List Segment
+one_sequence ases = record { kind = Sequence; ases = ases } ∷ []
 
 -- a segment of a confederation, or else an AS_SET whose members differ
 abbrev pub oddity_in : List Segment → Option Oddity

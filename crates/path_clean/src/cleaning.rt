@@ -6,7 +6,8 @@ ghost use Rattle.path_clean.specs.Clean.{judged, cleaned_as, clean_of, merge_seg
 ghost use Rattle.path_clean.specs.Merging.{cause_of};
 
 use crate::cleaned::{Cause, Cleaned, Sets, are_distinct, has_reserved};
-use crate::merging::{Oddity, append_segments};
+use crate::merging::{Oddity, append_numbers, append_segments};
+use crate::plain::plain_ases;
 use path_attrs::{Attrs, PathCursor, Pathless, Width};
 use std::alloc::Global;
 use std::collections::BTreeSet;
@@ -57,6 +58,25 @@ pub fn clean_into(
 /// `judge`; a path that was judged before needn't be judged again. Else the cause for which the route is set aside, and `path` may
 /// be anything. NoMemory where memory ran out.
 pub fn merge_into(
+    sets: Sets,
+    attrs: &Attrs<'_>,
+    width: Width,
+    path: &mut List<u32>,
+) -> Result<Option<Cause>, NoMemory>
+    ensures { IfOk result (λ cause. cleaned_as cause path.new ≡ merged_of sets width attrs.now) }
+{
+    match plain_ases(attrs, width) {
+        Some(ases) => {
+            path.clear();
+            append_numbers(path, ases)?;
+            Ok(None)
+        }
+        None => merge_any(sets, attrs, width, path),
+    }
+}
+
+/// The same of any route, segment by segment.
+fn merge_any(
     sets: Sets,
     attrs: &Attrs<'_>,
     width: Width,

@@ -9,6 +9,7 @@ mod hashing;
 mod laws;
 mod lookup;
 mod merging;
+mod plain;
 mod repeats;
 mod slots;
 mod table;

@@ -68,7 +68,8 @@ fn append_number(path: &mut List<u32>, number: u32) -> Result<(), NoMemory>
     path.push(number)
 }
 
-fn append_numbers(path: &mut List<u32>, ases: NumberCursor<'_>) -> Result<(), NoMemory>
+/// Puts numbers at the end of a path, with equal neighbours merged.
+pub(crate) fn append_numbers(path: &mut List<u32>, ases: NumberCursor<'_>) -> Result<(), NoMemory>
     ensures { OnOk result (path.new ≡ fold merged_onto path.old ases.entry) }
 {
     let mut left = ases;
