@@ -94,8 +94,8 @@ impl IndexedPaths {
         self.seed == seed_of(keys)
     }
 
-    /// A guess where a path of this hash stands. It is one look into memory, on which nothing else here waits, so the looks for several
-    /// paths overlap if they follow one another. No row is looked at, and no memory is taken.
+    /// A guess where a path of this hash stands. It is one look into memory, at two slots that stand side by side, on which nothing else
+    /// here waits, so the looks for several paths overlap if they follow one another. No row is looked at, and no memory is taken.
     pub fn guess(&self, hash: u32) -> Option<PathId> {
         guess(self.slots.as_slice(), hash)
     }

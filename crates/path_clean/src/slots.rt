@@ -56,6 +56,12 @@ impl Slot {
         self.word / TAG
     }
 
+    /// The place of the row, from 0, if the slot has the tag of a path of this hash, and else, or where the slot is free, more than that
+    /// of any row.
+    fn place(self, hash: u32) -> u32 {
+        (self.word ^ (hash / TAG * TAG)).wrapping_sub(1)
+    }
+
     /// The place of the row, from 1, and 0 where the slot is free.
     fn row(self) -> u32
         ensures { result ≡ self.row }
@@ -106,15 +112,16 @@ pub(crate) fn id_of(row: u32) -> PathId
     }
 }
 
-/// Where a path of this hash may stand: at the row that the first slot of its search names, if this has the path's tag. Nothing is
-/// compared here, so no branch waits for the slot: with another tag the place is more than that of any row.
+/// Where a path of this hash may stand: at the row that one of the first two slots of its search names, if that has the path's tag.
+/// Nothing is compared with what the slots have but by taking the lesser of two numbers, so no branch waits for them.
 pub(crate) fn guess(slots: &[Slot], hash: u32) -> Option<PathId> {
     if slots.is_empty() {
         return None;
     }
-    let slot = slots[start_of(hash, slots.len())];
-    let row = slot.word ^ (hash / TAG * TAG);
-    PathId::from_place(row.wrapping_sub(1) as usize)
+    let first = start_of(hash, slots.len());
+    let second = next(first, slots.len());
+    let place = slots[first].place(hash).min(slots[second].place(hash));
+    PathId::from_place(place as usize)
 }
 
 /// Whether a slot, which isn't free, has the tag and names the path.

@@ -87,8 +87,8 @@ impl PathTable {
     }
 
     /// Looks up where paths stand, which needn't be clean: what is found is. They are looked up one right after the other, so that the
-    /// waits for memory of these look-ups overlap. A path that is there may be missed, where it isn't in the first slot in which it could
-    /// be. NoMemory where memory ran out: `lookup` may then be anything.
+    /// waits for memory of these look-ups overlap. A path that is there may be missed, where it isn't in one of the first two slots in
+    /// which it could be. NoMemory where memory ran out: `lookup` may then be anything.
     pub fn find_batch(&self, paths: &Rows<PathId, u32>, lookup: &mut Lookup) -> Result<(), NoMemory>
         ensures found { OnOk result (StandWhereFound self.now.rows paths.now lookup.new) }
         ensures clean { OnOk result (AreCleanWhereFound paths.now lookup.new) }
@@ -148,6 +148,7 @@ impl PathTable {
     }
 
     // Counts a clean path that is there once more, and adds one that isn't with these times: it goes last. It is refused as by `add`.
+    #[inline(always)]
     fn add_or_count(&mut self, path: &[u32], times: u64) -> Result<Added, AddRefused>
         requires clean { IsTrue (is_cleaned path.now) }
         requires seen { 1 ≤ times }
