@@ -1,5 +1,6 @@
 -- Rows that are found by slots, and one row more.
-use Rattle.std.proofs.Common.{◌≡◌, ◌∙◌, ℕ, zero, suc, ◌+◌, ◌<◌, ◌≤◌, ◌⊎◌, inl, inr, List, [], ◌∷◌, ◌++◌, Option, Some, None, true, length, take, set, refl, sym, ap, subst, arith, length-append, length-set}
+use Rattle.std.proofs.Common.{◌≡◌, ◌∙◌, ℕ, zero, suc, ◌+◌, ◌<◌, ◌≤◌, ◌⊎◌, inl, inr, List, [], ◌∷◌, ◌++◌, Option, Some, None, true, length, take, set, refl, sym, ap, subst, arith}
+use Rattle.std.proofs.Common.{length-append, length-set}
 use Rattle.std.specs.Prelude.{slice_get, replicate}
 use Rattle.std.proofs.lemmas.Option.{slice_get_within, slice_get-get_or, unwrap_or-slice_get}
 use Rattle.std.proofs.lemmas.List.{take_more, length-take-le}
@@ -11,7 +12,8 @@ use Rattle.path_clean.specs.Table.{place_of}
 use Rattle.path_clean.proofs.TableLemmas.{found-at}
 use Rattle.path_clean.specs.declared.slots.SearchEnd.{SearchEnd}
 use Rattle.path_clean.specs.declared.slots.SearchEnd.TheVariants.{Held, Free, Full}
-use Rattle.path_clean.specs.Slots.{TaggedRow, short_hash, tag_of, slot_of_hash, row_from_one, Names, NamedFrom, IsVacant, IsVacancy, IsRowSearchEnd, IsAbsent, Tells, IsTold, NameOnlyRows, IsIndexed, IsPut}
+use Rattle.path_clean.specs.Slots.{TaggedRow, short_hash, tag_of, slot_of_hash, row_from_one, IsPut}
+use Rattle.path_clean.specs.Slots.{Names, NamedFrom, IsVacant, IsVacancy, IsRowSearchEnd, IsAbsent, Tells, IsTold, NameOnlyRows, IsIndexed}
 use Rattle.tor_arena.proofs.Gets.{slice_get-push_old, slice_get-push_last, slice_get-push_cases, slice_get-set_cases, slice_get-replicate}
 use Rattle.path_clean.proofs.SlotLemmas.{stays-set, keeps-set, names-set, held-stays}
 

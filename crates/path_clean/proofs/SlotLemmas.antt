@@ -1,6 +1,5 @@
 -- Searches from slot to slot, and what they find when a slot has changed.
-use Rattle.std.proofs.Common.{◌≡◌, ℕ, zero, suc, Bool, true, false, ◌+◌, ◌-◌, ◌<◌, ◌≤◌, ◌⊎◌, inl, inr, List, [], ◌++◌, Option, Some, length, take, drop, set, get_or, refl, sym, ap, ◌∙◌, subst, arith}
-use Rattle.std.proofs.Common.{length-set}
+use Rattle.std.proofs.Common.{◌≡◌, ℕ, zero, suc, Bool, true, false, ◌+◌, ◌-◌, ◌<◌, ◌≤◌, inl, inr, List, [], ◌++◌, Option, Some, length, take, drop, set, get_or, sym, ap, ◌∙◌, subst, arith}
 use Rattle.std.specs.Prelude.{slice_get}
 use Rattle.std.proofs.lemmas.Option.{slice_get_within, slice_get-get_or, unwrap_or-slice_get}
 use Rattle.std.proofs.lemmas.List.{take-append-le}
@@ -99,12 +98,6 @@ held-stays rows more slots new path place (suc n) len keep stays (inr h) =
       subst (λ m. NamedFrom more new path (next_slot m place) n) (sym len)
           (held-stays rows more slots new path (next_slot (length slots) place) n len keep stays h.1),
     )
-
--- what is held is named by some slot
-pub held-somewhere : (rows : List (List ℕ)) (slots : List TaggedRow) (path : List ℕ) (place n : ℕ) → NamedFrom rows slots path place n → (q : ℕ) × Names rows slots q path
-held-somewhere rows slots path place zero h = absurd h
-held-somewhere rows slots path place (suc n) (inl e) = (place, e)
-held-somewhere rows slots path place (suc n) (inr h) = held-somewhere rows slots path (next_slot (length slots) place) n h.1
 
 -- a slot that is put into a free one
 module _ (slots : List TaggedRow) (place : ℕ) (slot : TaggedRow) where

@@ -1,5 +1,6 @@
 -- Rows that are found by slots: each stands in the slot that its hash names, or in one of the next, before any that is free.
-use Rattle.std.specs.Prelude.{◌≡◌, ◌≢◌, ◌<◌, ◌⊎◌, ℕ, zero, suc, ◌-◌, ◌*◌, ◌/◌, ◌^◌, ◌≤◌, List, length, set, Option, Some, None, slice_get, bit_and}
+use Rattle.std.specs.Prelude.{◌≡◌, ◌≢◌, ◌<◌, ◌⊎◌, ℕ, zero, suc, ◌-◌, ◌*◌, ◌/◌, ◌^◌, ◌≤◌, List, length, Option, Some, None}
+use Rattle.std.specs.Prelude.{slice_get, set, bit_and}
 use Rattle.tor_arena.specs.Growth.{next_slot}
 use Rattle.tor_arena.specs.Limits.{max_paths}
 use Rattle.path_clean.specs.Chains.{path_hash, row_at}

@@ -3,7 +3,8 @@
 ghost use Rattle.std.specs.Prelude.{◌≡◌, ◌<◌, ◌≤◌, ◌+◌, ◌^◌, ◌↔◌, length, IsTrue, Some, IfSome, IfOk, OnOk};
 ghost use Rattle.tor_arena.specs.Growth.{next_slot};
 ghost use Rattle.tor_arena.specs.Limits.{most_places, max_paths};
-ghost use Rattle.path_clean.specs.Slots.{tag_of, slot_of_hash, row_from_one, IsVacant, IsRowSearchEnd, NameOnlyRows, IsTold, IsPut, IsIndexed};
+ghost use Rattle.path_clean.specs.Slots.{tag_of, slot_of_hash, row_from_one, IsVacant, IsRowSearchEnd, NameOnlyRows, IsTold, IsPut};
+ghost use Rattle.path_clean.specs.Slots.{IsIndexed};
 
 use crate::hashing::{row_of, short_hash_of};
 use std::alloc::Global;

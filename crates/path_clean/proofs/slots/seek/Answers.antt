@@ -7,11 +7,14 @@ pub returns-then-row-eq0 : goal.returns-then-row-eq0
 returns-then-row-eq0 c =
     let slots = c.args.slots.now in
     let start = slot_of_hash c.args.hash (length slots) in
+    let place = c.loop-left.place in
+    let slot = c.index-slots-place.result in
     let k = c.loop-left.invariant in
+    let at = read_at slots place slot k.passing.inside c.index-slots-place.is in
     let some = c.loop-left-test.true in
-    let free = free_at slots c.loop-left.place c.index-slots-place.result (read_at slots c.loop-left.place c.index-slots-place.result k.passing.inside c.index-slots-place.is) (sym c.row.ensures ∙ c.if-row-eq0.true) in (
-      vacant_here slots start c.loop-left.place c.loop-left.left (omega (arith, some)) k.passing free,
-      seeking_free c.args.rows.now slots start c.args.path.now c.loop-left.place c.loop-left.left (omega (arith, some)) k free,
+    let free = free_at slots place slot at (sym c.row.ensures ∙ c.if-row-eq0.true) in (
+      vacant_here slots start place c.loop-left.left (omega (arith, some)) k.passing free,
+      seeking_free c.args.rows.now slots start c.args.path.now place c.loop-left.left (omega (arith, some)) k free,
     )
 
 pub is_of-requires-clause-within : goal.is_of-requires-clause-within

@@ -1,5 +1,4 @@
-use Rattle.std.proofs.Common.{◌≡◌, ◌∙◌, ◌+◌, ◌≤◌, length, set, ap, sym, subst, arith}
-use Rattle.tor_arena.specs.Limits.{max_paths}
+use Rattle.std.proofs.Common.{◌≡◌, ◌∙◌, length, set, ap, sym, subst, arith}
 use Rattle.path_clean.specs.Slots.{short_hash, tag_of, slot_of_hash, Indexed, IsVacant, IsIndexed}
 use Rattle.path_clean.proofs.IndexLemmas.{index-push, vacancy-of}
 use Rattle.path_clean.proofs.distinct_rows.IndexedPaths.push.Goals as goal
