@@ -221,7 +221,7 @@ fn steps_told(alloc: Global, graph: &AsGraph, place: usize) -> Result<Vec<(usize
     };
     if place < graph.path_count() {
         for step in graph.steps(path) {
-            told.push((step.edge.place(), step.left))?;
+            told.push((step.edge().place(), step.left()))?;
         }
     }
     Ok(told)
