@@ -1,15 +1,16 @@
 -- What the fields of a graph hold.
 use Rattle.std.specs.Prelude.{◌≡◌, ℕ, ◌+◌, ◌<◌, ◌≤◌, ◌||◌, ◌==◌, Bool, List, [], ◌∷◌, ◌++◌, All, length, map, sum_by, count_by, filter}
-use Rattle.std.specs.Prelude.{take, slice_index_or, unwrap_or, nat_eq, if◌then◌else◌}
+use Rattle.std.specs.Prelude.{take, slice_get, slice_index, slice_index_or, Some, Contains, nat_eq, if◌then◌else◌}
 use Rattle.std.specs.List.{list_any}
-use Rattle.std.specs.Map.{lookup}
 use Rattle.tor_arena.specs.Limits.{max_numbers}
+use Rattle.tor_numbers.specs.Slots.{IsApart}
 use Rattle.relationships.specs.declared.label.End.{End}
 use Rattle.relationships.specs.Evidence.{NeighboursDiffer}
 use Rattle.relationships.specs.Relationship.{opposite}
 use Rattle.relationships.specs.declared.given.Given.{Given}
 use Rattle.relationships.specs.Givens.{return_of}
 use Rattle.relationships.specs.Graph.{Edge, edge_of, is_same, edges}
+use Rattle.as_graph.specs.declared.graph_edges.Ends.{Ends}
 use Rattle.as_graph.specs.declared.step.Step.{Step}
 use Rattle.as_graph.specs.Limits.{most_paths, most_numbers, most_triples}
 use Rattle.as_graph.specs.Paths.{triple_count}
@@ -20,23 +21,34 @@ use Rattle.as_graph.specs.Steps.{HaveSteps}
 abbrev pub is_incident : ℕ → Edge → Bool
 is_incident a e = (e.0 == a) || (e.1 == a)
 
--- what is counted for an AS
-abbrev pub count_at : List (ℕ × ℕ) → ℕ → ℕ
-count_at counts a = unwrap_or (lookup (nat_eq a) counts) 0
+-- where the two of an edge stand in a table of numbers, in which each AS is found by 2 more than its own
+abbrev pub AreEndsOf : List ℕ → Edge → Ends → Type 0
+AreEndsOf ases e ends = (slice_get ases ends.low ≡ Some (e.0 + 2)) × (slice_get ases ends.high ≡ Some (e.1 + 2))
 
--- the counts are how many of the edges hold each AS
-abbrev pub AreDegrees : List Edge → List (ℕ × ℕ) → Type 0
-AreDegrees es counts = (a : ℕ) → count_at counts a ≡ count_by (is_incident a) es
+-- for each AS of the table, how many of the edges hold it; and they hold no other
+pub record AreDegrees (es : List Edge) (ases counts : List ℕ) : Type 0 where
+  pub apart : IsApart ases
+  pub each : length counts ≡ length ases
+  pub known : (a k : ℕ) → slice_get ases k ≡ Some (a + 2) → slice_index counts k ≡ count_by (is_incident a) es
+  pub other : (a : ℕ) → (Contains ases (a + 2) → ⊥) → count_by (is_incident a) es ≡ 0
 
--- one more is counted for this AS, and none for any other
-abbrev pub CountsOneMore : List (ℕ × ℕ) → ℕ → List (ℕ × ℕ) → Type 0
-CountsOneMore counts end more = (a : ℕ) → count_at more a ≡ count_at counts a + (if nat_eq end a then 1 else 0)
-
--- each edge has its lower number first, and there are few enough to be numbered
-pub record AreGraphEdges (es : List Edge) (counts : List (ℕ × ℕ)) : Type 0 where
+-- each edge has its lower number first, and there are few enough to be numbered; with degrees, and a place for each end
+pub record AreGraphEdges (es : List Edge) (ases counts : List ℕ) (ends : List Ends) : Type 0 where
   pub ordered : All (λ (e : Edge). e.0 < e.1) es
   pub few : length es ≤ max_numbers
-  pub degrees : AreDegrees es counts
+  pub degrees : AreDegrees es ases counts
+  pub many : length ends ≡ length es
+  pub there : (k : ℕ) (e : Edge) (d : Ends) → slice_get es k ≡ Some e → slice_get ends k ≡ Some d → AreEndsOf ases e d
+
+-- with ASes more, of which no edge is counted, all degrees and places stay
+pub record HasMoreAses (ases counts more_ases more_counts : List ℕ) : Type 0 where
+  pub degrees : (es : List Edge) → AreDegrees es ases counts → AreDegrees es more_ases more_counts
+  pub places : (k n : ℕ) → slice_get ases k ≡ Some n → slice_get more_ases k ≡ Some n
+
+-- one more is counted at this place, and none at any other
+pub record CountsOneMore (counts : List ℕ) (at : ℕ) (more : List ℕ) : Type 0 where
+  pub many : length more ≡ length counts
+  pub each : (k : ℕ) → slice_index more k ≡ slice_index counts k + (if nat_eq at k then 1 else 0)
 
 -- ---- paths given by their steps
 

@@ -3,7 +3,6 @@ use Rattle.std.specs.Prelude.{ℕ, List}
 use Rattle.relationships.specs.declared.label.Label.{Label}
 use Rattle.relationships.specs.Relationship.{Slope}
 use Rattle.relationships.specs.Graph.{Edge}
-use Rattle.relationships.specs.Steps as steps
 use Rattle.relationships.specs.Steps.{IsStepAlong, AreStepsBehind, AreStepsAlong, HaveStepsAlong, slopes_along}
 use Rattle.as_graph.specs.declared.step.Step.{Step}
 

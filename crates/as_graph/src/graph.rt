@@ -7,6 +7,7 @@ ghost use Rattle.tor_arena.specs.Limits.{max_numbers};
 ghost use Rattle.relationships.specs.Evidence.{NeighboursDiffer};
 ghost use Rattle.relationships.specs.Relationship.{ValleyFree};
 ghost use Rattle.relationships.specs.Graph.{edge_of, edges, degree, support, labelling};
+ghost use Rattle.tor_numbers.specs.Edges.{edge_at};
 ghost use Rattle.as_graph.specs.Limits.{most_paths, most_numbers, most_triples};
 ghost use Rattle.as_graph.specs.Paths.{path_at, paths_at, is_edge, triple_count};
 ghost use Rattle.as_graph.specs.Steps.{AreSteps};
@@ -28,6 +29,15 @@ pub struct Edge {
     /// The higher number.
     pub high: u32,
     ghost ordered: { low < high },
+}
+
+/// The degrees of the two ends of an edge.
+#[derive(Clone, Copy, PartialEq, Eq)]
+pub struct EndDegrees {
+    /// That of the lower number.
+    pub low: u32,
+    /// That of the higher number.
+    pub high: u32,
 }
 
 /// The graph of a list of paths, seen as that list: each has at least two ASes, and no two neighbours on it are the same.
@@ -103,6 +113,16 @@ impl AsGraph {
         ensures { result ≡ degree self.now a }
     {
         self.edges.degree(a)
+    }
+
+    /// The degrees of the two ends of an edge, which has to be there. It takes no memory.
+    pub fn end_degrees(&self, id: EdgeId) -> EndDegrees
+        requires { id < length (edges self.now) }
+        ensures low { result.low ≡ degree self.now (edge_at (edges self.now) id).0 }
+        ensures high { result.high ≡ degree self.now (edge_at (edges self.now) id).1 }
+    {
+        let (low, high) = self.edges.end_degrees(id);
+        EndDegrees { low, high }
     }
 
     /// The steps of a path, which has to be there, in order: one step for each two neighbours. It takes no memory.

@@ -1,25 +1,36 @@
 //! The edges of a graph, with the degrees of their ends.
-ghost use Rattle.std.specs.Prelude.{◌≡◌, ◌≢◌, ◌+◌, ◌<◌, ◌≤◌, ◌↔◌, [], length, slice_get, count_by, IsNone, IsFalse, IfSome, IfOk, OnOk};
-ghost use Rattle.std.specs.Prelude.{OnErr};
+ghost use Rattle.std.specs.Prelude.{◌≡◌, ◌≢◌, ◌+◌, ◌<◌, ◌≤◌, ◌↔◌, [], length, slice_get, slice_index, count_by, IsNone, IsFalse, IfSome};
+ghost use Rattle.std.specs.Prelude.{Some, IfOk, OnOk, OnErr};
 ghost use Rattle.std.specs.List.{list_any};
 ghost use Rattle.tor_arena.specs.Limits.{max_numbers};
-ghost use Rattle.indexmap.specs.IndexMap.{spare};
 ghost use Rattle.relationships.specs.Graph.{edge_of, is_same};
-ghost use Rattle.tor_numbers.specs.Edges.{with_edge};
-ghost use Rattle.as_graph.specs.Inside.{is_incident, count_at, CountsOneMore};
+ghost use Rattle.tor_numbers.specs.Edges.{edge_at, with_edge};
+ghost use Rattle.as_graph.specs.Inside.{is_incident, AreEndsOf, HasMoreAses, CountsOneMore};
 
-use indexmap::IndexMap;
 use std::alloc::Global;
 use std::marker::Model;
-use tor_arena::{EdgeId, Index, Keys, NoMemory};
-use tor_numbers::EdgeTable;
+use tor_arena::{AsId, EdgeId, Index, Keys, NoMemory};
+use tor_numbers::{EdgeTable, PlaceTable};
+
+/// Where the two ASes of an edge stand in a table of ASes.
+#[derive(Clone, Copy, PartialEq, Eq)]
+pub(crate) struct Ends {
+    /// The place of the lower number.
+    pub(crate) low: AsId,
+    /// The place of the higher number.
+    pub(crate) high: AsId,
+}
 
 /// Edges in order of first appearance, each once, with the degrees of their ends.
 #[derive(Drop)]
 pub(crate) struct GraphEdges {
     table: EdgeTable,
-    // for each end of an edge, how many edges have it
-    counts: IndexMap<u32, u32, Keys>,
+    // the ASes of the edges, each found by 2 more than its number
+    ases: PlaceTable,
+    // for each of these, how many edges have it
+    counts: Vec<u32>,
+    // for each edge, where its two stand among them
+    ends: Vec<Ends>,
 }
 
 impl Model for GraphEdges {
@@ -31,7 +42,7 @@ impl Model for GraphEdges {
 
     ghost view = { λ edges. edges.table };
 
-    ghost invariant = { λ edges. AreGraphEdges edges.table edges.counts.entries };
+    ghost invariant = { λ edges. AreGraphEdges edges.table edges.ases edges.counts.items edges.ends.items };
 }
 
 impl GraphEdges {
@@ -41,7 +52,9 @@ impl GraphEdges {
     {
         GraphEdges {
             table: EdgeTable::new(alloc, keys),
-            counts: IndexMap::with_hasher(alloc, keys),
+            ases: PlaceTable::new(alloc, keys),
+            counts: Vec::new(alloc),
+            ends: Vec::new(alloc),
         }
     }
 
@@ -75,7 +88,23 @@ impl GraphEdges {
     pub fn degree(&self, end: u32) -> u64
         ensures { result ≡ count_by (is_incident end) self.now }
     {
-        self.counts.get(&end).copied().unwrap_or(0) as u64
+        match self.ases.place(end as u64 + 2) {
+            Some(place) => self.counts[place] as u64,
+            None => 0,
+        }
+    }
+
+    /// How many of the edges have the lower end of an edge, and how many its higher end. It takes no memory.
+    pub fn end_degrees(&self, id: EdgeId) -> (u32, u32)
+        requires { id < length self.now }
+        ensures low { result.0 ≡ count_by (is_incident (edge_at self.now id).0) self.now }
+        ensures high { result.1 ≡ count_by (is_incident (edge_at self.now id).1) self.now }
+    {
+        let ends = &self.ends[id.place()];
+        (
+            self.counts[ends.low.place()],
+            self.counts[ends.high.place()],
+        )
     }
 
     /// The edge of two ASes, which goes last if it is new. For want of memory nothing changes.
@@ -91,24 +120,53 @@ impl GraphEdges {
         if let Some(id) = self.find(a, b) {
             return Ok(id);
         }
-        self.counts.reserve(2)?;
+        self.ends.reserve(1)?;
+        let ends = add_ends(&mut self.ases, &mut self.counts, a.min(b), a.max(b))?;
         let added = self.table.add(a, b)?;
-        count_end(&mut self.counts, a);
-        count_end(&mut self.counts, b);
+        count_one(&mut self.counts, ends.low);
+        count_one(&mut self.counts, ends.high);
+        self.ends.push_reserved(ends);
         Ok(EdgeId::from_place(added.place).unwrap())
     }
 }
 
-/// Counts one more edge with this end, for which there is room.
-fn count_end(counts: &mut IndexMap<u32, u32, Keys>, end: u32)
-    requires room { 0 < spare counts.old }
-    requires few { count_at counts.old.entries end ≤ max_numbers }
-    ensures counted { CountsOneMore counts.old.entries end counts.new.entries }
-    ensures spare { spare counts.old ≤ spare counts.new + 1 }
+/// The places of the two ASes of an edge. Those that are new go last. NoMemory comes where memory ran out, and where there are 2^28
+/// ASes.
+fn add_ends(
+    ases: &mut PlaceTable,
+    counts: &mut Vec<u32>,
+    low: u32,
+    high: u32,
+) -> Result<Ends, NoMemory>
+    requires { length counts.old.items ≡ length ases.old }
+    ensures more { HasMoreAses ases.old counts.old.items ases.new counts.new.items }
+    ensures ends { IfOk result (AreEndsOf ases.new (low, high)) }
 {
-    let count = counts.get(&end).copied().unwrap_or(0);
-    match counts.insert(end, count + 1) {
-        Ok(_) => {}
-        Err(_) => unreachable!(),
+    let low = add_as(ases, counts, low)?;
+    let high = add_as(ases, counts, high)?;
+    Ok(Ends { low, high })
+}
+
+/// The place of an AS, which goes last if it is new.
+fn add_as(ases: &mut PlaceTable, counts: &mut Vec<u32>, a: u32) -> Result<AsId, NoMemory>
+    requires { length counts.old.items ≡ length ases.old }
+    ensures each { length counts.new.items ≡ length ases.new }
+    ensures more { HasMoreAses ases.old counts.old.items ases.new counts.new.items }
+    ensures place { IfOk result (λ id. slice_get ases.new id ≡ Some (a + 2)) }
+{
+    counts.reserve(1)?;
+    let place = ases.add(a as u64 + 2)?;
+    if place == counts.len() {
+        counts.push_reserved(0);
     }
+    AsId::from_place(place).ok_or(NoMemory)
+}
+
+/// Counts one more edge of the AS at a place.
+fn count_one(counts: &mut Vec<u32>, at: AsId)
+    requires there { at < length counts.old.items }
+    requires few { slice_index counts.old.items at ≤ max_numbers }
+    ensures { CountsOneMore counts.old.items at counts.new.items }
+{
+    counts[at.place()] += 1;
 }

@@ -11,6 +11,6 @@ mod step;
 mod valley;
 
 pub use building::{build, build_with};
-pub use graph::{AsGraph, Edge};
+pub use graph::{AsGraph, Edge, EndDegrees};
 pub use per_edge::{Labels, Orientation, PerEdge};
 pub use step::Step;
