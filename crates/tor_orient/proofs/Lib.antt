@@ -1,4 +1,5 @@
 pub mod Models
 pub mod Preferences
 pub mod Settled
+pub mod WayBack
 pub mod WishLemmas

@@ -1,5 +1,5 @@
 -- Orientations that serve, as lists of ends.
-use Rattle.std.proofs.Common.{◌≡◌, ℕ, ◌/◌, ◌<◌, inl, inr, min, max, true, List, Some, length, map, sym, ap, ap₂, ◌∙◌, arith, All}
+use Rattle.std.proofs.Common.{◌≡◌, ℕ, ◌*◌, ◌/◌, ◌<◌, inl, inr, min, max, true, List, Some, length, map, sym, ap, ap₂, ◌∙◌, arith, All}
 use Rattle.std.specs.Prelude.{slice_get}
 use Rattle.std.proofs.lemmas.List.{length-map}
 use Rattle.std.proofs.lemmas.List.Elements.{All-contains}
@@ -19,7 +19,8 @@ use Rattle.tor_clauses.specs.Formulas.{Formula, FitsGraph, IsModel}
 use Rattle.tor_clauses.proofs.Overs.{edges-apart, over-holds, holds-over}
 use Rattle.tor_clauses.proofs.Exacts.{only_arcs}
 use Rattle.tor_clauses.proofs.Sides.{holds_one, holds_either}
-use Rattle.tor_orient.proofs.Settled.{model_along}
+use Rattle.tor_orient.specs.Steps.{IsWhole}
+use Rattle.tor_orient.proofs.Settled.{OneWay, model_along}
 
 -- what is over depends on the edge alone
 over_same : (O O' : Orientation) (x y : ℕ) → O (min x y) (max x y) ≡ O' (min x y) (max x y) → is_over (labels_of O) x y ≡ true → is_over (labels_of O') x y ≡ true
@@ -61,8 +62,12 @@ module _ (graph : List (List ℕ)) (f : Formula) (apart : All NeighboursDiffer g
       holds-over es ends (edges-apart graph) (length-map es (λ (e : Edge). O e.0 e.1)) (lit_of m) a.1 a.2 a.3.head
       (over_same O O' a.1 a.2 (listed_at O (lit_of m).edge a.1 a.2 a.3.head.edge) second)
 
+  -- and gives each edge an end
+  pub whole_of : (O : Orientation) → Serves O (paths_at graph f.paths) → IsWhole f (ends_of es O)
+  whole_of O serves = (model_of O serves, fits.nodes ∙ ap (λ n. n * 2) (sym (length-map es (λ (e : Edge). O e.0 e.1))))
+
   -- no literal leads to its opposite and back
-  pub one_way : IsServable (paths_at graph f.paths) → (n : ℕ) → n < f.net.nodes → Reaches f.net.arcs n (opposite_node n) → Reaches f.net.arcs (opposite_node n) n → ⊥
+  pub one_way : IsServable (paths_at graph f.paths) → OneWay f
   one_way s n lt there back =
       let ends = ends_of es s.0 in
       let model = model_of s.0 s.1 in

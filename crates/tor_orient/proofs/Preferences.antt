@@ -24,7 +24,7 @@ use Rattle.tor_clauses.proofs.Sides.{same_edge as same_number, edge_opposite, ho
 use Rattle.tor_clauses.proofs.LiteralLemmas.{lit_of_node, node_of_lit, opposite_node-node, opposite_node_twice}
 use Rattle.tor_orient.specs.Wishes.{AreWishes}
 use Rattle.tor_orient.specs.Steps.{node_wanted, AgreesUpTo, AreSettled, IsEndOf, AreEndsOf}
-use Rattle.tor_orient.proofs.Models.{ends_of, model_of}
+use Rattle.tor_orient.proofs.Models.{ends_of, whole_of}
 use Rattle.tor_orient.proofs.WishLemmas.{get-before, one_place, edge_stands}
 
 -- the end of an edge is the provider
@@ -140,7 +140,7 @@ module _ (graph : List (List ℕ)) (f : Formula) (apart : All NeighboursDiffer g
           | inl h ↦
               let here : Holds ends (lit p.edge p.wanted) = subst (Holds ends) (lit_of_node (lit p.edge p.wanted)) (held (node_wanted p) h) in
               provider es ends p.edge e p.wanted (edges-apart graph) p_stands here ∙ p_wants
-          | inr out ↦ absurd (out (ends_of es O') (model_of graph f apart fits O' serves') agrees holds)
+          | inr out ↦ absurd (out (ends_of es O') (whole_of graph f apart fits O' serves') agrees holds)
         ]
 
     pub preferred : (wanted : Edge → End) → AreWishes es prefs wanted → IsPreferred (paths_at graph f.paths) wanted (edges_preferred es prefs) (orientation es ends)

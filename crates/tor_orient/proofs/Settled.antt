@@ -1,5 +1,5 @@
 -- One edge more is settled.
-use Rattle.std.proofs.Common.{◌≡◌, ℕ, ◌+◌, ◌<◌, ◌⊎◌, inl, inr, List, [], Some, length, refl, sym, ap, ◌∙◌, subst, arith, Contains}
+use Rattle.std.proofs.Common.{◌≡◌, ℕ, ◌+◌, ◌*◌, ◌/◌, ◌<◌, ◌⊎◌, inl, inr, List, [], Some, length, refl, sym, ap, ◌∙◌, subst, arith, Contains}
 use Rattle.std.specs.Prelude.{slice_get}
 use Rattle.std.proofs.lemmas.Bool.{cases_lt}
 use Rattle.std.proofs.lemmas.Option.{same_Some}
@@ -12,9 +12,9 @@ use Rattle.tor_clauses.specs.Literals.{lit_of, opposite_node, Holds}
 use Rattle.tor_clauses.specs.Formulas.{Formula, IsModel}
 use Rattle.tor_clauses.specs.Flipping.{HasPartners}
 use Rattle.tor_clauses.proofs.LiteralLemmas.{opposite_node_twice}
-use Rattle.tor_clauses.proofs.Sides.{holds_one}
+use Rattle.tor_clauses.proofs.Sides.{holds_one, holds_either}
 use Rattle.tor_clauses.proofs.Flips.{reach_back, reach_from, reach_own}
-use Rattle.tor_orient.specs.Steps.{node_wanted, NoneLeadsOut, IsSettledBy, AgreesUpTo, IsRuledOut, AreSettled}
+use Rattle.tor_orient.specs.Steps.{node_wanted, NoneLeadsOut, IsFailing, IsSettledBy, IsWhole, AgreesUpTo, IsRuledOut, AreSettled}
 
 -- ---- what is reached
 
@@ -62,6 +62,10 @@ module _ (f : Formula) where
   model_along ends model here h = h
   model_along ends model (along {b = b} {c = c} w arc) h = model arc.0 b c arc.1 (model_along ends model w h)
 
+-- no literal leads to its opposite and back
+abbrev pub OneWay : Formula → Type 0
+OneWay f = (n : ℕ) → n < f.net.nodes → Reaches f.net.arcs n (opposite_node n) → Reaches f.net.arcs (opposite_node n) n → ⊥
+
 -- ---- one edge more
 
 module _ (f : Formula) (prefs : List Pref) (count : ℕ) (old new : Reach ℕ ℕ) (p : Pref) (so : AreSettled f prefs count old)
@@ -82,31 +86,22 @@ module _ (f : Formula) (prefs : List Pref) (count : ℕ) (old new : Reach ℕ �
   the_pref : (k : ℕ) (q : Pref) → count ≡ k → slice_get prefs k ≡ Some q → p ≡ q
   the_pref k q last there = same_Some p q (sym at ∙ ap (slice_get prefs) last ∙ there)
 
-  module _ (start : ℕ) (is : (node ≡ start) ⊎ (opposite_node node ≡ start)) (more : (n : ℕ) → Contains new.nodes n → Contains old.nodes n ⊎ Reaches f.net.arcs start n)
-      (has : Contains new.nodes start) (consistent : (n : ℕ) → Contains new.nodes n → Contains new.nodes (opposite_node n) → ⊥)
+  module _ (start : ℕ) (more : (n : ℕ) → Contains new.nodes n → Contains old.nodes n ⊎ Reaches f.net.arcs start n)
+      (consistent : (n : ℕ) → Contains new.nodes n → Contains new.nodes (opposite_node n) → ⊥)
+      (starts : (ends : List End) → IsWhole f ends → AgreesUpTo prefs (count + 1) new.nodes ends → Holds ends (lit_of start))
+      (last_one : Contains new.nodes node ⊎ Contains new.nodes (opposite_node node))
       (choice : Contains new.nodes node ⊎ IsRuledOut f prefs count new.nodes p) where
-    starts : (ends : List End) → AgreesUpTo prefs (count + 1) new.nodes ends → Holds ends (lit_of start)
-    starts ends agrees =
-        let a = agrees count p (omega arith) at in
-        elim is [
-          | inl e ↦ subst (λ n. Holds ends (lit_of n)) e (a.0 (subst (Contains new.nodes) (sym e) has))
-          | inr e ↦ subst (λ n. Holds ends (lit_of n)) e (a.1 (subst (Contains new.nodes) (sym e) has))
-        ]
-
     one_more : AreSettled f prefs (count + 1) new
     one_more = record {
       closed = closed;
       consistent = consistent;
       each = λ k q lt there. elim (same_pref k q lt) [
-        | inl last ↦ subst (λ q. Contains new.nodes (node_wanted q) ⊎ Contains new.nodes (opposite_node (node_wanted q))) (the_pref k q last there) (elim is [
-          | inl e ↦ inl (subst (Contains new.nodes) (sym e) has)
-          | inr e ↦ inr (subst (Contains new.nodes) (sym e) has)
-        ])
+        | inl last ↦ subst (λ q. Contains new.nodes (node_wanted q) ⊎ Contains new.nodes (opposite_node (node_wanted q))) (the_pref k q last there) last_one
         | inr less ↦ elim (so.each k q less there) [ inl h ↦ inl (keep (node_wanted q) h) | inr h ↦ inr (keep (opposite_node (node_wanted q)) h) ]
       ];
-      follows = λ ends model agrees n h. elim (more n h) [
-        | inl was ↦ so.follows ends model (agrees_less count ends (agrees_before ends agrees)) n was
-        | inr r ↦ model_along f ends model r (starts ends agrees)
+      follows = λ ends whole agrees n h. elim (more n h) [
+        | inl was ↦ so.follows ends whole (agrees_less count ends (agrees_before ends agrees)) n was
+        | inr r ↦ model_along f ends whole.0 r (starts ends whole agrees)
       ];
       best = λ k q lt there. elim (same_pref k q lt) [
         | inl last ↦
@@ -114,7 +109,7 @@ module _ (f : Formula) (prefs : List Pref) (count : ℕ) (old new : Reach ℕ �
             (subst (λ q. Contains new.nodes (node_wanted q) ⊎ IsRuledOut f prefs count new.nodes q) (the_pref k q last there) choice)
         | inr less ↦ elim (so.best k q less there) [
           | inl h ↦ inl (keep (node_wanted q) h)
-          | inr out ↦ inr (λ ends model agrees. out ends model (agrees_less k ends agrees))
+          | inr out ↦ inr (λ ends whole agrees. out ends whole (agrees_less k ends agrees))
         ]
       ];
     }
@@ -134,19 +129,31 @@ module _ (f : Formula) (prefs : List Pref) (count : ℕ) (old new : Reach ℕ �
         ]
       ]
 
--- the search changes nothing
 module _ (f : Formula) (prefs : List Pref) (count : ℕ) (old new : Reach ℕ ℕ) (p : Pref) (so : AreSettled f prefs count old)
     (at : slice_get prefs count ≡ Some p) (closed : NoneLeadsOut f.net new) where
   abbrev wanted_one : ℕ
   wanted_one = node_wanted p
 
-  unchanged : new.nodes ≡ old.nodes → Contains old.nodes wanted_one ⊎ Contains old.nodes (opposite_node wanted_one) → AreSettled f prefs (count + 1) new
+  abbrev other : ℕ
+  other = opposite_node wanted_one
+
+  -- what is settled of the edge holds where it is agreed on
+  agreed : (start : ℕ) → (wanted_one ≡ start) ⊎ (other ≡ start) → Contains new.nodes start → (ends : List End) → AgreesUpTo prefs (count + 1) new.nodes ends → Holds ends (lit_of start)
+  agreed start is has ends agrees =
+      let a = agrees count p (omega arith) at in
+      elim is [
+        | inl e ↦ subst (λ n. Holds ends (lit_of n)) e (a.0 (subst (Contains new.nodes) (sym e) has))
+        | inr e ↦ subst (λ n. Holds ends (lit_of n)) e (a.1 (subst (Contains new.nodes) (sym e) has))
+      ]
+
+  -- it was settled before
+  unchanged : new.nodes ≡ old.nodes → Contains old.nodes wanted_one ⊎ Contains old.nodes other → AreSettled f prefs (count + 1) new
   unchanged same settled = elim settled [
-    | inl h ↦ next wanted_one (inl refl) (keep wanted_one h) (inl (keep wanted_one h))
-    | inr h ↦ next (opposite_node wanted_one) (inr refl) (keep (opposite_node wanted_one) h) (inr (λ ends model agrees holds.
+    | inl h ↦ next wanted_one (inl refl) (keep wanted_one h) (inl (keep wanted_one h)) (inl (keep wanted_one h))
+    | inr h ↦ next other (inr refl) (keep other h) (inr (keep other h)) (inr (λ ends whole agrees holds.
         holds_one ends wanted_one holds
-        (so.follows ends model (λ j q lt there. let a = agrees j q lt there in
-        (λ h. a.0 (keep (node_wanted q) h), λ h. a.1 (keep (opposite_node (node_wanted q)) h))) (opposite_node wanted_one) h)))
+        (so.follows ends whole (λ j q lt there. let a = agrees j q lt there in
+        (λ h. a.0 (keep (node_wanted q) h), λ h. a.1 (keep (opposite_node (node_wanted q)) h))) other h)))
   ]
     where
       keep : (n : ℕ) → Contains old.nodes n → Contains new.nodes n
@@ -155,39 +162,66 @@ module _ (f : Formula) (prefs : List Pref) (count : ℕ) (old new : Reach ℕ �
       back : (n : ℕ) → Contains new.nodes n → Contains old.nodes n
       back n h = subst (λ l. Contains l n) same h
 
-      next : (start : ℕ) → (wanted_one ≡ start) ⊎ (opposite_node wanted_one ≡ start) → Contains new.nodes start → Contains new.nodes wanted_one ⊎ IsRuledOut f prefs count new.nodes p →
-          AreSettled f prefs (count + 1) new
-      next start is has choice =
-          one_more f prefs count old new p so at closed keep start is (λ n h. inl (back n h)) has (λ n h k. so.consistent n (back n h) (back (opposite_node n) k)) choice
+      next : (start : ℕ) → (wanted_one ≡ start) ⊎ (other ≡ start) → Contains new.nodes start → Contains new.nodes wanted_one ⊎ Contains new.nodes other →
+          Contains new.nodes wanted_one ⊎ IsRuledOut f prefs count new.nodes p → AreSettled f prefs (count + 1) new
+      next start is has one choice =
+          one_more f prefs count old new p so at closed keep start (λ n h. inl (back n h)) (λ n h k. so.consistent n (back n h) (back (opposite_node n) k))
+          (λ ends whole agrees. agreed start is has ends agrees) one choice
 
   module _ (partners : HasPartners f.net.arcs) where
-    by_wanted : (Contains old.nodes (opposite_node wanted_one) → ⊥) → (Reaches f.net.arcs wanted_one (opposite_node wanted_one) → ⊥) →
-        IsGrown f.net.arcs wanted_one old.nodes new.nodes → AreSettled f prefs (count + 1) new
+    by_wanted : (Contains old.nodes other → ⊥) → (Reaches f.net.arcs wanted_one other → ⊥) → IsGrown f.net.arcs wanted_one old.nodes new.nodes → AreSettled f prefs (count + 1) new
     by_wanted unsettled apart grown =
         let keep = grown_keeps f.net.arcs wanted_one old.nodes new.nodes grown in
-        one_more f prefs count old new p so at closed keep wanted_one (inl refl) (grown_cases f.net.arcs wanted_one old.nodes new.nodes grown) grown.has_start
-        (grown_consistent f prefs count old new p so at closed keep partners so.closed wanted_one grown unsettled apart) (inl grown.has_start)
+        one_more f prefs count old new p so at closed keep wanted_one (grown_cases f.net.arcs wanted_one old.nodes new.nodes grown)
+        (grown_consistent f prefs count old new p so at closed keep partners so.closed wanted_one grown unsettled apart)
+        (λ ends whole agrees. agreed wanted_one (inl refl) grown.has_start ends agrees) (inl grown.has_start) (inl grown.has_start)
 
-    by_opposite : (Contains old.nodes wanted_one → ⊥) → Reaches f.net.arcs wanted_one (opposite_node wanted_one) → (Reaches f.net.arcs (opposite_node wanted_one) wanted_one → ⊥) →
-        IsGrown f.net.arcs (opposite_node wanted_one) old.nodes new.nodes → AreSettled f prefs (count + 1) new
-    by_opposite unsettled way apart grown =
-        let other = opposite_node wanted_one in
-        let keep = grown_keeps f.net.arcs other old.nodes new.nodes grown in
-        let twice = opposite_node_twice wanted_one in
-        one_more f prefs count old new p so at closed keep other (inr refl) (grown_cases f.net.arcs other old.nodes new.nodes grown) grown.has_start
-        (grown_consistent f prefs count old new p so at closed keep partners so.closed other grown (subst (λ n. Contains old.nodes n → ⊥) (sym twice) unsettled)
-        (subst (λ n. Reaches f.net.arcs other n → ⊥) (sym twice) apart))
-        (inr (λ ends model agrees holds. holds_one ends wanted_one holds (model_along f ends model way holds)))
+    -- the wanted one leads to a literal that leads to its opposite, so this opposite holds under all orientations that serve
+    module _ (one_way : OneWay f) (last : ℕ) (failing : IsFailing f.net.arcs wanted_one last) (grown : IsGrown f.net.arcs (opposite_node last) old.nodes new.nodes) where
+      abbrev start : ℕ
+      start = opposite_node last
 
-pub settled_next : (f : Formula) (prefs : List Pref) (count : ℕ) (old new : Reach ℕ ℕ) (p : Pref) → HasPartners f.net.arcs →
-    (Reaches f.net.arcs (node_wanted p) (opposite_node (node_wanted p)) → Reaches f.net.arcs (opposite_node (node_wanted p)) (node_wanted p) → ⊥) →
+      below : start < f.net.nodes
+      below = closed.inside start grown.has_start
+
+      -- nothing leads back from the opposite
+      apart : Reaches f.net.arcs start (opposite_node start) → ⊥
+      apart back = one_way start below back (subst (λ n. Reaches f.net.arcs n start) (sym (opposite_node_twice last)) failing.1)
+
+      -- the last one is not settled
+      unsettled : Contains old.nodes (opposite_node start) → ⊥
+      unsettled h =
+          let was = subst (Contains old.nodes) (opposite_node_twice last) h in
+          so.consistent last was (settled_along f old so.closed was failing.1)
+
+      -- from its opposite the opposite of the wanted one follows
+      settles : Contains new.nodes other
+      settles = settled_along f new closed grown.has_start (reach_back f.net.arcs partners failing.0)
+
+      holds_start : (ends : List End) → IsWhole f ends → Holds ends (lit_of start)
+      holds_start ends whole =
+          let many = whole.1 in
+          elim (holds_either ends start (omega (arith, below, many))) [
+            | inl h ↦ h
+            | inr h ↦ model_along f ends whole.0 failing.1 (subst (λ n. Holds ends (lit_of n)) (opposite_node_twice last) h)
+          ]
+
+      by_opposite : AreSettled f prefs (count + 1) new
+      by_opposite =
+          let keep = grown_keeps f.net.arcs start old.nodes new.nodes grown in
+          one_more f prefs count old new p so at closed keep start (grown_cases f.net.arcs start old.nodes new.nodes grown)
+          (grown_consistent f prefs count old new p so at closed keep partners so.closed start grown unsettled apart)
+          (λ ends whole agrees. holds_start ends whole) (inr settles)
+          (inr (λ ends whole agrees holds. holds_one ends last (model_along f ends whole.0 failing.0 holds) (holds_start ends whole)))
+
+pub settled_next : (f : Formula) (prefs : List Pref) (count : ℕ) (old new : Reach ℕ ℕ) (p : Pref) → HasPartners f.net.arcs → OneWay f →
     AreSettled f prefs count old → slice_get prefs count ≡ Some p → NoneLeadsOut f.net new → IsSettledBy f.net.arcs (node_wanted p) old.nodes new.nodes →
     AreSettled f prefs (count + 1) new
 settled_next f prefs count old new p partners one_way so at closed (inl same) = unchanged f prefs count old new p so at closed same.1 same.0
 settled_next f prefs count old new p partners one_way so at closed (inr (unwanted, unsettled, inl new_one)) =
     by_wanted f prefs count old new p so at closed partners unsettled new_one.0 new_one.1
 settled_next f prefs count old new p partners one_way so at closed (inr (unwanted, unsettled, inr new_one)) =
-    by_opposite f prefs count old new p so at closed partners unwanted new_one.0 (one_way new_one.0) new_one.1
+    by_opposite f prefs count old new p so at closed partners one_way new_one.0 new_one.1 new_one.2
 
 -- none is settled yet
 pub settled_none : (f : Formula) (prefs : List Pref) (r : Reach ℕ ℕ) → NoneLeadsOut f.net r → r.nodes ≡ [] → AreSettled f prefs 0 r

@@ -2,6 +2,7 @@
 //! serves the paths agrees with that and with all edges before it.
 #![tactic(auto)]
 
+mod failing;
 mod orienting;
 mod settling;
 

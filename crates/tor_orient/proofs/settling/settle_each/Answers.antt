@@ -1,4 +1,4 @@
-use Rattle.std.proofs.Common.{◌≡◌, ◌<◌, Some, length, refl, sym, subst, arith}
+use Rattle.std.proofs.Common.{◌≡◌, ◌<◌, Some, length, refl, sym, ◌∙◌, subst, arith}
 use Rattle.std.specs.Prelude.{slice_get}
 use Rattle.std.proofs.lemmas.Option.{slice_get_read}
 use Rattle.std.proofs.lemmas.List.Elements.{All-contains}
@@ -9,7 +9,11 @@ use Rattle.tor_clauses.proofs.LiteralLemmas.{node_below}
 use Rattle.tor_orient.specs.Steps.{node_wanted}
 use Rattle.tor_orient.proofs.Models.{one_way}
 use Rattle.tor_orient.proofs.Settled.{settled_next}
+use Rattle.tor_orient.proofs.WayBack.{opposites_there}
 use Rattle.tor_orient.proofs.settling.settle_each.Goals as goal
+
+pub settle-requires-clause-both : goal.settle-requires-clause-both
+settle-requires-clause-both c = opposites_there (length (edges c.args.graph.now)) c.args.clauses.now.net.nodes c.requires.fits.nodes
 
 pub loop-place-preserved : goal.loop-place-preserved
 loop-place-preserved c =
@@ -21,8 +25,9 @@ loop-place-preserved c =
     let test = c.loop-place-test.true in
     let end = c.loop-place.auto.place-end in
     let at : slice_get prefs place ≡ Some p = slice_get_read prefs (length prefs) place p refl (omega (arith, test, end)) c.index-prefs-place.is in
-    let within = All-contains (λ (q : Pref). q.edge < length (edges graph)) prefs p c.requires.inside (Contains-from_has prefs p (place, at)) in
-    let below : node_wanted p < f.net.nodes = subst (λ n. node_wanted p < n) (sym c.requires.fits.nodes) (node_below (record { edge = p.edge; over = p.wanted }) (length (edges graph)) within) in
-    settled_next f prefs place c.loop-place.settled c.settle.new.settled p c.facts-2.ensures.partners
-    (one_way graph f c.facts.ensures.apart c.requires.fits c.requires.servable (node_wanted p) below) c.loop-place.invariant at
-    c.in_ok-settle.ensures.closed c.in_ok-settle.ensures.settled
+    record {
+      count = c.settle.ensures.count ∙ c.loop-place.invariant.count;
+      settled = settled_next f prefs place c.loop-place.settled c.settle.new.settled p c.facts-2.ensures.partners
+          (one_way graph f c.facts.ensures.apart c.requires.fits c.requires.servable) c.loop-place.invariant.settled at
+          c.in_ok-settle.ensures.closed c.in_ok-settle.ensures.settled;
+    }
