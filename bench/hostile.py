@@ -2,10 +2,11 @@
 
 hostile.py TOR TORCHECK YARDSTICK [RUNS]
 
-TOR is any program that takes `--list DUMP`, TORCHECK one that takes `RESULT`, and YARDSTICK one that takes `--list DUMP` and
+TOR is any program that takes `--list DUMP` and `DUMP`, TORCHECK one that takes `RESULT`, and YARDSTICK one that takes `--list DUMP` and
 `--check RESULT`. `-` in place of TOR or TORCHECK leaves its rows out. Each row is run RUNS times (3), both programs in turn, and says the
 least processor time, the greatest peak memory, and their ratios; for a result also how the memory compares with the file, and for a dump
-how the time compares with that on as many random paths. Of less memory than some 14 MiB, which this script has itself, it can't tell.
+how the time compares with that on as many random paths. At last TOR alone infers, on dumps of which one is twice the size of the other: a
+row says how much longer it takes for that. Of less memory than some 14 MiB, which this script has itself, it can't tell.
 """
 
 import os
@@ -147,6 +148,37 @@ def random_paths(count, length):
     return list(paths)
 
 
+def forced_over(fresh, top, rest):
+    """Two paths under which the top is over the first of these in every orientation that serves, and so on along them."""
+    low, mid, high = (next(fresh) for _ in range(3))
+    return [[mid, high, low, top, *rest], [top, low, mid, high]]
+
+
+def pieces(path):
+    """A long path as shorter ones, each of which has its last two ASes in common with the next."""
+    return [path[start:start + 60] for start in range(0, max(len(path) - 2, 1), 58)]
+
+
+def failing_wishes(count):
+    """Paths of which as many edges want an end that cannot be. Each such order leads along one chain, at whose end it fails."""
+    fresh = iter(range(1000001, 2000000))
+    wisher, *climb = (next(fresh) for _ in range(count + 1))
+    paths = []
+    for low, high in zip(climb, climb[1:]):
+        paths += [[wisher, low, high], [wisher, low], [low, wisher]]
+    paths += pieces(climb[::-1])
+    return paths + forced_over(fresh, next(fresh), climb[:-3:-1])
+
+
+def turned_chains(count):
+    """Paths that ask by turns that a chain go up and that it go down. Each of them could be served by another order of its first edge."""
+    chain = list(range(3000001, 3000001 + count))
+    paths = pieces(chain)
+    for place in range(count):
+        paths += [[2000001 + place, chain[-1], chain[-2]], [1000001 + place, *chain[:2]]]
+    return paths
+
+
 def dump(paths):
     """A TABLE_DUMP_V2 dump with one route for each path."""
     peers = struct.pack(">IHHB4s4sI", 0, 0, 1, 2, bytes(4), bytes([192, 0, 2, 1]), 10)
@@ -228,6 +260,20 @@ def lists(folder, tor, yardstick, runs):
         print(f"    the chosen paths take {slow / max(plain, 0.001):.2f} times as long")
 
 
+def infers(folder, tor, runs):
+    rows = [
+        ("wishes that fail along one chain", failing_wishes, 5000),
+        ("chains that are asked to turn", turned_chains, 5000),
+    ]
+    for name, paths_of, count in rows:
+        least = []
+        for size in (count, 2 * count):
+            file = made(folder, "asked", lambda: dump(paths_of(size)))
+            least.append(min(run([tor, file])[0] for _ in range(runs)))
+        print(f"{name}, {count:,} and {2 * count:,}: {least[0]:.3f} s and {least[1]:.3f} s, "
+              f"{least[1] / max(least[0], 0.001):.1f} times as long", flush=True)
+
+
 def main():
     tor, torcheck, yardstick = sys.argv[1:4]
     runs = int(sys.argv[4]) if len(sys.argv) > 4 else 3
@@ -236,6 +282,7 @@ def main():
             checks(folder, torcheck, yardstick, runs)
         if tor != "-":
             lists(folder, tor, yardstick, runs)
+            infers(folder, tor, runs)
 
 
 if __name__ == "__main__":
