@@ -13,7 +13,6 @@ use Rattle.std.proofs.lemmas.Int.{ints}
 use Rattle.std.proofs.lemmas.List.{take_more, map_push, get_or_push, get_or_append_left}
 use Rattle.std.proofs.lemmas.List.Elements.{All-push}
 use Rattle.std.proofs.lemmas.List.Sorted.{ranks_by, sorted_far}
-use Rattle.std.proofs.lemmas.Option.{get_or_from_slice_get}
 use Rattle.relationships.specs.Graph.{Edge, degree}
 use Rattle.gao_prefs.specs.declared.per_end.PerEnd.{PerEnd}
 use Rattle.gao_prefs.specs.declared.preferring.Pref.{Pref}
@@ -22,11 +21,11 @@ use Rattle.gao_prefs.specs.Preferences.{key_of, IsPref, NotAfter}
 
 -- ---- the degrees of one edge more
 
-pub degrees_more : (paths : List (List ℕ)) (es : List Edge) (place low high : ℕ) (table new : List PerEnd) → place < length es → slice_get es place ≡ Some (low, high) →
-    table ≡ map (degrees_of paths) (take place es) → new ≡ table ++ record { low = degree paths low; high = degree paths high } ∷ [] → new ≡ map (degrees_of paths) (take (place + 1) es)
-degrees_more paths es place low high table new lt at so_far is =
-    is ∙ ap (λ (t : List PerEnd). t ++ degrees_of paths (low, high) ∷ []) so_far ∙ sym (map_push (degrees_of paths) (take place es) (low, high)) ∙
-    ap (map (degrees_of paths)) (ap (λ (e : Edge). take place es ++ e ∷ []) (sym (get_or_from_slice_get es place (low, high) (0, 0) at)) ∙ sym (take_more es place (0, 0) lt))
+pub degrees_more : (paths : List (List ℕ)) (es : List Edge) (place : ℕ) (table new : List PerEnd) → place < length es → table ≡ map (degrees_of paths) (take place es) →
+    new ≡ table ++ degrees_of paths (get_or es place (0, 0)) ∷ [] → new ≡ map (degrees_of paths) (take (place + 1) es)
+degrees_more paths es place table new lt so_far is =
+    is ∙ ap (λ (t : List PerEnd). t ++ degrees_of paths (get_or es place (0, 0)) ∷ []) so_far ∙ sym (map_push (degrees_of paths) (take place es) (get_or es place (0, 0))) ∙
+    ap (map (degrees_of paths)) (sym (take_more es place (0, 0) lt))
 
 -- ---- the absolute lean
 

@@ -1,7 +1,7 @@
 //! A number for each end of an edge.
 ghost use Rattle.std.specs.Prelude.{◌≡◌, length, map, IfOk};
 ghost use Rattle.relationships.specs.Relationship.{opposite};
-ghost use Rattle.relationships.specs.Graph.{edges, degree};
+ghost use Rattle.relationships.specs.Graph.{edges};
 ghost use Rattle.gao_prefs.specs.Ends.{at_end, degrees_of};
 
 use as_graph::AsGraph;
@@ -40,14 +40,6 @@ pub(crate) fn other_end(end: End) -> End
     }
 }
 
-/// How many edges hold an AS, which are few enough for four octets.
-fn degree_of(graph: &AsGraph, a: u32) -> u32
-    ensures { result ≡ degree graph.now a }
-{
-    graph.facts();
-    graph.degree(a) as u32
-}
-
 /// The degrees of the two ends of each edge, in the order of the edges. The only error is that memory ran out.
 pub(crate) fn end_degrees(alloc: Global, graph: &AsGraph) -> Result<Vec<PerEnd>, NoMemory>
     ensures { IfOk result (λ degrees. degrees.items ≡ map (degrees_of graph.now) (edges graph.now)) }
@@ -55,10 +47,10 @@ pub(crate) fn end_degrees(alloc: Global, graph: &AsGraph) -> Result<Vec<PerEnd>,
     let count = graph.edge_count();
     let mut degrees = Vec::with_capacity(alloc, count)?;
     for place in 0..count {
-        let edge = graph.edge(EdgeId::from_place(place).unwrap());
+        let ends = graph.end_degrees(EdgeId::from_place(place).unwrap());
         degrees.push(PerEnd {
-            low: degree_of(graph, edge.low),
-            high: degree_of(graph, edge.high),
+            low: ends.low,
+            high: ends.high,
         })?;
     }
     Ok(degrees)
