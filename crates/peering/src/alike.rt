@@ -25,6 +25,6 @@ pub(crate) fn is_alike(graph: &AsGraph, edge: EdgeId, ratio: u32) -> bool
     ensures { IsTrue result ↔ IsAlike (degree graph.now) ratio (edge_in graph.now edge) }
 {
     graph.facts();
-    let ends = graph.edge(edge);
-    is_within(graph.degree(ends.low), graph.degree(ends.high), ratio)
+    let ends = graph.end_degrees(edge);
+    is_within(ends.low as u64, ends.high as u64, ratio)
 }
