@@ -1,5 +1,6 @@
 -- The digits of a number, two, four and eight at a time.
-use Rattle.std.proofs.Common.{◌≡◌, ℕ, zero, suc, ◌+◌, ◌-◌, ◌*◌, ◌/◌, ◌%◌, ◌^◌, ◌<◌, ◌≤◌, Bool, true, ◌&&◌, T, eqb, List, [], ◌∷◌, ◌++◌, length, take, set, get_or, refl, ap, ◌∙◌, sym, inl, inr, arith, eq-zero-or-pos, eqb→eq, append_assoc, length-append, length-set}
+use Rattle.std.proofs.Common.{◌≡◌, ℕ, zero, suc, ◌+◌, ◌-◌, ◌*◌, ◌/◌, ◌%◌, ◌^◌, ◌<◌, ◌≤◌, Bool, true, ◌&&◌, T, eqb, List, [], ◌∷◌, ◌++◌, length, take, set}
+use Rattle.std.proofs.Common.{get_or, ap, ◌∙◌, sym, inl, inr, arith, eq-zero-or-pos, eqb→eq, append_assoc, length-append, length-set}
 use Rattle.std.proofs.lemmas.Fmt.{decimal_digit, decimal_step, length-decimal-le}
 use Rattle.std.proofs.lemmas.List.{take_more_set}
 use Rattle.std.specs.Fmt.{decimal}

@@ -1,11 +1,13 @@
-use Rattle.std.proofs.Common.{◌≡◌, ◌∙◌, ◌++◌, ◌/◌, ◌%◌, ℕ, List, take, ap, arith}
+use Rattle.std.proofs.Common.{◌∙◌, ◌++◌, ◌/◌, ◌%◌, ℕ, List, take, ap, arith}
 use Rattle.std.specs.Fmt.{decimal}
 use Rattle.text_fields.specs.Padded.{four_digits}
 use Rattle.text_fields.proofs.Padding.{behind, decimal_by_four, length_by_four, at_most_four}
 use Rattle.text_fields.proofs.numbers.write_eight.Goals as goal
 
 pub write_four_padded-requires : goal.write_four_padded-requires
-write_four_padded-requires c = (omega arith, omega (arith, at_most_four (c.args.n / 10000) (omega (arith, c.requires)), c.requires, c.write_four-middle.ensures.end, c.write_four-middle.ensures.length))
+write_four_padded-requires c =
+    let short = at_most_four (c.args.n / 10000) (omega (arith, c.requires)) in
+    (omega arith, omega (arith, short, c.requires, c.write_four-middle.ensures.end, c.write_four-middle.ensures.length))
 
 pub returns-clause-end : goal.returns-clause-end
 returns-clause-end c = omega (arith, length_by_four c.args.n c.if-n-lt10000.false (omega (arith, c.requires)), c.write_four-middle.ensures.end, c.write_four_padded.ensures.end)

@@ -1,4 +1,4 @@
-use Rattle.std.proofs.Common.{◌≡◌, ◌∙◌, ◌++◌, ◌/◌, ◌%◌, ℕ, List, take, ap, arith}
+use Rattle.std.proofs.Common.{◌∙◌, ◌++◌, ◌/◌, ◌%◌, ℕ, List, take, ap, arith}
 use Rattle.std.specs.Fmt.{decimal}
 use Rattle.text_fields.specs.Padded.{two_digits}
 use Rattle.text_fields.proofs.Padding.{behind, decimal_by_two, length_by_two, at_most_two}

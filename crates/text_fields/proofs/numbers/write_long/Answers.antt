@@ -1,11 +1,13 @@
-use Rattle.std.proofs.Common.{◌≡◌, ◌∙◌, ◌++◌, ◌/◌, ◌%◌, ℕ, List, take, ap, arith}
+use Rattle.std.proofs.Common.{◌∙◌, ◌++◌, ◌/◌, ◌%◌, ℕ, List, take, ap, arith}
 use Rattle.std.specs.Fmt.{decimal}
 use Rattle.text_fields.specs.Padded.{eight_digits}
 use Rattle.text_fields.proofs.Padding.{behind, decimal_by_eight, length_by_eight, at_most_twelve}
 use Rattle.text_fields.proofs.numbers.write_long.Goals as goal
 
 pub write_eight_padded-requires : goal.write_eight_padded-requires
-write_eight_padded-requires c = (omega arith, omega (arith, at_most_twelve (c.args.n / 100000000) (omega (arith, c.requires)), c.requires, c.write_twelve-middle.ensures.end, c.write_twelve-middle.ensures.length))
+write_eight_padded-requires c =
+    let short = at_most_twelve (c.args.n / 100000000) (omega (arith, c.requires)) in
+    (omega arith, omega (arith, short, c.requires, c.write_twelve-middle.ensures.end, c.write_twelve-middle.ensures.length))
 
 pub returns-clause-end : goal.returns-clause-end
 returns-clause-end c = omega (arith, length_by_eight c.args.n c.requires.0 c.ranges.n.fits, c.write_twelve-middle.ensures.end, c.write_eight_padded.ensures.end)

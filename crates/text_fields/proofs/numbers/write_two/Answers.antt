@@ -1,4 +1,4 @@
-use Rattle.std.proofs.Common.{◌≡◌, ◌∙◌, ◌++◌, ℕ, ◌+◌, List, [], ◌∷◌, take, sym, ap, arith}
+use Rattle.std.proofs.Common.{◌∙◌, ◌++◌, ℕ, ◌+◌, List, take, sym, ap, arith}
 use Rattle.std.proofs.lemmas.Fmt.{decimal_digit}
 use Rattle.std.proofs.lemmas.List.{take_more_set}
 use Rattle.text_fields.proofs.Padding.{length_one, length_two, decimal_two}

@@ -1,5 +1,3 @@
-use Rattle.std.proofs.Common.{◌≡◌, ◌∙◌, ◌*◌, ◌+◌, get_or, rules}
-use Rattle.text_fields.specs.declared.numbers.TheConstants.{PAIRS}
 use Rattle.text_fields.proofs.Padding.{pair_at, two_put}
 use Rattle.text_fields.proofs.numbers.write_two_padded.Goals as goal
 
