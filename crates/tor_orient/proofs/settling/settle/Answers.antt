@@ -4,7 +4,7 @@ use Rattle.std.proofs.lemmas.Bool.{false≢true}
 use Rattle.std.proofs.lemmas.Result.{on_ok_weaker}
 use Rattle.tor_digraph.specs.Walks.{Net, Reaches}
 use Rattle.tor_digraph.specs.Reached.{IsGrown}
-use Rattle.tor_clauses.specs.Literals.{opposite_node}
+use Rattle.tor_clauses.specs.Literals.{node_of, opposite_node}
 use Rattle.tor_orient.specs.Steps.{node_wanted, IsFailing}
 use Rattle.tor_orient.proofs.settling.settle.Goals as goal
 
@@ -21,7 +21,7 @@ returns-in-Some-clause-settled c =
     let old = c.args.settled.now.nodes in
     let new = c.reach_more.new.reached.nodes in
     let last = c.in-Some.last in
-    let node_is = c.node-node.ensures.node in
+    let node_is : c.node-node.result ≡ node = c.node-node.ensures.node ∙ ap node_of c.new.ensures in
     let other_is : c.negation_node.result ≡ opposite_node node = c.negation_node.ensures ∙ ap opposite_node node_is in
     let unwanted = subst (λ n. Contains old n → ⊥) node_is (λ h. false≢true (sym c.if-has.false ∙ c.has.ensures.1 h)) in
     let unsettled = subst (λ n. Contains old n → ⊥) other_is (λ h. false≢true (sym c.if-has-2.false ∙ c.has-2.ensures.1 h)) in
@@ -45,7 +45,7 @@ returns-in-None-clause-settled c =
     let net = c.args.clauses.now.net in
     let old = c.args.settled.now.nodes in
     let new = c.reach_more-in-None.new.reached.nodes in
-    let node_is = c.node-node.ensures.node in
+    let node_is : c.node-node.result ≡ node = c.node-node.ensures.node ∙ ap node_of c.new.ensures in
     let other_is : c.negation_node.result ≡ opposite_node node = c.negation_node.ensures ∙ ap opposite_node node_is in
     let unwanted = subst (λ n. Contains old n → ⊥) node_is (λ h. false≢true (sym c.if-has.false ∙ c.has.ensures.1 h)) in
     let unsettled = subst (λ n. Contains old n → ⊥) other_is (λ h. false≢true (sym c.if-has-2.false ∙ c.has-2.ensures.1 h)) in
