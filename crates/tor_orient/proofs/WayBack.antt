@@ -1,6 +1,6 @@
 -- The way by which a search has come to a node, from its end on.
-use Rattle.std.proofs.Common.{◌≡◌, ℕ, ◌*◌, ◌/◌, ◌<◌, inl, inr, Bool, List, [], Some, sym, ap, ◌∙◌, subst, arith, Contains}
-use Rattle.std.specs.Prelude.{slice_get}
+use Rattle.std.proofs.Common.{◌≡◌, ℕ, ◌*◌, ◌/◌, ◌<◌, inl, inr, Bool, List, [], Option, Some, sym, ap, ◌∙◌, subst, arith, Contains}
+use Rattle.std.specs.Prelude.{slice_get, IfSome}
 use Rattle.tor_digraph.specs.Walks.{IsArc, Reaches, here, along}
 use Rattle.tor_digraph.specs.Found.{HasTreeArcs, HasTailsBefore, IsFalling, IsStepTo}
 use Rattle.tor_digraph.specs.NodeSets.{IsAdded}
@@ -15,6 +15,11 @@ use Rattle.tor_orient.specs.Steps.{HasOpposites}
 -- with each node of so many edges its opposite is there
 pub opposites_there : (edges count : ℕ) → count ≡ edges * 2 → HasOpposites count
 opposites_there edges count twice n lt = let same = edge_opposite n in omega (arith, twice, lt, same)
+
+-- the step that was answered
+pub step_of : (found : List (Found ℕ ℕ)) (node : ℕ) (answer : Option (ℕ × ℕ)) (step : ℕ × ℕ) → answer ≡ Some step →
+    IfSome answer (λ (s : ℕ × ℕ). IsStepTo (λ n. n) found node s.0 s.1) → IsStepTo (λ n. n) found node step.0 step.1
+step_of found node answer step is h = subst (λ o. IfSome o (λ (s : ℕ × ℕ). IsStepTo (λ n. n) found node s.0 s.1)) is h
 
 -- the tail of a step was found too
 pub tail_found : (nodes : List ℕ) (found : List (Found ℕ ℕ)) → HasTailsBefore (λ n. n) nodes found → (node tail arc : ℕ) → Contains nodes node →

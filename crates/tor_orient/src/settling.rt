@@ -45,7 +45,10 @@ fn settle(
     }
     let digraph = clauses.digraph();
     match failing_behind(clauses, rows, node, settled, tried, behind)? {
-        Some(last) => digraph.reach_more(negation_node(last), settled),
+        Some(last) => {
+            let other = negation_node(last);
+            digraph.reach_more(other, settled)
+        }
         None => digraph.reach_more(node, settled),
     }
 }

@@ -1,9 +1,8 @@
 use Rattle.std.proofs.Common.{◌≡◌, ◌<◌, ◌∙◌, sym, subst, arith, ℕ, List, Contains}
 use Rattle.tor_digraph.specs.Walks.{Reaches, here}
-use Rattle.std.specs.Prelude.{IfSome}
-use Rattle.tor_digraph.specs.Found.{HasTreeArcs, IsStepTo}
+use Rattle.tor_digraph.specs.Found.{HasTreeArcs}
 use Rattle.tor_clauses.specs.Literals.{opposite_node}
-use Rattle.tor_orient.proofs.WayBack.{tail_found, leads_more, leads_none}
+use Rattle.tor_orient.proofs.WayBack.{step_of, tail_found, leads_more, leads_none}
 use Rattle.tor_orient.proofs.failing.last_failing.Goals as goal
 
 pub loop-step-init : goal.loop-step-init
@@ -18,9 +17,9 @@ loop-step-preserved c =
     let tried = c.args.tried.now in
     let node = c.loop-step.node in
     record {
-      found = tail_found tried.nodes tried.found c.requires.before node c.in-Some.step.0 c.in-Some.step.1 c.loop-step.invariant.found (subst (λ o. IfSome o (λ (s : ℕ × ℕ). IsStepTo (λ n. n) c.args.tried.now.found c.loop-step.node s.0 s.1)) c.in-Some.is c.last_step.ensures.step);
+      found = tail_found tried.nodes tried.found c.requires.before node c.in-Some.step.0 c.in-Some.step.1 c.loop-step.invariant.found (step_of c.args.tried.now.found c.loop-step.node c.last_step.result c.in-Some.step c.in-Some.is c.last_step.ensures.step);
       count = c.add.ensures.count ∙ c.loop-step.invariant.count;
-      leads = λ arcs tree n h. leads_more arcs tried.found tree node c.in-Some.step.0 c.in-Some.step.1 (subst (λ o. IfSome o (λ (s : ℕ × ℕ). IsStepTo (λ n. n) c.args.tried.now.found c.loop-step.node s.0 s.1)) c.in-Some.is c.last_step.ensures.step) c.in_ok-add.field-0
+      leads = λ arcs tree n h. leads_more arcs tried.found tree node c.in-Some.step.0 c.in-Some.step.1 (step_of c.args.tried.now.found c.loop-step.node c.last_step.result c.in-Some.step c.in-Some.is c.last_step.ensures.step) c.in_ok-add.field-0
           c.loop-step.behind.items c.add.new.self.items c.in_ok-add.ensures.added (c.loop-step.invariant.leads arcs tree) n h;
     }
 
@@ -33,7 +32,7 @@ pub has-requires : goal.has-requires
 has-requires c =
     let tried = c.args.tried.now in
     let tail = c.in-Some.step.0 in
-    let found = tail_found tried.nodes tried.found c.requires.before c.loop-step.node tail c.in-Some.step.1 c.loop-step.invariant.found (subst (λ o. IfSome o (λ (s : ℕ × ℕ). IsStepTo (λ n. n) c.args.tried.now.found c.loop-step.node s.0 s.1)) c.in-Some.is c.last_step.ensures.step) in
+    let found = tail_found tried.nodes tried.found c.requires.before c.loop-step.node tail c.in-Some.step.1 c.loop-step.invariant.found (step_of c.args.tried.now.found c.loop-step.node c.last_step.result c.in-Some.step c.in-Some.is c.last_step.ensures.step) in
     let lt = c.requires.both tail (c.requires.inside tail found) in
     omega (arith, lt, c.negation_node.ensures, c.add.ensures.count, c.loop-step.invariant.count)
 
@@ -41,14 +40,14 @@ pub returns-then-has-clause-there : goal.returns-then-has-clause-there
 returns-then-has-clause-there c =
     let tried = c.args.tried.now in
     let tail = c.in-Some.step.0 in
-    c.requires.inside tail (tail_found tried.nodes tried.found c.requires.before c.loop-step.node tail c.in-Some.step.1 c.loop-step.invariant.found (subst (λ o. IfSome o (λ (s : ℕ × ℕ). IsStepTo (λ n. n) c.args.tried.now.found c.loop-step.node s.0 s.1)) c.in-Some.is c.last_step.ensures.step))
+    c.requires.inside tail (tail_found tried.nodes tried.found c.requires.before c.loop-step.node tail c.in-Some.step.1 c.loop-step.invariant.found (step_of c.args.tried.now.found c.loop-step.node c.last_step.result c.in-Some.step c.in-Some.is c.last_step.ensures.step))
 
 pub returns-then-has-clause-failing : goal.returns-then-has-clause-failing
 returns-then-has-clause-failing c = λ arcs tree reached.
     let tried = c.args.tried.now in
     let node = c.loop-step.node in
     let tail = c.in-Some.step.0 in
-    let step = (subst (λ o. IfSome o (λ (s : ℕ × ℕ). IsStepTo (λ n. n) c.args.tried.now.found c.loop-step.node s.0 s.1)) c.in-Some.is c.last_step.ensures.step) in
+    let step = (step_of c.args.tried.now.found c.loop-step.node c.last_step.result c.in-Some.step c.in-Some.is c.last_step.ensures.step) in
     let new = c.add.new.self.items in
     let behind : Contains new (opposite_node tail) = subst (Contains new) c.negation_node.ensures (c.has.ensures.0 c.if-has.true) in (
       reached tail (tail_found tried.nodes tried.found c.requires.before node tail c.in-Some.step.1 c.loop-step.invariant.found step),

@@ -34,7 +34,7 @@ returns-in-Some-clause-settled c =
         last,
         failing,
         subst (λ (n : Net ℕ). IsGrown n.arcs (opposite_node last) old new) c.digraph-digraph.ensures
-            (subst (λ n. IsGrown c.digraph-digraph.result.now.arcs n old new) c.negation_node-in-Some.ensures more),
+            (subst (λ n. IsGrown c.digraph-digraph.result.now.arcs n old new) c.negation_node-other.ensures more),
       ),
     ))
     c.reach_more.ensures.grown
