@@ -9,7 +9,7 @@ use Rattle.path_clean.specs.declared.cleaned.Cause.TheVariants.{NoPath, BadSegme
 use Rattle.path_clean.specs.declared.cleaned.Cleaned.{Cleaned}
 use Rattle.path_clean.specs.declared.cleaned.Cleaned.TheVariants.{Path, Aside}
 use Rattle.path_clean.specs.Paths.{is_reserved}
-use Rattle.path_clean.specs.Clean.{clean_of}
+use Rattle.path_clean.specs.Clean.{clean_of, merged_of}
 
 abbrev in_octets : List ℕ → List ℕ
 in_octets [] = []
@@ -99,6 +99,23 @@ confederation = refl
 confederation_skipped : cleaned Skip (confed_sequence (64512 ∷ []) ++ sequence (10 ∷ 20 ∷ [])) ≡ Aside Confed
 unfolding segments_of segments_within segment
 confederation_skipped = refl
+
+-- ---- merged, and not judged
+
+abbrev merged : Sets → List ℕ → Cleaned
+merged sets value = merged_of sets Two (record { code = 2; value = value } ∷ [])
+
+unjudged_loop : merged Cut (sequence (10 ∷ 20 ∷ 20 ∷ 10 ∷ [])) ≡ Path (10 ∷ 20 ∷ 10 ∷ [])
+unfolding segments_of segments_within segment
+unjudged_loop = refl
+
+unjudged_set_first : merged Cut (set (10 ∷ 20 ∷ []) ++ sequence (30 ∷ [])) ≡ Path []
+unfolding segments_of segments_within segment
+unjudged_set_first = refl
+
+unmerged_set : merged Skip (set (10 ∷ 20 ∷ []) ++ sequence (30 ∷ [])) ≡ Aside Cause.Sets
+unfolding segments_of segments_within segment
+unmerged_set = refl
 
 -- ---- no path, and bad segments
 
