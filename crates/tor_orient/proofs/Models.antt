@@ -11,10 +11,9 @@ use Rattle.relationships.specs.Graph.{Edge, edge_of, edges, orientation}
 use Rattle.relationships.proofs.Places.{listed}
 use Rattle.relationships.proofs.Slopes.{over_parts, over-low, over-high}
 use Rattle.relationships.proofs.Serving.{serves_satisfies}
-use Rattle.tor_digraph.specs.Walks.{Reaches}
 use Rattle.tor_arena.proofs.Gets.{Contains-from_has}
 use Rattle.as_graph.specs.Paths.{paths_at}
-use Rattle.tor_clauses.specs.Literals.{lit_of, opposite_node}
+use Rattle.tor_clauses.specs.Literals.{lit_of}
 use Rattle.tor_clauses.specs.Formulas.{Formula, FitsGraph, IsModel}
 use Rattle.tor_clauses.proofs.Overs.{edges-apart, over-holds, holds-over}
 use Rattle.tor_clauses.proofs.Exacts.{only_arcs}

@@ -1,14 +1,13 @@
 -- The way by which a search has come to a node, from its end on.
-use Rattle.std.proofs.Common.{◌≡◌, ℕ, ◌*◌, ◌/◌, ◌<◌, inl, inr, Bool, List, [], Option, Some, sym, ap, ◌∙◌, subst, arith, Contains}
-use Rattle.std.specs.Prelude.{slice_get, IfSome}
-use Rattle.tor_digraph.specs.Walks.{IsArc, Reaches, here, along}
-use Rattle.tor_digraph.specs.Found.{HasTreeArcs, HasTailsBefore, IsFalling, IsStepTo}
+use Rattle.std.proofs.Common.{◌≡◌, ℕ, ◌*◌, inl, inr, Bool, List, [], Option, Some, sym, subst, arith, Contains}
+use Rattle.std.specs.Prelude.{IfSome}
+use Rattle.tor_digraph.specs.Walks.{Reaches, here, along}
+use Rattle.tor_digraph.specs.Found.{HasTreeArcs, HasTailsBefore, IsStepTo}
 use Rattle.tor_digraph.specs.NodeSets.{IsAdded}
 use Rattle.tor_digraph.proofs.Closings.{reaches_trans}
 use Rattle.tor_digraph.proofs.Members.{Contains-one_more}
 use Rattle.tor_digraph.specs.declared.found.Found.{Found}
 use Rattle.tor_arena.proofs.Gets.{has-from_Contains, Contains-from_has, none-in}
-use Rattle.tor_clauses.specs.Literals.{opposite_node}
 use Rattle.tor_clauses.proofs.Sides.{edge_opposite}
 use Rattle.tor_orient.specs.Steps.{HasOpposites}
 

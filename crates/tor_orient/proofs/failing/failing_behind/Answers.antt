@@ -1,8 +1,7 @@
-use Rattle.std.proofs.Common.{◌≡◌, ◌<◌, ◌∙◌, ℕ, sym, ap, subst, arith, Contains}
+use Rattle.std.proofs.Common.{◌∙◌, ℕ, sym, ap, subst, arith, Contains}
 use Rattle.std.proofs.lemmas.Bool.{false≢true}
 use Rattle.tor_digraph.specs.Walks.{Net}
 use Rattle.tor_digraph.specs.Reached.{IsFlooded, IsGrown, heads_of}
-use Rattle.tor_clauses.specs.Literals.{opposite_node}
 use Rattle.tor_orient.specs.Steps.{HasOpposites}
 use Rattle.tor_orient.proofs.Settled.{found_way, no_way}
 use Rattle.tor_orient.proofs.failing.failing_behind.Goals as goal

@@ -1,12 +1,7 @@
-use Rattle.std.proofs.Common.{◌≡◌, ◌<◌, Some, length, refl, sym, ◌∙◌, subst, arith}
+use Rattle.std.proofs.Common.{◌≡◌, Some, length, refl, ◌∙◌, arith}
 use Rattle.std.specs.Prelude.{slice_get}
 use Rattle.std.proofs.lemmas.Option.{slice_get_read}
-use Rattle.std.proofs.lemmas.List.Elements.{All-contains}
 use Rattle.relationships.specs.Graph.{edges}
-use Rattle.gao_prefs.specs.declared.preferring.Pref.{Pref}
-use Rattle.tor_arena.proofs.Gets.{Contains-from_has}
-use Rattle.tor_clauses.proofs.LiteralLemmas.{node_below}
-use Rattle.tor_orient.specs.Steps.{node_wanted}
 use Rattle.tor_orient.proofs.Models.{one_way}
 use Rattle.tor_orient.proofs.Settled.{settled_next}
 use Rattle.tor_orient.proofs.WayBack.{opposites_there}
