@@ -37,7 +37,8 @@ pub record StandsAt (rows : List Counted) (id : ℕ) (path : List ℕ) : Type 0 
 
 abbrev pub StandAtPlaces : List Counted → Batched → Type 0
 StandAtPlaces rows batch =
-    (k id : ℕ) (path : List ℕ) → slice_get batch.places k ≡ Some (Some id) → slice_get batch.routes k ≡ Some (Path path) → StandsAt rows id path
+    (k id : ℕ) (path : List ℕ) → slice_get batch.places k ≡ Some (Some id) → slice_get batch.routes k ≡ Some (Path path)
+    → StandsAt rows id path
 
 -- the route of this place was taken in
 abbrev pub TakesAt : Batched → ℕ → (old new : Taken) → Type 0

@@ -1,5 +1,6 @@
 -- Numbers that go onto a path one by one are the numbers with equal neighbours merged.
-use Rattle.std.proofs.Common.{◌≡◌, ℕ, suc, take, not, ◌+◌, ◌-◌, ◌<◌, ◌&&◌, ◌||◌, Bool, true, false, cond, nat_eq, List, [], ◌∷◌, ◌++◌, Option, Some, None, length, refl, sym, ap, ◌∙◌, arith, append_assoc, length-append}
+use Rattle.std.proofs.Common.{◌≡◌, ℕ, suc, take, not, ◌+◌, ◌-◌, ◌<◌, ◌&&◌, ◌||◌, Bool, true, false, cond, nat_eq, List, [], ◌∷◌, ◌++◌, Option, Some, None, length, refl}
+use Rattle.std.proofs.Common.{sym, ap, ◌∙◌, arith, append_assoc, length-append}
 use Rattle.std.specs.Prelude.{slice_index}
 use Rattle.std.specs.List.{fold, dedup, dedup_from, flat_map, before_first, prefix_len, list_any}
 use Rattle.std.proofs.lemmas.Bool.{lt-ltb}

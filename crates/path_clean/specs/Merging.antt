@@ -1,5 +1,6 @@
 -- Numbers that go onto a path one by one.
-use Rattle.std.specs.Prelude.{◌≡◌, ℕ, ◌-◌, ◌==◌, Bool, false, ◌&&◌, nat_lt, List, [], ◌∷◌, ◌++◌, length, slice_index, fold, Option, Some, None, if◌then◌else◌}
+use Rattle.std.specs.Prelude.{◌≡◌, ℕ, ◌-◌, ◌==◌, Bool, false, ◌&&◌, nat_lt, List, [], ◌∷◌, ◌++◌, length, slice_index, fold}
+use Rattle.std.specs.Prelude.{Option, Some, None, if◌then◌else◌}
 use Rattle.std.specs.List.{list_any, flat_map, before_first}
 use Rattle.path_attrs.specs.PathOf.{is_confed}
 use Rattle.path_attrs.specs.declared.as_path.Segment.{Segment}

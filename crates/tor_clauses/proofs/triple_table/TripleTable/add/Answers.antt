@@ -15,7 +15,8 @@ returns-then-not-branch-clause-ok c =
     let known = c.self.inside.known in
     let ps = c.self.inside.places.items in
     let net = c.self.inside.digraph in
-    let there = old-triple t number known c.insert.new.self (triples_at ps net.arcs) c.requires.nodes c.self.invariant.keys (number_is c.args.triple c.key-number.result c.node.result c.node-2.result c.node.ensures.node c.node-2.ensures.node c.key-number.ensures)
+    let there = old-triple t number known c.insert.new.self (triples_at ps net.arcs) c.requires.nodes c.self.invariant.keys
+    (number_is c.args.triple c.key-number.result c.node.result c.node-2.result c.node.ensures.node c.node-2.ensures.node c.key-number.ensures)
     (subst (IsInserted number known c.insert.new.self) c.if-not-branch.true c.in_ok-insert.ensures.ok) in
     subst (λ (i : Implications). seen c.reserve.new.self.items net ≡ implying i (with_triple i.triples t)) c.self.view_is
     (ap (λ (qs : List TriplePlace). seen qs net) c.reserve.ensures.items ∙ placed_none known ps net t c.self.invariant there)
@@ -43,7 +44,9 @@ pub invariant_of-self-in-Ok : goal.invariant_of-self-in-Ok
 invariant_of-self-in-Ok c =
     standing-more c.self.inside.known c.insert.new.self c.self.inside.places.items c.push_reserved.new.self.items c.self.inside.digraph.arcs c.add_arcs.new.digraph.arcs c.args.triple
     c.self.invariant c.requires.nodes (subst (λ (i : Implications). length i.triples < 2 ^ 27) (sym c.self.view_is) c.requires.room)
-    ((inserted c).1 ∙ ap (λ (n : ℕ). c.self.inside.known ++ n ∷ []) (number_is c.args.triple c.key-number.result c.node.result c.node-2.result c.node.ensures.node c.node-2.ensures.node c.key-number.ensures)) (placed c) (ap (λ (n : Net ℕ). n.arcs) c.in-Ok.ensures.ok)
+    ((inserted c).1 ∙ ap (λ (n : ℕ). c.self.inside.known ++ n ∷ [])
+    (number_is c.args.triple c.key-number.result c.node.result c.node-2.result c.node.ensures.node c.node-2.ensures.node c.key-number.ensures))
+    (placed c) (ap (λ (n : Net ℕ). n.arcs) c.in-Ok.ensures.ok)
 
 pub returns-in-Ok-clause-ok : goal.returns-in-Ok-clause-ok
 returns-in-Ok-clause-ok c =
@@ -51,6 +54,8 @@ returns-in-Ok-clause-ok c =
     let known = c.self.inside.known in
     let ps = c.self.inside.places.items in
     let net = c.self.inside.digraph in
-    let new = new-triple t c.key-number.result known c.insert.new.self (triples_at ps net.arcs) c.self.invariant.keys (number_is c.args.triple c.key-number.result c.node.result c.node-2.result c.node.ensures.node c.node-2.ensures.node c.key-number.ensures) (inserted c) in
+    let new = new-triple t c.key-number.result known c.insert.new.self (triples_at ps net.arcs) c.self.invariant.keys
+    (number_is c.args.triple c.key-number.result c.node.result c.node-2.result c.node.ensures.node c.node-2.ensures.node c.key-number.ensures)
+    (inserted c) in
     subst (λ (i : Implications). seen c.push_reserved.new.self.items c.add_arcs.new.digraph ≡ implying i (with_triple i.triples t)) c.self.view_is
     (placed_one known ps c.push_reserved.new.self.items net c.add_arcs.new.digraph t c.self.invariant new (placed c) c.in-Ok.ensures.ok)

@@ -30,4 +30,5 @@ invariant_of-self c =
 pub returns-clause-triples : goal.returns-clause-triples
 returns-clause-triples c =
     let arcs : c.undo_to.new.self.arcs ≡ take (c.args.count * 2) c.self.inside.digraph.arcs = ap (λ (n : Net ℕ). n.arcs) c.undo_to.ensures in
-    ap₂ triples_at c.cut_to.ensures.items arcs ∙ triples_at-take c.args.count c.self.inside.places.items c.self.inside.digraph.arcs ∙ ap (λ (i : Implications). take c.args.count i.triples) c.self.view_is
+    ap₂ triples_at c.cut_to.ensures.items arcs ∙ triples_at-take c.args.count c.self.inside.places.items c.self.inside.digraph.arcs ∙
+    ap (λ (i : Implications). take c.args.count i.triples) c.self.view_is
