@@ -1,6 +1,5 @@
 -- A search that is followed for some arcs alone: the arcs of a node are looked along one after the other.
 use Rattle.std.proofs.Common.{◌≡◌, ℕ, ◌+◌, ◌<◌, List, Option, Some, None, length, sym, ap, ◌∙◌, subst, arith}
-use Rattle.std.specs.Prelude.{slice_get}
 use Rattle.std.proofs.lemmas.Option.{slice_get_within}
 use Rattle.tor_digraph.specs.Walks.{IsArc}
 use Rattle.tor_digraph.specs.Links.{IsLatest}

@@ -1,4 +1,4 @@
-use Rattle.std.proofs.Common.{◌≡◌, ◌<◌, ◌*◌, ◌/◌, ℕ, List, length, sym, subst, arith}
+use Rattle.std.proofs.Common.{◌≡◌, ◌*◌, List, length, sym, subst, arith}
 use Rattle.std.specs.Prelude.{IfNone}
 use Rattle.tor_arena.proofs.Gets.{slice_get-some}
 use Rattle.relationships.specs.declared.label.End.{End}

@@ -1,4 +1,4 @@
-use Rattle.std.proofs.Common.{◌+◌, arith}
+use Rattle.std.proofs.Common.{arith}
 use Rattle.std.proofs.lemmas.Option.{slice_get_within}
 use Rattle.tor_arena.proofs.Gets.{slice_get-some}
 use Rattle.path_select.proofs.Trailing.{trail_begun}
