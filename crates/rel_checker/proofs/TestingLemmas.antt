@@ -9,10 +9,16 @@ use Rattle.relationships.specs.Graph.{edges}
 use Rattle.relationships.specs.declared.mark.Probe.{Probe}
 use Rattle.result_text.specs.declared.file.ResultFile.{ResultFile}
 use Rattle.result_rules.specs.File.{its_edges, its_paths}
-use Rattle.rel_checker.specs.Batches.{IsBegun, IsBatch, AreRows}
+use Rattle.rel_checker.specs.Batches.{CanFlipTogether, HasRounds, IsBegun, IsBatch, AreRows}
 use Rattle.rel_checker.specs.Serving.{CanFlip, GainsAt, ServesAt, First}
-use Rattle.rel_checker.specs.Testing.{FlipsAt, IsBehind, end_before, IsFailing, IsTested, Tests, IsWaiting, IsBatchTested, AreAllTested}
+use Rattle.rel_checker.specs.Testing.{FlipsAt, IsBehind, end_before, IsFailing, IsTested, Tests, Tries, IsWaiting, IsBatchTested, AreTried, IsUnderWay, AreAllTested}
 use Rattle.rel_checker.specs.declared.marks.consistency.Testing.{Testing}
+use Rattle.rel_checker.specs.Flipping.{flipped_orders, served_lines, IsBuiltFor}
+use Rattle.rel_checker.specs.Neighbours.{IsTurned}
+use Rattle.relationships.specs.Evidence.{IsTriple}
+use Rattle.rel_checker.proofs.Buildings.{inside_implied, inside_conflicting}
+use Rattle.rel_checker.proofs.Consistencies.{batch-none, mutual_conflicts}
+use Rattle.rel_checker.proofs.RuledOut.{rounds_of}
 use Rattle.rel_checker.proofs.Firsts.{probe_at, serves_here, idle_fails}
 
 -- ---- one line
@@ -119,21 +125,125 @@ module _ (file : ResultFile) (implied conflicting implying : List (List ℕ)) wh
     rounds = (let r = so.rounds in omega (arith, r, end));
   }
 
-  -- ---- all batches
+-- ---- one batch that is tried
 
-  -- the lines before `end` are tested but those that wait, and there were no more than two rounds for each that doesn't
-  pub record IsUnderWay (end : ℕ) (first : Option ℕ) (now : Testing) (waiting : List ℕ) : Type 0 where
-    pub batch : IsBatch implied conflicting implying now.batch
-    pub failing : IsFailing file now.failing
-    pub keeps : (k : ℕ) → IsBehind first k → IsBehind now.failing k
-    pub tested : (k : ℕ) → k < end → IsTested file now.failing k ⊎ Contains waiting k
+module _ (file : ResultFile) (implied conflicting : List (List ℕ)) where
+  -- the first lines, so many, are tested but those that wait
+  pub record IsTriedSoFar (places : List ℕ) (first : Testing) (at : ℕ) (now : Testing) (waiting : List ℕ) : Type 0 where
+    pub rounds : HasRounds (length implied) now.batch
+    pub together : CanFlipTogether implied conflicting now.batch.rounds.items now.batch.round
+    pub failing : now.failing ≡ first.failing
+    pub round : now.batch.round ≡ first.batch.round + 1
+    pub tested : (k place : ℕ) → k < at → slice_get places k ≡ Some place → IsTested file now.failing place ⊎ Contains waiting place
     pub inside : All (λ k. k < length file.probes) waiting
-    pub rounds : now.batch.round + 2 * length waiting ≤ 1 + 2 * end
+    pub few : length waiting ≤ at
 
-  pub under_way_next : (end : ℕ) (first : Option ℕ) (old new : Testing) (waiting later : List ℕ) → IsUnderWay end first old waiting → (length waiting ≡ 0 → ⊥) →
-      IsBatchTested file implied conflicting implying waiting old new later → IsUnderWay end first new later
-  under_way_next end first old new waiting later so some b = record {
-    batch = b.batch;
+  pub tries_begin : (places : List ℕ) (first now : Testing) (waiting : List ℕ) → IsBegun (length implied) now.batch → now.failing ≡ first.failing → now.batch.round ≡ first.batch.round + 1 →
+      waiting ≡ [] → IsTriedSoFar places first 0 now waiting
+  tries_begin places first now waiting b same round none = subst (IsTriedSoFar places first 0 now) (sym none) (record {
+    rounds = record {
+      many = b.many;
+      ruled_many = b.ruled_many;
+      latest = λ i d lt. (let less = b.none i d lt in omega (arith, less));
+      ruled_latest = λ i d lt. (let less = b.none_ruled i d lt in omega (arith, less));
+    };
+    together = batch-none implied conflicting now.batch.rounds.items now.batch.round b.none;
+    failing = same;
+    round = round;
+    tested = λ k place lt. absurd (omega (arith, lt));
+    inside = λ i d lt. absurd (omega (arith, lt));
+    few = omega arith;
+  })
+
+  tried_more : (place : ℕ) (old new : Testing) (done : Bool) → Tries file implied conflicting place old new done → (k : ℕ) → IsTested file old.failing k → IsTested file new.failing k
+  tried_more place old new done t k h = subst (λ f. IsTested file f k) (sym t.failing) h
+
+  pub tries_next : (places : List ℕ) (first : Testing) (at : ℕ) (old new : Testing) (waiting later : List ℕ) (place : ℕ) (done : Bool) → IsTriedSoFar places first at old waiting →
+      slice_get places at ≡ Some place → place < length file.probes → Tries file implied conflicting place old new done → IsWaiting done place waiting later →
+      IsTriedSoFar places first (at + 1) new later
+  tries_next places first at old new waiting later place done so here within t (inl w) = subst (IsTriedSoFar places first (at + 1) new) (sym w.1) (record {
+    rounds = t.rounds;
+    together = t.together;
+    failing = t.failing ∙ so.failing;
+    round = t.round ∙ so.round;
+    tested = λ k p lt at-k. elim (cases_lt k at) [
+      | inl less ↦ elim (so.tested k p less at-k) [ inl h ↦ inl (tried_more place old new done t p h) | inr h ↦ inr h ]
+      | inr ge ↦ inl (subst (IsTested file new.failing) (same_Some place p (sym here ∙ ap (slice_get places) (omega (arith, lt, ge)) ∙ at-k)) (t.tested w.0))
+    ];
+    inside = so.inside;
+    few = (let few = so.few in omega (arith, few));
+  })
+  tries_next places first at old new waiting later place done so here within t (inr w) = subst (IsTriedSoFar places first (at + 1) new) (sym w.1) (record {
+    rounds = t.rounds;
+    together = t.together;
+    failing = t.failing ∙ so.failing;
+    round = t.round ∙ so.round;
+    tested = λ k p lt at-k. elim (cases_lt k at) [
+      | inl less ↦ elim (so.tested k p less at-k) [ inl h ↦ inl (tried_more place old new done t p h) | inr h ↦ inr (Contains-append_left waiting (place ∷ []) p h) ]
+      | inr ge ↦ inr (subst (Contains (waiting ++ place ∷ [])) (same_Some place p (sym here ∙ ap (slice_get places) (omega (arith, lt, ge)) ∙ at-k)) (Contains-push waiting place))
+    ];
+    inside = All-push (λ k. k < length file.probes) waiting place so.inside within;
+    few = (let few = so.few in let n = length-append waiting (place ∷ []) in omega (arith, few, n));
+  })
+
+  pub tries_done : (places : List ℕ) (first : Testing) (at : ℕ) (now : Testing) (waiting : List ℕ) → at ≡ length places → IsTriedSoFar places first at now waiting →
+      AreTried file implied places first now waiting
+  tries_done places first at now waiting end so = record {
+    rounds = so.rounds;
+    failing = so.failing;
+    round = so.round;
+    tested = λ k h. (let has = has-from_Contains places k h in let lt = slice_get_within places has.0 k has.1 in so.tested has.0 k (omega (arith, lt, end)) has.1);
+    inside = so.inside;
+    few = (let few = so.few in omega (arith, few, end));
+  }
+
+-- ---- all batches
+
+pub rows_of : (file : ResultFile) (implied conflicting implying : List (List ℕ)) → IsBuiltFor file.edges (served_lines file) implied conflicting → IsTurned implied implying →
+    AreRows implied conflicting implying
+rows_of file implied conflicting implying built turned = record {
+  same = built.conflicting_many ∙ sym built.implied_many;
+  turned_many = turned.many;
+  inside = inside_implied (flipped_orders file.edges) (IsTriple (served_lines file)) implied conflicting built;
+  conflicts = inside_conflicting (flipped_orders file.edges) (IsTriple (served_lines file)) implied conflicting built;
+  turned_inside = turned.inside;
+  both_ways = mutual_conflicts (flipped_orders file.edges) (served_lines file) implied conflicting built;
+  turned = turned.back;
+}
+
+module _ (file : ResultFile) (implied : List (List ℕ)) where
+  pub way_begins : (end : ℕ) (now : Testing) (waiting : List ℕ) → end ≤ length file.probes → IsBegun (length implied) now.batch → now.batch.round ≡ 1 → IsFailing file now.failing →
+      length waiting ≡ end → All (λ k. k < end) waiting → ((k : ℕ) → k < end → Contains waiting k) → IsUnderWay file implied end 1 now.failing now waiting
+  way_begins end now waiting within b round failing many inside all = record {
+    bears = record {
+      many = b.many;
+      ruled_many = b.ruled_many;
+      latest = λ i d lt. (let less = b.none i d lt in omega (arith, less));
+      ruled_latest = λ i d lt. (let less = b.none_ruled i d lt in omega (arith, less));
+    };
+    failing = failing;
+    keeps = λ k h. h;
+    tested = λ k lt. inr (all k lt);
+    inside = λ i d lt. (let less = inside i d lt in omega (arith, less, within));
+    rounds = omega (arith, round, many);
+  }
+
+  -- the lines were tried: where fewer wait there is a round for each that doesn't
+  pub way_tried : (end more more' : ℕ) (first : Option ℕ) (old new : Testing) (waiting left : List ℕ) → IsUnderWay file implied end more first old waiting → AreTried file implied waiting old new left →
+      1 + 2 * length left + more ≤ more' + 2 * length waiting → IsUnderWay file implied end more' first new left
+  way_tried end more more' first old new waiting left so t le = record {
+    bears = t.rounds;
+    failing = subst (IsFailing file) (sym t.failing) so.failing;
+    keeps = λ k h. subst (λ f. IsBehind f k) (sym t.failing) (so.keeps k h);
+    tested = λ k lt. elim (so.tested k lt) [ inl h ↦ inl (subst (λ f. IsTested file f k) (sym t.failing) h) | inr h ↦ t.tested k h ];
+    inside = t.inside;
+    rounds = (let r = so.rounds in let e = t.round in omega (arith, r, e, le));
+  }
+
+  pub way_next : (conflicting implying : List (List ℕ)) (rows : AreRows implied conflicting implying) (end : ℕ) (first : Option ℕ) (old new : Testing) (waiting later : List ℕ) →
+      IsUnderWay file implied end 2 first old waiting → (length waiting ≡ 0 → ⊥) → IsBatchTested file implied conflicting implying waiting old new later → IsUnderWay file implied end 2 first new later
+  way_next conflicting implying rows end first old new waiting later so some b = record {
+    bears = rounds_of implied conflicting implying rows new.batch b.batch;
     failing = b.failing;
     keeps = λ k h. b.keeps k (so.keeps k h);
     tested = λ k lt. elim (so.tested k lt) [
@@ -144,8 +254,18 @@ module _ (file : ResultFile) (implied conflicting implying : List (List ℕ)) wh
     rounds = (let r = b.rounds in let r' = so.rounds in elim b.fewer [ inl z ↦ absurd (some z) | inr less ↦ omega (arith, r, r', less) ]);
   }
 
-  pub under_way_done : (end : ℕ) (first : Option ℕ) (now : Testing) (waiting : List ℕ) → IsUnderWay end first now waiting → length waiting ≡ 0 → AreAllTested file end first now.failing
-  under_way_done end first now waiting so none = record {
+  pub way_more : (end : ℕ) (first : Option ℕ) (now : Testing) (waiting : List ℕ) → IsUnderWay file implied end 1 first now waiting → IsUnderWay file implied end 2 first now waiting
+  way_more end first now waiting so = record {
+    bears = so.bears;
+    failing = so.failing;
+    keeps = so.keeps;
+    tested = so.tested;
+    inside = so.inside;
+    rounds = (let r = so.rounds in omega (arith, r));
+  }
+
+  pub way_done : (end : ℕ) (first : Option ℕ) (now : Testing) (waiting : List ℕ) → IsUnderWay file implied end 2 first now waiting → length waiting ≡ 0 → AreAllTested file end first now.failing
+  way_done end first now waiting so none = record {
     failing = so.failing;
     keeps = so.keeps;
     tested = λ k lt. elim (so.tested k lt) [ inl h ↦ h | inr c ↦ absurd (let within = c.1 in omega (arith, within, none)) ];

@@ -1,5 +1,5 @@
 -- Edges that are tested together: those that flip with any of some open lines, and those that are ruled out by these.
-use Rattle.std.specs.Prelude.{◌≡◌, ℕ, ◌≤◌, ◌<◌, List, length, All}
+use Rattle.std.specs.Prelude.{◌≡◌, ◌⊎◌, ℕ, ◌≤◌, ◌<◌, List, Some, length, slice_get, All, Contains}
 use Rattle.rel_checker.specs.Neighbours.{HasNext, EachHasRow, IsMutual, ReachesRow}
 use Rattle.rel_checker.specs.Searching.{RoundCameTo, IsRoundClosed}
 use Rattle.rel_checker.specs.declared.marks.batch.Batch.{Batch}
@@ -17,6 +17,12 @@ pub record CanFlipTogether (implied conflicting : List (List ℕ)) (rounds : Lis
   pub closed : IsRoundClosed implied rounds round
   pub agreeing : IsAgreeing conflicting rounds round
   pub latest : All (λ m. m ≤ round) rounds
+
+-- the edges of `seen` bear the number 0, and the others what they bore
+pub record HasForgotten (seen old new : List ℕ) : Type 0 where
+  pub many : length new ≡ length old
+  pub cases : (k v : ℕ) → slice_get new k ≡ Some v → (v ≡ 0) ⊎ ((slice_get old k ≡ Some v) × (Contains seen k → ⊥))
+  pub kept : (k v : ℕ) → slice_get old k ≡ Some v → (Contains seen k → ⊥) → slice_get new k ≡ Some v
 
 -- what conflicts with an edge to which the round came is ruled out, and so is what implies an edge that is
 pub record RulesOut (conflicting implying : List (List ℕ)) (rounds ruled : List ℕ) (round : ℕ) : Type 0 where

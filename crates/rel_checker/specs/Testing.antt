@@ -1,9 +1,9 @@
 -- What is known of open lines while they are tested in batches.
-use Rattle.std.specs.Prelude.{◌≡◌, ◌⊎◌, ℕ, ◌+◌, ◌<◌, ◌≤◌, Bool, IsTrue, List, ◌++◌, [], ◌∷◌, length, Option, Some, None, All, Contains}
+use Rattle.std.specs.Prelude.{◌≡◌, ◌⊎◌, ℕ, ◌+◌, ◌*◌, ◌<◌, ◌≤◌, Bool, IsTrue, List, ◌++◌, [], ◌∷◌, length, Option, Some, None, All, Contains}
 use Rattle.result_text.specs.declared.file.ResultFile.{ResultFile}
 use Rattle.result_rules.specs.File.{its_probes}
 use Rattle.result_rules.specs.Rules.{ForSome}
-use Rattle.rel_checker.specs.Batches.{IsBatch}
+use Rattle.rel_checker.specs.Batches.{CanFlipTogether, HasRounds, IsBatch}
 use Rattle.rel_checker.specs.Serving.{CanFlip, ServesAt}
 use Rattle.rel_checker.specs.declared.marks.consistency.Testing.{Testing}
 
@@ -39,6 +39,14 @@ pub record Tests (file : ResultFile) (implied conflicting implying : List (List 
   pub round : (IsTrue done × (new.batch.round ≤ old.batch.round + 1)) ⊎ ((IsTrue done → ⊥) × (new.batch.round ≡ old.batch.round))
   pub first : All (λ m. m < old.batch.round) old.batch.ruled.items → IsTrue done
 
+-- one line was tried: it can flip, or it waits
+pub record Tries (file : ResultFile) (implied conflicting : List (List ℕ)) (place : ℕ) (old new : Testing) (done : Bool) : Type 0 where
+  pub rounds : HasRounds (length implied) new.batch
+  pub together : CanFlipTogether implied conflicting new.batch.rounds.items new.batch.round
+  pub failing : new.failing ≡ old.failing
+  pub round : new.batch.round ≡ old.batch.round
+  pub tested : IsTrue done → IsTested file new.failing place
+
 -- a line that is tested is left out, and another one waits
 abbrev pub IsWaiting : Bool → ℕ → List ℕ → List ℕ → Type 0
 IsWaiting done n old new = (IsTrue done × (new ≡ old)) ⊎ ((IsTrue done → ⊥) × (new ≡ old ++ n ∷ []))
@@ -56,6 +64,24 @@ pub record IsBatchTested (file : ResultFile) (implied conflicting implying : Lis
   pub inside : All (λ k. k < length file.probes) waiting
   pub fewer : (length places ≡ 0) ⊎ (length waiting < length places)
   pub rounds : new.batch.round + length waiting ≤ old.batch.round + 1 + length places
+
+-- all of these lines were tried in one round, and are tested but those that wait
+pub record AreTried (file : ResultFile) (implied : List (List ℕ)) (places : List ℕ) (old new : Testing) (waiting : List ℕ) : Type 0 where
+  pub rounds : HasRounds (length implied) new.batch
+  pub failing : new.failing ≡ old.failing
+  pub round : new.batch.round ≡ old.batch.round + 1
+  pub tested : AreTestedBut file new.failing places waiting
+  pub inside : All (λ k. k < length file.probes) waiting
+  pub few : length waiting ≤ length places
+
+-- the lines before `end` are tested but those that wait, and there were no more than two rounds for each that doesn't, and so many more
+pub record IsUnderWay (file : ResultFile) (implied : List (List ℕ)) (end more : ℕ) (first : Option ℕ) (now : Testing) (waiting : List ℕ) : Type 0 where
+  pub bears : HasRounds (length implied) now.batch
+  pub failing : IsFailing file now.failing
+  pub keeps : (k : ℕ) → IsBehind first k → IsBehind now.failing k
+  pub tested : (k : ℕ) → k < end → IsTested file now.failing k ⊎ Contains waiting k
+  pub inside : All (λ k. k < length file.probes) waiting
+  pub rounds : now.batch.round + 2 * length waiting ≤ more + 2 * end
 
 -- all lines before `end` are tested
 pub record AreAllTested (file : ResultFile) (end : ℕ) (old new : Option ℕ) : Type 0 where

@@ -2,9 +2,9 @@
 
 ghost use Rattle.std.specs.Prelude.{◌≡◌, ◌<◌, ◌≤◌, ◌↔◌, ◌+◌, ◌^◌, ℕ, length, All, Any, Contains, IsTrue, OnOk, IfOk};
 ghost use Rattle.tor_arena.specs.Limits.{most_places};
-ghost use Rattle.rel_checker.specs.Neighbours.{HasNext, EachHasRow};
+ghost use Rattle.rel_checker.specs.Neighbours.{HasNext, EachHasRow, IsMutual};
 ghost use Rattle.rel_checker.specs.Searching.{RoundCameTo, IsRoundClosed};
-ghost use Rattle.rel_checker.specs.Batches.{AgreesAlone, AreRows, HasRuledOut, HasRounds, IsBegun, IsBatch};
+ghost use Rattle.rel_checker.specs.Batches.{AgreesAlone, CanFlipTogether, HasForgotten, AreRows, HasRuledOut, HasRounds, IsBegun, IsBatch};
 
 use crate::marks::flipping::Flips;
 use crate::marks::neighbours::Neighbours;
@@ -95,12 +95,37 @@ fn rule_out_around(
     Ok(())
 }
 
+/// How many edges stand in the rows of these edges.
+fn size_of(flips: &Flips, found: &[EdgeId]) -> usize
+    requires same { length flips.now.conflicting ≡ length flips.now.implied }
+    requires found { All (λ k. k < length flips.now.implied) found.now }
+{
+    let mut size: usize = 0;
+    for edge in found {
+        size = size.saturating_add(flips.implied.of(*edge).len());
+        size = size.saturating_add(flips.conflicting.of(*edge).len());
+    }
+    size
+}
+
+/// Takes these edges out of every round.
+fn forget(found: &[EdgeId], rounds: &mut Arena<EdgeId, usize>)
+    requires { All (λ k. k < length rounds.old.items) found.now }
+    ensures { HasForgotten found.now rounds.old.items rounds.new.items }
+{
+    for edge in found {
+        rounds.put(*edge, 0);
+    }
+}
+
 /// Edges that flip together: those to which the round came. And those that it ruled out, each of which can't flip with one of these.
 #[derive(Drop)]
 pub(crate) struct Batch {
     pub round: usize,
     pub rounds: Arena<EdgeId, usize>,
     pub ruled: Arena<EdgeId, usize>,
+    /// How many edges stood in the rows of all that was looked along in vain.
+    pub wasted: usize,
     // memory for the searches
     found: List<EdgeId>,
     behind: List<EdgeId>,
@@ -121,6 +146,7 @@ impl Batch {
             round: 1,
             rounds,
             ruled,
+            wasted: 0,
             found: List::new(alloc),
             behind: List::new(alloc),
         })
@@ -141,6 +167,44 @@ impl Batch {
         ensures { IsTrue result ↔ RoundCameTo self.now.ruled.items self.now.round edge }
     {
         *self.ruled.get(edge) == self.round
+    }
+
+    /// Adds what flips with an edge, unless an edge of this conflicts with another one or with one of the batch. Rules out nothing.
+    pub fn try_join(&mut self, flips: &Flips, start: EdgeId) -> Result<bool, NoMemory>
+        requires start { start < length flips.now.implied }
+        requires many { length self.old.rounds.items ≡ length flips.now.implied }
+        requires same { length flips.now.conflicting ≡ length flips.now.implied }
+        requires inside { EachHasRow flips.now.implied }
+        requires conflicts { EachHasRow flips.now.conflicting }
+        requires both_ways { IsMutual flips.now.conflicting }
+        requires round { 1 ≤ self.old.round }
+        requires batch { CanFlipTogether flips.now.implied flips.now.conflicting self.old.rounds.items self.old.round }
+        ensures round { OnOk result (self.new.round ≡ self.old.round) }
+        ensures ruled { OnOk result (self.new.ruled.items ≡ self.old.ruled.items) }
+        ensures many { OnOk result (length self.new.rounds.items ≡ length flips.now.implied) }
+        ensures batch { OnOk result (CanFlipTogether flips.now.implied flips.now.conflicting self.new.rounds.items self.new.round) }
+        ensures agrees { IfOk result (λ joined. IsTrue joined → AgreesAlone flips.now.implied flips.now.conflicting start) }
+    {
+        reach(
+            &flips.implied,
+            start,
+            self.round,
+            &mut self.rounds,
+            &mut self.found,
+        )?;
+        if !has_clash(
+            &flips.conflicting,
+            &self.rounds,
+            self.round,
+            self.found.as_slice(),
+        ) {
+            return Ok(true);
+        }
+        self.wasted = self
+            .wasted
+            .saturating_add(size_of(flips, self.found.as_slice()));
+        forget(self.found.as_slice(), &mut self.rounds);
+        Ok(false)
     }
 
     /// Adds what flips with an edge that is not ruled out. Answers whether no edge of this conflicts with another. If one does, the batch

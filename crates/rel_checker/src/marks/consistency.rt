@@ -2,9 +2,9 @@
 
 ghost use Rattle.std.specs.Prelude.{◌≡◌, ◌<◌, ◌≤◌, ◌↔◌, ◌+◌, ◌*◌, ◌^◌, ℕ, length, All, Contains, IsTrue, OnOk, IfOk};
 ghost use Rattle.result_rules.specs.File.{HasFewLines};
-ghost use Rattle.rel_checker.specs.Batches.{AreRows, IsBegun, IsBatch};
+ghost use Rattle.rel_checker.specs.Batches.{AreRows, CanFlipTogether, HasRounds, IsBegun, IsBatch};
 ghost use Rattle.rel_checker.specs.Serving.{IsLaidOut, First, GainsAt, ServesAt};
-ghost use Rattle.rel_checker.specs.Testing.{IsBehind, end_before, IsFailing, IsTested, Tests, IsWaiting, IsBatchTested, AreAllTested};
+ghost use Rattle.rel_checker.specs.Testing.{IsBehind, end_before, IsFailing, IsTested, Tests, Tries, IsWaiting, IsBatchTested, AreTried, IsUnderWay, AreAllTested};
 
 use crate::marks::batch::Batch;
 use crate::marks::flipping::Flips;
@@ -115,7 +115,7 @@ impl Testing {
         requires laid { IsLaidOut file.now table.now flips.now.implied flips.now.conflicting }
         requires rows { AreRows flips.now.implied flips.now.conflicting implying.now }
         requires inside { All (λ k. k < length file.now.probes) places.now }
-        requires batch { IsBatch flips.now.implied flips.now.conflicting implying.now self.old.batch }
+        requires rounds { HasRounds (length flips.now.implied) self.old.batch }
         requires failing { IsFailing file.now self.old.failing }
         requires room { self.old.batch.round + 2 + length places.now < 2 ^ 64 }
         ensures { IfOk result (IsBatchTested file.now flips.now.implied flips.now.conflicting implying.now places.now self.old self.new) }
@@ -130,28 +130,114 @@ impl Testing {
         Ok(waiting)
     }
 
-    /// Tests the lines before `end`, in batches: within a batch what follows from all of them is visited once.
+    /// Tries whether a line can flip with those of the batch, unless it stands behind one that doesn't serve. False if it waits.
+    fn try_line(
+        &mut self,
+        file: &ResultFile,
+        table: &EdgeTable,
+        flips: &Flips,
+        place: usize,
+    ) -> Result<bool, NoMemory>
+        requires laid { IsLaidOut file.now table.now flips.now.implied flips.now.conflicting }
+        requires there { place < length file.now.probes }
+        requires rounds { HasRounds (length flips.now.implied) self.old.batch }
+        requires round { 1 ≤ self.old.batch.round }
+        requires batch { CanFlipTogether flips.now.implied flips.now.conflicting self.old.batch.rounds.items self.old.batch.round }
+        ensures { IfOk result (Tries file.now flips.now.implied flips.now.conflicting place self.old self.new) }
+    {
+        if is_behind(self.failing, place) {
+            return Ok(true);
+        }
+        if self.batch.wasted / 16 > file.edges.len() {
+            return Ok(false);
+        }
+        let probe = &file.probes.as_slice()[place];
+        let Some(start) = start_of(file.edges.as_slice(), table, probe) else {
+            return Ok(false);
+        };
+        let joined = self.batch.try_join(flips, start)?;
+        Ok(joined)
+    }
+
+    /// Tries the lines in one batch, and answers those that wait.
+    fn try_batch(
+        &mut self,
+        alloc: Global,
+        file: &ResultFile,
+        table: &EdgeTable,
+        flips: &Flips,
+        places: &[usize],
+    ) -> Result<List<usize>, NoMemory>
+        requires laid { IsLaidOut file.now table.now flips.now.implied flips.now.conflicting }
+        requires inside { All (λ k. k < length file.now.probes) places.now }
+        requires rounds { HasRounds (length flips.now.implied) self.old.batch }
+        requires room { self.old.batch.round + 1 < 2 ^ 64 }
+        ensures { IfOk result (AreTried file.now flips.now.implied places.now self.old self.new) }
+    {
+        self.batch.begin();
+        let mut waiting = List::new(alloc);
+        for at in 0..places.len() {
+            let place = places[at];
+            let done = self.try_line(file, table, flips, place)?;
+            let_wait(done, place, &mut waiting)?;
+        }
+        Ok(waiting)
+    }
+
+    /// Tries the lines before `end` in batches, as long as fewer and fewer wait and not too much was looked along in vain. Answers those
+    /// that wait then.
+    fn try_all(
+        &mut self,
+        alloc: Global,
+        file: &ResultFile,
+        table: &EdgeTable,
+        flips: &Flips,
+        end: usize,
+    ) -> Result<List<usize>, NoMemory>
+        requires lines { HasFewLines file.now }
+        requires laid { IsLaidOut file.now table.now flips.now.implied flips.now.conflicting }
+        requires end { end ≤ length file.now.probes }
+        requires batch { IsBegun (length flips.now.implied) self.old.batch }
+        requires round { self.old.batch.round ≡ 1 }
+        requires failing { IsFailing file.now self.old.failing }
+        ensures { IfOk result (IsUnderWay file.now flips.now.implied end 2 self.old.failing self.new) }
+    {
+        let mut waiting = places_before(alloc, end)?;
+        while !waiting.is_empty() {
+            let left = self.try_batch(alloc, file, table, flips, waiting.as_slice())?;
+            if left.len() >= waiting.len() {
+                return Ok(left);
+            }
+            waiting = left;
+        }
+        Ok(waiting)
+    }
+
+    /// Tests the lines before `end`, in batches: within a batch what follows from all of them is visited once. What can't flip with the
+    /// batch is ruled out only where lines are left that trying leaves.
     fn test_all(
         &mut self,
         alloc: Global,
         file: &ResultFile,
         table: &EdgeTable,
         flips: &Flips,
-        implying: &Neighbours,
         end: usize,
     ) -> Result<(), NoMemory>
         requires lines { HasFewLines file.now }
         requires laid { IsLaidOut file.now table.now flips.now.implied flips.now.conflicting }
-        requires rows { AreRows flips.now.implied flips.now.conflicting implying.now }
         requires end { end ≤ length file.now.probes }
         requires batch { IsBegun (length flips.now.implied) self.old.batch }
         requires round { self.old.batch.round ≡ 1 }
         requires failing { IsFailing file.now self.old.failing }
         ensures { OnOk result (AreAllTested file.now end self.old.failing self.new.failing) }
     {
-        let mut waiting = places_before(alloc, end)?;
+        let mut waiting = self.try_all(alloc, file, table, flips, end)?;
+        if waiting.is_empty() {
+            return Ok(());
+        }
+        let implying = flips.implied.turned(alloc)?;
         while !waiting.is_empty() {
-            waiting = self.test_batch(alloc, file, table, flips, implying, waiting.as_slice())?;
+            waiting = self.test_batch(alloc, file, table, flips, &implying, waiting.as_slice())?;
         }
         Ok(())
     }
@@ -170,31 +256,12 @@ pub(crate) fn find_useless(
     requires idle { First (GainsAt file.now) (length file.now.probes) idle }
     ensures { IfOk result (First (ServesAt file.now) (length file.now.probes)) }
 {
-    let implying = flips.implied.turned(alloc)?;
-    find_by_batches(alloc, file, table, flips, &implying, idle)
-}
-
-/// The same, by the rows of implied edges the other way round.
-fn find_by_batches(
-    alloc: Global,
-    file: &ResultFile,
-    table: &EdgeTable,
-    flips: &Flips,
-    implying: &Neighbours,
-    idle: Option<usize>,
-) -> Result<Option<usize>, NoMemory>
-    requires lines { HasFewLines file.now }
-    requires laid { IsLaidOut file.now table.now flips.now.implied flips.now.conflicting }
-    requires rows { AreRows flips.now.implied flips.now.conflicting implying.now }
-    requires idle { First (GainsAt file.now) (length file.now.probes) idle }
-    ensures { IfOk result (First (ServesAt file.now) (length file.now.probes)) }
-{
     let batch = Batch::new(alloc, file.edges.len())?;
     let mut testing = Testing {
         batch,
         failing: idle,
     };
     let end = end_before(idle, file.probes.len());
-    testing.test_all(alloc, file, table, flips, implying, end)?;
+    testing.test_all(alloc, file, table, flips, end)?;
     Ok(testing.failing)
 }

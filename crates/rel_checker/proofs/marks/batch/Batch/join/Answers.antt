@@ -3,7 +3,7 @@ use Rattle.std.proofs.lemmas.Bool.{false≢true}
 use Rattle.std.proofs.lemmas.List.Elements.{Contains-get_or}
 use Rattle.std.proofs.lemmas.Option.{slice_get_within}
 use Rattle.rel_checker.proofs.Consistencies.{agreeing_exactly, latest-reach, batch-more}
-use Rattle.rel_checker.proofs.RuledOut.{agrees_together, agrees_alone, out_more}
+use Rattle.rel_checker.proofs.RuledOut.{agrees_together, agrees_within, out_more}
 use Rattle.rel_checker.proofs.marks.batch.Batch.join.Goals as goal
 
 pub has_clash-requires-clause-found : goal.has_clash-requires-clause-found
@@ -85,6 +85,6 @@ returns-clause-agrees c =
     let reach = c.in_ok-reach.ensures in
     let agrees = agreeing_exactly implied conflicting c.args.start old.round old.rounds.items new found c.has_clash.result c.requires.rows.both_ways c.requires.batch.together.agreeing
     reach (rw c.as_slice.ensures at c.has_clash.ensures) in (
-      λ t. agrees_alone implied conflicting c.args.implying.now c.requires.rows c.args.start old.round old.rounds.items new found reach (agrees.0 (ap not c.if-has_clash.false)),
+      λ t. agrees_within implied conflicting c.args.start old.round old.rounds.items new found reach (agrees.0 (ap not c.if-has_clash.false)),
       λ alone. refl,
     )

@@ -1,6 +1,6 @@
 use Rattle.std.proofs.Common.{◌<◌, length, refl, arith}
 use Rattle.std.proofs.lemmas.Option.{slice_get-get_or}
-use Rattle.rel_checker.proofs.RuledOut.{begun, rounds_of}
+use Rattle.rel_checker.proofs.RuledOut.{begun}
 use Rattle.rel_checker.proofs.TestingLemmas.{batch_begins, batch_next, batch_done}
 use Rattle.rel_checker.proofs.marks.consistency.Testing.test_batch.Goals as goal
 
@@ -10,7 +10,7 @@ loop-at-init c =
     let conflicting = c.args.flips.now.conflicting in
     let implying = c.args.implying.now in
     let first = c.args.self.now in
-    let none = c.begin.ensures.begun (length implied) (rounds_of implied conflicting implying c.requires.rows first.batch c.requires.batch) in
+    let none = c.begin.ensures.begun (length implied) c.requires.rounds in
     batch_begins c.args.file.now implied conflicting implying c.requires.rows c.args.places.now first _ c.new-waiting.result none c.requires.failing refl c.begin.ensures.round
     (begun implied conflicting implying c.requires.rows c.begin.new.self none) c.new-waiting.ensures
 
