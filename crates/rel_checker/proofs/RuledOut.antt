@@ -1,5 +1,6 @@
 -- What a batch rules out, and what that says of an edge that it doesn't.
-use Rattle.std.proofs.Common.{◌≡◌, ◌⊎◌, inl, inr, ℕ, ◌+◌, ◌<◌, ◌≤◌, set, get_or, length-set, List, [], ◌∷◌, ◌++◌, take, Option, Some, None, slice_get, length, refl, sym, ap, ◌∙◌, arith, subst, All, Contains, nat_eq, eq-eqb}
+use Rattle.std.proofs.Common.{◌≡◌, ◌⊎◌, inl, inr, ℕ, ◌+◌, ◌<◌, ◌≤◌, set, get_or, length-set, List, [], ◌∷◌, ◌++◌, take, Option, Some, None, slice_get, length, refl, sym, ap, ◌∙◌}
+use Rattle.std.proofs.Common.{arith, subst, All, Contains, nat_eq, eq-eqb}
 use Rattle.std.proofs.lemmas.Bool.{false≢true, cases_Bool, eqb-true}
 use Rattle.std.proofs.lemmas.Option.{same_Some, slice_get-get_or}
 use Rattle.std.proofs.lemmas.List.Elements.{Contains-push, Contains-append_left, Contains-push_cases}
@@ -67,7 +68,8 @@ ruled_back implied implying ruled round turned closed start (onward {i = i} {j =
     ruled_back implied implying ruled round turned closed start l (closed j i h (turned i j n))
 
 -- the round had come to an edge, or the search found it
-was_or_found_in : (implied : List (List ℕ)) (start round : ℕ) (old new found : List ℕ) → HasSearchedFrom implied start round old new found → (k : ℕ) → RoundCameTo new round k → RoundCameTo old round k ⊎ Contains found k
+was_or_found_in : (implied : List (List ℕ)) (start round : ℕ) (old new found : List ℕ) → HasSearchedFrom implied start round old new found →
+    (k : ℕ) → RoundCameTo new round k → RoundCameTo old round k ⊎ Contains found k
 was_or_found_in implied start round old new found reach k h =
     elim (decided (slice_get old k)) [ inl o ↦ inl o | inr n ↦ inr ((reach.noted k).1 (h, n)) ]
   where

@@ -229,7 +229,8 @@ module _ (file : ResultFile) (implied : List (List ℕ)) where
   }
 
   -- the lines were tried: where fewer wait there is a round for each that doesn't
-  pub way_tried : (end more more' : ℕ) (first : Option ℕ) (old new : Testing) (waiting left : List ℕ) → IsUnderWay file implied end more first old waiting → AreTried file implied waiting old new left →
+  pub way_tried : (end more more' : ℕ) (first : Option ℕ) (old new : Testing) (waiting left : List ℕ) →
+      IsUnderWay file implied end more first old waiting → AreTried file implied waiting old new left →
       1 + 2 * length left + more ≤ more' + 2 * length waiting → IsUnderWay file implied end more' first new left
   way_tried end more more' first old new waiting left so t le = record {
     bears = t.rounds;

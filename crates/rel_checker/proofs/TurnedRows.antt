@@ -16,8 +16,8 @@ back-none j rows = record {
   only = λ k l h. inl h;
 }
 
-pub back-more : (j edge n : ℕ) (row : List ℕ) (old mid new : List (List ℕ)) → take (n + 1) row ≡ take n row ++ edge ∷ [] → edge < length old → HasBack j (take n row) old mid → new ≡ with_next mid edge j →
-    HasBack j (take (n + 1) row) old new
+pub back-more : (j edge n : ℕ) (row : List ℕ) (old mid new : List (List ℕ)) → take (n + 1) row ≡ take n row ++ edge ∷ [] → edge < length old →
+    HasBack j (take n row) old mid → new ≡ with_next mid edge j → HasBack j (take (n + 1) row) old new
 back-more j edge n row old mid new more lt b e =
     let within : edge < length mid = let m = b.many in omega (arith, lt, m) in
     subst (HasBack j (take (n + 1) row) old) (sym e) (record {

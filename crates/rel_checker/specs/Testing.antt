@@ -31,7 +31,8 @@ abbrev pub IsTested : ResultFile → Option ℕ → ℕ → Type 0
 IsTested file failing k = FlipsAt file k ⊎ IsBehind failing k
 
 -- one line was tested, or waits for another batch; in a new batch none waits
-pub record Tests (file : ResultFile) (implied conflicting implying : List (List ℕ)) (place : ℕ) (old new : Testing) (done : Bool) : Type 0 where
+pub record Tests (file : ResultFile) (implied conflicting implying : List (List ℕ)) (place : ℕ) (old new : Testing) (done : Bool) :
+    Type 0 where
   pub batch : IsBatch implied conflicting implying new.batch
   pub failing : IsFailing file old.failing → IsFailing file new.failing
   pub keeps : (k : ℕ) → IsBehind old.failing k → IsBehind new.failing k
@@ -56,7 +57,8 @@ abbrev pub AreTestedBut : ResultFile → Option ℕ → List ℕ → List ℕ �
 AreTestedBut file failing places waiting = (k : ℕ) → Contains places k → IsTested file failing k ⊎ Contains waiting k
 
 -- a batch has tested all of these lines but those that wait, at least one of them, and took no more rounds than lines
-pub record IsBatchTested (file : ResultFile) (implied conflicting implying : List (List ℕ)) (places : List ℕ) (old new : Testing) (waiting : List ℕ) : Type 0 where
+pub record IsBatchTested (file : ResultFile) (implied conflicting implying : List (List ℕ)) (places : List ℕ) (old new : Testing)
+    (waiting : List ℕ) : Type 0 where
   pub batch : IsBatch implied conflicting implying new.batch
   pub failing : IsFailing file new.failing
   pub keeps : (k : ℕ) → IsBehind old.failing k → IsBehind new.failing k
@@ -75,7 +77,8 @@ pub record AreTried (file : ResultFile) (implied : List (List ℕ)) (places : Li
   pub few : length waiting ≤ length places
 
 -- the lines before `end` are tested but those that wait, and there were no more than two rounds for each that doesn't, and so many more
-pub record IsUnderWay (file : ResultFile) (implied : List (List ℕ)) (end more : ℕ) (first : Option ℕ) (now : Testing) (waiting : List ℕ) : Type 0 where
+pub record IsUnderWay (file : ResultFile) (implied : List (List ℕ)) (end more : ℕ) (first : Option ℕ) (now : Testing)
+    (waiting : List ℕ) : Type 0 where
   pub bears : HasRounds (length implied) now.batch
   pub failing : IsFailing file now.failing
   pub keeps : (k : ℕ) → IsBehind first k → IsBehind now.failing k

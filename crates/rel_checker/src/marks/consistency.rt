@@ -4,7 +4,8 @@ ghost use Rattle.std.specs.Prelude.{◌≡◌, ◌<◌, ◌≤◌, ◌↔◌, �
 ghost use Rattle.result_rules.specs.File.{HasFewLines};
 ghost use Rattle.rel_checker.specs.Batches.{AreRows, CanFlipTogether, HasRounds, IsBegun, IsBatch};
 ghost use Rattle.rel_checker.specs.Serving.{IsLaidOut, First, GainsAt, ServesAt};
-ghost use Rattle.rel_checker.specs.Testing.{IsBehind, end_before, IsFailing, IsTested, Tests, Tries, IsWaiting, IsBatchTested, AreTried, IsUnderWay, AreAllTested};
+ghost use Rattle.rel_checker.specs.Testing.{IsBehind, end_before, IsFailing, IsTested, Tests, Tries, IsWaiting};
+ghost use Rattle.rel_checker.specs.Testing.{IsBatchTested, AreTried, IsUnderWay, AreAllTested};
 
 use crate::marks::batch::Batch;
 use crate::marks::flipping::Flips;

@@ -21,8 +21,8 @@ loop-at-preserved c =
     let test = c.loop-at-test.true in
     let end = c.loop-at.auto.at-end in
     let within : at < length places = omega (arith, test, end) in
-    batch_next c.args.file.now c.args.flips.now.implied c.args.flips.now.conflicting c.args.implying.now places c.args.self.now at c.loop-at.self c.test.new.self c.loop-at.waiting c.let_wait.new.waiting
-    _ c.in_ok-done.done c.loop-at.invariant (slice_get-get_or places at _ within) (c.requires.inside at _ within) c.in_ok-done.ensures c.in_ok-let_wait.ensures
+    batch_next c.args.file.now c.args.flips.now.implied c.args.flips.now.conflicting c.args.implying.now places c.args.self.now at c.loop-at.self c.test.new.self
+    c.loop-at.waiting c.let_wait.new.waiting _ c.in_ok-done.done c.loop-at.invariant (slice_get-get_or places at _ within) (c.requires.inside at _ within) c.in_ok-done.ensures c.in_ok-let_wait.ensures
 
 pub returns : goal.returns
 returns c =
