@@ -73,6 +73,17 @@ def by_turns(lines, arcs):
     return result(paths, opens)
 
 
+def from_both_ends(lines, arcs):
+    """Open lines of two kinds by turns: one leads along a chain, and the next rules out the top of it."""
+    path = list(range(1000001, 1000002 + arcs))
+    paths, opens = [path], []
+    for place in range(lines):
+        end = path[:-3:-1] if place % 2 else path[:2]
+        paths.append([100001 + place, *end])
+        opens.append((100001 + place, end[0]))
+    return result(paths, opens)
+
+
 def first_within(factor, modulus, low, high):
     """The least x with low <= factor * x % modulus <= high, if there is one."""
     if low == 0:
@@ -238,6 +249,7 @@ def checks(folder, torcheck, yardstick, runs):
         ("1,000 open lines that rule each other out, before 20,000", lambda: each_for_itself(1000, 20000)),
         ("2,000 open lines that rule each other out, before 40,000", lambda: each_for_itself(2000, 40000)),
         ("2,000 open lines of two kinds by turns, before 20,000 each", lambda: by_turns(2000, 20000)),
+        ("8,000 open lines from both ends of a chain of 20,000 by turns", lambda: from_both_ends(8000, 20000)),
         ("lines kept|1|1", lambda: HEAD + "kept|1|1\n" * 5555555 + "end|0|0|0|0|0\n"),
     ]
     for name, text in rows:
