@@ -113,6 +113,7 @@ impl IndexedPaths {
     }
 
     /// Adds a path of this hash, where a search for it has ended so. For want of memory the paths stay.
+    #[inline(always)]
     pub fn push(&mut self, hash: u32, end: SearchEnd, path: &[u32]) -> Result<PathId, NoMemory>
         requires room { length self.old.rows < max_paths }
         requires hash { hash ≡ short_hash self.old.seed path.now }
