@@ -8,7 +8,7 @@ ghost use Rattle.tor_io.specs.Contents.{GainsPrefix, PassesOn};
 ghost use Rattle.tor_run.specs.Listing.{list_line, listing, spaced_number};
 
 use path_clean::PathTable;
-use result_text::write_digits;
+use text_fields::write_number;
 use tor_arena::{Index, PathId};
 use tor_io::{Buffer, Failed, Sink};
 
@@ -19,8 +19,8 @@ fn put_number<O: Sink>(out: &mut O, buffer: &mut Buffer, n: u64) -> Result<(), F
     ensures cause { HasCause (O.faults out.old) (O.faults out.new) result }
 {
     let mut digits = [0u8; 20];
-    let start = write_digits(n, &mut digits);
-    buffer.put(out, &digits[start..])
+    let end = write_number(&mut digits, 0, n);
+    buffer.put(out, &digits[..end])
 }
 
 // A number behind a space.
@@ -29,8 +29,9 @@ fn put_spaced<O: Sink>(out: &mut O, buffer: &mut Buffer, n: u64) -> Result<(), F
     ensures prefix { OnErr result (GainsPrefix (O.held out.old) (O.held out.new) (buffer.old ++ 32 ∷ decimal n)) }
     ensures cause { HasCause (O.faults out.old) (O.faults out.new) result }
 {
-    buffer.put_byte(out, b' ')?;
-    put_number(out, buffer, n)
+    let mut spaced = [b' '; 21];
+    let end = write_number(&mut spaced, 1, n);
+    buffer.put(out, &spaced[..end])
 }
 
 // A number, behind a space if it isn't the first.
