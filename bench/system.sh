@@ -44,6 +44,9 @@ expect "a full device for ties" $? 5 "write-fault"
 "$tor" --serial1 "$one" > /dev/full 2> "$work/note"
 expect "a full device for lines of serial-1" $? 5 "write-fault"
 
+(trap '' XFSZ; ulimit -f 1; "$tor" --list "$samples/openbgpd.table" > "$work/out" 2> "$work/note"; echo $? > "$work/status")
+expect "a limit on the size of files" "$(cat "$work/status")" 5 "write-fault"
+
 { sleep 0.3; "$tor" --list "$one" 2> "$work/note"; echo $? > "$work/status"; } | true
 expect "a closed pipe" "$(cat "$work/status")" 5 "write-fault"
 
