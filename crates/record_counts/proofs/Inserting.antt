@@ -1,10 +1,10 @@
 -- What a look-up finds in a map's entries with one more, and that the keys stay in order.
-use Rattle.std.proofs.Common.{◌≡◌, Bool, true, false, cond, List, [], ◌∷◌, Option, Some, Ordering, Less, Equal, Greater, is_eq, refl, sym, ap, ◌∙◌, true≢false}
+use Rattle.std.proofs.Common.{◌≡◌, Bool, true, false, cond, List, [], ◌∷◌, Option, Some, None, Ordering, Less, Equal, Greater, is_eq, refl, sym, ap, ◌∙◌, true≢false}
 use Rattle.std.specs.BTreeMap.{insert_entry, is_at}
 use Rattle.std.specs.Cmp.{IsTotalOrder, alike_right, Equal-is}
 use Rattle.std.specs.List.{AllByRecursion}
 use Rattle.std.specs.List.Sorted.{IsStrictlySortedBy}
-use Rattle.std.specs.Map.{keys_of, lookup}
+use Rattle.std.specs.Map.{keys_of, lookup, set_value}
 use Rattle.std.specs.Ordering.{match_ordering, ordering_reverse}
 
 hidden : {X : Type 0} (b : Bool) (v w u : Option X) → cond b v u ≡ cond b v (cond b w u)
@@ -71,3 +71,24 @@ module _ {K X : Type 0} {R : K → K → Ordering} (o : IsTotalOrder R) where
   unfolding IsStrictlySortedBy
   sorted-insert_entry k v [] s = (tt, tt)
   sorted-insert_entry k v (e ∷ es) s = sorted_by k v e es (R k e.0) refl s (sorted-insert_entry k v es s.1)
+
+  none_some : {x : X} → None ≡ Some x → ⊥
+  none_some e = cc
+
+  none_below : (k : K) (es : List (K × X)) → AllByRecursion (λ y. R k y ≡ Less) (keys_of es) → found k es ≡ None
+  none_below k [] a = refl
+  none_below k (e ∷ es) a = ap (λ r. cond (is_eq r) (Some e.1) (found k es)) a.0 ∙ none_below k es a.1
+
+  -- a value that is written over the one at its key is put in there
+  pub set_value-insert_entry : (k : K) (v old : X) (es : List (K × X)) → IsStrictlySortedBy R (keys_of es) → found k es ≡ Some old
+      → set_value (is_at (R k)) es v ≡ insert_entry R es k v
+  unfolding IsStrictlySortedBy
+  set_value-insert_entry k v old [] s f = absurd (none_some f)
+  set_value-insert_entry k v old (e ∷ es) s f = by (R k e.0) refl f (set_value-insert_entry k v old es s.1)
+    where
+      by : (r : Ordering) → R k e.0 ≡ r → cond (is_eq r) (Some e.1) (found k es) ≡ Some old
+          → (found k es ≡ Some old → set_value (is_at (R k)) es v ≡ insert_entry R es k v)
+          → cond (is_eq r) ((e.0, v) ∷ es) (e ∷ set_value (is_at (R k)) es v) ≡ placed r k v e es
+      by Less p g h = absurd (none_some (sym (none_below k es (all_weaker (λ y m. o.trans k e.0 y p m) (keys_of es) s.0)) ∙ g))
+      by Equal p g h = refl
+      by Greater p g h = ap (λ later. e ∷ later) (h g)

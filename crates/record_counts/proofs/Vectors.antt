@@ -1,7 +1,7 @@
 -- The counts of a few records, computed.
 use Rattle.std.proofs.Common.{◌≡◌, ℕ, [], ◌∷◌, refl}
 use Rattle.record_counts.specs.declared.type_count.RecordType.{RecordType}
-use Rattle.record_counts.specs.Counting.{Counts, with_more, counts_together}
+use Rattle.record_counts.specs.Counting.{with_more, counts_together}
 
 abbrev of : ℕ → ℕ → RecordType
 of kind subtype = record { kind = kind; subtype = subtype }

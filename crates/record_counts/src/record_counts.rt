@@ -40,9 +40,11 @@ impl RecordCounts {
         ensures ok { OnOk result (self.new ≡ with_more record_type records self.old) }
         ensures err { OnErr result (self.new ≡ self.old) }
     {
-        let before = self.counts.get(&record_type).copied().unwrap_or(0);
-        self.counts
-            .insert(record_type, before.saturating_add(records))?;
+        if let Some(count) = self.counts.get_mut(&record_type) {
+            *count = count.saturating_add(records);
+            return Ok(());
+        }
+        self.counts.insert(record_type, records)?;
         Ok(())
     }
 
