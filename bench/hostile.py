@@ -195,8 +195,9 @@ def dump(paths):
     peers = struct.pack(">IHHB4s4sI", 0, 0, 1, 2, bytes(4), bytes([192, 0, 2, 1]), 10)
     records = [struct.pack(">IHHI", 0, 13, 1, len(peers)) + peers]
     for place, path in enumerate(paths):
-        segment = struct.pack(f">BB{len(path)}I", 2, len(path), *path)
-        attributes = bytes([0x40, 1, 1, 0, 0x40, 2, len(segment)]) + segment
+        segments = b"".join(struct.pack(f">BB{len(part)}I", 2, len(part), *part)
+                            for part in (path[start:start + 255] for start in range(0, len(path), 255)))
+        attributes = bytes([0x40, 1, 1, 0, 0x50, 2]) + struct.pack(">H", len(segments)) + segments
         body = struct.pack(">IB3sHHIH", place, 24, place.to_bytes(3, "big"), 1, 0, 0, len(attributes)) + attributes
         records.append(struct.pack(">IHHI", 0, 13, 2, len(body)) + body)
     return b"".join(records)
