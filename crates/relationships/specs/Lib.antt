@@ -12,3 +12,4 @@ pub mod Preference
 pub mod Relationship
 pub mod Selection
 pub mod Steps
+pub mod Telling

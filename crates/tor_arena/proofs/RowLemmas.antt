@@ -1,5 +1,6 @@
 -- Rows and their ends.
-use Rattle.std.proofs.Common.{◌≡◌, ◌∙◌, ◌+◌, ◌-◌, ◌<◌, ◌≤◌, ℕ, zero, suc, List, [], ◌∷◌, ◌++◌, take, drop, length, refl, sym, ap, ap₂, subst, arith, slice_get, slice_index, Some, length-drop, length-append}
+use Rattle.std.proofs.Common.{◌≡◌, ◌∙◌, ◌+◌, ◌-◌, ◌<◌, ◌≤◌, ℕ, zero, suc, List, [], ◌∷◌, ◌++◌, take, drop, length, refl, sym, ap, ap₂, subst, arith}
+use Rattle.std.proofs.Common.{slice_get, slice_index, Some, length-drop, length-append}
 use Rattle.std.proofs.lemmas.List.{take_all, take-append-le, drop-append-le, take-take, drop-take}
 use Rattle.std.proofs.Math.Seq.{drop-append_seam}
 use Rattle.tor_arena.specs.RowLists.{Rises, ArePartedBy, with_end, between, last_end, rows_from, rows_between}

@@ -25,7 +25,8 @@ pub invariant_of-self : goal.invariant_of-self
 invariant_of-self g c =
     let left-is : c.loop-left.left ≡ c.args.mark.arcs = omega arith in
     let le : c.args.mark.nodes ≤ length c.loop-left.self-inside.first.items = subst (λ n. c.args.mark.nodes ≤ n) (sym c.loop-left.invariant.nodes) c.requires.nodes in
-    let cut = ap length c.cut_to.ensures.items ∙ length-take-le c.args.mark.arcs c.loop-left.self-inside.ends.items (subst (λ k. k ≤ length c.loop-left.self-inside.ends.items) left-is c.loop-left.invariant.within) in
+    let cut = ap length c.cut_to.ensures.items ∙ length-take-le c.args.mark.arcs c.loop-left.self-inside.ends.items
+    (subst (λ k. k ≤ length c.loop-left.self-inside.ends.items) left-is c.loop-left.invariant.within) in
     let whole : length c.self.inside.ends.items ≡ length c.args.self.now.arcs = ap (λ net. length net.arcs) c.self.view_is in
     let there = c.requires.arcs in
     let few = c.self.invariant.0 in (
