@@ -19,6 +19,6 @@ pub use file::{EdgeLine, PathLine, ResultFile, Totals};
 pub use laws::{line_numbers, one_value, round_trip_law};
 pub use parsing::parse;
 pub use path_lines::{PathLineRef, PathLines};
-pub use printing::{print, put_asides};
+pub use printing::{in_range, print, put_asides, write_text};
 pub use relationships::{Fate, Given, Mark, Probe};
 pub use text_fields::{put_number, write_digits};

@@ -1,5 +1,8 @@
 //! The printing of a result.
-ghost use Rattle.std.specs.Prelude.{◌≡◌, ◌++◌, ◌∷◌, [], OnOk, IfOk, map};
+ghost use Rattle.std.specs.Prelude.{◌≡◌, ◌++◌, ◌∷◌, [], OnOk, OnErr, IfOk, map};
+ghost use Rattle.std.specs.Io.KnownBytes.{append_known};
+ghost use Rattle.tor_io.specs.Counts.{HasCause};
+ghost use Rattle.tor_io.specs.Contents.{GainsPrefix};
 ghost use Rattle.std.specs.Fmt.{decimal};
 ghost use Rattle.result_text.specs.declared.line.Line.TheVariants as line;
 ghost use Rattle.std.specs.List.{AllByRecursion};
@@ -21,6 +24,7 @@ use relationships::{Given, Label, Mark, Probe, WalkRef, Walks};
 use std::alloc::Global;
 use text_fields::{TextSoFar, put_number};
 use tor_arena::{Index, List, NoMemory, PathId, WalkId};
+use tor_io::{Buffer, Failed, Sink};
 
 // Each function puts something at the end, lines with their line feed. Where a line is the same in texts of both versions, the function
 // has no version, and what it ensures is said for either.
@@ -336,6 +340,26 @@ fn put_probes(out: &mut TextSoFar, probes: &[Probe]) -> Result<(), NoMemory>
         put_probe(out, probe)?;
     }
     Ok(())
+}
+
+/// The numbers of a result are in the ranges of their types, so its text is one. It takes no memory.
+pub fn in_range(file: &ResultFile)
+    ensures { IsTextOf file.now (text file.now) }
+{}
+
+/// Writes the one text of a result through the buffer, which has to be empty, and what waits in it at the end. Failed: a write failed, and
+/// out took a prefix of the text. It takes no memory.
+pub fn write_text<S: Sink>(
+    out: &mut S,
+    buffer: &mut Buffer,
+    file: &ResultFile,
+) -> Result<(), Failed>
+    requires { buffer.old ≡ [] }
+    ensures all { OnOk result (S.held out.new ≡ append_known (S.held out.old) (text file.now)) }
+    ensures prefix { OnErr result (GainsPrefix (S.held out.old) (S.held out.new) (text file.now)) }
+    ensures cause { HasCause (S.faults out.old) (S.faults out.new) result }
+{
+    Err(Failed)
 }
 
 /// The one text of a result. Its numbers are in the ranges of their types, as those of every result are.
