@@ -1,12 +1,14 @@
--- Putting the lines of a list one by one.
+-- Putting the lines of a list, or the members behind its first, one by one.
 use Rattle.std.proofs.Common.{◌≡◌, ◌∙◌, ℕ, zero, suc, ◌+◌, List, [], ◌∷◌, ◌++◌, take, map, slice_get, Some, sym, ap, subst, append_assoc, arith}
 use Rattle.std.specs.List.{AllByRecursion}
 use Rattle.std.proofs.lemmas.List.{append-nil}
+use Rattle.tor_io.specs.Outflow.{State, Puts}
+use Rattle.tor_io.proofs.Putting.{puts_as, puts_then}
 use Rattle.result_text.specs.declared.line.Line.{Line}
 use Rattle.result_text.specs.declared.line.Version.{Version}
-use Rattle.result_text.specs.Text.{line_text, text_of_lines}
+use Rattle.result_text.specs.Text.{line_text, text_of_lines, others}
 
-module _ {X : Type 0} (v : Version) (line_with : X → Line) (Fits : X → Type 0) where
+module _ {X : Type 0} (v : Version) (line_with : X → Line) where
   abbrev text_to : ℕ → List X → List ℕ
   text_to k xs = text_of_lines v (map line_with (take k xs))
 
@@ -16,14 +18,26 @@ module _ {X : Type 0} (v : Version) (line_with : X → Line) (Fits : X → Type 
   text_to-suc (y ∷ ys) (suc k) x at =
       ap (λ t. line_text v (line_with y) ++ t) (text_to-suc ys k x at) ∙ sym (append_assoc (line_text v (line_with y)) (text_to k ys) (line_text v (line_with x)))
 
-  pub one_more : (old now new : List ℕ) (xs : List X) (k : ℕ) (x : X) → slice_get xs k ≡ Some x
-      → now ≡ old ++ text_of_lines v (map line_with (take k xs)) → new ≡ now ++ line_text v (line_with x)
-      → new ≡ old ++ text_of_lines v (map line_with (take (k + 1) xs))
-  one_more old now new xs k x at sofar more =
+  pub one_more : (a b c : State) (xs : List X) (k : ℕ) (x : X) → slice_get xs k ≡ Some x → Puts a b (text_of_lines v (map line_with (take k xs)))
+      → Puts b c (line_text v (line_with x)) → Puts a c (text_of_lines v (map line_with (take (k + 1) xs)))
+  one_more a b c xs k x at so_far more =
       let next : k + 1 ≡ suc k = omega arith in
-      more ∙ ap (λ t. t ++ line_text v (line_with x)) sofar ∙ append_assoc old (text_to k xs) (line_text v (line_with x))
-      ∙ ap (λ t. old ++ t) (sym (text_to-suc xs k x at)) ∙ ap (λ n. old ++ text_to n xs) (sym next)
+      puts_as (puts_then so_far more) (sym (text_to-suc xs k x at) ∙ ap (λ n. text_to n xs) (sym next))
 
+module _ {X : Type 0} (member : X → List ℕ) where
+  others_to-suc : (xs : List X) (k : ℕ) (x : X) → slice_get xs k ≡ Some x → others member (take (suc k) xs) ≡ others member (take k xs) ++ 32 ∷ member x
+  others_to-suc [] k x at = absurd cc
+  others_to-suc (y ∷ ys) zero x at = let same : y ≡ x = cc in append-nil (32 ∷ member y) ∙ ap (λ z. 32 ∷ member z) same
+  others_to-suc (y ∷ ys) (suc k) x at =
+      ap (λ t. 32 ∷ member y ++ t) (others_to-suc ys k x at) ∙ sym (append_assoc (32 ∷ member y) (others member (take k ys)) (32 ∷ member x))
+
+  pub one_other : (a b c : State) (xs : List X) (k : ℕ) (x : X) → slice_get xs k ≡ Some x → Puts a b (others member (take k xs)) → Puts b c (32 ∷ member x)
+      → Puts a c (others member (take (k + 1) xs))
+  one_other a b c xs k x at so_far more =
+      let next : k + 1 ≡ suc k = omega arith in
+      puts_as (puts_then so_far more) (sym (others_to-suc xs k x at) ∙ ap (λ n. others member (take n xs)) (sym next))
+
+module _ {X : Type 0} (Fits : X → Type 0) where
   fit_to : (xs : List X) (k : ℕ) (x : X) → slice_get xs k ≡ Some x → AllByRecursion Fits (take k xs) → Fits x → AllByRecursion Fits (take (suc k) xs)
   fit_to [] k x at all fits = absurd cc
   fit_to (y ∷ ys) zero x at all fits = let same : x ≡ y = cc in (subst Fits same fits, tt)

@@ -1,6 +1,7 @@
 //! The text of a result, both ways.
 #![tactic(auto)]
 
+mod asides;
 mod draft;
 mod error;
 mod file;
@@ -12,13 +13,16 @@ mod numbers;
 mod parsing;
 mod path_lines;
 mod printing;
+mod ranges;
 mod reading;
 
+pub use asides::put_asides;
 pub use error::ParseError;
 pub use file::{EdgeLine, PathLine, ResultFile, Totals};
 pub use laws::{line_numbers, one_value, round_trip_law};
 pub use parsing::parse;
 pub use path_lines::{PathLineRef, PathLines};
-pub use printing::{in_range, print, put_asides, write_text};
+pub use printing::{print, write_text};
+pub use ranges::in_range;
 pub use relationships::{Fate, Given, Mark, Probe};
-pub use text_fields::{put_number, write_digits};
+pub use text_fields::put_number;

@@ -1,4 +1,3 @@
-mod Digits
 mod DigitsRead
 mod Padding
 pub mod Readers

@@ -3,8 +3,6 @@
 
 mod numbers;
 mod reading;
-mod text;
 
-pub use numbers::{put_number, write_digits, write_number};
+pub use numbers::{put_number, write_number};
 pub use reading::{after, after_byte, u32_before, u32_of, u64_before};
-pub use text::TextSoFar;

@@ -1,6 +1,6 @@
 //! Numbers as text.
 
-ghost use Rattle.std.specs.Prelude.{◌≡◌, ◌+◌, ◌<◌, ◌≤◌, ◌++◌, length, take, drop, OnOk};
+ghost use Rattle.std.specs.Prelude.{◌≡◌, ◌+◌, ◌<◌, ◌≤◌, ◌++◌, length, take, OnOk};
 ghost use Rattle.std.specs.Fmt.{decimal};
 ghost use Rattle.text_fields.specs.Padded.{two_digits, four_digits, eight_digits};
 
@@ -134,23 +134,6 @@ pub fn write_number(bytes: &mut [u8], at: usize, n: u64) -> usize
     } else {
         write_long(bytes, at, n)
     }
-}
-
-/// Writes a number in decimal, without leading zeros, at the end of the buffer, and answers where it begins. It takes no memory.
-pub fn write_digits(n: u64, digits: &mut [u8; 20]) -> usize
-    ensures within { result ≤ 20 }
-    ensures digits { drop result digits.new ≡ decimal n }
-{
-    let mut start = 20;
-    let mut prefix = n;
-    'digits: while prefix >= 10 {
-        start -= 1;
-        digits[start] = b'0' + (prefix % 10) as u8;
-        prefix /= 10;
-    }
-    start -= 1;
-    digits[start] = b'0' + prefix as u8;
-    start
 }
 
 /// Puts a number at the end, in decimal.
