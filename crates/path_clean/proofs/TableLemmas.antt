@@ -6,7 +6,7 @@ use Rattle.std.specs.List.{list_any, list_all}
 use Rattle.std.proofs.lemmas.Bool.{both_ways, le-leb, leb-true, and_parts}
 use Rattle.std.proofs.lemmas.Slice.Eq.{bytes_eq-Decides}
 use Rattle.std.proofs.lemmas.List.{length-set}
-use Rattle.std.proofs.lemmas.List.Elements.{All-cons, All-nil}
+use Rattle.std.proofs.lemmas.List.Elements.{All-cons, All-nil, All-head, All-tail}
 use Rattle.std.proofs.lemmas.List.Folds.{list_all-append}
 use Rattle.std.proofs.lemmas.List.Sums.{sum_by-append, sum_by-cons}
 use Rattle.tor_arena.specs.Growth.{one_more}
@@ -63,6 +63,11 @@ all_some [] all = All-nil (λ n. 1 ≤ n)
 all_some (n ∷ ns) all =
     let parts = and_parts (leb 1 n) (list_all (nat_le 1) ns) all in
     All-cons (λ n. 1 ≤ n) n ns (leb-true 1 n parts.0) (all_some ns parts.1)
+
+pub some_all : (times : List ℕ) → All (λ n. 1 ≤ n) times → list_all (nat_le 1) times ≡ true
+some_all [] all = refl
+some_all (n ∷ ns) all =
+    ap₂ (λ a b. a && b) (le-leb 1 n (All-head (λ n. 1 ≤ n) n ns all)) (some_all ns (All-tail (λ n. 1 ≤ n) n ns all))
 
 -- a path that is there
 

@@ -1,5 +1,5 @@
 //! Distinct paths with slots by which they are found.
-ghost use Rattle.std.specs.Prelude.{◌≡◌, ◌≢◌, ◌<◌, ◌≤◌, ◌++◌, ◌∷◌, [], ℕ, Some, length, slice_get, OnOk, OnErr, IfOk, IfSome, IfNone};
+ghost use Rattle.std.specs.Prelude.{◌≡◌, ◌≢◌, ◌<◌, ◌≤◌, ◌/◌, ◌++◌, ◌∷◌, [], ℕ, Some, length, slice_get, OnOk, OnErr, IfOk, IfSome, IfNone};
 ghost use Rattle.tor_arena.specs.Growth.{IsDoubled};
 ghost use Rattle.tor_arena.specs.Limits.{max_paths};
 ghost use Rattle.path_clean.specs.Chains.{row_at};
@@ -43,6 +43,26 @@ impl IndexedPaths {
             slots: Vec::new(alloc),
             seed: seed_of(keys),
         }
+    }
+
+    /// These paths, which stand in their order, found by slots of which no more than three quarters are in use. Each is hashed once, and
+    /// none is compared. The only error is that memory ran out.
+    pub fn from_rows(
+        alloc: Global,
+        keys: Keys,
+        rows: Rows<PathId, u32>,
+    ) -> Result<IndexedPaths, NoMemory>
+        requires few { length rows ≤ max_paths }
+        ensures rows { IfOk result (λ paths. paths.rows ≡ rows) }
+    {
+        let seed = seed_of(keys);
+        let slots = filled(alloc, seed, &rows, slots_for(rows.len()))?;
+        Ok(IndexedPaths {
+            alloc,
+            rows,
+            slots,
+            seed,
+        })
     }
 
     /// The paths in order. It takes no memory.
@@ -155,3 +175,17 @@ impl IndexedPaths {
 
 /// How many slots there are at first.
 const FIRST: usize = 1024;
+
+/// How many slots so many rows take, as many as if they had been added one by one: no more than three quarters of them are in use.
+fn slots_for(rows: usize) -> usize
+    requires few { rows ≤ max_paths }
+    ensures room { rows ≤ three_quarters result }
+    ensures some { 0 < result }
+    ensures least { 1024 < result → three_quarters (result / 2) < rows }
+{
+    let mut count = FIRST;
+    while count / 4 * 3 < rows {
+        count *= 2;
+    }
+    count
+}

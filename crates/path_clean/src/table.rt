@@ -10,6 +10,7 @@ ghost use Rattle.path_clean.specs.Rows.{row_paths, times_of, numbers_in, none_tw
 ghost use Rattle.path_clean.specs.Table.{place_of, with_path, Names, CountsOnceMore, IsPathTooMany, HasNumbersTooMany};
 
 use crate::distinct_rows::IndexedPaths;
+use crate::hashing::row_of;
 use crate::lookup::Lookup;
 use crate::slots::SearchEnd;
 use std::alloc::Global;
@@ -72,6 +73,38 @@ impl PathTable {
             numbers: 0,
             max_paths: limit,
         }
+    }
+
+    /// The table of these paths in their order, each with the times of the same place, and room for at most `limit` paths, 1 to MAX_PATHS.
+    /// The paths are clean, no two are the same, and they have at most 2^26 numbers in sum. None is searched. The only error is that
+    /// memory ran out.
+    pub fn from_rows(
+        alloc: Global,
+        keys: Keys,
+        limit: u32,
+        paths: Rows<PathId, u32>,
+        times: List<u64>,
+    ) -> Result<PathTable, NoMemory>
+        requires some { 1 ≤ limit }
+        requires most { limit ≤ max_paths }
+        requires few { length paths ≤ limit }
+        requires clean { IsTrue (list_all is_cleaned paths) }
+        requires once { IsTrue (none_twice paths) }
+        requires numbers { sum_by length paths ≤ max_numbers }
+        requires same { length times ≡ length paths }
+        requires seen { All (λ n. 1 ≤ n) times }
+        ensures limit { IfOk result (λ table. table.limit ≡ limit) }
+        ensures paths { IfOk result (λ table. row_paths table.rows ≡ paths) }
+        ensures times { IfOk result (λ table. times_of table.rows ≡ times) }
+    {
+        let numbers = numbers_in(&paths);
+        let paths = IndexedPaths::from_rows(alloc, keys, paths)?;
+        Ok(PathTable {
+            paths,
+            counts: times.into_vec(),
+            numbers,
+            max_paths: limit,
+        })
     }
 
     /// Where a path stands, if it is there. It takes no memory.
@@ -257,4 +290,16 @@ impl PathTable {
     {
         (self.paths.into_rows(), List::from_vec(self.counts))
     }
+}
+
+// How many numbers the paths have in sum, at most 2^26.
+fn numbers_in(paths: &Rows<PathId, u32>) -> usize
+    requires few { sum_by length paths.now ≤ max_numbers }
+    ensures { result ≡ sum_by length paths.now }
+{
+    let mut numbers = 0;
+    for place in 0..paths.len() {
+        numbers += row_of(paths, place).len();
+    }
+    numbers
 }

@@ -1,77 +1,108 @@
--- The rows of a table when the path of the next line of a result is added.
-use Rattle.std.proofs.Common.{◌≡◌, ℕ, suc, ◌+◌, ◌≤◌, Bool, true, false, cond, List, [], ◌∷◌, ◌++◌, length, map, take, Some, None, option_map, slice_get, bytes_eq, IsTrue}
-use Rattle.std.proofs.Common.{refl, sym, ap, ◌∙◌, arith, subst}
-use Rattle.std.specs.Prelude.{sum_by, Contains}
-use Rattle.std.proofs.lemmas.List.{take-map}
-use Rattle.std.proofs.lemmas.List.Sums.{sum_by-append, sum_by-cons}
+-- The paths of a result that meets the rules 2 and 3 are as a table of paths has them.
+use Rattle.std.proofs.Common.{◌≡◌, ◌≤◌, ◌||◌, ◌&&◌, ℕ, suc, ◌+◌, Bool, true, false, not, List, [], ◌∷◌, length, map, take, Some, slice_get, bytes_eq}
+use Rattle.std.proofs.Common.{refl, sym, ap, ap₂, ◌∙◌, arith, subst}
+use Rattle.std.specs.Prelude.{All, Contains, sum_by, Result, Ok, Err, IfOk}
+use Rattle.std.specs.List.{list_all, list_any}
+use Rattle.std.proofs.Math.Seq.{take-length}
+use Rattle.std.proofs.lemmas.Bool.{false_from_ne_true}
+use Rattle.std.proofs.lemmas.List.{length-map}
+use Rattle.std.proofs.lemmas.List.Elements.{All-nil, All-cons}
 use Rattle.std.proofs.lemmas.Option.{slice_get_within}
-use Rattle.tor_arena.proofs.Gets.{Has, take_get, slice_get-map, Contains-from_has}
 use Rattle.tor_arena.specs.Limits.{max_numbers}
 use Rattle.path_clean.specs.Paths.{is_cleaned}
-use Rattle.path_clean.specs.Rows.{Counted, row_paths, numbers_in}
-use Rattle.path_clean.specs.Table.{place_of}
+use Rattle.path_clean.specs.Rows.{Counted, Table, row_paths, times_of, none_twice}
 use Rattle.path_clean.proofs.TableLemmas.{eq_true}
 use Rattle.result_text.specs.declared.file.PathLine.{PathLine}
 use Rattle.result_text.specs.declared.file.ResultFile.{ResultFile}
 use Rattle.result_rules.specs.declared.rule.Rule.TheVariants.{PathsCleaned, PathsDistinct}
-use Rattle.result_rules.specs.Rules.{IsMet}
+use Rattle.result_rules.specs.Rules.{IsMet, IsSound}
 use Rattle.result_rules.specs.File.{its_paths}
-use Rattle.result_rules.specs.Against.{row_of, its_rows}
+use Rattle.result_rules.specs.Against.{row_of}
 
-row_paths-lines : (lines : List PathLine) → row_paths (map row_of lines) ≡ map (λ (p : PathLine). p.path) lines
-row_paths-lines [] = refl
-row_paths-lines (line ∷ lines) = ap (λ (t : List (List ℕ)). line.path ∷ t) (row_paths-lines lines)
+abbrev pub path_of : PathLine → List ℕ
+path_of line = line.path
 
-numbers_in-lines : (lines : List PathLine) → numbers_in (map row_of lines) ≡ sum_by length (map (λ (p : PathLine). p.path) lines)
-numbers_in-lines [] = refl
-numbers_in-lines (line ∷ lines) =
-    sum_by-cons (λ (row : Counted). length row.path) (row_of line) (map row_of lines) ∙ ap (λ n. length line.path + n) (numbers_in-lines lines) ∙
-    sym (sum_by-cons length line.path (map (λ (p : PathLine). p.path) lines))
+abbrev pub count_of : PathLine → ℕ
+count_of line = line.times
 
-numbers_in-push : (rows : List Counted) (row : Counted) → numbers_in (rows ++ row ∷ []) ≡ numbers_in rows + length row.path
-numbers_in-push rows row =
-    sum_by-append (λ (r : Counted). length r.path) rows (row ∷ []) ∙
-    ap (λ n. numbers_in rows + n) (sum_by-cons (λ (r : Counted). length r.path) row [] ∙ omega arith)
+-- the path is one of these
+abbrev is_among : List ℕ → List (List ℕ) → Bool
+is_among path paths = list_any (λ other. bytes_eq other path) paths
 
--- a path that is none of the rows has no place
-absent : (rows : List Counted) (path : List ℕ) → (Has (row_paths rows) path → ⊥) → place_of rows path ≡ None
-absent [] path none = refl
-absent (row ∷ rows) path none = by (bytes_eq row.path path) refl (λ h. absent rows path h)
+found : (path : List ℕ) (lines : List PathLine) → is_among path (map path_of lines) ≡ true → (k : ℕ) × (line : PathLine) × (slice_get lines k ≡ Some line) × (line.path ≡ path)
+found path [] h = absurd cc
+found path (line ∷ lines) h = by (bytes_eq line.path path) refl h (found path lines)
   where
-    by : (b : Bool) → bytes_eq row.path path ≡ b → ((Has (row_paths rows) path → ⊥) → place_of rows path ≡ None) → place_of (row ∷ rows) path ≡ None
-    by true e ih = absurd (none (0, ap (λ (p : List ℕ). Some p) (eq_true row.path path e)))
-    by false e ih = ap (λ b. cond b (Some 0) (option_map suc (place_of rows path))) e ∙ ap (option_map suc) (ih (λ h. none (suc h.0, h.1)))
+    by : (b : Bool) → bytes_eq line.path path ≡ b → (b || is_among path (map path_of lines)) ≡ true
+        → (is_among path (map path_of lines) ≡ true → (k : ℕ) × (other : PathLine) × (slice_get lines k ≡ Some other) × (other.path ≡ path))
+        → (k : ℕ) × (other : PathLine) × (slice_get (line ∷ lines) k ≡ Some other) × (other.path ≡ path)
+    by true is h ih = (0, line, refl, eq_true line.path path is)
+    by false is h ih = let (k, other, at, same) = ih h in (suc k, other, at, same)
 
--- the next line goes onto these rows
-pub record IsNextLine (rows : List Counted) (line : PathLine) : Type 0 where
-  pub cleaned : IsTrue (is_cleaned line.path)
-  pub seen : 1 ≤ line.times
-  pub new : place_of rows line.path ≡ None
-  pub short : numbers_in rows + length line.path ≤ max_numbers
+clean_each : (lines : List PathLine) → ((k : ℕ) (line : PathLine) → slice_get lines k ≡ Some line → is_cleaned line.path ≡ true) → list_all is_cleaned (map path_of lines) ≡ true
+clean_each [] each = refl
+clean_each (line ∷ lines) each = ap₂ (λ a b. a && b) (each 0 line refl) (clean_each lines (λ k. each (suc k)))
 
-module _ (file : ResultFile) (k : ℕ) (line : PathLine) (at : slice_get file.paths k ≡ Some line) where
-  pub rows_more : take (k + 1) (its_rows file) ≡ take k (its_rows file) ++ row_of line ∷ []
-  rows_more = take_get (its_rows file) k (row_of line) (slice_get-map row_of file.paths k line at)
+seen_each : (lines : List PathLine) → ((k : ℕ) (line : PathLine) → slice_get lines k ≡ Some line → 1 ≤ line.times) → All (λ n. 1 ≤ n) (map count_of lines)
+seen_each [] each = All-nil (λ n. 1 ≤ n)
+seen_each (line ∷ lines) each = All-cons (λ n. 1 ≤ n) line.times (map count_of lines) (each 0 line refl) (seen_each lines (λ k. each (suc k)))
 
-  paths_before : row_paths (take k (its_rows file)) ≡ take k (its_paths file)
-  paths_before = ap row_paths (take-map row_of k file.paths) ∙ row_paths-lines (take k file.paths) ∙ sym (take-map (λ (p : PathLine). p.path) k file.paths)
+once_each : (lines : List PathLine) → ((k : ℕ) (line : PathLine) → slice_get lines k ≡ Some line → Contains (take k (map path_of lines)) line.path → ⊥)
+    → none_twice (map path_of lines) ≡ true
+once_each [] each = refl
+once_each (line ∷ lines) each =
+    ap₂ (λ a b. not a && b) (false_from_ne_true (is_among line.path (map path_of lines)) (λ h. again (found line.path lines h)))
+    (once_each lines (λ k other at c. each (suc k) other at (suc c.0, omega (arith, c.1), c.2)))
+  where
+    again : (k : ℕ) × (other : PathLine) × (slice_get lines k ≡ Some other) × (other.path ≡ line.path) → ⊥
+    again at = each (suc at.0) at.1 at.2 (0, omega arith, sym at.3)
 
-  numbers_with : numbers_in (take (k + 1) (its_rows file)) ≡ sum_by length (take (k + 1) (its_paths file))
-  numbers_with =
-      ap numbers_in (take-map row_of (k + 1) file.paths) ∙ numbers_in-lines (take (k + 1) file.paths) ∙
-      ap (sum_by length) (sym (take-map (λ (p : PathLine). p.path) (k + 1) file.paths))
+last_of : (line : PathLine) (lines : List PathLine) → (last : PathLine) × (slice_get (line ∷ lines) (length lines) ≡ Some last)
+last_of line [] = (line, refl)
+last_of line (other ∷ lines) = last_of other lines
 
-  pub next_line : IsMet file PathsCleaned → IsMet file PathsDistinct → IsNextLine (take k (its_rows file)) line
-  next_line clean distinct =
-      let lt = slice_get_within file.paths k line at in
-      let sound = clean k lt line at in
-      let most = sound.numbers in
-      let more = numbers_in-push (take k (its_rows file)) (row_of line) in
-      let with_it = sym (ap numbers_in rows_more) ∙ numbers_with in
-      record {
-        cleaned = sound.cleaned;
-        seen = sound.seen;
-        new = absent (take k (its_rows file)) line.path (λ h. distinct k lt line at (subst (λ (paths : List (List ℕ)). Contains paths line.path) paths_before
-            (Contains-from_has (row_paths (take k (its_rows file))) line.path h)));
-        short = omega (arith, most, more, with_it);
-      }
+numbers_each : (most : ℕ) (lines : List PathLine)
+    → ((k : ℕ) (line : PathLine) → slice_get lines k ≡ Some line → sum_by length (take (k + 1) (map path_of lines)) ≤ most) → sum_by length (map path_of lines) ≤ most
+numbers_each most [] each = omega arith
+numbers_each most (line ∷ lines) each =
+    let last = last_of line lines in
+    let many : length lines + 1 ≡ length (map path_of (line ∷ lines)) = omega (arith, length-map lines path_of) in
+    let all : take (length lines + 1) (map path_of (line ∷ lines)) ≡ map path_of (line ∷ lines) =
+    ap (λ n. take n (map path_of (line ∷ lines))) many ∙ take-length (map path_of (line ∷ lines)) in
+    subst (λ (ps : List (List ℕ)). sum_by length ps ≤ most) all (each (length lines) last.0 last.1)
+
+-- what the rules 2 and 3 say of all paths together
+pub record AreSound (file : ResultFile) : Type 0 where
+  pub clean : list_all is_cleaned (its_paths file) ≡ true
+  pub once : none_twice (its_paths file) ≡ true
+  pub numbers : sum_by length (its_paths file) ≤ max_numbers
+  pub seen : All (λ n. 1 ≤ n) (map count_of file.paths)
+
+pub sound_paths : (file : ResultFile) → IsMet file PathsCleaned → IsMet file PathsDistinct → AreSound file
+sound_paths file cleaned distinct = record {
+  clean = clean_each file.paths (λ k line at. (sound k line at).cleaned);
+  once = once_each file.paths (λ k line at. distinct k (slice_get_within file.paths k line at) line at);
+  numbers = numbers_each max_numbers file.paths (λ k line at. (sound k line at).numbers);
+  seen = seen_each file.paths (λ k line at. (sound k line at).seen);
+}
+  where
+    sound : (k : ℕ) (line : PathLine) → slice_get file.paths k ≡ Some line → IsSound file k line
+    sound k line at = cleaned k (slice_get_within file.paths k line at) line at
+
+-- rows with the paths and the times of these lines are those of the lines
+pub rows_of_lines : (rows : List Counted) (lines : List PathLine) → row_paths rows ≡ map path_of lines → times_of rows ≡ map count_of lines → rows ≡ map row_of lines
+rows_of_lines [] [] paths times = refl
+rows_of_lines [] (line ∷ lines) paths times = absurd cc
+rows_of_lines (row ∷ rows) [] paths times = absurd cc
+rows_of_lines (row ∷ rows) (line ∷ lines) paths times =
+    let path : row.path ≡ line.path = cc in
+    let count : row.times ≡ line.times = cc in
+    let more_paths : row_paths rows ≡ map path_of lines = cc in
+    let more_times : times_of rows ≡ map count_of lines = cc in
+    let same : row ≡ row_of line = ap₂ (λ (p : List ℕ) (n : ℕ). record { path = p; times = n }) path count in
+    ap₂ (λ (r : Counted) (rs : List Counted). r ∷ rs) same (rows_of_lines rows lines more_paths more_times)
+
+pub rows_if : {E : Type 0} (result : Result Table E) (lines : List PathLine) → IfOk result (λ table. row_paths table.rows ≡ map path_of lines)
+    → IfOk result (λ table. times_of table.rows ≡ map count_of lines) → IfOk result (λ table. table.rows ≡ map row_of lines)
+rows_if (Ok table) lines paths times = rows_of_lines table.rows lines paths times
+rows_if (Err e) lines paths times = tt

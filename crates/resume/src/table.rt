@@ -1,17 +1,14 @@
 //! The table of the paths of an earlier result.
-ghost use Rattle.std.specs.Prelude.{◌≡◌, ◌+◌, ◌<◌, ◌≤◌, ◌↔◌, ◌++◌, ◌∷◌, [], None, length, IsTrue, IfOk, OnOk};
-ghost use Rattle.tor_arena.specs.Limits.{max_paths, max_numbers};
-ghost use Rattle.path_clean.specs.Paths.{is_cleaned};
-ghost use Rattle.path_clean.specs.Rows.{numbers_in};
-ghost use Rattle.path_clean.specs.Table.{place_of};
+ghost use Rattle.std.specs.Prelude.{◌≡◌, ◌<◌, ◌≤◌, ◌↔◌, length, map, IfOk};
+ghost use Rattle.tor_arena.specs.Limits.{max_paths};
 ghost use Rattle.result_rules.specs.declared.rule.Rule.TheVariants.{PathsCleaned, PathsDistinct};
 ghost use Rattle.result_rules.specs.Rules.{IsMet};
-ghost use Rattle.result_rules.specs.Against.{row_of, its_rows};
+ghost use Rattle.result_rules.specs.Against.{its_rows};
 
-use path_clean::{AddRefused, PathTable};
-use result_text::{PathLineRef, ResultFile};
+use path_clean::PathTable;
+use result_text::{PathLines, ResultFile};
 use std::alloc::Global;
-use tor_arena::{Index, Keys, NoMemory, PathId};
+use tor_arena::{Index, Keys, List, NoMemory, PathId, Rows};
 
 /// Why there is no table of the paths of a result.
 #[derive(Clone, Copy, PartialEq, Eq)]
@@ -38,33 +35,54 @@ pub fn table_of(
     ensures rows { IfOk result (λ table. table.rows ≡ its_rows file.now) }
     ensures too_many { (result ≡ Err TableRefused.TooManyPaths) ↔ (limit < length file.now.paths) }
 {
-    let count = file.paths.len();
-    if count > limit as usize {
+    if file.paths.len() > limit as usize {
         return Err(TableRefused::TooManyPaths);
     }
-    let mut table = PathTable::new(alloc, keys, limit);
-    for place in 0..count {
-        let line = file.paths.get(PathId::from_place(place).unwrap());
-        if add_line(&mut table, &line).is_err() {
-            return Err(TableRefused::NoMemory);
-        }
+    match table_by(alloc, keys, file, limit) {
+        Ok(table) => Ok(table),
+        Err(NoMemory) => Err(TableRefused::NoMemory),
     }
-    Ok(table)
 }
 
-// Adds the path of a line, for which there is room, with its times. The only error is that memory ran out.
-fn add_line(table: &mut PathTable, line: &PathLineRef<'_>) -> Result<(), NoMemory>
-    requires cleaned { IsTrue (is_cleaned line.now.path) }
-    requires seen { 1 ≤ line.now.times }
-    requires new { place_of table.old.rows line.now.path ≡ None }
-    requires room { length table.old.rows < table.old.limit }
-    requires short { numbers_in table.old.rows + length line.now.path ≤ max_numbers }
-    ensures added { OnOk result (table.new.rows ≡ table.old.rows ++ row_of line.now ∷ []) }
-    ensures limit { table.new.limit ≡ table.old.limit }
+// The same, where there is room for the paths. Since they are known to be distinct, none is searched.
+fn table_by(alloc: Global, keys: Keys, file: &ResultFile, limit: u32) -> Result<PathTable, NoMemory>
+    requires some { 1 ≤ limit }
+    requires most { limit ≤ max_paths }
+    requires few { length file.now.paths ≤ limit }
+    requires cleaned { IsMet file.now PathsCleaned }
+    requires distinct { IsMet file.now PathsDistinct }
+    ensures limit { IfOk result (λ table. table.limit ≡ limit) }
+    ensures rows { IfOk result (λ table. table.rows ≡ its_rows file.now) }
 {
-    match table.add_times(line.path(), line.times()) {
-        Ok(_) => Ok(()),
-        Err(AddRefused::NoMemory) => Err(NoMemory),
-        Err(AddRefused::TooManyPaths | AddRefused::TooManyNumbers) => unreachable!(),
+    let times = copied_times(alloc, &file.paths)?;
+    let paths = copied_paths(alloc, file.paths.paths())?;
+    PathTable::from_rows(alloc, keys, limit, paths, times)
+}
+
+// The times of the lines, in order.
+fn copied_times(alloc: Global, lines: &PathLines) -> Result<List<u64>, NoMemory>
+    ensures { IfOk result (λ times. times ≡ map (λ line. line.times) lines.now) }
+{
+    let mut times = Vec::with_capacity(alloc, lines.len())?;
+    for place in 0..lines.len() {
+        let line = lines.get(PathId::from_place(place).unwrap());
+        times.push(line.times())?;
     }
+    Ok(List::from_vec(times))
+}
+
+// The same paths once more.
+fn copied_paths(alloc: Global, paths: &Rows<PathId, u32>) -> Result<Rows<PathId, u32>, NoMemory>
+    ensures { IfOk result (λ copy. copy ≡ paths.now) }
+{
+    let count = paths.len();
+    let mut copy = Rows::new(alloc);
+    copy.reserve(count, 0)?;
+    for place in 0..count {
+        let path = paths.row(PathId::from_place(place).unwrap());
+        if copy.push_row(path).is_err() {
+            return Err(NoMemory);
+        }
+    }
+    Ok(copy)
 }
