@@ -1,5 +1,6 @@
 mod Vectors
 pub mod OrderLemmas
 pub mod PrefLemmas
+pub mod SupportLemmas
 pub mod TopLemmas
 pub mod VoteLemmas

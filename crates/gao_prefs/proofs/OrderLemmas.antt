@@ -19,11 +19,12 @@ use Rattle.relationships.specs.declared.label.End.{End}
 use Rattle.relationships.specs.Graph.{Edge, is_same, edges_on, edges, degree}
 use Rattle.relationships.specs.Preference.{votes, lean, lead, wanted, place, IsSettlingOrder}
 use Rattle.relationships.proofs.Edges.{same_edge}
+use Rattle.as_graph.specs.Paths.{paths_at}
 use Rattle.as_graph.proofs.Labelled.{NoneTwice, NoneTwice-distinct, same_itself}
 use Rattle.gao_prefs.specs.declared.per_end.PerEnd.{PerEnd}
 use Rattle.gao_prefs.specs.declared.preferring.Pref.{Pref}
 use Rattle.gao_prefs.specs.Ends.{degrees_of, votes_of}
-use Rattle.gao_prefs.specs.Preferences.{edge_preferred, edges_preferred, lean_by, wanted_by, IsPref, NotAfter}
+use Rattle.gao_prefs.specs.Preferences.{edge_preferred, edges_preferred, lean_by, wanted_by, AreSettled, IsPref, NotAfter}
 use Rattle.gao_prefs.proofs.VoteLemmas.{one_place}
 use Rattle.gao_prefs.proofs.PrefLemmas.{lead_abs}
 
@@ -43,7 +44,7 @@ abbrev any_pref : Pref
 any_pref = record { edge = 0; lean = pos 0; wanted = End.Low }
 
 -- what is said by the place of an edge, and by its votes and degrees
-pub record IsStated (degree : ℕ → ℕ) (kept : List (List ℕ)) (es : List Edge) (pref : Pref) : Type 0 where
+record IsStated (degree : ℕ → ℕ) (kept : List (List ℕ)) (es : List Edge) (pref : Pref) : Type 0 where
   pub inside : pref.edge < length es
   pub leans : pref.lean ≡ lean degree kept (edge_preferred es pref)
   pub wants : pref.wanted ≡ wanted degree kept (edge_preferred es pref)
@@ -158,25 +159,23 @@ module _ (paths kept : List (List ℕ)) (es : List Edge) (once : NoneTwice es) (
             subst (λ e. GoesFirst e (get_or (edges_preferred es sorted) j d)) (sym (get_or-map (edge_preferred es) sorted i any_pref d i_lt))
             (subst (GoesFirst (edge_preferred es p)) (sym (get_or-map (edge_preferred es) sorted j any_pref d j_lt)) first)
 
--- what the clauses of the sorted preferences say
-pub record AreSettled (degree : ℕ → ℕ) (kept : List (List ℕ)) (es : List Edge) (prefs : List Pref) : Type 0 where
-  pub count : length prefs ≡ length es
-  pub stated : All (IsStated degree kept es) prefs
-  pub apart : AllDistinct (map (λ (p : Pref). p.edge) prefs)
-  pub order : IsSettlingOrder (lead degree kept) es (edges_preferred es prefs)
-
-pub settled : (paths kept : List (List ℕ)) (table numbers : List PerEnd) (prefs sorted result : List Pref) →
-    table ≡ map (votes_of (degree paths) kept) (edges paths) → numbers ≡ map (degrees_of paths) (edges paths) → length prefs ≡ length table →
+pub settled : (paths : List (List ℕ)) (kept : List ℕ) (table numbers : List PerEnd) (prefs sorted result : List Pref) →
+    table ≡ map (votes_of (degree paths) (paths_at paths kept)) (edges paths) → numbers ≡ map (degrees_of paths) (edges paths) → length prefs ≡ length table →
     ((k : ℕ) (d : Pref) → k < length prefs → IsPref table numbers k (get_or prefs k d)) → IsPermutation prefs sorted →
     ((i j : ℕ) (d : Pref) → i ≤ j → j < length sorted → NotAfter (get_or sorted i d) (get_or sorted j d)) → result ≡ sorted →
-    AreSettled (degree paths) kept (edges paths) result
+    AreSettled paths kept result
 settled paths kept table numbers prefs sorted result voted known long each moved falls is =
-    subst (AreSettled (degree paths) kept (edges paths)) (sym is) (record {
-      count = count_sorted paths kept (edges paths) once table numbers voted known prefs long each sorted moved falls;
-      stated = stated_sorted paths kept (edges paths) once table numbers voted known prefs long each sorted moved falls;
-      apart = apart_sorted paths kept (edges paths) once table numbers voted known prefs long each sorted moved falls;
-      order = settling paths kept (edges paths) once table numbers voted known prefs long each sorted moved falls;
+    subst (AreSettled paths kept) (sym is) (record {
+      count = count_sorted paths (paths_at paths kept) (edges paths) once table numbers voted known prefs long each sorted moved falls;
+      inside = λ k d lt. (stated k d lt).inside;
+      apart = apart_sorted paths (paths_at paths kept) (edges paths) once table numbers voted known prefs long each sorted moved falls;
+      order = settling paths (paths_at paths kept) (edges paths) once table numbers voted known prefs long each sorted moved falls;
+      leans = λ k d lt. (stated k d lt).leans;
+      wants = λ k d lt. (stated k d lt).wants;
     })
   where
     once : NoneTwice (edges paths)
     once = NoneTwice-distinct (flat_map edges_on paths)
+
+    stated : All (IsStated (degree paths) (paths_at paths kept) (edges paths)) sorted
+    stated = stated_sorted paths (paths_at paths kept) (edges paths) once table numbers voted known prefs long each sorted moved falls

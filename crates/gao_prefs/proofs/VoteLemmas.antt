@@ -29,7 +29,7 @@ use Rattle.gao_prefs.proofs.TopLemmas.{top_of-map}
 
 -- ---- edges are given by their places, and have the lower number first
 
-abbrev IsRising : Edge → Type 0
+abbrev pub IsRising : Edge → Type 0
 IsRising e = e.0 ≤ e.1
 
 rising_from : (a : ℕ) (path : List ℕ) → All IsRising (edges_from a path)
@@ -50,7 +50,7 @@ rising_distinct (e ∷ es) h =
     All-cons IsRising e (filter (λ f. not (is_same e f)) (distinct es)) (All-head IsRising e es h)
     (All-filter (λ f. not (is_same e f)) IsRising (distinct es) (rising_distinct es (All-tail IsRising e es h)))
 
-rising : (paths : List (List ℕ)) → All IsRising (edges paths)
+pub rising : (paths : List (List ℕ)) → All IsRising (edges paths)
 rising paths = rising_distinct (flat_map edges_on paths) (rising_paths paths)
 
 pub one_place : (es : List Edge) (i k : ℕ) (e : Edge) → NoneTwice es → slice_get es i ≡ Some e → slice_get es k ≡ Some e → i ≡ k

@@ -1,9 +1,10 @@
 -- What is said of preferences.
-use Rattle.std.specs.Prelude.{◌≡◌, ℕ, ◌-◌, ◌<◌, ◌≤◌, ◌⊎◌, ℤ, pos, ◌-ℤ◌, List, All, map, slice_index_or, nat_lt, if◌then◌else◌}
+use Rattle.std.specs.Prelude.{◌≡◌, ℕ, ◌-◌, ◌<◌, ◌≤◌, ◌⊎◌, ℤ, pos, ◌-ℤ◌, List, All, length, map, slice_index_or, nat_lt, if◌then◌else◌}
 use Rattle.std.specs.Int.RustNames.{unsigned_abs}
 use Rattle.relationships.specs.declared.label.End.{End}
 use Rattle.relationships.specs.Graph.{Edge, edges, degree}
 use Rattle.relationships.specs.Preference.{lead, lean, wanted, IsSettlingOrder}
+use Rattle.tor_arena.specs.Distinct.{AllDistinct}
 use Rattle.as_graph.specs.Paths.{paths_at}
 use Rattle.gao_prefs.specs.declared.per_end.PerEnd.{PerEnd}
 use Rattle.gao_prefs.specs.declared.preferring.Pref.{Pref}
@@ -31,6 +32,15 @@ HaveLeans graph kept prefs =
 abbrev pub HaveWanted : List (List ℕ) → List ℕ → List Pref → Type 0
 HaveWanted graph kept prefs =
     All (λ pref. pref.wanted ≡ wanted (degree graph) (paths_at graph kept) (edge_preferred (edges graph) pref)) prefs
+
+-- there is one for each edge, and all this holds of them
+pub record AreSettled (graph : List (List ℕ)) (kept : List ℕ) (prefs : List Pref) : Type 0 where
+  pub count : length prefs ≡ length (edges graph)
+  pub inside : All (λ pref. pref.edge < length (edges graph)) prefs
+  pub apart : AllDistinct (map (λ (pref : Pref). pref.edge) prefs)
+  pub order : AreInOrder graph kept prefs
+  pub leans : HaveLeans graph kept prefs
+  pub wants : HaveWanted graph kept prefs
 
 -- ---- by the votes for the two ends of an edge, and their degrees
 

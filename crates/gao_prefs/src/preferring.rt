@@ -1,18 +1,19 @@
 //! What the edges prefer, in settling order.
-ghost use Rattle.std.specs.Prelude.{◌≡◌, ◌≢◌, ◌<◌, ◌≤◌, ℕ, All, length, map, slice_index_or, IfOk};
+ghost use Rattle.std.specs.Prelude.{◌≡◌, ◌≢◌, ◌<◌, ◌≤◌, ℕ, List, All, length, map, slice_index_or, IfOk};
 ghost use Rattle.std.specs.List.{AllPairs};
 ghost use Rattle.std.specs.List.Sorted.{IsPermutation};
 ghost use Rattle.std.specs.Int.RustNames.{unsigned_abs};
 ghost use Rattle.relationships.specs.declared.label.End.{End};
-ghost use Rattle.relationships.specs.Graph.{edges, degree};
+ghost use Rattle.relationships.specs.Graph.{edges, degree, support};
 ghost use Rattle.relationships.specs.Preference.{lean, lead, wanted, IsSettlingOrder};
 ghost use Rattle.tor_arena.specs.Distinct.{AllDistinct};
 ghost use Rattle.tor_arena.specs.Limits.{max_numbers};
 ghost use Rattle.as_graph.specs.Limits.{most_paths};
 ghost use Rattle.as_graph.specs.Paths.{paths_at};
-ghost use Rattle.gao_prefs.specs.Ends.{number_at};
-ghost use Rattle.gao_prefs.specs.Preferences.{AreInOrder, HaveLeans, HaveWanted, IsPref, NotAfter, edge_preferred, edges_preferred, key_of};
-ghost use Rattle.gao_prefs.specs.Preferences.{lean_by, wanted_by};
+ghost use Rattle.gao_prefs.specs.Ends.{number_at, degrees_of, votes_of};
+ghost use Rattle.gao_prefs.specs.Preferences.{AreInOrder, AreSettled, HaveLeans, HaveWanted, IsPref, NotAfter, edge_preferred, edges_preferred};
+ghost use Rattle.gao_prefs.specs.Preferences.{key_of, lean_by, wanted_by};
+ghost use Rattle.gao_prefs.specs.Supports.{votes_cast};
 
 use crate::per_end::{PerEnd, end_degrees};
 use crate::tally::count_votes;
@@ -30,6 +31,15 @@ pub struct Pref {
     pub lean: i64,
     /// The end that it wants as the provider: that of more votes, then that of greater degree, and else the lower number.
     pub wanted: End,
+}
+
+/// What the votes of kept paths say of the edges.
+#[derive(Drop)]
+pub struct Voted {
+    /// What each edge prefers, in the order in which edges are settled.
+    pub prefs: List<Pref>,
+    /// How many of the kept paths hold each edge, in the order of the edges.
+    pub supports: List<u32>,
 }
 
 /// What an edge with these votes and degrees of its ends wants as the provider.
@@ -100,9 +110,63 @@ fn sort_by_lead(prefs: &mut Vec<Pref>)
     prefs.sort_unstable_by_key(|pref| sort_key(pref));
 }
 
+/// How many kept paths hold each edge, by the votes for its two ends: each of these paths casts one. The only error is that memory ran
+/// out.
+fn supports_of(alloc: Global, votes: &[PerEnd]) -> Result<List<u32>, NoMemory>
+    requires small { (k : ℕ) (e : End) → number_at votes.now k e ≤ most_paths }
+    ensures { IfOk result (λ supports. supports ≡ map votes_cast votes.now) }
+{
+    let mut supports = Vec::with_capacity(alloc, votes.len())?;
+    for ends in votes {
+        supports.push(ends.low + ends.high)?;
+    }
+    Ok(List::from_vec(supports))
+}
+
+/// What the edges with these votes and degrees of their ends prefer, in the order in which edges are settled. The only error is that
+/// memory ran out.
+fn prefs_in_order(
+    alloc: Global,
+    votes: &[PerEnd],
+    degrees: &[PerEnd],
+) -> Result<List<Pref>, NoMemory>
+    requires same { length degrees.now ≡ length votes.now }
+    requires few { length votes.now < max_numbers }
+    requires small { (k : ℕ) (e : End) → number_at votes.now k e ≤ most_paths }
+    ensures { IfOk result (λ prefs. (graph : List (List ℕ)) (kept : List ℕ) →
+        votes.now ≡ map (votes_of (degree graph) (paths_at graph kept)) (edges graph) →
+        degrees.now ≡ map (degrees_of graph) (edges graph) → AreSettled graph kept prefs) }
+{
+    let mut prefs = prefs_of(alloc, votes, degrees)?;
+    sort_by_lead(&mut prefs);
+    Ok(List::from_vec(prefs))
+}
+
 /// What each edge prefers after the votes of the kept paths, one preference for each edge, in the order in which edges are settled:
-/// by falling absolute lean, and at equal absolute lean in the order of the edges. The kept paths have to be there, no two the same,
-/// and each of distinct ASes. The only error is that memory ran out.
+/// by falling absolute lean, and at equal absolute lean in the order of the edges; and how many of the kept paths hold each edge, in the
+/// order of the edges. The kept paths have to be there, no two the same, and each of distinct ASes. The only error is that memory ran
+/// out.
+pub fn preferences_with_supports(
+    alloc: Global,
+    graph: &AsGraph,
+    kept: &[PathId],
+) -> Result<Voted, NoMemory>
+    requires there { All (λ path. path < length graph.now) kept.now }
+    requires once { AllPairs ◌≢◌ kept.now }
+    requires distinct { All AllDistinct (paths_at graph.now kept.now) }
+    ensures prefs { IfOk result (λ voted. AreSettled graph.now kept.now voted.prefs) }
+    ensures supports { IfOk result (λ voted. voted.supports ≡ map (support (paths_at graph.now kept.now)) (edges graph.now)) }
+{
+    graph.facts();
+    let degrees = end_degrees(alloc, graph)?;
+    let votes = count_votes(alloc, graph, kept, &degrees)?;
+    let supports = supports_of(alloc, &votes)?;
+    let prefs = prefs_in_order(alloc, &votes, &degrees)?;
+    Ok(Voted { prefs, supports })
+}
+
+/// What each edge prefers after the votes of the kept paths, one preference for each edge, in the order in which edges are settled, as
+/// `preferences_with_supports` says it of the same kept paths. The only error is that memory ran out.
 pub fn preferences(alloc: Global, graph: &AsGraph, kept: &[PathId]) -> Result<List<Pref>, NoMemory>
     requires there { All (λ path. path < length graph.now) kept.now }
     requires once { AllPairs ◌≢◌ kept.now }
@@ -114,10 +178,6 @@ pub fn preferences(alloc: Global, graph: &AsGraph, kept: &[PathId]) -> Result<Li
     ensures leans { IfOk result (HaveLeans graph.now kept.now) }
     ensures wanted { IfOk result (HaveWanted graph.now kept.now) }
 {
-    graph.facts();
-    let degrees = end_degrees(alloc, graph)?;
-    let votes = count_votes(alloc, graph, kept, &degrees)?;
-    let mut prefs = prefs_of(alloc, &votes, &degrees)?;
-    sort_by_lead(&mut prefs);
-    Ok(List::from_vec(prefs))
+    let voted = preferences_with_supports(alloc, graph, kept)?;
+    Ok(voted.prefs)
 }
