@@ -1,6 +1,6 @@
 //! Lists of numbers and of links as text.
 
-ghost use Rattle.std.specs.Prelude.{◌≡◌};
+ghost use Rattle.std.specs.Prelude.{◌∷◌};
 ghost use Rattle.std.specs.Fmt.{decimal};
 ghost use Rattle.tor_io.specs.Outflow.{state, Puts};
 ghost use Rattle.result_text.specs.Text.{numbers_text, path_name, link, links, others};
@@ -9,13 +9,29 @@ use crate::line::Version;
 use relationships::Link;
 use tor_io::{Outflow, Sink};
 
+/// Puts a number behind what waits.
+#[inline(always)]
+pub fn put_u32<S: Sink>(out: &mut S, flow: &mut Outflow<'_>, n: u32)
+    ensures { Puts (state (S.held out.old) (S.faults out.old) flow.old) (state (S.held out.new) (S.faults out.new) flow.new) (decimal n) }
+{
+    flow.put_number(out, u64::from(n));
+}
+
+/// Puts an octet and a number behind what waits.
+#[inline(always)]
+pub fn put_u32_behind<S: Sink>(out: &mut S, flow: &mut Outflow<'_>, byte: u8, n: u32)
+    ensures { Puts (state (S.held out.old) (S.faults out.old) flow.old) (state (S.held out.new) (S.faults out.new) flow.new) (byte ∷ decimal n) }
+{
+    flow.put_number_behind(out, byte, u64::from(n));
+}
+
 // Puts the numbers behind what waits, each behind a space.
 fn put_other_numbers<S: Sink>(out: &mut S, flow: &mut Outflow<'_>, ns: &[u32])
     ensures { Puts (state (S.held out.old) (S.faults out.old) flow.old) (state (S.held out.new) (S.faults out.new) flow.new)
         (others decimal ns.now) }
 {
     for n in ns {
-        flow.put_number_behind(out, b' ', u64::from(*n));
+        put_u32_behind(out, flow, b' ', *n);
     }
 }
 
@@ -27,7 +43,7 @@ pub fn put_numbers<S: Sink>(out: &mut S, flow: &mut Outflow<'_>, ns: &[u32])
     match ns {
         [] => {}
         [first, others @ ..] => {
-            flow.put_number(out, u64::from(*first));
+            put_u32(out, flow, *first);
             put_other_numbers(out, flow, others);
         }
     }
@@ -39,9 +55,9 @@ fn put_path_name<S: Sink>(out: &mut S, flow: &mut Outflow<'_>, version: Version,
         (path_name version path) }
 {
     match version {
-        Version::One => flow.put_number(out, u64::from(path)),
+        Version::One => put_u32(out, flow, path),
         Version::Two if path == 0 => flow.put_byte(out, b'g'),
-        Version::Two => flow.put_number(out, u64::from(path)),
+        Version::Two => put_u32(out, flow, path),
     }
 }
 
@@ -51,7 +67,7 @@ fn put_link<S: Sink>(out: &mut S, flow: &mut Outflow<'_>, version: Version, l: L
         (link version l) }
 {
     put_path_name(out, flow, version, l.path);
-    flow.put_number_behind(out, b':', u64::from(l.at));
+    put_u32_behind(out, flow, b':', l.at);
 }
 
 // Puts the links behind what waits, each behind a space.

@@ -4,6 +4,7 @@ ghost use Rattle.std.specs.Io.KnownBytes.{append_known};
 ghost use Rattle.std.specs.Fmt.{decimal};
 ghost use Rattle.result_text.specs.declared.line.Line.TheVariants as line;
 ghost use Rattle.relationships.specs.declared.fate.Fate.TheVariants.{Kept, Lost};
+ghost use Rattle.path_clean.specs.Counts.{cause_count};
 ghost use Rattle.tor_io.specs.Counts.{HasCause};
 ghost use Rattle.tor_io.specs.Contents.{GainsPrefix};
 ghost use Rattle.tor_io.specs.Outflow.{state, Puts};
@@ -16,7 +17,7 @@ ghost use Rattle.result_text.specs.declared.line.Version.{Version};
 use crate::asides::cause_word;
 use crate::file::{EdgeLine, ResultFile, Totals};
 use crate::line::{Version, version_of};
-use crate::numbers::{put_links, put_numbers};
+use crate::numbers::{put_links, put_numbers, put_u32, put_u32_behind};
 use crate::path_lines::{PathLineRef, PathLines};
 use crate::ranges::in_range;
 use path_clean::{Asides, Cause, Sets};
@@ -56,37 +57,30 @@ fn put_ratio<S: Sink>(out: &mut S, flow: &mut Outflow<'_>, ratio: u32)
         (line_text v (line.Ratio ratio)) }
 {
     flow.put(out, b"ratio|");
-    flow.put_number(out, u64::from(ratio));
+    put_u32(out, flow, ratio);
     flow.put_byte(out, b'\n');
 }
 
-#[tactic(auto, unfolding(crate::specs::Text::line_text))]
-fn put_aside<S: Sink>(out: &mut S, flow: &mut Outflow<'_>, cause: Cause, count: u64)
+fn put_aside<S: Sink>(out: &mut S, flow: &mut Outflow<'_>, asides: &Asides, cause: Cause)
     ensures { (v : Version) → Puts (state (S.held out.old) (S.faults out.old) flow.old) (state (S.held out.new) (S.faults out.new) flow.new)
-        (line_text v (line.Aside cause count)) }
+        (line_text v (line.Aside cause (cause_count cause asides.now))) }
 {
     flow.put(out, b"aside|");
     flow.put(out, cause_word(cause));
-    flow.put_number_behind(out, b'|', count);
+    flow.put_number_behind(out, b'|', asides.get(cause));
     flow.put_byte(out, b'\n');
 }
 
 fn put_all_asides<S: Sink>(out: &mut S, flow: &mut Outflow<'_>, asides: &Asides)
-    ensures { Puts (state (S.held out.old) (S.faults out.old) flow.old) (state (S.held out.new) (S.faults out.new) flow.new)
-        (text_of_asides asides.now) }
+    ensures { Puts (state (S.held out.old) (S.faults out.old) flow.old) (state (S.held out.new) (S.faults out.new) flow.new) (text_of_asides asides.now) }
 {
-    put_aside(out, flow, Cause::NoPath, asides.get(Cause::NoPath));
-    put_aside(
-        out,
-        flow,
-        Cause::BadSegments,
-        asides.get(Cause::BadSegments),
-    );
-    put_aside(out, flow, Cause::Confed, asides.get(Cause::Confed));
-    put_aside(out, flow, Cause::Sets, asides.get(Cause::Sets));
-    put_aside(out, flow, Cause::Reserved, asides.get(Cause::Reserved));
-    put_aside(out, flow, Cause::Loop, asides.get(Cause::Loop));
-    put_aside(out, flow, Cause::Short, asides.get(Cause::Short));
+    put_aside(out, flow, asides, Cause::NoPath);
+    put_aside(out, flow, asides, Cause::BadSegments);
+    put_aside(out, flow, asides, Cause::Confed);
+    put_aside(out, flow, asides, Cause::Sets);
+    put_aside(out, flow, asides, Cause::Reserved);
+    put_aside(out, flow, asides, Cause::Loop);
+    put_aside(out, flow, asides, Cause::Short);
 }
 
 // The ten first lines.
@@ -192,8 +186,8 @@ fn put_pair<S: Sink>(out: &mut S, flow: &mut Outflow<'_>, first: u32, second: u3
     ensures { Puts (state (S.held out.old) (S.faults out.old) flow.old) (state (S.held out.new) (S.faults out.new) flow.new)
         (decimal first ++ 124 ∷ decimal second) }
 {
-    flow.put_number(out, u64::from(first));
-    flow.put_number_behind(out, b'|', u64::from(second));
+    put_u32(out, flow, first);
+    put_u32_behind(out, flow, b'|', second);
 }
 
 #[tactic(auto, unfolding(crate::specs::Text::line_text))]

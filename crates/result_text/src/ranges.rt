@@ -7,13 +7,21 @@ ghost use Rattle.result_text.specs.Grammar.{IsTextOf};
 ghost use Rattle.result_text.specs.PathLines.{line_with};
 ghost use Rattle.result_text.specs.Ranges.{AreU32, CountsFit, EdgeFits, GivenFits, LinkFits, PathFits, ProbeFits, TotalsFit, WalkFits};
 ghost use Rattle.result_text.specs.Text.{its_givens, text};
-ghost use Rattle.text_fields.specs.Fields.{IsU64};
+ghost use Rattle.text_fields.specs.Fields.{IsU32, IsU64};
 
 use crate::file::{EdgeLine, ResultFile, Totals};
 use crate::path_lines::{PathLineRef, PathLines};
 use path_clean::{Asides, Cause};
 use relationships::{Given, Link, Probe, WalkRef, Walks};
 use tor_arena::{Index, PathId, WalkId};
+
+fn u32_fits(n: u32)
+    ensures { IsU32 n }
+{}
+
+fn u64_fits(n: u64)
+    ensures { IsU64 n }
+{}
 
 fn numbers_fit(ns: &[u32])
     ensures { AreU32 ns.now }
@@ -22,7 +30,8 @@ fn numbers_fit(ns: &[u32])
 fn link_fits(link: &Link)
     ensures { LinkFits link.now }
 {
-    let _numbers = (link.path, link.at);
+    u32_fits(link.path);
+    u32_fits(link.at);
 }
 
 fn links_fit(ls: &[Link])
@@ -54,7 +63,7 @@ fn walks_fit(walks: &Walks)
 fn count_fits(asides: &Asides, cause: Cause)
     ensures { IsU64 (cause_count cause asides.now) }
 {
-    let _count = asides.get(cause);
+    u64_fits(asides.get(cause));
 }
 
 fn counts_fit(asides: &Asides)
@@ -72,7 +81,8 @@ fn counts_fit(asides: &Asides)
 fn given_fits(given: &Given)
     ensures { GivenFits given.now }
 {
-    let _numbers = (given.over, given.under);
+    u32_fits(given.over);
+    u32_fits(given.under);
 }
 
 fn given_lines_fit(givens: &[Given])
@@ -129,7 +139,9 @@ fn paths_fit(paths: &PathLines)
 fn edge_fits(edge: &EdgeLine)
     ensures { EdgeFits edge.now }
 {
-    let _numbers = (edge.low, edge.high, edge.support);
+    u32_fits(edge.low);
+    u32_fits(edge.high);
+    u64_fits(edge.support);
 }
 
 fn edges_fit(edges: &[EdgeLine])
@@ -143,7 +155,8 @@ fn edges_fit(edges: &[EdgeLine])
 fn probe_fits(probe: &Probe)
     ensures { ProbeFits probe.now }
 {
-    let _numbers = (probe.over, probe.under);
+    u32_fits(probe.over);
+    u32_fits(probe.under);
 }
 
 fn probes_fit(probes: &[Probe])
@@ -157,14 +170,18 @@ fn probes_fit(probes: &[Probe])
 fn totals_fit(totals: &Totals)
     ensures { TotalsFit totals.now }
 {
-    let _numbers = (totals.kept, totals.lost, totals.edges, totals.forced, totals.peers);
+    u64_fits(totals.kept);
+    u64_fits(totals.lost);
+    u64_fits(totals.edges);
+    u64_fits(totals.forced);
+    u64_fits(totals.peers);
 }
 
 /// The numbers of a result are in the ranges of their types, so its text is one. It takes no memory.
 pub fn in_range(file: &ResultFile)
     ensures { IsTextOf file.now (text file.now) }
 {
-    let _ratio = file.ratio;
+    u32_fits(file.ratio);
     counts_fit(&file.asides);
     givens_fit(file);
     paths_fit(&file.paths);

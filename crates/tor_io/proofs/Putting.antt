@@ -1,10 +1,10 @@
 -- Texts that are put one behind the other.
-use Rattle.std.proofs.Common.{◌≡◌, ℕ, ◌≤◌, true, false, List, [], ◌++◌, Option, Some, None, Result, Ok, Err, refl, sym, ap, ◌∙◌, subst, arith}
+use Rattle.std.proofs.Common.{◌≡◌, ℕ, ◌≤◌, true, false, List, [], ◌++◌, Option, Some, None, Result, Ok, Err, refl, sym, ◌∙◌, subst}
 use Rattle.std.specs.Prelude.{OnOk, OnErr}
 use Rattle.std.specs.Io.KnownBytes.{append_known}
 use Rattle.tor_io.specs.Contents.{GainsPrefix}
 use Rattle.tor_io.specs.Counts.{HasCause, Rose}
-use Rattle.tor_io.specs.Outflow.{State, state, GoesOn, Stops, Puts, Finishes}
+use Rattle.tor_io.specs.Outflow.{State, state, Puts, Finishes}
 use Rattle.tor_io.proofs.Passing.{all_flushed, flush_stops, none_passed, one_and_another, one_and_prefix, prefix_of_one}
 
 none_put : (held : Option (List ℕ)) (faults : ℕ) (waiting : Option (List ℕ)) → Puts (state held faults waiting) (state held faults waiting) []

@@ -1,0 +1,8 @@
+use Rattle.std.proofs.Common.{append_assoc}
+use Rattle.result_text.specs.Text.{line_text}
+use Rattle.tor_io.proofs.Putting.{puts_as, puts_then}
+use Rattle.result_text.proofs.printing.put_lost.Goals as goal
+
+pub returns : goal.returns
+unfolding line_text
+returns g c = puts_as (puts_then c.put.ensures (puts_then c.put_number.ensures (puts_then c.put_byte.ensures (puts_then c.put_numbers.ensures (puts_then c.put_byte-2.ensures (puts_then c.put_walk.ensures c.put_byte-3.ensures)))))) (simp append_assoc)
