@@ -26,48 +26,13 @@ pub struct Buffer {
 }
 
 impl Model for Buffer {
-    ghost use Rattle.std.specs.Prelude.{◌≤◌, ◌<◌, ℕ, List, take, vec_len};
+    ghost use Rattle.std.specs.Prelude.{◌≤◌, ℕ, List, take, vec_len};
 
     ghost Value = { List ℕ };
 
     ghost view = { λ buffer. take buffer.filled buffer.bytes.items };
 
-    ghost invariant = { λ buffer. (buffer.filled ≤ vec_len buffer.bytes) × (20 < vec_len buffer.bytes) };
-}
-
-// Writes what waits, which are the first `filled` octets, and answers how many wait then.
-#[cold]
-#[inline(never)]
-fn write_waiting<S: Sink>(sink: &mut S, bytes: &[u8], filled: usize) -> Result<usize, Failed>
-    requires { filled ≤ length bytes.now }
-    ensures none { IfOk result (λ left. left ≡ 0) }
-    ensures all { OnOk result (S.held sink.new ≡ append_known (S.held sink.old) (take filled bytes.now)) }
-    ensures prefix { OnErr result (GainsPrefix (S.held sink.old) (S.held sink.new) (take filled bytes.now)) }
-    ensures cause { HasCause (S.faults sink.old) (S.faults sink.new) result }
-{
-    write_all(sink, &bytes[..filled])?;
-    Ok(0)
-}
-
-// Makes room for so many octets behind the first `filled`, which wait: where it is missing, these are written. Answers how many wait
-// then.
-#[inline(always)]
-fn make_room<S: Sink>(
-    sink: &mut S,
-    bytes: &[u8],
-    filled: usize,
-    count: usize,
-) -> Result<usize, Failed>
-    requires { (filled ≤ length bytes.now) × (count ≤ length bytes.now) }
-    ensures room { IfOk result (λ left. left + count ≤ length bytes.now) }
-    ensures all { IfOk result (λ left. PassesOn (S.held sink.old) (S.held sink.new) (take left bytes.now) (take filled bytes.now)) }
-    ensures prefix { OnErr result (GainsPrefix (S.held sink.old) (S.held sink.new) (take filled bytes.now)) }
-    ensures cause { HasCause (S.faults sink.old) (S.faults sink.new) result }
-{
-    if count > bytes.len() - filled {
-        return write_waiting(sink, bytes, filled);
-    }
-    Ok(filled)
+    ghost invariant = { λ buffer. buffer.filled ≤ vec_len buffer.bytes };
 }
 
 // Copies the piece to its place behind the first `filled` octets, where there has to be room, and answers where it ends.
@@ -128,21 +93,49 @@ impl Buffer {
         }
     }
 
+    // A number, where there may be no room for it.
+    #[cold]
+    #[inline(never)]
+    fn put_digits<S: Sink>(&mut self, sink: &mut S, n: u64) -> Result<(), Failed>
+        ensures all { OnOk result (PassesOn (S.held sink.old) (S.held sink.new) self.new (self.old ++ decimal n)) }
+        ensures prefix { OnErr result (GainsPrefix (S.held sink.old) (S.held sink.new) (self.old ++ decimal n)) }
+        ensures cause { HasCause (S.faults sink.old) (S.faults sink.new) result }
+    {
+        let mut digits = [0u8; MOST_DIGITS];
+        let end = write_number(&mut digits, 0, n);
+        self.put(sink, &digits[..end])
+    }
+
+    // An octet and a number, where there may be no room for them.
+    #[cold]
+    #[inline(never)]
+    fn put_digits_behind<S: Sink>(&mut self, sink: &mut S, byte: u8, n: u64) -> Result<(), Failed>
+        ensures all { OnOk result (PassesOn (S.held sink.old) (S.held sink.new) self.new (self.old ++ byte ∷ decimal n)) }
+        ensures prefix { OnErr result (GainsPrefix (S.held sink.old) (S.held sink.new) (self.old ++ byte ∷ decimal n)) }
+        ensures cause { HasCause (S.faults sink.old) (S.faults sink.new) result }
+    {
+        let mut octets = [byte; MOST_DIGITS + 1];
+        let end = write_number(&mut octets, 1, n);
+        self.put(sink, &octets[..end])
+    }
+
     /// Puts a number, in decimal, behind the octets that wait. Where there is no room, what waits is written first. Failed: a write failed,
-    /// and the sink took a prefix of what waited. It takes no memory.
+    /// and the sink took a prefix of these. It takes no memory.
     #[inline]
     pub fn put_number<S: Sink>(&mut self, sink: &mut S, n: u64) -> Result<(), Failed>
         ensures all { OnOk result (PassesOn (S.held sink.old) (S.held sink.new) self.new (self.old ++ decimal n)) }
         ensures prefix { OnErr result (GainsPrefix (S.held sink.old) (S.held sink.new) (self.old ++ decimal n)) }
         ensures cause { HasCause (S.faults sink.old) (S.faults sink.new) result }
     {
-        let place = make_room(sink, &self.bytes, self.filled, MOST_DIGITS)?;
-        self.filled = write_number(&mut self.bytes, place, n);
+        if self.bytes.len() - self.filled < MOST_DIGITS {
+            return self.put_digits(sink, n);
+        }
+        self.filled = write_number(&mut self.bytes, self.filled, n);
         Ok(())
     }
 
     /// Puts an octet, and a number behind it in decimal, behind those that wait. Where there is no room, what waits is written first. Failed:
-    /// a write failed, and the sink took a prefix of what waited. It takes no memory.
+    /// a write failed, and the sink took a prefix of these. It takes no memory.
     #[inline]
     pub fn put_number_behind<S: Sink>(
         &mut self,
@@ -154,9 +147,11 @@ impl Buffer {
         ensures prefix { OnErr result (GainsPrefix (S.held sink.old) (S.held sink.new) (self.old ++ byte ∷ decimal n)) }
         ensures cause { HasCause (S.faults sink.old) (S.faults sink.new) result }
     {
-        let place = make_room(sink, &self.bytes, self.filled, MOST_DIGITS + 1)?;
-        self.bytes[place] = byte;
-        self.filled = write_number(&mut self.bytes, place + 1, n);
+        if self.bytes.len() - self.filled < MOST_DIGITS + 1 {
+            return self.put_digits_behind(sink, byte, n);
+        }
+        self.bytes[self.filled] = byte;
+        self.filled = write_number(&mut self.bytes, self.filled + 1, n);
         Ok(())
     }
 
