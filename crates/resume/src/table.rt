@@ -66,7 +66,8 @@ fn copied_times(alloc: Global, lines: &PathLines) -> Result<List<u64>, NoMemory>
     let mut times = Vec::with_capacity(alloc, lines.len())?;
     for place in 0..lines.len() {
         let line = lines.get(PathId::from_place(place).unwrap());
-        times.push(line.times())?;
+        let seen = line.times();
+        times.push(seen)?;
     }
     Ok(List::from_vec(times))
 }

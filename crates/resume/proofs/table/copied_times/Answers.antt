@@ -11,6 +11,6 @@ loop-place-preserved c =
     let line = c.get-line.result in
     let place : c.unwrap.result ≡ k = search rules in
     let at = subst (λ i. slice_get lines i ≡ Some line) place c.get-line.ensures in
-    let pushed : c.push.new.self.items ≡ c.loop-place.times.items ++ c.times.result ∷ [] = search rules in
-    pushed ∙ ap₂ (λ (ns : List ℕ) (n : ℕ). ns ++ n ∷ []) c.loop-place.invariant c.times.ensures ∙ sym (map-append count_of (take k lines) (line ∷ [])) ∙
+    let pushed : c.push.new.self.items ≡ c.loop-place.times.items ++ c.times-seen.result ∷ [] = search rules in
+    pushed ∙ ap₂ (λ (ns : List ℕ) (n : ℕ). ns ++ n ∷ []) c.loop-place.invariant c.times-seen.ensures ∙ sym (map-append count_of (take k lines) (line ∷ [])) ∙
     ap (map count_of) (sym (take_get lines k line at))
