@@ -16,12 +16,10 @@ use Rattle.relationships.specs.Givens.{return_of, returns, NameTwo, NameOnce}
 use Rattle.relationships.specs.GivenEvidence.{LostFromWith}
 use Rattle.relationships.proofs.GivenLemmas.{given_serving_law}
 use Rattle.as_graph.specs.Paths.{path_at, paths_at}
-use Rattle.tor_clauses.specs.Formulas.{IsServed, numbered, numbered_of}
+use Rattle.tor_clauses.specs.Formulas.{IsServed, numbered}
 use Rattle.tor_clauses.proofs.Exacts.{numbered_paths}
 use Rattle.path_clean.specs.Rows.{Counted, row_paths}
 use Rattle.path_select.specs.Behind.{places_from}
-use Rattle.path_select.specs.Choices.{Choice}
-use Rattle.path_select.specs.Offers.{HasKeptBehind}
 use Rattle.path_select.proofs.BehindLemmas.{places_all}
 use Rattle.result_text.specs.declared.file.PathLine.{PathLine}
 use Rattle.result_text.specs.declared.file.ResultFile.{ResultFile}
@@ -127,11 +125,11 @@ module _ (earlier : ResultFile) (paths graph : List (List ℕ)) (begins : Begins
         let le = enough earlier paths begins in
         omega (arith, e, many, le, all)
 
-    pub kept_there : (choice : Choice) → numbered_of graph choice.formula ≡ kept_first graph (length paths) earlier →
-        HasKeptBehind graph (places_from n (length graph - n)) (length fates) choice fates
-    kept_there choice h =
-        subst (λ (fs : List Fate). numbered_of graph choice.formula ≡ numbered graph (places_from n (length graph - n)) ++ kept_of (take (length fs) graph) (map walk_of fs)) (sym its)
-        (subst (λ k. numbered_of graph choice.formula ≡
+    pub kept_there : (places : List ℕ) → numbered graph places ≡ kept_first graph (length paths) earlier →
+        numbered graph places ≡ numbered graph (places_from n (length graph - n)) ++ kept_of (take (length fates) graph) (map walk_of fates)
+    kept_there places h =
+        subst (λ (fs : List Fate). numbered graph places ≡ numbered graph (places_from n (length graph - n)) ++ kept_of (take (length fs) graph) (map walk_of fs)) (sym its)
+        (subst (λ k. numbered graph places ≡
         numbered graph (places_from k (length graph - k)) ++ kept_of (take (length (its_fates earlier)) graph) (map walk_of (its_fates earlier))) (sym all)
         (h ∙ ap (λ (K : Numbered). numbered graph (places_from (length paths) (length graph - length paths)) ++ K) (sym (kept_same earlier graph graph_begins))))
 

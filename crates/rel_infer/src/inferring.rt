@@ -8,6 +8,7 @@ ghost use Rattle.relationships.specs.Selection.{IsServable};
 ghost use Rattle.as_graph.specs.Paths.{paths_at};
 ghost use Rattle.tor_clauses.specs.Formulas.{FitsGraph};
 ghost use Rattle.path_select.specs.Behind.{places_from};
+ghost use Rattle.path_select.specs.Offers.{HasKeptBehind};
 ghost use Rattle.rel_infer.specs.Finding.{AreFound, AreInferredIn};
 ghost use Rattle.rel_infer.specs.GivenResults.{max_givens};
 ghost use Rattle.rel_infer.specs.Inference.{AreInferredWith};
@@ -61,25 +62,25 @@ fn found_behind(
     found_in(alloc, graph, selector, counted, ratio)
 }
 
-/// What becomes of the paths that were selected, and what is found of the edges, where the paths that the selector has kept are kept, and
-/// all but the first of them, so many, are counted.
+/// What becomes of the first paths of a graph, so many, which were selected behind all others, and what is found of the edges: the others
+/// are kept, and not counted.
 pub(crate) fn inferred_by(
     alloc: Global,
     graph: &AsGraph,
     selection: Selection,
-    first: usize,
+    count: usize,
     ratio: u32,
 ) -> Result<Inferred, NoMemory>
     requires fits { FitsGraph graph.now selection.selector.formula }
-    requires apart { AllPairs ◌≢◌ selection.selector.formula.paths }
-    requires first { first ≤ length selection.selector.formula.paths }
-    requires there { All (λ path. path < length graph.now) (drop first selection.selector.formula.paths) }
-    requires once { AllPairs ◌≢◌ (drop first selection.selector.formula.paths) }
-    requires distinct { All AllDistinct (paths_at graph.now (drop first selection.selector.formula.paths)) }
+    requires kept { HasKeptBehind graph.now (places_from count (length graph.now - count)) count selection.selector selection.fates }
+    requires count { count ≤ length graph.now }
+    requires distinct { All AllDistinct (take count graph.now) }
     requires small { ratio ≤ max_ratio }
     ensures { IfOk result (λ inferred. (inferred.fates ≡ selection.fates) ×
-        AreFound ratio graph.now selection.selector.formula (drop first selection.selector.formula.paths) inferred.found) }
+        AreFound ratio graph.now selection.selector.formula (drop (length graph.now - count) selection.selector.formula.paths)
+        inferred.found) }
 {
+    let first = graph.path_count() - count;
     let found = found_behind(alloc, graph, &selection.selector, first, ratio)?;
     Ok(Inferred {
         fates: selection.into_fates(),
@@ -105,7 +106,7 @@ fn inferred_in(
     ensures { IfOk result (AreInferredIn ratio graph.now first.now count []) }
 {
     let selection = select_behind(alloc, keys, graph, first, count)?;
-    inferred_by(alloc, graph, selection, first.len(), ratio)
+    inferred_by(alloc, graph, selection, count, ratio)
 }
 
 // The same behind all others of the graph.

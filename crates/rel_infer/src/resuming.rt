@@ -1,11 +1,13 @@
 //! The result that resumes an earlier one.
-ghost use Rattle.std.specs.Prelude.{◌≡◌, ◌-◌, ◌≤◌, [], All, length, map, sum_by, take, is_none, IfOk, OnOk};
+ghost use Rattle.std.specs.Prelude.{◌≡◌, ◌-◌, ◌≤◌, ◌<◌, ◌++◌, [], All, length, map, sum_by, take, is_none, IfOk, OnOk};
 ghost use Rattle.tor_arena.specs.Distinct.{AllDistinct};
 ghost use Rattle.tor_arena.specs.Limits.{max_numbers, max_paths, max_ratio};
+ghost use Rattle.relationships.specs.Checking.{kept_of};
 ghost use Rattle.relationships.specs.Fates.{walk_of};
+ghost use Rattle.relationships.specs.Graph.{edges};
 ghost use Rattle.relationships.specs.Selection.{KeepsFrom};
 ghost use Rattle.as_graph.specs.Paths.{paths_at};
-ghost use Rattle.tor_clauses.specs.Formulas.{FitsGraph};
+ghost use Rattle.tor_clauses.specs.Formulas.{FitsGraph, IsServed, numbered};
 ghost use Rattle.path_select.specs.Behind.{places_from};
 ghost use Rattle.path_select.specs.Offers.{HasKeptBehind};
 ghost use Rattle.result_text.specs.Text.{its_givens};
@@ -20,10 +22,10 @@ ghost use Rattle.rel_infer.specs.Returns.{IsUnlinked};
 
 use crate::inferring::{Inferred, inferred_by, relinked_if_given};
 use crate::result::{ResultHead, given_slice, result_by};
-use crate::taking_up::{Started, started_in};
+use crate::taking_up::{KeptFirst, Started, started_in};
 use as_graph::AsGraph;
 use path_clean::{Asides, PathTable, Sets};
-use path_select::{Selection, select_rest};
+use path_select::{Selection, Selector, select_rest};
 use relationships::{Fates, Given};
 use result_text::ResultFile;
 use std::alloc::Global;
@@ -106,10 +108,27 @@ fn inferred_past(
         (AreInferredIn ratio graph.now (places_from count (length graph.now - count)) count selection.fates) }
 {
     select_past(alloc, keys, graph, count, &mut selection)?;
-    inferred_by(alloc, graph, selection, graph.path_count() - count, ratio)
+    inferred_by(alloc, graph, selection, count, ratio)
 }
 
-// The same of a graph and a selector that are owned.
+// A selector that keeps these of the paths of a graph, none of which is offered.
+fn selector_of(
+    alloc: Global,
+    keys: Keys,
+    graph: &AsGraph,
+    first: KeptFirst,
+) -> Result<Selector, NoMemory>
+    requires there { All (λ path. path < length graph.now) first.places }
+    requires many { length first.ends ≡ length (edges graph.now) }
+    requires served { IsServed graph.now first.places first.ends }
+    ensures fits { IfOk result (λ selector. FitsGraph graph.now selector.formula) }
+    ensures kept { IfOk result (λ selector. selector.formula.paths ≡ first.places) }
+{
+    let KeptFirst { places, ends } = first;
+    Selector::resumed(alloc, keys, graph, places.as_slice(), ends)
+}
+
+// The same of a graph that is owned, and of what is kept of it first.
 fn inferred_on(
     alloc: Global,
     keys: Keys,
@@ -118,8 +137,12 @@ fn inferred_on(
     count: usize,
     ratio: u32,
 ) -> Result<Inferred, NoMemory>
-    requires fits { FitsGraph started.graph started.selector.formula }
-    requires kept { HasKeptBehind started.graph (places_from count (length started.graph - count)) (length fates) started.selector fates }
+    requires there { All (λ path. path < length started.graph) started.first.places }
+    requires many { length started.first.ends ≡ length (edges started.graph) }
+    requires served { IsServed started.graph started.first.places started.first.ends }
+    requires kept { numbered started.graph started.first.places ≡
+        numbered started.graph (places_from count (length started.graph - count)) ++
+        kept_of (take (length fates) started.graph) (map walk_of fates) }
     requires keeps { KeepsFrom (paths_at started.graph (places_from count (length started.graph - count)))
         (take (length fates) started.graph) (map is_none (map walk_of fates)) }
     requires begun { length fates ≤ count }
@@ -129,7 +152,8 @@ fn inferred_on(
     ensures { IfOk result
         (AreInferredIn ratio started.graph (places_from count (length started.graph - count)) count fates) }
 {
-    let Started { graph, selector } = started;
+    let Started { graph, first } = started;
+    let selector = selector_of(alloc, keys, &graph, first)?;
     let selection = Selection { fates, selector };
     inferred_past(alloc, keys, &graph, selection, count, ratio)
 }
@@ -173,6 +197,7 @@ fn resumed_behind(
         (λ resumed. IsUnlinked (its_givens earlier) ratio paths.now (its_fates earlier) numbers.new resumed.inferred) }
 {
     let started = started_in(alloc, keys, paths, &earlier, numbers)?;
+    // the paths and lines of the result are let go before the clauses of its kept paths are made
     let parts = parts_of(earlier);
     let inferred = inferred_on(alloc, keys, started, parts.fates, paths.len(), ratio)?;
     Ok(Resumed {

@@ -3,8 +3,9 @@ ghost use Rattle.std.specs.Prelude.{◌≡◌, ◌-◌, ◌≤◌, ◌<◌, ◌+
 ghost use Rattle.tor_arena.specs.Distinct.{AllDistinct};
 ghost use Rattle.tor_arena.specs.Limits.{max_numbers, max_paths};
 ghost use Rattle.relationships.specs.Givens.{returns};
+ghost use Rattle.relationships.specs.Graph.{edges};
 ghost use Rattle.as_graph.specs.Paths.{paths_at};
-ghost use Rattle.tor_clauses.specs.Formulas.{FitsGraph, numbered, numbered_of};
+ghost use Rattle.tor_clauses.specs.Formulas.{IsServed, numbered};
 ghost use Rattle.path_select.specs.Behind.{places_from};
 ghost use Rattle.result_text.specs.Text.{its_givens};
 ghost use Rattle.result_rules.specs.Rules.{Accepts};
@@ -15,20 +16,29 @@ ghost use Rattle.rel_infer.specs.Returns.{numbers_from};
 
 use crate::result::given_slice;
 use crate::returns::numbers_of;
-use as_graph::{AsGraph, build_with};
-use path_select::{Selector, places_behind};
+use as_graph::{AsGraph, Orientation, build_with};
+use path_select::places_behind;
 use result_text::ResultFile;
 use resume::{kept_orientation, kept_places};
 use std::alloc::Global;
 use tor_arena::{Keys, List, NoMemory, PathId, Rows};
 
-/// The graph of all paths and, behind these, of returns, and a selector that keeps returns and kept paths of an earlier result.
+/// What is kept before a path is offered: returns and kept paths of an earlier result.
+#[derive(Drop)]
+pub(crate) struct KeptFirst {
+    /// Their places in the graph.
+    pub places: List<PathId>,
+    /// An orientation that serves them.
+    pub ends: Orientation,
+}
+
+/// The graph of all paths and, behind these, of returns, and what is kept of it first.
 #[derive(Drop)]
 pub(crate) struct Started {
     /// The graph.
     pub graph: AsGraph,
-    /// The selector.
-    pub selector: Selector,
+    /// What is kept first.
+    pub first: KeptFirst,
 }
 
 // The places of what is kept before a path is offered: the rows behind so many paths, which are the returns, and then the kept paths of an
@@ -50,28 +60,29 @@ fn places_first(
     Ok(places)
 }
 
-// A selector that keeps these, by an orientation that the labels of the earlier result give.
-fn selector_over(
+// These places, and an orientation that the labels of the earlier result give.
+fn kept_over(
     alloc: Global,
-    keys: Keys,
     graph: &AsGraph,
     count: usize,
     earlier: &ResultFile,
-) -> Result<Selector, NoMemory>
+) -> Result<KeptFirst, NoMemory>
     requires accepted { Accepts earlier.now }
     requires begins { BeginsWithPathsOf graph.now earlier.now }
     requires count { count ≤ length graph.now }
     requires behind { paths_at graph.now (places_from count (length graph.now - count)) ≡ returns graph.now (its_givens earlier.now) }
-    ensures fits { IfOk result (λ selector. FitsGraph graph.now selector.formula) }
-    ensures kept { IfOk result (λ selector. numbered_of graph.now selector.formula ≡ kept_first graph.now count earlier.now) }
+    ensures there { IfOk result (λ first. All (λ path. path < length graph.now) first.places) }
+    ensures many { IfOk result (λ first. length first.ends ≡ length (edges graph.now)) }
+    ensures served { IfOk result (λ first. IsServed graph.now first.places first.ends) }
+    ensures kept { IfOk result (λ first. numbered graph.now first.places ≡ kept_first graph.now count earlier.now) }
 {
     let places = places_first(alloc, graph, count, earlier)?;
     let ends = kept_orientation(alloc, graph, earlier)?;
-    Selector::resumed(alloc, keys, graph, places.as_slice(), ends)
+    Ok(KeptFirst { places, ends })
 }
 
-/// The graph of all paths and of returns, and that selector. The numbers of the givens of these returns are added, where there are none
-/// yet.
+/// The graph of all paths and of returns, and what is kept of it first. The numbers of the givens of these returns are added, where there
+/// are none yet.
 pub(crate) fn started_in(
     alloc: Global,
     keys: Keys,
@@ -88,14 +99,16 @@ pub(crate) fn started_in(
     requires begins { BeginsWithPathsOf paths.now earlier.now }
     requires none { numbers.old ≡ [] }
     ensures graph { IfOk result (λ started. started.graph ≡ paths.now ++ returns paths.now (its_givens earlier.now)) }
-    ensures fits { IfOk result (λ started. FitsGraph started.graph started.selector.formula) }
-    ensures kept { IfOk result (λ started. numbered_of started.graph started.selector.formula ≡
+    ensures there { IfOk result (λ started. All (λ path. path < length started.graph) started.first.places) }
+    ensures many { IfOk result (λ started. length started.first.ends ≡ length (edges started.graph)) }
+    ensures served { IfOk result (λ started. IsServed started.graph started.first.places started.first.ends) }
+    ensures kept { IfOk result (λ started. numbered started.graph started.first.places ≡
         kept_first started.graph (length paths.now) earlier.now) }
     ensures numbers { OnOk result (numbers.new ≡ numbers_from paths.now 1 (its_givens earlier.now)) }
 {
     let givens = given_slice(&earlier.givens);
     let graph = build_with(alloc, keys, paths, givens)?;
     numbers_of(&graph, givens, numbers)?;
-    let selector = selector_over(alloc, keys, &graph, paths.len(), earlier)?;
-    Ok(Started { graph, selector })
+    let first = kept_over(alloc, &graph, paths.len(), earlier)?;
+    Ok(Started { graph, first })
 }

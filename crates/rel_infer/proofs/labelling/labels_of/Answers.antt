@@ -1,6 +1,5 @@
-use Rattle.std.proofs.Common.{◌∙◌, ◌↔◌, List, All, Contains, IfOk, sym, ap, subst}
-use Rattle.std.proofs.lemmas.Result.{IfOk-weaker}
-use Rattle.relationships.specs.declared.label.Label.{Label}
+use Rattle.std.proofs.Common.{◌∙◌, ◌↔◌, ◌<◌, List, All, Contains, length, map, sym, ap, subst}
+use Rattle.tor_arena.specs.Distinct.{AllDistinct}
 use Rattle.relationships.specs.Relationship.{ValleyFree, Serves}
 use Rattle.relationships.specs.Graph.{Edge, edges, labelling, orientation, degree}
 use Rattle.relationships.specs.Preference.{ServeEitherWay, NoneLeftOut}
@@ -17,10 +16,18 @@ orient-requires-clause-servable c =
     subst (λ (f : Formula). IsServable (demands_of c.args.graph.now f)) (sym c.clauses.ensures)
     (c.kept-kept.ensures.served c.args.graph.now c.facts.ensures.apart c.requires.fits)
 
+pub orient-requires-clause-inside : goal.orient-requires-clause-inside
+orient-requires-clause-inside c =
+    subst (All (λ (pref : Pref). pref.edge < length (edges c.args.graph.now))) (sym c.as_slice.ensures) c.in_ok-voted.ensures.prefs.inside
+
+pub orient-requires-clause-apart : goal.orient-requires-clause-apart
+orient-requires-clause-apart c =
+    subst (λ (l : List Pref). AllDistinct (map (λ (pref : Pref). pref.edge) l)) (sym c.as_slice.ensures) c.in_ok-voted.ensures.prefs.apart
+
 pub orient-requires-clause-each : goal.orient-requires-clause-each
 orient-requires-clause-each c =
     let es = edges c.args.graph.now in
-    subst (λ (l : List Pref). (e : Edge) → Contains es e ↔ Contains (edges_preferred es l) e) (sym c.as_slice.ensures) c.in_ok-prefs.ensures.order.each
+    subst (λ (l : List Pref). (e : Edge) → Contains es e ↔ Contains (edges_preferred es l) e) (sym c.as_slice.ensures) c.in_ok-voted.ensures.prefs.order.each
 
 pub relabel-requires-clause-served : goal.relabel-requires-clause-served
 relabel-requires-clause-served c =
@@ -31,23 +38,22 @@ pub returns-clause-labels : goal.returns-clause-labels
 returns-clause-labels c =
     let graph = c.args.graph.now in
     let same = ap (λ (f : Formula). f.paths) c.clauses.ensures in
-    IfOk-weaker c.relabel.result _ _ (λ (labels : List Label) relabelled.
-    labels_from c.args.ratio graph c.args.selector.now.formula.paths c.kept-kept.result.now c.clauses.result.now.paths c.args.counted.now c.in_ok-prefs.prefs c.as_slice.result.now
-    c.in_ok-ends.ends labels c.kept-kept.ensures.paths same c.as_slice.ensures c.in_ok-prefs.ensures.order c.in_ok-prefs.ensures.wanted c.in_ok-ends.ensures.wishes relabelled)
-    c.relabel.ensures.relabelled
+    labels_from c.args.ratio graph c.args.selector.now.formula.paths c.kept-kept.result.now c.clauses.result.now.paths c.args.counted.now c.in_ok-voted.voted.prefs c.as_slice.result.now
+    c.in_ok-ends.ends c.in_ok-labels.labels c.kept-kept.ensures.paths same c.as_slice.ensures c.in_ok-voted.ensures.prefs.order c.in_ok-voted.ensures.prefs.wants c.in_ok-ends.ensures.wishes
+    c.in_ok-labels.ensures.relabelled
 
 pub returns-clause-valley_free : goal.returns-clause-valley_free
 returns-clause-valley_free c =
     let graph = c.args.graph.now in
-    subst (λ places. IfOk c.relabel.result (λ labels. All (ValleyFree (labelling (edges graph) labels)) (paths_at graph places))) c.kept-kept.ensures.paths c.relabel.ensures.valley_free
+    subst (λ places. All (ValleyFree (labelling (edges graph) c.in_ok-labels.labels)) (paths_at graph places)) c.kept-kept.ensures.paths c.in_ok-labels.ensures.valley_free
 
 pub returns-clause-either_way : goal.returns-clause-either_way
 returns-clause-either_way c =
     let graph = c.args.graph.now in
-    subst (λ places. IfOk c.relabel.result (λ labels. ServeEitherWay (labelling (edges graph) labels) (paths_at graph places))) c.kept-kept.ensures.paths c.relabel.ensures.either_way
+    subst (λ places. ServeEitherWay (labelling (edges graph) c.in_ok-labels.labels) (paths_at graph places)) c.kept-kept.ensures.paths c.in_ok-labels.ensures.either_way
 
 pub returns-clause-none_left_out : goal.returns-clause-none_left_out
 returns-clause-none_left_out c =
     let graph = c.args.graph.now in
-    subst (λ places. IfOk c.relabel.result (λ labels. NoneLeftOut (degree graph) c.args.ratio (paths_at graph places) (edges graph) (labelling (edges graph) labels))) c.kept-kept.ensures.paths
-    c.relabel.ensures.none_left_out
+    subst (λ places. NoneLeftOut (degree graph) c.args.ratio (paths_at graph places) (edges graph) (labelling (edges graph) c.in_ok-labels.labels)) c.kept-kept.ensures.paths
+    c.in_ok-labels.ensures.none_left_out

@@ -1,7 +1,9 @@
+use Rattle.std.proofs.Common.{◌∙◌, ap}
+use Rattle.tor_clauses.specs.Formulas.{numbered}
 use Rattle.rel_infer.proofs.resuming.inferred_on.Goals as goal
 
 pub inferred_past-requires-clause-kept : goal.inferred_past-requires-clause-kept
-inferred_past-requires-clause-kept c = c.requires.kept
+inferred_past-requires-clause-kept c = ap (numbered c.args.started.graph) c.in_ok-selector.ensures.kept ∙ c.requires.kept
 
 pub inferred_past-requires-clause-keeps : goal.inferred_past-requires-clause-keeps
 inferred_past-requires-clause-keeps c = c.requires.keeps

@@ -17,7 +17,7 @@ inferred_on-requires-clause-kept c =
     let same = c.in_ok-started.ensures.graph in
     let n = c.len.result in
     let many = c.len.ensures.length in
-    kept_there earlier paths graph c.requires.begins same c.parts_of-parts.result.fates c.parts_of-parts.ensures.fates n many c.in_ok-started.started.selector c.in_ok-started.ensures.kept
+    kept_there earlier paths graph c.requires.begins same c.parts_of-parts.result.fates c.parts_of-parts.ensures.fates n many c.in_ok-started.started.first.places c.in_ok-started.ensures.kept
 
 pub inferred_on-requires-clause-keeps : goal.inferred_on-requires-clause-keeps
 inferred_on-requires-clause-keeps c =

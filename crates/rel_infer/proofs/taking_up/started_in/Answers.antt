@@ -1,7 +1,7 @@
 use Rattle.std.proofs.Common.{◌≡◌, ◌≤◌, ◌++◌, ◌∙◌, List, length, refl, sym, ap, subst, arith}
 use Rattle.relationships.specs.declared.given.Given.{Given}
 use Rattle.relationships.specs.Givens.{returns, NameTwo, NameOnce}
-use Rattle.tor_clauses.specs.Formulas.{numbered_of}
+use Rattle.tor_clauses.specs.Formulas.{numbered}
 use Rattle.result_text.specs.Text.{its_givens}
 use Rattle.rel_infer.specs.GivenResults.{max_givens}
 use Rattle.rel_infer.specs.Resumed.{kept_first}
@@ -32,16 +32,16 @@ numbers_of-requires-clause-few c =
     let givens : c.given_slice-givens.result.now ≡ its_givens earlier = c.given_slice-givens.ensures ∙ same_givens earlier earlier.givens refl in
     subst (λ (gs : List Given). length gs ≤ max_givens) (sym givens) c.requires.few_givens
 
-pub selector_over-requires-clause-begins : goal.selector_over-requires-clause-begins
-selector_over-requires-clause-begins c =
+pub kept_over-requires-clause-begins : goal.kept_over-requires-clause-begins
+kept_over-requires-clause-begins c =
     let earlier = c.args.earlier.now in
     let paths = c.args.paths.now in
     let givens : c.given_slice-givens.result.now ≡ its_givens earlier = c.given_slice-givens.ensures ∙ same_givens earlier earlier.givens refl in
     let same = c.in_ok-graph.ensures ∙ ap (λ (gs : List Given). paths ++ returns paths gs) givens in
     graph_begins earlier paths c.in_ok-graph.graph c.requires.begins same
 
-pub selector_over-requires-clause-count : goal.selector_over-requires-clause-count
-selector_over-requires-clause-count c =
+pub kept_over-requires-clause-count : goal.kept_over-requires-clause-count
+kept_over-requires-clause-count c =
     let earlier = c.args.earlier.now in
     let paths = c.args.paths.now in
     let givens : c.given_slice-givens.result.now ≡ its_givens earlier = c.given_slice-givens.ensures ∙ same_givens earlier earlier.givens refl in
@@ -50,8 +50,8 @@ selector_over-requires-clause-count c =
     let n = c.len.ensures.length in
     omega (arith, sum, n)
 
-pub selector_over-requires-clause-behind : goal.selector_over-requires-clause-behind
-selector_over-requires-clause-behind c =
+pub kept_over-requires-clause-behind : goal.kept_over-requires-clause-behind
+kept_over-requires-clause-behind c =
     let earlier = c.args.earlier.now in
     let paths = c.args.paths.now in
     let givens : c.given_slice-givens.result.now ≡ its_givens earlier = c.given_slice-givens.ensures ∙ same_givens earlier earlier.givens refl in
@@ -67,8 +67,7 @@ returns-clause-graph c =
 
 pub returns-clause-kept : goal.returns-clause-kept
 returns-clause-kept c =
-    subst (λ n. numbered_of c.in_ok-graph.graph c.in_ok-selector.selector.formula ≡ kept_first c.in_ok-graph.graph n c.args.earlier.now) c.len.ensures.length
-    c.in_ok-selector.ensures.kept
+    subst (λ n. numbered c.in_ok-graph.graph c.in_ok-first.first.places ≡ kept_first c.in_ok-graph.graph n c.args.earlier.now) c.len.ensures.length c.in_ok-first.ensures.kept
 
 pub returns-clause-numbers : goal.returns-clause-numbers
 returns-clause-numbers c =
