@@ -2,11 +2,12 @@
 
 hostile.py TOR TORCHECK YARDSTICK [RUNS]
 
-TOR is any program that takes `--list DUMP` and `DUMP`, TORCHECK one that takes `RESULT`, and YARDSTICK one that takes `--list DUMP` and
-`--check RESULT`. `-` in place of TOR or TORCHECK leaves its rows out. Each row is run RUNS times (3), both programs in turn, and says the
-least processor time, the greatest peak memory, and their ratios; for a result also how the memory compares with the file, and for a dump
-how the time compares with that on as many random paths. At last TOR alone infers, on dumps of which one is twice the size of the other: a
-row says how much longer it takes for that. Of less memory than some 14 MiB, which this script has itself, it can't tell.
+TOR is any program that takes `--list DUMP` and `DUMP`, TORCHECK one that takes `RESULT`, and YARDSTICK one that takes `--list DUMP`,
+`DUMP` and `--check RESULT`. `-` in place of TOR or TORCHECK leaves its rows out. Each row is run RUNS times (3), both programs in turn, and
+says the least processor time, the greatest peak memory, and their ratios; for a result also how the memory compares with the file, and for
+a dump how the time compares with that on as many random paths. At last results are made of dumps of which one is twice the size of the
+other: a row says how much longer TOR takes for that, and for marks also how its time, the length of its text and the number of its open
+lines on the larger one compare with the yardstick's. Of less memory than some 14 MiB, which this script has itself, it can't tell.
 """
 
 import os
@@ -190,14 +191,39 @@ def turned_chains(count):
     return paths
 
 
+def fails_before_a_chain(count):
+    """By turns paths that force an edge, and one whose first order leads along one chain."""
+    fresh = iter(range(2000001, 3000000))
+    chain = list(range(1000001, 1000001 + 2 * count))
+    paths = pieces(chain)
+    for _ in range(count):
+        paths += forced_over(fresh, next(fresh), [])
+        paths.append([next(fresh), *chain[:2]])
+    return paths
+
+
+def fails_behind_a_hub(count):
+    """Paths that force as many edges, each by a short walk that is found behind an AS with as many customers."""
+    low, hub, high = 1000001, 1000002, 1000003
+    paths = [[low, hub, high], [hub, high, low]] + [[low, hub, leaf] for leaf in range(2000001, 2000001 + count)]
+    for edge in range(3000001, 3000001 + count):
+        paths += [[edge, low, hub], [high, low, edge]]
+    return paths
+
+
+def long_paths(count):
+    """Paths of 500 ASes that have none in common: each can be turned as a whole."""
+    return [list(range(start, start + 500)) for start in range(1000001, 1000001 + 500 * count, 500)]
+
+
 def dump(paths):
     """A TABLE_DUMP_V2 dump with one route for each path."""
     peers = struct.pack(">IHHB4s4sI", 0, 0, 1, 2, bytes(4), bytes([192, 0, 2, 1]), 10)
     records = [struct.pack(">IHHI", 0, 13, 1, len(peers)) + peers]
     for place, path in enumerate(paths):
-        segments = b"".join(struct.pack(f">BB{len(part)}I", 2, len(part), *part)
-                            for part in (path[start:start + 255] for start in range(0, len(path), 255)))
-        attributes = bytes([0x40, 1, 1, 0, 0x50, 2]) + struct.pack(">H", len(segments)) + segments
+        parts = [path[start:start + 255] for start in range(0, len(path), 255)]
+        segments = b"".join(struct.pack(f">BB{len(part)}I", 2, len(part), *part) for part in parts)
+        attributes = bytes([0x40, 1, 1, 0]) + struct.pack(">BBH", 0x50, 2, len(segments)) + segments
         body = struct.pack(">IB3sHHIH", place, 24, place.to_bytes(3, "big"), 1, 0, 0, len(attributes)) + attributes
         records.append(struct.pack(">IHHI", 0, 13, 2, len(body)) + body)
     return b"".join(records)
@@ -273,6 +299,26 @@ def lists(folder, tor, yardstick, runs):
         print(f"    the chosen paths take {slow / max(plain, 0.001):.2f} times as long")
 
 
+def marks(folder, tor, yardstick, runs):
+    rows = [
+        ("edges that are forced by turns with orders that lead along one chain", fails_before_a_chain, 5000),
+        ("edges that are forced behind a wide hub", fails_behind_a_hub, 5000),
+        ("long paths that have nothing in common", long_paths, 1000),
+    ]
+    for name, paths_of, count in rows:
+        least = []
+        for size in (count, 2 * count):
+            file = made(folder, "asked", lambda: dump(paths_of(size)))
+            found = [[run([program, file]) for _ in range(runs)] for program in (tor, yardstick)]
+            least.append([min(seconds for seconds, _, _ in times) for times in found])
+        texts = [times[0][2] for times in found]
+        opens = [text.count(b"\nopen|") for text in texts]
+        print(f"{name}, {count:,} and {2 * count:,}: {least[0][0]:.3f} s and {least[1][0]:.3f} s, "
+              f"{least[1][0] / max(least[0][0], 0.001):.1f} times as long, yardstick {least[1][1]:.3f} s, "
+              f"ratios {least[1][0] / max(least[1][1], 0.001):.2f}, text {len(texts[0]) / len(texts[1]):.2f}, "
+              f"open lines {opens[0] / max(opens[1], 1):.2f}", flush=True)
+
+
 def infers(folder, tor, runs):
     rows = [
         ("wishes that fail along one chain", failing_wishes, 5000),
@@ -296,6 +342,7 @@ def main():
         if tor != "-":
             lists(folder, tor, yardstick, runs)
             infers(folder, tor, runs)
+            marks(folder, tor, yardstick, runs)
 
 
 if __name__ == "__main__":

@@ -1,11 +1,11 @@
 -- Lists of claims, orders, walks and probes that grow by one.
-use Rattle.std.proofs.Common.{◌≡◌, ℕ, zero, suc, ◌⊎◌, inl, inr, List, [], ◌∷◌, ◌++◌, Some, length, get_or, refl, sym, ap, ap₂, subst, append_assoc, append-nil, All}
+use Rattle.std.proofs.Common.{◌≡◌, ℕ, zero, suc, ◌⊎◌, inl, inr, List, [], ◌∷◌, ◌++◌, Some, refl, sym, ap, ◌∙◌, subst, append_assoc, append-nil}
 use Rattle.std.specs.Prelude.{slice_get, Any, Contains}
 use Rattle.relationships.specs.declared.label.Label.{Label}
 use Rattle.relationships.specs.declared.walk.Walk.{Walk}
 use Rattle.relationships.specs.Graph.{Edge}
-use Rattle.relationships.specs.Evidence.{Numbered, Shows, ShowFrom, Closure}
-use Rattle.relationships.specs.Checking.{Claim, IsBorneOut, IsProbe, ProbesFrom}
+use Rattle.relationships.specs.Evidence.{Numbered, Shows, ShowFrom}
+use Rattle.relationships.specs.Checking.{Claim, IsProbe, ProbesFrom}
 use Rattle.tor_digraph.proofs.Members.{Contains-more, Contains-last, Contains-one_more}
 use Rattle.relationships.specs.declared.mark.Mark.{Mark}
 use Rattle.relationships.specs.Marking.{claim_of, claims_of}
@@ -25,26 +25,7 @@ pub Any-one_more : {X : Type 0} (P : X → Type 0) (xs : List X) (y : X) → Any
 Any-one_more P xs y h =
     elim (Contains-one_more xs y h.1 (h.0, h.2, h.3)) [ inl old ↦ inl (Any-of P xs h.1 old h.4) | inr new ↦ inr (subst P new h.4) ]
 
-pub All-weaker : {X : Type 0} (P Q : X → Type 0) (xs : List X) → ((x : X) → P x → Q x) → All P xs → All Q xs
-All-weaker P Q xs f h = λ k d lt. f (get_or xs k d) (h k d lt)
-
 -- ---- claims
-
-pub no_claims : (es : List Edge) (labels : List Label) → claims_of es labels [] ≡ []
-no_claims [] labels = refl
-no_claims (e ∷ es) [] = refl
-no_claims (e ∷ es) (l ∷ labels) = refl
-
-pub claims_more : (es : List Edge) (labels : List Label) (marks : List Mark) (mark : Mark) (e : Edge) (label : Label) →
-    slice_get es (length marks) ≡ Some e → slice_get labels (length marks) ≡ Some label →
-    claims_of es labels (marks ++ mark ∷ []) ≡ claims_of es labels marks ++ claim_of e label mark ∷ []
-claims_more [] labels marks mark e label at there = absurd (cc at)
-claims_more (f ∷ es) [] marks mark e label at there = absurd (cc there)
-claims_more (f ∷ es) (l ∷ labels) [] mark e label at there =
-    let same : f ≡ e = cc at in
-    let too : l ≡ label = cc there in
-    ap₂ (λ (d : Claim) (cs : List Claim). d ∷ cs) (ap₂ (λ (g : Edge) (k : Label). claim_of g k mark) same too) (no_claims es labels)
-claims_more (f ∷ es) (l ∷ labels) (m ∷ marks) mark e label at there = ap (λ (cs : List Claim). claim_of f l m ∷ cs) (claims_more es labels marks mark e label at there)
 
 -- the claim at a place is of the edge there, with its label
 pub claim_at : (es : List Edge) (labels : List Label) (marks : List Mark) (k : ℕ) (c : Claim) → slice_get (claims_of es labels marks) k ≡ Some c →
@@ -56,6 +37,30 @@ claim_at (e ∷ es) (l ∷ labels) (m ∷ marks) zero c at =
     let same : claim_of e l m ≡ c = cc at in
     subst (λ (d : Claim). (Some e ≡ Some (d.low, d.high)) × (Some l ≡ Some d.label)) same (refl, refl)
 claim_at (e ∷ es) (l ∷ labels) (m ∷ marks) (suc k) c at = claim_at es labels marks k c at
+
+-- and with its mark
+pub claim_parts : (es : List Edge) (labels : List Label) (marks : List Mark) (k : ℕ) (c : Claim) → slice_get (claims_of es labels marks) k ≡ Some c →
+    (mark : Mark) × (slice_get marks k ≡ Some mark) × (c ≡ claim_of (c.low, c.high) c.label mark)
+claim_parts [] labels marks k c at = absurd (cc at)
+claim_parts (e ∷ es) [] marks k c at = absurd (cc at)
+claim_parts (e ∷ es) (l ∷ labels) [] k c at = absurd (cc at)
+claim_parts (e ∷ es) (l ∷ labels) (m ∷ marks) zero c at =
+    let same : claim_of e l m ≡ c = cc at in
+    (m, refl, subst (λ (d : Claim). d ≡ claim_of (d.low, d.high) d.label m) same refl)
+claim_parts (e ∷ es) (l ∷ labels) (m ∷ marks) (suc k) c at = claim_parts es labels marks k c at
+
+-- the edge at a place has its claim there
+pub claims_have : (es : List Edge) (labels : List Label) (marks : List Mark) (k : ℕ) (e : Edge) (label : Label) (mark : Mark) → slice_get es k ≡ Some e →
+    slice_get labels k ≡ Some label → slice_get marks k ≡ Some mark → slice_get (claims_of es labels marks) k ≡ Some (claim_of e label mark)
+claims_have [] labels marks k e label mark at there is = absurd (cc at)
+claims_have (f ∷ es) [] marks k e label mark at there is = absurd (cc there)
+claims_have (f ∷ es) (l ∷ labels) [] k e label mark at there is = absurd (cc is)
+claims_have (f ∷ es) (l ∷ labels) (m ∷ marks) zero e label mark at there is =
+    let one : f ≡ e = cc at in
+    let two : l ≡ label = cc there in
+    let three : m ≡ mark = cc is in
+    ap (λ (g : Edge). Some (claim_of g l m)) one ∙ ap (λ (g : Label). Some (claim_of e g m)) two ∙ ap (λ (g : Mark). Some (claim_of e label g)) three
+claims_have (f ∷ es) (l ∷ labels) (m ∷ marks) (suc k) e label mark at there is = claims_have es labels marks k e label mark at there is
 
 -- ---- walks
 
@@ -79,29 +84,3 @@ module _ (kept : List (List ℕ)) where
     h.0,
     ProbesFrom-push claims (earlier ++ q ∷ []) probes p h.1 (subst (λ l. IsProbe kept claims l p) (sym (append_assoc earlier (q ∷ []) probes)) is),
   )
-
-  pub ProbesFrom-more : (claims more : List Claim) (earlier probes : List (ℕ × ℕ)) → ProbesFrom kept claims earlier probes →
-      ProbesFrom kept (claims ++ more) earlier probes
-  ProbesFrom-more claims more earlier [] h = tt
-  ProbesFrom-more claims more earlier (p ∷ probes) h = (
-    record {
-      consistent = h.0.consistent;
-      claim = h.0.claim;
-      claimed = Contains-more claims more h.0.claim h.0.claimed;
-      is_open = h.0.is_open;
-      over = h.0.over;
-      under = h.0.under;
-      other = h.0.other;
-      reached = h.0.reached;
-      new = h.0.new;
-    },
-    ProbesFrom-more claims more (earlier ++ p ∷ []) probes h.1,
-  )
-
-  -- what is borne out stays so
-  pub IsBorneOut-more : (orders more probes further : List (ℕ × ℕ)) (c : Claim) → IsBorneOut kept orders probes c → IsBorneOut kept (orders ++ more) (probes ++ further) c
-  IsBorneOut-more orders more probes further c (inl (t, inl i)) = inl (t, inl (Contains-more orders more (c.low, c.high) i))
-  IsBorneOut-more orders more probes further c (inl (t, inr i)) = inl (t, inr (Contains-more orders more (c.high, c.low) i))
-  IsBorneOut-more orders more probes further c (inr (inl peer)) = inr (inl peer)
-  IsBorneOut-more orders more probes further c (inr (inr (f, (over, under, other, any)))) =
-      inr (inr (f, (over, under, other, Any-more (λ p. Closure kept p.0 p.1 over under) probes further any)))

@@ -15,6 +15,10 @@ against edge Label.Low = Some (node_of (record { edge = edge; over = End.High })
 against edge Label.High = Some (node_of (record { edge = edge; over = End.Low }))
 against edge Label.Peer = None
 
+-- the node is that of the order against the label of this edge
+abbrev pub IsAgainstAt : List Label → ℕ → ℕ → Type 0
+IsAgainstAt labels edge n = (label : Label) × (slice_get labels edge ≡ Some label) × (against edge label ≡ Some n)
+
 -- the node is that of the order against the label of some edge
 abbrev pub IsAgainst : List Label → ℕ → Type 0
 IsAgainst labels n = (edge : ℕ) × (label : Label) × (slice_get labels edge ≡ Some label) × (against edge label ≡ Some n)
@@ -22,6 +26,12 @@ IsAgainst labels n = (edge : ℕ) × (label : Label) × (slice_get labels edge �
 -- the list with the node, if it is such a one
 abbrev pub IsChoice : List Label → ℕ → List ℕ → List ℕ → Type 0
 IsChoice labels n old new = (IsAgainst labels n × (new ≡ old ++ n ∷ [])) ⊎ ((IsAgainst labels n → ⊥) × (new ≡ old))
+
+-- these are all orders against the labels, and no others
+pub record AreCandidates (posed : Posed) (nodes : List ℕ) : Type 0 where
+  pub inside : All (λ n. n < posed.formula.net.nodes) nodes
+  pub only : All (IsAgainst posed.labels) nodes
+  pub all : (n : ℕ) → IsAgainst posed.labels n → Contains nodes n
 
 -- ---- the search
 
@@ -33,6 +43,7 @@ OnStack stack n = (k : ℕ) × (o : Entered) × (slice_get stack k ≡ Some o) �
 pub record IsInDepth (posed : Posed) (found : DepthSearch) : Type 0 where
   pub many : found.seen.count ≡ posed.formula.net.nodes
   pub inside : All (λ n. n < posed.formula.net.nodes) found.chosen
+  pub only : All (IsAgainst posed.labels) found.chosen
   pub opens : (k : ℕ) (o : Entered) → slice_get found.stack k ≡ Some o → o.node < posed.formula.net.nodes
   pub each : (n : ℕ) → IsAgainst posed.labels n → Contains found.seen.items n → Contains found.chosen n ⊎ OnStack found.stack n
 

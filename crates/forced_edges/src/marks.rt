@@ -1,10 +1,7 @@
-//! Marks, why walks and probes, as they are made.
-ghost use Rattle.std.specs.Prelude.{◌≡◌, OnOk};
-ghost use Rattle.forced_edges.specs.Findings.{with_finding};
+//! Marks, why walks and probes.
 
-use crate::finding::Finding;
 use relationships::{Mark, Probe, Walks};
-use tor_arena::{List, NoMemory};
+use tor_arena::List;
 
 /// The marks of the edges of a graph, in order, and what bears them out.
 #[derive(Drop)]
@@ -17,21 +14,4 @@ pub struct Marks {
     /// Orders against the labels of open edges, such that each open edge that is no peering has the order against its label in the
     /// closure of one of them.
     pub probes: List<Probe>,
-}
-
-impl Marks {
-    /// Adds the mark of one edge more, with its evidence.
-    pub(crate) fn add(&mut self, finding: Finding) -> Result<(), NoMemory>
-        ensures { OnOk result (self.new ≡ with_finding self.old finding) }
-    {
-        match finding {
-            Finding::Open => self.marks.push(Mark::Open)?,
-            Finding::Forced => self.marks.push(Mark::Forced)?,
-            Finding::Probed(probe) => {
-                self.marks.push(Mark::Open)?;
-                self.probes.push(probe)?;
-            }
-        }
-        Ok(())
-    }
 }

@@ -31,21 +31,17 @@ const MARKS_OF_TWO: &[Mark] = &[
 
 const PROBES_OF_TWO: &[Probe] = &[
     Probe {
-        over: 30,
-        under: 40,
+        over: 60,
+        under: 10,
     },
     Probe {
         over: 20,
         under: 30,
     },
-    Probe {
-        over: 60,
-        under: 10,
-    },
 ];
 
 static OF_THREE_PATHS: [Case; 2] = [
-    // with a peering
+    // with a peering; the second probe leads to the order against the first label
     Case {
         kept: 2,
         labels: &[
@@ -61,7 +57,7 @@ static OF_THREE_PATHS: [Case; 2] = [
         whys: 3,
         probes: PROBES_OF_TWO,
     },
-    // without it: a probe leads to the order against the second label
+    // without it: that probe leads to the order against the second label too
     Case {
         kept: 2,
         labels: &[

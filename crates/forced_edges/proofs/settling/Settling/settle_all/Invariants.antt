@@ -6,7 +6,7 @@ use Rattle.forced_edges.proofs.settling.Settling.settle_all.Given as goal
 abbrev pub invariant-loop-alloc : goal.invariant-loop-alloc
 invariant-loop-alloc l = record {
   settling : IsSettling l.problem l.self;
-  under_way : IsUnderWay l.problem l.fn.nodes l.self.shown l.waiting;
+  under_way : IsUnderWay l.problem l.nodes l.self.shown l.waiting;
 }
 
 abbrev pub decreases-loop-alloc : goal.decreases-loop-alloc
