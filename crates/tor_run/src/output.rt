@@ -10,6 +10,7 @@ ghost use Rattle.tor_run.specs.Accepting.{AreSound};
 ghost use Rattle.rel_infer.specs.GivenResults.{max_givens};
 ghost use Rattle.tor_run.specs.Output.{Faithful, IsMigrated, IsOutputIn, migrated};
 ghost use Rattle.result_text.specs.Grammar.{IsTextOf};
+ghost use Rattle.result_text.specs.Text.{text};
 ghost use Rattle.rel_infer.specs.SelfAcceptance.{AreTableRows};
 ghost use Rattle.serial_lines.specs.Serial.{rel_in, rel_text};
 ghost use Rattle.as_rel.specs.Labelled.{ends_of, line_of_edge};
@@ -27,7 +28,7 @@ use dump_read::Taken;
 use path_clean::PathTable;
 use rel_infer::{ResultHead, result_with};
 use relationships::Given;
-use result_text::{EdgeLine, ResultFile, print};
+use result_text::{EdgeLine, ResultFile, in_range, write_text};
 use std::alloc::Global;
 use table_ties::{TieLine, ties_of_table};
 use tor_arena::{Keys, List, NoMemory};
@@ -42,6 +43,12 @@ pub(crate) enum Output {
     Text(List<u8>, List<u8>),
     /// The list of a table's paths, which is made while it goes through the buffer. It has no note.
     Paths(PathTable, Buffer),
+    /// A result, whose text is made while it goes through the buffer, and its note.
+    Result {
+        file: ResultFile,
+        buffer: Buffer,
+        note: List<u8>,
+    },
 }
 
 impl Output {
@@ -61,8 +68,26 @@ impl Output {
                 write_list(out, &mut buffer, &table)?;
                 Ok(List::new(alloc))
             }
+            Output::Result {
+                file,
+                mut buffer,
+                note,
+            } => {
+                write_result(out, &mut buffer, &file)?;
+                Ok(note)
+            }
         }
     }
+}
+
+// Writes what waits in the buffer, and then the text of a result. Failed: a write failed, and out took a prefix of both.
+fn write_result<O: Sink>(out: &mut O, buffer: &mut Buffer, file: &ResultFile) -> Result<(), Failed>
+    ensures all { OnOk result (O.held out.new ≡ append_known (O.held out.old) (buffer.old ++ text file.now)) }
+    ensures prefix { OnErr result (GainsPrefix (O.held out.old) (O.held out.new) (buffer.old ++ text file.now)) }
+    ensures cause { HasCause (O.faults out.old) (O.faults out.new) result }
+{
+    buffer.flush(out)?;
+    write_text(out, buffer, file)
 }
 
 /// The rows of a table are as a table has them.
@@ -114,14 +139,23 @@ fn faithful_result(
     result_with(alloc, keys, head, givens, table)
 }
 
-/// The text of a result, and its summary as the note.
-pub(crate) fn text_and_summary(alloc: Global, file: &ResultFile) -> Result<Output, NoMemory>
-    ensures text { IfOk result (λ output. IsTextOf file.now (written output).text) }
-    ensures note { IfOk result (λ output. (written output).note ≡ summary file.now ++ 10 ∷ []) }
+// A result that is to be written, with this note. What its text takes is all taken here.
+fn result_noted(alloc: Global, file: ResultFile, note: List<u8>) -> Result<Output, NoMemory>
+    ensures text { IfOk result (λ output. IsTextOf file (written output).text) }
+    ensures note { IfOk result (λ output. (written output).note ≡ note) }
 {
-    let note = summary_line(alloc, file)?;
-    let text = print(alloc, file)?;
-    Ok(Output::Text(text, note))
+    in_range(&file);
+    let buffer = Buffer::new(alloc)?;
+    Ok(Output::Result { file, buffer, note })
+}
+
+/// The text of a result, and its summary as the note.
+pub(crate) fn text_and_summary(alloc: Global, file: ResultFile) -> Result<Output, NoMemory>
+    ensures text { IfOk result (λ output. IsTextOf file (written output).text) }
+    ensures note { IfOk result (λ output. (written output).note ≡ summary file ++ 10 ∷ []) }
+{
+    let note = summary_line(alloc, &file)?;
+    result_noted(alloc, file, note)
 }
 
 // The text of the result of what the dumps gave, and its summary.
@@ -138,7 +172,7 @@ fn labels_output(
     ensures { IfOk result (λ output. IsOutputIn Mode.Labels settings.now givens taken (written output)) }
 {
     let file = faithful_result(alloc, keys, settings, givens, taken)?;
-    text_and_summary(alloc, &file)
+    text_and_summary(alloc, file)
 }
 
 // The summary of a result, without a note.
@@ -291,7 +325,5 @@ fn with_givens(alloc: Global, mut file: ResultFile) -> ResultFile
 pub(crate) fn migrated_output(alloc: Global, file: ResultFile) -> Result<Output, NoMemory>
     ensures { IfOk result (λ output. IsMigrated file (written output)) }
 {
-    let file = with_givens(alloc, file);
-    let text = print(alloc, &file)?;
-    Ok(Output::Text(text, List::new(alloc)))
+    result_noted(alloc, with_givens(alloc, file), List::new(alloc))
 }

@@ -112,7 +112,7 @@ fn resumed_text(
     ensures { IfOk result (λ output. IsOutputOn settings.now earlier taken (written output)) }
 {
     let file = resumed_result(alloc, keys, settings, earlier, taken)?;
-    text_and_summary(alloc, &file)
+    text_and_summary(alloc, file)
 }
 
 // The text of the result of what the dumps of the settings give on top of what was taken up of the earlier one, and its summary.
