@@ -8,33 +8,11 @@ ghost use Rattle.tor_io.specs.Contents.{GainsPrefix, PassesOn};
 ghost use Rattle.tor_run.specs.Listing.{list_line, listing, spaced_number};
 
 use path_clean::PathTable;
-use text_fields::write_number;
 use tor_arena::{Index, PathId};
 use tor_io::{Buffer, Failed, Sink};
 
-// Each function puts something behind what waits in the buffer. Failed: a write failed, and out took a prefix of both.
-fn put_number<O: Sink>(out: &mut O, buffer: &mut Buffer, n: u64) -> Result<(), Failed>
-    ensures all { OnOk result (PassesOn (O.held out.old) (O.held out.new) buffer.new (buffer.old ++ decimal n)) }
-    ensures prefix { OnErr result (GainsPrefix (O.held out.old) (O.held out.new) (buffer.old ++ decimal n)) }
-    ensures cause { HasCause (O.faults out.old) (O.faults out.new) result }
-{
-    let mut digits = [0u8; 20];
-    let end = write_number(&mut digits, 0, n);
-    buffer.put(out, &digits[..end])
-}
-
-// A number behind a space.
-fn put_spaced<O: Sink>(out: &mut O, buffer: &mut Buffer, n: u64) -> Result<(), Failed>
-    ensures all { OnOk result (PassesOn (O.held out.old) (O.held out.new) buffer.new (buffer.old ++ 32 ∷ decimal n)) }
-    ensures prefix { OnErr result (GainsPrefix (O.held out.old) (O.held out.new) (buffer.old ++ 32 ∷ decimal n)) }
-    ensures cause { HasCause (O.faults out.old) (O.faults out.new) result }
-{
-    let mut spaced = [b' '; 21];
-    let end = write_number(&mut spaced, 1, n);
-    buffer.put(out, &spaced[..end])
-}
-
-// A number, behind a space if it isn't the first.
+// Each function puts something behind what waits in the buffer. Failed: a write failed, and out took a prefix of both. This one puts a
+// number, behind a space if it isn't the first.
 fn put_number_at<O: Sink>(
     out: &mut O,
     buffer: &mut Buffer,
@@ -46,9 +24,9 @@ fn put_number_at<O: Sink>(
     ensures cause { HasCause (O.faults out.old) (O.faults out.new) result }
 {
     if place == 0 {
-        put_number(out, buffer, u64::from(number))
+        buffer.put_number(out, u64::from(number))
     } else {
-        put_spaced(out, buffer, u64::from(number))
+        buffer.put_number_behind(out, b' ', u64::from(number))
     }
 }
 
@@ -58,7 +36,7 @@ fn put_times<O: Sink>(out: &mut O, buffer: &mut Buffer, times: u64) -> Result<()
     ensures prefix { OnErr result (GainsPrefix (O.held out.old) (O.held out.new) (buffer.old ++ (decimal times ++ 124 ∷ []))) }
     ensures cause { HasCause (O.faults out.old) (O.faults out.new) result }
 {
-    put_number(out, buffer, times)?;
+    buffer.put_number(out, times)?;
     buffer.put_byte(out, b'|')
 }
 

@@ -5,14 +5,14 @@ use Rattle.tor_run.proofs.listing.put_times.Goals as goal
 
 pub returns-in_err-put_number-clause-prefix : goal.returns-in_err-put_number-clause-prefix
 returns-in_err-put_number-clause-prefix g c =
-    first_stops c.from_residual.result (g.O.Sink.held c.args.out.now) (g.O.Sink.held c.put_number.new.out) c.args.buffer.now (decimal c.args.times) (124 ∷ []) c.in_err-put_number.ensures.prefix
+    first_stops c.from_residual.result (g.O.Sink.held c.args.out.now) (g.O.Sink.held c.put_number.new.sink) c.args.buffer.now (decimal c.args.times) (124 ∷ []) c.in_err-put_number.ensures.prefix
 
 pub returns-clause-all : goal.returns-clause-all
 returns-clause-all g c =
-    rest_passes c.put_byte.result (g.O.Sink.held c.args.out.now) (g.O.Sink.held c.put_number.new.out) (g.O.Sink.held c.put_byte.new.sink)
-    c.args.buffer.now c.put_number.new.buffer c.put_byte.new.self (decimal c.args.times) (124 ∷ []) c.in_ok-put_number.ensures.all c.put_byte.ensures.all
+    rest_passes c.put_byte.result (g.O.Sink.held c.args.out.now) (g.O.Sink.held c.put_number.new.sink) (g.O.Sink.held c.put_byte.new.sink)
+    c.args.buffer.now c.put_number.new.self c.put_byte.new.self (decimal c.args.times) (124 ∷ []) c.in_ok-put_number.ensures.all c.put_byte.ensures.all
 
 pub returns-clause-prefix : goal.returns-clause-prefix
 returns-clause-prefix g c =
-    rest_stops c.put_byte.result (g.O.Sink.held c.args.out.now) (g.O.Sink.held c.put_number.new.out) (g.O.Sink.held c.put_byte.new.sink)
-    c.args.buffer.now c.put_number.new.buffer (decimal c.args.times) (124 ∷ []) c.in_ok-put_number.ensures.all c.put_byte.ensures.prefix
+    rest_stops c.put_byte.result (g.O.Sink.held c.args.out.now) (g.O.Sink.held c.put_number.new.sink) (g.O.Sink.held c.put_byte.new.sink)
+    c.args.buffer.now c.put_number.new.self (decimal c.args.times) (124 ∷ []) c.in_ok-put_number.ensures.all c.put_byte.ensures.prefix
