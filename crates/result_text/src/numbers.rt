@@ -20,7 +20,8 @@ pub fn put_u32<S: Sink>(out: &mut S, flow: &mut Outflow<'_>, n: u32)
 /// Puts an octet and a number behind what waits.
 #[inline(always)]
 pub fn put_u32_behind<S: Sink>(out: &mut S, flow: &mut Outflow<'_>, byte: u8, n: u32)
-    ensures { Puts (state (S.held out.old) (S.faults out.old) flow.old) (state (S.held out.new) (S.faults out.new) flow.new) (byte ∷ decimal n) }
+    ensures { Puts (state (S.held out.old) (S.faults out.old) flow.old) (state (S.held out.new) (S.faults out.new) flow.new)
+        (byte ∷ decimal n) }
 {
     flow.put_number_behind(out, byte, u64::from(n));
 }

@@ -10,7 +10,7 @@ ghost use Rattle.tor_io.specs.Contents.{GainsPrefix};
 ghost use Rattle.tor_io.specs.Outflow.{state, Puts};
 ghost use Rattle.result_text.specs.Grammar.{IsTextOf};
 ghost use Rattle.result_text.specs.PathLines.{line_with};
-ghost use Rattle.result_text.specs.Text.{text, text_of_lines, text_of_asides, line_text, cause_name, label_name, mark_name};
+ghost use Rattle.result_text.specs.Text.{text, text_of_lines, text_of_asides, line_text, label_name, mark_name};
 ghost use Rattle.result_text.specs.Text.{numbers_text, links, head_lines, body_lines, version_of, its_givens};
 ghost use Rattle.result_text.specs.declared.line.Version.{Version};
 
@@ -51,7 +51,6 @@ fn put_sets<S: Sink>(out: &mut S, flow: &mut Outflow<'_>, sets: Sets)
     }
 }
 
-#[tactic(auto, unfolding(crate::specs::Text::line_text))]
 fn put_ratio<S: Sink>(out: &mut S, flow: &mut Outflow<'_>, ratio: u32)
     ensures { (v : Version) → Puts (state (S.held out.old) (S.faults out.old) flow.old) (state (S.held out.new) (S.faults out.new) flow.new)
         (line_text v (line.Ratio ratio)) }
@@ -72,7 +71,8 @@ fn put_aside<S: Sink>(out: &mut S, flow: &mut Outflow<'_>, asides: &Asides, caus
 }
 
 fn put_all_asides<S: Sink>(out: &mut S, flow: &mut Outflow<'_>, asides: &Asides)
-    ensures { Puts (state (S.held out.old) (S.faults out.old) flow.old) (state (S.held out.new) (S.faults out.new) flow.new) (text_of_asides asides.now) }
+    ensures { Puts (state (S.held out.old) (S.faults out.old) flow.old) (state (S.held out.new) (S.faults out.new) flow.new)
+        (text_of_asides asides.now) }
 {
     put_aside(out, flow, asides, Cause::NoPath);
     put_aside(out, flow, asides, Cause::BadSegments);
@@ -105,7 +105,6 @@ fn put_walk<S: Sink>(out: &mut S, flow: &mut Outflow<'_>, version: Version, walk
     put_links(out, flow, version, walk.links());
 }
 
-#[tactic(auto, unfolding(crate::specs::Text::line_text))]
 fn put_kept<S: Sink>(out: &mut S, flow: &mut Outflow<'_>, times: u64, path: &[u32])
     ensures { (v : Version) → Puts (state (S.held out.old) (S.faults out.old) flow.old) (state (S.held out.new) (S.faults out.new) flow.new)
         (line_text v (line.Path (line_with times path.now Kept))) }
@@ -117,7 +116,6 @@ fn put_kept<S: Sink>(out: &mut S, flow: &mut Outflow<'_>, times: u64, path: &[u3
     flow.put_byte(out, b'\n');
 }
 
-#[tactic(auto, unfolding(crate::specs::Text::line_text))]
 fn put_lost<S: Sink>(
     out: &mut S,
     flow: &mut Outflow<'_>,
@@ -190,7 +188,6 @@ fn put_pair<S: Sink>(out: &mut S, flow: &mut Outflow<'_>, first: u32, second: u3
     put_u32_behind(out, flow, b'|', second);
 }
 
-#[tactic(auto, unfolding(crate::specs::Text::line_text))]
 fn put_edge<S: Sink>(out: &mut S, flow: &mut Outflow<'_>, edge: &EdgeLine)
     ensures { (v : Version) → Puts (state (S.held out.old) (S.faults out.old) flow.old) (state (S.held out.new) (S.faults out.new) flow.new)
         (line_text v (line.Edge edge.now)) }
@@ -202,7 +199,6 @@ fn put_edge<S: Sink>(out: &mut S, flow: &mut Outflow<'_>, edge: &EdgeLine)
     flow.put_byte(out, b'\n');
 }
 
-#[tactic(auto, unfolding(crate::specs::Text::line_text))]
 fn put_why<S: Sink>(out: &mut S, flow: &mut Outflow<'_>, version: Version, walk: &WalkRef<'_>)
     ensures { Puts (state (S.held out.old) (S.faults out.old) flow.old) (state (S.held out.new) (S.faults out.new) flow.new)
         (line_text version (line.Why walk.now)) }
@@ -212,7 +208,6 @@ fn put_why<S: Sink>(out: &mut S, flow: &mut Outflow<'_>, version: Version, walk:
     flow.put_byte(out, b'\n');
 }
 
-#[tactic(auto, unfolding(crate::specs::Text::line_text))]
 fn put_probe<S: Sink>(out: &mut S, flow: &mut Outflow<'_>, probe: &Probe)
     ensures { (v : Version) → Puts (state (S.held out.old) (S.faults out.old) flow.old) (state (S.held out.new) (S.faults out.new) flow.new)
         (line_text v (line.Probe probe.now)) }
@@ -222,7 +217,6 @@ fn put_probe<S: Sink>(out: &mut S, flow: &mut Outflow<'_>, probe: &Probe)
     flow.put_byte(out, b'\n');
 }
 
-#[tactic(auto, unfolding(crate::specs::Text::line_text))]
 fn put_end<S: Sink>(out: &mut S, flow: &mut Outflow<'_>, totals: &Totals)
     ensures { (v : Version) → Puts (state (S.held out.old) (S.faults out.old) flow.old) (state (S.held out.new) (S.faults out.new) flow.new)
         (line_text v (line.End totals.now)) }
@@ -236,7 +230,6 @@ fn put_end<S: Sink>(out: &mut S, flow: &mut Outflow<'_>, totals: &Totals)
     flow.put_byte(out, b'\n');
 }
 
-#[tactic(auto, unfolding(crate::specs::Text::line_text))]
 fn put_given<S: Sink>(out: &mut S, flow: &mut Outflow<'_>, given: &Given)
     ensures { (v : Version) → Puts (state (S.held out.old) (S.faults out.old) flow.old) (state (S.held out.new) (S.faults out.new) flow.new)
         (line_text v (line.Given given.now)) }

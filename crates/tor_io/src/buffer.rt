@@ -134,8 +134,8 @@ impl Buffer {
         Ok(())
     }
 
-    /// Puts an octet, and a number behind it in decimal, behind those that wait. Where there is no room, what waits is written first. Failed:
-    /// a write failed, and the sink took a prefix of these. It takes no memory.
+    /// Puts an octet, and a number behind it in decimal, behind those that wait. Where there is no room, what waits is written first.
+    /// Failed: a write failed, and the sink took a prefix of these. It takes no memory.
     #[inline]
     pub fn put_number_behind<S: Sink>(
         &mut self,

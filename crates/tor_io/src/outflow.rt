@@ -47,7 +47,8 @@ impl<'a> Outflow<'a> {
     /// Puts one octet behind those that wait. It takes no memory.
     #[inline]
     pub fn put_byte<S: Sink>(&mut self, out: &mut S, byte: u8)
-        ensures { Puts (state (S.held out.old) (S.faults out.old) self.old) (state (S.held out.new) (S.faults out.new) self.new) (byte ∷ []) }
+        ensures { Puts (state (S.held out.old) (S.faults out.old) self.old) (state (S.held out.new) (S.faults out.new) self.new)
+            (byte ∷ []) }
     {
         if !self.failed && self.buffer.put_byte(out, byte).is_err() {
             self.failed = true;
@@ -57,7 +58,8 @@ impl<'a> Outflow<'a> {
     /// Puts a number, in decimal, behind what waits. It takes no memory.
     #[inline]
     pub fn put_number<S: Sink>(&mut self, out: &mut S, n: u64)
-        ensures { Puts (state (S.held out.old) (S.faults out.old) self.old) (state (S.held out.new) (S.faults out.new) self.new) (decimal n) }
+        ensures { Puts (state (S.held out.old) (S.faults out.old) self.old) (state (S.held out.new) (S.faults out.new) self.new)
+            (decimal n) }
     {
         if !self.failed && self.buffer.put_number(out, n).is_err() {
             self.failed = true;
