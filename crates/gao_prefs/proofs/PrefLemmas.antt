@@ -1,5 +1,5 @@
 -- Preferences one by one, and sorted.
-use Rattle.std.proofs.Common.{◌≡◌, ℕ, suc, ◌+◌, ◌-◌, ◌^◌, ◌<◌, ◌≤◌, ◌⊎◌, inl, inr, false, List, [], ◌∷◌, ◌++◌, length, get_or, take, map, refl, sym, ap, ◌∙◌, subst, arith, All, Some, slice_get}
+use Rattle.std.proofs.Common.{◌≡◌, ℕ, suc, ◌+◌, ◌-◌, ◌^◌, ◌<◌, ◌≤◌, ◌⊎◌, inl, inr, false, List, [], ◌∷◌, ◌++◌, length, get_or, take, map, refl, sym, ap, ◌∙◌, subst, arith, All}
 use Rattle.std.proofs.Common.{lt-ltb, le-ltb, eq-eqb, length-append}
 use Rattle.std.specs.Prelude.{pos, negsuc, ◌-ℤ◌}
 use Rattle.std.specs.Int.RustNames.{unsigned_abs}
@@ -13,7 +13,7 @@ use Rattle.std.proofs.lemmas.Int.{ints}
 use Rattle.std.proofs.lemmas.List.{take_more, map_push, get_or_push, get_or_append_left}
 use Rattle.std.proofs.lemmas.List.Elements.{All-push}
 use Rattle.std.proofs.lemmas.List.Sorted.{ranks_by, sorted_far}
-use Rattle.relationships.specs.Graph.{Edge, degree}
+use Rattle.relationships.specs.Graph.{Edge}
 use Rattle.gao_prefs.specs.declared.per_end.PerEnd.{PerEnd}
 use Rattle.gao_prefs.specs.declared.preferring.Pref.{Pref}
 use Rattle.gao_prefs.specs.Ends.{degrees_of}

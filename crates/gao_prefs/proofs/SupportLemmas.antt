@@ -6,7 +6,7 @@ use Rattle.std.proofs.lemmas.List.Elements.{All-head, All-tail}
 use Rattle.tor_arena.proofs.Counting.{one, count-cons, count-append}
 use Rattle.tor_arena.specs.Distinct.{AllDistinct}
 use Rattle.relationships.specs.Graph.{Edge, edge_of, is_same, edges_from, edges_on, edges, degree, support}
-use Rattle.relationships.specs.Preference.{top_of, votes_from, votes_on, votes}
+use Rattle.relationships.specs.Preference.{top_of, votes_from, votes_on}
 use Rattle.relationships.proofs.Edges.{same_edge}
 use Rattle.gao_prefs.specs.declared.per_end.PerEnd.{PerEnd}
 use Rattle.gao_prefs.specs.Ends.{votes_of}

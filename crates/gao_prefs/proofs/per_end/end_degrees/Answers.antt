@@ -1,4 +1,4 @@
-use Rattle.std.proofs.Common.{◌≡◌, ◌<◌, ◌++◌, ◌∷◌, [], length, get_or, rules, ap, ap₂, ◌∙◌, List, ℕ, arith}
+use Rattle.std.proofs.Common.{◌≡◌, ◌<◌, ◌++◌, ◌∷◌, [], length, get_or, rules, ap, ap₂, ◌∙◌, ℕ, arith}
 use Rattle.relationships.specs.Graph.{edges, degree}
 use Rattle.gao_prefs.specs.declared.per_end.PerEnd.{PerEnd}
 use Rattle.gao_prefs.specs.Ends.{degrees_of}
