@@ -1,0 +1,4 @@
+pub mod Decided
+pub mod EitherLemmas
+pub mod ProvingLemmas
+pub mod Vectors

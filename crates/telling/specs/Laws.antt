@@ -1,0 +1,2 @@
+-- The laws of the definitions, by what they speak of.
+pub mod Telling

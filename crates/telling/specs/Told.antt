@@ -1,0 +1,127 @@
+-- What is told of an edge and of a path of a result that meets all rules.
+use Rattle.std.specs.Prelude.{◌≡◌, ℕ, ◌+◌, ◌<◌, List, ◌++◌, ◌∷◌, [], length, map, take, Option, Some, None, All, Contains}
+use Rattle.std.specs.Prelude.{slice_get, slice_index_or}
+use Rattle.std.specs.List.Sorted.{IsStrictlyIncreasing}
+use Rattle.relationships.specs.declared.label.Label.TheVariants as label
+use Rattle.relationships.specs.declared.mark.Mark.TheVariants as mark
+use Rattle.relationships.specs.declared.fate.Fate.TheVariants as fate
+use Rattle.relationships.specs.declared.walk.Walk.{Walk}
+use Rattle.relationships.specs.Relationship.{Slope, Up, Down, Flat, slopes}
+use Rattle.relationships.specs.Graph.{Edge, edge_of}
+use Rattle.relationships.specs.Flat.{walk_with}
+use Rattle.relationships.specs.Evidence.{paths_of}
+use Rattle.relationships.specs.GivenEvidence.{RefutesWith}
+use Rattle.relationships.specs.Checking.{OtherOrder}
+use Rattle.result_text.specs.declared.file.EdgeLine.{EdgeLine}
+use Rattle.result_text.specs.declared.file.PathLine.{PathLine}
+use Rattle.result_text.specs.declared.file.ResultFile.{ResultFile}
+use Rattle.result_rules.specs.File.{its_givens, its_kept, its_edges, its_labels, its_probes, its_returns, kept_before, claim_on}
+use Rattle.telling.specs.declared.told.Going.{Going}
+use Rattle.telling.specs.declared.told.Question.{Question}
+use Rattle.telling.specs.declared.told.Told.{Told}
+use Rattle.telling.specs.declared.told.Going.TheVariants as going
+use Rattle.telling.specs.declared.told.Question.TheVariants as question
+use Rattle.telling.specs.declared.told.Told.TheVariants as told
+use Rattle.telling.specs.Telling.{Leads, Prove, CanBeEither}
+
+-- ---- edges
+
+-- the edge of a line
+abbrev pub edge_on : EdgeLine → Edge
+edge_on line = (line.low, line.high)
+
+-- the line is one of the file, and its edge is that of the two
+abbrev pub IsLineOf : ResultFile → (one other : ℕ) → EdgeLine → Type 0
+IsLineOf file one other line = Contains file.edges line × (edge_on line ≡ edge_of one other)
+
+-- the order that the label has, the provider first: the opposite of the one against it
+abbrev pub HasOrder : EdgeLine → (over under : ℕ) → Type 0
+HasOrder line over under = OtherOrder (claim_on line) under over
+
+-- the order against the label
+abbrev pub IsAgainst : EdgeLine → (over under : ℕ) → Type 0
+IsAgainst line over under = OtherOrder (claim_on line) over under
+
+-- the walks of the why lines in these places, from 0
+abbrev pub whys_at : ResultFile → List ℕ → List Walk
+whys_at file places = map (λ k. slice_index_or file.whys k (walk_with [] [])) places
+
+-- the edge is forced, and the why lines in these places, each once and in the order of the file, prove the order of its label by the
+-- givens over the kept paths
+pub record IsProved (file : ResultFile) (line : EdgeLine) (whys : List ℕ) : Type 0 where
+  pub is_forced : line.mark ≡ mark.Forced
+  pub there : All (λ k. k < length file.whys) whys
+  pub in_order : IsStrictlyIncreasing whys
+  pub over : ℕ
+  pub under : ℕ
+  pub order : HasOrder line over under
+  pub proved : Prove (its_givens file) (its_kept file) (whys_at file whys) over under
+
+-- either order of the edge is possible: an orientation that agrees with the givens and serves the kept paths has the one, and one that
+-- does has the other
+abbrev pub IsUndecided : ResultFile → EdgeLine → Type 0
+IsUndecided file line = CanBeEither (its_returns file ++ paths_of (its_kept file)) line.low line.high
+
+-- the edge is open and no peering, and the walk leads from the order of an open line to the order against the label
+pub record IsReached (file : ResultFile) (line : EdgeLine) (probe : ℕ × ℕ) (walk : Walk) : Type 0 where
+  pub is_open : line.mark ≡ mark.Open
+  pub there : Contains (its_probes file) probe
+  pub over : ℕ
+  pub under : ℕ
+  pub order : IsAgainst line over under
+  pub reached : Leads (its_givens file) (its_kept file) walk probe.0 probe.1 over under
+  pub undecided : IsUndecided file line
+
+-- the edge is a peering
+pub record IsPeering (file : ResultFile) (line : EdgeLine) : Type 0 where
+  pub is_open : line.mark ≡ mark.Open
+  pub is_peer : line.label ≡ label.Peer
+  pub undecided : IsUndecided file line
+
+-- ---- paths
+
+-- the path in this place, from 0, is lost, and its walk refutes by the givens over the paths kept before it and its own
+abbrev pub IsLost : ResultFile → ℕ → Type 0
+IsLost file k =
+    (line : PathLine) × (slice_get file.paths k ≡ Some line) ×
+    ((walk : Walk) × (line.fate ≡ fate.Lost walk) × RefutesWith (its_givens file) (kept_before file k ++ (k + 1, line.path) ∷ []) walk)
+
+abbrev pub going_of : Slope → Going
+going_of Up = going.Up
+going_of Down = going.Down
+going_of Flat = going.Flat
+
+-- the path in this place is kept, and so its steps go under the labels
+abbrev pub IsKept : ResultFile → ℕ → List Going → Type 0
+IsKept file k goings =
+    (line : PathLine) × (slice_get file.paths k ≡ Some line) × (line.fate ≡ fate.Kept) ×
+    (goings ≡ map going_of (slopes (its_labels file) line.path))
+
+-- ---- questions
+
+-- what is told of the edge of two ASes
+abbrev pub IsToldOfEdge : ResultFile → (one other : ℕ) → Told → Type 0
+IsToldOfEdge file one other (told.Forced line whys) = IsLineOf file one other line × IsProved file line whys
+IsToldOfEdge file one other (told.Open line probe walk) = IsLineOf file one other line × IsReached file line (probe.over, probe.under) walk
+IsToldOfEdge file one other (told.Peering line) = IsLineOf file one other line × IsPeering file line
+IsToldOfEdge file one other (told.Lost path) = ⊥
+IsToldOfEdge file one other (told.Kept path goings) = ⊥
+
+-- what is told of the path in a place, from 0
+abbrev pub IsToldOfPath : ResultFile → ℕ → Told → Type 0
+IsToldOfPath file k (told.Lost path) = (path ≡ k) × IsLost file k
+IsToldOfPath file k (told.Kept path goings) = (path ≡ k) × IsKept file k goings
+IsToldOfPath file k (told.Forced line whys) = ⊥
+IsToldOfPath file k (told.Open line probe walk) = ⊥
+IsToldOfPath file k (told.Peering line) = ⊥
+
+-- the edge or the path that is asked for is there
+abbrev pub IsThere : ResultFile → Question → Type 0
+IsThere file (question.Edge one other) = Contains (its_edges file) (edge_of one other)
+IsThere file (question.Path number) = (k : ℕ) × (number ≡ k + 1) × (k < length file.paths)
+
+-- what answers the question: a telling, or that what it asks for isn't there
+abbrev pub Answers : ResultFile → Question → Option Told → Type 0
+Answers file asked None = IsThere file asked → ⊥
+Answers file (question.Edge one other) (Some tale) = IsToldOfEdge file one other tale
+Answers file (question.Path number) (Some tale) = (k : ℕ) × (number ≡ k + 1) × IsToldOfPath file k tale

@@ -1,0 +1,18 @@
+//! Laws over the definitions in `specs/`, each as the contract of a function that does nothing.
+
+ghost use Rattle.telling.specs.Laws.Telling.{ProvingLaw, EitherLaw, PeersLaw};
+
+/// What walks prove holds in every orientation that agrees with the givens and serves the paths.
+pub fn proving_law()
+    ensures { ProvingLaw }
+{}
+
+/// Where labels have one order, and a consistent closure the other, either order is possible.
+pub fn either_law()
+    ensures { EitherLaw }
+{}
+
+/// Where labels have two ASes as peers, either order of the two is possible.
+pub fn peers_law()
+    ensures { PeersLaw }
+{}
