@@ -10,6 +10,8 @@ mod name;
 mod refused;
 mod settings;
 mod values;
+mod why_command;
+mod why_settings;
 mod words;
 
 pub use check_settings::{CheckSettings, check_settings_of};
@@ -18,4 +20,5 @@ pub use laws::bounds_law;
 pub use name::Name;
 pub use refused::WordsRefused;
 pub use settings::{Mode, Settings, Source, settings_of};
+pub use why_settings::{Asked, WhySettings, why_settings_of};
 pub use words::words_of;

@@ -1,0 +1,53 @@
+-- The settings that words give to a telling.
+use Rattle.std.specs.Prelude.{◌==◌, ℕ, List, [], ◌∷◌, Option, Some, None, option_map, unwrap_or, if◌then◌else◌, codes}
+use Rattle.clap.specs.Words.{Row, Text, all_of, first_of, fault_of, matches_of}
+use Rattle.tor_words.specs.declared.why_settings.Asked.{Asked}
+use Rattle.tor_words.specs.declared.why_settings.Asked.TheVariants.{Edge, Path}
+use Rattle.tor_words.specs.declared.why_settings.WhySettings.{WhySettings}
+use Rattle.tor_words.specs.Given.{number_in, unless_fault}
+use Rattle.tor_words.specs.TorwhyCommand.{torwhy_command}
+
+-- the ASes behind the result, in the order of the words
+abbrev pub ases_in : List Row → List Text
+ases_in rows = unwrap_or (all_of (codes "as") rows) []
+
+-- the number of an AS or of a path
+abbrev pub short_number : Text → Option ℕ
+short_number text = number_in 0 4294967295 text
+
+-- the edge of two ASes, which have to differ
+abbrev pub edge_asked : (one other : Option ℕ) → Option Asked
+edge_asked None other = None
+edge_asked (Some one) None = None
+edge_asked (Some one) (Some other) = if one == other then None else Some (Edge one other)
+
+abbrev pub path_asked : Option ℕ → Option Asked
+path_asked None = None
+path_asked (Some number) = Some (Path number)
+
+-- what is asked: of the path of a number, with no AS beside it, or of the edge of two ASes
+abbrev pub what_asked : (path : Option Text) → (ases : List Text) → Option Asked
+what_asked (Some path) [] = path_asked (short_number path)
+what_asked (Some path) (a ∷ ases) = None
+what_asked None [] = None
+what_asked None (a ∷ []) = None
+what_asked None (a ∷ b ∷ []) = edge_asked (short_number a) (short_number b)
+what_asked None (a ∷ b ∷ c ∷ ases) = None
+
+-- what these matches ask
+abbrev pub asked_in : List Row → Option Asked
+asked_in rows = what_asked (first_of (codes "path") rows) (ases_in rows)
+
+-- a result has to be named
+abbrev pub telling_of : (result : Option Text) → Option Asked → Option WhySettings
+telling_of None asked = None
+telling_of (Some name) None = None
+telling_of (Some name) (Some asked) = Some (record { result = name; asked = asked })
+
+-- the settings that these matches give: the first word is the result, and the others are ASes
+abbrev pub why_settings_in : List Row → Option WhySettings
+why_settings_in rows = telling_of (first_of (codes "result") rows) (asked_in rows)
+
+-- the settings that the words give, where clap takes them
+unfoldable pub why_settings_given : List Text → Option WhySettings
+why_settings_given words = unless_fault (fault_of torwhy_command words) (why_settings_in (matches_of torwhy_command words))
