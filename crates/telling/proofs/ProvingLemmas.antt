@@ -18,7 +18,7 @@ use Rattle.relationships.proofs.GivenLemmas.{return_differs}
 use Rattle.telling.specs.Telling.{Leads, LeadOn, Prove}
 use Rattle.telling.specs.Laws.Telling.{ProvingLaw}
 
-stand_on : (g : Given) (x y z : ℕ) → x ≡ g.under → y ≡ g.over → z ≡ g.under → StandAt (return_of g) 2 x y z
+pub stand_on : (g : Given) (x y z : ℕ) → x ≡ g.under → y ≡ g.over → z ≡ g.under → StandAt (return_of g) 2 x y z
 stand_on g x y z e f h = record {
   before = [];
   after = [];

@@ -1,2 +1,4 @@
+pub mod Labelling
 pub mod Laws
 pub mod Telling
+pub mod Told

@@ -46,16 +46,19 @@ IsAgainst line over under = OtherOrder (claim_on line) over under
 abbrev pub whys_at : ResultFile → List ℕ → List Walk
 whys_at file places = map (λ k. slice_index_or file.whys k (walk_with [] [])) places
 
--- the edge is forced, and the why lines in these places, each once and in the order of the file, prove the order of its label by the
--- givens over the kept paths
-pub record IsProved (file : ResultFile) (line : EdgeLine) (whys : List ℕ) : Type 0 where
-  pub is_forced : line.mark ≡ mark.Forced
+-- the why lines in these places, each once and in the order of the file, prove "over over under" by the givens over the kept paths
+pub record ProveTogether (file : ResultFile) (whys : List ℕ) (over under : ℕ) : Type 0 where
   pub there : All (λ k. k < length file.whys) whys
   pub in_order : IsStrictlyIncreasing whys
+  pub proved : Prove (its_givens file) (its_kept file) (whys_at file whys) over under
+
+-- the edge is forced, and the why lines prove the order of its label
+pub record IsProved (file : ResultFile) (line : EdgeLine) (whys : List ℕ) : Type 0 where
+  pub is_forced : line.mark ≡ mark.Forced
   pub over : ℕ
   pub under : ℕ
   pub order : HasOrder line over under
-  pub proved : Prove (its_givens file) (its_kept file) (whys_at file whys) over under
+  pub proof : ProveTogether file whys over under
 
 -- either order of the edge is possible: an orientation that agrees with the givens and serves the kept paths has the one, and one that
 -- does has the other
@@ -115,13 +118,16 @@ IsToldOfPath file k (told.Forced line whys) = ⊥
 IsToldOfPath file k (told.Open line probe walk) = ⊥
 IsToldOfPath file k (told.Peering line) = ⊥
 
--- the edge or the path that is asked for is there
-abbrev pub IsThere : ResultFile → Question → Type 0
-IsThere file (question.Edge one other) = Contains (its_edges file) (edge_of one other)
-IsThere file (question.Path number) = (k : ℕ) × (number ≡ k + 1) × (k < length file.paths)
+-- what answers a question about the edge of two ASes: what is told of it, or that it isn't there
+abbrev pub AnswersEdge : ResultFile → (one other : ℕ) → Option Told → Type 0
+AnswersEdge file one other None = Contains (its_edges file) (edge_of one other) → ⊥
+AnswersEdge file one other (Some tale) = IsToldOfEdge file one other tale
 
--- what answers the question: a telling, or that what it asks for isn't there
+-- and about the path of a number, from 1
+abbrev pub AnswersPath : ResultFile → ℕ → Option Told → Type 0
+AnswersPath file number None = (k : ℕ) → number ≡ k + 1 → k < length file.paths → ⊥
+AnswersPath file number (Some tale) = (k : ℕ) × (number ≡ k + 1) × IsToldOfPath file k tale
+
 abbrev pub Answers : ResultFile → Question → Option Told → Type 0
-Answers file asked None = IsThere file asked → ⊥
-Answers file (question.Edge one other) (Some tale) = IsToldOfEdge file one other tale
-Answers file (question.Path number) (Some tale) = (k : ℕ) × (number ≡ k + 1) × IsToldOfPath file k tale
+Answers file (question.Edge one other) tale = AnswersEdge file one other tale
+Answers file (question.Path number) tale = AnswersPath file number tale

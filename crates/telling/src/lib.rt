@@ -1,6 +1,16 @@
-//! What is told of an edge and of a path of a result that meets all rules.
+//! What is told of an edge and of a path of a result that meets all rules: why the edge is what it is, and why the path is kept or
+//! lost.
 #![tactic(auto)]
 
+mod edges;
+mod goings;
 mod laws;
+mod paths;
+mod proving;
+mod told;
 
+pub use edges::line_of;
 pub use laws::{either_law, peers_law, proving_law};
+pub use paths::tell_path;
+pub use proving::proof_of;
+pub use told::{Going, Question, Told};

@@ -1,0 +1,7 @@
+use Rattle.std.proofs.Common.{◌≤◌}
+use Rattle.telling.specs.Labelling.{HasEdgesTo}
+use Rattle.telling.proofs.goings.edges_along.Given as goal
+
+-- the edges of the steps so far are there
+abbrev pub invariant-loop-at : goal.invariant-loop-at
+invariant-loop-at l = (1 ≤ l.at) × HasEdgesTo l.path l.at l.table
