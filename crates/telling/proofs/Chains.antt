@@ -15,7 +15,7 @@ use Rattle.result_rules.specs.File.{its_givens, its_kept, last_two, shown_orders
 use Rattle.result_rules.specs.declared.rule.Rule.TheVariants.{OrdersShown}
 use Rattle.result_rules.specs.Rules.{IsMet}
 use Rattle.result_rules.proofs.WalkLaws.{last_two-from_ends}
-use Rattle.telling.specs.Telling.{Leads, LeadOn, Prove}
+use Rattle.relationships.specs.Telling.{Leads, LeadOn, Prove}
 use Rattle.telling.specs.Told.{whys_at, ProveTogether}
 
 -- ---- lists

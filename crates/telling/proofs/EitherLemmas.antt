@@ -9,7 +9,7 @@ use Rattle.relationships.specs.Laws.Evidence.{changed}
 use Rattle.relationships.proofs.Slopes.{over_parts, over-low, over-high}
 use Rattle.relationships.proofs.Checked.{read, reading, reading_serves}
 use Rattle.relationships.proofs.Closures.{closure_law}
-use Rattle.telling.specs.Telling.{CanBeEither}
+use Rattle.relationships.specs.Telling.{CanBeEither}
 use Rattle.telling.specs.Laws.Telling.{EitherLaw, PeersLaw}
 use Rattle.telling.proofs.Decided.{decided}
 

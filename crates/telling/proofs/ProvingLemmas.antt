@@ -15,7 +15,7 @@ use Rattle.relationships.proofs.Slopes.{over_one_of}
 use Rattle.relationships.proofs.Serving.{serves_satisfies}
 use Rattle.relationships.proofs.WalkLemmas.{triple_of_fit, triple_apart}
 use Rattle.relationships.proofs.GivenLemmas.{return_differs}
-use Rattle.telling.specs.Telling.{Leads, LeadOn, Prove}
+use Rattle.relationships.specs.Telling.{Leads, LeadOn, Prove}
 use Rattle.telling.specs.Laws.Telling.{ProvingLaw}
 
 pub stand_on : (g : Given) (x y z : ℕ) → x ≡ g.under → y ≡ g.over → z ≡ g.under → StandAt (return_of g) 2 x y z

@@ -5,7 +5,7 @@ use Rattle.relationships.specs.declared.walk.Link.{Link}
 use Rattle.relationships.specs.declared.walk.Walk.{Walk}
 use Rattle.relationships.specs.Evidence.{StandAt, Numbered, Fits}
 use Rattle.relationships.specs.GivenEvidence.{FitsWith}
-use Rattle.telling.specs.Telling.{steps_of, Prove}
+use Rattle.relationships.specs.Telling.{steps_of, Prove}
 
 abbrev kept : Numbered
 kept = (1, 30 ∷ 40 ∷ 20 ∷ 10 ∷ 50 ∷ 60 ∷ []) ∷ (2, 10 ∷ 20 ∷ 30 ∷ 40 ∷ []) ∷ []

@@ -1,4 +1,3 @@
 pub mod Labelling
 pub mod Laws
-pub mod Telling
 pub mod Told

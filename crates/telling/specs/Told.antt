@@ -22,7 +22,7 @@ use Rattle.telling.specs.declared.told.Told.{Told}
 use Rattle.telling.specs.declared.told.Going.TheVariants as going
 use Rattle.telling.specs.declared.told.Question.TheVariants as question
 use Rattle.telling.specs.declared.told.Told.TheVariants as told
-use Rattle.telling.specs.Telling.{Leads, Prove, CanBeEither}
+use Rattle.relationships.specs.Telling.{Leads, Prove, CanBeEither}
 
 -- ---- edges
 

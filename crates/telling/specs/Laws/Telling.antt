@@ -8,7 +8,7 @@ use Rattle.relationships.specs.Relationship.{Labelling, Orientation, labels_of, 
 use Rattle.relationships.specs.Evidence.{NeighboursDiffer, Numbered, paths_of, Closure, IsConsistent}
 use Rattle.relationships.specs.Givens.{NameTwo}
 use Rattle.relationships.specs.GivenEvidence.{served_with}
-use Rattle.telling.specs.Telling.{Prove, CanBeEither}
+use Rattle.relationships.specs.Telling.{Prove, CanBeEither}
 
 -- what walks prove holds in every orientation that agrees with the givens and serves the paths
 abbrev pub ProvingLaw : Type 0
