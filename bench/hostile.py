@@ -6,8 +6,9 @@ TOR is any program that takes `--list DUMP` and `DUMP`, TORCHECK one that takes 
 `DUMP` and `--check RESULT`. `-` in place of TOR or TORCHECK leaves its rows out. Each row is run RUNS times (3), both programs in turn, and
 says the least processor time, the greatest peak memory, and their ratios; for a result also how the memory compares with the file, and for
 a dump how the time compares with that on as many random paths. At last results are made of dumps of which one is twice the size of the
-other: a row says how much longer TOR takes for that, and for marks also how its time, the length of its text and the number of its open
-lines on the larger one compare with the yardstick's. Of less memory than some 14 MiB, which this script has itself, it can't tell.
+other: a row says how much longer TOR takes for that, and how long the texts are, or for marks how its time, the length of its text and the
+number of its open lines on the larger one compare with the yardstick's. Of less memory than some 14 MiB, which this script has itself, it
+can't tell.
 """
 
 import os
@@ -191,6 +192,17 @@ def turned_chains(count):
     return paths
 
 
+def walks_taken_over(count):
+    """Paths that are lost by one triple. The first has no shorter walk than along a chain and back, and all others a short one."""
+    fresh = iter(range(1000001, 2000000))
+    chain, top = [next(fresh) for _ in range(count)], next(fresh)
+    first, *others = pieces(chain)
+    lost = [top, *chain[:-3:-1]]
+    paths = forced_over(fresh, chain[0], first[1:]) + others + forced_over(fresh, top, chain[-1:]) + [lost]
+    paths += forced_over(fresh, chain[-3], chain[-2:])
+    return paths + [[*lost, next(fresh)] for _ in range(count // 2)]
+
+
 def fails_before_a_chain(count):
     """By turns paths that force an edge, and one whose first order leads along one chain."""
     fresh = iter(range(2000001, 3000000))
@@ -323,14 +335,20 @@ def infers(folder, tor, runs):
     rows = [
         ("wishes that fail along one chain", failing_wishes, 5000),
         ("chains that are asked to turn", turned_chains, 5000),
+        ("walks along a chain that are taken over", walks_taken_over, 5000),
     ]
     for name, paths_of, count in rows:
-        least = []
+        least, texts = [], []
         for size in (count, 2 * count):
             file = made(folder, "asked", lambda: dump(paths_of(size)))
-            least.append(min(run([tor, file])[0] for _ in range(runs)))
+            times = []
+            for _ in range(runs):
+                seconds, _, text = run([tor, file])
+                times.append(seconds)
+            least.append(min(times))
+            texts.append(len(text) / 1e6)
         print(f"{name}, {count:,} and {2 * count:,}: {least[0]:.3f} s and {least[1]:.3f} s, "
-              f"{least[1] / max(least[0], 0.001):.1f} times as long", flush=True)
+              f"{least[1] / max(least[0], 0.001):.1f} times as long, texts of {texts[0]:.1f} and {texts[1]:.1f} MB", flush=True)
 
 
 def main():

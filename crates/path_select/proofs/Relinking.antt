@@ -1,7 +1,7 @@
 -- Why the walk of a path that was lost by one triple alone refutes each later path with this triple.
-use Rattle.std.proofs.Common.{◌≡◌, ◌≢◌, ℕ, zero, suc, ◌+◌, ◌<◌, ◌⊎◌, inl, inr, List, [], ◌∷◌, ◌++◌, Some, length, map, refl, sym, ap, ◌∙◌, subst, arith, append_assoc, All, Contains, eq-eqb, ne_eqb}
+use Rattle.std.proofs.Common.{◌≡◌, ◌≢◌, ℕ, zero, suc, ◌+◌, ◌-◌, ◌<◌, ◌≤◌, ◌⊎◌, inl, inr, List, [], ◌∷◌, ◌++◌, Some, length, map, get_or, refl, sym, ap, ◌∙◌, subst, arith, append_assoc, All, Contains, eq-eqb, ne_eqb}
 use Rattle.std.proofs.Common.{length-append, append-nil, IfSome, IsTrue}
-use Rattle.std.specs.Prelude.{slice_get}
+use Rattle.std.specs.Prelude.{Option, slice_get}
 use Rattle.std.proofs.lemmas.Bool.{cases_eq}
 use Rattle.relationships.specs.declared.walk.Link.{Link}
 use Rattle.relationships.specs.declared.walk.Walk.{Walk}
@@ -10,19 +10,21 @@ use Rattle.relationships.specs.Fates.{walk_of, is_kept}
 use Rattle.relationships.specs.Graph.{Edge, edges}
 use Rattle.relationships.specs.Evidence.{NeighboursDiffer, Numbered, StandAt, TripleAt, Fits, IsLinked, Refutes}
 use Rattle.relationships.proofs.Places.{index-from_StandAt}
-use Rattle.tor_arena.proofs.Gets.{slice_get-push_old, slice_get-push_last, slice_get-push_cases}
+use Rattle.tor_arena.proofs.Gets.{slice_get-push_old, slice_get-push_last, slice_get-push_cases, slice_get-set_cases}
 use Rattle.as_graph.specs.EdgeSteps.{EdgeStep}
 use Rattle.as_graph.specs.Steps.{IsStep, AreStepsFrom, AreSteps}
 use Rattle.as_graph.specs.Paths.{path_at}
 use Rattle.tor_clauses.specs.Literals.{lit_of, Says}
 use Rattle.tor_clauses.specs.Formulas.{numbered, IsLinkOf}
 use Rattle.tor_clauses.proofs.Members.{In, In-append_left, In-append_right, In-append_cases, In-map, map-In, Contains-In, In-Contains}
+use Rattle.tor_clauses.proofs.Adding.{get_from_or}
 use Rattle.tor_clauses.proofs.LiteralLemmas.{lit_of_node}
 use Rattle.tor_clauses.proofs.Overs.{Says-one}
 use Rattle.relationships.proofs.WalkLemmas.{apart_at, apart_next}
 use Rattle.path_select.specs.declared.refusals.Refusal.{Refusal}
 use Rattle.path_select.specs.declared.refusals.Met.{Met}
-use Rattle.path_select.specs.Refusals.{node_at, relink, relinked, NamesOnly, HasTriple, RefutesTriple, IsRefusalOf, AreRefused, HasLostTriple, Remembers}
+use Rattle.path_select.specs.Refusals.{node_at, relink, relinked, NamesOnly, HasTriple, RefutesTriple, IsRefusalOf, AreRefused, HasRefusedTriple, IsOfPath}
+use Rattle.path_select.specs.Refusals.{IsMetWith, IsSameTriple, UsesAt, IsPut, Remembers}
 use Rattle.path_select.proofs.Ways.{some_same}
 
 -- ---- one place of a path, one triple
@@ -201,6 +203,31 @@ step_triple graph path steps k s t at apart lt are here next is =
       says_at (edges graph) y z t (apart_next stand.before x y z stand.after distinct) two,
     )
 
+-- so for the steps before and at a place, as they are read
+pub triple_before : (graph : List (List ℕ)) (path : ℕ) (steps : List EdgeStep) (next : ℕ) (s t : EdgeStep) → All NeighboursDiffer graph → path < length graph →
+    AreSteps (edges graph) (path_at graph path) steps → 1 ≤ next → next < length steps → s ≡ get_or steps (next - 1) s → t ≡ get_or steps next t →
+    HasTriple graph path (next + 1) (node_at s) (node_at t)
+triple_before graph path steps next s t apart lt are from within at-s at-t =
+    let k = next - 1 in
+    let is : suc k ≡ next = omega (arith, from) in
+    let here : slice_get steps k ≡ Some s = get_from_or steps k s (omega (arith, from, within)) at-s in
+    let there : slice_get steps (suc k) ≡ Some t = get_from_or steps (suc k) t (omega (arith, is, within)) (subst (λ n. t ≡ get_or steps n t) (sym is) at-t) in
+    step_triple graph path steps k s t (next + 1) apart lt are here there (omega (arith, from))
+
+-- so it has that of a refusal of these nodes
+pub hit_triple : (graph : List (List ℕ)) (path : ℕ) (refusals : List Refusal) (at : ℕ) (s t : EdgeStep) (met : Met) → HasTriple graph path at (node_at s) (node_at t) →
+    IsMetWith refusals (node_at s) (node_at t) at met → HasRefusedTriple graph path refusals met
+hit_triple graph path refusals at s t met has (r, there, first, second, place) = (
+  r,
+  there,
+  subst (λ n. HasTriple graph path n r.first r.second) (sym place)
+      (subst (λ n. HasTriple graph path at n r.second) (sym first) (subst (HasTriple graph path at (node_at s)) (sym second) has)),
+)
+
+pub one_of_two : (P : Met → Type 0) (before here now : Option Met) → (now ≡ before) ⊎ (now ≡ here) → IfSome before P → IfSome here P → IfSome now P
+one_of_two P before here now (inl is) first second = subst (λ o. IfSome o P) (sym is) first
+one_of_two P before here now (inr is) first second = subst (λ o. IfSome o P) (sym is) second
+
 -- ---- refusals, as paths are kept and lost
 
 pub none_refused : (graph : List (List ℕ)) (kept : List ℕ) (fates : List Fate) (refusals : List Refusal) → refusals ≡ [] → AreRefused graph kept fates refusals
@@ -221,13 +248,43 @@ module _ (graph : List (List ℕ)) (kept : List ℕ) where
   all_more fates fate later refusals all k r there = refused_more fates fate later r (all k r there)
 
   -- a path that meets a refusal is lost by the walk of its path
-  pub met_refutes : (path : ℕ) (fates : List Fate) (refusals : List Refusal) (met : Met) (walk : Walk) → AreRefused graph kept fates refusals → HasLostTriple graph path refusals met →
-      ((w : Walk) → slice_get fates met.lost ≡ Some (Fate.Lost w) → walk ≡ relinked (met.lost + 1) (record { path = path + 1; at = met.at }) w) →
+  pub met_refutes : (path lost : ℕ) (fates : List Fate) (refusals : List Refusal) (met : Met) (walk : Walk) → AreRefused graph kept fates refusals →
+      HasRefusedTriple graph path refusals met → IsOfPath refusals met.refusal lost →
+      ((w : Walk) → slice_get fates lost ≡ Some (Fate.Lost w) → walk ≡ relinked (lost + 1) (record { path = path + 1; at = met.at }) w) →
       Refutes (numbered graph (kept ++ path ∷ [])) walk
-  met_refutes path fates refusals met walk all (first, second, (k, there), has) again =
-      let (w, lost, refuses) = all k (record { first = first; second = second; path = met.lost }) there in
-      let link = link_of graph path (kept ++ path ∷ []) met.at first second (In-append_right path kept (path ∷ []) (inl refl)) has in
-      subst (Refutes (numbered graph (kept ++ path ∷ []))) (sym (again w lost)) (refuses (path ∷ []) (record { path = path + 1; at = met.at }) link)
+  met_refutes path lost fates refusals met walk all (r, there, has) of again =
+      let same : of.0 ≡ r = some_same (sym of.1 ∙ there) in
+      let is : r.path ≡ lost = ap (λ (q : Refusal). q.path) (sym same) ∙ of.2 in
+      let (w, was, refuses) = all met.refusal r there in
+      let link = link_of graph path (kept ++ path ∷ []) met.at r.first r.second (In-append_right path kept (path ∷ []) (inl refl)) has in
+      let by : Refutes (numbered graph (kept ++ path ∷ [])) (relinked (lost + 1) (record { path = path + 1; at = met.at }) w) =
+      subst (λ n. Refutes (numbered graph (kept ++ path ∷ [])) (relinked (n + 1) (record { path = path + 1; at = met.at }) w)) is
+      (refuses (path ∷ []) (record { path = path + 1; at = met.at }) link) in
+      subst (Refutes (numbered graph (kept ++ path ∷ []))) (sym (again w (subst (λ n. slice_get fates n ≡ Some (Fate.Lost w)) is was))) by
+
+  -- what is counted of a refusal is no part of why it refutes
+  same_triple : (fates : List Fate) (r s : Refusal) → IsSameTriple r s → IsRefusalOf graph kept fates r → IsRefusalOf graph kept fates s
+  same_triple fates r s same (w, lost, refuses) = (
+    w,
+    subst (λ n. slice_get fates n ≡ Some (Fate.Lost w)) (sym same.path) lost,
+    subst (λ n. RefutesTriple graph kept s.first s.second (n + 1) w) (sym same.path)
+        (subst (λ n. RefutesTriple graph kept s.first n (r.path + 1) w) (sym same.second)
+        (subst (λ n. RefutesTriple graph kept n r.second (r.path + 1) w) (sym same.first) refuses)),
+  )
+
+  pub still_refused : (fates : List Fate) (place : ℕ) (old new : List Refusal) → AreRefused graph kept fates old → UsesAt place old new → AreRefused graph kept fates new
+  still_refused fates place old new all (r, s, there, same, is) k q at =
+      elim (slice_get-set_cases old place s k q (ap (λ (l : List Refusal). slice_get l k) (sym is) ∙ at)) [
+        | inl h ↦ subst (IsRefusalOf graph kept fates) (sym h.1) (same_triple fates r s same (all place r there))
+        | inr h ↦ all k q h.1
+      ]
+
+  -- where a refusal is put, each is this one or was there
+  put_cases : (r : Refusal) (old new : List Refusal) (k : ℕ) (q : Refusal) → IsPut r old new → slice_get new k ≡ Some q → (slice_get old k ≡ Some q) ⊎ (q ≡ r)
+  put_cases r old new k q (inl is) at =
+      elim (slice_get-push_cases old r k q (ap (λ (l : List Refusal). slice_get l k) (sym is) ∙ at)) [ inl h ↦ inl h | inr h ↦ inr h.1 ]
+  put_cases r old new k q (inr (place, is)) at =
+      elim (slice_get-set_cases old place r k q (ap (λ (l : List Refusal). slice_get l k) (sym is) ∙ at)) [ inl h ↦ inr h.1 | inr h ↦ inl h.1 ]
 
   -- a path is lost, and its triple is remembered
   module _ (path : ℕ) (fates : List Fate) (w : Walk) (next : length fates ≡ path)
@@ -248,9 +305,9 @@ module _ (graph : List (List ℕ)) (kept : List ℕ) where
 
     lost_too : Remembers graph path (Fate.Lost w) old new → AreRefused graph kept (fates ++ Fate.Lost w ∷ []) new
     lost_too (inl same) k r there = still r (all k r (ap (λ (l : List Refusal). slice_get l k) (sym same) ∙ there))
-    lost_too (inr adds) k r there = elim (slice_get-push_cases old adds.refusal k r (ap (λ (l : List Refusal). slice_get l k) (sym adds.added) ∙ there)) [
+    lost_too (inr puts) k r there = elim (put_cases puts.refusal old new k r puts.put there) [
       | inl h ↦ still r (all k r h)
-      | inr h ↦ subst (IsRefusalOf graph kept (fates ++ Fate.Lost w ∷ [])) (sym h.1) (one_refuses adds.at adds.refusal adds.named adds.alone adds.triple)
+      | inr h ↦ subst (IsRefusalOf graph kept (fates ++ Fate.Lost w ∷ [])) (sym h) (one_refuses puts.at puts.refusal puts.named puts.alone puts.triple)
     ]
 
   -- what becomes of a path is remembered

@@ -1,5 +1,5 @@
 -- Triples that were refused alone, and why a later path with one of them is lost by the same walk.
-use Rattle.std.specs.Prelude.{◌≡◌, ◌⊎◌, ℕ, ◌+◌, ◌==◌, List, [], ◌∷◌, ◌++◌, Some, map, slice_get, if◌then◌else◌}
+use Rattle.std.specs.Prelude.{◌≡◌, ◌⊎◌, ℕ, ◌+◌, ◌==◌, List, [], ◌∷◌, ◌++◌, Some, map, slice_get, slice_set, if◌then◌else◌}
 use Rattle.relationships.specs.declared.walk.Link.{Link}
 use Rattle.relationships.specs.declared.walk.Walk.{Walk}
 use Rattle.relationships.specs.declared.fate.Fate.{Fate}
@@ -51,25 +51,44 @@ abbrev pub AreSatisfiedOn : List End → List EdgeStep → Type 0
 AreSatisfiedOn ends steps = (k : ℕ) (s t : EdgeStep) → slice_get steps k ≡ Some s → slice_get steps (k + 1) ≡ Some t →
     Holds ends (lit_of (node_at s)) → Holds ends (lit_of (node_at t))
 
--- one of the refusals is of this path and of a triple of these nodes
-abbrev pub IsLostBy : List Refusal → ℕ → ℕ → ℕ → Type 0
-IsLostBy refusals first second lost = (k : ℕ) × (slice_get refusals k ≡ Some (record { first = first; second = second; path = lost }))
+-- the refusal is of a triple of these nodes, whose middle AS stands at this place of a path
+abbrev pub IsMetWith : List Refusal → ℕ → ℕ → ℕ → Met → Type 0
+IsMetWith refusals first second at met =
+    (r : Refusal) × (slice_get refusals met.refusal ≡ Some r) × (r.first ≡ first) × (r.second ≡ second) × (met.at ≡ at)
 
--- the path has the triple of a refusal, whose path is named
-abbrev pub HasLostTriple : List (List ℕ) → ℕ → List Refusal → Met → Type 0
-HasLostTriple graph path refusals met =
-    (first second : ℕ) × IsLostBy refusals first second met.lost × HasTriple graph path met.at first second
+-- the path has the triple of a refusal, whose place is named
+abbrev pub HasRefusedTriple : List (List ℕ) → ℕ → List Refusal → Met → Type 0
+HasRefusedTriple graph path refusals met =
+    (r : Refusal) × (slice_get refusals met.refusal ≡ Some r) × HasTriple graph path met.at r.first r.second
 
--- the refusals with one more of this path, whose walk has no link into it but of the triple
-pub record Adds (graph : List (List ℕ)) (path : ℕ) (w : Walk) (old new : List Refusal) : Type 0 where
+-- the refusal at this place is of this path
+abbrev pub IsOfPath : List Refusal → ℕ → ℕ → Type 0
+IsOfPath refusals place path = (r : Refusal) × (slice_get refusals place ≡ Some r) × (r.path ≡ path)
+
+-- the same but for what is counted of it
+pub record IsSameTriple (old new : Refusal) : Type 0 where
+  pub first : new.first ≡ old.first
+  pub second : new.second ≡ old.second
+  pub path : new.path ≡ old.path
+
+-- only what is counted of the refusal at this place may be another
+abbrev pub UsesAt : ℕ → List Refusal → List Refusal → Type 0
+UsesAt place old new = (r s : Refusal) × (slice_get old place ≡ Some r) × IsSameTriple r s × (new ≡ slice_set old place s)
+
+-- the refusal goes last, or in the place of another
+abbrev pub IsPut : Refusal → List Refusal → List Refusal → Type 0
+IsPut r old new = (new ≡ old ++ r ∷ []) ⊎ ((place : ℕ) × (new ≡ slice_set old place r))
+
+-- the refusals with one of this path, whose walk has no link into it but of the triple
+pub record Puts (graph : List (List ℕ)) (path : ℕ) (w : Walk) (old new : List Refusal) : Type 0 where
   pub refusal : Refusal
-  pub added : new ≡ old ++ refusal ∷ []
+  pub put : IsPut refusal old new
   pub named : refusal.path ≡ path
   pub at : ℕ
   pub alone : NamesOnly (path + 1) at w.links
   pub triple : HasTriple graph path at refusal.first refusal.second
 
--- what becomes of the path is remembered: where it is lost there may be one more
+-- what becomes of the path is remembered: where it is lost there may be a refusal of it
 abbrev pub Remembers : List (List ℕ) → ℕ → Fate → List Refusal → List Refusal → Type 0
 Remembers graph path Fate.Kept old new = new ≡ old
-Remembers graph path (Fate.Lost w) old new = (new ≡ old) ⊎ Adds graph path w old new
+Remembers graph path (Fate.Lost w) old new = (new ≡ old) ⊎ Puts graph path w old new

@@ -5,14 +5,19 @@ ghost use Rattle.relationships.specs.declared.fate.Fate.{Fate as Becoming};
 ghost use Rattle.relationships.specs.declared.walk.Walk.{Walk as Evidence};
 ghost use Rattle.relationships.specs.Graph.{edges};
 ghost use Rattle.tor_arena.specs.Limits.{max_numbers};
-ghost use Rattle.path_select.specs.Refusals.{node_at, AreSatisfiedOn, relink, relinked, NamesOnly, IsLostBy, HasLostTriple, Remembers};
+ghost use Rattle.path_select.specs.Refusals.{node_at, AreSatisfiedOn, relink, relinked, NamesOnly, IsMetWith, HasRefusedTriple};
+ghost use Rattle.path_select.specs.Refusals.{IsSameTriple, IsPut, UsesAt, IsOfPath, Remembers};
 
+use crate::known::LONGEST;
 use as_graph::{AsGraph, Step};
 use relationships::{End, Fate, Fates, Link, Walk};
 use std::alloc::Global;
 use tor_arena::{Index, Keys, List, NoMemory, NodeId, PathId};
 use tor_clauses::{Lit, number_of};
 use tor_numbers::PlaceTable;
+
+/// A walk of no more links is used again however often: one along two ways that are remembered has no more.
+const SHORT: usize = 2 * LONGEST;
 
 /// A triple that was refused alone: a path was lost, and no link of its walk leads into this path but to the triple.
 #[derive(Clone, Copy)]
@@ -23,6 +28,12 @@ pub(crate) struct Refusal {
     pub(crate) second: NodeId,
     /// The path that was lost.
     pub(crate) path: PathId,
+    /// How many links its walk has.
+    pub(crate) links: usize,
+    /// How many links other paths took over from the walk since a shorter one was last looked for.
+    pub(crate) written: usize,
+    /// How many they take over at least until a shorter one is looked for again.
+    pub(crate) wait: usize,
 }
 
 /// Triples that were refused alone. A later path with one of them is lost by the same walk.
@@ -31,100 +42,148 @@ pub(crate) struct Refusals {
     /// The numbers of their pairs of nodes, in the order of the refusals: where a pair may be found.
     pub(crate) pairs: PlaceTable,
     /// The refusals.
-    pub(crate) items: List<Refusal>,
-}
-
-/// What is known of the paths that were offered before.
-#[derive(Clone, Copy)]
-pub(crate) struct Past<'a> {
-    /// What became of each.
-    pub(crate) fates: &'a Fates,
-    /// The triples that were refused alone.
-    pub(crate) refusals: &'a Refusals,
+    pub(crate) items: Vec<Refusal>,
 }
 
 /// The refusal that a path meets.
 #[derive(Clone, Copy)]
 pub(crate) struct Met {
-    /// The path that was lost before.
-    pub(crate) lost: PathId,
-    /// The place on the path that meets it, from 1, of the middle AS of the triple.
+    /// The place of the refusal, from 0.
+    pub(crate) refusal: usize,
+    /// The place on the path, from 1, of the middle AS of the triple.
     pub(crate) at: u32,
+    /// How many links the walk of the refusal has.
+    pub(crate) links: usize,
+}
+
+impl Refusal {
+    /// Whether a shorter walk is to be looked for in a graph of so many arcs: the walk is long, and what was taken over from it since the
+    /// last time pays for a look along all arcs, and comes to twice what was taken over before. It takes no memory.
+    fn is_due(&self, arcs: usize) -> bool {
+        self.links > SHORT && self.written >= self.wait.max(arcs)
+    }
+
+    /// The same, once one path more has taken over its walk. It takes no memory.
+    fn used(&self) -> Refusal
+        ensures { IsSameTriple self.now result }
+    {
+        Refusal {
+            written: self.written.saturating_add(self.links),
+            ..*self
+        }
+    }
+
+    /// The same, once a shorter walk is looked for. It takes no memory.
+    fn looked_for(&self) -> Refusal
+        ensures { IsSameTriple self.now result }
+    {
+        Refusal {
+            written: 0,
+            wait: self.written.saturating_mul(2),
+            ..*self
+        }
+    }
 }
 
 impl Refusals {
     /// No refusals, in a table with these keys. It takes no memory.
     pub(crate) fn none(alloc: Global, keys: Keys) -> Refusals
-        ensures { result.items ≡ [] }
+        ensures { result.items.items ≡ [] }
     {
         Refusals {
             pairs: PlaceTable::new(alloc, keys),
-            items: List::new(alloc),
+            items: Vec::new(alloc),
         }
     }
 
-    /// The path that was lost with a triple of these nodes, if one is found. It takes no memory.
-    fn lost_with(&self, first: NodeId, second: NodeId) -> Option<PathId>
-        ensures { IfSome result (IsLostBy self.now.items first second) }
+    /// The refusal of a triple of these nodes, the middle AS of which stands at this place of a path, if one is found. It takes no memory.
+    fn met_with(&self, first: NodeId, second: NodeId, at: u32) -> Option<Met>
+        ensures { IfSome result (IsMetWith self.now.items.items first second at) }
     {
-        let place = self.pairs.place(number_of((first, second)))?;
-        let items = self.items.as_slice();
-        if place >= items.len() {
+        let refusal = self.pairs.place(number_of((first, second)))?;
+        if refusal >= self.items.len() {
             return None;
         }
-        let refusal = items[place];
-        if refusal.first == first && refusal.second == second {
-            Some(refusal.path)
+        let found = &self.items[refusal];
+        if found.first == first && found.second == second {
+            let links = found.links;
+            Some(Met { refusal, at, links })
         } else {
             None
         }
     }
 
-    /// The path that was lost with a triple of these steps, if these providers do not satisfy it and one is found. It takes no memory.
-    fn lost_unless_satisfied(&self, ends: &[End], first: &Step, second: &Step) -> Option<PathId>
+    /// The refusal of a triple of these steps, if these providers do not satisfy it and one is found. It takes no memory.
+    fn met_unless_satisfied(
+        &self,
+        ends: &[End],
+        first: &Step,
+        second: &Step,
+        at: u32,
+    ) -> Option<Met>
         requires first { first.now.edge < length ends.now }
         requires second { second.now.edge < length ends.now }
         requires few { length ends.now < max_numbers }
-        ensures { IfSome result (IsLostBy self.now.items (node_at first.now) (node_at second.now)) }
+        ensures { IfSome result (IsMetWith self.now.items.items (node_at first.now) (node_at second.now) at) }
     {
         if !Lit::of_step(first).holds(ends) || Lit::of_step(second).holds(ends) {
             return None;
         }
         let (first, second) = (Lit::of_step(first).node(), Lit::of_step(second).node());
-        self.lost_with(first, second)
+        self.met_with(first, second, at)
     }
 
-    /// The refusal that a path meets, if it has the triple of one that these providers do not satisfy. It takes no memory.
+    /// The refusal that a path meets, if it has the triple of one that these providers do not satisfy: the first with a short walk, or
+    /// else that with the shortest. It takes no memory.
     pub(crate) fn find(&self, graph: &AsGraph, ends: &[End], path: PathId) -> Option<Met>
         requires there { path < length graph.now }
         requires ends { length ends.now ≡ length (edges graph.now) }
-        ensures { IfSome result (HasLostTriple graph.now path self.now.items) }
+        ensures { IfSome result (HasRefusedTriple graph.now path self.now.items.items) }
     {
         graph.facts();
         let steps = graph.steps(path);
         if self.items.is_empty() || are_satisfied(ends, steps) {
             return None;
         }
+        let mut met = None;
         for next in 1..steps.len() {
             let (first, second) = (&steps[next - 1], &steps[next]);
-            if let Some(lost) = self.lost_unless_satisfied(ends, first, second) {
-                return Some(Met {
-                    lost,
-                    at: next as u32 + 1,
-                });
+            let here = self.met_unless_satisfied(ends, first, second, next as u32 + 1);
+            met = shorter(met, here);
+            if is_short(met) {
+                return met;
             }
         }
-        None
+        met
     }
 
-    /// Adds a refusal, unless there is one of its triple.
-    fn add(&mut self, refusal: Refusal) -> Result<(), NoMemory>
-        ensures { OnOk result ((self.new.items ≡ self.old.items) ⊎ (self.new.items ≡ self.old.items ++ refusal ∷ [])) }
+    /// The path whose walk is taken over by one that meets the refusal at a place. None where a shorter walk is to be looked for, which
+    /// is then noted, in a graph of so many arcs. It takes no memory.
+    pub(crate) fn use_again(&mut self, place: usize, arcs: usize) -> Option<PathId>
+        requires there { place < length self.old.items.items }
+        ensures uses { UsesAt place self.old.items.items self.new.items.items }
+        ensures lost { IfSome result (IsOfPath self.old.items.items place) }
+    {
+        let refusal = self.items[place];
+        if refusal.is_due(arcs) {
+            self.items[place] = refusal.looked_for();
+            return None;
+        }
+        self.items[place] = refusal.used();
+        Some(refusal.path)
+    }
+
+    /// Adds a refusal, or puts it in the place of the one of its triple, if there is one with a longer walk.
+    fn put(&mut self, refusal: Refusal) -> Result<(), NoMemory>
+        ensures { OnOk result ((self.new.items.items ≡ self.old.items.items) ⊎ IsPut refusal self.old.items.items self.new.items.items) }
     {
         let pair = (refusal.first, refusal.second);
         let place = self.pairs.add(number_of(pair))?;
-        if place == self.items.len() {
+        let count = self.items.len();
+        if place == count {
             self.items.push(refusal)?;
+        } else if place < count && refusal.links < self.items[place].links {
+            self.items[place] = refusal;
         }
         Ok(())
     }
@@ -137,7 +196,7 @@ impl Refusals {
         fate: &Fate,
     ) -> Result<(), NoMemory>
         requires { path < length graph.now }
-        ensures { OnOk result (Remembers graph.now path fate.now self.old.items self.new.items) }
+        ensures { OnOk result (Remembers graph.now path fate.now self.old.items.items self.new.items.items) }
     {
         graph.facts();
         let Fate::Lost(walk) = fate else {
@@ -154,11 +213,33 @@ impl Refusals {
         }
         let first = Lit::of_step(&steps[at - 2]).node();
         let second = Lit::of_step(&steps[at - 1]).node();
-        self.add(Refusal {
+        self.put(Refusal {
             first,
             second,
             path,
+            links: walk.links.len(),
+            written: 0,
+            wait: 0,
         })
+    }
+}
+
+/// The one of two refusals that has the shorter walk, if there are two. It takes no memory.
+fn shorter(before: Option<Met>, here: Option<Met>) -> Option<Met>
+    ensures { (result ≡ before) ⊎ (result ≡ here) }
+{
+    match (before, here) {
+        (Some(one), Some(other)) if one.links <= other.links => before,
+        (Some(_), None) => before,
+        _ => here,
+    }
+}
+
+/// Whether the walk of this refusal is short. It takes no memory.
+fn is_short(met: Option<Met>) -> bool {
+    match met {
+        None => false,
+        Some(met) => met.links <= SHORT,
     }
 }
 

@@ -19,7 +19,7 @@ loop-place-init c =
     record {
       so = none_so_far c.args.graph.now c.args.selector.now.formula.paths c.args.fates.now c.len-place.result c.args.selector.now.formula
           c.len-place.ensures (omega (arith, le, all)) c.requires.fits refl;
-      refused = none_refused c.args.graph.now c.args.selector.now.formula.paths c.args.fates.now c.args.refusals.now.items c.requires.refused;
+      refused = none_refused c.args.graph.now c.args.selector.now.formula.paths c.args.fates.now c.args.refusals.now.items.items c.requires.refused;
     }
 
 pub offer-requires-clause-next : goal.offer-requires-clause-next
@@ -41,7 +41,7 @@ loop-place-preserved c =
     c.unwrap-path.result same fate c.offer.new.selector.formula e.fits e.exact e.kept (same_formula fate c.offer.new.selector c.loop-place.selector e.lost) e.walk in
     record {
       so = subst (λ fates. IsSoFar graph c.args.selector.now.formula.paths c.args.fates.now (c.loop-place.place + 1) fates c.offer.new.selector.formula) added next;
-      refused = subst (λ fates. AreRefused graph c.offer.new.selector.formula.paths fates c.offer.new.refusals.items) added refused;
+      refused = subst (λ fates. AreRefused graph c.offer.new.selector.formula.paths fates c.offer.new.refusals.items.items) added refused;
     }
 
 pub returns-clause-same : goal.returns-clause-same

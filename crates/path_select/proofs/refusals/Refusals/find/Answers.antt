@@ -1,21 +1,31 @@
-use Rattle.std.proofs.Common.{rules, ◌≡◌, ◌≤◌, ◌-◌, ◌+◌, suc, Some, get_or, sym, subst, arith}
-use Rattle.std.specs.Prelude.{slice_get}
-use Rattle.tor_clauses.proofs.Adding.{get_from_or}
-use Rattle.path_select.specs.Refusals.{node_at, IsLostBy}
-use Rattle.path_select.proofs.Relinking.{step_triple}
+use Rattle.std.proofs.Common.{◌+◌, arith}
+use Rattle.std.proofs.lemmas.Option.{IfSome_then}
+use Rattle.path_select.specs.Refusals.{HasRefusedTriple}
+use Rattle.path_select.proofs.Relinking.{triple_before, hit_triple, one_of_two}
 use Rattle.path_select.proofs.refusals.Refusals.find.Goals as goal
 
-pub returns-in-Some : goal.returns-in-Some
-returns-in-Some c =
-    let steps = c.steps-steps.result.now in
+pub loop-next-preserved : goal.loop-next-preserved
+loop-next-preserved c =
+    let graph = c.args.graph.now in
+    let path = c.args.path in
+    let items = c.args.self.now.items.items in
+    let next = c.loop-next.next in
     let s = c.index-steps-next.result in
     let t = c.index-steps-next-in-loop-next.result in
-    let k = c.loop-next.next - 1 in
-    let from : 1 ≤ c.loop-next.next = omega arith in
-    let next : suc k ≡ c.loop-next.next = omega (arith, from) in
-    let here : slice_get steps k ≡ Some s = get_from_or steps k s (omega (arith, from, c.loop-next-test.true)) c.index-steps-next.is in
-    let there : slice_get steps (suc k) ≡ Some t = get_from_or steps (suc k) t (omega (arith, next, c.loop-next-test.true)) (subst (λ n. t ≡ get_or steps n t) (sym next)
-    c.index-steps-next-in-loop-next.is) in
-    let at : 2 + k ≡ c.loop-next.next + 1 = omega (arith, from) in
-    let lost : IsLostBy c.args.self.now.items (node_at s) (node_at t) c.in-Some.lost = search rules in
-    (node_at s, node_at t, lost, step_triple c.args.graph.now c.args.path steps k s t (c.loop-next.next + 1) c.facts.ensures.apart c.requires.there c.steps-steps.ensures.steps here there at)
+    let has = triple_before graph path c.steps-steps.result.now next s t c.facts.ensures.apart c.requires.there c.steps-steps.ensures.steps (omega arith) c.loop-next-test.true
+    c.index-steps-next.is c.index-steps-next-in-loop-next.is in
+    one_of_two (HasRefusedTriple graph path items) c.loop-next.met c.met_unless_satisfied-here.result c.shorter-met.result c.shorter-met.ensures c.loop-next.invariant
+    (IfSome_then c.met_unless_satisfied-here.result c.met_unless_satisfied-here.ensures (λ met. hit_triple graph path items (next + 1) s t met has))
+
+pub returns-then-is_short : goal.returns-then-is_short
+returns-then-is_short c =
+    let graph = c.args.graph.now in
+    let path = c.args.path in
+    let items = c.args.self.now.items.items in
+    let next = c.loop-next.next in
+    let s = c.index-steps-next.result in
+    let t = c.index-steps-next-in-loop-next.result in
+    let has = triple_before graph path c.steps-steps.result.now next s t c.facts.ensures.apart c.requires.there c.steps-steps.ensures.steps (omega arith) c.loop-next-test.true
+    c.index-steps-next.is c.index-steps-next-in-loop-next.is in
+    one_of_two (HasRefusedTriple graph path items) c.loop-next.met c.met_unless_satisfied-here.result c.shorter-met.result c.shorter-met.ensures c.loop-next.invariant
+    (IfSome_then c.met_unless_satisfied-here.result c.met_unless_satisfied-here.ensures (λ met. hit_triple graph path items (next + 1) s t met has))

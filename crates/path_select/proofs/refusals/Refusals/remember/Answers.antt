@@ -1,9 +1,9 @@
-use Rattle.std.proofs.Common.{rules, ◌≡◌, ◌≤◌, ◌+◌, ◌-◌, ℕ, suc, inl, inr, ◌++◌, ◌∷◌, [], Some, Result, Ok, Err, length, get_or, refl, sym, ap, ◌∙◌, subst, arith}
+use Rattle.std.proofs.Common.{rules, ◌≡◌, ◌≤◌, ◌+◌, ◌-◌, ℕ, suc, inl, inr, Some, Result, Ok, Err, length, get_or, refl, sym, ap, ◌∙◌, subst, arith}
 use Rattle.std.specs.Prelude.{slice_get, OnOk}
 use Rattle.tor_clauses.proofs.Adding.{get_from_or}
 use Rattle.tor_clauses.specs.Literals.{node_of}
 use Rattle.path_select.specs.declared.refusals.Refusal.{Refusal}
-use Rattle.path_select.specs.Refusals.{node_at, NamesOnly, HasTriple, Adds, Remembers}
+use Rattle.path_select.specs.Refusals.{node_at, NamesOnly, HasTriple, IsPut, Puts, Remembers}
 use Rattle.path_select.proofs.Relinking.{step_triple}
 use Rattle.path_select.proofs.refusals.Refusals.remember.Goals as goal
 
@@ -24,14 +24,14 @@ returns c =
     let next : suc k ≡ at - 1 = omega (arith, two) in
     let here : slice_get steps k ≡ Some s = get_from_or steps k s (omega (arith, two, within)) c.index-steps-at.is in
     let there : slice_get steps (suc k) ≡ Some t = get_from_or steps (suc k) t (omega (arith, next, two, within)) (subst (λ n. t ≡ get_or steps n t) (sym next) c.index-steps-at-2.is) in
-    let r : Refusal = record { first = c.node-first.result; second = c.node-second.result; path = c.args.path } in
+    let r : Refusal = record { first = c.node-first.result; second = c.node-second.result; path = c.args.path; links = c.len.result; written = 0; wait = 0 } in
     let has = step_triple graph c.args.path steps k s t at c.facts.ensures.apart c.requires c.steps-steps.ensures.steps here there (omega (arith, two)) in
     let first : r.first ≡ node_at s = c.node-first.ensures.node ∙ ap node_of c.of_step.ensures in
     let second : r.second ≡ node_at t = c.node-second.ensures.node ∙ ap node_of c.of_step-2.ensures in
     let triple : HasTriple graph c.args.path at r.first r.second =
     subst (λ n. HasTriple graph c.args.path at n r.second) (sym first) (subst (HasTriple graph c.args.path at (node_at s)) (sym second) has) in
     let alone : NamesOnly (c.args.path + 1) at c.in-Lost.walk.links = search rules in
-    let one : c.add.new.self.items ≡ c.args.self.now.items ++ r ∷ [] → Adds graph c.args.path c.in-Lost.walk c.args.self.now.items c.add.new.self.items =
-    λ added. record { refusal = r; added = added; named = refl; at = at; alone = alone; triple = triple } in
-    on_ok c.add.result (λ either. subst (λ f. Remembers graph c.args.path f c.args.self.now.items c.add.new.self.items) (sym c.in-Lost.is)
-    (elim either [ inl same ↦ inl same | inr added ↦ inr (one added) ])) c.add.ensures
+    let one : IsPut r c.args.self.now.items.items c.put.new.self.items.items → Puts graph c.args.path c.in-Lost.walk c.args.self.now.items.items c.put.new.self.items.items =
+    λ put. record { refusal = r; put = put; named = refl; at = at; alone = alone; triple = triple } in
+    on_ok c.put.result (λ either. subst (λ f. Remembers graph c.args.path f c.args.self.now.items.items c.put.new.self.items.items) (sym c.in-Lost.is)
+    (elim either [ inl same ↦ inl same | inr put ↦ inr (one put) ])) c.put.ensures
