@@ -1,0 +1,36 @@
+-- A picture is that of an AS.
+use Rattle.std.proofs.Common.{◌≡◌, ℕ, List, sym, ap, ◌∙◌, subst}
+use Rattle.result_text.specs.declared.file.EdgeLine.{EdgeLine}
+use Rattle.drawing.specs.declared.group.Group.{Group}
+use Rattle.drawing.specs.declared.group.Neighbour.{Neighbour}
+use Rattle.drawing.specs.declared.group.Tally.{Tally}
+use Rattle.drawing.specs.declared.group.Counts.{Counts}
+use Rattle.drawing.specs.declared.drawing.Drawing.{Drawing}
+use Rattle.drawing.specs.Neighbours.{neighbours, AreInOrder, tally}
+use Rattle.drawing.specs.Picture.{IsDrawingOf, drawing_by}
+use Rattle.drawing.specs.Tidy.{IsTidy}
+use Rattle.drawing.proofs.Sorting.{same_tally}
+use Rattle.drawing.proofs.Tidying.{drawing_tidy}
+
+abbrev counts_with : Tally → Tally → Tally → Counts
+counts_with p q c = record { providers = p; peers = q; customers = c }
+
+same_counts : (p q c p' q' c' : Tally) → p ≡ p' → q ≡ q' → c ≡ c' → counts_with p q c ≡ counts_with p' q' c'
+same_counts p q c p' q' c' e f g = ap (λ x. counts_with x q c) e ∙ ap (λ x. counts_with p' x c) f ∙ ap (λ x. counts_with p' q' x) g
+
+pub drawn : (edges : List EdgeLine) (a most : ℕ) (ps qs cs : List Neighbour) → AreInOrder a Group.Providers edges ps → AreInOrder a Group.Peers edges qs → AreInOrder a Group.Customers edges cs →
+    (d : Drawing) → d ≡ drawing_by a most ps qs cs → IsDrawingOf edges a most d
+drawn edges a most ps qs cs p q c d e = record {
+  providers = ps;
+  peers = qs;
+  customers = cs;
+  providers_are = p;
+  peers_are = q;
+  customers_are = c;
+  is = e;
+  counted = ap (λ x. x.counts) e ∙ same_counts (tally ps) (tally qs) (tally cs) _ _ _
+      (same_tally (neighbours a Group.Providers edges) ps p.same) (same_tally (neighbours a Group.Peers edges) qs q.same) (same_tally (neighbours a Group.Customers edges) cs c.same);
+}
+
+pub drawn_tidy : (a most : ℕ) (ps qs cs : List Neighbour) (d : Drawing) → d ≡ drawing_by a most ps qs cs → IsTidy d
+drawn_tidy a most ps qs cs d e = subst IsTidy (sym e) (drawing_tidy a most ps qs cs)

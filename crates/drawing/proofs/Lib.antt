@@ -1,0 +1,7 @@
+pub mod Cells
+pub mod Drawn
+pub mod Geometry
+pub mod Seats
+pub mod Sorting
+pub mod Tidying
+mod Vectors

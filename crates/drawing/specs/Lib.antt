@@ -1,0 +1,5 @@
+pub mod Neighbours
+pub mod Order
+pub mod Page
+pub mod Picture
+pub mod Tidy

@@ -1,0 +1,73 @@
+-- What makes a picture readable: boxes that keep apart, and lines that keep off the boxes that they do not join.
+use Rattle.std.specs.Prelude.{◌≡◌, ℕ, ◌+◌, ◌<◌, ◌≤◌, ◌⊎◌, All}
+use Rattle.std.specs.List.{AllPairs}
+use Rattle.drawing.specs.declared.page.Rect.{Rect}
+use Rattle.drawing.specs.declared.page.Line.{Line}
+use Rattle.drawing.specs.declared.drawing.Drawing.{Drawing}
+use Rattle.drawing.specs.Page.{page_width}
+
+-- the box lies on a page of this height
+abbrev pub Within : ℕ → Rect → Type 0
+Within height b = (b.x + b.width ≤ page_width) × (b.y + b.height ≤ height)
+
+-- the boxes have no point in common
+abbrev pub Apart : Rect → Rect → Type 0
+Apart b c = (b.x + b.width < c.x) ⊎ ((c.x + c.width < b.x) ⊎ ((b.y + b.height < c.y) ⊎ (c.y + c.height < b.y)))
+
+-- ---- a part of a line, from (x, y) to (u, v), which is level or upright
+
+-- it has no point in common with the box
+abbrev pub Misses : Rect → ℕ → ℕ → ℕ → ℕ → Type 0
+Misses b x y u v =
+    ((x < b.x) × (u < b.x)) ⊎ (((b.x + b.width < x) × (b.x + b.width < u)) ⊎ (
+    ((y < b.y) × (v < b.y)) ⊎ ((b.y + b.height < y) × (b.y + b.height < v))))
+
+-- it has no point inside the box, though maybe on its border
+abbrev pub StaysOutside : Rect → ℕ → ℕ → ℕ → ℕ → Type 0
+StaysOutside b x y u v =
+    ((x ≤ b.x) × (u ≤ b.x)) ⊎ (((b.x + b.width ≤ x) × (b.x + b.width ≤ u)) ⊎ (
+    ((y ≤ b.y) × (v ≤ b.y)) ⊎ ((b.y + b.height ≤ y) × (b.y + b.height ≤ v))))
+
+-- each part of the line does
+abbrev pub AllParts : (ℕ → ℕ → ℕ → ℕ → Type 0) → Line → Type 0
+AllParts P l =
+    P l.start_x l.start_y l.trunk_x l.start_y
+    × P l.trunk_x l.start_y l.trunk_x l.rail_y
+    × P l.trunk_x l.rail_y l.end_x l.rail_y
+    × P l.end_x l.rail_y l.end_x l.end_y
+
+-- ---- lines and boxes
+
+-- the line keeps off the box
+abbrev pub KeepsOff : Line → Rect → Type 0
+KeepsOff l b = AllParts (Misses b) l
+
+-- the point stands on the border of the box
+abbrev pub OnBorder : Rect → ℕ → ℕ → Type 0
+OnBorder b x y =
+    (((x ≡ b.x) ⊎ (x ≡ b.x + b.width)) × ((b.y ≤ y) × (y ≤ b.y + b.height)))
+    ⊎ (((y ≡ b.y) ⊎ (y ≡ b.y + b.height)) × ((b.x ≤ x) × (x ≤ b.x + b.width)))
+
+-- the line leads from the border of one box to that of the other, and through neither of them
+pub record Joins (l : Line) (b c : Rect) : Type 0 where
+  pub begins : OnBorder b l.start_x l.start_y
+  pub ends : OnBorder c l.end_x l.end_y
+  pub outside_one : AllParts (StaysOutside b) l
+  pub outside_other : AllParts (StaysOutside c) l
+
+-- each part of it lies on a page of this height
+abbrev pub LineWithin : ℕ → Line → Type 0
+LineWithin height l = AllParts (λ x y u v. (x ≤ page_width) × (u ≤ page_width) × (y ≤ height) × (v ≤ height)) l
+
+pub record IsTidy (d : Drawing) : Type 0 where
+  -- all boxes and lines lie on the page
+  pub centre_within : Within d.height d.centre
+  pub boxes_within : All (λ i. Within d.height i.at) d.items
+  pub lines_within : All (λ i. LineWithin d.height i.line) d.items
+  -- no two boxes have a point in common
+  pub off_centre : All (λ i. Apart d.centre i.at) d.items
+  pub apart : AllPairs (λ i j. Apart i.at j.at) d.items
+  -- each line joins the centre with its own box, and keeps off all others
+  pub joining : All (λ i. Joins i.line d.centre i.at) d.items
+  pub off_later : AllPairs (λ i j. KeepsOff i.line j.at) d.items
+  pub off_earlier : AllPairs (λ i j. KeepsOff j.line i.at) d.items
