@@ -5,3 +5,4 @@ pub mod Seats
 pub mod Sorting
 pub mod Tidying
 mod Vectors
+pub mod WellFormed

@@ -1,0 +1,385 @@
+//! The text of a picture.
+ghost use Rattle.std.specs.Prelude.{◌≡◌, ◌<◌, ◌^◌, [], ◌∷◌, ◌++◌, Some, codes, All, OnOk, IfOk};
+ghost use Rattle.std.specs.Io.KnownBytes.{append_known};
+ghost use Rattle.tor_io.specs.Outflow.{state, Puts};
+ghost use Rattle.drawing.specs.Svg.{word_of, number_of, rect, point, points, polyline, dashes, text_length, text_at, text_in};
+ghost use Rattle.drawing.specs.Svg.{entry_words, asked_words, tally_words, caption_words, legend_words, extent_words};
+ghost use Rattle.drawing.specs.Svg.{FitsNumbers, item_elements, items_elements, title_elements, centre_elements, page_box, start_text, svg_text};
+ghost use Rattle.drawing.specs.Tidy.{IsTidy};
+ghost use Rattle.drawing.specs.Xml.{IsDocument, attribute_text, end_text, element_text, elements_text};
+
+use crate::drawing::{Drawing, Entry, Item};
+use crate::group::{Counts, Tally};
+use crate::page::{Line, Rect};
+use relationships::Mark;
+use std::alloc::Global;
+use text_fields::put_number;
+use tor_arena::{List, NoMemory};
+use tor_io::{Buffer, ListSink, Outflow, Sink};
+
+// Each function puts something behind what waits for the sink.
+
+fn put_attribute<S: Sink>(out: &mut S, flow: &mut Outflow<'_>, name: &[u8], word: &[u8])
+    ensures { Puts (state (S.held out.old) (S.faults out.old) flow.old) (state (S.held out.new) (S.faults out.new) flow.new)
+        (attribute_text (word_of name.now word.now)) }
+{
+    flow.put_byte(out, b' ');
+    flow.put(out, name);
+    flow.put(out, b"=\"");
+    flow.put(out, word);
+    flow.put_byte(out, b'"');
+}
+
+fn put_number_attribute<S: Sink>(out: &mut S, flow: &mut Outflow<'_>, name: &[u8], n: u64)
+    ensures { Puts (state (S.held out.old) (S.faults out.old) flow.old) (state (S.held out.new) (S.faults out.new) flow.new)
+        (attribute_text (number_of name.now n)) }
+{
+    flow.put_byte(out, b' ');
+    flow.put(out, name);
+    flow.put(out, b"=\"");
+    flow.put_number(out, n);
+    flow.put_byte(out, b'"');
+}
+
+fn put_rect<S: Sink>(out: &mut S, flow: &mut Outflow<'_>, at: &Rect)
+    ensures { Puts (state (S.held out.old) (S.faults out.old) flow.old) (state (S.held out.new) (S.faults out.new) flow.new)
+        (element_text (rect at.now)) }
+{
+    flow.put(out, b"<rect");
+    put_number_attribute(out, flow, b"x", at.x);
+    put_number_attribute(out, flow, b"y", at.y);
+    put_number_attribute(out, flow, b"width", at.width);
+    put_number_attribute(out, flow, b"height", at.height);
+    flow.put(out, b"/>\n");
+}
+
+// The frame of a page of this height.
+fn page_box(height: u64) -> Rect
+    ensures { result ≡ page_box height }
+{
+    Rect {
+        x: 0,
+        y: 0,
+        width: 1000,
+        height,
+    }
+}
+
+fn put_point<S: Sink>(out: &mut S, flow: &mut Outflow<'_>, x: u64, y: u64)
+    ensures { Puts (state (S.held out.old) (S.faults out.old) flow.old) (state (S.held out.new) (S.faults out.new) flow.new)
+        (point x y) }
+{
+    flow.put_number(out, x);
+    flow.put_number_behind(out, b',', y);
+}
+
+// The same behind a space.
+fn put_next_point<S: Sink>(out: &mut S, flow: &mut Outflow<'_>, x: u64, y: u64)
+    ensures { Puts (state (S.held out.old) (S.faults out.old) flow.old) (state (S.held out.new) (S.faults out.new) flow.new)
+        (32 ∷ point x y) }
+{
+    flow.put_byte(out, b' ');
+    put_point(out, flow, x, y);
+}
+
+fn put_points<S: Sink>(out: &mut S, flow: &mut Outflow<'_>, line: &Line)
+    ensures { Puts (state (S.held out.old) (S.faults out.old) flow.old) (state (S.held out.new) (S.faults out.new) flow.new)
+        (points line.now) }
+{
+    put_point(out, flow, line.start_x, line.start_y);
+    put_next_point(out, flow, line.trunk_x, line.start_y);
+    put_next_point(out, flow, line.trunk_x, line.rail_y);
+    put_next_point(out, flow, line.end_x, line.rail_y);
+    put_next_point(out, flow, line.end_x, line.end_y);
+}
+
+fn put_points_attribute<S: Sink>(out: &mut S, flow: &mut Outflow<'_>, line: &Line)
+    ensures { Puts (state (S.held out.old) (S.faults out.old) flow.old) (state (S.held out.new) (S.faults out.new) flow.new)
+        (attribute_text (word_of (codes "points") (points line.now))) }
+{
+    flow.put(out, b" points=\"");
+    put_points(out, flow, line);
+    flow.put_byte(out, b'"');
+}
+
+// Which parts of a line are drawn.
+fn dashes(entry: &Entry) -> &'static [u8]
+    ensures { result.now ≡ dashes entry.now }
+{
+    match entry {
+        Entry::One(neighbour) => match neighbour.mark {
+            Mark::Forced => b"none",
+            Mark::Open => b"4 3",
+        },
+        Entry::More(_) => b"1 3",
+    }
+}
+
+fn put_polyline<S: Sink>(out: &mut S, flow: &mut Outflow<'_>, item: &Item)
+    ensures { Puts (state (S.held out.old) (S.faults out.old) flow.old) (state (S.held out.new) (S.faults out.new) flow.new)
+        (element_text (polyline item.now)) }
+{
+    flow.put(out, b"<polyline");
+    put_points_attribute(out, flow, &item.line);
+    put_attribute(out, flow, b"fill", b"none");
+    put_number_attribute(out, flow, b"stroke-width", item.width);
+    put_attribute(out, flow, b"stroke-dasharray", dashes(&item.entry));
+    flow.put(out, b"/>\n");
+}
+
+// How long a text is drawn.
+fn text_length(room: u64, text: &[u8]) -> u64
+    ensures { result ≡ text_length room text.now }
+{
+    room.min((text.len() as u64).saturating_mul(7))
+}
+
+// What stands in an element that is a text, and its end.
+fn put_inner<S: Sink>(out: &mut S, flow: &mut Outflow<'_>, text: &[u8])
+    ensures { Puts (state (S.held out.old) (S.faults out.old) flow.old) (state (S.held out.new) (S.faults out.new) flow.new)
+        (end_text (codes "text") (Some text.now)) }
+{
+    flow.put_byte(out, b'>');
+    flow.put(out, text);
+    flow.put(out, b"</text>\n");
+}
+
+// Black letters without a border, around a point.
+fn put_text_at<S: Sink>(out: &mut S, flow: &mut Outflow<'_>, x: u64, y: u64, room: u64, text: &[u8])
+    ensures { Puts (state (S.held out.old) (S.faults out.old) flow.old) (state (S.held out.new) (S.faults out.new) flow.new)
+        (element_text (text_at x y room text.now)) }
+{
+    flow.put(out, b"<text");
+    put_number_attribute(out, flow, b"x", x);
+    put_number_attribute(out, flow, b"y", y);
+    put_number_attribute(out, flow, b"textLength", text_length(room, text));
+    put_attribute(out, flow, b"fill", b"black");
+    put_attribute(out, flow, b"stroke", b"none");
+    put_inner(out, flow, text);
+}
+
+fn put_text_in<S: Sink>(out: &mut S, flow: &mut Outflow<'_>, at: &Rect, text: &[u8])
+    requires inside { FitsNumbers at.now }
+    ensures { Puts (state (S.held out.old) (S.faults out.old) flow.old) (state (S.held out.new) (S.faults out.new) flow.new)
+        (element_text (text_in at.now text.now)) }
+{
+    let x = at.x + at.width / 2;
+    let room = at.width.saturating_sub(8);
+    put_text_at(out, flow, x, at.y + 17, room, text);
+}
+
+// ---- words, which are in memory so that their length is known before they are written
+
+fn add_entry(words: &mut List<u8>, entry: &Entry) -> Result<(), NoMemory>
+    ensures { OnOk result (words.new ≡ words.old ++ entry_words entry.now) }
+{
+    match entry {
+        Entry::One(neighbour) => put_number(words, u64::from(neighbour.number)),
+        Entry::More(count) => {
+            put_number(words, *count)?;
+            words.extend_from_slice(b" more")
+        }
+    }
+}
+
+fn add_asked(words: &mut List<u8>, asked: u32) -> Result<(), NoMemory>
+    ensures { OnOk result (words.new ≡ words.old ++ asked_words asked) }
+{
+    words.extend_from_slice(b"AS ")?;
+    put_number(words, u64::from(asked))
+}
+
+fn add_tally(words: &mut List<u8>, what: &[u8], tally: &Tally) -> Result<(), NoMemory>
+    ensures { OnOk result (words.new ≡ words.old ++ tally_words what.now tally.now) }
+{
+    put_number(words, tally.all)?;
+    words.extend_from_slice(what)?;
+    words.extend_from_slice(b" (")?;
+    put_number(words, tally.forced)?;
+    words.extend_from_slice(b" forced)")
+}
+
+fn add_caption(words: &mut List<u8>, asked: u32, counts: &Counts) -> Result<(), NoMemory>
+    ensures { OnOk result (words.new ≡ words.old ++ caption_words asked counts.now) }
+{
+    add_asked(words, asked)?;
+    words.extend_from_slice(b": ")?;
+    add_tally(words, b" providers", &counts.providers)?;
+    words.extend_from_slice(b", ")?;
+    add_tally(words, b" peers", &counts.peers)?;
+    words.extend_from_slice(b", ")?;
+    add_tally(words, b" customers", &counts.customers)
+}
+
+// What part of the plane the page shows.
+fn add_extent(words: &mut List<u8>, height: u64) -> Result<(), NoMemory>
+    ensures { OnOk result (words.new ≡ words.old ++ extent_words height) }
+{
+    words.extend_from_slice(b"0 0 1000 ")?;
+    put_number(words, height)
+}
+
+// What lines mean.
+fn legend() -> &'static [u8]
+    ensures { result.now ≡ legend_words }
+{
+    b"solid: the label is forced; dashed: it is open, as it always is between peers; wider lines: more kept paths"
+}
+
+// ---- the whole. What was in `words` is let go.
+
+fn put_item<S: Sink>(
+    out: &mut S,
+    flow: &mut Outflow<'_>,
+    words: &mut List<u8>,
+    item: &Item,
+) -> Result<(), NoMemory>
+    requires inside { FitsNumbers item.now.at }
+    ensures { OnOk result (Puts (state (S.held out.old) (S.faults out.old) flow.old) (state (S.held out.new) (S.faults out.new) flow.new)
+        (elements_text (item_elements item.now))) }
+{
+    words.clear();
+    add_entry(words, &item.entry)?;
+    put_polyline(out, flow, item);
+    put_rect(out, flow, &item.at);
+    put_text_in(out, flow, &item.at, words.as_slice());
+    Ok(())
+}
+
+fn put_items<S: Sink>(
+    out: &mut S,
+    flow: &mut Outflow<'_>,
+    words: &mut List<u8>,
+    items: &[Item],
+) -> Result<(), NoMemory>
+    requires inside { All (λ i. FitsNumbers i.at) items.now }
+    ensures { OnOk result (Puts (state (S.held out.old) (S.faults out.old) flow.old) (state (S.held out.new) (S.faults out.new) flow.new)
+        (elements_text (items_elements items.now))) }
+{
+    for item in items {
+        put_item(out, flow, words, item)?;
+    }
+    Ok(())
+}
+
+// The first tag, which says how letters, boxes and lines look where they say nothing else.
+fn put_start_tag<S: Sink>(out: &mut S, flow: &mut Outflow<'_>, extent: &[u8])
+    ensures { Puts (state (S.held out.old) (S.faults out.old) flow.old) (state (S.held out.new) (S.faults out.new) flow.new)
+        (start_text extent.now) }
+{
+    flow.put(out, b"<svg");
+    put_attribute(out, flow, b"xmlns", b"http://www.w3.org/2000/svg");
+    put_attribute(out, flow, b"viewBox", extent);
+    put_attribute(out, flow, b"font-family", b"sans-serif");
+    put_attribute(out, flow, b"font-size", b"12");
+    put_attribute(out, flow, b"text-anchor", b"middle");
+    put_attribute(out, flow, b"fill", b"white");
+    put_attribute(out, flow, b"stroke", b"black");
+    flow.put(out, b">\n");
+}
+
+// The first tag of a page of this height.
+fn put_start<S: Sink>(
+    out: &mut S,
+    flow: &mut Outflow<'_>,
+    words: &mut List<u8>,
+    height: u64,
+) -> Result<(), NoMemory>
+    ensures { OnOk result (Puts (state (S.held out.old) (S.faults out.old) flow.old) (state (S.held out.new) (S.faults out.new) flow.new)
+        (start_text (extent_words height))) }
+{
+    words.clear();
+    add_extent(words, height)?;
+    put_start_tag(out, flow, words.as_slice());
+    Ok(())
+}
+
+// The frame of the page, and the caption.
+fn put_title<S: Sink>(
+    out: &mut S,
+    flow: &mut Outflow<'_>,
+    words: &mut List<u8>,
+    drawing: &Drawing,
+) -> Result<(), NoMemory>
+    ensures { OnOk result (Puts (state (S.held out.old) (S.faults out.old) flow.old) (state (S.held out.new) (S.faults out.new) flow.new)
+        (elements_text (title_elements drawing.now))) }
+{
+    words.clear();
+    add_caption(words, drawing.asked, &drawing.counts)?;
+    put_rect(out, flow, &page_box(drawing.height));
+    put_text_at(out, flow, 500, 26, 960, words.as_slice());
+    put_text_at(out, flow, 500, 46, 960, legend());
+    Ok(())
+}
+
+// The box in the centre.
+fn put_centre<S: Sink>(
+    out: &mut S,
+    flow: &mut Outflow<'_>,
+    words: &mut List<u8>,
+    drawing: &Drawing,
+) -> Result<(), NoMemory>
+    requires inside { FitsNumbers drawing.now.centre }
+    ensures { OnOk result (Puts (state (S.held out.old) (S.faults out.old) flow.old) (state (S.held out.new) (S.faults out.new) flow.new)
+        (elements_text (centre_elements drawing.now))) }
+{
+    words.clear();
+    add_asked(words, drawing.asked)?;
+    put_rect(out, flow, &drawing.centre);
+    put_text_in(out, flow, &drawing.centre, words.as_slice());
+    Ok(())
+}
+
+fn put_picture<S: Sink>(
+    out: &mut S,
+    flow: &mut Outflow<'_>,
+    words: &mut List<u8>,
+    drawing: &Drawing,
+) -> Result<(), NoMemory>
+    requires tidy { IsTidy drawing.now }
+    requires low { drawing.now.height < 2 ^ 32 }
+    ensures { OnOk result (Puts (state (S.held out.old) (S.faults out.old) flow.old) (state (S.held out.new) (S.faults out.new) flow.new)
+        (svg_text drawing.now)) }
+{
+    put_start(out, flow, words, drawing.height)?;
+    put_title(out, flow, words, drawing)?;
+    put_centre(out, flow, words, drawing)?;
+    put_items(out, flow, words, drawing.items.as_slice())?;
+    flow.put(out, b"</svg>\n");
+    Ok(())
+}
+
+// Writes the text through the buffer, which has to be empty, and what waits in it at the end. NoMemory: that, or a write failed.
+fn write_picture<S: Sink>(
+    out: &mut S,
+    buffer: &mut Buffer,
+    words: &mut List<u8>,
+    drawing: &Drawing,
+) -> Result<(), NoMemory>
+    requires empty { buffer.old ≡ [] }
+    requires tidy { IsTidy drawing.now }
+    requires low { drawing.now.height < 2 ^ 32 }
+    ensures { OnOk result (S.held out.new ≡ append_known (S.held out.old) (svg_text drawing.now)) }
+{
+    let mut flow = Outflow::through(buffer);
+    put_picture(out, &mut flow, words, drawing)?;
+    match flow.finish(out) {
+        Ok(()) => Ok(()),
+        Err(_) => Err(NoMemory),
+    }
+}
+
+/// The text of the picture, as SVG. The picture has to be tidy and no higher than numbers of 32 bits reach, as one that is drawn is. The
+/// only error is that memory ran out.
+pub fn print(alloc: Global, drawing: &Drawing) -> Result<List<u8>, NoMemory>
+    requires tidy { IsTidy drawing.now }
+    requires low { drawing.now.height < 2 ^ 32 }
+    ensures text { IfOk result (λ text. text ≡ svg_text drawing.now) }
+    ensures well_formed { IfOk result (IsDocument (codes "svg")) }
+{
+    let mut sink = ListSink::new(alloc);
+    let mut buffer = Buffer::new(alloc)?;
+    let mut words = List::new(alloc);
+    write_picture(&mut sink, &mut buffer, &mut words, drawing)?;
+    Ok(sink.into_list())
+}
