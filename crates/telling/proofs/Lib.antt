@@ -5,4 +5,5 @@ pub mod LabelLemmas
 pub mod PathLemmas
 pub mod ProvingLemmas
 pub mod SlopeLemmas
+pub mod TextLemmas
 pub mod Vectors

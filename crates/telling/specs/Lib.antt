@@ -1,3 +1,4 @@
 pub mod Labelling
 pub mod Laws
 pub mod Told
+pub mod ToldText

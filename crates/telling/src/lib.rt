@@ -5,12 +5,16 @@
 mod edges;
 mod goings;
 mod laws;
+mod numbers;
 mod paths;
 mod proving;
+mod steps;
 mod told;
+mod writing;
 
 pub use edges::line_of;
 pub use laws::{either_law, peers_law, proving_law};
 pub use paths::tell_path;
 pub use proving::proof_of;
 pub use told::{Going, Question, Told};
+pub use writing::write_told;

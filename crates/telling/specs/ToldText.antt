@@ -1,0 +1,141 @@
+-- The text of a telling: lines of fields joined by bars. It begins with the line that the result itself has, that of a lost path without its
+-- walk. The form is this project's own (docs/FORMATS.md).
+use Rattle.std.specs.Prelude.{ℕ, zero, suc, List, [], ◌∷◌, ◌++◌, Option, Some, None, codes, slice_get}
+use Rattle.std.specs.Fmt.{decimal}
+use Rattle.std.specs.List.{flat_map}
+use Rattle.relationships.specs.declared.given.Given.{Given}
+use Rattle.relationships.specs.declared.walk.Link.{Link}
+use Rattle.relationships.specs.declared.walk.Walk.{Walk}
+use Rattle.relationships.specs.declared.fate.Fate.{Fate}
+use Rattle.relationships.specs.declared.fate.Fate.TheVariants as fate
+use Rattle.relationships.specs.Telling.{Step, steps_of}
+use Rattle.text_fields.specs.Fields.{fields}
+use Rattle.result_text.specs.declared.file.EdgeLine.{EdgeLine}
+use Rattle.result_text.specs.declared.file.PathLine.{PathLine}
+use Rattle.result_text.specs.declared.file.ResultFile.{ResultFile}
+use Rattle.result_text.specs.declared.line.Version.TheVariants as version
+use Rattle.result_text.specs.Text.{numbers_text, link, label_name, mark_name, its_givens}
+use Rattle.result_rules.specs.File.{last_two}
+use Rattle.telling.specs.declared.told.Going.{Going}
+use Rattle.telling.specs.declared.told.Going.TheVariants as going
+use Rattle.telling.specs.declared.told.Told.{Told}
+use Rattle.telling.specs.declared.told.Told.TheVariants as told
+
+-- a line of these fields, with the line feed that ends it
+abbrev pub row : List (List ℕ) → List ℕ
+row parts = fields parts ++ 10 ∷ []
+
+-- a word and two AS numbers: of an order, first that of the provider
+abbrev pub pair_row : List ℕ → (over under : ℕ) → List ℕ
+pair_row word over under = row (word ∷ decimal over ∷ decimal under ∷ [])
+
+-- what is written of a thing that may not be there: where it isn't, nothing
+abbrev pub if_there : {X : Type 0} → (X → List ℕ) → Option X → List ℕ
+if_there text None = []
+if_there text (Some x) = text x
+
+-- ---- steps
+
+-- the member of a list that has this number, from 1
+abbrev pub numbered : {X : Type 0} → List X → ℕ → Option X
+numbered xs zero = None
+numbered xs (suc k) = slice_get xs k
+
+abbrev pub given_text : Given → List ℕ
+given_text g = numbers_text (g.over ∷ g.under ∷ [])
+
+abbrev pub path_text : PathLine → List ℕ
+path_text line = numbers_text line.path
+
+-- what a link names, by the number of its path and its place: the ASes of that path; behind 0 the two of the given of that number
+abbrev pub named_text : ResultFile → (path at : ℕ) → List ℕ
+named_text file zero at = if_there given_text (numbered (its_givens file) at)
+named_text file (suc k) at = if_there path_text (slice_get file.paths k)
+
+abbrev pub step_with : (over under : ℕ) → Link → Step
+step_with over under link = record { over = over; under = under; link = link }
+
+-- then the one is the provider of the other, by what the link names, which is written as in results of version 2
+abbrev pub step_text : ResultFile → Step → List ℕ
+step_text file step =
+    row (codes "then" ∷ decimal step.over ∷ decimal step.under ∷ link version.Two step.link ∷ named_text file step.link.path step.link.at ∷ [])
+
+-- the steps of a walk, one line for each link
+abbrev pub steps_text : ResultFile → List ℕ → List Link → List ℕ
+steps_text file ases links = flat_map (step_text file) (steps_of ases links)
+
+-- ---- walks
+
+-- the order with which a walk begins, behind a word
+abbrev pub begin_text : List ℕ → List ℕ → List ℕ
+begin_text word (a ∷ b ∷ ases) = pair_row word a b
+begin_text word _ = []
+
+-- the order to which it comes
+abbrev pub end_text : List ℕ → List ℕ
+end_text ases = flat_map (λ two. pair_row (codes "so") two.0 two.1) (last_two ases)
+
+-- a why line: what is supposed, or known since the one before it, the steps, and what it shows
+abbrev pub why_text : ResultFile → List ℕ → Walk → List ℕ
+why_text file word walk = begin_text word walk.ases ++ steps_text file walk.ases walk.links ++ end_text walk.ases
+
+-- the why line in a place, from 0, if it is there
+abbrev pub why_at : ResultFile → List ℕ → ℕ → List ℕ
+why_at file word k = if_there (why_text file word) (slice_get file.whys k)
+
+-- the why lines in these places: the first begins with what is supposed, each further one with what the one before it has shown
+abbrev pub whys_text : ResultFile → List ℕ → List ℕ
+whys_text file [] = []
+whys_text file (k ∷ places) = why_at file (codes "if") k ++ flat_map (why_at file (codes "since")) places
+
+-- ---- edges
+
+-- the result's own line of the edge
+abbrev pub edge_row : EdgeLine → List ℕ
+edge_row line =
+    row (codes "edge" ∷ decimal line.low ∷ decimal line.high ∷ label_name line.label ∷ mark_name line.mark ∷ decimal line.support ∷ [])
+
+-- nothing forces the edge
+abbrev pub free_row : List ℕ
+free_row = row (codes "free" ∷ [])
+
+-- ---- paths
+
+-- the result's own line of the path, without its walk
+abbrev pub path_row : List ℕ → PathLine → List ℕ
+path_row word line = row (word ∷ decimal line.times ∷ numbers_text line.path ∷ [])
+
+-- what is supposed of a lost path, and the steps of its walk, there and back
+abbrev pub refuting_text : ResultFile → Fate → List ℕ
+refuting_text file fate.Kept = []
+refuting_text file (fate.Lost walk) = begin_text (codes "if") walk.ases ++ steps_text file walk.ases walk.links
+
+abbrev pub lost_text : ResultFile → PathLine → List ℕ
+lost_text file line = path_row (codes "lost") line ++ refuting_text file line.fate
+
+abbrev pub going_name : Going → List ℕ
+going_name going.Up = codes "up"
+going_name going.Down = codes "down"
+going_name going.Flat = codes "flat"
+
+-- how the step from the one to the other goes
+abbrev pub going_row : (from to : ℕ) → Going → List ℕ
+going_row from to going = row (codes "step" ∷ decimal from ∷ decimal to ∷ going_name going ∷ [])
+
+-- the steps of a path, each with how it goes
+abbrev pub goings_text : List ℕ → List Going → List ℕ
+goings_text (a ∷ b ∷ path) (going ∷ goings) = going_row a b going ++ goings_text (b ∷ path) goings
+goings_text _ _ = []
+
+abbrev pub kept_text : List Going → PathLine → List ℕ
+kept_text goings line = path_row (codes "kept") line ++ goings_text line.path goings
+
+-- ---- the whole
+
+abbrev pub told_text : ResultFile → Told → List ℕ
+told_text file (told.Forced line whys) = edge_row line ++ whys_text file whys
+told_text file (told.Open line probe walk) =
+    edge_row line ++ pair_row (codes "open") probe.over probe.under ++ steps_text file walk.ases walk.links ++ free_row
+told_text file (told.Peering line) = edge_row line ++ free_row
+told_text file (told.Lost path) = if_there (lost_text file) (slice_get file.paths path)
+told_text file (told.Kept path goings) = if_there (kept_text goings) (slice_get file.paths path)

@@ -1,0 +1,227 @@
+//! What is told, as text.
+
+ghost use Rattle.std.specs.Prelude.{◌≡◌, [], OnOk, OnErr, codes, slice_get};
+ghost use Rattle.std.specs.List.{flat_map};
+ghost use Rattle.std.specs.Io.KnownBytes.{append_known};
+ghost use Rattle.tor_io.specs.Counts.{HasCause};
+ghost use Rattle.tor_io.specs.Contents.{GainsPrefix};
+ghost use Rattle.tor_io.specs.Outflow.{state, Puts};
+ghost use Rattle.result_text.specs.Text.{label_name, mark_name};
+ghost use Rattle.telling.specs.ToldText.{why_at, whys_text, edge_row, free_row, path_row, lost_text};
+ghost use Rattle.telling.specs.ToldText.{going_name, going_row, goings_text, kept_text, told_text};
+
+use crate::numbers::{put_numbers, put_pair, put_u32_behind};
+use crate::steps::{put_begin, put_steps, put_why};
+use crate::told::{Going, Told};
+use relationships::{Label, Mark};
+use result_text::{EdgeLine, PathLineRef, ResultFile};
+use tor_arena::{Index, PathId, WalkId};
+use tor_io::{Buffer, Failed, Outflow, Sink};
+
+// Each function puts something behind what waits for the sink, lines with their line feed.
+
+fn put_label<S: Sink>(out: &mut S, flow: &mut Outflow<'_>, label: Label)
+    ensures { Puts (state (S.held out.old) (S.faults out.old) flow.old) (state (S.held out.new) (S.faults out.new) flow.new)
+        (label_name label) }
+{
+    match label {
+        Label::Low => flow.put(out, b"low"),
+        Label::High => flow.put(out, b"high"),
+        Label::Peer => flow.put(out, b"peer"),
+    }
+}
+
+fn put_mark<S: Sink>(out: &mut S, flow: &mut Outflow<'_>, mark: Mark)
+    ensures { Puts (state (S.held out.old) (S.faults out.old) flow.old) (state (S.held out.new) (S.faults out.new) flow.new)
+        (mark_name mark) }
+{
+    match mark {
+        Mark::Forced => flow.put(out, b"forced"),
+        Mark::Open => flow.put(out, b"open"),
+    }
+}
+
+fn put_edge<S: Sink>(out: &mut S, flow: &mut Outflow<'_>, line: &EdgeLine)
+    ensures { Puts (state (S.held out.old) (S.faults out.old) flow.old) (state (S.held out.new) (S.faults out.new) flow.new)
+        (edge_row line.now) }
+{
+    flow.put(out, b"edge");
+    put_u32_behind(out, flow, b'|', line.low);
+    put_u32_behind(out, flow, b'|', line.high);
+    flow.put_byte(out, b'|');
+    put_label(out, flow, line.label);
+    flow.put_byte(out, b'|');
+    put_mark(out, flow, line.mark);
+    flow.put_number_behind(out, b'|', line.support);
+    flow.put_byte(out, b'\n');
+}
+
+fn put_free<S: Sink>(out: &mut S, flow: &mut Outflow<'_>)
+    ensures { Puts (state (S.held out.old) (S.faults out.old) flow.old) (state (S.held out.new) (S.faults out.new) flow.new) free_row }
+{
+    flow.put(out, b"free\n");
+}
+
+// The why line in a place, if it is there.
+fn put_why_at<S: Sink>(
+    out: &mut S,
+    flow: &mut Outflow<'_>,
+    file: &ResultFile,
+    word: &[u8],
+    why: WalkId,
+)
+    ensures { Puts (state (S.held out.old) (S.faults out.old) flow.old) (state (S.held out.new) (S.faults out.new) flow.new)
+        (why_at file.now word.now why) }
+{
+    if why.place() < file.whys.len() {
+        put_why(out, flow, file, word, &file.whys.get(why));
+    }
+}
+
+// The further why lines.
+fn put_other_whys<S: Sink>(out: &mut S, flow: &mut Outflow<'_>, file: &ResultFile, whys: &[WalkId])
+    ensures { Puts (state (S.held out.old) (S.faults out.old) flow.old) (state (S.held out.new) (S.faults out.new) flow.new)
+        (flat_map (why_at file.now (codes "since")) whys.now) }
+{
+    for why in whys {
+        put_why_at(out, flow, file, b"since", *why);
+    }
+}
+
+fn put_whys<S: Sink>(out: &mut S, flow: &mut Outflow<'_>, file: &ResultFile, whys: &[WalkId])
+    ensures { Puts (state (S.held out.old) (S.faults out.old) flow.old) (state (S.held out.new) (S.faults out.new) flow.new)
+        (whys_text file.now whys.now) }
+{
+    match whys {
+        [] => {}
+        [first, others @ ..] => {
+            put_why_at(out, flow, file, b"if", *first);
+            put_other_whys(out, flow, file, others);
+        }
+    }
+}
+
+// The line of a path, without its walk.
+fn put_path_line<S: Sink>(out: &mut S, flow: &mut Outflow<'_>, word: &[u8], line: &PathLineRef<'_>)
+    ensures { Puts (state (S.held out.old) (S.faults out.old) flow.old) (state (S.held out.new) (S.faults out.new) flow.new)
+        (path_row word.now line.now) }
+{
+    flow.put(out, word);
+    flow.put_number_behind(out, b'|', line.times());
+    flow.put_byte(out, b'|');
+    put_numbers(out, flow, line.path());
+    flow.put_byte(out, b'\n');
+}
+
+fn put_lost<S: Sink>(out: &mut S, flow: &mut Outflow<'_>, file: &ResultFile, line: &PathLineRef<'_>)
+    ensures { Puts (state (S.held out.old) (S.faults out.old) flow.old) (state (S.held out.new) (S.faults out.new) flow.new)
+        (lost_text file.now line.now) }
+{
+    put_path_line(out, flow, b"lost", line);
+    if let Some(walk) = line.walk() {
+        put_begin(out, flow, b"if", walk.ases());
+        put_steps(out, flow, file, walk.ases(), walk.links());
+    }
+}
+
+fn put_going_name<S: Sink>(out: &mut S, flow: &mut Outflow<'_>, going: Going)
+    ensures { Puts (state (S.held out.old) (S.faults out.old) flow.old) (state (S.held out.new) (S.faults out.new) flow.new)
+        (going_name going) }
+{
+    match going {
+        Going::Up => flow.put(out, b"up"),
+        Going::Down => flow.put(out, b"down"),
+        Going::Flat => flow.put(out, b"flat"),
+    }
+}
+
+fn put_going<S: Sink>(out: &mut S, flow: &mut Outflow<'_>, from: u32, to: u32, going: Going)
+    ensures { Puts (state (S.held out.old) (S.faults out.old) flow.old) (state (S.held out.new) (S.faults out.new) flow.new)
+        (going_row from to going) }
+{
+    flow.put(out, b"step");
+    put_u32_behind(out, flow, b'|', from);
+    put_u32_behind(out, flow, b'|', to);
+    flow.put_byte(out, b'|');
+    put_going_name(out, flow, going);
+    flow.put_byte(out, b'\n');
+}
+
+fn put_goings<S: Sink>(out: &mut S, flow: &mut Outflow<'_>, path: &[u32], goings: &[Going])
+    ensures { Puts (state (S.held out.old) (S.faults out.old) flow.old) (state (S.held out.new) (S.faults out.new) flow.new)
+        (goings_text path.now goings.now) }
+{
+    let count = goings.len().min(path.len().saturating_sub(1));
+    for at in 0..count {
+        put_going(out, flow, path[at], path[at + 1], goings[at]);
+    }
+}
+
+fn put_kept<S: Sink>(out: &mut S, flow: &mut Outflow<'_>, line: &PathLineRef<'_>, goings: &[Going])
+    ensures { Puts (state (S.held out.old) (S.faults out.old) flow.old) (state (S.held out.new) (S.faults out.new) flow.new)
+        (kept_text goings.now line.now) }
+{
+    put_path_line(out, flow, b"kept", line);
+    put_goings(out, flow, line.path(), goings);
+}
+
+/// The line of a path, if it is there.
+fn line_at(file: &ResultFile, path: PathId) -> Option<PathLineRef<'_>>
+    ensures { result ≡ slice_get file.now.paths path }
+{
+    if path.place() < file.paths.len() {
+        Some(file.paths.get(path))
+    } else {
+        None
+    }
+}
+
+fn put_told<S: Sink>(out: &mut S, flow: &mut Outflow<'_>, file: &ResultFile, told: &Told)
+    ensures { Puts (state (S.held out.old) (S.faults out.old) flow.old) (state (S.held out.new) (S.faults out.new) flow.new)
+        (told_text file.now told.now) }
+{
+    match told {
+        Told::Forced { line, whys } => {
+            put_edge(out, flow, line);
+            put_whys(out, flow, file, whys.as_slice());
+        }
+        Told::Open { line, probe, walk } => {
+            put_edge(out, flow, line);
+            put_pair(out, flow, b"open", probe.over, probe.under);
+            put_steps(out, flow, file, walk.ases.as_slice(), walk.links.as_slice());
+            put_free(out, flow);
+        }
+        Told::Peering { line } => {
+            put_edge(out, flow, line);
+            put_free(out, flow);
+        }
+        Told::Lost { path } => {
+            if let Some(line) = line_at(file, *path) {
+                put_lost(out, flow, file, &line);
+            }
+        }
+        Told::Kept { path, goings } => {
+            if let Some(line) = line_at(file, *path) {
+                put_kept(out, flow, &line, goings.as_slice());
+            }
+        }
+    }
+}
+
+/// Writes what is told of a result through the buffer, which has to be empty, and what waits in it at the end. Failed: a write failed, and
+/// out took a prefix of the text. It takes no memory.
+pub fn write_told<S: Sink>(
+    out: &mut S,
+    buffer: &mut Buffer,
+    file: &ResultFile,
+    told: &Told,
+) -> Result<(), Failed>
+    requires { buffer.old ≡ [] }
+    ensures all { OnOk result (S.held out.new ≡ append_known (S.held out.old) (told_text file.now told.now)) }
+    ensures prefix { OnErr result (GainsPrefix (S.held out.old) (S.held out.new) (told_text file.now told.now)) }
+    ensures cause { HasCause (S.faults out.old) (S.faults out.new) result }
+{
+    let mut flow = Outflow::through(buffer);
+    put_told(out, &mut flow, file, told);
+    flow.finish(out)
+}
