@@ -4,14 +4,16 @@ doublings.py FOLDER [ROW ..]
 
 FOLDER holds `tor`, `torcheck` and `torgrade`. Each row is a kind of file in four sizes, each twice as large as the one before. A line says how
 many octets were read and written together, how long it took, the peak memory, and both for an octet; the row ends with how much longer an
-octet took in the largest file than in the least that took TENTH of a second or more. With rows named, only these are made.
+octet took in the largest file than in the least that took TENTH of a second or more. With rows named, only these are made. Of less memory
+than some 14 MiB, which this script has itself, it can't tell.
 """
 
 import os
+import subprocess
 import sys
 import tempfile
 
-from hostile import HEAD, dump, made, result, run
+from hostile import HEAD, dump, made, result
 
 TENTH = 0.1
 TWO_PATHS = [[30, 40, 20, 10, 50, 60], [10, 20, 30, 40]]
@@ -99,9 +101,12 @@ ROWS = {
 def measured(programs, folder, files, command):
     program, *words = command.split()
     names = [os.path.join(folder, word) if word in files else word for word in words]
-    seconds, memory, text = run([os.path.join(programs, program), *names])
+    text = os.path.join(folder, "text")
+    with open(text, "wb") as out:
+        child = subprocess.Popen([os.path.join(programs, program), *names], stdout=out, stderr=subprocess.DEVNULL)
+        _, _, used = os.wait4(child.pid, 0)
     read = sum(os.path.getsize(os.path.join(folder, name)) for name in files)
-    return read, len(text), seconds, memory
+    return read, os.path.getsize(text), used.ru_utime + used.ru_stime, used.ru_maxrss / 1024
 
 
 def files_of(maker, size):
