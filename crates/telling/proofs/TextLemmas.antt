@@ -1,5 +1,5 @@
 -- Lines and numbers that are put one by one, and the parts of a telling.
-use Rattle.std.proofs.Common.{◌≡◌, ◌≢◌, ◌∙◌, ℕ, zero, suc, ◌+◌, ◌-◌, ◌<◌, ◌≤◌, ◌⊎◌, inl, inr, List, [], ◌∷◌, ◌++◌, length, take, drop, get_or, slice_get, Some, min, refl, sym, ap, ap₂, append_assoc, arith}
+use Rattle.std.proofs.Common.{◌≡◌, ◌∙◌, ℕ, zero, suc, ◌+◌, ◌-◌, ◌<◌, ◌≤◌, ◌⊎◌, inl, inr, List, [], ◌∷◌, ◌++◌, length, take, drop, get_or, slice_get, Some, min, refl, sym, ap, ap₂, append_assoc, arith}
 use Rattle.std.specs.Prelude.{codes}
 use Rattle.std.specs.Fmt.{decimal}
 use Rattle.std.specs.List.{flat_map}
@@ -17,7 +17,7 @@ use Rattle.relationships.specs.Telling.{steps_of}
 use Rattle.result_text.specs.declared.file.ResultFile.{ResultFile}
 use Rattle.result_text.specs.Text.{numbers_text, others}
 use Rattle.telling.specs.declared.told.Going.{Going}
-use Rattle.telling.specs.ToldText.{pair_row, if_there, numbered, path_text, named_text, step_with, steps_text, begin_text, end_text, why_at, whys_text}
+use Rattle.telling.specs.ToldText.{pair_row, if_there, numbered, step_with, steps_text, begin_text, end_text, why_at, whys_text}
 use Rattle.telling.specs.ToldText.{refuting_text, going_row, goings_text}
 use Rattle.telling.proofs.Chains.{last_two-few, last_two-read}
 
@@ -116,11 +116,6 @@ few_steps (x ∷ y ∷ z ∷ ases) (link ∷ links) (suc n) few =
 pub past : {X : Type 0} (text : X → List ℕ) (xs : List X) (n : ℕ) → length xs < n → [] ≡ if_there text (numbered xs n)
 past text xs zero low = refl
 past text xs (suc k) low = ap (if_there text) (sym (slice_get_past xs k (omega (arith, low))))
-
--- what a link names, where it names a path
-pub path_named : (file : ResultFile) (path at : ℕ) → path ≢ 0 → if_there path_text (numbered file.paths path) ≡ named_text file path at
-path_named file zero at other = absurd (other refl)
-path_named file (suc k) at other = refl
 
 -- a lost path has the steps of its walk
 pub walk_read : (file : ResultFile) (its : Fate) (walk : Walk) → walk_of its ≡ Some walk

@@ -12,11 +12,12 @@ use Rattle.relationships.specs.declared.mark.Mark.{Mark}
 use Rattle.relationships.specs.declared.mark.Mark.TheVariants as mark
 use Rattle.path_clean.specs.declared.cleaned.Sets.TheVariants as sets
 use Rattle.path_clean.specs.Counts.{no_counts}
-use Rattle.relationships.specs.Evidence.{StandAt, Numbered, Fits}
+use Rattle.relationships.specs.Evidence.{Numbered}
 use Rattle.relationships.specs.GivenEvidence.{FitsWith}
 use Rattle.relationships.specs.Telling.{steps_of, Prove}
 use Rattle.result_text.specs.declared.file.EdgeLine.{EdgeLine}
 use Rattle.result_text.specs.declared.file.ResultFile.{ResultFile}
+use Rattle.result_text.specs.Text.{line_text}
 use Rattle.telling.specs.declared.told.Going.TheVariants as going
 use Rattle.telling.specs.declared.told.Told.TheVariants as told
 use Rattle.telling.specs.ToldText.{told_text, end_text}
@@ -101,13 +102,13 @@ forced_lines =
 
 -- the worked row
 forced_text : told_text (sample None (walk ∷ [])) (told.Forced (edge 10 20 label.High mark.Forced) (0 ∷ [])) ≡ forced_lines
-unfolding digits
+unfolding line_text digits
 forced_text = refl
 
 -- an edge that stands on an earlier why line, which is not the first of the result
 further_text : told_text (sample None (refuting ∷ walk ∷ record { ases = 20 ∷ 10 ∷ 50 ∷ []; links = link 1 4 ∷ [] } ∷ []))
     (told.Forced (edge 10 20 label.High mark.Forced) (1 ∷ 2 ∷ [])) ≡ forced_lines ++ codes "since|20|10\nthen|10|50|1:4|30 40 20 10 50 60\nso|10|50\n"
-unfolding digits
+unfolding line_text digits
 further_text = refl
 
 -- a walk over a given, and links that name nothing
@@ -118,23 +119,23 @@ given_text : told_text (sample (Some (record { over = 7; under = 8 } ∷ record 
     }))
     ≡ codes "edge|30|40|high|open|2\nopen|20|30\nthen|30|40|g:2|20 10\nthen|40|30|g:0|\nthen|30|10|g:3|\nthen|10|20|4:1|\n"
     ++ codes "then|20|5|2:9|10 20 30 40\nfree\n"
-unfolding digits
+unfolding line_text digits
 given_text = refl
 
 peering_text : told_text (sample None []) (told.Peering (edge 20 40 label.Peer mark.Open)) ≡ codes "edge|20|40|peer|open|2\nfree\n"
-unfolding digits
+unfolding line_text digits
 peering_text = refl
 
 -- there, from "60 over 10", and back
 lost_text : told_text (sample None []) (told.Lost 2)
     ≡ codes "lost|2|50 60 10 20\nif|60|10\nthen|10|20|3:3|50 60 10 20\nthen|20|40|1:3|30 40 20 10 50 60\n"
     ++ codes "then|40|30|1:2|30 40 20 10 50 60\nthen|30|20|2:3|10 20 30 40\nthen|20|10|2:2|10 20 30 40\nthen|10|60|3:3|50 60 10 20\n"
-unfolding digits
+unfolding line_text digits
 lost_text = refl
 
 kept_text : told_text (sample None []) (told.Kept 1 (going.Up ∷ going.Flat ∷ going.Down ∷ []))
     ≡ codes "kept|4|10 20 30 40\nstep|10|20|up\nstep|20|30|flat\nstep|30|40|down\n"
-unfolding digits
+unfolding line_text digits
 kept_text = refl
 
 -- what isn't there is not written

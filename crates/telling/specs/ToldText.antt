@@ -1,5 +1,5 @@
--- The text of a telling: lines of fields joined by bars. It begins with the line that the result itself has, that of a lost path without its
--- walk. The form is this project's own (docs/FORMATS.md).
+-- The text of a telling: lines of fields joined by bars. It begins with the line that the result itself has, that of a lost path without
+-- its walk. The form is this project's own (docs/FORMATS.md).
 use Rattle.std.specs.Prelude.{ℕ, zero, suc, List, [], ◌∷◌, ◌++◌, Option, Some, None, codes, slice_get}
 use Rattle.std.specs.Fmt.{decimal}
 use Rattle.std.specs.List.{flat_map}
@@ -13,8 +13,9 @@ use Rattle.text_fields.specs.Fields.{fields}
 use Rattle.result_text.specs.declared.file.EdgeLine.{EdgeLine}
 use Rattle.result_text.specs.declared.file.PathLine.{PathLine}
 use Rattle.result_text.specs.declared.file.ResultFile.{ResultFile}
+use Rattle.result_text.specs.declared.line.Line.TheVariants.{Edge}
 use Rattle.result_text.specs.declared.line.Version.TheVariants as version
-use Rattle.result_text.specs.Text.{numbers_text, link, label_name, mark_name, its_givens}
+use Rattle.result_text.specs.Text.{line_text, numbers_text, link, its_givens}
 use Rattle.result_rules.specs.File.{last_two}
 use Rattle.telling.specs.declared.told.Going.{Going}
 use Rattle.telling.specs.declared.told.Going.TheVariants as going
@@ -41,9 +42,11 @@ abbrev pub numbered : {X : Type 0} → List X → ℕ → Option X
 numbered xs zero = None
 numbered xs (suc k) = slice_get xs k
 
+-- the two of a given, its provider first
 abbrev pub given_text : Given → List ℕ
 given_text g = numbers_text (g.over ∷ g.under ∷ [])
 
+-- the ASes of a path
 abbrev pub path_text : PathLine → List ℕ
 path_text line = numbers_text line.path
 
@@ -58,7 +61,9 @@ step_with over under link = record { over = over; under = under; link = link }
 -- then the one is the provider of the other, by what the link names, which is written as in results of version 2
 abbrev pub step_text : ResultFile → Step → List ℕ
 step_text file step =
-    row (codes "then" ∷ decimal step.over ∷ decimal step.under ∷ link version.Two step.link ∷ named_text file step.link.path step.link.at ∷ [])
+    row (
+    codes "then" ∷ decimal step.over ∷ decimal step.under ∷ link version.Two step.link ∷ named_text file step.link.path step.link.at ∷ []
+    )
 
 -- the steps of a walk, one line for each link
 abbrev pub steps_text : ResultFile → List ℕ → List Link → List ℕ
@@ -92,10 +97,9 @@ whys_text file (k ∷ places) = why_at file (codes "if") k ++ flat_map (why_at f
 
 -- the result's own line of the edge
 abbrev pub edge_row : EdgeLine → List ℕ
-edge_row line =
-    row (codes "edge" ∷ decimal line.low ∷ decimal line.high ∷ label_name line.label ∷ mark_name line.mark ∷ decimal line.support ∷ [])
+edge_row line = line_text version.Two (Edge line)
 
--- nothing forces the edge
+-- either order of the edge is possible
 abbrev pub free_row : List ℕ
 free_row = row (codes "free" ∷ [])
 

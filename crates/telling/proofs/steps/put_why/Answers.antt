@@ -1,4 +1,4 @@
-use Rattle.std.proofs.Common.{◌∙◌, ap, ap₂, append_assoc}
+use Rattle.std.proofs.Common.{ap, ap₂}
 use Rattle.telling.specs.ToldText.{begin_text, steps_text, end_text}
 use Rattle.tor_io.proofs.Putting.{puts_as, puts_then}
 use Rattle.telling.proofs.steps.put_why.Goals as goal
