@@ -1,5 +1,6 @@
 -- The neighbours of an AS, by what they are to it, as the edges of a result say.
-use Rattle.std.specs.Prelude.{◌≡◌, ℕ, ◌<◌, ◌≤◌, ◌⊎◌, Bool, true, false, ◌==◌, List, length, map, filter, count_by, Option, Some, None, if◌then◌else◌}
+use Rattle.std.specs.Prelude.{◌≡◌, ℕ, ◌<◌, ◌≤◌, ◌⊎◌, Bool, true, false, ◌==◌, List, length, map}
+use Rattle.std.specs.Prelude.{filter, count_by, Option, Some, None, if◌then◌else◌}
 use Rattle.std.specs.List.{AllPairs}
 use Rattle.std.specs.List.Sorted.{IsPermutation}
 use Rattle.relationships.specs.declared.label.Label.{Label}

@@ -25,7 +25,8 @@ number_of name n = word_of name (decimal n)
 abbrev pub rect : Rect → Element
 rect b = record {
   name = codes "rect";
-  attributes = number_of (codes "x") b.x ∷ number_of (codes "y") b.y ∷ number_of (codes "width") b.width ∷ number_of (codes "height") b.height ∷ [];
+  attributes = number_of (codes "x") b.x ∷ number_of (codes "y") b.y ∷
+      number_of (codes "width") b.width ∷ number_of (codes "height") b.height ∷ [];
   inner = None;
 }
 

@@ -1,6 +1,7 @@
 -- The few forms of XML (W3C, Extensible Markup Language 1.0, sections 2.3, 2.4 and 3.1) that the text of a picture has: one element that
 -- holds others, which hold nothing or plain text.
-use Rattle.std.specs.Prelude.{◌≡◌, ℕ, Bool, true, false, not, ◌&&◌, ◌||◌, ◌==◌, nat_le, List, [], ◌∷◌, ◌++◌, codes, Option, Some, None, IsTrue}
+use Rattle.std.specs.Prelude.{◌≡◌, ℕ, Bool, true, false, not, ◌&&◌, ◌||◌, ◌==◌, nat_le, List, []}
+use Rattle.std.specs.Prelude.{◌∷◌, ◌++◌, codes, Option, Some, None, IsTrue}
 use Rattle.std.specs.List.{AllByRecursion, list_all}
 
 -- an attribute has a name and a value

@@ -4,7 +4,8 @@ ghost use Rattle.drawing.specs.declared.group.Group.{Group};
 ghost use Rattle.drawing.specs.declared.drawing.Entry.TheVariants as entry;
 ghost use Rattle.drawing.specs.Neighbours.{AreInOrder, tally};
 ghost use Rattle.drawing.specs.Page.{IsSmall};
-ghost use Rattle.drawing.specs.Picture.{IsDrawingOf, entries_of, greatest_support, width_of, support_of, item_of, items_of, plan_of, drawing_by};
+ghost use Rattle.drawing.specs.Picture.{IsDrawingOf, entries_of, greatest_support, width_of, support_of, item_of};
+ghost use Rattle.drawing.specs.Picture.{items_of, plan_of, drawing_by};
 ghost use Rattle.drawing.specs.Tidy.{IsTidy};
 
 use crate::group::{Counts, Group, Neighbour};

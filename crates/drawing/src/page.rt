@@ -2,7 +2,8 @@
 //! and y downwards, from the upper left corner.
 ghost use Rattle.std.specs.Prelude.{◌≡◌, ◌+◌, ◌^◌, ◌<◌, ◌≤◌};
 ghost use Rattle.drawing.specs.Page.{rows_of, centre_row, first_row_below, row_y, column_x, box_at, centre_box, page_height};
-ghost use Rattle.drawing.specs.Page.{column_of, column_beside, line_up, line_beside, line_down, spot_above, spot_beside, spot_below, spot_of};
+ghost use Rattle.drawing.specs.Page.{column_of, column_beside, line_up, line_beside, line_down, spot_above};
+ghost use Rattle.drawing.specs.Page.{spot_beside, spot_below, spot_of};
 ghost use Rattle.drawing.specs.Page.{IsSmall};
 
 /// A box of the picture.
@@ -18,8 +19,8 @@ pub struct Rect {
     pub height: u64,
 }
 
-/// A line of level and upright parts by turns: from where it begins level to its trunk, along the trunk to its rail, along the rail to where
-/// it ends, and upright to its end. The first part may have no length.
+/// A line of level and upright parts by turns: from where it begins level to its trunk, along the trunk to its rail, along the rail to
+/// where it ends, and upright to its end. The first part may have no length.
 #[derive(Clone, Copy)]
 pub struct Line {
     /// The x of where it begins.

@@ -4,7 +4,8 @@ ghost use Rattle.std.specs.Io.KnownBytes.{append_known};
 ghost use Rattle.tor_io.specs.Outflow.{state, Puts};
 ghost use Rattle.drawing.specs.Svg.{word_of, number_of, rect, point, points, polyline, dashes, text_length, text_at, text_in};
 ghost use Rattle.drawing.specs.Svg.{entry_words, asked_words, tally_words, caption_words, legend_words, extent_words};
-ghost use Rattle.drawing.specs.Svg.{FitsNumbers, item_elements, items_elements, title_elements, centre_elements, page_box, start_text, svg_text};
+ghost use Rattle.drawing.specs.Svg.{FitsNumbers, item_elements, items_elements, title_elements, centre_elements};
+ghost use Rattle.drawing.specs.Svg.{page_box, start_text, svg_text};
 ghost use Rattle.drawing.specs.Tidy.{IsTidy};
 ghost use Rattle.drawing.specs.Xml.{IsDocument, attribute_text, end_text, element_text, elements_text};
 
