@@ -1,7 +1,7 @@
 -- What a look-up finds in a map's entries with one more, and that the keys stay in order.
 use Rattle.std.proofs.Common.{◌≡◌, Bool, true, false, cond, List, [], ◌∷◌, Option, Some, None, Ordering, Less, Equal, Greater, is_eq, refl, sym, ap, ◌∙◌, true≢false}
 use Rattle.std.specs.BTreeMap.{insert_entry, is_at}
-use Rattle.std.specs.Cmp.{IsTotalOrder, alike_right, Equal-is}
+use Rattle.std.specs.Cmp.{IsTotalOrder, alike_right, tied_itself, Equal-is}
 use Rattle.std.specs.List.{AllByRecursion}
 use Rattle.std.specs.List.Sorted.{IsStrictlySortedBy}
 use Rattle.std.specs.Map.{keys_of, lookup, set_value}
@@ -92,3 +92,14 @@ module _ {K X : Type 0} {R : K → K → Ordering} (o : IsTotalOrder R) where
       by Less p g h = absurd (none_some (sym (none_below k es (all_weaker (λ y m. o.trans k e.0 y p m) (keys_of es) s.0)) ∙ g))
       by Equal p g h = refl
       by Greater p g h = ap (λ later. e ∷ later) (h g)
+
+  -- of two values that are put in at one key the later one stays
+  pub again-insert_entry : (k : K) (v w : X) (es : List (K × X)) → insert_entry R (insert_entry R es k v) k w ≡ insert_entry R es k w
+  again-insert_entry k v w [] = ap (λ r. match_ordering r ((k, w) ∷ (k, v) ∷ []) ((k, w) ∷ []) ((k, v) ∷ (k, w) ∷ [])) (tied_itself o k)
+  again-insert_entry k v w (e ∷ es) = by (R k e.0) refl (again-insert_entry k v w es)
+    where
+      by : (r : Ordering) → R k e.0 ≡ r → insert_entry R (insert_entry R es k v) k w ≡ insert_entry R es k w
+          → insert_entry R (placed r k v e es) k w ≡ placed r k w e es
+      by Less p h = ap (λ r. placed r k w (k, v) (e ∷ es)) (tied_itself o k)
+      by Equal p h = ap (λ r. placed r k w (e.0, v) es) p
+      by Greater p h = ap (λ r. placed r k w e (insert_entry R es k v)) p ∙ ap (λ later. e ∷ later) h

@@ -1,3 +1,4 @@
 pub mod Vectors
 pub mod Inserting
 pub mod CountedLemmas
+pub mod Runs

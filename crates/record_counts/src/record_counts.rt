@@ -3,6 +3,7 @@ ghost use Rattle.std.specs.Prelude.{◌≡◌, [], OnOk, OnErr, IfOk};
 ghost use Rattle.std.specs.List.Sorted.{IsStrictlySortedBy};
 ghost use Rattle.std.specs.Map.{keys_of};
 ghost use Rattle.record_counts.specs.Counting.{with_more, counts_together, type_cmp, type_counts};
+ghost use Rattle.record_counts.specs.Runs.{with_run};
 
 use crate::type_count::{RecordType, TypeCount};
 use std::alloc::Global;
@@ -10,19 +11,59 @@ use std::collections::BTreeMap;
 use std::marker::Model;
 use tor_arena::{List, NoMemory};
 
+/// Records of one type that were counted one after the other.
+#[derive(Clone, Copy)]
+struct Run {
+    record_type: RecordType,
+    records: u64,
+}
+
 /// How many records of each type and subtype there are: the types that occur, in ascending order, each with its count, which stops at
 /// 2^64 - 1.
+///
+/// Records of one type mostly stand one behind the other, so those that were counted last are put into the map when a record of another
+/// type comes.
 #[derive(Drop)]
 pub struct RecordCounts {
     counts: BTreeMap<RecordType, u64>,
+    last: Option<Run>,
 }
 
 impl Model for RecordCounts {
     ghost use Rattle.record_counts.specs.Counting.{Counts};
+    ghost use Rattle.record_counts.specs.Runs.{with_run};
 
     ghost Value = { Counts };
 
-    ghost view = { λ counts. counts.counts.entries };
+    ghost view = { λ counts. with_run counts.last counts.counts.entries };
+}
+
+/// Counts so many records of a type more in a map. For want of memory nothing changes.
+fn add_to(
+    counts: &mut BTreeMap<RecordType, u64>,
+    record_type: RecordType,
+    records: u64,
+) -> Result<(), NoMemory>
+    ensures ok { OnOk result (counts.new.entries ≡ with_more record_type records counts.old.entries) }
+    ensures err { OnErr result (counts.new.entries ≡ counts.old.entries) }
+{
+    if let Some(count) = counts.get_mut(&record_type) {
+        *count = count.saturating_add(records);
+        return Ok(());
+    }
+    counts.insert(record_type, records)?;
+    Ok(())
+}
+
+/// Counts the records of a run more in a map. For want of memory nothing changes.
+fn put_run(counts: &mut BTreeMap<RecordType, u64>, run: Option<Run>) -> Result<(), NoMemory>
+    ensures ok { OnOk result (counts.new.entries ≡ with_run run counts.old.entries) }
+    ensures err { OnErr result (counts.new.entries ≡ counts.old.entries) }
+{
+    match run {
+        Some(run) => add_to(counts, run.record_type, run.records),
+        None => Ok(()),
+    }
 }
 
 impl RecordCounts {
@@ -32,6 +73,7 @@ impl RecordCounts {
     {
         RecordCounts {
             counts: BTreeMap::new(alloc),
+            last: None,
         }
     }
 
@@ -40,12 +82,27 @@ impl RecordCounts {
         ensures ok { OnOk result (self.new ≡ with_more record_type records self.old) }
         ensures err { OnErr result (self.new ≡ self.old) }
     {
-        if let Some(count) = self.counts.get_mut(&record_type) {
-            *count = count.saturating_add(records);
+        if let Some(run) = &mut self.last
+            && run.record_type == record_type
+        {
+            run.records = run.records.saturating_add(records);
             return Ok(());
         }
-        self.counts.insert(record_type, records)?;
+        put_run(&mut self.counts, self.last)?;
+        self.last = Some(Run {
+            record_type,
+            records,
+        });
         Ok(())
+    }
+
+    // All counts in one map.
+    fn all(&self) -> Result<BTreeMap<RecordType, u64>, NoMemory>
+        ensures { IfOk result (λ all. all.entries ≡ self.now) }
+    {
+        let mut all = self.counts.clone()?;
+        put_run(&mut all, self.last)?;
+        Ok(all)
     }
 
     /// Counts the records of the others besides. For want of memory some of them are counted.
@@ -53,7 +110,8 @@ impl RecordCounts {
     pub fn add_all(&mut self, others: &RecordCounts) -> Result<(), NoMemory>
         ensures { OnOk result (self.new ≡ counts_together self.old others.now) }
     {
-        for (record_type, records) in others.counts.iter() {
+        let others = others.all()?;
+        for (record_type, records) in others.iter() {
             self.add(*record_type, *records)?;
         }
         Ok(())
@@ -64,8 +122,9 @@ impl RecordCounts {
         ensures list { IfOk result (λ list. list ≡ type_counts self.now) }
         ensures ascend { OnOk result (IsStrictlySortedBy type_cmp (keys_of self.now)) }
     {
+        let all = self.all()?;
         let mut list = List::new(alloc);
-        for (record_type, records) in self.counts.iter() {
+        for (record_type, records) in all.iter() {
             list.push(TypeCount {
                 kind: record_type.kind,
                 subtype: record_type.subtype,

@@ -1,30 +1,17 @@
-use Rattle.std.proofs.Common.{◌≡◌, ◌+◌, Some, None, ap, sym, ◌∙◌, unwrap_or, rules}
-use Rattle.std.specs.BTreeMap.{insert_entry, is_at}
-use Rattle.std.specs.Map.{lookup}
-use Rattle.record_counts.specs.Counting.{with_more, type_cmp, capped}
-use Rattle.record_counts.proofs.Inserting.{set_value-insert_entry}
-use Rattle.record_counts.proofs.CountedLemmas.{types_total}
+use Rattle.std.proofs.Common.{rules, ◌≡◌, ◌+◌, Some, ap, sym, ◌∙◌}
+use Rattle.record_counts.specs.Counting.{with_more, capped}
+use Rattle.record_counts.specs.Runs.{with_run}
+use Rattle.record_counts.proofs.Runs.{more_twice}
 use Rattle.record_counts.proofs.record_counts.RecordCounts.add.Goals as goal
 
-pub returns-in-Some-clause-ok : goal.returns-in-Some-clause-ok
-unfolding with_more
-returns-in-Some-clause-ok c =
-    let found : lookup (is_at (type_cmp c.args.record_type)) c.self.inside.counts.entries ≡ Some c.in-Some.count.now = search rules in
-    let sum : c.saturating_add.result ≡ capped (c.in-Some.count.now + c.args.records) = search rules in
-    (c.get_mut.follows.holds c.saturating_add.result).0
-    ∙ set_value-insert_entry types_total c.args.record_type c.saturating_add.result c.in-Some.count.now c.self.inside.counts.entries
-    c.get_mut.ensures.ordered found
-    ∙ ap (insert_entry type_cmp c.self.inside.counts.entries c.args.record_type)
-    (sum ∙ ap (λ before. capped (unwrap_or before 0 + c.args.records)) (sym found))
-    ∙ ap (with_more c.args.record_type c.args.records) c.self.view_is
-
 pub returns-clause-ok : goal.returns-clause-ok
-unfolding with_more
 returns-clause-ok c =
-    let none : lookup (is_at (type_cmp c.args.record_type)) c.self.inside.counts.entries ≡ None = search rules in
-    let sum : c.args.records ≡ capped (0 + c.args.records) = search rules in
-    c.in_ok-insert.ensures.entries
-    ∙ ap (λ m. insert_entry type_cmp m.entries c.args.record_type c.args.records) c.get_mut.follows.holds-at-none
-    ∙ ap (insert_entry type_cmp c.self.inside.counts.entries c.args.record_type)
-    (sum ∙ ap (λ before. capped (unwrap_or before 0 + c.args.records)) (sym none))
-    ∙ ap (with_more c.args.record_type c.args.records) c.self.view_is
+    let run = c.in-Some.run' in
+    let entries = c.self.inside.counts.entries in
+    let same : run.record_type ≡ c.args.record_type = search rules in
+    let sum : c.saturating_add-run.result ≡ capped (run.records + c.args.records) = search rules in
+    let last : c.self.inside.last ≡ Some run = search rules in
+    ap (λ n. with_more run.record_type n entries) sum
+    ∙ sym (more_twice run.record_type run.records c.args.records entries)
+    ∙ ap (with_more run.record_type c.args.records) (ap (λ r. with_run r entries) (sym last) ∙ c.self.view_is)
+    ∙ ap (λ t. with_more t c.args.records c.args.self.now) same
