@@ -5,26 +5,40 @@ use Rattle.clap.specs.Words.{App, Kinds, IsAmong, HasKind, Row, Text, fault_of, 
 use Rattle.clap.specs.declared.error.Error.{Error}
 use Rattle.clap.specs.declared.error.kind.ErrorKind.TheVariants as kind
 use Rattle.clap.proofs.OnLiterals.{clap_on_literals}
-use Rattle.tor_words.specs.Given.{settings_given, settings_in, unless_fault}
-use Rattle.tor_words.specs.CheckGiven.{check_settings_given, check_settings_in}
+use Rattle.tor_words.specs.Given.{unless_fault}
 use Rattle.tor_words.specs.TorCommand.{tor_command}
 use Rattle.tor_words.specs.TorcheckCommand.{torcheck_command}
+use Rattle.tor_words.specs.TorgradeCommand.{torgrade_command}
+use Rattle.tor_words.specs.TorviewCommand.{torview_command}
+use Rattle.tor_words.specs.TorwhyCommand.{torwhy_command}
 
-pub tor-is_simple_and_free : is_simple_and_free tor_command ≡ true
+-- ---- each command is one of which clap's clauses say everything
+
+pub record IsPlain (command : App) : Type 0 where
+  pub simple : is_simple command ≡ true
+  pub free : is_simple_and_free command ≡ true
+
+pub tor-is_plain : IsPlain tor_command
 unfolding clap_on_literals tor_command
-tor-is_simple_and_free = refl
+tor-is_plain = record { simple = refl; free = refl }
 
-pub tor-is_simple : is_simple tor_command ≡ true
-unfolding clap_on_literals tor_command
-tor-is_simple = refl
-
-pub torcheck-is_simple_and_free : is_simple_and_free torcheck_command ≡ true
+pub torcheck-is_plain : IsPlain torcheck_command
 unfolding clap_on_literals torcheck_command
-torcheck-is_simple_and_free = refl
+torcheck-is_plain = record { simple = refl; free = refl }
 
-pub torcheck-is_simple : is_simple torcheck_command ≡ true
-unfolding clap_on_literals torcheck_command
-torcheck-is_simple = refl
+pub torgrade-is_plain : IsPlain torgrade_command
+unfolding clap_on_literals torgrade_command
+torgrade-is_plain = record { simple = refl; free = refl }
+
+pub torview-is_plain : IsPlain torview_command
+unfolding clap_on_literals torview_command
+torview-is_plain = record { simple = refl; free = refl }
+
+pub torwhy-is_plain : IsPlain torwhy_command
+unfolding clap_on_literals torwhy_command
+torwhy-is_plain = record { simple = refl; free = refl }
+
+-- ---- words
 
 pub map-same : (xs : List Text) → map (λ x. x) xs ≡ xs
 map-same [] = refl
@@ -37,16 +51,6 @@ given-taken command read a ws words rows app same taken found =
     let faults : fault_of command words ≡ [] = ap₂ fault_of (sym app) (sym same) ∙ taken in
     let matches : matches_of command words ≡ rows = ap₂ matches_of (sym app) (sym same) ∙ sym found in
     ap₂ (λ k r. unless_fault k (read r)) faults matches
-
-pub settings_given-taken : (a : App) (ws words : List Text) (rows : List Row) → a ≡ tor_command → ws ≡ words
-    → fault_of a ws ≡ [] → rows ≡ matches_of a ws → settings_given words ≡ settings_in rows
-unfolding settings_given
-settings_given-taken a ws words rows app same taken found = given-taken tor_command settings_in a ws words rows app same taken found
-
-pub check_settings_given-taken : (a : App) (ws words : List Text) (rows : List Row) → a ≡ torcheck_command → ws ≡ words
-    → fault_of a ws ≡ [] → rows ≡ matches_of a ws → check_settings_given words ≡ check_settings_in rows
-unfolding check_settings_given
-check_settings_given-taken a ws words rows app same taken found = given-taken torcheck_command check_settings_in a ws words rows app same taken found
 
 no_settings : {X : Type 0} (faults : Kinds) (settings : Option X) (k : _) → IsAmong k faults → unless_fault faults settings ≡ None
 no_settings [] settings k among = absurd among
@@ -61,15 +65,3 @@ given-refused command settings a ws words e app same fails other =
       | inl memory ↦ absurd (other memory)
       | inr among ↦ no_settings (fault_of a ws) settings (kind_of e) among
     ])
-
-pub settings_given-refused : (a : App) (ws words : List Text) (e : Error) → a ≡ tor_command → ws ≡ words
-    → HasKind (fault_of a ws) e → kind_of e ≢ kind.OutOfMemory → settings_given words ≡ None
-unfolding settings_given
-settings_given-refused a ws words e app same fails other =
-    given-refused tor_command (settings_in (matches_of tor_command words)) a ws words e app same fails other
-
-pub check_settings_given-refused : (a : App) (ws words : List Text) (e : Error) → a ≡ torcheck_command → ws ≡ words
-    → HasKind (fault_of a ws) e → kind_of e ≢ kind.OutOfMemory → check_settings_given words ≡ None
-unfolding check_settings_given
-check_settings_given-refused a ws words e app same fails other =
-    given-refused torcheck_command (check_settings_in (matches_of torcheck_command words)) a ws words e app same fails other

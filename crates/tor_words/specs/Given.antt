@@ -22,7 +22,11 @@ abbrev pub number_in : ℕ → ℕ → Text → Option ℕ
 number_in low high text =
     if is_unsigned_in low high text then Some (digits_value 10 (without_leading_plus text)) else None
 
--- the same, or the default where the option isn't there
+-- the number of an AS or of a path
+abbrev pub short_number : Text → Option ℕ
+short_number text = number_in 0 4294967295 text
+
+-- the number that a text names within the bounds, or the default where the option isn't there
 abbrev pub number_or : ℕ → ℕ → ℕ → Option Text → Option ℕ
 number_or low high default None = Some default
 number_or low high default (Some text) = number_in low high text

@@ -1,19 +1,15 @@
 -- The settings that words give to a telling.
-use Rattle.std.specs.Prelude.{◌==◌, ℕ, List, [], ◌∷◌, Option, Some, None, option_map, unwrap_or, if◌then◌else◌, codes}
+use Rattle.std.specs.Prelude.{◌==◌, ℕ, List, [], ◌∷◌, Option, Some, None, unwrap_or, if◌then◌else◌, codes}
 use Rattle.clap.specs.Words.{Row, Text, all_of, first_of, fault_of, matches_of}
 use Rattle.tor_words.specs.declared.why_settings.Asked.{Asked}
 use Rattle.tor_words.specs.declared.why_settings.Asked.TheVariants.{Edge, Path}
 use Rattle.tor_words.specs.declared.why_settings.WhySettings.{WhySettings}
-use Rattle.tor_words.specs.Given.{number_in, unless_fault}
+use Rattle.tor_words.specs.Given.{short_number, unless_fault}
 use Rattle.tor_words.specs.TorwhyCommand.{torwhy_command}
 
 -- the ASes behind the result, in the order of the words
 abbrev pub ases_in : List Row → List Text
 ases_in rows = unwrap_or (all_of (codes "as") rows) []
-
--- the number of an AS or of a path
-abbrev pub short_number : Text → Option ℕ
-short_number text = number_in 0 4294967295 text
 
 -- the edge of two ASes, which have to differ
 abbrev pub edge_asked : (one other : Option ℕ) → Option Asked

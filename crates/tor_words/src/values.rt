@@ -1,6 +1,6 @@
 //! The values of options.
 ghost use Rattle.std.specs.Prelude.{◌≡◌, ◌≤◌, IfSome, option_map};
-ghost use Rattle.tor_words.specs.Given.{number_in, number_or, sets_or_cut, is_true_text};
+ghost use Rattle.tor_words.specs.Given.{number_in, short_number, number_or, sets_or_cut, is_true_text};
 
 use path_clean::Sets;
 
@@ -21,7 +21,17 @@ pub(crate) fn number_in(text: &str, low: u64, high: u64) -> Option<u64>
     }
 }
 
-/// The same, or the default where there is no text.
+/// The number of an AS or of a path.
+pub(crate) fn short_number(text: &str) -> Option<u32>
+    ensures { result ≡ short_number text.now }
+{
+    match number_in(text, 0, 4_294_967_295) {
+        Some(number) => Some(number as u32),
+        None => None,
+    }
+}
+
+/// The number of the text within the bounds, or the default where there is no text.
 pub(crate) fn number_or(text: Option<&str>, low: u64, high: u64, default: u64) -> Option<u64>
     requires low { low ≤ default }
     requires high { default ≤ high }

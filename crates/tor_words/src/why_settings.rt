@@ -1,14 +1,13 @@
 //! The settings of a telling.
 ghost use Rattle.std.specs.Prelude.{◌≡◌, IfOk, IfErr, OnErr, Some, None, map, option_map};
 ghost use Rattle.clap.specs.Words.{found_of, rows_of};
-ghost use Rattle.tor_words.specs.WhyGiven.{asked_in, edge_asked, path_asked, short_number, what_asked, why_settings_in};
-ghost use Rattle.tor_words.specs.WhyGiven.{why_settings_given};
+ghost use Rattle.tor_words.specs.WhyGiven.{asked_in, edge_asked, path_asked, what_asked, why_settings_in, why_settings_given};
 ghost use Rattle.tor_words.specs.Refused.{IsUsage, SaysUsage};
 
 use crate::name::Name;
 use crate::refused::{WordsRefused, refusal, usage};
 use crate::settings::first;
-use crate::values::number_in;
+use crate::values::short_number;
 use crate::why_command::why_command;
 use clap::ArgMatches;
 use std::alloc::Global;
@@ -30,16 +29,6 @@ pub struct WhySettings {
     pub result: Name,
     /// What is asked of it.
     pub asked: Asked,
-}
-
-// The number of an AS or of a path.
-fn short_number(text: &str) -> Option<u32>
-    ensures { result ≡ short_number text.now }
-{
-    match number_in(text, 0, 4_294_967_295) {
-        Some(number) => Some(number as u32),
-        None => None,
-    }
 }
 
 // The edge of two ASes, which have to differ.

@@ -1,0 +1,106 @@
+//! The settings of a picture.
+ghost use Rattle.std.specs.Prelude.{◌≡◌, ◌≤◌, IfOk, IfErr, IfSome, Some, None};
+ghost use Rattle.clap.specs.Words.{found_of, rows_of};
+ghost use Rattle.tor_words.specs.ViewGiven.{AreFew, depth_in, drawn_in, most_in, view_settings_in, view_settings_given};
+ghost use Rattle.tor_words.specs.Refused.{IsUsage, SaysUsage};
+
+use crate::name::Name;
+use crate::refused::{WordsRefused, refusal, usage};
+use crate::settings::first;
+use crate::values::{number_or, short_number};
+use crate::view_command::view_command;
+use clap::ArgMatches;
+use std::alloc::Global;
+use tor_arena::List;
+
+/// What a run of `torview` is asked for: the picture of one AS of a result with its neighbours.
+#[derive(Drop)]
+pub struct ViewSettings {
+    /// The name of the result file.
+    pub result: Name,
+    /// The AS.
+    pub asked: u32,
+    /// The most neighbours of each group that are drawn, from 1 to 2000.
+    pub most: u32,
+    /// How many rows of providers are drawn at most, from 1 to 8.
+    pub depth: u32,
+}
+
+// How many neighbours of each group are drawn at most.
+fn most_in(matches: &ArgMatches) -> Option<u32>
+    ensures value { result ≡ most_in (rows_of (found_of matches.now)) }
+    ensures within { IfSome result (λ most. (1 ≤ most) × (most ≤ 2000)) }
+{
+    match number_or(first(matches, "most"), 1, 2000, 60) {
+        Some(most) => Some(most as u32),
+        None => None,
+    }
+}
+
+// How many rows of providers are drawn at most.
+fn depth_in(matches: &ArgMatches) -> Option<u32>
+    ensures value { result ≡ depth_in (rows_of (found_of matches.now)) }
+    ensures within { IfSome result (λ depth. (1 ≤ depth) × (depth ≤ 8)) }
+{
+    match number_or(first(matches, "depth"), 1, 8, 1) {
+        Some(depth) => Some(depth as u32),
+        None => None,
+    }
+}
+
+// The AS that is drawn with its neighbours.
+fn drawn_in(matches: &ArgMatches) -> Option<u32>
+    ensures { result ≡ drawn_in (rows_of (found_of matches.now)) }
+{
+    match first(matches, "as") {
+        Some(text) => short_number(text),
+        None => None,
+    }
+}
+
+// The settings that the matches give, if the result and an AS are named, and the values are some.
+fn view_settings_in(alloc: Global, matches: &ArgMatches) -> Result<ViewSettings, WordsRefused>
+    ensures ok { IfOk result (λ s. view_settings_in (rows_of (found_of matches.now)) ≡ Some s) }
+    ensures err { IfErr result (λ e. IsUsage e → view_settings_in (rows_of (found_of matches.now)) ≡ None) }
+    ensures text { IfErr result SaysUsage }
+    ensures few { IfOk result AreFew }
+{
+    let Some(text) = first(matches, "result") else {
+        return Err(usage(alloc, "no result is named\n"));
+    };
+    let Some(asked) = drawn_in(matches) else {
+        return Err(usage(alloc, "an AS is named by a number from 0 to 4294967295\n"));
+    };
+    let Some(most) = most_in(matches) else {
+        return Err(usage(alloc, "--most takes a number from 1 to 2000\n"));
+    };
+    let Some(depth) = depth_in(matches) else {
+        return Err(usage(alloc, "--depth takes a number from 1 to 8\n"));
+    };
+    match Name::from_text(alloc, text) {
+        Ok(result) => Ok(ViewSettings {
+            result,
+            asked,
+            most,
+            depth,
+        }),
+        Err(_) => Err(WordsRefused::NoMemory),
+    }
+}
+
+/// The settings that the words after the program's name give to a picture, by clap's meaning of the command. Usage comes
+/// exactly where they give none.
+pub fn view_settings_of(alloc: Global, words: &List<Name>) -> Result<ViewSettings, WordsRefused>
+    ensures given { IfOk result (λ s. view_settings_given words.now ≡ Some s) }
+    ensures refused { IfErr result (λ e. IsUsage e → view_settings_given words.now ≡ None) }
+    ensures text { IfErr result SaysUsage }
+    ensures few { IfOk result AreFew }
+{
+    let Ok(command) = view_command(alloc) else {
+        return Err(WordsRefused::NoMemory);
+    };
+    match command.try_get_matches_from(words.as_slice()) {
+        Ok(matches) => view_settings_in(alloc, &matches),
+        Err(error) => Err(refusal(alloc, &error)),
+    }
+}
