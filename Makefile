@@ -64,10 +64,10 @@ samples: $(BUILT)
 	@echo "the lists are the same, the results are right, exactly the kept paths are free, and results can be resumed"
 
 system: $(BUILT)
-	bench/system.sh bin/tor bin/torcheck bin/torgrade samples
+	bench/system.sh bin samples
 
 memory: $(BUILT)
-	bench/memory.sh bin/tor bin/torcheck bin/torgrade samples
+	bench/memory.sh bin samples
 
 container: dist
 	tools/container.sh $(ARCHIVE)

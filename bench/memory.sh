@@ -3,9 +3,10 @@
 # until none is left to refuse: once that allocation alone, and once with all behind it. Such a run has to end with status 7, nothing on
 # standard output, and the note `no-memory`, which may be missing only as long as the words aren't held. Each line says the command, how
 # many of its allocations were refused and whether all was as it should be; the script ends with 1 if it was not.
-#   bench/memory.sh TOR TORCHECK TORGRADE SAMPLES
+#   bench/memory.sh BIN SAMPLES
+# BIN is the folder of the programs.
 set -uo pipefail
-tor=$1 torcheck=$2 torgrade=$3 samples=$4
+tor=$1/tor torcheck=$1/torcheck torgrade=$1/torgrade torwhy=$1/torwhy torview=$1/torview samples=$2
 work=$(mktemp -d)
 trap 'rm -rf "$work"' EXIT
 failed=0
@@ -170,5 +171,14 @@ refuse "a check of a changed result" 1 "$torcheck" "$work/changed.txt" "$dump"
 refuse "a grading" 1 "$torgrade" "$work/rel" "$dump"
 refuse "a grading and a cone" 1 "$torgrade" --cone 20 "$work/rel" "$dump"
 refuse "a bad line of relationships" 1 "$torgrade" "$work/bad" "$dump"
+refuse "a telling of a forced edge" 1 "$torwhy" "$samples/three-paths.result.txt" 10 20
+refuse "a telling of an open edge" 1 "$torwhy" "$samples/three-paths.result.txt" 20 30
+refuse "a telling of a path" 1 "$torwhy" --path 3 "$samples/three-paths.result.txt"
+refuse "a telling of an edge that isn't there" 1 "$torwhy" "$samples/three-paths.result.txt" 10 30
+refuse "a telling of a changed result" 1 "$torwhy" "$work/changed.txt" 10 20
+refuse "a picture" 1 "$torview" "$samples/three-paths.result.txt" 20
+refuse "a picture of three rows of providers" 1 "$torview" --depth 3 "$samples/three-paths.result.txt" 60
+refuse "a picture of an AS that isn't there" 1 "$torview" "$samples/three-paths.result.txt" 70
+refuse "a picture of a changed result" 1 "$torview" "$work/changed.txt" 20
 
 exit $failed

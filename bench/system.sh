@@ -2,9 +2,10 @@
 # What the programs do at the ends that touch the system: full devices, closed pipes, folders, absent files, standard input, many dumps and
 # few descriptors, endless results, relationships and givens. Each line says the run and whether status, output and note were as they should
 # be; the script ends with 1 if one was not.
-#   bench/system.sh TOR TORCHECK TORGRADE SAMPLES
+#   bench/system.sh BIN SAMPLES
+# BIN is the folder of the programs.
 set -uo pipefail
-tor=$1 torcheck=$2 torgrade=$3 samples=$4
+tor=$1/tor torcheck=$1/torcheck torgrade=$1/torgrade torwhy=$1/torwhy torview=$1/torview samples=$2
 work=$(mktemp -d)
 trap 'rm -rf "$work"' EXIT
 failed=0
@@ -106,6 +107,34 @@ expect "an absent result" $? 4 "read-fault|0"
 
 "$torcheck" "$samples" > "$work/out" 2> "$work/note"
 expect "a folder for a result" $? 4 "read-fault|0"
+
+for program in "torwhy" "torview"; do
+    if [ "$program" = torwhy ]; then words=(10 20) text=edge; else words=(10) text='<svg'; fi
+    "$1/$program" "$work/result" "${words[@]}" > "$work/out" 2> "$work/note"
+    expect "$program" $? 0 ""
+    [ "$(head -c ${#text} "$work/out")" = "$text" ] || { echo "FAILED: $program: output '$(head -1 "$work/out")'"; failed=1; }
+
+    "$1/$program" /dev/stdin "${words[@]}" < "$work/result" > "$work/again" 2> "$work/note"
+    expect "$program of standard input" $? 0 ""
+    same "$program of standard input" "$work/again" "$(cat "$work/out")"
+
+    "$1/$program" "$work/result" "${words[@]}" > /dev/full 2> "$work/note"
+    expect "$program on a full device" $? 5 "write-fault"
+
+    { sleep 0.3; "$1/$program" "$work/result" "${words[@]}" 2> "$work/note"; echo $? > "$work/status"; } | true
+    expect "$program into a closed pipe" "$(cat "$work/status")" 5 "write-fault"
+
+    "$1/$program" "$work/absent" "${words[@]}" > "$work/out" 2> "$work/note"
+    expect "$program of an absent result" $? 4 "read-fault|0"
+
+    "$1/$program" "$samples" "${words[@]}" > "$work/out" 2> "$work/note"
+    expect "$program of a folder" $? 4 "read-fault|0"
+    same "$program of a folder" "$work/out" ""
+
+    "$1/$program" /dev/zero "${words[@]}" > "$work/out" 2> "$work/note"
+    expect "$program of an endless result" $? 6 "limit|result|0"
+    same "$program of an endless result" "$work/out" ""
+done
 
 echo '10|20|-1' > "$work/rel"
 grades=$'free|1|10 20\ngrade|1|0|0'
