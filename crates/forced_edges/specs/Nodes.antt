@@ -1,7 +1,14 @@
--- What a search over the arcs adds to a set of nodes. These words are the marking's own: no reader of a public clause needs
+-- Sets of nodes, and what a search over the arcs adds to one. These words are the marking's own: no reader of a public clause needs
 -- them.
-use Rattle.std.specs.Prelude.{◌≡◌, ◌⊎◌, ℕ, ◌≤◌, List, [], ◌∷◌, ◌++◌, Option, Some, None, slice_get, length, Contains}
+use Rattle.std.specs.Prelude.{◌≡◌, ◌⊎◌, ℕ, ◌≤◌, Bool, List, [], ◌∷◌, ◌++◌, Option, Some, None, slice_get, length, Contains}
 use Rattle.tor_digraph.specs.Walks.{HasArc}
+use Rattle.tor_digraph.specs.Closing.{IsOnce}
+use Rattle.tor_digraph.specs.NodeSets.{AreMarked}
+
+-- exactly these nodes are marked, and each stands once
+pub record AreVisited (nodes : List ℕ) (marks : List Bool) : Type 0 where
+  pub marked : AreMarked nodes marks
+  pub once : IsOnce nodes
 
 -- the old nodes are the first of the new ones
 abbrev pub Stays : List ℕ → List ℕ → Type 0

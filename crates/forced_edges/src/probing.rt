@@ -9,6 +9,7 @@ ghost use Rattle.forced_edges.specs.Findings.{AllSettled, AreMarkedBy, AreRight,
 use crate::marks::Marks;
 use crate::problem::Problem;
 use crate::spreading::spread;
+use crate::visited::Visited;
 use relationships::Probe;
 use std::alloc::Global;
 use tor_arena::{List, NoMemory, NodeId};
@@ -21,7 +22,7 @@ fn probe_order(
     problem: &Problem<'_>,
     node: NodeId,
     shown: &NodeSet,
-    covered: &mut NodeSet,
+    covered: &mut Visited,
     probes: &mut List<Probe>,
 ) -> Result<(), NoMemory>
     requires there { node < problem.now.formula.net.nodes }
@@ -63,7 +64,7 @@ pub(crate) fn choose_probes(
     ensures { OnOk result (AreRight problem.now marks.new) }
 {
     problem.facts();
-    let mut covered = NodeSet::new(alloc, problem.node_count())?;
+    let mut covered = Visited::new(alloc, problem.node_count())?;
     for left in (0..against.len()).rev() {
         let node = against[left];
         probe_order(problem, node, shown, &mut covered, &mut marks.probes)?;

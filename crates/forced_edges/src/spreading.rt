@@ -3,11 +3,12 @@ ghost use Rattle.std.specs.Prelude.{◌≡◌, ◌<◌, ◌↔◌, IsTrue, IfSom
 ghost use Rattle.tor_digraph.specs.Reached.{IsGrown};
 ghost use Rattle.forced_edges.specs.Nodes.{IsEntered, HasLooked, IsClosed, HasCome};
 
+use crate::visited::Visited;
 use tor_arena::{ArcId, Index, NoMemory, NodeId};
 use tor_digraph::{NodeSet, RowDigraph};
 
 /// Adds a node, unless it is there, or one past which the search does not go.
-fn meet(node: NodeId, past: &NodeSet, found: &mut NodeSet) -> Result<(), NoMemory>
+fn meet(node: NodeId, past: &NodeSet, found: &mut Visited) -> Result<(), NoMemory>
     requires past { node < past.now.count }
     requires found { node < found.old.count }
     ensures count { found.new.count ≡ found.old.count }
@@ -24,7 +25,7 @@ fn look(
     rows: &RowDigraph<'_, NodeId, ArcId>,
     tail: NodeId,
     past: &NodeSet,
-    found: &mut NodeSet,
+    found: &mut Visited,
 ) -> Result<(), NoMemory>
     requires there { tail < rows.now.nodes }
     requires past { past.now.count ≡ rows.now.nodes }
@@ -41,7 +42,7 @@ fn look(
 }
 
 /// Whether a search has come to the node at which it is to stop, if there is one.
-fn has_come(end: &Option<NodeId>, found: &NodeSet) -> bool
+fn has_come(end: &Option<NodeId>, found: &Visited) -> bool
     requires { IfSome end.now (λ node. node < found.now.count) }
     ensures { IsTrue result ↔ HasCome end.now found.now.items }
 {
@@ -58,7 +59,7 @@ pub(crate) fn spread(
     start: NodeId,
     end: Option<NodeId>,
     past: &NodeSet,
-    found: &mut NodeSet,
+    found: &mut Visited,
 ) -> Result<(), NoMemory>
     requires start { start < rows.now.nodes }
     requires end { IfSome end (λ node. node < rows.now.nodes) }

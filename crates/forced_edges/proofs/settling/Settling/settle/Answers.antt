@@ -1,10 +1,11 @@
-use Rattle.std.proofs.Common.{inl, inr, refl, sym, ap, ◌∙◌, ℕ, subst, Contains}
+use Rattle.std.proofs.Common.{◌≡◌, inl, inr, refl, sym, ap, ◌∙◌, ℕ, take, subst, arith, Contains}
 use Rattle.std.proofs.lemmas.Bool.{false≢true}
 use Rattle.tor_digraph.specs.Walks.{Net}
 use Rattle.tor_digraph.specs.Reached.{IsGrown}
 use Rattle.tor_clauses.specs.Literals.{opposite_node}
 use Rattle.forced_edges.specs.Nodes.{IsClosed}
-use Rattle.forced_edges.proofs.Settlings.{near-walk, grown-cases, together_more}
+use Rattle.forced_edges.proofs.Settlings.{near-walk, grown-cases, together_more, together_kept}
+use Rattle.forced_edges.proofs.Visits.{first_again, stays_length}
 use Rattle.forced_edges.proofs.settling.Settling.settle.Goals as goal
 
 pub show_opposite-requires-clause-back : goal.show_opposite-requires-clause-back
@@ -22,6 +23,30 @@ show_opposite-requires-clause-back c =
 pub spread-requires-clause-closed : goal.spread-requires-clause-closed
 spread-requires-clause-closed c =
     subst (λ (n : Net ℕ). IsClosed n.arcs c.args.self.now.shown.nodes.items c.args.self.now.together.items) (sym c.rows.ensures) c.requires.together.closed
+
+pub cut_to-requires : goal.cut_to-requires
+cut_to-requires c =
+    let le = stays_length c.args.self.now.together.items c.spread.new.found.items c.in_ok-spread.ensures.grown.kept in
+    let len = c.len-before.ensures in
+    omega (arith, le, len)
+
+pub returns-in_ok-show_opposite : goal.returns-in_ok-show_opposite
+returns-in_ok-show_opposite c =
+    let old = c.args.self.now.together in
+    let new = c.spread.new.found in
+    let cut = c.cut_to.new.self in
+    let more = c.show_opposite.new.self.nodes.items in
+    let done = c.in_ok-show_opposite.ensures in
+    let count = c.cut_to.ensures.count ∙ c.spread.ensures.count ∙ ap (λ (n : Net ℕ). n.nodes) c.rows.ensures in
+    let same : cut.items ≡ old.items =
+    c.cut_to.ensures.first ∙ ap (λ k. take k new.items) c.len-before.ensures ∙ first_again old.items new.items c.in_ok-spread.ensures.grown.kept in
+    record {
+      shown = done.shown;
+      keeps = done.keeps;
+      together = together_kept c.args.problem.now c.args.self.now.shown.nodes.items more old cut c.requires.together done.keeps count same;
+      settled = λ t r. done.added;
+      first = λ e. refl;
+    }
 
 pub returns-else-has-4 : goal.returns-else-has-4
 returns-else-has-4 c =

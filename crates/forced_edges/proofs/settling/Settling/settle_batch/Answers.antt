@@ -3,12 +3,13 @@ use Rattle.std.proofs.lemmas.List.Elements.{All-contains}
 use Rattle.tor_arena.proofs.Gets.{Contains-from_has}
 use Rattle.tor_digraph.proofs.Members.{read-at}
 use Rattle.forced_edges.proofs.Settlings.{batch_begins, batch_next, batch_done}
+use Rattle.forced_edges.proofs.Visits.{cut_none}
 use Rattle.forced_edges.proofs.settling.Settling.settle_batch.Goals as goal
 
 pub loop-place-init : goal.loop-place-init
 loop-place-init c =
-    batch_begins c.args.problem.now c.args.nodes.now c.args.self.now.shown c.clear.new.self c.new-waiting.result c.requires.settling.shown
-    (c.clear.ensures.count ∙ c.requires.settling.count) c.clear.ensures.none c.new-waiting.ensures
+    batch_begins c.args.problem.now c.args.nodes.now c.args.self.now.shown c.cut_to.new.self c.new-waiting.result c.requires.settling.shown
+    (c.cut_to.ensures.count ∙ c.requires.settling.count) (c.cut_to.ensures.first ∙ cut_none c.args.self.now.together.items) c.new-waiting.ensures
 
 pub loop-place-preserved : goal.loop-place-preserved
 loop-place-preserved c =
