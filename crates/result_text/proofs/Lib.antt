@@ -6,6 +6,7 @@ mod Lines
 mod Machine
 mod LineFeeds
 mod Verdicts
+mod Pieces
 mod Places
 mod PathLineLemmas
 mod Puts

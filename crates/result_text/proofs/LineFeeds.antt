@@ -25,18 +25,15 @@ use Rattle.result_text.specs.Text.{line_text, text_of_lines}
 use Rattle.result_text.specs.Ranges.{AreU32, LinkFits, FateFits, LineFits}
 use Rattle.text_fields.specs.Fields.{IsU32, IsU64}
 use Rattle.result_text.specs.Grammar.{first_lines}
+use Rattle.result_text.specs.Taking.{feedless}
 
 -- ---- each line has one line feed, at its end
 
-abbrev feedless : List ℕ → Bool
-feedless [] = true
-feedless (b ∷ bs) = cond (eqb b 10) false (feedless bs)
-
-unless_parts : (b c : Bool) → cond b false c ≡ true → (b ≡ false) × (c ≡ true)
+pub unless_parts : (b c : Bool) → cond b false c ≡ true → (b ≡ false) × (c ≡ true)
 unless_parts true c e = absurd cc
 unless_parts false c e = (refl, e)
 
-feedless_append : (xs ys : List ℕ) → feedless xs ≡ true → feedless ys ≡ true → feedless (xs ++ ys) ≡ true
+pub feedless_append : (xs ys : List ℕ) → feedless xs ≡ true → feedless ys ≡ true → feedless (xs ++ ys) ≡ true
 feedless_append [] ys e f = f
 feedless_append (x ∷ xs) ys e f =
     let t = unless_parts (eqb x 10) (feedless xs) e in
@@ -138,6 +135,11 @@ parts_feedless v (line.End t) h = (
     ),
   ),
 )
+
+-- a line is octets with no line feed, and one behind them
+pub line_ends : (v : Version) (l : Line) → LineFits l → (body : List ℕ) × (feedless body ≡ true) × (line_text v l ≡ body ++ 10 ∷ [])
+unfolding line_text
+line_ends v l fits = (fields (fields_of v l), feedless_fields (fields_of v l) (parts_feedless v l fits), refl)
 
 -- ---- the first lines
 

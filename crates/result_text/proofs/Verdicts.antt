@@ -1,7 +1,7 @@
 -- What is read so far begins a text; where reading ends, it is the text, or its bad line is named.
 use Rattle.std.proofs.Common.{◌≡◌, ℕ, zero, suc, ◌+◌, ◌<◌, ◌≤◌, Bool, cond, eqb, List, [], ◌∷◌, ◌++◌, length, map, take, drop, Option, Some, None, refl, sym, ap, subst, ◌∙◌}
 use Rattle.std.proofs.Common.{append_assoc, arith, inl, inr}
-use Rattle.std.specs.Prelude.{◌≢◌, ◌⊎◌, slice_set, option_map, IsSomeAnd, MatchOption}
+use Rattle.std.specs.Prelude.{◌≢◌, ◌⊎◌, slice_set, option_map, IsSomeAnd}
 use Rattle.std.specs.List.{AllByRecursion}
 use Rattle.std.proofs.lemmas.List.{append-nil, take-append-drop, length-append, length-take-le}
 use Rattle.std.proofs.lemmas.List.Concat.{flat_map-append}
@@ -355,7 +355,7 @@ well_before d rest r m le =
 abbrev pub Stops : Draft → List ℕ → Type 0
 Stops d rest = (l : Line) (after : List ℕ) → line_at (its_version d) rest ≡ Some (l, after) → step d l ≡ None
 
-none_is_some : {A : Type 0} (x : A) → (let none : Option A = None in none) ≡ Some x → ⊥
+pub none_is_some : {A : Type 0} (x : A) → (let none : Option A = None in none) ≡ Some x → ⊥
 none_is_some x e = absurd cc
 
 -- a result whose lines begin with those so far goes on from the draft
@@ -472,14 +472,7 @@ line_long : (v : Version) (l : Line) → 0 < length (line_text v l)
 unfolding line_text
 line_long v l = omega (arith, length-append (fields (fields_of v l)) (10 ∷ []))
 
-lines_long : (v : Version) (ls : List Line) → length ls ≤ length (text_of_lines v ls)
-lines_long v [] = omega arith
-lines_long v (l ∷ ls) = omega (arith, line_long v l, lines_long v ls, length-append (line_text v l) (text_of_lines v ls))
-
-pub few_lines : (d : Draft) (bytes rest : List ℕ) (read : ℕ) → Progress d bytes rest read → read + length rest ≤ length bytes
-few_lines d bytes rest read p = omega (arith, lines_long (its_version d) (sofar d), p.count, ap length p.encoded, length-append (text_sofar d) rest)
-
-next_parts : (d e : Draft) (rest after : List ℕ) → next_at d rest ≡ Some (e, after) → (l : Line) × (line_at (its_version d) rest ≡ Some (l, after)) × (step d l ≡ Some e)
+pub next_parts : (d e : Draft) (rest after : List ℕ) → next_at d rest ≡ Some (e, after) → (l : Line) × (line_at (its_version d) rest ≡ Some (l, after)) × (step d l ≡ Some e)
 unfolding next_at
 next_parts d e rest after n =
     let a = bind_some (line_at (its_version d) rest) (λ x. step d x.0 >>= λ e. Some (e, x.1)) (e, after) n in
@@ -568,11 +561,3 @@ unfinished d bytes rest read p e n =
 
 pub whole_text : (d : Draft) (bytes rest : List ℕ) (read : ℕ) (f : ResultFile) → Progress d bytes rest read → rest ≡ [] → finished d ≡ Some f → IsTextOf f bytes
 whole_text d bytes rest read f p e ends = is_text d bytes f p.reached (p.encoded ∙ ap (λ (x : List ℕ). text_sofar d ++ x) e) ends
-
--- where nothing is left, the draft is finished, or the line behind the last is bad
-pub ended : (d : Draft) (bytes rest : List ℕ) (read : ℕ) → Progress d bytes rest read → rest ≡ [] → MatchOption (finished d) (IsBadLine (read + 1) bytes) (λ f. IsTextOf f bytes)
-ended d bytes rest read p e = by (finished d) refl
-  where
-    by : (o : Option ResultFile) → finished d ≡ o → MatchOption o (IsBadLine (read + 1) bytes) (λ f. IsTextOf f bytes)
-    by None is = unfinished d bytes rest read p e is
-    by (Some f) is = whole_text d bytes rest read f p e is

@@ -7,4 +7,5 @@ pub mod Ranges
 pub mod Reading
 pub mod Refusal
 pub mod RoundTrips
+pub mod Taking
 pub mod Text

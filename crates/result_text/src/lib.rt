@@ -15,6 +15,7 @@ mod path_lines;
 mod printing;
 mod ranges;
 mod reading;
+mod taking;
 
 pub use asides::put_asides;
 pub use error::ParseError;
@@ -25,4 +26,5 @@ pub use path_lines::{PathLineRef, PathLines};
 pub use printing::{print, write_text};
 pub use ranges::in_range;
 pub use relationships::{Fate, Given, Mark, Probe};
+pub use taking::Parser;
 pub use text_fields::put_number;
