@@ -43,7 +43,7 @@ fewer P paths (g ∷ givens) h =
     ]
 
 module _ (file : ResultFile) (accepts : Accepts file) where
-  abbrev kept : List (List ℕ)
+  abbrev pub kept : List (List ℕ)
   kept = paths_of (its_kept file)
 
   abbrev pub near : List (List ℕ)

@@ -1,9 +1,11 @@
 pub mod Chains
 pub mod Decided
+pub mod DownLemmas
 pub mod EitherLemmas
 pub mod LabelLemmas
 pub mod PathLemmas
 pub mod ProvingLemmas
+pub mod ReachLemmas
 pub mod SlopeLemmas
 pub mod TextLemmas
 pub mod Vectors

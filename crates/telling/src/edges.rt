@@ -1,6 +1,6 @@
 //! The line of an edge, and the orders of its label.
 
-ghost use Rattle.std.specs.Prelude.{◌≡◌, Contains, MatchOption};
+ghost use Rattle.std.specs.Prelude.{Contains, MatchOption};
 ghost use Rattle.relationships.specs.Graph.{edge_of};
 ghost use Rattle.result_rules.specs.File.{its_edges};
 ghost use Rattle.telling.specs.Told.{IsLineOf};

@@ -17,7 +17,7 @@ use tor_arena::{Keys, List, NoMemory};
 use tor_numbers::EdgeTable;
 
 /// How the step from one AS to another goes, by the label of their edge.
-fn going_by(label: Label, from: u32, to: u32) -> Going
+pub(crate) fn going_by(label: Label, from: u32, to: u32) -> Going
     ensures { (L : Labelling) → from ≢ to → L (edge_of from to).0 (edge_of from to).1 ≡ label → result ≡ going_of (slope L from to) }
 {
     match label {
@@ -53,7 +53,11 @@ fn put_label(labels: &mut Vec<Label>, table: &EdgeTable, line: &EdgeLine)
 }
 
 /// The labels of the edges of a table, in their order, and of one that no line names that of peers.
-fn labels_along(alloc: Global, file: &ResultFile, table: &EdgeTable) -> Result<Vec<Label>, NoMemory>
+pub(crate) fn labels_along(
+    alloc: Global,
+    file: &ResultFile,
+    table: &EdgeTable,
+) -> Result<Vec<Label>, NoMemory>
     requires accepted { Accepts file.now }
     ensures many { IfOk result (λ labels. length labels.items ≡ length table.now) }
     ensures labels { IfOk result (λ labels.

@@ -2,16 +2,21 @@
 //! lost.
 #![tactic(auto)]
 
+mod answer;
+mod downs;
 mod edges;
 mod goings;
 mod laws;
 mod numbers;
 mod paths;
 mod proving;
+mod reaching;
 mod steps;
+mod table;
 mod told;
 mod writing;
 
+pub use answer::tell;
 pub use edges::line_of;
 pub use laws::{either_law, peers_law, proving_law};
 pub use paths::tell_path;

@@ -77,7 +77,7 @@ pub(crate) fn whys_for(
 }
 
 /// The order of the label of a line, the provider first, unless the two are peers.
-fn order_of(line: &EdgeLine) -> Option<(u32, u32)>
+pub(crate) fn order_of(line: &EdgeLine) -> Option<(u32, u32)>
     ensures { MatchOption result (line.now.label ≡ label.Peer) (λ order. HasOrder line.now order.0 order.1) }
 {
     match line.label {

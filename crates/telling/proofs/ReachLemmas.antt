@@ -1,0 +1,367 @@
+-- What is reached down from the order of a label, and the walk back.
+use Rattle.std.proofs.Common.{◌≡◌, ◌≢◌, ◌⊎◌, inl, inr, ℕ, zero, suc, ◌+◌, ◌<◌, ◌≤◌, List, [], ◌∷◌, ◌++◌, length, map, get_or, false, true, Some, slice_get, refl, sym, ap, ◌∙◌, subst, arith}
+use Rattle.std.proofs.Common.{All, Contains, IsTrue, IsNone, Option, None, length-append}
+use Rattle.std.proofs.lemmas.Bool.{false≢true, cases_lt}
+use Rattle.std.proofs.lemmas.List.Elements.{All-append, All-contains, Contains-append_cases}
+use Rattle.std.proofs.lemmas.Option.{same_Some, slice_get_within}
+use Rattle.tor_arena.proofs.Gets.{Contains-from_has, Contains-none, slice_get-some, Contains-map, has-from_Contains, slice_get-unmap}
+use Rattle.relationships.specs.declared.label.Label.{Label}
+use Rattle.relationships.specs.declared.label.Label.TheVariants as label
+use Rattle.relationships.specs.declared.mark.Mark.TheVariants as mark
+use Rattle.relationships.specs.declared.given.Given.{Given}
+use Rattle.relationships.specs.declared.mark.Probe.{Probe}
+use Rattle.relationships.specs.declared.walk.Link.{Link}
+use Rattle.relationships.specs.declared.walk.Walk.{Walk}
+use Rattle.relationships.specs.Relationship.{Labelling, is_low, is_high, is_over}
+use Rattle.relationships.specs.Graph.{Edge, edge_of, edges}
+use Rattle.relationships.specs.Evidence.{TripleAt, IsTriple, Closure, start, imply, IsConsistent, NeighboursDiffer, Numbered, paths_of, BeginsWith, EndsWith, Fits}
+use Rattle.relationships.specs.Givens.{return_of, LabelsSay, names_edge}
+use Rattle.relationships.specs.GivenEvidence.{FitsWith, IsLinkedWith}
+use Rattle.relationships.specs.Checking.{OtherOrder, Claim, IsBorneOut, ProbesFrom}
+use Rattle.relationships.specs.Marking.{is_forced}
+use Rattle.relationships.specs.Telling.{Leads, CanBeEither}
+use Rattle.relationships.proofs.Slopes.{over_one_way, over-low, over-high}
+use Rattle.relationships.proofs.Closures.{reversed_triple}
+use Rattle.relationships.proofs.GivenLemmas.{three_on, any_there, edge_back, returns_differ}
+use Rattle.relationships.proofs.GivenWalks.{same_closure_law}
+use Rattle.tor_digraph.specs.Walks.{Net, IsArc, HasArc}
+use Rattle.tor_digraph.specs.Reached.{Reach}
+use Rattle.result_text.specs.declared.file.EdgeLine.{EdgeLine}
+use Rattle.result_text.specs.declared.file.ResultFile.{ResultFile}
+use Rattle.result_rules.specs.declared.rule.Rule.TheVariants.{HeadSound, EdgesListed, LabelsServe, MarksBorneOut}
+use Rattle.result_rules.specs.File.{its_givens, its_paths, its_kept, its_edges, its_labels, its_claims, its_probes, its_returns, shown_orders, claim_on}
+use Rattle.result_rules.specs.Rules.{Accepts, its_served}
+use Rattle.result_rules.proofs.Accepted.{edges_listed}
+use Rattle.result_rules.proofs.GivenLines.{name_two, labels_agree}
+use Rattle.result_rules.proofs.MarkLaws.{marks_are_borne_out, probes_serve}
+use Rattle.telling.specs.Told.{HasOrder, IsAgainst, IsReached, IsPeering, IsUndecided}
+use Rattle.telling.specs.Downs.{HaveLabels, HasOver, IsDown, HaveLinks, HasDowns, AreDowns}
+use Rattle.telling.specs.Reaching.{IsReachOf, IsPlainWay, IsOpposed, IsUnopposed, IsBack}
+use Rattle.telling.proofs.EitherLemmas.{either_law, peers_law}
+use Rattle.telling.proofs.LabelLemmas.{rises, its_label, kept_edges, kept_differ, near, near_free}
+use Rattle.telling.proofs.PathLemmas.{own_edge}
+use Rattle.telling.proofs.ProvingLemmas.{triple_served, along}
+use Rattle.telling.proofs.DownLemmas.{over_reads, one_order}
+
+-- ---- walks that grow at their end
+
+-- one link more
+pub linked_more : (givens : List Given) (A : Numbered) (ases : List ℕ) (links : List Link) (x y z : ℕ) (link : Link) → IsLinkedWith givens A ases links →
+    (before : List ℕ) → ases ≡ before ++ (x ∷ y ∷ []) → FitsWith givens A link x y z → IsLinkedWith givens A (ases ++ z ∷ []) (links ++ link ∷ [])
+linked_more givens A [] links x y z link h before e f = absurd h
+linked_more givens A (a ∷ []) links x y z link h before e f = absurd h
+linked_more givens A (a ∷ b ∷ []) [] x y z link h [] e f =
+    let e₁ : x ≡ a = cc in let e₂ : y ≡ b = cc in
+    (subst (λ n. FitsWith givens A link n b z) e₁ (subst (λ n. FitsWith givens A link x n z) e₂ f), tt)
+linked_more givens A (a ∷ b ∷ []) [] x y z link h (c ∷ before) e f =
+    let n : length (a ∷ b ∷ []) ≡ length (c ∷ (before ++ (x ∷ y ∷ []))) = ap length e in
+    absurd (omega (arith, n, length-append before (x ∷ y ∷ [])))
+linked_more givens A (a ∷ b ∷ []) (l ∷ links) x y z link h before e f = absurd h
+linked_more givens A (a ∷ b ∷ c ∷ ases) [] x y z link h before e f = absurd h
+linked_more givens A (a ∷ b ∷ c ∷ ases) (l ∷ links) x y z link h [] e f =
+    let n : length (a ∷ b ∷ c ∷ ases) ≡ length (x ∷ y ∷ []) = ap length e in absurd (omega (arith, n))
+linked_more givens A (a ∷ b ∷ c ∷ ases) (l ∷ links) x y z link h (d ∷ before) e f =
+    let e' : b ∷ c ∷ ases ≡ before ++ (x ∷ y ∷ []) = cc in
+    (h.0, linked_more givens A (b ∷ c ∷ ases) links x y z link h.1 before e' f)
+
+ends_more : (ases before : List ℕ) (x y z : ℕ) → ases ≡ before ++ (x ∷ y ∷ []) → EndsWith (ases ++ z ∷ []) y z
+ends_more ases before x y z e = (before ++ x ∷ [], ap (λ (l : List ℕ). l ++ z ∷ []) e ∙ shifted before)
+  where
+    shifted : (l : List ℕ) → (l ++ (x ∷ y ∷ [])) ++ z ∷ [] ≡ (l ++ x ∷ []) ++ (y ∷ z ∷ [])
+    shifted [] = refl
+    shifted (a ∷ l) = ap (λ (m : List ℕ). a ∷ m) (shifted l)
+
+begins_more : (ases : List ℕ) (x y z : ℕ) → BeginsWith ases x y → BeginsWith (ases ++ z ∷ []) x y
+begins_more ases x y z b = (b.0 ++ z ∷ [], ap (λ (l : List ℕ). l ++ z ∷ []) b.1)
+
+-- ---- one arc back
+
+-- the arc and its tail are there
+module _ (file : ResultFile) (es : List Edge) (net : Net ℕ) (named : List Link) (downs : AreDowns file es net named)
+    (way steps : List ℕ) (u v : ℕ) (is_way : IsPlainWay net.arcs u v way steps) (k from arc : ℕ) (step_at : slice_get steps k ≡ Some arc) (from_at : slice_get way k ≡ Some from) where
+  next : (w : ℕ) × (slice_get way (k + 1) ≡ Some w)
+  next = let lt = slice_get_within steps k arc step_at in slice_get-some way (k + 1) (omega (arith, lt, is_way.one_more))
+
+  is_there : IsArc net.arcs arc from next.0
+  is_there = is_way.between k arc from next.0 step_at from_at next.1
+
+  pub from_within : from < length es
+  from_within = let r = downs.links.each arc from next.0 is_there in slice_get_within es from (edge_of r.2.x r.2.y) r.2.from.at
+
+  pub arc_within : arc < length named
+  arc_within = let lt = slice_get_within net.arcs arc (from, next.0) is_there in omega (arith, lt, downs.links.as_many)
+
+module _ (file : ResultFile) (es : List Edge) (net : Net ℕ) (named : List Link) (downs : AreDowns file es net named)
+    (way steps : List ℕ) (u v : ℕ) (is_way : IsPlainWay net.arcs u v way steps) (k from arc : ℕ) (link : Link)
+    (step_at : slice_get steps k ≡ Some arc) (from_at : slice_get way k ≡ Some from) (link_at : slice_get named arc ≡ Some link) where
+  pub back_more : (old new : Walk) (x : ℕ) → ((p q : ℕ) → HasOver (its_labels file) es from p q → x ≡ p) → new.ases ≡ old.ases ++ x ∷ [] → new.links ≡ old.links ++ link ∷ [] →
+      (over under : ℕ) → IsBack file es way over under (k + 1) old → IsBack file es way over under k new
+  back_more old new x reads a l over under back =
+      let is_arc = is_way.between k arc from back.edge step_at from_at back.at in
+      let r = downs.links.each arc from back.edge is_arc in
+      let same_link : r.0 ≡ link = same r.0 link (sym r.1 ∙ link_at) in
+      let d = r.2 in
+      let order = one_order (its_labels file) es back.edge d.y d.z back.x back.y d.to back.label in
+      let x_is : x ≡ d.x = reads d.x d.y d.from in
+      let fits : Fits (its_kept file) link back.y back.x x =
+      subst (λ n. Fits (its_kept file) link n back.x x) order.1 (subst (λ n. Fits (its_kept file) link d.z n x) order.0
+      (subst (λ n. Fits (its_kept file) link d.z d.y n) (sym x_is) (subst (λ n. Fits (its_kept file) n d.z d.y d.x) same_link (turned r.0 d.x d.y d.z d.fits)))) in
+      record {
+        edge = from;
+        at = from_at;
+        x = x;
+        y = back.x;
+        label = subst (λ n. HasOver (its_labels file) es from n back.x) (sym x_is) (subst (λ n. HasOver (its_labels file) es from d.x n) order.0 d.from);
+        linked = subst (λ ases. IsLinkedWith (its_givens file) (its_kept file) ases new.links) (sym a)
+            (subst (λ links. IsLinkedWith (its_givens file) (its_kept file) (old.ases ++ x ∷ []) links) (sym l)
+            (linked_more (its_givens file) (its_kept file) old.ases old.links back.y back.x x link back.linked back.ends.0 back.ends.1 (inr fits)));
+        begins = subst (λ ases. BeginsWith ases over under) (sym a) (begins_more old.ases over under x back.begins);
+        ends = subst (λ ases. EndsWith ases back.x x) (sym a) (ends_more old.ases back.ends.0 back.y back.x x back.ends.1);
+      }
+    where
+      same : (m n : Link) → Some m ≡ Some n → m ≡ n
+      same m n e = cc
+
+      turned : (n : Link) (a b c : ℕ) → Fits (its_kept file) n a b c → Fits (its_kept file) n c b a
+      turned n a b c (path, i, inl s) = (path, i, inr s)
+      turned n a b c (path, i, inr s) = (path, i, inl s)
+
+pub back_begun : (file : ResultFile) (es : List Edge) (way : List ℕ) (over under k edge : ℕ) (walk : Walk) → slice_get way k ≡ Some edge →
+    HasOver (its_labels file) es edge under over → walk.ases ≡ over ∷ under ∷ [] → walk.links ≡ [] → IsBack file es way over under k walk
+back_begun file es way over under k edge walk at has a l = record {
+  edge = edge;
+  at = at;
+  x = under;
+  y = over;
+  label = has;
+  linked = subst (λ ases. IsLinkedWith (its_givens file) (its_kept file) ases walk.links) (sym a)
+      (subst (λ links. IsLinkedWith (its_givens file) (its_kept file) (over ∷ under ∷ []) links) (sym l) tt);
+  begins = ([], a);
+  ends = ([], a);
+}
+
+-- ---- what is reached
+
+module _ (file : ResultFile) (accepts : Accepts file) where
+  abbrev L : Labelling
+  L = its_labels file
+
+  -- the order of the edge's label is not one that a given forbids
+  not_given : (g : Given) → Contains (its_givens file) g → Contains (its_edges file) (edge_of g.over g.under) → is_over L g.under g.over ≡ true → ⊥
+  not_given g there listed o =
+      let named = any_there (edges (its_paths file)) (edge_of g.over g.under) (subst (λ (es : List Edge). Contains es (edge_of g.over g.under)) (edges_listed file (accepts EdgesListed)) listed) in
+      let says = All-contains (λ h. IsTrue (names_edge (its_paths file) h) → LabelsSay L h) (its_givens file) g
+      (labels_agree file (accepts HeadSound) (accepts EdgesListed) (accepts LabelsServe)) there named in
+      over_one_way L g.under g.over o says
+
+  module _ (es : List Edge) (labels : List Label) (have : HaveLabels file es labels) where
+    listed_at : (u a b : ℕ) → slice_get es u ≡ Some (edge_of a b) → Contains (its_edges file) (edge_of a b)
+    listed_at u a b at = have.only (edge_of a b) (Contains-from_has es (edge_of a b) (u, at))
+
+    module _ (net : Net ℕ) (begin : ℕ) (r : Reach ℕ ℕ) (is : IsReachOf net begin r)
+        (all : (path : List ℕ) → Contains (paths_of (its_kept file)) path → HasDowns L es net.arcs path) where
+      -- an edge that is reached has the order by its label
+      abbrev Reached : ℕ → ℕ → Type 0
+      Reached x y = (u : ℕ) × Contains r.nodes u × HasOver L es u x y
+
+      -- what is served leads from there to what is reached
+      goes_on : (x y z : ℕ) → Reached x y → IsTriple (its_served file) x y z → Reached y z
+      goes_on x y z (u, c, has) (path, there, (at, t)) =
+          elim (Contains-append_cases (map return_of (its_givens file)) (paths_of (its_kept file)) path there) [
+            | inl i ↦ (
+                let k = has-from_Contains (map return_of (its_givens file)) path i in
+                let g = slice_get-unmap return_of (its_givens file) k.0 path k.1 in
+                let three = three_on g.0.under g.0.over at x y z (subst (λ p. TripleAt p at x y z) (sym g.2) t) in
+                let own = Contains-from_has (its_givens file) g.0 (k.0, g.1) in
+                let edge : Contains (its_edges file) (edge_of g.0.over g.0.under) =
+                subst (λ (e : Edge). Contains (its_edges file) e) (edge_back g.0.under g.0.over)
+                (subst (λ n. Contains (its_edges file) (edge_of g.0.under n)) three.1 (subst (λ n. Contains (its_edges file) (edge_of n y)) three.0 (listed_at u x y has.at))) in
+                absurd (not_given g.0 own edge (subst (λ n. is_over L g.0.under n ≡ true) three.1 (subst (λ n. is_over L n y ≡ true) three.0 has.over)))
+                )
+            | inr i ↦ (
+                let (v, w, from, to, arc) = all path i at x y z t has.over in
+                let same : v ≡ u = have.once v u (edge_of x y) from.at has.at in
+                elim (is.flooded.heads u w c (subst (λ n. HasArc net.arcs n w) same arc)) [
+                  | inl there ↦ (w, there, to)
+                  | inr none ↦ absurd (Contains-none w none)
+                ]
+                )
+          ]
+
+      -- where a closure comes to the opposite of what is reached, it begins so
+      pub back_to : (a b : ℕ) {x y : ℕ} → Closure (its_served file) a b x y → Reached y x → Reached b a
+      back_to a b start h = h
+      back_to a b (imply {x = x} {y = y} {z = z} c t) h = back_to a b c (goes_on z y x h (reversed_triple (its_served file) x y z t))
+
+    module _ (line : EdgeLine) (there : Contains file.edges line) (begin : ℕ) (at : slice_get es begin ≡ Some (edge_of line.low line.high)) where
+      lt : line.low < line.high
+      lt = rises file accepts line there
+
+      -- the label of the line has the opposite of the order against it
+      pub begins_over : (over under : ℕ) → IsAgainst line over under → HasOver L es begin under over
+      begins_over over under (inl (low, f, g)) = record {
+        at = subst (λ n. slice_get es begin ≡ Some (edge_of n over)) (sym g) (subst (λ n. slice_get es begin ≡ Some (edge_of line.low n)) (sym f) at);
+        over = subst (λ n. is_over L n over ≡ true) (sym g) (subst (λ n. is_over L line.low n ≡ true) (sym f)
+            (over-low L line.low line.high lt (ap is_low (its_label file accepts line there ∙ low))));
+      }
+      begins_over over under (inr (high, f, g)) = record {
+        at = subst (λ n. slice_get es begin ≡ Some (edge_of n over)) (sym g) (subst (λ n. slice_get es begin ≡ Some (edge_of line.high n)) (sym f)
+            (at ∙ ap (λ (e : Edge). Some e) (edge_back line.low line.high)));
+        over = subst (λ n. is_over L n over ≡ true) (sym g) (subst (λ n. is_over L line.high n ≡ true) (sym f)
+            (over-high L line.low line.high lt (ap is_high (its_label file accepts line there ∙ high))));
+      }
+
+      pub against : (x y : ℕ) → HasOver L es begin x y → IsAgainst line y x
+      against x y has =
+          let i = has-from_Contains file.edges line there in
+          let own = own_edge file accepts i.0 line i.1 in
+          let e : edge_of x y ≡ (line.low, line.high) = same (edge_of x y) (line.low, line.high) (sym has.at ∙ at ∙ ap (λ (f : Edge). Some f) own) in
+          elim (over_reads L x y line.low line.high e has.over) [
+            | inl p ↦ inl (sym (its_label file accepts line there) ∙ p.0, p.2, p.1)
+            | inr p ↦ inr (sym (its_label file accepts line there) ∙ p.0, p.2, p.1)
+          ]
+        where
+          same : (e f : Edge) → Some e ≡ Some f → e ≡ f
+          same e f h = cc
+
+      -- rule 9 says that some open line's opposite is reached
+      pub some_opposed : line.mark ≡ mark.Open → line.label ≢ label.Peer → (net : Net ℕ) (r : Reach ℕ ℕ) → IsReachOf net begin r →
+          ((path : List ℕ) → Contains (paths_of (its_kept file)) path → HasDowns L es net.arcs path) →
+          ((p : ℕ × ℕ) → Contains (its_probes file) p → IsUnopposed file es r.nodes p.0 p.1) → ⊥
+      some_opposed is_open no_peer net r is all none =
+          elim (All-contains (IsBorneOut (its_served file) (shown_orders file.whys) (its_probes file)) (its_claims file) (claim_on line)
+          (marks_are_borne_out file (accepts MarksBorneOut)) (Contains-map claim_on file.edges line there)) [
+            | inl h ↦ false≢true (sym (ap is_forced is_open) ∙ h.0)
+            | inr h ↦ elim h [
+              | inl p ↦ no_peer p.1
+              | inr q ↦ (
+                  let (forced, (over, under, other, any)) = q in
+                  let found = back_to net begin r is all any.1.0 any.1.1 any.4 (begin, is.begun, begins_over over under other) in
+                  none any.1 (any.0, any.2, any.3) found.0 found.1 found.2
+                  )
+            ]
+          ]
+
+      module _ (is_open : line.mark ≡ mark.Open) (over under u : ℕ) (nodes : List ℕ) (found : IsOpposed file es nodes over under u) where
+        edge : Contains (edges (its_paths file)) (edge_of over under)
+        edge =
+            subst (λ (e : Edge). Contains (edges (its_paths file)) e) (edge_back under over)
+            (subst (λ (es : List Edge). Contains es (edge_of under over)) (edges_listed file (accepts EdgesListed)) (listed_at u under over found.opposite.at))
+
+        consistent_of : (earlier probes : List (ℕ × ℕ)) (k : ℕ) (p : ℕ × ℕ) → ProbesFrom (its_served file) (its_claims file) earlier probes → slice_get probes k ≡ Some p →
+            IsConsistent (its_served file) p.0 p.1
+        consistent_of earlier [] k p h e = absurd (cc e)
+        consistent_of earlier (q ∷ probes) zero p h e = subst (λ (o : ℕ × ℕ). IsConsistent (its_served file) o.0 o.1) (same_order q p e) h.0.consistent
+          where
+            same_order : (a b : ℕ × ℕ) → Some a ≡ Some b → a ≡ b
+            same_order a b i = cc
+        consistent_of earlier (q ∷ probes) (suc k) p h e = consistent_of (earlier ++ q ∷ []) probes k p h.1 e
+
+        consistent : IsConsistent (near file accepts) over under
+        consistent =
+            let i = has-from_Contains (its_probes file) (over, under) found.there in
+            (same_closure_law (its_givens file) (its_paths file) (paths_of (its_kept file)) over under (kept_edges file accepts) edge).1.1
+            (consistent_of [] (its_probes file) i.0 (over, under) (probes_serve file (accepts MarksBorneOut)) i.1)
+
+        module _ (x y : ℕ) (has : HasOver L es begin x y) (walk : Walk) (leads : Leads (its_givens file) (its_kept file) walk over under y x) where
+          closed : Closure (its_served file) over under y x
+          closed =
+              along (its_givens file) (its_kept file) (λ a b. Closure (its_served file) over under a b)
+              (λ link a b c fits h. imply h (triple_served (its_givens file) (its_kept file) link a b c fits)) walk over under y x leads start
+
+          either : CanBeEither (near file accepts) y x
+          either =
+              either_law L (near file accepts) over under y x
+              (All-append NeighboursDiffer (its_returns file) (paths_of (its_kept file)) (returns_differ (its_givens file) (its_paths file) (name_two file (accepts HeadSound))) (kept_differ file accepts))
+              (near_free file accepts) has.over consistent
+              (((same_closure_law (its_givens file) (its_paths file) (paths_of (its_kept file)) over under (kept_edges file accepts) edge).0 y x).1 closed)
+
+          swapped : (paths : List (List ℕ)) (a b : ℕ) → CanBeEither paths a b → CanBeEither paths b a
+          swapped paths a b c = record {
+            one = c.other;
+            one_serves = c.other_serves;
+            one_order = c.other_order;
+            other = c.one;
+            other_serves = c.one_serves;
+            other_order = c.one_order;
+          }
+
+          undecided : IsAgainst line y x → IsUndecided file line
+          undecided (inl (low, f, g)) =
+              swapped (near file accepts) line.high line.low
+              (subst (λ n. CanBeEither (near file accepts) line.high n) g (subst (λ n. CanBeEither (near file accepts) n x) f either))
+          undecided (inr (high, f, g)) = subst (λ n. CanBeEither (near file accepts) line.low n) g (subst (λ n. CanBeEither (near file accepts) n x) f either)
+
+          pub reached_so : IsReached file line (over, under) walk
+          reached_so = record {
+            is_open = is_open;
+            there = found.there;
+            over = y;
+            under = x;
+            order = against x y has;
+            reached = leads;
+            undecided = undecided (against x y has);
+          }
+
+-- the walk back along a whole way leads against the label with which the way begins
+pub back_leads : (file : ResultFile) (es : List Edge) (way : List ℕ) (over under begin : ℕ) (walk : Walk) → slice_get way 0 ≡ Some begin → (back : IsBack file es way over under 0 walk) →
+    HasOver (its_labels file) es begin back.x back.y × Leads (its_givens file) (its_kept file) walk over under back.y back.x
+back_leads file es way over under begin walk first back = (
+  subst (λ n. HasOver (its_labels file) es n back.x back.y) (same back.edge begin (sym back.at ∙ first)) back.label,
+  record { walk = back.linked; begins = back.begins; ends = back.ends },
+)
+  where
+    same : (m n : ℕ) → Some m ≡ Some n → m ≡ n
+    same m n e = cc
+
+-- ---- what is told
+
+module _ (file : ResultFile) (accepts : Accepts file) (line : EdgeLine) (there : Contains file.edges line) (is_open : line.mark ≡ mark.Open) where
+  pub peering_so : line.label ≡ label.Peer → IsPeering file line
+  peering_so is_peer = record {
+    is_open = is_open;
+    is_peer = is_peer;
+    undecided = peers_law (its_labels file) (near file accepts) line.low line.high (near_free file accepts) (rises file accepts line there) (its_label file accepts line there ∙ is_peer);
+  }
+
+  pub found_so : (es : List Edge) (labels : List Label) → HaveLabels file es labels → (begin : ℕ) → slice_get es begin ≡ Some (edge_of line.low line.high) →
+      (over under u : ℕ) (nodes : List ℕ) → IsOpposed file es nodes over under u → (way : List ℕ) → slice_get way 0 ≡ Some begin → (walk : Walk) →
+      IsBack file es way over under 0 walk → IsReached file line (over, under) walk
+  found_so es labels have begin at over under u nodes found way first walk back =
+      let r = back_leads file es way over under begin walk first back in
+      reached_so file accepts es labels have line there begin at is_open over under u nodes found back.x back.y r.0 walk r.1
+
+module _ (file : ResultFile) (es : List Edge) (nodes : List ℕ) where
+  -- none of the first open lines has its opposite here
+  abbrev pub NoneTo : ℕ → Type 0
+  NoneTo end = (k : ℕ) (p : Probe) → k < end → slice_get file.probes k ≡ Some p → IsUnopposed file es nodes p.over p.under
+
+  pub none_next : (i : ℕ) (p : Probe) → slice_get file.probes i ≡ Some p → IsUnopposed file es nodes p.over p.under → NoneTo i → NoneTo (i + 1)
+  none_next i p at none before k q lt there = elim (cases_lt k i) [
+    | inl less ↦ before k q less there
+    | inr ge ↦
+        let e : k ≡ i = omega (arith, lt, ge) in
+        let same = same_Some p q (sym at ∙ subst (λ n. slice_get file.probes n ≡ Some q) e there) in
+        subst (λ (r : Probe). IsUnopposed file es nodes r.over r.under) same none
+  ]
+
+  pub none_all : (end : ℕ) → length file.probes ≤ end → NoneTo end → (p : ℕ × ℕ) → Contains (its_probes file) p → IsUnopposed file es nodes p.0 p.1
+  none_all end le none p c =
+      let k = has-from_Contains (its_probes file) p c in
+      let w = slice_get-unmap {Y = ℕ × ℕ} (λ (q : Probe). (q.over, q.under)) file.probes k.0 p k.1 in
+      let lt = slice_get_within file.probes k.0 w.0 w.1 in
+      subst (λ (r : ℕ × ℕ). IsUnopposed file es nodes r.0 r.1) w.2 (none k.0 w.0 (omega (arith, lt, le)) w.1)
+
+pub none_is : {X : Type 0} (o : Option X) → o ≡ None → IsNone o
+none_is None e = refl
+none_is (Some x) e = absurd (cc e)
+
+pub not_peer : (line : EdgeLine) (over under : ℕ) → HasOrder line over under → line.label ≢ label.Peer
+not_peer line over under (inl p) e = low_peer (sym p.0 ∙ e)
+  where
+    low_peer : Label.Low ≡ Label.Peer → ⊥
+    low_peer h = cc
+not_peer line over under (inr p) e = high_peer (sym p.0 ∙ e)
+  where
+    high_peer : Label.High ≡ Label.Peer → ⊥
+    high_peer h = cc

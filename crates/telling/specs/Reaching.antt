@@ -1,0 +1,44 @@
+-- What is reached along arcs down, and the walk back from there, along which the opposites of these orders lead.
+use Rattle.std.specs.Prelude.{◌≡◌, ℕ, List, [], Some, slice_get, Contains}
+use Rattle.relationships.specs.declared.walk.Walk.{Walk}
+use Rattle.relationships.specs.Graph.{Edge}
+use Rattle.relationships.specs.Evidence.{BeginsWith, EndsWith}
+use Rattle.relationships.specs.GivenEvidence.{IsLinkedWith}
+use Rattle.tor_digraph.specs.Walks.{Net, IsWay}
+use Rattle.tor_digraph.specs.Found.{IsRoot}
+use Rattle.tor_digraph.specs.Reached.{Reach, IsFlooded}
+use Rattle.result_text.specs.declared.file.EdgeLine.{EdgeLine}
+use Rattle.result_text.specs.declared.file.ResultFile.{ResultFile}
+use Rattle.result_rules.specs.File.{its_givens, its_kept, its_labels, its_probes}
+use Rattle.telling.specs.Downs.{HasOver}
+
+-- what is reached from start
+pub record IsReachOf (net : Net ℕ) (begin : ℕ) (r : Reach ℕ ℕ) : Type 0 where
+  pub begun : Contains r.nodes begin
+  pub flooded : IsFlooded (λ id. id) (λ id. id) net.nodes net.arcs [] r
+  pub root : (x : ℕ) → IsRoot (λ id. id) r.found x → x ≡ begin
+
+-- a way written out, its arcs by their places
+abbrev pub IsPlainWay : List (ℕ × ℕ) → (begin end : ℕ) → (nodes steps : List ℕ) → Type 0
+IsPlainWay arcs begin end nodes steps = IsWay (λ step. step) arcs begin end nodes steps
+
+-- the order is that of an open line, and an edge that is reached has the opposite by its label
+pub record IsOpposed (file : ResultFile) (es : List Edge) (nodes : List ℕ) (over under : ℕ) (u : ℕ) : Type 0 where
+  pub there : Contains (its_probes file) (over, under)
+  pub reached : Contains nodes u
+  pub opposite : HasOver (its_labels file) es u under over
+
+-- no edge that is reached has the opposite of the order by its label
+abbrev pub IsUnopposed : ResultFile → List Edge → List ℕ → (over under : ℕ) → Type 0
+IsUnopposed file es nodes over under = (u : ℕ) → Contains nodes u → HasOver (its_labels file) es u under over → ⊥
+
+-- from "over over under" the walk leads back along a way, as far as the opposite of the order of the edge in this place of the way
+pub record IsBack (file : ResultFile) (es : List Edge) (way : List ℕ) (over under k : ℕ) (walk : Walk) : Type 0 where
+  pub edge : ℕ
+  pub at : slice_get way k ≡ Some edge
+  pub x : ℕ
+  pub y : ℕ
+  pub label : HasOver (its_labels file) es edge x y
+  pub linked : IsLinkedWith (its_givens file) (its_kept file) walk.ases walk.links
+  pub begins : BeginsWith walk.ases over under
+  pub ends : EndsWith walk.ases y x
