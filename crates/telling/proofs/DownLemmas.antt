@@ -1,6 +1,6 @@
 -- Edges in a table, their labels, and the steps of kept paths down from one to the next.
-use Rattle.std.proofs.Common.{◌≡◌, ◌≢◌, ◌⊎◌, inl, inr, min, max, ℕ, zero, suc, ◌+◌, ◌-◌, ◌<◌, ◌≤◌, List, [], ◌∷◌, ◌++◌, length, map, is_none, Bool, false, true}
-use Rattle.std.proofs.Common.{Some, slice_get, get_or, refl, sym, ap, ◌∙◌, subst, arith, All, Contains, IsTrue, append_assoc, length-append}
+use Rattle.std.proofs.Common.{◌≡◌, ◌≢◌, ◌⊎◌, inl, inr, min, max, ℕ, zero, suc, ◌+◌, ◌-◌, ◌<◌, ◌≤◌, List, [], ◌∷◌, ◌++◌, length, map, is_none, false, true}
+use Rattle.std.proofs.Common.{Some, slice_get, get_or, refl, sym, ap, ◌∙◌, subst, arith, Contains, append_assoc, length-append}
 use Rattle.std.specs.Prelude.{sum_by, take}
 use Rattle.std.specs.List.{IsDistinct, list_any}
 use Rattle.std.proofs.lemmas.Bool.{cases_Bool, cases_lt, false≢true}
@@ -18,14 +18,14 @@ use Rattle.relationships.specs.declared.fate.Fate.TheVariants.{Kept, Lost}
 use Rattle.relationships.specs.Fates.{walk_of}
 use Rattle.relationships.specs.Relationship.{Labelling, Slope, Up, Down, Flat, is_low, is_high, is_over, slope, ValleyFree}
 use Rattle.relationships.specs.Graph.{Edge, edge_of, edges, is_same}
-use Rattle.relationships.specs.Evidence.{StandAt, TripleAt, IsTriple, Fits, paths_of, kept_from}
+use Rattle.relationships.specs.Evidence.{StandAt, TripleAt, paths_of}
 use Rattle.relationships.proofs.Slopes.{over_parts, over_one_way, over-down, slope-down}
 use Rattle.relationships.proofs.Serving.{satisfied}
 use Rattle.relationships.proofs.Neighbours.{neighbours-edge}
 use Rattle.relationships.proofs.GivenLemmas.{edge_back}
 use Rattle.relationships.proofs.Places.{StandAt-from_index, index-from_StandAt, kept_from-in, kept_from-out}
 use Rattle.tor_digraph.specs.Closing.{IsOnce}
-use Rattle.tor_digraph.specs.Walks.{Net, IsArc, HasArc}
+use Rattle.tor_digraph.specs.Walks.{Net, HasArc}
 use Rattle.tor_numbers.specs.Edges.{with_edge}
 use Rattle.result_text.specs.declared.file.EdgeLine.{EdgeLine}
 use Rattle.result_text.specs.declared.file.PathLine.{PathLine}
@@ -37,7 +37,7 @@ use Rattle.result_rules.proofs.Accepted.{edges_listed, kept_valley_free}
 use Rattle.telling.specs.declared.told.Going.{Going}
 use Rattle.telling.specs.declared.told.Going.TheVariants as going
 use Rattle.telling.specs.Told.{edge_on, going_of}
-use Rattle.telling.specs.Downs.{HaveLabels, HasOver, IsDown, HaveLinks, HasDownAt, HasDowns, HasLineDowns, StillHas, AreDowns}
+use Rattle.telling.specs.Downs.{HaveLabels, HasOver, IsDown, HasDownAt, HasDowns, HasLineDowns, StillHas, AreDowns}
 use Rattle.telling.proofs.PathLemmas.{same_itself, edge_still, own_edge, label_found}
 use Rattle.telling.proofs.LabelLemmas.{rises, kept, kept_edges}
 

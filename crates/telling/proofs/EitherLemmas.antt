@@ -1,15 +1,13 @@
 -- When either order of two ASes is possible.
-use Rattle.std.proofs.Common.{◌≡◌, ◌↔◌, ◌⊎◌, ℕ, ◌<◌, inl, inr, Bool, true, false, List, All, IsTrue, refl, sym, ap, ◌∙◌, subst}
+use Rattle.std.proofs.Common.{◌≡◌, ◌↔◌, ◌⊎◌, ℕ, inl, inr, Bool, true, false, IsTrue, refl, ap}
 use Rattle.std.proofs.lemmas.Bool.{false≢true}
 use Rattle.relationships.specs.declared.label.End.{End}
 use Rattle.relationships.specs.declared.label.Label.{Label}
-use Rattle.relationships.specs.Relationship.{Labelling, Orientation, label_of, labels_of, is_low, is_high, is_over, ValleyFree, Serves}
-use Rattle.relationships.specs.Evidence.{NeighboursDiffer, Closure, IsConsistent}
+use Rattle.relationships.specs.Relationship.{Labelling, label_of, labels_of, is_low, is_high, is_over}
 use Rattle.relationships.specs.Laws.Evidence.{changed}
 use Rattle.relationships.proofs.Slopes.{over_parts, over-low, over-high}
 use Rattle.relationships.proofs.Checked.{read, reading, reading_serves}
 use Rattle.relationships.proofs.Closures.{closure_law}
-use Rattle.relationships.specs.Telling.{CanBeEither}
 use Rattle.telling.specs.Laws.Telling.{EitherLaw, PeersLaw}
 use Rattle.telling.proofs.Decided.{decided}
 

@@ -1,5 +1,5 @@
 -- Of a forced edge the order of the label is shown.
-use Rattle.std.proofs.Common.{◌≡◌, ◌≢◌, ◌⊎◌, inl, inr, ℕ, ◌<◌, true, false, List, [], ◌∷◌, ◌++◌, map, flat_map, is_none, refl, sym, ap, ◌∙◌, subst, arith, All, Contains, IsTrue}
+use Rattle.std.proofs.Common.{◌≡◌, ◌≢◌, ◌⊎◌, inl, inr, ℕ, ◌<◌, true, List, [], ◌∷◌, ◌++◌, map, flat_map, is_none, sym, ap, ◌∙◌, subst, arith, All, Contains, IsTrue}
 use Rattle.std.specs.List.{AllByRecursion}
 use Rattle.std.proofs.lemmas.Bool.{false≢true, cases_Bool}
 use Rattle.std.proofs.lemmas.List.Elements.{All-append, All-contains, All-contains_itself, All-from_recursion, recursion_from_All}
@@ -12,7 +12,7 @@ use Rattle.relationships.specs.Relationship.{Orientation, labels_of, is_over, Va
 use Rattle.relationships.specs.Graph.{Edge, edges_on, edges}
 use Rattle.relationships.specs.Evidence.{NeighboursDiffer, paths_of}
 use Rattle.relationships.specs.Selection.{IsServable}
-use Rattle.relationships.specs.Checking.{Claim, IsBorneOut}
+use Rattle.relationships.specs.Checking.{IsBorneOut}
 use Rattle.relationships.specs.Givens.{names_edge, return_of, returns}
 use Rattle.relationships.specs.GivenEvidence.{served_with}
 use Rattle.relationships.specs.Marking.{is_forced}

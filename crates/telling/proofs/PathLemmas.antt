@@ -1,6 +1,6 @@
 -- The steps of a path of a result, and their edges and labels.
-use Rattle.std.proofs.Common.{◌≡◌, ◌≢◌, ◌⊎◌, inl, inr, min, max, set, ℕ, zero, suc, ◌+◌, ◌<◌, List, [], ◌∷◌, ◌++◌, length, map, Bool, false, true}
-use Rattle.std.proofs.Common.{Some, slice_get, refl, sym, ap, ◌∙◌, subst, arith, eq-eqb, All, Contains}
+use Rattle.std.proofs.Common.{◌≡◌, ◌≢◌, ◌⊎◌, inl, inr, min, max, set, ℕ, zero, suc, ◌+◌, ◌<◌, List, [], ◌∷◌, length, false, true}
+use Rattle.std.proofs.Common.{Some, slice_get, refl, sym, ap, ◌∙◌, subst, arith, eq-eqb, Contains}
 use Rattle.std.specs.List.{list_any}
 use Rattle.std.proofs.lemmas.Bool.{cases_Bool, cases_lt, cases_order}
 use Rattle.std.proofs.lemmas.Option.{same_Some, slice_get_within}
@@ -10,7 +10,7 @@ use Rattle.relationships.specs.declared.walk.Walk.{Walk}
 use Rattle.relationships.specs.declared.fate.Fate.{Fate}
 use Rattle.relationships.specs.declared.fate.Fate.TheVariants.{Kept, Lost}
 use Rattle.relationships.specs.Fates.{is_kept}
-use Rattle.relationships.specs.Graph.{Edge, edge_of, edges, is_same}
+use Rattle.relationships.specs.Graph.{Edge, edge_of, is_same}
 use Rattle.relationships.specs.Evidence.{HasPair, NeighboursDiffer}
 use Rattle.relationships.proofs.Neighbours.{edge_law}
 use Rattle.relationships.specs.declared.label.Label.{Label}

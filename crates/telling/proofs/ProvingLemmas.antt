@@ -1,5 +1,5 @@
 -- What walks prove holds in every orientation that serves.
-use Rattle.std.proofs.Common.{◌≡◌, ◌≢◌, ℕ, ◌-◌, ◌≤◌, ◌<◌, inl, inr, true, List, [], ◌∷◌, ◌++◌, length, map, refl, sym, ap, ◌∙◌, subst, arith, length-append, All, Contains, IsTrue}
+use Rattle.std.proofs.Common.{◌≡◌, ◌≢◌, ℕ, ◌-◌, inl, inr, true, List, [], ◌∷◌, ◌++◌, length, map, refl, sym, ap, ◌∙◌, subst, arith, length-append, All, Contains}
 use Rattle.std.proofs.lemmas.Option.{get_or_from_slice_get, slice_get_within}
 use Rattle.std.proofs.lemmas.List.Elements.{All-append, All-contains, All-from_recursion, recursion_from_All, Contains-append_left, Contains-append_right}
 use Rattle.std.specs.List.{AllByRecursion}
@@ -8,14 +8,14 @@ use Rattle.relationships.specs.declared.given.Given.{Given}
 use Rattle.relationships.specs.declared.walk.Link.{Link}
 use Rattle.relationships.specs.declared.walk.Walk.{Walk}
 use Rattle.relationships.specs.Relationship.{Orientation, labels_of, is_over, Serves}
-use Rattle.relationships.specs.Evidence.{StandAt, TripleAt, IsTriple, NeighboursDiffer, Numbered, paths_of}
+use Rattle.relationships.specs.Evidence.{StandAt, IsTriple, NeighboursDiffer, Numbered, paths_of}
 use Rattle.relationships.specs.Givens.{return_of, NameTwo}
 use Rattle.relationships.specs.GivenEvidence.{FitsWith, IsLinkedWith, served_with}
 use Rattle.relationships.proofs.Slopes.{over_one_of}
 use Rattle.relationships.proofs.Serving.{serves_satisfies}
 use Rattle.relationships.proofs.WalkLemmas.{triple_of_fit, triple_apart}
 use Rattle.relationships.proofs.GivenLemmas.{return_differs}
-use Rattle.relationships.specs.Telling.{Leads, LeadOn, Prove}
+use Rattle.relationships.specs.Telling.{Leads, LeadOn}
 use Rattle.telling.specs.Laws.Telling.{ProvingLaw}
 
 pub stand_on : (g : Given) (x y z : ℕ) → x ≡ g.under → y ≡ g.over → z ≡ g.under → StandAt (return_of g) 2 x y z

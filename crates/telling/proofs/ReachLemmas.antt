@@ -1,6 +1,6 @@
 -- What is reached down from the order of a label, and the walk back.
-use Rattle.std.proofs.Common.{◌≡◌, ◌≢◌, ◌⊎◌, inl, inr, ℕ, zero, suc, ◌+◌, ◌<◌, ◌≤◌, List, [], ◌∷◌, ◌++◌, length, map, get_or, false, true, Some, slice_get, refl, sym, ap, ◌∙◌, subst, arith}
-use Rattle.std.proofs.Common.{All, Contains, IsTrue, IsNone, Option, None, length-append}
+use Rattle.std.proofs.Common.{◌≡◌, ◌≢◌, inl, inr, ℕ, zero, suc, ◌+◌, ◌<◌, ◌≤◌, List, [], ◌∷◌, ◌++◌, length, map, true, Some, slice_get, refl, sym, ap, ◌∙◌, subst, arith}
+use Rattle.std.proofs.Common.{Contains, IsTrue, IsNone, Option, None, length-append}
 use Rattle.std.proofs.lemmas.Bool.{false≢true, cases_lt}
 use Rattle.std.proofs.lemmas.List.Elements.{All-append, All-contains, Contains-append_cases}
 use Rattle.std.proofs.lemmas.Option.{same_Some, slice_get_within}
@@ -17,7 +17,7 @@ use Rattle.relationships.specs.Graph.{Edge, edge_of, edges}
 use Rattle.relationships.specs.Evidence.{TripleAt, IsTriple, Closure, start, imply, IsConsistent, NeighboursDiffer, Numbered, paths_of, BeginsWith, EndsWith, Fits}
 use Rattle.relationships.specs.Givens.{return_of, LabelsSay, names_edge}
 use Rattle.relationships.specs.GivenEvidence.{FitsWith, IsLinkedWith}
-use Rattle.relationships.specs.Checking.{OtherOrder, Claim, IsBorneOut, ProbesFrom}
+use Rattle.relationships.specs.Checking.{IsBorneOut, ProbesFrom}
 use Rattle.relationships.specs.Marking.{is_forced}
 use Rattle.relationships.specs.Telling.{Leads, CanBeEither}
 use Rattle.relationships.proofs.Slopes.{over_one_way, over-low, over-high}
@@ -35,7 +35,7 @@ use Rattle.result_rules.proofs.Accepted.{edges_listed}
 use Rattle.result_rules.proofs.GivenLines.{name_two, labels_agree}
 use Rattle.result_rules.proofs.MarkLaws.{marks_are_borne_out, probes_serve}
 use Rattle.telling.specs.Told.{HasOrder, IsAgainst, IsReached, IsPeering, IsUndecided}
-use Rattle.telling.specs.Downs.{HaveLabels, HasOver, IsDown, HaveLinks, HasDowns, AreDowns}
+use Rattle.telling.specs.Downs.{HaveLabels, HasOver, HasDowns, AreDowns}
 use Rattle.telling.specs.Reaching.{IsReachOf, IsPlainWay, IsOpposed, IsUnopposed, IsBack}
 use Rattle.telling.proofs.EitherLemmas.{either_law, peers_law}
 use Rattle.telling.proofs.LabelLemmas.{rises, its_label, kept_edges, kept_differ, near, near_free}

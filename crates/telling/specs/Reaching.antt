@@ -7,7 +7,6 @@ use Rattle.relationships.specs.GivenEvidence.{IsLinkedWith}
 use Rattle.tor_digraph.specs.Walks.{Net, IsWay}
 use Rattle.tor_digraph.specs.Found.{IsRoot}
 use Rattle.tor_digraph.specs.Reached.{Reach, IsFlooded}
-use Rattle.result_text.specs.declared.file.EdgeLine.{EdgeLine}
 use Rattle.result_text.specs.declared.file.ResultFile.{ResultFile}
 use Rattle.result_rules.specs.File.{its_givens, its_kept, its_labels, its_probes}
 use Rattle.telling.specs.Downs.{HasOver}

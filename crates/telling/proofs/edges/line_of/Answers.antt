@@ -1,4 +1,4 @@
-use Rattle.std.proofs.Common.{◌≡◌, ◌<◌, ℕ, length, ap, arith}
+use Rattle.std.proofs.Common.{length, ap, arith}
 use Rattle.std.proofs.lemmas.Option.{slice_get_within}
 use Rattle.tor_arena.proofs.Gets.{has-from_Contains, slice_get-unmap}
 use Rattle.relationships.specs.Graph.{Edge, edge_of}

@@ -1,4 +1,4 @@
-use Rattle.std.proofs.Common.{◌≤◌, sym, ap, ◌∙◌, arith}
+use Rattle.std.proofs.Common.{sym, ap, ◌∙◌, arith}
 use Rattle.relationships.specs.declared.label.Label.{Label}
 use Rattle.telling.specs.Told.{going_of}
 use Rattle.telling.proofs.SlopeLemmas.{strictly, peer_flat, low_down, low_up, high_up, high_down, upward, downward}

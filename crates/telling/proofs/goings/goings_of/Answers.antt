@@ -1,10 +1,9 @@
-use Rattle.std.proofs.Common.{◌≡◌, ◌+◌, ◌-◌, ◌<◌, ◌≤◌, ◌∷◌, [], ◌++◌, ℕ, List, Some, slice_get, length, get_or, map, take, refl, sym, ap, ap₂, ◌∙◌, subst, arith, Contains}
+use Rattle.std.proofs.Common.{◌≡◌, ◌+◌, ◌-◌, ◌<◌, ◌≤◌, ◌∷◌, [], ◌++◌, ℕ, List, Some, slice_get, length, get_or, map, take, sym, ap, ap₂, ◌∙◌, subst, arith}
 use Rattle.std.proofs.lemmas.List.{map-append}
 use Rattle.std.proofs.lemmas.Option.{slice_get-get_or, slice_get_within, get_or_from_slice_get}
-use Rattle.relationships.specs.declared.label.Label.{Label}
-use Rattle.relationships.specs.Relationship.{Slope, slope, slopes}
+use Rattle.relationships.specs.Relationship.{slope, slopes}
 use Rattle.relationships.specs.Graph.{edge_of}
-use Rattle.result_rules.specs.File.{its_labels, its_edges}
+use Rattle.result_rules.specs.File.{its_labels}
 use Rattle.telling.specs.declared.told.Going.{Going}
 use Rattle.telling.specs.Labelling.{HasStep}
 use Rattle.telling.specs.Told.{going_of}

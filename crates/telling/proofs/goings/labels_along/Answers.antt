@@ -1,4 +1,4 @@
-use Rattle.std.proofs.Common.{◌≡◌, ◌<◌, ℕ, List, Some, slice_get, get_or, subst}
+use Rattle.std.proofs.Common.{◌≡◌, List, Some, slice_get, get_or, subst}
 use Rattle.std.proofs.lemmas.Option.{slice_get-get_or}
 use Rattle.relationships.specs.declared.label.Label.TheVariants.{Low}
 use Rattle.relationships.specs.declared.mark.Mark.TheVariants.{Forced}

@@ -1,6 +1,6 @@
-use Rattle.std.proofs.Common.{◌≡◌, ◌<◌, ℕ, Some, slice_get, length, refl, sym, ap, ◌∙◌, subst, arith, eq-eqb}
+use Rattle.std.proofs.Common.{◌≡◌, ℕ, Some, slice_get, refl, sym, ap, ◌∙◌, arith}
 use Rattle.std.proofs.lemmas.Option.{slice_get_within, get_or_from_slice_get, same_Some}
-use Rattle.relationships.specs.Graph.{Edge, edge_of, is_same}
+use Rattle.relationships.specs.Graph.{edge_of, is_same}
 use Rattle.telling.proofs.PathLemmas.{labels_put, labels_pass, same_itself}
 use Rattle.telling.proofs.goings.put_label.Goals as goal
 

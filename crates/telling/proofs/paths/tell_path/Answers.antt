@@ -1,7 +1,7 @@
-use Rattle.std.proofs.Common.{◌≡◌, ◌+◌, ◌-◌, ◌<◌, ℕ, Some, slice_get, refl, sym, ◌∙◌, subst, arith}
+use Rattle.std.proofs.Common.{◌≡◌, ◌+◌, Some, slice_get, refl, sym, ◌∙◌, arith}
 use Rattle.std.proofs.lemmas.Option.{slice_get_within}
 use Rattle.result_rules.specs.declared.rule.Rule.TheVariants.{LostRefuted}
-use Rattle.telling.proofs.PathLemmas.{lost_walk, kept_fate, path_there}
+use Rattle.telling.proofs.PathLemmas.{lost_walk}
 use Rattle.telling.proofs.paths.tell_path.Goals as goal
 
 pub returns-then-not-is_kept : goal.returns-then-not-is_kept

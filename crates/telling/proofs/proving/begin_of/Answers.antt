@@ -1,4 +1,4 @@
-use Rattle.std.proofs.Common.{◌≡◌, ◌≢◌, ◌≤◌, ℕ, ◌-◌, ◌∷◌, [], List, length, get_or, sym, ap, ap₂, ◌∙◌, subst, arith}
+use Rattle.std.proofs.Common.{ℕ, ◌-◌, ◌∷◌, [], length, get_or, sym, ap, ap₂, ◌∙◌, subst}
 use Rattle.relationships.specs.Evidence.{BeginsWith}
 use Rattle.result_rules.specs.File.{last_two}
 use Rattle.telling.proofs.Chains.{last_two-few, last_two-read, begins_read, same_pair}

@@ -1,4 +1,4 @@
-use Rattle.std.proofs.Common.{◌≡◌, ◌<◌, length, arith}
+use Rattle.std.proofs.Common.{arith}
 use Rattle.std.proofs.lemmas.Option.{slice_get_within}
 use Rattle.tor_arena.proofs.Gets.{Contains-from_has}
 use Rattle.relationships.specs.Graph.{edge_of}

@@ -1,4 +1,4 @@
-use Rattle.std.proofs.Common.{[], inl, inr, subst}
+use Rattle.std.proofs.Common.{inl, inr, subst}
 use Rattle.tor_digraph.specs.Reached.{IsFlooded}
 use Rattle.telling.proofs.reaching.reach_on.Goals as goal
 

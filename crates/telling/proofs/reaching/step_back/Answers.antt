@@ -1,4 +1,4 @@
-use Rattle.std.proofs.Common.{◌≡◌, ◌<◌, ℕ, length, sym, subst, arith}
+use Rattle.std.proofs.Common.{◌<◌, length, sym, subst, arith}
 use Rattle.result_rules.specs.File.{its_labels}
 use Rattle.telling.specs.Downs.{HasOver}
 use Rattle.telling.proofs.ReachLemmas.{back_more, from_within, arc_within}

@@ -1,10 +1,8 @@
-use Rattle.std.proofs.Common.{◌≡◌, ◌<◌, length, refl, sym, ◌∙◌, arith}
+use Rattle.std.proofs.Common.{refl, sym, ◌∙◌, arith}
 use Rattle.std.proofs.lemmas.Bool.{false≢true}
 use Rattle.std.proofs.lemmas.Option.{slice_get_within}
-use Rattle.relationships.specs.Relationship.{slope}
 use Rattle.relationships.specs.Graph.{edge_of}
 use Rattle.result_rules.specs.File.{its_labels}
-use Rattle.telling.specs.Told.{going_of}
 use Rattle.telling.proofs.DownLemmas.{label_in, differ_in, over_if_down, not_over_up, not_over_flat}
 use Rattle.telling.proofs.table.is_over_at.Goals as goal
 

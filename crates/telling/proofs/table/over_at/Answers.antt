@@ -1,4 +1,4 @@
-use Rattle.std.proofs.Common.{◌≡◌, inl, inr, sym, ◌∙◌}
+use Rattle.std.proofs.Common.{inl, inr, sym, ◌∙◌}
 use Rattle.telling.proofs.DownLemmas.{low_high, peer_high, reads_over}
 use Rattle.telling.proofs.table.over_at.Goals as goal
 
