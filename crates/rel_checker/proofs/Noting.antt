@@ -1,8 +1,7 @@
 -- Pairs of steps that are noted once.
-use Rattle.std.proofs.Common.{Result, Ok, Err, OnOk, ◌≡◌, inl, inr, ℕ, ◌+◌, ◌-◌, ◌<◌, ◌≤◌, Bool, true, false, List, [], ◌∷◌, ◌++◌, length, get_or, replicate, slice_index, refl, sym, ap, ◌∙◌, subst}
+use Rattle.std.proofs.Common.{Result, Ok, Err, OnOk, ◌≡◌, ◌⊎◌, inl, inr, ℕ, ◌+◌, ◌-◌, ◌<◌, ◌≤◌, Bool, true, false, List, [], length, get_or, replicate, slice_index, refl, sym, ap, ◌∙◌, subst}
 use Rattle.std.proofs.Common.{arith, Contains}
 use Rattle.std.proofs.lemmas.List.{length-map, length-replicate}
-use Rattle.std.proofs.lemmas.List.Elements.{Contains-push_cases}
 use Rattle.tor_arena.specs.Limits.{most_places}
 use Rattle.relationships.specs.Evidence.{IsTriple}
 use Rattle.result_text.specs.declared.file.EdgeLine.{EdgeLine}
@@ -90,8 +89,9 @@ arcs-new true false a b implied conflicting lt lt' k k' =
     let within : b < length more = omega (arith, k', length-with_next conflicting a b) in
     (next_kept more b a a b within (next_last conflicting a b a b k refl refl), next_last more b a b a within refl refl)
 
-pub noted-none : (lines : List EdgeLine) (implied conflicting : List (List ℕ)) → AreNoted lines [] implied conflicting
-noted-none lines implied conflicting s t lt lt' c = absurd (Contains-none (number_of_steps s t) c)
+-- no number is that of two steps
+pub noted-none : (lines : List EdgeLine) (numbers : List ℕ) (implied conflicting : List (List ℕ)) → ((k : ℕ) → Contains numbers k → k ≡ 0) → AreNoted lines numbers implied conflicting
+noted-none lines numbers implied conflicting none s t lt lt' c = absurd (let e = none (number_of_steps s t) c in omega (arith, e))
 
 -- where the number is there, so is what the two steps imply or rule out
 pub noted-there : (lines : List EdgeLine) (numbers : List ℕ) (s t : Step) (number : ℕ) (implied conflicting : List (List ℕ)) →
@@ -101,11 +101,11 @@ noted-there lines numbers s t number implied conflicting lt lt' e there noted = 
 
 pub noted-more : (lines : List EdgeLine) (numbers numbers' : List ℕ) (first second : Step) (number : ℕ) (implied conflicting implied' conflicting' : List (List ℕ)) →
     length lines ≤ most_places → length implied ≡ length lines → length conflicting ≡ length lines → place_in first < length lines → place_in second < length lines →
-    number ≡ number_of_steps first second → numbers' ≡ numbers ++ number ∷ [] →
+    number ≡ number_of_steps first second → ((k : ℕ) → Contains numbers' k → Contains numbers k ⊎ (number ≡ k)) →
     implied' ≡ with_implied (climbs_on lines first) (climbs_on lines second) (place_in first) (place_in second) implied →
     conflicting' ≡ with_conflicting (climbs_on lines first) (climbs_on lines second) (place_in first) (place_in second) conflicting →
     AreNoted lines numbers implied conflicting → AreNoted lines numbers' implied' conflicting'
-noted-more lines numbers numbers' first second number implied conflicting implied' conflicting' few many many' lt lt' n e i c noted s t ls lt'' there =
+noted-more lines numbers numbers' first second number implied conflicting implied' conflicting' few many many' lt lt' n more i c noted s t ls lt'' there =
     let up = climbs_on lines first in
     let up' = climbs_on lines second in
     let a = place_in first in
@@ -114,7 +114,7 @@ noted-more lines numbers numbers' first second number implied conflicting implie
     let k₁ : b < length implied = omega (arith, many, lt') in
     let k₂ : a < length conflicting = omega (arith, many', lt) in
     let k₃ : b < length conflicting = omega (arith, many', lt') in
-    rw (i, c) (elim (Contains-push_cases numbers number (number_of_steps s t) (subst (λ l. Contains l (number_of_steps s t)) e there)) [
+    rw (i, c) (elim (more (number_of_steps s t) there) [
       | inl old ↦ arcs-kept (climbs_on lines s) (climbs_on lines t) a b (place_in s) (place_in t) implied conflicting (with_implied up up' a b implied) (with_conflicting up up' a b conflicting)
           (λ x y h. kept-implied up up' a b x y implied k₀ k₁ h) (λ x y h. kept-conflicting up up' a b x y conflicting k₂ k₃ h) (noted s t ls lt'' old)
       | inr is ↦

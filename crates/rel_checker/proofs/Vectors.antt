@@ -1,6 +1,5 @@
 -- The number of two steps that was worked by hand: up along the edges in the places 0 and 1, and the same the other way round.
 use Rattle.std.proofs.Common.{◌≡◌, refl}
-use Rattle.rel_checker.specs.declared.edges.step.Step.{Step}
 use Rattle.rel_checker.specs.Flipping.{number_of_steps}
 
 up_twice : number_of_steps (record { code = 1 }) (record { code = 3 }) ≡ 4294967301

@@ -5,6 +5,7 @@ pub(crate) mod consistency;
 pub(crate) mod flipping;
 pub(crate) mod mark_rules;
 pub(crate) mod neighbours;
+pub(crate) mod noted;
 pub(crate) mod searching;
 pub(crate) mod serving;
 pub(crate) mod showing;

@@ -16,8 +16,8 @@ use crate::edges::labels::Labels;
 use crate::edges::step::{Step, end_left};
 use crate::edges::supports::count_kept;
 use crate::edges::valleys::is_served;
-use crate::lending::{givens_of, path_line_at, steps_at};
-use result_text::{EdgeLine, PathLines, ResultFile};
+use crate::lending::{givens_of, numbers_on, path_line_at, steps_at};
+use result_text::{EdgeLine, ResultFile};
 use std::alloc::Global;
 use tor_arena::{Keys, List, NoMemory, PathId, RowRefused, Rows};
 use tor_numbers::EdgeTable;
@@ -60,15 +60,6 @@ fn add_paths(
         add_row(rows, steps.as_slice())?;
     }
     Ok(())
-}
-
-/// How many AS numbers the paths have in sum, for which memory is taken at once.
-fn numbers_on(lines: &PathLines) -> usize {
-    let mut sum = 0usize;
-    for place in 0..lines.len() {
-        sum = sum.saturating_add(path_line_at(lines, place).path().len());
-    }
-    sum
 }
 
 /// Adds a row, where there are not too many.

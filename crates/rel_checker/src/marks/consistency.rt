@@ -59,6 +59,9 @@ fn places_before(alloc: Global, end: usize) -> Result<List<usize>, NoMemory>
     Ok(places)
 }
 
+/// How many edges may be looked along in vain for each edge of the file, until no further line is tried.
+const MOST_WASTED: usize = 16;
+
 /// Open lines that are tested in batches, and the first of them so far that doesn't serve.
 #[derive(Drop)]
 struct Testing {
@@ -149,7 +152,7 @@ impl Testing {
         if is_behind(self.failing, place) {
             return Ok(true);
         }
-        if self.batch.wasted / 16 > file.edges.len() {
+        if self.batch.wasted / MOST_WASTED > file.edges.len() {
             return Ok(false);
         }
         let probe = &file.probes.as_slice()[place];

@@ -11,13 +11,14 @@ ghost use Rattle.rel_checker.specs.PathSteps.{place_in, AreCodedSteps, HaveCoded
 
 use crate::edges::labels::Labels;
 use crate::edges::step::{Step, end_left};
-use crate::lending::{givens_of, path_line_at, steps_at};
+use crate::lending::{givens_of, numbers_on, path_line_at, steps_at};
 use crate::marks::neighbours::Neighbours;
+use crate::marks::noted::Noted;
 use relationships::{End, Given, Label};
 use result_text::{PathLineRef, ResultFile};
 use std::alloc::Global;
 use tor_arena::{EdgeId, Index, Keys, NoMemory, PathId, Rows};
-use tor_numbers::{EdgeTable, NumberSet};
+use tor_numbers::EdgeTable;
 
 /// For each edge the edges that it implies, which flip where it does, and those with which it
 /// conflicts, which can't flip where it does.
@@ -100,7 +101,7 @@ impl Flips {
     fn note_pair(
         &mut self,
         labels: &Labels<'_>,
-        noted: &mut NumberSet,
+        noted: &mut Noted,
         first: Step,
         second: Step,
     ) -> Result<(), NoMemory>
@@ -116,7 +117,7 @@ impl Flips {
         ensures conflicting { OnOk result (SameRows self.new.conflicting (with_conflicting (climbs_on labels.now first)
             (climbs_on labels.now second) (place_in first) (place_in second) self.old.conflicting)) }
     {
-        if noted.insert(number_of(first, second))? {
+        if noted.add(number_of(first, second)) {
             self.note(&climb_of(labels, first), &climb_of(labels, second))
         } else {
             Ok(())
@@ -127,7 +128,7 @@ impl Flips {
     fn note_path(
         &mut self,
         labels: &Labels<'_>,
-        noted: &mut NumberSet,
+        noted: &mut Noted,
         path: &[u32],
         steps: &[Step],
     ) -> Result<(), NoMemory>
@@ -153,7 +154,7 @@ impl Flips {
     fn note_line(
         &mut self,
         labels: &Labels<'_>,
-        noted: &mut NumberSet,
+        noted: &mut Noted,
         line: &PathLineRef<'_>,
         steps: &[Step],
     ) -> Result<(), NoMemory>
@@ -180,7 +181,7 @@ impl Flips {
     fn note_given(
         &mut self,
         labels: &Labels<'_>,
-        noted: &mut NumberSet,
+        noted: &mut Noted,
         table: &EdgeTable,
         given: &Given,
     ) -> Result<(), NoMemory>
@@ -209,7 +210,7 @@ impl Flips {
     fn note_givens(
         &mut self,
         labels: &Labels<'_>,
-        noted: &mut NumberSet,
+        noted: &mut Noted,
         table: &EdgeTable,
         givens: &[Given],
     ) -> Result<(), NoMemory>
@@ -232,7 +233,7 @@ impl Flips {
     fn note_file(
         &mut self,
         labels: &Labels<'_>,
-        noted: &mut NumberSet,
+        noted: &mut Noted,
         file: &ResultFile,
         table: &EdgeTable,
         steps: &Rows<PathId, Step>,
@@ -277,7 +278,7 @@ impl Flips {
             implied: Neighbours::new(alloc, count)?,
             conflicting: Neighbours::new(alloc, count)?,
         };
-        let mut noted = NumberSet::new(alloc, keys);
+        let mut noted = Noted::new(alloc, keys, numbers_on(&file.paths))?;
         flips.note_file(labels, &mut noted, file, table, steps)?;
         Ok(flips)
     }

@@ -1,10 +1,8 @@
-use Rattle.std.proofs.Common.{rules, ◌≡◌, List, ℕ, length, sym, ◌∙◌, subst}
+use Rattle.std.proofs.Common.{rules, ◌≡◌, List, ℕ, length, subst}
 use Rattle.relationships.specs.Evidence.{IsTriple}
 use Rattle.rel_checker.specs.Flipping.{flipped_orders, served_lines}
-use Rattle.rel_checker.specs.Batches.{AreRows}
 use Rattle.rel_checker.specs.Testing.{IsBatchTested}
-use Rattle.rel_checker.proofs.Buildings.{inside_implied, inside_conflicting}
-use Rattle.rel_checker.proofs.Consistencies.{mutual_conflicts}
+use Rattle.rel_checker.proofs.Buildings.{inside_implied}
 use Rattle.rel_checker.proofs.TestingLemmas.{rows_of, way_next, way_done}
 use Rattle.rel_checker.proofs.marks.consistency.Testing.test_all.Goals as goal
 

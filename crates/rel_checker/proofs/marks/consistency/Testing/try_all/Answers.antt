@@ -1,6 +1,6 @@
-use Rattle.std.proofs.Common.{rules, ◌≡◌, ◌<◌, ◌≤◌, List, ℕ, length, subst, arith}
+use Rattle.std.proofs.Common.{rules, ◌<◌, List, ℕ, length, subst, arith}
 use Rattle.rel_checker.specs.Testing.{AreTried}
-use Rattle.rel_checker.proofs.TestingLemmas.{way_begins, way_tried, way_more}
+use Rattle.rel_checker.proofs.TestingLemmas.{way_begins, way_tried}
 use Rattle.rel_checker.proofs.marks.consistency.Testing.try_all.Goals as goal
 
 pub loop-alloc-init : goal.loop-alloc-init
