@@ -43,7 +43,7 @@ by_dumps file (dump ∷ dumps) files v w one other =
     one_against_law file one.0.table.rows one.0.counts v w one.2 (subst (λ (t : Taken). JudgesAgainst file t.table.rows t.counts w) same other.2)
 
 -- bytes that are accepted break no rule of 0 to 10
-none_broken : OneValue → (bytes : List ℕ) (file : ResultFile) (verdict : Verdict) → IsAccepted file bytes → BreaksRule bytes verdict → ⊥
+pub none_broken : OneValue → (bytes : List ℕ) (file : ResultFile) (verdict : Verdict) → IsAccepted file bytes → BreaksRule bytes verdict → ⊥
 none_broken law bytes file Yes accepted broken = broken
 none_broken law bytes file (No line rule) accepted (inl zero) = zero.1.outside (file, accepted.text)
 none_broken law bytes file (No line rule) accepted (inr broken) =

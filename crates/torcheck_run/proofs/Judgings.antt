@@ -7,10 +7,10 @@ use Rattle.result_rules.specs.declared.verdict.Verdict.{Verdict}
 use Rattle.result_rules.specs.Against.{JudgesAgainst}
 use Rattle.dump_read.specs.declared.taking.Taken.{Taken}
 use Rattle.result_text.specs.Grammar.{IsTextOf}
-use Rattle.torcheck_run.specs.declared.judging.Ruling.{Ruling}
-use Rattle.torcheck_run.specs.declared.judging.Ruling.TheVariants as ruling
+use Rattle.torcheck_run.specs.declared.ruling.Ruling.{Ruling}
+use Rattle.torcheck_run.specs.declared.ruling.Ruling.TheVariants as ruling
 use Rattle.torcheck_run.specs.Judging.{IsAccepted, JudgesByDumps, seen_for}
-use Rattle.torcheck_run.specs.Unjudging.{IsRuling, IsRulingOf}
+use Rattle.torcheck_run.specs.Ruled.{IsRuling, IsRulingOf}
 
 -- the dumps gave this, and the result was compared with it
 pub some_dumps : (known : Option Files) (file : ResultFile) (dumps : List (List ℕ)) (taken : Taken) (verdict : Verdict) → 0 < length dumps

@@ -13,15 +13,17 @@ use Rattle.tor_words.specs.CheckGiven.{check_settings_given}
 use Rattle.run_base.specs.declared.status.Status.{Status}
 use Rattle.run_base.specs.declared.status.Status.TheVariants as status
 use Rattle.run_base.specs.declared.answer.Answer.{Answer}
+use Rattle.run_base.specs.declared.answer.Refusal.{Refusal}
 use Rattle.run_base.specs.declared.answer.Refusal.TheVariants as refusal
 use Rattle.run_base.specs.declared.whole_file.Unread.TheVariants as unread
 use Rattle.torcheck_run.specs.declared.judging.Unjudged.{Unjudged}
 use Rattle.torcheck_run.specs.declared.judging.Unjudged.TheVariants as unjudged
 use Rattle.run_base.specs.Notes.{malformed_note, limit_note, read_fault_note}
-use Rattle.run_base.specs.Answers.{AnswersStop, AnswersWith, IsNoMemory, note_in, note_text}
+use Rattle.run_base.specs.Answers.{AnswersStop, AnswersWith, IsNoMemory, IsOfWords, note_in, note_text}
 use Rattle.torcheck_run.specs.Judging.{Outcome, Judged, NoResult, TooLong, Ends, IsAccepted, IsResult, IsVerdict, SettingsGive, LeavesOnlyResult, seen_for}
 use Rattle.torcheck_run.specs.CheckAnswer.{result_note, KnownFilesGive, HoldsBefore, IsCheckNote}
-use Rattle.torcheck_run.specs.Unjudging.{DumpsEndWith, StopsAt, IsUnjudged, IsFailedResult, AnswersUnjudged}
+use Rattle.torcheck_run.specs.Unjudging.{DumpsEndWith, StopsAt, IsRefusedBy, IsUnjudgedIn, IsUnjudged, IsFailedResult, AnswersUnjudged}
+use Rattle.torcheck_run.specs.Ruled.{HasOctets}
 use Rattle.torcheck_run.specs.Limits.{max_result}
 
 -- ---- what the words and the files give, where these are known
@@ -50,6 +52,33 @@ file_judged known after settings bytes name part dumps verdict same_name same_fi
     (subst (λ (o : Option Files). IfSome o (λ files. IsVerdict bytes settings.dumps files verdict)) same_files
     (subst (λ (b : List ℕ). IfSome after (λ files. IsVerdict b settings.dumps files verdict)) same_bytes
     (subst (λ (ds : List (List ℕ)). IfSome after (λ files. IsVerdict part ds files verdict)) same_dumps judged)))
+
+weaker : (bytes : List ℕ) (dumps : List (List ℕ)) (known : Option Files) (steady later : Type 0) (dump : ℕ) (e : DumpError) → (steady → later) → StopsAt bytes dumps known later dump e
+    → StopsAt bytes dumps known steady dump e
+weaker bytes dumps known steady later dump (error.Malformed place fault) on stops = stops
+weaker bytes dumps known steady later dump (error.Limit kind) on stops = stops
+weaker bytes dumps known steady later dump error.ReadFault on stops = (stops.0, stops.1, stops.2, λ held. stops.3 (on held))
+weaker bytes dumps known steady later dump error.NoMemory on stops = tt
+
+steady_before : (bytes : List ℕ) (dumps : List (List ℕ)) (known : Option Files) (steady later : Type 0) (why : Refusal) → (steady → later) → IsRefusedBy bytes dumps known later why
+    → IsRefusedBy bytes dumps known steady why
+steady_before bytes dumps known steady later (refusal.Words w) on by = by
+steady_before bytes dumps known steady later (refusal.Dumps stopped) on by = weaker bytes dumps known steady later stopped.dump stopped.error on by
+steady_before bytes dumps known steady later refusal.NoMemory on by = by
+
+-- the file of this name has these bytes, on which there is no verdict for this
+pub file_refused : (known after : Option Files) (steady later : Type 0) (settings : CheckSettings) (bytes name : List ℕ) (dumps : List (List ℕ)) (why : Refusal)
+    → name ≡ settings.result → after ≡ known → (steady → later) → dumps ≡ settings.dumps → HasOctets known name bytes → IsRefusedBy bytes dumps after later why
+    → IsUnjudgedIn settings known steady (unjudged.Refused why)
+file_refused known after steady later settings bytes name dumps why same_name same_files on same_dumps has by =
+    let moved : IsRefusedBy bytes settings.dumps known later why = subst (λ (o : Option Files). IsRefusedBy bytes settings.dumps o later why) same_files
+    (subst (λ (ds : List (List ℕ)). IsRefusedBy bytes ds after later why) same_dumps by) in
+    (bytes, result_is known settings bytes name same_name has.there has.short, steady_before bytes settings.dumps known steady later why on moved)
+
+pub refused_no_words : (bytes : List ℕ) (dumps : List (List ℕ)) (known : Option Files) (steady : Type 0) (why : Refusal) → IsRefusedBy bytes dumps known steady why → IsOfWords why → ⊥
+refused_no_words bytes dumps known steady (refusal.Words w) by is = by
+refused_no_words bytes dumps known steady (refusal.Dumps stopped) by is = is
+refused_no_words bytes dumps known steady refusal.NoMemory by is = is
 
 end_comes : (known : Option Files) (settings : CheckSettings) (bytes : List ℕ) (end : DumpsEnd) → IfSome known (λ files. IsResult settings files bytes)
     → DumpsEndWith bytes settings.dumps known end → IfSome known (λ files. SettingsGive settings files (Ends end))

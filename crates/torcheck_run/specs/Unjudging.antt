@@ -2,8 +2,6 @@
 use Rattle.std.specs.Prelude.{◌≡◌, ◌≤◌, ◌-◌, ℕ, List, length, take, Option, None, Some, IfSome, IsOk, Err}
 use Rattle.tor_io.specs.Contents.{Files}
 use Rattle.result_text.specs.declared.file.ResultFile.{ResultFile}
-use Rattle.result_rules.specs.declared.verdict.Verdict.TheVariants.{No}
-use Rattle.result_rules.specs.Rules.{Accepts, IsRefused}
 use Rattle.dump_read.specs.declared.error.DumpError.{DumpError}
 use Rattle.dump_read.specs.declared.error.DumpError.TheVariants as error
 use Rattle.dump_read.specs.Seen.{DumpsEnd, Absent, Malformed, Limit}
@@ -16,24 +14,12 @@ use Rattle.run_base.specs.declared.notes.FirstFile.TheVariants.{Result as result
 use Rattle.run_base.specs.declared.answer.Refusal.{Refusal}
 use Rattle.run_base.specs.declared.answer.Refusal.TheVariants as refusal
 use Rattle.run_base.specs.declared.whole_file.Unread.TheVariants as unread
-use Rattle.torcheck_run.specs.declared.judging.Ruling.{Ruling}
-use Rattle.torcheck_run.specs.declared.judging.Ruling.TheVariants as ruling
 use Rattle.torcheck_run.specs.declared.judging.Unjudged.{Unjudged}
 use Rattle.torcheck_run.specs.declared.judging.Unjudged.TheVariants as unjudged
 use Rattle.run_base.specs.Answers.{Answers, AnswersUnread, IsReadFault, IsOfWords}
-use Rattle.torcheck_run.specs.Judging.{BreaksRule, IsAccepted, IsResult, seen_for}
+use Rattle.torcheck_run.specs.Judging.{IsAccepted, IsResult, seen_for}
 use Rattle.run_base.specs.WholeFile.{IsLongFile}
 use Rattle.torcheck_run.specs.Limits.{max_result}
-
--- the ruling is that of the rules 1 to 10 on this result
-abbrev pub IsRulingOf : ResultFile → Ruling → Type 0
-IsRulingOf file (ruling.Broken line rule) = IsRefused file line rule
-IsRulingOf file (ruling.Met met) = (met ≡ file) × Accepts file
-
--- the ruling is that of the rules 0 to 10
-abbrev pub IsRuling : List ℕ → Ruling → Type 0
-IsRuling bytes (ruling.Broken line rule) = BreaksRule bytes (No line rule)
-IsRuling bytes (ruling.Met file) = IsAccepted file bytes
 
 -- the octets meet the rules 0 to 10, and the dumps, where the files are known, have this end
 abbrev pub DumpsEndWith : List ℕ → List (List ℕ) → Option Files → DumpsEnd → Type 0

@@ -1,37 +1,34 @@
 //! The verdict on a result file.
-ghost use Rattle.std.specs.Prelude.{◌≡◌, ◌+◌, ◌≢◌, ◌≤◌, ◌-◌, [], Err, IfOk, IfErr, OnOk, IfSome, IsNone, IsErrAnd, IsOk, length, take};
+ghost use Rattle.std.specs.Prelude.{◌≡◌, ◌+◌, ◌≢◌, ◌≤◌, ◌-◌, [], List, ℕ, Err, IfOk, IfErr, OnOk, IfSome, IsNone, IsErrAnd, IsOk, length, take};
 ghost use Rattle.std.specs.Io.KnownBytes.{IsAtEnd};
 ghost use Rattle.dump_read.specs.declared.error.DumpError.TheVariants.{ReadFault as read_failed};
 ghost use Rattle.dump_read.specs.Seen.{Absent, end_named};
-ghost use Rattle.result_text.specs.Grammar.{IsTextOf};
-ghost use Rattle.result_text.specs.Refusal.{Refuses};
 ghost use Rattle.tor_words.specs.CheckGiven.{check_settings_given};
 ghost use Rattle.run_base.specs.Answers.{IsReadFault};
 ghost use Rattle.run_base.specs.Frames.{ReadsShelf};
 ghost use Rattle.torcheck_run.specs.Judging.{Judged, SettingsGive, IsVerdict, JudgesByDumps, LeavesRestOf, LeavesOnlyResult, seen_for};
 ghost use Rattle.run_base.specs.WholeFile.{LeavesRest, LeavesOnly};
 ghost use Rattle.torcheck_run.specs.CheckAnswer.{KnownFilesGive};
-ghost use Rattle.result_rules.specs.File.{HasFewLines, its_givens, most_lines};
+ghost use Rattle.result_rules.specs.File.{its_givens, most_lines};
 ghost use Rattle.run_base.specs.Reach.{IsDumpInReach, IsRefusalInReach};
 ghost use Rattle.torcheck_run.specs.Reach.{IsUnjudgedInReach, StaysUnjudgedInReach};
-ghost use Rattle.torcheck_run.specs.Unjudging.{IsRuling, IsRulingOf, IsRefusedBy, IsUnjudged, IsUnjudgedIn, IsTooLong, IsFailedResult};
+ghost use Rattle.torcheck_run.specs.Ruled.{IsRuling, IsOfFewLines};
+ghost use Rattle.torcheck_run.specs.Unjudging.{IsRefusedBy, IsUnjudged, IsUnjudgedIn, IsTooLong, IsFailedResult};
 ghost use Rattle.torcheck_run.specs.Unjudging.{IsFailedRead, IsOfCheckWords, AnswersUnjudged};
 ghost use Rattle.torcheck_run.specs.Limits.{max_result};
 
-use rel_checker::{check_against, check_file};
+use crate::ruling::{Ruling, ruling_of_file};
+use rel_checker::check_against;
 use result_rules::Verdict;
-use result_text::{ParseError, ResultFile, parse};
+use result_text::ResultFile;
 use run_base::{
     Answer, FirstFile, Refusal, Stopped, Unread, answer_to, answer_to_unread, nothing_taken,
-    read_dumps, read_whole,
+    read_dumps,
 };
 use std::alloc::Global;
-use tor_arena::{Keys, List, MAX_PATHS, NoMemory};
+use tor_arena::{Keys, List, MAX_PATHS};
 use tor_io::Shelf;
 use tor_words::{CheckSettings, Name, check_settings_of};
-
-/// The most octets of a result file.
-pub const MAX_RESULT: usize = 1 << 31;
 
 /// Why there is no verdict.
 #[derive(Drop)]
@@ -40,46 +37,6 @@ pub(crate) enum Unjudged {
     Result(Unread),
     /// The words, the dumps or want of memory, as in a list.
     Refused(Refusal),
-}
-
-/// What the rules 0 to 10 say of a text.
-#[derive(Drop)]
-pub enum Ruling {
-    /// The least that is broken, and its first line.
-    Broken { line: u64, rule: u8 },
-    /// All are met, by this result.
-    Met(ResultFile),
-}
-
-/// The result whose text this is. The octets are let go.
-fn parse_all(alloc: Global, bytes: List<u8>) -> Result<ResultFile, ParseError>
-    ensures text { IfOk result (λ file. IsTextOf file bytes) }
-    ensures refused { IfErr result (λ error. Refuses error bytes) }
-{
-    parse(alloc, bytes.as_slice())
-}
-
-/// What the rules 1 to 10 say of a result.
-fn ruling_of(alloc: Global, keys: Keys, file: ResultFile) -> Result<Ruling, NoMemory>
-    requires lines { HasFewLines file }
-    ensures { IfOk result (IsRulingOf file) }
-{
-    match check_file(alloc, keys, &file)? {
-        Verdict::Yes => Ok(Ruling::Met(file)),
-        Verdict::No { line, rule } => Ok(Ruling::Broken { line, rule }),
-    }
-}
-
-/// What the rules 0 to 10 say of the octets of a result file, at most 2^31. The octets are let go. The only error is that memory ran out.
-pub fn ruling_on(alloc: Global, keys: Keys, bytes: List<u8>) -> Result<Ruling, NoMemory>
-    requires short { length bytes ≤ max_result }
-    ensures { IfOk result (IsRuling bytes) }
-{
-    match parse_all(alloc, bytes) {
-        Ok(file) => ruling_of(alloc, keys, file),
-        Err(ParseError::BadLine(line)) => Ok(Ruling::Broken { line, rule: 0 }),
-        Err(ParseError::NoMemory) => Err(NoMemory),
-    }
 }
 
 /// The verdict of the dumps on a result that meets the rules before: yes where none is named.
@@ -115,29 +72,30 @@ fn judged_by_dumps<H: Shelf>(
     }
 }
 
-/// The verdict on the octets of the result file.
+/// The verdict by this ruling on a result file.
 fn judge<H: Shelf>(
     alloc: Global,
     keys: Keys,
     shelf: &mut H,
-    bytes: List<u8>,
+    ruling: Ruling,
     dumps: &[Name],
 ) -> Result<Verdict, Refusal>
-    requires short { length bytes ≤ max_result }
-    ensures verdict { IfOk result (λ verdict. IfSome (H.files shelf.old) (λ files. IsVerdict bytes dumps.now files verdict)) }
-    ensures refused { IfErr result (IsRefusedBy bytes dumps.now (H.files shelf.old) (H.steady shelf.old)) }
+    requires few { IsOfFewLines ruling }
+    ensures verdict { IfOk result (λ verdict. (bytes : List ℕ) → IsRuling bytes ruling →
+        IfSome (H.files shelf.old) (λ files. IsVerdict bytes dumps.now files verdict)) }
+    ensures refused { IfErr result (λ why. (bytes : List ℕ) → IsRuling bytes ruling →
+        IsRefusedBy bytes dumps.now (H.files shelf.old) (H.steady shelf.old) why) }
     ensures read_out { OnOk result (IsAtEnd (H.left shelf.old) → IsAtEnd (H.left shelf.new)) }
     ensures reach { IfErr result (IsRefusalInReach dumps.now (H.files shelf.old) (H.left shelf.new)) }
 
     ensures reads_shelf { ReadsShelf H.Shelf (IsErrAnd result IsReadFault) shelf.old shelf.new }
 {
-    match ruling_on(alloc, keys, bytes) {
-        Ok(Ruling::Broken { line, rule }) => Ok(Verdict::No { line, rule }),
-        Ok(Ruling::Met(file)) => match judged_by_dumps(alloc, keys, shelf, &file, dumps) {
+    match ruling {
+        Ruling::Broken { line, rule } => Ok(Verdict::No { line, rule }),
+        Ruling::Met(file) => match judged_by_dumps(alloc, keys, shelf, &file, dumps) {
             Ok(verdict) => Ok(verdict),
             Err(stopped) => Err(Refusal::Dumps(stopped)),
         },
-        Err(NoMemory) => Err(Refusal::NoMemory),
     }
 }
 
@@ -159,8 +117,8 @@ fn judge_file<H: Shelf>(
 
     ensures reads_shelf { ReadsShelf H.Shelf (IsErrAnd result IsFailedRead) shelf.old shelf.new }
 {
-    match read_whole(alloc, shelf, settings.result.as_text(), MAX_RESULT) {
-        Ok(bytes) => match judge(alloc, keys, shelf, bytes, settings.dumps.as_slice()) {
+    match ruling_of_file(alloc, keys, shelf, settings.result.as_text()) {
+        Ok(ruling) => match judge(alloc, keys, shelf, ruling, settings.dumps.as_slice()) {
             Ok(verdict) => Ok(verdict),
             Err(refusal) => Err(Unjudged::Refused(refusal)),
         },

@@ -4,9 +4,10 @@
 mod checking;
 mod judging;
 mod laws;
+mod ruling;
 mod verdicts;
 
 pub use checking::check;
-pub use judging::{MAX_RESULT, Ruling, ruling_on};
 pub use laws::one_file_verdict_law;
+pub use ruling::{MAX_RESULT, Ruling, ruling_of_file, ruling_on};
 pub use verdicts::verdict_text;

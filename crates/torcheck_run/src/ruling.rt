@@ -1,0 +1,90 @@
+//! What the rules 0 to 10 say of a result file.
+ghost use Rattle.std.specs.Prelude.{◌≡◌, ◌≤◌, Err, IfOk, IfErr, OnOk, IsErrOf, IsErrAnd, length};
+ghost use Rattle.std.specs.Io.KnownBytes.{IsAtEnd};
+ghost use Rattle.result_text.specs.Grammar.{IsTextOf};
+ghost use Rattle.result_text.specs.Refusal.{Refuses};
+ghost use Rattle.result_rules.specs.File.{HasFewLines};
+ghost use Rattle.run_base.specs.Frames.{ReadsShelf};
+ghost use Rattle.run_base.specs.WholeFile.{LeavesRest, LeavesOnly};
+ghost use Rattle.run_base.specs.declared.whole_file.Unread.TheVariants.{Failed as failed};
+ghost use Rattle.torcheck_run.specs.Ruled.{IsRuling, IsRulingOf, IsRulingIn, IsOfFewLines, IsUnruled};
+ghost use Rattle.torcheck_run.specs.Limits.{max_result};
+
+use rel_checker::check_file;
+use result_rules::Verdict;
+use result_text::{ParseError, ResultFile, parse};
+use run_base::{Unread, read_whole};
+use std::alloc::Global;
+use tor_arena::{Keys, List, NoMemory};
+use tor_io::Shelf;
+
+/// The most octets of a result file.
+pub const MAX_RESULT: usize = 1 << 31;
+
+/// What the rules 0 to 10 say of a text.
+#[derive(Drop)]
+pub enum Ruling {
+    /// The least that is broken, and its first line.
+    Broken { line: u64, rule: u8 },
+    /// All are met, by this result.
+    Met(ResultFile),
+}
+
+/// The result whose text this is. The octets are let go.
+fn parse_all(alloc: Global, bytes: List<u8>) -> Result<ResultFile, ParseError>
+    ensures text { IfOk result (λ file. IsTextOf file bytes) }
+    ensures refused { IfErr result (λ error. Refuses error bytes) }
+{
+    parse(alloc, bytes.as_slice())
+}
+
+/// What the rules 1 to 10 say of a result.
+fn ruling_of(alloc: Global, keys: Keys, file: ResultFile) -> Result<Ruling, NoMemory>
+    requires lines { HasFewLines file }
+    ensures rules { IfOk result (IsRulingOf file) }
+    ensures few { IfOk result IsOfFewLines }
+{
+    match check_file(alloc, keys, &file)? {
+        Verdict::Yes => Ok(Ruling::Met(file)),
+        Verdict::No { line, rule } => Ok(Ruling::Broken { line, rule }),
+    }
+}
+
+/// What the rules 0 to 10 say of the octets of a result file, at most 2^31. The octets are let go. The only error is that memory ran out.
+pub fn ruling_on(alloc: Global, keys: Keys, bytes: List<u8>) -> Result<Ruling, NoMemory>
+    requires short { length bytes ≤ max_result }
+    ensures rules { IfOk result (IsRuling bytes) }
+    ensures few { IfOk result IsOfFewLines }
+{
+    match parse_all(alloc, bytes) {
+        Ok(file) => ruling_of(alloc, keys, file),
+        Err(ParseError::BadLine(line)) => Ok(Ruling::Broken { line, rule: 0 }),
+        Err(ParseError::NoMemory) => Err(NoMemory),
+    }
+}
+
+/// What the rules 0 to 10 say of the result file of this name. Failed: the open or a read failed. TooLong: it has more than 2^31 octets,
+/// of which one beyond these was read. NoMemory: memory ran out.
+pub fn ruling_of_file<H: Shelf>(
+    alloc: Global,
+    keys: Keys,
+    shelf: &mut H,
+    name: &str,
+) -> Result<Ruling, Unread>
+    ensures ruling { IfOk result (IsRulingIn (H.files shelf.old) name.now) }
+    ensures few { IfOk result IsOfFewLines }
+    ensures unruled { IfErr result (IsUnruled (H.files shelf.old) (H.steady shelf.old) name.now) }
+    ensures read_out { OnOk result (IsAtEnd (H.left shelf.new)) }
+    ensures rest { IsErrOf result Unread.TooLong → LeavesRest max_result name.now (H.files shelf.old) (H.left shelf.new) }
+    ensures unread { LeavesOnly max_result name.now (H.files shelf.old) (H.left shelf.new) }
+
+    ensures reads_shelf { ReadsShelf H.Shelf (IsErrAnd result (λ why. why ≡ failed)) shelf.old shelf.new }
+{
+    match read_whole(alloc, shelf, name, MAX_RESULT) {
+        Ok(bytes) => match ruling_on(alloc, keys, bytes) {
+            Ok(ruling) => Ok(ruling),
+            Err(NoMemory) => Err(Unread::NoMemory),
+        },
+        Err(unread) => Err(unread),
+    }
+}
