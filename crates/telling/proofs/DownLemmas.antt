@@ -10,7 +10,8 @@ use Rattle.std.proofs.lemmas.List.{length-map}
 use Rattle.std.proofs.lemmas.List.Elements.{All-contains, All-from_recursion, Contains-push_cases}
 use Rattle.std.proofs.lemmas.List.Sums.{sum_by-append, sum_by-cons}
 use Rattle.tor_arena.specs.Limits.{max_numbers}
-use Rattle.tor_arena.proofs.Gets.{All-get, take_get, Contains-from_has, has-from_Contains, slice_get-map, slice_get-unmap, slice_get-some, slice_get-push_old, slice_get-push_cases, slice_get-push_last, Contains-map}
+use Rattle.tor_arena.proofs.Gets.{All-get, take_get, Contains-from_has, Contains-map, has-from_Contains, slice_get-map, slice_get-unmap, slice_get-some}
+use Rattle.tor_arena.proofs.Gets.{slice_get-push_old, slice_get-push_cases, slice_get-push_last}
 use Rattle.relationships.specs.declared.label.Label.{Label}
 use Rattle.relationships.specs.declared.walk.Link.{Link}
 use Rattle.relationships.specs.declared.fate.Fate.{Fate}

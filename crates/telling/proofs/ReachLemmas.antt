@@ -272,7 +272,8 @@ module _ (file : ResultFile) (accepts : Accepts file) where
           either : CanBeEither (near file accepts) y x
           either =
               either_law L (near file accepts) over under y x
-              (All-append NeighboursDiffer (its_returns file) (paths_of (its_kept file)) (returns_differ (its_givens file) (its_paths file) (name_two file (accepts HeadSound))) (kept_differ file accepts))
+              (All-append NeighboursDiffer (its_returns file) (paths_of (its_kept file)) (returns_differ (its_givens file) (its_paths file) (name_two file (accepts HeadSound)))
+              (kept_differ file accepts))
               (near_free file accepts) has.over consistent
               (((same_closure_law (its_givens file) (its_paths file) (paths_of (its_kept file)) over under (kept_edges file accepts) edge).0 y x).1 closed)
 

@@ -83,7 +83,8 @@ fn opposite_of(
     requires accepted { Accepts file.now }
     requires labels { HaveLabels file.now all.now.edges all.now.labels.items }
     requires nodes { graph.now.nodes ≡ length all.now.edges }
-    ensures some { IfSome result (λ u. Contains reached.now.nodes u × HasOver (its_labels file.now) all.now.edges u probe.now.under probe.now.over) }
+    ensures some { IfSome result (λ u. Contains reached.now.nodes u ×
+        HasOver (its_labels file.now) all.now.edges u probe.now.under probe.now.over) }
     ensures none { IfNone result (IsUnopposed file.now all.now.edges reached.now.nodes probe.now.over probe.now.under) }
 {
     let Some(place) = all.edges.place(probe.under, probe.over) else {
@@ -110,7 +111,8 @@ fn first_opposed(
     requires labels { HaveLabels file.now all.now.edges all.now.labels.items }
     requires nodes { graph.now.nodes ≡ length all.now.edges }
     ensures some { IfSome result (λ found. IsOpposed file.now all.now.edges reached.now.nodes found.0.over found.0.under found.1) }
-    ensures none { IfNone result ((p : ℕ × ℕ) → Contains (its_probes file.now) p → IsUnopposed file.now all.now.edges reached.now.nodes p.0 p.1) }
+    ensures none { IfNone result ((p : ℕ × ℕ) → Contains (its_probes file.now) p →
+        IsUnopposed file.now all.now.edges reached.now.nodes p.0 p.1) }
 {
     for probe in file.probes.as_slice() {
         if let Some(edge) = opposite_of(file, all, graph, reached, probe) {
