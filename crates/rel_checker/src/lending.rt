@@ -9,6 +9,7 @@ use result_text::{PathLineRef, PathLines, ResultFile};
 use tor_arena::{Index, PathId, Rows, WalkId};
 
 /// The path line in a place, from 0, which has to be there. It takes no memory.
+#[inline(always)]
 pub(crate) fn path_line_at(lines: &PathLines, place: usize) -> PathLineRef<'_>
     requires { place < length lines.now }
     ensures { slice_get lines.now place ≡ Some result }
@@ -34,6 +35,7 @@ pub(crate) fn numbers_on(lines: &PathLines) -> usize {
 }
 
 /// The steps of the path in a place, from 0, which has to be there. It takes no memory.
+#[inline(always)]
 pub(crate) fn steps_at(steps: &Rows<PathId, Step>, place: usize) -> &[Step]
     requires { place < length steps.now }
     ensures { slice_get steps.now place ≡ Some result.now }

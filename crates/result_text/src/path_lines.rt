@@ -32,6 +32,7 @@ impl<'a> Model for PathLineRef<'a> {
 
 impl<'a> PathLineRef<'a> {
     /// How often the path stood in the dumps. It takes no memory.
+    #[inline(always)]
     pub fn times(&self) -> u64
         ensures { result ≡ self.now.times }
     {
@@ -39,6 +40,7 @@ impl<'a> PathLineRef<'a> {
     }
 
     /// The AS numbers of the path, in order. It takes no memory.
+    #[inline(always)]
     pub fn path(&self) -> &'a [u32]
         ensures { result.now ≡ self.now.path }
     {
@@ -46,6 +48,7 @@ impl<'a> PathLineRef<'a> {
     }
 
     /// Whether the path is kept. It takes no memory.
+    #[inline(always)]
     pub fn is_kept(&self) -> bool
         ensures { result ≡ is_kept self.now.fate }
     {
@@ -141,6 +144,7 @@ impl PathLines {
     }
 
     /// The line of an index, which has to be there. It takes no memory.
+    #[inline(always)]
     pub fn get(&self, id: PathId) -> PathLineRef<'_>
         requires { id < length self.now }
         ensures { slice_get self.now id ≡ Some result }
