@@ -1,0 +1,5 @@
+pub mod Always
+pub mod Answerings
+pub mod Bounds
+pub mod Comings
+pub mod Unsayings
