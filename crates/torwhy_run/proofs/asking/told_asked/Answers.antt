@@ -1,0 +1,21 @@
+use Rattle.asking_run.proofs.Answerings.{says_given}
+use Rattle.asking_run.proofs.Unsayings.{reach_given, unsaid_given}
+use Rattle.torwhy_run.specs.Whys.{tale_text, telling}
+use Rattle.torwhy_run.proofs.asking.told_asked.Goals as goal
+
+pub returns-in-Ok-clause-told : goal.returns-in-Ok-clause-told
+returns-in-Ok-clause-told g c =
+    says_given telling tale_text c.args.words.now (g.H.Shelf.files c.args.shelf.now) c.in-Ok.settings c.told_in.result c.in-Ok.ensures.given c.told_in.ensures.told
+
+pub returns-in-Ok-clause-untold : goal.returns-in-Ok-clause-untold
+returns-in-Ok-clause-untold g c =
+    let shelf = g.H.Shelf in
+    unsaid_given telling c.args.words.now (shelf.files c.args.shelf.now) (shelf.steady c.args.shelf.now) c.in-Ok.settings c.told_in.result c.in-Ok.ensures.given c.told_in.ensures.untold
+
+pub returns-in-Ok-clause-reach : goal.returns-in-Ok-clause-reach
+returns-in-Ok-clause-reach g c =
+    let shelf = g.H.Shelf in
+    reach_given telling c.args.words.now (shelf.files c.args.shelf.now) (shelf.left c.told_in.new.shelf) c.in-Ok.settings c.told_in.result c.in-Ok.ensures.given c.told_in.ensures.reach
+
+pub returns-in-Err-clause-reach : goal.returns-in-Err-clause-reach
+returns-in-Err-clause-reach g c = λ s is. tt

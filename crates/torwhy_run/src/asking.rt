@@ -1,0 +1,124 @@
+//! What is told of the result that the words name.
+ghost use Rattle.std.specs.Prelude.{◌≡◌, Some, IfOk, IfErr, OnOk, IsNone, IsErrAnd, string_bytes};
+ghost use Rattle.std.specs.Io.KnownBytes.{IsAtEnd};
+ghost use Rattle.result_rules.specs.Rules.{Accepts};
+ghost use Rattle.tor_words.specs.WhyGiven.{why_settings_given};
+ghost use Rattle.run_base.specs.Frames.{ReadsShelf};
+ghost use Rattle.asking_run.specs.Asking.{Says, Gives, GivesIn};
+ghost use Rattle.asking_run.specs.Unsaying.{SaysAbsent, IsUnanswered, IsUnmetInReach, IsUnsaidIn, IsUnsaid, IsUnsaidInReach};
+ghost use Rattle.asking_run.specs.Unsaying.{IsFailedRead, IsOfAskingWords};
+ghost use Rattle.torwhy_run.specs.Whys.{IsTold, absent_note, question_of, tale_text, telling};
+
+use asking_run::{Unsaid, result_met};
+use result_text::ResultFile;
+use run_base::Unread;
+use std::alloc::{AllocError, Global};
+use telling::{Question, Told, tell};
+use tor_arena::{Keys, List, NoMemory};
+use tor_io::Shelf;
+use tor_words::{Asked, Name, WhySettings, why_settings_of};
+
+/// What is told, and of which result.
+#[derive(Drop)]
+pub(crate) struct Tale {
+    /// The result.
+    pub file: ResultFile,
+    /// What is told of it.
+    pub told: Told,
+}
+
+// The question that the words ask.
+fn question_of(asked: Asked) -> Question
+    ensures { result ≡ question_of asked }
+{
+    match asked {
+        Asked::Edge { one, other } => Question::Edge { one, other },
+        Asked::Path { number } => Question::Path { number },
+    }
+}
+
+// The note that there is no such edge, or no such path.
+fn absent_note(alloc: Global, asked: Asked) -> Result<String, AllocError>
+    ensures { IfOk result (λ text. string_bytes text ≡ absent_note asked) }
+{
+    match asked {
+        Asked::Edge { one, other } => {
+            let mut text = format!(in alloc; "absent|{one}|")?;
+            write!(text, "{other}\n")?;
+            Ok(text)
+        }
+        Asked::Path { number } => format!(in alloc; "absent|{number}\n"),
+    }
+}
+
+// Why nothing is told of a result that has no such edge, or no such path.
+fn absent(alloc: Global, asked: Asked) -> Unsaid
+    ensures { SaysAbsent (absent_note asked) result }
+{
+    match absent_note(alloc, asked) {
+        Ok(note) => Unsaid::Absent(note),
+        Err(AllocError) => Unsaid::Result(Unread::NoMemory),
+    }
+}
+
+// What is told of a result that meets the rules.
+fn tale_of(
+    alloc: Global,
+    keys: Keys,
+    settings: &WhySettings,
+    file: ResultFile,
+) -> Result<Tale, Unsaid>
+    requires accepted { Accepts file }
+    ensures told { IfOk result (λ tale. IsTold settings.now file (Some (tale_text tale))) }
+    ensures untold { IfErr result (IsUnanswered telling settings.now file) }
+{
+    match tell(alloc, keys, &file, question_of(settings.asked)) {
+        Ok(Some(told)) => Ok(Tale { file, told }),
+        Ok(None) => Err(absent(alloc, settings.asked)),
+        Err(NoMemory) => Err(Unsaid::Result(Unread::NoMemory)),
+    }
+}
+
+// What is told with these settings.
+fn told_in<H: Shelf>(
+    alloc: Global,
+    keys: Keys,
+    settings: &WhySettings,
+    shelf: &mut H,
+) -> Result<Tale, Unsaid>
+    ensures told { IfOk result (λ tale. GivesIn telling (H.files shelf.old) settings.now (Says (tale_text tale))) }
+    ensures untold { IfErr result (IsUnsaidIn telling (H.files shelf.old) (H.steady shelf.old) settings.now) }
+    ensures no_words { IfErr result (λ u. IsOfAskingWords u → ⊥) }
+    ensures reach { IfErr result (IsUnmetInReach (H.files shelf.old) (H.left shelf.new) settings.now.result) }
+    ensures read_out { OnOk result (IsAtEnd (H.left shelf.new)) }
+
+    ensures reads_shelf { ReadsShelf H.Shelf (IsErrAnd result IsFailedRead) shelf.old shelf.new }
+{
+    match result_met(alloc, keys, shelf, settings.result.as_text()) {
+        Ok(file) => tale_of(alloc, keys, settings, file),
+        Err(unsaid) => Err(unsaid),
+    }
+}
+
+/// What the words ask for.
+pub(crate) fn told_asked<H: Shelf>(
+    alloc: Global,
+    keys: Keys,
+    words: &List<Name>,
+    shelf: &mut H,
+) -> Result<Tale, Unsaid>
+    ensures told { IfOk result (λ tale. Gives telling words.now (H.files shelf.old) (Says (tale_text tale))) }
+    ensures untold { IfErr result (IsUnsaid telling words.now (H.files shelf.old) (H.steady shelf.old)) }
+    ensures reach { IfErr result (IsUnsaidInReach telling words.now (H.files shelf.old) (H.left shelf.new)) }
+
+    ensures settled { IsNone (why_settings_given words.now) → IsErrAnd result IsOfAskingWords }
+    ensures read_out { OnOk result (IsAtEnd (H.left shelf.new)) }
+
+    ensures untouched { IfErr result (λ u. IsOfAskingWords u → shelf.new ≡ shelf.old) }
+    ensures reads_shelf { ReadsShelf H.Shelf (IsErrAnd result IsFailedRead) shelf.old shelf.new }
+{
+    match why_settings_of(alloc, words) {
+        Ok(settings) => told_in(alloc, keys, &settings, shelf),
+        Err(refused) => Err(Unsaid::Words(refused)),
+    }
+}
