@@ -63,7 +63,9 @@ for program in "$@"; do
     [ -s "$work/said" ] || complain "docs/FORMATS.md has no statuses of $program"
     sed -nE '/^\.Sh EXIT STATUS/,/^\.Sh EXAMPLES/s/^\.It ([0-9]+)$/\1/p' "$page" | sort > "$work/page"
     same "$page, its statuses" "$work/said" "$work/page"
-    for note in usage malformed read-fault write-fault limit no-memory; do
+    notes='usage read-fault write-fault limit no-memory'
+    if grep -qx 3 "$work/said"; then notes="$notes malformed"; fi
+    for note in $notes; do
         grep -qE "^\.Ql $note(\||$| )" "$page" || complain "$page lacks the note $note"
     done
     if command -v mandoc > "$work/which"; then
