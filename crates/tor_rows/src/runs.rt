@@ -1,4 +1,4 @@
-//! Runs of `infer`, `check` and `grade` in memory.
+//! Runs of `infer`, `check`, `grade` and `why` in memory.
 use crate::conditions::Conditions;
 use crate::endless::Endless;
 use crate::files::Files;
@@ -10,6 +10,7 @@ use tor_run::infer;
 use tor_words::Name;
 use torcheck_run::check;
 use torgrade_run::grade;
+use torwhy_run::why;
 
 /// What is run.
 #[derive(Clone, Copy)]
@@ -20,6 +21,8 @@ pub enum Program {
     Check,
     /// `grade`.
     Grade,
+    /// `why`.
+    Why,
 }
 
 impl Program {
@@ -29,6 +32,8 @@ impl Program {
             Program::Check
         } else if name == "torgrade" {
             Program::Grade
+        } else if name == "torwhy" {
+            Program::Why
         } else {
             Program::Infer
         }
@@ -115,6 +120,17 @@ fn grade_over<H: Shelf>(
     grade(alloc, keys, words, shelf, out, err)
 }
 
+fn why_over<H: Shelf>(
+    alloc: Global,
+    keys: Keys,
+    words: &List<Name>,
+    shelf: &mut H,
+    out: &mut MemSink,
+    err: &mut MemSink,
+) -> Status {
+    why(alloc, keys, words, shelf, out, err)
+}
+
 fn told_of(alloc: Global, status: Status, out: &[u8], err: &[u8]) -> Result<Told, NoMemory> {
     Ok(Told {
         status: status.code(),
@@ -137,6 +153,7 @@ fn run_into<H: Shelf>(
         Program::Infer => infer_over(alloc, keys, &words, shelf, out, err),
         Program::Check => check_over(alloc, keys, &words, shelf, out, err),
         Program::Grade => grade_over(alloc, keys, &words, shelf, out, err),
+        Program::Why => why_over(alloc, keys, &words, shelf, out, err),
     };
     told_of(alloc, status, out.held(), err.held())
 }
