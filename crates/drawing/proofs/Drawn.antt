@@ -7,7 +7,7 @@ use Rattle.drawing.specs.declared.group.Tally.{Tally}
 use Rattle.drawing.specs.declared.group.Counts.{Counts}
 use Rattle.drawing.specs.declared.drawing.Drawing.{Drawing}
 use Rattle.drawing.specs.Neighbours.{neighbours, AreInOrder, tally}
-use Rattle.drawing.specs.Picture.{IsDrawingOf, drawing_by}
+use Rattle.drawing.specs.Picture.{IsDrawn, IsDrawingOf}
 use Rattle.drawing.specs.Tidy.{IsTidy}
 use Rattle.drawing.proofs.Sorting.{same_tally}
 use Rattle.drawing.proofs.Tidying.{drawing_tidy}
@@ -18,9 +18,9 @@ counts_with p q c = record { providers = p; peers = q; customers = c }
 same_counts : (p q c p' q' c' : Tally) → p ≡ p' → q ≡ q' → c ≡ c' → counts_with p q c ≡ counts_with p' q' c'
 same_counts p q c p' q' c' e f g = ap (λ x. counts_with x q c) e ∙ ap (λ x. counts_with p' x c) f ∙ ap (λ x. counts_with p' q' x) g
 
-pub drawn : (edges : List EdgeLine) (a most : ℕ) (ps qs cs : List Neighbour) → AreInOrder a Group.Providers edges ps → AreInOrder a Group.Peers edges qs → AreInOrder a Group.Customers edges cs →
-    (d : Drawing) → d ≡ drawing_by a most ps qs cs → IsDrawingOf edges a most d
-drawn edges a most ps qs cs p q c d e = record {
+pub drawn_of : (edges : List EdgeLine) (a most depth : ℕ) (ps qs cs : List Neighbour) → AreInOrder a Group.Providers edges ps →
+    AreInOrder a Group.Peers edges qs → AreInOrder a Group.Customers edges cs → (d : Drawing) → IsDrawn edges a most depth ps qs cs d → IsDrawingOf edges a most depth d
+drawn_of edges a most depth ps qs cs p q c d e = record {
   providers = ps;
   peers = qs;
   customers = cs;
@@ -28,9 +28,9 @@ drawn edges a most ps qs cs p q c d e = record {
   peers_are = q;
   customers_are = c;
   is = e;
-  counted = ap (λ x. x.counts) e ∙ same_counts (tally ps) (tally qs) (tally cs) _ _ _
-      (same_tally (neighbours a Group.Providers edges) ps p.same) (same_tally (neighbours a Group.Peers edges) qs q.same) (same_tally (neighbours a Group.Customers edges) cs c.same);
+  counted = ap (λ x. x.counts) e.is ∙ same_counts (tally ps) (tally qs) (tally cs) _ _ _ (same_tally (neighbours a Group.Providers edges) ps p.same)
+      (same_tally (neighbours a Group.Peers edges) qs q.same) (same_tally (neighbours a Group.Customers edges) cs c.same);
 }
 
-pub drawn_tidy : (a most : ℕ) (ps qs cs : List Neighbour) (d : Drawing) → d ≡ drawing_by a most ps qs cs → IsTidy d
-drawn_tidy a most ps qs cs d e = subst IsTidy (sym e) (drawing_tidy a most ps qs cs)
+pub drawn_tidy : (edges : List EdgeLine) (a most depth : ℕ) (ps qs cs : List Neighbour) (d : Drawing) → IsDrawn edges a most depth ps qs cs d → IsTidy d
+drawn_tidy edges a most depth ps qs cs d e = subst IsTidy (sym e.is) (drawing_tidy edges a most ps qs cs e.further)

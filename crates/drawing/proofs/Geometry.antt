@@ -77,7 +77,7 @@ stub_down c r d s (inr (inr (e, inl lt))) = let a : 28 + 96 * c + 40 < 28 + 96 *
 stub_down c r d s (inr (inr (e, inr lt))) = let a : 28 + 96 * d + 80 < 28 + 96 * c + 40 = omega arith in inr (inl (a, a))
 
 -- the row is above, in or below another
-at_most : {c r d s : ℕ} → Differ c r d s → (s ≤ r) ⊎ (r < s)
+pub at_most : {c r d s : ℕ} → Differ c r d s → (s ≤ r) ⊎ (r < s)
 at_most (inl lt) = inr lt
 at_most (inr (inl lt)) = inl (omega arith)
 at_most (inr (inr (e, o))) = inl (omega arith)

@@ -6,10 +6,11 @@ use Rattle.drawing.specs.declared.page.Line.{Line}
 use Rattle.drawing.specs.declared.page.Spot.{Spot}
 use Rattle.drawing.specs.declared.page.Plan.{Plan}
 use Rattle.drawing.specs.Page.{centre_row, first_row_below, row_count, row_y, box_at, column_of, spot_above, spot_beside, spot_below, spot_of}
-use Rattle.drawing.specs.Tidy.{Apart, KeepsOff, Joins, Within, LineWithin}
+use Rattle.drawing.specs.Tidy.{Apart, KeepsOff, KeepsOffOthers, Joins, Within, LineWithin}
 use Rattle.drawing.proofs.Cells.{later_ten, later_eight, row_of_ten, row_of_eight, column_lt_ten, column_in_eight, column_lt, outwards, outwards_lt, outwards_sides}
 use Rattle.drawing.proofs.Geometry.{Differ, other_way, boxes_apart, up_to, left_to, right_to, down_to, up_off, down_off, left_off, right_off, Beside, centre_at}
 use Rattle.drawing.proofs.Geometry.{up_joins, down_joins, left_joins, right_joins, up_off_centre, down_off_centre, left_off_centre, right_off_centre}
+use Rattle.drawing.proofs.Rising.{same_or_not, same_box}
 use Rattle.drawing.proofs.Geometry.{box_within, up_within, down_within, left_within, right_within}
 
 abbrev at_with : Rect → Line → Spot
@@ -61,7 +62,7 @@ fine m n rows c r s lt le (down few from to e) =
       joins = down_joins m c r (omega (arith, lt, from));
     })
 
--- ---- two spots
+-- ---- a spot and a box
 
 -- where the box of a spot stands with regard to the rows beside the centre
 beside_of : (m n rows c r : ℕ) (s : Spot) → Stands m n rows c r s → Beside m n c r
@@ -82,21 +83,48 @@ off m n rows c r d s x (left few from to e) beside o = subst (λ y. KeepsOff y.l
 off m n rows c r d s x (right many few from to e) beside o = subst (λ y. KeepsOff y.line (box_at d s)) (sym e) (right_off m n c r d s from to beside o)
 off m n rows c r d s x (down few from to e) beside o = subst (λ y. KeepsOff y.line (box_at d s)) (sym e) (down_off (row_y m) c r d s o)
 
--- what is said of two
-pub record AreFine (x y : Spot) : Type 0 where
-  pub apart : Apart x.at y.at
-  pub one : KeepsOff x.line y.at
-  pub other : KeepsOff y.line x.at
+-- ---- boxes of the page
 
-pub both_fine : (m n rows c r d s : ℕ) (x y : Spot) → Stands m n rows c r x → Stands m n rows d s y → Differ c r d s → AreFine x y
-both_fine m n rows c r d s x y a b o =
-    let e = sym (box_of m n rows c r x a) in
-    let f = sym (box_of m n rows d s y b) in
-    record {
-      apart = subst (λ z. Apart z y.at) e (subst (λ z. Apart (box_at c r) z) f (boxes_apart c r d s o));
-      one = subst (λ z. KeepsOff x.line z) f (off m n rows c r d s x a (beside_of m n rows d s y b) o);
-      other = subst (λ z. KeepsOff y.line z) e (off m n rows d s c r y b (beside_of m n rows c r x a) (other_way o));
-    }
+-- the box stands in a column and a row, and not in the middle beside the centre
+pub record OnGrid (m n rows : ℕ) (b : Rect) : Type 0 where
+  pub column : ℕ
+  pub row : ℕ
+  pub is : b ≡ box_at column row
+  pub few : column < 10
+  pub within : row < rows
+  pub beside : Beside m n column row
+
+few_columns : (m n rows c r : ℕ) (s : Spot) → Stands m n rows c r s → c < 10
+few_columns m n rows c r s (up few above e) = few
+few_columns m n rows c r s (left few from to e) = omega (arith, few)
+few_columns m n rows c r s (right many few from to e) = few
+few_columns m n rows c r s (down few from to e) = few
+
+few_rows : (m n rows c r : ℕ) (s : Spot) → m < n → n ≤ rows → Stands m n rows c r s → r < rows
+few_rows m n rows c r s lt le (up few above e) = omega (arith, lt, le, above)
+few_rows m n rows c r s lt le (left few from to e) = omega (arith, le, to)
+few_rows m n rows c r s lt le (right many few from to e) = omega (arith, le, to)
+few_rows m n rows c r s lt le (down few from to e) = to
+
+pub on_grid : (m n rows c r : ℕ) (s : Spot) → m < n → n ≤ rows → Stands m n rows c r s → OnGrid m n rows s.at
+on_grid m n rows c r s lt le x = record {
+  column = c;
+  row = r;
+  is = box_of m n rows c r s x;
+  few = few_columns m n rows c r s x;
+  within = few_rows m n rows c r s lt le x;
+  beside = beside_of m n rows c r s x;
+}
+
+pub off_others : (m n rows c r : ℕ) (x : Spot) → Stands m n rows c r x → (o : Rect) → OnGrid m n rows o → KeepsOffOthers x.line (centre_at m) x.at o
+off_others m n rows c r x stands o on =
+    elim (same_or_not c r on.column on.row) [
+      | inl same ↦ inr (inl (on.is ∙ same_box same.0 same.1 ∙ sym (box_of m n rows c r x stands)))
+      | inr other ↦ inr (inr (subst (KeepsOff x.line) (sym on.is) (off m n rows c r on.column on.row x stands on.beside other)))
+    ]
+
+pub grid_apart : (c r d s : ℕ) (b o : Rect) → b ≡ box_at c r → o ≡ box_at d s → Differ c r d s → Apart b o
+grid_apart c r d s b o e f differs = subst (λ x. Apart x o) (sym e) (subst (λ x. Apart (box_at c r) x) (sym f) (boxes_apart c r d s differs))
 
 -- ---- the spots of a plan
 
@@ -215,6 +243,12 @@ differ p k j c r d s lt (below h e few ce re) (below i f few' de se) =
           inr (inr (re ∙ ap (λ q. first_row_below p + q) same ∙ sym se, inl (subst (λ x. x < d) (sym ce) (subst (λ x. column_of 10 p.below h < x) (sym de) cols))))
     ]
 
+-- they stand below the further generations
+pub from_row : (p : Plan) (k c r : ℕ) → Seat p k c r → p.further ≤ r
+from_row p k c r (above few ce re) = let under = row_of_ten k p.above few in omega (arith, re, under)
+from_row p k c r (beside i e few ce re) = omega (arith, re)
+from_row p k c r (below i e few ce re) = omega (arith, re)
+
 -- ---- all of them
 
 pub one_fine : (p : Plan) (k : ℕ) → k < all_boxes p → IsFine (centre_row p) (row_count p) (spot_of p k)
@@ -222,9 +256,30 @@ one_fine p k lt =
     let a = seated p k lt in
     fine (centre_row p) (first_row_below p) (row_count p) a.column a.row (spot_of p k) (omega arith) (omega arith) a.stands
 
-pub two_fine : (p : Plan) (k j : ℕ) → k < j → j < all_boxes p → AreFine (spot_of p k) (spot_of p j)
-two_fine p k j lt few =
+pub one_on_grid : (p : Plan) (k : ℕ) → k < all_boxes p → OnGrid (centre_row p) (first_row_below p) (row_count p) (spot_of p k).at
+one_on_grid p k lt =
+    let a = seated p k lt in
+    on_grid (centre_row p) (first_row_below p) (row_count p) a.column a.row (spot_of p k) (omega arith) (omega arith) a.stands
+
+pub one_off_others : (p : Plan) (k : ℕ) → k < all_boxes p → (o : Rect) → OnGrid (centre_row p) (first_row_below p) (row_count p) o →
+    KeepsOffOthers (spot_of p k).line (centre_at (centre_row p)) (spot_of p k).at o
+one_off_others p k lt =
+    let a = seated p k lt in
+    off_others (centre_row p) (first_row_below p) (row_count p) a.column a.row (spot_of p k) a.stands
+
+pub two_apart : (p : Plan) (k j : ℕ) → k < j → j < all_boxes p → Apart (spot_of p k).at (spot_of p j).at
+two_apart p k j lt few =
     let a = seated p k (omega (arith, lt, few)) in
     let b = seated p j few in
-    both_fine (centre_row p) (first_row_below p) (row_count p) a.column a.row b.column b.row (spot_of p k) (spot_of p j) a.stands b.stands
+    grid_apart a.column a.row b.column b.row (spot_of p k).at (spot_of p j).at
+    (box_of (centre_row p) (first_row_below p) (row_count p) a.column a.row (spot_of p k) a.stands)
+    (box_of (centre_row p) (first_row_below p) (row_count p) b.column b.row (spot_of p j) b.stands)
     (differ p k j a.column a.row b.column b.row lt a.seat b.seat)
+
+-- one of them and a box in a row of a further generation
+pub far_apart : (p : Plan) (k d s : ℕ) → k < all_boxes p → s < p.further → Apart (spot_of p k).at (box_at d s)
+far_apart p k d s lt high =
+    let a = seated p k lt in
+    let from = from_row p k a.column a.row a.seat in
+    grid_apart a.column a.row d s (spot_of p k).at (box_at d s)
+    (box_of (centre_row p) (first_row_below p) (row_count p) a.column a.row (spot_of p k) a.stands) refl (inr (inl (omega (arith, high, from))))

@@ -8,7 +8,7 @@ use Rattle.result_text.specs.declared.file.EdgeLine.{EdgeLine}
 use Rattle.drawing.specs.declared.group.Group.{Group}
 use Rattle.drawing.specs.declared.page.Plan.{Plan}
 use Rattle.drawing.specs.Neighbours.{neighbours}
-use Rattle.drawing.specs.Page.{spot_of, centre_box, page_height}
+use Rattle.drawing.specs.Page.{spot_of, centre_box, page_height, cell_of, box_in, line_between}
 use Rattle.drawing.specs.Picture.{width_of}
 
 abbrev edge : ℕ → ℕ → Label → Mark → ℕ → EdgeLine
@@ -29,7 +29,7 @@ peer : neighbours 20 Group.Peers four ≡ record { number = 40; mark = mark.Open
 peer = refl
 
 abbrev small : Plan
-small = record { above = 1; beside = 1; below = 12 }
+small = record { above = 1; beside = 1; below = 12; further = 0 }
 
 -- the one above stands right of the middle, the twelfth below in the second row
 above : (spot_of small 0).at ≡ record { x = 508; y = 72; width = 80; height = 24 }
@@ -52,3 +52,19 @@ middle = refl
 
 wide : width_of 500 6 ≡ 3
 wide = refl
+
+-- with a further generation of 12 boxes
+abbrev taller : Plan
+taller = record { above = 1; beside = 1; below = 12; further = 2 }
+
+first_above : box_in taller (cell_of 12 1 0) ≡ record { x = 28; y = 132; width = 80; height = 24 }
+first_above = refl
+
+last_above : box_in taller (cell_of 12 1 11) ≡ record { x = 508; y = 72; width = 80; height = 24 }
+last_above = refl
+
+above_them : (spot_of taller 0).at ≡ record { x = 508; y = 192; width = 80; height = 24 }
+above_them = refl
+
+up_left : line_between taller (cell_of 1 0 0) (cell_of 12 1 0) ≡ record { start_x = 508; start_y = 204; trunk_x = 503; rail_y = 175; end_x = 68; end_y = 156 }
+up_left = refl

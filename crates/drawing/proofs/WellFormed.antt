@@ -6,7 +6,7 @@ use Rattle.std.specs.List.{AllByRecursion}
 use Rattle.std.proofs.Math.Nat.{mod-lt}
 use Rattle.std.proofs.lemmas.List.Folds.{list_all-append}
 use Rattle.std.proofs.lemmas.Grind.{flat_map-append}
-use Rattle.std.proofs.lemmas.List.{take_more, append-nil}
+use Rattle.std.proofs.lemmas.List.{take_more, append-nil, map-append}
 use Rattle.std.proofs.lemmas.List.Concat.{flat_map-cons}
 use Rattle.relationships.specs.declared.mark.Mark.{Mark}
 use Rattle.relationships.specs.declared.mark.Mark.TheVariants as mark
@@ -17,9 +17,11 @@ use Rattle.drawing.specs.declared.page.Line.{Line}
 use Rattle.drawing.specs.declared.drawing.Entry.{Entry}
 use Rattle.drawing.specs.declared.drawing.Entry.TheVariants as entry
 use Rattle.drawing.specs.declared.drawing.Item.{Item}
+use Rattle.drawing.specs.declared.drawing.Post.{Post}
+use Rattle.drawing.specs.declared.drawing.Link.{Link}
 use Rattle.drawing.specs.declared.drawing.Drawing.{Drawing}
 use Rattle.drawing.specs.Xml.{Element, is_plain, ArePlain, IsElement, IsDocument, element_text, elements_text}
-use Rattle.drawing.specs.Svg.{rect, point, points, dashes, polyline, text_length, text_at, entry_words, asked_words, tally_words, caption_words, legend_words}
+use Rattle.drawing.specs.Svg.{rect, point, points, mark_dashes, dashes, polyline, link_element, links_elements, post_elements, posts_elements, text_length, text_at, entry_words, asked_words, tally_words, caption_words, legend_words}
 use Rattle.drawing.specs.Svg.{item_elements, items_elements, title_elements, centre_elements, elements_of, extent_words, start_text, page_box, page_attributes, svg_text}
 
 -- ---- plain texts
@@ -76,12 +78,12 @@ plain_points l =
     let plain_b : ArePlain b = plain_append (point l.trunk_x l.start_y) (32 ∷ c) (plain_point l.trunk_x l.start_y) plain_c in
     plain_append (point l.start_x l.start_y) (32 ∷ b) (plain_point l.start_x l.start_y) plain_b
 
+plain_mark : (m : Mark) → ArePlain (mark_dashes m)
+plain_mark mark.Forced = refl
+plain_mark mark.Open = refl
+
 plain_dashes : (e : Entry) → ArePlain (dashes e)
 plain_dashes (entry.One n) = plain_mark n.mark
-  where
-    plain_mark : (m : Mark) → ArePlain (elim m [ mark.Forced ↦ codes "none" | mark.Open ↦ codes "4 3" ])
-    plain_mark mark.Forced = refl
-    plain_mark mark.Open = refl
 plain_dashes (entry.More n) = refl
 
 plain_entry : (e : Entry) → ArePlain (entry_words e)
@@ -122,10 +124,10 @@ rect_is b = record {
   inside = tt;
 }
 
-polyline_is : (i : Item) → IsElement (polyline i)
-polyline_is i = record {
+polyline_is : (l : Line) (width : ℕ) (dashed : List ℕ) → ArePlain dashed → IsElement (polyline l width dashed)
+polyline_is l width dashed plain = record {
   named = refl;
-  attributes = ((refl, plain_points i.line), ((refl, refl), ((refl, plain_decimal i.width), ((refl, plain_dashes i.entry), tt))));
+  attributes = ((refl, plain_points l), ((refl, refl), ((refl, plain_decimal width), ((refl, plain), tt))));
   once = refl;
   inside = tt;
 }
@@ -146,13 +148,27 @@ items_are : (items : List Item) → AllByRecursion IsElement (items_elements ite
 items_are [] = tt
 items_are (i ∷ items) =
     subst (AllByRecursion IsElement) (sym (flat_map-cons item_elements i items))
-    (all_append (item_elements i) (items_elements items) (polyline_is i, (rect_is i.at, (text_is (i.at.x + i.at.width / 2) (i.at.y + 17) (i.at.width - 8) (entry_words i.entry) (plain_entry i.entry), tt))) (items_are items))
+    (all_append (item_elements i) (items_elements items) (polyline_is i.line i.width (dashes i.entry) (plain_dashes i.entry), (rect_is i.at, (text_is (i.at.x + i.at.width / 2) (i.at.y + 17) (i.at.width - 8) (entry_words i.entry) (plain_entry i.entry), tt))) (items_are items))
+
+posts_are : (posts : List Post) → AllByRecursion IsElement (posts_elements posts)
+posts_are [] = tt
+posts_are (q ∷ posts) =
+    subst (AllByRecursion IsElement) (sym (flat_map-cons post_elements q posts))
+    (all_append (post_elements q) (posts_elements posts)
+    (rect_is q.at, (text_is (q.at.x + q.at.width / 2) (q.at.y + 17) (q.at.width - 8) (entry_words q.entry) (plain_entry q.entry), tt)) (posts_are posts))
+
+links_are : (links : List Link) → AllByRecursion IsElement (links_elements links)
+links_are [] = tt
+links_are (l ∷ links) = (polyline_is l.line l.width (mark_dashes l.mark) (plain_mark l.mark), links_are links)
 
 title_is : (d : Drawing) → AllByRecursion IsElement (title_elements d)
 title_is d = (rect_is (page_box d.height), (text_is 500 26 960 (caption_words d.asked d.counts) (plain_caption d.asked d.counts), (text_is 500 46 960 legend_words refl, tt)))
 
 centre_is : (d : Drawing) → AllByRecursion IsElement (centre_elements d)
 centre_is d = (rect_is d.centre, (text_is (d.centre.x + d.centre.width / 2) (d.centre.y + 17) (d.centre.width - 8) (asked_words d.asked) (plain_asked d.asked), tt))
+
+abbrev above_elements : Drawing → List Element
+above_elements d = links_elements d.links ++ posts_elements d.posts
 
 pub picture_well_formed : (d : Drawing) → IsDocument (codes "svg") (svg_text d)
 picture_well_formed d = record {
@@ -167,8 +183,10 @@ picture_well_formed d = record {
     ),
   );
   once = refl;
-  each = all_append (title_elements d) (centre_elements d ++ items_elements d.items) (title_is d)
-      (all_append (centre_elements d) (items_elements d.items) (centre_is d) (items_are d.items));
+  each = all_append (title_elements d) (centre_elements d ++ (items_elements d.items ++ above_elements d)) (title_is d)
+      (all_append (centre_elements d) (items_elements d.items ++ above_elements d) (centre_is d)
+      (all_append (items_elements d.items) (above_elements d) (items_are d.items)
+      (all_append (links_elements d.links) (posts_elements d.posts) (links_are d.links) (posts_are d.posts))));
   is = refl;
 }
 
@@ -178,22 +196,43 @@ elements_text-append : (xs ys : List Element) → elements_text (xs ++ ys) ≡ e
 elements_text-append [] ys = refl
 elements_text-append (x ∷ xs) ys = ap (λ t. element_text x ++ t) (elements_text-append xs ys) ∙ sym (append_assoc (element_text x) (elements_text xs) (elements_text ys))
 
-pub picture_parts : (d : Drawing) → svg_text d ≡ start_text (extent_words d.height) ++ (elements_text (title_elements d) ++ (elements_text (centre_elements d) ++ (elements_text (items_elements d.items) ++ codes "</svg>\n")))
-picture_parts d =
-    ap (λ t. start_text (extent_words d.height) ++ (t ++ codes "</svg>\n"))
-    (elements_text-append (title_elements d) (centre_elements d ++ items_elements d.items)
-    ∙ ap (λ t. elements_text (title_elements d) ++ t) (elements_text-append (centre_elements d) (items_elements d.items)))
-    ∙ ap (λ t. start_text (extent_words d.height) ++ t)
-    (append_assoc (elements_text (title_elements d)) (elements_text (centre_elements d) ++ elements_text (items_elements d.items)) (codes "</svg>\n")
-    ∙ ap (λ t. elements_text (title_elements d) ++ t) (append_assoc (elements_text (centre_elements d)) (elements_text (items_elements d.items)) (codes "</svg>\n")))
+-- the text of elements and of others, and then the end
+then_text : (xs ys : List Element) (end : List ℕ) → elements_text (xs ++ ys) ++ end ≡ elements_text xs ++ (elements_text ys ++ end)
+then_text xs ys end = ap (λ t. t ++ end) (elements_text-append xs ys) ∙ append_assoc (elements_text xs) (elements_text ys) end
 
--- one item more
+pub picture_parts : (d : Drawing) → svg_text d ≡ start_text (extent_words d.height) ++ (elements_text (title_elements d) ++ (elements_text (centre_elements d)
+    ++ (elements_text (items_elements d.items) ++ (elements_text (links_elements d.links) ++ (elements_text (posts_elements d.posts) ++ codes "</svg>\n")))))
+picture_parts d =
+    let end = codes "</svg>\n" in
+    let items = items_elements d.items in
+    ap (λ t. start_text (extent_words d.height) ++ t)
+    (then_text (title_elements d) (centre_elements d ++ (items ++ above_elements d)) end
+    ∙ ap (λ t. elements_text (title_elements d) ++ t) (then_text (centre_elements d) (items ++ above_elements d) end
+    ∙ ap (λ t. elements_text (centre_elements d) ++ t) (then_text items (above_elements d) end
+    ∙ ap (λ t. elements_text items ++ t) (then_text (links_elements d.links) (posts_elements d.posts) end))))
+
+-- one more
+more_text : {X : Type 0} (f : X → List Element) (xs : List X) (k : ℕ) (d : X) → k < length xs →
+    elements_text (flat_map f (take (k + 1) xs)) ≡ elements_text (flat_map f (take k xs)) ++ elements_text (f (get_or xs k d))
+more_text f xs k d lt =
+    ap (λ ys. elements_text (flat_map f ys)) (take_more xs k d lt)
+    ∙ ap elements_text (flat_map-append f (take k xs) (get_or xs k d ∷ []) ∙ ap (λ ys. flat_map f (take k xs) ++ ys) (flat_map_one f (get_or xs k d)))
+    ∙ elements_text-append (flat_map f (take k xs)) (f (get_or xs k d))
+  where
+    flat_map_one : {X : Type 0} (f : X → List Element) (x : X) → flat_map f (x ∷ []) ≡ f x
+    flat_map_one f x = flat_map-cons f x [] ∙ append-nil (f x)
+
 pub items_text_more : (items : List Item) (k : ℕ) (d : Item) → k < length items →
     elements_text (items_elements (take (k + 1) items)) ≡ elements_text (items_elements (take k items)) ++ elements_text (item_elements (get_or items k d))
-items_text_more items k d lt =
-    ap (λ xs. elements_text (items_elements xs)) (take_more items k d lt)
-    ∙ ap elements_text (flat_map-append item_elements (take k items) (get_or items k d ∷ []) ∙ ap (λ xs. items_elements (take k items) ++ xs) (flat_map_one (get_or items k d)))
-    ∙ elements_text-append (items_elements (take k items)) (item_elements (get_or items k d))
-  where
-    flat_map_one : (x : Item) → flat_map item_elements (x ∷ []) ≡ item_elements x
-    flat_map_one x = flat_map-cons item_elements x [] ∙ append-nil (item_elements x)
+items_text_more items k d lt = more_text item_elements items k d lt
+
+pub posts_text_more : (posts : List Post) (k : ℕ) (d : Post) → k < length posts →
+    elements_text (posts_elements (take (k + 1) posts)) ≡ elements_text (posts_elements (take k posts)) ++ elements_text (post_elements (get_or posts k d))
+posts_text_more posts k d lt = more_text post_elements posts k d lt
+
+pub links_text_more : (links : List Link) (k : ℕ) (d : Link) → k < length links →
+    elements_text (links_elements (take (k + 1) links)) ≡ elements_text (links_elements (take k links)) ++ elements_text (links_elements (get_or links k d ∷ []))
+links_text_more links k d lt =
+    ap (λ ls. elements_text (links_elements ls)) (take_more links k d lt)
+    ∙ ap elements_text (map-append link_element (take k links) (get_or links k d ∷ []))
+    ∙ elements_text-append (links_elements (take k links)) (links_elements (get_or links k d ∷ []))

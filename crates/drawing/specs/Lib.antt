@@ -1,7 +1,11 @@
+pub mod Entries
+pub mod Generations
 pub mod Neighbours
 pub mod Order
 pub mod Page
 pub mod Picture
+pub mod Shifted
 pub mod Svg
 pub mod Tidy
+pub mod Tower
 pub mod Xml

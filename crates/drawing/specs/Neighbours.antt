@@ -1,5 +1,5 @@
 -- The neighbours of an AS, by what they are to it, as the edges of a result say.
-use Rattle.std.specs.Prelude.{◌≡◌, ℕ, ◌<◌, ◌≤◌, ◌⊎◌, Bool, true, false, ◌==◌, List, length, map}
+use Rattle.std.specs.Prelude.{◌≡◌, ℕ, ◌<◌, ◌≤◌, ◌⊎◌, Bool, true, false, ◌==◌, List, [], ◌∷◌, ◌++◌, length, map}
 use Rattle.std.specs.Prelude.{filter, count_by, Option, Some, None, if◌then◌else◌}
 use Rattle.std.specs.List.{AllPairs}
 use Rattle.std.specs.List.Sorted.{IsPermutation}
@@ -55,6 +55,11 @@ NotAfter n m = (m.support < n.support) ⊎ ((m.support ≡ n.support) × (n.numb
 pub record AreInOrder (a : ℕ) (g : Group) (edges : List EdgeLine) (ns : List Neighbour) : Type 0 where
   pub same : IsPermutation (neighbours a g edges) ns
   pub sorted : AllPairs NotAfter ns
+
+-- the numbers of an AS and of its neighbours
+abbrev pub near_numbers : ℕ → List Neighbour → List Neighbour → List Neighbour → List ℕ
+near_numbers a providers peers customers =
+    a ∷ [] ++ map (λ n. n.number) providers ++ map (λ n. n.number) peers ++ map (λ n. n.number) customers
 
 -- ---- how many there are
 

@@ -1,11 +1,12 @@
 -- Where boxes and lines stand on the page. It is 1000 units wide; x grows to the right and y downwards. Boxes stand in rows and columns,
 -- which are numbered from 0 on: ten columns with gutters between them, and gaps between the rows. Lines run in the gutters and gaps alone:
 -- the one in the middle of the page, between columns 4 and 5, is the trunk of the lines up and down.
-use Rattle.std.specs.Prelude.{ℕ, ◌+◌, ◌-◌, ◌*◌, ◌/◌, ◌%◌, ◌≤◌, min, max, nat_lt, if◌then◌else◌}
+use Rattle.std.specs.Prelude.{ℕ, ◌+◌, ◌-◌, ◌*◌, ◌/◌, ◌%◌, ◌<◌, ◌≤◌, min, max, nat_lt, if◌then◌else◌}
 use Rattle.drawing.specs.declared.page.Rect.{Rect}
 use Rattle.drawing.specs.declared.page.Line.{Line}
 use Rattle.drawing.specs.declared.page.Spot.{Spot}
 use Rattle.drawing.specs.declared.page.Plan.{Plan}
+use Rattle.drawing.specs.declared.page.Cell.{Cell}
 
 -- ---- rows and columns
 
@@ -22,9 +23,10 @@ box_at c r = record { x = column_x c; y = row_y r; width = 80; height = 24 }
 abbrev pub rows_of : ℕ → ℕ → ℕ
 rows_of k n = (n + (k - 1)) / k
 
--- ten boxes stand in a row above and below, and eight beside, where columns 4 and 5 stay free for the box in the centre
+-- ten boxes stand in a row above and below, and eight beside, where columns 4 and 5 stay free for the box in the centre; further
+-- generations stand in rows of their own above those
 abbrev pub centre_row : Plan → ℕ
-centre_row p = rows_of 10 p.above
+centre_row p = p.further + rows_of 10 p.above
 
 abbrev pub first_row_below : Plan → ℕ
 first_row_below p = centre_row p + max 1 (rows_of 8 p.beside)
@@ -118,8 +120,37 @@ spot_of p k =
     if nat_lt k (p.above + p.beside) then spot_beside p (k - p.above) else
     spot_below p (k - (p.above + p.beside)))
 
+-- ---- cells above the centre: a column, and the rank of a row, which is 0 right above the centre and rises upwards
+
+-- the cell of box i of n of a generation whose first row has this rank
+abbrev pub cell_of : ℕ → ℕ → ℕ → Cell
+cell_of n rank i = record { column = column_of 10 n i; rank = rank + i / 10 }
+
+-- it is one of a page with so many rows above the centre
+abbrev pub IsCell : ℕ → Cell → Type 0
+IsCell rows c = (c.column < 10) × (c.rank < rows)
+
+abbrev pub cell_row : Plan → Cell → ℕ
+cell_row p c = centre_row p - 1 - c.rank
+
+abbrev pub box_in : Plan → Cell → Rect
+box_in p c = box_at c.column (cell_row p c)
+
+-- from the left or the right side of the box in one cell, in the gutter beside it, to the lower side of the box in a cell above it. The
+-- lines from the two sides of a gutter, and from different columns to one row, run beside each other
+abbrev pub line_between : Plan → Cell → Cell → Line
+line_between p lower upper = record {
+  start_x = if nat_lt lower.column upper.column then column_x lower.column + 80 else column_x lower.column;
+  start_y = row_y (cell_row p lower) + 12;
+  trunk_x = if nat_lt lower.column upper.column then column_x lower.column + 85 else column_x lower.column - 5;
+  rail_y = row_y (cell_row p upper) + 28 + 3 * lower.column;
+  end_x = column_x upper.column + 40;
+  end_y = row_y (cell_row p upper) + 24;
+}
+
 -- so few boxes that no number of the page leaves its type
 pub record IsSmall (p : Plan) : Type 0 where
+  pub further : p.further ≤ 1608
   pub above : p.above ≤ 2001
   pub beside : p.beside ≤ 2001
   pub below : p.below ≤ 2001

@@ -1,20 +1,23 @@
 -- The picture of one AS with its neighbours, as data.
-use Rattle.std.specs.Prelude.{◌≡◌, ℕ, ◌-◌, ◌/◌, List, [], ◌∷◌, ◌++◌, length, map, take, max, fold, nat_lt, nat_le, if◌then◌else◌}
+use Rattle.std.specs.Prelude.{◌≡◌, ℕ, ◌-◌, ◌/◌, List, ◌++◌, length, map, max, fold, nat_le, if◌then◌else◌}
 use Rattle.std.specs.List.{enumerate_from}
 use Rattle.result_text.specs.declared.file.EdgeLine.{EdgeLine}
 use Rattle.drawing.specs.declared.group.Group.{Group}
 use Rattle.drawing.specs.declared.group.Neighbour.{Neighbour}
+use Rattle.drawing.specs.declared.group.Counts.{Counts}
 use Rattle.drawing.specs.declared.page.Plan.{Plan}
+use Rattle.drawing.specs.declared.tower.Perch.{Perch}
+use Rattle.drawing.specs.declared.tower.Tie.{Tie}
 use Rattle.drawing.specs.declared.drawing.Entry.{Entry}
 use Rattle.drawing.specs.declared.drawing.Entry.TheVariants as entry
 use Rattle.drawing.specs.declared.drawing.Item.{Item}
+use Rattle.drawing.specs.declared.drawing.Post.{Post}
+use Rattle.drawing.specs.declared.drawing.Link.{Link}
 use Rattle.drawing.specs.declared.drawing.Drawing.{Drawing}
-use Rattle.drawing.specs.Neighbours.{AreInOrder, counts_of, tally}
-use Rattle.drawing.specs.Page.{spot_of, centre_box, page_height}
-
--- what the boxes of a group stand for: the first so many neighbours, and how many more there are, if there are any
-abbrev pub entries_of : ℕ → List Neighbour → List Entry
-entries_of most ns = map (λ n. entry.One n) (take most ns) ++ (if nat_lt most (length ns) then entry.More (length ns - most) ∷ [] else [])
+use Rattle.drawing.specs.Neighbours.{AreInOrder, counts_of, tally, near_numbers}
+use Rattle.drawing.specs.Entries.{entries_of}
+use Rattle.drawing.specs.Generations.{AreGenerations, rank_above, perches, ties}
+use Rattle.drawing.specs.Page.{rows_of, spot_of, centre_box, page_height, box_in, line_between}
 
 -- ---- the width of a line
 
@@ -25,6 +28,10 @@ support_of (entry.More n) = 0
 -- the greatest support of those that are drawn
 abbrev pub greatest_support : List Entry → ℕ
 greatest_support entries = fold (λ s e. max s (support_of e)) 0 entries
+
+-- and of those and these lines
+abbrev pub greatest_of : List Entry → List Tie → ℕ
+greatest_of entries lines = fold (λ s t. max s t.support) (greatest_support entries) lines
 
 -- 1 for a support of up to 1, 2 up to a hundredth of the greatest, and 3 above
 abbrev pub width_of : ℕ → ℕ → ℕ
@@ -40,34 +47,76 @@ item_of p greatest (k, e) = record {
   width = width_of greatest (support_of e);
 }
 
-abbrev pub items_of : Plan → List Entry → List Item
-items_of p entries = map (item_of p (greatest_support entries)) (enumerate_from 0 entries)
+abbrev pub items_of : Plan → ℕ → List Entry → List Item
+items_of p greatest entries = map (item_of p greatest) (enumerate_from 0 entries)
 
-abbrev pub plan_of : List Entry → List Entry → List Entry → Plan
-plan_of above beside below = record { above = length above; beside = length beside; below = length below }
+-- a box of a further generation, and a line to one
+abbrev pub post_of : Plan → Perch → Post
+post_of p q = record { entry = q.entry; at = box_in p q.cell }
 
--- the picture of AS a with these neighbours: its providers stand above it, its peers beside it and its customers below
-abbrev pub drawing_by : ℕ → ℕ → List Neighbour → List Neighbour → List Neighbour → Drawing
-drawing_by a most providers peers customers =
+abbrev pub link_of : Plan → ℕ → Tie → Link
+link_of p greatest t = record {
+  lower = box_in p t.lower;
+  upper = box_in p t.upper;
+  line = line_between p t.lower t.upper;
+  mark = t.mark;
+  width = width_of greatest t.support;
+}
+
+-- with so many rows above the centre
+abbrev pub plan_of : List Entry → List Entry → List Entry → ℕ → Plan
+plan_of above beside below rows = record {
+  above = length above;
+  beside = length beside;
+  below = length below;
+  further = rows - rows_of 10 (length above);
+}
+
+-- the picture with these boxes and lines
+abbrev pub drawing_with : ℕ → Counts → Plan → List Entry → List Perch → List Tie → Drawing
+drawing_with a counts p entries boxes lines =
+    let greatest = greatest_of entries lines in
+    record {
+      asked = a;
+      counts = counts;
+      height = page_height p;
+      centre = centre_box p;
+      items = items_of p greatest entries;
+      posts = map (post_of p) boxes;
+      links = map (link_of p greatest) lines;
+    }
+
+-- the picture of AS a with these neighbours, and so many rows with these boxes and lines above it: its providers stand above it, its peers
+-- beside it and its customers below
+abbrev pub drawing_from : ℕ → ℕ → List Neighbour → List Neighbour → List Neighbour → ℕ → List Perch → List Tie → Drawing
+drawing_from a most providers peers customers rows boxes lines =
     let above = entries_of most providers in
     let beside = entries_of most peers in
     let below = entries_of most customers in
-    let p = plan_of above beside below in
-    record {
-      asked = a;
-      counts = record { providers = tally providers; peers = tally peers; customers = tally customers };
-      height = page_height p;
-      centre = centre_box p;
-      items = items_of p (above ++ (beside ++ below));
-    }
+    let counts : Counts = record { providers = tally providers; peers = tally peers; customers = tally customers } in
+    drawing_with a counts (plan_of above beside below rows) (above ++ (beside ++ below)) boxes lines
 
--- d is the picture of AS a after the edges, with so many neighbours of each group at most, and its counts are those of the edges
-pub record IsDrawingOf (edges : List EdgeLine) (a most : ℕ) (d : Drawing) : Type 0 where
+-- the same with these generations above its providers
+abbrev pub drawing_by : List EdgeLine → ℕ → ℕ → List Neighbour → List Neighbour → List Neighbour → List (List Neighbour) → Drawing
+drawing_by edges a most providers peers customers further =
+    drawing_from a most providers peers customers
+    (rank_above most providers further) (perches most providers further) (ties edges most providers further)
+
+-- d is the picture of AS a with these neighbours, and with generations after the edges up to the depth
+pub record IsDrawn (edges : List EdgeLine) (a most depth : ℕ) (providers peers customers : List Neighbour) (d : Drawing) : Type 0 where
+  pub further : List (List Neighbour)
+  pub are : AreGenerations edges most providers (near_numbers a providers peers customers) further
+  pub deep : length further ≡ depth - 1
+  pub is : d ≡ drawing_by edges a most providers peers customers further
+
+-- d is the picture of AS a after the edges, with so many neighbours of each group and so many ASes of each generation at most, and with
+-- generations of providers up to the depth; its counts are those of the edges
+pub record IsDrawingOf (edges : List EdgeLine) (a most depth : ℕ) (d : Drawing) : Type 0 where
   pub providers : List Neighbour
   pub peers : List Neighbour
   pub customers : List Neighbour
   pub providers_are : AreInOrder a Group.Providers edges providers
   pub peers_are : AreInOrder a Group.Peers edges peers
   pub customers_are : AreInOrder a Group.Customers edges customers
-  pub is : d ≡ drawing_by a most providers peers customers
+  pub is : IsDrawn edges a most depth providers peers customers d
   pub counted : d.counts ≡ counts_of a edges

@@ -1,6 +1,7 @@
 -- The text of a picture: SVG 1.1 (W3C), of the elements rect, polyline and text alone.
-use Rattle.std.specs.Prelude.{ℕ, ◌+◌, ◌-◌, ◌*◌, ◌/◌, ◌^◌, ◌<◌, List, [], ◌∷◌, ◌++◌, length, min, flat_map, codes, Some, None}
+use Rattle.std.specs.Prelude.{ℕ, ◌+◌, ◌-◌, ◌*◌, ◌/◌, ◌^◌, ◌<◌, List, [], ◌∷◌, ◌++◌, length, min, map, flat_map, codes, Some, None}
 use Rattle.std.specs.Fmt.{decimal}
+use Rattle.relationships.specs.declared.mark.Mark.{Mark}
 use Rattle.relationships.specs.declared.mark.Mark.TheVariants as mark
 use Rattle.drawing.specs.declared.group.Tally.{Tally}
 use Rattle.drawing.specs.declared.group.Counts.{Counts}
@@ -9,6 +10,8 @@ use Rattle.drawing.specs.declared.page.Line.{Line}
 use Rattle.drawing.specs.declared.drawing.Entry.{Entry}
 use Rattle.drawing.specs.declared.drawing.Entry.TheVariants as entry
 use Rattle.drawing.specs.declared.drawing.Item.{Item}
+use Rattle.drawing.specs.declared.drawing.Post.{Post}
+use Rattle.drawing.specs.declared.drawing.Link.{Link}
 use Rattle.drawing.specs.declared.drawing.Drawing.{Drawing}
 use Rattle.drawing.specs.Xml.{Attribute, Element, tag_text, document}
 
@@ -41,16 +44,20 @@ points l =
     point l.start_x l.start_y ++ (32 ∷ (point l.trunk_x l.start_y ++ (32 ∷ (point l.trunk_x l.rail_y ++ (32 ∷ (point l.end_x l.rail_y
     ++ (32 ∷ point l.end_x l.end_y)))))))
 
--- solid where the edge is forced, dashed where it is open, and dotted where it leads to those that are left out
+-- solid where the edge is forced, and dashed where it is open
+abbrev pub mark_dashes : Mark → List ℕ
+mark_dashes m = elim m [ mark.Forced ↦ codes "none" | mark.Open ↦ codes "4 3" ]
+
+-- and dotted where it leads to those that are left out
 abbrev pub dashes : Entry → List ℕ
-dashes (entry.One n) = elim n.mark [ mark.Forced ↦ codes "none" | mark.Open ↦ codes "4 3" ]
+dashes (entry.One n) = mark_dashes n.mark
 dashes (entry.More n) = codes "1 3"
 
-abbrev pub polyline : Item → Element
-polyline i = record {
+abbrev pub polyline : Line → ℕ → List ℕ → Element
+polyline l width dashed = record {
   name = codes "polyline";
-  attributes = word_of (codes "points") (points i.line) ∷ word_of (codes "fill") (codes "none") ∷ number_of (codes "stroke-width") i.width
-      ∷ word_of (codes "stroke-dasharray") (dashes i.entry) ∷ [];
+  attributes = word_of (codes "points") (points l) ∷ word_of (codes "fill") (codes "none") ∷ number_of (codes "stroke-width") width
+      ∷ word_of (codes "stroke-dasharray") dashed ∷ [];
   inner = None;
 }
 
@@ -101,10 +108,24 @@ legend_words = codes "solid: the label is forced; dashed: it is open, as it alwa
 -- ---- the whole
 
 abbrev pub item_elements : Item → List Element
-item_elements i = polyline i ∷ rect i.at ∷ text_in i.at (entry_words i.entry) ∷ []
+item_elements i = polyline i.line i.width (dashes i.entry) ∷ rect i.at ∷ text_in i.at (entry_words i.entry) ∷ []
 
 abbrev pub items_elements : List Item → List Element
 items_elements items = flat_map item_elements items
+
+-- a box of a further generation
+abbrev pub post_elements : Post → List Element
+post_elements q = rect q.at ∷ text_in q.at (entry_words q.entry) ∷ []
+
+abbrev pub posts_elements : List Post → List Element
+posts_elements posts = flat_map post_elements posts
+
+-- a line to one
+abbrev pub link_element : Link → Element
+link_element l = polyline l.line l.width (mark_dashes l.mark)
+
+abbrev pub links_elements : List Link → List Element
+links_elements links = map link_element links
 
 abbrev pub page_box : ℕ → Rect
 page_box height = record { x = 0; y = 0; width = 1000; height = height }
@@ -119,7 +140,7 @@ abbrev pub centre_elements : Drawing → List Element
 centre_elements d = rect d.centre ∷ text_in d.centre (asked_words d.asked) ∷ []
 
 abbrev pub elements_of : Drawing → List Element
-elements_of d = title_elements d ++ (centre_elements d ++ items_elements d.items)
+elements_of d = title_elements d ++ (centre_elements d ++ (items_elements d.items ++ (links_elements d.links ++ posts_elements d.posts)))
 
 -- what part of the plane the page shows
 abbrev pub extent_words : ℕ → List ℕ

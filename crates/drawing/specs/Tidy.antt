@@ -1,5 +1,5 @@
 -- What makes a picture readable: boxes that keep apart, and lines that keep off the boxes that they do not join.
-use Rattle.std.specs.Prelude.{◌≡◌, ℕ, ◌+◌, ◌<◌, ◌≤◌, ◌⊎◌, All}
+use Rattle.std.specs.Prelude.{◌≡◌, ℕ, ◌+◌, ◌<◌, ◌≤◌, ◌⊎◌, List, ◌∷◌, ◌++◌, map, All}
 use Rattle.std.specs.List.{AllPairs}
 use Rattle.drawing.specs.declared.page.Rect.{Rect}
 use Rattle.drawing.specs.declared.page.Line.{Line}
@@ -59,15 +59,24 @@ pub record Joins (l : Line) (b c : Rect) : Type 0 where
 abbrev pub LineWithin : ℕ → Line → Type 0
 LineWithin height l = AllParts (λ x y u v. (x ≤ page_width) × (u ≤ page_width) × (y ≤ height) × (v ≤ height)) l
 
+-- the line keeps off the box, unless it is one of these two
+abbrev pub KeepsOffOthers : Line → Rect → Rect → Rect → Type 0
+KeepsOffOthers l b c o = (o ≡ b) ⊎ ((o ≡ c) ⊎ KeepsOff l o)
+
+abbrev pub boxes_of : Drawing → List Rect
+boxes_of d = d.centre ∷ (map (λ i. i.at) d.items ++ map (λ q. q.at) d.posts)
+
 pub record IsTidy (d : Drawing) : Type 0 where
   -- all boxes and lines lie on the page
   pub centre_within : Within d.height d.centre
   pub boxes_within : All (λ i. Within d.height i.at) d.items
+  pub posts_within : All (λ q. Within d.height q.at) d.posts
   pub lines_within : All (λ i. LineWithin d.height i.line) d.items
+  pub links_within : All (λ l. LineWithin d.height l.line) d.links
   -- no two boxes have a point in common
-  pub off_centre : All (λ i. Apart d.centre i.at) d.items
-  pub apart : AllPairs (λ i j. Apart i.at j.at) d.items
-  -- each line joins the centre with its own box, and keeps off all others
+  pub apart : AllPairs Apart (boxes_of d)
+  -- each line joins its two boxes, of which the centre is one for a neighbour, and keeps off all others
   pub joining : All (λ i. Joins i.line d.centre i.at) d.items
-  pub off_later : AllPairs (λ i j. KeepsOff i.line j.at) d.items
-  pub off_earlier : AllPairs (λ i j. KeepsOff j.line i.at) d.items
+  pub links_joining : All (λ l. Joins l.line l.lower l.upper) d.links
+  pub keeping_off : All (λ i. All (KeepsOffOthers i.line d.centre i.at) (boxes_of d)) d.items
+  pub links_keeping_off : All (λ l. All (KeepsOffOthers l.line l.lower l.upper) (boxes_of d)) d.links

@@ -1,19 +1,23 @@
 //! The picture as data.
-ghost use Rattle.std.specs.Prelude.{◌≡◌, ◌+◌, ◌<◌, ◌≤◌, ◌^◌, [], ◌++◌, length, map, OnOk, IfOk};
+ghost use Rattle.std.specs.Prelude.{◌≡◌, ◌+◌, ◌<◌, ◌≤◌, ◌^◌, [], ◌++◌, length, map, All, OnOk, IfOk};
 ghost use Rattle.drawing.specs.declared.group.Group.{Group};
 ghost use Rattle.drawing.specs.declared.drawing.Entry.TheVariants as entry;
+ghost use Rattle.drawing.specs.Entries.{entries_of};
+ghost use Rattle.drawing.specs.Generations.{rows_with};
 ghost use Rattle.drawing.specs.Neighbours.{AreInOrder, tally};
-ghost use Rattle.drawing.specs.Page.{IsSmall};
-ghost use Rattle.drawing.specs.Picture.{IsDrawingOf, entries_of, greatest_support, width_of, support_of, item_of};
-ghost use Rattle.drawing.specs.Picture.{items_of, plan_of, drawing_by};
+ghost use Rattle.drawing.specs.Page.{IsSmall, IsCell, centre_row};
+ghost use Rattle.drawing.specs.Picture.{IsDrawingOf, IsDrawn, greatest_support, greatest_of, width_of, support_of, item_of};
+ghost use Rattle.drawing.specs.Picture.{items_of, post_of, link_of, plan_of, drawing_with, drawing_from};
 ghost use Rattle.drawing.specs.Tidy.{IsTidy};
 
 use crate::group::{Counts, Group, Neighbour};
 use crate::neighbours::{ordered, tally};
-use crate::page::{Line, Plan, Rect};
+use crate::page::{Line, Plan, Rect, rows_of_ten};
+use crate::tower::{Perch, Tie, Tower, tower_of};
+use relationships::Mark;
 use result_text::EdgeLine;
 use std::alloc::Global;
-use tor_arena::{List, NoMemory};
+use tor_arena::{Keys, List, NoMemory};
 
 /// What a box stands for.
 #[derive(Clone, Copy)]
@@ -37,7 +41,31 @@ pub struct Item {
     pub width: u64,
 }
 
-/// The picture of one AS with its neighbours.
+/// A box of a further generation of providers.
+#[derive(Clone, Copy)]
+pub struct Post {
+    /// What the box stands for. An AS is a neighbour by an edge to one that is drawn below it, of the greatest support.
+    pub entry: Entry,
+    /// Where the box stands.
+    pub at: Rect,
+}
+
+/// A line from an AS that is drawn up to its provider in the next generation.
+#[derive(Clone, Copy)]
+pub struct Link {
+    /// The box of the customer.
+    pub lower: Rect,
+    /// The box of the provider.
+    pub upper: Rect,
+    /// The line.
+    pub line: Line,
+    /// Whether the label of the edge could be another one.
+    pub mark: Mark,
+    /// How wide the line is: 1, 2 or 3, by the support of the edge.
+    pub width: u64,
+}
+
+/// The picture of one AS with its neighbours, and with providers above them.
 #[derive(Drop)]
 pub struct Drawing {
     /// The AS.
@@ -50,6 +78,10 @@ pub struct Drawing {
     pub centre: Rect,
     /// The boxes of its providers, of its peers and of its customers, in this order.
     pub items: List<Item>,
+    /// The boxes of further generations of providers.
+    pub posts: List<Post>,
+    /// The lines to them.
+    pub links: List<Link>,
 }
 
 // Puts a box for each neighbour at the end.
@@ -62,8 +94,8 @@ fn put_neighbours(entries: &mut Vec<Entry>, neighbours: &[Neighbour]) -> Result<
     Ok(())
 }
 
-// Puts what the boxes of a group stand for at the end.
-fn put_entries(
+/// Puts what the boxes of a group or a generation stand for at the end.
+pub(crate) fn put_entries(
     entries: &mut Vec<Entry>,
     neighbours: &[Neighbour],
     most: usize,
@@ -99,6 +131,17 @@ fn greatest_support(entries: &[Entry]) -> u64
     greatest
 }
 
+// The greatest support of all of these, and of these lines.
+fn greatest_of(entries: &[Entry], lines: &[Tie]) -> u64
+    ensures { result ≡ greatest_of entries.now lines.now }
+{
+    let mut greatest = greatest_support(entries);
+    for line in lines {
+        greatest = greatest.max(line.support);
+    }
+    greatest
+}
+
 // How wide the line of an edge of this support is.
 fn width_of(greatest: u64, support: u64) -> u64
     ensures { result ≡ width_of greatest support }
@@ -128,12 +171,16 @@ fn item_of(plan: &Plan, greatest: u64, place: usize, entry: &Entry) -> Item
 }
 
 // The items of all entries.
-fn items_of(alloc: Global, plan: &Plan, entries: &[Entry]) -> Result<List<Item>, NoMemory>
+fn items_of(
+    alloc: Global,
+    plan: &Plan,
+    greatest: u64,
+    entries: &[Entry],
+) -> Result<List<Item>, NoMemory>
     requires small { IsSmall plan.now }
     requires all { length entries.now ≡ plan.now.above + plan.now.beside + plan.now.below }
-    ensures { IfOk result (λ items. items ≡ items_of plan.now entries.now) }
+    ensures { IfOk result (λ items. items ≡ items_of plan.now greatest entries.now) }
 {
-    let greatest = greatest_support(entries);
     let mut items = Vec::with_capacity(alloc, entries.len())?;
     for place in 0..entries.len() {
         items.push(item_of(plan, greatest, place, &entries[place]))?;
@@ -141,12 +188,67 @@ fn items_of(alloc: Global, plan: &Plan, entries: &[Entry]) -> Result<List<Item>,
     Ok(List::from_vec(items))
 }
 
-// The neighbours of an AS by group, each group in its order.
+// A box of a further generation.
+fn post_of(plan: &Plan, perch: &Perch) -> Post
+    requires small { IsSmall plan.now }
+    requires there { IsCell (centre_row plan.now) perch.now.cell }
+    ensures { result ≡ post_of plan.now perch.now }
+{
+    Post {
+        entry: perch.entry,
+        at: plan.box_in(perch.cell),
+    }
+}
+
+// The boxes of further generations.
+fn posts_of(alloc: Global, plan: &Plan, perches: &[Perch]) -> Result<List<Post>, NoMemory>
+    requires small { IsSmall plan.now }
+    requires there { All (λ q. IsCell (centre_row plan.now) q.cell) perches.now }
+    ensures { IfOk result (λ posts. posts ≡ map (post_of plan.now) perches.now) }
+{
+    let mut posts = Vec::with_capacity(alloc, perches.len())?;
+    for perch in perches {
+        posts.push(post_of(plan, perch))?;
+    }
+    Ok(List::from_vec(posts))
+}
+
+// A line to one.
+fn link_of(plan: &Plan, greatest: u64, tie: &Tie) -> Link
+    requires small { IsSmall plan.now }
+    requires lower { IsCell (centre_row plan.now) tie.now.lower }
+    requires upper { IsCell (centre_row plan.now) tie.now.upper }
+    ensures { result ≡ link_of plan.now greatest tie.now }
+{
+    Link {
+        lower: plan.box_in(tie.lower),
+        upper: plan.box_in(tie.upper),
+        line: plan.line_between(tie.lower, tie.upper),
+        mark: tie.mark,
+        width: width_of(greatest, tie.support),
+    }
+}
+
+// The lines to them.
+fn links_of(alloc: Global, plan: &Plan, greatest: u64, ties: &[Tie]) -> Result<List<Link>, NoMemory>
+    requires small { IsSmall plan.now }
+    requires lower { All (λ t. IsCell (centre_row plan.now) t.lower) ties.now }
+    requires upper { All (λ t. IsCell (centre_row plan.now) t.upper) ties.now }
+    ensures { IfOk result (λ links. links ≡ map (link_of plan.now greatest) ties.now) }
+{
+    let mut links = Vec::with_capacity(alloc, ties.len())?;
+    for tie in ties {
+        links.push(link_of(plan, greatest, tie))?;
+    }
+    Ok(List::from_vec(links))
+}
+
+/// The neighbours of an AS by group, each group in its order.
 #[derive(Drop)]
-struct Groups {
-    providers: Vec<Neighbour>,
-    peers: Vec<Neighbour>,
-    customers: Vec<Neighbour>,
+pub(crate) struct Groups {
+    pub providers: Vec<Neighbour>,
+    pub peers: Vec<Neighbour>,
+    pub customers: Vec<Neighbour>,
 }
 
 // The neighbours of the AS. The only error is that memory ran out.
@@ -180,14 +282,21 @@ fn counts_of(groups: &Groups) -> Counts
     }
 }
 
-// What the boxes stand for, those above first, then those beside, then those below; and how many of each there are.
-fn put_all(entries: &mut Vec<Entry>, groups: &Groups, most: usize) -> Result<Plan, NoMemory>
+// What the boxes stand for, those right above first, then those beside, then those below; and how many of each there are, where so many
+// rows stand above the centre.
+fn put_all(
+    entries: &mut Vec<Entry>,
+    groups: &Groups,
+    most: usize,
+    rows: u64,
+) -> Result<Plan, NoMemory>
     requires none { entries.old.items ≡ [] }
     requires few { most ≤ 2000 }
+    requires rows { (rows_with most groups.now.providers.items ≤ rows) × (rows ≤ 1608) }
     ensures entries { OnOk result (entries.new.items ≡ entries_of most groups.now.providers.items
         ++ (entries_of most groups.now.peers.items ++ entries_of most groups.now.customers.items)) }
     ensures plan { IfOk result (λ plan. plan ≡ plan_of (entries_of most groups.now.providers.items)
-        (entries_of most groups.now.peers.items) (entries_of most groups.now.customers.items)) }
+        (entries_of most groups.now.peers.items) (entries_of most groups.now.customers.items) rows) }
     ensures small { IfOk result IsSmall }
 {
     put_entries(entries, &groups.providers, most)?;
@@ -199,35 +308,102 @@ fn put_all(entries: &mut Vec<Entry>, groups: &Groups, most: usize) -> Result<Pla
         above: above as u64,
         beside: beside as u64,
         below: (entries.len() - above - beside) as u64,
+        further: rows - rows_of_ten(above as u64),
     })
 }
 
-// The picture of the AS with these neighbours.
-fn drawing_of(alloc: Global, asked: u32, groups: &Groups, most: usize) -> Result<Drawing, NoMemory>
-    requires few { most ≤ 2000 }
-    ensures is { IfOk result (λ d. d ≡ drawing_by asked most groups.now.providers.items groups.now.peers.items groups.now.customers.items) }
+// The picture with these boxes.
+fn drawing_with(
+    alloc: Global,
+    asked: u32,
+    counts: Counts,
+    plan: &Plan,
+    entries: &[Entry],
+    tower: &Tower,
+) -> Result<Drawing, NoMemory>
+    requires small { IsSmall plan.now }
+    requires all { length entries.now ≡ plan.now.above + plan.now.beside + plan.now.below }
+    requires perches { All (λ q. IsCell (centre_row plan.now) q.cell) tower.now.perches.items }
+    requires lower { All (λ t. IsCell (centre_row plan.now) t.lower) tower.now.ties.items }
+    requires upper { All (λ t. IsCell (centre_row plan.now) t.upper) tower.now.ties.items }
+    ensures is { IfOk result (λ d. d ≡ drawing_with asked counts plan.now entries.now tower.now.perches.items tower.now.ties.items) }
     ensures low { IfOk result (λ d. d.height < 2 ^ 32) }
 {
-    let mut entries = Vec::new(alloc);
-    let plan = put_all(&mut entries, groups, most)?;
-    let items = items_of(alloc, &plan, &entries)?;
+    let greatest = greatest_of(entries, &tower.ties);
+    let items = items_of(alloc, plan, greatest, entries)?;
+    let posts = posts_of(alloc, plan, &tower.perches)?;
+    let links = links_of(alloc, plan, greatest, &tower.ties)?;
     Ok(Drawing {
         asked,
-        counts: counts_of(groups),
+        counts,
         height: plan.page_height(),
         centre: plan.centre_box(),
         items,
+        posts,
+        links,
     })
 }
 
-/// The picture of an AS with its neighbours: its providers above it, its peers beside it and its customers below. Of each group at most so
-/// many are drawn, up to 2000, and one box says how many more there are. The only error is that memory ran out.
-pub fn draw(alloc: Global, edges: &[EdgeLine], asked: u32, most: usize) -> Result<Drawing, NoMemory>
+// The picture of the AS with these neighbours and with what stands above them.
+fn drawing_of(
+    alloc: Global,
+    asked: u32,
+    groups: &Groups,
+    most: usize,
+    tower: &Tower,
+) -> Result<Drawing, NoMemory>
     requires few { most ≤ 2000 }
-    ensures drawn { IfOk result (IsDrawingOf edges.now asked most) }
+    requires rows { (rows_with most groups.now.providers.items ≤ tower.now.rank) × (tower.now.rank ≤ 1608) }
+    requires perches { All (λ q. IsCell tower.now.rank q.cell) tower.now.perches.items }
+    requires lower { All (λ t. IsCell tower.now.rank t.lower) tower.now.ties.items }
+    requires upper { All (λ t. IsCell tower.now.rank t.upper) tower.now.ties.items }
+    ensures is { IfOk result (λ d. d ≡ drawing_from asked most groups.now.providers.items groups.now.peers.items
+        groups.now.customers.items tower.now.rank tower.now.perches.items tower.now.ties.items) }
+    ensures low { IfOk result (λ d. d.height < 2 ^ 32) }
+{
+    let mut entries = Vec::new(alloc);
+    let plan = put_all(&mut entries, groups, most, tower.rank)?;
+    drawing_with(alloc, asked, counts_of(groups), &plan, &entries, tower)
+}
+
+// The picture of the AS with these neighbours.
+fn drawing_above(
+    alloc: Global,
+    keys: Keys,
+    edges: &[EdgeLine],
+    asked: u32,
+    groups: &Groups,
+    most: usize,
+    depth: usize,
+) -> Result<Drawing, NoMemory>
+    requires few { most ≤ 2000 }
+    requires deep { depth ≤ 8 }
+    ensures drawn { IfOk result (IsDrawn edges.now asked most depth groups.now.providers.items groups.now.peers.items
+        groups.now.customers.items) }
+    ensures low { IfOk result (λ d. d.height < 2 ^ 32) }
+{
+    let tower = tower_of(alloc, keys, edges, asked, groups, most, depth)?;
+    drawing_of(alloc, asked, groups, most, &tower)
+}
+
+/// The picture of an AS with its neighbours: its providers above it, its peers beside it and its customers below; and with further
+/// generations above its providers, up to this depth, which is 8 at most. A depth of 1, or of 0, is that of its providers. Of each group
+/// and of each generation at most so many are drawn, up to 2000, and one box says how many more there are. The only error is that memory
+/// ran out.
+pub fn draw(
+    alloc: Global,
+    keys: Keys,
+    edges: &[EdgeLine],
+    asked: u32,
+    most: usize,
+    depth: usize,
+) -> Result<Drawing, NoMemory>
+    requires few { most ≤ 2000 }
+    requires deep { depth ≤ 8 }
+    ensures drawn { IfOk result (IsDrawingOf edges.now asked most depth) }
     ensures tidy { IfOk result IsTidy }
     ensures low { IfOk result (λ d. d.height < 2 ^ 32) }
 {
     let groups = groups_of(alloc, edges, asked)?;
-    drawing_of(alloc, asked, &groups, most)
+    drawing_above(alloc, keys, edges, asked, &groups, most, depth)
 }

@@ -1,13 +1,17 @@
-//! The neighbours of one AS as a picture: which they are, where their boxes and lines stand on a page, and the text of the picture as SVG.
+//! The neighbours of one AS, and the providers above them, as a picture: which they are, where their boxes and lines stand on a page, and
+//! the text of the picture as SVG.
 #![tactic(auto)]
 
 mod drawing;
+mod generation;
 mod group;
 mod neighbours;
 mod page;
 mod printing;
+mod standings;
+mod tower;
 
-pub use drawing::{Drawing, Entry, Item, draw};
+pub use drawing::{Drawing, Entry, Item, Link, Post, draw};
 pub use group::{Counts, Group, Neighbour, Tally};
 pub use page::{Line, Rect, Spot};
 pub use printing::print;

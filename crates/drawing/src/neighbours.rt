@@ -53,7 +53,7 @@ fn sort_key(neighbour: &Neighbour) -> (u64, u32)
 }
 
 /// Sorts neighbours by falling support, and those of equal support by rising number. It takes no memory.
-fn sort_neighbours(neighbours: &mut Vec<Neighbour>)
+pub(crate) fn sort_neighbours(neighbours: &mut Vec<Neighbour>)
     requires { All IsShort neighbours.old.items }
     ensures same { IsPermutation neighbours.old.items neighbours.new.items }
     ensures sorted { AllPairs NotAfter neighbours.new.items }

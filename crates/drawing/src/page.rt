@@ -4,7 +4,8 @@ ghost use Rattle.std.specs.Prelude.{◌≡◌, ◌+◌, ◌^◌, ◌<◌, ◌≤
 ghost use Rattle.drawing.specs.Page.{rows_of, centre_row, first_row_below, row_y, column_x, box_at, centre_box, page_height};
 ghost use Rattle.drawing.specs.Page.{column_of, column_beside, line_up, line_beside, line_down, spot_above};
 ghost use Rattle.drawing.specs.Page.{spot_beside, spot_below, spot_of};
-ghost use Rattle.drawing.specs.Page.{IsSmall};
+ghost use Rattle.drawing.specs.Page.{cell_of, cell_row, box_in, line_between};
+ghost use Rattle.drawing.specs.Page.{IsSmall, IsCell};
 
 /// A box of the picture.
 #[derive(Clone, Copy)]
@@ -46,16 +47,27 @@ pub struct Spot {
     pub line: Line,
 }
 
-/// How many boxes stand above, beside and below the one in the centre.
+/// How many boxes stand right above, beside and below the one in the centre.
 #[derive(Clone, Copy)]
 pub(crate) struct Plan {
     pub above: u64,
     pub beside: u64,
     pub below: u64,
+    /// How many rows there are above those.
+    pub further: u64,
+}
+
+/// A place for a box above the one in the centre.
+#[derive(Clone, Copy)]
+pub(crate) struct Cell {
+    /// Its column.
+    pub column: u64,
+    /// How many rows stand between its row and that of the centre.
+    pub rank: u64,
 }
 
 fn row_y(row: u64) -> u64
-    requires { row ≤ 1000 }
+    requires { row ≤ 3000 }
     ensures { result ≡ row_y row }
 {
     72 + 60 * row
@@ -68,8 +80,8 @@ fn column_x(column: u64) -> u64
     28 + 96 * column
 }
 
-// How many rows so many boxes fill, ten in a row.
-fn rows_of_ten(boxes: u64) -> u64
+/// How many rows so many boxes fill, ten in a row.
+pub(crate) fn rows_of_ten(boxes: u64) -> u64
     requires { boxes ≤ 2001 }
     ensures is { result ≡ rows_of 10 boxes }
     ensures few { result ≤ 201 }
@@ -108,7 +120,7 @@ fn column_beside(boxes: u64, place: u64) -> u64
 }
 
 fn box_at(column: u64, row: u64) -> Rect
-    requires { (column < 10) × (row ≤ 1000) }
+    requires { (column < 10) × (row ≤ 3000) }
     ensures { result ≡ box_at column row }
 {
     Rect {
@@ -119,21 +131,33 @@ fn box_at(column: u64, row: u64) -> Rect
     }
 }
 
+/// The cell of a box of so many of a generation whose first row has this rank.
+pub(crate) fn cell_of(boxes: u64, rank: u64, place: u64) -> Cell
+    requires there { (place < boxes) × (boxes ≤ 2001) }
+    requires low { rank ≤ 3000 }
+    ensures { result ≡ cell_of boxes rank place }
+{
+    Cell {
+        column: column_of_ten(boxes, place),
+        rank: rank + place / 10,
+    }
+}
+
 impl Plan {
     // The row of the centre.
     fn centre_row(&self) -> u64
         requires { IsSmall self.now }
         ensures is { result ≡ centre_row self.now }
-        ensures few { result ≤ 201 }
+        ensures few { result ≤ 1809 }
     {
-        rows_of_ten(self.above)
+        self.further + rows_of_ten(self.above)
     }
 
     // The first row below those beside the centre.
     fn first_row_below(&self) -> u64
         requires { IsSmall self.now }
         ensures is { result ≡ first_row_below self.now }
-        ensures few { result ≤ 452 }
+        ensures few { result ≤ 2060 }
     {
         self.centre_row() + rows_of_eight(self.beside).max(1)
     }
@@ -163,7 +187,7 @@ impl Plan {
     // The line up to the box in this column and row.
     fn line_up(&self, column: u64, row: u64) -> Line
         requires small { IsSmall self.now }
-        requires there { (column < 10) × (row ≤ 1000) }
+        requires there { (column < 10) × (row ≤ 3000) }
         ensures { result ≡ line_up self.now column row }
     {
         Line {
@@ -179,7 +203,7 @@ impl Plan {
     // The line to the left or the right to the box in this column and row.
     fn line_beside(&self, column: u64, row: u64) -> Line
         requires small { IsSmall self.now }
-        requires there { (column < 10) × (row ≤ 1000) }
+        requires there { (column < 10) × (row ≤ 3000) }
         ensures { result ≡ line_beside self.now column row }
     {
         Line {
@@ -195,7 +219,7 @@ impl Plan {
     // The line down to the box in this column and row.
     fn line_down(&self, column: u64, row: u64) -> Line
         requires small { IsSmall self.now }
-        requires there { (column < 10) × (row ≤ 1000) }
+        requires there { (column < 10) × (row ≤ 3000) }
         ensures { result ≡ line_down self.now column row }
     {
         Line {
@@ -263,5 +287,44 @@ impl Plan {
             return self.spot_beside(place - self.above);
         }
         self.spot_below(place - (self.above + self.beside))
+    }
+
+    // The row of a cell.
+    fn cell_row(&self, cell: Cell) -> u64
+        requires small { IsSmall self.now }
+        requires there { IsCell (centre_row self.now) cell }
+        ensures is { result ≡ cell_row self.now cell }
+        ensures few { result ≤ 3000 }
+    {
+        self.centre_row() - 1 - cell.rank
+    }
+
+    /// The box in a cell.
+    pub(crate) fn box_in(&self, cell: Cell) -> Rect
+        requires small { IsSmall self.now }
+        requires there { IsCell (centre_row self.now) cell }
+        ensures { result ≡ box_in self.now cell }
+    {
+        box_at(cell.column, self.cell_row(cell))
+    }
+
+    /// The line from the box in one cell to that in a cell above it.
+    pub(crate) fn line_between(&self, lower: Cell, upper: Cell) -> Line
+        requires small { IsSmall self.now }
+        requires lower { IsCell (centre_row self.now) lower }
+        requires upper { IsCell (centre_row self.now) upper }
+        ensures { result ≡ line_between self.now lower upper }
+    {
+        let side = column_x(lower.column);
+        let rail = row_y(self.cell_row(upper));
+        let is_right = lower.column < upper.column;
+        Line {
+            start_x: if is_right { side + 80 } else { side },
+            start_y: row_y(self.cell_row(lower)) + 12,
+            trunk_x: if is_right { side + 85 } else { side - 5 },
+            rail_y: rail + 28 + 3 * lower.column,
+            end_x: column_x(upper.column) + 40,
+            end_y: rail + 24,
+        }
     }
 }

@@ -2,14 +2,15 @@
 ghost use Rattle.std.specs.Prelude.{◌≡◌, ◌<◌, ◌^◌, [], ◌∷◌, ◌++◌, Some, codes, All, OnOk, IfOk};
 ghost use Rattle.std.specs.Io.KnownBytes.{append_known};
 ghost use Rattle.tor_io.specs.Outflow.{state, Puts};
-ghost use Rattle.drawing.specs.Svg.{word_of, number_of, rect, point, points, polyline, dashes, text_length, text_at, text_in};
+ghost use Rattle.drawing.specs.Svg.{word_of, number_of, rect, point, points, polyline, mark_dashes, dashes, text_length, text_at, text_in};
 ghost use Rattle.drawing.specs.Svg.{entry_words, asked_words, tally_words, caption_words, legend_words, extent_words};
 ghost use Rattle.drawing.specs.Svg.{FitsNumbers, item_elements, items_elements, title_elements, centre_elements};
+ghost use Rattle.drawing.specs.Svg.{post_elements, posts_elements, links_elements};
 ghost use Rattle.drawing.specs.Svg.{page_box, start_text, svg_text};
 ghost use Rattle.drawing.specs.Tidy.{IsTidy};
 ghost use Rattle.drawing.specs.Xml.{IsDocument, attribute_text, end_text, element_text, elements_text};
 
-use crate::drawing::{Drawing, Entry, Item};
+use crate::drawing::{Drawing, Entry, Item, Link, Post};
 use crate::group::{Counts, Tally};
 use crate::page::{Line, Rect};
 use relationships::Mark;
@@ -103,28 +104,41 @@ fn put_points_attribute<S: Sink>(out: &mut S, flow: &mut Outflow<'_>, line: &Lin
     flow.put_byte(out, b'"');
 }
 
-// Which parts of a line are drawn.
+// Which parts of the line of an edge are drawn.
+fn mark_dashes(mark: Mark) -> &'static [u8]
+    ensures { result.now ≡ mark_dashes mark }
+{
+    match mark {
+        Mark::Forced => b"none",
+        Mark::Open => b"4 3",
+    }
+}
+
+// Which parts of the line to a box are drawn.
 fn dashes(entry: &Entry) -> &'static [u8]
     ensures { result.now ≡ dashes entry.now }
 {
     match entry {
-        Entry::One(neighbour) => match neighbour.mark {
-            Mark::Forced => b"none",
-            Mark::Open => b"4 3",
-        },
+        Entry::One(neighbour) => mark_dashes(neighbour.mark),
         Entry::More(_) => b"1 3",
     }
 }
 
-fn put_polyline<S: Sink>(out: &mut S, flow: &mut Outflow<'_>, item: &Item)
+fn put_polyline<S: Sink>(
+    out: &mut S,
+    flow: &mut Outflow<'_>,
+    line: &Line,
+    width: u64,
+    dashed: &[u8],
+)
     ensures { Puts (state (S.held out.old) (S.faults out.old) flow.old) (state (S.held out.new) (S.faults out.new) flow.new)
-        (element_text (polyline item.now)) }
+        (element_text (polyline line.now width dashed.now)) }
 {
     flow.put(out, b"<polyline");
-    put_points_attribute(out, flow, &item.line);
+    put_points_attribute(out, flow, line);
     put_attribute(out, flow, b"fill", b"none");
-    put_number_attribute(out, flow, b"stroke-width", item.width);
-    put_attribute(out, flow, b"stroke-dasharray", dashes(&item.entry));
+    put_number_attribute(out, flow, b"stroke-width", width);
+    put_attribute(out, flow, b"stroke-dasharray", dashed);
     flow.put(out, b"/>\n");
 }
 
@@ -241,7 +255,7 @@ fn put_item<S: Sink>(
 {
     words.clear();
     add_entry(words, &item.entry)?;
-    put_polyline(out, flow, item);
+    put_polyline(out, flow, &item.line, item.width, dashes(&item.entry));
     put_rect(out, flow, &item.at);
     put_text_in(out, flow, &item.at, words.as_slice());
     Ok(())
@@ -259,6 +273,55 @@ fn put_items<S: Sink>(
 {
     for item in items {
         put_item(out, flow, words, item)?;
+    }
+    Ok(())
+}
+
+fn put_link<S: Sink>(out: &mut S, flow: &mut Outflow<'_>, link: &Link)
+    ensures { Puts (state (S.held out.old) (S.faults out.old) flow.old) (state (S.held out.new) (S.faults out.new) flow.new)
+        (elements_text (links_elements (link.now ∷ []))) }
+{
+    put_polyline(out, flow, &link.line, link.width, mark_dashes(link.mark));
+}
+
+fn put_links<S: Sink>(out: &mut S, flow: &mut Outflow<'_>, links: &[Link])
+    ensures { Puts (state (S.held out.old) (S.faults out.old) flow.old) (state (S.held out.new) (S.faults out.new) flow.new)
+        (elements_text (links_elements links.now)) }
+{
+    for link in links {
+        put_link(out, flow, link);
+    }
+}
+
+fn put_post<S: Sink>(
+    out: &mut S,
+    flow: &mut Outflow<'_>,
+    words: &mut List<u8>,
+    post: &Post,
+) -> Result<(), NoMemory>
+    requires inside { FitsNumbers post.now.at }
+    ensures { OnOk result (Puts (state (S.held out.old) (S.faults out.old) flow.old) (state (S.held out.new) (S.faults out.new) flow.new)
+        (elements_text (post_elements post.now))) }
+{
+    words.clear();
+    add_entry(words, &post.entry)?;
+    put_rect(out, flow, &post.at);
+    put_text_in(out, flow, &post.at, words.as_slice());
+    Ok(())
+}
+
+fn put_posts<S: Sink>(
+    out: &mut S,
+    flow: &mut Outflow<'_>,
+    words: &mut List<u8>,
+    posts: &[Post],
+) -> Result<(), NoMemory>
+    requires inside { All (λ q. FitsNumbers q.at) posts.now }
+    ensures { OnOk result (Puts (state (S.held out.old) (S.faults out.old) flow.old) (state (S.held out.new) (S.faults out.new) flow.new)
+        (elements_text (posts_elements posts.now))) }
+{
+    for post in posts {
+        put_post(out, flow, words, post)?;
     }
     Ok(())
 }
@@ -346,6 +409,8 @@ fn put_picture<S: Sink>(
     put_title(out, flow, words, drawing)?;
     put_centre(out, flow, words, drawing)?;
     put_items(out, flow, words, drawing.items.as_slice())?;
+    put_links(out, flow, drawing.links.as_slice());
+    put_posts(out, flow, words, drawing.posts.as_slice())?;
     flow.put(out, b"</svg>\n");
     Ok(())
 }

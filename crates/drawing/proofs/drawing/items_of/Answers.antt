@@ -1,19 +1,19 @@
 use Rattle.std.proofs.Common.{◌≡◌, ◌<◌, ◌++◌, ◌∷◌, [], ◌∙◌, ap, sym, map, take, length, arith}
 use Rattle.std.specs.List.{enumerate_from}
 use Rattle.drawing.specs.Picture.{item_of}
-use Rattle.drawing.proofs.Tidying.{items_more, all_items}
+use Rattle.drawing.proofs.Numbered.{numbered_more, numbered_all}
 use Rattle.drawing.proofs.drawing.items_of.Goals as goal
 
 pub loop-place-preserved : goal.loop-place-preserved
 loop-place-preserved c =
-    let f = item_of c.args.plan.now c.greatest_support-greatest.result in
+    let f = item_of c.args.plan.now c.args.greatest in
     let few : c.loop-place.place < length c.args.entries.now = omega arith in
     c.in_ok-push.ensures.items
     ∙ ap (λ xs. xs ++ c.item_of.result ∷ []) c.loop-place.invariant
     ∙ ap (λ x. map f (take c.loop-place.place (enumerate_from 0 c.args.entries.now)) ++ x ∷ []) c.item_of.ensures
-    ∙ sym (items_more f c.args.entries.now c.loop-place.place _ few)
+    ∙ sym (numbered_more f c.args.entries.now c.loop-place.place _ few)
 
 pub returns : goal.returns
 returns c =
     let all : c.loop-place.place ≡ length c.args.entries.now = omega arith in
-    c.from_vec.ensures ∙ c.loop-place.invariant ∙ all_items c.args.plan.now c.args.entries.now c.greatest_support-greatest.result c.loop-place.place all c.greatest_support-greatest.ensures
+    c.from_vec.ensures ∙ c.loop-place.invariant ∙ numbered_all (item_of c.args.plan.now c.args.greatest) c.args.entries.now c.loop-place.place all

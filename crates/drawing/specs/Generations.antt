@@ -1,0 +1,121 @@
+-- The generations above an AS: the first are its providers, and each next one the providers of those of the one before that are drawn,
+-- as far as they stand no nearer. The lists of further generations have the topmost one first, as they stand on the page.
+use Rattle.std.specs.Prelude.{◌≡◌, ◌≢◌, ℕ, ◌+◌, ◌/◌, ◌<◌, ◌≤◌, ◌⊎◌, ◌==◌, List, [], ◌∷◌, ◌++◌, length, map, take, max, fold}
+use Rattle.std.specs.Prelude.{Option, Some, None, Contains, All, filter_map}
+use Rattle.std.specs.List.{AllPairs, Any, find, enumerate_from}
+use Rattle.relationships.specs.declared.label.Label.TheVariants as label
+use Rattle.result_text.specs.declared.file.EdgeLine.{EdgeLine}
+use Rattle.drawing.specs.declared.group.Neighbour.{Neighbour}
+use Rattle.drawing.specs.declared.page.Cell.{Cell}
+use Rattle.drawing.specs.declared.standings.Standing.{Standing}
+use Rattle.drawing.specs.declared.generation.Ends.{Ends}
+use Rattle.drawing.specs.declared.tower.Perch.{Perch}
+use Rattle.drawing.specs.declared.tower.Tie.{Tie}
+use Rattle.drawing.specs.declared.drawing.Entry.{Entry}
+use Rattle.drawing.specs.Neighbours.{NotAfter}
+use Rattle.drawing.specs.Page.{rows_of, cell_of}
+use Rattle.drawing.specs.Entries.{entries_of}
+
+-- ---- who stands in a generation
+
+-- the customer and the provider at the ends of an edge, which peers have not
+abbrev pub upward : EdgeLine → Option Ends
+upward e = elim e.label [
+  | label.Low ↦ Some (record { customer = e.high; provider = e.low })
+  | label.High ↦ Some (record { customer = e.low; provider = e.high })
+  | label.Peer ↦ None
+]
+
+-- where the AS is drawn, if it is among these
+abbrev pub standing_of : ℕ → List Standing → Option Standing
+standing_of n drawn = find (λ s. s.number == n) drawn
+
+-- the provider at one end of the edge, if its customer is among these
+abbrev pub provider_with : EdgeLine → Ends → Option Standing → Option Neighbour
+provider_with e u None = None
+provider_with e u (Some s) = Some (record { number = u.provider; mark = e.mark; support = e.support })
+
+abbrev pub provider_above : List Standing → EdgeLine → Option Neighbour
+provider_above drawn e = elim (upward e) [ None ↦ None | Some u ↦ provider_with e u (standing_of u.customer drawn) ]
+
+-- their providers, one for each edge
+abbrev pub providers_above : List Standing → List EdgeLine → List Neighbour
+providers_above drawn edges = filter_map (provider_above drawn) edges
+
+-- the same AS, by an edge of as much support or more
+abbrev pub StandsFor : Neighbour → Neighbour → Type 0
+StandsFor p n = (n.number ≡ p.number) × (p.support ≤ n.support)
+
+-- of those that were found the ones that stand nowhere nearer, each once, by the greatest support, and in the order of neighbours
+pub record IsChoice (nearer : List ℕ) (found ns : List Neighbour) : Type 0 where
+  pub from : All (Contains found) ns
+  pub fresh : All (λ n. Contains nearer n.number → ⊥) ns
+  pub all : All (λ p. Contains nearer p.number ⊎ Any (StandsFor p) ns) found
+  pub once : AllPairs (λ n m. n.number ≢ m.number) ns
+  pub sorted : AllPairs NotAfter ns
+
+-- ---- where they are drawn
+
+-- how many boxes and how many rows a generation has, where so many ASes of it are drawn at most
+abbrev pub box_count : ℕ → List Neighbour → ℕ
+box_count most ns = length (entries_of most ns)
+
+abbrev pub rows_with : ℕ → List Neighbour → ℕ
+rows_with most ns = rows_of 10 (box_count most ns)
+
+-- the ASes of a generation that are drawn, if its first row has this rank
+abbrev pub standing_at : ℕ → ℕ → ℕ × Neighbour → Standing
+standing_at boxes rank (i, n) = record { number = n.number; cell = cell_of boxes rank i }
+
+abbrev pub standings_at : ℕ → ℕ → List Neighbour → List Standing
+standings_at most rank ns = map (standing_at (box_count most ns) rank) (enumerate_from 0 (take most ns))
+
+-- its boxes
+abbrev pub perch_at : ℕ → ℕ → ℕ × Entry → Perch
+perch_at boxes rank (i, e) = record { entry = e; cell = cell_of boxes rank i }
+
+abbrev pub perches_at : ℕ → ℕ → List Neighbour → List Perch
+perches_at most rank ns = map (perch_at (box_count most ns) rank) (enumerate_from 0 (entries_of most ns))
+
+-- the line of an edge whose provider is drawn above its customer
+abbrev pub tie_with : EdgeLine → Option Standing → Option Standing → Option Tie
+tie_with e None _ = None
+tie_with e (Some s) None = None
+tie_with e (Some s) (Some t) = Some (record { lower = s.cell; upper = t.cell; mark = e.mark; support = e.support })
+
+abbrev pub tie_of : List Standing → List Standing → EdgeLine → Option Tie
+tie_of lower upper e =
+    elim (upward e) [ None ↦ None | Some u ↦ tie_with e (standing_of u.customer lower) (standing_of u.provider upper) ]
+
+-- ---- all generations, above the providers `first`
+
+-- how many rows they have with it, which is the rank of the next row
+abbrev pub rank_above : ℕ → List Neighbour → List (List Neighbour) → ℕ
+rank_above most first [] = rows_with most first
+rank_above most first (g ∷ gs) = rank_above most first gs + rows_with most g
+
+-- those that are drawn of the topmost
+abbrev pub topmost : ℕ → List Neighbour → List (List Neighbour) → List Standing
+topmost most first [] = standings_at most 0 first
+topmost most first (g ∷ gs) = standings_at most (rank_above most first gs) g
+
+-- the ASes of all of them, behind those near the AS that is asked for
+abbrev pub all_numbers : List ℕ → List (List Neighbour) → List ℕ
+all_numbers near [] = near
+all_numbers near (g ∷ gs) = all_numbers near gs ++ map (λ n. n.number) g
+
+-- each is chosen among the providers of those that are drawn below it
+abbrev pub AreGenerations : List EdgeLine → ℕ → List Neighbour → List ℕ → List (List Neighbour) → Type 0
+AreGenerations edges most first near [] = Unit {0}
+AreGenerations edges most first near (g ∷ gs) =
+    AreGenerations edges most first near gs × IsChoice (all_numbers near gs) (providers_above (topmost most first gs) edges) g
+
+-- their boxes, and the lines of all edges from one to the next
+abbrev pub perches : ℕ → List Neighbour → List (List Neighbour) → List Perch
+perches most first [] = []
+perches most first (g ∷ gs) = perches most first gs ++ perches_at most (rank_above most first gs) g
+
+abbrev pub ties : List EdgeLine → ℕ → List Neighbour → List (List Neighbour) → List Tie
+ties edges most first [] = []
+ties edges most first (g ∷ gs) =
+    ties edges most first gs ++ filter_map (tie_of (topmost most first gs) (topmost most first (g ∷ gs))) edges

@@ -1,0 +1,344 @@
+//! All generations above an AS.
+ghost use Rattle.std.specs.Prelude.{◌≡◌, ◌-◌, ◌+◌, ◌*◌, ◌<◌, ◌≤◌, ℕ, List, [], ◌∷◌, ◌++◌, map, length, take, filter_map, OnOk, IfOk};
+ghost use Rattle.drawing.specs.declared.group.Neighbour.{Neighbour};
+ghost use Rattle.drawing.specs.Entries.{entries_of};
+ghost use Rattle.drawing.specs.Generations.{box_count, standing_at, standings_at, standing_of, perches_at, perch_at, tie_of};
+ghost use Rattle.drawing.specs.Neighbours.{near_numbers};
+ghost use Rattle.drawing.specs.Shifted.{HasNumbers};
+ghost use Rattle.drawing.specs.Tower.{IsPut, IsStacked, IsTower};
+ghost use Rattle.result_text.specs.declared.file.EdgeLine.{EdgeLine};
+ghost use Rattle.std.specs.List.{enumerate_from};
+
+use crate::drawing::{Entry, Groups, put_entries};
+use crate::generation::{generation_above, upward};
+use crate::group::Neighbour;
+use crate::page::{Cell, cell_of, rows_of_ten};
+use crate::standings::{Standing, Standings};
+use relationships::Mark;
+use result_text::EdgeLine;
+use std::alloc::Global;
+use tor_arena::{Keys, NoMemory};
+use tor_numbers::NumberSet;
+
+/// A box of a further generation.
+#[derive(Clone, Copy)]
+pub(crate) struct Perch {
+    pub entry: Entry,
+    pub cell: Cell,
+}
+
+/// An edge between ASes that are drawn in two generations, one above the other.
+#[derive(Clone, Copy)]
+pub(crate) struct Tie {
+    pub lower: Cell,
+    pub upper: Cell,
+    pub mark: Mark,
+    pub support: u64,
+}
+
+/// What stands above an AS so far.
+#[derive(Drop)]
+pub(crate) struct Tower {
+    /// The numbers of all ASes that stand anywhere.
+    nearer: NumberSet,
+    /// Those of the topmost generation that are drawn.
+    topmost: Standings,
+    /// How many rows there are, with those of the providers.
+    pub rank: u64,
+    /// The boxes above those of the providers.
+    pub perches: Vec<Perch>,
+    /// The lines to them.
+    pub ties: Vec<Tie>,
+}
+
+// How many boxes a generation has.
+fn box_count(most: usize, generation: &[Neighbour]) -> usize
+    requires few { most ≤ 2000 }
+    ensures is { result ≡ box_count most generation.now }
+    ensures few { result ≤ 2001 }
+{
+    if generation.len() <= most {
+        generation.len()
+    } else {
+        most + 1
+    }
+}
+
+// Where an AS of a generation of so many boxes stands, in rows from this rank on.
+fn standing_at(boxes: usize, rank: u64, place: usize, neighbour: &Neighbour) -> Standing
+    requires there { (place < boxes) × (boxes ≤ 2001) }
+    requires low { rank ≤ 3000 }
+    ensures { result ≡ standing_at boxes rank (place, neighbour.now) }
+{
+    Standing {
+        number: neighbour.number,
+        cell: cell_of(boxes as u64, rank, place as u64),
+    }
+}
+
+// Adds the ASes of a generation that are drawn, in rows from this rank on.
+fn add_standings(
+    drawn: &mut Standings,
+    generation: &[Neighbour],
+    most: usize,
+    rank: u64,
+) -> Result<(), NoMemory>
+    requires few { most ≤ 2000 }
+    requires low { rank ≤ 3000 }
+    ensures { OnOk result ((n : ℕ) → standing_of n drawn.new ≡ standing_of n (drawn.old ++ standings_at most rank generation.now)) }
+{
+    let boxes = box_count(most, generation);
+    for place in 0..generation.len().min(most) {
+        drawn.add(standing_at(boxes, rank, place, &generation[place]))?;
+    }
+    Ok(())
+}
+
+// The ASes of a generation that are drawn, in rows from this rank on.
+fn standings_of(
+    alloc: Global,
+    keys: Keys,
+    generation: &[Neighbour],
+    most: usize,
+    rank: u64,
+) -> Result<Standings, NoMemory>
+    requires few { most ≤ 2000 }
+    requires low { rank ≤ 3000 }
+    ensures { IfOk result (λ drawn. (n : ℕ) → standing_of n drawn ≡ standing_of n (standings_at most rank generation.now)) }
+{
+    let mut drawn = Standings::new(alloc, keys);
+    add_standings(&mut drawn, generation, most, rank)?;
+    Ok(drawn)
+}
+
+// The line of an edge whose provider is drawn above its customer.
+fn tie_of(lower: &Standings, upper: &Standings, edge: &EdgeLine) -> Option<Tie>
+    ensures { result ≡ tie_of lower.now upper.now edge.now }
+{
+    match upward(edge) {
+        None => None,
+        Some(ends) => match lower.find(ends.customer) {
+            None => None,
+            Some(customer) => match upper.find(ends.provider) {
+                None => None,
+                Some(provider) => Some(Tie {
+                    lower: customer.cell,
+                    upper: provider.cell,
+                    mark: edge.mark,
+                    support: edge.support,
+                }),
+            },
+        },
+    }
+}
+
+// Puts the line of an edge at the end, if its provider is drawn above its customer.
+fn put_tie(
+    ties: &mut Vec<Tie>,
+    lower: &Standings,
+    upper: &Standings,
+    edge: &EdgeLine,
+) -> Result<(), NoMemory>
+    ensures { OnOk result (ties.new.items ≡ ties.old.items ++ filter_map (tie_of lower.now upper.now) (edge.now ∷ [])) }
+{
+    match tie_of(lower, upper, edge) {
+        None => Ok(()),
+        Some(tie) => {
+            ties.push(tie)?;
+            Ok(())
+        }
+    }
+}
+
+// Puts the lines of all edges at the end whose provider is drawn above their customer.
+fn put_ties(
+    ties: &mut Vec<Tie>,
+    lower: &Standings,
+    upper: &Standings,
+    edges: &[EdgeLine],
+) -> Result<(), NoMemory>
+    ensures { OnOk result (ties.new.items ≡ ties.old.items ++ filter_map (tie_of lower.now upper.now) edges.now) }
+{
+    for edge in edges {
+        put_tie(ties, lower, upper, edge)?;
+    }
+    Ok(())
+}
+
+// A box with this entry in a generation of so many, in rows from this rank on.
+fn perch_at(boxes: usize, rank: u64, place: usize, entry: &Entry) -> Perch
+    requires there { (place < boxes) × (boxes ≤ 2001) }
+    requires low { rank ≤ 3000 }
+    ensures { result ≡ perch_at boxes rank (place, entry.now) }
+{
+    Perch {
+        entry: *entry,
+        cell: cell_of(boxes as u64, rank, place as u64),
+    }
+}
+
+// Puts boxes with these entries at the end, in rows from this rank on.
+fn put_boxes(perches: &mut Vec<Perch>, entries: &[Entry], rank: u64) -> Result<(), NoMemory>
+    requires few { length entries.now ≤ 2001 }
+    requires low { rank ≤ 3000 }
+    ensures { OnOk result (perches.new.items ≡
+        perches.old.items ++ map (perch_at (length entries.now) rank) (enumerate_from 0 entries.now)) }
+{
+    for place in 0..entries.len() {
+        perches.push(perch_at(entries.len(), rank, place, &entries[place]))?;
+    }
+    Ok(())
+}
+
+// Puts the boxes of a generation at the end, in rows from this rank on.
+fn put_perches(
+    alloc: Global,
+    perches: &mut Vec<Perch>,
+    generation: &[Neighbour],
+    most: usize,
+    rank: u64,
+) -> Result<(), NoMemory>
+    requires few { most ≤ 2000 }
+    requires low { rank ≤ 3000 }
+    ensures { OnOk result (perches.new.items ≡ perches.old.items ++ perches_at most rank generation.now) }
+{
+    let mut entries = Vec::new(alloc);
+    put_entries(&mut entries, generation, most)?;
+    put_boxes(perches, &entries, rank)
+}
+
+// Adds the numbers of neighbours.
+fn add_numbers(nearer: &mut NumberSet, neighbours: &[Neighbour]) -> Result<(), NoMemory>
+    ensures { OnOk result ((near : List ℕ) → HasNumbers nearer.old near →
+        HasNumbers nearer.new (near ++ map (λ n. n.number) neighbours.now)) }
+{
+    for neighbour in neighbours {
+        nearer.insert(u64::from(neighbour.number) + 2)?;
+    }
+    Ok(())
+}
+
+// The numbers of an AS and of its neighbours.
+fn near_numbers(
+    alloc: Global,
+    keys: Keys,
+    asked: u32,
+    groups: &Groups,
+) -> Result<NumberSet, NoMemory>
+    ensures { IfOk result (λ nearer. HasNumbers nearer
+        (near_numbers asked groups.now.providers.items groups.now.peers.items groups.now.customers.items)) }
+{
+    let mut nearer = NumberSet::new(alloc, keys);
+    nearer.insert(u64::from(asked) + 2)?;
+    add_numbers(&mut nearer, &groups.providers)?;
+    add_numbers(&mut nearer, &groups.peers)?;
+    add_numbers(&mut nearer, &groups.customers)?;
+    Ok(nearer)
+}
+
+impl Tower {
+    // Puts a generation on top, whose drawn ones are these, but for the drawn ones themselves.
+    fn put(
+        &mut self,
+        alloc: Global,
+        edges: &[EdgeLine],
+        most: usize,
+        generation: &[Neighbour],
+        drawn: &Standings,
+    ) -> Result<(), NoMemory>
+        requires few { most ≤ 2000 }
+        requires low { self.old.rank ≤ 2700 }
+        ensures put { OnOk result (IsPut edges.now most generation.now drawn.now self.old self.new) }
+        ensures low { OnOk result (self.new.rank ≤ self.old.rank + 201) }
+    {
+        put_ties(&mut self.ties, &self.topmost, drawn, edges)?;
+        put_perches(alloc, &mut self.perches, generation, most, self.rank)?;
+        self.rank += rows_of_ten(box_count(most, generation) as u64);
+        Ok(())
+    }
+
+    // Puts a generation on top.
+    fn stack(
+        &mut self,
+        alloc: Global,
+        keys: Keys,
+        edges: &[EdgeLine],
+        most: usize,
+        generation: &[Neighbour],
+    ) -> Result<(), NoMemory>
+        requires few { most ≤ 2000 }
+        requires low { self.old.rank ≤ 2700 }
+        ensures stacked { OnOk result (IsStacked edges.now most generation.now self.old self.new) }
+        ensures low { OnOk result (self.new.rank ≤ self.old.rank + 201) }
+    {
+        let drawn = standings_of(alloc, keys, generation, most, self.rank)?;
+        self.put(alloc, edges, most, generation, &drawn)?;
+        self.topmost = drawn;
+        Ok(())
+    }
+
+    // Puts the next generation on top.
+    fn raise(
+        &mut self,
+        alloc: Global,
+        keys: Keys,
+        edges: &[EdgeLine],
+        most: usize,
+    ) -> Result<(), NoMemory>
+        requires few { most ≤ 2000 }
+        requires low { self.old.rank ≤ 2700 }
+        ensures raised { OnOk result ((first : List Neighbour) (near : List ℕ) (gs : List (List Neighbour)) →
+            IsTower edges.now most first near gs self.old → (g : List Neighbour) × IsTower edges.now most first near (g ∷ gs) self.new) }
+        ensures low { OnOk result (self.new.rank ≤ self.old.rank + 201) }
+    {
+        let generation = generation_above(alloc, edges, &self.topmost, &mut self.nearer)?;
+        self.stack(alloc, keys, edges, most, &generation)
+    }
+}
+
+// The tower in which nothing stands above the providers.
+fn begun(
+    alloc: Global,
+    keys: Keys,
+    asked: u32,
+    groups: &Groups,
+    most: usize,
+) -> Result<Tower, NoMemory>
+    requires few { most ≤ 2000 }
+    ensures begun { IfOk result (λ t. (edges : List EdgeLine) → IsTower edges most groups.now.providers.items
+        (near_numbers asked groups.now.providers.items groups.now.peers.items groups.now.customers.items) [] t) }
+    ensures low { IfOk result (λ t. t.rank ≤ 201) }
+{
+    let nearer = near_numbers(alloc, keys, asked, groups)?;
+    let topmost = standings_of(alloc, keys, &groups.providers, most, 0)?;
+    Ok(Tower {
+        nearer,
+        topmost,
+        rank: rows_of_ten(box_count(most, &groups.providers) as u64),
+        perches: Vec::new(alloc),
+        ties: Vec::new(alloc),
+    })
+}
+
+/// What stands above an AS up to this depth. The only error is that memory ran out.
+pub(crate) fn tower_of(
+    alloc: Global,
+    keys: Keys,
+    edges: &[EdgeLine],
+    asked: u32,
+    groups: &Groups,
+    most: usize,
+    depth: usize,
+) -> Result<Tower, NoMemory>
+    requires few { most ≤ 2000 }
+    requires deep { depth ≤ 8 }
+    ensures all { IfOk result (λ t. (gs : List (List Neighbour)) × (length gs ≡ depth - 1) × IsTower edges.now most groups.now.providers.items
+        (near_numbers asked groups.now.providers.items groups.now.peers.items groups.now.customers.items) gs t) }
+    ensures low { IfOk result (λ t. t.rank ≤ 1608) }
+{
+    let mut tower = begun(alloc, keys, asked, groups, most)?;
+    for _ in 0..depth.saturating_sub(1) {
+        tower.raise(alloc, keys, edges, most)?;
+    }
+    Ok(tower)
+}
