@@ -1,6 +1,7 @@
 -- The next generation, AS by AS.
-use Rattle.std.proofs.Common.{◌≡◌, ℕ, ◌+◌, ◌<◌, ◌≤◌, ◌⊎◌, inl, inr, true, false, Bool, List, [], ◌∷◌, ◌++◌, length, get_or, take, map, append_assoc, refl, sym, ap, ◌∙◌, subst, arith, All, length-append}
-use Rattle.std.specs.Prelude.{◌≢◌, Contains, Option, Some, None, filter_map, ◌^◌}
+use Rattle.std.proofs.Common.{◌≡◌, ℕ, ◌+◌, ◌<◌, ◌≤◌, ◌⊎◌, inl, inr, true, false, List, [], ◌∷◌, ◌++◌, length, get_or, take, map}
+use Rattle.std.proofs.Common.{append_assoc, refl, sym, ap, ◌∙◌, subst, arith, All, length-append}
+use Rattle.std.specs.Prelude.{◌≢◌, Contains, Option, Some, None, ◌^◌}
 use Rattle.std.specs.List.{AllPairs, Any, cons_option}
 use Rattle.std.proofs.lemmas.Option.{none-some, same_Some}
 use Rattle.std.specs.List.Sorted.{IsPermutation}

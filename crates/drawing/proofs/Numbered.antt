@@ -1,5 +1,5 @@
 -- What is made of the items of a list and their places.
-use Rattle.std.proofs.Common.{◌≡◌, ℕ, ◌+◌, ◌<◌, List, [], ◌∷◌, ◌++◌, length, get_or, take, map, suc, append_assoc, refl, sym, ap, ◌∙◌, subst, arith, All}
+use Rattle.std.proofs.Common.{◌≡◌, ℕ, ◌+◌, ◌<◌, List, [], ◌∷◌, ◌++◌, length, get_or, take, map, suc, append_assoc, sym, ap, ◌∙◌, subst, arith, All}
 use Rattle.std.specs.List.{AllPairs, enumerate_from}
 use Rattle.std.proofs.Math.Seq.{take-length}
 use Rattle.std.proofs.lemmas.List.{get_or-map, length-map, map_more}

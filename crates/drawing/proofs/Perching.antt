@@ -1,8 +1,8 @@
 -- The cells of further generations, and that no two are the same.
-use Rattle.std.proofs.Common.{◌≡◌, ℕ, ◌+◌, ◌-◌, ◌/◌, ◌%◌, ◌<◌, ◌≤◌, ◌⊎◌, inl, inr, true, false, Bool, List, [], ◌∷◌, ◌++◌, length, get_or, take, map, refl, sym, ap, ◌∙◌, subst, arith}
+use Rattle.std.proofs.Common.{◌≡◌, ℕ, ◌+◌, ◌-◌, ◌<◌, ◌≤◌, ◌⊎◌, inl, inr, true, false, Bool, List, [], ◌∷◌, length, get_or, take, map, refl, ap, subst, arith}
 use Rattle.std.proofs.Common.{All, length-append}
 use Rattle.std.specs.Prelude.{Option, Some, None, filter_map, nat_lt, ◌==◌, cond, if◌then◌else◌}
-use Rattle.std.specs.List.{AllPairs, find, enumerate_from, cons_option}
+use Rattle.std.specs.List.{AllPairs, find, cons_option}
 use Rattle.std.proofs.lemmas.Option.{none-some, same_Some}
 use Rattle.std.proofs.lemmas.List.{length-map}
 use Rattle.std.proofs.lemmas.List.Elements.{All-append, All-nil, All-cons, All-tail}
@@ -12,12 +12,11 @@ use Rattle.drawing.specs.declared.group.Neighbour.{Neighbour}
 use Rattle.drawing.specs.declared.page.Cell.{Cell}
 use Rattle.drawing.specs.declared.standings.Standing.{Standing}
 use Rattle.drawing.specs.declared.generation.Ends.{Ends}
-use Rattle.drawing.specs.declared.tower.Perch.{Perch}
 use Rattle.drawing.specs.declared.tower.Tie.{Tie}
 use Rattle.drawing.specs.declared.drawing.Entry.{Entry}
 use Rattle.drawing.specs.declared.drawing.Entry.TheVariants as entry
 use Rattle.drawing.specs.Entries.{entries_of}
-use Rattle.drawing.specs.Page.{cell_of, column_of, rows_of, IsCell}
+use Rattle.drawing.specs.Page.{cell_of, rows_of, IsCell}
 use Rattle.drawing.specs.Generations.{upward, standing_of, tie_of, box_count, rows_with, standing_at, standings_at, perch_at, perches_at, rank_above, topmost, perches, ties, tie_with}
 use Rattle.drawing.proofs.Cells.{later_ten, row_of_ten, column_lt_ten, column_lt}
 use Rattle.drawing.proofs.Numbered.{numbered_each, numbered_pairs, pairs_append}

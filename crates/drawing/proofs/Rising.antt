@@ -1,8 +1,6 @@
 -- Lines from a box to one in a row above it.
 use Rattle.std.proofs.Common.{◌≡◌, ℕ, ◌+◌, ◌-◌, ◌*◌, ◌<◌, ◌≤◌, ◌⊎◌, inl, inr, refl, sym, ap, ◌∙◌, arith, lt-ltb, le-ltb, subst}
-use Rattle.std.specs.Prelude.{nat_lt, if◌then◌else◌}
 use Rattle.std.proofs.lemmas.Bool.{cases_order}
-use Rattle.drawing.specs.declared.page.Rect.{Rect}
 use Rattle.drawing.specs.declared.page.Line.{Line}
 use Rattle.drawing.specs.declared.page.Plan.{Plan}
 use Rattle.drawing.specs.declared.page.Cell.{Cell}

@@ -8,7 +8,7 @@ use Rattle.drawing.specs.declared.page.Plan.{Plan}
 use Rattle.drawing.specs.Page.{centre_row, first_row_below, row_count, row_y, box_at, column_of, spot_above, spot_beside, spot_below, spot_of}
 use Rattle.drawing.specs.Tidy.{Apart, KeepsOff, KeepsOffOthers, Joins, Within, LineWithin}
 use Rattle.drawing.proofs.Cells.{later_ten, later_eight, row_of_ten, row_of_eight, column_lt_ten, column_in_eight, column_lt, outwards, outwards_lt, outwards_sides}
-use Rattle.drawing.proofs.Geometry.{Differ, other_way, boxes_apart, up_to, left_to, right_to, down_to, up_off, down_off, left_off, right_off, Beside, centre_at}
+use Rattle.drawing.proofs.Geometry.{Differ, boxes_apart, up_to, left_to, right_to, down_to, up_off, down_off, left_off, right_off, Beside, centre_at}
 use Rattle.drawing.proofs.Geometry.{up_joins, down_joins, left_joins, right_joins, up_off_centre, down_off_centre, left_off_centre, right_off_centre}
 use Rattle.drawing.proofs.Rising.{same_or_not, same_box}
 use Rattle.drawing.proofs.Geometry.{box_within, up_within, down_within, left_within, right_within}

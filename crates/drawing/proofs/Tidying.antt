@@ -1,9 +1,8 @@
 -- A picture is tidy.
-use Rattle.std.proofs.Common.{◌≡◌, ℕ, ◌+◌, ◌-◌, ◌<◌, ◌≤◌, List, [], ◌∷◌, ◌++◌, length, get_or, map, inl, inr, refl, sym, ap, ◌∙◌, subst, arith, All, length-append}
-use Rattle.std.specs.List.{AllPairs, enumerate_from}
+use Rattle.std.proofs.Common.{◌≡◌, ℕ, ◌+◌, ◌-◌, ◌<◌, List, ◌∷◌, ◌++◌, length, get_or, map, inl, inr, refl, sym, ap, subst, arith, All, length-append}
+use Rattle.std.specs.List.{AllPairs}
 use Rattle.std.proofs.lemmas.List.Elements.{All-append, All-cons, All-map}
 use Rattle.std.proofs.lemmas.List.Kept.{AllPairs-cons}
-use Rattle.std.proofs.lemmas.List.{get_or-map, length-map}
 use Rattle.result_text.specs.declared.file.EdgeLine.{EdgeLine}
 use Rattle.drawing.specs.declared.group.Neighbour.{Neighbour}
 use Rattle.drawing.specs.declared.group.Counts.{Counts}
@@ -14,17 +13,14 @@ use Rattle.drawing.specs.declared.tower.Perch.{Perch}
 use Rattle.drawing.specs.declared.tower.Tie.{Tie}
 use Rattle.drawing.specs.declared.drawing.Entry.{Entry}
 use Rattle.drawing.specs.declared.drawing.Item.{Item}
-use Rattle.drawing.specs.declared.drawing.Post.{Post}
-use Rattle.drawing.specs.declared.drawing.Link.{Link}
-use Rattle.drawing.specs.declared.drawing.Drawing.{Drawing}
 use Rattle.drawing.specs.Entries.{entries_of}
-use Rattle.drawing.specs.Page.{rows_of, row_y, box_at, box_in, cell_row, centre_row, first_row_below, row_count, spot_of, centre_box, page_height, line_between}
+use Rattle.drawing.specs.Page.{rows_of, box_in, cell_row, centre_row, first_row_below, row_count, spot_of, centre_box, page_height, line_between}
 use Rattle.drawing.specs.Picture.{greatest_of, item_of, items_of, post_of, link_of, plan_of, drawing_with, drawing_by}
 use Rattle.drawing.specs.Generations.{rows_with, rank_above, perches, ties}
 use Rattle.drawing.specs.Tidy.{IsTidy, Within, LineWithin, Apart, Joins, KeepsOffOthers, boxes_of}
-use Rattle.drawing.proofs.Geometry.{Differ, centre_at, centre_within, box_within, boxes_apart, up_off_centre}
+use Rattle.drawing.proofs.Geometry.{Differ, centre_within, box_within, boxes_apart, up_off_centre}
 use Rattle.drawing.proofs.Rising.{Rises, between_rises, rises_off}
-use Rattle.drawing.proofs.Seats.{all_boxes, OnGrid, IsFine, one_fine, one_on_grid, one_off_others, two_apart, far_apart}
+use Rattle.drawing.proofs.Seats.{all_boxes, OnGrid, one_fine, one_on_grid, one_off_others, two_apart, far_apart}
 use Rattle.drawing.proofs.Numbered.{numbered_each, numbered_pairs, pairs_append, pairs_map}
 use Rattle.drawing.proofs.Perching.{InRows, CellsDiffer, IsRise, rank_from, all_in_rows, all_differ, all_rise}
 

@@ -1,9 +1,9 @@
 -- A tower of generations grows by one.
-use Rattle.std.proofs.Common.{◌≡◌, ℕ, ◌+◌, ◌<◌, List, [], ◌∷◌, ◌++◌, length, get_or, take, map, append_assoc, refl, sym, ap, ◌∙◌, subst, arith}
+use Rattle.std.proofs.Common.{◌≡◌, ℕ, ◌+◌, ◌<◌, List, [], ◌∷◌, ◌++◌, length, get_or, take, append_assoc, refl, sym, ap, ◌∙◌, subst, arith}
 use Rattle.std.specs.Prelude.{Option, Some, None, filter_map, ◌==◌, Contains, Bool, ◌≤◌, ◌*◌}
 use Rattle.tor_numbers.specs.Slots.{IsInserted}
 use Rattle.drawing.proofs.Numbering.{has_more}
-use Rattle.std.specs.List.{find, enumerate_from, cons_option}
+use Rattle.std.specs.List.{find, cons_option}
 use Rattle.std.specs.Option.{option_or}
 use Rattle.std.proofs.lemmas.List.{take_more, map_more}
 use Rattle.std.proofs.lemmas.List.Folds.{find-append}
@@ -12,11 +12,11 @@ use Rattle.result_text.specs.declared.file.EdgeLine.{EdgeLine}
 use Rattle.drawing.specs.declared.group.Neighbour.{Neighbour}
 use Rattle.drawing.specs.declared.standings.Standing.{Standing}
 use Rattle.drawing.specs.declared.generation.Ends.{Ends}
-use Rattle.drawing.specs.declared.tower.Perch.{Perch}
 use Rattle.drawing.specs.declared.tower.Tie.{Tie}
 use Rattle.drawing.specs.declared.tower.Tower.{Tower}
-use Rattle.drawing.specs.Generations.{upward, standing_of, provider_with, provider_above, providers_above, tie_with, tie_of, IsChoice, all_numbers, topmost, standings_at, rank_above, rows_with, perches_at, perches, ties}
-use Rattle.drawing.specs.Tower.{IsTower, IsPut, IsStacked}
+use Rattle.drawing.specs.Generations.{upward, standing_of, provider_with, provider_above, providers_above, tie_with, tie_of, IsChoice}
+use Rattle.drawing.specs.Generations.{all_numbers, topmost, standings_at, rows_with, perches_at, perches, ties}
+use Rattle.drawing.specs.Tower.{IsTower, IsStacked}
 use Rattle.drawing.specs.Shifted.{HasNumbers}
 use Rattle.drawing.proofs.Choosing.{numbers_of}
 
@@ -103,7 +103,7 @@ raised_none edges most first near t is low = record { gs = []; many = refl; is =
 pub raised_one : (edges : List EdgeLine) (most : ℕ) (first : List Neighbour) (near : List ℕ) (turn : ℕ) (old new : Tower) →
     IsRaised edges most first near turn old →
     ((first : List Neighbour) (near : List ℕ) (gs : List (List Neighbour)) → IsTower edges most first near gs old →
-        (g : List Neighbour) × IsTower edges most first near (g ∷ gs) new) →
+    (g : List Neighbour) × IsTower edges most first near (g ∷ gs) new) →
     new.rank ≤ old.rank + 201 → IsRaised edges most first near (turn + 1) new
 raised_one edges most first near turn old new x raise more =
     let next = raise first near x.gs x.is in

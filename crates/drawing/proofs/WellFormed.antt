@@ -21,7 +21,8 @@ use Rattle.drawing.specs.declared.drawing.Post.{Post}
 use Rattle.drawing.specs.declared.drawing.Link.{Link}
 use Rattle.drawing.specs.declared.drawing.Drawing.{Drawing}
 use Rattle.drawing.specs.Xml.{Element, is_plain, ArePlain, IsElement, IsDocument, element_text, elements_text}
-use Rattle.drawing.specs.Svg.{rect, point, points, mark_dashes, dashes, polyline, link_element, links_elements, post_elements, posts_elements, text_length, text_at, entry_words, asked_words, tally_words, caption_words, legend_words}
+use Rattle.drawing.specs.Svg.{rect, point, points, mark_dashes, dashes, polyline, link_element, links_elements, post_elements, posts_elements}
+use Rattle.drawing.specs.Svg.{text_length, text_at, entry_words, asked_words, tally_words, caption_words, legend_words}
 use Rattle.drawing.specs.Svg.{item_elements, items_elements, title_elements, centre_elements, elements_of, extent_words, start_text, page_box, page_attributes, svg_text}
 
 -- ---- plain texts
@@ -148,7 +149,11 @@ items_are : (items : List Item) → AllByRecursion IsElement (items_elements ite
 items_are [] = tt
 items_are (i ∷ items) =
     subst (AllByRecursion IsElement) (sym (flat_map-cons item_elements i items))
-    (all_append (item_elements i) (items_elements items) (polyline_is i.line i.width (dashes i.entry) (plain_dashes i.entry), (rect_is i.at, (text_is (i.at.x + i.at.width / 2) (i.at.y + 17) (i.at.width - 8) (entry_words i.entry) (plain_entry i.entry), tt))) (items_are items))
+    (all_append (item_elements i) (items_elements items) (
+      polyline_is i.line i.width (dashes i.entry) (plain_dashes i.entry),
+      (rect_is i.at, (text_is (i.at.x + i.at.width / 2) (i.at.y + 17) (i.at.width - 8) (entry_words i.entry) (plain_entry i.entry), tt)),
+    )
+    (items_are items))
 
 posts_are : (posts : List Post) → AllByRecursion IsElement (posts_elements posts)
 posts_are [] = tt

@@ -1,12 +1,11 @@
 -- The generations above an AS: the first are its providers, and each next one the providers of those of the one before that are drawn,
 -- as far as they stand no nearer. The lists of further generations have the topmost one first, as they stand on the page.
-use Rattle.std.specs.Prelude.{◌≡◌, ◌≢◌, ℕ, ◌+◌, ◌/◌, ◌<◌, ◌≤◌, ◌⊎◌, ◌==◌, List, [], ◌∷◌, ◌++◌, length, map, take, max, fold}
+use Rattle.std.specs.Prelude.{◌≡◌, ◌≢◌, ℕ, ◌+◌, ◌≤◌, ◌⊎◌, ◌==◌, List, [], ◌∷◌, ◌++◌, length, map, take}
 use Rattle.std.specs.Prelude.{Option, Some, None, Contains, All, filter_map}
 use Rattle.std.specs.List.{AllPairs, Any, find, enumerate_from}
 use Rattle.relationships.specs.declared.label.Label.TheVariants as label
 use Rattle.result_text.specs.declared.file.EdgeLine.{EdgeLine}
 use Rattle.drawing.specs.declared.group.Neighbour.{Neighbour}
-use Rattle.drawing.specs.declared.page.Cell.{Cell}
 use Rattle.drawing.specs.declared.standings.Standing.{Standing}
 use Rattle.drawing.specs.declared.generation.Ends.{Ends}
 use Rattle.drawing.specs.declared.tower.Perch.{Perch}

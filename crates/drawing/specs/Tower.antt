@@ -4,11 +4,13 @@ use Rattle.result_text.specs.declared.file.EdgeLine.{EdgeLine}
 use Rattle.drawing.specs.declared.group.Neighbour.{Neighbour}
 use Rattle.drawing.specs.declared.standings.Standing.{Standing}
 use Rattle.drawing.specs.declared.tower.Tower.{Tower}
-use Rattle.drawing.specs.Generations.{AreGenerations, all_numbers, rank_above, topmost, standing_of, standings_at, perches, perches_at, ties, tie_of, rows_with}
+use Rattle.drawing.specs.Generations.{AreGenerations, all_numbers, rank_above, topmost, standing_of, standings_at}
+use Rattle.drawing.specs.Generations.{perches, perches_at, ties, tie_of, rows_with}
 use Rattle.drawing.specs.Shifted.{HasNumbers}
 
 -- these generations stand in the tower, above the providers `first`, of an AS with these numbers near
-pub record IsTower (edges : List EdgeLine) (most : ℕ) (first : List Neighbour) (near : List ℕ) (gs : List (List Neighbour)) (t : Tower) : Type 0 where
+pub record IsTower (edges : List EdgeLine) (most : ℕ) (first : List Neighbour) (near : List ℕ) (gs : List (List Neighbour)) (t : Tower)
+    : Type 0 where
   pub generations : AreGenerations edges most first near gs
   pub nearer : HasNumbers t.nearer (all_numbers near gs)
   pub topmost_are : (n : ℕ) → standing_of n t.topmost ≡ standing_of n (topmost most first gs)

@@ -332,7 +332,8 @@ pub(crate) fn tower_of(
 ) -> Result<Tower, NoMemory>
     requires few { most ≤ 2000 }
     requires deep { depth ≤ 8 }
-    ensures all { IfOk result (λ t. (gs : List (List Neighbour)) × (length gs ≡ depth - 1) × IsTower edges.now most groups.now.providers.items
+    ensures all { IfOk result (λ t. (gs : List (List Neighbour)) × (length gs ≡ depth - 1)
+        × IsTower edges.now most groups.now.providers.items
         (near_numbers asked groups.now.providers.items groups.now.peers.items groups.now.customers.items) gs t) }
     ensures low { IfOk result (λ t. t.rank ≤ 1608) }
 {

@@ -17,7 +17,7 @@ drawing_of-requires-clause-perches c =
     let is = all.2 in
     subst (λ r. All (λ q. IsCell r q.cell) c.in_ok-tower.tower.perches.items) (sym is.rank_is)
     (subst (All (λ q. IsCell (rank_above c.args.most c.args.groups.now.providers.items all.0) q.cell))
-        (sym is.perches_are) (perches_are_cells c.args.most c.args.groups.now.providers.items all.0))
+    (sym is.perches_are) (perches_are_cells c.args.most c.args.groups.now.providers.items all.0))
 
 pub drawing_of-requires-clause-lower : goal.drawing_of-requires-clause-lower
 drawing_of-requires-clause-lower c =
@@ -25,7 +25,7 @@ drawing_of-requires-clause-lower c =
     let is = all.2 in
     subst (λ r. All (λ t. IsCell r t.lower) c.in_ok-tower.tower.ties.items) (sym is.rank_is)
     (subst (All (λ t. IsCell (rank_above c.args.most c.args.groups.now.providers.items all.0) t.lower))
-        (sym is.ties_are) (lower_are_cells c.args.edges.now c.args.most c.args.groups.now.providers.items all.0))
+    (sym is.ties_are) (lower_are_cells c.args.edges.now c.args.most c.args.groups.now.providers.items all.0))
 
 pub drawing_of-requires-clause-upper : goal.drawing_of-requires-clause-upper
 drawing_of-requires-clause-upper c =
@@ -33,4 +33,4 @@ drawing_of-requires-clause-upper c =
     let is = all.2 in
     subst (λ r. All (λ t. IsCell r t.upper) c.in_ok-tower.tower.ties.items) (sym is.rank_is)
     (subst (All (λ t. IsCell (rank_above c.args.most c.args.groups.now.providers.items all.0) t.upper))
-        (sym is.ties_are) (upper_are_cells c.args.edges.now c.args.most c.args.groups.now.providers.items all.0))
+    (sym is.ties_are) (upper_are_cells c.args.edges.now c.args.most c.args.groups.now.providers.items all.0))

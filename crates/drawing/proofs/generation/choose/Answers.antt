@@ -1,4 +1,4 @@
-use Rattle.std.proofs.Common.{◌∙◌, ◌+◌, ap, sym, subst, arith}
+use Rattle.std.proofs.Common.{◌+◌, sym, subst, arith}
 use Rattle.tor_numbers.specs.Slots.{IsInserted}
 use Rattle.drawing.proofs.Choosing.{IsChoosing, choosing_none, choosing_one, choosing_left, choosing_all}
 use Rattle.drawing.proofs.generation.choose.Goals as goal

@@ -1,4 +1,3 @@
-use Rattle.std.proofs.Common.{◌∙◌, ◌++◌, ap, arith}
 use Rattle.drawing.proofs.Towering.{ties_more}
 use Rattle.drawing.proofs.tower.put_ties.Goals as goal
 

@@ -10,7 +10,7 @@ returns-in-Some c =
     let there = subst (λ m. slice_get inside.numbers c.in-Some.place ≡ Some (m + 2)) c.from.ensures c.in-Some.ensures in
     ap (λ s. Some s) c.index.ensures
     ∙ sym (ap (standing_of c.args.number) (sym c.self.view_is)
-        ∙ found inside.numbers inside.drawn.items c.in-Some.place c.args.number c.index.result.now c.self.invariant there)
+    ∙ found inside.numbers inside.drawn.items c.in-Some.place c.args.number c.index.result.now c.self.invariant there)
 
 pub returns-in-None : goal.returns-in-None
 returns-in-None c =

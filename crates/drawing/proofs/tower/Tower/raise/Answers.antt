@@ -22,7 +22,9 @@ returns-clause-raised c =
     } in
     on_ok_weaker c.stack.result
     (λ stacked first near gs tower.
-        let x = c.in_ok-generation.ensures (all_numbers near gs) tower.nearer in
-        (g, raised edges most first near gs g old middle new tower x.0 x.1 refl refl refl refl
-            (subst (λ h. IsStacked edges most h middle new) c.deref.ensures.value stacked)))
+    let x = c.in_ok-generation.ensures (all_numbers near gs) tower.nearer in (
+      g,
+      raised edges most first near gs g old middle new tower x.0 x.1 refl refl refl refl
+          (subst (λ h. IsStacked edges most h middle new) c.deref.ensures.value stacked),
+    ))
     c.stack.ensures.stacked
