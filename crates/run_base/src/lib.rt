@@ -14,4 +14,4 @@ pub use notes::{FirstFile, bad_line_note};
 pub use pieces::{Piece, put_pieces};
 pub use reading::{Stopped, nothing_taken, read_dumps};
 pub use status::{Status, code_of_failure};
-pub use whole_file::{Unread, read_whole};
+pub use whole_file::{STEP, Unread, read_prefix, read_whole};

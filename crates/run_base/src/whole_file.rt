@@ -11,7 +11,7 @@ use tor_arena::{List, NoMemory};
 use tor_io::{Failed, OpenRefused, Shelf};
 
 /// The most octets that are read at once.
-const STEP: usize = 1 << 16;
+pub const STEP: usize = 1 << 16;
 
 /// Why a file was not read whole.
 #[derive(Clone, Copy, PartialEq, Eq)]
@@ -49,7 +49,7 @@ impl From<AllocError> for Unread {
 }
 
 /// Reads once, at most so many octets, to the prefix of the buffer. It answers how many came.
-fn read_prefix<H: Shelf>(shelf: &mut H, buffer: &mut [u8], most: usize) -> Result<usize, Failed>
+pub fn read_prefix<H: Shelf>(shelf: &mut H, buffer: &mut [u8], most: usize) -> Result<usize, Failed>
     requires some { 0 < most }
     requires room { most ≤ length buffer.old }
     ensures bound { IfOk result (λ n. n ≤ most) }
