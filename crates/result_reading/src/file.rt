@@ -1,6 +1,6 @@
 //! The result that a file holds.
-ghost use Rattle.std.specs.Prelude.{ℕ, List as Items, ◌≡◌, ◌≢◌, ◌<◌, ◌≤◌, ◌^◌, ◌+◌, ◌++◌, Err, Some, IfOk, IfErr, OnOk, IfSome, IsErrOf, length, drop};
-ghost use Rattle.std.specs.Prelude.{};
+ghost use Rattle.std.specs.Prelude.{ℕ, List as Items, ◌≡◌, ◌≢◌, ◌<◌, ◌≤◌, ◌^◌, ◌+◌, ◌++◌, Err, Some, IfOk};
+ghost use Rattle.std.specs.Prelude.{IfErr, OnOk, IfSome, IsErrOf, length, drop};
 ghost use Rattle.std.specs.Io.KnownBytes.{IsAtEnd};
 ghost use Rattle.tor_io.specs.Counts.{Rose};
 ghost use Rattle.tor_io.specs.Contents.{LacksFile};

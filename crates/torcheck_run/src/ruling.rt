@@ -11,9 +11,10 @@ ghost use Rattle.torcheck_run.specs.Ruled.{IsRuling, IsRulingOf, IsRulingIn, IsO
 ghost use Rattle.torcheck_run.specs.Limits.{max_result};
 
 use rel_checker::check_file;
+use result_reading::{NoResult, read_result};
 use result_rules::Verdict;
 use result_text::{ParseError, ResultFile, parse};
-use run_base::{Unread, read_whole};
+use run_base::Unread;
 use std::alloc::Global;
 use tor_arena::{Keys, List, NoMemory};
 use tor_io::Shelf;
@@ -80,11 +81,12 @@ pub fn ruling_of_file<H: Shelf>(
 
     ensures reads_shelf { ReadsShelf H.Shelf (IsErrAnd result (λ why. why ≡ failed)) shelf.old shelf.new }
 {
-    match read_whole(alloc, shelf, name, MAX_RESULT) {
-        Ok(bytes) => match ruling_on(alloc, keys, bytes) {
+    match read_result(alloc, shelf, name, MAX_RESULT) {
+        Ok(file) => match ruling_of(alloc, keys, file) {
             Ok(ruling) => Ok(ruling),
             Err(NoMemory) => Err(Unread::NoMemory),
         },
-        Err(unread) => Err(unread),
+        Err(NoResult::BadLine(line)) => Ok(Ruling::Broken { line, rule: 0 }),
+        Err(NoResult::Unread(why)) => Err(why),
     }
 }
