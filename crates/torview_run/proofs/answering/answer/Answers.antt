@@ -1,0 +1,18 @@
+use Rattle.asking_run.proofs.Bounds.{bounded, written}
+use Rattle.asking_run.proofs.Unsayings.{unsaid_note}
+use Rattle.torview_run.specs.Views.{viewing}
+use Rattle.torview_run.proofs.answering.answer.Goals as goal
+
+pub returns-in-Err-clause-note : goal.returns-in-Err-clause-note
+returns-in-Err-clause-note g c =
+    let shelf = g.H.Shelf in
+    unsaid_note viewing c.args.words.now (shelf.files c.args.shelf.now) (shelf.steady c.args.shelf.now) (shelf.left c.seen_asked.new.shelf) c.in-Err.unsaid c.answer_to_unsaid.result
+    c.in-Err.ensures.unseen c.answer_to_unsaid.ensures c.in-Err.ensures.reach
+
+pub returns-in-Err-clause-bounded : goal.returns-in-Err-clause-bounded
+returns-in-Err-clause-bounded g c =
+    let shelf = g.H.Shelf in
+    bounded viewing c.args.words.now (shelf.files c.args.shelf.now) (shelf.left c.seen_asked.new.shelf) c.in-Err.unsaid c.answer_to_unsaid.result c.answer_to_unsaid.ensures c.in-Err.ensures.reach
+
+pub returns-in-Ok-clause-bounded : goal.returns-in-Ok-clause-bounded
+returns-in-Ok-clause-bounded g c = λ limit. written c.write_picture.result.status c.write_picture.ensures.status limit

@@ -1,0 +1,21 @@
+use Rattle.asking_run.proofs.Answerings.{says_given}
+use Rattle.asking_run.proofs.Unsayings.{reach_given, unsaid_given}
+use Rattle.torview_run.specs.Views.{viewing}
+use Rattle.torview_run.proofs.asking.seen_asked.Goals as goal
+
+pub returns-in-Ok-clause-seen : goal.returns-in-Ok-clause-seen
+returns-in-Ok-clause-seen g c =
+    says_given viewing (λ text. text) c.args.words.now (g.H.Shelf.files c.args.shelf.now) c.in-Ok.settings c.seen_in.result c.in-Ok.ensures.given c.seen_in.ensures.seen
+
+pub returns-in-Ok-clause-unseen : goal.returns-in-Ok-clause-unseen
+returns-in-Ok-clause-unseen g c =
+    let shelf = g.H.Shelf in
+    unsaid_given viewing c.args.words.now (shelf.files c.args.shelf.now) (shelf.steady c.args.shelf.now) c.in-Ok.settings c.seen_in.result c.in-Ok.ensures.given c.seen_in.ensures.unseen
+
+pub returns-in-Ok-clause-reach : goal.returns-in-Ok-clause-reach
+returns-in-Ok-clause-reach g c =
+    let shelf = g.H.Shelf in
+    reach_given viewing c.args.words.now (shelf.files c.args.shelf.now) (shelf.left c.seen_in.new.shelf) c.in-Ok.settings c.seen_in.result c.in-Ok.ensures.given c.seen_in.ensures.reach
+
+pub returns-in-Err-clause-reach : goal.returns-in-Err-clause-reach
+returns-in-Err-clause-reach g c = λ s is. tt
