@@ -6,7 +6,7 @@
 # a bare system.
 
 # A program has its man page in man/, its completions in completions/, and its stored run (args, data, stdout) in its crate.
-PROGRAMS = tor torcheck torgrade torwhy
+PROGRAMS = tor torcheck torgrade torwhy torview
 
 # The logic of the kit with which all is proved, as `rt version` has it.
 LOGIC = dac8208d650f15bf

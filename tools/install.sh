@@ -13,7 +13,7 @@ done
 renamed() { # FILE
     local capitals
     capitals=$(printf '%s' "$name" | tr '[:lower:]' '[:upper:]')
-    sed -E "s/\\b(_?)tor(check|grade|why)?\\b/\\1$name\\2/g; s/\\bTOR(CHECK|GRADE|WHY)?\\b/$capitals\\1/g" "$1"
+    sed -E "s/\\b(_?)tor(check|grade|why|view)?\\b/\\1$name\\2/g; s/\\bTOR(CHECK|GRADE|WHY|VIEW)?\\b/$capitals\\1/g" "$1"
 }
 
 bash=$folder/share/bash-completion/completions zsh=$folder/share/zsh/site-functions
