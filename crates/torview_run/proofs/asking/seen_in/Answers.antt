@@ -4,7 +4,8 @@ use Rattle.torview_run.proofs.asking.seen_in.Goals as goal
 
 pub returns-in-Ok-clause-seen : goal.returns-in-Ok-clause-seen
 returns-in-Ok-clause-seen g c =
-    answered_says viewing (λ text. text) (g.H.Shelf.files c.args.shelf.now) c.args.settings.now c.as_text.result.now c.in-Ok.file c.seen_of.result c.as_text.ensures c.in-Ok.ensures.met c.seen_of.ensures.seen
+    answered_says viewing (λ text. text) (g.H.Shelf.files c.args.shelf.now) c.args.settings.now c.as_text.result.now c.in-Ok.file c.seen_of.result c.as_text.ensures
+    c.in-Ok.ensures.met c.seen_of.ensures.seen
 
 pub returns-in-Ok-clause-unseen : goal.returns-in-Ok-clause-unseen
 returns-in-Ok-clause-unseen g c =
