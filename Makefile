@@ -1,4 +1,4 @@
-# `make` proves and builds the programs, compares their pages and the stored results with them, and runs every command of the README
+# `make` proves and builds the programs, compares their pages, the stored results and a picture with them, and runs every command of the README
 # (`make tour`). `make install` puts them where a shell finds them, and `make dist` into an archive for machines without the kit. `make
 # test` is the whole gate. Outside the gate, `make samples` compares the lists of two real tables with what other readers give, checks
 # the results of both, grades their paths by the labels of their own results, and makes both again in four pieces; `make system` tries the programs on full devices,
@@ -34,7 +34,7 @@ pages: $(BUILT)
 	tools/pages.sh bin $(PROGRAMS)
 
 results: $(BUILT)
-	tools/results.sh bin samples
+	tools/results.sh bin samples docs
 
 tour: pages results
 	tools/tour.sh bin samples README.md
