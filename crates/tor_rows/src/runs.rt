@@ -1,4 +1,4 @@
-//! Runs of `infer`, `check`, `grade` and `why` in memory.
+//! Runs of `infer`, `check`, `grade`, `why` and `view` in memory.
 use crate::conditions::Conditions;
 use crate::endless::Endless;
 use crate::files::Files;
@@ -10,6 +10,7 @@ use tor_run::infer;
 use tor_words::Name;
 use torcheck_run::check;
 use torgrade_run::grade;
+use torview_run::view;
 use torwhy_run::why;
 
 /// What is run.
@@ -23,6 +24,8 @@ pub enum Program {
     Grade,
     /// `why`.
     Why,
+    /// `view`.
+    View,
 }
 
 impl Program {
@@ -34,6 +37,8 @@ impl Program {
             Program::Grade
         } else if name == "torwhy" {
             Program::Why
+        } else if name == "torview" {
+            Program::View
         } else {
             Program::Infer
         }
@@ -131,6 +136,17 @@ fn why_over<H: Shelf>(
     why(alloc, keys, words, shelf, out, err)
 }
 
+fn view_over<H: Shelf>(
+    alloc: Global,
+    keys: Keys,
+    words: &List<Name>,
+    shelf: &mut H,
+    out: &mut MemSink,
+    err: &mut MemSink,
+) -> Status {
+    view(alloc, keys, words, shelf, out, err)
+}
+
 fn told_of(alloc: Global, status: Status, out: &[u8], err: &[u8]) -> Result<Told, NoMemory> {
     Ok(Told {
         status: status.code(),
@@ -154,6 +170,7 @@ fn run_into<H: Shelf>(
         Program::Check => check_over(alloc, keys, &words, shelf, out, err),
         Program::Grade => grade_over(alloc, keys, &words, shelf, out, err),
         Program::Why => why_over(alloc, keys, &words, shelf, out, err),
+        Program::View => view_over(alloc, keys, &words, shelf, out, err),
     };
     told_of(alloc, status, out.held(), err.held())
 }
