@@ -94,8 +94,12 @@ plain_entry (entry.More n) = plain_append (decimal n) (codes " more") (plain_dec
 plain_asked : (a : ℕ) → ArePlain (asked_words a)
 plain_asked a = plain_append (codes "AS ") (decimal a) refl (plain_decimal a)
 
+plain_word : (is_one : Bool) → ArePlain (if is_one then [] else codes "s")
+plain_word true = refl
+plain_word false = refl
+
 plain_ending : (n : ℕ) → ArePlain (ending n)
-plain_ending n = elim (n == 1) [ true ↦ refl | false ↦ refl ]
+plain_ending n = plain_word (n == 1)
 
 plain_tally : (what : List ℕ) (t : Tally) → ArePlain what → ArePlain (tally_words what t)
 plain_tally what t plain =
