@@ -86,14 +86,14 @@ key_small t h = elim (lesser_one (arc_of t) (partner_of t)) [
   | inr b ↦ subst (λ (e : Edge). e.1 < 2 ^ 32) (sym b) (node_small (negated t.first) h.0)
 ]
 
-either : (a b : Bool) → a ≡ false → (a || b) ≡ true → b ≡ true
+pub either : (a b : Bool) → a ≡ false → (a || b) ≡ true → b ≡ true
 either true b f e = cc
 either false b f e = e
 
-left_or : (a b : Bool) → a ≡ true → (a || b) ≡ true
+pub left_or : (a b : Bool) → a ≡ true → (a || b) ≡ true
 left_or a b e = rw e refl
 
-right_or : (a b : Bool) → b ≡ true → (a || b) ≡ true
+pub right_or : (a b : Bool) → b ≡ true → (a || b) ≡ true
 right_or true b e = refl
 right_or false b e = e
 
@@ -127,13 +127,6 @@ is_known t number keys ts h known e = (
 -- the key of a triple is that of its nodes
 pub key-arc : (t : Triple) → key_of_arc (arc_of t) ≡ triple_key t
 key-arc t = ap (lesser (arc_of t)) (partner-reversed t)
-
-pub number_is : (t : Triple) (number first second : ℕ) → first ≡ node_of t.first → second ≡ node_of t.second → number ≡ number_of_pair (key_of_arc (first, second)) →
-    number ≡ key_number t
-number_is t number first second e f n = n ∙ ap number_of_pair (ap₂ arc_with e f ∙ key-arc t)
-  where
-    arc_with : ℕ → ℕ → Edge
-    arc_with a b = key_of_arc (a, b)
 
 -- whether a triple's number is new tells whether the triple is
 pub new-triple : (t : Triple) (number : ℕ) (keys new : List ℕ) (ts : List Triple) → AreTripleKeys keys ts → number ≡ key_number t → IsInserted number keys new true →

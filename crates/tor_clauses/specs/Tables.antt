@@ -1,10 +1,12 @@
 -- What the fields of clauses hold, and what one more triple makes of them.
 use Rattle.std.specs.Prelude.{◌≡◌, ℕ, ◌<◌, ◌≤◌, ◌+◌, ◌*◌, ◌^◌, Bool, true, false, nat_lt, List, [], ◌∷◌, ◌++◌, All, Some, length, map, take}
-use Rattle.std.specs.Prelude.{flat_map, slice_get, if◌then◌else◌}
+use Rattle.std.specs.Prelude.{flat_map, slice_get, IfSome, if◌then◌else◌}
+use Rattle.std.specs.declared.option.Option.{Option}
 use Rattle.relationships.specs.declared.label.End.{End}
 use Rattle.tor_digraph.specs.Walks.{Net}
 use Rattle.as_graph.specs.Limits.{most_triples}
 use Rattle.as_graph.specs.EdgeSteps.{EdgeStep}
+use Rattle.tor_numbers.specs.Slots.{IsInserted}
 use Rattle.tor_clauses.specs.declared.triple.Triple.{Triple}
 use Rattle.tor_clauses.specs.declared.triple.TriplePlace.{TriplePlace}
 use Rattle.tor_clauses.specs.Literals.{Literal, most_edges, negated, node_of, lit_of, opposite_node, Holds}
@@ -60,6 +62,23 @@ pub record AreStanding (known : List ℕ) (places : List TriplePlace) (arcs : Li
   pub many : length arcs ≡ length places * 2
   pub of_triples : arcs ≡ flat_map arcs_of (triples_at places arcs)
   pub keys : AreTripleKeys known (triples_at places arcs)
+
+-- so for some numbers, which a set has if there is one
+pub record AreListed (set : Option (List ℕ)) (places : List TriplePlace) (arcs : List (ℕ × ℕ)) : Type 0 where
+  pub known : List ℕ
+  pub standing : AreStanding known places arcs
+  pub has : IfSome set (λ numbers. numbers ≡ known)
+
+-- the arc is one of these
+abbrev pub HasArc : List (ℕ × ℕ) → ℕ × ℕ → Type 0
+HasArc arcs arc = (k : ℕ) × (slice_get arcs k ≡ Some arc)
+
+-- the number of a triple with this arc is added to the numbers that are known, which a set has if there is one; or the triple or its
+-- reverse is there, and nothing changes
+abbrev pub IsNoted : List (ℕ × ℕ) → ℕ × ℕ → Option (List ℕ) → Option (List ℕ) → Bool → Type 0
+IsNoted arcs arc old new is_new = (known : List ℕ) (places : List TriplePlace) (t : Triple) → AreStanding known places arcs →
+    IfSome old (λ numbers. numbers ≡ known) → HasNodes t → arc ≡ arc_of t →
+    (more : List ℕ) × IsInserted (number_of_pair (triple_key t)) known more is_new × IfSome new (λ numbers. numbers ≡ more)
 
 -- these triples and their arcs, over the nodes that are there
 abbrev pub implying : Implications → List Triple → Implications

@@ -225,6 +225,14 @@ impl Clauses {
         self.cut_to(mark);
     }
 
+    /// Gives up the memory by which `first_new` and `add_path` find a triple at once: from now on they look along arcs for it. It takes no
+    /// memory.
+    pub fn give_up_numbers(&mut self)
+        ensures { self.new ≡ self.old }
+    {
+        self.table.give_up_numbers();
+    }
+
     /// Whether an orientation, with one end for each edge of the graph that the clauses fit, serves their paths: exactly if no arc
     /// leads from a literal that holds to one that does not. It takes no memory.
     pub fn holds(&self, graph: &AsGraph, orientation: &Orientation) -> bool

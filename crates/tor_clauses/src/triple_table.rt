@@ -1,5 +1,6 @@
 //! Distinct triples, found by their literals, and their arcs.
-ghost use Rattle.std.specs.Prelude.{◌≡◌, ◌+◌, ◌*◌, ◌<◌, ◌≤◌, ◌↔◌, ◌++◌, [], All, length, take, slice_get, Some, IsTrue, OnOk, OnErr};
+ghost use Rattle.std.specs.Prelude.{◌≡◌, ℕ, ◌+◌, ◌*◌, ◌<◌, ◌≤◌, ◌↔◌, ◌++◌, List, [], All, length, take, slice_get, Some, IsTrue, IfSome};
+ghost use Rattle.std.specs.Prelude.{IfOk, OnOk, OnErr};
 ghost use Rattle.tor_arena.specs.Limits.{max_numbers, most_places};
 ghost use Rattle.tor_digraph.specs.Walks.{first_part};
 ghost use Rattle.as_graph.specs.Limits.{most_triples};
@@ -7,7 +8,7 @@ ghost use Rattle.tor_clauses.specs.declared.triple.Triple.{Triple};
 ghost use Rattle.tor_clauses.specs.Literals.{most_edges, node_of, Holds};
 ghost use Rattle.tor_clauses.specs.Triples.{arc_of, arcs_of, is_among};
 ghost use Rattle.tor_clauses.specs.Tables.{HasNodes, IsSatisfied, AreKnownOn, IsNewAt, key_of_arc, number_of_pair};
-ghost use Rattle.tor_clauses.specs.Tables.{standing, implying, with_triple, with_arc};
+ghost use Rattle.tor_clauses.specs.Tables.{standing, implying, with_triple, with_arc, HasArc, IsNoted};
 
 use crate::lit::{Lit, negation_node};
 use crate::triple::{Triple, TriplePlace};
@@ -24,20 +25,20 @@ use tor_numbers::NumberSet;
 #[derive(Drop)]
 pub(crate) struct TripleTable {
     places: Arena<TripleId, TriplePlace>,
-    // for each triple the number of the pair of nodes that it shares with its reverse
-    known: NumberSet,
+    // for each triple the number of the pair of nodes that it shares with its reverse, until these are given up
+    known: Option<NumberSet>,
     // for each triple two arcs, the first of which leads from its first literal to its second
     digraph: Digraph<NodeId, ArcId>,
 }
 
 impl Model for TripleTable {
-    ghost use Rattle.tor_clauses.specs.Tables.{Implications, triples_at, AreStanding};
+    ghost use Rattle.tor_clauses.specs.Tables.{Implications, triples_at, AreListed};
 
     ghost Value = { Implications };
 
     ghost view = { λ table. record { triples = triples_at table.places.items table.digraph.arcs; net = table.digraph } };
 
-    ghost invariant = { λ table. AreStanding table.known table.places.items table.digraph.arcs };
+    ghost invariant = { λ table. AreListed table.known table.places.items table.digraph.arcs };
 }
 
 impl TripleTable {
@@ -49,7 +50,7 @@ impl TripleTable {
     {
         TripleTable {
             places: Arena::new(alloc),
-            known: NumberSet::new(alloc, keys),
+            known: Some(NumberSet::new(alloc, keys)),
             digraph,
         }
     }
@@ -127,7 +128,18 @@ impl TripleTable {
     fn holds(&self, first: NodeId, second: NodeId) -> bool
         ensures { (t : Triple) → HasNodes t → arc_of t ≡ (first, second) → (IsTrue result ↔ IsTrue (is_among self.now.triples t)) }
     {
-        self.known.holds(key(first, second))
+        match &self.known {
+            Some(known) => known.holds(key(first, second)),
+            None => has_arc(&self.digraph, first, second),
+        }
+    }
+
+    /// Gives up the numbers by which triples are found: from now on a triple is looked for along the arcs that leave its first literal. It
+    /// takes no memory.
+    pub fn give_up_numbers(&mut self)
+        ensures { self.new ≡ self.old }
+    {
+        self.known = None;
     }
 
     /// The first place from this one on at which a step and the one before it make a triple that is new, or how many steps there
@@ -164,8 +176,9 @@ impl TripleTable {
     {
         let count = self.len();
         self.places.reserve(1)?;
-        let number = key(triple.first.node(), triple.second.node());
-        if !self.known.insert(number)? {
+        let first = triple.first.node();
+        let second = triple.second.node();
+        if !insert(&mut self.known, &self.digraph, first, second)? {
             return Ok(());
         }
         match add_arcs(&mut self.digraph, triple) {
@@ -177,7 +190,7 @@ impl TripleTable {
                 Ok(())
             }
             Err(NoMemory) => {
-                self.known.cut_to(count);
+                cut_numbers(&mut self.known, count);
                 Err(NoMemory)
             }
         }
@@ -195,7 +208,7 @@ impl TripleTable {
         prove!(arcs <= self.digraph.arc_count());
         self.digraph.undo_to(GraphMark { nodes, arcs });
         self.places.cut_to(count);
-        self.known.cut_to(count);
+        cut_numbers(&mut self.known, count);
     }
 }
 
@@ -214,6 +227,47 @@ fn key(first: NodeId, second: NodeId) -> u64
     let number = number_of((first, second));
     let of_reverse = number_of((negation_node(second), negation_node(first)));
     number.min(of_reverse)
+}
+
+/// Whether an arc leads from one node to another. It takes no memory.
+fn has_arc(digraph: &Digraph<NodeId, ArcId>, tail: NodeId, head: NodeId) -> bool
+    ensures { IsTrue result ↔ HasArc digraph.now.arcs (tail, head) }
+{
+    for place in 0..digraph.arc_count() {
+        let arc = ArcId::from_place(place).unwrap();
+        let (from, to) = digraph.ends(arc);
+        if from == tail && to == head {
+            return true;
+        }
+    }
+    false
+}
+
+/// Adds the number of a triple whose literals have these nodes, or its reverse, if numbers were not given up, and answers whether neither
+/// is there.
+fn insert(
+    known: &mut Option<NumberSet>,
+    digraph: &Digraph<NodeId, ArcId>,
+    first: NodeId,
+    second: NodeId,
+) -> Result<bool, NoMemory>
+    ensures ok { IfOk result (IsNoted digraph.now.arcs (first, second) known.old known.new) }
+    ensures err { OnErr result (known.new ≡ known.old) }
+{
+    match known {
+        Some(known) => known.insert(key(first, second)),
+        None => Ok(!has_arc(digraph, first, second)),
+    }
+}
+
+/// Keeps the first `count` numbers, of which there have to be as many, if they were not given up. It takes no memory.
+fn cut_numbers(known: &mut Option<NumberSet>, count: usize)
+    requires { IfSome known.old (λ numbers. count ≤ length numbers) }
+    ensures { (all : List ℕ) → IfSome known.old (λ numbers. numbers ≡ all) → IfSome known.new (λ numbers. numbers ≡ take count all) }
+{
+    if let Some(known) = known {
+        known.cut_to(count);
+    }
 }
 
 /// Adds the two arcs of a triple, both or, for want of memory, none.

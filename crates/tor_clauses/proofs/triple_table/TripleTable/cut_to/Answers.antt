@@ -1,4 +1,4 @@
-use Rattle.std.proofs.Common.{◌≡◌, ◌*◌, ◌≤◌, ℕ, List, length, take, sym, ap, ap₂, ◌∙◌, subst, arith}
+use Rattle.std.proofs.Common.{◌≡◌, ◌*◌, ◌≤◌, ℕ, length, take, sym, ap, ap₂, ◌∙◌, subst, arith}
 use Rattle.tor_digraph.specs.Walks.{Net}
 use Rattle.tor_clauses.specs.Tables.{Implications, AreStanding, triples_at}
 use Rattle.tor_clauses.proofs.Cuts.{inside_first}
@@ -8,7 +8,7 @@ use Rattle.tor_clauses.proofs.triple_table.TripleTable.cut_to.Goals as goal
 pub prove-unreachable-requires-2 : goal.prove-unreachable-requires-2
 prove-unreachable-requires-2 c =
     let le = subst (λ (i : Implications). c.args.count ≤ length i.triples) (sym c.self.view_is) c.requires in
-    let many = c.self.invariant.many in
+    let many = c.self.invariant.standing.many in
     let long = triples_at-length c.self.inside.places.items c.self.inside.digraph.arcs many in
     omega (arith, le, many, long)
 
@@ -18,14 +18,18 @@ undo_to-requires-clause-inside c =
 
 pub invariant_of-self : goal.invariant_of-self
 invariant_of-self c =
+    let known = c.self.invariant.known in
+    let ps = c.self.inside.places.items in
     let le = subst (λ (i : Implications). c.args.count ≤ length i.triples) (sym c.self.view_is) c.requires in
-    let many = c.self.invariant.many in
-    let long = triples_at-length c.self.inside.places.items c.self.inside.digraph.arcs many in
+    let long = triples_at-length ps c.self.inside.digraph.arcs c.self.invariant.standing.many in
     let arcs : c.undo_to.new.self.arcs ≡ take (c.args.count * 2) c.self.inside.digraph.arcs = ap (λ (n : Net ℕ). n.arcs) c.undo_to.ensures in
-    subst (λ (ks : List ℕ). AreStanding ks c.cut_to.new.self.items c.undo_to.new.self.arcs) (sym c.cut_to-2.ensures)
-    (subst (λ ps. AreStanding (take c.args.count c.self.inside.known) ps c.undo_to.new.self.arcs) (sym c.cut_to.ensures.items)
-    (subst (λ es. AreStanding (take c.args.count c.self.inside.known) (take c.args.count c.self.inside.places.items) es) (sym arcs)
-    (standing-cut c.args.count c.self.inside.known c.self.inside.places.items c.self.inside.digraph.arcs c.self.invariant (omega (arith, le, long)))))
+    record {
+      known = take c.args.count known;
+      standing = subst (λ ps'. AreStanding (take c.args.count known) ps' c.undo_to.new.self.arcs) (sym c.cut_to.ensures.items)
+          (subst (λ es. AreStanding (take c.args.count known) (take c.args.count ps) es) (sym arcs)
+          (standing-cut c.args.count known ps c.self.inside.digraph.arcs c.self.invariant.standing (omega (arith, le, long))));
+      has = c.cut_numbers.ensures known c.self.invariant.has;
+    }
 
 pub returns-clause-triples : goal.returns-clause-triples
 returns-clause-triples c =

@@ -5,4 +5,4 @@ use Rattle.tor_clauses.proofs.triple_table.TripleTable.len.Goals as goal
 
 pub returns-clause-len : goal.returns-clause-len
 returns-clause-len c =
-    c.len.ensures.length ∙ sym (triples_at-length c.self.inside.places.items c.self.inside.digraph.arcs c.self.invariant.many) ∙ ap (λ (i : Implications). length i.triples) c.self.view_is
+    c.len.ensures.length ∙ sym (triples_at-length c.self.inside.places.items c.self.inside.digraph.arcs c.self.invariant.standing.many) ∙ ap (λ (i : Implications). length i.triples) c.self.view_is
