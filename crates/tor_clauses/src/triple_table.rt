@@ -228,16 +228,20 @@ fn key(first: NodeId, second: NodeId) -> u64
     number.min(of_reverse)
 }
 
-/// Whether an arc leads from one node to another. It takes no memory.
+/// Whether an arc leads from one node to another, by a look along those that leave the first. It takes no memory.
 fn has_arc(digraph: &Digraph<NodeId, ArcId>, tail: NodeId, head: NodeId) -> bool
     ensures { IsTrue result ↔ HasArc digraph.now.arcs (tail, head) }
 {
-    for place in 0..digraph.arc_count() {
-        let arc = ArcId::from_place(place).unwrap();
-        let (from, to) = digraph.ends(arc);
-        if from == tail && to == head {
+    if tail.place() >= digraph.node_count() {
+        return false;
+    }
+    let mut next = digraph.first_arc(tail);
+    while let Some(arc) = next {
+        let (_, to) = digraph.ends(arc);
+        if to == head {
             return true;
         }
+        next = digraph.next_arc(arc);
     }
     false
 }

@@ -1,6 +1,9 @@
-use Rattle.std.proofs.Common.{◌≡◌, ℕ, ◌<◌, Some}
-use Rattle.std.specs.Prelude.{slice_get}
+use Rattle.tor_digraph.specs.Search.{steps_of}
+use Rattle.tor_clauses.proofs.ArcSeeks.{IsSeek}
 use Rattle.tor_clauses.proofs.triple_table.has_arc.Given as goal
 
-abbrev pub invariant-loop-place : goal.invariant-loop-place
-invariant-loop-place l = (k : ℕ) → k < l.place → slice_get l.digraph.arcs k ≡ Some (l.tail, l.head) → ⊥
+abbrev pub invariant-loop-next : goal.invariant-loop-next
+invariant-loop-next l = IsSeek l.digraph.arcs l.fn.tail l.head l.next
+
+abbrev pub decreases-loop-next : goal.decreases-loop-next
+decreases-loop-next l = steps_of (λ a. a) l.next
