@@ -134,7 +134,8 @@ impl TripleTable {
         }
     }
 
-    /// Gives up the numbers by which triples are found: from now on a triple is looked for among all arcs. It takes no memory.
+    /// Gives up the numbers by which triples are found: from now on a triple is looked for along the arcs that leave its first literal. It
+    /// takes no memory.
     pub fn give_up_numbers(&mut self)
         ensures { self.new ≡ self.old }
     {
