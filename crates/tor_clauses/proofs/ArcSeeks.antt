@@ -1,12 +1,10 @@
 -- How an arc is looked for along those that leave its tail.
-use Rattle.std.proofs.Common.{◌≡◌, ℕ, ◌+◌, ◌<◌, ◌≤◌, inl, inr, List, Option, Some, None, length, sym, ap, ◌∙◌, subst, arith}
-use Rattle.std.proofs.lemmas.Bool.{cases_eq, cases_lt}
-use Rattle.std.proofs.lemmas.Option.{same_Some, slice_get_within}
+use Rattle.std.proofs.Common.{◌≡◌, ℕ, ◌+◌, ◌<◌, ◌≤◌, List, Option, Some, None, length, sym, subst, arith}
+use Rattle.std.proofs.lemmas.Option.{slice_get_within}
 use Rattle.relationships.specs.Graph.{Edge}
 use Rattle.tor_digraph.specs.Walks.{IsArc}
 use Rattle.tor_digraph.specs.Links.{IsLatest}
 use Rattle.tor_digraph.specs.Search.{steps_of}
-use Rattle.tor_clauses.specs.Tables.{HasArc}
 
 -- what is left is this arc and those before it, and it isn't among the others
 pub record IsSeek (arcs : List Edge) (tail head : ℕ) (next : Option ℕ) : Type 0 where
@@ -29,25 +27,6 @@ module _ (arcs : List Edge) (tail head : ℕ) where
     pub seek_there : a < length arcs
     seek_there = slice_get_within arcs a (tail, latest.1.0) latest.1.1
 
-    pub seek_found : (from to : ℕ) → IsArc arcs a from to → to ≡ head → IsArc arcs a tail head
-    seek_found from to at e =
-        let same : to ≡ latest.1.0 = ap (λ (f : Edge). f.1) (same_Some _ _ (sym at ∙ latest.1.1)) in
-        subst (λ h. IsArc arcs a tail h) (sym same ∙ e) latest.1.1
-
-    pub seek_next : (from to : ℕ) (more : Option ℕ) → IsArc arcs a from to → (to ≡ head → ⊥) →
-        ((u v : ℕ) → IsArc arcs a u v → IsLatest (λ b. b) arcs u a more) → IsSeek arcs tail head more
-    seek_next from to more at ne later = record {
-      high = a;
-      latest = later tail latest.1.0 latest.1.1;
-      none = λ k le arc. elim (cases_eq k a) [
-        | inl same ↦ ne (ap (λ (f : Edge). f.1) (same_Some _ _ (sym at ∙ subst (λ i. IsArc arcs i tail head) same arc)))
-        | inr other ↦ elim (cases_lt k s.high) [
-          | inl lt ↦ latest.2 k head (omega (arith, le, other)) lt arc
-          | inr high ↦ s.none k high arc
-        ]
-      ];
-    }
-
     pub seek_smaller : (more : Option ℕ) → ((u v : ℕ) → IsArc arcs a u v → IsLatest (λ b. b) arcs u a more) →
         steps_of (λ b. b) more < steps_of (λ b. b) next
     seek_smaller more later = subst (λ o. steps_of (λ b. b) more < steps_of (λ b. b) o) (sym is) (less more (later tail latest.1.0 latest.1.1))
@@ -55,11 +34,3 @@ module _ (arcs : List Edge) (tail head : ℕ) where
         less : (more : Option ℕ) → IsLatest (λ b. b) arcs tail a more → steps_of (λ b. b) more < a + 2
         less None h = omega arith
         less (Some b) h = let lt = h.0 in omega (arith, lt)
-
-  pub seek_done : (next : Option ℕ) → next ≡ None → IsSeek arcs tail head next → HasArc arcs (tail, head) → ⊥
-  seek_done next is s h =
-      let none = subst (IsLatest (λ b. b) arcs tail s.high) is s.latest in
-      elim (cases_lt h.0 s.high) [
-        | inl lt ↦ none h.0 head (omega arith) lt h.1
-        | inr le ↦ s.none h.0 le h.1
-      ]
