@@ -177,7 +177,7 @@ refuse "a telling of a path" 1 "$torwhy" --path 3 "$samples/three-paths.result.t
 refuse "a telling of an edge that isn't there" 1 "$torwhy" "$samples/three-paths.result.txt" 10 30
 refuse "a telling of a changed result" 1 "$torwhy" "$work/changed.txt" 10 20
 refuse "a picture" 1 "$torview" "$samples/three-paths.result.txt" 20
-refuse "a picture of three rows of providers" 1 "$torview" --depth 3 "$samples/three-paths.result.txt" 60
+refuse "a picture of three generations of providers" 1 "$torview" --depth 3 "$samples/three-paths.result.txt" 60
 refuse "a picture of an AS that isn't there" 1 "$torview" "$samples/three-paths.result.txt" 70
 refuse "a picture of a changed result" 1 "$torview" "$work/changed.txt" 20
 

@@ -130,8 +130,8 @@ class Picture:
         self.lines.append(f'<svg xmlns="http://www.w3.org/2000/svg" viewBox="0 0 1000 {height}" font-family="sans-serif" font-size="12" '
                           'text-anchor="middle" fill="white" stroke="black">')
         self.rect(0, 0, 1000, height)
-        tallies = [f'{len(group)} {name} ({sum(n[1] == "forced" for n in group)} forced)'
-                   for group, name in zip(groups, ('providers', 'peers', 'customers'))]
+        tallies = [f'{len(group)} {name}{"" if len(group) == 1 else "s"} ({sum(n[1] == "forced" for n in group)} forced)'
+                   for group, name in zip(groups, ('provider', 'peer', 'customer'))]
         self.text(500, 26, 960, f'AS {asked}: ' + ', '.join(tallies))
         self.text(500, 46, 960, LEGEND)
         self.box(440, y(rank), 120, f'AS {asked}')

@@ -22,7 +22,7 @@ use Rattle.drawing.specs.declared.drawing.Link.{Link}
 use Rattle.drawing.specs.declared.drawing.Drawing.{Drawing}
 use Rattle.drawing.specs.Xml.{Element, is_plain, ArePlain, IsElement, IsDocument, element_text, elements_text}
 use Rattle.drawing.specs.Svg.{rect, point, points, mark_dashes, dashes, polyline, link_element, links_elements, post_elements, posts_elements}
-use Rattle.drawing.specs.Svg.{text_length, text_at, entry_words, asked_words, tally_words, caption_words, legend_words}
+use Rattle.drawing.specs.Svg.{text_length, text_at, entry_words, asked_words, ending, tally_words, caption_words, legend_words}
 use Rattle.drawing.specs.Svg.{item_elements, items_elements, title_elements, centre_elements, elements_of, extent_words, start_text, page_box, page_attributes, svg_text}
 
 -- ---- plain texts
@@ -94,24 +94,33 @@ plain_entry (entry.More n) = plain_append (decimal n) (codes " more") (plain_dec
 plain_asked : (a : ℕ) → ArePlain (asked_words a)
 plain_asked a = plain_append (codes "AS ") (decimal a) refl (plain_decimal a)
 
+plain_word : (is_one : Bool) → ArePlain (if is_one then [] else codes "s")
+plain_word true = refl
+plain_word false = refl
+
+plain_ending : (n : ℕ) → ArePlain (ending n)
+plain_ending n = plain_word (n == 1)
+
 plain_tally : (what : List ℕ) (t : Tally) → ArePlain what → ArePlain (tally_words what t)
 plain_tally what t plain =
     let last : List ℕ = decimal t.forced ++ codes " forced)" in
-    let back : List ℕ = codes " (" ++ last in
+    let behind : List ℕ = codes " (" ++ last in
+    let back : List ℕ = ending t.all ++ behind in
     let plain_last : ArePlain last = plain_append (decimal t.forced) (codes " forced)") (plain_decimal t.forced) refl in
-    let plain_back : ArePlain back = plain_append (codes " (") last refl plain_last in
+    let plain_behind : ArePlain behind = plain_append (codes " (") last refl plain_last in
+    let plain_back : ArePlain back = plain_append (ending t.all) behind (plain_ending t.all) plain_behind in
     plain_append (decimal t.all) (what ++ back) (plain_decimal t.all) (plain_append what back plain plain_back)
 
 plain_caption : (a : ℕ) (c : Counts) → ArePlain (caption_words a c)
 plain_caption a c =
-    let third : List ℕ = tally_words (codes " customers") c.customers in
-    let second : List ℕ = tally_words (codes " peers") c.peers ++ (codes ", " ++ third) in
-    let first : List ℕ = tally_words (codes " providers") c.providers ++ (codes ", " ++ second) in
+    let third : List ℕ = tally_words (codes " customer") c.customers in
+    let second : List ℕ = tally_words (codes " peer") c.peers ++ (codes ", " ++ third) in
+    let first : List ℕ = tally_words (codes " provider") c.providers ++ (codes ", " ++ second) in
     let plain_second : ArePlain second =
-    plain_append (tally_words (codes " peers") c.peers) (codes ", " ++ third) (plain_tally (codes " peers") c.peers refl)
-    (plain_append (codes ", ") third refl (plain_tally (codes " customers") c.customers refl)) in
+    plain_append (tally_words (codes " peer") c.peers) (codes ", " ++ third) (plain_tally (codes " peer") c.peers refl)
+    (plain_append (codes ", ") third refl (plain_tally (codes " customer") c.customers refl)) in
     let plain_first : ArePlain first =
-    plain_append (tally_words (codes " providers") c.providers) (codes ", " ++ second) (plain_tally (codes " providers") c.providers refl)
+    plain_append (tally_words (codes " provider") c.providers) (codes ", " ++ second) (plain_tally (codes " provider") c.providers refl)
     (plain_append (codes ", ") second refl plain_second) in
     plain_append (asked_words a) (codes ": " ++ first) (plain_asked a) (plain_append (codes ": ") first refl plain_first)
 

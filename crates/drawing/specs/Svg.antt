@@ -1,5 +1,5 @@
 -- The text of a picture: SVG 1.1 (W3C), of the elements rect, polyline and text alone.
-use Rattle.std.specs.Prelude.{ℕ, ◌+◌, ◌-◌, ◌*◌, ◌/◌, ◌^◌, ◌<◌, List, [], ◌∷◌, ◌++◌, length, min, map, flat_map, codes, Some, None}
+use Rattle.std.specs.Prelude.{ℕ, ◌+◌, ◌-◌, ◌*◌, ◌/◌, ◌^◌, ◌<◌, ◌==◌, if◌then◌else◌, List, [], ◌∷◌, ◌++◌, length, min, map, flat_map, codes, Some, None}
 use Rattle.std.specs.Fmt.{decimal}
 use Rattle.relationships.specs.declared.mark.Mark.{Mark}
 use Rattle.relationships.specs.declared.mark.Mark.TheVariants as mark
@@ -93,14 +93,18 @@ entry_words (entry.More n) = decimal n ++ codes " more"
 abbrev pub asked_words : ℕ → List ℕ
 asked_words a = codes "AS " ++ decimal a
 
+-- what a word ends with behind a number
+abbrev pub ending : ℕ → List ℕ
+ending n = if n == 1 then [] else codes "s"
+
 -- how many there are, of what, and how many of them are forced
 abbrev pub tally_words : List ℕ → Tally → List ℕ
-tally_words what t = decimal t.all ++ (what ++ (codes " (" ++ (decimal t.forced ++ codes " forced)")))
+tally_words what t = decimal t.all ++ (what ++ (ending t.all ++ (codes " (" ++ (decimal t.forced ++ codes " forced)"))))
 
 abbrev pub caption_words : ℕ → Counts → List ℕ
 caption_words a c =
-    asked_words a ++ (codes ": " ++ (tally_words (codes " providers") c.providers ++ (codes ", " ++ (tally_words (codes " peers") c.peers
-    ++ (codes ", " ++ tally_words (codes " customers") c.customers)))))
+    asked_words a ++ (codes ": " ++ (tally_words (codes " provider") c.providers ++ (codes ", " ++ (tally_words (codes " peer") c.peers
+    ++ (codes ", " ++ tally_words (codes " customer") c.customers)))))
 
 abbrev pub legend_words : List ℕ
 legend_words = codes "solid: the label is forced; dashed: it is open, as it always is between peers; wider lines: more kept paths"

@@ -3,7 +3,7 @@ ghost use Rattle.std.specs.Prelude.{◌≡◌, ◌<◌, ◌^◌, [], ◌∷◌, 
 ghost use Rattle.std.specs.Io.KnownBytes.{append_known};
 ghost use Rattle.tor_io.specs.Outflow.{state, Puts};
 ghost use Rattle.drawing.specs.Svg.{word_of, number_of, rect, point, points, polyline, mark_dashes, dashes, text_length, text_at, text_in};
-ghost use Rattle.drawing.specs.Svg.{entry_words, asked_words, tally_words, caption_words, legend_words, extent_words};
+ghost use Rattle.drawing.specs.Svg.{entry_words, asked_words, ending, tally_words, caption_words, legend_words, extent_words};
 ghost use Rattle.drawing.specs.Svg.{FitsNumbers, item_elements, items_elements, title_elements, centre_elements};
 ghost use Rattle.drawing.specs.Svg.{post_elements, posts_elements, links_elements};
 ghost use Rattle.drawing.specs.Svg.{page_box, start_text, svg_text};
@@ -204,11 +204,19 @@ fn add_asked(words: &mut List<u8>, asked: u32) -> Result<(), NoMemory>
     put_number(words, u64::from(asked))
 }
 
+// What a word ends with behind a number.
+fn ending(count: u64) -> &'static [u8]
+    ensures { result.now ≡ ending count }
+{
+    if count == 1 { b"" } else { b"s" }
+}
+
 fn add_tally(words: &mut List<u8>, what: &[u8], tally: &Tally) -> Result<(), NoMemory>
     ensures { OnOk result (words.new ≡ words.old ++ tally_words what.now tally.now) }
 {
     put_number(words, tally.all)?;
     words.extend_from_slice(what)?;
+    words.extend_from_slice(ending(tally.all))?;
     words.extend_from_slice(b" (")?;
     put_number(words, tally.forced)?;
     words.extend_from_slice(b" forced)")
@@ -219,11 +227,11 @@ fn add_caption(words: &mut List<u8>, asked: u32, counts: &Counts) -> Result<(), 
 {
     add_asked(words, asked)?;
     words.extend_from_slice(b": ")?;
-    add_tally(words, b" providers", &counts.providers)?;
+    add_tally(words, b" provider", &counts.providers)?;
     words.extend_from_slice(b", ")?;
-    add_tally(words, b" peers", &counts.peers)?;
+    add_tally(words, b" peer", &counts.peers)?;
     words.extend_from_slice(b", ")?;
-    add_tally(words, b" customers", &counts.customers)
+    add_tally(words, b" customer", &counts.customers)
 }
 
 // What part of the plane the page shows.

@@ -1,6 +1,7 @@
 -- Rows that stand twice, found by buckets of their hashes.
-use Rattle.std.specs.Prelude.{◌≡◌, ◌≢◌, ◌≤◌, ◌<◌, ◌-◌, ◌%◌, ◌⊎◌, ℕ, List, length, slice_index, Option, Some, None}
-use Rattle.path_clean.specs.Chains.{path_hash, row_at}
+use Rattle.std.specs.Prelude.{◌≡◌, ◌≢◌, ◌≤◌, ◌<◌, ◌-◌, ◌⊎◌, ℕ, List, length, slice_index, Option, Some, None}
+use Rattle.path_clean.specs.Chains.{row_at}
+use Rattle.path_clean.specs.Slots.{slot_of_hash}
 
 -- a row before this place is the same
 abbrev pub Repeats : List (List ℕ) → ℕ → Type 0
@@ -11,21 +12,25 @@ abbrev pub IsFirstRepeat : List (List ℕ) → Option ℕ → Type 0
 IsFirstRepeat rows None = (j : ℕ) → j < length rows → Repeats rows j → ⊥
 IsFirstRepeat rows (Some place) = (place < length rows) × Repeats rows place × ((j : ℕ) → j < place → Repeats rows j → ⊥)
 
--- into which of so many buckets a row belongs
-abbrev pub bucket : ℕ → ℕ → List ℕ → ℕ
-bucket seed many row = path_hash seed row % many
+-- rows that are the same have one hash
+abbrev pub AreSameHashed : List (List ℕ) → List ℕ → Type 0
+AreSameHashed rows hashes =
+    (j k : ℕ) → j < length rows → k < length rows → row_at rows j ≡ row_at rows k → slice_index hashes j ≡ slice_index hashes k
+
+-- into which of so many buckets the row in a place belongs
+abbrev pub bucket : (many : ℕ) (hashes : List ℕ) (place : ℕ) → ℕ
+bucket many hashes place = slot_of_hash (slice_index hashes place) many
 
 -- of the rows before the place `end`, those in the bucket end at `at`: none from there on is in it
-pub record EndsIn (seed many : ℕ) (rows : List (List ℕ)) (key at end : ℕ) : Type 0 where
+pub record EndsIn (many : ℕ) (hashes : List ℕ) (key at end : ℕ) : Type 0 where
   pub within : at ≤ end
-  pub none : (k : ℕ) → at ≤ k → k < end → bucket seed many (row_at rows k) ≢ key
-  pub has : (at ≡ 0) ⊎ (bucket seed many (row_at rows (at - 1)) ≡ key)
+  pub none : (k : ℕ) → at ≤ k → k < end → bucket many hashes k ≢ key
+  pub has : (at ≡ 0) ⊎ (bucket many hashes (at - 1) ≡ key)
 
 -- for each row before the place `end` it is written down where the earlier rows of its bucket end
-abbrev pub AreLinked : ℕ → ℕ → List (List ℕ) → List ℕ → ℕ → Type 0
-AreLinked seed many rows older end =
-    (r : ℕ) → r < end → EndsIn seed many rows (bucket seed many (row_at rows r)) (slice_index older r) r
+abbrev pub AreLinked : ℕ → List ℕ → List ℕ → ℕ → Type 0
+AreLinked many hashes older end = (r : ℕ) → r < end → EndsIn many hashes (bucket many hashes r) (slice_index older r) r
 
 -- for each bucket it is written down where its rows before the place `end` end
-abbrev pub AreNewest : ℕ → ℕ → List (List ℕ) → List ℕ → ℕ → Type 0
-AreNewest seed many rows newest end = (key : ℕ) → key < many → EndsIn seed many rows key (slice_index newest key) end
+abbrev pub AreNewest : ℕ → List ℕ → List ℕ → ℕ → Type 0
+AreNewest many hashes newest end = (key : ℕ) → key < many → EndsIn many hashes key (slice_index newest key) end

@@ -26,7 +26,7 @@ pub(crate) fn seed_of(keys: Keys) -> u64 {
 }
 
 /// The hash of a path.
-pub(crate) fn hash_of(seed: u64, path: &[u32]) -> u64
+fn hash_of(seed: u64, path: &[u32]) -> u64
     ensures { result ≡ path_hash seed path.now }
 {
     path.iter().fold(seed, |hash, number| mix(hash, *number))

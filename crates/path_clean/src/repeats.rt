@@ -3,26 +3,44 @@
 ghost use Rattle.std.specs.Prelude.{◌≡◌, ◌+◌, ◌<◌, ◌≤◌, ◌↔◌, ℕ, ◌++◌, ◌∷◌, [], length, slice_set, slice_index, IsTrue, IfOk};
 ghost use Rattle.tor_arena.specs.Limits.{most_places};
 ghost use Rattle.path_clean.specs.Chains.{row_at};
-ghost use Rattle.path_clean.specs.Repeats.{Repeats, IsFirstRepeat, bucket, EndsIn, AreLinked, AreNewest};
+ghost use Rattle.path_clean.specs.Repeats.{Repeats, IsFirstRepeat, AreSameHashed, bucket, EndsIn, AreLinked, AreNewest};
 
-use crate::hashing::{hash_of, row_of, seed_of};
+use crate::hashing::{row_of, seed_of, short_hash_of};
+use crate::slots::start_of;
 use std::alloc::Global;
 use tor_arena::{Keys, NoMemory, PathId, Rows};
 
-/// Into which of so many buckets a row belongs.
-fn bucket_of(seed: u64, many: usize, row: &[u32]) -> usize
-    requires { 0 < many }
-    ensures bucket { result ≡ bucket seed many row.now }
-    ensures below { result < many }
+/// The hash of each row.
+fn hashes_of(alloc: Global, seed: u64, rows: &Rows<PathId, u32>) -> Result<Vec<u32>, NoMemory>
+    requires few { length rows.now ≤ most_places }
+    ensures each { IfOk result (λ hashes. length hashes.items ≡ length rows.now) }
+    ensures same { IfOk result (λ hashes. AreSameHashed rows.now hashes.items) }
 {
-    (hash_of(seed, row) % many as u64) as usize
+    let mut hashes = Vec::new(alloc);
+    hashes.reserve(rows.len())?;
+    for place in 0..rows.len() {
+        hashes.push(short_hash_of(seed, row_of(rows, place)))?;
+    }
+    Ok(hashes)
+}
+
+/// Whether the rows in two places are the same. They are compared only where their hashes are the same.
+fn are_same(rows: &Rows<PathId, u32>, hashes: &[u32], earlier: usize, place: usize) -> bool
+    requires earlier { earlier < place }
+    requires place { place < length rows.now }
+    requires few { length rows.now ≤ most_places }
+    requires each { length hashes.now ≡ length rows.now }
+    requires same { AreSameHashed rows.now hashes.now }
+    ensures { IsTrue result ↔ (row_at rows.now earlier ≡ row_at rows.now place) }
+{
+    hashes[earlier] == hashes[place] && row_of(rows, earlier) == row_of(rows, place)
 }
 
 /// Whether the row in a place stands before it too. Of so many buckets its own has rows before it up to `start`, and `older` says
 /// for each of them where the earlier ones end.
 fn stands_before(
     rows: &Rows<PathId, u32>,
-    seed: u64,
+    hashes: &[u32],
     many: usize,
     older: &[u32],
     start: usize,
@@ -30,16 +48,17 @@ fn stands_before(
 ) -> bool
     requires place { place < length rows.now }
     requires few { length rows.now ≤ most_places }
+    requires each { length hashes.now ≡ length rows.now }
+    requires same { AreSameHashed rows.now hashes.now }
     requires passed { length older.now ≡ place }
-    requires linked { AreLinked seed many rows.now older.now place }
-    requires ends { EndsIn seed many rows.now (bucket seed many (row_at rows.now place)) start place }
+    requires linked { AreLinked many hashes.now older.now place }
+    requires ends { EndsIn many hashes.now (bucket many hashes.now place) start place }
     ensures { IsTrue result ↔ Repeats rows.now place }
 {
-    let row = row_of(rows, place);
     let mut at = start;
     'chain: while at > 0 {
         let earlier = at - 1;
-        if row_of(rows, earlier) == row {
+        if are_same(rows, hashes, earlier, place) {
             return true;
         }
         at = older[earlier] as usize;
@@ -56,17 +75,25 @@ pub fn first_repeated(
 ) -> Result<Option<usize>, NoMemory>
     ensures { IfOk result (IsFirstRepeat rows.now) }
 {
-    let seed = seed_of(keys);
     let count = rows.len();
-    // with two buckets a row, few rows share one
-    let many = 2 * count;
+    // with all hashes made before, one look-up's wait for memory overlaps the next ones'
+    let hashes = hashes_of(alloc, seed_of(keys), rows)?;
+    // with a bucket a row and more, few rows share one
+    let many = count.next_power_of_two();
     let mut newest = vec![in alloc; 0u32; many]?;
     let mut older = Vec::new(alloc);
     older.reserve(count)?;
     for place in 0..count {
-        let key = bucket_of(seed, many, row_of(rows, place));
+        let key = start_of(hashes[place], many);
         let start = newest[key];
-        if stands_before(rows, seed, many, older.as_slice(), start as usize, place) {
+        if stands_before(
+            rows,
+            hashes.as_slice(),
+            many,
+            older.as_slice(),
+            start as usize,
+            place,
+        ) {
             return Ok(Some(place));
         }
         older.push(start)?;

@@ -1,6 +1,6 @@
 -- Counts of what the last line counts.
-use Rattle.std.proofs.Common.{◌≡◌, inl, inr, ℕ, ◌+◌, Bool, not, cond, List, [], ◌∷◌, map, Option, Some, None, option_map, slice_get, take, ◌++◌, length, count_by, refl, sym, ap, ap₂, ◌∙◌, arith}
-use Rattle.std.proofs.lemmas.List.Sums.{sum_by-cons, sum_by-append}
+use Rattle.std.proofs.Common.{◌≡◌, inl, inr, ℕ, ◌+◌, Bool, not, cond, List, [], ◌∷◌, map, Option, Some, None, option_map, slice_get, take, length, count_by, refl, sym, ap, ap₂, ◌∙◌, arith}
+use Rattle.std.proofs.lemmas.List.Sums.{sum_by-cons}
 use Rattle.std.proofs.lemmas.Bool.{cases_Bool}
 use Rattle.tor_arena.proofs.Counting.{count-append}
 use Rattle.relationships.specs.declared.fate.Fate.{Fate}

@@ -1,5 +1,5 @@
 -- Edges in a table, their labels, and the steps of kept paths down from one to the next.
-use Rattle.std.proofs.Common.{◌≡◌, ◌≢◌, ◌⊎◌, inl, inr, min, max, ℕ, zero, suc, ◌+◌, ◌-◌, ◌<◌, ◌≤◌, List, [], ◌∷◌, ◌++◌, length, map, is_none, false, true}
+use Rattle.std.proofs.Common.{◌≡◌, ◌≢◌, ◌⊎◌, inl, inr, min, max, ℕ, zero, suc, ◌+◌, ◌-◌, ◌<◌, ◌≤◌, List, [], ◌∷◌, ◌++◌, length, map, Option, None, is_none, false, true}
 use Rattle.std.proofs.Common.{Some, slice_get, get_or, refl, sym, ap, ◌∙◌, subst, arith, Contains, append_assoc, length-append}
 use Rattle.std.specs.Prelude.{sum_by, take}
 use Rattle.std.specs.List.{IsDistinct, list_any}
@@ -13,6 +13,7 @@ use Rattle.tor_arena.specs.Limits.{max_numbers}
 use Rattle.tor_arena.proofs.Gets.{All-get, take_get, Contains-from_has, Contains-map, has-from_Contains, slice_get-map, slice_get-unmap, slice_get-some}
 use Rattle.tor_arena.proofs.Gets.{slice_get-push_old, slice_get-push_cases, slice_get-push_last}
 use Rattle.relationships.specs.declared.label.Label.{Label}
+use Rattle.relationships.specs.declared.mark.Mark.TheVariants as mark
 use Rattle.relationships.specs.declared.walk.Link.{Link}
 use Rattle.relationships.specs.declared.fate.Fate.{Fate}
 use Rattle.relationships.specs.declared.fate.Fate.TheVariants.{Kept, Lost}
@@ -38,7 +39,7 @@ use Rattle.result_rules.proofs.Accepted.{edges_listed, kept_valley_free}
 use Rattle.telling.specs.declared.told.Going.{Going}
 use Rattle.telling.specs.declared.told.Going.TheVariants as going
 use Rattle.telling.specs.Told.{edge_on, going_of}
-use Rattle.telling.specs.Downs.{HaveLabels, HasOver, IsDown, HasDownAt, HasDowns, HasLineDowns, StillHas, AreDowns}
+use Rattle.telling.specs.Downs.{HaveLabels, HasOver, IsDown, IsPlaceIn, step_edge, HasDown, HasDownAt, HasDowns, HasLineDowns, StillHas, AreDowns}
 use Rattle.telling.proofs.PathLemmas.{same_itself, edge_still, own_edge, label_found}
 use Rattle.telling.proofs.LabelLemmas.{rises, kept, kept_edges}
 
@@ -128,12 +129,12 @@ module _ (file : ResultFile) (accepts : Accepts file) where
       let f : w.0.high ≡ max a b = ap (λ (p : Edge). p.1) w.2 in
       omega (arith, lt, e, f, same)
 
-  -- a line's edge is one of the result
-  pub line_listed : (line : EdgeLine) → Contains file.edges line → Contains (its_edges file) (edge_of line.low line.high)
-  line_listed line there =
+  -- an open line's edge is there
+  pub line_held : (es : List Edge) (labels : List Label) → HaveLabels file es labels → (line : EdgeLine) → Contains file.edges line → line.mark ≡ mark.Open →
+      Contains es (edge_of line.low line.high)
+  line_held es labels have line there is =
       let k = has-from_Contains file.edges line there in
-      subst (Contains (its_edges file)) (sym (own_edge file accepts k.0 line k.1))
-      (Contains-from_has (its_edges file) (edge_on line) (k.0, slice_get-map {Y = Edge} edge_on file.edges k.0 line k.1))
+      subst (Contains es) (sym (own_edge file accepts k.0 line k.1)) (have.opens line there is)
 
   listed_kept : (e : Edge) → Contains (edges (kept file accepts)) e → Contains (its_edges file) e
   listed_kept e c = subst (λ (es : List Edge). Contains es e) (sym (edges_listed file (accepts EdgesListed))) (kept_edges file accepts e c)
@@ -147,6 +148,11 @@ module _ (file : ResultFile) (accepts : Accepts file) where
     second_listed =
         listed_kept (edge_of y z)
         (neighbours-edge (paths_of (its_kept file)) y z (path, there, (s.before ++ x ∷ [], s.after, s.whole ∙ sym (append_assoc s.before (x ∷ []) (y ∷ z ∷ s.after)))))
+
+  -- and so is the next step in either direction
+  pub next_listed : (path : List ℕ) → Contains (paths_of (its_kept file)) path → (at x y z : ℕ) → TripleAt path at x y z → Contains (its_edges file) (edge_of y z)
+  next_listed path there at x y z (inl s) = second_listed path there at x y z s
+  next_listed path there at x y z (inr s) = subst (λ (e : Edge). Contains (its_edges file) e) (edge_back z y) (first_listed path there at z y x s)
 
   -- behind an order by labels the path goes on down
   pub goes_down : (path : List ℕ) → Contains (paths_of (its_kept file)) path → (at x y z : ℕ) → TripleAt path at x y z →
@@ -206,7 +212,7 @@ still_then a b c h k u v arc = k u v (h u v arc)
 pub down_still : (M : Labelling) (es : List Edge) (old new : List (ℕ × ℕ)) (path : List ℕ) (at : ℕ) → StillHas old new →
     HasDownAt M es old path at → HasDownAt M es new path at
 down_still M es old new path at still h x y z t o =
-    let r = h x y z t o in (r.0, r.1, r.2, r.3, still r.0 r.1 r.4)
+    λ has has_next. (let r = h x y z t o has has_next in (r.0, r.1, r.2, r.3, still r.0 r.1 r.4))
 
 pub links_pushed : (file : ResultFile) (es : List Edge) (old new : Net ℕ) (named more : List Link) (u v : ℕ) (link : Link) → new.nodes ≡ old.nodes →
     new.arcs ≡ old.arcs ++ (u, v) ∷ [] → more ≡ named ++ link ∷ [] → IsDown (its_labels file) (its_kept file) es u v link →
@@ -262,13 +268,6 @@ module _ (file : ResultFile) (accepts : Accepts file) (es : List Edge) (number :
   pub own_there : Contains (paths_of (its_kept file)) path
   own_there = Contains-map (λ (p : ℕ × List ℕ). p.1) (its_kept file) (number, path) own
 
-  pub first_in : (labels : List Label) → HaveLabels file es labels → Contains es (edge_of X Y)
-  first_in labels have = have.all (edge_of X Y) (first_listed file accepts path own_there at X Y Z stands)
-
-  pub second_in : (labels : List Label) → HaveLabels file es labels → Contains es (edge_of Z Y)
-  second_in labels have =
-      have.all (edge_of Z Y) (subst (λ (e : Edge). Contains (its_edges file) e) (edge_back Y Z) (second_listed file accepts path own_there at X Y Z stands))
-
   here_only : (x y z : ℕ) → TripleAt path at x y z → ((x ≡ X) × (y ≡ Y) × (z ≡ Z)) ⊎ ((x ≡ Z) × (y ≡ Y) × (z ≡ X))
   here_only x y z (inl s) = let r = index-from_StandAt path at x y z s in inl (sym r.2, sym r.3, sym r.4)
   here_only x y z (inr s) = let r = index-from_StandAt path at z y x s in inr (sym r.4, sym r.3, sym r.2)
@@ -276,70 +275,53 @@ module _ (file : ResultFile) (accepts : Accepts file) (es : List Edge) (number :
   abbrev pub link : Link
   link = record { path = number; at = at }
 
-  module _ (u v : ℕ) (first : slice_get es u ≡ Some (edge_of X Y)) (second_back : slice_get es v ≡ Some (edge_of Z Y)) where
-    second : slice_get es v ≡ Some (edge_of Y Z)
-    second = second_back ∙ ap (λ (e : Edge). Some e) (edge_back Z Y)
-
-    first_back : slice_get es u ≡ Some (edge_of Y X)
-    first_back = first ∙ ap (λ (e : Edge). Some e) (edge_back X Y)
-
-    pub down : is_over L X Y ≡ true → IsDown L (its_kept file) es u v link
+  -- one direction of the three, whose edges stand in these places
+  module _ (x y z : ℕ) (t : TripleAt path at x y z) (u v : ℕ) (from : slice_get es u ≡ Some (edge_of x y)) (to : slice_get es v ≡ Some (edge_of y z)) where
+    pub down : is_over L x y ≡ true → IsDown L (its_kept file) es u v link
     down o = record {
-      x = X;
-      y = Y;
-      z = Z;
-      from = record { at = first; over = o };
-      to = record { at = second; over = goes_down file accepts path own_there at X Y Z (inl stands) o };
-      fits = (path, own, inl stands);
+      x = x;
+      y = y;
+      z = z;
+      from = record { at = from; over = o };
+      to = record { at = to; over = goes_down file accepts path own_there at x y z t o };
+      fits = (path, own, t);
     }
 
-    pub up : is_over L Z Y ≡ true → IsDown L (its_kept file) es v u link
-    up o = record {
-      x = Z;
-      y = Y;
-      z = X;
-      from = record { at = second_back; over = o };
-      to = record { at = first_back; over = goes_down file accepts path own_there at Z Y X (inr stands) o };
-      fits = (path, own, inr stands);
-    }
+    pub has_arc : (arcs : List (ℕ × ℕ)) → (is_over L x y ≡ true → HasArc arcs u v) → HasDown L es arcs x y z
+    has_arc arcs arc o has has_next = (u, v, record { at = from; over = o }, record { at = to; over = goes_down file accepts path own_there at x y z t o }, arc o)
 
-    module _ (arcs : List (ℕ × ℕ)) where
-      pub has_down : is_over L X Y ≡ true → HasArc arcs u v → HasDownAt L es arcs path at
-      has_down o arc x y z t over = elim (here_only x y z t) [
-        | inl e ↦ (
-          u,
-          v,
-          record { at = subst (λ n. slice_get es u ≡ Some (edge_of n y)) (sym e.0) (subst (λ n. slice_get es u ≡ Some (edge_of X n)) (sym e.1) first); over = over },
-          record {
-            at = subst (λ n. slice_get es v ≡ Some (edge_of n z)) (sym e.1) (subst (λ n. slice_get es v ≡ Some (edge_of Y n)) (sym e.2) second);
-            over = goes_down file accepts path own_there at x y z t over;
-          },
-          arc,
-        )
-        | inr e ↦ absurd (over_one_way L X Y o
-            (subst (λ n. is_over L Y n ≡ true) e.2 (subst (λ n. is_over L n z ≡ true) e.1 (goes_down file accepts path own_there at x y z t over))))
-      ]
+  pub there : TripleAt path at X Y Z
+  there = inl stands
 
-      pub has_up : (is_over L X Y ≡ true → ⊥) → HasArc arcs v u → HasDownAt L es arcs path at
-      has_up not arc x y z t over = elim (here_only x y z t) [
-        | inl e ↦ absurd (not (subst (λ n. is_over L n Y ≡ true) e.0 (subst (λ n. is_over L x n ≡ true) e.1 over)))
-        | inr e ↦ (
-          v,
-          u,
-          record { at = subst (λ n. slice_get es v ≡ Some (edge_of n y)) (sym e.0) (subst (λ n. slice_get es v ≡ Some (edge_of Z n)) (sym e.1) second_back); over = over },
-          record {
-            at = subst (λ n. slice_get es u ≡ Some (edge_of n z)) (sym e.1) (subst (λ n. slice_get es u ≡ Some (edge_of Y n)) (sym e.2) first_back);
-            over = goes_down file accepts path own_there at x y z t over;
-          },
-          arc,
-        )
-      ]
+  pub back : TripleAt path at Z Y X
+  back = inr stands
 
-      pub has_none : (is_over L X Y ≡ true → ⊥) → (is_over L Z Y ≡ true → ⊥) → HasDownAt L es arcs path at
-      has_none not not_up x y z t over = elim (here_only x y z t) [
-        | inl e ↦ absurd (not (subst (λ n. is_over L n Y ≡ true) e.0 (subst (λ n. is_over L x n ≡ true) e.1 over)))
-        | inr e ↦ absurd (not_up (subst (λ n. is_over L n Y ≡ true) e.0 (subst (λ n. is_over L x n ≡ true) e.1 over)))
-      ]
+  -- both directions are all that there is about the place
+  pub has_both : (arcs : List (ℕ × ℕ)) → HasDown L es arcs X Y Z → HasDown L es arcs Z Y X → HasDownAt L es arcs path at
+  has_both arcs h k x y z t = elim (here_only x y z t) [
+    | inl e ↦ subst (λ n. HasDown L es arcs n y z) (sym e.0) (subst (λ n. HasDown L es arcs X n z) (sym e.1) (subst (λ n. HasDown L es arcs X Y n) (sym e.2) h))
+    | inr e ↦ subst (λ n. HasDown L es arcs n y z) (sym e.0) (subst (λ n. HasDown L es arcs Z n z) (sym e.1) (subst (λ n. HasDown L es arcs Z Y n) (sym e.2) k))
+  ]
+
+  -- and there is nothing where one of the edges isn't there
+  pub none_first : (arcs : List (ℕ × ℕ)) → (Contains es (edge_of X Y) → ⊥) → HasDownAt L es arcs path at
+  none_first arcs not =
+      has_both arcs (λ o has has_next. absurd (not has)) (λ o has has_next. absurd (not (subst (Contains es) (edge_back Y X) has_next)))
+
+  pub none_second : (arcs : List (ℕ × ℕ)) → (Contains es (edge_of Y Z) → ⊥) → HasDownAt L es arcs path at
+  none_second arcs not =
+      has_both arcs (λ o has has_next. absurd (not has_next)) (λ o has has_next. absurd (not (subst (Contains es) (edge_back Z Y) has)))
+
+-- what an edge's place says
+pub placed : (es : List Edge) (e : Edge) (place : Option ℕ) (k : ℕ) → place ≡ Some k → IsPlaceIn es e place → slice_get es k ≡ Some e
+placed es e place k is h = subst (IsPlaceIn es e) is h
+
+pub unplaced : (es : List Edge) (e : Edge) (place : Option ℕ) → place ≡ None → IsPlaceIn es e place → Contains es e → ⊥
+unplaced es e place is h = subst (IsPlaceIn es e) is h
+
+-- the edge of the two in the other order stands there too
+pub turned_at : (es : List Edge) (k a b : ℕ) → slice_get es k ≡ Some (edge_of a b) → slice_get es k ≡ Some (edge_of b a)
+turned_at es k a b at = at ∙ ap (λ (e : Edge). Some e) (edge_back a b)
 
 -- ---- how a step goes
 
@@ -370,16 +352,30 @@ module _ (L : Labelling) (a b : ℕ) (g : Going) (is : g ≡ going_of (slope L a
 -- ---- place by place
 
 module _ (file : ResultFile) where
-  -- the edges of the first lines, and no others
+  -- the open edges of the first lines, and edges of the result alone
   abbrev pub HasEdgesOf : ℕ → List Edge → Type 0
   HasEdgesOf end es =
-      ((k : ℕ) (line : EdgeLine) → k < end → slice_get file.edges k ≡ Some line → Contains es (edge_on line)) × ((e : Edge) → Contains es e → Contains (its_edges file) e)
+      ((k : ℕ) (line : EdgeLine) → k < end → slice_get file.edges k ≡ Some line → line.mark ≡ mark.Open → Contains es (edge_on line)) ×
+      ((e : Edge) → Contains es e → Contains (its_edges file) e)
+
+  -- the edge of a forced line isn't looked for
+  pub edges_passed : (es : List Edge) (i : ℕ) (line : EdgeLine) → slice_get file.edges i ≡ Some line → (line.mark ≡ mark.Open → ⊥) → HasEdgesOf i es → HasEdgesOf (i + 1) es
+  edges_passed es i line at not before = (
+    λ k other lt there is. elim (cases_lt k i) [
+      | inl less ↦ before.0 k other less there is
+      | inr ge ↦
+          let e : k ≡ i = omega (arith, lt, ge) in
+          let same = same_Some other line (sym (subst (λ n. slice_get file.edges n ≡ Some other) e there) ∙ at) in
+          absurd (not (subst (λ (l : EdgeLine). l.mark ≡ mark.Open) same is))
+    ],
+    before.1,
+  )
 
   pub edges_next : Accepts file → (old new : List Edge) (i : ℕ) (line : EdgeLine) → slice_get file.edges i ≡ Some line → new ≡ with_edge old (edge_of line.low line.high) →
       Contains new (edge_of line.low line.high) → HasEdgesOf i old → HasEdgesOf (i + 1) new
   edges_next accepts old new i line at is put before = (
-    λ k other lt there. elim (cases_lt k i) [
-      | inl less ↦ edge_still old new (edge_of line.low line.high) (edge_on other) is (before.0 k other less there)
+    λ k other lt there opened. elim (cases_lt k i) [
+      | inl less ↦ edge_still old new (edge_of line.low line.high) (edge_on other) is (before.0 k other less there opened)
       | inr ge ↦
           let e : k ≡ i = omega (arith, lt, ge) in
           let same = same_Some line other (sym at ∙ subst (λ n. slice_get file.edges n ≡ Some other) e there) in
@@ -393,12 +389,11 @@ module _ (file : ResultFile) where
     ],
   )
 
-  pub edges_all : (es : List Edge) (end : ℕ) → length file.edges ≤ end → HasEdgesOf end es → (e : Edge) → Contains (its_edges file) e → Contains es e
-  edges_all es end le has e there =
-      let k = has-from_Contains (its_edges file) e there in
-      let w = slice_get-unmap {Y = Edge} edge_on file.edges k.0 e k.1 in
-      let lt = slice_get_within file.edges k.0 w.0 w.1 in
-      subst (Contains es) w.2 (has.0 k.0 w.0 (omega (arith, lt, le)) w.1)
+  pub edges_all : (es : List Edge) (end : ℕ) → length file.edges ≤ end → HasEdgesOf end es → (line : EdgeLine) → Contains file.edges line → line.mark ≡ mark.Open → Contains es (edge_on line)
+  edges_all es end le has line there is =
+      let k = has-from_Contains file.edges line there in
+      let lt = slice_get_within file.edges k.0 line k.1 in
+      has.0 k.0 line (omega (arith, lt, le)) k.1 is
 
 module _ (M : Labelling) (es : List Edge) (path : List ℕ) where
   -- the arcs about the first places
@@ -406,8 +401,8 @@ module _ (M : Labelling) (es : List Edge) (path : List ℕ) where
   HasDownsTo arcs end = (k : ℕ) → k < end → HasDownAt M es arcs path k
 
   pub downs_begun : (arcs : List (ℕ × ℕ)) → HasDownsTo arcs 2
-  downs_begun arcs k lt x y z (inl s) o = let r = index-from_StandAt path k x y z s in absurd (omega (arith, lt, r.0))
-  downs_begun arcs k lt x y z (inr s) o = let r = index-from_StandAt path k z y x s in absurd (omega (arith, lt, r.0))
+  downs_begun arcs k lt x y z (inl s) = let r = index-from_StandAt path k x y z s in absurd (omega (arith, lt, r.0))
+  downs_begun arcs k lt x y z (inr s) = let r = index-from_StandAt path k z y x s in absurd (omega (arith, lt, r.0))
 
   pub downs_next : (old new : List (ℕ × ℕ)) (at : ℕ) → StillHas old new → HasDownAt M es new path at → HasDownsTo old at → HasDownsTo new (at + 1)
   downs_next old new at still here before k lt = elim (cases_lt k at) [
@@ -416,8 +411,21 @@ module _ (M : Labelling) (es : List Edge) (path : List ℕ) where
   ]
 
   pub downs_all : (arcs : List (ℕ × ℕ)) (end : ℕ) → length path ≤ end → HasDownsTo arcs end → HasDowns M es arcs path
-  downs_all arcs end le has k x y z (inl s) o = let r = index-from_StandAt path k x y z s in has k (omega (arith, le, r.1)) x y z (inl s) o
-  downs_all arcs end le has k x y z (inr s) o = let r = index-from_StandAt path k z y x s in has k (omega (arith, le, r.1)) x y z (inr s) o
+  downs_all arcs end le has k x y z (inl s) = let r = index-from_StandAt path k x y z s in has k (omega (arith, le, r.1)) x y z (inl s)
+  downs_all arcs end le has k x y z (inr s) = let r = index-from_StandAt path k z y x s in has k (omega (arith, le, r.1)) x y z (inr s)
+
+  -- a path without a place between two others has none
+  pub downs_short : (arcs : List (ℕ × ℕ)) → length path < 3 → HasDowns M es arcs path
+  downs_short arcs lt k x y z (inl s) = let r = index-from_StandAt path k x y z s in absurd (omega (arith, lt, r.0, r.1))
+  downs_short arcs lt k x y z (inr s) = let r = index-from_StandAt path k z y x s in absurd (omega (arith, lt, r.0, r.1))
+
+-- the place of one step's edge is that of the step in front of the next one
+pub place_next : (es : List Edge) (path : List ℕ) (at : ℕ) (place : Option ℕ) → 2 ≤ at → IsPlaceIn es (step_edge path (at - 1) at) place →
+    IsPlaceIn es (step_edge path (at + 1 - 2) (at + 1 - 1)) place
+place_next es path at place two is =
+    let e : at - 1 ≡ at + 1 - 2 = omega (arith, two) in
+    let f : at ≡ at + 1 - 1 = omega arith in
+    subst (λ n. IsPlaceIn es (step_edge path n (at + 1 - 1)) place) e (subst (λ n. IsPlaceIn es (step_edge path (at - 1) n) place) f is)
 
 -- ---- kept lines
 

@@ -1,18 +1,20 @@
 -- What is reached down from the order of a label, and the walk back.
-use Rattle.std.proofs.Common.{◌≡◌, ◌≢◌, inl, inr, ℕ, zero, suc, ◌+◌, ◌<◌, ◌≤◌, List, [], ◌∷◌, ◌++◌, length, map, true, Some, slice_get, refl, sym, ap, ◌∙◌, subst, arith}
+use Rattle.std.proofs.Common.{◌≡◌, ◌≢◌, inl, inr, min, max, ℕ, zero, suc, ◌+◌, ◌<◌, ◌≤◌, List, [], ◌∷◌, ◌++◌, length, map, true, Some, slice_get, refl, sym, ap, ◌∙◌, subst, arith}
 use Rattle.std.proofs.Common.{Contains, IsTrue, IsNone, Option, None, length-append}
 use Rattle.std.proofs.lemmas.Bool.{false≢true, cases_lt}
 use Rattle.std.proofs.lemmas.List.Elements.{All-append, All-contains, Contains-append_cases}
 use Rattle.std.proofs.lemmas.Option.{same_Some, slice_get_within}
 use Rattle.tor_arena.proofs.Gets.{Contains-from_has, Contains-none, slice_get-some, Contains-map, has-from_Contains, slice_get-unmap}
+use Rattle.relationships.specs.declared.label.End.{End}
 use Rattle.relationships.specs.declared.label.Label.{Label}
 use Rattle.relationships.specs.declared.label.Label.TheVariants as label
+use Rattle.relationships.specs.declared.mark.Mark.{Mark}
 use Rattle.relationships.specs.declared.mark.Mark.TheVariants as mark
 use Rattle.relationships.specs.declared.given.Given.{Given}
 use Rattle.relationships.specs.declared.mark.Probe.{Probe}
 use Rattle.relationships.specs.declared.walk.Link.{Link}
 use Rattle.relationships.specs.declared.walk.Walk.{Walk}
-use Rattle.relationships.specs.Relationship.{Labelling, is_low, is_high, is_over}
+use Rattle.relationships.specs.Relationship.{Labelling, Orientation, labels_of, is_low, is_high, is_over}
 use Rattle.relationships.specs.Graph.{Edge, edge_of, edges}
 use Rattle.relationships.specs.Evidence.{TripleAt, IsTriple, Closure, start, imply, IsConsistent, NeighboursDiffer, Numbered, paths_of, BeginsWith, EndsWith, Fits}
 use Rattle.relationships.specs.Givens.{return_of, LabelsSay, names_edge}
@@ -20,7 +22,8 @@ use Rattle.relationships.specs.GivenEvidence.{FitsWith, IsLinkedWith}
 use Rattle.relationships.specs.Checking.{IsBorneOut, ProbesFrom}
 use Rattle.relationships.specs.Marking.{is_forced}
 use Rattle.relationships.specs.Telling.{Leads, CanBeEither}
-use Rattle.relationships.proofs.Slopes.{over_one_way, over-low, over-high}
+use Rattle.relationships.proofs.Slopes.{over_parts, over_one_way, over-low, over-high}
+use Rattle.relationships.proofs.Checked.{over_low, over_high}
 use Rattle.relationships.proofs.Closures.{reversed_triple}
 use Rattle.relationships.proofs.GivenLemmas.{three_on, any_there, edge_back, returns_differ}
 use Rattle.relationships.proofs.GivenWalks.{same_closure_law}
@@ -31,17 +34,18 @@ use Rattle.result_text.specs.declared.file.ResultFile.{ResultFile}
 use Rattle.result_rules.specs.declared.rule.Rule.TheVariants.{HeadSound, EdgesListed, LabelsServe, MarksBorneOut}
 use Rattle.result_rules.specs.File.{its_givens, its_paths, its_kept, its_edges, its_labels, its_claims, its_probes, its_returns, shown_orders, claim_on}
 use Rattle.result_rules.specs.Rules.{Accepts, its_served}
+use Rattle.result_rules.proofs.Acceptance.{acceptance_law}
 use Rattle.result_rules.proofs.Accepted.{edges_listed}
 use Rattle.result_rules.proofs.GivenLines.{name_two, labels_agree}
 use Rattle.result_rules.proofs.MarkLaws.{marks_are_borne_out, probes_serve}
-use Rattle.telling.specs.Told.{HasOrder, IsAgainst, IsReached, IsPeering, IsUndecided}
+use Rattle.telling.specs.Told.{edge_on, HasOrder, IsAgainst, IsReached, IsPeering, IsUndecided}
 use Rattle.telling.specs.Downs.{HaveLabels, HasOver, HasDowns, AreDowns}
 use Rattle.telling.specs.Reaching.{IsReachOf, IsPlainWay, IsOpposed, IsUnopposed, IsBack}
 use Rattle.telling.proofs.EitherLemmas.{either_law, peers_law}
 use Rattle.telling.proofs.LabelLemmas.{rises, its_label, kept_edges, kept_differ, near, near_free}
 use Rattle.telling.proofs.PathLemmas.{own_edge}
 use Rattle.telling.proofs.ProvingLemmas.{triple_served, along}
-use Rattle.telling.proofs.DownLemmas.{over_reads, one_order}
+use Rattle.telling.proofs.DownLemmas.{over_reads, one_order, next_listed, goes_down}
 
 -- ---- walks that grow at their end
 
@@ -140,6 +144,103 @@ back_begun file es way over under k edge walk at has a l = record {
   ends = ([], a);
 }
 
+-- ---- what an open line leads to
+
+module _ (file : ResultFile) (accepts : Accepts file) where
+  abbrev Listed : ℕ → ℕ → Type 0
+  Listed a b = Contains (its_edges file) (edge_of a b)
+
+  listed_back : (a b : ℕ) → Listed a b → Listed b a
+  listed_back a b h = subst (λ (e : Edge). Contains (its_edges file) e) (edge_back a b) h
+
+  -- a triple that leads to an edge leads from one
+  edge_before : (x y z : ℕ) → IsTriple (its_served file) x y z → Listed y z → Listed x y
+  edge_before x y z (path, there, (at, t)) h =
+      elim (Contains-append_cases (map return_of (its_givens file)) (paths_of (its_kept file)) path there) [
+        | inl i ↦ (
+            let k = has-from_Contains (map return_of (its_givens file)) path i in
+            let g = slice_get-unmap return_of (its_givens file) k.0 path k.1 in
+            let three = three_on g.0.under g.0.over at x y z (subst (λ p. TripleAt p at x y z) (sym g.2) t) in
+            listed_back y x (subst (Listed y) (three.2 ∙ sym three.0) h)
+            )
+        | inr i ↦ listed_back y x (next_listed file accepts path i at z y x (turned t))
+      ]
+    where
+      turned : TripleAt path at x y z → TripleAt path at z y x
+      turned (inl s) = inr s
+      turned (inr s) = inl s
+
+  -- so a closure that comes to an edge begins with one
+  begins_listed : (a b : ℕ) {x y : ℕ} → Closure (its_served file) a b x y → Listed x y → Listed a b
+  begins_listed a b start h = h
+  begins_listed a b (imply {x = x} {y = y} {z = z} c t) h = begins_listed a b c (edge_before x y z t h)
+
+  consistent_of : (earlier probes : List (ℕ × ℕ)) (k : ℕ) (p : ℕ × ℕ) → ProbesFrom (its_served file) (its_claims file) earlier probes → slice_get probes k ≡ Some p →
+      IsConsistent (its_served file) p.0 p.1
+  consistent_of earlier [] k p h e = absurd (cc e)
+  consistent_of earlier (q ∷ probes) zero p h e = subst (λ (o : ℕ × ℕ). IsConsistent (its_served file) o.0 o.1) (same_order q p e) h.0.consistent
+    where
+      same_order : (a b : ℕ × ℕ) → Some a ≡ Some b → a ≡ b
+      same_order a b i = cc
+  consistent_of earlier (q ∷ probes) (suc k) p h e = consistent_of (earlier ++ q ∷ []) probes k p h.1 e
+
+  module _ (a b : ℕ) (own : Contains (its_probes file) (a, b)) where
+    -- an order that follows from that of an open line, against a label, can be either
+    either : Contains (edges (its_paths file)) (edge_of a b) → (x y : ℕ) → Closure (its_served file) a b x y → is_over (its_labels file) y x ≡ true → CanBeEither (near file accepts) x y
+    either edge x y closed over =
+        let i = has-from_Contains (its_probes file) (a, b) own in
+        let same = same_closure_law (its_givens file) (its_paths file) (paths_of (its_kept file)) a b (kept_edges file accepts) edge in
+        either_law (its_labels file) (near file accepts) a b x y
+        (All-append NeighboursDiffer (its_returns file) (paths_of (its_kept file)) (returns_differ (its_givens file) (its_paths file) (name_two file (accepts HeadSound)))
+        (kept_differ file accepts))
+        (near_free file accepts) over (same.1.1 (consistent_of [] (its_probes file) i.0 (a, b) (probes_serve file (accepts MarksBorneOut)) i.1))
+        ((same.0 x y).1 closed)
+
+    ends_apart : (O O' : Orientation) (low high : ℕ) → low < high → O low high ≡ O' low high → is_over (labels_of O) low high ≡ true → is_over (labels_of O') high low ≡ true → ⊥
+    ends_apart O O' low high lt same o o' =
+        let e : End.Low ≡ End.High = sym (over_low O low high lt o) ∙ same ∙ over_high O' low high lt o' in cc
+
+    -- so its edge isn't forced
+    unforced : (x y : ℕ) → Closure (its_served file) a b x y → is_over (its_labels file) y x ≡ true →
+        (line : EdgeLine) → Contains file.edges line → edge_on line ≡ edge_of y x → line.mark ≡ mark.Open
+    unforced x y closed over line there is = by_mark line.mark refl
+      where
+        listed : Listed x y
+        listed = listed_back y x (subst (Contains (its_edges file)) is (Contains-map {Y = Edge} edge_on file.edges line there))
+
+        edge : Contains (edges (its_paths file)) (edge_of a b)
+        edge = subst (λ (es : List Edge). Contains es (edge_of a b)) (edges_listed file (accepts EdgesListed)) (begins_listed a b closed listed)
+
+        can : CanBeEither (near file accepts) x y
+        can = either edge x y closed over
+
+        lower : line.low ≡ min y x
+        lower = ap (λ (e : Edge). e.0) is
+
+        upper : line.high ≡ max y x
+        upper = ap (λ (e : Edge). e.1) is
+
+        agree : line.mark ≡ mark.Forced → (low high : ℕ) → line.low ≡ low → line.high ≡ high → can.one low high ≡ can.other low high
+        agree m low high e f =
+            let forced = ((acceptance_law file accepts).forced line there).0 (ap is_forced m) in
+            subst (λ n. can.one n high ≡ can.other n high) e (subst (λ n. can.one line.low n ≡ can.other line.low n) f (forced can.one can.other can.one_serves can.other_serves))
+
+        not_forced : line.mark ≡ mark.Forced → ⊥
+        not_forced m = elim (over_parts (its_labels file) y x over) [
+          | inl p ↦ (
+              let lt = p.0 in
+              ends_apart can.other can.one y x lt (sym (agree m y x (omega (arith, lt, lower)) (omega (arith, lt, upper)))) can.other_order can.one_order
+              )
+          | inr p ↦ (
+              let lt = p.0 in
+              ends_apart can.one can.other x y lt (agree m x y (omega (arith, lt, lower)) (omega (arith, lt, upper))) can.one_order can.other_order
+              )
+        ]
+
+        by_mark : (m : Mark) → line.mark ≡ m → line.mark ≡ mark.Open
+        by_mark mark.Open e = e
+        by_mark mark.Forced e = absurd (not_forced e)
+
 -- ---- what is reached
 
 module _ (file : ResultFile) (accepts : Accepts file) where
@@ -158,15 +259,24 @@ module _ (file : ResultFile) (accepts : Accepts file) where
     listed_at : (u a b : ℕ) → slice_get es u ≡ Some (edge_of a b) → Contains (its_edges file) (edge_of a b)
     listed_at u a b at = have.only (edge_of a b) (Contains-from_has es (edge_of a b) (u, at))
 
+    -- an edge of the result that no line has as a forced one is there
+    open_held : (a b : ℕ) → Contains (its_edges file) (edge_of a b) → ((line : EdgeLine) → Contains file.edges line → edge_on line ≡ edge_of a b → line.mark ≡ mark.Open) →
+        Contains es (edge_of a b)
+    open_held a b listed opened =
+        let k = has-from_Contains (its_edges file) (edge_of a b) listed in
+        let w = slice_get-unmap {Y = Edge} edge_on file.edges k.0 (edge_of a b) k.1 in
+        let own = Contains-from_has file.edges w.0 (k.0, w.1) in
+        subst (Contains es) w.2 (have.opens w.0 own (opened w.0 own w.2))
+
     module _ (net : Net ℕ) (begin : ℕ) (r : Reach ℕ ℕ) (is : IsReachOf net begin r)
         (all : (path : List ℕ) → Contains (paths_of (its_kept file)) path → HasDowns L es net.arcs path) where
       -- an edge that is reached has the order by its label
       abbrev Reached : ℕ → ℕ → Type 0
       Reached x y = (u : ℕ) × Contains r.nodes u × HasOver L es u x y
 
-      -- what is served leads from there to what is reached
-      goes_on : (x y z : ℕ) → Reached x y → IsTriple (its_served file) x y z → Reached y z
-      goes_on x y z (u, c, has) (path, there, (at, t)) =
+      -- what is served leads from there to what is reached, if the next edge is there
+      goes_on : (x y z : ℕ) → Reached x y → IsTriple (its_served file) x y z → (is_over L y z ≡ true → Contains (its_edges file) (edge_of y z) → Contains es (edge_of y z)) → Reached y z
+      goes_on x y z (u, c, has) (path, there, (at, t)) held =
           elim (Contains-append_cases (map return_of (its_givens file)) (paths_of (its_kept file)) path there) [
             | inl i ↦ (
                 let k = has-from_Contains (map return_of (its_givens file)) path i in
@@ -179,7 +289,8 @@ module _ (file : ResultFile) (accepts : Accepts file) where
                 absurd (not_given g.0 own edge (subst (λ n. is_over L g.0.under n ≡ true) three.1 (subst (λ n. is_over L n y ≡ true) three.0 has.over)))
                 )
             | inr i ↦ (
-                let (v, w, from, to, arc) = all path i at x y z t has.over in
+                let next = held (goes_down file accepts path i at x y z t has.over) (next_listed file accepts path i at x y z t) in
+                let (v, w, from, to, arc) = all path i at x y z t has.over (Contains-from_has es (edge_of x y) (u, has.at)) next in
                 let same : v ≡ u = have.once v u (edge_of x y) from.at has.at in
                 elim (is.flooded.heads u w c (subst (λ n. HasArc net.arcs n w) same arc)) [
                   | inl there ↦ (w, there, to)
@@ -188,10 +299,12 @@ module _ (file : ResultFile) (accepts : Accepts file) where
                 )
           ]
 
-      -- where a closure comes to the opposite of what is reached, it begins so
-      pub back_to : (a b : ℕ) {x y : ℕ} → Closure (its_served file) a b x y → Reached y x → Reached b a
-      back_to a b start h = h
-      back_to a b (imply {x = x} {y = y} {z = z} c t) h = back_to a b c (goes_on z y x h (reversed_triple (its_served file) x y z t))
+      -- where the closure of an open line comes to the opposite of what is reached, it begins so
+      pub back_to : (a b : ℕ) → Contains (its_probes file) (a, b) → {x y : ℕ} → Closure (its_served file) a b x y → Reached y x → Reached b a
+      back_to a b own start h = h
+      back_to a b own (imply {x = x} {y = y} {z = z} c t) (u, i, has) =
+          let back = reversed_triple (its_served file) x y z t in
+          back_to a b own c (goes_on z y x (u, i, has) back (λ o listed. open_held y x listed (unforced file accepts a b own x y c o)))
 
     module _ (line : EdgeLine) (there : Contains file.edges line) (begin : ℕ) (at : slice_get es begin ≡ Some (edge_of line.low line.high)) where
       lt : line.low < line.high
@@ -236,7 +349,7 @@ module _ (file : ResultFile) (accepts : Accepts file) where
               | inl p ↦ no_peer p.1
               | inr q ↦ (
                   let (forced, (over, under, other, any)) = q in
-                  let found = back_to net begin r is all any.1.0 any.1.1 any.4 (begin, is.begun, begins_over over under other) in
+                  let found = back_to net begin r is all any.1.0 any.1.1 (any.0, any.2, any.3) any.4 (begin, is.begun, begins_over over under other) in
                   none any.1 (any.0, any.2, any.3) found.0 found.1 found.2
                   )
             ]
@@ -248,34 +361,11 @@ module _ (file : ResultFile) (accepts : Accepts file) where
             subst (λ (e : Edge). Contains (edges (its_paths file)) e) (edge_back under over)
             (subst (λ (es : List Edge). Contains es (edge_of under over)) (edges_listed file (accepts EdgesListed)) (listed_at u under over found.opposite.at))
 
-        consistent_of : (earlier probes : List (ℕ × ℕ)) (k : ℕ) (p : ℕ × ℕ) → ProbesFrom (its_served file) (its_claims file) earlier probes → slice_get probes k ≡ Some p →
-            IsConsistent (its_served file) p.0 p.1
-        consistent_of earlier [] k p h e = absurd (cc e)
-        consistent_of earlier (q ∷ probes) zero p h e = subst (λ (o : ℕ × ℕ). IsConsistent (its_served file) o.0 o.1) (same_order q p e) h.0.consistent
-          where
-            same_order : (a b : ℕ × ℕ) → Some a ≡ Some b → a ≡ b
-            same_order a b i = cc
-        consistent_of earlier (q ∷ probes) (suc k) p h e = consistent_of (earlier ++ q ∷ []) probes k p h.1 e
-
-        consistent : IsConsistent (near file accepts) over under
-        consistent =
-            let i = has-from_Contains (its_probes file) (over, under) found.there in
-            (same_closure_law (its_givens file) (its_paths file) (paths_of (its_kept file)) over under (kept_edges file accepts) edge).1.1
-            (consistent_of [] (its_probes file) i.0 (over, under) (probes_serve file (accepts MarksBorneOut)) i.1)
-
         module _ (x y : ℕ) (has : HasOver L es begin x y) (walk : Walk) (leads : Leads (its_givens file) (its_kept file) walk over under y x) where
           closed : Closure (its_served file) over under y x
           closed =
               along (its_givens file) (its_kept file) (λ a b. Closure (its_served file) over under a b)
               (λ link a b c fits h. imply h (triple_served (its_givens file) (its_kept file) link a b c fits)) walk over under y x leads start
-
-          either : CanBeEither (near file accepts) y x
-          either =
-              either_law L (near file accepts) over under y x
-              (All-append NeighboursDiffer (its_returns file) (paths_of (its_kept file)) (returns_differ (its_givens file) (its_paths file) (name_two file (accepts HeadSound)))
-              (kept_differ file accepts))
-              (near_free file accepts) has.over consistent
-              (((same_closure_law (its_givens file) (its_paths file) (paths_of (its_kept file)) over under (kept_edges file accepts) edge).0 y x).1 closed)
 
           swapped : (paths : List (List ℕ)) (a b : ℕ) → CanBeEither paths a b → CanBeEither paths b a
           swapped paths a b c = record {
@@ -290,8 +380,8 @@ module _ (file : ResultFile) (accepts : Accepts file) where
           undecided : IsAgainst line y x → IsUndecided file line
           undecided (inl (low, f, g)) =
               swapped (near file accepts) line.high line.low
-              (subst (λ n. CanBeEither (near file accepts) line.high n) g (subst (λ n. CanBeEither (near file accepts) n x) f either))
-          undecided (inr (high, f, g)) = subst (λ n. CanBeEither (near file accepts) line.low n) g (subst (λ n. CanBeEither (near file accepts) n x) f either)
+              (subst (λ n. CanBeEither (near file accepts) line.high n) g (subst (λ n. CanBeEither (near file accepts) n x) f (either file accepts over under found.there edge y x closed has.over)))
+          undecided (inr (high, f, g)) = subst (λ n. CanBeEither (near file accepts) line.low n) g (subst (λ n. CanBeEither (near file accepts) n x) f (either file accepts over under found.there edge y x closed has.over))
 
           pub reached_so : IsReached file line (over, under) walk
           reached_so = record {

@@ -1,11 +1,14 @@
-//! The steps of kept paths from the order of one label to that of another, as the arcs of a digraph.
+//! The steps of kept paths from the order of one open edge's label to that of another's, as the arcs of a digraph.
 
-ghost use Rattle.std.specs.Prelude.{◌≡◌, ◌≤◌, ◌<◌, ◌++◌, ◌∷◌, [], ℕ, List as Items, length, Contains, OnOk, IfOk};
+ghost use Rattle.std.specs.Prelude.{◌≡◌, ◌≤◌, ◌<◌, ◌-◌, ◌++◌, ◌∷◌, [], ℕ, List as Items, length, slice_get, Some, Contains, IsTrue, OnOk, IfOk};
 ghost use Rattle.tor_arena.specs.Limits.{max_numbers};
+ghost use Rattle.relationships.specs.Relationship.{is_over};
+ghost use Rattle.relationships.specs.Graph.{edge_of};
 ghost use Rattle.relationships.specs.Evidence.{paths_of};
+ghost use Rattle.tor_digraph.specs.Walks.{HasArc};
 ghost use Rattle.result_rules.specs.File.{its_kept, its_labels};
 ghost use Rattle.result_rules.specs.Rules.{Accepts};
-ghost use Rattle.telling.specs.Downs.{HaveLabels, HasDownAt, HasDowns, HasLineDowns, StillHas, AreDowns};
+ghost use Rattle.telling.specs.Downs.{HaveLabels, IsDown, IsPlaceIn, step_edge, HasDownAt, HasDowns, HasLineDowns, StillHas, AreDowns};
 
 use crate::table::{Labelled, is_over_at};
 use relationships::Link;
@@ -50,47 +53,68 @@ fn add_arc(from: usize, to: usize, link: Link, downs: &mut Downs) -> Result<(), 
     }
 }
 
-/// Adds the arc of three consecutive ASes of a kept path, the middle one in this place, from 1.
-fn add_at(
+/// Adds the arc from one edge to another with its link, if the label of the first has the one AS as the provider of the other.
+fn add_if_over(
     file: &ResultFile,
     all: &Labelled,
-    path: &[u32],
-    number: u32,
-    at: usize,
+    from: usize,
+    to: usize,
+    over: u32,
+    under: u32,
+    link: Link,
     downs: &mut Downs,
 ) -> Result<(), NoMemory>
     requires accepted { Accepts file.now }
     requires labels { HaveLabels file.now all.now.edges all.now.labels.items }
-    requires kept { Contains (its_kept file.now) (number, path.now) }
-    requires behind { 2 ≤ at }
-    requires before { at < length path.now }
-    requires few { length path.now ≤ max_numbers }
+    requires from { slice_get all.now.edges from ≡ Some (edge_of over under) }
+    requires to { to < length all.now.edges }
+    requires down { IsTrue (is_over (its_labels file.now) over under) →
+        IsDown (its_labels file.now) (its_kept file.now) all.now.edges from to link }
     requires downs { AreDowns file.now all.now.edges downs.old.graph downs.old.links }
     ensures downs { OnOk result (AreDowns file.now all.now.edges downs.new.graph downs.new.links) }
     ensures still { OnOk result (StillHas downs.old.graph.arcs downs.new.graph.arcs) }
-    ensures here { OnOk result (HasDownAt (its_labels file.now) all.now.edges downs.new.graph.arcs path.now at) }
+    ensures here { OnOk result (IsTrue (is_over (its_labels file.now) over under) → HasArc downs.new.graph.arcs from to) }
 {
-    let x = path[at - 2];
-    let y = path[at - 1];
-    let z = path[at];
-    let Some(first) = all.edges.place(x, y) else {
-        unreachable!();
-    };
-    let Some(second) = all.edges.place(z, y) else {
-        unreachable!();
-    };
-    let link = Link {
-        path: number,
-        at: at as u32,
-    };
-    if is_over_at(file, all, first, x, y) {
-        add_arc(first, second, link, downs)?;
+    if !is_over_at(file, all, from, over, under) {
         return Ok(());
     }
-    if is_over_at(file, all, second, z, y) {
-        add_arc(second, first, link, downs)?;
+    add_arc(from, to, link, downs)?;
+    Ok(())
+}
+
+/// Adds the arcs of three consecutive ASes of a kept path, whose two edges stand in these places of the table, if it has them. The link
+/// names the path and the place of the middle one.
+fn add_at(
+    file: &ResultFile,
+    all: &Labelled,
+    path: &[u32],
+    link: Link,
+    first: Option<usize>,
+    second: Option<usize>,
+    downs: &mut Downs,
+) -> Result<(), NoMemory>
+    requires accepted { Accepts file.now }
+    requires labels { HaveLabels file.now all.now.edges all.now.labels.items }
+    requires kept { Contains (its_kept file.now) (link.path, path.now) }
+    requires behind { 2 ≤ link.at }
+    requires before { link.at < length path.now }
+    requires first { IsPlaceIn all.now.edges (step_edge path.now (link.at - 2) (link.at - 1)) first }
+    requires second { IsPlaceIn all.now.edges (step_edge path.now (link.at - 1) link.at) second }
+    requires downs { AreDowns file.now all.now.edges downs.old.graph downs.old.links }
+    ensures downs { OnOk result (AreDowns file.now all.now.edges downs.new.graph downs.new.links) }
+    ensures still { OnOk result (StillHas downs.old.graph.arcs downs.new.graph.arcs) }
+    ensures here { OnOk result (HasDownAt (its_labels file.now) all.now.edges downs.new.graph.arcs path.now link.at) }
+{
+    let Some(from) = first else {
         return Ok(());
-    }
+    };
+    let Some(to) = second else {
+        return Ok(());
+    };
+    let at = link.at as usize;
+    let middle = path[at - 1];
+    add_if_over(file, all, from, to, path[at - 2], middle, link, downs)?;
+    add_if_over(file, all, to, from, path[at], middle, link, downs)?;
     Ok(())
 }
 
@@ -111,8 +135,18 @@ fn add_path(
     ensures still { OnOk result (StillHas downs.old.graph.arcs downs.new.graph.arcs) }
     ensures all { OnOk result (HasDowns (its_labels file.now) all.now.edges downs.new.graph.arcs path.now) }
 {
+    if path.len() < 3 {
+        return Ok(());
+    }
+    let mut first = all.edges.place(path[0], path[1]);
     for at in 2..path.len() {
-        add_at(file, all, path, number, at, downs)?;
+        let second = all.edges.place(path[at - 1], path[at]);
+        let link = Link {
+            path: number,
+            at: at as u32,
+        };
+        add_at(file, all, path, link, first, second, downs)?;
+        first = second;
     }
     Ok(())
 }

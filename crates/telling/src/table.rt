@@ -1,15 +1,18 @@
-//! The edges of a result, found by their two ASes, and the orders of their labels.
+//! The open edges of a result, found by their two ASes, and the orders of their labels.
 
 ghost use Rattle.std.specs.Prelude.{◌≡◌, ◌<◌, ◌↔◌, ℕ, Some, length, slice_get, Contains, IsTrue, IfOk};
 ghost use Rattle.relationships.specs.Relationship.{is_over};
 ghost use Rattle.relationships.specs.Graph.{edge_of};
+ghost use Rattle.relationships.specs.declared.mark.Mark.TheVariants as mark;
+ghost use Rattle.result_text.specs.declared.file.EdgeLine.{EdgeLine as EdgeLineData};
 ghost use Rattle.result_rules.specs.File.{its_edges, its_labels};
 ghost use Rattle.result_rules.specs.Rules.{Accepts};
 ghost use Rattle.telling.specs.Downs.{HaveLabels, HasOver};
+ghost use Rattle.telling.specs.Told.{edge_on};
 
 use crate::goings::{going_by, labels_along};
 use crate::told::Going;
-use relationships::Label;
+use relationships::{Label, Mark};
 use result_text::ResultFile;
 use std::alloc::Global;
 use tor_arena::{Keys, NoMemory};
@@ -22,20 +25,23 @@ pub(crate) struct Labelled {
     pub labels: Vec<Label>,
 }
 
-/// The edges of all lines.
+/// The open edges.
 fn edges_in(alloc: Global, keys: Keys, file: &ResultFile) -> Result<EdgeTable, NoMemory>
     requires accepted { Accepts file.now }
-    ensures all { IfOk result (λ table. (e : ℕ × ℕ) → Contains (its_edges file.now) e → Contains table e) }
+    ensures opens { IfOk result (λ table. (line : EdgeLineData) → Contains file.now.edges line → line.mark ≡ mark.Open →
+        Contains table (edge_on line)) }
     ensures only { IfOk result (λ table. (e : ℕ × ℕ) → Contains table e → Contains (its_edges file.now) e) }
 {
     let mut table = EdgeTable::new(alloc, keys);
     for line in file.edges.as_slice() {
-        table.add(line.low, line.high)?;
+        if line.mark == Mark::Open {
+            table.add(line.low, line.high)?;
+        }
     }
     Ok(table)
 }
 
-/// The edges of all lines, with their labels.
+/// The open edges, with their labels.
 pub(crate) fn labelled_in(
     alloc: Global,
     keys: Keys,

@@ -7,7 +7,7 @@ use Rattle.std.proofs.lemmas.Option.{slice_get-get_or, get_or_from_slice_get, sl
 use Rattle.tor_numbers.specs.Slots.{start_at, SearchLeadsTo, HeldFrom, IsHeld}
 use Rattle.tor_numbers.specs.Places.{named, names, AreWithin, IsPlaced}
 use Rattle.tor_arena.proofs.Gets.{Contains-from_has}
-use Rattle.tor_numbers.proofs.SlotLemmas.{contains_at, one_more, held-put, held-room, apart-push}
+use Rattle.tor_numbers.proofs.SlotLemmas.{contains_at, one_more, held-put, held-now, held-room, apart-push}
 
 -- ---- what a slot names
 
@@ -128,7 +128,7 @@ pub absent_by : (seed : ℕ) (slots numbers : List ℕ) (start number : ℕ) →
     (HeldFrom (names numbers slots) number start (length (names numbers slots)) → ⊥) → Contains numbers number → ⊥
 absent_by seed slots numbers start number p is none c =
     none (subst (λ s. HeldFrom (names numbers slots) number s (length (names numbers slots)))
-    (ap (start_at seed number) (length-map slots (named numbers)) ∙ sym is) (p.held.each number c))
+    (ap (start_at seed number) (length-map slots (named numbers)) ∙ sym is) (held-now seed (names numbers slots) numbers p.held number c))
 
 -- no slots hold no numbers
 pub none_held : (seed : ℕ) (slots numbers : List ℕ) (number : ℕ) → IsPlaced seed slots numbers → length slots ≡ 0 → Contains numbers number → ⊥

@@ -7,9 +7,9 @@ use Rattle.std.proofs.Math.Seq.{take-append_seam, take-length, take-suc}
 use Rattle.std.proofs.lemmas.Option.{slice_get-get_or, slice_get_within, same_Some}
 use Rattle.tor_arena.specs.Growth.{next_slot}
 use Rattle.tor_arena.proofs.Gets.{slice_get-push_cases, slice_get-take, slice_get-set_cases, slice_get-set_other, slice_get-set_same, slice_get-replicate, has-from_Contains, Contains-from_has}
-use Rattle.tor_numbers.specs.Slots.{start_at, HeldFrom, StaysUsed, SearchLeadsTo, IsSearchEnd, IsHeld, IsHolding, Leaves, IsApart}
+use Rattle.tor_numbers.specs.Slots.{start_at, HeldFrom, StaysUsed, SearchLeadsTo, IsSearchEnd, Keeps, IsHeld, IsHolding, Leaves, IsApart}
 use Rattle.tor_numbers.specs.declared.slot_search.SearchEnd.{SearchEnd}
-use Rattle.tor_numbers.specs.declared.slot_search.SearchEnd.TheVariants.{Free, Full}
+use Rattle.tor_numbers.specs.declared.slot_search.SearchEnd.TheVariants.{Held, Free, Full}
 
 -- ---- a search from slot to slot
 
@@ -58,18 +58,7 @@ pub seeking_full : (slots : List ℕ) (start number slot left : ℕ) → left �
 seeking_full slots start number slot zero none k h = k.still h
 seeking_full slots start number slot (suc n) none k h = absurd (omega arith)
 
--- ---- a slot has changed
-
-held-stays : (slots new : List ℕ) (k slot n : ℕ) → length new ≡ length slots → ((q : ℕ) → slice_get slots q ≡ Some k → slice_get new q ≡ Some k) →
-    StaysUsed slots new → HeldFrom slots k slot n → HeldFrom new k slot n
-held-stays slots new k slot zero len keep stays h = h
-held-stays slots new k slot (suc n) len keep stays (inl e) = inl (keep slot e)
-held-stays slots new k slot (suc n) len keep stays (inr h) =
-    inr (
-      (λ e. h.0 (stays slot e)),
-      subst (λ m. HeldFrom new k (next_slot m slot) n) (sym len)
-          (held-stays slots new k (next_slot (length slots) slot) n len keep stays h.1),
-    )
+-- ---- what is held
 
 held-some : (slots : List ℕ) (k slot n : ℕ) → HeldFrom slots k slot n → 0 < n
 held-some slots k slot zero h = absurd h
@@ -85,11 +74,62 @@ contains_one x = Contains-from_has (x ∷ []) x (0, refl)
 pub contains_none : (x : ℕ) → Contains [] x → ⊥
 contains_none x c = let h : slice_get [] (has-from_Contains [] x c).0 ≡ Some x = (has-from_Contains [] x c).1 in cc
 
+-- ---- the first of some numbers
+
+-- the first ones when one number was put behind: those of before, or all
+take_push : (count : ℕ) (numbers : List ℕ) (number : ℕ) →
+    (take count (numbers ++ number ∷ []) ≡ take count numbers) ⊎ (take count (numbers ++ number ∷ []) ≡ numbers ++ number ∷ [])
+take_push zero numbers number = inl refl
+take_push (suc n) [] number = inr (ap (λ l. number ∷ l) (take-nil n))
+  where
+    take-nil : (n : ℕ) → take {A = ℕ} n [] ≡ []
+    take-nil zero = refl
+    take-nil (suc n) = refl
+take_push (suc n) (m ∷ numbers) number = elim (take_push n numbers number) [
+  | inl same ↦ inl (ap (λ l. m ∷ l) same)
+  | inr all ↦ inr (ap (λ l. m ∷ l) all)
+]
+
+-- the first ones are the first ones too when one number was put behind
+take_within : (count : ℕ) (numbers : List ℕ) (number : ℕ) → (n : ℕ) × (take count numbers ≡ take n (numbers ++ number ∷ []))
+take_within zero numbers number = (0, refl)
+take_within (suc n) [] number = (0, refl)
+take_within (suc n) (m ∷ numbers) number =
+    let w = take_within n numbers number in (suc w.0, ap (λ l. m ∷ l) w.1)
+
+contains_take : (count : ℕ) (numbers : List ℕ) (k : ℕ) → Contains (take count numbers) k → Contains numbers k
+contains_take count numbers k c =
+    let w = has-from_Contains (take count numbers) k c in
+    Contains-from_has numbers k (w.0, (slice_get-take count numbers w.0 k w.1).1)
+
+-- a number is found as long as all of them keep their slots
+pub held-each : (seed : ℕ) (slots numbers : List ℕ) → IsHeld seed slots numbers → (k : ℕ) → Contains numbers k → (new : List ℕ) → length new ≡ length slots →
+    Keeps numbers slots new → HeldFrom new k (start_at seed k (length slots)) (length slots)
+held-each seed slots numbers h k c new len keeps =
+    h.each (length numbers) k (subst (λ l. Contains l k) (sym (take-length numbers)) c) new len (subst (λ l. Keeps l slots new) (sym (take-length numbers)) keeps)
+
+-- a number is found
+pub held-now : (seed : ℕ) (slots numbers : List ℕ) → IsHeld seed slots numbers → (k : ℕ) → Contains numbers k → HeldFrom slots k (start_at seed k (length slots)) (length slots)
+held-now seed slots numbers h k c = held-each seed slots numbers h k c slots refl (λ q n at i. at)
+
+-- where all keep their slots no other slot is made free
+keeps_used : (seed : ℕ) (slots numbers new : List ℕ) → IsHeld seed slots numbers → length new ≡ length slots → Keeps numbers slots new → StaysUsed slots new
+keeps_used seed slots numbers new h len keeps q e = free (slice_index_or slots q 0) (slice_get-get_or slots q 0 inside)
+  where
+    inside : q < length slots
+    inside = subst (λ n. q < n) len (slice_get_within new q 0 e)
+
+    free : (v : ℕ) → slice_get slots q ≡ Some v → slice_get slots q ≡ Some 0
+    free zero at = at
+    free (suc v) at =
+        let is : suc v ≡ 0 = same_Some (suc v) 0 (sym (keeps q (suc v) at (h.only q (suc v) at (omega arith))) ∙ e) in
+        absurd (omega (arith, is))
+
 -- slots of which all are free hold nothing
 pub held-none : (seed count : ℕ) (slots : List ℕ) → slots ≡ replicate count 0 → IsHeld seed slots []
 held-none seed count slots e = subst (λ s. IsHeld seed s []) (sym e) (record {
   only = (λ q k at least. let is : k ≡ 0 = slice_get-replicate count 0 q k at in absurd (omega (arith, is, least)));
-  each = (λ k c. absurd (contains_none k c));
+  each = (λ n k c. absurd (contains_none k (contains_take n [] k c)));
   once = (λ p q k at at' least. let is : k ≡ 0 = slice_get-replicate count 0 p k at in absurd (omega (arith, is, least)));
   least = (λ k c. absurd (contains_none k c));
 })
@@ -98,13 +138,21 @@ held-none seed count slots e = subst (λ s. IsHeld seed s []) (sym e) (record {
 pub held-again : (seed number : ℕ) (slots numbers : List ℕ) → IsHeld seed slots numbers → Contains numbers number → IsHeld seed slots (numbers ++ number ∷ [])
 held-again seed number slots numbers h c = record {
   only = (λ q k at least. Contains-append_left numbers (number ∷ []) k (h.only q k at least));
-  each = (λ k i. h.each k (in_all k i));
+  each = each;
   once = h.once;
   least = (λ k i. h.least k (in_all k i));
 }
   where
     in_all : (k : ℕ) → Contains (numbers ++ number ∷ []) k → Contains numbers k
     in_all k i = elim (Contains-append_cases numbers (number ∷ []) k i) [ inl a ↦ a | inr b ↦ subst (Contains numbers) (sym (alone number k b)) c ]
+
+    each : (n k : ℕ) → Contains (take n (numbers ++ number ∷ [])) k → (new : List ℕ) → length new ≡ length slots → Keeps (take n (numbers ++ number ∷ [])) slots new →
+        HeldFrom new k (start_at seed k (length slots)) (length slots)
+    each n k i new len keeps = elim (take_push n numbers number) [
+      | inl same ↦ h.each n k (subst (λ l. Contains l k) same i) new len (subst (λ l. Keeps l slots new) same keeps)
+      | inr all ↦ held-each seed slots numbers h k (in_all k (subst (λ l. Contains l k) all i)) new len
+          (λ q m at j. keeps q m at (subst (λ l. Contains l m) (sym all) (Contains-append_left numbers (number ∷ []) m j)))
+    ]
 
 -- a number that is put into a free slot
 pub held-put : (seed number : ℕ) (slots : List ℕ) (slot : ℕ) (numbers : List ℕ) → 2 ≤ number → slot < length slots → slice_get slots slot ≡ Some 0 →
@@ -113,45 +161,54 @@ pub held-put : (seed number : ℕ) (slots : List ℕ) (slot : ℕ) (numbers : Li
 held-put seed number slots slot numbers some inside free leads none h =
     (absent, record { only = only; each = each; once = once; least = least })
   where
-    new : List ℕ
-    new = set slots slot number
-
     len : length (set slots slot number) ≡ length slots
     len = length-set slots slot number
 
     absent : Contains numbers number → ⊥
-    absent c = none (h.each number c)
-
-    stays : StaysUsed slots (set slots slot number)
-    stays q e = elim (slice_get-set_cases slots slot number q 0 e) [
-      | inl a ↦ (let is = a.1 in absurd (omega (arith, is, some)))
-      | inr b ↦ b.1
-    ]
+    absent c = none (held-now seed slots numbers h number c)
 
     keep : (k q : ℕ) → 2 ≤ k → slice_get slots q ≡ Some k → slice_get (set slots slot number) q ≡ Some k
     keep k q least e = slice_get-set_other slots slot number q (λ is.
         let zero_is : k ≡ 0 = same_Some k 0 (sym e ∙ ap (slice_get slots) is ∙ free) in omega (arith, zero_is, least)) ∙ e
 
-    only : (q k : ℕ) → slice_get (set slots slot number) q ≡ Some k → 2 ≤ k → Contains (numbers ++ number ∷ []) k
+    only : (q k : ℕ) → slice_get (set slots slot number) q ≡ Some k → 0 < k → Contains (numbers ++ number ∷ []) k
     only q k e least = elim (slice_get-set_cases slots slot number q k e) [
       | inl a ↦ Contains-append_right numbers (number ∷ []) k (subst (Contains (number ∷ [])) (sym a.1) (contains_one number))
       | inr b ↦ Contains-append_left numbers (number ∷ []) k (h.only q k b.1 least)
     ]
 
-    here : HeldFrom (set slots slot number) number (start_at seed number (length slots)) (length slots)
-    here = leads (set slots slot number) len stays (slice_get-set_same slots slot number inside)
+    last : Contains (numbers ++ number ∷ []) number
+    last = Contains-append_right numbers (number ∷ []) number (contains_one number)
 
-    long : (k : ℕ) → HeldFrom (set slots slot number) k (start_at seed k (length slots)) (length slots) →
-        HeldFrom (set slots slot number) k (start_at seed k (length (set slots slot number))) (length (set slots slot number))
-    long k f = subst (λ m. HeldFrom (set slots slot number) k (start_at seed k m) m) (sym len) f
+    -- those that were there before keep their slots
+    kept : (l new : List ℕ) → ((k : ℕ) → Contains l k → 2 ≤ k) → Keeps l (set slots slot number) new → Keeps l slots new
+    kept l new least keeps q k at i = keeps q k (keep k q (least k i) at) i
 
-    each : (k : ℕ) → Contains (numbers ++ number ∷ []) k → HeldFrom (set slots slot number) k (start_at seed k (length (set slots slot number))) (length (set slots slot number))
-    each k c = elim (Contains-append_cases numbers (number ∷ []) k c) [
-      | inl a ↦ long k (held-stays slots (set slots slot number) k (start_at seed k (length slots)) (length slots) len (λ q. keep k q (h.least k a)) stays (h.each k a))
-      | inr b ↦ subst (λ x. HeldFrom (set slots slot number) x (start_at seed x (length (set slots slot number))) (length (set slots slot number))) (sym (alone number k b)) (long number here)
+    all_kept : (new : List ℕ) → Keeps (numbers ++ number ∷ []) (set slots slot number) new → Keeps numbers slots new
+    all_kept new keeps = kept numbers new h.least (λ q k at i. keeps q k at (Contains-append_left numbers (number ∷ []) k i))
+
+    here : (new : List ℕ) → length new ≡ length slots → Keeps (numbers ++ number ∷ []) (set slots slot number) new →
+        HeldFrom new number (start_at seed number (length slots)) (length slots)
+    here new len keeps = leads new len (keeps_used seed slots numbers new h len (all_kept new keeps)) (keeps slot number (slice_get-set_same slots slot number inside) last)
+
+    found : (n k : ℕ) → Contains (take n (numbers ++ number ∷ [])) k → (new : List ℕ) → length new ≡ length slots →
+        Keeps (take n (numbers ++ number ∷ [])) (set slots slot number) new → HeldFrom new k (start_at seed k (length slots)) (length slots)
+    found n k c new len keeps = elim (take_push n numbers number) [
+      | inl same ↦ h.each n k (subst (λ l. Contains l k) same c) new len
+          (kept (take n numbers) new (λ m i. h.least m (contains_take n numbers m i)) (subst (λ l. Keeps l (set slots slot number) new) same keeps))
+      | inr all ↦ (let whole = subst (λ l. Keeps l (set slots slot number) new) all keeps in
+          elim (Contains-append_cases numbers (number ∷ []) k (subst (λ l. Contains l k) all c)) [
+            | inl a ↦ held-each seed slots numbers h k a new len (all_kept new whole)
+            | inr b ↦ subst (λ x. HeldFrom new x (start_at seed x (length slots)) (length slots)) (sym (alone number k b)) (here new len whole)
+          ])
     ]
 
-    once : (p q k : ℕ) → slice_get (set slots slot number) p ≡ Some k → slice_get (set slots slot number) q ≡ Some k → 2 ≤ k → p ≡ q
+    each : (n k : ℕ) → Contains (take n (numbers ++ number ∷ [])) k → (new : List ℕ) → length new ≡ length (set slots slot number) →
+        Keeps (take n (numbers ++ number ∷ [])) (set slots slot number) new →
+        HeldFrom new k (start_at seed k (length (set slots slot number))) (length (set slots slot number))
+    each n k c new same keeps = subst (λ m. HeldFrom new k (start_at seed k m) m) (sym len) (found n k c new (same ∙ len) keeps)
+
+    once : (p q k : ℕ) → slice_get (set slots slot number) p ≡ Some k → slice_get (set slots slot number) q ≡ Some k → 0 < k → p ≡ q
     once p q k e f least = elim (slice_get-set_cases slots slot number p k e) [
       | inl a ↦ elim (slice_get-set_cases slots slot number q k f) [
         | inl b ↦ a.0 ∙ sym b.0
@@ -166,44 +223,41 @@ held-put seed number slots slot numbers some inside free leads none h =
     least : (k : ℕ) → Contains (numbers ++ number ∷ []) k → 2 ≤ k
     least k c = elim (Contains-append_cases numbers (number ∷ []) k c) [ inl a ↦ h.least k a | inr b ↦ subst (λ x. 2 ≤ x) (sym (alone number k b)) some ]
 
--- the last number leaves its slot
+-- the last number leaves its slot, and the slot is free
 pub held-leave : (seed number : ℕ) (slots : List ℕ) (slot : ℕ) (numbers : List ℕ) → 2 ≤ number → slice_get slots slot ≡ Some number →
-    IsHeld seed slots (numbers ++ number ∷ []) → (Contains numbers number → ⊥) → IsHeld seed (set slots slot 1) numbers
+    IsHeld seed slots (numbers ++ number ∷ []) → (Contains numbers number → ⊥) → IsHeld seed (set slots slot 0) numbers
 held-leave seed number slots slot numbers some at h absent = record { only = only; each = each; once = once; least = least }
   where
-    len : length (set slots slot 1) ≡ length slots
-    len = length-set slots slot 1
-
-    stays : StaysUsed slots (set slots slot 1)
-    stays q e = elim (slice_get-set_cases slots slot 1 q 0 e) [
-      | inl a ↦ (let is = a.1 in absurd (omega (arith, is)))
-      | inr b ↦ b.1
-    ]
+    len : length (set slots slot 0) ≡ length slots
+    len = length-set slots slot 0
 
     in_all : (k : ℕ) → Contains numbers k → Contains (numbers ++ number ∷ []) k
     in_all k c = Contains-append_left numbers (number ∷ []) k c
 
-    keep : (k q : ℕ) → Contains numbers k → slice_get slots q ≡ Some k → slice_get (set slots slot 1) q ≡ Some k
-    keep k q c e = slice_get-set_other slots slot 1 q (λ is.
+    keep : (k q : ℕ) → Contains numbers k → slice_get slots q ≡ Some k → slice_get (set slots slot 0) q ≡ Some k
+    keep k q c e = slice_get-set_other slots slot 0 q (λ is.
         absent (subst (Contains numbers) (same_Some k number (sym e ∙ ap (slice_get slots) is ∙ at)) c)) ∙ e
 
-    old : (q k : ℕ) → slice_get (set slots slot 1) q ≡ Some k → 2 ≤ k → (q ≢ slot) × (slice_get slots q ≡ Some k)
-    old q k e least = elim (slice_get-set_cases slots slot 1 q k e) [
+    old : (q k : ℕ) → slice_get (set slots slot 0) q ≡ Some k → 0 < k → (q ≢ slot) × (slice_get slots q ≡ Some k)
+    old q k e least = elim (slice_get-set_cases slots slot 0 q k e) [
       | inl a ↦ (let is = a.1 in absurd (omega (arith, is, least)))
       | inr b ↦ b
     ]
 
-    only : (q k : ℕ) → slice_get (set slots slot 1) q ≡ Some k → 2 ≤ k → Contains numbers k
+    only : (q k : ℕ) → slice_get (set slots slot 0) q ≡ Some k → 0 < k → Contains numbers k
     only q k e least = elim (Contains-append_cases numbers (number ∷ []) k (h.only q k (old q k e least).1 least)) [
       | inl a ↦ a
       | inr b ↦ absurd ((old q k e least).0 (h.once q slot k (old q k e least).1 (at ∙ ap (λ x. Some x) (sym (alone number k b))) least))
     ]
 
-    each : (k : ℕ) → Contains numbers k → HeldFrom (set slots slot 1) k (start_at seed k (length (set slots slot 1))) (length (set slots slot 1))
-    each k c = subst (λ m. HeldFrom (set slots slot 1) k (start_at seed k m) m) (sym len)
-        (held-stays slots (set slots slot 1) k (start_at seed k (length slots)) (length slots) len (λ q. keep k q c) stays (h.each k (in_all k c)))
+    each : (n k : ℕ) → Contains (take n numbers) k → (new : List ℕ) → length new ≡ length (set slots slot 0) → Keeps (take n numbers) (set slots slot 0) new →
+        HeldFrom new k (start_at seed k (length (set slots slot 0))) (length (set slots slot 0))
+    each n k c new same keeps =
+        let w = take_within n numbers number in
+        subst (λ m. HeldFrom new k (start_at seed k m) m) (sym len) (h.each w.0 k (subst (λ l. Contains l k) w.1 c) new (same ∙ len) (λ q m e i.
+        let j = subst (λ l. Contains l m) (sym w.1) i in keeps q m (keep m q (contains_take n numbers m j) e) j))
 
-    once : (p q k : ℕ) → slice_get (set slots slot 1) p ≡ Some k → slice_get (set slots slot 1) q ≡ Some k → 2 ≤ k → p ≡ q
+    once : (p q k : ℕ) → slice_get (set slots slot 0) p ≡ Some k → slice_get (set slots slot 0) q ≡ Some k → 0 < k → p ≡ q
     once p q k e f least = h.once p q k (old p k e least).1 (old q k f least).1 least
 
     least : (k : ℕ) → Contains numbers k → 2 ≤ k
@@ -211,11 +265,11 @@ held-leave seed number slots slot numbers some at h absent = record { only = onl
 
 -- the last number was in a slot
 pub held-last : (seed number : ℕ) (slots numbers : List ℕ) → IsHeld seed slots (numbers ++ number ∷ []) → HeldFrom slots number (start_at seed number (length slots)) (length slots)
-held-last seed number slots numbers h = h.each number (Contains-append_right numbers (number ∷ []) number (contains_one number))
+held-last seed number slots numbers h = held-now seed slots (numbers ++ number ∷ []) h number (Contains-append_right numbers (number ∷ []) number (contains_one number))
 
 -- where numbers are held there are slots
 pub held-room : (seed number : ℕ) (slots numbers : List ℕ) → IsHeld seed slots numbers → Contains numbers number → 0 < length slots
-held-room seed number slots numbers h c = held-some slots number (start_at seed number (length slots)) (length slots) (h.each number c)
+held-room seed number slots numbers h c = held-some slots number (start_at seed number (length slots)) (length slots) (held-now seed slots numbers h number c)
 
 -- a list that is written back whole
 pub written_back : (len : ℕ) (new old : List ℕ) → length new ≡ len → len ≡ length old → take len (new ++ drop (length new) old) ≡ new
@@ -265,6 +319,15 @@ pub not_held : (slots : List ℕ) (start number : ℕ) (p : SearchEnd) → IsSea
     HeldFrom slots number start (length slots) → ⊥
 not_held slots start number p is (inl h) = (subst (IsSearchEnd slots start number) h.1 is).2
 not_held slots start number p is (inr h) = subst (IsSearchEnd slots start number) h is
+
+-- a search that finds nothing says that the number isn't among them
+pub absent_unless : (seed : ℕ) (slots numbers : List ℕ) (start number : ℕ) (p : SearchEnd) → IsHeld seed slots numbers → start ≡ start_at seed number (length slots) →
+    IsSearchEnd slots start number p → ((slot : ℕ) → p ≡ Held slot → ⊥) → Contains numbers number → ⊥
+absent_unless seed slots numbers start number (Held slot) h begins end other c = other slot refl
+absent_unless seed slots numbers start number (Free slot) h begins end other c =
+    end.2 (subst (λ s. HeldFrom slots number s (length slots)) (sym begins) (held-now seed slots numbers h number c))
+absent_unless seed slots numbers start number Full h begins end other c =
+    end (subst (λ s. HeldFrom slots number s (length slots)) (sym begins) (held-now seed slots numbers h number c))
 
 pub contains_last : (numbers : List ℕ) (k : ℕ) → k < length numbers → Contains (take (k + 1) numbers) (slice_index_or numbers k 0)
 contains_last numbers k h = subst (λ l. Contains l (slice_index_or numbers k 0)) (sym (one_more numbers k h))

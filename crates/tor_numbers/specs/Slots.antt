@@ -1,7 +1,7 @@
 -- Numbers in slots, each found from the slot that its hash names.
 use Rattle.std.specs.Prelude.{◌≡◌, ◌≢◌, ℕ, zero, suc, ◌+◌, ◌-◌, ◌*◌, ◌/◌, ◌^◌, ◌<◌, ◌≤◌, ◌⊎◌, Bool, true, false, List, [], ◌∷◌, ◌++◌, Some}
 use Rattle.std.specs.Prelude.{length, take, slice_get, Contains, bit_and, bit_xor}
-use Rattle.tor_arena.specs.Growth.{IsDoubled, next_slot}
+use Rattle.tor_arena.specs.Growth.{next_slot}
 use Rattle.tor_numbers.specs.declared.slot_search.SearchEnd.{SearchEnd}
 use Rattle.tor_numbers.specs.declared.slot_search.SearchEnd.TheVariants.{Held, Free, Full}
 
@@ -34,11 +34,17 @@ IsSearchEnd slots start number (Free slot) =
     (slice_get slots slot ≡ Some 0) × SearchLeadsTo slots start number slot × (HeldFrom slots number start (length slots) → ⊥)
 IsSearchEnd slots start number Full = HeldFrom slots number start (length slots) → ⊥
 
--- the slots hold these numbers alone, each in one of them
+-- these numbers stand in the slots in which they stood
+abbrev pub Keeps : (numbers old new : List ℕ) → Type 0
+Keeps numbers old new = (slot number : ℕ) → slice_get old slot ≡ Some number → Contains numbers number → slice_get new slot ≡ Some number
+
+-- the slots hold these numbers alone, each in one of them; and each is found as long as it and those before it keep their slots, so that
+-- the last slot to be taken can be made free again
 pub record IsHeld (seed : ℕ) (slots numbers : List ℕ) : Type 0 where
-  pub only : (slot number : ℕ) → slice_get slots slot ≡ Some number → 2 ≤ number → Contains numbers number
-  pub each : (number : ℕ) → Contains numbers number → HeldFrom slots number (start_at seed number (length slots)) (length slots)
-  pub once : (slot other number : ℕ) → slice_get slots slot ≡ Some number → slice_get slots other ≡ Some number → 2 ≤ number → slot ≡ other
+  pub only : (slot number : ℕ) → slice_get slots slot ≡ Some number → 0 < number → Contains numbers number
+  pub each : (count number : ℕ) → Contains (take count numbers) number → (new : List ℕ) → length new ≡ length slots →
+      Keeps (take count numbers) slots new → HeldFrom new number (start_at seed number (length slots)) (length slots)
+  pub once : (slot other number : ℕ) → slice_get slots slot ≡ Some number → slice_get slots other ≡ Some number → 0 < number → slot ≡ other
   pub least : (number : ℕ) → Contains numbers number → 2 ≤ number
 
 -- the number is put into a slot, or was in one, and then nothing changes
@@ -47,7 +53,7 @@ IsHolding seed number old new true = (numbers : List ℕ) → IsHeld seed old nu
     (Contains numbers number → ⊥) × IsHeld seed new (numbers ++ number ∷ [])
 IsHolding seed number old new false = (new ≡ old) × ((numbers : List ℕ) → IsHeld seed old numbers → Contains numbers number)
 
--- the number, which comes last, is taken out of its slot
+-- the number, which comes last, is taken out of its slot, and the slot is free
 abbrev pub Leaves : (seed number : ℕ) (old new : List ℕ) → Type 0
 Leaves seed number old new =
     (numbers : List ℕ) → IsHeld seed old (numbers ++ number ∷ []) → (Contains numbers number → ⊥) → IsHeld seed new numbers
@@ -55,11 +61,6 @@ Leaves seed number old new =
 -- no number stands twice
 abbrev pub IsApart : List ℕ → Type 0
 IsApart numbers = (k number : ℕ) → slice_get numbers k ≡ Some number → Contains (take k numbers) number → ⊥
-
--- how many slots there are when they were made anew for so many numbers: as before where these fill less than a quarter, and else
--- twice as many
-abbrev pub IsAnew : (numbers old new : ℕ) → Type 0
-IsAnew numbers old new = (numbers < old / 4 → new ≡ old) × (old / 4 ≤ numbers → IsDoubled 16 old new)
 
 -- distinct numbers and their slots
 pub record IsSet (seed : ℕ) (slots numbers : List ℕ) : Type 0 where

@@ -1,7 +1,8 @@
 //! Distinct numbers that are cut back to the first ones.
 ghost use Rattle.std.specs.Prelude.{◌≡◌, ◌<◌, ◌≤◌, ◌*◌, ◌/◌, ◌↔◌};
 ghost use Rattle.std.specs.Prelude.{◌++◌, ◌∷◌, ℕ, List, [], length, take, Contains, IsTrue, IfOk, OnOk, OnErr};
-ghost use Rattle.tor_numbers.specs.Slots.{IsSearchEnd, IsHeld, IsHolding, IsInserted, Leaves, IsApart, IsAnew};
+ghost use Rattle.tor_numbers.specs.Slots.{IsSearchEnd, IsHeld, IsHolding, IsInserted, Leaves, IsApart};
+ghost use Rattle.tor_arena.specs.Growth.{IsDoubled};
 
 use crate::slot_search::{SearchEnd, next, start_of};
 use std::alloc::Global;
@@ -9,14 +10,12 @@ use std::hash::BuildHasher;
 use std::marker::Model;
 use tor_arena::{Keys, NoMemory, doubled};
 
-/// A slot that never held a number.
+/// A slot that holds no number.
 const FREE: u64 = 0;
 
-/// A slot whose number was taken away.
-const LEFT: u64 = 1;
-
 /// Distinct numbers from 2 on, in the order in which they were added. They are found by slots, of which at least a quarter is free:
-/// each number stands in a slot that its hash begins at, or in one of the next, before any that is free.
+/// each number stands in a slot that its hash begins at, or in one of the next, and between the two are only slots of numbers that were
+/// added before it. So the slot of the last number can be made free again.
 #[derive(Drop)]
 pub struct NumberSet {
     alloc: Global,
@@ -24,8 +23,6 @@ pub struct NumberSet {
     seed: u64,
     numbers: Vec<u64>,
     slots: Vec<u64>,
-    // how many slots are not free
-    used: usize,
 }
 
 impl Model for NumberSet {
@@ -49,7 +46,6 @@ impl NumberSet {
             seed: keys.hash_one(0u8),
             numbers: Vec::new(alloc),
             slots: Vec::new(alloc),
-            used: 0,
         }
     }
 
@@ -81,12 +77,10 @@ impl NumberSet {
             self.seed,
             self.numbers.as_slice(),
             &mut self.slots,
-            &mut self.used,
         )?;
         let is_new = hold(&mut self.slots, self.seed, number)?;
         if is_new {
             self.numbers.push_reserved(number);
-            self.used = self.used.saturating_add(1);
         }
         Ok(is_new)
     }
@@ -143,7 +137,7 @@ fn hold(slots: &mut [u64], seed: u64, number: u64) -> Result<bool, NoMemory>
     }
 }
 
-/// Takes the last of some numbers out of its slot. It takes no memory.
+/// Makes the slot of the last of some numbers free. It takes no memory.
 fn release(slots: &mut [u64], seed: u64, number: u64)
     requires some { 0 < length slots.old }
     requires number { 2 ≤ number }
@@ -152,7 +146,7 @@ fn release(slots: &mut [u64], seed: u64, number: u64)
 {
     let start = start_of(seed, number, slots.len());
     match seek(slots, start, number) {
-        SearchEnd::Held(place) => slots[place] = LEFT,
+        SearchEnd::Held(place) => slots[place] = FREE,
         SearchEnd::Free(_) | SearchEnd::Full => {}
     }
 }
@@ -190,38 +184,22 @@ fn filled(alloc: Global, seed: u64, count: usize, numbers: &[u64]) -> Result<Vec
 /// How many slots there are at first.
 const FIRST: usize = 16;
 
-/// How many slots there have to be when three quarters of these are in use, where there are so many numbers: as many, if that is for
-/// numbers that were taken away, or twice as many.
-fn next_count(slots: usize, numbers: usize) -> usize
-    ensures anew { IsAnew numbers slots result }
-    ensures some { 0 < result }
-{
-    if numbers < slots / 4 {
-        slots
-    } else {
-        doubled(slots, FIRST)
-    }
-}
-
-/// Makes the slots anew if three quarters of them are in use, and else leaves them as they are. For want of memory nothing changes.
+/// Makes twice as many slots if three quarters of them are in use, and else leaves them as they are. For want of memory nothing changes.
 fn make_room(
     alloc: Global,
     seed: u64,
     numbers: &[u64],
     slots: &mut Vec<u64>,
-    used: &mut usize,
 ) -> Result<(), NoMemory>
     requires held { IsHeld seed slots.old.items numbers.now }
     ensures some { OnOk result (0 < length slots.new.items) }
-    ensures stays { used.old < length slots.old.items / 4 * 3 → (slots.new ≡ slots.old) × (used.new ≡ used.old) }
-    ensures anew { OnOk result (length slots.old.items / 4 * 3 ≤ used.old →
-        IsAnew (length numbers.now) (length slots.old.items) (length slots.new.items) × (used.new ≡ length numbers.now)) }
+    ensures stays { length numbers.now < length slots.old.items / 4 * 3 → slots.new ≡ slots.old }
+    ensures grows { OnOk result (length slots.old.items / 4 * 3 ≤ length numbers.now →
+        IsDoubled 16 (length slots.old.items) (length slots.new.items)) }
     ensures held { IsHeld seed slots.new.items numbers.now }
 {
-    if *used >= slots.len() / 4 * 3 {
-        let count = next_count(slots.len(), numbers.len());
-        *slots = filled(alloc, seed, count, numbers)?;
-        *used = numbers.len();
+    if numbers.len() >= slots.len() / 4 * 3 {
+        *slots = filled(alloc, seed, doubled(slots.len(), FIRST), numbers)?;
     }
     Ok(())
 }

@@ -9,7 +9,8 @@ use Rattle.dump_read.specs.declared.taking.Taken.{Taken}
 use Rattle.dump_read.specs.Seen.{DumpsEnd, Absent, Malformed, Limit}
 use Rattle.rel_infer.specs.SelfAcceptance.{AreTableRows}
 use Rattle.result_text.specs.declared.file.ResultFile.{ResultFile}
-use Rattle.result_text.specs.Grammar.{IsBadLine}
+use Rattle.result_text.specs.Grammar.{IsTextOf, IsBadLine}
+use Rattle.result_reading.specs.FileText.{IsRead, AreOf}
 use Rattle.result_rules.specs.declared.verdict.Verdict.TheVariants.{No}
 use Rattle.tor_words.specs.declared.settings.Mode.TheVariants.{Summary, Migrate, Resume}
 use Rattle.tor_words.specs.declared.settings.Settings.{Settings}
@@ -144,6 +145,12 @@ pub taken_some : (settings : Settings) (name : List ℕ) (earlier : ResultFile) 
     → IsOutputOnSome settings earlier output → (outcome : Outcome) × ComesOfSome settings outcome × IsOutput settings outcome output
 taken_some settings name earlier output is some m =
     (Joins earlier m.0, (subst (λ (x : First). TakesUpSome x earlier) (sym is) some, m.1, m.2, m.3), m.4)
+
+-- the file that was read holds the text of this result
+pub result_held : (known : Option Files) (name read : List ℕ) (file : ResultFile) → read ≡ name → IsRead max_result (AreOf known read) (IsTextOf file)
+    → IfSome known (λ files. HoldsResult (ResultAt name) files file)
+result_held None name read file same r = tt
+result_held (Some files) name read file same r = (r.octets, record { there = ap files (sym same) ∙ r.stand; short = r.short }, r.such)
 
 -- ---- why there is no text
 

@@ -1,10 +1,8 @@
-//! The file that a run reads whole before any dump: known relationships, or a result, which may be taken up.
+//! The file that a run reads to its end before any dump: known relationships, or a result, which may be taken up.
 ghost use Rattle.std.specs.Prelude.{◌≤◌, Some, IfOk, IfErr, IfSome, OnOk, IsErrAnd, length};
 ghost use Rattle.std.specs.Io.KnownBytes.{IsAtEnd};
 ghost use Rattle.relationships.specs.Givens.{NameTwo, NameOnce};
 ghost use Rattle.serial_lines.specs.Serial.{IsReadingError};
-ghost use Rattle.result_text.specs.Grammar.{IsTextOf};
-ghost use Rattle.result_text.specs.Refusal.{Refuses};
 ghost use Rattle.run_base.specs.Frames.{ReadsShelf};
 ghost use Rattle.tor_run.specs.First.{Givens, Result as ResultAt, Earlier, AreGivens, AreSomeGivens, SaysGivens, HoldsResult, IsSomeResult};
 ghost use Rattle.tor_run.specs.First.{TakesUpSome};
@@ -14,14 +12,15 @@ ghost use Rattle.tor_run.specs.Refusals.{AreGivensIn, TakesUpIn, IsUnwrittenAtFi
 
 use crate::unwritten::Unwritten;
 use relationships::Given;
-use result_text::{ParseError, ResultFile, parse};
+use result_reading::{NoResult, read_result};
+use result_text::ResultFile;
 use run_base::{FirstFile, Refusal, read_whole};
 use serial_lines::{RelError, parse_given};
 use std::alloc::Global;
-use tor_arena::{Keys, List, NoMemory};
+use tor_arena::{Keys, List};
 use tor_io::Shelf;
 use tor_words::Name;
-use torcheck_run::{MAX_RESULT, Ruling, ruling_on};
+use torcheck_run::{MAX_RESULT, Ruling, ruling_of_file};
 
 /// The most octets of a file of known relationships.
 const MAX_GIVEN: usize = 1 << 28;
@@ -35,14 +34,6 @@ fn parse_givens(alloc: Global, keys: Keys, bytes: List<u8>) -> Result<List<Given
     ensures few { IfOk result (λ givens. length givens ≤ length bytes) }
 {
     parse_given(alloc, keys, bytes.as_slice())
-}
-
-// The result whose text this is. The octets are let go.
-fn parse_result(alloc: Global, bytes: List<u8>) -> Result<ResultFile, ParseError>
-    ensures text { IfOk result (λ file. IsTextOf file bytes) }
-    ensures refused { IfErr result (λ error. Refuses error bytes) }
-{
-    parse(alloc, bytes.as_slice())
 }
 
 /// What the file of this name says is known.
@@ -86,13 +77,10 @@ pub(crate) fn result_in<H: Shelf>(
 
     ensures reads_shelf { ReadsShelf H.Shelf (IsErrAnd result IsFailedRead) shelf.old shelf.new }
 {
-    match read_whole(alloc, shelf, name.as_text(), MAX_RESULT) {
-        Ok(bytes) => match parse_result(alloc, bytes) {
-            Ok(file) => Ok(file),
-            Err(ParseError::BadLine(line)) => Err(Unwritten::BadLine(FirstFile::Result, line)),
-            Err(ParseError::NoMemory) => Err(Unwritten::Refused(Refusal::NoMemory)),
-        },
-        Err(unread) => Err(Unwritten::First(FirstFile::Result, unread)),
+    match read_result(alloc, shelf, name.as_text(), MAX_RESULT) {
+        Ok(file) => Ok(file),
+        Err(NoResult::BadLine(line)) => Err(Unwritten::BadLine(FirstFile::Result, line)),
+        Err(NoResult::Unread(unread)) => Err(Unwritten::First(FirstFile::Result, unread)),
     }
 }
 
@@ -111,12 +99,9 @@ pub(crate) fn earlier_in<H: Shelf>(
 
     ensures reads_shelf { ReadsShelf H.Shelf (IsErrAnd result IsFailedRead) shelf.old shelf.new }
 {
-    match read_whole(alloc, shelf, name.as_text(), MAX_RESULT) {
-        Ok(bytes) => match ruling_on(alloc, keys, bytes) {
-            Ok(Ruling::Met(file)) => Ok(file),
-            Ok(Ruling::Broken { line, rule }) => Err(Unwritten::Broken(line, rule)),
-            Err(NoMemory) => Err(Unwritten::Refused(Refusal::NoMemory)),
-        },
+    match ruling_of_file(alloc, keys, shelf, name.as_text()) {
+        Ok(Ruling::Met(file)) => Ok(file),
+        Ok(Ruling::Broken { line, rule }) => Err(Unwritten::Broken(line, rule)),
         Err(unread) => Err(Unwritten::First(FirstFile::Result, unread)),
     }
 }

@@ -9,7 +9,7 @@ use Rattle.tor_words.specs.TorviewCommand.{torview_command}
 abbrev pub most_in : List Row → Option ℕ
 most_in rows = number_or 1 2000 60 (first_of (codes "most") rows)
 
--- how many rows of providers are drawn: one where `--depth` isn't there
+-- how many generations of providers are drawn: one where `--depth` isn't there
 abbrev pub depth_in : List Row → Option ℕ
 depth_in rows = number_or 1 8 1 (first_of (codes "depth") rows)
 

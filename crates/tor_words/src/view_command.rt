@@ -12,7 +12,7 @@ const MOST_HELP: &str =
     "The most boxes of its providers, of its peers and of its customers each, 1 to 2000 [default: 60]";
 
 const DEPTH_HELP: &str =
-    "The most rows of providers, 1 to 8: its own, their providers and so on [default: 1]";
+    "The most generations of providers, 1 to 8: its own, their providers and so on [default: 1]";
 
 const DRAWN_HELP: &str = "The result, which has to meet all rules";
 

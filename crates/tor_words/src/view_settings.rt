@@ -22,7 +22,7 @@ pub struct ViewSettings {
     pub asked: u32,
     /// The most neighbours of each group that are drawn, from 1 to 2000.
     pub most: u32,
-    /// How many rows of providers are drawn at most, from 1 to 8.
+    /// How many generations of providers are drawn at most, from 1 to 8.
     pub depth: u32,
 }
 
@@ -37,7 +37,7 @@ fn most_in(matches: &ArgMatches) -> Option<u32>
     }
 }
 
-// How many rows of providers are drawn at most.
+// How many generations of providers are drawn at most.
 fn depth_in(matches: &ArgMatches) -> Option<u32>
     ensures value { result ≡ depth_in (rows_of (found_of matches.now)) }
     ensures within { IfSome result (λ depth. (1 ≤ depth) × (depth ≤ 8)) }

@@ -9,5 +9,5 @@ mod verdicts;
 
 pub use checking::check;
 pub use laws::one_file_verdict_law;
-pub use ruling::{MAX_RESULT, Ruling, ruling_of_file, ruling_on};
+pub use ruling::{MAX_RESULT, Ruling, ruling_of_file};
 pub use verdicts::verdict_text;

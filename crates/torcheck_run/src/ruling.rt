@@ -1,22 +1,20 @@
 //! What the rules 0 to 10 say of a result file.
-ghost use Rattle.std.specs.Prelude.{◌≡◌, ◌≤◌, Err, IfOk, IfErr, OnOk, IsErrOf, IsErrAnd, length};
+ghost use Rattle.std.specs.Prelude.{◌≡◌, Err, IfOk, IfErr, OnOk, IsErrOf, IsErrAnd};
 ghost use Rattle.std.specs.Io.KnownBytes.{IsAtEnd};
-ghost use Rattle.result_text.specs.Grammar.{IsTextOf};
-ghost use Rattle.result_text.specs.Refusal.{Refuses};
 ghost use Rattle.result_rules.specs.File.{HasFewLines};
 ghost use Rattle.run_base.specs.Frames.{ReadsShelf};
 ghost use Rattle.run_base.specs.WholeFile.{LeavesRest, LeavesOnly};
 ghost use Rattle.run_base.specs.declared.whole_file.Unread.TheVariants.{Failed as failed};
-ghost use Rattle.torcheck_run.specs.Ruled.{IsRuling, IsRulingOf, IsRulingIn, IsOfFewLines, IsUnruled};
+ghost use Rattle.torcheck_run.specs.Ruled.{IsRulingOf, IsRulingIn, IsOfFewLines, IsUnruled};
 ghost use Rattle.torcheck_run.specs.Limits.{max_result};
 
 use rel_checker::check_file;
 use result_reading::{NoResult, read_result};
 use result_rules::Verdict;
-use result_text::{ParseError, ResultFile, parse};
+use result_text::ResultFile;
 use run_base::Unread;
 use std::alloc::Global;
-use tor_arena::{Keys, List, NoMemory};
+use tor_arena::{Keys, NoMemory};
 use tor_io::Shelf;
 
 /// The most octets of a result file.
@@ -31,14 +29,6 @@ pub enum Ruling {
     Met(ResultFile),
 }
 
-/// The result whose text this is. The octets are let go.
-fn parse_all(alloc: Global, bytes: List<u8>) -> Result<ResultFile, ParseError>
-    ensures text { IfOk result (λ file. IsTextOf file bytes) }
-    ensures refused { IfErr result (λ error. Refuses error bytes) }
-{
-    parse(alloc, bytes.as_slice())
-}
-
 /// What the rules 1 to 10 say of a result.
 fn ruling_of(alloc: Global, keys: Keys, file: ResultFile) -> Result<Ruling, NoMemory>
     requires lines { HasFewLines file }
@@ -48,19 +38,6 @@ fn ruling_of(alloc: Global, keys: Keys, file: ResultFile) -> Result<Ruling, NoMe
     match check_file(alloc, keys, &file)? {
         Verdict::Yes => Ok(Ruling::Met(file)),
         Verdict::No { line, rule } => Ok(Ruling::Broken { line, rule }),
-    }
-}
-
-/// What the rules 0 to 10 say of the octets of a result file, at most 2^31. The octets are let go. The only error is that memory ran out.
-pub fn ruling_on(alloc: Global, keys: Keys, bytes: List<u8>) -> Result<Ruling, NoMemory>
-    requires short { length bytes ≤ max_result }
-    ensures rules { IfOk result (IsRuling bytes) }
-    ensures few { IfOk result IsOfFewLines }
-{
-    match parse_all(alloc, bytes) {
-        Ok(file) => ruling_of(alloc, keys, file),
-        Err(ParseError::BadLine(line)) => Ok(Ruling::Broken { line, rule: 0 }),
-        Err(ParseError::NoMemory) => Err(NoMemory),
     }
 }
 

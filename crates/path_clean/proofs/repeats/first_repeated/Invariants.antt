@@ -6,7 +6,7 @@ abbrev pub invariant-loop-place : goal.invariant-loop-place
 invariant-loop-place l = record {
   buckets : length l.newest.items ≡ l.many;
   passed : length l.older.items ≡ l.place;
-  linked : AreLinked l.seed l.many l.rows l.older.items l.place;
-  newest : AreNewest l.seed l.many l.rows l.newest.items l.place;
+  linked : AreLinked l.many l.hashes.items l.older.items l.place;
+  newest : AreNewest l.many l.hashes.items l.newest.items l.place;
   before : (j : ℕ) → j < l.place → Repeats l.rows j → ⊥;
 }

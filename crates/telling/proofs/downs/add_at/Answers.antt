@@ -1,139 +1,96 @@
-use Rattle.std.proofs.Common.{sym, ◌∙◌, arith}
-use Rattle.std.proofs.lemmas.Bool.{false≢true}
+use Rattle.std.proofs.Common.{◌≡◌, ◌-◌, get_or}
 use Rattle.std.proofs.lemmas.Option.{slice_get_within}
-use Rattle.telling.proofs.DownLemmas.{first_in, second_in, link, down, up, has_down, has_up, has_none, links_pushed, arc_pushed}
+use Rattle.telling.specs.Downs.{step_edge}
+use Rattle.telling.proofs.DownLemmas.{down, has_arc, there, back, has_both, none_first, none_second, placed, unplaced, turned_at}
 use Rattle.telling.proofs.downs.add_at.Goals as goal
 
-pub unreachable-requires : goal.unreachable-requires
-unreachable-requires c =
-    let file = c.args.file.now in
-    let acc = c.requires.accepted in
-    let es = c.args.all.now.edges in
-    let n = c.args.number in
+pub returns-in_default-clause-here : goal.returns-in_default-clause-here
+returns-in_default-clause-here c =
+    let q = c.requires in
     let path = c.args.path.now in
-    let own = c.requires.kept in
-    let at = c.args.at in
-    let two = c.requires.behind in
-    let lt = c.requires.before in
-    c.in_default.ensures.found (first_in file acc es n path own at two lt c.args.all.now.labels.items c.requires.labels)
+    let at = c.args.link.at in
+    none_first c.args.file.now q.accepted c.args.all.now.edges c.args.link.path path q.kept at q.behind q.before c.args.downs.now.graph.arcs
+    (unplaced c.args.all.now.edges (step_edge path (at - 2) (at - 1)) c.args.first c.in_default.is q.first)
 
-pub unreachable-requires-in_default-place : goal.unreachable-requires-in_default-place
-unreachable-requires-in_default-place c =
-    let file = c.args.file.now in
-    let acc = c.requires.accepted in
-    let es = c.args.all.now.edges in
-    let n = c.args.number in
+pub returns-in_default-second-clause-here : goal.returns-in_default-second-clause-here
+returns-in_default-second-clause-here c =
+    let q = c.requires in
     let path = c.args.path.now in
-    let own = c.requires.kept in
-    let at = c.args.at in
-    let two = c.requires.behind in
-    let lt = c.requires.before in
-    c.in_default-place.ensures.found (second_in file acc es n path own at two lt c.args.all.now.labels.items c.requires.labels)
+    let at = c.args.link.at in
+    none_second c.args.file.now q.accepted c.args.all.now.edges c.args.link.path path q.kept at q.behind q.before c.args.downs.now.graph.arcs
+    (unplaced c.args.all.now.edges (step_edge path (at - 1) at) c.args.second c.in_default-second.is q.second)
 
-pub returns-then-is_over_at-clause-downs : goal.returns-then-is_over_at-clause-downs
-returns-then-is_over_at-clause-downs c =
-    let file = c.args.file.now in
-    let acc = c.requires.accepted in
-    let es = c.args.all.now.edges in
-    let n = c.args.number in
+pub add_if_over-requires-clause-from : goal.add_if_over-requires-clause-from
+add_if_over-requires-clause-from c =
     let path = c.args.path.now in
-    let own = c.requires.kept in
-    let at = c.args.at in
-    let two = c.requires.behind in
-    let lt = c.requires.before in
-    let u = c.in-Some.first in
-    let v = c.in-Some-place.second in
-    let more = c.in_ok-add_arc.ensures in
-    let new = c.add_arc.new.downs in
-    let o = c.is_over_at.ensures.0 c.if-is_over_at.true in
-    links_pushed file es c.args.downs.now.graph new.graph c.args.downs.now.links new.links u v (link file acc es n path own at two lt) more.nodes more.arcs more.links
-    (down file acc es n path own at two lt u v c.in-Some.ensures.found c.in-Some-place.ensures.found o) c.requires.downs
+    let at = c.args.link.at in
+    placed c.args.all.now.edges (step_edge path (at - 2) (at - 1)) c.args.first c.in-Some.from c.in-Some.is c.requires.first
 
-pub returns-then-is_over_at-clause-still : goal.returns-then-is_over_at-clause-still
-returns-then-is_over_at-clause-still c =
-    (arc_pushed c.args.downs.now.graph.arcs c.add_arc.new.downs.graph.arcs c.in-Some.first c.in-Some-place.second c.in_ok-add_arc.ensures.arcs).0
+pub add_if_over-requires-clause-to : goal.add_if_over-requires-clause-to
+add_if_over-requires-clause-to c =
+    let e = step_edge c.args.path.now (c.args.link.at - 1) c.args.link.at in
+    slice_get_within c.args.all.now.edges c.in-Some-second.to e (placed c.args.all.now.edges e c.args.second c.in-Some-second.to c.in-Some-second.is c.requires.second)
 
-pub returns-then-is_over_at-clause-here : goal.returns-then-is_over_at-clause-here
-returns-then-is_over_at-clause-here c =
+pub add_if_over-requires-clause-down : goal.add_if_over-requires-clause-down
+add_if_over-requires-clause-down c =
+    let q = c.requires in
     let file = c.args.file.now in
-    let acc = c.requires.accepted in
     let es = c.args.all.now.edges in
-    let n = c.args.number in
     let path = c.args.path.now in
-    let own = c.requires.kept in
-    let at = c.args.at in
-    let two = c.requires.behind in
-    let lt = c.requires.before in
-    let u = c.in-Some.first in
-    let v = c.in-Some-place.second in
-    let more = c.in_ok-add_arc.ensures in
-    let new = c.add_arc.new.downs in
-    let o = c.is_over_at.ensures.0 c.if-is_over_at.true in
-    has_down file acc es n path own at two lt u v c.in-Some.ensures.found c.in-Some-place.ensures.found new.graph.arcs o (arc_pushed c.args.downs.now.graph.arcs new.graph.arcs u v more.arcs).1
+    let at = c.args.link.at in
+    down file q.accepted es c.args.link.path path q.kept at q.behind q.before (get_or path (at - 2) 0) (get_or path (at - 1) 0) (get_or path at 0)
+    (there file q.accepted es c.args.link.path path q.kept at q.behind q.before) c.in-Some.from c.in-Some-second.to
+    (placed es (step_edge path (at - 2) (at - 1)) c.args.first c.in-Some.from c.in-Some.is q.first)
+    (placed es (step_edge path (at - 1) at) c.args.second c.in-Some-second.to c.in-Some-second.is q.second)
 
-pub returns-then-is_over_at-2-clause-downs : goal.returns-then-is_over_at-2-clause-downs
-returns-then-is_over_at-2-clause-downs c =
+pub add_if_over-requires-2-clause-from : goal.add_if_over-requires-2-clause-from
+add_if_over-requires-2-clause-from c =
+    let es = c.args.all.now.edges in
+    let path = c.args.path.now in
+    let at = c.args.link.at in
+    turned_at es c.in-Some-second.to (get_or path (at - 1) 0) (get_or path at 0)
+    (placed es (step_edge path (at - 1) at) c.args.second c.in-Some-second.to c.in-Some-second.is c.requires.second)
+
+pub add_if_over-requires-2-clause-to : goal.add_if_over-requires-2-clause-to
+add_if_over-requires-2-clause-to c =
+    let e = step_edge c.args.path.now (c.args.link.at - 2) (c.args.link.at - 1) in
+    slice_get_within c.args.all.now.edges c.in-Some.from e (placed c.args.all.now.edges e c.args.first c.in-Some.from c.in-Some.is c.requires.first)
+
+pub add_if_over-requires-2-clause-down : goal.add_if_over-requires-2-clause-down
+add_if_over-requires-2-clause-down c =
+    let q = c.requires in
     let file = c.args.file.now in
-    let acc = c.requires.accepted in
     let es = c.args.all.now.edges in
-    let n = c.args.number in
     let path = c.args.path.now in
-    let own = c.requires.kept in
-    let at = c.args.at in
-    let two = c.requires.behind in
-    let lt = c.requires.before in
-    let u = c.in-Some.first in
-    let v = c.in-Some-place.second in
-    let more = c.in_ok-add_arc-2.ensures in
-    let new = c.add_arc-then-is_over_at-2.new.downs in
-    let o = c.is_over_at-2.ensures.0 c.if-is_over_at-2.true in
-    links_pushed file es c.args.downs.now.graph new.graph c.args.downs.now.links new.links v u (link file acc es n path own at two lt) more.nodes more.arcs more.links
-    (up file acc es n path own at two lt u v c.in-Some.ensures.found c.in-Some-place.ensures.found o) c.requires.downs
-
-pub returns-then-is_over_at-2-clause-still : goal.returns-then-is_over_at-2-clause-still
-returns-then-is_over_at-2-clause-still c =
-    (arc_pushed c.args.downs.now.graph.arcs c.add_arc-then-is_over_at-2.new.downs.graph.arcs c.in-Some-place.second c.in-Some.first c.in_ok-add_arc-2.ensures.arcs).0
-
-pub returns-then-is_over_at-2-clause-here : goal.returns-then-is_over_at-2-clause-here
-returns-then-is_over_at-2-clause-here c =
-    let file = c.args.file.now in
-    let acc = c.requires.accepted in
-    let es = c.args.all.now.edges in
-    let n = c.args.number in
-    let path = c.args.path.now in
-    let own = c.requires.kept in
-    let at = c.args.at in
-    let two = c.requires.behind in
-    let lt = c.requires.before in
-    let u = c.in-Some.first in
-    let v = c.in-Some-place.second in
-    let more = c.in_ok-add_arc-2.ensures in
-    let new = c.add_arc-then-is_over_at-2.new.downs in
-    has_up file acc es n path own at two lt u v c.in-Some.ensures.found c.in-Some-place.ensures.found new.graph.arcs (λ o. false≢true (sym c.if-is_over_at.false ∙ c.is_over_at.ensures.1 o))
-    (arc_pushed c.args.downs.now.graph.arcs new.graph.arcs v u more.arcs).1
+    let at = c.args.link.at in
+    let x = get_or path (at - 2) 0 in
+    let y = get_or path (at - 1) 0 in
+    let z = get_or path at 0 in
+    down file q.accepted es c.args.link.path path q.kept at q.behind q.before z y x (back file q.accepted es c.args.link.path path q.kept at q.behind q.before)
+    c.in-Some-second.to c.in-Some.from
+    (turned_at es c.in-Some-second.to y z (placed es (step_edge path (at - 1) at) c.args.second c.in-Some-second.to c.in-Some-second.is q.second))
+    (turned_at es c.in-Some.from x y (placed es (step_edge path (at - 2) (at - 1)) c.args.first c.in-Some.from c.in-Some.is q.first))
 
 pub returns-clause-here : goal.returns-clause-here
 returns-clause-here c =
+    let q = c.requires in
     let file = c.args.file.now in
-    let acc = c.requires.accepted in
     let es = c.args.all.now.edges in
-    let n = c.args.number in
+    let number = c.args.link.path in
     let path = c.args.path.now in
-    let own = c.requires.kept in
-    let at = c.args.at in
-    let two = c.requires.behind in
-    let lt = c.requires.before in
-    has_none file acc es n path own at two lt c.in-Some.first c.in-Some-place.second c.in-Some.ensures.found c.in-Some-place.ensures.found c.args.downs.now.graph.arcs
-    (λ o. false≢true (sym c.if-is_over_at.false ∙ c.is_over_at.ensures.1 o)) (λ o. false≢true (sym c.if-is_over_at-2.false ∙ c.is_over_at-2.ensures.1 o))
-
-pub add_arc-requires-clause-from : goal.add_arc-requires-clause-from
-add_arc-requires-clause-from c = let lt = slice_get_within c.args.all.now.edges c.in-Some.first _ c.in-Some.ensures.found in omega (arith, lt, c.requires.downs.nodes)
-
-pub add_arc-requires-clause-to : goal.add_arc-requires-clause-to
-add_arc-requires-clause-to c = let lt = slice_get_within c.args.all.now.edges c.in-Some-place.second _ c.in-Some-place.ensures.found in omega (arith, lt, c.requires.downs.nodes)
-
-pub add_arc-requires-then-is_over_at-2-clause-from : goal.add_arc-requires-then-is_over_at-2-clause-from
-add_arc-requires-then-is_over_at-2-clause-from c = let lt = slice_get_within c.args.all.now.edges c.in-Some-place.second _ c.in-Some-place.ensures.found in omega (arith, lt, c.requires.downs.nodes)
-
-pub add_arc-requires-then-is_over_at-2-clause-to : goal.add_arc-requires-then-is_over_at-2-clause-to
-add_arc-requires-then-is_over_at-2-clause-to c = let lt = slice_get_within c.args.all.now.edges c.in-Some.first _ c.in-Some.ensures.found in omega (arith, lt, c.requires.downs.nodes)
+    let at = c.args.link.at in
+    let x = get_or path (at - 2) 0 in
+    let y = get_or path (at - 1) 0 in
+    let z = get_or path at 0 in
+    let u = c.in-Some.from in
+    let v = c.in-Some-second.to in
+    let first = placed es (step_edge path (at - 2) (at - 1)) c.args.first u c.in-Some.is q.first in
+    let second = placed es (step_edge path (at - 1) at) c.args.second v c.in-Some-second.is q.second in
+    let one = c.in_ok-add_if_over.ensures in
+    let other = c.in_ok-add_if_over-2.ensures in
+    let arcs = c.add_if_over-2.new.downs.graph.arcs in
+    has_both file q.accepted es number path q.kept at q.behind q.before arcs
+    (has_arc file q.accepted es number path q.kept at q.behind q.before x y z (there file q.accepted es number path q.kept at q.behind q.before) u v first second arcs
+    (λ o. other.still u v (one.here o)))
+    (has_arc file q.accepted es number path q.kept at q.behind q.before z y x (back file q.accepted es number path q.kept at q.behind q.before) v u
+    (turned_at es v y z second) (turned_at es u x y first) arcs other.here)

@@ -1,16 +1,16 @@
-use Rattle.std.proofs.Common.{◌≤◌, length, arith}
+use Rattle.std.proofs.Common.{◌≤◌, ◌<◌, length, arith}
 use Rattle.result_rules.specs.File.{its_labels}
-use Rattle.telling.proofs.DownLemmas.{downs_begun, downs_next, downs_all, still_then}
+use Rattle.telling.proofs.DownLemmas.{downs_begun, downs_next, downs_all, downs_short, still_then, place_next}
 use Rattle.telling.proofs.downs.add_path.Goals as goal
 
-pub loop-at-init : goal.loop-at-init
-loop-at-init c =
-    let arcs = c.args.downs.now.graph.arcs in
-    (omega arith, c.requires.downs, λ u v arc. arc, downs_begun (its_labels c.args.file.now) c.args.all.now.edges c.args.path.now arcs)
+pub returns-then-path-lt3-clause-all : goal.returns-then-path-lt3-clause-all
+returns-then-path-lt3-clause-all c =
+    let lt : length c.args.path.now < 3 = omega (arith, c.if-path-lt3.true) in
+    downs_short (its_labels c.args.file.now) c.args.all.now.edges c.args.path.now c.args.downs.now.graph.arcs lt
 
 pub loop-at-preserved : goal.loop-at-preserved
 loop-at-preserved c =
-    let (two, downs, still, to) = c.loop-at.invariant in
+    let (two, downs, still, to, first) = c.loop-at.invariant in
     let more = c.in_ok-add_at.ensures in
     let old = c.loop-at.downs.graph.arcs in
     let new = c.add_at.new.downs.graph.arcs in (
@@ -18,6 +18,7 @@ loop-at-preserved c =
       more.downs,
       still_then c.args.downs.now.graph.arcs old new still more.still,
       downs_next (its_labels c.args.file.now) c.args.all.now.edges c.args.path.now old new c.loop-at.at more.still more.here to,
+      place_next c.args.all.now.edges c.args.path.now c.loop-at.at c.place-second.result two c.place-second.ensures.found,
     )
 
 pub returns-clause-all : goal.returns-clause-all

@@ -1,13 +1,13 @@
 use Rattle.std.proofs.Common.{◌≡◌, Some, slice_get, sym, subst, arith}
 use Rattle.std.proofs.lemmas.Option.{slice_get_within}
 use Rattle.relationships.specs.Graph.{edge_of}
-use Rattle.telling.proofs.DownLemmas.{line_listed}
+use Rattle.telling.proofs.DownLemmas.{line_held}
 use Rattle.telling.proofs.reaching.walk_down.Goals as goal
 
 pub unreachable-requires : goal.unreachable-requires
 unreachable-requires c =
     let line = c.args.line.now in
-    c.in_default.ensures.found (c.requires.labels.all (edge_of line.low line.high) (line_listed c.args.file.now c.requires.accepted line c.requires.there))
+    c.in_default.ensures.found (line_held c.args.file.now c.requires.accepted c.args.all.now.edges c.args.all.now.labels.items c.requires.labels line c.requires.there c.requires.is_open)
 
 pub edge_id-start-requires : goal.edge_id-start-requires
 edge_id-start-requires c =

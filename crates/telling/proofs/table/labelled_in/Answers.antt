@@ -5,4 +5,4 @@ pub returns : goal.returns
 returns c =
     let table = c.in_ok-edges.ensures in
     let labels = c.in_ok-labels.ensures in
-    record { all = table.all; only = table.only; once = once_from c.in_ok-edges.edges c.len-2.ensures.once; many = labels.many; labelled = labels.labels }
+    record { opens = table.opens; only = table.only; once = once_from c.in_ok-edges.edges c.len-2.ensures.once; many = labels.many; labelled = labels.labels }
