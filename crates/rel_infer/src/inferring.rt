@@ -67,7 +67,7 @@ fn found_behind(
 pub(crate) fn inferred_by(
     alloc: Global,
     graph: &AsGraph,
-    selection: Selection,
+    mut selection: Selection,
     count: usize,
     ratio: u32,
 ) -> Result<Inferred, NoMemory>
@@ -80,6 +80,8 @@ pub(crate) fn inferred_by(
         AreFound ratio graph.now selection.selector.formula (drop (length graph.now - count) selection.selector.formula.paths)
         inferred.found) }
 {
+    // nothing is offered any more
+    selection.selector.rest(alloc);
     let first = graph.path_count() - count;
     let found = found_behind(alloc, graph, &selection.selector, first, ratio)?;
     Ok(Inferred {
