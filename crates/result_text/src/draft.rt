@@ -249,6 +249,7 @@ impl Draft {
     }
 
     /// Adds the line of a kept path.
+    #[inline(always)]
     pub fn add_kept(&mut self, times: u64, path: &[u32]) -> Result<(), LineError>
         ensures { Steps result self.new (step self.old (line_of_kept (times, path.now))) }
     {
@@ -261,6 +262,7 @@ impl Draft {
     }
 
     /// Adds the line of a path that is lost with the walk.
+    #[inline(always)]
     pub fn add_lost(
         &mut self,
         times: u64,

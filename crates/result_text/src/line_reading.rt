@@ -108,6 +108,7 @@ pub fn read_aside(bytes: &[u8]) -> Result<(Cause, u64, &[u8]), LineError>
 }
 
 /// The line of a kept path, and its times.
+#[inline(always)]
 #[tactic(auto, unfolding(crate::specs::Reading::kept_at))]
 pub fn read_kept<'a>(path: &mut List<u32>, bytes: &'a [u8]) -> Result<(u64, &'a [u8]), LineError>
     ensures { ReadsAs (λ x. (line_of_kept (x.0, path.new), x.1.now)) result (kept_at bytes.now) }
@@ -118,6 +119,7 @@ pub fn read_kept<'a>(path: &mut List<u32>, bytes: &'a [u8]) -> Result<(u64, &'a 
 }
 
 /// The line of a lost path, and its times.
+#[inline(always)]
 #[tactic(auto, unfolding(crate::specs::Reading::lost_at))]
 pub fn read_lost<'a>(
     version: Version,

@@ -1,9 +1,11 @@
 //! The line at the prefix of the octets, read into the draft.
 
+ghost use Rattle.std.specs.Prelude.{◌≡◌, IfOk, IfErr};
 ghost use Rattle.result_text.specs.Order.{with_line, next_at};
 ghost use Rattle.result_text.specs.Reading.{ReadsAs, by_word, outer_readers, sets_line_at, ratio_at, aside_at, kept_at, lost_at};
 ghost use Rattle.result_text.specs.Reading.{edge_line_at, given_at, why_at, probe_at, end_at, version_at};
 ghost use Rattle.result_text.specs.Text.{version_of};
+ghost use Rattle.result_text.specs.declared.error.LineError.TheVariants.{NoMemory as no_memory};
 
 use crate::draft::Draft;
 use crate::error::LineError;
@@ -84,6 +86,7 @@ fn next_given<'a>(draft: &mut Draft, bytes: &'a [u8]) -> Result<&'a [u8], LineEr
     Ok(rest)
 }
 
+#[inline(always)]
 fn next_kept<'a>(
     draft: &mut Draft,
     scratch: &mut Scratch,
@@ -96,6 +99,7 @@ fn next_kept<'a>(
     Ok(rest)
 }
 
+#[inline(always)]
 fn next_lost<'a>(
     draft: &mut Draft,
     scratch: &mut Scratch,
@@ -110,6 +114,7 @@ fn next_lost<'a>(
     Ok(rest)
 }
 
+#[inline(always)]
 fn next_edge<'a>(draft: &mut Draft, bytes: &'a [u8]) -> Result<&'a [u8], LineError>
     ensures { ReadsAs (λ rest. (draft.new, rest.now)) result (with_line draft.old (edge_line_at bytes.now)) }
 {
@@ -150,6 +155,7 @@ fn next_end<'a>(draft: &mut Draft, bytes: &'a [u8]) -> Result<&'a [u8], LineErro
 }
 
 /// Reads the line at the prefix into the draft, by its first word, and answers what stands behind it.
+#[inline(always)]
 #[tactic(auto, unfolding(crate::specs::Order::next_at, crate::specs::Reading::line_at))]
 pub fn next_line<'a>(
     alloc: Global,
@@ -194,5 +200,66 @@ fn next_outer<'a>(alloc: Global, draft: &mut Draft, bytes: &'a [u8]) -> Result<&
         next_end(draft, rest)
     } else {
         Err(LineError::Bad)
+    }
+}
+
+/// The same octets once more.
+fn copy_of(alloc: Global, octets: &[u8]) -> Result<List<u8>, LineError>
+    ensures copy { IfOk result (λ copy. copy ≡ octets.now) }
+    ensures memory { IfErr result (λ error. error ≡ no_memory) }
+{
+    let mut copy = List::new(alloc);
+    copy.extend_from_slice(octets)?;
+    Ok(copy)
+}
+
+/// Reads the line at the prefix into the draft, and leaves a copy of what stands behind it.
+fn next_copied(
+    alloc: Global,
+    draft: &mut Draft,
+    scratch: &mut Scratch,
+    octets: &mut List<u8>,
+) -> Result<(), LineError>
+    ensures { ReadsAs (λ _. (draft.new, octets.new)) result (next_at draft.old octets.old) }
+{
+    let rest = next_line(alloc, draft, scratch, octets.as_slice())?;
+    *octets = copy_of(alloc, rest)?;
+    Ok(())
+}
+
+/// The same, with the octets let go before the numbers of a line with lists are copied into the draft. So a long line takes the memory of
+/// its octets and its numbers, and then that of its numbers twice, but never all three.
+#[tactic(auto, unfolding(crate::specs::Order::next_at, crate::specs::Reading::line_at, crate::specs::Reading::why_at))]
+pub fn next_long(
+    alloc: Global,
+    draft: &mut Draft,
+    scratch: &mut Scratch,
+    octets: &mut List<u8>,
+) -> Result<(), LineError>
+    ensures { ReadsAs (λ _. (draft.new, octets.new)) result (next_at draft.old octets.old) }
+{
+    let bytes = octets.as_slice();
+    if let Some(rest) = after(b"kept|", bytes) {
+        let (times, rest) = read_kept(&mut scratch.path, rest)?;
+        *octets = copy_of(alloc, rest)?;
+        draft.add_kept(times, scratch.path.as_slice())
+    } else if let Some(_) = after(b"edge|", bytes) {
+        next_copied(alloc, draft, scratch, octets)
+    } else if let Some(rest) = after(b"why|", bytes) {
+        let Scratch { ases, links, .. } = scratch;
+        let rest = read_walk(draft.version(), ases, links, rest)?;
+        *octets = copy_of(alloc, rest)?;
+        let walk = WalkRef::new(ases.as_slice(), links.as_slice());
+        draft.add_why(&walk)
+    } else if let Some(_) = after(b"open|", bytes) {
+        next_copied(alloc, draft, scratch, octets)
+    } else if let Some(rest) = after(b"lost|", bytes) {
+        let Scratch { path, ases, links } = scratch;
+        let (times, rest) = read_lost(draft.version(), path, ases, links, rest)?;
+        *octets = copy_of(alloc, rest)?;
+        let walk = WalkRef::new(ases.as_slice(), links.as_slice());
+        draft.add_lost(times, path.as_slice(), &walk)
+    } else {
+        next_copied(alloc, draft, scratch, octets)
     }
 }

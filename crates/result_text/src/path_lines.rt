@@ -168,6 +168,7 @@ impl PathLines {
 
     /// Adds the line of a kept path at the end. NoMemory comes where memory ran out, and where there are 2^28 lines already; it
     /// changes nothing.
+    #[inline(always)]
     pub fn push_kept(&mut self, times: u64, path: &[u32]) -> Result<(), NoMemory>
         ensures added { OnOk result (self.new ≡ self.old ++ line_with times path.now Kept ∷ []) }
         ensures unchanged { OnErr result (self.new ≡ self.old) }
@@ -187,6 +188,7 @@ impl PathLines {
 
     /// Adds the line of a path that is lost with the walk at the end. NoMemory comes where memory ran out, and where there are 2^28
     /// lines already; it changes nothing.
+    #[inline(always)]
     pub fn push_lost(
         &mut self,
         times: u64,

@@ -7,7 +7,7 @@ ghost use Rattle.result_text.specs.Taking.{feedless, AreWhole, IsAt, HasCome, Ha
 use crate::draft::Draft;
 use crate::error::{LineError, ParseError};
 use crate::file::ResultFile;
-use crate::next_line::{Scratch, next_line};
+use crate::next_line::{Scratch, next_line, next_long};
 use std::alloc::Global;
 use std::mem;
 use tor_arena::{List, NoMemory};
@@ -64,6 +64,29 @@ fn read_lines(
     Ok(())
 }
 
+/// How many octets have to wait for the line feed of a line that is taken to be long.
+const LONG: usize = 1 << 16;
+
+/// The same for whole lines of which the first is long, and which are let go.
+fn read_long(
+    alloc: Global,
+    draft: &mut Draft,
+    scratch: &mut Scratch,
+    line: &mut u64,
+    lines: &mut List<u8>,
+) -> Result<(), LineError>
+    requires some { 0 < length lines.old }
+    requires whole { AreWhole lines.old }
+    ensures { (octets : Items ℕ) → IsAt line.old draft.old octets lines.old → HasCome line.new draft.new octets result }
+{
+    next_long(alloc, draft, scratch, lines)?;
+    let Some(next) = line.checked_add(1) else {
+        return Err(LineError::NoMemory);
+    };
+    *line = next;
+    read_lines(alloc, draft, scratch, line, lines.as_slice())
+}
+
 impl Parser {
     /// Nothing has come. It takes no memory.
     pub fn new(alloc: Global) -> Parser
@@ -96,8 +119,18 @@ impl Parser {
                 octets,
             );
         }
+        let long = self.start.len() >= LONG;
         self.start.extend_from_slice(octets)?;
-        let lines = mem::replace(&mut self.start, List::new(alloc));
+        let mut lines = mem::replace(&mut self.start, List::new(alloc));
+        if long {
+            return read_long(
+                alloc,
+                &mut self.draft,
+                &mut self.scratch,
+                &mut self.line,
+                &mut lines,
+            );
+        }
         read_lines(
             alloc,
             &mut self.draft,

@@ -24,3 +24,16 @@ returns-clause-come c = λ before at.
     let lines : c.as_slice.result.now ≡ p.start ++ c.args.octets.now = c.as_slice.ensures ∙ c.replace-lines.ensures.value ∙ c.in_ok-extend_from_slice.ensures.ok in
     let further = goes_further p.line p.draft before p.start c.args.octets.now at in
     c.read_lines-2.ensures (before ++ c.args.octets.now) (subst (IsAt p.line p.draft (before ++ c.args.octets.now)) (sym lines) further)
+
+pub read_long-requires-clause-whole : goal.read_long-requires-clause-whole
+read_long-requires-clause-whole c =
+    let p = c.args.self.now in
+    let lines : c.replace-lines.result ≡ p.start ++ c.args.octets.now = c.replace-lines.ensures.value ∙ c.in_ok-extend_from_slice.ensures.ok in
+    subst AreWhole (sym lines) (whole_joined p.start c.args.octets.now c.requires.some c.requires.whole)
+
+pub returns-then-long-clause-come : goal.returns-then-long-clause-come
+returns-then-long-clause-come c = λ before at.
+    let p = c.args.self.now in
+    let lines : c.replace-lines.result ≡ p.start ++ c.args.octets.now = c.replace-lines.ensures.value ∙ c.in_ok-extend_from_slice.ensures.ok in
+    let further = goes_further p.line p.draft before p.start c.args.octets.now at in
+    c.read_long.ensures (before ++ c.args.octets.now) (subst (IsAt p.line p.draft (before ++ c.args.octets.now)) (sym lines) further)
