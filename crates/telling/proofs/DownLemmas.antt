@@ -21,7 +21,7 @@ use Rattle.relationships.specs.Fates.{walk_of}
 use Rattle.relationships.specs.Relationship.{Labelling, Slope, Up, Down, Flat, is_low, is_high, is_over, slope, ValleyFree}
 use Rattle.relationships.specs.Graph.{Edge, edge_of, edges, is_same}
 use Rattle.relationships.specs.Evidence.{StandAt, TripleAt, paths_of}
-use Rattle.relationships.proofs.Slopes.{over_parts, over_one_way, over-down, slope-down}
+use Rattle.relationships.proofs.Slopes.{over_parts, over-down, slope-down}
 use Rattle.relationships.proofs.Serving.{satisfied}
 use Rattle.relationships.proofs.Neighbours.{neighbours-edge}
 use Rattle.relationships.proofs.GivenLemmas.{edge_back}

@@ -377,11 +377,14 @@ module _ (file : ResultFile) (accepts : Accepts file) where
             other_order = c.one_order;
           }
 
+          against_label : CanBeEither (near file accepts) y x
+          against_label = either file accepts over under found.there edge y x closed has.over
+
           undecided : IsAgainst line y x → IsUndecided file line
           undecided (inl (low, f, g)) =
               swapped (near file accepts) line.high line.low
-              (subst (λ n. CanBeEither (near file accepts) line.high n) g (subst (λ n. CanBeEither (near file accepts) n x) f (either file accepts over under found.there edge y x closed has.over)))
-          undecided (inr (high, f, g)) = subst (λ n. CanBeEither (near file accepts) line.low n) g (subst (λ n. CanBeEither (near file accepts) n x) f (either file accepts over under found.there edge y x closed has.over))
+              (subst (λ n. CanBeEither (near file accepts) line.high n) g (subst (λ n. CanBeEither (near file accepts) n x) f against_label))
+          undecided (inr (high, f, g)) = subst (λ n. CanBeEither (near file accepts) line.low n) g (subst (λ n. CanBeEither (near file accepts) n x) f against_label)
 
           pub reached_so : IsReached file line (over, under) walk
           reached_so = record {

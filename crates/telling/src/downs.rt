@@ -1,6 +1,7 @@
 //! The steps of kept paths from the order of one open edge's label to that of another's, as the arcs of a digraph.
 
-ghost use Rattle.std.specs.Prelude.{◌≡◌, ◌≤◌, ◌<◌, ◌-◌, ◌++◌, ◌∷◌, [], ℕ, List as Items, length, slice_get, Some, Contains, IsTrue, OnOk, IfOk};
+ghost use Rattle.std.specs.Prelude.{◌≡◌, ◌≤◌, ◌<◌, ◌-◌, ◌++◌, ◌∷◌, [], ℕ, List as Items, length, slice_get, Some};
+ghost use Rattle.std.specs.Prelude.{Contains, IsTrue, OnOk, IfOk};
 ghost use Rattle.tor_arena.specs.Limits.{max_numbers};
 ghost use Rattle.relationships.specs.Relationship.{is_over};
 ghost use Rattle.relationships.specs.Graph.{edge_of};

@@ -1,4 +1,4 @@
-use Rattle.std.proofs.Common.{◌≡◌, ◌-◌, get_or}
+use Rattle.std.proofs.Common.{◌-◌, get_or}
 use Rattle.std.proofs.lemmas.Option.{slice_get_within}
 use Rattle.telling.specs.Downs.{step_edge}
 use Rattle.telling.proofs.DownLemmas.{down, has_arc, there, back, has_both, none_first, none_second, placed, unplaced, turned_at}

@@ -1,5 +1,3 @@
-use Rattle.std.proofs.Common.{sym, ◌∙◌}
-use Rattle.std.proofs.lemmas.Bool.{false≢true}
 use Rattle.telling.proofs.DownLemmas.{links_pushed, arc_pushed}
 use Rattle.telling.proofs.downs.add_if_over.Goals as goal
 

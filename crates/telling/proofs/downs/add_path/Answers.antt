@@ -1,6 +1,6 @@
 use Rattle.std.proofs.Common.{◌≤◌, ◌<◌, length, arith}
 use Rattle.result_rules.specs.File.{its_labels}
-use Rattle.telling.proofs.DownLemmas.{downs_begun, downs_next, downs_all, downs_short, still_then, place_next}
+use Rattle.telling.proofs.DownLemmas.{downs_next, downs_all, downs_short, still_then, place_next}
 use Rattle.telling.proofs.downs.add_path.Goals as goal
 
 pub returns-then-path-lt3-clause-all : goal.returns-then-path-lt3-clause-all

@@ -19,7 +19,9 @@ loop-line-preserved c =
           subst (HasEdgesOf file (i + 1)) (sym w.table-is)
           (edges_next file c.requires.accepted c.loop-line.table w.add.new.self i _ at w.in_ok-add.ensures.ok
           (Contains-from_has w.add.new.self _ (w.in_ok-add.field-0.place, w.in_ok-add.ensures.place)) c.loop-line.invariant)
-      | else-eq w ↦ subst (HasEdgesOf file (i + 1)) (sym w.table-is) (edges_passed file c.loop-line.table i _ at (λ is. (let e = c.eq.ensures in let f = sym w.if-eq.false ∙ e in false≢true (rw is at f))) c.loop-line.invariant)
+      | else-eq w ↦
+          let forced = sym w.if-eq.false ∙ c.eq.ensures in
+          subst (HasEdgesOf file (i + 1)) (sym w.table-is) (edges_passed file c.loop-line.table i _ at (λ is. false≢true (rw is at forced)) c.loop-line.invariant)
     ]
 
 pub returns-clause-opens : goal.returns-clause-opens
