@@ -1,14 +1,7 @@
 -- Sets of nodes, and what a search over the arcs adds to one. These words are the marking's own: no reader of a public clause needs
 -- them.
-use Rattle.std.specs.Prelude.{◌≡◌, ◌⊎◌, ℕ, ◌≤◌, Bool, List, [], ◌∷◌, ◌++◌, Option, Some, None, slice_get, length, Contains}
+use Rattle.std.specs.Prelude.{◌≡◌, ◌⊎◌, ℕ, ◌≤◌, List, [], ◌∷◌, ◌++◌, Some, slice_get, length, Contains}
 use Rattle.tor_digraph.specs.Walks.{HasArc}
-use Rattle.tor_digraph.specs.Closing.{IsOnce}
-use Rattle.tor_digraph.specs.NodeSets.{AreMarked}
-
--- exactly these nodes are marked, and each stands once
-pub record AreVisited (nodes : List ℕ) (marks : List Bool) : Type 0 where
-  pub marked : AreMarked nodes marks
-  pub once : IsOnce nodes
 
 -- the old nodes are the first of the new ones
 abbrev pub Stays : List ℕ → List ℕ → Type 0
@@ -27,8 +20,3 @@ pub record HasLooked (arcs : List (ℕ × ℕ)) (past : List ℕ) (tail : ℕ) (
 -- an arc out of these nodes leads to one of those past which a search does not go
 abbrev pub IsClosed : List (ℕ × ℕ) → List ℕ → List ℕ → Type 0
 IsClosed arcs past nodes = (x y : ℕ) → Contains nodes x → HasArc arcs x y → Contains nodes y ⊎ Contains past y
-
--- a search has come to the node at which it is to stop, if there is one
-abbrev pub HasCome : Option ℕ → List ℕ → Type 0
-HasCome None nodes = ⊥
-HasCome (Some end) nodes = Contains nodes end

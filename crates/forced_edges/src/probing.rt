@@ -9,7 +9,6 @@ ghost use Rattle.forced_edges.specs.Findings.{AllSettled, AreMarkedBy, AreRight,
 use crate::marks::Marks;
 use crate::problem::Problem;
 use crate::spreading::spread;
-use crate::visited::Visited;
 use relationships::Probe;
 use std::alloc::Global;
 use tor_arena::{List, NoMemory, NodeId};
@@ -22,7 +21,7 @@ fn probe_order(
     problem: &Problem<'_>,
     node: NodeId,
     shown: &NodeSet,
-    covered: &mut Visited,
+    covered: &mut NodeSet,
     probes: &mut List<Probe>,
 ) -> Result<(), NoMemory>
     requires there { node < problem.now.formula.net.nodes }
@@ -39,7 +38,7 @@ fn probe_order(
     if covered.has(node) {
         return Ok(());
     }
-    spread(problem.rows(), node, None, problem.held(), covered)?;
+    spread(problem.rows(), node, problem.held(), covered)?;
     let (over, under) = problem.order(node);
     probes.push(Probe { over, under })
 }
@@ -64,7 +63,7 @@ pub(crate) fn choose_probes(
     ensures { OnOk result (AreRight problem.now marks.new) }
 {
     problem.facts();
-    let mut covered = Visited::new(alloc, problem.node_count())?;
+    let mut covered = NodeSet::new(alloc, problem.node_count())?;
     for left in (0..against.len()).rev() {
         let node = against[left];
         probe_order(problem, node, shown, &mut covered, &mut marks.probes)?;

@@ -6,7 +6,7 @@ ghost use Rattle.relationships.specs.Selection.{IsServable};
 ghost use Rattle.tor_arena.specs.Limits.{max_numbers, most_places};
 ghost use Rattle.tor_digraph.specs.Walks.{IsInside};
 ghost use Rattle.tor_digraph.specs.InRows.{IsRow};
-ghost use Rattle.tor_clauses.specs.Flipping.{HasPartners};
+ghost use Rattle.tor_clauses.specs.Flipping.{HasPartners, IsPartner};
 ghost use Rattle.tor_clauses.specs.Formulas.{FitsGraph, IsLinkOfArc, demands_of};
 ghost use Rattle.tor_clauses.specs.Leading.{IsPlainWay, LeadsAlong};
 ghost use Rattle.tor_clauses.specs.Literals.{lit_of, Says};
@@ -154,6 +154,15 @@ impl<'a> Problem<'a> {
         ensures { IsLinkOfArc self.now.formula arc result }
     {
         self.clauses.link_of(arc)
+    }
+
+    /// The partner of an arc, between the opposites of its ends. It takes no memory.
+    pub(crate) fn partner(&self, arc: ArcId) -> ArcId
+        requires { arc < length self.now.formula.net.arcs }
+        ensures there { result < length self.now.formula.net.arcs }
+        ensures partner { IsPartner self.now.formula.net.arcs arc result }
+    {
+        self.clauses.partner(arc)
     }
 
     /// A walk from the order of the node at which a way begins to that of its last node. The only error is that memory ran out.

@@ -5,24 +5,24 @@ ghost use Rattle.relationships.specs.Graph.{edges};
 ghost use Rattle.tor_arena.specs.Limits.{most_places};
 ghost use Rattle.tor_digraph.specs.Walks.{HasArc, Reaches};
 ghost use Rattle.tor_clauses.specs.Literals.{lit_of, opposite_node};
-ghost use Rattle.tor_clauses.specs.Leading.{IsPlainWay};
 ghost use Rattle.forced_edges.specs.Nodes.{Stays};
+ghost use Rattle.forced_edges.specs.Trials.{IsTrial, IsClash};
 ghost use Rattle.forced_edges.specs.Settling.{IsFullyShown, IsShowing, AreClosedTo, StayShown, LeadsBack, LeadsAlongArc, IsTail};
 
+use crate::going::way_round;
 use crate::problem::Problem;
+use crate::trial::Trial;
 use relationships::{Walk, Walks};
 use std::alloc::Global;
 use tor_arena::{ArcId, Index, NoMemory, NodeId};
 use tor_clauses::negation_node;
-use tor_digraph::{NodeSet, Reached, Way};
+use tor_digraph::NodeSet;
 
 /// Orders that hold in each orientation that serves, each with a walk that shows it.
 #[derive(Drop)]
 pub(crate) struct Shown {
     pub(crate) nodes: NodeSet,
     pub(crate) whys: Walks,
-    // memory for the next search for a way
-    pub(crate) near: Reached<NodeId, ArcId>,
 }
 
 impl Shown {
@@ -37,7 +37,6 @@ impl Shown {
         Ok(Shown {
             nodes,
             whys: Walks::new(alloc),
-            near: Reached::new(alloc),
         })
     }
 
@@ -105,15 +104,19 @@ impl Shown {
         Ok(())
     }
 
-    /// Shows the opposite of the order of a node, which leads to it, and all that follows from that.
+    /// Shows the opposite of the order of a node, from which a search has come to an arc that clashes, and all that follows from that.
     pub(crate) fn show_opposite(
         &mut self,
         alloc: Global,
         problem: &Problem<'_>,
         node: NodeId,
+        trial: &Trial,
+        clash: ArcId,
     ) -> Result<(), NoMemory>
         requires there { node < problem.now.formula.net.nodes }
         requires back { Reaches problem.now.formula.net.arcs node (opposite_node node) }
+        requires trial { IsTrial problem.now.formula.net.arcs node trial.now }
+        requires clash { IsClash problem.now.formula.net.arcs trial.now.nodes.items clash }
         requires new { Contains self.old.nodes.items (opposite_node node) → ⊥ }
         requires shown { IsFullyShown problem.now self.old }
         ensures shown { OnOk result (IsFullyShown problem.now self.new) }
@@ -121,7 +124,7 @@ impl Shown {
         ensures added { OnOk result (Contains self.new.nodes.items (opposite_node node)) }
     {
         problem.facts();
-        let walk = walk_back(alloc, problem, node, &mut self.near)?;
+        let walk = walk_back(alloc, problem, node, trial, clash)?;
         let from = self.nodes.len();
         self.nodes.add(negation_node(node))?;
         self.whys.push(walk.ases.as_slice(), walk.links.as_slice())?;
@@ -146,39 +149,19 @@ fn push_walk(
     whys.push(&[tail.0, tail.1, under], &[problem.link_of(arc)])
 }
 
-/// A walk from the order of a node, which leads to its opposite, to that opposite, by a search of the nearest
-/// first.
+/// A walk from the order of a node to its opposite, where a search from it has come to an arc that clashes.
 fn walk_back(
     alloc: Global,
     problem: &Problem<'_>,
     node: NodeId,
-    near: &mut Reached<NodeId, ArcId>,
+    trial: &Trial,
+    clash: ArcId,
 ) -> Result<Walk, NoMemory>
     requires there { node < problem.now.formula.net.nodes }
-    requires back { Reaches problem.now.formula.net.arcs node (opposite_node node) }
+    requires trial { IsTrial problem.now.formula.net.arcs node trial.now }
+    requires clash { IsClash problem.now.formula.net.arcs trial.now.nodes.items clash }
     ensures { IfOk result (LeadsBack problem.now node) }
 {
-    let way = way_back(alloc, problem, node, near)?;
+    let way = way_round(alloc, problem, node, trial, clash)?;
     problem.walk_along(alloc, node, &way)
-}
-
-/// A way from a node, which leads to its opposite, to that opposite, by a search of the nearest first.
-fn way_back(
-    alloc: Global,
-    problem: &Problem<'_>,
-    node: NodeId,
-    near: &mut Reached<NodeId, ArcId>,
-) -> Result<Way<NodeId, ArcId>, NoMemory>
-    requires there { node < problem.now.formula.net.nodes }
-    requires back { Reaches problem.now.formula.net.arcs node (opposite_node node) }
-    ensures { IfOk result (λ way. IsPlainWay problem.now.formula.net.arcs node (opposite_node node) way.nodes way.arcs) }
-{
-    let other = negation_node(node);
-    problem.digraph().reach_none_again(near)?;
-    let none = Reached::new(alloc);
-    problem.rows().reach_near_to(node, other, &none, near)?;
-    match near.walk_to(alloc, other)? {
-        Some(way) => Ok(way),
-        None => unreachable!(),
-    }
 }

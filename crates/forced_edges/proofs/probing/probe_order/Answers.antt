@@ -25,7 +25,7 @@ returns-clause-probes c =
         unshown = λ h. false≢true (sym c.if-has.false ∙ c.has.ensures.1 (subst (Contains c.args.shown.now.items) (sym c.negation_node.ensures) h));
         says = c.order-over.ensures;
         covers = subst (λ (n : Net ℕ). IsClosed n.arcs c.args.problem.now.held new) c.rows.ensures
-            (subst (λ l. IsClosed c.rows.result.now.arcs l new) c.held.ensures.nodes (c.in_ok-spread.ensures.closed (λ e. e)));
+            (subst (λ l. IsClosed c.rows.result.now.arcs l new) c.held.ensures.nodes c.in_ok-spread.ensures.closed);
         grown = subst (λ (n : Net ℕ). IsGrown n.arcs c.args.node old new) c.rows.ensures c.in_ok-spread.ensures.grown;
       },
     ))

@@ -16,8 +16,8 @@ loop-at-preserved c = record {
       c.get.result c.loop-at.invariant.spreading c.get.ensures.node c.in_ok-look.ensures.looked;
 }
 
-pub returns-after-loop-at-clause-closed : goal.returns-after-loop-at-clause-closed
-returns-after-loop-at-clause-closed c = λ none.
+pub returns-clause-closed : goal.returns-clause-closed
+returns-clause-closed c =
     let test = c.loop-at-test.false in
     let len = c.len.ensures in
     spreading_done c.args.rows.now.arcs c.args.past.now.items c.args.start c.args.found.now.items c.loop-at.found.items c.loop-at.at c.loop-at.invariant.spreading
