@@ -21,7 +21,8 @@ returns-then-has-2-clause-looked c =
     let nodes = c.args.self.now.nodes.items in
     let apart = subst (λ s. Contains nodes s → ⊥) c.negation_node.ensures (λ h. false≢true (sym c.if-has.false ∙ c.has.ensures.1 h)) in
     let in_held = subst (λ l. Contains l c.args.head) c.held.ensures.nodes (c.has-2.ensures.0 c.if-has-2.true) in
-    passed_in c.args.problem.now.formula.net.arcs c.args.problem.now.held c.args.past.now.items nodes nodes c.args.place c.requires.tail.0 c.args.head c.requires.tail.2 (λ k x at. at) apart (inr (inl in_held))
+    passed_in c.args.problem.now.formula.net.arcs c.args.problem.now.held c.args.past.now.items nodes nodes c.args.place c.requires.tail.0 c.args.head c.requires.tail.2
+    (λ k x at. at) apart (inr (inl in_held))
 
 pub returns-then-has-3-clause-looked : goal.returns-then-has-3-clause-looked
 returns-then-has-3-clause-looked c =

@@ -23,7 +23,8 @@ loop-next-preserved c =
       count = c.scan.ensures.count;
       trial = c.in_ok-clash.ensures.trial c.args.start c.loop-next.invariant.trial;
       within = omega (arith, lt);
-      passed = subst (λ o. IfNone o (ArePassed posed.formula.net.arcs posed.held c.args.past.now.items c.scan.new.self.nodes.items (c.loop-next.next + 1))) c.in_default.is c.in_ok-clash.ensures.passed;
+      passed = subst (λ o. IfNone o (ArePassed posed.formula.net.arcs posed.held c.args.past.now.items c.scan.new.self.nodes.items (c.loop-next.next + 1)))
+          c.in_default.is c.in_ok-clash.ensures.passed;
     }
 
 pub returns-clause-passed : goal.returns-clause-passed
