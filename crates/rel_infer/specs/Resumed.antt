@@ -1,11 +1,11 @@
 -- What the result that resumes an earlier one has of it.
-use Rattle.std.specs.Prelude.{◌≡◌, ℕ, ◌-◌, List, ◌++◌, length, map, take}
+use Rattle.std.specs.Prelude.{◌≡◌, ℕ, ◌-◌, List, [], ◌++◌, length, map, take, unwrap_or}
 use Rattle.relationships.specs.declared.fate.Fate.{Fate}
 use Rattle.relationships.specs.Evidence.{Numbered}
 use Rattle.result_text.specs.declared.file.PathLine.{PathLine}
 use Rattle.result_text.specs.declared.file.ResultFile.{ResultFile}
-use Rattle.result_text.specs.Text.{its_givens}
 use Rattle.result_rules.specs.File.{its_kept}
+use Rattle.resume.specs.declared.table.Rest.{Rest}
 use Rattle.tor_clauses.specs.Formulas.{numbered}
 use Rattle.path_select.specs.Behind.{places_from}
 use Rattle.rel_infer.specs.declared.resuming.Resumed.{Resumed}
@@ -31,8 +31,8 @@ abbrev pub kept_first : List (List ℕ) → ℕ → ResultFile → Numbered
 kept_first graph count earlier = numbered graph (places_from count (length graph - count)) ++ its_kept earlier
 
 -- what is inferred from distinct paths under the givens of the earlier result, whose paths are the first and have their fates still
-pub record IsInferredOnTop (earlier : ResultFile) (ratio : ℕ) (paths : List (List ℕ)) (r : Resumed) : Type 0 where
+pub record IsInferredOnTop (earlier : Rest) (ratio : ℕ) (paths : List (List ℕ)) (r : Resumed) : Type 0 where
   pub sets : r.sets ≡ earlier.sets
   pub givens : r.givens ≡ earlier.givens
-  pub inferred : AreInferredWith (its_givens earlier) ratio paths r.inferred
-  pub same : take (length earlier.paths) r.inferred.fates ≡ its_fates earlier
+  pub inferred : AreInferredWith (unwrap_or earlier.givens []) ratio paths r.inferred
+  pub same : take (length earlier.fates) r.inferred.fates ≡ earlier.fates

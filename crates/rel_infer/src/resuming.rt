@@ -1,5 +1,5 @@
 //! The result that resumes an earlier one.
-ghost use Rattle.std.specs.Prelude.{◌≡◌, ◌-◌, ◌≤◌, ◌<◌, ◌++◌, [], All, length, map, sum_by, take, is_none, IfOk, OnOk};
+ghost use Rattle.std.specs.Prelude.{◌≡◌, ◌-◌, ◌≤◌, ◌<◌, ◌++◌, [], All, length, map, sum_by, take, unwrap_or, is_none, IfOk, OnOk};
 ghost use Rattle.tor_arena.specs.Distinct.{AllDistinct};
 ghost use Rattle.tor_arena.specs.Limits.{max_numbers, max_paths, max_ratio};
 ghost use Rattle.relationships.specs.Checking.{kept_of};
@@ -10,14 +10,13 @@ ghost use Rattle.as_graph.specs.Paths.{paths_at};
 ghost use Rattle.tor_clauses.specs.Formulas.{FitsGraph, IsServed, numbered};
 ghost use Rattle.path_select.specs.Behind.{places_from};
 ghost use Rattle.path_select.specs.Offers.{HasKeptBehind};
-ghost use Rattle.result_text.specs.Text.{its_givens};
+ghost use Rattle.result_text.specs.declared.file.ResultFile.{ResultFile as File};
 ghost use Rattle.result_rules.specs.File.{its_paths, its_walks};
-ghost use Rattle.result_rules.specs.Rules.{Accepts};
 ghost use Rattle.path_clean.specs.Rows.{row_paths};
-ghost use Rattle.resume.specs.Earlier.{BeginsWithPathsOf};
+ghost use Rattle.resume.specs.Earlier.{BeginsWithPathsOf, BeginsWithEarlier, IsRestOf};
 ghost use Rattle.rel_infer.specs.Finding.{AreInferredIn, LostBehind};
 ghost use Rattle.rel_infer.specs.GivenResults.{max_givens, IsResultWith, PeerEitherWayWith, LeaveNoneOutWith};
-ghost use Rattle.rel_infer.specs.Resumed.{Continues, IsInferredOnTop, its_fates};
+ghost use Rattle.rel_infer.specs.Resumed.{Continues, IsInferredOnTop};
 ghost use Rattle.rel_infer.specs.Returns.{IsUnlinked};
 
 use crate::inferring::{Inferred, inferred_by, relinked_if_given};
@@ -28,6 +27,7 @@ use path_clean::{Asides, PathTable, Sets};
 use path_select::{Selection, Selector, select_rest};
 use relationships::{Fates, Given};
 use result_text::ResultFile;
+use resume::Rest;
 use std::alloc::Global;
 use tor_arena::{Keys, List, NoMemory, PathId, Rows};
 
@@ -158,17 +158,16 @@ fn inferred_on(
     inferred_past(alloc, keys, &graph, selection, count, ratio)
 }
 
-// What is left of an earlier result; the rest of it is let go.
-fn parts_of(earlier: ResultFile) -> EarlierParts
+// What is left of an earlier result; the lines of its edges are let go.
+fn parts_of(earlier: Rest) -> EarlierParts
     ensures sets { result.sets ≡ earlier.sets }
     ensures givens { result.givens ≡ earlier.givens }
-    ensures fates { result.fates ≡ its_fates earlier }
+    ensures fates { result.fates ≡ earlier.fates }
 {
-    let (_, _, fates) = earlier.paths.into_parts();
     EarlierParts {
         sets: earlier.sets,
         givens: earlier.givens,
-        fates,
+        fates: earlier.fates,
     }
 }
 
@@ -178,7 +177,7 @@ fn resumed_behind(
     alloc: Global,
     keys: Keys,
     paths: &Rows<PathId, u32>,
-    earlier: ResultFile,
+    earlier: Rest,
     ratio: u32,
     numbers: &mut List<u32>,
 ) -> Result<Resumed, NoMemory>
@@ -187,17 +186,16 @@ fn resumed_behind(
     requires few { length paths.now ≤ max_paths }
     requires short { sum_by length paths.now ≤ max_numbers }
     requires small { ratio ≤ max_ratio }
-    requires accepted { Accepts earlier }
-    requires few_givens { length (its_givens earlier) ≤ max_givens }
-    requires begins { BeginsWithPathsOf paths.now earlier }
+    requires few_givens { length (unwrap_or earlier.givens []) ≤ max_givens }
+    requires begins { BeginsWithEarlier paths.now earlier }
     requires none { numbers.old ≡ [] }
     ensures sets { IfOk result (λ resumed. resumed.sets ≡ earlier.sets) }
     ensures givens { IfOk result (λ resumed. resumed.givens ≡ earlier.givens) }
     ensures inferred { IfOk result
-        (λ resumed. IsUnlinked (its_givens earlier) ratio paths.now (its_fates earlier) numbers.new resumed.inferred) }
+        (λ resumed. IsUnlinked (unwrap_or earlier.givens []) ratio paths.now earlier.fates numbers.new resumed.inferred) }
 {
     let started = started_in(alloc, keys, paths, &earlier, numbers)?;
-    // the paths and lines of the result are let go before the clauses of its kept paths are made
+    // the lines of its edges are let go before the clauses of its kept paths are made
     let parts = parts_of(earlier);
     let inferred = inferred_on(alloc, keys, started, parts.fates, paths.len(), ratio)?;
     Ok(Resumed {
@@ -212,7 +210,7 @@ fn resumed_from(
     alloc: Global,
     keys: Keys,
     paths: &Rows<PathId, u32>,
-    earlier: ResultFile,
+    earlier: Rest,
     ratio: u32,
 ) -> Result<Resumed, NoMemory>
     requires several { All (λ path. 2 ≤ length path) paths.now }
@@ -220,9 +218,8 @@ fn resumed_from(
     requires few { length paths.now ≤ max_paths }
     requires short { sum_by length paths.now ≤ max_numbers }
     requires small { ratio ≤ max_ratio }
-    requires accepted { Accepts earlier }
-    requires few_givens { length (its_givens earlier) ≤ max_givens }
-    requires begins { BeginsWithPathsOf paths.now earlier }
+    requires few_givens { length (unwrap_or earlier.givens []) ≤ max_givens }
+    requires begins { BeginsWithEarlier paths.now earlier }
     ensures { IfOk result (IsInferredOnTop earlier ratio paths.now) }
 {
     let mut numbers = List::new(alloc);
@@ -241,27 +238,28 @@ fn resumed_from(
     })
 }
 
-/// The result of the distinct paths of a table, of which the first are those of an earlier result that meets all rules, with its sets and
-/// its givens, at most 2^28, and of counts of routes that were set aside. All is as `result_with` says of the whole table. The first path
+/// The result of the distinct paths of a table, of which the first are those of an earlier result that meets all rules, and of which the
+/// rest is given, with its sets and its givens, at most 2^28, and of counts of routes that were set aside. All is as `result_with` says of the whole table. The first path
 /// lines are those of the earlier result but for their times: its kept paths are kept, and its lost ones lost with the walks that they have
 /// there; only the paths behind them are offered. `ratio` is from 0 to 1000000. The only error is that memory ran out.
 pub fn result_resumed(
     alloc: Global,
     keys: Keys,
     ratio: u32,
-    earlier: ResultFile,
+    earlier: Rest,
     table: PathTable,
     asides: Asides,
 ) -> Result<ResultFile, NoMemory>
     requires small { ratio ≤ max_ratio }
-    requires accepted { Accepts earlier }
-    requires few { length (its_givens earlier) ≤ max_givens }
-    requires begins { BeginsWithPathsOf (row_paths table.rows) earlier }
+    requires few { length (unwrap_or earlier.givens []) ≤ max_givens }
+    requires begins { BeginsWithEarlier (row_paths table.rows) earlier }
     ensures result { IfOk result (IsResultWith earlier.givens earlier.sets ratio table.rows asides) }
-    ensures continues { IfOk result (Continues earlier) }
-    ensures either_way { IfOk result (λ file. PeerEitherWayWith (its_givens earlier) (its_paths file) (its_walks file) file.edges) }
+    ensures continues { IfOk result (λ file. (old : File) → IsRestOf old earlier → BeginsWithPathsOf (row_paths table.rows) old →
+        Continues old file) }
+    ensures either_way { IfOk result
+        (λ file. PeerEitherWayWith (unwrap_or earlier.givens []) (its_paths file) (its_walks file) file.edges) }
     ensures none_left_out { IfOk result
-        (λ file. LeaveNoneOutWith (its_givens earlier) ratio (its_paths file) (its_walks file) file.edges) }
+        (λ file. LeaveNoneOutWith (unwrap_or earlier.givens []) ratio (its_paths file) (its_walks file) file.edges) }
 {
     table.facts();
     let (rows, times) = table.into_rows();

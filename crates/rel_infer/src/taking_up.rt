@@ -1,5 +1,5 @@
 //! What is kept before a path is offered behind those of an earlier result.
-ghost use Rattle.std.specs.Prelude.{◌≡◌, ◌-◌, ◌≤◌, ◌<◌, ◌++◌, [], All, length, sum_by, IfOk, OnOk};
+ghost use Rattle.std.specs.Prelude.{◌≡◌, ◌-◌, ◌≤◌, ◌<◌, ◌++◌, [], All, length, sum_by, unwrap_or, IfOk, OnOk};
 ghost use Rattle.tor_arena.specs.Distinct.{AllDistinct};
 ghost use Rattle.tor_arena.specs.Limits.{max_numbers, max_paths};
 ghost use Rattle.relationships.specs.Givens.{returns};
@@ -7,9 +7,8 @@ ghost use Rattle.relationships.specs.Graph.{edges};
 ghost use Rattle.as_graph.specs.Paths.{paths_at};
 ghost use Rattle.tor_clauses.specs.Formulas.{IsServed, numbered};
 ghost use Rattle.path_select.specs.Behind.{places_from};
-ghost use Rattle.result_text.specs.Text.{its_givens};
-ghost use Rattle.result_rules.specs.Rules.{Accepts};
-ghost use Rattle.resume.specs.Earlier.{BeginsWithPathsOf};
+ghost use Rattle.result_text.specs.declared.file.ResultFile.{ResultFile as File};
+ghost use Rattle.resume.specs.Earlier.{BeginsWithPathsOf, BeginsWithEarlier, IsRestOf};
 ghost use Rattle.rel_infer.specs.GivenResults.{max_givens};
 ghost use Rattle.rel_infer.specs.Resumed.{kept_first};
 ghost use Rattle.rel_infer.specs.Returns.{numbers_from};
@@ -18,8 +17,7 @@ use crate::result::given_slice;
 use crate::returns::numbers_of;
 use as_graph::{AsGraph, Orientation, build_with};
 use path_select::places_behind;
-use result_text::ResultFile;
-use resume::{kept_orientation, kept_places};
+use resume::{Rest, kept_orientation, kept_places};
 use std::alloc::Global;
 use tor_arena::{Keys, List, NoMemory, PathId, Rows};
 
@@ -47,15 +45,16 @@ fn places_first(
     alloc: Global,
     graph: &AsGraph,
     count: usize,
-    earlier: &ResultFile,
+    earlier: &Rest,
 ) -> Result<List<PathId>, NoMemory>
-    requires begins { BeginsWithPathsOf graph.now earlier.now }
+    requires begins { BeginsWithEarlier graph.now earlier.now }
     requires count { count ≤ length graph.now }
     ensures there { IfOk result (All (λ path. path < length graph.now)) }
-    ensures kept { IfOk result (λ places. numbered graph.now places ≡ kept_first graph.now count earlier.now) }
+    ensures kept { IfOk result (λ places. (file : File) → IsRestOf file earlier.now → BeginsWithPathsOf graph.now file →
+        numbered graph.now places ≡ kept_first graph.now count file) }
 {
     let mut places = places_behind(alloc, graph, count)?;
-    let kept = kept_places(alloc, graph, earlier)?;
+    let kept = kept_places(alloc, earlier)?;
     places.extend_from_slice(kept.as_slice())?;
     Ok(places)
 }
@@ -65,16 +64,17 @@ fn kept_over(
     alloc: Global,
     graph: &AsGraph,
     count: usize,
-    earlier: &ResultFile,
+    earlier: &Rest,
 ) -> Result<KeptFirst, NoMemory>
-    requires accepted { Accepts earlier.now }
-    requires begins { BeginsWithPathsOf graph.now earlier.now }
+    requires begins { BeginsWithEarlier graph.now earlier.now }
     requires count { count ≤ length graph.now }
-    requires behind { paths_at graph.now (places_from count (length graph.now - count)) ≡ returns graph.now (its_givens earlier.now) }
+    requires behind { paths_at graph.now (places_from count (length graph.now - count)) ≡
+        returns graph.now (unwrap_or earlier.now.givens []) }
     ensures there { IfOk result (λ first. All (λ path. path < length graph.now) first.places) }
     ensures many { IfOk result (λ first. length first.ends ≡ length (edges graph.now)) }
     ensures served { IfOk result (λ first. IsServed graph.now first.places first.ends) }
-    ensures kept { IfOk result (λ first. numbered graph.now first.places ≡ kept_first graph.now count earlier.now) }
+    ensures kept { IfOk result (λ first. (file : File) → IsRestOf file earlier.now → BeginsWithPathsOf graph.now file →
+        numbered graph.now first.places ≡ kept_first graph.now count file) }
 {
     let places = places_first(alloc, graph, count, earlier)?;
     let ends = kept_orientation(alloc, graph, earlier)?;
@@ -87,24 +87,23 @@ pub(crate) fn started_in(
     alloc: Global,
     keys: Keys,
     paths: &Rows<PathId, u32>,
-    earlier: &ResultFile,
+    earlier: &Rest,
     numbers: &mut List<u32>,
 ) -> Result<Started, NoMemory>
     requires several { All (λ path. 2 ≤ length path) paths.now }
     requires apart { All AllDistinct paths.now }
     requires few { length paths.now ≤ max_paths }
     requires short { sum_by length paths.now ≤ max_numbers }
-    requires accepted { Accepts earlier.now }
-    requires few_givens { length (its_givens earlier.now) ≤ max_givens }
-    requires begins { BeginsWithPathsOf paths.now earlier.now }
+    requires few_givens { length (unwrap_or earlier.now.givens []) ≤ max_givens }
+    requires begins { BeginsWithEarlier paths.now earlier.now }
     requires none { numbers.old ≡ [] }
-    ensures graph { IfOk result (λ started. started.graph ≡ paths.now ++ returns paths.now (its_givens earlier.now)) }
+    ensures graph { IfOk result (λ started. started.graph ≡ paths.now ++ returns paths.now (unwrap_or earlier.now.givens [])) }
     ensures there { IfOk result (λ started. All (λ path. path < length started.graph) started.first.places) }
     ensures many { IfOk result (λ started. length started.first.ends ≡ length (edges started.graph)) }
     ensures served { IfOk result (λ started. IsServed started.graph started.first.places started.first.ends) }
-    ensures kept { IfOk result (λ started. numbered started.graph started.first.places ≡
-        kept_first started.graph (length paths.now) earlier.now) }
-    ensures numbers { OnOk result (numbers.new ≡ numbers_from paths.now 1 (its_givens earlier.now)) }
+    ensures kept { IfOk result (λ started. (file : File) → IsRestOf file earlier.now → BeginsWithPathsOf paths.now file →
+        numbered started.graph started.first.places ≡ kept_first started.graph (length paths.now) file) }
+    ensures numbers { OnOk result (numbers.new ≡ numbers_from paths.now 1 (unwrap_or earlier.now.givens [])) }
 {
     let givens = given_slice(&earlier.givens);
     let graph = build_with(alloc, keys, paths, givens)?;

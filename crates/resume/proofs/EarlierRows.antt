@@ -1,7 +1,7 @@
 -- The paths of a result that meets the rules 2 and 3 are as a table of paths has them.
 use Rattle.std.proofs.Common.{◌≡◌, ◌≤◌, ◌||◌, ◌&&◌, ℕ, suc, ◌+◌, Bool, true, false, not, List, [], ◌∷◌, length, map, take, Some, slice_get, bytes_eq}
 use Rattle.std.proofs.Common.{refl, sym, ap, ap₂, ◌∙◌, arith, subst}
-use Rattle.std.specs.Prelude.{All, Contains, sum_by, Result, Ok, Err, IfOk}
+use Rattle.std.specs.Prelude.{All, Contains, sum_by}
 use Rattle.std.specs.List.{list_all, list_any}
 use Rattle.std.proofs.Math.Seq.{take-length}
 use Rattle.std.proofs.lemmas.Bool.{false_from_ne_true}
@@ -10,7 +10,7 @@ use Rattle.std.proofs.lemmas.List.Elements.{All-nil, All-cons}
 use Rattle.std.proofs.lemmas.Option.{slice_get_within}
 use Rattle.tor_arena.specs.Limits.{max_numbers}
 use Rattle.path_clean.specs.Paths.{is_cleaned}
-use Rattle.path_clean.specs.Rows.{Counted, Table, row_paths, times_of, none_twice}
+use Rattle.path_clean.specs.Rows.{Counted, row_paths, times_of, none_twice}
 use Rattle.path_clean.proofs.TableLemmas.{eq_true}
 use Rattle.result_text.specs.declared.file.PathLine.{PathLine}
 use Rattle.result_text.specs.declared.file.ResultFile.{ResultFile}
@@ -101,8 +101,3 @@ rows_of_lines (row ∷ rows) (line ∷ lines) paths times =
     let more_times : times_of rows ≡ map count_of lines = cc in
     let same : row ≡ row_of line = ap₂ (λ (p : List ℕ) (n : ℕ). record { path = p; times = n }) path count in
     ap₂ (λ (r : Counted) (rs : List Counted). r ∷ rs) same (rows_of_lines rows lines more_paths more_times)
-
-pub rows_if : {E : Type 0} (result : Result Table E) (lines : List PathLine) → IfOk result (λ table. row_paths table.rows ≡ map path_of lines)
-    → IfOk result (λ table. times_of table.rows ≡ map count_of lines) → IfOk result (λ table. table.rows ≡ map row_of lines)
-rows_if (Ok table) lines paths times = rows_of_lines table.rows lines paths times
-rows_if (Err e) lines paths times = tt

@@ -1,6 +1,6 @@
 -- Which paths of a result are kept, when the next line is looked at, and where they stand in a graph that begins with its paths.
-use Rattle.std.proofs.Common.{◌≡◌, ℕ, suc, ◌+◌, ◌<◌, Bool, true, false, cond, List, [], ◌∷◌, ◌++◌, length, map, take, Some, slice_get, refl, sym, ap, ◌∙◌, arith}
-use Rattle.std.specs.Prelude.{is_none, All}
+use Rattle.std.proofs.Common.{◌≡◌, ℕ, zero, suc, ◌+◌, ◌<◌, Bool, true, false, cond, List, [], ◌∷◌, ◌++◌, length, map, take, Some, slice_get, refl, sym, ap, ◌∙◌, arith}
+use Rattle.std.specs.Prelude.{is_none, All, option_map}
 use Rattle.std.proofs.lemmas.List.{map-append, length-take-le}
 use Rattle.std.proofs.lemmas.List.Elements.{All-push}
 use Rattle.std.proofs.lemmas.Option.{slice_get_within, get_or_from_slice_get}
@@ -83,3 +83,10 @@ module _ (graph : List (List ℕ)) (file : ResultFile) (k : ℕ) (line : PathLin
       ends : (A : Numbered) → A ++ [] ≡ A
       ends [] = refl
       ends (a ∷ A) = ap (λ (t : Numbered). a ∷ t) (ends A)
+
+-- the line of a place, where its fate is known to be kept or not
+pub line_at : (lines : List PathLine) (k : ℕ) (kept : Bool) → option_map is_kept (slice_get (map (λ (p : PathLine). p.fate) lines) k) ≡ Some kept
+    → (line : PathLine) × (slice_get lines k ≡ Some line) × (is_kept line.fate ≡ kept)
+line_at [] k kept h = absurd cc
+line_at (line ∷ lines) zero kept h = (line, refl, cc h)
+line_at (line ∷ lines) (suc k) kept h = line_at lines k kept h

@@ -1,6 +1,6 @@
 -- What the labels of a result that meets all rules, and its givens, are to a graph that begins with its paths.
 use Rattle.std.proofs.Common.{◌≡◌, ℕ, ◌+◌, ◌≤◌, inl, inr, true, false, List, [], ◌∷◌, ◌++◌, length, get_or, map, drop, refl, sym, ap, ◌∙◌, subst, arith}
-use Rattle.std.proofs.Common.{All, Contains, IsTrue, is_none, flat_map, append-nil, length-append, if◌then◌else◌}
+use Rattle.std.proofs.Common.{Option, None, Some, unwrap_or, All, Contains, IsTrue, is_none, flat_map, append-nil, length-append, if◌then◌else◌}
 use Rattle.std.specs.List.{list_any, AllByRecursion}
 use Rattle.std.proofs.lemmas.Bool.{cases_Bool, false_from_ne_true, false≢true, both_ways}
 use Rattle.std.proofs.lemmas.List.{take-append-drop}
@@ -159,3 +159,11 @@ module _ (file : ResultFile) (accepts : Accepts file) where
 
         same : All (λ (e : Edge). read e.0 e.1 ≡ orientation (edges graph) ends e.0 e.1) (edges (paths_of (its_kept file)))
         same k d within = let e = get_or (edges (paths_of (its_kept file))) k d in same_at e (kept_edge e (Contains-get_or (edges (paths_of (its_kept file))) k d within))
+
+-- the givens of a result, by what is said of them
+pub givens_by : (file : ResultFile) (known : Option (List Given)) → file.givens ≡ known → unwrap_or known [] ≡ its_givens file
+givens_by file known same = by_case file.givens known same
+  where
+    by_case : (own known : Option (List Given)) → own ≡ known → unwrap_or known [] ≡ (elim own [ None ↦ [] | Some givens ↦ givens ])
+    by_case None known same = ap (λ (o : Option (List Given)). unwrap_or o []) (sym same)
+    by_case (Some givens) known same = ap (λ (o : Option (List Given)). unwrap_or o []) (sym same)

@@ -8,4 +8,4 @@ mod table;
 
 pub use kept::kept_places;
 pub use orientation::kept_orientation;
-pub use table::{TableRefused, table_of};
+pub use table::{Rest, TableRefused, TakenUp, take_up};

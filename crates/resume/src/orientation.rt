@@ -1,33 +1,34 @@
 //! An orientation that serves what an earlier result keeps.
-ghost use Rattle.std.specs.Prelude.{◌≡◌, ◌≤◌, ◌∷◌, [], length, IfOk};
+ghost use Rattle.std.specs.Prelude.{◌≡◌, ◌≤◌, ◌∷◌, [], length, unwrap_or, IfOk};
 ghost use Rattle.relationships.specs.Graph.{edges};
 ghost use Rattle.relationships.specs.Givens.{end_by};
-ghost use Rattle.result_rules.specs.File.{its_givens};
+ghost use Rattle.result_text.specs.declared.file.ResultFile.{ResultFile as File};
 ghost use Rattle.result_rules.specs.Rules.{Accepts};
-ghost use Rattle.resume.specs.Earlier.{BeginsWithPathsOf, IsKeptOrientation};
+ghost use Rattle.resume.specs.Earlier.{BeginsWithPathsOf, IsKeptOrientation, IsRestOf};
 ghost use Rattle.resume.specs.Inside.{provider_of, first_ends, AreTurned};
 
+use crate::table::Rest;
 use as_graph::{AsGraph, Orientation};
 use relationships::{End, Given, Label};
-use result_text::{EdgeLine, ResultFile};
+use result_text::EdgeLine;
 use std::alloc::Global;
 use tor_arena::NoMemory;
 
-/// An orientation of the edges of a graph that begins with the paths of a result that meets all rules: by it the kept paths of the result
-/// are valley-free, and it agrees with the givens whose two are neighbours in the graph. The only error is that memory ran out.
+/// An orientation of the edges of a graph that begins with the paths of a result that meets all rules, and of which this is left: by it the
+/// kept paths of the result are valley-free, and it agrees with the givens whose two are neighbours in the graph. The only error is that
+/// memory ran out.
 pub fn kept_orientation(
     alloc: Global,
     graph: &AsGraph,
-    file: &ResultFile,
+    rest: &Rest,
 ) -> Result<Orientation, NoMemory>
-    requires accepted { Accepts file.now }
-    requires begins { BeginsWithPathsOf graph.now file.now }
-    ensures { IfOk result (IsKeptOrientation graph.now file.now) }
+    ensures { IfOk result (λ ends. (file : File) → IsRestOf file rest.now → Accepts file → BeginsWithPathsOf graph.now file →
+        IsKeptOrientation graph.now file ends) }
 {
     // each edge of the result has the provider of its label, a peering and an edge that is new the lower AS, and then each edge that a
     // given names the provider of that
-    let mut ends = ends_by(alloc, file.edges.as_slice(), graph.edge_count())?;
-    turn_all(graph, &mut ends, givens_of(file));
+    let mut ends = ends_by(alloc, rest.edges.as_slice(), graph.edge_count())?;
+    turn_all(graph, &mut ends, givens_of(rest));
     Ok(ends)
 }
 
@@ -55,10 +56,10 @@ fn end_of(label: Label) -> End
 }
 
 /// The givens of a result, which are none where its text is of version 1.
-fn givens_of(file: &ResultFile) -> &[Given]
-    ensures { result.now ≡ its_givens file.now }
+fn givens_of(rest: &Rest) -> &[Given]
+    ensures { result.now ≡ unwrap_or rest.now.givens [] }
 {
-    match &file.givens {
+    match &rest.givens {
         Some(givens) => givens.as_slice(),
         None => &[],
     }

@@ -34,10 +34,14 @@ use Rattle.result_text.specs.Grammar.{IsTextOf}
 use Rattle.result_rules.specs.Against.{its_rows, row_of}
 use Rattle.result_rules.specs.File.{its_paths}
 use Rattle.path_clean.specs.Rows.{row_paths}
-use Rattle.resume.specs.Earlier.{BeginsWithPathsOf}
 use Rattle.rel_infer.specs.SelfAcceptance.{AreTableRows}
 use Rattle.tor_words.specs.declared.settings.Mode.{Mode}
 use Rattle.tor_words.specs.declared.settings.Mode.TheVariants.{Migrate, Resume}
+use Rattle.resume.specs.declared.table.Rest.{Rest}
+use Rattle.resume.specs.Earlier.{BeginsWithPathsOf, IsRestOf}
+use Rattle.relationships.specs.declared.given.Given.{Given}
+use Rattle.rel_infer.specs.GivenResults.{IsResultWith}
+use Rattle.rel_infer.specs.Resumed.{Continues}
 use Rattle.tor_words.specs.declared.settings.Settings.{Settings}
 use Rattle.tor_words.specs.declared.settings.Source.{Source}
 use Rattle.tor_words.specs.declared.settings.Source.TheVariants as source
@@ -54,6 +58,7 @@ use Rattle.tor_run.specs.Reach.{IsPastLimit, StopsInReach}
 use Rattle.tor_run.specs.Refusals.{StopsOn, IsStopOn, past_limit}
 use Rattle.tor_run.specs.Resuming.{AsksToResume, GainsResumed}
 use Rattle.tor_run.specs.Sampling.{IsEarlier}
+use Rattle.tor_run.specs.Begun.{IsBegun}
 use Rattle.tor_run.specs.Seen.{Outcome, Reads, Joins, Holds, Stops, Ends, ComesTo, joined, taken_up}
 use Rattle.tor_run.specs.declared.output.Output.{Output}
 use Rattle.tor_run.specs.Summary.{summary}
@@ -137,6 +142,24 @@ rows_begin earlier limit sets many old new same some =
     ∙ take-append-le (length earlier.paths) (its_paths earlier) all.0 (omega (arith, many_paths))
     ∙ take_all (length earlier.paths) (its_paths earlier) (omega (arith, many_paths))
 
+pub rows_begun : (settings : Settings) (earlier : ResultFile) (rest : Rest) (taken : Taken) → IsBegun settings earlier rest taken → BeginsWithPathsOf (row_paths taken.table.rows) earlier
+rows_begun settings earlier rest taken begun =
+    subst (λ (t : Taken). BeginsWithPathsOf (row_paths t.table.rows) earlier) (sym begun.begun)
+    (ap (take (length earlier.paths)) (paths_of_rows earlier.paths) ∙
+    take_all (length earlier.paths) (its_paths earlier) (let many : length (its_paths earlier) ≡ length earlier.paths = length-map earlier.paths (λ line. line.path) in omega (arith, many)))
+
+-- the result of dumps on top of what is left of one, by the parts of both
+pub resumed_is : {E : Type 0} (settings : Settings) (rest : Rest) (taken : Taken) (r : Result ResultFile E)
+    → IfOk r (IsResultWith rest.givens rest.sets settings.ratio taken.table.rows taken.counts)
+    → IfOk r (λ file. (old : ResultFile) → IsRestOf old rest → BeginsWithPathsOf (row_paths taken.table.rows) old → Continues old file)
+    → IfOk r (λ file. (old : ResultFile) → IsRestOf old rest → BeginsWithPathsOf (row_paths taken.table.rows) old → IsResumed settings old taken file)
+resumed_is settings rest taken (Err e) is goes = tt
+resumed_is settings rest taken (Ok file) is goes = λ old left begins. (
+  subst (λ (sets : Sets). IsResultWith old.givens sets settings.ratio taken.table.rows taken.counts file) left.sets
+      (subst (λ (known : Option (List Given)). IsResultWith known rest.sets settings.ratio taken.table.rows taken.counts file) left.givens is),
+  goes old left begins,
+)
+
 -- ---- what is taken up
 
 pub begun_is : (earlier : ResultFile) (limit : ℕ) (table : Table) (counts : CauseCounts) (files : List FileCounts) → table.limit ≡ limit → table.rows ≡ its_rows earlier
@@ -147,10 +170,6 @@ begun_is earlier limit table counts files same rows asides none =
   where
     made : ℕ → List Counted → CauseCounts → List FileCounts → Taken
     made n r c f = record { table = record { limit = n; rows = r }; counts = c; files = f }
-
-pub both_ok : {X E : Type 0} (r : Result X E) (P Q : X → Type 0) → IfOk r P → IfOk r Q → IfOk r (λ x. P x × Q x)
-both_ok (Ok x) P Q p q = (p, q)
-both_ok (Err e) P Q p q = tt
 
 pub few_where_ok : {X E : Type 0} (x : X) (e : E) (n m : ℕ) → (◌≡◌ {A = Result X E} (Ok x) (Err e)) ↔ (n < m) → m ≤ n
 few_where_ok {X = X} {E = E} x e n m h = elim (cases_order n m) [
@@ -173,61 +192,69 @@ joined_many : (earlier : ResultFile) (limit : ℕ) (dumps : List (List ℕ)) (fi
 joined_many earlier limit dumps files many = rw (lt-ltb limit (length earlier.paths) many) refl
 
 -- what is taken up gives under these dumps what is joined
-on_top : (earlier : ResultFile) (limit : ℕ) (old : Taken) (read dumps : List (List ℕ)) (files : Files) (to : Result Taken DumpsEnd) → length earlier.paths ≤ limit → old ≡ taken_up earlier limit
-    → read ≡ dumps → seen_from earlier.sets 1 old read files ≡ to → joined earlier limit dumps files ≡ to
-on_top earlier limit old read dumps files to few same names is =
+on_top : (earlier : ResultFile) (sets : Sets) (limit : ℕ) (old : Taken) (read dumps : List (List ℕ)) (files : Files) (to : Result Taken DumpsEnd) → sets ≡ earlier.sets
+    → length earlier.paths ≤ limit → old ≡ taken_up earlier limit → read ≡ dumps → seen_from sets 1 old read files ≡ to → joined earlier limit dumps files ≡ to
+on_top earlier sets limit old read dumps files to its few same names is =
     joined_few earlier limit dumps files few ∙ ap (λ (t : Taken). seen_from earlier.sets 1 t dumps files) (sym same)
-    ∙ ap (λ (ds : List (List ℕ)). seen_from earlier.sets 1 old ds files) (sym names) ∙ is
+    ∙ ap (λ (ds : List (List ℕ)). seen_from earlier.sets 1 old ds files) (sym names) ∙ ap (λ (x : Sets). seen_from x 1 old read files) (sym its) ∙ is
 
 -- ---- what is written
 
 -- the text of the result of both, and its summary
-pub text_on : {E : Type 0} (settings : Settings) (earlier : ResultFile) (taken : Taken) (file : ResultFile) (r : Result Output E) → IsResumed settings earlier taken file
-    → IfOk r (λ o. IsTextOf file (written o).text) → IfOk r (λ o. (written o).note ≡ summary file ++ 10 ∷ []) → IfOk r (λ o. IsOutputOn settings earlier taken (written o))
-text_on settings earlier taken file (Ok o) resumed text note = (file, resumed, text, note)
-text_on settings earlier taken file (Err e) resumed text note = tt
+pub text_on : {E : Type 0} (settings : Settings) (rest : Rest) (taken : Taken) (file : ResultFile) (r : Result Output E)
+    → ((old : ResultFile) → IsRestOf old rest → BeginsWithPathsOf (row_paths taken.table.rows) old → IsResumed settings old taken file) → IfOk r (λ o. IsTextOf file (written o).text)
+    → IfOk r (λ o. (written o).note ≡ summary file ++ 10 ∷ [])
+    → IfOk r (λ o. (old : ResultFile) → IsRestOf old rest → BeginsWithPathsOf (row_paths taken.table.rows) old → IsOutputOn settings old taken (written o))
+text_on settings rest taken file (Ok o) resumed text note = λ old left begins. (file, resumed old left begins, text, note)
+text_on settings rest taken file (Err e) resumed text note = tt
 
-module _ (settings : Settings) (earlier : ResultFile) (old : Taken) (read : List (List ℕ)) (few : length earlier.paths ≤ settings.max_paths)
-    (same : old ≡ taken_up earlier settings.max_paths) (names : read ≡ settings.dumps) where
-  pub joined_made : (known : Option Files) (new : Taken) (output : Written) → IfSome known (λ files. seen_from earlier.sets 1 old read files ≡ Ok new) → IsOutputOn settings earlier new output
+module _ (settings : Settings) (earlier : ResultFile) (rest : Rest) (old : Taken) (read : List (List ℕ)) (begun : IsBegun settings earlier rest old) (names : read ≡ settings.dumps) where
+  abbrev few : length earlier.paths ≤ settings.max_paths
+  few = begun.room
+
+  abbrev same : old ≡ taken_up earlier settings.max_paths
+  same = begun.begun
+
+  pub joined_made : (known : Option Files) (new : Taken) (output : Written) → IfSome known (λ files. seen_from rest.sets 1 old read files ≡ Ok new) → IsOutputOn settings earlier new output
       → IfSome known (λ files. IsOutputOnEarlier settings earlier files output)
   joined_made None new output is m = tt
-  joined_made (Some files) new output is m = (new, on_top earlier settings.max_paths old read settings.dumps files (Ok new) few same names is, m)
+  joined_made (Some files) new output is m = (new, on_top earlier rest.sets settings.max_paths old read settings.dumps files (Ok new) begun.left.sets few same names is, m)
 
-  pub joined_some : (new : Taken) (output : Written) → IsOfSomeDumps earlier.sets (length read) old new → AreTableRows new.table.rows → IsOutputOn settings earlier new output
+  pub joined_some : (new : Taken) (output : Written) → IsOfSomeDumps rest.sets (length read) old new → AreTableRows new.table.rows → IsOutputOn settings earlier new output
       → IsOutputOnSome settings earlier output
   joined_some new output some rows m = (
     new,
     few,
     subst (λ (t : Taken). IsOfSomeDumps earlier.sets (length settings.dumps) t new) same
-        (subst (λ (ds : List (List ℕ)). IsOfSomeDumps earlier.sets (length ds) old new) names some),
+        (subst (λ (ds : List (List ℕ)). IsOfSomeDumps earlier.sets (length ds) old new) names
+        (subst (λ (x : Sets). IsOfSomeDumps x (length read) old new) begun.left.sets some)),
     rows,
     m,
   )
 
   -- ---- why there is nothing
 
-  on_end : (known : Option Files) (end : DumpsEnd) → IfSome known (λ files. seen_from earlier.sets 1 old read files ≡ Err end)
+  on_end : (known : Option Files) (end : DumpsEnd) → IfSome known (λ files. seen_from rest.sets 1 old read files ≡ Err end)
       → IfSome known (λ files. joined earlier settings.max_paths settings.dumps files ≡ Err end)
   on_end None end is = tt
-  on_end (Some files) end is = on_top earlier settings.max_paths old read settings.dumps files (Err end) few same names is
+  on_end (Some files) end is = on_top earlier rest.sets settings.max_paths old read settings.dumps files (Err end) begun.left.sets few same names is
 
-  before_end : (known : Option Files) (d : ℕ) → IfSome known (λ files. IsOk (seen_from earlier.sets 1 old (take (d - 1) read) files))
+  before_end : (known : Option Files) (d : ℕ) → IfSome known (λ files. IsOk (seen_from rest.sets 1 old (take (d - 1) read) files))
       → IfSome known (λ files. IsOk (joined earlier settings.max_paths (take (d - 1) settings.dumps) files))
   before_end None d is = tt
   before_end (Some files) d is =
       subst (λ (r : Result Taken DumpsEnd). IsOk r)
-      (sym (on_top earlier settings.max_paths old (take (d - 1) read) (take (d - 1) settings.dumps) files (seen_from earlier.sets 1 old (take (d - 1) read) files) few same
+      (sym (on_top earlier rest.sets settings.max_paths old (take (d - 1) read) (take (d - 1) settings.dumps) files (seen_from rest.sets 1 old (take (d - 1) read) files) begun.left.sets few same
       (ap (take (d - 1)) names) refl)) is
 
   pub joined_refused : (known : Option Files) (steady : Type 0) (stopped : Stopped)
-      → IfSome (end_named stopped.dump stopped.error) (λ end. IfSome known (λ files. seen_from earlier.sets 1 old read files ≡ Err end))
-      → (1 ≤ stopped.dump) × (stopped.dump ≤ length read) → IfSome known (λ files. IsOk (seen_from earlier.sets 1 old (take (stopped.dump - 1) read) files))
-      → (steady → stopped.error ≡ error.ReadFault → IfSome known (λ files. seen_from earlier.sets 1 old read files ≡ Err (Absent stopped.dump)))
+      → IfSome (end_named stopped.dump stopped.error) (λ end. IfSome known (λ files. seen_from rest.sets 1 old read files ≡ Err end))
+      → (1 ≤ stopped.dump) × (stopped.dump ≤ length read) → IfSome known (λ files. IsOk (seen_from rest.sets 1 old (take (stopped.dump - 1) read) files))
+      → (steady → stopped.error ≡ error.ReadFault → IfSome known (λ files. seen_from rest.sets 1 old read files ≡ Err (Absent stopped.dump)))
       → IsStopOn earlier settings known steady (refusal.Dumps stopped)
   joined_refused known steady stopped ends named before absent = by stopped.error refl ends
     where
-      by : (e : DumpError) → stopped.error ≡ e → IfSome (end_named stopped.dump e) (λ end. IfSome known (λ files. seen_from earlier.sets 1 old read files ≡ Err end))
+      by : (e : DumpError) → stopped.error ≡ e → IfSome (end_named stopped.dump e) (λ end. IfSome known (λ files. seen_from rest.sets 1 old read files ≡ Err end))
           → StopsOn earlier settings known steady stopped.dump e
       by (error.Malformed place fault) is h = on_end known (Malformed place fault) h
       by (error.Limit kind) is h = on_end known (Limit kind stopped.dump) h

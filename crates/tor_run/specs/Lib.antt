@@ -1,6 +1,7 @@
 pub mod Accepting
 pub mod Agreement
 pub mod Answer
+pub mod Begun
 pub mod First
 pub mod Grading
 pub mod Limits

@@ -1,12 +1,13 @@
 //! The result of dumps on top of an earlier one.
-ghost use Rattle.std.specs.Prelude.{◌≡◌, ◌≤◌, ◌<◌, ◌⊎◌, Ok, IfOk, IfErr, IfSome, OnOk, IsErrAnd, length};
+ghost use Rattle.std.specs.Prelude.{◌≡◌, ◌≤◌, ◌<◌, ◌⊎◌, Ok, IfOk, IfErr, IfSome, OnOk, IsErrAnd, length, unwrap_or, []};
 ghost use Rattle.std.specs.Io.KnownBytes.{IsAtEnd};
 ghost use Rattle.tor_arena.specs.Limits.{max_paths, max_ratio};
 ghost use Rattle.result_rules.specs.Rules.{Accepts};
 ghost use Rattle.result_text.specs.Text.{its_givens};
 ghost use Rattle.rel_infer.specs.GivenResults.{max_givens};
 ghost use Rattle.path_clean.specs.Rows.{row_paths};
-ghost use Rattle.resume.specs.Earlier.{BeginsWithPathsOf};
+ghost use Rattle.resume.specs.Earlier.{BeginsWithPathsOf, BeginsWithEarlier, IsRestOf};
+ghost use Rattle.result_text.specs.declared.file.ResultFile.{ResultFile as File};
 ghost use Rattle.tor_words.specs.declared.settings.Source.TheVariants.{Earlier as from_earlier};
 ghost use Rattle.run_base.specs.Answers.{IsReadFault};
 ghost use Rattle.run_base.specs.Frames.{ReadsShelf};
@@ -14,7 +15,8 @@ ghost use Rattle.tor_run.specs.Output.{IsResumed, IsOutput, IsOutputOf, IsOutput
 ghost use Rattle.tor_run.specs.Reach.{IsUnwrittenInReach, StopsInReach};
 ghost use Rattle.tor_run.specs.Refusals.{IsFailedRead, IsStopOn, IsUnwrittenIn, past_limit};
 ghost use Rattle.tor_run.specs.Sampling.{IsEarlier};
-ghost use Rattle.tor_run.specs.Seen.{Outcome, ComesOfSome, taken_up};
+ghost use Rattle.tor_run.specs.Begun.{IsBegun};
+ghost use Rattle.tor_run.specs.Seen.{Outcome, ComesOfSome};
 ghost use Rattle.tor_run.specs.Written.{written};
 
 use crate::first::earlier_in;
@@ -24,7 +26,7 @@ use dump_read::{DumpError, LimitKind, Taken};
 use path_clean::{Asides, Cause};
 use rel_infer::result_resumed;
 use result_text::ResultFile;
-use resume::{TableRefused, table_of};
+use resume::{Rest, TableRefused, take_up};
 use run_base::{Refusal, Stopped, read_dumps};
 use std::alloc::Global;
 use tor_arena::{Keys, List, NoMemory};
@@ -46,26 +48,36 @@ fn same_counts(asides: &Asides) -> Asides
     ])
 }
 
+// What is taken in before the first dump, and what is left of the earlier result.
+#[derive(Drop)]
+struct Started {
+    taken: Taken,
+    rest: Rest,
+}
+
 // What is taken in before the first dump: the paths of the earlier result with their times, and its counts.
 fn begun(
     alloc: Global,
     keys: Keys,
     settings: &Settings,
-    earlier: &ResultFile,
-) -> Result<Taken, Refusal>
-    requires accepted { Accepts earlier.now }
+    earlier: ResultFile,
+) -> Result<Started, Refusal>
+    requires accepted { Accepts earlier }
     requires some { 1 ≤ settings.now.max_paths }
     requires most { settings.now.max_paths ≤ max_paths }
-    ensures few { OnOk result (length earlier.now.paths ≤ settings.now.max_paths) }
-    ensures begun { IfOk result (λ taken. taken ≡ taken_up earlier.now settings.now.max_paths) }
+    ensures begun { IfOk result (λ begun. IsBegun settings.now earlier begun.rest begun.taken) }
     ensures refused { IfErr result (λ refusal.
-        ((refusal ≡ past_limit) × (settings.now.max_paths < length earlier.now.paths)) ⊎ (refusal ≡ Refusal.NoMemory)) }
+        ((refusal ≡ past_limit) × (settings.now.max_paths < length earlier.paths)) ⊎ (refusal ≡ Refusal.NoMemory)) }
 {
-    match table_of(alloc, keys, earlier, settings.max_paths) {
-        Ok(table) => Ok(Taken {
-            table,
-            counts: same_counts(&earlier.asides),
-            files: List::new(alloc),
+    let counts = same_counts(&earlier.asides);
+    match take_up(alloc, keys, earlier, settings.max_paths) {
+        Ok(up) => Ok(Started {
+            taken: Taken {
+                table: up.table,
+                counts,
+                files: List::new(alloc),
+            },
+            rest: up.rest,
         }),
         Err(TableRefused::TooManyPaths) => Err(Refusal::Dumps(Stopped {
             dump: 0,
@@ -80,14 +92,14 @@ fn resumed_result(
     alloc: Global,
     keys: Keys,
     settings: &Settings,
-    earlier: ResultFile,
+    earlier: Rest,
     taken: Taken,
 ) -> Result<ResultFile, NoMemory>
     requires ratio { settings.now.ratio ≤ max_ratio }
-    requires accepted { Accepts earlier }
-    requires few { length (its_givens earlier) ≤ max_givens }
-    requires begins { BeginsWithPathsOf (row_paths taken.table.rows) earlier }
-    ensures { IfOk result (IsResumed settings.now earlier taken) }
+    requires few { length (unwrap_or earlier.givens []) ≤ max_givens }
+    requires begins { BeginsWithEarlier (row_paths taken.table.rows) earlier }
+    ensures { IfOk result (λ file. (old : File) → IsRestOf old earlier → BeginsWithPathsOf (row_paths taken.table.rows) old →
+        IsResumed settings.now old taken file) }
 {
     let Taken {
         table,
@@ -102,14 +114,14 @@ fn resumed_text(
     alloc: Global,
     keys: Keys,
     settings: &Settings,
-    earlier: ResultFile,
+    earlier: Rest,
     taken: Taken,
 ) -> Result<Output, NoMemory>
     requires ratio { settings.now.ratio ≤ max_ratio }
-    requires accepted { Accepts earlier }
-    requires few { length (its_givens earlier) ≤ max_givens }
-    requires begins { BeginsWithPathsOf (row_paths taken.table.rows) earlier }
-    ensures { IfOk result (λ output. IsOutputOn settings.now earlier taken (written output)) }
+    requires few { length (unwrap_or earlier.givens []) ≤ max_givens }
+    requires begins { BeginsWithEarlier (row_paths taken.table.rows) earlier }
+    ensures { IfOk result (λ output. (old : File) → IsRestOf old earlier → BeginsWithPathsOf (row_paths taken.table.rows) old →
+        IsOutputOn settings.now old taken (written output)) }
 {
     let file = resumed_result(alloc, keys, settings, earlier, taken)?;
     text_and_summary(alloc, file)
@@ -120,19 +132,19 @@ fn joined_output<H: Shelf>(
     alloc: Global,
     keys: Keys,
     settings: &Settings,
-    earlier: ResultFile,
+    earlier: Rest,
     mut taken: Taken,
     shelf: &mut H,
 ) -> Result<Output, Refusal>
     requires ratio { settings.now.ratio ≤ max_ratio }
-    requires accepted { Accepts earlier }
-    requires few { length (its_givens earlier) ≤ max_givens }
-    requires room { length earlier.paths ≤ settings.now.max_paths }
-    requires begun { taken ≡ taken_up earlier settings.now.max_paths }
-    ensures output { IfOk result (λ output. IfSome (H.files shelf.old) (λ files.
-        IsOutputOnEarlier settings.now earlier files (written output))) }
-    ensures of_some { IfOk result (λ output. IsOutputOnSome settings.now earlier (written output)) }
-    ensures refused { IfErr result (IsStopOn earlier settings.now (H.files shelf.old) (H.steady shelf.old)) }
+    requires few { length (unwrap_or earlier.givens []) ≤ max_givens }
+    requires begun { (old : File) × Accepts old × IsBegun settings.now old earlier taken }
+    ensures output { IfOk result (λ output. (old : File) → IsBegun settings.now old earlier taken → IfSome (H.files shelf.old) (λ files.
+        IsOutputOnEarlier settings.now old files (written output))) }
+    ensures of_some { IfOk result (λ output. (old : File) → IsBegun settings.now old earlier taken →
+        IsOutputOnSome settings.now old (written output)) }
+    ensures refused { IfErr result (λ refusal. (old : File) → IsBegun settings.now old earlier taken →
+        IsStopOn old settings.now (H.files shelf.old) (H.steady shelf.old) refusal) }
     ensures read_out { OnOk result (0 < length settings.now.dumps → IsAtEnd (H.left shelf.new)) }
     ensures reach { IfErr result (StopsInReach settings.now (H.files shelf.old) (H.left shelf.new)) }
 
@@ -175,8 +187,8 @@ fn output_on<H: Shelf>(
 
     ensures reads_shelf { ReadsShelf H.Shelf (IsErrAnd result IsReadFault) shelf.old shelf.new }
 {
-    match begun(alloc, keys, settings, &earlier) {
-        Ok(taken) => joined_output(alloc, keys, settings, earlier, taken, shelf),
+    match begun(alloc, keys, settings, earlier) {
+        Ok(begun) => joined_output(alloc, keys, settings, begun.rest, begun.taken, shelf),
         Err(refusal) => Err(refusal),
     }
 }

@@ -1,23 +1,22 @@
-use Rattle.std.proofs.Common.{◌≡◌, ◌∙◌, List, Option, length, take, sym, subst}
+use Rattle.std.proofs.Common.{◌≡◌, ◌∙◌, List, [], Option, length, take, unwrap_or, sym, ap, subst}
+use Rattle.std.proofs.lemmas.List.{length-map}
 use Rattle.relationships.specs.declared.given.Given.{Given}
 use Rattle.path_clean.specs.declared.cleaned.Sets.{Sets}
+use Rattle.result_text.specs.declared.file.PathLine.{PathLine}
 use Rattle.result_rules.specs.File.{its_paths, its_walks}
+use Rattle.resume.specs.Earlier.{BeginsWithEarlier}
 use Rattle.rel_infer.specs.GivenResults.{IsResultWith, PeerEitherWayWith, LeaveNoneOutWith}
 use Rattle.rel_infer.specs.Inference.{AreInferredWith}
-use Rattle.rel_infer.proofs.Acceptance.{same_givens}
 use Rattle.rel_infer.proofs.Continuing.{continued}
 use Rattle.rel_infer.proofs.resuming.result_resumed.Goals as goal
 
 pub resumed_from-requires-clause-begins : goal.resumed_from-requires-clause-begins
-resumed_from-requires-clause-begins c =
-    subst (λ ps. take (length c.args.earlier.paths) ps ≡ its_paths c.args.earlier) (sym c.into_rows-rows.ensures.paths) c.requires.begins
+resumed_from-requires-clause-begins c = subst (λ ps. BeginsWithEarlier ps c.args.earlier) (sym c.into_rows-rows.ensures.paths) c.requires.begins
 
 pub result_by-requires-clause-inferred : goal.result_by-requires-clause-inferred
 result_by-requires-clause-inferred c =
-    let earlier = c.args.earlier in
-    let r = c.in_ok-resumed.resumed in
     let is = c.in_ok-resumed.ensures in
-    subst (λ (gs : List Given). AreInferredWith gs c.args.ratio c.into_rows-rows.result.0 r.inferred) (sym (same_givens earlier r.givens (sym is.givens))) is.inferred
+    subst (λ (known : Option (List Given)). AreInferredWith (unwrap_or known []) c.args.ratio c.into_rows-rows.result.0 c.in_ok-resumed.resumed.inferred) (sym is.givens) is.inferred
 
 pub returns-clause-result : goal.returns-clause-result
 returns-clause-result c =
@@ -29,24 +28,20 @@ returns-clause-result c =
     (c.result_by.ensures.result rows c.into_rows-rows.ensures.paths c.into_rows-rows.ensures.times))
 
 pub returns-clause-continues : goal.returns-clause-continues
-returns-clause-continues c =
-    continued c.args.earlier c.result_by.result c.args.table.rows c.in_ok-resumed.resumed.inferred.fates c.requires.begins
-    (c.result_by.ensures.paths ∙ c.into_rows-rows.ensures.paths) c.result_by.ensures.fates c.in_ok-resumed.ensures.same
+returns-clause-continues c = λ old left begins.
+    let fates = c.in_ok-resumed.resumed.inferred.fates in
+    let many : length c.args.earlier.fates ≡ length old.paths = ap length left.fates ∙ length-map old.paths (λ (p : PathLine). p.fate) in
+    let same = ap (λ n. take n fates) (sym many) ∙ c.in_ok-resumed.ensures.same ∙ left.fates in
+    continued old c.result_by.result c.args.table.rows fates begins (c.result_by.ensures.paths ∙ c.into_rows-rows.ensures.paths) c.result_by.ensures.fates same
 
 pub returns-clause-either_way : goal.returns-clause-either_way
 returns-clause-either_way c =
-    let earlier = c.args.earlier in
-    let r = c.in_ok-resumed.resumed in
-    let is = c.in_ok-resumed.ensures in
-    let givens = same_givens earlier r.givens (sym is.givens) in
     let file = c.result_by.result in
-    subst (λ (gs : List Given). PeerEitherWayWith gs (its_paths file) (its_walks file) file.edges) givens c.result_by.ensures.either_way
+    subst (λ (known : Option (List Given)). PeerEitherWayWith (unwrap_or known []) (its_paths file) (its_walks file) file.edges) c.in_ok-resumed.ensures.givens
+    c.result_by.ensures.either_way
 
 pub returns-clause-none_left_out : goal.returns-clause-none_left_out
 returns-clause-none_left_out c =
-    let earlier = c.args.earlier in
-    let r = c.in_ok-resumed.resumed in
-    let is = c.in_ok-resumed.ensures in
-    let givens = same_givens earlier r.givens (sym is.givens) in
     let file = c.result_by.result in
-    subst (λ (gs : List Given). LeaveNoneOutWith gs c.args.ratio (its_paths file) (its_walks file) file.edges) givens c.result_by.ensures.none_left_out
+    subst (λ (known : Option (List Given)). LeaveNoneOutWith (unwrap_or known []) c.args.ratio (its_paths file) (its_walks file) file.edges) c.in_ok-resumed.ensures.givens
+    c.result_by.ensures.none_left_out

@@ -1,50 +1,64 @@
-use Rattle.std.proofs.Common.{◌-◌, ◌∙◌, List, All, length, refl, sym, subst, arith}
+use Rattle.std.proofs.Common.{◌≡◌, ◌-◌, ◌∙◌, ◌++◌, List, [], All, length, unwrap_or, refl, sym, ap, subst, arith}
 use Rattle.relationships.specs.declared.fate.Fate.{Fate}
+use Rattle.relationships.specs.declared.given.Given.{Given}
+use Rattle.relationships.specs.Givens.{returns}
 use Rattle.tor_arena.specs.Distinct.{AllDistinct}
 use Rattle.path_select.specs.Behind.{places_from}
 use Rattle.result_text.specs.Text.{its_givens}
 use Rattle.rel_infer.specs.Finding.{AreInferredIn}
-use Rattle.rel_infer.specs.Resumed.{its_fates}
+use Rattle.rel_infer.proofs.Acceptance.{same_givens}
 use Rattle.rel_infer.proofs.Continuing.{fates_fit, kept_there, keeps_there}
 use Rattle.rel_infer.proofs.Linking.{long, front_is, edges_same, numbers_same, unlinked}
 use Rattle.rel_infer.proofs.resuming.resumed_behind.Goals as goal
 
 pub inferred_on-requires-clause-kept : goal.inferred_on-requires-clause-kept
 inferred_on-requires-clause-kept c =
-    let earlier = c.args.earlier in
+    let known = unwrap_or c.args.earlier.givens [] in
+    let earlier = c.requires.begins.file in
     let paths = c.args.paths.now in
     let graph = c.in_ok-started.started.graph in
-    let same = c.in_ok-started.ensures.graph in
+    let givens : known ≡ its_givens earlier = same_givens earlier c.args.earlier.givens (sym c.requires.begins.left.givens) in
+    let own = c.in_ok-started.ensures.graph in
+    let same = own ∙ ap (λ (gs : List Given). paths ++ returns paths gs) givens in
     let n = c.len.result in
     let many = c.len.ensures.length in
-    kept_there earlier paths graph c.requires.begins same c.parts_of-parts.result.fates c.parts_of-parts.ensures.fates n many c.in_ok-started.started.first.places c.in_ok-started.ensures.kept
+    kept_there earlier paths graph c.requires.begins.begins same c.parts_of-parts.result.fates (c.parts_of-parts.ensures.fates ∙ c.requires.begins.left.fates) n many c.in_ok-started.started.first.places (c.in_ok-started.ensures.kept earlier c.requires.begins.left c.requires.begins.begins)
 
 pub inferred_on-requires-clause-keeps : goal.inferred_on-requires-clause-keeps
 inferred_on-requires-clause-keeps c =
-    let earlier = c.args.earlier in
+    let known = unwrap_or c.args.earlier.givens [] in
+    let earlier = c.requires.begins.file in
     let paths = c.args.paths.now in
     let graph = c.in_ok-started.started.graph in
-    let same = c.in_ok-started.ensures.graph in
+    let givens : known ≡ its_givens earlier = same_givens earlier c.args.earlier.givens (sym c.requires.begins.left.givens) in
+    let own = c.in_ok-started.ensures.graph in
+    let same = own ∙ ap (λ (gs : List Given). paths ++ returns paths gs) givens in
     let n = c.len.result in
     let many = c.len.ensures.length in
-    keeps_there earlier paths graph c.requires.begins same c.parts_of-parts.result.fates c.parts_of-parts.ensures.fates n many c.requires.accepted
+    keeps_there earlier paths graph c.requires.begins.begins same c.parts_of-parts.result.fates (c.parts_of-parts.ensures.fates ∙ c.requires.begins.left.fates) n many c.requires.begins.accepted
 
 pub inferred_on-requires-clause-begun : goal.inferred_on-requires-clause-begun
 inferred_on-requires-clause-begun c =
-    let earlier = c.args.earlier in
+    let known = unwrap_or c.args.earlier.givens [] in
+    let earlier = c.requires.begins.file in
     let paths = c.args.paths.now in
     let graph = c.in_ok-started.started.graph in
-    let same = c.in_ok-started.ensures.graph in
+    let givens : known ≡ its_givens earlier = same_givens earlier c.args.earlier.givens (sym c.requires.begins.left.givens) in
+    let own = c.in_ok-started.ensures.graph in
+    let same = own ∙ ap (λ (gs : List Given). paths ++ returns paths gs) givens in
     let n = c.len.result in
     let many = c.len.ensures.length in
-    fates_fit earlier paths graph c.requires.begins same c.parts_of-parts.result.fates c.parts_of-parts.ensures.fates n many
+    fates_fit earlier paths graph c.requires.begins.begins same c.parts_of-parts.result.fates (c.parts_of-parts.ensures.fates ∙ c.requires.begins.left.fates) n many
 
 pub inferred_on-requires-clause-count : goal.inferred_on-requires-clause-count
 inferred_on-requires-clause-count c =
-    let earlier = c.args.earlier in
+    let known = unwrap_or c.args.earlier.givens [] in
+    let earlier = c.requires.begins.file in
     let paths = c.args.paths.now in
     let graph = c.in_ok-started.started.graph in
-    let same = c.in_ok-started.ensures.graph in
+    let givens : known ≡ its_givens earlier = same_givens earlier c.args.earlier.givens (sym c.requires.begins.left.givens) in
+    let own = c.in_ok-started.ensures.graph in
+    let same = own ∙ ap (λ (gs : List Given). paths ++ returns paths gs) givens in
     let n = c.len.result in
     let many = c.len.ensures.length in
     let sum = long (its_givens earlier) paths graph same in
@@ -52,24 +66,30 @@ inferred_on-requires-clause-count c =
 
 pub inferred_on-requires-clause-distinct : goal.inferred_on-requires-clause-distinct
 inferred_on-requires-clause-distinct c =
-    let earlier = c.args.earlier in
+    let known = unwrap_or c.args.earlier.givens [] in
+    let earlier = c.requires.begins.file in
     let paths = c.args.paths.now in
     let graph = c.in_ok-started.started.graph in
-    let same = c.in_ok-started.ensures.graph in
+    let givens : known ≡ its_givens earlier = same_givens earlier c.args.earlier.givens (sym c.requires.begins.left.givens) in
+    let own = c.in_ok-started.ensures.graph in
+    let same = own ∙ ap (λ (gs : List Given). paths ++ returns paths gs) givens in
     let n = c.len.result in
     let many = c.len.ensures.length in
     subst (All AllDistinct) (sym (front_is (its_givens earlier) paths graph same n many)) c.requires.apart
 
 pub returns-clause-inferred : goal.returns-clause-inferred
 returns-clause-inferred c =
-    let earlier = c.args.earlier in
+    let known = unwrap_or c.args.earlier.givens [] in
+    let earlier = c.requires.begins.file in
     let paths = c.args.paths.now in
     let graph = c.in_ok-started.started.graph in
-    let same = c.in_ok-started.ensures.graph in
+    let givens : known ≡ its_givens earlier = same_givens earlier c.args.earlier.givens (sym c.requires.begins.left.givens) in
+    let own = c.in_ok-started.ensures.graph in
+    let same = own ∙ ap (λ (gs : List Given). paths ++ returns paths gs) givens in
     let n = c.len.result in
     let many = c.len.ensures.length in
     let i = c.in_ok-inferred.inferred in
     let first = places_from n (length graph - n) in
-    let numbered = c.in_ok-started.ensures.numbers ∙ sym (numbers_same graph paths (edges_same (its_givens earlier) paths graph same) 1 (its_givens earlier)) in
-    unlinked (its_givens earlier) paths graph same c.args.ratio n first (its_fates earlier) c.started_in.new.numbers i many refl numbered
+    let numbered = c.in_ok-started.ensures.numbers ∙ sym (numbers_same graph paths (edges_same known paths graph own) 1 known) in
+    unlinked known paths graph own c.args.ratio n first c.args.earlier.fates c.started_in.new.numbers i many refl numbered
     (subst (λ (fs : List Fate). AreInferredIn c.args.ratio graph first n fs i) c.parts_of-parts.ensures.fates c.in_ok-inferred.ensures)

@@ -1,4 +1,4 @@
-use Rattle.std.proofs.Common.{◌≡◌, ◌≤◌, ◌++◌, ◌∙◌, List, length, refl, sym, ap, subst, arith}
+use Rattle.std.proofs.Common.{◌≡◌, ◌≤◌, ◌++◌, ◌∙◌, List, length, sym, ap, subst, arith}
 use Rattle.relationships.specs.declared.given.Given.{Given}
 use Rattle.relationships.specs.Givens.{returns, NameTwo, NameOnce}
 use Rattle.tor_clauses.specs.Formulas.{numbered}
@@ -13,38 +13,35 @@ use Rattle.rel_infer.proofs.taking_up.started_in.Goals as goal
 
 pub build_with-requires-clause-two : goal.build_with-requires-clause-two
 build_with-requires-clause-two c =
-    let earlier = c.args.earlier.now in
+    let earlier = c.requires.begins.file in
     let paths = c.args.paths.now in
-    let givens : c.given_slice-givens.result.now ≡ its_givens earlier = c.given_slice-givens.ensures ∙ same_givens earlier earlier.givens refl in
-    subst NameTwo (sym givens) (its_two earlier c.requires.accepted)
+    let givens : c.given_slice-givens.result.now ≡ its_givens earlier = c.given_slice-givens.ensures ∙ same_givens earlier c.args.earlier.now.givens (sym c.requires.begins.left.givens) in
+    subst NameTwo (sym givens) (its_two earlier c.requires.begins.accepted)
 
 pub build_with-requires-clause-once : goal.build_with-requires-clause-once
 build_with-requires-clause-once c =
-    let earlier = c.args.earlier.now in
+    let earlier = c.requires.begins.file in
     let paths = c.args.paths.now in
-    let givens : c.given_slice-givens.result.now ≡ its_givens earlier = c.given_slice-givens.ensures ∙ same_givens earlier earlier.givens refl in
-    subst NameOnce (sym givens) (its_once earlier c.requires.accepted)
+    let givens : c.given_slice-givens.result.now ≡ its_givens earlier = c.given_slice-givens.ensures ∙ same_givens earlier c.args.earlier.now.givens (sym c.requires.begins.left.givens) in
+    subst NameOnce (sym givens) (its_once earlier c.requires.begins.accepted)
 
 pub numbers_of-requires-clause-few : goal.numbers_of-requires-clause-few
 numbers_of-requires-clause-few c =
-    let earlier = c.args.earlier.now in
-    let paths = c.args.paths.now in
-    let givens : c.given_slice-givens.result.now ≡ its_givens earlier = c.given_slice-givens.ensures ∙ same_givens earlier earlier.givens refl in
-    subst (λ (gs : List Given). length gs ≤ max_givens) (sym givens) c.requires.few_givens
+    subst (λ (gs : List Given). length gs ≤ max_givens) (sym c.given_slice-givens.ensures) c.requires.few_givens
 
 pub kept_over-requires-clause-begins : goal.kept_over-requires-clause-begins
 kept_over-requires-clause-begins c =
-    let earlier = c.args.earlier.now in
+    let earlier = c.requires.begins.file in
     let paths = c.args.paths.now in
-    let givens : c.given_slice-givens.result.now ≡ its_givens earlier = c.given_slice-givens.ensures ∙ same_givens earlier earlier.givens refl in
+    let givens : c.given_slice-givens.result.now ≡ its_givens earlier = c.given_slice-givens.ensures ∙ same_givens earlier c.args.earlier.now.givens (sym c.requires.begins.left.givens) in
     let same = c.in_ok-graph.ensures ∙ ap (λ (gs : List Given). paths ++ returns paths gs) givens in
-    graph_begins earlier paths c.in_ok-graph.graph c.requires.begins same
+    record { file = earlier; left = c.requires.begins.left; accepted = c.requires.begins.accepted; begins = graph_begins earlier paths c.in_ok-graph.graph c.requires.begins.begins same }
 
 pub kept_over-requires-clause-count : goal.kept_over-requires-clause-count
 kept_over-requires-clause-count c =
-    let earlier = c.args.earlier.now in
+    let earlier = c.requires.begins.file in
     let paths = c.args.paths.now in
-    let givens : c.given_slice-givens.result.now ≡ its_givens earlier = c.given_slice-givens.ensures ∙ same_givens earlier earlier.givens refl in
+    let givens : c.given_slice-givens.result.now ≡ its_givens earlier = c.given_slice-givens.ensures ∙ same_givens earlier c.args.earlier.now.givens (sym c.requires.begins.left.givens) in
     let same = c.in_ok-graph.ensures ∙ ap (λ (gs : List Given). paths ++ returns paths gs) givens in
     let sum = long (its_givens earlier) paths c.in_ok-graph.graph same in
     let n = c.len.ensures.length in
@@ -52,28 +49,30 @@ kept_over-requires-clause-count c =
 
 pub kept_over-requires-clause-behind : goal.kept_over-requires-clause-behind
 kept_over-requires-clause-behind c =
-    let earlier = c.args.earlier.now in
+    let earlier = c.requires.begins.file in
     let paths = c.args.paths.now in
-    let givens : c.given_slice-givens.result.now ≡ its_givens earlier = c.given_slice-givens.ensures ∙ same_givens earlier earlier.givens refl in
+    let givens : c.given_slice-givens.result.now ≡ its_givens earlier = c.given_slice-givens.ensures ∙ same_givens earlier c.args.earlier.now.givens (sym c.requires.begins.left.givens) in
     let same = c.in_ok-graph.ensures ∙ ap (λ (gs : List Given). paths ++ returns paths gs) givens in
-    returns_behind earlier paths c.in_ok-graph.graph c.requires.begins same c.len.result c.len.ensures.length
+    returns_behind earlier paths c.in_ok-graph.graph c.requires.begins.begins same c.len.result c.len.ensures.length ∙
+    ap (returns c.in_ok-graph.graph) (sym (same_givens earlier c.args.earlier.now.givens (sym c.requires.begins.left.givens)))
 
 pub returns-clause-graph : goal.returns-clause-graph
-returns-clause-graph c =
-    let earlier = c.args.earlier.now in
-    let paths = c.args.paths.now in
-    let givens : c.given_slice-givens.result.now ≡ its_givens earlier = c.given_slice-givens.ensures ∙ same_givens earlier earlier.givens refl in
-    c.in_ok-graph.ensures ∙ ap (λ (gs : List Given). paths ++ returns paths gs) givens
+returns-clause-graph c = c.in_ok-graph.ensures ∙ ap (λ (gs : List Given). c.args.paths.now ++ returns c.args.paths.now gs) c.given_slice-givens.ensures
 
 pub returns-clause-kept : goal.returns-clause-kept
-returns-clause-kept c =
-    subst (λ n. numbered c.in_ok-graph.graph c.in_ok-first.first.places ≡ kept_first c.in_ok-graph.graph n c.args.earlier.now) c.len.ensures.length c.in_ok-first.ensures.kept
+returns-clause-kept c = λ file left begins.
+    let paths = c.args.paths.now in
+    let givens : c.given_slice-givens.result.now ≡ its_givens file = c.given_slice-givens.ensures ∙ same_givens file c.args.earlier.now.givens (sym left.givens) in
+    let same = c.in_ok-graph.ensures ∙ ap (λ (gs : List Given). paths ++ returns paths gs) givens in
+    subst (λ n. numbered c.in_ok-graph.graph c.in_ok-first.first.places ≡ kept_first c.in_ok-graph.graph n file) c.len.ensures.length
+    (c.in_ok-first.ensures.kept file left (graph_begins file paths c.in_ok-graph.graph begins same))
 
 pub returns-clause-numbers : goal.returns-clause-numbers
 returns-clause-numbers c =
-    let earlier = c.args.earlier.now in
+    let earlier = c.requires.begins.file in
     let paths = c.args.paths.now in
-    let givens : c.given_slice-givens.result.now ≡ its_givens earlier = c.given_slice-givens.ensures ∙ same_givens earlier earlier.givens refl in
+    let givens : c.given_slice-givens.result.now ≡ its_givens earlier = c.given_slice-givens.ensures ∙ same_givens earlier c.args.earlier.now.givens (sym c.requires.begins.left.givens) in
     let same = c.in_ok-graph.ensures ∙ ap (λ (gs : List Given). paths ++ returns paths gs) givens in
     c.in_ok-numbers_of.ensures ∙ ap (numbers_from c.in_ok-graph.graph 1) givens ∙
-    numbers_same c.in_ok-graph.graph paths (edges_same (its_givens earlier) paths c.in_ok-graph.graph same) 1 (its_givens earlier)
+    numbers_same c.in_ok-graph.graph paths (edges_same (its_givens earlier) paths c.in_ok-graph.graph same) 1 (its_givens earlier) ∙
+    ap (numbers_from paths 1) (sym (same_givens earlier c.args.earlier.now.givens (sym c.requires.begins.left.givens)))

@@ -1,5 +1,12 @@
+use Rattle.std.proofs.Common.{◌<◌, ℕ, List, length}
+use Rattle.std.specs.Prelude.{All}
+use Rattle.result_text.specs.declared.file.ResultFile.{ResultFile}
+use Rattle.resume.specs.Earlier.{BeginsWithPathsOf, IsRestOf}
 use Rattle.resume.proofs.Keeping.{AreKeptBefore}
 use Rattle.resume.proofs.kept.kept_places.Given as goal
 
 abbrev pub invariant-loop-place : goal.invariant-loop-place
-invariant-loop-place l = AreKeptBefore l.graph l.file l.place l.places
+invariant-loop-place l = record {
+  there : All (λ path. path < length l.rest.fates) l.places;
+  kept : (graph : List (List ℕ)) (file : ResultFile) → IsRestOf file l.rest → BeginsWithPathsOf graph file → AreKeptBefore graph file l.place l.places;
+}
