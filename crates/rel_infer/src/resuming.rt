@@ -238,10 +238,11 @@ fn resumed_from(
     })
 }
 
-/// The result of the distinct paths of a table, of which the first are those of an earlier result that meets all rules, and of which the
-/// rest is given, with its sets and its givens, at most 2^28, and of counts of routes that were set aside. All is as `result_with` says of the whole table. The first path
-/// lines are those of the earlier result but for their times: its kept paths are kept, and its lost ones lost with the walks that they have
-/// there; only the paths behind them are offered. `ratio` is from 0 to 1000000. The only error is that memory ran out.
+/// The result of the distinct paths of a table, and of counts of routes that were set aside. The first paths are those of an earlier result
+/// that meets all rules, of which this is left, with its sets and its givens, at most 2^28. All is as `result_with` says of the whole
+/// table. The first path lines are those of the earlier result but for their times: its kept paths are kept, and its lost ones lost with
+/// the walks that they have there; only the paths behind them are offered. `ratio` is from 0 to 1000000. The only error is that memory
+/// ran out.
 pub fn result_resumed(
     alloc: Global,
     keys: Keys,
