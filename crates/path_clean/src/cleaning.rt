@@ -120,6 +120,7 @@ fn cause_of(sets: Sets, oddity: Oddity) -> Option<Cause>
 
 /// Whether no number stands there twice. Long paths are sorted into a set, since the time for a search in place grows with the
 /// square of the length.
+#[inline(always)]
 fn has_no_loop(alloc: Global, path: &[u32]) -> Result<bool, NoMemory>
     ensures { IfOk result (λ distinct. distinct ≡ is_distinct path.now) }
 {

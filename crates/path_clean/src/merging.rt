@@ -59,6 +59,7 @@ fn ends_in(path: &[u32], number: u32) -> bool
 }
 
 /// Puts a number at the end of a path, unless it stands there already.
+#[inline(always)]
 fn append_number(path: &mut List<u32>, number: u32) -> Result<(), NoMemory>
     ensures { OnOk result (path.new ≡ merged_onto path.old number) }
 {

@@ -84,6 +84,7 @@ impl<I: Index, T: Copy> Rows<I, T> {
     /// Adds a copy of the row at the end, and answers its index, whose place is the old number of
     /// rows. Full comes exactly where there are LIMIT rows, else NoMemory may come: where memory
     /// ran out, and where there would be 2^32 items or more in sum. Both change nothing.
+    #[inline(always)]
     pub fn push_row(&mut self, row: &[T]) -> Result<I, RowRefused>
         ensures added { OnOk result (self.new ≡ self.old ++ row.now ∷ []) }
         ensures index { IfOk result (λ id. I.place_of id ≡ length self.old) }

@@ -99,6 +99,7 @@ impl Clauses {
     /// Adds a path of the graph that the clauses fit, of which it is known which of its triples, from 0, is the first that is new, or
     /// that none is, as `first_new` answers; those before it are not looked for again. The path goes last in the list of paths, and
     /// its triples that are new go last in the list of triples. The clauses still fit the graph. For want of memory nothing changes.
+    #[inline(always)]
     pub fn add_path(
         &mut self,
         graph: &AsGraph,

@@ -66,6 +66,7 @@ impl NumberSet {
     }
 
     /// Adds a number at the end, unless it is there, and answers whether it was added. For want of memory nothing changes.
+    #[inline(always)]
     pub fn insert(&mut self, number: u64) -> Result<bool, NoMemory>
         requires { 2 ≤ number }
         ensures ok { IfOk result (IsInserted number self.old self.new) }
