@@ -137,7 +137,7 @@ nexts es a [] (step ∷ steps) h = absurd h
 nexts es a (b ∷ path) [] h = absurd h
 nexts es a (b ∷ path) (step ∷ steps) h = ap₂ (λ x (l : List ℕ). x ∷ l) (next_as-step es a b step h.0) (nexts es b path steps h.1)
 
-path_by-steps : (es : List Edge) (path : List ℕ) (steps : List Step) → 2 ≤ length path → AreSteps es path steps → path_by es steps ≡ path
+pub path_by-steps : (es : List Edge) (path : List ℕ) (steps : List Step) → 2 ≤ length path → AreSteps es path steps → path_by es steps ≡ path
 path_by-steps es [] steps two h = absurd (omega arith)
 path_by-steps es (a ∷ []) steps two h = absurd (omega arith)
 path_by-steps es (a ∷ b ∷ path) [] two h = absurd h

@@ -158,11 +158,11 @@ fn steps_on(paths: &Rows<PathId, u32>) -> usize {
 
 /// Adds a row, where there are not too many.
 #[inline(always)]
-fn add_row(rows: &mut Rows<PathId, Step>, steps: &[Step]) -> Result<(), NoMemory>
+pub(crate) fn add_row<T: Copy>(rows: &mut Rows<PathId, T>, row: &[T]) -> Result<(), NoMemory>
     requires { length rows.old < most_places }
-    ensures { OnOk result (rows.new ≡ rows.old ++ steps.now ∷ []) }
+    ensures { OnOk result (rows.new ≡ rows.old ++ row.now ∷ []) }
 {
-    match rows.push_row(steps) {
+    match rows.push_row(row) {
         Ok(_) => Ok(()),
         Err(RowRefused::NoMemory) => Err(NoMemory),
         Err(RowRefused::Full) => unreachable!(),

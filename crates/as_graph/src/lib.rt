@@ -7,6 +7,7 @@ mod counting;
 mod graph;
 mod graph_edges;
 mod per_edge;
+mod reading_back;
 mod step;
 mod valley;
 
