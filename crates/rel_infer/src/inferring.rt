@@ -129,30 +129,54 @@ fn inferred_after(
     inferred_in(alloc, keys, graph, first.as_slice(), count, ratio)
 }
 
+// The same of a graph whose paths were let go: they are read back from their steps.
+fn inferred_alone(
+    alloc: Global,
+    keys: Keys,
+    graph: &AsGraph,
+    count: usize,
+    ratio: u32,
+    paths: &mut Rows<PathId, u32>,
+) -> Result<Inferred, NoMemory>
+    requires count { count ≤ length graph.now }
+    requires servable { IsServable (paths_at graph.now (places_from count (length graph.now - count))) }
+    requires distinct { All AllDistinct (take count graph.now) }
+    requires small { ratio ≤ max_ratio }
+    ensures paths { OnOk result (paths.new ≡ take count graph.now) }
+    ensures inferred { IfOk result (AreInferredIn ratio graph.now (places_from count (length graph.now - count)) count []) }
+{
+    let inferred = inferred_after(alloc, keys, graph, count, ratio)?;
+    *paths = graph.first_paths(alloc, count)?;
+    Ok(inferred)
+}
+
 // What is inferred from distinct paths under givens, before the links into rows of returns are changed. The numbers of the givens of
-// these rows are added, where there are none yet.
+// these rows are added, where there are none yet. The paths stay as they are, but don't lie in memory beside their steps meanwhile.
 fn inferred_behind(
     alloc: Global,
     keys: Keys,
-    paths: &Rows<PathId, u32>,
+    paths: &mut Rows<PathId, u32>,
     givens: &[Given],
     ratio: u32,
     numbers: &mut List<u32>,
 ) -> Result<Inferred, NoMemory>
-    requires several { All (λ path. 2 ≤ length path) paths.now }
-    requires apart { All AllDistinct paths.now }
-    requires few { length paths.now ≤ max_paths }
-    requires short { sum_by length paths.now ≤ max_numbers }
+    requires several { All (λ path. 2 ≤ length path) paths.old }
+    requires apart { All AllDistinct paths.old }
+    requires few { length paths.old ≤ max_paths }
+    requires short { sum_by length paths.old ≤ max_numbers }
     requires small { ratio ≤ max_ratio }
     requires two { NameTwo givens.now }
     requires once { NameOnce givens.now }
     requires few_givens { length givens.now ≤ max_givens }
     requires none { numbers.old ≡ [] }
-    ensures { IfOk result (IsUnlinked givens.now ratio paths.now [] numbers.new) }
+    ensures paths { OnOk result (paths.new ≡ paths.old) }
+    ensures inferred { IfOk result (IsUnlinked givens.now ratio paths.old [] numbers.new) }
 {
     let graph = build_with(alloc, keys, paths, givens)?;
     numbers_of(&graph, givens, numbers)?;
-    inferred_after(alloc, keys, &graph, paths.len(), ratio)
+    let count = paths.len();
+    *paths = Rows::new(alloc);
+    inferred_alone(alloc, keys, &graph, count, ratio, paths)
 }
 
 // Links into rows of returns, which stand behind so many paths, are changed to name the givens of these numbers.
@@ -190,24 +214,25 @@ pub(crate) fn relinked_if_given(
 }
 
 /// What is inferred from distinct paths under givens. Each path has at least two ASes, all distinct; there are at most 2^23 paths, of at
-/// most 2^26 numbers in sum. There are at most 2^28 givens; each names two ASes, and no two of them the same two. The only error is that
-/// memory ran out.
+/// most 2^26 numbers in sum. There are at most 2^28 givens; each names two ASes, and no two of them the same two. The paths stay as they
+/// are. The only error is that memory ran out, and then they may be gone.
 pub(crate) fn inferred_from(
     alloc: Global,
     keys: Keys,
-    paths: &Rows<PathId, u32>,
+    paths: &mut Rows<PathId, u32>,
     givens: &[Given],
     ratio: u32,
 ) -> Result<Inferred, NoMemory>
-    requires several { All (λ path. 2 ≤ length path) paths.now }
-    requires apart { All AllDistinct paths.now }
-    requires few { length paths.now ≤ max_paths }
-    requires short { sum_by length paths.now ≤ max_numbers }
+    requires several { All (λ path. 2 ≤ length path) paths.old }
+    requires apart { All AllDistinct paths.old }
+    requires few { length paths.old ≤ max_paths }
+    requires short { sum_by length paths.old ≤ max_numbers }
     requires small { ratio ≤ max_ratio }
     requires two { NameTwo givens.now }
     requires once { NameOnce givens.now }
     requires few_givens { length givens.now ≤ max_givens }
-    ensures { IfOk result (AreInferredWith givens.now ratio paths.now) }
+    ensures paths { OnOk result (paths.new ≡ paths.old) }
+    ensures inferred { IfOk result (AreInferredWith givens.now ratio paths.old) }
 {
     let mut numbers = List::new(alloc);
     let inferred = inferred_behind(alloc, keys, paths, givens, ratio, &mut numbers)?;

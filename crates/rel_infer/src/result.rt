@@ -89,8 +89,8 @@ pub fn result_with(
         (λ file. LeaveNoneOutWith (unwrap_or givens []) head.ratio (its_paths file) (its_walks file) file.edges) }
 {
     table.facts();
-    let (rows, times) = table.into_rows();
-    let inferred = inferred_from(alloc, keys, &rows, given_slice(&givens), head.ratio)?;
+    let (mut rows, times) = table.into_rows();
+    let inferred = inferred_from(alloc, keys, &mut rows, given_slice(&givens), head.ratio)?;
     Ok(result_by(head, givens, rows, times, inferred))
 }
 

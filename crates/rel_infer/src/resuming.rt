@@ -86,7 +86,7 @@ fn select_past(
     Ok(())
 }
 
-// What is inferred from these paths: only those are offered whose fates are not there.
+// What is inferred from these paths: only those are offered whose fates are not there. The paths are read back from their steps.
 fn inferred_past(
     alloc: Global,
     keys: Keys,
@@ -94,6 +94,7 @@ fn inferred_past(
     mut selection: Selection,
     count: usize,
     ratio: u32,
+    paths: &mut Rows<PathId, u32>,
 ) -> Result<Inferred, NoMemory>
     requires fits { FitsGraph graph.now selection.selector.formula }
     requires kept { HasKeptBehind graph.now (places_from count (length graph.now - count)) (length selection.fates) selection.selector
@@ -104,11 +105,14 @@ fn inferred_past(
     requires count { count ≤ length graph.now }
     requires distinct { All AllDistinct (take count graph.now) }
     requires small { ratio ≤ max_ratio }
-    ensures { IfOk result
+    ensures paths { OnOk result (paths.new ≡ take count graph.now) }
+    ensures inferred { IfOk result
         (AreInferredIn ratio graph.now (places_from count (length graph.now - count)) count selection.fates) }
 {
     select_past(alloc, keys, graph, count, &mut selection)?;
-    inferred_by(alloc, graph, selection, count, ratio)
+    let inferred = inferred_by(alloc, graph, selection, count, ratio)?;
+    *paths = graph.first_paths(alloc, count)?;
+    Ok(inferred)
 }
 
 // A selector that keeps these of the paths of a graph, none of which is offered.
@@ -136,6 +140,7 @@ fn inferred_on(
     fates: Fates,
     count: usize,
     ratio: u32,
+    paths: &mut Rows<PathId, u32>,
 ) -> Result<Inferred, NoMemory>
     requires there { All (λ path. path < length started.graph) started.first.places }
     requires many { length started.first.ends ≡ length (edges started.graph) }
@@ -149,13 +154,14 @@ fn inferred_on(
     requires count { count ≤ length started.graph }
     requires distinct { All AllDistinct (take count started.graph) }
     requires small { ratio ≤ max_ratio }
-    ensures { IfOk result
+    ensures paths { OnOk result (paths.new ≡ take count started.graph) }
+    ensures inferred { IfOk result
         (AreInferredIn ratio started.graph (places_from count (length started.graph - count)) count fates) }
 {
     let Started { graph, first } = started;
     let selector = selector_of(alloc, keys, &graph, first)?;
     let selection = Selection { fates, selector };
-    inferred_past(alloc, keys, &graph, selection, count, ratio)
+    inferred_past(alloc, keys, &graph, selection, count, ratio, paths)
 }
 
 // What is left of an earlier result; the lines of its edges are let go.
@@ -172,32 +178,36 @@ fn parts_of(earlier: Rest) -> EarlierParts
 }
 
 // What is inferred from distinct paths, of which the first are those of an earlier result, before the links into rows of returns are
-// changed. The numbers of the givens of these rows are added, where there are none yet.
+// changed. The numbers of the givens of these rows are added, where there are none yet. The paths stay as they are, but don't lie in memory
+// beside their steps meanwhile.
 fn resumed_behind(
     alloc: Global,
     keys: Keys,
-    paths: &Rows<PathId, u32>,
+    paths: &mut Rows<PathId, u32>,
     earlier: Rest,
     ratio: u32,
     numbers: &mut List<u32>,
 ) -> Result<Resumed, NoMemory>
-    requires several { All (λ path. 2 ≤ length path) paths.now }
-    requires apart { All AllDistinct paths.now }
-    requires few { length paths.now ≤ max_paths }
-    requires short { sum_by length paths.now ≤ max_numbers }
+    requires several { All (λ path. 2 ≤ length path) paths.old }
+    requires apart { All AllDistinct paths.old }
+    requires few { length paths.old ≤ max_paths }
+    requires short { sum_by length paths.old ≤ max_numbers }
     requires small { ratio ≤ max_ratio }
     requires few_givens { length (unwrap_or earlier.givens []) ≤ max_givens }
-    requires begins { BeginsWithEarlier paths.now earlier }
+    requires begins { BeginsWithEarlier paths.old earlier }
     requires none { numbers.old ≡ [] }
+    ensures paths { OnOk result (paths.new ≡ paths.old) }
     ensures sets { IfOk result (λ resumed. resumed.sets ≡ earlier.sets) }
     ensures givens { IfOk result (λ resumed. resumed.givens ≡ earlier.givens) }
     ensures inferred { IfOk result
-        (λ resumed. IsUnlinked (unwrap_or earlier.givens []) ratio paths.now earlier.fates numbers.new resumed.inferred) }
+        (λ resumed. IsUnlinked (unwrap_or earlier.givens []) ratio paths.old earlier.fates numbers.new resumed.inferred) }
 {
     let started = started_in(alloc, keys, paths, &earlier, numbers)?;
     // the lines of its edges are let go before the clauses of its kept paths are made
     let parts = parts_of(earlier);
-    let inferred = inferred_on(alloc, keys, started, parts.fates, paths.len(), ratio)?;
+    let count = paths.len();
+    *paths = Rows::new(alloc);
+    let inferred = inferred_on(alloc, keys, started, parts.fates, count, ratio, paths)?;
     Ok(Resumed {
         sets: parts.sets,
         givens: parts.givens,
@@ -209,18 +219,19 @@ fn resumed_behind(
 fn resumed_from(
     alloc: Global,
     keys: Keys,
-    paths: &Rows<PathId, u32>,
+    paths: &mut Rows<PathId, u32>,
     earlier: Rest,
     ratio: u32,
 ) -> Result<Resumed, NoMemory>
-    requires several { All (λ path. 2 ≤ length path) paths.now }
-    requires apart { All AllDistinct paths.now }
-    requires few { length paths.now ≤ max_paths }
-    requires short { sum_by length paths.now ≤ max_numbers }
+    requires several { All (λ path. 2 ≤ length path) paths.old }
+    requires apart { All AllDistinct paths.old }
+    requires few { length paths.old ≤ max_paths }
+    requires short { sum_by length paths.old ≤ max_numbers }
     requires small { ratio ≤ max_ratio }
     requires few_givens { length (unwrap_or earlier.givens []) ≤ max_givens }
-    requires begins { BeginsWithEarlier paths.now earlier }
-    ensures { IfOk result (IsInferredOnTop earlier ratio paths.now) }
+    requires begins { BeginsWithEarlier paths.old earlier }
+    ensures paths { OnOk result (paths.new ≡ paths.old) }
+    ensures inferred { IfOk result (IsInferredOnTop earlier ratio paths.old) }
 {
     let mut numbers = List::new(alloc);
     let resumed = resumed_behind(alloc, keys, paths, earlier, ratio, &mut numbers)?;
@@ -263,8 +274,8 @@ pub fn result_resumed(
         (λ file. LeaveNoneOutWith (unwrap_or earlier.givens []) ratio (its_paths file) (its_walks file) file.edges) }
 {
     table.facts();
-    let (rows, times) = table.into_rows();
-    let resumed = resumed_from(alloc, keys, &rows, earlier, ratio)?;
+    let (mut rows, times) = table.into_rows();
+    let resumed = resumed_from(alloc, keys, &mut rows, earlier, ratio)?;
     let head = ResultHead {
         sets: resumed.sets,
         ratio,

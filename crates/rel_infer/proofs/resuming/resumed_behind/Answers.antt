@@ -20,8 +20,8 @@ inferred_on-requires-clause-kept c =
     let givens : known ≡ its_givens earlier = same_givens earlier c.args.earlier.givens (sym c.requires.begins.left.givens) in
     let own = c.in_ok-started.ensures.graph in
     let same = own ∙ ap (λ (gs : List Given). paths ++ returns paths gs) givens in
-    let n = c.len.result in
-    let many = c.len.ensures.length in
+    let n = c.len-count.result in
+    let many = c.len-count.ensures.length in
     kept_there earlier paths graph c.requires.begins.begins same c.parts_of-parts.result.fates (c.parts_of-parts.ensures.fates ∙ c.requires.begins.left.fates) n many c.in_ok-started.started.first.places (c.in_ok-started.ensures.kept earlier c.requires.begins.left c.requires.begins.begins)
 
 pub inferred_on-requires-clause-keeps : goal.inferred_on-requires-clause-keeps
@@ -33,8 +33,8 @@ inferred_on-requires-clause-keeps c =
     let givens : known ≡ its_givens earlier = same_givens earlier c.args.earlier.givens (sym c.requires.begins.left.givens) in
     let own = c.in_ok-started.ensures.graph in
     let same = own ∙ ap (λ (gs : List Given). paths ++ returns paths gs) givens in
-    let n = c.len.result in
-    let many = c.len.ensures.length in
+    let n = c.len-count.result in
+    let many = c.len-count.ensures.length in
     keeps_there earlier paths graph c.requires.begins.begins same c.parts_of-parts.result.fates (c.parts_of-parts.ensures.fates ∙ c.requires.begins.left.fates) n many c.requires.begins.accepted
 
 pub inferred_on-requires-clause-begun : goal.inferred_on-requires-clause-begun
@@ -46,8 +46,8 @@ inferred_on-requires-clause-begun c =
     let givens : known ≡ its_givens earlier = same_givens earlier c.args.earlier.givens (sym c.requires.begins.left.givens) in
     let own = c.in_ok-started.ensures.graph in
     let same = own ∙ ap (λ (gs : List Given). paths ++ returns paths gs) givens in
-    let n = c.len.result in
-    let many = c.len.ensures.length in
+    let n = c.len-count.result in
+    let many = c.len-count.ensures.length in
     fates_fit earlier paths graph c.requires.begins.begins same c.parts_of-parts.result.fates (c.parts_of-parts.ensures.fates ∙ c.requires.begins.left.fates) n many
 
 pub inferred_on-requires-clause-count : goal.inferred_on-requires-clause-count
@@ -59,8 +59,8 @@ inferred_on-requires-clause-count c =
     let givens : known ≡ its_givens earlier = same_givens earlier c.args.earlier.givens (sym c.requires.begins.left.givens) in
     let own = c.in_ok-started.ensures.graph in
     let same = own ∙ ap (λ (gs : List Given). paths ++ returns paths gs) givens in
-    let n = c.len.result in
-    let many = c.len.ensures.length in
+    let n = c.len-count.result in
+    let many = c.len-count.ensures.length in
     let sum = long (its_givens earlier) paths graph same in
     omega (arith, sum, many)
 
@@ -73,8 +73,8 @@ inferred_on-requires-clause-distinct c =
     let givens : known ≡ its_givens earlier = same_givens earlier c.args.earlier.givens (sym c.requires.begins.left.givens) in
     let own = c.in_ok-started.ensures.graph in
     let same = own ∙ ap (λ (gs : List Given). paths ++ returns paths gs) givens in
-    let n = c.len.result in
-    let many = c.len.ensures.length in
+    let n = c.len-count.result in
+    let many = c.len-count.ensures.length in
     subst (All AllDistinct) (sym (front_is (its_givens earlier) paths graph same n many)) c.requires.apart
 
 pub returns-clause-inferred : goal.returns-clause-inferred
@@ -86,10 +86,16 @@ returns-clause-inferred c =
     let givens : known ≡ its_givens earlier = same_givens earlier c.args.earlier.givens (sym c.requires.begins.left.givens) in
     let own = c.in_ok-started.ensures.graph in
     let same = own ∙ ap (λ (gs : List Given). paths ++ returns paths gs) givens in
-    let n = c.len.result in
-    let many = c.len.ensures.length in
+    let n = c.len-count.result in
+    let many = c.len-count.ensures.length in
     let i = c.in_ok-inferred.inferred in
     let first = places_from n (length graph - n) in
     let numbered = c.in_ok-started.ensures.numbers ∙ sym (numbers_same graph paths (edges_same known paths graph own) 1 known) in
     unlinked known paths graph own c.args.ratio n first c.args.earlier.fates c.started_in.new.numbers i many refl numbered
-    (subst (λ (fs : List Fate). AreInferredIn c.args.ratio graph first n fs i) c.parts_of-parts.ensures.fates c.in_ok-inferred.ensures)
+    (subst (λ (fs : List Fate). AreInferredIn c.args.ratio graph first n fs i) c.parts_of-parts.ensures.fates c.in_ok-inferred.ensures.inferred)
+
+pub returns-clause-paths : goal.returns-clause-paths
+returns-clause-paths c =
+    let known = unwrap_or c.args.earlier.givens [] in
+    let own = c.in_ok-started.ensures.graph in
+    c.in_ok-inferred.ensures.paths ∙ front_is known c.args.paths.now c.in_ok-started.started.graph own c.len-count.result c.len-count.ensures.length

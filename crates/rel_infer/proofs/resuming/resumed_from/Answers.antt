@@ -20,11 +20,11 @@ relinked_if_given-requires-clause-few c =
 pub relinked_if_given-requires-clause-paths : goal.relinked_if_given-requires-clause-paths
 relinked_if_given-requires-clause-paths c =
     let few = c.requires.few in
-    let n = c.len.ensures.length in
+    let n = c.len.ensures.length ∙ ap length c.in_ok-resumed.ensures.paths in
     omega (arith, n, few)
 
-pub returns : goal.returns
-returns c =
+pub returns-clause-inferred : goal.returns-clause-inferred
+returns-clause-inferred c =
     let e = c.requires.begins in
     let known = unwrap_or c.args.earlier.givens [] in
     let fates = c.args.earlier.fates in
@@ -40,7 +40,7 @@ returns c =
     linked known c.args.ratio paths fates c.resumed_behind.new.numbers old i h.inferred lost
     (subst (λ (gs : List Given). IsLinked (length paths) gs c.resumed_behind.new.numbers old i) givens
     (subst (λ (ns : List ℕ). IsLinked (length paths) c.given_slice-slice.result.now ns old i) c.as_slice.ensures
-    (subst (λ n. IsLinked n c.given_slice-slice.result.now c.as_slice.result.now old i) c.len.ensures.length c.in_ok-inferred.ensures))) in
+    (subst (λ n. IsLinked n c.given_slice-slice.result.now c.as_slice.result.now old i) (c.len.ensures.length ∙ ap length h.paths) c.in_ok-inferred.ensures))) in
     record {
       sets = h.sets;
       givens = h.givens;
