@@ -28,7 +28,7 @@ pub struct Pref {
     /// The edge.
     pub edge: EdgeId,
     /// The votes for its lower number, minus those for the higher.
-    pub lean: i64,
+    pub lean: i32,
     /// The end that it wants as the provider: that of more votes, then that of greater degree, and else the lower number.
     pub wanted: End,
 }
@@ -69,7 +69,7 @@ fn pref_of(edge: EdgeId, votes: &PerEnd, degrees: &PerEnd) -> Pref
 {
     Pref {
         edge,
-        lean: i64::from(votes.low) - i64::from(votes.high),
+        lean: votes.low as i32 - votes.high as i32,
         wanted: wanted_end(votes, degrees),
     }
 }
@@ -97,7 +97,10 @@ fn prefs_of(alloc: Global, votes: &[PerEnd], degrees: &[PerEnd]) -> Result<Vec<P
 fn sort_key(pref: &Pref) -> (u64, usize)
     ensures { result ≡ key_of pref.now }
 {
-    (u64::MAX - pref.lean.unsigned_abs(), pref.edge.place())
+    (
+        u64::MAX - u64::from(pref.lean.unsigned_abs()),
+        pref.edge.place(),
+    )
 }
 
 /// Sorts preferences by falling absolute lean, and those of equal absolute lean by their edges. It takes no memory.

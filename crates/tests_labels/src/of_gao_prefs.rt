@@ -10,7 +10,7 @@ use std::test::Fail;
 use tor_arena::{Index, Keys, List, PathId, RowRefused, Rows};
 
 /// For each edge its place, its lean and the end that it wants, in settling order.
-static OF_THREE_PATHS: [(usize, i64, End); 7] = [
+static OF_THREE_PATHS: [(usize, i32, End); 7] = [
     (1, 1, End::Low),
     (3, 1, End::Low),
     (4, 1, End::Low),
@@ -21,7 +21,7 @@ static OF_THREE_PATHS: [(usize, i64, End); 7] = [
 ];
 
 /// The same for six paths of a dump as it might be, of which the last is lost.
-static OF_SIX_PATHS: [(usize, i64, End); 9] = [
+static OF_SIX_PATHS: [(usize, i32, End); 9] = [
     (3, 3, End::Low),
     (4, -2, End::High),
     (5, 2, End::Low),
@@ -34,7 +34,7 @@ static OF_SIX_PATHS: [(usize, i64, End); 9] = [
 ];
 
 /// Whether preferences are those of a table.
-fn are(prefs: &List<Pref>, table: &[(usize, i64, End)]) -> bool {
+fn are(prefs: &List<Pref>, table: &[(usize, i32, End)]) -> bool {
     if prefs.len() != table.len() {
         return false;
     }
