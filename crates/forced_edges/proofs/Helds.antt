@@ -24,7 +24,7 @@ use Rattle.tor_clauses.specs.Flipping.{HasPartners, HoldsOne, IsKeptAlong, Reach
 use Rattle.tor_clauses.proofs.LiteralLemmas.{lit_of_node}
 use Rattle.tor_clauses.proofs.Exacts.{only_arcs}
 use Rattle.tor_clauses.proofs.Flips.{off_of}
-use Rattle.forced_edges.specs.Nodes.{IsClosed}
+use Rattle.tor_digraph.specs.Spreading.{IsClosed}
 use Rattle.tor_digraph.specs.NodeSets.{IsAdded}
 use Rattle.forced_edges.specs.Held.{end_of_label, is_end, held}
 use Rattle.forced_edges.specs.Candidates.{against}

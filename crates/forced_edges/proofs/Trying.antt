@@ -17,12 +17,12 @@ use Rattle.tor_clauses.proofs.LiteralLemmas.{opposite_node_twice}
 use Rattle.tor_clauses.proofs.Flips.{reach_back, reach_from, off_law}
 use Rattle.forced_edges.specs.declared.trial.Origin.{Origin}
 use Rattle.forced_edges.specs.declared.trial.Trial.{Trial}
-use Rattle.forced_edges.specs.Nodes.{Stays, IsClosed}
+use Rattle.tor_digraph.specs.Spreading.{Stays, IsClosed}
 use Rattle.forced_edges.specs.Held.{held}
 use Rattle.forced_edges.specs.Posing.{Posed}
 use Rattle.forced_edges.specs.Trials.{StandsAt, IsFound, IsTrial, StaysTrial, Tries, origin_at, IsHeadFrom, IsClash, IsPassed, ArePassed, AreAllPassed}
 use Rattle.forced_edges.proofs.Helds.{held_one}
-use Rattle.forced_edges.proofs.Sets.{stays_contained}
+use Rattle.tor_digraph.proofs.Spreadings.{stays_contained}
 use Rattle.forced_edges.proofs.Settlings.{near-walk}
 
 -- ---- one node more

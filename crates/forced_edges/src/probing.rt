@@ -1,19 +1,18 @@
 //! Probes: orders against the labels that bear out the open edges.
 ghost use Rattle.std.specs.Prelude.{[], ◌≡◌, ◌<◌, length, OnOk};
 ghost use Rattle.relationships.specs.Graph.{edges};
-ghost use Rattle.forced_edges.specs.Nodes.{IsClosed};
+ghost use Rattle.tor_digraph.specs.Spreading.{IsClosed};
 ghost use Rattle.forced_edges.specs.Candidates.{AreCandidates};
 ghost use Rattle.forced_edges.specs.Settling.{AreShown};
 ghost use Rattle.forced_edges.specs.Findings.{AllSettled, AreMarkedBy, AreRight, Probes};
 
 use crate::marks::Marks;
 use crate::problem::Problem;
-use crate::spreading::spread;
 use relationships::Probe;
 use std::alloc::Global;
 use tor_arena::{List, NoMemory, NodeId};
 use tor_clauses::negation_node;
-use tor_digraph::NodeSet;
+use tor_digraph::{NodeSet, spread};
 
 /// Adds an order to the probes, and covers what it leads to, but not past the orders of the labels, unless its opposite is shown or it
 /// is covered.

@@ -5,7 +5,7 @@ ghost use Rattle.relationships.specs.Graph.{edges};
 ghost use Rattle.tor_arena.specs.Limits.{most_places};
 ghost use Rattle.tor_digraph.specs.Walks.{HasArc, Reaches};
 ghost use Rattle.tor_clauses.specs.Literals.{lit_of, opposite_node};
-ghost use Rattle.forced_edges.specs.Nodes.{Stays};
+ghost use Rattle.tor_digraph.specs.Spreading.{Stays};
 ghost use Rattle.forced_edges.specs.Trials.{IsTrial, IsClash};
 ghost use Rattle.forced_edges.specs.Settling.{IsFullyShown, IsShowing, AreClosedTo, StayShown, LeadsBack, LeadsAlongArc, IsTail};
 

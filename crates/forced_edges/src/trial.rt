@@ -1,7 +1,7 @@
 //! A search from one order over others that the labels do not have, which looks for a clash.
 ghost use Rattle.std.specs.Prelude.{◌≡◌, ◌+◌, ◌<◌, ◌≤◌, ◌∷◌, [], length, slice_get, Some, OnOk, IfOk, IfSome, IfNone};
 ghost use Rattle.tor_arena.specs.Limits.{most_places};
-ghost use Rattle.forced_edges.specs.Nodes.{Stays};
+ghost use Rattle.tor_digraph.specs.Spreading.{Stays};
 ghost use Rattle.forced_edges.specs.Trials.{IsTrial, Tries, IsHeadFrom, StaysTrial, IsClash, LooksAt, ArePassed, AreAllPassed};
 
 use crate::problem::Problem;

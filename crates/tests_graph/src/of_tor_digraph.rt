@@ -1,5 +1,6 @@
 //! Tests of digraphs.
-ghost use Rattle.std.specs.Prelude.{◌≡◌, ◌<◌, IfOk};
+ghost use Rattle.std.specs.Prelude.{◌≡◌, ◌<◌, ℕ, List, IfOk};
+ghost use Rattle.tor_digraph.specs.Reached.{IsFlooded};
 
 use crate::cases::{node, small_digraph};
 use std::alloc::Global;
@@ -232,12 +233,10 @@ fn reaches_from_several_nodes(rt: HostRuntime) -> Result<(), Fail> {
     Ok(())
 }
 
-/// A search over arcs in rows: where it begins, where it ends if it comes there, and from which node on it does not go past what is
-/// reached from that node.
+/// A search over arcs in rows: where it begins, and from which node on it does not go past what is reached from that node.
 #[derive(Clone, Copy)]
 struct Search {
     start: usize,
-    end: Option<usize>,
     past: Option<usize>,
 }
 
@@ -273,30 +272,18 @@ fn past_of(
     Ok(past)
 }
 
-/// The node at which a search ends, if there is one.
-fn end_of(graph: &Digraph<NodeId, ArcId>, search: Search) -> Result<Option<NodeId>, Fail> {
-    match search.end {
-        None => Ok(None),
-        Some(place) => Ok(Some(node_of(graph, place)?)),
-    }
-}
-
 fn go(
     alloc: Global,
     graph: &Digraph<NodeId, ArcId>,
     search: Search,
     past: &Reached<NodeId, ArcId>,
     reached: &mut Reached<NodeId, ArcId>,
-) -> Result<(), Fail> {
+) -> Result<(), Fail>
+    requires { (nodes : List ℕ) → IsFlooded (λ n. n) (λ a. a) graph.now.nodes graph.now.arcs nodes reached.old }
+{
     let start = node_of(graph, search.start)?;
-    let end = end_of(graph, search)?;
-    graph.reach_none_again(reached)?;
     let rows = graph.in_rows(alloc)?;
-    match end {
-        None => rows.reach_near(start, past, reached)?,
-        Some(end) => rows.reach_near_to(start, end, past, reached)?,
-    }
-    Ok(())
+    Ok(rows.reach_near(start, past, reached)?)
 }
 
 fn find(
@@ -304,7 +291,9 @@ fn find(
     graph: &Digraph<NodeId, ArcId>,
     search: Search,
     reached: &mut Reached<NodeId, ArcId>,
-) -> Result<(), Fail> {
+) -> Result<(), Fail>
+    requires { (nodes : List ℕ) → IsFlooded (λ n. n) (λ a. a) graph.now.nodes graph.now.arcs nodes reached.old }
+{
     let past = past_of(alloc, graph, search)?;
     go(alloc, graph, search, &past, reached)
 }
@@ -315,47 +304,27 @@ fn found(
     graph: &Digraph<NodeId, ArcId>,
     search: Search,
 ) -> Result<Reached<NodeId, ArcId>, Fail> {
-    let mut reached = Reached::new(alloc);
+    let mut reached = graph.reach_none(alloc)?;
     find(alloc, graph, search, &mut reached)?;
     Ok(reached)
 }
 
-const FROM_ALL: Search = Search {
-    start: 0,
-    end: None,
-    past: None,
-};
-
-const SEARCHES: [(Search, &[usize]); 3] = [
-    (FROM_ALL, &[0, 1, 3, 2]),
+const SEARCHES: [(Search, &[usize]); 2] = [
     (
         Search {
             start: 0,
-            end: Some(3),
             past: None,
         },
-        &[0, 1, 3],
+        &[0, 1, 3, 2],
     ),
     (
         Search {
             start: 0,
-            end: None,
             past: Some(2),
         },
         &[0, 3],
     ),
 ];
-
-/// The places of the node and the arc of the last step to a node, and None where it was not reached.
-fn last_step(reached: &Reached<NodeId, ArcId>, node: NodeId) -> Option<Option<(usize, usize)>> {
-    if !reached.has(node) {
-        return None;
-    }
-    match reached.last_step(node) {
-        Some((tail, arc)) => Some(Some((tail.place(), arc.place()))),
-        None => Some(None),
-    }
-}
 
 fn places_found(
     alloc: Global,
@@ -372,57 +341,10 @@ fn places(alloc: Global, search: Search) -> Result<Vec<usize>, Fail> {
 }
 
 #[test]
-fn finds_the_nearest_first_and_stops_where_it_has_to(rt: HostRuntime) -> Result<(), Fail> {
+fn finds_the_nearest_first_but_not_past_what_it_is_given(rt: HostRuntime) -> Result<(), Fail> {
     for (search, wanted) in SEARCHES {
         assert_eq!(rt; places(rt.alloc(), search)?.as_slice(), wanted);
     }
-    Ok(())
-}
-
-fn last_steps_in(
-    alloc: Global,
-    graph: &Digraph<NodeId, ArcId>,
-) -> Result<[Option<Option<(usize, usize)>>; 2], Fail> {
-    let reached = found(alloc, graph, FROM_ALL)?;
-    Ok([last_step(&reached, node(2)), last_step(&reached, node(0))])
-}
-
-/// The last steps to 2 and to 0, where the search begins.
-fn last_steps(alloc: Global) -> Result<[Option<Option<(usize, usize)>>; 2], Fail> {
-    let graph = small_digraph(alloc)?;
-    last_steps_in(alloc, &graph)
-}
-
-#[test]
-fn tells_the_last_step_to_what_it_finds(rt: HostRuntime) -> Result<(), Fail> {
-    assert_eq!(rt; last_steps(rt.alloc())?, [Some(Some((1, 1))), Some(None)]);
-    Ok(())
-}
-
-/// How many nodes are left when what was found is forgotten.
-fn forget(
-    graph: &Digraph<NodeId, ArcId>,
-    reached: &mut Reached<NodeId, ArcId>,
-) -> Result<usize, Fail> {
-    graph.reach_none_again(reached)?;
-    Ok(reached.nodes().len())
-}
-
-fn forgotten_in(alloc: Global, graph: &Digraph<NodeId, ArcId>) -> Result<[usize; 2], Fail> {
-    let mut reached = found(alloc, graph, FROM_ALL)?;
-    let before = reached.nodes().len();
-    Ok([before, forget(graph, &mut reached)?])
-}
-
-/// How many nodes are found from 0, and how many are left when they are forgotten.
-fn forgotten(alloc: Global) -> Result<[usize; 2], Fail> {
-    let graph = small_digraph(alloc)?;
-    forgotten_in(alloc, &graph)
-}
-
-#[test]
-fn forgets_what_it_found(rt: HostRuntime) -> Result<(), Fail> {
-    assert_eq!(rt; forgotten(rt.alloc())?, [4, 0]);
     Ok(())
 }
 

@@ -1,11 +1,11 @@
 //! A set of visited nodes.
-ghost use Rattle.std.specs.Prelude.{[], ◌≡◌, ◌<◌, ◌≤◌, ◌^◌, ◌↔◌, Some, slice_get, length, IsTrue, IfOk, OnErr, Contains};
+ghost use Rattle.std.specs.Prelude.{[], ◌≡◌, ◌<◌, ◌≤◌, ◌↔◌, Some, slice_get, length, IsTrue, IfOk, OnErr, Contains};
 ghost use Rattle.tor_arena.specs.Limits.{most_places};
 ghost use Rattle.tor_digraph.specs.NodeSets.{IsAdded};
 
 use std::alloc::Global;
 use std::marker::Model;
-use tor_arena::{Arena, List, NoMemory, NodeId};
+use tor_arena::{Arena, Index, List, NoMemory, NodeId};
 
 /// Nodes of a digraph in the order in which they were added, each once, as those that a search has visited. Whether a node is among
 /// them stands in an octet for each node: that is what a search asks most often. It is seen as how many nodes there may be, and the
@@ -80,9 +80,11 @@ impl NodeSet {
         ensures count { self.new.count ≡ self.old.count }
         ensures added { IfOk result (λ new. IsAdded node new self.old.items self.new.items) }
         ensures err { OnErr result (self.new ≡ self.old) }
-        ensures few { length self.old.items < 2 ^ 64 }
+        ensures few { length self.old.items ≤ self.old.count }
+        ensures below { self.old.count ≤ most_places }
     {
-        prove!(self.nodes.len() <= usize::MAX);
+        prove!(self.nodes.len() <= self.marks.len());
+        prove!(self.marks.len() <= NodeId::LIMIT);
         if self.has(node) {
             return Ok(false);
         }

@@ -1,3 +1,4 @@
+pub mod Findings
 pub mod Models
 pub mod Preferences
 pub mod Settled

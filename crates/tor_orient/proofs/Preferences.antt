@@ -10,7 +10,7 @@ use Rattle.relationships.specs.Graph.{Edge, is_same, edges, orientation, SameOn}
 use Rattle.relationships.specs.Preference.{IsPreferred}
 use Rattle.gao_prefs.specs.declared.preferring.Pref.{Pref}
 use Rattle.gao_prefs.specs.Preferences.{edge_preferred, edges_preferred}
-use Rattle.tor_digraph.specs.Reached.{Reach}
+use Rattle.tor_digraph.specs.NodeSets.{Nodes}
 use Rattle.tor_arena.proofs.Gets.{has-from_Contains, Contains-from_has, slice_get-some, slice_get-unmap, slice_get-behind, slice_get-map}
 use Rattle.as_graph.specs.Paths.{paths_at}
 use Rattle.tor_clauses.specs.Literals.{Literal, node_of, lit_of, opposite_node, Holds}
@@ -45,20 +45,20 @@ read_end settled consistent k End.Low End.Low is h = refl
 read_end settled consistent k End.Low End.High is h = absurd (is h)
 read_end settled consistent k End.High End.Low is h = absurd (consistent (node_of (lit k End.Low)) h (subst (Contains settled) (sym (opposite_node-node (lit k End.Low))) is))
 
-module _ (graph : List (List ℕ)) (f : Formula) (apart : All NeighboursDiffer graph) (fits : FitsGraph graph f) (prefs : List Pref) (r : Reach ℕ ℕ) (ends : List End)
+module _ (graph : List (List ℕ)) (f : Formula) (apart : All NeighboursDiffer graph) (fits : FitsGraph graph f) (prefs : List Pref) (r : Nodes) (ends : List End)
     (so : AreSettled f prefs (length prefs) r) (inside : All (λ (pref : Pref). pref.edge < length (edges graph)) prefs)
     (each : (e : Edge) → Contains (edges graph) e ↔ Contains (edges_preferred (edges graph) prefs) e)
-    (many : length ends ≡ length (edges graph)) (are : AreEndsOf r.nodes ends) where
+    (many : length ends ≡ length (edges graph)) (are : AreEndsOf r.items ends) where
   abbrev es : List Edge
   es = edges graph
 
   -- what is settled holds
-  held : (n : ℕ) → Contains r.nodes n → Holds ends (lit_of n)
+  held : (n : ℕ) → Contains r.items n → Holds ends (lit_of n)
   held n h =
-      let below = so.closed.inside n h in
+      let below = so.inside n h in
       let nodes = fits.nodes in
       let v = slice_get-some ends (n / 2) (omega (arith, below, nodes, many)) in
-      v.1 ∙ ap Some (read_end r.nodes so.consistent (n / 2) v.0 (lit_of n).over (are (n / 2) v.0 v.1) (subst (Contains r.nodes) (sym (node_of_lit n)) h))
+      v.1 ∙ ap Some (read_end r.items so.consistent (n / 2) v.0 (lit_of n).over (are (n / 2) v.0 v.1) (subst (Contains r.items) (sym (node_of_lit n)) h))
 
   half : (p : Pref) → node_wanted p / 2 ≡ p.edge
   half p = ap (λ (l : Literal). l.edge) (lit_of_node (lit p.edge p.wanted))
@@ -73,25 +73,25 @@ module _ (graph : List (List ℕ)) (f : Formula) (apart : All NeighboursDiffer g
       (has.0, u.0, u.1, one_place graph u.0.edge k e (subst (λ e. slice_get es u.0.edge ≡ Some e) u.2 (edge_stands es prefs inside has.0 u.0 u.1)) at)
 
   -- so one of the two literals of each edge is settled
-  one_settled : (n : ℕ) → n / 2 < length es → Contains r.nodes n ⊎ Contains r.nodes (opposite_node n)
+  one_settled : (n : ℕ) → n / 2 < length es → Contains r.items n ⊎ Contains r.items (opposite_node n)
   one_settled n lt =
       let o = preference_of (n / 2) lt in
       elim (same_number (node_wanted o.1) n (half o.1 ∙ o.3)) [
-        | inl same ↦ subst (λ m. Contains r.nodes m ⊎ Contains r.nodes (opposite_node m)) same (so.each o.0 o.1 (slice_get_within prefs o.0 o.1 o.2) o.2)
-        | inr other ↦ elim (subst (λ m. Contains r.nodes m ⊎ Contains r.nodes (opposite_node m)) other (so.each o.0 o.1 (slice_get_within prefs o.0 o.1 o.2) o.2)) [
+        | inl same ↦ subst (λ m. Contains r.items m ⊎ Contains r.items (opposite_node m)) same (so.each o.0 o.1 (slice_get_within prefs o.0 o.1 o.2) o.2)
+        | inr other ↦ elim (subst (λ m. Contains r.items m ⊎ Contains r.items (opposite_node m)) other (so.each o.0 o.1 (slice_get_within prefs o.0 o.1 o.2) o.2)) [
           | inl h ↦ inr h
-          | inr h ↦ inl (subst (Contains r.nodes) (opposite_node_twice n) h)
+          | inr h ↦ inl (subst (Contains r.items) (opposite_node_twice n) h)
         ]
       ]
 
   -- and what holds is settled
-  settled_of : (n : ℕ) → Holds ends (lit_of n) → Contains r.nodes n
+  settled_of : (n : ℕ) → Holds ends (lit_of n) → Contains r.items n
   settled_of n h =
       let lt = slice_get_within ends (n / 2) (lit_of n).over h in
       elim (one_settled n (omega (arith, lt, many))) [ inl i ↦ i | inr o ↦ absurd (holds_one ends n h (held (opposite_node n) o)) ]
 
   model : IsModel f ends
-  model k l m arc h = held m (so.closed.heads l m (settled_of l h) (k, arc))
+  model k l m arc h = held m (so.closed l m (settled_of l h) (k, arc))
 
   module _ (law : ModelLaw) where
     pub serves : IsServed graph f.paths ends
@@ -117,11 +117,11 @@ module _ (graph : List (List ℕ)) (f : Formula) (apart : All NeighboursDiffer g
       forth is = (O, serves, (λ k d lt. refl), is)
 
       module _ (O' : Orientation) (serves' : Serves O' (paths_at graph f.paths)) (same : SameOn before O O') (is : O' e.0 e.1 ≡ wanted e) where
-        moved : (n : ℕ) (d : Edge) → slice_get es (n / 2) ≡ Some d → O d.0 d.1 ≡ O' d.0 d.1 → Contains r.nodes n → Holds (ends_of es O') (lit_of n)
+        moved : (n : ℕ) (d : Edge) → slice_get es (n / 2) ≡ Some d → O d.0 d.1 ≡ O' d.0 d.1 → Contains r.items n → Holds (ends_of es O') (lit_of n)
         moved n d at alike h =
             slice_get-map (λ (g : Edge). O' g.0 g.1) es (n / 2) d at ∙ ap Some (sym alike ∙ provider es ends (n / 2) d (lit_of n).over (edges-apart graph) at (held n h))
 
-        agrees : AgreesUpTo prefs (length before) r.nodes (ends_of es O')
+        agrees : AgreesUpTo prefs (length before) r.items (ends_of es O')
         agrees k q lt at =
             let d = edge_preferred es q in
             let there = get-before before (e ∷ after) k d lt (ap (λ (l : List Edge). slice_get l k) (sym split) ∙ slice_get-map (edge_preferred es) prefs k q at) in

@@ -1,37 +1,60 @@
 -- The way by which a search has come to a node, from its end on.
-use Rattle.std.proofs.Common.{◌≡◌, ℕ, ◌*◌, inl, inr, Bool, List, [], Option, Some, sym, subst, arith, Contains}
-use Rattle.std.specs.Prelude.{IfSome}
-use Rattle.tor_digraph.specs.Walks.{Reaches, here, along}
-use Rattle.tor_digraph.specs.Found.{HasTreeArcs, HasTailsBefore, IsStepTo}
+use Rattle.std.proofs.Common.{◌≡◌, ℕ, ◌*◌, ◌<◌, inl, inr, Bool, List, [], Some, length, sym, ap, ◌∙◌, subst, arith, Contains}
+use Rattle.std.specs.Prelude.{slice_get}
+use Rattle.std.proofs.lemmas.Option.{same_Some}
+use Rattle.tor_digraph.specs.Walks.{HasArc, Reaches, here, along}
 use Rattle.tor_digraph.specs.NodeSets.{IsAdded}
+use Rattle.tor_digraph.specs.Trails.{StandsAt, IsTrail}
+use Rattle.tor_digraph.specs.declared.trail.Origin.{Origin}
+use Rattle.tor_digraph.specs.declared.trail.Trail.{Trail}
 use Rattle.tor_digraph.proofs.Closings.{reaches_trans}
 use Rattle.tor_digraph.proofs.Members.{Contains-one_more}
-use Rattle.tor_digraph.specs.declared.found.Found.{Found}
-use Rattle.tor_arena.proofs.Gets.{has-from_Contains, Contains-from_has, none-in}
+use Rattle.tor_arena.proofs.Gets.{none-in, slice_get-push_last}
+use Rattle.relationships.specs.declared.label.End.{End}
+use Rattle.gao_prefs.specs.declared.preferring.Pref.{Pref}
+use Rattle.as_graph.specs.EdgeSteps.{side}
 use Rattle.tor_clauses.proofs.Sides.{edge_opposite}
-use Rattle.tor_orient.specs.Steps.{HasOpposites}
+use Rattle.tor_orient.specs.Steps.{node_wanted, HasOpposites, IsLast}
 
 -- with each node of so many edges its opposite is there
 pub opposites_there : (edges count : ℕ) → count ≡ edges * 2 → HasOpposites count
 opposites_there edges count twice n lt = let same = edge_opposite n in omega (arith, twice, lt, same)
 
--- the step that was answered
-pub step_of : (found : List (Found ℕ ℕ)) (node : ℕ) (answer : Option (ℕ × ℕ)) (step : ℕ × ℕ) → answer ≡ Some step →
-    IfSome answer (λ (s : ℕ × ℕ). IsStepTo (λ n. n) found node s.0 s.1) → IsStepTo (λ n. n) found node step.0 step.1
-step_of found node answer step is h = subst (λ o. IfSome o (λ (s : ℕ × ℕ). IsStepTo (λ n. n) found node s.0 s.1)) is h
+-- and so is the node that a preference for one of them wants
+pub wanted_there : (p : Pref) (edges count : ℕ) → count ≡ edges * 2 → p.edge < edges → node_wanted p < count
+wanted_there p edges count twice lt = let less = side_less p.wanted in omega (arith, twice, lt, less)
+  where
+    side_less : (e : End) → side e < 2
+    side_less End.Low = omega arith
+    side_less End.High = omega arith
 
--- the tail of a step was found too
-pub tail_found : (nodes : List ℕ) (found : List (Found ℕ ℕ)) → HasTailsBefore (λ n. n) nodes found → (node tail arc : ℕ) → Contains nodes node →
-    IsStepTo (λ n. n) found node tail arc → Contains nodes tail
-tail_found nodes found before node tail arc h step =
-    let at = has-from_Contains nodes node h in
-    let was = before at.0 node tail arc at.1 step in
-    Contains-from_has nodes tail (was.0, was.2)
+-- what stands last stands at some place
+pub last_stands : (node : ℕ) (nodes : List ℕ) → IsLast node nodes → (place : ℕ) × StandsAt nodes place node
+last_stands node nodes last = (length last.0, ap (λ (l : List ℕ). slice_get l (length last.0)) last.1 ∙ slice_get-push_last last.0 node)
+
+-- a node behind the first was found from one that stands before it
+pub origin_before : (arcs : List (ℕ × ℕ)) (start : ℕ) (trail : Trail) → IsTrail arcs start trail → (place node : ℕ) (o : Origin) → 0 < place →
+    StandsAt trail.nodes.items place node → slice_get trail.origins place ≡ Some o → o.place < place
+origin_before arcs start trail t place node o more at noted = elim (t.found place node at) [
+  | inl none ↦ absurd (omega (arith, none, more))
+  | inr f ↦ subst (λ (p : Origin). p.place < place) (same_Some f.origin o (sym f.noted ∙ noted)) f.before
+]
+
+-- by an arc
+pub origin_arc : (arcs : List (ℕ × ℕ)) (start : ℕ) (trail : Trail) → IsTrail arcs start trail → (place node tail : ℕ) (o : Origin) → 0 < place →
+    StandsAt trail.nodes.items place node → slice_get trail.origins place ≡ Some o → StandsAt trail.nodes.items o.place tail → HasArc arcs tail node
+origin_arc arcs start trail t place node tail o more at noted there = elim (t.found place node at) [
+  | inl none ↦ absurd (omega (arith, none, more))
+  | inr f ↦
+      let is : f.origin ≡ o = same_Some f.origin o (sym f.noted ∙ noted) in
+      let same : f.tail ≡ tail = same_Some f.tail tail (sym f.there ∙ ap (λ (p : Origin). slice_get trail.nodes.items p.place) is ∙ there) in
+      (f.origin.arc, subst (λ n. slice_get arcs f.origin.arc ≡ Some (n, node)) same f.arc)
+]
 
 -- from a tail lead the arc to its head, and all that leads on from there
-pub leads_more : (arcs : List (ℕ × ℕ)) (found : List (Found ℕ ℕ)) → HasTreeArcs (λ n. n) (λ a. a) arcs found → (node tail arc : ℕ) → IsStepTo (λ n. n) found node tail arc →
-    (is_new : Bool) (old new : List ℕ) → IsAdded node is_new old new → ((n : ℕ) → Contains old n → Reaches arcs node n) → (n : ℕ) → Contains new n → Reaches arcs tail n
-leads_more arcs found tree node tail arc step is_new old new added leads n h = elim added [
+pub leads_more : (arcs : List (ℕ × ℕ)) (node tail : ℕ) → HasArc arcs tail node → (is_new : Bool) (old new : List ℕ) → IsAdded node is_new old new →
+    ((n : ℕ) → Contains old n → Reaches arcs node n) → (n : ℕ) → Contains new n → Reaches arcs tail n
+leads_more arcs node tail arc is_new old new added leads n h = elim added [
   | inl a ↦ elim (Contains-one_more old node n (subst (λ (l : List ℕ). Contains l n) a.2 h)) [
     | inl was ↦ reaches_trans first (leads n was)
     | inr is ↦ subst (Reaches arcs tail) (sym is) first
@@ -40,7 +63,7 @@ leads_more arcs found tree node tail arc step is_new old new added leads n h = e
 ]
   where
     first : Reaches arcs tail node
-    first = along here (arc, (tree node tail arc step.0 step.1).0)
+    first = along here arc
 
 -- nothing lies behind yet
 pub leads_none : {P : Type 0} (nodes : List ℕ) (n : ℕ) → nodes ≡ [] → Contains nodes n → P

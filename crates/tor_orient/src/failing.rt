@@ -1,78 +1,87 @@
 //! Literals that fail, since they lead to their opposites.
-ghost use Rattle.std.specs.Prelude.{◌≡◌, ◌<◌, ℕ, List, Contains, OnOk, IfOk, IfSome, IfNone};
+ghost use Rattle.std.specs.Prelude.{◌≡◌, ◌≤◌, ◌<◌, ℕ, List, Contains, OnOk, IfOk, IfSome, IfNone};
+ghost use Rattle.tor_arena.specs.Limits.{most_places};
 ghost use Rattle.tor_digraph.specs.Walks.{Reaches};
-ghost use Rattle.tor_digraph.specs.Found.{HasTreeArcs, HasTailsBefore, IsFalling};
+ghost use Rattle.tor_digraph.specs.Trails.{IsTrail};
 ghost use Rattle.tor_clauses.specs.Literals.{opposite_node};
-ghost use Rattle.tor_orient.specs.Steps.{HasOpposites, IsFailing, NoneLeadsOut};
+ghost use Rattle.tor_orient.specs.Steps.{HasOpposites, IsFailing, IsLast, IsOver, NoneLeadsOut};
 
+use crate::finding::find;
 use std::alloc::Global;
 use tor_arena::{ArcId, NoMemory, NodeId};
-use tor_clauses::{Clauses, negation_node};
-use tor_digraph::{NodeSet, Reached, RowDigraph};
+use tor_clauses::negation_node;
+use tor_digraph::{NodeSet, RowDigraph, Trail};
 
-/// Memory for a set of the nodes of the clauses.
-pub(crate) fn no_nodes(alloc: Global, clauses: &Clauses) -> Result<NodeSet, NoMemory>
-    ensures { IfOk result (λ s. s.count ≡ clauses.now.net.nodes) }
-{
-    NodeSet::new(alloc, clauses.digraph().node_count())
+/// A search from a literal for its opposite.
+#[derive(Drop)]
+pub(crate) struct Search {
+    /// The literals to which it has come, and from where.
+    pub(crate) tried: Trail,
+    /// Those that lie behind one on the way back.
+    pub(crate) behind: NodeSet,
+}
+
+impl Search {
+    /// A search over so many nodes that has come to none.
+    pub(crate) fn new(alloc: Global, count: usize) -> Result<Search, NoMemory>
+        requires { count ≤ most_places }
+        ensures { IfOk result (IsOver count) }
+    {
+        let tried = Trail::new(alloc, count)?;
+        Ok(Search {
+            tried,
+            behind: NodeSet::new(alloc, count)?,
+        })
+    }
 }
 
 /// On the way by which a search has come from a literal to its opposite the last literal whose own opposite stands behind it. The other
 /// memory is for the part of the way that lies behind.
-fn last_failing(
-    tried: &Reached<NodeId, ArcId>,
-    start: NodeId,
-    behind: &mut NodeSet,
-) -> Result<NodeId, NoMemory>
+fn last_failing(tried: &Trail, start: NodeId, behind: &mut NodeSet) -> Result<NodeId, NoMemory>
     requires start { start < behind.old.count }
-    requires found { Contains tried.now.nodes (opposite_node start) }
-    requires before { HasTailsBefore (λ n. n) tried.now.nodes tried.now.found }
-    requires falls { IsFalling (λ n. n) tried.now.found }
-    requires inside { (n : ℕ) → Contains tried.now.nodes n → n < behind.old.count }
+    requires trail { (arcs : List (ℕ × ℕ)) × IsTrail arcs start tried.now }
+    requires found { IsLast (opposite_node start) tried.now.nodes.items }
+    requires count { tried.now.nodes.count ≡ behind.old.count }
     requires both { HasOpposites behind.old.count }
     ensures count { behind.new.count ≡ behind.old.count }
     ensures there { IfOk result (λ last. last < behind.old.count) }
-    ensures failing { IfOk result (λ last. (arcs : List (ℕ × ℕ)) → HasTreeArcs (λ n. n) (λ a. a) arcs tried.now.found →
-        ((n : ℕ) → Contains tried.now.nodes n → Reaches arcs start n) → IsFailing arcs start last) }
+    ensures failing { IfOk result (λ last. (arcs : List (ℕ × ℕ)) → IsTrail arcs start tried.now → IsFailing arcs start last) }
 {
     behind.clear();
-    let mut node = negation_node(start);
-    while let Some(step) = tried.last_step(node) {
-        behind.add(node)?;
-        if behind.has(negation_node(step.0)) {
-            return Ok(step.0);
+    let mut place = tried.nodes.len() - 1;
+    while place > 0 {
+        behind.add(tried.nodes.get(place))?;
+        place = tried.origin_of(place).place as usize;
+        let node = tried.nodes.get(place);
+        if behind.has(negation_node(node)) {
+            return Ok(node);
         }
-        node = step.0;
     }
     Ok(start)
 }
 
-/// Whether a literal fails that is not settled, and neither is its opposite: none where it does not lead to its opposite, and else the
-/// last literal on a way to that which fails too. The search does not go on past what is settled, and the other memory is for it.
+/// Whether a literal fails whose opposite is not settled: none where it does not lead to its opposite, and else the last literal on a way
+/// to that which fails too. The search does not go on past what is settled.
 pub(crate) fn failing_behind(
-    clauses: &Clauses,
     rows: &RowDigraph<'_, NodeId, ArcId>,
     node: NodeId,
-    settled: &Reached<NodeId, ArcId>,
-    tried: &mut Reached<NodeId, ArcId>,
-    behind: &mut NodeSet,
+    settled: &NodeSet,
+    search: &mut Search,
 ) -> Result<Option<NodeId>, NoMemory>
-    requires rows { rows.now ≡ clauses.now.net }
-    requires there { node < clauses.now.net.nodes }
-    requires closed { NoneLeadsOut clauses.now.net settled.now }
-    requires unsettled { Contains settled.now.nodes (opposite_node node) → ⊥ }
-    requires count { behind.old.count ≡ clauses.now.net.nodes }
-    requires both { HasOpposites clauses.now.net.nodes }
-    ensures count { behind.new.count ≡ behind.old.count }
-    ensures none { IfOk result (λ last. IfNone last (Reaches clauses.now.net.arcs node (opposite_node node) → ⊥)) }
-    ensures there { IfOk result (λ last. IfSome last (λ n. n < clauses.now.net.nodes)) }
-    ensures some { IfOk result (λ last. IfSome last (IsFailing clauses.now.net.arcs node)) }
+    requires there { node < rows.now.nodes }
+    requires count { settled.now.count ≡ rows.now.nodes }
+    requires search { IsOver rows.now.nodes search.old }
+    requires both { HasOpposites rows.now.nodes }
+    requires closed { NoneLeadsOut rows.now.arcs settled.now.items }
+    requires unsettled { Contains settled.now.items (opposite_node node) → ⊥ }
+    ensures search { IsOver rows.now.nodes search.new }
+    ensures none { IfOk result (λ last. IfNone last (Reaches rows.now.arcs node (opposite_node node) → ⊥)) }
+    ensures there { IfOk result (λ last. IfSome last (λ n. n < rows.now.nodes)) }
+    ensures some { IfOk result (λ last. IfSome last (IsFailing rows.now.arcs node)) }
 {
     let other = negation_node(node);
-    clauses.digraph().reach_none_again(tried)?;
-    rows.reach_near_to(node, other, settled, tried)?;
-    if tried.has(other) {
-        let last = last_failing(tried, node, behind)?;
+    if find(rows, node, other, settled, &mut search.tried)? {
+        let last = last_failing(&search.tried, node, &mut search.behind)?;
         return Ok(Some(last));
     }
     Ok(None)

@@ -3,6 +3,7 @@
 #![tactic(auto)]
 
 mod failing;
+mod finding;
 mod orienting;
 mod settling;
 

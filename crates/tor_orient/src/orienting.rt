@@ -1,5 +1,5 @@
 //! The preferred orientation.
-ghost use Rattle.std.specs.Prelude.{◌≡◌, ◌<◌, ◌↔◌, ℕ, All, Contains, length, map, IfOk};
+ghost use Rattle.std.specs.Prelude.{◌≡◌, ◌<◌, ◌↔◌, ◌+◌, ◌*◌, ℕ, All, Contains, length, map, IfOk};
 ghost use Rattle.relationships.specs.declared.label.End.{End};
 ghost use Rattle.relationships.specs.Graph.{Edge, edges, orientation};
 ghost use Rattle.relationships.specs.Selection.{IsServable};
@@ -17,14 +17,15 @@ use as_graph::{AsGraph, Orientation};
 use gao_prefs::Pref;
 use relationships::End;
 use std::alloc::Global;
-use tor_arena::{ArcId, EdgeId, Index, NoMemory, NodeId};
+use tor_arena::{EdgeId, Index, NoMemory};
 use tor_clauses::{Clauses, Lit, model_law};
-use tor_digraph::Reached;
+use tor_digraph::NodeSet;
 
 /// The end that is settled of an edge, and the lower where none is. It takes no memory.
-fn settled_end(settled: &Reached<NodeId, ArcId>, edge: EdgeId) -> End
-    requires { edge < most_edges }
-    ensures { IsEndOf settled.now.nodes edge result }
+fn settled_end(settled: &NodeSet, edge: EdgeId) -> End
+    requires few { edge < most_edges }
+    requires there { edge * 2 + 1 < settled.now.count }
+    ensures { IsEndOf settled.now.items edge result }
 {
     let high = Lit::new(edge, End::High);
     if settled.has(high.node()) {
@@ -35,13 +36,10 @@ fn settled_end(settled: &Reached<NodeId, ArcId>, edge: EdgeId) -> End
 }
 
 /// The orientation of the ends that are settled, so many.
-fn settled_ends(
-    alloc: Global,
-    settled: &Reached<NodeId, ArcId>,
-    count: usize,
-) -> Result<Orientation, NoMemory>
-    requires { count < max_numbers }
-    ensures { IfOk result (λ ends. (length ends ≡ count) × AreEndsOf settled.now.nodes ends) }
+fn settled_ends(alloc: Global, settled: &NodeSet, count: usize) -> Result<Orientation, NoMemory>
+    requires few { count < max_numbers }
+    requires nodes { settled.now.count ≡ count * 2 }
+    ensures { IfOk result (λ ends. (length ends ≡ count) × AreEndsOf settled.now.items ends) }
 {
     let mut ends = Vec::with_capacity(alloc, count)?;
     for place in 0..count {

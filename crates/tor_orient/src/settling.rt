@@ -1,40 +1,39 @@
 //! How an edge is settled with all that follows.
-ghost use Rattle.std.specs.Prelude.{◌≡◌, ◌<◌, ℕ, All, length, OnOk, IfOk};
+ghost use Rattle.std.specs.Prelude.{◌≡◌, ◌<◌, All, length, OnOk, IfOk};
 ghost use Rattle.relationships.specs.Selection.{IsServable};
 ghost use Rattle.relationships.specs.Graph.{edges};
 ghost use Rattle.tor_clauses.specs.Literals.{most_edges};
 ghost use Rattle.tor_clauses.specs.Formulas.{FitsGraph, demands_of};
-ghost use Rattle.tor_orient.specs.Steps.{node_wanted, NoneLeadsOut, HasOpposites, IsSettledBy, AreSettled};
+ghost use Rattle.tor_orient.specs.Steps.{node_wanted, NoneLeadsOut, HasOpposites, IsOver, IsSettledBy, AreSettled};
 
-use crate::failing::{failing_behind, no_nodes};
+use crate::failing::{Search, failing_behind};
 use as_graph::AsGraph;
 use gao_prefs::Pref;
 use std::alloc::Global;
-use tor_arena::{ArcId, NoMemory, NodeId};
+use tor_arena::{ArcId, Index, NoMemory, NodeId};
 use tor_clauses::{Clauses, Lit, negation_node};
-use tor_digraph::{NodeSet, Reached, RowDigraph};
+use tor_digraph::{NodeSet, RowDigraph, spread};
 
 /// Settles an edge, with all that follows: by the literal that is wanted, or where this fails by the opposite of the last literal on its
 /// way that fails too. From that opposite its own follows, and so does the opposite of each literal that leads to this way, so none of
-/// them is tried again. What is settled stays so, and nothing is done where the edge was settled before. The other memory is for the
-/// search, which does not go on past what is settled.
+/// them is tried again. What is settled stays so, and nothing is done where the edge was settled before. What follows is added with no
+/// node behind, past which it would not go.
 fn settle(
-    clauses: &Clauses,
     rows: &RowDigraph<'_, NodeId, ArcId>,
     pref: &Pref,
-    tried: &mut Reached<NodeId, ArcId>,
-    behind: &mut NodeSet,
-    settled: &mut Reached<NodeId, ArcId>,
+    search: &mut Search,
+    settled: &mut NodeSet,
 ) -> Result<(), NoMemory>
-    requires rows { rows.now ≡ clauses.now.net }
     requires few { pref.now.edge < most_edges }
-    requires there { node_wanted pref.now < clauses.now.net.nodes }
-    requires count { behind.old.count ≡ clauses.now.net.nodes }
-    requires both { HasOpposites clauses.now.net.nodes }
-    requires closed { NoneLeadsOut clauses.now.net settled.old }
-    ensures count { behind.new.count ≡ behind.old.count }
-    ensures closed { OnOk result (NoneLeadsOut clauses.now.net settled.new) }
-    ensures settled { OnOk result (IsSettledBy clauses.now.net.arcs (node_wanted pref.now) settled.old.nodes settled.new.nodes) }
+    requires there { node_wanted pref.now < rows.now.nodes }
+    requires both { HasOpposites rows.now.nodes }
+    requires search { IsOver rows.now.nodes search.old }
+    requires count { settled.old.count ≡ rows.now.nodes }
+    requires closed { NoneLeadsOut rows.now.arcs settled.old.items }
+    ensures search { IsOver rows.now.nodes search.new }
+    ensures count { settled.new.count ≡ rows.now.nodes }
+    ensures closed { OnOk result (NoneLeadsOut rows.now.arcs settled.new.items) }
+    ensures settled { OnOk result (IsSettledBy rows.now.arcs (node_wanted pref.now) settled.old.items settled.new.items) }
 {
     let node = Lit::new(pref.edge, pref.wanted).node();
     if settled.has(node) {
@@ -43,71 +42,51 @@ fn settle(
     if settled.has(negation_node(node)) {
         return Ok(());
     }
-    let digraph = clauses.digraph();
-    match failing_behind(clauses, rows, node, settled, tried, behind)? {
+    let failing = failing_behind(rows, node, settled, search)?;
+    search.behind.clear();
+    match failing {
         Some(last) => {
             let other = negation_node(last);
-            digraph.reach_more(other, settled)
+            spread(rows, other, &search.behind, settled)
         }
-        None => digraph.reach_more(node, settled),
+        None => spread(rows, node, &search.behind, settled),
     }
 }
 
-/// Settles the edges of these preferences, the first of them first, where none is settled yet. The other memory is for the searches.
+/// Settles the edges of these preferences, the first of them first, where none is settled yet.
 fn settle_each(
     graph: &AsGraph,
     clauses: &Clauses,
     rows: &RowDigraph<'_, NodeId, ArcId>,
     prefs: &[Pref],
-    tried: &mut Reached<NodeId, ArcId>,
-    behind: &mut NodeSet,
-    settled: &mut Reached<NodeId, ArcId>,
+    search: &mut Search,
+    settled: &mut NodeSet,
 ) -> Result<(), NoMemory>
     requires fits { FitsGraph graph.now clauses.now }
     requires servable { IsServable (demands_of graph.now clauses.now) }
     requires inside { All (λ pref. pref.edge < length (edges graph.now)) prefs.now }
     requires rows { rows.now ≡ clauses.now.net }
-    requires count { behind.old.count ≡ clauses.now.net.nodes }
+    requires search { IsOver clauses.now.net.nodes search.old }
     requires settled { AreSettled clauses.now prefs.now 0 settled.old }
     ensures { OnOk result (AreSettled clauses.now prefs.now (length prefs.now) settled.new) }
 {
     graph.facts();
     clauses.facts();
+    prove!(rows.node_count() <= NodeId::LIMIT);
     for place in 0..prefs.len() {
-        settle(clauses, rows, &prefs[place], tried, behind, settled)?;
+        settle(rows, &prefs[place], search, settled)?;
     }
     Ok(())
 }
 
-/// The same with memory of its own for the nodes of a way.
-fn settle_with(
-    alloc: Global,
-    graph: &AsGraph,
-    clauses: &Clauses,
-    rows: &RowDigraph<'_, NodeId, ArcId>,
-    prefs: &[Pref],
-    tried: &mut Reached<NodeId, ArcId>,
-    settled: &mut Reached<NodeId, ArcId>,
-) -> Result<(), NoMemory>
-    requires fits { FitsGraph graph.now clauses.now }
-    requires servable { IsServable (demands_of graph.now clauses.now) }
-    requires inside { All (λ pref. pref.edge < length (edges graph.now)) prefs.now }
-    requires rows { rows.now ≡ clauses.now.net }
-    requires settled { AreSettled clauses.now prefs.now 0 settled.old }
-    ensures { OnOk result (AreSettled clauses.now prefs.now (length prefs.now) settled.new) }
-{
-    let mut behind = no_nodes(alloc, clauses)?;
-    settle_each(graph, clauses, rows, prefs, tried, &mut behind, settled)
-}
-
-/// The same with memory of its own for the searches too.
+/// The same with a search of its own.
 fn settle_into(
     alloc: Global,
     graph: &AsGraph,
     clauses: &Clauses,
     rows: &RowDigraph<'_, NodeId, ArcId>,
     prefs: &[Pref],
-    settled: &mut Reached<NodeId, ArcId>,
+    settled: &mut NodeSet,
 ) -> Result<(), NoMemory>
     requires fits { FitsGraph graph.now clauses.now }
     requires servable { IsServable (demands_of graph.now clauses.now) }
@@ -116,8 +95,8 @@ fn settle_into(
     requires settled { AreSettled clauses.now prefs.now 0 settled.old }
     ensures { OnOk result (AreSettled clauses.now prefs.now (length prefs.now) settled.new) }
 {
-    let mut tried = clauses.digraph().reach_none(alloc)?;
-    settle_with(alloc, graph, clauses, rows, prefs, &mut tried, settled)
+    let mut search = Search::new(alloc, rows.node_count())?;
+    settle_each(graph, clauses, rows, prefs, &mut search, settled)
 }
 
 /// What is settled when the edges of these preferences are, where the arcs of the clauses stand in rows.
@@ -127,14 +106,14 @@ fn settled_by(
     clauses: &Clauses,
     rows: &RowDigraph<'_, NodeId, ArcId>,
     prefs: &[Pref],
-) -> Result<Reached<NodeId, ArcId>, NoMemory>
+) -> Result<NodeSet, NoMemory>
     requires fits { FitsGraph graph.now clauses.now }
     requires servable { IsServable (demands_of graph.now clauses.now) }
     requires inside { All (λ pref. pref.edge < length (edges graph.now)) prefs.now }
     requires rows { rows.now ≡ clauses.now.net }
     ensures { IfOk result (AreSettled clauses.now prefs.now (length prefs.now)) }
 {
-    let mut settled = clauses.digraph().reach_none(alloc)?;
+    let mut settled = NodeSet::new(alloc, rows.node_count())?;
     settle_into(alloc, graph, clauses, rows, prefs, &mut settled)?;
     Ok(settled)
 }
@@ -145,7 +124,7 @@ pub(crate) fn settle_all(
     graph: &AsGraph,
     clauses: &Clauses,
     prefs: &[Pref],
-) -> Result<Reached<NodeId, ArcId>, NoMemory>
+) -> Result<NodeSet, NoMemory>
     requires fits { FitsGraph graph.now clauses.now }
     requires servable { IsServable (demands_of graph.now clauses.now) }
     requires inside { All (λ pref. pref.edge < length (edges graph.now)) prefs.now }

@@ -3,7 +3,7 @@ use Rattle.std.proofs.lemmas.Bool.{false≢true}
 use Rattle.std.proofs.lemmas.Result.{on_ok_weaker}
 use Rattle.tor_digraph.specs.Walks.{Net}
 use Rattle.tor_digraph.specs.Reached.{IsGrown}
-use Rattle.forced_edges.specs.Nodes.{IsClosed}
+use Rattle.tor_digraph.specs.Spreading.{IsClosed}
 use Rattle.forced_edges.proofs.probing.probe_order.Goals as goal
 
 pub spread-requires-clause-closed : goal.spread-requires-clause-closed

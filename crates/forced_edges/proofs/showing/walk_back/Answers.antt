@@ -1,5 +1,5 @@
 use Rattle.tor_clauses.specs.Literals.{opposite_node}
-use Rattle.forced_edges.proofs.Sets.{if_ok_weaker}
+use Rattle.tor_digraph.proofs.Searches.{if_ok_weaker}
 use Rattle.forced_edges.proofs.showing.walk_back.Goals as goal
 
 pub walk_along-requires-clause-way : goal.walk_along-requires-clause-way

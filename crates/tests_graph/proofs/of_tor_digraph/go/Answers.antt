@@ -5,10 +5,4 @@ use Rattle.tests_graph.proofs.of_tor_digraph.go.Goals as goal
 
 pub reach_near-requires-clause-flooded : goal.reach_near-requires-clause-flooded
 reach_near-requires-clause-flooded c =
-    subst (λ (n : Net ℕ). IsFlooded (λ n. n) (λ a. a) n.nodes n.arcs c.args.past.now.nodes c.reach_none_again.new.reached) (sym c.in_ok-rows.ensures)
-    (c.in_ok-reach_none_again.ensures.flooded c.args.past.now.nodes)
-
-pub reach_near_to-requires-clause-flooded : goal.reach_near_to-requires-clause-flooded
-reach_near_to-requires-clause-flooded c =
-    subst (λ (n : Net ℕ). IsFlooded (λ n. n) (λ a. a) n.nodes n.arcs c.args.past.now.nodes c.reach_none_again.new.reached) (sym c.in_ok-rows.ensures)
-    (c.in_ok-reach_none_again.ensures.flooded c.args.past.now.nodes)
+    subst (λ (n : Net ℕ). IsFlooded (λ n. n) (λ a. a) n.nodes n.arcs c.args.past.now.nodes c.args.reached.now) (sym c.in_ok-rows.ensures) (c.requires c.args.past.now.nodes)

@@ -1,61 +1,54 @@
-use Rattle.std.proofs.Common.{◌∙◌, sym, subst, arith, Contains}
+use Rattle.std.proofs.Common.{◌∙◌, subst, arith, Contains}
+use Rattle.std.proofs.lemmas.Option.{slice_get_within}
 use Rattle.tor_digraph.specs.Walks.{here}
 use Rattle.tor_clauses.specs.Literals.{opposite_node}
-use Rattle.tor_orient.proofs.WayBack.{step_of, tail_found, leads_more, leads_none}
+use Rattle.tor_orient.proofs.WayBack.{last_stands, origin_before, origin_arc, leads_more}
 use Rattle.tor_orient.proofs.failing.last_failing.Goals as goal
 
-pub loop-step-init : goal.loop-step-init
-loop-step-init c = record {
-  found = subst (Contains c.args.tried.now.nodes) (sym c.negation_node-node.ensures) c.requires.found;
-  count = c.clear.ensures.count;
-  leads = λ arcs tree n h. leads_none c.clear.new.self.items n c.clear.ensures.none h;
-}
-
-pub loop-step-preserved : goal.loop-step-preserved
-loop-step-preserved c =
-    let tried = c.args.tried.now in
-    let step = step_of c.args.tried.now.found c.loop-step.node c.last_step.result c.in-Some.step c.in-Some.is c.last_step.ensures.step in
-    let node = c.loop-step.node in
-    record {
-      found = tail_found tried.nodes tried.found c.requires.before node c.in-Some.step.0 c.in-Some.step.1 c.loop-step.invariant.found step;
-      count = c.add.ensures.count ∙ c.loop-step.invariant.count;
-      leads = λ arcs tree n h. leads_more arcs tried.found tree node c.in-Some.step.0 c.in-Some.step.1 step c.in_ok-add.field-0
-          c.loop-step.behind.items c.add.new.self.items c.in_ok-add.ensures.added (c.loop-step.invariant.leads arcs tree) n h;
-    }
-
-pub add-requires : goal.add-requires
-add-requires c =
-    let lt = c.requires.inside c.loop-step.node c.loop-step.invariant.found in
-    omega (arith, lt, c.loop-step.invariant.count)
-
-pub has-requires : goal.has-requires
-has-requires c =
-    let tried = c.args.tried.now in
-    let step = step_of c.args.tried.now.found c.loop-step.node c.last_step.result c.in-Some.step c.in-Some.is c.last_step.ensures.step in
-    let tail = c.in-Some.step.0 in
-    let found = tail_found tried.nodes tried.found c.requires.before c.loop-step.node tail c.in-Some.step.1 c.loop-step.invariant.found step in
-    let lt = c.requires.both tail (c.requires.inside tail found) in
-    omega (arith, lt, c.negation_node.ensures, c.add.ensures.count, c.loop-step.invariant.count)
-
-pub returns-then-has-clause-there : goal.returns-then-has-clause-there
-returns-then-has-clause-there c =
-    let tried = c.args.tried.now in
-    let step = step_of c.args.tried.now.found c.loop-step.node c.last_step.result c.in-Some.step c.in-Some.is c.last_step.ensures.step in
-    let tail = c.in-Some.step.0 in
-    c.requires.inside tail (tail_found tried.nodes tried.found c.requires.before c.loop-step.node tail c.in-Some.step.1 c.loop-step.invariant.found step)
+pub get-node-requires : goal.get-node-requires
+get-node-requires c =
+    let t = c.requires.trail in
+    let lt = origin_before t.0 c.args.start c.args.tried.now t.1 c.loop-place.place c.get.result c.origin_of-place.result c.loop-place-test.true
+    c.get.ensures.node c.origin_of-place.ensures in
+    let there = c.loop-place.invariant.there in
+    omega (arith, lt, there)
 
 pub returns-then-has-clause-failing : goal.returns-then-has-clause-failing
-returns-then-has-clause-failing c = λ arcs tree reached.
+returns-then-has-clause-failing c = λ arcs t.
     let tried = c.args.tried.now in
-    let node = c.loop-step.node in
-    let tail = c.in-Some.step.0 in
-    let step = step_of c.args.tried.now.found c.loop-step.node c.last_step.result c.in-Some.step c.in-Some.is c.last_step.ensures.step in
+    let o = c.origin_of-place.result in
+    let node = c.get.result in
+    let tail = c.get-node.result in
     let new = c.add.new.self.items in
+    let arc = origin_arc arcs c.args.start tried t c.loop-place.place node tail o c.loop-place-test.true c.get.ensures.node c.origin_of-place.ensures c.get-node.ensures.node in
     let behind : Contains new (opposite_node tail) = subst (Contains new) c.negation_node.ensures (c.has.ensures.0 c.if-has.true) in (
-      reached tail (tail_found tried.nodes tried.found c.requires.before node tail c.in-Some.step.1 c.loop-step.invariant.found step),
-      leads_more arcs tried.found tree node tail c.in-Some.step.1 step c.in_ok-add.field-0 c.loop-step.behind.items new c.in_ok-add.ensures.added
-          (c.loop-step.invariant.leads arcs tree) (opposite_node tail) behind,
+      t.reached o.place tail c.get-node.ensures.node,
+      leads_more arcs node tail arc c.in_ok-add.field-0 c.loop-place.behind.items new c.in_ok-add.ensures.added
+          (λ n h. c.loop-place.invariant.leads arcs t node n c.get.ensures.node h) (opposite_node tail) behind,
     )
 
+pub loop-place-smaller : goal.loop-place-smaller
+loop-place-smaller c =
+    let t = c.requires.trail in
+    origin_before t.0 c.args.start c.args.tried.now t.1 c.loop-place.place c.get.result c.origin_of-place.result c.loop-place-test.true
+    c.get.ensures.node c.origin_of-place.ensures
+
+pub loop-place-preserved : goal.loop-place-preserved
+loop-place-preserved c =
+    let tried = c.args.tried.now in
+    let o = c.origin_of-place.result in
+    let node = c.get.result in
+    let tail = c.get-node.result in
+    record {
+      there = slice_get_within tried.nodes.items o.place tail c.get-node.ensures.node;
+      count = c.add.ensures.count ∙ c.loop-place.invariant.count;
+      leads = λ arcs t m n at h.
+          let arc = origin_arc arcs c.args.start tried t c.loop-place.place node m o c.loop-place-test.true c.get.ensures.node c.origin_of-place.ensures at in
+          leads_more arcs node m arc c.in_ok-add.field-0 c.loop-place.behind.items c.add.new.self.items c.in_ok-add.ensures.added
+          (λ n h. c.loop-place.invariant.leads arcs t node n c.get.ensures.node h) n h;
+    }
+
 pub returns-clause-failing : goal.returns-clause-failing
-returns-clause-failing c = λ arcs tree reached. (here, reached (opposite_node c.args.start) c.requires.found)
+returns-clause-failing c = λ arcs t.
+    let last = last_stands (opposite_node c.args.start) c.args.tried.now.nodes.items c.requires.found in
+    (here, t.reached last.0 (opposite_node c.args.start) last.1)

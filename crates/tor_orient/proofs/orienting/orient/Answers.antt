@@ -14,7 +14,7 @@ use Rattle.tor_orient.proofs.orienting.orient.Goals as goal
 
 pub returns-clause-many : goal.returns-clause-many
 returns-clause-many c =
-    let settled = c.in_ok-settled.settled.nodes in
+    let settled = c.in_ok-settled.settled.items in
     let count = c.edge_count.result in
     IfOk-weaker c.settled_ends.result (λ (o : List End). (length o ≡ count) × AreEndsOf settled o) (λ (o : List End). length o ≡ length (edges c.args.graph.now))
     (λ o is. is.0 ∙ c.edge_count.ensures.count) c.settled_ends.ensures
@@ -25,7 +25,7 @@ returns-clause-serves c =
     let f = c.args.clauses.now in
     let settled = c.in_ok-settled.settled in
     let count = c.edge_count.result in
-    IfOk-weaker c.settled_ends.result (λ (o : List End). (length o ≡ count) × AreEndsOf settled.nodes o) (IsServed graph f.paths)
+    IfOk-weaker c.settled_ends.result (λ (o : List End). (length o ≡ count) × AreEndsOf settled.items o) (IsServed graph f.paths)
     (λ o is. serves graph f c.facts.ensures.apart c.requires.fits c.args.prefs.now settled o c.in_ok-settled.ensures c.requires.inside c.requires.each (is.0 ∙ c.edge_count.ensures.count) is.1
     c.model_law.ensures)
     c.settled_ends.ensures
@@ -38,7 +38,7 @@ returns-clause-preferred c =
     let es = edges graph in
     let settled = c.in_ok-settled.settled in
     let count = c.edge_count.result in
-    IfOk-weaker c.settled_ends.result (λ (o : List End). (length o ≡ count) × AreEndsOf settled.nodes o)
+    IfOk-weaker c.settled_ends.result (λ (o : List End). (length o ≡ count) × AreEndsOf settled.items o)
     (λ (o : List End). IsPreferred (paths_at graph f.paths) (wish es prefs) (edges_preferred es prefs) (orientation es o))
     (λ o is. preferred graph f c.facts.ensures.apart c.requires.fits prefs settled o c.in_ok-settled.ensures c.requires.inside c.requires.each (is.0 ∙ c.edge_count.ensures.count) is.1
     c.model_law.ensures (wish es prefs) (wishes graph prefs c.requires.inside c.requires.apart))
@@ -52,7 +52,7 @@ returns-clause-wishes c =
     let es = edges graph in
     let settled = c.in_ok-settled.settled in
     let count = c.edge_count.result in
-    IfOk-weaker c.settled_ends.result (λ (o : List End). (length o ≡ count) × AreEndsOf settled.nodes o)
+    IfOk-weaker c.settled_ends.result (λ (o : List End). (length o ≡ count) × AreEndsOf settled.items o)
     (λ (o : List End). (wanted : Edge → End) → AreWishes es prefs wanted → IsPreferred (paths_at graph f.paths) wanted (edges_preferred es prefs) (orientation es o))
     (λ o is. preferred graph f c.facts.ensures.apart c.requires.fits prefs settled o c.in_ok-settled.ensures c.requires.inside c.requires.each (is.0 ∙ c.edge_count.ensures.count) is.1
     c.model_law.ensures)

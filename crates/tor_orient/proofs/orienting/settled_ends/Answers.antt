@@ -8,6 +8,6 @@ pub returns : goal.returns
 returns c =
     let made = c.loop-place.ends.items in
     let many : length made ≡ c.args.count = search rules in
-    IfOk-weaker c.from_slice.result (λ (o : List End). o ≡ c.as_slice.result.now) (λ (o : List End). (length o ≡ c.args.count) × AreEndsOf c.args.settled.now.nodes o)
-    (λ o same. subst (λ (l : List End). (length l ≡ c.args.count) × AreEndsOf c.args.settled.now.nodes l) (sym (same ∙ c.as_slice.ensures.value)) (many, c.loop-place.invariant.1))
+    IfOk-weaker c.from_slice.result (λ (o : List End). o ≡ c.as_slice.result.now) (λ (o : List End). (length o ≡ c.args.count) × AreEndsOf c.args.settled.now.items o)
+    (λ o same. subst (λ (l : List End). (length l ≡ c.args.count) × AreEndsOf c.args.settled.now.items l) (sym (same ∙ c.as_slice.ensures.value)) (many, c.loop-place.invariant.1))
     c.from_slice.ensures

@@ -3,4 +3,4 @@ use Rattle.tor_orient.specs.Steps.{AreEndsOf}
 use Rattle.tor_orient.proofs.orienting.settled_ends.Given as goal
 
 abbrev pub invariant-loop-place : goal.invariant-loop-place
-invariant-loop-place l = (length l.ends.items ≡ l.place) × AreEndsOf l.settled.nodes l.ends.items
+invariant-loop-place l = (length l.ends.items ≡ l.place) × AreEndsOf l.settled.items l.ends.items

@@ -4,7 +4,7 @@ use Rattle.std.proofs.lemmas.Bool.{false≢true}
 use Rattle.tor_digraph.specs.Walks.{Net}
 use Rattle.tor_digraph.specs.Reached.{IsGrown}
 use Rattle.tor_clauses.specs.Literals.{opposite_node}
-use Rattle.forced_edges.specs.Nodes.{IsClosed}
+use Rattle.tor_digraph.specs.Spreading.{IsClosed}
 use Rattle.forced_edges.specs.Trials.{IsClash, AreAllPassed}
 use Rattle.forced_edges.proofs.Helds.{held_along}
 use Rattle.forced_edges.proofs.Settlings.{grown-cases, together_more, together_kept}

@@ -1,5 +1,5 @@
 use Rattle.std.proofs.Common.{◌-◌}
-use Rattle.forced_edges.specs.Nodes.{Stays}
+use Rattle.tor_digraph.specs.Spreading.{Stays}
 use Rattle.forced_edges.specs.Settling.{IsShowing, AreClosedTo}
 use Rattle.forced_edges.proofs.showing.Shown.show_from.Given as goal
 

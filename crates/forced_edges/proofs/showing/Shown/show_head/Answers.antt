@@ -1,4 +1,4 @@
-use Rattle.forced_edges.proofs.Sets.{added_stays}
+use Rattle.tor_digraph.proofs.Spreadings.{added_stays}
 use Rattle.tor_digraph.proofs.NodeSets.{added_there}
 use Rattle.forced_edges.proofs.Settlings.{showing_head}
 use Rattle.forced_edges.proofs.showing.Shown.show_head.Goals as goal

@@ -2,7 +2,7 @@ use Rattle.std.proofs.Common.{◌≡◌, ℕ, inl, inr, refl, sym, ap, ◌∙◌
 use Rattle.std.specs.Prelude.{slice_get}
 use Rattle.std.proofs.lemmas.Bool.{cases_lt}
 use Rattle.std.proofs.lemmas.Option.{same_Some, slice_get_within}
-use Rattle.forced_edges.proofs.Sets.{stays_contained}
+use Rattle.tor_digraph.proofs.Spreadings.{stays_contained}
 use Rattle.tor_digraph.proofs.Members.{read-at}
 use Rattle.forced_edges.proofs.showing.Shown.show_heads.Goals as goal
 

@@ -1,6 +1,6 @@
 use Rattle.std.proofs.Common.{◌≡◌, ℕ, ◌<◌, Some, Contains}
 use Rattle.std.specs.Prelude.{slice_get}
-use Rattle.forced_edges.specs.Nodes.{Stays}
+use Rattle.tor_digraph.specs.Spreading.{Stays}
 use Rattle.forced_edges.specs.Settling.{IsShowing}
 use Rattle.forced_edges.proofs.showing.Shown.show_heads.Given as goal
 

@@ -2,7 +2,7 @@ use Rattle.std.proofs.Common.{subst}
 use Rattle.std.proofs.lemmas.Result.{on_ok_weaker}
 use Rattle.tor_clauses.specs.Literals.{opposite_node}
 use Rattle.tor_digraph.specs.NodeSets.{IsAdded}
-use Rattle.forced_edges.proofs.Sets.{added_stays, stays_contained}
+use Rattle.tor_digraph.proofs.Spreadings.{added_stays, stays_contained}
 use Rattle.tor_digraph.proofs.NodeSets.{added_there}
 use Rattle.forced_edges.proofs.Settlings.{with_walk, showing_first, closed_to}
 use Rattle.forced_edges.proofs.showing.Shown.show_opposite.Goals as goal

@@ -1,5 +1,5 @@
 use Rattle.std.proofs.Common.{◌≡◌}
-use Rattle.forced_edges.specs.Nodes.{Stays}
+use Rattle.tor_digraph.specs.Spreading.{Stays}
 use Rattle.forced_edges.specs.Trials.{StaysTrial, ArePassed}
 use Rattle.forced_edges.proofs.Trying.{AreHeadsPassed}
 use Rattle.forced_edges.proofs.trial.Trial.scan.Given as goal

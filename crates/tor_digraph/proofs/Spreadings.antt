@@ -1,6 +1,6 @@
 -- Sets of nodes, and a search that adds to one.
 use Rattle.std.proofs.Common.{◌≡◌, ℕ, ◌+◌, ◌<◌, ◌≤◌, ◌⊎◌, inl, inr, Bool, List, [], ◌∷◌, ◌++◌, Some, length, sym, ap, ◌∙◌, subst, arith, Contains}
-use Rattle.std.specs.Prelude.{slice_get, Result, Ok, Err, IfOk}
+use Rattle.std.specs.Prelude.{slice_get}
 use Rattle.std.proofs.lemmas.Bool.{cases_lt}
 use Rattle.std.proofs.lemmas.Option.{same_Some, slice_get_within}
 use Rattle.tor_digraph.specs.Walks.{HasArc, Reaches, here, along}
@@ -8,7 +8,7 @@ use Rattle.tor_digraph.specs.InRows.{IsRow}
 use Rattle.tor_digraph.specs.Reached.{IsGrown}
 use Rattle.tor_arena.proofs.Gets.{has-from_Contains, Contains-from_has, slice_get-some, slice_get-push_old, slice_get-push_cases}
 use Rattle.tor_digraph.specs.NodeSets.{IsAdded}
-use Rattle.forced_edges.specs.Nodes.{IsEntered, Stays, HasLooked, IsClosed}
+use Rattle.tor_digraph.specs.Spreading.{IsEntered, Stays, HasLooked, IsClosed}
 use Rattle.tor_digraph.proofs.Members.{Contains-more, Contains-last}
 use Rattle.tor_digraph.proofs.NodeSets.{added_there}
 
@@ -147,9 +147,3 @@ spreading_done arcs past start old nodes at so le x y h arc =
     let has = has-from_Contains nodes x h in
     let lt = slice_get_within nodes has.0 x has.1 in
     so.heads has.0 x y (omega (arith, lt, le)) has.1 arc
-
--- ---- results
-
-pub if_ok_weaker : {T E : Type 0} {P Q : T → Type 0} (r : Result T E) → ((x : T) → P x → Q x) → IfOk r P → IfOk r Q
-if_ok_weaker (Ok x) f h = f x h
-if_ok_weaker (Err e) f h = h

@@ -1,7 +1,7 @@
 use Rattle.std.proofs.Common.{refl, ◌∙◌, arith}
-use Rattle.forced_edges.proofs.Sets.{looking_begins, looking_next, looking_done}
+use Rattle.tor_digraph.proofs.Spreadings.{looking_begins, looking_next, looking_done}
 use Rattle.tor_digraph.proofs.Members.{read-at}
-use Rattle.forced_edges.proofs.spreading.look.Goals as goal
+use Rattle.tor_digraph.proofs.spreading.look.Goals as goal
 
 pub loop-entry-init : goal.loop-entry-init
 loop-entry-init c = record {

@@ -1,6 +1,6 @@
 use Rattle.std.proofs.Common.{◌≡◌, ◌-◌}
-use Rattle.forced_edges.proofs.Sets.{IsSpreading}
-use Rattle.forced_edges.proofs.spreading.spread.Given as goal
+use Rattle.tor_digraph.proofs.Spreadings.{IsSpreading}
+use Rattle.tor_digraph.proofs.spreading.spread.Given as goal
 
 abbrev pub invariant-loop-at : goal.invariant-loop-at
 invariant-loop-at l = record {

@@ -1,10 +1,11 @@
-//! A search that adds all that an order leads to.
+//! A search that adds to a set all that a node leads to.
 ghost use Rattle.std.specs.Prelude.{◌≡◌, ◌<◌, OnOk};
 ghost use Rattle.tor_digraph.specs.Reached.{IsGrown};
-ghost use Rattle.forced_edges.specs.Nodes.{IsEntered, HasLooked, IsClosed};
+ghost use Rattle.tor_digraph.specs.Spreading.{IsEntered, HasLooked, IsClosed};
 
+use crate::node_set::NodeSet;
+use crate::rows::RowDigraph;
 use tor_arena::{ArcId, Index, NoMemory, NodeId};
-use tor_digraph::{NodeSet, RowDigraph};
 
 /// Adds a node, unless it is there, or one past which the search does not go.
 fn meet(node: NodeId, past: &NodeSet, found: &mut NodeSet) -> Result<(), NoMemory>
@@ -13,6 +14,9 @@ fn meet(node: NodeId, past: &NodeSet, found: &mut NodeSet) -> Result<(), NoMemor
     ensures count { found.new.count ≡ found.old.count }
     ensures met { OnOk result (IsEntered past.now.items node found.old.items found.new.items) }
 {
+    if found.has(node) {
+        return Ok(());
+    }
     if !past.has(node) {
         found.add(node)?;
     }
@@ -40,8 +44,9 @@ fn look(
     Ok(())
 }
 
-/// Adds a node and all that it leads to, the nearest first, but not past the nodes of `past`.
-pub(crate) fn spread(
+/// Adds a node and all that it leads to, the nearest first, but not past the nodes of `past`. The node has to be there, and an arc out
+/// of what was found before has to lead to that or to `past`. The only error is that memory ran out.
+pub fn spread(
     rows: &RowDigraph<'_, NodeId, ArcId>,
     start: NodeId,
     past: &NodeSet,

@@ -1,6 +1,6 @@
 use Rattle.std.proofs.Common.{◌∙◌, arith}
-use Rattle.forced_edges.proofs.Sets.{spreading_begins, spreading_next, spreading_done}
-use Rattle.forced_edges.proofs.spreading.spread.Goals as goal
+use Rattle.tor_digraph.proofs.Spreadings.{spreading_begins, spreading_next, spreading_done}
+use Rattle.tor_digraph.proofs.spreading.spread.Goals as goal
 
 pub loop-at-init : goal.loop-at-init
 loop-at-init c = record {

@@ -1,5 +1,4 @@
--- Sets of nodes, and what a search over the arcs adds to one. These words are the marking's own: no reader of a public clause needs
--- them.
+-- Sets of nodes, and what a search over the arcs adds to one. A reader of a public clause needs only IsClosed.
 use Rattle.std.specs.Prelude.{◌≡◌, ◌⊎◌, ℕ, ◌≤◌, List, [], ◌∷◌, ◌++◌, Some, slice_get, length, Contains}
 use Rattle.tor_digraph.specs.Walks.{HasArc}
 

@@ -1,6 +1,6 @@
 use Rattle.std.proofs.Common.{◌≡◌}
-use Rattle.forced_edges.proofs.Sets.{IsLooking}
-use Rattle.forced_edges.proofs.spreading.look.Given as goal
+use Rattle.tor_digraph.proofs.Spreadings.{IsLooking}
+use Rattle.tor_digraph.proofs.spreading.look.Given as goal
 
 abbrev pub invariant-loop-entry : goal.invariant-loop-entry
 invariant-loop-entry l = record {
