@@ -1,15 +1,13 @@
 -- A search over orders that the labels do not have.
-use Rattle.std.proofs.Common.{◌≡◌, ℕ, ◌+◌, ◌<◌, ◌≤◌, ◌⊎◌, inl, inr, not, List, [], ◌∷◌, Some, length, sym, ap, ◌∙◌, subst, arith, IsTrue, Contains}
+use Rattle.std.proofs.Common.{◌≡◌, ℕ, ◌+◌, ◌<◌, ◌≤◌, ◌⊎◌, inl, inr, not, List, [], Some, length, sym, ap, ◌∙◌, subst, arith, IsTrue, Contains}
 use Rattle.std.specs.Prelude.{slice_get}
 use Rattle.std.proofs.lemmas.Bool.{cases_Bool, cases_lt, false≢true}
-use Rattle.std.proofs.lemmas.List.{length_push}
 use Rattle.std.proofs.lemmas.Option.{same_Some, slice_get_within}
-use Rattle.tor_arena.proofs.Gets.{has-from_Contains, Contains-from_has, slice_get-some, slice_get-push_old, slice_get-push_cases, slice_get-push_last}
+use Rattle.tor_arena.proofs.Gets.{has-from_Contains, Contains-from_has, slice_get-some}
 use Rattle.tor_digraph.specs.Walks.{IsArc, HasArc, Reaches}
 use Rattle.tor_digraph.specs.Walks as walks
 use Rattle.tor_digraph.specs.InRows.{IsRow}
 use Rattle.tor_digraph.proofs.Closings.{reaches_trans}
-use Rattle.tor_digraph.proofs.Members.{Contains-last}
 use Rattle.tor_clauses.specs.Literals.{opposite_node}
 use Rattle.tor_clauses.specs.Flipping.{HasPartners, IsKeptAlong, ReachesOff}
 use Rattle.tor_clauses.specs.Flipping as flipping

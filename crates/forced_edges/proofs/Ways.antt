@@ -4,7 +4,7 @@ use Rattle.std.specs.Prelude.{slice_get}
 use Rattle.std.proofs.lemmas.List.{length_push}
 use Rattle.std.proofs.lemmas.Option.{slice_get_within}
 use Rattle.tor_digraph.specs.Walks.{IsArc}
-use Rattle.tor_arena.proofs.Gets.{slice_get-push_old, slice_get-push_cases, slice_get-push_last, slice_get-some}
+use Rattle.tor_arena.proofs.Gets.{slice_get-push_old, slice_get-push_cases, slice_get-push_last}
 use Rattle.tor_clauses.specs.Leading.{IsPlainWay}
 use Rattle.tor_digraph.specs.Trails.{StandsAt}
 use Rattle.forced_edges.specs.Going.{IsChain}
