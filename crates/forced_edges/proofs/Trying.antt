@@ -1,112 +1,33 @@
 -- A search over orders that the labels do not have.
-use Rattle.std.proofs.Common.{◌≡◌, ℕ, ◌+◌, ◌<◌, ◌≤◌, ◌⊎◌, inl, inr, not, List, [], ◌∷◌, Some, length, sym, ap, ◌∙◌, subst, arith, IsTrue, Contains}
+use Rattle.std.proofs.Common.{◌≡◌, ℕ, ◌+◌, ◌<◌, ◌≤◌, ◌⊎◌, inl, inr, not, List, [], Some, length, sym, ap, ◌∙◌, subst, arith, IsTrue, Contains}
 use Rattle.std.specs.Prelude.{slice_get}
 use Rattle.std.proofs.lemmas.Bool.{cases_Bool, cases_lt, false≢true}
-use Rattle.std.proofs.lemmas.List.{length_push}
 use Rattle.std.proofs.lemmas.Option.{same_Some, slice_get_within}
-use Rattle.tor_arena.proofs.Gets.{has-from_Contains, Contains-from_has, slice_get-some, slice_get-push_old, slice_get-push_cases, slice_get-push_last}
+use Rattle.tor_arena.proofs.Gets.{has-from_Contains, Contains-from_has, slice_get-some}
 use Rattle.tor_digraph.specs.Walks.{IsArc, HasArc, Reaches}
 use Rattle.tor_digraph.specs.Walks as walks
 use Rattle.tor_digraph.specs.InRows.{IsRow}
 use Rattle.tor_digraph.proofs.Closings.{reaches_trans}
-use Rattle.tor_digraph.proofs.Members.{Contains-last}
 use Rattle.tor_clauses.specs.Literals.{opposite_node}
 use Rattle.tor_clauses.specs.Flipping.{HasPartners, IsKeptAlong, ReachesOff}
 use Rattle.tor_clauses.specs.Flipping as flipping
 use Rattle.tor_clauses.proofs.LiteralLemmas.{opposite_node_twice}
 use Rattle.tor_clauses.proofs.Flips.{reach_back, reach_from, off_law}
-use Rattle.forced_edges.specs.declared.trial.Origin.{Origin}
-use Rattle.forced_edges.specs.declared.trial.Trial.{Trial}
+use Rattle.tor_digraph.specs.Trails.{StandsAt, IsTrail}
+use Rattle.tor_digraph.specs.declared.trail.Trail.{Trail}
 use Rattle.tor_digraph.specs.Spreading.{Stays, IsClosed}
 use Rattle.forced_edges.specs.Held.{held}
 use Rattle.forced_edges.specs.Posing.{Posed}
-use Rattle.forced_edges.specs.Trials.{StandsAt, IsFound, IsTrial, StaysTrial, Tries, origin_at, IsHeadFrom, IsClash, IsPassed, ArePassed, AreAllPassed}
+use Rattle.forced_edges.specs.Trials.{IsClash, IsPassed, ArePassed, AreAllPassed}
 use Rattle.forced_edges.proofs.Helds.{held_one}
 use Rattle.tor_digraph.proofs.Spreadings.{stays_contained}
 use Rattle.forced_edges.proofs.Settlings.{near-walk}
 
--- ---- one node more
-
-pub tries_stays : (node place arc : ℕ) (old new : Trial) → Tries node place arc old new → Stays old.nodes.items new.nodes.items
-tries_stays node place arc old new (inl h) k x at = ap (λ (l : List ℕ). slice_get l k) h.0 ∙ slice_get-push_old old.nodes.items (node ∷ []) k x at
-tries_stays node place arc old new (inr h) k x at = ap (λ (l : List ℕ). slice_get l k) h.1 ∙ at
-
-pub tries_there : (node place arc : ℕ) (old new : Trial) → Tries node place arc old new → Contains new.nodes.items node
-tries_there node place arc old new (inl h) = subst (λ (l : List ℕ). Contains l node) (sym h.0) (Contains-last old.nodes.items node)
-tries_there node place arc old new (inr h) = subst (λ (l : List ℕ). Contains l node) (sym h.1) h.0
+-- ---- a clash
 
 module _ (arcs : List (ℕ × ℕ)) where
-  found_more : (old new : Trial) → Stays old.nodes.items new.nodes.items → ((k : ℕ) (o : Origin) → slice_get old.origins k ≡ Some o → slice_get new.origins k ≡ Some o) →
-      (k x : ℕ) → IsFound arcs old k x → IsFound arcs new k x
-  found_more old new stays kept k x f = record {
-    origin = f.origin;
-    noted = kept k f.origin f.noted;
-    before = f.before;
-    tail = f.tail;
-    there = stays f.origin.place f.tail f.there;
-    arc = f.arc;
-  }
-
-  -- the head of an arc from a node to which the search has come
-  pub trial_tries : (node place arc : ℕ) (old new : Trial) → IsHeadFrom arcs old.nodes.items place arc node → Tries node place arc old new → StaysTrial arcs old new
-  trial_tries node place arc old new from (inr h) start t = record {
-    many = ap length h.2 ∙ t.many ∙ sym (ap length h.1);
-    first = ap (λ (l : List ℕ). slice_get l 0) h.1 ∙ t.first;
-    reached = λ k x at. t.reached k x (back k x at);
-    found = λ k x at. elim (t.found k x (back k x at)) [
-      | inl none ↦ inl none
-      | inr f ↦ inr (found_more old new (tries_stays node place arc old new (inr h)) (λ j o there. ap (λ (l : List Origin). slice_get l j) h.2 ∙ there) k x f)
-    ];
-  }
-    where
-      back : (k x : ℕ) → StandsAt new.nodes.items k x → StandsAt old.nodes.items k x
-      back k x at = sym (ap (λ (l : List ℕ). slice_get l k) h.1) ∙ at
-  trial_tries node place arc old new from (inl h) start t = record {
-    many = ap length h.1 ∙ length_push old.origins (origin_at place arc) ∙ ap (λ n. n + 1) t.many ∙ sym (length_push old.nodes.items node) ∙ sym (ap length h.0);
-    first = stays 0 start t.first;
-    reached = λ k x at. elim (cases k x at) [
-      | inl was ↦ t.reached k x was
-      | inr last ↦ walks.along (t.reached place from.0 from.2) (arc, subst (IsArc arcs arc from.0) (sym last.1) from.1)
-    ];
-    found = λ k x at. elim (cases k x at) [
-      | inl was ↦ elim (t.found k x was) [
-        | inl none ↦ inl none
-        | inr f ↦ inr (found_more old new stays kept k x f)
-      ]
-      | inr last ↦ inr (record {
-        origin = origin_at place arc;
-        noted = ap (slice_get new.origins) (last.0 ∙ sym t.many) ∙ ap (λ (l : List Origin). slice_get l (length old.origins)) h.1 ∙ slice_get-push_last old.origins (origin_at place arc);
-        before = let lt = slice_get_within old.nodes.items place from.0 from.2 in let e = last.0 in omega (arith, lt, e);
-        tail = from.0;
-        there = stays place from.0 from.2;
-        arc = subst (IsArc arcs arc from.0) (sym last.1) from.1;
-      })
-    ];
-  }
-    where
-      cases : (k x : ℕ) → StandsAt new.nodes.items k x → StandsAt old.nodes.items k x ⊎ ((k ≡ length old.nodes.items) × (x ≡ node))
-      cases k x at = slice_get-push_cases old.nodes.items node k x (sym (ap (λ (l : List ℕ). slice_get l k) h.0) ∙ at)
-
-      stays : Stays old.nodes.items new.nodes.items
-      stays = tries_stays node place arc old new (inl h)
-
-      kept : (k : ℕ) (o : Origin) → slice_get old.origins k ≡ Some o → slice_get new.origins k ≡ Some o
-      kept k o at = ap (λ (l : List Origin). slice_get l k) h.1 ∙ slice_get-push_old old.origins (origin_at place arc ∷ []) k o at
-
-  -- the start alone
-  pub trial_begun : (trial : Trial) (start : ℕ) → trial.nodes.items ≡ start ∷ [] → length trial.origins ≡ 1 → IsTrial arcs start trial
-  trial_begun trial start e one = record {
-    many = one ∙ sym (ap length e);
-    first = ap (λ (l : List ℕ). slice_get l 0) e;
-    reached = λ k x at. elim (cases k x at) [ inl was ↦ absurd (let bad = was in cc) | inr last ↦ subst (Reaches arcs start) (sym last.1) walks.here ];
-    found = λ k x at. elim (cases k x at) [ inl was ↦ absurd (let bad = was in cc) | inr last ↦ inl last.0 ];
-  }
-    where
-      cases : (k x : ℕ) → StandsAt trial.nodes.items k x → StandsAt [] k x ⊎ ((k ≡ 0) × (x ≡ start))
-      cases k x at = slice_get-push_cases [] start k x (sym (ap (λ (l : List ℕ). slice_get l k) e) ∙ at)
-
   -- where an arc clashes, the start leads to its opposite
-  pub clash_leads : HasPartners arcs → (trial : Trial) (start clash : ℕ) → IsTrial arcs start trial → IsClash arcs trial.nodes.items clash → Reaches arcs start (opposite_node start)
+  pub clash_leads : HasPartners arcs → (trial : Trail) (start clash : ℕ) → IsTrail arcs start trial → IsClash arcs trial.nodes.items clash → Reaches arcs start (opposite_node start)
   clash_leads partners trial start clash t c =
       let u = has-from_Contains trial.nodes.items c.0 c.3 in
       let v = has-from_Contains trial.nodes.items (opposite_node c.1) c.4 in
@@ -179,8 +100,8 @@ module _ (posed : Posed) (partners : HasPartners posed.formula.net.arcs) (kept :
   reaches_by (flipping.along r arc f) = walks.along (reaches_by r) arc
 
   -- an order from which it has come to no clash does not lead to its opposite, where nothing that was passed leads there
-  pub no_way : (shown past : List ℕ) (start : ℕ) (trial : Trial) → IsClosed posed.formula.net.arcs [] shown → (Contains shown (opposite_node start) → ⊥) →
-      IsClosed posed.formula.net.arcs shown past → (Contains past (opposite_node start) → ⊥) → IsTrial posed.formula.net.arcs start trial →
+  pub no_way : (shown past : List ℕ) (start : ℕ) (trial : Trail) → IsClosed posed.formula.net.arcs [] shown → (Contains shown (opposite_node start) → ⊥) →
+      IsClosed posed.formula.net.arcs shown past → (Contains past (opposite_node start) → ⊥) → IsTrail posed.formula.net.arcs start trial →
       AreAllPassed posed.formula.net.arcs posed.held past trial.nodes.items → Reaches posed.formula.net.arcs start (opposite_node start) → ⊥
   no_way shown past start trial closed unshown near none t passed r = elim (cases_Bool (held posed.labels start)) [
     | inl h ↦ false≢true (sym (held_one posed.labels start ∙ ap not h) ∙ kept_to h r)

@@ -4,11 +4,9 @@ use Rattle.std.specs.Prelude.{slice_get}
 use Rattle.std.proofs.lemmas.List.{length_push}
 use Rattle.std.proofs.lemmas.Option.{slice_get_within}
 use Rattle.tor_digraph.specs.Walks.{IsArc}
-use Rattle.tor_arena.proofs.Gets.{slice_get-push_old, slice_get-push_cases, slice_get-push_last, slice_get-some}
+use Rattle.tor_arena.proofs.Gets.{slice_get-push_old, slice_get-push_cases, slice_get-push_last}
 use Rattle.tor_clauses.specs.Leading.{IsPlainWay}
-use Rattle.forced_edges.specs.declared.trial.Origin.{Origin}
-use Rattle.forced_edges.specs.declared.trial.Trial.{Trial}
-use Rattle.forced_edges.specs.Trials.{StandsAt, IsTrial}
+use Rattle.tor_digraph.specs.Trails.{StandsAt}
 use Rattle.forced_edges.specs.Going.{IsChain}
 
 pub some_same : {X : Type 0} {a b : X} → Some a ≡ Some b → a ≡ b
@@ -60,27 +58,6 @@ module _ (arcs : List (ℕ × ℕ)) where
   chain_pop (b ∷ chain) a w x h = let r = chain_pop chain a w h.0 h.2 in (r.0, r.1, (h.0, h.1, r.2))
 
 -- ---- what was tried
-
--- the origin that is noted of a place behind the first: from which node it is, to which, and where these stand
-pub trial_origin : (arcs : List (ℕ × ℕ)) (start : ℕ) (trial : Trial) → IsTrial arcs start trial → (k : ℕ) (o : Origin) → 0 < k → slice_get trial.origins k ≡ Some o →
-    (u x : ℕ) × StandsAt trial.nodes.items o.place u × StandsAt trial.nodes.items k x × IsArc arcs o.arc u x × (o.place < k)
-trial_origin arcs start trial is k o lt at =
-    let below = slice_get_within trial.origins k o at in
-    let many = is.many in
-    let x = slice_get-some trial.nodes.items k (omega (arith, below, many)) in
-    elim (is.found k x.0 x.1) [
-      | inl none ↦ absurd (omega (arith, none, lt))
-      | inr f ↦ (
-          let same : f.origin ≡ o = some_same (sym f.noted ∙ at) in (
-            f.tail,
-            x.0,
-            subst (λ (p : Origin). StandsAt trial.nodes.items p.place f.tail) same f.there,
-            x.1,
-            subst (λ (p : Origin). IsArc arcs p.arc f.tail x.0) same f.arc,
-            subst (λ (p : Origin). p.place < k) same f.before,
-          )
-          )
-    ]
 
 pub one_node : (nodes : List ℕ) (k x y : ℕ) → StandsAt nodes k x → StandsAt nodes k y → x ≡ y
 one_node nodes k x y s t = some_same (sym s ∙ t)

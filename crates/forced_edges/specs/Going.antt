@@ -5,7 +5,7 @@ use Rattle.tor_digraph.specs.Walks.{IsArc}
 use Rattle.tor_digraph.specs.declared.way.Way.{Way}
 use Rattle.tor_clauses.specs.Literals.{opposite_node}
 use Rattle.tor_clauses.specs.Leading.{IsPlainWay}
-use Rattle.forced_edges.specs.Trials.{StandsAt}
+use Rattle.tor_digraph.specs.Trails.{StandsAt}
 
 -- the way leads from one node to the other
 abbrev pub IsLed : List (ℕ × ℕ) → Way ℕ ℕ → ℕ → ℕ → Type 0

@@ -2,15 +2,15 @@
 ghost use Rattle.std.specs.Prelude.{◌≡◌, ℕ, ◌<◌, List, length, OnOk, IfOk, Contains};
 ghost use Rattle.tor_digraph.specs.Walks.{IsArc};
 ghost use Rattle.tor_clauses.specs.Literals.{opposite_node};
-ghost use Rattle.forced_edges.specs.Trials.{StandsAt, IsTrial, IsClash};
+ghost use Rattle.tor_digraph.specs.Trails.{StandsAt, IsTrail};
+ghost use Rattle.forced_edges.specs.Trials.{IsClash};
 ghost use Rattle.forced_edges.specs.Going.{IsLed, LeadsOn, IsChainTo, GoesOut, GoesHome};
 
 use crate::problem::Problem;
-use crate::trial::Trial;
 use std::alloc::Global;
 use tor_arena::{ArcId, Index, List, NoMemory, NodeId};
 use tor_clauses::negation_node;
-use tor_digraph::{NodeSet, Way};
+use tor_digraph::{NodeSet, Trail, Way};
 
 /// The way that stays at one node.
 fn stay(alloc: Global, node: NodeId) -> Result<Way<NodeId, ArcId>, NoMemory>
@@ -52,11 +52,11 @@ fn place_of(tried: &NodeSet, node: NodeId) -> usize
 fn chain_to(
     alloc: Global,
     problem: &Problem<'_>,
-    trial: &Trial,
+    trial: &Trail,
     place: usize,
 ) -> Result<List<ArcId>, NoMemory>
     requires there { place < length trial.now.nodes.items }
-    requires trial { (start : ℕ) × IsTrial problem.now.formula.net.arcs start trial.now }
+    requires trial { (start : ℕ) × IsTrail problem.now.formula.net.arcs start trial.now }
     ensures { IfOk result (IsChainTo problem.now.formula.net.arcs trial.now.nodes.items place) }
 {
     let _ = problem;
@@ -65,7 +65,7 @@ fn chain_to(
     while at > 0 {
         let origin = trial.origin_of(at);
         chain.push(origin.arc)?;
-        at = origin.place;
+        at = origin.place as usize;
     }
     Ok(chain)
 }
@@ -74,12 +74,12 @@ fn chain_to(
 fn go_out(
     alloc: Global,
     problem: &Problem<'_>,
-    trial: &Trial,
+    trial: &Trail,
     place: usize,
     way: &mut Way<NodeId, ArcId>,
 ) -> Result<(), NoMemory>
     requires there { place < length trial.now.nodes.items }
-    requires trial { (start : ℕ) × IsTrial problem.now.formula.net.arcs start trial.now }
+    requires trial { (start : ℕ) × IsTrail problem.now.formula.net.arcs start trial.now }
     ensures { OnOk result (GoesOut problem.now.formula.net.arcs trial.now.nodes.items place way.old way.new) }
 {
     let mut chain = chain_to(alloc, problem, trial, place)?;
@@ -92,19 +92,19 @@ fn go_out(
 /// Goes on from the opposite of the node at a place to that of the start of the search, by the partners of the arcs.
 fn go_home(
     problem: &Problem<'_>,
-    trial: &Trial,
+    trial: &Trail,
     place: usize,
     way: &mut Way<NodeId, ArcId>,
 ) -> Result<(), NoMemory>
     requires there { place < length trial.now.nodes.items }
-    requires trial { (start : ℕ) × IsTrial problem.now.formula.net.arcs start trial.now }
+    requires trial { (start : ℕ) × IsTrail problem.now.formula.net.arcs start trial.now }
     ensures { OnOk result (GoesHome problem.now.formula.net.arcs trial.now.nodes.items place way.old way.new) }
 {
     let mut at = place;
     while at > 0 {
         let origin = trial.origin_of(at);
         go(problem, problem.partner(origin.arc), way)?;
-        at = origin.place;
+        at = origin.place as usize;
     }
     Ok(())
 }
@@ -115,10 +115,10 @@ pub(crate) fn way_round(
     alloc: Global,
     problem: &Problem<'_>,
     start: NodeId,
-    trial: &Trial,
+    trial: &Trail,
     clash: ArcId,
 ) -> Result<Way<NodeId, ArcId>, NoMemory>
-    requires trial { IsTrial problem.now.formula.net.arcs start trial.now }
+    requires trial { IsTrail problem.now.formula.net.arcs start trial.now }
     requires clash { IsClash problem.now.formula.net.arcs trial.now.nodes.items clash }
     ensures { IfOk result (λ way. IsLed problem.now.formula.net.arcs way start (opposite_node start)) }
 {

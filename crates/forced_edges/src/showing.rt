@@ -6,17 +6,17 @@ ghost use Rattle.tor_arena.specs.Limits.{most_places};
 ghost use Rattle.tor_digraph.specs.Walks.{HasArc, Reaches};
 ghost use Rattle.tor_clauses.specs.Literals.{lit_of, opposite_node};
 ghost use Rattle.tor_digraph.specs.Spreading.{Stays};
-ghost use Rattle.forced_edges.specs.Trials.{IsTrial, IsClash};
+ghost use Rattle.tor_digraph.specs.Trails.{IsTrail};
+ghost use Rattle.forced_edges.specs.Trials.{IsClash};
 ghost use Rattle.forced_edges.specs.Settling.{IsFullyShown, IsShowing, AreClosedTo, StayShown, LeadsBack, LeadsAlongArc, IsTail};
 
 use crate::going::way_round;
 use crate::problem::Problem;
-use crate::trial::Trial;
 use relationships::{Walk, Walks};
 use std::alloc::Global;
 use tor_arena::{ArcId, Index, NoMemory, NodeId};
 use tor_clauses::negation_node;
-use tor_digraph::NodeSet;
+use tor_digraph::{NodeSet, Trail};
 
 /// Orders that hold in each orientation that serves, each with a walk that shows it.
 #[derive(Drop)]
@@ -110,12 +110,12 @@ impl Shown {
         alloc: Global,
         problem: &Problem<'_>,
         node: NodeId,
-        trial: &Trial,
+        trial: &Trail,
         clash: ArcId,
     ) -> Result<(), NoMemory>
         requires there { node < problem.now.formula.net.nodes }
         requires back { Reaches problem.now.formula.net.arcs node (opposite_node node) }
-        requires trial { IsTrial problem.now.formula.net.arcs node trial.now }
+        requires trial { IsTrail problem.now.formula.net.arcs node trial.now }
         requires clash { IsClash problem.now.formula.net.arcs trial.now.nodes.items clash }
         requires new { Contains self.old.nodes.items (opposite_node node) → ⊥ }
         requires shown { IsFullyShown problem.now self.old }
@@ -154,11 +154,11 @@ fn walk_back(
     alloc: Global,
     problem: &Problem<'_>,
     node: NodeId,
-    trial: &Trial,
+    trial: &Trail,
     clash: ArcId,
 ) -> Result<Walk, NoMemory>
     requires there { node < problem.now.formula.net.nodes }
-    requires trial { IsTrial problem.now.formula.net.arcs node trial.now }
+    requires trial { IsTrail problem.now.formula.net.arcs node trial.now }
     requires clash { IsClash problem.now.formula.net.arcs trial.now.nodes.items clash }
     ensures { IfOk result (LeadsBack problem.now node) }
 {

@@ -1,11 +1,11 @@
 -- What a search has visited, when it visits one node more.
-use Rattle.std.proofs.Common.{◌≡◌, ℕ, ◌+◌, ◌⊎◌, inl, inr, Bool, true, false, List, [], ◌∷◌, Some, length, sym, ap, ◌∙◌, subst, arith, Contains}
+use Rattle.std.proofs.Common.{◌≡◌, ℕ, ◌+◌, ◌<◌, ◌⊎◌, inl, inr, Bool, true, false, List, [], ◌∷◌, Some, length, sym, ap, ◌∙◌, subst, arith, Contains}
 use Rattle.std.specs.Prelude.{slice_get}
 use Rattle.std.proofs.lemmas.List.{length_push}
-use Rattle.std.proofs.lemmas.Option.{slice_get_within}
-use Rattle.tor_arena.proofs.Gets.{slice_get-push_old, slice_get-push_cases, slice_get-push_last}
+use Rattle.std.proofs.lemmas.Option.{same_Some, slice_get_within}
+use Rattle.tor_arena.proofs.Gets.{slice_get-some, slice_get-push_old, slice_get-push_cases, slice_get-push_last}
 use Rattle.tor_digraph.specs.Walks.{IsArc, Reaches, here, along}
-use Rattle.tor_digraph.specs.Spreading.{Stays, IsEntered}
+use Rattle.tor_digraph.specs.Spreading.{Stays}
 use Rattle.tor_digraph.specs.Trails.{StandsAt, Visits, origin_at, IsHeadFrom, HasOrigin, IsTrail, StaysTrail}
 use Rattle.tor_digraph.specs.declared.trail.Origin.{Origin}
 use Rattle.tor_digraph.specs.declared.trail.Trail.{Trail}
@@ -18,10 +18,6 @@ visits_stays node place arc old new false h k x at = ap (λ (l : List ℕ). slic
 pub visits_there : (node place arc : ℕ) (old new : Trail) (is_new : Bool) → Visits node place arc old new is_new → Contains new.nodes.items node
 visits_there node place arc old new true h = subst (λ (l : List ℕ). Contains l node) (sym h.1) (Contains-last old.nodes.items node)
 visits_there node place arc old new false h = subst (λ (l : List ℕ). Contains l node) (sym h.1) h.0
-
-pub visits_entered : (past : List ℕ) (node place arc : ℕ) (old new : Trail) (is_new : Bool) → Visits node place arc old new is_new → IsEntered past node old.nodes.items new.nodes.items
-visits_entered past node place arc old new true h = inr h.1
-visits_entered past node place arc old new false h = inl (inl h.0, h.1)
 
 module _ (arcs : List (ℕ × ℕ)) where
   origin_more : (old new : Trail) → Stays old.nodes.items new.nodes.items → ((k : ℕ) (o : Origin) → slice_get old.origins k ≡ Some o → slice_get new.origins k ≡ Some o) →
@@ -97,3 +93,24 @@ module _ (arcs : List (ℕ × ℕ)) where
     where
       cases : (k x : ℕ) → StandsAt trail.nodes.items k x → StandsAt [] k x ⊎ ((k ≡ 0) × (x ≡ start))
       cases k x at = slice_get-push_cases [] start k x (sym (ap (λ (l : List ℕ). slice_get l k) e) ∙ at)
+
+  -- the origin that is noted of a place behind the first: from which node it is, to which, and where these stand
+  pub trail_origin : (start : ℕ) (trail : Trail) → IsTrail arcs start trail → (k : ℕ) (o : Origin) → 0 < k → slice_get trail.origins k ≡ Some o →
+      (u x : ℕ) × StandsAt trail.nodes.items o.place u × StandsAt trail.nodes.items k x × IsArc arcs o.arc u x × (o.place < k)
+  trail_origin start trail is k o lt at =
+      let below = slice_get_within trail.origins k o at in
+      let many = is.many in
+      let x = slice_get-some trail.nodes.items k (omega (arith, below, many)) in
+      elim (is.found k x.0 x.1) [
+        | inl none ↦ absurd (omega (arith, none, lt))
+        | inr f ↦ (
+            let same : f.origin ≡ o = same_Some f.origin o (sym f.noted ∙ at) in (
+              f.tail,
+              x.0,
+              subst (λ (p : Origin). StandsAt trail.nodes.items p.place f.tail) same f.there,
+              x.1,
+              subst (λ (p : Origin). IsArc arcs p.arc f.tail x.0) same f.arc,
+              subst (λ (p : Origin). p.place < k) same f.before,
+            )
+            )
+      ]

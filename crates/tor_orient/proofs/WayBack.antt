@@ -2,12 +2,13 @@
 use Rattle.std.proofs.Common.{◌≡◌, ℕ, ◌*◌, ◌<◌, inl, inr, Bool, List, [], Some, length, sym, ap, ◌∙◌, subst, arith, Contains}
 use Rattle.std.specs.Prelude.{slice_get}
 use Rattle.std.proofs.lemmas.Option.{same_Some}
-use Rattle.tor_digraph.specs.Walks.{HasArc, Reaches, here, along}
+use Rattle.tor_digraph.specs.Walks.{IsArc, HasArc, Reaches, here, along}
 use Rattle.tor_digraph.specs.NodeSets.{IsAdded}
 use Rattle.tor_digraph.specs.Trails.{StandsAt, IsTrail}
 use Rattle.tor_digraph.specs.declared.trail.Origin.{Origin}
 use Rattle.tor_digraph.specs.declared.trail.Trail.{Trail}
 use Rattle.tor_digraph.proofs.Closings.{reaches_trans}
+use Rattle.tor_digraph.proofs.Trails.{trail_origin}
 use Rattle.tor_digraph.proofs.Members.{Contains-one_more}
 use Rattle.tor_arena.proofs.Gets.{none-in, slice_get-push_last}
 use Rattle.relationships.specs.declared.label.End.{End}
@@ -32,24 +33,14 @@ wanted_there p edges count twice lt = let less = side_less p.wanted in omega (ar
 pub last_stands : (node : ℕ) (nodes : List ℕ) → IsLast node nodes → (place : ℕ) × StandsAt nodes place node
 last_stands node nodes last = (length last.0, ap (λ (l : List ℕ). slice_get l (length last.0)) last.1 ∙ slice_get-push_last last.0 node)
 
--- a node behind the first was found from one that stands before it
-pub origin_before : (arcs : List (ℕ × ℕ)) (start : ℕ) (trail : Trail) → IsTrail arcs start trail → (place node : ℕ) (o : Origin) → 0 < place →
-    StandsAt trail.nodes.items place node → slice_get trail.origins place ≡ Some o → o.place < place
-origin_before arcs start trail t place node o more at noted = elim (t.found place node at) [
-  | inl none ↦ absurd (omega (arith, none, more))
-  | inr f ↦ subst (λ (p : Origin). p.place < place) (same_Some f.origin o (sym f.noted ∙ noted)) f.before
-]
-
--- by an arc
+-- a node was found along an arc from the one that stands at the place of its origin
 pub origin_arc : (arcs : List (ℕ × ℕ)) (start : ℕ) (trail : Trail) → IsTrail arcs start trail → (place node tail : ℕ) (o : Origin) → 0 < place →
     StandsAt trail.nodes.items place node → slice_get trail.origins place ≡ Some o → StandsAt trail.nodes.items o.place tail → HasArc arcs tail node
-origin_arc arcs start trail t place node tail o more at noted there = elim (t.found place node at) [
-  | inl none ↦ absurd (omega (arith, none, more))
-  | inr f ↦
-      let is : f.origin ≡ o = same_Some f.origin o (sym f.noted ∙ noted) in
-      let same : f.tail ≡ tail = same_Some f.tail tail (sym f.there ∙ ap (λ (p : Origin). slice_get trail.nodes.items p.place) is ∙ there) in
-      (f.origin.arc, subst (λ n. slice_get arcs f.origin.arc ≡ Some (n, node)) same f.arc)
-]
+origin_arc arcs start trail t place node tail o more at noted there =
+    let r = trail_origin arcs start trail t place o more noted in
+    let same_tail : r.0 ≡ tail = same_Some r.0 tail (sym r.2 ∙ there) in
+    let same_node : r.1 ≡ node = same_Some r.1 node (sym r.3 ∙ at) in
+    (o.arc, subst (λ n. IsArc arcs o.arc tail n) same_node (subst (λ n. IsArc arcs o.arc n r.1) same_tail r.4))
 
 -- from a tail lead the arc to its head, and all that leads on from there
 pub leads_more : (arcs : List (ℕ × ℕ)) (node tail : ℕ) → HasArc arcs tail node → (is_new : Bool) (old new : List ℕ) → IsAdded node is_new old new →

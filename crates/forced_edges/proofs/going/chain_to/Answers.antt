@@ -1,9 +1,10 @@
 use Rattle.std.proofs.Common.{◌≡◌, sym, subst, arith}
 use Rattle.tor_digraph.specs.Walks.{IsArc}
-use Rattle.forced_edges.specs.declared.trial.Origin.{Origin}
-use Rattle.forced_edges.specs.Trials.{StandsAt}
+use Rattle.tor_digraph.specs.declared.trail.Origin.{Origin}
+use Rattle.tor_digraph.specs.Trails.{StandsAt}
 use Rattle.forced_edges.specs.Going.{IsChain}
-use Rattle.forced_edges.proofs.Ways.{trial_origin, one_node, chain_push}
+use Rattle.tor_digraph.proofs.Trails.{trail_origin}
+use Rattle.forced_edges.proofs.Ways.{one_node, chain_push}
 use Rattle.forced_edges.proofs.going.chain_to.Goals as goal
 
 pub loop-at-init : goal.loop-at-init
@@ -14,7 +15,7 @@ origin_of-origin-requires c = let many = c.requires.trial.1.many in let there = 
 
 pub loop-at-smaller : goal.loop-at-smaller
 loop-at-smaller c =
-    let r = trial_origin c.args.problem.now.formula.net.arcs c.requires.trial.0 c.args.trial.now c.requires.trial.1 c.loop-at.at c.origin_of-origin.result (omega (arith, c.loop-at-test.true))
+    let r = trail_origin c.args.problem.now.formula.net.arcs c.requires.trial.0 c.args.trial.now c.requires.trial.1 c.loop-at.at c.origin_of-origin.result (omega (arith, c.loop-at-test.true))
     c.origin_of-origin.ensures in
     r.5
 
@@ -23,7 +24,7 @@ loop-at-preserved c =
     let trial = c.args.trial.now in
     let arcs = c.args.problem.now.formula.net.arcs in
     let o : Origin = c.origin_of-origin.result in
-    let r = trial_origin arcs c.requires.trial.0 trial c.requires.trial.1 c.loop-at.at o (omega (arith, c.loop-at-test.true)) c.origin_of-origin.ensures in
+    let r = trail_origin arcs c.requires.trial.0 trial c.requires.trial.1 c.loop-at.at o (omega (arith, c.loop-at-test.true)) c.origin_of-origin.ensures in
     let less = r.5 in
     let here = c.loop-at.invariant.there in
     record {

@@ -2,9 +2,10 @@ use Rattle.std.proofs.Common.{◌≡◌, sym, subst, arith}
 use Rattle.std.proofs.lemmas.Option.{slice_get_within}
 use Rattle.tor_digraph.specs.Walks.{IsArc}
 use Rattle.tor_clauses.specs.Literals.{opposite_node}
-use Rattle.forced_edges.specs.declared.trial.Origin.{Origin}
-use Rattle.forced_edges.specs.Trials.{StandsAt}
-use Rattle.forced_edges.proofs.Ways.{trial_origin, one_node}
+use Rattle.tor_digraph.specs.declared.trail.Origin.{Origin}
+use Rattle.tor_digraph.specs.Trails.{StandsAt}
+use Rattle.tor_digraph.proofs.Trails.{trail_origin}
+use Rattle.forced_edges.proofs.Ways.{one_node}
 use Rattle.forced_edges.proofs.going.go_home.Goals as goal
 
 pub origin_of-origin-requires : goal.origin_of-origin-requires
@@ -14,12 +15,12 @@ pub partner-requires : goal.partner-requires
 partner-requires c =
     let arcs = c.args.problem.now.formula.net.arcs in
     let o : Origin = c.origin_of-origin.result in
-    let r = trial_origin arcs c.requires.trial.0 c.args.trial.now c.requires.trial.1 c.loop-at.at o (omega (arith, c.loop-at-test.true)) c.origin_of-origin.ensures in
+    let r = trail_origin arcs c.requires.trial.0 c.args.trial.now c.requires.trial.1 c.loop-at.at o (omega (arith, c.loop-at-test.true)) c.origin_of-origin.ensures in
     slice_get_within arcs o.arc (r.0, r.1) r.4
 
 pub loop-at-smaller : goal.loop-at-smaller
 loop-at-smaller c =
-    let r = trial_origin c.args.problem.now.formula.net.arcs c.requires.trial.0 c.args.trial.now c.requires.trial.1 c.loop-at.at c.origin_of-origin.result (omega (arith, c.loop-at-test.true))
+    let r = trail_origin c.args.problem.now.formula.net.arcs c.requires.trial.0 c.args.trial.now c.requires.trial.1 c.loop-at.at c.origin_of-origin.result (omega (arith, c.loop-at-test.true))
     c.origin_of-origin.ensures in
     r.5
 
@@ -28,7 +29,7 @@ loop-at-preserved c =
     let trial = c.args.trial.now in
     let arcs = c.args.problem.now.formula.net.arcs in
     let o : Origin = c.origin_of-origin.result in
-    let r = trial_origin arcs c.requires.trial.0 trial c.requires.trial.1 c.loop-at.at o (omega (arith, c.loop-at-test.true)) c.origin_of-origin.ensures in
+    let r = trail_origin arcs c.requires.trial.0 trial c.requires.trial.1 c.loop-at.at o (omega (arith, c.loop-at-test.true)) c.origin_of-origin.ensures in
     let less = r.5 in
     let here = c.loop-at.invariant.there in
     record {

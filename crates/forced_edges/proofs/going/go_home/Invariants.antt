@@ -1,6 +1,6 @@
 use Rattle.std.proofs.Common.{ℕ, ◌<◌, length}
 use Rattle.tor_clauses.specs.Literals.{opposite_node}
-use Rattle.forced_edges.specs.Trials.{StandsAt}
+use Rattle.tor_digraph.specs.Trails.{StandsAt}
 use Rattle.forced_edges.specs.Going.{LeadsOn}
 use Rattle.forced_edges.proofs.going.go_home.Given as goal
 

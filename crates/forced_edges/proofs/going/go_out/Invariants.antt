@@ -1,5 +1,5 @@
 use Rattle.std.proofs.Common.{ℕ, length}
-use Rattle.forced_edges.specs.Trials.{StandsAt}
+use Rattle.tor_digraph.specs.Trails.{StandsAt}
 use Rattle.forced_edges.specs.Going.{LeadsOn, IsChain}
 use Rattle.forced_edges.proofs.going.go_out.Given as goal
 

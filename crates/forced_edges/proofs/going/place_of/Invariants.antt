@@ -1,5 +1,5 @@
 use Rattle.std.proofs.Common.{ℕ, ◌<◌}
-use Rattle.forced_edges.specs.Trials.{StandsAt}
+use Rattle.tor_digraph.specs.Trails.{StandsAt}
 use Rattle.forced_edges.proofs.going.place_of.Given as goal
 
 abbrev pub invariant-loop-place : goal.invariant-loop-place

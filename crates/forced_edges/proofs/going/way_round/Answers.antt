@@ -3,7 +3,7 @@ use Rattle.std.specs.Prelude.{slice_get}
 use Rattle.std.proofs.lemmas.Option.{some_pair_parts, slice_get_within}
 use Rattle.tor_digraph.specs.Walks.{IsArc}
 use Rattle.tor_clauses.specs.Literals.{opposite_node}
-use Rattle.forced_edges.specs.Trials.{StandsAt}
+use Rattle.tor_digraph.specs.Trails.{StandsAt}
 use Rattle.forced_edges.proofs.going.way_round.Goals as goal
 
 pub ends-tail-requires : goal.ends-tail-requires

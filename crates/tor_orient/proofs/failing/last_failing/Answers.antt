@@ -2,14 +2,14 @@ use Rattle.std.proofs.Common.{◌∙◌, subst, arith, Contains}
 use Rattle.std.proofs.lemmas.Option.{slice_get_within}
 use Rattle.tor_digraph.specs.Walks.{here}
 use Rattle.tor_clauses.specs.Literals.{opposite_node}
-use Rattle.tor_orient.proofs.WayBack.{last_stands, origin_before, origin_arc, leads_more}
+use Rattle.tor_digraph.proofs.Trails.{trail_origin}
+use Rattle.tor_orient.proofs.WayBack.{last_stands, origin_arc, leads_more}
 use Rattle.tor_orient.proofs.failing.last_failing.Goals as goal
 
 pub get-node-requires : goal.get-node-requires
 get-node-requires c =
     let t = c.requires.trail in
-    let lt = origin_before t.0 c.args.start c.args.tried.now t.1 c.loop-place.place c.get.result c.origin_of-place.result c.loop-place-test.true
-    c.get.ensures.node c.origin_of-place.ensures in
+    let lt = (trail_origin t.0 c.args.start c.args.tried.now t.1 c.loop-place.place c.origin_of-place.result c.loop-place-test.true c.origin_of-place.ensures).5 in
     let there = c.loop-place.invariant.there in
     omega (arith, lt, there)
 
@@ -30,8 +30,7 @@ returns-then-has-clause-failing c = λ arcs t.
 pub loop-place-smaller : goal.loop-place-smaller
 loop-place-smaller c =
     let t = c.requires.trail in
-    origin_before t.0 c.args.start c.args.tried.now t.1 c.loop-place.place c.get.result c.origin_of-place.result c.loop-place-test.true
-    c.get.ensures.node c.origin_of-place.ensures
+    (trail_origin t.0 c.args.start c.args.tried.now t.1 c.loop-place.place c.origin_of-place.result c.loop-place-test.true c.origin_of-place.ensures).5
 
 pub loop-place-preserved : goal.loop-place-preserved
 loop-place-preserved c =

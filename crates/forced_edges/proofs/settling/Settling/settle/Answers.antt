@@ -14,7 +14,7 @@ use Rattle.forced_edges.proofs.settling.Settling.settle.Goals as goal
 pub show_opposite-requires-clause-back : goal.show_opposite-requires-clause-back
 show_opposite-requires-clause-back c =
     let arcs = c.args.problem.now.formula.net.arcs in
-    let trial = c.search.new.self in
+    let trial = c.search.new.trail in
     clash_leads arcs c.facts.ensures.partners trial c.args.node c.in-Some.clash c.in_ok-clash.ensures.trial
     (subst (λ o. IfSome o (IsClash arcs trial.nodes.items)) c.in-Some.is c.in_ok-clash.ensures.clash)
 
@@ -44,7 +44,7 @@ returns c =
     let shown = c.args.self.now.shown.nodes.items in
     let old = c.args.self.now.together in
     let new = c.spread.new.found in
-    let trial = c.search.new.self in
+    let trial = c.search.new.trail in
     let kept = held_along f.graph f.labels facts.posed.labelled f.formula facts.apart facts.posed.fits facts.posed.served in
     let apart = subst (λ s. Contains old.items s → ⊥) c.negation_node-other.ensures (λ h. false≢true (sym c.if-has-3.false ∙ c.has-3.ensures.1 h)) in
     let unshown = subst (λ s. Contains shown s → ⊥) c.negation_node-other.ensures (λ h. false≢true (sym c.if-has.false ∙ c.has.ensures.1 h)) in

@@ -3,7 +3,7 @@ use Rattle.std.proofs.lemmas.Option.{slice_get_within}
 use Rattle.tor_digraph.proofs.Members.{read-at}
 use Rattle.forced_edges.specs.Trials.{LooksAt}
 use Rattle.forced_edges.proofs.Trying.{all_passed_more, scan_next, scan_done}
-use Rattle.forced_edges.proofs.trial.Trial.scan.Goals as goal
+use Rattle.forced_edges.proofs.trial.scan.Goals as goal
 
 pub loop-entry-init : goal.loop-entry-init
 loop-entry-init c = record {
@@ -37,8 +37,8 @@ loop-entry-preserved c =
     let row = c.row-entry-items.result.now in
     let e = c.entry-item.result in
     let at = read-at row row c.loop-entry.entry-index e refl c.entry-item.is c.loop-entry-test.true in
-    let old = c.loop-entry.self.nodes.items in
-    let new = c.look.new.self.nodes.items in
+    let old = c.loop-entry.trail.nodes.items in
+    let new = c.look.new.trail.nodes.items in
     let stays = c.in_ok-look.ensures.kept in
     let lt = slice_get_within old c.args.place c.get-node.result (c.loop-entry.invariant.kept c.args.place c.get-node.result c.get-node.ensures.node) in
     let passed = subst (LooksAt arcs posed.held c.args.past.now.items new c.args.place e.0 e.1) c.if-branch.false c.in_ok-look.ensures.looked in
@@ -53,7 +53,7 @@ loop-entry-preserved c =
 pub returns-clause-passed : goal.returns-clause-passed
 returns-clause-passed c =
     let posed = c.args.problem.now in
-    let nodes = c.loop-entry.self.nodes.items in
+    let nodes = c.loop-entry.trail.nodes.items in
     let test = c.loop-entry-test.false in
     let end = c.loop-entry.auto.entry-index-end in
     scan_done posed.formula.net.arcs posed.held c.args.past.now.items c.row-entry-items.result.now c.loop-entry.entry-index nodes c.args.place c.get-node.result
