@@ -14,10 +14,7 @@ use tor_arena::{EdgeId, Index, NoMemory, PathId};
 fn climbs(over: End, left: End) -> bool
     ensures { result ≡ is_up (step_slope (label_of over) left) }
 {
-    match (over, left) {
-        (End::Low, End::Low) | (End::High, End::High) => false,
-        (End::Low, End::High) | (End::High, End::Low) => true,
-    }
+    over != left
 }
 
 /// Whether a step goes up.
@@ -36,12 +33,10 @@ fn exclude_pair(excluded: &mut Vec<bool>, first: EdgeId, second: EdgeId, up: boo
     ensures excluded { (k : ℕ) → IsTrue (slice_index_or excluded.new.items k false) ↔
         (IsTrue (slice_index_or excluded.old.items k false) ⊎ IsOneExcluded up next_up first second k) }
 {
-    if up && next_up {
-        excluded[first.place()] = true;
-    }
-    if !up && !next_up {
-        excluded[second.place()] = true;
-    }
+    let edge = if up { first } else { second };
+    let was = excluded[edge.place()];
+    // no branch waits for how the steps go
+    excluded[edge.place()] = was || up == next_up;
 }
 
 /// Excludes the edges along a path with these steps that are neither that of the last step up nor that of the first down.
