@@ -1,5 +1,8 @@
 pub mod ExclusionLemmas
-pub mod Holding
+pub mod Along
+pub mod Chaining
+pub mod Besides
+pub mod OneRow
 pub mod Reading
 pub mod Steps
 pub mod Flipping

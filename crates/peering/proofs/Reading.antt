@@ -1,5 +1,5 @@
 -- Which labels of edges decide whether paths are valley-free.
-use Rattle.std.proofs.Common.{◌≡◌, ℕ, zero, suc, ◌<◌, ◌≤◌, ◌^◌, ◌==◌, ◌||◌, inl, inr, true, false, not, List, [], ◌∷◌, ◌++◌, length, get_or, set, filter, refl, sym, ap, ◌∙◌, subst, arith, All}
+use Rattle.std.proofs.Common.{◌≡◌, ℕ, zero, suc, ◌<◌, ◌≤◌, ◌^◌, ◌==◌, ◌||◌, inl, inr, true, false, not, List, [], ◌∷◌, ◌++◌, length, get_or, set, map, filter, refl, sym, ap, ◌∙◌, subst, arith, All}
 use Rattle.std.proofs.Common.{Contains, slice_get, Some, if◌then◌else◌}
 use Rattle.std.specs.List.{list_any, AllByRecursion}
 use Rattle.std.proofs.lemmas.Bool.{cases_Bool, or_parts, false_from_ne_true, false≢true}
@@ -7,7 +7,8 @@ use Rattle.std.proofs.lemmas.List.{length-map, get_or-map}
 use Rattle.std.proofs.lemmas.List.Elements.{All-contains, All-cons, All-nil, All-head, All-from_recursion, Contains-get_or}
 use Rattle.std.proofs.lemmas.List.Sums.{count_by-le-length}
 use Rattle.relationships.specs.declared.label.Label.{Label}
-use Rattle.relationships.specs.Relationship.{Labelling, ValleyFree}
+use Rattle.relationships.specs.declared.label.End.{End}
+use Rattle.relationships.specs.Relationship.{Labelling, label_of, ValleyFree}
 use Rattle.relationships.specs.Graph.{Edge, is_same, edges_on, distinct, edges, degree, labelling}
 use Rattle.relationships.specs.Preference.{with_peer}
 use Rattle.relationships.proofs.Edges.{same_edge, relaxing_law}
@@ -114,3 +115,10 @@ pub set_back : {X : Type 0} (xs : List X) (k : ℕ) (x d : X) → set (set xs k 
 set_back [] k x d = refl
 set_back (y ∷ xs) zero x d = refl
 set_back (y ∷ xs) (suc k) x d = ap (λ l. y ∷ l) (set_back xs k x d)
+
+-- the labels of providers are no peerings
+pub no_peers_at_first : (ends : List End) (k : ℕ) → get_or (map label_of ends) k Label.Low ≡ Label.Peer → ⊥
+no_peers_at_first [] k p = cc p
+no_peers_at_first (End.Low ∷ ends) zero p = cc p
+no_peers_at_first (End.High ∷ ends) zero p = cc p
+no_peers_at_first (end ∷ ends) (suc k) p = no_peers_at_first ends k p

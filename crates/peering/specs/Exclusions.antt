@@ -1,6 +1,7 @@
 -- Which edges can be no peerings, whatever the others are: those of the last step up and the first step down of a path are the
 -- only ones on it that can.
-use Rattle.std.specs.Prelude.{◌≡◌, ◌⊎◌, ℕ, ◌+◌, ◌<◌, Bool, List, Some, All, Contains, length, slice_get, slice_index_or, IsTrue, IsFalse}
+use Rattle.std.specs.Prelude.{◌≡◌, ◌⊎◌, ℕ, ◌+◌, ◌<◌, Bool, false, List, Some, All, Contains, length, slice_get, slice_index_or, IsTrue}
+use Rattle.std.specs.Prelude.{IsFalse}
 use Rattle.relationships.specs.declared.label.End.{End}
 use Rattle.relationships.specs.Relationship.{label_of}
 use Rattle.relationships.specs.Graph.{edges}
@@ -13,12 +14,14 @@ use Rattle.as_graph.specs.Steps.{AreSteps}
 abbrev pub goes_up : List End → Step → Bool
 goes_up ends step = is_up (step_slope (label_of (slice_index_or ends step.edge End.Low)) step.left)
 
--- two steps, one behind the other, exclude an edge: both go up, and it is that of the first; or both go down, and it is that of the
--- second
+-- two steps, one behind the other, with the edges a and b, exclude an edge: both go up, and it is that of the first; or both go down,
+-- and it is that of the second
+abbrev pub IsOneExcluded : Bool → Bool → ℕ → ℕ → ℕ → Type 0
+IsOneExcluded up next_up a b edge =
+    (IsTrue up × IsTrue next_up × (a ≡ edge)) ⊎ (IsFalse up × IsFalse next_up × (b ≡ edge))
+
 abbrev pub ExcludedBy : List End → Step → Step → ℕ → Type 0
-ExcludedBy ends first second edge =
-    (IsTrue (goes_up ends first) × IsTrue (goes_up ends second) × (first.edge ≡ edge)) ⊎
-    (IsFalse (goes_up ends first) × IsFalse (goes_up ends second) × (second.edge ≡ edge))
+ExcludedBy ends first second edge = IsOneExcluded (goes_up ends first) (goes_up ends second) first.edge second.edge edge
 
 -- two of the steps do
 abbrev pub ExcludedOn : List End → List Step → ℕ → Type 0
@@ -31,3 +34,10 @@ abbrev pub IsExcluded : List (List ℕ) → List ℕ → List End → ℕ → Ty
 IsExcluded paths kept ends edge =
     (place : ℕ) × (steps : List Step) × Contains kept place × AreSteps (edges paths) (path_at paths place) steps ×
     All (λ step. step.edge < length (edges paths)) steps × ExcludedOn ends steps edge
+
+-- each of these kept paths has steps, and what two of these exclude is marked
+abbrev pub AllExcluded : List (List ℕ) → List ℕ → List End → List Bool → Type 0
+AllExcluded paths kept ends excluded =
+    (place : ℕ) → Contains kept place →
+    (steps : List Step) × AreSteps (edges paths) (path_at paths place) steps × All (λ step. step.edge < length (edges paths)) steps ×
+    ((edge : ℕ) → ExcludedOn ends steps edge → IsTrue (slice_index_or excluded edge false))

@@ -1,13 +1,14 @@
 -- Edges that may be peerings, and what labels leave of paths.
-use Rattle.std.specs.Prelude.{◌≡◌, ℕ, ◌<◌, ◌⊎◌, Bool, List, All, Contains, length, slice_index_or, slice_set, IsTrue, IsFalse, [], ◌∷◌}
-use Rattle.std.specs.Prelude.{◌++◌}
+use Rattle.std.specs.Prelude.{◌≡◌, ◌≢◌, ℕ, ◌+◌, ◌<◌, ◌⊎◌, Bool, false, List, Some, All, Contains, length, min, max, slice_get}
+use Rattle.std.specs.Prelude.{slice_index_or, slice_set, [], ◌∷◌}
+use Rattle.std.specs.Prelude.{IsTrue, IsFalse}
 use Rattle.std.specs.List.{list_any}
 use Rattle.relationships.specs.declared.label.Label.{Label}
-use Rattle.relationships.specs.Relationship.{ValleyFree}
-use Rattle.relationships.specs.Graph.{Edge, is_same, edges_on, edges, degree, labelling}
+use Rattle.relationships.specs.Graph.{Edge, is_same, edges_on, edges, degree}
 use Rattle.relationships.specs.Preference.{IsAlike}
 use Rattle.as_graph.specs.Paths.{path_at}
 use Rattle.as_graph.specs.declared.step.Step.{Step}
+use Rattle.as_graph.specs.Steps.{AreSteps}
 
 -- the edge of a place
 abbrev pub edge_in : List (List ℕ) → ℕ → Edge
@@ -21,32 +22,63 @@ holds paths path edge = list_any (is_same (edge_in paths edge)) (edges_on (path_
 abbrev pub HasStep : List Step → ℕ → Type 0
 HasStep steps edge = (s : Step) × Contains steps s × (s.edge ≡ edge)
 
--- the path is added to the list of the edge, unless this is excluded
-abbrev pub IsPathAdded : Bool → ℕ → ℕ → List (List ℕ) → List (List ℕ) → Type 0
-IsPathAdded excluded edge path old new =
-    (IsTrue excluded × (new ≡ old)) ⊎ (IsFalse excluded × (new ≡ slice_set old edge (slice_index_or old edge [] ++ path ∷ [])))
+-- two of the steps, one behind the other, have the edges of these places
+abbrev pub AreBeside : List Step → ℕ → ℕ → Type 0
+AreBeside steps a b =
+    (at : ℕ) × (first second : Step) × (slice_get steps at ≡ Some first) × (slice_get steps (at + 1) ≡ Some second) ×
+    (first.edge ≡ a) × (second.edge ≡ b)
+
+-- and this in one of the two orders, on a kept path
+abbrev pub AreBesideOn : List (List ℕ) → List ℕ → ℕ → ℕ → Type 0
+AreBesideOn paths kept a b =
+    (place : ℕ) × (steps : List Step) × Contains kept place × AreSteps (edges paths) (path_at paths place) steps ×
+    All (λ step. step.edge < length (edges paths)) steps × (AreBeside steps a b ⊎ AreBeside steps b a)
+
+-- the lists with one edge more in front of those of another
+abbrev pub with_partner : List (List ℕ) → ℕ → ℕ → List (List ℕ)
+with_partner lists edge partner = slice_set lists edge (partner ∷ slice_index_or lists edge [])
+
+-- the lesser of two edges is added to the list of the greater, unless one of the two is excluded
+abbrev pub IsPairAdded : Bool → Bool → ℕ → ℕ → List (List ℕ) → List (List ℕ) → Type 0
+IsPairAdded excluded excluded_too a b old new =
+    (IsTrue excluded × (new ≡ old)) ⊎ ((IsTrue excluded_too × (new ≡ old)) ⊎
+    (IsFalse excluded × IsFalse excluded_too × (new ≡ with_partner old (max a b) (min a b))))
+
+-- each edge that one of these kept paths holds is open unless it is excluded
+abbrev pub AllHeldOpen : List (List ℕ) → List ℕ → List Bool → List Bool → Type 0
+AllHeldOpen paths kept excluded opened =
+    (edge place : ℕ) → edge < length (edges paths) → IsFalse (slice_index_or excluded edge false) → Contains kept place →
+    IsTrue (holds paths place edge) → IsTrue (slice_index_or opened edge false)
+
+-- of each two edges that stand one behind the other on one of these kept paths the lesser is on the list of the greater, unless one of
+-- the two is excluded
+abbrev pub AllBesideListed : List (List ℕ) → List ℕ → List Bool → List (List ℕ) → Type 0
+AllBesideListed paths kept excluded lists =
+    (place a b : ℕ) (steps : List Step) → Contains kept place → AreSteps (edges paths) (path_at paths place) steps → AreBeside steps a b →
+    IsFalse (slice_index_or excluded a false) → IsFalse (slice_index_or excluded b false) →
+    Contains (slice_index_or lists (max a b) []) (min a b)
 
 -- the labels with the edge of a place as a peering
 abbrev pub peer_at : List Label → ℕ → List Label
 peer_at labels edge = slice_set labels edge Label.Peer
 
--- the paths of these places are valley-free with the edge as a peering
-abbrev pub StayFree : List (List ℕ) → List ℕ → List Label → Type 0
-StayFree paths places labels = All (λ place. ValleyFree (labelling (edges paths) labels) (path_at paths place)) places
+-- none of these edges is a peering
+abbrev pub NoPeers : List Label → List ℕ → Type 0
+NoPeers labels places = All (λ place. slice_index_or labels place Label.Low ≢ Label.Peer) places
 
--- the edge becomes a peering if the paths of these places stay valley-free so, and else all labels stay as they are
-abbrev pub IsPeeredIfFree : List (List ℕ) → List ℕ → ℕ → List Label → List Label → Type 0
-IsPeeredIfFree paths places edge old new =
-    (StayFree paths places (peer_at old edge) × (new ≡ peer_at old edge)) ⊎
-    ((StayFree paths places (peer_at old edge) → ⊥) × (new ≡ old))
+-- the edge becomes a peering if none of these edges is one then, and else all labels stay as they are
+abbrev pub IsPeeredBeside : List ℕ → ℕ → List Label → List Label → Type 0
+IsPeeredBeside places edge old new =
+    (NoPeers (peer_at old edge) places × (new ≡ peer_at old edge)) ⊎
+    ((NoPeers (peer_at old edge) places → ⊥) × (new ≡ old))
 
--- an edge becomes a peering if it is not excluded, its ends are alike in degree, and the paths of these places, which are some, stay
--- valley-free so; else all labels stay as they are
+-- an edge becomes a peering if it is open, its ends are alike in degree, and none of these edges is a peering then; else all labels
+-- stay as they are
 abbrev pub MayFlip : List (List ℕ) → ℕ → Bool → List ℕ → ℕ → List Label → Type 0
-MayFlip paths ratio excluded places edge old =
-    IsFalse excluded × (0 < length places) × IsAlike (degree paths) ratio (edge_in paths edge) × StayFree paths places (peer_at old edge)
+MayFlip paths ratio open_to places edge old =
+    IsTrue open_to × IsAlike (degree paths) ratio (edge_in paths edge) × NoPeers (peer_at old edge) places
 
 abbrev pub IsPeeredIfAllowed : List (List ℕ) → ℕ → Bool → List ℕ → ℕ → List Label → List Label → Type 0
-IsPeeredIfAllowed paths ratio excluded places edge old new =
-    (MayFlip paths ratio excluded places edge old × (new ≡ peer_at old edge)) ⊎
-    ((MayFlip paths ratio excluded places edge old → ⊥) × (new ≡ old))
+IsPeeredIfAllowed paths ratio open_to places edge old new =
+    (MayFlip paths ratio open_to places edge old × (new ≡ peer_at old edge)) ⊎
+    ((MayFlip paths ratio open_to places edge old → ⊥) × (new ≡ old))

@@ -3,7 +3,8 @@
 
 mod alike;
 mod excluding;
-mod holders;
+mod opening;
+mod partners;
 mod relabelling;
 
 pub use relabelling::relabel;

@@ -1,18 +1,18 @@
 //! Which edges become peerings, edge by edge.
-ghost use Rattle.std.specs.Prelude.{◌≡◌, ◌≢◌, ◌<◌, ◌≤◌, ◌↔◌, ℕ, All, Contains, length, map, slice_set, slice_index_or, IsTrue, IsFalse};
-ghost use Rattle.std.specs.Prelude.{IfOk};
+ghost use Rattle.std.specs.Prelude.{◌≡◌, ◌≢◌, ◌<◌, ◌≤◌, [], All, length, map, slice_index_or, IfOk};
 ghost use Rattle.std.specs.List.{AllPairs};
 ghost use Rattle.tor_arena.specs.Limits.{max_ratio};
 ghost use Rattle.relationships.specs.declared.label.Label.{Label};
 ghost use Rattle.relationships.specs.Relationship.{label_of, labels_of, ValleyFree, Serves};
 ghost use Rattle.relationships.specs.Graph.{edges, degree, support, orientation as orientation_of, labelling};
 ghost use Rattle.relationships.specs.Preference.{IsRelabelled, ServeEitherWay, NoneLeftOut};
-ghost use Rattle.as_graph.specs.Paths.{path_at, paths_at};
-ghost use Rattle.peering.specs.Peerings.{StayFree, IsPeeredIfFree, IsPeeredIfAllowed};
+ghost use Rattle.as_graph.specs.Paths.{paths_at};
+ghost use Rattle.peering.specs.Peerings.{IsPeeredBeside, IsPeeredIfAllowed};
 
 use crate::alike::is_alike;
 use crate::excluding::exclusions;
-use crate::holders::paths_by_edge;
+use crate::opening::openings;
+use crate::partners::Partners;
 use as_graph::{AsGraph, Labels, Orientation};
 use relationships::{End, Label};
 use std::alloc::Global;
@@ -39,52 +39,36 @@ fn first_labels(alloc: Global, ends: &[End]) -> Result<Labels, NoMemory>
     Labels::from_slice(alloc, labels.as_slice())
 }
 
-/// Whether all paths of a list are valley-free under the labels.
-fn are_valley_free(graph: &AsGraph, labels: &Labels, paths: &[PathId]) -> bool
-    requires labels { length labels.now ≡ length (edges graph.now) }
-    requires there { All (λ path. path < length graph.now) paths.now }
-    ensures { IsTrue result ↔ All (λ path. ValleyFree (labelling (edges graph.now) labels.now) (path_at graph.now path)) paths.now }
-{
-    for path in paths {
-        if !graph.valley_free(labels, *path) {
-            return false;
-        }
-    }
-    true
-}
-
-/// Makes an edge a peering, unless a path of the list then has a valley.
-fn offer(graph: &AsGraph, labels: &mut Labels, edge: EdgeId, paths: &[PathId])
-    requires labels { length labels.old ≡ length (edges graph.now) }
-    requires edge { edge < length (edges graph.now) }
-    requires there { All (λ path. path < length graph.now) paths.now }
-    ensures { IsPeeredIfFree graph.now paths.now edge labels.old labels.new }
+/// Makes an edge a peering, unless one of its partners is one then.
+fn offer(labels: &mut Labels, edge: EdgeId, partners: &Partners)
+    requires labels { length labels.old ≡ length partners.now }
+    requires edge { edge < length partners.now }
+    ensures { IsPeeredBeside (slice_index_or partners.now edge []) edge labels.old labels.new }
 {
     let first = labels.as_slice()[edge.place()];
     labels.set(edge, Label::Peer);
-    if !are_valley_free(graph, labels, paths) {
+    if !partners.are_no_peers(edge, labels.as_slice()) {
         labels.set(edge, first);
     }
 }
 
-/// Settles an edge: it becomes a peering if it is not excluded, the list has a path, its ends are alike in degree, and no path of the
-/// list then has a valley.
+/// Settles an edge: it becomes a peering if it is open, its ends are alike in degree, and none of its partners is one then.
 fn settle(
     graph: &AsGraph,
     labels: &mut Labels,
     edge: EdgeId,
-    excluded: bool,
-    paths: &[PathId],
+    is_open: bool,
+    partners: &Partners,
     ratio: u32,
 )
     requires labels { length labels.old ≡ length (edges graph.now) }
+    requires partners { length partners.now ≡ length (edges graph.now) }
     requires edge { edge < length (edges graph.now) }
-    requires there { All (λ path. path < length graph.now) paths.now }
     requires small { ratio ≤ max_ratio }
-    ensures { IsPeeredIfAllowed graph.now ratio excluded paths.now edge labels.old labels.new }
+    ensures { IsPeeredIfAllowed graph.now ratio is_open (slice_index_or partners.now edge []) edge labels.old labels.new }
 {
-    if !excluded && !paths.is_empty() && is_alike(graph, edge, ratio) {
-        offer(graph, labels, edge, paths);
+    if is_open && is_alike(graph, edge, ratio) {
+        offer(labels, edge, partners);
     }
 }
 
@@ -117,18 +101,12 @@ pub fn relabel(
     graph.facts();
     let ends = orientation.as_slice();
     let excluded = exclusions(alloc, graph, kept, ends)?;
-    let lists = paths_by_edge(alloc, graph, kept, excluded.as_slice())?;
+    let mut partners = Partners::new(alloc, graph.edge_count())?;
+    let opened = openings(alloc, graph, kept, excluded.as_slice(), &mut partners)?;
     let mut labels = first_labels(alloc, ends)?;
     for place in 0..graph.edge_count() {
         let edge = EdgeId::from_place(place).unwrap();
-        settle(
-            graph,
-            &mut labels,
-            edge,
-            excluded[place],
-            lists[place].as_slice(),
-            ratio,
-        );
+        settle(graph, &mut labels, edge, opened[place], &partners, ratio);
     }
     Ok(labels)
 }

@@ -1,8 +1,7 @@
-use Rattle.std.proofs.Common.{rules, ◌≡◌, false, List, ◌<◌, [], length, get_or, map, sym, ap, ◌∙◌, subst, arith, Contains}
+use Rattle.std.proofs.Common.{rules, ◌≡◌, ◌<◌, ◌∙◌, Bool, false, List, [], length, get_or, map, sym, ap, subst, arith}
 use Rattle.std.specs.List.{flat_map}
 use Rattle.std.proofs.lemmas.Option.{slice_get-get_or}
 use Rattle.std.proofs.lemmas.List.{length-map, get_or_default}
-use Rattle.std.proofs.lemmas.List.Elements.{All-contains, Contains-get_or}
 use Rattle.relationships.specs.declared.label.End.{End}
 use Rattle.relationships.specs.Relationship.{label_of}
 use Rattle.relationships.specs.Graph.{Edge, edges, edges_on, degree, orientation, labelling}
@@ -10,11 +9,11 @@ use Rattle.relationships.proofs.Edges.{peering_law}
 use Rattle.relationships.proofs.Preferring.{maximal_law}
 use Rattle.as_graph.specs.Paths.{paths_at}
 use Rattle.as_graph.proofs.Labelled.{NoneTwice-distinct}
-use Rattle.peering.specs.Exclusions.{IsExcluded}
+use Rattle.peering.specs.Exclusions.{IsExcluded, AllExcluded}
 use Rattle.peering.specs.Peerings.{IsPeeredIfAllowed}
-use Rattle.peering.proofs.Reading.{edge_among}
+use Rattle.peering.proofs.Reading.{edge_among, no_peers_at_first}
 use Rattle.peering.proofs.Flipping.{begins, relabelled}
-use Rattle.peering.proofs.Steps.{AreSettled, settled_next}
+use Rattle.peering.proofs.Steps.{AreFound, AreSettled, settled_next}
 use Rattle.peering.proofs.relabelling.relabel.Goals as goal
 
 pub loop-place-init : goal.loop-place-init
@@ -24,51 +23,49 @@ loop-place-init c =
     let ends = c.args.orientation.now in
     let es = edges paths in
     let first : c.in_ok-labels.labels ≡ map label_of ends = c.in_ok-labels.ensures ∙ ap (map label_of) c.as_slice-ends.ensures in
-    subst (AreSettled paths kept c.args.ratio ends 0) (sym first) (record {
+    subst (AreSettled paths kept c.args.ratio ends c.in_ok-opened.opened.items 0) (sym first) (record {
       count = length-map ends label_of ∙ c.requires.ends;
       so_far =
           begins (degree paths) c.args.ratio (paths_at paths kept) es ends (NoneTwice-distinct (flat_map edges_on paths)) (λ f at. edge_among paths kept f c.requires.there at) c.requires.ends
           c.requires.served;
+      only = λ k p. absurd (no_peers_at_first ends k p);
     })
-
-pub settle-requires-clause-there : goal.settle-requires-clause-there
-settle-requires-clause-there c = λ k d lt.
-    let places = c.as_slice-in-loop-place.result.now in
-    let test = c.loop-place-test.true in
-    let count = c.edge_count-place-end.ensures.count in
-    let many = c.in_ok-lists.ensures.many in
-    let within : c.loop-place.place < length c.in_ok-lists.lists.items = omega (arith, test, count, many) in
-    let is : places ≡ get_or c.in_ok-lists.lists.items c.loop-place.place [] =
-    c.as_slice-in-loop-place.ensures ∙ c.index-in-loop-place.ensures ∙ get_or_default c.in_ok-lists.lists.items c.loop-place.place c.index-in-loop-place.result.now [] within in
-    All-contains (λ q. q < length c.args.graph.now) c.args.kept.now (get_or places k d) c.requires.there
-    (c.in_ok-lists.ensures.inside c.loop-place.place (get_or places k d) (omega (arith, test, count)) (subst (λ l. Contains l (get_or places k d)) is (Contains-get_or places k d lt))).0
 
 pub loop-place-preserved : goal.loop-place-preserved
 loop-place-preserved c =
     let paths = c.args.graph.now in
     let kept = c.args.kept.now in
+    let ends = c.args.orientation.now in
     let ratio = c.args.ratio in
     let es = edges paths in
     let place = c.loop-place.place in
-    let places = c.as_slice-in-loop-place.result.now in
+    let excluded = c.as_slice.result.now in
+    let opened = c.in_ok-opened.opened.items in
+    let partners = c.openings.new.partners in
     let same : c.unwrap-edge.result ≡ place = search rules in
     let test = c.loop-place-test.true in
     let many = c.edge_count-place-end.ensures.count in
     let lt : place < length es = omega (arith, test, many) in
     let e : Edge = get_or es place (0, 0) in
-    let lists = c.in_ok-lists.ensures.many in
-    let is : places ≡ get_or c.in_ok-lists.lists.items place [] =
-    c.as_slice-in-loop-place.ensures ∙ c.index-in-loop-place.ensures ∙ get_or_default c.in_ok-lists.lists.items place c.index-in-loop-place.result.now [] (omega (arith, lt, lists)) in
-    let excluded = c.index.result.now in
-    let exclusions = c.in_ok-excluded.ensures.long in
-    let is_excluded : excluded ≡ get_or c.in_ok-excluded.excluded.items place false = c.index.ensures
-    ∙ get_or_default c.in_ok-excluded.excluded.items place excluded false (omega (arith, lt, exclusions)) in
-    settled_next paths kept ratio c.args.orientation.now c.requires.there c.facts.ensures.apart c.requires.ends place e excluded places
-    c.loop-place.labels (slice_get-get_or es place (0, 0) lt)
-    (λ q at. c.in_ok-lists.ensures.inside place q lt (subst (λ l. Contains l q) is at))
-    (λ f q at t. subst (λ l. Contains l q) (sym is) (c.in_ok-lists.ensures.all place q lt (ap (λ l. get_or l place false) c.as_slice.ensures.value ∙ sym is_excluded ∙ f) at t))
-    (λ t. subst (λ (l : List End). IsExcluded paths kept l place) c.as_slice-ends.ensures (c.in_ok-excluded.ensures.excluded place (sym is_excluded ∙ t)))
-    c.loop-place.invariant c.settle.new.labels (subst (λ k. IsPeeredIfAllowed paths ratio excluded places k c.loop-place.labels c.settle.new.labels) same c.settle.ensures)
+    let is_open = c.index.result.now in
+    let long = c.in_ok-opened.ensures.long in
+    let read : is_open ≡ get_or opened place false = c.index.ensures ∙ get_or_default opened place is_open false (omega (arith, lt, long)) in
+    let value = c.as_slice.ensures.value in
+    let found : AreFound paths kept ends excluded opened partners = record {
+      excluded_so = λ k t. subst (λ (l : List End). IsExcluded paths kept l k) c.as_slice-ends.ensures (c.in_ok-excluded.ensures.excluded k (ap (λ l. get_or l k false) (sym value) ∙ t));
+      all_excluded =
+          subst (λ (l : List Bool). AllExcluded paths kept ends l) (sym value)
+          (subst (λ (l : List End). AllExcluded paths kept l c.in_ok-excluded.excluded.items) c.as_slice-ends.ensures c.in_ok-excluded.ensures.all);
+      opened_so = c.in_ok-opened.ensures.opened;
+      all_opened = c.in_ok-opened.ensures.all_opened;
+      beside = c.in_ok-opened.ensures.beside;
+      all_beside = c.in_ok-opened.ensures.all_beside;
+    } in
+    let settled : IsPeeredIfAllowed paths ratio is_open (get_or partners c.unwrap-edge.result []) c.unwrap-edge.result c.loop-place.labels c.settle.new.labels = c.settle.ensures in
+    settled_next paths kept ratio ends opened c.requires.there c.facts.ensures.apart c.requires.ends excluded partners found place e c.loop-place.labels
+    (slice_get-get_or es place (0, 0) lt) c.loop-place.invariant c.settle.new.labels
+    (subst (λ b. IsPeeredIfAllowed paths ratio b (get_or partners place []) place c.loop-place.labels c.settle.new.labels) read
+    (subst (λ k. IsPeeredIfAllowed paths ratio is_open (get_or partners k []) k c.loop-place.labels c.settle.new.labels) same settled))
 
 pub returns-clause-relabelled : goal.returns-clause-relabelled
 returns-clause-relabelled c =
