@@ -68,11 +68,11 @@ fn seen_of(
     alloc: Global,
     keys: Keys,
     settings: &ViewSettings,
-    file: ResultFile,
+    file: &ResultFile,
 ) -> Result<List<u8>, Unsaid>
     requires few { AreFew settings.now }
-    ensures seen { IfOk result (λ text. IsSeen settings.now file (Some text)) }
-    ensures unseen { IfErr result (IsUnanswered viewing settings.now file) }
+    ensures seen { IfOk result (λ text. IsSeen settings.now file.now (Some text)) }
+    ensures unseen { IfErr result (IsUnanswered viewing settings.now file.now) }
 {
     if !has_edge(file.edges.as_slice(), settings.asked) {
         return Err(absent(alloc, settings.asked));
@@ -100,7 +100,7 @@ fn seen_in<H: Shelf>(
     ensures reads_shelf { ReadsShelf H.Shelf (IsErrAnd result IsFailedRead) shelf.old shelf.new }
 {
     match result_met(alloc, keys, shelf, settings.result.as_text()) {
-        Ok(file) => seen_of(alloc, keys, settings, file),
+        Ok(file) => seen_of(alloc, keys, settings, &file),
         Err(unsaid) => Err(unsaid),
     }
 }

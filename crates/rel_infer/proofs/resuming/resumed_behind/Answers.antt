@@ -22,7 +22,8 @@ inferred_on-requires-clause-kept c =
     let same = own ∙ ap (λ (gs : List Given). paths ++ returns paths gs) givens in
     let n = c.len-count.result in
     let many = c.len-count.ensures.length in
-    kept_there earlier paths graph c.requires.begins.begins same c.parts_of-parts.result.fates (c.parts_of-parts.ensures.fates ∙ c.requires.begins.left.fates) n many c.in_ok-started.started.first.places (c.in_ok-started.ensures.kept earlier c.requires.begins.left c.requires.begins.begins)
+    kept_there earlier paths graph c.requires.begins.begins same c.parts_of-parts.result.fates (c.parts_of-parts.ensures.fates ∙ c.requires.begins.left.fates) n many
+    c.in_ok-started.started.first.places (c.in_ok-started.ensures.kept earlier c.requires.begins.left c.requires.begins.begins)
 
 pub inferred_on-requires-clause-keeps : goal.inferred_on-requires-clause-keeps
 inferred_on-requires-clause-keeps c =
