@@ -2,6 +2,7 @@
 ghost use Rattle.std.specs.Prelude.{◌≡◌, Err, IfOk, IfErr, OnOk, IsErrOf, IsErrAnd};
 ghost use Rattle.std.specs.Io.KnownBytes.{IsAtEnd};
 ghost use Rattle.result_rules.specs.File.{HasFewLines};
+ghost use Rattle.result_rules.specs.Judging.{Judges};
 ghost use Rattle.run_base.specs.Frames.{ReadsShelf};
 ghost use Rattle.run_base.specs.WholeFile.{LeavesRest, LeavesOnly};
 ghost use Rattle.run_base.specs.declared.whole_file.Unread.TheVariants.{Failed as failed};
@@ -29,16 +30,27 @@ pub enum Ruling {
     Met(ResultFile),
 }
 
+/// What this verdict says of a result.
+fn ruling_by(verdict: Verdict, file: ResultFile) -> Ruling
+    requires lines { HasFewLines file }
+    requires judged { Judges file verdict }
+    ensures rules { IsRulingOf file result }
+    ensures few { IsOfFewLines result }
+{
+    match verdict {
+        Verdict::Yes => Ruling::Met(file),
+        Verdict::No { line, rule } => Ruling::Broken { line, rule },
+    }
+}
+
 /// What the rules 1 to 10 say of a result.
 fn ruling_of(alloc: Global, keys: Keys, file: ResultFile) -> Result<Ruling, NoMemory>
     requires lines { HasFewLines file }
     ensures rules { IfOk result (IsRulingOf file) }
     ensures few { IfOk result IsOfFewLines }
 {
-    match check_file(alloc, keys, &file)? {
-        Verdict::Yes => Ok(Ruling::Met(file)),
-        Verdict::No { line, rule } => Ok(Ruling::Broken { line, rule }),
-    }
+    let verdict = check_file(alloc, keys, &file)?;
+    Ok(ruling_by(verdict, file))
 }
 
 /// What the rules 0 to 10 say of the result file of this name. Failed: the open or a read failed. TooLong: it has more than 2^31 octets,
