@@ -71,26 +71,33 @@ with_step es k e path steps once is are s c at =
 -- ---- edges are opened along steps
 
 -- the edges of the first n steps that are not excluded were opened, beside those of before
-pub record IsOpenedTo (excluded : List Bool) (steps : List Step) (first now : List Bool) (n : ℕ) : Type 0 where
+pub record IsOpenedTo (excluded : List Bool) (steps : List Step) (first now : List Bool) (n : ℕ) (is_some : Bool) : Type 0 where
   pub long : length now ≡ length excluded
   pub each : (k : ℕ) → IsTrue (get_or now k false) ↔ (IsTrue (get_or first k false) ⊎ (IsFalse (get_or excluded k false) × HasStep (take n steps) k))
+  pub none : IsFalse is_some → (k : ℕ) → HasStep (take n steps) k → IsTrue (get_or excluded k false)
 
-pub opened_none : (excluded : List Bool) (steps : List Step) (first : List Bool) → length first ≡ length excluded → IsOpenedTo excluded steps first first 0
+pub opened_none : (excluded : List Bool) (steps : List Step) (first : List Bool) → length first ≡ length excluded → IsOpenedTo excluded steps first first 0 false
 opened_none excluded steps first long = record {
   long = long;
   each = λ k. (λ t. inl t, λ h. elim h [ inl t ↦ t | inr e ↦ absurd (nothing e.1.0 e.1.1) ]);
+  none = λ f k e. absurd (nothing e.0 e.1);
 }
   where
     nothing : (s : Step) → Contains [] s → ⊥
     nothing s c = let lt = c.1 in absurd (omega (arith, lt))
 
 -- the edge of one step more is opened unless it is excluded
-pub opened_next : (excluded : List Bool) (steps : List Step) (first now new : List Bool) (n : ℕ) (step : Step) → n < length steps → get_or steps n step ≡ step →
+pub opened_next : (excluded : List Bool) (steps : List Step) (first now new : List Bool) (n : ℕ) (step : Step) (was is_some : Bool) → n < length steps → get_or steps n step ≡ step →
     length new ≡ length now → ((k : ℕ) → IsTrue (get_or new k false) ↔ (IsTrue (get_or now k false) ⊎ (IsFalse (get_or excluded k false) × (step.edge ≡ k)))) →
-    IsOpenedTo excluded steps first now n → IsOpenedTo excluded steps first new (n + 1)
-opened_next excluded steps first now new n step lt at long single h = record {
+    (IsFalse is_some → IsFalse was × IsTrue (get_or excluded step.edge false)) →
+    IsOpenedTo excluded steps first now n was → IsOpenedTo excluded steps first new (n + 1) is_some
+opened_next excluded steps first now new n step was is_some lt at long single still h = record {
   long = long ∙ h.long;
   each = λ k. (λ t. on k ((single k).0 t), λ t. (single k).1 (back k t));
+  none = λ f k e. elim (Contains-push_cases (take n steps) step e.0 (subst (λ l. Contains l e.0) next e.1)) [
+    | inl old ↦ h.none (still f).0 k (e.0, old, e.2)
+    | inr is ↦ subst (λ m. IsTrue (get_or excluded m false)) (ap (λ (s : Step). s.edge) is ∙ e.2) (still f).1
+  ];
 }
   where
     next : take (n + 1) steps ≡ take n steps ++ step ∷ []
@@ -265,6 +272,14 @@ pub paired_all : (excluded : List Bool) (steps : List Step) (first now : List (L
     (a b : ℕ) → AreBeside steps a b → IsFalse (get_or excluded a false) → IsFalse (get_or excluded b false) → Contains (get_or now (max a b) []) (min a b)
 paired_all excluded steps first now at le h a b (i, s, t, s_at, t_at, is_a, is_b) =
     h.all a b (i, s, t, (let lt = slice_get_within steps (i + 1) t t_at in omega (arith, lt, le)), s_at, t_at, is_a, is_b)
+
+-- where all edges are excluded there is nothing to add
+pub nothing_paired : (excluded : List Bool) (steps : List Step) → ((k : ℕ) → HasStep steps k → IsTrue (get_or excluded k false)) → (a b : ℕ) → AreBeside steps a b →
+    IsFalse (get_or excluded a false) → ⊥
+nothing_paired excluded steps none a b (i, s, t, s_at, t_at, is_a, is_b) f =
+    let lt = slice_get_within steps i s s_at in
+    let is : get_or steps i s ≡ s = same_Some _ _ (sym (slice_get-get_or steps i s lt) ∙ s_at) in
+    false≢true (sym f ∙ none a (s, (i, lt, is), is_a))
 
 -- ---- all kept paths
 

@@ -11,20 +11,24 @@ use as_graph::{AsGraph, Step};
 use std::alloc::Global;
 use tor_arena::{EdgeId, Index, NoMemory, PathId};
 
-/// Opens the edges of the steps that are not excluded.
-fn open_along(opened: &mut Vec<bool>, steps: &[Step], excluded: &[bool])
+/// Opens the edges of the steps that are not excluded, and answers whether there is one.
+fn open_along(opened: &mut Vec<bool>, steps: &[Step], excluded: &[bool]) -> bool
     requires long { length opened.old.items ≡ length excluded.now }
     requires inside { All (λ step. step.edge < length excluded.now) steps.now }
     ensures long { length opened.new.items ≡ length excluded.now }
     ensures opened { (k : ℕ) → IsTrue (slice_index_or opened.new.items k false) ↔
         (IsTrue (slice_index_or opened.old.items k false) ⊎ (IsFalse (slice_index_or excluded.now k false) × HasStep steps.now k)) }
+    ensures none { IsFalse result → (k : ℕ) → HasStep steps.now k → IsTrue (slice_index_or excluded.now k false) }
 {
+    let mut is_some = false;
     for step in steps {
         let place = step.edge().place();
         if !excluded[place] {
             opened[place] = true;
+            is_some = true;
         }
     }
+    is_some
 }
 
 /// Makes the lesser of two edges a partner of the greater, unless one of the two is excluded.
@@ -93,8 +97,9 @@ pub(crate) fn openings(
     opened.resize(excluded.len(), false)?;
     for path in kept {
         let steps = graph.steps(*path);
-        open_along(&mut opened, steps, excluded);
-        add_pairs(partners, steps, excluded)?;
+        if open_along(&mut opened, steps, excluded) {
+            add_pairs(partners, steps, excluded)?;
+        }
     }
     Ok(opened)
 }
