@@ -10,8 +10,4 @@ mod of_gao_prefs;
 #[cfg(test)]
 mod of_path_select;
 #[cfg(test)]
-mod of_peering;
-#[cfg(test)]
 mod of_ties;
-#[cfg(test)]
-mod of_tor_orient;

@@ -1,4 +1,4 @@
-//! Tests of ties.
+//! Tests of ties. Those of other paths stand in the rows of `tor_rows`.
 ghost use Rattle.std.specs.Prelude.{◌<◌, All, length, IfOk};
 ghost use Rattle.relationships.specs.Graph.{edges};
 ghost use Rattle.tor_clauses.specs.Formulas.{FitsGraph};
@@ -51,47 +51,7 @@ static OF_A_RING: [Case; 3] = [
     },
 ];
 
-static OF_THREE_PATHS: [Case; 1] = [Case {
-    kept: 2,
-    lines: &[
-        (30, 40, 1, Side::With),
-        (20, 40, 2, Side::With),
-        (20, 30, 3, Side::With),
-        (10, 60, 4, Side::With),
-    ],
-}];
-
-// two rings of three with one edge in between, which is tied to none: the second ring's edges come in another order
-static OF_TWO_RINGS: [Case; 1] = [Case {
-    kept: 7,
-    lines: &[
-        (10, 20, 1, Side::With),
-        (20, 30, 1, Side::With),
-        (7, 8, 2, Side::With),
-        (50, 60, 3, Side::With),
-        (40, 50, 3, Side::With),
-        (10, 30, 1, Side::Against),
-        (40, 60, 3, Side::Against),
-    ],
-}];
-
 const RING: &[&[u32]] = &[&[10, 20, 30], &[20, 30, 10], &[30, 10, 20]];
-
-const THREE_PATHS: &[&[u32]] = &[
-    &[30, 40, 20, 10, 50, 60],
-    &[10, 20, 30, 40],
-    &[50, 60, 10, 20],
-];
-
-const TWO_RINGS: &[&[u32]] = &[
-    &[10, 20, 30],
-    &[7, 8],
-    &[60, 50, 40],
-    &[20, 30, 10],
-    &[50, 40, 60],
-    &[30, 10, 20],
-    &[40, 60, 50],
-];
 
 /// The ties by the marks that are made under the labels.
 fn ties_under(
@@ -182,19 +142,5 @@ fn met_of(alloc: Global, keys: Keys, paths: &[&[u32]], cases: &[Case]) -> Result
 #[test]
 fn edges_of_a_ring_are_tied(rt: HostRuntime) -> Result<(), Fail> {
     assert_eq!(rt; met_of(rt.alloc(), Keys::new(&rt), RING, &OF_A_RING)?, 3);
-    Ok(())
-}
-
-#[test]
-fn open_edges_of_three_paths_are_not_tied(rt: HostRuntime) -> Result<(), Fail> {
-    let count = met_of(rt.alloc(), Keys::new(&rt), THREE_PATHS, &OF_THREE_PATHS)?;
-    assert_eq!(rt; count, 1);
-    Ok(())
-}
-
-#[test]
-fn classes_are_numbered_by_their_first_edges(rt: HostRuntime) -> Result<(), Fail> {
-    let count = met_of(rt.alloc(), Keys::new(&rt), TWO_RINGS, &OF_TWO_RINGS)?;
-    assert_eq!(rt; count, 1);
     Ok(())
 }

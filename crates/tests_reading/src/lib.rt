@@ -10,14 +10,8 @@ mod of_path_attrs;
 #[cfg(test)]
 mod of_path_clean;
 #[cfg(test)]
-mod of_record_counts;
-#[cfg(test)]
-mod of_rib_v1;
-#[cfg(test)]
 mod of_rib_v2;
 #[cfg(test)]
 mod of_tor_io;
 #[cfg(test)]
 mod of_tor_sample;
-#[cfg(test)]
-mod of_tor_survey;

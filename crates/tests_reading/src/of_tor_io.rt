@@ -119,25 +119,54 @@ fn reads_a_file_that_is_larger_than_the_buffer(rt: HostRuntime) -> Result<(), Fa
     Ok(())
 }
 
-/// What is read where the second call fails.
-const SECOND_FAILS: [Call; 3] = [
-    Call::Open("a", Ok(())),
-    Call::Read(4, Err(Failed), b"\0\0\0\0"),
-    Call::Read(4, Ok(3), b"123\0"),
+/// A file, how many octets a read gives at most, the number of the call that fails, and calls.
+type ShelfCase = (&'static [u8], usize, u64, &'static [Call]);
+
+static SHELVES: [ShelfCase; 2] = [
+    // the second call fails, and has read nothing
+    (
+        b"123",
+        100,
+        2,
+        &[
+            Call::Open("a", Ok(())),
+            Call::Read(4, Err(Failed), b"\0\0\0\0"),
+            Call::Read(4, Ok(3), b"123\0"),
+        ],
+    ),
+    // five octets, at most two in a call
+    (
+        b"12345",
+        2,
+        100,
+        &[
+            Call::Open("a", Ok(())),
+            Call::Read(4, Ok(2), b"12\0\0"),
+            Call::Read(1, Ok(1), b"32\0\0"),
+            Call::Read(4, Ok(2), b"45\0\0"),
+            Call::Read(4, Ok(0), b"45\0\0"),
+        ],
+    ),
 ];
 
-/// A shelf with a file, of which a call fails.
-fn put_failing(shelf: &mut MemShelf) -> Result<(), NoMemory> {
-    shelf.put("a", b"123")?;
-    shelf.fail_at(2)
+fn put_case(shelf: &mut MemShelf, case: &ShelfCase) -> Result<(), NoMemory> {
+    let (octets, most, failing, _) = case;
+    shelf.put("a", octets)?;
+    shelf.at_most((*most).max(1));
+    shelf.fail_at(*failing)
+}
+
+/// Whether each call of a case is answered so.
+fn is_shelf_right(alloc: Global, case: &ShelfCase) -> bool {
+    let mut shelf = MemShelf::new(alloc);
+    put_case(&mut shelf, case).is_ok() && first_other(&mut shelf, &mut [0; 4], case.3).is_none()
 }
 
 #[test]
-fn a_read_that_fails_has_read_nothing(rt: HostRuntime) -> Result<(), Fail> {
-    let mut shelf = MemShelf::new(rt.alloc());
-    put_failing(&mut shelf)?;
-    assert_eq!(rt; first_other(&mut shelf, &mut [0; 4], &SECOND_FAILS), None);
-    Ok(())
+fn files_in_memory_are_read_in_parts_and_calls_fail(rt: HostRuntime) {
+    for case in &SHELVES {
+        assert!(rt; is_shelf_right(rt.alloc(), case));
+    }
 }
 
 /// Whether the first write fails, and the second is taken whole.
@@ -152,24 +181,6 @@ fn a_write_that_fails_has_written_nothing(rt: HostRuntime) -> Result<(), Fail> {
     let mut sink = MemSink::new(rt.alloc(), 4, 2)?;
     sink.fail_at(1)?;
     assert!(rt; takes_at_the_second(&mut sink));
-    Ok(())
-}
-
-/// What is read of five octets, at most two in a call.
-const TWO_A_CALL: [Call; 5] = [
-    Call::Open("a", Ok(())),
-    Call::Read(4, Ok(2), b"12\0\0"),
-    Call::Read(1, Ok(1), b"32\0\0"),
-    Call::Read(4, Ok(2), b"45\0\0"),
-    Call::Read(4, Ok(0), b"45\0\0"),
-];
-
-#[test]
-fn gives_few_bytes_in_a_read(rt: HostRuntime) -> Result<(), Fail> {
-    let mut shelf = MemShelf::new(rt.alloc());
-    shelf.put("a", b"12345")?;
-    shelf.at_most(2);
-    assert_eq!(rt; first_other(&mut shelf, &mut [0; 4], &TWO_A_CALL), None);
     Ok(())
 }
 
@@ -221,11 +232,25 @@ fn first_other_row(buffer: &mut Buffer, sink: &mut MemSink, long: &[u8]) -> Opti
     None
 }
 
+/// The first row that is not so behind a new buffer.
+fn first_other_behind(
+    alloc: Global,
+    sink: &mut MemSink,
+    long: &[u8],
+) -> Result<Option<usize>, Fail> {
+    let mut buffer = Buffer::new(alloc)?;
+    Ok(first_other_row(&mut buffer, sink, long))
+}
+
+/// The same with a new sink.
+fn first_other_into(alloc: Global, long: &[u8]) -> Result<Option<usize>, Fail> {
+    let mut sink = MemSink::new(alloc, 131_076, 50_000)?;
+    first_other_behind(alloc, &mut sink, long)
+}
+
 #[test]
 fn writes_behind_a_buffer(rt: HostRuntime) -> Result<(), Fail> {
     let long = vec![in rt.alloc(); b'b'; 65537]?;
-    let mut sink = MemSink::new(rt.alloc(), 131_076, 50_000)?;
-    let mut buffer = Buffer::new(rt.alloc())?;
-    assert_eq!(rt; first_other_row(&mut buffer, &mut sink, &long), None);
+    assert_eq!(rt; first_other_into(rt.alloc(), &long)?, None);
     Ok(())
 }

@@ -1,11 +1,11 @@
 //! Tests of texts of results.
-use path_clean::{Asides, Sets};
-use relationships::{Fates, Label, Link, WalkRef, Walks};
+use path_clean::Sets;
+use relationships::{Label, Link, WalkRef, Walks};
 use result_text::{
     EdgeLine, Mark, ParseError, PathLineRef, PathLines, Probe, ResultFile, Totals, parse, print,
 };
 use std::alloc::Global;
-use tor_arena::{Index, List, NoMemory, PathId, Rows, WalkId};
+use tor_arena::{Index, List, NoMemory, PathId, WalkId};
 
 /// A text in two pieces, and its bad line, if it has one.
 struct Case {
@@ -23,20 +23,26 @@ const SECOND_HEAD: &str =
     "tor|2\nsets|cut\nratio|60\naside|nopath|0\naside|badsegments|0\naside|confed|0\naside|sets|0\naside|reserved|0\n\
         aside|loop|0\naside|short|0\n";
 
-/// A result without lines of any list, and one with a path without ASes.
-const NO_LINES: &str =
-    "tor|1\nsets|cut\nratio|60\naside|nopath|0\naside|badsegments|0\naside|confed|0\naside|sets|0\naside|reserved|0\n\
-        aside|loop|0\naside|short|0\nend|0|0|0|0|0\n";
-
-const ONE_EMPTY_PATH: &str =
-    "tor|1\nsets|cut\nratio|60\naside|nopath|0\naside|badsegments|0\naside|confed|0\naside|sets|0\naside|reserved|0\n\
-        aside|loop|0\naside|short|0\nkept|1|\nend|0|0|0|0|0\n";
-
 const ASIDES: &str =
     "aside|nopath|0\naside|badsegments|0\naside|confed|0\naside|sets|0\naside|reserved|0\naside|loop|0\naside|short|0\n\
         end|0|0|0|0|0\n";
 
-static CASES: [Case; 44] = [
+/// The result of three paths.
+const THREE_PATHS: &str =
+    "tor|1\nsets|cut\nratio|60\naside|nopath|0\naside|badsegments|0\naside|confed|0\naside|sets|0\naside|reserved|0\n\
+        aside|loop|0\naside|short|0\nkept|1|30 40 20 10 50 60\nkept|1|10 20 30 40\n\
+        lost|1|50 60 10 20|10 20 30 40 20 10 50 60 10 20|2:2 2:3 1:2 1:3 1:4 1:5 3:2 3:3\nedge|30|40|high|open|2\n\
+        edge|20|40|peer|open|1\nedge|10|20|high|forced|2\nedge|10|50|low|forced|1\nedge|50|60|low|forced|1\n\
+        edge|20|30|high|open|1\nedge|10|60|low|open|0\nwhy|10 20 30 40 20 10|2:2 2:3 1:2 1:3\nwhy|20 10 50|1:4\n\
+        why|10 50 60|1:5\nopen|20|30\nopen|60|10\nend|2|1|7|3|1\n";
+
+static CASES: [Case; 45] = [
+    // three paths, of which one is lost
+    Case {
+        head: THREE_PATHS,
+        body: "",
+        bad_line: None,
+    },
     // an empty dump
     Case {
         head: HEAD,
@@ -317,7 +323,7 @@ fn joined(alloc: Global, case: &Case) -> Result<List<u8>, NoMemory> {
 }
 
 /// Whether a result has this text.
-pub(crate) fn is_printed(alloc: Global, file: &ResultFile, text: &[u8]) -> bool {
+fn is_printed(alloc: Global, file: &ResultFile, text: &[u8]) -> bool {
     match print(alloc, file) {
         Ok(again) => again.as_slice() == text,
         Err(NoMemory) => false,
@@ -325,7 +331,7 @@ pub(crate) fn is_printed(alloc: Global, file: &ResultFile, text: &[u8]) -> bool 
 }
 
 /// Whether this is the bad line of a text. A text without one has to be that of what is read.
-pub(crate) fn is_read(alloc: Global, text: &[u8], bad_line: Option<u64>) -> bool {
+fn is_read(alloc: Global, text: &[u8], bad_line: Option<u64>) -> bool {
     match parse(alloc, text) {
         Ok(file) => bad_line.is_none() && is_printed(alloc, &file, text),
         Err(ParseError::BadLine(line)) => bad_line == Some(line),
@@ -353,28 +359,6 @@ fn first_other(alloc: Global) -> Result<Option<usize>, NoMemory> {
 fn texts_are_read_or_their_bad_line_is_named(rt: HostRuntime) {
     assert_eq!(rt; first_other(rt.alloc()), Ok(None));
 }
-
-/// How many paths the result has whose text this is.
-fn path_count(alloc: Global, text: &str) -> Option<usize> {
-    match parse(alloc, text.as_bytes()) {
-        Ok(file) => Some(file.paths.len()),
-        Err(_) => None,
-    }
-}
-
-#[test]
-fn no_path_is_another_result_than_a_path_without_ases(rt: HostRuntime) {
-    assert_eq!(rt; path_count(rt.alloc(), NO_LINES), Some(0));
-    assert_eq!(rt; path_count(rt.alloc(), ONE_EMPTY_PATH), Some(1));
-}
-
-const THREE_PATHS: &str =
-    "tor|1\nsets|cut\nratio|60\naside|nopath|0\naside|badsegments|0\naside|confed|0\naside|sets|0\naside|reserved|0\n\
-        aside|loop|0\naside|short|0\nkept|1|30 40 20 10 50 60\nkept|1|10 20 30 40\n\
-        lost|1|50 60 10 20|10 20 30 40 20 10 50 60 10 20|2:2 2:3 1:2 1:3 1:4 1:5 3:2 3:3\nedge|30|40|high|open|2\n\
-        edge|20|40|peer|open|1\nedge|10|20|high|forced|2\nedge|10|50|low|forced|1\nedge|50|60|low|forced|1\n\
-        edge|20|30|high|open|1\nedge|10|60|low|open|0\nwhy|10 20 30 40 20 10|2:2 2:3 1:2 1:3\nwhy|20 10 50|1:4\n\
-        why|10 50 60|1:5\nopen|20|30\nopen|60|10\nend|2|1|7|3|1\n";
 
 const EDGES: [EdgeLine; 7] = [
     EdgeLine {
@@ -489,59 +473,6 @@ const WHYS: [Walk; 3] = [
     (&[10, 50, 60], &[Link { path: 1, at: 5 }]),
 ];
 
-fn add_lines(lines: &mut PathLines) -> Result<(), NoMemory> {
-    lines.reserve(3, 14)?;
-    for (times, path, walk) in LINES {
-        match walk {
-            None => lines.push_kept(times, path)?,
-            Some((ases, links)) => lines.push_lost(times, path, &WalkRef::new(ases, links))?,
-        }
-    }
-    Ok(())
-}
-
-fn add_whys(whys: &mut Walks) -> Result<(), NoMemory> {
-    for (ases, links) in WHYS {
-        whys.push(ases, links)?;
-    }
-    Ok(())
-}
-
-/// A result without lines, but for its totals.
-fn without_lines(alloc: Global) -> ResultFile {
-    ResultFile {
-        sets: Sets::Cut,
-        ratio: 60,
-        asides: Asides::new(),
-        givens: None,
-        paths: PathLines::new(alloc),
-        edges: List::new(alloc),
-        whys: Walks::new(alloc),
-        probes: List::new(alloc),
-        totals: TOTALS,
-    }
-}
-
-fn add_three_paths(file: &mut ResultFile) -> Result<(), NoMemory> {
-    file.edges.extend_from_slice(&EDGES)?;
-    file.probes.extend_from_slice(&PROBES)?;
-    add_lines(&mut file.paths)?;
-    add_whys(&mut file.whys)
-}
-
-/// Whether a result without lines is printed as it should be, and again, once the three paths are added.
-fn prints_three_paths(alloc: Global, file: &mut ResultFile) -> bool {
-    add_three_paths(file).is_ok()
-        && is_printed(alloc, file, THREE_PATHS.as_bytes())
-        && is_read(alloc, THREE_PATHS.as_bytes(), None)
-}
-
-#[test]
-fn three_paths_are_printed_and_printed_again(rt: HostRuntime) {
-    let mut file = without_lines(rt.alloc());
-    assert!(rt; prints_three_paths(rt.alloc(), &mut file));
-}
-
 fn is_walk(walk: &WalkRef<'_>, wanted: Walk) -> bool {
     walk.ases() == wanted.0 && walk.links() == wanted.1
 }
@@ -589,7 +520,9 @@ fn are_walks(walks: &Walks, wanted: &[Walk]) -> bool {
 
 /// Whether the head, the edges, the probes and the totals are those of the three paths.
 fn has_numbers(file: &ResultFile) -> bool {
-    file.ratio == 60
+    file.sets == Sets::Cut
+        && file.ratio == 60
+        && file.givens.is_none()
         && file.edges.as_slice() == EDGES.as_slice()
         && file.probes.as_slice() == PROBES.as_slice()
         && file.totals == TOTALS
@@ -614,48 +547,4 @@ fn is_three_paths(alloc: Global, text: &[u8]) -> bool {
 #[test]
 fn every_field_of_three_paths_is_read(rt: HostRuntime) {
     assert!(rt; is_three_paths(rt.alloc(), THREE_PATHS.as_bytes()));
-}
-
-/// Whether two kept paths, each with its times, are added.
-fn adds_parts(rows: &mut Rows<PathId, u32>, times: &mut List<u64>, fates: &mut Fates) -> bool {
-    for _ in 0..2 {
-        if rows.push_row(&[10, 20]).is_err()
-            || times.push(7).is_err()
-            || fates.push_kept().is_err()
-        {
-            return false;
-        }
-    }
-    true
-}
-
-/// Whether these lines come apart as two paths, with their times and fates.
-fn come_apart(lines: PathLines) -> bool {
-    let (rows, times, fates) = lines.into_parts();
-    rows.len() == 2 && times.as_slice() == [7, 7].as_slice() && fates.len() == 2
-}
-
-/// The lines of these parts, if there are as many of each.
-fn lines_of(rows: Rows<PathId, u32>, times: List<u64>, fates: Fates) -> Option<PathLines> {
-    if times.len() == rows.len() && fates.len() == rows.len() {
-        Some(PathLines::from_parts(rows, times, fates))
-    } else {
-        None
-    }
-}
-
-#[test]
-fn lines_are_made_of_parts(rt: HostRuntime) {
-    let mut rows = Rows::new(rt.alloc());
-    let mut times = List::new(rt.alloc());
-    let mut fates = Fates::new(rt.alloc());
-    assert!(rt; adds_parts(&mut rows, &mut times, &mut fates));
-    let lines = lines_of(rows, times, fates);
-    let wanted: [Line; 2] = [(7, &[10, 20], None), (7, &[10, 20], None)];
-    assert!(rt; lines.is_some_and(|lines| are_lines(&lines, &wanted) && come_apart(lines)));
-}
-
-#[test]
-fn what_is_read_is_printed(rt: HostRuntime) {
-    assert!(rt; is_read(rt.alloc(), THREE_PATHS.as_bytes(), None));
 }
