@@ -1,11 +1,11 @@
-//! Tests of graphs of paths.
-ghost use Rattle.std.specs.Prelude.{◌≡◌, ◌<◌, ◌∷◌, [], IfOk};
+//! Tests of graphs of paths. Supports stand in the rows of `tor_rows`, and the steps of a path in `proofs/Vectors.antt` of `as_graph`.
+ghost use Rattle.std.specs.Prelude.{◌≡◌, ◌∷◌, [], IfOk};
 
 use as_graph::{AsGraph, Labels, Orientation, build, build_with};
 use relationships::{End, Given, Label};
 use std::alloc::Global;
 use std::test::Fail;
-use tor_arena::{EdgeId, Index, Keys, List, PathId, RowRefused, Rows};
+use tor_arena::{EdgeId, Index, Keys, PathId, RowRefused, Rows};
 
 /// What is asked of a graph: how many paths it has, its edges in order, pairs of ASes that are no edges, and degrees.
 struct Case {
@@ -99,9 +99,7 @@ fn three_paths(alloc: Global) -> Result<Rows<PathId, u32>, RowRefused>
     Ok(rows)
 }
 
-fn three_path_graph(alloc: Global, keys: Keys) -> Result<AsGraph, Fail>
-    ensures { IfOk result (λ graph. graph ≡ (30 ∷ 40 ∷ 20 ∷ 10 ∷ 50 ∷ 60 ∷ []) ∷ (10 ∷ 20 ∷ 30 ∷ 40 ∷ []) ∷ (50 ∷ 60 ∷ 10 ∷ 20 ∷ []) ∷ []) }
-{
+fn three_path_graph(alloc: Global, keys: Keys) -> Result<AsGraph, Fail> {
     let rows = three_paths(alloc)?;
     Ok(build(alloc, keys, &rows)?)
 }
@@ -174,21 +172,9 @@ fn of_three_paths(alloc: Global, keys: Keys) -> Result<bool, Fail> {
     meets(alloc, &graph, &OF_THREE_PATHS)
 }
 
-#[test]
-fn edges_stand_in_order_of_first_appearance(rt: HostRuntime) -> Result<(), Fail> {
-    assert!(rt; of_three_paths(rt.alloc(), Keys::new(&rt))?);
-    Ok(())
-}
-
 fn of_outermost_numbers(alloc: Global, keys: Keys) -> Result<bool, Fail> {
     let graph = outermost_graph(alloc, keys)?;
     meets(alloc, &graph, &OF_OUTERMOST_NUMBERS)
-}
-
-#[test]
-fn edges_of_the_least_and_greatest_numbers_are_found(rt: HostRuntime) -> Result<(), Fail> {
-    assert!(rt; of_outermost_numbers(rt.alloc(), Keys::new(&rt))?);
-    Ok(())
 }
 
 fn of_two_paths(alloc: Global, keys: Keys) -> Result<bool, Fail> {
@@ -197,8 +183,12 @@ fn of_two_paths(alloc: Global, keys: Keys) -> Result<bool, Fail> {
 }
 
 #[test]
-fn edges_of_two_paths_are_found(rt: HostRuntime) -> Result<(), Fail> {
-    assert!(rt; of_two_paths(rt.alloc(), Keys::new(&rt))?);
+fn edges_stand_in_order_of_first_appearance_and_are_found(rt: HostRuntime) -> Result<(), Fail> {
+    assert!(rt; of_three_paths(rt.alloc(), Keys::new(&rt))?);
+    assert!(rt;
+        of_outermost_numbers(rt.alloc(), Keys::new(&rt))?
+            && of_two_paths(rt.alloc(), Keys::new(&rt))?
+    );
     Ok(())
 }
 
@@ -227,27 +217,6 @@ fn steps_told(alloc: Global, graph: &AsGraph, place: usize) -> Result<Vec<(usize
     Ok(told)
 }
 
-fn steps_of_first(alloc: Global, keys: Keys) -> Result<Vec<(usize, End)>, Fail> {
-    let graph = three_path_graph(alloc, keys)?;
-    steps_told(alloc, &graph, 0)
-}
-
-#[test]
-fn a_path_has_a_step_for_each_two_neighbours(rt: HostRuntime) -> Result<(), Fail> {
-    let steps = [
-        (0, End::Low),
-        (1, End::High),
-        (2, End::High),
-        (3, End::Low),
-        (4, End::Low),
-    ];
-    assert_eq!(rt;
-        steps_of_first(rt.alloc(), Keys::new(&rt))?.as_slice(),
-        steps.as_slice()
-    );
-    Ok(())
-}
-
 /// The steps of 10 20 30, 40 20 30, 20 10 20 and 20 30 20, and of no fifth path.
 const WITH_RETURNS: [&[(usize, End)]; 5] = [
     &[(0, End::Low), (1, End::Low)],
@@ -270,31 +239,6 @@ fn returns_of_givens_stand_behind_the_paths(rt: HostRuntime) -> Result<(), Fail>
             WITH_RETURNS[place]
         );
     }
-    Ok(())
-}
-
-fn path(place: usize) -> PathId
-    requires { place < 3 }
-    ensures { result ≡ place }
-{
-    PathId::from_place(place).unwrap()
-}
-
-fn support_of_two(alloc: Global, graph: &AsGraph) -> Result<List<u32>, Fail>
-    requires { graph.now ≡ (30 ∷ 40 ∷ 20 ∷ 10 ∷ 50 ∷ 60 ∷ []) ∷ (10 ∷ 20 ∷ 30 ∷ 40 ∷ []) ∷ (50 ∷ 60 ∷ 10 ∷ 20 ∷ []) ∷ [] }
-{
-    Ok(graph.support(alloc, &[path(0), path(1)])?)
-}
-
-fn support_told(alloc: Global, keys: Keys) -> Result<List<u32>, Fail> {
-    let graph = three_path_graph(alloc, keys)?;
-    support_of_two(alloc, &graph)
-}
-
-#[test]
-fn support_counts_kept_paths_alone(rt: HostRuntime) -> Result<(), Fail> {
-    let counts = support_told(rt.alloc(), Keys::new(&rt))?;
-    assert_eq!(rt; counts.as_slice(), [2, 1, 2, 1, 1, 1, 0].as_slice());
     Ok(())
 }
 
@@ -355,15 +299,10 @@ fn a_valley_free_path_has_at_most_one_flat_step(rt: HostRuntime) -> Result<(), F
 }
 
 #[test]
-fn a_label_is_set(rt: HostRuntime) -> Result<(), Fail> {
+fn a_label_and_an_end_are_set(rt: HostRuntime) -> Result<(), Fail> {
     let mut labels = Labels::from_slice(rt.alloc(), &[Label::High, Label::Peer])?;
     change_label(&mut labels, 1, Label::High);
     assert_eq!(rt; labels.as_slice(), [Label::High, Label::High].as_slice());
-    Ok(())
-}
-
-#[test]
-fn an_end_is_set(rt: HostRuntime) -> Result<(), Fail> {
     let mut ends = Orientation::from_slice(rt.alloc(), &[End::Low, End::Low])?;
     ends.set(EdgeId::from_place(1).unwrap(), End::High);
     assert_eq!(rt; ends.as_slice(), [End::Low, End::High].as_slice());

@@ -99,13 +99,8 @@ fn fates_told(alloc: Global) -> Result<(usize, [bool; 3]), Fail> {
 }
 
 #[test]
-fn walks_keep_their_places(rt: HostRuntime) -> Result<(), Fail> {
+fn walks_and_fates_keep_their_places(rt: HostRuntime) -> Result<(), Fail> {
     assert_eq!(rt; walks_told(rt.alloc())?, (3, [true, true, true]));
-    Ok(())
-}
-
-#[test]
-fn fates_keep_their_places(rt: HostRuntime) -> Result<(), Fail> {
     assert_eq!(rt; fates_told(rt.alloc())?, (3, [true, true, true]));
     Ok(())
 }

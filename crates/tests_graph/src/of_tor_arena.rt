@@ -110,19 +110,18 @@ fn list_of_three(alloc: Global) -> Result<List<u32>, Fail> {
     Ok(list)
 }
 
-#[test]
-fn a_list_gives_its_last_item_back(rt: HostRuntime) -> Result<(), Fail> {
-    let mut list = list_of_three(rt.alloc())?;
-    assert_eq!(rt; list.pop(), Some(3));
-    assert_eq!(rt; list.as_slice(), [1, 2].as_slice());
-    Ok(())
+/// The last item that a list of three gives back, whether the others are left, and whether none is once it is cleared.
+fn list_told(alloc: Global) -> Result<(Option<u32>, bool, bool), Fail> {
+    let mut list = list_of_three(alloc)?;
+    let last = list.pop();
+    let is_left = list.as_slice() == [1, 2].as_slice();
+    list.clear();
+    Ok((last, is_left, list.is_empty()))
 }
 
 #[test]
-fn a_list_that_is_cleared_is_empty(rt: HostRuntime) -> Result<(), Fail> {
-    let mut list = list_of_three(rt.alloc())?;
-    list.clear();
-    assert!(rt; list.is_empty());
+fn a_list_gives_its_last_item_back_and_is_cleared(rt: HostRuntime) -> Result<(), Fail> {
+    assert_eq!(rt; list_told(rt.alloc())?, (Some(3), true, true));
     Ok(())
 }
 

@@ -29,15 +29,11 @@ fn ends_at(graph: &Digraph<NodeId, ArcId>, place: usize) -> Option<(usize, usize
     Some((tail.place(), head.place()))
 }
 
-fn leaving(alloc: Global) -> Result<(usize, Option<(usize, usize)>), Fail> {
-    let graph = small_digraph(alloc)?;
-    Ok((heads_from(&graph, node(0)), ends_at(&graph, 3)))
-}
-
-#[test]
-fn leaves_by_each_arc(rt: HostRuntime) -> Result<(), Fail> {
-    assert_eq!(rt; leaving(rt.alloc())?, (1 + 3, Some((0, 3))));
-    Ok(())
+/// Whether 0 has arcs to 1 and 3, of which the latter is the fourth arc.
+fn leaves(graph: &Digraph<NodeId, ArcId>) -> bool
+    requires { graph.now.nodes ≡ 4 }
+{
+    heads_from(graph, node(0)) == 1 + 3 && ends_at(graph, 3) == Some((0, 3))
 }
 
 // What the searches find, in functions of their own that promise nothing: a test then knows nothing of it but what it compares.
@@ -64,18 +60,13 @@ fn count_again(
     Ok(reached.nodes().len())
 }
 
+/// How many nodes are reached from 0, and then from 1.
 fn counts_in(alloc: Global, graph: &Digraph<NodeId, ArcId>) -> Result<[usize; 2], Fail>
     requires { graph.now.nodes ≡ 4 }
 {
     let mut reached = reached_from(alloc, graph, node(0))?;
     let first = reached.nodes().len();
     Ok([first, count_again(graph, node(1), &mut reached)?])
-}
-
-/// How many nodes are reached from 0, and then from 1.
-fn counts(alloc: Global) -> Result<[usize; 2], Fail> {
-    let graph = small_digraph(alloc)?;
-    counts_in(alloc, &graph)
 }
 
 fn walk_to(
@@ -94,30 +85,13 @@ fn has_walk_to(
     Ok(walk_to(alloc, reached, node)?.is_some())
 }
 
-#[test]
-fn reaches_along_walks(rt: HostRuntime) -> Result<(), Fail> {
-    assert_eq!(rt; counts(rt.alloc())?, [4, 2]);
-    Ok(())
-}
-
+/// Whether 1 and 2 are reached from 1, and whether there is a walk to 3.
 fn cycle_in(alloc: Global, graph: &Digraph<NodeId, ArcId>) -> Result<[bool; 3], Fail>
     requires { graph.now.nodes ≡ 4 }
 {
     let reached = reached_from(alloc, graph, node(1))?;
     let has_walk = has_walk_to(alloc, &reached, node(3))?;
     Ok([reached.has(node(1)), reached.has(node(2)), has_walk])
-}
-
-/// Whether 1 and 2 are reached from 1, and whether there is a walk to 3.
-fn cycle(alloc: Global) -> Result<[bool; 3], Fail> {
-    let graph = small_digraph(alloc)?;
-    cycle_in(alloc, &graph)
-}
-
-#[test]
-fn reaches_what_a_cycle_holds_and_no_more(rt: HostRuntime) -> Result<(), Fail> {
-    assert_eq!(rt; cycle(rt.alloc())?, [true, true, false]);
-    Ok(())
 }
 
 fn places_of(alloc: Global, nodes: &[NodeId]) -> Result<Vec<usize>, Fail> {
@@ -141,6 +115,7 @@ fn way_to(
     places_on(alloc, &way)
 }
 
+/// The places of the nodes on a way from 0 to 2, and how many arcs it has.
 fn way_in(alloc: Global, graph: &Digraph<NodeId, ArcId>) -> Result<(Vec<usize>, usize), Fail>
     requires { graph.now.nodes ≡ 4 }
 {
@@ -148,18 +123,11 @@ fn way_in(alloc: Global, graph: &Digraph<NodeId, ArcId>) -> Result<(Vec<usize>, 
     way_to(alloc, &reached, node(2))
 }
 
-/// The places of the nodes on a way from 0 to 2, and how many arcs it has.
-fn way(alloc: Global) -> Result<(Vec<usize>, usize), Fail> {
-    let graph = small_digraph(alloc)?;
-    way_in(alloc, &graph)
-}
-
-#[test]
-fn gives_a_walk(rt: HostRuntime) -> Result<(), Fail> {
-    let (nodes, arcs) = way(rt.alloc())?;
-    assert_eq!(rt; nodes.as_slice(), [0, 1, 2].as_slice());
-    assert_eq!(rt; arcs, 2);
-    Ok(())
+fn gives_a_way(alloc: Global, graph: &Digraph<NodeId, ArcId>) -> Result<bool, Fail>
+    requires { graph.now.nodes ≡ 4 }
+{
+    let (nodes, arcs) = way_in(alloc, graph)?;
+    Ok(nodes.as_slice() == [0, 1, 2].as_slice() && arcs == 2)
 }
 
 /// Adds an arc and takes it away again, and answers how many arcs there are then.
@@ -192,17 +160,18 @@ fn undone_in(alloc: Global, graph: &mut Digraph<NodeId, ArcId>) -> Result<(usize
     Ok((arcs, places_reached(alloc, graph, node(3))?))
 }
 
-/// How many arcs there are when one from 3 to 0 was added and taken away, and what is reached from 3 then.
-fn undone(alloc: Global) -> Result<(usize, Vec<usize>), Fail> {
-    let mut graph = small_digraph(alloc)?;
-    undone_in(alloc, &mut graph)
+/// Whether there are four arcs again when one from 3 to 0 was added and taken away, and 3 alone is reached from 3.
+fn undoes_an_arc(alloc: Global, graph: &mut Digraph<NodeId, ArcId>) -> Result<bool, Fail>
+    requires { graph.old.nodes ≡ 4 }
+{
+    let (arcs, nodes) = undone_in(alloc, graph)?;
+    Ok(arcs == 4 && nodes.as_slice() == [3].as_slice())
 }
 
 #[test]
-fn undoes_an_arc(rt: HostRuntime) -> Result<(), Fail> {
-    let (arcs, nodes) = undone(rt.alloc())?;
-    assert_eq!(rt; arcs, 4);
-    assert_eq!(rt; nodes.as_slice(), [3].as_slice());
+fn an_arc_is_undone(rt: HostRuntime) -> Result<(), Fail> {
+    let mut graph = small_digraph(rt.alloc())?;
+    assert!(rt; undoes_an_arc(rt.alloc(), &mut graph)?);
     Ok(())
 }
 
@@ -222,14 +191,22 @@ fn count_from_both(
     Ok(reached.into_nodes().len())
 }
 
-fn count_from_two(alloc: Global) -> Result<usize, Fail> {
-    let graph = small_digraph(alloc)?;
-    count_from_both(alloc, &graph, node(1), node(3))
+/// Whether what is reached along arcs is right: from 0 and then from 1, from 1, on a way, and from 1 and 3.
+fn reaches(alloc: Global, graph: &Digraph<NodeId, ArcId>) -> Result<bool, Fail>
+    requires { graph.now.nodes ≡ 4 }
+{
+    Ok(
+        counts_in(alloc, graph)? == [4, 2]
+            && cycle_in(alloc, graph)? == [true, true, false]
+            && gives_a_way(alloc, graph)?
+            && count_from_both(alloc, graph, node(1), node(3))? == 3,
+    )
 }
 
 #[test]
-fn reaches_from_several_nodes(rt: HostRuntime) -> Result<(), Fail> {
-    assert_eq!(rt; count_from_two(rt.alloc())?, 3);
+fn leaves_by_each_arc_and_reaches_along_walks(rt: HostRuntime) -> Result<(), Fail> {
+    let graph = small_digraph(rt.alloc())?;
+    assert!(rt; leaves(&graph) && reaches(rt.alloc(), &graph)?);
     Ok(())
 }
 
@@ -335,17 +312,14 @@ fn places_found(
     places_of(alloc, reached.nodes())
 }
 
-fn places(alloc: Global, search: Search) -> Result<Vec<usize>, Fail> {
-    let graph = small_digraph(alloc)?;
-    places_found(alloc, &graph, search)
-}
-
-#[test]
-fn finds_the_nearest_first_but_not_past_what_it_is_given(rt: HostRuntime) -> Result<(), Fail> {
+/// Whether each search finds what it should.
+fn finds_each(alloc: Global, graph: &Digraph<NodeId, ArcId>) -> Result<bool, Fail> {
     for (search, wanted) in SEARCHES {
-        assert_eq!(rt; places(rt.alloc(), search)?.as_slice(), wanted);
+        if places_found(alloc, graph, search)?.as_slice() != wanted {
+            return Ok(false);
+        }
     }
-    Ok(())
+    Ok(true)
 }
 
 fn row_at<'a>(rows: &'a RowDigraph<'_, NodeId, ArcId>, place: usize) -> &'a [(ArcId, NodeId)] {
@@ -373,19 +347,20 @@ fn are_rows(rows: &RowDigraph<'_, NodeId, ArcId>) -> [bool; 3] {
     ]
 }
 
+/// How many nodes there are in rows, and whether the rows of 0, 2 and 3 are as they have to be.
 fn rows_in(alloc: Global, graph: &Digraph<NodeId, ArcId>) -> Result<(usize, [bool; 3]), Fail> {
     let rows = graph.in_rows(alloc)?;
     Ok((rows.node_count(), are_rows(&rows)))
 }
 
-/// How many nodes there are in rows, and whether the rows of 0, 2 and 3 are as they have to be.
-fn rows_told(alloc: Global) -> Result<(usize, [bool; 3]), Fail> {
-    let graph = small_digraph(alloc)?;
-    rows_in(alloc, &graph)
+/// Whether searches over arcs in rows find the nearest first, and the rows hold the arcs.
+fn searches(alloc: Global, graph: &Digraph<NodeId, ArcId>) -> Result<bool, Fail> {
+    Ok(finds_each(alloc, graph)? && rows_in(alloc, graph)? == (4, [true, true, true]))
 }
 
 #[test]
-fn has_its_arcs_in_rows(rt: HostRuntime) -> Result<(), Fail> {
-    assert_eq!(rt; rows_told(rt.alloc())?, (4, [true, true, true]));
+fn searches_over_rows_find_the_nearest_first(rt: HostRuntime) -> Result<(), Fail> {
+    let graph = small_digraph(rt.alloc())?;
+    assert!(rt; searches(rt.alloc(), &graph)?);
     Ok(())
 }
