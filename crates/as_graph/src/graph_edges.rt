@@ -9,7 +9,7 @@ ghost use Rattle.as_graph.specs.Inside.{is_incident, AreEndsOf, HasMoreAses, Cou
 
 use std::alloc::Global;
 use std::marker::Model;
-use tor_arena::{AsId, EdgeId, Index, Keys, NoMemory};
+use tor_arena::{AsId, EdgeId, Index, Keys, NoMemory, reserve};
 use tor_numbers::{EdgeTable, PlaceTable};
 
 /// Where the two ASes of an edge stand in a table of ASes.
@@ -120,7 +120,7 @@ impl GraphEdges {
         if let Some(id) = self.find(a, b) {
             return Ok(id);
         }
-        self.ends.reserve(1)?;
+        reserve(&mut self.ends, 1)?;
         let ends = add_ends(&mut self.ases, &mut self.counts, a.min(b), a.max(b))?;
         let added = self.table.add(a, b)?;
         count_one(&mut self.counts, ends.low);
@@ -154,7 +154,7 @@ fn add_as(ases: &mut PlaceTable, counts: &mut Vec<u32>, a: u32) -> Result<AsId, 
     ensures more { HasMoreAses ases.old counts.old.items ases.new counts.new.items }
     ensures place { IfOk result (λ id. slice_get ases.new id ≡ Some (a + 2)) }
 {
-    counts.reserve(1)?;
+    reserve(counts, 1)?;
     let place = ases.add(a as u64 + 2)?;
     if place == counts.len() {
         counts.push_reserved(0);

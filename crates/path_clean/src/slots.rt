@@ -9,7 +9,7 @@ ghost use Rattle.path_clean.specs.Slots.{IsIndexed};
 use crate::hashing::{row_of, short_hash_of};
 use std::alloc::Global;
 use std::marker::Model;
-use tor_arena::{Index, NoMemory, PathId, Rows};
+use tor_arena::{Index, NoMemory, PathId, Rows, reserve};
 
 /// A slot, which names a row or is free, in four octets. The highest is the tag of the row, so that hardly any other row has to be looked
 /// at. The others are the place of the row, from 1, and 0 where the slot is free.
@@ -206,6 +206,7 @@ pub(crate) fn filled(
     ensures indexed { IfOk result (λ slots. IsIndexed seed rows.now slots.items) }
 {
     let mut slots = Vec::new(alloc);
+    reserve(&mut slots, count)?;
     slots.resize(count, FREE)?;
     for place in 0..rows.len() {
         let hash = short_hash_of(seed, row_of(rows, place));

@@ -15,7 +15,7 @@ use crate::lookup::Lookup;
 use crate::slots::SearchEnd;
 use std::alloc::Global;
 use std::marker::Model;
-use tor_arena::{Index, Keys, List, MAX_NUMBERS, NoMemory, PathId, Rows};
+use tor_arena::{Index, Keys, List, MAX_NUMBERS, NoMemory, PathId, Rows, reserve};
 
 /// Where a path that was added stands.
 #[derive(Clone, Copy, PartialEq, Eq)]
@@ -205,7 +205,7 @@ impl PathTable {
                 if let Err(refused) = self.check_room(path) {
                     return Err(refused);
                 }
-                if self.counts.reserve(1).is_err() {
+                if reserve(&mut self.counts, 1).is_err() {
                     return Err(AddRefused::NoMemory);
                 }
                 let Ok(id) = self.paths.push(hash, end, path) else {

@@ -2,6 +2,7 @@
 ghost use Rattle.std.specs.Prelude.{◌≡◌, ◌≢◌, ◌+◌, ◌<◌, ◌≤◌, ◌↔◌, ◌++◌, ◌∷◌, [], length, take, replicate, slice_get, slice_set, ◌⊎◌, OnOk};
 ghost use Rattle.std.specs.Prelude.{OnErr, IfOk, IfErr};
 
+use crate::growth::reserve;
 use crate::index::Index;
 use crate::memory::NoMemory;
 use std::alloc::Global;
@@ -87,8 +88,7 @@ impl<I: Index, T> Arena<I, T> {
         ensures ok { OnOk result (n ≤ self.new.spare) }
         ensures spare { self.old.spare ≤ self.new.spare }
     {
-        self.items.reserve(n)?;
-        Ok(())
+        reserve(&mut self.items, n)
     }
 
     /// Adds an item at the end, and answers its index, whose place is the old length. Full comes
@@ -105,10 +105,13 @@ impl<I: Index, T> Arena<I, T> {
     {
         match I::from_place(self.items.len()) {
             None => Err(PushRefused::Full(item)),
-            Some(id) => match self.items.push(item) {
-                Ok(()) => Ok(id),
-                Err(refused) => Err(PushRefused::NoMemory(refused.value)),
-            },
+            Some(id) => {
+                if reserve(&mut self.items, 1).is_err() {
+                    return Err(PushRefused::NoMemory(item));
+                }
+                self.items.push_reserved(item);
+                Ok(id)
+            }
         }
     }
 
@@ -156,6 +159,7 @@ impl<I: Index, T: Copy> Arena<I, T> {
         ensures err { OnErr result (self.new.items ≡ self.old.items) }
     {
         let count = self.items.len() + n;
+        reserve(&mut self.items, n)?;
         self.items.resize(count, item)?;
         Ok(())
     }

@@ -3,6 +3,7 @@ ghost use Rattle.std.specs.Prelude.{◌≡◌, ◌+◌, ◌-◌, ◌<◌, ◌≤
 ghost use Rattle.std.specs.Prelude.{IfOk, IfErr, IfSome, vec_capacity};
 ghost use Rattle.tor_arena.specs.RowLists.{with_end};
 
+use crate::growth::reserve;
 use crate::index::Index;
 use crate::memory::NoMemory;
 use std::alloc::Global;
@@ -57,9 +58,8 @@ impl<I: Index, T: Copy> Rows<I, T> {
         ensures { self.new ≡ self.old }
     {
         // two bounds more: the start of the first row, and the one further that `push_row` makes sure of
-        self.bounds.reserve(rows.saturating_add(2))?;
-        self.items.reserve(items)?;
-        Ok(())
+        reserve(&mut self.bounds, rows.saturating_add(2))?;
+        reserve(&mut self.items, items)
     }
 
     /// How many rows there are, at most LIMIT. It takes no memory.
@@ -97,7 +97,7 @@ impl<I: Index, T: Copy> Rows<I, T> {
         let Some(end) = end_behind(self.items.len(), row.len()) else {
             return Err(RowRefused::NoMemory);
         };
-        if self.bounds.reserve(2).is_err() {
+        if reserve(&mut self.bounds, 2).is_err() || reserve(&mut self.items, row.len()).is_err() {
             return Err(RowRefused::NoMemory);
         }
         if self.items.extend_from_slice(row).is_err() {

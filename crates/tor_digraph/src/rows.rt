@@ -6,7 +6,7 @@ ghost use Rattle.tor_digraph.specs.InRows.{IsRow, IsFilled, count_at, count_befo
 use crate::digraph::Digraph;
 use std::alloc::Global;
 use std::marker::Model;
-use tor_arena::{Index, NoMemory};
+use tor_arena::{Index, NoMemory, reserve};
 
 /// A digraph that stays as it is, with the arcs that leave a node next to each other, so that a search reads them in one piece. It
 /// is seen as the same nodes and arcs.
@@ -89,6 +89,7 @@ fn ends_of_rows<N: Index, A: Index>(
         end ≡ count_before N.place_of graph.now.arcs (u + 1)) }
 {
     let mut ends = Vec::new(alloc);
+    reserve(&mut ends, graph.node_count() + 1)?;
     ends.resize(graph.node_count() + 1, 0)?;
     for place in 0..graph.arc_count() {
         let (tail, _) = graph.ends(A::from_place(place).unwrap());
@@ -114,6 +115,7 @@ fn places_for<N: Index, A: Index>(
     if count > 0 {
         let arc = A::from_place(0).unwrap();
         let (_, head) = graph.ends(arc);
+        reserve(&mut rows, count)?;
         rows.resize(count, (arc, head))?;
     }
     Ok(rows)

@@ -8,7 +8,7 @@ use crate::slot_search::{SearchEnd, next, start_of};
 use std::alloc::Global;
 use std::hash::BuildHasher;
 use std::marker::Model;
-use tor_arena::{Keys, NoMemory, doubled};
+use tor_arena::{Keys, NoMemory, doubled, reserve};
 
 /// A slot that holds no number.
 const FREE: u64 = 0;
@@ -72,7 +72,7 @@ impl NumberSet {
         ensures ok { IfOk result (IsInserted number self.old self.new) }
         ensures err { OnErr result (self.new ≡ self.old) }
     {
-        self.numbers.reserve(1)?;
+        reserve(&mut self.numbers, 1)?;
         make_room(
             self.alloc,
             self.seed,
@@ -175,6 +175,7 @@ fn filled(alloc: Global, seed: u64, count: usize, numbers: &[u64]) -> Result<Vec
     ensures held { IfOk result (λ slots. IsHeld seed slots.items numbers.now) }
 {
     let mut slots = Vec::new(alloc);
+    reserve(&mut slots, count)?;
     slots.resize(count, FREE)?;
     for place in 0..numbers.len() {
         hold(&mut slots, seed, numbers[place])?;

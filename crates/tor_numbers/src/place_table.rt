@@ -8,7 +8,7 @@ use crate::slot_search::{SearchEnd, next, start_of};
 use std::alloc::Global;
 use std::hash::BuildHasher;
 use std::marker::Model;
-use tor_arena::{Keys, NoMemory, doubled};
+use tor_arena::{Keys, NoMemory, doubled, reserve};
 
 /// Distinct numbers from 2 on, in the order in which they were added, each found with its place. They are found by slots, of which
 /// at most a third are in use: a slot holds the place of a number, from 1.
@@ -59,7 +59,7 @@ impl PlaceTable {
             self.numbers.as_slice(),
             &mut self.slots,
         )?;
-        self.numbers.reserve(1)?;
+        reserve(&mut self.numbers, 1)?;
         let count = self.numbers.len();
         let start = start_of(self.seed, number, self.slots.len());
         match seek(
@@ -173,6 +173,7 @@ fn filled(alloc: Global, seed: u64, count: usize, numbers: &[u64]) -> Result<Vec
     ensures held { IfOk result (λ slots. IsHeld seed (names numbers.now slots.items) numbers.now) }
 {
     let mut slots = Vec::new(alloc);
+    reserve(&mut slots, count)?;
     slots.resize(count, 0u32)?;
     for place in 0..numbers.len() {
         let number = numbers[place];
