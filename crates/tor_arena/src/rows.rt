@@ -1,6 +1,6 @@
 //! Rows of items that lie one behind the other.
 ghost use Rattle.std.specs.Prelude.{◌≡◌, ◌+◌, ◌-◌, ◌<◌, ◌≤◌, ◌↔◌, ◌++◌, ◌∷◌, [], length, take, drop, slice_get, slice_index, OnOk, OnErr};
-ghost use Rattle.std.specs.Prelude.{IfOk, IfErr, IfSome, vec_capacity};
+ghost use Rattle.std.specs.Prelude.{IfOk, IfErr, IfSome, vec_len, vec_capacity};
 ghost use Rattle.tor_arena.specs.RowLists.{with_end};
 
 use crate::growth::reserve;
@@ -100,9 +100,7 @@ impl<I: Index, T: Copy> Rows<I, T> {
         if reserve(&mut self.bounds, 2).is_err() || reserve(&mut self.items, row.len()).is_err() {
             return Err(RowRefused::NoMemory);
         }
-        if self.items.extend_from_slice(row).is_err() {
-            return Err(RowRefused::NoMemory);
-        }
+        put_items(&mut self.items, row);
         put_end(&mut self.bounds, end);
         Ok(id)
     }
@@ -118,6 +116,18 @@ impl<I: Index, T: Copy> Rows<I, T> {
         let end = self.bounds[rows] as usize;
         self.bounds.truncate(rows + 1);
         self.items.truncate(end);
+    }
+}
+
+/// Puts the items of a row at the end of a vector that has room for them. Most rows are short: they are put one item after the other, which
+/// takes less than a call that copies.
+#[inline(always)]
+fn put_items<T: Copy>(items: &mut Vec<T>, row: &[T])
+    requires room { vec_len items.old + length row.now ≤ vec_capacity items.old }
+    ensures items { items.new.items ≡ items.old.items ++ row.now }
+{
+    for place in 0..row.len() {
+        items.push_reserved(row[place]);
     }
 }
 

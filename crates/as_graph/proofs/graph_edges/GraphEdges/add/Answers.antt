@@ -12,7 +12,7 @@ invariant_of-self-in_err-ends c =
 
 pub invariant_of-self-in_err-added : goal.invariant_of-self-in_err-added
 invariant_of-self-in_err-added c =
-    subst (λ es. AreGraphEdges es c.add_ends.new.ases c.add_ends.new.counts.items c.reserve.new.self.items) (sym c.in_err-added.ensures.err)
+    subst (λ es. AreGraphEdges es c.add_ends.new.ases c.add_ends.new.counts.items c.reserve.new.items.items) (sym c.in_err-added.ensures.err)
     (subst (AreGraphEdges c.self.inside.table c.add_ends.new.ases c.add_ends.new.counts.items) (sym c.reserve.ensures.items)
     (AreGraphEdges-more _ _ _ _ _ _ c.self.invariant c.add_ends.ensures.more))
 

@@ -8,7 +8,7 @@ invariant_of-self-2 g c =
     let items = c.self.inside.items.items in
     let bounds = c.self.inside.bounds.items in
     let row = c.args.row.now in
-    let new_items : c.extend_from_slice.new.self.items ≡ items ++ row = search rules in
+    let new_items : c.put_items.new.items.items ≡ items ++ row = search rules in
     let end : c.in-Some-end_behind.end ≡ length items + length row = search rules in
     let new_bounds : c.put_end.new.bounds.items ≡ with_end bounds (length items + length row) = search rules in
     let n : length c.args.self.now ≡ length bounds - 1 = ap length (sym c.self.view_is) ∙ length-rows_between items bounds in
@@ -26,7 +26,7 @@ returns-clause-added g c =
     let items = c.self.inside.items.items in
     let bounds = c.self.inside.bounds.items in
     let row = c.args.row.now in
-    let new_items : c.extend_from_slice.new.self.items ≡ items ++ row = search rules in
+    let new_items : c.put_items.new.items.items ≡ items ++ row = search rules in
     let end : c.in-Some-end_behind.end ≡ length items + length row = search rules in
     let new_bounds : c.put_end.new.bounds.items ≡ with_end bounds (length items + length row) = search rules in
     ap₂ (λ (is : List g.row.T.Denot) bs. rows_between is bs) new_items new_bounds ∙ rows_between-push items row bounds c.self.invariant.1

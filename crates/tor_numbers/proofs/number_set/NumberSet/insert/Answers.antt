@@ -6,7 +6,7 @@ use Rattle.tor_numbers.proofs.number_set.NumberSet.insert.Goals as goal
 pub invariant_of-self-in_err-is_new : goal.invariant_of-self-in_err-is_new
 invariant_of-self-in_err-is_new c =
     let seed = c.self.inside.seed in
-    let numbers = c.reserve.new.self.items in
+    let numbers = c.reserve.new.items.items in
     let old = c.make_room.new.slots.items in
     let new = c.hold.new.slots in
     let value = c.deref_mut.ensures.value in
@@ -20,7 +20,7 @@ pub invariant_of-self-then-is_new : goal.invariant_of-self-then-is_new
 invariant_of-self-then-is_new c =
     let seed = c.self.inside.seed in
     let number = c.args.number in
-    let numbers = c.reserve.new.self.items in
+    let numbers = c.reserve.new.items.items in
     let old = c.make_room.new.slots.items in
     let new = c.hold.new.slots in
     let value = c.deref_mut.ensures.value in
@@ -37,7 +37,7 @@ pub invariant_of-self-else-is_new : goal.invariant_of-self-else-is_new
 invariant_of-self-else-is_new c =
     let seed = c.self.inside.seed in
     let number = c.args.number in
-    let numbers = c.reserve.new.self.items in
+    let numbers = c.reserve.new.items.items in
     let old = c.make_room.new.slots.items in
     let new = c.hold.new.slots in
     let value = c.deref_mut.ensures.value in
