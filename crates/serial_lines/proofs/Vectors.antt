@@ -1,5 +1,5 @@
 -- Texts that were worked by hand.
-use Rattle.std.proofs.Common.{◌≡◌, List, [], ◌∷◌, Ok, Err, refl}
+use Rattle.std.proofs.Common.{◌≡◌, ℕ, List, [], ◌∷◌, Result, Ok, Err, refl}
 use Rattle.std.specs.Prelude.{codes}
 use Rattle.std.specs.Fmt.{digits}
 use Rattle.text_fields.specs.Reading.{digit_at, digits_at, u64_at, u32_at}
@@ -40,3 +40,116 @@ other_way_round = refl
 peers_after_transit : rel_in (codes "1|2|-1\n\n") ≡ Err 2
 unfolding kind_at said digit_at digits_at u64_at u32_at
 peers_after_transit = refl
+
+-- ---- what is said by a text, as a text
+
+abbrev again : List ℕ → Result (List ℕ) ℕ
+again text = elim (rel_in text) [ Ok rel ↦ Ok (rel_text rel) | Err n ↦ Err n ]
+
+no_octets : again (codes "") ≡ Ok (codes "")
+unfolding kind_at said digit_at digits_at u64_at u32_at digits
+no_octets = refl
+
+-- the last line has no line feed
+no_last_line_feed : again (codes "1|2|0") ≡ Ok (codes "1|2|0\n")
+unfolding kind_at said digit_at digits_at u64_at u32_at digits
+no_last_line_feed = refl
+
+-- comments, as files of serial-1 begin
+comments_first : again (codes "# source:topology|BGP|20240101\n# input clique: 174 209 286\n# IXP ASes: 1200 4635\n#\n1|11537|0\n1|21616|-1\n") ≡ Ok (codes "1|11537|0\n1|21616|-1\n")
+unfolding kind_at said digit_at digits_at u64_at u32_at digits
+comments_first = refl
+
+-- a comment between others, and one that ends the text
+comments_between : again (codes "1|2|0\n#|-1\n3|4|-1\n#") ≡ Ok (codes "1|2|0\n3|4|-1\n")
+unfolding kind_at said digit_at digits_at u64_at u32_at digits
+comments_between = refl
+
+-- a comment has '#' first
+blank_before_a_comment : again (codes "1|2|0\n # a\n") ≡ Err 2
+unfolding kind_at said digit_at digits_at u64_at u32_at
+blank_before_a_comment = refl
+
+-- a carriage return behind a line and behind a comment
+carriage_return : again (codes "# a\r\n1|2|0\r\n") ≡ Err 2
+unfolding kind_at said digit_at digits_at u64_at u32_at
+carriage_return = refl
+
+-- an empty line
+empty_line : again (codes "1|2|0\n\n3|4|0\n") ≡ Err 2
+unfolding kind_at said digit_at digits_at u64_at u32_at
+empty_line = refl
+
+empty_line_alone : again (codes "\n") ≡ Err 1
+unfolding kind_at said digit_at digits_at u64_at u32_at
+empty_line_alone = refl
+
+-- a fourth field, as in serial-2
+fourth_field : again (codes "# a\n1|2|-1|bgp\n") ≡ Err 2
+unfolding kind_at said digit_at digits_at u64_at u32_at
+fourth_field = refl
+
+-- the same again
+transit_again_and_peers : again (codes "1|2|-1\n1|2|-1\n2|1|0\n") ≡ Err 3
+unfolding kind_at said digit_at digits_at u64_at u32_at
+transit_again_and_peers = refl
+
+all_again : again (codes "1|2|-1\n3|4|0\n1|2|-1\n4|3|0\n3|4|0") ≡ Ok (codes "1|2|-1\n3|4|0\n")
+unfolding kind_at said digit_at digits_at u64_at u32_at digits
+all_again = refl
+
+-- the peers in the order of their first line
+peers_in_order : again (codes "4|3|0\n3|4|0\n") ≡ Ok (codes "4|3|0\n")
+unfolding kind_at said digit_at digits_at u64_at u32_at digits
+peers_in_order = refl
+
+-- a peering, and then transit
+transit_after_peers : again (codes "1|2|0\n1|2|-1\n") ≡ Err 2
+unfolding kind_at said digit_at digits_at u64_at u32_at
+transit_after_peers = refl
+
+transit_after_peers_turned_round : again (codes "2|1|0\n1|2|-1") ≡ Err 2
+unfolding kind_at said digit_at digits_at u64_at u32_at
+transit_after_peers_turned_round = refl
+
+-- one AS twice
+one_as_twice : again (codes "7|7|0\n") ≡ Err 1
+unfolding kind_at said digit_at digits_at u64_at u32_at
+one_as_twice = refl
+
+-- a leading zero, and zero itself
+leading_zero : again (codes "01|2|0\n") ≡ Err 1
+unfolding kind_at said digit_at digits_at u64_at u32_at
+leading_zero = refl
+
+zero_and_the_greatest : again (codes "0|4294967295|0\n") ≡ Ok (codes "0|4294967295|0\n")
+unfolding kind_at said digit_at digits_at u64_at u32_at digits
+zero_and_the_greatest = refl
+
+-- 2 ^ 32
+number_of_33_bits : again (codes "1|4294967296|0\n") ≡ Err 1
+unfolding kind_at said digit_at digits_at u64_at u32_at
+number_of_33_bits = refl
+
+-- 2 ^ 64 and more
+number_of_65_bits : again (codes "18446744073709551617|2|0\n") ≡ Err 1
+unfolding kind_at said digit_at digits_at u64_at u32_at
+number_of_65_bits = refl
+
+-- other kinds
+kind_1 : again (codes "1|2|1\n") ≡ Err 1
+unfolding kind_at said digit_at digits_at u64_at u32_at
+kind_1 = refl
+
+kind_of_minus_10 : again (codes "1|2|-10\n") ≡ Err 1
+unfolding kind_at said digit_at digits_at u64_at u32_at
+kind_of_minus_10 = refl
+
+kind_00 : again (codes "1|2|00\n") ≡ Err 1
+unfolding kind_at said digit_at digits_at u64_at u32_at
+kind_00 = refl
+
+-- a sign
+number_with_a_sign : again (codes "1|2|0\n+1|3|0\n") ≡ Err 2
+unfolding kind_at said digit_at digits_at u64_at u32_at
+number_with_a_sign = refl
