@@ -16,7 +16,7 @@ use std::alloc::Global;
 use tor_arena::List;
 
 /// What may come next in a text.
-#[derive(Clone, Copy, PartialEq, Eq)]
+#[derive(Clone, Copy)]
 pub enum Section {
     /// So many of the ten first lines are read.
     Head(u8),
@@ -256,7 +256,9 @@ impl Draft {
         if !self.section.takes_path() {
             return Err(LineError::Bad);
         }
-        self.paths.push_kept(times, path)?;
+        if self.paths.push_kept(times, path).is_err() {
+            return Err(LineError::NoMemory);
+        }
         self.section = Section::Paths;
         Ok(())
     }
@@ -274,7 +276,9 @@ impl Draft {
         if !self.section.takes_path() {
             return Err(LineError::Bad);
         }
-        self.paths.push_lost(times, path, walk)?;
+        if self.paths.push_lost(times, path, walk).is_err() {
+            return Err(LineError::NoMemory);
+        }
         self.section = Section::Paths;
         Ok(())
     }
@@ -286,7 +290,9 @@ impl Draft {
         if !self.section.takes_edge() {
             return Err(LineError::Bad);
         }
-        self.edges.push(edge)?;
+        if self.edges.push(edge).is_err() {
+            return Err(LineError::NoMemory);
+        }
         self.section = Section::Edges;
         Ok(())
     }
@@ -298,7 +304,9 @@ impl Draft {
         if !self.section.takes_why() {
             return Err(LineError::Bad);
         }
-        self.whys.push(walk.ases(), walk.links())?;
+        if self.whys.push(walk.ases(), walk.links()).is_err() {
+            return Err(LineError::NoMemory);
+        }
         self.section = Section::Whys;
         Ok(())
     }
@@ -310,7 +318,9 @@ impl Draft {
         if !self.section.takes_probe() {
             return Err(LineError::Bad);
         }
-        self.probes.push(probe)?;
+        if self.probes.push(probe).is_err() {
+            return Err(LineError::NoMemory);
+        }
         self.section = Section::Probes;
         Ok(())
     }
@@ -348,7 +358,10 @@ impl Draft {
             | Section::Paths
             | Section::Edges
             | Section::Whys
-            | Section::Probes => None,
+            | Section::Probes => {
+                drop(self);
+                None
+            }
         }
     }
 }

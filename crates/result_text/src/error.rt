@@ -17,7 +17,7 @@ pub enum ParseError {
 }
 
 /// Why a line was not read.
-#[derive(Clone, Copy, PartialEq, Eq)]
+#[derive(Clone, Copy)]
 pub enum LineError {
     /// The line isn't in the grammar.
     Bad,

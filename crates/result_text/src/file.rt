@@ -31,7 +31,7 @@ pub struct EdgeLine {
 }
 
 /// What the last line counts.
-#[derive(Clone, Copy, Debug, PartialEq, Eq)]
+#[derive(Clone, Copy, PartialEq, Eq)]
 pub struct Totals {
     /// Kept paths.
     pub kept: u64,

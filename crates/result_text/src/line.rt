@@ -8,7 +8,7 @@ use relationships::{Given, Probe, Walk};
 use tor_arena::List;
 
 /// The version of a text.
-#[derive(Clone, Copy, PartialEq, Eq)]
+#[derive(Clone, Copy)]
 pub enum Version {
     /// It has no givens.
     One,

@@ -2,8 +2,9 @@
 
 ghost use Rattle.std.specs.Prelude.{◌≡◌, IfOk, IfErr};
 ghost use Rattle.result_text.specs.Order.{with_line, next_at};
-ghost use Rattle.result_text.specs.Reading.{ReadsAs, by_word, outer_readers, sets_line_at, ratio_at, aside_at, kept_at, lost_at};
+ghost use Rattle.result_text.specs.Reading.{ReadsAs, by_word, outer_readers, sets_line_at, ratio_at, aside_at, kept_at, line_of_kept, lost_at, lost_from, walk_at};
 ghost use Rattle.result_text.specs.Reading.{edge_line_at, given_at, why_at, probe_at, end_at, version_at};
+ghost use Rattle.relationships.specs.Flat.{walk_with};
 ghost use Rattle.result_text.specs.Text.{version_of};
 ghost use Rattle.result_text.specs.declared.error.LineError.TheVariants.{NoMemory as no_memory};
 
@@ -14,11 +15,10 @@ use crate::line_reading::{
     read_aside, read_edge, read_end, read_given, read_kept, read_lost, read_probe, read_sets,
     read_walk,
 };
-use crate::reading::read_u32;
 use relationships::{Link, WalkRef};
 use std::alloc::Global;
-use text_fields::after;
-use tor_arena::List;
+use text_fields::{after, u32_before};
+use tor_arena::{List, NoMemory};
 
 /// The lists of one line, used again for the next one, so that most lines take no memory.
 #[derive(Drop)]
@@ -48,42 +48,60 @@ fn next_version<'a>(
 ) -> Result<&'a [u8], LineError>
     ensures { ReadsAs (λ rest. (draft.new, rest.now)) result (with_line draft.old (version_at version bytes.now)) }
 {
-    draft.add_version(alloc, version)?;
-    Ok(bytes)
+    match draft.add_version(alloc, version) {
+        Ok(()) => Ok(bytes),
+        Err(error) => Err(error),
+    }
 }
 
 #[tactic(auto, unfolding(crate::specs::Reading::sets_line_at))]
 fn next_sets<'a>(draft: &mut Draft, bytes: &'a [u8]) -> Result<&'a [u8], LineError>
     ensures { ReadsAs (λ rest. (draft.new, rest.now)) result (with_line draft.old (sets_line_at bytes.now)) }
 {
-    let (sets, rest) = read_sets(bytes)?;
-    draft.add_sets(sets)?;
-    Ok(rest)
+    let Some((sets, rest)) = read_sets(bytes) else {
+        return Err(LineError::Bad);
+    };
+    match draft.add_sets(sets) {
+        Ok(()) => Ok(rest),
+        Err(error) => Err(error),
+    }
 }
 
 #[tactic(auto, unfolding(crate::specs::Reading::ratio_at))]
 fn next_ratio<'a>(draft: &mut Draft, bytes: &'a [u8]) -> Result<&'a [u8], LineError>
     ensures { ReadsAs (λ rest. (draft.new, rest.now)) result (with_line draft.old (ratio_at bytes.now)) }
 {
-    let (ratio, rest) = read_u32(b'\n', bytes)?;
-    draft.add_ratio(ratio)?;
-    Ok(rest)
+    let Some((ratio, rest)) = u32_before(b'\n', bytes) else {
+        return Err(LineError::Bad);
+    };
+    match draft.add_ratio(ratio) {
+        Ok(()) => Ok(rest),
+        Err(error) => Err(error),
+    }
 }
 
 fn next_aside<'a>(draft: &mut Draft, bytes: &'a [u8]) -> Result<&'a [u8], LineError>
     ensures { ReadsAs (λ rest. (draft.new, rest.now)) result (with_line draft.old (aside_at bytes.now)) }
 {
-    let (cause, count, rest) = read_aside(bytes)?;
-    draft.add_aside(cause, count)?;
-    Ok(rest)
+    let Some((cause, count, rest)) = read_aside(bytes) else {
+        return Err(LineError::Bad);
+    };
+    match draft.add_aside(cause, count) {
+        Ok(()) => Ok(rest),
+        Err(error) => Err(error),
+    }
 }
 
 fn next_given<'a>(draft: &mut Draft, bytes: &'a [u8]) -> Result<&'a [u8], LineError>
     ensures { ReadsAs (λ rest. (draft.new, rest.now)) result (with_line draft.old (given_at bytes.now)) }
 {
-    let (given, rest) = read_given(bytes)?;
-    draft.add_given(given)?;
-    Ok(rest)
+    let Some((given, rest)) = read_given(bytes) else {
+        return Err(LineError::Bad);
+    };
+    match draft.add_given(given) {
+        Ok(()) => Ok(rest),
+        Err(error) => Err(error),
+    }
 }
 
 #[inline(always)]
@@ -95,8 +113,10 @@ fn next_kept<'a>(
     ensures { ReadsAs (λ rest. (draft.new, rest.now)) result (with_line draft.old (kept_at bytes.now)) }
 {
     let (times, rest) = read_kept(&mut scratch.path, bytes)?;
-    draft.add_kept(times, scratch.path.as_slice())?;
-    Ok(rest)
+    match draft.add_kept(times, scratch.path.as_slice()) {
+        Ok(()) => Ok(rest),
+        Err(error) => Err(error),
+    }
 }
 
 #[inline(always)]
@@ -110,17 +130,23 @@ fn next_lost<'a>(
     let Scratch { path, ases, links } = scratch;
     let (times, rest) = read_lost(draft.version(), path, ases, links, bytes)?;
     let walk = WalkRef::new(ases.as_slice(), links.as_slice());
-    draft.add_lost(times, path.as_slice(), &walk)?;
-    Ok(rest)
+    match draft.add_lost(times, path.as_slice(), &walk) {
+        Ok(()) => Ok(rest),
+        Err(error) => Err(error),
+    }
 }
 
 #[inline(always)]
 fn next_edge<'a>(draft: &mut Draft, bytes: &'a [u8]) -> Result<&'a [u8], LineError>
     ensures { ReadsAs (λ rest. (draft.new, rest.now)) result (with_line draft.old (edge_line_at bytes.now)) }
 {
-    let (edge, rest) = read_edge(bytes)?;
-    draft.add_edge(edge)?;
-    Ok(rest)
+    let Some((edge, rest)) = read_edge(bytes) else {
+        return Err(LineError::Bad);
+    };
+    match draft.add_edge(edge) {
+        Ok(()) => Ok(rest),
+        Err(error) => Err(error),
+    }
 }
 
 #[tactic(auto, unfolding(crate::specs::Reading::why_at))]
@@ -134,24 +160,34 @@ fn next_why<'a>(
     let Scratch { ases, links, .. } = scratch;
     let rest = read_walk(draft.version(), ases, links, bytes)?;
     let walk = WalkRef::new(ases.as_slice(), links.as_slice());
-    draft.add_why(&walk)?;
-    Ok(rest)
+    match draft.add_why(&walk) {
+        Ok(()) => Ok(rest),
+        Err(error) => Err(error),
+    }
 }
 
 fn next_probe<'a>(draft: &mut Draft, bytes: &'a [u8]) -> Result<&'a [u8], LineError>
     ensures { ReadsAs (λ rest. (draft.new, rest.now)) result (with_line draft.old (probe_at bytes.now)) }
 {
-    let (probe, rest) = read_probe(bytes)?;
-    draft.add_probe(probe)?;
-    Ok(rest)
+    let Some((probe, rest)) = read_probe(bytes) else {
+        return Err(LineError::Bad);
+    };
+    match draft.add_probe(probe) {
+        Ok(()) => Ok(rest),
+        Err(error) => Err(error),
+    }
 }
 
 fn next_end<'a>(draft: &mut Draft, bytes: &'a [u8]) -> Result<&'a [u8], LineError>
     ensures { ReadsAs (λ rest. (draft.new, rest.now)) result (with_line draft.old (end_at bytes.now)) }
 {
-    let (totals, rest) = read_end(bytes)?;
-    draft.add_end(totals)?;
-    Ok(rest)
+    let Some((totals, rest)) = read_end(bytes) else {
+        return Err(LineError::Bad);
+    };
+    match draft.add_end(totals) {
+        Ok(()) => Ok(rest),
+        Err(error) => Err(error),
+    }
 }
 
 /// Reads the line at the prefix into the draft, by its first word, and answers what stands behind it.
@@ -209,8 +245,70 @@ fn copy_of(alloc: Global, octets: &[u8]) -> Result<List<u8>, LineError>
     ensures memory { IfErr result (λ error. error ≡ no_memory) }
 {
     let mut copy = List::new(alloc);
-    copy.extend_from_slice(octets)?;
-    Ok(copy)
+    match copy.extend_from_slice(octets) {
+        Ok(()) => Ok(copy),
+        Err(NoMemory) => {
+            drop(copy);
+            Err(LineError::NoMemory)
+        }
+    }
+}
+
+/// Puts octets in place of others, which are let go.
+fn put_in_place(octets: &mut List<u8>, others: List<u8>)
+    ensures { octets.new ≡ others }
+{
+    *octets = others;
+}
+
+// Each of these reads what stands behind the first word of a line with lists, and answers a copy of what stands behind it.
+fn kept_copied(
+    alloc: Global,
+    path: &mut List<u32>,
+    bytes: &[u8],
+) -> Result<(u64, List<u8>), LineError>
+    ensures { ReadsAs (λ x. (line_of_kept (x.0, path.new), x.1)) result (kept_at bytes.now) }
+{
+    match read_kept(path, bytes) {
+        Ok((times, rest)) => match copy_of(alloc, rest) {
+            Ok(copy) => Ok((times, copy)),
+            Err(error) => Err(error),
+        },
+        Err(error) => Err(error),
+    }
+}
+
+fn lost_copied(
+    alloc: Global,
+    version: Version,
+    scratch: &mut Scratch,
+    bytes: &[u8],
+) -> Result<(u64, List<u8>), LineError>
+    ensures { ReadsAs (λ x. (lost_from (x.0, (scratch.new.path, walk_with scratch.new.ases scratch.new.links)), x.1)) result (lost_at version bytes.now) }
+{
+    let Scratch { path, ases, links } = scratch;
+    match read_lost(version, path, ases, links, bytes) {
+        Ok((times, rest)) => match copy_of(alloc, rest) {
+            Ok(copy) => Ok((times, copy)),
+            Err(error) => Err(error),
+        },
+        Err(error) => Err(error),
+    }
+}
+
+fn walk_copied(
+    alloc: Global,
+    version: Version,
+    scratch: &mut Scratch,
+    bytes: &[u8],
+) -> Result<List<u8>, LineError>
+    ensures { ReadsAs (λ copy. (walk_with scratch.new.ases scratch.new.links, copy)) result (walk_at version bytes.now) }
+{
+    let Scratch { ases, links, .. } = scratch;
+    match read_walk(version, ases, links, bytes) {
+        Ok(rest) => copy_of(alloc, rest),
+        Err(error) => Err(error),
+    }
 }
 
 /// Reads the line at the prefix into the draft, and leaves a copy of what stands behind it.
@@ -240,25 +338,22 @@ pub fn next_long(
 {
     let bytes = octets.as_slice();
     if let Some(rest) = after(b"kept|", bytes) {
-        let (times, rest) = read_kept(&mut scratch.path, rest)?;
-        *octets = copy_of(alloc, rest)?;
+        let (times, behind) = kept_copied(alloc, &mut scratch.path, rest)?;
+        put_in_place(octets, behind);
         draft.add_kept(times, scratch.path.as_slice())
     } else if let Some(_) = after(b"edge|", bytes) {
         next_copied(alloc, draft, scratch, octets)
     } else if let Some(rest) = after(b"why|", bytes) {
-        let Scratch { ases, links, .. } = scratch;
-        let rest = read_walk(draft.version(), ases, links, rest)?;
-        *octets = copy_of(alloc, rest)?;
-        let walk = WalkRef::new(ases.as_slice(), links.as_slice());
-        draft.add_why(&walk)
+        let behind = walk_copied(alloc, draft.version(), scratch, rest)?;
+        put_in_place(octets, behind);
+        draft.add_why(&WalkRef::new(scratch.ases.as_slice(), scratch.links.as_slice()))
     } else if let Some(_) = after(b"open|", bytes) {
         next_copied(alloc, draft, scratch, octets)
     } else if let Some(rest) = after(b"lost|", bytes) {
-        let Scratch { path, ases, links } = scratch;
-        let (times, rest) = read_lost(draft.version(), path, ases, links, rest)?;
-        *octets = copy_of(alloc, rest)?;
-        let walk = WalkRef::new(ases.as_slice(), links.as_slice());
-        draft.add_lost(times, path.as_slice(), &walk)
+        let (times, behind) = lost_copied(alloc, draft.version(), scratch, rest)?;
+        put_in_place(octets, behind);
+        let walk = WalkRef::new(scratch.ases.as_slice(), scratch.links.as_slice());
+        draft.add_lost(times, scratch.path.as_slice(), &walk)
     } else {
         next_copied(alloc, draft, scratch, octets)
     }

@@ -18,6 +18,9 @@ pub fn parse(alloc: Global, bytes: &[u8]) -> Result<ResultFile, ParseError>
     let mut parser = Parser::new(alloc);
     match parser.take(alloc, bytes) {
         Ok(()) => parser.finish(),
-        Err(NoMemory) => Err(ParseError::NoMemory),
+        Err(NoMemory) => {
+            drop(parser);
+            Err(ParseError::NoMemory)
+        }
     }
 }

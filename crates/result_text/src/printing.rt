@@ -338,10 +338,15 @@ pub fn print(alloc: Global, file: &ResultFile) -> Result<List<u8>, NoMemory>
     ensures { IfOk result (λ out. IsTextOf file.now out) }
 {
     in_range(file);
-    let mut sink = ListSink::new(alloc);
     let mut buffer = Buffer::new(alloc)?;
-    match write_text(&mut sink, &mut buffer, file) {
+    let mut sink = ListSink::new(alloc);
+    let written = write_text(&mut sink, &mut buffer, file);
+    drop(buffer);
+    match written {
         Ok(()) => Ok(sink.into_list()),
-        Err(_) => Err(NoMemory),
+        Err(_) => {
+            drop(sink);
+            Err(NoMemory)
+        }
     }
 }

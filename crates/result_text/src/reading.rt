@@ -1,13 +1,13 @@
 //! Numbers and lists, read from the prefix of the octets. Each reader answers the value and the octets behind it.
 
-ghost use Rattle.std.specs.Prelude.{◌≡◌, ◌∷◌, [], length};
+ghost use Rattle.std.specs.Prelude.{◌≡◌, ◌∷◌, [], length, option_map};
 ghost use Rattle.result_text.specs.Reading.{ReadsAs, others_at, with_prefix, list_at, positive_at, path_name_at, link_at, field_ends};
-ghost use Rattle.text_fields.specs.Reading.{word_at, u64_at, u32_at, before};
+ghost use Rattle.text_fields.specs.Reading.{word_at, u32_at, before};
 
 use crate::error::LineError;
 use crate::line::Version;
 use relationships::Link;
-use text_fields::{after, after_byte};
+use text_fields::{after, after_byte, u32_of};
 use tor_arena::List;
 
 // What stands behind this octet, where it has to stand there.
@@ -16,36 +16,6 @@ fn past(byte: u8, bytes: &[u8]) -> Result<&[u8], LineError>
 {
     match after_byte(byte, bytes) {
         Some(rest) => Ok(rest),
-        None => Err(LineError::Bad),
-    }
-}
-
-// A number below 2^32.
-fn u32_of(bytes: &[u8]) -> Result<(u32, &[u8]), LineError>
-    ensures { ReadsAs (λ x. (x.0, x.1.now)) result (u32_at bytes.now) }
-{
-    match text_fields::u32_of(bytes) {
-        Some(read) => Ok(read),
-        None => Err(LineError::Bad),
-    }
-}
-
-/// A number, and behind it this octet.
-pub fn read_u64(byte: u8, bytes: &[u8]) -> Result<(u64, &[u8]), LineError>
-    ensures { ReadsAs (λ x. (x.0, x.1.now)) result (before byte u64_at bytes.now) }
-{
-    match text_fields::u64_before(byte, bytes) {
-        Some(read) => Ok(read),
-        None => Err(LineError::Bad),
-    }
-}
-
-/// A number below 2^32, and behind it this octet.
-pub fn read_u32(byte: u8, bytes: &[u8]) -> Result<(u32, &[u8]), LineError>
-    ensures { ReadsAs (λ x. (x.0, x.1.now)) result (before byte u32_at bytes.now) }
-{
-    match text_fields::u32_before(byte, bytes) {
-        Some(read) => Ok(read),
         None => Err(LineError::Bad),
     }
 }
@@ -67,7 +37,9 @@ fn other_numbers<'a>(numbers: &mut List<u32>, bytes: &'a [u8]) -> Result<&'a [u8
 {
     let mut rest = bytes;
     'members: while let Some(others) = after_byte(b' ', rest) {
-        let (number, after) = u32_of(others)?;
+        let Some((number, after)) = u32_of(others) else {
+            return Err(LineError::Bad);
+        };
         numbers.push(number)?;
         rest = after;
     }
@@ -83,8 +55,12 @@ fn numbers_of<'a>(numbers: &mut List<u32>, bytes: &'a [u8]) -> Result<&'a [u8], 
     if field_ends(bytes) {
         return Ok(bytes);
     }
-    let (first, rest) = u32_of(bytes)?;
-    numbers.push(first)?;
+    let Some((first, rest)) = u32_of(bytes) else {
+        return Err(LineError::Bad);
+    };
+    if numbers.push(first).is_err() {
+        return Err(LineError::NoMemory);
+    }
     other_numbers(numbers, rest)
 }
 
@@ -96,31 +72,35 @@ pub fn numbers_before<'a>(
 ) -> Result<&'a [u8], LineError>
     ensures { ReadsAs (λ rest. (numbers.new, rest.now)) result (before byte (list_at u32_at) bytes.now) }
 {
-    let rest = numbers_of(numbers, bytes)?;
-    past(byte, rest)
+    match numbers_of(numbers, bytes) {
+        Ok(rest) => past(byte, rest),
+        Err(error) => Err(error),
+    }
 }
 
 // A number that is not 0.
 #[tactic(auto, unfolding(crate::specs::Reading::positive_at))]
-fn positive_of(bytes: &[u8]) -> Result<(u32, &[u8]), LineError>
-    ensures { ReadsAs (λ x. (x.0, x.1.now)) result (positive_at bytes.now) }
+fn positive_of(bytes: &[u8]) -> Option<(u32, &[u8])>
+    ensures { option_map (λ x. (x.0, x.1.now)) result ≡ positive_at bytes.now }
 {
-    let (number, rest) = u32_of(bytes)?;
+    let Some((number, rest)) = u32_of(bytes) else {
+        return None;
+    };
     if number == 0 {
-        return Err(LineError::Bad);
+        return None;
     }
-    Ok((number, rest))
+    Some((number, rest))
 }
 
 // The number of a link's path; 0 where the link names a given.
 #[tactic(auto, unfolding(crate::specs::Reading::path_name_at))]
-fn path_name_of(version: Version, bytes: &[u8]) -> Result<(u32, &[u8]), LineError>
-    ensures { ReadsAs (λ x. (x.0, x.1.now)) result (path_name_at version bytes.now) }
+fn path_name_of(version: Version, bytes: &[u8]) -> Option<(u32, &[u8])>
+    ensures { option_map (λ x. (x.0, x.1.now)) result ≡ path_name_at version bytes.now }
 {
     match version {
         Version::One => u32_of(bytes),
         Version::Two => match after(b"g", bytes) {
-            Some(rest) => Ok((0, rest)),
+            Some(rest) => Some((0, rest)),
             None => positive_of(bytes),
         },
     }
@@ -128,13 +108,19 @@ fn path_name_of(version: Version, bytes: &[u8]) -> Result<(u32, &[u8]), LineErro
 
 // A link.
 #[tactic(auto, unfolding(crate::specs::Reading::link_at))]
-fn link_of(version: Version, bytes: &[u8]) -> Result<(Link, &[u8]), LineError>
-    ensures { ReadsAs (λ x. (x.0, x.1.now)) result (link_at version bytes.now) }
+fn link_of(version: Version, bytes: &[u8]) -> Option<(Link, &[u8])>
+    ensures { option_map (λ x. (x.0, x.1.now)) result ≡ link_at version bytes.now }
 {
-    let (path, rest) = path_name_of(version, bytes)?;
-    let rest = past(b':', rest)?;
-    let (at, rest) = u32_of(rest)?;
-    Ok((Link { path, at }, rest))
+    let Some((path, rest)) = path_name_of(version, bytes) else {
+        return None;
+    };
+    let Some(rest) = after_byte(b':', rest) else {
+        return None;
+    };
+    let Some((at, rest)) = u32_of(rest) else {
+        return None;
+    };
+    Some((Link { path, at }, rest))
 }
 
 // Puts the links that follow, each behind a space, behind those that are there.
@@ -148,7 +134,9 @@ fn other_links<'a>(
 {
     let mut rest = bytes;
     'members: while let Some(others) = after_byte(b' ', rest) {
-        let (link, after) = link_of(version, others)?;
+        let Some((link, after)) = link_of(version, others) else {
+            return Err(LineError::Bad);
+        };
         links.push(link)?;
         rest = after;
     }
@@ -168,8 +156,12 @@ fn links_of<'a>(
     if field_ends(bytes) {
         return Ok(bytes);
     }
-    let (first, rest) = link_of(version, bytes)?;
-    links.push(first)?;
+    let Some((first, rest)) = link_of(version, bytes) else {
+        return Err(LineError::Bad);
+    };
+    if links.push(first).is_err() {
+        return Err(LineError::NoMemory);
+    }
     other_links(version, links, rest)
 }
 
@@ -182,6 +174,8 @@ pub fn links_before<'a>(
 ) -> Result<&'a [u8], LineError>
     ensures { ReadsAs (λ rest. (links.new, rest.now)) result (before byte (list_at (link_at version)) bytes.now) }
 {
-    let rest = links_of(version, links, bytes)?;
-    past(byte, rest)
+    match links_of(version, links, bytes) {
+        Ok(rest) => past(byte, rest),
+        Err(error) => Err(error),
+    }
 }

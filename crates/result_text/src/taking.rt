@@ -177,12 +177,29 @@ impl Parser {
         ensures text { IfOk result (λ file. (octets : Items ℕ) → HasTaken self octets → IsTextOf file octets) }
         ensures refused { IfErr result (λ error. (octets : Items ℕ) → HasTaken self octets → Refuses error octets) }
     {
+        let line = self.line;
         if self.bad || !self.start.is_empty() {
-            return Err(ParseError::BadLine(self.line));
+            drop(self);
+            return Err(ParseError::BadLine(line));
         }
-        match self.draft.finish() {
+        match self.into_draft().finish() {
             Some(file) => Ok(file),
-            None => Err(ParseError::BadLine(self.line)),
+            None => Err(ParseError::BadLine(line)),
         }
+    }
+
+    // What is read so far, without what it was read with.
+    fn into_draft(self) -> Draft
+        ensures { result ≡ self.draft }
+    {
+        let Parser {
+            draft,
+            scratch,
+            start,
+            ..
+        } = self;
+        drop(scratch);
+        drop(start);
+        draft
     }
 }

@@ -1,6 +1,7 @@
-use Rattle.std.proofs.Common.{◌≡◌, [], true, false, length, sym}
+use Rattle.std.proofs.Common.{◌≡◌, [], true, false, length, sym, ap, ◌∙◌}
 use Rattle.std.proofs.lemmas.Bool.{eqb-false, eqb-true}
 use Rattle.std.proofs.lemmas.List.{nil_from_length}
+use Rattle.result_text.specs.Order.{finished}
 use Rattle.result_text.proofs.Pieces.{knows, is_bad, ends_bad, ends_early, ends_well}
 use Rattle.result_text.proofs.taking.Parser.finish.Goals as goal
 use Rattle.result_text.proofs.taking.Parser.finish.Goals.{then-self-via-then-self, then-self-via-else-self+then-not-is_empty}
@@ -20,11 +21,11 @@ returns-in-Some-clause-text c = λ octets taken.
     let p = c.args.self in
     let at = knows p false octets c.if-self.false taken in
     let none : p.start ≡ [] = nil_from_length p.start (eqb-true (length p.start) 0 (sym c.if-not-is_empty.ensures)) in
-    ends_well p.line p.draft octets p.start c.in-Some.file at.0 none (sym c.in-Some.ensures)
+    ends_well p.line p.draft octets p.start c.in-Some.file at.0 none (ap finished (sym c.into_draft.ensures) ∙ sym c.in-Some.ensures)
 
-pub returns-clause-refused : goal.returns-clause-refused
-returns-clause-refused c = λ octets taken.
+pub returns-in-None-clause-refused : goal.returns-in-None-clause-refused
+returns-in-None-clause-refused c = λ octets taken.
     let p = c.args.self in
     let at = knows p false octets c.if-self.false taken in
     let none : p.start ≡ [] = nil_from_length p.start (eqb-true (length p.start) 0 (sym c.if-not-is_empty.ensures)) in
-    ends_early p.line p.draft octets p.start at.0 none (sym c.in-None.ensures)
+    ends_early p.line p.draft octets p.start at.0 none (ap finished (sym c.into_draft.ensures) ∙ sym c.in-None.ensures)
