@@ -1,9 +1,10 @@
 -- The marks beside how nodes were found.
-use Rattle.std.proofs.Common.{◌≡◌, ℕ, ◌+◌, ◌<◌, ◌⊎◌, inl, inr, Bool, false, List, ◌++◌, Some, length, length-set, length-append, refl, sym, ap₂, ◌∙◌, subst, arith}
+use Rattle.std.proofs.Common.{◌≡◌, ℕ, ◌+◌, ◌<◌, ◌⊎◌, inl, inr, Bool, false, List, ◌++◌, Some, length, take, length-set, length-append, refl, sym, ap₂, ◌∙◌, subst, arith}
 use Rattle.std.specs.Prelude.{slice_get, slice_set, replicate, ◌↔◌, IsTrue, Contains}
 use Rattle.std.proofs.lemmas.Bool.{false≢true}
 use Rattle.std.proofs.lemmas.List.{length-replicate}
 use Rattle.std.proofs.lemmas.Option.{slice_get_within}
+use Rattle.std.proofs.Math.Seq.{take-append_seam}
 use Rattle.tor_digraph.specs.Found.{IsSeen, IsFound}
 use Rattle.tor_digraph.specs.Reached.{Reach, AreSeen}
 use Rattle.tor_digraph.specs.Traces.{AreMarked}
@@ -87,3 +88,9 @@ module _ {N A : Type 0} where
     where
       unmarked : (g : Found N A) (c : Bool) → g ≡ No → c ≡ false → IsTrue c ↔ IsSeen g
       unmarked g c e h = rw (e, h) ((λ t. absurd (false≢true t)), (λ s. absurd s))
+
+  -- marks that are cut back to those that there were
+  pub marked_back : (found : List (Found N A)) (marks : List Bool) (n count : ℕ) → AreMarked found marks → count ≡ length marks →
+      (more back : List Bool) (found' : List (Found N A)) → more ≡ marks ++ replicate n false → back ≡ take count more → found' ≡ found → AreMarked found' back
+  marked_back found marks n count m is more back found' e-more e-back e-found = rw (e-found, e-back, e-more, is)
+      (subst (λ z. AreMarked found z) (sym (take-append_seam marks (replicate n false))) m)
