@@ -1,12 +1,18 @@
 -- The chains of arcs stay right as arcs and nodes come and go.
-use Rattle.std.proofs.Common.{◌≡◌, ◌≢◌, ℕ, zero, suc, ◌+◌, ◌<◌, ◌≤◌, inl, inr, List, [], ◌∷◌, ◌++◌, Option, Some, None, length, take, set, refl, sym, ◌∙◌, ap, subst, arith, length-append, length-set}
+use Rattle.std.proofs.Common.{◌≡◌, ◌≢◌, ℕ, zero, suc, ◌+◌, ◌<◌, ◌≤◌, inl, inr, List, [], ◌∷◌, ◌++◌, Option, Some, None, length, take, set, refl, sym, ◌∙◌, ap, ap₂, subst, arith, length-append, length-set}
 use Rattle.std.specs.Prelude.{slice_get, replicate, option_map, IfSome}
 use Rattle.std.proofs.lemmas.List.{length_push, length-take-le}
 use Rattle.std.proofs.lemmas.Option.{slice_get_within}
 use Rattle.std.proofs.Math.Seq.{take-length}
-use Rattle.tor_digraph.specs.Walks.{IsArc, IsInside}
+use Rattle.tor_digraph.specs.Walks.{Net, IsArc, IsInside}
 use Rattle.tor_digraph.specs.Links.{IsLatest, IsChained}
 use Rattle.tor_arena.proofs.Gets.{slice_get-push_old, slice_get-push_cases, slice_get-push_last, slice_get-take, slice_get-take_back, slice_get-set_cases, slice_get-replicate, slice_get-append_cases}
+
+abbrev net_with : {N : Type 0} → ℕ → List (N × N) → Net N
+net_with nodes arcs = record { nodes = nodes; arcs = arcs }
+
+pub same-net : {N : Type 0} (a b : Net N) → a.nodes ≡ b.nodes → a.arcs ≡ b.arcs → a ≡ b
+same-net a b nodes arcs = ap₂ net_with nodes arcs
 
 take-fewer : {X : Type 0} (m n : ℕ) (xs : List X) → m ≤ n → take m (take n xs) ≡ take m xs
 take-fewer zero n xs le = refl

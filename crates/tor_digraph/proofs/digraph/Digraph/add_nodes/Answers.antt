@@ -1,5 +1,7 @@
-use Rattle.std.proofs.Common.{ap, arith}
-use Rattle.tor_digraph.proofs.Chains.{linked-more_nodes_made}
+use Rattle.std.proofs.Common.{◌+◌, ◌∙◌, length, ap, ap₂, arith, length-append}
+use Rattle.std.specs.Prelude.{replicate}
+use Rattle.std.proofs.lemmas.List.{length-replicate}
+use Rattle.tor_digraph.proofs.Chains.{linked-more_nodes_made, same-net}
 use Rattle.tor_digraph.proofs.digraph.Digraph.add_nodes.Goals as goal
 
 pub invariant_of-self : goal.invariant_of-self
@@ -24,3 +26,9 @@ returns-clause-full g c = (
       let nodes = ap (λ net. net.nodes) c.self.view_is in
       absurd (omega (arith, more, test, most, many, below, nodes)),
 )
+
+pub returns-clause-ok : goal.returns-clause-ok
+returns-clause-ok g c = same-net _ _
+    (ap length c.in_ok-push_copies.ensures.ok ∙ length-append c.self.inside.first.items (replicate c.args.n c.none.result)
+    ∙ ap₂ (λ n m. n + m) (ap (λ v. v.nodes) c.self.view_is) (length-replicate c.args.n c.none.result))
+    (ap (λ v. v.arcs) c.self.view_is)

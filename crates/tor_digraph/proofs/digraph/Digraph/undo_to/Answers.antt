@@ -1,8 +1,8 @@
-use Rattle.std.proofs.Common.{◌≡◌, ◌-◌, ◌≤◌, length, refl, sym, ◌∙◌, ap, subst, arith, length-set}
+use Rattle.std.proofs.Common.{◌≡◌, ◌-◌, ◌≤◌, length, take, refl, sym, ◌∙◌, ap, subst, arith, length-set}
 use Rattle.std.proofs.lemmas.List.{length-take-le}
 use Rattle.std.specs.Prelude.{IfSome, Some, slice_get}
 use Rattle.tor_digraph.specs.Walks.{IsArc}
-use Rattle.tor_digraph.proofs.Chains.{linked-drop_made, linked-undo, linked-whole}
+use Rattle.tor_digraph.proofs.Chains.{linked-drop_made, linked-undo, linked-whole, same-net}
 use Rattle.tor_digraph.proofs.Members.{some-if_not_none}
 use Rattle.tor_digraph.proofs.digraph.Digraph.undo_to.Goals as goal
 
@@ -63,3 +63,9 @@ loop-left-init g c =
       linked = linked-whole g.N.Index.place_of (λ place. place) g.met.N.Index.is_one c.self.inside.first.items c.self.inside.ends.items c.self.inside.links.items
           c.len-left.result all c.self.invariant.1;
     }
+
+pub returns : goal.returns
+returns g c =
+    let le : c.args.mark.nodes ≤ length c.loop-left.self-inside.first.items = subst (λ n. c.args.mark.nodes ≤ n) (sym c.loop-left.invariant.nodes) c.requires.nodes in
+    same-net _ _ (ap length c.cut_to-3.ensures.items ∙ length-take-le c.args.mark.nodes c.loop-left.self-inside.first.items le)
+    (c.cut_to.ensures.items ∙ ap (take c.args.mark.arcs) c.loop-left.invariant.ends)
