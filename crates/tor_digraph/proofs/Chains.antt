@@ -1,11 +1,18 @@
 -- The chains of arcs stay right as arcs and nodes come and go.
-use Rattle.std.proofs.Common.{◌≡◌, ◌≢◌, ℕ, zero, suc, ◌+◌, ◌<◌, ◌≤◌, inl, inr, List, [], ◌∷◌, ◌++◌, Option, Some, None, length, take, set, refl, sym, ◌∙◌, ap, subst, arith, length-append, length-set}
+use Rattle.std.proofs.Common.{◌≡◌, ◌≢◌, ℕ, zero, suc, ◌+◌, ◌<◌, ◌≤◌, inl, inr, List, [], ◌∷◌, ◌++◌, Option, Some, None, length, take, set, refl, sym, ◌∙◌, ap, ap₂, subst, arith, length-append, length-set}
 use Rattle.std.specs.Prelude.{slice_get, replicate, option_map, IfSome}
 use Rattle.std.proofs.lemmas.List.{length_push, length-take-le}
 use Rattle.std.proofs.lemmas.Option.{slice_get_within}
-use Rattle.tor_digraph.specs.Walks.{IsArc, IsInside}
+use Rattle.std.proofs.Math.Seq.{take-length}
+use Rattle.tor_digraph.specs.Walks.{Net, IsArc, IsInside}
 use Rattle.tor_digraph.specs.Links.{IsLatest, IsChained}
 use Rattle.tor_arena.proofs.Gets.{slice_get-push_old, slice_get-push_cases, slice_get-push_last, slice_get-take, slice_get-take_back, slice_get-set_cases, slice_get-replicate, slice_get-append_cases}
+
+abbrev net_with : {N : Type 0} → ℕ → List (N × N) → Net N
+net_with nodes arcs = record { nodes = nodes; arcs = arcs }
+
+pub same-net : {N : Type 0} (a b : Net N) → a.nodes ≡ b.nodes → a.arcs ≡ b.arcs → a ≡ b
+same-net a b nodes arcs = ap₂ net_with nodes arcs
 
 take-fewer : {X : Type 0} (m n : ℕ) (xs : List X) → m ≤ n → take m (take n xs) ≡ take m xs
 take-fewer zero n xs le = refl
@@ -173,6 +180,10 @@ module _ {N A : Type 0} (place : N → ℕ) (spot : A → ℕ) (one : (u v : N) 
     before = l.before;
   }
 
+  pub linked-more_nodes_made : (n : ℕ) (x : Option A) → IsChained place spot first arcs links → x ≡ None →
+      (first' : List (Option A)) → first' ≡ first ++ replicate n x → IsChained place spot first' arcs links
+  linked-more_nodes_made n x l is first' e = rw (e, is) (linked-more_nodes n l)
+
   pub linked-fewer_nodes : (m : ℕ) → IsChained place spot first arcs links → m ≤ length first → IsInside place (record { nodes = m; arcs = arcs }) → IsChained place spot (take m first) arcs links
   linked-fewer_nodes m l le inside = record {
     as_many = l.as_many;
@@ -191,3 +202,9 @@ module _ {N A : Type 0} (place : N → ℕ) (spot : A → ℕ) (one : (u v : N) 
   linked-undo first first' arcs arcs' was links links' left n m is-n l le e-was inside e-first e-arcs e-links = rw (e-first, e-arcs, e-links)
       (linked-fewer_nodes place spot one first (take n arcs) (take n links) m (subst (λ k. IsChained place spot first (take k arcs) (take k links)) is-n l) le
       (subst (λ z. IsInside place (record { nodes = m; arcs = take n z })) (sym e-was) inside))
+
+  -- all arcs are the first ones, so many as there are
+  pub linked-whole : (first : List (Option A)) (arcs : List (N × N)) (links : List (Option A)) (n : ℕ) → n ≡ length arcs →
+      IsChained place spot first arcs links → IsChained place spot first (take n arcs) (take n links)
+  linked-whole first arcs links n e l = subst (λ z. IsChained place spot first z (take n links)) (sym (ap (λ k. take k arcs) e ∙ take-length arcs))
+      (subst (λ z. IsChained place spot first arcs z) (sym (ap (λ k. take k links) (e ∙ sym l.as_many) ∙ take-length links)) l)

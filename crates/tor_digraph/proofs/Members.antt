@@ -1,6 +1,6 @@
 -- What is in a list that grows at its end, and what code reads of a list.
-use Rattle.std.proofs.Common.{◌≡◌, ℕ, ◌<◌, ◌⊎◌, inl, inr, List, [], ◌∷◌, ◌++◌, Some, length, get_or, refl, subst, Contains}
-use Rattle.std.specs.Prelude.{slice_get}
+use Rattle.std.proofs.Common.{◌≡◌, ℕ, ◌<◌, ◌⊎◌, inl, inr, List, [], ◌∷◌, ◌++◌, Option, Some, None, length, get_or, refl, subst, Contains}
+use Rattle.std.specs.Prelude.{slice_get, IsSome, IsNone}
 use Rattle.std.proofs.lemmas.Option.{slice_get_read}
 use Rattle.tor_arena.proofs.Gets.{has-from_Contains, Contains-from_has, slice_get-push_old, slice_get-push_cases, slice_get-push_last}
 
@@ -22,3 +22,7 @@ read-at xs ys i x e is lt = slice_get_read xs (length xs) i x refl lt (subst (λ
 
 pub read-there : {X : Type 0} (xs ys : List X) (i : ℕ) (x : X) → ys ≡ xs → x ≡ get_or ys i x → i < length xs → Contains xs x
 read-there xs ys i x e is lt = Contains-from_has xs x (i, read-at xs ys i x e is lt)
+
+pub some-if_not_none : {X : Type 0} (r : Option X) → (IsNone r → ⊥) → IsSome r
+some-if_not_none None not = absurd (not refl)
+some-if_not_none (Some x) not = refl

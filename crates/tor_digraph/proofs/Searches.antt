@@ -154,6 +154,10 @@ module _ {N A : Type 0} (place : N → ℕ) where
     falls = λ x t a d at. absurd (none x (Along t a d, at, tt));
   })
 
+  pub blank-seen : (found : List (Found N A)) (nodes : List N) → found ≡ [] → nodes ≡ [] → AreSeen place nodes found
+  blank-seen found nodes none e = blank-kept found nodes e
+      (λ x f. (let bad : None ≡ Some f.0 = subst (λ z. slice_get z (place x) ≡ Some f.0) none f.1 in cc))
+
   pub blank-done : (found : List (Found N A)) (nodes : List N) → nodes ≡ [] → ((y : N) → IsFound place found y → Has nodes y) → (x : N) → IsFound place found x → ⊥
   blank-done found nodes e seen x f = let h = subst (λ z. Has z x) e (seen x f) in let bad : None ≡ Some x = h.1 in cc
 

@@ -1,15 +1,16 @@
 -- The marks beside how nodes were found.
-use Rattle.std.proofs.Common.{◌≡◌, ℕ, ◌+◌, ◌<◌, ◌⊎◌, inl, inr, Bool, false, List, ◌++◌, Some, length, length-set, length-append, refl, sym, ap₂, ◌∙◌, subst, arith}
+use Rattle.std.proofs.Common.{◌≡◌, ℕ, ◌+◌, ◌<◌, ◌⊎◌, inl, inr, Bool, false, List, ◌++◌, Some, length, take, min, length-set, length-append, length-take, refl, sym, ap, ap₂, ◌∙◌, subst, arith}
 use Rattle.std.specs.Prelude.{slice_get, slice_set, replicate, ◌↔◌, IsTrue, Contains}
 use Rattle.std.proofs.lemmas.Bool.{false≢true}
 use Rattle.std.proofs.lemmas.List.{length-replicate}
 use Rattle.std.proofs.lemmas.Option.{slice_get_within}
+use Rattle.std.proofs.Math.Seq.{take-append_seam}
 use Rattle.tor_digraph.specs.Found.{IsSeen, IsFound}
 use Rattle.tor_digraph.specs.Reached.{Reach, AreSeen}
 use Rattle.tor_digraph.specs.Traces.{AreMarked}
 use Rattle.tor_digraph.specs.declared.found.Found.{Found}
 use Rattle.tor_digraph.specs.declared.found.Found.TheVariants.{No, Start, Along}
-use Rattle.tor_arena.proofs.Gets.{has-from_Contains, Contains-from_has, slice_get-some, slice_get-set_cases, slice_get-append_cases, slice_get-replicate}
+use Rattle.tor_arena.proofs.Gets.{has-from_Contains, Contains-from_has, slice_get-some, slice_get-set_cases, slice_get-append_cases, slice_get-take, slice_get-replicate}
 
 module _ {N A : Type 0} (place : N → ℕ) (found : List (Found N A)) (x : N) where
   pub marked_seen : (marks : List Bool) (b : Bool) → AreMarked found marks → slice_get marks (place x) ≡ Some b → IsTrue b ↔ IsFound place found x
@@ -87,3 +88,17 @@ module _ {N A : Type 0} where
     where
       unmarked : (g : Found N A) (c : Bool) → g ≡ No → c ≡ false → IsTrue c ↔ IsSeen g
       unmarked g c e h = rw (e, h) ((λ t. absurd (false≢true t)), (λ s. absurd s))
+
+  -- marks that are cut back to those that there were
+  pub marked_back : (found : List (Found N A)) (marks : List Bool) (n count : ℕ) → AreMarked found marks → count ≡ length marks →
+      (more back : List Bool) (found' : List (Found N A)) → more ≡ marks ++ replicate n false → back ≡ take count more → found' ≡ found → AreMarked found' back
+  marked_back found marks n count m is more back found' e-more e-back e-found = rw (e-found, e-back, e-more, is)
+      (subst (λ z. AreMarked found z) (sym (take-append_seam marks (replicate n false))) m)
+
+  -- both cut to the first nodes
+  pub marked_cut : (found : List (Found N A)) (marks : List Bool) (n : ℕ) → AreMarked found marks → (found' : List (Found N A)) (marks' : List Bool) →
+      found' ≡ take n found → marks' ≡ take n marks → AreMarked found' marks'
+  marked_cut found marks n m found' marks' e-found e-marks = rw (e-found, e-marks) (record {
+    many = length-take n marks ∙ ap (min n) m.many ∙ sym (length-take n found);
+    each = λ k f b at mark. m.each k f b (slice_get-take n found k f at).1 (slice_get-take n marks k b mark).1;
+  })

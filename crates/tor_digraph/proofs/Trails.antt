@@ -1,15 +1,35 @@
 -- What a search has visited, when it visits one node more.
-use Rattle.std.proofs.Common.{◌≡◌, ℕ, ◌+◌, ◌<◌, ◌⊎◌, inl, inr, Bool, true, false, List, [], ◌∷◌, Some, length, sym, ap, ◌∙◌, subst, arith, Contains}
+use Rattle.std.proofs.Common.{◌≡◌, ℕ, ◌+◌, ◌<◌, ◌⊎◌, inl, inr, Bool, true, false, List, [], ◌∷◌, ◌++◌, Some, length, sym, ap, ◌∙◌, subst, arith, Contains}
 use Rattle.std.specs.Prelude.{slice_get}
+use Rattle.std.proofs.lemmas.Bool.{false≢true}
 use Rattle.std.proofs.lemmas.List.{length_push}
 use Rattle.std.proofs.lemmas.Option.{same_Some, slice_get_within}
 use Rattle.tor_arena.proofs.Gets.{slice_get-some, slice_get-push_old, slice_get-push_cases, slice_get-push_last}
 use Rattle.tor_digraph.specs.Walks.{IsArc, Reaches, here, along}
+use Rattle.tor_digraph.specs.NodeSets.{IsAdded}
 use Rattle.tor_digraph.specs.Spreading.{Stays}
 use Rattle.tor_digraph.specs.Trails.{StandsAt, Visits, origin_at, IsHeadFrom, HasOrigin, IsTrail, StaysTrail}
 use Rattle.tor_digraph.specs.declared.trail.Origin.{Origin}
 use Rattle.tor_digraph.specs.declared.trail.Trail.{Trail}
 use Rattle.tor_digraph.proofs.Members.{Contains-last}
+
+pub added-stays : (node : ℕ) (new : Bool) (before after : List ℕ) → IsAdded node new before after → Stays before after
+added-stays node new before after (inl a) k x at = subst (λ l. slice_get l k ≡ Some x) (sym a.2) (slice_get-push_old before (node ∷ []) k x at)
+added-stays node new before after (inr a) k x at = subst (λ l. slice_get l k ≡ Some x) (sym a.2) at
+
+-- a node that is new was added with how it was found
+pub added-visits : (node place arc : ℕ) (old new : Trail) (is_new : Bool) → is_new ≡ true → IsAdded node is_new old.nodes.items new.nodes.items →
+    new.origins ≡ old.origins ++ origin_at place arc ∷ [] → Visits node place arc old new is_new
+added-visits node place arc old new true is (inl a) noted = (a.1, a.2, noted)
+added-visits node place arc old new true is (inr a) noted = absurd (false≢true (sym a.0))
+added-visits node place arc old new false is added noted = absurd (false≢true is)
+
+-- and one that is not new changes nothing
+pub kept-visits : (node place arc : ℕ) (old new : Trail) (is_new : Bool) → is_new ≡ false → IsAdded node is_new old.nodes.items new.nodes.items →
+    new.origins ≡ old.origins → Visits node place arc old new is_new
+kept-visits node place arc old new true is added same = absurd (false≢true (sym is))
+kept-visits node place arc old new false is (inl a) same = absurd (false≢true a.0)
+kept-visits node place arc old new false is (inr a) same = (a.1, a.2, same)
 
 pub visits_stays : (node place arc : ℕ) (old new : Trail) (is_new : Bool) → Visits node place arc old new is_new → Stays old.nodes.items new.nodes.items
 visits_stays node place arc old new true h k x at = ap (λ (l : List ℕ). slice_get l k) h.1 ∙ slice_get-push_old old.nodes.items (node ∷ []) k x at

@@ -5,7 +5,24 @@ use Rattle.std.proofs.lemmas.List.{length_push}
 use Rattle.std.proofs.lemmas.Option.{same_Some, slice_get_within}
 use Rattle.tor_digraph.specs.Walks.{IsArc, IsWay}
 use Rattle.tor_digraph.specs.Back.{IsBack}
+use Rattle.tor_digraph.specs.Found.{IsSeen, IsFound, IsRoot, depth, depth_of}
+use Rattle.tor_digraph.specs.declared.found.Found.{Found}
+use Rattle.tor_digraph.specs.declared.found.Found.TheVariants.{No, Start, Along}
 use Rattle.tor_arena.proofs.Gets.{slice_get-push_old, slice_get-push_cases, slice_get-push_last}
+
+module _ {N A : Type 0} (place : N → ℕ) (found : List (Found N A)) where
+  -- the tail of an arc of a tree is nearer to its root than the head
+  pub falls-deeper : (x t : N) (a : A) (d : ℕ) → slice_get found (place x) ≡ Some (Along t a d) →
+      (f : Found N A) × (slice_get found (place t) ≡ Some f) × IsSeen f × (depth f + 1 ≡ d) →
+      depth_of (slice_get found (place t)) < depth_of (slice_get found (place x))
+  falls-deeper x t a d at (f, tail, seen, e) = rw (at, tail) (omega (arith, e))
+
+  -- a node that was found, but along no arc, is a root
+  pub found-root : (x : N) (f : Found N A) → slice_get found (place x) ≡ Some f → IsFound place found x →
+      ((t : N) (a : A) (d : ℕ) → f ≡ Along t a d → ⊥) → IsRoot place found x
+  found-root x No at (f', is, seen) not = absurd (subst IsSeen (same_Some f' No (sym is ∙ at)) seen)
+  found-root x Start at is not = at
+  found-root x (Along t a d) at is not = absurd (not t a d refl)
 
 module _ {N A : Type 0} (spot : A → ℕ) (arcs : List (N × N)) where
   pub back-none : (x : N) (back : List (N × A)) → back ≡ [] → IsBack spot arcs x x back

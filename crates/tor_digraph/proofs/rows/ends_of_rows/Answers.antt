@@ -1,8 +1,9 @@
-use Rattle.std.proofs.Common.{rules, ◌≡◌, ◌+◌, Some, set, sym, subst, arith, refl}
-use Rattle.std.specs.Prelude.{slice_get}
+use Rattle.std.proofs.Common.{◌≡◌, ◌+◌, Some, set, sym, subst, arith, refl}
+use Rattle.std.specs.Prelude.{slice_get, IfSome}
 use Rattle.std.proofs.lemmas.Option.{slice_get_within}
 use Rattle.tor_digraph.proofs.Filling.{AreCounted, counting-next, counting-few, summing-begins, summing-next, summing-few}
 use Rattle.tor_digraph.proofs.Floods.{read-at}
+use Rattle.tor_digraph.proofs.Members.{some-if_not_none}
 use Rattle.tor_digraph.proofs.rows.ends_of_rows.Goals as goal
 
 pub overflow_add-index_mut : goal.overflow_add-index_mut
@@ -10,7 +11,7 @@ overflow_add-index_mut g c =
     let arcs = c.args.graph.now.arcs in
     let ends = c.loop-place.ends.items in
     let place = c.loop-place.place in
-    let same : g.A.Index.place_of c.unwrap.result ≡ place = search rules in
+    let same : g.A.Index.place_of c.unwrap.result ≡ place = subst (λ o. IfSome o (λ i. g.A.Index.place_of i ≡ place)) c.unwrap.ensures c.from_place.ensures.some in
     let arc = subst (λ k. slice_get arcs k ≡ Some c.ends-tail.result) same c.ends-tail.ensures.arc in
     let many = c.loop-place.invariant.many in
     let below = c.ends-tail.ensures.tail in
@@ -28,7 +29,7 @@ loop-place-preserved g c =
     let arcs = c.args.graph.now.arcs in
     let ends = c.loop-place.ends.items in
     let place = c.loop-place.place in
-    let same : g.A.Index.place_of c.unwrap.result ≡ place = search rules in
+    let same : g.A.Index.place_of c.unwrap.result ≡ place = subst (λ o. IfSome o (λ i. g.A.Index.place_of i ≡ place)) c.unwrap.ensures c.from_place.ensures.some in
     let arc = subst (λ k. slice_get arcs k ≡ Some c.ends-tail.result) same c.ends-tail.ensures.arc in
     let many = c.loop-place.invariant.many in
     let below = c.ends-tail.ensures.tail in
@@ -73,3 +74,20 @@ returns-clause-ends g c =
     let lt = slice_get_within c.loop-place-2.ends.items u n at in
     omega (arith, lt, test, end)
     ) at
+
+pub unwrap-requires : goal.unwrap-requires
+unwrap-requires g c = some-if_not_none c.from_place.result (λ none.
+    let most = c.from_place.ensures.none.0 none in
+    let test = c.loop-place-test.true in
+    let all = c.arc_count-place-end.ensures in
+    let many = all.arcs in
+    let below = all.below in
+    omega (arith, most, test, many, below))
+
+pub ends-tail-requires : goal.ends-tail-requires
+ends-tail-requires g c =
+    let same : g.A.Index.place_of c.unwrap.result ≡ c.loop-place.place =
+    subst (λ o. IfSome o (λ i. g.A.Index.place_of i ≡ c.loop-place.place)) c.unwrap.ensures c.from_place.ensures.some in
+    let test = c.loop-place-test.true in
+    let many = c.arc_count-place-end.ensures.arcs in
+    omega (arith, same, test, many)

@@ -1,8 +1,9 @@
-use Rattle.std.proofs.Common.{rules, ◌≡◌, ◌+◌, ◌-◌, ◌≤◌, Some, length, sym, subst, ◌∙◌, arith, length-set, set}
-use Rattle.std.specs.Prelude.{slice_get, slice_index_or}
+use Rattle.std.proofs.Common.{◌≡◌, ◌+◌, ◌-◌, ◌≤◌, Some, length, sym, subst, ◌∙◌, arith, length-set, set}
+use Rattle.std.specs.Prelude.{slice_get, slice_index_or, IfSome}
 use Rattle.std.proofs.lemmas.Option.{slice_get-get_or}
 use Rattle.tor_digraph.specs.InRows.{IsFilled}
 use Rattle.tor_digraph.proofs.Filling.{filling-begins, filling-room, filling-few, filling-next}
+use Rattle.tor_digraph.proofs.Members.{some-if_not_none}
 use Rattle.tor_digraph.proofs.rows.fill.Goals as goal
 
 pub loop-left-init : goal.loop-left-init
@@ -20,7 +21,7 @@ overflow_sub-at g c =
     let test = c.loop-left-test.true in
     let left = c.loop-left.left in
     let arcs = c.args.graph.now.arcs in
-    let same : g.A.Index.place_of c.unwrap-arc.result ≡ left - 1 = search rules in
+    let same : g.A.Index.place_of c.unwrap-arc.result ≡ left - 1 = subst (λ o. IfSome o (λ i. g.A.Index.place_of i ≡ left - 1)) c.unwrap-arc.ensures c.from_place.ensures.some in
     let arc = subst (λ k. slice_get arcs k ≡ Some c.ends-tail.result) same c.ends-tail.ensures.arc in
     let back : left ≡ left - 1 + 1 = omega (arith, test) in
     let so = subst (λ n. IsFilled g.N.Index.place_of g.A.Index.place_of arcs n c.loop-left.ends c.loop-left.rows) back c.loop-left.invariant.filled in
@@ -36,7 +37,7 @@ prove-unreachable-requires g c =
     let test = c.loop-left-test.true in
     let left = c.loop-left.left in
     let arcs = c.args.graph.now.arcs in
-    let same : g.A.Index.place_of c.unwrap-arc.result ≡ left - 1 = search rules in
+    let same : g.A.Index.place_of c.unwrap-arc.result ≡ left - 1 = subst (λ o. IfSome o (λ i. g.A.Index.place_of i ≡ left - 1)) c.unwrap-arc.ensures c.from_place.ensures.some in
     let arc = subst (λ k. slice_get arcs k ≡ Some c.ends-tail.result) same c.ends-tail.ensures.arc in
     let back : left ≡ left - 1 + 1 = omega (arith, test) in
     let so = subst (λ n. IsFilled g.N.Index.place_of g.A.Index.place_of arcs n c.loop-left.ends c.loop-left.rows) back c.loop-left.invariant.filled in
@@ -60,7 +61,7 @@ loop-left-preserved g c =
     let rows = c.loop-left.rows in
     let arc_id = c.unwrap-arc.result in
     let head = c.ends-tail.result.1 in
-    let same : g.A.Index.place_of c.unwrap-arc.result ≡ left - 1 = search rules in
+    let same : g.A.Index.place_of c.unwrap-arc.result ≡ left - 1 = subst (λ o. IfSome o (λ i. g.A.Index.place_of i ≡ left - 1)) c.unwrap-arc.ensures c.from_place.ensures.some in
     let arc = subst (λ k. slice_get arcs k ≡ Some c.ends-tail.result) same c.ends-tail.ensures.arc in
     let back : left ≡ left - 1 + 1 = omega (arith, test) in
     let so = subst (λ n. IsFilled g.N.Index.place_of g.A.Index.place_of arcs n ends rows) back c.loop-left.invariant.filled in
@@ -83,3 +84,29 @@ returns-clause-filled g c =
     let done = c.loop-left-test.false in
     let none : c.loop-left.left ≡ 0 = omega (arith, done) in
     subst (λ n. IsFilled g.N.Index.place_of g.A.Index.place_of c.args.graph.now.arcs n c.loop-left.ends c.loop-left.rows) none c.loop-left.invariant.filled
+
+pub unwrap-arc-requires : goal.unwrap-arc-requires
+unwrap-arc-requires g c = some-if_not_none c.from_place.result (λ none.
+    let most = c.from_place.ensures.none.0 none in
+    let test = c.loop-left-test.true in
+    let few = c.loop-left.invariant.few in
+    let below = c.arc_count-left.ensures.below in
+    omega (arith, most, test, few, below))
+
+pub ends-tail-requires : goal.ends-tail-requires
+ends-tail-requires g c =
+    let same : g.A.Index.place_of c.unwrap-arc.result ≡ c.loop-left.left - 1 =
+    subst (λ o. IfSome o (λ i. g.A.Index.place_of i ≡ c.loop-left.left - 1)) c.unwrap-arc.ensures c.from_place.ensures.some in
+    let test = c.loop-left-test.true in
+    let few = c.loop-left.invariant.few in
+    omega (arith, same, test, few)
+
+pub bounds-ends-place : goal.bounds-ends-place
+bounds-ends-place g c =
+    let many = c.loop-left.invariant.many in
+    let tail = c.ends-tail.ensures.tail in
+    let place = c.place-place.ensures.place in
+    omega (arith, many, tail, place)
+
+pub loop-left-smaller : goal.loop-left-smaller
+loop-left-smaller g c = let test = c.loop-left-test.true in omega (arith, test)

@@ -1,4 +1,6 @@
+use Rattle.std.proofs.Common.{◌<◌, ◌∙◌, length, length-set, sym, ap, subst}
 use Rattle.std.proofs.lemmas.Result.{on_ok_weaker}
+use Rattle.tor_digraph.specs.declared.found.Found.TheVariants.{Start}
 use Rattle.tor_digraph.proofs.Searches.{search-start, growth-start, start-found, start-starts}
 use Rattle.tor_digraph.proofs.search.explore.Goals as goal
 
@@ -21,3 +23,15 @@ returns-clause-found g c =
 pub returns-clause-starts : goal.returns-clause-starts
 returns-clause-starts g c =
     on_ok_weaker c.search.result (λ w x at. start-starts g.N.Index.place_of g.met.N.Index.is_one c.args.found.now.items _ c.args.start c.put.ensures.items x (w.starts x at)) c.search.ensures.later
+
+pub put-requires : goal.put-requires
+put-requires g c = subst (λ n. g.N.Index.place_of c.args.start < n) (sym c.requires.many) c.requires.start
+
+pub search-requires-clause-many : goal.search-requires-clause-many
+search-requires-clause-many g c = ap length c.put.ensures.items ∙ length-set c.args.found.now.items (g.N.Index.place_of c.args.start) Start ∙ c.requires.many
+
+pub returns-clause-many : goal.returns-clause-many
+returns-clause-many g c = c.search.ensures.many
+
+pub returns-clause-search : goal.returns-clause-search
+returns-clause-search g c = c.search.ensures.search

@@ -1,7 +1,7 @@
 use Rattle.std.proofs.Common.{Some, sym, ◌∙◌, ap, subst}
 use Rattle.std.proofs.lemmas.Option.{slice_get_within}
 use Rattle.tor_digraph.specs.Back.{IsBack}
-use Rattle.tor_digraph.proofs.Ways.{back-none, back-push}
+use Rattle.tor_digraph.proofs.Ways.{back-none, back-push, falls-deeper, found-root}
 use Rattle.tor_digraph.proofs.way.go_back.Goals as goal
 
 pub loop-tail-preserved : goal.loop-tail-preserved
@@ -26,3 +26,12 @@ get-requires g c = let found = c.loop-tail.invariant.found in slice_get_within c
 
 pub returns-clause-back : goal.returns-clause-back
 returns-clause-back g c = c.loop-tail.invariant.back
+
+pub returns-clause-root : goal.returns-clause-root
+returns-clause-root g c = found-root g.N.Index.place_of c.args.found.now.items c.loop-tail.root c.get.result.now c.get.ensures c.loop-tail.invariant.found c.in_default.not-Along
+
+pub loop-tail-smaller : goal.loop-tail-smaller
+loop-tail-smaller g c =
+    let at = c.get.ensures ∙ ap Some c.in-Along.is in
+    falls-deeper g.N.Index.place_of c.args.found.now.items c.loop-tail.root c.in-Along.tail c.in-Along.arc c.in-Along.depth at
+    (c.requires.falls c.loop-tail.root c.in-Along.tail c.in-Along.arc c.in-Along.depth at)

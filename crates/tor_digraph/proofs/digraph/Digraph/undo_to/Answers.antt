@@ -1,8 +1,9 @@
-use Rattle.std.proofs.Common.{◌≡◌, ◌-◌, ◌≤◌, length, refl, sym, ◌∙◌, ap, subst, arith, length-set}
+use Rattle.std.proofs.Common.{◌≡◌, ◌-◌, ◌≤◌, length, take, refl, sym, ◌∙◌, ap, subst, arith, length-set}
 use Rattle.std.proofs.lemmas.List.{length-take-le}
 use Rattle.std.specs.Prelude.{IfSome, Some, slice_get}
 use Rattle.tor_digraph.specs.Walks.{IsArc}
-use Rattle.tor_digraph.proofs.Chains.{linked-drop_made, linked-undo}
+use Rattle.tor_digraph.proofs.Chains.{linked-drop_made, linked-undo, linked-whole, same-net}
+use Rattle.tor_digraph.proofs.Members.{some-if_not_none}
 use Rattle.tor_digraph.proofs.digraph.Digraph.undo_to.Goals as goal
 
 pub loop-left-preserved : goal.loop-left-preserved
@@ -37,3 +38,34 @@ invariant_of-self g c =
           left-is c.loop-left.invariant.linked le c.loop-left.invariant.ends c.requires.inside
           c.cut_to-3.ensures.items c.cut_to.ensures.items c.cut_to-2.ensures.items,
     )
+
+pub unwrap-arc-requires : goal.unwrap-arc-requires
+unwrap-arc-requires g c = some-if_not_none c.from_place.result (λ none.
+    let most = c.from_place.ensures.none.0 none in
+    let test = c.loop-left-test.true in
+    let within = c.loop-left.invariant.within in
+    let ends = ap length c.loop-left.invariant.ends in
+    let whole = ap (λ net. length net.arcs) c.self.view_is in
+    let few = c.self.invariant.0 in
+    omega (arith, most, test, within, ends, whole, few))
+
+pub loop-left-init : goal.loop-left-init
+loop-left-init g c =
+    let all = c.len-left.ensures.length in
+    let net = c.self.view_is in
+    let many = c.requires.arcs in
+    let whole : length c.self.inside.ends.items ≡ length c.args.self.now.arcs = ap (λ net. length net.arcs) net in
+    record {
+      many = omega (arith, all, many, whole);
+      within = omega (arith, all);
+      ends = ap (λ net. net.arcs) net;
+      nodes = ap (λ net. net.nodes) net;
+      linked = linked-whole g.N.Index.place_of (λ place. place) g.met.N.Index.is_one c.self.inside.first.items c.self.inside.ends.items c.self.inside.links.items
+          c.len-left.result all c.self.invariant.1;
+    }
+
+pub returns : goal.returns
+returns g c =
+    let le : c.args.mark.nodes ≤ length c.loop-left.self-inside.first.items = subst (λ n. c.args.mark.nodes ≤ n) (sym c.loop-left.invariant.nodes) c.requires.nodes in
+    same-net _ _ (ap length c.cut_to-3.ensures.items ∙ length-take-le c.args.mark.nodes c.loop-left.self-inside.first.items le)
+    (c.cut_to.ensures.items ∙ ap (take c.args.mark.arcs) c.loop-left.invariant.ends)

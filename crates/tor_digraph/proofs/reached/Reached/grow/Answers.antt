@@ -1,8 +1,9 @@
 use Rattle.std.proofs.Common.{◌<◌, length, sym, ◌∙◌, ap, subst}
 use Rattle.std.proofs.lemmas.Bool.{false≢true}
 use Rattle.tor_digraph.specs.Reached.{IsGrown}
+use Rattle.tor_digraph.specs.Found.{HasRootsOf}
 use Rattle.tor_arena.proofs.Gets.{Contains-from_has}
-use Rattle.tor_digraph.proofs.Searches.{kept-search, kept-absent, search-kept, search-searched, growth-grown}
+use Rattle.tor_digraph.proofs.Searches.{kept-search, kept-absent, search-kept, search-searched, growth-grown, grown-none, blank-seen}
 use Rattle.tor_digraph.proofs.reached.Reached.grow.Goals as goal
 
 pub explore-done-requires-clause-search : goal.explore-done-requires-clause-search
@@ -24,3 +25,18 @@ returns-in-Ok-clause-grown g c = subst (λ v. IsGrown c.args.graph.now.arcs c.ar
 
 pub invariant_of-self : goal.invariant_of-self
 invariant_of-self g c = search-kept g.N.Index.place_of g.A.Index.place_of g.met.N.Index.is_one c.args.graph.now.arcs _ _ c.in-Ok.ensures.search
+
+pub returns-then-has-clause-searched : goal.returns-then-has-clause-searched
+returns-then-has-clause-searched g c = c.requires.searched
+
+pub returns-then-has-clause-grown : goal.returns-then-has-clause-grown
+returns-then-has-clause-grown g c = grown-none c.args.graph.now.arcs c.args.start c.args.self.now.nodes (c.has.ensures.0 c.if-has.true)
+
+pub invariant_of-self-in-Err : goal.invariant_of-self-in-Err
+invariant_of-self-in-Err g c = blank-seen g.N.Index.place_of _ _ c.cut_to.ensures.items c.clear.ensures
+
+pub returns-in-Ok-clause-root : goal.returns-in-Ok-clause-root
+returns-in-Ok-clause-root g c = subst (λ v. HasRootsOf g.N.Index.place_of c.args.start v.found c.explore-done.new.found.items) c.self.view_is c.in-Ok.ensures.starts
+
+pub explore-done-requires-clause-many : goal.explore-done-requires-clause-many
+explore-done-requires-clause-many g c = ap (λ v. length v.found) c.self.view_is ∙ c.requires.searched.forest.many
