@@ -93,7 +93,9 @@ pub(crate) fn head_of(bytes: &[u8], width: Width) -> Option<(SegKind, usize, &[u
     match bytes {
         [code, count, octets @ ..]
             if *count > 0 && width.octets() * usize::from(*count) <= octets.len() => {
-            let kind = SegKind::from_code(*code)?;
+            let Some(kind) = SegKind::from_code(*code) else {
+                return None;
+            };
             Some((kind, usize::from(*count), octets))
         }
         _ => None,

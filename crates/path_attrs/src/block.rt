@@ -1,13 +1,13 @@
 //! Blocks of path attributes.
 ghost use Rattle.std.specs.Prelude.{◌≡◌, ◌<◌, ◌≤◌, length, IfOk, IfSome, IsOk, option_map};
-ghost use Rattle.path_attrs.specs.Fields.{Gives};
-ghost use Rattle.path_attrs.specs.Attributes.{Attribute, attribute, attributes_in, attributes_of, first_value};
+ghost use Rattle.path_attrs.specs.Fields.{Gives, number};
+ghost use Rattle.path_attrs.specs.Attributes.{Attribute, attr_cut, attribute, attributes_in, attributes_of, first_value, length_octets};
 
 use crate::fields::{number16, octet, octets};
 use std::marker::Model;
 
 /// A block of octets that is no list of whole attributes.
-#[derive(Clone, Copy, Debug, PartialEq, Eq)]
+#[derive(Clone, Copy, PartialEq, Eq)]
 pub struct AttrCut;
 
 /// The flag of an attribute whose length has two octets.
@@ -47,6 +47,20 @@ impl Attrs<'_> {
     }
 }
 
+// How long the value is, behind these flags, and the octets behind it.
+fn length_of(flags: u8, bytes: &[u8]) -> Result<(u16, &[u8]), AttrCut>
+    ensures rest { IfOk result (λ x. length x.1.now ≤ length bytes.now) }
+    ensures gives { Gives (λ x. (x.0, x.1.now)) result (number attr_cut (length_octets flags) bytes.now) }
+{
+    if flags & EXTENDED == 0 {
+        let Ok((len, rest)) = octet(bytes, AttrCut) else {
+            return Err(AttrCut);
+        };
+        return Ok((u16::from(len), rest));
+    }
+    number16(bytes, AttrCut)
+}
+
 // The attribute that stands first: its type code and its value, and the octets behind it.
 #[tactic(auto, unfolding(crate::specs::Attributes::attribute))]
 fn attribute_of(bytes: &[u8]) -> Result<(u8, &[u8], &[u8]), AttrCut>
@@ -54,17 +68,19 @@ fn attribute_of(bytes: &[u8]) -> Result<(u8, &[u8], &[u8]), AttrCut>
     ensures shorter { IfOk result (λ x. length x.2.now < length bytes.now) }
     ensures gives { Gives (λ x. (record { code = x.0; value = x.1.now }, x.2.now)) result (attribute bytes.now) }
 {
-    let (flags, rest) = octet(bytes, AttrCut)?;
-    let (code, rest) = octet(rest, AttrCut)?;
-    if flags & EXTENDED == 0 {
-        let (len, rest) = octet(rest, AttrCut)?;
-        let (value, rest) = octets(rest, usize::from(len), AttrCut)?;
-        Ok((code, value, rest))
-    } else {
-        let (len, rest) = number16(rest, AttrCut)?;
-        let (value, rest) = octets(rest, usize::from(len), AttrCut)?;
-        Ok((code, value, rest))
-    }
+    let Ok((flags, rest)) = octet(bytes, AttrCut) else {
+        return Err(AttrCut);
+    };
+    let Ok((code, rest)) = octet(rest, AttrCut) else {
+        return Err(AttrCut);
+    };
+    let Ok((len, rest)) = length_of(flags, rest) else {
+        return Err(AttrCut);
+    };
+    let Ok((value, rest)) = octets(rest, usize::from(len), AttrCut) else {
+        return Err(AttrCut);
+    };
+    Ok((code, value, rest))
 }
 
 /// The attributes of a block (RFC 4271, section 4.3). AttrCut exactly where the block is no list of whole attributes. It takes

@@ -181,6 +181,21 @@ pub(crate) fn numbers_of(alloc: Global, segment: &SegmentRef<'_>) -> Result<List
     Ok(ases)
 }
 
+// One segment more.
+pub(crate) fn push_segment(
+    alloc: Global,
+    found: &mut List<Segment>,
+    segment: &SegmentRef<'_>,
+) -> Result<(), NoMemory>
+    ensures { IfOk result (λ _. found.new ≡ found.old ++ (segment.now ∷ [])) }
+{
+    let ases = numbers_of(alloc, segment)?;
+    found.push(Segment {
+        kind: segment.kind(),
+        ases,
+    })
+}
+
 /// The segments of the value of an AS_PATH in order, with AS numbers of the width. None exactly where the value is malformed
 /// (RFC 7606, section 7.2): where a segment is of another type than 1 to 4, has count zero, or is not whole. A value of no
 /// octets has no segments. NoMemory where memory ran out.
@@ -196,11 +211,7 @@ pub fn segments(
     };
     let mut found = List::new(alloc);
     'segments: while let Some(segment) = left.next() {
-        let ases = numbers_of(alloc, &segment)?;
-        found.push(Segment {
-            kind: segment.kind(),
-            ases,
-        })?;
+        push_segment(alloc, &mut found, &segment)?;
     }
     Ok(Some(found))
 }

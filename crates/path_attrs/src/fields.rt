@@ -23,7 +23,9 @@ pub fn octet<E: Copy>(bytes: &[u8], fault: E) -> Result<(u8, &[u8]), E>
     ensures only { IfErr result (λ e. e ≡ fault) }
     ensures gives { Gives (λ x. (x.0, x.1.now)) result (number fault 1 bytes.now) }
 {
-    let (number, rest) = octets(bytes, 1, fault)?;
+    let Ok((number, rest)) = octets(bytes, 1, fault) else {
+        return Err(fault);
+    };
     Ok((number[0], rest))
 }
 
@@ -33,6 +35,8 @@ pub fn number16<E: Copy>(bytes: &[u8], fault: E) -> Result<(u16, &[u8]), E>
     ensures only { IfErr result (λ e. e ≡ fault) }
     ensures gives { Gives (λ x. (x.0, x.1.now)) result (number fault 2 bytes.now) }
 {
-    let (_, rest) = octets(bytes, 2, fault)?;
+    let Ok((_, rest)) = octets(bytes, 2, fault) else {
+        return Err(fault);
+    };
     Ok((BigEndian::read_u16(bytes), rest))
 }

@@ -4,7 +4,7 @@ ghost use Rattle.path_attrs.specs.PathOf.{path_of};
 
 use crate::as_path::{Segment, Width};
 use crate::block::Attrs;
-use crate::cursor::numbers_of;
+use crate::cursor::push_segment;
 use crate::path_cursor::{PathCursor, Pathless};
 use std::alloc::Global;
 use tor_arena::{List, NoMemory};
@@ -42,11 +42,7 @@ fn listed(alloc: Global, segments: PathCursor<'_>) -> Result<List<Segment>, NoMe
     let mut left = segments;
     let mut found = List::new(alloc);
     'segments: while let Some(segment) = left.next() {
-        let ases = numbers_of(alloc, &segment)?;
-        found.push(Segment {
-            kind: segment.kind(),
-            ases,
-        })?;
+        push_segment(alloc, &mut found, &segment)?;
     }
     Ok(found)
 }

@@ -93,3 +93,8 @@ flush_stops (Err e) old between new waiting text first second = subst (GainsPref
 pub none_passed : (known : Option (List ℕ)) (waiting : List ℕ) → PassesOn known known waiting (waiting ++ [])
 none_passed None waiting = ([], refl, sym (append-nil waiting))
 none_passed (Some held) waiting = ([], ap (λ t. Some t) (sym (append-nil held)), sym (append-nil waiting))
+
+-- all of it waits
+pub only_waits : (known : Option (List ℕ)) (waiting text : List ℕ) → waiting ≡ text → PassesOn known known waiting text
+only_waits None waiting text is = ([], refl, is)
+only_waits (Some held) waiting text is = ([], ap (λ t. Some t) (sym (append-nil held)), is)

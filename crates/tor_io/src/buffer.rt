@@ -66,13 +66,27 @@ impl Buffer {
         ensures cause { HasCause (S.faults sink.old) (S.faults sink.new) result }
     {
         if piece.len() > self.bytes.len() - self.filled {
-            write_all(sink, &self.bytes[..self.filled])?;
-            self.filled = 0;
-            if piece.len() > self.bytes.len() {
-                return write_all(sink, piece);
-            }
+            return self.put_at_last(sink, piece);
         }
         self.filled = copy_behind(&mut self.bytes, self.filled, piece);
+        Ok(())
+    }
+
+    // What waits is written first.
+    #[cold]
+    #[inline(never)]
+    fn put_at_last<S: Sink>(&mut self, sink: &mut S, piece: &[u8]) -> Result<(), Failed>
+        ensures all { OnOk result (PassesOn (S.held sink.old) (S.held sink.new) self.new (self.old ++ piece.now)) }
+        ensures prefix { OnErr result (GainsPrefix (S.held sink.old) (S.held sink.new) (self.old ++ piece.now)) }
+        ensures cause { HasCause (S.faults sink.old) (S.faults sink.new) result }
+    {
+        if let Err(failed) = self.flush(sink) {
+            return Err(failed);
+        }
+        if piece.len() > self.bytes.len() {
+            return write_all(sink, piece);
+        }
+        self.filled = copy_behind(&mut self.bytes, 0, piece);
         Ok(())
     }
 
