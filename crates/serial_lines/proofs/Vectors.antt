@@ -41,6 +41,11 @@ peers_after_transit : rel_in (codes "1|2|-1\n\n") ≡ Err 2
 unfolding kind_at said digit_at digits_at u64_at u32_at
 peers_after_transit = refl
 
+-- what three labels say, the provider first, with the greatest number
+said_of_labels : rel_in (codes "40|30|-1\n10|20|0\n7|4294967295|-1\n") ≡ Ok (rel_line 40 30 Transit ∷ rel_line 10 20 Peering ∷ rel_line 7 4294967295 Transit ∷ [])
+unfolding kind_at said digit_at digits_at u64_at u32_at
+said_of_labels = refl
+
 -- ---- what is said by a text, as a text
 
 abbrev again : List ℕ → Result (List ℕ) ℕ

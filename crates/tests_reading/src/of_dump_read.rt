@@ -4,7 +4,6 @@ use dump_read::{DumpError, Fault, LimitKind, Place, Taken, read_dump};
 use mrt_frame::At;
 use path_clean::{Asides, Cause, PathTable, Sets};
 use std::alloc::Global;
-use std::test::Fail;
 use tor_arena::{Index, Keys, List, PathId};
 use tor_io::MemShelf;
 
@@ -62,26 +61,34 @@ fn is_one_edge(taken: &Taken) -> bool {
     }
 }
 
-/// Whether the reading of the dump on a shelf answers this, and has taken the path 10 20 then.
-fn is_read_up_to(
-    alloc: Global,
-    keys: Keys,
-    shelf: &mut MemShelf,
-    most: u32,
-    error: DumpError,
-) -> bool {
+/// What the reading of these octets answers; nothing where there is no memory for them.
+fn read_octets(alloc: Global, octets: &[u8], taken: &mut Taken) -> Option<Result<(), DumpError>> {
+    let mut shelf = MemShelf::new(alloc);
+    if shelf.put("d", octets).is_err() {
+        return None;
+    }
+    Some(read_dump(alloc, &mut shelf, "d", 1, Sets::Cut, taken))
+}
+
+/// Whether the reading of these octets answers this, and has taken the path 10 20 then.
+fn is_read_up_to(alloc: Global, keys: Keys, octets: &[u8], most: u32, error: DumpError) -> bool {
     let mut taken = nothing_taken(alloc, keys, most);
-    read_dump(alloc, shelf, "d", 1, Sets::Cut, &mut taken) == Err(error) && is_one_edge(&taken)
+    read_octets(alloc, octets, &mut taken) == Some(Err(error)) && is_one_edge(&taken)
+}
+
+/// Whether each case is so.
+fn are_read_up_to(alloc: Global, keys: Keys) -> bool {
+    for (octets, most, error) in &CASES {
+        if !is_read_up_to(alloc, keys, octets, *most, *error) {
+            return false;
+        }
+    }
+    true
 }
 
 #[test]
-fn what_stands_before_a_fault_or_a_limit_is_taken(rt: HostRuntime) -> Result<(), Fail> {
-    let mut shelf = MemShelf::new(rt.alloc());
-    for (dump, most, error) in &CASES {
-        shelf.put("d", dump)?;
-        assert!(rt; is_read_up_to(rt.alloc(), Keys::new(&rt), &mut shelf, *most, *error));
-    }
-    Ok(())
+fn what_stands_before_a_fault_or_a_limit_is_taken(rt: HostRuntime) {
+    assert!(rt; are_read_up_to(rt.alloc(), Keys::new(&rt)));
 }
 
 // A peer table of one peer with an AS number of four octets, and the header of a RIB record with 5,000 entries for 10.0.1.0/24 and what
@@ -102,13 +109,17 @@ fn entry_of(second: u16) -> [u8; 21] {
     ]
 }
 
-/// The dump in which the second AS of an entry's path is 1,000 and its place.
-fn many_entries(alloc: Global) -> Result<Vec<u8>, Fail> {
-    let mut octets = Vec::from_slice(alloc, MANY_ENTRIES)?;
-    for place in 0..MANY {
-        octets.extend_from_slice(&entry_of(place + 1000))?;
+/// Puts the dump in which the second AS of an entry's path is 1,000 and its place, and answers whether there was memory for it.
+fn put_many_entries(octets: &mut Vec<u8>) -> bool {
+    if octets.extend_from_slice(MANY_ENTRIES).is_err() {
+        return false;
     }
-    Ok(octets)
+    for place in 0..MANY {
+        if octets.extend_from_slice(&entry_of(place + 1000)).is_err() {
+            return false;
+        }
+    }
+    true
 }
 
 /// Whether each path stands in the place of its entry, and no other is there.
@@ -122,16 +133,19 @@ fn has_many(table: &PathTable) -> bool {
     table.len() == usize::from(MANY) && table.find(&[10, 6000]).is_none()
 }
 
-/// Whether the dump on a shelf is read, and each path found.
-fn is_read_whole(alloc: Global, keys: Keys, shelf: &mut MemShelf) -> bool {
+/// Whether these octets are read, and each path found.
+fn is_read_whole(alloc: Global, keys: Keys, octets: &[u8]) -> bool {
     let mut taken = nothing_taken(alloc, keys, 8192);
-    read_dump(alloc, shelf, "d", 1, Sets::Cut, &mut taken) == Ok(()) && has_many(&taken.table)
+    read_octets(alloc, octets, &mut taken) == Some(Ok(())) && has_many(&taken.table)
+}
+
+/// Whether the dump is.
+fn are_many_read(alloc: Global, keys: Keys) -> bool {
+    let mut octets = Vec::new(alloc);
+    put_many_entries(&mut octets) && is_read_whole(alloc, keys, &octets)
 }
 
 #[test]
-fn a_rib_of_5000_entries_is_read_whole(rt: HostRuntime) -> Result<(), Fail> {
-    let mut shelf = MemShelf::new(rt.alloc());
-    shelf.put("d", many_entries(rt.alloc())?.as_slice())?;
-    assert!(rt; is_read_whole(rt.alloc(), Keys::new(&rt), &mut shelf));
-    Ok(())
+fn a_rib_of_5000_entries_is_read_whole(rt: HostRuntime) {
+    assert!(rt; are_many_read(rt.alloc(), Keys::new(&rt)));
 }

@@ -1,5 +1,5 @@
-//! Tests of the table of paths, and of cleaning in numbers of four octets. Routes that are cleaned and counts of those that are set
-//! aside stand in the rows of `tor_rows`.
+//! Tests of cleaning as a value, and of what the programs don't ask a table of paths, or no row shows. Routes that are cleaned, counts of
+//! those that are set aside, and what is added to a table stand in the rows of `tor_rows`.
 use path_attrs::{Width, attributes};
 use path_clean::{
     AddRefused, Added, Cleaned, Lookup, PathTable, Sets, clean, first_repeated, is_cleaned,
@@ -10,33 +10,25 @@ use std::random::RandomSource;
 use tor_arena::{Index, Keys, PathId, Rows};
 
 // The AS_PATH 10 20 in numbers of four octets, and the AS4_PATH 30 20.
-const FOUR_OCTETS: &[u8] = &[
+static FOUR_OCTETS: [u8; 26] = [
     64, 2, 10, 2, 2, 0, 0, 0, 10, 0, 0, 0, 20, 192, 17, 10, 2, 2, 0, 0, 0, 30, 0, 0, 0, 20,
 ];
 
-/// Whether a block with numbers of four octets is cleaned to this path.
-fn is_cleaned_to(alloc: Global, block: &[u8], wanted: &[u32]) -> bool {
-    let Ok(attrs) = attributes(block) else {
+/// Whether the block is cleaned to 10 20.
+fn is_cleaned_in_four(alloc: Global) -> bool {
+    let Ok(attrs) = attributes(&FOUR_OCTETS) else {
         return false;
     };
     match clean(alloc, Sets::Cut, &attrs, Width::Four) {
-        Ok(Cleaned::Path(path)) => path.as_slice() == wanted,
+        Ok(Cleaned::Path(path)) => path.as_slice() == [10, 20].as_slice(),
         _ => false,
     }
 }
 
 #[test]
 fn as4_path_has_no_effect_in_four_octets(rt: HostRuntime) {
-    assert!(rt; is_cleaned_to(rt.alloc(), FOUR_OCTETS, &[10, 20]));
+    assert!(rt; is_cleaned_in_four(rt.alloc()));
 }
-
-/// Paths that are added to a table of at most two, and where each then stands.
-const ADDS: [(&[u32], Result<usize, AddRefused>); 4] = [
-    (&[30, 40, 20, 10, 50, 60], Ok(0)),
-    (&[10, 20, 30, 40], Ok(1)),
-    (&[50, 60, 10, 20], Err(AddRefused::TooManyPaths)),
-    (&[10, 20, 30, 40], Ok(1)),
-];
 
 fn place_of(added: Added) -> usize {
     match added {
@@ -54,58 +46,6 @@ fn place_added(table: &mut PathTable, path: &[u32]) -> Option<Result<usize, AddR
     }
 }
 
-/// Whether these are the rows of a table, in order.
-fn are_rows(rows: &Rows<PathId, u32>, wanted: &[&[u32]]) -> bool {
-    if rows.len() != wanted.len() {
-        return false;
-    }
-    for (place, row) in wanted.iter().enumerate() {
-        match PathId::from_place(place) {
-            Some(id) if id.place() < rows.len() && rows.row(id) == *row => {}
-            _ => return false,
-        }
-    }
-    true
-}
-
-/// The rows of the table then, and how often each was added.
-static ADDED: [&'static [u32]; 2] = [&[30, 40, 20, 10, 50, 60], &[10, 20, 30, 40]];
-
-const TIMES: [u64; 2] = [1, 2];
-
-/// Whether each path is added as it should be.
-fn adds_each(table: &mut PathTable) -> bool {
-    for (path, place) in ADDS {
-        if place_added(table, path) != Some(place) {
-            return false;
-        }
-    }
-    true
-}
-
-/// How often the path in a place was added.
-fn times_at(table: &PathTable, place: usize) -> Option<u64> {
-    let id = PathId::from_place(place)?;
-    if id.place() < table.len() {
-        Some(table.times(id))
-    } else {
-        None
-    }
-}
-
-/// Whether these are the rows of a table that is taken apart, and their times.
-fn are_parts(table: PathTable) -> bool {
-    let (rows, times) = table.into_rows();
-    are_rows(&rows, &ADDED) && times.as_slice() == TIMES.as_slice()
-}
-
-#[test]
-fn a_table_of_two_paths(rt: HostRuntime) {
-    let mut table = PathTable::new(rt.alloc(), Keys::new(&rt), 2);
-    assert!(rt; adds_each(&mut table) && times_at(&table, 1) == Some(2));
-    assert!(rt; are_rows(table.rows(), &ADDED) && are_parts(table));
-}
-
 /// Where a clean path that isn't there stands in a table, to which it is added so many times at once.
 fn place_with_times(
     table: &mut PathTable,
@@ -121,16 +61,27 @@ fn place_with_times(
     }
 }
 
+/// How often the first path was added.
+fn times_of_first(table: &PathTable) -> Option<u64> {
+    let id = PathId::from_place(0)?;
+    if table.len() > 0 {
+        Some(table.times(id))
+    } else {
+        None
+    }
+}
+
+/// Whether 10 20 is added three times at once to a table of at most one path, no other is, and 10 20 once more.
+fn adds_with_times(table: &mut PathTable) -> bool {
+    place_with_times(table, &[10, 20], 3) == Some(Ok(0))
+        && place_with_times(table, &[10, 30], 1) == Some(Err(AddRefused::TooManyPaths))
+        && place_added(table, &[10, 20]) == Some(Ok(0))
+}
+
 #[test]
 fn a_path_is_added_with_its_times(rt: HostRuntime) {
     let mut table = PathTable::new(rt.alloc(), Keys::new(&rt), 1);
-    assert!(rt;
-        place_with_times(&mut table, &[10, 20], 3) == Some(Ok(0))
-            && place_with_times(&mut table, &[10, 30], 1) == Some(Err(AddRefused::TooManyPaths))
-    );
-    assert!(rt;
-        place_added(&mut table, &[10, 20]) == Some(Ok(0)) && times_at(&table, 0) == Some(4)
-    );
+    assert!(rt; adds_with_times(&mut table) && times_of_first(&table) == Some(4));
 }
 
 /// A source that gives one octet over and over.
@@ -154,8 +105,7 @@ fn is_made_with(alloc: Global, octet: u8, other: u8) -> bool {
 
 #[test]
 fn hashes_begin_with_the_keys(rt: HostRuntime) {
-    assert!(rt; is_made_with(rt.alloc(), 1, 1));
-    assert!(rt; !is_made_with(rt.alloc(), 1, 2));
+    assert!(rt; is_made_with(rt.alloc(), 1, 1) && !is_made_with(rt.alloc(), 1, 2));
 }
 
 /// Rows of which the fourth is the second again.
@@ -177,13 +127,23 @@ fn finds_the_fourth(alloc: Global, keys: Keys, rows: &mut Rows<PathId, u32>) -> 
         && first_repeated(alloc, keys, rows) == Ok(Some(3))
 }
 
+/// Whether none of the first three stands twice.
+fn finds_none_of_three(alloc: Global, keys: Keys, rows: &mut Rows<PathId, u32>) -> bool {
+    if rows.len() < 3 {
+        return false;
+    }
+    rows.cut_to(3);
+    first_repeated(alloc, keys, rows) == Ok(None)
+}
+
 #[test]
 fn the_first_row_that_stands_twice(rt: HostRuntime) {
     let keys = Keys::new(&rt);
     let mut rows = Rows::new(rt.alloc());
-    assert!(rt; finds_the_fourth(rt.alloc(), keys, &mut rows) && rows.len() == 5);
-    rows.cut_to(3);
-    assert!(rt; first_repeated(rt.alloc(), keys, &rows) == Ok(None));
+    assert!(rt;
+        finds_the_fourth(rt.alloc(), keys, &mut rows)
+            && finds_none_of_three(rt.alloc(), keys, &mut rows)
+    );
 }
 
 /// Whether of these rows those in the places 1 and 3 alone are found in the table, or none, as it is wanted.

@@ -1,8 +1,6 @@
-//! Tests of shelves and sinks.
+//! Tests of shelves and sinks. What is written to the standard streams the stored runs of the programs show.
 use std::alloc::Global;
 use std::io::Write;
-use std::process::Abort;
-use std::test::Fail;
 use std::{fs, io};
 use tor_arena::NoMemory;
 use tor_io::{
@@ -32,24 +30,8 @@ fn writes_on_after_a_short_write(rt: HostRuntime) {
     let mut slow = Slow {
         taken: Vec::new(rt.alloc()),
     };
-    let mut sink = StdSink::new(&mut slow);
-    assert_eq!(rt; write_all(&mut sink, b"some"), Ok(()));
-    assert_eq!(rt; slow.taken.as_slice(), b"some".as_slice());
-}
-
-#[test]
-fn writes_to_standard_output(rt: HostRuntime) {
-    let mut sink = StdSink::new(rt.stdout());
-    assert_eq!(rt; write_all(&mut sink, b"some\n"), Ok(()));
-}
-
-#[test]
-fn a_folder_is_no_file(rt: HostRuntime) {
-    let mut shelf = FileShelf::new(rt);
-    let mut buf = [0; 4];
-    if shelf.open_file(".").is_ok() {
-        assert!(rt; shelf.read(&mut buf).is_err());
-    }
+    let is_written = write_all(&mut StdSink::new(&mut slow), b"some").is_ok();
+    assert!(rt; is_written && slow.taken.as_slice() == b"some".as_slice());
 }
 
 /// A call of a shelf, and its answer.
@@ -82,11 +64,12 @@ fn first_other<H: Shelf>(shelf: &mut H, buf: &mut [u8], calls: &[Call]) -> Optio
     None
 }
 
-/// 65,536 times 'a', and "bc".
-fn long_file(alloc: Global) -> Result<Vec<u8>, Fail> {
-    let mut bytes = vec![in alloc; b'a'; 65536]?;
-    bytes.extend_from_slice(b"bc")?;
-    Ok(bytes)
+/// Writes a file of 65,536 times 'a', and "bc".
+fn is_long_file_written(rt: &HostRuntime) -> bool {
+    let Ok(mut bytes) = vec![in rt.alloc(); b'a'; 65536] else {
+        return false;
+    };
+    bytes.extend_from_slice(b"bc").is_ok() && fs::write(rt, "long", bytes.as_slice()).is_ok()
 }
 
 /// Nothing is read where no file is open.
@@ -101,22 +84,26 @@ const BEHIND_THE_FIRST: [Call; 4] = [
 ];
 
 /// Whether a long file is read whole, in three reads.
-fn is_read_whole<H: Shelf>(alloc: Global, shelf: &mut H) -> Result<bool, Fail> {
-    let mut large = vec![in alloc; 0; 65534]?;
+fn is_read_whole<H: Shelf>(alloc: Global, shelf: &mut H) -> bool {
+    let Ok(mut large) = vec![in alloc; 0; 65534] else {
+        return false;
+    };
     let mut small = [0; 3];
-    Ok(
-        first_other(shelf, &mut small, &BEFORE).is_none()
-            && shelf.read(large.as_mut_slice()) == Ok(65534)
-            && first_other(shelf, &mut small, &BEHIND_THE_FIRST).is_none(),
-    )
+    first_other(shelf, &mut small, &BEFORE).is_none()
+        && shelf.read(large.as_mut_slice()) == Ok(65534)
+        && first_other(shelf, &mut small, &BEHIND_THE_FIRST).is_none()
+}
+
+/// Whether a folder isn't read, as a file would be.
+fn is_no_file<H: Shelf>(shelf: &mut H) -> bool {
+    shelf.open_file(".").is_err() || shelf.read(&mut [0; 4]).is_err()
 }
 
 #[test]
-fn reads_a_file_that_is_larger_than_the_buffer(rt: HostRuntime) -> Result<(), Fail> {
-    fs::write(&rt, "long", long_file(rt.alloc())?.as_slice())?;
+fn reads_a_file_that_is_larger_than_the_buffer_and_no_folder(rt: HostRuntime) {
+    let is_written = is_long_file_written(&rt);
     let mut shelf = FileShelf::new(rt);
-    assert!(rt; is_read_whole(rt.alloc(), &mut shelf)?);
-    Ok(())
+    assert!(rt; is_written && is_read_whole(rt.alloc(), &mut shelf) && is_no_file(&mut shelf));
 }
 
 /// A file, how many octets a read gives at most, the number of the call that fails, and calls.
@@ -162,11 +149,19 @@ fn is_shelf_right(alloc: Global, case: &ShelfCase) -> bool {
     put_case(&mut shelf, case).is_ok() && first_other(&mut shelf, &mut [0; 4], case.3).is_none()
 }
 
+/// Whether each case is answered so.
+fn are_shelves_right(alloc: Global) -> bool {
+    for case in &SHELVES {
+        if !is_shelf_right(alloc, case) {
+            return false;
+        }
+    }
+    true
+}
+
 #[test]
 fn files_in_memory_are_read_in_parts_and_calls_fail(rt: HostRuntime) {
-    for case in &SHELVES {
-        assert!(rt; is_shelf_right(rt.alloc(), case));
-    }
+    assert!(rt; are_shelves_right(rt.alloc()));
 }
 
 /// Whether the first write fails, and the second is taken whole.
@@ -176,12 +171,17 @@ fn takes_at_the_second(sink: &mut MemSink) -> bool {
         && sink.held() == b"123".as_slice()
 }
 
+/// Whether it is so of a sink with room for four octets, which takes two a call.
+fn writes_nothing_at_first(alloc: Global) -> bool {
+    let Ok(mut sink) = MemSink::new(alloc, 4, 2) else {
+        return false;
+    };
+    sink.fail_at(1).is_ok() && takes_at_the_second(&mut sink)
+}
+
 #[test]
-fn a_write_that_fails_has_written_nothing(rt: HostRuntime) -> Result<(), Fail> {
-    let mut sink = MemSink::new(rt.alloc(), 4, 2)?;
-    sink.fail_at(1)?;
-    assert!(rt; takes_at_the_second(&mut sink));
-    Ok(())
+fn a_write_that_fails_has_written_nothing(rt: HostRuntime) {
+    assert!(rt; writes_nothing_at_first(rt.alloc()));
 }
 
 /// What is put into a buffer.
@@ -232,25 +232,31 @@ fn first_other_row(buffer: &mut Buffer, sink: &mut MemSink, long: &[u8]) -> Opti
     None
 }
 
-/// The first row that is not so behind a new buffer.
-fn first_other_behind(
-    alloc: Global,
-    sink: &mut MemSink,
-    long: &[u8],
-) -> Result<Option<usize>, Fail> {
-    let mut buffer = Buffer::new(alloc)?;
-    Ok(first_other_row(&mut buffer, sink, long))
+/// Whether each row is so behind a new buffer.
+fn are_rows_put(alloc: Global, sink: &mut MemSink, long: &[u8]) -> bool {
+    match Buffer::new(alloc) {
+        Ok(mut buffer) => first_other_row(&mut buffer, sink, long).is_none(),
+        Err(_) => false,
+    }
 }
 
 /// The same with a new sink.
-fn first_other_into(alloc: Global, long: &[u8]) -> Result<Option<usize>, Fail> {
-    let mut sink = MemSink::new(alloc, 131_076, 50_000)?;
-    first_other_behind(alloc, &mut sink, long)
+fn are_rows_written(alloc: Global, long: &[u8]) -> bool {
+    match MemSink::new(alloc, 131_076, 50_000) {
+        Ok(mut sink) => are_rows_put(alloc, &mut sink, long),
+        Err(_) => false,
+    }
+}
+
+/// The same with the long piece.
+fn are_long_rows_written(alloc: Global) -> bool {
+    match vec![in alloc; b'b'; 65537] {
+        Ok(long) => are_rows_written(alloc, &long),
+        Err(_) => false,
+    }
 }
 
 #[test]
-fn writes_behind_a_buffer(rt: HostRuntime) -> Result<(), Fail> {
-    let long = vec![in rt.alloc(); b'b'; 65537]?;
-    assert_eq!(rt; first_other_into(rt.alloc(), &long)?, None);
-    Ok(())
+fn writes_behind_a_buffer(rt: HostRuntime) {
+    assert!(rt; are_long_rows_written(rt.alloc()));
 }
