@@ -191,7 +191,10 @@ fn no_downs(alloc: Global, count: usize) -> Result<Downs, NoMemory>
             graph,
             links: List::new(alloc),
         }),
-        Err(_) => Err(NoMemory),
+        Err(_) => {
+            drop(graph);
+            Err(NoMemory)
+        }
     }
 }
 
@@ -219,6 +222,11 @@ pub(crate) fn downs_of(alloc: Global, file: &ResultFile, all: &Labelled) -> Resu
         HasDowns (its_labels file.now) all.now.edges downs.graph.arcs path) }
 {
     let mut downs = no_downs(alloc, all.edges.len())?;
-    add_lines(file, all, &mut downs)?;
-    Ok(downs)
+    match add_lines(file, all, &mut downs) {
+        Ok(()) => Ok(downs),
+        Err(NoMemory) => {
+            drop(downs);
+            Err(NoMemory)
+        }
+    }
 }

@@ -1,6 +1,6 @@
 //! How the steps of a path go under the labels of a result.
 
-ghost use Rattle.std.specs.Prelude.{◌≡◌, ◌≢◌, ◌+◌, ℕ, length, map, slice_get, Some, Contains, IfOk};
+ghost use Rattle.std.specs.Prelude.{◌≡◌, ◌≢◌, ◌+◌, ℕ, length, map, slice_get, Some, Contains, IfOk, OnOk};
 ghost use Rattle.relationships.specs.Relationship.{Labelling, slope, slopes};
 ghost use Rattle.relationships.specs.Graph.{edge_of};
 ghost use Rattle.result_text.specs.declared.file.ResultFile.{ResultFile as ResultFileData};
@@ -27,15 +27,28 @@ pub(crate) fn going_by(label: Label, from: u32, to: u32) -> Going
     }
 }
 
+/// Adds the edges along a path.
+fn add_edges(path: &[u32], table: &mut EdgeTable) -> Result<(), NoMemory>
+    ensures { OnOk result (HasEdgesTo path.now (length path.now) table.new) }
+{
+    for at in 1..path.len() {
+        table.add(path[at - 1], path[at])?;
+    }
+    Ok(())
+}
+
 /// The edges along a path.
 fn edges_along(alloc: Global, keys: Keys, path: &[u32]) -> Result<EdgeTable, NoMemory>
     ensures { IfOk result (HasEdgesTo path.now (length path.now)) }
 {
     let mut table = EdgeTable::new(alloc, keys);
-    for at in 1..path.len() {
-        table.add(path[at - 1], path[at])?;
+    match add_edges(path, &mut table) {
+        Ok(()) => Ok(table),
+        Err(NoMemory) => {
+            drop(table);
+            Err(NoMemory)
+        }
     }
-    Ok(table)
 }
 
 /// Puts the label of a line into the place of its edge, if the table has that.

@@ -23,6 +23,24 @@ use std::alloc::Global;
 use tor_arena::{ArcId, EdgeId, Index, Keys, List, NoMemory};
 use tor_digraph::{Digraph, Reached, RowDigraph, Way};
 
+/// Reaches on from a start, the nearest first, where nothing was reached before.
+fn reach_past_none(
+    rows: &RowDigraph<'_, EdgeId, ArcId>,
+    start: EdgeId,
+    none: &Reached<EdgeId, ArcId>,
+    reached: &mut Reached<EdgeId, ArcId>,
+) -> Result<(), NoMemory>
+    requires before { none.now.nodes ≡ [] }
+    requires start { start < rows.now.nodes }
+    requires none { reached.old.nodes ≡ [] }
+    requires flooded { (past : Items ℕ) → IsFlooded (λ id. id) (λ id. id) rows.now.nodes rows.now.arcs past reached.old }
+    requires roots { (x : ℕ) → IsRoot (λ id. id) reached.old.found x → ⊥ }
+    ensures { OnOk result (IsReachOf rows.now start reached.new) }
+{
+    rows.reach_near(start, none, reached)?;
+    Ok(())
+}
+
 /// Reaches on from a start, the nearest first.
 fn reach_on(
     alloc: Global,
@@ -37,8 +55,9 @@ fn reach_on(
     ensures { OnOk result (IsReachOf rows.now start reached.new) }
 {
     let none = Reached::new(alloc);
-    rows.reach_near(start, &none, reached)?;
-    Ok(())
+    let done = reach_past_none(rows, start, &none, reached);
+    drop(none);
+    done
 }
 
 /// The same where the arcs don't stand in rows yet.
@@ -55,7 +74,9 @@ fn reach_in(
     ensures { OnOk result (IsReachOf graph.now start reached.new) }
 {
     let rows = graph.in_rows(alloc)?;
-    reach_on(alloc, &rows, start, reached)
+    let done = reach_on(alloc, &rows, start, reached);
+    drop(rows);
+    done
 }
 
 /// What is reached from a start, the nearest first.
@@ -68,8 +89,13 @@ fn reach_from(
     ensures { IfOk result (IsReachOf graph.now start) }
 {
     let mut reached = graph.reach_none(alloc)?;
-    reach_in(alloc, graph, start, &mut reached)?;
-    Ok(reached)
+    match reach_in(alloc, graph, start, &mut reached) {
+        Ok(()) => Ok(reached),
+        Err(NoMemory) => {
+            drop(reached);
+            Err(NoMemory)
+        }
+    }
 }
 
 /// The edge, among those that are reached, whose label has the opposite of the order of an open line.
@@ -279,7 +305,9 @@ fn walk_down(
     };
     let start = edge_id(&downs.graph, place);
     let reached = reach_from(alloc, &downs.graph, start)?;
-    walk_reached(alloc, file, all, downs, line, start, &reached)
+    let found = walk_reached(alloc, file, all, downs, line, start, &reached);
+    drop(reached);
+    found
 }
 
 /// The same, where there are no arcs yet.
@@ -297,7 +325,9 @@ fn walk_among(
     ensures { IfOk result (λ found. IsReached file.now line.now (found.0.over, found.0.under) found.1) }
 {
     let downs = downs_of(alloc, file, all)?;
-    walk_down(alloc, file, all, &downs, line)
+    let found = walk_down(alloc, file, all, &downs, line);
+    drop(downs);
+    found
 }
 
 /// The order of an open line, and a walk from there to the order against the label of an open edge, which is no peering. It is looked
@@ -315,5 +345,7 @@ pub(crate) fn walk_against(
     ensures { IfOk result (λ found. IsReached file.now line.now (found.0.over, found.0.under) found.1) }
 {
     let all = labelled_in(alloc, keys, file)?;
-    walk_among(alloc, file, &all, line)
+    let found = walk_among(alloc, file, &all, line);
+    drop(all);
+    found
 }

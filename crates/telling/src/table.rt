@@ -51,9 +51,16 @@ pub(crate) fn labelled_in(
     ensures { IfOk result (λ all. HaveLabels file.now all.edges all.labels.items) }
 {
     let edges = edges_in(alloc, keys, file)?;
-    let labels = labels_along(alloc, file, &edges)?;
-    prove!(labels.len() == edges.len());
-    Ok(Labelled { edges, labels })
+    match labels_along(alloc, file, &edges) {
+        Ok(labels) => {
+            prove!(labels.len() == edges.len());
+            Ok(Labelled { edges, labels })
+        }
+        Err(NoMemory) => {
+            drop(edges);
+            Err(NoMemory)
+        }
+    }
 }
 
 /// Whether the label of the edge in this place, which is that of the two, has the one as the provider of the other.

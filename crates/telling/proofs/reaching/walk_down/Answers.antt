@@ -15,7 +15,7 @@ edge_id-start-requires c =
     let lt = slice_get_within c.args.all.now.edges c.in-Some.place (edge_of line.low line.high) c.in-Some.ensures.found in
     omega (arith, lt, c.requires.downs.nodes)
 
-pub walk_reached-requires-clause-start : goal.walk_reached-requires-clause-start
-walk_reached-requires-clause-start c =
+pub walk_reached-found-requires-clause-start : goal.walk_reached-found-requires-clause-start
+walk_reached-found-requires-clause-start c =
     let line = c.args.line.now in
     subst (λ n. slice_get c.args.all.now.edges n ≡ Some (edge_of line.low line.high)) (sym c.edge_id-start.ensures) c.in-Some.ensures.found

@@ -1,6 +1,6 @@
 use Rattle.std.proofs.Common.{◌≤◌}
 use Rattle.telling.specs.Labelling.{HasEdgesTo}
-use Rattle.telling.proofs.goings.edges_along.Given as goal
+use Rattle.telling.proofs.goings.add_edges.Given as goal
 
 -- the edges of the steps so far are there
 abbrev pub invariant-loop-at : goal.invariant-loop-at

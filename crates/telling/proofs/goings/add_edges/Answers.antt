@@ -5,7 +5,7 @@ use Rattle.tor_arena.proofs.Gets.{Contains-from_has}
 use Rattle.relationships.specs.Graph.{edge_of}
 use Rattle.telling.specs.Labelling.{HasStep}
 use Rattle.telling.proofs.PathLemmas.{edge_still}
-use Rattle.telling.proofs.goings.edges_along.Goals as goal
+use Rattle.telling.proofs.goings.add_edges.Goals as goal
 
 pub loop-at-preserved : goal.loop-at-preserved
 loop-at-preserved c =
