@@ -1,4 +1,5 @@
-use Rattle.std.proofs.Common.{rules, ◌≡◌, ◌+◌, ◌-◌, suc, List, ℕ, [], ◌∷◌, ◌++◌, sym, ap, ◌∙◌, arith}
+use Rattle.std.proofs.Common.{◌≡◌, ◌+◌, ◌-◌, suc, List, ℕ, [], ◌∷◌, ◌++◌, sym, ap, ◌∙◌, subst, arith}
+use Rattle.std.specs.Prelude.{IfSome}
 use Rattle.path_select.specs.Behind.{places_from}
 use Rattle.path_select.proofs.BehindLemmas.{places_push}
 use Rattle.path_select.proofs.behind.places_behind.Goals as goal
@@ -8,7 +9,7 @@ loop-place-preserved c =
     let count = c.args.count in
     let place = c.loop-place.place in
     let le = c.loop-place.invariant.0 in
-    let same : c.unwrap.result ≡ place = search rules in
+    let same : c.unwrap.result ≡ place = subst (λ o. IfSome o (λ (n : ℕ). n ≡ place)) c.unwrap.ensures c.from_place.ensures.some in
     let more : place + 1 - count ≡ suc (place - count) = omega (arith, le) in
     let at : place ≡ count + (place - count) = omega (arith, le) in (
       omega (arith, le),

@@ -1,4 +1,4 @@
-use Rattle.std.proofs.Common.{rules, ◌+◌, ◌≡◌, ◌<◌, length, refl, subst, sym, ap, arith}
+use Rattle.std.proofs.Common.{◌+◌, ◌≡◌, ◌<◌, ℕ, length, refl, subst, sym, ap, arith}
 use Rattle.std.specs.Prelude.{IfSome}
 use Rattle.relationships.specs.declared.fate.Fate.{Fate}
 use Rattle.relationships.specs.Fates.{walk_of}
@@ -24,7 +24,8 @@ loop-place-init c =
 
 pub offer-requires-clause-next : goal.offer-requires-clause-next
 offer-requires-clause-next c =
-    let same : c.unwrap-path.result ≡ c.loop-place.place = search rules in
+    let same : c.unwrap-path.result ≡ c.loop-place.place =
+    subst (λ o. IfSome o (λ (n : ℕ). n ≡ c.loop-place.place)) c.unwrap-path.ensures c.from_place.ensures.some in
     omega (arith, same, c.loop-place.invariant.so.many)
 
 pub loop-place-preserved : goal.loop-place-preserved
@@ -33,7 +34,8 @@ loop-place-preserved c =
     let fate = c.in_ok-fate.fate in
     let test = c.loop-place-test.true in
     let lt : c.loop-place.place < length graph = omega (arith, test, c.requires.count) in
-    let same : c.unwrap-path.result ≡ c.loop-place.place = search rules in
+    let same : c.unwrap-path.result ≡ c.loop-place.place =
+    subst (λ o. IfSome o (λ (n : ℕ). n ≡ c.loop-place.place)) c.unwrap-path.ensures c.from_place.ensures.some in
     let refused = c.in_ok-fate.ensures.refused in
     let e = c.in_ok-fate.ensures.offered in
     let added = sym c.in_ok-add.ensures in

@@ -7,6 +7,7 @@ use Rattle.tor_clauses.specs.Literals.{opposite_node}
 use Rattle.path_select.specs.declared.known.Part.{Part}
 use Rattle.path_select.specs.Rounds.{IsPart, IsPartOf}
 use Rattle.path_select.proofs.Ways.{some_same}
+use Rattle.path_select.proofs.Knowing.{part_at, way_of_part}
 use Rattle.path_select.proofs.known.Known.go_along_part.Goals as goal
 
 pub returns : goal.returns
@@ -28,3 +29,30 @@ returns c =
     let leads : IsPart arcs along part.skip node = subst (λ w. IsPart arcs w part.skip node) same of.leads in
     on leads.from leads.to node (opposite_node node) leads.led leads.begins leads.ends)
     c.go_along.ensures
+
+pub bounds-as_slice-place : goal.bounds-as_slice-place
+bounds-as_slice-place c =
+    (part_at c.args.digraph.now.arcs c.args.self.now c.args.place c.as_slice.result.now c.as_slice.ensures c.requires.there c.requires.known).0
+
+pub bounds-as_slice-part : goal.bounds-as_slice-part
+bounds-as_slice-part c =
+    let arcs = c.args.digraph.now.arcs in
+    let of = (part_at arcs c.args.self.now c.args.place c.as_slice.result.now c.as_slice.ensures c.requires.there c.requires.known).1 in
+    (way_of_part arcs of.0 of.1 _ c.args.self.now.ways c.as_slice-2.result.now c.as_slice-2.ensures of.2).0
+
+pub go_along-requires-clause-led : goal.go_along-requires-clause-led
+go_along-requires-clause-led c =
+    let arcs = c.args.digraph.now.arcs in
+    let of = (part_at arcs c.args.self.now c.args.place c.as_slice.result.now c.as_slice.ensures c.requires.there c.requires.known).1 in
+    let part : Part = slice_index_or c.as_slice.result.now c.args.place (record { way = 0; skip = 0 }) in
+    let way = way_of_part arcs of.0 of.1 part c.args.self.now.ways c.as_slice-2.result.now c.as_slice-2.ensures of.2 in
+    let leads = way.1 c.index-as_slice-part.result c.index-as_slice-part.is in
+    (leads.from, leads.to, leads.led)
+
+pub go_along-requires-clause-fits : goal.go_along-requires-clause-fits
+go_along-requires-clause-fits c =
+    let arcs = c.args.digraph.now.arcs in
+    let of = (part_at arcs c.args.self.now c.args.place c.as_slice.result.now c.as_slice.ensures c.requires.there c.requires.known).1 in
+    let part : Part = slice_index_or c.as_slice.result.now c.args.place (record { way = 0; skip = 0 }) in
+    let way = way_of_part arcs of.0 of.1 part c.args.self.now.ways c.as_slice-2.result.now c.as_slice-2.ensures of.2 in
+    (way.1 c.index-as_slice-part.result c.index-as_slice-part.is).fits

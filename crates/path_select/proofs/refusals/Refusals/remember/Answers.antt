@@ -1,5 +1,5 @@
-use Rattle.std.proofs.Common.{rules, ◌≡◌, ◌≤◌, ◌+◌, ◌-◌, ℕ, suc, inl, inr, Some, Result, Ok, Err, length, get_or, refl, sym, ap, ◌∙◌, subst, arith}
-use Rattle.std.specs.Prelude.{slice_get, OnOk}
+use Rattle.std.proofs.Common.{◌≡◌, ◌≤◌, ◌+◌, ◌-◌, ℕ, suc, inl, inr, Some, Result, Ok, Err, length, get_or, refl, sym, ap, ◌∙◌, subst, arith}
+use Rattle.std.specs.Prelude.{slice_get, OnOk, IfSome}
 use Rattle.tor_clauses.proofs.Adding.{get_from_or}
 use Rattle.tor_clauses.specs.Literals.{node_of}
 use Rattle.path_select.specs.declared.refusals.Refusal.{Refusal}
@@ -30,7 +30,9 @@ returns c =
     let second : r.second ≡ node_at t = c.node-second.ensures.node ∙ ap node_of c.of_step-2.ensures in
     let triple : HasTriple graph c.args.path at r.first r.second =
     subst (λ n. HasTriple graph c.args.path at n r.second) (sym first) (subst (HasTriple graph c.args.path at (node_at s)) (sym second) has) in
-    let alone : NamesOnly (c.args.path + 1) at c.in-Lost.walk.links = search rules in
+    let named = subst (λ o. IfSome o (λ at. NamesOnly (c.place.result + 1) at c.as_slice.result.now)) c.in-Some.is c.only_place.ensures in
+    let links = subst (NamesOnly (c.place.result + 1) at) c.as_slice.ensures named in
+    let alone = subst (λ n. NamesOnly (n + 1) at c.in-Lost.walk.links) c.place.ensures.place links in
     let one : IsPut r c.args.self.now.items.items c.put.new.self.items.items → Puts graph c.args.path c.in-Lost.walk c.args.self.now.items.items c.put.new.self.items.items =
     λ put. record { refusal = r; put = put; named = refl; at = at; alone = alone; triple = triple } in
     on_ok c.put.result (λ either. subst (λ f. Remembers graph c.args.path f c.args.self.now.items.items c.put.new.self.items.items) (sym c.in-Lost.is)

@@ -1,4 +1,4 @@
-use Rattle.std.proofs.Common.{rules, ◌≡◌, ◌+◌, Some, subst}
+use Rattle.std.proofs.Common.{◌≡◌, ◌+◌, Some, subst}
 use Rattle.std.specs.Prelude.{slice_get, IfSome}
 use Rattle.relationships.specs.declared.walk.Walk.{Walk}
 use Rattle.relationships.specs.declared.fate.Fate.{Fate}
@@ -30,5 +30,6 @@ returns-clause-walk c =
     let lost = c.in-Some-use_again.lost in
     let is = subst (λ o. IfSome o (HasRefusedTriple graph path old)) c.in-Some.is c.find.ensures in
     let of = subst (λ o. IfSome o (IsOfPath old met.refusal)) c.in-Some-use_again.is c.use_again.ensures.lost in
-    let again : (w : Walk) → slice_get c.args.fates.now lost ≡ Some (Fate.Lost w) → c.in_ok-walk.walk ≡ relinked (lost + 1) (record { path = path + 1; at = met.at }) w = search rules in
+    let again : (w : Walk) → slice_get c.args.fates.now lost ≡ Some (Fate.Lost w) → c.in_ok-walk.walk ≡ relinked (lost + 1) (record { path = path + 1; at = met.at }) w =
+    λ w there. subst (λ n. c.in_ok-walk.walk ≡ relinked (lost + 1) (record { path = n + 1; at = met.at }) w) c.place.ensures.place (c.in_ok-walk.ensures w there) in
     met_refutes graph c.args.self.now.formula.paths path lost c.args.fates.now old met c.in_ok-walk.walk c.requires.refused is of again
