@@ -9,3 +9,4 @@ pub mod SumLemmas
 pub mod Reaches
 pub mod Somes
 mod Vectors
+pub mod Openings

@@ -25,7 +25,7 @@ use Rattle.dump_read.specs.declared.records.Unread.{Unread}
 use Rattle.dump_read.specs.declared.records.Unread.TheVariants as unread
 use Rattle.dump_read.specs.declared.taking.Untaken.TheVariants as untaken
 use Rattle.dump_read.specs.Reach.{ReadsBounded, LeavesRestOfDump}
-use Rattle.dump_read.specs.Refusals.{IsUnread, of_frame, of_unread}
+use Rattle.dump_read.specs.Refusals.{IsUnread, IsOfDump, of_frame, of_unread}
 use Rattle.dump_read.specs.Routes.{Route}
 use Rattle.dump_read.specs.Taking.{Taken, take_cleaned, take_route, take_routes, has_too_many_numbers, with_one}
 use Rattle.dump_read.proofs.LimitLemmas.{refuses}
@@ -105,3 +105,31 @@ opened_shown None name before left opens shown = tt
 opened_shown (Some files) name before left opens shown =
     subst (λ (file : Option (List ℕ)). IsSomeAnd file (λ octets. LeavesBehindHeader start (Some octets) left)) (sym opens.1)
     (subst (λ (b : Option (List ℕ)). LeavesBehindHeader start b left) opens.2 shown)
+
+-- ---- what an error of the records says of the dump
+
+pub frame_fault : (d : ℕ) (e : FrameError) → of_frame d e ≡ error.ReadFault → e ≡ frame.ReadFault
+frame_fault d (frame.HeadCut at) is = absurd cc
+frame_fault d (frame.BodyCut at) is = absurd cc
+frame_fault d (frame.Oversize at) is = absurd cc
+frame_fault d frame.TooManyBytes is = absurd cc
+frame_fault d frame.ReadFault is = refl
+frame_fault d frame.NoMemory is = absurd cc
+
+pub frame_place : (d : ℕ) (e : FrameError) → IsOfDump d (of_frame d e)
+frame_place d (frame.HeadCut at) = refl
+frame_place d (frame.BodyCut at) = refl
+frame_place d (frame.Oversize at) = refl
+frame_place d frame.TooManyBytes = tt
+frame_place d frame.ReadFault = tt
+frame_place d frame.NoMemory = tt
+
+pub unread_fault : (d : ℕ) (at : At) (u : Unread) → of_unread d at u ≡ error.ReadFault → ⊥
+unread_fault d at (unread.Fault broken) is = cc
+unread_fault d at (unread.Untaken (untaken.Limit kind)) is = cc
+unread_fault d at (unread.Untaken untaken.NoMemory) is = cc
+
+pub unread_place : (d : ℕ) (at : At) (u : Unread) → IsOfDump d (of_unread d at u)
+unread_place d at (unread.Fault broken) = refl
+unread_place d at (unread.Untaken (untaken.Limit kind)) = tt
+unread_place d at (unread.Untaken untaken.NoMemory) = tt

@@ -171,7 +171,9 @@ fn read_records<H: Shelf>(
     ensures steady_reads { H.steady shelf.old → result ≢ Err DumpError.ReadFault }
 {
     let mut file = FileCounts::new(alloc);
-    take_file(alloc, shelf, dump, sets, taken, &mut file)?;
+    if let Err(error) = take_file(alloc, shelf, dump, sets, taken, &mut file) {
+        return Err(error);
+    }
     keep_file(taken, file)
 }
 

@@ -141,19 +141,27 @@ pub(crate) fn take_record(
 {
     match found.kind {
         RecordKind::TableDump(family) => {
-            take_table_dump(alloc, sets, family, found.body, batch, taken)?;
+            if let Err(unread) = take_table_dump(alloc, sets, family, found.body, batch, taken) {
+                return Err(unread);
+            }
             file.add(0, 1);
             Ok(peers)
         }
-        RecordKind::PeerTable => {
-            let table = read_peers(found.body)?;
-            file.add(u64::from(table.count), 0);
-            Ok(Some(table))
-        }
+        RecordKind::PeerTable => match read_peers(found.body) {
+            Ok(table) => {
+                file.add(u64::from(table.count), 0);
+                Ok(Some(table))
+            }
+            Err(fault) => Err(Unread::Fault(fault)),
+        },
         RecordKind::Rib(form) => {
-            let routes = take_rib(alloc, sets, form, peers, found.body, batch, taken)?;
-            file.add(0, routes as u64);
-            Ok(peers)
+            match take_rib(alloc, sets, form, peers, found.body, batch, taken) {
+                Ok(routes) => {
+                    file.add(0, routes as u64);
+                    Ok(peers)
+                }
+                Err(unread) => Err(unread),
+            }
         }
     }
 }

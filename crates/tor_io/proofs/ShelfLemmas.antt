@@ -1,4 +1,4 @@
--- What a shelf in memory is after a call.
+-- What a shelf and a sink in memory are after a call.
 use Rattle.std.proofs.Common.{◌≡◌, ℕ, zero, suc, ◌<◌, ◌==◌, Bool, false, true≢false, List, [], drop, Result, Some, None, Ok, Err, is_err, IsOk, IsErr, refl, sym, ap, ◌∙◌, subst, arith}
 use Rattle.std.specs.Prelude.{OnOk, OnErr}
 use Rattle.std.proofs.lemmas.List.{nil_from_length}
@@ -6,6 +6,7 @@ use Rattle.tor_io.specs.declared.shelf.OpenRefused.{OpenRefused}
 use Rattle.tor_io.specs.declared.shelf.OpenRefused.TheVariants.{Failed as gone, NoMemory as memory}
 use Rattle.tor_io.specs.FaultPlan.{Plan, after_call, after_fault}
 use Rattle.tor_io.specs.MemShelf.{ShelfState, given_of}
+use Rattle.tor_io.specs.MemSink.{SinkState}
 
 -- a call was counted, and failed
 pub failed : (seen old : ShelfState) (plan : Plan) → seen ≡ old → plan ≡ after_fault (after_call seen.plan)
@@ -36,6 +37,11 @@ pub closed_behind : (seen old stood : ShelfState) (called plan : Plan) (unread :
     → plan ≡ after_fault (after_call seen.plan) → record stood { plan = plan } ≡ record old { unread = []; plan = after_fault (after_call old.plan) }
 closed_behind seen old stood called plan unread same is none then =
     ap (λ (s : ShelfState). record s { plan = plan }) is ∙ ap (λ (u : List ℕ). record seen { unread = u; plan = plan }) none ∙ closed seen old plan same then
+
+-- a sink's call was counted, and failed
+pub unwritten : (seen old : SinkState) (plan : Plan) → seen ≡ old → plan ≡ after_fault (after_call seen.plan)
+    → record seen { plan = plan } ≡ record old { plan = after_fault (after_call old.plan) }
+unwritten seen old plan same is = ap (λ (p : Plan). record seen { plan = p }) is ∙ ap (λ (s : SinkState). record s { plan = after_fault (after_call s.plan) }) same
 
 -- nothing is given only where nothing is unread
 pub none_left : (seen old : ShelfState) (size n : ℕ) → seen ≡ old → n ≡ given_of seen size → 0 < seen.most → n ≡ 0 → 0 < size → drop n seen.unread ≡ []

@@ -4,7 +4,8 @@ use Rattle.mrt_frame.specs.Records.{Well}
 use Rattle.mrt_frame.specs.Reader.{shelf_of, next_place}
 use Rattle.mrt_frame.specs.Frames.{StopsWith}
 use Rattle.mrt_frame.specs.Steps.{lent_record}
-use Rattle.dump_read.specs.Refusals.{peers_in}
+use Rattle.tor_io.specs.Counts.{Rose}
+use Rattle.dump_read.specs.Refusals.{peers_in, of_frame, IsOfDump}
 use Rattle.mrt_frame.specs.Counting.{CountsOn, CountsAll}
 use Rattle.dump_read.proofs.FileLemmas.{CountsOf, nothing_counted, counted_one, all_counted}
 use Rattle.dump_read.proofs.Goings.{GoesOf, starts, goes_on, ends, breaks, some_so_far, some_with, frame_named}
@@ -14,7 +15,7 @@ use Rattle.mrt_frame.specs.declared.error.FrameError.{FrameError}
 use Rattle.dump_read.specs.declared.error.DumpError.TheVariants as error
 use Rattle.dump_read.specs.declared.error.LimitKind.TheVariants.{Bytes}
 use Rattle.dump_read.specs.Routes.{routes_of}
-use Rattle.dump_read.proofs.Reaches.{BehindOf, begins, goes_behind, shown_behind, frame_bytes, no_record}
+use Rattle.dump_read.proofs.Reaches.{BehindOf, begins, goes_behind, shown_behind, frame_bytes, frame_fault, frame_place, no_record, unread_fault, unread_place}
 use Rattle.mrt_frame.specs.Some.{HasRead}
 use Rattle.dump_read.proofs.Somes.{AreTaken, none_taken, taken_more, all_taken}
 use Rattle.dump_read.proofs.reading.take_records.Goals as goal
@@ -164,3 +165,88 @@ returns-in-Ok-None-clause-some_file g c =
     let step = rw (c.in-Ok-None.is, c.in-Ok-None.field-0-is) at c.next.follows.holds-at-none in
     all_taken (left (shelf_of c.args.frames.now)) (left (shelf_of c.records.frames)) (left (shelf_of c.next.follows.lender-at-none)) c.args.sets c.args.dump
     (next_place c.records.frames) (peers_in c.records.peers) c.args.taken.now c.records.taken c.records.file c.next.new.counts c.records.invariant.some step.some_end
+
+-- ---- the reader and its shelf
+
+pub returns-in-Ok-None-clause-at_end : goal.returns-in-Ok-None-clause-at_end
+returns-in-Ok-None-clause-at_end g c = let step = rw (c.in-Ok-None.is, c.in-Ok-None.field-0-is) at c.next.follows.holds-at-none in step.at_end
+
+pub returns-in-Ok-None-clause-same_reference : goal.returns-in-Ok-None-clause-same_reference
+returns-in-Ok-None-clause-same_reference g c = c.next.follows.holds-at-none.same_reference ∙ c.records.invariant.same_reference
+
+pub returns-in-Ok-None-clause-files : goal.returns-in-Ok-None-clause-files
+returns-in-Ok-None-clause-files g c = c.next.follows.holds-at-none.leaves.files ∙ c.records.invariant.files
+
+pub returns-in-Ok-None-clause-later : goal.returns-in-Ok-None-clause-later
+returns-in-Ok-None-clause-later g c = omega (arith, c.next.follows.holds-at-none.leaves.later, c.records.invariant.quiet)
+
+pub returns-in-Ok-None-clause-quiet : goal.returns-in-Ok-None-clause-quiet
+returns-in-Ok-None-clause-quiet g c =
+    let step = rw (c.in-Ok-None.is, c.in-Ok-None.field-0-is) at c.next.follows.holds-at-none in
+    λ _. step.leaves.quiet tt ∙ c.records.invariant.quiet
+
+pub returns-in-Ok-None-clause-steady : goal.returns-in-Ok-None-clause-steady
+returns-in-Ok-None-clause-steady g c = λ s. c.next.follows.holds-at-none.leaves.steady (c.records.invariant.steady s)
+
+pub returns-in-Err-clause-place : goal.returns-in-Err-clause-place
+returns-in-Err-clause-place g c = subst (IsOfDump c.args.dump) (sym c.of_frame.ensures) (frame_place c.args.dump c.in-Err.error)
+
+pub returns-in-Err-clause-same_reference : goal.returns-in-Err-clause-same_reference
+returns-in-Err-clause-same_reference g c = c.next.follows.holds-at-none.same_reference ∙ c.records.invariant.same_reference
+
+pub returns-in-Err-clause-files : goal.returns-in-Err-clause-files
+returns-in-Err-clause-files g c = c.next.follows.holds-at-none.leaves.files ∙ c.records.invariant.files
+
+pub returns-in-Err-clause-later : goal.returns-in-Err-clause-later
+returns-in-Err-clause-later g c = omega (arith, c.next.follows.holds-at-none.leaves.later, c.records.invariant.quiet)
+
+pub returns-in-Err-clause-failed : goal.returns-in-Err-clause-failed
+returns-in-Err-clause-failed g c = λ is.
+    let same : c.of_frame.result ≡ error.ReadFault = cc in
+    let fault = frame_fault c.args.dump c.in-Err.error (sym c.of_frame.ensures ∙ same) in
+    subst (λ n. Rose n (g.H.Shelf.faults (shelf_of c.next.follows.lender-at-none))) c.records.invariant.quiet
+    (c.next.follows.holds-at-none.leaves.failed (c.in-Err.is ∙ ap (λ (e : FrameError). Err e) fault))
+
+pub returns-in-Err-clause-quiet : goal.returns-in-Err-clause-quiet
+returns-in-Err-clause-quiet g c = λ not.
+    let step = rw c.in-Err.is at c.next.follows.holds-at-none in
+    step.leaves.quiet (λ fault. not (ap (λ e. Err e) (c.of_frame.ensures ∙ ap (of_frame c.args.dump) fault))) ∙ c.records.invariant.quiet
+
+pub returns-in-Err-clause-steady : goal.returns-in-Err-clause-steady
+returns-in-Err-clause-steady g c = λ s. c.next.follows.holds-at-none.leaves.steady (c.records.invariant.steady s)
+
+pub returns-in-Err-clause-steady_reads : goal.returns-in-Err-clause-steady_reads
+returns-in-Err-clause-steady_reads g c = λ s is.
+    let same : c.of_frame.result ≡ error.ReadFault = cc in
+    c.in-Err.ensures.steady_reads (c.records.invariant.steady s) (ap (λ (e : FrameError). Err e) (frame_fault c.args.dump c.in-Err.error (sym c.of_frame.ensures ∙ same)))
+
+pub returns-in-Err-take_record-clause-place : goal.returns-in-Err-take_record-clause-place
+returns-in-Err-take_record-clause-place g c =
+    subst (IsOfDump c.args.dump) (sym c.of_unread.ensures) (unread_place c.args.dump c.in-Ok-Some.found.at c.in-Err-take_record.unread)
+
+pub returns-in-Err-take_record-clause-same_reference : goal.returns-in-Err-take_record-clause-same_reference
+returns-in-Err-take_record-clause-same_reference g c = c.next.follows.holds-at-none.same_reference ∙ c.records.invariant.same_reference
+
+pub returns-in-Err-take_record-clause-files : goal.returns-in-Err-take_record-clause-files
+returns-in-Err-take_record-clause-files g c = c.next.follows.holds-at-none.leaves.files ∙ c.records.invariant.files
+
+pub returns-in-Err-take_record-clause-later : goal.returns-in-Err-take_record-clause-later
+returns-in-Err-take_record-clause-later g c = omega (arith, c.next.follows.holds-at-none.leaves.later, c.records.invariant.quiet)
+
+pub returns-in-Err-take_record-clause-failed : goal.returns-in-Err-take_record-clause-failed
+returns-in-Err-take_record-clause-failed g c = λ is.
+    let same : c.of_unread.result ≡ error.ReadFault = cc in
+    absurd (unread_fault c.args.dump c.in-Ok-Some.found.at c.in-Err-take_record.unread (sym c.of_unread.ensures ∙ same))
+
+pub returns-in-Err-take_record-clause-quiet : goal.returns-in-Err-take_record-clause-quiet
+returns-in-Err-take_record-clause-quiet g c =
+    let step = rw (c.in-Ok-Some.is, c.in-Ok-Some.field-0-is) at c.next.follows.holds-at-none in
+    λ _. step.leaves.quiet tt ∙ c.records.invariant.quiet
+
+pub returns-in-Err-take_record-clause-steady : goal.returns-in-Err-take_record-clause-steady
+returns-in-Err-take_record-clause-steady g c = λ s. c.next.follows.holds-at-none.leaves.steady (c.records.invariant.steady s)
+
+pub returns-in-Err-take_record-clause-steady_reads : goal.returns-in-Err-take_record-clause-steady_reads
+returns-in-Err-take_record-clause-steady_reads g c = λ _ is.
+    let same : c.of_unread.result ≡ error.ReadFault = cc in
+    unread_fault c.args.dump c.in-Ok-Some.found.at c.in-Err-take_record.unread (sym c.of_unread.ensures ∙ same)
