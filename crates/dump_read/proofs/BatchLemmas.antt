@@ -5,7 +5,6 @@ use Rattle.std.specs.Prelude.{is_some, OnOk}
 use Rattle.std.proofs.lemmas.List.{length-append, length-map}
 use Rattle.std.proofs.Math.ListN.{drop_of_length-le}
 use Rattle.tor_arena.specs.Growth.{one_more}
-use Rattle.tor_arena.specs.Limits.{most_places}
 use Rattle.path_clean.specs.declared.cleaned.Sets.{Sets}
 use Rattle.path_clean.specs.declared.cleaned.Cause.{Cause}
 use Rattle.path_clean.specs.declared.cleaned.Cleaned.{Cleaned}
@@ -84,11 +83,11 @@ merged_by-push (x ∷ causes) [] cause path same = absurd (omega (arith, same))
 merged_by-push (x ∷ causes) (y ∷ paths) cause path same = ap (λ (cs : List Cleaned). cleaned_as x y ∷ cs) (merged_by-push causes paths cause path (omega (arith, same)))
 
 pub IsBatch-push : (causes : List (Option Cause)) (paths : List (List ℕ)) (cause : Option Cause) (path : List ℕ) → IsBatch causes paths
-    → length (paths ++ path ∷ []) ≤ most_places → IsBatch (causes ++ cause ∷ []) (paths ++ path ∷ [])
-IsBatch-push causes paths cause path batch few =
+    → IsBatch (causes ++ cause ∷ []) (paths ++ path ∷ [])
+IsBatch-push causes paths cause path batch =
     let same = batch.same in
     let many = length-append causes (cause ∷ []) in
-    let more = length-append paths (path ∷ []) in record { same = omega (arith, same, many, more); few = few }
+    let more = length-append paths (path ∷ []) in record { same = omega (arith, same, many, more) }
 
 -- ---- paths that were found
 

@@ -1,6 +1,5 @@
 -- The routes of one record, each merged before the first of them is taken in, and judged only where its path wasn't found.
-use Rattle.std.specs.Prelude.{◌≡◌, ◌≤◌, ℕ, true, List, [], ◌∷◌, length, map, slice_get, Option, Some, Ok}
-use Rattle.tor_arena.specs.Limits.{most_places}
+use Rattle.std.specs.Prelude.{◌≡◌, ℕ, true, List, [], ◌∷◌, length, map, slice_get, Option, Some, Ok}
 use Rattle.path_clean.specs.declared.cleaned.Sets.{Sets}
 use Rattle.path_clean.specs.declared.cleaned.Cause.{Cause}
 use Rattle.path_clean.specs.declared.cleaned.Cleaned.{Cleaned}
@@ -28,7 +27,6 @@ merged_by (cause ∷ causes) (path ∷ paths) = cleaned_as cause path ∷ merged
 -- a cause and a path for each route
 pub record IsBatch (causes : List (Option Cause)) (paths : List (List ℕ)) : Type 0 where
   pub same : length causes ≡ length paths
-  pub few : length paths ≤ most_places
 
 -- where the path of a route was found it stands, so it is clean
 pub record StandsAt (rows : List Counted) (id : ℕ) (path : List ℕ) : Type 0 where

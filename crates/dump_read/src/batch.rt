@@ -1,15 +1,14 @@
 //! The routes of one record.
-ghost use Rattle.std.specs.Prelude.{◌≡◌, ◌++◌, ◌∷◌, ◌<◌, ◌≤◌, [], length, slice_get, Some, OnOk, OnErr, IfErr};
-ghost use Rattle.tor_arena.specs.Limits.{most_places};
+ghost use Rattle.std.specs.Prelude.{◌≡◌, ◌++◌, ◌∷◌, ◌<◌, [], length, OnOk, OnErr, IfErr};
 ghost use Rattle.path_clean.specs.Clean.{merged_of};
 ghost use Rattle.dump_read.specs.Batches.{StandAtPlaces, TakesAt, IsLimitAt, TakesBatch, IsBatchLimit, TakesSomeOfBatch};
 
 use crate::taking::{Taken, Untaken, take_again, take_merged};
 use path_attrs::{Attrs, Width};
-use path_clean::{Cause, Lookup, PathTable, Sets, merge_into};
+use path_clean::{Cause, Lookup, MergedPaths, PathTable, Sets};
 use std::alloc::Global;
 use std::marker::Model;
-use tor_arena::{Index, List, NoMemory, PathId, Rows};
+use tor_arena::NoMemory;
 
 /// The routes of one record, each merged before the first of them is taken in. Their paths are looked up one right after the other,
 /// so that the waits for memory of these look-ups overlap, and only those are judged that aren't found: what stands in the table is
@@ -19,11 +18,9 @@ pub(crate) struct Batch {
     // of each route the cause for which it is set aside, where that is known before its path is judged
     causes: Vec<Option<Cause>>,
     // of each route its path, unjudged
-    paths: Rows<PathId, u32>,
+    paths: MergedPaths,
     // where the paths of the routes were found in the table
     lookup: Lookup,
-    // the path of the route that is being merged
-    path: List<u32>,
 }
 
 impl Model for Batch {
@@ -43,9 +40,8 @@ impl Batch {
     {
         Batch {
             causes: Vec::new(alloc),
-            paths: Rows::new(alloc),
+            paths: MergedPaths::new(alloc),
             lookup: Lookup::new(alloc),
-            path: List::new(alloc),
         }
     }
 
@@ -55,7 +51,7 @@ impl Batch {
         ensures places { self.new.places ≡ [] }
     {
         self.causes.clear();
-        self.paths.cut_to(0);
+        self.paths.clear();
         self.lookup.clear();
     }
 
@@ -66,18 +62,24 @@ impl Batch {
         self.causes.len()
     }
 
-    /// Adds a route, merged.
+    /// Adds a route, merged. For want of memory no route may be left.
     pub fn merge(&mut self, sets: Sets, width: Width, attrs: &Attrs<'_>) -> Result<(), NoMemory>
         ensures routes { OnOk result (self.new.routes ≡ self.old.routes ++ merged_of sets width attrs.now ∷ []) }
         ensures places { self.new.places ≡ self.old.places }
     {
-        let cause = merge_into(sets, attrs, width, &mut self.path)?;
-        self.causes.reserve(1)?;
-        let Ok(_) = self.paths.push_row(self.path.as_slice()) else {
+        if self.causes.reserve(1).is_err() {
             return Err(NoMemory);
-        };
-        self.causes.push_reserved(cause);
-        Ok(())
+        }
+        match self.paths.merge(sets, attrs, width) {
+            Ok(cause) => {
+                self.causes.push_reserved(cause);
+                Ok(())
+            }
+            Err(error) => {
+                self.causes.clear();
+                Err(error)
+            }
+        }
     }
 
     /// Looks the paths of all routes up in the table.
@@ -101,22 +103,10 @@ impl Batch {
             Some(cause) => taken.counts.add(cause),
             None => match self.lookup.place(place) {
                 Some(id) => take_again(taken, id),
-                None => take_merged(alloc, taken, row_at(&self.paths, place))?,
+                None => take_merged(alloc, taken, self.paths.path(place))?,
             },
         }
         Ok(())
-    }
-}
-
-/// The path of a route.
-fn row_at(paths: &Rows<PathId, u32>, place: usize) -> &[u32]
-    requires there { place < length paths.now }
-    requires few { length paths.now ≤ most_places }
-    ensures { slice_get paths.now place ≡ Some result.now }
-{
-    match PathId::from_place(place) {
-        Some(id) => paths.row(id),
-        None => unreachable!(),
     }
 }
 

@@ -2,6 +2,7 @@ mod Vectors
 pub mod Distinct
 pub mod Judged
 pub mod MergeLemmas
+pub mod MergedLemmas
 pub mod TableLemmas
 pub mod GraphPaths
 pub mod CountingLemmas

@@ -3,10 +3,10 @@ ghost use Rattle.std.specs.Prelude.{◌≡◌, IfOk};
 ghost use Rattle.tor_arena.specs.Distinct.{is_distinct};
 ghost use Rattle.path_clean.specs.Paths.{is_cleaned};
 ghost use Rattle.path_clean.specs.Clean.{judged, cleaned_as, clean_of, merge_segments, merged_of};
-ghost use Rattle.path_clean.specs.Merging.{cause_of};
+ghost use Rattle.path_clean.specs.Merging.{cause_of, IsPutBehind};
 
 use crate::cleaned::{Cause, Cleaned, Sets, are_distinct, has_reserved};
-use crate::merging::{Oddity, append_numbers, append_segments};
+use crate::merging::{Oddity, append_merged, append_segments};
 use crate::plain::plain_ases;
 use path_attrs::{Attrs, PathCursor, Pathless, Width};
 use std::alloc::Global;
@@ -17,7 +17,11 @@ use tor_arena::{List, NoMemory};
 const SHORT_PATH: usize = 64;
 
 /// What a route's attributes are cleaned to, with AS numbers of the width: a path, or the cause for which the route is set aside,
-/// as `clean_into` answers. NoMemory where memory ran out.
+/// the first in this order. No AS_PATH: NoPath. A malformed one: BadSegments. Else its segments are cleaned, merged with AS4_PATH
+/// where that counts, as `path_attrs::path_of` answers. A confederation segment: Confed. An AS_SET whose members are all equal is
+/// read as that one AS; at any other, `Skip` sets the route aside, Sets, and `Cut` ends the path before it. Then equal neighbours
+/// are merged. A reserved number is left: Reserved. An AS stands twice: Loop. Fewer than two are left: Short. NoMemory where memory
+/// ran out.
 pub fn clean(
     alloc: Global,
     sets: Sets,
@@ -26,80 +30,65 @@ pub fn clean(
 ) -> Result<Cleaned, NoMemory>
     ensures { IfOk result (λ cleaned. cleaned ≡ clean_of sets width attrs.now) }
 {
-    let mut path = List::new(alloc);
-    match clean_into(alloc, sets, attrs, width, &mut path)? {
-        None => Ok(Cleaned::Path(path)),
+    let mut path = Vec::new(alloc);
+    match merge_behind(&mut path, sets, attrs, width)? {
+        None => judge_owned(alloc, path),
         Some(cause) => Ok(Cleaned::Aside(cause)),
     }
 }
 
-/// Cleans a route's attributes, with AS numbers of the width. None: `path`, whatever it held, is now what they are cleaned to. Else
-/// the cause for which the route is set aside, the first in this order, and `path` may be anything. No AS_PATH: NoPath. A malformed
-/// one: BadSegments. Else its segments are cleaned, merged with AS4_PATH where that counts, as `path_attrs::path_of` answers. A
-/// confederation segment: Confed. An AS_SET whose members are all equal is read as that one AS; at any other, `Skip` sets the route
-/// aside, Sets, and `Cut` ends the path before it. Then equal neighbours are merged. A reserved number is left: Reserved. An AS
-/// stands twice: Loop. Fewer than two are left: Short. NoMemory where memory ran out.
-pub fn clean_into(
-    alloc: Global,
-    sets: Sets,
-    attrs: &Attrs<'_>,
-    width: Width,
-    path: &mut List<u32>,
-) -> Result<Option<Cause>, NoMemory>
-    ensures { IfOk result (λ cause. cleaned_as cause path.new ≡ clean_of sets width attrs.now) }
+/// A merged path that is judged.
+fn judge_owned(alloc: Global, path: Vec<u32>) -> Result<Cleaned, NoMemory>
+    ensures { IfOk result (λ cleaned. cleaned ≡ judged path.items) }
 {
-    match merge_into(sets, attrs, width, path)? {
-        None => judge(alloc, path.as_slice()),
-        Some(cause) => Ok(Some(cause)),
+    match judge(alloc, path.as_slice())? {
+        None => Ok(Cleaned::Path(List::from_vec(path))),
+        Some(cause) => Ok(Cleaned::Aside(cause)),
     }
 }
 
-/// The first step of `clean_into`, up to the merging of equal neighbours. None: `path`, whatever it held, is now what is left to
-/// `judge`; a path that was judged before needn't be judged again. Else the cause for which the route is set aside, and `path` may
-/// be anything. NoMemory where memory ran out.
-pub fn merge_into(
+/// Puts what a route's attributes are merged to behind the numbers, as `MergedPaths::merge` says.
+pub(crate) fn merge_behind(
+    numbers: &mut Vec<u32>,
     sets: Sets,
     attrs: &Attrs<'_>,
     width: Width,
-    path: &mut List<u32>,
 ) -> Result<Option<Cause>, NoMemory>
-    ensures { IfOk result (λ cause. cleaned_as cause path.new ≡ merged_of sets width attrs.now) }
+    ensures { IfOk result (IsPutBehind numbers.old.items numbers.new.items (merged_of sets width attrs.now)) }
 {
     match plain_ases(attrs, width) {
         Some(ases) => {
-            path.clear();
-            append_numbers(path, ases)?;
+            append_merged(numbers, ases)?;
             Ok(None)
         }
-        None => merge_any(sets, attrs, width, path),
+        None => merge_any(numbers, sets, attrs, width),
     }
 }
 
 /// The same of any route, segment by segment.
 fn merge_any(
+    numbers: &mut Vec<u32>,
     sets: Sets,
     attrs: &Attrs<'_>,
     width: Width,
-    path: &mut List<u32>,
 ) -> Result<Option<Cause>, NoMemory>
-    ensures { IfOk result (λ cause. cleaned_as cause path.new ≡ merged_of sets width attrs.now) }
+    ensures { IfOk result (IsPutBehind numbers.old.items numbers.new.items (merged_of sets width attrs.now)) }
 {
     match PathCursor::over(attrs, width) {
-        Ok(segments) => merge_segments(sets, segments, path),
+        Ok(segments) => merge_segments(numbers, sets, segments),
         Err(Pathless::Absent) => Ok(Some(Cause::NoPath)),
         Err(Pathless::Malformed) => Ok(Some(Cause::BadSegments)),
     }
 }
 
 fn merge_segments(
+    numbers: &mut Vec<u32>,
     sets: Sets,
     segments: PathCursor<'_>,
-    path: &mut List<u32>,
 ) -> Result<Option<Cause>, NoMemory>
-    ensures { IfOk result (λ cause. cleaned_as cause path.new ≡ merge_segments sets segments.entry) }
+    ensures { IfOk result (IsPutBehind numbers.old.items numbers.new.items (merge_segments sets segments.entry)) }
 {
-    path.clear();
-    match append_segments(path, segments)? {
+    match append_segments(numbers.len(), numbers, segments)? {
         None => Ok(None),
         Some(oddity) => Ok(cause_of(sets, oddity)),
     }
@@ -156,7 +145,7 @@ fn are_distinct_by_set(alloc: Global, path: &[u32]) -> Result<bool, NoMemory>
     Ok(true)
 }
 
-/// The second step of `clean_into`: why a route with this merged path is set aside, if it is. A reserved number: Reserved. An AS
+/// The second step of `clean`: why a route with this merged path is set aside, if it is. A reserved number: Reserved. An AS
 /// stands twice: Loop. Fewer than two ASes: Short. NoMemory where memory ran out.
 pub fn judge(alloc: Global, path: &[u32]) -> Result<Option<Cause>, NoMemory>
     ensures { IfOk result (λ cause. cleaned_as cause path.now ≡ judged path.now) }

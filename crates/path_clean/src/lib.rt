@@ -8,6 +8,7 @@ mod distinct_rows;
 mod hashing;
 mod laws;
 mod lookup;
+mod merged_paths;
 mod merging;
 mod plain;
 mod repeats;
@@ -16,8 +17,9 @@ mod table;
 
 pub use asides::Asides;
 pub use cleaned::{Cause, Cleaned, Sets, is_cleaned};
-pub use cleaning::{clean, clean_into, is_clean_path, judge, merge_into};
+pub use cleaning::{clean, is_clean_path, judge};
 pub use laws::{clean_paths_stay, counting, judged_last, paths_are_clean};
 pub use lookup::Lookup;
+pub use merged_paths::MergedPaths;
 pub use repeats::first_repeated;
 pub use table::{AddRefused, Added, PathTable};

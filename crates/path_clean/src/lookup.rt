@@ -4,10 +4,10 @@ ghost use Rattle.std.specs.Prelude.{◌≡◌, [], length, OnOk};
 ghost use Rattle.path_clean.specs.Lookups.{found_at, AreRowsWhereFound};
 
 use crate::distinct_rows::IndexedPaths;
-use crate::hashing::row_of;
+use crate::merged_paths::MergedPaths;
 use std::alloc::Global;
 use std::marker::Model;
-use tor_arena::{List, NoMemory, PathId, Rows};
+use tor_arena::{List, NoMemory, PathId};
 
 /// Where the paths of a batch were found in a table. Its lists serve one batch after the other.
 #[derive(Drop)]
@@ -57,11 +57,7 @@ impl Lookup {
     }
 
     /// Looks paths up in a table: first all guesses are made, then they are compared.
-    pub(crate) fn fill(
-        &mut self,
-        table: &IndexedPaths,
-        paths: &Rows<PathId, u32>,
-    ) -> Result<(), NoMemory>
+    pub(crate) fn fill(&mut self, table: &IndexedPaths, paths: &MergedPaths) -> Result<(), NoMemory>
         ensures rows { OnOk result (AreRowsWhereFound table.now.rows paths.now self.new) }
         ensures each { OnOk result (length self.new ≡ length paths.now) }
     {
@@ -75,14 +71,14 @@ impl Lookup {
 /// The hash of each of the paths.
 fn hash_each(
     table: &IndexedPaths,
-    paths: &Rows<PathId, u32>,
+    paths: &MergedPaths,
     hashes: &mut List<u32>,
 ) -> Result<(), NoMemory>
     ensures { OnOk result (length hashes.new ≡ length paths.now) }
 {
     hashes.clear();
     for place in 0..paths.len() {
-        hashes.push(table.hash_of(row_of(paths, place)))?;
+        hashes.push(table.hash_of(paths.path(place)))?;
     }
     Ok(())
 }
@@ -103,12 +99,12 @@ fn guess_each(
 }
 
 /// Keeps those guesses that are right: each of the paths stands in the table where it was guessed.
-fn compare_each(table: &IndexedPaths, paths: &Rows<PathId, u32>, places: &mut [Option<PathId>])
+fn compare_each(table: &IndexedPaths, paths: &MergedPaths, places: &mut [Option<PathId>])
     requires many { length places.old ≡ length paths.now }
     ensures rows { AreRowsWhereFound table.now.rows paths.now places.new }
     ensures each { length places.new ≡ length places.old }
 {
     for place in 0..paths.len() {
-        places[place] = table.find_guessed(places[place], row_of(paths, place));
+        places[place] = table.find_guessed(places[place], paths.path(place));
     }
 }

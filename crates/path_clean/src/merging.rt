@@ -1,13 +1,13 @@
-//! The ASes of segments, with equal neighbours merged as they go onto a path.
+//! The ASes of segments, with equal neighbours merged as they go onto a path, which lies behind other numbers.
 
-ghost use Rattle.std.specs.Prelude.{◌≡◌, ◌==◌, fold, take, IfOk, OnOk};
-ghost use Rattle.std.specs.List.{list_any, list_all};
+ghost use Rattle.std.specs.Prelude.{◌≡◌, ◌==◌, ◌++◌, nat_eq, fold, take, IfOk, OnOk};
+ghost use Rattle.std.specs.List.{list_any, list_all, dedup};
 ghost use Rattle.path_attrs.specs.PathOf.{is_confed};
 ghost use Rattle.path_clean.specs.Clean.{are_equal, is_set, is_mixed_set, ases_of};
-ghost use Rattle.path_clean.specs.Merging.{ends_in, merged_onto, oddity_in, oddity_from_set, MergesOnto};
+ghost use Rattle.path_clean.specs.Merging.{ends_behind, merged_behind, with_run, oddity_in, oddity_from_set, GoesBehind, MergesOnto};
 
 use path_attrs::{NumberCursor, PathCursor, SegKind, SegmentRef};
-use tor_arena::{List, NoMemory};
+use tor_arena::NoMemory;
 
 /// What among segments is no plain part of a path. The first of the two decides.
 #[derive(Clone, Copy, PartialEq, Eq)]
@@ -52,52 +52,94 @@ fn has_mixed_set(segment: &SegmentRef<'_>) -> bool
     is_set(segment.kind()) && !is_uniform(segment.ases())
 }
 
-fn ends_in(path: &[u32], number: u32) -> bool
-    ensures { result ≡ ends_in path.now number }
-{
-    !path.is_empty() && number == path[path.len() - 1]
-}
-
-/// Puts a number at the end of a path, unless it stands there already.
+/// Puts the number of a run at the end of others, where the next one is another.
 #[inline(always)]
-fn append_number(path: &mut List<u32>, number: u32) -> Result<(), NoMemory>
-    ensures { OnOk result (path.new ≡ merged_onto path.old number) }
+fn end_run(numbers: &mut Vec<u32>, last: u32, next: u32) -> Result<(), NoMemory>
+    ensures { OnOk result (numbers.new.items ≡ with_run numbers.old.items last next) }
 {
-    if ends_in(path.as_slice(), number) {
+    if next == last {
         return Ok(());
     }
-    path.push(number)
+    numbers.push(last)?;
+    Ok(())
+}
+
+/// Puts numbers at the end of others, with equal neighbours among them merged.
+pub(crate) fn append_merged(numbers: &mut Vec<u32>, ases: NumberCursor<'_>) -> Result<(), NoMemory>
+    ensures { OnOk result (numbers.new.items ≡ numbers.old.items ++ dedup nat_eq ases.entry) }
+{
+    let mut left = ases;
+    let Some(first) = left.next() else {
+        return Ok(());
+    };
+    let mut last = first;
+    'numbers: while let Some(number) = left.next() {
+        end_run(numbers, last, number)?;
+        last = number;
+    }
+    numbers.push(last)?;
+    Ok(())
+}
+
+/// Whether the number stands last, behind the first `start`.
+fn ends_behind(start: usize, numbers: &[u32], number: u32) -> bool
+    ensures { result ≡ ends_behind start numbers.now number }
+{
+    start < numbers.len() && number == numbers[numbers.len() - 1]
+}
+
+/// Puts a number at the end of a path that begins behind the first `start` numbers, unless it stands there already.
+fn append_number(start: usize, numbers: &mut Vec<u32>, number: u32) -> Result<(), NoMemory>
+    ensures { OnOk result (numbers.new.items ≡ merged_behind start numbers.old.items number) }
+{
+    if ends_behind(start, numbers.as_slice(), number) {
+        return Ok(());
+    }
+    numbers.push(number)?;
+    Ok(())
 }
 
 /// Puts numbers at the end of a path, with equal neighbours merged.
-pub(crate) fn append_numbers(path: &mut List<u32>, ases: NumberCursor<'_>) -> Result<(), NoMemory>
-    ensures { OnOk result (path.new ≡ fold merged_onto path.old ases.entry) }
+fn append_numbers(
+    start: usize,
+    numbers: &mut Vec<u32>,
+    ases: NumberCursor<'_>,
+) -> Result<(), NoMemory>
+    ensures { OnOk result (numbers.new.items ≡ fold (merged_behind start) numbers.old.items ases.entry) }
 {
     let mut left = ases;
     'numbers: while let Some(number) = left.next() {
-        append_number(path, number)?;
+        append_number(start, numbers, number)?;
     }
     Ok(())
 }
 
-fn append_first(path: &mut List<u32>, ases: NumberCursor<'_>) -> Result<(), NoMemory>
-    ensures { OnOk result (path.new ≡ fold merged_onto path.old (take 1 ases.entry)) }
+fn append_first(
+    start: usize,
+    numbers: &mut Vec<u32>,
+    ases: NumberCursor<'_>,
+) -> Result<(), NoMemory>
+    ensures { OnOk result (numbers.new.items ≡ fold (merged_behind start) numbers.old.items (take 1 ases.entry)) }
 {
     let mut left = ases;
     match left.next() {
         None => Ok(()),
-        Some(first) => append_number(path, first),
+        Some(first) => append_number(start, numbers, first),
     }
 }
 
 /// Puts the ASes that a segment stands for at the end of a path.
-fn append_segment(path: &mut List<u32>, segment: &SegmentRef<'_>) -> Result<(), NoMemory>
-    ensures { OnOk result (path.new ≡ fold merged_onto path.old (ases_of segment.now)) }
+fn append_segment(
+    start: usize,
+    numbers: &mut Vec<u32>,
+    segment: &SegmentRef<'_>,
+) -> Result<(), NoMemory>
+    ensures { OnOk result (numbers.new.items ≡ fold (merged_behind start) numbers.old.items (ases_of segment.now)) }
 {
     if is_set(segment.kind()) {
-        append_first(path, segment.ases())
+        append_first(start, numbers, segment.ases())
     } else {
-        append_numbers(path, segment.ases())
+        append_numbers(start, numbers, segment.ases())
     }
 }
 
@@ -127,10 +169,12 @@ fn oddity_from_set(segments: PathCursor<'_>) -> Oddity
 /// Puts the ASes before the first AS_SET whose members differ at the end of a path, where no segment is a confederation's, and
 /// answers what stands among the segments that is no plain part of a path. It goes over them once.
 pub(crate) fn append_segments(
-    path: &mut List<u32>,
+    start: usize,
+    numbers: &mut Vec<u32>,
     segments: PathCursor<'_>,
 ) -> Result<Option<Oddity>, NoMemory>
-    ensures path { OnOk result (MergesOnto path.old segments.entry path.new) }
+    ensures behind { OnOk result (GoesBehind numbers.old.items numbers.new.items) }
+    ensures path { OnOk result (MergesOnto start numbers.old.items segments.entry numbers.new.items) }
     ensures oddity { IfOk result (λ oddity. oddity ≡ oddity_in segments.entry) }
 {
     let mut left = segments;
@@ -141,7 +185,7 @@ pub(crate) fn append_segments(
         if has_mixed_set(&segment) {
             return Ok(Some(oddity_from_set(left)));
         }
-        append_segment(path, &segment)?;
+        append_segment(start, numbers, &segment)?;
     }
     Ok(None)
 }

@@ -12,6 +12,7 @@ ghost use Rattle.path_clean.specs.Table.{place_of, with_path, Names, CountsOnceM
 use crate::distinct_rows::IndexedPaths;
 use crate::hashing::row_of;
 use crate::lookup::Lookup;
+use crate::merged_paths::MergedPaths;
 use crate::slots::SearchEnd;
 use std::alloc::Global;
 use std::marker::Model;
@@ -122,7 +123,7 @@ impl PathTable {
     /// Looks up where paths stand, which needn't be clean: what is found is. They are looked up one right after the other, so that the
     /// waits for memory of these look-ups overlap. A path that is there may be missed, where it isn't in one of the first two slots in
     /// which it could be. NoMemory where memory ran out: `lookup` may then be anything.
-    pub fn find_batch(&self, paths: &Rows<PathId, u32>, lookup: &mut Lookup) -> Result<(), NoMemory>
+    pub fn find_batch(&self, paths: &MergedPaths, lookup: &mut Lookup) -> Result<(), NoMemory>
         ensures found { OnOk result (StandWhereFound self.now.rows paths.now lookup.new) }
         ensures clean { OnOk result (AreCleanWhereFound paths.now lookup.new) }
         ensures each { OnOk result (length lookup.new ≡ length paths.now) }

@@ -2,7 +2,8 @@
 //! those that are set aside, and what is added to a table stand in the rows of `tor_rows`.
 use path_attrs::{Width, attributes};
 use path_clean::{
-    AddRefused, Added, Cleaned, Lookup, PathTable, Sets, clean, first_repeated, is_cleaned,
+    AddRefused, Added, Cleaned, Lookup, MergedPaths, PathTable, Sets, clean, first_repeated,
+    is_cleaned,
 };
 use std::alloc::Global;
 use std::io;
@@ -146,9 +147,30 @@ fn the_first_row_that_stands_twice(rt: HostRuntime) {
     );
 }
 
-/// Whether of these rows those in the places 1 and 3 alone are found in the table, or none, as it is wanted.
+/// Routes whose AS_PATHs, with numbers of four octets, are 10 20, 20 10, no segment, and the first two again.
+const ROUTES: [&[u8]; 5] = [
+    &[64, 2, 10, 2, 2, 0, 0, 0, 10, 0, 0, 0, 20],
+    &[64, 2, 10, 2, 2, 0, 0, 0, 20, 0, 0, 0, 10],
+    &[64, 2, 0],
+    &[64, 2, 10, 2, 2, 0, 0, 0, 20, 0, 0, 0, 10],
+    &[64, 2, 10, 2, 2, 0, 0, 0, 10, 0, 0, 0, 20],
+];
+
+fn merge_routes(paths: &mut MergedPaths) -> bool {
+    for block in ROUTES {
+        let Ok(attrs) = attributes(block) else {
+            return false;
+        };
+        if paths.merge(Sets::Cut, &attrs, Width::Four).is_err() {
+            return false;
+        }
+    }
+    true
+}
+
+/// Whether of these routes' paths those in the places 1 and 3 alone are found in the table, or none, as it is wanted.
 fn are_found(lookup: &Lookup, wanted: Option<usize>) -> bool {
-    (0..ROWS.len()).all(|number| {
+    (0..ROUTES.len()).all(|number| {
         let found = lookup.place(number).map(|id| id.place());
         found == (if number % 2 == 1 { wanted } else { None })
     })
@@ -157,24 +179,24 @@ fn are_found(lookup: &Lookup, wanted: Option<usize>) -> bool {
 /// Whether a look-up finds this.
 fn is_looked_up(
     table: &PathTable,
-    rows: &Rows<PathId, u32>,
+    paths: &MergedPaths,
     lookup: &mut Lookup,
     wanted: Option<usize>,
 ) -> bool {
-    table.find_batch(rows, lookup).is_ok() && are_found(lookup, wanted)
+    table.find_batch(paths, lookup).is_ok() && are_found(lookup, wanted)
 }
 
-/// Whether the rows are found once their second is in the table, and not before.
-fn finds_rows(alloc: Global, table: &mut PathTable, rows: &Rows<PathId, u32>) -> bool {
+/// Whether the paths are found once the second is in the table, and not before.
+fn finds_paths(alloc: Global, table: &mut PathTable, paths: &MergedPaths) -> bool {
     let mut lookup = Lookup::new(alloc);
-    is_looked_up(table, rows, &mut lookup, None)
+    is_looked_up(table, paths, &mut lookup, None)
         && place_added(table, &[20, 10]) == Some(Ok(0))
-        && is_looked_up(table, rows, &mut lookup, Some(0))
+        && is_looked_up(table, paths, &mut lookup, Some(0))
 }
 
 #[test]
-fn rows_that_needn_t_be_clean_are_looked_up(rt: HostRuntime) {
+fn paths_that_needn_t_be_clean_are_looked_up(rt: HostRuntime) {
     let mut table = PathTable::new(rt.alloc(), Keys::new(&rt), 2);
-    let mut rows = Rows::new(rt.alloc());
-    assert!(rt; add_rows(&mut rows) && finds_rows(rt.alloc(), &mut table, &rows));
+    let mut paths = MergedPaths::new(rt.alloc());
+    assert!(rt; merge_routes(&mut paths) && finds_paths(rt.alloc(), &mut table, &paths));
 }

@@ -1,0 +1,10 @@
+use Rattle.std.proofs.Common.{◌≡◌, ◌++◌, length, nat_eq}
+use Rattle.std.specs.List.{dedup, dedup_from}
+use Rattle.path_clean.proofs.merging.append_merged.Given as goal
+
+-- with the run that isn't put yet, and the numbers that are left, it comes to what it is with all
+abbrev pub invariant-numbers : goal.invariant-numbers
+invariant-numbers l = l.numbers.items ++ dedup_from nat_eq l.last l.left ≡ l.fn.numbers.items ++ dedup nat_eq l.fn.ases
+
+abbrev pub decreases-numbers : goal.decreases-numbers
+decreases-numbers l = length l.left
