@@ -311,6 +311,9 @@ three_paths_text : text (record {
       ∷ record { ases = 20 ∷ 10 ∷ 50 ∷ []; links = link 1 4 ∷ [] } ∷ record { ases = 10 ∷ 50 ∷ 60 ∷ []; links = link 1 5 ∷ [] } ∷ [];
   probes = record { over = 20; under = 30 } ∷ record { over = 60; under = 10 } ∷ [];
   totals = record { kept = 2; lost = 1; edges = 7; forced = 3; peers = 1 };
-}) ≡ codes "tor|1\nsets|cut\nratio|60\naside|nopath|0\naside|badsegments|0\naside|confed|0\naside|sets|0\naside|reserved|0\naside|loop|0\naside|short|0\nkept|1|30 40 20 10 50 60\nkept|1|10 20 30 40\nlost|1|50 60 10 20|10 20 30 40 20 10 50 60 10 20|2:2 2:3 1:2 1:3 1:4 1:5 3:2 3:3\nedge|30|40|high|open|2\nedge|20|40|peer|open|1\nedge|10|20|high|forced|2\nedge|10|50|low|forced|1\nedge|50|60|low|forced|1\nedge|20|30|high|open|1\nedge|10|60|low|open|0\nwhy|10 20 30 40 20 10|2:2 2:3 1:2 1:3\nwhy|20 10 50|1:4\nwhy|10 50 60|1:5\nopen|20|30\nopen|60|10\nend|2|1|7|3|1\n"
+}) ≡ codes "tor|1\nsets|cut\nratio|60\naside|nopath|0\naside|badsegments|0\naside|confed|0\naside|sets|0\naside|reserved|0\naside|loop|0\naside|short|0\n"
+    ++ codes "kept|1|30 40 20 10 50 60\nkept|1|10 20 30 40\nlost|1|50 60 10 20|10 20 30 40 20 10 50 60 10 20|2:2 2:3 1:2 1:3 1:4 1:5 3:2 3:3\n"
+    ++ codes "edge|30|40|high|open|2\nedge|20|40|peer|open|1\nedge|10|20|high|forced|2\nedge|10|50|low|forced|1\nedge|50|60|low|forced|1\nedge|20|30|high|open|1\n"
+    ++ codes "edge|10|60|low|open|0\nwhy|10 20 30 40 20 10|2:2 2:3 1:2 1:3\nwhy|20 10 50|1:4\nwhy|10 50 60|1:5\nopen|20|30\nopen|60|10\nend|2|1|7|3|1\n"
 unfolding line_text digits
 three_paths_text = refl

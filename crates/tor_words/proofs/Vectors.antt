@@ -39,7 +39,8 @@ greatest_ratio : settings_given (codes "--list" ∷ codes "--ratio=1000000" ∷ 
 unfolding settings_given tor_command bundle_met walked flags_fault walk_fault defaults_fault
 greatest_ratio = refl
 
-plus_signs_and_leading_zeros : settings_given (codes "--ratio" ∷ codes "+007" ∷ codes "--max-paths" ∷ codes "+007" ∷ codes "d" ∷ []) ≡ Some (record (by_default Labels (codes "d" ∷ [])) { ratio = 7; max_paths = 7 })
+plus_signs_and_leading_zeros : settings_given (codes "--ratio" ∷ codes "+007" ∷ codes "--max-paths" ∷ codes "+007" ∷ codes "d" ∷ [])
+    ≡ Some (record (by_default Labels (codes "d" ∷ [])) { ratio = 7; max_paths = 7 })
 unfolding settings_given tor_command bundle_met walked flags_fault walk_fault defaults_fault
 plus_signs_and_leading_zeros = refl
 
@@ -63,7 +64,8 @@ greatest_sample : settings_given (codes "--sample=18446744073709551615" ∷ code
 unfolding settings_given tor_command bundle_met walked flags_fault walk_fault defaults_fault
 greatest_sample = refl
 
-sample_with_a_limit : settings_given (codes "--max-paths" ∷ codes "9" ∷ codes "--sample" ∷ codes "0" ∷ codes "--as-sets" ∷ codes "skip" ∷ []) ≡ Some (record (by_default Summary []) { source = Sample 0; sets = Skip; max_paths = 9 })
+sample_with_a_limit : settings_given (codes "--max-paths" ∷ codes "9" ∷ codes "--sample" ∷ codes "0" ∷ codes "--as-sets" ∷ codes "skip" ∷ [])
+    ≡ Some (record (by_default Summary []) { source = Sample 0; sets = Skip; max_paths = 9 })
 unfolding settings_given tor_command bundle_met walked flags_fault walk_fault defaults_fault
 sample_with_a_limit = refl
 
@@ -75,7 +77,8 @@ dump_of_the_name_of_another_flag : settings_given (codes "--" ∷ codes "--surve
 unfolding settings_given tor_command bundle_met walked flags_fault walk_fault defaults_fault
 dump_of_the_name_of_another_flag = refl
 
-survey_with_a_limit : settings_given (codes "--survey" ∷ codes "--as-sets" ∷ codes "skip" ∷ codes "--max-paths" ∷ codes "5" ∷ codes "d1" ∷ codes "d2" ∷ []) ≡ Some (record (by_default Survey (codes "d1" ∷ codes "d2" ∷ [])) { sets = Skip; max_paths = 5 })
+survey_with_a_limit : settings_given (codes "--survey" ∷ codes "--as-sets" ∷ codes "skip" ∷ codes "--max-paths" ∷ codes "5" ∷ codes "d1" ∷ codes "d2" ∷ [])
+    ≡ Some (record (by_default Survey (codes "d1" ∷ codes "d2" ∷ [])) { sets = Skip; max_paths = 5 })
 unfolding settings_given tor_command bundle_met walked flags_fault walk_fault defaults_fault
 survey_with_a_limit = refl
 
@@ -83,11 +86,13 @@ ties_under_givens : settings_given (codes "--ties" ∷ codes "--given" ∷ codes
 unfolding settings_given tor_command bundle_met walked flags_fault walk_fault defaults_fault
 ties_under_givens = refl
 
-serial_lines_under_givens : settings_given (codes "d" ∷ codes "d" ∷ codes "--given=k" ∷ codes "--serial1" ∷ []) ≡ Some (record (by_default Serial (codes "d" ∷ codes "d" ∷ [])) { given = Some (codes "k") })
+serial_lines_under_givens : settings_given (codes "d" ∷ codes "d" ∷ codes "--given=k" ∷ codes "--serial1" ∷ [])
+    ≡ Some (record (by_default Serial (codes "d" ∷ codes "d" ∷ [])) { given = Some (codes "k") })
 unfolding settings_given tor_command bundle_met walked flags_fault walk_fault defaults_fault
 serial_lines_under_givens = refl
 
-migration_with_options : settings_given (codes "--migrate" ∷ codes "--as-sets" ∷ codes "skip" ∷ codes "--ratio" ∷ codes "5" ∷ codes "r" ∷ []) ≡ Some (record (by_default Migrate []) { source = source.Result (codes "r"); sets = Skip; ratio = 5 })
+migration_with_options : settings_given (codes "--migrate" ∷ codes "--as-sets" ∷ codes "skip" ∷ codes "--ratio" ∷ codes "5" ∷ codes "r" ∷ [])
+    ≡ Some (record (by_default Migrate []) { source = source.Result (codes "r"); sets = Skip; ratio = 5 })
 unfolding settings_given tor_command bundle_met walked flags_fault walk_fault defaults_fault
 migration_with_options = refl
 
@@ -95,7 +100,8 @@ an_earlier_result : settings_given (codes "--resume" ∷ codes "r" ∷ codes "d"
 unfolding settings_given tor_command bundle_met walked flags_fault walk_fault defaults_fault
 an_earlier_result = refl
 
-earlier_result_with_options : settings_given (codes "d1" ∷ codes "--resume=r" ∷ codes "--as-sets" ∷ codes "skip" ∷ codes "--ratio" ∷ codes "5" ∷ codes "d2" ∷ []) ≡ Some (record (by_default Resume (codes "d1" ∷ codes "d2" ∷ [])) { source = Earlier (codes "r"); sets = Skip; ratio = 5 })
+earlier_result_with_options : settings_given (codes "d1" ∷ codes "--resume=r" ∷ codes "--as-sets" ∷ codes "skip" ∷ codes "--ratio" ∷ codes "5" ∷ codes "d2" ∷ [])
+    ≡ Some (record (by_default Resume (codes "d1" ∷ codes "d2" ∷ [])) { source = Earlier (codes "r"); sets = Skip; ratio = 5 })
 unfolding settings_given tor_command bundle_met walked flags_fault walk_fault defaults_fault
 earlier_result_with_options = refl
 
@@ -111,11 +117,13 @@ a_migration : settings_given (codes "--migrate" ∷ codes "r" ∷ []) ≡ Some (
 unfolding settings_given tor_command bundle_met walked flags_fault walk_fault defaults_fault
 a_migration = refl
 
-migration_of_a_file_of_the_name_of_a_flag : settings_given (codes "--migrate" ∷ codes "--" ∷ codes "--migrate" ∷ []) ≡ Some (record (by_default Migrate []) { source = source.Result (codes "--migrate") })
+migration_of_a_file_of_the_name_of_a_flag : settings_given (codes "--migrate" ∷ codes "--" ∷ codes "--migrate" ∷ [])
+    ≡ Some (record (by_default Migrate []) { source = source.Result (codes "--migrate") })
 unfolding settings_given tor_command bundle_met walked flags_fault walk_fault defaults_fault
 migration_of_a_file_of_the_name_of_a_flag = refl
 
-earlier_result_of_the_name_of_a_flag : settings_given (codes "d" ∷ codes "--resume=--list" ∷ codes "d" ∷ []) ≡ Some (record (by_default Resume (codes "d" ∷ codes "d" ∷ [])) { source = Earlier (codes "--list") })
+earlier_result_of_the_name_of_a_flag : settings_given (codes "d" ∷ codes "--resume=--list" ∷ codes "d" ∷ [])
+    ≡ Some (record (by_default Resume (codes "d" ∷ codes "d" ∷ [])) { source = Earlier (codes "--list") })
 unfolding settings_given tor_command bundle_met walked flags_fault walk_fault defaults_fault
 earlier_result_of_the_name_of_a_flag = refl
 
