@@ -74,22 +74,30 @@ fn put_fates(fates: &mut Fates) -> Result<(), Fail> {
     Ok(())
 }
 
+/// What becomes of the paths at four places.
+fn all_told(fates: &Fates) -> [u32; 4] {
+    [
+        fate_told(fates, 0),
+        fate_told(fates, 1),
+        fate_told(fates, 2),
+        fate_told(fates, 3),
+    ]
+}
+
 /// What becomes of a kept path, a lost one and a kept one, and of none.
 fn fates_told(alloc: Global) -> Result<[u32; 4], Fail> {
     let mut fates = Fates::new(alloc);
     fates.reserve_walks(1, 3, 1)?;
     put_fates(&mut fates)?;
-    Ok([
-        fate_told(&fates, 0),
-        fate_told(&fates, 1),
-        fate_told(&fates, 2),
-        fate_told(&fates, 3),
-    ])
+    Ok(all_told(&fates))
+}
+
+fn told(alloc: Global) -> Result<([usize; 2], [u32; 4]), Fail> {
+    Ok((walks_told(alloc)?, fates_told(alloc)?))
 }
 
 #[test]
 fn walks_and_fates_keep_their_places(rt: HostRuntime) -> Result<(), Fail> {
-    assert_eq!(rt; walks_told(rt.alloc())?, [3, 3]);
-    assert_eq!(rt; fates_told(rt.alloc())?, [0, 10, 0, 1]);
+    assert_eq!(rt; told(rt.alloc())?, ([3, 3], [0, 10, 0, 1]));
     Ok(())
 }
