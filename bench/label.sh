@@ -16,9 +16,9 @@ echo 'label_bench: tor_arena relationships as_graph tor_clauses path_select forc
 bench="$copy/crates/label_bench"
 mkdir -p "$bench/src" "$bench/proofs/are_valley_free"
 # That the paths are valley-free is tested as in the tests of labels.
-tests="$top/crates/tests_labels/proofs/cases/are_valley_free"
+tests="$top/crates/tests_graph/proofs/of_labels/are_valley_free"
 for file in Invariants Answers; do
-    sed 's/Rattle\.tests_labels\.proofs\.cases\./Rattle.label_bench.proofs./' "$tests/$file.antt" > "$bench/proofs/are_valley_free/$file.antt"
+    sed 's/Rattle\.tests_graph\.proofs\.of_labels\./Rattle.label_bench.proofs./' "$tests/$file.antt" > "$bench/proofs/are_valley_free/$file.antt"
 done
 cat > "$bench/src/main.rt" <<'RUST'
 //! Times of selection and of marking over results.

@@ -1,43 +1,54 @@
-//! The digraph that several tests are on.
+//! What several tests make of paths: their graph, and clauses.
 
-ghost use Rattle.std.specs.Prelude.{◌≡◌, ◌<◌, IfOk, OnOk};
+ghost use Rattle.std.specs.Prelude.{◌≤◌, length, IfOk};
+ghost use Rattle.tor_clauses.specs.Formulas.{FitsGraph};
 
+use as_graph::{AsGraph, build};
+use path_clean::{PathTable, is_clean_path};
 use std::alloc::Global;
-use tor_arena::{ArcId, Index, NodeId};
-use tor_digraph::{Digraph, GraphRefused};
+use std::test::Fail;
+use tor_arena::{Index, Keys, MAX_PATHS, PathId};
+use tor_clauses::Clauses;
 
-/// The node of a place.
-pub(crate) fn node(place: usize) -> NodeId
-    requires { place < 9 }
-    ensures { result ≡ place }
-{
-    NodeId::from_place(place).unwrap()
+fn add(alloc: Global, table: &mut PathTable, path: &[u32]) -> Result<(), Fail> {
+    if !is_clean_path(alloc, path)? {
+        return Err(Fail::from("a clean path"));
+    }
+    match table.add(path) {
+        Ok(_) => Ok(()),
+        Err(_) => Err(Fail::from("no memory")),
+    }
 }
 
-fn add_arcs(graph: &mut Digraph<NodeId, ArcId>) -> Result<(), GraphRefused>
-    requires { graph.old.nodes ≡ 4 }
-    ensures { OnOk result (graph.new.nodes ≡ 4) }
-{
-    graph.add_arc(node(0), node(1))?;
-    graph.add_arc(node(1), node(2))?;
-    graph.add_arc(node(2), node(1))?;
-    graph.add_arc(node(0), node(3))?;
-    Ok(())
+/// The table of these paths.
+fn table_of(alloc: Global, keys: Keys, paths: &[&[u32]]) -> Result<PathTable, Fail> {
+    let mut table = PathTable::new(alloc, keys, MAX_PATHS);
+    for path in paths {
+        add(alloc, &mut table, path)?;
+    }
+    Ok(table)
 }
 
-fn add_all(graph: &mut Digraph<NodeId, ArcId>) -> Result<(), GraphRefused>
-    requires { graph.old.nodes ≡ 0 }
-    ensures { OnOk result (graph.new.nodes ≡ 4) }
-{
-    graph.add_nodes(4)?;
-    add_arcs(graph)
+/// The graph of these paths.
+pub(crate) fn graph_of(alloc: Global, keys: Keys, paths: &[&[u32]]) -> Result<AsGraph, Fail> {
+    let table = table_of(alloc, keys, paths)?;
+    Ok(build(alloc, keys, table.rows())?)
 }
 
-/// Nodes 0 to 3, and arcs 0 to 1, 1 to 2, 2 to 1, 0 to 3.
-pub(crate) fn small_digraph(alloc: Global) -> Result<Digraph<NodeId, ArcId>, GraphRefused>
-    ensures { IfOk result (λ graph. graph.nodes ≡ 4) }
+/// Clauses of the first paths of the graph, so many.
+pub(crate) fn clauses_of(
+    alloc: Global,
+    keys: Keys,
+    graph: &AsGraph,
+    count: usize,
+) -> Result<Clauses, Fail>
+    requires { count ≤ length graph.now }
+    ensures { IfOk result (FitsGraph graph.now) }
 {
-    let mut graph = Digraph::new(alloc);
-    add_all(&mut graph)?;
-    Ok(graph)
+    graph.facts();
+    let mut clauses = Clauses::new(alloc, keys, graph)?;
+    for place in 0..count {
+        clauses.add_path(graph, PathId::from_place(place).unwrap(), Some(0))?;
+    }
+    Ok(clauses)
 }

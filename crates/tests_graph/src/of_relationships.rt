@@ -1,8 +1,8 @@
-//! Tests of walks and fates in flat lists.
-use relationships::{Fates, Link, WalkRef, Walks};
+//! Tests of walks in flat lists.
+use relationships::{Fates, Link, Walks};
 use std::alloc::Global;
 use std::test::Fail;
-use tor_arena::{Index, NoMemory, PathId, WalkId};
+use tor_arena::{Index, PathId, WalkId};
 
 const LINK: Link = Link { path: 2, at: 3 };
 
@@ -10,97 +10,94 @@ const LINK: Link = Link { path: 2, at: 3 };
 type Told = (&'static [u32], &'static [Link]);
 
 /// Walks of three ASes, of none, and of two.
-const WALKS: [Told; 3] = [(&[10, 20, 30], &[LINK]), (&[], &[]), (&[7, 8], &[])];
-
-/// A kept path, a lost one with its walk, and a kept one.
-const FATES: [Option<Told>; 3] = [None, Some((&[10, 20, 30], &[LINK])), None];
-
-fn add_walks(walks: &mut Walks) -> Result<(), NoMemory> {
-    walks.reserve(3, 5, 1)?;
-    walks.push(&[10, 20, 30], &[LINK])?;
-    walks.push(&[], &[])?;
-    walks.push(&[7, 8], &[])
-}
-
-fn add_fates(fates: &mut Fates) -> Result<(), NoMemory> {
-    fates.reserve(3)?;
-    fates.reserve_walks(1, 3, 1)?;
-    fates.push_kept()?;
-    fates.push_lost(&[10, 20, 30], &[LINK])?;
-    fates.push_kept()
-}
-
-fn walks_made(alloc: Global) -> Result<Walks, Fail> {
-    let mut walks = Walks::new(alloc);
-    match add_walks(&mut walks) {
-        Ok(()) => Ok(walks),
-        Err(NoMemory) => Err(Fail::from("no memory")),
-    }
-}
-
-fn fates_made(alloc: Global) -> Result<Fates, Fail> {
-    let mut fates = Fates::new(alloc);
-    match add_fates(&mut fates) {
-        Ok(()) => Ok(fates),
-        Err(NoMemory) => Err(Fail::from("no memory")),
-    }
-}
-
-fn is_walk(walk: &WalkRef<'_>, told: &Told) -> bool {
-    walk.ases() == told.0 && walk.links() == told.1
-}
+static WALKS: [Told; 3] = [(&[10, 20, 30], &[LINK]), (&[], &[]), (&[7, 8], &[])];
 
 /// Whether the walk at a place is the one that is told, as a whole and in its two parts.
 fn has_walk(walks: &Walks, place: usize, told: &Told) -> bool {
     match WalkId::from_place(place) {
         Some(id) if place < walks.len() => {
-            is_walk(&walks.get(id), told) && walks.ases(id) == told.0 && walks.links(id) == told.1
+            let walk = walks.get(id);
+            walk.ases() == told.0
+                && walk.links() == told.1
+                && walks.ases(id) == told.0
+                && walks.links(id) == told.1
         }
         _ => false,
     }
 }
 
-/// Whether the path at a place is kept, or lost with the walk that is told.
-fn has_fate(fates: &Fates, place: usize, told: &Option<Told>) -> bool {
+/// How many of the walks are those that were put.
+fn right(walks: &Walks) -> usize {
+    let mut count: usize = 0;
+    for (place, told) in WALKS.iter().enumerate() {
+        if has_walk(walks, place, told) {
+            count = count.saturating_add(1);
+        }
+    }
+    count
+}
+
+fn put_all(walks: &mut Walks) -> Result<(), Fail> {
+    for told in &WALKS {
+        walks.push(told.0, told.1)?;
+    }
+    Ok(())
+}
+
+/// How many walks there are, and how many of these are those that were put.
+fn walks_told(alloc: Global) -> Result<[usize; 2], Fail> {
+    let mut walks = Walks::new(alloc);
+    walks.reserve(3, 5, 1)?;
+    put_all(&mut walks)?;
+    Ok([walks.len(), right(&walks)])
+}
+
+/// The first AS of the walk with which the path at a place is lost, 0 for a kept one, and 1 where there is no such path.
+fn fate_told(fates: &Fates, place: usize) -> u32 {
     match PathId::from_place(place) {
-        Some(id) if place < fates.len() => match (told, fates.walk(id)) {
-            (None, None) => fates.is_kept(id),
-            (Some(told), Some(walk)) => !fates.is_kept(id) && is_walk(&walk, told),
-            _ => false,
+        Some(id) if place < fates.len() => match fates.walk(id) {
+            None => u32::from(!fates.is_kept(id)),
+            Some(walk) => if walk.links() == [LINK].as_slice() && walk.ases().len() == 3 {
+                walk.ases()[0]
+            } else {
+                2
+            },
         },
-        _ => false,
+        _ => 1,
     }
 }
 
-fn walks_met(walks: &Walks) -> [bool; 3] {
+fn put_fates(fates: &mut Fates) -> Result<(), Fail> {
+    fates.push_kept()?;
+    fates.push_lost(&[10, 20, 30], &[LINK])?;
+    fates.push_kept()?;
+    Ok(())
+}
+
+/// What becomes of the paths at four places.
+fn all_told(fates: &Fates) -> [u32; 4] {
     [
-        has_walk(walks, 0, &WALKS[0]),
-        has_walk(walks, 1, &WALKS[1]),
-        has_walk(walks, 2, &WALKS[2]),
+        fate_told(fates, 0),
+        fate_told(fates, 1),
+        fate_told(fates, 2),
+        fate_told(fates, 3),
     ]
 }
 
-fn fates_met(fates: &Fates) -> [bool; 3] {
-    [
-        has_fate(fates, 0, &FATES[0]),
-        has_fate(fates, 1, &FATES[1]),
-        has_fate(fates, 2, &FATES[2]),
-    ]
+/// What becomes of a kept path, a lost one and a kept one, and of none.
+fn fates_told(alloc: Global) -> Result<[u32; 4], Fail> {
+    let mut fates = Fates::new(alloc);
+    fates.reserve_walks(1, 3, 1)?;
+    put_fates(&mut fates)?;
+    Ok(all_told(&fates))
 }
 
-fn walks_told(alloc: Global) -> Result<(usize, [bool; 3]), Fail> {
-    let walks = walks_made(alloc)?;
-    Ok((walks.len(), walks_met(&walks)))
-}
-
-fn fates_told(alloc: Global) -> Result<(usize, [bool; 3]), Fail> {
-    let fates = fates_made(alloc)?;
-    Ok((fates.len(), fates_met(&fates)))
+fn told(alloc: Global) -> Result<([usize; 2], [u32; 4]), Fail> {
+    Ok((walks_told(alloc)?, fates_told(alloc)?))
 }
 
 #[test]
 fn walks_and_fates_keep_their_places(rt: HostRuntime) -> Result<(), Fail> {
-    assert_eq!(rt; walks_told(rt.alloc())?, (3, [true, true, true]));
-    assert_eq!(rt; fates_told(rt.alloc())?, (3, [true, true, true]));
+    assert_eq!(rt; told(rt.alloc())?, ([3, 3], [0, 10, 0, 1]));
     Ok(())
 }

@@ -14,7 +14,7 @@ use tor_arena::{
 };
 
 /// One of two places.
-#[derive(Clone, Copy, Debug, PartialEq, Eq)]
+#[derive(Clone, Copy, PartialEq, Eq)]
 struct Seat {
     number: u8,
 }
@@ -102,17 +102,11 @@ fn an_item_is_put_and_changed(rt: HostRuntime) -> Result<(), Fail> {
     Ok(())
 }
 
-/// The items 1, 2, 3, added in two ways.
-fn list_of_three(alloc: Global) -> Result<List<u32>, Fail> {
+/// The last item that a list of 1, 2, 3 gives back, whether the others are left, and whether none is once it is cleared.
+fn list_told(alloc: Global) -> Result<(Option<u32>, bool, bool), Fail> {
     let mut list = List::new(alloc);
     list.push(1)?;
     list.extend_from_slice(&[2, 3])?;
-    Ok(list)
-}
-
-/// The last item that a list of three gives back, whether the others are left, and whether none is once it is cleared.
-fn list_told(alloc: Global) -> Result<(Option<u32>, bool, bool), Fail> {
-    let mut list = list_of_three(alloc)?;
     let last = list.pop();
     let is_left = list.as_slice() == [1, 2].as_slice();
     list.clear();
@@ -125,49 +119,42 @@ fn a_list_gives_its_last_item_back_and_is_cleared(rt: HostRuntime) -> Result<(),
     Ok(())
 }
 
-/// The row at a place, if there is one.
-fn row_at(rows: &Rows<Seat, u32>, place: usize) -> Option<&[u32]> {
-    let seat = Seat::from_place(place)?;
-    if place < rows.len() {
-        Some(rows.row(seat))
-    } else {
-        None
+/// Whether the row at a place has these items.
+fn is_row(rows: &Rows<Seat, u32>, place: usize, items: &[u32]) -> bool {
+    match Seat::from_place(place) {
+        Some(seat) if place < rows.len() => rows.row(seat) == items,
+        _ => false,
     }
 }
 
-/// The row 1, 2 and an empty one.
-fn two_rows(alloc: Global) -> Result<Rows<Seat, u32>, Fail> {
-    let mut rows = Rows::new(alloc);
+/// Whether the rows 1, 2 and an empty one stand at their places, and no third one is taken.
+fn fill(rows: &mut Rows<Seat, u32>) -> Result<[bool; 3], Fail> {
     rows.push_row(&[1, 2])?;
     rows.push_row(&[])?;
-    Ok(rows)
+    let is_full = rows.push_row(&[3]) == Err(RowRefused::Full);
+    Ok([is_full, is_row(rows, 0, &[1, 2]), is_row(rows, 1, &[])])
 }
 
-/// Cuts to the first row, if it is there, and answers how many are left once memory was taken for another.
-fn cut_to_one(rows: &mut Rows<Seat, u32>) -> Result<usize, Fail> {
+/// How many rows are left where they are cut to one, and whether another then goes where one was cut off.
+fn cut(rows: &mut Rows<Seat, u32>) -> Result<(usize, bool), Fail> {
     if rows.len() > 0 {
         rows.cut_to(1);
     }
     rows.reserve(1, 1)?;
-    Ok(rows.len())
+    let left = rows.len();
+    rows.push_row(&[4])?;
+    Ok((left, is_row(rows, 1, &[4])))
+}
+
+fn rows_told(alloc: Global) -> Result<([bool; 3], (usize, bool)), Fail> {
+    let mut rows = Rows::new(alloc);
+    let filled = fill(&mut rows)?;
+    Ok((filled, cut(&mut rows)?))
 }
 
 #[test]
 fn two_rows_stand_where_two_have_a_place(rt: HostRuntime) -> Result<(), Fail> {
-    let mut rows = two_rows(rt.alloc())?;
-    assert_eq!(rt; rows.push_row(&[3]), Err(RowRefused::Full));
-    for (place, row) in [(0, [1, 2].as_slice()), (1, [].as_slice())] {
-        assert_eq!(rt; row_at(&rows, place), Some(row));
-    }
-    Ok(())
-}
-
-#[test]
-fn a_row_goes_where_another_was_cut_off(rt: HostRuntime) -> Result<(), Fail> {
-    let mut rows = two_rows(rt.alloc())?;
-    assert_eq!(rt; cut_to_one(&mut rows)?, 1);
-    rows.push_row(&[4])?;
-    assert_eq!(rt; row_at(&rows, 1), Some([4].as_slice()));
+    assert_eq!(rt; rows_told(rt.alloc())?, ([true; 3], (1, true)));
     Ok(())
 }
 
@@ -206,10 +193,14 @@ impl RandomSource for NoBytes {
     }
 }
 
+/// Whether the same is hashed alike.
+fn hash_alike(keys: Keys, again: Keys) -> bool {
+    keys.hash_one(7u8) == again.hash_one(7u8)
+}
+
 #[test]
 fn keys_come_from_any_source(rt: HostRuntime) {
     let keys = Keys::new(&rt);
-    assert_eq!(rt; keys.hash_one(7u8), keys.hash_one(7u8));
-    let fixed = Keys::new(&NoBytes);
-    assert_eq!(rt; fixed.hash_one(7u8), Keys::new(&NoBytes).hash_one(7u8));
+    let fixed = hash_alike(Keys::new(&NoBytes), Keys::new(&NoBytes));
+    assert!(rt; hash_alike(keys, keys) && fixed);
 }

@@ -1,8 +1,8 @@
 use Rattle.std.proofs.Common.{ℕ, sym, subst}
 use Rattle.tor_digraph.specs.Walks.{Net}
 use Rattle.tor_digraph.specs.Reached.{IsFlooded}
-use Rattle.tests_graph.proofs.of_tor_digraph.go.Goals as goal
+use Rattle.tests_graph.proofs.of_tor_digraph.search.Goals as goal
 
 pub reach_near-requires-clause-flooded : goal.reach_near-requires-clause-flooded
 reach_near-requires-clause-flooded c =
-    subst (λ (n : Net ℕ). IsFlooded (λ n. n) (λ a. a) n.nodes n.arcs c.args.past.now.nodes c.args.reached.now) (sym c.in_ok-rows.ensures) (c.requires c.args.past.now.nodes)
+    subst (λ (n : Net ℕ). IsFlooded (λ n. n) (λ a. a) n.nodes n.arcs c.args.past.now.nodes c.args.reached.now) (sym c.in_ok-rows.ensures) (c.requires.flooded c.args.past.now.nodes)

@@ -5,7 +5,7 @@ use Rattle.std.proofs.lemmas.List.Elements.{All-map}
 use Rattle.relationships.specs.Relationship.{ValleyFree}
 use Rattle.relationships.specs.Graph.{edges, labelling}
 use Rattle.as_graph.specs.Paths.{path_at}
-use Rattle.tests_labels.proofs.cases.are_valley_free.Goals as goal
+use Rattle.tests_graph.proofs.of_labels.are_valley_free.Goals as goal
 
 pub loop-place-preserved : goal.loop-place-preserved
 loop-place-preserved c = λ k d lt.
