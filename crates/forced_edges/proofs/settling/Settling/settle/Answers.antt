@@ -36,6 +36,26 @@ returns-in-Some c =
       first = λ e. refl;
     }
 
+pub returns-then-alone : goal.returns-then-alone
+returns-then-alone c =
+    let f = c.args.problem.now in
+    let facts = c.facts.ensures in
+    let shown = c.args.self.now.shown.nodes.items in
+    let old = c.args.self.now.together.items in
+    let kept = held_along f.graph f.labels facts.posed.labelled f.formula facts.apart facts.posed.fits facts.posed.served in
+    let apart = subst (λ s. Contains old s → ⊥) c.negation_node-other.ensures (λ h. false≢true (sym c.if-has-3.false ∙ c.has-3.ensures.1 h)) in
+    let unshown = subst (λ s. Contains shown s → ⊥) c.negation_node-other.ensures (λ h. false≢true (sym c.if-has.false ∙ c.has.ensures.1 h)) in
+    let passed = subst (λ o. IfNone o (AreAllPassed f.formula.net.arcs f.held old c.search.new.trail.nodes.items)) c.in_default.is c.in_ok-clash.ensures.passed in
+    record {
+      shown = c.requires.shown;
+      keeps = λ n h. h;
+      together = c.requires.together;
+      trial = c.search.ensures.count;
+      settled = λ t r. absurd (no_way f facts.partners kept facts.posed.only shown old c.args.node c.search.new.trail c.requires.shown.closed unshown
+          c.requires.together.closed apart c.in_ok-clash.ensures.trial passed r);
+      first = λ e. refl;
+    }
+
 pub returns : goal.returns
 returns c =
     let node = c.args.node in
