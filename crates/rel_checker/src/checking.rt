@@ -42,7 +42,10 @@ pub fn check_file(alloc: Global, keys: Keys, file: &ResultFile) -> Result<Verdic
         return Ok(verdict);
     }
     let (table, steps) = list_edges(alloc, keys, file)?;
-    check_lines(alloc, keys, file, &table, &steps)
+    let verdict = check_lines(alloc, keys, file, &table, &steps);
+    drop(steps);
+    drop(table);
+    verdict
 }
 
 /// The rules on the lines behind the paths, by the edges of the paths and the steps along them.
@@ -60,10 +63,31 @@ fn check_lines(
     ensures { IfOk result (Judges file.now) }
 {
     let labels = Labels::new(alloc, file.edges.as_slice())?;
-    if let Some(verdict) = check_edges(alloc, file, table, &labels, steps)? {
+    let verdict = check_labelled(alloc, keys, file, table, &labels, steps);
+    drop(labels);
+    verdict
+}
+
+/// The same, by the labels of the edge lines.
+fn check_labelled(
+    alloc: Global,
+    keys: Keys,
+    file: &ResultFile,
+    table: &EdgeTable,
+    labels: &Labels<'_>,
+    steps: &Rows<PathId, Step>,
+) -> Result<Verdict, NoMemory>
+    requires lines { HasFewLines file.now }
+    requires met { MetUpTo file.now 4 }
+    requires table { table.now ≡ edges (its_paths file.now) }
+    requires labels { labels.now ≡ file.now.edges }
+    requires steps { HaveCodedSteps table.now (its_paths file.now) steps.now }
+    ensures { IfOk result (Judges file.now) }
+{
+    if let Some(verdict) = check_edges(alloc, file, table, labels, steps)? {
         return Ok(verdict);
     }
-    if let Some(verdict) = check_evidence(alloc, keys, file, table, &labels, steps)? {
+    if let Some(verdict) = check_evidence(alloc, keys, file, table, labels, steps)? {
         return Ok(verdict);
     }
     Ok(check_totals(file))

@@ -1,5 +1,5 @@
 //! Rule 1 on given lines.
-ghost use Rattle.std.specs.Prelude.{length, IfOk};
+ghost use Rattle.std.specs.Prelude.{◌≡◌, [], length, IfOk};
 ghost use Rattle.result_rules.specs.File.{its_givens};
 ghost use Rattle.rel_checker.specs.GivenHeads.{IsNewGivenAt};
 ghost use Rattle.rel_checker.specs.Serving.{First};
@@ -19,6 +19,16 @@ pub(crate) fn find_unsound_given(
     ensures { IfOk result (First (IsNewGivenAt file.now) (length (its_givens file.now))) }
 {
     let mut table = EdgeTable::new(alloc, keys);
+    let found = first_unsound(file, &mut table);
+    drop(table);
+    found
+}
+
+/// The same, by the edges of the givens before, where there are none yet.
+fn first_unsound(file: &ResultFile, table: &mut EdgeTable) -> Result<Option<usize>, NoMemory>
+    requires { table.old ≡ [] }
+    ensures { IfOk result (First (IsNewGivenAt file.now) (length (its_givens file.now))) }
+{
     for (place, given) in givens_of(file).iter().enumerate() {
         if given.over == given.under {
             return Ok(Some(place));

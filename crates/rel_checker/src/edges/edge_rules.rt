@@ -34,8 +34,14 @@ pub(crate) fn list_edges(
 {
     let mut table = EdgeTable::new(alloc, keys);
     let mut rows = Rows::new(alloc);
-    add_paths(alloc, file, &mut table, &mut rows)?;
-    Ok((table, rows))
+    match add_paths(alloc, file, &mut table, &mut rows) {
+        Ok(()) => Ok((table, rows)),
+        Err(NoMemory) => {
+            drop(table);
+            drop(rows);
+            Err(NoMemory)
+        }
+    }
 }
 
 /// Adds the edges along the paths, and the steps of each, where there are no others.

@@ -245,6 +245,26 @@ impl Testing {
         }
         Ok(())
     }
+
+    /// Tests the lines before the failing one, or all, and answers the first that doesn't serve.
+    fn find(
+        &mut self,
+        alloc: Global,
+        file: &ResultFile,
+        table: &EdgeTable,
+        flips: &Flips,
+    ) -> Result<Option<usize>, NoMemory>
+        requires lines { HasFewLines file.now }
+        requires laid { IsLaidOut file.now table.now flips.now.implied flips.now.conflicting }
+        requires idle { First (GainsAt file.now) (length file.now.probes) self.old.failing }
+        requires batch { IsBegun (length flips.now.implied) self.old.batch }
+        requires round { self.old.batch.round ≡ 1 }
+        ensures { IfOk result (First (ServesAt file.now) (length file.now.probes)) }
+    {
+        let end = end_before(self.failing, file.probes.len());
+        self.test_all(alloc, file, table, flips, end)?;
+        Ok(self.failing)
+    }
 }
 
 /// The place of the first open line that doesn't serve, where `idle` is that of the first one that gains nothing.
@@ -265,7 +285,7 @@ pub(crate) fn find_useless(
         batch,
         failing: idle,
     };
-    let end = end_before(idle, file.probes.len());
-    testing.test_all(alloc, file, table, flips, end)?;
-    Ok(testing.failing)
+    let found = testing.find(alloc, file, table, flips);
+    drop(testing);
+    found
 }

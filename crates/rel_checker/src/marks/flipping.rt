@@ -1,7 +1,7 @@
 //! Which edges flip together. An edge that flips gets the order that its label does not have; a
 //! peering is read as if its lower number were the provider.
 
-ghost use Rattle.std.specs.Prelude.{◌≡◌, ◌<◌, ◌≤◌, ℕ, ◌∷◌, ◌++◌, [], List as Items, length, OnOk, IfOk};
+ghost use Rattle.std.specs.Prelude.{◌≡◌, ◌<◌, ◌≤◌, ℕ, ◌∷◌, ◌++◌, [], List as Items, length, replicate, OnOk, IfOk};
 ghost use Rattle.tor_arena.specs.Limits.{most_places};
 ghost use Rattle.relationships.specs.Graph.{edges};
 ghost use Rattle.result_rules.specs.File.{its_edges, its_paths};
@@ -273,13 +273,58 @@ impl Flips {
         requires steps { HaveCodedSteps (its_edges file.now) (its_paths file.now) steps.now }
         ensures { IfOk result (λ flips. IsBuiltFor file.now.edges (served_lines file.now) flips.implied flips.conflicting) }
     {
-        let count = file.edges.len();
-        let mut flips = Flips {
-            implied: Neighbours::new(alloc, count)?,
-            conflicting: Neighbours::new(alloc, count)?,
-        };
+        let mut flips = Flips::new(alloc, file.edges.len())?;
+        match flips.note_all(alloc, keys, file, table, labels, steps) {
+            Ok(()) => Ok(flips),
+            Err(NoMemory) => {
+                drop(flips);
+                Err(NoMemory)
+            }
+        }
+    }
+
+    /// Empty rows, for so many edges.
+    fn new(alloc: Global, count: usize) -> Result<Flips, NoMemory>
+        requires { count ≤ most_places }
+        ensures implied { IfOk result (λ flips. flips.implied ≡ replicate count []) }
+        ensures conflicting { IfOk result (λ flips. flips.conflicting ≡ replicate count []) }
+    {
+        let implied = Neighbours::new(alloc, count)?;
+        match Neighbours::new(alloc, count) {
+            Ok(conflicting) => Ok(Flips {
+                implied,
+                conflicting,
+            }),
+            Err(NoMemory) => {
+                drop(implied);
+                Err(NoMemory)
+            }
+        }
+    }
+
+    /// Notes what the kept paths and the givens imply and rule out, in empty rows.
+    fn note_all(
+        &mut self,
+        alloc: Global,
+        keys: Keys,
+        file: &ResultFile,
+        table: &EdgeTable,
+        labels: &Labels<'_>,
+        steps: &Rows<PathId, Step>,
+    ) -> Result<(), NoMemory>
+        requires labels { labels.now ≡ file.now.edges }
+        requires few { length file.now.edges ≤ most_places }
+        requires proper { IsProper (flipped_orders file.now.edges) }
+        requires table { table.now ≡ its_edges file.now }
+        requires whole { its_edges file.now ≡ edges (its_paths file.now) }
+        requires steps { HaveCodedSteps (its_edges file.now) (its_paths file.now) steps.now }
+        requires implied { self.old.implied ≡ replicate (length file.now.edges) [] }
+        requires conflicting { self.old.conflicting ≡ replicate (length file.now.edges) [] }
+        ensures { OnOk result (IsBuiltFor file.now.edges (served_lines file.now) self.new.implied self.new.conflicting) }
+    {
         let mut noted = Noted::new(alloc, keys, numbers_on(&file.paths))?;
-        flips.note_file(labels, &mut noted, file, table, steps)?;
-        Ok(flips)
+        let done = self.note_file(labels, &mut noted, file, table, steps);
+        drop(noted);
+        done
     }
 }

@@ -8,13 +8,13 @@ ghost use Rattle.result_rules.specs.declared.rule.Rule.{Rule};
 ghost use Rattle.rel_checker.specs.PathSteps.{HaveCodedSteps};
 ghost use Rattle.result_rules.specs.Rules.{IsMet};
 ghost use Rattle.rel_checker.specs.Steps.{FindsBreach};
-ghost use Rattle.rel_checker.specs.Serving.{Covers, IsLaidOut, IsShownBy, First, MarkedAt, is_borne};
+ghost use Rattle.rel_checker.specs.Serving.{Covers, IsLaidOut, IsShownBy, First, GainsAt, MarkedAt, is_borne};
 
 use crate::edges::labels::Labels;
 use crate::edges::step::Step;
 use crate::marks::consistency::find_useless;
 use crate::marks::flipping::Flips;
-use crate::marks::serving::cover_all;
+use crate::marks::serving::{Cover, cover_all};
 use crate::marks::showing::list_shown;
 use relationships::Label;
 use result_text::{EdgeLine, Mark, ResultFile};
@@ -79,7 +79,9 @@ pub(crate) fn find_unmarked(
     ensures { IfOk result (FindsBreach file.now Rule.MarksBorneOut) }
 {
     let flips = Flips::of_file(alloc, keys, file, table, labels, steps)?;
-    find_by_flips(alloc, file, table, &flips)
+    let found = find_by_flips(alloc, file, table, &flips);
+    drop(flips);
+    found
 }
 
 /// The same, by what flips with what.
@@ -94,10 +96,32 @@ fn find_by_flips(
     ensures { IfOk result (FindsBreach file.now Rule.MarksBorneOut) }
 {
     let cover = cover_all(alloc, file, table, flips)?;
+    let found = find_by_cover(alloc, file, table, flips, &cover);
+    drop(cover);
+    found
+}
+
+/// The same, by what the open lines cover.
+fn find_by_cover(
+    alloc: Global,
+    file: &ResultFile,
+    table: &EdgeTable,
+    flips: &Flips,
+    cover: &Cover,
+) -> Result<Option<usize>, NoMemory>
+    requires lines { HasFewLines file.now }
+    requires laid { IsLaidOut file.now table.now flips.now.implied flips.now.conflicting }
+    requires many { length cover.now.rounds.items ≡ length file.now.edges }
+    requires covered { Covers file.now (its_probes file.now) cover.now.rounds.items }
+    requires idle { First (GainsAt file.now) (length file.now.probes) cover.now.idle }
+    ensures { IfOk result (FindsBreach file.now Rule.MarksBorneOut) }
+{
     let shown = list_shown(alloc, file, table)?;
     if let Some(place) = find_unborne(file, &shown, &cover.rounds) {
+        drop(shown);
         return Ok(Some(place));
     }
+    drop(shown);
     match find_useless(alloc, file, table, flips, cover.idle)? {
         Some(place) => Ok(Some(file.edges.len() + place)),
         None => Ok(None),

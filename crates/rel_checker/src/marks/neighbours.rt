@@ -31,7 +31,10 @@ impl Neighbours {
         for _ in 0..count {
             match rows.push(List::new(alloc)) {
                 Ok(_) => {}
-                Err(_) => return Err(NoMemory),
+                Err(_) => {
+                    drop(rows);
+                    return Err(NoMemory);
+                }
             }
         }
         Ok(Neighbours { rows })
@@ -71,11 +74,27 @@ impl Neighbours {
         ensures { IfOk result (IsTurned self.now) }
     {
         let mut turned = Neighbours::new(alloc, self.len())?;
+        match self.turn_into(&mut turned) {
+            Ok(()) => Ok(turned),
+            Err(NoMemory) => {
+                drop(turned);
+                Err(NoMemory)
+            }
+        }
+    }
+
+    /// Puts the rows the other way round into as many empty ones.
+    fn turn_into(&self, turned: &mut Neighbours) -> Result<(), NoMemory>
+        requires few { length self.now ≤ most_places }
+        requires inside { EachHasRow self.now }
+        requires empty { turned.old ≡ replicate (length self.now) [] }
+        ensures { OnOk result (IsTurned self.now turned.new) }
+    {
         for place in 0..self.len() {
             let edge = EdgeId::from_place(place).unwrap();
             turned.add_to_each(self.of(edge), edge)?;
         }
-        Ok(turned)
+        Ok(())
     }
 
     /// How many rows there are. It takes no memory.

@@ -1,5 +1,5 @@
 //! The rules on walks.
-ghost use Rattle.std.specs.Prelude.{◌≡◌, ◌≤◌, ◌↔◌, IsTrue, Some, IfOk, length, take};
+ghost use Rattle.std.specs.Prelude.{◌≡◌, ◌≤◌, ◌↔◌, [], IsTrue, Some, IfOk, length, take};
 ghost use Rattle.relationships.specs.declared.walk.Walk.{Walk};
 ghost use Rattle.relationships.specs.GivenEvidence.{RefutesWith};
 ghost use Rattle.relationships.specs.declared.fate.Fate.TheVariants.{Lost};
@@ -60,9 +60,19 @@ pub(crate) fn find_unshown(
     ensures { IfOk result (FindsBreach file.now OrdersShown) }
 {
     let mut shown = Pairs::new(alloc, keys);
+    let found = first_unshown(file, &mut shown);
+    drop(shown);
+    found
+}
+
+/// The same, by the orders that the lines before show, where there are none yet.
+fn first_unshown(file: &ResultFile, shown: &mut Pairs) -> Result<Option<usize>, NoMemory>
+    requires { shown.old ≡ [] }
+    ensures { IfOk result (FindsBreach file.now OrdersShown) }
+{
     for place in 0..file.whys.len() {
         let walk = walk_at(&file.whys, place);
-        let Some((over, under)) = shown_by(file, &shown, &walk) else {
+        let Some((over, under)) = shown_by(file, shown, &walk) else {
             return Ok(Some(place));
         };
         shown.push(over, under)?;

@@ -11,7 +11,7 @@ pub returns-in-Some-2-clause-valid : goal.returns-in-Some-2-clause-valid
 returns-in-Some-2-clause-valid c = valid_if_settled c.args.file.now 4 c.in_ok-verdict-2.field-0 c.in-Some-2.verdict c.in_ok-verdict-2.ensures c.in-Some-2.is
 
 pub returns-clause-valid : goal.returns-clause-valid
-returns-clause-valid c = valid_if_ok c.args.file.now c.check_lines.result c.check_lines.ensures
+returns-clause-valid c = valid_if_ok c.args.file.now c.check_lines-verdict.result c.check_lines-verdict.ensures
 
 pub list_edges-requires : goal.list_edges-requires
 list_edges-requires c =

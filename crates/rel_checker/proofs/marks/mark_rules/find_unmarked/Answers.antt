@@ -11,8 +11,8 @@ of_file-requires-clause-proper c = proper c.args.file.now.edges (edges_apart c.a
 pub of_file-requires-clause-whole : goal.of_file-requires-clause-whole
 of_file-requires-clause-whole c = its_edges_are c.args.file.now c.requires.cleaned c.requires.listed
 
-pub find_by_flips-requires-clause-laid : goal.find_by_flips-requires-clause-laid
-find_by_flips-requires-clause-laid c =
+pub find_by_flips-found-requires-clause-laid : goal.find_by_flips-found-requires-clause-laid
+find_by_flips-found-requires-clause-laid c =
     let file = c.args.file.now in
     let flips = c.in_ok-flips.flips in
     rw c.requires.table (laid file c.requires.cleaned c.requires.listed c.requires.served flips.implied flips.conflicting c.in_ok-flips.ensures)

@@ -3,7 +3,7 @@ use Rattle.result_rules.specs.File.{its_givens, its_kept}
 use Rattle.result_rules.specs.declared.rule.Rule.TheVariants.{OrdersShown}
 use Rattle.rel_checker.proofs.Passing.{asks_more}
 use Rattle.rel_checker.proofs.ShownOrders.{orders_more, asks_shown}
-use Rattle.rel_checker.proofs.walks.walk_rules.find_unshown.Goals as goal
+use Rattle.rel_checker.proofs.walks.walk_rules.first_unshown.Goals as goal
 
 pub returns-in_default : goal.returns-in_default
 returns-in_default c =

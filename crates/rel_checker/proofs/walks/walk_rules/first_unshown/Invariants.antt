@@ -2,7 +2,7 @@ use Rattle.std.proofs.Common.{◌≡◌, ℕ, ◌<◌, take}
 use Rattle.result_rules.specs.File.{shown_orders}
 use Rattle.result_rules.specs.declared.rule.Rule.TheVariants.{OrdersShown}
 use Rattle.result_rules.specs.Rules.{Asks}
-use Rattle.rel_checker.proofs.walks.walk_rules.find_unshown.Given as goal
+use Rattle.rel_checker.proofs.walks.walk_rules.first_unshown.Given as goal
 
 -- the lines before this one meet the rule, and the set has the orders that they show
 abbrev pub invariant-loop-place : goal.invariant-loop-place

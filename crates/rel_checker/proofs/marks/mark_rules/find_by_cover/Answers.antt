@@ -1,7 +1,7 @@
 use Rattle.std.proofs.Common.{◌≡◌, ◌+◌, ◌^◌, length, ap, subst, refl, arith}
 use Rattle.rel_checker.specs.Serving.{First, ServesAt}
 use Rattle.rel_checker.proofs.Borne.{none_breaks, edge_breaks, open_breaks}
-use Rattle.rel_checker.proofs.marks.mark_rules.find_by_flips.Goals as goal
+use Rattle.rel_checker.proofs.marks.mark_rules.find_by_cover.Goals as goal
 
 pub returns-in-Some : goal.returns-in-Some
 returns-in-Some c = edge_breaks c.args.file.now c.in-Some.place c.in-Some.ensures
@@ -19,7 +19,7 @@ returns-in-Some-2 c =
     let opens = subst (First (ServesAt file) (length file.probes)) c.in-Some-2.is c.in_ok-place.ensures in
     open_breaks file (c.len.result + c.in-Some-2.place) c.in-Some-2.place (ap (λ n. n + c.in-Some-2.place) c.len.ensures) c.in_default.ensures opens
 
-pub returns : goal.returns
-returns c =
+pub returns-in-None : goal.returns-in-None
+returns-in-None c =
     let file = c.args.file.now in
     none_breaks file c.in_default.ensures (subst (First (ServesAt file) (length file.probes)) c.in-None.is c.in_ok-place.ensures)

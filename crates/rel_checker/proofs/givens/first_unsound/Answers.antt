@@ -8,7 +8,7 @@ use Rattle.result_rules.specs.File.{its_givens}
 use Rattle.rel_checker.specs.GivenHeads.{IsNewGivenAt}
 use Rattle.rel_checker.proofs.GivenFirsts.{was_there, was_not_there, not_new, is_new, known_more}
 use Rattle.rel_checker.proofs.Lines.{before-more}
-use Rattle.rel_checker.proofs.givens.find_unsound_given.Goals as goal
+use Rattle.rel_checker.proofs.givens.first_unsound.Goals as goal
 
 abbrev no_given : Given
 no_given = record { over = 0; under = 0 }

@@ -1,11 +1,11 @@
-use Rattle.std.proofs.Common.{rules, ◌≡◌, Some, slice_get, get_or, subst, arith}
+use Rattle.std.proofs.Common.{rules, ◌≡◌, Some, slice_get, get_or, length, refl, subst, arith}
 use Rattle.std.proofs.lemmas.List.Elements.{Contains-get_or}
 use Rattle.rel_checker.specs.Neighbours.{HasBack}
 use Rattle.rel_checker.proofs.TurnedRows.{turned-none, turned-more, turned-done}
-use Rattle.rel_checker.proofs.marks.neighbours.Neighbours.turned.Goals as goal
+use Rattle.rel_checker.proofs.marks.neighbours.Neighbours.turn_into.Goals as goal
 
 pub loop-place-init : goal.loop-place-init
-loop-place-init c = turned-none c.args.self.now c.in_ok-turned.turned c.len.result c.len.ensures c.in_ok-turned.ensures
+loop-place-init c = turned-none c.args.self.now c.args.turned.now (length c.args.self.now) refl c.requires.empty
 
 pub add_to_each-requires : goal.add_to_each-requires
 add_to_each-requires c = λ k d lt.

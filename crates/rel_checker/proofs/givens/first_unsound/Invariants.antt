@@ -1,7 +1,7 @@
 use Rattle.std.proofs.Common.{◌≡◌, ℕ, ◌<◌, take}
 use Rattle.result_rules.specs.File.{its_givens}
 use Rattle.rel_checker.specs.GivenHeads.{IsNewGivenAt, edges_given}
-use Rattle.rel_checker.proofs.givens.find_unsound_given.Given as goal
+use Rattle.rel_checker.proofs.givens.first_unsound.Given as goal
 
 -- the givens before this one are new, and the table has their edges
 abbrev pub invariant-loop-place : goal.invariant-loop-place
