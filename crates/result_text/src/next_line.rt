@@ -284,7 +284,8 @@ fn lost_copied(
     scratch: &mut Scratch,
     bytes: &[u8],
 ) -> Result<(u64, List<u8>), LineError>
-    ensures { ReadsAs (λ x. (lost_from (x.0, (scratch.new.path, walk_with scratch.new.ases scratch.new.links)), x.1)) result (lost_at version bytes.now) }
+    ensures { ReadsAs (λ x. (lost_from (x.0, (scratch.new.path, walk_with scratch.new.ases scratch.new.links)), x.1)) result
+        (lost_at version bytes.now) }
 {
     let Scratch { path, ases, links } = scratch;
     match read_lost(version, path, ases, links, bytes) {

@@ -226,8 +226,8 @@ impl Clauses {
         self.cut_to(mark);
     }
 
-    /// Gives up the memory by which `first_new` and `add_path` find a triple at once: from now on they look for it along the arcs that leave
-    /// its first literal. It takes no memory.
+    /// Gives up the memory by which `first_new` and `add_path` find a triple at once: from now on they look for it along the arcs that
+    /// leave its first literal. It takes no memory.
     pub fn give_up_numbers(&mut self)
         ensures { self.new ≡ self.old }
     {
