@@ -58,6 +58,9 @@ def take_kept(kept, crate):
 def make(kept, crate):
     """Has a crate's library there, and answers whether it is."""
     if crate.is_built() or kept and take_kept(kept, crate):
+        if kept:
+            # what was kept of the crates above goes by the sum of this library
+            kept.is_built(crate)
         return True
     crate, begun = copy.copy(crate), time.time()
     os.makedirs(f'{crate.folder}/out', exist_ok=True)
