@@ -1,6 +1,6 @@
 -- Values of graphs, clauses, numbers, preferences, marks and ties that were worked by hand, by the definitions that public calls promise.
-use Rattle.std.proofs.Common.{◌≡◌, ℕ, zero, suc, ◌+◌, ◌==◌, ◌&&◌, ◌⊎◌, true, false, Bool, not, List, [], ◌∷◌, ◌++◌, Some, None, All, length, map, take, refl, sym, subst, lit<, inl, inr, arith}
-use Rattle.std.specs.Prelude.{slice_set, pos, negsuc, if◌then◌else◌, count_by, sum_by}
+use Rattle.std.proofs.Common.{◌≡◌, ℕ, ◌+◌, ◌==◌, ◌&&◌, ◌⊎◌, true, false, Bool, List, [], ◌∷◌, ◌++◌, Some, None, All, length, map, take, refl, sym, subst, lit<, inl, inr, arith}
+use Rattle.std.specs.Prelude.{slice_set, pos, negsuc, if◌then◌else◌}
 use Rattle.std.specs.List.{list_any, position_or_len}
 use Rattle.std.proofs.lemmas.Bool.{false≢true}
 use Rattle.std.proofs.lemmas.Option.{same_Some}
@@ -238,42 +238,6 @@ links_there_and_back = refl
 links_of_four : links_of ((30 ∷ 40 ∷ 20 ∷ 10 ∷ 50 ∷ 60 ∷ []) ∷ (10 ∷ 20 ∷ 30 ∷ 40 ∷ []) ∷ (50 ∷ 60 ∷ 10 ∷ 20 ∷ []) ∷ (60 ∷ 10 ∷ []) ∷ [])
     (0 ∷ 1 ∷ 3 ∷ []) ≡ link 1 2 ∷ link 1 3 ∷ link 1 4 ∷ link 1 5 ∷ link 2 2 ∷ link 2 3 ∷ []
 links_of_four = refl
-
--- ---- numbers that are added once, in the order in which they come
-
-abbrev from : ℕ → ℕ → List ℕ
-from n zero = []
-from n (suc k) = n ∷ from (n + 1) k
-
-abbrev has : List ℕ → ℕ → Bool
-has numbers n = list_any (λ m. m == n) numbers
-
--- how many of some distinct numbers are new to others
-abbrev new_to : List ℕ → List ℕ → ℕ
-new_to old numbers = count_by (λ n. not (has old n)) numbers
-
--- a hundred from 2 on, a hundred from 52 on behind these, and the same where all were let go
-new_by_turns : new_to [] (from 2 100) ∷ new_to (from 2 100) (from 52 100) ∷ new_to [] (from 52 100) ∷ [] ≡ 100 ∷ 50 ∷ 100 ∷ []
-new_by_turns = refl
-
-held_before : map (has []) (2 ∷ 3 ∷ 101 ∷ 102 ∷ []) ≡ false ∷ false ∷ false ∷ false ∷ []
-held_before = refl
-
-held_then : map (has (from 2 100)) (2 ∷ 3 ∷ 101 ∷ 102 ∷ []) ≡ true ∷ true ∷ true ∷ false ∷ []
-held_then = refl
-
-held_of_first : map (has (take 1 (from 2 100))) (2 ∷ 3 ∷ 101 ∷ 102 ∷ []) ≡ true ∷ false ∷ false ∷ false ∷ []
-held_of_first = refl
-
--- where a number stands, or how many there are where it doesn't
-abbrev place_in : List ℕ → ℕ → ℕ
-place_in numbers n = position_or_len (λ m. m == n) numbers
-
-places_of_numbers : sum_by (place_in (from 2 100)) (from 2 100) ∷ sum_by (place_in (from 2 150)) (from 52 100) ∷ [] ≡ 4950 ∷ 9950 ∷ []
-places_of_numbers = refl
-
-some_places : map (place_in (from 2 150)) (2 ∷ 151 ∷ 152 ∷ []) ≡ 0 ∷ 149 ∷ 150 ∷ []
-some_places = refl
 
 -- ---- what six paths of a dump as it might be prefer, of which the last is lost
 

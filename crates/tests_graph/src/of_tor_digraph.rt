@@ -1,4 +1,4 @@
-//! Tests of digraphs. What is reached in them, and their strong components, stand in `proofs/Vectors.antt`.
+//! Tests of digraphs. What is reached in them stands in `proofs/Vectors.antt`, and strong components in those of `tor_components`.
 ghost use Rattle.std.specs.Prelude.{◌≡◌, ◌<◌, ℕ, List, IfOk, OnOk};
 ghost use Rattle.tor_digraph.specs.Reached.{IsFlooded};
 

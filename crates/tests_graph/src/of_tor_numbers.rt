@@ -1,10 +1,93 @@
-//! A test of a table of numbers that grows. Smaller ones, and numbers of edges, stand in `proofs/Vectors.antt`.
+//! Tests of tables of numbers. Numbers of edges stand in `proofs/Vectors.antt`.
 ghost use Rattle.std.specs.Prelude.{◌≤◌};
 
 use std::alloc::Global;
 use std::test::Fail;
 use tor_arena::Keys;
-use tor_numbers::PlaceTable;
+use tor_numbers::{NumberSet, PlaceTable};
+
+/// Adds a hundred numbers in a row, and answers how many of them were new.
+fn add_hundred(set: &mut NumberSet, first: u64) -> Result<usize, Fail>
+    requires { 2 ≤ first }
+{
+    let mut count: usize = 0;
+    for step in 0..100 {
+        if set.insert(first.saturating_add(step))? {
+            count = count.saturating_add(1);
+        }
+    }
+    Ok(count)
+}
+
+/// How many of a hundred numbers from 2 on are new, of a hundred from 52 on behind these, and of the same when all were let go.
+fn counts_of_new(alloc: Global, keys: Keys) -> Result<[usize; 3], Fail> {
+    let mut set = NumberSet::new(alloc, keys);
+    let first = add_hundred(&mut set, 2)?;
+    let second = add_hundred(&mut set, 52)?;
+    set.cut_to(0);
+    let third = add_hundred(&mut set, 52)?;
+    Ok([first, second, third])
+}
+
+#[test]
+fn numbers_are_added_once_and_let_go(rt: HostRuntime) -> Result<(), Fail> {
+    assert_eq!(rt; counts_of_new(rt.alloc(), Keys::new(&rt))?, [100, 50, 100]);
+    Ok(())
+}
+
+/// Whether a set holds 2, 3, 101 and 102.
+fn held(set: &NumberSet) -> [bool; 4] {
+    [set.holds(2), set.holds(3), set.holds(101), set.holds(102)]
+}
+
+/// How many of a hundred numbers from 2 on are new to no numbers, and which are held before, then, and when all but the first were let go.
+fn held_by_turns(alloc: Global, keys: Keys) -> Result<(usize, [[bool; 4]; 3]), Fail> {
+    let mut set = NumberSet::new(alloc, keys);
+    let before = held(&set);
+    let added = add_hundred(&mut set, 2)?;
+    let then = held(&set);
+    if set.holds(2) {
+        set.cut_to(1);
+    }
+    Ok((added, [before, then, held(&set)]))
+}
+
+#[test]
+fn a_number_is_there_until_it_is_let_go(rt: HostRuntime) -> Result<(), Fail> {
+    let (added, held) = held_by_turns(rt.alloc(), Keys::new(&rt))?;
+    assert_eq!(rt; added, 100);
+    assert_eq!(rt;
+        held,
+        [
+            [false, false, false, false],
+            [true, true, true, false],
+            [true, false, false, false]
+        ]
+    );
+    Ok(())
+}
+
+/// Adds a hundred numbers in a row, and answers the sum of their places.
+fn places_of_hundred(table: &mut PlaceTable, first: u64) -> Result<usize, Fail>
+    requires { 2 ≤ first }
+{
+    let mut sum: usize = 0;
+    for step in 0..100 {
+        sum = sum.saturating_add(table.add(first.saturating_add(step))?);
+    }
+    Ok(sum)
+}
+
+#[test]
+fn numbers_keep_their_places(rt: HostRuntime) -> Result<(), Fail> {
+    let mut table = PlaceTable::new(rt.alloc(), Keys::new(&rt));
+    for (first, sum) in [(2, 4950), (52, 9950)] {
+        assert_eq!(rt; places_of_hundred(&mut table, first)?, sum);
+    }
+    let places = [table.place(2), table.place(151), table.place(152)];
+    assert_eq!(rt; places, [Some(0), Some(149), None]);
+    Ok(())
+}
 
 /// How many numbers a table is filled with, so that its slots are made anew ten times.
 const MANY: u64 = 5000;

@@ -1,16 +1,57 @@
 //! Which edges stand next to each other on kept paths and on returns of givens.
-ghost use Rattle.std.specs.Prelude.{◌≡◌, ◌<◌, ◌≤◌, [], All, Some, length, replicate, slice_get, OnOk, IfOk};
+ghost use Rattle.std.specs.Prelude.{◌≡◌, ◌<◌, ◌≤◌, ◌++◌, ◌∷◌, [], All, Some, length, replicate, slice_get, OnOk, OnErr, IfOk};
 ghost use Rattle.tor_arena.specs.Limits.{most_places};
 ghost use Rattle.rel_checker.specs.Neighbours.{with_next, EachHasRow, HasBack, IsTurned};
 
 use std::alloc::Global;
 use std::marker::Model;
-use tor_arena::{Arena, EdgeId, Index, List, NoMemory};
+use tor_arena::{Arena, EdgeId, Index, NoMemory};
+
+/// A row of edges. It grows as it needs: there are as many rows as edges, so that none of them can be given the addresses of a large one.
+#[derive(Drop)]
+struct Row {
+    edges: Vec<EdgeId>,
+}
+
+impl Model for Row {
+    ghost use Rattle.std.specs.Prelude.{List, ℕ};
+
+    ghost Value = { List ℕ };
+
+    ghost view = { λ row. row.edges.items };
+}
+
+impl Row {
+    /// No edge. It takes no memory.
+    fn new(alloc: Global) -> Row
+        ensures { result ≡ [] }
+    {
+        Row {
+            edges: Vec::new(alloc),
+        }
+    }
+
+    /// Puts an edge behind the others.
+    fn push(&mut self, edge: EdgeId) -> Result<(), NoMemory>
+        ensures ok { OnOk result (self.new ≡ self.old ++ edge ∷ []) }
+        ensures err { OnErr result (self.new ≡ self.old) }
+    {
+        self.edges.push(edge)?;
+        Ok(())
+    }
+
+    /// The edges in order. It takes no memory.
+    fn as_slice(&self) -> &[EdgeId]
+        ensures { result.now ≡ self.now }
+    {
+        self.edges.as_slice()
+    }
+}
 
 /// For each edge a row of other edges.
 #[derive(Drop)]
 pub(crate) struct Neighbours {
-    rows: Arena<EdgeId, List<EdgeId>>,
+    rows: Arena<EdgeId, Row>,
 }
 
 impl Model for Neighbours {
@@ -29,7 +70,7 @@ impl Neighbours {
     {
         let mut rows = Arena::new(alloc);
         for _ in 0..count {
-            match rows.push(List::new(alloc)) {
+            match rows.push(Row::new(alloc)) {
                 Ok(_) => {}
                 Err(_) => {
                     drop(rows);
