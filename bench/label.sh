@@ -33,7 +33,7 @@ ghost use Rattle.tor_clauses.specs.Formulas.{FitsGraph};
 use anyhow::Result;
 use as_graph::{AsGraph, Labels, build};
 use forced_edges::{Marks, forced};
-use path_clean::{MAX_PATHS, PathTable, is_clean_path};
+use path_clean::{PathTable, is_clean_path};
 use path_select::{Selection, select};
 use relationships::{Fates, Mark, Walks};
 use result_text::{EdgeLine, PathLines, ResultFile, parse, print};
@@ -41,7 +41,7 @@ use std::alloc::Global;
 use std::env;
 use std::fs;
 use std::time::CpuClock;
-use tor_arena::{Index, Keys, List, NoMemory, PathId, WalkId};
+use tor_arena::{Index, Keys, List, MAX_PATHS, NoMemory, PathId, WalkId};
 use tor_clauses::Clauses;
 
 /// The processor time so far, in microseconds.
