@@ -3,6 +3,7 @@
 
 mod check_settings;
 mod command;
+mod entries;
 mod grade_command;
 mod grade_settings;
 mod laws;

@@ -1,0 +1,75 @@
+//! Commands that are made of tables.
+ghost use Rattle.std.specs.Prelude.{◌≡◌, IfOk, false, map};
+ghost use Rattle.clap.specs.Words.{app_of, rule_of};
+ghost use Rattle.tor_words.specs.Rules.{rule_for, with_rules, command_of};
+
+use clap::builder::ValueParser;
+use clap::{Arg, ArgAction, Command};
+use std::alloc::{AllocError, Global};
+
+/// An option or an operand of a command: its name, the bounds of its number, and what help says of it.
+pub(crate) enum Entry {
+    /// An option without a value.
+    Flag(&'static str, &'static str),
+    /// An option with a value.
+    Choice(&'static str, &'static str),
+    /// An option whose value is a number from the one to the other.
+    Number(&'static str, u64, u64, &'static str),
+    /// A word that has to be there.
+    Needed(&'static str, &'static str),
+    /// The last words, of which there may be any number.
+    Rest(&'static str, &'static str),
+}
+
+// What clap has to know of an entry.
+fn arg_for<'a>(alloc: Global, entry: &Entry) -> Arg<'a>
+    ensures rule { rule_of result ≡ rule_for entry.now }
+    ensures local { result.global ≡ false }
+{
+    match *entry {
+        Entry::Flag(name, help) => Arg::new(alloc, name)
+            .long(name)
+            .action(ArgAction::SetTrue)
+            .help(help),
+        Entry::Choice(name, help) => Arg::new(alloc, name)
+            .long(name)
+            .action(ArgAction::Set)
+            .help(help),
+        Entry::Number(name, low, high, help) => Arg::new(alloc, name)
+            .long(name)
+            .action(ArgAction::Set)
+            .help(help)
+            .value_parser(ValueParser::Unsigned(low, high)),
+        Entry::Needed(name, help) => Arg::new(alloc, name).required(true).help(help),
+        Entry::Rest(name, help) => Arg::new(alloc, name).num_args(1..).help(help),
+    }
+}
+
+// The command with these entries, in their order, behind those that it has.
+fn with_entries<'a>(
+    alloc: Global,
+    command: Command<'a>,
+    entries: &[Entry],
+) -> Result<Command<'a>, AllocError>
+    ensures { IfOk result (λ c. app_of c ≡ with_rules (app_of command.entry) (map rule_for entries.now)) }
+{
+    match entries {
+        [] => Ok(command),
+        [entry, rest @ ..] => match command.arg(arg_for(alloc, entry)) {
+            Ok(command) => with_entries(alloc, command, rest),
+            Err(error) => Err(error),
+        },
+    }
+}
+
+/// The command of this name with these entries, in their order.
+pub(crate) fn command_of<'a>(
+    alloc: Global,
+    name: &'a str,
+    entries: &[Entry],
+) -> Result<Command<'a>, AllocError>
+    ensures { IfOk result (λ c. app_of c ≡ command_of name.now (map rule_for entries.now)) }
+{
+    let command = Command::new(alloc, name).no_binary_name(true);
+    with_entries(alloc, command, entries)
+}
