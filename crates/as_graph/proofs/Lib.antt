@@ -1,4 +1,5 @@
 mod Vectors
+pub mod AlongLemmas
 pub mod BuildLemmas
 pub mod CountLemmas
 pub mod Distinct

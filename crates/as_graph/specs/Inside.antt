@@ -12,6 +12,7 @@ use Rattle.relationships.specs.Givens.{return_of}
 use Rattle.relationships.specs.Graph.{Edge, edge_of, is_same, edges}
 use Rattle.as_graph.specs.declared.graph_edges.Ends.{Ends}
 use Rattle.as_graph.specs.declared.step.Step.{Step}
+use Rattle.as_graph.specs.EdgeSteps.{place_of_step}
 use Rattle.as_graph.specs.Limits.{most_paths, most_numbers, most_triples}
 use Rattle.as_graph.specs.Paths.{triple_count}
 use Rattle.as_graph.specs.Steps.{HaveSteps}
@@ -66,6 +67,19 @@ next_as es step = as_at (slice_index_or es step.edge (0, 0)) (opposite step.left
 abbrev pub path_by : List Edge → List Step → List ℕ
 path_by es [] = []
 path_by es (step ∷ steps) = left_as es step ∷ map (next_as es) (step ∷ steps)
+
+-- for each edge the AS that a step from its lower end reaches, and the one that a step from its higher end does
+abbrev pub reached_by : List Edge → List ℕ
+reached_by [] = []
+reached_by (e ∷ es) = e.1 ∷ e.0 ∷ reached_by es
+
+-- the AS that a step reaches, and the path of some steps, where these are the ASes that a step of each place reaches
+abbrev pub as_along : List ℕ → Step → ℕ
+as_along ases step = slice_index_or ases (place_of_step step) 0
+
+abbrev pub path_along : List ℕ → List Step → List ℕ
+path_along ases [] = []
+path_along ases (step ∷ steps) = as_along ases (record { edge = step.edge; left = opposite step.left }) ∷ map (as_along ases) (step ∷ steps)
 
 -- ---- a graph that is built path by path
 

@@ -151,9 +151,9 @@ fn steps_on(paths: &Rows<PathId, u32>) -> usize {
     let mut sum = 0usize;
     for place in 0..paths.len() {
         let path = PathId::from_place(place).unwrap();
-        sum = sum.saturating_add(paths.row(path).len().saturating_sub(1));
+        sum = sum.wrapping_add(paths.row(path).len());
     }
-    sum
+    sum.saturating_sub(paths.len())
 }
 
 /// Adds a row, where there are not too many.

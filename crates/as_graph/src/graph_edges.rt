@@ -5,7 +5,7 @@ ghost use Rattle.std.specs.List.{list_any};
 ghost use Rattle.tor_arena.specs.Limits.{max_numbers};
 ghost use Rattle.relationships.specs.Graph.{edge_of, is_same};
 ghost use Rattle.tor_numbers.specs.Edges.{edge_at, with_edge};
-ghost use Rattle.as_graph.specs.Inside.{is_incident, AreEndsOf, HasMoreAses, CountsOneMore};
+ghost use Rattle.as_graph.specs.Inside.{is_incident, reached_by, AreEndsOf, HasMoreAses, CountsOneMore};
 
 use std::alloc::Global;
 use std::marker::Model;
@@ -81,7 +81,7 @@ impl GraphEdges {
         ensures below { IfSome result (λ id. id < max_numbers) }
     {
         let place = self.table.place(a, b)?;
-        EdgeId::from_place(place)
+        Some(EdgeId::from_place(place).unwrap())
     }
 
     /// How many of the edges have an end. It takes no memory.
@@ -107,6 +107,21 @@ impl GraphEdges {
         )
     }
 
+    /// The AS that a step of each place reaches: for each edge its higher end and its lower. The only error is that memory ran out.
+    pub fn reached(&self, alloc: Global) -> Result<Vec<u32>, NoMemory>
+        ensures { IfOk result (λ ases. ases.items ≡ reached_by self.now) }
+    {
+        let count = self.table.len();
+        let mut ases = Vec::new(alloc);
+        reserve(&mut ases, count * 2)?;
+        for place in 0..count {
+            let (low, high) = self.table.edge(place);
+            ases.push_reserved(high);
+            ases.push_reserved(low);
+        }
+        Ok(ases)
+    }
+
     /// The edge of two ASes, which goes last if it is new. For want of memory nothing changes.
     pub fn add(&mut self, a: u32, b: u32) -> Result<EdgeId, NoMemory>
         requires apart { a ≢ b }
@@ -117,9 +132,24 @@ impl GraphEdges {
         ensures err { OnErr result (self.new ≡ self.old) }
     {
         // most edges are there, and a short way to them lets the processor go on to the next
-        if let Some(id) = self.find(a, b) {
-            return Ok(id);
+        match self.find(a, b) {
+            Some(id) => Ok(id),
+            None => self.add_new(a, b),
         }
+    }
+
+    /// Adds the edge of two ASes, which is not there. For want of memory nothing changes.
+    #[cold]
+    #[inline(never)]
+    fn add_new(&mut self, a: u32, b: u32) -> Result<EdgeId, NoMemory>
+        requires apart { a ≢ b }
+        requires room { length self.old < max_numbers }
+        requires missing { IsFalse (list_any (is_same (edge_of a b)) self.old) }
+        ensures ok { OnOk result (self.new ≡ with_edge self.old (edge_of a b)) }
+        ensures edge { IfOk result (λ id. slice_get self.new id ≡ Some (edge_of a b)) }
+        ensures below { IfOk result (λ id. id < max_numbers) }
+        ensures err { OnErr result (self.new ≡ self.old) }
+    {
         reserve(&mut self.ends, 1)?;
         let ends = add_ends(&mut self.ases, &mut self.counts, a.min(b), a.max(b))?;
         let added = self.table.add(a, b)?;

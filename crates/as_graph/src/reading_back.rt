@@ -1,49 +1,35 @@
 //! The paths of a graph, read back from their steps.
-ghost use Rattle.std.specs.Prelude.{◌≡◌, ◌+◌, ◌<◌, ◌≤◌, [], All, length, take, slice_index_or, OnOk, IfOk};
-ghost use Rattle.relationships.specs.Relationship.{opposite};
-ghost use Rattle.as_graph.specs.Inside.{as_at, path_by};
+ghost use Rattle.std.specs.Prelude.{◌≡◌, ◌+◌, ◌*◌, ◌<◌, ◌≤◌, [], All, length, take, OnOk, IfOk};
+ghost use Rattle.relationships.specs.Graph.{edges};
+ghost use Rattle.as_graph.specs.Inside.{reached_by, path_along};
 
 use crate::building::add_row;
 use crate::graph::AsGraph;
-use crate::graph_edges::GraphEdges;
 use crate::step::Step;
-use relationships::End;
 use std::alloc::Global;
-use tor_arena::{EdgeId, Index, List, NoMemory, PathId, Rows};
+use tor_arena::{Index, NoMemory, PathId, Rows};
 
-/// The AS at an end of an edge.
-fn as_at(edges: &GraphEdges, edge: EdgeId, end: End) -> u32
-    requires { edge < length edges.now }
-    ensures { result ≡ as_at (slice_index_or edges.now edge (0, 0)) end }
-{
-    let (low, high) = edges.get(edge);
-    match end {
-        End::Low => low,
-        End::High => high,
-    }
-}
-
-/// The end of an edge that a step from this end reaches.
-fn end_reached(left: End) -> End
-    ensures { result ≡ opposite left }
-{
-    match left {
-        End::Low => End::High,
-        End::High => End::Low,
-    }
-}
-
-/// Adds the ASes along some steps, at least one, where there are no others: the one from which the first step goes, and for each step
-/// the one that it reaches.
-fn add_ases(edges: &GraphEdges, steps: &[Step], ases: &mut List<u32>) -> Result<(), NoMemory>
+/// Puts the ASes along some steps, at least one, into the first places of a buffer that has room for them, where the AS is known that a
+/// step of each place reaches: the one from which the first step goes, and for each step the one that it reaches.
+fn put_ases(reached: &[u32], steps: &[Step], ases: &mut Vec<u32>)
     requires some { 0 < length steps.now }
-    requires inside { All (λ step. step.edge < length edges.now) steps.now }
-    requires none { ases.old ≡ [] }
-    ensures { OnOk result (ases.new ≡ path_by edges.now steps.now) }
+    requires inside { All (λ step. step.edge * 2 + 1 < length reached.now) steps.now }
+    requires room { length steps.now < length ases.old.items }
+    ensures length { length ases.new.items ≡ length ases.old.items }
+    ensures ases { take (length steps.now + 1) ases.new.items ≡ path_along reached.now steps.now }
 {
-    ases.push(as_at(edges, steps[0].edge(), steps[0].left()))?;
-    for step in steps {
-        ases.push(as_at(edges, step.edge(), end_reached(step.left())))?;
+    ases[0] = reached[steps[0].back().place()];
+    for at in 0..steps.len() {
+        ases[at + 1] = reached[steps[at].place()];
+    }
+}
+
+/// Makes a buffer so long at least.
+fn widen(ases: &mut Vec<u32>, least: usize) -> Result<(), NoMemory>
+    ensures { OnOk result (least ≤ length ases.new.items) }
+{
+    if ases.len() < least {
+        ases.resize(least, 0)?;
     }
     Ok(())
 }
@@ -67,10 +53,10 @@ impl AsGraph {
         requires { count ≤ length self.now }
     {
         self.facts();
-        let mut sum = 0usize;
+        let mut sum = count;
         for place in 0..count {
             let path = PathId::from_place(place).unwrap();
-            sum = sum.saturating_add(self.steps(path).len()).saturating_add(1);
+            sum = sum.wrapping_add(self.steps(path).len());
         }
         sum
     }
@@ -86,13 +72,32 @@ impl AsGraph {
         requires none { rows.old ≡ [] }
         ensures { OnOk result (rows.new ≡ take count self.now) }
     {
+        let reached = self.edges.reached(alloc)?;
+        self.add_paths_along(alloc, reached.as_slice(), count, rows)
+    }
+
+    /// Adds the first paths, so many, where there are no others, and where the AS is known that a step of each place reaches.
+    fn add_paths_along(
+        &self,
+        alloc: Global,
+        reached: &[u32],
+        count: usize,
+        rows: &mut Rows<PathId, u32>,
+    ) -> Result<(), NoMemory>
+        requires reached { reached.now ≡ reached_by (edges self.now) }
+        requires there { count ≤ length self.now }
+        requires none { rows.old ≡ [] }
+        ensures { OnOk result (rows.new ≡ take count self.now) }
+    {
         self.facts();
-        let mut ases = List::new(alloc);
+        let mut ases = Vec::new(alloc);
         for place in 0..count {
             let path = PathId::from_place(place).unwrap();
-            ases.clear();
-            add_ases(&self.edges, self.steps(path), &mut ases)?;
-            add_row(rows, ases.as_slice())?;
+            let steps = self.steps(path);
+            let numbers = steps.len() + 1;
+            widen(&mut ases, numbers)?;
+            put_ases(reached, steps, &mut ases);
+            add_row(rows, &ases[..numbers])?;
         }
         Ok(())
     }

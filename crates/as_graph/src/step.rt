@@ -1,6 +1,7 @@
 //! Steps of paths.
 ghost use Rattle.std.specs.Prelude.{◌≡◌, ◌*◌, ◌<◌};
 ghost use Rattle.tor_arena.specs.Limits.{max_numbers};
+ghost use Rattle.relationships.specs.Relationship.{opposite};
 ghost use Rattle.as_graph.specs.EdgeSteps.{place_of_step};
 
 use relationships::End;
@@ -61,6 +62,18 @@ impl Step {
         } else {
             End::High
         }
+    }
+
+    /// The step along the same edge the other way. It takes no memory.
+    pub(crate) fn back(self) -> Step
+        ensures edge { result.edge ≡ self.edge }
+        ensures left { result.left ≡ opposite self.left }
+    {
+        let left = match self.left() {
+            End::Low => End::High,
+            End::High => End::Low,
+        };
+        Step::new(self.edge(), left)
     }
 
     /// The place of the step among the two along each edge: twice the place of the edge, and one more from the higher number. It takes

@@ -3,7 +3,7 @@ use Rattle.std.specs.List.{list_any}
 use Rattle.relationships.specs.Graph.{edge_of, is_same}
 use Rattle.as_graph.specs.Inside.{AreGraphEdges}
 use Rattle.as_graph.proofs.EdgeLemmas.{counted_few, counted_there, counted_after, AreGraphEdges-more, AreGraphEdges-added}
-use Rattle.as_graph.proofs.graph_edges.GraphEdges.add.Goals as goal
+use Rattle.as_graph.proofs.graph_edges.GraphEdges.add_new.Goals as goal
 
 pub invariant_of-self-in_err-ends : goal.invariant_of-self-in_err-ends
 invariant_of-self-in_err-ends c =
