@@ -1,4 +1,5 @@
 mod DigitsRead
+pub mod Joins
 mod Padding
 pub mod Readers
 mod Words

@@ -1,3 +1,4 @@
 pub mod Fields
+pub mod Joined
 pub mod Padded
 pub mod Reading

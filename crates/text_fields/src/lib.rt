@@ -4,5 +4,5 @@
 mod numbers;
 mod reading;
 
-pub use numbers::{put_number, write_number};
+pub use numbers::{put_number, write_joined, write_number, write_row};
 pub use reading::{after, after_byte, u32_before, u32_of, u64_before};

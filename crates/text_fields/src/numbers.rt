@@ -1,7 +1,9 @@
 //! Numbers as text.
 
-ghost use Rattle.std.specs.Prelude.{◌≡◌, ◌+◌, ◌<◌, ◌≤◌, ◌++◌, length, take, OnOk};
+ghost use Rattle.std.specs.Prelude.{◌≡◌, ◌+◌, ◌*◌, ◌<◌, ◌≤◌, ◌++◌, ◌∷◌, [], length, map, take, OnOk};
 ghost use Rattle.std.specs.Fmt.{decimal};
+ghost use Rattle.std.specs.List.{join_with_byte};
+ghost use Rattle.text_fields.specs.Joined.{row_text};
 ghost use Rattle.text_fields.specs.Padded.{two_digits, four_digits, eight_digits};
 
 use tor_arena::{List, NoMemory};
@@ -134,6 +136,47 @@ pub fn write_number(bytes: &mut [u8], at: usize, n: u64) -> usize
     } else {
         write_long(bytes, at, n)
     }
+}
+
+/// Writes numbers in decimal, joined by this octet, from this place on, leaves what stands before it, and answers where they end. It takes
+/// no memory.
+pub fn write_joined(bytes: &mut [u8], at: usize, byte: u8, numbers: &[u32]) -> usize
+    requires { at + 21 * length numbers.now ≤ length bytes.old }
+    ensures within { result ≤ at + 21 * length numbers.now }
+    ensures length { length bytes.new ≡ length bytes.old }
+    ensures digits { take result bytes.new ≡ take at bytes.old ++ join_with_byte byte (map decimal numbers.now) }
+{
+    if numbers.is_empty() {
+        return at;
+    }
+    let mut end = write_number(bytes, at, u64::from(numbers[0]));
+    for place in 1..numbers.len() {
+        bytes[end] = byte;
+        end = write_number(bytes, end + 1, u64::from(numbers[place]));
+    }
+    end
+}
+
+/// Writes a number, this octet, numbers joined by that octet, and the last octet, as write_joined writes them.
+pub fn write_row(
+    bytes: &mut [u8],
+    at: usize,
+    n: u64,
+    bar: u8,
+    byte: u8,
+    numbers: &[u32],
+    last: u8,
+) -> usize
+    requires { at + 22 + 21 * length numbers.now ≤ length bytes.old }
+    ensures within { result ≤ length bytes.new }
+    ensures length { length bytes.new ≡ length bytes.old }
+    ensures digits { take result bytes.new ≡ take at bytes.old ++ row_text n bar byte numbers.now last }
+{
+    let middle = write_number(bytes, at, n);
+    bytes[middle] = bar;
+    let end = write_joined(bytes, middle + 1, byte, numbers);
+    bytes[end] = last;
+    end + 1
 }
 
 /// Puts a number at the end, in decimal.

@@ -1,7 +1,9 @@
 //! Texts on their way to a sink, with the first write that fails noted.
 
-ghost use Rattle.std.specs.Prelude.{◌≡◌, ◌∷◌, [], Some};
+ghost use Rattle.std.specs.Prelude.{◌≡◌, ◌∷◌, [], map, Some};
 ghost use Rattle.std.specs.Fmt.{decimal};
+ghost use Rattle.std.specs.List.{join_with_byte};
+ghost use Rattle.text_fields.specs.Joined.{row_text};
 ghost use Rattle.tor_io.specs.Outflow.{state, Puts, Finishes};
 
 use crate::{Buffer, Failed, Sink};
@@ -73,6 +75,41 @@ impl<'a> Outflow<'a> {
             (byte ∷ decimal n) }
     {
         if !self.failed && self.buffer.put_number_behind(out, byte, n).is_err() {
+            self.failed = true;
+        }
+    }
+
+    /// Puts numbers, in decimal and joined by this octet, behind what waits. It takes no memory.
+    #[inline]
+    pub fn put_joined<S: Sink>(&mut self, out: &mut S, byte: u8, numbers: &[u32])
+        ensures { Puts (state (S.held out.old) (S.faults out.old) self.old) (state (S.held out.new) (S.faults out.new) self.new)
+            (join_with_byte byte (map decimal numbers.now)) }
+    {
+        if !self.failed && self.buffer.put_joined(out, byte, numbers).is_err() {
+            self.failed = true;
+        }
+    }
+
+    /// Puts a number, an octet, numbers joined by another, and a last octet, behind what waits; numbers are in decimal. It takes no memory.
+    #[inline]
+    pub fn put_row<S: Sink>(
+        &mut self,
+        out: &mut S,
+        n: u64,
+        bar: u8,
+        byte: u8,
+        numbers: &[u32],
+        last: u8,
+    )
+        ensures { Puts (state (S.held out.old) (S.faults out.old) self.old) (state (S.held out.new) (S.faults out.new) self.new)
+            (row_text n bar byte numbers.now last) }
+    {
+        if !self.failed
+            && self
+                .buffer
+                .put_row(out, n, bar, byte, numbers, last)
+                .is_err()
+        {
             self.failed = true;
         }
     }
