@@ -8,8 +8,9 @@ ghost use Rattle.tor_words.specs.Given.{HasDumps};
 ghost use Rattle.tor_words.specs.Refused.{IsUsage, SaysUsage};
 
 use crate::command::command;
+use crate::matching::matches_of;
 use crate::name::Name;
-use crate::refused::{WordsRefused, refusal, usage};
+use crate::refused::{WordsRefused, usage};
 use crate::values::{is_true_text, number_in, number_or, sets_or_cut};
 use clap::ArgMatches;
 use path_clean::Sets;
@@ -356,11 +357,8 @@ pub fn settings_of(alloc: Global, words: &List<Name>) -> Result<Settings, WordsR
     ensures most { IfOk result (λ s. s.max_paths ≤ max_paths) }
     ensures named { IfOk result (λ s. HasDumps s.source s.dumps) }
 {
-    let Ok(command) = command(alloc) else {
-        return Err(WordsRefused::NoMemory);
-    };
-    match command.try_get_matches_from(words.as_slice()) {
+    match matches_of(alloc, command(alloc), words) {
         Ok(matches) => settings_in(alloc, &matches),
-        Err(error) => Err(refusal(alloc, &error)),
+        Err(refused) => Err(refused),
     }
 }
