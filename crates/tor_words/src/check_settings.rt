@@ -5,8 +5,9 @@ ghost use Rattle.tor_words.specs.CheckGiven.{check_settings_in, check_settings_g
 ghost use Rattle.tor_words.specs.Refused.{IsUsage, SaysUsage};
 
 use crate::command::check_command;
+use crate::matching::matches_of;
 use crate::name::Name;
-use crate::refused::{WordsRefused, refusal, usage};
+use crate::refused::{WordsRefused, usage};
 use crate::settings::{first, names_in};
 use clap::ArgMatches;
 use std::alloc::Global;
@@ -49,11 +50,8 @@ pub fn check_settings_of(alloc: Global, words: &List<Name>) -> Result<CheckSetti
     ensures refused { IfErr result (λ e. IsUsage e → check_settings_given words.now ≡ None) }
     ensures text { IfErr result SaysUsage }
 {
-    let Ok(command) = check_command(alloc) else {
-        return Err(WordsRefused::NoMemory);
-    };
-    match command.try_get_matches_from(words.as_slice()) {
+    match matches_of(alloc, check_command(alloc), words) {
         Ok(matches) => check_settings_in(alloc, &matches),
-        Err(error) => Err(refusal(alloc, &error)),
+        Err(refused) => Err(refused),
     }
 }

@@ -9,6 +9,13 @@ use clap::Command;
 use std::alloc::{AllocError, Global};
 use tor_arena::{MAX_PATHS, MAX_RATIO};
 
+/// What help says of two of the options.
+const GIVEN_HELP: &str =
+    "Known relationships, lines of serial-1: provider|customer|-1 binds the inference, peer|peer|0 is read and checked and binds nothing";
+
+const RESUME_HELP: &str =
+    "Add the dumps to this result, which has to meet all rules: what became of its paths stays, labels are new; --as-sets changes nothing";
+
 /// The options and the operands of `tor`.
 static TOR: [Entry; 12] = [
     Entry::Flag(
@@ -49,18 +56,12 @@ static TOR: [Entry; 12] = [
         u64::MAX,
         "Write the summary of the result over a dump made from this number, 0 to 18446744073709551615, in place of dumps",
     ),
-    Entry::Choice(
-        "given",
-        "Known relationships, lines of serial-1: provider|customer|-1 binds the inference, peer|peer|0 is read and checked and binds nothing",
-    ),
+    Entry::Choice("given", GIVEN_HELP),
     Entry::Flag(
         "migrate",
         "Write the result that is named in place of dumps in the text of version 2; --as-sets, --ratio and --max-paths change nothing",
     ),
-    Entry::Choice(
-        "resume",
-        "Add the dumps to this result, which has to meet all rules: what became of its paths stays, labels are new; --as-sets changes nothing",
-    ),
+    Entry::Choice("resume", RESUME_HELP),
     Entry::Rest(
         "dump",
         "Uncompressed MRT table dumps, read in this order; /dev/stdin can be named once",

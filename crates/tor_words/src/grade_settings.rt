@@ -5,8 +5,9 @@ ghost use Rattle.tor_words.specs.GradeGiven.{cone_in, grade_settings_in, grade_s
 ghost use Rattle.tor_words.specs.Refused.{IsUsage, SaysUsage};
 
 use crate::grade_command::grade_command;
+use crate::matching::matches_of;
 use crate::name::Name;
-use crate::refused::{WordsRefused, refusal, usage};
+use crate::refused::{WordsRefused, usage};
 use crate::settings::{first, names_in};
 use crate::values::number_in;
 use clap::ArgMatches;
@@ -70,11 +71,8 @@ pub fn grade_settings_of(alloc: Global, words: &List<Name>) -> Result<GradeSetti
     ensures text { IfErr result SaysUsage }
     ensures named { IfOk result (λ s. 0 < length s.dumps) }
 {
-    let Ok(command) = grade_command(alloc) else {
-        return Err(WordsRefused::NoMemory);
-    };
-    match command.try_get_matches_from(words.as_slice()) {
+    match matches_of(alloc, grade_command(alloc), words) {
         Ok(matches) => grade_settings_in(alloc, &matches),
-        Err(error) => Err(refusal(alloc, &error)),
+        Err(refused) => Err(refused),
     }
 }

@@ -7,6 +7,7 @@ mod entries;
 mod grade_command;
 mod grade_settings;
 mod laws;
+mod matching;
 mod name;
 mod refused;
 mod settings;

@@ -1,5 +1,5 @@
 //! The settings of a run.
-ghost use Rattle.std.specs.Prelude.{◌≡◌, ◌≤◌, IfOk, IfErr, OnErr, Some, None, map, option_map, codes};
+ghost use Rattle.std.specs.Prelude.{◌≡◌, ◌≤◌, ◌++◌, ◌∷◌, [], OnOk, IfOk, IfErr, OnErr, Some, None, map, option_map, codes};
 ghost use Rattle.clap.specs.Words.{found_of, rows_of, first_of};
 ghost use Rattle.tor_arena.specs.Limits.{max_paths, max_ratio};
 ghost use Rattle.tor_words.specs.Given.{settings_in, settings_given, names_in, has_flag, has_option, mode_in, of_sample, of_result};
@@ -8,8 +8,9 @@ ghost use Rattle.tor_words.specs.Given.{HasDumps};
 ghost use Rattle.tor_words.specs.Refused.{IsUsage, SaysUsage};
 
 use crate::command::command;
+use crate::matching::matches_of;
 use crate::name::Name;
-use crate::refused::{WordsRefused, refusal, usage};
+use crate::refused::{WordsRefused, usage};
 use crate::values::{is_true_text, number_in, number_or, sets_or_cut};
 use clap::ArgMatches;
 use path_clean::Sets;
@@ -106,13 +107,20 @@ pub(crate) fn first<'a>(matches: &ArgMatches<'a>, id: &str) -> Option<&'a str>
     matches.get_str(id)
 }
 
+/// Puts a copy of the text behind the names.
+pub(crate) fn add_copy(alloc: Global, names: &mut List<Name>, text: &str) -> Result<(), NoMemory>
+    ensures { OnOk result (names.new ≡ names.old ++ text.now ∷ []) }
+{
+    names.push(Name::from_text(alloc, text)?)
+}
+
 /// Copies of the texts.
 pub(crate) fn names_of(alloc: Global, texts: &[&str]) -> Result<List<Name>, NoMemory>
     ensures { IfOk result (λ names. names ≡ map (λ t. t.now) texts.now) }
 {
     let mut names = List::new(alloc);
     for text in texts {
-        names.push(Name::from_text(alloc, text)?)?;
+        add_copy(alloc, &mut names, text)?;
     }
     Ok(names)
 }
@@ -329,7 +337,10 @@ fn settings_in(alloc: Global, matches: &ArgMatches) -> Result<Settings, WordsRef
     };
     let source = match source_in(alloc, matches, choices.mode, &mut dumps) {
         Ok(source) => source,
-        Err(refused) => return Err(refused),
+        Err(refused) => {
+            drop(dumps);
+            return Err(refused);
+        }
     };
     match given_for(alloc, choices.mode, first(matches, "given")) {
         Ok(given) => Ok(Settings {
@@ -341,7 +352,11 @@ fn settings_in(alloc: Global, matches: &ArgMatches) -> Result<Settings, WordsRef
             given,
             dumps,
         }),
-        Err(refused) => Err(refused),
+        Err(refused) => {
+            drop(source);
+            drop(dumps);
+            Err(refused)
+        }
     }
 }
 
@@ -356,11 +371,8 @@ pub fn settings_of(alloc: Global, words: &List<Name>) -> Result<Settings, WordsR
     ensures most { IfOk result (λ s. s.max_paths ≤ max_paths) }
     ensures named { IfOk result (λ s. HasDumps s.source s.dumps) }
 {
-    let Ok(command) = command(alloc) else {
-        return Err(WordsRefused::NoMemory);
-    };
-    match command.try_get_matches_from(words.as_slice()) {
+    match matches_of(alloc, command(alloc), words) {
         Ok(matches) => settings_in(alloc, &matches),
-        Err(error) => Err(refusal(alloc, &error)),
+        Err(refused) => Err(refused),
     }
 }

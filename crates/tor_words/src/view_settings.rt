@@ -4,8 +4,9 @@ ghost use Rattle.clap.specs.Words.{found_of, rows_of};
 ghost use Rattle.tor_words.specs.ViewGiven.{AreFew, depth_in, drawn_in, most_in, view_settings_in, view_settings_given};
 ghost use Rattle.tor_words.specs.Refused.{IsUsage, SaysUsage};
 
+use crate::matching::matches_of;
 use crate::name::Name;
-use crate::refused::{WordsRefused, refusal, usage};
+use crate::refused::{WordsRefused, usage};
 use crate::settings::first;
 use crate::values::{number_or, short_number};
 use crate::view_command::view_command;
@@ -96,11 +97,8 @@ pub fn view_settings_of(alloc: Global, words: &List<Name>) -> Result<ViewSetting
     ensures text { IfErr result SaysUsage }
     ensures few { IfOk result AreFew }
 {
-    let Ok(command) = view_command(alloc) else {
-        return Err(WordsRefused::NoMemory);
-    };
-    match command.try_get_matches_from(words.as_slice()) {
+    match matches_of(alloc, view_command(alloc), words) {
         Ok(matches) => view_settings_in(alloc, &matches),
-        Err(error) => Err(refusal(alloc, &error)),
+        Err(refused) => Err(refused),
     }
 }

@@ -7,14 +7,13 @@ use crate::entries::{Entry, command_of};
 use clap::Command;
 use std::alloc::{AllocError, Global};
 
+/// What help says of the option.
+const PATH_HELP: &str =
+    "Tell of the path of this number, from 1, whether it is kept, and how its steps go, or the walk that refutes it, in place of an edge";
+
 /// The option, the file and the ASes.
 static TORWHY: [Entry; 3] = [
-    Entry::Number(
-        "path",
-        0,
-        4_294_967_295,
-        "Tell of the path of this number, from 1, whether it is kept, and how its steps go, or the walk that refutes it, in place of an edge",
-    ),
+    Entry::Number("path", 0, 4_294_967_295, PATH_HELP),
     Entry::Needed("result", "The result, which has to meet all rules"),
     Entry::Rest(
         "as",

@@ -4,8 +4,9 @@ ghost use Rattle.clap.specs.Words.{found_of, rows_of};
 ghost use Rattle.tor_words.specs.WhyGiven.{asked_in, edge_asked, path_asked, what_asked, why_settings_in, why_settings_given};
 ghost use Rattle.tor_words.specs.Refused.{IsUsage, SaysUsage};
 
+use crate::matching::matches_of;
 use crate::name::Name;
-use crate::refused::{WordsRefused, refusal, usage};
+use crate::refused::{WordsRefused, usage};
 use crate::settings::first;
 use crate::values::short_number;
 use crate::why_command::why_command;
@@ -108,11 +109,8 @@ pub fn why_settings_of(alloc: Global, words: &List<Name>) -> Result<WhySettings,
     ensures refused { IfErr result (λ e. IsUsage e → why_settings_given words.now ≡ None) }
     ensures text { IfErr result SaysUsage }
 {
-    let Ok(command) = why_command(alloc) else {
-        return Err(WordsRefused::NoMemory);
-    };
-    match command.try_get_matches_from(words.as_slice()) {
+    match matches_of(alloc, why_command(alloc), words) {
         Ok(matches) => why_settings_in(alloc, &matches),
-        Err(error) => Err(refusal(alloc, &error)),
+        Err(refused) => Err(refused),
     }
 }

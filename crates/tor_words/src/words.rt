@@ -3,6 +3,7 @@ ghost use Rattle.std.specs.Prelude.{◌≡◌, IfOk, map, drop, string_bytes};
 ghost use Rattle.std.specs.Vec.Iter.{into_iter_items};
 
 use crate::name::Name;
+use crate::settings::add_copy;
 use std::alloc::Global;
 use std::env;
 use tor_arena::{List, NoMemory};
@@ -14,7 +15,7 @@ pub fn words_of(alloc: Global, mut args: env::Args) -> Result<List<Name>, NoMemo
     let mut words = List::new(alloc);
     let _program = args.next();
     for arg in args {
-        words.push(Name::from_text(alloc, arg.as_str())?)?;
+        add_copy(alloc, &mut words, arg.as_str())?;
     }
     Ok(words)
 }
