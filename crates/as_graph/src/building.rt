@@ -15,7 +15,7 @@ use crate::graph_edges::GraphEdges;
 use crate::step::Step;
 use relationships::{End, Given};
 use std::alloc::Global;
-use tor_arena::{EdgeId, Index, Keys, List, NoMemory, PathId, RowRefused, Rows};
+use tor_arena::{EdgeId, Index, Keys, NoMemory, PathId, RowRefused, Rows, reserve};
 
 /// The graph of the paths. Each has to have at least two ASes, all distinct, and there may be at most 2^23 of them, with at most
 /// 2^26 numbers in sum. Its tables are made with the keys. The only error is that memory ran out.
@@ -65,7 +65,7 @@ fn add_paths(
     requires none { rows.old ≡ [] }
     ensures { OnOk result (IsBuilt paths.now (length paths.now) edges.new rows.new) }
 {
-    let mut steps = List::new(alloc);
+    let mut steps = Vec::new(alloc);
     for place in 0..paths.len() {
         let path = PathId::from_place(place).unwrap();
         steps.clear();
@@ -170,16 +170,17 @@ pub(crate) fn add_row<T: Copy>(rows: &mut Rows<PathId, T>, row: &[T]) -> Result<
 }
 
 /// Adds the edges of a path, and its steps, where there are no others.
-fn add_steps(edges: &mut GraphEdges, steps: &mut List<Step>, path: &[u32]) -> Result<(), NoMemory>
+fn add_steps(edges: &mut GraphEdges, steps: &mut Vec<Step>, path: &[u32]) -> Result<(), NoMemory>
     requires apart { NeighboursDiffer path.now }
     requires room { length edges.old + length path.now ≤ max_numbers }
-    requires empty { steps.old ≡ [] }
+    requires empty { steps.old.items ≡ [] }
     ensures edges { OnOk result (edges.new ≡ with_edges edges.old (edges_on path.now)) }
-    ensures steps { OnOk result (AreSteps edges.new path.now steps.new) }
+    ensures steps { OnOk result (AreSteps edges.new path.now steps.new.items) }
 {
+    reserve(steps, path.len())?;
     for at in 1..path.len() {
         let step = add_step(edges, path[at - 1], path[at])?;
-        steps.push(step)?;
+        steps.push_reserved(step);
     }
     Ok(())
 }

@@ -1,5 +1,5 @@
 -- Numbers in slots, each found from the slot that its hash names.
-use Rattle.std.specs.Prelude.{◌≡◌, ◌≢◌, ℕ, zero, suc, ◌+◌, ◌-◌, ◌*◌, ◌/◌, ◌^◌, ◌<◌, ◌≤◌, ◌⊎◌, Bool, true, false, List, [], ◌∷◌, ◌++◌, Some}
+use Rattle.std.specs.Prelude.{◌≡◌, ◌≢◌, ℕ, zero, suc, ◌-◌, ◌*◌, ◌/◌, ◌^◌, ◌<◌, ◌≤◌, ◌⊎◌, Bool, true, false, List, [], ◌∷◌, ◌++◌, Some}
 use Rattle.std.specs.Prelude.{length, take, slice_get, Contains, bit_and, bit_xor}
 use Rattle.tor_arena.specs.Growth.{next_slot}
 use Rattle.tor_numbers.specs.declared.slot_search.SearchEnd.{SearchEnd}

@@ -190,6 +190,7 @@ fn filled(alloc: Global, seed: u64, count: usize, numbers: &[u64]) -> Result<Vec
 const FIRST: usize = 16;
 
 /// Makes twice as many slots if a third of them are in use, and else leaves them as they are. For want of memory nothing changes.
+#[inline(always)]
 fn make_room(
     alloc: Global,
     seed: u64,
@@ -204,7 +205,20 @@ fn make_room(
     ensures placed { IsPlaced seed slots.new.items numbers.now }
 {
     if numbers.len() >= slots.len() / 3 {
-        *slots = filled(alloc, seed, doubled(slots.len(), FIRST), numbers)?;
+        return grow(alloc, seed, numbers, slots);
     }
+    Ok(())
+}
+
+/// Makes twice as many slots. For want of memory nothing changes.
+#[cold]
+#[inline(never)]
+fn grow(alloc: Global, seed: u64, numbers: &[u64], slots: &mut Vec<u32>) -> Result<(), NoMemory>
+    requires placed { IsPlaced seed slots.old.items numbers.now }
+    ensures some { OnOk result (0 < length slots.new.items) }
+    ensures grows { OnOk result (IsDoubled 16 (length slots.old.items) (length slots.new.items)) }
+    ensures placed { IsPlaced seed slots.new.items numbers.now }
+{
+    *slots = filled(alloc, seed, doubled(slots.len(), FIRST), numbers)?;
     Ok(())
 }

@@ -39,11 +39,11 @@ loop-place-preserved c =
     let placed : c.unwrap-path.result ≡ place = search rules in
     let there : slice_get paths place ≡ Some path = subst (λ k. slice_get paths k ≡ Some path) placed c.row.ensures in
     let added : c.add_steps.new.edges ≡ with_edges c.loop-place.edges (edges_on path) = c.in_ok-add_steps.ensures.edges in
-    let steps : AreSteps c.add_steps.new.edges path c.add_steps.new.steps = c.in_ok-add_steps.ensures.steps in
-    let rows : c.add_row.new.rows ≡ c.loop-place.rows ++ c.add_steps.new.steps ∷ [] =
-    c.in_ok-add_row.ensures ∙ ap (λ steps. c.loop-place.rows ++ steps ∷ []) c.as_slice.ensures in
+    let steps : AreSteps c.add_steps.new.edges path c.add_steps.new.steps.items = c.in_ok-add_steps.ensures.steps in
+    let rows : c.add_row.new.rows ≡ c.loop-place.rows ++ c.add_steps.new.steps.items ∷ [] =
+    c.in_ok-add_row.ensures ∙ ap (λ steps. c.loop-place.rows ++ steps ∷ []) c.as_slice.ensures.value in
     subst (IsBuilt paths (place + 1) c.add_steps.new.edges) (sym rows)
-    (IsBuilt-more paths place c.loop-place.edges c.loop-place.rows path c.add_steps.new.edges c.add_steps.new.steps c.loop-place.invariant there added steps)
+    (IsBuilt-more paths place c.loop-place.edges c.loop-place.rows path c.add_steps.new.edges c.add_steps.new.steps.items c.loop-place.invariant there added steps)
 
 pub returns : goal.returns
 returns c =

@@ -11,12 +11,14 @@ add_step-requires-clause-apart c =
 
 pub add_step-requires-clause-room : goal.add_step-requires-clause-room
 add_step-requires-clause-room c =
-    let h = Walked-room c.args.edges.now c.loop-at.edges c.args.path.now c.loop-at.at c.loop-at.steps c.loop-at.invariant c.loop-at-test.true in
+    let h = Walked-room c.args.edges.now c.loop-at.edges c.args.path.now c.loop-at.at c.loop-at.steps.items c.loop-at.invariant.0 c.loop-at-test.true in
     let room = c.requires.room in
     omega (arith, h, room)
 
 pub loop-at-preserved : goal.loop-at-preserved
-loop-at-preserved c =
-    subst (Walked c.args.edges.now c.add_step.new.edges c.args.path.now (c.loop-at.at + 1)) (sym c.in_ok-push.ensures.ok)
-    (Walked-more c.args.edges.now c.loop-at.edges c.args.path.now c.loop-at.at c.loop-at.steps c.in_ok-step.step c.add_step.new.edges
-    c.loop-at.invariant c.loop-at-test.true c.in_ok-step.ensures.edge c.in_ok-step.ensures.step)
+loop-at-preserved c = (
+  subst (Walked c.args.edges.now c.add_step.new.edges c.args.path.now (c.loop-at.at + 1)) (sym c.push_reserved.ensures.items)
+      (Walked-more c.args.edges.now c.loop-at.edges c.args.path.now c.loop-at.at c.loop-at.steps.items c.in_ok-step.step c.add_step.new.edges
+      c.loop-at.invariant.0 c.loop-at-test.true c.in_ok-step.ensures.edge c.in_ok-step.ensures.step),
+  search rules,
+)
