@@ -1,6 +1,6 @@
 -- Putting the lines of a list, or the members behind its first, one by one.
-use Rattle.std.proofs.Common.{◌≡◌, ◌∙◌, ℕ, zero, suc, ◌+◌, ◌-◌, ◌<◌, ◌≤◌, List, [], ◌∷◌, ◌++◌, length, take, drop, map, get_or, slice_get, Some, sym, ap, subst, append_assoc, arith}
-use Rattle.std.specs.List.{AllByRecursion}
+use Rattle.std.proofs.Common.{◌≡◌, ◌∙◌, ℕ, zero, suc, ◌+◌, ◌-◌, ◌<◌, ◌≤◌, List, [], ◌∷◌, ◌++◌, length, take, drop, map, get_or, slice_get, Some, refl, sym, ap, subst, append_assoc, arith}
+use Rattle.std.specs.List.{AllByRecursion, join_with_byte}
 use Rattle.std.proofs.lemmas.List.{append-nil, take_all}
 use Rattle.std.proofs.lemmas.Option.{slice_get-get_or}
 use Rattle.tor_io.specs.Outflow.{State, Puts}
@@ -41,6 +41,11 @@ module _ {X : Type 0} (member : X → List ℕ) where
   one_other a b c xs k d low so_far more =
       let next : k + 1 ≡ suc k = omega arith in
       puts_as (puts_then so_far more) (sym (others_to-suc xs k (get_or xs k d) (slice_get-get_or xs k d low)) ∙ ap (λ n. others member (take n xs)) (sym next))
+
+  pub joined : (xs : List X) → join_with_byte 32 (map member xs) ≡ spaced member xs
+  joined [] = refl
+  joined (x ∷ []) = sym (append-nil (member x))
+  joined (x ∷ y ∷ xs) = ap (λ t. member x ++ 32 ∷ t) (joined (y ∷ xs))
 
   -- a list that isn't empty is its first member and the others
   pub all_members : (xs : List X) (d : X) → 1 ≤ length xs → member (get_or xs 0 d) ++ others member (take (length xs - 1) (drop 1 xs)) ≡ spaced member xs

@@ -26,28 +26,12 @@ pub fn put_u32_behind<S: Sink>(out: &mut S, flow: &mut Outflow<'_>, byte: u8, n:
     flow.put_number_behind(out, byte, u64::from(n));
 }
 
-// Puts the numbers behind what waits, each behind a space.
-fn put_other_numbers<S: Sink>(out: &mut S, flow: &mut Outflow<'_>, ns: &[u32])
-    ensures { Puts (state (S.held out.old) (S.faults out.old) flow.old) (state (S.held out.new) (S.faults out.new) flow.new)
-        (others decimal ns.now) }
-{
-    for n in ns {
-        put_u32_behind(out, flow, b' ', *n);
-    }
-}
-
 /// Puts the numbers behind what waits, joined by spaces.
 pub fn put_numbers<S: Sink>(out: &mut S, flow: &mut Outflow<'_>, ns: &[u32])
     ensures { Puts (state (S.held out.old) (S.faults out.old) flow.old) (state (S.held out.new) (S.faults out.new) flow.new)
         (numbers_text ns.now) }
 {
-    match ns {
-        [] => {}
-        [first, others @ ..] => {
-            put_u32(out, flow, *first);
-            put_other_numbers(out, flow, others);
-        }
-    }
+    flow.put_joined(out, b' ', ns);
 }
 
 // Puts the number of a link's path behind what waits, or in a text of version 2 the letter g for 0.

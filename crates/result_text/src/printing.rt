@@ -110,10 +110,7 @@ fn put_kept<S: Sink>(out: &mut S, flow: &mut Outflow<'_>, times: u64, path: &[u3
         (line_text v (line.Path (line_with times path.now Kept))) }
 {
     flow.put(out, b"kept|");
-    flow.put_number(out, times);
-    flow.put_byte(out, b'|');
-    put_numbers(out, flow, path);
-    flow.put_byte(out, b'\n');
+    flow.put_row(out, times, b'|', b' ', path, b'\n');
 }
 
 fn put_lost<S: Sink>(
@@ -128,10 +125,7 @@ fn put_lost<S: Sink>(
         (line_text version (line.Path (line_with times path.now (Lost walk.now)))) }
 {
     flow.put(out, b"lost|");
-    flow.put_number(out, times);
-    flow.put_byte(out, b'|');
-    put_numbers(out, flow, path);
-    flow.put_byte(out, b'|');
+    flow.put_row(out, times, b'|', b' ', path, b'|');
     put_walk(out, flow, version, walk);
     flow.put_byte(out, b'\n');
 }

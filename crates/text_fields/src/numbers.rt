@@ -80,6 +80,21 @@ fn write_four(bytes: &mut [u8], at: usize, n: u64) -> usize
     middle + 2
 }
 
+// A number of at most six digits.
+#[inline(always)]
+fn write_six(bytes: &mut [u8], at: usize, n: u64) -> usize
+    requires { (n < 1000000) × (at + 6 ≤ length bytes.old) }
+    ensures end { result ≡ at + length (decimal n) }
+    ensures length { length bytes.new ≡ length bytes.old }
+    ensures digits { take result bytes.new ≡ take at bytes.old ++ decimal n }
+{
+    if n < 10_000 {
+        return write_four(bytes, at, n);
+    }
+    let middle = write_two(bytes, at, n / 10_000);
+    write_four_padded(bytes, middle, n % 10_000)
+}
+
 // A number of at most eight digits.
 #[inline(always)]
 fn write_eight(bytes: &mut [u8], at: usize, n: u64) -> usize
@@ -109,14 +124,17 @@ fn write_twelve(bytes: &mut [u8], at: usize, n: u64) -> usize
     write_eight_padded(bytes, middle, n % 100_000_000)
 }
 
-// A number of more than eight digits.
+// A number of more than six digits.
 #[inline(never)]
 fn write_long(bytes: &mut [u8], at: usize, n: u64) -> usize
-    requires { (100000000 ≤ n) × (at + 20 ≤ length bytes.old) }
+    requires { at + 20 ≤ length bytes.old }
     ensures end { result ≡ at + length (decimal n) }
     ensures length { length bytes.new ≡ length bytes.old }
     ensures digits { take result bytes.new ≡ take at bytes.old ++ decimal n }
 {
+    if n < 100_000_000 {
+        return write_eight(bytes, at, n);
+    }
     let middle = write_twelve(bytes, at, n / 100_000_000);
     write_eight_padded(bytes, middle, n % 100_000_000)
 }
@@ -131,8 +149,8 @@ pub fn write_number(bytes: &mut [u8], at: usize, n: u64) -> usize
     ensures length { length bytes.new ≡ length bytes.old }
     ensures digits { take result bytes.new ≡ take at bytes.old ++ decimal n }
 {
-    if n < 100_000_000 {
-        write_eight(bytes, at, n)
+    if n < 1_000_000 {
+        write_six(bytes, at, n)
     } else {
         write_long(bytes, at, n)
     }
@@ -140,6 +158,7 @@ pub fn write_number(bytes: &mut [u8], at: usize, n: u64) -> usize
 
 /// Writes numbers in decimal, joined by this octet, from this place on, leaves what stands before it, and answers where they end. It takes
 /// no memory.
+#[inline(always)]
 pub fn write_joined(bytes: &mut [u8], at: usize, byte: u8, numbers: &[u32]) -> usize
     requires { at + 21 * length numbers.now ≤ length bytes.old }
     ensures within { result ≤ at + 21 * length numbers.now }

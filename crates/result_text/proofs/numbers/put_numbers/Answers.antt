@@ -1,7 +1,7 @@
 use Rattle.std.specs.Fmt.{decimal}
-use Rattle.tor_io.proofs.Putting.{puts_as, puts_then}
-use Rattle.result_text.proofs.Puts.{all_members}
+use Rattle.tor_io.proofs.Putting.{puts_as}
+use Rattle.result_text.proofs.Puts.{joined}
 use Rattle.result_text.proofs.numbers.put_numbers.Goals as goal
 
-pub returns-in-len1-up : goal.returns-in-len1-up
-returns-in-len1-up g c = puts_as (puts_then c.put_u32.ensures c.put_other_numbers.ensures) (all_members decimal c.args.ns.now _ c.in-len1-up.len_at_least)
+pub returns : goal.returns
+returns g c = puts_as c.put_joined.ensures (joined decimal c.args.ns.now)

@@ -1,8 +1,12 @@
-use Rattle.std.proofs.Common.{append_assoc}
+use Rattle.std.proofs.Common.{◌++◌, ◌∷◌, [], ap, append_assoc}
+use Rattle.std.specs.Fmt.{decimal}
 use Rattle.result_text.specs.Text.{line_text}
 use Rattle.tor_io.proofs.Putting.{puts_as, puts_then}
+use Rattle.result_text.proofs.Puts.{joined}
 use Rattle.result_text.proofs.printing.put_kept.Goals as goal
 
 pub returns : goal.returns
 unfolding line_text
-returns g c = λ v. puts_as (puts_then c.put.ensures (puts_then c.put_number.ensures (puts_then c.put_byte.ensures (puts_then c.put_numbers.ensures c.put_byte-2.ensures)))) (simp append_assoc)
+returns g c = λ v.
+    let row = puts_as c.put_row.ensures (ap (λ t. decimal c.args.times ++ (124 ∷ t) ++ 10 ∷ []) (joined decimal c.args.path.now)) in
+    puts_as (puts_then c.put.ensures row) (simp append_assoc)
