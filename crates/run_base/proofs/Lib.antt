@@ -1,7 +1,6 @@
 pub mod Dumps
 pub mod Gathered
 pub mod Notings
-pub mod NumberLines
 pub mod PieceLines
 pub mod Prefixes
 pub mod Statuses

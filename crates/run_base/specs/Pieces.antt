@@ -1,5 +1,5 @@
 -- Texts in pieces.
-use Rattle.std.specs.Prelude.{ℕ, ◌==◌, if◌then◌else◌, List, ◌∷◌, map, flat_map, decimal}
+use Rattle.std.specs.Prelude.{ℕ, List, map, flat_map, decimal}
 use Rattle.std.specs.List.{join_with_byte}
 use Rattle.run_base.specs.declared.pieces.Piece.{Piece}
 use Rattle.run_base.specs.declared.pieces.Piece.TheVariants.{Word, Number, Numbers}
@@ -7,10 +7,6 @@ use Rattle.run_base.specs.declared.pieces.Piece.TheVariants.{Word, Number, Numbe
 -- numbers with a space between two
 abbrev pub numbers_text : List ℕ → List ℕ
 numbers_text numbers = join_with_byte 32 (map decimal numbers)
-
--- a number of these, by its place
-abbrev pub number_at : ℕ → ℕ → List ℕ
-number_at place n = if place == 0 then decimal n else 32 ∷ decimal n
 
 abbrev pub piece_text : Piece → List ℕ
 piece_text (Word octets) = octets.now

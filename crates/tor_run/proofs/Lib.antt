@@ -9,7 +9,6 @@ pub mod GradingLemmas
 pub mod JoinedRows
 pub mod Joining
 pub mod Known
-pub mod Lines
 pub mod Migrating
 pub mod Reaching
 pub mod ReadableLemmas
