@@ -7,14 +7,16 @@ use crate::distinct_rows::IndexedPaths;
 use crate::merged_paths::MergedPaths;
 use std::alloc::Global;
 use std::marker::Model;
-use tor_arena::{List, NoMemory, PathId};
+use tor_arena::{NoMemory, PathId};
 
 /// Where the paths of a batch were found in a table. Its lists serve one batch after the other.
 #[derive(Drop)]
 pub struct Lookup {
     // the hashes of the paths
-    hashes: List<u32>,
-    // where the paths may stand in the table, and in the end those places where they do
+    hashes: Vec<u32>,
+    // the guesses where the paths stand in the table
+    guesses: Vec<u32>,
+    // the places of those paths that stand where it was guessed
     places: Vec<Option<PathId>>,
 }
 
@@ -32,7 +34,8 @@ impl Lookup {
         ensures { result ≡ [] }
     {
         Lookup {
-            hashes: List::new(alloc),
+            hashes: Vec::new(alloc),
+            guesses: Vec::new(alloc),
             places: Vec::new(alloc),
         }
     }
@@ -61,50 +64,40 @@ impl Lookup {
         ensures rows { OnOk result (AreRowsWhereFound table.now.rows paths.now self.new) }
         ensures each { OnOk result (length self.new ≡ length paths.now) }
     {
-        hash_each(table, paths, &mut self.hashes)?;
-        guess_each(table, self.hashes.as_slice(), &mut self.places)?;
-        compare_each(table, paths, &mut self.places);
+        let count = paths.len();
+        self.hashes.resize(count, 0)?;
+        self.guesses.resize(count, 0)?;
+        self.places.resize(count, None)?;
+        hash_each(table, paths, &mut self.hashes);
+        table.guess_each(self.hashes.as_slice(), &mut self.guesses);
+        compare_each(table, paths, self.guesses.as_slice(), &mut self.places);
         Ok(())
     }
 }
 
 /// The hash of each of the paths.
-fn hash_each(
-    table: &IndexedPaths,
-    paths: &MergedPaths,
-    hashes: &mut List<u32>,
-) -> Result<(), NoMemory>
-    ensures { OnOk result (length hashes.new ≡ length paths.now) }
+fn hash_each(table: &IndexedPaths, paths: &MergedPaths, hashes: &mut [u32])
+    requires many { length hashes.old ≡ length paths.now }
+    ensures { length hashes.new ≡ length hashes.old }
 {
-    hashes.clear();
     for place in 0..paths.len() {
-        hashes.push(table.hash_of(paths.path(place)))?;
+        hashes[place] = table.hash_of(paths.path(place));
     }
-    Ok(())
-}
-
-/// A guess for each of the hashes. These looks into memory follow one another with nothing between them.
-fn guess_each(
-    table: &IndexedPaths,
-    hashes: &[u32],
-    places: &mut Vec<Option<PathId>>,
-) -> Result<(), NoMemory>
-    ensures { OnOk result (length places.new.items ≡ length hashes.now) }
-{
-    places.clear();
-    for place in 0..hashes.len() {
-        places.push(table.guess(hashes[place]))?;
-    }
-    Ok(())
 }
 
 /// Keeps those guesses that are right: each of the paths stands in the table where it was guessed.
-fn compare_each(table: &IndexedPaths, paths: &MergedPaths, places: &mut [Option<PathId>])
+fn compare_each(
+    table: &IndexedPaths,
+    paths: &MergedPaths,
+    guesses: &[u32],
+    places: &mut [Option<PathId>],
+)
     requires many { length places.old ≡ length paths.now }
+    requires guessed { length guesses.now ≡ length paths.now }
     ensures rows { AreRowsWhereFound table.now.rows paths.now places.new }
     ensures each { length places.new ≡ length places.old }
 {
     for place in 0..paths.len() {
-        places[place] = table.find_guessed(places[place], paths.path(place));
+        places[place] = table.find_guessed(guesses[place], paths.path(place));
     }
 }

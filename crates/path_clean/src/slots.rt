@@ -113,16 +113,27 @@ pub(crate) fn id_of(row: u32) -> PathId
     }
 }
 
-/// Where a path of this hash may stand: at the row that one of the first two slots of its search names, if that has the path's tag.
-/// Nothing is compared with what the slots have but by taking the lesser of two numbers, so no branch waits for them.
-pub(crate) fn guess(slots: &[Slot], hash: u32) -> Option<PathId> {
-    if slots.is_empty() {
-        return None;
+/// Where a path of this hash may stand: at the row that one of the first three slots of its search names, if that has the path's tag. It
+/// is the place of the row, or more than that of any. Nothing is compared with what the slots have but by taking the lesser of two numbers,
+/// so no branch waits for them.
+fn guess(slots: &[Slot], hash: u32) -> u32
+    requires some { 0 < length slots.now }
+{
+    let first = slots[start_of(hash, slots.len())].place(hash);
+    let second = slots[start_of(hash.wrapping_add(1), slots.len())].place(hash);
+    let third = slots[start_of(hash.wrapping_add(2), slots.len())].place(hash);
+    first.min(second).min(third)
+}
+
+/// A guess for each of the hashes. These looks into memory follow one another with hardly anything between them.
+pub(crate) fn guess_each(slots: &[Slot], hashes: &[u32], guesses: &mut [u32])
+    requires some { 0 < length slots.now }
+    requires many { length guesses.old ≡ length hashes.now }
+    ensures { length guesses.new ≡ length guesses.old }
+{
+    for place in 0..hashes.len() {
+        guesses[place] = guess(slots, hashes[place]);
     }
-    let first = start_of(hash, slots.len());
-    let second = next(first, slots.len());
-    let place = slots[first].place(hash).min(slots[second].place(hash));
-    PathId::from_place(place as usize)
 }
 
 /// Whether a slot, which isn't free, has the tag and names the path.
