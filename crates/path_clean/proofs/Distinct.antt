@@ -56,9 +56,11 @@ marked_next numbers marks n within marked q found = by (nat_eq n q) refl found
   where
     now : n % 128 ≡ q % 128 → slice_get (set marks (n % 128) true) (q % 128) ≡ Some true
     now e = subst (λ k. slice_get (set marks (n % 128) true) k ≡ Some true) e (slice_get-set_same marks (n % 128) true within)
+
     old : (b : Bool) → nat_eq (q % 128) (n % 128) ≡ b → slice_get marks (q % 128) ≡ Some true → slice_get (set marks (n % 128) true) (q % 128) ≡ Some true
     old true e at = now (sym (eqb-true (q % 128) (n % 128) e))
     old false e at = slice_get-set_other marks (n % 128) true (q % 128) (eqb-false (q % 128) (n % 128) e) ∙ at
+
     by : (b : Bool) → nat_eq n q ≡ b → (b || list_any (λ y. nat_eq y q) numbers) ≡ true → slice_get (set marks (n % 128) true) (q % 128) ≡ Some true
     by true e t = now (ap (λ k. k % 128) (eqb-true n q e))
     by false e t = old (nat_eq (q % 128) (n % 128)) refl (marked q t)

@@ -5,7 +5,7 @@ ghost use Rattle.tor_arena.specs.Limits.{max_paths};
 ghost use Rattle.path_clean.specs.Chains.{row_at};
 ghost use Rattle.path_clean.specs.Slots.{short_hash, slot_of_hash, three_quarters, IsVacant, IsVacancy, IsRowSearchEnd, OnFree, Tells};
 
-use crate::hashing::{seed_of, short_hash_of};
+use crate::hashing::{SeededHash, seed_of, short_hash_of};
 use crate::slots::{SearchEnd, Slot, filled, free_from, guess_each, id_of, seek, start_of};
 use std::alloc::Global;
 use std::marker::Model;
@@ -79,11 +79,30 @@ impl IndexedPaths {
         self.rows
     }
 
+    /// With what the hashes of this table begin.
+    pub fn seed(&self) -> u64
+        ensures { result ≡ self.now.seed }
+    {
+        self.seed
+    }
+
     /// The hash by which a path is found in this table.
     pub fn hash_of(&self, path: &[u32]) -> u32
         ensures { result ≡ short_hash self.now.seed path.now }
     {
         short_hash_of(self.seed, path)
+    }
+
+    /// The same of a path with a hash, which serves if it was made for this table.
+    pub fn hash_by(&self, hash: SeededHash, path: &[u32]) -> u32
+        requires { hash.short ≡ short_hash hash.seed path.now }
+        ensures { result ≡ short_hash self.now.seed path.now }
+    {
+        if hash.seed == self.seed {
+            hash.short
+        } else {
+            short_hash_of(self.seed, path)
+        }
     }
 
     /// Searches a path by its hash. It takes no memory.

@@ -1,9 +1,10 @@
 //! Paths that are looked up one right after the other, by guesses that are compared.
 
-ghost use Rattle.std.specs.Prelude.{◌≡◌, [], length, OnOk};
-ghost use Rattle.path_clean.specs.Lookups.{found_at, AreRowsWhereFound};
+ghost use Rattle.std.specs.Prelude.{◌≡◌, [], length, OnOk, OnErr};
+ghost use Rattle.path_clean.specs.Lookups.{found_at, AreHashed, AreRowsWhereFound};
 
 use crate::distinct_rows::IndexedPaths;
+use crate::hashing::short_hash_of;
 use crate::merged_paths::MergedPaths;
 use std::alloc::Global;
 use std::marker::Model;
@@ -59,29 +60,81 @@ impl Lookup {
         }
     }
 
-    /// Looks paths up in a table: first all guesses are made, then they are compared.
+    /// Looks paths up in a table.
     pub(crate) fn fill(&mut self, table: &IndexedPaths, paths: &MergedPaths) -> Result<(), NoMemory>
         ensures rows { OnOk result (AreRowsWhereFound table.now.rows paths.now self.new) }
         ensures each { OnOk result (length self.new ≡ length paths.now) }
     {
-        let count = paths.len();
-        self.hashes.resize(count, 0)?;
-        self.guesses.resize(count, 0)?;
-        self.places.resize(count, None)?;
-        hash_each(table, paths, &mut self.hashes);
-        table.guess_each(self.hashes.as_slice(), &mut self.guesses);
-        compare_each(table, paths, self.guesses.as_slice(), &mut self.places);
-        Ok(())
+        hash_each(table.seed(), paths, &mut self.hashes)?;
+        find_each(
+            table,
+            paths,
+            self.hashes.as_slice(),
+            &mut self.guesses,
+            &mut self.places,
+        )
+    }
+
+    /// Looks paths of these hashes up in a table.
+    pub(crate) fn fill_by(
+        &mut self,
+        table: &IndexedPaths,
+        paths: &MergedPaths,
+        hashes: &[u32],
+    ) -> Result<(), NoMemory>
+        requires { length hashes.now ≡ length paths.now }
+        ensures rows { OnOk result (AreRowsWhereFound table.now.rows paths.now self.new) }
+        ensures each { OnOk result (length self.new ≡ length paths.now) }
+    {
+        find_each(table, paths, hashes, &mut self.guesses, &mut self.places)
     }
 }
 
-/// The hash of each of the paths.
-fn hash_each(table: &IndexedPaths, paths: &MergedPaths, hashes: &mut [u32])
+/// Looks paths of these hashes up: first all guesses are made, then they are compared.
+fn find_each(
+    table: &IndexedPaths,
+    paths: &MergedPaths,
+    hashes: &[u32],
+    guesses: &mut Vec<u32>,
+    places: &mut Vec<Option<PathId>>,
+) -> Result<(), NoMemory>
+    requires { length hashes.now ≡ length paths.now }
+    ensures rows { OnOk result (AreRowsWhereFound table.now.rows paths.now places.new.items) }
+    ensures each { OnOk result (length places.new.items ≡ length paths.now) }
+{
+    guesses.resize(hashes.len(), 0)?;
+    places.resize(hashes.len(), None)?;
+    table.guess_each(hashes, guesses);
+    compare_each(table, paths, guesses.as_slice(), places);
+    Ok(())
+}
+
+/// The hashes of the paths, which begin with this number.
+pub(crate) fn hash_each(
+    seed: u64,
+    paths: &MergedPaths,
+    hashes: &mut Vec<u32>,
+) -> Result<(), NoMemory>
+    ensures many { OnOk result (length hashes.new.items ≡ length paths.now) }
+    ensures hashed { OnOk result (AreHashed seed paths.now hashes.new.items) }
+    ensures err { OnErr result (hashes.new.items ≡ []) }
+{
+    hashes.clear();
+    if hashes.resize(paths.len(), 0).is_err() {
+        return Err(NoMemory);
+    }
+    put_hashes(seed, paths, hashes);
+    Ok(())
+}
+
+/// Puts the hash of each of the paths into its place.
+fn put_hashes(seed: u64, paths: &MergedPaths, hashes: &mut [u32])
     requires many { length hashes.old ≡ length paths.now }
-    ensures { length hashes.new ≡ length hashes.old }
+    ensures same { length hashes.new ≡ length hashes.old }
+    ensures hashed { AreHashed seed paths.now hashes.new }
 {
     for place in 0..paths.len() {
-        hashes[place] = table.hash_of(paths.path(place));
+        hashes[place] = short_hash_of(seed, paths.path(place));
     }
 }
 

@@ -1,5 +1,5 @@
 use Rattle.std.proofs.Common.{◌≡◌, ◌-◌, ◌≤◌, length, take}
-use Rattle.path_clean.specs.Slots.{IsIndexed, AreHashesFrom}
+use Rattle.path_clean.specs.Slots.{IsIndexed}
 use Rattle.path_clean.proofs.slots.filled.Given as goal
 
 -- the rows before the block are found
