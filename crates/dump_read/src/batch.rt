@@ -5,7 +5,7 @@ ghost use Rattle.dump_read.specs.Batches.{StandAtPlaces, TakesAt, IsLimitAt, Tak
 
 use crate::taking::{Taken, Untaken, take_again, take_merged};
 use path_attrs::{Attrs, Width};
-use path_clean::{Cause, Lookup, MergedPaths, PathTable, Sets};
+use path_clean::{Cause, HashedPaths, Lookup, PathTable, Sets};
 use std::alloc::Global;
 use std::marker::Model;
 use tor_arena::NoMemory;
@@ -18,7 +18,7 @@ pub(crate) struct Batch {
     // of each route the cause for which it is set aside, where that is known before its path is judged
     causes: Vec<Option<Cause>>,
     // of each route its path, unjudged
-    paths: MergedPaths,
+    paths: HashedPaths,
     // where the paths of the routes were found in the table
     lookup: Lookup,
 }
@@ -40,7 +40,7 @@ impl Batch {
     {
         Batch {
             causes: Vec::new(alloc),
-            paths: MergedPaths::new(alloc),
+            paths: HashedPaths::new(alloc),
             lookup: Lookup::new(alloc),
         }
     }
@@ -88,7 +88,7 @@ impl Batch {
         ensures routes { self.new.routes ≡ self.old.routes }
         ensures found { OnOk result (StandAtPlaces table.now.rows self.new) }
     {
-        table.find_batch(&self.paths, &mut self.lookup)
+        table.find_hashed(&mut self.paths, &mut self.lookup)
     }
 
     /// Takes in one of the routes, judged, where its path wasn't found. A route that isn't taken changes nothing.
@@ -103,7 +103,7 @@ impl Batch {
             Some(cause) => taken.counts.add(cause),
             None => match self.lookup.place(place) {
                 Some(id) => take_again(taken, id),
-                None => take_merged(alloc, taken, self.paths.path(place))?,
+                None => take_merged(alloc, taken, &self.paths.hashed(place))?,
             },
         }
         Ok(())

@@ -8,7 +8,7 @@ ghost use Rattle.dump_read.specs.Refusals.{IsLimit};
 
 use crate::error::LimitKind;
 use crate::file_counts::FileCounts;
-use path_clean::{AddRefused, Asides, PathTable, judge};
+use path_clean::{AddRefused, Asides, HashedPath, PathTable, judge};
 use std::alloc::Global;
 use tor_arena::{List, NoMemory, PathId};
 
@@ -58,23 +58,27 @@ impl From<AddRefused> for Untaken {
 }
 
 /// Counts a clean path, and adds it if it is new. One that isn't taken changes nothing.
-fn take_path(taken: &mut Taken, path: &[u32]) -> Result<(), Untaken>
+fn take_path(taken: &mut Taken, path: &HashedPath<'_>) -> Result<(), Untaken>
     requires { IsTrue (is_cleaned path.now) }
     ensures taken { OnOk result (path_taken taken.old path.now ≡ Ok taken.new) }
     ensures limit { IfErr result (IsLimit (path_taken taken.old path.now)) }
     ensures unchanged { OnErr result (taken.new ≡ taken.old) }
 {
-    taken.table.add(path)?;
+    taken.table.add_hashed(path)?;
     Ok(())
 }
 
 /// Judges a merged path, and counts it, or the cause for which its route is set aside. One that isn't taken changes nothing.
-pub(crate) fn take_merged(alloc: Global, taken: &mut Taken, path: &[u32]) -> Result<(), Untaken>
+pub(crate) fn take_merged(
+    alloc: Global,
+    taken: &mut Taken,
+    path: &HashedPath<'_>,
+) -> Result<(), Untaken>
     ensures taken { OnOk result (take_cleaned taken.old (judged path.now) ≡ Ok taken.new) }
     ensures limit { IfErr result (IsLimit (take_cleaned taken.old (judged path.now))) }
     ensures unchanged { OnErr result (taken.new ≡ taken.old) }
 {
-    match judge(alloc, path)? {
+    match judge(alloc, path.numbers())? {
         None => take_path(taken, path),
         Some(cause) => {
             taken.counts.add(cause);

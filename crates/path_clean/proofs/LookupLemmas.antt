@@ -11,6 +11,7 @@ use Rattle.path_clean.specs.Chains.{row_at}
 use Rattle.path_clean.specs.Inside.{counted_by}
 use Rattle.path_clean.specs.Paths.{is_cleaned}
 use Rattle.path_clean.specs.Rows.{none_twice}
+use Rattle.path_clean.specs.Slots.{short_hash}
 use Rattle.path_clean.specs.Lookups.{found_at, AreRowsWhereFound, StandWhereFound, AreCleanWhereFound}
 use Rattle.path_clean.proofs.TableLemmas.{again-at}
 use Rattle.path_clean.proofs.IndexLemmas.{get-row, same}
@@ -34,6 +35,21 @@ rows-next rows paths places place path found here stands before k id other lt at
       let is : path ≡ other = same path other (sym here ∙ ap (slice_get paths) (sym new.0) ∙ route) in
       subst (λ p. slice_get rows id ≡ Some p) is (subst (λ o. IfSome o (λ i. slice_get rows i ≡ Some path)) (sym new.1) stands)
   | inr old ↦ let apart : k ≢ place = old.0 in before k id other (omega (arith, lt, apart)) old.1 route
+]
+
+-- the first so many hashes are made
+abbrev pub AreHashedBefore : (count seed : ℕ) (paths : List (List ℕ)) (hashes : List ℕ) → Type 0
+AreHashedBefore count seed paths hashes =
+    (k hash : ℕ) (path : List ℕ) → k < count → slice_get hashes k ≡ Some hash → slice_get paths k ≡ Some path → hash ≡ short_hash seed path
+
+-- one hash more is made
+pub hashed-next : (seed : ℕ) (paths : List (List ℕ)) (hashes : List ℕ) (place : ℕ) (path : List ℕ) (made : ℕ) → slice_get paths place ≡ Some path
+    → made ≡ short_hash seed path → AreHashedBefore place seed paths hashes → AreHashedBefore (place + 1) seed paths (set hashes place made)
+hashed-next seed paths hashes place path made stands is before k hash other lt at route = elim (slice_get-set_cases hashes place made k hash at) [
+  | inl new ↦
+      let same_path : path ≡ other = same path other (sym stands ∙ ap (slice_get paths) (sym new.0) ∙ route) in
+      new.1 ∙ is ∙ ap (short_hash seed) same_path
+  | inr old ↦ let apart : k ≢ place = old.0 in before k hash other (omega (arith, lt, apart)) old.1 route
 ]
 
 -- the row of a place in a table stands there

@@ -1,7 +1,8 @@
 -- Where the paths of a batch were found, each by its number in the batch.
-use Rattle.std.specs.Prelude.{◌≡◌, ℕ, true, List, Option, Some, None, slice_get, unwrap_or}
+use Rattle.std.specs.Prelude.{◌≡◌, ◌≤◌, ℕ, true, List, length, Option, Some, None, slice_get, unwrap_or}
 use Rattle.path_clean.specs.Paths.{is_cleaned}
 use Rattle.path_clean.specs.Rows.{Counted}
+use Rattle.path_clean.specs.Slots.{short_hash}
 use Rattle.path_clean.specs.Table.{place_of}
 
 -- where the path of this number was found, if it was
@@ -22,3 +23,8 @@ StandWhereFound rows paths places =
 abbrev pub AreCleanWhereFound : (paths : List (List ℕ)) (places : List (Option ℕ)) → Type 0
 AreCleanWhereFound paths places =
     (k id : ℕ) (path : List ℕ) → slice_get places k ≡ Some (Some id) → slice_get paths k ≡ Some path → is_cleaned path ≡ true
+
+-- each hash is that of the path in its place
+pub record AreHashed (seed : ℕ) (paths : List (List ℕ)) (hashes : List ℕ) : Type 0 where
+  pub few : length hashes ≤ length paths
+  pub each : (k hash : ℕ) (path : List ℕ) → slice_get hashes k ≡ Some hash → slice_get paths k ≡ Some path → hash ≡ short_hash seed path

@@ -1,5 +1,5 @@
 -- Rows that are found by slots: each stands in the slot that its hash names, or in one of the next, before any that is free.
-use Rattle.std.specs.Prelude.{◌≡◌, ◌≢◌, ◌<◌, ◌⊎◌, ℕ, zero, suc, ◌-◌, ◌*◌, ◌/◌, ◌^◌, ◌≤◌, List, length, Option, Some, None}
+use Rattle.std.specs.Prelude.{◌≡◌, ◌≢◌, ◌<◌, ◌⊎◌, ℕ, zero, suc, ◌+◌, ◌-◌, ◌*◌, ◌/◌, ◌^◌, ◌≤◌, List, length, Option, Some, None}
 use Rattle.std.specs.Prelude.{slice_get, set, bit_and}
 use Rattle.tor_arena.specs.Growth.{next_slot}
 use Rattle.tor_arena.specs.Limits.{max_paths}
@@ -116,3 +116,7 @@ pub record Indexed : Type 0 where
 abbrev pub IsPut : (hash row : ℕ) (old new : List TaggedRow) → Type 0
 IsPut hash row old new =
     (place : ℕ) × IsVacant old (slot_of_hash hash (length old)) place × (new ≡ set old place (record { tag = tag_of hash; row = row }))
+
+-- the first so many hashes are those of the rows from a place on
+abbrev pub AreHashesFrom : (seed : ℕ) (rows : List (List ℕ)) (start many : ℕ) (hashes : List ℕ) → Type 0
+AreHashesFrom seed rows start many hashes = (k : ℕ) → k < many → slice_get hashes k ≡ Some (short_hash seed (row_at rows (start + k)))

@@ -1,5 +1,5 @@
 //! What cleaning comes to.
-ghost use Rattle.std.specs.Prelude.{◌≡◌, IsTrue};
+ghost use Rattle.std.specs.Prelude.{◌≡◌, true, false, IsTrue};
 ghost use Rattle.std.specs.List.{list_any};
 ghost use Rattle.tor_arena.specs.Distinct.{is_distinct};
 ghost use Rattle.path_clean.specs.Paths.{is_reserved, is_cleaned};
@@ -55,6 +55,29 @@ pub(crate) fn has_reserved(path: &[u32]) -> bool
     ensures { result ≡ list_any is_reserved path.now }
 {
     path.iter().any(|number| is_reserved_number(*number))
+}
+
+/// How many marks there are for the numbers of a path.
+const MARKS: usize = 128;
+
+/// Whether it shows in one pass that no number is reserved and none stands there twice: all have different marks. Where it doesn't show, it
+/// may be so all the same. Hardly any path of a few numbers is left to be looked at again.
+pub(crate) fn is_plainly_sound(path: &[u32]) -> bool
+    ensures reserved { IsTrue result → list_any is_reserved path.now ≡ false }
+    ensures distinct { IsTrue result → is_distinct path.now ≡ true }
+{
+    let mut marks = [false; MARKS];
+    let mut at = path.len();
+    'numbers: while at > 0 {
+        at -= 1;
+        let number = path[at];
+        let mark = number as usize % MARKS;
+        if marks[mark] || is_reserved_number(number) {
+            return false;
+        }
+        marks[mark] = true;
+    }
+    true
 }
 
 /// Whether no number stands there twice. Each is sought among those behind it.

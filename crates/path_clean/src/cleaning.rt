@@ -5,7 +5,7 @@ ghost use Rattle.path_clean.specs.Paths.{is_cleaned};
 ghost use Rattle.path_clean.specs.Clean.{judged, cleaned_as, clean_of, merge_segments, merged_of};
 ghost use Rattle.path_clean.specs.Merging.{cause_of, IsPutBehind};
 
-use crate::cleaned::{Cause, Cleaned, Sets, are_distinct, has_reserved};
+use crate::cleaned::{Cause, Cleaned, Sets, are_distinct, has_reserved, is_plainly_sound};
 use crate::merging::{Oddity, append_merged, append_segments};
 use crate::plain::plain_ases;
 use path_attrs::{Attrs, PathCursor, Pathless, Width};
@@ -150,6 +150,9 @@ fn are_distinct_by_set(alloc: Global, path: &[u32]) -> Result<bool, NoMemory>
 pub fn judge(alloc: Global, path: &[u32]) -> Result<Option<Cause>, NoMemory>
     ensures { IfOk result (λ cause. cleaned_as cause path.now ≡ judged path.now) }
 {
+    if path.len() >= 2 && is_plainly_sound(path) {
+        return Ok(None);
+    }
     if has_reserved(path) {
         return Ok(Some(Cause::Reserved));
     }

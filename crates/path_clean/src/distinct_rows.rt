@@ -5,8 +5,8 @@ ghost use Rattle.tor_arena.specs.Limits.{max_paths};
 ghost use Rattle.path_clean.specs.Chains.{row_at};
 ghost use Rattle.path_clean.specs.Slots.{short_hash, slot_of_hash, three_quarters, IsVacant, IsVacancy, IsRowSearchEnd, OnFree, Tells};
 
-use crate::hashing::{seed_of, short_hash_of};
-use crate::slots::{SearchEnd, Slot, filled, free_from, guess, id_of, seek, start_of};
+use crate::hashing::{SeededHash, seed_of, short_hash_of};
+use crate::slots::{SearchEnd, Slot, filled, free_from, guess_each, id_of, seek, start_of};
 use std::alloc::Global;
 use std::marker::Model;
 use tor_arena::{Index, Keys, NoMemory, PathId, Rows, doubled};
@@ -79,11 +79,30 @@ impl IndexedPaths {
         self.rows
     }
 
+    /// With what the hashes of this table begin.
+    pub fn seed(&self) -> u64
+        ensures { result ≡ self.now.seed }
+    {
+        self.seed
+    }
+
     /// The hash by which a path is found in this table.
     pub fn hash_of(&self, path: &[u32]) -> u32
         ensures { result ≡ short_hash self.now.seed path.now }
     {
         short_hash_of(self.seed, path)
+    }
+
+    /// The same of a path with a hash, which serves if it was made for this table.
+    pub fn hash_by(&self, hash: SeededHash, path: &[u32]) -> u32
+        requires { hash.short ≡ short_hash hash.seed path.now }
+        ensures { result ≡ short_hash self.now.seed path.now }
+    {
+        if hash.seed == self.seed {
+            hash.short
+        } else {
+            short_hash_of(self.seed, path)
+        }
     }
 
     /// Searches a path by its hash. It takes no memory.
@@ -114,17 +133,23 @@ impl IndexedPaths {
         self.seed == seed_of(keys)
     }
 
-    /// A guess where a path of this hash stands. It is one look into memory, at two slots that stand side by side, on which nothing else
-    /// here waits, so the looks for several paths overlap if they follow one another. No row is looked at, and no memory is taken.
-    pub fn guess(&self, hash: u32) -> Option<PathId> {
-        guess(self.slots.as_slice(), hash)
+    /// A guess for each of the hashes where a path of that hash stands. Each is one look into memory, at slots that stand side by side, on
+    /// which nothing else here waits, so that the looks overlap. No row is looked at, and no memory is taken.
+    pub fn guess_each(&self, hashes: &[u32], guesses: &mut [u32])
+        requires { length guesses.old ≡ length hashes.now }
+        ensures { length guesses.new ≡ length guesses.old }
+    {
+        if self.slots.is_empty() {
+            return;
+        }
+        guess_each(self.slots.as_slice(), hashes, guesses);
     }
 
     /// Where a path stands, if a guess, which may be any, says so. It takes no memory.
-    pub fn find_guessed(&self, guess: Option<PathId>, path: &[u32]) -> Option<PathId>
+    pub fn find_guessed(&self, guess: u32, path: &[u32]) -> Option<PathId>
         ensures { IfSome result (λ id. slice_get self.now.rows id ≡ Some path.now) }
     {
-        let id = guess?;
+        let id = PathId::from_place(guess as usize)?;
         if id.place() < self.rows.len() && self.rows.row(id) == path {
             Some(id)
         } else {

@@ -25,6 +25,13 @@ pub(crate) fn seed_of(keys: Keys) -> u64 {
     keys.hash_one(0u8)
 }
 
+/// The hash of a path, and with what it begins.
+#[derive(Clone, Copy)]
+pub(crate) struct SeededHash {
+    pub seed: u64,
+    pub short: u32,
+}
+
 /// The hash of a path.
 fn hash_of(seed: u64, path: &[u32]) -> u64
     ensures { result ≡ path_hash seed path.now }

@@ -1,20 +1,23 @@
 //! Paths that are looked up one right after the other, by guesses that are compared.
 
-ghost use Rattle.std.specs.Prelude.{◌≡◌, [], length, OnOk};
-ghost use Rattle.path_clean.specs.Lookups.{found_at, AreRowsWhereFound};
+ghost use Rattle.std.specs.Prelude.{◌≡◌, [], length, OnOk, OnErr};
+ghost use Rattle.path_clean.specs.Lookups.{found_at, AreHashed, AreRowsWhereFound};
 
 use crate::distinct_rows::IndexedPaths;
+use crate::hashing::short_hash_of;
 use crate::merged_paths::MergedPaths;
 use std::alloc::Global;
 use std::marker::Model;
-use tor_arena::{List, NoMemory, PathId};
+use tor_arena::{NoMemory, PathId};
 
 /// Where the paths of a batch were found in a table. Its lists serve one batch after the other.
 #[derive(Drop)]
 pub struct Lookup {
     // the hashes of the paths
-    hashes: List<u32>,
-    // where the paths may stand in the table, and in the end those places where they do
+    hashes: Vec<u32>,
+    // the guesses where the paths stand in the table
+    guesses: Vec<u32>,
+    // the places of those paths that stand where it was guessed
     places: Vec<Option<PathId>>,
 }
 
@@ -32,7 +35,8 @@ impl Lookup {
         ensures { result ≡ [] }
     {
         Lookup {
-            hashes: List::new(alloc),
+            hashes: Vec::new(alloc),
+            guesses: Vec::new(alloc),
             places: Vec::new(alloc),
         }
     }
@@ -56,55 +60,97 @@ impl Lookup {
         }
     }
 
-    /// Looks paths up in a table: first all guesses are made, then they are compared.
+    /// Looks paths up in a table.
     pub(crate) fn fill(&mut self, table: &IndexedPaths, paths: &MergedPaths) -> Result<(), NoMemory>
         ensures rows { OnOk result (AreRowsWhereFound table.now.rows paths.now self.new) }
         ensures each { OnOk result (length self.new ≡ length paths.now) }
     {
-        hash_each(table, paths, &mut self.hashes)?;
-        guess_each(table, self.hashes.as_slice(), &mut self.places)?;
-        compare_each(table, paths, &mut self.places);
-        Ok(())
+        hash_each(table.seed(), paths, &mut self.hashes)?;
+        find_each(
+            table,
+            paths,
+            self.hashes.as_slice(),
+            &mut self.guesses,
+            &mut self.places,
+        )
+    }
+
+    /// Looks paths of these hashes up in a table.
+    pub(crate) fn fill_by(
+        &mut self,
+        table: &IndexedPaths,
+        paths: &MergedPaths,
+        hashes: &[u32],
+    ) -> Result<(), NoMemory>
+        requires { length hashes.now ≡ length paths.now }
+        ensures rows { OnOk result (AreRowsWhereFound table.now.rows paths.now self.new) }
+        ensures each { OnOk result (length self.new ≡ length paths.now) }
+    {
+        find_each(table, paths, hashes, &mut self.guesses, &mut self.places)
     }
 }
 
-/// The hash of each of the paths.
-fn hash_each(
+/// Looks paths of these hashes up: first all guesses are made, then they are compared.
+fn find_each(
     table: &IndexedPaths,
     paths: &MergedPaths,
-    hashes: &mut List<u32>,
+    hashes: &[u32],
+    guesses: &mut Vec<u32>,
+    places: &mut Vec<Option<PathId>>,
 ) -> Result<(), NoMemory>
-    ensures { OnOk result (length hashes.new ≡ length paths.now) }
+    requires { length hashes.now ≡ length paths.now }
+    ensures rows { OnOk result (AreRowsWhereFound table.now.rows paths.now places.new.items) }
+    ensures each { OnOk result (length places.new.items ≡ length paths.now) }
 {
-    hashes.clear();
-    for place in 0..paths.len() {
-        hashes.push(table.hash_of(paths.path(place)))?;
-    }
+    guesses.resize(hashes.len(), 0)?;
+    places.resize(hashes.len(), None)?;
+    table.guess_each(hashes, guesses);
+    compare_each(table, paths, guesses.as_slice(), places);
     Ok(())
 }
 
-/// A guess for each of the hashes. These looks into memory follow one another with nothing between them.
-fn guess_each(
-    table: &IndexedPaths,
-    hashes: &[u32],
-    places: &mut Vec<Option<PathId>>,
+/// The hashes of the paths, which begin with this number.
+pub(crate) fn hash_each(
+    seed: u64,
+    paths: &MergedPaths,
+    hashes: &mut Vec<u32>,
 ) -> Result<(), NoMemory>
-    ensures { OnOk result (length places.new.items ≡ length hashes.now) }
+    ensures many { OnOk result (length hashes.new.items ≡ length paths.now) }
+    ensures hashed { OnOk result (AreHashed seed paths.now hashes.new.items) }
+    ensures err { OnErr result (hashes.new.items ≡ []) }
 {
-    places.clear();
-    for place in 0..hashes.len() {
-        places.push(table.guess(hashes[place]))?;
+    hashes.clear();
+    if hashes.resize(paths.len(), 0).is_err() {
+        return Err(NoMemory);
     }
+    put_hashes(seed, paths, hashes);
     Ok(())
+}
+
+/// Puts the hash of each of the paths into its place.
+fn put_hashes(seed: u64, paths: &MergedPaths, hashes: &mut [u32])
+    requires many { length hashes.old ≡ length paths.now }
+    ensures same { length hashes.new ≡ length hashes.old }
+    ensures hashed { AreHashed seed paths.now hashes.new }
+{
+    for place in 0..paths.len() {
+        hashes[place] = short_hash_of(seed, paths.path(place));
+    }
 }
 
 /// Keeps those guesses that are right: each of the paths stands in the table where it was guessed.
-fn compare_each(table: &IndexedPaths, paths: &MergedPaths, places: &mut [Option<PathId>])
+fn compare_each(
+    table: &IndexedPaths,
+    paths: &MergedPaths,
+    guesses: &[u32],
+    places: &mut [Option<PathId>],
+)
     requires many { length places.old ≡ length paths.now }
+    requires guessed { length guesses.now ≡ length paths.now }
     ensures rows { AreRowsWhereFound table.now.rows paths.now places.new }
     ensures each { length places.new ≡ length places.old }
 {
     for place in 0..paths.len() {
-        places[place] = table.find_guessed(places[place], paths.path(place));
+        places[place] = table.find_guessed(guesses[place], paths.path(place));
     }
 }

@@ -1,10 +1,10 @@
 //! Slots by which rows are found, so that a look-up waits for memory once for its slot and once or twice for the row.
 
-ghost use Rattle.std.specs.Prelude.{◌≡◌, ◌<◌, ◌≤◌, ◌+◌, ◌^◌, ◌↔◌, length, IsTrue, Some, IfSome, IfOk, OnOk};
+ghost use Rattle.std.specs.Prelude.{◌≡◌, ◌<◌, ◌≤◌, ◌+◌, ◌-◌, ◌^◌, ◌↔◌, length, IsTrue, Some, IfSome, IfOk, OnOk};
 ghost use Rattle.tor_arena.specs.Growth.{next_slot};
 ghost use Rattle.tor_arena.specs.Limits.{most_places, max_paths};
 ghost use Rattle.path_clean.specs.Slots.{tag_of, slot_of_hash, row_from_one, IsVacant, IsRowSearchEnd, NameOnlyRows, IsTold, IsPut};
-ghost use Rattle.path_clean.specs.Slots.{IsIndexed};
+ghost use Rattle.path_clean.specs.Slots.{IsIndexed, AreHashesFrom};
 
 use crate::hashing::{row_of, short_hash_of};
 use std::alloc::Global;
@@ -113,16 +113,27 @@ pub(crate) fn id_of(row: u32) -> PathId
     }
 }
 
-/// Where a path of this hash may stand: at the row that one of the first two slots of its search names, if that has the path's tag.
-/// Nothing is compared with what the slots have but by taking the lesser of two numbers, so no branch waits for them.
-pub(crate) fn guess(slots: &[Slot], hash: u32) -> Option<PathId> {
-    if slots.is_empty() {
-        return None;
+/// Where a path of this hash may stand: at the row that one of the first three slots of its search names, if that has the path's tag. It
+/// is the place of the row, or more than that of any. Nothing is compared with what the slots have but by taking the lesser of two numbers,
+/// so no branch waits for them.
+fn guess(slots: &[Slot], hash: u32) -> u32
+    requires some { 0 < length slots.now }
+{
+    let first = slots[start_of(hash, slots.len())].place(hash);
+    let second = slots[start_of(hash.wrapping_add(1), slots.len())].place(hash);
+    let third = slots[start_of(hash.wrapping_add(2), slots.len())].place(hash);
+    first.min(second).min(third)
+}
+
+/// A guess for each of the hashes. These looks into memory follow one another with hardly anything between them.
+pub(crate) fn guess_each(slots: &[Slot], hashes: &[u32], guesses: &mut [u32])
+    requires some { 0 < length slots.now }
+    requires many { length guesses.old ≡ length hashes.now }
+    ensures { length guesses.new ≡ length guesses.old }
+{
+    for place in 0..hashes.len() {
+        guesses[place] = guess(slots, hashes[place]);
     }
-    let first = start_of(hash, slots.len());
-    let second = next(first, slots.len());
-    let place = slots[first].place(hash).min(slots[second].place(hash));
-    PathId::from_place(place as usize)
 }
 
 /// Whether a slot, which isn't free, has the tag and names the path.
@@ -193,7 +204,25 @@ fn put(slots: &mut [Slot], hash: u32, row: u32) -> Result<(), NoMemory>
     }
 }
 
-/// So many slots, which name these rows. The rows are gone over in order and hashed again, so that no hash has to be kept.
+/// How many rows are hashed before the first of them is put into its slot.
+const BLOCK: usize = 32;
+
+/// The hashes of the rows from `start` up to `end`.
+fn hash_rows(seed: u64, rows: &Rows<PathId, u32>, start: usize, end: usize, hashes: &mut [u32])
+    requires few { length rows.now ≤ max_paths }
+    requires start { start ≤ end }
+    requires end { end ≤ length rows.now }
+    requires room { end - start ≤ length hashes.old }
+    ensures many { length hashes.new ≡ length hashes.old }
+    ensures hashes { AreHashesFrom seed rows.now start (end - start) hashes.new }
+{
+    for place in start..end {
+        hashes[place - start] = short_hash_of(seed, row_of(rows, place));
+    }
+}
+
+/// So many slots, which name these rows. The rows are gone over in order and hashed again, so that no hash has to be kept. They are hashed
+/// in blocks, so that the waits for memory of the slots of a block overlap.
 pub(crate) fn filled(
     alloc: Global,
     seed: u64,
@@ -208,9 +237,15 @@ pub(crate) fn filled(
     let mut slots = Vec::new(alloc);
     reserve(&mut slots, count)?;
     slots.resize(count, FREE)?;
-    for place in 0..rows.len() {
-        let hash = short_hash_of(seed, row_of(rows, place));
-        put(&mut slots, hash, place as u32 + 1)?;
+    let mut hashes = [0u32; BLOCK];
+    let mut start = 0;
+    'blocks: while start < rows.len() {
+        let end = rows.len().min(start + BLOCK);
+        hash_rows(seed, rows, start, end, &mut hashes);
+        for place in start..end {
+            put(&mut slots, hashes[place - start], place as u32 + 1)?;
+        }
+        start = end;
     }
     Ok(slots)
 }

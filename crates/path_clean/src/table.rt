@@ -7,10 +7,12 @@ ghost use Rattle.tor_arena.specs.Limits.{max_paths, max_numbers};
 ghost use Rattle.path_clean.specs.Lookups.{StandWhereFound, AreCleanWhereFound};
 ghost use Rattle.path_clean.specs.Paths.{is_cleaned};
 ghost use Rattle.path_clean.specs.Rows.{row_paths, times_of, numbers_in, none_twice};
+ghost use Rattle.path_clean.specs.Slots.{short_hash};
 ghost use Rattle.path_clean.specs.Table.{place_of, with_path, Names, CountsOnceMore, IsPathTooMany, HasNumbersTooMany};
 
 use crate::distinct_rows::IndexedPaths;
-use crate::hashing::row_of;
+use crate::hashed_paths::{HashedPath, HashedPaths};
+use crate::hashing::{SeededHash, row_of};
 use crate::lookup::Lookup;
 use crate::merged_paths::MergedPaths;
 use crate::slots::SearchEnd;
@@ -131,6 +133,16 @@ impl PathTable {
         lookup.fill(&self.paths, paths)
     }
 
+    /// Looks up where paths stand, as `find_batch` does, and keeps their hashes for `add_hashed`.
+    pub fn find_hashed(&self, paths: &mut HashedPaths, lookup: &mut Lookup) -> Result<(), NoMemory>
+        ensures same { paths.new ≡ paths.old }
+        ensures found { OnOk result (StandWhereFound self.now.rows paths.new lookup.new) }
+        ensures clean { OnOk result (AreCleanWhereFound paths.new lookup.new) }
+        ensures each { OnOk result (length lookup.new ≡ length paths.new) }
+    {
+        paths.look_up(&self.paths, lookup)
+    }
+
     /// Counts the path of an index, which has to be there, once more: it gains one in its times, up to 2^64 - 1. It takes no memory.
     pub fn count(&mut self, id: PathId)
         requires there { id < length self.old.rows }
@@ -155,7 +167,22 @@ impl PathTable {
         ensures limit { self.new.limit ≡ self.old.limit }
         ensures unchanged { OnErr result (self.new.rows ≡ self.old.rows) }
     {
-        self.add_or_count(path, 1)
+        let hash = self.seeded_hash(path);
+        self.add_or_count(path, hash, 1)
+    }
+
+    /// Adds a clean path that has its hash, as `add` does.
+    pub fn add_hashed(&mut self, path: &HashedPath<'_>) -> Result<Added, AddRefused>
+        requires { IsTrue (is_cleaned path.now) }
+        ensures added { OnOk result (self.new.rows ≡ with_path self.old.rows path.now) }
+        ensures answer { IfOk result (Names self.old.rows path.now) }
+        ensures known { IsSome (place_of self.old.rows path.now) → IsOk result }
+        ensures paths { (result ≡ Err AddRefused.TooManyPaths) ↔ IsPathTooMany self.old path.now }
+        ensures numbers { (result ≡ Err AddRefused.TooManyNumbers) ↔ HasNumbersTooMany self.old path.now }
+        ensures limit { self.new.limit ≡ self.old.limit }
+        ensures unchanged { OnErr result (self.new.rows ≡ self.old.rows) }
+    {
+        self.add_or_count(path.numbers(), path.hash(), 1)
     }
 
     /// Adds a clean path that isn't there so many times at once, at least 1: it goes last with these times. TooManyPaths exactly where as
@@ -172,7 +199,8 @@ impl PathTable {
         ensures limit { self.new.limit ≡ self.old.limit }
         ensures unchanged { OnErr result (self.new.rows ≡ self.old.rows) }
     {
-        match self.add_or_count(path, times) {
+        let hash = self.seeded_hash(path);
+        match self.add_or_count(path, hash, times) {
             Ok(added) => match added {
                 Added::New(id) => Ok(id),
                 Added::Known(_) => unreachable!(),
@@ -181,10 +209,26 @@ impl PathTable {
         }
     }
 
+    // The hash of a path for this table.
+    fn seeded_hash(&self, path: &[u32]) -> SeededHash
+        ensures { result.short ≡ short_hash result.seed path.now }
+    {
+        SeededHash {
+            seed: self.paths.seed(),
+            short: self.paths.hash_of(path),
+        }
+    }
+
     // Counts a clean path that is there once more, and adds one that isn't with these times: it goes last. It is refused as by `add`.
     #[inline(always)]
-    fn add_or_count(&mut self, path: &[u32], times: u64) -> Result<Added, AddRefused>
+    fn add_or_count(
+        &mut self,
+        path: &[u32],
+        hash: SeededHash,
+        times: u64,
+    ) -> Result<Added, AddRefused>
         requires clean { IsTrue (is_cleaned path.now) }
+        requires hashed { hash.short ≡ short_hash hash.seed path.now }
         requires seen { 1 ≤ times }
         ensures counted { IsSome (place_of self.old.rows path.now) → self.new.rows ≡ with_path self.old.rows path.now }
         ensures added { OnOk result (place_of self.old.rows path.now ≡ None →
@@ -196,7 +240,7 @@ impl PathTable {
         ensures limit { self.new.limit ≡ self.old.limit }
         ensures unchanged { OnErr result (self.new.rows ≡ self.old.rows) }
     {
-        let hash = self.paths.hash_of(path);
+        let hash = self.paths.hash_by(hash, path);
         match self.paths.seek(hash, path) {
             SearchEnd::Held(id) => {
                 self.count(id);

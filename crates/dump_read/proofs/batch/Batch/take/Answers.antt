@@ -46,8 +46,8 @@ take_again-requires c =
     let found : StandsAt c.args.taken.now.table.rows c.in-Some-place.id path.0 = c.requires.found c.args.place c.in-Some-place.id path.0 place stands in
     record { there = found-within c.args.taken.now.table.rows path.0 c.in-Some-place.id found.place }
 
-pub path-requires : goal.path-requires
-path-requires c =
+pub hashed-requires : goal.hashed-requires
+hashed-requires c =
     let causes = c.self.inside.causes.items in
     let paths = c.self.inside.paths in
     let same = c.self.invariant.same in
@@ -61,10 +61,10 @@ returns-in_err-take_merged-in-None-place-clause-limit c =
     let same = c.self.invariant.same in
     let within : c.args.place < length causes = within-causes causes paths c.args.self.now c.self.inside.lookup c.args.place same c.self.view_is c.requires.there in
     let none = slice_get_read causes (length causes) c.args.place c.index.result.now refl within c.index.ensures ∙ ap (λ o. Some o) c.in-None.is in
-    let stands = ap (λ b. slice_get b.routes c.args.place) (sym c.self.view_is) ∙ merged-at causes paths c.args.place None c.path.result.now none c.path.ensures in
+    let stands = ap (λ b. slice_get b.routes c.args.place) (sym c.self.view_is) ∙ merged-at causes paths c.args.place None c.hashed.result none c.hashed.ensures in
     let p = err_from_is_err_and c.from_residual.result c.from_residual.ensures.1 in
     rw (p.1, p.2) (λ route is. subst (λ r. IsLimit (take_cleaned c.args.taken.now (judge_merged r)) c.in_err-take_merged-in-None-place.field-0.0)
-    (one-route c.args.self.now.routes c.args.place (Path c.path.result.now) route stands is) c.in_err-take_merged-in-None-place.ensures.limit)
+    (one-route c.args.self.now.routes c.args.place (Path c.hashed.result) route stands is) c.in_err-take_merged-in-None-place.ensures.limit)
 
 pub returns-in-Some-place-clause-taken : goal.returns-in-Some-place-clause-taken
 returns-in-Some-place-clause-taken c =
@@ -88,6 +88,6 @@ returns-in_ok-take_merged-in-None-place-clause-taken c =
     let same = c.self.invariant.same in
     let within : c.args.place < length causes = within-causes causes paths c.args.self.now c.self.inside.lookup c.args.place same c.self.view_is c.requires.there in
     let none = slice_get_read causes (length causes) c.args.place c.index.result.now refl within c.index.ensures ∙ ap (λ o. Some o) c.in-None.is in
-    let stands = ap (λ b. slice_get b.routes c.args.place) (sym c.self.view_is) ∙ merged-at causes paths c.args.place None c.path.result.now none c.path.ensures in
-    λ route is. subst (λ r. take_cleaned c.args.taken.now (judge_merged r) ≡ Ok c.take_merged.new.taken) (one-route c.args.self.now.routes c.args.place (Path c.path.result.now) route stands is)
+    let stands = ap (λ b. slice_get b.routes c.args.place) (sym c.self.view_is) ∙ merged-at causes paths c.args.place None c.hashed.result none c.hashed.ensures in
+    λ route is. subst (λ r. take_cleaned c.args.taken.now (judge_merged r) ≡ Ok c.take_merged.new.taken) (one-route c.args.self.now.routes c.args.place (Path c.hashed.result) route stands is)
     c.in_ok-take_merged-in-None-place.ensures.taken
