@@ -250,3 +250,8 @@ segments_in-whole width value some = by (segments_of width value) some
     by : (read : Option (List Segment)) → is_some read ≡ true → Some (unwrap_or read []) ≡ read
     by None e = absurd cc
     by (Some found) e = refl
+
+-- a value that is one segment, and nothing behind it
+pub sole_segment : (width : Width) (value : List ℕ) (s : Segment) (rest : List ℕ) → Some (s, rest) ≡ segment width value → length rest ≡ 0 → segments_of width value ≡ Some (s ∷ [])
+sole_segment width value s [] is none = segments_of-next width value s [] (sym is) ∙ ap (option_map (λ others. s ∷ others)) (segments_of-none width)
+sole_segment width value s (x ∷ xs) is none = absurd (omega (arith, none))

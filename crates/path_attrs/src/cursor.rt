@@ -1,8 +1,9 @@
 //! An AS_PATH that is read where it lies, segment by segment and number by number.
 
-ghost use Rattle.std.specs.Prelude.{◌≡◌, ◌++◌, [], ◌∷◌, IfOk, MatchOption};
+ghost use Rattle.std.specs.Prelude.{◌≡◌, ◌++◌, [], ◌∷◌, Some, IfOk, IfSome, MatchOption};
 ghost use Rattle.path_attrs.specs.Segments.{segments_of};
 ghost use Rattle.path_attrs.specs.PathOf.{count_in, cut_to};
+ghost use Rattle.path_attrs.specs.declared.as_path.Width.TheVariants.{Four};
 
 use crate::as_path::{SegKind, Segment, Width, head_of};
 use std::alloc::Global;
@@ -166,6 +167,22 @@ impl NumberCursor<'_> {
         self.rest = self.rest.split_at(self.width.octets()).1;
         self.count -= 1;
         Some(number)
+    }
+}
+
+/// The numbers of the value of an AS_PATH, with numbers of four octets, that is one AS_SEQUENCE. None: it is no such value. It takes
+/// no memory.
+pub fn sole_sequence(value: &[u8]) -> Option<NumberCursor<'_>>
+    ensures { IfSome result (λ ases. segments_of Four value.now ≡ Some (record { kind = SegKind.Sequence; ases = ases } ∷ [])) }
+{
+    let (kind, count, octets) = head_of(value, Width::Four)?;
+    match kind {
+        SegKind::Sequence if octets.len() == 4 * count => Some(NumberCursor {
+            rest: octets,
+            count,
+            width: Width::Four,
+        }),
+        _ => None,
     }
 }
 
