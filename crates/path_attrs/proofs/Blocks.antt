@@ -1,5 +1,5 @@
 -- The attributes of a block, one behind the other.
-use Rattle.std.proofs.Common.{◌≡◌, ℕ, zero, suc, ◌+◌, ◌<◌, ◌≤◌, cond, ◌==◌, Bool, true, false, Option, List, [], ◌∷◌, ◌++◌, length, take, drop, Some, None, Result, Ok, Err, is_ok, refl, sym, ap, subst, ◌∙◌, arith}
+use Rattle.std.proofs.Common.{◌≡◌, ℕ, zero, suc, ◌+◌, ◌<◌, ◌≤◌, cond, true, false, List, [], ◌∷◌, ◌++◌, length, take, drop, Some, None, Result, Ok, Err, is_ok, refl, sym, ap, subst, ◌∙◌, arith}
 use Rattle.std.specs.Result.{result_unwrap_or}
 use Rattle.std.proofs.lemmas.Bool.{eq-eqb, ne_eqb}
 use Rattle.std.proofs.lemmas.List.{take-append-drop, length-take-le, length-append, append_assoc}
@@ -7,7 +7,6 @@ use Rattle.byteorder.specs.Endian.{big_number}
 use Rattle.path_attrs.specs.declared.block.AttrCut.{AttrCut}
 use Rattle.path_attrs.specs.Fields.{◌>>=◌, octets, number}
 use Rattle.path_attrs.specs.Attributes.{Attribute, attr_cut, length_octets, attribute, attributes_within, attributes_of, attributes_in, first_value, IsEncoded, AreEncoded, BlockLaw}
-use Rattle.path_attrs.specs.PathOf.{as_path, or_first, path_of_one}
 use Rattle.path_attrs.proofs.Reading.{number_at, number_encoded, octets_encoded, octets_then, number_then, apart, ok_same}
 use Rattle.path_attrs.proofs.Encodings.{big_number-take, big_number-one, one_octet}
 
@@ -209,38 +208,3 @@ first_behind code bytes a rest is ok other =
 
 pub first_none : (code : ℕ) (bytes : List ℕ) (e : AttrCut) → attribute bytes ≡ Err e → None ≡ first_value code (attributes_in bytes)
 first_none code bytes e is = ap (first_value code) (sym (attributes_in-end bytes e is))
-
--- ---- the first AS_PATH, which is found as the block is tested
-
--- where the rest is whole, the first AS_PATH of the block is the one that was found, or else that of the rest
-abbrev pub IsFound : (block rest : List ℕ) (found : Option (List ℕ)) → Type 0
-IsFound block rest found = is_ok (attributes_of rest) ≡ true → or_first found (first_value as_path (attributes_in rest)) ≡ first_value as_path (attributes_in block)
-
-pub found_none : (block : List ℕ) → IsFound block block None
-found_none block whole = refl
-
-pub found_next : (block rest : List ℕ) (a : Attribute) (behind : List ℕ) (found more : Option (List ℕ)) → attribute rest ≡ Ok (a, behind) → more ≡ or_first found (path_of_one a.code a.value)
-    → IsFound block rest found → IsFound block behind more
-found_next block rest a behind found more is same before whole =
-    let all : is_ok (attributes_of rest) ≡ true = is_ok-next rest a behind is ∙ whole in
-    ap (λ f. or_first f (first_value as_path (attributes_in behind))) same
-    ∙ by found (a.code == as_path)
-    ∙ ap (λ attrs. or_first found (first_value as_path attrs)) (sym (attributes_in-next rest a behind is all).1)
-    ∙ before all
-  where
-    by : (f : Option (List ℕ)) (b : Bool) → or_first (or_first f (cond b (Some a.value) None)) (first_value as_path (attributes_in behind))
-        ≡ or_first f (cond b (Some a.value) (first_value as_path (attributes_in behind)))
-    by None true = refl
-    by None false = refl
-    by (Some value) b = refl
-
-pub found_end : (block rest : List ℕ) (found : Option (List ℕ)) → rest ≡ [] → IsFound block rest found → found ≡ first_value as_path (attributes_in block)
-unfolding attributes_in
-found_end block rest found none before =
-    let whole : is_ok (attributes_of rest) ≡ true = ap (λ r. is_ok (attributes_of r)) none ∙ ap is_ok attributes_of-none in
-    let nothing : attributes_in rest ≡ [] = ap attributes_in none ∙ ap (λ r. result_unwrap_or r []) attributes_of-none in
-    by found ∙ ap (λ attrs. or_first found (first_value as_path attrs)) (sym nothing) ∙ before whole
-  where
-    by : (f : Option (List ℕ)) → f ≡ or_first f None
-    by None = refl
-    by (Some value) = refl

@@ -137,15 +137,6 @@ abbrev pub path_of_value : Width → List Attribute → Option (List ℕ) → Pa
 path_of_value width attrs None = Absent
 path_of_value width attrs (Some value) = path_of_segments width attrs (segments_of width value)
 
--- the value that was found, or else a later one
-abbrev pub or_first : Option (List ℕ) → (later : Option (List ℕ)) → Option (List ℕ)
-or_first None later = later
-or_first (Some value) later = Some value
-
--- the value of an attribute that is an AS_PATH
-abbrev pub path_of_one : (code : ℕ) (value : List ℕ) → Option (List ℕ)
-path_of_one code value = if code == as_path then Some value else None
-
 -- the AS path by the first AS_PATH, with AS numbers of the width; where that is malformed (RFC 7606, section 7.2), AS4_PATH
 -- doesn't help
 abbrev pub path_of : Width → List Attribute → PathOf

@@ -1,8 +1,8 @@
 //! Blocks of path attributes.
-ghost use Rattle.std.specs.Prelude.{◌≡◌, ◌<◌, ◌≤◌, length, IfOk, IfSome, IsOk, option_map};
+ghost use Rattle.std.specs.Prelude.{◌≡◌, ◌<◌, ◌≤◌, length, true, IfOk, IfSome, IsOk, is_ok, option_map};
 ghost use Rattle.path_attrs.specs.Fields.{Gives, number};
 ghost use Rattle.path_attrs.specs.Attributes.{Attribute, attr_cut, attribute, attributes_in, attributes_of, first_value, length_octets};
-ghost use Rattle.path_attrs.specs.PathOf.{as_path, or_first, path_of_one};
+ghost use Rattle.path_attrs.specs.PathOf.{as_path};
 
 use crate::fields::{number16, octet, octets};
 use std::marker::Model;
@@ -111,16 +111,21 @@ fn attribute_of(bytes: &[u8]) -> Result<(u8, &[u8], &[u8]), AttrCut>
     Ok((code, value, rest))
 }
 
-// The first AS_PATH that was found, or else the value of this attribute, if it is one.
+// The value of the first AS_PATH, and the octets behind it, or else those behind the last whole attribute.
 #[inline(always)]
-fn or_path<'a>(found: Option<&'a [u8]>, code: u8, value: &'a [u8]) -> Option<&'a [u8]>
-    ensures { option_map (λ v. v.now) result ≡ or_first (option_map (λ v. v.now) found.entry) (path_of_one code value.now) }
+fn path_in(block: &[u8]) -> (Option<&[u8]>, &[u8])
+    ensures whole { is_ok (attributes_of result.1.now) ≡ is_ok (attributes_of block.now) }
+    ensures first { is_ok (attributes_of block.now) ≡ true →
+        option_map (λ value. value.now) result.0 ≡ first_value as_path (attributes_in block.now) }
 {
-    if code == AS_PATH && found.is_none() {
-        Some(value)
-    } else {
-        found
+    let mut rest = block;
+    'attributes: while let Ok((code, value, behind)) = attribute_of(rest) {
+        if code == AS_PATH {
+            return (Some(value), behind);
+        }
+        rest = behind;
     }
+    (None, rest)
 }
 
 /// The attributes of a block (RFC 4271, section 4.3). AttrCut exactly where the block is no list of whole attributes. It takes
@@ -128,11 +133,10 @@ fn or_path<'a>(found: Option<&'a [u8]>, code: u8, value: &'a [u8]) -> Option<&'a
 pub fn attributes(block: &[u8]) -> Result<Attrs<'_>, AttrCut>
     ensures { result ≡ attributes_of block.now }
 {
-    let mut rest = block;
-    let mut path = None;
-    'attributes: while let Ok((code, value, behind)) = attribute_of(rest) {
-        path = or_path(path, code, value);
-        rest = behind;
+    let (path, behind) = path_in(block);
+    let mut rest = behind;
+    'attributes: while let Ok((_, _, next)) = attribute_of(rest) {
+        rest = next;
     }
     if !rest.is_empty() {
         return Err(AttrCut);

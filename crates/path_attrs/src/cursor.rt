@@ -10,6 +10,9 @@ use std::alloc::Global;
 use std::marker::Model;
 use tor_arena::{List, NoMemory};
 
+/// The type of an AS_SEQUENCE.
+const SEQUENCE: u8 = 2;
+
 /// The segments of an AS_PATH that are still to come.
 #[derive(Drop)]
 pub struct SegmentCursor<'a> {
@@ -175,13 +178,15 @@ impl NumberCursor<'_> {
 pub fn sole_sequence(value: &[u8]) -> Option<NumberCursor<'_>>
     ensures { IfSome result (λ ases. segments_of Four value.now ≡ Some (record { kind = SegKind.Sequence; ases = ases } ∷ [])) }
 {
-    let (kind, count, octets) = head_of(value, Width::Four)?;
-    match kind {
-        SegKind::Sequence if octets.len() == 4 * count => Some(NumberCursor {
-            rest: octets,
-            count,
-            width: Width::Four,
-        }),
+    match value {
+        [code, count, octets @ ..]
+            if *code == SEQUENCE && *count > 0 && octets.len() == 4 * usize::from(*count) => {
+            Some(NumberCursor {
+                rest: octets,
+                count: usize::from(*count),
+                width: Width::Four,
+            })
+        }
         _ => None,
     }
 }
