@@ -65,6 +65,7 @@ fn end_run(numbers: &mut Vec<u32>, last: u32, next: u32) -> Result<(), NoMemory>
 }
 
 /// Puts numbers at the end of others, with equal neighbours among them merged.
+#[inline(always)]
 pub(crate) fn append_merged(numbers: &mut Vec<u32>, ases: NumberCursor<'_>) -> Result<(), NoMemory>
     ensures { OnOk result (numbers.new.items ≡ numbers.old.items ++ dedup nat_eq ases.entry) }
 {
