@@ -1,6 +1,6 @@
 //! An AS_PATH that is read where it lies, segment by segment and number by number.
 
-ghost use Rattle.std.specs.Prelude.{◌≡◌, ◌++◌, [], ◌∷◌, Some, IfOk, IfSome, MatchOption};
+ghost use Rattle.std.specs.Prelude.{◌≡◌, ◌++◌, [], ◌∷◌, length, Some, IfOk, IfSome, MatchOption};
 ghost use Rattle.path_attrs.specs.Segments.{segments_of};
 ghost use Rattle.path_attrs.specs.PathOf.{count_in, cut_to};
 ghost use Rattle.path_attrs.specs.declared.as_path.Width.TheVariants.{Four};
@@ -159,6 +159,13 @@ impl<'a> Model for NumberCursor<'a> {
 }
 
 impl NumberCursor<'_> {
+    /// How many numbers are still to come. It takes no memory.
+    pub fn len(&self) -> usize
+        ensures { result ≡ length self.now }
+    {
+        self.count
+    }
+
     /// The next number. None where there is none. It takes no memory.
     pub fn next(&mut self) -> Option<u32>
         ensures { MatchOption result ((self.old ≡ []) × (self.new ≡ [])) (λ number. self.old ≡ number ∷ self.new) }
