@@ -10,3 +10,4 @@ pub mod Reaches
 pub mod Somes
 mod Vectors
 pub mod Openings
+pub mod Merges

@@ -1,5 +1,5 @@
 -- The routes of one record, each merged before the first of them is taken in, and judged only where its path wasn't found.
-use Rattle.std.specs.Prelude.{◌≡◌, ℕ, true, List, [], ◌∷◌, length, map, slice_get, Option, Some, Ok}
+use Rattle.std.specs.Prelude.{◌≡◌, ℕ, true, List, [], ◌∷◌, length, map, slice_get, Option, Some, Result, Ok, Err}
 use Rattle.path_clean.specs.declared.cleaned.Sets.{Sets}
 use Rattle.path_clean.specs.declared.cleaned.Cause.{Cause}
 use Rattle.path_clean.specs.declared.cleaned.Cleaned.{Cleaned}
@@ -10,7 +10,12 @@ use Rattle.path_clean.specs.Rows.{Counted}
 use Rattle.path_clean.specs.Table.{place_of}
 use Rattle.dump_read.specs.declared.taking.Untaken.{Untaken}
 use Rattle.dump_read.specs.Refusals.{IsLimit}
-use Rattle.dump_read.specs.Routes.{Route}
+use Rattle.path_attrs.specs.declared.fault.RibFault.{RibFault}
+use Rattle.rib_v2.specs.declared.rib.Entry.{Entry}
+use Rattle.dump_read.specs.declared.records.Unread.{Unread}
+use Rattle.dump_read.specs.declared.records.Unread.TheVariants as unread
+use Rattle.dump_read.specs.declared.taking.Untaken.TheVariants as untaken
+use Rattle.dump_read.specs.Routes.{Route, of_entries}
 use Rattle.dump_read.specs.Taking.{Taken, take_cleaned, take_routes, Takes, TakesSome}
 
 -- what the routes were merged to, and at which places in a table the paths of the first of them were found
@@ -57,6 +62,16 @@ merged sets routes = map (λ route. merged_of sets route.width route.attrs) rout
 -- these routes were merged to what stands in the batch
 abbrev pub AreOf : Sets → List Route → Batched → Type 0
 AreOf sets routes batch = batch.routes ≡ merged sets routes
+
+-- the entries that were read were merged to what stands in the batch
+abbrev pub MergesRead : Sets → Result (List Entry) RibFault → Batched → Type 0
+MergesRead sets read batch = (entries : List Entry) × (read ≡ Ok entries) × AreOf sets (of_entries entries) batch
+
+-- the fault is that of the reading, and no limit is met; memory may always run out
+abbrev pub IsUnmerged : Result (List Entry) RibFault → Unread → Type 0
+IsUnmerged read (unread.Fault fault) = read ≡ Err fault
+IsUnmerged read (unread.Untaken (untaken.Limit kind)) = ⊥
+IsUnmerged read (unread.Untaken untaken.NoMemory) = Unit {0}
 
 -- all routes of the batch were taken in
 abbrev pub TakesBatch : Batched → (old new : Taken) → Type 0

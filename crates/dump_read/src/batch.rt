@@ -63,6 +63,7 @@ impl Batch {
     }
 
     /// Adds a route, merged. For want of memory no route may be left.
+    #[inline(always)]
     pub fn merge(&mut self, sets: Sets, width: Width, attrs: &Attrs<'_>) -> Result<(), NoMemory>
         ensures routes { OnOk result (self.new.routes ≡ self.old.routes ++ merged_of sets width attrs.now ∷ []) }
         ensures places { self.new.places ≡ self.old.places }

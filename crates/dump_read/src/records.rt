@@ -1,9 +1,9 @@
 //! The reading of a record.
 ghost use Rattle.std.specs.Prelude.{◌≡◌, [], OnOk, OnErr, IfOk, IfErr};
 ghost use Rattle.mrt_frame.specs.Steps.{lent_record};
-ghost use Rattle.dump_read.specs.Routes.{of_entries, of_table_dump, routes_in_table_dump, routes_in_rib, routes_of, peers_behind};
+ghost use Rattle.dump_read.specs.Routes.{of_table_dump, routes_in_table_dump, routes_in_rib, routes_of, peers_behind};
 ghost use Rattle.dump_read.specs.Files.{many, with_one};
-ghost use Rattle.dump_read.specs.Batches.{AreOf};
+ghost use Rattle.dump_read.specs.Batches.{AreOf, MergesRead, IsUnmerged};
 ghost use Rattle.dump_read.specs.Refusals.{peers_in, IsUnread, TakesRead, TakesSomeRead};
 
 use crate::batch::{Batch, take_batch};
@@ -13,7 +13,7 @@ use mrt_frame::{Family, Record, RecordKind, RibForm};
 use path_attrs::{Attrs, RibFault, Width};
 use path_clean::Sets;
 use rib_v1::read_v1;
-use rib_v2::{EntryCursor, Peers, read_peers};
+use rib_v2::{EntryReader, Peers, read_peers};
 use std::alloc::Global;
 use tor_arena::NoMemory;
 
@@ -58,14 +58,15 @@ impl From<Untaken> for Unread {
     }
 }
 
-// Merges the routes of entries, in order.
-fn merge_entries(sets: Sets, entries: EntryCursor<'_>, batch: &mut Batch) -> Result<(), NoMemory>
-    ensures routes { OnOk result (AreOf sets (of_entries entries.entry) batch.new) }
+// Merges the routes of entries as they are read, in order.
+fn merge_entries(sets: Sets, entries: EntryReader<'_>, batch: &mut Batch) -> Result<(), Unread>
+    ensures routes { OnOk result (MergesRead sets entries.entry.entries batch.new) }
     ensures places { OnOk result (batch.new.places ≡ []) }
+    ensures fault { IfErr result (IsUnmerged entries.entry.entries) }
 {
     batch.clear();
     let mut left = entries;
-    'entries: while let Some(entry) = left.next() {
+    'entries: while let Some(entry) = left.next()? {
         batch.merge(sets, Width::Four, &entry.attrs)?;
     }
     Ok(())
@@ -115,7 +116,7 @@ fn take_rib(
     ensures some { OnErr result (TakesSomeRead sets taken.old (routes_in_rib form (peers_in peers) body.now) taken.new) }
     ensures many { IfOk result (λ n. many (routes_in_rib form (peers_in peers) body.now) ≡ n) }
 {
-    let entries = EntryCursor::over(form, peers.as_ref(), body)?;
+    let entries = EntryReader::over(form, peers.as_ref(), body)?;
     merge_entries(sets, entries, batch)?;
     let routes = batch.len();
     take_batch(alloc, batch, taken)?;

@@ -1,11 +1,12 @@
 -- The segments of a value, one behind the other.
 use Rattle.std.proofs.Common.{◌≡◌, ℕ, zero, suc, ◌+◌, ◌*◌, ◌<◌, ◌≤◌, ◌==◌, ◌&&◌, Bool, cond, true, false, ltb, leb, List, [], ◌∷◌, ◌++◌, length, take, drop, Option, Some, None, is_some, unwrap_or}
-use Rattle.std.proofs.Common.{option_map, option_and_then, refl, sym, ap, ap₂, subst, ◌∙◌, arith, length-drop}
+use Rattle.std.proofs.Common.{◌-◌, get_or, option_map, option_and_then, refl, sym, ap, ap₂, subst, ◌∙◌, arith, length-drop}
 use Rattle.std.proofs.lemmas.Bool.{ltb-true, lt-ltb, leb-true, le-leb, eqb-true, and_parts, and_from}
-use Rattle.std.proofs.lemmas.List.{take-append-drop, length-take-le, length-append, append_assoc}
+use Rattle.std.proofs.lemmas.List.{take-append-drop, length-take-le, length-append, append_assoc, take_all, drop_all}
 use Rattle.std.proofs.Math.Seq.{drop-append_seam, take-add}
 use Rattle.byteorder.specs.Endian.{big_number}
 use Rattle.path_attrs.specs.declared.as_path.Width.{Width}
+use Rattle.path_attrs.specs.declared.as_path.Width.TheVariants.{Four}
 use Rattle.path_attrs.specs.declared.as_path.SegKind.{SegKind}
 use Rattle.path_attrs.specs.declared.as_path.SegKind.TheVariants.{Set, Sequence, ConfedSequence, ConfedSet}
 use Rattle.path_attrs.specs.declared.as_path.Segment.{Segment}
@@ -250,3 +251,30 @@ segments_in-whole width value some = by (segments_of width value) some
     by : (read : Option (List Segment)) → is_some read ≡ true → Some (unwrap_or read []) ≡ read
     by None e = absurd cc
     by (Some found) e = refl
+
+-- a value that is one AS_SEQUENCE with numbers of four octets
+sole_sequence : (code count : ℕ) (octets : List ℕ) → code ≡ 2 → 0 < count → length octets ≡ 4 * count
+    → segments_of Four (code ∷ count ∷ octets) ≡ Some (record { kind = Sequence; ases = big_numbers 4 count octets } ∷ [])
+unfolding segment
+sole_sequence code count octets two some whole =
+    let one : Segment = record { kind = Sequence; ases = big_numbers 4 count octets } in
+    let left : drop (4 * count) octets ≡ [] = drop_all (4 * count) octets (omega (arith, whole)) in
+    let test : (ltb 0 count && leb (4 * count) (length octets)) ≡ true =
+    and_from (ltb 0 count) (leb (4 * count) (length octets)) (lt-ltb 0 count some) (le-leb (4 * count) (length octets) (omega (arith, whole))) in
+    let first : segment Four (code ∷ count ∷ octets) ≡ Some (one, drop (4 * count) octets) =
+    ap (λ b. cond b (option_map (segment_of Four count octets) (segment_kind code)) None) test
+    ∙ ap (λ k. option_map (segment_of Four count octets) (segment_kind k)) two in
+    segments_of-next Four (code ∷ count ∷ octets) one (drop (4 * count) octets) first
+    ∙ ap (λ rest. option_map (λ others. one ∷ others) (segments_of Four rest)) left
+    ∙ ap (option_map (λ others. one ∷ others)) (segments_of-none Four)
+
+-- the same where the octets behind the first two are read, and their count of numbers twice
+pub sole_sequence_in : (value : List ℕ) (n m : ℕ) → 2 ≤ length value → get_or value 0 0 ≡ 2 → 0 < get_or value 1 0 → n ≡ get_or value 1 0 → m ≡ get_or value 1 0
+    → length (take (length value - 2) (drop 2 value)) ≡ 4 * n
+    → segments_of Four value ≡ Some (record { kind = Sequence; ases = big_numbers 4 m (take (length value - 2) (drop 2 value)) } ∷ [])
+sole_sequence_in [] n m two code some n_is m_is whole = absurd (omega arith)
+sole_sequence_in (x ∷ []) n m two code some n_is m_is whole = absurd (omega arith)
+sole_sequence_in (x ∷ count ∷ octets) n m two code some n_is m_is whole =
+    let same : take (length (x ∷ count ∷ octets) - 2) octets ≡ octets = take_all (length (x ∷ count ∷ octets) - 2) octets (omega arith) in
+    sole_sequence x count octets code some (ap length (sym same) ∙ whole ∙ ap (λ k. 4 * k) n_is)
+    ∙ ap₂ (λ (k : ℕ) (os : List ℕ). Some (record { kind = Sequence; ases = big_numbers 4 k os } ∷ [])) (sym m_is) (sym same)

@@ -1,13 +1,17 @@
 //! An AS_PATH that is read where it lies, segment by segment and number by number.
 
-ghost use Rattle.std.specs.Prelude.{◌≡◌, ◌++◌, [], ◌∷◌, IfOk, MatchOption};
+ghost use Rattle.std.specs.Prelude.{◌≡◌, ◌++◌, [], ◌∷◌, length, Some, IfOk, IfSome, MatchOption};
 ghost use Rattle.path_attrs.specs.Segments.{segments_of};
 ghost use Rattle.path_attrs.specs.PathOf.{count_in, cut_to};
+ghost use Rattle.path_attrs.specs.declared.as_path.Width.TheVariants.{Four};
 
 use crate::as_path::{SegKind, Segment, Width, head_of};
 use std::alloc::Global;
 use std::marker::Model;
 use tor_arena::{List, NoMemory};
+
+/// The type of an AS_SEQUENCE.
+const SEQUENCE: u8 = 2;
 
 /// The segments of an AS_PATH that are still to come.
 #[derive(Drop)]
@@ -155,6 +159,13 @@ impl<'a> Model for NumberCursor<'a> {
 }
 
 impl NumberCursor<'_> {
+    /// How many numbers are still to come. It takes no memory.
+    pub fn len(&self) -> usize
+        ensures { result ≡ length self.now }
+    {
+        self.count
+    }
+
     /// The next number. None where there is none. It takes no memory.
     pub fn next(&mut self) -> Option<u32>
         ensures { MatchOption result ((self.old ≡ []) × (self.new ≡ [])) (λ number. self.old ≡ number ∷ self.new) }
@@ -166,6 +177,24 @@ impl NumberCursor<'_> {
         self.rest = self.rest.split_at(self.width.octets()).1;
         self.count -= 1;
         Some(number)
+    }
+}
+
+/// The numbers of the value of an AS_PATH, with numbers of four octets, that is one AS_SEQUENCE. None: it is no such value. It takes
+/// no memory.
+pub fn sole_sequence(value: &[u8]) -> Option<NumberCursor<'_>>
+    ensures { IfSome result (λ ases. segments_of Four value.now ≡ Some (record { kind = SegKind.Sequence; ases = ases } ∷ [])) }
+{
+    match value {
+        [code, count, octets @ ..]
+            if *code == SEQUENCE && *count > 0 && octets.len() == 4 * usize::from(*count) => {
+            Some(NumberCursor {
+                rest: octets,
+                count: usize::from(*count),
+                width: Width::Four,
+            })
+        }
+        _ => None,
     }
 }
 

@@ -12,7 +12,7 @@ mod path_cursor;
 
 pub use as_path::{SegKind, Segment, Width};
 pub use block::{AttrCut, Attrs, attributes, whole_attributes};
-pub use cursor::{NumberCursor, SegmentCursor, SegmentRef, segments};
+pub use cursor::{NumberCursor, SegmentCursor, SegmentRef, segments, sole_sequence};
 pub use fault::RibFault;
 pub use fields::{number16, octet, octets};
 pub use laws::{block_law, merge_law, value_law};

@@ -20,13 +20,10 @@ ghost use Rattle.path_attrs.specs.PathOf.{
 };
 
 use crate::as_path::Width;
-use crate::block::Attrs;
+use crate::block::{AS_PATH, Attrs};
 use crate::cursor::{SegmentCursor, SegmentRef};
 use byteorder::{BigEndian, ByteOrder};
 use std::marker::Model;
-
-/// The type code of AS_PATH.
-const AS_PATH: u8 = 2;
 
 /// The type code of AGGREGATOR.
 const AGGREGATOR: u8 = 7;

@@ -48,6 +48,7 @@ fn judge_owned(alloc: Global, path: Vec<u32>) -> Result<Cleaned, NoMemory>
 }
 
 /// Puts what a route's attributes are merged to behind the numbers, as `MergedPaths::merge` says.
+#[inline(always)]
 pub(crate) fn merge_behind(
     numbers: &mut Vec<u32>,
     sets: Sets,
@@ -66,6 +67,7 @@ pub(crate) fn merge_behind(
 }
 
 /// The same of any route, segment by segment.
+#[inline(never)]
 fn merge_any(
     numbers: &mut Vec<u32>,
     sets: Sets,

@@ -73,6 +73,7 @@ impl MergedPaths {
     /// The first step of the cleaning of a route's attributes, with AS numbers of the width, up to the merging of equal neighbours. None:
     /// what is left to `judge` is the last path now; a path that was judged before needn't be judged again. Else the cause for which the
     /// route is set aside, and the last path may be anything. NoMemory where memory ran out: no path is left then.
+    #[inline(always)]
     pub fn merge(
         &mut self,
         sets: Sets,

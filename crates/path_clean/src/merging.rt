@@ -1,6 +1,6 @@
 //! The ASes of segments, with equal neighbours merged as they go onto a path, which lies behind other numbers.
 
-ghost use Rattle.std.specs.Prelude.{◌≡◌, ◌==◌, ◌++◌, nat_eq, fold, take, IfOk, OnOk};
+ghost use Rattle.std.specs.Prelude.{◌≡◌, ◌+◌, ◌<◌, ◌≤◌, ◌==◌, ◌++◌, nat_eq, fold, take, vec_len, vec_capacity, IfOk, OnOk};
 ghost use Rattle.std.specs.List.{list_any, list_all, dedup};
 ghost use Rattle.path_attrs.specs.PathOf.{is_confed};
 ghost use Rattle.path_clean.specs.Clean.{are_equal, is_set, is_mixed_set, ases_of};
@@ -52,32 +52,36 @@ fn has_mixed_set(segment: &SegmentRef<'_>) -> bool
     is_set(segment.kind()) && !is_uniform(segment.ases())
 }
 
-/// Puts the number of a run at the end of others, where the next one is another.
+/// Puts the number of a run at the end of others, where the next one is another. There is room for it.
 #[inline(always)]
-fn end_run(numbers: &mut Vec<u32>, last: u32, next: u32) -> Result<(), NoMemory>
-    ensures { OnOk result (numbers.new.items ≡ with_run numbers.old.items last next) }
+fn end_run(numbers: &mut Vec<u32>, last: u32, next: u32)
+    requires { vec_len numbers.old < vec_capacity numbers.old }
+    ensures items { numbers.new.items ≡ with_run numbers.old.items last next }
+    ensures len { vec_len numbers.new ≤ vec_len numbers.old + 1 }
+    ensures capacity { vec_capacity numbers.new ≡ vec_capacity numbers.old }
 {
     if next == last {
-        return Ok(());
+        return;
     }
-    numbers.push(last)?;
-    Ok(())
+    numbers.push_reserved(last);
 }
 
 /// Puts numbers at the end of others, with equal neighbours among them merged.
+#[inline(always)]
 pub(crate) fn append_merged(numbers: &mut Vec<u32>, ases: NumberCursor<'_>) -> Result<(), NoMemory>
     ensures { OnOk result (numbers.new.items ≡ numbers.old.items ++ dedup nat_eq ases.entry) }
 {
+    numbers.reserve(ases.len())?;
     let mut left = ases;
     let Some(first) = left.next() else {
         return Ok(());
     };
     let mut last = first;
     'numbers: while let Some(number) = left.next() {
-        end_run(numbers, last, number)?;
+        end_run(numbers, last, number);
         last = number;
     }
-    numbers.push(last)?;
+    numbers.push_reserved(last);
     Ok(())
 }
 

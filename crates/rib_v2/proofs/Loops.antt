@@ -13,6 +13,7 @@ use Rattle.mrt_frame.specs.declared.record_kind.EntryForm.{EntryForm}
 use Rattle.rib_v2.specs.declared.rib.Entry.{Entry}
 use Rattle.rib_v2.specs.PeerTable.{behind_peer, behind_peers}
 use Rattle.rib_v2.specs.Rib.{Fields, head, entry, entry_fields, entries_of, entries_in, rib_of}
+use Rattle.rib_v2.specs.Reading.{with_first}
 
 one_less : (count i : ℕ) → i < count → count - i ≡ suc (count - (i + 1))
 one_less count i lt = omega arith
@@ -179,3 +180,29 @@ head-fault form peers body fault is = ap (λ (r : Result (ℕ × List ℕ) RibFa
 pub head-then : (form : RibForm) (peers count : ℕ) (body rest : List ℕ) → head form.family body ≡ Ok (count, rest) → rib_of form (Some peers) body ≡ entries_of form.entries peers count rest
 unfolding rib_of
 head-then form peers count body rest is = ap (λ (r : Result (ℕ × List ℕ) RibFault). r >>= λ c. entries_of form.entries peers c.0 c.1) is
+
+-- ---- entries that are read one by one
+
+-- the next entry, and those behind it
+pub entries-next : (form : EntryForm) (peers count : ℕ) (bytes rest : List ℕ) (first : Entry) → 0 < count → entry form peers bytes ≡ Ok (first, rest)
+    → entries_of form peers count bytes ≡ with_first first (entries_of form peers (count - 1) rest)
+unfolding entries_of
+entries-next form peers count bytes rest first some is =
+    let e : count ≡ suc (count - 1) = omega (arith, some) in
+    ap (λ n. entries_of form peers n bytes) e
+    ∙ ap (λ (r : Result (Entry × List ℕ) RibFault). r >>= λ f. entries_of form peers (count - 1) f.1 >>= λ others. Ok (f.0 ∷ others)) is
+
+pub entries-broken : (form : EntryForm) (peers count : ℕ) (bytes : List ℕ) (fault : RibFault) → 0 < count → entry form peers bytes ≡ Err fault → entries_of form peers count bytes ≡ Err fault
+unfolding entries_of
+entries-broken form peers count bytes fault some is =
+    let e : count ≡ suc (count - 1) = omega (arith, some) in
+    ap (λ n. entries_of form peers n bytes) e
+    ∙ ap (λ (r : Result (Entry × List ℕ) RibFault). r >>= λ f. entries_of form peers (count - 1) f.1 >>= λ others. Ok (f.0 ∷ others)) is
+
+pub entries-done : (form : EntryForm) (peers count : ℕ) (bytes : List ℕ) → count ≡ 0 → (length bytes == 0) ≡ true → entries_of form peers count bytes ≡ Ok []
+unfolding entries_of
+entries-done form peers count bytes zero_left none = ap (λ n. entries_of form peers n bytes) zero_left ∙ ap (λ b. fault_unless Tail b >>= λ end. Ok []) none
+
+pub entries-more : (form : EntryForm) (peers count : ℕ) (bytes : List ℕ) → count ≡ 0 → (length bytes == 0) ≡ false → entries_of form peers count bytes ≡ Err Tail
+unfolding entries_of
+entries-more form peers count bytes zero_left some = ap (λ n. entries_of form peers n bytes) zero_left ∙ ap (λ b. fault_unless Tail b >>= λ end. Ok []) some

@@ -1,3 +1,4 @@
 pub mod PeerTable
 pub mod Rib
 pub mod Encoding
+pub mod Reading

@@ -4,9 +4,11 @@
 mod error;
 mod laws;
 mod peer_table;
+mod reader;
 mod rib;
 
 pub use error::RibError;
 pub use laws::{peer_table_law, rib_law};
 pub use peer_table::{Peers, read_peers};
+pub use reader::EntryReader;
 pub use rib::{Entry, EntryCursor, read_rib};

@@ -32,7 +32,7 @@ fn octets_of_path_id(form: EntryForm) -> usize
 
 // The fields before the entries: the count of entries, and the octets behind it.
 #[tactic(auto, unfolding(crate::specs::Rib::head))]
-fn head_of(family: Family, body: &[u8]) -> Result<(u16, &[u8]), RibFault>
+pub(crate) fn head_of(family: Family, body: &[u8]) -> Result<(u16, &[u8]), RibFault>
     ensures { Gives (λ x. (x.0, x.1.now)) result (head family body.now) }
 {
     let (_sequence, rest) = octets(body, 4, RibFault::Cut)?;
@@ -46,7 +46,8 @@ fn head_of(family: Family, body: &[u8]) -> Result<(u16, &[u8]), RibFault>
 
 // The fields of the entry that stands first: the index of its peer, the octets of its attributes, and those behind it.
 #[tactic(auto, unfolding(crate::specs::Rib::entry_fields))]
-fn fields_of<'a>(
+#[inline(always)]
+fn fields_in_order<'a>(
     form: EntryForm,
     peers: &Peers,
     bytes: &'a [u8],
@@ -65,9 +66,39 @@ fn fields_of<'a>(
     Ok((peer, block, rest))
 }
 
+// The same of any entry. It isn't inlined, so that the tests of most entries are few.
+#[inline(never)]
+fn fields_of_any<'a>(
+    form: EntryForm,
+    peers: &Peers,
+    bytes: &'a [u8],
+) -> Result<(u16, &'a [u8], &'a [u8]), RibFault>
+    ensures { Gives (λ x. (record { peer = x.0; block = x.1.now; rest = x.2.now })) result
+        (entry_fields form peers.now.count bytes.now) }
+{
+    fields_in_order(form, peers, bytes)
+}
+
+// The same, where one test shows of most entries that no field before the attributes is cut.
+#[inline(always)]
+fn fields_of<'a>(
+    form: EntryForm,
+    peers: &Peers,
+    bytes: &'a [u8],
+) -> Result<(u16, &'a [u8], &'a [u8]), RibFault>
+    ensures { Gives (λ x. (record { peer = x.0; block = x.1.now; rest = x.2.now })) result
+        (entry_fields form peers.now.count bytes.now) }
+{
+    if matches!(form, EntryForm::Plain) && bytes.len() >= 8 {
+        fields_in_order(form, peers, bytes)
+    } else {
+        fields_of_any(form, peers, bytes)
+    }
+}
+
 // The entry that stands first, and the octets behind it.
 #[tactic(auto, unfolding(crate::specs::Rib::entry))]
-fn entry_of<'a>(
+pub(crate) fn entry_of<'a>(
     form: EntryForm,
     peers: &Peers,
     bytes: &'a [u8],

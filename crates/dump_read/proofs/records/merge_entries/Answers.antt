@@ -1,17 +1,12 @@
-use Rattle.std.proofs.Common.{◌∙◌, ◌++◌, ◌∷◌, [], ap, sym}
-use Rattle.std.proofs.lemmas.List.{append_assoc}
-use Rattle.path_attrs.specs.declared.as_path.Width.TheVariants.{Four}
-use Rattle.path_clean.specs.Clean.{merged_of}
-use Rattle.dump_read.specs.Batches.{merged}
-use Rattle.dump_read.specs.Routes.{of_entries}
+use Rattle.std.proofs.Common.{Ok, subst}
+use Rattle.rib_v2.specs.Reading.{IsNext}
+use Rattle.dump_read.proofs.Merges.{one_merged}
 use Rattle.dump_read.proofs.records.merge_entries.Goals as goal
 
 pub entries-preserved : goal.entries-preserved
 entries-preserved c =
-    let one = merged_of c.args.sets Four c.in-Some.entry.attrs in (
-      ap (λ routes. routes ++ merged c.args.sets (of_entries c.next.new.self)) c.in_ok-merge.ensures.routes
-          ∙ append_assoc c.entries.batch.routes (one ∷ []) (merged c.args.sets (of_entries c.next.new.self))
-          ∙ ap (λ es. c.entries.batch.routes ++ merged c.args.sets (of_entries es)) (sym c.in-Some.ensures)
-          ∙ c.entries.invariant.0,
-      c.merge.ensures.places ∙ c.entries.invariant.1,
-    )
+    let old = c.entries.left in
+    let new = c.next.new.self in
+    let next = subst (λ x. IsNext (Ok x) old new) c.in-Some.is c.in_ok-entry.ensures in
+    one_merged c.args.sets c.args.entries.entries old.entries new.entries c.entries.batch c.merge.new.self c.in-Some.entry next.1
+    c.in_ok-merge.ensures.routes c.merge.ensures.places c.entries.invariant

@@ -1,6 +1,6 @@
 use Rattle.std.proofs.Common.{◌∙◌}
 use Rattle.path_attrs.proofs.Blocks.{first_here, first_behind, first_none}
-use Rattle.path_attrs.proofs.block.Attrs.first.Goals as goal
+use Rattle.path_attrs.proofs.block.first_in.Goals as goal
 
 pub returns-then-found-code-clause-first : goal.returns-then-found-code-clause-first
 returns-then-found-code-clause-first c =
