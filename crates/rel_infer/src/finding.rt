@@ -13,12 +13,13 @@ ghost use Rattle.rel_infer.specs.Finding.{AreFound};
 use crate::edge_lines::edge_lines;
 use crate::labelling::labels_of;
 use as_graph::{AsGraph, Labels};
-use forced_edges::{Marks, forced};
+use forced_edges::{Marks, forced_in};
 use path_select::Selector;
 use relationships::{Probe, Walks};
 use result_text::EdgeLine;
 use std::alloc::Global;
-use tor_arena::{List, NoMemory, PathId};
+use tor_arena::{ArcId, List, NoMemory, NodeId, PathId};
+use tor_digraph::RowDigraph;
 
 /// What is found of the edges of a graph.
 #[derive(Drop)]
@@ -36,16 +37,18 @@ fn marks_of(
     alloc: Global,
     graph: &AsGraph,
     selector: &Selector,
+    rows: &RowDigraph<'_, NodeId, ArcId>,
     labels: &Labels,
 ) -> Result<Marks, NoMemory>
     requires fits { FitsGraph graph.now selector.now.formula }
+    requires rows { rows.now ≡ selector.now.formula.net }
     requires count { length labels.now ≡ length (edges graph.now) }
     requires free { All (ValleyFree (labelling (edges graph.now) labels.now)) (demands_of graph.now selector.now.formula) }
     ensures many { IfOk result (λ m. length m.marks ≡ length (edges graph.now)) }
     ensures marks { IfOk result (AreExact graph.now selector.now.formula labels.now) }
     ensures evidence { IfOk result (AreBorneOut graph.now selector.now.formula labels.now) }
 {
-    forced(alloc, graph, selector.clauses(), labels)
+    forced_in(alloc, graph, selector.clauses(), rows, labels)
 }
 
 /// What is found of the edges of a graph, where the paths that the selector has kept are kept, and `counted` of them vote and are
@@ -65,8 +68,10 @@ pub(crate) fn found_in(
     requires small { ratio ≤ max_ratio }
     ensures { IfOk result (AreFound ratio graph.now selector.now.formula counted.now) }
 {
-    let labelled = labels_of(alloc, graph, selector, counted, ratio)?;
-    let found = marks_of(alloc, graph, selector, &labelled.labels)?;
+    let rows = selector.clauses().digraph().in_rows(alloc)?;
+    let labelled = labels_of(alloc, graph, selector, &rows, counted, ratio)?;
+    let found = marks_of(alloc, graph, selector, &rows, &labelled.labels)?;
+    drop(rows);
     let edges = edge_lines(
         alloc,
         graph,

@@ -99,8 +99,8 @@ fn settle_into(
     settle_each(graph, clauses, rows, prefs, &mut search, settled)
 }
 
-/// What is settled when the edges of these preferences are, where the arcs of the clauses stand in rows.
-fn settled_by(
+/// What is settled when the edges of these preferences are, the first of them first, where the arcs of the clauses stand in rows.
+pub(crate) fn settled_by(
     alloc: Global,
     graph: &AsGraph,
     clauses: &Clauses,
@@ -116,20 +116,4 @@ fn settled_by(
     let mut settled = NodeSet::new(alloc, rows.node_count())?;
     settle_into(alloc, graph, clauses, rows, prefs, &mut settled)?;
     Ok(settled)
-}
-
-/// Settles the edges of these preferences, the first of them first.
-pub(crate) fn settle_all(
-    alloc: Global,
-    graph: &AsGraph,
-    clauses: &Clauses,
-    prefs: &[Pref],
-) -> Result<NodeSet, NoMemory>
-    requires fits { FitsGraph graph.now clauses.now }
-    requires servable { IsServable (demands_of graph.now clauses.now) }
-    requires inside { All (λ pref. pref.edge < length (edges graph.now)) prefs.now }
-    ensures { IfOk result (AreSettled clauses.now prefs.now (length prefs.now)) }
-{
-    let rows = clauses.digraph().in_rows(alloc)?;
-    settled_by(alloc, graph, clauses, &rows, prefs)
 }
