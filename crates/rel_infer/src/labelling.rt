@@ -28,9 +28,9 @@ pub(crate) struct Labelled {
     pub supports: List<u32>,
 }
 
-/// The labels of the edges of a graph, where the paths that the selector has kept are kept, whose arcs stand in these rows, and `counted` of
-/// them vote: each edge has its preferred provider, and then, edge by edge, becomes a peering where it may. With them comes how many of the paths that vote hold each
-/// edge, which the votes tell. The only error is that memory ran out.
+/// The labels of the edges of a graph, where the paths that the selector has kept are kept, the arcs of their clauses stand in these rows,
+/// and `counted` of them vote: each edge has its preferred provider, and then, edge by edge, becomes a peering where it may. With them
+/// comes how many of the paths that vote hold each edge, which the votes tell. The only error is that memory ran out.
 pub(crate) fn labels_of(
     alloc: Global,
     graph: &AsGraph,
@@ -62,7 +62,13 @@ pub(crate) fn labels_of(
     graph.facts();
     let kept = selector.kept();
     let voted = preferences_with_supports(alloc, graph, counted)?;
-    let ends = orient_in(alloc, graph, selector.clauses(), rows, voted.prefs.as_slice())?;
+    let ends = orient_in(
+        alloc,
+        graph,
+        selector.clauses(),
+        rows,
+        voted.prefs.as_slice(),
+    )?;
     let labels = relabel(alloc, graph, kept, &ends, ratio)?;
     Ok(Labelled {
         labels,
