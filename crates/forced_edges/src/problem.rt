@@ -29,7 +29,7 @@ pub(crate) struct Problem<'a> {
     graph: &'a AsGraph,
     clauses: &'a Clauses,
     labels: &'a [Label],
-    rows: RowDigraph<'a, NodeId, ArcId>,
+    rows: &'a RowDigraph<'a, NodeId, ArcId>,
     held: NodeSet,
 }
 
@@ -42,18 +42,20 @@ impl<'a> Model for Problem<'a> {
     ghost view = { λ p. record { graph = p.graph.now; formula = p.clauses.now; labels = p.labels.now; held = p.held.items } };
 
     ghost invariant = { λ p. IsPosed (record { graph = p.graph.now; formula = p.clauses.now; labels = p.labels.now; held = p.held.items }) ×
-        (p.rows ≡ p.clauses.now.net) × (p.held.count ≡ p.clauses.now.net.nodes) };
+        (p.rows.now ≡ p.clauses.now.net) × (p.held.count ≡ p.clauses.now.net.nodes) };
 }
 
 impl<'a> Problem<'a> {
-    /// The problem of these clauses and labels. The only error is that memory ran out.
+    /// The problem of these clauses, whose arcs stand in these rows, and labels. The only error is that memory ran out.
     pub(crate) fn new(
         alloc: Global,
         graph: &'a AsGraph,
         clauses: &'a Clauses,
+        rows: &'a RowDigraph<'a, NodeId, ArcId>,
         labels: &'a Labels,
     ) -> Result<Problem<'a>, NoMemory>
         requires fits { FitsGraph graph.now clauses.now }
+        requires rows { rows.now ≡ clauses.now.net }
         requires labels { length labels.now ≡ length (edges graph.now) }
         requires served { AreValleyFree graph.now clauses.now labels.now }
         ensures graph { IfOk result (λ problem. problem.graph ≡ graph.now) }
@@ -62,7 +64,6 @@ impl<'a> Problem<'a> {
     {
         graph.facts();
         let labels = labels.as_slice();
-        let rows = clauses.digraph().in_rows(alloc)?;
         let held = held_nodes(alloc, labels)?;
         Ok(Problem {
             graph,
@@ -98,7 +99,7 @@ impl<'a> Problem<'a> {
     pub(crate) fn rows(&self) -> &RowDigraph<'a, NodeId, ArcId>
         ensures { result.now ≡ self.now.formula.net }
     {
-        &self.rows
+        self.rows
     }
 
     /// The nodes of the orders that the labels have. It takes no memory.

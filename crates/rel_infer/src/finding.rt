@@ -13,12 +13,13 @@ ghost use Rattle.rel_infer.specs.Finding.{AreFound};
 use crate::edge_lines::edge_lines;
 use crate::labelling::labels_of;
 use as_graph::{AsGraph, Labels};
-use forced_edges::{Marks, forced};
+use forced_edges::{Marks, forced_in};
 use path_select::Selector;
 use relationships::{Probe, Walks};
 use result_text::EdgeLine;
 use std::alloc::Global;
-use tor_arena::{List, NoMemory, PathId};
+use tor_arena::{ArcId, List, NoMemory, NodeId, PathId};
+use tor_digraph::RowDigraph;
 
 /// What is found of the edges of a graph.
 #[derive(Drop)]
@@ -36,16 +37,52 @@ fn marks_of(
     alloc: Global,
     graph: &AsGraph,
     selector: &Selector,
+    rows: &RowDigraph<'_, NodeId, ArcId>,
     labels: &Labels,
 ) -> Result<Marks, NoMemory>
     requires fits { FitsGraph graph.now selector.now.formula }
+    requires rows { rows.now ≡ selector.now.formula.net }
     requires count { length labels.now ≡ length (edges graph.now) }
     requires free { All (ValleyFree (labelling (edges graph.now) labels.now)) (demands_of graph.now selector.now.formula) }
     ensures many { IfOk result (λ m. length m.marks ≡ length (edges graph.now)) }
     ensures marks { IfOk result (AreExact graph.now selector.now.formula labels.now) }
     ensures evidence { IfOk result (AreBorneOut graph.now selector.now.formula labels.now) }
 {
-    forced(alloc, graph, selector.clauses(), labels)
+    forced_in(alloc, graph, selector.clauses(), rows, labels)
+}
+
+// What is found of the edges of a graph, where the arcs of the clauses of the paths that the selector has kept stand in these rows.
+fn found_along(
+    alloc: Global,
+    graph: &AsGraph,
+    selector: &Selector,
+    rows: &RowDigraph<'_, NodeId, ArcId>,
+    counted: &[PathId],
+    ratio: u32,
+) -> Result<Found, NoMemory>
+    requires fits { FitsGraph graph.now selector.now.formula }
+    requires rows { rows.now ≡ selector.now.formula.net }
+    requires apart { AllPairs ◌≢◌ selector.now.formula.paths }
+    requires there { All (λ path. path < length graph.now) counted.now }
+    requires once { AllPairs ◌≢◌ counted.now }
+    requires distinct { All AllDistinct (paths_at graph.now counted.now) }
+    requires small { ratio ≤ max_ratio }
+    ensures { IfOk result (AreFound ratio graph.now selector.now.formula counted.now) }
+{
+    let labelled = labels_of(alloc, graph, selector, rows, counted, ratio)?;
+    let found = marks_of(alloc, graph, selector, rows, &labelled.labels)?;
+    let edges = edge_lines(
+        alloc,
+        graph,
+        &labelled.labels,
+        found.marks.as_slice(),
+        labelled.supports.as_slice(),
+    )?;
+    Ok(Found {
+        edges,
+        whys: found.whys,
+        probes: found.probes,
+    })
 }
 
 /// What is found of the edges of a graph, where the paths that the selector has kept are kept, and `counted` of them vote and are
@@ -65,18 +102,6 @@ pub(crate) fn found_in(
     requires small { ratio ≤ max_ratio }
     ensures { IfOk result (AreFound ratio graph.now selector.now.formula counted.now) }
 {
-    let labelled = labels_of(alloc, graph, selector, counted, ratio)?;
-    let found = marks_of(alloc, graph, selector, &labelled.labels)?;
-    let edges = edge_lines(
-        alloc,
-        graph,
-        &labelled.labels,
-        found.marks.as_slice(),
-        labelled.supports.as_slice(),
-    )?;
-    Ok(Found {
-        edges,
-        whys: found.whys,
-        probes: found.probes,
-    })
+    let rows = selector.clauses().digraph().in_rows(alloc)?;
+    found_along(alloc, graph, selector, &rows, counted, ratio)
 }

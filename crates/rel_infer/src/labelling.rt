@@ -15,8 +15,9 @@ use gao_prefs::preferences_with_supports;
 use path_select::Selector;
 use peering::relabel;
 use std::alloc::Global;
-use tor_arena::{List, NoMemory, PathId};
-use tor_orient::orient;
+use tor_arena::{ArcId, List, NoMemory, NodeId, PathId};
+use tor_digraph::RowDigraph;
+use tor_orient::orient_in;
 
 /// The labels of the edges of a graph, and their supports.
 #[derive(Drop)]
@@ -27,17 +28,19 @@ pub(crate) struct Labelled {
     pub supports: List<u32>,
 }
 
-/// The labels of the edges of a graph, where the paths that the selector has kept are kept, and `counted` of them vote: each edge has its
-/// preferred provider, and then, edge by edge, becomes a peering where it may. With them comes how many of the paths that vote hold each
-/// edge, which the votes tell. The only error is that memory ran out.
+/// The labels of the edges of a graph, where the paths that the selector has kept are kept, the arcs of their clauses stand in these rows,
+/// and `counted` of them vote: each edge has its preferred provider, and then, edge by edge, becomes a peering where it may. With them
+/// comes how many of the paths that vote hold each edge, which the votes tell. The only error is that memory ran out.
 pub(crate) fn labels_of(
     alloc: Global,
     graph: &AsGraph,
     selector: &Selector,
+    rows: &RowDigraph<'_, NodeId, ArcId>,
     counted: &[PathId],
     ratio: u32,
 ) -> Result<Labelled, NoMemory>
     requires fits { FitsGraph graph.now selector.now.formula }
+    requires rows { rows.now ≡ selector.now.formula.net }
     requires apart { AllPairs ◌≢◌ selector.now.formula.paths }
     requires there { All (λ path. path < length graph.now) counted.now }
     requires once { AllPairs ◌≢◌ counted.now }
@@ -59,7 +62,13 @@ pub(crate) fn labels_of(
     graph.facts();
     let kept = selector.kept();
     let voted = preferences_with_supports(alloc, graph, counted)?;
-    let ends = orient(alloc, graph, selector.clauses(), voted.prefs.as_slice())?;
+    let ends = orient_in(
+        alloc,
+        graph,
+        selector.clauses(),
+        rows,
+        voted.prefs.as_slice(),
+    )?;
     let labels = relabel(alloc, graph, kept, &ends, ratio)?;
     Ok(Labelled {
         labels,

@@ -2,6 +2,7 @@
 ghost use Rattle.std.specs.Prelude.{◌≡◌, ◌≤◌, ◌<◌, ℕ, List, Contains, OnOk, IfOk, IfSome, IfNone};
 ghost use Rattle.tor_arena.specs.Limits.{most_places};
 ghost use Rattle.tor_digraph.specs.Walks.{Reaches};
+ghost use Rattle.tor_digraph.specs.Spreading.{IsClosed};
 ghost use Rattle.tor_digraph.specs.Trails.{IsTrail};
 ghost use Rattle.tor_clauses.specs.Literals.{opposite_node};
 ghost use Rattle.tor_orient.specs.Steps.{HasOpposites, IsFailing, IsLast, IsOver, NoneLeadsOut};
@@ -60,8 +61,8 @@ fn last_failing(tried: &Trail, start: NodeId, behind: &mut NodeSet) -> Result<No
     Ok(start)
 }
 
-/// Whether a literal fails whose opposite is not settled: none where it does not lead to its opposite, and else the last literal on a way
-/// to that which fails too. The search does not go on past what is settled.
+/// Whether a literal fails whose opposite is not settled: none where it does not lead to its opposite, and then all is tried that follows
+/// from it; else the last literal on a way to that which fails too. The search does not go on past what is settled.
 pub(crate) fn failing_behind(
     rows: &RowDigraph<'_, NodeId, ArcId>,
     node: NodeId,
@@ -76,6 +77,8 @@ pub(crate) fn failing_behind(
     requires unsettled { Contains settled.now.items (opposite_node node) → ⊥ }
     ensures search { IsOver rows.now.nodes search.new }
     ensures none { IfOk result (λ last. IfNone last (Reaches rows.now.arcs node (opposite_node node) → ⊥)) }
+    ensures trail { IfOk result (λ last. IfNone last (IsTrail rows.now.arcs node search.new.tried)) }
+    ensures near { IfOk result (λ last. IfNone last (IsClosed rows.now.arcs settled.now.items search.new.tried.nodes.items)) }
     ensures there { IfOk result (λ last. IfSome last (λ n. n < rows.now.nodes)) }
     ensures some { IfOk result (λ last. IfSome last (IsFailing rows.now.arcs node)) }
 {

@@ -7,4 +7,4 @@ mod finding;
 mod orienting;
 mod settling;
 
-pub use orienting::orient;
+pub use orienting::{orient, orient_in};

@@ -12,14 +12,14 @@ ghost use Rattle.tor_clauses.specs.Formulas.{FitsGraph, demands_of, MeetsDemands
 ghost use Rattle.tor_orient.specs.Wishes.{wish, AreWishes};
 ghost use Rattle.tor_orient.specs.Steps.{IsEndOf, AreEndsOf};
 
-use crate::settling::settle_all;
+use crate::settling::settled_by;
 use as_graph::{AsGraph, Orientation};
 use gao_prefs::Pref;
 use relationships::End;
 use std::alloc::Global;
-use tor_arena::{EdgeId, Index, NoMemory};
+use tor_arena::{ArcId, EdgeId, Index, NoMemory, NodeId};
 use tor_clauses::{Clauses, Lit, model_law};
-use tor_digraph::NodeSet;
+use tor_digraph::{NodeSet, RowDigraph};
 
 /// The end that is settled of an edge, and the lower where none is. It takes no memory.
 fn settled_end(settled: &NodeSet, edge: EdgeId) -> End
@@ -77,9 +77,36 @@ pub fn orient(
         IsPreferred (demands_of graph.now clauses.now) wanted (edges_preferred (edges graph.now) prefs.now)
         (orientation (edges graph.now) ends)) }
 {
+    let rows = clauses.digraph().in_rows(alloc)?;
+    orient_in(alloc, graph, clauses, &rows, prefs)
+}
+
+/// The same where the arcs of the clauses stand in these rows.
+pub fn orient_in(
+    alloc: Global,
+    graph: &AsGraph,
+    clauses: &Clauses,
+    rows: &RowDigraph<'_, NodeId, ArcId>,
+    prefs: &[Pref],
+) -> Result<Orientation, NoMemory>
+    requires fits { FitsGraph graph.now clauses.now }
+    requires rows { rows.now ≡ clauses.now.net }
+    requires servable { IsServable (demands_of graph.now clauses.now) }
+    requires inside { All (λ pref. pref.edge < length (edges graph.now)) prefs.now }
+    requires apart { AllDistinct (map (λ pref. pref.edge) prefs.now) }
+    requires each { (e : Edge) → Contains (edges graph.now) e ↔ Contains (edges_preferred (edges graph.now) prefs.now) e }
+    ensures many { IfOk result (λ ends. length ends ≡ length (edges graph.now)) }
+    ensures serves { IfOk result (MeetsDemands graph.now clauses.now) }
+    ensures preferred { IfOk result
+        (λ ends. IsPreferred (demands_of graph.now clauses.now) (wish (edges graph.now) prefs.now)
+        (edges_preferred (edges graph.now) prefs.now) (orientation (edges graph.now) ends)) }
+    ensures wishes { IfOk result (λ ends. (wanted : Edge → End) → AreWishes (edges graph.now) prefs.now wanted →
+        IsPreferred (demands_of graph.now clauses.now) wanted (edges_preferred (edges graph.now) prefs.now)
+        (orientation (edges graph.now) ends)) }
+{
     graph.facts();
     clauses.facts();
     model_law();
-    let settled = settle_all(alloc, graph, clauses, prefs)?;
+    let settled = settled_by(alloc, graph, clauses, rows, prefs)?;
     settled_ends(alloc, &settled, graph.edge_count())
 }

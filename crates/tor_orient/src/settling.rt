@@ -4,6 +4,9 @@ ghost use Rattle.relationships.specs.Selection.{IsServable};
 ghost use Rattle.relationships.specs.Graph.{edges};
 ghost use Rattle.tor_clauses.specs.Literals.{most_edges};
 ghost use Rattle.tor_clauses.specs.Formulas.{FitsGraph, demands_of};
+ghost use Rattle.tor_digraph.specs.Reached.{IsGrown};
+ghost use Rattle.tor_digraph.specs.Spreading.{IsClosed};
+ghost use Rattle.tor_digraph.specs.Trails.{IsTrail};
 ghost use Rattle.tor_orient.specs.Steps.{node_wanted, NoneLeadsOut, HasOpposites, IsOver, IsSettledBy, AreSettled};
 
 use crate::failing::{Search, failing_behind};
@@ -12,12 +15,35 @@ use gao_prefs::Pref;
 use std::alloc::Global;
 use tor_arena::{ArcId, Index, NoMemory, NodeId};
 use tor_clauses::{Clauses, Lit, negation_node};
-use tor_digraph::{NodeSet, RowDigraph, spread};
+use tor_digraph::{NodeSet, RowDigraph, Trail, spread};
+
+/// Settles all literals that a search from this one has tried, from which no arc leads but to one of them or to what is settled.
+fn settle_tried(
+    rows: &RowDigraph<'_, NodeId, ArcId>,
+    start: NodeId,
+    tried: &Trail,
+    settled: &mut NodeSet,
+) -> Result<(), NoMemory>
+    requires count { tried.now.nodes.count ≡ settled.old.count }
+    requires trail { IsTrail rows.now.arcs start tried.now }
+    requires near { IsClosed rows.now.arcs settled.old.items tried.now.nodes.items }
+    requires closed { NoneLeadsOut rows.now.arcs settled.old.items }
+    ensures count { settled.new.count ≡ settled.old.count }
+    ensures closed { OnOk result (NoneLeadsOut rows.now.arcs settled.new.items) }
+    ensures grown { OnOk result (IsGrown rows.now.arcs start settled.old.items settled.new.items) }
+{
+    let _ = rows;
+    let _ = start;
+    for place in 0..tried.nodes.len() {
+        settled.add(tried.nodes.get(place))?;
+    }
+    Ok(())
+}
 
 /// Settles an edge, with all that follows: by the literal that is wanted, or where this fails by the opposite of the last literal on its
 /// way that fails too. From that opposite its own follows, and so does the opposite of each literal that leads to this way, so none of
-/// them is tried again. What is settled stays so, and nothing is done where the edge was settled before. What follows is added with no
-/// node behind, past which it would not go.
+/// them is tried again. What is settled stays so, and nothing is done where the edge was settled before. What follows from that opposite is
+/// added with no node behind, past which it would not go; what follows from the literal that is wanted was tried.
 fn settle(
     rows: &RowDigraph<'_, NodeId, ArcId>,
     pref: &Pref,
@@ -49,7 +75,7 @@ fn settle(
             let other = negation_node(last);
             spread(rows, other, &search.behind, settled)
         }
-        None => spread(rows, node, &search.behind, settled),
+        None => settle_tried(rows, node, &search.tried, settled),
     }
 }
 
@@ -99,8 +125,8 @@ fn settle_into(
     settle_each(graph, clauses, rows, prefs, &mut search, settled)
 }
 
-/// What is settled when the edges of these preferences are, where the arcs of the clauses stand in rows.
-fn settled_by(
+/// What is settled when the edges of these preferences are, the first of them first, where the arcs of the clauses stand in rows.
+pub(crate) fn settled_by(
     alloc: Global,
     graph: &AsGraph,
     clauses: &Clauses,
@@ -116,20 +142,4 @@ fn settled_by(
     let mut settled = NodeSet::new(alloc, rows.node_count())?;
     settle_into(alloc, graph, clauses, rows, prefs, &mut settled)?;
     Ok(settled)
-}
-
-/// Settles the edges of these preferences, the first of them first.
-pub(crate) fn settle_all(
-    alloc: Global,
-    graph: &AsGraph,
-    clauses: &Clauses,
-    prefs: &[Pref],
-) -> Result<NodeSet, NoMemory>
-    requires fits { FitsGraph graph.now clauses.now }
-    requires servable { IsServable (demands_of graph.now clauses.now) }
-    requires inside { All (λ pref. pref.edge < length (edges graph.now)) prefs.now }
-    ensures { IfOk result (AreSettled clauses.now prefs.now (length prefs.now)) }
-{
-    let rows = clauses.digraph().in_rows(alloc)?;
-    settled_by(alloc, graph, clauses, &rows, prefs)
 }

@@ -11,21 +11,24 @@ use Rattle.tor_clauses.specs.Formulas.{Formula, demands_of}
 use Rattle.rel_infer.proofs.Labels.{labels_from}
 use Rattle.rel_infer.proofs.labelling.labels_of.Goals as goal
 
-pub orient-requires-clause-servable : goal.orient-requires-clause-servable
-orient-requires-clause-servable c =
+pub orient_in-requires-clause-servable : goal.orient_in-requires-clause-servable
+orient_in-requires-clause-servable c =
     subst (λ (f : Formula). IsServable (demands_of c.args.graph.now f)) (sym c.clauses.ensures)
     (c.kept-kept.ensures.served c.args.graph.now c.facts.ensures.apart c.requires.fits)
 
-pub orient-requires-clause-inside : goal.orient-requires-clause-inside
-orient-requires-clause-inside c =
+pub orient_in-requires-clause-rows : goal.orient_in-requires-clause-rows
+orient_in-requires-clause-rows c = c.requires.rows ∙ ap (λ (f : Formula). f.net) (sym c.clauses.ensures)
+
+pub orient_in-requires-clause-inside : goal.orient_in-requires-clause-inside
+orient_in-requires-clause-inside c =
     subst (All (λ (pref : Pref). pref.edge < length (edges c.args.graph.now))) (sym c.as_slice.ensures) c.in_ok-voted.ensures.prefs.inside
 
-pub orient-requires-clause-apart : goal.orient-requires-clause-apart
-orient-requires-clause-apart c =
+pub orient_in-requires-clause-apart : goal.orient_in-requires-clause-apart
+orient_in-requires-clause-apart c =
     subst (λ (l : List Pref). AllDistinct (map (λ (pref : Pref). pref.edge) l)) (sym c.as_slice.ensures) c.in_ok-voted.ensures.prefs.apart
 
-pub orient-requires-clause-each : goal.orient-requires-clause-each
-orient-requires-clause-each c =
+pub orient_in-requires-clause-each : goal.orient_in-requires-clause-each
+orient_in-requires-clause-each c =
     let es = edges c.args.graph.now in
     subst (λ (l : List Pref). (e : Edge) → Contains es e ↔ Contains (edges_preferred es l) e) (sym c.as_slice.ensures) c.in_ok-voted.ensures.prefs.order.each
 

@@ -5,14 +5,6 @@ use Rattle.tor_orient.proofs.settling.settle.Goals as goal
 pub spread-requires-clause-closed : goal.spread-requires-clause-closed
 spread-requires-clause-closed c = closed_past_none c.args.rows.now.arcs c.clear.new.self.items c.args.settled.now.items c.requires.closed
 
-pub spread-requires-in-None-clause-closed : goal.spread-requires-in-None-clause-closed
-spread-requires-in-None-clause-closed c = closed_past_none c.args.rows.now.arcs c.clear.new.self.items c.args.settled.now.items c.requires.closed
-
 pub returns-in-Some-clause-closed : goal.returns-in-Some-clause-closed
 returns-in-Some-clause-closed c =
     on_ok_weaker c.spread.result (none_leads_out c.args.rows.now.arcs c.clear.new.self.items c.spread.new.found.items c.clear.ensures.none) c.spread.ensures.closed
-
-pub returns-in-None-clause-closed : goal.returns-in-None-clause-closed
-returns-in-None-clause-closed c =
-    on_ok_weaker c.spread-in-None.result (none_leads_out c.args.rows.now.arcs c.clear.new.self.items c.spread-in-None.new.found.items c.clear.ensures.none)
-    c.spread-in-None.ensures.closed

@@ -12,6 +12,6 @@ invariant_of-result c =
         served = subst (AreValleyFree c.args.graph.now c.args.clauses.now) (sym c.as_slice-labels.ensures) c.requires.served;
         only = c.in_ok-held.ensures.held;
       },
-      c.in_ok-rows.ensures ∙ c.digraph.ensures,
+      c.requires.rows,
       c.in_ok-held.ensures.count ∙ ap (λ n. n * 2) labelled ∙ sym c.requires.fits.nodes,
     )

@@ -10,7 +10,7 @@ use Rattle.tor_orient.specs.Wishes.{wish, AreWishes}
 use Rattle.tor_orient.specs.Steps.{AreEndsOf}
 use Rattle.tor_orient.proofs.Preferences.{serves, preferred}
 use Rattle.tor_orient.proofs.WishLemmas.{wishes}
-use Rattle.tor_orient.proofs.orienting.orient.Goals as goal
+use Rattle.tor_orient.proofs.orienting.orient_in.Goals as goal
 
 pub returns-clause-many : goal.returns-clause-many
 returns-clause-many c =
