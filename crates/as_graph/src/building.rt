@@ -3,11 +3,11 @@ ghost use Rattle.std.specs.Prelude.{◌≡◌, ◌≢◌, ◌+◌, ◌*◌, ◌<
 ghost use Rattle.tor_arena.specs.Distinct.{AllDistinct};
 ghost use Rattle.tor_arena.specs.Limits.{most_places, max_paths, max_numbers};
 ghost use Rattle.relationships.specs.Evidence.{NeighboursDiffer};
-ghost use Rattle.relationships.specs.Graph.{edge_of, edges_on};
+ghost use Rattle.relationships.specs.Graph.{edges_on};
 ghost use Rattle.relationships.specs.Givens.{returns, NameTwo, NameOnce};
 ghost use Rattle.relationships.specs.Steps.{end_left};
-ghost use Rattle.as_graph.specs.Steps.{IsStep, AreSteps};
-ghost use Rattle.tor_numbers.specs.Edges.{with_edge, with_edges};
+ghost use Rattle.as_graph.specs.Steps.{AreSteps};
+ghost use Rattle.tor_numbers.specs.Edges.{with_edges};
 ghost use Rattle.as_graph.specs.Inside.{AddsReturns, IsBuilt};
 
 use crate::graph::AsGraph;
@@ -179,19 +179,13 @@ fn add_steps(edges: &mut GraphEdges, steps: &mut Vec<Step>, path: &[u32]) -> Res
 {
     reserve(steps, path.len())?;
     for at in 1..path.len() {
-        let step = add_step(edges, path[at - 1], path[at])?;
-        steps.push_reserved(step);
+        let (from, to) = (path[at - 1], path[at]);
+        // most edges are there, and a short way to them lets the processor go on to the next
+        let edge = match edges.find(from, to) {
+            Some(edge) => edge,
+            None => edges.add_new(from, to)?,
+        };
+        steps.push_reserved(step_on(edge, from, to));
     }
     Ok(())
-}
-
-/// Adds the edge of two ASes, and answers the step from the first to the second.
-fn add_step(edges: &mut GraphEdges, from: u32, to: u32) -> Result<Step, NoMemory>
-    requires apart { from ≢ to }
-    requires room { length edges.old < max_numbers }
-    ensures edge { OnOk result (edges.new ≡ with_edge edges.old (edge_of from to)) }
-    ensures step { IfOk result (λ step. IsStep edges.new from to step) }
-{
-    let edge = edges.add(from, to)?;
-    Ok(step_on(edge, from, to))
 }

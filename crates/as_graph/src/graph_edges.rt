@@ -79,6 +79,7 @@ impl GraphEdges {
         ensures edge { IfSome result (λ id. slice_get self.now id ≡ Some (edge_of a b)) }
         ensures none { IsNone result ↔ IsFalse (list_any (is_same (edge_of a b)) self.now) }
         ensures below { IfSome result (λ id. id < max_numbers) }
+        ensures there { IfSome result (λ id. with_edge self.now (edge_of a b) ≡ self.now) }
     {
         let place = self.table.place(a, b)?;
         Some(EdgeId::from_place(place).unwrap())
@@ -122,26 +123,10 @@ impl GraphEdges {
         Ok(ases)
     }
 
-    /// The edge of two ASes, which goes last if it is new. For want of memory nothing changes.
-    pub fn add(&mut self, a: u32, b: u32) -> Result<EdgeId, NoMemory>
-        requires apart { a ≢ b }
-        requires room { length self.old < max_numbers }
-        ensures ok { OnOk result (self.new ≡ with_edge self.old (edge_of a b)) }
-        ensures edge { IfOk result (λ id. slice_get self.new id ≡ Some (edge_of a b)) }
-        ensures below { IfOk result (λ id. id < max_numbers) }
-        ensures err { OnErr result (self.new ≡ self.old) }
-    {
-        // most edges are there, and a short way to them lets the processor go on to the next
-        match self.find(a, b) {
-            Some(id) => Ok(id),
-            None => self.add_new(a, b),
-        }
-    }
-
     /// Adds the edge of two ASes, which is not there. For want of memory nothing changes.
     #[cold]
     #[inline(never)]
-    fn add_new(&mut self, a: u32, b: u32) -> Result<EdgeId, NoMemory>
+    pub fn add_new(&mut self, a: u32, b: u32) -> Result<EdgeId, NoMemory>
         requires apart { a ≢ b }
         requires room { length self.old < max_numbers }
         requires missing { IsFalse (list_any (is_same (edge_of a b)) self.old) }
