@@ -124,7 +124,7 @@ fn write_twelve(bytes: &mut [u8], at: usize, n: u64) -> usize
     write_eight_padded(bytes, middle, n % 100_000_000)
 }
 
-// A number of more than six digits.
+// A number of any length. Few have more than six digits.
 #[inline(never)]
 fn write_long(bytes: &mut [u8], at: usize, n: u64) -> usize
     requires { at + 20 ≤ length bytes.old }
@@ -176,7 +176,8 @@ pub fn write_joined(bytes: &mut [u8], at: usize, byte: u8, numbers: &[u32]) -> u
     end
 }
 
-/// Writes a number, this octet, numbers joined by that octet, and the last octet, as write_joined writes them.
+/// Writes a number, an octet, numbers joined by another, and a last octet, from this place on, leaves what stands before it, and answers
+/// where they end. Numbers are in decimal. It takes no memory.
 pub fn write_row(
     bytes: &mut [u8],
     at: usize,
