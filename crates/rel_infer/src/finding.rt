@@ -51,40 +51,6 @@ fn marks_of(
     forced_in(alloc, graph, selector.clauses(), rows, labels)
 }
 
-// What is found of the edges of a graph, where the arcs of the clauses of the paths that the selector has kept stand in these rows.
-fn found_along(
-    alloc: Global,
-    graph: &AsGraph,
-    selector: &Selector,
-    rows: &RowDigraph<'_, NodeId, ArcId>,
-    counted: &[PathId],
-    ratio: u32,
-) -> Result<Found, NoMemory>
-    requires fits { FitsGraph graph.now selector.now.formula }
-    requires rows { rows.now ≡ selector.now.formula.net }
-    requires apart { AllPairs ◌≢◌ selector.now.formula.paths }
-    requires there { All (λ path. path < length graph.now) counted.now }
-    requires once { AllPairs ◌≢◌ counted.now }
-    requires distinct { All AllDistinct (paths_at graph.now counted.now) }
-    requires small { ratio ≤ max_ratio }
-    ensures { IfOk result (AreFound ratio graph.now selector.now.formula counted.now) }
-{
-    let labelled = labels_of(alloc, graph, selector, rows, counted, ratio)?;
-    let found = marks_of(alloc, graph, selector, rows, &labelled.labels)?;
-    let edges = edge_lines(
-        alloc,
-        graph,
-        &labelled.labels,
-        found.marks.as_slice(),
-        labelled.supports.as_slice(),
-    )?;
-    Ok(Found {
-        edges,
-        whys: found.whys,
-        probes: found.probes,
-    })
-}
-
 /// What is found of the edges of a graph, where the paths that the selector has kept are kept, and `counted` of them vote and are
 /// counted. The only error is that memory ran out.
 pub(crate) fn found_in(
@@ -103,5 +69,19 @@ pub(crate) fn found_in(
     ensures { IfOk result (AreFound ratio graph.now selector.now.formula counted.now) }
 {
     let rows = selector.clauses().digraph().in_rows(alloc)?;
-    found_along(alloc, graph, selector, &rows, counted, ratio)
+    let labelled = labels_of(alloc, graph, selector, &rows, counted, ratio)?;
+    let found = marks_of(alloc, graph, selector, &rows, &labelled.labels)?;
+    drop(rows);
+    let edges = edge_lines(
+        alloc,
+        graph,
+        &labelled.labels,
+        found.marks.as_slice(),
+        labelled.supports.as_slice(),
+    )?;
+    Ok(Found {
+        edges,
+        whys: found.whys,
+        probes: found.probes,
+    })
 }
