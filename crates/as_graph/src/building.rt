@@ -46,7 +46,8 @@ fn rows_of(
 {
     let mut steps = Vec::new(alloc);
     let mut bounds = Vec::new(alloc);
-    reserve(&mut steps, steps_on(paths))?;
+    // one further than there are, which `add_steps` makes sure of
+    reserve(&mut steps, steps_on(paths).saturating_add(1))?;
     reserve(&mut bounds, paths.len().saturating_add(1))?;
     add_paths(paths, edges, &mut steps, &mut bounds)?;
     Ok(StepRows { steps, bounds })
