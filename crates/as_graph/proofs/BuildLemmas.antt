@@ -1,5 +1,5 @@
 -- A graph that is built path by path.
-use Rattle.std.proofs.Common.{◌≡◌, ℕ, suc, ◌+◌, ◌<◌, ◌≤◌, ◌^◌, List, [], ◌∷◌, ◌++◌, length, take, map, refl, sym, ap, ◌∙◌, subst, arith, All, length-take, slice_get, Some}
+use Rattle.std.proofs.Common.{◌≡◌, ℕ, ◌+◌, ◌≤◌, ◌^◌, List, [], ◌∷◌, ◌++◌, length, take, map, refl, sym, ap, ◌∙◌, subst, arith, All, slice_get, Some}
 use Rattle.std.proofs.lemmas.Option.{get_or_from_slice_get, slice_get_within}
 use Rattle.std.specs.List.{sum_by}
 use Rattle.std.proofs.lemmas.List.{take_all, take_more}
@@ -15,18 +15,8 @@ use Rattle.as_graph.specs.Inside.{path_by, IsGraph, IsBuilt}
 use Rattle.as_graph.proofs.Distinct.{edges-push, edges_within, few_edges}
 use Rattle.as_graph.proofs.StepLemmas.{HaveSteps-more, HaveSteps-push, paths_by_steps}
 
-length-rows : (es : List Edge) (paths : List (List ℕ)) (rows : List (List Step)) → HaveSteps es paths rows → length rows ≡ length paths
-length-rows es [] [] h = refl
-length-rows es [] (steps ∷ rows) h = absurd h
-length-rows es (path ∷ paths) [] h = absurd h
-length-rows es (path ∷ paths) (steps ∷ rows) h = ap suc (length-rows es paths rows h.1)
-
 pub IsBuilt-begins : (paths : List (List ℕ)) (es : List Edge) (rows : List (List Step)) → es ≡ [] → rows ≡ [] → IsBuilt paths 0 es rows
 IsBuilt-begins paths es rows h k = rw (h, k) (record { there = refl; stepped = tt })
-
-pub IsBuilt-few : (paths : List (List ℕ)) (place : ℕ) (es : List Edge) (rows : List (List Step)) → IsBuilt paths place es rows → length paths ≤ 2 ^ 23 → length rows < 2 ^ 28
-IsBuilt-few paths place es rows h few =
-    let n = length-rows es (take place paths) rows h.stepped in let t = length-take place paths in omega (arith, n, t, few)
 
 pub IsBuilt-room : (paths : List (List ℕ)) (place : ℕ) (es : List Edge) (rows : List (List Step)) (path : List ℕ) → IsBuilt paths place es rows →
     slice_get paths place ≡ Some path → All (λ path. 2 ≤ length path) paths → sum_by length paths ≤ 2 ^ 26 → length es + length path ≤ 2 ^ 26

@@ -6,5 +6,7 @@ pub mod Distinct
 pub mod EdgeLemmas
 pub mod Falling
 pub mod Labelled
+pub mod PartedRows
 pub mod ReturnLemmas
+pub mod RowLemmas
 pub mod StepLemmas

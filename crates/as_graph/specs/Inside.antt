@@ -3,6 +3,7 @@ use Rattle.std.specs.Prelude.{◌≡◌, ℕ, ◌+◌, ◌<◌, ◌≤◌, ◌||
 use Rattle.std.specs.Prelude.{take, slice_get, slice_index, slice_index_or, Some, Contains, nat_eq, if◌then◌else◌}
 use Rattle.std.specs.List.{list_any}
 use Rattle.tor_arena.specs.Limits.{max_numbers}
+use Rattle.tor_arena.specs.RowLists.{rows_between, ArePartedBy}
 use Rattle.tor_numbers.specs.Slots.{IsApart}
 use Rattle.relationships.specs.declared.label.End.{End}
 use Rattle.relationships.specs.Evidence.{NeighboursDiffer}
@@ -15,7 +16,7 @@ use Rattle.as_graph.specs.declared.step.Step.{Step}
 use Rattle.as_graph.specs.EdgeSteps.{place_of_step}
 use Rattle.as_graph.specs.Limits.{most_paths, most_numbers, most_triples}
 use Rattle.as_graph.specs.Paths.{triple_count}
-use Rattle.as_graph.specs.Steps.{HaveSteps}
+use Rattle.as_graph.specs.Steps.{AreSteps, HaveSteps}
 
 -- ---- edges and degrees
 
@@ -87,6 +88,18 @@ path_along ases (step ∷ steps) = as_along ases (record { edge = step.edge; lef
 pub record IsBuilt (paths : List (List ℕ)) (place : ℕ) (es : List Edge) (rows : List (List Step)) : Type 0 where
   pub there : es ≡ edges (take place paths)
   pub stepped : HaveSteps es (take place paths) rows
+
+-- the steps of a path were added behind others
+pub record AddsSteps (es : List Edge) (path : List ℕ) (old new : List Step) : Type 0 where
+  pub added : List Step
+  pub whole : new ≡ old ++ added
+  pub stepped : AreSteps es path added
+
+-- the edges of the first paths are there, and their steps in rows with these bounds
+pub record AreRowsOf (paths : List (List ℕ)) (place : ℕ) (es : List Edge) (steps : List Step) (bounds : List ℕ) : Type 0 where
+  pub some : 0 < length bounds
+  pub parted : ArePartedBy bounds (length steps)
+  pub built : IsBuilt paths place es (rows_between steps bounds)
 
 -- ---- returns of givens
 

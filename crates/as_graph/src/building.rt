@@ -6,13 +6,13 @@ ghost use Rattle.relationships.specs.Evidence.{NeighboursDiffer};
 ghost use Rattle.relationships.specs.Graph.{edges_on};
 ghost use Rattle.relationships.specs.Givens.{returns, NameTwo, NameOnce};
 ghost use Rattle.relationships.specs.Steps.{end_left};
-ghost use Rattle.as_graph.specs.Steps.{AreSteps};
 ghost use Rattle.tor_numbers.specs.Edges.{with_edges};
-ghost use Rattle.as_graph.specs.Inside.{AddsReturns, IsBuilt};
+ghost use Rattle.as_graph.specs.Inside.{AddsReturns, AddsSteps, AreRowsOf, IsBuilt};
 
 use crate::graph::AsGraph;
 use crate::graph_edges::GraphEdges;
 use crate::step::Step;
+use crate::step_rows::{StepRows, push_bound};
 use relationships::{End, Given};
 use std::alloc::Global;
 use tor_arena::{EdgeId, Index, Keys, NoMemory, PathId, RowRefused, Rows, reserve};
@@ -36,7 +36,7 @@ fn rows_of(
     alloc: Global,
     paths: &Rows<PathId, u32>,
     edges: &mut GraphEdges,
-) -> Result<Rows<PathId, Step>, NoMemory>
+) -> Result<StepRows, NoMemory>
     requires several { All (λ path. 2 ≤ length path) paths.now }
     requires apart { All AllDistinct paths.now }
     requires few { length paths.now ≤ max_paths }
@@ -44,33 +44,36 @@ fn rows_of(
     requires empty { edges.old ≡ [] }
     ensures { IfOk result (IsBuilt paths.now (length paths.now) edges.new) }
 {
-    let mut rows = Rows::new(alloc);
-    rows.reserve(paths.len(), steps_on(paths))?;
-    add_paths(alloc, paths, edges, &mut rows)?;
-    Ok(rows)
+    let mut steps = Vec::new(alloc);
+    let mut bounds = Vec::new(alloc);
+    // one further than there are, which `add_steps` makes sure of
+    reserve(&mut steps, steps_on(paths).saturating_add(1))?;
+    reserve(&mut bounds, paths.len().saturating_add(1))?;
+    add_paths(paths, edges, &mut steps, &mut bounds)?;
+    Ok(StepRows { steps, bounds })
 }
 
-/// Adds the edges of the paths, and a row of steps for each, where there are no others.
+/// Adds the edges of the paths, and the steps of each as a row that ends at a bound of its own, where there are no others.
 fn add_paths(
-    alloc: Global,
     paths: &Rows<PathId, u32>,
     edges: &mut GraphEdges,
-    rows: &mut Rows<PathId, Step>,
+    steps: &mut Vec<Step>,
+    bounds: &mut Vec<u32>,
 ) -> Result<(), NoMemory>
     requires several { All (λ path. 2 ≤ length path) paths.now }
     requires apart { All AllDistinct paths.now }
     requires few { length paths.now ≤ max_paths }
     requires short { sum_by length paths.now ≤ max_numbers }
     requires empty { edges.old ≡ [] }
-    requires none { rows.old ≡ [] }
-    ensures { OnOk result (IsBuilt paths.now (length paths.now) edges.new rows.new) }
+    requires none { steps.old.items ≡ [] }
+    requires first { bounds.old.items ≡ [] }
+    ensures { OnOk result (AreRowsOf paths.now (length paths.now) edges.new steps.new.items bounds.new.items) }
 {
-    let mut steps = Vec::new(alloc);
+    push_bound(bounds, 0)?;
     for place in 0..paths.len() {
         let path = PathId::from_place(place).unwrap();
-        steps.clear();
-        add_steps(edges, &mut steps, paths.row(path))?;
-        add_row(rows, steps.as_slice())?;
+        add_steps(edges, steps, paths.row(path))?;
+        push_bound(bounds, steps.len())?;
     }
     Ok(())
 }
@@ -99,11 +102,7 @@ pub fn build_with(
 
 /// Adds the steps of the return of each given whose two are an edge, where no two of the givens name the same two, and there are few
 /// enough rows and edges.
-fn add_returns(
-    edges: &GraphEdges,
-    rows: &mut Rows<PathId, Step>,
-    givens: &[Given],
-) -> Result<(), NoMemory>
+fn add_returns(edges: &GraphEdges, rows: &mut StepRows, givens: &[Given]) -> Result<(), NoMemory>
     requires two { NameTwo givens.now }
     requires once { NameOnce givens.now }
     requires few { length rows.old + length edges.now < most_places }
@@ -116,11 +115,7 @@ fn add_returns(
 }
 
 /// Adds the steps of the return of a given, if its two are an edge.
-fn add_return(
-    edges: &GraphEdges,
-    rows: &mut Rows<PathId, Step>,
-    given: &Given,
-) -> Result<(), NoMemory>
+fn add_return(edges: &GraphEdges, rows: &mut StepRows, given: &Given) -> Result<(), NoMemory>
     requires two { given.now.over ≢ given.now.under }
     requires few { length rows.old < most_places }
     ensures { OnOk result (AddsReturns edges.now (given.now ∷ []) rows.old rows.new) }
@@ -131,7 +126,7 @@ fn add_return(
         Some(edge) => {
             let there = step_on(edge, under, over);
             let back = step_on(edge, over, under);
-            add_row(rows, &[there, back])
+            rows.push_two(there, back)
         }
     }
 }
@@ -169,13 +164,12 @@ pub(crate) fn add_row<T: Copy>(rows: &mut Rows<PathId, T>, row: &[T]) -> Result<
     }
 }
 
-/// Adds the edges of a path, and its steps, where there are no others.
+/// Adds the edges of a path, and its steps behind others.
 fn add_steps(edges: &mut GraphEdges, steps: &mut Vec<Step>, path: &[u32]) -> Result<(), NoMemory>
     requires apart { NeighboursDiffer path.now }
     requires room { length edges.old + length path.now ≤ max_numbers }
-    requires empty { steps.old.items ≡ [] }
     ensures edges { OnOk result (edges.new ≡ with_edges edges.old (edges_on path.now)) }
-    ensures steps { OnOk result (AreSteps edges.new path.now steps.new.items) }
+    ensures steps { OnOk result (AddsSteps edges.new path.now steps.old.items steps.new.items) }
 {
     reserve(steps, path.len())?;
     for at in 1..path.len() {

@@ -16,10 +16,11 @@ use crate::counting::count_steps;
 use crate::graph_edges::GraphEdges;
 use crate::per_edge::Labels;
 use crate::step::Step;
+use crate::step_rows::StepRows;
 use crate::valley::is_valley_free;
 use std::alloc::Global;
 use std::marker::Model;
-use tor_arena::{EdgeId, List, NoMemory, PathId, Rows};
+use tor_arena::{EdgeId, List, NoMemory, PathId};
 
 /// An edge: two neighbours on some path, the lower number and the higher.
 #[derive(Clone, Copy, PartialEq, Eq)]
@@ -45,7 +46,7 @@ pub struct EndDegrees {
 pub struct AsGraph {
     pub(crate) edges: GraphEdges,
     // for each path, its steps
-    pub(crate) rows: Rows<PathId, Step>,
+    pub(crate) rows: StepRows,
 }
 
 impl Model for AsGraph {

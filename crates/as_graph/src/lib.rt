@@ -9,6 +9,7 @@ mod graph_edges;
 mod per_edge;
 mod reading_back;
 mod step;
+mod step_rows;
 mod valley;
 
 pub use building::{build, build_with};
