@@ -180,8 +180,8 @@ impl NumberCursor<'_> {
     }
 }
 
-/// The numbers of the value of an AS_PATH, with numbers of four octets, that is one AS_SEQUENCE. None: it is no such value. It takes
-/// no memory.
+/// The numbers of the value of an AS_PATH, with numbers of four octets, that is one AS_SEQUENCE. None says nothing of the value: what
+/// goes over any value has to be asked then. It takes no memory.
 pub fn sole_sequence(value: &[u8]) -> Option<NumberCursor<'_>>
     ensures { IfSome result (λ ases. segments_of Four value.now ≡ Some (record { kind = SegKind.Sequence; ases = ases } ∷ [])) }
 {
