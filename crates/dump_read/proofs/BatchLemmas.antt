@@ -10,9 +10,9 @@ use Rattle.path_clean.specs.declared.cleaned.Cause.{Cause}
 use Rattle.path_clean.specs.declared.cleaned.Cleaned.{Cleaned}
 use Rattle.path_clean.specs.declared.cleaned.Cleaned.TheVariants.{Path, Aside}
 use Rattle.path_clean.specs.Clean.{cleaned_as, merged_of, judge_merged}
-use Rattle.path_clean.specs.Lookups.{StandWhereFound, AreCleanWhereFound}
-use Rattle.path_clean.specs.Rows.{Counted, Table}
-use Rattle.path_clean.specs.Table.{place_of, with_path}
+use Rattle.path_table.specs.Lookups.{StandWhereFound, AreCleanWhereFound}
+use Rattle.path_table.specs.Rows.{Counted, Table}
+use Rattle.path_table.specs.Table.{place_of, with_path}
 use Rattle.path_clean.proofs.Judged as judged
 use Rattle.dump_read.specs.declared.error.LimitKind.{LimitKind}
 use Rattle.dump_read.specs.declared.error.LimitKind.TheVariants.{Paths, Numbers}

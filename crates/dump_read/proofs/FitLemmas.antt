@@ -14,9 +14,9 @@ use Rattle.path_clean.specs.declared.cleaned.Cleaned.TheVariants.{Path, Aside}
 use Rattle.path_clean.specs.Clean.{clean_of}
 use Rattle.path_clean.specs.Counts.{counted_one}
 use Rattle.tor_arena.specs.Limits.{max_numbers}
-use Rattle.path_clean.specs.Rows.{Counted, numbers_in}
-use Rattle.path_clean.specs.Table.{place_of, with_path, distinct_paths, counted, times}
-use Rattle.path_clean.proofs.CountingLemmas.{counted_push}
+use Rattle.path_table.specs.Rows.{Counted, numbers_in}
+use Rattle.path_table.specs.Table.{place_of, with_path, distinct_paths, counted, times}
+use Rattle.path_table.proofs.CountingLemmas.{counted_push}
 use Rattle.dump_read.specs.declared.error.LimitKind.{LimitKind}
 use Rattle.dump_read.specs.declared.error.LimitKind.TheVariants.{Paths, Numbers, Bytes}
 use Rattle.dump_read.specs.Routes.{Route}

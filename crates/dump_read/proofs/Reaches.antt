@@ -15,7 +15,7 @@ use Rattle.path_clean.specs.declared.cleaned.Cleaned.{Cleaned}
 use Rattle.path_clean.specs.declared.cleaned.Cleaned.TheVariants.{Path, Aside}
 use Rattle.path_clean.specs.declared.cleaned.Sets.{Sets}
 use Rattle.path_clean.specs.Clean.{clean_of}
-use Rattle.path_clean.specs.Table.{place_of}
+use Rattle.path_table.specs.Table.{place_of}
 use Rattle.path_attrs.specs.declared.fault.RibFault.{RibFault}
 use Rattle.dump_read.specs.declared.error.DumpError.{DumpError}
 use Rattle.dump_read.specs.declared.error.DumpError.TheVariants as error

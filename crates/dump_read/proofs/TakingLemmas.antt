@@ -15,8 +15,8 @@ use Rattle.path_clean.specs.declared.cleaned.Cleaned.{Cleaned}
 use Rattle.path_clean.specs.declared.cleaned.Cleaned.TheVariants.{Path, Aside}
 use Rattle.path_clean.specs.Clean.{clean_of}
 use Rattle.path_clean.specs.Counts.{CauseCounts, no_counts, cause_count, counted_one, place_of_cause}
-use Rattle.path_clean.specs.Table.{place_of, with_path, counted}
-use Rattle.path_clean.proofs.CountingLemmas.{counted_push}
+use Rattle.path_table.specs.Table.{place_of, with_path, counted}
+use Rattle.path_table.proofs.CountingLemmas.{counted_push}
 use Rattle.dump_read.specs.declared.error.LimitKind.{LimitKind}
 use Rattle.dump_read.specs.declared.error.LimitKind.TheVariants.{Paths, Numbers}
 use Rattle.dump_read.specs.Routes.{Route}

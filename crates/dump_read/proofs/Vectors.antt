@@ -4,7 +4,7 @@ use Rattle.path_attrs.specs.declared.as_path.Width.TheVariants.{Two}
 use Rattle.path_attrs.specs.Segments.{segment, segments_within, segments_of}
 use Rattle.path_clean.specs.declared.cleaned.Sets.TheVariants.{Cut}
 use Rattle.path_clean.specs.declared.cleaned.Cause.TheVariants.{NoPath, Loop, Short}
-use Rattle.path_clean.specs.Table.{counted}
+use Rattle.path_table.specs.Table.{counted}
 use Rattle.dump_read.specs.Routes.{Route}
 use Rattle.dump_read.specs.Laws.{cleaned_paths, set_aside}
 

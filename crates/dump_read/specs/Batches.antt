@@ -6,8 +6,8 @@ use Rattle.path_clean.specs.declared.cleaned.Cleaned.{Cleaned}
 use Rattle.path_clean.specs.declared.cleaned.Cleaned.TheVariants.{Path}
 use Rattle.path_clean.specs.Clean.{clean_of, cleaned_as, merged_of, judge_merged}
 use Rattle.path_clean.specs.Paths.{is_cleaned}
-use Rattle.path_clean.specs.Rows.{Counted}
-use Rattle.path_clean.specs.Table.{place_of}
+use Rattle.path_table.specs.Rows.{Counted}
+use Rattle.path_table.specs.Table.{place_of}
 use Rattle.dump_read.specs.declared.taking.Untaken.{Untaken}
 use Rattle.dump_read.specs.Refusals.{IsLimit}
 use Rattle.path_attrs.specs.declared.fault.RibFault.{RibFault}

@@ -9,7 +9,7 @@ use Rattle.path_clean.specs.declared.cleaned.Cleaned.TheVariants.{Path, Aside}
 use Rattle.path_clean.specs.Clean.{clean_of}
 use Rattle.path_clean.specs.Counts.{no_counts, cause_count, place_of_cause}
 use Rattle.tor_arena.specs.Limits.{max_numbers}
-use Rattle.path_clean.specs.Table.{distinct_paths, counted}
+use Rattle.path_table.specs.Table.{distinct_paths, counted}
 use Rattle.dump_read.specs.declared.error.LimitKind.{LimitKind}
 use Rattle.dump_read.specs.declared.error.LimitKind.TheVariants.{Paths, Numbers, Bytes}
 use Rattle.dump_read.specs.Routes.{Route}

@@ -1,7 +1,7 @@
 -- Why routes were not taken in.
 use Rattle.std.specs.Prelude.{◌≡◌, ℕ, List, Option, option_map, Result, Ok, Err}
-use Rattle.path_clean.specs.declared.table.AddRefused.{AddRefused}
-use Rattle.path_clean.specs.declared.table.AddRefused.TheVariants.{TooManyPaths, TooManyNumbers, NoMemory}
+use Rattle.path_table.specs.declared.table.AddRefused.{AddRefused}
+use Rattle.path_table.specs.declared.table.AddRefused.TheVariants.{TooManyPaths, TooManyNumbers, NoMemory}
 use Rattle.dump_read.specs.declared.error.LimitKind.{LimitKind}
 use Rattle.dump_read.specs.declared.error.LimitKind.TheVariants.{Paths, Numbers, Bytes}
 use Rattle.dump_read.specs.declared.error.Fault.TheVariants as fault

@@ -5,7 +5,8 @@ ghost use Rattle.dump_read.specs.Batches.{StandAtPlaces, TakesAt, IsLimitAt, Tak
 
 use crate::taking::{Taken, Untaken, take_again, take_merged};
 use path_attrs::{Attrs, Width};
-use path_clean::{Cause, HashedPaths, Lookup, PathTable, Sets};
+use path_clean::{Cause, Sets};
+use path_table::{HashedPaths, Lookup, PathTable};
 use std::alloc::Global;
 use std::marker::Model;
 use tor_arena::NoMemory;

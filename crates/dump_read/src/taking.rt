@@ -2,13 +2,14 @@
 ghost use Rattle.std.specs.Prelude.{◌≡◌, ◌<◌, ℕ, List, Some, Ok, OnOk, OnErr, IfErr, IsTrue, length};
 ghost use Rattle.path_clean.specs.Clean.{judged};
 ghost use Rattle.path_clean.specs.Paths.{is_cleaned};
-ghost use Rattle.path_clean.specs.Table.{place_of};
+ghost use Rattle.path_table.specs.Table.{place_of};
 ghost use Rattle.dump_read.specs.Taking.{take_cleaned, take_path as path_taken};
 ghost use Rattle.dump_read.specs.Refusals.{IsLimit};
 
 use crate::error::LimitKind;
 use crate::file_counts::FileCounts;
-use path_clean::{AddRefused, Asides, HashedPath, PathTable, judge};
+use path_clean::{Asides, judge};
+use path_table::{AddRefused, HashedPath, PathTable};
 use std::alloc::Global;
 use tor_arena::{List, NoMemory, PathId};
 

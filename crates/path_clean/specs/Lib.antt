@@ -2,10 +2,3 @@ pub mod Paths
 pub mod Clean
 pub mod Merging
 pub mod Counts
-pub mod Rows
-pub mod Inside
-pub mod Table
-pub mod Chains
-pub mod Slots
-pub mod Repeats
-pub mod Lookups

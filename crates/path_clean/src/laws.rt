@@ -1,7 +1,6 @@
 //! The laws. Each is the contract of a function that does nothing.
 
 ghost use Rattle.path_clean.specs.Clean.{PathsAreClean, CleanPathsStay, JudgedLast};
-ghost use Rattle.path_clean.specs.Table.{CountingLaw};
 
 /// What is cleaned to a path has at least two ASes, all distinct, none reserved.
 pub fn paths_are_clean()
@@ -16,10 +15,4 @@ pub fn clean_paths_stay()
 /// A route is cleaned to what it is merged to, judged.
 pub fn judged_last()
     ensures { JudgedLast }
-{}
-
-/// Counting paths one after the other, from nothing, gives the distinct ones in order of first appearance, each with how often it
-/// stands there, up to 2^64 - 1.
-pub fn counting()
-    ensures { CountingLaw }
 {}

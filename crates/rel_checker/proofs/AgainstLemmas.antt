@@ -1,7 +1,7 @@
 -- Paths and counts beside those of dumps.
 use Rattle.std.proofs.Common.{◌≡◌, ℕ, zero, suc, ◌+◌, ◌-◌, ◌<◌, ◌≤◌, List, [], ◌∷◌, length, refl, sym, ap, ap₂, ◌∙◌, subst, arith, Some, slice_get, option_map, false, nat_lt, if◌then◌else◌, le-ltb}
 use Rattle.std.proofs.lemmas.Option.{same_Some}
-use Rattle.path_clean.specs.Rows.{Counted, row_paths}
+use Rattle.path_table.specs.Rows.{Counted, row_paths}
 use Rattle.path_clean.specs.Counts.{CauseCounts}
 use Rattle.path_clean.specs.declared.cleaned.Cause.TheVariants.{NoPath}
 use Rattle.result_text.specs.declared.file.ResultFile.{ResultFile}

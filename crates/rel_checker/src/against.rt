@@ -6,7 +6,8 @@ ghost use Rattle.rel_checker.specs.Steps.{Differs};
 
 use crate::lending::path_line_at;
 use crate::line_numbers::path_line;
-use path_clean::{Asides, Cause, PathTable};
+use path_clean::{Asides, Cause};
+use path_table::PathTable;
 use result_rules::Verdict;
 use result_text::ResultFile;
 use tor_arena::{Index, PathId};

@@ -6,7 +6,8 @@ ghost use Rattle.result_rules.specs.declared.rule.Rule.{Rule};
 ghost use Rattle.rel_checker.specs.Steps.{FindsBreach};
 
 use crate::lending::path_line_at;
-use path_clean::{first_repeated, is_clean_path};
+use path_clean::is_clean_path;
+use path_table::first_repeated;
 use result_text::{PathLineRef, ResultFile};
 use std::alloc::Global;
 use tor_arena::{Keys, MAX_NUMBERS, MAX_PATHS, NoMemory};

@@ -23,7 +23,7 @@ use Rattle.relationships.specs.Givens.{NameOnce, NameTwo, end_by}
 use Rattle.relationships.specs.Marking.{is_forced}
 use Rattle.relationships.proofs.GivenLemmas.{Once, Others, once_all}
 use Rattle.path_clean.specs.Paths.{is_cleaned}
-use Rattle.path_clean.specs.Rows.{none_twice}
+use Rattle.path_table.specs.Rows.{none_twice}
 use Rattle.result_text.specs.declared.file.EdgeLine.{EdgeLine}
 use Rattle.result_text.specs.declared.file.PathLine.{PathLine}
 use Rattle.result_text.specs.declared.file.ResultFile.{ResultFile}

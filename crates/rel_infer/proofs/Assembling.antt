@@ -1,7 +1,7 @@
 -- A result that is put together from its parts.
 use Rattle.std.proofs.Common.{◌≡◌, ℕ, List, [], ◌∷◌, map, refl, ap, ap₂}
 use Rattle.relationships.specs.Fates.{walk_of}
-use Rattle.path_clean.specs.Rows.{Counted, row_paths}
+use Rattle.path_table.specs.Rows.{Counted, row_paths}
 use Rattle.result_text.specs.declared.file.PathLine.{PathLine}
 use Rattle.result_rules.specs.Against.{row_of}
 

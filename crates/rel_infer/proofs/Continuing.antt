@@ -18,7 +18,7 @@ use Rattle.relationships.proofs.GivenLemmas.{given_serving_law}
 use Rattle.as_graph.specs.Paths.{path_at, paths_at}
 use Rattle.tor_clauses.specs.Formulas.{IsServed, numbered}
 use Rattle.tor_clauses.proofs.Exacts.{numbered_paths}
-use Rattle.path_clean.specs.Rows.{Counted, row_paths}
+use Rattle.path_table.specs.Rows.{Counted, row_paths}
 use Rattle.path_select.specs.Behind.{places_from}
 use Rattle.path_select.proofs.BehindLemmas.{places_all}
 use Rattle.result_text.specs.declared.file.PathLine.{PathLine}

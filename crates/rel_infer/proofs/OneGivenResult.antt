@@ -17,7 +17,7 @@ use Rattle.relationships.proofs.Neighbours.{edge_law}
 use Rattle.relationships.proofs.Selecting.{selection_behind_law}
 use Rattle.relationships.proofs.GivenLemmas.{agrees_free, given_serving_law}
 use Rattle.relationships.proofs.GivenPeerings.{edge_among, given_relabelling_law}
-use Rattle.path_clean.specs.Rows.{row_paths as counted_paths}
+use Rattle.path_table.specs.Rows.{row_paths as counted_paths}
 use Rattle.result_rules.specs.File.{its_paths, its_walks, its_probes}
 use Rattle.rel_infer.specs.Finding.{AreLabelsBy}
 use Rattle.rel_infer.specs.GivenResults.{AreLabelsWith, IsInferredWith}

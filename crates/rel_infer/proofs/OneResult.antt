@@ -22,7 +22,7 @@ use Rattle.result_text.specs.declared.file.EdgeLine.{EdgeLine}
 use Rattle.result_text.specs.declared.file.PathLine.{PathLine}
 use Rattle.result_text.specs.declared.file.ResultFile.{ResultFile}
 use Rattle.result_text.specs.declared.file.Totals.{Totals}
-use Rattle.path_clean.specs.Rows.{row_paths as counted_paths}
+use Rattle.path_table.specs.Rows.{row_paths as counted_paths}
 use Rattle.result_rules.specs.File.{claim_on, its_paths, its_walks, its_probes}
 use Rattle.result_rules.specs.Against.{row_of}
 use Rattle.result_rules.specs.Rules.{right_totals}

@@ -19,8 +19,8 @@ use Rattle.tor_arena.specs.Limits.{max_paths, max_numbers, max_ratio}
 use Rattle.path_clean.specs.declared.cleaned.Sets.{Sets}
 use Rattle.path_clean.specs.Counts.{CauseCounts}
 use Rattle.path_clean.specs.Paths.{is_cleaned}
-use Rattle.path_clean.specs.Rows as rows
-use Rattle.path_clean.specs.Rows.{Counted}
+use Rattle.path_table.specs.Rows as rows
+use Rattle.path_table.specs.Rows.{Counted}
 use Rattle.result_text.specs.declared.file.PathLine.{PathLine}
 use Rattle.result_text.specs.declared.file.ResultFile.{ResultFile}
 use Rattle.result_text.specs.Text.{its_givens}

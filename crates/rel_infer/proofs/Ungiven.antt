@@ -14,7 +14,7 @@ use Rattle.relationships.proofs.GivenWalks.{no_givens_law}
 use Rattle.relationships.proofs.GivenPeerings.{given_relabelling_law}
 use Rattle.path_clean.specs.declared.cleaned.Sets.{Sets}
 use Rattle.path_clean.specs.Counts.{CauseCounts}
-use Rattle.path_clean.specs.Rows.{Counted}
+use Rattle.path_table.specs.Rows.{Counted}
 use Rattle.result_text.specs.declared.file.EdgeLine.{EdgeLine}
 use Rattle.result_text.specs.declared.file.ResultFile.{ResultFile}
 use Rattle.result_rules.specs.File.{its_paths, its_walks, its_probes, claim_on}

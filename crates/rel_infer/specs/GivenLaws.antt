@@ -5,7 +5,7 @@ use Rattle.std.specs.Prelude.{◌≡◌, ◌≢◌, ◌↔◌, ℕ, Bool, List, 
 use Rattle.std.specs.Prelude.{All, Contains, IsTrue}
 use Rattle.path_clean.specs.declared.cleaned.Sets.{Sets}
 use Rattle.path_clean.specs.Counts.{CauseCounts}
-use Rattle.path_clean.specs.Rows.{Counted, row_paths}
+use Rattle.path_table.specs.Rows.{Counted, row_paths}
 use Rattle.relationships.specs.declared.label.End.{End}
 use Rattle.relationships.specs.declared.label.Label.{Label}
 use Rattle.relationships.specs.declared.given.Given.{Given}

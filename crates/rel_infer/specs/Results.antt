@@ -4,7 +4,7 @@
 use Rattle.std.specs.Prelude.{◌≡◌, ◌↔◌, ℕ, List, Option, None, map, is_none, All, IsTrue}
 use Rattle.path_clean.specs.declared.cleaned.Sets.{Sets}
 use Rattle.path_clean.specs.Counts.{CauseCounts}
-use Rattle.path_clean.specs.Rows.{Counted}
+use Rattle.path_table.specs.Rows.{Counted}
 use Rattle.relationships.specs.declared.walk.Walk.{Walk}
 use Rattle.relationships.specs.Relationship.{Orientation, Labelling, ValleyFree, labels_of}
 use Rattle.relationships.specs.Graph.{Edge, edges, degree, support}

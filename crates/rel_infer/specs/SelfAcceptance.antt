@@ -5,7 +5,7 @@ use Rattle.tor_arena.specs.Limits.{max_paths, max_numbers, max_ratio}
 use Rattle.path_clean.specs.declared.cleaned.Sets.{Sets}
 use Rattle.path_clean.specs.Counts.{CauseCounts}
 use Rattle.path_clean.specs.Paths.{is_cleaned}
-use Rattle.path_clean.specs.Rows.{Counted, row_paths, times_of, none_twice}
+use Rattle.path_table.specs.Rows.{Counted, row_paths, times_of, none_twice}
 use Rattle.relationships.specs.declared.given.Given.{Given}
 use Rattle.relationships.specs.Givens.{NameTwo, NameOnce}
 use Rattle.result_text.specs.declared.file.ResultFile.{ResultFile}

@@ -1,7 +1,7 @@
 //! The result of the paths of a table.
 ghost use Rattle.std.specs.Prelude.{◌≡◌, ◌≤◌, List, [], length, unwrap_or, IfOk};
 ghost use Rattle.tor_arena.specs.Limits.{max_paths, max_ratio};
-ghost use Rattle.path_clean.specs.Rows.{Counted, row_paths, times_of};
+ghost use Rattle.path_table.specs.Rows.{Counted, row_paths, times_of};
 ghost use Rattle.relationships.specs.Givens.{NameOnce, NameTwo};
 ghost use Rattle.result_rules.specs.File.{its_paths, its_walks};
 ghost use Rattle.result_rules.specs.Rules.{Accepts};
@@ -12,7 +12,8 @@ ghost use Rattle.rel_infer.specs.Results.{IsResultOf};
 ghost use Rattle.rel_infer.specs.Peers.{PeerEitherWay, LeaveNoneOut};
 
 use crate::inferring::{Inferred, inferred_from};
-use path_clean::{Asides, PathTable, Sets};
+use path_clean::{Asides, Sets};
+use path_table::PathTable;
 use relationships::Given;
 use result_rules::totals_of;
 use result_text::{PathLines, ResultFile};

@@ -1,7 +1,7 @@
 -- What a verdict on a result means.
 use Rattle.std.specs.Prelude.{◌≡◌, List}
 use Rattle.path_clean.specs.Counts.{CauseCounts}
-use Rattle.path_clean.specs.Rows.{Counted}
+use Rattle.path_table.specs.Rows.{Counted}
 use Rattle.result_rules.specs.Against.{JudgesAgainst}
 use Rattle.result_rules.specs.declared.verdict.Verdict.{Verdict}
 use Rattle.result_rules.specs.declared.verdict.Verdict.TheVariants.{Yes, No}

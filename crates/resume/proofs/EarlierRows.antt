@@ -10,8 +10,8 @@ use Rattle.std.proofs.lemmas.List.Elements.{All-nil, All-cons}
 use Rattle.std.proofs.lemmas.Option.{slice_get_within}
 use Rattle.tor_arena.specs.Limits.{max_numbers}
 use Rattle.path_clean.specs.Paths.{is_cleaned}
-use Rattle.path_clean.specs.Rows.{Counted, row_paths, times_of, none_twice}
-use Rattle.path_clean.proofs.TableLemmas.{eq_true}
+use Rattle.path_table.specs.Rows.{Counted, row_paths, times_of, none_twice}
+use Rattle.path_table.proofs.TableLemmas.{eq_true}
 use Rattle.result_text.specs.declared.file.PathLine.{PathLine}
 use Rattle.result_text.specs.declared.file.ResultFile.{ResultFile}
 use Rattle.result_rules.specs.declared.rule.Rule.TheVariants.{PathsCleaned, PathsDistinct}

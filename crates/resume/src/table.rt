@@ -6,7 +6,8 @@ ghost use Rattle.result_rules.specs.Rules.{IsMet};
 ghost use Rattle.result_rules.specs.Against.{its_rows};
 ghost use Rattle.resume.specs.Earlier.{IsRestOf};
 
-use path_clean::{PathTable, Sets};
+use path_clean::Sets;
+use path_table::PathTable;
 use relationships::{Fates, Given};
 use result_text::{EdgeLine, ResultFile};
 use std::alloc::Global;

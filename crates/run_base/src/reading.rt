@@ -9,7 +9,8 @@ ghost use Rattle.dump_read.specs.Reach.{StopsBounded, LeavesRestOfDump};
 ghost use Rattle.run_base.specs.Reading.{nothing, seen_from, name_of_dump, IsOfSomeDumps};
 
 use dump_read::{DumpError, LimitKind, Taken, read_dump};
-use path_clean::{Asides, PathTable, Sets};
+use path_clean::{Asides, Sets};
+use path_table::PathTable;
 use std::alloc::Global;
 use tor_arena::{Keys, List};
 use tor_io::Shelf;

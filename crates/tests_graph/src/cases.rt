@@ -4,7 +4,8 @@ ghost use Rattle.std.specs.Prelude.{◌≤◌, length, IfOk};
 ghost use Rattle.tor_clauses.specs.Formulas.{FitsGraph};
 
 use as_graph::{AsGraph, build};
-use path_clean::{PathTable, is_clean_path};
+use path_clean::is_clean_path;
+use path_table::PathTable;
 use std::alloc::Global;
 use std::test::Fail;
 use tor_arena::{Index, Keys, MAX_PATHS, PathId};

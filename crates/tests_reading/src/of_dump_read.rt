@@ -2,7 +2,8 @@
 //! stands in the rows of `tor_rows`.
 use dump_read::{DumpError, Fault, LimitKind, Place, Taken, read_dump};
 use mrt_frame::At;
-use path_clean::{Asides, Cause, PathTable, Sets};
+use path_clean::{Asides, Cause, Sets};
+use path_table::PathTable;
 use std::alloc::Global;
 use tor_arena::{Index, Keys, List, PathId};
 use tor_io::MemShelf;

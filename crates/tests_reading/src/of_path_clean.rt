@@ -1,10 +1,8 @@
 //! Tests of cleaning as a value, and of what the programs don't ask a table of paths, or no row shows. Routes that are cleaned, counts of
 //! those that are set aside, and what is added to a table stand in the rows of `tor_rows`.
 use path_attrs::{Width, attributes};
-use path_clean::{
-    AddRefused, Added, Cleaned, Lookup, MergedPaths, PathTable, Sets, clean, first_repeated,
-    is_cleaned,
-};
+use path_clean::{Cleaned, MergedPaths, Sets, clean, is_cleaned};
+use path_table::{AddRefused, Added, Lookup, PathTable, first_repeated};
 use std::alloc::Global;
 use std::io;
 use std::random::RandomSource;

@@ -10,7 +10,7 @@ use Rattle.relationships.specs.Evidence.{NeighboursDiffer, paths_of}
 use Rattle.relationships.specs.Checking.{Claim, claimed_labels, kept_of}
 use Rattle.relationships.proofs.Selecting.{paths_of-kept_from}
 use Rattle.relationships.proofs.Serving.{all_differ_if_distinct}
-use Rattle.path_clean.specs.Rows.{Counted, row_paths}
+use Rattle.path_table.specs.Rows.{Counted, row_paths}
 use Rattle.path_clean.specs.Counts.{CauseCounts}
 use Rattle.path_clean.specs.declared.cleaned.Sets.{Sets}
 use Rattle.path_clean.proofs.GraphPaths.{apart}

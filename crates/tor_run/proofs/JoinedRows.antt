@@ -20,8 +20,8 @@ use Rattle.path_clean.specs.declared.cleaned.Cleaned.TheVariants.{Path, Aside}
 use Rattle.path_clean.specs.Clean.{clean_of}
 use Rattle.path_clean.specs.Counts.{counted_one}
 use Rattle.path_clean.specs.Paths.{is_cleaned}
-use Rattle.path_clean.specs.Rows.{Counted, row_paths, times_of, numbers_in, none_twice}
-use Rattle.path_clean.specs.Table.{place_of, with_path}
+use Rattle.path_table.specs.Rows.{Counted, row_paths, times_of, numbers_in, none_twice}
+use Rattle.path_table.specs.Table.{place_of, with_path}
 use Rattle.path_clean.proofs.Judged.{paths_are_clean}
 use Rattle.tor_io.specs.Contents.{Files}
 use Rattle.dump_read.specs.declared.error.LimitKind.{LimitKind}

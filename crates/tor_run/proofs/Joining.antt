@@ -7,7 +7,7 @@ use Rattle.path_attrs.specs.Fields.{◌>>=◌}
 use Rattle.path_clean.specs.declared.cleaned.Sets.{Sets}
 use Rattle.path_clean.specs.Clean.{clean_of}
 use Rattle.path_clean.specs.Counts.{CauseCounts}
-use Rattle.path_clean.specs.Rows.{Counted}
+use Rattle.path_table.specs.Rows.{Counted}
 use Rattle.tor_arena.specs.Limits.{max_paths}
 use Rattle.tor_io.specs.Contents.{Files}
 use Rattle.dump_read.specs.declared.error.LimitKind.{LimitKind}

@@ -3,7 +3,7 @@
 use Rattle.std.proofs.Common.{◌≡◌, ◌≤◌, ◌<◌, ◌+◌, inl, inr, ℕ, zero, suc, arith, true, false, List, [], ◌∷◌, length, Option, Some, None, Ok, Err, Result, is_none, refl, sym, ap, ◌∙◌, subst}
 use Rattle.tor_io.specs.Contents.{Files}
 use Rattle.path_clean.specs.Counts.{CauseCounts}
-use Rattle.path_clean.specs.Rows.{Counted}
+use Rattle.path_table.specs.Rows.{Counted}
 use Rattle.relationships.specs.declared.given.Given.{Given}
 use Rattle.result_text.specs.declared.file.ResultFile.{ResultFile}
 use Rattle.result_text.specs.Grammar.{IsTextOf}

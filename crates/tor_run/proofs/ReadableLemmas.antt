@@ -9,7 +9,7 @@ use Rattle.path_clean.specs.declared.cleaned.Cleaned.{Cleaned}
 use Rattle.path_clean.specs.declared.cleaned.Cleaned.TheVariants.{Path, Aside}
 use Rattle.path_clean.specs.Clean.{clean_of}
 use Rattle.path_clean.specs.Counts.{counted_one}
-use Rattle.path_clean.specs.Table.{place_of}
+use Rattle.path_table.specs.Table.{place_of}
 use Rattle.tor_io.specs.Contents.{Files}
 use Rattle.dump_read.specs.declared.error.LimitKind.{LimitKind}
 use Rattle.dump_read.specs.declared.file_counts.FileCounts.{FileCounts}

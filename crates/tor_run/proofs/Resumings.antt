@@ -12,8 +12,8 @@ use Rattle.path_clean.specs.declared.cleaned.Cleaned.{Cleaned}
 use Rattle.path_clean.specs.declared.cleaned.Cleaned.TheVariants.{Path, Aside}
 use Rattle.path_clean.specs.Clean.{clean_of}
 use Rattle.path_clean.specs.Counts.{CauseCounts, counted_one}
-use Rattle.path_clean.specs.Rows.{Counted, Table, row_paths}
-use Rattle.path_clean.specs.Table.{with_path}
+use Rattle.path_table.specs.Rows.{Counted, Table, row_paths}
+use Rattle.path_table.specs.Table.{with_path}
 use Rattle.dump_read.specs.declared.error.DumpError.{DumpError}
 use Rattle.dump_read.specs.declared.error.DumpError.TheVariants as error
 use Rattle.dump_read.specs.declared.error.LimitKind.{LimitKind}
@@ -33,7 +33,7 @@ use Rattle.result_text.specs.declared.file.ResultFile.{ResultFile}
 use Rattle.result_text.specs.Grammar.{IsTextOf}
 use Rattle.result_rules.specs.Against.{its_rows, row_of}
 use Rattle.result_rules.specs.File.{its_paths}
-use Rattle.path_clean.specs.Rows.{row_paths}
+use Rattle.path_table.specs.Rows.{row_paths}
 use Rattle.rel_infer.specs.SelfAcceptance.{AreTableRows}
 use Rattle.tor_words.specs.declared.settings.Mode.{Mode}
 use Rattle.tor_words.specs.declared.settings.Mode.TheVariants.{Migrate, Resume}

@@ -9,7 +9,7 @@ use Rattle.tor_arena.specs.Limits.{max_paths}
 use Rattle.tor_io.specs.Contents.{Files}
 use Rattle.path_clean.specs.declared.cleaned.Sets.{Sets}
 use Rattle.path_clean.specs.declared.cleaned.Sets.TheVariants.{Cut}
-use Rattle.path_clean.specs.Rows.{Counted, row_paths}
+use Rattle.path_table.specs.Rows.{Counted, row_paths}
 use Rattle.dump_read.specs.declared.taking.Taken.{Taken}
 use Rattle.dump_read.specs.Seen.{DumpsEnd, of_file}
 use Rattle.path_attrs.specs.Fields.{◌>>=◌}

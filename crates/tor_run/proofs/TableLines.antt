@@ -7,7 +7,7 @@ use Rattle.std.proofs.lemmas.List.{append-nil, take-append-drop}
 use Rattle.std.proofs.lemmas.Option.{same_Some}
 use Rattle.tor_io.specs.Contents.{GainsPrefix}
 use Rattle.tor_io.proofs.Passing.{longer}
-use Rattle.path_clean.specs.Rows.{Counted, row_paths}
+use Rattle.path_table.specs.Rows.{Counted, row_paths}
 use Rattle.tor_run.specs.Listing.{list_line, listing}
 
 -- the row whose path and times these are

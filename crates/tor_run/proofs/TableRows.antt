@@ -12,8 +12,8 @@ use Rattle.path_clean.specs.declared.cleaned.Cleaned.{Cleaned}
 use Rattle.path_clean.specs.declared.cleaned.Cleaned.TheVariants.{Path, Aside}
 use Rattle.path_clean.specs.Clean.{clean_of}
 use Rattle.path_clean.specs.Paths.{is_cleaned}
-use Rattle.path_clean.specs.Rows.{Counted, row_paths, times_of, none_twice}
-use Rattle.path_clean.specs.Table.{distinct_paths, times, counted}
+use Rattle.path_table.specs.Rows.{Counted, row_paths, times_of, none_twice}
+use Rattle.path_table.specs.Table.{distinct_paths, times, counted}
 use Rattle.path_clean.proofs.Judged.{paths_are_clean}
 use Rattle.dump_read.specs.Batches.{cleaned}
 use Rattle.dump_read.specs.Laws.{Fit, path_in, cleaned_paths}

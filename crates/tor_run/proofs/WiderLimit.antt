@@ -8,8 +8,8 @@ use Rattle.path_attrs.specs.Fields.{◌>>=◌}
 use Rattle.path_clean.specs.declared.cleaned.Sets.{Sets}
 use Rattle.path_clean.specs.Counts.{counted_one}
 use Rattle.tor_arena.specs.Limits.{max_numbers}
-use Rattle.path_clean.specs.Rows.{Counted, numbers_in}
-use Rattle.path_clean.specs.Table.{place_of, with_path}
+use Rattle.path_table.specs.Rows.{Counted, numbers_in}
+use Rattle.path_table.specs.Table.{place_of, with_path}
 use Rattle.path_clean.specs.declared.cleaned.Cleaned.{Cleaned}
 use Rattle.path_clean.specs.declared.cleaned.Cleaned.TheVariants.{Path, Aside}
 use Rattle.path_clean.specs.Clean.{clean_of}

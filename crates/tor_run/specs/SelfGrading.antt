@@ -2,7 +2,7 @@
 use Rattle.std.specs.Prelude.{◌≡◌, ◌++◌, ℕ, Bool, List, [], Contains, map, Option, Some, unwrap_or}
 use Rattle.tor_io.specs.Contents.{Files}
 use Rattle.path_clean.specs.declared.cleaned.Sets.TheVariants.{Cut}
-use Rattle.path_clean.specs.Rows.{Counted, row_paths}
+use Rattle.path_table.specs.Rows.{Counted, row_paths}
 use Rattle.dump_read.specs.declared.taking.Taken.{Taken}
 use Rattle.relationships.specs.declared.given.Given.{Given}
 use Rattle.relationships.specs.Givens.{returns}

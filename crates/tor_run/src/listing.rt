@@ -6,7 +6,7 @@ ghost use Rattle.tor_io.specs.Counts.{HasCause};
 ghost use Rattle.tor_io.specs.Contents.{GainsPrefix, PassesOn};
 ghost use Rattle.tor_run.specs.Listing.{list_line, listing};
 
-use path_clean::PathTable;
+use path_table::PathTable;
 use tor_arena::{Index, PathId};
 use tor_io::{Buffer, Failed, Sink};
 

@@ -25,7 +25,7 @@ use crate::listing::write_list;
 use crate::summary::summary_text;
 use as_rel::{print_rel, rel_of};
 use dump_read::Taken;
-use path_clean::PathTable;
+use path_table::PathTable;
 use rel_infer::{ResultHead, result_with};
 use relationships::Given;
 use result_text::{EdgeLine, ResultFile, in_range, write_text};

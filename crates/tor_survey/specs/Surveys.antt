@@ -1,7 +1,7 @@
 -- The survey of dumps.
 use Rattle.std.specs.Prelude.{ℕ, length, sum_by}
 use Rattle.record_counts.specs.Counting.{Counts, capped, type_counts}
-use Rattle.path_clean.specs.Rows.{row_paths}
+use Rattle.path_table.specs.Rows.{row_paths}
 use Rattle.dump_read.specs.declared.taking.Taken.{Taken}
 use Rattle.dump_read.specs.Files.{together}
 use Rattle.tor_survey.specs.Figures.{figures_of}

@@ -1,7 +1,7 @@
 -- Lines and notes of a worked grading, by computation.
 use Rattle.std.proofs.Common.{◌≡◌, ◌∷◌, [], List, codes, refl}
 use Rattle.std.specs.Fmt.{digits}
-use Rattle.path_clean.specs.Rows.{Counted}
+use Rattle.path_table.specs.Rows.{Counted}
 use Rattle.serial_lines.specs.declared.line.RelKind.TheVariants.{Transit, Peering}
 use Rattle.serial_lines.specs.declared.line.RelLine.{RelLine}
 use Rattle.serial_lines.specs.Serial.{rel_line}

@@ -2,7 +2,7 @@
 use Rattle.std.specs.Prelude.{◌≡◌, ◌↔◌, ℕ, ◌+◌, Bool, true, false, List, [], ◌∷◌, ◌++◌, Contains, map, flat_map, count_by, Option, Some}
 use Rattle.std.specs.Prelude.{None, codes, decimal}
 use Rattle.std.specs.List.Sorted.{IsStrictlyIncreasing}
-use Rattle.path_clean.specs.Rows.{Counted}
+use Rattle.path_table.specs.Rows.{Counted}
 use Rattle.serial_lines.specs.declared.line.RelLine.{RelLine}
 use Rattle.as_rel.specs.declared.grading.Grade.{Grade}
 use Rattle.as_rel.specs.declared.grading.Grade.TheVariants.{Free, Valley, Unknown}

@@ -14,7 +14,7 @@ use crate::asking::Graded;
 use crate::cones::Cone;
 use crate::totals::{Totals, with_grade};
 use as_rel::{Grade, Rel, grade_path};
-use path_clean::PathTable;
+use path_table::PathTable;
 use run_base::{Answer, Piece, Status, put_pieces};
 use std::alloc::Global;
 use tor_arena::{Index, PathId};

@@ -1,6 +1,6 @@
 use Rattle.std.proofs.Common.{sym, ◌∙◌}
 use Rattle.std.proofs.lemmas.Bool.{eqb-true, eq-eqb, false≢true}
-use Rattle.path_clean.proofs.TableLemmas.{eq_self, eq_true}
+use Rattle.path_table.proofs.TableLemmas.{eq_self, eq_true}
 use Rattle.rel_checker.proofs.AgainstLemmas.{row_is, path_at, times_were}
 use Rattle.rel_checker.proofs.against.is_row.Goals as goal
 

@@ -1,6 +1,6 @@
 use Rattle.std.proofs.Common.{subst}
 use Rattle.std.proofs.lemmas.Result.{IfOk-weaker}
-use Rattle.path_clean.specs.Repeats.{IsFirstRepeat}
+use Rattle.path_table.specs.Repeats.{IsFirstRepeat}
 use Rattle.result_rules.specs.declared.rule.Rule.TheVariants.{PathsDistinct}
 use Rattle.rel_checker.specs.Steps.{FindsBreach}
 use Rattle.rel_checker.proofs.Repeats.{finds-repeat}

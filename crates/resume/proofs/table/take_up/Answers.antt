@@ -2,7 +2,7 @@ use Rattle.std.proofs.Common.{◌≤◌, ◌∙◌, ℕ, List, length, sum_by, A
 use Rattle.std.specs.List.{list_all}
 use Rattle.tor_arena.specs.Limits.{max_numbers}
 use Rattle.path_clean.specs.Paths.{is_cleaned}
-use Rattle.path_clean.specs.Rows.{none_twice}
+use Rattle.path_table.specs.Rows.{none_twice}
 use Rattle.resume.proofs.EarlierRows.{sound_paths, rows_of_lines}
 use Rattle.resume.proofs.table.take_up.Goals as goal
 

@@ -4,7 +4,7 @@ use Rattle.std.specs.Prelude.{option_map}
 use Rattle.std.specs.List.{slice_get}
 use Rattle.tor_io.specs.Contents.{GainsPrefix, PassesOn}
 use Rattle.tor_io.proofs.Passing.{at_error, flush_stops, one_and_another, one_and_prefix}
-use Rattle.path_clean.specs.Rows.{row_paths}
+use Rattle.path_table.specs.Rows.{row_paths}
 use Rattle.tor_run.specs.Listing.{list_line, listing}
 use Rattle.tor_run.proofs.TableLines.{one_line_more, lines_stop}
 use Rattle.tor_run.proofs.listing.write_list.Goals as goal

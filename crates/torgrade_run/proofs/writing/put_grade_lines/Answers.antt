@@ -3,7 +3,7 @@ use Rattle.std.specs.Prelude.{option_map}
 use Rattle.std.specs.List.{slice_get}
 use Rattle.tor_io.specs.Contents.{GainsPrefix, PassesOn}
 use Rattle.tor_io.proofs.Passing.{at_error, one_and_another, one_and_prefix}
-use Rattle.path_clean.specs.Rows.{row_paths}
+use Rattle.path_table.specs.Rows.{row_paths}
 use Rattle.torgrade_run.specs.GradeText.{grade_line, graded_lines}
 use Rattle.torgrade_run.proofs.GradeLines.{lines_stop, one_grade_more, one_line_more, short}
 use Rattle.torgrade_run.proofs.writing.put_grade_lines.Goals as goal

@@ -4,8 +4,8 @@ use Rattle.std.proofs.lemmas.Result.{err_from_is_err_and}
 use Rattle.dump_read.specs.Refusals.{IsLimit}
 use Rattle.path_clean.specs.Clean.{judge_merged}
 use Rattle.path_clean.specs.declared.cleaned.Cleaned.TheVariants.{Path, Aside}
-use Rattle.path_clean.proofs.TableLemmas.{found-within}
-use Rattle.path_clean.proofs.LookupLemmas.{at-found}
+use Rattle.path_table.proofs.TableLemmas.{found-within}
+use Rattle.path_table.proofs.LookupLemmas.{at-found}
 use Rattle.path_clean.proofs.Judged as judged
 use Rattle.dump_read.specs.Batches.{StandsAt}
 use Rattle.dump_read.specs.Taking.{take_cleaned}

@@ -1,7 +1,0 @@
-use Rattle.std.proofs.Common.{rules}
-use Rattle.path_clean.specs.Chains.{path_hash}
-use Rattle.path_clean.proofs.hashing.hash_of.Goals as goal
-
-pub returns : goal.returns
-unfolding path_hash
-returns c = search rules

@@ -1,0 +1,203 @@
+use Rattle.std.proofs.Common.{rules, ◌≡◌, ◌∙◌, ◌+◌, ◌<◌, ◌≤◌, ◌^◌, ◌∷◌, ◌++◌, [], Some, None, length, refl, ap, ap₂, sym, subst, arith}
+use Rattle.path_table.specs.Rows.{Table, numbers_in}
+use Rattle.path_table.specs.Inside.{counted_by, IsTable}
+use Rattle.path_table.specs.Table.{place_of}
+use Rattle.path_table.specs.declared.table.AddRefused.TheVariants.{TooManyPaths, TooManyNumbers}
+use Rattle.path_table.proofs.TableLemmas.{found-at, found-within, counted_by-push, absent-at, IsTable-push, seen_as}
+use Rattle.path_table.proofs.IndexLemmas.{new-by}
+use Rattle.path_table.proofs.AddLemmas.{no_some, err-moved, ok-of}
+use Rattle.path_table.proofs.table.PathTable.add_or_count.Goals as goal
+
+pub count-requires : goal.count-requires
+count-requires c =
+    let paths = c.self.inside.paths.rows in
+    let times = c.self.inside.counts.items in
+    let path = c.args.path.now in
+    let place : place_of c.args.self.now.rows path ≡ Some c.in-Held.id =
+    sym (found-at paths times path (Some c.in-Held.id) c.self.invariant.same c.self.invariant.once c.in-Held.ensures.tells tt ∙ ap (λ (t : Table). place_of t.rows path) c.self.view_is) in
+    record { there = found-within c.args.self.now.rows path c.in-Held.id place }
+
+pub check_room-requires : goal.check_room-requires
+check_room-requires c =
+    let paths = c.self.inside.paths.rows in
+    let times = c.self.inside.counts.items in
+    let path = c.args.path.now in
+    let inside : place_of (counted_by paths times) path ≡ None =
+    new-by paths times path c.seek.result c.self.invariant.same c.self.invariant.once c.seek.ensures.tells c.in_default.not-Held in
+    let none : place_of c.args.self.now.rows path ≡ None = sym (ap (λ (t : Table). place_of t.rows path) c.self.view_is) ∙ inside in
+    record { new = none }
+
+pub returns-in-Err : goal.returns-in-Err
+returns-in-Err c =
+    let paths = c.self.inside.paths.rows in
+    let times = c.self.inside.counts.items in
+    let path = c.args.path.now in
+    let inside : place_of (counted_by paths times) path ≡ None =
+    new-by paths times path c.seek.result c.self.invariant.same c.self.invariant.once c.seek.ensures.tells c.in_default.not-Held in
+    let none : place_of c.args.self.now.rows path ≡ None = sym (ap (λ (t : Table). place_of t.rows path) c.self.view_is) ∙ inside in
+    record {
+      counted = no_some (place_of c.args.self.now.rows path) none;
+      added = tt;
+      answer = tt;
+      known = no_some (place_of c.args.self.now.rows path) none;
+      paths = (
+        (λ e. c.in-Err.ensures.paths.0 (err-moved c.in-Err.refused TooManyPaths e)),
+        (λ h. err-moved c.in-Err.refused TooManyPaths (c.in-Err.ensures.paths.1 h)),
+      );
+      numbers = (
+        (λ e. c.in-Err.ensures.numbers.0 (err-moved c.in-Err.refused TooManyNumbers e)),
+        (λ h. err-moved c.in-Err.refused TooManyNumbers (c.in-Err.ensures.numbers.1 h)),
+      );
+      limit = search rules;
+      unchanged = search rules;
+    }
+
+pub returns-then-is_err : goal.returns-then-is_err
+returns-then-is_err c =
+    let paths = c.self.inside.paths.rows in
+    let times = c.self.inside.counts.items in
+    let path = c.args.path.now in
+    let inside : place_of (counted_by paths times) path ≡ None =
+    new-by paths times path c.seek.result c.self.invariant.same c.self.invariant.once c.seek.ensures.tells c.in_default.not-Held in
+    let none : place_of c.args.self.now.rows path ≡ None = sym (ap (λ (t : Table). place_of t.rows path) c.self.view_is) ∙ inside in
+    let room : length c.args.self.now.rows < c.args.self.now.limit = ok-of c.check_room.result c.check_room.ensures.room c.in_default-check_room.not-Err in
+    let short : numbers_in c.args.self.now.rows + length path ≤ 2 ^ 26 = ok-of c.check_room.result c.check_room.ensures.short c.in_default-check_room.not-Err in
+    record {
+      counted = no_some (place_of c.args.self.now.rows path) none;
+      added = tt;
+      answer = tt;
+      known = no_some (place_of c.args.self.now.rows path) none;
+      paths = ((λ e. absurd cc), (λ h. let full = h.1 in absurd (omega (arith, full, room))));
+      numbers = ((λ e. absurd cc), (λ h. let over = h.2 in absurd (omega (arith, over, short))));
+      limit = search rules;
+      unchanged = search rules;
+    }
+
+pub returns-in_default-push : goal.returns-in_default-push
+returns-in_default-push c =
+    let paths = c.self.inside.paths.rows in
+    let times = c.self.inside.counts.items in
+    let path = c.args.path.now in
+    let inside : place_of (counted_by paths times) path ≡ None =
+    new-by paths times path c.seek.result c.self.invariant.same c.self.invariant.once c.seek.ensures.tells c.in_default.not-Held in
+    let none : place_of c.args.self.now.rows path ≡ None = sym (ap (λ (t : Table). place_of t.rows path) c.self.view_is) ∙ inside in
+    let room : length c.args.self.now.rows < c.args.self.now.limit = ok-of c.check_room.result c.check_room.ensures.room c.in_default-check_room.not-Err in
+    let short : numbers_in c.args.self.now.rows + length path ≤ 2 ^ 26 = ok-of c.check_room.result c.check_room.ensures.short c.in_default-check_room.not-Err in
+    record {
+      counted = no_some (place_of c.args.self.now.rows path) none;
+      added = tt;
+      answer = tt;
+      known = no_some (place_of c.args.self.now.rows path) none;
+      paths = ((λ e. absurd cc), (λ h. let full = h.1 in absurd (omega (arith, full, room))));
+      numbers = ((λ e. absurd cc), (λ h. let over = h.2 in absurd (omega (arith, over, short))));
+      limit = search rules;
+      unchanged = search rules;
+    }
+
+pub invariant_of-self-in_default : goal.invariant_of-self-in_default
+invariant_of-self-in_default c =
+    let paths = c.self.inside.paths.rows in
+    let times = c.self.inside.counts.items in
+    let path = c.args.path.now in
+    let inside : place_of (counted_by paths times) path ≡ None =
+    new-by paths times path c.seek.result c.self.invariant.same c.self.invariant.once c.seek.ensures.tells c.in_default.not-Held in
+    let none : place_of c.args.self.now.rows path ≡ None = sym (ap (λ (t : Table). place_of t.rows path) c.self.view_is) ∙ inside in
+    let room : length c.args.self.now.rows < c.args.self.now.limit = ok-of c.check_room.result c.check_room.ensures.room c.in_default-check_room.not-Err in
+    let short : numbers_in c.args.self.now.rows + length path ≤ 2 ^ 26 = ok-of c.check_room.result c.check_room.ensures.short c.in_default-check_room.not-Err in
+    let seen = seen_as c.self.inside.max_paths c.self.inside.numbers paths times c.args.self.now c.self.invariant c.self.view_is in
+    let many = seen.rows in
+    let limit = seen.limit_is in
+    let sum = seen.sum in
+    let same = c.self.invariant.same in
+    let new_paths : c.push.new.self.rows ≡ paths ++ path ∷ [] = c.in-Ok.ensures.ok in
+    let new_times : c.push_reserved.new.self.items ≡ times ++ c.args.times ∷ [] = c.push_reserved.ensures.items ∙ ap (λ t. t ++ c.args.times ∷ []) c.reserve.ensures.items in
+    let below : length paths < c.self.inside.max_paths = omega (arith, same, many, limit, room) in
+    let fits : c.self.inside.numbers + length path ≤ 2 ^ 26 = omega (arith, sum, short) in
+    subst (λ p. IsTable c.self.inside.max_paths (c.self.inside.numbers + length path) p c.push_reserved.new.self.items) (sym new_paths)
+    (subst (IsTable c.self.inside.max_paths (c.self.inside.numbers + length path) (paths ++ path ∷ [])) (sym new_times)
+    (IsTable-push c.self.inside.max_paths c.self.inside.numbers paths times path c.args.times c.self.invariant below fits c.requires.clean c.requires.seen (absent-at paths times path same inside)))
+
+pub returns-in-Held-clause-counted : goal.returns-in-Held-clause-counted
+returns-in-Held-clause-counted c =
+    let paths = c.self.inside.paths.rows in
+    let times = c.self.inside.counts.items in
+    let path = c.args.path.now in
+    let place : place_of c.args.self.now.rows path ≡ Some c.in-Held.id =
+    sym (found-at paths times path (Some c.in-Held.id) c.self.invariant.same c.self.invariant.once c.in-Held.ensures.tells tt ∙ ap (λ (t : Table). place_of t.rows path) c.self.view_is) in
+    (λ some. c.count.ensures.counted path place)
+
+pub returns-in-Held-clause-added : goal.returns-in-Held-clause-added
+returns-in-Held-clause-added c =
+    let paths = c.self.inside.paths.rows in
+    let times = c.self.inside.counts.items in
+    let path = c.args.path.now in
+    let place : place_of c.args.self.now.rows path ≡ Some c.in-Held.id =
+    sym (found-at paths times path (Some c.in-Held.id) c.self.invariant.same c.self.invariant.once c.in-Held.ensures.tells tt ∙ ap (λ (t : Table). place_of t.rows path) c.self.view_is) in
+    (λ (new : place_of c.args.self.now.rows path ≡ None). absurd cc)
+
+pub returns-in-Held-clause-answer : goal.returns-in-Held-clause-answer
+returns-in-Held-clause-answer c =
+    let paths = c.self.inside.paths.rows in
+    let times = c.self.inside.counts.items in
+    let path = c.args.path.now in
+    let place : place_of c.args.self.now.rows path ≡ Some c.in-Held.id =
+    sym (found-at paths times path (Some c.in-Held.id) c.self.invariant.same c.self.invariant.once c.in-Held.ensures.tells tt ∙ ap (λ (t : Table). place_of t.rows path) c.self.view_is) in
+    place
+
+pub returns-in-Held-clause-paths : goal.returns-in-Held-clause-paths
+returns-in-Held-clause-paths c =
+    let paths = c.self.inside.paths.rows in
+    let times = c.self.inside.counts.items in
+    let path = c.args.path.now in
+    let place : place_of c.args.self.now.rows path ≡ Some c.in-Held.id =
+    sym (found-at paths times path (Some c.in-Held.id) c.self.invariant.same c.self.invariant.once c.in-Held.ensures.tells tt ∙ ap (λ (t : Table). place_of t.rows path) c.self.view_is) in
+    ((λ e. absurd cc), (λ h. let none = h.0 in absurd cc))
+
+pub returns-in-Held-clause-numbers : goal.returns-in-Held-clause-numbers
+returns-in-Held-clause-numbers c =
+    let paths = c.self.inside.paths.rows in
+    let times = c.self.inside.counts.items in
+    let path = c.args.path.now in
+    let place : place_of c.args.self.now.rows path ≡ Some c.in-Held.id =
+    sym (found-at paths times path (Some c.in-Held.id) c.self.invariant.same c.self.invariant.once c.in-Held.ensures.tells tt ∙ ap (λ (t : Table). place_of t.rows path) c.self.view_is) in
+    ((λ e. absurd cc), (λ h. let none = h.0 in absurd cc))
+
+pub returns-in-Ok : goal.returns-in-Ok
+returns-in-Ok c =
+    let paths = c.self.inside.paths.rows in
+    let times = c.self.inside.counts.items in
+    let path = c.args.path.now in
+    let inside : place_of (counted_by paths times) path ≡ None =
+    new-by paths times path c.seek.result c.self.invariant.same c.self.invariant.once c.seek.ensures.tells c.in_default.not-Held in
+    let none : place_of c.args.self.now.rows path ≡ None = sym (ap (λ (t : Table). place_of t.rows path) c.self.view_is) ∙ inside in
+    let room : length c.args.self.now.rows < c.args.self.now.limit = ok-of c.check_room.result c.check_room.ensures.room c.in_default-check_room.not-Err in
+    let short : numbers_in c.args.self.now.rows + length path ≤ 2 ^ 26 = ok-of c.check_room.result c.check_room.ensures.short c.in_default-check_room.not-Err in
+    let seen = seen_as c.self.inside.max_paths c.self.inside.numbers paths times c.args.self.now c.self.invariant c.self.view_is in
+    let many = seen.rows in
+    let limit = seen.limit_is in
+    let sum = seen.sum in
+    let same = c.self.invariant.same in
+    let new_paths : c.push.new.self.rows ≡ paths ++ path ∷ [] = c.in-Ok.ensures.ok in
+    let new_times : c.push_reserved.new.self.items ≡ times ++ c.args.times ∷ [] = c.push_reserved.ensures.items ∙ ap (λ t. t ++ c.args.times ∷ []) c.reserve.ensures.items in
+    let placed = c.in-Ok.ensures.index in
+    record {
+      counted = no_some (place_of c.args.self.now.rows path) none;
+      added = (λ (new : place_of c.args.self.now.rows path ≡ None).
+          ap₂ counted_by new_paths new_times ∙ counted_by-push paths times path c.args.times same ∙ ap (λ (t : Table). t.rows ++ record { path = path; times = c.args.times } ∷ []) c.self.view_is);
+      answer = (none, omega (arith, many, same, placed));
+      known = (λ some. refl);
+      paths = ((λ e. absurd cc), (λ h. let full = h.1 in absurd (omega (arith, full, room))));
+      numbers = ((λ e. absurd cc), (λ h. let over = h.2 in absurd (omega (arith, over, short))));
+      limit = search rules;
+      unchanged = search rules;
+    }
+
+pub push-requires : goal.push-requires
+push-requires c =
+    let room : length c.args.self.now.rows < c.args.self.now.limit = ok-of c.check_room.result c.check_room.ensures.room c.in_default-check_room.not-Err in
+    let seen = seen_as c.self.inside.max_paths c.self.inside.numbers c.self.inside.paths.rows c.self.inside.counts.items c.args.self.now c.self.invariant c.self.view_is in
+    let rows = seen.rows in
+    let same = c.self.invariant.same in
+    let limit = seen.limit_is in
+    let bound = c.self.invariant.bound in
+    record { room = omega (arith, room, rows, same, limit, bound); hash = search rules; end = search rules }

@@ -1,0 +1,7 @@
+pub mod Rows
+pub mod Inside
+pub mod Table
+pub mod Chains
+pub mod Slots
+pub mod Repeats
+pub mod Lookups

@@ -1,0 +1,103 @@
+//! Rows that stand twice, found without a copy of them.
+
+ghost use Rattle.std.specs.Prelude.{◌≡◌, ◌+◌, ◌<◌, ◌≤◌, ◌↔◌, ℕ, ◌++◌, ◌∷◌, [], length, slice_set, slice_index, IsTrue, IfOk};
+ghost use Rattle.tor_arena.specs.Limits.{most_places};
+ghost use Rattle.path_table.specs.Chains.{row_at};
+ghost use Rattle.path_table.specs.Repeats.{Repeats, IsFirstRepeat, AreSameHashed, bucket, EndsIn, AreLinked, AreNewest};
+
+use crate::hashing::{row_of, seed_of, short_hash_of};
+use crate::slots::start_of;
+use std::alloc::Global;
+use tor_arena::{Keys, NoMemory, PathId, Rows};
+
+/// The hash of each row.
+fn hashes_of(alloc: Global, seed: u64, rows: &Rows<PathId, u32>) -> Result<Vec<u32>, NoMemory>
+    requires few { length rows.now ≤ most_places }
+    ensures each { IfOk result (λ hashes. length hashes.items ≡ length rows.now) }
+    ensures same { IfOk result (λ hashes. AreSameHashed rows.now hashes.items) }
+{
+    let mut hashes = Vec::new(alloc);
+    hashes.reserve(rows.len())?;
+    for place in 0..rows.len() {
+        hashes.push(short_hash_of(seed, row_of(rows, place)))?;
+    }
+    Ok(hashes)
+}
+
+/// Whether the rows in two places are the same. They are compared only where their hashes are the same.
+fn are_same(rows: &Rows<PathId, u32>, hashes: &[u32], earlier: usize, place: usize) -> bool
+    requires earlier { earlier < place }
+    requires place { place < length rows.now }
+    requires few { length rows.now ≤ most_places }
+    requires each { length hashes.now ≡ length rows.now }
+    requires same { AreSameHashed rows.now hashes.now }
+    ensures { IsTrue result ↔ (row_at rows.now earlier ≡ row_at rows.now place) }
+{
+    hashes[earlier] == hashes[place] && row_of(rows, earlier) == row_of(rows, place)
+}
+
+/// Whether the row in a place stands before it too. Of so many buckets its own has rows before it up to `start`, and `older` says
+/// for each of them where the earlier ones end.
+fn stands_before(
+    rows: &Rows<PathId, u32>,
+    hashes: &[u32],
+    many: usize,
+    older: &[u32],
+    start: usize,
+    place: usize,
+) -> bool
+    requires place { place < length rows.now }
+    requires few { length rows.now ≤ most_places }
+    requires each { length hashes.now ≡ length rows.now }
+    requires same { AreSameHashed rows.now hashes.now }
+    requires passed { length older.now ≡ place }
+    requires linked { AreLinked many hashes.now older.now place }
+    requires ends { EndsIn many hashes.now (bucket many hashes.now place) start place }
+    ensures { IsTrue result ↔ Repeats rows.now place }
+{
+    let mut at = start;
+    'chain: while at > 0 {
+        let earlier = at - 1;
+        if are_same(rows, hashes, earlier, place) {
+            return true;
+        }
+        at = older[earlier] as usize;
+    }
+    false
+}
+
+/// The place of the first row that is the same as one before it, if there is one. The keys say how rows are hashed, and change
+/// nothing but the time. The only error is that memory ran out.
+pub fn first_repeated(
+    alloc: Global,
+    keys: Keys,
+    rows: &Rows<PathId, u32>,
+) -> Result<Option<usize>, NoMemory>
+    ensures { IfOk result (IsFirstRepeat rows.now) }
+{
+    let count = rows.len();
+    // with all hashes made before, one look-up's wait for memory overlaps the next ones'
+    let hashes = hashes_of(alloc, seed_of(keys), rows)?;
+    // with a bucket a row and more, few rows share one
+    let many = count.next_power_of_two();
+    let mut newest = vec![in alloc; 0u32; many]?;
+    let mut older = Vec::new(alloc);
+    older.reserve(count)?;
+    for place in 0..count {
+        let key = start_of(hashes[place], many);
+        let start = newest[key];
+        if stands_before(
+            rows,
+            hashes.as_slice(),
+            many,
+            older.as_slice(),
+            start as usize,
+            place,
+        ) {
+            return Ok(Some(place));
+        }
+        older.push(start)?;
+        newest[key] = place as u32 + 1;
+    }
+    Ok(None)
+}
