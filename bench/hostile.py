@@ -21,7 +21,7 @@ import tempfile
 CAUSES = ["nopath", "badsegments", "confed", "sets", "reserved", "loop", "short"]
 HEAD = "tor|1\nsets|cut\nratio|60\n" + "".join(f"aside|{cause}|0\n" for cause in CAUSES)
 
-# The mixing of a table of paths, before a key goes into it: `mixed` in crates/path_clean/specs/Chains.antt.
+# The mixing of a table of paths, before a key goes into it: `mixed` in crates/path_table/specs/Chains.antt.
 MULTIPLIER = 11400714819323198485
 INVERSE = pow(MULTIPLIER, -1, 2**64)
 LOW = 2**32 - 1

@@ -12,7 +12,7 @@ copy=$(mktemp -d)
 trap 'rm -rf "$copy"' EXIT
 cp "$top/crates.txt" "$top/HANDLES" "$copy"
 tar -C "$top" --exclude=out -cf - crates | tar -C "$copy" -xf -
-echo 'label_bench: tor_arena relationships as_graph tor_clauses path_select forced_edges path_clean result_text anyhow' >> "$copy/crates.txt"
+echo 'label_bench: tor_arena relationships as_graph tor_clauses path_select forced_edges path_clean path_table result_text anyhow' >> "$copy/crates.txt"
 bench="$copy/crates/label_bench"
 mkdir -p "$bench/src" "$bench/proofs/are_valley_free"
 # That the paths are valley-free is tested as in the tests of labels.
@@ -33,8 +33,9 @@ ghost use Rattle.tor_clauses.specs.Formulas.{FitsGraph};
 use anyhow::Result;
 use as_graph::{AsGraph, Labels, build};
 use forced_edges::{Marks, forced};
-use path_clean::{PathTable, is_clean_path};
+use path_clean::is_clean_path;
 use path_select::{Selection, select};
+use path_table::PathTable;
 use relationships::{Fates, Mark, Walks};
 use result_text::{EdgeLine, PathLines, ResultFile, parse, print};
 use std::alloc::Global;

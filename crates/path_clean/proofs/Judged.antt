@@ -7,6 +7,7 @@ use Rattle.path_attrs.specs.PathOf.{is_confed, path_of}
 use Rattle.path_attrs.specs.declared.path.PathOf.{PathOf}
 use Rattle.path_attrs.specs.declared.path.PathOf.TheVariants.{Absent, Malformed, Segments}
 use Rattle.path_attrs.specs.declared.as_path.Segment.{Segment}
+use Rattle.path_merge.specs.Merging.{is_mixed_set, merged_path}
 use Rattle.path_clean.specs.declared.cleaned.Sets.{Sets}
 use Rattle.path_clean.specs.declared.cleaned.Sets.TheVariants.{Cut, Skip}
 use Rattle.path_clean.specs.declared.cleaned.Cause.{Cause}
@@ -14,7 +15,7 @@ use Rattle.path_clean.specs.declared.cleaned.Cause.TheVariants.{Confed, Reserved
 use Rattle.path_clean.specs.declared.cleaned.Cleaned.TheVariants.{Path, Aside}
 use Rattle.tor_arena.specs.Distinct.{is_distinct}
 use Rattle.path_clean.specs.Paths.{is_reserved, is_cleaned}
-use Rattle.path_clean.specs.Clean.{is_skip, is_mixed_set, merged_path, judged, clean_segments, clean_path, merge_path, judge_merged, PathsAreClean, CleanPathsStay, JudgedLast}
+use Rattle.path_clean.specs.Clean.{is_skip, judged, clean_segments, clean_path, merge_path, judge_merged, PathsAreClean, CleanPathsStay, JudgedLast}
 
 long_enough : (n : ℕ) → ltb n 2 ≡ false → leb 2 n ≡ true
 long_enough zero e = absurd cc

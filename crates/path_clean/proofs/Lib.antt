@@ -1,6 +1,6 @@
 mod Vectors
 pub mod Distinct
 pub mod Judged
-pub mod MergeLemmas
+pub mod CauseLemmas
 pub mod MergedLemmas
 pub mod GraphPaths

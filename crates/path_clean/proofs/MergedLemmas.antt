@@ -6,7 +6,7 @@ use Rattle.std.proofs.Math.Seq.{drop-append_seam}
 use Rattle.tor_arena.specs.RowLists.{Rises, ArePartedBy, between, last_end, rows_from}
 use Rattle.path_clean.specs.declared.cleaned.Cause.{Cause}
 use Rattle.path_clean.specs.declared.cleaned.Cleaned.{Cleaned}
-use Rattle.path_clean.specs.Merging.{IsPutBehind, IsMergedBehind}
+use Rattle.path_clean.specs.Behind.{IsPutBehind, IsMergedBehind}
 
 Rises-le : (most start : ℕ) (ends : List ℕ) → Rises most start ends → start ≤ most
 Rises-le most start [] r = r

@@ -1,15 +1,14 @@
 -- What a route's AS path is cleaned to. The first rule that sets the route aside decides.
-use Rattle.std.specs.Prelude.{◌≡◌, ℕ, ◌==◌, Bool, true, false, not, ◌&&◌, nat_lt, nat_eq, List, [], ◌∷◌, length, take, Option, Some, None}
-use Rattle.std.specs.Prelude.{if◌then◌else◌}
-use Rattle.std.specs.List.{list_any, list_all, flat_map, before_first, dedup}
+use Rattle.std.specs.Prelude.{◌≡◌, ℕ, Bool, true, false, not, ◌&&◌, nat_lt, List, [], ◌∷◌, length, Option, Some, None, if◌then◌else◌}
+use Rattle.std.specs.List.{list_any}
 use Rattle.path_attrs.specs.Attributes.{Attribute}
 use Rattle.path_attrs.specs.PathOf.{is_confed, path_of}
 use Rattle.path_attrs.specs.declared.path.PathOf.{PathOf}
 use Rattle.path_attrs.specs.declared.path.PathOf.TheVariants.{Absent, Malformed, Segments}
 use Rattle.path_attrs.specs.declared.as_path.Width.{Width}
-use Rattle.path_attrs.specs.declared.as_path.SegKind.{SegKind}
-use Rattle.path_attrs.specs.declared.as_path.SegKind.TheVariants.{Set, Sequence, ConfedSequence, ConfedSet}
+use Rattle.path_attrs.specs.declared.as_path.SegKind.TheVariants.{Sequence}
 use Rattle.path_attrs.specs.declared.as_path.Segment.{Segment}
+use Rattle.path_merge.specs.Merging.{is_mixed_set, merged_path}
 use Rattle.path_clean.specs.declared.cleaned.Sets.{Sets}
 use Rattle.path_clean.specs.declared.cleaned.Sets.TheVariants.{Cut, Skip}
 use Rattle.path_clean.specs.declared.cleaned.Cause.{Cause}
@@ -18,30 +17,6 @@ use Rattle.path_clean.specs.declared.cleaned.Cleaned.{Cleaned}
 use Rattle.path_clean.specs.declared.cleaned.Cleaned.TheVariants.{Path, Aside}
 use Rattle.tor_arena.specs.Distinct.{is_distinct}
 use Rattle.path_clean.specs.Paths.{is_reserved, is_cleaned}
-
-abbrev pub is_set : SegKind → Bool
-is_set Set = true
-is_set Sequence = false
-is_set ConfedSequence = false
-is_set ConfedSet = false
-
--- the members are all equal
-abbrev pub are_equal : List ℕ → Bool
-are_equal [] = true
-are_equal (x ∷ xs) = list_all (λ y. y == x) xs
-
--- an AS_SET whose members differ
-abbrev pub is_mixed_set : Segment → Bool
-is_mixed_set s = is_set s.kind && not (are_equal s.ases)
-
--- the ASes that a segment stands for: an AS_SET whose members are all equal stands for that one AS
-abbrev pub ases_of : Segment → List ℕ
-ases_of s = if is_set s.kind then take 1 s.ases else s.ases
-
--- what stands before the first AS_SET whose members differ, with equal neighbours merged into one (RFC 4271, section 5.1.2: an
--- AS may put its number there more than once)
-abbrev pub merged_path : List Segment → List ℕ
-merged_path segments = dedup nat_eq (flat_map ases_of (before_first is_mixed_set segments))
 
 -- a path without a cause, and else the cause
 abbrev pub cleaned_as : Option Cause → List ℕ → Cleaned

@@ -1,4 +1,4 @@
 pub mod Paths
 pub mod Clean
-pub mod Merging
+pub mod Behind
 pub mod Counts

@@ -3,12 +3,12 @@ ghost use Rattle.std.specs.Prelude.{◌≡◌, IfOk};
 ghost use Rattle.tor_arena.specs.Distinct.{is_distinct};
 ghost use Rattle.path_clean.specs.Paths.{is_cleaned};
 ghost use Rattle.path_clean.specs.Clean.{judged, cleaned_as, clean_of, merge_segments, merged_of};
-ghost use Rattle.path_clean.specs.Merging.{cause_of, IsPutBehind};
+ghost use Rattle.path_clean.specs.Behind.{cause_of, IsPutBehind};
 
 use crate::cleaned::{Cause, Cleaned, Sets, are_distinct, has_reserved, is_plainly_sound};
-use crate::merging::{Oddity, append_merged, append_segments};
 use crate::plain::plain_ases;
 use path_attrs::{Attrs, PathCursor, Pathless, Width};
+use path_merge::{Oddity, append_merged, append_segments};
 use std::alloc::Global;
 use std::collections::BTreeSet;
 use tor_arena::{List, NoMemory};

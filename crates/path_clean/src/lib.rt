@@ -6,7 +6,6 @@ mod cleaned;
 mod cleaning;
 mod laws;
 mod merged_paths;
-mod merging;
 mod plain;
 
 pub use asides::Asides;

@@ -3,7 +3,7 @@
 ghost use Rattle.std.specs.Prelude.{◌≡◌, ◌-◌, ◌<◌, ◌≤◌, [], length, take, drop, slice_get, Some, IfOk, OnErr};
 ghost use Rattle.tor_arena.specs.RowLists.{last_end};
 ghost use Rattle.path_clean.specs.Clean.{merged_of};
-ghost use Rattle.path_clean.specs.Merging.{IsMergedBehind};
+ghost use Rattle.path_clean.specs.Behind.{IsMergedBehind};
 
 use crate::cleaned::{Cause, Sets};
 use crate::cleaning::merge_behind;

@@ -3,7 +3,7 @@
 ghost use Rattle.std.specs.Prelude.{◌≡◌, IfSome};
 ghost use Rattle.path_attrs.specs.declared.path.PathOf.TheVariants.{Segments};
 ghost use Rattle.path_attrs.specs.PathOf.{path_of};
-ghost use Rattle.path_clean.specs.Merging.{one_sequence};
+ghost use Rattle.path_clean.specs.Behind.{one_sequence};
 
 use path_attrs::{Attrs, NumberCursor, Width, sole_sequence};
 

@@ -1,9 +1,9 @@
 //! Merged paths with their hashes, which are made once for both the look-up of a path and its place in a table.
 
 ghost use Rattle.std.specs.Prelude.{◌≡◌, ◌<◌, [], length, slice_get, Some, IfOk, OnOk, OnErr};
+ghost use Rattle.path_clean.specs.Behind.{IsMergedBehind};
 ghost use Rattle.path_clean.specs.Clean.{merged_of};
 ghost use Rattle.path_table.specs.Lookups.{AreRowsWhereFound};
-ghost use Rattle.path_clean.specs.Merging.{IsMergedBehind};
 ghost use Rattle.path_table.specs.Slots.{short_hash};
 
 use crate::distinct_rows::IndexedPaths;

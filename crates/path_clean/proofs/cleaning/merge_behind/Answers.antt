@@ -1,7 +1,7 @@
 use Rattle.std.proofs.Common.{None, sym, ap, subst}
 use Rattle.path_clean.specs.Clean.{merge_path}
-use Rattle.path_clean.specs.Merging.{IsPutBehind}
-use Rattle.path_clean.proofs.MergeLemmas.{plain-merged}
+use Rattle.path_clean.specs.Behind.{IsPutBehind}
+use Rattle.path_clean.proofs.CauseLemmas.{plain-merged}
 use Rattle.path_clean.proofs.cleaning.merge_behind.Goals as goal
 
 pub returns-in_ok-append_merged-in-Some : goal.returns-in_ok-append_merged-in-Some

@@ -1,7 +1,8 @@
 use Rattle.std.proofs.Common.{◌≡◌, ◌∙◌, Some, None, sym, subst, length, arith}
+use Rattle.path_merge.specs.Merging.{MergesOnto}
+use Rattle.path_clean.specs.Behind.{IsPutBehind}
 use Rattle.path_clean.specs.Clean.{merge_segments}
-use Rattle.path_clean.specs.Merging.{MergesOnto, IsPutBehind}
-use Rattle.path_clean.proofs.MergeLemmas.{merged_by}
+use Rattle.path_clean.proofs.CauseLemmas.{merged_by}
 use Rattle.path_clean.proofs.cleaning.merge_segments.Goals as goal
 
 pub returns-in-None : goal.returns-in-None

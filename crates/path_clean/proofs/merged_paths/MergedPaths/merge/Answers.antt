@@ -1,7 +1,7 @@
 use Rattle.std.proofs.Common.{◌≡◌, ◌∙◌, ◌∷◌, ◌++◌, [], length, ap, subst, arith}
 use Rattle.tor_arena.specs.RowLists.{rows_from}
 use Rattle.path_clean.specs.Clean.{merged_of}
-use Rattle.path_clean.specs.Merging.{IsMergedBehind}
+use Rattle.path_clean.specs.Behind.{IsMergedBehind}
 use Rattle.path_clean.proofs.MergedLemmas.{merged-last, parted-last}
 use Rattle.path_clean.proofs.merged_paths.MergedPaths.merge.Goals as goal
 

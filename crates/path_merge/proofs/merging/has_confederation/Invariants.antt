@@ -1,7 +1,7 @@
 use Rattle.std.proofs.Common.{◌≡◌, length}
 use Rattle.path_attrs.specs.PathOf.{is_confed}
 use Rattle.std.specs.List.{list_any}
-use Rattle.path_clean.proofs.merging.has_confederation.Given as goal
+use Rattle.path_merge.proofs.merging.has_confederation.Given as goal
 
 abbrev pub invariant-segments : goal.invariant-segments
 invariant-segments l = list_any (λ segment. is_confed segment.kind) l.left ≡ list_any (λ segment. is_confed segment.kind) l.fn.segments

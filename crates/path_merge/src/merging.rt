@@ -3,15 +3,15 @@
 ghost use Rattle.std.specs.Prelude.{◌≡◌, ◌+◌, ◌<◌, ◌≤◌, ◌==◌, ◌++◌, nat_eq, fold, take, vec_len, vec_capacity, IfOk, OnOk};
 ghost use Rattle.std.specs.List.{list_any, list_all, dedup};
 ghost use Rattle.path_attrs.specs.PathOf.{is_confed};
-ghost use Rattle.path_clean.specs.Clean.{are_equal, is_set, is_mixed_set, ases_of};
-ghost use Rattle.path_clean.specs.Merging.{ends_behind, merged_behind, with_run, oddity_in, oddity_from_set, GoesBehind, MergesOnto};
+ghost use Rattle.path_merge.specs.Merging.{are_equal, is_set, is_mixed_set, ases_of, ends_behind, merged_behind, with_run, oddity_in, oddity_from_set};
+ghost use Rattle.path_merge.specs.Merging.{GoesBehind, MergesOnto};
 
 use path_attrs::{NumberCursor, PathCursor, SegKind, SegmentRef};
 use tor_arena::NoMemory;
 
 /// What among segments is no plain part of a path. The first of the two decides.
 #[derive(Clone, Copy, PartialEq, Eq)]
-pub(crate) enum Oddity {
+pub enum Oddity {
     /// A segment of a confederation.
     Confederation,
     /// An AS_SET whose members differ.
@@ -66,9 +66,10 @@ fn end_run(numbers: &mut Vec<u32>, last: u32, next: u32)
     numbers.push_reserved(last);
 }
 
-/// Puts numbers at the end of others, with equal neighbours among them merged.
+/// Puts numbers at the end of others, with equal neighbours among them merged. NoMemory where memory ran out: the others may then be
+/// anything.
 #[inline(always)]
-pub(crate) fn append_merged(numbers: &mut Vec<u32>, ases: NumberCursor<'_>) -> Result<(), NoMemory>
+pub fn append_merged(numbers: &mut Vec<u32>, ases: NumberCursor<'_>) -> Result<(), NoMemory>
     ensures { OnOk result (numbers.new.items ≡ numbers.old.items ++ dedup nat_eq ases.entry) }
 {
     numbers.reserve(ases.len())?;
@@ -171,8 +172,9 @@ fn oddity_from_set(segments: PathCursor<'_>) -> Oddity
 }
 
 /// Puts the ASes before the first AS_SET whose members differ at the end of a path, where no segment is a confederation's, and
-/// answers what stands among the segments that is no plain part of a path. It goes over them once.
-pub(crate) fn append_segments(
+/// answers what stands among the segments that is no plain part of a path. The path begins behind the first `start` numbers. It goes over
+/// the segments once. NoMemory where memory ran out: the numbers may then be anything.
+pub fn append_segments(
     start: usize,
     numbers: &mut Vec<u32>,
     segments: PathCursor<'_>,

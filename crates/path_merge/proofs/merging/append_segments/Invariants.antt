@@ -1,9 +1,9 @@
 use Rattle.std.proofs.Common.{◌≡◌, length}
 use Rattle.std.specs.List.{fold, flat_map, before_first, list_any}
 use Rattle.path_attrs.specs.PathOf.{is_confed}
-use Rattle.path_clean.specs.Clean.{is_mixed_set, ases_of}
-use Rattle.path_clean.specs.Merging.{merged_behind, GoesBehind}
-use Rattle.path_clean.proofs.merging.append_segments.Given as goal
+use Rattle.path_merge.specs.Merging.{is_mixed_set, ases_of}
+use Rattle.path_merge.specs.Merging.{merged_behind, GoesBehind}
+use Rattle.path_merge.proofs.merging.append_segments.Given as goal
 
 -- with the segments that are left the path comes to what it is with all, among them stands what stands among all, and what stood
 -- before the path is there

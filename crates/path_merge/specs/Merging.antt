@@ -1,18 +1,37 @@
--- Numbers that go onto a path one by one, and the path behind others.
-use Rattle.std.specs.Prelude.{◌≡◌, ℕ, ◌-◌, ◌==◌, Bool, false, ◌&&◌, nat_lt, List, [], ◌∷◌, ◌++◌, length, slice_index, fold}
+-- What the segments of an AS path stand for, and numbers that go onto a path one by one, behind others.
+use Rattle.std.specs.Prelude.{◌≡◌, ℕ, ◌-◌, ◌==◌, Bool, true, false, not, ◌&&◌, nat_lt, nat_eq, List, [], ◌∷◌, ◌++◌, length, take, slice_index, fold}
 use Rattle.std.specs.Prelude.{Option, Some, None, if◌then◌else◌}
-use Rattle.std.specs.List.{list_any, flat_map, before_first}
+use Rattle.std.specs.List.{list_any, list_all, flat_map, before_first, dedup}
 use Rattle.path_attrs.specs.PathOf.{is_confed}
 use Rattle.path_attrs.specs.declared.as_path.Segment.{Segment}
-use Rattle.path_attrs.specs.declared.as_path.SegKind.TheVariants.{Sequence}
-use Rattle.path_clean.specs.declared.cleaned.Sets.{Sets}
-use Rattle.path_clean.specs.declared.cleaned.Sets.TheVariants.{Cut, Skip}
-use Rattle.path_clean.specs.declared.cleaned.Cause.{Cause}
-use Rattle.path_clean.specs.declared.cleaned.Cause.TheVariants.{Confed}
-use Rattle.path_clean.specs.declared.merging.Oddity.{Oddity}
-use Rattle.path_clean.specs.declared.merging.Oddity.TheVariants.{Confederation, MixedSet}
-use Rattle.path_clean.specs.declared.cleaned.Cleaned.{Cleaned}
-use Rattle.path_clean.specs.Clean.{is_mixed_set, ases_of, cleaned_as}
+use Rattle.path_attrs.specs.declared.as_path.SegKind.{SegKind}
+use Rattle.path_attrs.specs.declared.as_path.SegKind.TheVariants.{Set, Sequence, ConfedSequence, ConfedSet}
+use Rattle.path_merge.specs.declared.merging.Oddity.{Oddity}
+use Rattle.path_merge.specs.declared.merging.Oddity.TheVariants.{Confederation, MixedSet}
+
+abbrev pub is_set : SegKind → Bool
+is_set Set = true
+is_set Sequence = false
+is_set ConfedSequence = false
+is_set ConfedSet = false
+
+-- the members are all equal
+abbrev pub are_equal : List ℕ → Bool
+are_equal [] = true
+are_equal (x ∷ xs) = list_all (λ y. y == x) xs
+
+-- an AS_SET whose members differ
+abbrev pub is_mixed_set : Segment → Bool
+is_mixed_set s = is_set s.kind && not (are_equal s.ases)
+
+-- the ASes that a segment stands for: an AS_SET whose members are all equal stands for that one AS
+abbrev pub ases_of : Segment → List ℕ
+ases_of s = if is_set s.kind then take 1 s.ases else s.ases
+
+-- what stands before the first AS_SET whose members differ, with equal neighbours merged into one (RFC 4271, section 5.1.2: an
+-- AS may put its number there more than once)
+abbrev pub merged_path : List Segment → List ℕ
+merged_path segments = dedup nat_eq (flat_map ases_of (before_first is_mixed_set segments))
 
 -- the number stands last, behind the first so many
 abbrev pub ends_behind : (start : ℕ) → List ℕ → ℕ → Bool
@@ -25,10 +44,6 @@ merged_behind start numbers number = if ends_behind start numbers number then nu
 -- the number of a run goes last, where the next one is another
 abbrev pub with_run : List ℕ → (last next : ℕ) → List ℕ
 with_run numbers last next = if next == last then numbers else numbers ++ last ∷ []
-
--- the segments of a path that is one AS_SEQUENCE
-abbrev pub one_sequence : (ases : List ℕ) → List Segment
-one_sequence ases = record { kind = Sequence; ases = ases } ∷ []
 
 -- a segment of a confederation, or else an AS_SET whose members differ
 abbrev pub oddity_in : List Segment → Option Oddity
@@ -51,21 +66,3 @@ abbrev pub MergesOnto : (start : ℕ) (old : List ℕ) (segments : List Segment)
 MergesOnto start old segments new =
     list_any (λ s. is_confed s.kind) segments ≡ false
     → new ≡ fold (merged_behind start) old (flat_map ases_of (before_first is_mixed_set segments))
-
--- why a route with this among its segments is set aside, if it is
-abbrev pub cause_of : Sets → Oddity → Option Cause
-cause_of sets Confederation = Some Confed
-cause_of Cut MixedSet = None
-cause_of Skip MixedSet = Some Cause.Sets
-
--- a path went behind the numbers, which with the cause, if there is one, is what a route is merged to
-pub record IsPutBehind (old new : List ℕ) (merged : Cleaned) (cause : Option Cause) : Type 0 where
-  pub path : List ℕ
-  pub behind : new ≡ old ++ path
-  pub same : cleaned_as cause path ≡ merged
-
--- the same of a path that went behind others
-pub record IsMergedBehind (old new : List (List ℕ)) (merged : Cleaned) (cause : Option Cause) : Type 0 where
-  pub path : List ℕ
-  pub behind : new ≡ old ++ path ∷ []
-  pub same : cleaned_as cause path ≡ merged

@@ -1,6 +1,6 @@
 use Rattle.std.proofs.Common.{◌≡◌, ◌≤◌, ◌+◌, ◌++◌, length, nat_eq, vec_len, vec_capacity}
 use Rattle.std.specs.List.{dedup, dedup_from}
-use Rattle.path_clean.proofs.merging.append_merged.Given as goal
+use Rattle.path_merge.proofs.merging.append_merged.Given as goal
 
 -- with the run that isn't put yet, and the numbers that are left, it comes to what it is with all, and there is room for these
 abbrev pub invariant-numbers : goal.invariant-numbers

@@ -1,7 +1,7 @@
 use Rattle.std.proofs.Common.{◌≡◌, length}
 use Rattle.std.specs.List.{fold}
-use Rattle.path_clean.specs.Merging.{merged_behind}
-use Rattle.path_clean.proofs.merging.append_numbers.Given as goal
+use Rattle.path_merge.specs.Merging.{merged_behind}
+use Rattle.path_merge.proofs.merging.append_numbers.Given as goal
 
 -- with the numbers that are left the path comes to what it is with all
 abbrev pub invariant-numbers : goal.invariant-numbers
