@@ -9,8 +9,8 @@ use Rattle.relationships.specs.Checking.{LostFrom, kept_of}
 use Rattle.as_graph.specs.Paths.{paths_at}
 use Rattle.tor_clauses.specs.Formulas.{demands_of, numbered, numbered_of}
 use Rattle.tor_clauses.proofs.Exacts.{numbered_paths}
-use Rattle.path_select.specs.Choices.{Choice}
-use Rattle.path_select.specs.Offers.{HasKeptBehind, HasKeptRest}
+use Rattle.path_offer.specs.Choices.{Choice}
+use Rattle.path_select.specs.Kept.{HasKeptBehind, HasKeptRest}
 use Rattle.rel_infer.proofs.Joined.{kept_joined, keeps_joined}
 
 module _ (graph : List (List ℕ)) (count : ℕ) (begun all : List Fate) (first : List ℕ) (old : Choice) (le : length begun ≤ count) (within : count ≤ length graph)

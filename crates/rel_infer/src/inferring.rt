@@ -8,7 +8,7 @@ ghost use Rattle.relationships.specs.Selection.{IsServable};
 ghost use Rattle.as_graph.specs.Paths.{paths_at};
 ghost use Rattle.tor_clauses.specs.Formulas.{FitsGraph};
 ghost use Rattle.path_select.specs.Behind.{places_from};
-ghost use Rattle.path_select.specs.Offers.{HasKeptBehind};
+ghost use Rattle.path_select.specs.Kept.{HasKeptBehind};
 ghost use Rattle.rel_infer.specs.Finding.{AreFound, AreInferredIn};
 ghost use Rattle.rel_infer.specs.GivenResults.{max_givens};
 ghost use Rattle.rel_infer.specs.Inference.{AreInferredWith};

@@ -9,7 +9,7 @@ ghost use Rattle.relationships.specs.Selection.{KeepsFrom};
 ghost use Rattle.as_graph.specs.Paths.{paths_at};
 ghost use Rattle.tor_clauses.specs.Formulas.{FitsGraph, IsServed, numbered};
 ghost use Rattle.path_select.specs.Behind.{places_from};
-ghost use Rattle.path_select.specs.Offers.{HasKeptBehind};
+ghost use Rattle.path_select.specs.Kept.{HasKeptBehind};
 ghost use Rattle.result_text.specs.declared.file.ResultFile.{ResultFile as File};
 ghost use Rattle.result_rules.specs.File.{its_paths, its_walks};
 ghost use Rattle.path_table.specs.Rows.{row_paths};

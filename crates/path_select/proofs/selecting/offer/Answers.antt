@@ -4,9 +4,9 @@ use Rattle.relationships.specs.Evidence.{Refutes}
 use Rattle.relationships.specs.declared.fate.Fate.{Fate}
 use Rattle.relationships.specs.Fates.{walk_of}
 use Rattle.tor_clauses.specs.Formulas.{numbered}
-use Rattle.path_select.specs.Choices.{Choice, with_offered}
-use Rattle.path_select.proofs.Keepings.{not_servable}
-use Rattle.path_select.proofs.Relinking.{offered, lost_again}
+use Rattle.path_offer.specs.Choices.{Choice, with_offered}
+use Rattle.path_offer.proofs.Keepings.{not_servable}
+use Rattle.tor_mend.proofs.Relinking.{offered, lost_again}
 use Rattle.path_select.proofs.selecting.offer.Goals as goal
 
 same_paths : (fate : Fate) (new old : Choice) → IfSome (walk_of fate) (λ walk. new ≡ old) → IfSome (walk_of fate) (λ walk. new.formula.paths ≡ old.formula.paths)

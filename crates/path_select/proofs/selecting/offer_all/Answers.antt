@@ -2,10 +2,10 @@ use Rattle.std.proofs.Common.{◌+◌, ◌≡◌, ◌<◌, ℕ, length, refl, su
 use Rattle.std.specs.Prelude.{IfSome}
 use Rattle.relationships.specs.declared.fate.Fate.{Fate}
 use Rattle.relationships.specs.Fates.{walk_of}
-use Rattle.path_select.specs.Choices.{Choice}
-use Rattle.path_select.specs.Refusals.{AreRefused}
+use Rattle.path_offer.specs.Choices.{Choice}
+use Rattle.tor_mend.specs.Refusals.{AreRefused}
 use Rattle.path_select.proofs.Selections.{IsSoFar, next_at, none_so_far, same_so_far, keeps_rest, lost_rest, kept_rest}
-use Rattle.path_select.proofs.Relinking.{none_refused}
+use Rattle.tor_mend.proofs.Relinking.{none_refused}
 use Rattle.path_select.proofs.selecting.offer_all.Goals as goal
 
 same_formula : (offer : Fate) (new old : Choice) → IfSome (walk_of offer) (λ walk. new ≡ old) → IfSome (walk_of offer) (λ walk. new.formula ≡ old.formula)

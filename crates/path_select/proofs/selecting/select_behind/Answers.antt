@@ -1,13 +1,13 @@
 use Rattle.path_select.proofs.selecting.select_behind.Goals as goal
 
-pub returns-clause-fits : goal.returns-clause-fits
-returns-clause-fits c = c.in_ok-fates.ensures.fits
+pub returns-in-Ok-clause-fits : goal.returns-in-Ok-clause-fits
+returns-in-Ok-clause-fits c = c.in-Ok.ensures.fits
 
-pub returns-clause-keeps : goal.returns-clause-keeps
-returns-clause-keeps c = c.in_ok-fates.ensures.keeps
+pub returns-in-Ok-clause-keeps : goal.returns-in-Ok-clause-keeps
+returns-in-Ok-clause-keeps c = c.in-Ok.ensures.keeps
 
-pub returns-clause-lost : goal.returns-clause-lost
-returns-clause-lost c = c.in_ok-fates.ensures.lost
+pub returns-in-Ok-clause-lost : goal.returns-in-Ok-clause-lost
+returns-in-Ok-clause-lost c = c.in-Ok.ensures.lost
 
-pub returns-clause-kept : goal.returns-clause-kept
-returns-clause-kept c = c.in_ok-fates.ensures.kept
+pub returns-in-Ok-clause-kept : goal.returns-in-Ok-clause-kept
+returns-in-Ok-clause-kept c = c.in-Ok.ensures.kept

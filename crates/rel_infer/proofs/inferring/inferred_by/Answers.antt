@@ -5,7 +5,7 @@ use Rattle.relationships.specs.Fates.{walk_of}
 use Rattle.tor_arena.specs.Distinct.{AllDistinct}
 use Rattle.as_graph.specs.Paths.{paths_at}
 use Rattle.path_select.specs.Behind.{places_from}
-use Rattle.path_select.specs.Choices.{Choice}
+use Rattle.path_offer.specs.Choices.{Choice}
 use Rattle.rel_infer.specs.Finding.{AreFound}
 use Rattle.rel_infer.proofs.KeptPlaces.{first_fits, counted_once, all_once, counted_distinct, places_many}
 use Rattle.rel_infer.proofs.inferring.inferred_by.Goals as goal

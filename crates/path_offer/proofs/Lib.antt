@@ -1,0 +1,4 @@
+pub mod Keepings
+pub mod Origins
+pub mod Outcomes
+pub mod Settlings

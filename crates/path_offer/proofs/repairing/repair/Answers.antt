@@ -1,0 +1,45 @@
+use Rattle.std.proofs.Common.{◌≡◌, ℕ, ◌*◌, ◌/◌, ◌<◌, ◌∙◌, length, refl, sym, ap, subst, arith}
+use Rattle.std.specs.Prelude.{IfNone}
+use Rattle.tor_digraph.specs.Walks.{IsArc}
+use Rattle.tor_clauses.proofs.Arcs.{length-arcs}
+use Rattle.tor_mend.specs.Posing.{first_open}
+use Rattle.path_offer.specs.Repairs.{IsArcMended, IsRepaired}
+use Rattle.path_offer.proofs.Settlings.{repaired_next}
+use Rattle.path_offer.proofs.repairing.repair.Goals as goal
+
+pub loop-triple-init : goal.loop-triple-init
+loop-triple-init c =
+    let arcs = c.args.problem.now.formula.net.arcs in
+    let first = first_open c.args.problem.now in
+    let old = c.args.state.now.ends in
+    let none : IsRepaired arcs first first old old = record { met = c.requires.met; changed = λ x holds not. absurd (not holds); same = λ met. refl } in
+    record {
+      state = c.requires.state;
+      known = c.requires.known;
+      back = refl;
+      repaired = subst (λ k. IsRepaired arcs first (k * 2) old old) (sym c.settled-settled.ensures) none;
+    }
+
+pub loop-triple-preserved : goal.loop-triple-preserved
+loop-triple-preserved c =
+    let arcs = c.args.problem.now.formula.net.arcs in
+    let settled = subst (λ o. IfNone o (IsArcMended arcs c.loop-triple.state.ends c.settle.new.state.ends c.arc_of-arc.result)) c.in_default.is c.in_ok-walk.ensures.settled in
+    let inside : (j l m : ℕ) → IsArc arcs j l m → m / 2 < length c.settle.new.state.ends = (λ j l m there.
+    let lt = c.facts.ensures.inside.heads j l m there in
+    omega (arith, lt, c.settle.ensures.state.ends)) in
+    record {
+      state = c.settle.ensures.state;
+      known = c.settle.ensures.known;
+      back = c.settle.ensures.back ∙ c.loop-triple.invariant.back;
+      repaired = repaired_next c.args.problem.now.formula.triples arcs c.facts.ensures.arcs (first_open c.args.problem.now) c.args.state.now.ends c.loop-triple.state.ends
+          c.settle.new.state.ends c.loop-triple.triple c.arc_of-arc.result c.arc_of-arc.ensures.place (omega (arith, c.settled-settled.ensures)) inside
+          c.loop-triple.invariant.repaired settled;
+    }
+
+pub returns-clause-repaired : goal.returns-clause-repaired
+returns-clause-repaired c =
+    let arcs = c.args.problem.now.formula.net.arcs in
+    let pairs = ap length c.facts.ensures.arcs ∙ length-arcs c.args.problem.now.formula.triples in
+    let there = c.facts.ensures.posed.there in
+    let all : c.loop-triple.triple * 2 ≡ length arcs = omega (arith, pairs, c.triple_count-count.ensures, c.settled-settled.ensures, there, c.loop-triple-test.false) in
+    subst (λ n. IsRepaired arcs (first_open c.args.problem.now) n c.args.state.now.ends c.loop-triple.state.ends) all c.loop-triple.invariant.repaired

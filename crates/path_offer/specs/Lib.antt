@@ -1,0 +1,4 @@
+pub mod Choices
+pub mod Inside
+pub mod Offers
+pub mod Repairs

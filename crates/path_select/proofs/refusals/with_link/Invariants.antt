@@ -1,6 +1,0 @@
-use Rattle.std.proofs.Common.{◌≡◌, map, take}
-use Rattle.path_select.specs.Refusals.{relink}
-use Rattle.path_select.proofs.refusals.with_link.Given as goal
-
-abbrev pub invariant-loop-old : goal.invariant-loop-old
-invariant-loop-old l = l.new.items ≡ map (relink l.own l.fn.link) (take l.old-index l.links)

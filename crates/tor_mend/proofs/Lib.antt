@@ -1,0 +1,10 @@
+pub mod Closed
+pub mod Flips
+pub mod Knowing
+pub mod Prefixes
+pub mod Refuting
+pub mod Relinking
+pub mod Scans
+pub mod Trailing
+pub mod Trials
+pub mod Ways

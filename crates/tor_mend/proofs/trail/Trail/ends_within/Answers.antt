@@ -1,0 +1,22 @@
+use Rattle.std.proofs.Common.{arith}
+use Rattle.std.proofs.lemmas.Option.{slice_get_within}
+use Rattle.tor_arena.proofs.Gets.{slice_get-some}
+use Rattle.tor_mend.proofs.Trailing.{trail_begun}
+use Rattle.tor_mend.proofs.trail.Trail.ends_within.Goals as goal
+
+pub loop-next-preserved : goal.loop-next-preserved
+loop-next-preserved c =
+    let old = slice_get-some c.loop-next.self.nodes.items c.loop-next.next (omega (arith, c.loop-next-test.true, c.len.ensures)) in
+    let lt = slice_get_within c.scan_some.new.self.nodes.items c.loop-next.next old.0 (c.scan_some.ensures.grown c.loop-next.next old.0 old.1) in
+    record {
+      marked = c.scan_some.ensures.marked;
+      trail = c.in_ok-scan_some.ensures.trail;
+      within = omega (arith, lt);
+    }
+
+pub loop-next-init : goal.loop-next-init
+loop-next-init c = record {
+  marked = c.begin.ensures.marked c.args.digraph.now.nodes c.requires.marked;
+  trail = trail_begun c.args.digraph.now.arcs c.args.ends.now c.begin.new.self c.args.start c.requires.unheld c.in_ok-begin.ensures.nodes c.in_ok-begin.ensures.origins;
+  within = omega arith;
+}

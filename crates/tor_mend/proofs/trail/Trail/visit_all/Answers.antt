@@ -1,0 +1,65 @@
+use Rattle.std.proofs.Common.{◌≡◌, ◌+◌, length, ap, subst, arith}
+use Rattle.std.specs.Prelude.{slice_get, IfNone, IfSome}
+use Rattle.std.proofs.lemmas.Option.{slice_get_within}
+use Rattle.tor_arena.proofs.Gets.{slice_get-some}
+use Rattle.tor_mend.specs.Trails.{ArePassed, IsStop}
+use Rattle.tor_mend.proofs.Scans.{stopped}
+use Rattle.tor_mend.proofs.Trailing.{trail_begun}
+use Rattle.tor_mend.proofs.trail.Trail.visit_all.Goals as goal
+
+pub loop-next-preserved : goal.loop-next-preserved
+loop-next-preserved c =
+    let old = slice_get-some c.loop-next.self.nodes.items c.loop-next.next (omega (arith, c.loop-next-test.true, c.len.ensures)) in
+    let lt = slice_get_within c.scan.new.self.nodes.items c.loop-next.next old.0 (c.scan.ensures.grown c.loop-next.next old.0 old.1) in
+    record {
+      marked = c.scan.ensures.marked;
+      trail = c.in_ok-stop.ensures.trail;
+      first = c.scan.ensures.grown 0 c.args.start c.loop-next.invariant.first;
+      within = omega (arith, lt);
+      passed = subst (λ o. IfNone o (ArePassed c.args.digraph.now.arcs c.args.ends.now c.scan.new.self.nodes.items (c.loop-next.next + 1))) c.in_default-2.is c.in_ok-stop.ensures.passed;
+    }
+
+pub loop-next-init : goal.loop-next-init
+loop-next-init c =
+    let nodes = c.begin.new.self.nodes in
+    record {
+      marked = c.begin.ensures.marked c.args.digraph.now.nodes c.requires.marked;
+      trail = trail_begun c.args.digraph.now.arcs c.args.ends.now c.begin.new.self c.args.start c.requires.unheld c.in_ok-begin.ensures.nodes c.in_ok-begin.ensures.origins;
+      first = ap (λ l. slice_get l 0) c.in_ok-begin.ensures.nodes;
+      within = omega arith;
+      passed = λ k x lt at. absurd (omega (arith, lt));
+    }
+
+pub returns-in-Some-clause-marked : goal.returns-in-Some-clause-marked
+returns-in-Some-clause-marked c = c.begin.ensures.marked c.args.digraph.now.nodes c.requires.marked
+
+pub returns-in-Some-clause-trail : goal.returns-in-Some-clause-trail
+returns-in-Some-clause-trail c =
+    trail_begun c.args.digraph.now.arcs c.args.ends.now c.begin.new.self c.args.start c.requires.unheld c.in_ok-begin.ensures.nodes c.in_ok-begin.ensures.origins
+
+pub returns-in-Some-clause-first : goal.returns-in-Some-clause-first
+returns-in-Some-clause-first c = ap (λ l. slice_get l 0) c.in_ok-begin.ensures.nodes
+
+pub returns-in-Some-clause-stop : goal.returns-in-Some-clause-stop
+returns-in-Some-clause-stop c =
+    let arcs = c.args.digraph.now.arcs in
+    let known = c.args.known.now.places.items in
+    let nodes = c.begin.new.self.nodes.items in
+    subst (λ o. IfSome o (IsStop arcs known nodes)) c.in-Some.is
+    (stopped arcs known nodes c.args.start 0 c.stop_at.result (ap (λ l. slice_get l 0) c.in_ok-begin.ensures.nodes) c.stop_at.ensures)
+
+pub returns-in-Some-2-clause-trail : goal.returns-in-Some-2-clause-trail
+returns-in-Some-2-clause-trail c = c.in_ok-stop.ensures.trail
+
+pub returns-in-Some-2-clause-first : goal.returns-in-Some-2-clause-first
+returns-in-Some-2-clause-first c = c.scan.ensures.grown 0 c.args.start c.loop-next.invariant.first
+
+pub returns-in-Some-2-clause-stop : goal.returns-in-Some-2-clause-stop
+returns-in-Some-2-clause-stop c =
+    subst (λ o. IfSome o (IsStop c.args.digraph.now.arcs c.args.known.now.places.items c.scan.new.self.nodes.items)) c.in-Some-2.is c.in_ok-stop.ensures.stop
+
+pub returns-clause-passed : goal.returns-clause-passed
+returns-clause-passed c =
+    let nodes = c.loop-next.self.nodes.items in
+    let end : c.loop-next.next ≡ length nodes = omega (arith, c.loop-next-test.false, c.len.ensures, c.loop-next.invariant.within) in
+    subst (ArePassed c.args.digraph.now.arcs c.args.ends.now nodes) end c.loop-next.invariant.passed

@@ -1,0 +1,5 @@
+pub mod Mends
+pub mod Posing
+pub mod Refusals
+pub mod Rounds
+pub mod Trails

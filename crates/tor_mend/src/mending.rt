@@ -1,0 +1,179 @@
+//! How a literal is made to hold.
+ghost use Rattle.std.specs.Prelude.{◌≡◌, ℕ, ◌*◌, ◌<◌, [], List, length, IfOk, IfSome, IfNone};
+ghost use Rattle.relationships.specs.declared.label.End.{End as Side};
+ghost use Rattle.tor_arena.specs.Limits.{max_numbers};
+ghost use Rattle.tor_clauses.specs.Literals.{lit_of, opposite_node, Holds};
+ghost use Rattle.tor_mend.specs.Trails.{StandsAt, IsMarked, IsTrail, IsStop};
+ghost use Rattle.tor_mend.specs.Mends.{IsState, IsMended, IsUnmet, IsSide, flipped_back};
+ghost use Rattle.tor_mend.specs.Posing.{first_open};
+ghost use Rattle.tor_mend.specs.Rounds.{IsLed, AreKnown};
+
+use crate::flipping::{Flip, flip_all};
+use crate::known::Known;
+use crate::problem::Problem;
+use crate::rounding::{go_by, go_round, stay};
+use crate::trail::{Stop, Trail};
+use as_graph::Orientation;
+use relationships::End;
+use std::alloc::Global;
+use tor_arena::{ArcId, List, NoMemory, NodeId};
+use tor_digraph::Way;
+
+/// An orientation that is repaired, and what a repair needs.
+#[derive(Drop)]
+pub struct State {
+    /// The orientation.
+    pub ends: Orientation,
+    /// What a search has visited.
+    pub trail: Trail,
+    /// The edges whose provider was changed, to be taken back.
+    pub flips: List<Flip>,
+    /// What is known of literals that cannot hold.
+    pub known: Known,
+}
+
+/// Along how many arcs two searches are followed in their first turn: most end within so many, and then there is no second one, in which
+/// these are looked along again.
+const FIRST_TURN: usize = 64;
+
+/// In how many turns they are followed at most. The last of them goes along more arcs than there can be.
+const TURNS: usize = 40;
+
+/// The orientation in which the lower end of each of so many edges is the provider, and what its repairs need. The only error is that memory ran
+/// out.
+pub fn start(alloc: Global, count: usize) -> Result<State, NoMemory>
+    requires { count < max_numbers }
+    ensures state { IfOk result (IsState (count * 2)) }
+    ensures flips { IfOk result (λ state. state.flips ≡ []) }
+    ensures known { IfOk result (λ state. (arcs : List (ℕ × ℕ)) (first : ℕ) → AreKnown arcs first state.known) }
+{
+    let mut ends = Vec::new(alloc);
+    ends.resize(count, End::Low)?;
+    let ends = Orientation::from_slice(alloc, ends.as_slice())?;
+    at_rest(alloc, ends)
+}
+
+/// An orientation, and what its repairs need: no search has visited anything, nothing is to be taken back, and nothing is known. The only
+/// error is that memory ran out.
+pub fn at_rest(alloc: Global, ends: Orientation) -> Result<State, NoMemory>
+    requires { length ends < max_numbers }
+    ensures state { IfOk result (IsState (length ends * 2)) }
+    ensures ends { IfOk result (λ state. state.ends ≡ ends) }
+    ensures flips { IfOk result (λ state. state.flips ≡ []) }
+    ensures known { IfOk result (λ state. (arcs : List (ℕ × ℕ)) (first : ℕ) → AreKnown arcs first state.known) }
+{
+    let count = ends.as_slice().len();
+    Ok(State {
+        ends,
+        trail: Trail::new(alloc, count * 2)?,
+        flips: List::new(alloc),
+        known: Known::nothing(alloc),
+    })
+}
+
+/// The way from a literal to its negation, where a search from it has stopped.
+fn way_round(
+    alloc: Global,
+    problem: &Problem<'_>,
+    start: NodeId,
+    stop: Stop,
+    trail: &Trail,
+    known: &Known,
+) -> Result<Way<NodeId, ArcId>, NoMemory>
+    requires first { StandsAt trail.now.nodes.items 0 start }
+    requires trail { (ends : List Side) × IsTrail problem.now.formula.net.arcs ends trail.now }
+    requires stop { IsStop problem.now.formula.net.arcs known.now.places.items trail.now.nodes.items stop }
+    requires known { (early : ℕ) × AreKnown problem.now.formula.net.arcs early known.now }
+    ensures { IfOk result (λ way. IsLed problem.now.formula.net.arcs way start (opposite_node start)) }
+{
+    let mut way = stay(alloc, start)?;
+    match stop {
+        Stop::Clash(arc) => {
+            go_round(alloc, problem, trail, arc, &mut way)?;
+            Ok(way)
+        }
+        Stop::Known(place) => {
+            go_by(alloc, problem, trail, place, known, &mut way)?;
+            Ok(way)
+        }
+    }
+}
+
+/// Makes a literal hold that does not hold, and all to which it leads. Where that cannot be nothing is changed, and a way from it to
+/// its negation is answered. Ways that are remembered go along arcs of triples that were satisfied before the repair. The only error is
+/// that memory ran out; then some of the literals may hold, to be taken back.
+pub fn mend(
+    alloc: Global,
+    problem: &Problem<'_>,
+    start: NodeId,
+    state: &mut State,
+) -> Result<Option<Way<NodeId, ArcId>>, NoMemory>
+    requires state { IsState problem.now.formula.net.nodes state.old }
+    requires known { AreKnown problem.now.formula.net.arcs (first_open problem.now) state.old.known }
+    requires there { start < problem.now.formula.net.nodes }
+    requires unheld { Holds state.old.ends (lit_of start) → ⊥ }
+    ensures state { IsState problem.now.formula.net.nodes state.new }
+    ensures known { AreKnown problem.now.formula.net.arcs (first_open problem.now) state.new.known }
+    ensures back { flipped_back state.new.ends state.new.flips ≡ flipped_back state.old.ends state.old.flips }
+    ensures mended { IfOk result (λ w. IfNone w (IsMended problem.now.formula.net.arcs state.old.ends state.new.ends start)) }
+    ensures same { IfOk result (λ way. IfSome way (λ _. state.new.ends ≡ state.old.ends)) }
+    ensures way { IfOk result (λ w. IfSome w (λ found. IsLed problem.now.formula.net.arcs found start (opposite_node start))) }
+{
+    problem.facts();
+    let digraph = problem.digraph();
+    let stop = state
+        .trail
+        .visit_all(digraph, state.ends.as_slice(), &state.known, start)?;
+    match stop {
+        Some(stop) => {
+            let way = way_round(alloc, problem, start, stop, &state.trail, &state.known)?;
+            let first = problem.first_open();
+            state.known.remember(alloc, digraph, first, start, &way)?;
+            Ok(Some(way))
+        }
+        None => {
+            flip_all(
+                &mut state.ends,
+                state.trail.nodes.as_slice(),
+                &mut state.flips,
+            )?;
+            Ok(None)
+        }
+    }
+}
+
+/// The arc or its partner, of which one is met where the other is: the one from whose head a search ends sooner. Both searches go on
+/// by turns, each turn along twice as many arcs, and the arc itself has the first. The trail is forgotten. The only error is that memory
+/// ran out.
+pub fn nearer_side(
+    problem: &Problem<'_>,
+    arc: ArcId,
+    ends: &[End],
+    known: &Known,
+    trail: &mut Trail,
+) -> Result<ArcId, NoMemory>
+    requires there { arc < length problem.now.formula.net.arcs }
+    requires unmet { IsUnmet problem.now.formula.net.arcs ends.now arc }
+    requires ends { length ends.now * 2 ≡ problem.now.formula.net.nodes }
+    requires marked { IsMarked problem.now.formula.net.nodes trail.old.nodes }
+    ensures marked { IsMarked problem.now.formula.net.nodes trail.new.nodes }
+    ensures side { IfOk result (IsSide problem.now.formula.net.arcs arc) }
+    ensures there { IfOk result (λ side. side < length problem.now.formula.net.arcs) }
+{
+    problem.facts();
+    let digraph = problem.digraph();
+    let partner = problem.partner(arc);
+    let (_, head) = digraph.ends(arc);
+    let (_, other) = digraph.ends(partner);
+    let mut arcs = FIRST_TURN;
+    for _ in 0..TURNS {
+        if trail.ends_within(digraph, ends, known, head, arcs)? {
+            return Ok(arc);
+        }
+        if trail.ends_within(digraph, ends, known, other, arcs)? {
+            return Ok(partner);
+        }
+        arcs = arcs.saturating_mul(2);
+    }
+    Ok(arc)
+}
