@@ -1,10 +1,8 @@
--- Lists of claims, orders, walks and probes that grow by one.
+-- Lists of claims and probes that grow by one.
 use Rattle.std.proofs.Common.{◌≡◌, ℕ, zero, suc, ◌⊎◌, inl, inr, List, [], ◌∷◌, ◌++◌, Some, refl, sym, ap, ◌∙◌, subst, append_assoc, append-nil}
 use Rattle.std.specs.Prelude.{slice_get, Any, Contains}
 use Rattle.relationships.specs.declared.label.Label.{Label}
-use Rattle.relationships.specs.declared.walk.Walk.{Walk}
 use Rattle.relationships.specs.Graph.{Edge}
-use Rattle.relationships.specs.Evidence.{Numbered, Shows, ShowFrom}
 use Rattle.relationships.specs.Checking.{Claim, IsProbe, ProbesFrom}
 use Rattle.tor_digraph.proofs.Members.{Contains-more, Contains-last, Contains-one_more}
 use Rattle.relationships.specs.declared.mark.Mark.{Mark}
@@ -61,18 +59,6 @@ claims_have (f ∷ es) (l ∷ labels) (m ∷ marks) zero e label mark at there i
     let three : m ≡ mark = cc is in
     ap (λ (g : Edge). Some (claim_of g l m)) one ∙ ap (λ (g : Label). Some (claim_of e g m)) two ∙ ap (λ (g : Mark). Some (claim_of e label g)) three
 claims_have (f ∷ es) (l ∷ labels) (m ∷ marks) (suc k) e label mark at there is = claims_have es labels marks k e label mark at there is
-
--- ---- walks
-
-pub ShowFrom-push : (A : Numbered) (shown : List (ℕ × ℕ)) (walks : List Walk) (orders : List (ℕ × ℕ)) (w : Walk) (a b : ℕ) → ShowFrom A shown walks orders →
-    Shows A (shown ++ orders) w a b → ShowFrom A shown (walks ++ w ∷ []) (orders ++ (a, b) ∷ [])
-ShowFrom-push A shown [] [] w a b h s = (subst (λ l. Shows A l w a b) (append-nil shown) s, tt)
-ShowFrom-push A shown [] (p ∷ orders) w a b h s = absurd h
-ShowFrom-push A shown (v ∷ walks) [] w a b h s = absurd h
-ShowFrom-push A shown (v ∷ walks) (p ∷ orders) w a b h s = (
-  h.0,
-  ShowFrom-push A (shown ++ p ∷ []) walks orders w a b h.1 (subst (λ l. Shows A l w a b) (sym (append_assoc shown (p ∷ []) orders)) s),
-)
 
 -- ---- probes
 

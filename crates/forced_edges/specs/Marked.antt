@@ -1,18 +1,13 @@
 -- What the marks of the edges of a graph have to say, and what bears them out.
 use Rattle.std.specs.Prelude.{◌↔◌, ℕ, List, All, IsTrue}
 use Rattle.relationships.specs.declared.label.Label.{Label}
-use Rattle.relationships.specs.Relationship.{ValleyFree}
-use Rattle.relationships.specs.Graph.{edges, labelling}
+use Rattle.relationships.specs.Graph.{edges}
 use Rattle.relationships.specs.Selection.{IsForced}
 use Rattle.relationships.specs.Checking.{MarksHold}
 use Rattle.relationships.specs.Marking.{claims_of, orders_of}
 use Rattle.as_graph.specs.Paths.{paths_at}
 use Rattle.tor_clauses.specs.Formulas.{Formula, numbered}
 use Rattle.forced_edges.specs.declared.marks.Marks.{Marks}
-
--- the paths of the clauses are valley-free under these labels of the edges
-abbrev pub AreValleyFree : List (List ℕ) → Formula → List Label → Type 0
-AreValleyFree graph f labels = All (ValleyFree (labelling (edges graph) labels)) (paths_at graph f.paths)
 
 -- an edge is marked forced exactly if all orientations that serve the paths of the clauses give it the same provider
 abbrev pub AreExact : List (List ℕ) → Formula → List Label → Marks → Type 0

@@ -1,46 +1,15 @@
 //! Probes: orders against the labels that bear out the open edges.
-ghost use Rattle.std.specs.Prelude.{[], ◌≡◌, ◌<◌, length, OnOk};
+ghost use Rattle.std.specs.Prelude.{[], ◌≡◌, length, OnOk};
 ghost use Rattle.relationships.specs.Graph.{edges};
-ghost use Rattle.tor_digraph.specs.Spreading.{IsClosed};
-ghost use Rattle.forced_edges.specs.Candidates.{AreCandidates};
-ghost use Rattle.forced_edges.specs.Settling.{AreShown};
-ghost use Rattle.forced_edges.specs.Findings.{AllSettled, AreMarkedBy, AreRight, Probes};
+ghost use Rattle.order_trials.specs.Candidates.{AreCandidates};
+ghost use Rattle.order_trials.specs.Showing.{AreShown};
+ghost use Rattle.forced_edges.specs.Findings.{AllSettled, AreMarkedBy, AreRight};
 
 use crate::marks::Marks;
-use crate::problem::Problem;
-use relationships::Probe;
+use order_trials::{Problem, probe_order};
 use std::alloc::Global;
-use tor_arena::{List, NoMemory, NodeId};
-use tor_clauses::negation_node;
-use tor_digraph::{NodeSet, spread};
-
-/// Adds an order to the probes, and covers what it leads to, but not past the orders of the labels, unless its opposite is shown or it
-/// is covered.
-fn probe_order(
-    problem: &Problem<'_>,
-    node: NodeId,
-    shown: &NodeSet,
-    covered: &mut NodeSet,
-    probes: &mut List<Probe>,
-) -> Result<(), NoMemory>
-    requires there { node < problem.now.formula.net.nodes }
-    requires shown { shown.now.count ≡ problem.now.formula.net.nodes }
-    requires covered { covered.old.count ≡ problem.now.formula.net.nodes }
-    requires covers { IsClosed problem.now.formula.net.arcs problem.now.held covered.old.items }
-    ensures count { covered.new.count ≡ problem.now.formula.net.nodes }
-    ensures probes { OnOk result (Probes problem.now shown.now.items node covered.old.items covered.new.items probes.old probes.new) }
-{
-    problem.facts();
-    if shown.has(negation_node(node)) {
-        return Ok(());
-    }
-    if covered.has(node) {
-        return Ok(());
-    }
-    spread(problem.rows(), node, problem.held(), covered)?;
-    let (over, under) = problem.order(node);
-    probes.push(Probe { over, under })
-}
+use tor_arena::{NoMemory, NodeId};
+use tor_digraph::NodeSet;
 
 /// Takes probes from the orders against the labels, the last first: each but one whose opposite is shown, or to which an earlier probe
 /// leads. These orders stand as a search in depth leaves them, so what leads to one of them stands behind it, unless each leads to the

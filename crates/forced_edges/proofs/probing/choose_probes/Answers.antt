@@ -2,8 +2,8 @@ use Rattle.std.proofs.Common.{◌≡◌, ◌+◌, ◌-◌, ◌<◌, ◌∙◌, l
 use Rattle.std.proofs.lemmas.List.Elements.{All-contains}
 use Rattle.tor_arena.proofs.Gets.{Contains-from_has}
 use Rattle.tor_digraph.proofs.Members.{read-at}
-use Rattle.forced_edges.specs.Candidates.{IsAgainst}
-use Rattle.forced_edges.proofs.Helds.{held_along}
+use Rattle.order_trials.specs.Candidates.{IsAgainst}
+use Rattle.order_trials.proofs.Helds.{held_along}
 use Rattle.forced_edges.proofs.MarkSteps.{IsProbing, begins, probing_next, all_right}
 use Rattle.forced_edges.proofs.probing.choose_probes.Goals as goal
 

@@ -1,9 +1,0 @@
-use Rattle.tor_clauses.specs.Literals.{opposite_node}
-use Rattle.tor_digraph.proofs.Searches.{if_ok_weaker}
-use Rattle.forced_edges.proofs.showing.walk_back.Goals as goal
-
-pub walk_along-requires-clause-way : goal.walk_along-requires-clause-way
-walk_along-requires-clause-way c = (opposite_node c.args.node, c.in_ok-way.ensures)
-
-pub returns : goal.returns
-returns c = if_ok_weaker c.walk_along.result (λ w along a b says. along (opposite_node c.args.node) a b c.in_ok-way.ensures says) c.walk_along.ensures

@@ -1,0 +1,8 @@
+pub mod Candidates
+pub mod Going
+pub mod Held
+pub mod Posing
+pub mod Probing
+pub mod Settling
+pub mod Showing
+pub mod Trials
