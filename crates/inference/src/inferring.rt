@@ -83,11 +83,16 @@ pub fn inferred_by(
     // nothing is offered any more
     selection.selector.rest(alloc);
     let first = graph.path_count() - count;
-    let found = found_behind(alloc, graph, &selection.selector, first, ratio)?;
-    Ok(Inferred {
-        fates: selection.into_fates(),
-        found,
-    })
+    match found_behind(alloc, graph, &selection.selector, first, ratio) {
+        Ok(found) => Ok(Inferred {
+            fates: selection.into_fates(),
+            found,
+        }),
+        Err(NoMemory) => {
+            drop(selection);
+            Err(NoMemory)
+        }
+    }
 }
 
 // What is inferred from the first paths of a graph, so many, behind all others, whose places are `first`: these are kept, and not
@@ -146,8 +151,16 @@ fn inferred_alone(
     ensures inferred { IfOk result (AreInferredIn ratio graph.now (places_from count (length graph.now - count)) count []) }
 {
     let inferred = inferred_after(alloc, keys, graph, count, ratio)?;
-    *paths = graph.first_paths(alloc, count)?;
-    Ok(inferred)
+    match graph.first_paths(alloc, count) {
+        Ok(rows) => {
+            *paths = rows;
+            Ok(inferred)
+        }
+        Err(NoMemory) => {
+            drop(inferred);
+            Err(NoMemory)
+        }
+    }
 }
 
 // What is inferred from distinct paths under givens, before the links into rows of returns are changed. The numbers of the givens of
@@ -173,10 +186,18 @@ fn inferred_behind(
     ensures inferred { IfOk result (IsUnlinked givens.now ratio paths.old [] numbers.new) }
 {
     let graph = build_with(alloc, keys, paths, givens)?;
-    numbers_of(&graph, givens, numbers)?;
+    match numbers_of(&graph, givens, numbers) {
+        Ok(()) => {}
+        Err(NoMemory) => {
+            drop(graph);
+            return Err(NoMemory);
+        }
+    }
     let count = paths.len();
     *paths = Rows::new(alloc);
-    inferred_alone(alloc, keys, &graph, count, ratio, paths)
+    let inferred = inferred_alone(alloc, keys, &graph, count, ratio, paths);
+    drop(graph);
+    inferred
 }
 
 // Links into rows of returns, which stand behind so many paths, are changed to name the givens of these numbers.

@@ -110,10 +110,24 @@ fn inferred_past(
     ensures inferred { IfOk result
         (AreInferredIn ratio graph.now (places_from count (length graph.now - count)) count selection.fates) }
 {
-    select_past(alloc, keys, graph, count, &mut selection)?;
+    match select_past(alloc, keys, graph, count, &mut selection) {
+        Ok(()) => {}
+        Err(NoMemory) => {
+            drop(selection);
+            return Err(NoMemory);
+        }
+    }
     let inferred = inferred_by(alloc, graph, selection, count, ratio)?;
-    *paths = graph.first_paths(alloc, count)?;
-    Ok(inferred)
+    match graph.first_paths(alloc, count) {
+        Ok(rows) => {
+            *paths = rows;
+            Ok(inferred)
+        }
+        Err(NoMemory) => {
+            drop(inferred);
+            Err(NoMemory)
+        }
+    }
 }
 
 // A selector that keeps these of the paths of a graph, none of which is offered.

@@ -21,7 +21,7 @@ returns-in-Ok-lines c =
     let made = c.found_by.ensures in
     let claims = claims_of (edges graph) labels found.marks in
     let listed = subst (λ (ss : List ℕ). AreLinesOf (edges graph) labels found.marks ss lines) (c.as_slice-2.ensures ∙ c.in-Ok.ensures.supports)
-        (subst (λ (ms : List Mark). AreLinesOf (edges graph) labels ms c.as_slice-2.result.now lines) c.as_slice.ensures c.in-Ok-lines.ensures) in
+    (subst (λ (ms : List Mark). AreLinesOf (edges graph) labels ms c.as_slice-2.result.now lines) c.as_slice.ensures c.in-Ok-lines.ensures) in
     record {
       labels = labels;
       marks = found.marks;

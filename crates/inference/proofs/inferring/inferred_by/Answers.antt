@@ -63,11 +63,11 @@ found_behind-requires-clause-distinct c =
     (subst (λ (n : ℕ). All AllDistinct (paths_at graph (drop n all))) same
     (counted_distinct graph (take count graph) all count rows (map is_none (map walk_of c.args.selection.fates)) c.requires.kept AllDistinct c.requires.distinct))
 
-pub returns : goal.returns
-returns c =
+pub returns-in-Ok : goal.returns-in-Ok
+returns-in-Ok c =
     let graph = c.args.graph.now in
     let f = c.args.selection.selector.formula in
     let first : c.path_count.result - c.args.count ≡ length graph - c.args.count = ap (λ n. n - c.args.count) c.path_count.ensures in
-    let found = subst (λ (choice : Choice). AreFound c.args.ratio graph choice.formula (drop (c.path_count.result - c.args.count) choice.formula.paths) c.in_ok-found.found)
-    c.rest.ensures c.in_ok-found.ensures in
-    (c.into_fates.ensures, subst (λ n. AreFound c.args.ratio graph f (drop n f.paths) c.in_ok-found.found) first found)
+    let found = subst (λ (choice : Choice). AreFound c.args.ratio graph choice.formula (drop (c.path_count.result - c.args.count) choice.formula.paths) c.in-Ok.found)
+    c.rest.ensures c.in-Ok.ensures in
+    (c.into_fates.ensures, subst (λ n. AreFound c.args.ratio graph f (drop n f.paths) c.in-Ok.found) first found)
