@@ -174,9 +174,18 @@ fn inferred_on(
         (AreInferredIn ratio started.graph (places_from count (length started.graph - count)) count fates) }
 {
     let Started { graph, first } = started;
-    let selector = selector_of(alloc, keys, &graph, first)?;
+    let selector = match selector_of(alloc, keys, &graph, first) {
+        Ok(selector) => selector,
+        Err(NoMemory) => {
+            drop(graph);
+            drop(fates);
+            return Err(NoMemory);
+        }
+    };
     let selection = Selection { fates, selector };
-    inferred_past(alloc, keys, &graph, selection, count, ratio, paths)
+    let inferred = inferred_past(alloc, keys, &graph, selection, count, ratio, paths);
+    drop(graph);
+    inferred
 }
 
 // What is left of an earlier result; the lines of its edges are let go.
@@ -217,17 +226,33 @@ fn resumed_behind(
     ensures inferred { IfOk result
         (λ resumed. IsUnlinked (unwrap_or earlier.givens []) ratio paths.old earlier.fates numbers.new resumed.inferred) }
 {
-    let started = started_in(alloc, keys, paths, &earlier, numbers)?;
+    let started = match started_in(alloc, keys, paths, &earlier, numbers) {
+        Ok(started) => started,
+        Err(NoMemory) => {
+            drop(earlier);
+            return Err(NoMemory);
+        }
+    };
     // the lines of its edges are let go before the clauses of its kept paths are made
     let parts = parts_of(earlier);
     let count = paths.len();
     *paths = Rows::new(alloc);
-    let inferred = inferred_on(alloc, keys, started, parts.fates, count, ratio, paths)?;
-    Ok(Resumed {
-        sets: parts.sets,
-        givens: parts.givens,
-        inferred,
-    })
+    let EarlierParts {
+        sets,
+        givens,
+        fates,
+    } = parts;
+    match inferred_on(alloc, keys, started, fates, count, ratio, paths) {
+        Ok(inferred) => Ok(Resumed {
+            sets,
+            givens,
+            inferred,
+        }),
+        Err(NoMemory) => {
+            drop(givens);
+            Err(NoMemory)
+        }
+    }
 }
 
 // What is inferred from distinct paths, of which the first are those of an earlier result.

@@ -107,7 +107,18 @@ pub(crate) fn started_in(
 {
     let givens = given_slice(&earlier.givens);
     let graph = build_with(alloc, keys, paths, givens)?;
-    numbers_of(&graph, givens, numbers)?;
-    let first = kept_over(alloc, &graph, paths.len(), earlier)?;
-    Ok(Started { graph, first })
+    match numbers_of(&graph, givens, numbers) {
+        Ok(()) => {}
+        Err(NoMemory) => {
+            drop(graph);
+            return Err(NoMemory);
+        }
+    }
+    match kept_over(alloc, &graph, paths.len(), earlier) {
+        Ok(first) => Ok(Started { graph, first }),
+        Err(NoMemory) => {
+            drop(graph);
+            Err(NoMemory)
+        }
+    }
 }

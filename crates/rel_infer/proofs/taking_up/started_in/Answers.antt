@@ -56,23 +56,23 @@ kept_over-requires-clause-behind c =
     returns_behind earlier paths c.in_ok-graph.graph c.requires.begins.begins same c.len.result c.len.ensures.length ∙
     ap (returns c.in_ok-graph.graph) (sym (same_givens earlier c.args.earlier.now.givens (sym c.requires.begins.left.givens)))
 
-pub returns-clause-graph : goal.returns-clause-graph
-returns-clause-graph c = c.in_ok-graph.ensures ∙ ap (λ (gs : List Given). c.args.paths.now ++ returns c.args.paths.now gs) c.given_slice-givens.ensures
+pub returns-in-Ok-kept_over-clause-graph : goal.returns-in-Ok-kept_over-clause-graph
+returns-in-Ok-kept_over-clause-graph c = c.in_ok-graph.ensures ∙ ap (λ (gs : List Given). c.args.paths.now ++ returns c.args.paths.now gs) c.given_slice-givens.ensures
 
-pub returns-clause-kept : goal.returns-clause-kept
-returns-clause-kept c = λ file left begins.
+pub returns-in-Ok-kept_over-clause-kept : goal.returns-in-Ok-kept_over-clause-kept
+returns-in-Ok-kept_over-clause-kept c = λ file left begins.
     let paths = c.args.paths.now in
     let givens : c.given_slice-givens.result.now ≡ its_givens file = c.given_slice-givens.ensures ∙ same_givens file c.args.earlier.now.givens (sym left.givens) in
     let same = c.in_ok-graph.ensures ∙ ap (λ (gs : List Given). paths ++ returns paths gs) givens in
-    subst (λ n. numbered c.in_ok-graph.graph c.in_ok-first.first.places ≡ kept_first c.in_ok-graph.graph n file) c.len.ensures.length
-    (c.in_ok-first.ensures.kept file left (graph_begins file paths c.in_ok-graph.graph begins same))
+    subst (λ n. numbered c.in_ok-graph.graph c.in-Ok-kept_over.first.places ≡ kept_first c.in_ok-graph.graph n file) c.len.ensures.length
+    (c.in-Ok-kept_over.ensures.kept file left (graph_begins file paths c.in_ok-graph.graph begins same))
 
-pub returns-clause-numbers : goal.returns-clause-numbers
-returns-clause-numbers c =
+pub returns-in-Ok-kept_over-clause-numbers : goal.returns-in-Ok-kept_over-clause-numbers
+returns-in-Ok-kept_over-clause-numbers c =
     let earlier = c.requires.begins.file in
     let paths = c.args.paths.now in
     let givens : c.given_slice-givens.result.now ≡ its_givens earlier = c.given_slice-givens.ensures ∙ same_givens earlier c.args.earlier.now.givens (sym c.requires.begins.left.givens) in
     let same = c.in_ok-graph.ensures ∙ ap (λ (gs : List Given). paths ++ returns paths gs) givens in
-    c.in_ok-numbers_of.ensures ∙ ap (numbers_from c.in_ok-graph.graph 1) givens ∙
+    c.in-Ok.ensures ∙ ap (numbers_from c.in_ok-graph.graph 1) givens ∙
     numbers_same c.in_ok-graph.graph paths (edges_same (its_givens earlier) paths c.in_ok-graph.graph same) 1 (its_givens earlier) ∙
     ap (numbers_from paths 1) (sym (same_givens earlier c.args.earlier.now.givens (sym c.requires.begins.left.givens)))
