@@ -14,15 +14,16 @@ ghost use Rattle.result_text.specs.declared.file.ResultFile.{ResultFile as File}
 ghost use Rattle.result_rules.specs.File.{its_paths, its_walks};
 ghost use Rattle.path_table.specs.Rows.{row_paths};
 ghost use Rattle.resume.specs.Earlier.{BeginsWithPathsOf, BeginsWithEarlier, IsRestOf};
-ghost use Rattle.rel_infer.specs.Finding.{AreInferredIn, LostBehind};
-ghost use Rattle.rel_infer.specs.GivenResults.{max_givens, IsResultWith, PeerEitherWayWith, LeaveNoneOutWith};
+ghost use Rattle.inference.specs.Finding.{AreInferredIn, LostBehind};
+ghost use Rattle.rel_infer.specs.GivenResults.{IsResultWith};
+ghost use Rattle.inference.specs.GivenInference.{max_givens, PeerEitherWayWith, LeaveNoneOutWith};
 ghost use Rattle.rel_infer.specs.Resumed.{Continues, IsInferredOnTop};
-ghost use Rattle.rel_infer.specs.Returns.{IsUnlinked};
+ghost use Rattle.inference.specs.Returns.{IsUnlinked};
 
-use crate::inferring::{Inferred, inferred_by, relinked_if_given};
 use crate::result::{ResultHead, given_slice, result_by};
 use crate::taking_up::{KeptFirst, Started, started_in};
 use as_graph::AsGraph;
+use inference::{Inferred, inferred_by, relinked_if_given};
 use path_clean::{Asides, Sets};
 use path_select::{Selection, Selector, select_rest};
 use path_table::PathTable;
@@ -110,10 +111,24 @@ fn inferred_past(
     ensures inferred { IfOk result
         (AreInferredIn ratio graph.now (places_from count (length graph.now - count)) count selection.fates) }
 {
-    select_past(alloc, keys, graph, count, &mut selection)?;
+    match select_past(alloc, keys, graph, count, &mut selection) {
+        Ok(()) => {}
+        Err(NoMemory) => {
+            drop(selection);
+            return Err(NoMemory);
+        }
+    }
     let inferred = inferred_by(alloc, graph, selection, count, ratio)?;
-    *paths = graph.first_paths(alloc, count)?;
-    Ok(inferred)
+    match graph.first_paths(alloc, count) {
+        Ok(rows) => {
+            *paths = rows;
+            Ok(inferred)
+        }
+        Err(NoMemory) => {
+            drop(inferred);
+            Err(NoMemory)
+        }
+    }
 }
 
 // A selector that keeps these of the paths of a graph, none of which is offered.
@@ -160,9 +175,18 @@ fn inferred_on(
         (AreInferredIn ratio started.graph (places_from count (length started.graph - count)) count fates) }
 {
     let Started { graph, first } = started;
-    let selector = selector_of(alloc, keys, &graph, first)?;
+    let selector = match selector_of(alloc, keys, &graph, first) {
+        Ok(selector) => selector,
+        Err(NoMemory) => {
+            drop(graph);
+            drop(fates);
+            return Err(NoMemory);
+        }
+    };
     let selection = Selection { fates, selector };
-    inferred_past(alloc, keys, &graph, selection, count, ratio, paths)
+    let inferred = inferred_past(alloc, keys, &graph, selection, count, ratio, paths);
+    drop(graph);
+    inferred
 }
 
 // What is left of an earlier result; the lines of its edges are let go.
@@ -203,17 +227,33 @@ fn resumed_behind(
     ensures inferred { IfOk result
         (λ resumed. IsUnlinked (unwrap_or earlier.givens []) ratio paths.old earlier.fates numbers.new resumed.inferred) }
 {
-    let started = started_in(alloc, keys, paths, &earlier, numbers)?;
+    let started = match started_in(alloc, keys, paths, &earlier, numbers) {
+        Ok(started) => started,
+        Err(NoMemory) => {
+            drop(earlier);
+            return Err(NoMemory);
+        }
+    };
     // the lines of its edges are let go before the clauses of its kept paths are made
     let parts = parts_of(earlier);
     let count = paths.len();
     *paths = Rows::new(alloc);
-    let inferred = inferred_on(alloc, keys, started, parts.fates, count, ratio, paths)?;
-    Ok(Resumed {
-        sets: parts.sets,
-        givens: parts.givens,
-        inferred,
-    })
+    let EarlierParts {
+        sets,
+        givens,
+        fates,
+    } = parts;
+    match inferred_on(alloc, keys, started, fates, count, ratio, paths) {
+        Ok(inferred) => Ok(Resumed {
+            sets,
+            givens,
+            inferred,
+        }),
+        Err(NoMemory) => {
+            drop(givens);
+            Err(NoMemory)
+        }
+    }
 }
 
 // What is inferred from distinct paths, of which the first are those of an earlier result.

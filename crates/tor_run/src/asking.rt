@@ -8,7 +8,7 @@ ghost use Rattle.tor_run.specs.Sampling.{BySource, IfSample, known_by, known_in}
 ghost use Rattle.run_base.specs.Reading.{nothing};
 ghost use Rattle.tor_run.specs.Accepting.{AreSound};
 ghost use Rattle.tor_run.specs.First.{Nothing, first_in};
-ghost use Rattle.rel_infer.specs.GivenResults.{max_givens};
+ghost use Rattle.inference.specs.GivenInference.{max_givens};
 ghost use Rattle.tor_run.specs.Seen.{Outcome, ComesOfSome, IsSeenOfSome, seen_in};
 ghost use Rattle.tor_run.specs.Output.{IsOutput, IsOutputIn, IsOutputOf, IsAsked, IsOfSome};
 ghost use Rattle.rel_infer.specs.SelfAcceptance.{AreTableRows};

@@ -5,23 +5,23 @@ use Rattle.relationships.specs.Evidence.{paths_of}
 use Rattle.relationships.specs.Checking.{kept_of}
 use Rattle.as_graph.specs.Paths.{paths_at}
 use Rattle.path_select.specs.Behind.{places_from}
-use Rattle.rel_infer.specs.Finding.{AreInferredIn}
-use Rattle.rel_infer.proofs.KeptPlaces.{counted_paths, places_many}
+use Rattle.inference.specs.Finding.{AreInferredIn}
+use Rattle.inference.proofs.KeptPlaces.{counted_paths, places_many}
 use Rattle.rel_infer.proofs.resuming.inferred_past.Goals as goal
 
-pub returns-clause-inferred : goal.returns-clause-inferred
-returns-clause-inferred c =
+pub returns-in-Ok-first_paths-clause-inferred : goal.returns-in-Ok-first_paths-clause-inferred
+returns-in-Ok-first_paths-clause-inferred c =
     let graph = c.args.graph.now in
     let count = c.args.count in
     let some = take count graph in
     let new = c.select_past.new.selection in
     let walks = map walk_of new.fates in
     let all = new.selector.formula.paths in
-    let same = c.in_ok-select_past.ensures.kept in
+    let same = c.in-Ok.ensures.kept in
     let rows = length graph - count in
     let first = places_from count rows in
     let real = drop rows all in
-    let h = c.in_ok-select_past.ensures in
+    let h = c.in-Ok.ensures in
     let i = c.in_ok-inferred.inferred in
     let is = c.in_ok-inferred.ensures in
     subst (λ (fs : List Fate). AreInferredIn c.args.ratio graph first count c.args.selection.fates (record { fates = fs; found = i.found })) (sym is.0)

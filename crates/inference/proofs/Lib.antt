@@ -1,0 +1,10 @@
+pub mod Joined
+pub mod KeptEdges
+pub mod KeptPlaces
+pub mod Labels
+pub mod LineLemmas
+pub mod Linking
+pub mod LinksLeft
+pub mod Relinked
+pub mod ReturnRows
+pub mod Together
