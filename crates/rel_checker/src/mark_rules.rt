@@ -1,6 +1,6 @@
 //! Rule 9: each mark is borne out, and each open line serves for an edge.
 
-ghost use Rattle.std.specs.Prelude.{◌≡◌, length, IfOk};
+ghost use Rattle.std.specs.Prelude.{◌≡◌, ◌+◌, ◌<◌, length, option_map, IfOk, IfSome};
 ghost use Rattle.result_rules.specs.File.{its_edges, its_paths, its_probes, HasFewLines};
 ghost use Rattle.result_rules.specs.declared.rule.Rule.{Rule};
 ghost use Rattle.result_rules.specs.Rules.{IsMet};
@@ -75,8 +75,17 @@ fn find_by_cover(
         return Ok(Some(place));
     }
     let useless = find_useless(alloc, file, table, flips, cover.idle)?;
-    match useless {
-        Some(place) => Ok(Some(file.edges.len() + place)),
-        None => Ok(None),
+    Ok(behind_edges(file, useless))
+}
+
+/// The place of an open line among the lines with marks, where the open lines stand behind the edge lines; none where there is none.
+fn behind_edges(file: &ResultFile, open_line: Option<usize>) -> Option<usize>
+    requires lines { HasFewLines file.now }
+    requires inside { IfSome open_line (λ k. k < length file.now.probes) }
+    ensures { result ≡ option_map (λ k. length file.now.edges + k) open_line }
+{
+    match open_line {
+        Some(place) => Some(file.edges.len() + place),
+        None => None,
     }
 }

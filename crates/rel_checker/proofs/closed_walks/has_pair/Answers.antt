@@ -1,7 +1,7 @@
 use Rattle.std.proofs.Common.{◌≡◌, ◌+◌, ◌-◌, get_or, refl, ap, ◌∙◌, arith}
 use Rattle.std.proofs.lemmas.Bool.{false≢true}
 use Rattle.rel_checker.proofs.ComingBacks.{HasPair-from_index, index-from_HasPair}
-use Rattle.rel_checker.proofs.closed_has_pair.Goals as goal
+use Rattle.rel_checker.proofs.closed_walks.has_pair.Goals as goal
 
 pub returns-then-ases-at-2 : goal.returns-then-ases-at-2
 returns-then-ases-at-2 c =

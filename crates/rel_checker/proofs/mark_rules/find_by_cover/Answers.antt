@@ -1,7 +1,8 @@
-use Rattle.std.proofs.Common.{◌≡◌, ◌+◌, ◌^◌, length, ap, subst, refl, arith}
-use Rattle.line_rules.specs.Breaches.{First}
+use Rattle.std.proofs.Common.{length, sym, subst}
+use Rattle.line_rules.specs.Breaches.{First, FindsBreach}
 use Rattle.open_lines.specs.Serving.{MarkedAt, ServesAt}
-use Rattle.rel_checker.proofs.MarkedLines.{none_breaks, edge_breaks, open_breaks}
+use Rattle.result_rules.specs.declared.rule.Rule.TheVariants.{MarksBorneOut}
+use Rattle.rel_checker.proofs.MarkedLines.{edge_breaks, first_breaks, inside_opens}
 use Rattle.rel_checker.proofs.mark_rules.find_by_cover.Goals as goal
 
 pub returns-in-Some : goal.returns-in-Some
@@ -9,22 +10,13 @@ returns-in-Some c =
     let file = c.args.file.now in
     edge_breaks file c.in-Some.place (subst (First (MarkedAt file) (length file.edges)) c.in-Some.is c.in_ok-place.ensures)
 
-pub overflow_add-result : goal.overflow_add-result
-overflow_add-result c =
+pub behind_edges-requires-clause-inside : goal.behind_edges-requires-clause-inside
+behind_edges-requires-clause-inside c =
     let file = c.args.file.now in
-    let opens = subst (First (ServesAt file) (length file.probes)) c.in-Some-2.is c.in_ok-useless.ensures in
-    let e : 2 ^ 40 ≡ 1099511627776 = refl in
-    omega (arith, opens.0, c.requires.lines, c.len.ensures, e)
+    inside_opens (ServesAt file) (length file.probes) c.in_ok-useless.useless c.in_ok-useless.ensures
 
-pub returns-in-Some-2 : goal.returns-in-Some-2
-returns-in-Some-2 c =
+pub returns : goal.returns
+returns c =
     let file = c.args.file.now in
     let edges = subst (First (MarkedAt file) (length file.edges)) c.in_default.is c.in_ok-place.ensures in
-    let opens = subst (First (ServesAt file) (length file.probes)) c.in-Some-2.is c.in_ok-useless.ensures in
-    open_breaks file (c.len.result + c.in-Some-2.place) c.in-Some-2.place (ap (λ n. n + c.in-Some-2.place) c.len.ensures) edges opens
-
-pub returns-in-None : goal.returns-in-None
-returns-in-None c =
-    let file = c.args.file.now in
-    none_breaks file (subst (First (MarkedAt file) (length file.edges)) c.in_default.is c.in_ok-place.ensures)
-    (subst (First (ServesAt file) (length file.probes)) c.in-None.is c.in_ok-useless.ensures)
+    subst (FindsBreach file MarksBorneOut) (sym c.behind_edges.ensures) (first_breaks file c.in_ok-useless.useless edges c.in_ok-useless.ensures)
