@@ -11,7 +11,7 @@ use Rattle.result_text.specs.declared.file.PathLine.{PathLine}
 use Rattle.result_text.specs.declared.file.ResultFile.{ResultFile}
 use Rattle.relationships.specs.Fates.{walk_of}
 use Rattle.result_rules.specs.File.{its_givens, kept_before}
-use Rattle.rel_checker.specs.Naming.{nameable}
+use Rattle.line_rules.specs.Naming.{nameable}
 use Rattle.result_rules.specs.declared.rule.Rule.TheVariants.{LostRefuted}
 use Rattle.result_rules.specs.Rules.{Asks}
 

@@ -8,7 +8,7 @@ use Rattle.result_rules.specs.declared.rule.Rule.TheVariants.{TotalsRight}
 use Rattle.result_rules.specs.Rules.{rule_number, line_for, IsMet, Accepts, BreaksFirst, IsRefused}
 use Rattle.rel_checker.specs.Steps.{MetUpTo}
 use Rattle.result_rules.specs.Judging.{Judges}
-use Rattle.rel_checker.specs.Steps.{FindsBreach}
+use Rattle.line_rules.specs.Breaches.{FindsBreach}
 use Rattle.result_rules.specs.declared.verdict.Verdict.{Verdict}
 use Rattle.result_rules.specs.declared.verdict.Verdict.TheVariants.{No}
 

@@ -1,14 +1,2 @@
-pub mod Batches
 pub mod ComingBack
-pub mod Flipping
-pub mod GivenHeads
-pub mod GivenLabels
-pub mod Naming
-pub mod Neighbours
-pub mod PathSteps
-pub mod Searching
-pub mod Serving
-pub mod Showing
 pub mod Steps
-pub mod Tables
-pub mod Testing

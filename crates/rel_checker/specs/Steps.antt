@@ -3,7 +3,7 @@ use Rattle.std.specs.Prelude.{◌≡◌, ℕ, ◌<◌, ◌≤◌, List, Option, 
 use Rattle.result_text.specs.declared.file.ResultFile.{ResultFile}
 use Rattle.result_rules.specs.declared.verdict.Verdict.{Verdict}
 use Rattle.result_rules.specs.declared.rule.Rule.{Rule}
-use Rattle.result_rules.specs.Rules.{rule_number, IsMet, BreaksFirst}
+use Rattle.result_rules.specs.Rules.{rule_number, IsMet}
 use Rattle.result_rules.specs.Judging.{Judges}
 
 -- the rules up to this number are met
@@ -14,11 +14,6 @@ MetUpTo file n = (rule : Rule) → rule_number rule ≤ n → IsMet file rule
 abbrev pub IsDecidedUpTo : ResultFile → ℕ → Option Verdict → Type 0
 IsDecidedUpTo file n None = MetUpTo file n
 IsDecidedUpTo file n (Some verdict) = Judges file verdict
-
--- the place of the first line that breaks the rule, or none where it is met
-abbrev pub FindsBreach : ResultFile → Rule → Option ℕ → Type 0
-FindsBreach file rule None = IsMet file rule
-FindsBreach file rule (Some k) = BreaksFirst file rule k
 
 -- the two lists differ first in this place
 pub record Differs {X : Type 0} (xs ys : List X) (k : ℕ) : Type 0 where

@@ -4,8 +4,8 @@ ghost use Rattle.result_rules.specs.File.{its_givens, most_lines};
 ghost use Rattle.result_rules.specs.Against.{in_order, its_rows, JudgesAgainst};
 ghost use Rattle.rel_checker.specs.Steps.{Differs};
 
-use crate::lending::path_line_at;
 use crate::line_numbers::path_line;
+use line_rules::path_line_at;
 use path_clean::{Asides, Cause};
 use path_table::PathTable;
 use result_rules::Verdict;

@@ -2,20 +2,19 @@
 ghost use Rattle.std.specs.Prelude.{◌≡◌, Some, IfOk};
 ghost use Rattle.relationships.specs.Graph.{edges};
 ghost use Rattle.result_rules.specs.File.{its_paths, HasFewLines};
-ghost use Rattle.rel_checker.specs.PathSteps.{HaveCodedSteps};
+ghost use Rattle.line_rules.specs.PathSteps.{HaveCodedSteps};
 ghost use Rattle.result_rules.specs.Rules.{rule_number};
 ghost use Rattle.rel_checker.specs.Steps.{MetUpTo, IsDecidedUpTo};
 ghost use Rattle.result_rules.specs.Valid.{Valid};
 ghost use Rattle.result_rules.specs.Judging.{Judges};
 
-use crate::edges::edge_rules::{find_miscounted, find_unlisted, find_valley, list_edges};
-use crate::edges::labels::Labels;
-use crate::edges::step::Step;
-use crate::givens::find_unsound_given;
 use crate::line_numbers::{edge_line, given_line, last_line, mark_line, path_line, why_line};
-use crate::marks::mark_rules::find_unmarked;
-use crate::paths::{find_repeated, find_unclean};
-use crate::walks::walk_rules::{find_unrefuted, find_unshown};
+use crate::mark_rules::find_unmarked;
+use crate::walk_rules::find_unrefuted;
+use line_rules::{
+    Labels, Step, find_miscounted, find_repeated, find_unclean, find_unlisted, find_unshown,
+    find_unsound_given, find_valley, list_edges,
+};
 use result_rules::{Rule, Verdict, right_totals};
 use result_text::ResultFile;
 use std::alloc::Global;

@@ -1,16 +1,14 @@
-//! The checker of results: whether a result file, whoever wrote it, meets the rules. `checking` goes through rules 1 to 10 in order, by
-//! what is in `paths` (rules 2 and 3), `walks` (4 and 8), `edges` (5 to 7) and `marks` (9); `against` is rule 11.
+//! The checker of results: whether a result file, whoever wrote it, meets the rules. `checking` goes through rules 1 to 10 in order:
+//! those that ask of no open line stand in `line_rules`, but for rule 4, which is in `walk_rules`; `mark_rules` is rule 9, by what
+//! `open_lines` finds; `against` is rule 11.
 #![tactic(auto)]
 
 mod against;
 mod checking;
-mod edges;
-mod givens;
-mod lending;
+mod closed_walks;
 mod line_numbers;
-mod marks;
-mod paths;
-mod walks;
+mod mark_rules;
+mod walk_rules;
 
 pub use against::check_against;
 pub use checking::check_file;

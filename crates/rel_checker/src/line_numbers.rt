@@ -7,7 +7,7 @@ ghost use Rattle.result_rules.specs.File.{its_givens, most_lines, HasFewLines};
 ghost use Rattle.result_rules.specs.declared.rule.Rule.TheVariants.{MarksBorneOut};
 ghost use Rattle.result_rules.specs.Rules.{line_for};
 
-use crate::lending::givens_of;
+use line_rules::givens_of;
 use result_text::ResultFile;
 
 /// Ten lines stand before the givens of every file.

@@ -1,7 +1,7 @@
 use Rattle.std.proofs.Common.{refl, sym, arith, subst, ◌∙◌}
 use Rattle.result_rules.specs.declared.rule.Rule.TheVariants.{PathsCleaned, EdgesListed, LabelsServe, OrdersShown, MarksBorneOut}
 use Rattle.result_rules.specs.File.{its_paths}
-use Rattle.rel_checker.specs.PathSteps.{HaveCodedSteps}
+use Rattle.line_rules.specs.PathSteps.{HaveCodedSteps}
 use Rattle.result_rules.proofs.Accepted.{edges_listed}
 use Rattle.rel_checker.proofs.Settling.{next_met, judged, refused, found_none, found_some}
 use Rattle.rel_checker.proofs.checking.check_evidence.Goals as goal

@@ -1,6 +1,6 @@
 use Rattle.std.proofs.Common.{suc, refl, arith}
 use Rattle.result_rules.specs.declared.rule.Rule.TheVariants.{HeadSound}
-use Rattle.rel_checker.proofs.GivenFirsts.{ratio_breaks, given_breaks, head_met}
+use Rattle.line_rules.proofs.GivenFirsts.{ratio_breaks, given_breaks, head_met}
 use Rattle.rel_checker.proofs.Settling.{none_met, next_met, judged, refused}
 use Rattle.rel_checker.proofs.checking.check_head.Goals as goal
 

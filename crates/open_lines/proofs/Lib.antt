@@ -1,0 +1,20 @@
+pub mod Borne
+pub mod Buildings
+pub mod Carrying
+pub mod Climbing
+pub mod Consistencies
+pub mod Firsts
+pub mod Flippings
+pub mod KeptLines
+pub mod Noting
+pub mod OrderPlaces
+pub mod Returns
+pub mod Rounds
+pub mod RuledOut
+pub mod Servings
+pub mod Settled
+pub mod Showings
+pub mod TestingLemmas
+pub mod TurnedRows
+pub mod Turning
+mod Vectors

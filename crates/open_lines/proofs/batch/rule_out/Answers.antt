@@ -1,0 +1,20 @@
+use Rattle.std.proofs.Common.{◌≡◌, ◌+◌, ℕ, List, take, subst, Contains}
+use Rattle.std.proofs.lemmas.List.Elements.{Contains-push_cases}
+use Rattle.tor_arena.proofs.Gets.{take_item, Contains-none}
+use Rattle.open_lines.proofs.RuledOut.{ruled-none, ruled-one, ruled-more}
+use Rattle.open_lines.proofs.batch.rule_out.Goals as goal
+
+pub loop-edge-init : goal.loop-edge-init
+loop-edge-init c =
+    ruled-none c.args.implying.now c.args.round (Contains (take 0 c.args.row.now)) c.args.ruled.now.items c.requires.closed c.requires.latest (λ k h. Contains-none k h)
+
+pub loop-edge-preserved : goal.loop-edge-preserved
+loop-edge-preserved c =
+    let implying = c.args.implying.now in
+    let row = c.args.row.now in
+    let i = c.loop-edge.edge-index in
+    let edge = c.edge-item.result in
+    let so_far = c.loop-edge.invariant in
+    ruled-more implying c.args.round (Contains (take i row)) (λ k. edge ≡ k) (Contains (take (i + 1) row)) c.args.ruled.now.items c.loop-edge.ruled.items c.reach.new.rounds.items
+    so_far (ruled-one implying c.args.round edge c.loop-edge.ruled.items c.reach.new.rounds.items c.reach.new.found so_far.closed so_far.latest c.in_ok-reach.ensures)
+    (λ k h. Contains-push_cases (take i row) edge k (subst (λ (l : List ℕ). Contains l k) (take_item row i edge c.loop-edge-test.true c.edge-item.is) h))

@@ -1,0 +1,20 @@
+use Rattle.std.proofs.Common.{rules, ◌<◌, List, ℕ, length, subst, arith}
+use Rattle.open_lines.specs.Testing.{AreTried}
+use Rattle.open_lines.proofs.TestingLemmas.{way_begins, way_tried}
+use Rattle.open_lines.proofs.consistency.Testing.try_all.Goals as goal
+
+pub loop-alloc-init : goal.loop-alloc-init
+loop-alloc-init c =
+    let places = c.in_ok-waiting.ensures in
+    way_begins c.args.file.now c.args.flips.now.implied c.args.end c.args.self.now c.in_ok-waiting.waiting c.requires.end c.requires.batch c.requires.round c.requires.failing
+    places.many places.inside places.all
+
+pub loop-alloc-preserved : goal.loop-alloc-preserved
+loop-alloc-preserved c =
+    let file = c.args.file.now in
+    let implied = c.args.flips.now.implied in
+    let waiting = c.loop-alloc.waiting in
+    let left = c.in_ok-left.left in
+    let tried = subst (λ (l : List ℕ). AreTried file implied l c.loop-alloc.self c.try_batch.new.self left) c.as_slice.ensures c.in_ok-left.ensures in
+    let less : length left < length waiting = search rules in
+    way_tried file implied c.args.end 1 1 c.args.self.now.failing c.loop-alloc.self c.try_batch.new.self waiting left c.loop-alloc.invariant tried (omega (arith, less))

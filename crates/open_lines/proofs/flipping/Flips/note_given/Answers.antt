@@ -1,0 +1,22 @@
+use Rattle.std.proofs.Common.{◌∙◌, sym, subst}
+use Rattle.std.proofs.lemmas.Result.{on_ok_weaker}
+use Rattle.relationships.specs.Evidence.{IsTriple}
+use Rattle.open_lines.specs.Flipping.{flipped_orders, IsBuilt}
+use Rattle.line_rules.specs.EdgeLines.{edges_of}
+use Rattle.open_lines.proofs.Returns.{return_there, return_steps}
+use Rattle.open_lines.proofs.flipping.Flips.note_given.Goals as goal
+
+pub note_path-requires-clause-steps : goal.note_path-requires-clause-steps
+note_path-requires-clause-steps c =
+    return_steps (edges_of c.args.labels.now) c.args.given.now c.in-Some.place c.new-up.result c.new-down.result (rw c.requires.table at c.in-Some.ensures.found) c.new-up.ensures.place
+    (c.new-up.ensures.left ∙ c.end_left.ensures) c.new-down.ensures.place (c.new-down.ensures.left ∙ c.end_left-2.ensures)
+
+pub returns-clause-built : goal.returns-clause-built
+returns-clause-built c =
+    let lines = c.args.labels.now in
+    let self = c.note_path.new.self in
+    let at = rw c.requires.table at c.in-Some.ensures.found in
+    on_ok_weaker c.note_path.result
+    (λ built paths b. subst (λ ps. IsBuilt (flipped_orders lines) (IsTriple ps) self.implied self.conflicting)
+    (sym (return_there (edges_of lines) paths c.args.given.now c.in-Some.place at)) (built paths b))
+    c.note_path.ensures.built

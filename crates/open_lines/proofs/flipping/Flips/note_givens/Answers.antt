@@ -1,0 +1,22 @@
+use Rattle.std.proofs.Common.{take, sym, ap, ◌∙◌, subst}
+use Rattle.std.proofs.lemmas.Option.{slice_get-get_or}
+use Rattle.relationships.specs.Evidence.{IsTriple}
+use Rattle.open_lines.specs.Flipping.{flipped_orders, IsBuilt, returns_on}
+use Rattle.line_rules.specs.EdgeLines.{edges_of}
+use Rattle.tor_arena.proofs.Gets.{take_get}
+use Rattle.open_lines.proofs.Returns.{returns_more}
+use Rattle.open_lines.proofs.flipping.Flips.note_givens.Goals as goal
+
+pub loop-given-preserved : goal.loop-given-preserved
+loop-given-preserved c =
+    let lines = c.args.labels.now in
+    let es = edges_of lines in
+    let givens = c.args.givens.now in
+    let i = c.loop-given.given-index in
+    let self = c.note_given.new.self in
+    let taken = take_get givens i _ (slice_get-get_or givens i _ c.loop-given-test.true) in
+    record {
+      built = subst (λ ps. IsBuilt (flipped_orders lines) (IsTriple ps) self.implied self.conflicting) (sym (ap (returns_on es) taken ∙ returns_more es (take i givens) _))
+          (c.in_ok-note_given.ensures.built (returns_on es (take i givens)) c.loop-given.invariant.built);
+      noted = c.in_ok-note_given.ensures.noted;
+    }

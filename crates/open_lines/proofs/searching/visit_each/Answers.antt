@@ -1,0 +1,12 @@
+use Rattle.std.proofs.Common.{[], ◌∷◌, take}
+use Rattle.tor_arena.proofs.Gets.{take_item}
+use Rattle.open_lines.proofs.Rounds.{rounds-more}
+use Rattle.open_lines.proofs.searching.visit_each.Goals as goal
+
+pub loop-edge-preserved : goal.loop-edge-preserved
+loop-edge-preserved c =
+    let row = c.args.row.now in
+    let i = c.loop-edge.edge-index in
+    rw (take_item row i c.edge-item.result c.loop-edge-test.true c.edge-item.is)
+    (rounds-more c.args.round (take i row) (c.edge-item.result ∷ []) c.args.rounds.now.items c.loop-edge.rounds.items c.visit.new.rounds.items c.args.found.now c.loop-edge.found c.visit.new.found
+    c.loop-edge.invariant c.in_ok-visit.ensures)

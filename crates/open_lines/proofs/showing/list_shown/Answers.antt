@@ -1,0 +1,26 @@
+use Rattle.std.proofs.Common.{◌≤◌, take, length, subst, sym, ap, ◌∙◌, arith}
+use Rattle.std.proofs.lemmas.List.{take_all}
+use Rattle.result_rules.specs.File.{shown_orders}
+use Rattle.open_lines.specs.Serving.{IsShownBy}
+use Rattle.tor_arena.proofs.Gets.{take_get}
+use Rattle.open_lines.proofs.Showings.{orders_more}
+use Rattle.open_lines.proofs.showing.list_shown.Goals as goal
+
+pub loop-place-preserved : goal.loop-place-preserved
+loop-place-preserved c =
+    let file = c.args.file.now in
+    let i = c.loop-place.place in
+    let item = c.walk_at-walk.ensures in
+    let shown = rw c.as_slice.ensures at c.show_last.ensures.shown in
+    record {
+      many = c.show_last.ensures.many ∙ ap length c.as_slice.ensures;
+      shown = subst (λ l. IsShownBy file.edges l c.show_last.new.shown.items) (sym (ap shown_orders (take_get file.whys i c.walk_at-walk.result item)
+          ∙ orders_more (take i file.whys) c.walk_at-walk.result))
+          (shown (shown_orders (take i file.whys)) c.loop-place.invariant.shown);
+    }
+
+pub returns-clause-shown : goal.returns-clause-shown
+returns-clause-shown c =
+    let file = c.args.file.now in
+    let all : length file.whys ≤ c.loop-place.place = omega (arith, c.loop-place-test.false, c.len-place-end.ensures.length) in
+    subst (λ l. IsShownBy file.edges (shown_orders l) c.loop-place.shown.items) (take_all c.loop-place.place file.whys all) c.loop-place.invariant.shown

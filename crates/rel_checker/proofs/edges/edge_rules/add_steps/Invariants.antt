@@ -1,5 +1,0 @@
-use Rattle.rel_checker.proofs.StepLemmas.{Walked}
-use Rattle.rel_checker.proofs.edges.edge_rules.add_steps.Given as goal
-
-abbrev pub invariant-loop-at : goal.invariant-loop-at
-invariant-loop-at l = Walked l.fn.table l.table l.path l.at l.steps

@@ -1,7 +1,0 @@
-use Rattle.std.proofs.Common.{length, take}
-use Rattle.rel_checker.specs.GivenLabels.{HasLabelsAt}
-use Rattle.rel_checker.specs.Serving.{First}
-use Rattle.rel_checker.proofs.edges.given_labels.find_contradicted.Given as goal
-
-abbrev pub invariant-loop-given : goal.invariant-loop-given
-invariant-loop-given l = First (HasLabelsAt l.labels (take l.given-index l.givens)) (length l.labels) l.first

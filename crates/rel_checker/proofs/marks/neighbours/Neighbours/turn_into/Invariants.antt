@@ -1,5 +1,0 @@
-use Rattle.rel_checker.proofs.TurnedRows.{IsTurnedTo}
-use Rattle.rel_checker.proofs.marks.neighbours.Neighbours.turn_into.Given as goal
-
-abbrev pub invariant-loop-place : goal.invariant-loop-place
-invariant-loop-place l = IsTurnedTo l.self l.place l.turned

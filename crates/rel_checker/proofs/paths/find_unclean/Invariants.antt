@@ -1,5 +1,0 @@
-use Rattle.rel_checker.proofs.Soundness.{AreSound}
-use Rattle.rel_checker.proofs.paths.find_unclean.Given as goal
-
-abbrev pub invariant-loop-place : goal.invariant-loop-place
-invariant-loop-place l = AreSound l.file l.place l.numbers
