@@ -1,4 +1,3 @@
-pub mod Chains
 pub mod Decided
 pub mod DownLemmas
 pub mod EitherLemmas

@@ -20,7 +20,8 @@ use Rattle.result_text.specs.declared.file.ResultFile.{ResultFile}
 use Rattle.result_text.specs.Text.{line_text}
 use Rattle.telling.specs.declared.told.Going.TheVariants as going
 use Rattle.telling.specs.declared.told.Told.TheVariants as told
-use Rattle.telling.specs.ToldText.{told_text, end_text}
+use Rattle.why_lines.specs.WalkText.{end_text}
+use Rattle.telling.specs.ToldText.{told_text}
 
 abbrev kept : Numbered
 kept = (1, 30 ∷ 40 ∷ 20 ∷ 10 ∷ 50 ∷ 60 ∷ []) ∷ (2, 10 ∷ 20 ∷ 30 ∷ 40 ∷ []) ∷ []

@@ -1,14 +1,11 @@
 -- What is told of an edge and of a path of a result that meets all rules.
-use Rattle.std.specs.Prelude.{◌≡◌, ℕ, ◌+◌, ◌<◌, List, ◌++◌, ◌∷◌, [], length, map, Option, Some, None, All, Contains}
-use Rattle.std.specs.Prelude.{slice_get, slice_index_or}
-use Rattle.std.specs.List.Sorted.{IsStrictlyIncreasing}
+use Rattle.std.specs.Prelude.{◌≡◌, ℕ, ◌+◌, ◌<◌, List, ◌++◌, ◌∷◌, [], length, map, Option, Some, None, Contains, slice_get}
 use Rattle.relationships.specs.declared.label.Label.TheVariants as label
 use Rattle.relationships.specs.declared.mark.Mark.TheVariants as mark
 use Rattle.relationships.specs.declared.fate.Fate.TheVariants as fate
 use Rattle.relationships.specs.declared.walk.Walk.{Walk}
 use Rattle.relationships.specs.Relationship.{Slope, Up, Down, Flat, slopes}
 use Rattle.relationships.specs.Graph.{Edge, edge_of}
-use Rattle.relationships.specs.Flat.{walk_with}
 use Rattle.relationships.specs.Evidence.{paths_of}
 use Rattle.relationships.specs.GivenEvidence.{RefutesWith}
 use Rattle.relationships.specs.Checking.{OtherOrder}
@@ -22,7 +19,8 @@ use Rattle.telling.specs.declared.told.Told.{Told}
 use Rattle.telling.specs.declared.told.Going.TheVariants as going
 use Rattle.telling.specs.declared.told.Question.TheVariants as question
 use Rattle.telling.specs.declared.told.Told.TheVariants as told
-use Rattle.relationships.specs.Telling.{Leads, Prove, CanBeEither}
+use Rattle.relationships.specs.Telling.{Leads, CanBeEither}
+use Rattle.why_lines.specs.Proving.{HasOrder, ProveTogether}
 
 -- ---- edges
 
@@ -34,23 +32,9 @@ edge_on line = (line.low, line.high)
 abbrev pub IsLineOf : ResultFile → (one other : ℕ) → EdgeLine → Type 0
 IsLineOf file one other line = Contains file.edges line × (edge_on line ≡ edge_of one other)
 
--- the order that the label has, the provider first: the opposite of the one against it
-abbrev pub HasOrder : EdgeLine → (over under : ℕ) → Type 0
-HasOrder line over under = OtherOrder (claim_on line) under over
-
 -- the order against the label
 abbrev pub IsAgainst : EdgeLine → (over under : ℕ) → Type 0
 IsAgainst line over under = OtherOrder (claim_on line) over under
-
--- the walks of the why lines in these places, from 0
-abbrev pub whys_at : ResultFile → List ℕ → List Walk
-whys_at file places = map (λ k. slice_index_or file.whys k (walk_with [] [])) places
-
--- the why lines in these places, each once and in the order of the file, prove "over over under" by the givens over the kept paths
-pub record ProveTogether (file : ResultFile) (whys : List ℕ) (over under : ℕ) : Type 0 where
-  pub there : All (λ k. k < length file.whys) whys
-  pub in_order : IsStrictlyIncreasing whys
-  pub proved : Prove (its_givens file) (its_kept file) (whys_at file whys) over under
 
 -- the edge is forced, and the why lines prove the order of its label
 pub record IsProved (file : ResultFile) (line : EdgeLine) (whys : List ℕ) : Type 0 where

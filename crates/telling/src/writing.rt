@@ -10,36 +10,43 @@ ghost use Rattle.result_text.specs.Text.{label_name, mark_name};
 ghost use Rattle.telling.specs.ToldText.{why_at, whys_text, edge_row, free_row, path_row, lost_text};
 ghost use Rattle.telling.specs.ToldText.{going_name, going_row, goings_text, kept_text, told_text};
 
-use crate::numbers::{put_numbers, put_pair, put_u32_behind};
-use crate::steps::{put_begin, put_steps, put_why};
 use crate::told::{Going, Told};
 use relationships::{Label, Mark};
 use result_text::{EdgeLine, PathLineRef, ResultFile};
 use tor_arena::{Index, PathId, WalkId};
 use tor_io::{Buffer, Failed, Outflow, Sink};
+use why_lines::{put_begin, put_numbers, put_pair, put_steps, put_u32_behind, put_why};
 
-// Each function puts something behind what waits for the sink, lines with their line feed.
-
-fn put_label<S: Sink>(out: &mut S, flow: &mut Outflow<'_>, label: Label)
-    ensures { Puts (state (S.held out.old) (S.faults out.old) flow.old) (state (S.held out.new) (S.faults out.new) flow.new)
-        (label_name label) }
+fn label_word(label: Label) -> &'static [u8]
+    ensures { result.now ≡ label_name label }
 {
     match label {
-        Label::Low => flow.put(out, b"low"),
-        Label::High => flow.put(out, b"high"),
-        Label::Peer => flow.put(out, b"peer"),
+        Label::Low => b"low",
+        Label::High => b"high",
+        Label::Peer => b"peer",
     }
 }
 
-fn put_mark<S: Sink>(out: &mut S, flow: &mut Outflow<'_>, mark: Mark)
-    ensures { Puts (state (S.held out.old) (S.faults out.old) flow.old) (state (S.held out.new) (S.faults out.new) flow.new)
-        (mark_name mark) }
+fn mark_word(mark: Mark) -> &'static [u8]
+    ensures { result.now ≡ mark_name mark }
 {
     match mark {
-        Mark::Forced => flow.put(out, b"forced"),
-        Mark::Open => flow.put(out, b"open"),
+        Mark::Forced => b"forced",
+        Mark::Open => b"open",
     }
 }
+
+fn going_word(going: Going) -> &'static [u8]
+    ensures { result.now ≡ going_name going }
+{
+    match going {
+        Going::Up => b"up",
+        Going::Down => b"down",
+        Going::Flat => b"flat",
+    }
+}
+
+// Each of these puts something behind what waits for the sink, lines with their line feed.
 
 fn put_edge<S: Sink>(out: &mut S, flow: &mut Outflow<'_>, line: &EdgeLine)
     ensures { Puts (state (S.held out.old) (S.faults out.old) flow.old) (state (S.held out.new) (S.faults out.new) flow.new)
@@ -49,9 +56,9 @@ fn put_edge<S: Sink>(out: &mut S, flow: &mut Outflow<'_>, line: &EdgeLine)
     put_u32_behind(out, flow, b'|', line.low);
     put_u32_behind(out, flow, b'|', line.high);
     flow.put_byte(out, b'|');
-    put_label(out, flow, line.label);
+    flow.put(out, label_word(line.label));
     flow.put_byte(out, b'|');
-    put_mark(out, flow, line.mark);
+    flow.put(out, mark_word(line.mark));
     flow.put_number_behind(out, b'|', line.support);
     flow.put_byte(out, b'\n');
 }
@@ -124,17 +131,6 @@ fn put_lost<S: Sink>(out: &mut S, flow: &mut Outflow<'_>, file: &ResultFile, lin
     }
 }
 
-fn put_going_name<S: Sink>(out: &mut S, flow: &mut Outflow<'_>, going: Going)
-    ensures { Puts (state (S.held out.old) (S.faults out.old) flow.old) (state (S.held out.new) (S.faults out.new) flow.new)
-        (going_name going) }
-{
-    match going {
-        Going::Up => flow.put(out, b"up"),
-        Going::Down => flow.put(out, b"down"),
-        Going::Flat => flow.put(out, b"flat"),
-    }
-}
-
 fn put_going<S: Sink>(out: &mut S, flow: &mut Outflow<'_>, from: u32, to: u32, going: Going)
     ensures { Puts (state (S.held out.old) (S.faults out.old) flow.old) (state (S.held out.new) (S.faults out.new) flow.new)
         (going_row from to going) }
@@ -143,7 +139,7 @@ fn put_going<S: Sink>(out: &mut S, flow: &mut Outflow<'_>, from: u32, to: u32, g
     put_u32_behind(out, flow, b'|', from);
     put_u32_behind(out, flow, b'|', to);
     flow.put_byte(out, b'|');
-    put_going_name(out, flow, going);
+    flow.put(out, going_word(going));
     flow.put_byte(out, b'\n');
 }
 

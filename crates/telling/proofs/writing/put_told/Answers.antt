@@ -1,6 +1,7 @@
 use Rattle.std.proofs.Common.{sym, ap, ap₂}
 use Rattle.tor_io.proofs.Putting.{puts_as, puts_then}
-use Rattle.telling.specs.ToldText.{whys_text, steps_text, told_text}
+use Rattle.why_lines.specs.WalkText.{steps_text}
+use Rattle.telling.specs.ToldText.{whys_text, told_text}
 use Rattle.telling.proofs.writing.put_told.Goals as goal
 
 pub returns-in-Forced : goal.returns-in-Forced
