@@ -11,25 +11,24 @@ ghost use Rattle.dump_read.specs.declared.taking.Taken.{Taken};
 ghost use Rattle.tor_words.specs.Given.{settings_given};
 ghost use Rattle.relationships.specs.declared.given.Given.{Given};
 ghost use Rattle.result_text.specs.declared.file.ResultFile.{ResultFile};
-ghost use Rattle.tor_run.specs.First.{NoFile, TooLong, BadLine, Broken};
-ghost use Rattle.tor_run.specs.Reach.{EndsInReach};
-ghost use Rattle.tor_run.specs.Sampling.{IfSample, known_by};
-ghost use Rattle.tor_run.specs.Seen.{Reads, Joins, Holds, Stops, Ends, Gives};
-ghost use Rattle.tor_run.specs.Answer.{IsNote, LeadsToBroken, LeadsToMalformed, LeadsToLimit, LeadsToAbsent};
+ghost use Rattle.tor_output.specs.First.{NoFile, TooLong, BadLine, Broken};
+ghost use Rattle.tor_output.specs.Reach.{EndsInReach};
+ghost use Rattle.tor_output.specs.Sampling.{IfSample, known_by};
+ghost use Rattle.tor_output.specs.Seen.{Reads, Joins, Holds, Stops, Ends, Gives};
+ghost use Rattle.tor_output.specs.Answer.{IsNote, LeadsToBroken, LeadsToMalformed, LeadsToLimit, LeadsToAbsent};
 ghost use Rattle.run_base.specs.Answers.{IsNoted};
-ghost use Rattle.tor_run.specs.Grading.{AsksForSerial, GainsGrading};
-ghost use Rattle.tor_run.specs.Output.{GainsOutput, GainsOutputPrefix, GainsSome, GainsSomePrefix};
-ghost use Rattle.tor_run.specs.Resuming.{AsksToResume, GainsResumed};
+ghost use Rattle.tor_output.specs.Grading.{AsksForSerial, GainsGrading};
+ghost use Rattle.tor_output.specs.Output.{GainsOutput, GainsOutputPrefix, GainsSome, GainsSomePrefix};
+ghost use Rattle.tor_output.specs.Resuming.{AsksToResume, GainsResumed};
 ghost use Rattle.run_base.specs.Answers.{note_in};
 ghost use Rattle.run_base.specs.Frames.{RunLeavesShelf, RunLeavesOut};
 
-use crate::asking::output_asked;
-use crate::unwritten::answer_to_unwritten;
 use result_text::one_value;
 use run_base::{Answer, Note, Status};
 use std::alloc::Global;
 use tor_arena::{Keys, List};
 use tor_io::{Failed, Shelf, Sink, write_all};
+use tor_output::{answer_to_unwritten, output_asked};
 use tor_words::{Name, bounds_law};
 
 // The run without its note: what it answers doesn't depend on where the note goes.

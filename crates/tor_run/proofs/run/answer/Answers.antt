@@ -1,6 +1,6 @@
-use Rattle.tor_run.specs.Sampling.{known_by}
-use Rattle.tor_run.proofs.Reaching.{answered}
-use Rattle.tor_run.proofs.Unwritings.{unwritten_note}
+use Rattle.tor_output.specs.Sampling.{known_by}
+use Rattle.tor_output.proofs.Reaching.{answered}
+use Rattle.tor_output.proofs.Unwritings.{unwritten_note}
 use Rattle.tor_run.proofs.run.answer.Goals as goal
 
 pub returns-in-Err-clause-reach : goal.returns-in-Err-clause-reach

@@ -2,19 +2,19 @@ use Rattle.std.proofs.Common.{◌∙◌, inl, inr, refl, ap, subst}
 use Rattle.std.proofs.lemmas.Option.{IfSome_then}
 use Rattle.std.specs.Io.KnownBytes.{append_known}
 use Rattle.tor_io.specs.Contents.{GainsPrefix}
-use Rattle.tor_run.specs.Answer.{IsNote}
-use Rattle.tor_run.specs.Output.{GainsOutput, GainsSome}
-use Rattle.tor_run.specs.Reach.{EndsInReach}
+use Rattle.tor_output.specs.Answer.{IsNote}
+use Rattle.tor_output.specs.Output.{GainsOutput, GainsSome}
+use Rattle.tor_output.specs.Reach.{EndsInReach}
 use Rattle.run_base.specs.Answers.{note_in}
-use Rattle.tor_run.specs.Sampling.{known_by}
+use Rattle.tor_output.specs.Sampling.{known_by}
 use Rattle.run_base.proofs.Prefixes.{all_if_quiet, either_way, noted, noted_if}
 use Rattle.run_base.proofs.Statuses.{not_text}
 use Rattle.dump_read.specs.Seen.{Absent, Malformed, Limit}
-use Rattle.tor_run.specs.First.{NoFile, TooLong, BadLine}
-use Rattle.tor_run.specs.Seen.{Reads, Joins, Holds, Stops, Ends}
-use Rattle.tor_run.proofs.Always.{always, always_broken, leads_absent, leads_broken, leads_limit, leads_malformed}
-use Rattle.tor_run.proofs.GradingLemmas.{gains_grading}
-use Rattle.tor_run.proofs.Resumings.{gains_resumed}
+use Rattle.tor_output.specs.First.{NoFile, TooLong, BadLine}
+use Rattle.tor_output.specs.Seen.{Reads, Joins, Holds, Stops, Ends}
+use Rattle.tor_output.proofs.Always.{always, always_broken, leads_absent, leads_broken, leads_limit, leads_malformed}
+use Rattle.tor_output.proofs.GradingLemmas.{gains_grading}
+use Rattle.tor_output.proofs.Resumings.{gains_resumed}
 use Rattle.tor_run.proofs.run.infer.Goals as goal
 
 pub returns-clause-done : goal.returns-clause-done

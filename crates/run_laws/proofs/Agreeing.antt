@@ -1,0 +1,101 @@
+-- A check says yes to a result, beside the dumps that it was made of too.
+use Rattle.std.proofs.Common.{◌≡◌, ◌≤◌, ◌⊎◌, ℕ, List, [], ◌∷◌, length, Option, Some, Result, Ok, inl, inr, refl, sym, subst, ◌∙◌, arith}
+use Rattle.std.specs.Prelude.{IsOk}
+use Rattle.path_clean.specs.declared.cleaned.Sets.{Sets}
+use Rattle.tor_arena.specs.Limits.{max_paths}
+use Rattle.tor_io.specs.Contents.{Files}
+use Rattle.relationships.specs.declared.given.Given.{Given}
+use Rattle.dump_read.specs.declared.taking.Taken.{Taken}
+use Rattle.result_text.specs.declared.file.ResultFile.{ResultFile}
+use Rattle.result_rules.specs.declared.verdict.Verdict.TheVariants.{Yes}
+use Rattle.result_rules.specs.Against.{JudgesAgainst}
+use Rattle.tor_words.specs.declared.settings.Mode.{Mode}
+use Rattle.tor_words.specs.declared.settings.Mode.TheVariants.{Labels, Summary, Migrate, Resume}
+use Rattle.tor_words.specs.declared.settings.Source.{Source}
+use Rattle.tor_words.specs.declared.settings.Source.TheVariants as source
+use Rattle.tor_words.specs.Given.{BoundsLaw, IsWrittenOf}
+use Rattle.tor_words.specs.declared.settings.Settings.{Settings}
+use Rattle.run_laws.specs.Agreement.{AgreementLaw, IsAgreedOn}
+use Rattle.tor_words.specs.declared.check_settings.CheckSettings.{CheckSettings}
+use Rattle.tor_words.specs.CheckGiven.{check_settings_given}
+use Rattle.tor_output.specs.Accepting.{FaithfulLaw, TableLaw}
+use Rattle.tor_output.specs.Seen.{seen, seen_in}
+use Rattle.torcheck_run.specs.Judging.{CanBeJudged, IsAccepted, IsVerdict, JudgesByDumps, seen_for}
+use Rattle.torcheck_run.specs.Limits.{max_result}
+use Rattle.torcheck_run.proofs.Comings.{OneValue, same_file, one_verdict}
+use Rattle.tor_output.specs.Output.{IsOutputIn, Faithful}
+use Rattle.run_base.specs.Reading.{nothing, seen_from}
+use Rattle.tor_output.proofs.WiderLimit.{widened, all_files}
+
+-- dumps that give what a result has bear it out
+by_dumps : (file : ResultFile) (dumps : List (List ℕ)) (files : Files) (taken : Taken) → seen_for file dumps files ≡ Ok taken
+    → JudgesAgainst file taken.table.rows taken.counts Yes → JudgesByDumps file dumps files Yes
+by_dumps file [] files taken gives agrees = refl
+by_dumps file (dump ∷ dumps) files taken gives agrees = (taken, gives, agrees)
+
+is_ok : {T E : Type 0} (r : Result T E) (x : T) → r ≡ Ok x → IsOk r
+is_ok r x e = subst (λ q. IsOk q) (sym e) refl
+
+module _ (law : OneValue) (files : Files) (file : ResultFile) (text : List ℕ) (accepted : IsAccepted file text) where
+  -- what a check of the text says beside these dumps or beside none
+  told : (dumps named : List (List ℕ)) → JudgesByDumps file dumps files Yes → (named ≡ []) ⊎ (named ≡ dumps) → IsVerdict text named files Yes
+  told dumps named judged (inl e) = subst (λ (ds : List (List ℕ)). IsVerdict text ds files Yes) (sym e) (inr (file, accepted, refl))
+  told dumps named judged (inr e) = subst (λ (ds : List (List ℕ)). IsVerdict text ds files Yes) (sym e) (inr (file, accepted, judged))
+
+  can_be : (dumps : List (List ℕ)) → IsOk (seen_for file dumps files) → (words : List (List ℕ)) (check : CheckSettings) → check_settings_given words ≡ Some check
+      → files check.result ≡ Some text → (check.dumps ≡ []) ⊎ (check.dumps ≡ dumps) → length text ≤ max_result → CanBeJudged words files
+  can_be dumps sees words check given there beside short = record {
+    settings = check;
+    given = given;
+    bytes = text;
+    result = record { there = there; short = short };
+    judged = inr (elim beside [
+      | inl e ↦ inl e
+      | inr e ↦ inr (λ f of.
+          subst (λ (ds : List (List ℕ)). IsOk (seen_for f ds files)) (sym e)
+          (subst (λ (g : ResultFile). IsOk (seen_for g dumps files)) (same_file law text file f accepted.text of) sees))
+    ]);
+  }
+
+  agreed_by : (dumps : List (List ℕ)) → JudgesByDumps file dumps files Yes → IsOk (seen_for file dumps files) → IsAgreedOn dumps files text
+  agreed_by dumps judged sees = record {
+    alone = told dumps [] judged (inl refl);
+    beside = told dumps dumps judged (inr refl);
+    no_other = λ named verdict of is. one_verdict law text named files verdict Yes is (told dumps named judged of);
+    judged = can_be dumps sees;
+    takes_up = λ name later there short. (file, (text, record { there = there; short = short }, accepted));
+  }
+
+  -- a text that is accepted is judged yes beside no dump, and beside dumps that give what it has
+  pub agreed_alone : IsAgreedOn [] files text
+  agreed_alone = agreed_by [] refl refl
+
+  pub agreed_beside : (dumps : List (List ℕ)) (taken : Taken) → seen_for file dumps files ≡ Ok taken → JudgesAgainst file taken.table.rows taken.counts Yes → IsAgreedOn dumps files text
+  agreed_beside dumps taken gives agrees =
+      agreed_by dumps (by_dumps file dumps files taken gives agrees) (is_ok (seen_for file dumps files) taken gives)
+
+-- under the limit of a check dumps give what they gave
+pub sees : (settings : Settings) (files : Files) (known : Option (List Given)) (taken : Taken) (file : ResultFile) → settings.max_paths ≤ max_paths →
+    seen settings files ≡ Ok taken → Faithful settings known taken file → seen_for file settings.dumps files ≡ Ok (widened max_paths taken)
+sees settings files known taken file few gives faithful =
+    let wide = all_files settings.max_paths max_paths settings.sets 1 (nothing settings.max_paths) taken settings.dumps files
+    (record { same = refl; few = omega arith; less = few }) gives in
+    subst (λ (s : Sets). seen_from s 1 (nothing max_paths) settings.dumps files ≡ Ok (widened max_paths taken)) (sym faithful.its_sets) wide
+
+-- a run that writes a result reads files
+of_files : (from : Source) (mode : Mode) → mode ≡ Labels → IsWrittenOf from mode → from ≡ source.Files
+of_files source.Files mode labels written = refl
+of_files (source.Sample seed) mode labels written = let e : Labels ≡ Summary = sym labels ∙ written in absurd cc
+of_files (source.Result name) mode labels written = let e : Labels ≡ Migrate = sym labels ∙ written in absurd cc
+of_files (source.Earlier name) mode labels written = let e : Labels ≡ Resume = sym labels ∙ written in absurd cc
+
+pub agreement : OneValue → BoundsLaw → FaithfulLaw → TableLaw → AgreementLaw
+agreement law bounds faithful_is table_is words settings files known taken output given labels comes asked =
+    let (file, faithful, text, note) = subst (λ (m : Mode). IsOutputIn m settings known taken output) labels asked in
+    let within = bounds words settings given in
+    let from = of_files settings.source settings.mode labels within.written in
+    let gives : seen settings files ≡ Ok taken = subst (λ (s : Source). seen_in s settings files ≡ Ok taken) from comes.1 in
+    let rows = table_is words settings files known taken given comes in
+    let accepted = (faithful_is words settings known taken file given rows.1 rows.0 faithful).accepted in
+    agreed_beside law files file output.text (record { text = text; rules = accepted }) settings.dumps (widened max_paths taken)
+    (sees settings files known taken file within.most gives faithful) (faithful.its_counts, faithful.paths)

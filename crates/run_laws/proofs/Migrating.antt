@@ -1,0 +1,360 @@
+-- A check comes to the same with the text of a result and with its text of version 2: what the rules read is the same, and the texts are
+-- equally long.
+use Rattle.std.proofs.Common.{◌≡◌, ◌≤◌, ◌<◌, ◌+◌, inl, inr, ℕ, zero, suc, arith, true, false, List, [], ◌∷◌, length, Option, Some, None, Ok, Err, Result, is_none, refl, sym, ap, ◌∙◌, subst}
+use Rattle.tor_io.specs.Contents.{Files}
+use Rattle.path_clean.specs.Counts.{CauseCounts}
+use Rattle.path_table.specs.Rows.{Counted}
+use Rattle.relationships.specs.declared.given.Given.{Given}
+use Rattle.result_text.specs.declared.file.ResultFile.{ResultFile}
+use Rattle.result_text.specs.Grammar.{IsTextOf}
+use Rattle.result_text.specs.Text.{its_givens, text}
+use Rattle.std.proofs.lemmas.Option.{same_Some}
+use Rattle.result_rules.specs.Against.{Agrees, JudgesAgainst}
+use Rattle.result_rules.specs.Rules.{Accepts, Asks, BreaksFirst, IsMet, IsRefused, line_for}
+use Rattle.result_rules.specs.declared.rule.Rule.{Rule}
+use Rattle.result_rules.specs.declared.rule.Rule.TheVariants.{HeadSound, PathsCleaned, PathsDistinct, LostRefuted, EdgesListed}
+use Rattle.result_rules.specs.declared.rule.Rule.TheVariants.{LabelsServe, SupportCounted, OrdersShown, MarksBorneOut, TotalsRight}
+use Rattle.result_rules.specs.declared.verdict.Verdict.{Verdict}
+use Rattle.result_rules.specs.declared.verdict.Verdict.TheVariants.{Yes, No}
+use Rattle.path_clean.specs.declared.cleaned.Sets.{Sets}
+use Rattle.path_attrs.specs.Fields.{◌>>=◌}
+use Rattle.dump_read.specs.declared.taking.Taken.{Taken}
+use Rattle.dump_read.specs.Seen.{DumpsEnd, of_file}
+use Rattle.run_base.specs.Reading.{nothing, seen_from}
+use Rattle.run_base.specs.WholeFile.{IsLongFile}
+use Rattle.tor_arena.specs.Limits.{max_paths}
+use Rattle.tor_words.specs.declared.check_settings.CheckSettings.{CheckSettings}
+use Rattle.torcheck_run.specs.Limits.{max_result}
+use Rattle.torcheck_run.specs.Judging.{BreaksRule, IsVerdict, JudgesByDumps, seen_for, Outcome, Judged, NoResult, TooLong, Ends, SettingsGive}
+use Rattle.torcheck_run.proofs.Comings.{OneValue, same_file}
+use Rattle.run_laws.specs.Agreement.{MigrateLaw}
+use Rattle.tor_output.specs.Output.{migrated}
+use Rattle.run_laws.specs.SelfGrading.{KeepDumps}
+use Rattle.run_laws.proofs.EqualLengths.{migrated_long}
+
+asks_on : (f : ResultFile) (rule : Rule) (k : ℕ) → Asks f rule k → Asks (migrated f) rule k
+asks_on f HeadSound zero h = h
+asks_on f HeadSound (suc k) h = λ line is. let new = h line is in record { two = new.two; new = new.new }
+asks_on f PathsCleaned k h = λ line is. let sound = h line is in record { cleaned = sound.cleaned; seen = sound.seen; few = sound.few; numbers = sound.numbers }
+asks_on f PathsDistinct k h = h
+asks_on f LostRefuted k h = h
+asks_on f EdgesListed k h = h
+asks_on f LabelsServe k h = h
+asks_on f SupportCounted k h = h
+asks_on f OrdersShown k h = h
+asks_on f MarksBorneOut k h = h
+asks_on f TotalsRight k h = h
+
+asks_back : (f : ResultFile) (rule : Rule) (k : ℕ) → Asks (migrated f) rule k → Asks f rule k
+asks_back f HeadSound zero h = h
+asks_back f HeadSound (suc k) h = λ line is. let new = h line is in record { two = new.two; new = new.new }
+asks_back f PathsCleaned k h = λ line is. let sound = h line is in record { cleaned = sound.cleaned; seen = sound.seen; few = sound.few; numbers = sound.numbers }
+asks_back f PathsDistinct k h = h
+asks_back f LostRefuted k h = h
+asks_back f EdgesListed k h = h
+asks_back f LabelsServe k h = h
+asks_back f SupportCounted k h = h
+asks_back f OrdersShown k h = h
+asks_back f MarksBorneOut k h = h
+asks_back f TotalsRight k h = h
+
+-- the number of a line, and of how many lines a rule asks something, are the same
+met_on : (f : ResultFile) (rule : Rule) → IsMet f rule → IsMet (migrated f) rule
+met_on f HeadSound h = λ k lt. asks_on f HeadSound k (h k lt)
+met_on f PathsCleaned h = λ k lt. asks_on f PathsCleaned k (h k lt)
+met_on f PathsDistinct h = h
+met_on f LostRefuted h = h
+met_on f EdgesListed h = h
+met_on f LabelsServe h = h
+met_on f SupportCounted h = h
+met_on f OrdersShown h = h
+met_on f MarksBorneOut h = h
+met_on f TotalsRight h = h
+
+met_back : (f : ResultFile) (rule : Rule) → IsMet (migrated f) rule → IsMet f rule
+met_back f HeadSound h = λ k lt. asks_back f HeadSound k (h k lt)
+met_back f PathsCleaned h = λ k lt. asks_back f PathsCleaned k (h k lt)
+met_back f PathsDistinct h = h
+met_back f LostRefuted h = h
+met_back f EdgesListed h = h
+met_back f LabelsServe h = h
+met_back f SupportCounted h = h
+met_back f OrdersShown h = h
+met_back f MarksBorneOut h = h
+met_back f TotalsRight h = h
+
+first_on : (f : ResultFile) (rule : Rule) (k : ℕ) → BreaksFirst f rule k → BreaksFirst (migrated f) rule k
+first_on f HeadSound k b = record { within = b.within; breach = λ h. b.breach (asks_back f HeadSound k h); before = λ j lt. asks_on f HeadSound j (b.before j lt) }
+first_on f PathsCleaned k b = record { within = b.within; breach = λ h. b.breach (asks_back f PathsCleaned k h); before = λ j lt. asks_on f PathsCleaned j (b.before j lt) }
+first_on f PathsDistinct k b = record { within = b.within; breach = λ h. b.breach (asks_back f PathsDistinct k h); before = λ j lt. asks_on f PathsDistinct j (b.before j lt) }
+first_on f LostRefuted k b = record { within = b.within; breach = λ h. b.breach (asks_back f LostRefuted k h); before = λ j lt. asks_on f LostRefuted j (b.before j lt) }
+first_on f EdgesListed k b = record { within = b.within; breach = λ h. b.breach (asks_back f EdgesListed k h); before = λ j lt. asks_on f EdgesListed j (b.before j lt) }
+first_on f LabelsServe k b = record { within = b.within; breach = λ h. b.breach (asks_back f LabelsServe k h); before = λ j lt. asks_on f LabelsServe j (b.before j lt) }
+first_on f SupportCounted k b = record { within = b.within; breach = λ h. b.breach (asks_back f SupportCounted k h); before = λ j lt. asks_on f SupportCounted j (b.before j lt) }
+first_on f OrdersShown k b = record { within = b.within; breach = λ h. b.breach (asks_back f OrdersShown k h); before = λ j lt. asks_on f OrdersShown j (b.before j lt) }
+first_on f MarksBorneOut k b = record { within = b.within; breach = λ h. b.breach (asks_back f MarksBorneOut k h); before = λ j lt. asks_on f MarksBorneOut j (b.before j lt) }
+first_on f TotalsRight k b = record { within = b.within; breach = λ h. b.breach (asks_back f TotalsRight k h); before = λ j lt. asks_on f TotalsRight j (b.before j lt) }
+
+first_back : (f : ResultFile) (rule : Rule) (k : ℕ) → BreaksFirst (migrated f) rule k → BreaksFirst f rule k
+first_back f HeadSound k b = record { within = b.within; breach = λ h. b.breach (asks_on f HeadSound k h); before = λ j lt. asks_back f HeadSound j (b.before j lt) }
+first_back f PathsCleaned k b = record { within = b.within; breach = λ h. b.breach (asks_on f PathsCleaned k h); before = λ j lt. asks_back f PathsCleaned j (b.before j lt) }
+first_back f PathsDistinct k b = record { within = b.within; breach = λ h. b.breach (asks_on f PathsDistinct k h); before = λ j lt. asks_back f PathsDistinct j (b.before j lt) }
+first_back f LostRefuted k b = record { within = b.within; breach = λ h. b.breach (asks_on f LostRefuted k h); before = λ j lt. asks_back f LostRefuted j (b.before j lt) }
+first_back f EdgesListed k b = record { within = b.within; breach = λ h. b.breach (asks_on f EdgesListed k h); before = λ j lt. asks_back f EdgesListed j (b.before j lt) }
+first_back f LabelsServe k b = record { within = b.within; breach = λ h. b.breach (asks_on f LabelsServe k h); before = λ j lt. asks_back f LabelsServe j (b.before j lt) }
+first_back f SupportCounted k b = record { within = b.within; breach = λ h. b.breach (asks_on f SupportCounted k h); before = λ j lt. asks_back f SupportCounted j (b.before j lt) }
+first_back f OrdersShown k b = record { within = b.within; breach = λ h. b.breach (asks_on f OrdersShown k h); before = λ j lt. asks_back f OrdersShown j (b.before j lt) }
+first_back f MarksBorneOut k b = record { within = b.within; breach = λ h. b.breach (asks_on f MarksBorneOut k h); before = λ j lt. asks_back f MarksBorneOut j (b.before j lt) }
+first_back f TotalsRight k b = record { within = b.within; breach = λ h. b.breach (asks_on f TotalsRight k h); before = λ j lt. asks_back f TotalsRight j (b.before j lt) }
+
+numbered_on : (f : ResultFile) (rule : Rule) (line k : ℕ) → line ≡ line_for f rule k → line ≡ line_for (migrated f) rule k
+numbered_on f HeadSound line zero e = e
+numbered_on f HeadSound line (suc k) e = e
+numbered_on f PathsCleaned line k e = e
+numbered_on f PathsDistinct line k e = e
+numbered_on f LostRefuted line k e = e
+numbered_on f EdgesListed line k e = e
+numbered_on f LabelsServe line k e = e
+numbered_on f SupportCounted line k e = e
+numbered_on f OrdersShown line k e = e
+numbered_on f MarksBorneOut line k e = e
+numbered_on f TotalsRight line k e = e
+
+numbered_back : (f : ResultFile) (rule : Rule) (line k : ℕ) → line ≡ line_for (migrated f) rule k → line ≡ line_for f rule k
+numbered_back f HeadSound line zero e = e
+numbered_back f HeadSound line (suc k) e = e
+numbered_back f PathsCleaned line k e = e
+numbered_back f PathsDistinct line k e = e
+numbered_back f LostRefuted line k e = e
+numbered_back f EdgesListed line k e = e
+numbered_back f LabelsServe line k e = e
+numbered_back f SupportCounted line k e = e
+numbered_back f OrdersShown line k e = e
+numbered_back f MarksBorneOut line k e = e
+numbered_back f TotalsRight line k e = e
+
+refused_on : (f : ResultFile) (line number : ℕ) → IsRefused f line number → IsRefused (migrated f) line number
+refused_on f line number r = record {
+  rule = r.rule;
+  named = r.named;
+  place = r.place;
+  numbered = numbered_on f r.rule line r.place r.numbered;
+  first = first_on f r.rule r.place r.first;
+  earlier = λ other lt. met_on f other (r.earlier other lt);
+}
+
+refused_back : (f : ResultFile) (line number : ℕ) → IsRefused (migrated f) line number → IsRefused f line number
+refused_back f line number r = record {
+  rule = r.rule;
+  named = r.named;
+  place = r.place;
+  numbered = numbered_back f r.rule line r.place r.numbered;
+  first = first_back f r.rule r.place r.first;
+  earlier = λ other lt. met_back f other (r.earlier other lt);
+}
+
+-- ---- rule 11
+
+agrees_on : (f : ResultFile) (rows : List Counted) (counts : CauseCounts) (k : ℕ) → Agrees f rows counts k → Agrees (migrated f) rows counts k
+agrees_on f rows counts k a = record { count = a.count; path = a.path }
+
+agrees_back : (f : ResultFile) (rows : List Counted) (counts : CauseCounts) (k : ℕ) → Agrees (migrated f) rows counts k → Agrees f rows counts k
+agrees_back f rows counts k a = record { count = a.count; path = a.path }
+
+against_on : (f : ResultFile) (rows : List Counted) (counts : CauseCounts) (v : Verdict) → JudgesAgainst f rows counts v → JudgesAgainst (migrated f) rows counts v
+against_on f rows counts Yes h = h
+against_on f rows counts (No line rule) h = record {
+  named = h.named;
+  place = h.place;
+  numbered = h.numbered;
+  breach = λ a. h.breach (agrees_back f rows counts h.place a);
+  before = λ j lt. agrees_on f rows counts j (h.before j lt);
+}
+
+against_back : (f : ResultFile) (rows : List Counted) (counts : CauseCounts) (v : Verdict) → JudgesAgainst (migrated f) rows counts v → JudgesAgainst f rows counts v
+against_back f rows counts Yes h = h
+against_back f rows counts (No line rule) h = record {
+  named = h.named;
+  place = h.place;
+  numbered = h.numbered;
+  breach = λ a. h.breach (agrees_on f rows counts h.place a);
+  before = λ j lt. agrees_back f rows counts j (h.before j lt);
+}
+
+dumps_on : (f : ResultFile) (dumps : List (List ℕ)) (files : Files) (v : Verdict) → JudgesByDumps f dumps files v → JudgesByDumps (migrated f) dumps files v
+dumps_on f [] files v h = h
+dumps_on f (dump ∷ dumps) files v h = (h.0, h.1, against_on f h.0.table.rows h.0.counts v h.2)
+
+dumps_back : (f : ResultFile) (dumps : List (List ℕ)) (files : Files) (v : Verdict) → JudgesByDumps (migrated f) dumps files v → JudgesByDumps f dumps files v
+dumps_back f [] files v h = h
+dumps_back f (dump ∷ dumps) files v h = (h.0, h.1, against_back f h.0.table.rows h.0.counts v h.2)
+
+-- ---- verdicts
+
+module _ (law : OneValue) (f : ResultFile) (before after : List ℕ) (old : IsTextOf f before) (new : IsTextOf (migrated f) after) where
+  broken_on : (v : Verdict) → BreaksRule before v → BreaksRule after v
+  broken_on Yes h = h
+  broken_on (No line rule) (inl bad) = absurd (bad.1.outside (f, old))
+  broken_on (No line rule) (inr h) =
+      inr (migrated f, new, refused_on f line rule (subst (λ (g : ResultFile). IsRefused g line rule) (same_file law before h.0 f h.1 old) h.2))
+
+  broken_back : (v : Verdict) → BreaksRule after v → BreaksRule before v
+  broken_back Yes h = h
+  broken_back (No line rule) (inl bad) = absurd (bad.1.outside (migrated f, new))
+  broken_back (No line rule) (inr h) =
+      inr (f, old, refused_back f line rule (subst (λ (g : ResultFile). IsRefused g line rule) (same_file law after h.0 (migrated f) h.1 new) h.2))
+
+  verdict_on : (dumps : List (List ℕ)) (files : Files) (v : Verdict) → IsVerdict before dumps files v → IsVerdict after dumps files v
+  verdict_on dumps files v (inl h) = inl (broken_on v h)
+  verdict_on dumps files v (inr h) =
+      let same = same_file law before h.0 f h.1.text old in
+      let rules : Accepts f = subst Accepts same h.1.rules in
+      inr (
+        migrated f,
+        record { text = new; rules = λ rule. met_on f rule (rules rule) },
+        dumps_on f dumps files v (subst (λ (g : ResultFile). JudgesByDumps g dumps files v) same h.2),
+      )
+
+  verdict_back : (dumps : List (List ℕ)) (files : Files) (v : Verdict) → IsVerdict after dumps files v → IsVerdict before dumps files v
+  verdict_back dumps files v (inl h) = inl (broken_back v h)
+  verdict_back dumps files v (inr h) =
+      let same = same_file law after h.0 (migrated f) h.1.text new in
+      let rules : Accepts (migrated f) = subst Accepts same h.1.rules in
+      inr (
+        f,
+        record { text = old; rules = λ rule. met_back f rule (rules rule) },
+        dumps_back f dumps files v (subst (λ (g : ResultFile). JudgesByDumps g dumps files v) same h.2),
+      )
+
+-- ---- the result that is written
+
+-- a list of givens, empty where there is none
+abbrev listed : Option (List Given) → List Given
+listed o = elim o [ None ↦ [] | Some givens ↦ givens ]
+
+pub as_it_is : (file : ResultFile) → is_none file.givens ≡ false → file ≡ migrated file
+as_it_is file some = by file.givens refl some
+  where
+    by : (o : Option (List Given)) → file.givens ≡ o → is_none o ≡ false → file ≡ migrated file
+    by None e f = absurd (cc f)
+    by (Some givens) e f =
+        let same : Some (its_givens file) ≡ Some givens = ap (λ (o : Option (List Given)). Some (listed o)) e in
+        ap (λ (o : Option (List Given)). record file { givens = o }) (e ∙ sym same)
+
+pub with_none : (file : ResultFile) → is_none file.givens ≡ true → record file { givens = Some [] } ≡ migrated file
+with_none file none = by file.givens refl none
+  where
+    by : (o : Option (List Given)) → file.givens ≡ o → is_none o ≡ true → record file { givens = Some [] } ≡ migrated file
+    by (Some givens) e f = absurd (cc f)
+    by None e f = ap (λ (o : Option (List Given)). record file { givens = Some (listed o) }) (sym e)
+
+-- ---- what a check comes to
+
+bound : (r : Result Taken DumpsEnd) (f g : Taken → Result Taken DumpsEnd) → ((t : Taken) → f t ≡ g t) → (r >>= f) ≡ (r >>= g)
+bound (Ok t) f g same = same t
+bound (Err e) f g same = refl
+
+-- what dumps give doesn't depend on other files
+seen_same : (sets : Sets) (dump : ℕ) (taken : Taken) (names : List (List ℕ)) (files later : Files) → KeepDumps names files later →
+    seen_from sets dump taken names files ≡ seen_from sets dump taken names later
+seen_same sets dump taken [] files later keep = refl
+seen_same sets dump taken (name ∷ names) files later keep =
+    ap (λ (f : Option (List ℕ)). of_file sets dump taken f >>= λ further. seen_from sets (dump + 1) further names files) (sym (keep name (0, omega arith, refl)))
+    ∙ bound (of_file sets dump taken (later name)) (λ further. seen_from sets (dump + 1) further names files) (λ further. seen_from sets (dump + 1) further names later)
+    (λ further. seen_same sets (dump + 1) further names files later (λ n i. keep n (suc i.0, omega (arith, i.1), i.2)))
+
+module _ (dumps : List (List ℕ)) (files later : Files) (keep : KeepDumps dumps files later) where
+  seen_kept : (file : ResultFile) (r : Result Taken DumpsEnd) → seen_for file dumps files ≡ r → seen_for file dumps later ≡ r
+  seen_kept file r e = sym (seen_same file.sets 1 (nothing max_paths) dumps files later keep) ∙ e
+
+dumps_kept : (f : ResultFile) (dumps : List (List ℕ)) (files later : Files) → KeepDumps dumps files later → (v : Verdict) → JudgesByDumps f dumps files v → JudgesByDumps f dumps later v
+dumps_kept f [] files later keep v h = h
+dumps_kept f (dump ∷ dumps) files later keep v h = (h.0, seen_kept (dump ∷ dumps) files later keep f (Ok h.0) h.1, h.2)
+
+verdict_kept : (bytes : List ℕ) (dumps : List (List ℕ)) (files later : Files) → KeepDumps dumps files later → (v : Verdict) → IsVerdict bytes dumps files v → IsVerdict bytes dumps later v
+verdict_kept bytes dumps files later keep v (inl h) = inl h
+verdict_kept bytes dumps files later keep v (inr h) = inr (h.0, h.1, dumps_kept h.0 dumps files later keep v h.2)
+
+-- a text of version 2 stays as it is, and the text of version 1 is as long
+same_text : (f : ResultFile) (before after : List ℕ) → IsTextOf f before → IsTextOf (migrated f) after → (givens : List Given) → f.givens ≡ Some givens → after ≡ before
+same_text f before after old new givens is = new.encoded ∙ ap text (sym (as_it_is f (ap is_none is))) ∙ sym old.encoded
+
+same_long : (f : ResultFile) (before after : List ℕ) → IsTextOf f before → IsTextOf (migrated f) after → length after ≡ length before
+same_long f before after old new = by f.givens refl
+  where
+    by : (o : Option (List Given)) → f.givens ≡ o → length after ≡ length before
+    by None e = ap length new.encoded ∙ migrated_long f e ∙ sym (ap length old.encoded)
+    by (Some givens) e = ap length (same_text f before after old new givens e)
+
+-- the file of this name is there with these octets
+module _ (name bytes : List ℕ) (files : Files) (there : files name ≡ Some bytes) where
+  its_bytes : (others : List ℕ) → files name ≡ Some others → others ≡ bytes
+  its_bytes others e = same_Some others bytes (sym e ∙ there)
+
+  not_absent : files name ≡ None → ⊥
+  not_absent e = cc (e, there)
+
+  is_long : IsLongFile max_result (files name) → max_result < length bytes
+  is_long h = subst (IsLongFile max_result) there h
+
+  long_file : max_result < length bytes → IsLongFile max_result (files name)
+  long_file h = subst (IsLongFile max_result) (sym there) h
+
+module _ (law : OneValue) (f : ResultFile) (before after : List ℕ) (old : IsTextOf f before) (new : IsTextOf (migrated f) after) (check : CheckSettings) (files later : Files)
+    (was : files check.result ≡ Some before) (is : later check.result ≡ Some after) (keep : KeepDumps check.dumps files later) where
+  long : length after ≡ length before
+  long = same_long f before after old new
+
+  back : KeepDumps check.dumps later files
+  back name i = sym (keep name i)
+
+  outcome_on : (o : Outcome) → SettingsGive check files o → SettingsGive check later o
+  outcome_on (Judged v) h =
+      let same = its_bytes check.result before files was h.0 h.1.there in (
+        after,
+        record { there = is; short = subst (λ n. n ≤ max_result) (ap length same ∙ sym long) h.1.short },
+        verdict_kept after check.dumps files later keep v
+            (verdict_on law f before after old new check.dumps files v (subst (λ b. IsVerdict b check.dumps files v) same h.2)),
+      )
+  outcome_on NoResult h = absurd (not_absent check.result before files was h)
+  outcome_on TooLong h = long_file check.result after later is (subst (λ n. max_result < n) (sym long) (is_long check.result before files was h))
+  outcome_on (Ends end) h =
+      let same = its_bytes check.result before files was h.0 h.2.there in
+      let file = same_file law h.0 h.1 f h.3.text (subst (IsTextOf f) (sym same) old) in
+      let rules : Accepts f = subst Accepts file h.3.rules in (
+        after,
+        migrated f,
+        record { there = is; short = subst (λ n. n ≤ max_result) (ap length same ∙ sym long) h.2.short },
+        record { text = new; rules = λ rule. met_on f rule (rules rule) },
+        seen_kept check.dumps files later keep f (Err end) (subst (λ (g : ResultFile). seen_for g check.dumps files ≡ Err end) file h.4),
+      )
+
+  outcome_back : (o : Outcome) → SettingsGive check later o → SettingsGive check files o
+  outcome_back (Judged v) h =
+      let same = its_bytes check.result after later is h.0 h.1.there in (
+        before,
+        record { there = was; short = subst (λ n. n ≤ max_result) (ap length same ∙ long) h.1.short },
+        verdict_kept before check.dumps later files back v
+            (verdict_back law f before after old new check.dumps later v (subst (λ b. IsVerdict b check.dumps later v) same h.2)),
+      )
+  outcome_back NoResult h = absurd (not_absent check.result after later is h)
+  outcome_back TooLong h = long_file check.result before files was (subst (λ n. max_result < n) long (is_long check.result after later is h))
+  outcome_back (Ends end) h =
+      let same = its_bytes check.result after later is h.0 h.2.there in
+      let file = same_file law h.0 h.1 (migrated f) h.3.text (subst (IsTextOf (migrated f)) (sym same) new) in
+      let rules : Accepts (migrated f) = subst Accepts file h.3.rules in (
+        before,
+        f,
+        record { there = was; short = subst (λ n. n ≤ max_result) (ap length same ∙ long) h.2.short },
+        record { text = old; rules = λ rule. met_back f rule (rules rule) },
+        seen_kept check.dumps later files back f (Err end) (subst (λ (g : ResultFile). seen_for g check.dumps later ≡ Err end) file h.4),
+      )
+
+pub migrate_law : OneValue → MigrateLaw
+migrate_law law f before after old new = (
+  same_text f before after old new,
+  λ check files later was is keep o. (
+    outcome_on law f before after old new check files later was is keep o,
+    outcome_back law f before after old new check files later was is keep o,
+  ),
+)

@@ -1,0 +1,153 @@
+-- The result of dumps on top of an earlier one is that of one run over all of them, and a checker accepts it.
+use Rattle.std.proofs.Common.{◌≡◌, ◌≤◌, ℕ, ◌+◌, List, ◌++◌, Option, Ok, inl, inr, refl, sym, ap, subst, ◌∙◌, arith}
+use Rattle.std.proofs.lemmas.Bool.{cases_order}
+use Rattle.path_clean.specs.declared.cleaned.Sets.{Sets}
+use Rattle.path_clean.specs.Counts.{CauseCounts}
+use Rattle.path_table.specs.Rows.{Counted}
+use Rattle.tor_arena.specs.Limits.{max_paths}
+use Rattle.tor_io.specs.Contents.{Files}
+use Rattle.relationships.specs.declared.given.Given.{Given}
+use Rattle.relationships.specs.Givens.{NameTwo, NameOnce}
+use Rattle.dump_read.specs.declared.taking.Taken.{Taken}
+use Rattle.result_text.specs.declared.file.ResultFile.{ResultFile}
+use Rattle.result_rules.specs.declared.rule.Rule.TheVariants.{HeadSound}
+use Rattle.result_rules.proofs.GivenLines.{name_two, name_once}
+use Rattle.rel_infer.specs.GivenResults.{IsResultWith}
+use Rattle.rel_infer.specs.SelfAcceptance.{SelfAcceptanceLaw}
+use Rattle.rel_infer.proofs.Acceptance.{same_givens}
+use Rattle.rel_infer.proofs.OneGivenResult.{given_result_law}
+use Rattle.run_base.specs.Reading.{nothing, seen_from}
+use Rattle.run_base.proofs.Values as values
+use Rattle.tor_words.specs.declared.settings.Settings.{Settings}
+use Rattle.tor_words.specs.Given.{BoundsLaw}
+use Rattle.torcheck_run.specs.Judging.{IsAccepted}
+use Rattle.torcheck_run.proofs.Comings.{OneValue}
+use Rattle.tor_output.specs.First.{First, Nothing, Givens, Result, Earlier, TakesUp, first_in}
+use Rattle.tor_output.specs.Output.{IsResumed}
+use Rattle.run_laws.specs.ResumeLaws.{AreSameButEvidence, IsAsOfOneRun, OfDumpsLaw, ResumeLaw, InPartsLaw, ResumedAcceptanceLaw}
+use Rattle.tor_output.specs.Seen.{joined, taken_up}
+use Rattle.run_laws.proofs.Agreeing.{agreed_alone, agreed_beside, sees}
+use Rattle.run_laws.proofs.JoinedRows.{joined_rows}
+use Rattle.tor_output.proofs.Joining.{behind, dumps_of_both, files_beside, made_of, of_both, wider}
+use Rattle.tor_output.proofs.ReadableLemmas.{beside}
+use Rattle.tor_output.proofs.WiderLimit.{widened, all_files}
+
+-- ---- what is determined
+
+same_results : (known : Option (List Given)) (sets : Sets) (ratio : ℕ) (rows : List Counted) (counts : CauseCounts) (file other : ResultFile)
+    → IsResultWith known sets ratio rows counts file → IsResultWith known sets ratio rows counts other → AreSameButEvidence file other
+same_results known sets ratio rows counts file other is is' =
+    let one = given_result_law known known sets ratio rows counts file other refl is is' in
+    record {
+      sets = is.its_sets ∙ sym is'.its_sets;
+      ratio = is.its_ratio ∙ sym is'.its_ratio;
+      asides = one.0;
+      givens = is.its_givens ∙ sym is'.its_givens;
+      rows = is.paths ∙ sym is'.paths;
+      kept = one.1;
+      edges = one.2;
+      totals = one.3;
+    }
+
+-- of the same paths, counts, sets, ratio and givens
+one_result : (known' known : Option (List Given)) (sets' sets : Sets) (ratio' ratio : ℕ) (rows' rows : List Counted) (counts' counts : CauseCounts) (file other : ResultFile)
+    → known' ≡ known → sets' ≡ sets → ratio' ≡ ratio → rows' ≡ rows → counts' ≡ counts → IsResultWith known sets ratio rows counts file
+    → IsResultWith known' sets' ratio' rows' counts' other → AreSameButEvidence file other
+one_result known' known sets' sets ratio' ratio rows' rows counts' counts file other knows with_sets with_ratio of_rows of_counts is is' =
+    same_results known sets ratio rows counts file other is
+    (subst (λ (k : Option (List Given)). IsResultWith k sets ratio rows counts other) knows
+    (subst (λ (s : Sets). IsResultWith known' s ratio rows counts other) with_sets
+    (subst (λ (r : ℕ). IsResultWith known' sets' r rows counts other) with_ratio
+    (subst (λ (rs : List Counted). IsResultWith known' sets' ratio' rs counts other) of_rows
+    (subst (λ (cs : CauseCounts). IsResultWith known' sets' ratio' rows' cs other) of_counts is')))))
+
+-- ---- one run over all dumps
+
+pub of_dumps_law : BoundsLaw → OfDumpsLaw
+of_dumps_law bounds words settings files known taken file given gives faithful =
+    (widened max_paths taken, sees settings files known taken file (bounds words settings given).most gives faithful, sym faithful.paths, sym faithful.its_counts)
+
+-- under two limits that aren't met dumps give the same
+under_wider : (sets : Sets) (limit most : ℕ) (dumps : List (List ℕ)) (files : Files) (a b : Taken) → limit ≤ most → seen_from sets 1 (nothing limit) dumps files ≡ Ok a
+    → seen_from sets 1 (nothing most) dumps files ≡ Ok b → (a.table.rows ≡ b.table.rows) × (a.counts ≡ b.counts)
+under_wider sets limit most dumps files a b less gives gives' =
+    let wide = all_files limit most sets 1 (nothing limit) a dumps files (record { same = refl; few = omega arith; less = less }) gives in
+    let same : widened most a ≡ b = values.ok_is (seen_from sets 1 (nothing most) dumps files) (widened most a) b wide gives' in
+    (ap (λ (t : Taken). t.table.rows) same, ap (λ (t : Taken). t.counts) same)
+
+under_any : (sets : Sets) (limit other : ℕ) (dumps : List (List ℕ)) (files : Files) (a b : Taken) → seen_from sets 1 (nothing limit) dumps files ≡ Ok a
+    → seen_from sets 1 (nothing other) dumps files ≡ Ok b → (a.table.rows ≡ b.table.rows) × (a.counts ≡ b.counts)
+under_any sets limit other dumps files a b gives gives' = elim (cases_order limit other) [
+  | inl same ↦ under_wider sets limit other dumps files a b (omega (arith, same)) gives gives'
+  | inr o ↦ elim o [
+    | inl lt ↦ under_wider sets limit other dumps files a b (omega (arith, lt)) gives gives'
+    | inr gt ↦ let back = under_wider sets other limit dumps files b a (omega (arith, gt)) gives' gives in (sym back.0, sym back.1)
+  ]
+]
+
+as_of_one_run : (settings : Settings) (files : Files) (earlier : ResultFile) (taken : Taken) (file : ResultFile) → settings.max_paths ≤ max_paths
+    → joined earlier settings.max_paths settings.dumps files ≡ Ok taken → IsResumed settings earlier taken file → IsAsOfOneRun settings files earlier file
+as_of_one_run settings files earlier taken file few joins_to resumed names before whole gave other sets ratio dumps sees faithful =
+    let (first, gives, first_rows, first_counts) = before in
+    let (after, sees_both, rows, counts) =
+    dumps_of_both earlier settings.max_paths names settings.dumps files first taken few gives first_rows first_counts joins_to in
+    let sees_all : seen_from earlier.sets 1 (nothing whole.max_paths) (names ++ settings.dumps) files ≡ Ok gave =
+    subst (λ (ds : List (List ℕ)). seen_from earlier.sets 1 (nothing whole.max_paths) ds files ≡ Ok gave) dumps
+    (subst (λ (s : Sets). seen_from s 1 (nothing whole.max_paths) whole.dumps files ≡ Ok gave) sets sees) in
+    let same = under_any earlier.sets whole.max_paths max_paths (names ++ settings.dumps) files gave after sees_all sees_both in
+    one_result earlier.givens earlier.givens whole.sets earlier.sets whole.ratio settings.ratio gave.table.rows taken.table.rows gave.counts taken.counts file other
+    refl sets ratio (same.0 ∙ rows) (same.1 ∙ counts) resumed.0 faithful
+
+pub resume_law : BoundsLaw → ResumeLaw
+resume_law bounds words settings files earlier taken file given comes resumed =
+    let few = (bounds words settings given).most in
+    (of_both settings files earlier taken file few comes.1 resumed, as_of_one_run settings files earlier taken file few comes.1 resumed)
+
+-- ---- two runs
+
+pub in_parts_law : InPartsLaw
+in_parts_law first second whole files earlier between file other some rest all joins_some resumed joins_rest resumed_again ratio dumps joins_all resumed_all =
+    let mine = resumed.0 in
+    let most = first.max_paths + second.max_paths + whole.max_paths in
+    let gives_some = wider earlier first.max_paths most first.dumps files some (omega arith) joins_some in
+    let gives_rest : seen_from earlier.sets 1 (taken_up between most) second.dumps files ≡ Ok (widened most rest) =
+    subst (λ (s : Sets). seen_from s 1 (taken_up between most) second.dumps files ≡ Ok (widened most rest)) mine.its_sets
+    (wider between second.max_paths most second.dumps files rest (omega arith) joins_rest) in
+    let gives_all : seen_from earlier.sets 1 (taken_up earlier most) (first.dumps ++ second.dumps) files ≡ Ok (widened most all) =
+    subst (λ (ds : List (List ℕ)). seen_from earlier.sets 1 (taken_up earlier most) ds files ≡ Ok (widened most all)) dumps
+    (wider earlier whole.max_paths most whole.dumps files all (omega arith) joins_all) in
+    let on = behind earlier.sets 1 (taken_up earlier most) (widened most some) first.dumps second.dumps files gives_some in
+    let same_some = made_of (widened most some) between most refl (sym mine.paths) (sym mine.its_counts) in
+    let more = files_beside earlier.sets 1 on.0 some.files (taken_up between most) (widened most rest) second.dumps files gives_rest in
+    let gives_both : seen_from earlier.sets 1 (taken_up earlier most) (first.dumps ++ second.dumps) files ≡ Ok (beside more.0 (widened most rest)) =
+    on.1 ∙ ap (λ (t : Taken). seen_from earlier.sets on.0 t second.dumps files) same_some ∙ more.1 in
+    let same : widened most all ≡ beside more.0 (widened most rest) =
+    values.ok_is (seen_from earlier.sets 1 (taken_up earlier most) (first.dumps ++ second.dumps) files) (widened most all) (beside more.0 (widened most rest)) gives_all gives_both in
+    one_result earlier.givens between.givens earlier.sets between.sets whole.ratio second.ratio all.table.rows rest.table.rows all.counts rest.counts file other
+    (sym mine.its_givens) (sym mine.its_sets) ratio (ap (λ (t : Taken). t.table.rows) same) (ap (λ (t : Taken). t.counts) same) resumed_again.0 resumed_all.0
+
+-- ---- what a checker says
+
+pub is_accepted : (f : First) (files : Files) (file : ResultFile) → TakesUp f files file → (bytes : List ℕ) × IsAccepted file bytes
+is_accepted Nothing files file takes = absurd takes
+is_accepted (Givens name) files file takes = absurd takes
+is_accepted (Result name) files file takes = absurd takes
+is_accepted (Earlier name) files file takes = (takes.0, takes.2)
+
+pub acceptance_law : BoundsLaw → SelfAcceptanceLaw → OneValue → ResumedAcceptanceLaw
+acceptance_law bounds accept law words settings files earlier taken file text given comes resumed is_text =
+    let within = bounds words settings given in
+    let rules = (is_accepted (first_in settings) files earlier comes.0).1.rules in
+    let rows = joined_rows earlier settings.max_paths settings.dumps files taken within.most rules comes.1 in
+    let own = sym (same_givens earlier earlier.givens refl) in
+    let vouched = accept earlier.givens earlier.sets settings.ratio taken.table.rows taken.counts file within.ratio rows
+    (subst (λ (gs : List Given). NameTwo gs) own (name_two earlier (rules HeadSound))) (subst (λ (gs : List Given). NameOnce gs) own (name_once earlier (rules HeadSound))) resumed.0 in
+    let accepted : IsAccepted file text = record { text = is_text; rules = vouched.accepted } in
+    record {
+      rows = rows;
+      vouched = vouched;
+      alone = agreed_alone law files file text accepted;
+      beside = λ names before.
+          let (all, sees, its_rows_are, its_counts_are) = of_both settings files earlier taken file within.most comes.1 resumed names before in
+          agreed_beside law files file text accepted (names ++ settings.dumps) all sees (sym its_counts_are, sym its_rows_are);
+    }

@@ -1,0 +1,135 @@
+-- A grading by the relationships that were found for the same paths.
+use Rattle.std.proofs.Common.{◌≡◌, ◌↔◌, ℕ, suc, ◌+◌, ◌≤◌, Bool, false, cond, List, [], ◌∷◌, ◌++◌, map, Some, Result, Ok, Err, Contains, IsTrue, refl, sym, ap, ap₂, ◌∙◌, subst, arith, if◌then◌else◌}
+use Rattle.std.proofs.Common.{unwrap_or}
+use Rattle.std.specs.Prelude.{count_by, slice_get}
+use Rattle.std.proofs.lemmas.Bool.{false_from_ne_true}
+use Rattle.std.proofs.lemmas.List.Sums.{sum_by-cons}
+use Rattle.std.proofs.lemmas.Option.{same_Some}
+use Rattle.tor_arena.specs.Limits.{max_paths}
+use Rattle.tor_io.specs.Contents.{Files}
+use Rattle.path_clean.specs.declared.cleaned.Sets.{Sets}
+use Rattle.path_clean.specs.declared.cleaned.Sets.TheVariants.{Cut}
+use Rattle.path_table.specs.Rows.{Counted, row_paths}
+use Rattle.dump_read.specs.declared.taking.Taken.{Taken}
+use Rattle.dump_read.specs.Seen.{DumpsEnd, of_file}
+use Rattle.path_attrs.specs.Fields.{◌>>=◌}
+use Rattle.relationships.specs.Givens.{returns}
+use Rattle.relationships.specs.Selection.{KeepsFrom}
+use Rattle.run_base.specs.Reading.{nothing, seen_from}
+use Rattle.serial_lines.specs.declared.line.RelLine.{RelLine}
+use Rattle.serial_lines.specs.Serial.{rel_in}
+use Rattle.as_rel.specs.declared.grading.Grade.{Grade}
+use Rattle.as_rel.specs.declared.grading.Grade.TheVariants.{Free, Valley, Unknown}
+use Rattle.as_rel.specs.Grading.{IsGrade, grade, steps_on}
+use Rattle.as_rel.proofs.KeptLemmas.{free_exactly, never_unknown}
+use Rattle.tor_words.specs.declared.settings.Settings.{Settings}
+use Rattle.tor_words.specs.declared.grade_settings.GradeSettings.{GradeSettings}
+use Rattle.tor_words.specs.declared.settings.Source.{Source}
+use Rattle.tor_words.specs.declared.settings.Source.TheVariants as source
+use Rattle.tor_words.specs.declared.settings.Mode.{Mode}
+use Rattle.tor_words.specs.declared.settings.Mode.TheVariants.{Serial, Summary}
+use Rattle.tor_words.specs.Given.{BoundsLaw, IsWrittenOf}
+use Rattle.torgrade_run.specs.GradeText.{is_free, is_unknown, cone_text, grades_of, grading_text, totals_of}
+use Rattle.torgrade_run.specs.Outcomes.{seen_by}
+use Rattle.tor_output.specs.Seen.{seen, seen_in}
+use Rattle.run_laws.specs.SelfGrading.{KeepDumps, SelfGradingLaw}
+use Rattle.tor_output.proofs.WiderLimit.{widened, all_files}
+
+-- ---- the grades of paths
+
+free_flag : (lines : List RelLine) (path : List ℕ) (keep : Bool) → IsGrade (steps_on lines path) Free ↔ IsTrue keep → is_free (grade lines path) ≡ keep
+free_flag lines path keep h = by (grade lines path) refl
+  where
+    exact : (grade lines path ≡ Free) ↔ IsTrue keep
+    exact = free_exactly lines path keep h
+
+    by : (g : Grade) → grade lines path ≡ g → is_free g ≡ keep
+    by Free is = sym (exact.0 is)
+    by (Valley step) is = sym (false_from_ne_true keep (λ t. let e : Free ≡ Valley step = sym (exact.1 t) ∙ is in absurd (cc e)))
+    by (Unknown step) is = sym (false_from_ne_true keep (λ t. let e : Free ≡ Unknown step = sym (exact.1 t) ∙ is in absurd (cc e)))
+
+free_flags : (lines : List RelLine) (kept : List (List ℕ)) (rows : List Counted) (keeps : List Bool) → KeepsFrom kept (row_paths rows) keeps →
+    ((k : ℕ) (path : List ℕ) (keep : Bool) → slice_get (row_paths rows) k ≡ Some path → slice_get keeps k ≡ Some keep → IsGrade (steps_on lines path) Free ↔ IsTrue keep) →
+    map is_free (grades_of lines rows) ≡ keeps
+free_flags lines kept [] [] h each = refl
+free_flags lines kept [] (b ∷ keeps) h each = absurd h
+free_flags lines kept (r ∷ rows) [] h each = absurd h
+free_flags lines kept (r ∷ rows) (b ∷ keeps) h each =
+    ap₂ (λ (x : Bool) (xs : List Bool). x ∷ xs) (free_flag lines r.path b (each 0 r.path b refl refl))
+    (free_flags lines (if b then kept ++ r.path ∷ [] else kept) rows keeps h.1 (λ k. each (suc k)))
+
+known_flag : (lines : List RelLine) (path : List ℕ) → ((number : ℕ) → IsGrade (steps_on lines path) (Unknown number) → ⊥) → is_unknown (grade lines path) ≡ false
+known_flag lines path never = by (grade lines path) refl
+  where
+    by : (g : Grade) → grade lines path ≡ g → is_unknown g ≡ false
+    by Free is = refl
+    by (Valley step) is = refl
+    by (Unknown step) is = absurd (never_unknown lines path step (never step) is)
+
+none_unknown : (lines : List RelLine) (rows : List Counted) → ((path : List ℕ) (number : ℕ) → Contains (row_paths rows) path → IsGrade (steps_on lines path) (Unknown number) → ⊥) →
+    count_by is_unknown (grades_of lines rows) ≡ 0
+none_unknown lines [] never = refl
+none_unknown lines (r ∷ rows) never =
+    let here : is_unknown (grade lines r.path) ≡ false = known_flag lines r.path (λ number. never r.path number (0, omega arith, refl)) in
+    let rest = none_unknown lines rows (λ path number c. never path number (suc c.0, omega (arith, c.1), c.2)) in
+    sum_by-cons (λ (g : Grade). cond (is_unknown g) 1 0) (grade lines r.path) (grades_of lines rows) ∙ ap₂ (λ (b : Bool) (n : ℕ). cond b 1 0 + n) here rest
+
+-- ---- what a grading reads
+
+same_lines : (a b : List RelLine) → ◌≡◌ {A = Result (List RelLine) ℕ} (Ok a) (Ok b) → a ≡ b
+same_lines a b e = cc
+
+same_taken : (a b : Taken) → ◌≡◌ {A = Result Taken DumpsEnd} (Ok a) (Ok b) → a ≡ b
+same_taken a b e = cc
+
+sees_all : (settings : Settings) (files : Files) (taken : Taken) (dumps : List (List ℕ)) → settings.max_paths ≤ max_paths → settings.sets ≡ Cut →
+    seen_from settings.sets 1 (nothing settings.max_paths) settings.dumps files ≡ Ok taken → dumps ≡ settings.dumps → seen_by dumps files ≡ Ok (widened max_paths taken)
+sees_all settings files taken dumps few cut sees same =
+    subst (λ (ds : List (List ℕ)). seen_by ds files ≡ Ok (widened max_paths taken)) (sym same)
+    (all_files settings.max_paths max_paths Cut 1 (nothing settings.max_paths) taken settings.dumps files (record { same = refl; few = omega arith; less = few })
+    (subst (λ (s : Sets). seen_from s 1 (nothing settings.max_paths) settings.dumps files ≡ Ok taken) cut sees))
+
+-- lines of serial-1 are written of files, and of no sample
+of_files : (source : Source) (mode : Mode) (settings : Settings) (files : Files) (taken : Taken) → IsWrittenOf source mode → mode ≡ Serial →
+    seen_in source settings files ≡ Ok taken → seen settings files ≡ Ok taken
+of_files source.Files mode settings files taken written is sees = sees
+of_files (source.Sample seed) mode settings files taken written is sees = let e : Serial ≡ Summary = sym is ∙ written in absurd (cc e)
+of_files (source.Result name) mode settings files taken written is sees = sees
+of_files (source.Earlier name) mode settings files taken written is sees = sees
+
+then_same : (r : Result Taken DumpsEnd) (f g : Taken → Result Taken DumpsEnd) → ((t : Taken) → f t ≡ g t) → (r >>= f) ≡ (r >>= g)
+then_same (Ok t) f g same = same t
+then_same (Err end) f g same = refl
+
+-- dumps that are kept give the same later
+same_later : (sets : Sets) (dump : ℕ) (taken : Taken) (names : List (List ℕ)) (files later : Files) → KeepDumps names files later →
+    seen_from sets dump taken names later ≡ seen_from sets dump taken names files
+same_later sets dump taken [] files later keep = refl
+same_later sets dump taken (name ∷ names) files later keep =
+    ap (λ octets. of_file sets dump taken octets >>= λ further. seen_from sets (dump + 1) further names later) (keep name (0, omega arith, refl)) ∙
+    then_same (of_file sets dump taken (files name)) (λ further. seen_from sets (dump + 1) further names later) (λ further. seen_from sets (dump + 1) further names files)
+    (λ further. same_later sets (dump + 1) further names files later (λ n c. keep n (suc c.0, omega (arith, c.1), c.2)))
+
+pub self_grading : BoundsLaw → SelfGradingLaw
+self_grading bounds words settings files known taken rel given serial cut comes_to exact grade_words grading later text graded_given there dumps keep is =
+    let sees = same_later settings.sets 1 (nothing settings.max_paths) settings.dumps files later keep
+    ∙ of_files settings.source settings.mode settings files taken (bounds words settings given).written serial comes_to.1 in
+    let (g, g_given, comes) = is.reads in
+    let (bytes, is_rel, read, gave) = comes in
+    let same : g ≡ grading = same_Some g grading (sym g_given ∙ graded_given) in
+    let bytes_same : bytes ≡ rel = same_Some bytes rel (sym is_rel.there ∙ ap (λ (s : GradeSettings). later s.rel) same ∙ there) in
+    let lines_same : is.rel ≡ exact.lines = same_lines is.rel exact.lines (sym read ∙ ap rel_in bytes_same ∙ exact.read) in
+    let wide = sees_all settings later taken grading.dumps (bounds words settings given).most cut sees dumps in
+    let gives : seen_by grading.dumps later ≡ Ok is.taken = subst (λ (s : GradeSettings). seen_by s.dumps later ≡ Ok is.taken) same gave in
+    let taken_same : is.taken ≡ widened max_paths taken = same_taken is.taken (widened max_paths taken) (sym gives ∙ wide) in
+    record {
+      rel = is.rel;
+      cone = cone_text is.found;
+      is_text = is.is_text ∙ ap (λ (t : Taken). grading_text is.rel t.table.rows is.found) taken_same;
+      keeps = exact.graded.keeps;
+      kept = exact.graded.kept;
+      free = subst (λ (ls : List RelLine). map is_free (grades_of ls taken.table.rows) ≡ exact.graded.keeps) (sym lines_same)
+          (free_flags exact.lines (returns (row_paths taken.table.rows) (unwrap_or known [])) taken.table.rows exact.graded.keeps exact.graded.kept exact.graded.free);
+      known = subst (λ (ls : List RelLine). (totals_of (grades_of ls taken.table.rows)).unknown ≡ 0) (sym lines_same)
+          (none_unknown exact.lines taken.table.rows exact.graded.known);
+    }

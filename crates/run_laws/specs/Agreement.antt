@@ -1,0 +1,56 @@
+-- What a check says of a result that was made of dumps, and that its summary is one.
+use Rattle.std.specs.Prelude.{◌≡◌, ◌≤◌, ◌⊎◌, ◌↔◌, ℕ, List, [], length, Option, Some}
+use Rattle.tor_io.specs.Contents.{Files}
+use Rattle.relationships.specs.declared.given.Given.{Given}
+use Rattle.dump_read.specs.declared.taking.Taken.{Taken}
+use Rattle.result_text.specs.declared.file.ResultFile.{ResultFile}
+use Rattle.result_text.specs.Grammar.{IsTextOf}
+use Rattle.result_rules.specs.declared.verdict.Verdict.{Verdict}
+use Rattle.result_rules.specs.declared.verdict.Verdict.TheVariants.{Yes}
+use Rattle.tor_words.specs.declared.settings.Mode.TheVariants.{Labels}
+use Rattle.tor_words.specs.declared.settings.Settings.{Settings}
+use Rattle.tor_words.specs.declared.check_settings.CheckSettings.{CheckSettings}
+use Rattle.tor_words.specs.CheckGiven.{check_settings_given}
+use Rattle.tor_words.specs.Given.{settings_given}
+use Rattle.torcheck_run.specs.Judging.{CanBeJudged, IsVerdict, Outcome, SettingsGive}
+use Rattle.torcheck_run.specs.Limits.{max_result}
+use Rattle.tor_output.specs.First.{Earlier, TakesUp}
+use Rattle.tor_output.specs.Output.{Faithful, IsOutput, migrated}
+use Rattle.tor_output.specs.Written.{Written}
+use Rattle.tor_output.specs.Seen.{ComesTo, Reads}
+use Rattle.run_laws.specs.SelfGrading.{KeepDumps}
+use Rattle.tor_output.specs.Summary.{summary}
+
+-- the text of a result is judged yes, alone and beside these dumps, and no other way. If it isn't too long, a check of it, alone or beside
+-- these dumps, can judge it, and a later run can take it up
+pub record IsAgreedOn (dumps : List (List ℕ)) (files : Files) (text : List ℕ) : Type 0 where
+  pub alone : IsVerdict text [] files Yes
+  pub beside : IsVerdict text dumps files Yes
+  pub no_other : (named : List (List ℕ)) (verdict : Verdict) → (named ≡ []) ⊎ (named ≡ dumps) → IsVerdict text named files verdict →
+      verdict ≡ Yes
+  pub judged : (words : List (List ℕ)) (check : CheckSettings) → check_settings_given words ≡ Some check →
+      files check.result ≡ Some text → (check.dumps ≡ []) ⊎ (check.dumps ≡ dumps) → length text ≤ max_result → CanBeJudged words files
+  pub takes_up : (name : List ℕ) (later : Files) → later name ≡ Some text → length text ≤ max_result →
+      (file : ResultFile) × TakesUp (Earlier name) later file
+
+-- so it is beside the dumps that the result was made of, whether relationships are known or not
+abbrev pub AgreementLaw : Type 0
+AgreementLaw =
+    (words : List (List ℕ)) (settings : Settings) (files : Files) (known : Option (List Given)) (taken : Taken) (output : Written) →
+    settings_given words ≡ Some settings → settings.mode ≡ Labels → ComesTo settings files (Reads known taken) →
+    IsOutput settings (Reads known taken) output → IsAgreedOn settings.dumps files output.text
+
+-- all results that are faithful to what is known and to what dumps gave have the same summary
+abbrev pub OneSummaryLaw : Type 0
+OneSummaryLaw =
+    (settings : Settings) (known : Option (List Given)) (taken : Taken) (file file' : ResultFile) → Faithful settings known taken file →
+    Faithful settings known taken file' → summary file ≡ summary file'
+
+-- a text of version 2 stays as it is. And what a check comes to is the same with the text of a result as with its text of version 2 in its
+-- place, beside the same dumps
+abbrev pub MigrateLaw : Type 0
+MigrateLaw =
+    (file : ResultFile) (before after : List ℕ) → IsTextOf file before → IsTextOf (migrated file) after →
+    ((givens : List Given) → file.givens ≡ Some givens → after ≡ before) ×
+    ((check : CheckSettings) (files later : Files) → files check.result ≡ Some before → later check.result ≡ Some after →
+    KeepDumps check.dumps files later → (outcome : Outcome) → SettingsGive check files outcome ↔ SettingsGive check later outcome)

@@ -1,0 +1,77 @@
+-- What a run that takes up a result says together with the runs before it: where the earlier result is of some dumps, the one that is
+-- written is that of these and then the new ones, but for its evidence; and a checker accepts it.
+use Rattle.std.specs.Prelude.{◌≡◌, ℕ, List, [], ◌++◌, Option, Some, Ok, map, is_none}
+use Rattle.tor_io.specs.Contents.{Files}
+use Rattle.relationships.specs.declared.given.Given.{Given}
+use Rattle.dump_read.specs.declared.taking.Taken.{Taken}
+use Rattle.result_text.specs.declared.file.ResultFile.{ResultFile}
+use Rattle.result_text.specs.Grammar.{IsTextOf}
+use Rattle.result_rules.specs.File.{its_walks}
+use Rattle.result_rules.specs.Against.{its_rows}
+use Rattle.rel_infer.specs.SelfAcceptance.{AreTableRows, IsVouchedFor}
+use Rattle.tor_words.specs.declared.settings.Settings.{Settings}
+use Rattle.tor_words.specs.Given.{settings_given}
+use Rattle.tor_output.specs.Output.{Faithful, IsResumed}
+use Rattle.tor_output.specs.Resuming.{IsOfBoth, IsOfDumps}
+use Rattle.tor_output.specs.Seen.{ComesTo, Joins, joined, seen}
+use Rattle.run_laws.specs.Agreement.{IsAgreedOn}
+
+-- two results are the same in all but their evidence, which are the walks of lost paths, the why lines and the open lines
+pub record AreSameButEvidence (file other : ResultFile) : Type 0 where
+  pub sets : file.sets ≡ other.sets
+  pub ratio : file.ratio ≡ other.ratio
+  pub asides : file.asides ≡ other.asides
+  pub givens : file.givens ≡ other.givens
+  pub rows : its_rows file ≡ its_rows other
+  pub kept : map is_none (its_walks file) ≡ map is_none (its_walks other)
+  pub edges : file.edges ≡ other.edges
+  pub totals : file.totals ≡ other.totals
+
+-- a result that a run makes of dumps is of these
+abbrev pub OfDumpsLaw : Type 0
+OfDumpsLaw =
+    (words : List (List ℕ)) (settings : Settings) (files : Files) (known : Option (List Given)) (taken : Taken) (file : ResultFile) →
+    settings_given words ≡ Some settings → seen settings files ≡ Ok taken → Faithful settings known taken file →
+    IsOfDumps file settings.dumps files
+
+-- so it is with the result of a run over all these dumps, with the same sets, ratio and givens, whatever limit on paths it has
+abbrev pub IsAsOfOneRun : Settings → Files → (earlier file : ResultFile) → Type 0
+IsAsOfOneRun settings files earlier file =
+    (names : List (List ℕ)) → IsOfDumps earlier names files →
+    (whole : Settings) (taken : Taken) (other : ResultFile) → whole.sets ≡ earlier.sets → whole.ratio ≡ settings.ratio →
+    whole.dumps ≡ names ++ settings.dumps → seen whole files ≡ Ok taken → Faithful whole earlier.givens taken other →
+    AreSameButEvidence file other
+
+-- resuming a result of some dumps with further ones gives what one run over all of them gives
+abbrev pub ResumeLaw : Type 0
+ResumeLaw =
+    (words : List (List ℕ)) (settings : Settings) (files : Files) (earlier : ResultFile) (taken : Taken) (file : ResultFile) →
+    settings_given words ≡ Some settings → ComesTo settings files (Joins earlier taken) → IsResumed settings earlier taken file →
+    IsOfBoth settings files earlier file × IsAsOfOneRun settings files earlier file
+
+-- resuming a result, of whatever dumps it is, with some dumps and the one that comes of it with others gives what resuming it with all of
+-- them gives, with the ratio of the second run, whatever limits on paths the runs have
+abbrev pub InPartsLaw : Type 0
+InPartsLaw =
+    (first second whole : Settings) (files : Files) (earlier between file other : ResultFile) (some rest all : Taken) →
+    joined earlier first.max_paths first.dumps files ≡ Ok some → IsResumed first earlier some between →
+    joined between second.max_paths second.dumps files ≡ Ok rest → IsResumed second between rest file →
+    whole.ratio ≡ second.ratio → whole.dumps ≡ first.dumps ++ second.dumps →
+    joined earlier whole.max_paths whole.dumps files ≡ Ok all → IsResumed whole earlier all other → AreSameButEvidence file other
+
+-- the text of such a result is accepted as every result is, so that it can be taken up again; and where the earlier result is of some
+-- dumps, a check says yes to it beside these and the new ones
+pub record IsAcceptedAnew (settings : Settings) (files : Files) (earlier : ResultFile) (taken : Taken) (file : ResultFile)
+    (text : List ℕ) : Type 0 where
+  pub rows : AreTableRows taken.table.rows
+  pub vouched : IsVouchedFor settings.ratio taken.table.rows taken.counts file
+  pub alone : IsAgreedOn [] files text
+  pub beside : (names : List (List ℕ)) → IsOfDumps earlier names files → IsAgreedOn (names ++ settings.dumps) files text
+
+-- so it is with each result that resumes an earlier one
+abbrev pub ResumedAcceptanceLaw : Type 0
+ResumedAcceptanceLaw =
+    (words : List (List ℕ)) (settings : Settings) (files : Files) (earlier : ResultFile) (taken : Taken) (file : ResultFile)
+    (text : List ℕ) →
+    settings_given words ≡ Some settings → ComesTo settings files (Joins earlier taken) → IsResumed settings earlier taken file →
+    IsTextOf file text → IsAcceptedAnew settings files earlier taken file text

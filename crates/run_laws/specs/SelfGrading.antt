@@ -1,0 +1,46 @@
+-- What `torgrade` says of paths by the relationships that `tor` found for the same paths.
+use Rattle.std.specs.Prelude.{◌≡◌, ◌++◌, ℕ, Bool, List, [], Contains, map, Option, Some, unwrap_or}
+use Rattle.tor_io.specs.Contents.{Files}
+use Rattle.path_clean.specs.declared.cleaned.Sets.TheVariants.{Cut}
+use Rattle.path_table.specs.Rows.{Counted, row_paths}
+use Rattle.dump_read.specs.declared.taking.Taken.{Taken}
+use Rattle.relationships.specs.declared.given.Given.{Given}
+use Rattle.relationships.specs.Givens.{returns}
+use Rattle.relationships.specs.Selection.{KeepsFrom}
+use Rattle.serial_lines.specs.declared.line.RelLine.{RelLine}
+use Rattle.tor_words.specs.declared.settings.Settings.{Settings}
+use Rattle.tor_words.specs.declared.grade_settings.GradeSettings.{GradeSettings}
+use Rattle.tor_words.specs.declared.settings.Mode.TheVariants.{Serial}
+use Rattle.tor_words.specs.Given.{settings_given}
+use Rattle.tor_words.specs.GradeGiven.{grade_settings_given}
+use Rattle.torgrade_run.specs.GradeAnswer.{IsGraded}
+use Rattle.torgrade_run.specs.GradeText.{is_free, grades_of, grades_text, totals_of}
+use Rattle.tor_output.specs.Grading.{GradesExactly}
+use Rattle.tor_output.specs.Seen.{ComesTo, Reads}
+
+-- the text begins with the lines of these paths and their totals, and there exactly the kept ones are free, and none is unknown.
+-- A path is kept exactly if some orientation that agrees with the givens serves it together with those kept before it
+pub record IsGradedAsKept (givens : List Given) (rows : List Counted) (text : List ℕ) : Type 0 where
+  pub rel : List RelLine
+  pub cone : List ℕ
+  pub is_text : text ≡ grades_text rel rows ++ cone
+  pub keeps : List Bool
+  pub kept : KeepsFrom (returns (row_paths rows) givens) (row_paths rows) keeps
+  pub free : map is_free (grades_of rel rows) ≡ keeps
+  pub known : (totals_of (grades_of rel rows)).unknown ≡ 0
+
+-- later files have under the names of dumps what these have
+abbrev pub KeepDumps : List (List ℕ) → (files later : Files) → Type 0
+KeepDumps dumps files later = (name : List ℕ) → Contains dumps name → later name ≡ files name
+
+-- so grades each grading of the same dumps, later on, whose file of known relationships is a text under which exactly the kept paths are
+-- free, as a run with `--serial1` that cuts sets has written it
+abbrev pub SelfGradingLaw : Type 0
+SelfGradingLaw =
+    (words : List (List ℕ)) (settings : Settings) (files : Files) (known : Option (List Given)) (taken : Taken) (rel : List ℕ) →
+    settings_given words ≡ Some settings → settings.mode ≡ Serial → settings.sets ≡ Cut → ComesTo settings files (Reads known taken) →
+    GradesExactly (unwrap_or known []) (row_paths taken.table.rows) rel →
+    (grade_words : List (List ℕ)) (grading : GradeSettings) (later : Files) (text : List ℕ) →
+    grade_settings_given grade_words ≡ Some grading → later grading.rel ≡ Some rel → grading.dumps ≡ settings.dumps →
+    KeepDumps settings.dumps files later → IsGraded grade_words later text →
+    IsGradedAsKept (unwrap_or known []) taken.table.rows text

@@ -1,0 +1,10 @@
+//! The laws of the runs: what the words and the files of `tor` give, what follows for all that it writes, and what it says together with
+//! the runs of `torcheck` and `torgrade`.
+#![tactic(auto)]
+
+mod laws;
+
+pub use laws::{
+    agreement_law, faithful_law, grading_law, migrate_law, one_outcome_law, one_summary_law,
+    readable_law, resume_law, seen_law, self_grading_law,
+};

@@ -1,0 +1,17 @@
+mod Summaries
+pub mod AcceptingLemmas
+pub mod Always
+pub mod Comings
+pub mod FewGivens
+pub mod GradingLemmas
+pub mod Joining
+pub mod Known
+pub mod Reaching
+pub mod ReadableLemmas
+pub mod Resumings
+pub mod Sampled
+pub mod SeenLemmas
+pub mod TableLines
+pub mod TableRows
+pub mod Unwritings
+pub mod WiderLimit

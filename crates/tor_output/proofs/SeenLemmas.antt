@@ -1,0 +1,159 @@
+-- What a run has seen is of all its dumps.
+use Rattle.std.proofs.Common.{◌≡◌, ℕ, ◌+◌, List, [], ◌∷◌, ◌++◌, map, Option, Some, None, Result, Ok, Err, refl, sym, ap, subst, ◌∙◌, append_assoc}
+use Rattle.std.specs.List.{All}
+use Rattle.std.proofs.lemmas.List.{map_push, append-nil}
+use Rattle.std.proofs.lemmas.List.Elements.{All-cons, All-nil}
+use Rattle.path_attrs.specs.Fields.{◌>>=◌}
+use Rattle.path_clean.specs.declared.cleaned.Sets.{Sets}
+use Rattle.path_clean.specs.declared.cleaned.Cleaned.{Cleaned}
+use Rattle.path_clean.specs.declared.cleaned.Cleaned.TheVariants.{Path, Aside}
+use Rattle.path_clean.specs.Clean.{clean_of}
+use Rattle.path_clean.specs.Counts.{counted_one}
+use Rattle.tor_io.specs.Contents.{Files}
+use Rattle.dump_read.specs.declared.error.LimitKind.{LimitKind}
+use Rattle.dump_read.specs.declared.taking.Taken.{Taken}
+use Rattle.dump_read.specs.FileLaws.{HoldTogether}
+use Rattle.dump_read.specs.Files.{file_counts, together, with_file}
+use Rattle.dump_read.specs.declared.file_counts.FileCounts.{FileCounts}
+use Rattle.dump_read.specs.Laws.{IsTakenOf, routes_in_files}
+use Rattle.dump_read.specs.Reading.{FileEnd, Whole, Broken, TooLong, file_reading}
+use Rattle.dump_read.specs.Routes.{Route}
+use Rattle.dump_read.specs.Seen.{DumpsEnd, of_end, of_taking, of_file}
+use Rattle.dump_read.specs.Taking.{take_cleaned, take_route, take_routes, Takes}
+use Rattle.dump_read.proofs.SumLemmas.{together_law}
+use Rattle.dump_read.proofs.TakingLemmas.{dumps, path_counted, same_ok}
+use Rattle.tor_sample.specs.Records.{sample}
+use Rattle.tor_words.specs.declared.settings.Settings.{Settings}
+use Rattle.tor_words.specs.declared.settings.Source.TheVariants as source
+use Rattle.run_base.specs.Reading.{nothing, seen_from}
+use Rattle.tor_output.specs.Seen.{seen_in_sample}
+use Rattle.tor_output.specs.SeenLaw.{IsWhole, IsSeenOf, DumpsLaw, SeenLaw}
+
+pub same : (x y : Taken) → ◌≡◌ {A = Result Taken DumpsEnd} (Ok x) (Ok y) → x ≡ y
+same x y e = cc
+
+-- ---- routes that are taken in leave the counts of files
+
+kept_by_one : (old new : Taken) (one : Cleaned) → take_cleaned old one ≡ Ok new → new.files ≡ old.files
+kept_by_one old new (Path path) e = ap (λ (t : Taken). t.files) (sym (path_counted old new path e))
+kept_by_one old new (Aside found) e = ap (λ (t : Taken). t.files) (sym (same_ok (record old { counts = counted_one found old.counts }) new e))
+
+files_kept : (sets : Sets) (routes : List Route) (old new : Taken) → Takes sets old routes new → new.files ≡ old.files
+unfolding take_routes
+files_kept sets [] old new e = ap (λ (t : Taken). t.files) (sym (same_ok old new e))
+files_kept sets (route ∷ routes) old new e = by (take_route sets old route) refl e (λ further. files_kept sets routes further new)
+  where
+    by : (one : Result Taken LimitKind) → take_route sets old route ≡ one → (one >>= λ further. take_routes sets further routes) ≡ Ok new
+        → ((further : Taken) → Takes sets further routes new → new.files ≡ further.files) → new.files ≡ old.files
+    by (Ok further) is e rest = rest further e ∙ kept_by_one old further (clean_of sets route.width route.attrs) is
+    by (Err kind) is e rest = absurd cc
+
+-- ---- one dump
+
+-- a dump was read to its end, and what it holds is counted behind the others
+pub record Adds (octets : List ℕ) (old new : Taken) : Type 0 where
+  pub whole : IsWhole octets
+  pub files : new.files ≡ old.files ++ file_counts octets ∷ []
+
+pub adds : (sets : Sets) (dump : ℕ) (octets : List ℕ) (old new : Taken) → of_file sets dump old (Some octets) ≡ Ok new → Adds octets old new
+adds sets dump octets old new e = by (take_routes sets old (file_reading octets).routes) refl (file_reading octets).end refl e
+  where
+    by : (taking : Result Taken LimitKind) → take_routes sets old (file_reading octets).routes ≡ taking → (end : FileEnd) → (file_reading octets).end ≡ end
+        → (of_taking dump taking >>= λ all. of_end dump end (with_file octets all)) ≡ Ok new → Adds octets old new
+    by (Err kind) takes end is e = absurd cc
+    by (Ok all) takes (Broken at fault) is e = absurd cc
+    by (Ok all) takes TooLong is e = absurd cc
+    by (Ok all) takes Whole is e = record {
+      whole = is;
+      files = ap (λ (t : Taken). t.files) (sym (same (with_file octets all) new e))
+          ∙ ap (λ (t : List FileCounts). t ++ file_counts octets ∷ []) (files_kept sets (file_reading octets).routes old all takes);
+    }
+
+-- ---- all dumps
+
+-- what was seen of the dumps of these octets
+record SoFar (sets : Sets) (octets : List (List ℕ)) (taken : Taken) : Type 0 where
+  routes : IsTakenOf sets (routes_in_files octets) taken
+  files : taken.files ≡ map file_counts octets
+
+-- the others are there and whole, and what was seen is of them too
+record Further (sets : Sets) (before : List (List ℕ)) (given : List (Option (List ℕ))) (new : Taken) : Type 0 where
+  octets : List (List ℕ)
+  there : given ≡ map Some octets
+  whole : All IsWhole octets
+  so_far : SoFar sets (before ++ octets) new
+
+one_more : (sets : Sets) (dump : ℕ) (before : List (List ℕ)) (octets : List ℕ) (old new : Taken) → SoFar sets before old → of_file sets dump old (Some octets) ≡ Ok new
+    → SoFar sets (before ++ octets ∷ []) new
+one_more sets dump before octets old new so_far e =
+    let more = dumps.further sets dump before (Some octets) old new so_far.routes e in
+    record {
+      routes = subst (λ (o : List ℕ). IsTakenOf sets (routes_in_files (before ++ o ∷ [])) new) (sym (one_octets octets more.octets more.there)) more.taken;
+      files = (adds sets dump octets old new e).files ∙ ap (λ (t : List FileCounts). t ++ file_counts octets ∷ []) so_far.files ∙ sym (map_push file_counts before octets);
+    }
+  where
+    one_octets : (x y : List ℕ) → ◌≡◌ {A = Option (List ℕ)} (Some x) (Some y) → x ≡ y
+    one_octets x y e = cc
+
+rest : (sets : Sets) (dump : ℕ) (before names : List (List ℕ)) (files : Files) (old new : Taken) → SoFar sets before old → seen_from sets dump old names files ≡ Ok new
+    → Further sets before (map files names) new
+rest sets dump before [] files old new so_far e = record {
+  octets = [];
+  there = refl;
+  whole = All-nil IsWhole;
+  so_far = subst (SoFar sets (before ++ [])) (same old new e) (subst (λ (t : List (List ℕ)). SoFar sets t old) (sym (append-nil before)) so_far);
+}
+rest sets dump before (name ∷ names) files old new so_far e =
+    by (files name) (of_file sets dump old (files name)) refl e (λ octets further. rest sets (dump + 1) (before ++ octets ∷ []) names files further new)
+  where
+    by : (file : Option (List ℕ)) (one : Result Taken DumpsEnd) → of_file sets dump old file ≡ one → (one >>= λ further. seen_from sets (dump + 1) further names files) ≡ Ok new
+        → ((octets : List ℕ) (further : Taken) → SoFar sets (before ++ octets ∷ []) further → seen_from sets (dump + 1) further names files ≡ Ok new
+        → Further sets (before ++ octets ∷ []) (map files names) new)
+        → Further sets before (file ∷ map files names) new
+    by file (Err end) is e ih = absurd cc
+    by None (Ok further) is e ih = absurd cc
+    by (Some octets) (Ok further) is e ih =
+        let more = ih octets further (one_more sets dump before octets old further so_far is) e in
+        record {
+          octets = octets ∷ more.octets;
+          there = ap (λ (t : List (Option (List ℕ))). Some octets ∷ t) more.there;
+          whole = All-cons IsWhole octets more.octets (adds sets dump octets old further is).whole more.whole;
+          so_far = subst (λ (t : List (List ℕ)). SoFar sets t new) (append_assoc before (octets ∷ []) more.octets) more.so_far;
+        }
+
+-- ---- a run
+
+at_first : (sets : Sets) (limit : ℕ) → SoFar sets [] (nothing limit)
+at_first sets limit = record { routes = dumps.first sets (nothing limit) (record { rows = refl; counts = refl }); files = refl }
+
+all_seen : (sets : Sets) (given : List (Option (List ℕ))) (taken : Taken) → Further sets [] given taken → IsSeenOf sets given taken
+all_seen sets given taken all = record {
+  octets = all.octets;
+  there = all.there;
+  whole = all.whole;
+  routes = all.so_far.routes;
+  files = all.so_far.files;
+  held = subst (λ (t : List FileCounts). HoldTogether all.octets (together t)) (sym all.so_far.files) (together_law all.octets);
+}
+
+pub dumps_law : DumpsLaw
+dumps_law sets limit names files taken e = all_seen sets (map files names) taken (rest sets 1 [] names files (nothing limit) taken (at_first sets limit) e)
+
+-- a sample is read as one dump that is there
+
+abbrev pub sample_file : ℕ → Files
+sample_file seed name = Some (sample seed)
+
+pub as_dump : (settings : Settings) (seed : ℕ) → seen_from settings.sets 1 (nothing settings.max_paths) ([] ∷ []) (sample_file seed) ≡ seen_in_sample settings seed
+as_dump settings seed = by (seen_in_sample settings seed)
+  where
+    by : (one : Result Taken DumpsEnd) → (one >>= λ further. Ok further) ≡ one
+    by (Ok further) = refl
+    by (Err end) = refl
+
+pub seen_law : SeenLaw
+seen_law source.Files settings files taken e = dumps_law settings.sets settings.max_paths settings.dumps files taken e
+seen_law (source.Result name) settings files taken e = dumps_law settings.sets settings.max_paths settings.dumps files taken e
+seen_law (source.Earlier name) settings files taken e = dumps_law settings.sets settings.max_paths settings.dumps files taken e
+seen_law (source.Sample seed) settings files taken e =
+    dumps_law settings.sets settings.max_paths ([] ∷ []) (sample_file seed) taken (as_dump settings seed ∙ e)

@@ -1,0 +1,41 @@
+use Rattle.tor_output.specs.Written.{written}
+use Rattle.tor_output.proofs.Resumings.{rows_begin, joined_made, joined_some, joined_refused, joined_reach}
+use Rattle.tor_output.proofs.resuming.joined_output.Goals as goal
+
+pub returns-in-Ok-resumed_text-clause-output : goal.returns-in-Ok-resumed_text-clause-output
+returns-in-Ok-resumed_text-clause-output g c = λ old begun.
+    let new = c.read_dumps.new.taken in
+    let rows = rows_begin old c.args.settings.now.max_paths c.args.earlier.sets _ c.args.taken new begun.begun c.in-Ok.ensures.some_dumps in
+    joined_made c.args.settings.now old c.args.earlier c.args.taken c.as_slice-dumps.result.now begun c.as_slice-dumps.ensures (g.H.Shelf.files c.args.shelf.now)
+    new (written c.in-Ok-resumed_text.output) c.in-Ok.ensures.read (c.in-Ok-resumed_text.ensures old begun.left rows)
+
+pub returns-in-Ok-resumed_text-clause-of_some : goal.returns-in-Ok-resumed_text-clause-of_some
+returns-in-Ok-resumed_text-clause-of_some g c = λ old begun.
+    let new = c.read_dumps.new.taken in
+    let rows = rows_begin old c.args.settings.now.max_paths c.args.earlier.sets _ c.args.taken new begun.begun c.in-Ok.ensures.some_dumps in
+    joined_some c.args.settings.now old c.args.earlier c.args.taken c.as_slice-dumps.result.now begun c.as_slice-dumps.ensures new
+    (written c.in-Ok-resumed_text.output) c.in-Ok.ensures.some_dumps c.has_table_rows.ensures (c.in-Ok-resumed_text.ensures old begun.left rows)
+
+pub resumed_text-requires-clause-begins : goal.resumed_text-requires-clause-begins
+resumed_text-requires-clause-begins g c =
+    let e = c.requires.begun in
+    record {
+      file = e.0;
+      left = e.2.left;
+      accepted = e.1;
+      begins = rows_begin e.0 c.args.settings.now.max_paths c.args.earlier.sets _ c.args.taken c.read_dumps.new.taken e.2.begun c.in-Ok.ensures.some_dumps;
+    }
+
+pub returns-in-Err-clause-refused : goal.returns-in-Err-clause-refused
+returns-in-Err-clause-refused g c = λ old begun.
+    let shelf = g.H.Shelf in
+    let e = c.in-Err.ensures in
+    joined_refused c.args.settings.now old c.args.earlier c.args.taken c.as_slice-dumps.result.now begun c.as_slice-dumps.ensures (shelf.files c.args.shelf.now)
+    (shelf.steady c.args.shelf.now) c.in-Err.stopped e.stopped e.named e.before e.steady_failed
+
+pub returns-in-Err-clause-reach : goal.returns-in-Err-clause-reach
+returns-in-Err-clause-reach g c =
+    let shelf = g.H.Shelf in
+    let e = c.in-Err.ensures in
+    joined_reach c.args.settings.now c.as_slice-dumps.result.now (shelf.files c.args.shelf.now) (shelf.left c.read_dumps.new.shelf) c.in-Err.stopped c.as_slice-dumps.ensures e.named e.place
+    e.bounded e.shown

@@ -1,0 +1,14 @@
+-- What dumps are read on top of.
+use Rattle.std.specs.Prelude.{◌≡◌, ◌≤◌, length}
+use Rattle.dump_read.specs.declared.taking.Taken.{Taken}
+use Rattle.result_text.specs.declared.file.ResultFile.{ResultFile}
+use Rattle.resume.specs.declared.table.Rest.{Rest}
+use Rattle.resume.specs.Earlier.{IsRestOf}
+use Rattle.tor_words.specs.declared.settings.Settings.{Settings}
+use Rattle.tor_output.specs.Seen.{taken_up}
+
+-- this result is taken up: that is taken in before the first dump, and this is left of it
+pub record IsBegun (settings : Settings) (earlier : ResultFile) (rest : Rest) (taken : Taken) : Type 0 where
+  pub left : IsRestOf earlier rest
+  pub room : length earlier.paths ≤ settings.max_paths
+  pub begun : taken ≡ taken_up earlier settings.max_paths

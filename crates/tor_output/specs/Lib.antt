@@ -1,0 +1,16 @@
+pub mod Accepting
+pub mod Answer
+pub mod Begun
+pub mod First
+pub mod Grading
+pub mod Limits
+pub mod Listing
+pub mod Output
+pub mod Reach
+pub mod Refusals
+pub mod Resuming
+pub mod Sampling
+pub mod Seen
+pub mod SeenLaw
+pub mod Summary
+pub mod Written

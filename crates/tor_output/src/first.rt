@@ -1,0 +1,107 @@
+//! The file that a run reads to its end before any dump: known relationships, or a result, which may be taken up.
+ghost use Rattle.std.specs.Prelude.{◌≤◌, Some, IfOk, IfErr, IfSome, OnOk, IsErrAnd, length};
+ghost use Rattle.std.specs.Io.KnownBytes.{IsAtEnd};
+ghost use Rattle.relationships.specs.Givens.{NameTwo, NameOnce};
+ghost use Rattle.serial_lines.specs.Serial.{IsReadingError};
+ghost use Rattle.run_base.specs.Frames.{ReadsShelf};
+ghost use Rattle.tor_output.specs.First.{Givens, Result as ResultAt, Earlier, AreGivens, AreSomeGivens, SaysGivens, HoldsResult, IsSomeResult};
+ghost use Rattle.tor_output.specs.First.{TakesUpSome};
+ghost use Rattle.inference.specs.GivenInference.{max_givens};
+ghost use Rattle.tor_output.specs.Reach.{IsFirstInReach};
+ghost use Rattle.tor_output.specs.Refusals.{AreGivensIn, TakesUpIn, IsUnwrittenAtFirst, IsFailedRead};
+
+use crate::unwritten::Unwritten;
+use relationships::Given;
+use result_reading::{NoResult, read_result};
+use result_text::ResultFile;
+use run_base::{FirstFile, Refusal, read_whole};
+use serial_lines::{RelError, parse_given};
+use std::alloc::Global;
+use tor_arena::{Keys, List};
+use tor_io::Shelf;
+use tor_words::Name;
+use torcheck_run::{MAX_RESULT, Ruling, ruling_of_file};
+
+/// The most octets of a file of known relationships.
+const MAX_GIVEN: usize = 1 << 28;
+
+// The relationships that the octets say. The octets are let go.
+fn parse_givens(alloc: Global, keys: Keys, bytes: List<u8>) -> Result<List<Given>, RelError>
+    ensures ok { IfOk result (SaysGivens bytes) }
+    ensures err { IfErr result (λ e. IsReadingError e bytes) }
+    ensures two { IfOk result NameTwo }
+    ensures once { IfOk result NameOnce }
+    ensures few { IfOk result (λ givens. length givens ≤ length bytes) }
+{
+    parse_given(alloc, keys, bytes.as_slice())
+}
+
+/// What the file of this name says is known.
+pub(crate) fn givens_in<H: Shelf>(
+    alloc: Global,
+    keys: Keys,
+    shelf: &mut H,
+    name: &Name,
+) -> Result<List<Given>, Unwritten>
+    ensures known { IfOk result (λ givens. AreGivensIn (Givens name.now) (H.files shelf.old) (Some givens)) }
+    ensures of_some { IfOk result (λ givens. AreSomeGivens (Givens name.now) (Some givens)) }
+    ensures two { IfOk result NameTwo }
+    ensures once { IfOk result NameOnce }
+    ensures few { IfOk result (λ givens. length givens ≤ max_givens) }
+    ensures unwritten { IfErr result (IsUnwrittenAtFirst (Givens name.now) (H.files shelf.old) (H.steady shelf.old)) }
+    ensures reach { IfErr result (IsFirstInReach (Givens name.now) (H.files shelf.old) (H.left shelf.new)) }
+
+    ensures reads_shelf { ReadsShelf H.Shelf (IsErrAnd result IsFailedRead) shelf.old shelf.new }
+{
+    match read_whole(alloc, shelf, name.as_text(), MAX_GIVEN) {
+        Ok(bytes) => match parse_givens(alloc, keys, bytes) {
+            Ok(givens) => Ok(givens),
+            Err(RelError::BadLine(line)) => Err(Unwritten::BadLine(FirstFile::Given, line)),
+            Err(RelError::NoMemory) => Err(Unwritten::Refused(Refusal::NoMemory)),
+        },
+        Err(unread) => Err(Unwritten::First(FirstFile::Given, unread)),
+    }
+}
+
+/// The result that the file of this name holds.
+pub(crate) fn result_in<H: Shelf>(
+    alloc: Global,
+    shelf: &mut H,
+    name: &Name,
+) -> Result<ResultFile, Unwritten>
+    ensures held { IfOk result (λ file. IfSome (H.files shelf.old) (λ files. HoldsResult (ResultAt name.now) files file)) }
+    ensures of_some { IfOk result (IsSomeResult (ResultAt name.now)) }
+    ensures unwritten { IfErr result (IsUnwrittenAtFirst (ResultAt name.now) (H.files shelf.old) (H.steady shelf.old)) }
+    ensures reach { IfErr result (IsFirstInReach (ResultAt name.now) (H.files shelf.old) (H.left shelf.new)) }
+    ensures read_out { OnOk result (IsAtEnd (H.left shelf.new)) }
+
+    ensures reads_shelf { ReadsShelf H.Shelf (IsErrAnd result IsFailedRead) shelf.old shelf.new }
+{
+    match read_result(alloc, shelf, name.as_text(), MAX_RESULT) {
+        Ok(file) => Ok(file),
+        Err(NoResult::BadLine(line)) => Err(Unwritten::BadLine(FirstFile::Result, line)),
+        Err(NoResult::Unread(unread)) => Err(Unwritten::First(FirstFile::Result, unread)),
+    }
+}
+
+/// The result that the file of this name holds, where it meets all rules.
+pub(crate) fn earlier_in<H: Shelf>(
+    alloc: Global,
+    keys: Keys,
+    shelf: &mut H,
+    name: &Name,
+) -> Result<ResultFile, Unwritten>
+    ensures held { IfOk result (TakesUpIn (Earlier name.now) (H.files shelf.old)) }
+    ensures of_some { IfOk result (TakesUpSome (Earlier name.now)) }
+    ensures unwritten { IfErr result (IsUnwrittenAtFirst (Earlier name.now) (H.files shelf.old) (H.steady shelf.old)) }
+    ensures reach { IfErr result (IsFirstInReach (Earlier name.now) (H.files shelf.old) (H.left shelf.new)) }
+    ensures read_out { OnOk result (IsAtEnd (H.left shelf.new)) }
+
+    ensures reads_shelf { ReadsShelf H.Shelf (IsErrAnd result IsFailedRead) shelf.old shelf.new }
+{
+    match ruling_of_file(alloc, keys, shelf, name.as_text()) {
+        Ok(Ruling::Met(file)) => Ok(file),
+        Ok(Ruling::Broken { line, rule }) => Err(Unwritten::Broken(line, rule)),
+        Err(unread) => Err(Unwritten::First(FirstFile::Result, unread)),
+    }
+}

@@ -1,0 +1,16 @@
+//! What `tor` writes: what the words ask for, as a text that can be written, or why there is none and what is answered then; and the words
+//! for what the words and the files give, what is written and noted, and when each status has to come.
+#![tactic(auto)]
+
+mod asking;
+mod first;
+mod listing;
+mod output;
+mod resuming;
+mod sampling;
+mod summary;
+mod unwritten;
+
+pub use asking::output_asked;
+pub use output::Output;
+pub use unwritten::{Unwritten, answer_to_unwritten};

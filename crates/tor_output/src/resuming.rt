@@ -1,0 +1,224 @@
+//! The result of dumps on top of an earlier one.
+ghost use Rattle.std.specs.Prelude.{◌≡◌, ◌≤◌, ◌<◌, ◌⊎◌, Ok, IfOk, IfErr, IfSome, OnOk, IsErrAnd, length, unwrap_or, []};
+ghost use Rattle.std.specs.Io.KnownBytes.{IsAtEnd};
+ghost use Rattle.tor_arena.specs.Limits.{max_paths, max_ratio};
+ghost use Rattle.result_rules.specs.Rules.{Accepts};
+ghost use Rattle.result_text.specs.Text.{its_givens};
+ghost use Rattle.inference.specs.GivenInference.{max_givens};
+ghost use Rattle.path_table.specs.Rows.{row_paths};
+ghost use Rattle.resume.specs.Earlier.{BeginsWithPathsOf, BeginsWithEarlier, IsRestOf};
+ghost use Rattle.result_text.specs.declared.file.ResultFile.{ResultFile as File};
+ghost use Rattle.tor_words.specs.declared.settings.Source.TheVariants.{Earlier as from_earlier};
+ghost use Rattle.run_base.specs.Answers.{IsReadFault};
+ghost use Rattle.run_base.specs.Frames.{ReadsShelf};
+ghost use Rattle.tor_output.specs.Output.{IsResumed, IsOutput, IsOutputOf, IsOutputOn, IsOutputOnEarlier, IsOutputOnSome};
+ghost use Rattle.tor_output.specs.Reach.{IsUnwrittenInReach, StopsInReach};
+ghost use Rattle.tor_output.specs.Refusals.{IsFailedRead, IsStopOn, IsUnwrittenIn, past_limit};
+ghost use Rattle.tor_output.specs.Sampling.{IsEarlier};
+ghost use Rattle.tor_output.specs.Begun.{IsBegun};
+ghost use Rattle.tor_output.specs.Seen.{Outcome, ComesOfSome};
+ghost use Rattle.tor_output.specs.Written.{written};
+
+use crate::first::earlier_in;
+use crate::output::{Output, has_table_rows, text_and_summary};
+use crate::unwritten::Unwritten;
+use dump_read::{DumpError, LimitKind, Taken};
+use path_clean::{Asides, Cause};
+use rel_infer::result_resumed;
+use result_text::ResultFile;
+use resume::{Rest, TableRefused, take_up};
+use run_base::{Refusal, Stopped, read_dumps};
+use std::alloc::Global;
+use tor_arena::{Keys, List, NoMemory};
+use tor_io::Shelf;
+use tor_words::{Name, Settings};
+
+// The same counts.
+fn same_counts(asides: &Asides) -> Asides
+    ensures { result ≡ asides.now }
+{
+    Asides::from_counts([
+        asides.get(Cause::NoPath),
+        asides.get(Cause::BadSegments),
+        asides.get(Cause::Confed),
+        asides.get(Cause::Sets),
+        asides.get(Cause::Reserved),
+        asides.get(Cause::Loop),
+        asides.get(Cause::Short),
+    ])
+}
+
+// What is taken in before the first dump, and what is left of the earlier result.
+#[derive(Drop)]
+struct Started {
+    taken: Taken,
+    rest: Rest,
+}
+
+// What is taken in before the first dump: the paths of the earlier result with their times, and its counts.
+fn begun(
+    alloc: Global,
+    keys: Keys,
+    settings: &Settings,
+    earlier: ResultFile,
+) -> Result<Started, Refusal>
+    requires accepted { Accepts earlier }
+    requires some { 1 ≤ settings.now.max_paths }
+    requires most { settings.now.max_paths ≤ max_paths }
+    ensures begun { IfOk result (λ begun. IsBegun settings.now earlier begun.rest begun.taken) }
+    ensures refused { IfErr result (λ refusal.
+        ((refusal ≡ past_limit) × (settings.now.max_paths < length earlier.paths)) ⊎ (refusal ≡ Refusal.NoMemory)) }
+{
+    let counts = same_counts(&earlier.asides);
+    match take_up(alloc, keys, earlier, settings.max_paths) {
+        Ok(up) => Ok(Started {
+            taken: Taken {
+                table: up.table,
+                counts,
+                files: List::new(alloc),
+            },
+            rest: up.rest,
+        }),
+        Err(TableRefused::TooManyPaths) => Err(Refusal::Dumps(Stopped {
+            dump: 0,
+            error: DumpError::Limit(LimitKind::Paths),
+        })),
+        Err(TableRefused::NoMemory) => Err(Refusal::NoMemory),
+    }
+}
+
+// The result of what the dumps gave on top of the earlier one.
+fn resumed_result(
+    alloc: Global,
+    keys: Keys,
+    settings: &Settings,
+    earlier: Rest,
+    taken: Taken,
+) -> Result<ResultFile, NoMemory>
+    requires ratio { settings.now.ratio ≤ max_ratio }
+    requires few { length (unwrap_or earlier.givens []) ≤ max_givens }
+    requires begins { BeginsWithEarlier (row_paths taken.table.rows) earlier }
+    ensures { IfOk result (λ file. (old : File) → IsRestOf old earlier → BeginsWithPathsOf (row_paths taken.table.rows) old →
+        IsResumed settings.now old taken file) }
+{
+    let Taken {
+        table,
+        counts,
+        files: _,
+    } = taken;
+    result_resumed(alloc, keys, settings.ratio, earlier, table, counts)
+}
+
+// Its text, and its summary.
+fn resumed_text(
+    alloc: Global,
+    keys: Keys,
+    settings: &Settings,
+    earlier: Rest,
+    taken: Taken,
+) -> Result<Output, NoMemory>
+    requires ratio { settings.now.ratio ≤ max_ratio }
+    requires few { length (unwrap_or earlier.givens []) ≤ max_givens }
+    requires begins { BeginsWithEarlier (row_paths taken.table.rows) earlier }
+    ensures { IfOk result (λ output. (old : File) → IsRestOf old earlier → BeginsWithPathsOf (row_paths taken.table.rows) old →
+        IsOutputOn settings.now old taken (written output)) }
+{
+    let file = resumed_result(alloc, keys, settings, earlier, taken)?;
+    text_and_summary(alloc, file)
+}
+
+// The text of the result of what the dumps of the settings give on top of what was taken up of the earlier one, and its summary.
+fn joined_output<H: Shelf>(
+    alloc: Global,
+    keys: Keys,
+    settings: &Settings,
+    earlier: Rest,
+    mut taken: Taken,
+    shelf: &mut H,
+) -> Result<Output, Refusal>
+    requires ratio { settings.now.ratio ≤ max_ratio }
+    requires few { length (unwrap_or earlier.givens []) ≤ max_givens }
+    requires begun { (old : File) × Accepts old × IsBegun settings.now old earlier taken }
+    ensures output { IfOk result (λ output. (old : File) → IsBegun settings.now old earlier taken → IfSome (H.files shelf.old) (λ files.
+        IsOutputOnEarlier settings.now old files (written output))) }
+    ensures of_some { IfOk result (λ output. (old : File) → IsBegun settings.now old earlier taken →
+        IsOutputOnSome settings.now old (written output)) }
+    ensures refused { IfErr result (λ refusal. (old : File) → IsBegun settings.now old earlier taken →
+        IsStopOn old settings.now (H.files shelf.old) (H.steady shelf.old) refusal) }
+    ensures read_out { OnOk result (0 < length settings.now.dumps → IsAtEnd (H.left shelf.new)) }
+    ensures reach { IfErr result (StopsInReach settings.now (H.files shelf.old) (H.left shelf.new)) }
+
+    ensures reads_shelf { ReadsShelf H.Shelf (IsErrAnd result IsReadFault) shelf.old shelf.new }
+{
+    let dumps = settings.dumps.as_slice();
+    match read_dumps(alloc, shelf, dumps, earlier.sets, &mut taken) {
+        Ok(()) => {
+            has_table_rows(&taken.table);
+            match resumed_text(alloc, keys, settings, earlier, taken) {
+                Ok(output) => Ok(output),
+                Err(NoMemory) => Err(Refusal::NoMemory),
+            }
+        }
+        Err(stopped) => Err(Refusal::Dumps(stopped)),
+    }
+}
+
+// What the dumps of the settings give on top of the earlier result. All memory is taken here.
+fn output_on<H: Shelf>(
+    alloc: Global,
+    keys: Keys,
+    settings: &Settings,
+    earlier: ResultFile,
+    shelf: &mut H,
+) -> Result<Output, Refusal>
+    requires source { IsEarlier settings.now.source }
+    requires some { 1 ≤ settings.now.max_paths }
+    requires most { settings.now.max_paths ≤ max_paths }
+    requires ratio { settings.now.ratio ≤ max_ratio }
+    requires accepted { Accepts earlier }
+    requires few { length (its_givens earlier) ≤ max_givens }
+    requires read { IsAtEnd (H.left shelf.old) }
+    ensures output { IfOk result (λ output. IfSome (H.files shelf.old) (λ files.
+        IsOutputOnEarlier settings.now earlier files (written output))) }
+    ensures of_some { IfOk result (λ output. IsOutputOnSome settings.now earlier (written output)) }
+    ensures refused { IfErr result (IsStopOn earlier settings.now (H.files shelf.old) (H.steady shelf.old)) }
+    ensures read_out { OnOk result (0 < length settings.now.dumps → IsAtEnd (H.left shelf.new)) }
+    ensures reach { IfErr result (StopsInReach settings.now (H.files shelf.old) (H.left shelf.new)) }
+
+    ensures reads_shelf { ReadsShelf H.Shelf (IsErrAnd result IsReadFault) shelf.old shelf.new }
+{
+    match begun(alloc, keys, settings, earlier) {
+        Ok(begun) => joined_output(alloc, keys, settings, begun.rest, begun.taken, shelf),
+        Err(refusal) => Err(refusal),
+    }
+}
+
+/// The text of the result of the dumps on top of the one that the file of this name holds.
+pub(crate) fn resumed_output<H: Shelf>(
+    alloc: Global,
+    keys: Keys,
+    settings: &Settings,
+    name: &Name,
+    shelf: &mut H,
+) -> Result<Output, Unwritten>
+    requires source { settings.now.source ≡ from_earlier name.now }
+    requires some { 1 ≤ settings.now.max_paths }
+    requires most { settings.now.max_paths ≤ max_paths }
+    requires ratio { settings.now.ratio ≤ max_ratio }
+    ensures output { IfOk result (λ output. IfSome (H.files shelf.old) (λ files. IsOutputOf settings.now files (written output))) }
+    ensures of_some { IfOk result (λ output. (outcome : Outcome) × ComesOfSome settings.now outcome ×
+        IsOutput settings.now outcome (written output)) }
+    ensures unwritten { IfErr result (IsUnwrittenIn settings.now (H.files shelf.old) (H.steady shelf.old)) }
+    ensures read_out { OnOk result (0 < length settings.now.dumps → IsAtEnd (H.left shelf.new)) }
+    ensures reach { IfErr result (IsUnwrittenInReach settings.now (H.files shelf.old) (H.left shelf.new)) }
+
+    ensures reads_shelf { ReadsShelf H.Shelf (IsErrAnd result IsFailedRead) shelf.old shelf.new }
+{
+    match earlier_in(alloc, keys, shelf, name) {
+        Ok(earlier) => match output_on(alloc, keys, settings, earlier, shelf) {
+            Ok(output) => Ok(output),
+            Err(refusal) => Err(Unwritten::Refused(refusal)),
+        },
+        Err(unwritten) => Err(unwritten),
+    }
+}

@@ -1,5 +1,0 @@
-use Rattle.tor_run.proofs.Agreeing.{agreement}
-use Rattle.tor_run.proofs.laws.agreement_law.Goals as goal
-
-pub returns : goal.returns
-returns c = agreement c.one_value.ensures c.bounds_law.ensures c.faithful_law.ensures.result c.faithful_law.ensures.table

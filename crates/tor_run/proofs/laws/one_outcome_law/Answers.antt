@@ -1,5 +1,0 @@
-use Rattle.tor_run.proofs.Comings.{one_outcome}
-use Rattle.tor_run.proofs.laws.one_outcome_law.Goals as goal
-
-pub returns : goal.returns
-returns c = one_outcome c.one_value.ensures

@@ -1,9 +1,0 @@
-use Rattle.std.proofs.Common.{ap₂, refl}
-use Rattle.rel_infer.proofs.OneGivenResult.{given_result_law}
-use Rattle.tor_run.specs.Summary.{summary_of}
-use Rattle.tor_run.proofs.laws.one_summary_law.Goals as goal
-
-pub returns : goal.returns
-returns c = λ settings known taken file file' faithful faithful'.
-    let one = given_result_law known known settings.sets settings.ratio taken.table.rows taken.counts file file' refl faithful faithful' in
-    ap₂ summary_of one.0 one.3

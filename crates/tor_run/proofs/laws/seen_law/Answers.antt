@@ -1,8 +1,0 @@
-use Rattle.tor_run.proofs.SeenLemmas as lemmas
-use Rattle.tor_run.proofs.laws.seen_law.Goals as goal
-
-pub returns-clause-dumps : goal.returns-clause-dumps
-returns-clause-dumps c = lemmas.dumps_law
-
-pub returns-clause-runs : goal.returns-clause-runs
-returns-clause-runs c = lemmas.seen_law
