@@ -1,5 +1,5 @@
 -- What the segments of a route are merged to, by what stands among them.
-use Rattle.std.proofs.Common.{◌≡◌, ℕ, drop, ◌&&◌, Bool, true, false, cond, nat_eq, List, [], ◌∷◌, ◌++◌, Option, Some, None, length, refl}
+use Rattle.std.proofs.Common.{◌≡◌, ℕ, drop, ◌&&◌, Bool, true, false, cond, nat_eq, List, [], ◌++◌, Option, Some, None, length, refl}
 use Rattle.std.proofs.Common.{sym, ap, ◌∙◌}
 use Rattle.std.specs.List.{dedup, flat_map, before_first, list_any}
 use Rattle.std.proofs.Math.Seq.{drop-append_seam}
