@@ -1,5 +1,5 @@
 //! Which orders lead to their opposites, settled in batches.
-ghost use Rattle.std.specs.Prelude.{◌≡◌, ℕ, Contains, OnOk, IfOk};
+ghost use Rattle.std.specs.Prelude.{[], ◌≡◌, ℕ, Contains, OnOk, IfOk};
 ghost use Rattle.order_trials.specs.Showing.{IsFullyShown};
 ghost use Rattle.order_trials.specs.Settling.{IsSettled, IsSettling};
 ghost use Rattle.forced_edges.specs.Batches.{IsWaiting, AreNodesOf, IsBatchSettled};
@@ -8,6 +8,33 @@ use order_trials::{Problem, Settling, Shown};
 use std::alloc::Global;
 use tor_arena::{List, NoMemory, NodeId};
 use tor_digraph::NodeSet;
+
+/// Settles those of the orders that need not wait, and adds the others to those that wait, of which there is none yet. The first are
+/// settled alone, until so many arcs lead out of what their searches have tried.
+fn settle_each(
+    alloc: Global,
+    problem: &Problem<'_>,
+    nodes: &[NodeId],
+    arcs: usize,
+    settling: &mut Settling,
+    waiting: &mut List<NodeId>,
+) -> Result<(), NoMemory>
+    requires inside { AreNodesOf problem.now nodes.now }
+    requires settling { IsSettling problem.now settling.old }
+    requires none { settling.old.together.items ≡ [] }
+    requires empty { waiting.old ≡ [] }
+    ensures settling { OnOk result (IsSettling problem.now settling.new) }
+    ensures batch { OnOk result (IsBatchSettled problem.now nodes.now settling.old.shown settling.new.shown waiting.new) }
+{
+    let mut left = arcs;
+    for place in 0..nodes.len() {
+        let node = nodes[place];
+        let done = settling.settle(alloc, problem, node, left > 0)?;
+        let_wait(done, node, waiting)?;
+        left = left_of(left, problem, &settling.trial.nodes);
+    }
+    Ok(())
+}
 
 /// Settles those of the orders that need not wait, and answers the others. The first are settled alone, until there are as many arcs
 /// out of what their searches have tried as nodes that the batch before this one has reached.
@@ -22,16 +49,16 @@ fn settle_batch(
     ensures settling { OnOk result (IsSettling problem.now settling.new) }
     ensures batch { IfOk result (IsBatchSettled problem.now nodes.now settling.old.shown settling.new.shown) }
 {
-    let mut left = settling.together.len();
+    let arcs = settling.together.len();
     settling.together.clear();
     let mut waiting = List::new(alloc);
-    for place in 0..nodes.len() {
-        let node = nodes[place];
-        let done = settling.settle(alloc, problem, node, left > 0)?;
-        let_wait(done, node, &mut waiting)?;
-        left = left_of(left, problem, &settling.trial.nodes);
+    match settle_each(alloc, problem, nodes, arcs, settling, &mut waiting) {
+        Ok(()) => Ok(waiting),
+        Err(error) => {
+            drop(waiting);
+            Err(error)
+        }
     }
-    Ok(waiting)
 }
 
 /// Settles all of these orders, in batches: within a batch what all of them lead to is visited once.

@@ -1,35 +1,4 @@
-use Rattle.std.proofs.Common.{◌<◌, ◌∙◌, refl, arith}
-use Rattle.std.proofs.lemmas.List.Elements.{All-contains}
-use Rattle.tor_arena.proofs.Gets.{Contains-from_has}
-use Rattle.tor_digraph.proofs.Members.{read-at}
-use Rattle.forced_edges.proofs.Batching.{batch_begins, batch_next, batch_done}
 use Rattle.forced_edges.proofs.batches.settle_batch.Goals as goal
 
-pub loop-place-init : goal.loop-place-init
-loop-place-init c = record {
-  batch = batch_begins c.args.problem.now c.args.nodes.now c.args.settling.now.shown c.clear.new.self c.new-waiting.result c.requires.settling.shown
-      (c.clear.ensures.count ∙ c.requires.settling.count) c.clear.ensures.none c.new-waiting.ensures;
-  trial = c.requires.settling.trial;
-}
-
-pub loop-place-preserved : goal.loop-place-preserved
-loop-place-preserved c =
-    let nodes = c.args.nodes.now in
-    let place = c.loop-place.place in
-    let test = c.loop-place-test.true in
-    let end = c.loop-place.auto.place-end in
-    let node = c.index-nodes-place.result in
-    let at = read-at nodes nodes place node refl c.index-nodes-place.is (omega (arith, test, end)) in
-    let below = All-contains (λ n. n < c.args.problem.now.formula.net.nodes) nodes node c.requires.inside (Contains-from_has nodes node (place, at)) in
-    record {
-      batch = batch_next c.args.problem.now nodes c.args.settling.now.shown place c.loop-place.settling c.settle.new.self c.loop-place.waiting c.let_wait.new.waiting node
-          c.in_ok-done.done c.loop-place.invariant.batch at below c.in_ok-done.ensures c.in_ok-let_wait.ensures;
-      trial = c.in_ok-done.ensures.trial;
-    }
-
-pub returns-clause-batch : goal.returns-clause-batch
-returns-clause-batch c =
-    let test = c.loop-place-test.false in
-    let end = c.loop-place.auto.place-end in
-    batch_done c.args.problem.now c.args.nodes.now c.args.settling.now.shown c.loop-place.place c.loop-place.settling.together c.loop-place.settling.shown
-    c.loop-place.waiting c.loop-place.invariant.batch (omega (arith, test, end))
+pub returns-in-Ok-clause-batch : goal.returns-in-Ok-clause-batch
+returns-in-Ok-clause-batch c = c.in-Ok.ensures.batch

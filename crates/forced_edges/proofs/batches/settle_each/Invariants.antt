@@ -1,6 +1,6 @@
 use Rattle.std.proofs.Common.{◌≡◌}
 use Rattle.forced_edges.proofs.Batching.{IsBatchSoFar}
-use Rattle.forced_edges.proofs.batches.settle_batch.Given as goal
+use Rattle.forced_edges.proofs.batches.settle_each.Given as goal
 
 abbrev pub invariant-loop-place : goal.invariant-loop-place
 invariant-loop-place l = record {

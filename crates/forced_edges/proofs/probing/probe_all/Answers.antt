@@ -1,18 +1,18 @@
-use Rattle.std.proofs.Common.{◌≡◌, ◌+◌, ◌-◌, ◌<◌, ◌∙◌, length, refl, subst, arith}
+use Rattle.std.proofs.Common.{◌≡◌, ◌+◌, ◌-◌, ◌<◌, length, refl, subst, arith}
 use Rattle.std.proofs.lemmas.List.Elements.{All-contains}
 use Rattle.tor_arena.proofs.Gets.{Contains-from_has}
 use Rattle.tor_digraph.proofs.Members.{read-at}
 use Rattle.order_trials.specs.Candidates.{IsAgainst}
 use Rattle.order_trials.proofs.Helds.{held_along}
 use Rattle.forced_edges.proofs.MarkSteps.{IsProbing, begins, probing_next, all_right}
-use Rattle.forced_edges.proofs.probing.choose_probes.Goals as goal
+use Rattle.forced_edges.proofs.probing.probe_all.Goals as goal
 
 pub loop-left-init : goal.loop-left-init
 loop-left-init c = record {
-  count = c.in_ok-covered.ensures.count ∙ c.node_count.ensures.count;
+  count = c.requires.count;
   room = omega arith;
-  probing = begins c.args.problem.now c.args.shown.now.items c.args.against.now c.args.marks.now c.in_ok-covered.covered.items c.requires.unprobed
-      c.in_ok-covered.ensures.none;
+  probing = begins c.args.problem.now c.args.shown.now.items c.args.against.now c.args.marks.now c.args.covered.now.items c.requires.unprobed
+      c.requires.uncovered;
 }
 
 pub loop-left-preserved : goal.loop-left-preserved

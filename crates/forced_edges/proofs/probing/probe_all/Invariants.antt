@@ -1,6 +1,6 @@
 use Rattle.std.proofs.Common.{◌≡◌, ◌≤◌, length}
 use Rattle.forced_edges.proofs.MarkSteps.{IsProbing}
-use Rattle.forced_edges.proofs.probing.choose_probes.Given as goal
+use Rattle.forced_edges.proofs.probing.probe_all.Given as goal
 
 abbrev pub invariant-loop-left : goal.invariant-loop-left
 invariant-loop-left l = record {
