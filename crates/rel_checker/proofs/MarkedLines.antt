@@ -1,5 +1,5 @@
 -- Which line is the first that breaks the rule on marks: edge lines, and then open lines.
-use Rattle.std.proofs.Common.{◌≡◌, inl, inr, refl, ℕ, Option, option_map, IfSome, ◌+◌, ◌-◌, ◌<◌, ◌≤◌, Some, None, length, subst, arith}
+use Rattle.std.proofs.Common.{◌≡◌, inl, inr, ℕ, ◌+◌, ◌-◌, ◌<◌, ◌≤◌, Some, None, length, subst, arith}
 use Rattle.std.proofs.lemmas.Bool.{cases_lt}
 use Rattle.std.proofs.lemmas.List.{length-map}
 use Rattle.std.proofs.lemmas.Option.{slice_get_within}
@@ -39,7 +39,7 @@ module _ (file : ResultFile) where
   many_lines : length (its_probes file) ≡ length file.probes
   many_lines = length-map file.probes (λ (p : Probe). (p.over, p.under))
 
-  none_breaks : First (MarkedAt file) (length file.edges) None → First (ServesAt file) (length file.probes) None → FindsBreach file MarksBorneOut None
+  pub none_breaks : First (MarkedAt file) (length file.edges) None → First (ServesAt file) (length file.probes) None → FindsBreach file MarksBorneOut None
   none_breaks edges opens k lt = elim (cases_lt k (length file.edges)) [
     | inl less ↦ asks_edge k less (edges k less)
     | inr ge ↦
@@ -56,7 +56,7 @@ module _ (file : ResultFile) where
     before = λ j lt. asks_edge j (omega arith) (edges.2 j lt);
   }
 
-  open_breaks : (k j : ℕ) → k ≡ length file.edges + j → First (MarkedAt file) (length file.edges) None → First (ServesAt file) (length file.probes) (Some j)
+  pub open_breaks : (k j : ℕ) → k ≡ length file.edges + j → First (MarkedAt file) (length file.edges) None → First (ServesAt file) (length file.probes) (Some j)
       → FindsBreach file MarksBorneOut (Some k)
   open_breaks k j e edges opens = let within = opens.0 in record {
     within = omega arith;
@@ -70,13 +70,3 @@ module _ (file : ResultFile) where
           asks_open i m e' (opens.2 m less)
     ];
   }
-
-  -- by the first open line that doesn't serve
-  pub first_breaks : (open_line : Option ℕ) → First (MarkedAt file) (length file.edges) None → First (ServesAt file) (length file.probes) open_line →
-      FindsBreach file MarksBorneOut (option_map (λ k. length file.edges + k) open_line)
-  first_breaks None edges opens = none_breaks edges opens
-  first_breaks (Some j) edges opens = open_breaks (length file.edges + j) j refl edges opens
-
-pub inside_opens : (P : ℕ → Type 0) (end : ℕ) (open_line : Option ℕ) → First P end open_line → IfSome open_line (λ k. k < end)
-inside_opens P end None h = tt
-inside_opens P end (Some k) h = h.0

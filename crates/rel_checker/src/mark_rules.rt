@@ -1,12 +1,12 @@
 //! Rule 9: each mark is borne out, and each open line serves for an edge.
 
-ghost use Rattle.std.specs.Prelude.{◌≡◌, ◌+◌, ◌<◌, length, option_map, IfOk, IfSome};
+ghost use Rattle.std.specs.Prelude.{◌≡◌, None, length, IfOk};
 ghost use Rattle.result_rules.specs.File.{its_edges, its_paths, its_probes, HasFewLines};
 ghost use Rattle.result_rules.specs.declared.rule.Rule.{Rule};
 ghost use Rattle.result_rules.specs.Rules.{IsMet};
 ghost use Rattle.line_rules.specs.Breaches.{First, FindsBreach};
 ghost use Rattle.line_rules.specs.PathSteps.{HaveCodedSteps};
-ghost use Rattle.open_lines.specs.Serving.{Covers, IsLaidOut, GainsAt};
+ghost use Rattle.open_lines.specs.Serving.{Covers, IsLaidOut, GainsAt, MarkedAt, ServesAt};
 
 use line_rules::{Labels, Step};
 use open_lines::{Cover, Flips, cover_all, find_unborne, find_useless};
@@ -78,13 +78,15 @@ fn find_by_cover(
     Ok(behind_edges(file, useless))
 }
 
-/// The place of an open line among the lines with marks, where the open lines stand behind the edge lines; none where there is none.
-fn behind_edges(file: &ResultFile, open_line: Option<usize>) -> Option<usize>
+/// The place of the first line that breaks the rule where each mark is borne out, by the first open line that doesn't serve: the open
+/// lines stand behind the edge lines.
+fn behind_edges(file: &ResultFile, useless: Option<usize>) -> Option<usize>
     requires lines { HasFewLines file.now }
-    requires inside { IfSome open_line (λ k. k < length file.now.probes) }
-    ensures { result ≡ option_map (λ k. length file.now.edges + k) open_line }
+    requires borne { First (MarkedAt file.now) (length file.now.edges) None }
+    requires useless { First (ServesAt file.now) (length file.now.probes) useless }
+    ensures { FindsBreach file.now Rule.MarksBorneOut result }
 {
-    match open_line {
+    match useless {
         Some(place) => Some(file.edges.len() + place),
         None => None,
     }
