@@ -8,9 +8,9 @@ use Rattle.std.proofs.lemmas.List.{length-append}
 use Rattle.std.proofs.lemmas.List.Sums.{sum_by-cons}
 use Rattle.record_counts.specs.Counting.{Counts, capped}
 use Rattle.mrt_frame.specs.declared.header.At.{At}
-use Rattle.mrt_frame.specs.declared.record_kind.RecordKind.{RecordKind}
+use Rattle.mrt_header.specs.declared.record_kind.RecordKind.{RecordKind}
 use Rattle.mrt_frame.specs.Counting.{with_records, records_in, CountsOn, CountsAll}
-use Rattle.mrt_frame.specs.Kinds.{kind_of}
+use Rattle.mrt_header.specs.Kinds.{kind_of}
 use Rattle.mrt_frame.specs.Records.{Record, Cut, Well, place_behind, onto, cut, cut_from, start}
 use Rattle.mrt_frame.specs.Frames.{Passes, FindsNext, StopsWith}
 use Rattle.mrt_frame.proofs.Cuts.{any_fuel, cut_onto, cut_ends}

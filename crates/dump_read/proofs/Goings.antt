@@ -4,8 +4,8 @@ use Rattle.std.proofs.Common.{append_assoc}
 use Rattle.std.proofs.lemmas.List.{append-nil, take-append-le}
 use Rattle.std.proofs.Math.Seq.{take-append-add}
 use Rattle.mrt_frame.specs.declared.header.At.{At}
-use Rattle.mrt_frame.specs.Kinds.{kind_of, is_read}
-use Rattle.mrt_frame.specs.declared.record_kind.RecordKind.{RecordKind}
+use Rattle.mrt_header.specs.Kinds.{kind_of, is_read}
+use Rattle.mrt_header.specs.declared.record_kind.RecordKind.{RecordKind}
 use Rattle.std.specs.Prelude.{is_some}
 use Rattle.mrt_frame.specs.Records.{Record, Cut, RecordsEnd, Well, HeadCut, TooManyBytes, Oversize, BodyCut, Ends, Holds, place_behind, next_of, start, cut_within}
 use Rattle.mrt_frame.specs.declared.error.FrameError.{FrameError}

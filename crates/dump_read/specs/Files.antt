@@ -5,10 +5,10 @@ use Rattle.path_attrs.specs.declared.fault.RibFault.{RibFault}
 use Rattle.record_counts.specs.Counting.{capped, counts_together as records_together}
 use Rattle.rib_v2.specs.PeerTable.{peers_of}
 use Rattle.mrt_frame.specs.Counting.{records_in}
-use Rattle.mrt_frame.specs.Kinds.{kind_of}
+use Rattle.mrt_header.specs.Kinds.{kind_of}
 use Rattle.mrt_frame.specs.Records.{Record, cut}
-use Rattle.mrt_frame.specs.declared.record_kind.RecordKind.{RecordKind}
-use Rattle.mrt_frame.specs.declared.record_kind.RecordKind.TheVariants.{TableDump, PeerTable, Rib}
+use Rattle.mrt_header.specs.declared.record_kind.RecordKind.{RecordKind}
+use Rattle.mrt_header.specs.declared.record_kind.RecordKind.TheVariants.{TableDump, PeerTable, Rib}
 use Rattle.dump_read.specs.declared.taking.Taken.{Taken}
 use Rattle.dump_read.specs.Routes.{Route, routes_of}
 use Rattle.dump_read.specs.Reading.{file_reading}

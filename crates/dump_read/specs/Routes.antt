@@ -12,11 +12,11 @@ use Rattle.rib_v2.specs.declared.peer_table.Peers.{Peers}
 use Rattle.rib_v2.specs.PeerTable.{peers_of}
 use Rattle.rib_v2.specs.Rib.{rib_of}
 use Rattle.mrt_frame.specs.Records.{Record}
-use Rattle.mrt_frame.specs.declared.record_kind.Family.{Family}
-use Rattle.mrt_frame.specs.declared.record_kind.RibForm.{RibForm}
-use Rattle.mrt_frame.specs.Kinds.{kind_of}
-use Rattle.mrt_frame.specs.declared.record_kind.RecordKind.{RecordKind}
-use Rattle.mrt_frame.specs.declared.record_kind.RecordKind.TheVariants.{TableDump, PeerTable, Rib}
+use Rattle.mrt_header.specs.declared.record_kind.Family.{Family}
+use Rattle.mrt_header.specs.declared.record_kind.RibForm.{RibForm}
+use Rattle.mrt_header.specs.Kinds.{kind_of}
+use Rattle.mrt_header.specs.declared.record_kind.RecordKind.{RecordKind}
+use Rattle.mrt_header.specs.declared.record_kind.RecordKind.TheVariants.{TableDump, PeerTable, Rib}
 
 -- the path attributes of a route, and how many octets an AS number has in them
 pub record Route : Type 0 where

@@ -9,7 +9,8 @@ ghost use Rattle.dump_read.specs.Refusals.{peers_in, IsUnread, TakesRead, TakesS
 use crate::batch::{Batch, take_batch};
 use crate::file_counts::FileCounts;
 use crate::taking::{Taken, Untaken};
-use mrt_frame::{Family, Record, RecordKind, RibForm};
+use mrt_frame::Record;
+use mrt_header::{Family, RecordKind, RibForm};
 use path_attrs::{Attrs, RibFault, Width};
 use path_clean::Sets;
 use rib_v1::read_v1;

@@ -7,9 +7,9 @@ use Rattle.mrt_frame.specs.declared.error.FrameError.{FrameError}
 use Rattle.mrt_frame.specs.declared.error.FrameError.TheVariants as errors
 use Rattle.mrt_frame.specs.declared.cursor.Record as lent
 use Rattle.mrt_frame.specs.declared.header.At.{At}
-use Rattle.mrt_frame.specs.declared.record_kind.RecordKind.{RecordKind}
+use Rattle.mrt_header.specs.declared.record_kind.RecordKind.{RecordKind}
 use Rattle.mrt_frame.specs.Frames.{PassesOver, FindsNext, StopsWith, end_of_error, record_as}
-use Rattle.mrt_frame.specs.Kinds.{is_read}
+use Rattle.mrt_header.specs.Kinds.{is_read}
 use Rattle.mrt_frame.specs.Records.{Record, Next, RecordsEnd, Well, HeadCut, TooManyBytes, Oversize, BodyCut, Ends, Holds, place_behind, next_of}
 use Rattle.mrt_frame.specs.Steps.{NextRecord, YieldsRecord, HasFailed, lent_record}
 

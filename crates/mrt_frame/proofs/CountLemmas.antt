@@ -3,7 +3,7 @@ use Rattle.std.proofs.Common.{◌≡◌, ℕ, ◌+◌, List, [], ◌∷◌, take
 use Rattle.std.proofs.Math.Path.{ap₂}
 use Rattle.record_counts.specs.Counting.{Counts, with_more}
 use Rattle.mrt_frame.specs.declared.header.At.{At}
-use Rattle.mrt_frame.specs.declared.header.Header.{Header}
+use Rattle.mrt_header.specs.declared.header.Header.{Header}
 use Rattle.mrt_frame.specs.Counting.{type_of_record, with_records, CountsOn, CountsAll}
 use Rattle.mrt_frame.specs.Frames.{record_of}
 use Rattle.mrt_frame.specs.Part.{Skips, TakesHeader}

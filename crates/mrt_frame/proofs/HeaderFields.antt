@@ -3,7 +3,7 @@ use Rattle.std.proofs.Common.{◌≡◌, ℕ, zero, suc, ◌+◌, ◌*◌, ◌^�
 use Rattle.std.proofs.Math.Path.{ap₂}
 use Rattle.std.proofs.lemmas.List.{drop-append-le, get_or_append_left, take-append-drop, length-take, length-drop}
 use Rattle.byteorder.specs.Endian.{big_from, big_number}
-use Rattle.mrt_frame.specs.Records.{kind_in, subtype_in, length_in}
+use Rattle.mrt_header.specs.Headers.{kind_in, subtype_in, length_in}
 
 prefix_from : (n i : ℕ) (prefix rest : List ℕ) → i + n ≤ length prefix → big_from i n (prefix ++ rest) ≡ big_from i n prefix
 prefix_from zero i prefix rest le = refl

@@ -1,13 +1,13 @@
 -- The kinds of record that are read, and their types and subtypes.
 use Rattle.std.proofs.Common.{◌≡◌, ℕ, ◌==◌, Bool, true, false, cond, Option, Some, None, is_some, refl, ap, subst}
 use Rattle.std.proofs.lemmas.Bool.{eqb-true}
-use Rattle.mrt_frame.specs.declared.record_kind.Family.{Family}
-use Rattle.mrt_frame.specs.declared.record_kind.Family.TheVariants.{Ipv4, Ipv6}
-use Rattle.mrt_frame.specs.declared.record_kind.EntryForm.{EntryForm}
-use Rattle.mrt_frame.specs.declared.record_kind.EntryForm.TheVariants.{Plain, WithPathId}
-use Rattle.mrt_frame.specs.declared.record_kind.RecordKind.{RecordKind}
-use Rattle.mrt_frame.specs.declared.record_kind.RecordKind.TheVariants.{TableDump, PeerTable, Rib}
-use Rattle.mrt_frame.specs.Kinds.{rib, table_dump, table_dump_v2, kind_of, is_read, type_of, rib_subtype, subtype_of}
+use Rattle.mrt_header.specs.declared.record_kind.Family.{Family}
+use Rattle.mrt_header.specs.declared.record_kind.Family.TheVariants.{Ipv4, Ipv6}
+use Rattle.mrt_header.specs.declared.record_kind.EntryForm.{EntryForm}
+use Rattle.mrt_header.specs.declared.record_kind.EntryForm.TheVariants.{Plain, WithPathId}
+use Rattle.mrt_header.specs.declared.record_kind.RecordKind.{RecordKind}
+use Rattle.mrt_header.specs.declared.record_kind.RecordKind.TheVariants.{TableDump, PeerTable, Rib}
+use Rattle.mrt_header.specs.Kinds.{rib, table_dump, table_dump_v2, kind_of, is_read, type_of, rib_subtype, subtype_of}
 
 -- by its numbers the kind is found again
 pub kind_again : (kind : RecordKind) → kind_of (type_of kind) (subtype_of kind) ≡ Some kind

@@ -5,8 +5,9 @@ use Rattle.std.proofs.lemmas.Bool.{lt-ltb, ltb-true, le-ltb, ltb-false, and_part
 use Rattle.std.proofs.lemmas.List.{take-append-drop, length-take, length-drop, length-append, drop_at}
 use Rattle.std.proofs.Math.Seq.{take-append_seam, drop-append_seam}
 use Rattle.mrt_frame.specs.declared.header.At.{At}
-use Rattle.mrt_frame.specs.Kinds.{is_read}
-use Rattle.mrt_frame.specs.Records.{Record, Next, Ends, Holds, Well, HeadCut, TooManyBytes, Oversize, BodyCut, kind_in, subtype_in, length_in, next_of, next_body}
+use Rattle.mrt_header.specs.Kinds.{is_read}
+use Rattle.mrt_header.specs.Headers.{kind_in, subtype_in, length_in}
+use Rattle.mrt_frame.specs.Records.{Record, Next, Ends, Holds, Well, HeadCut, TooManyBytes, Oversize, BodyCut, next_of, next_body}
 use Rattle.mrt_frame.specs.Encoding.{IsHeader, Encodes, IsWithin, IsEnd}
 use Rattle.mrt_frame.proofs.HeaderFields.{fields_of_prefix, fields_of_take}
 

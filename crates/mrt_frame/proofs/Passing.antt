@@ -4,11 +4,11 @@ use Rattle.std.proofs.Math.Path.{ap₂}
 use Rattle.std.proofs.lemmas.Bool.{le-ltb, lt-ltb}
 use Rattle.std.proofs.lemmas.List.{length-take}
 use Rattle.mrt_frame.specs.declared.header.At.{At}
-use Rattle.mrt_frame.specs.declared.header.Header.{Header}
-use Rattle.mrt_frame.specs.declared.record_kind.RecordKind.{RecordKind}
+use Rattle.mrt_header.specs.declared.header.Header.{Header}
+use Rattle.mrt_header.specs.declared.record_kind.RecordKind.{RecordKind}
 use Rattle.mrt_frame.specs.Frames.{PassesOver, Passes, FindsNext, StopsWith, record_of, record_as}
 use Rattle.mrt_frame.specs.Part.{Skips, TakesHeader}
-use Rattle.mrt_frame.specs.Kinds.{kind_of, is_read}
+use Rattle.mrt_header.specs.Kinds.{kind_of, is_read}
 use Rattle.mrt_frame.specs.Records.{Record, Cut, RecordsEnd, Ends, Holds, BodyCut, place_behind, next_of, cut_within}
 use Rattle.mrt_frame.proofs.KindNumbers.{numbers_of, read_kind}
 use Rattle.mrt_frame.proofs.Cuts.{shorter, unrolled}

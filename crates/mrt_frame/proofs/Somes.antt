@@ -5,16 +5,17 @@ use Rattle.std.proofs.lemmas.List.{append-nil, length-append, take_at, drop_at}
 use Rattle.std.specs.Io.KnownBytes.{prepend_known}
 use Rattle.record_counts.specs.Counting.{Counts, with_more}
 use Rattle.mrt_frame.specs.declared.header.At.{At}
-use Rattle.mrt_frame.specs.declared.header.Header.{Header}
-use Rattle.mrt_frame.specs.declared.record_kind.RecordKind.{RecordKind}
+use Rattle.mrt_header.specs.declared.header.Header.{Header}
+use Rattle.mrt_header.specs.declared.record_kind.RecordKind.{RecordKind}
 use Rattle.mrt_frame.specs.Counting.{CountsOn, CountsAll}
 use Rattle.mrt_frame.specs.Frames.{FindsNext, StopsWith, record_as}
-use Rattle.mrt_frame.specs.Kinds.{kind_of, is_read}
+use Rattle.mrt_header.specs.Headers.{Says}
+use Rattle.mrt_header.specs.Kinds.{kind_of, is_read}
 use Rattle.mrt_frame.specs.Part.{TakesHeader, Skips}
 use Rattle.mrt_frame.specs.Records.{Well, place_behind}
 use Rattle.mrt_frame.specs.Some.{HasRead, HasReadSo, AreHeader, GiveRecord, GiveEnd}
 use Rattle.mrt_frame.proofs.CountLemmas.{begins_counting, counted_one, counted_end}
-use Rattle.mrt_frame.proofs.NextRecord.{Says, takes_header}
+use Rattle.mrt_frame.proofs.NextRecord.{takes_header}
 use Rattle.mrt_frame.proofs.Passing.{HasPassed, begins, passed_one, finds, stops}
 
 pub prepend_more : (a b : List ℕ) (known : Option (List ℕ)) → prepend_known a (prepend_known b known) ≡ prepend_known (a ++ b) known

@@ -2,10 +2,11 @@
 -- that it encodes.
 use Rattle.std.specs.Prelude.{◌≡◌, ◌↔◌, ℕ, ◌+◌, ◌<◌, ◌≤◌, IsTrue, List, [], ◌∷◌, ◌++◌, length}
 use Rattle.mrt_frame.specs.declared.header.At.{At}
-use Rattle.mrt_frame.specs.Kinds.{is_read}
-use Rattle.mrt_frame.specs.Limits.{max_body, max_file}
-use Rattle.mrt_frame.specs.Records.{Record, RecordsEnd, Well, HeadCut, TooManyBytes, Oversize, BodyCut, kind_in, subtype_in, length_in}
-use Rattle.mrt_frame.specs.Records.{place_behind, start, cut}
+use Rattle.mrt_header.specs.Headers.{kind_in, subtype_in, length_in}
+use Rattle.mrt_header.specs.Kinds.{is_read}
+use Rattle.mrt_header.specs.Limits.{max_body}
+use Rattle.mrt_frame.specs.Limits.{max_file}
+use Rattle.mrt_frame.specs.Records.{Record, RecordsEnd, Well, HeadCut, TooManyBytes, Oversize, BodyCut, place_behind, start, cut}
 
 -- twelve octets are the header of this record; their first four, its timestamp, are free
 pub record IsHeader (header : List ℕ) (r : Record) : Type 0 where

@@ -3,7 +3,7 @@ use Rattle.std.specs.Prelude.{◌≡◌, ℕ, List, ◌++◌, length, Option, So
 use Rattle.std.specs.Io.KnownBytes.{prepend_known}
 use Rattle.record_counts.specs.Counting.{Counts}
 use Rattle.mrt_frame.specs.declared.header.At.{At}
-use Rattle.mrt_frame.specs.declared.header.Header.{Header}
+use Rattle.mrt_header.specs.declared.header.Header.{Header}
 use Rattle.mrt_frame.specs.Counting.{CountsOn, CountsAll}
 use Rattle.mrt_frame.specs.Frames.{FindsNext, StopsWith}
 use Rattle.mrt_frame.specs.Part.{TakesHeader}

@@ -1,6 +1,6 @@
 -- Bodies that were worked by hand.
 use Rattle.std.proofs.Common.{◌≡◌, ℕ, List, [], ◌∷◌, ◌++◌, replicate, Ok, Err, refl}
-use Rattle.mrt_frame.specs.declared.record_kind.Family.TheVariants.{Ipv4, Ipv6}
+use Rattle.mrt_header.specs.declared.record_kind.Family.TheVariants.{Ipv4, Ipv6}
 use Rattle.path_attrs.specs.declared.fault.RibFault.TheVariants.{Cut, Tail, PrefixLong, AttrCut}
 use Rattle.path_attrs.specs.Attributes.{attribute, attributes_within, attributes_of}
 use Rattle.rib_v1.specs.TableDump.{behind_fields, route_of}

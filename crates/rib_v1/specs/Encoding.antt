@@ -2,8 +2,8 @@
 -- encoded.
 use Rattle.std.specs.Prelude.{◌≡◌, ◌↔◌, ℕ, ◌*◌, ◌≤◌, List, ◌++◌, length, Ok}
 use Rattle.byteorder.specs.Endian.{big_number}
-use Rattle.mrt_frame.specs.declared.record_kind.Family.{Family}
-use Rattle.mrt_frame.specs.Kinds.{address_octets}
+use Rattle.mrt_header.specs.declared.record_kind.Family.{Family}
+use Rattle.mrt_header.specs.Kinds.{address_octets}
 use Rattle.path_attrs.specs.Attributes.{Attribute, AreEncoded}
 use Rattle.rib_v1.specs.TableDump.{route_of}
 

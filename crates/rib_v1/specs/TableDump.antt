@@ -1,7 +1,7 @@
 -- The body of a TABLE_DUMP record (RFC 6396, section 4.2).
 use Rattle.std.specs.Prelude.{ℕ, ◌*◌, ◌==◌, nat_le, List, length, Result, Ok}
-use Rattle.mrt_frame.specs.declared.record_kind.Family.{Family}
-use Rattle.mrt_frame.specs.Kinds.{address_octets}
+use Rattle.mrt_header.specs.declared.record_kind.Family.{Family}
+use Rattle.mrt_header.specs.Kinds.{address_octets}
 use Rattle.path_attrs.specs.declared.fault.RibFault.{RibFault}
 use Rattle.path_attrs.specs.declared.fault.RibFault.TheVariants.{Cut, Tail, PrefixLong, AttrCut}
 use Rattle.path_attrs.specs.Fields.{◌>>=◌, octets, number, fault_unless, or_fault}

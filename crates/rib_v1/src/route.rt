@@ -3,7 +3,7 @@ ghost use Rattle.std.specs.Prelude.{◌≡◌, ◌≢◌, ◌⊎◌, IfErr};
 ghost use Rattle.path_attrs.specs.Fields.{Gives};
 ghost use Rattle.rib_v1.specs.TableDump.{behind_route_fields, behind_fields, route_of};
 
-use mrt_frame::Family;
+use mrt_header::Family;
 use path_attrs::{Attrs, RibFault, attributes, number16, octet, octets};
 
 // The octets behind the fields between the prefix and the attributes.

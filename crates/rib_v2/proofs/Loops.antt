@@ -8,8 +8,8 @@ use Rattle.path_attrs.specs.declared.fault.RibFault.TheVariants as faults
 use Rattle.path_attrs.specs.declared.block.AttrCut.{AttrCut}
 use Rattle.path_attrs.specs.Fields.{◌>>=◌, fault_unless, or_fault}
 use Rattle.path_attrs.specs.Attributes.{Attribute, attributes_of, attributes_in}
-use Rattle.mrt_frame.specs.declared.record_kind.RibForm.{RibForm}
-use Rattle.mrt_frame.specs.declared.record_kind.EntryForm.{EntryForm}
+use Rattle.mrt_header.specs.declared.record_kind.RibForm.{RibForm}
+use Rattle.mrt_header.specs.declared.record_kind.EntryForm.{EntryForm}
 use Rattle.rib_v2.specs.declared.rib.Entry.{Entry}
 use Rattle.rib_v2.specs.PeerTable.{behind_peer, behind_peers}
 use Rattle.rib_v2.specs.Rib.{Fields, head, entry, entry_fields, entries_of, entries_in, rib_of}

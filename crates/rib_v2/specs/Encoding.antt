@@ -3,9 +3,9 @@
 use Rattle.std.specs.Prelude.{◌≡◌, ◌↔◌, ℕ, zero, suc, ◌+◌, ◌*◌, ◌/◌, ◌<◌, ◌≤◌, ◌==◌, bit_and, List, [], ◌∷◌, ◌++◌, length, Some, Ok}
 use Rattle.std.specs.Prelude.{if◌then◌else◌}
 use Rattle.byteorder.specs.Endian.{big_number}
-use Rattle.mrt_frame.specs.declared.record_kind.EntryForm.{EntryForm}
-use Rattle.mrt_frame.specs.declared.record_kind.RibForm.{RibForm}
-use Rattle.mrt_frame.specs.Kinds.{address_octets}
+use Rattle.mrt_header.specs.declared.record_kind.EntryForm.{EntryForm}
+use Rattle.mrt_header.specs.declared.record_kind.RibForm.{RibForm}
+use Rattle.mrt_header.specs.Kinds.{address_octets}
 use Rattle.path_attrs.specs.Attributes.{AreEncoded}
 use Rattle.rib_v2.specs.declared.peer_table.Peers.{Peers}
 use Rattle.rib_v2.specs.declared.rib.Entry.{Entry}

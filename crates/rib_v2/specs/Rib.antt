@@ -3,11 +3,11 @@
 use Rattle.std.specs.Prelude.{◌≡◌, ℕ, zero, suc, ◌+◌, ◌*◌, ◌/◌, ◌==◌, nat_lt, nat_le, List, [], ◌∷◌, length, Option, Some, None, Result, Ok}
 use Rattle.std.specs.Prelude.{Err}
 use Rattle.std.specs.Result.{result_unwrap_or}
-use Rattle.mrt_frame.specs.declared.record_kind.Family.{Family}
-use Rattle.mrt_frame.specs.declared.record_kind.EntryForm.{EntryForm}
-use Rattle.mrt_frame.specs.declared.record_kind.EntryForm.TheVariants.{Plain, WithPathId}
-use Rattle.mrt_frame.specs.declared.record_kind.RibForm.{RibForm}
-use Rattle.mrt_frame.specs.Kinds.{address_octets}
+use Rattle.mrt_header.specs.declared.record_kind.Family.{Family}
+use Rattle.mrt_header.specs.declared.record_kind.EntryForm.{EntryForm}
+use Rattle.mrt_header.specs.declared.record_kind.EntryForm.TheVariants.{Plain, WithPathId}
+use Rattle.mrt_header.specs.declared.record_kind.RibForm.{RibForm}
+use Rattle.mrt_header.specs.Kinds.{address_octets}
 use Rattle.path_attrs.specs.declared.fault.RibFault.{RibFault}
 use Rattle.path_attrs.specs.declared.fault.RibFault.TheVariants.{Cut, Tail, PrefixLong, NoPeerTable, PeerRange, AttrCut}
 use Rattle.path_attrs.specs.Fields.{◌>>=◌, octets, number, fault_unless, or_fault}

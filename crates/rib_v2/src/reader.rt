@@ -5,7 +5,7 @@ ghost use Rattle.rib_v2.specs.Reading.{IsNext};
 
 use crate::peer_table::Peers;
 use crate::rib::{Entry, entry_of, head_of};
-use mrt_frame::{EntryForm, RibForm};
+use mrt_header::{EntryForm, RibForm};
 use path_attrs::RibFault;
 use std::marker::Model;
 

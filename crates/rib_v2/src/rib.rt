@@ -5,7 +5,7 @@ ghost use Rattle.rib_v2.specs.Rib.{path_id_octets, entry, entry_fields, entries_
 
 use crate::error::RibError;
 use crate::peer_table::Peers;
-use mrt_frame::{EntryForm, Family, RibForm};
+use mrt_header::{EntryForm, Family, RibForm};
 use path_attrs::{Attrs, RibFault, attributes, number16, octet, octets, whole_attributes};
 use std::alloc::Global;
 use std::marker::Model;

@@ -8,10 +8,10 @@ use Rattle.relationships.specs.declared.mark.Mark.{Mark}
 use Rattle.relationships.specs.declared.walk.Link.{Link}
 use Rattle.relationships.specs.declared.mark.Mark.TheVariants.{Open, Forced}
 use Rattle.relationships.specs.declared.fate.Fate.TheVariants as fate
-use Rattle.mrt_frame.specs.declared.record_kind.RibForm.{RibForm}
-use Rattle.mrt_frame.specs.declared.record_kind.EntryForm.{EntryForm}
-use Rattle.mrt_frame.specs.declared.record_kind.EntryForm.TheVariants.{Plain, WithPathId}
-use Rattle.mrt_frame.specs.declared.record_kind.Family.TheVariants.{Ipv4}
+use Rattle.mrt_header.specs.declared.record_kind.RibForm.{RibForm}
+use Rattle.mrt_header.specs.declared.record_kind.EntryForm.{EntryForm}
+use Rattle.mrt_header.specs.declared.record_kind.EntryForm.TheVariants.{Plain, WithPathId}
+use Rattle.mrt_header.specs.declared.record_kind.Family.TheVariants.{Ipv4}
 use Rattle.mrt_frame.specs.Records.{Record, Well, cut, cut_within}
 use Rattle.mrt_frame.specs.Counting.{with_records}
 use Rattle.path_attrs.specs.declared.as_path.SegKind.TheVariants.{Set, Sequence}

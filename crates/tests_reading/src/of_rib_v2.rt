@@ -1,6 +1,6 @@
 //! A test of a RIB as a list of entries. Entries one by one and peer tables are what the programs read, in the rows of `tor_rows`; other
 //! bodies stand in proofs/Vectors.antt.
-use mrt_frame::{EntryForm, Family, RibForm};
+use mrt_header::{EntryForm, Family, RibForm};
 use rib_v2::{Entry, Peers, read_rib};
 use std::alloc::Global;
 

@@ -2,7 +2,7 @@
 use Rattle.std.specs.Prelude.{ℕ, List, [], ◌∷◌, ◌++◌, flat_map, codes, if◌then◌else◌}
 use Rattle.std.specs.Fmt.{decimal}
 use Rattle.record_counts.specs.declared.type_count.TypeCount.{TypeCount}
-use Rattle.mrt_frame.specs.Kinds.{is_read}
+use Rattle.mrt_header.specs.Kinds.{is_read}
 use Rattle.result_text.specs.Text.{fields, text_of_asides}
 use Rattle.tor_survey.specs.declared.survey.Figures.{Figures}
 use Rattle.tor_survey.specs.declared.survey.Survey.{Survey}

@@ -1,12 +1,12 @@
 //! The text of a survey.
 ghost use Rattle.std.specs.Prelude.{◌≡◌, ◌++◌, ◌∷◌, IfOk, OnOk};
 ghost use Rattle.std.specs.Fmt.{decimal};
-ghost use Rattle.mrt_frame.specs.Kinds.{is_read};
+ghost use Rattle.mrt_header.specs.Kinds.{is_read};
 ghost use Rattle.tor_survey.specs.SurveyText.{type_line, count_line, figure_lines, end_line, survey_text};
 ghost use Rattle.tor_survey.specs.SurveyText.{read_line, read_lines, passed_line, passed_lines};
 
 use crate::survey::{Figures, Survey};
-use mrt_frame::RecordKind;
+use mrt_header::RecordKind;
 use record_counts::TypeCount;
 use result_text::{put_asides, put_number};
 use std::alloc::Global;

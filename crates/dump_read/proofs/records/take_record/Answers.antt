@@ -1,5 +1,5 @@
 use Rattle.std.proofs.Common.{Some, List, Result, refl, sym, ap, subst, ◌∙◌}
-use Rattle.mrt_frame.specs.declared.record_kind.RecordKind.{RecordKind}
+use Rattle.mrt_header.specs.declared.record_kind.RecordKind.{RecordKind}
 use Rattle.mrt_frame.specs.Steps.{lent_record}
 use Rattle.path_attrs.specs.declared.fault.RibFault.{RibFault}
 use Rattle.dump_read.specs.Routes.{Route, routes_in}

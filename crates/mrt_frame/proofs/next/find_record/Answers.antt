@@ -8,7 +8,7 @@ use Rattle.mrt_frame.specs.Reach.{max_read}
 use Rattle.mrt_frame.specs.declared.error.FrameError.{FrameError}
 use Rattle.mrt_frame.specs.declared.error.FrameError.TheVariants.{TooManyBytes}
 use Rattle.mrt_frame.proofs.CountLemmas.{begins_counting, counted_one, counted_end}
-use Rattle.mrt_frame.specs.Kinds.{is_read}
+use Rattle.mrt_header.specs.Kinds.{is_read}
 use Rattle.mrt_frame.specs.Part.{TakesHeader}
 use Rattle.mrt_frame.proofs.Passing.{begins, passed_one, finds}
 use Rattle.mrt_frame.proofs.Reaches.{reads_none, reads_then, reads_from, shown_at}

@@ -1,6 +1,6 @@
 //! The kinds of records that are read.
 ghost use Rattle.std.specs.Prelude.{◌≡◌};
-ghost use Rattle.mrt_frame.specs.Kinds.{address_octets, table_dump, rib, table_dump_v2, kind_of};
+ghost use Rattle.mrt_header.specs.Kinds.{address_octets, table_dump, rib, table_dump_v2, kind_of};
 
 /// The type of a routing table, a record a route (RFC 6396, section 4.2).
 const TABLE_DUMP: u16 = 12;

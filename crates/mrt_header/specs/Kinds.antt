@@ -1,11 +1,11 @@
 -- The records that are read, by what their bodies are.
 use Rattle.std.specs.Prelude.{ℕ, ◌==◌, Bool, Option, Some, None, is_some, if◌then◌else◌}
-use Rattle.mrt_frame.specs.declared.record_kind.Family.{Family}
-use Rattle.mrt_frame.specs.declared.record_kind.Family.TheVariants.{Ipv4, Ipv6}
-use Rattle.mrt_frame.specs.declared.record_kind.EntryForm.{EntryForm}
-use Rattle.mrt_frame.specs.declared.record_kind.EntryForm.TheVariants.{Plain, WithPathId}
-use Rattle.mrt_frame.specs.declared.record_kind.RecordKind.{RecordKind}
-use Rattle.mrt_frame.specs.declared.record_kind.RecordKind.TheVariants.{TableDump, PeerTable, Rib}
+use Rattle.mrt_header.specs.declared.record_kind.Family.{Family}
+use Rattle.mrt_header.specs.declared.record_kind.Family.TheVariants.{Ipv4, Ipv6}
+use Rattle.mrt_header.specs.declared.record_kind.EntryForm.{EntryForm}
+use Rattle.mrt_header.specs.declared.record_kind.EntryForm.TheVariants.{Plain, WithPathId}
+use Rattle.mrt_header.specs.declared.record_kind.RecordKind.{RecordKind}
+use Rattle.mrt_header.specs.declared.record_kind.RecordKind.TheVariants.{TableDump, PeerTable, Rib}
 
 -- how many octets an address has
 abbrev pub address_octets : Family → ℕ

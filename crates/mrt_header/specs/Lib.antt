@@ -1,0 +1,3 @@
+pub mod Headers
+pub mod Kinds
+pub mod Limits
