@@ -13,5 +13,5 @@ returns-clause-ties c =
     let first = c.args.first.now in
     let walks = map walk_of c.in_ok-selection.selection.fates in
     let places = c.in_ok-selection.selection.selector.formula.paths in
-    IfOk-weaker c.ties_in.result (AreTiesBy graph (paths_at graph places)) (AreTiesBehind graph (paths_at graph first) c.args.count)
-    (λ ts by. ties_of_kept graph first places c.args.count walks ts c.in_ok-selection.ensures.keeps c.in_ok-selection.ensures.kept by) c.ties_in.ensures.ties
+    IfOk-weaker c.ties_in-ties.result (AreTiesBy graph (paths_at graph places)) (AreTiesBehind graph (paths_at graph first) c.args.count)
+    (λ ts by. ties_of_kept graph first places c.args.count walks ts c.in_ok-selection.ensures.keeps c.in_ok-selection.ensures.kept by) c.ties_in-ties.ensures.ties
