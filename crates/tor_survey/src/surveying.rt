@@ -31,17 +31,42 @@ pub fn survey_of(alloc: Global, keys: Keys, taken: Taken) -> Result<Survey, NoMe
         counts,
         files,
     } = taken;
-    let all = FileCounts::sum_of(alloc, files.as_slice())?;
-    let types = all.records.to_list(alloc)?;
-    let figures = figures(alloc, keys, table.rows())?;
+    let all = match FileCounts::sum_of(alloc, files.as_slice()) {
+        Ok(all) => all,
+        Err(NoMemory) => {
+            drop(table);
+            drop(files);
+            return Err(NoMemory);
+        }
+    };
+    let dumps = files.len() as u64;
+    drop(files);
+    let found = figures(alloc, keys, table.rows());
+    drop(table);
+    let figures = match found {
+        Ok(figures) => figures,
+        Err(NoMemory) => {
+            drop(all);
+            return Err(NoMemory);
+        }
+    };
+    let types = match all.records.to_list(alloc) {
+        Ok(types) => types,
+        Err(NoMemory) => {
+            drop(all);
+            return Err(NoMemory);
+        }
+    };
     let records = all_records(types.as_slice());
-    Ok(Survey {
+    let survey = Survey {
         types,
         peers: all.peers,
         routes: all.routes,
         asides: counts,
         figures,
-        dumps: files.len() as u64,
+        dumps,
         records,
-    })
+    };
+    drop(all);
+    Ok(survey)
 }
