@@ -39,8 +39,8 @@ const FIRST_TURN: usize = 64;
 /// In how many turns they are followed at most. The last of them goes along more arcs than there can be.
 const TURNS: usize = 40;
 
-/// The orientation in which the lower end of each of so many edges is the provider, and what its repairs need. The only error is that memory ran
-/// out.
+/// The orientation in which the lower end of each of so many edges is the provider, and what its repairs need. The only error is that
+/// memory ran out.
 pub fn start(alloc: Global, count: usize) -> Result<State, NoMemory>
     requires { count < max_numbers }
     ensures state { IfOk result (IsState (count * 2)) }

@@ -1,5 +1,5 @@
 //! The walk with which a path is lost.
-ghost use Rattle.std.specs.Prelude.{◌≡◌, ℕ, ◌<◌, ◌≤◌, List, length, drop, OnOk, IfOk};
+ghost use Rattle.std.specs.Prelude.{◌≡◌, ℕ, ◌<◌, ◌≤◌, ◌++◌, List, length, drop, OnOk, IfOk};
 ghost use Rattle.relationships.specs.declared.label.End.{End as Side};
 ghost use Rattle.relationships.specs.Evidence.{Refutes};
 ghost use Rattle.tor_digraph.specs.Walks.{IsArc};
@@ -204,6 +204,17 @@ fn behind_two(items: &[u32]) -> &[u32]
     &items[2..]
 }
 
+/// Puts a walk behind another, which ends with the two ASes with which that one begins.
+fn join(walk: &mut Walk, rest: &Walk) -> Result<(), NoMemory>
+    requires { 2 ≤ length rest.now.ases }
+    ensures ases { OnOk result (walk.new.ases ≡ walk.old.ases ++ drop 2 rest.now.ases) }
+    ensures links { OnOk result (walk.new.links ≡ walk.old.links ++ rest.now.links) }
+{
+    walk.ases
+        .extend_from_slice(behind_two(rest.ases.as_slice()))?;
+    walk.links.extend_from_slice(rest.links.as_slice())
+}
+
 /// The walk from the order of a node to its opposite, and back, along two ways.
 fn refuting_walk(
     alloc: Global,
@@ -221,11 +232,23 @@ fn refuting_walk(
     let (_over, _under) = problem.order(start);
     let opposite = negation_node(start);
     let mut walk = problem.walk_along(alloc, start, there)?;
-    let rest = problem.walk_along(alloc, opposite, back)?;
-    walk.ases
-        .extend_from_slice(behind_two(rest.ases.as_slice()))?;
-    walk.links.extend_from_slice(rest.links.as_slice())?;
-    Ok(walk)
+    match problem.walk_along(alloc, opposite, back) {
+        Ok(rest) => match join(&mut walk, &rest) {
+            Ok(()) => {
+                drop(rest);
+                Ok(walk)
+            }
+            Err(NoMemory) => {
+                drop(rest);
+                drop(walk);
+                Err(NoMemory)
+            }
+        },
+        Err(NoMemory) => {
+            drop(walk);
+            Err(NoMemory)
+        }
+    }
 }
 
 /// The walk that refutes where an arc can't be met, from the order of the arc's head to its opposite and back. The only error is that
