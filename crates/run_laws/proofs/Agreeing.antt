@@ -15,17 +15,17 @@ use Rattle.tor_words.specs.declared.settings.Source.{Source}
 use Rattle.tor_words.specs.declared.settings.Source.TheVariants as source
 use Rattle.tor_words.specs.Given.{BoundsLaw, IsWrittenOf}
 use Rattle.tor_words.specs.declared.settings.Settings.{Settings}
-use Rattle.run_laws.specs.Agreement.{AgreementLaw, IsAgreedOn}
 use Rattle.tor_words.specs.declared.check_settings.CheckSettings.{CheckSettings}
 use Rattle.tor_words.specs.CheckGiven.{check_settings_given}
-use Rattle.tor_output.specs.Accepting.{FaithfulLaw, TableLaw}
-use Rattle.tor_output.specs.Seen.{seen, seen_in}
 use Rattle.torcheck_run.specs.Judging.{CanBeJudged, IsAccepted, IsVerdict, JudgesByDumps, seen_for}
 use Rattle.torcheck_run.specs.Limits.{max_result}
 use Rattle.torcheck_run.proofs.Comings.{OneValue, same_file, one_verdict}
-use Rattle.tor_output.specs.Output.{IsOutputIn, Faithful}
 use Rattle.run_base.specs.Reading.{nothing, seen_from}
+use Rattle.tor_output.specs.Accepting.{FaithfulLaw, TableLaw}
+use Rattle.tor_output.specs.Seen.{seen, seen_in}
+use Rattle.tor_output.specs.Output.{IsOutputIn, Faithful}
 use Rattle.tor_output.proofs.WiderLimit.{widened, all_files}
+use Rattle.run_laws.specs.Agreement.{AgreementLaw, IsAgreedOn}
 
 -- dumps that give what a result has bear it out
 by_dumps : (file : ResultFile) (dumps : List (List ℕ)) (files : Files) (taken : Taken) → seen_for file dumps files ≡ Ok taken

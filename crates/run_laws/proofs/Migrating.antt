@@ -27,8 +27,8 @@ use Rattle.tor_words.specs.declared.check_settings.CheckSettings.{CheckSettings}
 use Rattle.torcheck_run.specs.Limits.{max_result}
 use Rattle.torcheck_run.specs.Judging.{BreaksRule, IsVerdict, JudgesByDumps, seen_for, Outcome, Judged, NoResult, TooLong, Ends, SettingsGive}
 use Rattle.torcheck_run.proofs.Comings.{OneValue, same_file}
-use Rattle.run_laws.specs.Agreement.{MigrateLaw}
 use Rattle.tor_output.specs.Output.{migrated}
+use Rattle.run_laws.specs.Agreement.{MigrateLaw}
 use Rattle.run_laws.specs.SelfGrading.{KeepDumps}
 use Rattle.run_laws.proofs.EqualLengths.{migrated_long}
 

@@ -24,13 +24,13 @@ use Rattle.torcheck_run.specs.Judging.{IsAccepted}
 use Rattle.torcheck_run.proofs.Comings.{OneValue}
 use Rattle.tor_output.specs.First.{First, Nothing, Givens, Result, Earlier, TakesUp, first_in}
 use Rattle.tor_output.specs.Output.{IsResumed}
-use Rattle.run_laws.specs.ResumeLaws.{AreSameButEvidence, IsAsOfOneRun, OfDumpsLaw, ResumeLaw, InPartsLaw, ResumedAcceptanceLaw}
 use Rattle.tor_output.specs.Seen.{joined, taken_up}
-use Rattle.run_laws.proofs.Agreeing.{agreed_alone, agreed_beside, sees}
-use Rattle.run_laws.proofs.JoinedRows.{joined_rows}
 use Rattle.tor_output.proofs.Joining.{behind, dumps_of_both, files_beside, made_of, of_both, wider}
 use Rattle.tor_output.proofs.ReadableLemmas.{beside}
 use Rattle.tor_output.proofs.WiderLimit.{widened, all_files}
+use Rattle.run_laws.specs.ResumeLaws.{AreSameButEvidence, IsAsOfOneRun, OfDumpsLaw, ResumeLaw, InPartsLaw, ResumedAcceptanceLaw}
+use Rattle.run_laws.proofs.Agreeing.{agreed_alone, agreed_beside, sees}
+use Rattle.run_laws.proofs.JoinedRows.{joined_rows}
 
 -- ---- what is determined
 

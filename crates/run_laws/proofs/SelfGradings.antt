@@ -32,8 +32,8 @@ use Rattle.tor_words.specs.Given.{BoundsLaw, IsWrittenOf}
 use Rattle.torgrade_run.specs.GradeText.{is_free, is_unknown, cone_text, grades_of, grading_text, totals_of}
 use Rattle.torgrade_run.specs.Outcomes.{seen_by}
 use Rattle.tor_output.specs.Seen.{seen, seen_in}
-use Rattle.run_laws.specs.SelfGrading.{KeepDumps, SelfGradingLaw}
 use Rattle.tor_output.proofs.WiderLimit.{widened, all_files}
+use Rattle.run_laws.specs.SelfGrading.{KeepDumps, SelfGradingLaw}
 
 -- ---- the grades of paths
 

@@ -18,8 +18,8 @@ use Rattle.tor_output.specs.First.{Earlier, TakesUp}
 use Rattle.tor_output.specs.Output.{Faithful, IsOutput, migrated}
 use Rattle.tor_output.specs.Written.{Written}
 use Rattle.tor_output.specs.Seen.{ComesTo, Reads}
-use Rattle.run_laws.specs.SelfGrading.{KeepDumps}
 use Rattle.tor_output.specs.Summary.{summary}
+use Rattle.run_laws.specs.SelfGrading.{KeepDumps}
 
 -- the text of a result is judged yes, alone and beside these dumps, and no other way. If it isn't too long, a check of it, alone or beside
 -- these dumps, can judge it, and a later run can take it up

@@ -1,12 +1,12 @@
 //! The laws of the runs. Each is the contract of a function.
 
-ghost use Rattle.run_laws.specs.Agreement.{AgreementLaw, MigrateLaw, OneSummaryLaw};
 ghost use Rattle.tor_output.specs.Accepting.{FaithfulLaw, TableLaw};
 ghost use Rattle.tor_output.specs.Grading.{GradingLaw, ResultEndsLaw};
 ghost use Rattle.tor_output.specs.Seen.{OneOutcomeLaw};
+ghost use Rattle.tor_output.specs.SeenLaw.{DumpsLaw, SeenLaw, DumpsReadableLaw, ReadableLaw};
+ghost use Rattle.run_laws.specs.Agreement.{AgreementLaw, MigrateLaw, OneSummaryLaw};
 ghost use Rattle.run_laws.specs.ResumeLaws.{OfDumpsLaw, ResumeLaw, InPartsLaw, ResumedAcceptanceLaw};
 ghost use Rattle.run_laws.specs.SelfGrading.{SelfGradingLaw};
-ghost use Rattle.tor_output.specs.SeenLaw.{DumpsLaw, SeenLaw, DumpsReadableLaw, ReadableLaw};
 
 use rel_infer::self_acceptance_law;
 use result_text::one_value;
