@@ -140,6 +140,33 @@ impl DepthSearch {
             None => Ok(()),
         }
     }
+
+    /// Searches from the orders against the labels of all edges. It has come to no node yet.
+    fn explore_edges(&mut self, problem: &Problem<'_>) -> Result<(), NoMemory>
+        requires order { IsInDepth problem.now self.old }
+        requires idle { self.old.stack ≡ [] }
+        ensures { OnOk result (AreCandidates problem.now self.new.chosen) }
+    {
+        problem.facts();
+        for place in 0..problem.edge_count() {
+            self.explore_edge(problem, EdgeId::from_place(place).unwrap())?;
+        }
+        Ok(())
+    }
+
+    /// The orders that it has chosen.
+    fn into_chosen(self) -> List<NodeId>
+        ensures { result ≡ self.chosen }
+    {
+        let DepthSearch {
+            seen,
+            stack,
+            chosen,
+        } = self;
+        drop(seen);
+        drop(stack);
+        chosen
+    }
 }
 
 /// The last of the first arcs of a node, so many, that leads to a node which is not seen and of no order that the labels have: that
@@ -175,10 +202,12 @@ fn next_node(
 pub fn candidates(alloc: Global, problem: &Problem<'_>) -> Result<List<NodeId>, NoMemory>
     ensures { IfOk result (AreCandidates problem.now) }
 {
-    problem.facts();
     let mut search = DepthSearch::new(alloc, problem)?;
-    for place in 0..problem.edge_count() {
-        search.explore_edge(problem, EdgeId::from_place(place).unwrap())?;
+    match search.explore_edges(problem) {
+        Ok(()) => Ok(search.into_chosen()),
+        Err(error) => {
+            drop(search);
+            Err(error)
+        }
     }
-    Ok(search.chosen)
 }

@@ -106,6 +106,24 @@ impl Shown {
         Ok(())
     }
 
+    /// Shows the opposite of the order of a node by a walk that leads there from it, and all that follows from that.
+    fn show_by(&mut self, problem: &Problem<'_>, node: NodeId, walk: &Walk) -> Result<(), NoMemory>
+        requires there { node < problem.now.formula.net.nodes }
+        requires back { Reaches problem.now.formula.net.arcs node (opposite_node node) }
+        requires walk { LeadsBack problem.now node walk.now }
+        requires new { Contains self.old.nodes.items (opposite_node node) → ⊥ }
+        requires shown { IsFullyShown problem.now self.old }
+        ensures shown { OnOk result (IsFullyShown problem.now self.new) }
+        ensures keeps { OnOk result (StayShown self.old self.new) }
+        ensures added { OnOk result (Contains self.new.nodes.items (opposite_node node)) }
+    {
+        problem.facts();
+        let from = self.nodes.len();
+        self.nodes.add(negation_node(node))?;
+        self.whys.push(walk.ases.as_slice(), walk.links.as_slice())?;
+        self.show_from(problem, from)
+    }
+
     /// Shows the opposite of the order of a node, from which a search has come to an arc that clashes, and all that follows from that.
     pub(crate) fn show_opposite(
         &mut self,
@@ -125,12 +143,10 @@ impl Shown {
         ensures keeps { OnOk result (StayShown self.old self.new) }
         ensures added { OnOk result (Contains self.new.nodes.items (opposite_node node)) }
     {
-        problem.facts();
         let walk = walk_back(alloc, problem, node, trial, clash)?;
-        let from = self.nodes.len();
-        self.nodes.add(negation_node(node))?;
-        self.whys.push(walk.ases.as_slice(), walk.links.as_slice())?;
-        self.show_from(problem, from)
+        let done = self.show_by(problem, node, &walk);
+        drop(walk);
+        done
     }
 }
 

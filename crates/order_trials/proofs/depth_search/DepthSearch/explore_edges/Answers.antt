@@ -1,11 +1,11 @@
 use Rattle.std.proofs.Common.{arith}
 use Rattle.order_trials.proofs.Choosing.{order_done, seen_all}
-use Rattle.order_trials.proofs.depth_search.candidates.Goals as goal
+use Rattle.order_trials.proofs.depth_search.DepthSearch.explore_edges.Goals as goal
 
 pub loop-place-init : goal.loop-place-init
 loop-place-init c = record {
-  so_far = c.in_ok-search.ensures.order;
-  idle = c.in_ok-search.ensures.idle;
+  so_far = c.requires.order;
+  idle = c.requires.idle;
   seen = λ k n label lt. absurd (omega (arith, lt));
 }
 
@@ -18,6 +18,6 @@ returns c =
     record {
       inside = so.so_far.inside;
       only = so.so_far.only;
-      all = λ n is. order_done c.args.problem.now c.loop-place.search so.so_far so.idle n is
-          (seen_all c.args.problem.now.labels c.loop-place.place c.loop-place.search.seen.items so.seen (omega (arith, test, count, labelled)) n is);
+      all = λ n is. order_done c.args.problem.now c.loop-place.self so.so_far so.idle n is
+          (seen_all c.args.problem.now.labels c.loop-place.place c.loop-place.self.seen.items so.seen (omega (arith, test, count, labelled)) n is);
     }

@@ -1,5 +1,0 @@
-use Rattle.order_trials.specs.Candidates.{IsChoosing}
-use Rattle.order_trials.proofs.depth_search.candidates.Given as goal
-
-abbrev pub invariant-loop-place : goal.invariant-loop-place
-invariant-loop-place l = IsChoosing l.problem l.place l.search
