@@ -102,7 +102,11 @@ fn output_under<H: Shelf>(
                 Err(NoMemory) => Err(Refusal::NoMemory),
             }
         }
-        Err(stopped) => Err(Refusal::Dumps(stopped)),
+        Err(stopped) => {
+            drop(givens);
+            drop(taken);
+            Err(Refusal::Dumps(stopped))
+        }
     }
 }
 
@@ -256,7 +260,11 @@ pub fn output_asked<H: Shelf>(
 {
     bounds_law();
     match settings_of(alloc, words) {
-        Ok(settings) => output_for(alloc, keys, &settings, shelf),
+        Ok(settings) => {
+            let output = output_for(alloc, keys, &settings, shelf);
+            drop(settings);
+            output
+        }
         Err(refused) => Err(Unwritten::Refused(Refusal::Words(refused))),
     }
 }

@@ -60,22 +60,72 @@ impl Output {
         ensures cause { HasCause (O.faults out.old) (O.faults out.new) result }
     {
         match self {
-            Output::Text(text, note) => {
-                write_all(out, text.as_slice())?;
-                Ok(note)
-            }
-            Output::Paths(table, mut buffer) => {
-                write_list(out, &mut buffer, &table)?;
-                Ok(List::new(alloc))
-            }
-            Output::Result {
-                file,
-                mut buffer,
-                note,
-            } => {
-                write_result(out, &mut buffer, &file)?;
-                Ok(note)
-            }
+            Output::Text(text, note) => put_text(out, text, note),
+            Output::Paths(table, buffer) => put_paths(alloc, out, table, buffer),
+            Output::Result { file, buffer, note } => put_result(out, file, buffer, note),
+        }
+    }
+}
+
+// Writes a text, and gives the note.
+fn put_text<O: Sink>(out: &mut O, text: List<u8>, note: List<u8>) -> Result<List<u8>, Failed>
+    ensures all { OnOk result (O.held out.new ≡ append_known (O.held out.old) text) }
+    ensures note { IfOk result (λ n. n ≡ note) }
+    ensures prefix { OnErr result (GainsPrefix (O.held out.old) (O.held out.new) text) }
+    ensures cause { HasCause (O.faults out.old) (O.faults out.new) result }
+{
+    let put = write_all(out, text.as_slice());
+    drop(text);
+    match put {
+        Ok(()) => Ok(note),
+        Err(Failed) => {
+            drop(note);
+            Err(Failed)
+        }
+    }
+}
+
+// Writes what waits in the buffer, and then the list of a table's paths. It has no note.
+fn put_paths<O: Sink>(
+    alloc: Global,
+    out: &mut O,
+    table: PathTable,
+    mut buffer: Buffer,
+) -> Result<List<u8>, Failed>
+    ensures all { OnOk result (O.held out.new ≡ append_known (O.held out.old) (buffer ++ listing table.rows)) }
+    ensures note { IfOk result (λ n. n ≡ []) }
+    ensures prefix { OnErr result (GainsPrefix (O.held out.old) (O.held out.new) (buffer ++ listing table.rows)) }
+    ensures cause { HasCause (O.faults out.old) (O.faults out.new) result }
+{
+    let put = write_list(out, &mut buffer, &table);
+    drop(table);
+    drop(buffer);
+    match put {
+        Ok(()) => Ok(List::new(alloc)),
+        Err(Failed) => Err(Failed),
+    }
+}
+
+// Writes what waits in the buffer, and then the text of a result, and gives the note.
+fn put_result<O: Sink>(
+    out: &mut O,
+    file: ResultFile,
+    mut buffer: Buffer,
+    note: List<u8>,
+) -> Result<List<u8>, Failed>
+    ensures all { OnOk result (O.held out.new ≡ append_known (O.held out.old) (buffer ++ text file)) }
+    ensures note { IfOk result (λ n. n ≡ note) }
+    ensures prefix { OnErr result (GainsPrefix (O.held out.old) (O.held out.new) (buffer ++ text file)) }
+    ensures cause { HasCause (O.faults out.old) (O.faults out.new) result }
+{
+    let put = write_result(out, &mut buffer, &file);
+    drop(file);
+    drop(buffer);
+    match put {
+        Ok(()) => Ok(note),
+        Err(Failed) => {
+            drop(note);
+            Err(Failed)
         }
     }
 }
@@ -145,8 +195,14 @@ fn result_noted(alloc: Global, file: ResultFile, note: List<u8>) -> Result<Outpu
     ensures note { IfOk result (λ output. (written output).note ≡ note) }
 {
     in_range(&file);
-    let buffer = Buffer::new(alloc)?;
-    Ok(Output::Result { file, buffer, note })
+    match Buffer::new(alloc) {
+        Ok(buffer) => Ok(Output::Result { file, buffer, note }),
+        Err(NoMemory) => {
+            drop(file);
+            drop(note);
+            Err(NoMemory)
+        }
+    }
 }
 
 /// The text of a result, and its summary as the note.
@@ -154,8 +210,13 @@ pub(crate) fn text_and_summary(alloc: Global, file: ResultFile) -> Result<Output
     ensures text { IfOk result (λ output. IsTextOf file (written output).text) }
     ensures note { IfOk result (λ output. (written output).note ≡ summary file ++ 10 ∷ []) }
 {
-    let note = summary_line(alloc, &file)?;
-    result_noted(alloc, file, note)
+    match summary_line(alloc, &file) {
+        Ok(note) => result_noted(alloc, file, note),
+        Err(NoMemory) => {
+            drop(file);
+            Err(NoMemory)
+        }
+    }
 }
 
 // The text of the result of what the dumps gave, and its summary.
@@ -198,7 +259,9 @@ fn summary_output(
     ensures { IfOk result (λ output. IsOutputIn Mode.Summary settings.now givens taken (written output)) }
 {
     let file = faithful_result(alloc, keys, settings, givens, taken)?;
-    summary_alone(alloc, &file)
+    let output = summary_alone(alloc, &file);
+    drop(file);
+    output
 }
 
 // The list of the distinct paths that the dumps gave. What it takes is all taken here.
@@ -206,7 +269,19 @@ fn listing_output(alloc: Global, taken: Taken) -> Result<Output, NoMemory>
     ensures text { IfOk result (λ output. (written output).text ≡ listing taken.table.rows) }
     ensures note { IfOk result (λ output. (written output).note ≡ []) }
 {
-    Ok(Output::Paths(taken.table, Buffer::new(alloc)?))
+    let Taken {
+        table,
+        counts: _,
+        files,
+    } = taken;
+    drop(files);
+    match Buffer::new(alloc) {
+        Ok(buffer) => Ok(Output::Paths(table, buffer)),
+        Err(NoMemory) => {
+            drop(table);
+            Err(NoMemory)
+        }
+    }
 }
 
 // The survey of what the dumps gave.
@@ -215,8 +290,9 @@ fn survey_output(alloc: Global, keys: Keys, taken: Taken) -> Result<Output, NoMe
     ensures note { IfOk result (λ output. (written output).note ≡ []) }
 {
     let survey = survey_of(alloc, keys, taken)?;
-    let text = text_of(alloc, &survey)?;
-    Ok(Output::Text(text, List::new(alloc)))
+    let text = text_of(alloc, &survey);
+    drop(survey);
+    Ok(Output::Text(text?, List::new(alloc)))
 }
 
 // The text of ties, without a note.
@@ -249,8 +325,18 @@ fn ties_output(
     requires { AreSound givens }
     ensures { IfOk result (λ output. IsOutputIn Mode.Ties settings.now givens taken (written output)) }
 {
-    let lines = ties_of_table(alloc, keys, given_slice(&givens), taken.table)?;
-    ties_alone(alloc, lines.as_slice())
+    let Taken {
+        table,
+        counts: _,
+        files,
+    } = taken;
+    drop(files);
+    let lines = ties_of_table(alloc, keys, given_slice(&givens), table);
+    drop(givens);
+    let lines = lines?;
+    let output = ties_alone(alloc, lines.as_slice());
+    drop(lines);
+    output
 }
 
 // What the labels of edges say, without a note.
@@ -262,8 +348,9 @@ fn serial_alone(alloc: Global, keys: Keys, edges: &[EdgeLine]) -> Result<Output,
     ensures note { IfOk result (λ output. (written output).note ≡ []) }
 {
     let rel = rel_of(alloc, keys, edges)?;
-    let text = print_rel(alloc, &rel)?;
-    Ok(Output::Text(text, List::new(alloc)))
+    let text = print_rel(alloc, &rel);
+    drop(rel);
+    Ok(Output::Text(text?, List::new(alloc)))
 }
 
 // What the labels of the result of what the dumps gave say.
@@ -281,7 +368,9 @@ fn serial_output(
 {
     has_table_rows(&taken.table);
     let file = faithful_result(alloc, keys, settings, givens, taken)?;
-    serial_alone(alloc, keys, file.edges.as_slice())
+    let output = serial_alone(alloc, keys, file.edges.as_slice());
+    drop(file);
+    output
 }
 
 /// What the settings ask for, of what is known and what the dumps gave; with `--migrate` no dump is read, and with `--resume` they are read

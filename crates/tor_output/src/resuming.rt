@@ -159,7 +159,11 @@ fn joined_output<H: Shelf>(
                 Err(NoMemory) => Err(Refusal::NoMemory),
             }
         }
-        Err(stopped) => Err(Refusal::Dumps(stopped)),
+        Err(stopped) => {
+            drop(earlier);
+            drop(taken);
+            Err(Refusal::Dumps(stopped))
+        }
     }
 }
 

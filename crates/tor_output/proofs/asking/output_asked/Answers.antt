@@ -7,32 +7,32 @@ use Rattle.tor_output.proofs.asking.output_asked.Goals as goal
 
 pub returns-in-Ok-clause-asked : goal.returns-in-Ok-clause-asked
 returns-in-Ok-clause-asked g c =
-    IfOk-weaker c.output_for.result _ _
+    IfOk-weaker c.output_for-output.result _ _
     (λ output h. asked-given c.args.words.now c.in-Ok.settings (g.H.Shelf.files c.args.shelf.now) (written output) c.in-Ok.ensures.given h)
-    c.output_for.ensures.output
+    c.output_for-output.ensures.output
 
 pub returns-in-Ok-clause-of_some : goal.returns-in-Ok-clause-of_some
 returns-in-Ok-clause-of_some g c =
-    IfOk-weaker c.output_for.result _ _
+    IfOk-weaker c.output_for-output.result _ _
     (λ output h. record { settings = c.in-Ok.settings; given = c.in-Ok.ensures.given; outcome = h.0; comes = h.1; written = h.2 })
-    c.output_for.ensures.of_some
+    c.output_for-output.ensures.of_some
 
 pub returns-in-Ok-clause-unwritten : goal.returns-in-Ok-clause-unwritten
 returns-in-Ok-clause-unwritten g c =
-    IfErr-weaker c.output_for.result _ _
+    IfErr-weaker c.output_for-output.result _ _
     (λ u h. unwritten-given c.args.words.now c.in-Ok.settings (g.H.Shelf.files c.args.shelf.now) (g.H.Shelf.steady c.args.shelf.now) u c.in-Ok.ensures.given h)
-    c.output_for.ensures.unwritten
+    c.output_for-output.ensures.unwritten
 
 pub returns-in-Ok-clause-read_out : goal.returns-in-Ok-clause-read_out
 returns-in-Ok-clause-read_out g c =
-    on_ok_weaker c.output_for.result (λ out. sample-given c.args.words.now c.in-Ok.settings _ _ c.in-Ok.ensures.given out) c.output_for.ensures.read_out
+    on_ok_weaker c.output_for-output.result (λ out. sample-given c.args.words.now c.in-Ok.settings _ _ c.in-Ok.ensures.given out) c.output_for-output.ensures.read_out
 
 pub returns-in-Ok-clause-sample : goal.returns-in-Ok-clause-sample
-returns-in-Ok-clause-sample g c = sample-given c.args.words.now c.in-Ok.settings _ _ c.in-Ok.ensures.given c.output_for.ensures.sample
+returns-in-Ok-clause-sample g c = sample-given c.args.words.now c.in-Ok.settings _ _ c.in-Ok.ensures.given c.output_for-output.ensures.sample
 
 pub returns-in-Ok-clause-no_fault : goal.returns-in-Ok-clause-no_fault
 returns-in-Ok-clause-no_fault g c =
-    IfErr-weaker c.output_for.result _ _ (λ u h. sample-given c.args.words.now c.in-Ok.settings _ _ c.in-Ok.ensures.given h) c.output_for.ensures.no_fault
+    IfErr-weaker c.output_for-output.result _ _ (λ u h. sample-given c.args.words.now c.in-Ok.settings _ _ c.in-Ok.ensures.given h) c.output_for-output.ensures.no_fault
 
 pub returns-in-Err-clause-sample : goal.returns-in-Err-clause-sample
 returns-in-Err-clause-sample g c = if_sample c.args.words.now refl tt
@@ -42,12 +42,12 @@ returns-in-Err-clause-no_fault g c = if_sample c.args.words.now (λ h. h) tt
 
 pub returns-in-Ok-clause-reach : goal.returns-in-Ok-clause-reach
 returns-in-Ok-clause-reach g c =
-    IfErr-weaker c.output_for.result _ _
-    (λ u h. reach-given c.args.words.now c.in-Ok.settings (g.H.Shelf.files c.args.shelf.now) (g.H.Shelf.left c.output_for.new.shelf) u c.in-Ok.ensures.given h)
-    c.output_for.ensures.reach
+    IfErr-weaker c.output_for-output.result _ _
+    (λ u h. reach-given c.args.words.now c.in-Ok.settings (g.H.Shelf.files c.args.shelf.now) (g.H.Shelf.left c.output_for-output.new.shelf) u c.in-Ok.ensures.given h)
+    c.output_for-output.ensures.reach
 
 pub returns-in-Err-clause-reach : goal.returns-in-Err-clause-reach
 returns-in-Err-clause-reach g c = λ s is. tt
 
-pub output_for-requires-clause-written : goal.output_for-requires-clause-written
-output_for-requires-clause-written g c = (c.bounds_law.ensures c.args.words.now c.in-Ok.settings c.in-Ok.ensures.given).written
+pub output_for-output-requires-clause-written : goal.output_for-output-requires-clause-written
+output_for-output-requires-clause-written g c = (c.bounds_law.ensures c.args.words.now c.in-Ok.settings c.in-Ok.ensures.given).written
