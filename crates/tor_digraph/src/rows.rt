@@ -1,5 +1,5 @@
 //! A digraph with its arcs in rows.
-ghost use Rattle.std.specs.Prelude.{◌≡◌, ℕ, ◌+◌, ◌<◌, ◌≤◌, Some, slice_get, length, IfOk};
+ghost use Rattle.std.specs.Prelude.{◌≡◌, [], ℕ, ◌+◌, ◌<◌, ◌≤◌, Some, slice_get, replicate, length, OnOk, IfOk};
 ghost use Rattle.tor_digraph.specs.Walks.{IsInside};
 ghost use Rattle.tor_digraph.specs.InRows.{IsRow, IsFilled, count_at, count_before};
 
@@ -69,7 +69,13 @@ impl<N: Index, A: Index> Digraph<N, A> {
         ensures { IfOk result (λ rows. rows ≡ self.now) }
     {
         let mut starts = ends_of_rows(alloc, self)?;
-        let mut rows = places_for(alloc, self)?;
+        let mut rows = match places_for(alloc, self) {
+            Ok(rows) => rows,
+            Err(NoMemory) => {
+                drop(starts);
+                return Err(NoMemory);
+            }
+        };
         fill(self, &mut starts, &mut rows);
         Ok(RowDigraph {
             graph: self,
@@ -88,9 +94,21 @@ fn ends_of_rows<N: Index, A: Index>(
     ensures ends { IfOk result (λ ends. (u end : ℕ) → slice_get ends.items u ≡ Some end →
         end ≡ count_before N.place_of graph.now.arcs (u + 1)) }
 {
-    let mut ends = Vec::new(alloc);
-    reserve(&mut ends, graph.node_count() + 1)?;
-    ends.resize(graph.node_count() + 1, 0)?;
+    match copies(alloc, 0, graph.node_count() + 1) {
+        Ok(mut ends) => {
+            count_ends(graph, &mut ends);
+            Ok(ends)
+        }
+        Err(NoMemory) => Err(NoMemory),
+    }
+}
+
+/// Counts for each node the arcs that leave it, from 0 on, and then adds to each count those before it.
+fn count_ends<N: Index, A: Index>(graph: &Digraph<N, A>, ends: &mut [u32])
+    requires { ends.old ≡ replicate (graph.now.nodes + 1) 0 }
+    ensures many { length ends.new ≡ graph.now.nodes + 1 }
+    ensures ends { (u end : ℕ) → slice_get ends.new u ≡ Some end → end ≡ count_before N.place_of graph.now.arcs (u + 1) }
+{
     for place in 0..graph.arc_count() {
         let (tail, _) = graph.ends(A::from_place(place).unwrap());
         ends[tail.place()] += 1;
@@ -100,7 +118,30 @@ fn ends_of_rows<N: Index, A: Index>(
         sum += ends[place];
         ends[place] = sum;
     }
-    Ok(ends)
+}
+
+/// So many copies of an item.
+fn copies<T: Copy>(alloc: Global, item: T, count: usize) -> Result<Vec<T>, NoMemory>
+    ensures { IfOk result (λ items. items.items ≡ replicate count item) }
+{
+    let mut items = Vec::new(alloc);
+    match fill_up(&mut items, item, count) {
+        Ok(()) => Ok(items),
+        Err(NoMemory) => {
+            drop(items);
+            Err(NoMemory)
+        }
+    }
+}
+
+/// Puts so many copies of an item into an empty vector.
+fn fill_up<T: Copy>(items: &mut Vec<T>, item: T, count: usize) -> Result<(), NoMemory>
+    requires { items.old.items ≡ [] }
+    ensures { OnOk result (items.new.items ≡ replicate count item) }
+{
+    reserve(items, count)?;
+    items.resize(count, item)?;
+    Ok(())
 }
 
 /// As many places as there are arcs. What stands there is of no use yet.
@@ -110,15 +151,13 @@ fn places_for<N: Index, A: Index>(
 ) -> Result<Vec<(A, N)>, NoMemory>
     ensures { IfOk result (λ rows. length rows.items ≡ length graph.now.arcs) }
 {
-    let mut rows = Vec::new(alloc);
     let count = graph.arc_count();
-    if count > 0 {
-        let arc = A::from_place(0).unwrap();
-        let (_, head) = graph.ends(arc);
-        reserve(&mut rows, count)?;
-        rows.resize(count, (arc, head))?;
+    if count == 0 {
+        return Ok(Vec::new(alloc));
     }
-    Ok(rows)
+    let arc = A::from_place(0).unwrap();
+    let (_, head) = graph.ends(arc);
+    copies(alloc, (arc, head), count)
 }
 
 /// Puts each arc into the row of its tail, the last arc first and from the end of the row on, where these are the ends of the rows;

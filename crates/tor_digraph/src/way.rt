@@ -40,8 +40,13 @@ fn go_back<N: Index, A: Index>(
     let mut root = node;
     let mut steps = List::new(alloc);
     while let Found::Along { tail, arc, .. } = *found.get(root) {
-        steps.push((root, arc))?;
-        root = tail;
+        match steps.push((root, arc)) {
+            Ok(()) => root = tail,
+            Err(NoMemory) => {
+                drop(steps);
+                return Err(NoMemory);
+            }
+        }
     }
     Ok(Back { root, steps })
 }
@@ -51,11 +56,16 @@ fn way_at<N: Index, A: Index>(alloc: Global, node: N) -> Result<Way<N, A>, NoMem
     ensures { IfOk result (λ w. (arcs : List (N × N)) → IsWay A.place_of arcs node node w.nodes w.arcs) }
 {
     let mut nodes = List::new(alloc);
-    nodes.push(node)?;
-    Ok(Way {
-        nodes,
-        arcs: List::new(alloc),
-    })
+    match nodes.push(node) {
+        Ok(()) => Ok(Way {
+            nodes,
+            arcs: List::new(alloc),
+        }),
+        Err(NoMemory) => {
+            drop(nodes);
+            Err(NoMemory)
+        }
+    }
 }
 
 /// Goes on along steps back, the last first.
@@ -76,8 +86,13 @@ fn reversed<N: Index, A: Index>(alloc: Global, back: &mut Back<N, A>) -> Result<
         IsWay A.place_of arcs back.old.root end w.nodes w.arcs) }
 {
     let mut way = way_at(alloc, back.root)?;
-    go_on(&mut back.steps, &mut way)?;
-    Ok(way)
+    match go_on(&mut back.steps, &mut way) {
+        Ok(()) => Ok(way),
+        Err(NoMemory) => {
+            drop(way);
+            Err(NoMemory)
+        }
+    }
 }
 
 /// A walk to a node that was found, from the start of its search tree.
@@ -91,5 +106,7 @@ pub(crate) fn way_to<N: Index, A: Index>(
     ensures { IfOk result (λ w. LeadsFromRoot N.place_of A.place_of found.now.items node w.nodes w.arcs) }
 {
     let mut back = go_back(alloc, found, node)?;
-    reversed(alloc, &mut back)
+    let way = reversed(alloc, &mut back);
+    drop(back);
+    way
 }

@@ -110,3 +110,16 @@ bounds-ends-place g c =
 
 pub loop-left-smaller : goal.loop-left-smaller
 loop-left-smaller g c = let test = c.loop-left-test.true in omega (arith, test)
+
+pub bounds-ends-place-in-loop-left : goal.bounds-ends-place-in-loop-left
+bounds-ends-place-in-loop-left g c =
+    let many = c.loop-left.invariant.many in
+    let tail = c.ends-tail.ensures.tail in
+    let place = c.place-place.ensures.place in
+    omega (arith, many, tail, place)
+
+pub bounds-rows-at : goal.bounds-rows-at
+bounds-rows-at g c = let test = c.if-prove.false in omega (arith, test)
+
+pub overflow_sub-left : goal.overflow_sub-left
+overflow_sub-left g c = let test = c.loop-left-test.true in omega (arith, test)

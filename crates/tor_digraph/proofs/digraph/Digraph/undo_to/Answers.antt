@@ -69,3 +69,9 @@ returns g c =
     let le : c.args.mark.nodes ≤ length c.loop-left.self-inside.first.items = subst (λ n. c.args.mark.nodes ≤ n) (sym c.loop-left.invariant.nodes) c.requires.nodes in
     same-net _ _ (ap length c.cut_to-3.ensures.items ∙ length-take-le c.args.mark.nodes c.loop-left.self-inside.first.items le)
     (c.cut_to.ensures.items ∙ ap (take c.args.mark.arcs) c.loop-left.invariant.ends)
+
+pub overflow_sub-left : goal.overflow_sub-left
+overflow_sub-left g c = let test = c.loop-left-test.true in omega (arith, test)
+
+pub loop-left-smaller : goal.loop-left-smaller
+loop-left-smaller g c = let test = c.loop-left-test.true in omega (arith, test)
