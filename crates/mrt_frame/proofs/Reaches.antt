@@ -34,6 +34,13 @@ reads_from before left n first last reads le = (reads.0, omega (arith, reads.1, 
 pub reads_more : (before left : Option (List ℕ)) (first last more : ℕ) → ReadsUpTo first last before left → last ≤ more → ReadsUpTo first more before left
 reads_more before left first last more reads le = (reads.0, omega (arith, reads.1, le), reads.2)
 
+-- a header, and then a body, behind what was read before
+pub reads_record : (before left mid after : Option (List ℕ)) (first at len last : ℕ) → ReadsUpTo first at before left → ReadsUpTo 0 12 left mid → ReadsUpTo 0 len mid after
+    → at + 12 + len ≤ last → ReadsUpTo first last before after
+reads_record before left mid after first at len last so_far head body le =
+    reads_then before left after first at last so_far
+    (reads_then left mid after at (at + 12) last (reads_from left mid 12 at (at + 12) head (omega arith)) (reads_from mid after len (at + 12) last body le))
+
 -- ---- behind whole records
 
 -- so many octets stand between two places, and they are those of whole records

@@ -1,5 +1,5 @@
 -- What was read of a file, also where nothing is known of its octets: each lemma of known files is used for all octets that may stand behind.
-use Rattle.std.proofs.Common.{◌≡◌, ℕ, ◌+◌, ◌≤◌, false, List, [], ◌++◌, length, Option, Some, None, refl, sym, ap, subst, ◌∙◌, append_assoc, arith}
+use Rattle.std.proofs.Common.{◌≡◌, ℕ, ◌+◌, ◌≤◌, false, List, [], ◌∷◌, ◌++◌, length, Option, Some, None, refl, sym, ap, subst, ◌∙◌, append_assoc, arith}
 use Rattle.std.specs.Prelude.{◌&&◌, ◌^◌, ltb}
 use Rattle.std.proofs.lemmas.List.{append-nil, length-append, take_at, drop_at}
 use Rattle.std.specs.Io.KnownBytes.{prepend_known}
@@ -25,6 +25,11 @@ prepend_more a b (Some rest) = ap (λ (t : List ℕ). Some t) (sym (append_assoc
 pub prepend_none : (known : Option (List ℕ)) → known ≡ prepend_known [] known
 prepend_none None = refl
 prepend_none (Some rest) = refl
+
+-- where no octet was read, all are left
+pub nothing_read : (before left : Option (List ℕ)) (head : List ℕ) → length head ≡ 0 → before ≡ prepend_known head left → before ≡ left
+nothing_read before left [] none is = is ∙ sym (prepend_none left)
+nothing_read before left (octet ∷ octets) none is = absurd (omega (arith, none))
 
 -- so many octets, and then so many more
 pub so_many_more : (before mid left : Option (List ℕ)) (n m : ℕ) (part : List ℕ) → HasReadSo n before mid → length part ≡ m → mid ≡ prepend_known part left → HasReadSo (n + m) before left

@@ -9,6 +9,7 @@ use Rattle.mrt_frame.specs.declared.frames.Frames.{Frames}
 use Rattle.mrt_frame.specs.Frames.{FindsNext, StopsWith, IfFault, record_as, end_of_error}
 use Rattle.mrt_frame.specs.Steps.{NextRecord, HasMoved, lent_record}
 use Rattle.mrt_frame.specs.Counting.{CountsAll}
+use Rattle.mrt_frame.proofs.Errors.{no_error, error_on}
 use Rattle.mrt_frame.proofs.Converse.{Matches, conversely, same_seen, of_octets}
 use Rattle.mrt_frame.specs.Some.{HasRead, GiveRecord}
 use Rattle.mrt_frame.proofs.frames.Frames+H.next.Goals as goal
@@ -29,7 +30,7 @@ returns-in_err-advance g c =
     let given = conversely c.from_residual.result before place None (subst (λ (r : NextRecord). IfSome before (λ octets. Matches r place octets None)) is matches) in
     let moved : HasMoved shelf old first second (Err e) new = record {
       same_reference = refl;
-      leaves = record { files = facts.files; later = facts.later; quiet = facts.quiet; failed = λ read. facts.failed (same_error e read); steady = facts.steady };
+      leaves = record { files = facts.files; later = facts.later; quiet = facts.quiet; failed = λ read. facts.failed (error_on e ReadFault read); steady = facts.steady };
       stands = tt;
       counted = tt;
       next = tt;
@@ -43,7 +44,7 @@ returns-in_err-advance g c =
       bounded = facts.bounded;
       reached = tt;
       within = facts.within;
-      shown = λ is. facts.shown (same_kind e TooManyBytes is);
+      shown = λ is. facts.shown (error_on e TooManyBytes is);
     } in (
       (refl, (λ _. tt), subst (λ (r : NextRecord). HasMoved shelf old first second r new) is moved),
       record {
@@ -55,22 +56,13 @@ returns-in_err-advance g c =
         end_is_none = given.end_is_none;
         stop_is_error = given.stop_is_error;
         counted_all = subst (λ (r : NextRecord). IfOk r (λ found. IfNone found (CountsAll before place first second))) is tt;
-        steady_reads = λ s read. facts.steady_reads s (same_error e (is ∙ read));
+        steady_reads = λ s read. facts.steady_reads s (error_on e ReadFault (is ∙ read));
       },
     )
   where
     broken : (live : Bool) (e : FrameError) → (live ≡ true → ◌≡◌ {A = Result Bool FrameError} (Err e) (Ok true)) → live ≡ false
     broken false e h = refl
-    broken true e h = let yes : ◌≡◌ {A = Result Bool FrameError} (Err e) (Ok true) = h refl in absurd cc
-
-    same_kind : (e f : FrameError) → ◌≡◌ {A = NextRecord} (Err e) (Err f) → ◌≡◌ {A = Result Bool FrameError} (Err e) (Err f)
-    same_kind e f is = let same : e ≡ f = cc in ap (λ (x : FrameError). Err x) same
-
-    same_error : (e : FrameError) → ◌≡◌ {A = NextRecord} (Err e) (Err ReadFault) → ◌≡◌ {A = Result Bool FrameError} (Err e) (Err ReadFault)
-    same_error e is = ap (λ (x : FrameError). Err x) (error_is e is)
-      where
-        error_is : (e : FrameError) → ◌≡◌ {A = NextRecord} (Err e) (Err ReadFault) → e ≡ ReadFault
-        error_is e is = cc
+    broken true e h = absurd (no_error true e (sym (h refl)))
 
 pub returns-then-branch : goal.returns-then-branch
 returns-then-branch g c =
@@ -91,7 +83,7 @@ returns-then-branch g c =
         (λ _. tt),
         record {
           same_reference = refl;
-          leaves = record { files = facts.files; later = facts.later; quiet = λ _. facts.quiet tt; failed = λ is. absurd cc; steady = facts.steady };
+          leaves = record { files = facts.files; later = facts.later; quiet = λ _. facts.quiet tt; failed = λ is. absurd (no_error _ _ is); steady = facts.steady };
           stands = stands;
           counted = facts.counted ok;
           next = facts.next ok ∙ ap place_behind same;
@@ -105,7 +97,7 @@ returns-then-branch g c =
           some_end = tt;
           reached = facts.reached ok;
           within = facts.within;
-          shown = λ is. absurd cc;
+          shown = λ is. absurd (no_error _ _ is);
         },
       ),
       record {
@@ -117,7 +109,7 @@ returns-then-branch g c =
         end_is_none = given.end_is_none;
         stop_is_error = given.stop_is_error;
         counted_all = tt;
-        steady_reads = λ _ is. absurd cc;
+        steady_reads = λ _ is. absurd (no_error _ _ is);
       },
     )
 
@@ -135,7 +127,7 @@ returns-else-branch g c =
         (λ _. tt),
         record {
           same_reference = refl;
-          leaves = record { files = facts.files; later = facts.later; quiet = λ _. facts.quiet tt; failed = λ is. absurd cc; steady = facts.steady };
+          leaves = record { files = facts.files; later = facts.later; quiet = λ _. facts.quiet tt; failed = λ is. absurd (no_error _ _ is); steady = facts.steady };
           stands = tt;
           counted = tt;
           next = tt;
@@ -149,7 +141,7 @@ returns-else-branch g c =
           bounded = facts.bounded;
           reached = tt;
           within = facts.within;
-          shown = λ is. absurd cc;
+          shown = λ is. absurd (no_error _ _ is);
         },
       ),
       record {
@@ -161,7 +153,7 @@ returns-else-branch g c =
         end_is_none = given.end_is_none;
         stop_is_error = given.stop_is_error;
         counted_all = facts.counted_all no;
-        steady_reads = λ _ is. absurd cc;
+        steady_reads = λ _ is. absurd (no_error _ _ is);
       },
     )
   where
