@@ -1,5 +1,5 @@
 //! Ways that are known from searches that failed.
-ghost use Rattle.std.specs.Prelude.{◌≡◌, ℕ, ◌+◌, ◌≤◌, ◌↔◌, List, length, slice_get, Some, IsTrue, IfOk, IfSome, IfNone, OnOk};
+ghost use Rattle.std.specs.Prelude.{◌≡◌, [], ℕ, ◌+◌, ◌≤◌, ◌↔◌, List, length, slice_get, Some, IsTrue, IfOk, IfSome, IfNone, OnOk};
 ghost use Rattle.tor_clauses.specs.Literals.{opposite_node};
 ghost use Rattle.tor_mend.specs.Rounds.{IsLed, LeadsOn, GoesAlongMiddle, IsEarly, AreKnown};
 
@@ -160,11 +160,27 @@ fn is_early(way: &Way<NodeId, ArcId>, first: usize) -> bool
 fn copy(alloc: Global, way: &Way<NodeId, ArcId>) -> Result<Way<NodeId, ArcId>, NoMemory>
     ensures { IfOk result (λ same. same ≡ way.now) }
 {
-    let mut nodes = List::new(alloc);
-    nodes.extend_from_slice(way.nodes.as_slice())?;
-    let mut arcs = List::new(alloc);
-    arcs.extend_from_slice(way.arcs.as_slice())?;
-    Ok(Way { nodes, arcs })
+    let mut same = Way {
+        nodes: List::new(alloc),
+        arcs: List::new(alloc),
+    };
+    match copy_into(way, &mut same) {
+        Ok(()) => Ok(same),
+        Err(NoMemory) => {
+            drop(same);
+            Err(NoMemory)
+        }
+    }
+}
+
+/// Puts the nodes and the arcs of a way into an empty one.
+fn copy_into(way: &Way<NodeId, ArcId>, same: &mut Way<NodeId, ArcId>) -> Result<(), NoMemory>
+    requires nodes { same.old.nodes ≡ [] }
+    requires arcs { same.old.arcs ≡ [] }
+    ensures { OnOk result (same.new ≡ way.now) }
+{
+    same.nodes.extend_from_slice(way.nodes.as_slice())?;
+    same.arcs.extend_from_slice(way.arcs.as_slice())
 }
 
 /// Goes on along the arcs of a way, but for the first, so many, and as many of the last.

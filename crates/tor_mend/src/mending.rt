@@ -1,12 +1,12 @@
 //! How a literal is made to hold.
-ghost use Rattle.std.specs.Prelude.{◌≡◌, ℕ, ◌*◌, ◌<◌, [], List, length, IfOk, IfSome, IfNone};
+ghost use Rattle.std.specs.Prelude.{◌≡◌, ℕ, ◌*◌, ◌<◌, [], List, length, OnOk, IfOk, IfSome, IfNone};
 ghost use Rattle.relationships.specs.declared.label.End.{End as Side};
 ghost use Rattle.tor_arena.specs.Limits.{max_numbers};
 ghost use Rattle.tor_clauses.specs.Literals.{lit_of, opposite_node, Holds};
 ghost use Rattle.tor_mend.specs.Trails.{StandsAt, IsMarked, IsTrail, IsStop};
 ghost use Rattle.tor_mend.specs.Mends.{IsState, IsMended, IsUnmet, IsSide, flipped_back};
 ghost use Rattle.tor_mend.specs.Posing.{first_open};
-ghost use Rattle.tor_mend.specs.Rounds.{IsLed, AreKnown};
+ghost use Rattle.tor_mend.specs.Rounds.{IsLed, GoesRound, AreKnown};
 
 use crate::flipping::{Flip, flip_all};
 use crate::known::Known;
@@ -47,10 +47,27 @@ pub fn start(alloc: Global, count: usize) -> Result<State, NoMemory>
     ensures flips { IfOk result (λ state. state.flips ≡ []) }
     ensures known { IfOk result (λ state. (arcs : List (ℕ × ℕ)) (first : ℕ) → AreKnown arcs first state.known) }
 {
-    let mut ends = Vec::new(alloc);
-    ends.resize(count, End::Low)?;
-    let ends = Orientation::from_slice(alloc, ends.as_slice())?;
+    let ends = all_low(alloc, count)?;
     at_rest(alloc, ends)
+}
+
+/// The orientation in which the lower end of each of so many edges is the provider.
+fn all_low(alloc: Global, count: usize) -> Result<Orientation, NoMemory>
+    requires { count < max_numbers }
+    ensures { IfOk result (λ ends. length ends ≡ count) }
+{
+    let mut ends = Vec::new(alloc);
+    match ends.resize(count, End::Low) {
+        Ok(()) => {
+            let low = Orientation::from_slice(alloc, ends.as_slice());
+            drop(ends);
+            low
+        }
+        Err(_) => {
+            drop(ends);
+            Err(NoMemory)
+        }
+    }
 }
 
 /// An orientation, and what its repairs need: no search has visited anything, nothing is to be taken back, and nothing is known. The only
@@ -63,12 +80,18 @@ pub fn at_rest(alloc: Global, ends: Orientation) -> Result<State, NoMemory>
     ensures known { IfOk result (λ state. (arcs : List (ℕ × ℕ)) (first : ℕ) → AreKnown arcs first state.known) }
 {
     let count = ends.as_slice().len();
-    Ok(State {
-        ends,
-        trail: Trail::new(alloc, count * 2)?,
-        flips: List::new(alloc),
-        known: Known::nothing(alloc),
-    })
+    match Trail::new(alloc, count * 2) {
+        Ok(trail) => Ok(State {
+            ends,
+            trail,
+            flips: List::new(alloc),
+            known: Known::nothing(alloc),
+        }),
+        Err(NoMemory) => {
+            drop(ends);
+            Err(NoMemory)
+        }
+    }
 }
 
 /// The way from a literal to its negation, where a search from it has stopped.
@@ -87,15 +110,32 @@ fn way_round(
     ensures { IfOk result (λ way. IsLed problem.now.formula.net.arcs way start (opposite_node start)) }
 {
     let mut way = stay(alloc, start)?;
+    match go_on(alloc, problem, stop, trail, known, &mut way) {
+        Ok(()) => Ok(way),
+        Err(NoMemory) => {
+            drop(way);
+            Err(NoMemory)
+        }
+    }
+}
+
+/// Goes on from the first node of a trail to its negation, where a search has stopped.
+fn go_on(
+    alloc: Global,
+    problem: &Problem<'_>,
+    stop: Stop,
+    trail: &Trail,
+    known: &Known,
+    way: &mut Way<NodeId, ArcId>,
+) -> Result<(), NoMemory>
+    requires trail { (ends : List Side) × IsTrail problem.now.formula.net.arcs ends trail.now }
+    requires stop { IsStop problem.now.formula.net.arcs known.now.places.items trail.now.nodes.items stop }
+    requires known { (early : ℕ) × AreKnown problem.now.formula.net.arcs early known.now }
+    ensures { OnOk result (GoesRound problem.now.formula.net.arcs trail.now.nodes.items way.old way.new) }
+{
     match stop {
-        Stop::Clash(arc) => {
-            go_round(alloc, problem, trail, arc, &mut way)?;
-            Ok(way)
-        }
-        Stop::Known(place) => {
-            go_by(alloc, problem, trail, place, known, &mut way)?;
-            Ok(way)
-        }
+        Stop::Clash(arc) => go_round(alloc, problem, trail, arc, way),
+        Stop::Known(place) => go_by(alloc, problem, trail, place, known, way),
     }
 }
 
@@ -128,8 +168,13 @@ pub fn mend(
         Some(stop) => {
             let way = way_round(alloc, problem, start, stop, &state.trail, &state.known)?;
             let first = problem.first_open();
-            state.known.remember(alloc, digraph, first, start, &way)?;
-            Ok(Some(way))
+            match state.known.remember(alloc, digraph, first, start, &way) {
+                Ok(()) => Ok(Some(way)),
+                Err(NoMemory) => {
+                    drop(way);
+                    Err(NoMemory)
+                }
+            }
         }
         None => {
             flip_all(

@@ -259,11 +259,25 @@ fn with_link(alloc: Global, links: &[Link], own: u32, link: Link) -> Result<List
     ensures { IfOk result (λ new. new ≡ map (relink own link) links.now) }
 {
     let mut new = Vec::new(alloc);
+    match add_links(&mut new, links, own, link) {
+        Ok(()) => Ok(List::from_vec(new)),
+        Err(NoMemory) => {
+            drop(new);
+            Err(NoMemory)
+        }
+    }
+}
+
+/// Adds the links with this one in place of each into the path of this number.
+fn add_links(new: &mut Vec<Link>, links: &[Link], own: u32, link: Link) -> Result<(), NoMemory>
+    requires { new.old.items ≡ [] }
+    ensures { OnOk result (new.new.items ≡ map (relink own link) links.now) }
+{
     new.reserve(links.len())?;
     for old in links {
         new.push(if old.path == own { link } else { *old })?;
     }
-    Ok(List::from_vec(new))
+    Ok(())
 }
 
 /// The walk of a path that was lost, with this link in place of each into that path. The only error is that memory ran out.
@@ -275,11 +289,17 @@ pub fn walk_again(alloc: Global, fates: &Fates, lost: PathId, link: Link) -> Res
     match fates.walk(lost) {
         None => unreachable!(),
         Some(walk) => {
-            let mut ases = List::new(alloc);
-            ases.extend_from_slice(walk.ases())?;
             let own = lost.place() as u32 + 1;
             let links = with_link(alloc, walk.links(), own, link)?;
-            Ok(Walk { ases, links })
+            let mut ases = List::new(alloc);
+            match ases.extend_from_slice(walk.ases()) {
+                Ok(()) => Ok(Walk { ases, links }),
+                Err(NoMemory) => {
+                    drop(ases);
+                    drop(links);
+                    Err(NoMemory)
+                }
+            }
         }
     }
 }

@@ -31,11 +31,16 @@ pub(crate) fn stay(alloc: Global, node: NodeId) -> Result<Way<NodeId, ArcId>, No
     ensures { IfOk result (λ way. (arcs : List (ℕ × ℕ)) → IsLed arcs way node node) }
 {
     let mut nodes = List::new(alloc);
-    nodes.push(node)?;
-    Ok(Way {
-        nodes,
-        arcs: List::new(alloc),
-    })
+    match nodes.push(node) {
+        Ok(()) => Ok(Way {
+            nodes,
+            arcs: List::new(alloc),
+        }),
+        Err(NoMemory) => {
+            drop(nodes);
+            Err(NoMemory)
+        }
+    }
 }
 
 /// Goes on along one arc.
@@ -81,8 +86,13 @@ fn chain_to(
     let mut at = place;
     while at > 0 {
         let origin = trail.origin_of(at);
-        chain.push(origin.arc)?;
-        at = origin.place as usize;
+        match chain.push(origin.arc) {
+            Ok(()) => at = origin.place as usize,
+            Err(NoMemory) => {
+                drop(chain);
+                return Err(NoMemory);
+            }
+        }
     }
     Ok(chain)
 }
@@ -101,8 +111,15 @@ fn go_out(
 {
     let mut chain = chain_to(alloc, digraph, trail, place)?;
     while let Some(arc) = chain.pop() {
-        go(digraph, arc, way)?;
+        match go(digraph, arc, way) {
+            Ok(()) => {}
+            Err(NoMemory) => {
+                drop(chain);
+                return Err(NoMemory);
+            }
+        }
     }
+    drop(chain);
     Ok(())
 }
 
@@ -188,12 +205,32 @@ fn way_back(
     requires { IsRest problem.now.formula.net.arcs arc head rest.now }
     ensures { IfOk result (λ way. IsLed problem.now.formula.net.arcs way (opposite_node head) head) }
 {
-    let digraph = problem.digraph();
     let mut way = stay(alloc, negation_node(head))?;
-    go(digraph, problem.partner(arc), &mut way)?;
-    go_along(digraph, rest, 0, &mut way)?;
-    go(digraph, arc, &mut way)?;
-    Ok(way)
+    match go_back(problem, arc, rest, &mut way) {
+        Ok(()) => Ok(way),
+        Err(NoMemory) => {
+            drop(way);
+            Err(NoMemory)
+        }
+    }
+}
+
+/// Goes on from the negation of an arc's head by that of its tail, and its tail, to its head, where a way leads from the negation of
+/// the tail to the tail.
+fn go_back(
+    problem: &Problem<'_>,
+    arc: ArcId,
+    rest: &Way<NodeId, ArcId>,
+    way: &mut Way<NodeId, ArcId>,
+) -> Result<(), NoMemory>
+    requires { (head : ℕ) × IsRest problem.now.formula.net.arcs arc head rest.now }
+    ensures { OnOk result ((head : ℕ) → IsRest problem.now.formula.net.arcs arc head rest.now →
+        LeadsOn problem.now.formula.net.arcs way.old way.new (opposite_node head) head) }
+{
+    let digraph = problem.digraph();
+    go(digraph, problem.partner(arc), way)?;
+    go_along(digraph, rest, 0, way)?;
+    go(digraph, arc, way)
 }
 
 /// The list behind its first two items. It takes no memory.
@@ -265,5 +302,7 @@ pub fn walk_by(
 {
     let (_, head) = problem.digraph().ends(arc);
     let back = way_back(alloc, problem, head, arc, &conflict.rest)?;
-    refuting_walk(alloc, problem, head, &conflict.there, &back)
+    let walk = refuting_walk(alloc, problem, head, &conflict.there, &back);
+    drop(back);
+    walk
 }

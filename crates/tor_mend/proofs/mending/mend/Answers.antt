@@ -76,12 +76,12 @@ flip_all-requires-clause-unheld c = λ k x at.
     let there : StandsAt c.visit_all.new.self.nodes.items k x = subst (λ (l : List ℕ). StandsAt l k x) c.as_slice-in-None.ensures at in
     subst (λ (l : List End). Holds l (lit_of x) → ⊥) c.as_slice.ensures (c.in_ok-stop.ensures.trail.unheld k x there)
 
-pub returns-in_ok-remember-in-Some-clause-known : goal.returns-in_ok-remember-in-Some-clause-known
-returns-in_ok-remember-in-Some-clause-known c = known_same c.args.problem.now.formula.net.arcs c.digraph-digraph.result.now.arcs (first_open c.args.problem.now)
+pub returns-in-Ok-clause-known : goal.returns-in-Ok-clause-known
+returns-in-Ok-clause-known c = known_same c.args.problem.now.formula.net.arcs c.digraph-digraph.result.now.arcs (first_open c.args.problem.now)
     c.first_open-first.result c.remember.new.self (ap (λ net. net.arcs) c.digraph-digraph.ensures) c.first_open-first.ensures c.remember.ensures.known
 
-pub returns-in_err-remember-in-Some-clause-known : goal.returns-in_err-remember-in-Some-clause-known
-returns-in_err-remember-in-Some-clause-known c = known_same c.args.problem.now.formula.net.arcs c.digraph-digraph.result.now.arcs (first_open c.args.problem.now)
+pub returns-in-Err-clause-known : goal.returns-in-Err-clause-known
+returns-in-Err-clause-known c = known_same c.args.problem.now.formula.net.arcs c.digraph-digraph.result.now.arcs (first_open c.args.problem.now)
     c.first_open-first.result c.remember.new.self (ap (λ net. net.arcs) c.digraph-digraph.ensures) c.first_open-first.ensures c.remember.ensures.known
 
 pub returns-in_err-stop-clause-state : goal.returns-in_err-stop-clause-state
@@ -98,15 +98,15 @@ returns-in_err-way-in-Some-clause-state c = record {
   flips = c.requires.state.flips;
 }
 
-pub returns-in_err-remember-in-Some-clause-state : goal.returns-in_err-remember-in-Some-clause-state
-returns-in_err-remember-in-Some-clause-state c = record {
+pub returns-in-Err-clause-state : goal.returns-in-Err-clause-state
+returns-in-Err-clause-state c = record {
   ends = c.requires.state.ends;
   trail = subst (λ net. IsMarked net.nodes c.visit_all.new.self.nodes) c.digraph-digraph.ensures c.visit_all.ensures.marked;
   flips = c.requires.state.flips;
 }
 
-pub returns-in_ok-remember-in-Some-clause-state : goal.returns-in_ok-remember-in-Some-clause-state
-returns-in_ok-remember-in-Some-clause-state c = record {
+pub returns-in-Ok-clause-state : goal.returns-in-Ok-clause-state
+returns-in-Ok-clause-state c = record {
   ends = c.requires.state.ends;
   trail = subst (λ net. IsMarked net.nodes c.visit_all.new.self.nodes) c.digraph-digraph.ensures c.visit_all.ensures.marked;
   flips = c.requires.state.flips;

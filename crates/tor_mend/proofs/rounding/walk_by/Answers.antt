@@ -11,8 +11,8 @@ way_back-requires c =
     subst (λ net. slice_get net.arcs c.args.arc ≡ Some c.ends-head.result) c.digraph.ensures c.ends-head.ensures.arc in
     (tail, arc, c.requires.conflict.rest tail head arc)
 
-pub refuting_walk-requires-clause-there : goal.refuting_walk-requires-clause-there
-refuting_walk-requires-clause-there c =
+pub refuting_walk-walk-requires-clause-there : goal.refuting_walk-walk-requires-clause-there
+refuting_walk-walk-requires-clause-there c =
     let tail = c.ends-head.result.0 in
     let head = c.ends-head.result.1 in
     let arc : IsArc c.args.problem.now.formula.net.arcs c.args.arc tail head =

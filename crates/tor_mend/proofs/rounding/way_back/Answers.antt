@@ -1,29 +1,14 @@
-use Rattle.std.proofs.Common.{◌≡◌, ◌-◌, ℕ, Some, length, ap, subst, arith}
-use Rattle.std.specs.Prelude.{slice_get}
-use Rattle.std.proofs.lemmas.Option.{slice_get_within}
-use Rattle.tor_digraph.specs.Walks.{IsArc}
+use Rattle.std.proofs.Common.{ℕ, subst}
 use Rattle.tor_clauses.specs.Literals.{opposite_node}
-use Rattle.tor_mend.specs.Rounds.{GoesAlongMiddle, LeadsOn, IsLed}
+use Rattle.tor_mend.specs.Rounds.{IsLed}
 use Rattle.tor_mend.proofs.rounding.way_back.Goals as goal
 
-pub go-requires-2 : goal.go-requires-2
-go-requires-2 c =
-    let lt = slice_get_within c.args.problem.now.formula.net.arcs c.args.arc (c.requires.0, c.args.head) c.requires.1 in
-    let same = ap (λ net. length net.arcs) c.digraph-digraph.ensures in
-    omega (arith, lt, same)
+pub go_back-requires : goal.go_back-requires
+go_back-requires c = (c.args.head, c.requires)
 
-pub returns : goal.returns
-returns c =
+pub returns-in-Ok : goal.returns-in-Ok
+returns-in-Ok c =
     let arcs = c.args.problem.now.formula.net.arcs in
-    let tail : ℕ = c.requires.0 in
-    let head : ℕ = c.args.head in
-    let start = opposite_node head in
+    let start : ℕ = opposite_node c.args.head in
     let begin : IsLed arcs c.in_ok-way.way start start = subst (λ n. IsLed arcs c.in_ok-way.way n n) c.negation_node.ensures (c.in_ok-way.ensures arcs) in
-    let one = subst (λ net. (l m : ℕ) → IsArc net.arcs c.partner.result l m → LeadsOn net.arcs c.in_ok-way.way c.go.new.way l m) c.digraph-digraph.ensures c.in_ok-go.ensures in
-    let on = subst (λ net. GoesAlongMiddle net.arcs c.args.rest.now 0 c.go.new.way c.go_along.new.way) c.digraph-digraph.ensures c.in_ok-go_along.ensures in
-    let rest = c.requires.2 in
-    let whole : length c.args.rest.now.arcs ≡ length c.args.rest.now.arcs - 0 = omega arith in
-    let end : slice_get c.args.rest.now.nodes (length c.args.rest.now.arcs - 0) ≡ Some tail = subst (λ k. slice_get c.args.rest.now.nodes k ≡ Some tail) whole rest.last in
-    let last = subst (λ net. (l m : ℕ) → IsArc net.arcs c.args.arc l m → LeadsOn net.arcs c.go_along.new.way c.go-2.new.way l m) c.digraph-digraph.ensures c.in_ok-go-2.ensures in
-    last tail head c.requires.1 start (on (opposite_node tail) tail (opposite_node tail) tail rest rest.first end start (one start (opposite_node tail) (c.partner.ensures.partner tail head
-    c.requires.1) start begin))
+    c.in-Ok.ensures c.args.head c.requires start begin

@@ -55,3 +55,21 @@ met_unless_satisfied-here-requires-clause-second c =
 
 pub met_unless_satisfied-here-requires-clause-few : goal.met_unless_satisfied-here-requires-clause-few
 met_unless_satisfied-here-requires-clause-few c = subst (λ n. n < max_numbers) (sym c.requires.ends) c.facts.ensures.edges
+
+pub bounds-steps-next : goal.bounds-steps-next
+bounds-steps-next c = let test = c.loop-next-test.true in omega (arith, test)
+
+pub bounds-steps-next-in-loop-next : goal.bounds-steps-next-in-loop-next
+bounds-steps-next-in-loop-next c = let test = c.loop-next-test.true in omega (arith, test)
+
+pub overflow_sub-first : goal.overflow_sub-first
+overflow_sub-first c = omega (arith, c.loop-next.auto.next)
+
+pub loop-next-init : goal.loop-next-init
+loop-next-init c = tt
+
+pub returns-then-is_empty : goal.returns-then-is_empty
+returns-then-is_empty c = tt
+
+pub returns : goal.returns
+returns c = c.loop-next.invariant

@@ -20,3 +20,9 @@ loop-next-init c = record {
   trail = trail_begun c.args.digraph.now.arcs c.args.ends.now c.begin.new.self c.args.start c.requires.unheld c.in_ok-begin.ensures.nodes c.in_ok-begin.ensures.origins;
   within = omega arith;
 }
+
+pub loop-next-smaller : goal.loop-next-smaller
+loop-next-smaller c = omega (arith, c.loop-next-test.true, c.len.type_inv)
+
+pub overflow_add-next : goal.overflow_add-next
+overflow_add-next c = record { fits = omega (arith, c.loop-next-test.true, c.len.type_inv) }

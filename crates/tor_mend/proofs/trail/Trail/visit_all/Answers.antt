@@ -63,3 +63,9 @@ returns-clause-passed c =
     let nodes = c.loop-next.self.nodes.items in
     let end : c.loop-next.next ≡ length nodes = omega (arith, c.loop-next-test.false, c.len.ensures, c.loop-next.invariant.within) in
     subst (ArePassed c.args.digraph.now.arcs c.args.ends.now nodes) end c.loop-next.invariant.passed
+
+pub loop-next-smaller : goal.loop-next-smaller
+loop-next-smaller c = omega (arith, c.loop-next-test.true, c.len.type_inv)
+
+pub overflow_add-next : goal.overflow_add-next
+overflow_add-next c = record { fits = omega (arith, c.loop-next-test.true, c.len.type_inv) }
