@@ -17,11 +17,16 @@ fn stay(alloc: Global, node: NodeId) -> Result<Way<NodeId, ArcId>, NoMemory>
     ensures { IfOk result (λ way. (arcs : List (ℕ × ℕ)) → IsLed arcs way node node) }
 {
     let mut nodes = List::new(alloc);
-    nodes.push(node)?;
-    Ok(Way {
-        nodes,
-        arcs: List::new(alloc),
-    })
+    match nodes.push(node) {
+        Ok(()) => Ok(Way {
+            nodes,
+            arcs: List::new(alloc),
+        }),
+        Err(NoMemory) => {
+            drop(nodes);
+            Err(NoMemory)
+        }
+    }
 }
 
 /// Goes on along one arc.
@@ -64,8 +69,13 @@ fn chain_to(
     let mut at = place;
     while at > 0 {
         let origin = trial.origin_of(at);
-        chain.push(origin.arc)?;
-        at = origin.place as usize;
+        match chain.push(origin.arc) {
+            Ok(()) => at = origin.place as usize,
+            Err(NoMemory) => {
+                drop(chain);
+                return Err(NoMemory);
+            }
+        }
     }
     Ok(chain)
 }
@@ -84,8 +94,15 @@ fn go_out(
 {
     let mut chain = chain_to(alloc, problem, trial, place)?;
     while let Some(arc) = chain.pop() {
-        go(problem, arc, way)?;
+        match go(problem, arc, way) {
+            Ok(()) => {}
+            Err(NoMemory) => {
+                drop(chain);
+                return Err(NoMemory);
+            }
+        }
     }
+    drop(chain);
     Ok(())
 }
 
@@ -122,12 +139,33 @@ pub(crate) fn way_round(
     requires clash { IsClash problem.now.formula.net.arcs trial.now.nodes.items clash }
     ensures { IfOk result (λ way. IsLed problem.now.formula.net.arcs way start (opposite_node start)) }
 {
+    let mut way = stay(alloc, start)?;
+    match go_round(alloc, problem, trial, clash, &mut way) {
+        Ok(()) => Ok(way),
+        Err(NoMemory) => {
+            drop(way);
+            Err(NoMemory)
+        }
+    }
+}
+
+/// Goes on so from the start of a search to its opposite.
+fn go_round(
+    alloc: Global,
+    problem: &Problem<'_>,
+    trial: &Trail,
+    clash: ArcId,
+    way: &mut Way<NodeId, ArcId>,
+) -> Result<(), NoMemory>
+    requires trial { (start : ℕ) × IsTrail problem.now.formula.net.arcs start trial.now }
+    requires clash { IsClash problem.now.formula.net.arcs trial.now.nodes.items clash }
+    ensures { OnOk result ((start : ℕ) → StandsAt trial.now.nodes.items 0 start →
+        LeadsOn problem.now.formula.net.arcs way.old way.new start (opposite_node start)) }
+{
     let (tail, head) = problem.digraph().ends(clash);
     let out = place_of(&trial.nodes, negation_node(head));
     let home = place_of(&trial.nodes, tail);
-    let mut way = stay(alloc, start)?;
-    go_out(alloc, problem, trial, out, &mut way)?;
-    go(problem, problem.partner(clash), &mut way)?;
-    go_home(problem, trial, home, &mut way)?;
-    Ok(way)
+    go_out(alloc, problem, trial, out, way)?;
+    go(problem, problem.partner(clash), way)?;
+    go_home(problem, trial, home, way)
 }

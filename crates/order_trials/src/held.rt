@@ -29,7 +29,13 @@ pub(crate) fn held_nodes(alloc: Global, labels: &[Label]) -> Result<NodeSet, NoM
     for place in 0..labels.len() {
         let edge = EdgeId::from_place(place).unwrap();
         let over = end_by(labels[place]);
-        nodes.add(Lit::new(edge, over).node())?;
+        match nodes.add(Lit::new(edge, over).node()) {
+            Ok(_) => {}
+            Err(NoMemory) => {
+                drop(nodes);
+                return Err(NoMemory);
+            }
+        }
     }
     Ok(nodes)
 }

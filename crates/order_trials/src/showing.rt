@@ -181,5 +181,7 @@ fn walk_back(
     ensures { IfOk result (LeadsBack problem.now node) }
 {
     let way = way_round(alloc, problem, node, trial, clash)?;
-    problem.walk_along(alloc, node, &way)
+    let walk = problem.walk_along(alloc, node, &way);
+    drop(way);
+    walk
 }

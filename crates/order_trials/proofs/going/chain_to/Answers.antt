@@ -32,7 +32,7 @@ loop-at-preserved c =
       chain = λ from to s t. (
           let same : r.0 ≡ from = one_node trial.nodes.items o.place r.0 from r.2 s in
           let arc : IsArc arcs o.arc from r.1 = subst (λ n. IsArc arcs o.arc n r.1) same r.4 in
-          subst (λ chain. IsChain arcs chain from to) (sym c.in_ok-push.ensures.ok)
+          subst (λ chain. IsChain arcs chain from to) (sym c.in-Ok.ensures.ok)
           (chain_push arcs c.loop-at.chain o.arc from r.1 to arc (c.loop-at.invariant.chain r.1 to r.3 t))
           );
     }

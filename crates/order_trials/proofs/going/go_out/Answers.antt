@@ -24,7 +24,7 @@ loop-arc-preserved c = λ from to s t.
     let arcs = c.args.problem.now.formula.net.arcs in
     let h = c.loop-arc.invariant from to s t in
     let p = chain_pop arcs c.pop.new.self c.in-Some.arc h.0 to (subst (λ chain. IsChain arcs chain h.0 to) c.in-Some.ensures h.1) in
-    (p.0, p.2, λ start way. c.in_ok-go.ensures h.0 p.0 p.1 start (h.2 start way))
+    (p.0, p.2, λ start way. c.in-Ok.ensures h.0 p.0 p.1 start (h.2 start way))
 
 pub returns : goal.returns
 returns c = λ from to s t start way.

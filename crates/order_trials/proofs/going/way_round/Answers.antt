@@ -1,46 +1,7 @@
-use Rattle.std.proofs.Common.{◌≡◌, ◌∙◌, ◌<◌, ℕ, Some, length, sym, ap, subst, Contains}
-use Rattle.std.specs.Prelude.{slice_get}
-use Rattle.std.proofs.lemmas.Option.{some_pair_parts, slice_get_within}
-use Rattle.tor_digraph.specs.Walks.{IsArc}
-use Rattle.tor_clauses.specs.Literals.{opposite_node}
-use Rattle.tor_digraph.specs.Trails.{StandsAt}
 use Rattle.order_trials.proofs.going.way_round.Goals as goal
 
-pub ends-tail-requires : goal.ends-tail-requires
-ends-tail-requires c =
-    let clash = c.requires.clash in
-    subst (λ net. c.args.clash < length net.arcs) (sym c.digraph.ensures) (slice_get_within c.args.problem.now.formula.net.arcs c.args.clash (clash.0, clash.1) clash.2)
+pub go_round-requires-clause-trial : goal.go_round-requires-clause-trial
+go_round-requires-clause-trial c = (c.args.start, c.requires.trial)
 
-pub place_of-out-requires : goal.place_of-out-requires
-place_of-out-requires c =
-    let clash = c.requires.clash in
-    let at = subst (λ net. slice_get net.arcs c.args.clash ≡ Some c.ends-tail.result) c.digraph.ensures c.ends-tail.ensures.arc in
-    let parts = some_pair_parts clash.0 c.ends-tail.result.0 clash.1 c.ends-tail.result.1 (sym clash.2 ∙ at) in
-    subst (Contains c.args.trial.now.nodes.items) (ap opposite_node parts.1 ∙ sym c.negation_node.ensures) clash.4
-
-pub place_of-home-requires : goal.place_of-home-requires
-place_of-home-requires c =
-    let clash = c.requires.clash in
-    let at = subst (λ net. slice_get net.arcs c.args.clash ≡ Some c.ends-tail.result) c.digraph.ensures c.ends-tail.ensures.arc in
-    let parts = some_pair_parts clash.0 c.ends-tail.result.0 clash.1 c.ends-tail.result.1 (sym clash.2 ∙ at) in
-    subst (Contains c.args.trial.now.nodes.items) parts.0 clash.3
-
-pub go_out-requires-clause-there : goal.go_out-requires-clause-there
-go_out-requires-clause-there c = slice_get_within c.args.trial.now.nodes.items c.place_of-out.result c.negation_node.result c.place_of-out.ensures
-
-pub go_home-requires-clause-there : goal.go_home-requires-clause-there
-go_home-requires-clause-there c = slice_get_within c.args.trial.now.nodes.items c.place_of-home.result c.ends-tail.result.0 c.place_of-home.ensures
-
-pub returns : goal.returns
-returns c =
-    let arcs = c.args.problem.now.formula.net.arcs in
-    let nodes = c.args.trial.now.nodes.items in
-    let tail : ℕ = c.ends-tail.result.0 in
-    let head : ℕ = c.ends-tail.result.1 in
-    let arc : IsArc arcs c.args.clash tail head = subst (λ net. slice_get net.arcs c.args.clash ≡ Some c.ends-tail.result) c.digraph.ensures c.ends-tail.ensures.arc in
-    let back : IsArc arcs c.partner.result (opposite_node head) (opposite_node tail) = c.partner.ensures.partner tail head arc in
-    let first = c.requires.trial.first in
-    let at : StandsAt nodes c.place_of-out.result (opposite_node head) = subst (StandsAt nodes c.place_of-out.result) c.negation_node.ensures c.place_of-out.ensures in
-    let out = c.in_ok-go_out.ensures c.args.start (opposite_node head) first at c.args.start (c.in_ok-way.ensures arcs) in
-    let across = c.in_ok-go.ensures (opposite_node head) (opposite_node tail) back c.args.start out in
-    c.in_ok-go_home.ensures tail c.args.start first c.place_of-home.ensures c.args.start across
+pub returns-in-Ok : goal.returns-in-Ok
+returns-in-Ok c = c.in-Ok.ensures c.args.start c.requires.trial.first c.args.start (c.in_ok-way.ensures c.args.problem.now.formula.net.arcs)

@@ -18,6 +18,6 @@ loop-place-preserved c =
     let is = c.node.ensures.node ∙ ap node_of c.new-in-loop-place.ensures ∙ ap₂ (λ (k : ℕ) (e : End). node_of (record { edge = k; over = e })) same c.end_by-over.ensures in
     record {
       count = c.add.ensures.count ∙ c.loop-place.invariant.count;
-      held = held_more labels c.node.result c.in_ok-add.field-0 c.loop-place.nodes.items c.add.new.self.items c.loop-place.invariant.held
-          (label_held labels place label c.node.result at is) c.in_ok-add.ensures.added;
+      held = held_more labels c.node.result c.in-Ok.field-0 c.loop-place.nodes.items c.add.new.self.items c.loop-place.invariant.held
+          (label_held labels place label c.node.result at is) c.in-Ok.ensures.added;
     }

@@ -36,3 +36,9 @@ returns-clause-passed c =
     let within = c.loop-next.invariant.within in
     let same : c.loop-next.next ≡ length nodes = omega (arith, test, len, within) in
     subst (ArePassed posed.formula.net.arcs posed.held c.args.past.now.items nodes) same c.loop-next.invariant.passed
+
+pub loop-next-smaller : goal.loop-next-smaller
+loop-next-smaller c = omega (arith, c.loop-next-test.true, c.len.type_inv)
+
+pub overflow_add-next : goal.overflow_add-next
+overflow_add-next c = record { fits = omega (arith, c.loop-next-test.true, c.len.type_inv) }
