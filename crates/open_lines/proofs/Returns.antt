@@ -1,6 +1,7 @@
 -- The returns of givens, one by one, and the kept paths behind them.
-use Rattle.std.proofs.Common.{◌≡◌, ℕ, Bool, inl, inr, List, [], ◌∷◌, ◌++◌, Some, map, filter, slice_get, refl, sym, ap, ◌∙◌, append_assoc, append-nil}
+use Rattle.std.proofs.Common.{◌≡◌, ℕ, Bool, false, inl, inr, List, [], ◌∷◌, ◌++◌, Option, Some, None, map, filter, slice_get, refl, sym, ap, ◌∙◌, append_assoc, append-nil}
 use Rattle.std.specs.List.{list_any}
+use Rattle.std.specs.Prelude.{IsNone}
 use Rattle.std.proofs.lemmas.Bool.{cases_Bool}
 use Rattle.std.proofs.lemmas.List.{map-append}
 use Rattle.std.proofs.lemmas.List.Elements.{filter-append}
@@ -38,6 +39,14 @@ returns_more es givens g =
 
 pub return_there : (es : List Edge) (paths : List (List ℕ)) (g : Given) (k : ℕ) → slice_get es k ≡ Some (edge_of g.over g.under) → with_return es paths g ≡ paths ++ return_of g ∷ []
 return_there es paths g k at = rw (any_there es (edge_of g.over g.under) (Contains-from_has es (edge_of g.over g.under) (k, at))) refl
+
+-- where no case has a value there is none
+pub is_none : (found : Option ℕ) → ((k : ℕ) → found ≡ Some k → ⊥) → IsNone found
+is_none None not = refl
+is_none (Some k) not = absurd (not k refl)
+
+pub return_absent : (es : List Edge) (paths : List (List ℕ)) (g : Given) → list_any (is_same (edge_of g.over g.under)) es ≡ false → with_return es paths g ≡ paths
+return_absent es paths g none = rw none refl
 
 -- a return goes up along an edge and down along it again
 pub return_steps : (es : List Edge) (g : Given) (k : ℕ) (up down : Step) → slice_get es k ≡ Some (edge_of g.over g.under) → place_in up ≡ k → left_in up ≡ end_left g.under g.over → place_in down ≡ k →

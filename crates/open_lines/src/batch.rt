@@ -8,7 +8,7 @@ ghost use Rattle.open_lines.specs.Batches.{AgreesAlone, CanFlipTogether, HasForg
 
 use crate::flipping::Flips;
 use crate::neighbours::Neighbours;
-use crate::searching::reach;
+use crate::searching::{no_rounds, reach};
 use std::alloc::Global;
 use tor_arena::{Arena, EdgeId, List, NoMemory};
 
@@ -138,18 +138,21 @@ impl Batch {
         ensures begun { IfOk result (IsBegun count) }
         ensures round { IfOk result (λ batch. batch.round ≡ 1) }
     {
-        let mut rounds = Arena::new(alloc);
-        rounds.push_copies(0, count)?;
-        let mut ruled = Arena::new(alloc);
-        ruled.push_copies(0, count)?;
-        Ok(Batch {
-            round: 1,
-            rounds,
-            ruled,
-            wasted: 0,
-            found: List::new(alloc),
-            behind: List::new(alloc),
-        })
+        let rounds = no_rounds(alloc, count)?;
+        match no_rounds(alloc, count) {
+            Ok(ruled) => Ok(Batch {
+                round: 1,
+                rounds,
+                ruled,
+                wasted: 0,
+                found: List::new(alloc),
+                behind: List::new(alloc),
+            }),
+            Err(NoMemory) => {
+                drop(rounds);
+                Err(NoMemory)
+            }
+        }
     }
 
     /// Begins anew, with no edges.

@@ -242,8 +242,18 @@ impl Testing {
         }
         let implying = flips.implied.turned(alloc)?;
         while !waiting.is_empty() {
-            waiting = self.test_batch(alloc, file, table, flips, &implying, waiting.as_slice())?;
+            let left = self.test_batch(alloc, file, table, flips, &implying, waiting.as_slice());
+            drop(waiting);
+            waiting = match left {
+                Ok(left) => left,
+                Err(NoMemory) => {
+                    drop(implying);
+                    return Err(NoMemory);
+                }
+            };
         }
+        drop(waiting);
+        drop(implying);
         Ok(())
     }
 

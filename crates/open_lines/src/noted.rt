@@ -43,11 +43,16 @@ impl Noted {
         ensures { IfOk result (λ noted. (k : ℕ) → Contains noted k → k ≡ 0) }
     {
         let mut slots = Vec::new(alloc);
-        slots.resize(slots_for(numbers), FREE)?;
-        Ok(Noted {
-            seed: keys.hash_one(0u8),
-            slots,
-        })
+        match slots.resize(slots_for(numbers), FREE) {
+            Ok(()) => Ok(Noted {
+                seed: keys.hash_one(0u8),
+                slots,
+            }),
+            Err(_) => {
+                drop(slots);
+                Err(NoMemory)
+            }
+        }
     }
 
     /// Adds a number, and answers whether it is new, as far as the others are remembered. It takes no memory.

@@ -1,11 +1,28 @@
 //! A search along rows of edges, in rounds.
 
-ghost use Rattle.std.specs.Prelude.{◌≡◌, ◌∷◌, [], ◌<◌, All, length, OnOk};
+ghost use Rattle.std.specs.Prelude.{◌≡◌, ◌∷◌, [], ◌<◌, ◌≤◌, All, length, replicate, OnOk, IfOk};
+ghost use Rattle.tor_arena.specs.Limits.{most_places};
 ghost use Rattle.open_lines.specs.Neighbours.{EachHasRow};
 ghost use Rattle.open_lines.specs.Searching.{RoundComesTo, IsRoundClosed, HasSearchedFrom};
 
 use crate::neighbours::Neighbours;
+use std::alloc::Global;
 use tor_arena::{Arena, EdgeId, List, NoMemory};
+
+/// For each of so many edges that no round came to it.
+pub(crate) fn no_rounds(alloc: Global, count: usize) -> Result<Arena<EdgeId, usize>, NoMemory>
+    requires { count ≤ most_places }
+    ensures { IfOk result (λ rounds. rounds.items ≡ replicate count 0) }
+{
+    let mut rounds = Arena::new(alloc);
+    match rounds.push_copies(0, count) {
+        Ok(()) => Ok(rounds),
+        Err(NoMemory) => {
+            drop(rounds);
+            Err(NoMemory)
+        }
+    }
+}
 
 /// Comes to an edge, and notes it if it is new to the round.
 fn visit(

@@ -1,6 +1,6 @@
 //! What open lines serve for.
 
-ghost use Rattle.std.specs.Prelude.{◌≡◌, ◌<◌, ◌≤◌, ◌↔◌, ℕ, ◌++◌, ◌∷◌, [], List as Items, length, All, Any, IsTrue, MatchOption, OnOk, IfOk};
+ghost use Rattle.std.specs.Prelude.{◌≡◌, ◌<◌, ◌≤◌, ◌↔◌, ℕ, ◌++◌, ◌∷◌, [], List as Items, length, replicate, All, Any, IsTrue, MatchOption, OnOk, IfOk};
 ghost use Rattle.tor_arena.specs.Limits.{most_places};
 ghost use Rattle.result_rules.specs.File.{its_claims, its_probes};
 ghost use Rattle.open_lines.specs.Searching.{IsRoundClosed};
@@ -10,7 +10,7 @@ ghost use Rattle.open_lines.specs.Serving.{is_wanted, IsWantedAt, Gains, Covers,
 ghost use Rattle.line_rules.specs.Breaches.{First};
 
 use crate::flipping::Flips;
-use crate::searching::reach;
+use crate::searching::{no_rounds, reach};
 use relationships::Label;
 use result_text::{EdgeLine, Mark, Probe, ResultFile};
 use std::alloc::Global;
@@ -123,13 +123,37 @@ pub fn cover_all(
     ensures covered { IfOk result (λ cover. Covers file.now (its_probes file.now) cover.rounds.items) }
     ensures idle { IfOk result (λ cover. First (GainsAt file.now) (length file.now.probes) cover.idle) }
 {
-    let mut rounds = Arena::new(alloc);
-    rounds.push_copies(0, file.edges.len())?;
+    let mut rounds = no_rounds(alloc, file.edges.len())?;
     let mut found = List::new(alloc);
+    let covered = cover_each(file, table, flips, &mut rounds, &mut found);
+    drop(found);
+    match covered {
+        Ok(idle) => Ok(Cover { rounds, idle }),
+        Err(NoMemory) => {
+            drop(rounds);
+            Err(NoMemory)
+        }
+    }
+}
+
+/// Adds the closure of each open line to the cover, and answers the first of them that gains nothing. `found` is memory for the search.
+fn cover_each(
+    file: &ResultFile,
+    table: &EdgeTable,
+    flips: &Flips,
+    rounds: &mut Arena<EdgeId, usize>,
+    found: &mut List<EdgeId>,
+) -> Result<Option<usize>, NoMemory>
+    requires laid { IsLaidOut file.now table.now flips.now.implied flips.now.conflicting }
+    requires none { rounds.old.items ≡ replicate (length file.now.edges) 0 }
+    ensures many { OnOk result (length rounds.new.items ≡ length file.now.edges) }
+    ensures covered { OnOk result (Covers file.now (its_probes file.now) rounds.new.items) }
+    ensures idle { IfOk result (First (GainsAt file.now) (length file.now.probes)) }
+{
     let mut idle = None;
     for (k, probe) in file.probes.as_slice().iter().enumerate() {
-        let gains = cover_one(file, table, flips, probe, &mut rounds, &mut found)?;
+        let gains = cover_one(file, table, flips, probe, rounds, found)?;
         idle = first_failing(idle, k, gains);
     }
-    Ok(Cover { rounds, idle })
+    Ok(idle)
 }

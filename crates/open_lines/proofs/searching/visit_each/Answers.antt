@@ -1,4 +1,4 @@
-use Rattle.std.proofs.Common.{[], ◌∷◌, take}
+use Rattle.std.proofs.Common.{◌<◌, [], ◌∷◌, length, take, sym, subst, arith}
 use Rattle.tor_arena.proofs.Gets.{take_item}
 use Rattle.open_lines.proofs.Rounds.{rounds-more}
 use Rattle.open_lines.proofs.searching.visit_each.Goals as goal
@@ -10,3 +10,9 @@ loop-edge-preserved c =
     rw (take_item row i c.edge-item.result c.loop-edge-test.true c.edge-item.is)
     (rounds-more c.args.round (take i row) (c.edge-item.result ∷ []) c.args.rounds.now.items c.loop-edge.rounds.items c.visit.new.rounds.items c.args.found.now c.loop-edge.found c.visit.new.found
     c.loop-edge.invariant c.in_ok-visit.ensures)
+
+pub visit-requires : goal.visit-requires
+visit-requires c =
+    let many = c.loop-edge.invariant.many in
+    let below = subst (λ k. k < length c.args.rounds.now.items) (sym c.edge-item.is) (c.requires c.loop-edge.edge-index c.edge-item.result c.loop-edge-test.true) in
+    omega (arith, below, many)

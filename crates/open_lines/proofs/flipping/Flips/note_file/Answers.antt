@@ -58,3 +58,24 @@ returns c =
     let all : length file.paths ≤ i = omega (arith, c.loop-place-test.false, c.len-place-end.ensures.length) in
     subst (λ (ls : List PathLine). IsBuilt (flipped_orders file.edges) (IsTriple (its_returns file ++ kept_lines ls)) c.loop-place.self.implied c.loop-place.self.conflicting)
     (take_all i file.paths all) c.loop-place.invariant.built
+
+pub note_givens-requires-clause-few : goal.note_givens-requires-clause-few
+note_givens-requires-clause-few c = rw c.requires.labels c.requires.few
+
+pub note_givens-requires-clause-proper : goal.note_givens-requires-clause-proper
+note_givens-requires-clause-proper c = rw c.requires.labels c.requires.proper
+
+pub note_givens-requires-clause-table : goal.note_givens-requires-clause-table
+note_givens-requires-clause-table c = rw c.requires.labels c.requires.table
+
+pub note_givens-requires-clause-noted : goal.note_givens-requires-clause-noted
+note_givens-requires-clause-noted c = rw c.requires.labels c.requires.noted
+
+pub note_givens-requires-clause-none : goal.note_givens-requires-clause-none
+note_givens-requires-clause-none c = rw c.requires.labels c.requires.none
+
+pub note_line-requires-clause-few : goal.note_line-requires-clause-few
+note_line-requires-clause-few c = rw c.requires.labels c.requires.few
+
+pub note_line-requires-clause-proper : goal.note_line-requires-clause-proper
+note_line-requires-clause-proper c = rw c.requires.labels c.requires.proper

@@ -1,7 +1,8 @@
-use Rattle.std.proofs.Common.{take, sym, ap, ◌∙◌, subst}
+use Rattle.std.proofs.Common.{take, sym, ap, ◌∙◌, subst, arith}
+use Rattle.std.proofs.lemmas.List.{length-map, take_all}
 use Rattle.std.proofs.lemmas.Option.{slice_get-get_or}
 use Rattle.relationships.specs.Evidence.{IsTriple}
-use Rattle.open_lines.specs.Flipping.{flipped_orders, IsBuilt, returns_on}
+use Rattle.open_lines.specs.Flipping.{flipped, flipped_orders, IsBuilt, returns_on}
 use Rattle.line_rules.specs.EdgeLines.{edges_of}
 use Rattle.tor_arena.proofs.Gets.{take_get}
 use Rattle.open_lines.proofs.Returns.{returns_more}
@@ -20,3 +21,19 @@ loop-given-preserved c =
           (c.in_ok-note_given.ensures.built (returns_on es (take i givens)) c.loop-given.invariant.built);
       noted = c.in_ok-note_given.ensures.noted;
     }
+
+pub loop-given-init : goal.loop-given-init
+loop-given-init c = record { built = c.requires.none; noted = c.requires.noted }
+
+pub note_given-requires-clause-implied : goal.note_given-requires-clause-implied
+note_given-requires-clause-implied c = c.loop-given.invariant.built.implied_many ∙ length-map c.args.labels.now flipped
+
+pub note_given-requires-clause-conflicting : goal.note_given-requires-clause-conflicting
+note_given-requires-clause-conflicting c = c.loop-given.invariant.built.conflicting_many ∙ length-map c.args.labels.now flipped
+
+pub returns-clause-built : goal.returns-clause-built
+returns-clause-built c =
+    let lines = c.args.labels.now in
+    let self = c.loop-given.self in
+    let all = take_all c.loop-given.given-index c.args.givens.now (omega (arith, c.loop-given-test.false)) in
+    subst (λ gs. IsBuilt (flipped_orders lines) (IsTriple (returns_on (edges_of lines) gs)) self.implied self.conflicting) all c.loop-given.invariant.built

@@ -1,7 +1,8 @@
-use Rattle.std.proofs.Common.{◌≡◌, arith}
+use Rattle.std.proofs.Common.{◌≡◌, sym, ◌∙◌, subst, arith}
+use Rattle.std.proofs.lemmas.Result.{on_ok_weaker}
 use Rattle.open_lines.specs.Flipping.{climbs_on, AreNoted, with_implied, with_conflicting}
 use Rattle.line_rules.specs.PathSteps.{place_in}
-use Rattle.open_lines.proofs.Noting.{same-implied, same-conflicting, noted-there, noted-more, implied_as, conflicting_as, on_ok_both}
+use Rattle.open_lines.proofs.Noting.{same-rows, same-implied, same-conflicting, noted-there, noted-more, implied_as, conflicting_as, on_ok_both}
 use Rattle.open_lines.proofs.flipping.Flips.note_pair.Goals as goal
 
 pub returns-else-add-clause-implied : goal.returns-else-add-clause-implied
@@ -39,3 +40,52 @@ returns-then-add-clause-noted c =
     (conflicting_as first.up second.up (climbs_on lines s) (climbs_on lines t) first.edge second.edge (place_in s) (place_in t) before.conflicting after.conflicting
     c.climb_of.ensures.up c.climb_of-then-add.ensures.up c.climb_of.ensures.edge c.climb_of-then-add.ensures.edge k) c.requires.noted)
     c.note.ensures.implied c.note.ensures.conflicting
+
+pub returns-then-add-clause-implied : goal.returns-then-add-clause-implied
+returns-then-add-clause-implied c =
+    let lines = c.args.labels.now in
+    let s = c.args.first in
+    let t = c.args.second in
+    let first = c.climb_of.result in
+    let second = c.climb_of-then-add.result in
+    let before = c.args.self.now in
+    let after = c.note.new.self in
+    on_ok_weaker c.note.result
+    (λ i. same-rows after.implied _
+    (implied_as first.up second.up (climbs_on lines s) (climbs_on lines t) first.edge second.edge (place_in s) (place_in t) before.implied after.implied
+    c.climb_of.ensures.up c.climb_of-then-add.ensures.up c.climb_of.ensures.edge c.climb_of-then-add.ensures.edge i))
+    c.note.ensures.implied
+
+pub returns-then-add-clause-conflicting : goal.returns-then-add-clause-conflicting
+returns-then-add-clause-conflicting c =
+    let lines = c.args.labels.now in
+    let s = c.args.first in
+    let t = c.args.second in
+    let first = c.climb_of.result in
+    let second = c.climb_of-then-add.result in
+    let before = c.args.self.now in
+    let after = c.note.new.self in
+    on_ok_weaker c.note.result
+    (λ k. same-rows after.conflicting _
+    (conflicting_as first.up second.up (climbs_on lines s) (climbs_on lines t) first.edge second.edge (place_in s) (place_in t) before.conflicting after.conflicting
+    c.climb_of.ensures.up c.climb_of-then-add.ensures.up c.climb_of.ensures.edge c.climb_of-then-add.ensures.edge k))
+    c.note.ensures.conflicting
+
+pub returns-else-add-clause-noted : goal.returns-else-add-clause-noted
+returns-else-add-clause-noted c =
+    subst (λ l. AreNoted c.args.labels.now l c.args.self.now.implied c.args.self.now.conflicting) (sym (c.add.ensures.stays c.if-add.false)) c.requires.noted
+
+pub number_of-requires-clause-first : goal.number_of-requires-clause-first
+number_of-requires-clause-first c = omega (arith, c.requires.first, c.requires.few)
+
+pub number_of-requires-clause-second : goal.number_of-requires-clause-second
+number_of-requires-clause-second c = omega (arith, c.requires.second, c.requires.few)
+
+pub note-requires-clause-first : goal.note-requires-clause-first
+note-requires-clause-first c = omega (arith, c.climb_of.ensures.edge, c.requires.first, c.requires.implied)
+
+pub note-requires-clause-second : goal.note-requires-clause-second
+note-requires-clause-second c = omega (arith, c.climb_of-then-add.ensures.edge, c.requires.second, c.requires.implied)
+
+pub note-requires-clause-many : goal.note-requires-clause-many
+note-requires-clause-many c = c.requires.conflicting ∙ sym c.requires.implied

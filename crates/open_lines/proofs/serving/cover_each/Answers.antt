@@ -5,7 +5,7 @@ use Rattle.open_lines.specs.Flipping.{flipped_orders, served_lines}
 use Rattle.open_lines.specs.Serving.{GainsAt, IsCovered}
 use Rattle.tor_arena.proofs.Gets.{read_of}
 use Rattle.open_lines.proofs.Firsts.{first_more, gains_at, probes_more, order_of}
-use Rattle.open_lines.proofs.serving.cover_all.Goals as goal
+use Rattle.open_lines.proofs.serving.cover_each.Goals as goal
 
 pub loop-k-preserved : goal.loop-k-preserved
 loop-k-preserved c =

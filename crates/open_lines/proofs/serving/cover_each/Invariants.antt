@@ -4,7 +4,7 @@ use Rattle.open_lines.specs.Searching.{IsRoundClosed}
 use Rattle.open_lines.specs.Flipping.{flipped_orders, served_lines}
 use Rattle.open_lines.specs.Serving.{IsCovered, GainsAt}
 use Rattle.line_rules.specs.Breaches.{First}
-use Rattle.open_lines.proofs.serving.cover_all.Given as goal
+use Rattle.open_lines.proofs.serving.cover_each.Given as goal
 
 abbrev pub invariant-loop-k : goal.invariant-loop-k
 invariant-loop-k l = record {
