@@ -25,6 +25,13 @@ numbered_behind f xs k x start old new y lt is same so_far =
     is ∙ ap (λ ys. ys ++ y ∷ []) so_far ∙ append_assoc start (map f (take k (enumerate_from 0 xs))) (y ∷ [])
     ∙ ap (λ ys. start ++ ys) (ap (λ z. map f (take k (enumerate_from 0 xs)) ++ z ∷ []) same ∙ sym (numbered_more f xs k x lt))
 
+-- one item more of those whose places don't count
+pub map_behind : {X Y : Type 0} (f : X → Y) (xs : List X) (k : ℕ) (x : X) (start old new : List Y) → k < length xs → new ≡ old ++ f (get_or xs k x) ∷ [] →
+    old ≡ start ++ map f (take k xs) → new ≡ start ++ map f (take (k + 1) xs)
+map_behind f xs k x start old new lt is so_far =
+    is ∙ ap (λ ys. ys ++ f (get_or xs k x) ∷ []) so_far ∙ append_assoc start (map f (take k xs)) (f (get_or xs k x) ∷ [])
+    ∙ ap (λ ys. start ++ ys) (sym (map_more f xs k x lt))
+
 -- all of them
 pub numbered_all : {X Y : Type 0} (f : ℕ × X → Y) (xs : List X) (k : ℕ) → k ≡ length xs → map f (take k (enumerate_from 0 xs)) ≡ map f (enumerate_from 0 xs)
 numbered_all f xs k e = ap (λ n. map f (take n (enumerate_from 0 xs))) (e ∙ sym (length-enumerate_from 0 xs)) ∙ ap (map f) (take-length (enumerate_from 0 xs))

@@ -20,7 +20,7 @@ use Rattle.drawing.specs.declared.drawing.Item.{Item}
 use Rattle.drawing.specs.declared.drawing.Post.{Post}
 use Rattle.drawing.specs.declared.drawing.Link.{Link}
 use Rattle.drawing.specs.declared.drawing.Drawing.{Drawing}
-use Rattle.drawing.specs.Xml.{Element, is_plain, ArePlain, IsElement, IsDocument, element_text, elements_text}
+use Rattle.drawing.specs.Xml.{Element, is_plain, ArePlain, IsElement, IsDocument, attribute_text, element_text, elements_text}
 use Rattle.drawing.specs.Svg.{rect, point, points, mark_dashes, dashes, polyline, link_element, links_elements, post_elements, posts_elements}
 use Rattle.drawing.specs.Svg.{text_length, text_at, entry_words, asked_words, ending, tally_words, caption_words, legend_words}
 use Rattle.drawing.specs.Svg.{item_elements, items_elements, title_elements, centre_elements, elements_of, extent_words, start_text, page_box, page_attributes, svg_text}
@@ -224,6 +224,14 @@ picture_parts d =
     ∙ ap (λ t. elements_text (title_elements d) ++ t) (then_text (centre_elements d) (items ++ above_elements d) end
     ∙ ap (λ t. elements_text (centre_elements d) ++ t) (then_text items (above_elements d) end
     ∙ ap (λ t. elements_text items ++ t) (then_text (links_elements d.links) (posts_elements d.posts) end))))
+
+-- the first tag, in parts of which only the middle one changes
+pub start_parts : (extent : List ℕ) → start_text extent ≡ codes "<svg xmlns=\"http://www.w3.org/2000/svg\" viewBox=\"" ++ (extent
+    ++ codes "\" font-family=\"sans-serif\" font-size=\"12\" text-anchor=\"middle\" fill=\"white\" stroke=\"black\">\n")
+unfolding attribute_text
+start_parts extent =
+    ap (λ xs. codes "<svg xmlns=\"http://www.w3.org/2000/svg\" viewBox=\"" ++ xs)
+    (append_assoc extent (34 ∷ []) (codes " font-family=\"sans-serif\" font-size=\"12\" text-anchor=\"middle\" fill=\"white\" stroke=\"black\">\n"))
 
 -- one more
 more_text : {X : Type 0} (f : X → List Element) (xs : List X) (k : ℕ) (d : X) → k < length xs →

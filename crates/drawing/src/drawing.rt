@@ -183,7 +183,7 @@ fn items_of(
 {
     let mut items = Vec::with_capacity(alloc, entries.len())?;
     for place in 0..entries.len() {
-        items.push(item_of(plan, greatest, place, &entries[place]))?;
+        items.push_reserved(item_of(plan, greatest, place, &entries[place]));
     }
     Ok(List::from_vec(items))
 }
@@ -208,7 +208,7 @@ fn posts_of(alloc: Global, plan: &Plan, perches: &[Perch]) -> Result<List<Post>,
 {
     let mut posts = Vec::with_capacity(alloc, perches.len())?;
     for perch in perches {
-        posts.push(post_of(plan, perch))?;
+        posts.push_reserved(post_of(plan, perch));
     }
     Ok(List::from_vec(posts))
 }
@@ -238,7 +238,7 @@ fn links_of(alloc: Global, plan: &Plan, greatest: u64, ties: &[Tie]) -> Result<L
 {
     let mut links = Vec::with_capacity(alloc, ties.len())?;
     for tie in ties {
-        links.push(link_of(plan, greatest, tie))?;
+        links.push_reserved(link_of(plan, greatest, tie));
     }
     Ok(List::from_vec(links))
 }
@@ -258,13 +258,25 @@ fn groups_of(alloc: Global, edges: &[EdgeLine], asked: u32) -> Result<Groups, No
     ensures customers { IfOk result (λ groups. AreInOrder asked Group.Customers edges.now groups.customers.items) }
 {
     let providers = ordered(alloc, edges, asked, Group::Providers)?;
-    let peers = ordered(alloc, edges, asked, Group::Peers)?;
-    let customers = ordered(alloc, edges, asked, Group::Customers)?;
-    Ok(Groups {
-        providers,
-        peers,
-        customers,
-    })
+    let peers = match ordered(alloc, edges, asked, Group::Peers) {
+        Ok(peers) => peers,
+        Err(NoMemory) => {
+            drop(providers);
+            return Err(NoMemory);
+        }
+    };
+    match ordered(alloc, edges, asked, Group::Customers) {
+        Ok(customers) => Ok(Groups {
+            providers,
+            peers,
+            customers,
+        }),
+        Err(NoMemory) => {
+            drop(providers);
+            drop(peers);
+            Err(NoMemory)
+        }
+    }
 }
 
 // How many there are in each group.
@@ -331,17 +343,29 @@ fn drawing_with(
 {
     let greatest = greatest_of(entries, &tower.ties);
     let items = items_of(alloc, plan, greatest, entries)?;
-    let posts = posts_of(alloc, plan, &tower.perches)?;
-    let links = links_of(alloc, plan, greatest, &tower.ties)?;
-    Ok(Drawing {
-        asked,
-        counts,
-        height: plan.page_height(),
-        centre: plan.centre_box(),
-        items,
-        posts,
-        links,
-    })
+    let posts = match posts_of(alloc, plan, &tower.perches) {
+        Ok(posts) => posts,
+        Err(NoMemory) => {
+            drop(items);
+            return Err(NoMemory);
+        }
+    };
+    match links_of(alloc, plan, greatest, &tower.ties) {
+        Ok(links) => Ok(Drawing {
+            asked,
+            counts,
+            height: plan.page_height(),
+            centre: plan.centre_box(),
+            items,
+            posts,
+            links,
+        }),
+        Err(NoMemory) => {
+            drop(items);
+            drop(posts);
+            Err(NoMemory)
+        }
+    }
 }
 
 // The picture of the AS with these neighbours and with what stands above them.
@@ -362,8 +386,17 @@ fn drawing_of(
     ensures low { IfOk result (λ d. d.height < 2 ^ 32) }
 {
     let mut entries = Vec::new(alloc);
-    let plan = put_all(&mut entries, groups, most, tower.rank)?;
-    drawing_with(alloc, asked, counts_of(groups), &plan, &entries, tower)
+    match put_all(&mut entries, groups, most, tower.rank) {
+        Ok(plan) => {
+            let drawing = drawing_with(alloc, asked, counts_of(groups), &plan, &entries, tower);
+            drop(entries);
+            drawing
+        }
+        Err(NoMemory) => {
+            drop(entries);
+            Err(NoMemory)
+        }
+    }
 }
 
 // The picture of the AS with these neighbours.
@@ -383,7 +416,9 @@ fn drawing_above(
     ensures low { IfOk result (λ d. d.height < 2 ^ 32) }
 {
     let tower = tower_of(alloc, keys, edges, asked, groups, most, depth)?;
-    drawing_of(alloc, asked, groups, most, &tower)
+    let drawing = drawing_of(alloc, asked, groups, most, &tower);
+    drop(tower);
+    drawing
 }
 
 /// The picture of an AS with its neighbours: its providers above it, its peers beside it and its customers below; and with further
@@ -405,5 +440,7 @@ pub fn draw(
     ensures low { IfOk result (λ d. d.height < 2 ^ 32) }
 {
     let groups = groups_of(alloc, edges, asked)?;
-    drawing_above(alloc, keys, edges, asked, &groups, most, depth)
+    let drawing = drawing_above(alloc, keys, edges, asked, &groups, most, depth);
+    drop(groups);
+    drawing
 }

@@ -86,7 +86,13 @@ fn providers_above(
 {
     let mut found = Vec::new(alloc);
     for edge in edges {
-        add_provider(&mut found, drawn, edge)?;
+        match add_provider(&mut found, drawn, edge) {
+            Ok(()) => {}
+            Err(NoMemory) => {
+                drop(found);
+                return Err(NoMemory);
+            }
+        }
     }
     Ok(found)
 }
@@ -123,6 +129,13 @@ pub(crate) fn generation_above(
     let mut found = providers_above(alloc, edges, drawn)?;
     sort_neighbours(&mut found);
     let mut chosen = Vec::new(alloc);
-    choose(&mut chosen, nearer, &found)?;
-    Ok(chosen)
+    let done = choose(&mut chosen, nearer, &found);
+    drop(found);
+    match done {
+        Ok(()) => Ok(chosen),
+        Err(NoMemory) => {
+            drop(chosen);
+            Err(NoMemory)
+        }
+    }
 }

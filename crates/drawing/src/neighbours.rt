@@ -40,7 +40,13 @@ fn neighbours(
 {
     let mut found = Vec::new(alloc);
     for edge in edges {
-        add_neighbour(&mut found, asked, group, edge)?;
+        match add_neighbour(&mut found, asked, group, edge) {
+            Ok(()) => {}
+            Err(NoMemory) => {
+                drop(found);
+                return Err(NoMemory);
+            }
+        }
     }
     Ok(found)
 }

@@ -1,14 +1,15 @@
 //! The text of a picture.
-ghost use Rattle.std.specs.Prelude.{◌≡◌, ◌<◌, ◌^◌, [], ◌∷◌, ◌++◌, Some, codes, All, OnOk, IfOk};
+ghost use Rattle.std.specs.Prelude.{◌≡◌, ◌<◌, ◌^◌, [], ◌∷◌, ◌++◌, codes, All, OnOk, IfOk};
+ghost use Rattle.std.specs.Fmt.{decimal};
 ghost use Rattle.std.specs.Io.KnownBytes.{append_known};
 ghost use Rattle.tor_io.specs.Outflow.{state, Puts};
-ghost use Rattle.drawing.specs.Svg.{word_of, number_of, rect, point, points, polyline, mark_dashes, dashes, text_length, text_at, text_in};
-ghost use Rattle.drawing.specs.Svg.{entry_words, asked_words, ending, tally_words, caption_words, legend_words, extent_words};
+ghost use Rattle.drawing.specs.Svg.{word_of, rect, point, points, polyline, mark_dashes, dashes, text_length, text_at, text_in};
+ghost use Rattle.drawing.specs.Svg.{entry_words, asked_words, ending, tally_words, caption_words, extent_words};
 ghost use Rattle.drawing.specs.Svg.{FitsNumbers, item_elements, items_elements, title_elements, centre_elements};
 ghost use Rattle.drawing.specs.Svg.{post_elements, posts_elements, links_elements};
-ghost use Rattle.drawing.specs.Svg.{page_box, start_text, svg_text};
+ghost use Rattle.drawing.specs.Svg.{start_text, svg_text};
 ghost use Rattle.drawing.specs.Tidy.{IsTidy};
-ghost use Rattle.drawing.specs.Xml.{IsDocument, attribute_text, end_text, element_text, elements_text};
+ghost use Rattle.drawing.specs.Xml.{IsDocument, attribute_text, element_text, elements_text};
 
 use crate::drawing::{Drawing, Entry, Item, Link, Post};
 use crate::group::{Counts, Tally};
@@ -21,24 +22,28 @@ use tor_io::{Buffer, ListSink, Outflow, Sink};
 
 // Each function puts something behind what waits for the sink.
 
-fn put_attribute<S: Sink>(out: &mut S, flow: &mut Outflow<'_>, name: &[u8], word: &[u8])
+// Octets, and others behind them, and others behind those.
+fn put_between<S: Sink>(
+    out: &mut S,
+    flow: &mut Outflow<'_>,
+    before: &[u8],
+    text: &[u8],
+    after: &[u8],
+)
     ensures { Puts (state (S.held out.old) (S.faults out.old) flow.old) (state (S.held out.new) (S.faults out.new) flow.new)
-        (attribute_text (word_of name.now word.now)) }
+        (before.now ++ (text.now ++ after.now)) }
 {
-    flow.put_byte(out, b' ');
-    flow.put(out, name);
-    flow.put(out, b"=\"");
-    flow.put(out, word);
-    flow.put_byte(out, b'"');
+    flow.put(out, before);
+    flow.put(out, text);
+    flow.put(out, after);
 }
 
-fn put_number_attribute<S: Sink>(out: &mut S, flow: &mut Outflow<'_>, name: &[u8], n: u64)
+// A number that ends with a quote, behind the octets up to its first quote.
+fn put_quoted<S: Sink>(out: &mut S, flow: &mut Outflow<'_>, before: &[u8], n: u64)
     ensures { Puts (state (S.held out.old) (S.faults out.old) flow.old) (state (S.held out.new) (S.faults out.new) flow.new)
-        (attribute_text (number_of name.now n)) }
+        (before.now ++ (decimal n ++ 34 ∷ [])) }
 {
-    flow.put_byte(out, b' ');
-    flow.put(out, name);
-    flow.put(out, b"=\"");
+    flow.put(out, before);
     flow.put_number(out, n);
     flow.put_byte(out, b'"');
 }
@@ -47,24 +52,11 @@ fn put_rect<S: Sink>(out: &mut S, flow: &mut Outflow<'_>, at: &Rect)
     ensures { Puts (state (S.held out.old) (S.faults out.old) flow.old) (state (S.held out.new) (S.faults out.new) flow.new)
         (element_text (rect at.now)) }
 {
-    flow.put(out, b"<rect");
-    put_number_attribute(out, flow, b"x", at.x);
-    put_number_attribute(out, flow, b"y", at.y);
-    put_number_attribute(out, flow, b"width", at.width);
-    put_number_attribute(out, flow, b"height", at.height);
+    put_quoted(out, flow, b"<rect x=\"", at.x);
+    put_quoted(out, flow, b" y=\"", at.y);
+    put_quoted(out, flow, b" width=\"", at.width);
+    put_quoted(out, flow, b" height=\"", at.height);
     flow.put(out, b"/>\n");
-}
-
-// The frame of a page of this height.
-fn page_box(height: u64) -> Rect
-    ensures { result ≡ page_box height }
-{
-    Rect {
-        x: 0,
-        y: 0,
-        width: 1000,
-        height,
-    }
 }
 
 fn put_point<S: Sink>(out: &mut S, flow: &mut Outflow<'_>, x: u64, y: u64)
@@ -95,11 +87,12 @@ fn put_points<S: Sink>(out: &mut S, flow: &mut Outflow<'_>, line: &Line)
     put_next_point(out, flow, line.end_x, line.end_y);
 }
 
-fn put_points_attribute<S: Sink>(out: &mut S, flow: &mut Outflow<'_>, line: &Line)
+// The beginning of an element that is a line, with its points.
+fn put_line_start<S: Sink>(out: &mut S, flow: &mut Outflow<'_>, line: &Line)
     ensures { Puts (state (S.held out.old) (S.faults out.old) flow.old) (state (S.held out.new) (S.faults out.new) flow.new)
-        (attribute_text (word_of (codes "points") (points line.now))) }
+        (codes "<polyline" ++ attribute_text (word_of (codes "points") (points line.now))) }
 {
-    flow.put(out, b" points=\"");
+    flow.put(out, b"<polyline points=\"");
     put_points(out, flow, line);
     flow.put_byte(out, b'"');
 }
@@ -134,12 +127,9 @@ fn put_polyline<S: Sink>(
     ensures { Puts (state (S.held out.old) (S.faults out.old) flow.old) (state (S.held out.new) (S.faults out.new) flow.new)
         (element_text (polyline line.now width dashed.now)) }
 {
-    flow.put(out, b"<polyline");
-    put_points_attribute(out, flow, line);
-    put_attribute(out, flow, b"fill", b"none");
-    put_number_attribute(out, flow, b"stroke-width", width);
-    put_attribute(out, flow, b"stroke-dasharray", dashed);
-    flow.put(out, b"/>\n");
+    put_line_start(out, flow, line);
+    put_quoted(out, flow, b" fill=\"none\" stroke-width=\"", width);
+    put_between(out, flow, b" stroke-dasharray=\"", dashed, b"\"/>\n");
 }
 
 // How long a text is drawn.
@@ -149,37 +139,32 @@ fn text_length(room: u64, text: &[u8]) -> u64
     room.min((text.len() as u64).saturating_mul(7))
 }
 
-// What stands in an element that is a text, and its end.
-fn put_inner<S: Sink>(out: &mut S, flow: &mut Outflow<'_>, text: &[u8])
-    ensures { Puts (state (S.held out.old) (S.faults out.old) flow.old) (state (S.held out.new) (S.faults out.new) flow.new)
-        (end_text (codes "text") (Some text.now)) }
-{
-    flow.put_byte(out, b'>');
-    flow.put(out, text);
-    flow.put(out, b"</text>\n");
-}
-
 // Black letters without a border, around a point.
 fn put_text_at<S: Sink>(out: &mut S, flow: &mut Outflow<'_>, x: u64, y: u64, room: u64, text: &[u8])
     ensures { Puts (state (S.held out.old) (S.faults out.old) flow.old) (state (S.held out.new) (S.faults out.new) flow.new)
         (element_text (text_at x y room text.now)) }
 {
-    flow.put(out, b"<text");
-    put_number_attribute(out, flow, b"x", x);
-    put_number_attribute(out, flow, b"y", y);
-    put_number_attribute(out, flow, b"textLength", text_length(room, text));
-    put_attribute(out, flow, b"fill", b"black");
-    put_attribute(out, flow, b"stroke", b"none");
-    put_inner(out, flow, text);
+    put_quoted(out, flow, b"<text x=\"", x);
+    put_quoted(out, flow, b" y=\"", y);
+    put_quoted(out, flow, b" textLength=\"", text_length(room, text));
+    put_between(
+        out,
+        flow,
+        b" fill=\"black\" stroke=\"none\">",
+        text,
+        b"</text>\n",
+    );
 }
 
-fn put_text_in<S: Sink>(out: &mut S, flow: &mut Outflow<'_>, at: &Rect, text: &[u8])
+// A box with a text in it.
+fn put_box<S: Sink>(out: &mut S, flow: &mut Outflow<'_>, at: &Rect, text: &[u8])
     requires inside { FitsNumbers at.now }
     ensures { Puts (state (S.held out.old) (S.faults out.old) flow.old) (state (S.held out.new) (S.faults out.new) flow.new)
-        (element_text (text_in at.now text.now)) }
+        (elements_text (rect at.now ∷ text_in at.now text.now ∷ [])) }
 {
     let x = at.x + at.width / 2;
     let room = at.width.saturating_sub(8);
+    put_rect(out, flow, at);
     put_text_at(out, flow, x, at.y + 17, room, text);
 }
 
@@ -197,28 +182,41 @@ fn add_entry(words: &mut List<u8>, entry: &Entry) -> Result<(), NoMemory>
     }
 }
 
+// Octets, and a number behind them.
+fn add_number(words: &mut List<u8>, before: &[u8], n: u64) -> Result<(), NoMemory>
+    ensures { OnOk result (words.new ≡ words.old ++ (before.now ++ decimal n)) }
+{
+    match words.extend_from_slice(before) {
+        Ok(()) => put_number(words, n),
+        Err(NoMemory) => Err(NoMemory),
+    }
+}
+
 fn add_asked(words: &mut List<u8>, asked: u32) -> Result<(), NoMemory>
     ensures { OnOk result (words.new ≡ words.old ++ asked_words asked) }
 {
-    words.extend_from_slice(b"AS ")?;
-    put_number(words, u64::from(asked))
+    add_number(words, b"AS ", u64::from(asked))
 }
 
-// What a word ends with behind a number.
+// What a word ends with behind a number, and a bracket.
 fn ending(count: u64) -> &'static [u8]
-    ensures { result.now ≡ ending count }
+    ensures { result.now ≡ ending count ++ codes " (" }
 {
-    if count == 1 { b"" } else { b"s" }
+    if count == 1 { b" (" } else { b"s (" }
 }
 
-fn add_tally(words: &mut List<u8>, what: &[u8], tally: &Tally) -> Result<(), NoMemory>
-    ensures { OnOk result (words.new ≡ words.old ++ tally_words what.now tally.now) }
+// Octets, and how many there are of what, and how many of them are forced.
+fn add_tally(
+    words: &mut List<u8>,
+    before: &[u8],
+    what: &[u8],
+    tally: &Tally,
+) -> Result<(), NoMemory>
+    ensures { OnOk result (words.new ≡ words.old ++ (before.now ++ tally_words what.now tally.now)) }
 {
-    put_number(words, tally.all)?;
+    add_number(words, before, tally.all)?;
     words.extend_from_slice(what)?;
-    words.extend_from_slice(ending(tally.all))?;
-    words.extend_from_slice(b" (")?;
-    put_number(words, tally.forced)?;
+    add_number(words, ending(tally.all), tally.forced)?;
     words.extend_from_slice(b" forced)")
 }
 
@@ -226,27 +224,16 @@ fn add_caption(words: &mut List<u8>, asked: u32, counts: &Counts) -> Result<(), 
     ensures { OnOk result (words.new ≡ words.old ++ caption_words asked counts.now) }
 {
     add_asked(words, asked)?;
-    words.extend_from_slice(b": ")?;
-    add_tally(words, b" provider", &counts.providers)?;
-    words.extend_from_slice(b", ")?;
-    add_tally(words, b" peer", &counts.peers)?;
-    words.extend_from_slice(b", ")?;
-    add_tally(words, b" customer", &counts.customers)
+    add_tally(words, b": ", b" provider", &counts.providers)?;
+    add_tally(words, b", ", b" peer", &counts.peers)?;
+    add_tally(words, b", ", b" customer", &counts.customers)
 }
 
 // What part of the plane the page shows.
 fn add_extent(words: &mut List<u8>, height: u64) -> Result<(), NoMemory>
     ensures { OnOk result (words.new ≡ words.old ++ extent_words height) }
 {
-    words.extend_from_slice(b"0 0 1000 ")?;
-    put_number(words, height)
-}
-
-// What lines mean.
-fn legend() -> &'static [u8]
-    ensures { result.now ≡ legend_words }
-{
-    b"solid: the label is forced; dashed: it is open, as it always is between peers; wider lines: more kept paths"
+    add_number(words, b"0 0 1000 ", height)
 }
 
 // ---- the whole. What was in `words` is let go.
@@ -264,8 +251,7 @@ fn put_item<S: Sink>(
     words.clear();
     add_entry(words, &item.entry)?;
     put_polyline(out, flow, &item.line, item.width, dashes(&item.entry));
-    put_rect(out, flow, &item.at);
-    put_text_in(out, flow, &item.at, words.as_slice());
+    put_box(out, flow, &item.at, words.as_slice());
     Ok(())
 }
 
@@ -313,8 +299,7 @@ fn put_post<S: Sink>(
 {
     words.clear();
     add_entry(words, &post.entry)?;
-    put_rect(out, flow, &post.at);
-    put_text_in(out, flow, &post.at, words.as_slice());
+    put_box(out, flow, &post.at, words.as_slice());
     Ok(())
 }
 
@@ -334,23 +319,7 @@ fn put_posts<S: Sink>(
     Ok(())
 }
 
-// The first tag, which says how letters, boxes and lines look where they say nothing else.
-fn put_start_tag<S: Sink>(out: &mut S, flow: &mut Outflow<'_>, extent: &[u8])
-    ensures { Puts (state (S.held out.old) (S.faults out.old) flow.old) (state (S.held out.new) (S.faults out.new) flow.new)
-        (start_text extent.now) }
-{
-    flow.put(out, b"<svg");
-    put_attribute(out, flow, b"xmlns", b"http://www.w3.org/2000/svg");
-    put_attribute(out, flow, b"viewBox", extent);
-    put_attribute(out, flow, b"font-family", b"sans-serif");
-    put_attribute(out, flow, b"font-size", b"12");
-    put_attribute(out, flow, b"text-anchor", b"middle");
-    put_attribute(out, flow, b"fill", b"white");
-    put_attribute(out, flow, b"stroke", b"black");
-    flow.put(out, b">\n");
-}
-
-// The first tag of a page of this height.
+// The first tag of a page of this height, which says how letters, boxes and lines look where they say nothing else.
 fn put_start<S: Sink>(
     out: &mut S,
     flow: &mut Outflow<'_>,
@@ -362,9 +331,19 @@ fn put_start<S: Sink>(
 {
     words.clear();
     add_extent(words, height)?;
-    put_start_tag(out, flow, words.as_slice());
+    put_between(
+        out,
+        flow,
+        b"<svg xmlns=\"http://www.w3.org/2000/svg\" viewBox=\"",
+        words.as_slice(),
+        b"\" font-family=\"sans-serif\" font-size=\"12\" text-anchor=\"middle\" fill=\"white\" stroke=\"black\">\n",
+    );
     Ok(())
 }
+
+// What lines mean.
+const LEGEND: &[u8] =
+    b"solid: the label is forced; dashed: it is open, as it always is between peers; wider lines: more kept paths";
 
 // The frame of the page, and the caption.
 fn put_title<S: Sink>(
@@ -378,9 +357,15 @@ fn put_title<S: Sink>(
 {
     words.clear();
     add_caption(words, drawing.asked, &drawing.counts)?;
-    put_rect(out, flow, &page_box(drawing.height));
+    let frame = Rect {
+        x: 0,
+        y: 0,
+        width: 1000,
+        height: drawing.height,
+    };
+    put_rect(out, flow, &frame);
     put_text_at(out, flow, 500, 26, 960, words.as_slice());
-    put_text_at(out, flow, 500, 46, 960, legend());
+    put_text_at(out, flow, 500, 46, 960, LEGEND);
     Ok(())
 }
 
@@ -397,8 +382,7 @@ fn put_centre<S: Sink>(
 {
     words.clear();
     add_asked(words, drawing.asked)?;
-    put_rect(out, flow, &drawing.centre);
-    put_text_in(out, flow, &drawing.centre, words.as_slice());
+    put_box(out, flow, &drawing.centre, words.as_slice());
     Ok(())
 }
 
@@ -436,11 +420,27 @@ fn write_picture<S: Sink>(
     ensures { OnOk result (S.held out.new ≡ append_known (S.held out.old) (svg_text drawing.now)) }
 {
     let mut flow = Outflow::through(buffer);
-    put_picture(out, &mut flow, words, drawing)?;
-    match flow.finish(out) {
-        Ok(()) => Ok(()),
-        Err(_) => Err(NoMemory),
+    match put_picture(out, &mut flow, words, drawing) {
+        Ok(()) => match flow.finish(out) {
+            Ok(()) => Ok(()),
+            Err(_) => Err(NoMemory),
+        },
+        Err(NoMemory) => Err(NoMemory),
     }
+}
+
+// The same through a buffer of its own.
+fn write_whole<S: Sink>(alloc: Global, out: &mut S, drawing: &Drawing) -> Result<(), NoMemory>
+    requires tidy { IsTidy drawing.now }
+    requires low { drawing.now.height < 2 ^ 32 }
+    ensures { OnOk result (S.held out.new ≡ append_known (S.held out.old) (svg_text drawing.now)) }
+{
+    let mut buffer = Buffer::new(alloc)?;
+    let mut words = List::new(alloc);
+    let written = write_picture(out, &mut buffer, &mut words, drawing);
+    drop(words);
+    drop(buffer);
+    written
 }
 
 /// The text of the picture, as SVG. The picture has to be tidy and no higher than numbers of 32 bits reach, as one that is drawn is. The
@@ -452,8 +452,11 @@ pub fn print(alloc: Global, drawing: &Drawing) -> Result<List<u8>, NoMemory>
     ensures well_formed { IfOk result (IsDocument (codes "svg")) }
 {
     let mut sink = ListSink::new(alloc);
-    let mut buffer = Buffer::new(alloc)?;
-    let mut words = List::new(alloc);
-    write_picture(&mut sink, &mut buffer, &mut words, drawing)?;
-    Ok(sink.into_list())
+    match write_whole(alloc, &mut sink, drawing) {
+        Ok(()) => Ok(sink.into_list()),
+        Err(NoMemory) => {
+            drop(sink);
+            Err(NoMemory)
+        }
+    }
 }

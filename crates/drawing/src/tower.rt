@@ -17,6 +17,7 @@ use crate::standings::{Standing, Standings};
 use relationships::Mark;
 use result_text::EdgeLine;
 use std::alloc::Global;
+use std::mem;
 use tor_arena::{Keys, NoMemory};
 use tor_numbers::NumberSet;
 
@@ -107,8 +108,13 @@ fn standings_of(
     ensures { IfOk result (λ drawn. (n : ℕ) → standing_of n drawn ≡ standing_of n (standings_at most rank generation.now)) }
 {
     let mut drawn = Standings::new(alloc, keys);
-    add_standings(&mut drawn, generation, most, rank)?;
-    Ok(drawn)
+    match add_standings(&mut drawn, generation, most, rank) {
+        Ok(()) => Ok(drawn),
+        Err(NoMemory) => {
+            drop(drawn);
+            Err(NoMemory)
+        }
+    }
 }
 
 // The line of an edge whose provider is drawn above its customer.
@@ -203,8 +209,17 @@ fn put_perches(
     ensures { OnOk result (perches.new.items ≡ perches.old.items ++ perches_at most rank generation.now) }
 {
     let mut entries = Vec::new(alloc);
-    put_entries(&mut entries, generation, most)?;
-    put_boxes(perches, &entries, rank)
+    match put_entries(&mut entries, generation, most) {
+        Ok(()) => {
+            let done = put_boxes(perches, &entries, rank);
+            drop(entries);
+            done
+        }
+        Err(NoMemory) => {
+            drop(entries);
+            Err(NoMemory)
+        }
+    }
 }
 
 // Adds the numbers of neighbours.
@@ -218,6 +233,18 @@ fn add_numbers(nearer: &mut NumberSet, neighbours: &[Neighbour]) -> Result<(), N
     Ok(())
 }
 
+// Adds the numbers of an AS and of its neighbours to a set with none.
+fn add_near(nearer: &mut NumberSet, asked: u32, groups: &Groups) -> Result<(), NoMemory>
+    requires none { nearer.old ≡ [] }
+    ensures { OnOk result (HasNumbers nearer.new
+        (near_numbers asked groups.now.providers.items groups.now.peers.items groups.now.customers.items)) }
+{
+    nearer.insert(u64::from(asked) + 2)?;
+    add_numbers(nearer, &groups.providers)?;
+    add_numbers(nearer, &groups.peers)?;
+    add_numbers(nearer, &groups.customers)
+}
+
 // The numbers of an AS and of its neighbours.
 fn near_numbers(
     alloc: Global,
@@ -229,11 +256,13 @@ fn near_numbers(
         (near_numbers asked groups.now.providers.items groups.now.peers.items groups.now.customers.items)) }
 {
     let mut nearer = NumberSet::new(alloc, keys);
-    nearer.insert(u64::from(asked) + 2)?;
-    add_numbers(&mut nearer, &groups.providers)?;
-    add_numbers(&mut nearer, &groups.peers)?;
-    add_numbers(&mut nearer, &groups.customers)?;
-    Ok(nearer)
+    match add_near(&mut nearer, asked, groups) {
+        Ok(()) => Ok(nearer),
+        Err(NoMemory) => {
+            drop(nearer);
+            Err(NoMemory)
+        }
+    }
 }
 
 impl Tower {
@@ -272,9 +301,16 @@ impl Tower {
         ensures low { OnOk result (self.new.rank ≤ self.old.rank + 201) }
     {
         let drawn = standings_of(alloc, keys, generation, most, self.rank)?;
-        self.put(alloc, edges, most, generation, &drawn)?;
-        self.topmost = drawn;
-        Ok(())
+        match self.put(alloc, edges, most, generation, &drawn) {
+            Ok(()) => {
+                drop(mem::replace(&mut self.topmost, drawn));
+                Ok(())
+            }
+            Err(NoMemory) => {
+                drop(drawn);
+                Err(NoMemory)
+            }
+        }
     }
 
     // Puts the next generation on top.
@@ -292,7 +328,9 @@ impl Tower {
         ensures low { OnOk result (self.new.rank ≤ self.old.rank + 201) }
     {
         let generation = generation_above(alloc, edges, &self.topmost, &mut self.nearer)?;
-        self.stack(alloc, keys, edges, most, &generation)
+        let done = self.stack(alloc, keys, edges, most, &generation);
+        drop(generation);
+        done
     }
 }
 
@@ -310,14 +348,19 @@ fn begun(
     ensures low { IfOk result (λ t. t.rank ≤ 201) }
 {
     let nearer = near_numbers(alloc, keys, asked, groups)?;
-    let topmost = standings_of(alloc, keys, &groups.providers, most, 0)?;
-    Ok(Tower {
-        nearer,
-        topmost,
-        rank: rows_of_ten(box_count(most, &groups.providers) as u64),
-        perches: Vec::new(alloc),
-        ties: Vec::new(alloc),
-    })
+    match standings_of(alloc, keys, &groups.providers, most, 0) {
+        Ok(topmost) => Ok(Tower {
+            nearer,
+            topmost,
+            rank: rows_of_ten(box_count(most, &groups.providers) as u64),
+            perches: Vec::new(alloc),
+            ties: Vec::new(alloc),
+        }),
+        Err(NoMemory) => {
+            drop(nearer);
+            Err(NoMemory)
+        }
+    }
 }
 
 /// What stands above an AS up to this depth. The only error is that memory ran out.
@@ -339,7 +382,13 @@ pub(crate) fn tower_of(
 {
     let mut tower = begun(alloc, keys, asked, groups, most)?;
     for _ in 0..depth.saturating_sub(1) {
-        tower.raise(alloc, keys, edges, most)?;
+        match tower.raise(alloc, keys, edges, most) {
+            Ok(()) => {}
+            Err(NoMemory) => {
+                drop(tower);
+                return Err(NoMemory);
+            }
+        }
     }
     Ok(tower)
 }

@@ -7,17 +7,17 @@ use Rattle.drawing.proofs.drawing.draw.Goals as goal
 pub returns-clause-drawn : goal.returns-clause-drawn
 returns-clause-drawn c =
     let groups = c.in_ok-groups.groups in
-    IfOk-weaker c.drawing_above.result
+    IfOk-weaker c.drawing_above-drawing.result
     (IsDrawn c.args.edges.now c.args.asked c.args.most c.args.depth groups.providers.items groups.peers.items groups.customers.items)
     (IsDrawingOf c.args.edges.now c.args.asked c.args.most c.args.depth)
     (drawn_of c.args.edges.now c.args.asked c.args.most c.args.depth groups.providers.items groups.peers.items groups.customers.items
     c.in_ok-groups.ensures.providers c.in_ok-groups.ensures.peers c.in_ok-groups.ensures.customers)
-    c.drawing_above.ensures.drawn
+    c.drawing_above-drawing.ensures.drawn
 
 pub returns-clause-tidy : goal.returns-clause-tidy
 returns-clause-tidy c =
     let groups = c.in_ok-groups.groups in
-    IfOk-weaker c.drawing_above.result
+    IfOk-weaker c.drawing_above-drawing.result
     (IsDrawn c.args.edges.now c.args.asked c.args.most c.args.depth groups.providers.items groups.peers.items groups.customers.items) IsTidy
     (drawn_tidy c.args.edges.now c.args.asked c.args.most c.args.depth groups.providers.items groups.peers.items groups.customers.items)
-    c.drawing_above.ensures.drawn
+    c.drawing_above-drawing.ensures.drawn

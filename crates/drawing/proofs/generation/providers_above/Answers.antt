@@ -1,7 +1,22 @@
+use Rattle.std.proofs.Common.{◌∙◌, All, ap, arith, sym, subst}
+use Rattle.std.proofs.lemmas.List.{take_all}
+use Rattle.drawing.specs.Order.{IsShort}
+use Rattle.drawing.specs.Generations.{providers_above}
 use Rattle.drawing.proofs.Choosing.{with_edge}
 use Rattle.drawing.proofs.generation.providers_above.Goals as goal
 
 pub loop-edge-preserved : goal.loop-edge-preserved
 loop-edge-preserved c =
     with_edge c.args.drawn.now c.args.edges.now c.loop-edge.edge-index _ c.loop-edge.found.items c.add_provider.new.found.items c.loop-edge-test.true
-    c.in_ok-add_provider.ensures.added c.in_ok-add_provider.ensures.short c.loop-edge.invariant
+    c.in-Ok.ensures.added c.in-Ok.ensures.short c.loop-edge.invariant
+
+pub loop-edge-init : goal.loop-edge-init
+loop-edge-init c = record { is = c.new-found.ensures.items; short = subst (All IsShort) (sym c.new-found.ensures.items) (λ k d lt. absurd (omega (arith, lt))) }
+
+pub returns-clause-all : goal.returns-clause-all
+returns-clause-all c =
+    let l = c.loop-edge in
+    l.invariant.is ∙ ap (providers_above c.args.drawn.now) (take_all l.edge-index c.args.edges.now (omega (arith, c.loop-edge-test.false)))
+
+pub returns-clause-short : goal.returns-clause-short
+returns-clause-short c = c.loop-edge.invariant.short

@@ -5,9 +5,9 @@ use Rattle.drawing.specs.Xml.{IsDocument}
 use Rattle.drawing.proofs.WellFormed.{picture_well_formed}
 use Rattle.drawing.proofs.printing.print.Goals as goal
 
-pub returns-clause-text : goal.returns-clause-text
-returns-clause-text c =
-    c.into_list.ensures ∙ same_Some _ _ c.in_ok-write_picture.ensures ∙ ap (λ xs. xs ++ svg_text c.args.drawing.now) c.new-sink.ensures
+pub returns-in-Ok-clause-text : goal.returns-in-Ok-clause-text
+returns-in-Ok-clause-text c =
+    c.into_list.ensures ∙ same_Some _ _ c.in-Ok.ensures ∙ ap (λ xs. xs ++ svg_text c.args.drawing.now) c.new-sink.ensures
 
-pub returns-clause-well_formed : goal.returns-clause-well_formed
-returns-clause-well_formed c = subst (IsDocument (codes "svg")) (sym (returns-clause-text c)) (picture_well_formed c.args.drawing.now)
+pub returns-in-Ok-clause-well_formed : goal.returns-in-Ok-clause-well_formed
+returns-in-Ok-clause-well_formed c = subst (IsDocument (codes "svg")) (sym (returns-in-Ok-clause-text c)) (picture_well_formed c.args.drawing.now)

@@ -1,9 +1,10 @@
-use Rattle.tor_io.proofs.Putting.{puts_then}
-use Rattle.drawing.specs.Xml.{element_text}
+use Rattle.std.proofs.Common.{[], ◌∷◌, ◌++◌, append_assoc, ap, codes, sym}
+use Rattle.tor_io.proofs.Putting.{puts_as, puts_then}
+use Rattle.drawing.specs.Xml.{attribute_text, element_text}
 use Rattle.drawing.proofs.printing.put_polyline.Goals as goal
 
 pub returns : goal.returns
-unfolding element_text
+unfolding attribute_text element_text
 returns g c =
-    puts_then c.put.ensures (puts_then c.put_points_attribute.ensures (puts_then c.put_attribute.ensures
-    (puts_then c.put_number_attribute.ensures (puts_then c.put_attribute-2.ensures c.put-2.ensures))))
+    let end = puts_as c.put_between.ensures (ap (λ xs. codes " stroke-dasharray=\"" ++ xs) (sym (append_assoc c.args.dashed.now (34 ∷ []) (codes "/>\n")))) in
+    puts_then c.put_line_start.ensures (puts_then c.put_quoted.ensures end)

@@ -12,7 +12,7 @@ returns-clause-raised c =
     let most = c.args.most in
     let g = c.in_ok-generation.generation.items in
     let old = c.args.self.now in
-    let new = c.stack.new.self in
+    let new = c.stack-done.new.self in
     let middle : Tower = record {
       nearer = c.generation_above.new.nearer;
       topmost = old.topmost;
@@ -20,11 +20,11 @@ returns-clause-raised c =
       perches = old.perches;
       ties = old.ties;
     } in
-    on_ok_weaker c.stack.result
+    on_ok_weaker c.stack-done.result
     (λ stacked first near gs tower.
     let x = c.in_ok-generation.ensures (all_numbers near gs) tower.nearer in (
       g,
       raised edges most first near gs g old middle new tower x.0 x.1 refl refl refl refl
           (subst (λ h. IsStacked edges most h middle new) c.deref.ensures.value stacked),
     ))
-    c.stack.ensures.stacked
+    c.stack-done.ensures.stacked

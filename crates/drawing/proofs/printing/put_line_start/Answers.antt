@@ -1,6 +1,6 @@
 use Rattle.tor_io.proofs.Putting.{puts_then}
 use Rattle.drawing.specs.Xml.{attribute_text}
-use Rattle.drawing.proofs.printing.put_points_attribute.Goals as goal
+use Rattle.drawing.proofs.printing.put_line_start.Goals as goal
 
 pub returns : goal.returns
 unfolding attribute_text

@@ -1,0 +1,5 @@
+use Rattle.tor_io.proofs.Putting.{puts_then}
+use Rattle.drawing.proofs.printing.put_between.Goals as goal
+
+pub returns : goal.returns
+returns g c = puts_then c.put.ensures (puts_then c.put-2.ensures c.put-3.ensures)

@@ -1,0 +1,5 @@
+use Rattle.tor_io.proofs.Putting.{puts_then}
+use Rattle.drawing.proofs.printing.put_quoted.Goals as goal
+
+pub returns : goal.returns
+returns g c = puts_then c.put.ensures (puts_then c.put_number.ensures c.put_byte.ensures)
