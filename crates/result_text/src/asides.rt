@@ -1,6 +1,6 @@
 //! The counts of routes that were set aside, as lines.
 
-ghost use Rattle.std.specs.Prelude.{◌≡◌, ◌++◌, OnOk};
+ghost use Rattle.std.specs.Prelude.{◌≡◌, [], ◌∷◌, ◌++◌, OnOk, codes};
 ghost use Rattle.result_text.specs.declared.line.Line.TheVariants as line;
 ghost use Rattle.result_text.specs.declared.line.Version.{Version};
 ghost use Rattle.result_text.specs.Ranges.{CountsFit, LineFits};
@@ -10,18 +10,18 @@ use path_clean::{Asides, Cause};
 use text_fields::put_number;
 use tor_arena::{List, NoMemory};
 
-/// How a line names a cause.
-pub(crate) fn cause_word(cause: Cause) -> &'static [u8]
-    ensures { result.now ≡ cause_name cause }
+/// The line of a cause up to its number.
+pub(crate) fn aside_start(cause: Cause) -> &'static [u8]
+    ensures { result.now ≡ codes "aside|" ++ (cause_name cause ++ 124 ∷ []) }
 {
     match cause {
-        Cause::NoPath => b"nopath",
-        Cause::BadSegments => b"badsegments",
-        Cause::Confed => b"confed",
-        Cause::Sets => b"sets",
-        Cause::Reserved => b"reserved",
-        Cause::Loop => b"loop",
-        Cause::Short => b"short",
+        Cause::NoPath => b"aside|nopath|",
+        Cause::BadSegments => b"aside|badsegments|",
+        Cause::Confed => b"aside|confed|",
+        Cause::Sets => b"aside|sets|",
+        Cause::Reserved => b"aside|reserved|",
+        Cause::Loop => b"aside|loop|",
+        Cause::Short => b"aside|short|",
     }
 }
 
@@ -30,9 +30,7 @@ fn put_aside(out: &mut List<u8>, cause: Cause, count: u64) -> Result<(), NoMemor
     ensures encoded { OnOk result ((v : Version) → out.new ≡ out.old ++ line_text v (line.Aside cause count)) }
     ensures fits { OnOk result (LineFits (line.Aside cause count)) }
 {
-    out.extend_from_slice(b"aside|")?;
-    out.extend_from_slice(cause_word(cause))?;
-    out.push(b'|')?;
+    out.extend_from_slice(aside_start(cause))?;
     put_number(out, count)?;
     out.push(b'\n')
 }

@@ -256,9 +256,9 @@ impl Draft {
         if !self.section.takes_path() {
             return Err(LineError::Bad);
         }
-        if self.paths.push_kept(times, path).is_err() {
+        let Ok(()) = self.paths.push_kept(times, path) else {
             return Err(LineError::NoMemory);
-        }
+        };
         self.section = Section::Paths;
         Ok(())
     }
@@ -276,9 +276,9 @@ impl Draft {
         if !self.section.takes_path() {
             return Err(LineError::Bad);
         }
-        if self.paths.push_lost(times, path, walk).is_err() {
+        let Ok(()) = self.paths.push_lost(times, path, walk) else {
             return Err(LineError::NoMemory);
-        }
+        };
         self.section = Section::Paths;
         Ok(())
     }
@@ -290,9 +290,9 @@ impl Draft {
         if !self.section.takes_edge() {
             return Err(LineError::Bad);
         }
-        if self.edges.push(edge).is_err() {
+        let Ok(()) = self.edges.push(edge) else {
             return Err(LineError::NoMemory);
-        }
+        };
         self.section = Section::Edges;
         Ok(())
     }
@@ -304,9 +304,9 @@ impl Draft {
         if !self.section.takes_why() {
             return Err(LineError::Bad);
         }
-        if self.whys.push(walk.ases(), walk.links()).is_err() {
+        let Ok(()) = self.whys.push(walk.ases(), walk.links()) else {
             return Err(LineError::NoMemory);
-        }
+        };
         self.section = Section::Whys;
         Ok(())
     }
@@ -318,9 +318,9 @@ impl Draft {
         if !self.section.takes_probe() {
             return Err(LineError::Bad);
         }
-        if self.probes.push(probe).is_err() {
+        let Ok(()) = self.probes.push(probe) else {
             return Err(LineError::NoMemory);
-        }
+        };
         self.section = Section::Probes;
         Ok(())
     }

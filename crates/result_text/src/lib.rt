@@ -23,7 +23,7 @@ pub use file::{EdgeLine, PathLine, ResultFile, Totals};
 pub use laws::{line_numbers, one_value, round_trip_law};
 pub use parsing::parse;
 pub use path_lines::{PathLineRef, PathLines};
-pub use printing::{print, write_text};
+pub use printing::{print, put_edge, write_text};
 pub use ranges::in_range;
 pub use relationships::{Fate, Given, Mark, Probe};
 pub use taking::Parser;

@@ -143,9 +143,11 @@ pub fn read_lost<'a>(
     let Some((times, rest)) = u64_before(b'|', bytes) else {
         return Err(LineError::Bad);
     };
-    let rest = numbers_before(b'|', path, rest)?;
-    match read_walk(version, ases, links, rest) {
-        Ok(rest) => Ok((times, rest)),
+    match numbers_before(b'|', path, rest) {
+        Ok(rest) => match read_walk(version, ases, links, rest) {
+            Ok(rest) => Ok((times, rest)),
+            Err(error) => Err(error),
+        },
         Err(error) => Err(error),
     }
 }

@@ -1,7 +1,8 @@
 //! The line at the prefix of the octets, read into the draft.
 
 ghost use Rattle.std.specs.Prelude.{◌≡◌, IfOk, IfErr};
-ghost use Rattle.result_text.specs.Order.{with_line, next_at};
+ghost use Rattle.result_text.specs.Order.{with_line, next_at, step, Steps};
+ghost use Rattle.result_text.specs.declared.line.Line.TheVariants as line;
 ghost use Rattle.result_text.specs.Reading.{ReadsAs, by_word, outer_readers, sets_line_at, ratio_at, aside_at, kept_at, line_of_kept, lost_at, lost_from, walk_at};
 ghost use Rattle.result_text.specs.Reading.{edge_line_at, given_at, why_at, probe_at, end_at, version_at};
 ghost use Rattle.relationships.specs.Flat.{walk_with};
@@ -112,9 +113,11 @@ fn next_kept<'a>(
 ) -> Result<&'a [u8], LineError>
     ensures { ReadsAs (λ rest. (draft.new, rest.now)) result (with_line draft.old (kept_at bytes.now)) }
 {
-    let (times, rest) = read_kept(&mut scratch.path, bytes)?;
-    match draft.add_kept(times, scratch.path.as_slice()) {
-        Ok(()) => Ok(rest),
+    match read_kept(&mut scratch.path, bytes) {
+        Ok((times, rest)) => match draft.add_kept(times, scratch.path.as_slice()) {
+            Ok(()) => Ok(rest),
+            Err(error) => Err(error),
+        },
         Err(error) => Err(error),
     }
 }
@@ -128,10 +131,14 @@ fn next_lost<'a>(
     ensures { ReadsAs (λ rest. (draft.new, rest.now)) result (with_line draft.old (lost_at (version_of draft.old.givens) bytes.now)) }
 {
     let Scratch { path, ases, links } = scratch;
-    let (times, rest) = read_lost(draft.version(), path, ases, links, bytes)?;
-    let walk = WalkRef::new(ases.as_slice(), links.as_slice());
-    match draft.add_lost(times, path.as_slice(), &walk) {
-        Ok(()) => Ok(rest),
+    match read_lost(draft.version(), path, ases, links, bytes) {
+        Ok((times, rest)) => {
+            let walk = WalkRef::new(ases.as_slice(), links.as_slice());
+            match draft.add_lost(times, path.as_slice(), &walk) {
+                Ok(()) => Ok(rest),
+                Err(error) => Err(error),
+            }
+        }
         Err(error) => Err(error),
     }
 }
@@ -158,10 +165,14 @@ fn next_why<'a>(
     ensures { ReadsAs (λ rest. (draft.new, rest.now)) result (with_line draft.old (why_at (version_of draft.old.givens) bytes.now)) }
 {
     let Scratch { ases, links, .. } = scratch;
-    let rest = read_walk(draft.version(), ases, links, bytes)?;
-    let walk = WalkRef::new(ases.as_slice(), links.as_slice());
-    match draft.add_why(&walk) {
-        Ok(()) => Ok(rest),
+    match read_walk(draft.version(), ases, links, bytes) {
+        Ok(rest) => {
+            let walk = WalkRef::new(ases.as_slice(), links.as_slice());
+            match draft.add_why(&walk) {
+                Ok(()) => Ok(rest),
+                Err(error) => Err(error),
+            }
+        }
         Err(error) => Err(error),
     }
 }
@@ -321,9 +332,60 @@ fn next_copied(
 ) -> Result<(), LineError>
     ensures { ReadsAs (λ _. (draft.new, octets.new)) result (next_at draft.old octets.old) }
 {
-    let rest = next_line(alloc, draft, scratch, octets.as_slice())?;
-    *octets = copy_of(alloc, rest)?;
-    Ok(())
+    match next_line(alloc, draft, scratch, octets.as_slice()) {
+        Ok(rest) => match copy_of(alloc, rest) {
+            Ok(copy) => {
+                put_in_place(octets, copy);
+                Ok(())
+            }
+            Err(error) => Err(error),
+        },
+        Err(error) => Err(error),
+    }
+}
+
+// Each of these adds a line with lists that are read to the draft, when its octets are let go for those that stand behind it.
+fn add_long_kept(
+    draft: &mut Draft,
+    scratch: &Scratch,
+    octets: &mut List<u8>,
+    times: u64,
+    behind: List<u8>,
+) -> Result<(), LineError>
+    ensures added { Steps result draft.new (step draft.old (line_of_kept (times, scratch.now.path))) }
+    ensures behind { octets.new ≡ behind }
+{
+    put_in_place(octets, behind);
+    draft.add_kept(times, scratch.path.as_slice())
+}
+
+fn add_long_lost(
+    draft: &mut Draft,
+    scratch: &Scratch,
+    octets: &mut List<u8>,
+    times: u64,
+    behind: List<u8>,
+) -> Result<(), LineError>
+    ensures added { Steps result draft.new (step draft.old
+        (lost_from (times, (scratch.now.path, walk_with scratch.now.ases scratch.now.links)))) }
+    ensures behind { octets.new ≡ behind }
+{
+    put_in_place(octets, behind);
+    let walk = WalkRef::new(scratch.ases.as_slice(), scratch.links.as_slice());
+    draft.add_lost(times, scratch.path.as_slice(), &walk)
+}
+
+fn add_long_why(
+    draft: &mut Draft,
+    scratch: &Scratch,
+    octets: &mut List<u8>,
+    behind: List<u8>,
+) -> Result<(), LineError>
+    ensures added { Steps result draft.new (step draft.old (line.Why (walk_with scratch.now.ases scratch.now.links))) }
+    ensures behind { octets.new ≡ behind }
+{
+    put_in_place(octets, behind);
+    draft.add_why(&WalkRef::new(scratch.ases.as_slice(), scratch.links.as_slice()))
 }
 
 /// The same, with the octets let go before the numbers of a line with lists are copied into the draft. So a long line takes the memory of
@@ -339,22 +401,20 @@ pub fn next_long(
 {
     let bytes = octets.as_slice();
     if let Some(rest) = after(b"kept|", bytes) {
-        let (times, behind) = kept_copied(alloc, &mut scratch.path, rest)?;
-        put_in_place(octets, behind);
-        draft.add_kept(times, scratch.path.as_slice())
-    } else if let Some(_) = after(b"edge|", bytes) {
-        next_copied(alloc, draft, scratch, octets)
+        match kept_copied(alloc, &mut scratch.path, rest) {
+            Ok((times, behind)) => add_long_kept(draft, scratch, octets, times, behind),
+            Err(error) => Err(error),
+        }
     } else if let Some(rest) = after(b"why|", bytes) {
-        let behind = walk_copied(alloc, draft.version(), scratch, rest)?;
-        put_in_place(octets, behind);
-        draft.add_why(&WalkRef::new(scratch.ases.as_slice(), scratch.links.as_slice()))
-    } else if let Some(_) = after(b"open|", bytes) {
-        next_copied(alloc, draft, scratch, octets)
+        match walk_copied(alloc, draft.version(), scratch, rest) {
+            Ok(behind) => add_long_why(draft, scratch, octets, behind),
+            Err(error) => Err(error),
+        }
     } else if let Some(rest) = after(b"lost|", bytes) {
-        let (times, behind) = lost_copied(alloc, draft.version(), scratch, rest)?;
-        put_in_place(octets, behind);
-        let walk = WalkRef::new(scratch.ases.as_slice(), scratch.links.as_slice());
-        draft.add_lost(times, scratch.path.as_slice(), &walk)
+        match lost_copied(alloc, draft.version(), scratch, rest) {
+            Ok((times, behind)) => add_long_lost(draft, scratch, octets, times, behind),
+            Err(error) => Err(error),
+        }
     } else {
         next_copied(alloc, draft, scratch, octets)
     }

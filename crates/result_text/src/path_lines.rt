@@ -175,13 +175,13 @@ impl PathLines {
     {
         let count = self.paths.len();
         self.times.reserve(1)?;
-        if self.paths.push_row(path).is_err() {
+        let Ok(_) = self.paths.push_row(path) else {
             return Err(NoMemory);
-        }
-        if self.fates.push_kept().is_err() {
+        };
+        let Ok(()) = self.fates.push_kept() else {
             self.paths.cut_to(count);
             return Err(NoMemory);
-        }
+        };
         self.times.push_reserved(times);
         Ok(())
     }
@@ -200,13 +200,13 @@ impl PathLines {
     {
         let count = self.paths.len();
         self.times.reserve(1)?;
-        if self.paths.push_row(path).is_err() {
+        let Ok(_) = self.paths.push_row(path) else {
             return Err(NoMemory);
-        }
-        if self.fates.push_lost(walk.ases(), walk.links()).is_err() {
+        };
+        let Ok(()) = self.fates.push_lost(walk.ases(), walk.links()) else {
             self.paths.cut_to(count);
             return Err(NoMemory);
-        }
+        };
         self.times.push_reserved(times);
         Ok(())
     }

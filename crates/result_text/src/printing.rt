@@ -14,7 +14,7 @@ ghost use Rattle.result_text.specs.Text.{text, text_of_lines, text_of_asides, li
 ghost use Rattle.result_text.specs.Text.{numbers_text, links, head_lines, body_lines, version_of, its_givens};
 ghost use Rattle.result_text.specs.declared.line.Version.{Version};
 
-use crate::asides::cause_word;
+use crate::asides::aside_start;
 use crate::file::{EdgeLine, ResultFile, Totals};
 use crate::line::{Version, version_of};
 use crate::numbers::{put_links, put_numbers, put_u32, put_u32_behind};
@@ -64,9 +64,8 @@ fn put_aside<S: Sink>(out: &mut S, flow: &mut Outflow<'_>, asides: &Asides, caus
     ensures { (v : Version) → Puts (state (S.held out.old) (S.faults out.old) flow.old) (state (S.held out.new) (S.faults out.new) flow.new)
         (line_text v (line.Aside cause (cause_count cause asides.now))) }
 {
-    flow.put(out, b"aside|");
-    flow.put(out, cause_word(cause));
-    flow.put_number_behind(out, b'|', asides.get(cause));
+    flow.put(out, aside_start(cause));
+    flow.put_number(out, asides.get(cause));
     flow.put_byte(out, b'\n');
 }
 
@@ -141,24 +140,24 @@ fn put_path<S: Sink>(out: &mut S, flow: &mut Outflow<'_>, version: Version, path
     }
 }
 
-fn put_label<S: Sink>(out: &mut S, flow: &mut Outflow<'_>, label: Label)
-    ensures { Puts (state (S.held out.old) (S.faults out.old) flow.old) (state (S.held out.new) (S.faults out.new) flow.new)
-        (label_name label) }
+// A bar, and the name of a label.
+fn label_field(label: Label) -> &'static [u8]
+    ensures { result.now ≡ 124 ∷ label_name label }
 {
     match label {
-        Label::Low => flow.put(out, b"low"),
-        Label::High => flow.put(out, b"high"),
-        Label::Peer => flow.put(out, b"peer"),
+        Label::Low => b"|low",
+        Label::High => b"|high",
+        Label::Peer => b"|peer",
     }
 }
 
-fn put_mark<S: Sink>(out: &mut S, flow: &mut Outflow<'_>, mark: Mark)
-    ensures { Puts (state (S.held out.old) (S.faults out.old) flow.old) (state (S.held out.new) (S.faults out.new) flow.new)
-        (mark_name mark) }
+// A bar, and the name of a mark.
+fn mark_field(mark: Mark) -> &'static [u8]
+    ensures { result.now ≡ 124 ∷ mark_name mark }
 {
     match mark {
-        Mark::Forced => flow.put(out, b"forced"),
-        Mark::Open => flow.put(out, b"open"),
+        Mark::Forced => b"|forced",
+        Mark::Open => b"|open",
     }
 }
 
@@ -167,10 +166,8 @@ fn put_label_and_mark<S: Sink>(out: &mut S, flow: &mut Outflow<'_>, label: Label
     ensures { Puts (state (S.held out.old) (S.faults out.old) flow.old) (state (S.held out.new) (S.faults out.new) flow.new)
         (124 ∷ label_name label ++ 124 ∷ mark_name mark) }
 {
-    flow.put_byte(out, b'|');
-    put_label(out, flow, label);
-    flow.put_byte(out, b'|');
-    put_mark(out, flow, mark);
+    flow.put(out, label_field(label));
+    flow.put(out, mark_field(mark));
 }
 
 // Two numbers with a bar between them.
@@ -182,7 +179,9 @@ fn put_pair<S: Sink>(out: &mut S, flow: &mut Outflow<'_>, first: u32, second: u3
     put_u32_behind(out, flow, b'|', second);
 }
 
-fn put_edge<S: Sink>(out: &mut S, flow: &mut Outflow<'_>, edge: &EdgeLine)
+/// Puts the line of an edge behind what waits for the sink, with its line feed. It is the same in texts of both versions, and takes no
+/// memory.
+pub fn put_edge<S: Sink>(out: &mut S, flow: &mut Outflow<'_>, edge: &EdgeLine)
     ensures { (v : Version) → Puts (state (S.held out.old) (S.faults out.old) flow.old) (state (S.held out.new) (S.faults out.new) flow.new)
         (line_text v (line.Edge edge.now)) }
 {

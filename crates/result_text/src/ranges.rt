@@ -1,4 +1,5 @@
-//! The ranges of the numbers of a result, which are those of their types. Each function reads what it names, and does nothing else.
+//! The ranges of the numbers of a result, which are those of their types. Each function reads what it names, and does nothing else: that a
+//! number is in the range of its type is known as soon as it is read.
 
 ghost use Rattle.std.specs.List.{AllByRecursion};
 ghost use Rattle.path_clean.specs.Counts.{cause_count};
@@ -7,21 +8,13 @@ ghost use Rattle.result_text.specs.Grammar.{IsTextOf};
 ghost use Rattle.result_text.specs.PathLines.{line_with};
 ghost use Rattle.result_text.specs.Ranges.{AreU32, CountsFit, EdgeFits, GivenFits, LinkFits, PathFits, ProbeFits, TotalsFit, WalkFits};
 ghost use Rattle.result_text.specs.Text.{its_givens, text};
-ghost use Rattle.text_fields.specs.Fields.{IsU32, IsU64};
+ghost use Rattle.text_fields.specs.Fields.{IsU64};
 
 use crate::file::{EdgeLine, ResultFile, Totals};
 use crate::path_lines::{PathLineRef, PathLines};
 use path_clean::{Asides, Cause};
 use relationships::{Given, Link, Probe, WalkRef, Walks};
 use tor_arena::{Index, PathId, WalkId};
-
-fn u32_fits(n: u32)
-    ensures { IsU32 n }
-{}
-
-fn u64_fits(n: u64)
-    ensures { IsU64 n }
-{}
 
 fn numbers_fit(ns: &[u32])
     ensures { AreU32 ns.now }
@@ -30,8 +23,8 @@ fn numbers_fit(ns: &[u32])
 fn link_fits(link: &Link)
     ensures { LinkFits link.now }
 {
-    u32_fits(link.path);
-    u32_fits(link.at);
+    let _path = link.path;
+    let _at = link.at;
 }
 
 fn links_fit(ls: &[Link])
@@ -63,7 +56,7 @@ fn walks_fit(walks: &Walks)
 fn count_fits(asides: &Asides, cause: Cause)
     ensures { IsU64 (cause_count cause asides.now) }
 {
-    u64_fits(asides.get(cause));
+    let _count = asides.get(cause);
 }
 
 fn counts_fit(asides: &Asides)
@@ -81,8 +74,8 @@ fn counts_fit(asides: &Asides)
 fn given_fits(given: &Given)
     ensures { GivenFits given.now }
 {
-    u32_fits(given.over);
-    u32_fits(given.under);
+    let _over = given.over;
+    let _under = given.under;
 }
 
 fn given_lines_fit(givens: &[Given])
@@ -139,9 +132,9 @@ fn paths_fit(paths: &PathLines)
 fn edge_fits(edge: &EdgeLine)
     ensures { EdgeFits edge.now }
 {
-    u32_fits(edge.low);
-    u32_fits(edge.high);
-    u64_fits(edge.support);
+    let _low = edge.low;
+    let _high = edge.high;
+    let _support = edge.support;
 }
 
 fn edges_fit(edges: &[EdgeLine])
@@ -155,8 +148,8 @@ fn edges_fit(edges: &[EdgeLine])
 fn probe_fits(probe: &Probe)
     ensures { ProbeFits probe.now }
 {
-    u32_fits(probe.over);
-    u32_fits(probe.under);
+    let _over = probe.over;
+    let _under = probe.under;
 }
 
 fn probes_fit(probes: &[Probe])
@@ -170,18 +163,18 @@ fn probes_fit(probes: &[Probe])
 fn totals_fit(totals: &Totals)
     ensures { TotalsFit totals.now }
 {
-    u64_fits(totals.kept);
-    u64_fits(totals.lost);
-    u64_fits(totals.edges);
-    u64_fits(totals.forced);
-    u64_fits(totals.peers);
+    let _kept = totals.kept;
+    let _lost = totals.lost;
+    let _edges = totals.edges;
+    let _forced = totals.forced;
+    let _peers = totals.peers;
 }
 
 /// The numbers of a result are in the ranges of their types, so its text is one. It takes no memory.
 pub fn in_range(file: &ResultFile)
     ensures { IsTextOf file.now (text file.now) }
 {
-    u32_fits(file.ratio);
+    let _ratio = file.ratio;
     counts_fit(&file.asides);
     givens_fit(file);
     paths_fit(&file.paths);

@@ -58,9 +58,9 @@ fn numbers_of<'a>(numbers: &mut List<u32>, bytes: &'a [u8]) -> Result<&'a [u8], 
     let Some((first, rest)) = u32_of(bytes) else {
         return Err(LineError::Bad);
     };
-    if numbers.push(first).is_err() {
+    let Ok(()) = numbers.push(first) else {
         return Err(LineError::NoMemory);
-    }
+    };
     other_numbers(numbers, rest)
 }
 
@@ -159,9 +159,9 @@ fn links_of<'a>(
     let Some((first, rest)) = link_of(version, bytes) else {
         return Err(LineError::Bad);
     };
-    if links.push(first).is_err() {
+    let Ok(()) = links.push(first) else {
         return Err(LineError::NoMemory);
-    }
+    };
     other_links(version, links, rest)
 }
 

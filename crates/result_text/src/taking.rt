@@ -123,21 +123,25 @@ impl Parser {
         self.start.extend_from_slice(octets)?;
         let mut lines = mem::replace(&mut self.start, List::new(alloc));
         if long {
-            return read_long(
+            let done = read_long(
                 alloc,
                 &mut self.draft,
                 &mut self.scratch,
                 &mut self.line,
                 &mut lines,
             );
+            drop(lines);
+            return done;
         }
-        read_lines(
+        let done = read_lines(
             alloc,
             &mut self.draft,
             &mut self.scratch,
             &mut self.line,
             lines.as_slice(),
-        )
+        );
+        drop(lines);
+        done
     }
 
     // Puts octets with no line feed behind those that wait.

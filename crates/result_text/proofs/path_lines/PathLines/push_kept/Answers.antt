@@ -1,4 +1,4 @@
-use Rattle.std.proofs.Common.{◌≡◌, ◌∙◌, ap, ap₂, rules, ◌∷◌, ◌++◌, []}
+use Rattle.std.proofs.Common.{◌≡◌, ◌∙◌, ap, ap₂, rules, ◌∷◌, ◌++◌, [], length}
 use Rattle.relationships.specs.declared.fate.Fate.TheVariants.{Kept}
 use Rattle.result_text.specs.PathLines.{line_with, lines_by}
 use Rattle.result_text.proofs.PathLineLemmas.{lines_by-push}
@@ -15,3 +15,12 @@ returns-clause-added c =
     ∙ ap₂ (λ ts fs. lines_by (f.paths ++ c.args.path.now ∷ []) ts fs) times fates
     ∙ lines_by-push c.args.path.now c.args.times fate f.paths f.times.items f.fates c.self.invariant.0 c.self.invariant.1
     ∙ ap (λ ls. ls ++ line_with c.args.times c.args.path.now fate ∷ []) c.self.view_is
+
+pub invariant_of-self : goal.invariant_of-self
+invariant_of-self c = (ap length c.reserve.ensures.items ∙ c.self.invariant.0, c.self.invariant.1)
+
+pub returns-in_default-clause-unchanged : goal.returns-in_default-clause-unchanged
+returns-in_default-clause-unchanged c =
+    let f = c.self.inside in
+    ap (λ ps. lines_by ps c.reserve.new.self.items f.fates) c.in_default.ensures.unchanged ∙ ap (λ ts. lines_by f.paths ts f.fates) c.reserve.ensures.items
+    ∙ c.self.view_is

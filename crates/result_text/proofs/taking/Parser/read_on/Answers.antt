@@ -12,8 +12,8 @@ returns-then-is_empty-clause-come c = λ before at.
     let further = goes_further p.line p.draft before p.start c.args.octets.now at in
     c.read_lines.ensures (before ++ c.args.octets.now) (subst (λ start. IsAt p.line p.draft (before ++ c.args.octets.now) (start ++ c.args.octets.now)) none further)
 
-pub read_lines-requires-2 : goal.read_lines-requires-2
-read_lines-requires-2 c =
+pub read_lines-done-requires : goal.read_lines-done-requires
+read_lines-done-requires c =
     let p = c.args.self.now in
     let lines : c.as_slice.result.now ≡ p.start ++ c.args.octets.now = c.as_slice.ensures ∙ c.replace-lines.ensures.value ∙ c.in_ok-extend_from_slice.ensures.ok in
     record { whole = subst AreWhole (sym lines) (whole_joined p.start c.args.octets.now c.requires.some c.requires.whole) }
@@ -23,10 +23,10 @@ returns-clause-come c = λ before at.
     let p = c.args.self.now in
     let lines : c.as_slice.result.now ≡ p.start ++ c.args.octets.now = c.as_slice.ensures ∙ c.replace-lines.ensures.value ∙ c.in_ok-extend_from_slice.ensures.ok in
     let further = goes_further p.line p.draft before p.start c.args.octets.now at in
-    c.read_lines-2.ensures (before ++ c.args.octets.now) (subst (IsAt p.line p.draft (before ++ c.args.octets.now)) (sym lines) further)
+    c.read_lines-done.ensures (before ++ c.args.octets.now) (subst (IsAt p.line p.draft (before ++ c.args.octets.now)) (sym lines) further)
 
-pub read_long-requires-clause-whole : goal.read_long-requires-clause-whole
-read_long-requires-clause-whole c =
+pub read_long-done-requires-clause-whole : goal.read_long-done-requires-clause-whole
+read_long-done-requires-clause-whole c =
     let p = c.args.self.now in
     let lines : c.replace-lines.result ≡ p.start ++ c.args.octets.now = c.replace-lines.ensures.value ∙ c.in_ok-extend_from_slice.ensures.ok in
     subst AreWhole (sym lines) (whole_joined p.start c.args.octets.now c.requires.some c.requires.whole)
@@ -36,4 +36,4 @@ returns-then-long-clause-come c = λ before at.
     let p = c.args.self.now in
     let lines : c.replace-lines.result ≡ p.start ++ c.args.octets.now = c.replace-lines.ensures.value ∙ c.in_ok-extend_from_slice.ensures.ok in
     let further = goes_further p.line p.draft before p.start c.args.octets.now at in
-    c.read_long.ensures (before ++ c.args.octets.now) (subst (IsAt p.line p.draft (before ++ c.args.octets.now)) (sym lines) further)
+    c.read_long-done.ensures (before ++ c.args.octets.now) (subst (IsAt p.line p.draft (before ++ c.args.octets.now)) (sym lines) further)
