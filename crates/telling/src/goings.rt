@@ -65,6 +65,17 @@ fn put_label(labels: &mut Vec<Label>, table: &EdgeTable, line: &EdgeLine)
     labels[place] = line.label;
 }
 
+/// So many labels of peers.
+fn peer_labels(alloc: Global, count: usize) -> Result<Vec<Label>, NoMemory>
+    ensures { IfOk result (λ labels. length labels.items ≡ count) }
+{
+    let mut labels = Vec::with_capacity(alloc, count)?;
+    for _ in 0..count {
+        labels.push_reserved(Label::Peer);
+    }
+    Ok(labels)
+}
+
 /// The labels of the edges of a table, in their order, and of one that no line names that of peers.
 pub(crate) fn labels_along(
     alloc: Global,
@@ -76,14 +87,42 @@ pub(crate) fn labels_along(
     ensures labels { IfOk result (λ labels.
         HaveLabelsTo (its_labels file.now) file.now.edges (length file.now.edges) table.now labels.items) }
 {
-    let mut labels = Vec::new(alloc);
-    for _ in 0..table.len() {
-        labels.push(Label::Peer)?;
-    }
+    let mut labels = peer_labels(alloc, table.len())?;
     for line in file.edges.as_slice() {
         put_label(&mut labels, table, line);
     }
     Ok(labels)
+}
+
+/// How the steps of a path of the result go under its labels, by the labels of the edges of a table that has its edges.
+fn goings_along(
+    alloc: Global,
+    file: &ResultFile,
+    table: &EdgeTable,
+    path: &[u32],
+) -> Result<List<Going>, NoMemory>
+    requires accepted { Accepts file.now }
+    requires there { Contains (its_paths file.now) path.now }
+    requires edges { HasEdgesTo path.now (length path.now) table.now }
+    ensures { IfOk result (λ goings. goings ≡ map going_of (slopes (its_labels file.now) path.now)) }
+{
+    let labels = labels_along(alloc, file, table)?;
+    let mut goings = List::new(alloc);
+    for at in 1..path.len() {
+        let Some(place) = table.place(path[at - 1], path[at]) else {
+            unreachable!();
+        };
+        match goings.push(going_by(labels[place], path[at - 1], path[at])) {
+            Ok(()) => {}
+            Err(NoMemory) => {
+                drop(labels);
+                drop(goings);
+                return Err(NoMemory);
+            }
+        }
+    }
+    drop(labels);
+    Ok(goings)
 }
 
 /// How the steps of a path of the result go under its labels. The keys are those of a hash table, and no answer depends on them. NoMemory
@@ -99,13 +138,7 @@ pub(crate) fn goings_of(
     ensures { IfOk result (λ goings. goings ≡ map going_of (slopes (its_labels file.now) path.now)) }
 {
     let table = edges_along(alloc, keys, path)?;
-    let labels = labels_along(alloc, file, &table)?;
-    let mut goings = List::new(alloc);
-    for at in 1..path.len() {
-        let Some(place) = table.place(path[at - 1], path[at]) else {
-            unreachable!();
-        };
-        goings.push(going_by(labels[place], path[at - 1], path[at]))?;
-    }
-    Ok(goings)
+    let goings = goings_along(alloc, file, &table, path);
+    drop(table);
+    goings
 }

@@ -170,12 +170,16 @@ fn walk_at(alloc: Global, over: u32, under: u32) -> Result<Walk, NoMemory>
     ensures links { IfOk result (λ walk. walk.links ≡ []) }
 {
     let mut ases = List::new(alloc);
-    ases.push(over)?;
-    ases.push(under)?;
-    Ok(Walk {
-        ases,
-        links: List::new(alloc),
-    })
+    match ases.extend_from_slice(&[over, under]) {
+        Ok(()) => Ok(Walk {
+            ases,
+            links: List::new(alloc),
+        }),
+        Err(NoMemory) => {
+            drop(ases);
+            Err(NoMemory)
+        }
+    }
 }
 
 /// The edge in a place of a way.
@@ -247,7 +251,13 @@ fn walk_back(
     let mut at = way.arcs.len();
     while at > 0 {
         at -= 1;
-        step_back(file, all, downs, way, at, &mut walk)?;
+        match step_back(file, all, downs, way, at, &mut walk) {
+            Ok(()) => {}
+            Err(NoMemory) => {
+                drop(walk);
+                return Err(NoMemory);
+            }
+        }
     }
     Ok(walk)
 }
@@ -278,8 +288,12 @@ fn walk_reached(
         unreachable!();
     };
     let way = way_to(alloc, reached, found.1)?;
-    let walk = walk_back(alloc, file, all, downs, &way, &found.0)?;
-    Ok((found.0, walk))
+    let walk = walk_back(alloc, file, all, downs, &way, &found.0);
+    drop(way);
+    match walk {
+        Ok(walk) => Ok((found.0, walk)),
+        Err(NoMemory) => Err(NoMemory),
+    }
 }
 
 /// The same, where nothing is reached yet.

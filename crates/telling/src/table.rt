@@ -35,7 +35,13 @@ fn edges_in(alloc: Global, keys: Keys, file: &ResultFile) -> Result<EdgeTable, N
     let mut table = EdgeTable::new(alloc, keys);
     for line in file.edges.as_slice() {
         if line.mark == Mark::Open {
-            table.add(line.low, line.high)?;
+            match table.add(line.low, line.high) {
+                Ok(_) => {}
+                Err(NoMemory) => {
+                    drop(table);
+                    return Err(NoMemory);
+                }
+            }
         }
     }
     Ok(table)

@@ -1,73 +1,32 @@
 //! What is told, as text.
 
-ghost use Rattle.std.specs.Prelude.{◌≡◌, [], OnOk, OnErr, codes, slice_get};
+ghost use Rattle.std.specs.Prelude.{◌≡◌, [], ◌∷◌, ◌++◌, OnOk, OnErr, codes, slice_get};
 ghost use Rattle.std.specs.List.{flat_map};
 ghost use Rattle.std.specs.Io.KnownBytes.{append_known};
 ghost use Rattle.tor_io.specs.Counts.{HasCause};
 ghost use Rattle.tor_io.specs.Contents.{GainsPrefix};
 ghost use Rattle.tor_io.specs.Outflow.{state, Puts};
-ghost use Rattle.result_text.specs.Text.{label_name, mark_name};
-ghost use Rattle.telling.specs.ToldText.{why_at, whys_text, edge_row, free_row, path_row, lost_text};
+ghost use Rattle.telling.specs.ToldText.{why_at, whys_text, path_row, lost_text};
 ghost use Rattle.telling.specs.ToldText.{going_name, going_row, goings_text, kept_text, told_text};
 
 use crate::told::{Going, Told};
-use relationships::{Label, Mark};
-use result_text::{EdgeLine, PathLineRef, ResultFile};
+use result_text::{PathLineRef, ResultFile, put_edge};
 use tor_arena::{Index, PathId, WalkId};
 use tor_io::{Buffer, Failed, Outflow, Sink};
 use why_lines::{put_begin, put_numbers, put_pair, put_steps, put_u32_behind, put_why};
 
-fn label_word(label: Label) -> &'static [u8]
-    ensures { result.now ≡ label_name label }
-{
-    match label {
-        Label::Low => b"low",
-        Label::High => b"high",
-        Label::Peer => b"peer",
-    }
-}
-
-fn mark_word(mark: Mark) -> &'static [u8]
-    ensures { result.now ≡ mark_name mark }
-{
-    match mark {
-        Mark::Forced => b"forced",
-        Mark::Open => b"open",
-    }
-}
-
-fn going_word(going: Going) -> &'static [u8]
-    ensures { result.now ≡ going_name going }
+// A bar, how a step goes, and a line feed.
+fn going_end(going: Going) -> &'static [u8]
+    ensures { result.now ≡ 124 ∷ going_name going ++ 10 ∷ [] }
 {
     match going {
-        Going::Up => b"up",
-        Going::Down => b"down",
-        Going::Flat => b"flat",
+        Going::Up => b"|up\n",
+        Going::Down => b"|down\n",
+        Going::Flat => b"|flat\n",
     }
 }
 
 // Each of these puts something behind what waits for the sink, lines with their line feed.
-
-fn put_edge<S: Sink>(out: &mut S, flow: &mut Outflow<'_>, line: &EdgeLine)
-    ensures { Puts (state (S.held out.old) (S.faults out.old) flow.old) (state (S.held out.new) (S.faults out.new) flow.new)
-        (edge_row line.now) }
-{
-    flow.put(out, b"edge");
-    put_u32_behind(out, flow, b'|', line.low);
-    put_u32_behind(out, flow, b'|', line.high);
-    flow.put_byte(out, b'|');
-    flow.put(out, label_word(line.label));
-    flow.put_byte(out, b'|');
-    flow.put(out, mark_word(line.mark));
-    flow.put_number_behind(out, b'|', line.support);
-    flow.put_byte(out, b'\n');
-}
-
-fn put_free<S: Sink>(out: &mut S, flow: &mut Outflow<'_>)
-    ensures { Puts (state (S.held out.old) (S.faults out.old) flow.old) (state (S.held out.new) (S.faults out.new) flow.new) free_row }
-{
-    flow.put(out, b"free\n");
-}
 
 // The why line in a place, if it is there.
 fn put_why_at<S: Sink>(
@@ -138,9 +97,7 @@ fn put_going<S: Sink>(out: &mut S, flow: &mut Outflow<'_>, from: u32, to: u32, g
     flow.put(out, b"step");
     put_u32_behind(out, flow, b'|', from);
     put_u32_behind(out, flow, b'|', to);
-    flow.put_byte(out, b'|');
-    flow.put(out, going_word(going));
-    flow.put_byte(out, b'\n');
+    flow.put(out, going_end(going));
 }
 
 fn put_goings<S: Sink>(out: &mut S, flow: &mut Outflow<'_>, path: &[u32], goings: &[Going])
@@ -185,11 +142,11 @@ fn put_told<S: Sink>(out: &mut S, flow: &mut Outflow<'_>, file: &ResultFile, tol
             put_edge(out, flow, line);
             put_pair(out, flow, b"open", probe.over, probe.under);
             put_steps(out, flow, file, walk.ases.as_slice(), walk.links.as_slice());
-            put_free(out, flow);
+            flow.put(out, b"free\n");
         }
         Told::Peering { line } => {
             put_edge(out, flow, line);
-            put_free(out, flow);
+            flow.put(out, b"free\n");
         }
         Told::Lost { path } => {
             if let Some(line) = line_at(file, *path) {

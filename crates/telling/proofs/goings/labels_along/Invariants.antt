@@ -3,9 +3,6 @@ use Rattle.result_rules.specs.File.{its_labels}
 use Rattle.telling.specs.Labelling.{HaveLabelsTo}
 use Rattle.telling.proofs.goings.labels_along.Given as goal
 
-abbrev pub invariant-loop : goal.invariant-loop
-invariant-loop l = length l.labels.items ≡ l.counter
-
 -- each edge that a line so far names has its label
 abbrev pub invariant-loop-line : goal.invariant-loop-line
 invariant-loop-line l =

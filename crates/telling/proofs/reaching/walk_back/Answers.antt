@@ -27,5 +27,5 @@ loop-at-preserved c =
     let (le, back) = c.loop-at.invariant in
     let e : at ≡ at - 1 + 1 = omega (arith, c.loop-at-test.true) in (
       omega (arith, le),
-      c.in_ok-step_back.ensures over under (subst (λ n. IsBack c.args.file.now c.args.all.now.edges c.args.way.now.nodes over under n c.loop-at.walk) e back),
+      c.in-Ok.ensures over under (subst (λ n. IsBack c.args.file.now c.args.all.now.edges c.args.way.now.nodes over under n c.loop-at.walk) e back),
     )

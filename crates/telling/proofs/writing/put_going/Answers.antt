@@ -4,5 +4,4 @@ use Rattle.telling.proofs.writing.put_going.Goals as goal
 
 pub returns : goal.returns
 returns g c =
-    puts_as (puts_then c.put.ensures (puts_then c.put_u32_behind.ensures (puts_then c.put_u32_behind-2.ensures (puts_then c.put_byte.ensures
-    (puts_then (puts_as c.put-2.ensures c.going_word.ensures) c.put_byte-2.ensures))))) (simp append_assoc)
+    puts_as (puts_then c.put.ensures (puts_then c.put_u32_behind.ensures (puts_then c.put_u32_behind-2.ensures (puts_as c.put-2.ensures c.going_end.ensures)))) (simp append_assoc)

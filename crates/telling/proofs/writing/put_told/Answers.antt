@@ -1,5 +1,6 @@
 use Rattle.std.proofs.Common.{sym, ap, ap₂}
 use Rattle.tor_io.proofs.Putting.{puts_as, puts_then}
+use Rattle.result_text.specs.declared.line.Version.TheVariants as version
 use Rattle.why_lines.specs.WalkText.{steps_text}
 use Rattle.telling.specs.ToldText.{whys_text, told_text}
 use Rattle.telling.proofs.writing.put_told.Goals as goal
@@ -8,13 +9,13 @@ pub returns-in-Forced : goal.returns-in-Forced
 returns-in-Forced g c =
     let file = c.args.file.now in
     let whys = puts_as c.put_whys.ensures (ap (whys_text file) c.as_slice.ensures) in
-    puts_as (puts_then c.put_edge.ensures whys) (ap (told_text file) (sym c.in-Forced.is))
+    puts_as (puts_then (c.put_edge.ensures version.Two) whys) (ap (told_text file) (sym c.in-Forced.is))
 
 pub returns-in-Open : goal.returns-in-Open
 returns-in-Open g c =
     let file = c.args.file.now in
     let steps = puts_as c.put_steps.ensures (ap₂ (λ ases links. steps_text file ases links) c.as_slice-in-Open.ensures c.as_slice-in-Open-2.ensures) in
-    puts_as (puts_then (puts_then (puts_then c.put_edge-in-Open.ensures c.put_pair.ensures) steps) c.put_free.ensures) (ap (told_text file) (sym c.in-Open.is))
+    puts_as (puts_then (puts_then (puts_then (c.put_edge-in-Open.ensures version.Two) c.put_pair.ensures) steps) c.put.ensures) (ap (told_text file) (sym c.in-Open.is))
 
 pub returns-in-Peering : goal.returns-in-Peering
-returns-in-Peering g c = puts_as (puts_then c.put_edge-in-Peering.ensures c.put_free-in-Peering.ensures) (ap (told_text c.args.file.now) (sym c.in-Peering.is))
+returns-in-Peering g c = puts_as (puts_then (c.put_edge-in-Peering.ensures version.Two) c.put-in-Peering.ensures) (ap (told_text c.args.file.now) (sym c.in-Peering.is))

@@ -2,7 +2,7 @@ use Rattle.std.proofs.Common.{◌≡◌, ◌≤◌, map, take}
 use Rattle.relationships.specs.Relationship.{slopes}
 use Rattle.result_rules.specs.File.{its_labels}
 use Rattle.telling.specs.Told.{going_of}
-use Rattle.telling.proofs.goings.goings_of.Given as goal
+use Rattle.telling.proofs.goings.goings_along.Given as goal
 
 -- the steps so far go so
 abbrev pub invariant-loop-at : goal.invariant-loop-at
