@@ -1,11 +1,14 @@
 -- What clap's clauses say of a command.
-use Rattle.std.proofs.Common.{◌≡◌, ◌≢◌, List, [], ◌∷◌, map, refl, ap, ap₂, sym, inl, inr}
-use Rattle.std.specs.Prelude.{Option, None}
+use Rattle.std.proofs.Common.{◌≡◌, ◌≢◌, ◌∙◌, List, [], ◌∷◌, map, refl, ap, ap₂, sym, inl, inr, IfOk, IfErr}
+use Rattle.std.proofs.lemmas.Result.{IfOk-weaker, IfErr-weaker}
+use Rattle.std.specs.Prelude.{Option, Some, None, Result}
 use Rattle.clap.specs.Words.{App, Kinds, HasKind, Row, Text, fault_of, kind_of, matches_of}
 use Rattle.clap.specs.declared.error.Error.{Error}
 use Rattle.clap.specs.declared.error.kind.ErrorKind.TheVariants as kind
 use Rattle.clap.proofs.OnLiterals.{clap_on_literals}
 use Rattle.tor_words.specs.Given.{unless_fault}
+use Rattle.tor_words.specs.declared.refused.WordsRefused.{WordsRefused}
+use Rattle.tor_words.specs.Refused.{IsUsage}
 use Rattle.tor_words.specs.Matching.{IsPlain, IsTaken}
 use Rattle.tor_words.specs.TorCommand.{tor_command}
 use Rattle.tor_words.specs.TorcheckCommand.{torcheck_command}
@@ -52,6 +55,18 @@ faulted (k ∷ kinds) e fails other = λ same. cc
 pub given-taken : {X : Type 0} (command : App) (read : List Row → Option X) (words : List Text) (rows : List Row) → IsTaken command words rows
     → unless_fault (fault_of command words) (read (matches_of command words)) ≡ read rows
 given-taken command read words rows taken = ap₂ (λ k r. unless_fault k (read r)) taken.faultless (sym taken.found)
+
+-- so what the rows give is what the words give
+pub given-ok : {X E : Type 0} (command : App) (read : List Row → Option X) (words : List Text) (rows : List Row) (result : Result X E) → IsTaken command words rows
+    → IfOk result (λ s. read rows ≡ Some s) → IfOk result (λ s. unless_fault (fault_of command words) (read (matches_of command words)) ≡ Some s)
+given-ok command read words rows result taken held = IfOk-weaker result _ _ (λ s is. given-taken command read words rows taken ∙ is) held
+
+-- and where they give nothing, the words give nothing
+pub given-err : {X : Type 0} (command : App) (read : List Row → Option X) (words : List Text) (rows : List Row) (result : Result X WordsRefused)
+    → IsTaken command words rows → IfErr result (λ e. IsUsage e → read rows ≡ None)
+    → IfErr result (λ e. IsUsage e → unless_fault (fault_of command words) (read (matches_of command words)) ≡ None)
+given-err command read words rows result taken held =
+    IfErr-weaker result _ _ (λ e is usage. given-taken command read words rows taken ∙ is usage) held
 
 -- one that refuses them gives nothing
 pub given-refused : {X : Type 0} (kinds : Kinds) (settings : Option X) → kinds ≢ [] → unless_fault kinds settings ≡ None

@@ -39,7 +39,10 @@ fn check_settings_in(alloc: Global, matches: &ArgMatches) -> Result<CheckSetting
             result: name,
             dumps,
         }),
-        Err(_) => Err(WordsRefused::NoMemory),
+        Err(_) => {
+            drop(name);
+            Err(WordsRefused::NoMemory)
+        }
     }
 }
 
@@ -51,7 +54,11 @@ pub fn check_settings_of(alloc: Global, words: &List<Name>) -> Result<CheckSetti
     ensures text { IfErr result SaysUsage }
 {
     match matches_of(alloc, check_command(alloc), words) {
-        Ok(matches) => check_settings_in(alloc, &matches),
+        Ok(matches) => {
+            let settings = check_settings_in(alloc, &matches);
+            drop(matches);
+            settings
+        }
         Err(refused) => Err(refused),
     }
 }

@@ -1,6 +1,6 @@
 //! Commands that are made of tables.
-ghost use Rattle.std.specs.Prelude.{◌≡◌, IfOk, false, map};
-ghost use Rattle.clap.specs.Words.{app_of, rule_of};
+ghost use Rattle.std.specs.Prelude.{◌≡◌, IfOk, Some, false, map};
+ghost use Rattle.clap.specs.Words.{app_of, new_rule, rule_of};
 ghost use Rattle.tor_words.specs.Rules.{rule_for, with_rules, command_of};
 
 use clap::builder::ValueParser;
@@ -21,27 +21,41 @@ pub(crate) enum Entry {
     Rest(&'static str, &'static str),
 }
 
+// What clap has to know of an option.
+fn option_for<'a>(
+    alloc: Global,
+    name: &'static str,
+    action: ArgAction,
+    help: &'static str,
+) -> Arg<'a>
+    ensures rule { rule_of result ≡ record (new_rule name.now) { long = Some name.now; action = Some action } }
+    ensures local { result.global ≡ false }
+{
+    Arg::new(alloc, name).long(name).action(action).help(help)
+}
+
+// What clap has to know of an operand.
+fn operand_for<'a>(alloc: Global, name: &'static str, help: &'static str) -> Arg<'a>
+    ensures rule { rule_of result ≡ new_rule name.now }
+    ensures local { result.global ≡ false }
+{
+    Arg::new(alloc, name).help(help)
+}
+
 // What clap has to know of an entry.
 fn arg_for<'a>(alloc: Global, entry: &Entry) -> Arg<'a>
     ensures rule { rule_of result ≡ rule_for entry.now }
     ensures local { result.global ≡ false }
 {
     match *entry {
-        Entry::Flag(name, help) => Arg::new(alloc, name)
-            .long(name)
-            .action(ArgAction::SetTrue)
-            .help(help),
-        Entry::Choice(name, help) => Arg::new(alloc, name)
-            .long(name)
-            .action(ArgAction::Set)
-            .help(help),
-        Entry::Number(name, low, high, help) => Arg::new(alloc, name)
-            .long(name)
-            .action(ArgAction::Set)
-            .help(help)
-            .value_parser(ValueParser::Unsigned(low, high)),
-        Entry::Needed(name, help) => Arg::new(alloc, name).required(true).help(help),
-        Entry::Rest(name, help) => Arg::new(alloc, name).num_args(1..).help(help),
+        Entry::Flag(name, help) => option_for(alloc, name, ArgAction::SetTrue, help),
+        Entry::Choice(name, help) => option_for(alloc, name, ArgAction::Set, help),
+        Entry::Number(name, low, high, help) => {
+            let parser = ValueParser::Unsigned(low, high);
+            option_for(alloc, name, ArgAction::Set, help).value_parser(parser)
+        }
+        Entry::Needed(name, help) => operand_for(alloc, name, help).required(true),
+        Entry::Rest(name, help) => operand_for(alloc, name, help).num_args(1..),
     }
 }
 

@@ -52,14 +52,19 @@ fn grade_settings_in(alloc: Global, matches: &ArgMatches) -> Result<GradeSetting
         return Err(WordsRefused::NoMemory);
     };
     if dumps.is_empty() {
+        drop(dumps);
         return Err(usage(alloc, "no dump is named\n"));
     }
     let Some(cone) = cone_in(first(matches, "cone")) else {
+        drop(dumps);
         return Err(usage(alloc, "--cone takes a number from 0 to 4294967295\n"));
     };
     match Name::from_text(alloc, text) {
         Ok(rel) => Ok(GradeSettings { rel, cone, dumps }),
-        Err(_) => Err(WordsRefused::NoMemory),
+        Err(_) => {
+            drop(dumps);
+            Err(WordsRefused::NoMemory)
+        }
     }
 }
 
@@ -72,7 +77,11 @@ pub fn grade_settings_of(alloc: Global, words: &List<Name>) -> Result<GradeSetti
     ensures named { IfOk result (λ s. 0 < length s.dumps) }
 {
     match matches_of(alloc, grade_command(alloc), words) {
-        Ok(matches) => grade_settings_in(alloc, &matches),
+        Ok(matches) => {
+            let settings = grade_settings_in(alloc, &matches);
+            drop(matches);
+            settings
+        }
         Err(refused) => Err(refused),
     }
 }

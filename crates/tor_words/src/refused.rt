@@ -1,5 +1,5 @@
 //! Why words are refused.
-ghost use Rattle.std.specs.Prelude.{◌≢◌, IfOk, OnOk};
+ghost use Rattle.std.specs.Prelude.{◌≡◌, ◌≢◌, [], OnOk};
 ghost use Rattle.clap.specs.Words.{kind_of};
 ghost use Rattle.tor_words.specs.Refused.{IsUsage, SaysUsage, HasUsageLine};
 
@@ -33,25 +33,29 @@ fn put_visible(lines: &mut List<u8>, octet: u8) -> Result<(), NoMemory>
     lines.extend_from_slice(&[b'\\', b'x', high, low])
 }
 
-// The first line, and what is to be said behind it.
-fn usage_text(alloc: Global, text: &str) -> Result<List<u8>, NoMemory>
-    ensures { IfOk result HasUsageLine }
+// Puts the first line, and what is to be said behind it.
+fn put_usage(lines: &mut List<u8>, text: &str) -> Result<(), NoMemory>
+    requires { lines.old ≡ [] }
+    ensures { OnOk result (HasUsageLine lines.new) }
 {
-    let mut lines = List::new(alloc);
     lines.extend_from_slice(b"usage\n")?;
     for octet in text.as_bytes() {
-        put_visible(&mut lines, *octet)?;
+        put_visible(lines, *octet)?;
     }
-    Ok(lines)
+    Ok(())
 }
 
 /// The refusal that says this text behind its first line, unless memory runs out.
 pub(crate) fn usage(alloc: Global, text: &str) -> WordsRefused
     ensures { SaysUsage result }
 {
-    match usage_text(alloc, text) {
-        Ok(lines) => WordsRefused::Usage(lines),
-        Err(NoMemory) => WordsRefused::NoMemory,
+    let mut lines = List::new(alloc);
+    match put_usage(&mut lines, text) {
+        Ok(()) => WordsRefused::Usage(lines),
+        Err(NoMemory) => {
+            drop(lines);
+            WordsRefused::NoMemory
+        }
     }
 }
 

@@ -1,9 +1,9 @@
 //! The settings of a run.
-ghost use Rattle.std.specs.Prelude.{◌≡◌, ◌≤◌, ◌++◌, ◌∷◌, [], OnOk, IfOk, IfErr, OnErr, Some, None, map, option_map, codes};
+ghost use Rattle.std.specs.Prelude.{◌≡◌, ◌≤◌, ◌++◌, ◌∷◌, [], Ok, IsErr, OnOk, IfOk, IfErr, OnErr, Some, None, map, option_map, codes, List};
 ghost use Rattle.clap.specs.Words.{found_of, rows_of, first_of};
 ghost use Rattle.tor_arena.specs.Limits.{max_paths, max_ratio};
 ghost use Rattle.tor_words.specs.Given.{settings_in, settings_given, names_in, has_flag, has_option, mode_in, of_sample, of_result};
-ghost use Rattle.tor_words.specs.Given.{of_earlier, source_of, source_in, dumps_of, may_have_given, given_for, number_or, sets_or_cut};
+ghost use Rattle.tor_words.specs.Given.{alone, asked_in, with_asked, of_dumps, of_earlier, source_in, dumps_of, may_have_given, given_for, number_or, sets_or_cut};
 ghost use Rattle.tor_words.specs.Given.{HasDumps};
 ghost use Rattle.tor_words.specs.Refused.{IsUsage, SaysUsage};
 
@@ -120,7 +120,10 @@ pub(crate) fn names_of(alloc: Global, texts: &[&str]) -> Result<List<Name>, NoMe
 {
     let mut names = List::new(alloc);
     for text in texts {
-        add_copy(alloc, &mut names, text)?;
+        if let Err(NoMemory) = add_copy(alloc, &mut names, text) {
+            drop(names);
+            return Err(NoMemory);
+        }
     }
     Ok(names)
 }
@@ -149,28 +152,40 @@ fn has_option(matches: &ArgMatches, name: &str) -> bool
     first(matches, name).is_some()
 }
 
-// What is written: the result, or what is asked for in its place; or why nothing.
-fn mode_in(matches: &ArgMatches) -> Result<Mode, &'static str>
-    ensures ok { IfOk result (λ mode. mode_in (rows_of (found_of matches.now)) ≡ Some mode) }
-    ensures err { OnErr result (mode_in (rows_of (found_of matches.now)) ≡ None) }
+// One thing at most that is asked for, if it is no more than one: this mode where it is asked for, and the other things.
+fn with_asked(asked: bool, mode: Mode, others: Option<Option<Mode>>) -> Option<Option<Mode>>
+    ensures { (modes : List Mode) → others ≡ alone modes → result ≡ alone (with_asked asked mode modes) }
 {
-    let list = has_flag(matches, "list");
-    let survey = has_flag(matches, "survey");
-    let ties = has_flag(matches, "ties");
-    let serial = has_flag(matches, "serial1");
-    let sample = has_option(matches, "sample");
-    let migrate = has_flag(matches, "migrate");
-    let resume = has_option(matches, "resume");
-    match (list, survey, ties, serial, sample, migrate, resume) {
-        (false, false, false, false, false, false, false) => Ok(Mode::Labels),
-        (true, false, false, false, false, false, false) => Ok(Mode::Listing),
-        (false, true, false, false, false, false, false) => Ok(Mode::Survey),
-        (false, false, true, false, false, false, false) => Ok(Mode::Ties),
-        (false, false, false, true, false, false, false) => Ok(Mode::Serial),
-        (false, false, false, false, true, false, false) => Ok(Mode::Summary),
-        (false, false, false, false, false, true, false) => Ok(Mode::Migrate),
-        (false, false, false, false, false, false, true) => Ok(Mode::Resume),
-        _ => Err(ONE_ALONE),
+    if !asked {
+        return others;
+    }
+    match others {
+        Some(None) => Some(Some(mode)),
+        _ => None,
+    }
+}
+
+// What is asked for in place of the result, if it is one thing at most.
+fn alone_in(matches: &ArgMatches) -> Option<Option<Mode>>
+    ensures { result ≡ alone (asked_in (rows_of (found_of matches.now))) }
+{
+    let asked = with_asked(has_option(matches, "resume"), Mode::Resume, Some(None));
+    let asked = with_asked(has_flag(matches, "migrate"), Mode::Migrate, asked);
+    let asked = with_asked(has_option(matches, "sample"), Mode::Summary, asked);
+    let asked = with_asked(has_flag(matches, "serial1"), Mode::Serial, asked);
+    let asked = with_asked(has_flag(matches, "ties"), Mode::Ties, asked);
+    let asked = with_asked(has_flag(matches, "survey"), Mode::Survey, asked);
+    with_asked(has_flag(matches, "list"), Mode::Listing, asked)
+}
+
+// What is written: the result, or what is asked for in its place, if it is one thing at most.
+fn mode_in(matches: &ArgMatches) -> Option<Mode>
+    ensures { result ≡ mode_in (rows_of (found_of matches.now)) }
+{
+    match alone_in(matches) {
+        Some(Some(mode)) => Some(mode),
+        Some(None) => Some(Mode::Labels),
+        None => None,
     }
 }
 
@@ -186,7 +201,9 @@ fn choices_in(matches: &ArgMatches) -> Result<Choices, &'static str>
     ensures most_paths { IfOk result (λ c. c.max_paths ≤ max_paths) }
     ensures most_ratio { IfOk result (λ c. c.ratio ≤ max_ratio) }
 {
-    let mode = mode_in(matches)?;
+    let Some(mode) = mode_in(matches) else {
+        return Err(ONE_ALONE);
+    };
     let Some(sets) = sets_or_cut(first(matches, "as-sets")) else {
         return Err("--as-sets takes cut or skip\n");
     };
@@ -237,47 +254,44 @@ fn migrated(names: &mut List<Name>) -> Result<Source, &'static str>
 }
 
 // The earlier result, beside which dumps are named; or why none.
-fn resumed(earlier: Option<Name>, names: &[Name]) -> Result<Source, &'static str>
-    ensures ok { IfOk result (λ source. of_earlier earlier names.now ≡ Some source) }
-    ensures err { OnErr result (of_earlier earlier names.now ≡ None) }
+fn resumed(alloc: Global, earlier: Option<&str>, names: &[Name]) -> Result<Source, WordsRefused>
+    ensures ok { IfOk result (λ source. of_earlier (option_map (λ s. s.now) earlier.entry) names.now ≡ Some source) }
+    ensures err { IfErr result (λ e. IsUsage e → of_earlier (option_map (λ s. s.now) earlier.entry) names.now ≡ None) }
+    ensures text { IfErr result SaysUsage }
 {
-    match (earlier, names.is_empty()) {
-        (Some(name), false) => Ok(Source::Earlier(name)),
-        _ => Err("no dump is named\n"),
+    match (earlier, names) {
+        (Some(text), [_, ..]) => match Name::from_text(alloc, text) {
+            Ok(name) => Ok(Source::Earlier(name)),
+            Err(_) => Err(WordsRefused::NoMemory),
+        },
+        _ => Err(usage(alloc, "no dump is named\n")),
     }
 }
 
-// What is read for a mode, or why nothing. Only the names of dumps are left.
-fn source_of(
-    mode: Mode,
-    sample: Option<&str>,
-    earlier: Option<Name>,
-    names: &mut List<Name>,
-) -> Result<Source, &'static str>
-    ensures ok { IfOk result (λ source. source_of mode (option_map (λ s. s.now) sample.entry) earlier names.old ≡ Some source) }
-    ensures err { OnErr result (source_of mode (option_map (λ s. s.now) sample.entry) earlier names.old ≡ None) }
-    ensures left { IfOk result (λ source. names.new ≡ dumps_of source names.old) }
+// The files of dumps, or why none.
+fn files_of(names: &[Name]) -> Result<Source, &'static str>
+    ensures ok { IfOk result (λ source. of_dumps names.now ≡ Some source) }
+    ensures err { OnErr result (of_dumps names.now ≡ None) }
+    ensures left { IfOk result (λ source. names.now ≡ dumps_of source names.now) }
 {
-    match mode {
-        Mode::Summary => sampled(sample, names.as_slice()),
-        Mode::Migrate => migrated(names),
-        Mode::Resume => resumed(earlier, names.as_slice()),
-        Mode::Labels | Mode::Listing | Mode::Survey | Mode::Ties | Mode::Serial => {
-            if names.is_empty() {
-                return Err("no dump is named\n");
-            }
-            Ok(Source::Files)
-        }
+    match names {
+        [] => Err("no dump is named\n"),
+        _ => Ok(Source::Files),
     }
 }
 
-// A copy of a text, if there is one.
-fn name_of(alloc: Global, text: Option<&str>) -> Result<Option<Name>, NoMemory>
-    ensures { IfOk result (λ name. name ≡ option_map (λ s. s.now) text.entry) }
+// A source, or the refusal that says why there is none.
+fn source_or_usage(
+    alloc: Global,
+    source: Result<Source, &'static str>,
+) -> Result<Source, WordsRefused>
+    ensures ok { IfOk result (λ it. source.entry ≡ Ok it) }
+    ensures err { IfErr result (λ e. IsErr source.entry) }
+    ensures text { IfErr result SaysUsage }
 {
-    match text {
-        None => Ok(None),
-        Some(text) => Ok(Some(Name::from_text(alloc, text)?)),
+    match source {
+        Ok(source) => Ok(source),
+        Err(why) => Err(usage(alloc, why)),
     }
 }
 
@@ -293,12 +307,14 @@ fn source_in(
     ensures text { IfErr result SaysUsage }
     ensures left { IfOk result (λ source. names.new ≡ dumps_of source names.old) }
 {
-    let Ok(earlier) = name_of(alloc, first(matches, "resume")) else {
-        return Err(WordsRefused::NoMemory);
-    };
-    match source_of(mode, first(matches, "sample"), earlier, names) {
-        Ok(source) => Ok(source),
-        Err(why) => Err(usage(alloc, why)),
+    let slice = names.as_slice();
+    match mode {
+        Mode::Summary => source_or_usage(alloc, sampled(first(matches, "sample"), slice)),
+        Mode::Migrate => source_or_usage(alloc, migrated(names)),
+        Mode::Resume => resumed(alloc, first(matches, "resume"), slice),
+        Mode::Labels | Mode::Listing | Mode::Survey | Mode::Ties | Mode::Serial => {
+            source_or_usage(alloc, files_of(slice))
+        }
     }
 }
 
@@ -372,7 +388,11 @@ pub fn settings_of(alloc: Global, words: &List<Name>) -> Result<Settings, WordsR
     ensures named { IfOk result (λ s. HasDumps s.source s.dumps) }
 {
     match matches_of(alloc, command(alloc), words) {
-        Ok(matches) => settings_in(alloc, &matches),
+        Ok(matches) => {
+            let settings = settings_in(alloc, &matches);
+            drop(matches);
+            settings
+        }
         Err(refused) => Err(refused),
     }
 }

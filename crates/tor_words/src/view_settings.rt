@@ -98,7 +98,11 @@ pub fn view_settings_of(alloc: Global, words: &List<Name>) -> Result<ViewSetting
     ensures few { IfOk result AreFew }
 {
     match matches_of(alloc, view_command(alloc), words) {
-        Ok(matches) => view_settings_in(alloc, &matches),
+        Ok(matches) => {
+            let settings = view_settings_in(alloc, &matches);
+            drop(matches);
+            settings
+        }
         Err(refused) => Err(refused),
     }
 }

@@ -110,7 +110,11 @@ pub fn why_settings_of(alloc: Global, words: &List<Name>) -> Result<WhySettings,
     ensures text { IfErr result SaysUsage }
 {
     match matches_of(alloc, why_command(alloc), words) {
-        Ok(matches) => why_settings_in(alloc, &matches),
+        Ok(matches) => {
+            let settings = why_settings_in(alloc, &matches);
+            drop(matches);
+            settings
+        }
         Err(refused) => Err(refused),
     }
 }

@@ -15,7 +15,12 @@ pub fn words_of(alloc: Global, mut args: env::Args) -> Result<List<Name>, NoMemo
     let mut words = List::new(alloc);
     let _program = args.next();
     for arg in args {
-        add_copy(alloc, &mut words, arg.as_str())?;
+        let added = add_copy(alloc, &mut words, arg.as_str());
+        drop(arg);
+        if let Err(NoMemory) = added {
+            drop(words);
+            return Err(NoMemory);
+        }
     }
     Ok(words)
 }

@@ -1,5 +1,5 @@
 use Rattle.tor_words.specs.Refused.{HasUsageLine}
-use Rattle.tor_words.proofs.refused.usage_text.Given as goal
+use Rattle.tor_words.proofs.refused.put_usage.Given as goal
 
 abbrev pub invariant-loop-octet : goal.invariant-loop-octet
 invariant-loop-octet l = HasUsageLine l.lines
