@@ -40,7 +40,9 @@ fn write_verdict<O: Sink>(alloc: Global, verdict: Verdict, out: &mut O) -> Answe
     let Ok(text) = verdict_text(alloc, verdict) else {
         return Answer::plain(Status::NoMemory);
     };
-    match write_all(out, text.as_bytes()) {
+    let put = write_all(out, text.as_bytes());
+    drop(text);
+    match put {
         Ok(()) => Answer::plain(status),
         Err(Failed) => Answer::plain(Status::WriteFault),
     }
@@ -160,5 +162,7 @@ pub fn check<H: Shelf, O: Sink, E: Sink>(
     acceptance_law();
     let answer = answer(alloc, keys, words, shelf, out);
     let _ = write_all(err, answer.note());
-    answer.status
+    let status = answer.status;
+    drop(answer);
+    status
 }

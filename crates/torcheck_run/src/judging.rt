@@ -67,8 +67,15 @@ fn judged_by_dumps<H: Shelf>(
     }
     let mut taken = nothing_taken(alloc, keys, MAX_PATHS);
     match read_dumps(alloc, shelf, dumps, file.sets, &mut taken) {
-        Ok(()) => Ok(check_against(file, &taken.table, &taken.counts)),
-        Err(stopped) => Err(stopped),
+        Ok(()) => {
+            let verdict = check_against(file, &taken.table, &taken.counts);
+            drop(taken);
+            Ok(verdict)
+        }
+        Err(stopped) => {
+            drop(taken);
+            Err(stopped)
+        }
     }
 }
 
@@ -92,10 +99,14 @@ fn judge<H: Shelf>(
 {
     match ruling {
         Ruling::Broken { line, rule } => Ok(Verdict::No { line, rule }),
-        Ruling::Met(file) => match judged_by_dumps(alloc, keys, shelf, &file, dumps) {
-            Ok(verdict) => Ok(verdict),
-            Err(stopped) => Err(Refusal::Dumps(stopped)),
-        },
+        Ruling::Met(file) => {
+            let judged = judged_by_dumps(alloc, keys, shelf, &file, dumps);
+            drop(file);
+            match judged {
+                Ok(verdict) => Ok(verdict),
+                Err(stopped) => Err(Refusal::Dumps(stopped)),
+            }
+        }
     }
 }
 
@@ -148,7 +159,11 @@ pub(crate) fn verdict_of<H: Shelf>(
     ensures reads_shelf { ReadsShelf H.Shelf (IsErrAnd result IsFailedRead) shelf.old shelf.new }
 {
     match check_settings_of(alloc, words) {
-        Ok(settings) => judge_file(alloc, keys, &settings, shelf),
+        Ok(settings) => {
+            let verdict = judge_file(alloc, keys, &settings, shelf);
+            drop(settings);
+            verdict
+        }
         Err(refused) => Err(Unjudged::Refused(Refusal::Words(refused))),
     }
 }

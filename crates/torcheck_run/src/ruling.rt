@@ -39,7 +39,10 @@ fn ruling_by(verdict: Verdict, file: ResultFile) -> Ruling
 {
     match verdict {
         Verdict::Yes => Ruling::Met(file),
-        Verdict::No { line, rule } => Ruling::Broken { line, rule },
+        Verdict::No { line, rule } => {
+            drop(file);
+            Ruling::Broken { line, rule }
+        }
     }
 }
 
@@ -49,8 +52,13 @@ fn ruling_of(alloc: Global, keys: Keys, file: ResultFile) -> Result<Ruling, NoMe
     ensures rules { IfOk result (IsRulingOf file) }
     ensures few { IfOk result IsOfFewLines }
 {
-    let verdict = check_file(alloc, keys, &file)?;
-    Ok(ruling_by(verdict, file))
+    match check_file(alloc, keys, &file) {
+        Ok(verdict) => Ok(ruling_by(verdict, file)),
+        Err(NoMemory) => {
+            drop(file);
+            Err(NoMemory)
+        }
+    }
 }
 
 /// What the rules 0 to 10 say of the result file of this name. Failed: the open or a read failed. TooLong: it has more than 2^31 octets,

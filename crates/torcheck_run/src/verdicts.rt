@@ -20,8 +20,13 @@ fn no_text(alloc: Global, line: u64, rule: u8) -> Result<String, AllocError>
     ensures { IfOk result (λ text. string_bytes text ≡ no_text line rule) }
 {
     let mut text = format!(in alloc; "no|{line}|")?;
-    write!(text, "{rule}\n")?;
-    Ok(text)
+    match write!(text, "{rule}\n") {
+        Ok(()) => Ok(text),
+        Err(error) => {
+            drop(text);
+            Err(error)
+        }
+    }
 }
 
 /// The status of a run that has written this verdict.

@@ -15,4 +15,4 @@ returns-in-Ok-clause-verdict g c =
     let some : 0 < length dumps = search rules in
     let seen : IfSome known (λ files. seen_for file dumps files ≡ Ok taken) =
     subst (λ (t : Taken). IfSome known (λ files. seen_from file.sets 1 t dumps files ≡ Ok taken)) c.nothing_taken-taken.ensures c.in-Ok.ensures.read in
-    some_dumps known file dumps taken _ some seen c.check_against.ensures.verdict
+    some_dumps known file dumps taken _ some seen c.check_against-verdict.ensures.verdict
