@@ -1,6 +1,7 @@
 pub mod Accepting
 pub mod Answer
 pub mod Begun
+pub mod Counts
 pub mod First
 pub mod Grading
 pub mod Limits

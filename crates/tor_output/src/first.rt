@@ -33,7 +33,9 @@ fn parse_givens(alloc: Global, keys: Keys, bytes: List<u8>) -> Result<List<Given
     ensures once { IfOk result NameOnce }
     ensures few { IfOk result (λ givens. length givens ≤ length bytes) }
 {
-    parse_given(alloc, keys, bytes.as_slice())
+    let givens = parse_given(alloc, keys, bytes.as_slice());
+    drop(bytes);
+    givens
 }
 
 /// What the file of this name says is known.

@@ -159,8 +159,13 @@ fn summary_line(alloc: Global, file: &ResultFile) -> Result<List<u8>, NoMemory>
     ensures { IfOk result (λ line. line ≡ summary file.now ++ 10 ∷ []) }
 {
     let mut line = summary_text(alloc, &file.asides, &file.totals)?;
-    line.push('\n')?;
-    Ok(octets_of(line))
+    match line.push('\n') {
+        Ok(()) => Ok(octets_of(line)),
+        Err(_) => {
+            drop(line);
+            Err(NoMemory)
+        }
+    }
 }
 
 // The result of what the dumps gave.
@@ -179,8 +184,9 @@ fn faithful_result(
     let Taken {
         table,
         counts,
-        files: _,
+        files,
     } = taken;
+    drop(files);
     let head = ResultHead {
         sets: settings.sets,
         ratio: settings.ratio,

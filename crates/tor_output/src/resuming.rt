@@ -104,8 +104,9 @@ fn resumed_result(
     let Taken {
         table,
         counts,
-        files: _,
+        files,
     } = taken;
+    drop(files);
     result_resumed(alloc, keys, settings.ratio, earlier, table, counts)
 }
 

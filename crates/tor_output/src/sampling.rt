@@ -20,8 +20,15 @@ fn shelf_of(alloc: Global, seed: u64) -> Result<MemShelf, NoMemory>
 {
     let octets = sample(alloc, seed)?;
     let mut shelf = MemShelf::new(alloc);
-    shelf.put("sample", octets.as_slice())?;
-    Ok(shelf)
+    let put = shelf.put("sample", octets.as_slice());
+    drop(octets);
+    match put {
+        Ok(()) => Ok(shelf),
+        Err(NoMemory) => {
+            drop(shelf);
+            Err(NoMemory)
+        }
+    }
 }
 
 /// Takes in the routes of the sample of this number, which is dump 1. It touches no shelf, and no read fails.
@@ -43,7 +50,9 @@ pub(crate) fn read_sample(
             error: DumpError::NoMemory,
         });
     };
-    match read_dump(alloc, &mut shelf, "sample", 1, sets, taken) {
+    let read = read_dump(alloc, &mut shelf, "sample", 1, sets, taken);
+    drop(shelf);
+    match read {
         Ok(()) => Ok(()),
         Err(error) => Err(Stopped { dump: 1, error }),
     }
