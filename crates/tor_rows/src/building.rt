@@ -52,6 +52,10 @@ impl Building {
         Ok(())
     }
 
+    fn add_text(&mut self, text: &str) -> Result<(), Refused> {
+        Ok(self.octets.extend_from_slice(text.as_bytes())?)
+    }
+
     fn add_like(&mut self, name: &str) -> Result<(), Refused> {
         match self.files.find(name) {
             Some(octets) => Ok(self.octets.extend_from_slice(octets)?),
@@ -88,22 +92,22 @@ impl Building {
     }
 
     /// Takes a line of that kind, if it is one.
-    pub fn take(&mut self, alloc: Global, kind: &str, text: &str) -> Result<bool, Refused> {
-        match kind {
-            "octets" => put_octets(&mut self.octets, text)?,
-            "text" => put_line(&mut self.octets, text)?,
-            "text-part" => self.octets.extend_from_slice(text.as_bytes())?,
-            "peers" => self.add_peers()?,
-            "route" => self.add_routes(alloc, text)?,
-            "routes" => self.add_many_routes(alloc, text)?,
-            "v1" => put_v1(alloc, &mut self.octets, text)?,
-            "like" => self.add_like(text)?,
-            "instead" => self.edit(alloc, Edit::Instead, text)?,
-            "insert" => self.edit(alloc, Edit::Insert, text)?,
-            "remove" => self.edit(alloc, Edit::Remove, text)?,
-            "file" => self.put_built(alloc, text)?,
-            _ => return Ok(false),
-        }
-        Ok(true)
+    pub fn take(&mut self, alloc: Global, kind: &str, text: &str) -> Option<Result<(), Refused>> {
+        let taken = match kind {
+            "octets" => put_octets(&mut self.octets, text),
+            "text" => put_line(&mut self.octets, text),
+            "text-part" => self.add_text(text),
+            "peers" => self.add_peers(),
+            "route" => self.add_routes(alloc, text),
+            "routes" => self.add_many_routes(alloc, text),
+            "v1" => put_v1(alloc, &mut self.octets, text),
+            "like" => self.add_like(text),
+            "instead" => self.edit(alloc, Edit::Instead, text),
+            "insert" => self.edit(alloc, Edit::Insert, text),
+            "remove" => self.edit(alloc, Edit::Remove, text),
+            "file" => self.put_built(alloc, text),
+            _ => return None,
+        };
+        Some(taken)
     }
 }

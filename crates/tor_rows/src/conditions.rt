@@ -23,6 +23,12 @@ pub struct Conditions {
 /// The number of a call that no run makes, and more octets than any file has.
 const NEVER: u64 = 1_000_000_000;
 
+// Sets a number to the one that the text is.
+fn set(number: &mut u64, text: &str) -> Result<(), Refused> {
+    *number = number_of(text)?;
+    Ok(())
+}
+
 impl Conditions {
     /// Nothing fails, and calls take all.
     pub fn new() -> Conditions {
@@ -38,16 +44,19 @@ impl Conditions {
     }
 
     /// Takes a line of that kind, if it is one.
-    pub fn take(&mut self, kind: &str, text: &str) -> Result<bool, Refused> {
-        match kind {
-            "endless" => self.is_endless = true,
-            "octets-a-read" => self.read_octets = number_of(text)?,
-            "out-takes" => self.write_octets = number_of(text)?,
-            "read-fails-at" => self.failing_read = number_of(text)?,
-            "write-fails-at" => self.failing_write = number_of(text)?,
-            "note-fails-at" => self.failing_note = number_of(text)?,
-            _ => return Ok(false),
-        }
-        Ok(true)
+    pub fn take(&mut self, kind: &str, text: &str) -> Option<Result<(), Refused>> {
+        let taken = match kind {
+            "endless" => {
+                self.is_endless = true;
+                Ok(())
+            }
+            "octets-a-read" => set(&mut self.read_octets, text),
+            "out-takes" => set(&mut self.write_octets, text),
+            "read-fails-at" => set(&mut self.failing_read, text),
+            "write-fails-at" => set(&mut self.failing_write, text),
+            "note-fails-at" => set(&mut self.failing_note, text),
+            _ => return None,
+        };
+        Some(taken)
     }
 }

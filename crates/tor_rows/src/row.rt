@@ -193,18 +193,17 @@ impl Row {
         keys: Keys,
         kind: &str,
         text: &str,
-    ) -> Result<bool, Refused> {
+    ) -> Option<Result<(), Refused>> {
         if self.run.is_empty() {
-            return Ok(false);
+            return None;
         }
         match kind {
-            "failing-read" => self.fail_reads(alloc, keys, text)?,
-            "each-failing-write" => self.fail_writes(alloc, keys, text)?,
-            "cut-to" => self.cut_file(alloc, keys, text)?,
-            "out-like" => self.expect_like(text)?,
-            _ => return self.wanted.take(kind, text),
+            "failing-read" => Some(self.fail_reads(alloc, keys, text)),
+            "each-failing-write" => Some(self.fail_writes(alloc, keys, text)),
+            "cut-to" => Some(self.cut_file(alloc, keys, text)),
+            "out-like" => Some(self.expect_like(text)),
+            _ => self.wanted.take(kind, text),
         }
-        Ok(true)
     }
 
     fn begin(&mut self, alloc: Global, name: &str) -> Result<(), Refused> {
@@ -234,8 +233,11 @@ impl Row {
     // Takes a line that says nothing of the run above it.
     fn take_next(&mut self, alloc: Global, line: &str) -> Result<(), Refused> {
         let (kind, text) = line.split_once(' ').unwrap_or((line, ""));
-        if self.building.take(alloc, kind, text)? || self.conditions.take(kind, text)? {
-            return Ok(());
+        if let Some(taken) = self.building.take(alloc, kind, text) {
+            return taken;
+        }
+        if let Some(taken) = self.conditions.take(kind, text) {
+            return taken;
         }
         match kind {
             "row" => self.begin(alloc, text),
@@ -248,8 +250,11 @@ impl Row {
 
     fn take_line(&mut self, alloc: Global, keys: Keys, line: &str) -> Result<(), Refused> {
         let (kind, text) = line.split_once(' ').unwrap_or((line, ""));
-        if line.starts_with('#') || self.expect(alloc, keys, kind, text)? {
+        if line.starts_with('#') {
             return Ok(());
+        }
+        if let Some(taken) = self.expect(alloc, keys, kind, text) {
+            return taken;
         }
         self.settle(alloc, keys)?;
         self.take_next(alloc, line)

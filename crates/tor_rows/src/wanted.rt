@@ -16,6 +16,12 @@ pub struct Wanted {
     last_failing_read: u64,
 }
 
+// Sets a number to the one that the text is.
+fn set(number: &mut Option<u64>, text: &str) -> Result<(), Refused> {
+    *number = Some(number_of(text)?);
+    Ok(())
+}
+
 impl Wanted {
     /// Nothing is said yet.
     pub fn new(alloc: Global) -> Wanted {
@@ -30,17 +36,20 @@ impl Wanted {
     }
 
     /// Takes a line of that kind, if it is one.
-    pub fn take(&mut self, kind: &str, text: &str) -> Result<bool, Refused> {
-        match kind {
-            "status" => self.status = Some(number_of(text)?),
-            "out" => put_line(&mut self.out, text)?,
-            "out-part" => self.out.extend_from_slice(text.as_bytes())?,
-            "err" => put_line(&mut self.err, text)?,
-            "evidence-aside" => self.is_without_evidence = true,
-            "calls" => self.calls = Some(number_of(text)?),
-            _ => return Ok(false),
-        }
-        Ok(true)
+    pub fn take(&mut self, kind: &str, text: &str) -> Option<Result<(), Refused>> {
+        let taken = match kind {
+            "status" => set(&mut self.status, text),
+            "out" => put_line(&mut self.out, text),
+            "out-part" => self.add_out(text.as_bytes()),
+            "err" => put_line(&mut self.err, text),
+            "evidence-aside" => {
+                self.is_without_evidence = true;
+                Ok(())
+            }
+            "calls" => set(&mut self.calls, text),
+            _ => return None,
+        };
+        Some(taken)
     }
 
     /// How many calls on files the run makes, if that is said.
