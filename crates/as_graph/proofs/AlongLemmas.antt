@@ -1,7 +1,7 @@
 -- Paths that are read back from their steps, by the AS that a step of each place reaches.
-use Rattle.std.proofs.Common.{◌≡◌, ℕ, zero, suc, ◌+◌, ◌*◌, ◌<◌, List, [], ◌∷◌, ◌++◌, length, get_or, take, map, refl, sym, ap, ap₂, ◌∙◌, arith, All, slice_get, Some, set, append_assoc}
+use Rattle.std.proofs.Common.{◌≡◌, ℕ, zero, suc, ◌+◌, ◌*◌, ◌<◌, List, [], ◌∷◌, ◌++◌, length, get_or, take, map, refl, ap, ap₂, ◌∙◌, arith, All, slice_get, Some}
 use Rattle.std.proofs.lemmas.Option.{get_or_from_slice_get, slice_get_within}
-use Rattle.std.proofs.lemmas.List.{take_more, take_more_set, map-append}
+use Rattle.std.proofs.lemmas.List.{take_more}
 use Rattle.std.proofs.lemmas.List.Elements.{All-head, All-tail}
 use Rattle.relationships.specs.declared.label.End.{End}
 use Rattle.relationships.specs.Relationship.{opposite}
@@ -52,14 +52,3 @@ along_edges es (step ∷ steps) h =
     let first : as_along (reached_by es) (record { edge = step.edge; left = opposite step.left }) ≡ left_as es step =
     as_reached es step.edge (opposite step.left) there ∙ ap (as_at (get_or es step.edge (0, 0))) (opposite-twice step.left) in
     ap₂ (λ (a : ℕ) (l : List ℕ). a ∷ l) first (ases_reached es (step ∷ steps) h)
-
--- an AS more
-pub along_more : (reached : List ℕ) (steps : List Step) (first old new : List ℕ) (at : ℕ) (d : Step) → at < length steps → at + 1 < length old →
-    take (at + 1) old ≡ first ++ map (as_along reached) (take at steps) → new ≡ set old (at + 1) (as_along reached (get_or steps at d)) →
-    take (at + 1 + 1) new ≡ first ++ map (as_along reached) (take (at + 1) steps)
-along_more reached steps first old new at d lt room h is =
-    let a = as_along reached (get_or steps at d) in
-    let more : map (as_along reached) (take (at + 1) steps) ≡ map (as_along reached) (take at steps) ++ a ∷ [] =
-    ap (map (as_along reached)) (take_more steps at d lt) ∙ map-append (as_along reached) (take at steps) (get_or steps at d ∷ []) in
-    ap (take (at + 1 + 1)) is ∙ take_more_set old (at + 1) a room ∙ ap (λ (l : List ℕ). l ++ a ∷ []) h ∙
-    append_assoc first (map (as_along reached) (take at steps)) (a ∷ []) ∙ sym (ap (λ (l : List ℕ). first ++ l) more)

@@ -82,6 +82,12 @@ abbrev pub path_along : List ℕ → List Step → List ℕ
 path_along ases [] = []
 path_along ases (step ∷ steps) = as_along ases (record { edge = step.edge; left = opposite step.left }) ∷ map (as_along ases) (step ∷ steps)
 
+-- these ASes, parted by these bounds, are the first paths
+pub record ArePathsBetween (paths : List (List ℕ)) (place : ℕ) (ases bounds : List ℕ) : Type 0 where
+  pub many : length bounds ≡ place + 1
+  pub parted : ArePartedBy bounds (length ases)
+  pub rows : rows_between ases bounds ≡ take place paths
+
 -- ---- a graph that is built path by path
 
 -- the edges and the steps of the first paths are there

@@ -15,7 +15,7 @@ use crate::step::Step;
 use crate::step_rows::{StepRows, push_bound};
 use relationships::{End, Given};
 use std::alloc::Global;
-use tor_arena::{EdgeId, Index, Keys, NoMemory, PathId, RowRefused, Rows, reserve};
+use tor_arena::{EdgeId, Index, Keys, NoMemory, PathId, Rows, reserve};
 
 /// The graph of the paths. Each has to have at least two ASes, all distinct, and there may be at most 2^23 of them, with at most
 /// 2^26 numbers in sum. Its tables are made with the keys. The only error is that memory ran out.
@@ -47,7 +47,8 @@ fn rows_of(
     let mut steps = Vec::new(alloc);
     let mut bounds = Vec::new(alloc);
     // one further than there are, which `add_steps` makes sure of
-    reserve(&mut steps, steps_on(paths).saturating_add(1))?;
+    let further = paths.item_count().saturating_add(1);
+    reserve(&mut steps, further.saturating_sub(paths.len()))?;
     reserve(&mut bounds, paths.len().saturating_add(1))?;
     add_paths(paths, edges, &mut steps, &mut bounds)?;
     Ok(StepRows { steps, bounds })
@@ -139,29 +140,6 @@ fn step_on(edge: EdgeId, from: u32, to: u32) -> Step
 {
     let left = if from < to { End::Low } else { End::High };
     Step::new(edge, left)
-}
-
-/// How many steps the paths have in sum, for which memory is taken at once.
-fn steps_on(paths: &Rows<PathId, u32>) -> usize {
-    let mut sum = 0usize;
-    for place in 0..paths.len() {
-        let path = PathId::from_place(place).unwrap();
-        sum = sum.wrapping_add(paths.row(path).len());
-    }
-    sum.saturating_sub(paths.len())
-}
-
-/// Adds a row, where there are not too many.
-#[inline(always)]
-pub(crate) fn add_row<T: Copy>(rows: &mut Rows<PathId, T>, row: &[T]) -> Result<(), NoMemory>
-    requires { length rows.old < most_places }
-    ensures { OnOk result (rows.new ≡ rows.old ++ row.now ∷ []) }
-{
-    match rows.push_row(row) {
-        Ok(_) => Ok(()),
-        Err(RowRefused::NoMemory) => Err(NoMemory),
-        Err(RowRefused::Full) => unreachable!(),
-    }
 }
 
 /// Adds the edges of a path, and its steps behind others.

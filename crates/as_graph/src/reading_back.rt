@@ -1,35 +1,25 @@
 //! The paths of a graph, read back from their steps.
-ghost use Rattle.std.specs.Prelude.{◌≡◌, ◌+◌, ◌*◌, ◌<◌, ◌≤◌, [], All, length, take, OnOk, IfOk};
+ghost use Rattle.std.specs.Prelude.{◌≡◌, ◌+◌, ◌*◌, ◌<◌, ◌≤◌, ◌++◌, [], All, length, take, OnOk, IfOk};
 ghost use Rattle.relationships.specs.Graph.{edges};
-ghost use Rattle.as_graph.specs.Inside.{reached_by, path_along};
+ghost use Rattle.as_graph.specs.Inside.{reached_by, path_along, ArePathsBetween};
 
-use crate::building::add_row;
 use crate::graph::AsGraph;
 use crate::step::Step;
+use crate::step_rows::push_bound;
 use std::alloc::Global;
-use tor_arena::{Index, NoMemory, PathId, Rows};
+use tor_arena::{Index, NoMemory, PathId, Rows, reserve};
 
-/// Puts the ASes along some steps, at least one, into the first places of a buffer that has room for them, where the AS is known that a
-/// step of each place reaches: the one from which the first step goes, and for each step the one that it reaches.
-fn put_ases(reached: &[u32], steps: &[Step], ases: &mut Vec<u32>)
+/// Puts the ASes along some steps, at least one, behind others, where the AS is known that a step of each place reaches: the one from
+/// which the first step goes, and for each step the one that it reaches.
+fn put_ases(reached: &[u32], steps: &[Step], ases: &mut Vec<u32>) -> Result<(), NoMemory>
     requires some { 0 < length steps.now }
     requires inside { All (λ step. step.edge * 2 + 1 < length reached.now) steps.now }
-    requires room { length steps.now < length ases.old.items }
-    ensures length { length ases.new.items ≡ length ases.old.items }
-    ensures ases { take (length steps.now + 1) ases.new.items ≡ path_along reached.now steps.now }
+    ensures { OnOk result (ases.new.items ≡ ases.old.items ++ path_along reached.now steps.now) }
 {
-    ases[0] = reached[steps[0].back().place()];
+    reserve(ases, steps.len() + 1)?;
+    ases.push_reserved(reached[steps[0].back().place()]);
     for at in 0..steps.len() {
-        ases[at + 1] = reached[steps[at].place()];
-    }
-}
-
-/// Makes a buffer so long at least.
-fn widen(ases: &mut Vec<u32>, least: usize) -> Result<(), NoMemory>
-    ensures { OnOk result (least ≤ length ases.new.items) }
-{
-    if ases.len() < least {
-        ases.resize(least, 0)?;
+        ases.push_reserved(reached[steps[at].place()]);
     }
     Ok(())
 }
@@ -42,10 +32,13 @@ impl AsGraph {
         ensures { IfOk result (λ rows. rows ≡ take count self.now) }
     {
         self.facts();
-        let mut rows = Rows::new(alloc);
-        rows.reserve(count, self.numbers_on(count))?;
-        self.read_back(alloc, count, &mut rows)?;
-        Ok(rows)
+        let mut ases = Vec::new(alloc);
+        let mut bounds = Vec::new(alloc);
+        // one further than there are, which `put_ases` makes sure of
+        reserve(&mut ases, self.numbers_on(count).saturating_add(1))?;
+        reserve(&mut bounds, count.saturating_add(1))?;
+        self.read_back(alloc, count, &mut ases, &mut bounds)?;
+        Ok(Rows::from_parts(ases, bounds))
     }
 
     /// How many ASes the first paths have in sum, for which memory is taken at once.
@@ -61,43 +54,46 @@ impl AsGraph {
         sum
     }
 
-    /// Adds the first paths, so many, where there are no others.
+    /// Puts the ASes of the first paths, so many, one behind the other, and the bounds between them, where there are no others.
     fn read_back(
         &self,
         alloc: Global,
         count: usize,
-        rows: &mut Rows<PathId, u32>,
+        ases: &mut Vec<u32>,
+        bounds: &mut Vec<u32>,
     ) -> Result<(), NoMemory>
         requires there { count ≤ length self.now }
-        requires none { rows.old ≡ [] }
-        ensures { OnOk result (rows.new ≡ take count self.now) }
+        requires none { ases.old.items ≡ [] }
+        requires first { bounds.old.items ≡ [] }
+        ensures { OnOk result (ArePathsBetween self.now count ases.new.items bounds.new.items) }
     {
         let reached = self.edges.reached(alloc)?;
-        self.add_paths_along(alloc, reached.as_slice(), count, rows)
+        let put = self.put_paths_along(reached.as_slice(), count, ases, bounds);
+        drop(reached);
+        put
     }
 
-    /// Adds the first paths, so many, where there are no others, and where the AS is known that a step of each place reaches.
-    fn add_paths_along(
+    /// Puts the ASes of the first paths, so many, one behind the other, where there are no others, and where the AS is known that a step of
+    /// each place reaches.
+    fn put_paths_along(
         &self,
-        alloc: Global,
         reached: &[u32],
         count: usize,
-        rows: &mut Rows<PathId, u32>,
+        ases: &mut Vec<u32>,
+        bounds: &mut Vec<u32>,
     ) -> Result<(), NoMemory>
         requires reached { reached.now ≡ reached_by (edges self.now) }
         requires there { count ≤ length self.now }
-        requires none { rows.old ≡ [] }
-        ensures { OnOk result (rows.new ≡ take count self.now) }
+        requires none { ases.old.items ≡ [] }
+        requires first { bounds.old.items ≡ [] }
+        ensures { OnOk result (ArePathsBetween self.now count ases.new.items bounds.new.items) }
     {
         self.facts();
-        let mut ases = Vec::new(alloc);
+        push_bound(bounds, 0)?;
         for place in 0..count {
             let path = PathId::from_place(place).unwrap();
-            let steps = self.steps(path);
-            let numbers = steps.len() + 1;
-            widen(&mut ases, numbers)?;
-            put_ases(reached, steps, &mut ases);
-            add_row(rows, &ases[..numbers])?;
+            put_ases(reached, self.steps(path), ases)?;
+            push_bound(bounds, ases.len())?;
         }
         Ok(())
     }

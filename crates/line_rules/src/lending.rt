@@ -22,18 +22,6 @@ pub fn path_line_at(lines: &PathLines, place: usize) -> PathLineRef<'_>
     }
 }
 
-/// How many AS numbers the paths have in sum, for which memory is taken at once; no more than 2^64 - 1. It takes no memory.
-pub fn numbers_on(lines: &PathLines) -> usize {
-    let paths = lines.paths();
-    let mut sum = 0usize;
-    for place in 0..paths.len() {
-        if let Some(id) = PathId::from_place(place) {
-            sum = sum.saturating_add(paths.row(id).len());
-        }
-    }
-    sum
-}
-
 /// The steps of the path in a place, from 0, which has to be there. It takes no memory.
 #[inline(always)]
 pub fn steps_at(steps: &Rows<PathId, Step>, place: usize) -> &[Step]

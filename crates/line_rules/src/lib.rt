@@ -13,7 +13,7 @@ pub use edges::edge_rules::{find_miscounted, find_unlisted, find_valley, list_ed
 pub use edges::labels::Labels;
 pub use edges::step::{Step, end_left};
 pub use givens::find_unsound_given;
-pub use lending::{givens_of, numbers_on, path_line_at, steps_at, walk_at};
+pub use lending::{givens_of, path_line_at, steps_at, walk_at};
 pub use paths::{find_repeated, find_unclean};
 pub use walks::links::is_walk;
 pub use walks::why_rules::find_unshown;

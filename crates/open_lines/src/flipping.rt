@@ -12,7 +12,7 @@ ghost use Rattle.line_rules.specs.PathSteps.{place_in, AreCodedSteps, HaveCodedS
 
 use crate::neighbours::Neighbours;
 use crate::noted::Noted;
-use line_rules::{Labels, Step, end_left, givens_of, numbers_on, path_line_at, steps_at};
+use line_rules::{Labels, Step, end_left, givens_of, path_line_at, steps_at};
 use relationships::{End, Given, Label};
 use result_text::{PathLineRef, ResultFile};
 use std::alloc::Global;
@@ -322,7 +322,7 @@ impl Flips {
         requires conflicting { self.old.conflicting ≡ replicate (length file.now.edges) [] }
         ensures { OnOk result (IsBuiltFor file.now.edges (served_lines file.now) self.new.implied self.new.conflicting) }
     {
-        let mut noted = Noted::new(alloc, keys, numbers_on(&file.paths))?;
+        let mut noted = Noted::new(alloc, keys, file.paths.paths().item_count())?;
         let done = self.note_file(labels, &mut noted, file, table, steps);
         drop(noted);
         done

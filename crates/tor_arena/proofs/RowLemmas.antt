@@ -1,7 +1,9 @@
 -- Rows and their ends.
 use Rattle.std.proofs.Common.{◌≡◌, ◌∙◌, ◌+◌, ◌-◌, ◌<◌, ◌≤◌, ℕ, zero, suc, List, [], ◌∷◌, ◌++◌, take, drop, length, refl, sym, ap, ap₂, subst, arith}
-use Rattle.std.proofs.Common.{slice_get, slice_index, Some, length-drop, length-append}
-use Rattle.std.proofs.lemmas.List.{take_all, take-append-le, drop-append-le, take-take, drop-take}
+use Rattle.std.proofs.Common.{slice_get, slice_index, Some, length-drop, length-append, sum_by}
+use Rattle.std.proofs.lemmas.List.{length-take-le, take_all, take-append-le, drop-append-le, take-take, drop-take}
+use Rattle.std.proofs.lemmas.List.Sums.{sum_by-cons}
+use Rattle.std.proofs.lemmas.Option.{same_Some}
 use Rattle.std.proofs.Math.Seq.{drop-append_seam}
 use Rattle.tor_arena.specs.RowLists.{Rises, ArePartedBy, with_end, between, last_end, rows_from, rows_between}
 
@@ -129,6 +131,28 @@ module _ {T : Type 0} where
   pub length-rows_between : (items : List T) (bounds : List ℕ) → length (rows_between items bounds) ≡ length bounds - 1
   length-rows_between items [] = refl
   length-rows_between items (s ∷ es) = let many = length-rows_from items s es in omega (arith, many)
+
+  length-between : (items : List T) (start end : ℕ) → start ≤ end → end ≤ length items → length (between items start end) ≡ end - start
+  length-between items start end low high =
+      let rest = length-drop start items in
+      length-take-le (end - start) (drop start items) (omega (arith, low, high, rest))
+
+  -- the rows have all items but those before the first one
+  sum-rows_from : (items : List T) (start : ℕ) (ends : List ℕ) → Rises (length items) start ends → sum_by length (rows_from items start ends) + start ≡ last_end start ends
+  sum-rows_from items start [] r = omega arith
+  sum-rows_from items start (e ∷ es) r =
+      let low = r.0 in
+      let one = length-between items start e low (Rises-le (length items) e es r.1) in
+      let more = sum-rows_from items e es r.1 in
+      let both = sum_by-cons length (between items start e) (rows_from items e es) in
+      omega (arith, low, one, more, both)
+
+  pub sum-rows_between : (items : List T) (bounds : List ℕ) (start : ℕ) → slice_get bounds 0 ≡ Some start → ArePartedBy bounds (length items)
+      → sum_by length (rows_between items bounds) + start ≡ length items
+  sum-rows_between items [] start is parted = absurd cc
+  sum-rows_between items (s ∷ es) start is parted =
+      let same : s ≡ start = same_Some s start is in
+      ap (λ k. sum_by length (rows_from items s es) + k) (sym same) ∙ sum-rows_from items s es parted.0 ∙ parted.1
 
   pub slice_get-rows_between : (items : List T) (bounds : List ℕ) (k : ℕ) → suc k < length bounds
       → slice_get (rows_between items bounds) k ≡ Some (between items (slice_index bounds k) (slice_index bounds (suc k)))

@@ -1,7 +1,7 @@
 //! Rows of items that lie one behind the other.
 ghost use Rattle.std.specs.Prelude.{◌≡◌, ◌+◌, ◌-◌, ◌<◌, ◌≤◌, ◌↔◌, ◌++◌, ◌∷◌, [], length, take, drop, slice_get, slice_index, OnOk, OnErr};
-ghost use Rattle.std.specs.Prelude.{IfOk, IfErr, IfSome, vec_len, vec_capacity};
-ghost use Rattle.tor_arena.specs.RowLists.{with_end};
+ghost use Rattle.std.specs.Prelude.{IfOk, IfErr, IfSome, sum_by, vec_len, vec_capacity};
+ghost use Rattle.tor_arena.specs.RowLists.{with_end, rows_between, ArePartedBy};
 
 use crate::growth::reserve;
 use crate::index::Index;
@@ -52,6 +52,21 @@ impl<I: Index, T: Copy> Rows<I, T> {
         }
     }
 
+    /// The rows of these items, one behind the other, where the first begins at the first bound and each ends at one of the others; no
+    /// bound where there is no row. The bounds must not fall, the last one is the number of the items, and there are at most LIMIT rows. It
+    /// takes no memory.
+    pub fn from_parts(items: Vec<T>, bounds: Vec<u32>) -> Rows<I, T>
+        requires few { length bounds.items ≤ I.LIMIT + 1 }
+        requires parted { ArePartedBy bounds.items (length items.items) }
+        ensures { result ≡ rows_between items.items bounds.items }
+    {
+        Rows {
+            items,
+            bounds,
+            kind: PhantomData,
+        }
+    }
+
     /// Takes the memory for so many further rows, of so many items in sum. The rows stay as they are. The only error is that memory
     /// ran out.
     pub fn reserve(&mut self, rows: usize, items: usize) -> Result<(), NoMemory>
@@ -68,6 +83,16 @@ impl<I: Index, T: Copy> Rows<I, T> {
         ensures below { length self.now ≤ I.LIMIT }
     {
         self.bounds.len().saturating_sub(1)
+    }
+
+    /// How many items the rows have in sum. It takes no memory.
+    pub fn item_count(&self) -> usize
+        ensures { result ≡ sum_by length self.now }
+    {
+        match self.bounds.first() {
+            None => 0,
+            Some(start) => self.items.len() - *start as usize,
+        }
     }
 
     /// The row of an index, which has to be there. It takes no memory.

@@ -15,7 +15,7 @@ use crate::edges::labels::Labels;
 use crate::edges::step::{Step, end_left};
 use crate::edges::supports::count_kept;
 use crate::edges::valleys::is_served;
-use crate::lending::{givens_of, numbers_on, path_line_at, steps_at};
+use crate::lending::{givens_of, path_line_at, steps_at};
 use result_text::{EdgeLine, ResultFile};
 use std::alloc::Global;
 use tor_arena::{Keys, List, NoMemory, PathId, RowRefused, Rows};
@@ -57,7 +57,7 @@ fn add_paths(
     ensures edges { OnOk result (table.new ≡ edges (its_paths file.now)) }
     ensures steps { OnOk result (HaveCodedSteps table.new (its_paths file.now) rows.new) }
 {
-    rows.reserve(file.paths.len(), numbers_on(&file.paths))?;
+    rows.reserve(file.paths.len(), file.paths.paths().item_count())?;
     let mut steps = List::new(alloc);
     for place in 0..file.paths.len() {
         let line = path_line_at(&file.paths, place);
