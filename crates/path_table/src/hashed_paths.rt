@@ -141,7 +141,7 @@ impl HashedPaths {
         match hash_each(seed, &self.paths, &mut self.hashes) {
             Ok(()) => {
                 self.seed = seed;
-                lookup.fill_by(table, &self.paths, self.hashes.as_slice())
+                lookup.fill(table, &self.paths, self.hashes.as_slice())
             }
             Err(error) => Err(error),
         }

@@ -1,6 +1,6 @@
 //! Paths that are looked up one right after the other, by guesses that are compared.
 
-ghost use Rattle.std.specs.Prelude.{◌≡◌, [], length, OnOk, OnErr};
+ghost use Rattle.std.specs.Prelude.{◌≡◌, ◌≤◌, [], length, vec_capacity, OnOk, OnErr};
 ghost use Rattle.path_table.specs.Lookups.{found_at, AreHashed, AreRowsWhereFound};
 
 use crate::distinct_rows::IndexedPaths;
@@ -13,8 +13,6 @@ use tor_arena::{NoMemory, PathId};
 /// Where the paths of a batch were found in a table. Its lists serve one batch after the other.
 #[derive(Drop)]
 pub struct Lookup {
-    // the hashes of the paths
-    hashes: Vec<u32>,
     // the guesses where the paths stand in the table
     guesses: Vec<u32>,
     // the places of those paths that stand where it was guessed
@@ -35,7 +33,6 @@ impl Lookup {
         ensures { result ≡ [] }
     {
         Lookup {
-            hashes: Vec::new(alloc),
             guesses: Vec::new(alloc),
             places: Vec::new(alloc),
         }
@@ -60,23 +57,8 @@ impl Lookup {
         }
     }
 
-    /// Looks paths up in a table.
-    pub(crate) fn fill(&mut self, table: &IndexedPaths, paths: &MergedPaths) -> Result<(), NoMemory>
-        ensures rows { OnOk result (AreRowsWhereFound table.now.rows paths.now self.new) }
-        ensures each { OnOk result (length self.new ≡ length paths.now) }
-    {
-        hash_each(table.seed(), paths, &mut self.hashes)?;
-        find_each(
-            table,
-            paths,
-            self.hashes.as_slice(),
-            &mut self.guesses,
-            &mut self.places,
-        )
-    }
-
     /// Looks paths of these hashes up in a table.
-    pub(crate) fn fill_by(
+    pub(crate) fn fill(
         &mut self,
         table: &IndexedPaths,
         paths: &MergedPaths,
@@ -103,7 +85,8 @@ fn find_each(
     ensures each { OnOk result (length places.new.items ≡ length paths.now) }
 {
     guesses.resize(hashes.len(), 0)?;
-    places.resize(hashes.len(), None)?;
+    places.clear();
+    places.reserve(hashes.len())?;
     table.guess_each(hashes, guesses);
     compare_each(table, paths, guesses.as_slice(), places);
     Ok(())
@@ -120,37 +103,39 @@ pub(crate) fn hash_each(
     ensures err { OnErr result (hashes.new.items ≡ []) }
 {
     hashes.clear();
-    if hashes.resize(paths.len(), 0).is_err() {
+    if hashes.reserve(paths.len()).is_err() {
         return Err(NoMemory);
     }
-    put_hashes(seed, paths, hashes);
+    add_hashes(seed, paths, hashes);
     Ok(())
 }
 
-/// Puts the hash of each of the paths into its place.
-fn put_hashes(seed: u64, paths: &MergedPaths, hashes: &mut [u32])
-    requires many { length hashes.old ≡ length paths.now }
-    ensures same { length hashes.new ≡ length hashes.old }
-    ensures hashed { AreHashed seed paths.now hashes.new }
+/// Adds the hash of each of the paths, where there is none yet, and room for all.
+fn add_hashes(seed: u64, paths: &MergedPaths, hashes: &mut Vec<u32>)
+    requires none { hashes.old.items ≡ [] }
+    requires room { length paths.now ≤ vec_capacity hashes.old }
+    ensures many { length hashes.new.items ≡ length paths.now }
+    ensures hashed { AreHashed seed paths.now hashes.new.items }
 {
     for place in 0..paths.len() {
-        hashes[place] = short_hash_of(seed, paths.path(place));
+        hashes.push_reserved(short_hash_of(seed, paths.path(place)));
     }
 }
 
-/// Keeps those guesses that are right: each of the paths stands in the table where it was guessed.
+/// Keeps those guesses that are right: each of the paths stands in the table where it was guessed. There is no place yet, and room for all.
 fn compare_each(
     table: &IndexedPaths,
     paths: &MergedPaths,
     guesses: &[u32],
-    places: &mut [Option<PathId>],
+    places: &mut Vec<Option<PathId>>,
 )
-    requires many { length places.old ≡ length paths.now }
+    requires none { places.old.items ≡ [] }
+    requires room { length paths.now ≤ vec_capacity places.old }
     requires guessed { length guesses.now ≡ length paths.now }
-    ensures rows { AreRowsWhereFound table.now.rows paths.now places.new }
-    ensures each { length places.new ≡ length places.old }
+    ensures rows { AreRowsWhereFound table.now.rows paths.now places.new.items }
+    ensures each { length places.new.items ≡ length paths.now }
 {
     for place in 0..paths.len() {
-        places[place] = table.find_guessed(guesses[place], paths.path(place));
+        places.push_reserved(table.find_guessed(guesses[place], paths.path(place)));
     }
 }

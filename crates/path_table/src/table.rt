@@ -12,10 +12,9 @@ ghost use Rattle.path_table.specs.Table.{place_of, with_path, Names, CountsOnceM
 
 use crate::distinct_rows::IndexedPaths;
 use crate::hashed_paths::{HashedPath, HashedPaths};
-use crate::hashing::{SeededHash, row_of};
+use crate::hashing::SeededHash;
 use crate::lookup::Lookup;
 use crate::slots::SearchEnd;
-use path_clean::MergedPaths;
 use std::alloc::Global;
 use std::marker::Model;
 use tor_arena::{Index, Keys, List, MAX_NUMBERS, NoMemory, PathId, Rows, reserve};
@@ -100,7 +99,7 @@ impl PathTable {
         ensures paths { IfOk result (λ table. row_paths table.rows ≡ paths) }
         ensures times { IfOk result (λ table. times_of table.rows ≡ times) }
     {
-        let numbers = numbers_in(&paths);
+        let numbers = paths.item_count();
         let paths = IndexedPaths::from_rows(alloc, keys, paths)?;
         Ok(PathTable {
             paths,
@@ -123,17 +122,8 @@ impl PathTable {
     }
 
     /// Looks up where paths stand, which needn't be clean: what is found is. They are looked up one right after the other, so that the
-    /// waits for memory of these look-ups overlap. A path that is there may be missed, where it isn't in one of the first two slots in
-    /// which it could be. NoMemory where memory ran out: `lookup` may then be anything.
-    pub fn find_batch(&self, paths: &MergedPaths, lookup: &mut Lookup) -> Result<(), NoMemory>
-        ensures found { OnOk result (StandWhereFound self.now.rows paths.now lookup.new) }
-        ensures clean { OnOk result (AreCleanWhereFound paths.now lookup.new) }
-        ensures each { OnOk result (length lookup.new ≡ length paths.now) }
-    {
-        lookup.fill(&self.paths, paths)
-    }
-
-    /// Looks up where paths stand, as `find_batch` does, and keeps their hashes for `add_hashed`.
+    /// waits for memory of these look-ups overlap, and keep their hashes for `add_hashed`. A path that is there may be missed, where it
+    /// isn't in one of the first three slots in which it could be. NoMemory where memory ran out: `lookup` may then be anything.
     pub fn find_hashed(&self, paths: &mut HashedPaths, lookup: &mut Lookup) -> Result<(), NoMemory>
         ensures same { paths.new ≡ paths.old }
         ensures found { OnOk result (StandWhereFound self.now.rows paths.new lookup.new) }
@@ -335,16 +325,4 @@ impl PathTable {
     {
         (self.paths.into_rows(), List::from_vec(self.counts))
     }
-}
-
-// How many numbers the paths have in sum, at most 2^26.
-fn numbers_in(paths: &Rows<PathId, u32>) -> usize
-    requires few { sum_by length paths.now ≤ max_numbers }
-    ensures { result ≡ sum_by length paths.now }
-{
-    let mut numbers = 0;
-    for place in 0..paths.len() {
-        numbers += row_of(paths, place).len();
-    }
-    numbers
 }

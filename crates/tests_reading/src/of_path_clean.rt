@@ -1,8 +1,8 @@
 //! Tests of cleaning as a value, and of what the programs don't ask a table of paths, or no row shows. Routes that are cleaned, counts of
 //! those that are set aside, and what is added to a table stand in the rows of `tor_rows`.
 use path_attrs::{Width, attributes};
-use path_clean::{Cleaned, MergedPaths, Sets, clean, is_cleaned};
-use path_table::{AddRefused, Added, Lookup, PathTable, first_repeated};
+use path_clean::{Cleaned, Sets, clean, is_cleaned};
+use path_table::{AddRefused, Added, HashedPaths, Lookup, PathTable, first_repeated};
 use std::alloc::Global;
 use std::io;
 use std::random::RandomSource;
@@ -154,7 +154,7 @@ const ROUTES: [&[u8]; 5] = [
     &[64, 2, 10, 2, 2, 0, 0, 0, 10, 0, 0, 0, 20],
 ];
 
-fn merge_routes(paths: &mut MergedPaths) -> bool {
+fn merge_routes(paths: &mut HashedPaths) -> bool {
     for block in ROUTES {
         let Ok(attrs) = attributes(block) else {
             return false;
@@ -177,15 +177,15 @@ fn are_found(lookup: &Lookup, wanted: Option<usize>) -> bool {
 /// Whether a look-up finds this.
 fn is_looked_up(
     table: &PathTable,
-    paths: &MergedPaths,
+    paths: &mut HashedPaths,
     lookup: &mut Lookup,
     wanted: Option<usize>,
 ) -> bool {
-    table.find_batch(paths, lookup).is_ok() && are_found(lookup, wanted)
+    table.find_hashed(paths, lookup).is_ok() && are_found(lookup, wanted)
 }
 
 /// Whether the paths are found once the second is in the table, and not before.
-fn finds_paths(alloc: Global, table: &mut PathTable, paths: &MergedPaths) -> bool {
+fn finds_paths(alloc: Global, table: &mut PathTable, paths: &mut HashedPaths) -> bool {
     let mut lookup = Lookup::new(alloc);
     is_looked_up(table, paths, &mut lookup, None)
         && place_added(table, &[20, 10]) == Some(Ok(0))
@@ -195,6 +195,6 @@ fn finds_paths(alloc: Global, table: &mut PathTable, paths: &MergedPaths) -> boo
 #[test]
 fn paths_that_needn_t_be_clean_are_looked_up(rt: HostRuntime) {
     let mut table = PathTable::new(rt.alloc(), Keys::new(&rt), 2);
-    let mut paths = MergedPaths::new(rt.alloc());
-    assert!(rt; merge_routes(&mut paths) && finds_paths(rt.alloc(), &mut table, &paths));
+    let mut paths = HashedPaths::new(rt.alloc());
+    assert!(rt; merge_routes(&mut paths) && finds_paths(rt.alloc(), &mut table, &mut paths));
 }

@@ -7,13 +7,13 @@ use Rattle.path_table.proofs.table.PathTable.from_rows.Goals as goal
 
 pub invariant_of-result : goal.invariant_of-result
 invariant_of-result c =
-    subst (λ (paths : List (List ℕ)). IsTable c.args.limit c.numbers_in-numbers.result paths c.into_vec.result.items) (sym c.in_ok-paths.ensures.rows)
-    (subst (IsTable c.args.limit c.numbers_in-numbers.result c.args.paths) (sym c.into_vec.ensures) (record {
+    subst (λ (paths : List (List ℕ)). IsTable c.args.limit c.item_count-numbers.result paths c.into_vec.result.items) (sym c.in_ok-paths.ensures.rows)
+    (subst (IsTable c.args.limit c.item_count-numbers.result c.args.paths) (sym c.into_vec.ensures) (record {
       bound = c.requires.most;
       few = c.requires.few;
       same = c.requires.same;
-      sum = c.numbers_in-numbers.ensures;
-      short = subst (λ n. n ≤ max_numbers) (sym c.numbers_in-numbers.ensures) c.requires.numbers;
+      sum = c.item_count-numbers.ensures;
+      short = subst (λ n. n ≤ max_numbers) (sym c.item_count-numbers.ensures) c.requires.numbers;
       clean = c.requires.clean;
       once = c.requires.once;
       some = some_all c.args.times c.requires.seen;
