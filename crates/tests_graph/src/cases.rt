@@ -21,19 +21,31 @@ fn add(alloc: Global, table: &mut PathTable, path: &[u32]) -> Result<(), Fail> {
     }
 }
 
+fn add_all(alloc: Global, table: &mut PathTable, paths: &[&[u32]]) -> Result<(), Fail> {
+    for path in paths {
+        add(alloc, table, path)?;
+    }
+    Ok(())
+}
+
 /// The table of these paths.
 fn table_of(alloc: Global, keys: Keys, paths: &[&[u32]]) -> Result<PathTable, Fail> {
     let mut table = PathTable::new(alloc, keys, MAX_PATHS);
-    for path in paths {
-        add(alloc, &mut table, path)?;
+    match add_all(alloc, &mut table, paths) {
+        Ok(()) => Ok(table),
+        Err(fail) => {
+            drop(table);
+            Err(fail)
+        }
     }
-    Ok(table)
 }
 
 /// The graph of these paths.
 pub(crate) fn graph_of(alloc: Global, keys: Keys, paths: &[&[u32]]) -> Result<AsGraph, Fail> {
     let table = table_of(alloc, keys, paths)?;
-    Ok(build(alloc, keys, table.rows())?)
+    let graph = build(alloc, keys, table.rows());
+    drop(table);
+    Ok(graph?)
 }
 
 /// Clauses of the first paths of the graph, so many.
@@ -46,10 +58,25 @@ pub(crate) fn clauses_of(
     requires { count ≤ length graph.now }
     ensures { IfOk result (FitsGraph graph.now) }
 {
-    graph.facts();
     let mut clauses = Clauses::new(alloc, keys, graph)?;
+    match add_first(graph, &mut clauses, count) {
+        Ok(()) => Ok(clauses),
+        Err(fail) => {
+            drop(clauses);
+            Err(fail)
+        }
+    }
+}
+
+/// Adds the first paths of the graph, so many.
+fn add_first(graph: &AsGraph, clauses: &mut Clauses, count: usize) -> Result<(), Fail>
+    requires count { count ≤ length graph.now }
+    requires fits { FitsGraph graph.now clauses.old }
+    ensures { FitsGraph graph.now clauses.new }
+{
+    graph.facts();
     for place in 0..count {
         clauses.add_path(graph, PathId::from_place(place).unwrap(), Some(0))?;
     }
-    Ok(clauses)
+    Ok(())
 }

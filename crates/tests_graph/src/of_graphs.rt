@@ -98,7 +98,9 @@ fn holds_told(
         return Err(Fail::from("a path"));
     }
     let clauses = clauses_of(alloc, keys, graph, 1)?;
-    clauses_told(alloc, graph, &clauses)
+    let told = clauses_told(alloc, graph, &clauses);
+    drop(clauses);
+    told
 }
 
 fn degrees_told(graph: &AsGraph) -> [u64; 3] {
@@ -116,7 +118,9 @@ fn is_right(alloc: Global, keys: Keys, graph: &AsGraph) -> Result<bool, Fail> {
 
 fn one_path_is_right(alloc: Global, keys: Keys) -> Result<bool, Fail> {
     let graph = graph_of(alloc, keys, &[&[10, 20, 30]])?;
-    is_right(alloc, keys, &graph)
+    let told = is_right(alloc, keys, &graph);
+    drop(graph);
+    told
 }
 
 #[test]
@@ -202,12 +206,16 @@ fn answer(alloc: Global, keys: Keys, graph: &AsGraph, count: usize) -> Result<Op
         return Err(Fail::from("so many paths"));
     }
     let clauses = clauses_of(alloc, keys, graph, count)?;
-    is_served(alloc, graph, &clauses)
+    let told = is_served(alloc, graph, &clauses);
+    drop(clauses);
+    told
 }
 
 fn is_met(alloc: Global, keys: Keys, case: &Case) -> Result<bool, Fail> {
     let graph = graph_of(alloc, keys, case.paths)?;
-    Ok(answer(alloc, keys, &graph, case.count)? == Some(case.served))
+    let told = answer(alloc, keys, &graph, case.count);
+    drop(graph);
+    Ok(told? == Some(case.served))
 }
 
 /// How many of the cases are met.

@@ -50,13 +50,17 @@ fn three_path_graph(alloc: Global, keys: Keys) -> Result<AsGraph, Fail>
     ensures { IfOk result (λ graph. graph ≡ (30 ∷ 40 ∷ 20 ∷ 10 ∷ 50 ∷ 60 ∷ []) ∷ (10 ∷ 20 ∷ 30 ∷ 40 ∷ []) ∷ (50 ∷ 60 ∷ 10 ∷ 20 ∷ []) ∷ []) }
 {
     let rows = three_rows(alloc)?;
-    Ok(build(alloc, keys, &rows)?)
+    let graph = build(alloc, keys, &rows);
+    drop(rows);
+    Ok(graph?)
 }
 
 /// What the edges of three paths prefer, where the first two are kept.
 fn three_path_prefs(alloc: Global, keys: Keys) -> Result<List<Pref>, Fail> {
     let graph = three_path_graph(alloc, keys)?;
-    Ok(preferences(alloc, &graph, &[path(0), path(1)])?)
+    let prefs = preferences(alloc, &graph, &[path(0), path(1)]);
+    drop(graph);
+    Ok(prefs?)
 }
 
 /// Whether preferences are those of a table.
@@ -136,12 +140,16 @@ fn selected(alloc: Global, keys: Keys, graph: &AsGraph) -> Result<Fates, Fail> {
 
 fn keeps(alloc: Global, keys: Keys, graph: &AsGraph, kept: &[bool]) -> Result<bool, Fail> {
     let fates = selected(alloc, keys, graph)?;
-    Ok(are_fates(&fates, kept))
+    let are_right = are_fates(&fates, kept);
+    drop(fates);
+    Ok(are_right)
 }
 
 fn is_met(alloc: Global, keys: Keys, case: &Case) -> Result<bool, Fail> {
     let graph = graph_of(alloc, keys, case.paths)?;
-    keeps(alloc, keys, &graph, case.kept)
+    let told = keeps(alloc, keys, &graph, case.kept);
+    drop(graph);
+    told
 }
 
 /// How many of the cases are met.
@@ -200,12 +208,16 @@ fn offer_three(alloc: Global, graph: &AsGraph, selector: &mut Selector) -> Resul
 
 fn ends_over(alloc: Global, keys: Keys, graph: &AsGraph) -> Result<[usize; 3], Fail> {
     let mut selector = Selector::new(alloc, keys, graph)?;
-    offer_three(alloc, graph, &mut selector)
+    let told = offer_three(alloc, graph, &mut selector);
+    drop(selector);
+    told
 }
 
 fn ends_told(alloc: Global, keys: Keys) -> Result<[usize; 3], Fail> {
     let graph = graph_of(alloc, keys, THERE_AND_BACK)?;
-    ends_over(alloc, keys, &graph)
+    let told = ends_over(alloc, keys, &graph);
+    drop(graph);
+    told
 }
 
 // There are four edges, those of the first path first. The second path asks for no end of these, and the third is served by those of the
@@ -280,7 +292,9 @@ fn solved_marks(alloc: Global, graph: &AsGraph, clauses: &Clauses) -> Result<Mar
     requires { FitsGraph graph.now clauses.now }
 {
     let labels = solved_labels(alloc, graph, clauses)?;
-    marks_under(alloc, graph, clauses, &labels)
+    let marks = marks_under(alloc, graph, clauses, &labels);
+    drop(labels);
+    marks
 }
 
 /// The marks of the edges of three paths, of which the first two are kept.
@@ -299,7 +313,9 @@ fn marks_told(alloc: Global, graph: &AsGraph, clauses: &Clauses) -> Result<(bool
     requires { FitsGraph graph.now clauses.now }
 {
     let marks = solved_marks(alloc, graph, clauses)?;
-    Ok((marks.marks.as_slice() == MARKS_OF_TWO, marks.whys.len()))
+    let told = (marks.marks.as_slice() == MARKS_OF_TWO, marks.whys.len());
+    drop(marks);
+    Ok(told)
 }
 
 /// The same of the first two paths of a graph.
@@ -308,12 +324,16 @@ fn marks_of_two(alloc: Global, keys: Keys, graph: &AsGraph) -> Result<(bool, usi
         return Err(Fail::from("two paths"));
     }
     let clauses = clauses_of(alloc, keys, graph, 2)?;
-    marks_told(alloc, graph, &clauses)
+    let told = marks_told(alloc, graph, &clauses);
+    drop(clauses);
+    told
 }
 
 fn marks_of_three(alloc: Global, keys: Keys) -> Result<(bool, usize), Fail> {
     let graph = graph_of(alloc, keys, THREE_PATHS)?;
-    marks_of_two(alloc, keys, &graph)
+    let told = marks_of_two(alloc, keys, &graph);
+    drop(graph);
+    told
 }
 
 #[test]

@@ -38,6 +38,7 @@ fn right(walks: &Walks) -> usize {
 }
 
 fn put_all(walks: &mut Walks) -> Result<(), Fail> {
+    walks.reserve(3, 5, 1)?;
     for told in &WALKS {
         walks.push(told.0, told.1)?;
     }
@@ -47,9 +48,11 @@ fn put_all(walks: &mut Walks) -> Result<(), Fail> {
 /// How many walks there are, and how many of these are those that were put.
 fn walks_told(alloc: Global) -> Result<[usize; 2], Fail> {
     let mut walks = Walks::new(alloc);
-    walks.reserve(3, 5, 1)?;
-    put_all(&mut walks)?;
-    Ok([walks.len(), right(&walks)])
+    let put = put_all(&mut walks);
+    let told = [walks.len(), right(&walks)];
+    drop(walks);
+    put?;
+    Ok(told)
 }
 
 /// The first AS of the walk with which the path at a place is lost, 0 for a kept one, and 1 where there is no such path.
@@ -87,9 +90,11 @@ fn all_told(fates: &Fates) -> [u32; 4] {
 /// What becomes of a kept path, a lost one and a kept one, and of none.
 fn fates_told(alloc: Global) -> Result<[u32; 4], Fail> {
     let mut fates = Fates::new(alloc);
-    fates.reserve_walks(1, 3, 1)?;
-    put_fates(&mut fates)?;
-    Ok(all_told(&fates))
+    let put = put_fates(&mut fates);
+    let told = all_told(&fates);
+    drop(fates);
+    put?;
+    Ok(told)
 }
 
 fn told(alloc: Global) -> Result<([usize; 2], [u32; 4]), Fail> {

@@ -1,5 +1,5 @@
 //! Tests of plain types.
-ghost use Rattle.std.specs.Prelude.{◌<◌, ℕ};
+ghost use Rattle.std.specs.Prelude.{◌≡◌, ◌<◌, [], ℕ};
 ghost use Rattle.std.proofs.Math.Dec.{lit≤};
 
 use std::alloc::Global;
@@ -65,8 +65,9 @@ fn refused_as_full(refused: PushRefused<u32>) -> Option<u32> {
 
 /// The places of two items that are pushed, the item that a full arena gives back, the mark, how many items are left when it was cut, and
 /// the one that is left.
-fn small_arena_told(alloc: Global) -> Result<[usize; 6], Fail> {
-    let mut arena: Arena<Seat, u32> = Arena::new(alloc);
+fn fill_small(arena: &mut Arena<Seat, u32>) -> Result<[usize; 6], Fail>
+    requires { arena.old.items ≡ [] }
+{
     arena.reserve(2)?;
     let first = arena.push(7)?;
     let second = arena.push(8)?;
@@ -78,6 +79,13 @@ fn small_arena_told(alloc: Global) -> Result<[usize; 6], Fail> {
     Ok([first.place(), second.place(), back, mark, arena.len(), left])
 }
 
+fn small_arena_told(alloc: Global) -> Result<[usize; 6], Fail> {
+    let mut arena = Arena::new(alloc);
+    let told = fill_small(&mut arena);
+    drop(arena);
+    told
+}
+
 #[test]
 fn an_arena_of_two_places_takes_two_items(rt: HostRuntime) -> Result<(), Fail> {
     assert_eq!(rt; small_arena_told(rt.alloc())?, [0, 1, 9, 2, 1, 7]);
@@ -85,8 +93,9 @@ fn an_arena_of_two_places_takes_two_items(rt: HostRuntime) -> Result<(), Fail> {
 }
 
 /// The last item of an arena when it was put, and when it was changed.
-fn changes_told(alloc: Global) -> Result<[u32; 2], Fail> {
-    let mut arena: Arena<Seat, u32> = Arena::new(alloc);
+fn put_and_change(arena: &mut Arena<Seat, u32>) -> Result<[u32; 2], Fail>
+    requires { arena.old.items ≡ [] }
+{
     arena.push_copies(3, 1)?;
     arena.reserve(1)?;
     let last = arena.push_reserved(3);
@@ -96,6 +105,13 @@ fn changes_told(alloc: Global) -> Result<[u32; 2], Fail> {
     Ok([put, *arena.get(last)])
 }
 
+fn changes_told(alloc: Global) -> Result<[u32; 2], Fail> {
+    let mut arena = Arena::new(alloc);
+    let told = put_and_change(&mut arena);
+    drop(arena);
+    told
+}
+
 #[test]
 fn an_item_is_put_and_changed(rt: HostRuntime) -> Result<(), Fail> {
     assert_eq!(rt; changes_told(rt.alloc())?, [4, 5]);
@@ -103,14 +119,20 @@ fn an_item_is_put_and_changed(rt: HostRuntime) -> Result<(), Fail> {
 }
 
 /// The last item that a list of 1, 2, 3 gives back, whether the others are left, and whether none is once it is cleared.
-fn list_told(alloc: Global) -> Result<(Option<u32>, bool, bool), Fail> {
-    let mut list = List::new(alloc);
+fn fill_list(list: &mut List<u32>) -> Result<(Option<u32>, bool, bool), Fail> {
     list.push(1)?;
     list.extend_from_slice(&[2, 3])?;
     let last = list.pop();
     let is_left = list.as_slice() == [1, 2].as_slice();
     list.clear();
     Ok((last, is_left, list.is_empty()))
+}
+
+fn list_told(alloc: Global) -> Result<(Option<u32>, bool, bool), Fail> {
+    let mut list = List::new(alloc);
+    let told = fill_list(&mut list);
+    drop(list);
+    told
 }
 
 #[test]
@@ -135,26 +157,32 @@ fn fill(rows: &mut Rows<Seat, u32>) -> Result<[bool; 3], Fail> {
     Ok([is_full, is_row(rows, 0, &[1, 2]), is_row(rows, 1, &[])])
 }
 
-/// How many rows are left where they are cut to one, and whether another then goes where one was cut off.
-fn cut(rows: &mut Rows<Seat, u32>) -> Result<(usize, bool), Fail> {
+/// How many rows are left where they are cut to one, how many items these have, and whether another then goes where one was cut off.
+fn cut(rows: &mut Rows<Seat, u32>) -> Result<(usize, usize, bool), Fail> {
     if rows.len() > 0 {
         rows.cut_to(1);
     }
     rows.reserve(1, 1)?;
-    let left = rows.len();
+    let (left, items) = (rows.len(), rows.item_count());
     rows.push_row(&[4])?;
-    Ok((left, is_row(rows, 1, &[4])))
+    Ok((left, items, is_row(rows, 1, &[4])))
 }
 
-fn rows_told(alloc: Global) -> Result<([bool; 3], (usize, bool)), Fail> {
+fn fill_and_cut(rows: &mut Rows<Seat, u32>) -> Result<([bool; 3], (usize, usize, bool)), Fail> {
+    let filled = fill(rows)?;
+    Ok((filled, cut(rows)?))
+}
+
+fn rows_told(alloc: Global) -> Result<([bool; 3], (usize, usize, bool)), Fail> {
     let mut rows = Rows::new(alloc);
-    let filled = fill(&mut rows)?;
-    Ok((filled, cut(&mut rows)?))
+    let told = fill_and_cut(&mut rows);
+    drop(rows);
+    told
 }
 
 #[test]
 fn two_rows_stand_where_two_have_a_place(rt: HostRuntime) -> Result<(), Fail> {
-    assert_eq!(rt; rows_told(rt.alloc())?, ([true; 3], (1, true)));
+    assert_eq!(rt; rows_told(rt.alloc())?, ([true; 3], (1, 2, true)));
     Ok(())
 }
 

@@ -88,8 +88,11 @@ fn found(
     requires { graph.now.nodes ≡ 4 }
 {
     let mut reached = graph.reach_none(alloc)?;
-    search(alloc, graph, past, &mut reached)?;
-    Ok(digits_of(reached.nodes()))
+    let done = search(alloc, graph, past, &mut reached);
+    let digits = digits_of(reached.nodes());
+    drop(reached);
+    done?;
+    Ok(digits)
 }
 
 /// What is found from 0, in order, where the search goes past all nodes.
@@ -97,7 +100,9 @@ fn found_near(alloc: Global, graph: &Digraph<NodeId, ArcId>) -> Result<usize, Fa
     requires { graph.now.nodes ≡ 4 }
 {
     let none = graph.reach_none(alloc)?;
-    found(alloc, graph, &none)
+    let told = found(alloc, graph, &none);
+    drop(none);
+    told
 }
 
 /// The same where it does not go past what is reached from 2.
@@ -105,7 +110,9 @@ fn found_before(alloc: Global, graph: &Digraph<NodeId, ArcId>) -> Result<usize, 
     requires { graph.now.nodes ≡ 4 }
 {
     let past = graph.reach(alloc, node(2))?;
-    found(alloc, graph, &past)
+    let told = found(alloc, graph, &past);
+    drop(past);
+    told
 }
 
 /// The heads of the arcs that leave 0, what is found from 0, and what is found before what is reached from 2.
@@ -121,7 +128,9 @@ fn told(alloc: Global, graph: &Digraph<NodeId, ArcId>) -> Result<[usize; 3], Fai
 
 fn digraph_told(alloc: Global) -> Result<[usize; 3], Fail> {
     let graph = small_digraph(alloc)?;
-    told(alloc, &graph)
+    let heads = told(alloc, &graph);
+    drop(graph);
+    heads
 }
 
 #[test]

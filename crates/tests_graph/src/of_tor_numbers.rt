@@ -20,13 +20,19 @@ fn add_hundred(set: &mut NumberSet, first: u64) -> Result<usize, Fail>
 }
 
 /// How many of a hundred numbers from 2 on are new, of a hundred from 52 on behind these, and of the same when all were let go.
+fn add_by_turns(set: &mut NumberSet) -> Result<[usize; 3], Fail> {
+    let first = add_hundred(set, 2)?;
+    let second = add_hundred(set, 52)?;
+    set.cut_to(0);
+    let third = add_hundred(set, 52)?;
+    Ok([first, second, third])
+}
+
 fn counts_of_new(alloc: Global, keys: Keys) -> Result<[usize; 3], Fail> {
     let mut set = NumberSet::new(alloc, keys);
-    let first = add_hundred(&mut set, 2)?;
-    let second = add_hundred(&mut set, 52)?;
-    set.cut_to(0);
-    let third = add_hundred(&mut set, 52)?;
-    Ok([first, second, third])
+    let counts = add_by_turns(&mut set);
+    drop(set);
+    counts
 }
 
 #[test]
@@ -40,30 +46,34 @@ fn held(set: &NumberSet) -> [bool; 4] {
     [set.holds(2), set.holds(3), set.holds(101), set.holds(102)]
 }
 
-/// How many of a hundred numbers from 2 on are new to no numbers, and which are held before, then, and when all but the first were let go.
-fn held_by_turns(alloc: Global, keys: Keys) -> Result<(usize, [[bool; 4]; 3]), Fail> {
-    let mut set = NumberSet::new(alloc, keys);
-    let before = held(&set);
-    let added = add_hundred(&mut set, 2)?;
-    let then = held(&set);
+/// Which are held by a set that holds none, then with a hundred numbers from 2 on, and when all but the first of these were let go.
+const HELD: [[bool; 4]; 3] = [
+    [false, false, false, false],
+    [true, true, true, false],
+    [true, false, false, false],
+];
+
+/// Which are held by turns, and that a hundred are new.
+fn hold_by_turns(set: &mut NumberSet) -> Result<bool, Fail> {
+    let before = held(set);
+    let added = add_hundred(set, 2)?;
+    let then = held(set);
     if set.holds(2) {
         set.cut_to(1);
     }
-    Ok((added, [before, then, held(&set)]))
+    Ok(added == 100 && [before, then, held(set)] == HELD)
+}
+
+fn are_held_by_turns(alloc: Global, keys: Keys) -> Result<bool, Fail> {
+    let mut set = NumberSet::new(alloc, keys);
+    let told = hold_by_turns(&mut set);
+    drop(set);
+    told
 }
 
 #[test]
 fn a_number_is_there_until_it_is_let_go(rt: HostRuntime) -> Result<(), Fail> {
-    let (added, held) = held_by_turns(rt.alloc(), Keys::new(&rt))?;
-    assert_eq!(rt; added, 100);
-    assert_eq!(rt;
-        held,
-        [
-            [false, false, false, false],
-            [true, true, true, false],
-            [true, false, false, false]
-        ]
-    );
+    assert!(rt; are_held_by_turns(rt.alloc(), Keys::new(&rt))?);
     Ok(())
 }
 
@@ -78,14 +88,24 @@ fn places_of_hundred(table: &mut PlaceTable, first: u64) -> Result<usize, Fail>
     Ok(sum)
 }
 
+/// Whether two hundreds that share a half have the places that they should, and the first of all, the last of all, and the one behind.
+fn have_places(table: &mut PlaceTable) -> Result<bool, Fail> {
+    let first = places_of_hundred(table, 2)?;
+    let second = places_of_hundred(table, 52)?;
+    let places = [table.place(2), table.place(151), table.place(152)];
+    Ok([first, second] == [4950, 9950] && places == [Some(0), Some(149), None])
+}
+
+fn keep_places(alloc: Global, keys: Keys) -> Result<bool, Fail> {
+    let mut table = PlaceTable::new(alloc, keys);
+    let told = have_places(&mut table);
+    drop(table);
+    told
+}
+
 #[test]
 fn numbers_keep_their_places(rt: HostRuntime) -> Result<(), Fail> {
-    let mut table = PlaceTable::new(rt.alloc(), Keys::new(&rt));
-    for (first, sum) in [(2, 4950), (52, 9950)] {
-        assert_eq!(rt; places_of_hundred(&mut table, first)?, sum);
-    }
-    let places = [table.place(2), table.place(151), table.place(152)];
-    assert_eq!(rt; places, [Some(0), Some(149), None]);
+    assert!(rt; keep_places(rt.alloc(), Keys::new(&rt))?);
     Ok(())
 }
 
@@ -124,8 +144,11 @@ fn found_in(table: &PlaceTable) -> [usize; 2] {
 
 fn found_when_grown(alloc: Global, keys: Keys) -> Result<[usize; 2], Fail> {
     let mut table = PlaceTable::new(alloc, keys);
-    fill(&mut table)?;
-    Ok(found_in(&table))
+    let filled = fill(&mut table);
+    let found = found_in(&table);
+    drop(table);
+    filled?;
+    Ok(found)
 }
 
 #[test]

@@ -58,14 +58,6 @@ impl Fates {
         Ok(())
     }
 
-    /// Takes the memory for the walks of so many further lost paths, of so many AS numbers and links in sum. The fates stay as they
-    /// are. The only error is that memory ran out.
-    pub fn reserve_walks(&mut self, walks: usize, ases: usize, links: usize) -> Result<(), NoMemory>
-        ensures { self.new ≡ self.old }
-    {
-        self.walks.reserve(walks, ases, links)
-    }
-
     /// Adds that a path is kept. NoMemory changes nothing.
     pub fn push_kept(&mut self) -> Result<(), NoMemory>
         ensures added { OnOk result (self.new ≡ self.old ++ Kept ∷ []) }

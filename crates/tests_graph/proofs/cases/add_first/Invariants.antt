@@ -1,5 +1,5 @@
 use Rattle.tor_clauses.specs.Formulas.{FitsGraph}
-use Rattle.tests_graph.proofs.cases.clauses_of.Given as goal
+use Rattle.tests_graph.proofs.cases.add_first.Given as goal
 
 abbrev pub invariant-loop-place : goal.invariant-loop-place
 invariant-loop-place l = FitsGraph l.graph l.clauses
