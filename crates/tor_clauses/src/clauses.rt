@@ -20,7 +20,7 @@ use tor_arena::{ArcId, Index, Keys, NoMemory, NodeId, PathId};
 use tor_digraph::{Digraph, GraphRefused};
 
 /// How many paths and triples there are, for a later `undo_to`.
-#[derive(Clone, Copy, Debug, PartialEq, Eq)]
+#[derive(Clone, Copy)]
 pub struct ClauseMark {
     /// How many paths there are.
     pub paths: usize,

@@ -38,5 +38,7 @@ pub record Puts (old new : State) (text : List ℕ) : Type 0 where
 abbrev pub Finishes : {T E : Type 0} → State → Option (List ℕ) → ℕ → Result T E → Type 0
 Finishes old held faults result = elim old.waiting [
   | None ↦ IsErr result × (held ≡ old.held) × (faults ≡ old.faults)
-  | Some waiting ↦ OnOk result (held ≡ append_known old.held waiting) × OnErr result (GainsPrefix old.held held waiting) × HasCause old.faults faults result
+  | Some waiting ↦
+      OnOk result (held ≡ append_known old.held waiting)
+      × OnErr result (GainsPrefix old.held held waiting) × HasCause old.faults faults result
 ]
