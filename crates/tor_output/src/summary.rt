@@ -2,7 +2,7 @@
 ghost use Rattle.std.specs.Prelude.{◌≡◌, IfOk, OnOk, map, string_bytes};
 ghost use Rattle.serde_json.specs.View.{members_view, view};
 ghost use Rattle.tor_output.specs.Summary.{all_asides, summary_object, summary_of};
-ghost use Rattle.tor_output.specs.Counts.{with_counts};
+ghost use Rattle.tor_output.specs.Counts.{with_members};
 
 use path_clean::{Asides, Cause};
 use result_text::Totals;
@@ -30,7 +30,7 @@ fn put_counts(
     counts: &[(&str, u64)],
 ) -> Result<(), AllocError>
     ensures { OnOk result (members_view members.new.entries
-        ≡ with_counts (map (λ c. (c.0.now, c.1)) counts.now) (members_view members.old.entries)) }
+        ≡ with_members (map (λ c. (c.0.now, c.1)) counts.now) (members_view members.old.entries)) }
 {
     match counts {
         [] => Ok(()),
