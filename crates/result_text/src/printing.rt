@@ -17,7 +17,7 @@ ghost use Rattle.result_text.specs.declared.line.Version.{Version};
 use crate::asides::aside_start;
 use crate::file::{EdgeLine, ResultFile, Totals};
 use crate::line::{Version, version_of};
-use crate::numbers::{put_links, put_numbers, put_u32, put_u32_behind};
+use crate::numbers::{put_links, put_numbers, put_u32};
 use crate::path_lines::{PathLineRef, PathLines};
 use crate::ranges::in_range;
 use path_clean::{Asides, Cause, Sets};
@@ -140,43 +140,26 @@ fn put_path<S: Sink>(out: &mut S, flow: &mut Outflow<'_>, version: Version, path
     }
 }
 
-// A bar, and the name of a label.
-fn label_field(label: Label) -> &'static [u8]
-    ensures { result.now ≡ 124 ∷ label_name label }
+// The names of a label and a mark, with a bar between them.
+fn label_and_mark(label: Label, mark: Mark) -> &'static [u8]
+    ensures { result.now ≡ label_name label ++ 124 ∷ mark_name mark }
 {
-    match label {
-        Label::Low => b"|low",
-        Label::High => b"|high",
-        Label::Peer => b"|peer",
+    match (label, mark) {
+        (Label::Low, Mark::Forced) => b"low|forced",
+        (Label::Low, Mark::Open) => b"low|open",
+        (Label::High, Mark::Forced) => b"high|forced",
+        (Label::High, Mark::Open) => b"high|open",
+        (Label::Peer, Mark::Forced) => b"peer|forced",
+        (Label::Peer, Mark::Open) => b"peer|open",
     }
 }
 
-// A bar, and the name of a mark.
-fn mark_field(mark: Mark) -> &'static [u8]
-    ensures { result.now ≡ 124 ∷ mark_name mark }
-{
-    match mark {
-        Mark::Forced => b"|forced",
-        Mark::Open => b"|open",
-    }
-}
-
-// The fields of a label and a mark, with a bar in front of each.
-fn put_label_and_mark<S: Sink>(out: &mut S, flow: &mut Outflow<'_>, label: Label, mark: Mark)
+// Two numbers with a bar between them, and an octet behind them.
+fn put_pair<S: Sink>(out: &mut S, flow: &mut Outflow<'_>, first: u32, second: u32, last: u8)
     ensures { Puts (state (S.held out.old) (S.faults out.old) flow.old) (state (S.held out.new) (S.faults out.new) flow.new)
-        (124 ∷ label_name label ++ 124 ∷ mark_name mark) }
+        (decimal first ++ 124 ∷ decimal second ++ last ∷ []) }
 {
-    flow.put(out, label_field(label));
-    flow.put(out, mark_field(mark));
-}
-
-// Two numbers with a bar between them.
-fn put_pair<S: Sink>(out: &mut S, flow: &mut Outflow<'_>, first: u32, second: u32)
-    ensures { Puts (state (S.held out.old) (S.faults out.old) flow.old) (state (S.held out.new) (S.faults out.new) flow.new)
-        (decimal first ++ 124 ∷ decimal second) }
-{
-    put_u32(out, flow, first);
-    put_u32_behind(out, flow, b'|', second);
+    flow.put_row(out, u64::from(first), b'|', b' ', &[second], last);
 }
 
 /// Puts the line of an edge behind what waits for the sink, with its line feed. It is the same in texts of both versions, and takes no
@@ -186,8 +169,8 @@ pub fn put_edge<S: Sink>(out: &mut S, flow: &mut Outflow<'_>, edge: &EdgeLine)
         (line_text v (line.Edge edge.now)) }
 {
     flow.put(out, b"edge|");
-    put_pair(out, flow, edge.low, edge.high);
-    put_label_and_mark(out, flow, edge.label, edge.mark);
+    put_pair(out, flow, edge.low, edge.high, b'|');
+    flow.put(out, label_and_mark(edge.label, edge.mark));
     flow.put_number_behind(out, b'|', edge.support);
     flow.put_byte(out, b'\n');
 }
@@ -206,8 +189,7 @@ fn put_probe<S: Sink>(out: &mut S, flow: &mut Outflow<'_>, probe: &Probe)
         (line_text v (line.Probe probe.now)) }
 {
     flow.put(out, b"open|");
-    put_pair(out, flow, probe.over, probe.under);
-    flow.put_byte(out, b'\n');
+    put_pair(out, flow, probe.over, probe.under, b'\n');
 }
 
 fn put_end<S: Sink>(out: &mut S, flow: &mut Outflow<'_>, totals: &Totals)
@@ -228,8 +210,7 @@ fn put_given<S: Sink>(out: &mut S, flow: &mut Outflow<'_>, given: &Given)
         (line_text v (line.Given given.now)) }
 {
     flow.put(out, b"given|");
-    put_pair(out, flow, given.over, given.under);
-    flow.put_byte(out, b'\n');
+    put_pair(out, flow, given.over, given.under, b'\n');
 }
 
 fn put_given_lines<S: Sink>(out: &mut S, flow: &mut Outflow<'_>, givens: &[Given])

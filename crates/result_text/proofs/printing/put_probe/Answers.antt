@@ -1,8 +1,8 @@
-use Rattle.std.proofs.Common.{append_assoc}
+use Rattle.std.proofs.Common.{refl}
 use Rattle.result_text.specs.Text.{line_text}
 use Rattle.tor_io.proofs.Putting.{puts_as, puts_then}
 use Rattle.result_text.proofs.printing.put_probe.Goals as goal
 
 pub returns : goal.returns
 unfolding line_text
-returns g c = λ v. puts_as (puts_then c.put.ensures (puts_then c.put_pair.ensures c.put_byte.ensures)) (simp append_assoc)
+returns g c = λ v. puts_as (puts_then c.put.ensures c.put_pair.ensures) refl
