@@ -9,7 +9,7 @@ use path_clean::{Cause, Sets};
 use path_table::{HashedPaths, Lookup, PathTable};
 use std::alloc::Global;
 use std::marker::Model;
-use tor_arena::NoMemory;
+use tor_arena::{NoMemory, reserve};
 
 /// The routes of one record, each merged before the first of them is taken in. Their paths are looked up one right after the other,
 /// so that the waits for memory of these look-ups overlap, and only those are judged that aren't found: what stands in the table is
@@ -69,7 +69,7 @@ impl Batch {
         ensures routes { OnOk result (self.new.routes ≡ self.old.routes ++ merged_of sets width attrs.now ∷ []) }
         ensures places { self.new.places ≡ self.old.places }
     {
-        if self.causes.reserve(1).is_err() {
+        if reserve(&mut self.causes, 1).is_err() {
             return Err(NoMemory);
         }
         match self.paths.merge(sets, attrs, width) {

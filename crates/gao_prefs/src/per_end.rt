@@ -7,7 +7,7 @@ ghost use Rattle.gao_prefs.specs.Ends.{at_end, degrees_of};
 use as_graph::AsGraph;
 use relationships::End;
 use std::alloc::Global;
-use tor_arena::{EdgeId, Index, NoMemory};
+use tor_arena::{EdgeId, Index, NoMemory, reserve};
 
 /// A number for each end of an edge.
 #[derive(Clone, Copy, PartialEq, Eq)]
@@ -48,10 +48,11 @@ pub(crate) fn end_degrees(alloc: Global, graph: &AsGraph) -> Result<Vec<PerEnd>,
     let mut degrees = Vec::with_capacity(alloc, count)?;
     for place in 0..count {
         let ends = graph.end_degrees(EdgeId::from_place(place).unwrap());
-        degrees.push(PerEnd {
+        reserve(&mut degrees, 1)?;
+        degrees.push_reserved(PerEnd {
             low: ends.low,
             high: ends.high,
-        })?;
+        });
     }
     Ok(degrees)
 }

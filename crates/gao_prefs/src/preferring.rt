@@ -20,7 +20,7 @@ use crate::tally::count_votes;
 use as_graph::AsGraph;
 use relationships::End;
 use std::alloc::Global;
-use tor_arena::{EdgeId, Index, List, NoMemory, PathId};
+use tor_arena::{EdgeId, Index, List, NoMemory, PathId, reserve};
 
 /// What an edge prefers.
 #[derive(Clone, Copy, PartialEq, Eq)]
@@ -88,7 +88,8 @@ fn prefs_of(alloc: Global, votes: &[PerEnd], degrees: &[PerEnd]) -> Result<Vec<P
     let mut prefs = Vec::with_capacity(alloc, votes.len())?;
     for place in 0..votes.len() {
         let edge = EdgeId::from_place(place).unwrap();
-        prefs.push(pref_of(edge, &votes[place], &degrees[place]))?;
+        reserve(&mut prefs, 1)?;
+        prefs.push_reserved(pref_of(edge, &votes[place], &degrees[place]));
     }
     Ok(prefs)
 }
@@ -121,7 +122,8 @@ fn supports_of(alloc: Global, votes: &[PerEnd]) -> Result<List<u32>, NoMemory>
 {
     let mut supports = Vec::with_capacity(alloc, votes.len())?;
     for ends in votes {
-        supports.push(ends.low + ends.high)?;
+        reserve(&mut supports, 1)?;
+        supports.push_reserved(ends.low + ends.high);
     }
     Ok(List::from_vec(supports))
 }

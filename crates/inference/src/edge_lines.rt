@@ -7,7 +7,7 @@ use as_graph::{AsGraph, Labels};
 use relationships::Mark;
 use result_text::EdgeLine;
 use std::alloc::Global;
-use tor_arena::{EdgeId, Index, List, NoMemory};
+use tor_arena::{EdgeId, Index, List, NoMemory, reserve};
 
 /// A line for each edge of a graph, with its label, its mark and its support. There has to be one of each for each edge. The only error
 /// is that memory ran out.
@@ -34,7 +34,8 @@ pub(crate) fn edge_lines(
             mark: marks[place],
             support: u64::from(supports[place]),
         };
-        lines.push(line)?;
+        reserve(&mut lines, 1)?;
+        lines.push_reserved(line);
     }
     Ok(List::from_vec(lines))
 }

@@ -10,7 +10,7 @@ use crate::cleaning::merge_behind;
 use path_attrs::{Attrs, Width};
 use std::alloc::Global;
 use std::marker::Model;
-use tor_arena::NoMemory;
+use tor_arena::{NoMemory, reserve};
 
 /// What routes are merged to, unjudged: a path for each, in the order in which they were merged.
 #[derive(Drop)]
@@ -83,7 +83,7 @@ impl MergedPaths {
         ensures merged { IfOk result (IsMergedBehind self.old self.new (merged_of sets width attrs.now)) }
         ensures err { OnErr result (self.new ≡ []) }
     {
-        if self.ends.reserve(1).is_err() {
+        if reserve(&mut self.ends, 1).is_err() {
             self.clear();
             return Err(NoMemory);
         }

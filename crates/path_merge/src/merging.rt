@@ -7,7 +7,7 @@ ghost use Rattle.path_merge.specs.Merging.{are_equal, is_set, is_mixed_set, ases
 ghost use Rattle.path_merge.specs.Merging.{GoesBehind, MergesOnto};
 
 use path_attrs::{NumberCursor, PathCursor, SegKind, SegmentRef};
-use tor_arena::NoMemory;
+use tor_arena::{NoMemory, reserve};
 
 /// What among segments is no plain part of a path. The first of the two decides.
 #[derive(Clone, Copy, PartialEq, Eq)]
@@ -72,7 +72,7 @@ fn end_run(numbers: &mut Vec<u32>, last: u32, next: u32)
 pub fn append_merged(numbers: &mut Vec<u32>, ases: NumberCursor<'_>) -> Result<(), NoMemory>
     ensures { OnOk result (numbers.new.items ≡ numbers.old.items ++ dedup nat_eq ases.entry) }
 {
-    numbers.reserve(ases.len())?;
+    reserve(numbers, ases.len())?;
     let mut left = ases;
     let Some(first) = left.next() else {
         return Ok(());

@@ -8,7 +8,7 @@ use crate::hashing::short_hash_of;
 use path_clean::MergedPaths;
 use std::alloc::Global;
 use std::marker::Model;
-use tor_arena::{NoMemory, PathId};
+use tor_arena::{NoMemory, PathId, reserve};
 
 /// Where the paths of a batch were found in a table. Its lists serve one batch after the other.
 #[derive(Drop)]
@@ -86,7 +86,7 @@ fn find_each(
 {
     guesses.resize(hashes.len(), 0)?;
     places.clear();
-    places.reserve(hashes.len())?;
+    reserve(places, hashes.len())?;
     table.guess_each(hashes, guesses);
     compare_each(table, paths, guesses.as_slice(), places);
     Ok(())
@@ -103,7 +103,7 @@ pub(crate) fn hash_each(
     ensures err { OnErr result (hashes.new.items ≡ []) }
 {
     hashes.clear();
-    if hashes.reserve(paths.len()).is_err() {
+    if reserve(hashes, paths.len()).is_err() {
         return Err(NoMemory);
     }
     add_hashes(seed, paths, hashes);

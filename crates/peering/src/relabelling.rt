@@ -16,7 +16,7 @@ use crate::partners::Partners;
 use as_graph::{AsGraph, Labels, Orientation};
 use relationships::{End, Label};
 use std::alloc::Global;
-use tor_arena::{EdgeId, Index, NoMemory, PathId};
+use tor_arena::{EdgeId, Index, NoMemory, PathId, reserve};
 
 /// The label that has this provider.
 fn label_by(end: End) -> Label
@@ -34,7 +34,8 @@ fn first_labels(alloc: Global, ends: &[End]) -> Result<Labels, NoMemory>
 {
     let mut labels = Vec::with_capacity(alloc, ends.len())?;
     for end in ends {
-        labels.push(label_by(*end))?;
+        reserve(&mut labels, 1)?;
+        labels.push_reserved(label_by(*end));
     }
     Labels::from_slice(alloc, labels.as_slice())
 }

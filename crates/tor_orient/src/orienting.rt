@@ -17,7 +17,7 @@ use as_graph::{AsGraph, Orientation};
 use gao_prefs::Pref;
 use relationships::End;
 use std::alloc::Global;
-use tor_arena::{ArcId, EdgeId, Index, NoMemory, NodeId};
+use tor_arena::{ArcId, EdgeId, Index, NoMemory, NodeId, reserve};
 use tor_clauses::{Clauses, Lit, model_law};
 use tor_digraph::{NodeSet, RowDigraph};
 
@@ -44,7 +44,8 @@ fn settled_ends(alloc: Global, settled: &NodeSet, count: usize) -> Result<Orient
     let mut ends = Vec::with_capacity(alloc, count)?;
     for place in 0..count {
         let edge = EdgeId::from_place(place).unwrap();
-        ends.push(settled_end(settled, edge))?;
+        reserve(&mut ends, 1)?;
+        ends.push_reserved(settled_end(settled, edge));
     }
     Orientation::from_slice(alloc, ends.as_slice())
 }

@@ -17,9 +17,10 @@ loop-place-preserved c =
     c.end_degrees-ends.ensures.low ∙ ap (λ k. degree paths (get_or (edges paths) k (0, 0)).0) same in
     let high : c.end_degrees-ends.result.high ≡ degree paths (get_or (edges paths) place (0, 0)).1 =
     c.end_degrees-ends.ensures.high ∙ ap (λ k. degree paths (get_or (edges paths) k (0, 0)).1) same in
-    let pushed : c.push.new.self.items ≡ c.loop-place.degrees.items ++ degrees_of paths (get_or (edges paths) place (0, 0)) ∷ [] =
-    c.in_ok-push.ensures.items ∙ ap₂ (λ (x y : ℕ). c.loop-place.degrees.items ++ per_end x y ∷ []) low high in
-    degrees_more paths (edges paths) place c.loop-place.degrees.items c.push.new.self.items within c.loop-place.invariant pushed
+    let pushed : c.push_reserved.new.self.items ≡ c.loop-place.degrees.items ++ degrees_of paths (get_or (edges paths) place (0, 0)) ∷ [] =
+    c.push_reserved.ensures.items ∙ ap (λ l. l ++ per_end c.end_degrees-ends.result.low c.end_degrees-ends.result.high ∷ []) c.reserve.ensures.items ∙
+    ap₂ (λ (x y : ℕ). c.loop-place.degrees.items ++ per_end x y ∷ []) low high in
+    degrees_more paths (edges paths) place c.loop-place.degrees.items c.push_reserved.new.self.items within c.loop-place.invariant pushed
   where
     per_end : ℕ → ℕ → PerEnd
     per_end x y = record { low = x; high = y }

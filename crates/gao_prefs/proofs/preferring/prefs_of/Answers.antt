@@ -1,4 +1,4 @@
-use Rattle.std.proofs.Common.{◌≡◌, ◌+◌, ◌++◌, ◌∷◌, [], rules, sym, subst}
+use Rattle.std.proofs.Common.{◌≡◌, ◌+◌, ◌++◌, ◌∷◌, [], rules, ap, sym, ◌∙◌, subst}
 use Rattle.relationships.specs.declared.label.End.{End}
 use Rattle.gao_prefs.specs.Preferences.{IsPref}
 use Rattle.gao_prefs.proofs.PrefLemmas.{ArePrefs, prefs_more}
@@ -16,5 +16,6 @@ loop-place-preserved c =
     let degrees = c.args.degrees.now in
     let place = c.loop-place.place in
     let is : IsPref votes degrees place c.pref_of.result = search rules in
-    let pushed : c.push.new.self.items ≡ c.loop-place.prefs.items ++ c.pref_of.result ∷ [] = c.in_ok-push.ensures.items in
+    let pushed : c.push_reserved.new.self.items ≡ c.loop-place.prefs.items ++ c.pref_of.result ∷ [] =
+    c.push_reserved.ensures.items ∙ ap (λ l. l ++ c.pref_of.result ∷ []) c.reserve.ensures.items in
     subst (ArePrefs votes degrees (place + 1)) (sym pushed) (prefs_more votes degrees place c.loop-place.prefs.items c.pref_of.result c.loop-place.invariant c.pref_of.ensures.small is)

@@ -31,8 +31,9 @@ loop-place-preserved c =
     let mark : slice_get marks place ≡ Some (get_or marks place Mark.Forced) = slice_get-get_or marks place Mark.Forced (omega (arith, lt, c.requires.marks)) in
     let support : slice_get supports place ≡ Some c.from.result =
     slice_get-get_or supports place 0 (omega (arith, lt, c.requires.supports)) ∙ ap (λ n. Some n) (sym c.from.ensures) in
-    subst (AreLinesOf (take (place + 1) es) (take (place + 1) labels) (take (place + 1) marks) (take (place + 1) supports)) (sym c.in_ok-push.ensures.items)
-    (lines_more es labels marks supports place c.loop-place.lines.items _ c.loop-place.invariant edge label mark support)
+    let kept = subst (AreLinesOf (take place es) (take place labels) (take place marks) (take place supports)) (sym c.reserve.ensures.items) c.loop-place.invariant in
+    subst (AreLinesOf (take (place + 1) es) (take (place + 1) labels) (take (place + 1) marks) (take (place + 1) supports)) (sym c.push_reserved.ensures.items)
+    (lines_more es labels marks supports place c.reserve.new.items.items _ kept edge label mark support)
 
 pub returns : goal.returns
 returns c =
