@@ -79,6 +79,10 @@ impl Settling {
         ensures { IfOk result (Settles problem.now node self.old self.new) }
     {
         problem.facts();
+        // from an order that no arc leaves, nothing follows
+        if problem.row(node).is_empty() {
+            return Ok(true);
+        }
         let other = negation_node(node);
         if self.shown.nodes.has(other) {
             return Ok(true);

@@ -50,6 +50,16 @@ opposite_node-node l = ap (λ m. node_of (negated m)) (lit_of_node l)
 pub opposite_node_twice : (n : ℕ) → opposite_node (opposite_node n) ≡ n
 opposite_node_twice n = opposite_node-node (negated (lit_of n)) ∙ ap node_of (negated_twice (lit_of n)) ∙ node_of_lit n
 
+-- no node is that of its own negation
+pub opposite_node-other : (n : ℕ) → n ≡ opposite_node n → ⊥
+opposite_node-other n same =
+    let l = lit_of n in
+    other l.over (ap (λ m. side m.over) (same_literal l (negated l) (node_of_lit n ∙ same)))
+  where
+    other : (e : End) → side e ≡ side (opposite e) → ⊥
+    other End.Low e = absurd (omega (arith, e))
+    other End.High e = absurd (omega (arith, e))
+
 -- ---- how many nodes there are
 
 pub node_below : (l : Literal) (n : ℕ) → l.edge < n → node_of l < n * 2

@@ -1,19 +1,21 @@
 -- One edge more is settled.
-use Rattle.std.proofs.Common.{◌≡◌, ℕ, ◌+◌, ◌<◌, ◌⊎◌, inl, inr, List, [], Some, length, refl, sym, ap, ◌∙◌, subst, arith, Contains}
+use Rattle.std.proofs.Common.{◌≡◌, ℕ, ◌+◌, ◌<◌, ◌⊎◌, inl, inr, Bool, List, [], Some, length, refl, sym, ap, ◌∙◌, subst, arith, Contains}
 use Rattle.std.specs.Prelude.{slice_get}
 use Rattle.std.proofs.lemmas.Bool.{cases_lt}
 use Rattle.std.proofs.lemmas.Option.{same_Some}
 use Rattle.relationships.specs.declared.label.End.{End}
 use Rattle.gao_prefs.specs.declared.preferring.Pref.{Pref}
-use Rattle.tor_digraph.specs.Walks.{Reaches, here, along, IsInside}
-use Rattle.tor_digraph.specs.NodeSets.{Nodes}
+use Rattle.tor_digraph.specs.Walks.{HasArc, Reaches, here, along, IsInside}
+use Rattle.tor_digraph.specs.NodeSets.{Nodes, IsAdded}
 use Rattle.tor_digraph.specs.Reached.{IsGrown}
 use Rattle.tor_digraph.specs.Spreading.{IsClosed}
+use Rattle.tor_digraph.proofs.Closings.{reaches_itself}
+use Rattle.tor_digraph.proofs.Spreadings.{spreading_begins}
 use Rattle.tor_arena.proofs.Gets.{has-from_Contains, Contains-from_has, slice_get-some, none-in}
 use Rattle.tor_clauses.specs.Literals.{lit_of, opposite_node, Holds}
 use Rattle.tor_clauses.specs.Formulas.{Formula, IsModel}
 use Rattle.tor_clauses.specs.Flipping.{HasPartners}
-use Rattle.tor_clauses.proofs.LiteralLemmas.{opposite_node_twice}
+use Rattle.tor_clauses.proofs.LiteralLemmas.{opposite_node_twice, opposite_node-other}
 use Rattle.tor_clauses.proofs.Sides.{holds_one, holds_either}
 use Rattle.tor_clauses.proofs.Flips.{reach_back, reach_from, reach_own}
 use Rattle.tor_orient.specs.Steps.{node_wanted, NoneLeadsOut, HasOpposites, IsFailing, IsSettledBy, IsWhole, AgreesUpTo, IsRuledOut, AreSettled}
@@ -64,6 +66,22 @@ module _ (f : Formula) where
   pub model_along : (ends : List End) → IsModel f ends → {a b : ℕ} → Reaches f.net.arcs a b → Holds ends (lit_of a) → Holds ends (lit_of b)
   model_along ends model here h = h
   model_along ends model (along {b = b} {c = c} w arc) h = model arc.0 b c arc.1 (model_along ends model w h)
+
+-- ---- a node that no arc leaves
+
+module _ (arcs : List (ℕ × ℕ)) (node : ℕ) (is_new : Bool) (old new : List ℕ) (none : (x : ℕ) → HasArc arcs node x → ⊥) (closed : NoneLeadsOut arcs old)
+    (added : IsAdded node is_new old new) where
+  alone_grown : IsGrown arcs node old new
+  alone_grown = (spreading_begins arcs [] node is_new old new (length old) added (λ x y h arc. inl (closed x y h arc)) refl).grown
+
+  pub alone_closed : NoneLeadsOut arcs new
+  alone_closed x y h arc = elim (grown_cases arcs node old new alone_grown x h) [
+    | inl was ↦ grown_keeps arcs node old new alone_grown y (closed x y was arc)
+    | inr r ↦ absurd (none y (subst (λ z. HasArc arcs z y) (sym (reaches_itself none r)) arc))
+  ]
+
+  pub alone_settled : (Contains old node → ⊥) → (Contains old (opposite_node node) → ⊥) → IsSettledBy arcs node old new
+  alone_settled unwanted unsettled = inr (unwanted, unsettled, inl (λ r. opposite_node-other node (reaches_itself none r), alone_grown))
 
 -- no literal leads to its opposite and back
 abbrev pub OneWay : Formula → Type 0

@@ -68,6 +68,11 @@ fn settle(
     if settled.has(negation_node(node)) {
         return Ok(());
     }
+    // from a literal that no arc leaves, nothing follows
+    if rows.row(node).is_empty() {
+        settled.add(node)?;
+        return Ok(());
+    }
     let failing = failing_behind(rows, node, settled, search)?;
     search.behind.clear();
     match failing {

@@ -1,10 +1,13 @@
-use Rattle.std.proofs.Common.{inl, inr, refl, sym, ap, ◌∙◌, ℕ, subst, Contains}
+use Rattle.std.proofs.Common.{◌≡◌, inl, inr, refl, sym, ap, ◌∙◌, ℕ, length, subst, Contains}
 use Rattle.std.specs.Prelude.{IfSome, IfNone}
 use Rattle.std.proofs.lemmas.Bool.{false≢true}
+use Rattle.std.proofs.lemmas.Bool.Decides.{eqb_tells}
 use Rattle.tor_arena.proofs.Gets.{none-in}
 use Rattle.tor_digraph.specs.Walks.{Net}
 use Rattle.tor_digraph.specs.Reached.{IsGrown}
+use Rattle.tor_digraph.proofs.Closings.{no_arc, reaches_itself}
 use Rattle.tor_clauses.specs.Literals.{opposite_node}
+use Rattle.tor_clauses.proofs.LiteralLemmas.{opposite_node-other}
 use Rattle.tor_digraph.specs.Spreading.{IsClosed}
 use Rattle.order_trials.specs.Trials.{IsClash, AreAllPassed}
 use Rattle.order_trials.proofs.Helds.{held_along}
@@ -12,6 +15,21 @@ use Rattle.order_trials.proofs.Showings.{grown-cases}
 use Rattle.order_trials.proofs.Settlings.{together_more, together_kept}
 use Rattle.order_trials.proofs.Trying.{clash_leads, no_way}
 use Rattle.order_trials.proofs.settling.Settling.settle.Goals as goal
+
+pub returns-then-is_empty : goal.returns-then-is_empty
+returns-then-is_empty c =
+    let arcs = c.args.problem.now.formula.net.arcs in
+    let row = c.row.result.now in
+    let empty : length row ≡ 0 = elim (eqb_tells (length row) 0) [ inl p ↦ p.1 | inr p ↦ absurd (false≢true (sym p.0 ∙ sym c.is_empty.ensures ∙ c.if-is_empty.true)) ] in
+    let none = no_arc (λ a. a) arcs c.args.node row c.row.ensures empty in
+    record {
+      shown = c.requires.shown;
+      keeps = λ n h. h;
+      together = c.requires.together;
+      trial = c.requires.trial;
+      settled = λ t r. absurd (opposite_node-other c.args.node (reaches_itself none r));
+      first = λ e. refl;
+    }
 
 pub returns-then-has : goal.returns-then-has
 returns-then-has c = record {
