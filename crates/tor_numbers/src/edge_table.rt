@@ -52,7 +52,7 @@ impl EdgeTable {
         }
     }
 
-    /// Adds the edge of two ASes, which goes last unless it is there. NoMemory comes where memory ran out, and where there are 2^32 - 1
+    /// Adds the edge of two ASes, which goes last unless it is there. NoMemory comes where memory ran out, and where there are 2^28 - 1
     /// edges, and changes nothing.
     pub fn add(&mut self, a: u32, b: u32) -> Result<AddedEdge, NoMemory>
         ensures ok { OnOk result (self.new ≡ with_edge self.old (edge_of a b)) }

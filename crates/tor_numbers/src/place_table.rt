@@ -1,17 +1,19 @@
 //! Distinct numbers, each found with its place.
-ghost use Rattle.std.specs.Prelude.{◌≡◌, ◌<◌, ◌≤◌, ◌/◌, ◌^◌, ℕ, [], length, slice_get, Some, Contains, IfOk, OnOk, OnErr, MatchOption};
+ghost use Rattle.std.specs.Prelude.{◌≡◌, ◌≢◌, ◌↔◌, ◌+◌, ◌<◌, ◌≤◌, ◌/◌, ◌%◌, ◌^◌, ℕ, [], All, length, slice_get, Some, Contains, IsTrue, IfOk, OnOk, OnErr};
+ghost use Rattle.std.specs.Prelude.{MatchOption};
 ghost use Rattle.tor_numbers.specs.Slots.{IsSearchEnd, IsHeld, IsApart};
 ghost use Rattle.tor_arena.specs.Growth.{IsDoubled};
-ghost use Rattle.tor_numbers.specs.Places.{names, IsPlaced, AreWithin, GoesLastIfNew};
+ghost use Rattle.tor_numbers.specs.Places.{places, named, names, tag_for, IsTagged, IsPlaced, AreWithin, GoesLastIfNew};
 
-use crate::slot_search::{SearchEnd, next, start_of};
+use crate::slot_search::{SearchEnd, next, start_of, tag_of};
 use std::alloc::Global;
 use std::hash::BuildHasher;
 use std::marker::Model;
 use tor_arena::{Keys, NoMemory, doubled, reserve};
 
 /// Distinct numbers from 2 on, in the order in which they were added, each found with its place. They are found by slots, of which
-/// at most a third are in use: a slot holds the place of a number, from 1.
+/// at most a third are in use: a slot holds the place of a number, from 1, and a tag of it, so that hardly any other number is looked at
+/// on the way to one.
 #[derive(Drop)]
 pub struct PlaceTable {
     alloc: Global,
@@ -46,7 +48,7 @@ impl PlaceTable {
     }
 
     /// Adds a number at the end, unless it is there, and answers its place, from 0. NoMemory comes where memory ran out, and where there
-    /// are 2^32 - 1 numbers, and changes nothing.
+    /// are 2^28 - 1 numbers, and changes nothing.
     pub fn add(&mut self, number: u64) -> Result<usize, NoMemory>
         requires { 2 ≤ number }
         ensures ok { OnOk result (GoesLastIfNew number self.old self.new) }
@@ -65,6 +67,7 @@ impl PlaceTable {
         match seek(
             self.slots.as_slice(),
             self.numbers.as_slice(),
+            self.seed,
             start,
             number,
         ) {
@@ -75,7 +78,7 @@ impl PlaceTable {
                 number,
             )),
             SearchEnd::Free(slot) if count < MOST => {
-                self.slots[slot] = count as u32 + 1;
+                self.slots[slot] = slot_with(count, tag_of(self.seed, number));
                 self.numbers.push_reserved(number);
                 Ok(count)
             }
@@ -96,6 +99,7 @@ impl PlaceTable {
         match seek(
             self.slots.as_slice(),
             self.numbers.as_slice(),
+            self.seed,
             start,
             number,
         ) {
@@ -126,24 +130,49 @@ impl PlaceTable {
 }
 
 /// The most numbers of a table.
-const MOST: usize = 0xFFFF_FFFF;
+const MOST: usize = 0xFFF_FFFF;
+
+/// How many tags there are.
+const TAGS: u32 = 16;
+
+/// A slot that holds a place, from 0, with a tag.
+fn slot_with(place: usize, tag: u32) -> u32
+    requires place { place + 1 < 2 ^ 28 }
+    requires tag { tag < 16 }
+    ensures place { result / 16 ≡ place + 1 }
+    ensures tag { result % 16 ≡ tag }
+{
+    (place as u32 + 1) * TAGS + tag
+}
+
+/// Whether a slot that is not free holds the place of this number, which has this tag.
+fn holds(slot: u32, numbers: &[u64], tag: u32, number: u64) -> bool
+    requires used { slot / 16 ≢ 0 }
+    requires within { slot / 16 ≤ length numbers.now }
+    requires tagged { named numbers.now (slot / 16) ≡ number → slot % 16 ≡ tag }
+    ensures { IsTrue result ↔ (named numbers.now (slot / 16) ≡ number) }
+{
+    slot % TAGS == tag && numbers[(slot / TAGS) as usize - 1] == number
+}
 
 /// Searches a number from a slot on, where the slots hold places among these numbers.
-fn seek(slots: &[u32], numbers: &[u64], start: usize, number: u64) -> SearchEnd
+fn seek(slots: &[u32], numbers: &[u64], seed: u64, start: usize, number: u64) -> SearchEnd
     requires start { start < length slots.now }
     requires number { 2 ≤ number }
-    requires within { AreWithin (length numbers.now) slots.now }
+    requires within { AreWithin (length numbers.now) (places slots.now) }
+    requires tagged { All (IsTagged seed numbers.now) slots.now }
     requires least { (n : ℕ) → Contains numbers.now n → 2 ≤ n }
-    ensures { IsSearchEnd (names numbers.now slots.now) start number result }
+    ensures { IsSearchEnd (names numbers.now (places slots.now)) start number result }
 {
+    let tag = tag_of(seed, number);
     let mut place = start;
     let mut left = slots.len();
     while left > 0 {
-        let slot = slots[place] as usize;
-        if slot == 0 {
+        let slot = slots[place];
+        if slot / TAGS == 0 {
             return SearchEnd::Free(place);
         }
-        if numbers[slot - 1] == number {
+        if holds(slot, numbers, tag, number) {
             return SearchEnd::Held(place);
         }
         place = next(place, slots.len());
@@ -155,22 +184,23 @@ fn seek(slots: &[u32], numbers: &[u64], start: usize, number: u64) -> SearchEnd
 /// The place of a number, from 0, which a slot names.
 fn place_at(slots: &[u32], numbers: &[u64], slot: usize, number: u64) -> usize
     requires number { 2 ≤ number }
-    requires within { AreWithin (length numbers.now) slots.now }
-    requires named { slice_get (names numbers.now slots.now) slot ≡ Some number }
+    requires within { AreWithin (length numbers.now) (places slots.now) }
+    requires named { slice_get (names numbers.now (places slots.now)) slot ≡ Some number }
     ensures { slice_get numbers.now result ≡ Some number }
 {
-    slots[slot] as usize - 1
+    (slots[slot] / TAGS) as usize - 1
 }
 
 /// Puts the places of these numbers into so many slots.
 fn filled(alloc: Global, seed: u64, count: usize, numbers: &[u64]) -> Result<Vec<u32>, NoMemory>
     requires some { 0 < count }
     requires least { (n : ℕ) → Contains numbers.now n → 2 ≤ n }
-    requires few { length numbers.now < 2 ^ 32 }
+    requires few { length numbers.now < 2 ^ 28 }
     requires apart { IsApart numbers.now }
     ensures many { IfOk result (λ slots. length slots.items ≡ count) }
-    ensures within { IfOk result (λ slots. AreWithin (length numbers.now) slots.items) }
-    ensures held { IfOk result (λ slots. IsHeld seed (names numbers.now slots.items) numbers.now) }
+    ensures within { IfOk result (λ slots. AreWithin (length numbers.now) (places slots.items)) }
+    ensures tagged { IfOk result (λ slots. All (IsTagged seed numbers.now) slots.items) }
+    ensures held { IfOk result (λ slots. IsHeld seed (names numbers.now (places slots.items)) numbers.now) }
 {
     let mut slots = Vec::new(alloc);
     reserve(&mut slots, count)?;
@@ -178,8 +208,8 @@ fn filled(alloc: Global, seed: u64, count: usize, numbers: &[u64]) -> Result<Vec
     for place in 0..numbers.len() {
         let number = numbers[place];
         let start = start_of(seed, number, slots.len());
-        match seek(slots.as_slice(), numbers, start, number) {
-            SearchEnd::Free(slot) => slots[slot] = place as u32 + 1,
+        match seek(slots.as_slice(), numbers, seed, start, number) {
+            SearchEnd::Free(slot) => slots[slot] = slot_with(place, tag_of(seed, number)),
             SearchEnd::Held(_) | SearchEnd::Full => return Err(NoMemory),
         }
     }

@@ -1,7 +1,7 @@
 use Rattle.std.proofs.Common.{◌≡◌, length, subst, sym, ap, ap₂, ◌∙◌, arith}
 use Rattle.std.specs.Prelude.{Contains}
 use Rattle.tor_numbers.specs.Slots.{start_at, IsSearchEnd}
-use Rattle.tor_numbers.specs.Places.{names}
+use Rattle.tor_numbers.specs.Places.{places, names}
 use Rattle.tor_numbers.proofs.SlotLemmas.{not_held}
 use Rattle.tor_numbers.proofs.PlaceLemmas.{none_held, absent_by}
 use Rattle.tor_numbers.proofs.place_table.PlaceTable.place.Goals as goal
@@ -24,7 +24,7 @@ returns-in-Free c there =
     let many : c.len-count.result ≡ length slots.items = omega (arith, c.len-count.ensures, ok) in
     let start = c.start_of-start.result in
     let is : start ≡ start_at c.self.inside.seed c.args.number (length slots.items) = c.start_of-start.ensures.start ∙ ap (start_at c.self.inside.seed c.args.number) many in
-    let end = subst (λ l. IsSearchEnd l start c.args.number c.seek.result) (ap₂ names c.as_slice-2.ensures.value c.as_slice.ensures.value) c.seek.ensures in
+    let end = subst (λ l. IsSearchEnd l start c.args.number c.seek.result) (ap₂ (λ ns ss. names ns (places ss)) c.as_slice-2.ensures.value c.as_slice.ensures.value) c.seek.ensures in
     absent_by c.self.inside.seed slots.items numbers.items start c.args.number c.self.invariant is
-    (not_held (names numbers.items slots.items) start c.args.number c.seek.result end c.in-Free.is)
+    (not_held (names numbers.items (places slots.items)) start c.args.number c.seek.result end c.in-Free.is)
     (subst (λ l. Contains l c.args.number) (sym c.self.view_is) there)
