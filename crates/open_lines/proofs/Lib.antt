@@ -3,6 +3,7 @@ pub mod Buildings
 pub mod Carrying
 pub mod Climbing
 pub mod Consistencies
+pub mod FilledRows
 pub mod Firsts
 pub mod Flippings
 pub mod KeptLines

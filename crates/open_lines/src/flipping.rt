@@ -273,7 +273,7 @@ impl Flips {
         requires steps { HaveCodedSteps (its_edges file.now) (its_paths file.now) steps.now }
         ensures { IfOk result (λ flips. IsBuiltFor file.now.edges (served_lines file.now) flips.implied flips.conflicting) }
     {
-        let mut flips = Flips::new(alloc, file.edges.len())?;
+        let mut flips = Flips::new(alloc, file.edges.len());
         match flips.note_all(alloc, keys, file, table, labels, steps) {
             Ok(()) => Ok(flips),
             Err(NoMemory) => {
@@ -283,22 +283,14 @@ impl Flips {
         }
     }
 
-    /// Empty rows, for so many edges.
-    fn new(alloc: Global, count: usize) -> Result<Flips, NoMemory>
-        requires { count ≤ most_places }
-        ensures implied { IfOk result (λ flips. flips.implied ≡ replicate count []) }
-        ensures conflicting { IfOk result (λ flips. flips.conflicting ≡ replicate count []) }
+    /// Empty rows, for so many edges. It takes no memory.
+    fn new(alloc: Global, count: usize) -> Flips
+        ensures implied { result.implied ≡ replicate count [] }
+        ensures conflicting { result.conflicting ≡ replicate count [] }
     {
-        let implied = Neighbours::new(alloc, count)?;
-        match Neighbours::new(alloc, count) {
-            Ok(conflicting) => Ok(Flips {
-                implied,
-                conflicting,
-            }),
-            Err(NoMemory) => {
-                drop(implied);
-                Err(NoMemory)
-            }
+        Flips {
+            implied: Neighbours::new(alloc, count),
+            conflicting: Neighbours::new(alloc, count),
         }
     }
 

@@ -1,7 +1,7 @@
 //! Which edges stand next to each other on kept paths and on returns of givens.
-ghost use Rattle.std.specs.Prelude.{◌≡◌, ◌<◌, ◌≤◌, ◌++◌, ◌∷◌, [], All, Some, length, replicate, slice_get, OnOk, OnErr, IfOk};
+ghost use Rattle.std.specs.Prelude.{◌≡◌, ◌⊎◌, ◌-◌, ◌<◌, ◌≤◌, ◌++◌, ◌∷◌, [], All, Some, length, replicate, slice_get, OnOk, OnErr, IfOk};
 ghost use Rattle.tor_arena.specs.Limits.{most_places};
-ghost use Rattle.open_lines.specs.Neighbours.{with_next, EachHasRow, HasBack, IsTurned};
+ghost use Rattle.open_lines.specs.Neighbours.{filled_up, with_next, EachHasRow, HasBack, IsTurned};
 
 use std::alloc::Global;
 use std::marker::Model;
@@ -48,37 +48,51 @@ impl Row {
     }
 }
 
-/// For each edge a row of other edges.
+/// For each edge a row of other edges. Rows behind the last one in which an edge was put take no memory.
 #[derive(Drop)]
 pub struct Neighbours {
+    alloc: Global,
+    // the first rows; those behind them are empty
     rows: Arena<EdgeId, Row>,
+    // how many rows there are in all
+    count: usize,
 }
 
 impl Model for Neighbours {
-    ghost use Rattle.std.specs.Prelude.{List, ℕ};
+    ghost use Rattle.std.specs.Prelude.{◌≤◌, List, ℕ, length};
+    ghost use Rattle.open_lines.specs.Neighbours.{filled_up};
 
     ghost Value = { List (List ℕ) };
 
-    ghost view = { λ neighbours. neighbours.rows.items };
+    ghost view = { λ neighbours. filled_up neighbours.rows.items neighbours.count };
+
+    ghost invariant = { λ neighbours. length neighbours.rows.items ≤ neighbours.count };
+}
+
+/// Puts empty rows behind the others, until there are at least so many.
+fn fill_up(alloc: Global, rows: &mut Arena<EdgeId, Row>, count: usize) -> Result<(), NoMemory>
+    ensures filled { OnOk result (rows.new.items ≡ filled_up rows.old.items count) }
+    ensures few { (length rows.new.items ≤ length rows.old.items) ⊎ (length rows.new.items ≤ count) }
+{
+    while rows.len() < count {
+        match rows.push(Row::new(alloc)) {
+            Ok(_) => {}
+            Err(_) => return Err(NoMemory),
+        }
+    }
+    Ok(())
 }
 
 impl Neighbours {
-    /// Empty rows, one for each of so many edges.
-    pub(crate) fn new(alloc: Global, count: usize) -> Result<Neighbours, NoMemory>
-        requires { count ≤ most_places }
-        ensures { IfOk result (λ rows. rows ≡ replicate count []) }
+    /// Empty rows, one for each of so many edges. It takes no memory.
+    pub(crate) fn new(alloc: Global, count: usize) -> Neighbours
+        ensures { result ≡ replicate count [] }
     {
-        let mut rows = Arena::new(alloc);
-        for _ in 0..count {
-            match rows.push(Row::new(alloc)) {
-                Ok(_) => {}
-                Err(_) => {
-                    drop(rows);
-                    return Err(NoMemory);
-                }
-            }
+        Neighbours {
+            alloc,
+            rows: Arena::new(alloc),
+            count,
         }
-        Ok(Neighbours { rows })
     }
 
     /// Puts an edge behind the others in a row.
@@ -86,6 +100,7 @@ impl Neighbours {
         requires { from < length self.old }
         ensures { OnOk result (self.new ≡ with_next self.old from to) }
     {
+        fill_up(self.alloc, &mut self.rows, from.place() + 1)?;
         self.rows.get_mut(from).push(to)
     }
 
@@ -94,6 +109,9 @@ impl Neighbours {
         requires { edge < length self.now }
         ensures { slice_get self.now edge ≡ Some result.now }
     {
+        if edge.place() >= self.rows.len() {
+            return &[];
+        }
         self.rows.get(edge).as_slice()
     }
 
@@ -114,7 +132,7 @@ impl Neighbours {
         requires inside { EachHasRow self.now }
         ensures { IfOk result (IsTurned self.now) }
     {
-        let mut turned = Neighbours::new(alloc, self.len())?;
+        let mut turned = Neighbours::new(alloc, self.len());
         match self.turn_into(&mut turned) {
             Ok(()) => Ok(turned),
             Err(NoMemory) => {
@@ -142,6 +160,6 @@ impl Neighbours {
     pub(crate) fn len(&self) -> usize
         ensures { result ≡ length self.now }
     {
-        self.rows.len()
+        self.count
     }
 }
