@@ -1,5 +1,5 @@
 //! Distinct numbers, each found with its place.
-ghost use Rattle.std.specs.Prelude.{◌≡◌, ◌≢◌, ◌↔◌, ◌+◌, ◌<◌, ◌≤◌, ◌/◌, ◌%◌, ◌^◌, ℕ, [], All, length, slice_get, Some, Contains, IsTrue, IfOk, OnOk, OnErr};
+ghost use Rattle.std.specs.Prelude.{◌≡◌, ◌≢◌, ◌↔◌, ◌+◌, ◌*◌, ◌<◌, ◌≤◌, ◌/◌, ◌%◌, ◌^◌, ℕ, [], All, length, slice_get, Some, Contains, IsTrue, IfOk, OnOk, OnErr};
 ghost use Rattle.std.specs.Prelude.{MatchOption};
 ghost use Rattle.tor_numbers.specs.Slots.{IsSearchEnd, IsHeld, IsApart};
 ghost use Rattle.tor_arena.specs.Growth.{IsDoubled};
@@ -12,7 +12,7 @@ use std::marker::Model;
 use tor_arena::{Keys, NoMemory, doubled, reserve};
 
 /// Distinct numbers from 2 on, in the order in which they were added, each found with its place. They are found by slots, of which
-/// at most a third are in use: a slot holds the place of a number, from 1, and a tag of it, so that hardly any other number is looked at
+/// at most two thirds are in use: a slot holds the place of a number, from 1, and a tag of it, so that hardly any other number is looked at
 /// on the way to one.
 #[derive(Drop)]
 pub struct PlaceTable {
@@ -219,7 +219,7 @@ fn filled(alloc: Global, seed: u64, count: usize, numbers: &[u64]) -> Result<Vec
 /// How many slots there are at first.
 const FIRST: usize = 16;
 
-/// Makes twice as many slots if a third of them are in use, and else leaves them as they are. For want of memory nothing changes.
+/// Makes twice as many slots if two thirds of them are in use, and else leaves them as they are. For want of memory nothing changes.
 #[inline(always)]
 fn make_room(
     alloc: Global,
@@ -229,12 +229,12 @@ fn make_room(
 ) -> Result<(), NoMemory>
     requires placed { IsPlaced seed slots.old.items numbers.now }
     ensures some { OnOk result (0 < length slots.new.items) }
-    ensures stays { length numbers.now < length slots.old.items / 3 → slots.new ≡ slots.old }
-    ensures grows { OnOk result (length slots.old.items / 3 ≤ length numbers.now →
+    ensures stays { length numbers.now < length slots.old.items / 3 * 2 → slots.new ≡ slots.old }
+    ensures grows { OnOk result (length slots.old.items / 3 * 2 ≤ length numbers.now →
         IsDoubled 16 (length slots.old.items) (length slots.new.items)) }
     ensures placed { IsPlaced seed slots.new.items numbers.now }
 {
-    if numbers.len() >= slots.len() / 3 {
+    if numbers.len() >= slots.len() / 3 * 2 {
         return grow(alloc, seed, numbers, slots);
     }
     Ok(())
