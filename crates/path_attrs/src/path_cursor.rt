@@ -74,7 +74,9 @@ impl<'a> LeadingCursor<'a> {
         if most == 0 {
             return None;
         }
-        let segment = self.segments.next()?;
+        let Some(segment) = self.segments.next() else {
+            return None;
+        };
         let count = segment.count();
         if count <= most {
             self.most = Some(most - count);
@@ -182,7 +184,10 @@ impl<'a> PathCursor<'a> {
     {
         match self.leading.next() {
             Some(segment) => Some(segment),
-            None => self.behind.as_mut()?.next(),
+            None => match &mut self.behind {
+                Some(behind) => behind.next(),
+                None => None,
+            },
         }
     }
 

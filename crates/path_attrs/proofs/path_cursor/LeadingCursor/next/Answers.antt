@@ -12,9 +12,9 @@ returns-then-most-eq0 c =
 pub returns-else-count-most : goal.returns-else-count-most
 returns-else-count-most c =
     let most = c.in-Some.most in
-    let segment = c.in_ok-segment.segment in
+    let segment = c.in-Some-next.segment in
     let behind = c.next-2.new.self in
     let some : 0 < most = omega (arith, c.if-most-eq0.false) in
     let long : most < count_in segment = omega (arith, c.if-count-most.false, c.count-count.ensures) in
-    sym c.self.view_is ∙ ap (λ m. leading_in m c.self.inside.segments) c.in-Some.is ∙ ap (leading most) c.in_ok-segment.ensures
+    sym c.self.view_is ∙ ap (λ m. leading_in m c.self.inside.segments) c.in-Some.is ∙ ap (leading most) c.in-Some-next.ensures
     ∙ leading-cut most segment behind some long ∙ ap (λ s. s ∷ leading 0 behind) (sym c.cut_to.ensures)
