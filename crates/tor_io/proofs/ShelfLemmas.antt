@@ -74,6 +74,9 @@ module _ {T E : Type 0} where
 pub is_gone : ◌≡◌ {A = Result (Unit {0}) OpenRefused} (Err gone) (Err memory) → ⊥
 is_gone e = cc
 
+pub is_memory : ◌≡◌ {A = Result (Unit {0}) OpenRefused} (Err memory) (Err gone) → ⊥
+is_memory e = cc
+
 pub is_open : (error : OpenRefused) → ◌≡◌ {A = Result (Unit {0}) OpenRefused} (Ok tt) (Err error) → ⊥
 is_open error e = cc
 
