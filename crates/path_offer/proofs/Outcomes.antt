@@ -1,6 +1,6 @@
 -- What a selector keeps true, when a path is kept and when it is lost.
 use Rattle.std.proofs.Common.{◌≡◌, ℕ, ◌*◌, List, [], length, flat_map, sym, ap, ◌∙◌, subst, arith}
-use Rattle.std.specs.Prelude.{slice_get}
+use Rattle.std.specs.Prelude.{slice_get, Result, Ok, Err, IsErr, OnOk, OnErr}
 use Rattle.relationships.specs.declared.label.End.{End}
 use Rattle.tor_clauses.specs.Triples.{arcs_of}
 use Rattle.tor_clauses.specs.Formulas.{Formula, IsModel, first_of, mark_of}
@@ -15,6 +15,15 @@ use Rattle.tor_mend.specs.Rounds.{AreKnown}
 use Rattle.path_offer.specs.Inside.{IsKeeping}
 use Rattle.path_offer.proofs.Keepings.{met_all}
 use Rattle.tor_mend.proofs.Knowing.{known_kept, known_cut}
+
+-- of an error
+pub not_ok : {T E : Type 0} (r : Result T E) (P : Type 0) → IsErr r → OnOk r P
+not_ok (Ok x) P is = absurd (let bad = is in cc)
+not_ok (Err e) P is = tt
+
+pub at_error : {T E : Type 0} (r : Result T E) (P : Type 0) → P → OnErr r P
+at_error (Ok x) P p = tt
+at_error (Err e) P p = p
 
 none_inside : (count : ℕ) (flips : List Flip) → flips ≡ [] → AreInside count flips
 none_inside count flips none k f at = absurd (let bad = sym at ∙ ap (λ (l : List Flip). slice_get l k) none in cc)

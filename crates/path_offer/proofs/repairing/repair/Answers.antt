@@ -1,5 +1,8 @@
 use Rattle.std.proofs.Common.{◌≡◌, ℕ, ◌*◌, ◌/◌, ◌<◌, ◌∙◌, length, refl, sym, ap, subst, arith}
-use Rattle.std.specs.Prelude.{IfNone}
+use Rattle.std.proofs.lemmas.Result.{IfOk-from_err}
+use Rattle.std.specs.Prelude.{IfNone, IfSome}
+use Rattle.relationships.specs.Evidence.{Refutes}
+use Rattle.tor_clauses.specs.Formulas.{numbered_of}
 use Rattle.tor_digraph.specs.Walks.{IsArc}
 use Rattle.tor_clauses.proofs.Arcs.{length-arcs}
 use Rattle.tor_mend.specs.Posing.{first_open}
@@ -36,10 +39,51 @@ loop-triple-preserved c =
           c.loop-triple.invariant.repaired settled;
     }
 
-pub returns-clause-repaired : goal.returns-clause-repaired
-returns-clause-repaired c =
+pub overflow_mul-as_slice : goal.overflow_mul-as_slice
+overflow_mul-as_slice c = record { fits = omega (arith, c.as_slice.type_inv.1) }
+
+pub arc_of-arc-requires : goal.arc_of-arc-requires
+arc_of-arc-requires c = omega (arith, c.loop-triple-test.true, c.triple_count-count.ensures)
+
+pub settle-requires : goal.settle-requires
+settle-requires c = record { there = c.arc_of-arc.ensures.there; state = c.loop-triple.invariant.state; known = c.loop-triple.invariant.known }
+
+pub returns-in_err-walk : goal.returns-in_err-walk
+returns-in_err-walk c =
+    let e = c.settle.ensures in
+    let r = c.from_residual.result in
+    let is = c.from_residual.ensures.0 in
+    record {
+      state = e.state;
+      known = e.known;
+      back = e.back ∙ c.loop-triple.invariant.back;
+      repaired = IfOk-from_err r _ is;
+      walk = IfOk-from_err r _ is;
+    }
+
+pub returns-in-Some : goal.returns-in-Some
+returns-in-Some c =
+    let e = c.settle.ensures in
+    let posed = c.args.problem.now in
+    record {
+      state = e.state;
+      known = e.known;
+      back = e.back ∙ c.loop-triple.invariant.back;
+      repaired = tt;
+      walk = subst (λ o. IfSome o (Refutes (numbered_of posed.graph posed.formula))) c.in-Some.is c.in_ok-walk.ensures.walk;
+    }
+
+pub returns : goal.returns
+returns c =
     let arcs = c.args.problem.now.formula.net.arcs in
     let pairs = ap length c.facts.ensures.arcs ∙ length-arcs c.args.problem.now.formula.triples in
     let there = c.facts.ensures.posed.there in
     let all : c.loop-triple.triple * 2 ≡ length arcs = omega (arith, pairs, c.triple_count-count.ensures, c.settled-settled.ensures, there, c.loop-triple-test.false) in
-    subst (λ n. IsRepaired arcs (first_open c.args.problem.now) n c.args.state.now.ends c.loop-triple.state.ends) all c.loop-triple.invariant.repaired
+    let l = c.loop-triple.invariant in
+    record {
+      state = l.state;
+      known = l.known;
+      back = l.back;
+      repaired = subst (λ n. IsRepaired arcs (first_open c.args.problem.now) n c.args.state.now.ends c.loop-triple.state.ends) all l.repaired;
+      walk = tt;
+    }

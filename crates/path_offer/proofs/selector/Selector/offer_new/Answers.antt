@@ -1,10 +1,13 @@
-use Rattle.std.proofs.Common.{◌≡◌, ◌*◌, ◌++◌, ◌∷◌, [], ◌∙◌, List, length, refl, sym, ap, ap₂, subst, arith}
+use Rattle.std.proofs.Common.{◌≡◌, take, ◌*◌, ◌++◌, ◌∷◌, [], ◌∙◌, List, length, refl, sym, ap, ap₂, subst, arith}
+use Rattle.std.proofs.lemmas.Result.{IfOk-from_err}
 use Rattle.std.specs.Prelude.{IfNone, IfSome}
 use Rattle.std.proofs.lemmas.Bool.{false≢true}
 use Rattle.relationships.specs.Evidence.{Refutes}
 use Rattle.relationships.specs.Selection.{IsServable}
 use Rattle.as_graph.specs.Paths.{paths_at}
-use Rattle.tor_clauses.specs.Formulas.{Formula, FitsGraph, IsServed, first_of, numbered}
+use Rattle.tor_clauses.specs.Formulas.{Formula, FitsGraph, IsMark, IsServed, first_of, numbered}
+use Rattle.tor_clauses.specs.Triples.{AreAmong, triples_on}
+use Rattle.path_offer.specs.Inside.{IsKeeping}
 use Rattle.tor_clauses.specs.declared.clauses.ClauseMark.{ClauseMark}
 use Rattle.tor_mend.specs.Posing.{Posed, first_open}
 use Rattle.path_offer.specs.Repairs.{AreMet, IsRepaired, Repairs}
@@ -16,31 +19,67 @@ use Rattle.path_offer.specs.Choices.{Choice, ChangesFrom}
 use Rattle.tor_clauses.specs.Literals.{lit_of, Holds}
 use Rattle.relationships.specs.declared.label.End.{End}
 use Rattle.path_offer.proofs.Origins.{changes_from, unchanged}
-use Rattle.path_offer.proofs.Outcomes.{arcs_marked, kept_on, kept_back}
+use Rattle.path_offer.proofs.Outcomes.{at_error, arcs_marked, kept_on, kept_back}
 use Rattle.tor_mend.proofs.Prefixes.{triples_stay}
 use Rattle.path_offer.proofs.Keepings.{arcs_met, met_all, servable, not_servable}
 use Rattle.path_offer.proofs.selector.Selector.offer_new.Goals as goal
 
-pub new-problem-requires-clause-settled : goal.new-problem-requires-clause-settled
-new-problem-requires-clause-settled c =
+abbrev choice : Formula → List End → Choice
+choice formula ends = record { formula = formula; ends = ends }
+
+pub add_path-requires : goal.add_path-requires
+add_path-requires c = record {
+  fits = subst (λ (v : Choice). FitsGraph c.args.graph.now v.formula) (sym c.self.view_is) c.requires.fits;
+  there = c.requires.there;
+  none = tt;
+  some = subst (λ (v : Choice). AreAmong v.formula.triples (take c.args.known (triples_on c.args.graph.now c.args.path))) (sym c.self.view_is) c.requires.known;
+}
+
+pub invariant_of-self : goal.invariant_of-self
+invariant_of-self c = subst (λ (h : Formula). IsKeeping h c.self.inside.state) (sym c.in_err-add_path.ensures.err) c.self.invariant
+
+pub returns-in_err-add_path : goal.returns-in_err-add_path
+returns-in_err-add_path c =
+    let r = c.from_residual.result in
+    record {
+      offered = IfOk-from_err r _ c.from_residual.ensures.0;
+      err = at_error r _ (ap (λ (h : Formula). choice h c.self.inside.state.ends) c.in_err-add_path.ensures.err ∙ c.self.view_is);
+    }
+
+pub new-problem-requires : goal.new-problem-requires
+new-problem-requires c =
     let stay = triples_stay c.self.inside.clauses c.add_path.new.self _ c.in_ok-add_path.ensures.prefix in
     let count = ap (λ (m : ClauseMark). m.triples) c.mark-mark.ensures in
-    omega (arith, stay, count)
+    record { fits = c.in_ok-add_path.ensures.fits; settled = omega (arith, stay, count) }
 
-pub repair-requires-clause-met : goal.repair-requires-clause-met
-repair-requires-clause-met c =
-    let met = arcs_met c.self.inside.clauses c.add_path.new.self _ c.in_ok-add_path.ensures.prefix c.self.inside.state.ends c.self.invariant.model in
-    let count : length c.self.inside.clauses.net.arcs ≡ c.mark-mark.result.triples * 2 = sym (arcs_marked c.self.inside.clauses c.mark-mark.result c.facts-2.ensures.arcs c.mark-mark.ensures) in
-    let there = subst (λ n. AreMet c.add_path.new.self.net.arcs n c.self.inside.state.ends) count met in
-    subst (λ (p : Posed). AreMet p.formula.net.arcs (first_open p) c.self.inside.state.ends) (sym c.new-problem.ensures) there
-
-pub repair-requires-clause-known : goal.repair-requires-clause-known
-repair-requires-clause-known c =
+pub repair-requires : goal.repair-requires
+repair-requires c =
     let f = c.self.inside.clauses in
-    let known = known_added f c.add_path.new.self _ c.in_ok-add_path.ensures.prefix c.self.inside.state.known c.self.invariant.known in
-    let count : length f.net.arcs ≡ (c.mark-mark.result.triples * 2) = sym (arcs_marked f c.mark-mark.result c.facts-2.ensures.arcs c.mark-mark.ensures) in
-    let there = subst (λ n. AreKnown c.add_path.new.self.net.arcs n c.self.inside.state.known) count known in
-    subst (λ (p : Posed). AreKnown p.formula.net.arcs (first_open p) c.self.inside.state.known) (sym c.new-problem.ensures) there
+    let g = c.add_path.new.self in
+    let s = c.self.inside.state in
+    let prefix = c.in_ok-add_path.ensures.prefix in
+    let posed = sym c.new-problem.ensures in
+    let nodes : f.net.nodes ≡ g.net.nodes = sym (ap (λ (h : Formula). h.net.nodes) prefix) in
+    let count : length f.net.arcs ≡ c.mark-mark.result.triples * 2 = sym (arcs_marked f c.mark-mark.result c.facts-2.ensures.arcs c.mark-mark.ensures) in
+    let met = subst (λ n. AreMet g.net.arcs n s.ends) count (arcs_met f g _ prefix s.ends c.self.invariant.model) in
+    let known = subst (λ n. AreKnown g.net.arcs n s.known) count (known_added f g _ prefix s.known c.self.invariant.known) in
+    record {
+      state = subst (λ (p : Posed). IsState p.formula.net.nodes s) posed (subst (λ n. IsState n s) nodes c.self.invariant.state);
+      met = subst (λ (p : Posed). AreMet p.formula.net.arcs (first_open p) s.ends) posed met;
+      known = subst (λ (p : Posed). AreKnown p.formula.net.arcs (first_open p) s.known) posed known;
+    }
+
+pub flip_back-requires : goal.flip_back-requires
+flip_back-requires c = c.repair.ensures.state.flips
+
+pub undo_to-requires : goal.undo_to-requires
+undo_to-requires c = subst (IsMark c.add_path.new.self) (sym c.mark-mark.ensures) c.in_ok-add_path.ensures.mark
+
+pub flip_back-requires-in-Err : goal.flip_back-requires-in-Err
+flip_back-requires-in-Err c = c.repair.ensures.state.flips
+
+pub undo_to-requires-in-Err : goal.undo_to-requires-in-Err
+undo_to-requires-in-Err c = subst (IsMark c.add_path.new.self) (sym c.mark-mark.ensures) c.in_ok-add_path.ensures.mark
 
 pub invariant_of-self-in-Ok-None : goal.invariant_of-self-in-Ok-None
 invariant_of-self-in-Ok-None c =
@@ -79,11 +118,8 @@ invariant_of-self-in-Err c =
     c.flip_back-in-Err.new.flips cut c.self.invariant (subst (λ (p : Posed). IsState p.formula.net.nodes s) c.new-problem.ensures c.repair.ensures.state) known
     c.repair.ensures.back c.flip_back-in-Err.ensures.ends c.flip_back-in-Err.ensures.none
 
-abbrev choice : Formula → List End → Choice
-choice formula ends = record { formula = formula; ends = ends }
-
-pub returns-in-Ok-None-clause-offered : goal.returns-in-Ok-None-clause-offered
-returns-in-Ok-None-clause-offered c =
+pub returns-in-Ok-None : goal.returns-in-Ok-None
+returns-in-Ok-None c =
     let graph = c.args.graph.now in
     let f = c.self.inside.clauses in
     let g = c.add_path.new.self in
@@ -101,19 +137,22 @@ returns-in-Ok-None-clause-offered c =
     let paths = c.in_ok-add_path.ensures.paths ∙ ap (λ v. v.formula.paths ++ c.args.path ∷ []) c.self.view_is in
     let can = servable graph g new c.model_law.ensures c.facts.ensures.apart c.in_ok-add_path.ensures.fits (c.repair.ensures.state.ends ∙ ends_of) (met_all g new repaired.met) in
     record {
-      fits = c.in_ok-add_path.ensures.fits;
-      exact = (λ kept. subst (λ places. IsServable (paths_at graph places)) paths can, λ some. refl);
-      kept = λ kept. paths;
-      lost = tt;
-      walk = tt;
-      same = λ serves. unchanged graph f g c.args.path c.facts.ensures.apart fits c.in_ok-add_path.ensures.fits c.in_ok-add_path.ensures.paths old new
-          c.model_law.ensures c.self.invariant.state.ends c.self.invariant.model from (subst (IsServed graph (c.args.path ∷ [])) (sym ends) serves) ∙ ends;
-      changed = subst (λ es. ChangesFrom graph c.args.path g.net.arcs es new) ends
-          (changes_from graph f g c.args.path c.facts.ensures.apart fits c.in_ok-add_path.ensures.fits c.in_ok-add_path.ensures.paths old new from);
+      offered = record {
+        fits = c.in_ok-add_path.ensures.fits;
+        exact = (λ kept. subst (λ places. IsServable (paths_at graph places)) paths can, λ some. refl);
+        kept = λ kept. paths;
+        lost = tt;
+        walk = tt;
+        same = λ serves. unchanged graph f g c.args.path c.facts.ensures.apart fits c.in_ok-add_path.ensures.fits c.in_ok-add_path.ensures.paths old new
+            c.model_law.ensures c.self.invariant.state.ends c.self.invariant.model from (subst (IsServed graph (c.args.path ∷ [])) (sym ends) serves) ∙ ends;
+        changed = subst (λ es. ChangesFrom graph c.args.path g.net.arcs es new) ends
+            (changes_from graph f g c.args.path c.facts.ensures.apart fits c.in_ok-add_path.ensures.fits c.in_ok-add_path.ensures.paths old new from);
+      };
+      err = tt;
     }
 
-pub returns-in-Ok-Some-clause-offered : goal.returns-in-Ok-Some-clause-offered
-returns-in-Ok-Some-clause-offered c =
+pub returns-in-Ok-Some : goal.returns-in-Ok-Some
+returns-in-Ok-Some c =
     let graph = c.args.graph.now in
     let f = c.add_path.new.self in
     let old = c.self.inside.state.ends in
@@ -126,14 +165,25 @@ returns-in-Ok-Some-clause-offered c =
     let back : choice c.undo_to.new.self c.flip_back.new.ends ≡ c.args.self.now = ap₂ choice cut ends ∙ c.self.view_is in
     let still : c.flip_back.new.ends ≡ c.args.self.now.ends = ap (λ (v : Choice). v.ends) back in
     record {
-      fits = c.undo_to.ensures.fits graph c.in_ok-add_path.ensures.fits;
-      exact = (
-        λ kept. absurd (false≢true kept),
-        λ can. absurd (not_servable graph f.paths c.in-Ok-Some.walk c.refuting_law.ensures refutes (subst (λ places. IsServable (paths_at graph places)) (sym paths) can)),
-      );
-      kept = λ kept. absurd (false≢true kept);
-      lost = back;
-      walk = subst (λ places. Refutes (numbered graph places) c.in-Ok-Some.walk) paths refutes;
-      same = λ serves. still;
-      changed = λ x held not. absurd (not (subst (λ es. Holds es (lit_of x)) still held));
+      offered = record {
+        fits = c.undo_to.ensures.fits graph c.in_ok-add_path.ensures.fits;
+        exact = (
+          λ kept. absurd (false≢true kept),
+          λ can. absurd (not_servable graph f.paths c.in-Ok-Some.walk c.refuting_law.ensures refutes (subst (λ places. IsServable (paths_at graph places)) (sym paths) can)),
+        );
+        kept = λ kept. absurd (false≢true kept);
+        lost = back;
+        walk = subst (λ places. Refutes (numbered graph places) c.in-Ok-Some.walk) paths refutes;
+        same = λ serves. still;
+        changed = λ x held not. absurd (not (subst (λ es. Holds es (lit_of x)) still held));
+      };
+      err = tt;
     }
+
+pub returns-in-Err : goal.returns-in-Err
+returns-in-Err c =
+    let f = c.add_path.new.self in
+    let old = c.self.inside.state.ends in
+    let cut : c.undo_to-in-Err.new.self ≡ c.self.inside.clauses = c.undo_to-in-Err.ensures.first ∙ ap (first_of f) c.mark-mark.ensures ∙ c.in_ok-add_path.ensures.prefix in
+    let ends : c.flip_back-in-Err.new.ends ≡ old = c.flip_back-in-Err.ensures.ends ∙ c.repair.ensures.back ∙ ap (flipped_back old) c.self.invariant.none in
+    record { offered = tt; err = ap₂ choice cut ends ∙ c.self.view_is }
