@@ -1,6 +1,8 @@
-use Rattle.std.proofs.Common.{◌≡◌, ◌+◌, ℕ, List, take, subst, Contains}
+use Rattle.std.proofs.Common.{◌≡◌, ◌+◌, ◌<◌, ℕ, List, length, take, sym, ◌∙◌, subst, arith, Contains}
+use Rattle.std.proofs.lemmas.List.{take_all}
 use Rattle.std.proofs.lemmas.List.Elements.{Contains-push_cases}
 use Rattle.tor_arena.proofs.Gets.{take_item, Contains-none}
+use Rattle.open_lines.specs.Batches.{HasRuledOut}
 use Rattle.open_lines.proofs.RuledOut.{ruled-none, ruled-one, ruled-more}
 use Rattle.open_lines.proofs.batch.rule_out.Goals as goal
 
@@ -18,3 +20,21 @@ loop-edge-preserved c =
     ruled-more implying c.args.round (Contains (take i row)) (λ k. edge ≡ k) (Contains (take (i + 1) row)) c.args.ruled.now.items c.loop-edge.ruled.items c.reach.new.rounds.items
     so_far (ruled-one implying c.args.round edge c.loop-edge.ruled.items c.reach.new.rounds.items c.reach.new.found so_far.closed so_far.latest c.in_ok-reach.ensures)
     (λ k h. Contains-push_cases (take i row) edge k (subst (λ (l : List ℕ). Contains l k) (take_item row i edge c.loop-edge-test.true c.edge-item.is) h))
+
+pub reach-requires-clause-start : goal.reach-requires-clause-start
+reach-requires-clause-start c =
+    subst (λ k. k < length c.args.implying.now) (sym c.edge-item.is) (c.requires.row c.loop-edge.edge-index c.edge-item.result c.loop-edge-test.true)
+
+pub reach-requires-clause-many : goal.reach-requires-clause-many
+reach-requires-clause-many c = c.loop-edge.invariant.many ∙ c.requires.many
+
+pub reach-requires-clause-inside : goal.reach-requires-clause-inside
+reach-requires-clause-inside c = c.requires.inside
+
+pub reach-requires-clause-closed : goal.reach-requires-clause-closed
+reach-requires-clause-closed c = c.loop-edge.invariant.closed
+
+pub returns : goal.returns
+returns c =
+    subst (λ row. HasRuledOut c.args.implying.now c.args.round (Contains row) c.args.ruled.now.items c.loop-edge.ruled.items)
+    (take_all c.loop-edge.edge-index c.args.row.now (omega (arith, c.loop-edge-test.false))) c.loop-edge.invariant

@@ -1,6 +1,8 @@
-use Rattle.std.proofs.Common.{ℕ, take, get_or, arith, Contains}
+use Rattle.std.proofs.Common.{ℕ, ◌<◌, List, length, take, get_or, sym, ◌∙◌, subst, arith, Contains}
+use Rattle.std.proofs.lemmas.List.{take_all}
 use Rattle.std.proofs.lemmas.List.Elements.{Contains-get_or}
 use Rattle.tor_arena.proofs.Gets.{take_item, Contains-none}
+use Rattle.open_lines.specs.Batches.{HasRuledOut}
 use Rattle.open_lines.specs.Neighbours.{HasNext}
 use Rattle.open_lines.proofs.RuledOut.{ruled-none, ruled_next}
 use Rattle.open_lines.proofs.batch.rule_out_around.Goals as goal
@@ -23,3 +25,25 @@ loop-edge-preserved c =
     let edge = c.edge-item.result in
     ruled_next c.args.implying.now c.args.round c.args.flips.now.conflicting found i edge c.of-row.result.now c.args.ruled.now.items c.loop-edge.ruled.items c.rule_out.new.ruled.items
     (take_item found i edge c.loop-edge-test.true c.edge-item.is) c.of-row.ensures c.loop-edge.invariant c.in_ok-rule_out.ensures
+
+pub of-row-requires : goal.of-row-requires
+of-row-requires c =
+    let below = subst (λ k. k < length c.args.flips.now.implied) (sym c.edge-item.is) (c.requires.found c.loop-edge.edge-index c.edge-item.result c.loop-edge-test.true) in
+    omega (arith, below, c.requires.rows.same)
+
+pub rule_out-requires-clause-many : goal.rule_out-requires-clause-many
+rule_out-requires-clause-many c = c.loop-edge.invariant.many ∙ c.requires.many ∙ sym c.requires.rows.turned_many
+
+pub rule_out-requires-clause-inside : goal.rule_out-requires-clause-inside
+rule_out-requires-clause-inside c = c.requires.rows.turned_inside
+
+pub rule_out-requires-clause-closed : goal.rule_out-requires-clause-closed
+rule_out-requires-clause-closed c = c.loop-edge.invariant.closed
+
+pub rule_out-requires-clause-latest : goal.rule_out-requires-clause-latest
+rule_out-requires-clause-latest c = c.loop-edge.invariant.latest
+
+pub returns : goal.returns
+returns c =
+    subst (λ (found : List ℕ). HasRuledOut c.args.implying.now c.args.round (λ k. (i : ℕ) × Contains found i × HasNext c.args.flips.now.conflicting i k) c.args.ruled.now.items c.loop-edge.ruled.items)
+    (take_all c.loop-edge.edge-index c.args.found.now (omega (arith, c.loop-edge-test.false))) c.loop-edge.invariant

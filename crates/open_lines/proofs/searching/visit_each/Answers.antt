@@ -1,6 +1,8 @@
 use Rattle.std.proofs.Common.{◌<◌, [], ◌∷◌, length, take, sym, subst, arith}
+use Rattle.std.proofs.lemmas.List.{take_all}
 use Rattle.tor_arena.proofs.Gets.{take_item}
-use Rattle.open_lines.proofs.Rounds.{rounds-more}
+use Rattle.open_lines.specs.Searching.{RoundComesTo}
+use Rattle.open_lines.proofs.Rounds.{rounds-none, rounds-more}
 use Rattle.open_lines.proofs.searching.visit_each.Goals as goal
 
 pub loop-edge-preserved : goal.loop-edge-preserved
@@ -16,3 +18,11 @@ visit-requires c =
     let many = c.loop-edge.invariant.many in
     let below = subst (λ k. k < length c.args.rounds.now.items) (sym c.edge-item.is) (c.requires c.loop-edge.edge-index c.edge-item.result c.loop-edge-test.true) in
     omega (arith, below, many)
+
+pub loop-edge-init : goal.loop-edge-init
+loop-edge-init c = rounds-none c.args.round c.args.rounds.now.items c.args.found.now
+
+pub returns : goal.returns
+returns c =
+    subst (λ row. RoundComesTo c.args.round row c.args.rounds.now.items c.loop-edge.rounds.items c.args.found.now c.loop-edge.found)
+    (take_all c.loop-edge.edge-index c.args.row.now (omega (arith, c.loop-edge-test.false))) c.loop-edge.invariant

@@ -88,3 +88,42 @@ returns-clause-agrees c =
       λ t. agrees_within implied conflicting c.args.start old.round old.rounds.items new found reach (agrees.0 (ap not c.if-has_clash.false)),
       λ alone. refl,
     )
+
+pub reach-requires-clause-start : goal.reach-requires-clause-start
+reach-requires-clause-start c = c.requires.start
+
+pub reach-requires-clause-many : goal.reach-requires-clause-many
+reach-requires-clause-many c = c.requires.batch.many
+
+pub reach-requires-clause-inside : goal.reach-requires-clause-inside
+reach-requires-clause-inside c = c.requires.rows.inside
+
+pub reach-requires-clause-closed : goal.reach-requires-clause-closed
+reach-requires-clause-closed c = c.requires.batch.together.closed
+
+pub has_clash-requires-clause-inside : goal.has_clash-requires-clause-inside
+has_clash-requires-clause-inside c = c.requires.rows.conflicts
+
+pub has_clash-requires-clause-many : goal.has_clash-requires-clause-many
+has_clash-requires-clause-many c = c.in_ok-reach.ensures.many ∙ c.requires.batch.many ∙ sym c.requires.rows.same
+
+pub returns-then-has_clash-clause-round : goal.returns-then-has_clash-clause-round
+returns-then-has_clash-clause-round c = refl
+
+pub returns-then-has_clash-clause-batch : goal.returns-then-has_clash-clause-batch
+returns-then-has_clash-clause-batch c = λ t. absurd (false≢true t)
+
+pub rule_out_around-requires-clause-rows : goal.rule_out_around-requires-clause-rows
+rule_out_around-requires-clause-rows c = c.requires.rows
+
+pub rule_out_around-requires-clause-many : goal.rule_out_around-requires-clause-many
+rule_out_around-requires-clause-many c = c.requires.batch.ruled_many
+
+pub rule_out_around-requires-clause-closed : goal.rule_out_around-requires-clause-closed
+rule_out_around-requires-clause-closed c = c.requires.batch.out.closed
+
+pub rule_out_around-requires-clause-latest : goal.rule_out_around-requires-clause-latest
+rule_out_around-requires-clause-latest c = c.requires.batch.out.latest
+
+pub returns-clause-round : goal.returns-clause-round
+returns-clause-round c = refl
