@@ -1,6 +1,7 @@
-use Rattle.std.proofs.Common.{rules, ◌≡◌, inr, length, subst}
-use Rattle.forced_edges.specs.Batches.{IsBatchSettled}
+use Rattle.std.proofs.Common.{rules, ◌≡◌, inr, length, sym, subst}
+use Rattle.forced_edges.specs.Batches.{AreNodesOf, IsBatchSettled}
 use Rattle.forced_edges.proofs.Batching.{settling_next, settling_done}
+use Rattle.forced_edges.proofs.Errors.{not_ok}
 use Rattle.forced_edges.proofs.batches.settle_batches.Goals as goal
 
 pub loop-alloc-init : goal.loop-alloc-init
@@ -19,6 +20,21 @@ loop-alloc-preserved c =
       under_way = settling_next c.args.problem.now c.args.nodes.now c.loop-alloc.settling.shown made c.loop-alloc.waiting now.waiting c.loop-alloc.invariant.under_way
           (subst (λ l. IsBatchSettled c.args.problem.now l c.loop-alloc.settling.shown made now.waiting) c.as_slice.ensures now.ensures.batch);
     }
+
+pub settle_batch-requires : goal.settle_batch-requires
+settle_batch-requires c = record { inside = c.requires.inside; settling = c.requires.settling }
+
+pub returns-in_err-waiting : goal.returns-in_err-waiting
+returns-in_err-waiting c =
+    let r = c.from_residual.result in
+    let is = c.from_residual.ensures.0 in
+    record { settling = not_ok r _ is; settled = not_ok r _ is }
+
+pub settle_batch-requires-in-loop-alloc : goal.settle_batch-requires-in-loop-alloc
+settle_batch-requires-in-loop-alloc c = record {
+  inside = subst (λ nodes. AreNodesOf c.args.problem.now nodes) (sym c.as_slice.ensures) c.loop-alloc.invariant.under_way.inside;
+  settling = c.loop-alloc.invariant.settling;
+}
 
 pub returns-clause-settled : goal.returns-clause-settled
 returns-clause-settled c =

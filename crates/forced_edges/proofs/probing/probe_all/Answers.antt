@@ -5,6 +5,7 @@ use Rattle.tor_digraph.proofs.Members.{read-at}
 use Rattle.order_trials.specs.Candidates.{IsAgainst}
 use Rattle.order_trials.proofs.Helds.{held_along}
 use Rattle.forced_edges.proofs.MarkSteps.{IsProbing, begins, probing_next, all_right}
+use Rattle.forced_edges.proofs.Errors.{not_ok}
 use Rattle.forced_edges.proofs.probing.probe_all.Goals as goal
 
 pub loop-left-init : goal.loop-left-init
@@ -39,6 +40,25 @@ loop-left-preserved c =
           (held_along posed.graph posed.labels facts.posed.labelled posed.formula facts.apart facts.posed.fits facts.posed.served)
           (left - 1) c.loop-left.marks (record c.loop-left.marks { probes = c.probe_order.new.probes }) node old new so at is refl refl c.in_ok-probe_order.ensures.probes;
     }
+
+pub probe_order-requires : goal.probe_order-requires
+probe_order-requires c =
+    let against = c.args.against.now in
+    let left = c.loop-left.left in
+    let test = c.loop-left-test.true in
+    let room = c.loop-left.invariant.room in
+    let below : left - 1 < length against = omega (arith, test, room) in
+    let node = c.index-against-left.result in
+    let at = read-at against against (left - 1) node refl c.index-against-left.is below in
+    record {
+      there = All-contains (λ n. n < c.args.problem.now.formula.net.nodes) against node c.requires.against.inside (Contains-from_has against node (left - 1, at));
+      shown = c.requires.shown;
+      covered = c.loop-left.invariant.count;
+      covers = c.loop-left.invariant.probing.cover.covers;
+    }
+
+pub returns-in_err-probe_order : goal.returns-in_err-probe_order
+returns-in_err-probe_order c = not_ok c.from_residual.result _ c.from_residual.ensures.0
 
 pub returns : goal.returns
 returns c =

@@ -1,4 +1,4 @@
-use Rattle.std.proofs.Common.{◌≡◌, ◌<◌, ◌∙◌, ℕ, Some, length, sym, subst}
+use Rattle.std.proofs.Common.{◌≡◌, ◌<◌, ◌∙◌, ℕ, Some, length, sym, subst, arith}
 use Rattle.std.proofs.lemmas.Option.{some_pair_parts}
 use Rattle.std.proofs.lemmas.Result.{IfOk-from_err}
 use Rattle.std.specs.Prelude.{slice_get, IfNone, IfSome}
@@ -68,10 +68,13 @@ mend-requires-2 c =
     let arc : IsArc arcs c.args.arc tail head = subst (λ net. slice_get net.arcs c.args.arc ≡ Some c.ends-tail.result) c.digraph.ensures c.ends-tail.ensures.arc in
     let below = subst (λ net. tail < net.nodes) c.digraph.ensures c.ends-tail.ensures.tail in
     let nodes = c.args.problem.now.formula.net.nodes in
+    let low = subst (λ net. head < net.nodes) c.digraph.ensures c.ends-tail.ensures.head in
+    let other_tail = opposite_below tail (length old) nodes c.requires.state.ends below in
+    let other_head = opposite_below head (length old) nodes c.requires.state.ends low in
     record {
       state = c.mend.ensures.state;
       known = c.mend.ensures.known;
-      there = subst (λ n. n < nodes) (sym c.negation_node.ensures) (opposite_below tail (length old) nodes c.requires.state.ends below);
+      there = omega (arith, c.negation_node.ensures, other_tail, other_head);
       unheld = λ holds.
           let same = subst (λ o. IfSome o (λ _. c.mend.new.state.ends ≡ old)) c.in-Some.is c.in_ok-mend.ensures.same in
           let there = subst (λ n. Holds old (lit_of n)) c.negation_node.ensures (subst (λ ends. Holds ends (lit_of c.negation_node.result)) same holds) in
@@ -119,20 +122,20 @@ returns c =
       back = e.back ∙ c.mend.ensures.back;
       settled = tt;
       conflict = record {
-      there = λ l m is.
-          let arcs = c.args.problem.now.formula.net.arcs in
-          let arc = subst (λ net. slice_get net.arcs c.args.arc ≡ Some c.ends-tail.result) c.digraph.ensures c.ends-tail.ensures.arc in
-          let parts = some_pair_parts l c.ends-tail.result.0 m c.ends-tail.result.1 (sym is ∙ arc) in
-          let led = subst (λ o. IfSome o (λ found. IsLed arcs found c.ends-tail.result.1 (opposite_node c.ends-tail.result.1))) c.in-Some.is c.in_ok-mend.ensures.way in
-          subst (λ n. IsLed arcs c.in-Some.way n (opposite_node n)) (sym parts.1) led;
-      rest = λ l m is.
-          let arcs = c.args.problem.now.formula.net.arcs in
-          let tail : ℕ = c.ends-tail.result.0 in
-          let arc = subst (λ net. slice_get net.arcs c.args.arc ≡ Some c.ends-tail.result) c.digraph.ensures c.ends-tail.ensures.arc in
-          let parts = some_pair_parts l tail m c.ends-tail.result.1 (sym is ∙ arc) in
-          let led = subst (λ o. IfSome o (λ found. IsLed arcs found c.negation_node.result (opposite_node c.negation_node.result))) c.in-Some-2.is c.in_ok-mend-2.ensures.way in
-          let from = subst (λ n. IsLed arcs c.in-Some-2.way n (opposite_node n)) c.negation_node.ensures led in
-          let twice = opposite_node_twice tail in
-          subst (λ n. IsLed arcs c.in-Some-2.way (opposite_node n) n) (sym parts.0) (subst (λ n. IsLed arcs c.in-Some-2.way (opposite_node tail) n) twice from);
+        there = λ l m is.
+            let arcs = c.args.problem.now.formula.net.arcs in
+            let arc = subst (λ net. slice_get net.arcs c.args.arc ≡ Some c.ends-tail.result) c.digraph.ensures c.ends-tail.ensures.arc in
+            let parts = some_pair_parts l c.ends-tail.result.0 m c.ends-tail.result.1 (sym is ∙ arc) in
+            let led = subst (λ o. IfSome o (λ found. IsLed arcs found c.ends-tail.result.1 (opposite_node c.ends-tail.result.1))) c.in-Some.is c.in_ok-mend.ensures.way in
+            subst (λ n. IsLed arcs c.in-Some.way n (opposite_node n)) (sym parts.1) led;
+        rest = λ l m is.
+            let arcs = c.args.problem.now.formula.net.arcs in
+            let tail : ℕ = c.ends-tail.result.0 in
+            let arc = subst (λ net. slice_get net.arcs c.args.arc ≡ Some c.ends-tail.result) c.digraph.ensures c.ends-tail.ensures.arc in
+            let parts = some_pair_parts l tail m c.ends-tail.result.1 (sym is ∙ arc) in
+            let led = subst (λ o. IfSome o (λ found. IsLed arcs found c.negation_node.result (opposite_node c.negation_node.result))) c.in-Some-2.is c.in_ok-mend-2.ensures.way in
+            let from = subst (λ n. IsLed arcs c.in-Some-2.way n (opposite_node n)) c.negation_node.ensures led in
+            let twice = opposite_node_twice tail in
+            subst (λ n. IsLed arcs c.in-Some-2.way (opposite_node n) n) (sym parts.0) (subst (λ n. IsLed arcs c.in-Some-2.way (opposite_node tail) n) twice from);
       };
     }

@@ -1,11 +1,8 @@
-use Rattle.std.proofs.Common.{◌≡◌, ◌<◌, ◌*◌, ℕ, Some, length, refl, sym, ap, subst, ◌∙◌, arith}
-use Rattle.std.proofs.lemmas.Bool.{false≢true}
+use Rattle.std.proofs.Common.{rules, ◌≡◌, ◌<◌, ◌*◌, ℕ, Some, length, sym, ap, subst, ◌∙◌, arith}
 use Rattle.std.proofs.lemmas.Option.{some_pair_parts}
 use Rattle.std.specs.Prelude.{slice_get}
 use Rattle.tor_digraph.specs.Walks.{IsArc}
 use Rattle.tor_clauses.specs.Literals.{lit_of, Holds}
-use Rattle.path_offer.proofs.Settlings.{settled_still}
-use Rattle.path_offer.proofs.repairing.settle.Goals.{then-not-holds-via-then-not-holds, then-not-holds-via-else-not-holds+then-holds}
 use Rattle.path_offer.proofs.repairing.settle.Goals as goal
 
 pub ends-tail-requires : goal.ends-tail-requires
@@ -13,35 +10,10 @@ ends-tail-requires c = subst (λ net. c.args.arc < length net.arcs) (sym c.digra
 
 pub holds-requires : goal.holds-requires
 holds-requires c =
-    let below = subst (λ net. c.ends-tail.result.0 < net.nodes) c.digraph.ensures c.ends-tail.ensures.tail in
+    let tail = subst (λ net. c.ends-tail.result.0 < net.nodes) c.digraph.ensures c.ends-tail.ensures.tail in
+    let head = subst (λ net. c.ends-tail.result.1 < net.nodes) c.digraph.ensures c.ends-tail.ensures.head in
     let many = ap length c.as_slice.ensures in
-    omega (arith, below, many, c.requires.state.ends)
-
-pub holds-requires-else-not-holds : goal.holds-requires-else-not-holds
-holds-requires-else-not-holds c =
-    let below = subst (λ net. c.ends-tail.result.1 < net.nodes) c.digraph.ensures c.ends-tail.ensures.head in
-    let many = ap length c.as_slice-else-not-holds.ensures in
-    omega (arith, below, many, c.requires.state.ends)
-
-pub returns-then-not-holds : goal.returns-then-not-holds
-returns-then-not-holds c =
-    let arcs = c.args.problem.now.formula.net.arcs in
-    let old = c.args.state.now.ends in
-    let tail : ℕ = c.ends-tail.result.0 in
-    let head : ℕ = c.ends-tail.result.1 in
-    let arc : IsArc arcs c.args.arc tail head = subst (λ net. slice_get net.arcs c.args.arc ≡ Some c.ends-tail.result) c.digraph.ensures c.ends-tail.ensures.arc in
-    let met : Holds old (lit_of tail) → Holds old (lit_of head) =
-    elim c.then-not-holds.branch [
-      | then-not-holds-via-then-not-holds w ↦ λ held. absurd (false≢true (w.if-not-holds.ensures.1 (subst (λ ends. Holds ends (lit_of tail)) (sym c.as_slice.ensures) held)))
-      | then-not-holds-via-else-not-holds+then-holds w ↦ λ held. subst (λ ends. Holds ends (lit_of head)) w.as_slice-else-not-holds.ensures (w.if-holds.ensures.0 refl)
-    ] in
-    record {
-      state = c.requires.state;
-      known = c.requires.known;
-      back = refl;
-      settled = settled_still arcs old c.args.arc tail head arc met;
-      walk = tt;
-    }
+    omega (arith, tail, head, many, c.requires.state.ends)
 
 pub meet_or_refute-requires : goal.meet_or_refute-requires
 meet_or_refute-requires c =
@@ -49,9 +21,8 @@ meet_or_refute-requires c =
     let tail : ℕ = c.ends-tail.result.0 in
     let head : ℕ = c.ends-tail.result.1 in
     let arc = subst (λ net. slice_get net.arcs c.args.arc ≡ Some c.ends-tail.result) c.digraph.ensures c.ends-tail.ensures.arc in
-    let held : Holds old (lit_of tail) = subst (λ ends. Holds ends (lit_of tail)) c.as_slice.ensures (c.if-not-holds.ensures.0 refl) in
-    let unheld : Holds old (lit_of head) → ⊥ =
-    λ holds. false≢true (c.if-holds.ensures.1 (subst (λ ends. Holds ends (lit_of head)) (sym c.as_slice-else-not-holds.ensures) holds)) in
+    let held : Holds old (lit_of tail) = search rules in
+    let unheld : Holds old (lit_of head) → ⊥ = search rules in
     record {
       there = c.requires.there;
       unmet = λ l m is.
