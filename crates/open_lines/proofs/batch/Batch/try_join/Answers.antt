@@ -1,4 +1,5 @@
-use Rattle.std.proofs.Common.{not, get_or, ap, arith, subst, Contains}
+use Rattle.std.proofs.Common.{not, get_or, refl, sym, ap, ◌∙◌, arith, subst, Contains}
+use Rattle.std.proofs.lemmas.Bool.{false≢true}
 use Rattle.std.proofs.lemmas.List.Elements.{Contains-get_or}
 use Rattle.std.proofs.lemmas.Option.{slice_get_within}
 use Rattle.open_lines.proofs.Consistencies.{agreeing_exactly, batch-more}
@@ -53,3 +54,45 @@ pub returns-clause-batch : goal.returns-clause-batch
 returns-clause-batch c =
     taken_back c.args.flips.now.implied c.args.flips.now.conflicting c.args.start c.args.self.now.round c.args.self.now.rounds.items c.reach.new.rounds.items c.forget.new.rounds.items
     c.reach.new.found c.requires.round c.in_ok-reach.ensures (rw c.as_slice-3.ensures at c.forget.ensures) c.requires.batch
+
+pub reach-requires-clause-start : goal.reach-requires-clause-start
+reach-requires-clause-start c = c.requires.start
+
+pub reach-requires-clause-many : goal.reach-requires-clause-many
+reach-requires-clause-many c = c.requires.many
+
+pub reach-requires-clause-inside : goal.reach-requires-clause-inside
+reach-requires-clause-inside c = c.requires.inside
+
+pub reach-requires-clause-closed : goal.reach-requires-clause-closed
+reach-requires-clause-closed c = c.requires.batch.closed
+
+pub has_clash-requires-clause-inside : goal.has_clash-requires-clause-inside
+has_clash-requires-clause-inside c = c.requires.conflicts
+
+pub has_clash-requires-clause-many : goal.has_clash-requires-clause-many
+has_clash-requires-clause-many c = c.in_ok-reach.ensures.many ∙ c.requires.many ∙ sym c.requires.same
+
+pub size_of-requires-clause-same : goal.size_of-requires-clause-same
+size_of-requires-clause-same c = c.requires.same
+
+pub returns-then-not-has_clash-clause-round : goal.returns-then-not-has_clash-clause-round
+returns-then-not-has_clash-clause-round c = refl
+
+pub returns-then-not-has_clash-clause-ruled : goal.returns-then-not-has_clash-clause-ruled
+returns-then-not-has_clash-clause-ruled c = refl
+
+pub returns-then-not-has_clash-clause-many : goal.returns-then-not-has_clash-clause-many
+returns-then-not-has_clash-clause-many c = c.in_ok-reach.ensures.many ∙ c.requires.many
+
+pub returns-clause-round : goal.returns-clause-round
+returns-clause-round c = refl
+
+pub returns-clause-ruled : goal.returns-clause-ruled
+returns-clause-ruled c = refl
+
+pub returns-clause-many : goal.returns-clause-many
+returns-clause-many c = c.forget.ensures.many ∙ c.in_ok-reach.ensures.many ∙ c.requires.many
+
+pub returns-clause-agrees : goal.returns-clause-agrees
+returns-clause-agrees c = λ t. absurd (false≢true t)

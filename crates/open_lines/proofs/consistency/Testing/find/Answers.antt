@@ -13,3 +13,15 @@ returns c =
     let is : c.end_before-end.result ≡ end_before idle (length file.probes) = search rules in
     all_tested file c.requires.laid.whole idle c.end_before-end.result c.test_all.new.self.failing c.requires.idle
     (subst (IsEnd file c.requires.laid.whole idle) (sym is) (is_end file c.requires.laid.whole idle c.requires.idle)) c.in_ok-test_all.ensures
+
+pub test_all-requires-clause-lines : goal.test_all-requires-clause-lines
+test_all-requires-clause-lines c = c.requires.lines
+
+pub test_all-requires-clause-laid : goal.test_all-requires-clause-laid
+test_all-requires-clause-laid c = c.requires.laid
+
+pub test_all-requires-clause-batch : goal.test_all-requires-clause-batch
+test_all-requires-clause-batch c = c.requires.batch
+
+pub test_all-requires-clause-round : goal.test_all-requires-clause-round
+test_all-requires-clause-round c = c.requires.round

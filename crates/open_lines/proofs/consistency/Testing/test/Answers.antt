@@ -79,3 +79,34 @@ returns-else-not-branch c =
       round = inl (refl, omega (arith, joined.round));
       first = λ h. refl;
     }
+
+pub start_of-requires-clause-table : goal.start_of-requires-clause-table
+start_of-requires-clause-table c = rw c.as_slice-2.ensures c.requires.laid.listed
+
+pub start_of-requires-clause-few : goal.start_of-requires-clause-few
+start_of-requires-clause-few c = rw c.as_slice-2.ensures c.requires.laid.few
+
+pub start_of-requires-clause-apart : goal.start_of-requires-clause-apart
+start_of-requires-clause-apart c = rw c.as_slice-2.ensures c.requires.laid.apart
+
+pub join-requires-clause-rows : goal.join-requires-clause-rows
+join-requires-clause-rows c = c.requires.rows
+
+pub join-requires-clause-batch : goal.join-requires-clause-batch
+join-requires-clause-batch c = c.requires.batch
+
+pub join-requires-clause-free : goal.join-requires-clause-free
+join-requires-clause-free c = λ came. false≢true (sym c.if-rules_out.false ∙ c.rules_out.ensures.1 came)
+
+pub begin-requires : goal.begin-requires
+begin-requires c = omega (arith, c.requires.room, c.in_ok-join.ensures.round)
+
+pub returns-then-is_behind : goal.returns-then-is_behind
+returns-then-is_behind c = record {
+  batch = c.requires.batch;
+  failing = λ h. h;
+  keeps = λ k h. h;
+  tested = λ t. inr (c.is_behind.ensures.0 c.if-is_behind.true);
+  round = inl (refl, omega arith);
+  first = λ h. refl;
+}

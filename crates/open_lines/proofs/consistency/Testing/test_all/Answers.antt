@@ -1,6 +1,7 @@
 use Rattle.std.proofs.Common.{rules, ◌≡◌, inl, inr, List, ℕ, length, sym, ap, ◌∙◌, subst, arith}
+use Rattle.std.proofs.lemmas.List.{length-map}
 use Rattle.relationships.specs.Evidence.{IsTriple}
-use Rattle.open_lines.specs.Flipping.{flipped_orders, served_lines}
+use Rattle.open_lines.specs.Flipping.{flipped, flipped_orders, served_lines}
 use Rattle.open_lines.specs.Testing.{IsBatchTested}
 use Rattle.open_lines.proofs.Buildings.{inside_implied}
 use Rattle.open_lines.proofs.TestingLemmas.{rows_of, way_next, way_done}
@@ -50,3 +51,41 @@ returns-then-is_empty c =
     let waiting = c.in_ok-waiting.waiting in
     let none : length waiting ≡ 0 = search rules in
     way_done c.args.file.now c.args.flips.now.implied c.args.end c.args.self.now.failing c.try_all.new.self waiting c.in_ok-waiting.ensures none
+
+pub try_all-requires-clause-lines : goal.try_all-requires-clause-lines
+try_all-requires-clause-lines c = c.requires.lines
+
+pub try_all-requires-clause-laid : goal.try_all-requires-clause-laid
+try_all-requires-clause-laid c = c.requires.laid
+
+pub try_all-requires-clause-end : goal.try_all-requires-clause-end
+try_all-requires-clause-end c = c.requires.end
+
+pub try_all-requires-clause-batch : goal.try_all-requires-clause-batch
+try_all-requires-clause-batch c = c.requires.batch
+
+pub try_all-requires-clause-round : goal.try_all-requires-clause-round
+try_all-requires-clause-round c = c.requires.round
+
+pub try_all-requires-clause-failing : goal.try_all-requires-clause-failing
+try_all-requires-clause-failing c = c.requires.failing
+
+pub turned-requires-clause-few : goal.turned-requires-clause-few
+turned-requires-clause-few c =
+    let many = c.requires.laid.built.implied_many in
+    omega (arith, many, length-map c.args.file.now.edges flipped, c.requires.laid.few)
+
+pub loop-alloc-init : goal.loop-alloc-init
+loop-alloc-init c = c.in_ok-waiting.ensures
+
+pub test_batch-left-requires-clause-laid : goal.test_batch-left-requires-clause-laid
+test_batch-left-requires-clause-laid c = c.requires.laid
+
+pub test_batch-left-requires-clause-inside : goal.test_batch-left-requires-clause-inside
+test_batch-left-requires-clause-inside c = rw c.as_slice.ensures c.loop-alloc.invariant.inside
+
+pub test_batch-left-requires-clause-rounds : goal.test_batch-left-requires-clause-rounds
+test_batch-left-requires-clause-rounds c = c.loop-alloc.invariant.bears
+
+pub test_batch-left-requires-clause-failing : goal.test_batch-left-requires-clause-failing
+test_batch-left-requires-clause-failing c = c.loop-alloc.invariant.failing

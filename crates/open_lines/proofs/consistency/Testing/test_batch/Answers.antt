@@ -30,3 +30,30 @@ returns c =
     let end = c.loop-at.auto.at-end in
     batch_done c.args.file.now c.args.flips.now.implied c.args.flips.now.conflicting c.args.implying.now c.args.places.now c.args.self.now c.loop-at.at c.loop-at.self c.loop-at.waiting
     (omega (arith, test, end)) c.loop-at.invariant
+
+pub begin-requires : goal.begin-requires
+begin-requires c = omega (arith, c.requires.room)
+
+pub test-requires-clause-laid : goal.test-requires-clause-laid
+test-requires-clause-laid c = c.requires.laid
+
+pub test-requires-clause-rows : goal.test-requires-clause-rows
+test-requires-clause-rows c = c.requires.rows
+
+pub test-requires-clause-there : goal.test-requires-clause-there
+test-requires-clause-there c =
+    let test = c.loop-at-test.true in
+    let end = c.loop-at.auto.at-end in
+    let within : c.loop-at.at < length c.args.places.now = omega (arith, test, end) in
+    c.requires.inside c.loop-at.at _ within
+
+pub test-requires-clause-batch : goal.test-requires-clause-batch
+test-requires-clause-batch c = c.loop-at.invariant.batch
+
+pub test-requires-clause-room : goal.test-requires-clause-room
+test-requires-clause-room c =
+    let test = c.loop-at-test.true in
+    let end = c.loop-at.auto.at-end in
+    let within : c.loop-at.at < length c.args.places.now = omega (arith, test, end) in
+    let rounds = c.loop-at.invariant.rounds in
+    omega (arith, rounds, within, c.requires.room)

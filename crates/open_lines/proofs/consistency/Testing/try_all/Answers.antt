@@ -39,3 +39,12 @@ returns-then-len c =
 
 pub returns : goal.returns
 returns c = way_more c.args.file.now c.args.flips.now.implied c.args.end c.args.self.now.failing c.loop-alloc.self c.loop-alloc.waiting c.loop-alloc.invariant
+
+pub try_batch-requires-clause-laid : goal.try_batch-requires-clause-laid
+try_batch-requires-clause-laid c = c.requires.laid
+
+pub try_batch-requires-clause-inside : goal.try_batch-requires-clause-inside
+try_batch-requires-clause-inside c = rw c.as_slice.ensures c.loop-alloc.invariant.inside
+
+pub try_batch-requires-clause-rounds : goal.try_batch-requires-clause-rounds
+try_batch-requires-clause-rounds c = c.loop-alloc.invariant.bears

@@ -25,3 +25,25 @@ returns c =
     let end = c.loop-at.auto.at-end in
     tries_done c.args.file.now c.args.flips.now.implied c.args.flips.now.conflicting c.args.places.now c.args.self.now c.loop-at.at c.loop-at.self c.loop-at.waiting
     (omega (arith, test, end)) c.loop-at.invariant
+
+pub begin-requires : goal.begin-requires
+begin-requires c = omega (arith, c.requires.room)
+
+pub try_line-requires-clause-laid : goal.try_line-requires-clause-laid
+try_line-requires-clause-laid c = c.requires.laid
+
+pub try_line-requires-clause-there : goal.try_line-requires-clause-there
+try_line-requires-clause-there c =
+    let test = c.loop-at-test.true in
+    let end = c.loop-at.auto.at-end in
+    let within : c.loop-at.at < length c.args.places.now = omega (arith, test, end) in
+    c.requires.inside c.loop-at.at _ within
+
+pub try_line-requires-clause-rounds : goal.try_line-requires-clause-rounds
+try_line-requires-clause-rounds c = c.loop-at.invariant.rounds
+
+pub try_line-requires-clause-round : goal.try_line-requires-clause-round
+try_line-requires-clause-round c = let round = c.loop-at.invariant.round in omega (arith, round)
+
+pub try_line-requires-clause-batch : goal.try_line-requires-clause-batch
+try_line-requires-clause-batch c = c.loop-at.invariant.together

@@ -1,4 +1,5 @@
-use Rattle.std.proofs.Common.{◌≡◌, ◌≤◌, ℕ, List, inl, length, refl, sym, ap, subst, arith, All}
+use Rattle.std.proofs.Common.{◌≡◌, ◌≤◌, ℕ, List, inl, inr, length, refl, sym, ap, ◌∙◌, subst, arith, All}
+use Rattle.std.proofs.lemmas.Bool.{false≢true}
 use Rattle.relationships.specs.Evidence.{IsTriple}
 use Rattle.tor_arena.proofs.Gets.{read_of}
 use Rattle.open_lines.specs.Flipping.{flipped_orders, served_lines}
@@ -46,3 +47,42 @@ returns c =
       tested = λ t. inl (flips_at file c.args.place _ at (flips_if_agrees (flipped_orders file.edges) (served_lines file) c.args.flips.now.implied c.args.flips.now.conflicting
           laid.built laid.proper laid.settled c.in-Some.start _ _ flips (joined.agrees t)));
     }
+
+pub start_of-requires-clause-table : goal.start_of-requires-clause-table
+start_of-requires-clause-table c = rw c.as_slice-2.ensures c.requires.laid.listed
+
+pub start_of-requires-clause-few : goal.start_of-requires-clause-few
+start_of-requires-clause-few c = rw c.as_slice-2.ensures c.requires.laid.few
+
+pub start_of-requires-clause-apart : goal.start_of-requires-clause-apart
+start_of-requires-clause-apart c = rw c.as_slice-2.ensures c.requires.laid.apart
+
+pub try_join-requires-clause-many : goal.try_join-requires-clause-many
+try_join-requires-clause-many c = c.requires.rounds.many
+
+pub try_join-requires-clause-same : goal.try_join-requires-clause-same
+try_join-requires-clause-same c = c.requires.laid.built.conflicting_many ∙ sym c.requires.laid.built.implied_many
+
+pub try_join-requires-clause-round : goal.try_join-requires-clause-round
+try_join-requires-clause-round c = c.requires.round
+
+pub try_join-requires-clause-batch : goal.try_join-requires-clause-batch
+try_join-requires-clause-batch c = c.requires.batch
+
+pub returns-then-is_behind : goal.returns-then-is_behind
+returns-then-is_behind c = record {
+  rounds = c.requires.rounds;
+  together = c.requires.batch;
+  failing = refl;
+  round = refl;
+  tested = λ t. inr (c.is_behind.ensures.0 c.if-is_behind.true);
+}
+
+pub returns-in_default : goal.returns-in_default
+returns-in_default c = record {
+  rounds = c.requires.rounds;
+  together = c.requires.batch;
+  failing = refl;
+  round = refl;
+  tested = λ t. absurd (false≢true t);
+}
