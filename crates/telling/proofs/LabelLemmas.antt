@@ -31,7 +31,7 @@ use Rattle.result_rules.proofs.Accepted.{paths_apart, edges_listed, kept_valley_
 use Rattle.result_rules.proofs.GivenLines.{name_two, name_once, labels_agree}
 use Rattle.result_rules.proofs.MarkLaws.{marks_are_borne_out}
 use Rattle.result_rules.proofs.WalkLaws.{orders_are_shown}
-use Rattle.why_lines.specs.Proving.{HasOrder}
+use Rattle.telling.specs.Proving.{HasOrder}
 
 -- what is served by all givens is served by some of them
 fewer : (P : List ℕ → Type 0) (paths : List (List ℕ)) (givens : List Given) → AllByRecursion P (map return_of givens) → AllByRecursion P (returns paths givens)

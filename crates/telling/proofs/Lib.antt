@@ -1,3 +1,4 @@
+pub mod Chains
 pub mod Decided
 pub mod DownLemmas
 pub mod EitherLemmas
@@ -8,3 +9,4 @@ pub mod ReachLemmas
 pub mod SlopeLemmas
 pub mod TextLemmas
 pub mod Vectors
+pub mod WalkTextLemmas

@@ -38,7 +38,7 @@ use Rattle.result_rules.proofs.Acceptance.{acceptance_law}
 use Rattle.result_rules.proofs.Accepted.{edges_listed}
 use Rattle.result_rules.proofs.GivenLines.{name_two, labels_agree}
 use Rattle.result_rules.proofs.MarkLaws.{marks_are_borne_out, probes_serve}
-use Rattle.why_lines.specs.Proving.{HasOrder}
+use Rattle.telling.specs.Proving.{HasOrder}
 use Rattle.telling.specs.Told.{edge_on, IsAgainst, IsReached, IsPeering, IsUndecided}
 use Rattle.telling.specs.Downs.{HaveLabels, HasOver, HasDowns, AreDowns}
 use Rattle.telling.specs.Reaching.{IsReachOf, IsPlainWay, IsOpposed, IsUnopposed, IsBack}

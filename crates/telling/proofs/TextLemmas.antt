@@ -10,7 +10,7 @@ use Rattle.relationships.specs.declared.fate.Fate.{Fate}
 use Rattle.relationships.specs.declared.fate.Fate.TheVariants as fate
 use Rattle.relationships.specs.Fates.{walk_of}
 use Rattle.result_text.specs.declared.file.ResultFile.{ResultFile}
-use Rattle.why_lines.specs.WalkText.{begin_text, steps_text}
+use Rattle.telling.specs.WalkText.{begin_text, steps_text}
 use Rattle.telling.specs.declared.told.Going.{Going}
 use Rattle.telling.specs.ToldText.{why_at, whys_text, refuting_text, going_row, goings_text}
 

@@ -20,7 +20,7 @@ use Rattle.result_text.specs.declared.file.ResultFile.{ResultFile}
 use Rattle.result_text.specs.Text.{line_text}
 use Rattle.telling.specs.declared.told.Going.TheVariants as going
 use Rattle.telling.specs.declared.told.Told.TheVariants as told
-use Rattle.why_lines.specs.WalkText.{end_text}
+use Rattle.telling.specs.WalkText.{end_text}
 use Rattle.telling.specs.ToldText.{told_text}
 
 abbrev kept : Numbered

@@ -20,7 +20,7 @@ use Rattle.telling.specs.declared.told.Going.TheVariants as going
 use Rattle.telling.specs.declared.told.Question.TheVariants as question
 use Rattle.telling.specs.declared.told.Told.TheVariants as told
 use Rattle.relationships.specs.Telling.{Leads, CanBeEither}
-use Rattle.why_lines.specs.Proving.{HasOrder, ProveTogether}
+use Rattle.telling.specs.Proving.{HasOrder, ProveTogether}
 
 -- ---- edges
 

@@ -11,7 +11,7 @@ use Rattle.result_text.specs.declared.file.ResultFile.{ResultFile}
 use Rattle.result_text.specs.declared.line.Line.TheVariants.{Edge}
 use Rattle.result_text.specs.declared.line.Version.TheVariants as version
 use Rattle.result_text.specs.Text.{line_text, numbers_text}
-use Rattle.why_lines.specs.WalkText.{row, pair_row, if_there, begin_text, steps_text, why_text}
+use Rattle.telling.specs.WalkText.{row, pair_row, if_there, begin_text, steps_text, why_text}
 use Rattle.telling.specs.declared.told.Going.{Going}
 use Rattle.telling.specs.declared.told.Going.TheVariants as going
 use Rattle.telling.specs.declared.told.Told.{Told}

@@ -7,14 +7,13 @@ ghost use Rattle.telling.specs.Told.{IsLineOf, IsToldOfEdge, AnswersEdge, Answer
 
 use crate::edges::line_of;
 use crate::paths::tell_path;
-use crate::proving::proof_of;
+use crate::proving::{order_of, proof_of};
 use crate::reaching::walk_against;
 use crate::told::{Question, Told};
 use relationships::Mark;
 use result_text::{EdgeLine, ResultFile};
 use std::alloc::Global;
 use tor_arena::{Keys, NoMemory};
-use why_lines::order_of;
 
 /// What is told of an open edge by its line.
 fn tell_open(

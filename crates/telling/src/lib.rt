@@ -1,5 +1,5 @@
 //! What is told of an edge and of a path of a result that meets all rules: why the edge is what it is, and why the path is kept or
-//! lost.
+//! lost; which why lines prove an order; and the text of what is told, walks step by step.
 #![tactic(auto)]
 
 mod answer;
@@ -7,9 +7,11 @@ mod downs;
 mod edges;
 mod goings;
 mod laws;
+mod numbers;
 mod paths;
 mod proving;
 mod reaching;
+mod steps;
 mod table;
 mod told;
 mod writing;
@@ -18,6 +20,6 @@ pub use answer::tell;
 pub use edges::line_of;
 pub use laws::{either_law, peers_law, proving_law};
 pub use paths::tell_path;
-pub use proving::proof_of;
+pub use proving::{proof_of, whys_for};
 pub use told::{Going, Question, Told};
 pub use writing::write_told;

@@ -9,11 +9,12 @@ ghost use Rattle.tor_io.specs.Outflow.{state, Puts};
 ghost use Rattle.telling.specs.ToldText.{why_at, whys_text, path_row, lost_text};
 ghost use Rattle.telling.specs.ToldText.{going_name, going_row, goings_text, kept_text, told_text};
 
+use crate::numbers::{put_numbers, put_pair, put_u32_behind};
+use crate::steps::{put_begin, put_steps, put_why};
 use crate::told::{Going, Told};
 use result_text::{PathLineRef, ResultFile, put_edge};
 use tor_arena::{Index, PathId, WalkId};
 use tor_io::{Buffer, Failed, Outflow, Sink};
-use why_lines::{put_begin, put_numbers, put_pair, put_steps, put_u32_behind, put_why};
 
 // A bar, how a step goes, and a line feed.
 fn going_end(going: Going) -> &'static [u8]

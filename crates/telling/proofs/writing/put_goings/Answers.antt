@@ -1,6 +1,6 @@
 use Rattle.std.proofs.Common.{suc, ◌+◌, ◌<◌, ◌≤◌, ◌⊎◌, inl, inr, length, sym, arith}
 use Rattle.tor_io.proofs.Putting.{puts_as, puts_none}
-use Rattle.why_lines.proofs.TextLemmas.{lesser}
+use Rattle.telling.proofs.WalkTextLemmas.{lesser}
 use Rattle.telling.proofs.TextLemmas.{no_goings, going_more, all_goings}
 use Rattle.telling.proofs.writing.put_goings.Goals as goal
 

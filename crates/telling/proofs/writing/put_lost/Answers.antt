@@ -3,7 +3,7 @@ use Rattle.std.specs.Prelude.{codes}
 use Rattle.std.specs.Option.{option_copied}
 use Rattle.relationships.specs.Fates.{walk_of}
 use Rattle.tor_io.proofs.Putting.{puts_as, puts_then}
-use Rattle.why_lines.specs.WalkText.{begin_text, steps_text}
+use Rattle.telling.specs.WalkText.{begin_text, steps_text}
 use Rattle.telling.specs.ToldText.{path_row}
 use Rattle.telling.proofs.TextLemmas.{walk_read}
 use Rattle.telling.proofs.writing.put_lost.Goals as goal

@@ -2,7 +2,7 @@ use Rattle.std.proofs.Common.{length, refl}
 use Rattle.std.specs.Prelude.{codes}
 use Rattle.std.proofs.lemmas.Option.{slice_get_read}
 use Rattle.telling.specs.ToldText.{why_at}
-use Rattle.why_lines.proofs.TextLemmas.{one_more}
+use Rattle.telling.proofs.WalkTextLemmas.{one_more}
 use Rattle.telling.proofs.writing.put_other_whys.Goals as goal
 
 pub loop-why-preserved : goal.loop-why-preserved

@@ -1,7 +1,7 @@
 use Rattle.std.proofs.Common.{sym, ap, ap₂}
 use Rattle.tor_io.proofs.Putting.{puts_as, puts_then}
 use Rattle.result_text.specs.declared.line.Version.TheVariants as version
-use Rattle.why_lines.specs.WalkText.{steps_text}
+use Rattle.telling.specs.WalkText.{steps_text}
 use Rattle.telling.specs.ToldText.{whys_text, told_text}
 use Rattle.telling.proofs.writing.put_told.Goals as goal
 

@@ -1,7 +1,7 @@
 use Rattle.std.proofs.Common.{ap, sym, arith}
 use Rattle.std.proofs.lemmas.Option.{slice_get_past}
 use Rattle.tor_io.proofs.Putting.{puts_as, puts_none}
-use Rattle.why_lines.specs.WalkText.{if_there, why_text}
+use Rattle.telling.specs.WalkText.{if_there, why_text}
 use Rattle.telling.proofs.writing.put_why_at.Goals as goal
 
 pub returns-else-place-len : goal.returns-else-place-len

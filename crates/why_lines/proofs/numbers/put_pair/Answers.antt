@@ -1,6 +1,0 @@
-use Rattle.std.proofs.Common.{append_assoc}
-use Rattle.tor_io.proofs.Putting.{puts_as, puts_then}
-use Rattle.why_lines.proofs.numbers.put_pair.Goals as goal
-
-pub returns : goal.returns
-returns g c = puts_as (puts_then c.put.ensures (puts_then c.put_u32_behind.ensures (puts_then c.put_u32_behind-2.ensures c.put_byte.ensures))) (simp append_assoc)

@@ -1,9 +1,0 @@
-use Rattle.tor_io.proofs.Putting.{puts_as, puts_none}
-use Rattle.why_lines.proofs.TextLemmas.{end_read, end_few}
-use Rattle.why_lines.proofs.steps.put_end.Goals as goal
-
-pub returns-in-len2-up : goal.returns-in-len2-up
-returns-in-len2-up g c = puts_as c.put_pair.ensures (end_read c.args.ases.now c.in-len2-up.len_at_least)
-
-pub returns-in_default : goal.returns-in_default
-returns-in_default g c = puts_as (puts_none _) (end_few c.args.ases.now c.in_default.len_below)
