@@ -35,7 +35,7 @@ use Rattle.result_rules.specs.declared.rule.Rule.TheVariants.{LabelsServe, Suppo
 use Rattle.result_rules.specs.Rules.{Asks, Accepts, HasGivenLabel, IsCounted, IsNewGiven, IsSound, its_served, right_totals}
 use Rattle.tor_arena.proofs.Gets.{slice_get-map, All-get}
 use Rattle.result_rules.proofs.WalkLaws.{kept_lines, paths_in, walks_in, last_two-from_ends}
-use Rattle.inference.specs.GivenInference.{IsInferredWith}
+use Rattle.rel_infer.specs.GivenInference.{IsInferredWith}
 use Rattle.rel_infer.proofs.AgreeingLaws.{given_line_law}
 
 -- ---- lists

@@ -27,7 +27,7 @@ use Rattle.result_text.specs.declared.file.EdgeLine.{EdgeLine}
 use Rattle.result_rules.specs.File.{claim_on}
 use Rattle.rel_infer.specs.Agreeing.{AgreesOnEdges, AgreesWithAll, KeepsAmong, IsForcedAmong, IsPreferredAmong}
 use Rattle.rel_infer.specs.GivenLaws.{AgreeingLaw, AllAgreeingLaw, GivenLineLaw, GivenRulesMetLaw}
-use Rattle.inference.proofs.LineLemmas.{pairs_same}
+use Rattle.rel_infer.proofs.LineLemmas.{pairs_same}
 
 -- ---- to serve what stands in front and some paths is to be admitted and to serve these
 

@@ -34,7 +34,7 @@ use Rattle.resume.specs.Earlier.{BeginsWithPathsOf, IsKeptOrientation}
 use Rattle.rel_infer.specs.Resumed.{Continues, decided, its_fates, kept_first}
 use Rattle.rel_infer.proofs.AgreeingLaws.{kept_among_more}
 use Rattle.rel_infer.proofs.Assembling.{walks_same}
-use Rattle.inference.proofs.Linking.{edges_same, returns_at}
+use Rattle.rel_infer.proofs.Linking.{edges_same, returns_at}
 
 -- ---- the givens
 

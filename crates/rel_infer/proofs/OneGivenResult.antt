@@ -19,11 +19,11 @@ use Rattle.relationships.proofs.GivenLemmas.{agrees_free, given_serving_law}
 use Rattle.relationships.proofs.GivenPeerings.{edge_among, given_relabelling_law}
 use Rattle.path_table.specs.Rows.{row_paths as counted_paths}
 use Rattle.result_rules.specs.File.{its_paths, its_walks, its_probes}
-use Rattle.inference.specs.Finding.{AreLabelsBy}
-use Rattle.inference.specs.GivenInference.{AreLabelsWith, IsInferredWith}
+use Rattle.rel_infer.specs.Finding.{AreLabelsBy}
+use Rattle.rel_infer.specs.GivenInference.{AreLabelsWith, IsInferredWith}
 use Rattle.rel_infer.specs.GivenLaws.{GivenInferenceLaw, GivenResultLaw}
 use Rattle.rel_infer.proofs.OneResult.{one_settling, one_orientation, one_relabelling, one_list, labels_by, paths_in, same_totals}
-use Rattle.inference.proofs.KeptEdges.{kept_edge}
+use Rattle.rel_infer.proofs.KeptEdges.{kept_edge}
 
 -- labels with the givens are labels by votes and by what is served
 pub labels_behind : (givens : List Given) (ratio : ℕ) (paths kept : List (List ℕ)) (L : Labelling) → ((e : Edge) → Contains (edges kept) e → Contains (edges paths) e) →

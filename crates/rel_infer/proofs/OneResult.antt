@@ -31,7 +31,7 @@ use Rattle.relationships.specs.Fates.{is_kept, walk_of}
 use Rattle.result_rules.proofs.Counting.{count-map}
 use Rattle.rel_infer.specs.Results.{AreLabels, IsInferred}
 use Rattle.rel_infer.specs.OneResult.{OneInferenceLaw, OneResultLaw}
-use Rattle.inference.proofs.KeptEdges.{kept_edge}
+use Rattle.rel_infer.proofs.KeptEdges.{kept_edge}
 
 -- ---- the order of settling
 

@@ -11,7 +11,7 @@ use Rattle.tor_clauses.specs.Formulas.{demands_of, numbered, numbered_of}
 use Rattle.tor_clauses.proofs.Exacts.{numbered_paths}
 use Rattle.path_offer.specs.Choices.{Choice}
 use Rattle.path_select.specs.Kept.{HasKeptBehind, HasKeptRest}
-use Rattle.inference.proofs.Joined.{kept_joined, keeps_joined}
+use Rattle.rel_infer.proofs.Joined.{kept_joined, keeps_joined}
 
 module _ (graph : List (List ℕ)) (count : ℕ) (begun all : List Fate) (first : List ℕ) (old : Choice) (le : length begun ≤ count) (within : count ≤ length graph)
     (same : take (length begun) all ≡ begun) (kept : HasKeptBehind graph first (length begun) old begun) where

@@ -29,7 +29,7 @@ use Rattle.result_rules.specs.Against.{row_of}
 use Rattle.result_rules.specs.Rules.{Accepts}
 use Rattle.result_rules.specs.Valid.{AcceptanceLaw}
 use Rattle.rel_infer.specs.GivenResults.{IsResultWith}
-use Rattle.inference.specs.GivenInference.{IsInferredWith, LeaveNoneOutWith, PeerEitherWayWith}
+use Rattle.rel_infer.specs.GivenInference.{IsInferredWith, LeaveNoneOutWith, PeerEitherWayWith}
 use Rattle.rel_infer.specs.SelfAcceptance.{AreTableRows, SelfAcceptanceLaw}
 use Rattle.rel_infer.proofs.Acceptance.{AreSound, IsInferredBy, accepted, same_givens, times_in}
 use Rattle.rel_infer.proofs.OneGivenResult.{labels_behind}

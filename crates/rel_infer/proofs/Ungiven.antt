@@ -20,7 +20,7 @@ use Rattle.result_text.specs.declared.file.ResultFile.{ResultFile}
 use Rattle.result_rules.specs.File.{its_paths, its_walks, its_probes, claim_on}
 use Rattle.result_rules.specs.Rules.{Accepts}
 use Rattle.rel_infer.specs.GivenResults.{IsResultWith}
-use Rattle.inference.specs.GivenInference.{AreLabelsWith, IsInferredWith, LeaveNoneOutWith}
+use Rattle.rel_infer.specs.GivenInference.{AreLabelsWith, IsInferredWith, LeaveNoneOutWith}
 use Rattle.rel_infer.specs.Results.{AreLabels, IsInferred, IsResultOf}
 use Rattle.rel_infer.specs.Peers.{PeerEitherWay, LeaveNoneOut}
 use Rattle.rel_infer.specs.SelfAcceptance.{AreTableRows}

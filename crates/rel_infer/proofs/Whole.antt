@@ -9,11 +9,11 @@ use Rattle.result_text.specs.declared.file.PathLine.{PathLine}
 use Rattle.result_text.specs.declared.file.ResultFile.{ResultFile}
 use Rattle.result_text.specs.declared.file.Totals.{Totals}
 use Rattle.result_rules.specs.File.{its_paths, its_walks, its_probes}
-use Rattle.inference.specs.declared.inferring.Inferred.{Inferred}
+use Rattle.rel_infer.specs.declared.inferring.Inferred.{Inferred}
 use Rattle.relationships.specs.declared.given.Given.{Given}
-use Rattle.inference.specs.Inference.{AreInferredWith}
+use Rattle.rel_infer.specs.Inference.{AreInferredWith}
 use Rattle.rel_infer.specs.GivenResults.{IsResultWith}
-use Rattle.inference.specs.GivenInference.{IsInferredWith, PeerEitherWayWith, LeaveNoneOutWith}
+use Rattle.rel_infer.specs.GivenInference.{IsInferredWith, PeerEitherWayWith, LeaveNoneOutWith}
 use Rattle.result_rules.specs.Totals.{totals_by}
 use Rattle.rel_infer.proofs.Assembling.{rows_same, walks_same}
 

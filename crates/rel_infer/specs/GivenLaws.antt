@@ -23,7 +23,7 @@ use Rattle.result_text.specs.declared.file.ResultFile.{ResultFile}
 use Rattle.result_rules.specs.File.{its_walks, claim_on}
 use Rattle.rel_infer.specs.Agreeing.{AgreesOnEdges, AgreesWithAll, KeepsAmong, IsForcedAmong, IsPreferredAmong}
 use Rattle.rel_infer.specs.GivenResults.{IsResultWith}
-use Rattle.inference.specs.GivenInference.{IsInferredWith, LeaveNoneOutWith}
+use Rattle.rel_infer.specs.GivenInference.{IsInferredWith, LeaveNoneOutWith}
 use Rattle.rel_infer.specs.Peers.{LeaveNoneOut}
 use Rattle.rel_infer.specs.Results.{IsInferred, IsResultOf}
 

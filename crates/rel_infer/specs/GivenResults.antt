@@ -8,7 +8,7 @@ use Rattle.result_text.specs.declared.file.ResultFile.{ResultFile}
 use Rattle.result_rules.specs.File.{its_paths, its_walks, its_probes}
 use Rattle.result_rules.specs.Against.{its_rows}
 use Rattle.result_rules.specs.Rules.{right_totals}
-use Rattle.inference.specs.GivenInference.{IsInferredWith}
+use Rattle.rel_infer.specs.GivenInference.{IsInferredWith}
 
 -- the result of distinct paths with their times, and of the counts of routes that were set aside, where these relationships are known, if
 -- any are

@@ -1,8 +1,13 @@
 pub mod Agreeing
+pub mod EdgeLines
+pub mod Finding
+pub mod GivenInference
 pub mod GivenLaws
 pub mod GivenResults
+pub mod Inference
 pub mod OneResult
 pub mod Peers
 pub mod Results
 pub mod Resumed
+pub mod Returns
 pub mod SelfAcceptance

@@ -9,7 +9,7 @@ use Rattle.resume.specs.declared.table.Rest.{Rest}
 use Rattle.tor_clauses.specs.Formulas.{numbered}
 use Rattle.path_select.specs.Behind.{places_from}
 use Rattle.rel_infer.specs.declared.resuming.Resumed.{Resumed}
-use Rattle.inference.specs.Inference.{AreInferredWith}
+use Rattle.rel_infer.specs.Inference.{AreInferredWith}
 
 -- what a path line says but how often the path was seen
 abbrev pub decided : PathLine → List ℕ × Fate

@@ -16,7 +16,7 @@ use Rattle.result_rules.specs.Rules.{Accepts}
 use Rattle.result_rules.specs.Valid.{Valid}
 use Rattle.result_rules.specs.Against.{JudgesAgainst}
 use Rattle.rel_infer.specs.GivenResults.{IsResultWith}
-use Rattle.inference.specs.GivenInference.{PeerEitherWayWith, LeaveNoneOutWith}
+use Rattle.rel_infer.specs.GivenInference.{PeerEitherWayWith, LeaveNoneOutWith}
 use Rattle.rel_infer.specs.Peers.{PeerEitherWay}
 
 -- rows as a table of paths has them: clean paths, each seen and none there twice, and no more of them and of their numbers than may be

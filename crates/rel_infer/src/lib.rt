@@ -1,10 +1,17 @@
-//! The result of distinct paths: which are kept, what the edges are labelled, and which labels are forced, with the evidence.
+//! The result of distinct paths, also under relationships that are given: which are kept, what the edges are labelled, and which labels are
+//! forced, with the evidence.
 #![tactic(auto)]
 
+mod edge_lines;
+mod finding;
 mod given_laws;
+mod inferring;
+mod labelling;
 mod laws;
+mod relinking;
 mod result;
 mod resuming;
+mod returns;
 mod taking_up;
 
 pub use given_laws::{

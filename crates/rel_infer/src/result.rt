@@ -6,13 +6,13 @@ ghost use Rattle.relationships.specs.Givens.{NameOnce, NameTwo};
 ghost use Rattle.result_rules.specs.File.{its_paths, its_walks};
 ghost use Rattle.result_rules.specs.Rules.{Accepts};
 ghost use Rattle.rel_infer.specs.GivenResults.{IsResultWith};
-ghost use Rattle.inference.specs.GivenInference.{max_givens, PeerEitherWayWith, LeaveNoneOutWith};
-ghost use Rattle.inference.specs.Inference.{AreInferredWith};
+ghost use Rattle.rel_infer.specs.GivenInference.{max_givens, PeerEitherWayWith, LeaveNoneOutWith};
+ghost use Rattle.rel_infer.specs.Inference.{AreInferredWith};
 ghost use Rattle.rel_infer.specs.Resumed.{its_fates};
 ghost use Rattle.rel_infer.specs.Results.{IsResultOf};
 ghost use Rattle.rel_infer.specs.Peers.{PeerEitherWay, LeaveNoneOut};
 
-use inference::{Inferred, inferred_from};
+use crate::inferring::{Inferred, inferred_from};
 use path_clean::{Asides, Sets};
 use path_table::PathTable;
 use relationships::Given;

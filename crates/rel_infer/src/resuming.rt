@@ -14,16 +14,16 @@ ghost use Rattle.result_text.specs.declared.file.ResultFile.{ResultFile as File}
 ghost use Rattle.result_rules.specs.File.{its_paths, its_walks};
 ghost use Rattle.path_table.specs.Rows.{row_paths};
 ghost use Rattle.resume.specs.Earlier.{BeginsWithPathsOf, BeginsWithEarlier, IsRestOf};
-ghost use Rattle.inference.specs.Finding.{AreInferredIn, LostBehind};
+ghost use Rattle.rel_infer.specs.Finding.{AreInferredIn, LostBehind};
 ghost use Rattle.rel_infer.specs.GivenResults.{IsResultWith};
-ghost use Rattle.inference.specs.GivenInference.{max_givens, PeerEitherWayWith, LeaveNoneOutWith};
+ghost use Rattle.rel_infer.specs.GivenInference.{max_givens, PeerEitherWayWith, LeaveNoneOutWith};
 ghost use Rattle.rel_infer.specs.Resumed.{Continues, IsInferredOnTop};
-ghost use Rattle.inference.specs.Returns.{IsUnlinked};
+ghost use Rattle.rel_infer.specs.Returns.{IsUnlinked};
 
+use crate::inferring::{Inferred, inferred_by, relinked_if_given};
 use crate::result::{ResultHead, given_slice, result_by};
 use crate::taking_up::{KeptFirst, Started, started_in};
 use as_graph::AsGraph;
-use inference::{Inferred, inferred_by, relinked_if_given};
 use path_clean::{Asides, Sets};
 use path_select::{Selection, Selector, select_rest};
 use path_table::PathTable;

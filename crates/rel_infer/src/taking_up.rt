@@ -9,13 +9,13 @@ ghost use Rattle.tor_clauses.specs.Formulas.{IsServed, numbered};
 ghost use Rattle.path_select.specs.Behind.{places_from};
 ghost use Rattle.result_text.specs.declared.file.ResultFile.{ResultFile as File};
 ghost use Rattle.resume.specs.Earlier.{BeginsWithPathsOf, BeginsWithEarlier, IsRestOf};
-ghost use Rattle.inference.specs.GivenInference.{max_givens};
+ghost use Rattle.rel_infer.specs.GivenInference.{max_givens};
 ghost use Rattle.rel_infer.specs.Resumed.{kept_first};
-ghost use Rattle.inference.specs.Returns.{numbers_from};
+ghost use Rattle.rel_infer.specs.Returns.{numbers_from};
 
 use crate::result::given_slice;
+use crate::returns::numbers_of;
 use as_graph::{AsGraph, Orientation, build_with};
-use inference::numbers_of;
 use path_select::places_behind;
 use resume::{Rest, kept_orientation, kept_places};
 use std::alloc::Global;

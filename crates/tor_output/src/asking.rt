@@ -8,7 +8,7 @@ ghost use Rattle.tor_output.specs.Sampling.{BySource, IfSample, known_by, known_
 ghost use Rattle.run_base.specs.Reading.{nothing};
 ghost use Rattle.tor_output.specs.Accepting.{AreSound};
 ghost use Rattle.tor_output.specs.First.{Nothing, first_in};
-ghost use Rattle.inference.specs.GivenInference.{max_givens};
+ghost use Rattle.rel_infer.specs.GivenInference.{max_givens};
 ghost use Rattle.tor_output.specs.Seen.{Outcome, ComesOfSome, IsSeenOfSome, seen_in};
 ghost use Rattle.tor_output.specs.Output.{IsOutput, IsOutputIn, IsOutputOf, IsAsked, IsOfSome};
 ghost use Rattle.rel_infer.specs.SelfAcceptance.{AreTableRows};

@@ -6,7 +6,7 @@ ghost use Rattle.serial_lines.specs.Serial.{IsReadingError};
 ghost use Rattle.run_base.specs.Frames.{ReadsShelf};
 ghost use Rattle.tor_output.specs.First.{Givens, Result as ResultAt, Earlier, AreGivens, AreSomeGivens, SaysGivens, HoldsResult, IsSomeResult};
 ghost use Rattle.tor_output.specs.First.{TakesUpSome};
-ghost use Rattle.inference.specs.GivenInference.{max_givens};
+ghost use Rattle.rel_infer.specs.GivenInference.{max_givens};
 ghost use Rattle.tor_output.specs.Reach.{IsFirstInReach};
 ghost use Rattle.tor_output.specs.Refusals.{AreGivensIn, TakesUpIn, IsUnwrittenAtFirst, IsFailedRead};
 

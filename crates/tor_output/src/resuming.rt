@@ -4,7 +4,7 @@ ghost use Rattle.std.specs.Io.KnownBytes.{IsAtEnd};
 ghost use Rattle.tor_arena.specs.Limits.{max_paths, max_ratio};
 ghost use Rattle.result_rules.specs.Rules.{Accepts};
 ghost use Rattle.result_text.specs.Text.{its_givens};
-ghost use Rattle.inference.specs.GivenInference.{max_givens};
+ghost use Rattle.rel_infer.specs.GivenInference.{max_givens};
 ghost use Rattle.path_table.specs.Rows.{row_paths};
 ghost use Rattle.resume.specs.Earlier.{BeginsWithPathsOf, BeginsWithEarlier, IsRestOf};
 ghost use Rattle.result_text.specs.declared.file.ResultFile.{ResultFile as File};

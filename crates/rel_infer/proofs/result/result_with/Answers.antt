@@ -1,6 +1,6 @@
 use Rattle.std.proofs.Common.{◌∙◌, ℕ, List, [], unwrap_or, sym, subst}
 use Rattle.relationships.specs.declared.given.Given.{Given}
-use Rattle.inference.specs.Inference.{AreInferredWith}
+use Rattle.rel_infer.specs.Inference.{AreInferredWith}
 use Rattle.rel_infer.proofs.result.result_with.Goals as goal
 
 pub result_by-requires-clause-inferred : goal.result_by-requires-clause-inferred

@@ -5,8 +5,8 @@ use Rattle.relationships.specs.Evidence.{paths_of}
 use Rattle.relationships.specs.Checking.{kept_of}
 use Rattle.as_graph.specs.Paths.{paths_at}
 use Rattle.path_select.specs.Behind.{places_from}
-use Rattle.inference.specs.Finding.{AreInferredIn}
-use Rattle.inference.proofs.KeptPlaces.{counted_paths, places_many}
+use Rattle.rel_infer.specs.Finding.{AreInferredIn}
+use Rattle.rel_infer.proofs.KeptPlaces.{counted_paths, places_many}
 use Rattle.rel_infer.proofs.resuming.inferred_past.Goals as goal
 
 pub returns-in-Ok-first_paths-clause-inferred : goal.returns-in-Ok-first_paths-clause-inferred

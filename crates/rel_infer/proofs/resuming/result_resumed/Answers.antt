@@ -6,8 +6,8 @@ use Rattle.result_text.specs.declared.file.PathLine.{PathLine}
 use Rattle.result_rules.specs.File.{its_paths, its_walks}
 use Rattle.resume.specs.Earlier.{BeginsWithEarlier}
 use Rattle.rel_infer.specs.GivenResults.{IsResultWith}
-use Rattle.inference.specs.GivenInference.{PeerEitherWayWith, LeaveNoneOutWith}
-use Rattle.inference.specs.Inference.{AreInferredWith}
+use Rattle.rel_infer.specs.GivenInference.{PeerEitherWayWith, LeaveNoneOutWith}
+use Rattle.rel_infer.specs.Inference.{AreInferredWith}
 use Rattle.rel_infer.proofs.Continuing.{continued}
 use Rattle.rel_infer.proofs.resuming.result_resumed.Goals as goal
 

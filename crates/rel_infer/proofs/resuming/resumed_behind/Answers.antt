@@ -5,10 +5,10 @@ use Rattle.relationships.specs.Givens.{returns}
 use Rattle.tor_arena.specs.Distinct.{AllDistinct}
 use Rattle.path_select.specs.Behind.{places_from}
 use Rattle.result_text.specs.Text.{its_givens}
-use Rattle.inference.specs.Finding.{AreInferredIn}
+use Rattle.rel_infer.specs.Finding.{AreInferredIn}
 use Rattle.rel_infer.proofs.Acceptance.{same_givens}
 use Rattle.rel_infer.proofs.Continuing.{fates_fit, kept_there, keeps_there}
-use Rattle.inference.proofs.Linking.{long, front_is, edges_same, numbers_same, unlinked}
+use Rattle.rel_infer.proofs.Linking.{long, front_is, edges_same, numbers_same, unlinked}
 use Rattle.rel_infer.proofs.resuming.resumed_behind.Goals as goal
 
 pub inferred_on-requires-clause-kept : goal.inferred_on-requires-clause-kept

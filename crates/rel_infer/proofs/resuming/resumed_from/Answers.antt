@@ -4,10 +4,10 @@ use Rattle.relationships.specs.declared.fate.Fate.{Fate}
 use Rattle.relationships.specs.Fates.{walk_of}
 use Rattle.relationships.specs.GivenEvidence.{LostFromWith}
 use Rattle.result_text.specs.Text.{its_givens}
-use Rattle.inference.specs.Returns.{IsLinked}
+use Rattle.rel_infer.specs.Returns.{IsLinked}
 use Rattle.rel_infer.proofs.Acceptance.{same_givens}
 use Rattle.rel_infer.proofs.Continuing as continuing
-use Rattle.inference.proofs.Linking.{linked, many_fates}
+use Rattle.rel_infer.proofs.Linking.{linked, many_fates}
 use Rattle.rel_infer.proofs.resuming.resumed_from.Goals as goal
 
 pub relinked_if_given-requires-clause-few : goal.relinked_if_given-requires-clause-few

@@ -3,12 +3,12 @@ use Rattle.relationships.specs.declared.given.Given.{Given}
 use Rattle.relationships.specs.Givens.{returns, NameTwo, NameOnce}
 use Rattle.tor_clauses.specs.Formulas.{numbered}
 use Rattle.result_text.specs.Text.{its_givens}
-use Rattle.inference.specs.GivenInference.{max_givens}
+use Rattle.rel_infer.specs.GivenInference.{max_givens}
 use Rattle.rel_infer.specs.Resumed.{kept_first}
-use Rattle.inference.specs.Returns.{numbers_from}
+use Rattle.rel_infer.specs.Returns.{numbers_from}
 use Rattle.rel_infer.proofs.Acceptance.{same_givens}
 use Rattle.rel_infer.proofs.Continuing.{its_two, its_once, graph_begins, returns_behind}
-use Rattle.inference.proofs.Linking.{long, edges_same, numbers_same}
+use Rattle.rel_infer.proofs.Linking.{long, edges_same, numbers_same}
 use Rattle.rel_infer.proofs.taking_up.started_in.Goals as goal
 
 pub build_with-requires-clause-two : goal.build_with-requires-clause-two

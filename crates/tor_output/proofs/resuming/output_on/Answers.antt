@@ -1,7 +1,7 @@
 use Rattle.std.proofs.Common.{◌≤◌, List, length, refl, sym, subst, arith}
 use Rattle.std.proofs.lemmas.Result.{IfOk-weaker as asked_if, IfErr-weaker as refused_if}
 use Rattle.relationships.specs.declared.given.Given.{Given}
-use Rattle.inference.specs.GivenInference.{max_givens}
+use Rattle.rel_infer.specs.GivenInference.{max_givens}
 use Rattle.rel_infer.proofs.Acceptance.{same_givens}
 use Rattle.tor_output.proofs.Resumings.{past_calm, past_reach, past_refused}
 use Rattle.tor_output.proofs.resuming.output_on.Goals as goal

@@ -1,6 +1,0 @@
-use Rattle.std.proofs.Common.{take}
-use Rattle.inference.specs.Returns.{AreRelinked}
-use Rattle.inference.proofs.relinking.relinked_fates.Given as goal
-
-abbrev pub invariant-loop-place : goal.invariant-loop-place
-invariant-loop-place l = AreRelinked l.paths l.numbers (take l.place l.fates) l.relinked

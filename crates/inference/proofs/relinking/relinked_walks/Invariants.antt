@@ -1,6 +1,0 @@
-use Rattle.std.proofs.Common.{◌≡◌, map, take}
-use Rattle.relationships.specs.GivenEvidence.{with_given_links}
-use Rattle.inference.proofs.relinking.relinked_walks.Given as goal
-
-abbrev pub invariant-loop-place : goal.invariant-loop-place
-invariant-loop-place l = l.relinked ≡ map (with_given_links l.paths l.numbers) (take l.place l.walks)

@@ -1,5 +1,0 @@
-pub mod EdgeLines
-pub mod Finding
-pub mod GivenInference
-pub mod Inference
-pub mod Returns
