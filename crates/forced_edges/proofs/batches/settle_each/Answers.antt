@@ -64,5 +64,5 @@ returns c =
     record {
       settling = record { shown = so.shown_so; count = so.together_so.count; trial = c.loop-place.invariant.trial };
       batch = batch_done c.args.problem.now c.args.nodes.now c.args.settling.now.shown c.loop-place.place c.loop-place.settling.together c.loop-place.settling.shown
-        c.loop-place.waiting c.loop-place.invariant.batch (omega (arith, test, end));
+          c.loop-place.waiting c.loop-place.invariant.batch (omega (arith, test, end));
     }
