@@ -1,8 +1,9 @@
 -- Which edges have an order that is shown.
-use Rattle.std.proofs.Common.{◌≡◌, ◌⊎◌, inl, inr, ℕ, suc, ◌-◌, ◌<◌, ◌≤◌, min, max, Bool, true, List, [], ◌∷◌, ◌++◌, Some, length, set, slice_get, slice_index, refl, sym, ap, ◌∙◌, subst, arith}
-use Rattle.std.proofs.Common.{Contains, nat_eq, append-nil, append_assoc}
-use Rattle.std.proofs.lemmas.Bool.{cases_Bool, cases_order, eqb-true, eq-eqb, both_ways}
-use Rattle.std.proofs.lemmas.Option.{same_Some}
+use Rattle.std.proofs.Common.{◌≡◌, ◌⊎◌, inl, inr, ℕ, suc, ◌-◌, ◌<◌, ◌≤◌, min, max, Bool, true, false, List, [], ◌∷◌, ◌++◌, Some, length, set, slice_get, slice_index, refl, sym, ap, ◌∙◌, subst, arith}
+use Rattle.std.proofs.Common.{Contains, replicate, nat_eq, append-nil, append_assoc}
+use Rattle.std.proofs.lemmas.Bool.{false≢true, cases_Bool, cases_order, eqb-true, eq-eqb, both_ways}
+use Rattle.std.proofs.lemmas.Option.{get_or_from_slice_get, same_Some, slice_get_within}
+use Rattle.std.proofs.lemmas.List.{get_or-replicate, length-replicate}
 use Rattle.std.proofs.lemmas.List.Elements.{Contains-push, Contains-push_cases, Contains-append_left}
 use Rattle.relationships.specs.Graph.{Edge, edge_of}
 use Rattle.relationships.specs.declared.walk.Walk.{Walk}
@@ -10,7 +11,7 @@ use Rattle.result_text.specs.declared.file.EdgeLine.{EdgeLine}
 use Rattle.result_rules.specs.File.{last_two, shown_orders}
 use Rattle.line_rules.specs.EdgeLines.{edges_of, AreApart}
 use Rattle.open_lines.specs.Serving.{IsShownBy}
-use Rattle.tor_arena.proofs.Gets.{slice_get-map, slice_get-set_cases, slice_get-set_other, slice_get-set_same, All-get, Contains-from_has}
+use Rattle.tor_arena.proofs.Gets.{slice_get-map, slice_get-set_cases, slice_get-set_other, slice_get-set_same, All-get, Contains-from_has, Contains-none}
 use Rattle.open_lines.proofs.OrderPlaces.{pair, edge_of-rising, edge_of-falling}
 
 -- the orders of an edge are two
@@ -33,6 +34,16 @@ HasOne orders line = Contains orders (line.low, line.high) ⊎ Contains orders (
 still_one : (orders : List (ℕ × ℕ)) (p : ℕ × ℕ) (line : EdgeLine) → HasOne orders line → HasOne (orders ++ p ∷ []) line
 still_one orders p line (inl c) = inl (Contains-append_left orders (p ∷ []) (line.low, line.high) c)
 still_one orders p line (inr c) = inr (Contains-append_left orders (p ∷ []) (line.high, line.low) c)
+
+-- where no edge is shown, no order is
+pub shown-none : (lines : List EdgeLine) (shown : List Bool) (n : ℕ) → shown ≡ replicate n false → IsShownBy lines [] shown
+shown-none lines shown n e k line at = (
+  λ t.
+      let all : slice_get (replicate n false) k ≡ Some true = subst (λ (l : List Bool). slice_get l k ≡ Some true) e t in
+      let lt : k < n = omega (arith, slice_get_within (replicate n false) k true all, length-replicate n false) in
+      absurd (false≢true (sym (get_or-replicate n k false false lt) ∙ get_or_from_slice_get (replicate n false) k true false all)),
+  λ one. elim one [ inl c ↦ absurd (Contains-none (line.low, line.high) c) | inr c ↦ absurd (Contains-none (line.high, line.low) c) ],
+)
 
 module _ (lines : List EdgeLine) (ok : AreApart lines) where
   edge_at : (k : ℕ) (line : EdgeLine) → slice_get lines k ≡ Some line → slice_get (edges_of lines) k ≡ Some (line.low, line.high)

@@ -27,3 +27,15 @@ returns-clause-covered c =
     let file = c.args.file.now in
     let all : length (its_probes file) ≤ c.loop-k.k = omega (arith, c.loop-k-test.false, length-map file.probes order_of, ap length c.as_slice-probe-items.ensures) in
     subst (λ l. IsCovered (served_lines file) (flipped_orders file.edges) l c.loop-k.rounds.items 1) (take_all c.loop-k.k (its_probes file) all) c.loop-k.invariant.covered
+
+pub cover_one-requires-clause-laid : goal.cover_one-requires-clause-laid
+cover_one-requires-clause-laid c = c.requires.laid
+
+pub cover_one-requires-clause-many : goal.cover_one-requires-clause-many
+cover_one-requires-clause-many c = c.loop-k.invariant.many
+
+pub cover_one-requires-clause-closed : goal.cover_one-requires-clause-closed
+cover_one-requires-clause-closed c = c.loop-k.invariant.closed
+
+pub returns-clause-many : goal.returns-clause-many
+returns-clause-many c = c.loop-k.invariant.many

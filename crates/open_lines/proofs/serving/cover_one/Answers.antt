@@ -1,9 +1,10 @@
-use Rattle.std.proofs.Common.{length, get_or, ap, arith, subst, Contains}
+use Rattle.std.proofs.Common.{length, get_or, sym, ap, ◌∙◌, arith, subst, Contains}
 use Rattle.std.proofs.lemmas.Bool.{false≢true}
+use Rattle.std.proofs.lemmas.List.{length-map}
 use Rattle.std.proofs.lemmas.List.Elements.{Contains-get_or}
 use Rattle.std.proofs.lemmas.Option.{slice_get_within}
 use Rattle.relationships.specs.Evidence.{IsTriple}
-use Rattle.open_lines.specs.Flipping.{flipped_orders, served_lines}
+use Rattle.open_lines.specs.Flipping.{flipped, flipped_orders, served_lines}
 use Rattle.open_lines.proofs.Buildings.{inside_implied, flipping_within}
 use Rattle.open_lines.proofs.Rounds.{closed-reach}
 use Rattle.open_lines.proofs.Servings.{covered-none, covered-more, gains_of, finds_of, gains_flipped}
@@ -61,3 +62,27 @@ returns-clause-gains c = λ earlier covered.
       λ g. has.1 (finds_of lines (served_lines c.args.file.now) c.args.flips.now.implied c.args.flips.now.conflicting c.requires.laid.built c.requires.laid.proper c.requires.laid.settled
           earlier (c.args.probe.now.over, c.args.probe.now.under) c.in-Some.start 1 c.args.rounds.now.items c.reach.new.rounds.items c.reach.new.found flips c.in_ok-reach.ensures covered g),
     )
+
+pub start_of-requires-clause-table : goal.start_of-requires-clause-table
+start_of-requires-clause-table c = rw c.as_slice-lines.ensures c.requires.laid.listed
+
+pub start_of-requires-clause-few : goal.start_of-requires-clause-few
+start_of-requires-clause-few c = rw c.as_slice-lines.ensures c.requires.laid.few
+
+pub start_of-requires-clause-apart : goal.start_of-requires-clause-apart
+start_of-requires-clause-apart c = rw c.as_slice-lines.ensures c.requires.laid.apart
+
+pub reach-requires-clause-many : goal.reach-requires-clause-many
+reach-requires-clause-many c = c.requires.many ∙ sym (c.requires.laid.built.implied_many ∙ length-map c.args.file.now.edges flipped)
+
+pub reach-requires-clause-closed : goal.reach-requires-clause-closed
+reach-requires-clause-closed c = c.requires.closed
+
+pub returns-in_default-clause-many : goal.returns-in_default-clause-many
+returns-in_default-clause-many c = c.requires.many
+
+pub returns-in_default-clause-closed : goal.returns-in_default-clause-closed
+returns-in_default-clause-closed c = c.requires.closed
+
+pub returns-clause-many : goal.returns-clause-many
+returns-clause-many c = c.in_ok-reach.ensures.many ∙ c.requires.many

@@ -1,9 +1,9 @@
-use Rattle.std.proofs.Common.{◌≤◌, take, length, subst, sym, ap, ◌∙◌, arith}
-use Rattle.std.proofs.lemmas.List.{take_all}
+use Rattle.std.proofs.Common.{◌≤◌, ◌++◌, false, take, length, replicate, subst, sym, ap, ◌∙◌, arith}
+use Rattle.std.proofs.lemmas.List.{length-replicate, take_all}
 use Rattle.result_rules.specs.File.{shown_orders}
 use Rattle.open_lines.specs.Serving.{IsShownBy}
 use Rattle.tor_arena.proofs.Gets.{take_get}
-use Rattle.open_lines.proofs.Showings.{orders_more}
+use Rattle.open_lines.proofs.Showings.{orders_more, shown-none}
 use Rattle.open_lines.proofs.showing.list_shown.Goals as goal
 
 pub loop-place-preserved : goal.loop-place-preserved
@@ -24,3 +24,30 @@ returns-clause-shown c =
     let file = c.args.file.now in
     let all : length file.whys ≤ c.loop-place.place = omega (arith, c.loop-place-test.false, c.len-place-end.ensures.length) in
     subst (λ l. IsShownBy file.edges (shown_orders l) c.loop-place.shown.items) (take_all c.loop-place.place file.whys all) c.loop-place.invariant.shown
+
+pub show_last-requires-clause-table : goal.show_last-requires-clause-table
+show_last-requires-clause-table c = rw c.as_slice.ensures c.requires.table
+
+pub show_last-requires-clause-few : goal.show_last-requires-clause-few
+show_last-requires-clause-few c = rw c.as_slice.ensures c.requires.few
+
+pub show_last-requires-clause-apart : goal.show_last-requires-clause-apart
+show_last-requires-clause-apart c = rw c.as_slice.ensures c.requires.apart
+
+pub show_last-requires-clause-many : goal.show_last-requires-clause-many
+show_last-requires-clause-many c = rw c.as_slice.ensures c.loop-place.invariant.many
+
+pub returns-clause-many : goal.returns-clause-many
+returns-clause-many c = c.loop-place.invariant.many
+
+pub loop-place-init : goal.loop-place-init
+loop-place-init c =
+    let edges = c.args.file.now.edges in
+    let begun = c.in_ok-push_copies.ensures.ok ∙ ap (λ l. l ++ replicate c.len.result false) c.new-shown.ensures in
+    record {
+      many = ap length begun ∙ length-replicate c.len.result false ∙ c.len.ensures;
+      shown = shown-none edges c.push_copies.new.self.items c.len.result begun;
+    }
+
+pub walk_at-walk-requires : goal.walk_at-walk-requires
+walk_at-walk-requires c = omega (arith, c.loop-place-test.true, c.len-place-end.ensures.length)

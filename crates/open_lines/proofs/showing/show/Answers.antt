@@ -27,3 +27,6 @@ returns-clause-shown c = λ orders h.
     let within = within_lines lines c.in-Some-from_place.edge (edge_of c.args.over c.args.under) at in
     shown-more lines c.requires.apart orders c.args.over c.args.under c.in-Some-from_place.edge c.args.shown.now.items c.put.new.self.items at (omega (arith, within, c.requires.many))
     c.put.ensures.items h
+
+pub returns-in_default-clause-many : goal.returns-in_default-clause-many
+returns-in_default-clause-many c = c.requires.many

@@ -19,3 +19,21 @@ pub returns-else-count-ge2-clause-shown : goal.returns-else-count-ge2-clause-sho
 returns-else-count-ge2-clause-shown c = λ orders h.
     let none = last_two-few c.args.walk.now.ases (omega (arith, c.if-count-ge2.false, ap length c.ases-ases.ensures)) in
     subst (λ l. IsShownBy c.args.lines.now l c.args.shown.now.items) (sym (ap (λ l. orders ++ l) none ∙ append-nil orders)) h
+
+pub show-requires-clause-table : goal.show-requires-clause-table
+show-requires-clause-table c = c.requires.table
+
+pub show-requires-clause-few : goal.show-requires-clause-few
+show-requires-clause-few c = c.requires.few
+
+pub show-requires-clause-apart : goal.show-requires-clause-apart
+show-requires-clause-apart c = c.requires.apart
+
+pub show-requires-clause-many : goal.show-requires-clause-many
+show-requires-clause-many c = c.requires.many
+
+pub returns-then-count-ge2-clause-many : goal.returns-then-count-ge2-clause-many
+returns-then-count-ge2-clause-many c = c.show.ensures.many
+
+pub returns-else-count-ge2-clause-many : goal.returns-else-count-ge2-clause-many
+returns-else-count-ge2-clause-many c = c.requires.many

@@ -1,9 +1,9 @@
 use Rattle.std.proofs.Common.{◌≤◌, ◌++◌, List, length, refl, subst, sym, ap, ◌∙◌, arith, take}
-use Rattle.std.proofs.lemmas.List.{take_all}
+use Rattle.std.proofs.lemmas.List.{length-map, take_all}
 use Rattle.relationships.specs.Evidence.{IsTriple}
 use Rattle.result_text.specs.declared.file.PathLine.{PathLine}
 use Rattle.result_rules.specs.File.{its_edges, its_returns}
-use Rattle.open_lines.specs.Flipping.{flipped_orders, IsBuilt, kept_lines}
+use Rattle.open_lines.specs.Flipping.{flipped, flipped_orders, IsBuilt, kept_lines}
 use Rattle.line_rules.specs.EdgeLines.{edges_of}
 use Rattle.line_rules.specs.PathSteps.{AreCodedSteps}
 use Rattle.tor_arena.proofs.Gets.{take_get}
@@ -79,3 +79,12 @@ note_line-requires-clause-few c = rw c.requires.labels c.requires.few
 
 pub note_line-requires-clause-proper : goal.note_line-requires-clause-proper
 note_line-requires-clause-proper c = rw c.requires.labels c.requires.proper
+
+pub note_line-requires-clause-implied : goal.note_line-requires-clause-implied
+note_line-requires-clause-implied c = rw c.requires.labels (c.loop-place.invariant.built.implied_many ∙ length-map c.args.file.now.edges flipped)
+
+pub note_line-requires-clause-conflicting : goal.note_line-requires-clause-conflicting
+note_line-requires-clause-conflicting c = rw c.requires.labels (c.loop-place.invariant.built.conflicting_many ∙ length-map c.args.file.now.edges flipped)
+
+pub path_line_at-line-requires : goal.path_line_at-line-requires
+path_line_at-line-requires c = omega (arith, c.loop-place-test.true, c.len-place-end.ensures.length)

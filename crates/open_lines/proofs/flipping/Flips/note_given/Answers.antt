@@ -38,3 +38,18 @@ returns-in_default c =
       built = λ paths b. subst (λ ps. IsBuilt (flipped_orders lines) (IsTriple ps) self.implied self.conflicting)
           (sym (return_absent (edges_of lines) paths c.args.given.now none)) b;
     }
+
+pub note_path-requires-clause-few : goal.note_path-requires-clause-few
+note_path-requires-clause-few c = c.requires.few
+
+pub note_path-requires-clause-proper : goal.note_path-requires-clause-proper
+note_path-requires-clause-proper c = c.requires.proper
+
+pub note_path-requires-clause-implied : goal.note_path-requires-clause-implied
+note_path-requires-clause-implied c = c.requires.implied
+
+pub note_path-requires-clause-conflicting : goal.note_path-requires-clause-conflicting
+note_path-requires-clause-conflicting c = c.requires.conflicting
+
+pub note_path-requires-clause-noted : goal.note_path-requires-clause-noted
+note_path-requires-clause-noted c = c.requires.noted

@@ -37,3 +37,18 @@ returns-clause-built c =
     let self = c.loop-given.self in
     let all = take_all c.loop-given.given-index c.args.givens.now (omega (arith, c.loop-given-test.false)) in
     subst (λ gs. IsBuilt (flipped_orders lines) (IsTriple (returns_on (edges_of lines) gs)) self.implied self.conflicting) all c.loop-given.invariant.built
+
+pub note_given-requires-clause-few : goal.note_given-requires-clause-few
+note_given-requires-clause-few c = c.requires.few
+
+pub note_given-requires-clause-proper : goal.note_given-requires-clause-proper
+note_given-requires-clause-proper c = c.requires.proper
+
+pub note_given-requires-clause-table : goal.note_given-requires-clause-table
+note_given-requires-clause-table c = c.requires.table
+
+pub note_given-requires-clause-noted : goal.note_given-requires-clause-noted
+note_given-requires-clause-noted c = c.loop-given.invariant.noted
+
+pub returns-clause-noted : goal.returns-clause-noted
+returns-clause-noted c = c.loop-given.invariant.noted

@@ -59,3 +59,24 @@ pub returns-clause-built : goal.returns-clause-built
 returns-clause-built c = λ paths b.
     path_end (flipped_orders c.args.labels.now) c.args.path.now c.loop-at.at c.loop-at.self.implied c.loop-at.self.conflicting (omega (arith, c.loop-at-test.false)) paths
     (c.loop-at.invariant.built paths b)
+
+pub note_pair-requires-clause-few : goal.note_pair-requires-clause-few
+note_pair-requires-clause-few c = c.requires.few
+
+pub note_pair-requires-clause-implied : goal.note_pair-requires-clause-implied
+note_pair-requires-clause-implied c = c.loop-at.invariant.implied
+
+pub note_pair-requires-clause-conflicting : goal.note_pair-requires-clause-conflicting
+note_pair-requires-clause-conflicting c = c.loop-at.invariant.conflicting
+
+pub note_pair-requires-clause-noted : goal.note_pair-requires-clause-noted
+note_pair-requires-clause-noted c = c.loop-at.invariant.noted
+
+pub returns-clause-implied : goal.returns-clause-implied
+returns-clause-implied c = c.loop-at.invariant.implied
+
+pub returns-clause-conflicting : goal.returns-clause-conflicting
+returns-clause-conflicting c = c.loop-at.invariant.conflicting
+
+pub returns-clause-noted : goal.returns-clause-noted
+returns-clause-noted c = c.loop-at.invariant.noted
