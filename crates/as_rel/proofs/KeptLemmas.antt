@@ -20,7 +20,7 @@ use Rattle.relationships.proofs.GivenLemmas.{given_serving_law}
 use Rattle.relationships.proofs.Neighbours.{edge_law}
 use Rattle.result_text.specs.EdgeLabels.{labels_in}
 use Rattle.result_text.specs.declared.file.EdgeLine.{EdgeLine}
-use Rattle.serial_lines.specs.declared.line.RelLine.{RelLine}
+use Rattle.as_rel.specs.declared.line.RelLine.{RelLine}
 use Rattle.as_rel.specs.declared.grading.Grade.TheVariants.{Free, Unknown}
 use Rattle.as_rel.specs.Grading.{AreFree, IsGrade, grade, steps_on}
 use Rattle.as_rel.specs.Labelled.{AreAlong, ends_of, line_of_edge}

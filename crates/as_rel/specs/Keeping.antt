@@ -11,7 +11,7 @@ use Rattle.relationships.specs.Selection.{KeepsFrom}
 use Rattle.relationships.specs.Givens.{returns, AgreesWith}
 use Rattle.result_text.specs.EdgeLabels.{labels_in}
 use Rattle.result_text.specs.declared.file.EdgeLine.{EdgeLine}
-use Rattle.serial_lines.specs.declared.line.RelLine.{RelLine}
+use Rattle.as_rel.specs.declared.line.RelLine.{RelLine}
 use Rattle.as_rel.specs.declared.grading.Grade.TheVariants.{Free, Unknown}
 use Rattle.as_rel.specs.Grading.{IsGrade, steps_on}
 use Rattle.as_rel.specs.Labelled.{ends_of, line_of_edge}

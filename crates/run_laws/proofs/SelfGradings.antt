@@ -16,8 +16,8 @@ use Rattle.path_attrs.specs.Fields.{◌>>=◌}
 use Rattle.relationships.specs.Givens.{returns}
 use Rattle.relationships.specs.Selection.{KeepsFrom}
 use Rattle.run_base.specs.Reading.{nothing, seen_from}
-use Rattle.serial_lines.specs.declared.line.RelLine.{RelLine}
-use Rattle.serial_lines.specs.Serial.{rel_in}
+use Rattle.as_rel.specs.declared.line.RelLine.{RelLine}
+use Rattle.as_rel.specs.Serial.{rel_in}
 use Rattle.as_rel.specs.declared.grading.Grade.{Grade}
 use Rattle.as_rel.specs.declared.grading.Grade.TheVariants.{Free, Valley, Unknown}
 use Rattle.as_rel.specs.Grading.{IsGrade, grade, steps_on}

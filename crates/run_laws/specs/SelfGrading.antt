@@ -7,7 +7,7 @@ use Rattle.dump_read.specs.declared.taking.Taken.{Taken}
 use Rattle.relationships.specs.declared.given.Given.{Given}
 use Rattle.relationships.specs.Givens.{returns}
 use Rattle.relationships.specs.Selection.{KeepsFrom}
-use Rattle.serial_lines.specs.declared.line.RelLine.{RelLine}
+use Rattle.as_rel.specs.declared.line.RelLine.{RelLine}
 use Rattle.tor_words.specs.declared.settings.Settings.{Settings}
 use Rattle.tor_words.specs.declared.grade_settings.GradeSettings.{GradeSettings}
 use Rattle.tor_words.specs.declared.settings.Mode.TheVariants.{Serial}

@@ -2,8 +2,8 @@
 use Rattle.std.proofs.Common.{◌≡◌, ◌⊎◌, inl, inr, ℕ, List, [], Option, Some, None, Ok, Err, refl, sym, ap, ap₂, subst, ◌∙◌}
 use Rattle.tor_io.specs.Contents.{Files}
 use Rattle.relationships.specs.declared.given.Given.{Given}
-use Rattle.serial_lines.specs.Givens.{givens_in}
-use Rattle.serial_lines.specs.Serial.{rel_in}
+use Rattle.as_rel.specs.Givens.{givens_in}
+use Rattle.as_rel.specs.Serial.{rel_in}
 use Rattle.dump_read.specs.declared.taking.Taken.{Taken}
 use Rattle.dump_read.specs.Seen.{DumpsEnd, Absent, Malformed, Limit}
 use Rattle.result_text.specs.declared.file.ResultFile.{ResultFile}

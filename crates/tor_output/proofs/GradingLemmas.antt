@@ -22,7 +22,7 @@ use Rattle.result_rules.specs.File.{claim_on, its_paths, its_walks}
 use Rattle.result_rules.specs.Against.{row_of}
 use Rattle.rel_infer.specs.GivenResults.{IsResultWith}
 use Rattle.rel_infer.specs.SelfAcceptance.{AreTableRows}
-use Rattle.serial_lines.specs.Serial.{rel_in}
+use Rattle.as_rel.specs.Serial.{rel_in}
 use Rattle.as_rel.specs.Keeping.{ExactlyKeptAreFree}
 use Rattle.as_rel.specs.Labelled.{ends_of, line_of_edge}
 use Rattle.as_rel.proofs.KeptLemmas.{kept_free_law, ends_law}

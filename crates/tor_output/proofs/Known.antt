@@ -6,14 +6,14 @@ use Rattle.std.proofs.lemmas.List.Kept.{AllPairs-cons, AllPairs-filter}
 use Rattle.relationships.specs.declared.given.Given.{Given}
 use Rattle.relationships.specs.Givens.{NameTwo, NameOnce}
 use Rattle.relationships.specs.Graph.{Edge, is_same}
-use Rattle.serial_lines.specs.declared.line.RelLine.{RelLine}
-use Rattle.serial_lines.specs.Givens.{is_transit, givens_in}
-use Rattle.serial_lines.specs.Good.{said_by, firsts}
-use Rattle.serial_lines.specs.Serial.{IsProperLine, NamesPairsOnce, pair_of, lines, onto_first, rel_in, is_comment, said}
-use Rattle.serial_lines.proofs.Finding.{is_same-self}
-use Rattle.serial_lines.proofs.FirstLines.{firsts_law}
-use Rattle.serial_lines.proofs.GivenLines.{name_two, name_once}
-use Rattle.serial_lines.proofs.ReadLemmas.{said_takes}
+use Rattle.as_rel.specs.declared.line.RelLine.{RelLine}
+use Rattle.as_rel.specs.Givens.{is_transit, givens_in}
+use Rattle.as_rel.specs.Good.{said_by, firsts}
+use Rattle.as_rel.specs.Serial.{IsProperLine, NamesPairsOnce, pair_of, lines, onto_first, rel_in, is_comment, said}
+use Rattle.as_rel.proofs.Finding.{is_same-self}
+use Rattle.as_rel.proofs.FirstLines.{firsts_law}
+use Rattle.as_rel.proofs.GivenLines.{name_two, name_once}
+use Rattle.as_rel.proofs.ReadLemmas.{said_takes}
 use Rattle.tor_output.specs.First.{SaysGivens}
 
 -- ---- lines name two ASes, and no two of them the same two

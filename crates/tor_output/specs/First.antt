@@ -2,9 +2,9 @@
 use Rattle.std.specs.Prelude.{◌≡◌, ◌≤◌, ℕ, List, length, Option, Some, None, Ok, Err, ⊤}
 use Rattle.tor_io.specs.Contents.{Files}
 use Rattle.relationships.specs.declared.given.Given.{Given}
-use Rattle.serial_lines.specs.declared.line.RelLine.{RelLine}
-use Rattle.serial_lines.specs.Givens.{givens_in}
-use Rattle.serial_lines.specs.Serial.{rel_in}
+use Rattle.as_rel.specs.declared.line.RelLine.{RelLine}
+use Rattle.as_rel.specs.Givens.{givens_in}
+use Rattle.as_rel.specs.Serial.{rel_in}
 use Rattle.result_text.specs.declared.file.ResultFile.{ResultFile}
 use Rattle.result_text.specs.Grammar.{IsTextOf, IsBadLine}
 use Rattle.result_rules.specs.declared.verdict.Verdict.TheVariants.{No}

@@ -5,7 +5,7 @@ use Rattle.tor_io.specs.Contents.{Files, GainsPrefix}
 use Rattle.path_table.specs.Rows.{row_paths}
 use Rattle.relationships.specs.declared.given.Given.{Given}
 use Rattle.dump_read.specs.declared.taking.Taken.{Taken}
-use Rattle.serial_lines.specs.Serial.{rel_in, rel_text}
+use Rattle.as_rel.specs.Serial.{rel_in, rel_text}
 use Rattle.as_rel.specs.Labelled.{line_of_edge}
 use Rattle.table_ties.specs.declared.tying.TieLine.{TieLine}
 use Rattle.table_ties.specs.Ties.{AreTieLinesOf}

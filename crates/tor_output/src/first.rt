@@ -2,7 +2,7 @@
 ghost use Rattle.std.specs.Prelude.{◌≤◌, Some, IfOk, IfErr, IfSome, OnOk, IsErrAnd, length};
 ghost use Rattle.std.specs.Io.KnownBytes.{IsAtEnd};
 ghost use Rattle.relationships.specs.Givens.{NameTwo, NameOnce};
-ghost use Rattle.serial_lines.specs.Serial.{IsReadingError};
+ghost use Rattle.as_rel.specs.Serial.{IsReadingError};
 ghost use Rattle.run_base.specs.Frames.{ReadsShelf};
 ghost use Rattle.tor_output.specs.First.{Givens, Result as ResultAt, Earlier, AreGivens, AreSomeGivens, SaysGivens, HoldsResult, IsSomeResult};
 ghost use Rattle.tor_output.specs.First.{TakesUpSome};
@@ -11,11 +11,11 @@ ghost use Rattle.tor_output.specs.Reach.{IsFirstInReach};
 ghost use Rattle.tor_output.specs.Refusals.{AreGivensIn, TakesUpIn, IsUnwrittenAtFirst, IsFailedRead};
 
 use crate::unwritten::Unwritten;
+use as_rel::{RelError, parse_given};
 use relationships::Given;
 use result_reading::{NoResult, read_result};
 use result_text::ResultFile;
 use run_base::{FirstFile, Refusal, read_whole};
-use serial_lines::{RelError, parse_given};
 use std::alloc::Global;
 use tor_arena::{Keys, List};
 use tor_io::Shelf;

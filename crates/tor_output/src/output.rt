@@ -12,7 +12,7 @@ ghost use Rattle.tor_output.specs.Output.{Faithful, IsMigrated, IsOutputIn, migr
 ghost use Rattle.result_text.specs.Grammar.{IsTextOf};
 ghost use Rattle.result_text.specs.Text.{text};
 ghost use Rattle.rel_infer.specs.SelfAcceptance.{AreTableRows};
-ghost use Rattle.serial_lines.specs.Serial.{rel_in, rel_text};
+ghost use Rattle.as_rel.specs.Serial.{rel_in, rel_text};
 ghost use Rattle.as_rel.specs.Labelled.{ends_of, line_of_edge};
 ghost use Rattle.table_ties.specs.TiesText.{ties_text};
 ghost use Rattle.tor_survey.specs.SurveyText.{survey_text};

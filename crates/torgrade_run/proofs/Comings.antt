@@ -2,8 +2,8 @@
 use Rattle.std.proofs.Common.{◌≡◌, ℕ, List, None, Result, Ok, Err, refl, ap, ap₂, subst, ◌∙◌}
 use Rattle.tor_io.specs.Contents.{Files}
 use Rattle.dump_read.specs.Seen.{Absent, Malformed, Limit}
-use Rattle.serial_lines.specs.declared.line.RelLine.{RelLine}
-use Rattle.serial_lines.specs.Serial.{rel_in}
+use Rattle.as_rel.specs.declared.line.RelLine.{RelLine}
+use Rattle.as_rel.specs.Serial.{rel_in}
 use Rattle.tor_words.specs.declared.grade_settings.GradeSettings.{GradeSettings}
 use Rattle.tor_words.specs.GradeGiven.{grade_settings_given}
 use Rattle.run_base.specs.declared.status.Status.{Status}

@@ -8,7 +8,7 @@ use Rattle.std.proofs.lemmas.List.Sums.{count_by-le-length, count_by_more_no, co
 use Rattle.tor_io.specs.Contents.{GainsPrefix}
 use Rattle.tor_io.proofs.Passing.{longer}
 use Rattle.path_table.specs.Rows.{Counted, row_paths}
-use Rattle.serial_lines.specs.declared.line.RelLine.{RelLine}
+use Rattle.as_rel.specs.declared.line.RelLine.{RelLine}
 use Rattle.as_rel.specs.declared.grading.Grade.{Grade}
 use Rattle.as_rel.specs.declared.grading.Grade.TheVariants.{Free, Valley, Unknown}
 use Rattle.as_rel.specs.Grading.{grade}

@@ -5,7 +5,7 @@ use Rattle.tor_io.specs.Contents.{Files}
 use Rattle.dump_read.specs.declared.error.DumpError.{DumpError}
 use Rattle.dump_read.specs.declared.error.DumpError.TheVariants as error
 use Rattle.dump_read.specs.Seen.{DumpsEnd, Absent, Malformed, Limit, end_named}
-use Rattle.serial_lines.specs.Serial.{rel_in}
+use Rattle.as_rel.specs.Serial.{rel_in}
 use Rattle.tor_words.specs.declared.grade_settings.GradeSettings.{GradeSettings}
 use Rattle.tor_words.specs.declared.refused.WordsRefused.TheVariants as refused
 use Rattle.tor_words.specs.GradeGiven.{grade_settings_given}

@@ -2,9 +2,9 @@
 use Rattle.std.proofs.Common.{◌≡◌, ◌∷◌, [], List, codes, refl}
 use Rattle.std.specs.Fmt.{digits}
 use Rattle.path_table.specs.Rows.{Counted}
-use Rattle.serial_lines.specs.declared.line.RelKind.TheVariants.{Transit, Peering}
-use Rattle.serial_lines.specs.declared.line.RelLine.{RelLine}
-use Rattle.serial_lines.specs.Serial.{rel_line}
+use Rattle.as_rel.specs.declared.line.RelKind.TheVariants.{Transit, Peering}
+use Rattle.as_rel.specs.declared.line.RelLine.{RelLine}
+use Rattle.as_rel.specs.Serial.{rel_line}
 use Rattle.torgrade_run.specs.GradeAnswer.{bad_line_note, long_rel_note}
 use Rattle.torgrade_run.specs.GradeText.{grades_text}
 

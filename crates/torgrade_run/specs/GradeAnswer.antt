@@ -9,8 +9,8 @@ use Rattle.dump_read.specs.declared.error.LimitKind.{LimitKind}
 use Rattle.dump_read.specs.declared.taking.Taken.{Taken}
 use Rattle.dump_read.specs.Seen.{Absent, Malformed, Limit}
 use Rattle.path_clean.specs.declared.cleaned.Sets.TheVariants.{Cut}
-use Rattle.serial_lines.specs.declared.line.RelLine.{RelLine}
-use Rattle.serial_lines.specs.Serial.{rel_in}
+use Rattle.as_rel.specs.declared.line.RelLine.{RelLine}
+use Rattle.as_rel.specs.Serial.{rel_in}
 use Rattle.tor_words.specs.declared.grade_settings.GradeSettings.{GradeSettings}
 use Rattle.tor_words.specs.Refused.{HasUsageLine}
 use Rattle.tor_words.specs.GradeGiven.{grade_settings_given}

@@ -3,7 +3,7 @@ use Rattle.std.specs.Prelude.{◌≡◌, ◌↔◌, ℕ, ◌+◌, Bool, true, fa
 use Rattle.std.specs.Prelude.{None, codes, decimal}
 use Rattle.std.specs.List.Sorted.{IsStrictlyIncreasing}
 use Rattle.path_table.specs.Rows.{Counted}
-use Rattle.serial_lines.specs.declared.line.RelLine.{RelLine}
+use Rattle.as_rel.specs.declared.line.RelLine.{RelLine}
 use Rattle.as_rel.specs.declared.grading.Grade.{Grade}
 use Rattle.as_rel.specs.declared.grading.Grade.TheVariants.{Free, Valley, Unknown}
 use Rattle.as_rel.specs.Grading.{grade}

@@ -5,8 +5,8 @@ use Rattle.tor_io.specs.Contents.{Files}
 use Rattle.dump_read.specs.declared.taking.Taken.{Taken}
 use Rattle.dump_read.specs.Seen.{DumpsEnd}
 use Rattle.path_clean.specs.declared.cleaned.Sets.TheVariants.{Cut}
-use Rattle.serial_lines.specs.declared.line.RelLine.{RelLine}
-use Rattle.serial_lines.specs.Serial.{rel_in}
+use Rattle.as_rel.specs.declared.line.RelLine.{RelLine}
+use Rattle.as_rel.specs.Serial.{rel_in}
 use Rattle.tor_words.specs.declared.grade_settings.GradeSettings.{GradeSettings}
 use Rattle.tor_words.specs.GradeGiven.{grade_settings_given}
 use Rattle.run_base.specs.Reading.{nothing, seen_from}

@@ -5,7 +5,7 @@ ghost use Rattle.tor_arena.specs.Limits.{max_paths};
 ghost use Rattle.path_clean.specs.declared.cleaned.Sets.TheVariants.{Cut};
 ghost use Rattle.dump_read.specs.declared.error.DumpError.TheVariants.{ReadFault as read_failed};
 ghost use Rattle.dump_read.specs.Seen.{Absent, end_named};
-ghost use Rattle.serial_lines.specs.Serial.{rel_in, IsReadingError};
+ghost use Rattle.as_rel.specs.Serial.{rel_in, IsReadingError};
 ghost use Rattle.tor_words.specs.GradeGiven.{grade_settings_given};
 ghost use Rattle.run_base.specs.Frames.{ReadsShelf};
 ghost use Rattle.run_base.specs.Reach.{IsDumpInReach};

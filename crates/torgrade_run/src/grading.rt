@@ -7,7 +7,7 @@ ghost use Rattle.dump_read.specs.declared.error.Fault.{Fault as FaultKind};
 ghost use Rattle.dump_read.specs.declared.error.LimitKind.{LimitKind as Quantity};
 ghost use Rattle.dump_read.specs.declared.taking.Taken.{Taken};
 ghost use Rattle.dump_read.specs.Seen.{Absent, Malformed as MalformedAt, Limit as LimitOf};
-ghost use Rattle.serial_lines.specs.declared.line.RelLine.{RelLine};
+ghost use Rattle.as_rel.specs.declared.line.RelLine.{RelLine};
 ghost use Rattle.tor_words.specs.GradeGiven.{grade_settings_given};
 ghost use Rattle.std.specs.Io.KnownBytes.{IsAtEnd};
 ghost use Rattle.run_base.specs.Answers.{IsNoted, note_in};

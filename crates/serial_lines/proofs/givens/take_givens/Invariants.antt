@@ -1,6 +1,0 @@
-use Rattle.std.proofs.Common.{◌≡◌, ◌++◌, take}
-use Rattle.serial_lines.specs.Givens.{givens_in}
-use Rattle.serial_lines.proofs.givens.take_givens.Given as goal
-
-abbrev pub invariant-loop-line : goal.invariant-loop-line
-invariant-loop-line l = l.givens ≡ l.fn.givens ++ givens_in (take l.line-index l.lines)

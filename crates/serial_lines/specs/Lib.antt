@@ -1,4 +1,0 @@
-pub mod Givens
-pub mod Good
-pub mod Indexed
-pub mod Serial
