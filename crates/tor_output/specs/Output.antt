@@ -7,9 +7,9 @@ use Rattle.relationships.specs.declared.given.Given.{Given}
 use Rattle.dump_read.specs.declared.taking.Taken.{Taken}
 use Rattle.as_rel.specs.Serial.{rel_in, rel_text}
 use Rattle.as_rel.specs.Labelled.{line_of_edge}
-use Rattle.table_ties.specs.declared.tying.TieLine.{TieLine}
-use Rattle.table_ties.specs.Ties.{AreTieLinesOf}
-use Rattle.table_ties.specs.TiesText.{ties_text}
+use Rattle.ties.specs.declared.table.TieLine.{TieLine}
+use Rattle.ties.specs.Ties.{AreTieLinesOf}
+use Rattle.ties.specs.TiesText.{ties_text}
 use Rattle.result_text.specs.declared.file.ResultFile.{ResultFile}
 use Rattle.result_text.specs.Grammar.{IsTextOf}
 use Rattle.result_text.specs.Text.{its_givens}

@@ -14,7 +14,7 @@ ghost use Rattle.result_text.specs.Text.{text};
 ghost use Rattle.rel_infer.specs.SelfAcceptance.{AreTableRows};
 ghost use Rattle.as_rel.specs.Serial.{rel_in, rel_text};
 ghost use Rattle.as_rel.specs.Labelled.{ends_of, line_of_edge};
-ghost use Rattle.table_ties.specs.TiesText.{ties_text};
+ghost use Rattle.ties.specs.TiesText.{ties_text};
 ghost use Rattle.tor_survey.specs.SurveyText.{survey_text};
 ghost use Rattle.tor_survey.specs.Surveys.{survey_of};
 ghost use Rattle.tor_output.specs.Listing.{listing};
@@ -30,7 +30,7 @@ use rel_infer::{ResultHead, result_with};
 use relationships::Given;
 use result_text::{EdgeLine, ResultFile, in_range, write_text};
 use std::alloc::Global;
-use table_ties::{TieLine, ties_of_table};
+use ties::{TieLine, ties_of_table};
 use tor_arena::{Keys, List, NoMemory};
 use tor_io::{Buffer, Failed, Sink, write_all};
 use tor_survey::{survey_of, text_of};
@@ -306,7 +306,7 @@ fn ties_alone(alloc: Global, lines: &[TieLine]) -> Result<Output, NoMemory>
     ensures text { IfOk result (λ output. (written output).text ≡ ties_text lines.now) }
     ensures note { IfOk result (λ output. (written output).note ≡ []) }
 {
-    let text = table_ties::text_of(alloc, lines)?;
+    let text = ties::text_of(alloc, lines)?;
     Ok(Output::Text(text, List::new(alloc)))
 }
 

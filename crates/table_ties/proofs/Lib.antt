@@ -1,5 +1,0 @@
-mod Counts
-mod GivenTyings
-mod Labels
-mod Tyings
-mod Vectors

@@ -1,6 +1,0 @@
-use Rattle.std.proofs.Common.{◌≡◌, ◌++◌, take}
-use Rattle.table_ties.specs.TiesText.{tie_texts}
-use Rattle.table_ties.proofs.printing.put_ties.Given as goal
-
-abbrev pub invariant-loop-line : goal.invariant-loop-line
-invariant-loop-line l = l.out ≡ l.fn.out ++ tie_texts (take l.line-index l.lines)

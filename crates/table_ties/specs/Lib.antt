@@ -1,4 +1,0 @@
-pub mod Behind
-pub mod GivenTies
-pub mod Ties
-pub mod TiesText
