@@ -10,7 +10,7 @@ use Rattle.relationships.specs.declared.label.Label.{Label}
 use Rattle.relationships.specs.declared.given.Given.{Given}
 use Rattle.relationships.specs.declared.walk.Link.{Link}
 use Rattle.relationships.specs.declared.walk.Walk.{Walk}
-use Rattle.relationships.specs.Relationship.{Orientation, Labelling, is_over, slope, labels_of, opposite, ValleyFree, Serves}
+use Rattle.relationships.specs.Relationship.{Orientation, Labelling, Up, Down, Flat, is_over, slope, slopes, labels_of, opposite, ValleyFree, Serves}
 use Rattle.relationships.specs.Graph.{Edge, edge_of, is_same, edges, degree, labelling}
 use Rattle.relationships.specs.Givens.{returns}
 use Rattle.relationships.specs.Preference.{lean, lead, wanted, place}
@@ -157,6 +157,31 @@ label_set = refl
 end_set : slice_set (End.Low ∷ End.Low ∷ []) 1 End.High ≡ End.Low ∷ End.High ∷ []
 end_set = refl
 
+-- ---- whether a path is valley-free, by its slopes: two edges that are labelled, and that have providers
+
+abbrev up_path : List ℕ
+up_path = 10 ∷ 20 ∷ 30 ∷ []
+
+abbrev two_labels : Label → Label → Labelling
+two_labels first second = labelling ((10, 20) ∷ (20, 30) ∷ []) (first ∷ second ∷ [])
+
+-- two peerings, one behind a step up, two steps up, and a valley
+two_peerings : slopes (two_labels Label.Peer Label.Peer) up_path ≡ Flat ∷ Flat ∷ []
+unfolding slope is_over
+two_peerings = refl
+
+up_and_across : ValleyFree (two_labels Label.High Label.Peer) up_path
+unfolding slope is_over
+up_and_across = (1, 0, inr refl)
+
+up_and_up : ValleyFree (two_labels Label.High Label.High) up_path
+unfolding slope is_over
+up_and_up = (2, 0, inl refl)
+
+a_valley : slopes (two_labels Label.Low Label.High) up_path ≡ Down ∷ Up ∷ []
+unfolding slope is_over
+a_valley = refl
+
 -- ---- numbers of edges
 
 number_of_an_edge : number_of_edge (7, 9) ≡ 0x7_0000_0004
@@ -268,6 +293,21 @@ their_places = refl
 
 all_settled : length (edges six) ≡ 9
 all_settled = refl
+
+-- ---- what the edges of three paths prefer, where the first two are kept, in settling order, by their places
+
+abbrev two_of_three : List (List ℕ)
+two_of_three = paths_at three (0 ∷ 1 ∷ [])
+
+abbrev settled_of_three : List Edge
+settled_of_three = map (edge_at (edges three)) (1 ∷ 3 ∷ 4 ∷ 5 ∷ 0 ∷ 2 ∷ 6 ∷ [])
+
+leans_of_three : map (lean (degree three) two_of_three) settled_of_three ≡ pos 1 ∷ pos 1 ∷ pos 1 ∷ pos 1 ∷ pos 0 ∷ pos 0 ∷ pos 0 ∷ []
+leans_of_three = refl
+
+wishes_of_three : map (wanted (degree three) two_of_three) settled_of_three ≡
+    End.Low ∷ End.Low ∷ End.Low ∷ End.Low ∷ End.Low ∷ End.Low ∷ End.Low ∷ []
+wishes_of_three = refl
 
 -- ---- what is reached in a small digraph, of nodes 0 to 3 and arcs from 0 to 1, 1 to 2, 2 to 1 and 0 to 3
 

@@ -1,236 +1,139 @@
-//! Tests of graphs, of clauses and of the solver. Edges, degrees, steps, triples and literals stand in `proofs/Vectors.antt`.
-ghost use Rattle.std.specs.Prelude.{◌≤◌, length};
+//! A test of what no program asks of a graph: an orientation or a walk, the fates of all paths, and preferences alone. By their clauses these
+//! calls answer what is right, or want of memory; edges, degrees, steps, triples, leans and valley-free paths stand in
+//! `proofs/Vectors.antt`.
 ghost use Rattle.tor_clauses.specs.Formulas.{FitsGraph};
 
-use crate::cases::{clauses_of, graph_of};
-use as_graph::{AsGraph, Labels, Orientation};
-use relationships::{End, Label, Walk};
+use as_graph::{AsGraph, build};
+use gao_prefs::preferences;
+use path_clean::is_cleaned;
+use path_select::select;
+use path_table::PathTable;
+use relationships::Fates;
 use std::alloc::Global;
-use std::test::Fail;
-use tor_arena::{ArcId, Index, Keys, PathId};
-use tor_clauses::{Clauses, Triple};
-use tor_solve::{Solution, solve};
+use tor_arena::{Index, Keys, NoMemory, PathId};
+use tor_clauses::Clauses;
+use tor_solve::solve;
 
-/// Whether the first path of a graph is valley-free, where there is a label for each edge.
-fn is_free(graph: &AsGraph, labels: &Labels) -> Option<bool> {
-    let path = PathId::from_place(0)?;
-    if graph.path_count() == 0 || labels.as_slice().len() != graph.edge_count() {
-        return None;
-    }
-    Some(graph.valley_free(labels, path))
-}
-
-fn is_free_under(
-    alloc: Global,
-    graph: &AsGraph,
-    first: Label,
-    second: Label,
-) -> Result<Option<bool>, Fail> {
-    let labels = Labels::from_slice(alloc, &[first, second])?;
-    Ok(is_free(graph, &labels))
-}
-
-/// Whether the path is valley-free under two peerings, one behind a step up, and two steps up.
-fn free_told(alloc: Global, graph: &AsGraph) -> Result<[Option<bool>; 3], Fail> {
-    Ok([
-        is_free_under(alloc, graph, Label::Peer, Label::Peer)?,
-        is_free_under(alloc, graph, Label::High, Label::Peer)?,
-        is_free_under(alloc, graph, Label::High, Label::High)?,
-    ])
-}
-
-/// Whether the clauses hold under these providers of two edges.
-fn holds_under(
-    alloc: Global,
-    graph: &AsGraph,
-    clauses: &Clauses,
-    ends: &[End],
-) -> Result<Option<bool>, Fail>
-    requires { FitsGraph graph.now clauses.now }
-{
-    if ends.len() != graph.edge_count() {
-        return Ok(None);
-    }
-    let orientation = Orientation::from_slice(alloc, ends)?;
-    Ok(Some(clauses.holds(graph, &orientation)))
-}
-
-/// The place of a triple's path and where it stands there, and the places of its two edges.
-fn triple_told(triple: Triple) -> [usize; 4] {
-    [
-        triple.path.place(),
-        triple.at as usize,
-        triple.first.edge().place(),
-        triple.second.edge().place(),
-    ]
-}
-
-/// The triple of the first arc, if there is one.
-fn first_triple(clauses: &Clauses) -> Option<[usize; 4]> {
-    let arc = ArcId::from_place(0)?;
-    if clauses.digraph().arc_count() == 0 {
-        return None;
-    }
-    Some(triple_told(clauses.triple_of(arc)))
-}
-
-/// What the clauses of one path say: whether they hold where both steps go up, and in a valley, and its triple.
-fn clauses_told(
-    alloc: Global,
-    graph: &AsGraph,
-    clauses: &Clauses,
-) -> Result<(Option<bool>, Option<bool>, Option<[usize; 4]>), Fail>
-    requires { FitsGraph graph.now clauses.now }
-{
-    Ok((
-        holds_under(alloc, graph, clauses, &[End::High, End::High])?,
-        holds_under(alloc, graph, clauses, &[End::Low, End::High])?,
-        first_triple(clauses),
-    ))
-}
-
-fn holds_told(
-    alloc: Global,
-    keys: Keys,
-    graph: &AsGraph,
-) -> Result<(Option<bool>, Option<bool>, Option<[usize; 4]>), Fail> {
-    if graph.path_count() == 0 {
-        return Err(Fail::from("a path"));
-    }
-    let clauses = clauses_of(alloc, keys, graph, 1)?;
-    let told = clauses_told(alloc, graph, &clauses);
-    drop(clauses);
-    told
-}
-
-fn degrees_told(graph: &AsGraph) -> [u64; 3] {
-    [graph.degree(10), graph.degree(20), graph.degree(7)]
-}
-
-/// Whether the graph of 10 20 30 says what it should.
-fn is_right(alloc: Global, keys: Keys, graph: &AsGraph) -> Result<bool, Fail> {
-    Ok(
-        degrees_told(graph) == [1, 2, 0]
-            && free_told(alloc, graph)? == [Some(false), Some(true), Some(true)]
-            && holds_told(alloc, keys, graph)? == (Some(true), Some(false), Some([0, 2, 0, 1])),
-    )
-}
-
-fn one_path_is_right(alloc: Global, keys: Keys) -> Result<bool, Fail> {
-    let graph = graph_of(alloc, keys, &[&[10, 20, 30]])?;
-    let told = is_right(alloc, keys, &graph);
-    drop(graph);
-    told
-}
-
-#[test]
-fn a_path_has_at_most_one_flat_step_and_no_valley(rt: HostRuntime) -> Result<(), Fail> {
-    assert!(rt; one_path_is_right(rt.alloc(), Keys::new(&rt))?);
-    Ok(())
-}
-
-/// Whether a walk has two fewer links than ASes, ends with the two ASes with which it begins, and has them in the other order somewhere.
-fn is_refuting(walk: &Walk) -> bool {
-    let ases = walk.ases.as_slice();
-    let count = ases.len();
-    if count < 2 {
-        return false;
-    }
-    let (first, second) = (ases[0], ases[1]);
-    let mut flips = false;
-    for place in 1..count {
-        if ases[place - 1] == second && ases[place] == first {
-            flips = true;
-        }
-    }
-    flips && walk.links.len() == count - 2 && ases[count - 2] == first && ases[count - 1] == second
-}
-
-/// Whether there is an orientation under which the clauses hold; None where there is a walk that does not refute, or they do not hold.
-fn is_served(alloc: Global, graph: &AsGraph, clauses: &Clauses) -> Result<Option<bool>, Fail>
-    requires { FitsGraph graph.now clauses.now }
-{
-    match solve(alloc, graph, clauses)? {
-        Solution::Model(ends) => Ok(if clauses.holds(graph, &ends) {
-            Some(true)
-        } else {
-            None
-        }),
-        Solution::Walk(walk) => Ok(if is_refuting(&walk) {
-            Some(false)
-        } else {
-            None
-        }),
-    }
-}
-
-/// Paths, how many of them are asked about, the first, and whether some orientation serves these.
-struct Case {
-    paths: &'static [&'static [u32]],
-    count: usize,
-    served: bool,
-}
-
-const THREE_PATHS: &[&[u32]] = &[
-    &[30, 40, 20, 10, 50, 60],
-    &[10, 20, 30, 40],
-    &[50, 60, 10, 20],
-];
+/// Paths, and which of them are kept.
+type Case = (&'static [&'static [u32]], &'static [bool]);
 
 static CASES: [Case; 4] = [
-    Case {
-        paths: THREE_PATHS,
-        count: 3,
-        served: false,
-    },
-    Case {
-        paths: THREE_PATHS,
-        count: 2,
-        served: true,
-    },
-    // a path and its reverse
-    Case {
-        paths: &[&[10, 20, 30], &[30, 20, 10]],
-        count: 2,
-        served: true,
-    },
-    Case {
-        paths: &[],
-        count: 0,
-        served: true,
-    },
+    (
+        &[
+            &[30, 40, 20, 10, 50, 60],
+            &[10, 20, 30, 40],
+            &[50, 60, 10, 20],
+        ],
+        &[true, true, false],
+    ),
+    // the last two are lost
+    (
+        &[
+            &[30, 40, 20, 10, 50, 60],
+            &[10, 20, 30, 40],
+            &[40, 20, 10, 60],
+            &[10, 60, 50],
+            &[20, 10, 60, 50],
+        ],
+        &[true, true, true, false, false],
+    ),
+    // a path and its reverse, which some orientation serves
+    (
+        &[&[10, 20, 30], &[40, 50, 60], &[30, 20, 10]],
+        &[true, true, true],
+    ),
+    // the third is lost
+    (
+        &[
+            &[30, 40, 20, 10, 50, 60],
+            &[10, 20, 30, 40],
+            &[50, 60, 10, 20],
+            &[60, 10],
+        ],
+        &[true, true, false, true],
+    ),
 ];
 
-fn answer(alloc: Global, keys: Keys, graph: &AsGraph, count: usize) -> Result<Option<bool>, Fail> {
-    if count > graph.path_count() {
-        return Err(Fail::from("so many paths"));
-    }
-    let clauses = clauses_of(alloc, keys, graph, count)?;
-    let told = is_served(alloc, graph, &clauses);
-    drop(clauses);
-    told
-}
-
-fn is_met(alloc: Global, keys: Keys, case: &Case) -> Result<bool, Fail> {
-    let graph = graph_of(alloc, keys, case.paths)?;
-    let told = answer(alloc, keys, &graph, case.count);
-    drop(graph);
-    Ok(told? == Some(case.served))
-}
-
-/// How many of the cases are met.
-fn met(alloc: Global, keys: Keys) -> Result<usize, Fail> {
-    let mut count: usize = 0;
-    for case in &CASES {
-        if is_met(alloc, keys, case)? {
-            count = count.saturating_add(1);
+/// Adds paths, and answers whether each was added.
+fn add_all(table: &mut PathTable, paths: &[&[u32]]) -> bool {
+    for path in paths {
+        if !is_cleaned(path) || table.add(path).is_err() {
+            return false;
         }
     }
-    Ok(count)
+    true
+}
+
+/// Adds all paths of the graph to clauses.
+fn add_paths(graph: &AsGraph, clauses: &mut Clauses) -> Result<(), NoMemory>
+    requires { FitsGraph graph.now clauses.old }
+    ensures { FitsGraph graph.now clauses.new }
+{
+    graph.facts();
+    for place in 0..graph.path_count() {
+        clauses.add_path(graph, PathId::from_place(place).unwrap(), Some(0))?;
+    }
+    Ok(())
+}
+
+/// Whether it is told if an orientation serves all paths.
+fn is_solved(alloc: Global, keys: Keys, graph: &AsGraph) -> bool {
+    let Ok(mut clauses) = Clauses::new(alloc, keys, graph) else {
+        return false;
+    };
+    let is_solved = add_paths(graph, &mut clauses).is_ok() && solve(alloc, graph, &clauses).is_ok();
+    drop(clauses);
+    is_solved
+}
+
+/// Whether exactly the paths are kept that have to be.
+fn are_fates(fates: &Fates, kept: &[bool]) -> bool {
+    for (place, is_kept) in kept.iter().enumerate() {
+        match PathId::from_place(place) {
+            Some(path) if place < fates.len() && fates.is_kept(path) == *is_kept => {}
+            _ => return false,
+        }
+    }
+    fates.len() == kept.len()
+}
+
+/// Whether exactly these paths of the graph are kept.
+fn keeps(alloc: Global, keys: Keys, graph: &AsGraph, kept: &[bool]) -> bool {
+    let Ok(selection) = select(alloc, keys, graph) else {
+        return false;
+    };
+    let fates = selection.into_fates();
+    let are_right = are_fates(&fates, kept);
+    drop(fates);
+    are_right
+}
+
+/// Whether all of that is told of the graph of the table.
+fn is_told(alloc: Global, keys: Keys, table: &PathTable, kept: &[bool]) -> bool {
+    let Ok(graph) = build(alloc, keys, table.rows()) else {
+        return false;
+    };
+    let is_told = is_solved(alloc, keys, &graph)
+        && keeps(alloc, keys, &graph, kept)
+        && preferences(alloc, &graph, &[]).is_ok();
+    drop(graph);
+    is_told
+}
+
+/// Whether it is told of each case.
+fn are_told(alloc: Global, keys: Keys) -> bool {
+    for (paths, kept) in &CASES {
+        let mut table = PathTable::new(alloc, keys, 8);
+        let is_right = add_all(&mut table, paths) && is_told(alloc, keys, &table, kept);
+        drop(table);
+        if !is_right {
+            return false;
+        }
+    }
+    true
 }
 
 #[test]
-fn the_solver_serves_or_refutes(rt: HostRuntime) -> Result<(), Fail> {
-    assert_eq!(rt; met(rt.alloc(), Keys::new(&rt))?, 4);
-    Ok(())
+fn graphs_are_solved_and_their_paths_selected(rt: HostRuntime) {
+    assert!(rt; are_told(rt.alloc(), Keys::new(&rt)));
 }

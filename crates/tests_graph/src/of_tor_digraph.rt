@@ -1,10 +1,10 @@
-//! Tests of digraphs. What is reached in them stands in `proofs/Vectors.antt`, and strong components in those of `tor_components`.
-ghost use Rattle.std.specs.Prelude.{◌≡◌, ◌<◌, ℕ, List, IfOk, OnOk};
+//! A test of the order in which a search finds nodes. What is reached stands in `proofs/Vectors.antt`, and strong components in those of
+//! `tor_components`.
+ghost use Rattle.std.specs.Prelude.{◌≡◌, ◌<◌, ℕ, List, [], OnOk};
 ghost use Rattle.tor_digraph.specs.Reached.{IsFlooded};
 
 use std::alloc::Global;
-use std::test::Fail;
-use tor_arena::{ArcId, Index, NodeId};
+use tor_arena::{ArcId, Index, NoMemory, NodeId};
 use tor_digraph::{Digraph, GraphRefused, Reached};
 
 /// The node of a place.
@@ -15,43 +15,17 @@ fn node(place: usize) -> NodeId
     NodeId::from_place(place).unwrap()
 }
 
-fn add_arcs(graph: &mut Digraph<NodeId, ArcId>) -> Result<(), GraphRefused>
-    requires { graph.old.nodes ≡ 4 }
-    ensures { OnOk result (graph.new.nodes ≡ 4) }
-{
-    graph.add_arc(node(0), node(1))?;
-    graph.add_arc(node(1), node(2))?;
-    graph.add_arc(node(2), node(1))?;
-    graph.add_arc(node(0), node(3))?;
-    Ok(())
-}
-
+/// Adds nodes 0 to 3, and arcs 0 to 1, 1 to 2, 2 to 1, 0 to 3.
 fn add_all(graph: &mut Digraph<NodeId, ArcId>) -> Result<(), GraphRefused>
     requires { graph.old.nodes ≡ 0 }
     ensures { OnOk result (graph.new.nodes ≡ 4) }
 {
     graph.add_nodes(4)?;
-    add_arcs(graph)
-}
-
-/// Nodes 0 to 3, and arcs 0 to 1, 1 to 2, 2 to 1, 0 to 3.
-fn small_digraph(alloc: Global) -> Result<Digraph<NodeId, ArcId>, GraphRefused>
-    ensures { IfOk result (λ graph. graph.nodes ≡ 4) }
-{
-    let mut graph = Digraph::new(alloc);
-    add_all(&mut graph)?;
-    Ok(graph)
-}
-
-/// The places of the heads of the arcs that leave a node, as digits.
-fn heads_from(graph: &Digraph<NodeId, ArcId>, tail: NodeId) -> usize
-    requires { tail < graph.now.nodes }
-{
-    let mut heads: usize = 0;
-    for (_, head) in graph.arcs_from(tail) {
-        heads = heads.saturating_mul(10).saturating_add(head.place());
-    }
-    heads
+    graph.add_arc(node(0), node(1))?;
+    graph.add_arc(node(1), node(2))?;
+    graph.add_arc(node(2), node(1))?;
+    graph.add_arc(node(0), node(3))?;
+    Ok(())
 }
 
 /// The places of nodes, each more by one, as digits.
@@ -66,75 +40,44 @@ fn digits_of(nodes: &[NodeId]) -> usize {
     digits
 }
 
-/// Searches from 0 over arcs in rows, and not past some nodes.
+/// Searches from 0 over arcs in rows.
 fn search(
     alloc: Global,
     graph: &Digraph<NodeId, ArcId>,
-    past: &Reached<NodeId, ArcId>,
+    none: &Reached<NodeId, ArcId>,
     reached: &mut Reached<NodeId, ArcId>,
-) -> Result<(), Fail>
+) -> Result<(), NoMemory>
     requires nodes { graph.now.nodes ≡ 4 }
-    requires flooded { (nodes : List ℕ) → IsFlooded (λ n. n) (λ a. a) graph.now.nodes graph.now.arcs nodes reached.old }
+    requires flooded { (past : List ℕ) → IsFlooded (λ n. n) (λ a. a) graph.now.nodes graph.now.arcs past reached.old }
 {
     let rows = graph.in_rows(alloc)?;
-    Ok(rows.reach_near(node(0), past, reached)?)
+    let done = rows.reach_near(node(0), none, reached);
+    drop(rows);
+    done
 }
 
-fn found(
-    alloc: Global,
-    graph: &Digraph<NodeId, ArcId>,
-    past: &Reached<NodeId, ArcId>,
-) -> Result<usize, Fail>
+/// What is found from 0, in order; 0 where memory runs out.
+fn found(alloc: Global, graph: &Digraph<NodeId, ArcId>) -> usize
     requires { graph.now.nodes ≡ 4 }
 {
-    let mut reached = graph.reach_none(alloc)?;
-    let done = search(alloc, graph, past, &mut reached);
+    let Ok(mut reached) = graph.reach_none(alloc) else {
+        return 0;
+    };
+    let none = Reached::new(alloc);
+    let _ = search(alloc, graph, &none, &mut reached);
     let digits = digits_of(reached.nodes());
-    drop(reached);
-    done?;
-    Ok(digits)
-}
-
-/// What is found from 0, in order, where the search goes past all nodes.
-fn found_near(alloc: Global, graph: &Digraph<NodeId, ArcId>) -> Result<usize, Fail>
-    requires { graph.now.nodes ≡ 4 }
-{
-    let none = graph.reach_none(alloc)?;
-    let told = found(alloc, graph, &none);
     drop(none);
-    told
-}
-
-/// The same where it does not go past what is reached from 2.
-fn found_before(alloc: Global, graph: &Digraph<NodeId, ArcId>) -> Result<usize, Fail>
-    requires { graph.now.nodes ≡ 4 }
-{
-    let past = graph.reach(alloc, node(2))?;
-    let told = found(alloc, graph, &past);
-    drop(past);
-    told
-}
-
-/// The heads of the arcs that leave 0, what is found from 0, and what is found before what is reached from 2.
-fn told(alloc: Global, graph: &Digraph<NodeId, ArcId>) -> Result<[usize; 3], Fail>
-    requires { graph.now.nodes ≡ 4 }
-{
-    Ok([
-        heads_from(graph, node(0)),
-        found_near(alloc, graph)?,
-        found_before(alloc, graph)?,
-    ])
-}
-
-fn digraph_told(alloc: Global) -> Result<[usize; 3], Fail> {
-    let graph = small_digraph(alloc)?;
-    let heads = told(alloc, &graph);
-    drop(graph);
-    heads
+    drop(reached);
+    digits
 }
 
 #[test]
-fn searches_over_rows_find_the_nearest_first(rt: HostRuntime) -> Result<(), Fail> {
-    assert_eq!(rt; digraph_told(rt.alloc())?, [31, 1243, 14]);
-    Ok(())
+fn searches_over_rows_find_the_nearest_first(rt: HostRuntime) {
+    let mut graph = Digraph::new(rt.alloc());
+    let digits = match add_all(&mut graph) {
+        Ok(()) => found(rt.alloc(), &graph),
+        Err(_) => 0,
+    };
+    drop(graph);
+    assert_eq!(rt; digits, 1243);
 }
