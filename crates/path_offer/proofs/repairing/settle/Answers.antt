@@ -1,8 +1,9 @@
-use Rattle.std.proofs.Common.{rules, ◌≡◌, ◌<◌, ◌*◌, ℕ, Some, length, sym, ap, subst, ◌∙◌, arith}
+use Rattle.std.proofs.Common.{rules, ◌≡◌, ◌<◌, ℕ, Some, length, refl, sym, ap, subst, ◌∙◌, arith}
 use Rattle.std.proofs.lemmas.Option.{some_pair_parts}
 use Rattle.std.specs.Prelude.{slice_get}
 use Rattle.tor_digraph.specs.Walks.{IsArc}
 use Rattle.tor_clauses.specs.Literals.{lit_of, Holds}
+use Rattle.path_offer.proofs.Settlings.{settled_still}
 use Rattle.path_offer.proofs.repairing.settle.Goals as goal
 
 pub ends-tail-requires : goal.ends-tail-requires
@@ -41,4 +42,20 @@ returns c =
       back = e.back;
       settled = e.settled;
       walk = e.walk;
+    }
+
+pub returns-then-not-holds : goal.returns-then-not-holds
+returns-then-not-holds c =
+    let arcs = c.args.problem.now.formula.net.arcs in
+    let old = c.args.state.now.ends in
+    let tail : ℕ = c.ends-tail.result.0 in
+    let head : ℕ = c.ends-tail.result.1 in
+    let arc : IsArc arcs c.args.arc tail head = subst (λ net. slice_get net.arcs c.args.arc ≡ Some c.ends-tail.result) c.digraph.ensures c.ends-tail.ensures.arc in
+    let met : Holds old (lit_of tail) → Holds old (lit_of head) = search rules in
+    record {
+      state = c.requires.state;
+      known = c.requires.known;
+      back = refl;
+      settled = settled_still arcs old c.args.arc tail head arc met;
+      walk = tt;
     }
