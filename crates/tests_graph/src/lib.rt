@@ -9,4 +9,6 @@ mod of_graphs;
 #[cfg(test)]
 mod of_keys;
 #[cfg(test)]
+mod of_tor_arena;
+#[cfg(test)]
 mod of_tor_digraph;
