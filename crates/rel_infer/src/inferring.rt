@@ -134,6 +134,31 @@ fn inferred_after(
     inferred_in(alloc, keys, graph, first.as_slice(), count, ratio)
 }
 
+/// What is inferred from the first paths of a graph, so many, which were let go: they are read back from their steps. The only error is that
+/// memory ran out.
+pub(crate) fn with_paths(
+    alloc: Global,
+    graph: &AsGraph,
+    count: usize,
+    inferred: Inferred,
+    paths: &mut Rows<PathId, u32>,
+) -> Result<Inferred, NoMemory>
+    requires { count ≤ length graph.now }
+    ensures paths { OnOk result (paths.new ≡ take count graph.now) }
+    ensures inferred { IfOk result (λ same. same ≡ inferred) }
+{
+    match graph.first_paths(alloc, count) {
+        Ok(rows) => {
+            *paths = rows;
+            Ok(inferred)
+        }
+        Err(NoMemory) => {
+            drop(inferred);
+            Err(NoMemory)
+        }
+    }
+}
+
 // The same of a graph whose paths were let go: they are read back from their steps.
 fn inferred_alone(
     alloc: Global,
@@ -151,16 +176,7 @@ fn inferred_alone(
     ensures inferred { IfOk result (AreInferredIn ratio graph.now (places_from count (length graph.now - count)) count []) }
 {
     let inferred = inferred_after(alloc, keys, graph, count, ratio)?;
-    match graph.first_paths(alloc, count) {
-        Ok(rows) => {
-            *paths = rows;
-            Ok(inferred)
-        }
-        Err(NoMemory) => {
-            drop(inferred);
-            Err(NoMemory)
-        }
-    }
+    with_paths(alloc, graph, count, inferred, paths)
 }
 
 // What is inferred from distinct paths under givens, before the links into rows of returns are changed. The numbers of the givens of

@@ -20,7 +20,7 @@ ghost use Rattle.rel_infer.specs.GivenInference.{max_givens, PeerEitherWayWith, 
 ghost use Rattle.rel_infer.specs.Resumed.{Continues, IsInferredOnTop};
 ghost use Rattle.rel_infer.specs.Returns.{IsUnlinked};
 
-use crate::inferring::{Inferred, inferred_by, relinked_if_given};
+use crate::inferring::{Inferred, inferred_by, relinked_if_given, with_paths};
 use crate::result::{ResultHead, given_slice, result_by};
 use crate::taking_up::{KeptFirst, Started, started_in};
 use as_graph::AsGraph;
@@ -119,16 +119,7 @@ fn inferred_past(
         }
     }
     let inferred = inferred_by(alloc, graph, selection, count, ratio)?;
-    match graph.first_paths(alloc, count) {
-        Ok(rows) => {
-            *paths = rows;
-            Ok(inferred)
-        }
-        Err(NoMemory) => {
-            drop(inferred);
-            Err(NoMemory)
-        }
-    }
+    with_paths(alloc, graph, count, inferred, paths)
 }
 
 // A selector that keeps these of the paths of a graph, none of which is offered.
