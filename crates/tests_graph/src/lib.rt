@@ -9,6 +9,8 @@ mod of_graphs;
 #[cfg(test)]
 mod of_keys;
 #[cfg(test)]
+mod of_one_path;
+#[cfg(test)]
 mod of_tor_arena;
 #[cfg(test)]
 mod of_tor_digraph;

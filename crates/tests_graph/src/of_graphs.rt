@@ -55,7 +55,7 @@ static CASES: [Case; 4] = [
 ];
 
 /// Adds paths, and answers whether each was added.
-fn add_all(table: &mut PathTable, paths: &[&[u32]]) -> bool {
+pub(crate) fn add_all(table: &mut PathTable, paths: &[&[u32]]) -> bool {
     for path in paths {
         if !is_cleaned(path) || table.add(path).is_err() {
             return false;
@@ -65,7 +65,7 @@ fn add_all(table: &mut PathTable, paths: &[&[u32]]) -> bool {
 }
 
 /// Adds all paths of the graph to clauses.
-fn add_paths(graph: &AsGraph, clauses: &mut Clauses) -> Result<(), NoMemory>
+pub(crate) fn add_paths(graph: &AsGraph, clauses: &mut Clauses) -> Result<(), NoMemory>
     requires { FitsGraph graph.now clauses.old }
     ensures { FitsGraph graph.now clauses.new }
 {

@@ -1,4 +1,4 @@
-//! A test of the order in which a search finds nodes. What is reached stands in `proofs/Vectors.antt`, and strong components in those of
+//! A test of the order in which arcs stand and a search finds nodes. What is reached stands in `proofs/Vectors.antt`, and strong components in those of
 //! `tor_components`.
 ghost use Rattle.std.specs.Prelude.{◌≡◌, ◌<◌, ℕ, List, [], OnOk};
 ghost use Rattle.tor_digraph.specs.Reached.{IsFlooded};
@@ -26,6 +26,17 @@ fn add_all(graph: &mut Digraph<NodeId, ArcId>) -> Result<(), GraphRefused>
     graph.add_arc(node(2), node(1))?;
     graph.add_arc(node(0), node(3))?;
     Ok(())
+}
+
+/// The places of the heads of the arcs that leave a node, as digits.
+fn heads_from(graph: &Digraph<NodeId, ArcId>, tail: NodeId) -> usize
+    requires { tail < graph.now.nodes }
+{
+    let mut heads: usize = 0;
+    for (_, head) in graph.arcs_from(tail) {
+        heads = heads.saturating_mul(10).saturating_add(head.place());
+    }
+    heads
 }
 
 /// The places of nodes, each more by one, as digits.
@@ -56,6 +67,13 @@ fn search(
     done
 }
 
+/// The heads of the arcs that leave 0, the last one first, and what is found from there, in order.
+fn told(alloc: Global, graph: &Digraph<NodeId, ArcId>) -> [usize; 2]
+    requires { graph.now.nodes ≡ 4 }
+{
+    [heads_from(graph, node(0)), found(alloc, graph)]
+}
+
 /// What is found from 0, in order; 0 where memory runs out.
 fn found(alloc: Global, graph: &Digraph<NodeId, ArcId>) -> usize
     requires { graph.now.nodes ≡ 4 }
@@ -74,10 +92,10 @@ fn found(alloc: Global, graph: &Digraph<NodeId, ArcId>) -> usize
 #[test]
 fn searches_over_rows_find_the_nearest_first(rt: HostRuntime) {
     let mut graph = Digraph::new(rt.alloc());
-    let digits = match add_all(&mut graph) {
-        Ok(()) => found(rt.alloc(), &graph),
-        Err(_) => 0,
+    let told = match add_all(&mut graph) {
+        Ok(()) => told(rt.alloc(), &graph),
+        Err(_) => [0, 0],
     };
     drop(graph);
-    assert_eq!(rt; digits, 1243);
+    assert_eq!(rt; told, [31, 1243]);
 }
