@@ -4,7 +4,6 @@ pub mod BuildLemmas
 pub mod CountLemmas
 pub mod Distinct
 pub mod EdgeLemmas
-pub mod Falling
 pub mod Labelled
 pub mod PartedRows
 pub mod ReturnLemmas

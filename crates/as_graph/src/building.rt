@@ -1,5 +1,5 @@
 //! How a graph is made of paths.
-ghost use Rattle.std.specs.Prelude.{◌≡◌, ◌≢◌, ◌+◌, ◌*◌, ◌<◌, ◌≤◌, ◌++◌, ◌∷◌, [], All, length, sum_by, IfOk, OnOk};
+ghost use Rattle.std.specs.Prelude.{◌≡◌, ◌≢◌, ◌+◌, ◌<◌, ◌≤◌, ◌++◌, ◌∷◌, [], All, length, sum_by, IfOk, OnOk};
 ghost use Rattle.tor_arena.specs.Distinct.{AllDistinct};
 ghost use Rattle.tor_arena.specs.Limits.{most_places, max_paths, max_numbers};
 ghost use Rattle.relationships.specs.Evidence.{NeighboursDiffer};

@@ -1,12 +1,11 @@
 //! The graph of a list of paths.
-ghost use Rattle.std.specs.Prelude.{◌≡◌, ◌≢◌, ◌+◌, ◌<◌, ◌≤◌, ◌↔◌, All, length, map, sum_by, slice_get, IsTrue, IsFalse, IsNone, IfSome};
+ghost use Rattle.std.specs.Prelude.{◌≡◌, ◌≢◌, ◌+◌, ◌<◌, ◌≤◌, ◌↔◌, All, length, map, sum_by, slice_get, IsFalse, IsNone, IfSome};
 ghost use Rattle.std.specs.Prelude.{IfOk};
 ghost use Rattle.std.specs.List.{AllPairs};
 ghost use Rattle.tor_arena.specs.Distinct.{AllDistinct};
 ghost use Rattle.tor_arena.specs.Limits.{max_numbers};
 ghost use Rattle.relationships.specs.Evidence.{NeighboursDiffer};
-ghost use Rattle.relationships.specs.Relationship.{ValleyFree};
-ghost use Rattle.relationships.specs.Graph.{edge_of, edges, degree, support, labelling};
+ghost use Rattle.relationships.specs.Graph.{edge_of, edges, degree, support};
 ghost use Rattle.tor_numbers.specs.Edges.{edge_at};
 ghost use Rattle.as_graph.specs.Limits.{most_paths, most_numbers, most_triples};
 ghost use Rattle.as_graph.specs.Paths.{path_at, paths_at, is_edge, triple_count};
@@ -14,16 +13,14 @@ ghost use Rattle.as_graph.specs.Steps.{AreSteps};
 
 use crate::counting::count_steps;
 use crate::graph_edges::GraphEdges;
-use crate::per_edge::Labels;
 use crate::step::Step;
 use crate::step_rows::StepRows;
-use crate::valley::is_valley_free;
 use std::alloc::Global;
 use std::marker::Model;
 use tor_arena::{EdgeId, List, NoMemory, PathId};
 
 /// An edge: two neighbours on some path, the lower number and the higher.
-#[derive(Clone, Copy, PartialEq, Eq)]
+#[derive(Clone, Copy)]
 pub struct Edge {
     /// The lower number.
     pub low: u32,
@@ -33,7 +30,7 @@ pub struct Edge {
 }
 
 /// The degrees of the two ends of an edge.
-#[derive(Clone, Copy, PartialEq, Eq)]
+#[derive(Clone, Copy)]
 pub struct EndDegrees {
     /// That of the lower number.
     pub low: u32,
@@ -151,16 +148,5 @@ impl AsGraph {
             count_steps(&mut counts, self.steps(*path));
         }
         Ok(List::from_vec(counts))
-    }
-
-    /// Whether a path, which has to be there, is valley-free under the labels, one for each edge: its steps go up to providers,
-    /// then across at most one peering, then down to customers. It takes no memory.
-    pub fn valley_free(&self, labels: &Labels, path: PathId) -> bool
-        requires labels { length labels.now ≡ length (edges self.now) }
-        requires there { path < length self.now }
-        ensures { IsTrue result ↔ ValleyFree (labelling (edges self.now) labels.now) (path_at self.now path) }
-    {
-        self.facts();
-        is_valley_free(self.steps(path), labels.as_slice())
     }
 }

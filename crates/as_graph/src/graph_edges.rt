@@ -13,7 +13,7 @@ use tor_arena::{AsId, EdgeId, Index, Keys, NoMemory, reserve};
 use tor_numbers::{EdgeTable, PlaceTable};
 
 /// Where the two ASes of an edge stand in a table of ASes.
-#[derive(Clone, Copy, PartialEq, Eq)]
+#[derive(Clone, Copy)]
 pub(crate) struct Ends {
     /// The place of the lower number.
     pub(crate) low: AsId,

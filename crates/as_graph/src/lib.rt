@@ -1,5 +1,5 @@
-//! The graph of the autonomous systems that are neighbours on some path: its edges in order, degrees, the steps of each path, how
-//! many paths hold each edge, and which paths are valley-free under labels of the edges.
+//! The graph of the autonomous systems that are neighbours on some path: its edges in order, degrees, the steps of each path, and how
+//! many paths hold each edge.
 #![tactic(auto)]
 
 mod building;
@@ -10,7 +10,6 @@ mod per_edge;
 mod reading_back;
 mod step;
 mod step_rows;
-mod valley;
 
 pub use building::{build, build_with};
 pub use graph::{AsGraph, Edge, EndDegrees};

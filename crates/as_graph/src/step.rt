@@ -10,7 +10,7 @@ use tor_arena::{EdgeId, Index};
 
 /// A step of a path, from one AS to the next: the edge of the two, and the end of the edge from which the step goes. It takes four
 /// octets, as a graph has one for each two neighbours of each path.
-#[derive(Clone, Copy, PartialEq, Eq)]
+#[derive(Clone, Copy)]
 pub struct Step {
     // twice the place of the edge, and one more where the step goes from the higher number
     place: u32,

@@ -1,6 +1,6 @@
 //! The next generation of providers.
 ghost use Rattle.std.specs.Prelude.{◌≡◌, ℕ, ◌+◌, ◌<◌, ◌^◌, List, [], ◌∷◌, ◌++◌, map, All, OnOk, IfOk};
-ghost use Rattle.std.specs.List.{AllPairs, filter_map};
+ghost use Rattle.std.specs.List.{AllPairs};
 ghost use Rattle.drawing.specs.Generations.{upward, provider_above, providers_above, IsChoice};
 ghost use Rattle.drawing.specs.Neighbours.{NotAfter};
 ghost use Rattle.drawing.specs.Order.{IsShort};

@@ -1,7 +1,6 @@
 //! All generations above an AS.
-ghost use Rattle.std.specs.Prelude.{◌≡◌, ◌-◌, ◌+◌, ◌*◌, ◌<◌, ◌≤◌, ℕ, List, [], ◌∷◌, ◌++◌, map, length, take, filter_map, OnOk, IfOk};
+ghost use Rattle.std.specs.Prelude.{◌≡◌, ◌-◌, ◌+◌, ◌*◌, ◌<◌, ◌≤◌, ℕ, List, [], ◌∷◌, ◌++◌, map, length, filter_map, OnOk, IfOk};
 ghost use Rattle.drawing.specs.declared.group.Neighbour.{Neighbour};
-ghost use Rattle.drawing.specs.Entries.{entries_of};
 ghost use Rattle.drawing.specs.Generations.{box_count, standing_at, standings_at, standing_of, perches_at, perch_at, tie_of};
 ghost use Rattle.drawing.specs.Neighbours.{near_numbers};
 ghost use Rattle.drawing.specs.Shifted.{HasNumbers};

@@ -2,13 +2,13 @@
 use Rattle.std.proofs.Common.{◌≡◌, ◌∙◌, ◌++◌, ◌∷◌, [], List, Result, Ok, Err, map, refl, ap, sym}
 use Rattle.std.proofs.lemmas.List.{append_assoc, map-append}
 use Rattle.path_attrs.specs.declared.fault.RibFault.{RibFault}
-use Rattle.path_attrs.specs.declared.as_path.Width.TheVariants.{Four}
+use Rattle.path_segments.specs.declared.as_path.Width.TheVariants.{Four}
 use Rattle.path_clean.specs.declared.cleaned.Sets.{Sets}
 use Rattle.path_clean.specs.declared.cleaned.Cleaned.{Cleaned}
 use Rattle.path_clean.specs.Clean.{merged_of}
-use Rattle.rib_v2.specs.declared.rib.Entry.{Entry}
-use Rattle.rib_v2.specs.Reading.{with_first}
-use Rattle.rib_v2.proofs.Loops.{with_head}
+use Rattle.rib_bodies.specs.declared.rib.Entry.{Entry}
+use Rattle.rib_bodies.specs.Reading.{with_first}
+use Rattle.rib_bodies.proofs.Loops.{with_head}
 use Rattle.dump_read.specs.Routes.{Route, of_entries}
 use Rattle.dump_read.specs.Batches.{Batched, merged}
 

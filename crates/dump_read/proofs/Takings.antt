@@ -7,8 +7,8 @@ use Rattle.path_clean.specs.declared.cleaned.Sets.{Sets}
 use Rattle.dump_read.specs.declared.error.LimitKind.{LimitKind}
 use Rattle.path_attrs.specs.declared.fault.RibFault.{RibFault}
 use Rattle.dump_read.specs.declared.records.Unread.TheVariants as unread
-use Rattle.rib_v2.specs.PeerTable.{peers_of}
-use Rattle.rib_v2.specs.declared.peer_table.Peers.{Peers}
+use Rattle.rib_bodies.specs.PeerTable.{peers_of}
+use Rattle.rib_bodies.specs.declared.peer_table.Peers.{Peers}
 use Rattle.mrt_header.specs.declared.record_kind.RecordKind.{RecordKind}
 use Rattle.mrt_frame.specs.declared.header.At.{At}
 use Rattle.mrt_frame.specs.Frames.{record_as}

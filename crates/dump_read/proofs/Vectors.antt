@@ -1,7 +1,7 @@
 -- Routes whose paths and counts were worked by hand.
 use Rattle.std.proofs.Common.{◌≡◌, ℕ, List, [], ◌∷◌, refl}
-use Rattle.path_attrs.specs.declared.as_path.Width.TheVariants.{Two}
-use Rattle.path_attrs.specs.Segments.{segment, segments_within, segments_of}
+use Rattle.path_segments.specs.declared.as_path.Width.TheVariants.{Two}
+use Rattle.path_segments.specs.Segments.{segment, segments_within, segments_of}
 use Rattle.path_clean.specs.declared.cleaned.Sets.TheVariants.{Cut}
 use Rattle.path_clean.specs.declared.cleaned.Cause.TheVariants.{NoPath, Loop, Short}
 use Rattle.path_table.specs.Table.{counted}

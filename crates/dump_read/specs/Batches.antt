@@ -11,7 +11,7 @@ use Rattle.path_table.specs.Table.{place_of}
 use Rattle.dump_read.specs.declared.taking.Untaken.{Untaken}
 use Rattle.dump_read.specs.Refusals.{IsLimit}
 use Rattle.path_attrs.specs.declared.fault.RibFault.{RibFault}
-use Rattle.rib_v2.specs.declared.rib.Entry.{Entry}
+use Rattle.rib_bodies.specs.declared.rib.Entry.{Entry}
 use Rattle.dump_read.specs.declared.records.Unread.{Unread}
 use Rattle.dump_read.specs.declared.records.Unread.TheVariants as unread
 use Rattle.dump_read.specs.declared.taking.Untaken.TheVariants as untaken

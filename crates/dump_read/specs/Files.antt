@@ -3,7 +3,7 @@ use Rattle.std.specs.Prelude.{ℕ, ◌+◌, List, [], ◌∷◌, ◌++◌, lengt
 use Rattle.std.specs.Result.{result_ok}
 use Rattle.path_attrs.specs.declared.fault.RibFault.{RibFault}
 use Rattle.record_counts.specs.Counting.{capped, counts_together as records_together}
-use Rattle.rib_v2.specs.PeerTable.{peers_of}
+use Rattle.rib_bodies.specs.PeerTable.{peers_of}
 use Rattle.mrt_frame.specs.Counting.{records_in}
 use Rattle.mrt_header.specs.Kinds.{kind_of}
 use Rattle.mrt_frame.specs.Records.{Record, cut}

@@ -18,7 +18,7 @@ use Rattle.dump_read.specs.Routes.{Route}
 use Rattle.dump_read.specs.Taking.{Taken, take_routes, Takes, TakesSome}
 use Rattle.path_attrs.specs.declared.fault.RibFault.{RibFault}
 use Rattle.path_clean.specs.declared.cleaned.Sets.{Sets}
-use Rattle.rib_v2.specs.declared.peer_table.Peers.{Peers}
+use Rattle.rib_bodies.specs.declared.peer_table.Peers.{Peers}
 
 abbrev pub of_add : AddRefused → Untaken
 of_add TooManyPaths = untaken.Limit Paths

@@ -2,15 +2,15 @@
 use Rattle.std.specs.Prelude.{ℕ, List, [], ◌∷◌, map, Option, Some, None, option_map, Result, Ok}
 use Rattle.std.specs.Result.{result_ok}
 use Rattle.path_attrs.specs.declared.fault.RibFault.{RibFault}
-use Rattle.path_attrs.specs.declared.as_path.Width.{Width}
-use Rattle.path_attrs.specs.declared.as_path.Width.TheVariants.{Two, Four}
+use Rattle.path_segments.specs.declared.as_path.Width.{Width}
+use Rattle.path_segments.specs.declared.as_path.Width.TheVariants.{Two, Four}
 use Rattle.path_attrs.specs.Fields.{◌>>=◌}
 use Rattle.path_attrs.specs.Attributes.{Attribute}
-use Rattle.rib_v1.specs.TableDump.{route_of}
-use Rattle.rib_v2.specs.declared.rib.Entry.{Entry}
-use Rattle.rib_v2.specs.declared.peer_table.Peers.{Peers}
-use Rattle.rib_v2.specs.PeerTable.{peers_of}
-use Rattle.rib_v2.specs.Rib.{rib_of}
+use Rattle.rib_bodies.specs.TableDump.{route_of}
+use Rattle.rib_bodies.specs.declared.rib.Entry.{Entry}
+use Rattle.rib_bodies.specs.declared.peer_table.Peers.{Peers}
+use Rattle.rib_bodies.specs.PeerTable.{peers_of}
+use Rattle.rib_bodies.specs.Rib.{rib_of}
 use Rattle.mrt_frame.specs.Records.{Record}
 use Rattle.mrt_header.specs.declared.record_kind.Family.{Family}
 use Rattle.mrt_header.specs.declared.record_kind.RibForm.{RibForm}

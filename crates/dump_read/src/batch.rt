@@ -4,8 +4,9 @@ ghost use Rattle.path_clean.specs.Clean.{merged_of};
 ghost use Rattle.dump_read.specs.Batches.{StandAtPlaces, TakesAt, IsLimitAt, TakesBatch, IsBatchLimit, TakesSomeOfBatch};
 
 use crate::taking::{Taken, Untaken, take_again, take_merged};
-use path_attrs::{Attrs, Width};
+use path_attrs::Attrs;
 use path_clean::{Cause, Sets};
+use path_segments::Width;
 use path_table::{HashedPaths, Lookup, PathTable};
 use std::alloc::Global;
 use std::marker::Model;

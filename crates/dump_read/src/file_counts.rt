@@ -37,7 +37,10 @@ impl FileCounts {
     {
         let mut all = FileCounts::new(alloc);
         for file in files {
-            all.records.add_all(&file.records)?;
+            if let Err(error) = all.records.add_all(&file.records) {
+                drop(all);
+                return Err(error);
+            }
             all.add(file.peers, file.routes);
         }
         Ok(all)

@@ -172,6 +172,7 @@ fn read_records<H: Shelf>(
 {
     let mut file = FileCounts::new(alloc);
     if let Err(error) = take_file(alloc, shelf, dump, sets, taken, &mut file) {
+        drop(file);
         return Err(error);
     }
     keep_file(taken, file)

@@ -11,15 +11,15 @@ use crate::file_counts::FileCounts;
 use crate::taking::{Taken, Untaken};
 use mrt_frame::Record;
 use mrt_header::{Family, RecordKind, RibForm};
-use path_attrs::{Attrs, RibFault, Width};
+use path_attrs::{Attrs, RibFault};
 use path_clean::Sets;
-use rib_v1::read_v1;
-use rib_v2::{EntryReader, Peers, read_peers};
+use path_segments::Width;
+use rib_bodies::{EntryReader, Peers, read_peers, read_v1};
 use std::alloc::Global;
 use tor_arena::NoMemory;
 
 /// Why a record was not taken in.
-#[derive(Clone, Copy, PartialEq, Eq)]
+#[derive(Clone, Copy)]
 pub(crate) enum Unread {
     Fault(RibFault),
     Untaken(Untaken),

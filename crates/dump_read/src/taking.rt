@@ -26,7 +26,7 @@ pub struct Taken {
 }
 
 /// Why a route was not taken in.
-#[derive(Clone, Copy, PartialEq, Eq)]
+#[derive(Clone, Copy)]
 pub(crate) enum Untaken {
     Limit(LimitKind),
     NoMemory,

@@ -1,5 +1,5 @@
 //! A number for each end of an edge.
-ghost use Rattle.std.specs.Prelude.{◌≡◌, length, map, IfOk};
+ghost use Rattle.std.specs.Prelude.{◌≡◌, map, IfOk};
 ghost use Rattle.relationships.specs.Relationship.{opposite};
 ghost use Rattle.relationships.specs.Graph.{edges};
 ghost use Rattle.gao_prefs.specs.Ends.{at_end, degrees_of};
@@ -10,7 +10,7 @@ use std::alloc::Global;
 use tor_arena::{EdgeId, Index, NoMemory, reserve};
 
 /// A number for each end of an edge.
-#[derive(Clone, Copy, PartialEq, Eq)]
+#[derive(Clone, Copy)]
 pub(crate) struct PerEnd {
     /// That of the lower number.
     pub(crate) low: u32,

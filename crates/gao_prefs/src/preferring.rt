@@ -5,13 +5,13 @@ ghost use Rattle.std.specs.List.Sorted.{IsPermutation};
 ghost use Rattle.std.specs.Int.RustNames.{unsigned_abs};
 ghost use Rattle.relationships.specs.declared.label.End.{End};
 ghost use Rattle.relationships.specs.Graph.{edges, degree, support};
-ghost use Rattle.relationships.specs.Preference.{lean, lead, wanted, IsSettlingOrder};
+ghost use Rattle.relationships.specs.Preference.{lean, wanted};
 ghost use Rattle.tor_arena.specs.Distinct.{AllDistinct};
 ghost use Rattle.tor_arena.specs.Limits.{max_numbers};
 ghost use Rattle.as_graph.specs.Limits.{most_paths};
 ghost use Rattle.as_graph.specs.Paths.{paths_at};
 ghost use Rattle.gao_prefs.specs.Ends.{number_at, degrees_of, votes_of};
-ghost use Rattle.gao_prefs.specs.Preferences.{AreInOrder, AreSettled, HaveLeans, HaveWanted, IsPref, NotAfter, edge_preferred, edges_preferred};
+ghost use Rattle.gao_prefs.specs.Preferences.{AreInOrder, AreSettled, HaveLeans, HaveWanted, IsPref, NotAfter};
 ghost use Rattle.gao_prefs.specs.Preferences.{key_of, lean_by, wanted_by};
 ghost use Rattle.gao_prefs.specs.Supports.{votes_cast};
 
@@ -23,7 +23,7 @@ use std::alloc::Global;
 use tor_arena::{EdgeId, Index, List, NoMemory, PathId, reserve};
 
 /// What an edge prefers.
-#[derive(Clone, Copy, PartialEq, Eq)]
+#[derive(Clone, Copy)]
 pub struct Pref {
     /// The edge.
     pub edge: EdgeId,

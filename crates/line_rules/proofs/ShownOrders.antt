@@ -1,5 +1,6 @@
 -- The order that a walk shows, as code finds it.
-use Rattle.std.proofs.Common.{◌≡◌, ◌↔◌, ℕ, zero, suc, ◌+◌, ◌<◌, List, [], ◌∷◌, ◌++◌, get_or, length, take, Some, slice_get, refl, sym, ap, ◌∙◌, subst, arith}
+use Rattle.std.proofs.Common.{◌≡◌, ◌↔◌, ℕ, zero, suc, ◌+◌, ◌<◌, ◌≤◌, inl, inr, Bool, IsTrue, List, [], ◌∷◌, ◌++◌, get_or, length, take, Some, slice_get, refl, sym, ap, ◌∙◌, subst, arith}
+use Rattle.std.specs.Prelude.{Contains}
 use Rattle.std.proofs.lemmas.Grind.{flat_map-append}
 use Rattle.std.proofs.lemmas.List.{take_more}
 use Rattle.std.proofs.lemmas.Option.{slice_get_within, get_or_from_slice_get, same_Some}
@@ -11,6 +12,7 @@ use Rattle.result_text.specs.declared.file.ResultFile.{ResultFile}
 use Rattle.result_rules.specs.File.{its_givens, its_kept, last_two, shown_orders}
 use Rattle.result_rules.specs.declared.rule.Rule.TheVariants.{OrdersShown}
 use Rattle.result_rules.specs.Rules.{Asks}
+use Rattle.line_rules.specs.Showing.{Starts}
 use Rattle.result_rules.proofs.WalkLaws.{last_two-from_ends}
 
 -- fewer than two
@@ -76,3 +78,19 @@ module _ (file : ResultFile) (k : ℕ) (walk : Walk) (at : slice_get file.whys k
       λ asks. rw before (asks walk at),
     ),
   )
+
+-- where they don't begin with this order, the order with which they begin has to be shown
+pub starts_if : (ases : List ℕ) (shown : List (ℕ × ℕ)) (over under : ℕ) (known : Bool) → 2 ≤ length ases → (get_or ases 0 0 ≡ under → get_or ases 1 0 ≡ over → ⊥)
+    → IsTrue known ↔ Contains shown (get_or ases 0 0, get_or ases 1 0) → IsTrue known ↔ Starts ases shown over under
+starts_if [] shown over under known two other has = absurd (omega (arith, two))
+starts_if (x ∷ []) shown over under known two other has = absurd (omega (arith, two))
+starts_if (x ∷ y ∷ ases) shown over under known two other has = (
+  λ t. inr (x, y, (ases, refl), has.0 t),
+  λ s. elim s [
+    | inl own ↦ absurd (other (ap (λ (l : List ℕ). get_or l 0 0) own.1) (ap (λ (l : List ℕ). get_or l 1 0) own.1))
+    | inr by ↦
+        let first : by.0 ≡ x = ap (λ (l : List ℕ). get_or l 0 0) (sym by.2.1) in
+        let second : by.1 ≡ y = ap (λ (l : List ℕ). get_or l 1 0) (sym by.2.1) in
+        has.1 (subst (λ b. Contains shown (x, b)) second (subst (λ a. Contains shown (a, by.1)) first by.3))
+  ],
+)

@@ -1,8 +1,15 @@
+pub mod Batches
 pub mod Breaches
+pub mod Differing
 pub mod EdgeLines
+pub mod Flipping
 pub mod GivenHeads
 pub mod GivenLabels
 pub mod Naming
+pub mod Neighbours
 pub mod PathSteps
+pub mod Searching
+pub mod Serving
 pub mod Showing
 pub mod Tables
+pub mod Testing

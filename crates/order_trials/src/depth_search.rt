@@ -1,5 +1,5 @@
 //! The orders against the labels, in the order in which a search in depth leaves them.
-ghost use Rattle.std.specs.Prelude.{[], ℕ, ◌+◌, ◌≡◌, ◌<◌, ◌*◌, ◌↔◌, length, IsTrue, IfOk, OnOk, IfSome, Contains};
+ghost use Rattle.std.specs.Prelude.{[], ℕ, ◌+◌, ◌≡◌, ◌<◌, ◌↔◌, length, IsTrue, IfOk, OnOk, IfSome, Contains};
 ghost use Rattle.tor_clauses.specs.Literals.{most_edges};
 ghost use Rattle.order_trials.specs.Candidates.{against as against_of, IsAgainst, IsChoice};
 ghost use Rattle.order_trials.specs.Candidates.{IsInDepth, IsChoosing, AreCandidates, with_entered, Visits, work};

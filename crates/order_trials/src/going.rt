@@ -1,5 +1,5 @@
 //! The way from an order to its opposite, where a search from it has come to a clash.
-ghost use Rattle.std.specs.Prelude.{◌≡◌, ℕ, ◌<◌, List, length, OnOk, IfOk, Contains};
+ghost use Rattle.std.specs.Prelude.{ℕ, ◌<◌, List, length, OnOk, IfOk, Contains};
 ghost use Rattle.tor_digraph.specs.Walks.{IsArc};
 ghost use Rattle.tor_clauses.specs.Literals.{opposite_node};
 ghost use Rattle.tor_digraph.specs.Trails.{StandsAt, IsTrail};

@@ -1,5 +1,5 @@
 //! What marking is asked of.
-ghost use Rattle.std.specs.Prelude.{◌≡◌, ℕ, ◌<◌, ◌≤◌, ◌*◌, All, Some, slice_get, length, IsTrue, IfOk, Contains};
+ghost use Rattle.std.specs.Prelude.{◌≡◌, ℕ, ◌<◌, ◌≤◌, All, Some, slice_get, length, IfOk};
 ghost use Rattle.relationships.specs.Graph.{edges};
 ghost use Rattle.relationships.specs.Evidence.{NeighboursDiffer};
 ghost use Rattle.relationships.specs.Selection.{IsServable};

@@ -14,6 +14,10 @@ pub record Attribute : Type 0 where
 abbrev pub attr_cut : AttrCut
 attr_cut = record {}
 
+-- the type code of AS_PATH (RFC 4271, section 5.1.2)
+abbrev pub as_path : ℕ
+as_path = 2
+
 -- how many octets the length of a value has: two where the flag 0x10 is set
 abbrev pub length_octets : ℕ → ℕ
 length_octets flags = if bit_and flags 0x10 == 0 then 1 else 2

@@ -1,4 +1,2 @@
 pub mod Fields
 pub mod Attributes
-pub mod Segments
-pub mod PathOf

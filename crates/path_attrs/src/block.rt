@@ -1,21 +1,29 @@
 //! Blocks of path attributes.
 ghost use Rattle.std.specs.Prelude.{◌≡◌, ◌<◌, ◌≤◌, length, true, IfOk, IfSome, IsOk, is_ok, option_map};
 ghost use Rattle.path_attrs.specs.Fields.{Gives, number};
-ghost use Rattle.path_attrs.specs.Attributes.{Attribute, attr_cut, attribute, attributes_in, attributes_of, first_value, length_octets};
-ghost use Rattle.path_attrs.specs.PathOf.{as_path};
+ghost use Rattle.path_attrs.specs.Attributes.{
+  Attribute,
+  as_path,
+  attr_cut,
+  attribute,
+  attributes_in,
+  attributes_of,
+  first_value,
+  length_octets,
+};
 
 use crate::fields::{number16, octet, octets};
 use std::marker::Model;
 
 /// A block of octets that is no list of whole attributes.
-#[derive(Clone, Copy, PartialEq, Eq)]
+#[derive(Clone, Copy)]
 pub struct AttrCut;
 
 /// The flag of an attribute whose length has two octets.
 const EXTENDED: u8 = 0x10;
 
 /// The type code of AS_PATH.
-pub(crate) const AS_PATH: u8 = 2;
+pub const AS_PATH: u8 = 2;
 
 /// The path attributes of a block in order, each a type code and a value.
 #[derive(Drop)]
@@ -27,8 +35,7 @@ pub struct Attrs<'a> {
 
 impl<'a> Model for Attrs<'a> {
     ghost use Rattle.std.specs.Prelude.{◌≡◌, List, IsOk, option_map};
-    ghost use Rattle.path_attrs.specs.Attributes.{Attribute, attributes_in, attributes_of, first_value};
-    ghost use Rattle.path_attrs.specs.PathOf.{as_path};
+    ghost use Rattle.path_attrs.specs.Attributes.{Attribute, as_path, attributes_in, attributes_of, first_value};
 
     ghost Value = { List Attribute };
 

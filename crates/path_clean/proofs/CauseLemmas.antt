@@ -4,8 +4,8 @@ use Rattle.std.proofs.Common.{sym, ap, ◌∙◌}
 use Rattle.std.specs.List.{dedup, flat_map, before_first, list_any}
 use Rattle.std.proofs.Math.Seq.{drop-append_seam}
 use Rattle.std.proofs.lemmas.List.{append-nil}
-use Rattle.path_attrs.specs.declared.as_path.Segment.{Segment}
-use Rattle.path_attrs.specs.PathOf.{is_confed}
+use Rattle.path_segments.specs.declared.as_path.Segment.{Segment}
+use Rattle.path_segments.specs.PathOf.{is_confed}
 use Rattle.path_merge.specs.declared.merging.Oddity.{Oddity}
 use Rattle.path_merge.specs.declared.merging.Oddity.TheVariants.{Confederation, MixedSet}
 use Rattle.path_merge.specs.Merging.{is_mixed_set, ases_of, merged_path, oddity_in, GoesBehind, MergesOnto}

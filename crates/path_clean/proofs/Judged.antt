@@ -3,10 +3,10 @@ use Rattle.std.proofs.Common.{◌≡◌, ℕ, zero, suc, Bool, true, false, not,
 use Rattle.std.specs.List.{list_any, dedup, dedup_from}
 use Rattle.std.proofs.lemmas.Bool.{ltb-true, leb-true, le-leb}
 use Rattle.std.proofs.lemmas.List.{append-nil}
-use Rattle.path_attrs.specs.PathOf.{is_confed, path_of}
-use Rattle.path_attrs.specs.declared.path.PathOf.{PathOf}
-use Rattle.path_attrs.specs.declared.path.PathOf.TheVariants.{Absent, Malformed, Segments}
-use Rattle.path_attrs.specs.declared.as_path.Segment.{Segment}
+use Rattle.path_segments.specs.PathOf.{is_confed, path_of}
+use Rattle.path_segments.specs.declared.path.PathOf.{PathOf}
+use Rattle.path_segments.specs.declared.path.PathOf.TheVariants.{Absent, Malformed, Segments}
+use Rattle.path_segments.specs.declared.as_path.Segment.{Segment}
 use Rattle.path_merge.specs.Merging.{is_mixed_set, merged_path}
 use Rattle.path_clean.specs.declared.cleaned.Sets.{Sets}
 use Rattle.path_clean.specs.declared.cleaned.Sets.TheVariants.{Cut, Skip}

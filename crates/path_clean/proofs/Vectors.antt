@@ -1,7 +1,7 @@
 -- Values of an AS_PATH that were worked by hand.
 use Rattle.std.proofs.Common.{◌≡◌, ℕ, ◌/◌, ◌%◌, true, false, List, [], ◌∷◌, ◌++◌, length, refl}
-use Rattle.path_attrs.specs.declared.as_path.Width.TheVariants.{Two}
-use Rattle.path_attrs.specs.Segments.{segment, segments_within, segments_of}
+use Rattle.path_segments.specs.declared.as_path.Width.TheVariants.{Two}
+use Rattle.path_segments.specs.Segments.{segment, segments_within, segments_of}
 use Rattle.path_clean.specs.declared.cleaned.Sets.{Sets}
 use Rattle.path_clean.specs.declared.cleaned.Sets.TheVariants.{Cut, Skip}
 use Rattle.path_clean.specs.declared.cleaned.Cause.{Cause}

@@ -1,7 +1,7 @@
 -- Paths that go behind others, each of which, with a cause if there is one, is what a route is merged to.
 use Rattle.std.specs.Prelude.{◌≡◌, ℕ, List, [], ◌∷◌, ◌++◌, Option, Some, None}
-use Rattle.path_attrs.specs.declared.as_path.Segment.{Segment}
-use Rattle.path_attrs.specs.declared.as_path.SegKind.TheVariants.{Sequence}
+use Rattle.path_segments.specs.declared.as_path.Segment.{Segment}
+use Rattle.path_segments.specs.declared.as_path.SegKind.TheVariants.{Sequence}
 use Rattle.path_merge.specs.declared.merging.Oddity.{Oddity}
 use Rattle.path_merge.specs.declared.merging.Oddity.TheVariants.{Confederation, MixedSet}
 use Rattle.path_clean.specs.declared.cleaned.Sets.{Sets}

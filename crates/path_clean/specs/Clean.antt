@@ -2,12 +2,12 @@
 use Rattle.std.specs.Prelude.{◌≡◌, ℕ, Bool, true, false, not, ◌&&◌, nat_lt, List, [], ◌∷◌, length, Option, Some, None, if◌then◌else◌}
 use Rattle.std.specs.List.{list_any}
 use Rattle.path_attrs.specs.Attributes.{Attribute}
-use Rattle.path_attrs.specs.PathOf.{is_confed, path_of}
-use Rattle.path_attrs.specs.declared.path.PathOf.{PathOf}
-use Rattle.path_attrs.specs.declared.path.PathOf.TheVariants.{Absent, Malformed, Segments}
-use Rattle.path_attrs.specs.declared.as_path.Width.{Width}
-use Rattle.path_attrs.specs.declared.as_path.SegKind.TheVariants.{Sequence}
-use Rattle.path_attrs.specs.declared.as_path.Segment.{Segment}
+use Rattle.path_segments.specs.PathOf.{is_confed, path_of}
+use Rattle.path_segments.specs.declared.path.PathOf.{PathOf}
+use Rattle.path_segments.specs.declared.path.PathOf.TheVariants.{Absent, Malformed, Segments}
+use Rattle.path_segments.specs.declared.as_path.Width.{Width}
+use Rattle.path_segments.specs.declared.as_path.SegKind.TheVariants.{Sequence}
+use Rattle.path_segments.specs.declared.as_path.Segment.{Segment}
 use Rattle.path_merge.specs.Merging.{is_mixed_set, merged_path}
 use Rattle.path_clean.specs.declared.cleaned.Sets.{Sets}
 use Rattle.path_clean.specs.declared.cleaned.Sets.TheVariants.{Cut, Skip}

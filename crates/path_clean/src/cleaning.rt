@@ -7,8 +7,9 @@ ghost use Rattle.path_clean.specs.Behind.{cause_of, IsPutBehind};
 
 use crate::cleaned::{Cause, Cleaned, Sets, are_distinct, has_reserved, is_plainly_sound};
 use crate::plain::plain_ases;
-use path_attrs::{Attrs, PathCursor, Pathless, Width};
+use path_attrs::Attrs;
 use path_merge::{Oddity, append_merged, append_segments};
+use path_segments::{PathCursor, Pathless, Width};
 use std::alloc::Global;
 use std::collections::BTreeSet;
 use tor_arena::{List, NoMemory};

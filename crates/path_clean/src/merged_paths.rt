@@ -7,7 +7,8 @@ ghost use Rattle.path_clean.specs.Behind.{IsMergedBehind};
 
 use crate::cleaned::{Cause, Sets};
 use crate::cleaning::merge_behind;
-use path_attrs::{Attrs, Width};
+use path_attrs::Attrs;
+use path_segments::Width;
 use std::alloc::Global;
 use std::marker::Model;
 use tor_arena::{NoMemory, reserve};

@@ -1,11 +1,12 @@
 //! AS paths that are one AS_SEQUENCE with numbers of four octets, as nearly all are.
 
 ghost use Rattle.std.specs.Prelude.{◌≡◌, IfSome};
-ghost use Rattle.path_attrs.specs.declared.path.PathOf.TheVariants.{Segments};
-ghost use Rattle.path_attrs.specs.PathOf.{path_of};
+ghost use Rattle.path_segments.specs.declared.path.PathOf.TheVariants.{Segments};
+ghost use Rattle.path_segments.specs.PathOf.{path_of};
 ghost use Rattle.path_clean.specs.Behind.{one_sequence};
 
-use path_attrs::{Attrs, NumberCursor, Width, sole_sequence};
+use path_attrs::Attrs;
+use path_segments::{NumberCursor, Width, sole_sequence};
 
 /// The ASes of an AS path that is one AS_SEQUENCE. None: it may be one all the same.
 #[inline(always)]

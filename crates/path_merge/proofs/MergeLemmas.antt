@@ -8,8 +8,8 @@ use Rattle.std.proofs.Math.Seq.{get_or-append_seam}
 use Rattle.std.proofs.lemmas.List.Sums.{fold-append}
 use Rattle.std.proofs.lemmas.List.{append-nil}
 use Rattle.std.proofs.lemmas.List.Concat.{flat_map-cons}
-use Rattle.path_attrs.specs.declared.as_path.Segment.{Segment}
-use Rattle.path_attrs.specs.PathOf.{is_confed}
+use Rattle.path_segments.specs.declared.as_path.Segment.{Segment}
+use Rattle.path_segments.specs.PathOf.{is_confed}
 use Rattle.path_merge.specs.Merging.{is_mixed_set, ases_of, ends_behind, merged_behind, with_run, GoesBehind}
 
 last-is : (start : ℕ) (path : List ℕ) (k x : ℕ) → start ≤ length path → ends_behind start (path ++ k ∷ []) x ≡ nat_eq x k

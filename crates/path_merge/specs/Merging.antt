@@ -2,10 +2,10 @@
 use Rattle.std.specs.Prelude.{◌≡◌, ℕ, ◌-◌, ◌==◌, Bool, true, false, not, ◌&&◌, nat_lt, nat_eq, List, [], ◌∷◌, ◌++◌, length, take, slice_index, fold}
 use Rattle.std.specs.Prelude.{Option, Some, None, if◌then◌else◌}
 use Rattle.std.specs.List.{list_any, list_all, flat_map, before_first, dedup}
-use Rattle.path_attrs.specs.PathOf.{is_confed}
-use Rattle.path_attrs.specs.declared.as_path.Segment.{Segment}
-use Rattle.path_attrs.specs.declared.as_path.SegKind.{SegKind}
-use Rattle.path_attrs.specs.declared.as_path.SegKind.TheVariants.{Set, Sequence, ConfedSequence, ConfedSet}
+use Rattle.path_segments.specs.PathOf.{is_confed}
+use Rattle.path_segments.specs.declared.as_path.Segment.{Segment}
+use Rattle.path_segments.specs.declared.as_path.SegKind.{SegKind}
+use Rattle.path_segments.specs.declared.as_path.SegKind.TheVariants.{Set, Sequence, ConfedSequence, ConfedSet}
 use Rattle.path_merge.specs.declared.merging.Oddity.{Oddity}
 use Rattle.path_merge.specs.declared.merging.Oddity.TheVariants.{Confederation, MixedSet}
 

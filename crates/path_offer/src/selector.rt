@@ -1,15 +1,12 @@
 //! The paths that are kept so far.
-ghost use Rattle.std.specs.Prelude.{◌≡◌, ℕ, ◌*◌, ◌<◌, [], All, List, length, take, IfSome, IfNone, IfOk, OnOk, OnErr};
+ghost use Rattle.std.specs.Prelude.{◌≡◌, ◌*◌, ◌<◌, [], All, length, take, IfSome, IfNone, IfOk, OnOk, OnErr};
 ghost use Rattle.relationships.specs.Graph.{edges};
 ghost use Rattle.relationships.specs.Evidence.{Refutes};
 ghost use Rattle.relationships.specs.Selection.{IsServable};
-ghost use Rattle.tor_arena.specs.Limits.{max_numbers};
 ghost use Rattle.as_graph.specs.Paths.{paths_at};
 ghost use Rattle.tor_clauses.specs.Triples.{AreAmong, triples_on};
 ghost use Rattle.tor_clauses.specs.Formulas.{FitsGraph, IsServed, numbered};
 ghost use Rattle.tor_mend.specs.Refusals.{AreRefused};
-ghost use Rattle.tor_mend.specs.Mends.{IsState};
-ghost use Rattle.tor_mend.specs.Rounds.{AreKnown};
 ghost use Rattle.path_offer.specs.Offers.{IsOffered};
 ghost use Rattle.path_offer.specs.Choices.{with_offered, ServesKept, CanServeKept};
 

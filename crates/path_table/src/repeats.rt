@@ -1,6 +1,6 @@
 //! Rows that stand twice, found without a copy of them.
 
-ghost use Rattle.std.specs.Prelude.{◌≡◌, ◌+◌, ◌<◌, ◌≤◌, ◌↔◌, ℕ, ◌++◌, ◌∷◌, [], length, slice_set, slice_index, IsTrue, IfOk};
+ghost use Rattle.std.specs.Prelude.{◌≡◌, ◌+◌, ◌<◌, ◌≤◌, ◌↔◌, [], length, vec_capacity, IsTrue, IfOk};
 ghost use Rattle.tor_arena.specs.Limits.{most_places};
 ghost use Rattle.path_table.specs.Chains.{row_at};
 ghost use Rattle.path_table.specs.Repeats.{Repeats, IsFirstRepeat, AreSameHashed, bucket, EndsIn, AreLinked, AreNewest};
@@ -8,7 +8,7 @@ ghost use Rattle.path_table.specs.Repeats.{Repeats, IsFirstRepeat, AreSameHashed
 use crate::hashing::{row_of, seed_of, short_hash_of};
 use crate::slots::start_of;
 use std::alloc::Global;
-use tor_arena::{Keys, NoMemory, PathId, Rows};
+use tor_arena::{Keys, NoMemory, PathId, Rows, reserve};
 
 /// The hash of each row.
 fn hashes_of(alloc: Global, seed: u64, rows: &Rows<PathId, u32>) -> Result<Vec<u32>, NoMemory>
@@ -17,9 +17,11 @@ fn hashes_of(alloc: Global, seed: u64, rows: &Rows<PathId, u32>) -> Result<Vec<u
     ensures same { IfOk result (λ hashes. AreSameHashed rows.now hashes.items) }
 {
     let mut hashes = Vec::new(alloc);
-    hashes.reserve(rows.len())?;
+    if reserve(&mut hashes, rows.len()).is_err() {
+        return Err(NoMemory);
+    }
     for place in 0..rows.len() {
-        hashes.push(short_hash_of(seed, row_of(rows, place)))?;
+        hashes.push_reserved(short_hash_of(seed, row_of(rows, place)));
     }
     Ok(hashes)
 }
@@ -66,6 +68,36 @@ fn stands_before(
     false
 }
 
+/// The place of the first row that is the same as one before it, if there is one, by the hashes of all rows. No bucket has a row yet, and
+/// there is room to write down for each row where the earlier ones of its bucket end.
+fn first_among(
+    rows: &Rows<PathId, u32>,
+    hashes: &[u32],
+    newest: &mut [u32],
+    older: &mut Vec<u32>,
+) -> Option<usize>
+    requires few { length rows.now ≤ most_places }
+    requires each { length hashes.now ≡ length rows.now }
+    requires same { AreSameHashed rows.now hashes.now }
+    requires some { 0 < length newest.old }
+    requires empty { AreNewest (length newest.old) hashes.now newest.old 0 }
+    requires none { older.old.items ≡ [] }
+    requires room { length rows.now ≤ vec_capacity older.old }
+    ensures { IsFirstRepeat rows.now result }
+{
+    let many = newest.len();
+    for place in 0..rows.len() {
+        let key = start_of(hashes[place], many);
+        let start = newest[key];
+        if stands_before(rows, hashes, many, older.as_slice(), start as usize, place) {
+            return Some(place);
+        }
+        older.push_reserved(start);
+        newest[key] = place as u32 + 1;
+    }
+    None
+}
+
 /// The place of the first row that is the same as one before it, if there is one. The keys say how rows are hashed, and change
 /// nothing but the time. The only error is that memory ran out.
 pub fn first_repeated(
@@ -77,27 +109,16 @@ pub fn first_repeated(
 {
     let count = rows.len();
     // with all hashes made before, one look-up's wait for memory overlaps the next ones'
-    let hashes = hashes_of(alloc, seed_of(keys), rows)?;
+    let Ok(hashes) = hashes_of(alloc, seed_of(keys), rows) else {
+        return Err(NoMemory);
+    };
     // with a bucket a row and more, few rows share one
-    let many = count.next_power_of_two();
-    let mut newest = vec![in alloc; 0u32; many]?;
+    let Ok(mut newest) = vec![in alloc; 0u32; count.next_power_of_two()] else {
+        return Err(NoMemory);
+    };
     let mut older = Vec::new(alloc);
-    older.reserve(count)?;
-    for place in 0..count {
-        let key = start_of(hashes[place], many);
-        let start = newest[key];
-        if stands_before(
-            rows,
-            hashes.as_slice(),
-            many,
-            older.as_slice(),
-            start as usize,
-            place,
-        ) {
-            return Ok(Some(place));
-        }
-        older.push(start)?;
-        newest[key] = place as u32 + 1;
+    if reserve(&mut older, count).is_err() {
+        return Err(NoMemory);
     }
-    Ok(None)
+    Ok(first_among(rows, hashes.as_slice(), &mut newest, &mut older))
 }

@@ -1,6 +1,6 @@
 //! Slots by which rows are found, so that a look-up waits for memory once for its slot and once or twice for the row.
 
-ghost use Rattle.std.specs.Prelude.{◌≡◌, ◌<◌, ◌≤◌, ◌+◌, ◌-◌, ◌^◌, ◌↔◌, length, IsTrue, Some, IfSome, IfOk, OnOk};
+ghost use Rattle.std.specs.Prelude.{◌≡◌, ◌<◌, ◌≤◌, ◌+◌, ◌-◌, ◌^◌, ◌↔◌, [], length, IsTrue, Some, IfSome, IfOk, OnOk};
 ghost use Rattle.tor_arena.specs.Growth.{next_slot};
 ghost use Rattle.tor_arena.specs.Limits.{most_places, max_paths};
 ghost use Rattle.path_table.specs.Slots.{tag_of, slot_of_hash, row_from_one, IsVacant, IsRowSearchEnd, NameOnlyRows, IsTold, IsPut};
@@ -72,7 +72,7 @@ impl Slot {
 }
 
 /// Where a search for a path ends.
-#[derive(Clone, Copy, PartialEq, Eq)]
+#[derive(Clone, Copy)]
 pub(crate) enum SearchEnd {
     /// In a slot that names it, at this row.
     Held(PathId),
@@ -221,8 +221,29 @@ fn hash_rows(seed: u64, rows: &Rows<PathId, u32>, start: usize, end: usize, hash
     }
 }
 
-/// So many slots, which name these rows. The rows are gone over in order and hashed again, so that no hash has to be kept. They are hashed
-/// in blocks, so that the waits for memory of the slots of a block overlap.
+/// Has slots that are all free name these rows. The rows are gone over in order and hashed again, so that no hash has to be kept. They are
+/// hashed in blocks, so that the waits for memory of the slots of a block overlap. NoMemory comes where a row finds no free slot.
+fn put_all(seed: u64, rows: &Rows<PathId, u32>, slots: &mut [Slot]) -> Result<(), NoMemory>
+    requires some { 0 < length slots.old }
+    requires few { length rows.now ≤ max_paths }
+    requires free { IsIndexed seed [] slots.old }
+    ensures many { length slots.new ≡ length slots.old }
+    ensures indexed { OnOk result (IsIndexed seed rows.now slots.new) }
+{
+    let mut hashes = [0u32; BLOCK];
+    let mut start = 0;
+    'blocks: while start < rows.len() {
+        let end = rows.len().min(start + BLOCK);
+        hash_rows(seed, rows, start, end, &mut hashes);
+        for place in start..end {
+            put(slots, hashes[place - start], place as u32 + 1)?;
+        }
+        start = end;
+    }
+    Ok(())
+}
+
+/// So many slots, which name these rows.
 pub(crate) fn filled(
     alloc: Global,
     seed: u64,
@@ -235,17 +256,14 @@ pub(crate) fn filled(
     ensures indexed { IfOk result (λ slots. IsIndexed seed rows.now slots.items) }
 {
     let mut slots = Vec::new(alloc);
-    reserve(&mut slots, count)?;
-    slots.resize(count, FREE)?;
-    let mut hashes = [0u32; BLOCK];
-    let mut start = 0;
-    'blocks: while start < rows.len() {
-        let end = rows.len().min(start + BLOCK);
-        hash_rows(seed, rows, start, end, &mut hashes);
-        for place in start..end {
-            put(&mut slots, hashes[place - start], place as u32 + 1)?;
-        }
-        start = end;
+    if reserve(&mut slots, count).is_err() {
+        return Err(NoMemory);
     }
-    Ok(slots)
+    let Ok(()) = slots.resize(count, FREE) else {
+        return Err(NoMemory);
+    };
+    match put_all(seed, rows, &mut slots) {
+        Ok(()) => Ok(slots),
+        Err(error) => Err(error),
+    }
 }

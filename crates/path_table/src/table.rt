@@ -20,7 +20,7 @@ use std::marker::Model;
 use tor_arena::{Index, Keys, List, MAX_NUMBERS, NoMemory, PathId, Rows, reserve};
 
 /// Where a path that was added stands.
-#[derive(Clone, Copy, PartialEq, Eq)]
+#[derive(Clone, Copy)]
 pub enum Added {
     /// It stood there before.
     Known(PathId),
@@ -29,7 +29,7 @@ pub enum Added {
 }
 
 /// Why a path was not added.
-#[derive(Clone, Copy, Debug, PartialEq, Eq)]
+#[derive(Clone, Copy)]
 pub enum AddRefused {
     /// The path is new, and as many paths are there as the table may have.
     TooManyPaths,

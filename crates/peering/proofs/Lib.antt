@@ -6,3 +6,4 @@ pub mod OneRow
 pub mod Reading
 pub mod Steps
 pub mod Flipping
+pub mod Falling

@@ -1,5 +1,5 @@
 //! Whether two degrees are within a ratio.
-ghost use Rattle.std.specs.Prelude.{◌≡◌, ◌<◌, ◌≤◌, ◌*◌, ◌↔◌, max, min, length, slice_index_or, IsTrue};
+ghost use Rattle.std.specs.Prelude.{◌<◌, ◌≤◌, ◌*◌, ◌↔◌, max, min, length, IsTrue};
 ghost use Rattle.tor_arena.specs.Limits.{max_numbers, max_ratio};
 ghost use Rattle.relationships.specs.Graph.{edges, degree};
 ghost use Rattle.relationships.specs.Preference.{IsAlike};

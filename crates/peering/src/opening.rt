@@ -2,8 +2,6 @@
 ghost use Rattle.std.specs.Prelude.{◌≡◌, ◌<◌, ◌⊎◌, ◌↔◌, [], ℕ, false, All, Contains, length, min, max, slice_index_or, replicate};
 ghost use Rattle.std.specs.Prelude.{IsTrue, IsFalse, OnOk, IfOk};
 ghost use Rattle.relationships.specs.Graph.{edges};
-ghost use Rattle.as_graph.specs.Paths.{path_at};
-ghost use Rattle.as_graph.specs.Steps.{AreSteps};
 ghost use Rattle.peering.specs.Peerings.{holds, HasStep, AreBeside, AreBesideOn, IsPairAdded, AllHeldOpen, AllBesideListed};
 
 use crate::partners::Partners;

@@ -1,5 +1,5 @@
 //! For each edge some others that can be no peering beside it.
-ghost use Rattle.std.specs.Prelude.{◌≡◌, ◌↔◌, ◌<◌, ◌∷◌, [], ℕ, All, length, replicate, slice_index_or, slice_set, IsTrue, IfOk, OnOk};
+ghost use Rattle.std.specs.Prelude.{◌≡◌, ◌↔◌, ◌<◌, ◌∷◌, [], ℕ, length, replicate, slice_index_or, slice_set, IsTrue, IfOk, OnOk};
 ghost use Rattle.relationships.specs.declared.label.Label.{Label};
 ghost use Rattle.peering.specs.Peerings.{NoPeers};
 

@@ -4,7 +4,7 @@ ghost use Rattle.std.specs.List.{AllPairs};
 ghost use Rattle.tor_arena.specs.Limits.{max_ratio};
 ghost use Rattle.relationships.specs.declared.label.Label.{Label};
 ghost use Rattle.relationships.specs.Relationship.{label_of, labels_of, ValleyFree, Serves};
-ghost use Rattle.relationships.specs.Graph.{edges, degree, support, orientation as orientation_of, labelling};
+ghost use Rattle.relationships.specs.Graph.{edges, degree, orientation as orientation_of, labelling};
 ghost use Rattle.relationships.specs.Preference.{IsRelabelled, ServeEitherWay, NoneLeftOut};
 ghost use Rattle.as_graph.specs.Paths.{paths_at};
 ghost use Rattle.peering.specs.Peerings.{IsPeeredBeside, IsPeeredIfAllowed};

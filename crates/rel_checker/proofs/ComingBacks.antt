@@ -1,6 +1,7 @@
 -- Two ASes one behind the other, as code finds them.
-use Rattle.std.proofs.Common.{◌≡◌, ℕ, zero, suc, ◌+◌, ◌<◌, List, [], ◌∷◌, ◌++◌, get_or, length, length-append, refl, ap, ◌∙◌, arith}
-use Rattle.relationships.specs.Evidence.{HasPair}
+use Rattle.std.proofs.Common.{◌≡◌, ◌↔◌, ℕ, zero, suc, ◌+◌, ◌<◌, ◌≤◌, Bool, IsTrue, List, [], ◌∷◌, ◌++◌, get_or, length, length-append, refl, sym, ap, subst, ◌∙◌, arith}
+use Rattle.relationships.specs.Evidence.{HasPair, EndsWith}
+use Rattle.rel_checker.specs.ComingBack.{ComesBack}
 
 pub HasPair-from_index : (ases : List ℕ) (x y k : ℕ) → k + 1 < length ases → get_or ases k 0 ≡ x → get_or ases (k + 1) 0 ≡ y → HasPair ases x y
 HasPair-from_index [] x y k lt h₁ h₂ = absurd (omega arith)
@@ -36,3 +37,23 @@ index-from_HasPair ases x y (before, after, e) =
 -- no pair ends before `at`
 abbrev pub NoneBefore : List ℕ → ℕ → ℕ → ℕ → Type 0
 NoneBefore ases x y at = (k : ℕ) → k + 1 < at → get_or ases k 0 ≡ x → get_or ases (k + 1) 0 ≡ y → ⊥
+
+-- where the first two differ and stand the other way round somewhere, the last two decide
+pub last_decide : (ases : List ℕ) (ends : Bool) → 2 ≤ length ases → (get_or ases 0 0 ≡ get_or ases 1 0 → ⊥) → HasPair ases (get_or ases 1 0) (get_or ases 0 0)
+    → IsTrue ends ↔ EndsWith ases (get_or ases 0 0) (get_or ases 1 0) → IsTrue ends ↔ ComesBack ases
+last_decide [] ends two differ pair closes = absurd (omega (arith, two))
+last_decide (x ∷ []) ends two differ pair closes = absurd (omega (arith, two))
+last_decide (x ∷ y ∷ ases) ends two differ pair closes = (
+  λ t. record {
+    x = x;
+    y = y;
+    two = differ;
+    begins = (ases, refl);
+    flips = pair;
+    ends = closes.0 t;
+  },
+  λ back.
+      let first : back.x ≡ x = ap (λ (l : List ℕ). get_or l 0 0) (sym back.begins.1) in
+      let second : back.y ≡ y = ap (λ (l : List ℕ). get_or l 1 0) (sym back.begins.1) in
+      closes.1 (subst (λ b. EndsWith (x ∷ y ∷ ases) x b) second (subst (λ a. EndsWith (x ∷ y ∷ ases) a back.y) first back.ends)),
+)

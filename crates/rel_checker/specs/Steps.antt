@@ -1,5 +1,5 @@
 -- How far a check has come.
-use Rattle.std.specs.Prelude.{◌≡◌, ℕ, ◌<◌, ◌≤◌, List, Option, Some, None, slice_get}
+use Rattle.std.specs.Prelude.{ℕ, ◌≤◌, Option, Some, None}
 use Rattle.result_text.specs.declared.file.ResultFile.{ResultFile}
 use Rattle.result_rules.specs.declared.verdict.Verdict.{Verdict}
 use Rattle.result_rules.specs.declared.rule.Rule.{Rule}
@@ -14,8 +14,3 @@ MetUpTo file n = (rule : Rule) → rule_number rule ≤ n → IsMet file rule
 abbrev pub IsDecidedUpTo : ResultFile → ℕ → Option Verdict → Type 0
 IsDecidedUpTo file n None = MetUpTo file n
 IsDecidedUpTo file n (Some verdict) = Judges file verdict
-
--- the two lists differ first in this place
-pub record Differs {X : Type 0} (xs ys : List X) (k : ℕ) : Type 0 where
-  pub breach : slice_get xs k ≡ slice_get ys k → ⊥
-  pub before : (j : ℕ) → j < k → slice_get xs j ≡ slice_get ys j

@@ -8,12 +8,12 @@ ghost use Rattle.rel_checker.specs.Steps.{MetUpTo, IsDecidedUpTo};
 ghost use Rattle.result_rules.specs.Valid.{Valid};
 ghost use Rattle.result_rules.specs.Judging.{Judges};
 
-use crate::line_numbers::{edge_line, given_line, last_line, mark_line, path_line, why_line};
 use crate::mark_rules::find_unmarked;
 use crate::walk_rules::find_unrefuted;
 use line_rules::{
-    Labels, Step, find_miscounted, find_repeated, find_unclean, find_unlisted, find_unshown,
-    find_unsound_given, find_valley, list_edges,
+    Labels, Step, edge_line, find_miscounted, find_repeated, find_unclean, find_unlisted,
+    find_unshown, find_unsound_given, find_valley, given_line, last_line, list_edges, mark_line,
+    path_line, why_line,
 };
 use result_rules::{Rule, Verdict, right_totals};
 use result_text::ResultFile;
@@ -193,8 +193,6 @@ fn check_totals(file: &ResultFile) -> Verdict
 fn no(line: u64, rule: Rule) -> Verdict
     ensures { result ≡ Verdict.No line (rule_number rule) }
 {
-    Verdict::No {
-        line,
-        rule: rule.number(),
-    }
+    let rule = rule.number();
+    Verdict::No { line, rule }
 }

@@ -1,15 +1,14 @@
 //! Rule 9: each mark is borne out, and each open line serves for an edge.
 
-ghost use Rattle.std.specs.Prelude.{◌≡◌, None, length, IfOk};
+ghost use Rattle.std.specs.Prelude.{◌≡◌, length, IfOk};
 ghost use Rattle.result_rules.specs.File.{its_edges, its_paths, its_probes, HasFewLines};
 ghost use Rattle.result_rules.specs.declared.rule.Rule.{Rule};
 ghost use Rattle.result_rules.specs.Rules.{IsMet};
 ghost use Rattle.line_rules.specs.Breaches.{First, FindsBreach};
 ghost use Rattle.line_rules.specs.PathSteps.{HaveCodedSteps};
-ghost use Rattle.open_lines.specs.Serving.{Covers, IsLaidOut, GainsAt, MarkedAt, ServesAt};
+ghost use Rattle.line_rules.specs.Serving.{Covers, IsLaidOut, GainsAt};
 
-use line_rules::{Labels, Step};
-use open_lines::{Cover, Flips, cover_all, find_unborne, find_useless};
+use line_rules::{Cover, Flips, Labels, Step, cover_all, find_unborne, find_useless};
 use result_text::ResultFile;
 use std::alloc::Global;
 use tor_arena::{Keys, NoMemory, PathId, Rows};
@@ -75,19 +74,9 @@ fn find_by_cover(
         return Ok(Some(place));
     }
     let useless = find_useless(alloc, file, table, flips, cover.idle)?;
-    Ok(behind_edges(file, useless))
-}
-
-/// The place of the first line that breaks the rule where each mark is borne out, by the first open line that doesn't serve: the open
-/// lines stand behind the edge lines.
-fn behind_edges(file: &ResultFile, useless: Option<usize>) -> Option<usize>
-    requires lines { HasFewLines file.now }
-    requires borne { First (MarkedAt file.now) (length file.now.edges) None }
-    requires useless { First (ServesAt file.now) (length file.now.probes) useless }
-    ensures { FindsBreach file.now Rule.MarksBorneOut result }
-{
+    // the open lines stand behind the edge lines
     match useless {
-        Some(place) => Some(file.edges.len() + place),
-        None => None,
+        Some(place) => Ok(Some(file.edges.len() + place)),
+        None => Ok(None),
     }
 }

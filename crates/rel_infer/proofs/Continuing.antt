@@ -30,7 +30,7 @@ use Rattle.result_rules.specs.Rules.{Accepts}
 use Rattle.result_rules.proofs.Acceptance.{acceptance_law}
 use Rattle.result_rules.proofs.GivenLines.{name_two, name_once}
 use Rattle.result_rules.proofs.WalkLaws.{lost_are_refuted}
-use Rattle.resume.specs.Earlier.{BeginsWithPathsOf, IsKeptOrientation}
+use Rattle.rel_infer.specs.Earlier.{BeginsWithPathsOf, IsKeptOrientation}
 use Rattle.rel_infer.specs.Resumed.{Continues, decided, its_fates, kept_first}
 use Rattle.rel_infer.proofs.AgreeingLaws.{kept_among_more}
 use Rattle.rel_infer.proofs.Assembling.{walks_same}

@@ -1,5 +1,5 @@
 -- The edges of kept paths are edges of the paths.
-use Rattle.std.proofs.Common.{◌≡◌, ℕ, zero, suc, ◌+◌, Bool, true, false, List, [], ◌∷◌, arith, Contains}
+use Rattle.std.proofs.Common.{ℕ, zero, suc, ◌+◌, Bool, true, false, List, [], ◌∷◌, arith, Contains}
 use Rattle.relationships.specs.Graph.{Edge, edges}
 use Rattle.relationships.specs.Evidence.{paths_of, kept_from}
 use Rattle.relationships.proofs.Neighbours.{edge_law}

@@ -2,7 +2,9 @@ pub mod Acceptance
 pub mod AgreeingLaws
 pub mod Assembling
 pub mod Continuing
+pub mod EarlierRows
 pub mod Joined
+pub mod Keeping
 pub mod KeptEdges
 pub mod KeptPlaces
 pub mod Labels
@@ -11,10 +13,12 @@ pub mod Linking
 pub mod LinksLeft
 pub mod OneGivenResult
 pub mod OneResult
+pub mod Orienting
 pub mod Past
 pub mod Relinked
 pub mod ReturnRows
 pub mod SelfAcceptance
 pub mod Together
+pub mod Turning
 pub mod Ungiven
 pub mod Whole

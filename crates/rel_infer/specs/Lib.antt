@@ -1,6 +1,8 @@
 pub mod Agreeing
+pub mod Earlier
 pub mod EdgeLines
 pub mod Finding
+pub mod FirstEnds
 pub mod GivenInference
 pub mod GivenLaws
 pub mod GivenResults

@@ -5,7 +5,7 @@ use Rattle.relationships.specs.Evidence.{Numbered}
 use Rattle.result_text.specs.declared.file.PathLine.{PathLine}
 use Rattle.result_text.specs.declared.file.ResultFile.{ResultFile}
 use Rattle.result_rules.specs.File.{its_kept}
-use Rattle.resume.specs.declared.table.Rest.{Rest}
+use Rattle.rel_infer.specs.declared.earlier_table.Rest.{Rest}
 use Rattle.tor_clauses.specs.Formulas.{numbered}
 use Rattle.path_select.specs.Behind.{places_from}
 use Rattle.rel_infer.specs.declared.resuming.Resumed.{Resumed}

@@ -134,8 +134,8 @@ fn inferred_after(
     inferred_in(alloc, keys, graph, first.as_slice(), count, ratio)
 }
 
-/// What is inferred from the first paths of a graph, so many, which were let go: they are read back from their steps. The only error is that
-/// memory ran out.
+/// What is inferred from the first paths of a graph, so many, which were let go: they are read back from their steps. The only error is
+/// that memory ran out.
 pub(crate) fn with_paths(
     alloc: Global,
     graph: &AsGraph,
@@ -245,10 +245,16 @@ pub(crate) fn relinked_if_given(
     requires paths { paths ≤ max_paths }
     ensures { IfOk result (IsLinked paths givens.now numbers.now inferred) }
 {
-    if !givens.is_empty() {
-        name_givens(alloc, &mut inferred, paths, numbers)?;
+    if givens.is_empty() {
+        return Ok(inferred);
     }
-    Ok(inferred)
+    match name_givens(alloc, &mut inferred, paths, numbers) {
+        Ok(()) => Ok(inferred),
+        Err(NoMemory) => {
+            drop(inferred);
+            Err(NoMemory)
+        }
+    }
 }
 
 /// What is inferred from distinct paths under givens. Each path has at least two ASes, all distinct; there are at most 2^23 paths, of at

@@ -1,7 +1,10 @@
 //! The result of distinct paths, also under relationships that are given: which are kept, what the edges are labelled, and which labels are
-//! forced, with the evidence.
+//! forced, with the evidence. And what is taken up of an earlier result, so that a run goes on from it.
 #![tactic(auto)]
 
+mod earlier_ends;
+mod earlier_kept;
+mod earlier_table;
 mod edge_lines;
 mod finding;
 mod given_laws;
@@ -14,6 +17,9 @@ mod resuming;
 mod returns;
 mod taking_up;
 
+pub use earlier_ends::kept_orientation;
+pub use earlier_kept::kept_places;
+pub use earlier_table::{Rest, TableRefused, TakenUp, take_up};
 pub use given_laws::{
     agreeing_law, all_agreeing_law, given_inference_law, given_line_law, given_result_law,
     given_rules_met_law, no_givens_result_law,

@@ -13,13 +13,14 @@ ghost use Rattle.path_select.specs.Kept.{HasKeptBehind};
 ghost use Rattle.result_text.specs.declared.file.ResultFile.{ResultFile as File};
 ghost use Rattle.result_rules.specs.File.{its_paths, its_walks};
 ghost use Rattle.path_table.specs.Rows.{row_paths};
-ghost use Rattle.resume.specs.Earlier.{BeginsWithPathsOf, BeginsWithEarlier, IsRestOf};
+ghost use Rattle.rel_infer.specs.Earlier.{BeginsWithPathsOf, BeginsWithEarlier, IsRestOf};
 ghost use Rattle.rel_infer.specs.Finding.{AreInferredIn, LostBehind};
 ghost use Rattle.rel_infer.specs.GivenResults.{IsResultWith};
 ghost use Rattle.rel_infer.specs.GivenInference.{max_givens, PeerEitherWayWith, LeaveNoneOutWith};
 ghost use Rattle.rel_infer.specs.Resumed.{Continues, IsInferredOnTop};
 ghost use Rattle.rel_infer.specs.Returns.{IsUnlinked};
 
+use crate::earlier_table::Rest;
 use crate::inferring::{Inferred, inferred_by, relinked_if_given, with_paths};
 use crate::result::{ResultHead, given_slice, result_by};
 use crate::taking_up::{KeptFirst, Started, started_in};
@@ -29,7 +30,6 @@ use path_select::{Selection, Selector, select_rest};
 use path_table::PathTable;
 use relationships::{Fates, Given};
 use result_text::ResultFile;
-use resume::Rest;
 use std::alloc::Global;
 use tor_arena::{Keys, List, NoMemory, PathId, Rows};
 

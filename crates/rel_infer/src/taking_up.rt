@@ -8,16 +8,18 @@ ghost use Rattle.as_graph.specs.Paths.{paths_at};
 ghost use Rattle.tor_clauses.specs.Formulas.{IsServed, numbered};
 ghost use Rattle.path_select.specs.Behind.{places_from};
 ghost use Rattle.result_text.specs.declared.file.ResultFile.{ResultFile as File};
-ghost use Rattle.resume.specs.Earlier.{BeginsWithPathsOf, BeginsWithEarlier, IsRestOf};
+ghost use Rattle.rel_infer.specs.Earlier.{BeginsWithPathsOf, BeginsWithEarlier, IsRestOf};
 ghost use Rattle.rel_infer.specs.GivenInference.{max_givens};
 ghost use Rattle.rel_infer.specs.Resumed.{kept_first};
 ghost use Rattle.rel_infer.specs.Returns.{numbers_from};
 
+use crate::earlier_ends::kept_orientation;
+use crate::earlier_kept::kept_places;
+use crate::earlier_table::Rest;
 use crate::result::given_slice;
 use crate::returns::numbers_of;
 use as_graph::{AsGraph, Orientation, build_with};
 use path_select::places_behind;
-use resume::{Rest, kept_orientation, kept_places};
 use std::alloc::Global;
 use tor_arena::{Keys, List, NoMemory, PathId, Rows};
 

@@ -6,7 +6,7 @@ use thiserror::Error;
 use tor_arena::NoMemory;
 
 /// Why octets were not read as a result.
-#[derive(Clone, Copy, Debug, PartialEq, Eq, Error)]
+#[derive(Clone, Copy, Debug, Error)]
 pub enum ParseError {
     /// The octets are no text, and this is the number of their bad line, from 1.
     #[error("line {0} is bad")]

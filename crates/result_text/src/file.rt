@@ -16,7 +16,7 @@ pub struct PathLine {
 }
 
 /// An edge, which is a pair of neighbours.
-#[derive(Clone, Copy, PartialEq, Eq)]
+#[derive(Clone, Copy)]
 pub struct EdgeLine {
     /// The lower of its two AS numbers.
     pub low: u32,

@@ -3,7 +3,8 @@
 ghost use Rattle.std.specs.Prelude.{◌≡◌, option_map};
 ghost use Rattle.relationships.specs.Flat.{walk_with};
 ghost use Rattle.result_text.specs.Reading.{ReadsAs, sets_at, cause_at, label_at, mark_at, walk_at, aside_at, aside_from, kept_at};
-ghost use Rattle.result_text.specs.Reading.{line_of_kept, lost_at, lost_from, edge_line_at, given_at, probe_at, end_at};
+ghost use Rattle.result_text.specs.Reading.{line_of_kept, lost_at, lost_from, edge_line_at, end_at};
+ghost use Rattle.text_fields.specs.Reading.{before, both, u32_at};
 ghost use Rattle.result_text.specs.declared.line.Line.TheVariants as line;
 
 use crate::error::LineError;
@@ -11,7 +12,7 @@ use crate::file::{EdgeLine, Totals};
 use crate::line::Version;
 use crate::reading::{links_before, numbers_before};
 use path_clean::{Cause, Sets};
-use relationships::{Given, Label, Link, Mark, Probe};
+use relationships::{Label, Link, Mark};
 use text_fields::{after, u32_before, u64_before};
 use tor_arena::List;
 
@@ -182,32 +183,17 @@ pub fn read_edge(bytes: &[u8]) -> Option<(EdgeLine, &[u8])>
     Some((edge, rest))
 }
 
-/// A given line.
-#[tactic(auto, unfolding(crate::specs::Reading::given_at))]
-pub fn read_given(bytes: &[u8]) -> Option<(Given, &[u8])>
-    ensures { option_map (λ x. (line.Given x.0, x.1.now)) result ≡ given_at bytes.now }
+/// Two AS numbers that end their line.
+pub fn read_pair(bytes: &[u8]) -> Option<(u32, u32, &[u8])>
+    ensures { option_map (λ x. ((x.0, x.1), x.2.now)) result ≡ both (before 124 u32_at) (before 10 u32_at) bytes.now }
 {
-    let Some((over, rest)) = u32_before(b'|', bytes) else {
+    let Some((first, rest)) = u32_before(b'|', bytes) else {
         return None;
     };
-    let Some((under, rest)) = u32_before(b'\n', rest) else {
+    let Some((second, rest)) = u32_before(b'\n', rest) else {
         return None;
     };
-    Some((Given { over, under }, rest))
-}
-
-/// An open line.
-#[tactic(auto, unfolding(crate::specs::Reading::probe_at))]
-pub fn read_probe(bytes: &[u8]) -> Option<(Probe, &[u8])>
-    ensures { option_map (λ x. (line.Probe x.0, x.1.now)) result ≡ probe_at bytes.now }
-{
-    let Some((over, rest)) = u32_before(b'|', bytes) else {
-        return None;
-    };
-    let Some((under, rest)) = u32_before(b'\n', rest) else {
-        return None;
-    };
-    Some((Probe { over, under }, rest))
+    Some((first, second, rest))
 }
 
 /// The last line.

@@ -13,10 +13,9 @@ use crate::draft::Draft;
 use crate::error::LineError;
 use crate::line::Version;
 use crate::line_reading::{
-    read_aside, read_edge, read_end, read_given, read_kept, read_lost, read_probe, read_sets,
-    read_walk,
+    read_aside, read_edge, read_end, read_kept, read_lost, read_pair, read_sets, read_walk,
 };
-use relationships::{Link, WalkRef};
+use relationships::{Given, Link, Probe, WalkRef};
 use std::alloc::Global;
 use text_fields::{after, u32_before};
 use tor_arena::{List, NoMemory};
@@ -93,13 +92,14 @@ fn next_aside<'a>(draft: &mut Draft, bytes: &'a [u8]) -> Result<&'a [u8], LineEr
     }
 }
 
+#[tactic(auto, unfolding(crate::specs::Reading::given_at))]
 fn next_given<'a>(draft: &mut Draft, bytes: &'a [u8]) -> Result<&'a [u8], LineError>
     ensures { ReadsAs (λ rest. (draft.new, rest.now)) result (with_line draft.old (given_at bytes.now)) }
 {
-    let Some((given, rest)) = read_given(bytes) else {
+    let Some((over, under, rest)) = read_pair(bytes) else {
         return Err(LineError::Bad);
     };
-    match draft.add_given(given) {
+    match draft.add_given(Given { over, under }) {
         Ok(()) => Ok(rest),
         Err(error) => Err(error),
     }
@@ -177,13 +177,14 @@ fn next_why<'a>(
     }
 }
 
+#[tactic(auto, unfolding(crate::specs::Reading::probe_at))]
 fn next_probe<'a>(draft: &mut Draft, bytes: &'a [u8]) -> Result<&'a [u8], LineError>
     ensures { ReadsAs (λ rest. (draft.new, rest.now)) result (with_line draft.old (probe_at bytes.now)) }
 {
-    let Some((probe, rest)) = read_probe(bytes) else {
+    let Some((over, under, rest)) = read_pair(bytes) else {
         return Err(LineError::Bad);
     };
-    match draft.add_probe(probe) {
+    match draft.add_probe(Probe { over, under }) {
         Ok(()) => Ok(rest),
         Err(error) => Err(error),
     }

@@ -1,9 +1,8 @@
-//! Lists of numbers and of links as text.
+//! Numbers and lists of links as text.
 
-ghost use Rattle.std.specs.Prelude.{◌∷◌};
 ghost use Rattle.std.specs.Fmt.{decimal};
 ghost use Rattle.tor_io.specs.Outflow.{state, Puts};
-ghost use Rattle.result_text.specs.Text.{numbers_text, path_name, link, links, others};
+ghost use Rattle.result_text.specs.Text.{path_name, link, links, others};
 
 use crate::line::Version;
 use relationships::Link;
@@ -15,23 +14,6 @@ pub fn put_u32<S: Sink>(out: &mut S, flow: &mut Outflow<'_>, n: u32)
     ensures { Puts (state (S.held out.old) (S.faults out.old) flow.old) (state (S.held out.new) (S.faults out.new) flow.new) (decimal n) }
 {
     flow.put_number(out, u64::from(n));
-}
-
-/// Puts an octet and a number behind what waits.
-#[inline(always)]
-pub fn put_u32_behind<S: Sink>(out: &mut S, flow: &mut Outflow<'_>, byte: u8, n: u32)
-    ensures { Puts (state (S.held out.old) (S.faults out.old) flow.old) (state (S.held out.new) (S.faults out.new) flow.new)
-        (byte ∷ decimal n) }
-{
-    flow.put_number_behind(out, byte, u64::from(n));
-}
-
-/// Puts the numbers behind what waits, joined by spaces.
-pub fn put_numbers<S: Sink>(out: &mut S, flow: &mut Outflow<'_>, ns: &[u32])
-    ensures { Puts (state (S.held out.old) (S.faults out.old) flow.old) (state (S.held out.new) (S.faults out.new) flow.new)
-        (numbers_text ns.now) }
-{
-    flow.put_joined(out, b' ', ns);
 }
 
 // Puts the number of a link's path behind what waits, or in a text of version 2 the letter g for 0.
@@ -52,7 +34,7 @@ fn put_link<S: Sink>(out: &mut S, flow: &mut Outflow<'_>, version: Version, l: L
         (link version l) }
 {
     put_path_name(out, flow, version, l.path);
-    put_u32_behind(out, flow, b':', l.at);
+    flow.put_number_behind(out, b':', u64::from(l.at));
 }
 
 // Puts the links behind what waits, each behind a space.

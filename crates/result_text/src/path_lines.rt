@@ -1,11 +1,10 @@
 //! The path lines of a result, in flat lists.
 
 ghost use Rattle.std.specs.Option.{option_copied};
-ghost use Rattle.std.specs.Prelude.{◌≡◌, ◌<◌, ◌≤◌, ◌++◌, ◌∷◌, [], Some, length, map, option_map, slice_get, OnOk, OnErr};
+ghost use Rattle.std.specs.Prelude.{◌≡◌, ◌<◌, ◌≤◌, ◌++◌, ◌∷◌, [], Some, length, map, slice_get, OnOk, OnErr};
 ghost use Rattle.tor_arena.specs.Limits.{most_places};
 ghost use Rattle.relationships.specs.declared.fate.Fate.TheVariants.{Kept, Lost};
 ghost use Rattle.relationships.specs.Fates.{is_kept, walk_of};
-ghost use Rattle.relationships.specs.Flat.{walk_with};
 ghost use Rattle.result_text.specs.PathLines.{line_with};
 
 use relationships::{Fates, Link, WalkRef};

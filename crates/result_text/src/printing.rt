@@ -1,5 +1,5 @@
 //! The printing of a result.
-ghost use Rattle.std.specs.Prelude.{◌≡◌, ◌++◌, ◌∷◌, [], OnOk, OnErr, IfOk, map};
+ghost use Rattle.std.specs.Prelude.{◌≡◌, ◌++◌, ◌∷◌, [], OnOk, OnErr, IfOk, codes, map};
 ghost use Rattle.std.specs.Io.KnownBytes.{append_known};
 ghost use Rattle.std.specs.Fmt.{decimal};
 ghost use Rattle.result_text.specs.declared.line.Line.TheVariants as line;
@@ -17,7 +17,7 @@ ghost use Rattle.result_text.specs.declared.line.Version.{Version};
 use crate::asides::aside_start;
 use crate::file::{EdgeLine, ResultFile, Totals};
 use crate::line::{Version, version_of};
-use crate::numbers::{put_links, put_numbers, put_u32};
+use crate::numbers::{put_links, put_u32};
 use crate::path_lines::{PathLineRef, PathLines};
 use crate::ranges::in_range;
 use path_clean::{Asides, Cause, Sets};
@@ -29,35 +29,17 @@ use tor_io::{Buffer, Failed, ListSink, Outflow, Sink};
 // Each function puts something behind what waits for the sink, lines with their line feed. Where a line is the same in texts of both
 // versions, the function has no version, and what it ensures is said for either.
 
+// The lines of the version and of the sets, and what stands before the ratio.
 #[tactic(auto, unfolding(crate::specs::Text::line_text))]
-fn put_version<S: Sink>(out: &mut S, flow: &mut Outflow<'_>, version: Version)
-    ensures { (v : Version) → Puts (state (S.held out.old) (S.faults out.old) flow.old) (state (S.held out.new) (S.faults out.new) flow.new)
-        (line_text v (line.Version version)) }
+fn head_start(version: Version, sets: Sets) -> &'static [u8]
+    ensures { (v : Version) → result.now ≡ line_text v (line.Version version) ++ (line_text v (line.Sets sets) ++ codes "ratio|") }
 {
-    match version {
-        Version::One => flow.put(out, b"tor|1\n"),
-        Version::Two => flow.put(out, b"tor|2\n"),
+    match (version, sets) {
+        (Version::One, Sets::Cut) => b"tor|1\nsets|cut\nratio|",
+        (Version::One, Sets::Skip) => b"tor|1\nsets|skip\nratio|",
+        (Version::Two, Sets::Cut) => b"tor|2\nsets|cut\nratio|",
+        (Version::Two, Sets::Skip) => b"tor|2\nsets|skip\nratio|",
     }
-}
-
-#[tactic(auto, unfolding(crate::specs::Text::line_text))]
-fn put_sets<S: Sink>(out: &mut S, flow: &mut Outflow<'_>, sets: Sets)
-    ensures { (v : Version) → Puts (state (S.held out.old) (S.faults out.old) flow.old) (state (S.held out.new) (S.faults out.new) flow.new)
-        (line_text v (line.Sets sets)) }
-{
-    match sets {
-        Sets::Cut => flow.put(out, b"sets|cut\n"),
-        Sets::Skip => flow.put(out, b"sets|skip\n"),
-    }
-}
-
-fn put_ratio<S: Sink>(out: &mut S, flow: &mut Outflow<'_>, ratio: u32)
-    ensures { (v : Version) → Puts (state (S.held out.old) (S.faults out.old) flow.old) (state (S.held out.new) (S.faults out.new) flow.new)
-        (line_text v (line.Ratio ratio)) }
-{
-    flow.put(out, b"ratio|");
-    put_u32(out, flow, ratio);
-    flow.put_byte(out, b'\n');
 }
 
 fn put_aside<S: Sink>(out: &mut S, flow: &mut Outflow<'_>, asides: &Asides, cause: Cause)
@@ -88,9 +70,9 @@ fn put_head<S: Sink>(out: &mut S, flow: &mut Outflow<'_>, version: Version, file
     ensures { Puts (state (S.held out.old) (S.faults out.old) flow.old) (state (S.held out.new) (S.faults out.new) flow.new)
         (text_of_lines version (head_lines file.now)) }
 {
-    put_version(out, flow, version);
-    put_sets(out, flow, file.sets);
-    put_ratio(out, flow, file.ratio);
+    flow.put(out, head_start(version, file.sets));
+    put_u32(out, flow, file.ratio);
+    flow.put_byte(out, b'\n');
     put_all_asides(out, flow, &file.asides);
 }
 
@@ -99,7 +81,7 @@ fn put_walk<S: Sink>(out: &mut S, flow: &mut Outflow<'_>, version: Version, walk
     ensures { Puts (state (S.held out.old) (S.faults out.old) flow.old) (state (S.held out.new) (S.faults out.new) flow.new)
         (numbers_text walk.now.ases ++ 124 ∷ links version walk.now.links) }
 {
-    put_numbers(out, flow, walk.ases());
+    flow.put_joined(out, b' ', walk.ases());
     flow.put_byte(out, b'|');
     put_links(out, flow, version, walk.links());
 }

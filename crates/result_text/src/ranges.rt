@@ -2,13 +2,11 @@
 //! number is in the range of its type is known as soon as it is read.
 
 ghost use Rattle.std.specs.List.{AllByRecursion};
-ghost use Rattle.path_clean.specs.Counts.{cause_count};
 ghost use Rattle.relationships.specs.declared.fate.Fate.TheVariants.{Kept, Lost};
 ghost use Rattle.result_text.specs.Grammar.{IsTextOf};
 ghost use Rattle.result_text.specs.PathLines.{line_with};
 ghost use Rattle.result_text.specs.Ranges.{AreU32, CountsFit, EdgeFits, GivenFits, LinkFits, PathFits, ProbeFits, TotalsFit, WalkFits};
 ghost use Rattle.result_text.specs.Text.{its_givens, text};
-ghost use Rattle.text_fields.specs.Fields.{IsU64};
 
 use crate::file::{EdgeLine, ResultFile, Totals};
 use crate::path_lines::{PathLineRef, PathLines};
@@ -53,22 +51,16 @@ fn walks_fit(walks: &Walks)
     }
 }
 
-fn count_fits(asides: &Asides, cause: Cause)
-    ensures { IsU64 (cause_count cause asides.now) }
-{
-    let _count = asides.get(cause);
-}
-
 fn counts_fit(asides: &Asides)
     ensures { CountsFit asides.now }
 {
-    count_fits(asides, Cause::NoPath);
-    count_fits(asides, Cause::BadSegments);
-    count_fits(asides, Cause::Confed);
-    count_fits(asides, Cause::Sets);
-    count_fits(asides, Cause::Reserved);
-    count_fits(asides, Cause::Loop);
-    count_fits(asides, Cause::Short);
+    let _no_path = asides.get(Cause::NoPath);
+    let _bad_segments = asides.get(Cause::BadSegments);
+    let _confed = asides.get(Cause::Confed);
+    let _sets = asides.get(Cause::Sets);
+    let _reserved = asides.get(Cause::Reserved);
+    let _loop = asides.get(Cause::Loop);
+    let _short = asides.get(Cause::Short);
 }
 
 fn given_fits(given: &Given)

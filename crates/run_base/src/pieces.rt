@@ -1,5 +1,5 @@
 //! Texts in pieces, put behind what waits in a buffer.
-ghost use Rattle.std.specs.Prelude.{◌≡◌, ◌++◌, OnOk, OnErr};
+ghost use Rattle.std.specs.Prelude.{◌++◌, OnOk, OnErr};
 ghost use Rattle.tor_io.specs.Counts.{HasCause};
 ghost use Rattle.tor_io.specs.Contents.{GainsPrefix, PassesOn};
 ghost use Rattle.run_base.specs.Pieces.{piece_text, pieces_text};

@@ -1,6 +1,5 @@
 //! Numbers, orders and links as text.
 
-ghost use Rattle.std.specs.Prelude.{◌∷◌};
 ghost use Rattle.std.specs.Fmt.{decimal};
 ghost use Rattle.tor_io.specs.Outflow.{state, Puts};
 ghost use Rattle.result_text.specs.declared.line.Version.TheVariants as version;
@@ -15,14 +14,6 @@ pub(crate) fn put_u32<S: Sink>(out: &mut S, flow: &mut Outflow<'_>, n: u32)
     ensures { Puts (state (S.held out.old) (S.faults out.old) flow.old) (state (S.held out.new) (S.faults out.new) flow.new) (decimal n) }
 {
     flow.put_number(out, u64::from(n));
-}
-
-/// Puts an octet, and a number behind it in decimal, behind what waits. It takes no memory.
-pub(crate) fn put_u32_behind<S: Sink>(out: &mut S, flow: &mut Outflow<'_>, byte: u8, n: u32)
-    ensures { Puts (state (S.held out.old) (S.faults out.old) flow.old) (state (S.held out.new) (S.faults out.new) flow.new)
-        (byte ∷ decimal n) }
-{
-    flow.put_number_behind(out, byte, u64::from(n));
 }
 
 /// Puts the numbers, in decimal and joined by spaces, behind what waits. It takes no memory.
@@ -51,7 +42,7 @@ pub(crate) fn put_link<S: Sink>(out: &mut S, flow: &mut Outflow<'_>, named: &Lin
         (link version.Two named.now) }
 {
     put_path_name(out, flow, named.path);
-    put_u32_behind(out, flow, b':', named.at);
+    flow.put_number_behind(out, b':', u64::from(named.at));
 }
 
 /// Puts the line of a word and two AS numbers, in decimal, behind what waits; of an order, first that of the provider. It takes no memory.
@@ -66,7 +57,6 @@ pub(crate) fn put_pair<S: Sink>(
         (pair_row word.now over under) }
 {
     flow.put(out, word);
-    put_u32_behind(out, flow, b'|', over);
-    put_u32_behind(out, flow, b'|', under);
-    flow.put_byte(out, b'\n');
+    flow.put_byte(out, b'|');
+    flow.put_row(out, u64::from(over), b'|', b' ', &[under], b'\n');
 }

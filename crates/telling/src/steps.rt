@@ -6,7 +6,7 @@ ghost use Rattle.result_text.specs.Text.{its_givens};
 ghost use Rattle.telling.specs.WalkText.{if_there, numbered, given_text, path_text, named_text, step_with, step_text, steps_text};
 ghost use Rattle.telling.specs.WalkText.{begin_text, end_text, why_text};
 
-use crate::numbers::{put_link, put_numbers, put_pair, put_u32, put_u32_behind};
+use crate::numbers::{put_link, put_numbers, put_pair, put_u32};
 use relationships::{Given, Link, WalkRef};
 use result_text::ResultFile;
 use tor_arena::{Index, PathId};
@@ -39,7 +39,7 @@ fn put_given<S: Sink>(out: &mut S, flow: &mut Outflow<'_>, file: &ResultFile, nu
 {
     if let Some(given) = given_numbered(givens_of(file), number) {
         put_u32(out, flow, given.over);
-        put_u32_behind(out, flow, b' ', given.under);
+        flow.put_number_behind(out, b' ', u64::from(given.under));
     }
 }
 
@@ -82,10 +82,8 @@ fn put_step<S: Sink>(
     ensures { Puts (state (S.held out.old) (S.faults out.old) flow.old) (state (S.held out.new) (S.faults out.new) flow.new)
         (step_text file.now (step_with over under link.now)) }
 {
-    flow.put(out, b"then");
-    put_u32_behind(out, flow, b'|', over);
-    put_u32_behind(out, flow, b'|', under);
-    flow.put_byte(out, b'|');
+    flow.put(out, b"then|");
+    flow.put_row(out, u64::from(over), b'|', b' ', &[under], b'|');
     put_link(out, flow, link);
     flow.put_byte(out, b'|');
     put_named(out, flow, file, link);

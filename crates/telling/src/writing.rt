@@ -9,21 +9,21 @@ ghost use Rattle.tor_io.specs.Outflow.{state, Puts};
 ghost use Rattle.telling.specs.ToldText.{why_at, whys_text, path_row, lost_text};
 ghost use Rattle.telling.specs.ToldText.{going_name, going_row, goings_text, kept_text, told_text};
 
-use crate::numbers::{put_numbers, put_pair, put_u32_behind};
+use crate::numbers::put_pair;
 use crate::steps::{put_begin, put_steps, put_why};
 use crate::told::{Going, Told};
 use result_text::{PathLineRef, ResultFile, put_edge};
 use tor_arena::{Index, PathId, WalkId};
 use tor_io::{Buffer, Failed, Outflow, Sink};
 
-// A bar, how a step goes, and a line feed.
+// How a step goes, and a line feed.
 fn going_end(going: Going) -> &'static [u8]
-    ensures { result.now ≡ 124 ∷ going_name going ++ 10 ∷ [] }
+    ensures { result.now ≡ going_name going ++ 10 ∷ [] }
 {
     match going {
-        Going::Up => b"|up\n",
-        Going::Down => b"|down\n",
-        Going::Flat => b"|flat\n",
+        Going::Up => b"up\n",
+        Going::Down => b"down\n",
+        Going::Flat => b"flat\n",
     }
 }
 
@@ -74,10 +74,8 @@ fn put_path_line<S: Sink>(out: &mut S, flow: &mut Outflow<'_>, word: &[u8], line
         (path_row word.now line.now) }
 {
     flow.put(out, word);
-    flow.put_number_behind(out, b'|', line.times());
     flow.put_byte(out, b'|');
-    put_numbers(out, flow, line.path());
-    flow.put_byte(out, b'\n');
+    flow.put_row(out, line.times(), b'|', b' ', line.path(), b'\n');
 }
 
 fn put_lost<S: Sink>(out: &mut S, flow: &mut Outflow<'_>, file: &ResultFile, line: &PathLineRef<'_>)
@@ -95,9 +93,8 @@ fn put_going<S: Sink>(out: &mut S, flow: &mut Outflow<'_>, from: u32, to: u32, g
     ensures { Puts (state (S.held out.old) (S.faults out.old) flow.old) (state (S.held out.new) (S.faults out.new) flow.new)
         (going_row from to going) }
 {
-    flow.put(out, b"step");
-    put_u32_behind(out, flow, b'|', from);
-    put_u32_behind(out, flow, b'|', to);
+    flow.put(out, b"step|");
+    flow.put_row(out, u64::from(from), b'|', b' ', &[to], b'|');
     flow.put(out, going_end(going));
 }
 

@@ -64,7 +64,7 @@ fn ties_of(alloc: Global, keys: Keys, graph: &AsGraph, count: usize) -> Result<L
 }
 
 /// An open edge, by its two ASes, with the class of the edges that it is tied to.
-#[derive(Clone, Copy, Debug, PartialEq, Eq)]
+#[derive(Clone, Copy)]
 pub struct TieLine {
     /// The lower number.
     pub low: u32,

@@ -9,7 +9,7 @@ use std::alloc::Global;
 use std::marker::{Model, PhantomData};
 
 /// Why an item was not added. It is given back.
-#[derive(Debug, Drop)]
+#[derive(Drop)]
 pub enum PushRefused<T> {
     /// There are LIMIT items already.
     Full(T),
@@ -159,8 +159,12 @@ impl<I: Index, T: Copy> Arena<I, T> {
         ensures err { OnErr result (self.new.items ≡ self.old.items) }
     {
         let count = self.items.len() + n;
-        reserve(&mut self.items, n)?;
-        self.items.resize(count, item)?;
-        Ok(())
+        let Ok(()) = reserve(&mut self.items, n) else {
+            return Err(NoMemory);
+        };
+        match self.items.resize(count, item) {
+            Ok(()) => Ok(()),
+            Err(_) => Err(NoMemory),
+        }
     }
 }

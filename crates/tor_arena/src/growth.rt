@@ -53,8 +53,10 @@ fn take_room<T>(items: &mut Vec<T>, more: usize) -> Result<(), NoMemory>
     if least >= SMALL && least < APART && items.reserve(APART - items.len()).is_ok() {
         return Ok(());
     }
-    items.reserve(more)?;
-    Ok(())
+    match items.reserve(more) {
+        Ok(()) => Ok(()),
+        Err(_) => Err(NoMemory),
+    }
 }
 
 /// From so many items on a vector lies by itself.

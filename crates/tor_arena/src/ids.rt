@@ -8,7 +8,7 @@ use crate::limits::{MOST_PLACES, MOST_WALKS};
 use std::marker::Model;
 
 /// A place among the autonomous systems.
-#[derive(Clone, Copy, PartialEq, Eq, Hash)]
+#[derive(Clone, Copy, PartialEq, Eq)]
 pub struct AsId {
     short: u32,
 }
@@ -45,7 +45,7 @@ impl Index for AsId {
 }
 
 /// A place among the edges, which are pairs of neighbours.
-#[derive(Clone, Copy, PartialEq, Eq, Hash)]
+#[derive(Clone, Copy, PartialEq, Eq)]
 pub struct EdgeId {
     short: u32,
 }
@@ -82,7 +82,7 @@ impl Index for EdgeId {
 }
 
 /// A place among the distinct paths.
-#[derive(Clone, Copy, PartialEq, Eq, Hash)]
+#[derive(Clone, Copy, PartialEq, Eq)]
 pub struct PathId {
     short: u32,
 }
@@ -119,7 +119,7 @@ impl Index for PathId {
 }
 
 /// A place among the triples, which are three consecutive systems of a path.
-#[derive(Clone, Copy, PartialEq, Eq, Hash)]
+#[derive(Clone, Copy, PartialEq, Eq)]
 pub struct TripleId {
     short: u32,
 }
@@ -156,7 +156,7 @@ impl Index for TripleId {
 }
 
 /// A place among the nodes of a digraph.
-#[derive(Clone, Copy, PartialEq, Eq, Hash)]
+#[derive(Clone, Copy, PartialEq, Eq)]
 pub struct NodeId {
     short: u32,
 }
@@ -193,7 +193,7 @@ impl Index for NodeId {
 }
 
 /// A place among the arcs of a digraph.
-#[derive(Clone, Copy, PartialEq, Eq, Hash)]
+#[derive(Clone, Copy, PartialEq, Eq)]
 pub struct ArcId {
     short: u32,
 }
@@ -230,7 +230,7 @@ impl Index for ArcId {
 }
 
 /// A place among walks.
-#[derive(Clone, Copy, PartialEq, Eq, Hash)]
+#[derive(Clone, Copy, PartialEq, Eq)]
 pub struct WalkId {
     short: u32,
 }

@@ -1,5 +1,4 @@
 //! Random keys of hash tables.
-ghost use Rattle.std.specs.Prelude.{◌≡◌};
 
 use std::hash::{BuildHasher, FoldHasher, Hasher};
 use std::random::RandomSource;

@@ -1,6 +1,6 @@
 //! Rows of items that lie one behind the other.
-ghost use Rattle.std.specs.Prelude.{◌≡◌, ◌+◌, ◌-◌, ◌<◌, ◌≤◌, ◌↔◌, ◌++◌, ◌∷◌, [], length, take, drop, slice_get, slice_index, OnOk, OnErr};
-ghost use Rattle.std.specs.Prelude.{IfOk, IfErr, IfSome, sum_by, vec_len, vec_capacity};
+ghost use Rattle.std.specs.Prelude.{◌≡◌, ◌+◌, ◌-◌, ◌<◌, ◌≤◌, ◌↔◌, ◌++◌, ◌∷◌, [], length, take, drop, slice_get, OnOk, OnErr};
+ghost use Rattle.std.specs.Prelude.{IfOk, IfSome, sum_by, vec_len, vec_capacity};
 ghost use Rattle.tor_arena.specs.RowLists.{with_end, rows_between, ArePartedBy};
 
 use crate::growth::reserve;
@@ -10,7 +10,7 @@ use std::alloc::Global;
 use std::marker::{Model, PhantomData};
 
 /// Why a row was not added.
-#[derive(Clone, Copy, Debug, PartialEq, Eq)]
+#[derive(Clone, Copy)]
 pub enum RowRefused {
     /// There are LIMIT rows already.
     Full,
@@ -73,8 +73,10 @@ impl<I: Index, T: Copy> Rows<I, T> {
         ensures { self.new ≡ self.old }
     {
         // two bounds more: the start of the first row, and the one further that `push_row` makes sure of
-        reserve(&mut self.bounds, rows.saturating_add(2))?;
-        reserve(&mut self.items, items)
+        match reserve(&mut self.bounds, rows.saturating_add(2)) {
+            Ok(()) => reserve(&mut self.items, items),
+            Err(NoMemory) => Err(NoMemory),
+        }
     }
 
     /// How many rows there are, at most LIMIT. It takes no memory.
@@ -122,9 +124,12 @@ impl<I: Index, T: Copy> Rows<I, T> {
         let Some(end) = end_behind(self.items.len(), row.len()) else {
             return Err(RowRefused::NoMemory);
         };
-        if reserve(&mut self.bounds, 2).is_err() || reserve(&mut self.items, row.len()).is_err() {
+        let Ok(()) = reserve(&mut self.bounds, 2) else {
             return Err(RowRefused::NoMemory);
-        }
+        };
+        let Ok(()) = reserve(&mut self.items, row.len()) else {
+            return Err(RowRefused::NoMemory);
+        };
         put_items(&mut self.items, row);
         put_end(&mut self.bounds, end);
         Ok(id)

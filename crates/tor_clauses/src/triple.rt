@@ -4,7 +4,7 @@ use tor_arena::PathId;
 
 /// Three consecutive ASes x, y, z of a path: the first literal, "x over y", implies the second, "y over z", and the negation of
 /// the second implies the negation of the first.
-#[derive(Clone, Copy, PartialEq, Eq)]
+#[derive(Clone, Copy)]
 pub struct Triple {
     /// The path on which they stand.
     pub path: PathId,

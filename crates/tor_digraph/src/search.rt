@@ -1,5 +1,5 @@
 //! One step of a search in depth.
-ghost use Rattle.std.specs.Prelude.{◌≡◌, ◌⊎◌, ◌<◌, ◌≤◌, ◌++◌, ◌∷◌, [], List, Some, slice_get, length, OnOk};
+ghost use Rattle.std.specs.Prelude.{◌≡◌, ◌<◌, ◌≤◌, ◌++◌, ◌∷◌, [], List, Some, slice_get, length, OnOk};
 ghost use Rattle.tor_digraph.specs.Search.{IsSearch, IsGrowth, IsLater, IsLess, GrowsOn};
 ghost use Rattle.tor_digraph.specs.Found.{IsFound, HasRootsOf};
 

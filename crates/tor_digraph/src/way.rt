@@ -1,5 +1,5 @@
 //! Ways: walks of arcs.
-ghost use Rattle.std.specs.Prelude.{◌≡◌, ◌+◌, ◌<◌, ◌↔◌, List, Some, slice_get, length, IfOk, IfSome, IsNone, OnOk};
+ghost use Rattle.std.specs.Prelude.{◌<◌, List, Some, IfOk, OnOk};
 ghost use Rattle.tor_digraph.specs.Found.{IsFound, IsRoot, IsFalling, HasTreeArcs, LeadsFromRoot};
 ghost use Rattle.tor_digraph.specs.Walks.{IsWay};
 ghost use Rattle.tor_digraph.specs.Back.{IsBack};

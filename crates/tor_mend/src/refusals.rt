@@ -1,5 +1,5 @@
 //! Triples that were refused alone.
-ghost use Rattle.std.specs.Prelude.{◌≡◌, ◌⊎◌, ℕ, ◌+◌, ◌<◌, ◌↔◌, ◌++◌, ◌∷◌, [], All, length, map, slice_get, Some, IsTrue, IfOk, IfSome};
+ghost use Rattle.std.specs.Prelude.{◌≡◌, ◌⊎◌, ◌+◌, ◌<◌, ◌↔◌, [], All, length, map, slice_get, Some, IsTrue, IfOk, IfSome};
 ghost use Rattle.std.specs.Prelude.{OnOk};
 ghost use Rattle.relationships.specs.declared.fate.Fate.{Fate as Becoming};
 ghost use Rattle.relationships.specs.declared.walk.Walk.{Walk as Evidence};

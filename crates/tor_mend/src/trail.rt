@@ -2,7 +2,7 @@
 ghost use Rattle.std.specs.Prelude.{◌≡◌, ℕ, ◌+◌, ◌*◌, ◌<◌, ◌≤◌, ◌↔◌, ◌∷◌, [], length, slice_get, Some, IsTrue, OnOk, IfOk, IfSome, IfNone};
 ghost use Rattle.tor_arena.specs.Limits.{most_places};
 ghost use Rattle.tor_digraph.specs.Walks.{IsArc};
-ghost use Rattle.tor_clauses.specs.Literals.{lit_of, opposite_node, Holds};
+ghost use Rattle.tor_clauses.specs.Literals.{lit_of, Holds};
 ghost use Rattle.tor_mend.specs.Trails.{StandsAt, IsMarked, IsTrail, StaysVisited, VisitsNode, ArePassed, AreAllPassed, IsStop};
 ghost use Rattle.tor_mend.specs.Trails.{IsStopAt, LooksAlong};
 

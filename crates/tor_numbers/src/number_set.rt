@@ -1,6 +1,6 @@
 //! Distinct numbers that are cut back to the first ones.
 ghost use Rattle.std.specs.Prelude.{◌≡◌, ◌<◌, ◌≤◌, ◌*◌, ◌/◌, ◌↔◌};
-ghost use Rattle.std.specs.Prelude.{◌++◌, ◌∷◌, ℕ, List, [], length, take, Contains, IsTrue, IfOk, OnOk, OnErr};
+ghost use Rattle.std.specs.Prelude.{ℕ, List, [], length, take, Contains, IsTrue, IfOk, OnOk, OnErr};
 ghost use Rattle.tor_numbers.specs.Slots.{IsSearchEnd, IsHeld, IsHolding, IsInserted, Leaves, IsApart};
 ghost use Rattle.tor_arena.specs.Growth.{IsDoubled};
 

@@ -3,7 +3,7 @@ ghost use Rattle.std.specs.Prelude.{◌≡◌, ◌≢◌, ◌↔◌, ◌+◌, �
 ghost use Rattle.std.specs.Prelude.{MatchOption};
 ghost use Rattle.tor_numbers.specs.Slots.{IsSearchEnd, IsHeld, IsApart};
 ghost use Rattle.tor_arena.specs.Growth.{IsDoubled};
-ghost use Rattle.tor_numbers.specs.Places.{places, named, names, tag_for, IsTagged, IsPlaced, AreWithin, GoesLastIfNew};
+ghost use Rattle.tor_numbers.specs.Places.{places, named, names, IsTagged, IsPlaced, AreWithin, GoesLastIfNew};
 
 use crate::slot_search::{SearchEnd, next, start_of, tag_of};
 use std::alloc::Global;

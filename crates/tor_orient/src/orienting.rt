@@ -1,5 +1,5 @@
 //! The preferred orientation.
-ghost use Rattle.std.specs.Prelude.{◌≡◌, ◌<◌, ◌↔◌, ◌+◌, ◌*◌, ℕ, All, Contains, length, map, IfOk};
+ghost use Rattle.std.specs.Prelude.{◌≡◌, ◌<◌, ◌↔◌, ◌+◌, ◌*◌, All, Contains, length, map, IfOk};
 ghost use Rattle.relationships.specs.declared.label.End.{End};
 ghost use Rattle.relationships.specs.Graph.{Edge, edges, orientation};
 ghost use Rattle.relationships.specs.Selection.{IsServable};

@@ -37,8 +37,8 @@ use Rattle.path_table.specs.Rows.{row_paths}
 use Rattle.rel_infer.specs.SelfAcceptance.{AreTableRows}
 use Rattle.tor_words.specs.declared.settings.Mode.{Mode}
 use Rattle.tor_words.specs.declared.settings.Mode.TheVariants.{Migrate, Resume}
-use Rattle.resume.specs.declared.table.Rest.{Rest}
-use Rattle.resume.specs.Earlier.{BeginsWithPathsOf, IsRestOf}
+use Rattle.rel_infer.specs.declared.earlier_table.Rest.{Rest}
+use Rattle.rel_infer.specs.Earlier.{BeginsWithPathsOf, IsRestOf}
 use Rattle.relationships.specs.declared.given.Given.{Given}
 use Rattle.rel_infer.specs.GivenResults.{IsResultWith}
 use Rattle.rel_infer.specs.Resumed.{Continues}

@@ -10,7 +10,7 @@ use Rattle.dump_read.specs.Seen.{DumpsEnd, Absent, Malformed, Limit}
 use Rattle.rel_infer.specs.SelfAcceptance.{AreTableRows}
 use Rattle.result_text.specs.declared.file.ResultFile.{ResultFile}
 use Rattle.result_text.specs.Grammar.{IsTextOf, IsBadLine}
-use Rattle.result_reading.specs.FileText.{IsRead, AreOf}
+use Rattle.torcheck_run.specs.FileText.{IsRead, AreOf}
 use Rattle.result_rules.specs.declared.verdict.Verdict.TheVariants.{No}
 use Rattle.tor_words.specs.declared.settings.Mode.TheVariants.{Summary, Migrate, Resume}
 use Rattle.tor_words.specs.declared.settings.Settings.{Settings}

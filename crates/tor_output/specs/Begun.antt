@@ -2,8 +2,8 @@
 use Rattle.std.specs.Prelude.{◌≡◌, ◌≤◌, length}
 use Rattle.dump_read.specs.declared.taking.Taken.{Taken}
 use Rattle.result_text.specs.declared.file.ResultFile.{ResultFile}
-use Rattle.resume.specs.declared.table.Rest.{Rest}
-use Rattle.resume.specs.Earlier.{IsRestOf}
+use Rattle.rel_infer.specs.declared.earlier_table.Rest.{Rest}
+use Rattle.rel_infer.specs.Earlier.{IsRestOf}
 use Rattle.tor_words.specs.declared.settings.Settings.{Settings}
 use Rattle.tor_output.specs.Seen.{taken_up}
 

@@ -4,7 +4,7 @@ ghost use Rattle.std.specs.Io.KnownBytes.{IsAtEnd};
 ghost use Rattle.relationships.specs.Givens.{NameTwo, NameOnce};
 ghost use Rattle.as_rel.specs.Serial.{IsReadingError};
 ghost use Rattle.run_base.specs.Frames.{ReadsShelf};
-ghost use Rattle.tor_output.specs.First.{Givens, Result as ResultAt, Earlier, AreGivens, AreSomeGivens, SaysGivens, HoldsResult, IsSomeResult};
+ghost use Rattle.tor_output.specs.First.{Givens, Result as ResultAt, Earlier, AreSomeGivens, SaysGivens, HoldsResult, IsSomeResult};
 ghost use Rattle.tor_output.specs.First.{TakesUpSome};
 ghost use Rattle.rel_infer.specs.GivenInference.{max_givens};
 ghost use Rattle.tor_output.specs.Reach.{IsFirstInReach};
@@ -13,14 +13,13 @@ ghost use Rattle.tor_output.specs.Refusals.{AreGivensIn, TakesUpIn, IsUnwrittenA
 use crate::unwritten::Unwritten;
 use as_rel::{RelError, parse_given};
 use relationships::Given;
-use result_reading::{NoResult, read_result};
 use result_text::ResultFile;
 use run_base::{FirstFile, Refusal, read_whole};
 use std::alloc::Global;
 use tor_arena::{Keys, List};
 use tor_io::Shelf;
 use tor_words::Name;
-use torcheck_run::{MAX_RESULT, Ruling, ruling_of_file};
+use torcheck_run::{MAX_RESULT, NoResult, Ruling, read_result, ruling_of_file};
 
 /// The most octets of a file of known relationships.
 const MAX_GIVEN: usize = 1 << 28;

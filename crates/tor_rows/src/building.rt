@@ -1,15 +1,16 @@
 //! What builds files.
 use crate::files::Files;
-use crate::records::{put_many_routes, put_octets, put_peers, put_routes, put_v1};
+use crate::octets::Octets;
+use crate::records::{put_many_routes, put_peers, put_routes, put_v1};
 use crate::refused::Refused;
-use crate::texts::{Edit, edited, put_line};
+use crate::texts::{Edit, edited};
 use std::alloc::Global;
 
 /// The file that is being built, and those that are.
 #[derive(Drop)]
 pub struct Building {
     files: Files,
-    octets: Vec<u8>,
+    octets: Octets,
     has_peers: bool,
 }
 
@@ -18,7 +19,7 @@ impl Building {
     pub fn new(alloc: Global) -> Building {
         Building {
             files: Files::new(alloc),
-            octets: Vec::new(alloc),
+            octets: Octets::new(alloc),
             has_peers: false,
         }
     }
@@ -40,48 +41,40 @@ impl Building {
     }
 
     fn begin_file(&mut self, alloc: Global) {
-        self.octets = Vec::new(alloc);
+        self.octets = Octets::new(alloc);
         self.has_peers = false;
     }
 
-    fn add_peers(&mut self) -> Result<(), Refused> {
+    fn add_peers(&mut self) {
         if !self.has_peers {
             self.has_peers = true;
-            put_peers(&mut self.octets)?;
+            put_peers(&mut self.octets);
         }
-        Ok(())
     }
 
-    fn add_text(&mut self, text: &str) -> Result<(), Refused> {
-        Ok(self.octets.extend_from_slice(text.as_bytes())?)
-    }
-
-    fn add_like(&mut self, name: &str) -> Result<(), Refused> {
+    fn add_like(&mut self, name: &str) {
         match self.files.find(name) {
-            Some(octets) => Ok(self.octets.extend_from_slice(octets)?),
-            None => Err(Refused::NotUnderstood),
+            Some(octets) => self.octets.put(octets),
+            None => self.octets.refuse(Refused::NotUnderstood),
         }
     }
 
-    fn edit(&mut self, alloc: Global, edit: Edit, words: &str) -> Result<(), Refused> {
-        self.octets = edited(alloc, &self.octets, edit, words)?;
-        Ok(())
+    fn edit(&mut self, alloc: Global, edit: Edit, words: &str) {
+        self.octets = edited(alloc, &self.octets, edit, words);
     }
 
     fn put_built(&mut self, alloc: Global, name: &str) -> Result<(), Refused> {
-        self.files.put(alloc, name, &self.octets)?;
+        self.files.put(alloc, name, self.octets.all())?;
         self.begin_file(alloc);
         Ok(())
     }
 
-    fn add_routes(&mut self, alloc: Global, paths: &str) -> Result<(), Refused> {
-        self.add_peers()?;
-        put_routes(alloc, &mut self.octets, paths)
-    }
-
-    fn add_many_routes(&mut self, alloc: Global, count: &str) -> Result<(), Refused> {
-        self.add_peers()?;
-        put_many_routes(alloc, &mut self.octets, count)
+    fn add_routes(&mut self, alloc: Global, kind: &str, text: &str) {
+        self.add_peers();
+        match kind {
+            "route" => put_routes(alloc, &mut self.octets, text),
+            _ => put_many_routes(alloc, &mut self.octets, text),
+        }
     }
 
     /// Puts what was built, for all rows to come.
@@ -91,23 +84,32 @@ impl Building {
         Ok(())
     }
 
-    /// Takes a line of that kind, if it is one.
-    pub fn take(&mut self, alloc: Global, kind: &str, text: &str) -> Option<Result<(), Refused>> {
-        let taken = match kind {
-            "octets" => put_octets(&mut self.octets, text),
-            "text" => put_line(&mut self.octets, text),
-            "text-part" => self.add_text(text),
+    // Puts what a line of that kind says, if it is one, behind what is built.
+    fn build(&mut self, alloc: Global, kind: &str, text: &str) -> bool {
+        match kind {
+            "octets" => self.octets.put_listed(text),
+            "text" => self.octets.put_line(text),
+            "text-part" => self.octets.put(text.as_bytes()),
             "peers" => self.add_peers(),
-            "route" => self.add_routes(alloc, text),
-            "routes" => self.add_many_routes(alloc, text),
+            "route" | "routes" => self.add_routes(alloc, kind, text),
             "v1" => put_v1(alloc, &mut self.octets, text),
             "like" => self.add_like(text),
             "instead" => self.edit(alloc, Edit::Instead, text),
             "insert" => self.edit(alloc, Edit::Insert, text),
             "remove" => self.edit(alloc, Edit::Remove, text),
-            "file" => self.put_built(alloc, text),
-            _ => return None,
-        };
-        Some(taken)
+            _ => return false,
+        }
+        true
+    }
+
+    /// Takes a line of that kind, if it is one.
+    pub fn take(&mut self, alloc: Global, kind: &str, text: &str) -> Option<Result<(), Refused>> {
+        if kind == "file" {
+            return Some(self.put_built(alloc, text));
+        }
+        if self.build(alloc, kind, text) {
+            return Some(self.octets.outcome());
+        }
+        None
     }
 }

@@ -58,6 +58,7 @@ mod building;
 mod conditions;
 mod endless;
 mod files;
+mod octets;
 mod records;
 mod refused;
 mod row;
@@ -69,17 +70,28 @@ use row::Row;
 use std::io;
 use tor_arena::Keys;
 
+// Ends the row, and prints what is to be said of it.
+fn end(rt: &HostRuntime, row: &mut Row) -> io::Result<()> {
+    let text = row.end(rt.alloc(), Keys::new(rt));
+    rt.stdout().write_all(text.as_bytes())
+}
+
+fn take(rt: &HostRuntime, row: &mut Row, line: &str) -> io::Result<()> {
+    if line.is_empty() {
+        return end(rt, row);
+    }
+    row.take(rt.alloc(), Keys::new(rt), line);
+    Ok(())
+}
+
+fn take_all(rt: &HostRuntime, row: &mut Row) -> io::Result<()> {
+    for line in rt.lines(rt.alloc()) {
+        take(rt, row, line?.as_str())?;
+    }
+    end(rt, row)
+}
+
 fn main(rt: HostRuntime) -> io::Result<()> {
     let mut row = Row::new(rt.alloc());
-    for line in rt.lines(rt.alloc()) {
-        let line = line?;
-        if line.is_empty() {
-            let text = row.end(rt.alloc(), Keys::new(&rt));
-            rt.stdout().write_all(text.as_bytes())?;
-        } else {
-            row.take(rt.alloc(), Keys::new(&rt), line.as_str());
-        }
-    }
-    let text = row.end(rt.alloc(), Keys::new(&rt));
-    rt.stdout().write_all(text.as_bytes())
+    take_all(&rt, &mut row)
 }

@@ -1,4 +1,5 @@
 //! The octets of records, as `docs/FORMATS.md` has them.
+use crate::octets::Octets;
 use crate::refused::{Refused, number_of};
 use std::alloc::Global;
 
@@ -26,7 +27,7 @@ static RIB_PREFIX: [u8; 8] = [0, 0, 0, 0, 24, 10, 0, 1];
 
 const RIB_OCTETS: usize = 10;
 
-// The peer index and the originated time of an entry, and ORIGIN.
+// The peer index and the originated time of an entry; and ORIGIN.
 static ENTRY: [u8; 6] = [0, 0, 0, 0, 0, 0];
 
 static ORIGIN: [u8; 4] = [64, 1, 1, 0];
@@ -40,173 +41,142 @@ static TABLE_DUMP_BODY: [u8; 20] = [
 
 const TABLE_DUMP_OCTETS: usize = 22;
 
-fn put_two(octets: &mut Vec<u8>, number: usize) -> Result<(), Refused> {
-    match u16::try_from(number) {
-        Ok(number) => Ok(octets.extend_from_slice(&number.to_be_bytes())?),
-        Err(_) => Err(Refused::NotUnderstood),
-    }
-}
+// The flags and the code of AS_PATH and of AS4_PATH.
+static AS_PATH: [u8; 2] = [64, 2];
 
-fn put_four(octets: &mut Vec<u8>, number: usize) -> Result<(), Refused> {
-    match u32::try_from(number) {
-        Ok(number) => Ok(octets.extend_from_slice(&number.to_be_bytes())?),
-        Err(_) => Err(Refused::NotUnderstood),
-    }
-}
+static AS4_PATH: [u8; 2] = [192, 17];
 
-fn put_as(octets: &mut Vec<u8>, width: Width, number: &str) -> Result<(), Refused> {
-    let number = number_of(number)? as usize;
-    match width {
-        Width::Two => put_two(octets, number),
-        Width::Four => put_four(octets, number),
+fn put_as(octets: &mut Octets, width: Width, number: &str) {
+    match (number_of(number), width) {
+        (Ok(number), Width::Two) => octets.put_two(number as usize),
+        (Ok(number), Width::Four) => octets.put_four(number as usize),
+        (Err(refused), _) => octets.refuse(refused),
     }
 }
 
 // A segment of these numbers, if there are any.
-fn put_segment(octets: &mut Vec<u8>, width: Width, kind: u8, numbers: &str) -> Result<(), Refused> {
+fn put_segment(octets: &mut Octets, width: Width, kind: u8, numbers: &str) {
     let mut count = 0u8;
     for _ in numbers.split_whitespace() {
         count = count.saturating_add(1);
     }
     if count > 0 {
-        octets.extend_from_slice(&[kind, count])?;
+        octets.put(&[kind, count]);
     }
     for number in numbers.split_whitespace() {
-        put_as(octets, width, number)?;
+        put_as(octets, width, number);
     }
-    Ok(())
 }
 
 // The segments of a path: sequences, and sets in braces.
-fn put_path(octets: &mut Vec<u8>, width: Width, path: &str) -> Result<(), Refused> {
+fn put_path(octets: &mut Octets, width: Width, path: &str) {
     for part in path.split('{') {
-        match part.split_once('}') {
-            Some((set, behind)) => {
-                put_segment(octets, width, AS_SET, set)?;
-                put_segment(octets, width, AS_SEQUENCE, behind)?;
-            }
-            None => put_segment(octets, width, AS_SEQUENCE, part)?,
-        }
+        let (set, sequence) = part.split_once('}').unwrap_or(("", part));
+        put_segment(octets, width, AS_SET, set);
+        put_segment(octets, width, AS_SEQUENCE, sequence);
     }
-    Ok(())
 }
 
-// An attribute whose length has one octet.
-fn put_attribute(octets: &mut Vec<u8>, flags: u8, code: u8, value: &[u8]) -> Result<(), Refused> {
-    let Ok(length) = u8::try_from(value.len()) else {
-        return Err(Refused::NotUnderstood);
-    };
-    octets.extend_from_slice(&[flags, code, length])?;
-    octets.extend_from_slice(value)?;
-    Ok(())
-}
-
-fn put_as_path(
+// An attribute of this path, whose length has one octet.
+fn put_path_attribute(
     alloc: Global,
-    octets: &mut Vec<u8>,
+    octets: &mut Octets,
+    flags_and_code: &[u8],
     width: Width,
     path: &str,
-) -> Result<(), Refused> {
-    let mut value = Vec::new(alloc);
-    put_path(&mut value, width, path)?;
-    put_attribute(octets, 64, 2, &value)
-}
-
-fn put_as4_path(alloc: Global, octets: &mut Vec<u8>, path: &str) -> Result<(), Refused> {
-    let mut value = Vec::new(alloc);
-    put_path(&mut value, Width::Four, path)?;
-    put_attribute(octets, 192, 17, &value)
-}
-
-/// Puts the octets that the text lists.
-pub fn put_octets(file: &mut Vec<u8>, text: &str) -> Result<(), Refused> {
-    for word in text.split_whitespace() {
-        match word.parse::<u8>() {
-            Ok(octet) => file.push(octet)?,
-            Err(_) => return Err(Refused::NotUnderstood),
+) {
+    let mut value = Octets::new(alloc);
+    put_path(&mut value, width, path);
+    match u8::try_from(value.all().len()) {
+        Ok(length) => {
+            octets.put(flags_and_code);
+            octets.put(&[length]);
         }
+        Err(_) => octets.refuse(Refused::NotUnderstood),
     }
-    Ok(())
+    octets.put_all_of(&value);
 }
 
 /// Puts the table of one peer.
-pub fn put_peers(file: &mut Vec<u8>) -> Result<(), Refused> {
-    Ok(file.extend_from_slice(&PEERS)?)
+pub fn put_peers(file: &mut Octets) {
+    file.put(&PEERS);
 }
 
-fn put_entry(alloc: Global, entries: &mut Vec<u8>, path: &str) -> Result<(), Refused> {
-    let mut attributes = Vec::new(alloc);
-    attributes.extend_from_slice(&ORIGIN)?;
-    put_as_path(alloc, &mut attributes, Width::Four, path)?;
-    entries.extend_from_slice(&ENTRY)?;
-    put_two(entries, attributes.len())?;
-    entries.extend_from_slice(&attributes)?;
-    Ok(())
+fn put_entry(alloc: Global, entries: &mut Octets, path: &str) {
+    let mut attributes = Octets::new(alloc);
+    attributes.put(&ORIGIN);
+    put_path_attribute(alloc, &mut attributes, &AS_PATH, Width::Four, path);
+    entries.put(&ENTRY);
+    entries.put_two(attributes.all().len());
+    entries.put_all_of(&attributes);
 }
 
-fn put_rib(file: &mut Vec<u8>, count: usize, entries: &[u8]) -> Result<(), Refused> {
-    file.extend_from_slice(&RIB)?;
-    put_four(file, entries.len().saturating_add(RIB_OCTETS))?;
-    file.extend_from_slice(&RIB_PREFIX)?;
-    put_two(file, count)?;
-    file.extend_from_slice(entries)?;
-    Ok(())
+fn put_rib(file: &mut Octets, count: usize, entries: &Octets) {
+    file.put(&RIB);
+    file.put_four(entries.all().len().saturating_add(RIB_OCTETS));
+    file.put(&RIB_PREFIX);
+    file.put_two(count);
+    file.put_all_of(entries);
 }
 
 /// Puts a RIB record with an entry for each of the paths, which commas separate.
-pub fn put_routes(alloc: Global, file: &mut Vec<u8>, paths: &str) -> Result<(), Refused> {
-    let mut entries = Vec::new(alloc);
+pub fn put_routes(alloc: Global, file: &mut Octets, paths: &str) {
+    let mut entries = Octets::new(alloc);
     let mut count = 0usize;
     for path in paths.split(',') {
-        put_entry(alloc, &mut entries, path)?;
+        put_entry(alloc, &mut entries, path);
         count = count.saturating_add(1);
     }
-    put_rib(file, count, &entries)
+    put_rib(file, count, &entries);
 }
 
-fn put_numbered_entry(alloc: Global, entries: &mut Vec<u8>, number: u64) -> Result<(), Refused> {
-    let number = number.saturating_add(100_000);
-    let path = format!(in alloc; "10 {number}")?;
-    put_entry(alloc, entries, path.as_str())
+fn put_numbered_entry(alloc: Global, entries: &mut Octets, number: u64) {
+    match format!(in alloc; "10 {number}") {
+        Ok(path) => put_entry(alloc, entries, path.as_str()),
+        Err(_) => entries.refuse(Refused::NoMemory),
+    }
+}
+
+fn put_numbered_routes(alloc: Global, file: &mut Octets, count: u64) {
+    let mut entries = Octets::new(alloc);
+    for place in 0..count {
+        put_numbered_entry(alloc, &mut entries, place.saturating_add(100_001));
+    }
+    put_rib(file, count as usize, &entries);
 }
 
 /// Puts a RIB record with so many entries, whose paths are 10 100001, 10 100002 and so on.
-pub fn put_many_routes(alloc: Global, file: &mut Vec<u8>, count: &str) -> Result<(), Refused> {
-    let count = number_of(count)?;
-    let mut entries = Vec::new(alloc);
-    for place in 0..count {
-        put_numbered_entry(alloc, &mut entries, place.saturating_add(1))?;
+pub fn put_many_routes(alloc: Global, file: &mut Octets, count: &str) {
+    match number_of(count) {
+        Ok(count) => put_numbered_routes(alloc, file, count),
+        Err(refused) => file.refuse(refused),
     }
-    put_rib(file, count as usize, &entries)
 }
 
-fn put_table_dump(file: &mut Vec<u8>, attributes: &[u8]) -> Result<(), Refused> {
-    file.extend_from_slice(&TABLE_DUMP)?;
-    put_four(file, attributes.len().saturating_add(TABLE_DUMP_OCTETS))?;
-    file.extend_from_slice(&TABLE_DUMP_BODY)?;
-    put_two(file, attributes.len())?;
-    file.extend_from_slice(attributes)?;
-    Ok(())
+fn put_table_dump(file: &mut Octets, attributes: &Octets) {
+    file.put(&TABLE_DUMP);
+    file.put_four(attributes.all().len().saturating_add(TABLE_DUMP_OCTETS));
+    file.put(&TABLE_DUMP_BODY);
+    file.put_two(attributes.all().len());
+    file.put_all_of(attributes);
 }
 
-fn put_v1_paths(alloc: Global, attributes: &mut Vec<u8>, text: &str) -> Result<(), Refused> {
-    match text.split_once("as4") {
-        Some((path, path4)) => {
-            put_as_path(alloc, attributes, Width::Two, path)?;
-            put_as4_path(alloc, attributes, path4)
-        }
-        None => put_as_path(alloc, attributes, Width::Two, text),
+fn put_v1_paths(alloc: Global, attributes: &mut Octets, text: &str) {
+    let (path, path4) = text.split_once("as4").unwrap_or((text, ""));
+    put_path_attribute(alloc, attributes, &AS_PATH, Width::Two, path);
+    if path.len() < text.len() {
+        put_path_attribute(alloc, attributes, &AS4_PATH, Width::Four, path4);
     }
 }
 
 /// Puts a TABLE_DUMP record: `route` and its AS_PATH, maybe with `as4` and an AS4_PATH behind it, or `attributes` and their octets.
-pub fn put_v1(alloc: Global, file: &mut Vec<u8>, text: &str) -> Result<(), Refused> {
+pub fn put_v1(alloc: Global, file: &mut Octets, text: &str) {
     let (kind, text) = text.split_once(' ').unwrap_or((text, ""));
-    let mut attributes = Vec::new(alloc);
+    let mut attributes = Octets::new(alloc);
     match kind {
-        "route" => put_v1_paths(alloc, &mut attributes, text)?,
-        "attributes" => put_octets(&mut attributes, text)?,
-        _ => return Err(Refused::NotUnderstood),
+        "route" => put_v1_paths(alloc, &mut attributes, text),
+        "attributes" => attributes.put_listed(text),
+        _ => attributes.refuse(Refused::NotUnderstood),
     }
-    put_table_dump(file, &attributes)
+    put_table_dump(file, &attributes);
 }

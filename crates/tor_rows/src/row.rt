@@ -1,8 +1,9 @@
 //! A row: what it has built, what befalls its runs, and what is expected of the run under way.
 use crate::building::Building;
 use crate::conditions::Conditions;
+use crate::octets::Octets;
 use crate::refused::Refused;
-use crate::runs::{Asked, Program, Told, run};
+use crate::runs::{Asked, Told, run};
 use crate::wanted::{Outcome, Turns, Wanted};
 use std::alloc::{AllocError, Global};
 use tor_arena::Keys;
@@ -20,7 +21,7 @@ pub struct Row {
     run: String,
     wanted: Wanted,
     // what the last run wrote to out
-    written: Vec<u8>,
+    written: Octets,
     has_run: bool,
     differs: bool,
     // what differs
@@ -36,7 +37,7 @@ impl Row {
             conditions: Conditions::new(),
             run: String::new(alloc),
             wanted: Wanted::new(alloc),
-            written: Vec::new(alloc),
+            written: Octets::new(alloc),
             has_run: false,
             differs: false,
             report: String::new(alloc),
@@ -47,10 +48,7 @@ impl Row {
     fn tell(&self, alloc: Global, keys: Keys, conditions: Conditions) -> Result<Told, Refused> {
         let line = self.run.as_str();
         let (program, words) = line.split_once(' ').unwrap_or((line, ""));
-        let asked = Asked {
-            program: Program::of_name(program),
-            words,
-        };
+        let asked = Asked { program, words };
         Ok(run(alloc, keys, self.building.files(), conditions, asked)?)
     }
 
@@ -65,7 +63,7 @@ impl Row {
     fn judge(&mut self, is_met: bool, told: &Told) {
         if !is_met {
             self.differs = true;
-            let _ = self.write_report(told.status, &told.out, &told.err);
+            let _ = self.write_report(told.status, told.out.held(), told.err.held());
         }
     }
 
@@ -77,11 +75,12 @@ impl Row {
             conditions.failing_read = calls.saturating_add(1);
         }
         let told = self.tell(alloc, keys, conditions)?;
-        let is_met = self.wanted.is_met(alloc, &told)?;
+        let is_met = self.wanted.is_met(alloc, &told);
         let are_calls_met = calls.is_none() || told.fails_next;
         self.judge(is_met && are_calls_met, &told);
-        self.written = told.out;
-        Ok(())
+        self.written = Octets::new(alloc);
+        self.written.put(told.out.held());
+        self.written.outcome()
     }
 
     // The run where a call behind its last one would fail.
@@ -91,7 +90,7 @@ impl Row {
             ..self.conditions
         };
         let told = self.tell(alloc, keys, conditions)?;
-        let is_met = self.wanted.is_met(alloc, &told)?;
+        let is_met = self.wanted.is_met(alloc, &told);
         self.judge(is_met, &told);
         Ok(())
     }
@@ -124,7 +123,7 @@ impl Row {
         taken: usize,
     ) -> Result<(), Refused> {
         let told = self.tell(alloc, keys, conditions)?;
-        let is_met = outcome.is_met(&told, self.written.get(..taken).unwrap_or(&[]));
+        let is_met = outcome.is_met(&told, self.written.all().get(..taken).unwrap_or(&[]));
         self.judge(is_met, &told);
         Ok(())
     }
@@ -164,7 +163,7 @@ impl Row {
         };
         let outcome = Outcome::of_text(text)?;
         self.run_plainly(alloc, keys)?;
-        let whole = self.written.len();
+        let whole = self.written.all().len();
         let each = (self.conditions.write_octets as usize).max(1);
         for writes in 0..whole {
             let taken = each.saturating_mul(writes);
@@ -243,7 +242,7 @@ impl Row {
             "row" => self.begin(alloc, text),
             "tor" | "torcheck" | "torgrade" | "torwhy" | "torview" => self.begin_run(alloc, line),
             "common" => self.put_common(alloc, text),
-            "keep" => self.building.put(alloc, text, &self.written),
+            "keep" => self.building.put(alloc, text, self.written.all()),
             _ => Err(Refused::NotUnderstood),
         }
     }
@@ -302,7 +301,7 @@ impl Row {
         self.report = String::new(alloc);
         self.conditions = Conditions::new();
         self.wanted = Wanted::new(alloc);
-        self.written = Vec::new(alloc);
+        self.written = Octets::new(alloc);
         self.has_run = false;
         self.differs = false;
     }

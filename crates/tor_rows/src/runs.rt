@@ -13,43 +13,11 @@ use torgrade_run::grade;
 use torview_run::view;
 use torwhy_run::why;
 
-/// What is run.
-#[derive(Clone, Copy)]
-pub enum Program {
-    /// `infer`.
-    Infer,
-    /// `check`.
-    Check,
-    /// `grade`.
-    Grade,
-    /// `why`.
-    Why,
-    /// `view`.
-    View,
-}
-
-impl Program {
-    /// The one of that name.
-    pub fn of_name(name: &str) -> Program {
-        if name == "torcheck" {
-            Program::Check
-        } else if name == "torgrade" {
-            Program::Grade
-        } else if name == "torwhy" {
-            Program::Why
-        } else if name == "torview" {
-            Program::View
-        } else {
-            Program::Infer
-        }
-    }
-}
-
 /// What is run, and with which words.
 #[derive(Clone, Copy)]
 pub struct Asked<'a> {
-    /// What is run.
-    pub program: Program,
+    /// The name of what is run.
+    pub program: &'a str,
     /// The words, with spaces between them.
     pub words: &'a str,
 }
@@ -59,10 +27,10 @@ pub struct Asked<'a> {
 pub struct Told {
     /// The exit status.
     pub status: u8,
-    /// What went to out.
-    pub out: Vec<u8>,
-    /// What went to err.
-    pub err: Vec<u8>,
+    /// Out, and what went there.
+    pub out: MemSink,
+    /// Err, and what went there.
+    pub err: MemSink,
     /// Whether the call on files that fails is the next one behind the run.
     pub fails_next: bool,
 }
@@ -147,32 +115,24 @@ fn view_over<H: Shelf>(
     view(alloc, keys, words, shelf, out, err)
 }
 
-fn told_of(alloc: Global, status: Status, out: &[u8], err: &[u8]) -> Result<Told, NoMemory> {
-    Ok(Told {
-        status: status.code(),
-        out: Vec::from_slice(alloc, out)?,
-        err: Vec::from_slice(alloc, err)?,
-        fails_next: false,
-    })
-}
-
-fn run_into<H: Shelf>(
+fn status_of<H: Shelf>(
     alloc: Global,
     keys: Keys,
     asked: Asked<'_>,
     shelf: &mut H,
     out: &mut MemSink,
     err: &mut MemSink,
-) -> Result<Told, NoMemory> {
-    let words = words_of(alloc, asked.words)?;
-    let status = match asked.program {
-        Program::Infer => infer_over(alloc, keys, &words, shelf, out, err),
-        Program::Check => check_over(alloc, keys, &words, shelf, out, err),
-        Program::Grade => grade_over(alloc, keys, &words, shelf, out, err),
-        Program::Why => why_over(alloc, keys, &words, shelf, out, err),
-        Program::View => view_over(alloc, keys, &words, shelf, out, err),
+) -> Status {
+    let Ok(words) = words_of(alloc, asked.words) else {
+        return Status::NoMemory;
     };
-    told_of(alloc, status, out.held(), err.held())
+    match asked.program {
+        "torcheck" => check_over(alloc, keys, &words, shelf, out, err),
+        "torgrade" => grade_over(alloc, keys, &words, shelf, out, err),
+        "torwhy" => why_over(alloc, keys, &words, shelf, out, err),
+        "torview" => view_over(alloc, keys, &words, shelf, out, err),
+        _ => infer_over(alloc, keys, &words, shelf, out, err),
+    }
 }
 
 fn run_over<H: Shelf>(
@@ -184,7 +144,13 @@ fn run_over<H: Shelf>(
 ) -> Result<Told, NoMemory> {
     let mut out = sink_of(alloc, conditions.write_octets, conditions.failing_write)?;
     let mut err = sink_of(alloc, ROOM as u64, conditions.failing_note)?;
-    run_into(alloc, keys, asked, shelf, &mut out, &mut err)
+    let status = status_of(alloc, keys, asked, shelf, &mut out, &mut err).code();
+    Ok(Told {
+        status,
+        out,
+        err,
+        fails_next: false,
+    })
 }
 
 // Whether the next call fails, and the one behind it doesn't.

@@ -1,14 +1,7 @@
 //! Lines of texts.
-use crate::refused::{Refused, number_of};
+use crate::octets::Octets;
+use crate::refused::number_of;
 use std::alloc::Global;
-use tor_arena::NoMemory;
-
-/// Puts a line.
-pub fn put_line(text: &mut Vec<u8>, line: &str) -> Result<(), Refused> {
-    text.extend_from_slice(line.as_bytes())?;
-    text.push(b'\n')?;
-    Ok(())
-}
 
 // Where the line of this number, from 1, begins.
 fn start_of_line(text: &[u8], number: u64) -> usize {
@@ -35,23 +28,32 @@ pub enum Edit {
     Remove,
 }
 
-/// The text with an edit of one line: the words are its number and, but to remove it, the other line.
-pub fn edited(alloc: Global, text: &[u8], edit: Edit, words: &str) -> Result<Vec<u8>, Refused> {
-    let (number, line) = words.split_once(' ').unwrap_or((words, ""));
-    let number = number_of(number)?;
-    let start = start_of_line(text, number);
-    let next = start_of_line(text, number.saturating_add(1));
-    let mut edited = Vec::from_slice(alloc, text.get(..start).unwrap_or(&[]))?;
-    let behind = match edit {
-        Edit::Insert => start,
-        _ => next,
-    };
+// The text with an edit of the line that begins and ends there: another line in its place or before it, or none.
+fn put_edited(edited: &mut Octets, text: &[u8], edit: Edit, start: usize, next: usize, line: &str) {
+    edited.put(text.get(..start).unwrap_or(&[]));
     match edit {
+        Edit::Instead | Edit::Insert => edited.put_line(line),
         Edit::Remove => {}
-        _ => put_line(&mut edited, line)?,
     }
-    edited.extend_from_slice(text.get(behind..).unwrap_or(&[]))?;
-    Ok(edited)
+    match edit {
+        Edit::Insert => edited.put(text.get(start..).unwrap_or(&[])),
+        Edit::Instead | Edit::Remove => edited.put(text.get(next..).unwrap_or(&[])),
+    }
+}
+
+/// The text with an edit of one line: the words are its number and, but to remove it, the other line.
+pub fn edited(alloc: Global, text: &Octets, edit: Edit, words: &str) -> Octets {
+    let (number, line) = words.split_once(' ').unwrap_or((words, ""));
+    let mut edited = Octets::new(alloc);
+    match number_of(number) {
+        Ok(number) => {
+            let start = start_of_line(text.all(), number);
+            let next = start_of_line(text.all(), number.saturating_add(1));
+            put_edited(&mut edited, text.all(), edit, start, next, line);
+        }
+        Err(refused) => edited.refuse(refused),
+    }
+    edited
 }
 
 fn is_evidence(line: &[u8]) -> bool {
@@ -76,15 +78,13 @@ fn without_walk(line: &[u8]) -> &[u8] {
 }
 
 /// A text without the why and open lines, and without the walks of lost paths.
-pub fn without_evidence(alloc: Global, text: &[u8]) -> Result<Vec<u8>, NoMemory> {
-    let mut lines = Vec::new(alloc);
+pub fn without_evidence(alloc: Global, text: &[u8]) -> Octets {
+    let mut lines = Octets::new(alloc);
     for line in text.split(|octet| *octet == b'\n') {
         if !is_evidence(line) {
-            if !lines.is_empty() {
-                lines.push(b'\n')?;
-            }
-            lines.extend_from_slice(without_walk(line))?;
+            lines.put(without_walk(line));
+            lines.put(b"\n");
         }
     }
-    Ok(lines)
+    lines
 }

@@ -1,16 +1,16 @@
 //! What is expected of a run.
+use crate::octets::Octets;
 use crate::refused::{Refused, number_of};
 use crate::runs::Told;
-use crate::texts::{put_line, without_evidence};
+use crate::texts::without_evidence;
 use std::alloc::Global;
-use tor_arena::NoMemory;
 
 /// What the lines behind a run say of it.
 #[derive(Drop)]
 pub struct Wanted {
     status: Option<u64>,
-    out: Vec<u8>,
-    err: Vec<u8>,
+    out: Octets,
+    err: Octets,
     is_without_evidence: bool,
     calls: Option<u64>,
     last_failing_read: u64,
@@ -22,13 +22,26 @@ fn set(number: &mut Option<u64>, text: &str) -> Result<(), Refused> {
     Ok(())
 }
 
+// Puts a line.
+fn put_line(octets: &mut Octets, line: &str) -> Result<(), Refused> {
+    octets.put_line(line);
+    octets.outcome()
+}
+
+// Whether two texts are the same but for their evidence.
+fn are_alike(alloc: Global, one: &[u8], other: &[u8]) -> bool {
+    let one = without_evidence(alloc, one);
+    let other = without_evidence(alloc, other);
+    one.outcome().is_ok() && other.outcome().is_ok() && one.all() == other.all()
+}
+
 impl Wanted {
     /// Nothing is said yet.
     pub fn new(alloc: Global) -> Wanted {
         Wanted {
             status: None,
-            out: Vec::new(alloc),
-            err: Vec::new(alloc),
+            out: Octets::new(alloc),
+            err: Octets::new(alloc),
             is_without_evidence: false,
             calls: None,
             last_failing_read: 0,
@@ -73,27 +86,20 @@ impl Wanted {
 
     /// These octets are written to out.
     pub fn add_out(&mut self, octets: &[u8]) -> Result<(), Refused> {
-        Ok(self.out.extend_from_slice(octets)?)
-    }
-
-    fn is_met_by(&self, alloc: Global, bare: &[u8]) -> Result<bool, NoMemory> {
-        let wanted = without_evidence(alloc, &self.out)?;
-        Ok(bare == wanted.as_slice())
-    }
-
-    fn is_text_met(&self, alloc: Global, out: &[u8]) -> Result<bool, NoMemory> {
-        if self.is_without_evidence {
-            let bare = without_evidence(alloc, out)?;
-            return self.is_met_by(alloc, &bare);
-        }
-        Ok(out == self.out.as_slice())
+        self.out.put(octets);
+        self.out.outcome()
     }
 
     /// Whether a run is as expected.
-    pub fn is_met(&self, alloc: Global, told: &Told) -> Result<bool, NoMemory> {
-        let is_met = self.status == Some(u64::from(told.status))
-            && told.err.as_slice() == self.err.as_slice();
-        Ok(is_met && self.is_text_met(alloc, &told.out)?)
+    pub fn is_met(&self, alloc: Global, told: &Told) -> bool {
+        let is_out_met = if self.is_without_evidence {
+            are_alike(alloc, told.out.held(), self.out.all())
+        } else {
+            told.out.held() == self.out.all()
+        };
+        self.status == Some(u64::from(told.status))
+            && told.err.held() == self.err.all()
+            && is_out_met
     }
 }
 
@@ -124,8 +130,8 @@ impl Outcome<'_> {
     /// Whether a run ended so, with this text in out.
     pub fn is_met(&self, told: &Told, out: &[u8]) -> bool {
         self.status == u64::from(told.status)
-            && self.is_noted(&told.err)
-            && told.out.as_slice() == out
+            && self.is_noted(told.err.held())
+            && told.out.held() == out
     }
 }
 

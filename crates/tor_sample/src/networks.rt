@@ -1,6 +1,5 @@
 //! Networks and their providers.
 ghost use Rattle.std.specs.Prelude.{◌≡◌, ◌<◌, ◌≤◌, ◌+◌, IfOk, length};
-ghost use Rattle.tor_sample.specs.Draws.{draw};
 ghost use Rattle.tor_sample.specs.Networks.{level_above, drawn_from, providers_of, networks, provider_of, climb};
 ghost use Rattle.tor_sample.specs.Levels.{LeadUp, IsAbove};
 

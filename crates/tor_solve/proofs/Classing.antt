@@ -10,7 +10,7 @@ use Rattle.relationships.specs.Selection.{IsServable}
 use Rattle.relationships.proofs.WalkLemmas.{refuting_law}
 use Rattle.tor_digraph.specs.Walks.{IsInside}
 use Rattle.tor_arena.proofs.Gets.{slice_get-push_cases, slice_get-some}
-use Rattle.tor_components.specs.Classes.{Classes, IsComponents}
+use Rattle.tor_solve.specs.Classes.{Classes, IsComponents}
 use Rattle.as_graph.specs.Paths.{path_at, paths_at}
 use Rattle.tor_clauses.specs.Literals.{node_of, lit_of, opposite_node}
 use Rattle.tor_clauses.specs.Formulas.{Formula, IsModel, numbered}

@@ -1,3 +1,6 @@
 mod Arcs
 mod Classing
+mod ComponentVectors
+mod Marking
+mod Orders
 mod Refutation

@@ -4,12 +4,12 @@ ghost use Rattle.tor_arena.specs.Limits.{max_numbers};
 ghost use Rattle.tor_clauses.specs.Literals.{most_edges, node_of, lit_of};
 ghost use Rattle.tor_solve.specs.Solving.{HaveOneClass, IsLater, AreLater};
 
+use crate::class::Components;
 use as_graph::Orientation;
 use relationships::End;
 use std::alloc::Global;
 use tor_arena::{EdgeId, Index, List, NoMemory, NodeId};
 use tor_clauses::Lit;
-use tor_components::Components;
 
 /// The node of an edge's literal that says that this end is over the other. It takes no memory.
 pub(crate) fn node_at(edge: EdgeId, over: End) -> NodeId

@@ -7,12 +7,12 @@ ghost use Rattle.tor_solve.specs.Solutions.{IfModel, IfWalk, IsExact};
 
 use crate::later::{clash, later_ends};
 use crate::solution::Solution;
+use crate::strong::components;
 use crate::walking::walk_round;
 use as_graph::AsGraph;
 use std::alloc::Global;
 use tor_arena::NoMemory;
 use tor_clauses::{Clauses, model_law};
-use tor_components::components;
 
 /// Whether some orientation serves the paths of clauses that fit the graph: such an orientation, or a walk that refutes. The
 /// only error is that memory ran out.

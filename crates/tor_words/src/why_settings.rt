@@ -1,5 +1,5 @@
 //! The settings of a telling.
-ghost use Rattle.std.specs.Prelude.{◌≡◌, IfOk, IfErr, OnErr, Some, None, map, option_map};
+ghost use Rattle.std.specs.Prelude.{◌≡◌, IfOk, IfErr, Some, None, map, option_map};
 ghost use Rattle.clap.specs.Words.{found_of, rows_of};
 ghost use Rattle.tor_words.specs.WhyGiven.{asked_in, edge_asked, path_asked, what_asked, why_settings_in, why_settings_given};
 ghost use Rattle.tor_words.specs.Refused.{IsUsage, SaysUsage};

@@ -1,6 +1,10 @@
+pub mod Asking
 pub mod CheckAnswer
+pub mod FileText
 pub mod Judging
 pub mod Limits
 pub mod Reach
 pub mod Ruled
+pub mod Saying
 pub mod Unjudging
+pub mod Unsaying

@@ -9,8 +9,8 @@ ghost use Rattle.run_base.specs.declared.whole_file.Unread.TheVariants.{Failed a
 ghost use Rattle.torcheck_run.specs.Ruled.{IsRulingOf, IsRulingIn, IsOfFewLines, IsUnruled};
 ghost use Rattle.torcheck_run.specs.Limits.{max_result};
 
+use crate::reading::{NoResult, read_result};
 use rel_checker::check_file;
-use result_reading::{NoResult, read_result};
 use result_rules::Verdict;
 use result_text::ResultFile;
 use run_base::Unread;

@@ -1,5 +1,5 @@
 //! The run of `torgrade`.
-ghost use Rattle.std.specs.Prelude.{◌≡◌, ◌≢◌, ◌≤◌, ◌⊎◌, List, Some, IfSome, IsNone, ℕ};
+ghost use Rattle.std.specs.Prelude.{◌≡◌, ◌≢◌, ◌≤◌, ◌⊎◌, List, Some, IsNone, ℕ};
 ghost use Rattle.tor_io.specs.Counts.{IsQuiet};
 ghost use Rattle.tor_io.specs.Contents.{Files};
 ghost use Rattle.dump_read.specs.declared.error.Place.{Place};

@@ -1,5 +1,5 @@
 -- An AS is there or isn't.
-use Rattle.asking_run.proofs.Comings.{NotBoth}
+use Rattle.torcheck_run.proofs.AskedComings.{NotBoth}
 use Rattle.torview_run.specs.Views.{viewing}
 
 pub not_both : NotBoth viewing

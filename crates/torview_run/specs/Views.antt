@@ -7,7 +7,7 @@ use Rattle.drawing.specs.Picture.{IsDrawingOf}
 use Rattle.drawing.specs.Svg.{svg_text}
 use Rattle.tor_words.specs.declared.view_settings.ViewSettings.{ViewSettings}
 use Rattle.tor_words.specs.ViewGiven.{view_settings_given}
-use Rattle.asking_run.specs.Asking.{Asking}
+use Rattle.torcheck_run.specs.Asking.{Asking}
 
 -- one of the edges has this AS
 abbrev pub HasEdge : List EdgeLine → ℕ → Type 0

@@ -6,19 +6,19 @@ ghost use Rattle.tor_io.specs.Contents.{Files};
 ghost use Rattle.tor_words.specs.ViewGiven.{view_settings_given};
 ghost use Rattle.run_base.specs.Answers.{IsNoted, note_in};
 ghost use Rattle.run_base.specs.Frames.{RunLeavesShelf, RunLeavesOut};
-ghost use Rattle.asking_run.specs.Asking.{NoResult, TooLong, Breaks, Lacks, Says, Gives, LeavesRestOf};
-ghost use Rattle.asking_run.specs.Saying.{GainsAnswer, GainsAnswerPrefix, IsNo, IsSayingNote};
+ghost use Rattle.torcheck_run.specs.Asking.{NoResult, TooLong, Breaks, Lacks, Says, Gives, LeavesRestOf};
+ghost use Rattle.torcheck_run.specs.Saying.{GainsAnswer, GainsAnswerPrefix, IsNo, IsSayingNote};
 ghost use Rattle.torview_run.specs.Views.{viewing};
 
 use crate::asking::seen_asked;
 use crate::writing::write_picture;
-use asking_run::answer_to_unsaid;
 use result_text::one_value;
 use run_base::{Answer, Status};
 use std::alloc::Global;
 use tor_arena::{Keys, List};
 use tor_io::{Shelf, Sink, write_all};
 use tor_words::Name;
+use torcheck_run::answer_to_unsaid;
 
 // The run without its note: what it answers doesn't depend on where the note goes.
 fn answer<H: Shelf, O: Sink>(

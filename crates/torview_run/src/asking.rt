@@ -3,12 +3,11 @@ ghost use Rattle.std.specs.Prelude.{◌≡◌, Some, IfOk, IfErr, OnOk, IsNone, 
 ghost use Rattle.std.specs.Io.KnownBytes.{IsAtEnd};
 ghost use Rattle.tor_words.specs.ViewGiven.{AreFew, view_settings_given};
 ghost use Rattle.run_base.specs.Frames.{ReadsShelf};
-ghost use Rattle.asking_run.specs.Asking.{Says, Gives, GivesIn};
-ghost use Rattle.asking_run.specs.Unsaying.{SaysAbsent, IsUnanswered, IsUnmetInReach, IsUnsaidIn, IsUnsaid, IsUnsaidInReach};
-ghost use Rattle.asking_run.specs.Unsaying.{IsFailedRead, IsOfAskingWords};
+ghost use Rattle.torcheck_run.specs.Asking.{Says, Gives, GivesIn};
+ghost use Rattle.torcheck_run.specs.Unsaying.{SaysAbsent, IsUnanswered, IsUnmetInReach, IsUnsaidIn, IsUnsaid, IsUnsaidInReach};
+ghost use Rattle.torcheck_run.specs.Unsaying.{IsFailedRead, IsOfAskingWords};
 ghost use Rattle.torview_run.specs.Views.{HasEdge, IsPictureOf, IsSeen, absent_note, viewing};
 
-use asking_run::{Unsaid, result_met};
 use drawing::{draw, print};
 use result_text::{EdgeLine, ResultFile};
 use run_base::Unread;
@@ -16,6 +15,7 @@ use std::alloc::{AllocError, Global};
 use tor_arena::{Keys, List, NoMemory};
 use tor_io::Shelf;
 use tor_words::{Name, ViewSettings, view_settings_of};
+use torcheck_run::{Unsaid, result_met};
 
 // Whether an edge has this AS.
 fn has_edge(edges: &[EdgeLine], asked: u32) -> bool

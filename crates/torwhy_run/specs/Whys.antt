@@ -10,7 +10,7 @@ use Rattle.tor_words.specs.declared.why_settings.Asked.{Asked}
 use Rattle.tor_words.specs.declared.why_settings.Asked.TheVariants as asked
 use Rattle.tor_words.specs.declared.why_settings.WhySettings.{WhySettings}
 use Rattle.tor_words.specs.WhyGiven.{why_settings_given}
-use Rattle.asking_run.specs.Asking.{Asking}
+use Rattle.torcheck_run.specs.Asking.{Asking}
 use Rattle.torwhy_run.specs.declared.asking.Tale.{Tale}
 
 -- the question that the words ask

@@ -4,12 +4,11 @@ ghost use Rattle.std.specs.Io.KnownBytes.{IsAtEnd};
 ghost use Rattle.result_rules.specs.Rules.{Accepts};
 ghost use Rattle.tor_words.specs.WhyGiven.{why_settings_given};
 ghost use Rattle.run_base.specs.Frames.{ReadsShelf};
-ghost use Rattle.asking_run.specs.Asking.{Says, Gives, GivesIn};
-ghost use Rattle.asking_run.specs.Unsaying.{SaysAbsent, IsUnanswered, IsUnmetInReach, IsUnsaidIn, IsUnsaid, IsUnsaidInReach};
-ghost use Rattle.asking_run.specs.Unsaying.{IsFailedRead, IsOfAskingWords};
+ghost use Rattle.torcheck_run.specs.Asking.{Says, Gives, GivesIn};
+ghost use Rattle.torcheck_run.specs.Unsaying.{SaysAbsent, IsUnanswered, IsUnmetInReach, IsUnsaidIn, IsUnsaid, IsUnsaidInReach};
+ghost use Rattle.torcheck_run.specs.Unsaying.{IsFailedRead, IsOfAskingWords};
 ghost use Rattle.torwhy_run.specs.Whys.{IsTold, absent_note, question_of, tale_text, telling};
 
-use asking_run::{Unsaid, result_met};
 use result_text::ResultFile;
 use run_base::Unread;
 use std::alloc::{AllocError, Global};
@@ -17,6 +16,7 @@ use telling::{Question, Told, tell};
 use tor_arena::{Keys, List, NoMemory};
 use tor_io::Shelf;
 use tor_words::{Asked, Name, WhySettings, why_settings_of};
+use torcheck_run::{Unsaid, result_met};
 
 /// What is told, and of which result.
 #[derive(Drop)]

@@ -1,6 +1,6 @@
 //! Walks in flat lists.
 
-ghost use Rattle.std.specs.Prelude.{◌≡◌, ◌<◌, ◌≤◌, ◌++◌, ◌∷◌, [], Some, length, option_map, slice_get, OnOk, OnErr, IfOk};
+ghost use Rattle.std.specs.Prelude.{◌≡◌, ◌<◌, ◌≤◌, ◌++◌, ◌∷◌, [], Some, length, option_map, slice_get, OnOk, OnErr};
 ghost use Rattle.tor_arena.specs.Limits.{most_walks};
 ghost use Rattle.relationships.specs.Flat.{walk_with};
 

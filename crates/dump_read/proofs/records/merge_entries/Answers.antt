@@ -1,5 +1,5 @@
 use Rattle.std.proofs.Common.{Ok, subst}
-use Rattle.rib_v2.specs.Reading.{IsNext}
+use Rattle.rib_bodies.specs.Reading.{IsNext}
 use Rattle.dump_read.proofs.Merges.{one_merged}
 use Rattle.dump_read.proofs.records.merge_entries.Goals as goal
 

@@ -1,6 +1,5 @@
 use Rattle.std.proofs.Common.{sym, ◌∙◌, refl}
-use Rattle.path_attrs.specs.Attributes.{Attribute}
-use Rattle.path_attrs.specs.PathOf.{as_path}
+use Rattle.path_attrs.specs.Attributes.{Attribute, as_path}
 use Rattle.path_attrs.proofs.Blocks.{is_ok-next, first_here, first_behind, first_none}
 use Rattle.path_attrs.proofs.block.path_in.Goals as goal
 

@@ -1,6 +1,5 @@
 use Rattle.std.proofs.Common.{◌≡◌, length, is_ok, true}
-use Rattle.path_attrs.specs.Attributes.{attributes_of, attributes_in, first_value}
-use Rattle.path_attrs.specs.PathOf.{as_path}
+use Rattle.path_attrs.specs.Attributes.{as_path, attributes_of, attributes_in, first_value}
 use Rattle.path_attrs.proofs.block.path_in.Given as goal
 
 -- the rest is a list of whole attributes exactly if the block is, and then the first AS_PATH of the block is that of the rest

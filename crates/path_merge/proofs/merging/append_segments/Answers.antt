@@ -1,7 +1,7 @@
 use Rattle.std.proofs.Common.{◌≡◌, false, ap, sym, subst, ◌∙◌, ◌∷◌}
 use Rattle.std.specs.List.{fold, flat_map, before_first, list_any}
-use Rattle.path_attrs.specs.PathOf.{is_confed}
-use Rattle.path_attrs.specs.declared.as_path.Segment.{Segment}
+use Rattle.path_segments.specs.PathOf.{is_confed}
+use Rattle.path_segments.specs.declared.as_path.Segment.{Segment}
 use Rattle.path_merge.specs.Merging.{is_mixed_set, ases_of}
 use Rattle.path_merge.specs.Merging.{merged_behind, GoesBehind}
 use Rattle.path_merge.proofs.MergeLemmas.{one_segment, none_mixed, none_confed, goes-behind, goes-on}

@@ -1,6 +1,6 @@
 use Rattle.std.proofs.Common.{◌≡◌, length}
 use Rattle.std.specs.List.{fold, flat_map, before_first, list_any}
-use Rattle.path_attrs.specs.PathOf.{is_confed}
+use Rattle.path_segments.specs.PathOf.{is_confed}
 use Rattle.path_merge.specs.Merging.{is_mixed_set, ases_of}
 use Rattle.path_merge.specs.Merging.{merged_behind, GoesBehind}
 use Rattle.path_merge.proofs.merging.append_segments.Given as goal

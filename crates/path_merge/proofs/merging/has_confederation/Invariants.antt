@@ -1,5 +1,5 @@
 use Rattle.std.proofs.Common.{◌≡◌, length}
-use Rattle.path_attrs.specs.PathOf.{is_confed}
+use Rattle.path_segments.specs.PathOf.{is_confed}
 use Rattle.std.specs.List.{list_any}
 use Rattle.path_merge.proofs.merging.has_confederation.Given as goal
 

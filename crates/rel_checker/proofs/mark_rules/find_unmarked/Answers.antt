@@ -1,6 +1,6 @@
-use Rattle.open_lines.proofs.OrderPlaces.{proper}
+use Rattle.line_rules.proofs.OrderPlaces.{proper}
 use Rattle.line_rules.proofs.ListedEdges.{edges_few, edges_apart, its_edges_are}
-use Rattle.open_lines.proofs.Settled.{laid}
+use Rattle.line_rules.proofs.Settled.{laid}
 use Rattle.rel_checker.proofs.mark_rules.find_unmarked.Goals as goal
 
 pub of_file-requires-clause-few : goal.of_file-requires-clause-few

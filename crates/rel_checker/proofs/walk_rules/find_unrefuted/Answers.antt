@@ -1,6 +1,6 @@
 use Rattle.std.proofs.lemmas.Bool.{both_ways}
 use Rattle.result_rules.specs.declared.rule.Rule.TheVariants.{LostRefuted}
-use Rattle.rel_checker.proofs.LostLines.{asks_lost}
+use Rattle.line_rules.proofs.LostLines.{asks_lost}
 use Rattle.line_rules.proofs.Passing.{asks_more}
 use Rattle.rel_checker.proofs.walk_rules.find_unrefuted.Goals as goal
 

@@ -4,7 +4,7 @@ use Rattle.relationships.specs.declared.given.Given.{Given}
 use Rattle.path_clean.specs.declared.cleaned.Sets.{Sets}
 use Rattle.result_text.specs.declared.file.PathLine.{PathLine}
 use Rattle.result_rules.specs.File.{its_paths, its_walks}
-use Rattle.resume.specs.Earlier.{BeginsWithEarlier}
+use Rattle.rel_infer.specs.Earlier.{BeginsWithEarlier}
 use Rattle.rel_infer.specs.GivenResults.{IsResultWith}
 use Rattle.rel_infer.specs.GivenInference.{PeerEitherWayWith, LeaveNoneOutWith}
 use Rattle.rel_infer.specs.Inference.{AreInferredWith}

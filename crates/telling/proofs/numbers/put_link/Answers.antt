@@ -1,5 +1,7 @@
-use Rattle.tor_io.proofs.Putting.{puts_then}
+use Rattle.std.proofs.Common.{ap, ◌∷◌}
+use Rattle.std.specs.Fmt.{decimal}
+use Rattle.tor_io.proofs.Putting.{puts_as, puts_then}
 use Rattle.telling.proofs.numbers.put_link.Goals as goal
 
 pub returns : goal.returns
-returns g c = puts_then c.put_path_name.ensures c.put_u32_behind.ensures
+returns g c = puts_then c.put_path_name.ensures (puts_as c.put_number_behind.ensures (ap (λ n. 58 ∷ decimal n) c.from.ensures))

@@ -11,5 +11,5 @@ returns-in-Some g c =
     let given = c.in-Some.given in
     let there : Some given ≡ numbered (its_givens c.args.file.now) c.args.number =
     sym c.in-Some.is ∙ c.given_numbered.ensures ∙ ap (λ givens. numbered givens c.args.number) c.givens_of.ensures in
-    puts_as (puts_then c.put_u32.ensures c.put_u32_behind.ensures)
+    puts_as (puts_then c.put_u32.ensures (puts_as c.put_number_behind.ensures (ap (λ n. 32 ∷ decimal n) c.from.ensures)))
     (ap (λ t. decimal given.over ++ t) (sym (append-nil (32 ∷ decimal given.under))) ∙ ap (if_there given_text) there)

@@ -1,7 +1,7 @@
 use Rattle.std.proofs.Common.{◌≡◌, ◌∙◌, ◌*◌, length, ap, subst, arith}
 use Rattle.relationships.specs.Graph.{edges, orientation}
 use Rattle.tor_digraph.specs.Walks.{IsInside}
-use Rattle.tor_components.specs.Classes.{IsComponents}
+use Rattle.tor_solve.specs.Classes.{IsComponents}
 use Rattle.tor_clauses.specs.Formulas.{IsServed, IsModel}
 use Rattle.tor_solve.proofs.Classing.{later_model, walk_excludes}
 use Rattle.tor_solve.proofs.solver.solve.Goals as goal

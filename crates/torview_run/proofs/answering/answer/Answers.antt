@@ -1,5 +1,5 @@
-use Rattle.asking_run.proofs.Bounds.{bounded, written}
-use Rattle.asking_run.proofs.Unsayings.{unsaid_note}
+use Rattle.torcheck_run.proofs.AskedBounds.{bounded, written}
+use Rattle.torcheck_run.proofs.Unsayings.{unsaid_note}
 use Rattle.torview_run.specs.Views.{viewing}
 use Rattle.torview_run.proofs.answering.answer.Goals as goal
 

@@ -1,5 +1,5 @@
-use Rattle.asking_run.proofs.Answerings.{says_given}
-use Rattle.asking_run.proofs.Unsayings.{reach_given, unsaid_given}
+use Rattle.torcheck_run.proofs.Answerings.{says_given}
+use Rattle.torcheck_run.proofs.Unsayings.{reach_given, unsaid_given}
 use Rattle.torview_run.specs.Views.{viewing}
 use Rattle.torview_run.proofs.asking.seen_asked.Goals as goal
 

@@ -1,4 +1,4 @@
-use Rattle.asking_run.proofs.Answerings.{answered_says, unanswered_reach, unanswered_unsaid}
+use Rattle.torcheck_run.proofs.Answerings.{answered_says, unanswered_reach, unanswered_unsaid}
 use Rattle.torview_run.specs.Views.{viewing}
 use Rattle.torview_run.proofs.asking.seen_in.Goals as goal
 

@@ -2,8 +2,8 @@ use Rattle.std.proofs.Common.{inl, inr, refl}
 use Rattle.run_base.specs.Answers.{note_in}
 use Rattle.run_base.proofs.Prefixes.{noted}
 use Rattle.run_base.proofs.Statuses.{not_text}
-use Rattle.asking_run.specs.Asking.{Breaks, Lacks, NoResult, Says, TooLong}
-use Rattle.asking_run.proofs.Always.{always, always_no, not_malformed, says_absent, says_limit, says_no}
+use Rattle.torcheck_run.specs.Asking.{Breaks, Lacks, NoResult, Says, TooLong}
+use Rattle.torcheck_run.proofs.AskedAlways.{always, always_no, not_malformed, says_absent, says_limit, says_no}
 use Rattle.torwhy_run.specs.Whys.{telling}
 use Rattle.torwhy_run.proofs.Tellings.{not_both}
 use Rattle.torwhy_run.proofs.answering.why.Goals as goal

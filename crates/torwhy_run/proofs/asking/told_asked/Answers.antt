@@ -1,5 +1,5 @@
-use Rattle.asking_run.proofs.Answerings.{says_given}
-use Rattle.asking_run.proofs.Unsayings.{reach_given, unsaid_given}
+use Rattle.torcheck_run.proofs.Answerings.{says_given}
+use Rattle.torcheck_run.proofs.Unsayings.{reach_given, unsaid_given}
 use Rattle.torwhy_run.specs.Whys.{tale_text, telling}
 use Rattle.torwhy_run.proofs.asking.told_asked.Goals as goal
 

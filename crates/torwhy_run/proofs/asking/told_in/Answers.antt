@@ -1,4 +1,4 @@
-use Rattle.asking_run.proofs.Answerings.{answered_says, unanswered_reach, unanswered_unsaid}
+use Rattle.torcheck_run.proofs.Answerings.{answered_says, unanswered_reach, unanswered_unsaid}
 use Rattle.torwhy_run.specs.Whys.{tale_text, telling}
 use Rattle.torwhy_run.proofs.asking.told_in.Goals as goal
 

@@ -1,9 +1,28 @@
 use Rattle.std.proofs.Common.{rules, ◌≡◌, ◌∙◌, ◌++◌, ◌∷◌, [], false, length, max, min, ap, sym, subst, arith}
+use Rattle.std.proofs.lemmas.Result.{IfOk-from_err, MatchResult-from_err}
 use Rattle.std.specs.List.{list_any}
 use Rattle.relationships.specs.Graph.{edge_of, is_same}
 use Rattle.as_graph.specs.Inside.{AreGraphEdges}
 use Rattle.as_graph.proofs.EdgeLemmas.{counted_few, counted_there, counted_after, AreGraphEdges-more, AreGraphEdges-added}
 use Rattle.as_graph.proofs.graph_edges.GraphEdges.add_new.Goals as goal
+
+pub returns-in_err-reserve : goal.returns-in_err-reserve
+returns-in_err-reserve c =
+    let r = c.from_residual.result in
+    let is = c.from_residual.ensures.0 in
+    record { ok = IfOk-from_err r _ is; edge = IfOk-from_err r _ is; below = IfOk-from_err r _ is; err = MatchResult-from_err r _ _ is (λ e. c.self.view_is) }
+
+pub returns-in_err-ends : goal.returns-in_err-ends
+returns-in_err-ends c =
+    let r = c.from_residual-in_err-ends.result in
+    let is = c.from_residual-in_err-ends.ensures.0 in
+    record { ok = IfOk-from_err r _ is; edge = IfOk-from_err r _ is; below = IfOk-from_err r _ is; err = MatchResult-from_err r _ _ is (λ e. c.self.view_is) }
+
+pub returns-in_err-added : goal.returns-in_err-added
+returns-in_err-added c =
+    let r = c.from_residual-in_err-added.result in
+    let is = c.from_residual-in_err-added.ensures.0 in
+    record { ok = IfOk-from_err r _ is; edge = IfOk-from_err r _ is; below = IfOk-from_err r _ is; err = MatchResult-from_err r _ _ is (λ e. c.in_err-added.ensures.err ∙ c.self.view_is) }
 
 pub invariant_of-self-in_err-ends : goal.invariant_of-self-in_err-ends
 invariant_of-self-in_err-ends c =

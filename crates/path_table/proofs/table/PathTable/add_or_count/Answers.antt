@@ -5,7 +5,7 @@ use Rattle.path_table.specs.Table.{place_of}
 use Rattle.path_table.specs.declared.table.AddRefused.TheVariants.{TooManyPaths, TooManyNumbers}
 use Rattle.path_table.proofs.TableLemmas.{found-at, found-within, counted_by-push, absent-at, IsTable-push, seen_as}
 use Rattle.path_table.proofs.IndexLemmas.{new-by}
-use Rattle.path_table.proofs.AddLemmas.{no_some, err-moved, ok-of}
+use Rattle.path_table.proofs.AddLemmas.{no_some, some-none, ok-err, not-paths, not-numbers, err-moved, ok-of}
 use Rattle.path_table.proofs.table.PathTable.add_or_count.Goals as goal
 
 pub count-requires : goal.count-requires
@@ -48,8 +48,8 @@ returns-in-Err c =
         (λ e. c.in-Err.ensures.numbers.0 (err-moved c.in-Err.refused TooManyNumbers e)),
         (λ h. err-moved c.in-Err.refused TooManyNumbers (c.in-Err.ensures.numbers.1 h)),
       );
-      limit = search rules;
-      unchanged = search rules;
+      limit = refl;
+      unchanged = refl;
     }
 
 pub returns-then-is_err : goal.returns-then-is_err
@@ -67,10 +67,10 @@ returns-then-is_err c =
       added = tt;
       answer = tt;
       known = no_some (place_of c.args.self.now.rows path) none;
-      paths = ((λ e. absurd cc), (λ h. let full = h.1 in absurd (omega (arith, full, room))));
-      numbers = ((λ e. absurd cc), (λ h. let over = h.2 in absurd (omega (arith, over, short))));
-      limit = search rules;
-      unchanged = search rules;
+      paths = (not-paths, (λ h. let full = h.1 in absurd (omega (arith, full, room))));
+      numbers = (not-numbers, (λ h. let over = h.2 in absurd (omega (arith, over, short))));
+      limit = ap (λ (t : Table). t.limit) c.self.view_is;
+      unchanged = ap (counted_by paths) c.reserve.ensures.items ∙ ap (λ (t : Table). t.rows) c.self.view_is;
     }
 
 pub returns-in_default-push : goal.returns-in_default-push
@@ -88,10 +88,10 @@ returns-in_default-push c =
       added = tt;
       answer = tt;
       known = no_some (place_of c.args.self.now.rows path) none;
-      paths = ((λ e. absurd cc), (λ h. let full = h.1 in absurd (omega (arith, full, room))));
-      numbers = ((λ e. absurd cc), (λ h. let over = h.2 in absurd (omega (arith, over, short))));
-      limit = search rules;
-      unchanged = search rules;
+      paths = (not-paths, (λ h. let full = h.1 in absurd (omega (arith, full, room))));
+      numbers = (not-numbers, (λ h. let over = h.2 in absurd (omega (arith, over, short))));
+      limit = ap (λ (t : Table). t.limit) c.self.view_is;
+      unchanged = ap₂ counted_by c.in_default-push.ensures.err c.reserve.ensures.items ∙ ap (λ (t : Table). t.rows) c.self.view_is;
     }
 
 pub invariant_of-self-in_default : goal.invariant_of-self-in_default
@@ -133,7 +133,7 @@ returns-in-Held-clause-added c =
     let path = c.args.path.now in
     let place : place_of c.args.self.now.rows path ≡ Some c.in-Held.id =
     sym (found-at paths times path (Some c.in-Held.id) c.self.invariant.same c.self.invariant.once c.in-Held.ensures.tells tt ∙ ap (λ (t : Table). place_of t.rows path) c.self.view_is) in
-    (λ (new : place_of c.args.self.now.rows path ≡ None). absurd cc)
+    (some-none (place_of c.args.self.now.rows path) c.in-Held.id place)
 
 pub returns-in-Held-clause-answer : goal.returns-in-Held-clause-answer
 returns-in-Held-clause-answer c =
@@ -151,7 +151,7 @@ returns-in-Held-clause-paths c =
     let path = c.args.path.now in
     let place : place_of c.args.self.now.rows path ≡ Some c.in-Held.id =
     sym (found-at paths times path (Some c.in-Held.id) c.self.invariant.same c.self.invariant.once c.in-Held.ensures.tells tt ∙ ap (λ (t : Table). place_of t.rows path) c.self.view_is) in
-    ((λ e. absurd cc), (λ h. let none = h.0 in absurd cc))
+    (ok-err _ TooManyPaths, (λ h. some-none (place_of c.args.self.now.rows path) c.in-Held.id place h.0))
 
 pub returns-in-Held-clause-numbers : goal.returns-in-Held-clause-numbers
 returns-in-Held-clause-numbers c =
@@ -160,7 +160,7 @@ returns-in-Held-clause-numbers c =
     let path = c.args.path.now in
     let place : place_of c.args.self.now.rows path ≡ Some c.in-Held.id =
     sym (found-at paths times path (Some c.in-Held.id) c.self.invariant.same c.self.invariant.once c.in-Held.ensures.tells tt ∙ ap (λ (t : Table). place_of t.rows path) c.self.view_is) in
-    ((λ e. absurd cc), (λ h. let none = h.0 in absurd cc))
+    (ok-err _ TooManyNumbers, (λ h. some-none (place_of c.args.self.now.rows path) c.in-Held.id place h.0))
 
 pub returns-in-Ok : goal.returns-in-Ok
 returns-in-Ok c =
@@ -186,10 +186,10 @@ returns-in-Ok c =
           ap₂ counted_by new_paths new_times ∙ counted_by-push paths times path c.args.times same ∙ ap (λ (t : Table). t.rows ++ record { path = path; times = c.args.times } ∷ []) c.self.view_is);
       answer = (none, omega (arith, many, same, placed));
       known = (λ some. refl);
-      paths = ((λ e. absurd cc), (λ h. let full = h.1 in absurd (omega (arith, full, room))));
-      numbers = ((λ e. absurd cc), (λ h. let over = h.2 in absurd (omega (arith, over, short))));
-      limit = search rules;
-      unchanged = search rules;
+      paths = (ok-err _ TooManyPaths, (λ h. let full = h.1 in absurd (omega (arith, full, room))));
+      numbers = (ok-err _ TooManyNumbers, (λ h. let over = h.2 in absurd (omega (arith, over, short))));
+      limit = ap (λ (t : Table). t.limit) c.self.view_is;
+      unchanged = tt;
     }
 
 pub push-requires : goal.push-requires

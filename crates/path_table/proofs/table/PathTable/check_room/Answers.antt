@@ -1,5 +1,7 @@
 use Rattle.std.proofs.Common.{◌≡◌, ◌<◌, length, refl, arith}
+use Rattle.path_table.specs.declared.table.AddRefused.TheVariants.{TooManyPaths, TooManyNumbers}
 use Rattle.path_table.proofs.TableLemmas.{seen_as}
+use Rattle.path_table.proofs.AddLemmas.{ok-err, paths-not-numbers, numbers-not-paths}
 use Rattle.path_table.proofs.table.PathTable.check_room.Goals as goal
 
 pub returns-then-len-self-clause-paths : goal.returns-then-len-self-clause-paths
@@ -20,7 +22,7 @@ returns-then-len-self-clause-numbers c =
     let len = c.len.ensures in
     let holds = c.if-len-self.true in
     let full : length c.args.self.now.rows ≡ c.args.self.now.limit = omega (arith, rows, limit, len, holds) in
-    ((λ e. absurd cc), (λ h. let less = h.1 in absurd (omega (arith, less, full))))
+    (paths-not-numbers, (λ h. let less = h.1 in absurd (omega (arith, less, full))))
 
 pub returns-then-path-self-clause-paths : goal.returns-then-path-self-clause-paths
 returns-then-path-self-clause-paths c =
@@ -31,7 +33,7 @@ returns-then-path-self-clause-paths c =
     let len = c.len.ensures in
     let fails = c.if-len-self.false in
     let room : length c.args.self.now.rows < c.args.self.now.limit = omega (arith, rows, limit, few, len, fails) in
-    ((λ e. absurd cc), (λ h. let equal = h.1 in absurd (omega (arith, equal, room))))
+    (numbers-not-paths, (λ h. let equal = h.1 in absurd (omega (arith, equal, room))))
 
 pub returns-then-path-self-clause-numbers : goal.returns-then-path-self-clause-numbers
 returns-then-path-self-clause-numbers c =
@@ -56,7 +58,7 @@ returns-clause-paths c =
     let len = c.len.ensures in
     let fails = c.if-len-self.false in
     let room : length c.args.self.now.rows < c.args.self.now.limit = omega (arith, rows, limit, few, len, fails) in
-    ((λ e. absurd cc), (λ h. let equal = h.1 in absurd (omega (arith, equal, room))))
+    (ok-err tt TooManyPaths, (λ h. let equal = h.1 in absurd (omega (arith, equal, room))))
 
 pub returns-clause-numbers : goal.returns-clause-numbers
 returns-clause-numbers c =
@@ -66,7 +68,7 @@ returns-clause-numbers c =
     let sum = seen.sum in
     let short = seen.short in
     let within = c.if-path-self.false in
-    ((λ e. absurd cc), (λ h. let over = h.2 in absurd (omega (arith, over, sum, short, within))))
+    (ok-err tt TooManyNumbers, (λ h. let over = h.2 in absurd (omega (arith, over, sum, short, within))))
 
 pub returns-clause-room : goal.returns-clause-room
 returns-clause-room c =

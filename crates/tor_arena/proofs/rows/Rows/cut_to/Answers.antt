@@ -31,8 +31,8 @@ invariant_of-self g c =
     let lt : rows < length bounds = omega (arith, n, there, some) in
     let next : rows + 1 ≡ suc rows = omega arith in
     let end : c.index.result.now ≡ slice_index bounds rows = c.index.ensures ∙ get_or_default bounds rows c.index.result.now 0 lt in
-    let new_bounds : c.truncate.new.self.items ≡ take (suc rows) bounds = c.truncate.ensures.items ∙ ap (λ k. take k bounds) next in
-    let new_items : c.truncate-2.new.self.items ≡ take (slice_index bounds rows) items = c.truncate-2.ensures.items ∙ ap (λ k. take k items) end in
+    let new_bounds : c.truncate.new.self.items ≡ take (suc rows) bounds = ◌∙◌ {b = take (rows + 1) bounds} c.truncate.ensures.items (ap (λ k. take k bounds) next) in
+    let new_items : c.truncate-2.new.self.items ≡ take (slice_index bounds rows) items = ◌∙◌ {b = take c.index.result.now items} c.truncate-2.ensures.items (ap (λ k. take k items) end) in
     let short : length (take (slice_index bounds rows) items) ≡ slice_index bounds rows =
     length-take-le (slice_index bounds rows) items (bound-le bounds (length items) rows c.self.invariant.1 lt) in
     let fewer : length (take (suc rows) bounds) ≡ suc rows = length-take-le (suc rows) bounds (omega (arith, lt)) in
@@ -52,7 +52,7 @@ returns g c =
     let lt : rows < length bounds = omega (arith, n, there, some) in
     let next : rows + 1 ≡ suc rows = omega arith in
     let end : c.index.result.now ≡ slice_index bounds rows = c.index.ensures ∙ get_or_default bounds rows c.index.result.now 0 lt in
-    let new_bounds : c.truncate.new.self.items ≡ take (suc rows) bounds = c.truncate.ensures.items ∙ ap (λ k. take k bounds) next in
-    let new_items : c.truncate-2.new.self.items ≡ take (slice_index bounds rows) items = c.truncate-2.ensures.items ∙ ap (λ k. take k items) end in
+    let new_bounds : c.truncate.new.self.items ≡ take (suc rows) bounds = ◌∙◌ {b = take (rows + 1) bounds} c.truncate.ensures.items (ap (λ k. take k bounds) next) in
+    let new_items : c.truncate-2.new.self.items ≡ take (slice_index bounds rows) items = ◌∙◌ {b = take c.index.result.now items} c.truncate-2.ensures.items (ap (λ k. take k items) end) in
     ap₂ (λ (is : List g.row.T.Denot) bs. rows_between is bs) new_items new_bounds ∙ rows_between-cut items bounds rows c.self.invariant.1 lt
     ∙ ap (take rows) c.self.view_is

@@ -5,13 +5,13 @@ use Rattle.tor_digraph.proofs.Chains.{linked-more_nodes_made, same-net}
 use Rattle.tor_digraph.proofs.digraph.Digraph.add_nodes.Goals as goal
 
 pub invariant_of-self : goal.invariant_of-self
-invariant_of-self g c = rw c.in_err-push_copies.ensures.err c.self.invariant
+invariant_of-self g c = rw c.in-Err.ensures.err c.self.invariant
 
 pub invariant_of-self-2 : goal.invariant_of-self-2
 invariant_of-self-2 g c = (
   c.self.invariant.0,
   linked-more_nodes_made g.N.Index.place_of (λ place. place) g.met.N.Index.is_one c.self.inside.first.items c.self.inside.ends.items
-      c.self.inside.links.items c.args.n c.none.result c.self.invariant.1 c.none.ensures _ c.in_ok-push_copies.ensures.ok,
+      c.self.inside.links.items c.args.n c.none.result c.self.invariant.1 c.none.ensures _ c.in-Ok.ensures.ok,
 )
 
 pub returns-clause-full : goal.returns-clause-full
@@ -29,6 +29,6 @@ returns-clause-full g c = (
 
 pub returns-clause-ok : goal.returns-clause-ok
 returns-clause-ok g c = same-net _ _
-    (ap length c.in_ok-push_copies.ensures.ok ∙ length-append c.self.inside.first.items (replicate c.args.n c.none.result)
+    (ap length c.in-Ok.ensures.ok ∙ length-append c.self.inside.first.items (replicate c.args.n c.none.result)
     ∙ ap₂ (λ n m. n + m) (ap (λ v. v.nodes) c.self.view_is) (length-replicate c.args.n c.none.result))
     (ap (λ v. v.arcs) c.self.view_is)

@@ -1,8 +1,0 @@
-use Rattle.std.proofs.Common.{◌≡◌, drop}
-use Rattle.relationships.proofs.Deciding.{no_valley}
-use Rattle.as_graph.specs.Steps.{slopes_by}
-use Rattle.as_graph.proofs.Falling.{well}
-use Rattle.as_graph.proofs.valley.is_valley_free.Given as goal
-
-abbrev pub invariant-loop-step : goal.invariant-loop-step
-invariant-loop-step l = no_valley (slopes_by l.labels l.steps) ≡ well l.falling (slopes_by l.labels (drop l.step-index l.steps))

@@ -1,6 +1,0 @@
-use Rattle.std.proofs.Common.{take, Contains}
-use Rattle.open_lines.specs.Batches.{HasRuledOut}
-use Rattle.open_lines.proofs.batch.rule_out.Given as goal
-
-abbrev pub invariant-loop-edge : goal.invariant-loop-edge
-invariant-loop-edge l = HasRuledOut l.implying l.round (Contains (take l.edge-index l.row)) l.fn.ruled.items l.ruled.items

@@ -1,6 +1,0 @@
-use Rattle.std.proofs.Common.{take}
-use Rattle.open_lines.specs.Neighbours.{HasBack}
-use Rattle.open_lines.proofs.neighbours.Neighbours.add_to_each.Given as goal
-
-abbrev pub invariant-loop-from : goal.invariant-loop-from
-invariant-loop-from l = HasBack l.to (take l.from-index l.row) l.fn.self l.self

@@ -1,5 +1,0 @@
-use Rattle.open_lines.proofs.TurnedRows.{IsTurnedTo}
-use Rattle.open_lines.proofs.neighbours.Neighbours.turn_into.Given as goal
-
-abbrev pub invariant-loop-place : goal.invariant-loop-place
-invariant-loop-place l = IsTurnedTo l.self l.place l.turned

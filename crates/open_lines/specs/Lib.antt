@@ -1,6 +1,0 @@
-pub mod Batches
-pub mod Flipping
-pub mod Neighbours
-pub mod Searching
-pub mod Serving
-pub mod Testing

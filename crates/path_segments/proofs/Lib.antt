@@ -1,0 +1,4 @@
+pub mod Values
+pub mod PathLemmas
+mod Vectors
+mod PathVectors

@@ -1,8 +1,0 @@
-use Rattle.std.proofs.Common.{refl}
-use Rattle.result_text.specs.Text.{line_text}
-use Rattle.tor_io.proofs.Putting.{puts_as, puts_then}
-use Rattle.result_text.proofs.printing.put_ratio.Goals as goal
-
-pub returns : goal.returns
-unfolding line_text
-returns g c = λ v. puts_as (puts_then c.put.ensures (puts_then c.put_u32.ensures c.put_byte.ensures)) refl

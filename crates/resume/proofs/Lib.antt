@@ -1,4 +1,0 @@
-pub mod EarlierRows
-pub mod Keeping
-pub mod Orienting
-pub mod Turning

@@ -1,6 +1,0 @@
-use Rattle.std.proofs.Common.{◌≡◌, map, take}
-use Rattle.resume.specs.Inside.{provider_of}
-use Rattle.resume.proofs.orientation.ends_by.Given as goal
-
-abbrev pub invariant-loop-line : goal.invariant-loop-line
-invariant-loop-line l = l.ends.items ≡ map (λ line. provider_of line.label) (take l.line-index l.lines)

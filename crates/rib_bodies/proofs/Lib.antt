@@ -1,0 +1,7 @@
+pub mod TableDumpEncodings
+pub mod PeerEncodings
+pub mod RibEncodings
+pub mod Loops
+pub mod Skips
+mod TableDumpVectors
+mod Vectors

@@ -1,2 +1,0 @@
-pub mod TableDump
-pub mod Encoding

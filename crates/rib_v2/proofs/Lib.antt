@@ -1,4 +1,0 @@
-pub mod PeerEncodings
-pub mod RibEncodings
-pub mod Loops
-mod Vectors

@@ -1,5 +1,0 @@
-use Rattle.rib_v2.proofs.PeerEncodings
-use Rattle.rib_v2.proofs.laws.peer_table_law.Goals as goal
-
-pub returns : goal.returns
-returns c = PeerEncodings.peer_table_law

@@ -1,4 +1,0 @@
-pub mod PeerTable
-pub mod Rib
-pub mod Encoding
-pub mod Reading

@@ -1,0 +1,2 @@
+mod GraphVectors
+mod ReadingVectors
