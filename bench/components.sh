@@ -1,5 +1,5 @@
 #!/usr/bin/env bash
-# Times of `tor_components::components` over digraphs of four sizes.
+# Times of `tor_solve::components` over digraphs of four sizes.
 #   bench/components.sh
 # A small program is made beside a copy of the crates, proved, built and run, and then thrown away. It prints processor time.
 set -euo pipefail
@@ -8,7 +8,7 @@ copy=$(mktemp -d)
 trap 'rm -rf "$copy"' EXIT
 cp "$top/crates.txt" "$top/HANDLES" "$copy"
 tar -C "$top" --exclude=out -cf - crates | tar -C "$copy" -xf -
-echo 'components_bench: tor_arena tor_digraph tor_components anyhow' >> "$copy/crates.txt"
+echo 'components_bench: tor_arena tor_digraph tor_solve anyhow' >> "$copy/crates.txt"
 mkdir -p "$copy/crates/components_bench/src"
 cat > "$copy/crates/components_bench/src/main.rt" <<'RUST'
 //! Times of the strong components.
@@ -18,7 +18,7 @@ use anyhow::Result;
 use std::alloc::Global;
 use std::time::CpuClock;
 use tor_arena::{ArcId, Index, NodeId};
-use tor_components::components;
+use tor_solve::components;
 use tor_digraph::{Digraph, GraphRefused};
 
 /// The next state of a linear congruential generator (Knuth's MMIX).
