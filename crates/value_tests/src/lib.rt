@@ -1,7 +1,7 @@
-//! Tests that compare values of Rust types, over the public calls of all crates but those of the runs: what no clause says, and each call that
-//! may want memory and that no program makes, once. They stand here since a crate is proved once more where it has tests. What a clause says
-//! of a call is left to that clause: worked values of its definitions stand in `proofs/GraphVectors.antt` and `proofs/ReadingVectors.antt`, and
-//! the rows of `tor_rows` go through the calls that programs make.
+//! Tests that compare values of Rust types, over the public calls of all crates but those of the runs: what no clause says, and each call
+//! that may want memory and that no program makes, once. They stand here since a crate is proved once more where it has tests. What a
+//! clause says of a call is left to that clause: worked values of its definitions stand in `proofs/GraphVectors.antt` and
+//! `proofs/ReadingVectors.antt`, and the rows of `tor_rows` go through the calls that programs make.
 #![tactic(auto)]
 
 #[cfg(test)]

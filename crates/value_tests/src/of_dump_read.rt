@@ -1,5 +1,5 @@
-//! A test of the reading of dumps: what is taken up to a fault or a limit, which no program shows. What is read of whole dumps stands in the
-//! rows of `tor_rows`, a record of many entries among them (`list-of-a-record-of-5000-routes`).
+//! A test of the reading of dumps: what is taken up to a fault or a limit, which no program shows. What is read of whole dumps stands in
+//! the rows of `tor_rows`, a record of many entries among them (`list-of-a-record-of-5000-routes`).
 use dump_read::{DumpError, Fault, LimitKind, Place, Taken, read_dump};
 use mrt_frame::At;
 use path_clean::{Asides, Cause, Sets};

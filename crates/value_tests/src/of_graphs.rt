@@ -1,5 +1,5 @@
-//! A test of what no program asks of a graph: an orientation or a walk, the fates of all paths, and preferences alone. By their clauses these
-//! calls answer what is right, or want of memory; edges, degrees, steps, triples, leans and valley-free paths stand in
+//! A test of what no program asks of a graph: an orientation or a walk, the fates of all paths, and preferences alone. By their clauses
+//! these calls answer what is right, or want of memory; edges, degrees, steps, triples, leans and valley-free paths stand in
 //! `proofs/GraphVectors.antt`.
 ghost use Rattle.tor_clauses.specs.Formulas.{FitsGraph};
 

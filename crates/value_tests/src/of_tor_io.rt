@@ -1,6 +1,6 @@
-//! Tests of the two ends that touch the system, whose octets no clause knows. What is written to the standard streams the stored runs of the
-//! programs show; shelves and sinks in memory are what the rows of `tor_rows` run over (`octets-a-read`, `read-fails-at`, `out-takes`,
-//! `write-fails-at`), and their clauses say what each call of them reads and writes.
+//! Tests of the two ends that touch the system, whose octets no clause knows. What is written to the standard streams the stored runs of
+//! the programs show; shelves and sinks in memory are what the rows of `tor_rows` run over (`octets-a-read`, `read-fails-at`,
+//! `out-takes`, `write-fails-at`), and their clauses say what each call of them reads and writes.
 use std::alloc::Global;
 use std::io::Write;
 use std::{fs, io};
@@ -52,8 +52,8 @@ fn gives<H: Shelf>(shelf: &mut H, room: usize, octets: &[u8]) -> bool {
     }
 }
 
-/// Whether of an open file of 65,536 times 'a', and "bc", all is read: 65,534 octets at once, then what is left of those that a buffer holds,
-/// then the rest, and nothing behind that.
+/// Whether of an open file of 65,536 times 'a', and "bc", all is read: 65,534 octets at once, then what is left of those that a buffer
+/// holds, then the rest, and nothing behind that.
 fn is_given_whole<H: Shelf>(alloc: Global, shelf: &mut H) -> bool {
     let Ok(mut large) = vec![in alloc; 0; 65534] else {
         return false;
