@@ -14,8 +14,8 @@ use Rattle.result_text.specs.declared.file.EdgeLine.{EdgeLine}
 use Rattle.drawing.specs.declared.group.Neighbour.{Neighbour}
 use Rattle.drawing.specs.declared.standings.Standing.{Standing}
 use Rattle.drawing.specs.declared.generation.Ends.{Ends}
-use Rattle.drawing.specs.Generations.{StandsFor, IsChoice, upward, standing_of, provider_with, provider_above, providers_above}
-use Rattle.drawing.specs.Neighbours.{NotAfter}
+use Rattle.drawing.specs.Generations.{StandsFor, IsGeneration, upward, standing_of, provider_with, provider_above, providers_above}
+use Rattle.drawing.specs.Neighbours.{IsNoLater}
 use Rattle.drawing.specs.Order.{IsShort}
 use Rattle.drawing.specs.Shifted.{HasNumbers}
 use Rattle.drawing.proofs.Numbering.{has_more}
@@ -25,7 +25,7 @@ numbers_of ns = map (λ n. n.number) ns
 
 -- what was chosen of the first k that were found
 pub record AreChosen (near : List ℕ) (found : List Neighbour) (k : ℕ) (chosen : List Neighbour) (set : List ℕ) : Type 0 where
-  pub choice : IsChoice near (take k found) chosen
+  pub choice : IsGeneration near (take k found) chosen
   pub has : HasNumbers set (near ++ numbers_of chosen)
 
 pub none_chosen : (near : List ℕ) (found : List Neighbour) (set : List ℕ) → HasNumbers set near → AreChosen near found 0 [] set
@@ -46,19 +46,19 @@ number_in ns k d lt =
     (Contains-get_or (numbers_of ns) k 0 (subst (λ m. k < m) (sym (length-map ns (λ n. n.number))) lt))
 
 -- those before k come before the one at k
-before : (found : List Neighbour) (k : ℕ) (y d : Neighbour) → k < length found → AllPairs NotAfter found → Contains (take k found) y → NotAfter y (get_or found k d)
+before : (found : List Neighbour) (k : ℕ) (y d : Neighbour) → k < length found → AllPairs IsNoLater found → Contains (take k found) y → IsNoLater y (get_or found k d)
 before found k y d lt sorted (i, few, e) =
     let many = length-take k found in
     let less : i < k = omega (arith, few, many) in
     let is : get_or found i d ≡ y = get_or_default found i d y (omega (arith, less, lt)) ∙ sym (get_or-take k found i y less) ∙ e in
-    subst (λ z. NotAfter z (get_or found k d)) is (sorted i k d less lt)
+    subst (λ z. IsNoLater z (get_or found k d)) is (sorted i k d less lt)
 
 any_more : (P : Neighbour → Type 0) (ns : List Neighbour) (x : Neighbour) → Any P ns → Any P (ns ++ x ∷ [])
 any_more P ns x (k, y, lt, e, holds) =
     (k, y, subst (λ n. k < n) (sym (length-append ns (x ∷ []))) (omega (arith, lt)), get_or_append_left ns (x ∷ []) y k lt ∙ e, holds)
 
 module _ (near : List ℕ) (found : List Neighbour) (k : ℕ) (d : Neighbour) (chosen : List Neighbour) (set new : List ℕ)
-    (lt : k < length found) (sorted : AllPairs NotAfter found) (so_far : AreChosen near found k chosen set) where
+    (lt : k < length found) (sorted : AllPairs IsNoLater found) (so_far : AreChosen near found k chosen set) where
   abbrev one : Neighbour
   one = get_or found k d
 
@@ -79,7 +79,7 @@ module _ (near : List ℕ) (found : List Neighbour) (k : ℕ) (d : Neighbour) (c
               (inr (Any-push (StandsFor one) chosen one (refl, omega arith))));
           once = all_pairs_push (λ n m. n.number ≢ m.number) chosen one choice.once (λ j e few same.
               not (Contains-append_right near (numbers_of chosen) one.number (subst (Contains (numbers_of chosen)) same (number_in chosen j e few))));
-          sorted = all_pairs_push NotAfter chosen one choice.sorted (λ j e few. before found k (get_or chosen j e) d lt sorted (choice.from j e few));
+          sorted = all_pairs_push IsNoLater chosen one choice.sorted (λ j e few. before found k (get_or chosen j e) d lt sorted (choice.from j e few));
         };
         has = subst (HasNumbers new) (append_assoc near (numbers_of chosen) (one.number ∷ []) ∙ ap (λ xs. near ++ xs) (sym (map_push (λ n. n.number) chosen one)))
             (has_more set new (near ++ numbers_of chosen) one.number true so_far.has is);
@@ -93,7 +93,7 @@ module _ (near : List ℕ) (found : List Neighbour) (k : ℕ) (d : Neighbour) (c
       let support : one.support ≤ m.support = no_less (before found k m d lt sorted (so_far.choice.from j d less)) in
       (j, m, less, get_or_default chosen j m d less, (same, support))
     where
-      no_less : NotAfter (get_or chosen j d) one → one.support ≤ (get_or chosen j d).support
+      no_less : IsNoLater (get_or chosen j d) one → one.support ≤ (get_or chosen j d).support
       no_less (inl more) = omega (arith, more)
       no_less (inr (e, le)) = omega (arith, e)
 
@@ -119,11 +119,11 @@ module _ (near : List ℕ) (found : List Neighbour) (k : ℕ) (d : Neighbour) (c
 
 -- all of them
 pub all_chosen : (near : List ℕ) (found : List Neighbour) (k : ℕ) (chosen : List Neighbour) (set : List ℕ) → length found ≤ k → AreChosen near found k chosen set →
-    IsChoice near found chosen × HasNumbers set (near ++ numbers_of chosen)
-all_chosen near found k chosen set le x = (subst (λ xs. IsChoice near xs chosen) (take_all k found le) x.choice, x.has)
+    IsGeneration near found chosen × HasNumbers set (near ++ numbers_of chosen)
+all_chosen near found k chosen set le x = (subst (λ xs. IsGeneration near xs chosen) (take_all k found le) x.choice, x.has)
 
 -- in whatever order they were found
-pub choice_sorted : (near : List ℕ) (found sorted ns : List Neighbour) → IsPermutation found sorted → IsChoice near sorted ns → IsChoice near found ns
+pub choice_sorted : (near : List ℕ) (found sorted ns : List Neighbour) → IsPermutation found sorted → IsGeneration near sorted ns → IsGeneration near found ns
 choice_sorted near found sorted ns p x =
     let back = IsPermutation-sym found sorted p in
     record {
@@ -173,18 +173,18 @@ pub choosing_none : (start : List ℕ) (found chosen : List Neighbour) → chose
 choosing_none start found chosen e = record { each = λ near has. subst (λ xs. AreChosen near found 0 xs start) (sym e) (none_chosen near found start has) }
 
 pub choosing_one : (start : List ℕ) (found : List Neighbour) (k : ℕ) (d : Neighbour) (chosen more : List Neighbour) (set new : List ℕ) → k < length found →
-    AllPairs NotAfter found → IsChoosing start found k chosen set → IsInserted ((get_or found k d).number + 2) set new true →
+    AllPairs IsNoLater found → IsChoosing start found k chosen set → IsInserted ((get_or found k d).number + 2) set new true →
     more ≡ chosen ++ get_or found k d ∷ [] → IsChoosing start found (k + 1) more new
 choosing_one start found k d chosen more set new lt sorted x is e = record {
   each = λ near has. subst (λ xs. AreChosen near found (k + 1) xs new) (sym e) (one_chosen near found k d chosen set new lt sorted (x.each near has) is);
 }
 
 pub choosing_left : (start : List ℕ) (found : List Neighbour) (k : ℕ) (d : Neighbour) (chosen : List Neighbour) (set new : List ℕ) → k < length found →
-    AllPairs NotAfter found → IsChoosing start found k chosen set → IsInserted ((get_or found k d).number + 2) set new false → IsChoosing start found (k + 1) chosen new
+    AllPairs IsNoLater found → IsChoosing start found k chosen set → IsInserted ((get_or found k d).number + 2) set new false → IsChoosing start found (k + 1) chosen new
 choosing_left start found k d chosen set new lt sorted x is = record {
   each = λ near has. one_left near found k d chosen set new lt sorted (x.each near has) is;
 }
 
 pub choosing_all : (start : List ℕ) (found : List Neighbour) (k : ℕ) (chosen : List Neighbour) (set : List ℕ) → length found ≤ k → IsChoosing start found k chosen set →
-    (near : List ℕ) → HasNumbers start near → IsChoice near found chosen × HasNumbers set (near ++ numbers_of chosen)
+    (near : List ℕ) → HasNumbers start near → IsGeneration near found chosen × HasNumbers set (near ++ numbers_of chosen)
 choosing_all start found k chosen set le x near has = all_chosen near found k chosen set le (x.each near has)

@@ -2,9 +2,9 @@
 use Rattle.std.proofs.Common.{◌≡◌, ℕ, ◌+◌, ◌-◌, ◌*◌, ◌<◌, ◌≤◌, ◌⊎◌, inl, inr, refl, sym, arith}
 use Rattle.std.proofs.lemmas.Bool.{cases_order}
 use Rattle.drawing.specs.declared.page.Rect.{Rect}
-use Rattle.drawing.specs.declared.page.Line.{Line}
+use Rattle.drawing.specs.declared.page.PageLine.{PageLine}
 use Rattle.drawing.specs.Page.{box_at, row_y, column_x}
-use Rattle.drawing.specs.Tidy.{Apart, Misses, KeepsOff, Joins, Within, LineWithin}
+use Rattle.drawing.specs.Tidy.{Apart, Misses, KeepsOff, LeadsBetween, Within, LineWithin}
 
 -- the columns and rows are not the same two
 abbrev pub Differ : ℕ → ℕ → ℕ → ℕ → Type 0
@@ -24,16 +24,16 @@ boxes_apart c r d s (inr (inr (e, inr lt))) = inr (inl (omega arith))
 
 -- ---- the lines by their numbers: y is where the centre begins
 
-abbrev pub up_to : ℕ → ℕ → ℕ → Line
+abbrev pub up_to : ℕ → ℕ → ℕ → PageLine
 up_to y c r = record { start_x = 500; start_y = y; trunk_x = 500; rail_y = row_y r + 38; end_x = column_x c + 40; end_y = row_y r + 24 }
 
-abbrev pub left_to : ℕ → ℕ → ℕ → Line
+abbrev pub left_to : ℕ → ℕ → ℕ → PageLine
 left_to y c r = record { start_x = 440; start_y = y + 12; trunk_x = 418; rail_y = row_y r + 38; end_x = column_x c + 40; end_y = row_y r + 24 }
 
-abbrev pub right_to : ℕ → ℕ → ℕ → Line
+abbrev pub right_to : ℕ → ℕ → ℕ → PageLine
 right_to y c r = record { start_x = 560; start_y = y + 12; trunk_x = 582; rail_y = row_y r + 38; end_x = column_x c + 40; end_y = row_y r + 24 }
 
-abbrev pub down_to : ℕ → ℕ → ℕ → Line
+abbrev pub down_to : ℕ → ℕ → ℕ → PageLine
 down_to y c r = record { start_x = 500; start_y = y + 24; trunk_x = 500; rail_y = row_y r - 14; end_x = column_x c + 40; end_y = row_y r }
 
 -- ---- parts of lines
@@ -142,7 +142,7 @@ right_off m n c r d s le lt beside o =
 abbrev pub centre_at : ℕ → Rect
 centre_at m = record { x = 440; y = row_y m; width = 120; height = 24 }
 
-pub up_joins : (m c r : ℕ) → r < m → Joins (up_to (row_y m) c r) (centre_at m) (box_at c r)
+pub up_joins : (m c r : ℕ) → r < m → LeadsBetween (up_to (row_y m) c r) (centre_at m) (box_at c r)
 up_joins m c r lt =
     let a : row_y m ≤ row_y m = omega arith in
     let b : row_y r + 38 ≤ row_y m = omega arith in
@@ -160,7 +160,7 @@ up_joins m c r lt =
       outside_other = (inr (inr (inr (d, d))), inr (inr (inr (d, e))), inr (inr (inr (e, e))), inr (inr (inr (e, f))));
     }
 
-pub down_joins : (m c r : ℕ) → m < r → Joins (down_to (row_y m) c r) (centre_at m) (box_at c r)
+pub down_joins : (m c r : ℕ) → m < r → LeadsBetween (down_to (row_y m) c r) (centre_at m) (box_at c r)
 down_joins m c r lt =
     let a : row_y m + 24 ≤ row_y m + 24 = omega arith in
     let b : row_y m + 24 ≤ row_y r - 14 = omega arith in
@@ -178,7 +178,7 @@ down_joins m c r lt =
       outside_other = (inr (inr (inl (d, d))), inr (inr (inl (d, e))), inr (inr (inl (e, e))), inr (inr (inl (e, f))));
     }
 
-pub left_joins : (m c r : ℕ) → c < 4 → m ≤ r → Joins (left_to (row_y m) c r) (centre_at m) (box_at c r)
+pub left_joins : (m c r : ℕ) → c < 4 → m ≤ r → LeadsBetween (left_to (row_y m) c r) (centre_at m) (box_at c r)
 left_joins m c r few le =
     let a : 440 ≤ 440 = omega arith in
     let b : 418 ≤ 440 = omega arith in
@@ -198,7 +198,7 @@ left_joins m c r few le =
       outside_other = (inr (inl (g, h)), inr (inl (h, h)), inr (inr (inr (i, i))), inr (inr (inr (i, j))));
     }
 
-pub right_joins : (m c r : ℕ) → 5 < c → m ≤ r → Joins (right_to (row_y m) c r) (centre_at m) (box_at c r)
+pub right_joins : (m c r : ℕ) → 5 < c → m ≤ r → LeadsBetween (right_to (row_y m) c r) (centre_at m) (box_at c r)
 right_joins m c r many le =
     let a : 440 + 120 ≤ 560 = omega arith in
     let b : 440 + 120 ≤ 582 = omega arith in
@@ -241,7 +241,7 @@ pub centre_within : (n m : ℕ) → m < n → Within (row_y n) (centre_at m)
 centre_within n m lt = (omega arith, omega arith)
 
 -- any line whose numbers lie on the page
-pub line_within : (height : ℕ) (l : Line) → l.start_x ≤ 1000 → l.trunk_x ≤ 1000 → l.end_x ≤ 1000 → l.start_y ≤ height → l.rail_y ≤ height → l.end_y ≤ height → LineWithin height l
+pub line_within : (height : ℕ) (l : PageLine) → l.start_x ≤ 1000 → l.trunk_x ≤ 1000 → l.end_x ≤ 1000 → l.start_y ≤ height → l.rail_y ≤ height → l.end_y ≤ height → LineWithin height l
 line_within height l sx tx ex sy ry ey = ((sx, tx, sy, sy), (tx, tx, sy, ry), (tx, ex, ry, ry), (ex, ex, ry, ey))
 
 pub up_within : (n m c r : ℕ) → c < 10 → r < m → m < n → LineWithin (row_y n) (up_to (row_y m) c r)

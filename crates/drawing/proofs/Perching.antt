@@ -13,11 +13,11 @@ use Rattle.drawing.specs.declared.page.Cell.{Cell}
 use Rattle.drawing.specs.declared.standings.Standing.{Standing}
 use Rattle.drawing.specs.declared.generation.Ends.{Ends}
 use Rattle.drawing.specs.declared.tower.Tie.{Tie}
-use Rattle.drawing.specs.declared.drawing.Entry.{Entry}
-use Rattle.drawing.specs.declared.drawing.Entry.TheVariants as entry
-use Rattle.drawing.specs.Entries.{entries_of}
+use Rattle.drawing.specs.declared.drawing.BoxEntry.{BoxEntry}
+use Rattle.drawing.specs.declared.drawing.BoxEntry.TheVariants as entry
+use Rattle.drawing.specs.Entries.{box_entries}
 use Rattle.drawing.specs.Page.{cell_of, rows_of, IsCell}
-use Rattle.drawing.specs.Generations.{upward, standing_of, tie_of, box_count, rows_with, standing_at, standings_at, perch_at, perches_at, rank_above, topmost, perches, ties, tie_with}
+use Rattle.drawing.specs.Generations.{upward, standing_of, tie_of, box_count, rows_with, standing_at, standings_at, perch_at, perches_at, rank_above, topmost, perches, rising_ties, tie_with}
 use Rattle.drawing.proofs.Cells.{later_ten, row_of_ten, column_lt_ten, column_lt}
 use Rattle.drawing.proofs.Numbered.{numbered_each, numbered_pairs, pairs_append}
 
@@ -53,7 +53,7 @@ as_drawn most ns =
     let b = length-map (take most ns) (λ n. entry.One n) in
     omega (arith, a, b)
   where
-    more : List Neighbour → List Entry
+    more : List Neighbour → List BoxEntry
     more ns = if nat_lt most (length ns) then entry.More (length ns - most) ∷ [] else []
 
 pub standings_in_rows : (most rank : ℕ) (ns : List Neighbour) → All (λ s. InRows rank (rank + rows_with most ns) s.cell) (standings_at most rank ns)
@@ -64,12 +64,12 @@ standings_in_rows most rank ns =
 
 perches_in_rows : (most rank : ℕ) (ns : List Neighbour) → All (λ q. InRows rank (rank + rows_with most ns) q.cell) (perches_at most rank ns)
 perches_in_rows most rank ns =
-    numbered_each (perch_at (box_count most ns) rank) (entries_of most ns) (λ q. q.entry) (λ q. InRows rank (rank + rows_with most ns) q.cell)
+    numbered_each (perch_at (box_count most ns) rank) (box_entries most ns) (λ q. q.entry) (λ q. InRows rank (rank + rows_with most ns) q.cell)
     (λ k x lt. cell_in_rows (box_count most ns) rank k lt)
 
 perches_differ : (most rank : ℕ) (ns : List Neighbour) → AllPairs (λ q u. CellsDiffer q.cell u.cell) (perches_at most rank ns)
 perches_differ most rank ns =
-    numbered_pairs (perch_at (box_count most ns) rank) (entries_of most ns) (λ q. q.entry) (λ q u. CellsDiffer q.cell u.cell)
+    numbered_pairs (perch_at (box_count most ns) rank) (box_entries most ns) (λ q. q.entry) (λ q u. CellsDiffer q.cell u.cell)
     (λ k j x z lt few. cells_differ (box_count most ns) rank k j lt)
 
 -- ---- all generations
@@ -157,11 +157,11 @@ made lower upper middle to e t one other (Some u) is =
     (λ s f. found_is (λ s. s.number == u.provider) (λ s. InRows middle to s.cell) upper s other f) is
 
 pub all_rise : (edges : List EdgeLine) (most : ℕ) (first : List Neighbour) (gs : List (List Neighbour)) →
-    All (IsRise (rank_above most first gs)) (ties edges most first gs)
+    All (IsRise (rank_above most first gs)) (rising_ties edges most first gs)
 all_rise edges most first [] = All-nil _
 all_rise edges most first (g ∷ gs) =
-    All-append (IsRise (rank_above most first (g ∷ gs))) (ties edges most first gs) (filter_map (tie_of (topmost most first gs) (topmost most first (g ∷ gs))) edges)
-    (λ k d lt. higher (get_or (ties edges most first gs) k d) (all_rise edges most first gs k d lt))
+    All-append (IsRise (rank_above most first (g ∷ gs))) (rising_ties edges most first gs) (filter_map (tie_of (topmost most first gs) (topmost most first (g ∷ gs))) edges)
+    (λ k d lt. higher (get_or (rising_ties edges most first gs) k d) (all_rise edges most first gs k d lt))
     (all_made (tie_of (topmost most first gs) (topmost most first (g ∷ gs))) (IsRise (rank_above most first (g ∷ gs))) edges (λ e t is.
     made (topmost most first gs) (topmost most first (g ∷ gs)) (rank_above most first gs) (rank_above most first (g ∷ gs)) e t
     (topmost_in_rows most first gs) (standings_in_rows most (rank_above most first gs) g) (upward e) is))
@@ -179,9 +179,9 @@ pub perches_are_cells : (most : ℕ) (first : List Neighbour) (gs : List (List N
 perches_are_cells most first gs k d lt = let x = all_in_rows most first gs k d lt in (x.few, x.low)
 
 pub lower_are_cells : (edges : List EdgeLine) (most : ℕ) (first : List Neighbour) (gs : List (List Neighbour)) →
-    All (λ t. IsCell (rank_above most first gs) t.lower) (ties edges most first gs)
+    All (λ t. IsCell (rank_above most first gs) t.lower) (rising_ties edges most first gs)
 lower_are_cells edges most first gs k d lt = let x = (all_rise edges most first gs k d lt).lower in (x.few, x.low)
 
 pub upper_are_cells : (edges : List EdgeLine) (most : ℕ) (first : List Neighbour) (gs : List (List Neighbour)) →
-    All (λ t. IsCell (rank_above most first gs) t.upper) (ties edges most first gs)
+    All (λ t. IsCell (rank_above most first gs) t.upper) (rising_ties edges most first gs)
 upper_are_cells edges most first gs k d lt = let x = (all_rise edges most first gs k d lt).upper in (x.few, x.low)

@@ -1,15 +1,15 @@
 -- Lines from a box to one in a row above it.
 use Rattle.std.proofs.Common.{◌≡◌, ℕ, ◌+◌, ◌-◌, ◌*◌, ◌<◌, ◌≤◌, ◌⊎◌, inl, inr, refl, sym, ap, ◌∙◌, arith, lt-ltb, le-ltb, subst}
 use Rattle.std.proofs.lemmas.Bool.{cases_order}
-use Rattle.drawing.specs.declared.page.Line.{Line}
+use Rattle.drawing.specs.declared.page.PageLine.{PageLine}
 use Rattle.drawing.specs.declared.page.Plan.{Plan}
 use Rattle.drawing.specs.declared.page.Cell.{Cell}
-use Rattle.drawing.specs.Page.{box_at, row_y, column_x, line_between, cell_row}
-use Rattle.drawing.specs.Tidy.{Misses, KeepsOff, KeepsOffOthers, Joins, LineWithin}
+use Rattle.drawing.specs.Page.{box_at, row_y, column_x, rising_line, cell_row}
+use Rattle.drawing.specs.Tidy.{Misses, KeepsOff, KeepsOffOthers, LeadsBetween, LineWithin}
 use Rattle.drawing.proofs.Geometry.{Differ, at_most, line_within, centre_at}
 
 -- from column c of row r to column d of row s
-abbrev pub right_up : ℕ → ℕ → ℕ → ℕ → Line
+abbrev pub right_up : ℕ → ℕ → ℕ → ℕ → PageLine
 right_up c r d s = record {
   start_x = column_x c + 80;
   start_y = row_y r + 12;
@@ -19,7 +19,7 @@ right_up c r d s = record {
   end_y = row_y s + 24;
 }
 
-abbrev pub left_up : ℕ → ℕ → ℕ → ℕ → Line
+abbrev pub left_up : ℕ → ℕ → ℕ → ℕ → PageLine
 left_up c r d s = record {
   start_x = column_x c;
   start_y = row_y r + 12;
@@ -89,10 +89,10 @@ last_part c d s e t few (inr (inr (same, inr lt))) = let a : 28 + 96 * e + 80 < 
 
 -- ---- what is said of a line from column c of row r to column d of row s, on a page with the centre in row m and with so many rows
 
-pub record Rises (m rows c r d s : ℕ) (l : Line) : Type 0 where
+pub record Rises (m rows c r d s : ℕ) (l : PageLine) : Type 0 where
   pub off : (e t : ℕ) → Differ c r e t → Differ d s e t → KeepsOff l (box_at e t)
   pub off_centre : KeepsOff l (centre_at m)
-  pub joins : Joins l (box_at c r) (box_at d s)
+  pub joins : LeadsBetween l (box_at c r) (box_at d s)
   pub within : LineWithin (row_y rows) l
 
 right_rises : (m rows c r d s : ℕ) → c < 10 → d < 10 → s < r → r < m → m < rows → Rises m rows c r d s (right_up c r d s)
@@ -164,18 +164,18 @@ left_rises m rows c r d s few few' lt low lt' =
 -- ---- the line between two cells
 
 pub between_rises : (p : Plan) (m rows : ℕ) (lower upper : Cell) → lower.column < 10 → upper.column < 10 → cell_row p upper < cell_row p lower →
-    cell_row p lower < m → m < rows → Rises m rows lower.column (cell_row p lower) upper.column (cell_row p upper) (line_between p lower upper)
+    cell_row p lower < m → m < rows → Rises m rows lower.column (cell_row p lower) upper.column (cell_row p upper) (rising_line p lower upper)
 between_rises p m rows lower upper few few' lt low lt' = elim (cases_order lower.column upper.column) [
   | inl e ↦ left (omega (arith, e))
   | inr o ↦ elim o [ inl l ↦ right l | inr g ↦ left (omega (arith, g)) ]
 ]
   where
-    right : lower.column < upper.column → Rises m rows lower.column (cell_row p lower) upper.column (cell_row p upper) (line_between p lower upper)
+    right : lower.column < upper.column → Rises m rows lower.column (cell_row p lower) upper.column (cell_row p upper) (rising_line p lower upper)
     right l =
         subst (Rises m rows lower.column (cell_row p lower) upper.column (cell_row p upper)) (rw (lt-ltb lower.column upper.column l) refl)
         (right_rises m rows lower.column (cell_row p lower) upper.column (cell_row p upper) few few' lt low lt')
 
-    left : upper.column ≤ lower.column → Rises m rows lower.column (cell_row p lower) upper.column (cell_row p upper) (line_between p lower upper)
+    left : upper.column ≤ lower.column → Rises m rows lower.column (cell_row p lower) upper.column (cell_row p upper) (rising_line p lower upper)
     left le =
         subst (Rises m rows lower.column (cell_row p lower) upper.column (cell_row p upper)) (rw (le-ltb lower.column upper.column le) refl)
         (left_rises m rows lower.column (cell_row p lower) upper.column (cell_row p upper) few few' lt low lt')
@@ -191,7 +191,7 @@ same_or_not c r d s = elim (cases_order r s) [
 pub same_box : {c r d s : ℕ} → c ≡ d → r ≡ s → box_at d s ≡ box_at c r
 same_box {c} {r} {d} {s} e f = ap (λ x. box_at x s) (sym e) ∙ ap (λ y. box_at c y) (sym f)
 
-pub rises_off : (m rows c r d s : ℕ) (l : Line) → Rises m rows c r d s l → (e t : ℕ) → KeepsOffOthers l (box_at c r) (box_at d s) (box_at e t)
+pub rises_off : (m rows c r d s : ℕ) (l : PageLine) → Rises m rows c r d s l → (e t : ℕ) → KeepsOffOthers l (box_at c r) (box_at d s) (box_at e t)
 rises_off m rows c r d s l x e t = elim (same_or_not c r e t) [
   | inl same ↦ inl (same_box same.0 same.1)
   | inr one ↦ elim (same_or_not d s e t) [

@@ -2,18 +2,18 @@
 use Rattle.std.proofs.Common.{◌≡◌, ℕ, ◌+◌, ◌-◌, ◌/◌, ◌<◌, ◌≤◌, ◌⊎◌, inl, inr, refl, sym, ap, ◌∙◌, subst, arith, lt-ltb, le-ltb}
 use Rattle.std.proofs.lemmas.Bool.{cases_order}
 use Rattle.drawing.specs.declared.page.Rect.{Rect}
-use Rattle.drawing.specs.declared.page.Line.{Line}
+use Rattle.drawing.specs.declared.page.PageLine.{PageLine}
 use Rattle.drawing.specs.declared.page.Spot.{Spot}
 use Rattle.drawing.specs.declared.page.Plan.{Plan}
 use Rattle.drawing.specs.Page.{centre_row, first_row_below, row_count, row_y, box_at, column_of, spot_above, spot_beside, spot_below, spot_of}
-use Rattle.drawing.specs.Tidy.{Apart, KeepsOff, KeepsOffOthers, Joins, Within, LineWithin}
+use Rattle.drawing.specs.Tidy.{Apart, KeepsOff, KeepsOffOthers, LeadsBetween, Within, LineWithin}
 use Rattle.drawing.proofs.Cells.{later_ten, later_eight, row_of_ten, row_of_eight, column_lt_ten, column_in_eight, column_lt, outwards, outwards_lt, outwards_sides}
 use Rattle.drawing.proofs.Geometry.{Differ, boxes_apart, up_to, left_to, right_to, down_to, up_off, down_off, left_off, right_off, Beside, centre_at}
 use Rattle.drawing.proofs.Geometry.{up_joins, down_joins, left_joins, right_joins, up_off_centre, down_off_centre, left_off_centre, right_off_centre}
 use Rattle.drawing.proofs.Rising.{same_or_not, same_box}
 use Rattle.drawing.proofs.Geometry.{box_within, up_within, down_within, left_within, right_within}
 
-abbrev at_with : Rect → Line → Spot
+abbrev at_with : Rect → PageLine → Spot
 at_with b l = record { at = b; line = l }
 
 -- ---- one spot
@@ -30,7 +30,7 @@ pub record IsFine (m rows : ℕ) (s : Spot) : Type 0 where
   pub box : Within (row_y rows) s.at
   pub line : LineWithin (row_y rows) s.line
   pub off_centre : Apart (centre_at m) s.at
-  pub joins : Joins s.line (centre_at m) s.at
+  pub joins : LeadsBetween s.line (centre_at m) s.at
 
 pub fine : (m n rows c r : ℕ) (s : Spot) → m < n → n ≤ rows → Stands m n rows c r s → IsFine m rows s
 fine m n rows c r s lt le (up few above e) =

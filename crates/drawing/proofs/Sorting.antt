@@ -16,8 +16,8 @@ use Rattle.result_text.specs.declared.file.EdgeLine.{EdgeLine}
 use Rattle.drawing.specs.declared.group.Group.{Group}
 use Rattle.drawing.specs.declared.group.Neighbour.{Neighbour}
 use Rattle.drawing.specs.declared.group.Tally.{Tally}
-use Rattle.drawing.specs.Neighbours.{is_in, neighbour_of, neighbours, NotAfter, is_forced, tally}
-use Rattle.drawing.specs.Order.{key_of, IsShort}
+use Rattle.drawing.specs.Neighbours.{is_in, neighbour_of, neighbours, IsNoLater, has_forced_edge, tally}
+use Rattle.drawing.specs.Order.{order_key, IsShort}
 
 -- ---- one edge more
 
@@ -77,17 +77,17 @@ pair_cmp x y = ordering_then (nat_cmp x.0 y.0) (nat_cmp x.1 y.1)
 pair_total : IsTotalOrder pair_cmp
 pair_total = then_total (on_total (λ (p : ℕ × ℕ). p.0) nat_cmp_total) (on_total (λ (p : ℕ × ℕ). p.1) nat_cmp_total)
 
-not_after : (n m : Neighbour) → n.support < 2 ^ 64 → m.support < 2 ^ 64 → is_lt (pair_cmp (key_of m) (key_of n)) ≡ false → NotAfter n m
+not_after : (n m : Neighbour) → n.support < 2 ^ 64 → m.support < 2 ^ 64 → is_lt (pair_cmp (order_key m) (order_key n)) ≡ false → IsNoLater n m
 not_after n m small small' h =
-    elim (not_lower (key_of m).0 (key_of n).0 (key_of m).1 (key_of n).1 h) [
+    elim (not_lower (order_key m).0 (order_key n).0 (order_key m).1 (order_key n).1 h) [
       | inl lt ↦ inl (omega (arith, lt, small, small'))
       | inr (e, le) ↦ inr (omega (arith, e, small, small'), le)
     ]
 
-pub sorted_is : (ns : List Neighbour) → All IsShort ns → IsSortedByKey key_of pair_cmp ns → AllPairs NotAfter ns
+pub sorted_is : (ns : List Neighbour) → All IsShort ns → IsSortedByKey order_key pair_cmp ns → AllPairs IsNoLater ns
 sorted_is ns small up i j d less lt =
     not_after (get_or ns i d) (get_or ns j d) (small i d (omega (arith, less, lt))) (small j d lt)
-    (sorted_far (λ (x y : Neighbour). is_lt (pair_cmp (key_of x) (key_of y))) (ranks_by pair_total key_of) ns up i j d (omega (arith, less)) lt)
+    (sorted_far (λ (x y : Neighbour). is_lt (pair_cmp (order_key x) (order_key y))) (ranks_by pair_total order_key) ns up i j d (omega (arith, less)) lt)
 
 -- ---- counts are the same in any order
 
@@ -98,4 +98,4 @@ same : (a b c d : ℕ) → a ≡ b → c ≡ d → tally_with a c ≡ tally_with
 same a b c d e f = ap (λ x. tally_with x c) e ∙ ap (λ x. tally_with b x) f
 
 pub same_tally : (xs ys : List Neighbour) → IsPermutation xs ys → tally ys ≡ tally xs
-same_tally xs ys p = same (length ys) (length xs) (count_by is_forced ys) (count_by is_forced xs) (length_permutation xs ys p) (sum_by-IsPermutation (λ n. cond (is_forced n) 1 0) xs ys p)
+same_tally xs ys p = same (length ys) (length xs) (count_by has_forced_edge ys) (count_by has_forced_edge xs) (length_permutation xs ys p) (sum_by-IsPermutation (λ n. cond (has_forced_edge n) 1 0) xs ys p)

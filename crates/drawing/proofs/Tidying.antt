@@ -5,19 +5,19 @@ use Rattle.std.proofs.lemmas.List.Elements.{All-append, All-cons, All-map}
 use Rattle.std.proofs.lemmas.List.Kept.{AllPairs-cons}
 use Rattle.result_text.specs.declared.file.EdgeLine.{EdgeLine}
 use Rattle.drawing.specs.declared.group.Neighbour.{Neighbour}
-use Rattle.drawing.specs.declared.group.Counts.{Counts}
+use Rattle.drawing.specs.declared.group.NeighbourCounts.{NeighbourCounts}
 use Rattle.drawing.specs.declared.page.Plan.{Plan}
 use Rattle.drawing.specs.declared.page.Rect.{Rect}
 use Rattle.drawing.specs.declared.page.Cell.{Cell}
 use Rattle.drawing.specs.declared.tower.Perch.{Perch}
 use Rattle.drawing.specs.declared.tower.Tie.{Tie}
-use Rattle.drawing.specs.declared.drawing.Entry.{Entry}
+use Rattle.drawing.specs.declared.drawing.BoxEntry.{BoxEntry}
 use Rattle.drawing.specs.declared.drawing.Item.{Item}
-use Rattle.drawing.specs.Entries.{entries_of}
-use Rattle.drawing.specs.Page.{rows_of, box_in, cell_row, centre_row, first_row_below, row_count, spot_of, centre_box, page_height, line_between}
+use Rattle.drawing.specs.Entries.{box_entries}
+use Rattle.drawing.specs.Page.{rows_of, box_in, cell_row, centre_row, first_row_below, row_count, spot_of, centre_box, page_height, rising_line}
 use Rattle.drawing.specs.Picture.{greatest_of, item_of, items_of, post_of, link_of, plan_of, drawing_with, drawing_by}
-use Rattle.drawing.specs.Generations.{rows_with, rank_above, perches, ties}
-use Rattle.drawing.specs.Tidy.{IsTidy, Within, LineWithin, Apart, Joins, KeepsOffOthers, boxes_of}
+use Rattle.drawing.specs.Generations.{rows_with, rank_above, perches, rising_ties}
+use Rattle.drawing.specs.Tidy.{IsTidy, Within, LineWithin, Apart, LeadsBetween, KeepsOffOthers, boxes_of}
 use Rattle.drawing.proofs.Geometry.{Differ, centre_within, box_within, boxes_apart, up_off_centre}
 use Rattle.drawing.proofs.Rising.{Rises, between_rises, rises_off}
 use Rattle.drawing.proofs.Seats.{all_boxes, OnGrid, one_fine, one_on_grid, one_off_others, two_apart, far_apart}
@@ -56,7 +56,7 @@ rows_differ p c d few few' (inr (inr (e, o))) = inr (inr (ap (λ q. centre_row p
 -- ---- all boxes
 
 -- what holds of the centre and of all boxes in columns and rows
-each_box : (p : Plan) (es : List Entry) (greatest : ℕ) (boxes : List Perch) (P : Rect → Type 0) → length es ≡ all_boxes p →
+each_box : (p : Plan) (es : List BoxEntry) (greatest : ℕ) (boxes : List Perch) (P : Rect → Type 0) → length es ≡ all_boxes p →
     All (λ q. InRows (rows_of 10 p.above) (centre_row p) q.cell) boxes → P (centre_box p) →
     ((o : Rect) → OnGrid (centre_row p) (first_row_below p) (row_count p) o → P o) →
     All P (centre_box p ∷ (map (λ i. i.at) (items_of p greatest es) ++ map (λ q. q.at) (map (post_of p) boxes)))
@@ -69,12 +69,12 @@ each_box p es greatest boxes P same in_rows centre holds =
     (λ k d lt. holds (box_in p (get_or boxes k d).cell) (cell_on_grid p (get_or boxes k d).cell (in_rows k d lt))))))
 
 -- what is said of one item follows from what is said of its spot
-each_item : (p : Plan) (es : List Entry) (greatest : ℕ) (P : Item → Type 0) → length es ≡ all_boxes p →
-    ((k : ℕ) (e : Entry) → k < all_boxes p → P (item_of p greatest (k, e))) → All P (items_of p greatest es)
+each_item : (p : Plan) (es : List BoxEntry) (greatest : ℕ) (P : Item → Type 0) → length es ≡ all_boxes p →
+    ((k : ℕ) (e : BoxEntry) → k < all_boxes p → P (item_of p greatest (k, e))) → All P (items_of p greatest es)
 each_item p es greatest P same holds = numbered_each (item_of p greatest) es (λ i. i.entry) P (λ k e lt. holds k e (subst (λ n. k < n) same lt))
 
 -- no two boxes have a point in common
-items_apart : (p : Plan) (es : List Entry) (greatest : ℕ) → length es ≡ all_boxes p → AllPairs Apart (map (λ i. i.at) (items_of p greatest es))
+items_apart : (p : Plan) (es : List BoxEntry) (greatest : ℕ) → length es ≡ all_boxes p → AllPairs Apart (map (λ i. i.at) (items_of p greatest es))
 items_apart p es greatest same =
     pairs_map Apart (λ i. i.at) (items_of p greatest es)
     (numbered_pairs (item_of p greatest) es (λ i. i.entry) (λ i j. Apart i.at j.at) (λ k j e f less lt. two_apart p k j less (subst (λ n. j < n) same lt)))
@@ -88,7 +88,7 @@ posts_apart p boxes in_rows differ i j d less lt =
     let other = in_rows j d lt in
     boxes_apart q.cell.column (cell_row p q.cell) u.cell.column (cell_row p u.cell) (rows_differ p q.cell u.cell one.low other.low (differ i j d less lt))
 
-items_off_posts : (p : Plan) (es : List Entry) (greatest : ℕ) (boxes : List Perch) → length es ≡ all_boxes p →
+items_off_posts : (p : Plan) (es : List BoxEntry) (greatest : ℕ) (boxes : List Perch) → length es ≡ all_boxes p →
     All (λ q. InRows (rows_of 10 p.above) (centre_row p) q.cell) boxes →
     All (λ b. All (Apart b) (map (λ q. q.at) (map (post_of p) boxes))) (map (λ i. i.at) (items_of p greatest es))
 items_off_posts p es greatest boxes same in_rows =
@@ -97,7 +97,7 @@ items_off_posts p es greatest boxes same in_rows =
     All-map (Apart (spot_of p k).at) (λ q. q.at) (map (post_of p) boxes) (All-map (λ q. Apart (spot_of p k).at q.at) (post_of p) boxes
     (λ j d few. let c = (get_or boxes j d).cell in far_apart p k c.column (cell_row p c) lt (high_row p c (in_rows j d few))))))
 
-centre_off : (p : Plan) (es : List Entry) (greatest : ℕ) (boxes : List Perch) → length es ≡ all_boxes p →
+centre_off : (p : Plan) (es : List BoxEntry) (greatest : ℕ) (boxes : List Perch) → length es ≡ all_boxes p →
     All (λ q. InRows (rows_of 10 p.above) (centre_row p) q.cell) boxes →
     All (Apart (centre_box p)) (map (λ i. i.at) (items_of p greatest es) ++ map (λ q. q.at) (map (post_of p) boxes))
 centre_off p es greatest boxes same in_rows =
@@ -110,7 +110,7 @@ centre_off p es greatest boxes same in_rows =
     let low = (in_rows j d few).low in
     up_off_centre (centre_row p) c.column (cell_row p c) (omega (arith, low)))))
 
-boxes_are_apart : (p : Plan) (es : List Entry) (greatest : ℕ) (boxes : List Perch) → length es ≡ all_boxes p →
+boxes_are_apart : (p : Plan) (es : List BoxEntry) (greatest : ℕ) (boxes : List Perch) → length es ≡ all_boxes p →
     All (λ q. InRows (rows_of 10 p.above) (centre_row p) q.cell) boxes → AllPairs (λ q u. CellsDiffer q.cell u.cell) boxes →
     AllPairs Apart (centre_box p ∷ (map (λ i. i.at) (items_of p greatest es) ++ map (λ q. q.at) (map (post_of p) boxes)))
 boxes_are_apart p es greatest boxes same in_rows differ =
@@ -123,7 +123,7 @@ boxes_are_apart p es greatest boxes same in_rows differ =
 -- ---- lines between further boxes
 
 rises : (p : Plan) (t : Tie) → IsRise (centre_row p) t →
-    Rises (centre_row p) (row_count p) t.lower.column (cell_row p t.lower) t.upper.column (cell_row p t.upper) (line_between p t.lower t.upper)
+    Rises (centre_row p) (row_count p) t.lower.column (cell_row p t.lower) t.upper.column (cell_row p t.upper) (rising_line p t.lower t.upper)
 rises p t x =
     let l = x.lower.low in
     let u = x.upper.low in
@@ -131,15 +131,15 @@ rises p t x =
     between_rises p (centre_row p) (row_count p) t.lower t.upper x.lower.few x.upper.few (omega (arith, l, u, up)) (omega (arith, l)) (omega arith)
 
 link_off : (p : Plan) (t : Tie) → IsRise (centre_row p) t → (o : Rect) → OnGrid (centre_row p) (first_row_below p) (row_count p) o →
-    KeepsOffOthers (line_between p t.lower t.upper) (box_in p t.lower) (box_in p t.upper) o
+    KeepsOffOthers (rising_line p t.lower t.upper) (box_in p t.lower) (box_in p t.upper) o
 link_off p t x o on =
-    subst (KeepsOffOthers (line_between p t.lower t.upper) (box_in p t.lower) (box_in p t.upper)) (sym on.is)
-    (rises_off (centre_row p) (row_count p) t.lower.column (cell_row p t.lower) t.upper.column (cell_row p t.upper) (line_between p t.lower t.upper)
+    subst (KeepsOffOthers (rising_line p t.lower t.upper) (box_in p t.lower) (box_in p t.upper)) (sym on.is)
+    (rises_off (centre_row p) (row_count p) t.lower.column (cell_row p t.lower) t.upper.column (cell_row p t.upper) (rising_line p t.lower t.upper)
     (rises p t x) on.column on.row)
 
 -- ---- the whole
 
-pub tidy_with : (a : ℕ) (counts : Counts) (p : Plan) (es : List Entry) (boxes : List Perch) (lines : List Tie) → length es ≡ all_boxes p → IsAbove p boxes lines →
+pub tidy_with : (a : ℕ) (counts : NeighbourCounts) (p : Plan) (es : List BoxEntry) (boxes : List Perch) (lines : List Tie) → length es ≡ all_boxes p → IsAbove p boxes lines →
     IsTidy (drawing_with a counts p es boxes lines)
 tidy_with a counts p es boxes lines same above =
     let greatest = greatest_of es lines in
@@ -154,30 +154,30 @@ tidy_with a counts p es boxes lines same above =
       lines_within = each_item p es greatest (λ i. LineWithin (page_height p) i.line) same (λ k e lt. (one_fine p k lt).line);
       links_within = All-map (λ l. LineWithin (page_height p) l.line) (link_of p greatest) lines (λ k d lt. (rises p (get_or lines k d) (above.rise k d lt)).within);
       apart = boxes_are_apart p es greatest boxes same above.in_rows above.differ;
-      joining = each_item p es greatest (λ i. Joins i.line (centre_box p) i.at) same (λ k e lt. (one_fine p k lt).joins);
-      links_joining = All-map (λ l. Joins l.line l.lower l.upper) (link_of p greatest) lines (λ k d lt. (rises p (get_or lines k d) (above.rise k d lt)).joins);
+      joining = each_item p es greatest (λ i. LeadsBetween i.line (centre_box p) i.at) same (λ k e lt. (one_fine p k lt).joins);
+      links_joining = All-map (λ l. LeadsBetween l.line l.lower l.upper) (link_of p greatest) lines (λ k d lt. (rises p (get_or lines k d) (above.rise k d lt)).joins);
       keeping_off = each_item p es greatest (λ i. All (KeepsOffOthers i.line (centre_box p) i.at) all) same (λ k e lt.
           each_box p es greatest boxes (KeepsOffOthers (spot_of p k).line (centre_box p) (spot_of p k).at) same above.in_rows (inl refl) (one_off_others p k lt));
       links_keeping_off = All-map (λ l. All (KeepsOffOthers l.line l.lower l.upper) all) (link_of p greatest) lines (λ k d lt.
           let t = get_or lines k d in
           let x = above.rise k d lt in
-          each_box p es greatest boxes (KeepsOffOthers (line_between p t.lower t.upper) (box_in p t.lower) (box_in p t.upper)) same above.in_rows
+          each_box p es greatest boxes (KeepsOffOthers (rising_line p t.lower t.upper) (box_in p t.lower) (box_in p t.upper)) same above.in_rows
           (inr (inr (rises p t x).off_centre)) (link_off p t x));
     }
 
-pub three_parts : (xs ys zs : List Entry) → length (xs ++ (ys ++ zs)) ≡ length xs + length ys + length zs
+pub three_parts : (xs ys zs : List BoxEntry) → length (xs ++ (ys ++ zs)) ≡ length xs + length ys + length zs
 three_parts xs ys zs = let a = length-append xs (ys ++ zs) in let b = length-append ys zs in omega (arith, a, b)
 
 pub drawing_tidy : (edges : List EdgeLine) (a most : ℕ) (ps qs cs : List Neighbour) (gs : List (List Neighbour)) → IsTidy (drawing_by edges a most ps qs cs gs)
 drawing_tidy edges a most ps qs cs gs =
-    let xs = entries_of most ps in
-    let ys = entries_of most qs in
-    let zs = entries_of most cs in
+    let xs = box_entries most ps in
+    let ys = box_entries most qs in
+    let zs = box_entries most cs in
     let p = plan_of xs ys zs (rank_above most ps gs) in
     let from = rank_from most ps gs in
     let whole : rank_above most ps gs ≡ centre_row p = omega (arith, from) in
-    tidy_with a _ p (xs ++ (ys ++ zs)) (perches most ps gs) (ties edges most ps gs) (three_parts xs ys zs) (record {
+    tidy_with a _ p (xs ++ (ys ++ zs)) (perches most ps gs) (rising_ties edges most ps gs) (three_parts xs ys zs) (record {
       in_rows = subst (λ n. All (λ q. InRows (rows_with most ps) n q.cell) (perches most ps gs)) whole (all_in_rows most ps gs);
       differ = all_differ most ps gs;
-      rise = subst (λ n. All (IsRise n) (ties edges most ps gs)) whole (all_rise edges most ps gs);
+      rise = subst (λ n. All (IsRise n) (rising_ties edges most ps gs)) whole (all_rise edges most ps gs);
     })

@@ -14,8 +14,8 @@ use Rattle.drawing.specs.declared.standings.Standing.{Standing}
 use Rattle.drawing.specs.declared.generation.Ends.{Ends}
 use Rattle.drawing.specs.declared.tower.Tie.{Tie}
 use Rattle.drawing.specs.declared.tower.Tower.{Tower}
-use Rattle.drawing.specs.Generations.{upward, standing_of, provider_with, provider_above, providers_above, tie_with, tie_of, IsChoice}
-use Rattle.drawing.specs.Generations.{all_numbers, topmost, standings_at, rows_with, perches_at, perches, ties}
+use Rattle.drawing.specs.Generations.{upward, standing_of, provider_with, provider_above, providers_above, tie_with, tie_of, IsGeneration}
+use Rattle.drawing.specs.Generations.{all_numbers, topmost, standings_at, rows_with, perches_at, perches, rising_ties}
 use Rattle.drawing.specs.Tower.{IsTower, IsStacked}
 use Rattle.drawing.specs.Shifted.{HasNumbers}
 use Rattle.drawing.proofs.Choosing.{numbers_of}
@@ -60,7 +60,7 @@ alike_push xs ys zs alike n =
 
 pub raised : (edges : List EdgeLine) (most : ℕ) (first : List Neighbour) (near : List ℕ) (gs : List (List Neighbour)) (g : List Neighbour) (old middle new : Tower) →
     IsTower edges most first near gs old →
-    IsChoice (all_numbers near gs) (providers_above old.topmost edges) g → HasNumbers middle.nearer (all_numbers near gs ++ numbers_of g) →
+    IsGeneration (all_numbers near gs) (providers_above old.topmost edges) g → HasNumbers middle.nearer (all_numbers near gs ++ numbers_of g) →
     middle.topmost ≡ old.topmost → middle.rank ≡ old.rank → middle.perches.items ≡ old.perches.items → middle.ties.items ≡ old.ties.items →
     IsStacked edges most g middle new → IsTower edges most first near (g ∷ gs) new
 raised edges most first near gs g old middle new tower choice has top rank boxes lines stacked =
@@ -69,14 +69,14 @@ raised edges most first near gs g old middle new tower choice has top rank boxes
     λ n. stacked.topmost_are n ∙ ap (λ r. standing_of n (standings_at most r g)) (rank ∙ tower.rank_is) in
     let below : FoundAlike middle.topmost (topmost most first gs) = λ n. ap (standing_of n) top ∙ tower.topmost_are n in
     record {
-      generations = (tower.generations, subst (λ ns. IsChoice (all_numbers near gs) ns g) (same_providers old.topmost (topmost most first gs) edges tower.topmost_are) choice);
+      generations = (tower.generations, subst (λ ns. IsGeneration (all_numbers near gs) ns g) (same_providers old.topmost (topmost most first gs) edges tower.topmost_are) choice);
       nearer = subst (λ xs. HasNumbers xs (all_numbers near gs ++ numbers_of g)) (sym put.nearer) has;
       topmost_are = alike;
       rank_is = put.rank_is ∙ ap (λ r. r + rows_with most g) (rank ∙ tower.rank_is);
       perches_are = put.perches_are ∙ ap (λ xs. xs ++ perches_at most middle.rank g) (boxes ∙ tower.perches_are)
           ∙ ap (λ r. perches most first gs ++ perches_at most r g) (rank ∙ tower.rank_is);
       ties_are = put.ties_are ∙ ap (λ xs. xs ++ filter_map (tie_of middle.topmost new.topmost) edges) (lines ∙ tower.ties_are)
-          ∙ ap (λ xs. ties edges most first gs ++ xs) (same_ties middle.topmost (topmost most first gs) new.topmost (topmost most first (g ∷ gs)) edges below alike);
+          ∙ ap (λ xs. rising_ties edges most first gs ++ xs) (same_ties middle.topmost (topmost most first gs) new.topmost (topmost most first (g ∷ gs)) edges below alike);
     }
 
 -- one edge more

@@ -8,7 +8,7 @@ use Rattle.result_text.specs.declared.file.EdgeLine.{EdgeLine}
 use Rattle.drawing.specs.declared.group.Group.{Group}
 use Rattle.drawing.specs.declared.page.Plan.{Plan}
 use Rattle.drawing.specs.Neighbours.{neighbours}
-use Rattle.drawing.specs.Page.{spot_of, centre_box, page_height, cell_of, box_in, line_between}
+use Rattle.drawing.specs.Page.{spot_of, centre_box, page_height, cell_of, box_in, rising_line}
 use Rattle.drawing.specs.Picture.{width_of}
 
 abbrev edge : ℕ → ℕ → Label → Mark → ℕ → EdgeLine
@@ -66,5 +66,5 @@ last_above = refl
 above_them : (spot_of taller 0).at ≡ record { x = 508; y = 192; width = 80; height = 24 }
 above_them = refl
 
-up_left : line_between taller (cell_of 1 0 0) (cell_of 12 1 0) ≡ record { start_x = 508; start_y = 204; trunk_x = 503; rail_y = 175; end_x = 68; end_y = 156 }
+up_left : rising_line taller (cell_of 1 0 0) (cell_of 12 1 0) ≡ record { start_x = 508; start_y = 204; trunk_x = 503; rail_y = 175; end_x = 68; end_y = 156 }
 up_left = refl

@@ -11,14 +11,14 @@ use Rattle.std.proofs.lemmas.List.Concat.{flat_map-cons}
 use Rattle.relationships.specs.declared.mark.Mark.{Mark}
 use Rattle.relationships.specs.declared.mark.Mark.TheVariants as mark
 use Rattle.drawing.specs.declared.group.Tally.{Tally}
-use Rattle.drawing.specs.declared.group.Counts.{Counts}
+use Rattle.drawing.specs.declared.group.NeighbourCounts.{NeighbourCounts}
 use Rattle.drawing.specs.declared.page.Rect.{Rect}
-use Rattle.drawing.specs.declared.page.Line.{Line}
-use Rattle.drawing.specs.declared.drawing.Entry.{Entry}
-use Rattle.drawing.specs.declared.drawing.Entry.TheVariants as entry
+use Rattle.drawing.specs.declared.page.PageLine.{PageLine}
+use Rattle.drawing.specs.declared.drawing.BoxEntry.{BoxEntry}
+use Rattle.drawing.specs.declared.drawing.BoxEntry.TheVariants as entry
 use Rattle.drawing.specs.declared.drawing.Item.{Item}
 use Rattle.drawing.specs.declared.drawing.Post.{Post}
-use Rattle.drawing.specs.declared.drawing.Link.{Link}
+use Rattle.drawing.specs.declared.drawing.RisingLine.{RisingLine}
 use Rattle.drawing.specs.declared.drawing.Drawing.{Drawing}
 use Rattle.drawing.specs.Xml.{Element, is_plain, ArePlain, IsElement, IsDocument, attribute_text, element_text, elements_text}
 use Rattle.drawing.specs.Svg.{rect, point, points, mark_dashes, dashes, polyline, link_element, links_elements, post_elements, posts_elements}
@@ -67,7 +67,7 @@ plain_point : (x y : ℕ) → ArePlain (point x y)
 unfolding point
 plain_point x y = plain_append (decimal x) (44 ∷ decimal y) (plain_decimal x) (plain_decimal y)
 
-plain_points : (l : Line) → ArePlain (points l)
+plain_points : (l : PageLine) → ArePlain (points l)
 unfolding points
 plain_points l =
     let e : List ℕ = point l.end_x l.end_y in
@@ -83,11 +83,11 @@ plain_mark : (m : Mark) → ArePlain (mark_dashes m)
 plain_mark mark.Forced = refl
 plain_mark mark.Open = refl
 
-plain_dashes : (e : Entry) → ArePlain (dashes e)
+plain_dashes : (e : BoxEntry) → ArePlain (dashes e)
 plain_dashes (entry.One n) = plain_mark n.mark
 plain_dashes (entry.More n) = refl
 
-plain_entry : (e : Entry) → ArePlain (entry_words e)
+plain_entry : (e : BoxEntry) → ArePlain (entry_words e)
 plain_entry (entry.One n) = plain_decimal n.number
 plain_entry (entry.More n) = plain_append (decimal n) (codes " more") (plain_decimal n) refl
 
@@ -111,7 +111,7 @@ plain_tally what t plain =
     let plain_back : ArePlain back = plain_append (ending t.all) behind (plain_ending t.all) plain_behind in
     plain_append (decimal t.all) (what ++ back) (plain_decimal t.all) (plain_append what back plain plain_back)
 
-plain_caption : (a : ℕ) (c : Counts) → ArePlain (caption_words a c)
+plain_caption : (a : ℕ) (c : NeighbourCounts) → ArePlain (caption_words a c)
 plain_caption a c =
     let third : List ℕ = tally_words (codes " customer") c.customers in
     let second : List ℕ = tally_words (codes " peer") c.peers ++ (codes ", " ++ third) in
@@ -134,7 +134,7 @@ rect_is b = record {
   inside = tt;
 }
 
-polyline_is : (l : Line) (width : ℕ) (dashed : List ℕ) → ArePlain dashed → IsElement (polyline l width dashed)
+polyline_is : (l : PageLine) (width : ℕ) (dashed : List ℕ) → ArePlain dashed → IsElement (polyline l width dashed)
 polyline_is l width dashed plain = record {
   named = refl;
   attributes = ((refl, plain_points l), ((refl, refl), ((refl, plain_decimal width), ((refl, plain), tt))));
@@ -171,7 +171,7 @@ posts_are (q ∷ posts) =
     (all_append (post_elements q) (posts_elements posts)
     (rect_is q.at, (text_is (q.at.x + q.at.width / 2) (q.at.y + 17) (q.at.width - 8) (entry_words q.entry) (plain_entry q.entry), tt)) (posts_are posts))
 
-links_are : (links : List Link) → AllByRecursion IsElement (links_elements links)
+links_are : (links : List RisingLine) → AllByRecursion IsElement (links_elements links)
 links_are [] = tt
 links_are (l ∷ links) = (polyline_is l.line l.width (mark_dashes l.mark) (plain_mark l.mark), links_are links)
 
@@ -252,7 +252,7 @@ pub posts_text_more : (posts : List Post) (k : ℕ) (d : Post) → k < length po
     elements_text (posts_elements (take (k + 1) posts)) ≡ elements_text (posts_elements (take k posts)) ++ elements_text (post_elements (get_or posts k d))
 posts_text_more posts k d lt = more_text post_elements posts k d lt
 
-pub links_text_more : (links : List Link) (k : ℕ) (d : Link) → k < length links →
+pub links_text_more : (links : List RisingLine) (k : ℕ) (d : RisingLine) → k < length links →
     elements_text (links_elements (take (k + 1) links)) ≡ elements_text (links_elements (take k links)) ++ elements_text (links_elements (get_or links k d ∷ []))
 links_text_more links k d lt =
     ap (λ ls. elements_text (links_elements ls)) (take_more links k d lt)

@@ -10,10 +10,10 @@ use Rattle.drawing.specs.declared.standings.Standing.{Standing}
 use Rattle.drawing.specs.declared.generation.Ends.{Ends}
 use Rattle.drawing.specs.declared.tower.Perch.{Perch}
 use Rattle.drawing.specs.declared.tower.Tie.{Tie}
-use Rattle.drawing.specs.declared.drawing.Entry.{Entry}
-use Rattle.drawing.specs.Neighbours.{NotAfter}
+use Rattle.drawing.specs.declared.drawing.BoxEntry.{BoxEntry}
+use Rattle.drawing.specs.Neighbours.{IsNoLater}
 use Rattle.drawing.specs.Page.{rows_of, cell_of}
-use Rattle.drawing.specs.Entries.{entries_of}
+use Rattle.drawing.specs.Entries.{box_entries}
 
 -- ---- who stands in a generation
 
@@ -46,18 +46,18 @@ abbrev pub StandsFor : Neighbour → Neighbour → Type 0
 StandsFor p n = (n.number ≡ p.number) × (p.support ≤ n.support)
 
 -- of those that were found the ones that stand nowhere nearer, each once, by the greatest support, and in the order of neighbours
-pub record IsChoice (nearer : List ℕ) (found ns : List Neighbour) : Type 0 where
+pub record IsGeneration (nearer : List ℕ) (found ns : List Neighbour) : Type 0 where
   pub from : All (Contains found) ns
   pub fresh : All (λ n. Contains nearer n.number → ⊥) ns
   pub all : All (λ p. Contains nearer p.number ⊎ Any (StandsFor p) ns) found
   pub once : AllPairs (λ n m. n.number ≢ m.number) ns
-  pub sorted : AllPairs NotAfter ns
+  pub sorted : AllPairs IsNoLater ns
 
 -- ---- where they are drawn
 
 -- how many boxes and how many rows a generation has, where so many ASes of it are drawn at most
 abbrev pub box_count : ℕ → List Neighbour → ℕ
-box_count most ns = length (entries_of most ns)
+box_count most ns = length (box_entries most ns)
 
 abbrev pub rows_with : ℕ → List Neighbour → ℕ
 rows_with most ns = rows_of 10 (box_count most ns)
@@ -70,11 +70,11 @@ abbrev pub standings_at : ℕ → ℕ → List Neighbour → List Standing
 standings_at most rank ns = map (standing_at (box_count most ns) rank) (enumerate_from 0 (take most ns))
 
 -- its boxes
-abbrev pub perch_at : ℕ → ℕ → ℕ × Entry → Perch
+abbrev pub perch_at : ℕ → ℕ → ℕ × BoxEntry → Perch
 perch_at boxes rank (i, e) = record { entry = e; cell = cell_of boxes rank i }
 
 abbrev pub perches_at : ℕ → ℕ → List Neighbour → List Perch
-perches_at most rank ns = map (perch_at (box_count most ns) rank) (enumerate_from 0 (entries_of most ns))
+perches_at most rank ns = map (perch_at (box_count most ns) rank) (enumerate_from 0 (box_entries most ns))
 
 -- the line of an edge whose provider is drawn above its customer
 abbrev pub tie_with : EdgeLine → Option Standing → Option Standing → Option Tie
@@ -107,14 +107,14 @@ all_numbers near (g ∷ gs) = all_numbers near gs ++ map (λ n. n.number) g
 abbrev pub AreGenerations : List EdgeLine → ℕ → List Neighbour → List ℕ → List (List Neighbour) → Type 0
 AreGenerations edges most first near [] = Unit {0}
 AreGenerations edges most first near (g ∷ gs) =
-    AreGenerations edges most first near gs × IsChoice (all_numbers near gs) (providers_above (topmost most first gs) edges) g
+    AreGenerations edges most first near gs × IsGeneration (all_numbers near gs) (providers_above (topmost most first gs) edges) g
 
 -- their boxes, and the lines of all edges from one to the next
 abbrev pub perches : ℕ → List Neighbour → List (List Neighbour) → List Perch
 perches most first [] = []
 perches most first (g ∷ gs) = perches most first gs ++ perches_at most (rank_above most first gs) g
 
-abbrev pub ties : List EdgeLine → ℕ → List Neighbour → List (List Neighbour) → List Tie
-ties edges most first [] = []
-ties edges most first (g ∷ gs) =
-    ties edges most first gs ++ filter_map (tie_of (topmost most first gs) (topmost most first (g ∷ gs))) edges
+abbrev pub rising_ties : List EdgeLine → ℕ → List Neighbour → List (List Neighbour) → List Tie
+rising_ties edges most first [] = []
+rising_ties edges most first (g ∷ gs) =
+    rising_ties edges most first gs ++ filter_map (tie_of (topmost most first gs) (topmost most first (g ∷ gs))) edges

@@ -10,7 +10,7 @@ use Rattle.result_text.specs.declared.file.EdgeLine.{EdgeLine}
 use Rattle.drawing.specs.declared.group.Group.{Group}
 use Rattle.drawing.specs.declared.group.Neighbour.{Neighbour}
 use Rattle.drawing.specs.declared.group.Tally.{Tally}
-use Rattle.drawing.specs.declared.group.Counts.{Counts}
+use Rattle.drawing.specs.declared.group.NeighbourCounts.{NeighbourCounts}
 
 -- what the higher end of an edge with this label is to the lower one
 abbrev pub of_low : Label → Group
@@ -48,13 +48,13 @@ neighbours a g edges = map (neighbour_of a) (filter (is_in a g) edges)
 -- ---- their order
 
 -- the first has more support, or as much, and no greater number
-abbrev pub NotAfter : Neighbour → Neighbour → Type 0
-NotAfter n m = (m.support < n.support) ⊎ ((m.support ≡ n.support) × (n.number ≤ m.number))
+abbrev pub IsNoLater : Neighbour → Neighbour → Type 0
+IsNoLater n m = (m.support < n.support) ⊎ ((m.support ≡ n.support) × (n.number ≤ m.number))
 
 -- the neighbours in the group, by falling support, and at equal support by rising number
-pub record AreInOrder (a : ℕ) (g : Group) (edges : List EdgeLine) (ns : List Neighbour) : Type 0 where
+pub record SortedNeighbours (a : ℕ) (g : Group) (edges : List EdgeLine) (ns : List Neighbour) : Type 0 where
   pub same : IsPermutation (neighbours a g edges) ns
-  pub sorted : AllPairs NotAfter ns
+  pub sorted : AllPairs IsNoLater ns
 
 -- the numbers of an AS and of its neighbours
 abbrev pub near_numbers : ℕ → List Neighbour → List Neighbour → List Neighbour → List ℕ
@@ -63,13 +63,13 @@ near_numbers a providers peers customers =
 
 -- ---- how many there are
 
-abbrev pub is_forced : Neighbour → Bool
-is_forced n = elim n.mark [ mark.Forced ↦ true | mark.Open ↦ false ]
+abbrev pub has_forced_edge : Neighbour → Bool
+has_forced_edge n = elim n.mark [ mark.Forced ↦ true | mark.Open ↦ false ]
 
 abbrev pub tally : List Neighbour → Tally
-tally ns = record { all = length ns; forced = count_by is_forced ns }
+tally ns = record { all = length ns; forced = count_by has_forced_edge ns }
 
-abbrev pub counts_of : ℕ → List EdgeLine → Counts
+abbrev pub counts_of : ℕ → List EdgeLine → NeighbourCounts
 counts_of a edges = record {
   providers = tally (neighbours a Group.Providers edges);
   peers = tally (neighbours a Group.Peers edges);

@@ -3,7 +3,7 @@
 -- the one in the middle of the page, between columns 4 and 5, is the trunk of the lines up and down.
 use Rattle.std.specs.Prelude.{ℕ, ◌+◌, ◌-◌, ◌*◌, ◌/◌, ◌%◌, ◌<◌, ◌≤◌, min, max, nat_lt, if◌then◌else◌}
 use Rattle.drawing.specs.declared.page.Rect.{Rect}
-use Rattle.drawing.specs.declared.page.Line.{Line}
+use Rattle.drawing.specs.declared.page.PageLine.{PageLine}
 use Rattle.drawing.specs.declared.page.Spot.{Spot}
 use Rattle.drawing.specs.declared.page.Plan.{Plan}
 use Rattle.drawing.specs.declared.page.Cell.{Cell}
@@ -61,7 +61,7 @@ column_beside n i = if nat_lt (column_of 8 n i) 5 then column_of 8 n i - 1 else 
 -- ---- lines
 
 -- from the upper side of the centre, to the lower side of a box above it
-abbrev pub line_up : Plan → ℕ → ℕ → Line
+abbrev pub line_up : Plan → ℕ → ℕ → PageLine
 line_up p c r = record {
   start_x = 500;
   start_y = row_y (centre_row p);
@@ -72,7 +72,7 @@ line_up p c r = record {
 }
 
 -- from the left or the right side of the centre, to the lower side of a box beside it
-abbrev pub line_beside : Plan → ℕ → ℕ → Line
+abbrev pub line_beside : Plan → ℕ → ℕ → PageLine
 line_beside p c r = record {
   start_x = if nat_lt c 5 then 440 else 560;
   start_y = row_y (centre_row p) + 12;
@@ -83,7 +83,7 @@ line_beside p c r = record {
 }
 
 -- from the lower side of the centre, to the upper side of a box below it
-abbrev pub line_down : Plan → ℕ → ℕ → Line
+abbrev pub line_down : Plan → ℕ → ℕ → PageLine
 line_down p c r = record {
   start_x = 500;
   start_y = row_y (centre_row p) + 24;
@@ -138,8 +138,8 @@ box_in p c = box_at c.column (cell_row p c)
 
 -- from the left or the right side of the box in one cell, in the gutter beside it, to the lower side of the box in a cell above it. The
 -- lines from the two sides of a gutter, and from different columns to one row, run beside each other
-abbrev pub line_between : Plan → Cell → Cell → Line
-line_between p lower upper = record {
+abbrev pub rising_line : Plan → Cell → Cell → PageLine
+rising_line p lower upper = record {
   start_x = if nat_lt lower.column upper.column then column_x lower.column + 80 else column_x lower.column;
   start_y = row_y (cell_row p lower) + 12;
   trunk_x = if nat_lt lower.column upper.column then column_x lower.column + 85 else column_x lower.column - 5;

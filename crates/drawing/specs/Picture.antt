@@ -4,33 +4,33 @@ use Rattle.std.specs.List.{enumerate_from}
 use Rattle.result_text.specs.declared.file.EdgeLine.{EdgeLine}
 use Rattle.drawing.specs.declared.group.Group.{Group}
 use Rattle.drawing.specs.declared.group.Neighbour.{Neighbour}
-use Rattle.drawing.specs.declared.group.Counts.{Counts}
+use Rattle.drawing.specs.declared.group.NeighbourCounts.{NeighbourCounts}
 use Rattle.drawing.specs.declared.page.Plan.{Plan}
 use Rattle.drawing.specs.declared.tower.Perch.{Perch}
 use Rattle.drawing.specs.declared.tower.Tie.{Tie}
-use Rattle.drawing.specs.declared.drawing.Entry.{Entry}
-use Rattle.drawing.specs.declared.drawing.Entry.TheVariants as entry
+use Rattle.drawing.specs.declared.drawing.BoxEntry.{BoxEntry}
+use Rattle.drawing.specs.declared.drawing.BoxEntry.TheVariants as entry
 use Rattle.drawing.specs.declared.drawing.Item.{Item}
 use Rattle.drawing.specs.declared.drawing.Post.{Post}
-use Rattle.drawing.specs.declared.drawing.Link.{Link}
+use Rattle.drawing.specs.declared.drawing.RisingLine.{RisingLine}
 use Rattle.drawing.specs.declared.drawing.Drawing.{Drawing}
-use Rattle.drawing.specs.Neighbours.{AreInOrder, counts_of, tally, near_numbers}
-use Rattle.drawing.specs.Entries.{entries_of}
-use Rattle.drawing.specs.Generations.{AreGenerations, rank_above, perches, ties}
-use Rattle.drawing.specs.Page.{rows_of, spot_of, centre_box, page_height, box_in, line_between}
+use Rattle.drawing.specs.Neighbours.{SortedNeighbours, counts_of, tally, near_numbers}
+use Rattle.drawing.specs.Entries.{box_entries}
+use Rattle.drawing.specs.Generations.{AreGenerations, rank_above, perches, rising_ties}
+use Rattle.drawing.specs.Page.{rows_of, spot_of, centre_box, page_height, box_in, rising_line}
 
 -- ---- the width of a line
 
-abbrev pub support_of : Entry → ℕ
+abbrev pub support_of : BoxEntry → ℕ
 support_of (entry.One n) = n.support
 support_of (entry.More n) = 0
 
 -- the greatest support of those that are drawn
-abbrev pub greatest_support : List Entry → ℕ
+abbrev pub greatest_support : List BoxEntry → ℕ
 greatest_support entries = fold (λ s e. max s (support_of e)) 0 entries
 
 -- and of those and these lines
-abbrev pub greatest_of : List Entry → List Tie → ℕ
+abbrev pub greatest_of : List BoxEntry → List Tie → ℕ
 greatest_of entries lines = fold (λ s t. max s t.support) (greatest_support entries) lines
 
 -- 1 for a support of up to 1, 2 up to a hundredth of the greatest, and 3 above
@@ -39,7 +39,7 @@ width_of greatest s = if nat_le s 1 then 1 else (if nat_le s (greatest / 100) th
 
 -- ---- the whole
 
-abbrev pub item_of : Plan → ℕ → ℕ × Entry → Item
+abbrev pub item_of : Plan → ℕ → ℕ × BoxEntry → Item
 item_of p greatest (k, e) = record {
   entry = e;
   at = (spot_of p k).at;
@@ -47,24 +47,24 @@ item_of p greatest (k, e) = record {
   width = width_of greatest (support_of e);
 }
 
-abbrev pub items_of : Plan → ℕ → List Entry → List Item
+abbrev pub items_of : Plan → ℕ → List BoxEntry → List Item
 items_of p greatest entries = map (item_of p greatest) (enumerate_from 0 entries)
 
 -- a box of a further generation, and a line to one
 abbrev pub post_of : Plan → Perch → Post
 post_of p q = record { entry = q.entry; at = box_in p q.cell }
 
-abbrev pub link_of : Plan → ℕ → Tie → Link
+abbrev pub link_of : Plan → ℕ → Tie → RisingLine
 link_of p greatest t = record {
   lower = box_in p t.lower;
   upper = box_in p t.upper;
-  line = line_between p t.lower t.upper;
+  line = rising_line p t.lower t.upper;
   mark = t.mark;
   width = width_of greatest t.support;
 }
 
 -- with so many rows above the centre
-abbrev pub plan_of : List Entry → List Entry → List Entry → ℕ → Plan
+abbrev pub plan_of : List BoxEntry → List BoxEntry → List BoxEntry → ℕ → Plan
 plan_of above beside below rows = record {
   above = length above;
   beside = length beside;
@@ -73,7 +73,7 @@ plan_of above beside below rows = record {
 }
 
 -- the picture with these boxes and lines
-abbrev pub drawing_with : ℕ → Counts → Plan → List Entry → List Perch → List Tie → Drawing
+abbrev pub drawing_with : ℕ → NeighbourCounts → Plan → List BoxEntry → List Perch → List Tie → Drawing
 drawing_with a counts p entries boxes lines =
     let greatest = greatest_of entries lines in
     record {
@@ -90,17 +90,17 @@ drawing_with a counts p entries boxes lines =
 -- beside it and its customers below
 abbrev pub drawing_from : ℕ → ℕ → List Neighbour → List Neighbour → List Neighbour → ℕ → List Perch → List Tie → Drawing
 drawing_from a most providers peers customers rows boxes lines =
-    let above = entries_of most providers in
-    let beside = entries_of most peers in
-    let below = entries_of most customers in
-    let counts : Counts = record { providers = tally providers; peers = tally peers; customers = tally customers } in
+    let above = box_entries most providers in
+    let beside = box_entries most peers in
+    let below = box_entries most customers in
+    let counts : NeighbourCounts = record { providers = tally providers; peers = tally peers; customers = tally customers } in
     drawing_with a counts (plan_of above beside below rows) (above ++ (beside ++ below)) boxes lines
 
 -- the same with these generations above its providers
 abbrev pub drawing_by : List EdgeLine → ℕ → ℕ → List Neighbour → List Neighbour → List Neighbour → List (List Neighbour) → Drawing
 drawing_by edges a most providers peers customers further =
     drawing_from a most providers peers customers
-    (rank_above most providers further) (perches most providers further) (ties edges most providers further)
+    (rank_above most providers further) (perches most providers further) (rising_ties edges most providers further)
 
 -- d is the picture of AS a with these neighbours, and with generations after the edges up to the depth
 pub record IsDrawn (edges : List EdgeLine) (a most depth : ℕ) (providers peers customers : List Neighbour) (d : Drawing) : Type 0 where
@@ -115,8 +115,8 @@ pub record IsDrawingOf (edges : List EdgeLine) (a most depth : ℕ) (d : Drawing
   pub providers : List Neighbour
   pub peers : List Neighbour
   pub customers : List Neighbour
-  pub providers_are : AreInOrder a Group.Providers edges providers
-  pub peers_are : AreInOrder a Group.Peers edges peers
-  pub customers_are : AreInOrder a Group.Customers edges customers
+  pub providers_are : SortedNeighbours a Group.Providers edges providers
+  pub peers_are : SortedNeighbours a Group.Peers edges peers
+  pub customers_are : SortedNeighbours a Group.Customers edges customers
   pub is : IsDrawn edges a most depth providers peers customers d
   pub counted : d.counts ≡ counts_of a edges

@@ -4,32 +4,32 @@ use Rattle.std.specs.Fmt.{decimal}
 use Rattle.relationships.specs.declared.mark.Mark.{Mark}
 use Rattle.relationships.specs.declared.mark.Mark.TheVariants as mark
 use Rattle.drawing.specs.declared.group.Tally.{Tally}
-use Rattle.drawing.specs.declared.group.Counts.{Counts}
+use Rattle.drawing.specs.declared.group.NeighbourCounts.{NeighbourCounts}
 use Rattle.drawing.specs.declared.page.Rect.{Rect}
-use Rattle.drawing.specs.declared.page.Line.{Line}
-use Rattle.drawing.specs.declared.drawing.Entry.{Entry}
-use Rattle.drawing.specs.declared.drawing.Entry.TheVariants as entry
+use Rattle.drawing.specs.declared.page.PageLine.{PageLine}
+use Rattle.drawing.specs.declared.drawing.BoxEntry.{BoxEntry}
+use Rattle.drawing.specs.declared.drawing.BoxEntry.TheVariants as entry
 use Rattle.drawing.specs.declared.drawing.Item.{Item}
 use Rattle.drawing.specs.declared.drawing.Post.{Post}
-use Rattle.drawing.specs.declared.drawing.Link.{Link}
+use Rattle.drawing.specs.declared.drawing.RisingLine.{RisingLine}
 use Rattle.drawing.specs.declared.drawing.Drawing.{Drawing}
-use Rattle.drawing.specs.Xml.{Attribute, Element, tag_text, document}
+use Rattle.drawing.specs.Xml.{SvgAttribute, Element, tag_text, document}
 
 -- ---- attributes
 
-abbrev pub word_of : List ℕ → List ℕ → Attribute
+abbrev pub word_of : List ℕ → List ℕ → SvgAttribute
 word_of name value = record { name = name; value = value }
 
-abbrev pub number_of : List ℕ → ℕ → Attribute
-number_of name n = word_of name (decimal n)
+abbrev pub number_attribute : List ℕ → ℕ → SvgAttribute
+number_attribute name n = word_of name (decimal n)
 
 -- ---- boxes, with white inside and a black border, as the page has it
 
 abbrev pub rect : Rect → Element
 rect b = record {
   name = codes "rect";
-  attributes = number_of (codes "x") b.x ∷ number_of (codes "y") b.y ∷
-      number_of (codes "width") b.width ∷ number_of (codes "height") b.height ∷ [];
+  attributes = number_attribute (codes "x") b.x ∷ number_attribute (codes "y") b.y ∷
+      number_attribute (codes "width") b.width ∷ number_attribute (codes "height") b.height ∷ [];
   inner = None;
 }
 
@@ -39,7 +39,7 @@ unfoldable pub point : ℕ → ℕ → List ℕ
 point x y = decimal x ++ 44 ∷ decimal y
 
 -- the five points between the parts of the line, each behind a space but the first
-unfoldable pub points : Line → List ℕ
+unfoldable pub points : PageLine → List ℕ
 points l =
     point l.start_x l.start_y ++ (32 ∷ (point l.trunk_x l.start_y ++ (32 ∷ (point l.trunk_x l.rail_y ++ (32 ∷ (point l.end_x l.rail_y
     ++ (32 ∷ point l.end_x l.end_y)))))))
@@ -49,14 +49,14 @@ abbrev pub mark_dashes : Mark → List ℕ
 mark_dashes m = elim m [ mark.Forced ↦ codes "none" | mark.Open ↦ codes "4 3" ]
 
 -- and dotted where it leads to those that are left out
-abbrev pub dashes : Entry → List ℕ
+abbrev pub dashes : BoxEntry → List ℕ
 dashes (entry.One n) = mark_dashes n.mark
 dashes (entry.More n) = codes "1 3"
 
-abbrev pub polyline : Line → ℕ → List ℕ → Element
+abbrev pub polyline : PageLine → ℕ → List ℕ → Element
 polyline l width dashed = record {
   name = codes "polyline";
-  attributes = word_of (codes "points") (points l) ∷ word_of (codes "fill") (codes "none") ∷ number_of (codes "stroke-width") width
+  attributes = word_of (codes "points") (points l) ∷ word_of (codes "fill") (codes "none") ∷ number_attribute (codes "stroke-width") width
       ∷ word_of (codes "stroke-dasharray") dashed ∷ [];
   inner = None;
 }
@@ -70,7 +70,7 @@ text_length room text = min room (7 * length text)
 abbrev pub text_at : ℕ → ℕ → ℕ → List ℕ → Element
 text_at x y room text = record {
   name = codes "text";
-  attributes = number_of (codes "x") x ∷ number_of (codes "y") y ∷ number_of (codes "textLength") (text_length room text)
+  attributes = number_attribute (codes "x") x ∷ number_attribute (codes "y") y ∷ number_attribute (codes "textLength") (text_length room text)
       ∷ word_of (codes "fill") (codes "black") ∷ word_of (codes "stroke") (codes "none") ∷ [];
   inner = Some text;
 }
@@ -86,7 +86,7 @@ text_in b text = text_at (b.x + b.width / 2) (b.y + 17) (b.width - 8) text
 
 -- ---- what is written
 
-abbrev pub entry_words : Entry → List ℕ
+abbrev pub entry_words : BoxEntry → List ℕ
 entry_words (entry.One n) = decimal n.number
 entry_words (entry.More n) = decimal n ++ codes " more"
 
@@ -101,7 +101,7 @@ ending n = if n == 1 then [] else codes "s"
 abbrev pub tally_words : List ℕ → Tally → List ℕ
 tally_words what t = decimal t.all ++ (what ++ (ending t.all ++ (codes " (" ++ (decimal t.forced ++ codes " forced)"))))
 
-abbrev pub caption_words : ℕ → Counts → List ℕ
+abbrev pub caption_words : ℕ → NeighbourCounts → List ℕ
 caption_words a c =
     asked_words a ++ (codes ": " ++ (tally_words (codes " provider") c.providers ++ (codes ", " ++ (tally_words (codes " peer") c.peers
     ++ (codes ", " ++ tally_words (codes " customer") c.customers)))))
@@ -125,10 +125,10 @@ abbrev pub posts_elements : List Post → List Element
 posts_elements posts = flat_map post_elements posts
 
 -- a line to one
-abbrev pub link_element : Link → Element
+abbrev pub link_element : RisingLine → Element
 link_element l = polyline l.line l.width (mark_dashes l.mark)
 
-abbrev pub links_elements : List Link → List Element
+abbrev pub links_elements : List RisingLine → List Element
 links_elements links = map link_element links
 
 abbrev pub page_box : ℕ → Rect
@@ -151,7 +151,7 @@ abbrev pub extent_words : ℕ → List ℕ
 extent_words height = codes "0 0 1000 " ++ decimal height
 
 -- how letters, boxes and lines look, where they say nothing else
-abbrev pub style_attributes : List Attribute
+abbrev pub style_attributes : List SvgAttribute
 style_attributes =
     word_of (codes "font-family") (codes "sans-serif")
     ∷ word_of (codes "font-size") (codes "12")
@@ -160,7 +160,7 @@ style_attributes =
     ∷ word_of (codes "stroke") (codes "black")
     ∷ []
 
-abbrev pub page_attributes : List ℕ → List Attribute
+abbrev pub page_attributes : List ℕ → List SvgAttribute
 page_attributes extent = word_of (codes "xmlns") (codes "http://www.w3.org/2000/svg") ∷ word_of (codes "viewBox") extent ∷ style_attributes
 
 -- the first tag

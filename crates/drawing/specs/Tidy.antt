@@ -2,7 +2,7 @@
 use Rattle.std.specs.Prelude.{◌≡◌, ℕ, ◌+◌, ◌<◌, ◌≤◌, ◌⊎◌, List, ◌∷◌, ◌++◌, map, All}
 use Rattle.std.specs.List.{AllPairs}
 use Rattle.drawing.specs.declared.page.Rect.{Rect}
-use Rattle.drawing.specs.declared.page.Line.{Line}
+use Rattle.drawing.specs.declared.page.PageLine.{PageLine}
 use Rattle.drawing.specs.declared.drawing.Drawing.{Drawing}
 use Rattle.drawing.specs.Page.{page_width}
 
@@ -29,7 +29,7 @@ StaysOutside b x y u v =
     ((y ≤ b.y) × (v ≤ b.y)) ⊎ ((b.y + b.height ≤ y) × (b.y + b.height ≤ v))))
 
 -- each part of the line does
-abbrev pub AllParts : (ℕ → ℕ → ℕ → ℕ → Type 0) → Line → Type 0
+abbrev pub AllParts : (ℕ → ℕ → ℕ → ℕ → Type 0) → PageLine → Type 0
 AllParts P l =
     P l.start_x l.start_y l.trunk_x l.start_y
     × P l.trunk_x l.start_y l.trunk_x l.rail_y
@@ -39,7 +39,7 @@ AllParts P l =
 -- ---- lines and boxes
 
 -- the line keeps off the box
-abbrev pub KeepsOff : Line → Rect → Type 0
+abbrev pub KeepsOff : PageLine → Rect → Type 0
 KeepsOff l b = AllParts (Misses b) l
 
 -- the point stands on the border of the box
@@ -49,18 +49,18 @@ OnBorder b x y =
     ⊎ (((y ≡ b.y) ⊎ (y ≡ b.y + b.height)) × ((b.x ≤ x) × (x ≤ b.x + b.width)))
 
 -- the line leads from the border of one box to that of the other, and through neither of them
-pub record Joins (l : Line) (b c : Rect) : Type 0 where
+pub record LeadsBetween (l : PageLine) (b c : Rect) : Type 0 where
   pub begins : OnBorder b l.start_x l.start_y
   pub ends : OnBorder c l.end_x l.end_y
   pub outside_one : AllParts (StaysOutside b) l
   pub outside_other : AllParts (StaysOutside c) l
 
 -- each part of it lies on a page of this height
-abbrev pub LineWithin : ℕ → Line → Type 0
+abbrev pub LineWithin : ℕ → PageLine → Type 0
 LineWithin height l = AllParts (λ x y u v. (x ≤ page_width) × (u ≤ page_width) × (y ≤ height) × (v ≤ height)) l
 
 -- the line keeps off the box, unless it is one of these two
-abbrev pub KeepsOffOthers : Line → Rect → Rect → Rect → Type 0
+abbrev pub KeepsOffOthers : PageLine → Rect → Rect → Rect → Type 0
 KeepsOffOthers l b c o = (o ≡ b) ⊎ ((o ≡ c) ⊎ KeepsOff l o)
 
 abbrev pub boxes_of : Drawing → List Rect
@@ -76,7 +76,7 @@ pub record IsTidy (d : Drawing) : Type 0 where
   -- no two boxes have a point in common
   pub apart : AllPairs Apart (boxes_of d)
   -- each line joins its two boxes, of which the centre is one for a neighbour, and keeps off all others
-  pub joining : All (λ i. Joins i.line d.centre i.at) d.items
-  pub links_joining : All (λ l. Joins l.line l.lower l.upper) d.links
+  pub joining : All (λ i. LeadsBetween i.line d.centre i.at) d.items
+  pub links_joining : All (λ l. LeadsBetween l.line l.lower l.upper) d.links
   pub keeping_off : All (λ i. All (KeepsOffOthers i.line d.centre i.at) (boxes_of d)) d.items
   pub links_keeping_off : All (λ l. All (KeepsOffOthers l.line l.lower l.upper) (boxes_of d)) d.links

@@ -5,7 +5,7 @@ use Rattle.drawing.specs.declared.group.Neighbour.{Neighbour}
 use Rattle.drawing.specs.declared.standings.Standing.{Standing}
 use Rattle.drawing.specs.declared.tower.Tower.{Tower}
 use Rattle.drawing.specs.Generations.{AreGenerations, all_numbers, rank_above, topmost, standing_of, standings_at}
-use Rattle.drawing.specs.Generations.{perches, perches_at, ties, tie_of, rows_with}
+use Rattle.drawing.specs.Generations.{perches, perches_at, rising_ties, tie_of, rows_with}
 use Rattle.drawing.specs.Shifted.{HasNumbers}
 
 -- these generations stand in the tower, above the providers `first`, of an AS with these numbers near
@@ -16,10 +16,10 @@ pub record IsTower (edges : List EdgeLine) (most : ℕ) (first : List Neighbour)
   pub topmost_are : (n : ℕ) → standing_of n t.topmost ≡ standing_of n (topmost most first gs)
   pub rank_is : t.rank ≡ rank_above most first gs
   pub perches_are : t.perches.items ≡ perches most first gs
-  pub ties_are : t.ties.items ≡ ties edges most first gs
+  pub ties_are : t.ties.items ≡ rising_ties edges most first gs
 
 -- a generation of which these are drawn was put on top, but for those themselves
-pub record IsPut (edges : List EdgeLine) (most : ℕ) (g : List Neighbour) (drawn : List Standing) (old new : Tower) : Type 0 where
+pub record IsTowerRaised (edges : List EdgeLine) (most : ℕ) (g : List Neighbour) (drawn : List Standing) (old new : Tower) : Type 0 where
   pub nearer : new.nearer ≡ old.nearer
   pub rank_is : new.rank ≡ old.rank + rows_with most g
   pub perches_are : new.perches.items ≡ old.perches.items ++ perches_at most old.rank g
@@ -27,5 +27,5 @@ pub record IsPut (edges : List EdgeLine) (most : ℕ) (g : List Neighbour) (draw
 
 -- a generation was put on top
 pub record IsStacked (edges : List EdgeLine) (most : ℕ) (g : List Neighbour) (old new : Tower) : Type 0 where
-  pub put : IsPut edges most g new.topmost old new
+  pub put : IsTowerRaised edges most g new.topmost old new
   pub topmost_are : (n : ℕ) → standing_of n new.topmost ≡ standing_of n (standings_at most old.rank g)

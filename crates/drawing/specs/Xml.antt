@@ -5,14 +5,14 @@ use Rattle.std.specs.Prelude.{◌∷◌, ◌++◌, codes, Option, Some, None, Is
 use Rattle.std.specs.List.{AllByRecursion, list_all}
 
 -- an attribute has a name and a value
-pub record Attribute : Type 0 where
+pub record SvgAttribute : Type 0 where
   pub name : List ℕ
   pub value : List ℕ
 
 -- an element has a name, attributes, and maybe text in it
 pub record Element : Type 0 where
   pub name : List ℕ
-  pub attributes : List Attribute
+  pub attributes : List SvgAttribute
   pub inner : Option (List ℕ)
 
 -- ---- what is well formed
@@ -38,11 +38,11 @@ is_same_name (b ∷ bs) (c ∷ cs) = (b == c) && is_same_name bs cs
 is_same_name _ _ = false
 
 -- each has a name and a plain value
-abbrev pub AreAttributes : List Attribute → Type 0
+abbrev pub AreAttributes : List SvgAttribute → Type 0
 AreAttributes attributes = AllByRecursion (λ a. IsTrue (is_name a.name) × ArePlain a.value) attributes
 
 -- no name stands twice
-abbrev pub are_named_once : List Attribute → Bool
+abbrev pub are_named_once : List SvgAttribute → Bool
 are_named_once [] = true
 are_named_once (a ∷ attributes) = list_all (λ b. not (is_same_name a.name b.name)) attributes && are_named_once attributes
 
@@ -58,36 +58,36 @@ pub record IsElement (e : Element) : Type 0 where
 
 -- ---- texts
 
-unfoldable pub attribute_text : Attribute → List ℕ
+unfoldable pub attribute_text : SvgAttribute → List ℕ
 attribute_text a = 32 ∷ a.name ++ (61 ∷ 34 ∷ a.value ++ 34 ∷ [])
 
 -- the attributes, and then the rest
-abbrev pub with_attributes : List Attribute → List ℕ → List ℕ
+abbrev pub with_attributes : List SvgAttribute → List ℕ → List ℕ
 with_attributes [] rest = rest
 with_attributes (a ∷ attributes) rest = attribute_text a ++ with_attributes attributes rest
 
 -- the end of an element that begins so
-abbrev pub end_text : List ℕ → Option (List ℕ) → List ℕ
-end_text name None = codes "/>\n"
-end_text name (Some text) = 62 ∷ (text ++ (codes "</" ++ (name ++ codes ">\n")))
+abbrev pub closing_tag : List ℕ → Option (List ℕ) → List ℕ
+closing_tag name None = codes "/>\n"
+closing_tag name (Some text) = 62 ∷ (text ++ (codes "</" ++ (name ++ codes ">\n")))
 
 unfoldable pub element_text : Element → List ℕ
-element_text e = 60 ∷ (e.name ++ with_attributes e.attributes (end_text e.name e.inner))
+element_text e = 60 ∷ (e.name ++ with_attributes e.attributes (closing_tag e.name e.inner))
 
 abbrev pub elements_text : List Element → List ℕ
 elements_text [] = []
 elements_text (e ∷ elements) = element_text e ++ elements_text elements
 
 -- an element of this name with these attributes, and these elements in it
-abbrev pub tag_text : List ℕ → List Attribute → List ℕ
+abbrev pub tag_text : List ℕ → List SvgAttribute → List ℕ
 tag_text name attributes = 60 ∷ (name ++ with_attributes attributes (codes ">\n"))
 
-abbrev pub document : List ℕ → List Attribute → List Element → List ℕ
+abbrev pub document : List ℕ → List SvgAttribute → List Element → List ℕ
 document name attributes elements = tag_text name attributes ++ (elements_text elements ++ (codes "</" ++ (name ++ codes ">\n")))
 
 -- the text is a well-formed element of this name that holds well-formed elements, and each name stands once where it may
 pub record IsDocument (name text : List ℕ) : Type 0 where
-  pub attributes : List Attribute
+  pub attributes : List SvgAttribute
   pub elements : List Element
   pub named : IsTrue (is_name name)
   pub well_formed : AreAttributes attributes

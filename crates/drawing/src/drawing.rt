@@ -1,18 +1,18 @@
 //! The picture as data.
 ghost use Rattle.std.specs.Prelude.{◌≡◌, ◌+◌, ◌<◌, ◌≤◌, ◌^◌, [], ◌++◌, length, map, All, OnOk, IfOk};
 ghost use Rattle.drawing.specs.declared.group.Group.{Group};
-ghost use Rattle.drawing.specs.declared.drawing.Entry.TheVariants as entry;
-ghost use Rattle.drawing.specs.Entries.{entries_of};
+ghost use Rattle.drawing.specs.declared.drawing.BoxEntry.TheVariants as entry;
+ghost use Rattle.drawing.specs.Entries.{box_entries};
 ghost use Rattle.drawing.specs.Generations.{rows_with};
-ghost use Rattle.drawing.specs.Neighbours.{AreInOrder, tally};
+ghost use Rattle.drawing.specs.Neighbours.{SortedNeighbours, tally};
 ghost use Rattle.drawing.specs.Page.{IsSmall, IsCell, centre_row};
 ghost use Rattle.drawing.specs.Picture.{IsDrawingOf, IsDrawn, greatest_support, greatest_of, width_of, support_of, item_of};
 ghost use Rattle.drawing.specs.Picture.{items_of, post_of, link_of, plan_of, drawing_with, drawing_from};
 ghost use Rattle.drawing.specs.Tidy.{IsTidy};
 
-use crate::group::{Counts, Group, Neighbour};
+use crate::group::{Group, Neighbour, NeighbourCounts};
 use crate::neighbours::{ordered, tally};
-use crate::page::{Line, Plan, Rect, rows_of_ten};
+use crate::page::{PageLine, Plan, Rect, rows_of_ten};
 use crate::tower::{Perch, Tie, Tower, tower_of};
 use relationships::Mark;
 use result_text::EdgeLine;
@@ -21,7 +21,7 @@ use tor_arena::{Keys, List, NoMemory};
 
 /// What a box stands for.
 #[derive(Clone, Copy)]
-pub enum Entry {
+pub enum BoxEntry {
     /// A neighbour.
     One(Neighbour),
     /// So many neighbours of a group that are left out.
@@ -32,11 +32,11 @@ pub enum Entry {
 #[derive(Clone, Copy)]
 pub struct Item {
     /// What the box stands for.
-    pub entry: Entry,
+    pub entry: BoxEntry,
     /// Where the box stands.
     pub at: Rect,
     /// The line.
-    pub line: Line,
+    pub line: PageLine,
     /// How wide the line is: 1, 2 or 3, by the support of the edge.
     pub width: u64,
 }
@@ -45,20 +45,20 @@ pub struct Item {
 #[derive(Clone, Copy)]
 pub struct Post {
     /// What the box stands for. An AS is a neighbour by an edge to one that is drawn below it, of the greatest support.
-    pub entry: Entry,
+    pub entry: BoxEntry,
     /// Where the box stands.
     pub at: Rect,
 }
 
 /// A line from an AS that is drawn up to its provider in the next generation.
 #[derive(Clone, Copy)]
-pub struct Link {
+pub struct RisingLine {
     /// The box of the customer.
     pub lower: Rect,
     /// The box of the provider.
     pub upper: Rect,
     /// The line.
-    pub line: Line,
+    pub line: PageLine,
     /// Whether the label of the edge could be another one.
     pub mark: Mark,
     /// How wide the line is: 1, 2 or 3, by the support of the edge.
@@ -71,7 +71,7 @@ pub struct Drawing {
     /// The AS.
     pub asked: u32,
     /// How many neighbours it has.
-    pub counts: Counts,
+    pub counts: NeighbourCounts,
     /// How high the page is, which is 1000 wide.
     pub height: u64,
     /// The box of the AS.
@@ -81,47 +81,47 @@ pub struct Drawing {
     /// The boxes of further generations of providers.
     pub posts: List<Post>,
     /// The lines to them.
-    pub links: List<Link>,
+    pub links: List<RisingLine>,
 }
 
 // Puts a box for each neighbour at the end.
-fn put_neighbours(entries: &mut Vec<Entry>, neighbours: &[Neighbour]) -> Result<(), NoMemory>
+fn put_neighbours(entries: &mut Vec<BoxEntry>, neighbours: &[Neighbour]) -> Result<(), NoMemory>
     ensures { OnOk result (entries.new.items ≡ entries.old.items ++ map (λ n. entry.One n) neighbours.now) }
 {
     for neighbour in neighbours {
-        entries.push(Entry::One(*neighbour))?;
+        entries.push(BoxEntry::One(*neighbour))?;
     }
     Ok(())
 }
 
 /// Puts what the boxes of a group or a generation stand for at the end.
 pub(crate) fn put_entries(
-    entries: &mut Vec<Entry>,
+    entries: &mut Vec<BoxEntry>,
     neighbours: &[Neighbour],
     most: usize,
 ) -> Result<(), NoMemory>
-    ensures { OnOk result (entries.new.items ≡ entries.old.items ++ entries_of most neighbours.now) }
+    ensures { OnOk result (entries.new.items ≡ entries.old.items ++ box_entries most neighbours.now) }
 {
     if neighbours.len() <= most {
         return put_neighbours(entries, neighbours);
     }
     put_neighbours(entries, &neighbours[..most])?;
-    entries.push(Entry::More((neighbours.len() - most) as u64))?;
+    entries.push(BoxEntry::More((neighbours.len() - most) as u64))?;
     Ok(())
 }
 
 // The support of what a box stands for, which is 0 where it is no neighbour.
-fn support_of(entry: &Entry) -> u64
+fn support_of(entry: &BoxEntry) -> u64
     ensures { result ≡ support_of entry.now }
 {
     match entry {
-        Entry::One(neighbour) => neighbour.support,
-        Entry::More(_) => 0,
+        BoxEntry::One(neighbour) => neighbour.support,
+        BoxEntry::More(_) => 0,
     }
 }
 
 // The greatest support of all, and 0 where there is none.
-fn greatest_support(entries: &[Entry]) -> u64
+fn greatest_support(entries: &[BoxEntry]) -> u64
     ensures { result ≡ greatest_support entries.now }
 {
     let mut greatest = 0;
@@ -132,7 +132,7 @@ fn greatest_support(entries: &[Entry]) -> u64
 }
 
 // The greatest support of all of these, and of these lines.
-fn greatest_of(entries: &[Entry], lines: &[Tie]) -> u64
+fn greatest_of(entries: &[BoxEntry], lines: &[Tie]) -> u64
     ensures { result ≡ greatest_of entries.now lines.now }
 {
     let mut greatest = greatest_support(entries);
@@ -156,7 +156,7 @@ fn width_of(greatest: u64, support: u64) -> u64
 }
 
 // The item of an entry at this place.
-fn item_of(plan: &Plan, greatest: u64, place: usize, entry: &Entry) -> Item
+fn item_of(plan: &Plan, greatest: u64, place: usize, entry: &BoxEntry) -> Item
     requires small { IsSmall plan.now }
     requires there { place < plan.now.above + plan.now.beside + plan.now.below }
     ensures { result ≡ item_of plan.now greatest (place, entry.now) }
@@ -175,7 +175,7 @@ fn items_of(
     alloc: Global,
     plan: &Plan,
     greatest: u64,
-    entries: &[Entry],
+    entries: &[BoxEntry],
 ) -> Result<List<Item>, NoMemory>
     requires small { IsSmall plan.now }
     requires all { length entries.now ≡ plan.now.above + plan.now.beside + plan.now.below }
@@ -214,23 +214,28 @@ fn posts_of(alloc: Global, plan: &Plan, perches: &[Perch]) -> Result<List<Post>,
 }
 
 // A line to one.
-fn link_of(plan: &Plan, greatest: u64, tie: &Tie) -> Link
+fn link_of(plan: &Plan, greatest: u64, tie: &Tie) -> RisingLine
     requires small { IsSmall plan.now }
     requires lower { IsCell (centre_row plan.now) tie.now.lower }
     requires upper { IsCell (centre_row plan.now) tie.now.upper }
     ensures { result ≡ link_of plan.now greatest tie.now }
 {
-    Link {
+    RisingLine {
         lower: plan.box_in(tie.lower),
         upper: plan.box_in(tie.upper),
-        line: plan.line_between(tie.lower, tie.upper),
+        line: plan.rising_line(tie.lower, tie.upper),
         mark: tie.mark,
         width: width_of(greatest, tie.support),
     }
 }
 
 // The lines to them.
-fn links_of(alloc: Global, plan: &Plan, greatest: u64, ties: &[Tie]) -> Result<List<Link>, NoMemory>
+fn links_of(
+    alloc: Global,
+    plan: &Plan,
+    greatest: u64,
+    ties: &[Tie],
+) -> Result<List<RisingLine>, NoMemory>
     requires small { IsSmall plan.now }
     requires lower { All (λ t. IsCell (centre_row plan.now) t.lower) ties.now }
     requires upper { All (λ t. IsCell (centre_row plan.now) t.upper) ties.now }
@@ -253,9 +258,9 @@ pub(crate) struct Groups {
 
 // The neighbours of the AS. The only error is that memory ran out.
 fn groups_of(alloc: Global, edges: &[EdgeLine], asked: u32) -> Result<Groups, NoMemory>
-    ensures providers { IfOk result (λ groups. AreInOrder asked Group.Providers edges.now groups.providers.items) }
-    ensures peers { IfOk result (λ groups. AreInOrder asked Group.Peers edges.now groups.peers.items) }
-    ensures customers { IfOk result (λ groups. AreInOrder asked Group.Customers edges.now groups.customers.items) }
+    ensures providers { IfOk result (λ groups. SortedNeighbours asked Group.Providers edges.now groups.providers.items) }
+    ensures peers { IfOk result (λ groups. SortedNeighbours asked Group.Peers edges.now groups.peers.items) }
+    ensures customers { IfOk result (λ groups. SortedNeighbours asked Group.Customers edges.now groups.customers.items) }
 {
     let providers = ordered(alloc, edges, asked, Group::Providers)?;
     let peers = match ordered(alloc, edges, asked, Group::Peers) {
@@ -280,14 +285,14 @@ fn groups_of(alloc: Global, edges: &[EdgeLine], asked: u32) -> Result<Groups, No
 }
 
 // How many there are in each group.
-fn counts_of(groups: &Groups) -> Counts
+fn counts_of(groups: &Groups) -> NeighbourCounts
     ensures { result ≡ record {
       providers = tally groups.now.providers.items;
       peers = tally groups.now.peers.items;
       customers = tally groups.now.customers.items;
     } }
 {
-    Counts {
+    NeighbourCounts {
         providers: tally(&groups.providers),
         peers: tally(&groups.peers),
         customers: tally(&groups.customers),
@@ -297,7 +302,7 @@ fn counts_of(groups: &Groups) -> Counts
 // What the boxes stand for, those right above first, then those beside, then those below; and how many of each there are, where so many
 // rows stand above the centre.
 fn put_all(
-    entries: &mut Vec<Entry>,
+    entries: &mut Vec<BoxEntry>,
     groups: &Groups,
     most: usize,
     rows: u64,
@@ -305,10 +310,10 @@ fn put_all(
     requires none { entries.old.items ≡ [] }
     requires few { most ≤ 2000 }
     requires rows { (rows_with most groups.now.providers.items ≤ rows) × (rows ≤ 1608) }
-    ensures entries { OnOk result (entries.new.items ≡ entries_of most groups.now.providers.items
-        ++ (entries_of most groups.now.peers.items ++ entries_of most groups.now.customers.items)) }
-    ensures plan { IfOk result (λ plan. plan ≡ plan_of (entries_of most groups.now.providers.items)
-        (entries_of most groups.now.peers.items) (entries_of most groups.now.customers.items) rows) }
+    ensures entries { OnOk result (entries.new.items ≡ box_entries most groups.now.providers.items
+        ++ (box_entries most groups.now.peers.items ++ box_entries most groups.now.customers.items)) }
+    ensures plan { IfOk result (λ plan. plan ≡ plan_of (box_entries most groups.now.providers.items)
+        (box_entries most groups.now.peers.items) (box_entries most groups.now.customers.items) rows) }
     ensures small { IfOk result IsSmall }
 {
     put_entries(entries, &groups.providers, most)?;
@@ -328,9 +333,9 @@ fn put_all(
 fn drawing_with(
     alloc: Global,
     asked: u32,
-    counts: Counts,
+    counts: NeighbourCounts,
     plan: &Plan,
-    entries: &[Entry],
+    entries: &[BoxEntry],
     tower: &Tower,
 ) -> Result<Drawing, NoMemory>
     requires small { IsSmall plan.now }
@@ -425,7 +430,7 @@ fn drawing_above(
 /// generations above its providers, up to this depth, which is 8 at most. A depth of 1, or of 0, is that of its providers. Of each group
 /// and of each generation at most so many are drawn, up to 2000, and one box says how many more there are. The only error is that memory
 /// ran out.
-pub fn draw(
+pub fn draw_neighbours(
     alloc: Global,
     keys: Keys,
     edges: &[EdgeLine],

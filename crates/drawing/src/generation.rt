@@ -1,8 +1,8 @@
 //! The next generation of providers.
 ghost use Rattle.std.specs.Prelude.{◌≡◌, ℕ, ◌+◌, ◌<◌, ◌^◌, List, [], ◌∷◌, ◌++◌, map, All, OnOk, IfOk};
 ghost use Rattle.std.specs.List.{AllPairs};
-ghost use Rattle.drawing.specs.Generations.{upward, provider_above, providers_above, IsChoice};
-ghost use Rattle.drawing.specs.Neighbours.{NotAfter};
+ghost use Rattle.drawing.specs.Generations.{upward, provider_above, providers_above, IsGeneration};
+ghost use Rattle.drawing.specs.Neighbours.{IsNoLater};
 ghost use Rattle.drawing.specs.Order.{IsShort};
 ghost use Rattle.drawing.specs.Shifted.{HasNumbers};
 
@@ -104,9 +104,9 @@ fn choose(
     found: &[Neighbour],
 ) -> Result<(), NoMemory>
     requires none { chosen.old.items ≡ [] }
-    requires sorted { AllPairs NotAfter found.now }
+    requires sorted { AllPairs IsNoLater found.now }
     ensures { OnOk result ((near : List ℕ) → HasNumbers nearer.old near →
-        IsChoice near found.now chosen.new.items × HasNumbers nearer.new (near ++ map (λ n. n.number) chosen.new.items)) }
+        IsGeneration near found.now chosen.new.items × HasNumbers nearer.new (near ++ map (λ n. n.number) chosen.new.items)) }
 {
     for neighbour in found {
         if nearer.insert(u64::from(neighbour.number) + 2)? {
@@ -124,7 +124,7 @@ pub(crate) fn generation_above(
     nearer: &mut NumberSet,
 ) -> Result<Vec<Neighbour>, NoMemory>
     ensures { IfOk result (λ ns. (near : List ℕ) → HasNumbers nearer.old near →
-        IsChoice near (providers_above drawn.now edges.now) ns.items × HasNumbers nearer.new (near ++ map (λ n. n.number) ns.items)) }
+        IsGeneration near (providers_above drawn.now edges.now) ns.items × HasNumbers nearer.new (near ++ map (λ n. n.number) ns.items)) }
 {
     let mut found = providers_above(alloc, edges, drawn)?;
     sort_neighbours(&mut found);

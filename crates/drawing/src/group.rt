@@ -1,6 +1,6 @@
 //! The neighbours of an AS, by what they are to it.
 ghost use Rattle.std.specs.Prelude.{◌≡◌};
-ghost use Rattle.drawing.specs.Neighbours.{group_of, is_in, neighbour_of, is_same_group, is_forced};
+ghost use Rattle.drawing.specs.Neighbours.{group_of, is_in, neighbour_of, is_same_group, has_forced_edge};
 
 use relationships::{Label, Mark};
 use result_text::EdgeLine;
@@ -38,7 +38,7 @@ pub struct Tally {
 
 /// How many neighbours an AS has, by group.
 #[derive(Clone, Copy)]
-pub struct Counts {
+pub struct NeighbourCounts {
     /// Its providers.
     pub providers: Tally,
     /// Its peers.
@@ -106,8 +106,8 @@ pub(crate) fn neighbour_of(asked: u32, edge: &EdgeLine) -> Neighbour
 }
 
 /// Whether the edge of the neighbour is forced.
-pub(crate) fn is_forced(neighbour: &Neighbour) -> bool
-    ensures { result ≡ is_forced neighbour.now }
+pub(crate) fn has_forced_edge(neighbour: &Neighbour) -> bool
+    ensures { result ≡ has_forced_edge neighbour.now }
 {
     match neighbour.mark {
         Mark::Forced => true,

@@ -11,7 +11,7 @@ mod printing;
 mod standings;
 mod tower;
 
-pub use drawing::{Drawing, Entry, Item, Link, Post, draw};
-pub use group::{Counts, Group, Neighbour, Tally};
-pub use page::{Line, Rect, Spot};
-pub use printing::print;
+pub use drawing::{BoxEntry, Drawing, Item, Post, RisingLine, draw_neighbours};
+pub use group::{Group, Neighbour, NeighbourCounts, Tally};
+pub use page::{PageLine, Rect, Spot};
+pub use printing::svg_of;

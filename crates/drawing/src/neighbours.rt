@@ -2,10 +2,10 @@
 ghost use Rattle.std.specs.Prelude.{◌≡◌, ◌<◌, ◌^◌, [], ◌∷◌, ◌++◌, All, OnOk, IfOk};
 ghost use Rattle.std.specs.List.{AllPairs};
 ghost use Rattle.std.specs.List.Sorted.{IsPermutation};
-ghost use Rattle.drawing.specs.Neighbours.{neighbours, tally, AreInOrder, NotAfter};
-ghost use Rattle.drawing.specs.Order.{key_of, IsShort};
+ghost use Rattle.drawing.specs.Neighbours.{neighbours, tally, SortedNeighbours, IsNoLater};
+ghost use Rattle.drawing.specs.Order.{order_key, IsShort};
 
-use crate::group::{Group, Neighbour, Tally, is_forced, is_in, neighbour_of};
+use crate::group::{Group, Neighbour, Tally, has_forced_edge, is_in, neighbour_of};
 use result_text::EdgeLine;
 use std::alloc::Global;
 use tor_arena::NoMemory;
@@ -53,7 +53,7 @@ fn neighbours(
 
 /// What neighbours are sorted by: the greatest support first, and then their numbers.
 fn sort_key(neighbour: &Neighbour) -> (u64, u32)
-    ensures { result ≡ key_of neighbour.now }
+    ensures { result ≡ order_key neighbour.now }
 {
     (u64::MAX - neighbour.support, neighbour.number)
 }
@@ -62,7 +62,7 @@ fn sort_key(neighbour: &Neighbour) -> (u64, u32)
 pub(crate) fn sort_neighbours(neighbours: &mut Vec<Neighbour>)
     requires { All IsShort neighbours.old.items }
     ensures same { IsPermutation neighbours.old.items neighbours.new.items }
-    ensures sorted { AllPairs NotAfter neighbours.new.items }
+    ensures sorted { AllPairs IsNoLater neighbours.new.items }
 {
     neighbours.sort_unstable_by_key(|neighbour| sort_key(neighbour));
 }
@@ -74,7 +74,7 @@ pub(crate) fn ordered(
     asked: u32,
     group: Group,
 ) -> Result<Vec<Neighbour>, NoMemory>
-    ensures { IfOk result (λ ns. AreInOrder asked group edges.now ns.items) }
+    ensures { IfOk result (λ ns. SortedNeighbours asked group edges.now ns.items) }
 {
     let mut found = neighbours(alloc, edges, asked, group)?;
     sort_neighbours(&mut found);
@@ -87,7 +87,7 @@ pub(crate) fn tally(neighbours: &[Neighbour]) -> Tally
 {
     let mut forced = 0;
     for neighbour in neighbours {
-        if is_forced(neighbour) {
+        if has_forced_edge(neighbour) {
             forced += 1;
         }
     }

@@ -4,7 +4,7 @@ ghost use Rattle.std.specs.Prelude.{◌≡◌, ◌+◌, ◌^◌, ◌<◌, ◌≤
 ghost use Rattle.drawing.specs.Page.{rows_of, centre_row, first_row_below, row_y, column_x, box_at, centre_box, page_height};
 ghost use Rattle.drawing.specs.Page.{column_of, column_beside, line_up, line_beside, line_down, spot_above};
 ghost use Rattle.drawing.specs.Page.{spot_beside, spot_below, spot_of};
-ghost use Rattle.drawing.specs.Page.{cell_of, cell_row, box_in, line_between};
+ghost use Rattle.drawing.specs.Page.{cell_of, cell_row, box_in, rising_line};
 ghost use Rattle.drawing.specs.Page.{IsSmall, IsCell};
 
 /// A box of the picture.
@@ -23,7 +23,7 @@ pub struct Rect {
 /// A line of level and upright parts by turns: from where it begins level to its trunk, along the trunk to its rail, along the rail to
 /// where it ends, and upright to its end. The first part may have no length.
 #[derive(Clone, Copy)]
-pub struct Line {
+pub struct PageLine {
     /// The x of where it begins.
     pub start_x: u64,
     /// The y of where it begins.
@@ -44,7 +44,7 @@ pub struct Spot {
     /// The box.
     pub at: Rect,
     /// The line.
-    pub line: Line,
+    pub line: PageLine,
 }
 
 /// How many boxes stand right above, beside and below the one in the centre.
@@ -185,12 +185,12 @@ impl Plan {
     }
 
     // The line up to the box in this column and row.
-    fn line_up(&self, column: u64, row: u64) -> Line
+    fn line_up(&self, column: u64, row: u64) -> PageLine
         requires small { IsSmall self.now }
         requires there { (column < 10) × (row ≤ 3000) }
         ensures { result ≡ line_up self.now column row }
     {
-        Line {
+        PageLine {
             start_x: 500,
             start_y: row_y(self.centre_row()),
             trunk_x: 500,
@@ -201,12 +201,12 @@ impl Plan {
     }
 
     // The line to the left or the right to the box in this column and row.
-    fn line_beside(&self, column: u64, row: u64) -> Line
+    fn line_beside(&self, column: u64, row: u64) -> PageLine
         requires small { IsSmall self.now }
         requires there { (column < 10) × (row ≤ 3000) }
         ensures { result ≡ line_beside self.now column row }
     {
-        Line {
+        PageLine {
             start_x: if column < 5 { 440 } else { 560 },
             start_y: row_y(self.centre_row()) + 12,
             trunk_x: if column < 5 { 418 } else { 582 },
@@ -217,12 +217,12 @@ impl Plan {
     }
 
     // The line down to the box in this column and row.
-    fn line_down(&self, column: u64, row: u64) -> Line
+    fn line_down(&self, column: u64, row: u64) -> PageLine
         requires small { IsSmall self.now }
         requires there { (column < 10) × (row ≤ 3000) }
         ensures { result ≡ line_down self.now column row }
     {
-        Line {
+        PageLine {
             start_x: 500,
             start_y: row_y(self.centre_row()) + 24,
             trunk_x: 500,
@@ -309,16 +309,16 @@ impl Plan {
     }
 
     /// The line from the box in one cell to that in a cell above it.
-    pub(crate) fn line_between(&self, lower: Cell, upper: Cell) -> Line
+    pub(crate) fn rising_line(&self, lower: Cell, upper: Cell) -> PageLine
         requires small { IsSmall self.now }
         requires lower { IsCell (centre_row self.now) lower }
         requires upper { IsCell (centre_row self.now) upper }
-        ensures { result ≡ line_between self.now lower upper }
+        ensures { result ≡ rising_line self.now lower upper }
     {
         let side = column_x(lower.column);
         let rail = row_y(self.cell_row(upper));
         let is_right = lower.column < upper.column;
-        Line {
+        PageLine {
             start_x: if is_right { side + 80 } else { side },
             start_y: row_y(self.cell_row(lower)) + 12,
             trunk_x: if is_right { side + 85 } else { side - 5 },

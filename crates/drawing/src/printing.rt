@@ -11,9 +11,9 @@ ghost use Rattle.drawing.specs.Svg.{start_text, svg_text};
 ghost use Rattle.drawing.specs.Tidy.{IsTidy};
 ghost use Rattle.drawing.specs.Xml.{IsDocument, attribute_text, element_text, elements_text};
 
-use crate::drawing::{Drawing, Entry, Item, Link, Post};
-use crate::group::{Counts, Tally};
-use crate::page::{Line, Rect};
+use crate::drawing::{BoxEntry, Drawing, Item, Post, RisingLine};
+use crate::group::{NeighbourCounts, Tally};
+use crate::page::{PageLine, Rect};
 use relationships::Mark;
 use std::alloc::Global;
 use text_fields::put_number;
@@ -76,7 +76,7 @@ fn put_next_point<S: Sink>(out: &mut S, flow: &mut Outflow<'_>, x: u64, y: u64)
     put_point(out, flow, x, y);
 }
 
-fn put_points<S: Sink>(out: &mut S, flow: &mut Outflow<'_>, line: &Line)
+fn put_points<S: Sink>(out: &mut S, flow: &mut Outflow<'_>, line: &PageLine)
     ensures { Puts (state (S.held out.old) (S.faults out.old) flow.old) (state (S.held out.new) (S.faults out.new) flow.new)
         (points line.now) }
 {
@@ -88,7 +88,7 @@ fn put_points<S: Sink>(out: &mut S, flow: &mut Outflow<'_>, line: &Line)
 }
 
 // The beginning of an element that is a line, with its points.
-fn put_line_start<S: Sink>(out: &mut S, flow: &mut Outflow<'_>, line: &Line)
+fn put_line_start<S: Sink>(out: &mut S, flow: &mut Outflow<'_>, line: &PageLine)
     ensures { Puts (state (S.held out.old) (S.faults out.old) flow.old) (state (S.held out.new) (S.faults out.new) flow.new)
         (codes "<polyline" ++ attribute_text (word_of (codes "points") (points line.now))) }
 {
@@ -108,19 +108,19 @@ fn mark_dashes(mark: Mark) -> &'static [u8]
 }
 
 // Which parts of the line to a box are drawn.
-fn dashes(entry: &Entry) -> &'static [u8]
+fn dashes(entry: &BoxEntry) -> &'static [u8]
     ensures { result.now ≡ dashes entry.now }
 {
     match entry {
-        Entry::One(neighbour) => mark_dashes(neighbour.mark),
-        Entry::More(_) => b"1 3",
+        BoxEntry::One(neighbour) => mark_dashes(neighbour.mark),
+        BoxEntry::More(_) => b"1 3",
     }
 }
 
 fn put_polyline<S: Sink>(
     out: &mut S,
     flow: &mut Outflow<'_>,
-    line: &Line,
+    line: &PageLine,
     width: u64,
     dashed: &[u8],
 )
@@ -170,12 +170,12 @@ fn put_box<S: Sink>(out: &mut S, flow: &mut Outflow<'_>, at: &Rect, text: &[u8])
 
 // ---- words, which are in memory so that their length is known before they are written
 
-fn add_entry(words: &mut List<u8>, entry: &Entry) -> Result<(), NoMemory>
+fn add_entry(words: &mut List<u8>, entry: &BoxEntry) -> Result<(), NoMemory>
     ensures { OnOk result (words.new ≡ words.old ++ entry_words entry.now) }
 {
     match entry {
-        Entry::One(neighbour) => put_number(words, u64::from(neighbour.number)),
-        Entry::More(count) => {
+        BoxEntry::One(neighbour) => put_number(words, u64::from(neighbour.number)),
+        BoxEntry::More(count) => {
             put_number(words, *count)?;
             words.extend_from_slice(b" more")
         }
@@ -220,7 +220,7 @@ fn add_tally(
     words.extend_from_slice(b" forced)")
 }
 
-fn add_caption(words: &mut List<u8>, asked: u32, counts: &Counts) -> Result<(), NoMemory>
+fn add_caption(words: &mut List<u8>, asked: u32, counts: &NeighbourCounts) -> Result<(), NoMemory>
     ensures { OnOk result (words.new ≡ words.old ++ caption_words asked counts.now) }
 {
     add_asked(words, asked)?;
@@ -271,14 +271,14 @@ fn put_items<S: Sink>(
     Ok(())
 }
 
-fn put_link<S: Sink>(out: &mut S, flow: &mut Outflow<'_>, link: &Link)
+fn put_link<S: Sink>(out: &mut S, flow: &mut Outflow<'_>, link: &RisingLine)
     ensures { Puts (state (S.held out.old) (S.faults out.old) flow.old) (state (S.held out.new) (S.faults out.new) flow.new)
         (elements_text (links_elements (link.now ∷ []))) }
 {
     put_polyline(out, flow, &link.line, link.width, mark_dashes(link.mark));
 }
 
-fn put_links<S: Sink>(out: &mut S, flow: &mut Outflow<'_>, links: &[Link])
+fn put_links<S: Sink>(out: &mut S, flow: &mut Outflow<'_>, links: &[RisingLine])
     ensures { Puts (state (S.held out.old) (S.faults out.old) flow.old) (state (S.held out.new) (S.faults out.new) flow.new)
         (elements_text (links_elements links.now)) }
 {
@@ -445,7 +445,7 @@ fn write_whole<S: Sink>(alloc: Global, out: &mut S, drawing: &Drawing) -> Result
 
 /// The text of the picture, as SVG. The picture has to be tidy and no higher than numbers of 32 bits reach, as one that is drawn is. The
 /// only error is that memory ran out.
-pub fn print(alloc: Global, drawing: &Drawing) -> Result<List<u8>, NoMemory>
+pub fn svg_of(alloc: Global, drawing: &Drawing) -> Result<List<u8>, NoMemory>
     requires tidy { IsTidy drawing.now }
     requires low { drawing.now.height < 2 ^ 32 }
     ensures text { IfOk result (λ text. text ≡ svg_text drawing.now) }

@@ -4,11 +4,11 @@ ghost use Rattle.drawing.specs.declared.group.Neighbour.{Neighbour};
 ghost use Rattle.drawing.specs.Generations.{box_count, standing_at, standings_at, standing_of, perches_at, perch_at, tie_of};
 ghost use Rattle.drawing.specs.Neighbours.{near_numbers};
 ghost use Rattle.drawing.specs.Shifted.{HasNumbers};
-ghost use Rattle.drawing.specs.Tower.{IsPut, IsStacked, IsTower};
+ghost use Rattle.drawing.specs.Tower.{IsTowerRaised, IsStacked, IsTower};
 ghost use Rattle.result_text.specs.declared.file.EdgeLine.{EdgeLine};
 ghost use Rattle.std.specs.List.{enumerate_from};
 
-use crate::drawing::{Entry, Groups, put_entries};
+use crate::drawing::{BoxEntry, Groups, put_entries};
 use crate::generation::{generation_above, upward};
 use crate::group::Neighbour;
 use crate::page::{Cell, cell_of, rows_of_ten};
@@ -23,7 +23,7 @@ use tor_numbers::NumberSet;
 /// A box of a further generation.
 #[derive(Clone, Copy)]
 pub(crate) struct Perch {
-    pub entry: Entry,
+    pub entry: BoxEntry,
     pub cell: Cell,
 }
 
@@ -171,7 +171,7 @@ fn put_ties(
 }
 
 // A box with this entry in a generation of so many, in rows from this rank on.
-fn perch_at(boxes: usize, rank: u64, place: usize, entry: &Entry) -> Perch
+fn perch_at(boxes: usize, rank: u64, place: usize, entry: &BoxEntry) -> Perch
     requires there { (place < boxes) × (boxes ≤ 2001) }
     requires low { rank ≤ 3000 }
     ensures { result ≡ perch_at boxes rank (place, entry.now) }
@@ -183,7 +183,7 @@ fn perch_at(boxes: usize, rank: u64, place: usize, entry: &Entry) -> Perch
 }
 
 // Puts boxes with these entries at the end, in rows from this rank on.
-fn put_boxes(perches: &mut Vec<Perch>, entries: &[Entry], rank: u64) -> Result<(), NoMemory>
+fn put_boxes(perches: &mut Vec<Perch>, entries: &[BoxEntry], rank: u64) -> Result<(), NoMemory>
     requires few { length entries.now ≤ 2001 }
     requires low { rank ≤ 3000 }
     ensures { OnOk result (perches.new.items ≡
@@ -276,7 +276,7 @@ impl Tower {
     ) -> Result<(), NoMemory>
         requires few { most ≤ 2000 }
         requires low { self.old.rank ≤ 2700 }
-        ensures put { OnOk result (IsPut edges.now most generation.now drawn.now self.old self.new) }
+        ensures put { OnOk result (IsTowerRaised edges.now most generation.now drawn.now self.old self.new) }
         ensures low { OnOk result (self.new.rank ≤ self.old.rank + 201) }
     {
         put_ties(&mut self.ties, &self.topmost, drawn, edges)?;

@@ -8,7 +8,7 @@ ghost use Rattle.torcheck_run.specs.Unsaying.{SaysAbsent, IsUnanswered, IsUnmetI
 ghost use Rattle.torcheck_run.specs.Unsaying.{IsFailedRead, IsOfAskingWords};
 ghost use Rattle.torview_run.specs.Views.{HasEdge, IsPictureOf, IsSeen, absent_note, viewing};
 
-use drawing::{draw, print};
+use drawing::{draw_neighbours, svg_of};
 use result_text::{EdgeLine, ResultFile};
 use run_base::Unread;
 use std::alloc::{AllocError, Global};
@@ -59,8 +59,8 @@ fn picture_of(
 {
     let most = settings.most as usize;
     let depth = settings.depth as usize;
-    let drawing = draw(alloc, keys, edges, settings.asked, most, depth)?;
-    print(alloc, &drawing)
+    let drawing = draw_neighbours(alloc, keys, edges, settings.asked, most, depth)?;
+    svg_of(alloc, &drawing)
 }
 
 // The text of the picture of a result that meets the rules.

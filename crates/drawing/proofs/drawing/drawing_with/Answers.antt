@@ -1,17 +1,17 @@
 use Rattle.std.proofs.Common.{◌≡◌, ℕ, List, ◌∙◌, ap, map}
-use Rattle.drawing.specs.declared.group.Counts.{Counts}
+use Rattle.drawing.specs.declared.group.NeighbourCounts.{NeighbourCounts}
 use Rattle.drawing.specs.declared.page.Rect.{Rect}
 use Rattle.drawing.specs.declared.drawing.Drawing.{Drawing}
 use Rattle.drawing.specs.declared.drawing.Item.{Item}
-use Rattle.drawing.specs.declared.drawing.Link.{Link}
+use Rattle.drawing.specs.declared.drawing.RisingLine.{RisingLine}
 use Rattle.drawing.specs.declared.drawing.Post.{Post}
 use Rattle.drawing.specs.Picture.{greatest_of, items_of, link_of, post_of}
 use Rattle.drawing.proofs.drawing.drawing_with.Goals as goal
 
-abbrev made : ℕ → Counts → ℕ → Rect → List Item → List Post → List Link → Drawing
+abbrev made : ℕ → NeighbourCounts → ℕ → Rect → List Item → List Post → List RisingLine → Drawing
 made a counts height centre items posts links = record { asked = a; counts = counts; height = height; centre = centre; items = items; posts = posts; links = links }
 
-same_made : (a : ℕ) (counts : Counts) (h h' : ℕ) (r r' : Rect) (is is' : List Item) (ps ps' : List Post) (ls ls' : List Link) →
+same_made : (a : ℕ) (counts : NeighbourCounts) (h h' : ℕ) (r r' : Rect) (is is' : List Item) (ps ps' : List Post) (ls ls' : List RisingLine) →
     h ≡ h' → r ≡ r' → is ≡ is' → ps ≡ ps' → ls ≡ ls' → made a counts h r is ps ls ≡ made a counts h' r' is' ps' ls'
 same_made a counts h h' r r' is is' ps ps' ls ls' height centre items posts links =
     ap (λ x. made a counts x r is ps ls) height ∙ ap (λ x. made a counts h' x is ps ls) centre ∙ ap (λ x. made a counts h' r' x ps ls) items

@@ -1,4 +1,4 @@
-use Rattle.drawing.specs.declared.drawing.Entry.TheVariants as entry
+use Rattle.drawing.specs.declared.drawing.BoxEntry.TheVariants as entry
 use Rattle.drawing.proofs.Numbered.{map_behind}
 use Rattle.drawing.proofs.drawing.put_neighbours.Goals as goal
 

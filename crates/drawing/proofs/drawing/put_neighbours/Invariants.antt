@@ -1,5 +1,5 @@
 use Rattle.std.proofs.Common.{◌≡◌, ◌++◌, take, map}
-use Rattle.drawing.specs.declared.drawing.Entry.TheVariants as entry
+use Rattle.drawing.specs.declared.drawing.BoxEntry.TheVariants as entry
 use Rattle.drawing.proofs.drawing.put_neighbours.Given as goal
 
 abbrev pub invariant-loop-neighbour : goal.invariant-loop-neighbour

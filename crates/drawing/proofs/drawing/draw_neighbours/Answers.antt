@@ -2,7 +2,7 @@ use Rattle.std.proofs.lemmas.Result.{IfOk-weaker}
 use Rattle.drawing.specs.Picture.{IsDrawn, IsDrawingOf}
 use Rattle.drawing.specs.Tidy.{IsTidy}
 use Rattle.drawing.proofs.Drawn.{drawn_of, drawn_tidy}
-use Rattle.drawing.proofs.drawing.draw.Goals as goal
+use Rattle.drawing.proofs.drawing.draw_neighbours.Goals as goal
 
 pub returns-clause-drawn : goal.returns-clause-drawn
 returns-clause-drawn c =

@@ -3,7 +3,7 @@ use Rattle.std.proofs.lemmas.Option.{same_Some}
 use Rattle.drawing.specs.Svg.{svg_text}
 use Rattle.drawing.specs.Xml.{IsDocument}
 use Rattle.drawing.proofs.WellFormed.{picture_well_formed}
-use Rattle.drawing.proofs.printing.print.Goals as goal
+use Rattle.drawing.proofs.printing.svg_of.Goals as goal
 
 pub returns-in-Ok-clause-text : goal.returns-in-Ok-clause-text
 returns-in-Ok-clause-text c =
