@@ -11,55 +11,55 @@ use tor_arena::{MAX_PATHS, MAX_RATIO};
 
 /// What help says of two of the options.
 const GIVEN_HELP: &str =
-    "Known relationships, lines of serial-1: provider|customer|-1 binds the inference, peer|peer|0 is read and checked and binds nothing";
+    "Infer under known relationships, lines of serial-1: provider|customer|-1 is binding, peer|peer|0 is only checked";
 
 const RESUME_HELP: &str =
-    "Add the dumps to this result, which has to meet all rules: what became of its paths stays, labels are new; --as-sets changes nothing";
+    "Add the dumps to this result, which must meet all rules: its kept paths stay kept and its lost paths lost; labels are new";
 
 /// The options and the operands of `tor`.
 static TOR: [Entry; 12] = [
     Entry::Flag(
         "list",
-        "Write the distinct AS paths, each with its number of routes, in place of the result",
+        "Write only the distinct AS paths, each with its number of routes",
     ),
     Entry::Flag(
         "survey",
-        "Write what the dumps hold, and what of it counts, in place of the result",
+        "Write only what the dumps hold: records, peers, routes, and which of them count",
     ),
     Entry::Flag(
         "ties",
-        "Write which of the open edges stand or fall together, in place of the result",
+        "Write only which open edges go together: whoever settles one settles all of its class",
     ),
     Entry::Flag(
         "serial1",
-        "Write the labels as lines provider|customer|-1 and peer|peer|0, in place of the result",
+        "Write only the labels, as lines provider|customer|-1 and peer|peer|0",
     ),
     Entry::Choice(
         "as-sets",
-        "With an AS_SET of several ASes, cut ends the path before it and skip sets the route aside [default: cut]",
+        "At an AS_SET of several ASes, cut ends the path before it, and skip sets the route aside [default: cut]",
     ),
     Entry::Number(
         "ratio",
         0,
         MAX_RATIO as u64,
-        "The most times the lesser degree that the greater one of two peers may be, 0 (no peers) to 1000000 [default: 60]",
+        "Two ASes may peer if neither has more than this many times the other's neighbours, 0 (no peers) to 1000000 [default: 60]",
     ),
     Entry::Number(
         "max-paths",
         1,
         MAX_PATHS as u64,
-        "The most distinct paths, 1 to 8388608 [default: 8388608]",
+        "Stop at more distinct paths than this, 1 to 8388608 [default: 8388608]",
     ),
     Entry::Number(
         "sample",
         0,
         u64::MAX,
-        "Write the summary of the result over a dump made from this number, 0 to 18446744073709551615, in place of dumps",
+        "Make a dump from this number, 0 to 18446744073709551615, and write only the summary of its result",
     ),
     Entry::Choice("given", GIVEN_HELP),
     Entry::Flag(
         "migrate",
-        "Write the result that is named in place of dumps in the text of version 2; --as-sets, --ratio and --max-paths change nothing",
+        "Write the named result in version 2 of its text; no dump is read",
     ),
     Entry::Choice("resume", RESUME_HELP),
     Entry::Rest(
@@ -73,7 +73,7 @@ static TORCHECK: [Entry; 2] = [
     Entry::Needed("result", "The result to judge"),
     Entry::Rest(
         "dump",
-        "The dumps, in order, that the paths of the result, their times and its seven counts have to be those of",
+        "The tables, in order: the result's paths, times and counts must be exactly theirs",
     ),
 ];
 

@@ -13,15 +13,15 @@ static TORGRADE: [Entry; 3] = [
         "cone",
         0,
         4_294_967_295,
-        "Write behind the grades the customer cone of this AS, 0 to 4294967295: itself, its customers, their customers and so on",
+        "After the grades, write the customer cone of this AS, 0 to 4294967295: itself, its customers, their customers and so on",
     ),
     Entry::Needed(
         "rel",
-        "Known relationships, lines provider|customer|-1 and peer|peer|0, as CAIDA's files of serial-1 have them",
+        "Known relationships: lines provider|customer|-1 and peer|peer|0, as in CAIDA's files of serial-1",
     ),
     Entry::Rest(
         "dump",
-        "Uncompressed MRT table dumps, read in this order, whose paths are graded; the exit status is 0 also where valleys are found",
+        "Uncompressed MRT table dumps whose paths are graded, read in this order; the exit status is 0 also where valleys are found",
     ),
 ];
 

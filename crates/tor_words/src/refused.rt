@@ -20,7 +20,7 @@ pub enum WordsRefused {
 /// The digits of a number below 16.
 const DIGITS: [u8; 16] = *b"0123456789abcdef";
 
-// Puts an octet behind the first line: a control character as its number, \xNN, since a word of the command line may hold any, and a
+// Puts an octet after the first line: a control character as its number, \xNN, since a word of the command line may hold any, and a
 // terminal would heed it.
 fn put_visible(lines: &mut List<u8>, octet: u8) -> Result<(), NoMemory>
     ensures { OnOk result (HasUsageLine lines.old → HasUsageLine lines.new) }
@@ -33,19 +33,39 @@ fn put_visible(lines: &mut List<u8>, octet: u8) -> Result<(), NoMemory>
     lines.extend_from_slice(&[b'\\', b'x', high, low])
 }
 
-// Puts the first line, and what is to be said behind it.
-fn put_usage(lines: &mut List<u8>, text: &str) -> Result<(), NoMemory>
-    requires { lines.old ≡ [] }
-    ensures { OnOk result (HasUsageLine lines.new) }
+// Puts a text, its control characters as their numbers.
+fn put_text(lines: &mut List<u8>, text: &str) -> Result<(), NoMemory>
+    ensures { OnOk result (HasUsageLine lines.old → HasUsageLine lines.new) }
 {
-    lines.extend_from_slice(b"usage\n")?;
     for octet in text.as_bytes() {
         put_visible(lines, *octet)?;
     }
     Ok(())
 }
 
-/// The refusal that says this text behind its first line, unless memory runs out.
+// What clap says before and after a line that points at a word much like the one it refuses: what was meant is not for it to guess.
+fn around_hint(text: &str) -> (&str, &str) {
+    let Some((before, hint)) = text.split_once("  tip: a similar ") else {
+        return (text, "");
+    };
+    let Some((_, after)) = hint.split_once('\n') else {
+        return (before, "");
+    };
+    (before, after.strip_prefix('\n').unwrap_or(after))
+}
+
+// Puts the first line, and what is to be said after it.
+fn put_usage(lines: &mut List<u8>, text: &str) -> Result<(), NoMemory>
+    requires { lines.old ≡ [] }
+    ensures { OnOk result (HasUsageLine lines.new) }
+{
+    let (before, after) = around_hint(text);
+    lines.extend_from_slice(b"usage\n")?;
+    put_text(lines, before)?;
+    put_text(lines, after)
+}
+
+/// The refusal that says this text after its first line, unless memory runs out.
 pub(crate) fn usage(alloc: Global, text: &str) -> WordsRefused
     ensures { SaysUsage result }
 {

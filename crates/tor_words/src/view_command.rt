@@ -13,18 +13,18 @@ static TORVIEW: [Entry; 4] = [
         "most",
         1,
         2000,
-        "The most boxes of its providers, of its peers and of its customers each, 1 to 2000 [default: 60]",
+        "Draw at most this many providers, this many peers and this many customers, 1 to 2000 [default: 60]",
     ),
     Entry::Number(
         "depth",
         1,
         8,
-        "The most generations of providers, 1 to 8: its own, their providers and so on [default: 1]",
+        "Draw this many generations of providers, 1 to 8: its own, their providers and so on [default: 1]",
     ),
-    Entry::Needed("result", "The result, which has to meet all rules"),
+    Entry::Needed("result", "A result that meets all rules"),
     Entry::Needed(
         "as",
-        "The AS that is drawn with its providers above, its peers beside and its customers below",
+        "The AS to draw, with its providers above, its peers beside and its customers below",
     ),
 ];
 

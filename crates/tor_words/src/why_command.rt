@@ -9,15 +9,15 @@ use std::alloc::{AllocError, Global};
 
 /// What help says of the option.
 const PATH_HELP: &str =
-    "Tell of the path of this number, from 1, whether it is kept, and how its steps go, or the walk that refutes it, in place of an edge";
+    "Tell of the path with this number, from 1: how the steps of a kept path go, or the walk that refutes a lost one";
 
 /// The option, the file and the ASes.
 static TORWHY: [Entry; 3] = [
     Entry::Number("path", 0, 4_294_967_295, PATH_HELP),
-    Entry::Needed("result", "The result, which has to meet all rules"),
+    Entry::Needed("result", "A result that meets all rules"),
     Entry::Rest(
         "as",
-        "Two ASes, in either order, of whose edge is told why its label is forced, or that it could be another one",
+        "Two neighbouring ASes, in either order: why the label of their edge is forced, or how it could be another",
     ),
 ];
 
