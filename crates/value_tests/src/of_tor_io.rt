@@ -1,10 +1,11 @@
 //! Tests of the two ends that touch the system, whose octets no clause knows. What is written to the standard streams the stored runs of
 //! the programs show; shelves and sinks in memory are what the rows of `tor_rows` run over (`octets-a-read`, `read-fails-at`,
 //! `out-takes`, `write-fails-at`), and their clauses say what each call of them reads and writes.
-use std::alloc::Global;
-use std::io::Write;
+use std::alloc::{Allocator, Global};
+use std::fs::{Files, Metadata, OpenFile, OpenOptions};
+use std::io::{ErrorKind, Read, Seek, SeekFrom, Write};
 use std::{fs, io};
-use tor_io::{FileShelf, OpenRefused, Shelf, StdSink, write_all};
+use tor_io::{FileShelf, OpenRefused, Shelf, Sink, StdSink, write_all};
 
 /// A writer that takes one octet a call.
 #[derive(Drop)]
@@ -87,4 +88,160 @@ fn reads_a_file_that_is_larger_than_the_buffer_and_no_folder(rt: HostRuntime) {
     let is_written = is_long_file_written(&rt);
     let mut shelf = FileShelf::new(rt);
     assert!(rt; is_written && is_read_right(rt.alloc(), &mut shelf));
+}
+
+/// A writer whose calls are interrupted as often as it says, and then fail.
+#[derive(Drop)]
+struct Failing {
+    interrupted: u32,
+}
+
+/// What an interrupted or failing call answers.
+fn refused<T>(interrupted: &mut u32) -> io::Result<T> {
+    if *interrupted == 0 {
+        return Err(io::Error::from(ErrorKind::StorageFull));
+    }
+    *interrupted -= 1;
+    Err(io::Error::from(ErrorKind::Interrupted))
+}
+
+impl Write for Failing {
+    fn write(&mut self, _buf: &[u8]) -> io::Result<usize> {
+        refused(&mut self.interrupted)
+    }
+
+    fn flush(&mut self) -> io::Result<()> {
+        Ok(())
+    }
+}
+
+#[test]
+fn a_failed_write_takes_nothing(rt: HostRuntime) {
+    let is_failed = StdSink::new(Failing { interrupted: 1 })
+        .write(b"some")
+        .is_err();
+    assert!(rt; is_failed);
+}
+
+/// A file of the octets "abc" that gives one a call, is interrupted once in front of the second, and fails behind the third.
+#[derive(Drop)]
+struct Trickle {
+    given: u8,
+    interrupted: u32,
+}
+
+impl Read for Trickle {
+    fn read(&mut self, buf: &mut [u8]) -> io::Result<usize> {
+        if self.given == 3 || (self.given == 1 && self.interrupted == 1) {
+            return refused(&mut self.interrupted);
+        }
+        let Some(first) = buf.first_mut() else {
+            return Ok(0);
+        };
+        *first = b'a' + self.given;
+        self.given += 1;
+        Ok(1)
+    }
+}
+
+impl Write for Trickle {
+    fn write(&mut self, _buf: &[u8]) -> io::Result<usize> {
+        Err(io::Error::from(ErrorKind::Unsupported))
+    }
+
+    fn flush(&mut self) -> io::Result<()> {
+        Ok(())
+    }
+}
+
+impl Seek for Trickle {
+    fn seek(&mut self, _to: SeekFrom) -> io::Result<u64> {
+        Err(io::Error::from(ErrorKind::Unsupported))
+    }
+}
+
+impl OpenFile for Trickle {
+    fn metadata(&self) -> io::Result<Metadata> {
+        Err(io::Error::from(ErrorKind::Unsupported))
+    }
+
+    fn set_len(&self, _size: u64) -> io::Result<()> {
+        Err(io::Error::from(ErrorKind::Unsupported))
+    }
+
+    fn sync_all(&self) -> io::Result<()> {
+        Ok(())
+    }
+
+    fn sync_data(&self) -> io::Result<()> {
+        Ok(())
+    }
+}
+
+/// A system whose files all are such.
+#[derive(Drop)]
+struct Slowly;
+
+impl Files for Slowly {
+    type File = Trickle;
+
+    type Dir = Trickle;
+
+    fn open_file(&self, _how: &OpenOptions, _path: &str) -> io::Result<Trickle> {
+        Ok(Trickle {
+            given: 0,
+            interrupted: 1,
+        })
+    }
+
+    fn open_dir(&self, _path: &str) -> io::Result<Trickle> {
+        Err(io::Error::from(ErrorKind::Unsupported))
+    }
+
+    fn metadata(&self, _path: &str) -> io::Result<Metadata> {
+        Err(io::Error::from(ErrorKind::Unsupported))
+    }
+
+    fn symlink_metadata(&self, _path: &str) -> io::Result<Metadata> {
+        Err(io::Error::from(ErrorKind::Unsupported))
+    }
+
+    fn copy(&self, _from: &str, _to: &str) -> io::Result<u64> {
+        Err(io::Error::from(ErrorKind::Unsupported))
+    }
+
+    fn rename(&self, _from: &str, _to: &str) -> io::Result<()> {
+        Err(io::Error::from(ErrorKind::Unsupported))
+    }
+
+    fn remove_file(&self, _path: &str) -> io::Result<()> {
+        Err(io::Error::from(ErrorKind::Unsupported))
+    }
+
+    fn create_dir(&self, _path: &str) -> io::Result<()> {
+        Err(io::Error::from(ErrorKind::Unsupported))
+    }
+
+    fn remove_dir(&self, _path: &str) -> io::Result<()> {
+        Err(io::Error::from(ErrorKind::Unsupported))
+    }
+
+    fn remove_dir_all<B: Allocator>(&self, _alloc: B, _path: &str) -> io::Result<()> {
+        Err(io::Error::from(ErrorKind::Unsupported))
+    }
+}
+
+/// Whether each octet comes once, also behind the interrupted call, and a failed read is none of the file's end.
+fn is_read_to_the_fault<H: Shelf>(shelf: &mut H) -> bool {
+    opens(shelf, "any")
+        && gives(shelf, 3, b"a")
+        && gives(shelf, 3, b"b")
+        && gives(shelf, 3, b"c")
+        && shelf.read(&mut [0; 4]).is_err()
+}
+
+#[test]
+fn an_interrupted_read_goes_on_and_a_failed_one_is_no_end(rt: HostRuntime) {
+    let is_read = is_read_to_the_fault(&mut FileShelf::new((Slowly, rt.alloc())));
+    assert!(rt; is_read);
 }
