@@ -71,7 +71,7 @@ def sentences(text):
         if line.strip() and not line.startswith(('|', '#')):
             paragraph.append(line[item.end():] if item else line)
     for part in parts:
-        hidden = re.sub(r'`[^`]*`', 'code', part)
+        hidden = re.sub(r'`[^`]*`', 'Code', part)
         yield from (it for it in re.split(r'(?<=[.!?])[)"*]*\s+(?=[A-Z`(\["*\d])', hidden) if it.strip())
 
 
