@@ -1,9 +1,9 @@
 #!/usr/bin/env bash
 # Compares what the pages of the programs say with what the programs say of themselves, and says what differs.
 #   tools/pages.sh BIN PROGRAM ..
-# For each program: man/PROGRAM.1 and its completions for bash and zsh name the options of `PROGRAM --help`, no more and no fewer. The man page
-# says each option's default, and each number that help gives as a bound, and has the exit statuses and the notes of docs/FORMATS.md. Where
-# mandoc or man is there, it has no complaint about the page.
+# For each program: man/PROGRAM.1 and its completions for bash and zsh name the options of `PROGRAM --help`, no more and no fewer. The man
+# page says each option's default, and each number that help gives as a bound, and has the exit statuses and the notes of docs/FORMATS.md.
+# Where mandoc or man is there, it has no complaint about the page.
 set -u
 bin=$(cd "$1" && pwd)
 shift
