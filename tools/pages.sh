@@ -1,9 +1,9 @@
 #!/usr/bin/env bash
 # Compares what the pages of the programs say with what the programs say of themselves, and says what differs.
 #   tools/pages.sh BIN PROGRAM ..
-# For each program: man/PROGRAM.1 and its completions for bash and zsh name the options of `PROGRAM --help`, no more and no fewer; so do the
-# options of all programs together in docs/FORMATS.md. The man page says each option's default, and each number that help gives as a bound,
-# and has the exit statuses and the notes of docs/FORMATS.md. Where mandoc or man is there, it has no complaint about the page.
+# For each program: man/PROGRAM.1 and its completions for bash and zsh name the options of `PROGRAM --help`, no more and no fewer. The man
+# page says each option's default, and each number that help gives as a bound, and has the exit statuses and the notes of docs/FORMATS.md.
+# Where mandoc or man is there, it has no complaint about the page.
 set -u
 bin=$(cd "$1" && pwd)
 shift
@@ -32,21 +32,18 @@ same() { # WHAT FILE FILE
     cmp -s "$2" "$3" || complain "$1: $(diff "$2" "$3" | sed -n 's/^< /lacks /p; s/^> /has /p' | paste -s -d ',')"
 }
 
-# The statuses of a program in docs/FORMATS.md: those whose cell in its column isn't empty.
+# The statuses of a program in docs/FORMATS.md: of the rows whose second cell is `all` or names it.
 statuses() { # PROGRAM
     section 'Notes and exit statuses' | sed 's/\\|/;/g' | awk -F' *[|] *' -v name="\`$1\`" '
-        $2 == "Status" { for (i = 3; i <= NF; i++) if ($i == name) column = i }
-        column && $2 ~ /^[0-9]+$/ && $column != "" { print $2 }'
+        $2 ~ /^[0-9]+$/ && ($3 == "all" || index($3, name)) { print $2 }' | sort -u
 }
 
-: > "$work/all"
 for program in "$@"; do
     page=man/$program.1
     if [ ! -e "$page" ]; then complain "$page is not there"; continue; fi
     "$bin/$program" --help > "$work/help" 2>&1
     # Help itself is an option of each program, and stands on no page.
     options < "$work/help" | grep -vx -e --help > "$work/said"
-    cat "$work/said" >> "$work/all"
     sed -nE 's/^\.It Fl -([a-z0-9-]+).*/--\1/p' "$page" | sort -u > "$work/page"
     same "$page" "$work/said" "$work/page"
     for completion in "completions/$program.bash" "completions/_$program"; do
@@ -59,7 +56,7 @@ for program in "$@"; do
     for default in $(sed -nE 's/.*\[default: ([a-z0-9]+)\].*/\1/p' "$work/help"); do
         grep -A 1 -x 'The default is' "$page" | grep -qx "\.Cm $default \." || complain "$page lacks the default $default, which help has"
     done
-    statuses "$program" | sort > "$work/said"
+    statuses "$program" > "$work/said"
     [ -s "$work/said" ] || complain "docs/FORMATS.md has no statuses of $program"
     sed -nE '/^\.Sh EXIT STATUS/,/^\.Sh EXAMPLES/s/^\.It ([0-9]+)$/\1/p' "$page" | sort > "$work/page"
     same "$page, its statuses" "$work/said" "$work/page"
@@ -77,8 +74,5 @@ for program in "$@"; do
         [ ! -s "$work/lint" ] || complain "$(cat "$work/lint")"
     fi
 done
-sort -u "$work/all" > "$work/said"
-section Words | sed -nE 's/^\| `(--[a-z0-9-]+)`.*/\1/p' | sort -u > "$work/page"
-same "docs/FORMATS.md" "$work/said" "$work/page"
 [ "$failed" = 0 ] || exit 1
 echo "the pages of $* say what the programs say"
