@@ -9,7 +9,8 @@
  *   --v6 N          of a hundred prefixes so many are IPv6 (15)
  *   --vantages N    networks that send their routes to the collector, from 1 to 1000 (20)
  *   --seed N        each seed has networks, contracts and routes of its own (1)
- *   --day N         other announcements and leaks over the networks, contracts and vantage points of the seed
+ *   --day N         the table of a day, from 1. Nothing differs from one day to another but what is leaked, and some announcements
+ *   --changed N     of a million prefixes so many are announced anew on each day (100000)
  *   --leak N        of a million prefixes so many are leaked (40000)
  *   --set N         .. so many end with an AS_SET (600)
  *   --private N     .. so many end with a private AS number (300)
@@ -47,14 +48,21 @@ enum {
 #define UNREACHED UINT32_MAX
 
 static uint32_t ases = 75000, peerings = 170000, prefixes = 200000, v6_percent = 15, vantages = 20, day = 0;
-static uint32_t leaked_ppm = 40000, set_ppm = 600, private_ppm = 300, poisoned_ppm = 300;
+static uint32_t leaked_ppm = 40000, set_ppm = 600, private_ppm = 300, poisoned_ppm = 300, changed_ppm = 100000;
 static uint64_t seed = 1;
 static bool version1 = false;
 static const char *dump_name, *truth_name;
 
 /* --- Draws: SplitMix64 (Steele, Lea and Flood 2014) --- */
 
-static uint64_t state;
+static uint64_t state;     /* of the draws that come next */
+static uint64_t day_state; /* of those for the changes of the day, while others are made */
+
+static void swap_states(void) {
+    uint64_t other = day_state;
+    day_state = state;
+    state = other;
+}
 
 static uint64_t draw(void) {
     uint64_t z = state += 0x9e3779b97f4a7c15;
@@ -518,6 +526,7 @@ static Announcement draw_announcement(uint32_t origin) {
     return how;
 }
 
+/* A network that leaks, and the provider that it tells. Whether one was found. */
 static bool draw_leak(Announcement *how) {
     for (int tries = 0; tries < LEAK_TRIES; tries++) {
         uint32_t leaker = below(ases / 12 + 20);
@@ -551,8 +560,23 @@ static bool draw_change(Announcement *how) {
             if (below(2))
                 how->repeated[i] = (uint8_t)(1 + below(5));
     }
+    return changed;
+}
+
+/* Whether and how this one prefix is announced in a way of its own, or leaked. */
+static bool draw_prefix(const Announcement *usual, Announcement *how) {
+    *how = *usual;
+    bool changed = draw_change(how);
+    if (day != 0)
+        swap_states();
+    if (day != 0 && chance(changed_ppm)) {
+        *how = *usual;
+        changed = draw_change(how);
+    }
     if (chance(leaked_ppm))
         changed |= draw_leak(how);
+    if (day != 0)
+        swap_states();
     return changed;
 }
 
@@ -870,8 +894,8 @@ static void write_origin(uint32_t origin, uint32_t count, bool six) {
     Announcement usual = draw_announcement(origin);
     bool are_usual = false; /* whether the paths are those of the usual announcement */
     for (uint32_t i = 0; i < count; i++) {
-        Announcement how = usual;
-        bool changed = draw_change(&how);
+        Announcement how;
+        bool changed = draw_prefix(&usual, &how);
         Tail tail = draw_tail();
         if (changed || !are_usual) {
             find_routes(&how);
@@ -960,7 +984,7 @@ static uint32_t *number_option(const char *word) {
         uint32_t *number;
     } options[] = {{"--ases", &ases},           {"--peerings", &peerings}, {"--prefixes", &prefixes},      {"--v6", &v6_percent},
                    {"--vantages", &vantages},   {"--day", &day},           {"--leak", &leaked_ppm},        {"--set", &set_ppm},
-                   {"--private", &private_ppm}, {"--poison", &poisoned_ppm}};
+                   {"--private", &private_ppm}, {"--poison", &poisoned_ppm}, {"--changed", &changed_ppm}};
     for (size_t i = 0; i < sizeof options / sizeof *options; i++)
         if (strcmp(word, options[i].word) == 0)
             return options[i].number;
@@ -992,10 +1016,7 @@ int main(int count, char **words) {
     state = seed * 0x2545f4914f6cdd1d + 1;
     make_networks();
     draw_vantage_points();
-    if (day != 0) {
-        state += day;
-        state = draw();
-    }
+    day_state = ~(state + day);
     write_dump();
     fprintf(stderr, "%u networks, %u of them Tier 1, %u contracts, %u peerings; %u prefixes, %llu routes, %llu of them to leaked prefixes\n",
             ases, tier1, customers.count, lefts.count, sequence, (unsigned long long)routes, (unsigned long long)leaked_routes);

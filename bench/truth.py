@@ -159,4 +159,5 @@ def main():
         print_table(tables)
 
 
-main()
+if __name__ == "__main__":
+    main()
