@@ -14,7 +14,7 @@ Monday's hasn't:
 
 An alarm is true if its path isn't valley-free under the true relationships. For each pair and way a line of a table in Markdown says how many
 alarms there were and how many were true, and how many paths of Tuesday's are new and not valley-free. A second table has the sums. It takes
-two minutes, and 400 MB in TMPDIR.
+two minutes, and 200 MB in TMPDIR.
 """
 import os
 import subprocess
