@@ -1,13 +1,12 @@
 #!/usr/bin/env bash
 # An estimate of what the whole table of a collector takes: a generated table of a million prefixes between 80,000 networks, as 10, 20
 # and 40 full peers see it.
-#   bench/collector.sh BIGGEN TOR
-# BIGGEN is a generator of dumps that takes `--ases N --peerings N --prefixes N --vantages N --seed N DUMP`. For each number of peers a line
-# of a table: the routes, the distinct paths that count, what the result takes in seconds of processor time and in MiB, the same of the
-# list, and with how many such peers the limit of 2^23 distinct paths would be met. PEERS has other numbers of peers. The greatest dump
-# has 2.4 GB.
+#   bench/collector.sh TOR
+# The tables are made by internet.sh, which needs cc. For each number of peers a line of a table: the routes, the distinct paths that count,
+# what the result takes in seconds of processor time and in MiB, the same of the list, and with how many such peers the limit of 2^23
+# distinct paths would be met. PEERS has other numbers of peers. The largest dump has 2.4 GB; the whole takes some minutes.
 set -euo pipefail
-biggen=$1 tor=$2
+tor=$1 here=$(cd "$(dirname "$0")" && pwd)
 work=$(mktemp -d)
 trap 'rm -rf "$work"' EXIT
 
@@ -20,7 +19,7 @@ used() { # OPTION ..
 echo '| Full peers | Routes | Distinct paths | `tor` | `tor --list` | Peers at the limit |'
 echo '|---|---|---|---|---|---|'
 for peers in ${PEERS:-10 20 40}; do
-    "$biggen" --ases 80000 --peerings 170000 --prefixes 1000000 --vantages "$peers" --seed 1 "$work/dump" 2> "$work/said"
+    "$here/internet.sh" --ases 80000 --peerings 170000 --prefixes 1000000 --vantages "$peers" --seed 1 "$work/dump" > "$work/said"
     result=$(used)
     routes=$(awk -F'|' '/^aside/ { sum += $3 } /^(kept|lost)/ { sum += $2 } END { print sum }' "$work/text")
     paths=$(grep -cE '^(kept|lost)' "$work/text")

@@ -18,14 +18,15 @@
  *   --truth FILE    writes the relationships there: `provider|customer|-1` and `peer|peer|0`
  *   --v1            writes records of TABLE_DUMP, with AS4_PATH where a number needs it, in place of TABLE_DUMP_V2
  *
- * The same options always give the same octets. One line on standard error says what was made.
+ * The same options always give the same octets. One line on standard output says what was made.
  *
- * Networks. A few buy from nobody and peer with each other. Each later one buys from networks before it, mostly of its own region, the more
- * likely from one the more customers that has. Pairs of the later ones peer, mostly within a region.
- * Routes. A network takes the routes of its customers first, then those of its peers, then those of its providers; among these the shortest,
- * and then by a fixed order of its own. It passes routes of customers to everybody, and all others to its customers alone (Gao and Rexford
- * 2001). So each path is valley-free but where a prefix is leaked: there a network passes the route of a provider or of a peer to a provider.
- * Announcements. Some networks stand several times at the end or within a path, and some origins announce a prefix to a part of their
+ * Networks. A few buy from nobody and peer with each other. Each later one buys from networks before it, mostly of its own region. It buys
+ * the more likely from one the more customers that has. Pairs of the later ones peer, mostly within a region.
+ * Routes. A network takes routes of its customers first, then those of its peers, then those of its providers. Among these it takes the
+ * shortest, and then goes by a fixed order of its own. It passes routes of customers to everybody, and all others to its customers alone
+ * (Gao and Rexford 2001). So each path is valley-free but where a prefix is leaked: there a network passes the route of a provider or of a
+ * peer to a provider.
+ * Announcements. Some networks stand several times at the end of a path or within it, and some origins announce a prefix to a part of their
  * providers.
  */
 #include <math.h>
@@ -1018,7 +1019,8 @@ int main(int count, char **words) {
     draw_vantage_points();
     day_state = ~(state + day);
     write_dump();
-    fprintf(stderr, "%u networks, %u of them Tier 1, %u contracts, %u peerings; %u prefixes, %llu routes, %llu of them to leaked prefixes\n",
-            ases, tier1, customers.count, lefts.count, sequence, (unsigned long long)routes, (unsigned long long)leaked_routes);
+    printf("%u networks, %u of them Tier 1, %u contracts, %u peerings; ", ases, tier1, customers.count, lefts.count);
+    printf("%u prefixes, %llu routes, %llu of them to leaked prefixes\n", sequence, (unsigned long long)routes,
+           (unsigned long long)leaked_routes);
     return 0;
 }

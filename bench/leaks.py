@@ -4,17 +4,17 @@
     python3 bench/leaks.py TOR TORGRADE
 
 Pairs of tables, Monday's and Tuesday's, are made by internet.sh, which needs cc, with `--day 1` and `--day 2`: 15,000 networks, 40,000
-peerings, 20,000 prefixes of which on each day another 4 in 100 are leaked, 40 vantage points, and the seeds 1, 2 and 3. Once a tenth of the
-prefixes are announced anew on each day, and once all of them are. Four ways to an alarm are compared, each for paths of Tuesday's table that
-Monday's hasn't:
+peerings, 20,000 prefixes, 40 vantage points, and the seeds 1, 2 and 3. Nothing differs from Monday to Tuesday but what is leaked, each day
+other 4 of 100 prefixes, and how some are announced: a tenth of the prefixes, and then all, are announced anew on each day. Four ways to an
+alarm are compared, each for paths of Tuesday's table that Monday's doesn't have:
 
 - resumed: the new `lost` lines of `TOR --resume` over Monday's result;
 - graded: the `valley` lines of TORGRADE under Monday's labels;
 - and both with the contracts of the Tier 1 given to Monday's result, as the README tells it.
 
-An alarm is true if its path isn't valley-free under the true relationships. For each pair and way a line of a table in Markdown says how many
-alarms there were and how many were true, and how many paths of Tuesday's are new and not valley-free. A second table has the sums. It takes
-two minutes, and 200 MB in TMPDIR.
+An alarm is true if its path isn't valley-free under the true relationships. For each pair and way a line of a table in Markdown says how
+many paths of Tuesday's are new, how many of these aren't valley-free, how many alarms there were, and how many of them were true. A second
+table has the sums. It takes two minutes, and 200 MB in TMPDIR.
 """
 import os
 import subprocess
@@ -73,7 +73,8 @@ def made(seed, changed):
     """The two days, and the true relationships."""
     for day, table in (("1", "monday"), ("2", "tuesday")):
         options = [*SIZES, "--seed", str(seed), "--day", day, "--changed", str(changed), "--truth", "truth"]
-        run("said", f"{HERE}/internet.sh", *options, table)
+        if subprocess.run([f"{HERE}/internet.sh", *options, table], stdout=subprocess.DEVNULL, check=False).returncode:
+            sys.exit(1)
     return relationships("truth")
 
 

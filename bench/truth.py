@@ -3,8 +3,8 @@
 truth.py FOLDER ..
 
 Each FOLDER is named by the number of vantage points and the seed, as in 20-1, and holds what truth.sh makes: `truth`, the relationships as
-lines `provider|customer|-1` and `peer|peer|0`; the edge lines of the results `ratio60`, `ratio10`, `ratio5` and `given`; and the lines `tier1`
-and `contracts`. These tables are printed:
+lines `provider|customer|-1` and `peer|peer|0`; the edge lines of the results `ratio60`, `ratio10`, `ratio5` and `given`; and the lines
+`tier1` and `contracts`. These tables are printed:
 
 1. of how many edges the label is the true one, beside the rule "the end of the greater degree is the provider", at equal degrees the lower
    number;

@@ -31,7 +31,7 @@ for vantages in 20 40; do
         found=$vantages-$seed
         mkdir "$found"
         "$here/internet.sh" --ases 15000 --peerings 40000 --prefixes 20000 --vantages "$vantages" --seed "$seed" \
-            --truth "$found/truth" table 2> said
+            --truth "$found/truth" table > said
         for ratio in 60 10 5; do edges --ratio "$ratio" > "$found/ratio$ratio"; done
         tier1 "$found/truth" > "$found/tier1"
         contracts "$found/tier1" "$found/ratio60" > "$found/contracts"
