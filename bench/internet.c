@@ -341,7 +341,7 @@ static void make_networks(void) {
 /* How a prefix is announced. */
 typedef struct {
     uint32_t origin;
-    uint32_t told;             /* bit i: whether it is announced to the provider number i of the origin */
+    uint32_t announced_to;     /* bit i: whether the provider number i of the origin gets it */
     uint8_t repeated[PLACES];  /* how often more the origin stands in the path to that provider */
     bool leaks;
     uint32_t leaker, leaked_to;
@@ -356,15 +356,15 @@ static uint32_t round_now;        /* counts the prefixes for which routes are fo
 static Route *from_customers;     /* the best route from a customer, of each network */
 static Route *from_others;        /* the best route of all, of the networks that have none from a customer */
 static bool *on_leak;             /* whether the network is on the path that is leaked */
-static uint32_t *held_in;         /* the round in which its route is one of the leaked path, which no peer is told */
+static uint32_t *held_in;         /* the round in which its route is one of the leaked path, which it announces to no peer */
 static List reached[MOST_HOPS];   /* the networks that got a route from a customer, by its hops */
 
 static bool has_customer_route(uint32_t as) {
     return from_customers[as].round == round_now;
 }
 
-/* A customer, `next`, tells the network a route. */
-static void tell(uint32_t as, uint32_t hops, uint32_t next) {
+/* The customer `next` announces a route to the network. */
+static void announce(uint32_t as, uint32_t hops, uint32_t next) {
     Route *route = &from_customers[as];
     if (hops >= MOST_HOPS)
         return;
@@ -376,30 +376,30 @@ static void tell(uint32_t as, uint32_t hops, uint32_t next) {
     }
 }
 
-static void tell_providers(const Announcement *how, uint32_t as, uint32_t hops) {
+static void announce_to_providers(const Announcement *how, uint32_t as, uint32_t hops) {
     for (uint32_t i = 0; i < count_of(&providers_of, as); i++) {
         uint32_t provider = providers_of.items[providers_of.starts[as] + i];
         uint32_t more = 0;
         if (as == how->origin && i < PLACES) {
-            if (!(how->told >> i & 1))
+            if (!(how->announced_to >> i & 1))
                 continue;
             more = how->repeated[i];
         }
         if (!on_leak[provider])
-            tell(provider, hops + 1 + more, as);
+            announce(provider, hops + 1 + more, as);
     }
 }
 
-/* Tells the network a route, and all above it, from the shortest to the longest. */
+/* The customer `next` announces a route to the network, and this goes on to all above it, the shortest routes first. */
 static void climb(const Announcement *how, uint32_t as, uint32_t hops, uint32_t next) {
     for (int i = 0; i < MOST_HOPS; i++)
         reached[i].count = 0;
-    tell(as, hops, next);
+    announce(as, hops, next);
     for (uint32_t at = hops; at < LAST_HOPS; at++) {
         for (uint32_t i = 0; i < reached[at].count; i++) {
             uint32_t lower = reached[at].items[i];
             if (from_customers[lower].hops == at)
-                tell_providers(how, lower, at);
+                announce_to_providers(how, lower, at);
         }
     }
 }
@@ -435,7 +435,7 @@ static const Route *best(uint32_t as) {
     return &from_others[as];
 }
 
-/* The networks from the leaker to the origin; none if the leaker has a route from a customer, which it may tell. */
+/* The networks from the leaker to the origin; none if the leaker has a route from a customer, which it may announce. */
 static List leaked_path(const Announcement *how) {
     List path = {0};
     uint32_t as = how->leaker;
@@ -454,7 +454,7 @@ static List leaked_path(const Announcement *how) {
     return path;
 }
 
-/* The leaker tells one of its providers the route that it has, which goes on upwards as if it came from a customer. */
+/* The leaker announces its route to one of its providers. From there it goes upwards like a route from a customer. */
 static void leak(const Announcement *how) {
     List path = leaked_path(how);
     for (uint32_t i = 0; i < path.count; i++)
@@ -519,7 +519,7 @@ static uint32_t path_from(const Announcement *how, uint32_t from, uint32_t *numb
 
 /* How an origin announces most of its prefixes. */
 static Announcement draw_announcement(uint32_t origin) {
-    Announcement how = {.origin = origin, .told = UINT32_MAX};
+    Announcement how = {.origin = origin, .announced_to = UINT32_MAX};
     uint32_t count = count_of(&providers_of, origin);
     for (uint32_t i = 0; i < count && i < PLACES; i++)
         if (count > 1 && chance(90000))
@@ -527,7 +527,7 @@ static Announcement draw_announcement(uint32_t origin) {
     return how;
 }
 
-/* A network that leaks, and the provider that it tells. Whether one was found. */
+/* Draws a network that leaks, and the provider to which it leaks. Whether one was found. */
 static bool draw_leak(Announcement *how) {
     for (int tries = 0; tries < LEAK_TRIES; tries++) {
         uint32_t leaker = below(ases / 12 + 20);
@@ -552,8 +552,8 @@ static bool draw_change(Announcement *how) {
         uint32_t all = count == PLACES ? UINT32_MAX : (1u << count) - 1;
         changed = true;
         do
-            how->told = (uint32_t)draw();
-        while (!(how->told & all));
+            how->announced_to = (uint32_t)draw();
+        while (!(how->announced_to & all));
     }
     if (chance(60000)) {
         changed = true;
@@ -973,7 +973,7 @@ static void write_dump(void) {
 
 /* --- The command --- */
 
-static void refuse(void) {
+static _Noreturn void refuse(void) {
     fprintf(stderr, "usage: internet [OPTION ..] DUMP; the head of internet.c tells the options\n");
     exit(2);
 }
@@ -1001,9 +1001,10 @@ static void read_words(int count, char **words) {
             truth_name = words[++i];
         else if (strcmp(words[i], "--seed") == 0 && more)
             seed = strtoull(words[++i], NULL, 10);
-        else if (number_option(words[i]) != NULL && more)
-            *number_option(words[i]) = (uint32_t)strtoul(words[i + 1], NULL, 10), i++;
-        else if (words[i][0] != '-' && dump_name == NULL)
+        else if (number_option(words[i]) != NULL && more) {
+            *number_option(words[i]) = (uint32_t)strtoul(words[i + 1], NULL, 10);
+            i++;
+        } else if (words[i][0] != '-' && dump_name == NULL)
             dump_name = words[i];
         else
             refuse();

@@ -17,7 +17,7 @@ DAYS = {
     "monday": BOTH,
     "tuesday": BOTH + [
         [40, 50, 10, 60],  # 10 has a new customer
-        [40, 10, 30, 20],  # a leak: 30 tells its provider 10 the route of its provider 20
+        [40, 10, 30, 20],  # a leak: 30 passes the route of its provider 20 to its provider 10
     ],
 }
 PEERS = [30, 40]
