@@ -1,6 +1,9 @@
-"""Changes lines of a result at random, and compares what two checkers print and how they end.
+"""Changes lines of a result at random, and compares what two builds of `torcheck` print and how they end.
 
-check.py SECONDS SEED TORCHECK YARDSTICK RESULT
+check.py SECONDS SEED TORCHECK OTHER RESULT
+
+OTHER is another build, such as that of an earlier commit; any program will do that takes RESULT and says what the rules of docs/FORMATS.md
+say.
 """
 
 import os
@@ -38,7 +41,7 @@ def changed(lines):
 
 
 def main():
-    seconds, seed, torcheck, yardstick, result = sys.argv[1:6]
+    seconds, seed, torcheck, other, result = sys.argv[1:6]
     random.seed(int(seed))
     with open(result, "rb") as file:
         lines = file.read().split(b"\n")
@@ -50,7 +53,7 @@ def main():
             with open(name, "wb") as file:
                 file.write(changed(lines))
             ours = subprocess.run([torcheck, name], capture_output=True)
-            theirs = subprocess.run([yardstick, "--check", name], capture_output=True)
+            theirs = subprocess.run([other, name], capture_output=True)
             runs += 1
             if (ours.stdout, ours.returncode) != (theirs.stdout, theirs.returncode):
                 different += 1

@@ -1,28 +1,42 @@
 #!/usr/bin/env bash
-# Time and peak memory of `tor --list` beside a yardstick's, on the same dumps in one run.
-#   bench/compare.sh TOR YARDSTICK DUMP ..
-# The yardstick is any program that takes `--list DUMP` and prints the same text.
+# Time and peak memory of two builds of `tor` over the same dumps in one run, and whether they write the same.
+#   bench/compare.sh TOR OTHER DUMP ..
+# OTHER is another build, such as that of an earlier commit. Any program will do that takes `--list DUMP` and `DUMP` as docs/FORMATS.md
+# says. For each DUMP there is a line for the list and one for the result. Both builds run in turn, RUNS times (3), and the least times and
+# the greatest memory are compared. Of results the evidence isn't compared: the walks of lost paths, and the why and open lines.
 set -euo pipefail
-tor=$1 yardstick=$2
+tor=$1 other=$2
 shift 2
+work=$(mktemp -d)
+trap 'rm -rf "$work"' EXIT
+
+# One run: its text in the file of that name, and beside it what it took: seconds of the user and of the system, and KiB.
+run() { # NAME PROGRAM WORD ..
+    local name=$1
+    shift
+    /usr/bin/time -a -f '%U %S %M' -o "$work/$name.used" "$@" > "$work/$name" 2> "$work/note"
+}
+
+least() { # NAME
+    awk 'NR == 1 || $1 + $2 < time { time = $1 + $2 } $3 > memory { memory = $3 } END { print time, memory / 1024 }' "$work/$1.used"
+}
+
+bare() { # NAME
+    sed -E '/^(why|open)\|/d; s/^(lost\|[0-9]*\|[0-9 ]*)\|.*/\1/' "$work/$1"
+}
+
 for dump in "$@"; do
-    python3 - "$tor" "$yardstick" "$dump" <<'PY'
-import os, subprocess, sys, tempfile
-
-def run(program, dump, text):
-    child = subprocess.Popen([program, "--list", dump], stdout=text, stderr=subprocess.DEVNULL)
-    _, status, used = os.wait4(child.pid, 0)
-    if status != 0:
-        sys.exit(f"{program} ended with {status}")
-    return used.ru_utime + used.ru_stime, used.ru_maxrss / 1024
-
-tor, yardstick, dump = sys.argv[1:]
-for _ in range(3):
-    with tempfile.TemporaryFile() as one, tempfile.TemporaryFile() as two:
-        a, b = run(tor, dump, one), run(yardstick, dump, two)
-        one.seek(0), two.seek(0)
-        same = "same text" if one.read() == two.read() else "OTHER TEXT"
-    print(f"{dump}: tor {a[0]:.2f} s {a[1]:.0f} MiB, yardstick {b[0]:.2f} s {b[1]:.0f} MiB, "
-          f"ratios {a[0] / b[0]:.2f} and {a[1] / b[1]:.2f}, {same}")
-PY
+    for mode in --list result; do
+        rm -f "$work"/*
+        words=("$dump")
+        [ "$mode" = result ] || words=("$mode" "$dump")
+        for _ in $(seq "${RUNS:-3}"); do
+            run ours "$tor" "${words[@]}"
+            run theirs "$other" "${words[@]}"
+        done
+        if cmp -s <(bare ours) <(bare theirs); then same="the same text"; else same="OTHER TEXT"; fi
+        echo "$(least ours) $(least theirs)" | awk -v dump="$dump" -v mode="$mode" -v same="$same" '{
+            printf "%s, %s: %.2f s %.0f MiB, the other %.2f s %.0f MiB, ", dump, mode, $1, $2, $3, $4
+            printf "ratios %.2f and %.2f, %s\n", ($3 > 0 ? $1 / $3 : 0), $2 / $4, same }'
+    done
 done

@@ -1,14 +1,12 @@
-"""Time and memory on files that are made to be slow, beside a yardstick's.
+"""Time and memory on files that are made to be slow.
 
-hostile.py TOR TORCHECK YARDSTICK [RUNS]
+hostile.py TOR TORCHECK [RUNS]
 
-TOR is any program that takes `--list DUMP` and `DUMP`, TORCHECK one that takes `RESULT`, and YARDSTICK one that takes `--list DUMP`,
-`DUMP` and `--check RESULT`. `-` in place of TOR or TORCHECK leaves its rows out. Each row is run RUNS times (3), both programs in turn, and
-says the least processor time, the greatest peak memory, and their ratios; for a result also how the memory compares with the file, and for
-a dump how the time compares with that on as many random paths. At last results are made of dumps of which one is twice the size of the
-other: a row says how much longer TOR takes for that, and how long the texts are, or for marks how its time, the length of its text and the
-number of its open lines on the larger one compare with the yardstick's. Of less memory than some 14 MiB, which this script has itself, it
-can't tell.
+TOR and TORCHECK are the programs `tor` and `torcheck`; `-` in place of one leaves its rows out. Each row is run RUNS times (3), and says
+the least processor time and the greatest peak memory. A row of TORCHECK also says how the memory compares with the file. A row of the list
+says how the time compares with that on as many random paths. Results are made of two dumps, the second twice the size of the first: a row
+says how much longer TOR takes for that one, how long its texts are and how many open lines they have. It takes a minute. It can't tell of
+less memory than some 14 MiB, which this script has itself.
 """
 
 import os
@@ -250,22 +248,10 @@ def run(command):
         return used.ru_utime + used.ru_stime, used.ru_maxrss / 1024, text.read()
 
 
-def beside(name, ours, theirs, runs):
-    """Runs both in turn, and prints a row. The least time and the greatest memory of ours."""
-    times, sizes, same = ([], []), ([], []), True
-    for _ in range(runs):
-        texts = []
-        for side, command in enumerate((ours, theirs)):
-            seconds, memory, text = run(command)
-            times[side].append(seconds)
-            sizes[side].append(memory)
-            texts.append(text)
-        same = same and texts[0] == texts[1]
-    least, most = [min(side) for side in times], [max(side) for side in sizes]
-    print(f"{name}: {least[0]:.3f} s {most[0]:.0f} MiB, yardstick {least[1]:.3f} s {most[1]:.0f} MiB, "
-          f"ratios {least[0] / max(least[1], 0.001):.2f} and {most[0] / most[1]:.2f}, "
-          f"{'same answer' if same else 'OTHER ANSWER'}", flush=True)
-    return least[0], most[0]
+def measured(command, runs):
+    """The least time and the greatest memory of so many runs, and what the last one printed."""
+    found = [run(command) for _ in range(runs)]
+    return min(seconds for seconds, _, _ in found), max(memory for _, memory, _ in found), found[-1][2]
 
 
 def made(folder, name, octets_of):
@@ -280,7 +266,7 @@ def made(folder, name, octets_of):
     return file
 
 
-def checks(folder, torcheck, yardstick, runs):
+def checks(folder, torcheck, runs):
     rows = [
         ("20,000 open lines along a chain", lambda: chain(20000)),
         ("80,000 open lines along a chain", lambda: chain(80000)),
@@ -294,11 +280,12 @@ def checks(folder, torcheck, yardstick, runs):
     for name, text in rows:
         file = made(folder, "result", lambda: text().encode())
         size = os.path.getsize(file)
-        _, memory = beside(f"{name}, {size / 1e6:.1f} MB", [torcheck, file], [yardstick, "--check", file], runs)
-        print(f"    memory is {memory * 2**20 / size:.1f} times the file")
+        seconds, memory, verdict = measured([torcheck, file], runs)
+        print(f"{name}, {size / 1e6:.1f} MB: {seconds:.3f} s, {memory:.0f} MiB, {memory * 2**20 / size:.1f} times the file, "
+              f"{verdict.decode().strip()}", flush=True)
 
 
-def lists(folder, tor, yardstick, runs):
+def lists(folder, tor, runs):
     rows = [
         ("80,000 paths of three ASes and one hash", of_one_hash, 80000, 3),
         ("20,000 paths of two ASes and one bucket", of_one_bucket, 20000, 2),
@@ -306,61 +293,42 @@ def lists(folder, tor, yardstick, runs):
     for name, paths_of, count, length in rows:
         chosen = made(folder, "chosen", lambda: dump(paths_of(count)))
         drawn = made(folder, "drawn", lambda: dump(random_paths(count, length)))
-        slow, _ = beside(name, [tor, "--list", chosen], [yardstick, "--list", chosen], runs)
-        plain, _ = beside("    as many random paths", [tor, "--list", drawn], [yardstick, "--list", drawn], runs)
-        print(f"    the chosen paths take {slow / max(plain, 0.001):.2f} times as long")
+        slow, memory, _ = measured([tor, "--list", chosen], runs)
+        plain, _, _ = measured([tor, "--list", drawn], runs)
+        print(f"{name}: {slow:.3f} s, {memory:.0f} MiB, {slow / max(plain, 0.001):.2f} times as long as as many random paths", flush=True)
 
 
-def marks(folder, tor, yardstick, runs):
-    rows = [
-        ("edges that are forced by turns with orders that lead along one chain", fails_before_a_chain, 5000),
-        ("edges that are forced behind a wide hub", fails_behind_a_hub, 5000),
-        ("long paths that have nothing in common", long_paths, 1000),
-    ]
-    for name, paths_of, count in rows:
-        least = []
-        for size in (count, 2 * count):
-            file = made(folder, "asked", lambda: dump(paths_of(size)))
-            found = [[run([program, file]) for _ in range(runs)] for program in (tor, yardstick)]
-            least.append([min(seconds for seconds, _, _ in times) for times in found])
-        texts = [times[0][2] for times in found]
-        opens = [text.count(b"\nopen|") for text in texts]
-        print(f"{name}, {count:,} and {2 * count:,}: {least[0][0]:.3f} s and {least[1][0]:.3f} s, "
-              f"{least[1][0] / max(least[0][0], 0.001):.1f} times as long, yardstick {least[1][1]:.3f} s, "
-              f"ratios {least[1][0] / max(least[1][1], 0.001):.2f}, text {len(texts[0]) / len(texts[1]):.2f}, "
-              f"open lines {opens[0] / max(opens[1], 1):.2f}", flush=True)
-
-
-def infers(folder, tor, runs):
+def results(folder, tor, runs):
     rows = [
         ("wishes that fail along one chain", failing_wishes, 5000),
         ("chains that are asked to turn", turned_chains, 5000),
         ("walks along a chain that are taken over", walks_taken_over, 5000),
+        ("edges that are forced by turns with orders that lead along one chain", fails_before_a_chain, 5000),
+        ("edges that are forced after a wide hub", fails_behind_a_hub, 5000),
+        ("long paths that have nothing in common", long_paths, 1000),
     ]
     for name, paths_of, count in rows:
-        least, texts = [], []
+        found = []
         for size in (count, 2 * count):
             file = made(folder, "asked", lambda: dump(paths_of(size)))
-            times = []
-            for _ in range(runs):
-                seconds, _, text = run([tor, file])
-                times.append(seconds)
-            least.append(min(times))
-            texts.append(len(text) / 1e6)
-        print(f"{name}, {count:,} and {2 * count:,}: {least[0]:.3f} s and {least[1]:.3f} s, "
-              f"{least[1] / max(least[0], 0.001):.1f} times as long, texts of {texts[0]:.1f} and {texts[1]:.1f} MB", flush=True)
+            found.append(measured([tor, file], runs))
+        times = [seconds for seconds, _, _ in found]
+        lengths = [len(text) / 1e6 for _, _, text in found]
+        opens = [text.count(b"\nopen|") for _, _, text in found]
+        print(f"{name}, {count:,} and {2 * count:,}: {times[0]:.3f} s and {times[1]:.3f} s, "
+              f"{times[1] / max(times[0], 0.001):.1f} times as long, {found[1][1]:.0f} MiB, "
+              f"texts of {lengths[0]:.1f} and {lengths[1]:.1f} MB with {opens[0]:,} and {opens[1]:,} open lines", flush=True)
 
 
 def main():
-    tor, torcheck, yardstick = sys.argv[1:4]
-    runs = int(sys.argv[4]) if len(sys.argv) > 4 else 3
+    tor, torcheck = sys.argv[1:3]
+    runs = int(sys.argv[3]) if len(sys.argv) > 3 else 3
     with tempfile.TemporaryDirectory() as folder:
         if torcheck != "-":
-            checks(folder, torcheck, yardstick, runs)
+            checks(folder, torcheck, runs)
         if tor != "-":
-            lists(folder, tor, yardstick, runs)
-            infers(folder, tor, runs)
-            marks(folder, tor, yardstick, runs)
+            lists(folder, tor, runs)
+            results(folder, tor, runs)
 
 
 if __name__ == "__main__":

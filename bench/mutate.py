@@ -1,9 +1,10 @@
 #!/usr/bin/env python3
-"""Compares `tor --list` with a yardstick on dumps with random faults: exit status, text, and first line of the note.
+"""Compares `tor --list` of two builds on dumps with random faults: exit status, text, and first line of the note.
 
-    bench/mutate.py SEED SECONDS TOR YARDSTICK DUMP ..
+    bench/mutate.py SEED SECONDS TOR OTHER DUMP ..
 
-The yardstick is any program with the same command line. A dump on which they differ is kept beside the temporary files, and named.
+OTHER is another build, such as that of an earlier commit; any program will do that takes `--list DUMP` as docs/FORMATS.md says. A dump on
+which they differ is kept beside the temporary files, and named.
 """
 import os
 import random
@@ -44,7 +45,7 @@ def answer(program, words):
 
 
 def main():
-    seed, seconds, tor, yardstick, *dumps = sys.argv[1:]
+    seed, seconds, tor, other, *dumps = sys.argv[1:]
     chance = random.Random(int(seed))
     fronts = [open(dump, "rb").read()[:MOST] for dump in dumps]
     folder = tempfile.mkdtemp()
@@ -58,7 +59,7 @@ def main():
         most = str(chance.choice([1, 2, 3, 5, 8, 1000]))
         words = ["--list", "--as-sets", chance.choice(["cut", "skip"]), "--max-paths", most]
         words += chance.choice([[second], [first, second]])
-        ours, theirs = answer(tor, words), answer(yardstick, words)
+        ours, theirs = answer(tor, words), answer(other, words)
         statuses[ours[0]] += 1
         if ours != theirs:
             different += 1

@@ -96,18 +96,18 @@ struct Failing {
     interrupted: u32,
 }
 
-/// What an interrupted or failing call answers.
-fn refused<T>(interrupted: &mut u32) -> io::Result<T> {
+/// Why a call fails: it is interrupted as often as this says, and then refused.
+fn reason(interrupted: &mut u32) -> io::Error {
     if *interrupted == 0 {
-        return Err(io::Error::from(ErrorKind::StorageFull));
+        return io::Error::from(ErrorKind::StorageFull);
     }
     *interrupted -= 1;
-    Err(io::Error::from(ErrorKind::Interrupted))
+    io::Error::from(ErrorKind::Interrupted)
 }
 
 impl Write for Failing {
     fn write(&mut self, _buf: &[u8]) -> io::Result<usize> {
-        refused(&mut self.interrupted)
+        Err(reason(&mut self.interrupted))
     }
 
     fn flush(&mut self) -> io::Result<()> {
@@ -123,23 +123,26 @@ fn a_failed_write_takes_nothing(rt: HostRuntime) {
     assert!(rt; is_failed);
 }
 
-/// A file of the octets "abc" that gives one a call, is interrupted once in front of the second, and fails behind the third.
+/// A file of the octets "abc" that gives one a call, is interrupted once before the second, and fails after the third.
 #[derive(Drop)]
 struct Trickle {
-    given: u8,
+    given: usize,
     interrupted: u32,
 }
 
 impl Read for Trickle {
     fn read(&mut self, buf: &mut [u8]) -> io::Result<usize> {
-        if self.given == 3 || (self.given == 1 && self.interrupted == 1) {
-            return refused(&mut self.interrupted);
+        if self.given == 1 && self.interrupted == 1 {
+            return Err(reason(&mut self.interrupted));
         }
+        let Some(octet) = b"abc".get(self.given) else {
+            return Err(reason(&mut self.interrupted));
+        };
         let Some(first) = buf.first_mut() else {
             return Ok(0);
         };
-        *first = b'a' + self.given;
-        self.given += 1;
+        *first = *octet;
+        self.given = self.given.saturating_add(1);
         Ok(1)
     }
 }
@@ -231,7 +234,7 @@ impl Files for Slowly {
     }
 }
 
-/// Whether each octet comes once, also behind the interrupted call, and a failed read is none of the file's end.
+/// Whether each octet comes once, also after the interrupted call, and a failed read is not the end of the file.
 fn is_read_to_the_fault<H: Shelf>(shelf: &mut H) -> bool {
     opens(shelf, "any")
         && gives(shelf, 3, b"a")
