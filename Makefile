@@ -16,12 +16,24 @@ PREFIX = /usr/local
 NAME = tor
 
 BUILT = $(PROGRAMS:%=bin/%)
+
+# What the programs of `make quick` are made of.
+SOURCES = crates.txt tools/unproved.py tools/libraries.py tools/quick.rs $(shell find crates -path '*/src/*.rt')
 ARCHIVE = bin/tor-$(shell git describe --always --dirty)-$(shell uname -m).tar.gz
 
-.PHONY: all kit pages results tour install dist test samples system memory container clean FORCE
+.PHONY: all quick kit pages results tour install dist test samples system memory container clean FORCE
 .DELETE_ON_ERROR:
 
 all: tour
+
+quick: quick/tor
+	@for program in $(PROGRAMS); do tools/stored_run.sh $$program $(CURDIR)/quick/$$program || exit 1; done
+	tools/tour.sh quick samples README.md
+	@echo "quick/ has $(PROGRAMS). They are checked as they run, and not proved: make proves them, and builds them into bin/"
+
+# One build makes all of them.
+quick/tor: $(SOURCES) | kit
+	tools/unproved.py --checked . quick $(PROGRAMS)
 
 kit:
 	@tools/kit.sh $(LOGIC)
@@ -73,6 +85,6 @@ container: dist
 	tools/container.sh $(ARCHIVE)
 
 clean:
-	rm -rf bin crates/*/out
+	rm -rf bin quick crates/*/out
 
 FORCE:

@@ -3,7 +3,7 @@
 
   bench/phases.py TOR YARDSTICK RUNS DUMP ..
 
-TOR is a program with its symbols, as `bench/unproved.py` builds one, and YARDSTICK one that takes `--stats DUMP` and notes its phases. Both
+TOR is a program with its symbols, as `tools/unproved.py` builds one, and YARDSTICK one that takes `--stats DUMP` and notes its phases. Both
 run in turn, RUNS times. The kernel's probes (`uprobe_events`, which only root may set) note when `tor` enters and leaves the functions
 with which its phases begin and end. Times are by the clock, in milliseconds: the median, and the least.
 """

@@ -18,6 +18,8 @@ import sys
 import time
 from concurrent.futures import FIRST_COMPLETED, ThreadPoolExecutor, wait
 
+if not shutil.which('rt'):
+    sys.exit('a Rattle kit is needed on the PATH, and there is no rt on it')
 KIT = os.path.dirname(os.path.dirname(os.path.realpath(shutil.which('rt'))))
 
 
