@@ -4,8 +4,8 @@
   tools/libraries.py [CHECKOUT [LANES [CRATE ..]]]
 
 Each crate is proved as soon as those below it are, first those with the longest chain of others above them, in at most LANES processes (as
-many as there are processors, where that is 0 or not said) and some 12 GB of memory. Where fewer crates than LANES can be proved, each gets several
-processes. With names only these crates and what is below them are proved; a program is proved, and built, only where it is named.
+many as there are processors, where that is 0 or not said) and some 12 GB of memory. Where fewer crates than LANES can be proved, each gets
+several processes. With names only these crates and what is below them are proved; a program is proved, and built, only where it is named.
 
 A library is there with its stamp, so that `rt check` and `rt plant` work over it at once, and a program as out/NAME with the stamp that `rt
 run` reads. What has its stamp is taken as it is, and so are libraries that some kits keep of what their gate has proved. So it can be

@@ -3,8 +3,8 @@
 #   tools/pages.sh BIN PROGRAM ..
 # For each program: man/PROGRAM.1 and its completions for bash and zsh name the options of `PROGRAM --help`, no more and no fewer; so do the
 # options of all programs together in docs/FORMATS.md. The man page says each option's default, and each number that help gives as a bound,
-# and has the exit statuses and the notes of docs/FORMATS.md; none of its lines has more than 80 octets. Where mandoc or man is installed, it has
-# no warning about the page (what mandoc says of style is let be, as of a page that isn't installed).
+# and has the exit statuses and the notes of docs/FORMATS.md; none of its lines has more than 80 octets. Where mandoc or man is installed, it
+# has no warning about the page; what mandoc says of style, as of a page that isn't installed, is no fault.
 set -u
 bin=$(cd "$1" && pwd)
 shift

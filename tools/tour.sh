@@ -8,7 +8,10 @@
 set -u
 bin=$(cd "$1" && pwd) samples=$(cd "$2" && pwd) page=$(cd "$(dirname "$3")" && pwd)/$(basename "$3")
 for program in awk bzip2 gzip; do
-    command -v "$program" > /dev/null || { echo "the commands of $(basename "$page") were not run, since $program is not installed"; exit 0; }
+    if ! command -v "$program" > /dev/null; then
+        echo "the commands of $(basename "$page") were not run, since $program is not installed"
+        exit 0
+    fi
 done
 work=$(mktemp -d) || exit 1
 trap 'rm -rf "$work"' EXIT
