@@ -23,6 +23,7 @@ import os
 import shutil
 import signal
 import sys
+import threading
 import time
 from concurrent.futures import FIRST_COMPLETED, ThreadPoolExecutor, wait
 
@@ -64,24 +65,48 @@ def crates_of(rt, root, names):
 
 
 class Work:
-    """What has to be known of a crate before its proof: about how long it takes on one processor, and how much memory."""
+    """What has to be known of a crate before its proof: the names of those below it, about how many seconds it takes on one processor, and
+    how much memory."""
 
-    def __init__(self, rt, crate):
-        lines = crate.count(rb'\n')
+    def __init__(self, rt, crate, lines):
+        self.below = {it.name for it in crate.below()}
         antt = sum(rt.rtlib.text_of(file).count('\n') for file in rt.rtlib.files_of(crate.folder) if file.endswith('.antt'))
-        below = sum(it.count(rb'\n') for it in crate.below())
-        self.seconds = 15 + 0.05 * lines + 0.01 * antt + 0.001 * below
+        self.seconds = 15 + 0.05 * lines[crate.name] + 0.01 * antt + 0.001 * sum(lines[name] for name in self.below)
         # none was seen to take half of what the gate plans on
         self.memory = rt.need(crate) / 2
 
 
-def chains_of(crates, works):
-    """For each name the seconds of the longest chain that begins with this crate and goes up."""
+def works_of(rt, crates):
+    """For each name its work."""
+    lines = {crate.name: crate.count(rb'\n') for crate in crates}
+    return {crate.name: Work(rt, crate, lines) for crate in crates}
+
+
+def chains_of(works):
+    """For each name the seconds of the longest chain that begins with this crate and goes up. The lower ones are given first."""
     chains = {}
-    for crate in reversed(crates):
-        above = [chains[other.name] for other in crates if any(it.name == crate.name for it in other.below())]
-        chains[crate.name] = works[crate.name].seconds + max(above, default=0)
+    for name in reversed(works):
+        above = [chains[other] for other in chains if name in works[other].below]
+        chains[name] = works[name].seconds + max(above, default=0)
     return chains
+
+
+def once_each(stamp):
+    """The method that stamps a crate, which then reads each crate below once, and not once for each way that leads there."""
+    known = threading.local()
+
+    def stamp_once(crate):
+        if hasattr(known, 'stamps'):
+            if crate.folder not in known.stamps:
+                known.stamps[crate.folder] = stamp(crate)
+            return known.stamps[crate.folder]
+        known.stamps = {}
+        try:
+            return stamp(crate)
+        finally:
+            del known.stamps
+
+    return stamp_once
 
 
 def take_kept(kept, crate):
@@ -155,20 +180,19 @@ class Lanes:
     def __init__(self, rt, kept, crates, lanes):
         self.rt, self.lanes = rt, lanes
         self.memory = min(MEMORY, 0.85 * rt.free())
-        self.proved, self.failed, self.running = {}, [], {}
-        works = {crate.name: Work(rt, crate) for crate in crates}
-        chains = chains_of(crates, works)
-        self.works = works
+        self.proved, self.failed, self.running = set(), [], {}
+        self.works = works_of(rt, crates)
+        chains = chains_of(self.works)
         for crate in crates:
-            if is_there(rt, kept, crate, all(it.name in self.proved for it in crate.below())):
-                self.proved[crate.name] = True
+            if is_there(rt, kept, crate, all(name in self.proved for name in self.works[crate.name].below)):
+                self.proved.add(crate.name)
         self.count, self.taken = len(crates), len(self.proved)
         self.left = sorted((crate for crate in crates if crate.name not in self.proved), key=lambda crate: -chains[crate.name])
 
     def ready(self):
         """The crates that are left of which all below are proved. Those that stand on one that isn't proved go out."""
-        self.left = [crate for crate in self.left if not any(it.name in self.failed for it in crate.below())]
-        return [crate for crate in self.left if all(it.name in self.proved for it in crate.below())]
+        self.left = [crate for crate in self.left if not any(name in self.failed for name in self.works[crate.name].below)]
+        return [crate for crate in self.left if all(name in self.proved for name in self.works[crate.name].below)]
 
     def start(self, pool):
         """Begins the proofs for which there are processors and memory."""
@@ -188,7 +212,7 @@ class Lanes:
         """Takes note of a proof that has ended."""
         name = self.running.pop(done)[0]
         if done.result():
-            self.proved[name] = True
+            self.proved.add(name)
         else:
             self.failed.append(name)
 
@@ -226,6 +250,7 @@ def main():
     os.chdir(root)
     rt.Crate.allowed = rt.handles_of(root)
     rt.rtlib.Crate = rt.Crate
+    rt.Crate.stamp = once_each(rt.Crate.stamp)
     crates = crates_of(rt, root, sys.argv[3:])
     signal.signal(signal.SIGINT, stop)
     signal.signal(signal.SIGTERM, stop)
