@@ -1,15 +1,25 @@
-# `make` proves and builds the programs, compares their pages, the stored results and a picture with them, and runs every command of the README
-# (`make tour`). `make install` puts them where a shell finds them, and `make dist` into an archive for machines without the kit. `make
-# test` is the whole gate. Outside the gate, `make samples` compares the lists of two real tables with what other readers give, checks
-# the results of both, grades their paths by the labels of their own results, and makes both again in four pieces; `make system` tries the programs on full devices,
-# closed pipes, folders and the like, `make memory` with each of their allocations refused, and `make container` what `make dist` made on
-# a bare system.
+# make quick      builds the programs into quick/ in two minutes, checked as they run and not proved, and runs every command of the README
+# make            proves and builds the programs into bin/, compares pages, results, names and documents with them, and runs the README
+# make install    puts what make built where a shell finds it: PREFIX=/usr/local, NAME=tor (another name: programs NAME, NAMEcheck ..)
+# make dist       makes an archive of it for machines without the kit
+# make tour       runs every command of the README in a fresh folder, over bin/
+# make test       is the whole gate
+# make clean      removes all that was built and all that was proved
+#
+# Outside the gate:
+# make samples    compares the lists of two real tables with what other readers give, and checks, grades and resumes their results
+# make system     tries the programs on full devices, closed pipes, folders and the like
+# make memory     tries them with each of their allocations refused
+# make container  tries the archive of make dist on a bare system
 
-# A program has its man page in man/, its completions in completions/, and its stored run (args, data, stdout) in its crate.
+# A program has its man page in man/, its completions in completions/, and its stored run (args, data, stdout, status) in its crate.
 PROGRAMS = tor torcheck torgrade torwhy torview
 
 # The logic of the kit with which all is proved, as `rt version` has it.
 LOGIC = dac8208d650f15bf
+
+# How many processes prove side by side: 0 is as many as there are processors.
+LANES = 0
 
 # Where `make install` puts the programs, and what stands in the place of `tor` in their names.
 PREFIX = /usr/local
@@ -18,23 +28,47 @@ NAME = tor
 BUILT = $(PROGRAMS:%=bin/%)
 ARCHIVE = bin/tor-$(shell git describe --always --dirty)-$(shell uname -m).tar.gz
 
-.PHONY: all kit pages results tour install dist test samples system memory container clean FORCE
+# What the programs of `make quick` are made of.
+SOURCES = crates.txt tools/unproved.py tools/libraries.py tools/quick.rs $(shell find crates -path '*/src/*.rt')
+
+.PHONY: all quick kit proved pages results documents names tour install dist test samples system memory container clean
 .DELETE_ON_ERROR:
 
-all: tour
+all: tour documents names
+
+quick: quick/tor
+	@for program in $(PROGRAMS); do tools/stored_run.sh $$program $(CURDIR)/quick/$$program || exit 1; done
+	tools/tour.sh quick samples README.md
+	@echo "quick/ has $(PROGRAMS). They are checked as they run, and not proved: make proves them, and builds them into bin/"
+
+# One build makes all of them.
+quick/tor: $(SOURCES) | kit
+	@echo "this takes one to three minutes"
+	tools/unproved.py --checked . quick $(PROGRAMS)
 
 kit:
 	@tools/kit.sh $(LOGIC)
 
-# A program is built only once it and all below it are proved, and the kit's build runs it too: so it does its stored run.
-bin/%: FORCE | kit
-	tools/build.sh $*
+# A program is built only once it and all below it are proved. What was proved before stays.
+proved: | kit
+	tools/libraries.py . $(LANES) $(PROGRAMS)
+
+bin/%: proved
+	@mkdir -p bin
+	tools/stored_run.sh $* $(CURDIR)/crates/$*/out/$*
+	@cp crates/$*/out/$* bin/
 
 pages: $(BUILT)
 	tools/pages.sh bin $(PROGRAMS)
 
 results: $(BUILT)
 	tools/results.sh bin samples docs
+
+documents:
+	tools/documents.sh
+
+names:
+	tools/names.py
 
 tour: pages results
 	tools/tour.sh bin samples README.md
@@ -73,6 +107,4 @@ container: dist
 	tools/container.sh $(ARCHIVE)
 
 clean:
-	rm -rf bin crates/*/out
-
-FORCE:
+	rm -rf bin quick crates/*/out

@@ -1,7 +1,7 @@
 #!/usr/bin/env bash
 # Tries an archive of `make dist` in a bare Debian system without the kit: every command of its README, as `nobody`.
 #   tools/container.sh ARCHIVE
-# It makes the system with debootstrap, so it wants root and a network.
+# It makes the system with debootstrap, so it needs root and a network.
 set -eu
 archive=$(cd "$(dirname "$1")" && pwd)/$(basename "$1")
 cd "$(dirname "$0")/.."

@@ -26,3 +26,4 @@ for program in "$@"; do
     renamed "completions/_$program" > "$zsh/_$new"
     echo "$folder/bin/$new"
 done
+[ "$name" = tor ] || echo "the help of these programs still prints the names $*"

@@ -3,7 +3,8 @@
 #   tools/pages.sh BIN PROGRAM ..
 # For each program: man/PROGRAM.1 and its completions for bash and zsh name the options of `PROGRAM --help`, no more and no fewer. The man
 # page says each option's default, and each number that help gives as a bound, and has the exit statuses and the notes of docs/FORMATS.md.
-# Where mandoc or man is there, it has no complaint about the page.
+# None of its lines has more than 80 octets. Where mandoc or man is installed, it has no warning about the page; what mandoc says of style,
+# as of a page that isn't installed, is no fault.
 set -u
 bin=$(cd "$1" && pwd)
 shift
@@ -63,10 +64,12 @@ for program in "$@"; do
     notes='usage read-fault write-fault limit no-memory'
     if grep -qx 3 "$work/said"; then notes="$notes malformed"; fi
     for note in $notes; do
-        grep -qE "^\.Ql $note(\||$| )" "$page" || complain "$page lacks the note $note"
+        grep -qE "^\.(It )?Ql $note(\||$| )" "$page" || complain "$page lacks the note $note"
     done
+    LC_ALL=C awk -v page="$page" 'length > 80 { print page ":" NR ": " length " octets, and a line has at most 80" }' "$page" > "$work/long"
+    [ ! -s "$work/long" ] || complain "$(cat "$work/long")"
     if command -v mandoc > "$work/which"; then
-        mandoc -Tlint "$page" > "$work/lint" 2>&1
+        mandoc -Tlint -W warning "$page" > "$work/lint" 2>&1
         [ ! -s "$work/lint" ] || complain "$(cat "$work/lint")"
     fi
     if command -v man > "$work/which" && man --help 2>&1 | grep -q -e --warnings; then

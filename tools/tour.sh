@@ -2,20 +2,21 @@
 # Runs the commands of a page in a fresh folder, and compares what they print with what the page says.
 #   tools/tour.sh BIN SAMPLES PAGE
 # BIN is the folder of the programs. A command is a line `    $ COMMAND`, and what it prints, to standard output and to standard error,
-# stands in the lines behind it, up to an empty line or the end of the block. There `..` stands for anything within a line, and for any
-# lines where it stands alone. All commands run in one shell, one after the other. The folder has a copy of SAMPLES as samples/, and two
-# of its tables as an archive has them: rib.1.bz2 and bview.1.gz.
+# stands in the lines after it, up to an empty line or the end of the block. There `..` stands for anything within a line, and for any
+# lines where it stands alone. All commands run in one shell, one after the other. The folder has a copy of SAMPLES as samples/, and
+# nothing else. Where a program that the commands need is not installed, nothing is run, and one sentence says so.
 set -u
 bin=$(cd "$1" && pwd) samples=$(cd "$2" && pwd) page=$(cd "$(dirname "$3")" && pwd)/$(basename "$3")
 for program in awk bzip2 gzip; do
-    command -v "$program" > /dev/null || { echo "the tour needs $program" >&2; exit 1; }
+    if ! command -v "$program" > /dev/null; then
+        echo "the commands of $(basename "$page") were not run, since $program is not installed"
+        exit 0
+    fi
 done
 work=$(mktemp -d) || exit 1
 trap 'rm -rf "$work"' EXIT
 mkdir "$work/folder" && cd "$work/folder" || exit 1
 cp -rL "$samples" samples
-bzip2 -c samples/frr.routes-mrt > rib.1.bz2
-gzip -nc samples/openbgpd.table > bview.1.gz
 PATH=$bin:$PATH
 
 # The regular expression of what a page says that a command prints.
