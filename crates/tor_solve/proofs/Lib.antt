@@ -3,4 +3,4 @@ mod Classing
 mod ComponentVectors
 mod Marking
 mod Orders
-mod Refutation
+pub mod Refutation

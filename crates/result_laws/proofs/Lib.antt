@@ -1,0 +1,5 @@
+pub mod AcceptedLemmas
+pub mod GrowingLemmas
+pub mod KeptLemmas
+pub mod OrderLemmas
+pub mod PossibleLemmas

@@ -1,0 +1,6 @@
+//! The laws of results: what follows for every result that a checker accepts, and for two of them.
+#![tactic(auto)]
+
+mod laws;
+
+pub use laws::{any_order_law, forced_stays_law, given_open_law, none_added_law, open_edge_law};
