@@ -69,15 +69,15 @@ abbrev pub given_for : End → ℕ → ℕ → Given
 given_for End.Low low high = record { over = low; under = high }
 given_for End.High low high = record { over = high; under = low }
 
-end_says : (O : Orientation) (end : End) (low high : ℕ) → low < high → O low high ≡ end → LabelsSay (labels_of O) (given_for end low high)
+pub end_says : (O : Orientation) (end : End) (low high : ℕ) → low < high → O low high ≡ end → LabelsSay (labels_of O) (given_for end low high)
 end_says O End.Low low high lt is = over-low (labels_of O) low high lt (ap (λ e. is_low (label_of e)) is)
 end_says O End.High low high lt is = over-high (labels_of O) low high lt (ap (λ e. is_high (label_of e)) is)
 
-says_end : (O : Orientation) (end : End) (low high : ℕ) → low < high → LabelsSay (labels_of O) (given_for end low high) → O low high ≡ end
+pub says_end : (O : Orientation) (end : End) (low high : ℕ) → low < high → LabelsSay (labels_of O) (given_for end low high) → O low high ≡ end
 says_end O End.Low low high lt says = over_low O low high lt says
 says_end O End.High low high lt says = over_high O low high lt says
 
-two_differ : (end : End) (low high : ℕ) → low < high → (given_for end low high).over ≢ (given_for end low high).under
+pub two_differ : (end : End) (low high : ℕ) → low < high → (given_for end low high).over ≢ (given_for end low high).under
 two_differ End.Low low high lt e = absurd (omega (arith, lt, e))
 two_differ End.High low high lt e = absurd (omega (arith, lt, e))
 
@@ -87,26 +87,45 @@ other_end End.Low End.High ne = refl
 other_end End.High End.Low ne = refl
 other_end End.High End.High ne = absurd (ne refl)
 
--- an edge that is not forced may have either end as its provider
-pub either_end : (paths : List (List ℕ)) (low high : ℕ) → All NeighboursDiffer paths → low < high → (IsForced paths low high → ⊥) → (end : End) →
-    (O : Orientation) × Serves O paths × (O low high ≡ end)
-either_end paths low high differ lt not_forced end =
+-- whether some orientation that serves has this end of an edge as its provider
+pub end_or_never : (paths : List (List ℕ)) (low high : ℕ) → All NeighboursDiffer paths → low < high → (end : End) →
+    ((O : Orientation) × Serves O paths × (O low high ≡ end)) ⊎ ((O : Orientation) → Serves O paths → O low high ≢ end)
+end_or_never paths low high differ lt end =
     let g = given_for end low high in
     let all = All-append NeighboursDiffer paths (return_of g ∷ []) differ
     (All-cons NeighboursDiffer (return_of g) [] (return_differs g (two_differ end low high lt)) (All-nil NeighboursDiffer)) in
     elim (decide_servable (paths ++ return_of g ∷ []) all) [
       | inl s ↦
           let k = all_parts (ValleyFree (labels_of s.0)) paths (return_of g ∷ []) s.1 in
-          (s.0, k.0, says_end s.0 end low high lt (return_holds (labels_of s.0) g (k.1 0 (return_of g) (omega arith))))
+          inl (s.0, k.0, says_end s.0 end low high lt (return_holds (labels_of s.0) g (k.1 0 (return_of g) (omega arith))))
       | inr none ↦
-          let not : (O : Orientation) → Serves O paths → O low high ≢ end =
-          λ O serves is. none (
+          inr (λ O serves is. none (
             O,
             All-append (ValleyFree (labels_of O)) paths (return_of g ∷ []) serves
                 (All-cons (ValleyFree (labels_of O)) (return_of g) [] (return_free (labels_of O) g (end_says O end low high lt is)) (All-nil (ValleyFree (labels_of O)))),
-          ) in
-          absurd (not_forced (λ O O' serves serves'. other_end end (O low high) (not O serves) ∙ sym (other_end end (O' low high) (not O' serves'))))
+          ))
     ]
+
+forced_if_never : (paths : List (List ℕ)) (low high : ℕ) (end : End) → ((O : Orientation) → Serves O paths → O low high ≢ end) → IsForced paths low high
+forced_if_never paths low high end never O O' serves serves' =
+    other_end end (O low high) (never O serves) ∙ sym (other_end end (O' low high) (never O' serves'))
+
+-- an edge that is not forced may have either end as its provider
+either_end : (paths : List (List ℕ)) (low high : ℕ) → All NeighboursDiffer paths → low < high → (IsForced paths low high → ⊥) → (end : End) →
+    (O : Orientation) × Serves O paths × (O low high ≡ end)
+either_end paths low high differ lt not_forced end = elim (end_or_never paths low high differ lt end) [
+  | inl w ↦ w
+  | inr never ↦ absurd (not_forced (forced_if_never paths low high end never))
+]
+
+pub forced_or_not : (paths : List (List ℕ)) (low high : ℕ) → All NeighboursDiffer paths → low < high → IsForced paths low high ⊎ (IsForced paths low high → ⊥)
+forced_or_not paths low high differ lt = elim (end_or_never paths low high differ lt End.Low) [
+  | inr never ↦ inl (forced_if_never paths low high End.Low never)
+  | inl w ↦ elim (end_or_never paths low high differ lt End.High) [
+    | inr never ↦ inl (forced_if_never paths low high End.High never)
+    | inl v ↦ inr (λ forced. let same : End.Low ≡ End.High = sym w.2 ∙ forced w.0 v.0 w.1 v.1 ∙ v.2 in cc)
+  ]
+]
 
 pub open_edge_law : OpenEdgeLaw
 open_edge_law file accepts line there is_open end =

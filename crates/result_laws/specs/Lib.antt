@@ -1,3 +1,4 @@
+pub mod Existing
 pub mod Growing
 pub mod Orders
 pub mod Possible

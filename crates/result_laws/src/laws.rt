@@ -1,5 +1,6 @@
 //! Laws over the definitions in `specs/`, each as the contract of a function that does nothing.
 
+ghost use Rattle.result_laws.specs.Existing.{SomeResultLaw};
 ghost use Rattle.result_laws.specs.Growing.{ForcedStaysLaw};
 ghost use Rattle.result_laws.specs.Orders.{AnyOrderLaw};
 ghost use Rattle.result_laws.specs.Possible.{NoneAddedLaw, OpenEdgeLaw, GivenOpenLaw};
@@ -31,4 +32,10 @@ pub fn forced_stays_law()
 /// none, and has the same edges, the same marks, and the same provider of each forced edge.
 pub fn any_order_law()
     ensures { AnyOrderLaw }
+{}
+
+/// There is always a result: of the rows of every table, with whatever counts and ratio, and under givens each of two ASes and no two
+/// of the same two, or none.
+pub fn some_result_law()
+    ensures { SomeResultLaw }
 {}

@@ -3,4 +3,6 @@
 
 mod laws;
 
-pub use laws::{any_order_law, forced_stays_law, given_open_law, none_added_law, open_edge_law};
+pub use laws::{
+    any_order_law, forced_stays_law, given_open_law, none_added_law, open_edge_law, some_result_law,
+};

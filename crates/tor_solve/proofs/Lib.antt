@@ -1,4 +1,4 @@
-mod Arcs
+pub mod Arcs
 mod Classing
 mod ComponentVectors
 mod Marking
