@@ -105,7 +105,7 @@ first_within n all some e p c =
     Contains-from_has all p (h.0, (slice_get-take n all h.0 p h.1).1)
 
 -- what a result keeps it keeps behind the returns of its givens on more paths, too
-kept_among_more : (file : ResultFile) (accepts : Accepts file) (paths : List (List ℕ)) → Within (its_paths file) paths →
+pub kept_among_more : (file : ResultFile) (accepts : Accepts file) (paths : List (List ℕ)) → Within (its_paths file) paths →
     KeepsFrom (returns paths (its_givens file)) (its_paths file) (map is_none (its_walks file))
 kept_among_more file accepts paths within =
     let kept = paths_of (its_kept file) in

@@ -1,10 +1,12 @@
 -- Of the paths of every table, and under all sound givens, there is a result.
 use Rattle.std.proofs.Common.{◌≡◌, ◌↔◌, inl, inr, ℕ, ◌<◌, min, max, List, [], ◌∷◌, ◌++◌, length, map, flat_map, Option, Some, None, unwrap_or, is_none, refl, sym, ap, ap₂, ◌∙◌, subst, arith, All}
-use Rattle.std.proofs.Common.{Contains, IsTrue}
+use Rattle.std.proofs.Common.{take, drop, Contains, IsTrue}
 use Rattle.std.specs.List.{AllByRecursion}
-use Rattle.std.proofs.lemmas.List.{map-append, length-map}
-use Rattle.std.proofs.lemmas.List.Elements.{All-append, All-contains, All-contains_itself, All-from_recursion, All-weaker, recursion_from_All}
+use Rattle.std.proofs.lemmas.List.{take_all, take-append-drop, take-append-le, map-append, length-map}
+use Rattle.std.proofs.lemmas.List.Elements.{All-append, All-contains, All-contains_itself, All-from_recursion, All-weaker, recursion_from_All, Contains-append_left}
 use Rattle.tor_arena.proofs.Gets.{Contains-map}
+use Rattle.path_clean.specs.declared.cleaned.Sets.{Sets}
+use Rattle.path_clean.specs.Counts.{CauseCounts}
 use Rattle.path_clean.proofs.GraphPaths.{apart}
 use Rattle.path_table.specs.Rows.{Counted, row_paths}
 use Rattle.relationships.specs.declared.given.Given.{Given}
@@ -34,22 +36,31 @@ use Rattle.relationships.proofs.Serving.{all_differ_if_distinct}
 use Rattle.result_text.specs.declared.file.EdgeLine.{EdgeLine}
 use Rattle.result_text.specs.declared.file.PathLine.{PathLine}
 use Rattle.result_text.specs.declared.file.ResultFile.{ResultFile}
-use Rattle.result_rules.specs.File.{claim_on, its_walks, its_probes}
+use Rattle.result_rules.specs.declared.rule.Rule.TheVariants.{LostRefuted}
+use Rattle.result_rules.proofs.WalkLaws.{lost_are_refuted}
+use Rattle.result_rules.specs.File.{its_givens, its_paths, its_walks, its_probes, claim_on}
 use Rattle.result_rules.specs.Against.{row_of}
 use Rattle.result_rules.specs.Totals.{totals_by}
+use Rattle.rel_infer.specs.Earlier.{BeginsWithPathsOf}
 use Rattle.rel_infer.specs.GivenInference.{AreLabelsWith, IsInferredWith}
+use Rattle.rel_infer.specs.GivenResults.{IsResultWith}
+use Rattle.rel_infer.specs.Resumed.{Continues, decided}
 use Rattle.rel_infer.specs.Returns.{numbers_from}
+use Rattle.rel_infer.specs.SelfAcceptance.{AreTableRows}
+use Rattle.rel_infer.proofs.Acceptance.{same_givens}
 use Rattle.rel_infer.proofs.KeptEdges.{kept_edge}
 use Rattle.rel_infer.proofs.KeptPlaces.{keeps_many}
 use Rattle.rel_infer.proofs.LineLemmas.{pairs_same}
 use Rattle.rel_infer.proofs.ReturnRows.{are_rows}
-use Rattle.result_laws.specs.Existing.{SomeResultLaw}
+use Rattle.result_laws.specs.Existing.{SomeResultLaw, SomeResumedLaw}
 use Rattle.result_laws.proofs.EvidenceLemmas.{pair, some_evidence}
-use Rattle.result_laws.proofs.GrowingLemmas.{line_with}
+use Rattle.result_laws.proofs.GrowingLemmas.{kept_among_more, line_with}
 use Rattle.result_laws.proofs.PeeringLemmas.{some_relabelled, relabelled_too}
 use Rattle.result_laws.proofs.PossibleLemmas.{forced_or_not}
 use Rattle.result_laws.proofs.PreferredLemmas.{Rises, some_preferred}
-use Rattle.result_laws.proofs.SelectedLemmas.{return_rows, rows_are, kept_up_to, some_selected}
+use Rattle.result_laws.proofs.AcceptedLemmas.{its_two, its_once}
+use Rattle.result_laws.proofs.KeptLemmas.{Within}
+use Rattle.result_laws.proofs.SelectedLemmas.{Chosen, return_rows, rows_are, kept_up_to, some_chosen}
 use Rattle.result_laws.proofs.SettlingLemmas.{each_member, some_settling}
 
 -- ---- edge lines
@@ -87,10 +98,10 @@ same_orders : (ps : List (ℕ × ℕ)) → orders_of (map probe_of ps) ≡ ps
 same_orders [] = refl
 same_orders (p ∷ ps) = ap (λ (l : List (ℕ × ℕ)). p ∷ l) (same_orders ps)
 
--- everything is inferred from these paths: walks of lost ones, edge lines and evidence
-abbrev Inferences : List Given → ℕ → List (List ℕ) → Type 0
-Inferences givens ratio paths =
-    (walks : List (Option Walk)) × (lines : List EdgeLine) × (whys : List Walk) × (probes : List (ℕ × ℕ)) × IsInferredWith givens ratio paths walks lines whys probes
+-- something is inferred from these paths with these walks
+abbrev Inferences : List Given → ℕ → List (List ℕ) → List (Option Walk) → Type 0
+Inferences givens ratio paths walks =
+    (lines : List EdgeLine) × (whys : List Walk) × (probes : List (ℕ × ℕ)) × IsInferredWith givens ratio paths walks lines whys probes
 
 module _ (givens : List Given) (ratio : ℕ) (paths : List (List ℕ)) (differ : All NeighboursDiffer paths) (two : NameTwo givens) (once : NameOnce givens) where
   rising : AllByRecursion Rises (edges paths)
@@ -215,15 +226,15 @@ module _ (givens : List Given) (ratio : ℕ) (paths : List (List ℕ)) (differ :
 
     marks : MarksHoldWith givens (kept_of paths walks) (map claim_on drawn.0) (map (with_given_links (length paths) (numbers_from paths 1 givens)) evidence.0) evidence.1
     marks =
-        given_marks_law givens paths (length paths) (numbers_from paths 1 givens) (return_rows givens paths) A (are_rows givens paths) (rows_are givens paths) (kept_up_to givens paths walks) near
+        given_marks_law givens paths (length paths) (numbers_from paths 1 givens) (return_rows givens paths) A (are_rows givens paths) (rows_are givens paths)
+        (kept_up_to givens paths paths walks (omega arith)) near
         (map claim_on drawn.0) evidence.0 evidence.1 on_edge evidence.2
 
     -- ---- all of it
 
-    inferred : LostFromWith givens 1 [] paths walks → Inferences givens ratio paths
-    inferred lost =
+    some_inferences : LostFromWith givens 1 [] paths walks → Inferences givens ratio paths walks
+    some_inferences lost =
         let parts = all_parts (ValleyFree L) (returns paths givens) kept free in (
-          walks,
           drawn.0,
           map (with_given_links (length paths) (numbers_from paths 1 givens)) evidence.0,
           evidence.1,
@@ -240,9 +251,6 @@ module _ (givens : List Given) (ratio : ℕ) (paths : List (List ℕ)) (differ :
             evidence = marks;
           },
         )
-
-  some_inferences : Inferences givens ratio paths
-  some_inferences = let s = some_selected givens paths two differ in inferred s.0 s.1 s.2
 
 -- ---- the result
 
@@ -275,10 +283,13 @@ path_lines (row ∷ rows) (w ∷ walks) same =
       rowed = ap (λ (rs : List Counted). row ∷ rs) r.rowed;
     }
 
-pub some_result_law : SomeResultLaw
-some_result_law known sets ratio rows counts are two once =
-    let differ = all_differ_if_distinct (row_paths rows) (apart (row_paths rows) are.clean) in
-    let (walks, lines, whys, probes, inferred) = some_inferences (unwrap_or known []) ratio (row_paths rows) differ two once in
+-- the result of these rows in which paths have these walks
+abbrev Result : Option (List Given) → Sets → ℕ → List Counted → CauseCounts → List (Option Walk) → Type 0
+Result known sets ratio rows counts walks = (file : ResultFile) × IsResultWith known sets ratio rows counts file × (its_paths file ≡ row_paths rows) × (its_walks file ≡ walks)
+
+some_result : (known : Option (List Given)) (sets : Sets) (ratio : ℕ) (rows : List Counted) (counts : CauseCounts) (walks : List (Option Walk)) →
+    Inferences (unwrap_or known []) ratio (row_paths rows) walks → Result known sets ratio rows counts walks
+some_result known sets ratio rows counts walks (lines, whys, probes, inferred) =
     let flags = keeps_many (returns (row_paths rows) (unwrap_or known [])) (row_paths rows) (map is_none walks) inferred.kept in
     let many : length walks ≡ length rows = sym (length-map walks is_none) ∙ flags ∙ length-map rows (λ (row : Counted). row.path) in
     let p = path_lines rows walks many in
@@ -305,4 +316,66 @@ some_result_law known sets ratio rows counts are two once =
             (subst (λ os. IsInferredWith (unwrap_or known []) ratio (row_paths rows) walks lines whys os) (sym (same_orders probes)) inferred));
         totals = refl;
       },
+      p.paths,
+      p.walked,
     )
+
+rows_differ : (rows : List Counted) → AreTableRows rows → All NeighboursDiffer (row_paths rows)
+rows_differ rows are = all_differ_if_distinct (row_paths rows) (apart (row_paths rows) are.clean)
+
+pub some_result_law : SomeResultLaw
+some_result_law known sets ratio rows counts are two once =
+    let differ = rows_differ rows are in
+    let givens = unwrap_or known [] in
+    let c = some_chosen givens [] (row_paths rows) [] two differ tt tt in
+    let r = some_result known sets ratio rows counts c.0 (some_inferences givens ratio (row_paths rows) differ two once c.0 c.1 c.2) in
+    (r.0, r.1)
+
+-- ---- the result on top of an earlier one
+
+same_fate : (f g : Fate) → walk_of f ≡ walk_of g → f ≡ g
+same_fate Kept Kept e = refl
+same_fate Kept (Lost w) e = absurd (cc e)
+same_fate (Lost v) Kept e = absurd (cc e)
+same_fate (Lost v) (Lost w) e = let same : v ≡ w = cc in ap (λ (u : Walk). Lost u) same
+
+-- lines with the paths and walks of earlier ones, as far as these go, say what those say
+same_decided : (earlier lines : List PathLine) → take (length earlier) (map (λ (p : PathLine). p.path) lines) ≡ map (λ (p : PathLine). p.path) earlier →
+    take (length earlier) (map (λ (p : PathLine). walk_of p.fate) lines) ≡ map (λ (p : PathLine). walk_of p.fate) earlier →
+    take (length earlier) (map decided lines) ≡ map decided earlier
+same_decided [] lines paths walks = refl
+same_decided (line ∷ earlier) [] paths walks = absurd cc
+same_decided (line ∷ earlier) (other ∷ lines) paths walks =
+    let path : other.path ≡ line.path = cc in
+    let walk : walk_of other.fate ≡ walk_of line.fate = cc in
+    let more_paths : take (length earlier) (map (λ (p : PathLine). p.path) lines) ≡ map (λ (p : PathLine). p.path) earlier = cc in
+    let more_walks : take (length earlier) (map (λ (p : PathLine). walk_of p.fate) lines) ≡ map (λ (p : PathLine). walk_of p.fate) earlier = cc in
+    ap₂ (λ (d : List ℕ × Fate) ds. d ∷ ds) (ap₂ (λ (p : List ℕ) (f : Fate). (p, f)) path (same_fate other.fate line.fate walk)) (same_decided earlier lines more_paths more_walks)
+
+-- a result of paths that begin with those of an earlier one, with its walks first, continues it
+continues_by : (earlier file : ResultFile) (paths : List (List ℕ)) (more : List (Option Walk)) → its_paths file ≡ paths → BeginsWithPathsOf paths earlier →
+    its_walks file ≡ its_walks earlier ++ more → Continues earlier file
+continues_by earlier file paths more same begins walked =
+    let n = length earlier.paths in
+    let many : length (its_walks earlier) ≡ n = length-map earlier.paths (λ (p : PathLine). walk_of p.fate) in
+    let first_walks : take n (its_walks earlier ++ more) ≡ its_walks earlier =
+    take-append-le n (its_walks earlier) more (omega (arith, many)) ∙ take_all n (its_walks earlier) (omega (arith, many)) in
+    same_decided earlier.paths file.paths (subst (λ ps. take n ps ≡ its_paths earlier) (sym same) begins) (subst (λ ws. take n ws ≡ its_walks earlier) (sym walked) first_walks)
+
+pub some_resumed_law : SomeResumedLaw
+some_resumed_law earlier ratio rows counts accepts are begins =
+    let n = length earlier.paths in
+    let G = its_givens earlier in
+    let paths = row_paths rows in
+    let rest = drop n paths in
+    let whole : its_paths earlier ++ rest ≡ paths = ap (λ (ps : List (List ℕ)). ps ++ rest) (sym begins) ∙ take-append-drop n paths in
+    let differ = rows_differ rows are in
+    let within : Within (its_paths earlier) (its_paths earlier ++ rest) = λ p c. Contains-append_left (its_paths earlier) rest p c in
+    let c = subst (λ ps. Chosen G ps (its_walks earlier)) whole
+    (some_chosen G (its_paths earlier) rest (its_walks earlier) (its_two earlier accepts) (subst (All NeighboursDiffer) (sym whole) differ)
+    (kept_among_more earlier accepts (its_paths earlier ++ rest) within) (lost_are_refuted earlier (accepts LostRefuted))) in
+    let walks = its_walks earlier ++ c.0 in
+    let inferences = some_inferences G ratio paths differ (its_two earlier accepts) (its_once earlier accepts) walks c.1 c.2 in
+    let r = some_result earlier.givens earlier.sets ratio rows counts walks
+    (subst (λ gs. Inferences gs ratio paths walks) (sym (same_givens earlier earlier.givens refl)) inferences) in
+    (r.0, r.1, continues_by earlier r.0 paths c.0 r.2 begins r.3)

@@ -1,6 +1,6 @@
 //! Laws over the definitions in `specs/`, each as the contract of a function that does nothing.
 
-ghost use Rattle.result_laws.specs.Existing.{SomeResultLaw};
+ghost use Rattle.result_laws.specs.Existing.{SomeResultLaw, SomeResumedLaw};
 ghost use Rattle.result_laws.specs.Growing.{ForcedStaysLaw};
 ghost use Rattle.result_laws.specs.Orders.{AnyOrderLaw};
 ghost use Rattle.result_laws.specs.Possible.{NoneAddedLaw, OpenEdgeLaw, GivenOpenLaw};
@@ -38,4 +38,9 @@ pub fn any_order_law()
 /// of the same two, or none.
 pub fn some_result_law()
     ensures { SomeResultLaw }
+{}
+
+/// And one goes on from each result that meets all rules, where its paths are the first of the table.
+pub fn some_resumed_law()
+    ensures { SomeResumedLaw }
 {}
