@@ -1,5 +1,6 @@
 pub mod Agreeing
 pub mod EqualLengths
+pub mod GrowingRuns
 pub mod JoinedRows
 pub mod Migrating
 pub mod ResumeLemmas

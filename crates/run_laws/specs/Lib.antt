@@ -1,3 +1,4 @@
 pub mod Agreement
+pub mod Growing
 pub mod ResumeLaws
 pub mod SelfGrading

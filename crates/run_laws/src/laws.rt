@@ -5,10 +5,12 @@ ghost use Rattle.tor_output.specs.Grading.{GradingLaw, ResultEndsLaw};
 ghost use Rattle.tor_output.specs.Seen.{OneOutcomeLaw};
 ghost use Rattle.tor_output.specs.SeenLaw.{DumpsLaw, SeenLaw, DumpsReadableLaw, ReadableLaw};
 ghost use Rattle.run_laws.specs.Agreement.{AgreementLaw, MigrateLaw, OneSummaryLaw};
+ghost use Rattle.run_laws.specs.Growing.{ResumedStaysLaw, AddedStaysLaw, SomeFaithfulLaw};
 ghost use Rattle.run_laws.specs.ResumeLaws.{OfDumpsLaw, ResumeLaw, InPartsLaw, ResumedAcceptanceLaw};
 ghost use Rattle.run_laws.specs.SelfGrading.{SelfGradingLaw};
 
 use rel_infer::self_acceptance_law;
+use result_laws::{forced_stays_law, some_result_law};
 use result_text::one_value;
 use tor_words::bounds_law;
 
@@ -100,4 +102,23 @@ pub fn resume_law()
     one_value();
     bounds_law();
     self_acceptance_law();
+}
+
+/// What a result has decided stays so, whatever dumps are added: its kept paths stay kept, its lost ones lost, and its forced edges forced,
+/// with their labels. So it is where a run takes it up, and of each result of its dumps and then of others, with its sets and its givens.
+pub fn growing_law()
+    ensures resumed { ResumedStaysLaw }
+    ensures added { AddedStaysLaw }
+{
+    bounds_law();
+    self_acceptance_law();
+    forced_stays_law();
+}
+
+/// There is always a result: some is faithful to what is known and to what dumps or a sample gave.
+pub fn some_faithful_law()
+    ensures { SomeFaithfulLaw }
+{
+    faithful_law();
+    some_result_law();
 }
