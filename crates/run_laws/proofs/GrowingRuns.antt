@@ -1,5 +1,5 @@
 -- What a result has decided stays so, whatever dumps are added; and some result is faithful to what dumps gave.
-use Rattle.std.proofs.Common.{◌≡◌, ℕ, ◌+◌, List, [], ◌∷◌, ◌++◌, length, map, take, Option, Some, None, Result, Ok, Err, refl, sym, ap, subst, ◌∙◌, arith, append-nil}
+use Rattle.std.proofs.Common.{◌≡◌, ℕ, ◌+◌, List, [], ◌∷◌, ◌++◌, length, map, take, Option, Some, None, Result, Ok, Err, refl, sym, ap, ap₂, subst, ◌∙◌, arith, append-nil}
 use Rattle.std.proofs.lemmas.List.{length-map, take-append-le, take-map, take_all}
 use Rattle.path_attrs.specs.Fields.{◌>>=◌}
 use Rattle.path_clean.specs.declared.cleaned.Sets.{Sets}
@@ -10,7 +10,7 @@ use Rattle.relationships.specs.declared.fate.Fate.{Fate}
 use Rattle.relationships.specs.declared.given.Given.{Given}
 use Rattle.relationships.specs.Givens.{NameTwo, NameOnce}
 use Rattle.dump_read.specs.declared.taking.Taken.{Taken}
-use Rattle.dump_read.specs.Seen.{DumpsEnd, of_file}
+use Rattle.dump_read.specs.Seen.{DumpsEnd, of_file, of_octets}
 use Rattle.result_text.specs.declared.file.PathLine.{PathLine}
 use Rattle.result_text.specs.declared.file.ResultFile.{ResultFile}
 use Rattle.result_rules.specs.declared.rule.Rule.TheVariants.{HeadSound}
@@ -22,14 +22,13 @@ use Rattle.rel_infer.specs.SelfAcceptance.{SelfAcceptanceLaw}
 use Rattle.rel_infer.proofs.Acceptance.{same_givens}
 use Rattle.result_laws.specs.Existing.{SomeResultLaw}
 use Rattle.result_laws.specs.Growing.{ForcedStaysLaw}
-use Rattle.run_base.specs.Reading.{nothing, seen_from}
+use Rattle.run_base.specs.Reading.{nothing, seen_from, seen_of}
 use Rattle.run_base.proofs.Values as values
 use Rattle.tor_words.specs.Given.{BoundsLaw}
 use Rattle.tor_output.specs.Accepting.{TableLaw}
 use Rattle.tor_output.specs.First.{first_in}
-use Rattle.tor_output.proofs.Joining.{behind}
 use Rattle.tor_output.proofs.Resumings.{Begins, octets_begin}
-use Rattle.run_laws.specs.Growing.{ResumedStaysLaw, AddedStaysLaw, SomeFaithfulLaw}
+use Rattle.run_laws.specs.Growing.{ResumedStaysLaw, OctetsLaw, AddedStaysLaw, SomeFaithfulLaw}
 use Rattle.run_laws.proofs.JoinedRows.{joined_rows}
 use Rattle.run_laws.proofs.ResumeLemmas.{is_accepted}
 
@@ -59,33 +58,42 @@ resumed_stays_law bounds accept stays words settings files earlier taken file gi
 
 -- ---- of dumps behind others
 
-files_begin : (first : List (List ℕ)) (sets : Sets) (dump : ℕ) (old new : Taken) (names : List (List ℕ)) (files : Files) → seen_from sets dump old names files ≡ Ok new →
-    Begins first old.table.rows → Begins first new.table.rows
-files_begin first sets dump old new [] files e so_far = subst (λ (t : Taken). Begins first t.table.rows) (values.ok_is (seen_from sets dump old [] files) old new refl e) so_far
-files_begin first sets dump old new (name ∷ names) files e so_far =
-    by (files name) (of_file sets dump old (files name)) refl refl e (λ further. files_begin first sets (dump + 1) further new names files)
+-- some number of the first of them, from which on they give the same as all from this one on
+behind : (sets : Sets) (dump : ℕ) (old mid : Taken) (dumps more : List (List ℕ)) → seen_of sets dump old dumps ≡ Ok mid →
+    (later : ℕ) × (seen_of sets dump old (dumps ++ more) ≡ seen_of sets later mid more)
+behind sets dump old mid [] more e = (dump, ap (λ (t : Taken). seen_of sets dump t more) (values.ok_is (seen_of sets dump old []) old mid refl e))
+behind sets dump old mid (octets ∷ dumps) more e = by (of_octets sets dump old octets) e (λ further. behind sets (dump + 1) further mid dumps more)
   where
-    by : (octets : Option (List ℕ)) (one : Result Taken DumpsEnd) → files name ≡ octets → of_file sets dump old (files name) ≡ one →
-        (one >>= λ further. seen_from sets (dump + 1) further names files) ≡ Ok new →
-        ((further : Taken) → seen_from sets (dump + 1) further names files ≡ Ok new → Begins first further.table.rows → Begins first new.table.rows) → Begins first new.table.rows
-    by octets (Err end) there is e rest = absurd cc
-    by None (Ok further) there is e rest = let gone : of_file sets dump old None ≡ Ok further = subst (λ o. of_file sets dump old o ≡ Ok further) there is in absurd cc
-    by (Some octets) (Ok further) there is e rest =
-        rest further e (octets_begin first sets dump old further octets (subst (λ o. of_file sets dump old o ≡ Ok further) there is) so_far)
+    by : (one : Result Taken DumpsEnd) → (one >>= λ further. seen_of sets (dump + 1) further dumps) ≡ Ok mid →
+        ((further : Taken) → seen_of sets (dump + 1) further dumps ≡ Ok mid → (later : ℕ) × (seen_of sets (dump + 1) further (dumps ++ more) ≡ seen_of sets later mid more)) →
+        (later : ℕ) × ((one >>= λ further. seen_of sets (dump + 1) further (dumps ++ more)) ≡ seen_of sets later mid more)
+    by (Err end) e rest = absurd cc
+    by (Ok further) e rest = rest further e
+
+dumps_begin : (first : List (List ℕ)) (sets : Sets) (dump : ℕ) (old new : Taken) (dumps : List (List ℕ)) → seen_of sets dump old dumps ≡ Ok new → Begins first old.table.rows →
+    Begins first new.table.rows
+dumps_begin first sets dump old new [] e so_far = subst (λ (t : Taken). Begins first t.table.rows) (values.ok_is (seen_of sets dump old []) old new refl e) so_far
+dumps_begin first sets dump old new (octets ∷ dumps) e so_far =
+    by (of_octets sets dump old octets) refl e (λ further. dumps_begin first sets (dump + 1) further new dumps)
+  where
+    by : (one : Result Taken DumpsEnd) → of_octets sets dump old octets ≡ one → (one >>= λ further. seen_of sets (dump + 1) further dumps) ≡ Ok new →
+        ((further : Taken) → seen_of sets (dump + 1) further dumps ≡ Ok new → Begins first further.table.rows → Begins first new.table.rows) → Begins first new.table.rows
+    by (Err end) is e rest = absurd cc
+    by (Ok further) is e rest = rest further e (octets_begin first sets dump old further octets is so_far)
 
 rows_paths : (lines : List PathLine) → row_paths (map row_of lines) ≡ map (λ (p : PathLine). p.path) lines
 rows_paths [] = refl
 rows_paths (line ∷ lines) = ap (λ (ps : List (List ℕ)). line.path ∷ ps) (rows_paths lines)
 
 pub added_stays_law : ForcedStaysLaw → AddedStaysLaw
-added_stays_law stays names more files earlier later accepts accepts' before after sets givens =
+added_stays_law stays dumps more earlier later accepts accepts' before after sets givens =
     let (gave, gives, rows, counts) = before in
     let (got, gets, rows', counts') = after in
-    let on = behind earlier.sets 1 (nothing max_paths) gave names more files gives in
-    let gets_too : seen_from earlier.sets 1 (nothing max_paths) (names ++ more) files ≡ Ok got =
-    subst (λ (s : Sets). seen_from s 1 (nothing max_paths) (names ++ more) files ≡ Ok got) sets gets in
+    let on = behind earlier.sets 1 (nothing max_paths) gave dumps more gives in
+    let gets_too : seen_of earlier.sets 1 (nothing max_paths) (dumps ++ more) ≡ Ok got =
+    subst (λ (s : Sets). seen_of s 1 (nothing max_paths) (dumps ++ more) ≡ Ok got) sets gets in
     let start : Begins (its_paths earlier) gave.table.rows = ([], ap row_paths rows ∙ rows_paths earlier.paths ∙ sym (append-nil (its_paths earlier))) in
-    let begun = files_begin (its_paths earlier) earlier.sets on.0 gave got more files (sym on.1 ∙ gets_too) start in
+    let begun = dumps_begin (its_paths earlier) earlier.sets on.0 gave got more (sym on.1 ∙ gets_too) start in
     let paths : its_paths later ≡ its_paths earlier ++ begun.0 = sym (rows_paths later.paths) ∙ ap row_paths (sym rows') ∙ begun.1 in
     let many : length (its_paths earlier) ≡ length earlier.paths = length-map earlier.paths (λ (p : PathLine). p.path) in
     stays earlier later accepts accepts' (record {
@@ -93,6 +101,30 @@ added_stays_law stays names more files earlier later accepts accepts' before aft
           take_all (length earlier.paths) (its_paths earlier) (omega (arith, many));
       givens = givens;
     })
+
+-- ---- octets of dumps
+
+octets_of : (sets : Sets) (dump : ℕ) (old new : Taken) (names : List (List ℕ)) (files : Files) → seen_from sets dump old names files ≡ Ok new →
+    (dumps : List (List ℕ)) × (map files names ≡ map Some dumps) × (seen_of sets dump old dumps ≡ Ok new)
+octets_of sets dump old new [] files e = ([], refl, e)
+octets_of sets dump old new (name ∷ names) files e =
+    by (files name) (of_file sets dump old (files name)) refl refl e (λ further. octets_of sets (dump + 1) further new names files)
+  where
+    by : (found : Option (List ℕ)) (one : Result Taken DumpsEnd) → files name ≡ found → of_file sets dump old (files name) ≡ one →
+        (one >>= λ further. seen_from sets (dump + 1) further names files) ≡ Ok new →
+        ((further : Taken) → seen_from sets (dump + 1) further names files ≡ Ok new → (dumps : List (List ℕ)) × (map files names ≡ map Some dumps) ×
+        (seen_of sets (dump + 1) further dumps ≡ Ok new)) → (dumps : List (List ℕ)) × (files name ∷ map files names ≡ map Some dumps) × (seen_of sets dump old dumps ≡ Ok new)
+    by found (Err end) there is e rest = absurd cc
+    by None (Ok further) there is e rest = let gone : of_file sets dump old None ≡ Ok further = subst (λ o. of_file sets dump old o ≡ Ok further) there is in absurd cc
+    by (Some octets) (Ok further) there is e rest =
+        let one : of_octets sets dump old octets ≡ Ok further = subst (λ o. of_file sets dump old o ≡ Ok further) there is in
+        let more = rest further e in
+        (octets ∷ more.0, ap₂ (λ (o : Option (List ℕ)) os. o ∷ os) there more.1, ap (λ (r : Result Taken DumpsEnd). r >>= λ further. seen_of sets (dump + 1) further more.0) one ∙ more.2)
+
+pub octets_law : OctetsLaw
+octets_law file names files (taken, gives, rows, counts) =
+    let r = octets_of file.sets 1 (nothing max_paths) taken names files gives in
+    (r.0, r.1, (taken, r.2, rows, counts))
 
 -- ---- some result
 

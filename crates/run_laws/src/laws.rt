@@ -5,7 +5,7 @@ ghost use Rattle.tor_output.specs.Grading.{GradingLaw, ResultEndsLaw};
 ghost use Rattle.tor_output.specs.Seen.{OneOutcomeLaw};
 ghost use Rattle.tor_output.specs.SeenLaw.{DumpsLaw, SeenLaw, DumpsReadableLaw, ReadableLaw};
 ghost use Rattle.run_laws.specs.Agreement.{AgreementLaw, MigrateLaw, OneSummaryLaw};
-ghost use Rattle.run_laws.specs.Growing.{ResumedStaysLaw, AddedStaysLaw, SomeFaithfulLaw};
+ghost use Rattle.run_laws.specs.Growing.{ResumedStaysLaw, OctetsLaw, AddedStaysLaw, SomeFaithfulLaw};
 ghost use Rattle.run_laws.specs.ResumeLaws.{OfDumpsLaw, ResumeLaw, InPartsLaw, ResumedAcceptanceLaw};
 ghost use Rattle.run_laws.specs.SelfGrading.{SelfGradingLaw};
 
@@ -105,9 +105,11 @@ pub fn resume_law()
 }
 
 /// What a result has decided stays so, whatever dumps are added: its kept paths stay kept, its lost ones lost, and its forced edges forced,
-/// with their labels. So it is where a run takes it up, and of each result of its dumps and then of others, with its sets and its givens.
+/// with their labels. So it is where a run takes it up, and of each result of its dumps and then of others, with its sets and its givens. Of
+/// the dumps only their octets count.
 pub fn growing_law()
     ensures resumed { ResumedStaysLaw }
+    ensures octets { OctetsLaw }
     ensures added { AddedStaysLaw }
 {
     bounds_law();
