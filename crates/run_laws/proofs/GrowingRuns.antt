@@ -81,7 +81,7 @@ dumps_begin first sets dump old new (octets ∷ dumps) e so_far =
     by (Err end) is e rest = absurd cc
     by (Ok further) is e rest = rest further e (octets_begin first sets dump old further octets is so_far)
 
-rows_paths : (lines : List PathLine) → row_paths (map row_of lines) ≡ map (λ (p : PathLine). p.path) lines
+pub rows_paths : (lines : List PathLine) → row_paths (map row_of lines) ≡ map (λ (p : PathLine). p.path) lines
 rows_paths [] = refl
 rows_paths (line ∷ lines) = ap (λ (ps : List (List ℕ)). line.path ∷ ps) (rows_paths lines)
 
