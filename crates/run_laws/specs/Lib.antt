@@ -1,3 +1,5 @@
 pub mod Agreement
+pub mod AnyOrder
+pub mod Growing
 pub mod ResumeLaws
 pub mod SelfGrading

@@ -5,10 +5,14 @@ ghost use Rattle.tor_output.specs.Grading.{GradingLaw, ResultEndsLaw};
 ghost use Rattle.tor_output.specs.Seen.{OneOutcomeLaw};
 ghost use Rattle.tor_output.specs.SeenLaw.{DumpsLaw, SeenLaw, DumpsReadableLaw, ReadableLaw};
 ghost use Rattle.run_laws.specs.Agreement.{AgreementLaw, MigrateLaw, OneSummaryLaw};
+ghost use Rattle.run_laws.specs.AnyOrder.{AnyDumpOrderLaw};
+ghost use Rattle.run_laws.specs.Growing.{ResumedStaysLaw, OctetsLaw, AddedStaysLaw, SomeFaithfulLaw};
 ghost use Rattle.run_laws.specs.ResumeLaws.{OfDumpsLaw, ResumeLaw, InPartsLaw, ResumedAcceptanceLaw};
 ghost use Rattle.run_laws.specs.SelfGrading.{SelfGradingLaw};
 
+use dump_read::dump_law;
 use rel_infer::self_acceptance_law;
+use result_laws::{any_order_law, forced_stays_law, some_result_law};
 use result_text::one_value;
 use tor_words::bounds_law;
 
@@ -100,4 +104,34 @@ pub fn resume_law()
     one_value();
     bounds_law();
     self_acceptance_law();
+}
+
+/// What a result has decided stays so, whatever dumps are added: its kept paths stay kept, its lost ones lost, and its forced edges forced,
+/// with their labels. So it is where a run takes it up, and of each result of its dumps and then of others, with its sets and its givens.
+/// Of the dumps only their octets count.
+pub fn growing_law()
+    ensures resumed { ResumedStaysLaw }
+    ensures octets { OctetsLaw }
+    ensures added { AddedStaysLaw }
+{
+    bounds_law();
+    self_acceptance_law();
+    forced_stays_law();
+}
+
+/// There is always a result: some is faithful to what is known and to what dumps or a sample gave.
+pub fn some_faithful_law()
+    ensures { SomeFaithfulLaw }
+{
+    faithful_law();
+    some_result_law();
+}
+
+/// Where no path of a result of dumps is lost, their order doesn't matter: none is lost of the same dumps in another order, with the same
+/// sets and givens, and the edges have the same marks, and the forced ones the same labels.
+pub fn any_dump_order_law()
+    ensures { AnyDumpOrderLaw }
+{
+    dump_law();
+    any_order_law();
 }

@@ -69,7 +69,7 @@ use Rattle.tor_output.proofs.Sampled.{by_source}
 -- ---- the first rows stay those that were there
 
 -- the first paths of the rows are these
-abbrev Begins : List (List ℕ) → List Counted → Type 0
+abbrev pub Begins : List (List ℕ) → List Counted → Type 0
 Begins first rows = (more : List (List ℕ)) × (row_paths rows ≡ first ++ more)
 
 one_begins : (rows : List Counted) (path : List ℕ) → Begins (row_paths rows) (with_path rows path)
@@ -102,7 +102,7 @@ module _ (first : List (List ℕ)) where
       by (Ok further) is e rest = rest further e (cleaned_begins old further (clean_of sets route.width route.attrs) is so_far)
       by (Err kind) is e rest = absurd cc
 
-  octets_begin : (sets : Sets) (dump : ℕ) (old new : Taken) (octets : List ℕ) → of_octets sets dump old octets ≡ Ok new → Begins first old.table.rows → Begins first new.table.rows
+  pub octets_begin : (sets : Sets) (dump : ℕ) (old new : Taken) (octets : List ℕ) → of_octets sets dump old octets ≡ Ok new → Begins first old.table.rows → Begins first new.table.rows
   octets_begin sets dump old new octets e so_far = by (take_routes sets old (file_reading octets).routes) refl (file_reading octets).end e
     where
       same_end : (x y : Taken) → ◌≡◌ {A = Result Taken DumpsEnd} (Ok x) (Ok y) → x ≡ y

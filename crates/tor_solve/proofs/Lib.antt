@@ -1,6 +1,6 @@
-mod Arcs
+pub mod Arcs
 mod Classing
 mod ComponentVectors
 mod Marking
 mod Orders
-mod Refutation
+pub mod Refutation

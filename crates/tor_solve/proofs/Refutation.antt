@@ -118,12 +118,12 @@ numbered (p ∷ A) path (suc k, lt, e) = later (numbered A path (k, omega (arith
     later (n, (k, lt, e)) = (n, (suc k, omega (arith, lt), e))
 
 -- the walk goes on to "y over z", and keeps the neighbours that it has
-record Onward (A : Numbered) (w : Walk) (a b y z : ℕ) : Type 0 where
-  further : Walk
-  leads : Leads A further a b y z
-  kept : (u v : ℕ) → HasPair w.ases u v → HasPair further.ases u v
+pub record Onward (A : Numbered) (w : Walk) (a b y z : ℕ) : Type 0 where
+  pub further : Walk
+  pub leads : Leads A further a b y z
+  pub kept : (u v : ℕ) → HasPair w.ases u v → HasPair further.ases u v
 
-go_on : (A : Numbered) (w : Walk) (a b c d : ℕ) → Leads A w a b c d → {y z : ℕ} → Closure (paths_of A) c d y z → Onward A w a b y z
+pub go_on : (A : Numbered) (w : Walk) (a b c d : ℕ) → Leads A w a b c d → {y z : ℕ} → Closure (paths_of A) c d y z → Onward A w a b y z
 go_on A w a b c d h start = record { further = w; leads = h; kept = λ u v p. p }
 go_on A w a b c d h (imply {x = x} {y = y} {z = z} k t) = one_more (go_on A w a b c d h k)
   where

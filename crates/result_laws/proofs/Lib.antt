@@ -1,0 +1,11 @@
+pub mod AcceptedLemmas
+pub mod EvidenceLemmas
+pub mod GrowingLemmas
+pub mod KeptLemmas
+pub mod OrderLemmas
+pub mod PeeringLemmas
+pub mod PossibleLemmas
+pub mod PreferredLemmas
+pub mod SelectedLemmas
+pub mod SettlingLemmas
+pub mod SomeResults

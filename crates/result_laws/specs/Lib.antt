@@ -1,0 +1,4 @@
+pub mod Existing
+pub mod Growing
+pub mod Orders
+pub mod Possible

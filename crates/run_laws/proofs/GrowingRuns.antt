@@ -1,0 +1,134 @@
+-- What a result has decided stays so, whatever dumps are added; and some result is faithful to what dumps gave.
+use Rattle.std.proofs.Common.{◌≡◌, ℕ, ◌+◌, List, [], ◌∷◌, ◌++◌, length, map, take, Option, Some, None, Result, Ok, Err, refl, sym, ap, ap₂, subst, ◌∙◌, arith, append-nil}
+use Rattle.std.proofs.lemmas.List.{length-map, take-append-le, take-map, take_all}
+use Rattle.path_attrs.specs.Fields.{◌>>=◌}
+use Rattle.path_clean.specs.declared.cleaned.Sets.{Sets}
+use Rattle.path_table.specs.Rows.{row_paths}
+use Rattle.tor_arena.specs.Limits.{max_paths}
+use Rattle.tor_io.specs.Contents.{Files}
+use Rattle.relationships.specs.declared.fate.Fate.{Fate}
+use Rattle.relationships.specs.declared.given.Given.{Given}
+use Rattle.relationships.specs.Givens.{NameTwo, NameOnce}
+use Rattle.dump_read.specs.declared.taking.Taken.{Taken}
+use Rattle.dump_read.specs.Seen.{DumpsEnd, of_file, of_octets}
+use Rattle.result_text.specs.declared.file.PathLine.{PathLine}
+use Rattle.result_text.specs.declared.file.ResultFile.{ResultFile}
+use Rattle.result_rules.specs.declared.rule.Rule.TheVariants.{HeadSound}
+use Rattle.result_rules.specs.File.{its_paths}
+use Rattle.result_rules.specs.Against.{row_of}
+use Rattle.result_rules.proofs.GivenLines.{name_two, name_once}
+use Rattle.rel_infer.specs.Resumed.{Continues, decided}
+use Rattle.rel_infer.specs.SelfAcceptance.{SelfAcceptanceLaw}
+use Rattle.rel_infer.proofs.Acceptance.{same_givens}
+use Rattle.result_laws.specs.Existing.{SomeResultLaw}
+use Rattle.result_laws.specs.Growing.{ForcedStaysLaw}
+use Rattle.run_base.specs.Reading.{nothing, seen_from, seen_of}
+use Rattle.run_base.proofs.Values as values
+use Rattle.tor_words.specs.Given.{BoundsLaw}
+use Rattle.tor_output.specs.Accepting.{TableLaw}
+use Rattle.tor_output.specs.First.{first_in}
+use Rattle.tor_output.proofs.Resumings.{Begins, octets_begin}
+use Rattle.run_laws.specs.Growing.{ResumedStaysLaw, OctetsLaw, AddedStaysLaw, SomeFaithfulLaw}
+use Rattle.run_laws.proofs.JoinedRows.{joined_rows}
+use Rattle.run_laws.proofs.ResumeLemmas.{is_accepted}
+
+-- ---- on top of a result
+
+decided_paths : (lines : List PathLine) → map (λ (d : List ℕ × Fate). d.0) (map decided lines) ≡ map (λ (p : PathLine). p.path) lines
+decided_paths [] = refl
+decided_paths (line ∷ lines) = ap (λ (ps : List (List ℕ)). line.path ∷ ps) (decided_paths lines)
+
+continues_paths : (earlier file : ResultFile) → Continues earlier file → take (length earlier.paths) (its_paths file) ≡ its_paths earlier
+continues_paths earlier file on =
+    ap (take (length earlier.paths)) (sym (decided_paths file.paths)) ∙
+    take-map (λ (d : List ℕ × Fate). d.0) (length earlier.paths) (map decided file.paths) ∙ ap (map (λ (d : List ℕ × Fate). d.0)) on ∙ decided_paths earlier.paths
+
+pub resumed_stays_law : BoundsLaw → SelfAcceptanceLaw → ForcedStaysLaw → ResumedStaysLaw
+resumed_stays_law bounds accept stays words settings files earlier taken file given comes resumed =
+    let within = bounds words settings given in
+    let rules = (is_accepted (first_in settings) files earlier comes.0).1.rules in
+    let rows = joined_rows earlier settings.max_paths settings.dumps files taken within.most rules comes.1 in
+    let own = sym (same_givens earlier earlier.givens refl) in
+    let vouched = accept earlier.givens earlier.sets settings.ratio taken.table.rows taken.counts file within.ratio rows
+    (subst (λ (gs : List Given). NameTwo gs) own (name_two earlier (rules HeadSound))) (subst (λ (gs : List Given). NameOnce gs) own (name_once earlier (rules HeadSound))) resumed.0 in
+    stays earlier file rules vouched.accepted (record {
+      paths = continues_paths earlier file resumed.1;
+      givens = sym (same_givens file earlier.givens resumed.0.its_givens) ∙ same_givens earlier earlier.givens refl;
+    })
+
+-- ---- of dumps behind others
+
+-- some number of the first of them, from which on they give the same as all from this one on
+behind : (sets : Sets) (dump : ℕ) (old mid : Taken) (dumps more : List (List ℕ)) → seen_of sets dump old dumps ≡ Ok mid →
+    (later : ℕ) × (seen_of sets dump old (dumps ++ more) ≡ seen_of sets later mid more)
+behind sets dump old mid [] more e = (dump, ap (λ (t : Taken). seen_of sets dump t more) (values.ok_is (seen_of sets dump old []) old mid refl e))
+behind sets dump old mid (octets ∷ dumps) more e = by (of_octets sets dump old octets) e (λ further. behind sets (dump + 1) further mid dumps more)
+  where
+    by : (one : Result Taken DumpsEnd) → (one >>= λ further. seen_of sets (dump + 1) further dumps) ≡ Ok mid →
+        ((further : Taken) → seen_of sets (dump + 1) further dumps ≡ Ok mid → (later : ℕ) × (seen_of sets (dump + 1) further (dumps ++ more) ≡ seen_of sets later mid more)) →
+        (later : ℕ) × ((one >>= λ further. seen_of sets (dump + 1) further (dumps ++ more)) ≡ seen_of sets later mid more)
+    by (Err end) e rest = absurd cc
+    by (Ok further) e rest = rest further e
+
+dumps_begin : (first : List (List ℕ)) (sets : Sets) (dump : ℕ) (old new : Taken) (dumps : List (List ℕ)) → seen_of sets dump old dumps ≡ Ok new → Begins first old.table.rows →
+    Begins first new.table.rows
+dumps_begin first sets dump old new [] e so_far = subst (λ (t : Taken). Begins first t.table.rows) (values.ok_is (seen_of sets dump old []) old new refl e) so_far
+dumps_begin first sets dump old new (octets ∷ dumps) e so_far =
+    by (of_octets sets dump old octets) refl e (λ further. dumps_begin first sets (dump + 1) further new dumps)
+  where
+    by : (one : Result Taken DumpsEnd) → of_octets sets dump old octets ≡ one → (one >>= λ further. seen_of sets (dump + 1) further dumps) ≡ Ok new →
+        ((further : Taken) → seen_of sets (dump + 1) further dumps ≡ Ok new → Begins first further.table.rows → Begins first new.table.rows) → Begins first new.table.rows
+    by (Err end) is e rest = absurd cc
+    by (Ok further) is e rest = rest further e (octets_begin first sets dump old further octets is so_far)
+
+pub rows_paths : (lines : List PathLine) → row_paths (map row_of lines) ≡ map (λ (p : PathLine). p.path) lines
+rows_paths [] = refl
+rows_paths (line ∷ lines) = ap (λ (ps : List (List ℕ)). line.path ∷ ps) (rows_paths lines)
+
+pub added_stays_law : ForcedStaysLaw → AddedStaysLaw
+added_stays_law stays dumps more earlier later accepts accepts' before after sets givens =
+    let (gave, gives, rows, counts) = before in
+    let (got, gets, rows', counts') = after in
+    let on = behind earlier.sets 1 (nothing max_paths) gave dumps more gives in
+    let gets_too : seen_of earlier.sets 1 (nothing max_paths) (dumps ++ more) ≡ Ok got =
+    subst (λ (s : Sets). seen_of s 1 (nothing max_paths) (dumps ++ more) ≡ Ok got) sets gets in
+    let start : Begins (its_paths earlier) gave.table.rows = ([], ap row_paths rows ∙ rows_paths earlier.paths ∙ sym (append-nil (its_paths earlier))) in
+    let begun = dumps_begin (its_paths earlier) earlier.sets on.0 gave got more (sym on.1 ∙ gets_too) start in
+    let paths : its_paths later ≡ its_paths earlier ++ begun.0 = sym (rows_paths later.paths) ∙ ap row_paths (sym rows') ∙ begun.1 in
+    let many : length (its_paths earlier) ≡ length earlier.paths = length-map earlier.paths (λ (p : PathLine). p.path) in
+    stays earlier later accepts accepts' (record {
+      paths = ap (take (length earlier.paths)) paths ∙ take-append-le (length earlier.paths) (its_paths earlier) begun.0 (omega (arith, many)) ∙
+          take_all (length earlier.paths) (its_paths earlier) (omega (arith, many));
+      givens = givens;
+    })
+
+-- ---- octets of dumps
+
+octets_of : (sets : Sets) (dump : ℕ) (old new : Taken) (names : List (List ℕ)) (files : Files) → seen_from sets dump old names files ≡ Ok new →
+    (dumps : List (List ℕ)) × (map files names ≡ map Some dumps) × (seen_of sets dump old dumps ≡ Ok new)
+octets_of sets dump old new [] files e = ([], refl, e)
+octets_of sets dump old new (name ∷ names) files e =
+    by (files name) (of_file sets dump old (files name)) refl refl e (λ further. octets_of sets (dump + 1) further new names files)
+  where
+    by : (found : Option (List ℕ)) (one : Result Taken DumpsEnd) → files name ≡ found → of_file sets dump old (files name) ≡ one →
+        (one >>= λ further. seen_from sets (dump + 1) further names files) ≡ Ok new →
+        ((further : Taken) → seen_from sets (dump + 1) further names files ≡ Ok new → (dumps : List (List ℕ)) × (map files names ≡ map Some dumps) ×
+        (seen_of sets (dump + 1) further dumps ≡ Ok new)) → (dumps : List (List ℕ)) × (files name ∷ map files names ≡ map Some dumps) × (seen_of sets dump old dumps ≡ Ok new)
+    by found (Err end) there is e rest = absurd cc
+    by None (Ok further) there is e rest = let gone : of_file sets dump old None ≡ Ok further = subst (λ o. of_file sets dump old o ≡ Ok further) there is in absurd cc
+    by (Some octets) (Ok further) there is e rest =
+        let one : of_octets sets dump old octets ≡ Ok further = subst (λ o. of_file sets dump old o ≡ Ok further) there is in
+        let more = rest further e in
+        (octets ∷ more.0, ap₂ (λ (o : Option (List ℕ)) os. o ∷ os) there more.1, ap (λ (r : Result Taken DumpsEnd). r >>= λ further. seen_of sets (dump + 1) further more.0) one ∙ more.2)
+
+pub octets_law : OctetsLaw
+octets_law file names files (taken, gives, rows, counts) =
+    let r = octets_of file.sets 1 (nothing max_paths) taken names files gives in
+    (r.0, r.1, (taken, r.2, rows, counts))
+
+-- ---- some result
+
+pub some_faithful_law : TableLaw → SomeResultLaw → SomeFaithfulLaw
+some_faithful_law table some words settings files known taken given comes =
+    let (rows, sound) = table words settings files known taken given comes in
+    some known settings.sets settings.ratio taken.table.rows taken.counts rows sound.0 sound.1
