@@ -5,6 +5,7 @@
 mod drawing;
 mod generation;
 mod group;
+mod laws;
 mod neighbours;
 mod page;
 mod printing;
@@ -13,5 +14,6 @@ mod tower;
 
 pub use drawing::{Drawing, Entry, Item, Link, Post, draw};
 pub use group::{Counts, Group, Neighbour, Tally};
+pub use laws::picture_law;
 pub use page::{Line, Rect, Spot};
 pub use printing::print;
