@@ -1,12 +1,16 @@
+pub mod AnswerLemmas
 pub mod Chains
 pub mod Decided
 pub mod DownLemmas
 pub mod EitherLemmas
 pub mod LabelLemmas
+pub mod OneProof
 pub mod PathLemmas
 pub mod ProvingLemmas
 pub mod ReachLemmas
+pub mod SimpleWalks
 pub mod SlopeLemmas
 pub mod TextLemmas
 pub mod Vectors
 pub mod WalkTextLemmas
+pub mod WayLemmas
