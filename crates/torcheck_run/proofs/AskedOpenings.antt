@@ -15,7 +15,7 @@ use Rattle.torcheck_run.specs.declared.unsaid.Unsaid.TheVariants as unsaid
 use Rattle.torcheck_run.specs.CheckAnswer.{no_text}
 use Rattle.torcheck_run.specs.Asking.{Asking}
 use Rattle.torcheck_run.specs.AskedOpening.{UnsaidEnds, files_asked}
-use Rattle.torcheck_run.specs.Unsaying.{AnswersUnsaid}
+use Rattle.torcheck_run.specs.Unsaying.{AnswersUnsaid, IsOfAskingWords}
 
 module _ {S : Type 0} (ask : Asking S) (words before after : List (List ℕ)) where
   abbrev one_of : S → Named
@@ -31,10 +31,16 @@ module _ {S : Type 0} (ask : Asking S) (words before after : List (List ℕ)) wh
       by_given settings (λ end. end ≡ AllRead) given (AllRead, refl, (first_opened before after [] (ask.result settings) name same is).1)
 
   -- it was opened, and there is none
-  pub unsaid_opens : (settings : S) (u : Unsaid) (name : List ℕ) → ask.given words ≡ Some settings → name ≡ ask.result settings → after ≡ before ++ name ∷ [] → UnsaidEnds u (EndedAt 0)
+  pub unsaid_opens : (settings : S) (u : Unsaid) (name : List ℕ) → ask.given words ≡ Some settings → name ≡ ask.result settings → after ≡ before ++ name ∷ [] → (IsOfAskingWords u → ⊥)
       → OpensInOrder (files_asked ask words) (UnsaidEnds u) before after
-  unsaid_opens settings u name given same is ends =
-      by_given settings (UnsaidEnds u) given (EndedAt 0, ends, first_opened before after [] (ask.result settings) name same is)
+  unsaid_opens settings u name given same is not_words =
+      by_given settings (UnsaidEnds u) given (EndedAt 0, at_result u not_words, first_opened before after [] (ask.result settings) name same is)
+    where
+      at_result : (u : Unsaid) → (IsOfAskingWords u → ⊥) → UnsaidEnds u (EndedAt 0)
+      at_result (unsaid.Words w) not = absurd (not tt)
+      at_result (unsaid.Result why) not = refl
+      at_result (unsaid.Broken line rule) not = refl
+      at_result (unsaid.Absent note) not = refl
 
   -- the words are no command
   pub words_open : (w : WordsRefused) → OpensInOrder (files_asked ask words) (UnsaidEnds (unsaid.Words w)) before before
