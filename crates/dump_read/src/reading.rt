@@ -89,6 +89,7 @@ fn take_records<H: Shelf>(
 
     ensures same_reference { reference_of frames.new ≡ reference_of frames.old }
     ensures files { H.files (shelf_of frames.new) ≡ H.files (shelf_of frames.old) }
+    ensures opens { H.opens (shelf_of frames.new) ≡ H.opens (shelf_of frames.old) }
     ensures later { H.faults (shelf_of frames.old) ≤ H.faults (shelf_of frames.new) }
     ensures failed { IsErrOf result DumpError.ReadFault → Rose (H.faults (shelf_of frames.old)) (H.faults (shelf_of frames.new)) }
     ensures quiet { result ≢ Err DumpError.ReadFault → H.faults (shelf_of frames.new) ≡ H.faults (shelf_of frames.old) }
@@ -132,6 +133,7 @@ fn take_file<H: Shelf>(
     ensures shown { IsErrOf result (DumpError.Limit LimitKind.Bytes) → LeavesBehindHeader start (H.left shelf.old) (H.left shelf.new) }
 
     ensures files { H.files shelf.new ≡ H.files shelf.old }
+    ensures opens { H.opens shelf.new ≡ H.opens shelf.old }
     ensures later { H.faults shelf.old ≤ H.faults shelf.new }
     ensures failed { IsErrOf result DumpError.ReadFault → Rose (H.faults shelf.old) (H.faults shelf.new) }
     ensures quiet { result ≢ Err DumpError.ReadFault → H.faults shelf.new ≡ H.faults shelf.old }
@@ -164,6 +166,7 @@ fn read_records<H: Shelf>(
     ensures shown { IsErrOf result (DumpError.Limit LimitKind.Bytes) → LeavesBehindHeader start (H.left shelf.old) (H.left shelf.new) }
 
     ensures files { H.files shelf.new ≡ H.files shelf.old }
+    ensures opens { H.opens shelf.new ≡ H.opens shelf.old }
     ensures later { H.faults shelf.old ≤ H.faults shelf.new }
     ensures failed { IsErrOf result DumpError.ReadFault → Rose (H.faults shelf.old) (H.faults shelf.new) }
     ensures quiet { result ≢ Err DumpError.ReadFault → H.faults shelf.new ≡ H.faults shelf.old }
@@ -209,6 +212,7 @@ pub fn read_dump<H: Shelf>(
     ensures bounded_stop { IfErr result (λ e. StopsBounded e name.now (H.files shelf.old) (H.left shelf.new)) }
     ensures shown { IsErrOf result (DumpError.Limit LimitKind.Bytes) → LeavesRestOfDump name.now (H.files shelf.old) (H.left shelf.new) }
     ensures files { H.files shelf.new ≡ H.files shelf.old }
+    ensures opens { H.opens shelf.new ≡ H.opens shelf.old ++ name.now ∷ [] }
     ensures later { H.faults shelf.old ≤ H.faults shelf.new }
     ensures failed { IsErrOf result DumpError.ReadFault → Rose (H.faults shelf.old) (H.faults shelf.new) }
     ensures quiet { result ≢ Err DumpError.ReadFault → H.faults shelf.new ≡ H.faults shelf.old }

@@ -1,5 +1,5 @@
 //! The reading of dumps, one after the other.
-ghost use Rattle.std.specs.Prelude.{◌≡◌, ◌≢◌, ◌≤◌, ◌-◌, ◌<◌, Ok, Err, OnOk, IfErr, IfSome, IsOk, length, take};
+ghost use Rattle.std.specs.Prelude.{◌≡◌, ◌≢◌, ◌≤◌, ◌-◌, ◌<◌, ◌++◌, Ok, Err, OnOk, IfErr, IfSome, IsOk, length, take};
 ghost use Rattle.std.specs.Io.KnownBytes.{IsAtEnd};
 ghost use Rattle.tor_io.specs.Counts.{Rose};
 ghost use Rattle.dump_read.specs.Seen.{Absent, end_named};
@@ -63,6 +63,8 @@ pub fn read_dumps<H: Shelf>(
         LeavesRestOfDump (name_of_dump dumps.now e.dump) (H.files shelf.old) (H.left shelf.new)) }
 
     ensures files { H.files shelf.new ≡ H.files shelf.old }
+    ensures opens { OnOk result (H.opens shelf.new ≡ H.opens shelf.old ++ dumps.now) }
+    ensures opens_stop { IfErr result (λ e. H.opens shelf.new ≡ H.opens shelf.old ++ take e.dump dumps.now) }
     ensures later { H.faults shelf.old ≤ H.faults shelf.new }
     ensures failed { IfErr result (λ e. e.error ≡ DumpError.ReadFault → Rose (H.faults shelf.old) (H.faults shelf.new)) }
     ensures quiet { OnOk result (H.faults shelf.new ≡ H.faults shelf.old) }

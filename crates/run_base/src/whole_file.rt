@@ -1,5 +1,5 @@
 //! The reading of a file that is read whole.
-ghost use Rattle.std.specs.Prelude.{◌≡◌, ◌≢◌, ◌<◌, ◌≤◌, ◌^◌, ◌+◌, Err, Some, IfOk, OnOk, OnErr, IfSome, IsOk, IsErrOf, length, take, drop};
+ghost use Rattle.std.specs.Prelude.{◌≡◌, ◌≢◌, ◌<◌, ◌≤◌, ◌^◌, ◌+◌, ◌++◌, ◌∷◌, [], Err, Some, IfOk, OnOk, OnErr, IfSome, IsOk, IsErrOf, length, take, drop};
 ghost use Rattle.std.specs.Io.KnownBytes.{IsAtEnd, prepend_known};
 ghost use Rattle.tor_io.specs.Counts.{Rose, HasCause};
 ghost use Rattle.tor_io.specs.Contents.{LacksFile};
@@ -59,6 +59,7 @@ pub fn read_prefix<H: Shelf>(shelf: &mut H, buffer: &mut [u8], most: usize) -> R
     ensures unread { OnErr result (H.left shelf.new ≡ H.left shelf.old) }
 
     ensures files { H.files shelf.new ≡ H.files shelf.old }
+    ensures opens { H.opens shelf.new ≡ H.opens shelf.old }
     ensures cause { HasCause (H.faults shelf.old) (H.faults shelf.new) result }
     ensures steady { H.steady shelf.old → H.steady shelf.new }
     ensures steady_reads { H.steady shelf.old → IsOk result }
@@ -78,6 +79,7 @@ fn read_open<H: Shelf>(alloc: Global, shelf: &mut H, most: usize) -> Result<List
     ensures unread { IfSome (H.left shelf.old) (IsRestOf most (H.left shelf.new)) }
 
     ensures files { H.files shelf.new ≡ H.files shelf.old }
+    ensures opens { H.opens shelf.new ≡ H.opens shelf.old }
     ensures later { H.faults shelf.old ≤ H.faults shelf.new }
     ensures failed { IsErrOf result Unread.Failed → Rose (H.faults shelf.old) (H.faults shelf.new) }
     ensures quiet { result ≢ Err Unread.Failed → H.faults shelf.new ≡ H.faults shelf.old }
@@ -115,6 +117,7 @@ pub fn read_whole<H: Shelf>(
     ensures unread { LeavesOnly most name.now (H.files shelf.old) (H.left shelf.new) }
 
     ensures files { H.files shelf.new ≡ H.files shelf.old }
+    ensures opens { H.opens shelf.new ≡ H.opens shelf.old ++ name.now ∷ [] }
     ensures later { H.faults shelf.old ≤ H.faults shelf.new }
     ensures failed { IsErrOf result Unread.Failed → Rose (H.faults shelf.old) (H.faults shelf.new) }
     ensures quiet { result ≢ Err Unread.Failed → H.faults shelf.new ≡ H.faults shelf.old }

@@ -1,5 +1,5 @@
 -- What a shelf and a sink in memory are after a call.
-use Rattle.std.proofs.Common.{◌≡◌, ℕ, zero, suc, ◌<◌, ◌==◌, Bool, false, true≢false, List, [], drop, Result, Some, None, Ok, Err, is_err, IsOk, IsErr, refl, sym, ap, ◌∙◌, subst, arith}
+use Rattle.std.proofs.Common.{◌≡◌, ℕ, zero, suc, ◌<◌, ◌==◌, Bool, false, true≢false, List, [], ◌∷◌, ◌++◌, drop, Result, Some, None, Ok, Err, is_err, IsOk, IsErr, refl, sym, ap, ◌∙◌, subst, arith}
 use Rattle.std.specs.Prelude.{OnOk, OnErr}
 use Rattle.std.proofs.lemmas.List.{nil_from_length}
 use Rattle.tor_io.specs.declared.shelf.OpenRefused.{OpenRefused}
@@ -20,23 +20,32 @@ moved seen old plan n same is =
     ap (λ (p : Plan). record seen { unread = drop n seen.unread; plan = p }) is
     ∙ ap (λ (s : ShelfState). record s { unread = drop n s.unread; plan = after_call s.plan }) same
 
+-- one name more was asked for
+pub named : (names before : List (List ℕ)) (octets name : List ℕ) → names ≡ before ++ octets ∷ [] → octets ≡ name → names ≡ before ++ name ∷ []
+named names before octets name is same = is ∙ ap (λ n. before ++ n ∷ []) same
+
 -- a call was counted, and opened a file
-pub opened : (seen old : ShelfState) (plan : Plan) (unread : List ℕ) → seen ≡ old → plan ≡ after_call seen.plan
-    → record seen { unread = unread; plan = plan } ≡ record old { unread = unread; plan = after_call old.plan }
-opened seen old plan unread same is =
-    ap (λ (p : Plan). record seen { unread = unread; plan = p }) is ∙ ap (λ (s : ShelfState). record s { unread = unread; plan = after_call s.plan }) same
+pub opened : (seen old : ShelfState) (plan : Plan) (unread name : List ℕ) (names : List (List ℕ)) → seen ≡ old → plan ≡ after_call seen.plan → names ≡ seen.opens ++ name ∷ []
+    → record seen { unread = unread; plan = plan; opens = names } ≡ record old { unread = unread; plan = after_call old.plan; opens = old.opens ++ name ∷ [] }
+opened seen old plan unread name names same is more =
+    ap (λ (p : Plan). record seen { unread = unread; plan = p; opens = names }) is
+    ∙ ap (λ (o : List (List ℕ)). record seen { unread = unread; plan = after_call seen.plan; opens = o }) more
+    ∙ ap (λ (s : ShelfState). record s { unread = unread; plan = after_call s.plan; opens = s.opens ++ name ∷ [] }) same
 
 -- a call was counted, and failed, and nothing is open
-pub closed : (seen old : ShelfState) (plan : Plan) → seen ≡ old → plan ≡ after_fault (after_call seen.plan)
-    → record seen { unread = []; plan = plan } ≡ record old { unread = []; plan = after_fault (after_call old.plan) }
-closed seen old plan same is =
-    ap (λ (p : Plan). record seen { unread = []; plan = p }) is ∙ ap (λ (s : ShelfState). record s { unread = []; plan = after_fault (after_call s.plan) }) same
+pub closed : (seen old : ShelfState) (plan : Plan) (name : List ℕ) (names : List (List ℕ)) → seen ≡ old → plan ≡ after_fault (after_call seen.plan) → names ≡ seen.opens ++ name ∷ []
+    → record seen { unread = []; plan = plan; opens = names } ≡ record old { unread = []; plan = after_fault (after_call old.plan); opens = old.opens ++ name ∷ [] }
+closed seen old plan name names same is more =
+    ap (λ (p : Plan). record seen { unread = []; plan = p; opens = names }) is
+    ∙ ap (λ (o : List (List ℕ)). record seen { unread = []; plan = after_fault (after_call seen.plan); opens = o }) more
+    ∙ ap (λ (s : ShelfState). record s { unread = []; plan = after_fault (after_call s.plan); opens = s.opens ++ name ∷ [] }) same
 
 -- the same where it failed behind the look for the file
-pub closed_behind : (seen old stood : ShelfState) (called plan : Plan) (unread : List ℕ) → seen ≡ old → stood ≡ record seen { unread = unread; plan = called } → unread ≡ []
-    → plan ≡ after_fault (after_call seen.plan) → record stood { plan = plan } ≡ record old { unread = []; plan = after_fault (after_call old.plan) }
-closed_behind seen old stood called plan unread same is none then =
-    ap (λ (s : ShelfState). record s { plan = plan }) is ∙ ap (λ (u : List ℕ). record seen { unread = u; plan = plan }) none ∙ closed seen old plan same then
+pub closed_behind : (seen old stood : ShelfState) (called plan : Plan) (unread name : List ℕ) (names : List (List ℕ)) → seen ≡ old
+    → stood ≡ record seen { unread = unread; plan = called; opens = names } → unread ≡ [] → plan ≡ after_fault (after_call seen.plan) → names ≡ seen.opens ++ name ∷ []
+    → record stood { plan = plan } ≡ record old { unread = []; plan = after_fault (after_call old.plan); opens = old.opens ++ name ∷ [] }
+closed_behind seen old stood called plan unread name names same is none then more =
+    ap (λ (s : ShelfState). record s { plan = plan }) is ∙ ap (λ (u : List ℕ). record seen { unread = u; plan = plan; opens = names }) none ∙ closed seen old plan name names same then more
 
 -- a sink's call was counted, and failed
 pub unwritten : (seen old : SinkState) (plan : Plan) → seen ≡ old → plan ≡ after_fault (after_call seen.plan)

@@ -5,8 +5,8 @@ use Rattle.relationships.specs.declared.given.Given.{Given}
 use Rattle.tor_io.specs.Contents.{Files}
 use Rattle.rel_infer.specs.SelfAcceptance.{AreTableRows, SelfAcceptanceLaw}
 use Rattle.tor_words.specs.Given.{BoundsLaw}
-use Rattle.tor_output.specs.Accepting.{AreSound, FaithfulLaw, TableLaw}
-use Rattle.tor_output.specs.First.{First, Nothing, Givens, Result, Earlier, AreGivens, first_in}
+use Rattle.tor_output.specs.Accepting.{FaithfulLaw, TableLaw}
+use Rattle.tor_output.specs.First.{AreSound, First, Nothing, Givens, Result, Earlier, AreGivens, first_in}
 use Rattle.tor_output.proofs.Known.{says_sound}
 use Rattle.tor_output.proofs.ReadableLemmas.{readable}
 use Rattle.tor_output.proofs.SeenLemmas.{seen_law}

@@ -6,6 +6,7 @@ pub mod FewGivens
 pub mod GradingLemmas
 pub mod Joining
 pub mod Known
+pub mod Openings
 pub mod Reaching
 pub mod ReadableLemmas
 pub mod Resumings

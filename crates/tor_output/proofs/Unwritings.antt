@@ -31,7 +31,7 @@ use Rattle.tor_output.specs.declared.unwritten.Unwritten.{Unwritten}
 use Rattle.tor_output.specs.declared.unwritten.Unwritten.TheVariants as unwritten
 use Rattle.torcheck_run.specs.CheckAnswer.{no_text}
 use Rattle.tor_output.specs.Answer.{AreGivensGood, JoinsBefore, IsNote}
-use Rattle.tor_output.specs.First.{First, Nothing, Givens, Earlier, NoFile, TooLong, BadLine, Broken, AreGivens, AreSomeGivens, HoldsResult, IsSomeResult, TakesUpSome, EndsAtFirst, first_by, first_in}
+use Rattle.tor_output.specs.First.{First, Nothing, Givens, Earlier, NoFile, TooLong, BadLine, Broken, AreGivens, AreSomeGivens, AreSound, HoldsResult, IsSomeResult, TakesUpSome, EndsAtFirst, first_by, first_in}
 use Rattle.tor_output.specs.First.{Result as ResultAt}
 use Rattle.tor_output.specs.Output.{IsMigrated, IsOutput, IsOutputIn, IsOutputOf, IsOutputOnEarlier, IsOutputOnSome}
 use Rattle.tor_output.specs.Reach.{LeavesOnlyFirst, IsFirstInReach, StopsInReach, IsUnwrittenInReach, StaysUnwrittenInReach}
@@ -42,6 +42,7 @@ use Rattle.tor_output.specs.Refusals.{IsUnwrittenAtFirst, IsUnwrittenIn, IsUnwri
 use Rattle.tor_output.specs.Sampling.{known_by, known_in}
 use Rattle.tor_output.specs.Seen.{Outcome, Reads, Joins, Holds, Stops, Ends, ComesTo, ComesOfSome, IsSeenOfSome, LeadsTo, seen_in, joined}
 use Rattle.tor_output.specs.Written.{Written}
+use Rattle.tor_output.proofs.AcceptingLemmas.{none_sound}
 use Rattle.tor_output.proofs.Sampled.{all_known, known-given}
 
 -- ---- what the settings read first
@@ -97,10 +98,10 @@ module _ (settings : Settings) (givens : Option (List Given)) (output : Written)
       made known (subst (λ (x : First). AreGivensIn x known givens) (sym is) are)
       (subst (λ (o : Option Files). IfSome o Made) same (subst (λ (s : Source). IfSome (known_in s mid) Made) at m))
 
-  pub some_made : (f : First) → first_in settings ≡ f → AreSomeGivens f givens
+  pub some_made : (f : First) → first_in settings ≡ f → AreSomeGivens f givens → AreSound givens
       → ((taken : Taken) × IsSeenOfSome settings.source settings taken × AreTableRows taken.table.rows × IsOutputIn settings.mode settings givens taken output)
       → (outcome : Outcome) × ComesOfSome settings outcome × IsOutput settings outcome output
-  some_made f is some m = (Reads givens m.0, (subst (λ (x : First). AreSomeGivens x givens) (sym is) some, m.1, m.2), m.3)
+  some_made f is some sound m = (Reads givens m.0, (subst (λ (x : First). AreSomeGivens x givens) (sym is) some, m.1, m.2, sound), m.3)
 
 none_known : (f : First) (o : Option Files) → f ≡ Nothing → AreGivensIn f o None
 none_known f o is = subst (λ (x : First). AreGivensIn x o None) (sym is) (by o)
@@ -116,7 +117,7 @@ free_made settings output o is m = made settings None output o (none_known (firs
 pub free_some : (settings : Settings) (output : Written) → first_in settings ≡ Nothing
     → ((taken : Taken) × IsSeenOfSome settings.source settings taken × AreTableRows taken.table.rows × IsOutputIn settings.mode settings None taken output)
     → (outcome : Outcome) × ComesOfSome settings outcome × IsOutput settings outcome output
-free_some settings output is m = some_made settings None output Nothing is tt m
+free_some settings output is m = some_made settings None output Nothing is tt none_sound m
 
 -- ---- what is written of a result
 
@@ -373,7 +374,7 @@ module _ (words : List (List ℕ)) (known : Option Files) (steady : Type 0) (lef
       says_note status.Malformed (bad_line_note file line) answer
       (inl (file, line, (why.0, why.1, why.2.0), refl, leads words known why.0 (Stops (BadLine line)) why.1 why.2.1)) says
   noted (unwritten.Broken line rule) answer why says reach =
-      says_note status.No (no_text line rule) answer (line, rule, refl, leads words known why.0 (Stops (Broken line rule)) why.1 why.2) says
+      says_note status.No (no_text line rule) answer (line, rule, refl, leads words known why.0 (Stops (Broken line rule)) why.1 why.2.1, (why.0, why.1, why.2.0)) says
   noted (unwritten.Refused (refusal.Words (refused.Usage text))) answer why says reach = says_note status.Usage text answer why.1 (inl says)
   noted (unwritten.Refused (refusal.Words refused.NoMemory)) answer why says reach = no_memory answer says
   noted (unwritten.Refused (refusal.Dumps stopped)) answer why says reach = stop_note_behind why.0 stopped.dump stopped.error answer why.1 why.2 says

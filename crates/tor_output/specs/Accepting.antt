@@ -1,13 +1,13 @@
 -- What a result has beside the definitions that it follows from.
-use Rattle.std.specs.Prelude.{◌≡◌, ℕ, List, [], Option, Some, unwrap_or}
+use Rattle.std.specs.Prelude.{◌≡◌, ℕ, List, Option, Some}
 use Rattle.tor_io.specs.Contents.{Files}
 use Rattle.relationships.specs.declared.given.Given.{Given}
-use Rattle.relationships.specs.Givens.{NameTwo, NameOnce}
 use Rattle.dump_read.specs.declared.taking.Taken.{Taken}
 use Rattle.result_text.specs.declared.file.ResultFile.{ResultFile}
 use Rattle.rel_infer.specs.SelfAcceptance.{AreTableRows, IsVouchedFor}
 use Rattle.tor_words.specs.declared.settings.Settings.{Settings}
 use Rattle.tor_words.specs.Given.{settings_given}
+use Rattle.tor_output.specs.First.{AreSound}
 use Rattle.tor_output.specs.Output.{Faithful}
 use Rattle.tor_output.specs.Seen.{ComesTo, Reads}
 
@@ -15,10 +15,6 @@ use Rattle.tor_output.specs.Seen.{ComesTo, Reads}
 -- is left out
 abbrev pub IsVouchedIn : Settings → Taken → ResultFile → Type 0
 IsVouchedIn settings taken file = IsVouchedFor settings.ratio taken.table.rows taken.counts file
-
--- what is known, if anything is, names two ASes each time, and no two of them twice
-abbrev pub AreSound : Option (List Given) → Type 0
-AreSound known = NameTwo (unwrap_or known []) × NameOnce (unwrap_or known [])
 
 -- of paths as a table has them, of sound givens, and of settings that words give, each result that is faithful has all this
 abbrev pub FaithfulLaw : Type 0

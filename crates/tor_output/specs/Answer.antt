@@ -17,7 +17,7 @@ use Rattle.torcheck_run.specs.CheckAnswer.{no_text}
 use Rattle.result_text.specs.declared.file.ResultFile.{ResultFile}
 use Rattle.tor_output.specs.Output.{IsNoteOfOutput}
 use Rattle.run_base.specs.Reading.{nothing, seen_from}
-use Rattle.tor_output.specs.First.{NoFile, TooLong, BadLine, Broken, ReadsFirst, AreGivens, TakesUp, first_in}
+use Rattle.tor_output.specs.First.{NoFile, TooLong, BadLine, Broken, NamesEarlier, ReadsFirst, AreGivens, TakesUp, first_in}
 use Rattle.tor_output.specs.Reach.{LeavesOnlyFirst}
 use Rattle.tor_output.specs.Seen.{Stops, Ends, LeadsTo, joined}
 
@@ -72,7 +72,7 @@ IsNote words known steady left status.ReadFault text =
     (dump : ℕ) × (text ≡ read_fault_note dump) × (FailedAtFirst words known steady left dump ⊎ FailedAt words known steady dump)
 IsNote words known steady left status.Done text = IsNoteOfOutput words text
 IsNote words known steady left status.No text =
-    (line : ℕ) × (rule : ℕ) × (text ≡ no_text line rule) × LeadsTo words known (Stops (Broken line rule))
+    (line : ℕ) × (rule : ℕ) × (text ≡ no_text line rule) × LeadsTo words known (Stops (Broken line rule)) × NamesEarlier words
 IsNote words known steady left status.WriteFault text = text ≡ plain_note status.WriteFault
 IsNote words known steady left status.NoMemory text = text ≡ plain_note status.NoMemory
 

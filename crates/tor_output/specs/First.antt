@@ -1,7 +1,8 @@
 -- The file that a run reads whole before any dump, where the words name one: known relationships, or a result, which may be taken up.
-use Rattle.std.specs.Prelude.{◌≡◌, ◌≤◌, ℕ, List, length, Option, Some, None, Ok, Err, ⊤}
+use Rattle.std.specs.Prelude.{◌≡◌, ◌≤◌, ℕ, List, [], length, Option, Some, None, Ok, Err, unwrap_or, ⊤}
 use Rattle.tor_io.specs.Contents.{Files}
 use Rattle.relationships.specs.declared.given.Given.{Given}
+use Rattle.relationships.specs.Givens.{NameTwo, NameOnce}
 use Rattle.as_rel.specs.declared.line.RelLine.{RelLine}
 use Rattle.as_rel.specs.Givens.{givens_in}
 use Rattle.as_rel.specs.Serial.{rel_in}
@@ -51,6 +52,17 @@ first_kind (Earlier name) = Some first.Result
 -- the words name such a file
 abbrev pub ReadsFirst : List (List ℕ) → FirstFile → Type 0
 ReadsFirst words file = (settings : Settings) × (settings_given words ≡ Some settings) × (first_kind (first_in settings) ≡ Some file)
+
+-- it holds the earlier result, which is to be taken up
+abbrev pub IsTakenUp : First → Type 0
+IsTakenUp Nothing = ⊥
+IsTakenUp (Givens name) = ⊥
+IsTakenUp (Result name) = ⊥
+IsTakenUp (Earlier name) = ⊤
+
+-- the words name an earlier result
+abbrev pub NamesEarlier : List (List ℕ) → Type 0
+NamesEarlier words = (settings : Settings) × (settings_given words ≡ Some settings) × IsTakenUp (first_in settings)
 
 -- there is such a file, and of the most octets that it may have and of its name this holds
 abbrev pub OfFirst : First → (ℕ → List ℕ → Type 0) → Type 0
@@ -130,6 +142,10 @@ AreSomeGivens (Givens name) None = ⊥
 AreSomeGivens (Givens name) (Some givens) = (bytes : List ℕ) × (length bytes ≤ max_given_octets) × SaysGivens bytes givens
 AreSomeGivens (Result name) known = ⊥
 AreSomeGivens (Earlier name) known = ⊥
+
+-- what is known, if anything is, names two ASes each time, and no two of them twice
+abbrev pub AreSound : Option (List Given) → Type 0
+AreSound known = NameTwo (unwrap_or known []) × NameOnce (unwrap_or known [])
 
 -- some octets, few enough, are the text of this result
 abbrev pub IsSomeResult : First → ResultFile → Type 0

@@ -6,6 +6,7 @@ pub mod First
 pub mod Grading
 pub mod Limits
 pub mod Listing
+pub mod Opening
 pub mod Output
 pub mod Reach
 pub mod Refusals

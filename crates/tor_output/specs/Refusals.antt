@@ -24,7 +24,7 @@ use Rattle.torcheck_run.specs.CheckAnswer.{no_text}
 use Rattle.tor_output.specs.declared.unwritten.Unwritten.{Unwritten}
 use Rattle.tor_output.specs.declared.unwritten.Unwritten.TheVariants as unwritten
 use Rattle.tor_output.specs.Answer.{ReadBefore, AreGivensGood}
-use Rattle.tor_output.specs.First.{First, FirstEnd, NoFile, TooLong, BadLine, Broken, AreGivens, TakesUp, EndsAtFirst, first_in, first_kind}
+use Rattle.tor_output.specs.First.{First, FirstEnd, NoFile, TooLong, BadLine, Broken, AreGivens, TakesUp, IsTakenUp, EndsAtFirst, first_in, first_kind}
 use Rattle.tor_output.specs.Seen.{seen_in, joined}
 
 -- ---- dumps
@@ -96,7 +96,8 @@ IsFirstUnread f known steady file unread.NoMemory = Unit {0}
 abbrev pub IsUnwrittenAtFirst : First → Option Files → Type 0 → Unwritten → Type 0
 IsUnwrittenAtFirst f known steady (unwritten.First file why) = IsFirstUnread f known steady file why
 IsUnwrittenAtFirst f known steady (unwritten.BadLine file line) = FirstEnds f known file (BadLine line)
-IsUnwrittenAtFirst f known steady (unwritten.Broken line rule) = IfSome known (λ files. EndsAtFirst f files (Broken line rule))
+IsUnwrittenAtFirst f known steady (unwritten.Broken line rule) =
+    IsTakenUp f × IfSome known (λ files. EndsAtFirst f files (Broken line rule))
 IsUnwrittenAtFirst f known steady (unwritten.Refused (refusal.Words w)) = ⊥
 IsUnwrittenAtFirst f known steady (unwritten.Refused (refusal.Dumps stopped)) = ⊥
 IsUnwrittenAtFirst f known steady (unwritten.Refused refusal.NoMemory) = Unit {0}
@@ -114,7 +115,7 @@ abbrev pub IsUnwrittenIn : Settings → Option Files → Type 0 → Unwritten �
 IsUnwrittenIn settings known steady (unwritten.First file why) = IsFirstUnread (first_in settings) known steady file why
 IsUnwrittenIn settings known steady (unwritten.BadLine file line) = FirstEnds (first_in settings) known file (BadLine line)
 IsUnwrittenIn settings known steady (unwritten.Broken line rule) =
-    IfSome known (λ files. EndsAtFirst (first_in settings) files (Broken line rule))
+    IsTakenUp (first_in settings) × IfSome known (λ files. EndsAtFirst (first_in settings) files (Broken line rule))
 IsUnwrittenIn settings known steady (unwritten.Refused (refusal.Words w)) = ⊥
 IsUnwrittenIn settings known steady (unwritten.Refused (refusal.Dumps stopped)) =
     IsStopBehindFirst settings known steady stopped.dump stopped.error

@@ -15,7 +15,7 @@ use Rattle.tor_words.specs.declared.settings.Settings.{Settings}
 use Rattle.tor_words.specs.Given.{settings_given}
 use Rattle.run_base.specs.Reading.{seen_from, IsOfSomeDumps, nothing}
 use Rattle.rel_infer.specs.SelfAcceptance.{AreTableRows}
-use Rattle.tor_output.specs.First.{FirstEnd, first_in, AreGivens, HoldsResult, TakesUp, EndsAtFirst, AreSomeGivens, IsSomeResult, TakesUpSome}
+use Rattle.tor_output.specs.First.{FirstEnd, first_in, AreGivens, HoldsResult, TakesUp, EndsAtFirst, AreSomeGivens, AreSound, IsSomeResult, TakesUpSome}
 
 -- ---- what dumps give
 
@@ -87,10 +87,10 @@ ComesTo settings files (Holds file) = HoldsResult (first_in settings) files file
 ComesTo settings files (Stops end) = EndsAtFirst (first_in settings) files end
 ComesTo settings files (Ends end) = EndsBehindGivens settings files end ⊎ EndsOnEarlier settings files end
 
--- what the settings and some octets give, in place of each file that they name; rows are then as a table has them
+-- what the settings and some octets give, in place of each file that they name; rows are then as a table has them, and givens are sound
 abbrev pub ComesOfSome : Settings → Outcome → Type 0
 ComesOfSome settings (Reads known taken) =
-    AreSomeGivens (first_in settings) known × IsSeenOfSome settings.source settings taken × AreTableRows taken.table.rows
+    AreSomeGivens (first_in settings) known × IsSeenOfSome settings.source settings taken × AreTableRows taken.table.rows × AreSound known
 ComesOfSome settings (Joins file taken) =
     TakesUpSome (first_in settings) file × (length file.paths ≤ settings.max_paths) ×
     IsOfSomeDumps file.sets (length settings.dumps) (taken_up file settings.max_paths) taken × AreTableRows taken.table.rows

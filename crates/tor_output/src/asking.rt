@@ -1,13 +1,12 @@
 //! What the words ask for, as a text that can be written, or why there is none.
-ghost use Rattle.std.specs.Prelude.{◌≡◌, ◌≢◌, ◌≤◌, ◌<◌, Ok, Some, IfOk, IfErr, IfSome, IsNone, IsErrAnd, OnOk, length, [], ⊤};
-ghost use Rattle.std.specs.Prelude.{unwrap_or};
+ghost use Rattle.std.specs.Prelude.{◌≡◌, ◌≢◌, ◌≤◌, ◌<◌, ◌++◌, Ok, Some, IfOk, IfErr, IfSome, IsNone, IsErrAnd, OnOk, length, [], ⊤};
+ghost use Rattle.std.specs.Prelude.{take, unwrap_or};
 ghost use Rattle.std.specs.Io.KnownBytes.{IsAtEnd};
 ghost use Rattle.tor_arena.specs.Limits.{max_paths, max_ratio};
 ghost use Rattle.tor_words.specs.Given.{settings_given, HasDumps, IsWrittenOf};
 ghost use Rattle.tor_output.specs.Sampling.{BySource, IfSample, known_by, known_in};
 ghost use Rattle.run_base.specs.Reading.{nothing};
-ghost use Rattle.tor_output.specs.Accepting.{AreSound};
-ghost use Rattle.tor_output.specs.First.{Nothing, first_in};
+ghost use Rattle.tor_output.specs.First.{AreSound, Nothing, first_in};
 ghost use Rattle.rel_infer.specs.GivenInference.{max_givens};
 ghost use Rattle.tor_output.specs.Seen.{Outcome, ComesOfSome, IsSeenOfSome, seen_in};
 ghost use Rattle.tor_output.specs.Output.{IsOutput, IsOutputIn, IsOutputOf, IsAsked, IsOfSome};
@@ -15,6 +14,8 @@ ghost use Rattle.rel_infer.specs.SelfAcceptance.{AreTableRows};
 ghost use Rattle.tor_output.specs.Written.{written};
 ghost use Rattle.run_base.specs.Answers.{IsReadFault};
 ghost use Rattle.run_base.specs.Frames.{ReadsShelf};
+ghost use Rattle.run_base.specs.Opening.{AllRead, OpensDumps, OpensInOrder};
+ghost use Rattle.tor_output.specs.Opening.{UnwrittenEnds, files_named, named_in};
 ghost use Rattle.tor_output.specs.Reach.{IsDumpNumber, IsPlacedIn, IsBounded, IsShownByHeader, StopsInReach};
 ghost use Rattle.tor_output.specs.Reach.{IsUnwrittenInReach, StaysUnwrittenInReach};
 ghost use Rattle.tor_output.specs.Refusals.{IsStopIn, StopsIn, IsUnwrittenIn, IsUnwritten, IsFailedRead, IsOfTheWords};
@@ -53,6 +54,9 @@ fn read_asked<H: Shelf>(
     ensures placed { IfErr result (λ e. IsPlacedIn settings.now e.dump e.error) }
     ensures bounded { IfErr result (λ e. IsBounded settings.now (H.files shelf.old) (H.left shelf.new) e.dump e.error) }
     ensures shown { IfErr result (λ e. IsShownByHeader settings.now (H.files shelf.old) (H.left shelf.new) e.dump e.error) }
+    ensures opens { OnOk result (BySource settings.now.source ⊤ (H.opens shelf.new ≡ H.opens shelf.old ++ settings.now.dumps)) }
+    ensures opens_stop { IfErr result (λ e.
+        BySource settings.now.source ⊤ (H.opens shelf.new ≡ H.opens shelf.old ++ take e.dump settings.now.dumps)) }
 
     ensures reads_shelf { ReadsShelf H.Shelf (IsErrAnd result (λ e. e.error ≡ DumpError.ReadFault)) shelf.old shelf.new }
 {
@@ -90,6 +94,9 @@ fn output_under<H: Shelf>(
     ensures sample { BySource settings.now.source (shelf.new ≡ shelf.old) ⊤ }
     ensures no_fault { IfErr result (λ r. BySource settings.now.source (IsReadFault r → ⊥) ⊤) }
     ensures reach { IfErr result (StopsInReach settings.now (H.files shelf.old) (H.left shelf.new)) }
+    ensures opens { OnOk result (BySource settings.now.source ⊤ (H.opens shelf.new ≡ H.opens shelf.old ++ settings.now.dumps)) }
+    ensures opens_stop { IfErr result (λ r.
+        BySource settings.now.source ⊤ (OpensDumps 1 settings.now.dumps r (H.opens shelf.old) (H.opens shelf.new))) }
 
     ensures reads_shelf { ReadsShelf H.Shelf (IsErrAnd result IsReadFault) shelf.old shelf.new }
 {
@@ -132,6 +139,8 @@ fn free_output<H: Shelf>(
     ensures sample { BySource settings.now.source (shelf.new ≡ shelf.old) ⊤ }
     ensures no_fault { IfErr result (λ u. BySource settings.now.source (IsFailedRead u → ⊥) ⊤) }
     ensures reach { IfErr result (IsUnwrittenInReach settings.now (H.files shelf.old) (H.left shelf.new)) }
+    ensures opens { OnOk result (OpensInOrder (named_in settings.now) (λ end. end ≡ AllRead) (H.opens shelf.old) (H.opens shelf.new)) }
+    ensures opens_stop { IfErr result (λ u. OpensInOrder (named_in settings.now) (UnwrittenEnds u) (H.opens shelf.old) (H.opens shelf.new)) }
 
     ensures reads_shelf { ReadsShelf H.Shelf (IsErrAnd result IsFailedRead) shelf.old shelf.new }
 {
@@ -162,6 +171,8 @@ fn bound_output<H: Shelf>(
     ensures unwritten { IfErr result (IsUnwrittenIn settings.now (H.files shelf.old) (H.steady shelf.old)) }
     ensures read_out { OnOk result (0 < length settings.now.dumps → IsAtEnd (H.left shelf.new)) }
     ensures reach { IfErr result (IsUnwrittenInReach settings.now (H.files shelf.old) (H.left shelf.new)) }
+    ensures opens { OnOk result (OpensInOrder (named_in settings.now) (λ end. end ≡ AllRead) (H.opens shelf.old) (H.opens shelf.new)) }
+    ensures opens_stop { IfErr result (λ u. OpensInOrder (named_in settings.now) (UnwrittenEnds u) (H.opens shelf.old) (H.opens shelf.new)) }
 
     ensures reads_shelf { ReadsShelf H.Shelf (IsErrAnd result IsFailedRead) shelf.old shelf.new }
 {
@@ -188,6 +199,8 @@ fn result_output<H: Shelf>(
     ensures unwritten { IfErr result (IsUnwrittenIn settings.now (H.files shelf.old) (H.steady shelf.old)) }
     ensures read_out { OnOk result (IsAtEnd (H.left shelf.new)) }
     ensures reach { IfErr result (IsUnwrittenInReach settings.now (H.files shelf.old) (H.left shelf.new)) }
+    ensures opens { OnOk result (OpensInOrder (named_in settings.now) (λ end. end ≡ AllRead) (H.opens shelf.old) (H.opens shelf.new)) }
+    ensures opens_stop { IfErr result (λ u. OpensInOrder (named_in settings.now) (UnwrittenEnds u) (H.opens shelf.old) (H.opens shelf.new)) }
 
     ensures reads_shelf { ReadsShelf H.Shelf (IsErrAnd result IsFailedRead) shelf.old shelf.new }
 {
@@ -221,6 +234,8 @@ fn output_for<H: Shelf>(
     ensures sample { BySource settings.now.source (shelf.new ≡ shelf.old) ⊤ }
     ensures no_fault { IfErr result (λ u. BySource settings.now.source (IsFailedRead u → ⊥) ⊤) }
     ensures reach { IfErr result (IsUnwrittenInReach settings.now (H.files shelf.old) (H.left shelf.new)) }
+    ensures opens { OnOk result (OpensInOrder (named_in settings.now) (λ end. end ≡ AllRead) (H.opens shelf.old) (H.opens shelf.new)) }
+    ensures opens_stop { IfErr result (λ u. OpensInOrder (named_in settings.now) (UnwrittenEnds u) (H.opens shelf.old) (H.opens shelf.new)) }
 
     ensures reads_shelf { ReadsShelf H.Shelf (IsErrAnd result IsFailedRead) shelf.old shelf.new }
 {
@@ -254,6 +269,8 @@ pub fn output_asked<H: Shelf>(
     ensures sample { IfSample words.now (shelf.new ≡ shelf.old) ⊤ }
     ensures no_fault { IfErr result (λ u. IfSample words.now (IsFailedRead u → ⊥) ⊤) }
     ensures reach { IfErr result (StaysUnwrittenInReach words.now (H.files shelf.old) (H.left shelf.new)) }
+    ensures opens { OnOk result (OpensInOrder (files_named words.now) (λ end. end ≡ AllRead) (H.opens shelf.old) (H.opens shelf.new)) }
+    ensures opens_stop { IfErr result (λ u. OpensInOrder (files_named words.now) (UnwrittenEnds u) (H.opens shelf.old) (H.opens shelf.new)) }
 
     ensures untouched { IfErr result (λ u. IsOfTheWords u → shelf.new ≡ shelf.old) }
     ensures reads_shelf { ReadsShelf H.Shelf (IsErrAnd result IsFailedRead) shelf.old shelf.new }

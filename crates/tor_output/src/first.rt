@@ -1,5 +1,5 @@
 //! The file that a run reads to its end before any dump: known relationships, or a result, which may be taken up.
-ghost use Rattle.std.specs.Prelude.{◌≤◌, Some, IfOk, IfErr, IfSome, OnOk, IsErrAnd, length};
+ghost use Rattle.std.specs.Prelude.{◌≡◌, ◌≤◌, ◌++◌, ◌∷◌, [], Some, IfOk, IfErr, IfSome, OnOk, IsErrAnd, length};
 ghost use Rattle.std.specs.Io.KnownBytes.{IsAtEnd};
 ghost use Rattle.relationships.specs.Givens.{NameTwo, NameOnce};
 ghost use Rattle.as_rel.specs.Serial.{IsReadingError};
@@ -7,6 +7,7 @@ ghost use Rattle.run_base.specs.Frames.{ReadsShelf};
 ghost use Rattle.tor_output.specs.First.{Givens, Result as ResultAt, Earlier, AreSomeGivens, SaysGivens, HoldsResult, IsSomeResult};
 ghost use Rattle.tor_output.specs.First.{TakesUpSome};
 ghost use Rattle.rel_infer.specs.GivenInference.{max_givens};
+ghost use Rattle.tor_output.specs.Opening.{IsAtFirst};
 ghost use Rattle.tor_output.specs.Reach.{IsFirstInReach};
 ghost use Rattle.tor_output.specs.Refusals.{AreGivensIn, TakesUpIn, IsUnwrittenAtFirst, IsFailedRead};
 
@@ -51,6 +52,8 @@ pub(crate) fn givens_in<H: Shelf>(
     ensures few { IfOk result (λ givens. length givens ≤ max_givens) }
     ensures unwritten { IfErr result (IsUnwrittenAtFirst (Givens name.now) (H.files shelf.old) (H.steady shelf.old)) }
     ensures reach { IfErr result (IsFirstInReach (Givens name.now) (H.files shelf.old) (H.left shelf.new)) }
+    ensures at_first { IfErr result IsAtFirst }
+    ensures opens { H.opens shelf.new ≡ H.opens shelf.old ++ name.now ∷ [] }
 
     ensures reads_shelf { ReadsShelf H.Shelf (IsErrAnd result IsFailedRead) shelf.old shelf.new }
 {
@@ -74,6 +77,8 @@ pub(crate) fn result_in<H: Shelf>(
     ensures of_some { IfOk result (IsSomeResult (ResultAt name.now)) }
     ensures unwritten { IfErr result (IsUnwrittenAtFirst (ResultAt name.now) (H.files shelf.old) (H.steady shelf.old)) }
     ensures reach { IfErr result (IsFirstInReach (ResultAt name.now) (H.files shelf.old) (H.left shelf.new)) }
+    ensures at_first { IfErr result IsAtFirst }
+    ensures opens { H.opens shelf.new ≡ H.opens shelf.old ++ name.now ∷ [] }
     ensures read_out { OnOk result (IsAtEnd (H.left shelf.new)) }
 
     ensures reads_shelf { ReadsShelf H.Shelf (IsErrAnd result IsFailedRead) shelf.old shelf.new }
@@ -96,6 +101,8 @@ pub(crate) fn earlier_in<H: Shelf>(
     ensures of_some { IfOk result (TakesUpSome (Earlier name.now)) }
     ensures unwritten { IfErr result (IsUnwrittenAtFirst (Earlier name.now) (H.files shelf.old) (H.steady shelf.old)) }
     ensures reach { IfErr result (IsFirstInReach (Earlier name.now) (H.files shelf.old) (H.left shelf.new)) }
+    ensures at_first { IfErr result IsAtFirst }
+    ensures opens { H.opens shelf.new ≡ H.opens shelf.old ++ name.now ∷ [] }
     ensures read_out { OnOk result (IsAtEnd (H.left shelf.new)) }
 
     ensures reads_shelf { ReadsShelf H.Shelf (IsErrAnd result IsFailedRead) shelf.old shelf.new }

@@ -6,7 +6,7 @@ ghost use Rattle.std.specs.Io.KnownBytes.{append_known};
 ghost use Rattle.tor_arena.specs.Limits.{max_ratio};
 ghost use Rattle.tor_io.specs.Counts.{HasCause};
 ghost use Rattle.tor_io.specs.Contents.{GainsPrefix};
-ghost use Rattle.tor_output.specs.Accepting.{AreSound};
+ghost use Rattle.tor_output.specs.First.{AreSound};
 ghost use Rattle.rel_infer.specs.GivenInference.{max_givens};
 ghost use Rattle.tor_output.specs.Output.{Faithful, IsMigrated, IsOutputIn, migrated};
 ghost use Rattle.result_text.specs.Grammar.{IsTextOf};

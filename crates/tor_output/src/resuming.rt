@@ -1,5 +1,5 @@
 //! The result of dumps on top of an earlier one.
-ghost use Rattle.std.specs.Prelude.{◌≡◌, ◌≤◌, ◌<◌, ◌⊎◌, Ok, IfOk, IfErr, IfSome, OnOk, IsErrAnd, length, unwrap_or, []};
+ghost use Rattle.std.specs.Prelude.{◌≡◌, ◌≤◌, ◌<◌, ◌⊎◌, ◌++◌, Ok, IfOk, IfErr, IfSome, OnOk, IsErrAnd, length, unwrap_or, []};
 ghost use Rattle.std.specs.Io.KnownBytes.{IsAtEnd};
 ghost use Rattle.tor_arena.specs.Limits.{max_paths, max_ratio};
 ghost use Rattle.result_rules.specs.Rules.{Accepts};
@@ -11,6 +11,8 @@ ghost use Rattle.result_text.specs.declared.file.ResultFile.{ResultFile as File}
 ghost use Rattle.tor_words.specs.declared.settings.Source.TheVariants.{Earlier as from_earlier};
 ghost use Rattle.run_base.specs.Answers.{IsReadFault};
 ghost use Rattle.run_base.specs.Frames.{ReadsShelf};
+ghost use Rattle.run_base.specs.Opening.{AllRead, OpensDumps, OpensInOrder};
+ghost use Rattle.tor_output.specs.Opening.{UnwrittenEnds, named_in};
 ghost use Rattle.tor_output.specs.Output.{IsResumed, IsOutput, IsOutputOf, IsOutputOn, IsOutputOnEarlier, IsOutputOnSome};
 ghost use Rattle.tor_output.specs.Reach.{IsUnwrittenInReach, StopsInReach};
 ghost use Rattle.tor_output.specs.Refusals.{IsFailedRead, IsStopOn, IsUnwrittenIn, past_limit};
@@ -147,6 +149,8 @@ fn joined_output<H: Shelf>(
         IsStopOn old settings.now (H.files shelf.old) (H.steady shelf.old) refusal) }
     ensures read_out { OnOk result (0 < length settings.now.dumps → IsAtEnd (H.left shelf.new)) }
     ensures reach { IfErr result (StopsInReach settings.now (H.files shelf.old) (H.left shelf.new)) }
+    ensures opens { OnOk result (H.opens shelf.new ≡ H.opens shelf.old ++ settings.now.dumps) }
+    ensures opens_stop { IfErr result (λ r. OpensDumps 0 settings.now.dumps r (H.opens shelf.old) (H.opens shelf.new)) }
 
     ensures reads_shelf { ReadsShelf H.Shelf (IsErrAnd result IsReadFault) shelf.old shelf.new }
 {
@@ -188,6 +192,8 @@ fn output_on<H: Shelf>(
     ensures refused { IfErr result (IsStopOn earlier settings.now (H.files shelf.old) (H.steady shelf.old)) }
     ensures read_out { OnOk result (0 < length settings.now.dumps → IsAtEnd (H.left shelf.new)) }
     ensures reach { IfErr result (StopsInReach settings.now (H.files shelf.old) (H.left shelf.new)) }
+    ensures opens { OnOk result (H.opens shelf.new ≡ H.opens shelf.old ++ settings.now.dumps) }
+    ensures opens_stop { IfErr result (λ r. OpensDumps 0 settings.now.dumps r (H.opens shelf.old) (H.opens shelf.new)) }
 
     ensures reads_shelf { ReadsShelf H.Shelf (IsErrAnd result IsReadFault) shelf.old shelf.new }
 {
@@ -215,6 +221,8 @@ pub(crate) fn resumed_output<H: Shelf>(
     ensures unwritten { IfErr result (IsUnwrittenIn settings.now (H.files shelf.old) (H.steady shelf.old)) }
     ensures read_out { OnOk result (0 < length settings.now.dumps → IsAtEnd (H.left shelf.new)) }
     ensures reach { IfErr result (IsUnwrittenInReach settings.now (H.files shelf.old) (H.left shelf.new)) }
+    ensures opens { OnOk result (OpensInOrder (named_in settings.now) (λ end. end ≡ AllRead) (H.opens shelf.old) (H.opens shelf.new)) }
+    ensures opens_stop { IfErr result (λ u. OpensInOrder (named_in settings.now) (UnwrittenEnds u) (H.opens shelf.old) (H.opens shelf.new)) }
 
     ensures reads_shelf { ReadsShelf H.Shelf (IsErrAnd result IsFailedRead) shelf.old shelf.new }
 {

@@ -10,8 +10,10 @@ ghost use Rattle.tor_words.specs.CheckGiven.{check_settings_given};
 ghost use Rattle.std.specs.Io.KnownBytes.{IsAtEnd, append_known};
 ghost use Rattle.run_base.specs.Frames.{RunLeavesShelf, RunLeavesOut};
 ghost use Rattle.run_base.specs.Notes.{plain_note};
+ghost use Rattle.run_base.specs.Opening.{OpensInOrder};
 ghost use Rattle.run_base.specs.Answers.{IsNoted};
 ghost use Rattle.run_base.specs.Answers.{note_in};
+ghost use Rattle.torcheck_run.specs.Opening.{CheckEndsSo, GainsVerdictOfSome, GainsNoOfSome, GainsPrefixOfSome, files_named};
 ghost use Rattle.torcheck_run.specs.Reach.{CheckEndsInReach};
 ghost use Rattle.torcheck_run.specs.Judging.{NoResult, TooLong, Ends, WordsGive, IsVouched, CanBeJudged, LeavesRestOf};
 ghost use Rattle.torcheck_run.specs.CheckAnswer.{GainsVerdict, GainsNo, GainsVerdictPrefix, KnownFilesGive, LeadsToMalformed, LeadsToLimit};
@@ -65,6 +67,14 @@ fn answer<H: Shelf, O: Sink>(
     ensures nothing { result.status ≢ Status.Done → result.status ≢ Status.No → result.status ≢ Status.WriteFault →
         out.new ≡ out.old }
 
+    // The same of files of which nothing is known.
+    ensures some { result.status ≡ Status.Done →
+        GainsVerdictOfSome words.now (H.opens shelf.old) (H.opens shelf.new) Verdict.Yes (O.held out.old) (O.held out.new) }
+    ensures some_no { result.status ≡ Status.No →
+        GainsNoOfSome words.now (H.opens shelf.old) (H.opens shelf.new) (O.held out.old) (O.held out.new) }
+    ensures some_cut_off { result.status ≡ Status.WriteFault →
+        GainsPrefixOfSome words.now (H.opens shelf.old) (H.opens shelf.new) (O.held out.old) (O.held out.new) }
+
     // Why it is answered.
     ensures note { IsCheckNote words.now (H.files shelf.old) (H.steady shelf.old) (H.left shelf.new) result.status
         (note_in result) }
@@ -77,6 +87,8 @@ fn answer<H: Shelf, O: Sink>(
     ensures bounded { result.status ≡ Status.Limit → KnownFilesGive words.now (H.files shelf.old) TooLong →
         LeavesRestOf words.now (H.files shelf.old) (H.left shelf.new) }
     ensures reach { CheckEndsInReach words.now (H.files shelf.old) (H.left shelf.new) result.status (note_in result) }
+    ensures opens { OpensInOrder (files_named words.now) (CheckEndsSo result.status (note_in result))
+        (H.opens shelf.old) (H.opens shelf.new) }
     ensures untouched { result.status ≡ Status.Usage → shelf.new ≡ shelf.old }
     ensures leaves_shelf { RunLeavesShelf H.Shelf result.status shelf.old shelf.new }
     ensures leaves_out { RunLeavesOut O.Sink result.status out.old out.new }
@@ -107,6 +119,15 @@ pub fn check<H: Shelf, O: Sink, E: Sink>(
     ensures cut_off { result ≡ Status.WriteFault →
         GainsVerdictPrefix words.now (H.files shelf.old) (O.held out.old) (O.held out.new) }
     ensures nothing { result ≢ Status.Done → result ≢ Status.No → result ≢ Status.WriteFault → out.new ≡ out.old }
+
+    // The same of files of which nothing is known: some octets in place of them, few enough, have this verdict. Where it comes by the
+    // rules 0 to 10, no dump was opened, and else all were.
+    ensures some { result ≡ Status.Done →
+        GainsVerdictOfSome words.now (H.opens shelf.old) (H.opens shelf.new) Verdict.Yes (O.held out.old) (O.held out.new) }
+    ensures some_no { result ≡ Status.No →
+        GainsNoOfSome words.now (H.opens shelf.old) (H.opens shelf.new) (O.held out.old) (O.held out.new) }
+    ensures some_cut_off { result ≡ Status.WriteFault →
+        GainsPrefixOfSome words.now (H.opens shelf.old) (H.opens shelf.new) (O.held out.old) (O.held out.new) }
 
     // What a yes has shown.
     ensures valid { result ≡ Status.Done → IfSome (H.files shelf.old) (IsVouched words.now) }
@@ -154,6 +175,9 @@ pub fn check<H: Shelf, O: Sink, E: Sink>(
     ensures note { IsNoted (IsCheckNote words.now (H.files shelf.old) (H.steady shelf.old) (H.left shelf.new) result)
         (E.faults err.old) (E.faults err.new) (E.held err.old) (E.held err.new) }
     ensures reach { IsNoted (CheckEndsInReach words.now (H.files shelf.old) (H.left shelf.new) result)
+        (E.faults err.old) (E.faults err.new) (E.held err.old) (E.held err.new) }
+    // And which files were opened: those that the words name, in their order, up to the one at which it ended.
+    ensures opens { IsNoted (λ note. OpensInOrder (files_named words.now) (CheckEndsSo result note) (H.opens shelf.old) (H.opens shelf.new))
         (E.faults err.old) (E.faults err.new) (E.held err.old) (E.held err.new) }
     ensures silent { (result ≡ Status.Done) ⊎ (result ≡ Status.No) → E.held err.new ≡ E.held err.old }
 {

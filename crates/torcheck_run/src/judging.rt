@@ -1,11 +1,13 @@
 //! The verdict on a result file.
-ghost use Rattle.std.specs.Prelude.{◌≡◌, ◌+◌, ◌≤◌, ◌-◌, [], List, ℕ, Err, IfOk, IfErr, OnOk, IfSome, IsNone, IsErrAnd, IsOk, length, take};
+ghost use Rattle.std.specs.Prelude.{◌≡◌, ◌+◌, ◌≤◌, ◌-◌, ◌++◌, ◌∷◌, [], Some, List, ℕ, Err, IfOk, IfErr, OnOk, IfSome, IsNone, IsErrAnd, IsOk, length, take};
 ghost use Rattle.std.specs.Io.KnownBytes.{IsAtEnd};
 ghost use Rattle.dump_read.specs.declared.error.DumpError.TheVariants.{ReadFault as read_failed};
 ghost use Rattle.dump_read.specs.Seen.{Absent, end_named};
 ghost use Rattle.tor_words.specs.CheckGiven.{check_settings_given};
 ghost use Rattle.run_base.specs.Answers.{IsReadFault};
 ghost use Rattle.run_base.specs.Frames.{ReadsShelf};
+ghost use Rattle.run_base.specs.Opening.{OpensInOrder, OpensDumps};
+ghost use Rattle.torcheck_run.specs.Opening.{JudgesBySome, JudgesOpening, IsVerdictOfSome, UnjudgedEnds, files_named, named_in};
 ghost use Rattle.torcheck_run.specs.Judging.{Judged, SettingsGive, IsVerdict, JudgesByDumps, LeavesRestOf, LeavesOnlyResult, seen_for};
 ghost use Rattle.run_base.specs.WholeFile.{LeavesRest, LeavesOnly};
 ghost use Rattle.torcheck_run.specs.CheckAnswer.{KnownFilesGive};
@@ -49,6 +51,7 @@ fn judged_by_dumps<H: Shelf>(
 ) -> Result<Verdict, Stopped>
     requires lines { length (its_givens file.now) + length file.now.paths ≤ most_lines }
     ensures verdict { IfOk result (λ verdict. IfSome (H.files shelf.old) (λ files. JudgesByDumps file.now dumps.now files verdict)) }
+    ensures some { IfOk result (JudgesBySome file.now (length dumps.now)) }
     ensures stopped { IfErr result (λ e. IfSome (end_named e.dump e.error) (λ end. IfSome (H.files shelf.old) (λ files.
         seen_for file.now dumps.now files ≡ Err end))) }
     ensures named { IfErr result (λ e. (1 ≤ e.dump) × (e.dump ≤ length dumps.now)) }
@@ -56,6 +59,8 @@ fn judged_by_dumps<H: Shelf>(
         (λ files. IsOk (seen_for file.now (take (e.dump - 1) dumps.now) files))) }
     ensures read_out { OnOk result (IsAtEnd (H.left shelf.old) → IsAtEnd (H.left shelf.new)) }
     ensures reach { IfErr result (λ e. IsDumpInReach dumps.now (H.files shelf.old) (H.left shelf.new) e.dump e.error) }
+    ensures opens { OnOk result (H.opens shelf.new ≡ H.opens shelf.old ++ dumps.now) }
+    ensures opens_stop { IfErr result (λ e. H.opens shelf.new ≡ H.opens shelf.old ++ take e.dump dumps.now) }
 
     ensures reads_shelf { ReadsShelf H.Shelf (IsErrAnd result (λ e. e.error ≡ read_failed)) shelf.old shelf.new }
     ensures unasked { dumps.now ≡ [] → shelf.new ≡ shelf.old }
@@ -90,10 +95,13 @@ fn judge<H: Shelf>(
     requires few { IsOfFewLines ruling }
     ensures verdict { IfOk result (λ verdict. (bytes : List ℕ) → IsRuling bytes ruling →
         IfSome (H.files shelf.old) (λ files. IsVerdict bytes dumps.now files verdict)) }
+    ensures some { IfOk result (λ verdict. (bytes : List ℕ) → IsRuling bytes ruling →
+        JudgesOpening bytes dumps.now (H.opens shelf.old) (H.opens shelf.new) verdict) }
     ensures refused { IfErr result (λ why. (bytes : List ℕ) → IsRuling bytes ruling →
         IsRefusedBy bytes dumps.now (H.files shelf.old) (H.steady shelf.old) why) }
     ensures read_out { OnOk result (IsAtEnd (H.left shelf.old) → IsAtEnd (H.left shelf.new)) }
     ensures reach { IfErr result (IsRefusalInReach dumps.now (H.files shelf.old) (H.left shelf.new)) }
+    ensures opens { IfErr result (λ why. OpensDumps 1 dumps.now why (H.opens shelf.old) (H.opens shelf.new)) }
 
     ensures reads_shelf { ReadsShelf H.Shelf (IsErrAnd result IsReadFault) shelf.old shelf.new }
 {
@@ -118,12 +126,16 @@ fn judge_file<H: Shelf>(
     shelf: &mut H,
 ) -> Result<Verdict, Unjudged>
     ensures verdict { IfOk result (λ verdict. IfSome (H.files shelf.old) (λ files. SettingsGive settings.now files (Judged verdict))) }
+    ensures some { IfOk result (λ verdict. (bytes : List ℕ) × (length bytes ≤ max_result) ×
+        JudgesOpening bytes settings.now.dumps (H.opens shelf.old ++ settings.now.result ∷ []) (H.opens shelf.new) verdict) }
     ensures unjudged { IfErr result (IsUnjudgedIn settings.now (H.files shelf.old) (H.steady shelf.old)) }
     ensures no_words { IfErr result (λ u. IsOfCheckWords u → ⊥) }
     ensures rest { IfErr result (λ u. IsTooLong u → LeavesRest max_result settings.now.result (H.files shelf.old) (H.left shelf.new)) }
     ensures unread { IfErr result (λ u. IsFailedResult u →
         LeavesOnly max_result settings.now.result (H.files shelf.old) (H.left shelf.new)) }
     ensures reach { IfErr result (IsUnjudgedInReach settings.now.dumps (H.files shelf.old) (H.left shelf.new)) }
+    ensures opens { IfErr result (λ u.
+        OpensInOrder (Some (named_in settings.now)) (UnjudgedEnds u) (H.opens shelf.old) (H.opens shelf.new)) }
     ensures read_out { OnOk result (IsAtEnd (H.left shelf.new)) }
 
     ensures reads_shelf { ReadsShelf H.Shelf (IsErrAnd result IsFailedRead) shelf.old shelf.new }
@@ -145,12 +157,14 @@ pub(crate) fn verdict_of<H: Shelf>(
     shelf: &mut H,
 ) -> Result<Verdict, Unjudged>
     ensures verdict { IfOk result (λ verdict. KnownFilesGive words.now (H.files shelf.old) (Judged verdict)) }
+    ensures some { IfOk result (IsVerdictOfSome words.now (H.opens shelf.old) (H.opens shelf.new)) }
     ensures unjudged { IfErr result (IsUnjudged words.now (H.files shelf.old) (H.steady shelf.old)) }
 
     ensures rest { IfErr result (λ u. IsTooLong u → LeavesRestOf words.now (H.files shelf.old) (H.left shelf.new)) }
     ensures unread { IfErr result (λ u. IsFailedResult u →
         LeavesOnlyResult words.now (H.files shelf.old) (H.left shelf.new)) }
     ensures reach { IfErr result (StaysUnjudgedInReach words.now (H.files shelf.old) (H.left shelf.new)) }
+    ensures opens { IfErr result (λ u. OpensInOrder (files_named words.now) (UnjudgedEnds u) (H.opens shelf.old) (H.opens shelf.new)) }
 
     ensures settled { IsNone (check_settings_given words.now) → IsErrAnd result IsOfCheckWords }
     ensures read_out { OnOk result (IsAtEnd (H.left shelf.new)) }

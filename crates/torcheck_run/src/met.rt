@@ -1,5 +1,5 @@
 //! The result of a file, where it meets the rules.
-ghost use Rattle.std.specs.Prelude.{IfOk, IfErr, OnOk, IsErrAnd};
+ghost use Rattle.std.specs.Prelude.{◌≡◌, ◌++◌, ◌∷◌, [], IfOk, IfErr, OnOk, IsErrAnd};
 ghost use Rattle.std.specs.Io.KnownBytes.{IsAtEnd};
 ghost use Rattle.run_base.specs.Frames.{ReadsShelf};
 ghost use Rattle.torcheck_run.specs.Unsaying.{IsMet, IsUnmet, IsUnmetInReach, IsFailedRead};
@@ -22,6 +22,7 @@ pub fn result_met<H: Shelf>(
     ensures unmet { IfErr result (IsUnmet (H.files shelf.old) (H.steady shelf.old) name.now) }
     ensures reach { IfErr result (IsUnmetInReach (H.files shelf.old) (H.left shelf.new) name.now) }
     ensures read_out { OnOk result (IsAtEnd (H.left shelf.new)) }
+    ensures opens { H.opens shelf.new ≡ H.opens shelf.old ++ name.now ∷ [] }
 
     ensures reads_shelf { ReadsShelf H.Shelf (IsErrAnd result IsFailedRead) shelf.old shelf.new }
 {

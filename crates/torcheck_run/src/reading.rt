@@ -1,5 +1,5 @@
 //! The result that a file holds.
-ghost use Rattle.std.specs.Prelude.{ℕ, List as Items, ◌≡◌, ◌≢◌, ◌<◌, ◌≤◌, ◌^◌, ◌+◌, Err, Some, IfOk};
+ghost use Rattle.std.specs.Prelude.{ℕ, List as Items, ◌≡◌, ◌≢◌, ◌<◌, ◌≤◌, ◌^◌, ◌+◌, ◌++◌, ◌∷◌, [], Err, Some, IfOk};
 ghost use Rattle.std.specs.Prelude.{IfErr, OnOk, IfSome, IsErrOf, drop};
 ghost use Rattle.std.specs.Io.KnownBytes.{IsAtEnd};
 ghost use Rattle.tor_io.specs.Counts.{Rose};
@@ -40,6 +40,7 @@ fn take_open<H: Shelf>(
     ensures unread { IfSome (H.left shelf.old) (IsRestOf most (H.left shelf.new)) }
 
     ensures files { H.files shelf.new ≡ H.files shelf.old }
+    ensures opens { H.opens shelf.new ≡ H.opens shelf.old }
     ensures later { H.faults shelf.old ≤ H.faults shelf.new }
     ensures failed { IsErrOf result Unread.Failed → Rose (H.faults shelf.old) (H.faults shelf.new) }
     ensures quiet { result ≢ Err Unread.Failed → H.faults shelf.new ≡ H.faults shelf.old }
@@ -77,6 +78,7 @@ fn take_file<H: Shelf>(
     ensures unread { LeavesOnly most name.now (H.files shelf.old) (H.left shelf.new) }
 
     ensures files { H.files shelf.new ≡ H.files shelf.old }
+    ensures opens { H.opens shelf.new ≡ H.opens shelf.old ++ name.now ∷ [] }
     ensures later { H.faults shelf.old ≤ H.faults shelf.new }
     ensures failed { IsErrOf result Unread.Failed → Rose (H.faults shelf.old) (H.faults shelf.new) }
     ensures quiet { result ≢ Err Unread.Failed → H.faults shelf.new ≡ H.faults shelf.old }
@@ -120,6 +122,7 @@ pub fn read_result<H: Shelf>(
     ensures unread { LeavesOnly most name.now (H.files shelf.old) (H.left shelf.new) }
 
     ensures files { H.files shelf.new ≡ H.files shelf.old }
+    ensures opens { H.opens shelf.new ≡ H.opens shelf.old ++ name.now ∷ [] }
     ensures later { H.faults shelf.old ≤ H.faults shelf.new }
     ensures failed { IsErrOf result (unread Unread.Failed) → Rose (H.faults shelf.old) (H.faults shelf.new) }
     ensures quiet { result ≢ Err (unread Unread.Failed) → H.faults shelf.new ≡ H.faults shelf.old }

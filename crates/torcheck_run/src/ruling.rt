@@ -1,5 +1,5 @@
 //! What the rules 0 to 10 say of a result file.
-ghost use Rattle.std.specs.Prelude.{◌≡◌, Err, IfOk, IfErr, OnOk, IsErrOf, IsErrAnd};
+ghost use Rattle.std.specs.Prelude.{◌≡◌, ◌++◌, ◌∷◌, [], Err, IfOk, IfErr, OnOk, IsErrOf, IsErrAnd};
 ghost use Rattle.std.specs.Io.KnownBytes.{IsAtEnd};
 ghost use Rattle.result_rules.specs.File.{HasFewLines};
 ghost use Rattle.result_rules.specs.Judging.{Judges};
@@ -75,6 +75,7 @@ pub fn ruling_of_file<H: Shelf>(
     ensures read_out { OnOk result (IsAtEnd (H.left shelf.new)) }
     ensures rest { IsErrOf result Unread.TooLong → LeavesRest max_result name.now (H.files shelf.old) (H.left shelf.new) }
     ensures unread { LeavesOnly max_result name.now (H.files shelf.old) (H.left shelf.new) }
+    ensures opens { H.opens shelf.new ≡ H.opens shelf.old ++ name.now ∷ [] }
 
     ensures reads_shelf { ReadsShelf H.Shelf (IsErrAnd result (λ why. why ≡ failed)) shelf.old shelf.new }
 {

@@ -1,6 +1,7 @@
 pub mod GradeAnswer
 pub mod GradeText
 pub mod Limits
+pub mod Opening
 pub mod Outcomes
 pub mod Reach
 pub mod Ungrading

@@ -1,5 +1,5 @@
 //! What is graded: known relationships, and the paths of dumps.
-ghost use Rattle.std.specs.Prelude.{◌≡◌, ◌≤◌, ◌-◌, ◌<◌, Ok, Err, IfOk, IfErr, OnOk, IfSome, IsNone, IsErrAnd, IsOk, length, take};
+ghost use Rattle.std.specs.Prelude.{◌≡◌, ◌≤◌, ◌-◌, ◌<◌, ◌++◌, Ok, Err, Some, IfOk, IfErr, OnOk, IfSome, IsNone, IsErrAnd, IsOk, length, take};
 ghost use Rattle.std.specs.Io.KnownBytes.{IsAtEnd};
 ghost use Rattle.tor_arena.specs.Limits.{max_paths};
 ghost use Rattle.path_clean.specs.declared.cleaned.Sets.TheVariants.{Cut};
@@ -8,10 +8,12 @@ ghost use Rattle.dump_read.specs.Seen.{Absent, end_named};
 ghost use Rattle.as_rel.specs.Serial.{rel_in, IsReadingError};
 ghost use Rattle.tor_words.specs.GradeGiven.{grade_settings_given};
 ghost use Rattle.run_base.specs.Frames.{ReadsShelf};
+ghost use Rattle.run_base.specs.Opening.{OpensInOrder, AllRead};
 ghost use Rattle.run_base.specs.Reach.{IsDumpInReach};
 ghost use Rattle.run_base.specs.Reading.{nothing, IsOfSomeDumps};
 ghost use Rattle.torgrade_run.specs.Outcomes.{seen_by};
 ghost use Rattle.torgrade_run.specs.GradeAnswer.{IsGraded, IsGradedOfSome};
+ghost use Rattle.torgrade_run.specs.Opening.{UngradedEnds, UngradedOpens, files_named, named_in};
 ghost use Rattle.torgrade_run.specs.Reach.{IsUngradedInReach, StaysUngradedInReach};
 ghost use Rattle.torgrade_run.specs.Ungrading.{IsKnown, IsGradedFrom, IsGradedIn, IsGradedOfSomeFrom, IsGradedOfSomeIn, IsUngradedBy};
 ghost use Rattle.torgrade_run.specs.Ungrading.{IsUngradedIn, IsUngraded, IsFailedRead, IsOfGradeWords, AnswersUngraded, text_of};
@@ -104,6 +106,8 @@ fn taken_of<H: Shelf>(
     ensures some { IfOk result (IsOfSomeDumps Cut (length dumps.now) (nothing max_paths)) }
     ensures read_out { OnOk result (0 < length dumps.now → IsAtEnd (H.left shelf.new)) }
     ensures reach { IfErr result (λ e. IsDumpInReach dumps.now (H.files shelf.old) (H.left shelf.new) e.dump e.error) }
+    ensures opens { OnOk result (H.opens shelf.new ≡ H.opens shelf.old ++ dumps.now) }
+    ensures opens_stop { IfErr result (λ e. H.opens shelf.new ≡ H.opens shelf.old ++ take e.dump dumps.now) }
 
     ensures reads_shelf { ReadsShelf H.Shelf (IsErrAnd result (λ e. e.error ≡ read_failed)) shelf.old shelf.new }
     ensures steady_failed { H.steady shelf.old → IfErr result (λ e. e.error ≡ read_failed →
@@ -130,6 +134,8 @@ fn graded_from<H: Shelf>(
     ensures ungraded { IfErr result (IsUngradedBy bytes settings.now.dumps (H.files shelf.old) (H.steady shelf.old)) }
     ensures read_out { OnOk result (IsAtEnd (H.left shelf.new)) }
     ensures reach { IsAtEnd (H.left shelf.old) → IfErr result (IsUngradedInReach settings.now (H.files shelf.old) (H.left shelf.new)) }
+    ensures opens { OnOk result (H.opens shelf.new ≡ H.opens shelf.old ++ settings.now.dumps) }
+    ensures opens_stop { IfErr result (λ u. UngradedOpens settings.now.dumps u (H.opens shelf.old) (H.opens shelf.new)) }
 
     ensures reads_shelf { ReadsShelf H.Shelf (IsErrAnd result IsFailedRead) shelf.old shelf.new }
 {
@@ -156,6 +162,9 @@ fn graded_in<H: Shelf>(
     ensures ungraded { IfErr result (IsUngradedIn settings.now (H.files shelf.old) (H.steady shelf.old)) }
     ensures no_words { IfErr result (λ u. IsOfGradeWords u → ⊥) }
     ensures reach { IfErr result (IsUngradedInReach settings.now (H.files shelf.old) (H.left shelf.new)) }
+    ensures opens { OnOk result (OpensInOrder (Some (named_in settings.now)) (λ end. end ≡ AllRead) (H.opens shelf.old) (H.opens shelf.new)) }
+    ensures opens_stop { IfErr result (λ u.
+        OpensInOrder (Some (named_in settings.now)) (UngradedEnds u) (H.opens shelf.old) (H.opens shelf.new)) }
     ensures read_out { OnOk result (IsAtEnd (H.left shelf.new)) }
 
     ensures reads_shelf { ReadsShelf H.Shelf (IsErrAnd result IsFailedRead) shelf.old shelf.new }
@@ -177,6 +186,8 @@ pub(crate) fn graded_asked<H: Shelf>(
     ensures of_some { IfOk result (λ graded. IsGradedOfSome words.now (text_of graded)) }
     ensures ungraded { IfErr result (IsUngraded words.now (H.files shelf.old) (H.steady shelf.old)) }
     ensures reach { IfErr result (StaysUngradedInReach words.now (H.files shelf.old) (H.left shelf.new)) }
+    ensures opens { OnOk result (OpensInOrder (files_named words.now) (λ end. end ≡ AllRead) (H.opens shelf.old) (H.opens shelf.new)) }
+    ensures opens_stop { IfErr result (λ u. OpensInOrder (files_named words.now) (UngradedEnds u) (H.opens shelf.old) (H.opens shelf.new)) }
 
     ensures settled { IsNone (grade_settings_given words.now) → IsErrAnd result IsOfGradeWords }
     ensures read_out { OnOk result (IsAtEnd (H.left shelf.new)) }

@@ -12,6 +12,8 @@ ghost use Rattle.tor_words.specs.GradeGiven.{grade_settings_given};
 ghost use Rattle.std.specs.Io.KnownBytes.{IsAtEnd};
 ghost use Rattle.run_base.specs.Answers.{IsNoted, note_in};
 ghost use Rattle.run_base.specs.Frames.{RunLeavesShelf, RunLeavesOut};
+ghost use Rattle.run_base.specs.Opening.{OpensInOrder, EndsSo};
+ghost use Rattle.torgrade_run.specs.Opening.{files_named};
 ghost use Rattle.torgrade_run.specs.Reach.{GradingEndsInReach};
 ghost use Rattle.torgrade_run.specs.Outcomes.{Reads, NoRel, LongRel, BadRel, Ends, Gives, LeavesRestOf};
 ghost use Rattle.torgrade_run.specs.GradeAnswer.{GainsGrades, GainsGradesPrefix, LeadsTo, LeadsToMalformed, LeadsToLimit, LeadsToAbsent};
@@ -54,6 +56,8 @@ fn answer<H: Shelf, O: Sink>(
     ensures bounded { result.status ≡ Status.Limit → LeadsTo words.now (H.files shelf.old) LongRel →
         LeavesRestOf words.now (H.files shelf.old) (H.left shelf.new) }
     ensures reach { GradingEndsInReach words.now (H.files shelf.old) (H.left shelf.new) result.status (note_in result) }
+    ensures opens { OpensInOrder (files_named words.now) (EndsSo result.status (note_in result))
+        (H.opens shelf.old) (H.opens shelf.new) }
     ensures untouched { result.status ≡ Status.Usage → shelf.new ≡ shelf.old }
     ensures leaves_shelf { RunLeavesShelf H.Shelf result.status shelf.old shelf.new }
     ensures leaves_out { RunLeavesOut O.Sink result.status out.old out.new }
@@ -134,6 +138,9 @@ pub fn grade<H: Shelf, O: Sink, E: Sink>(
         (E.faults err.old) (E.faults err.new) (E.held err.old) (E.held err.new) }
     // And how far the file or the dump that it names was read.
     ensures reach { IsNoted (GradingEndsInReach words.now (H.files shelf.old) (H.left shelf.new) result)
+        (E.faults err.old) (E.faults err.new) (E.held err.old) (E.held err.new) }
+    // And which files were opened: those that the words name, in their order, up to the one at which it ended.
+    ensures opens { IsNoted (λ note. OpensInOrder (files_named words.now) (EndsSo result note) (H.opens shelf.old) (H.opens shelf.new))
         (E.faults err.old) (E.faults err.new) (E.held err.old) (E.held err.new) }
     ensures silent { result ≡ Status.Done → E.held err.new ≡ E.held err.old }
 {

@@ -1,8 +1,10 @@
 //! The picture that the words ask for.
-ghost use Rattle.std.specs.Prelude.{◌≡◌, Some, IfOk, IfErr, OnOk, IsNone, IsErrAnd, IsTrue, IsFalse, string_bytes};
+ghost use Rattle.std.specs.Prelude.{◌≡◌, ◌++◌, ◌∷◌, [], Some, IfOk, IfErr, OnOk, IsNone, IsErrAnd, IsTrue, IsFalse, string_bytes};
 ghost use Rattle.std.specs.Io.KnownBytes.{IsAtEnd};
 ghost use Rattle.tor_words.specs.ViewGiven.{AreFew, view_settings_given};
 ghost use Rattle.run_base.specs.Frames.{ReadsShelf};
+ghost use Rattle.run_base.specs.Opening.{OpensInOrder, AllRead};
+ghost use Rattle.torcheck_run.specs.AskedOpening.{UnsaidEnds, files_asked};
 ghost use Rattle.torcheck_run.specs.Asking.{Says, Gives, GivesIn};
 ghost use Rattle.torcheck_run.specs.Unsaying.{SaysAbsent, IsUnanswered, IsUnmetInReach, IsUnsaidIn, IsUnsaid, IsUnsaidInReach};
 ghost use Rattle.torcheck_run.specs.Unsaying.{IsFailedRead, IsOfAskingWords};
@@ -96,6 +98,7 @@ fn seen_in<H: Shelf>(
     ensures no_words { IfErr result (λ u. IsOfAskingWords u → ⊥) }
     ensures reach { IfErr result (IsUnmetInReach (H.files shelf.old) (H.left shelf.new) settings.now.result) }
     ensures read_out { OnOk result (IsAtEnd (H.left shelf.new)) }
+    ensures opens { H.opens shelf.new ≡ H.opens shelf.old ++ settings.now.result ∷ [] }
 
     ensures reads_shelf { ReadsShelf H.Shelf (IsErrAnd result IsFailedRead) shelf.old shelf.new }
 {
@@ -119,6 +122,8 @@ pub(crate) fn seen_asked<H: Shelf>(
     ensures settled { IsNone (view_settings_given words.now) → IsErrAnd result IsOfAskingWords }
     ensures read_out { OnOk result (IsAtEnd (H.left shelf.new)) }
 
+    ensures opens { OnOk result (OpensInOrder (files_asked viewing words.now) (λ end. end ≡ AllRead) (H.opens shelf.old) (H.opens shelf.new)) }
+    ensures opens_stop { IfErr result (λ u. OpensInOrder (files_asked viewing words.now) (UnsaidEnds u) (H.opens shelf.old) (H.opens shelf.new)) }
     ensures untouched { IfErr result (λ u. IsOfAskingWords u → shelf.new ≡ shelf.old) }
     ensures reads_shelf { ReadsShelf H.Shelf (IsErrAnd result IsFailedRead) shelf.old shelf.new }
 {

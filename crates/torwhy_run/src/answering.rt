@@ -6,6 +6,8 @@ ghost use Rattle.tor_io.specs.Contents.{Files};
 ghost use Rattle.tor_words.specs.WhyGiven.{why_settings_given};
 ghost use Rattle.run_base.specs.Answers.{IsNoted, note_in};
 ghost use Rattle.run_base.specs.Frames.{RunLeavesShelf, RunLeavesOut};
+ghost use Rattle.run_base.specs.Opening.{OpensInOrder, EndsSo};
+ghost use Rattle.torcheck_run.specs.AskedOpening.{files_asked};
 ghost use Rattle.torcheck_run.specs.Asking.{NoResult, TooLong, Breaks, Lacks, Says, Gives, LeavesRestOf};
 ghost use Rattle.torcheck_run.specs.Saying.{GainsAnswer, GainsAnswerPrefix, IsNo, IsSayingNote};
 ghost use Rattle.torwhy_run.specs.Whys.{telling};
@@ -44,6 +46,8 @@ fn answer<H: Shelf, O: Sink>(
     // What is left in the objects.
     ensures read_out { (result.status ≡ Status.Done) ⊎ (result.status ≡ Status.No) → IsAtEnd (H.left shelf.new) }
     ensures bounded { result.status ≡ Status.Limit → LeavesRestOf telling words.now (H.files shelf.old) (H.left shelf.new) }
+    ensures opens { OpensInOrder (files_asked telling words.now) (EndsSo result.status (note_in result))
+        (H.opens shelf.old) (H.opens shelf.new) }
     ensures untouched { result.status ≡ Status.Usage → shelf.new ≡ shelf.old }
     ensures leaves_shelf { RunLeavesShelf H.Shelf result.status shelf.old shelf.new }
     ensures leaves_out { RunLeavesOut O.Sink result.status out.old out.new }
@@ -110,6 +114,9 @@ pub fn why<H: Shelf, O: Sink, E: Sink>(
 
     // What is written to err: the status' note, or a prefix of it where err failed; at Done nothing.
     ensures note { IsNoted (IsSayingNote telling words.now (H.files shelf.old) (H.steady shelf.old) (H.left shelf.new) result)
+        (E.faults err.old) (E.faults err.new) (E.held err.old) (E.held err.new) }
+    // And which file was opened: the result that the words name, once, and no other.
+    ensures opens { IsNoted (λ note. OpensInOrder (files_asked telling words.now) (EndsSo result note) (H.opens shelf.old) (H.opens shelf.new))
         (E.faults err.old) (E.faults err.new) (E.held err.old) (E.held err.new) }
     ensures silent { result ≡ Status.Done → E.held err.new ≡ E.held err.old }
 {

@@ -21,6 +21,7 @@ returns-in-Err g c =
       bounded = stopped.bounded;
       shown = stopped.shown;
       files = stopped.files;
+      opens = stopped.opens;
       later = stopped.later;
       failed = stopped.failed;
       quiet = stopped.quiet;

@@ -33,6 +33,7 @@ records-init g c =
       reads = reads_none (left shelf) 0 (next_place c.args.frames.now).offset (omega arith);
       behind = rw c.requires.start (begins (left shelf));
       files = refl;
+      opens = refl;
       quiet = refl;
       steady = λ s. s;
     }
@@ -106,6 +107,7 @@ records-preserved g c =
           (goes_behind (left (shelf_of c.args.frames.now)) (left (shelf_of c.records.frames)) (left (shelf_of frames)) (next_place c.records.frames) (lent_record c.in-Ok-Some.found)
           c.records.invariant.behind step.stands);
       files = step.leaves.files ∙ c.records.invariant.files;
+      opens = step.leaves.opens ∙ c.records.invariant.opens;
       quiet = step.leaves.quiet tt ∙ c.records.invariant.quiet;
       steady = λ s. step.leaves.steady (c.records.invariant.steady s);
     }

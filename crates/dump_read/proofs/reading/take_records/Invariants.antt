@@ -22,6 +22,7 @@ invariant-records g l =
       reads : ReadsUpTo 0 (next_place l.frames).offset (shelf.left (shelf_of l.fn.frames)) (shelf.left (shelf_of l.frames));
       behind : BehindOf (shelf.left (shelf_of l.fn.frames)) (shelf.left (shelf_of l.frames)) (next_place l.frames);
       files : shelf.files (shelf_of l.frames) ≡ shelf.files (shelf_of l.fn.frames);
+      opens : shelf.opens (shelf_of l.frames) ≡ shelf.opens (shelf_of l.fn.frames);
       quiet : shelf.faults (shelf_of l.frames) ≡ shelf.faults (shelf_of l.fn.frames);
       steady : shelf.steady (shelf_of l.fn.frames) → shelf.steady (shelf_of l.frames);
     }

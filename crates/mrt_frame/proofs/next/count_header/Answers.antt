@@ -17,6 +17,7 @@ returns-in-Ok g c =
     let is = c.in-Ok-Some.field-0-is in
     record {
       files = e.files;
+      opens = e.opens;
       header = at_some _ header (λ h. IfSome before (λ octets. TakesHeader at octets h after)) is e.header;
       within = at_some _ header (λ h. at.offset + 12 + h.len ≤ max_file) is e.within;
       some = at_some _ header (λ h. HasRead before after (AreHeader at h)) is e.some;
@@ -41,6 +42,7 @@ returns-in-Ok-None g c =
     let is = c.in-Ok-None.field-0-is in
     record {
       files = e.files;
+      opens = e.opens;
       header = tt;
       within = tt;
       some = tt;
@@ -65,6 +67,7 @@ returns-in-Err g c =
     let e = c.in-Err.ensures in
     record {
       files = e.files;
+      opens = e.opens;
       header = tt;
       within = tt;
       some = tt;
@@ -88,6 +91,7 @@ returns-in-Err-add g c =
     let e = c.in-Ok-Some.ensures in
     record {
       files = e.files;
+      opens = e.opens;
       header = tt;
       within = tt;
       some = tt;

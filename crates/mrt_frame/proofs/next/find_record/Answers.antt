@@ -24,6 +24,7 @@ records-init g c =
     let left = g.H.Shelf.left c.args.shelf.now in
     record {
       files = refl;
+      opens = refl;
       passed = begins left c.args.start;
       counted = begins_counting left c.args.start c.args.counts.now;
       some = none_passed left c.args.start c.args.counts.now;
@@ -52,6 +53,7 @@ records-preserved g c =
     let passed = c.in-Ok-pass_body.ensures in
     record {
       files = passed.files ∙ e.files ∙ c.records.invariant.files;
+      opens = passed.opens ∙ e.opens ∙ c.records.invariant.opens;
       passed = passed_one (shelf.left c.args.shelf.now) (shelf.left c.records.shelf) mid (shelf.left c.pass_body.new.shelf) c.args.start at c.behind-at.result header
           c.records.invariant.passed taken passed.skipped unread c.behind-at.ensures.number c.behind-at.ensures.offset;
       counted = counted_one (shelf.left c.args.shelf.now) (shelf.left c.records.shelf) mid (shelf.left c.pass_body.new.shelf) c.args.start at c.behind-at.result header
@@ -92,6 +94,7 @@ returns-in-Ok g c =
     let len : length body ≡ header.len = omega (arith, b.len) in
     record {
       files = b.files ∙ e.files ∙ so_far.files;
+      opens = b.opens ∙ e.opens ∙ so_far.opens;
       «record» = finds before (left c.records.shelf) mid after c.args.start at header kind body so_far.passed taken b.skipped b.taken (sym c.in-Some.ensures);
       some = found_some before (left c.records.shelf) mid after c.args.start at header kind body c.args.counts.now c.records.counts c.count_header.new.counts so_far.some
           (subst (λ o. IfSome o (λ h. HasRead (left c.records.shelf) mid (AreHeader at h))) is e.some) b.gathered len counts_are (sym c.in-Some.ensures);
@@ -132,6 +135,7 @@ returns-in-Ok-None g c =
     let same : c.count_header.new.counts ≡ c.records.counts = subst (λ o. IfNone o (c.count_header.new.counts ≡ c.records.counts)) is e.same in
     record {
       files = e.files ∙ so_far.files;
+      opens = e.opens ∙ so_far.opens;
       «record» = tt;
       some = tt;
       some_end = ended_some before (left c.records.shelf) last c.args.start at c.args.counts.now c.records.counts c.count_header.new.counts so_far.some nothing same;
@@ -167,6 +171,7 @@ returns-in-Err g c =
     let e = c.in-Err.ensures in
     record {
       files = e.files ∙ so_far.files;
+      opens = e.opens ∙ so_far.opens;
       «record» = tt;
       some = tt;
       some_end = tt;
@@ -217,6 +222,7 @@ returns-in-Err-read_body g c =
     let quiet : shelf.faults c.count_header.new.shelf ≡ shelf.faults c.args.shelf.now = e.quiet tt ∙ so_far.quiet in
     record {
       files = b.files ∙ e.files ∙ so_far.files;
+      opens = b.opens ∙ e.opens ∙ so_far.opens;
       «record» = tt;
       some = tt;
       some_end = tt;
@@ -265,6 +271,7 @@ returns-in-Err-pass_body g c =
     let quiet : shelf.faults c.count_header.new.shelf ≡ shelf.faults c.args.shelf.now = e.quiet tt ∙ so_far.quiet in
     record {
       files = b.files ∙ e.files ∙ so_far.files;
+      opens = b.opens ∙ e.opens ∙ so_far.opens;
       «record» = tt;
       some = tt;
       some_end = tt;

@@ -11,6 +11,7 @@ invariant-records g l =
     let shelf = g.H.Shelf in
     record {
       files : shelf.files l.shelf ≡ shelf.files l.fn.shelf;
+      opens : shelf.opens l.shelf ≡ shelf.opens l.fn.shelf;
       passed : HasPassed (shelf.left l.fn.shelf) l.fn.start (shelf.left l.shelf) l.at;
       counted : CountsOn (shelf.left l.fn.shelf) l.fn.start l.fn.counts (shelf.left l.shelf) l.at l.counts;
       some : HasRead (shelf.left l.fn.shelf) (shelf.left l.shelf) (ArePassed l.fn.start l.fn.counts l.at l.counts);

@@ -11,6 +11,7 @@ returns-in-Ok-true g c =
     let is = c.in-Ok-true.field-0-test in
     record {
       files = e.files;
+      opens = e.opens;
       gathered = e.gathered is;
       skipped = e.skipped is;
       reads = e.reads;
@@ -29,6 +30,7 @@ returns-in-Ok-false g c =
     let is = c.in-Ok-false.field-0-test in
     record {
       files = e.files;
+      opens = e.opens;
       gathered = tt;
       skipped = tt;
       reads = e.reads;
@@ -46,6 +48,7 @@ returns-in-Err g c =
     let e = c.in-Err.ensures in
     record {
       files = e.files;
+      opens = e.opens;
       gathered = tt;
       skipped = tt;
       reads = e.reads;

@@ -12,6 +12,7 @@ returns-in-Err g c =
     let e = c.in-Err.ensures in
     record {
       files = e.files;
+      opens = e.opens;
       skipped = tt;
       gathered = tt;
       taken = tt;
@@ -35,6 +36,7 @@ returns-then-len g c =
     let few : length items < c.args.len = omega arith in
     record {
       files = e.files;
+      opens = e.opens;
       skipped = tt;
       gathered = tt;
       taken = tt;
@@ -56,6 +58,7 @@ returns g c =
     let e = c.in-Ok.ensures in
     record {
       files = e.files;
+      opens = e.opens;
       skipped = skips_part before after c.args.len items e.taken (omega arith);
       gathered = e.gathered;
       taken = takes_part before after c.args.len items e.taken;

@@ -15,6 +15,7 @@ returns-in-Err g c =
     let e = c.in-Err.ensures in
     record {
       files = e.files;
+      opens = e.opens;
       header = tt;
       within = tt;
       some = tt;
@@ -41,6 +42,7 @@ returns-in-Nothing g c =
     let none : length head ≡ 0 = subst (λ t. length t ≡ 0) c.deref.ensures.value c.in-Nothing.ensures in
     record {
       files = e.files;
+      opens = e.opens;
       header = tt;
       within = tt;
       some = tt;
@@ -67,6 +69,7 @@ returns-in-Cut g c =
     let few : (0 < length head) × (length head < 12) = subst (λ t. (0 < length t) × (length t < 12)) c.deref.ensures.value c.in-Cut.ensures in
     record {
       files = e.files;
+      opens = e.opens;
       header = tt;
       within = tt;
       some = tt;
@@ -94,6 +97,7 @@ returns-then-at-from-gt-MAX_FILE g c =
     let whole : (length head ≡ 12) × Says head header = subst (λ t. (length t ≡ 12) × Says t header) c.deref.ensures.value c.in-Whole.ensures in
     record {
       files = e.files;
+      opens = e.opens;
       header = tt;
       within = tt;
       some = tt;
@@ -121,6 +125,7 @@ returns-then-is_oversize g c =
     let whole : (length head ≡ 12) × Says head header = subst (λ t. (length t ≡ 12) × Says t header) c.deref.ensures.value c.in-Whole.ensures in
     record {
       files = e.files;
+      opens = e.opens;
       header = tt;
       within = tt;
       some = tt;
@@ -149,6 +154,7 @@ returns g c =
     let small = sym c.is_oversize.ensures ∙ c.if-is_oversize.false in
     record {
       files = e.files;
+      opens = e.opens;
       header = takes_header before after at header head e.taken (omega (arith, whole.0)) whole.1 (omega arith) small;
       within = omega arith;
       some = (head, e.gathered, header_of at header head whole.0 whole.1 (omega arith) small);

@@ -13,6 +13,7 @@ parts-preserved g c =
     let before = c.parts.invariant in
     record {
       files = facts.files ∙ before.files;
+      opens = facts.opens ∙ before.opens;
       skipped = skips_read (left c.args.shelf.now) (left c.parts.shelf) (left c.read.new.self) c.parts.passed count (take count c.read.new.buf) before.skipped facts.taken facts.bound.1;
       gathered = so_many_more (left c.args.shelf.now) (left c.parts.shelf) (left c.read.new.self) c.parts.passed count (take count c.read.new.buf) before.gathered (sym facts.bound.1) facts.taken;
       reads = reads_then (left c.args.shelf.now) (left c.parts.shelf) (left c.read.new.self) 0 c.parts.passed (c.parts.passed + count) before.reads

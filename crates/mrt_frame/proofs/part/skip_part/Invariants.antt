@@ -9,6 +9,7 @@ invariant-parts g l =
     let shelf = g.H.Shelf in
     record {
       files : shelf.files l.shelf ≡ shelf.files l.fn.shelf;
+      opens : shelf.opens l.shelf ≡ shelf.opens l.fn.shelf;
       skipped : Skips (shelf.left l.fn.shelf) l.passed (shelf.left l.shelf);
       gathered : HasReadSo l.passed (shelf.left l.fn.shelf) (shelf.left l.shelf);
       reads : ReadsUpTo 0 l.passed (shelf.left l.fn.shelf) (shelf.left l.shelf);

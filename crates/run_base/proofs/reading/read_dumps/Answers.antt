@@ -5,6 +5,7 @@ use Rattle.dump_read.specs.Seen.{end_named, of_file}
 use Rattle.dump_read.specs.Reach.{StopsBounded, LeavesRestOfDump}
 use Rattle.run_base.specs.Reading.{name_of_dump}
 use Rattle.run_base.proofs.Dumps.{absent, one_more, stops, named, some_more}
+use Rattle.run_base.proofs.Openings.{dump_opened}
 use Rattle.run_base.proofs.reading.read_dumps.Goals as goal
 
 pub returns-in-Err-clause-stopped : goal.returns-in-Err-clause-stopped
@@ -46,6 +47,8 @@ loop-place-preserved g c =
       some = some_more c.args.sets c.args.taken.now mid new i c.loop-place.invariant.some c.in-Ok.ensures.some_file;
       read_out = λ _. c.in-Ok.ensures.at_end;
       files = c.in-Ok.ensures.files ∙ c.loop-place.invariant.files;
+      opens = dump_opened (g.H.Shelf.opens c.args.shelf.now) (g.H.Shelf.opens c.loop-place.shelf) (g.H.Shelf.opens c.read_dump.new.shelf) c.args.dumps.now i name c.as_text.result.now
+          c.loop-place-test.true c.index-dumps-place.is c.as_text.ensures c.loop-place.invariant.opens c.in-Ok.ensures.opens;
       quiet = c.in-Ok.ensures.quiet (λ e. cc) ∙ c.loop-place.invariant.quiet;
       steady = λ s. c.in-Ok.ensures.steady (c.loop-place.invariant.steady s);
     }
@@ -69,3 +72,8 @@ returns-in-Err-clause-shown g c = λ is.
     let same : c.as_text.result.now ≡ name_of_dump c.args.dumps.now (i + 1) = c.as_text.ensures ∙ named c.args.dumps.now i name c.loop-place-test.true c.index-dumps-place.is in
     subst (λ (n : List ℕ). LeavesRestOfDump n known left) same
     (subst (λ o. LeavesRestOfDump c.as_text.result.now o left) c.loop-place.invariant.files (c.in-Err.ensures.shown (ap (λ x. Err x) is)))
+
+pub returns-in-Err-clause-opens_stop : goal.returns-in-Err-clause-opens_stop
+returns-in-Err-clause-opens_stop g c =
+    dump_opened (g.H.Shelf.opens c.args.shelf.now) (g.H.Shelf.opens c.loop-place.shelf) (g.H.Shelf.opens c.read_dump.new.shelf) c.args.dumps.now c.loop-place.place
+    c.index-dumps-place.result c.as_text.result.now c.loop-place-test.true c.index-dumps-place.is c.as_text.ensures c.loop-place.invariant.opens c.in-Err.ensures.opens

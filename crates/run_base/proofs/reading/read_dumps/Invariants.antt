@@ -1,4 +1,4 @@
-use Rattle.std.proofs.Common.{◌≡◌, ◌<◌, take, Ok}
+use Rattle.std.proofs.Common.{◌≡◌, ◌<◌, ◌++◌, take, Ok}
 use Rattle.std.specs.Prelude.{IfSome}
 use Rattle.std.specs.Io.KnownBytes.{IsAtEnd}
 use Rattle.run_base.specs.Reading.{IsOfSomeDumps, seen_from}
@@ -14,6 +14,7 @@ invariant-loop-place g l =
       some : IsOfSomeDumps l.sets l.place l.fn.taken l.taken;
       read_out : 0 < l.place → IsAtEnd (shelf.left l.shelf);
       files : shelf.files l.shelf ≡ shelf.files l.fn.shelf;
+      opens : shelf.opens l.shelf ≡ shelf.opens l.fn.shelf ++ take l.place l.dumps;
       quiet : shelf.faults l.shelf ≡ shelf.faults l.fn.shelf;
       steady : shelf.steady l.fn.shelf → shelf.steady l.shelf;
     }

@@ -18,6 +18,7 @@ parts-preserved g c =
       few = omega (arith, ap length gains, length-append old part, length-take c.in_ok-count.count c.read_prefix.new.buffer, c.in_ok-count.ensures.bound);
       room = c.parts.invariant.room;
       files = c.in_ok-count.ensures.files ∙ c.parts.invariant.files;
+      opens = c.in_ok-count.ensures.opens ∙ c.parts.invariant.opens;
       quiet = c.in_ok-count.ensures.cause.quiet ∙ c.parts.invariant.quiet;
       steady = λ held. c.in_ok-count.ensures.steady (c.parts.invariant.steady held);
     }

@@ -11,6 +11,7 @@ invariant-parts g l =
       few : length l.bytes ≤ l.fn.most + 1;
       room : vec_len l.buffer ≡ 65536;
       files : shelf.files l.shelf ≡ shelf.files l.fn.shelf;
+      opens : shelf.opens l.shelf ≡ shelf.opens l.fn.shelf;
       quiet : shelf.faults l.shelf ≡ shelf.faults l.fn.shelf;
       steady : shelf.steady l.fn.shelf → shelf.steady l.shelf;
     }

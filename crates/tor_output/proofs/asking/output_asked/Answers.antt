@@ -1,3 +1,8 @@
+use Rattle.std.proofs.Common.{◌≡◌}
+use Rattle.run_base.specs.Opening.{AllRead}
+use Rattle.run_base.proofs.Openings.{none_opened}
+use Rattle.tor_output.specs.Opening.{UnwrittenEnds, files_named}
+use Rattle.tor_output.proofs.Openings.{opens_given}
 use Rattle.std.proofs.Common.{refl}
 use Rattle.std.proofs.lemmas.Result.{IfOk-weaker, IfErr-weaker, on_ok_weaker}
 use Rattle.tor_output.specs.Written.{written}
@@ -51,3 +56,20 @@ returns-in-Err-clause-reach g c = λ s is. tt
 
 pub output_for-output-requires-clause-written : goal.output_for-output-requires-clause-written
 output_for-output-requires-clause-written g c = (c.bounds_law.ensures c.args.words.now c.in-Ok.settings c.in-Ok.ensures.given).written
+
+pub returns-in-Ok-clause-opens : goal.returns-in-Ok-clause-opens
+returns-in-Ok-clause-opens g c =
+    let opens = g.H.Shelf.opens in
+    on_ok_weaker c.output_for-output.result
+    (λ h. opens_given c.args.words.now (opens c.args.shelf.now) (opens c.output_for-output.new.shelf) c.in-Ok.settings (λ end. end ≡ AllRead) c.in-Ok.ensures.given h)
+    c.output_for-output.ensures.opens
+
+pub returns-in-Ok-clause-opens_stop : goal.returns-in-Ok-clause-opens_stop
+returns-in-Ok-clause-opens_stop g c =
+    let opens = g.H.Shelf.opens in
+    IfErr-weaker c.output_for-output.result _ _
+    (λ u h. opens_given c.args.words.now (opens c.args.shelf.now) (opens c.output_for-output.new.shelf) c.in-Ok.settings (UnwrittenEnds u) c.in-Ok.ensures.given h)
+    c.output_for-output.ensures.opens_stop
+
+pub returns-in-Err-clause-opens_stop : goal.returns-in-Err-clause-opens_stop
+returns-in-Err-clause-opens_stop g c = none_opened (files_named c.args.words.now) c.in-Err.refused (g.H.Shelf.opens c.args.shelf.now)

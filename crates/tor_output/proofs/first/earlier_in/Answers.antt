@@ -22,4 +22,4 @@ returns-in-Ok-Broken-clause-unwritten g c =
     let known = g.H.Shelf.files c.args.shelf.now in
     let name = c.as_text.result.now in
     let broken = subst (λ (r : Ruling). IsRulingIn known name r) c.in-Ok-Broken.field-0-is c.in-Ok-Broken.ensures.ruling in
-    earlier_broken known c.args.name.now name broken.0 _ _ c.as_text.ensures broken.1.there broken.1.short broken.2
+    (tt, earlier_broken known c.args.name.now name broken.0 _ _ c.as_text.ensures broken.1.there broken.1.short broken.2)

@@ -1,3 +1,5 @@
+use Rattle.std.proofs.Common.{◌++◌, ap, ◌∙◌}
+use Rattle.tor_output.proofs.Openings.{memory_opens, read_stopped}
 use Rattle.tor_output.specs.Written.{written}
 use Rattle.tor_output.proofs.Resumings.{rows_begin, joined_made, joined_some, joined_refused, joined_reach}
 use Rattle.tor_output.proofs.resuming.joined_output.Goals as goal
@@ -39,3 +41,14 @@ returns-in-Err-clause-reach g c =
     let e = c.in-Err.ensures in
     joined_reach c.args.settings.now c.as_slice-dumps.result.now (shelf.files c.args.shelf.now) (shelf.left c.read_dumps.new.shelf) c.in-Err.stopped c.as_slice-dumps.ensures e.named e.place
     e.bounded e.shown
+
+pub returns-in-Err-clause-opens_stop : goal.returns-in-Err-clause-opens_stop
+returns-in-Err-clause-opens_stop g c =
+    let opens = g.H.Shelf.opens in
+    let e = c.in-Err.ensures in
+    read_stopped c.args.settings.now c.as_slice-dumps.result.now (opens c.args.shelf.now) (opens c.read_dumps.new.shelf) c.in-Err.stopped c.as_slice-dumps.ensures e.named e.place e.opens_stop
+
+pub returns-in-Err-resumed_text-clause-opens_stop : goal.returns-in-Err-resumed_text-clause-opens_stop
+returns-in-Err-resumed_text-clause-opens_stop g c =
+    let before = g.H.Shelf.opens c.args.shelf.now in
+    memory_opens c.args.settings.now.dumps before (g.H.Shelf.opens c.read_dumps.new.shelf) (c.in-Ok.ensures.opens ∙ ap (λ ds. before ++ ds) c.as_slice-dumps.ensures)

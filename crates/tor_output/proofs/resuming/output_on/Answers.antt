@@ -1,3 +1,4 @@
+use Rattle.tor_output.proofs.Openings.{past_opens}
 use Rattle.std.proofs.Common.{◌≤◌, List, length, refl, sym, subst, arith}
 use Rattle.std.proofs.lemmas.Result.{IfOk-weaker as asked_if, IfErr-weaker as refused_if}
 use Rattle.relationships.specs.declared.given.Given.{Given}
@@ -40,3 +41,6 @@ returns-in-Ok-clause-of_some g c = asked_if c.joined_output.result _ _ (λ outpu
 
 pub returns-in-Ok-clause-refused : goal.returns-in-Ok-clause-refused
 returns-in-Ok-clause-refused g c = refused_if c.joined_output.result _ _ (λ refusal made. made c.args.earlier c.in-Ok.ensures.begun) c.joined_output.ensures.refused
+
+pub returns-in-Err-clause-opens_stop : goal.returns-in-Err-clause-opens_stop
+returns-in-Err-clause-opens_stop g c = past_opens c.args.settings.now c.in-Err.refusal (g.H.Shelf.opens c.args.shelf.now) c.in-Err.ensures.refused

@@ -58,3 +58,10 @@ returns-clause-note g c =
     noted _ c.write_all.result (err.faults c.args.err.now) (err.faults c.write_all.new.sink) (err.held c.args.err.now) (err.held c.write_all.new.sink)
     c.note.result.now (note_in c.answer-answer.result)
     c.answer-answer.ensures.note c.note.ensures c.write_all.ensures.cause c.write_all.ensures.all c.write_all.ensures.prefix
+
+pub returns-clause-opens : goal.returns-clause-opens
+returns-clause-opens g c =
+    let err = g.E.Sink in
+    noted _ c.write_all.result (err.faults c.args.err.now) (err.faults c.write_all.new.sink) (err.held c.args.err.now) (err.held c.write_all.new.sink)
+    c.note.result.now (note_in c.answer-answer.result)
+    c.answer-answer.ensures.opens c.note.ensures c.write_all.ensures.cause c.write_all.ensures.all c.write_all.ensures.prefix

@@ -24,6 +24,7 @@ parts-preserved g c =
       few = omega (arith, c.in_ok-count.ensures.bound);
       room = i.room;
       files = c.in_ok-count.ensures.files ∙ i.files;
+      opens = c.in_ok-count.ensures.opens ∙ i.opens;
       quiet = c.in_ok-count.ensures.cause.quiet ∙ i.quiet;
       steady = λ held. c.in_ok-count.ensures.steady (i.steady held);
     }

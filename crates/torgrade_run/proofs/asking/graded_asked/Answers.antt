@@ -1,3 +1,9 @@
+use Rattle.std.proofs.Common.{◌≡◌}
+use Rattle.std.proofs.lemmas.Result.{IfErr-weaker, on_ok_weaker}
+use Rattle.run_base.specs.Opening.{AllRead}
+use Rattle.run_base.proofs.Openings.{none_opened}
+use Rattle.torgrade_run.specs.Opening.{UngradedEnds, files_named}
+use Rattle.torgrade_run.proofs.Openings.{opens_given}
 use Rattle.torgrade_run.proofs.Reaching.{reach-given}
 use Rattle.torgrade_run.proofs.Ungradings.{words_graded, words_of_some, words_ungraded}
 use Rattle.torgrade_run.proofs.asking.graded_asked.Goals as goal
@@ -21,3 +27,20 @@ returns-in-Ok-clause-reach g c =
 
 pub returns-in-Err-clause-reach : goal.returns-in-Err-clause-reach
 returns-in-Err-clause-reach g c = λ s is. tt
+
+pub returns-in-Ok-clause-opens : goal.returns-in-Ok-clause-opens
+returns-in-Ok-clause-opens g c =
+    let opens = g.H.Shelf.opens in
+    on_ok_weaker c.graded_in.result
+    (λ h. opens_given c.args.words.now (opens c.args.shelf.now) (opens c.graded_in.new.shelf) c.in-Ok.settings (λ end. end ≡ AllRead) c.in-Ok.ensures.given h)
+    c.graded_in.ensures.opens
+
+pub returns-in-Ok-clause-opens_stop : goal.returns-in-Ok-clause-opens_stop
+returns-in-Ok-clause-opens_stop g c =
+    let opens = g.H.Shelf.opens in
+    IfErr-weaker c.graded_in.result _ _
+    (λ u h. opens_given c.args.words.now (opens c.args.shelf.now) (opens c.graded_in.new.shelf) c.in-Ok.settings (UngradedEnds u) c.in-Ok.ensures.given h)
+    c.graded_in.ensures.opens_stop
+
+pub returns-in-Err-clause-opens_stop : goal.returns-in-Err-clause-opens_stop
+returns-in-Err-clause-opens_stop g c = none_opened (files_named c.args.words.now) c.in-Err.refused (g.H.Shelf.opens c.args.shelf.now)

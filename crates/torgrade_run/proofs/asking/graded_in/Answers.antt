@@ -1,4 +1,5 @@
 use Rattle.std.proofs.Common.{Err, ap}
+use Rattle.torgrade_run.proofs.Openings.{all_opened, ungraded_behind, unread_opens}
 use Rattle.torgrade_run.proofs.Reaching.{reach-behind, reach-unread}
 use Rattle.torgrade_run.proofs.Ungradings.{file_graded, file_of_some, file_ungraded}
 use Rattle.torgrade_run.proofs.asking.graded_in.Goals as goal
@@ -30,3 +31,20 @@ returns-in-Err-clause-reach g c =
     let shelf = g.H.Shelf in
     reach-unread c.args.settings.now (shelf.files c.args.shelf.now) (shelf.left c.read_whole.new.shelf) c.as_text.result.now c.in-Err.unread
     c.as_text.ensures (λ is. c.in-Err.ensures.rest (ap (λ e. Err e) is)) c.in-Err.ensures.unread
+
+pub returns-in-Ok-clause-opens : goal.returns-in-Ok-clause-opens
+returns-in-Ok-clause-opens g c =
+    let opens = g.H.Shelf.opens in
+    all_opened (opens c.args.shelf.now) (opens c.read_whole.new.shelf) (opens c.graded_from.new.shelf) c.args.settings.now c.as_text.result.now c.as_text.ensures c.in-Ok.ensures.opens
+    c.graded_from.result c.graded_from.ensures.opens
+
+pub returns-in-Ok-clause-opens_stop : goal.returns-in-Ok-clause-opens_stop
+returns-in-Ok-clause-opens_stop g c =
+    let opens = g.H.Shelf.opens in
+    ungraded_behind (opens c.args.shelf.now) (opens c.read_whole.new.shelf) (opens c.graded_from.new.shelf) c.args.settings.now c.as_text.result.now c.as_text.ensures c.in-Ok.ensures.opens
+    c.graded_from.result c.graded_from.ensures.opens_stop
+
+pub returns-in-Err-clause-opens_stop : goal.returns-in-Err-clause-opens_stop
+returns-in-Err-clause-opens_stop g c =
+    let opens = g.H.Shelf.opens in
+    unread_opens (opens c.args.shelf.now) (opens c.read_whole.new.shelf) c.args.settings.now c.as_text.result.now c.in-Err.unread c.as_text.ensures c.in-Err.ensures.opens

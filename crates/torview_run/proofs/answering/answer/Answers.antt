@@ -1,4 +1,6 @@
+use Rattle.run_base.specs.Answers.{note_in}
 use Rattle.torcheck_run.proofs.AskedBounds.{bounded, written}
+use Rattle.torcheck_run.proofs.AskedOpenings.{said_ends, unsaid_ends}
 use Rattle.torcheck_run.proofs.Unsayings.{unsaid_note}
 use Rattle.torview_run.specs.Views.{viewing}
 use Rattle.torview_run.proofs.answering.answer.Goals as goal
@@ -16,3 +18,13 @@ returns-in-Err-clause-bounded g c =
 
 pub returns-in-Ok-clause-bounded : goal.returns-in-Ok-clause-bounded
 returns-in-Ok-clause-bounded g c = λ limit. written c.write_picture.result.status c.write_picture.ensures.status limit
+
+pub returns-in-Ok-clause-opens : goal.returns-in-Ok-clause-opens
+returns-in-Ok-clause-opens g c =
+    let opens = g.H.Shelf.opens in
+    said_ends viewing c.args.words.now (opens c.args.shelf.now) (opens c.seen_asked.new.shelf) c.write_picture.result.status (note_in c.write_picture.result) c.write_picture.ensures.status c.in-Ok.ensures.opens
+
+pub returns-in-Err-clause-opens : goal.returns-in-Err-clause-opens
+returns-in-Err-clause-opens g c =
+    let opens = g.H.Shelf.opens in
+    unsaid_ends viewing c.args.words.now (opens c.args.shelf.now) (opens c.seen_asked.new.shelf) c.in-Err.unsaid c.answer_to_unsaid.result c.answer_to_unsaid.ensures c.in-Err.ensures.opens_stop

@@ -1,4 +1,6 @@
+use Rattle.run_base.specs.Answers.{note_in}
 use Rattle.torcheck_run.proofs.AskedBounds.{bounded, written}
+use Rattle.torcheck_run.proofs.AskedOpenings.{said_ends, unsaid_ends}
 use Rattle.torcheck_run.proofs.Unsayings.{unsaid_note}
 use Rattle.torwhy_run.specs.Whys.{telling}
 use Rattle.torwhy_run.proofs.answering.answer.Goals as goal
@@ -16,3 +18,13 @@ returns-in-Err-clause-bounded g c =
 
 pub returns-in-Ok-clause-bounded : goal.returns-in-Ok-clause-bounded
 returns-in-Ok-clause-bounded g c = λ limit. written c.write_tale.result.status c.write_tale.ensures.status limit
+
+pub returns-in-Ok-clause-opens : goal.returns-in-Ok-clause-opens
+returns-in-Ok-clause-opens g c =
+    let opens = g.H.Shelf.opens in
+    said_ends telling c.args.words.now (opens c.args.shelf.now) (opens c.told_asked.new.shelf) c.write_tale.result.status (note_in c.write_tale.result) c.write_tale.ensures.status c.in-Ok.ensures.opens
+
+pub returns-in-Err-clause-opens : goal.returns-in-Err-clause-opens
+returns-in-Err-clause-opens g c =
+    let opens = g.H.Shelf.opens in
+    unsaid_ends telling c.args.words.now (opens c.args.shelf.now) (opens c.told_asked.new.shelf) c.in-Err.unsaid c.answer_to_unsaid.result c.answer_to_unsaid.ensures c.in-Err.ensures.opens_stop

@@ -88,3 +88,10 @@ returns-clause-no_other g c =
     let shelf = g.H.Shelf in
     let a = c.answer-answer in
     not_malformed telling c.args.words.now (shelf.files c.args.shelf.now) (shelf.steady c.args.shelf.now) (shelf.left a.new.shelf) a.result.status (note_in a.result) a.ensures.note
+
+pub returns-clause-opens : goal.returns-clause-opens
+returns-clause-opens g c =
+    let err = g.E.Sink in
+    noted _ c.write_all.result (err.faults c.args.err.now) (err.faults c.write_all.new.sink) (err.held c.args.err.now) (err.held c.write_all.new.sink)
+    c.note.result.now (note_in c.answer-answer.result)
+    c.answer-answer.ensures.opens c.note.ensures c.write_all.ensures.cause c.write_all.ensures.all c.write_all.ensures.prefix

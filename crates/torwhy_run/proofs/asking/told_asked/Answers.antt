@@ -1,3 +1,6 @@
+use Rattle.std.proofs.Common.{refl}
+use Rattle.std.proofs.lemmas.Result.{IfErr-weaker, on_ok_weaker}
+use Rattle.torcheck_run.proofs.AskedOpenings.{said_opens, unsaid_opens, words_open}
 use Rattle.torcheck_run.proofs.Answerings.{says_given}
 use Rattle.torcheck_run.proofs.Unsayings.{reach_given, unsaid_given}
 use Rattle.torwhy_run.specs.Whys.{tale_text, telling}
@@ -19,3 +22,22 @@ returns-in-Ok-clause-reach g c =
 
 pub returns-in-Err-clause-reach : goal.returns-in-Err-clause-reach
 returns-in-Err-clause-reach g c = λ s is. tt
+
+pub returns-in-Ok-clause-opens : goal.returns-in-Ok-clause-opens
+returns-in-Ok-clause-opens g c =
+    let opens = g.H.Shelf.opens in
+    on_ok_weaker c.told_in.result
+    (λ _. said_opens telling c.args.words.now (opens c.args.shelf.now) (opens c.told_in.new.shelf) c.in-Ok.settings c.in-Ok.settings.result c.in-Ok.ensures.given refl c.told_in.ensures.opens)
+    c.told_in.ensures.read_out
+
+pub returns-in-Ok-clause-opens_stop : goal.returns-in-Ok-clause-opens_stop
+returns-in-Ok-clause-opens_stop g c =
+    let opens = g.H.Shelf.opens in
+    IfErr-weaker c.told_in.result _ _
+    (λ u not. unsaid_opens telling c.args.words.now (opens c.args.shelf.now) (opens c.told_in.new.shelf) c.in-Ok.settings u c.in-Ok.settings.result c.in-Ok.ensures.given refl c.told_in.ensures.opens not)
+    c.told_in.ensures.no_words
+
+pub returns-in-Err-clause-opens_stop : goal.returns-in-Err-clause-opens_stop
+returns-in-Err-clause-opens_stop g c =
+    let before = g.H.Shelf.opens c.args.shelf.now in
+    words_open telling c.args.words.now before before c.in-Err.refused

@@ -32,6 +32,7 @@ returns-in-Ok-Some g c =
     ap₂ (λ (n o : ℕ). record { number = n; offset = o }) (sym c.behind-self.ensures.number) (ap (λ n. found.at.offset + 12 + n) len ∙ sym c.behind-self.ensures.offset) in
     record {
       files = e.files;
+      opens = e.opens;
       «record» = λ _. at_some _ found (λ f. IfSome before (λ octets. FindsNext place octets (record_as f.at f.kind body.items) after)) is e.record;
       some = λ _. at_some _ found (λ f. HasRead before after (GiveRecord place first (record_as f.at f.kind body.items) second)) is e.some;
       some_end = λ bad. absurd (false_not_true (sym bad));
@@ -62,6 +63,7 @@ returns-in-Ok-None g c =
     let is = c.in-Ok-None.field-0-is in
     record {
       files = e.files;
+      opens = e.opens;
       «record» = λ bad. absurd (false_not_true bad);
       some = λ bad. absurd (false_not_true bad);
       some_end = λ _. at_none _ _ is e.some_end;
@@ -90,6 +92,7 @@ returns-in-Err g c =
     let e = c.in-Err.ensures in
     record {
       files = e.files;
+      opens = e.opens;
       «record» = λ bad. absurd (no_answer _ _ bad);
       some = λ bad. absurd (no_answer _ _ bad);
       some_end = λ bad. absurd (no_answer _ _ bad);

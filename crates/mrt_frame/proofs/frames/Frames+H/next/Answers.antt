@@ -30,7 +30,7 @@ returns-in_err-advance g c =
     let given = conversely c.from_residual.result before place None (subst (λ (r : NextRecord). IfSome before (λ octets. Matches r place octets None)) is matches) in
     let moved : HasMoved shelf old first second (Err e) new = record {
       same_reference = refl;
-      leaves = record { files = facts.files; later = facts.later; quiet = facts.quiet; failed = λ read. facts.failed (error_on e ReadFault read); steady = facts.steady };
+      leaves = record { files = facts.files; opens = facts.opens; later = facts.later; quiet = facts.quiet; failed = λ read. facts.failed (error_on e ReadFault read); steady = facts.steady };
       stands = tt;
       counted = tt;
       next = tt;
@@ -83,7 +83,7 @@ returns-then-branch g c =
         (λ _. tt),
         record {
           same_reference = refl;
-          leaves = record { files = facts.files; later = facts.later; quiet = λ _. facts.quiet tt; failed = λ is. absurd (no_error _ _ is); steady = facts.steady };
+          leaves = record { files = facts.files; opens = facts.opens; later = facts.later; quiet = λ _. facts.quiet tt; failed = λ is. absurd (no_error _ _ is); steady = facts.steady };
           stands = stands;
           counted = facts.counted ok;
           next = facts.next ok ∙ ap place_behind same;
@@ -127,7 +127,7 @@ returns-else-branch g c =
         (λ _. tt),
         record {
           same_reference = refl;
-          leaves = record { files = facts.files; later = facts.later; quiet = λ _. facts.quiet tt; failed = λ is. absurd (no_error _ _ is); steady = facts.steady };
+          leaves = record { files = facts.files; opens = facts.opens; later = facts.later; quiet = λ _. facts.quiet tt; failed = λ is. absurd (no_error _ _ is); steady = facts.steady };
           stands = tt;
           counted = tt;
           next = tt;

@@ -8,6 +8,7 @@ pub returns-then-is_empty : goal.returns-then-is_empty
 returns-then-is_empty g c = record {
   bound = (omega arith, refl);
   files = refl;
+  opens = refl;
   taken = refl;
   rest = refl;
   at_end = λ _ _. tt;
@@ -22,6 +23,7 @@ pub returns : goal.returns
 returns g c = record {
   bound = tt;
   files = refl;
+  opens = refl;
   taken = tt;
   rest = tt;
   at_end = tt;
@@ -39,9 +41,15 @@ returns-2 g c =
       | else-is_empty-2-via-else-is_empty-2 w ↦ ap (λ s. s.faults) w.self-is
       | else-is_empty-2-via-then-is_empty-2+in-None-1 w ↦ ap (λ s. s.faults) w.self-is
       | else-is_empty-2-via-then-is_empty-2+in-Some+else-is_err w ↦ ap (λ s. s.faults) w.self-is
+    ] in
+    let opens : c.else-is_empty-2.self.opens ≡ c.args.self.now.opens = elim c.else-is_empty-2.branch [
+      | else-is_empty-2-via-else-is_empty-2 w ↦ ap (λ s. s.opens) w.self-is
+      | else-is_empty-2-via-then-is_empty-2+in-None-1 w ↦ ap (λ s. s.opens) w.self-is
+      | else-is_empty-2-via-then-is_empty-2+in-Some+else-is_err w ↦ ap (λ s. s.opens) w.self-is
     ] in record {
       bound = (within, sym (length-take-le c.give.result c.give.new.buf within));
       files = refl;
+      opens = ap (λ o. o.names) opens;
       taken = refl;
       rest = c.give.ensures.rest;
       at_end = λ _ _. tt;

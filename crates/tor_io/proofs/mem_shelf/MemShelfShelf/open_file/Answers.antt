@@ -1,19 +1,22 @@
-use Rattle.std.proofs.Common.{◌≡◌, ◌≤◌, IsOk, IsErr, IfSome, Some, None, inl, inr, true≢false, refl, sym, ap, ◌∙◌, subst, arith}
+use Rattle.std.proofs.Common.{◌≡◌, ◌≤◌, [], ◌∷◌, ◌++◌, IsOk, IsErr, IfSome, Some, None, inl, inr, true≢false, refl, sym, ap, ◌∙◌, subst, arith}
 use Rattle.tor_io.specs.Counts.{Rose}
 use Rattle.tor_io.specs.FaultPlan.{FailsNext, IsSteady, after_call, after_fault}
 use Rattle.tor_io.specs.MemShelf.{files_in}
-use Rattle.tor_io.proofs.ShelfLemmas.{opened, closed, closed_behind, at_err, at_ok, ok_or_err, is_fine, is_gone, is_open, some_or_none}
+use Rattle.tor_io.proofs.ShelfLemmas.{named, opened, closed, closed_behind, at_err, at_ok, ok_or_err, is_fine, is_gone, is_open, some_or_none}
 use Rattle.tor_io.proofs.mem_shelf.MemShelfShelf.open_file.Goals as goal
 
 pub returns-then-is_err : goal.returns-then-is_err
 returns-then-is_err c =
     let err : IsErr c.call.result = sym c.is_err.ensures.value ∙ c.if-is_err.true in
     let plan = ap (λ s. s.plan) c.self.view_is in
+    let more : c.add.new.self.names ≡ c.self.inside.opens.names ++ c.args.name.now ∷ [] = named _ _ _ _ c.add.ensures c.as_bytes.ensures.value in
+    let opens = more ∙ ap (λ s. s.opens ++ c.args.name.now ∷ []) c.self.view_is in
     let cause = c.call.ensures.cause in
     let rose = at_err c.call.result (Rose c.self.inside.plan.faults c.call.new.self.faults) err cause.failed in record {
       files = ap files_in c.self.view_is;
       opened = tt;
       refused = refl;
+      opens = opens;
       later = subst (λ p. p.faults ≤ c.call.new.self.faults) plan cause.later;
       quiet = tt;
       failed = λ _. subst (λ p. Rose p.faults c.call.new.self.faults) plan rose;
@@ -23,13 +26,15 @@ returns-then-is_err c =
       fails = (λ _. inl (subst FailsNext plan (c.call.ensures.fails.0 err)), λ _. refl);
       no_memory = is_gone;
       ok = tt;
-      err = closed _ c.args.self.now c.call.new.self c.self.view_is (at_err c.call.result (c.call.new.self ≡ after_fault (after_call c.self.inside.plan)) err c.call.ensures.err);
+      err = closed _ c.args.self.now c.call.new.self c.args.name.now _ c.self.view_is (at_err c.call.result (c.call.new.self ≡ after_fault (after_call c.self.inside.plan)) err c.call.ensures.err) more;
     }
 
 pub returns-then-stand_before : goal.returns-then-stand_before
 returns-then-stand_before c =
     let ok : IsOk c.call.result = is_fine c.call.result c.is_err.result c.is_err.ensures.value c.if-is_err.false in
     let plan = ap (λ s. s.plan) c.self.view_is in
+    let more : c.add.new.self.names ≡ c.self.inside.opens.names ++ c.args.name.now ∷ [] = named _ _ _ _ c.add.ensures c.as_bytes.ensures.value in
+    let opens = more ∙ ap (λ s. s.opens ++ c.args.name.now ∷ []) c.self.view_is in
     let after = c.stand_before.ensures.after in
     let same = at_ok c.call.result (c.call.new.self.faults ≡ c.self.inside.plan.faults) ok c.call.ensures.cause.quiet in
     let quiet = ap (λ s. s.plan.faults) after ∙ same ∙ ap (λ p. p.faults) plan in
@@ -39,6 +44,7 @@ returns-then-stand_before c =
       files = ap files_in after ∙ ap files_in c.self.view_is;
       opened = found;
       refused = tt;
+      opens = ap (λ s. s.opens) after ∙ opens;
       later = omega (arith, quiet);
       quiet = quiet;
       failed = λ e. absurd (is_open _ e);
@@ -53,8 +59,8 @@ returns-then-stand_before c =
         ]),
       );
       no_memory = is_open _;
-      ok = subst (λ o. IfSome o (λ bytes. c.stand_before.new.self ≡ record c.args.self.now { unread = bytes; plan = after_call c.args.self.now.plan }))
-          (sym found) (after ∙ opened _ c.args.self.now c.call.new.self c.stand_before.new.self.unread c.self.view_is then);
+      ok = subst (λ o. IfSome o (λ bytes. c.stand_before.new.self ≡ record c.args.self.now { unread = bytes; plan = after_call c.args.self.now.plan; opens = c.args.self.now.opens ++ c.args.name.now ∷ [] }))
+          (sym found) (after ∙ opened _ c.args.self.now c.call.new.self c.stand_before.new.self.unread c.args.name.now _ c.self.view_is then more);
       err = tt;
     }
 
@@ -62,6 +68,8 @@ pub returns : goal.returns
 returns c =
     let ok : IsOk c.call.result = is_fine c.call.result c.is_err.result c.is_err.ensures.value c.if-is_err.false in
     let plan = ap (λ s. s.plan) c.self.view_is in
+    let more : c.add.new.self.names ≡ c.self.inside.opens.names ++ c.args.name.now ∷ [] = named _ _ _ _ c.add.ensures c.as_bytes.ensures.value in
+    let opens = more ∙ ap (λ s. s.opens ++ c.args.name.now ∷ []) c.self.view_is in
     let after = c.self-2.view_is ∙ c.stand_before.ensures.after in
     let absent = c.stand_before.ensures.absent c.if-stand_before.false in
     let none : files_in c.args.self.now c.args.name.now ≡ None = sym (ap (λ s. files_in s c.args.name.now) c.self.view_is) ∙ absent.0 in
@@ -73,6 +81,7 @@ returns c =
       files = ap files_in after ∙ ap files_in c.self.view_is;
       opened = tt;
       refused = ap (λ s. s.unread) c.self-2.view_is ∙ absent.1;
+      opens = ap (λ s. s.opens) after ∙ opens;
       later = omega (arith, c.fault.ensures.later, quiet);
       quiet = tt;
       failed = λ _. omega (arith, faults);
@@ -82,5 +91,5 @@ returns c =
       fails = (λ _. inr none, λ _. refl);
       no_memory = is_gone;
       ok = tt;
-      err = closed_behind _ c.args.self.now _ c.call.new.self c.fault.new.self c.stand_before.new.self.unread c.self.view_is after absent.1 then;
+      err = closed_behind _ c.args.self.now _ c.call.new.self c.fault.new.self c.stand_before.new.self.unread c.args.name.now _ c.self.view_is after absent.1 then more;
     }

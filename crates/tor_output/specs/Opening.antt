@@ -1,0 +1,38 @@
+-- Which files a run of `tor` opens.
+use Rattle.std.specs.Prelude.{◌≡◌, [], ℕ, List, Option, None, Some}
+use Rattle.tor_words.specs.declared.settings.Settings.{Settings}
+use Rattle.tor_words.specs.declared.settings.Source.{Source}
+use Rattle.tor_words.specs.declared.settings.Source.TheVariants as source
+use Rattle.tor_words.specs.Given.{settings_given}
+use Rattle.run_base.specs.Opening.{Named, FilesEnd, EndedAt, RefusalEnds}
+use Rattle.tor_output.specs.declared.unwritten.Unwritten.{Unwritten}
+use Rattle.tor_output.specs.declared.unwritten.Unwritten.TheVariants as unwritten
+
+-- with `--given` first that file, for `--migrate` the result alone, with `--resume` first the earlier result, and then the dumps; for a
+-- sample none
+abbrev pub named_by : Source → (given : Option (List ℕ)) → (dumps : List (List ℕ)) → Option Named
+named_by source.Files given dumps = Some (record { first = given; dumps = dumps })
+named_by (source.Sample seed) given dumps = None
+named_by (source.Result name) given dumps = Some (record { first = Some name; dumps = [] })
+named_by (source.Earlier name) given dumps = Some (record { first = Some name; dumps = dumps })
+
+abbrev pub named_in : Settings → Option Named
+named_in settings = named_by settings.source settings.given settings.dumps
+
+abbrev pub named_for : Option Settings → Option Named
+named_for None = None
+named_for (Some settings) = named_in settings
+
+abbrev pub files_named : List (List ℕ) → Option Named
+files_named words = named_for (settings_given words)
+
+-- where there is no text to write, by the reason
+abbrev pub UnwrittenEnds : Unwritten → FilesEnd → Type 0
+UnwrittenEnds (unwritten.First file why) end = end ≡ EndedAt 0
+UnwrittenEnds (unwritten.BadLine file line) end = end ≡ EndedAt 0
+UnwrittenEnds (unwritten.Broken line rule) end = end ≡ EndedAt 0
+UnwrittenEnds (unwritten.Refused why) end = RefusalEnds why end
+
+-- the file that is read first gave nothing for this
+abbrev pub IsAtFirst : Unwritten → Type 0
+IsAtFirst u = UnwrittenEnds u (EndedAt 0)
