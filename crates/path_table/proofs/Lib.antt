@@ -1,7 +1,6 @@
 pub mod TableLemmas
 pub mod CountingLemmas
 pub mod RepeatLemmas
-pub mod SlotLemmas
-pub mod IndexLemmas
+pub mod KeyLemmas
 pub mod AddLemmas
 pub mod LookupLemmas

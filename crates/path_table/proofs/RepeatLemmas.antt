@@ -4,8 +4,7 @@ use Rattle.std.specs.Prelude.{◌≤◌, ◌⊎◌, replicate}
 use Rattle.std.proofs.lemmas.List.{get_or-set_same, get_or-set_other}
 use Rattle.std.proofs.lemmas.Bool.{cases_lt, eqb-true, eqb-false}
 use Rattle.path_table.specs.Chains.{row_at}
-use Rattle.path_table.specs.Slots.{slot_of_hash}
-use Rattle.path_table.specs.Repeats.{AreSameHashed, bucket, EndsIn, AreLinked, AreNewest}
+use Rattle.path_table.specs.Repeats.{AreSameHashed, bucket_of_hash, bucket, EndsIn, AreLinked, AreNewest}
 
 module _ (many : ℕ) (hashes : List ℕ) where
   -- the bucket of the row in a place ends behind it
@@ -83,7 +82,7 @@ HasComeTo many rows hashes place at =
 module _ (many : ℕ) (rows : List (List ℕ)) (hashes : List ℕ) (place : ℕ) (inside : place < length rows) (same : AreSameHashed rows hashes) where
   -- rows that are the same are in one bucket
   same-bucket : (k : ℕ) → k < place → row_at rows k ≡ row_at rows place → bucket many hashes k ≡ bucket many hashes place
-  same-bucket k lt is = ap (λ h. slot_of_hash h many) (same k place (omega (arith, lt, inside)) inside is)
+  same-bucket k lt is = ap (λ h. bucket_of_hash h many) (same k place (omega (arith, lt, inside)) inside is)
 
   pub search-begins : (start : ℕ) → EndsIn many hashes (bucket many hashes place) start place → HasComeTo many rows hashes place start
   search-begins start e = (e.within, (λ k lo hi is. e.none k lo hi (same-bucket k hi is)), e.has)

@@ -2,6 +2,6 @@ pub mod Rows
 pub mod Inside
 pub mod Table
 pub mod Chains
-pub mod Slots
+pub mod RowKeys
 pub mod Repeats
 pub mod Lookups

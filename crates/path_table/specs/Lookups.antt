@@ -2,7 +2,7 @@
 use Rattle.std.specs.Prelude.{◌≡◌, ◌≤◌, ℕ, true, List, length, Option, Some, None, slice_get, unwrap_or}
 use Rattle.path_clean.specs.Paths.{is_cleaned}
 use Rattle.path_table.specs.Rows.{Counted}
-use Rattle.path_table.specs.Slots.{short_hash}
+use Rattle.path_table.specs.RowKeys.{short_hash}
 use Rattle.path_table.specs.Table.{place_of}
 
 -- where the path of this number was found, if it was

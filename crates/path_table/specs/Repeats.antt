@@ -1,7 +1,6 @@
 -- Rows that stand twice, found by buckets of their hashes.
-use Rattle.std.specs.Prelude.{◌≡◌, ◌≢◌, ◌≤◌, ◌<◌, ◌-◌, ◌⊎◌, ℕ, List, length, slice_index, Option, Some, None}
+use Rattle.std.specs.Prelude.{◌≡◌, ◌≢◌, ◌≤◌, ◌<◌, ◌-◌, ◌⊎◌, ℕ, List, length, slice_index, bit_and, Option, Some, None}
 use Rattle.path_table.specs.Chains.{row_at}
-use Rattle.path_table.specs.Slots.{slot_of_hash}
 
 -- a row before this place is the same
 abbrev pub Repeats : List (List ℕ) → ℕ → Type 0
@@ -17,9 +16,13 @@ abbrev pub AreSameHashed : List (List ℕ) → List ℕ → Type 0
 AreSameHashed rows hashes =
     (j k : ℕ) → j < length rows → k < length rows → row_at rows j ≡ row_at rows k → slice_index hashes j ≡ slice_index hashes k
 
+-- the bucket of a hash, of so many
+abbrev pub bucket_of_hash : (hash many : ℕ) → ℕ
+bucket_of_hash hash many = bit_and hash (many - 1)
+
 -- into which of so many buckets the row in a place belongs
 abbrev pub bucket : (many : ℕ) (hashes : List ℕ) (place : ℕ) → ℕ
-bucket many hashes place = slot_of_hash (slice_index hashes place) many
+bucket many hashes place = bucket_of_hash (slice_index hashes place) many
 
 -- of the rows before the place `end`, those in the bucket end at `at`: none from there on is in it
 pub record EndsIn (many : ℕ) (hashes : List ℕ) (key at end : ℕ) : Type 0 where

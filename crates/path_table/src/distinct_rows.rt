@@ -1,35 +1,32 @@
-//! Distinct paths with slots by which they are found.
-ghost use Rattle.std.specs.Prelude.{◌≡◌, ◌≢◌, ◌<◌, ◌≤◌, ◌/◌, ◌++◌, ◌∷◌, [], ℕ, Some, length, slice_get, OnOk, OnErr, IfOk, IfSome, IfNone};
-ghost use Rattle.tor_arena.specs.Growth.{IsDoubled};
+//! Distinct paths with the keys by which they are found.
+ghost use Rattle.std.specs.Prelude.{◌≡◌, ◌≢◌, ◌<◌, ◌≤◌, ◌++◌, ◌∷◌, [], ℕ, Some, length, slice_get, OnOk, OnErr, IfOk, IfSome, IfNone};
 ghost use Rattle.tor_arena.specs.Limits.{max_paths};
 ghost use Rattle.path_table.specs.Chains.{row_at};
-ghost use Rattle.path_table.specs.Slots.{short_hash, slot_of_hash, three_quarters, IsVacant, IsVacancy, IsRowSearchEnd, OnFree, Tells};
+ghost use Rattle.path_table.specs.RowKeys.{short_hash};
 
-use crate::hashing::{SeededHash, seed_of, short_hash_of};
-use crate::slots::{SearchEnd, Slot, filled, free_from, guess_each, id_of, seek, start_of};
+use crate::hashing::{SeededHash, id_of, seed_of, short_hash_of};
+use crate::row_keys::RowKeys;
 use std::alloc::Global;
 use std::marker::Model;
-use tor_arena::{Index, Keys, NoMemory, PathId, Rows, doubled};
+use tor_arena::{Index, Keys, NoMemory, PathId, Rows};
 
-/// Paths in the order in which they were added, with slots by which they are found.
+/// Paths in the order in which they were added, with the keys by which they are found.
 #[derive(Drop)]
 pub(crate) struct IndexedPaths {
-    alloc: Global,
     rows: Rows<PathId, u32>,
-    // at most three quarters of them are in use
-    slots: Vec<Slot>,
-    // with which each hash begins, so that no one can choose paths of one slot
+    row_keys: RowKeys,
+    // with which each hash begins, so that no one can choose paths of one hash
     seed: u64,
 }
 
 impl Model for IndexedPaths {
-    ghost use Rattle.path_table.specs.Slots.{Indexed, IsIndexed};
+    ghost use Rattle.path_table.specs.RowKeys.{Indexed, IsIndexed};
 
     ghost Value = { Indexed };
 
-    ghost view = { λ paths. record { seed = paths.seed; rows = paths.rows; slots = paths.slots.items } };
+    ghost view = { λ paths. record { seed = paths.seed; rows = paths.rows } };
 
-    ghost invariant = { λ paths. IsIndexed paths.seed paths.rows paths.slots.items };
+    ghost invariant = { λ paths. IsIndexed paths.seed paths.rows paths.row_keys };
 }
 
 impl IndexedPaths {
@@ -38,15 +35,13 @@ impl IndexedPaths {
         ensures { result.rows ≡ [] }
     {
         IndexedPaths {
-            alloc,
             rows: Rows::new(alloc),
-            slots: Vec::new(alloc),
+            row_keys: RowKeys::new(alloc, keys),
             seed: seed_of(keys),
         }
     }
 
-    /// These paths, which stand in their order, found by slots of which no more than three quarters are in use. Each is hashed once, and
-    /// none is compared. The only error is that memory ran out.
+    /// These paths, which stand in their order. Each is hashed once, and none is compared. The only error is that memory ran out.
     pub fn from_rows(
         alloc: Global,
         keys: Keys,
@@ -56,11 +51,10 @@ impl IndexedPaths {
         ensures rows { IfOk result (λ paths. paths.rows ≡ rows) }
     {
         let seed = seed_of(keys);
-        let slots = filled(alloc, seed, &rows, slots_for(rows.len()))?;
+        let row_keys = RowKeys::of_rows(alloc, keys, seed, &rows)?;
         Ok(IndexedPaths {
-            alloc,
             rows,
-            slots,
+            row_keys,
             seed,
         })
     }
@@ -72,7 +66,7 @@ impl IndexedPaths {
         &self.rows
     }
 
-    /// The paths in order, without the slots. It takes no memory.
+    /// The paths in order, without the keys. It takes no memory.
     pub fn into_rows(self) -> Rows<PathId, u32>
         ensures { result ≡ self.rows }
     {
@@ -105,16 +99,16 @@ impl IndexedPaths {
         }
     }
 
-    /// Searches a path by its hash. It takes no memory.
-    pub fn seek(&self, hash: u32, path: &[u32]) -> SearchEnd
+    /// The index of a path, which has this hash. It takes no memory.
+    pub fn find_by(&self, hash: u32, path: &[u32]) -> Option<PathId>
         requires { hash ≡ short_hash self.now.seed path.now }
-        ensures end { IsRowSearchEnd self.now.rows self.now.slots (slot_of_hash hash (length self.now.slots)) path.now result }
-        ensures tells { Tells self.now.rows path.now result }
+        ensures found { IfSome result (λ k. (k < length self.now.rows) × (row_at self.now.rows k ≡ path.now)) }
+        ensures absent { IfNone result ((k : ℕ) → k < length self.now.rows → row_at self.now.rows k ≢ path.now) }
     {
-        if self.slots.is_empty() {
-            return SearchEnd::Full;
+        match self.row_keys.find(&self.rows, hash, path) {
+            Some(place) => Some(id_of(place)),
+            None => None,
         }
-        seek(self.slots.as_slice(), &self.rows, hash, path)
     }
 
     /// The index of a path. It takes no memory.
@@ -122,10 +116,7 @@ impl IndexedPaths {
         ensures found { IfSome result (λ k. (k < length self.now.rows) × (row_at self.now.rows k ≡ path.now)) }
         ensures absent { IfNone result ((k : ℕ) → k < length self.now.rows → row_at self.now.rows k ≢ path.now) }
     {
-        match self.seek(self.hash_of(path), path) {
-            SearchEnd::Held(id) => Some(id),
-            SearchEnd::Free(_) | SearchEnd::Full => None,
-        }
+        self.find_by(self.hash_of(path), path)
     }
 
     /// Whether the hashes begin with these keys. It takes no memory.
@@ -133,16 +124,24 @@ impl IndexedPaths {
         self.seed == seed_of(keys)
     }
 
-    /// A guess for each of the hashes where a path of that hash stands. Each is one look into memory, at slots that stand side by side, on
-    /// which nothing else here waits, so that the looks overlap. No row is looked at, and no memory is taken.
+    /// A guess for each of the hashes where a path of that hash stands, or u32::MAX. Nothing else here waits for these looks into memory, so
+    /// that they overlap. No row is looked at, and no memory is taken.
     pub fn guess_each(&self, hashes: &[u32], guesses: &mut [u32])
         requires { length guesses.old ≡ length hashes.now }
         ensures { length guesses.new ≡ length guesses.old }
     {
-        if self.slots.is_empty() {
-            return;
+        for place in 0..hashes.len() {
+            guesses[place] = self.guess(hashes[place]);
         }
-        guess_each(self.slots.as_slice(), hashes, guesses);
+    }
+
+    // The place of the row whose key is this hash.
+    #[inline(always)]
+    fn guess(&self, hash: u32) -> u32 {
+        match self.row_keys.place(hash) {
+            Some(place) => place as u32,
+            None => u32::MAX,
+        }
     }
 
     /// Where a path stands, if a guess, which may be any, says so. It takes no memory.
@@ -157,60 +156,24 @@ impl IndexedPaths {
         }
     }
 
-    /// Adds a path of this hash, where a search for it has ended so. For want of memory the paths stay.
+    /// Adds a path, which has this hash. For want of memory the paths stay.
     #[inline(always)]
-    pub fn push(&mut self, hash: u32, end: SearchEnd, path: &[u32]) -> Result<PathId, NoMemory>
+    pub fn push(&mut self, hash: u32, path: &[u32]) -> Result<PathId, NoMemory>
         requires room { length self.old.rows < max_paths }
         requires hash { hash ≡ short_hash self.old.seed path.now }
-        requires end { IsRowSearchEnd self.old.rows self.old.slots (slot_of_hash hash (length self.old.slots)) path.now end }
         ensures ok { OnOk result (self.new.rows ≡ self.old.rows ++ path.now ∷ []) }
         ensures index { IfOk result (λ id. id ≡ length self.old.rows) }
         ensures err { OnErr result (self.new.rows ≡ self.old.rows) }
     {
-        let slot = self.vacancy(hash, end)?;
         let Ok(id) = self.rows.push_row(path) else {
             return Err(NoMemory);
         };
-        self.slots[slot] = Slot::new(hash, id.place() as u32 + 1);
-        Ok(id)
-    }
-
-    // The free slot for a path of this hash, where a search for it has ended so. If three quarters of the slots are in use, twice as many
-    // are made.
-    fn vacancy(&mut self, hash: u32, end: SearchEnd) -> Result<usize, NoMemory>
-        requires end { IsVacancy self.old.slots (slot_of_hash hash (length self.old.slots)) end }
-        ensures rows { self.new.rows ≡ self.old.rows }
-        ensures seed { self.new.seed ≡ self.old.seed }
-        ensures vacant { IfOk result (IsVacant self.new.slots (slot_of_hash hash (length self.new.slots))) }
-        ensures stays { OnFree end (length self.old.rows < three_quarters (length self.old.slots) → self.new.slots ≡ self.old.slots) }
-        ensures grows { OnOk result (three_quarters (length self.old.slots) ≤ length self.old.rows →
-            IsDoubled 1024 (length self.old.slots) (length self.new.slots)) }
-    {
-        match end {
-            SearchEnd::Free(slot) if self.rows.len() < self.slots.len() / 4 * 3 => Ok(slot),
-            _ => {
-                let count = doubled(self.slots.len(), FIRST);
-                self.slots = filled(self.alloc, self.seed, &self.rows, count)?;
-                let start = start_of(hash, self.slots.len());
-                free_from(self.slots.as_slice(), start).ok_or(NoMemory)
+        match self.row_keys.add(hash) {
+            Ok(()) => Ok(id),
+            Err(error) => {
+                self.rows.cut_to(id.place());
+                Err(error)
             }
         }
     }
-}
-
-/// How many slots there are at first.
-const FIRST: usize = 1024;
-
-/// How many slots so many rows take, as many as if they had been added one by one: no more than three quarters of them are in use.
-fn slots_for(rows: usize) -> usize
-    requires few { rows ≤ max_paths }
-    ensures room { rows ≤ three_quarters result }
-    ensures some { 0 < result }
-    ensures least { 1024 < result → three_quarters (result / 2) < rows }
-{
-    let mut count = FIRST;
-    while count / 4 * 3 < rows {
-        count *= 2;
-    }
-    count
 }

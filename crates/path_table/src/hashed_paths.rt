@@ -4,7 +4,7 @@ ghost use Rattle.std.specs.Prelude.{◌≡◌, ◌<◌, [], length, slice_get, S
 ghost use Rattle.path_clean.specs.Behind.{IsMergedBehind};
 ghost use Rattle.path_clean.specs.Clean.{merged_of};
 ghost use Rattle.path_table.specs.Lookups.{AreRowsWhereFound};
-ghost use Rattle.path_table.specs.Slots.{short_hash};
+ghost use Rattle.path_table.specs.RowKeys.{short_hash};
 
 use crate::distinct_rows::IndexedPaths;
 use crate::hashing::{SeededHash, short_hash_of};
@@ -25,7 +25,7 @@ pub struct HashedPath<'a> {
 
 impl<'a> Model for HashedPath<'a> {
     ghost use Rattle.std.specs.Prelude.{◌≡◌, ℕ, List};
-    ghost use Rattle.path_table.specs.Slots.{short_hash};
+    ghost use Rattle.path_table.specs.RowKeys.{short_hash};
 
     ghost Value = { List ℕ };
 

@@ -3,7 +3,7 @@
 ghost use Rattle.std.specs.Prelude.{◌≡◌, ◌<◌, ◌≤◌, length};
 ghost use Rattle.tor_arena.specs.Limits.{most_places};
 ghost use Rattle.path_table.specs.Chains.{mixed, path_hash, row_at};
-ghost use Rattle.path_table.specs.Slots.{short_hash};
+ghost use Rattle.path_table.specs.RowKeys.{short_hash};
 
 use std::hash::BuildHasher;
 use tor_arena::{Index, Keys, PathId, Rows};
@@ -14,8 +14,16 @@ pub(crate) fn row_of(rows: &Rows<PathId, u32>, place: usize) -> &[u32]
     requires few { length rows.now ≤ most_places }
     ensures { result.now ≡ row_at rows.now place }
 {
+    rows.row(id_of(place))
+}
+
+/// The index of the row of a place.
+pub(crate) fn id_of(place: usize) -> PathId
+    requires { place < most_places }
+    ensures { result ≡ place }
+{
     match PathId::from_place(place) {
-        Some(id) => rows.row(id),
+        Some(id) => id,
         None => unreachable!(),
     }
 }

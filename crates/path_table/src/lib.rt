@@ -7,7 +7,7 @@ mod hashing;
 mod laws;
 mod lookup;
 mod repeats;
-mod slots;
+mod row_keys;
 mod table;
 
 pub use hashed_paths::{HashedPath, HashedPaths};

@@ -3,10 +3,9 @@
 ghost use Rattle.std.specs.Prelude.{◌≡◌, ◌+◌, ◌<◌, ◌≤◌, ◌↔◌, [], length, vec_capacity, IsTrue, IfOk};
 ghost use Rattle.tor_arena.specs.Limits.{most_places};
 ghost use Rattle.path_table.specs.Chains.{row_at};
-ghost use Rattle.path_table.specs.Repeats.{Repeats, IsFirstRepeat, AreSameHashed, bucket, EndsIn, AreLinked, AreNewest};
+ghost use Rattle.path_table.specs.Repeats.{Repeats, IsFirstRepeat, AreSameHashed, bucket_of_hash, bucket, EndsIn, AreLinked, AreNewest};
 
 use crate::hashing::{row_of, seed_of, short_hash_of};
-use crate::slots::start_of;
 use std::alloc::Global;
 use tor_arena::{Keys, NoMemory, PathId, Rows, reserve};
 
@@ -24,6 +23,15 @@ fn hashes_of(alloc: Global, seed: u64, rows: &Rows<PathId, u32>) -> Result<Vec<u
         hashes.push_reserved(short_hash_of(seed, row_of(rows, place)));
     }
     Ok(hashes)
+}
+
+/// The bucket of a hash, among so many, which should be a power of two.
+fn bucket_of(hash: u32, many: usize) -> usize
+    requires { 0 < many }
+    ensures bucket { result ≡ bucket_of_hash hash many }
+    ensures inside { result < many }
+{
+    hash as usize & (many - 1)
 }
 
 /// Whether the rows in two places are the same. They are compared only where their hashes are the same.
@@ -87,7 +95,7 @@ fn first_among(
 {
     let many = newest.len();
     for place in 0..rows.len() {
-        let key = start_of(hashes[place], many);
+        let key = bucket_of(hashes[place], many);
         let start = newest[key];
         if stands_before(rows, hashes, many, older.as_slice(), start as usize, place) {
             return Some(place);

@@ -7,14 +7,13 @@ ghost use Rattle.tor_arena.specs.Limits.{max_paths, max_numbers};
 ghost use Rattle.path_table.specs.Lookups.{StandWhereFound, AreCleanWhereFound};
 ghost use Rattle.path_clean.specs.Paths.{is_cleaned};
 ghost use Rattle.path_table.specs.Rows.{row_paths, times_of, numbers_in, none_twice};
-ghost use Rattle.path_table.specs.Slots.{short_hash};
+ghost use Rattle.path_table.specs.RowKeys.{short_hash};
 ghost use Rattle.path_table.specs.Table.{place_of, with_path, Names, CountsOnceMore, IsPathTooMany, HasNumbersTooMany};
 
 use crate::distinct_rows::IndexedPaths;
 use crate::hashed_paths::{HashedPath, HashedPaths};
 use crate::hashing::SeededHash;
 use crate::lookup::Lookup;
-use crate::slots::SearchEnd;
 use std::alloc::Global;
 use std::marker::Model;
 use tor_arena::{Index, Keys, List, MAX_NUMBERS, NoMemory, PathId, Rows, reserve};
@@ -122,8 +121,8 @@ impl PathTable {
     }
 
     /// Looks up where paths stand, which needn't be clean: what is found is. They are looked up one right after the other, so that the
-    /// waits for memory of these look-ups overlap, and keep their hashes for `add_hashed`. A path that is there may be missed, where it
-    /// isn't in one of the first three slots in which it could be. NoMemory where memory ran out: `lookup` may then be anything.
+    /// waits for memory of these look-ups overlap, and keep their hashes for `add_hashed`. A path that is there may be missed, where
+    /// another path has its hash. NoMemory where memory ran out: `lookup` may then be anything.
     pub fn find_hashed(&self, paths: &mut HashedPaths, lookup: &mut Lookup) -> Result<(), NoMemory>
         ensures same { paths.new ≡ paths.old }
         ensures found { OnOk result (StandWhereFound self.now.rows paths.new lookup.new) }
@@ -231,19 +230,19 @@ impl PathTable {
         ensures unchanged { OnErr result (self.new.rows ≡ self.old.rows) }
     {
         let hash = self.paths.hash_by(hash, path);
-        match self.paths.seek(hash, path) {
-            SearchEnd::Held(id) => {
+        match self.paths.find_by(hash, path) {
+            Some(id) => {
                 self.count(id);
                 Ok(Added::Known(id))
             }
-            end => {
+            None => {
                 if let Err(refused) = self.check_room(path) {
                     return Err(refused);
                 }
                 if reserve(&mut self.counts, 1).is_err() {
                     return Err(AddRefused::NoMemory);
                 }
-                let Ok(id) = self.paths.push(hash, end, path) else {
+                let Ok(id) = self.paths.push(hash, path) else {
                     return Err(AddRefused::NoMemory);
                 };
                 self.counts.push_reserved(times);

@@ -1,5 +1,4 @@
-//! Distinct numbers in tables of slots, so that a number is found by one or two looks into memory; and distinct edges, by their
-//! numbers.
+//! Distinct numbers, in order and found with their places or cut back to the first ones; and distinct edges, by their numbers.
 #![tactic(auto)]
 
 mod edge_numbers;

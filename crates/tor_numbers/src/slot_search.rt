@@ -3,7 +3,6 @@
 ghost use Rattle.std.specs.Prelude.{◌≡◌, ◌<◌};
 ghost use Rattle.tor_arena.specs.Growth.{next_slot};
 ghost use Rattle.tor_numbers.specs.Slots.{hashed, start_at};
-ghost use Rattle.tor_numbers.specs.Places.{tag_for};
 
 /// What each number is multiplied by, once the seed went into it.
 const MULTIPLIER: u64 = 0x9e37_79b9_7f4a_7c15;
@@ -23,14 +22,6 @@ pub(crate) fn start_of(seed: u64, number: u64, count: usize) -> usize
     ensures inside { result < count }
 {
     hash_of(number ^ seed) as usize & (count - 1)
-}
-
-/// The tag of a number: the first four bits of its hash.
-pub(crate) fn tag_of(seed: u64, number: u64) -> u32
-    ensures tag { result ≡ tag_for seed number }
-    ensures inside { result < 16 }
-{
-    (hash_of(number ^ seed) >> 60) as u32
 }
 
 /// The slot behind one, which is the first behind the last.

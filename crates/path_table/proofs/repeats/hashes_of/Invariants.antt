@@ -1,6 +1,6 @@
 use Rattle.std.proofs.Common.{◌≡◌, ◌<◌, ◌≤◌, ℕ, length, slice_index}
 use Rattle.path_table.specs.Chains.{row_at}
-use Rattle.path_table.specs.Slots.{short_hash}
+use Rattle.path_table.specs.RowKeys.{short_hash}
 use Rattle.path_table.proofs.repeats.hashes_of.Given as goal
 
 abbrev pub invariant-loop-place : goal.invariant-loop-place

@@ -4,7 +4,6 @@ use Rattle.path_table.specs.Inside.{counted_by, IsTable}
 use Rattle.path_table.specs.Table.{place_of}
 use Rattle.path_table.specs.declared.table.AddRefused.TheVariants.{TooManyPaths, TooManyNumbers}
 use Rattle.path_table.proofs.TableLemmas.{found-at, found-within, counted_by-push, absent-at, IsTable-push, seen_as}
-use Rattle.path_table.proofs.IndexLemmas.{new-by}
 use Rattle.path_table.proofs.AddLemmas.{no_some, some-none, ok-err, not-paths, not-numbers, err-moved, ok-of}
 use Rattle.path_table.proofs.table.PathTable.add_or_count.Goals as goal
 
@@ -13,9 +12,9 @@ count-requires c =
     let paths = c.self.inside.paths.rows in
     let times = c.self.inside.counts.items in
     let path = c.args.path.now in
-    let place : place_of c.args.self.now.rows path ≡ Some c.in-Held.id =
-    sym (found-at paths times path (Some c.in-Held.id) c.self.invariant.same c.self.invariant.once c.in-Held.ensures.tells tt ∙ ap (λ (t : Table). place_of t.rows path) c.self.view_is) in
-    record { there = found-within c.args.self.now.rows path c.in-Held.id place }
+    let place : place_of c.args.self.now.rows path ≡ Some c.in-Some.id =
+    sym (found-at paths times path (Some c.in-Some.id) c.self.invariant.same c.self.invariant.once c.in-Some.ensures.found tt ∙ ap (λ (t : Table). place_of t.rows path) c.self.view_is) in
+    record { there = found-within c.args.self.now.rows path c.in-Some.id place }
 
 pub check_room-requires : goal.check_room-requires
 check_room-requires c =
@@ -23,7 +22,7 @@ check_room-requires c =
     let times = c.self.inside.counts.items in
     let path = c.args.path.now in
     let inside : place_of (counted_by paths times) path ≡ None =
-    new-by paths times path c.seek.result c.self.invariant.same c.self.invariant.once c.seek.ensures.tells c.in_default.not-Held in
+    sym (found-at paths times path None c.self.invariant.same c.self.invariant.once tt c.in-None.ensures.absent) in
     let none : place_of c.args.self.now.rows path ≡ None = sym (ap (λ (t : Table). place_of t.rows path) c.self.view_is) ∙ inside in
     record { new = none }
 
@@ -33,7 +32,7 @@ returns-in-Err c =
     let times = c.self.inside.counts.items in
     let path = c.args.path.now in
     let inside : place_of (counted_by paths times) path ≡ None =
-    new-by paths times path c.seek.result c.self.invariant.same c.self.invariant.once c.seek.ensures.tells c.in_default.not-Held in
+    sym (found-at paths times path None c.self.invariant.same c.self.invariant.once tt c.in-None.ensures.absent) in
     let none : place_of c.args.self.now.rows path ≡ None = sym (ap (λ (t : Table). place_of t.rows path) c.self.view_is) ∙ inside in
     record {
       counted = no_some (place_of c.args.self.now.rows path) none;
@@ -58,10 +57,10 @@ returns-then-is_err c =
     let times = c.self.inside.counts.items in
     let path = c.args.path.now in
     let inside : place_of (counted_by paths times) path ≡ None =
-    new-by paths times path c.seek.result c.self.invariant.same c.self.invariant.once c.seek.ensures.tells c.in_default.not-Held in
+    sym (found-at paths times path None c.self.invariant.same c.self.invariant.once tt c.in-None.ensures.absent) in
     let none : place_of c.args.self.now.rows path ≡ None = sym (ap (λ (t : Table). place_of t.rows path) c.self.view_is) ∙ inside in
-    let room : length c.args.self.now.rows < c.args.self.now.limit = ok-of c.check_room.result c.check_room.ensures.room c.in_default-check_room.not-Err in
-    let short : numbers_in c.args.self.now.rows + length path ≤ 2 ^ 26 = ok-of c.check_room.result c.check_room.ensures.short c.in_default-check_room.not-Err in
+    let room : length c.args.self.now.rows < c.args.self.now.limit = ok-of c.check_room.result c.check_room.ensures.room c.in_default.not-Err in
+    let short : numbers_in c.args.self.now.rows + length path ≤ 2 ^ 26 = ok-of c.check_room.result c.check_room.ensures.short c.in_default.not-Err in
     record {
       counted = no_some (place_of c.args.self.now.rows path) none;
       added = tt;
@@ -79,10 +78,10 @@ returns-in_default-push c =
     let times = c.self.inside.counts.items in
     let path = c.args.path.now in
     let inside : place_of (counted_by paths times) path ≡ None =
-    new-by paths times path c.seek.result c.self.invariant.same c.self.invariant.once c.seek.ensures.tells c.in_default.not-Held in
+    sym (found-at paths times path None c.self.invariant.same c.self.invariant.once tt c.in-None.ensures.absent) in
     let none : place_of c.args.self.now.rows path ≡ None = sym (ap (λ (t : Table). place_of t.rows path) c.self.view_is) ∙ inside in
-    let room : length c.args.self.now.rows < c.args.self.now.limit = ok-of c.check_room.result c.check_room.ensures.room c.in_default-check_room.not-Err in
-    let short : numbers_in c.args.self.now.rows + length path ≤ 2 ^ 26 = ok-of c.check_room.result c.check_room.ensures.short c.in_default-check_room.not-Err in
+    let room : length c.args.self.now.rows < c.args.self.now.limit = ok-of c.check_room.result c.check_room.ensures.room c.in_default.not-Err in
+    let short : numbers_in c.args.self.now.rows + length path ≤ 2 ^ 26 = ok-of c.check_room.result c.check_room.ensures.short c.in_default.not-Err in
     record {
       counted = no_some (place_of c.args.self.now.rows path) none;
       added = tt;
@@ -94,16 +93,16 @@ returns-in_default-push c =
       unchanged = ap₂ counted_by c.in_default-push.ensures.err c.reserve.ensures.items ∙ ap (λ (t : Table). t.rows) c.self.view_is;
     }
 
-pub invariant_of-self-in_default : goal.invariant_of-self-in_default
-invariant_of-self-in_default c =
+pub invariant_of-self-in-None : goal.invariant_of-self-in-None
+invariant_of-self-in-None c =
     let paths = c.self.inside.paths.rows in
     let times = c.self.inside.counts.items in
     let path = c.args.path.now in
     let inside : place_of (counted_by paths times) path ≡ None =
-    new-by paths times path c.seek.result c.self.invariant.same c.self.invariant.once c.seek.ensures.tells c.in_default.not-Held in
+    sym (found-at paths times path None c.self.invariant.same c.self.invariant.once tt c.in-None.ensures.absent) in
     let none : place_of c.args.self.now.rows path ≡ None = sym (ap (λ (t : Table). place_of t.rows path) c.self.view_is) ∙ inside in
-    let room : length c.args.self.now.rows < c.args.self.now.limit = ok-of c.check_room.result c.check_room.ensures.room c.in_default-check_room.not-Err in
-    let short : numbers_in c.args.self.now.rows + length path ≤ 2 ^ 26 = ok-of c.check_room.result c.check_room.ensures.short c.in_default-check_room.not-Err in
+    let room : length c.args.self.now.rows < c.args.self.now.limit = ok-of c.check_room.result c.check_room.ensures.room c.in_default.not-Err in
+    let short : numbers_in c.args.self.now.rows + length path ≤ 2 ^ 26 = ok-of c.check_room.result c.check_room.ensures.short c.in_default.not-Err in
     let seen = seen_as c.self.inside.max_paths c.self.inside.numbers paths times c.args.self.now c.self.invariant c.self.view_is in
     let many = seen.rows in
     let limit = seen.limit_is in
@@ -117,50 +116,50 @@ invariant_of-self-in_default c =
     (subst (IsTable c.self.inside.max_paths (c.self.inside.numbers + length path) (paths ++ path ∷ [])) (sym new_times)
     (IsTable-push c.self.inside.max_paths c.self.inside.numbers paths times path c.args.times c.self.invariant below fits c.requires.clean c.requires.seen (absent-at paths times path same inside)))
 
-pub returns-in-Held-clause-counted : goal.returns-in-Held-clause-counted
-returns-in-Held-clause-counted c =
+pub returns-in-Some-clause-counted : goal.returns-in-Some-clause-counted
+returns-in-Some-clause-counted c =
     let paths = c.self.inside.paths.rows in
     let times = c.self.inside.counts.items in
     let path = c.args.path.now in
-    let place : place_of c.args.self.now.rows path ≡ Some c.in-Held.id =
-    sym (found-at paths times path (Some c.in-Held.id) c.self.invariant.same c.self.invariant.once c.in-Held.ensures.tells tt ∙ ap (λ (t : Table). place_of t.rows path) c.self.view_is) in
+    let place : place_of c.args.self.now.rows path ≡ Some c.in-Some.id =
+    sym (found-at paths times path (Some c.in-Some.id) c.self.invariant.same c.self.invariant.once c.in-Some.ensures.found tt ∙ ap (λ (t : Table). place_of t.rows path) c.self.view_is) in
     (λ some. c.count.ensures.counted path place)
 
-pub returns-in-Held-clause-added : goal.returns-in-Held-clause-added
-returns-in-Held-clause-added c =
+pub returns-in-Some-clause-added : goal.returns-in-Some-clause-added
+returns-in-Some-clause-added c =
     let paths = c.self.inside.paths.rows in
     let times = c.self.inside.counts.items in
     let path = c.args.path.now in
-    let place : place_of c.args.self.now.rows path ≡ Some c.in-Held.id =
-    sym (found-at paths times path (Some c.in-Held.id) c.self.invariant.same c.self.invariant.once c.in-Held.ensures.tells tt ∙ ap (λ (t : Table). place_of t.rows path) c.self.view_is) in
-    (some-none (place_of c.args.self.now.rows path) c.in-Held.id place)
+    let place : place_of c.args.self.now.rows path ≡ Some c.in-Some.id =
+    sym (found-at paths times path (Some c.in-Some.id) c.self.invariant.same c.self.invariant.once c.in-Some.ensures.found tt ∙ ap (λ (t : Table). place_of t.rows path) c.self.view_is) in
+    (some-none (place_of c.args.self.now.rows path) c.in-Some.id place)
 
-pub returns-in-Held-clause-answer : goal.returns-in-Held-clause-answer
-returns-in-Held-clause-answer c =
+pub returns-in-Some-clause-answer : goal.returns-in-Some-clause-answer
+returns-in-Some-clause-answer c =
     let paths = c.self.inside.paths.rows in
     let times = c.self.inside.counts.items in
     let path = c.args.path.now in
-    let place : place_of c.args.self.now.rows path ≡ Some c.in-Held.id =
-    sym (found-at paths times path (Some c.in-Held.id) c.self.invariant.same c.self.invariant.once c.in-Held.ensures.tells tt ∙ ap (λ (t : Table). place_of t.rows path) c.self.view_is) in
+    let place : place_of c.args.self.now.rows path ≡ Some c.in-Some.id =
+    sym (found-at paths times path (Some c.in-Some.id) c.self.invariant.same c.self.invariant.once c.in-Some.ensures.found tt ∙ ap (λ (t : Table). place_of t.rows path) c.self.view_is) in
     place
 
-pub returns-in-Held-clause-paths : goal.returns-in-Held-clause-paths
-returns-in-Held-clause-paths c =
+pub returns-in-Some-clause-paths : goal.returns-in-Some-clause-paths
+returns-in-Some-clause-paths c =
     let paths = c.self.inside.paths.rows in
     let times = c.self.inside.counts.items in
     let path = c.args.path.now in
-    let place : place_of c.args.self.now.rows path ≡ Some c.in-Held.id =
-    sym (found-at paths times path (Some c.in-Held.id) c.self.invariant.same c.self.invariant.once c.in-Held.ensures.tells tt ∙ ap (λ (t : Table). place_of t.rows path) c.self.view_is) in
-    (ok-err _ TooManyPaths, (λ h. some-none (place_of c.args.self.now.rows path) c.in-Held.id place h.0))
+    let place : place_of c.args.self.now.rows path ≡ Some c.in-Some.id =
+    sym (found-at paths times path (Some c.in-Some.id) c.self.invariant.same c.self.invariant.once c.in-Some.ensures.found tt ∙ ap (λ (t : Table). place_of t.rows path) c.self.view_is) in
+    (ok-err _ TooManyPaths, (λ h. some-none (place_of c.args.self.now.rows path) c.in-Some.id place h.0))
 
-pub returns-in-Held-clause-numbers : goal.returns-in-Held-clause-numbers
-returns-in-Held-clause-numbers c =
+pub returns-in-Some-clause-numbers : goal.returns-in-Some-clause-numbers
+returns-in-Some-clause-numbers c =
     let paths = c.self.inside.paths.rows in
     let times = c.self.inside.counts.items in
     let path = c.args.path.now in
-    let place : place_of c.args.self.now.rows path ≡ Some c.in-Held.id =
-    sym (found-at paths times path (Some c.in-Held.id) c.self.invariant.same c.self.invariant.once c.in-Held.ensures.tells tt ∙ ap (λ (t : Table). place_of t.rows path) c.self.view_is) in
-    (ok-err _ TooManyNumbers, (λ h. some-none (place_of c.args.self.now.rows path) c.in-Held.id place h.0))
+    let place : place_of c.args.self.now.rows path ≡ Some c.in-Some.id =
+    sym (found-at paths times path (Some c.in-Some.id) c.self.invariant.same c.self.invariant.once c.in-Some.ensures.found tt ∙ ap (λ (t : Table). place_of t.rows path) c.self.view_is) in
+    (ok-err _ TooManyNumbers, (λ h. some-none (place_of c.args.self.now.rows path) c.in-Some.id place h.0))
 
 pub returns-in-Ok : goal.returns-in-Ok
 returns-in-Ok c =
@@ -168,10 +167,10 @@ returns-in-Ok c =
     let times = c.self.inside.counts.items in
     let path = c.args.path.now in
     let inside : place_of (counted_by paths times) path ≡ None =
-    new-by paths times path c.seek.result c.self.invariant.same c.self.invariant.once c.seek.ensures.tells c.in_default.not-Held in
+    sym (found-at paths times path None c.self.invariant.same c.self.invariant.once tt c.in-None.ensures.absent) in
     let none : place_of c.args.self.now.rows path ≡ None = sym (ap (λ (t : Table). place_of t.rows path) c.self.view_is) ∙ inside in
-    let room : length c.args.self.now.rows < c.args.self.now.limit = ok-of c.check_room.result c.check_room.ensures.room c.in_default-check_room.not-Err in
-    let short : numbers_in c.args.self.now.rows + length path ≤ 2 ^ 26 = ok-of c.check_room.result c.check_room.ensures.short c.in_default-check_room.not-Err in
+    let room : length c.args.self.now.rows < c.args.self.now.limit = ok-of c.check_room.result c.check_room.ensures.room c.in_default.not-Err in
+    let short : numbers_in c.args.self.now.rows + length path ≤ 2 ^ 26 = ok-of c.check_room.result c.check_room.ensures.short c.in_default.not-Err in
     let seen = seen_as c.self.inside.max_paths c.self.inside.numbers paths times c.args.self.now c.self.invariant c.self.view_is in
     let many = seen.rows in
     let limit = seen.limit_is in
@@ -194,10 +193,10 @@ returns-in-Ok c =
 
 pub push-requires : goal.push-requires
 push-requires c =
-    let room : length c.args.self.now.rows < c.args.self.now.limit = ok-of c.check_room.result c.check_room.ensures.room c.in_default-check_room.not-Err in
+    let room : length c.args.self.now.rows < c.args.self.now.limit = ok-of c.check_room.result c.check_room.ensures.room c.in_default.not-Err in
     let seen = seen_as c.self.inside.max_paths c.self.inside.numbers c.self.inside.paths.rows c.self.inside.counts.items c.args.self.now c.self.invariant c.self.view_is in
     let rows = seen.rows in
     let same = c.self.invariant.same in
     let limit = seen.limit_is in
     let bound = c.self.invariant.bound in
-    record { room = omega (arith, room, rows, same, limit, bound); hash = search rules; end = search rules }
+    record { room = omega (arith, room, rows, same, limit, bound); hash = search rules }
