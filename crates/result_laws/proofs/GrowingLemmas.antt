@@ -1,4 +1,4 @@
--- What is kept, lost and forced stays so where paths are added behind those of a result.
+-- What is kept, lost and forced stays so where paths are added after those of a result.
 use Rattle.std.proofs.Common.{◌≡◌, ◌≢◌, inl, inr, ℕ, List, [], ◌∷◌, ◌++◌, length, map, take, is_none, refl, sym, ap, ap₂, ◌∙◌, subst, Contains}
 use Rattle.std.specs.List.{items_where_true}
 use Rattle.std.proofs.lemmas.Bool.{cases_Bool}
@@ -104,7 +104,7 @@ first_within n all some e p c =
     let h = has-from_Contains (take n all) p (subst (λ ps. Contains ps p) (sym e) c) in
     Contains-from_has all p (h.0, (slice_get-take n all h.0 p h.1).1)
 
--- what a result keeps it keeps behind the returns of its givens on more paths, too
+-- what a result keeps it keeps after the returns of its givens on more paths, too
 pub kept_among_more : (file : ResultFile) (accepts : Accepts file) (paths : List (List ℕ)) → Within (its_paths file) paths →
     KeepsFrom (returns paths (its_givens file)) (its_paths file) (map is_none (its_walks file))
 kept_among_more file accepts paths within =

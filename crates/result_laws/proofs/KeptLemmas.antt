@@ -36,7 +36,7 @@ serves_fewer O some all within serves =
 pub servable_fewer : (some all : List (List ℕ)) → Within some all → IsServable all → IsServable some
 servable_fewer some all within s = (s.0, serves_fewer s.0 some all within s.1)
 
--- one path more behind those that are served
+-- one path more after those that are served
 one_more : (O : Orientation) (some : List (List ℕ)) (path : List ℕ) → Serves O some → ValleyFree (labels_of O) path → Serves O (some ++ path ∷ [])
 one_more O some path serves free =
     All-append (ValleyFree (labels_of O)) some (path ∷ []) serves (All-cons (ValleyFree (labels_of O)) path [] free (All-nil (ValleyFree (labels_of O))))
@@ -54,7 +54,7 @@ valley_if_lost O begun (p ∷ ps) (true ∷ bs) (suc k) path h at lost serves fr
     valley_if_lost O (begun ++ p ∷ []) ps bs k path h.1 at lost (subst (Serves O) (sym (append_assoc begun (p ∷ []) (items_where_true bs ps))) serves) free
 valley_if_lost O begun (p ∷ ps) (false ∷ bs) (suc k) path h at lost serves free = valley_if_lost O begun ps bs k path h.1 at lost serves free
 
--- behind more paths the same ones are kept, if some orientation serves these and all that is kept
+-- after more paths the same ones are kept, if some orientation serves these and all that is kept
 pub keeps_behind_more : (O : Orientation) (begun more paths : List (List ℕ)) (keeps : List Bool) → Within begun more → KeepsFrom begun paths keeps →
     Serves O (more ++ items_where_true keeps paths) → KeepsFrom more paths keeps
 keeps_behind_more O begun more [] [] within h serves = tt
@@ -74,7 +74,7 @@ keeps_behind_more O begun more (p ∷ ps) (false ∷ bs) within h serves = (
   keeps_behind_more O begun more ps bs within h.1 serves,
 )
 
--- the first paths are kept as they are without those behind them
+-- the first paths are kept as they are without those after them
 pub keeps_first : (n : ℕ) (begun paths : List (List ℕ)) (keeps : List Bool) → KeepsFrom begun paths keeps → KeepsFrom begun (take n paths) (take n keeps)
 keeps_first zero begun paths keeps h = tt
 keeps_first (suc n) begun [] [] h = tt

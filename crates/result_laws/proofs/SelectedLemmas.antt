@@ -28,7 +28,7 @@ use Rattle.rel_infer.proofs.LinksLeft.{lost_changed}
 use Rattle.rel_infer.proofs.Relinked.{still_lost}
 use Rattle.rel_infer.proofs.ReturnRows.{are_rows, numbers_below}
 
--- behind these paths each of the further ones is kept, or has a walk that refutes
+-- after these paths each further one is kept, or has a walk that refutes
 abbrev Selected : ℕ → Numbered → List (List ℕ) → Type 0
 Selected n A paths = (walks : List (Option Walk)) × KeepsFrom (paths_of A) paths (map is_none walks) × LostFrom n A paths walks
 
@@ -49,7 +49,7 @@ selected n A (path ∷ paths) differ apart =
           (Some w.0 ∷ r.0, (((λ t. absurd (false≢true t)), (λ s. absurd (refuting_law (A ++ (n, path) ∷ []) w.0 w.1 s.0 (subst (Serves s.0) (sym same) s.1)))), r.1), (w.1, r.2))
     ]
 
--- flags of some paths and of those behind them
+-- flags of some paths and of those after them
 keeps_joined : (begun paths more : List (List ℕ)) (keeps flags : List Bool) → KeepsFrom begun paths keeps → KeepsFrom (begun ++ items_where_true keeps paths) more flags →
     KeepsFrom begun (paths ++ more) (keeps ++ flags)
 keeps_joined begun [] more [] flags h k = subst (λ ps. KeepsFrom ps more flags) (append-nil begun) k
@@ -60,7 +60,7 @@ keeps_joined begun (p ∷ ps) more (true ∷ bs) flags h k =
 keeps_joined begun (p ∷ ps) more (false ∷ bs) flags h k = (h.0, keeps_joined begun ps more bs flags h.1 k)
 
 module _ (givens : List Given) (paths : List (List ℕ)) where
-  -- the rows of the returns, which are numbered on behind the paths
+  -- the rows of the returns, which are numbered on after the paths
   abbrev pub return_rows : Numbered
   return_rows = numbered (paths ++ returns paths givens) (places_from (length paths) (length (returns paths givens)))
 

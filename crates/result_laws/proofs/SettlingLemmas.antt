@@ -69,7 +69,7 @@ module _ (lead : Edge → ℕ) (es : List Edge) where
     | inr o ↦ elim o [ inl lt ↦ inr (inl lt) | inr lt ↦ inl (inl lt) ]
   ]
 
-  -- these edges and no others, each before those behind it
+  -- these edges and no others, each before those after it
   record Sorted (some : List Edge) : Type 0 where
     order : List Edge
     there : (e : Edge) → Contains some e → Contains order e

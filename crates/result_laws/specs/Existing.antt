@@ -19,7 +19,7 @@ SomeResultLaw =
     (known : Option (List Given)) (sets : Sets) (ratio : ℕ) (rows : List Counted) (counts : CauseCounts) → AreTableRows rows →
     NameTwo (unwrap_or known []) → NameOnce (unwrap_or known []) → (file : ResultFile) × IsResultWith known sets ratio rows counts file
 
--- and one goes on from each result that meets all rules, where its paths are the first of the table
+-- and a result goes on from each one that meets all rules and whose paths are the first of the table
 abbrev pub SomeResumedLaw : Type 0
 SomeResumedLaw =
     (earlier : ResultFile) (ratio : ℕ) (rows : List Counted) (counts : CauseCounts) → Accepts earlier → AreTableRows rows →

@@ -20,7 +20,7 @@ use Rattle.result_rules.specs.Rules.{Accepts}
 abbrev pub IsPossible : ResultFile → Orientation → Type 0
 IsPossible file O = ServesWith (its_givens file) (its_paths file) O (paths_of (its_kept file))
 
--- under no possible orientation is a lost path valley-free, so none could be added to all kept paths, those behind it included
+-- a lost path is valley-free under no possible orientation: so none could be added to all kept paths, also those after it
 abbrev pub NoneAddedLaw : Type 0
 NoneAddedLaw =
     (file : ResultFile) → Accepts file → (line : PathLine) (walk : Walk) → Contains file.paths line → line.fate ≡ Lost walk →
@@ -37,7 +37,7 @@ pub record HasOneMore (file : ResultFile) (given : Given) (other : ResultFile) :
   pub paths : its_paths other ≡ its_paths file
   pub givens : its_givens other ≡ its_givens file ++ given ∷ []
 
--- under one given more, of an edge that is marked open and either way, exactly the same paths are kept; so they are in each such result
+-- with one given more, for an edge that is marked open and either way, exactly the same paths are kept; so each such result keeps them
 abbrev pub GivenOpenLaw : Type 0
 GivenOpenLaw =
     (file : ResultFile) → Accepts file → (line : EdgeLine) → Contains file.edges line → line.mark ≡ Open →

@@ -5,25 +5,24 @@ ghost use Rattle.result_laws.specs.Growing.{ForcedStaysLaw};
 ghost use Rattle.result_laws.specs.Orders.{AnyOrderLaw};
 ghost use Rattle.result_laws.specs.Possible.{NoneAddedLaw, OpenEdgeLaw, GivenOpenLaw};
 
-/// No lost path could be added: no orientation that agrees with the givens serves it together with all kept paths, those behind it
-/// included.
+/// No lost path could be added: no orientation that agrees with the givens serves it together with all kept paths, also those after it.
 pub fn none_added_law()
     ensures { NoneAddedLaw }
 {}
 
-/// Of an open edge either end can be the provider: some orientation that agrees with the givens and serves all kept paths has the one, and
-/// some has the other.
+/// Either end of an open edge can be the provider: some orientation that agrees with the givens and serves all kept paths has the one,
+/// and some has the other.
 pub fn open_edge_law()
     ensures { OpenEdgeLaw }
 {}
 
-/// A given for an open edge costs no path: with the edge given either way, exactly the same paths are kept.
+/// One given more, for an open edge, costs no path: with the edge given either way, exactly the same paths are kept.
 pub fn given_open_law()
     ensures { GivenOpenLaw }
 {}
 
-/// Whatever paths are added behind those of a result, under the same givens: what is kept stays kept, what is lost stays lost, and an edge
-/// that is forced stays forced, with its label.
+/// Whatever paths are added after those of a result, under the same givens: what is kept stays kept, what is lost stays lost, and an
+/// edge that is forced stays forced, with its label.
 pub fn forced_stays_law()
     ensures { ForcedStaysLaw }
 {}
@@ -40,7 +39,7 @@ pub fn some_result_law()
     ensures { SomeResultLaw }
 {}
 
-/// And one goes on from each result that meets all rules, where its paths are the first of the table.
+/// And a result goes on from each one that meets all rules and whose paths are the first of the table.
 pub fn some_resumed_law()
     ensures { SomeResumedLaw }
 {}

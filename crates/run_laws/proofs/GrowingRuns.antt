@@ -56,7 +56,7 @@ resumed_stays_law bounds accept stays words settings files earlier taken file gi
       givens = sym (same_givens file earlier.givens resumed.0.its_givens) ∙ same_givens earlier earlier.givens refl;
     })
 
--- ---- of dumps behind others
+-- ---- of dumps after others
 
 -- some number of the first of them, from which on they give the same as all from this one on
 behind : (sets : Sets) (dump : ℕ) (old mid : Taken) (dumps more : List (List ℕ)) → seen_of sets dump old dumps ≡ Ok mid →

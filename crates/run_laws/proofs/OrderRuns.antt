@@ -105,7 +105,7 @@ in_all sets (octets ∷ dumps) all sub p c =
       | inr i ↦ in_all sets dumps all (λ o there. sub o (behind_first octets dumps o there)) p i
     ]
 
--- what is taken in of dumps behind others
+-- what is taken in of dumps after others
 taken_of : DumpLaw → (sets : Sets) (d : ℕ) (before : List (List ℕ)) (old new : Taken) (dumps : List (List ℕ)) → IsTakenOf sets (routes_in_files before) old →
     seen_of sets d old dumps ≡ Ok new → IsTakenOf sets (routes_in_files (before ++ dumps)) new
 taken_of law sets d before old new [] so_far e =
