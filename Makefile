@@ -35,6 +35,7 @@ SOURCES = crates.txt tools/unproved.py tools/libraries.py tools/quick.rs $(shell
 .DELETE_ON_ERROR:
 
 all: tour documents names
+	@echo "bin/ has $(PROGRAMS), proved"
 
 quick: quick/tor
 	@for program in $(PROGRAMS); do tools/stored_run.sh $$program $(CURDIR)/quick/$$program || exit 1; done
@@ -67,8 +68,11 @@ results: $(BUILT)
 documents:
 	tools/documents.sh
 
+# The list is shown only where it is too long.
 names:
-	tools/names.py
+	@mkdir -p bin
+	tools/names.py > bin/names.txt || { cat bin/names.txt; exit 1; }
+	@tail -n 1 bin/names.txt
 
 tour: pages results
 	tools/tour.sh bin samples README.md

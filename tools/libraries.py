@@ -72,8 +72,8 @@ class Work:
         self.below = {it.name for it in crate.below()}
         antt = sum(rt.rtlib.text_of(file).count('\n') for file in rt.rtlib.files_of(crate.folder) if file.endswith('.antt'))
         self.seconds = 15 + 0.05 * lines[crate.name] + 0.01 * antt + 0.001 * sum(lines[name] for name in self.below)
-        # none was seen to take half of what the gate plans on
-        self.memory = rt.need(crate) / 2
+        # of what the gate plans on, most crates were seen to take a third, and `tor_output` and the programs two thirds to three quarters
+        self.memory = 0.75 * rt.need(crate)
 
 
 def works_of(rt, crates):
