@@ -1,9 +1,3 @@
-use Rattle.run_base.specs.Answers.{note_in}
-use Rattle.run_base.specs.Opening.{AllRead, EndsSo}
-use Rattle.run_base.specs.declared.status.Status.TheVariants as status
-use Rattle.run_base.proofs.Openings.{opens_weaker}
-use Rattle.std.proofs.Common.{◌≡◌}
-use Rattle.tor_output.specs.Opening.{files_named}
 use Rattle.tor_output.proofs.Openings.{unwritten_ends}
 use Rattle.tor_output.specs.Sampling.{known_by}
 use Rattle.tor_output.proofs.Reaching.{answered}
