@@ -63,7 +63,8 @@ TellsFault text number = ((file : FirstFile) × (line : ℕ) × (number ≡ 0) �
 
 -- it tells that the file that is read first is too long, or a limit in the dump of this number
 abbrev pub TellsLimit : List ℕ → ℕ → Type 0
-TellsLimit text number = ((file : FirstFile) × (number ≡ 0) × (text ≡ too_long_note file)) ⊎ ((kind : LimitKind) × (text ≡ limit_note kind number))
+TellsLimit text number = ((file : FirstFile) × (number ≡ 0) × (text ≡ too_long_note file))
+    ⊎ ((kind : LimitKind) × (text ≡ limit_note kind number))
 
 -- A run that has a text to write has read all files. A no is told at the file that is read first, and a fault, a limit and a failed read
 -- at the file that the note names. Words that are no command open none, and memory may run out anywhere.
@@ -88,5 +89,6 @@ RefusalEnds refusal.NoMemory end = ⊤
 abbrev pub OpensDumps : ℕ → List (List ℕ) → Refusal → (before after : List (List ℕ)) → Type 0
 OpensDumps least dumps (refusal.Words w) before after = ⊥
 OpensDumps least dumps (refusal.Dumps stopped) before after =
-    IsOfDump stopped.dump stopped.error × (least ≤ stopped.dump) × (stopped.dump ≤ length dumps) × (after ≡ before ++ take stopped.dump dumps)
+    IsOfDump stopped.dump stopped.error × (least ≤ stopped.dump) × (stopped.dump ≤ length dumps)
+    × (after ≡ before ++ take stopped.dump dumps)
 OpensDumps least dumps refusal.NoMemory before after = (many : ℕ) × (after ≡ before ++ take many dumps)

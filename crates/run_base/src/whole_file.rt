@@ -1,5 +1,6 @@
 //! The reading of a file that is read whole.
-ghost use Rattle.std.specs.Prelude.{◌≡◌, ◌≢◌, ◌<◌, ◌≤◌, ◌^◌, ◌+◌, ◌++◌, ◌∷◌, [], Err, Some, IfOk, OnOk, OnErr, IfSome, IsOk, IsErrOf, length, take, drop};
+ghost use Rattle.std.specs.Prelude.{◌≡◌, ◌≢◌, ◌<◌, ◌≤◌, ◌^◌, ◌+◌, ◌++◌, ◌∷◌, [], Err};
+ghost use Rattle.std.specs.Prelude.{Some, IfOk, OnOk, OnErr, IfSome, IsOk, IsErrOf, length, take, drop};
 ghost use Rattle.std.specs.Io.KnownBytes.{IsAtEnd, prepend_known};
 ghost use Rattle.tor_io.specs.Counts.{Rose, HasCause};
 ghost use Rattle.tor_io.specs.Contents.{LacksFile};

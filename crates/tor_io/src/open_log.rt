@@ -29,6 +29,5 @@ impl OpenLog {
     /// Adds a name, as the last one.
     pub fn add(&mut self, _name: &[u8])
         ensures { self.new.names ≡ self.old.names ++ _name.now ∷ [] }
-    {
-    }
+    {}
 }

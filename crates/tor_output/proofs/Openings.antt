@@ -3,7 +3,6 @@ use Rattle.std.proofs.Common.{◌≡◌, ◌≤◌, ◌⊎◌, inl, inr, ℕ, Li
 use Rattle.std.specs.Prelude.{⊤}
 use Rattle.std.proofs.lemmas.List.{append-nil}
 use Rattle.std.proofs.Math.Seq.{take-length}
-use Rattle.dump_read.specs.declared.error.DumpError.{DumpError}
 use Rattle.dump_read.specs.Refusals.{IsOfDump}
 use Rattle.tor_words.specs.declared.settings.Settings.{Settings}
 use Rattle.tor_words.specs.declared.settings.Source.{Source}
@@ -15,7 +14,7 @@ use Rattle.run_base.specs.declared.answer.Refusal.TheVariants as refusal
 use Rattle.run_base.specs.declared.reading.Stopped.{Stopped}
 use Rattle.run_base.specs.Answers.{note_in}
 use Rattle.run_base.specs.Opening.{FilesEnd, AllRead, EndedAt, EndsSo, OpensDumps, OpensInOrder, RefusalEnds}
-use Rattle.run_base.proofs.Openings.{all_behind, bad_line_ends, first_opened, no_ends, none_opened, opens_weaker, refusal_ends, stop_alone, stop_behind, unread_ends}
+use Rattle.run_base.proofs.Openings.{all_behind, bad_line_ends, first_opened, no_ends, opens_weaker, refusal_ends, stop_alone, stop_behind, unread_ends}
 use Rattle.torcheck_run.specs.CheckAnswer.{no_text}
 use Rattle.tor_output.specs.declared.unwritten.Unwritten.{Unwritten}
 use Rattle.tor_output.specs.declared.unwritten.Unwritten.TheVariants as unwritten

@@ -31,7 +31,8 @@ use Rattle.tor_output.specs.declared.unwritten.Unwritten.{Unwritten}
 use Rattle.tor_output.specs.declared.unwritten.Unwritten.TheVariants as unwritten
 use Rattle.torcheck_run.specs.CheckAnswer.{no_text}
 use Rattle.tor_output.specs.Answer.{AreGivensGood, JoinsBefore, IsNote}
-use Rattle.tor_output.specs.First.{First, Nothing, Givens, Earlier, NoFile, TooLong, BadLine, Broken, AreGivens, AreSomeGivens, AreSound, HoldsResult, IsSomeResult, TakesUpSome, EndsAtFirst, first_by, first_in}
+use Rattle.tor_output.specs.First.{First, Nothing, Givens, Earlier, NoFile, TooLong, BadLine, Broken, AreGivens}
+use Rattle.tor_output.specs.First.{AreSomeGivens, AreSound, HoldsResult, IsSomeResult, TakesUpSome, EndsAtFirst, first_by, first_in}
 use Rattle.tor_output.specs.First.{Result as ResultAt}
 use Rattle.tor_output.specs.Output.{IsMigrated, IsOutput, IsOutputIn, IsOutputOf, IsOutputOnEarlier, IsOutputOnSome}
 use Rattle.tor_output.specs.Reach.{LeavesOnlyFirst, IsFirstInReach, StopsInReach, IsUnwrittenInReach, StaysUnwrittenInReach}

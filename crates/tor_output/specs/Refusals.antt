@@ -24,7 +24,8 @@ use Rattle.torcheck_run.specs.CheckAnswer.{no_text}
 use Rattle.tor_output.specs.declared.unwritten.Unwritten.{Unwritten}
 use Rattle.tor_output.specs.declared.unwritten.Unwritten.TheVariants as unwritten
 use Rattle.tor_output.specs.Answer.{ReadBefore, AreGivensGood}
-use Rattle.tor_output.specs.First.{First, FirstEnd, NoFile, TooLong, BadLine, Broken, AreGivens, TakesUp, IsTakenUp, EndsAtFirst, first_in, first_kind}
+use Rattle.tor_output.specs.First.{First, FirstEnd, NoFile, TooLong, BadLine, Broken}
+use Rattle.tor_output.specs.First.{AreGivens, TakesUp, IsTakenUp, EndsAtFirst, first_in, first_kind}
 use Rattle.tor_output.specs.Seen.{seen_in, joined}
 
 -- ---- dumps

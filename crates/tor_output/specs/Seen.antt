@@ -15,7 +15,8 @@ use Rattle.tor_words.specs.declared.settings.Settings.{Settings}
 use Rattle.tor_words.specs.Given.{settings_given}
 use Rattle.run_base.specs.Reading.{seen_from, IsOfSomeDumps, nothing}
 use Rattle.rel_infer.specs.SelfAcceptance.{AreTableRows}
-use Rattle.tor_output.specs.First.{FirstEnd, first_in, AreGivens, HoldsResult, TakesUp, EndsAtFirst, AreSomeGivens, AreSound, IsSomeResult, TakesUpSome}
+use Rattle.tor_output.specs.First.{FirstEnd, first_in, AreGivens, HoldsResult, TakesUp}
+use Rattle.tor_output.specs.First.{EndsAtFirst, AreSomeGivens, AreSound, IsSomeResult, TakesUpSome}
 
 -- ---- what dumps give
 

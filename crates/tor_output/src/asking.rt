@@ -140,7 +140,8 @@ fn free_output<H: Shelf>(
     ensures no_fault { IfErr result (λ u. BySource settings.now.source (IsFailedRead u → ⊥) ⊤) }
     ensures reach { IfErr result (IsUnwrittenInReach settings.now (H.files shelf.old) (H.left shelf.new)) }
     ensures opens { OnOk result (OpensInOrder (named_in settings.now) (λ end. end ≡ AllRead) (H.opens shelf.old) (H.opens shelf.new)) }
-    ensures opens_stop { IfErr result (λ u. OpensInOrder (named_in settings.now) (UnwrittenEnds u) (H.opens shelf.old) (H.opens shelf.new)) }
+    ensures opens_stop { IfErr result (λ u.
+        OpensInOrder (named_in settings.now) (UnwrittenEnds u) (H.opens shelf.old) (H.opens shelf.new)) }
 
     ensures reads_shelf { ReadsShelf H.Shelf (IsErrAnd result IsFailedRead) shelf.old shelf.new }
 {
@@ -172,7 +173,8 @@ fn bound_output<H: Shelf>(
     ensures read_out { OnOk result (0 < length settings.now.dumps → IsAtEnd (H.left shelf.new)) }
     ensures reach { IfErr result (IsUnwrittenInReach settings.now (H.files shelf.old) (H.left shelf.new)) }
     ensures opens { OnOk result (OpensInOrder (named_in settings.now) (λ end. end ≡ AllRead) (H.opens shelf.old) (H.opens shelf.new)) }
-    ensures opens_stop { IfErr result (λ u. OpensInOrder (named_in settings.now) (UnwrittenEnds u) (H.opens shelf.old) (H.opens shelf.new)) }
+    ensures opens_stop { IfErr result (λ u.
+        OpensInOrder (named_in settings.now) (UnwrittenEnds u) (H.opens shelf.old) (H.opens shelf.new)) }
 
     ensures reads_shelf { ReadsShelf H.Shelf (IsErrAnd result IsFailedRead) shelf.old shelf.new }
 {
@@ -200,7 +202,8 @@ fn result_output<H: Shelf>(
     ensures read_out { OnOk result (IsAtEnd (H.left shelf.new)) }
     ensures reach { IfErr result (IsUnwrittenInReach settings.now (H.files shelf.old) (H.left shelf.new)) }
     ensures opens { OnOk result (OpensInOrder (named_in settings.now) (λ end. end ≡ AllRead) (H.opens shelf.old) (H.opens shelf.new)) }
-    ensures opens_stop { IfErr result (λ u. OpensInOrder (named_in settings.now) (UnwrittenEnds u) (H.opens shelf.old) (H.opens shelf.new)) }
+    ensures opens_stop { IfErr result (λ u.
+        OpensInOrder (named_in settings.now) (UnwrittenEnds u) (H.opens shelf.old) (H.opens shelf.new)) }
 
     ensures reads_shelf { ReadsShelf H.Shelf (IsErrAnd result IsFailedRead) shelf.old shelf.new }
 {
@@ -235,7 +238,8 @@ fn output_for<H: Shelf>(
     ensures no_fault { IfErr result (λ u. BySource settings.now.source (IsFailedRead u → ⊥) ⊤) }
     ensures reach { IfErr result (IsUnwrittenInReach settings.now (H.files shelf.old) (H.left shelf.new)) }
     ensures opens { OnOk result (OpensInOrder (named_in settings.now) (λ end. end ≡ AllRead) (H.opens shelf.old) (H.opens shelf.new)) }
-    ensures opens_stop { IfErr result (λ u. OpensInOrder (named_in settings.now) (UnwrittenEnds u) (H.opens shelf.old) (H.opens shelf.new)) }
+    ensures opens_stop { IfErr result (λ u.
+        OpensInOrder (named_in settings.now) (UnwrittenEnds u) (H.opens shelf.old) (H.opens shelf.new)) }
 
     ensures reads_shelf { ReadsShelf H.Shelf (IsErrAnd result IsFailedRead) shelf.old shelf.new }
 {
@@ -270,7 +274,8 @@ pub fn output_asked<H: Shelf>(
     ensures no_fault { IfErr result (λ u. IfSample words.now (IsFailedRead u → ⊥) ⊤) }
     ensures reach { IfErr result (StaysUnwrittenInReach words.now (H.files shelf.old) (H.left shelf.new)) }
     ensures opens { OnOk result (OpensInOrder (files_named words.now) (λ end. end ≡ AllRead) (H.opens shelf.old) (H.opens shelf.new)) }
-    ensures opens_stop { IfErr result (λ u. OpensInOrder (files_named words.now) (UnwrittenEnds u) (H.opens shelf.old) (H.opens shelf.new)) }
+    ensures opens_stop { IfErr result (λ u.
+        OpensInOrder (files_named words.now) (UnwrittenEnds u) (H.opens shelf.old) (H.opens shelf.new)) }
 
     ensures untouched { IfErr result (λ u. IsOfTheWords u → shelf.new ≡ shelf.old) }
     ensures reads_shelf { ReadsShelf H.Shelf (IsErrAnd result IsFailedRead) shelf.old shelf.new }

@@ -222,7 +222,8 @@ pub(crate) fn resumed_output<H: Shelf>(
     ensures read_out { OnOk result (0 < length settings.now.dumps → IsAtEnd (H.left shelf.new)) }
     ensures reach { IfErr result (IsUnwrittenInReach settings.now (H.files shelf.old) (H.left shelf.new)) }
     ensures opens { OnOk result (OpensInOrder (named_in settings.now) (λ end. end ≡ AllRead) (H.opens shelf.old) (H.opens shelf.new)) }
-    ensures opens_stop { IfErr result (λ u. OpensInOrder (named_in settings.now) (UnwrittenEnds u) (H.opens shelf.old) (H.opens shelf.new)) }
+    ensures opens_stop { IfErr result (λ u.
+        OpensInOrder (named_in settings.now) (UnwrittenEnds u) (H.opens shelf.old) (H.opens shelf.new)) }
 
     ensures reads_shelf { ReadsShelf H.Shelf (IsErrAnd result IsFailedRead) shelf.old shelf.new }
 {

@@ -2,7 +2,7 @@
 ghost use Rattle.std.specs.Prelude.{None};
 ghost use Rattle.std.proofs.Common.{rules};
 
-use tor_io::{Failed, OpenRefused, Shelf};
+use tor_io::{Failed, OpenLog, OpenRefused, Shelf};
 
 /// A shelf on which each name opens a file without end, of which nothing is known: the headers are of type 99, subtype 0 and Length
 /// 2^32 - 1, and the bodies are whatever lies in the buffer.
@@ -10,6 +10,7 @@ use tor_io::{Failed, OpenRefused, Shelf};
 pub struct Endless {
     // how many octets of the record are read
     at: u64,
+    opens: OpenLog,
 }
 
 static HEADER: [u8; 12] = [0, 0, 0, 0, 0, 99, 0, 0, 255, 255, 255, 255];
@@ -19,7 +20,10 @@ const RECORD_OCTETS: u64 = 12 + 4_294_967_295;
 impl Endless {
     /// Nothing is read yet.
     pub fn new() -> Endless {
-        Endless { at: 0 }
+        Endless {
+            at: 0,
+            opens: OpenLog::new(),
+        }
     }
 }
 
@@ -30,13 +34,16 @@ impl Shelf for Endless {
 
     ghost faults = { λ _. 0 };
 
+    ghost opens = { λ shelf. shelf.opens.names };
+
     ghost steady = { λ _. ⊥ };
 
     ghost steady_known = { λ shelf steady. absurd steady };
 
     ghost known_together = { λ shelf. Prim.search rules };
 
-    fn open_file(&mut self, _: &str) -> Result<(), OpenRefused> {
+    fn open_file(&mut self, name: &str) -> Result<(), OpenRefused> {
+        self.opens.add(name.as_bytes());
         self.at = 0;
         Ok(())
     }

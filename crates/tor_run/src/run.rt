@@ -22,6 +22,8 @@ ghost use Rattle.tor_output.specs.Output.{GainsOutput, GainsOutputPrefix, GainsS
 ghost use Rattle.tor_output.specs.Resuming.{AsksToResume, GainsResumed};
 ghost use Rattle.run_base.specs.Answers.{note_in};
 ghost use Rattle.run_base.specs.Frames.{RunLeavesShelf, RunLeavesOut};
+ghost use Rattle.run_base.specs.Opening.{OpensInOrder, EndsSo};
+ghost use Rattle.tor_output.specs.Opening.{files_named};
 
 use result_text::one_value;
 use run_base::{Answer, Note, Status};
@@ -60,6 +62,8 @@ fn answer<H: Shelf, O: Sink>(
     ensures sample { IfSample words.now (shelf.new ≡ shelf.old) ⊤ }
     ensures no_fault { IfSample words.now (result.status ≢ Status.ReadFault) ⊤ }
     ensures reach { EndsInReach words.now (H.files shelf.old) (H.left shelf.new) result.status (note_in result) }
+    ensures opens { OpensInOrder (files_named words.now) (EndsSo result.status (note_in result))
+        (H.opens shelf.old) (H.opens shelf.new) }
     ensures untouched { result.status ≡ Status.Usage → shelf.new ≡ shelf.old }
     ensures leaves_shelf { RunLeavesShelf H.Shelf result.status shelf.old shelf.new }
     ensures leaves_out { RunLeavesOut O.Sink result.status out.old out.new }
@@ -123,6 +127,7 @@ pub fn infer<H: Shelf, O: Sink, E: Sink>(
     ensures steady_read_fault { H.steady shelf.old → result ≡ Status.ReadFault →
         LeadsToAbsent words.now (known_by words.now (H.files shelf.old)) }
     ensures no { result ≡ Status.No → LeadsToBroken words.now (known_by words.now (H.files shelf.old)) }
+    ensures no_other { result ≡ Status.No → AsksToResume words.now }
 
     // When each status has to come, or NoMemory.
     ensures always_usage { IsNone (settings_given words.now) → (result ≡ Status.Usage) ⊎ (result ≡ Status.NoMemory) }
@@ -183,6 +188,9 @@ pub fn infer<H: Shelf, O: Sink, E: Sink>(
         (E.faults err.old) (E.faults err.new) (E.held err.old) (E.held err.new) }
     // And how far the file or the dump that it names was read.
     ensures reach { IsNoted (EndsInReach words.now (H.files shelf.old) (H.left shelf.new) result)
+        (E.faults err.old) (E.faults err.new) (E.held err.old) (E.held err.new) }
+    // And which files were opened: those that the words name, in their order, up to the one at which it ended.
+    ensures opens { IsNoted (λ note. OpensInOrder (files_named words.now) (EndsSo result note) (H.opens shelf.old) (H.opens shelf.new))
         (E.faults err.old) (E.faults err.new) (E.held err.old) (E.held err.new) }
 {
     // Laws that the promises rest on: a text has one value, and settings have bounds.

@@ -1,6 +1,5 @@
 -- Which files a run opened that asks something of a result.
-use Rattle.std.proofs.Common.{◌≡◌, ◌⊎◌, inl, inr, ℕ, List, [], ◌∷◌, ◌++◌, Option, Some, None, option_map, refl, sym, subst}
-use Rattle.std.proofs.lemmas.List.{append-nil}
+use Rattle.std.proofs.Common.{◌≡◌, ◌⊎◌, inl, inr, ℕ, List, [], ◌∷◌, ◌++◌, Option, Some, option_map, refl, sym, subst}
 use Rattle.tor_words.specs.declared.refused.WordsRefused.{WordsRefused}
 use Rattle.run_base.specs.declared.answer.Answer.{Answer}
 use Rattle.run_base.specs.declared.answer.Refusal.TheVariants as refusal
@@ -8,7 +7,7 @@ use Rattle.run_base.specs.declared.notes.FirstFile.TheVariants.{Result as result
 use Rattle.run_base.specs.declared.status.Status.{Status}
 use Rattle.run_base.specs.declared.status.Status.TheVariants as status
 use Rattle.run_base.specs.Answers.{note_in}
-use Rattle.run_base.specs.Opening.{Named, FilesEnd, AllRead, EndedAt, Behind, EndsSo, OpensInOrder, RefusalEnds}
+use Rattle.run_base.specs.Opening.{Named, FilesEnd, AllRead, EndedAt, EndsSo, OpensInOrder}
 use Rattle.run_base.proofs.Openings.{first_opened, no_ends, none_opened, opens_weaker, refusal_ends, unread_ends}
 use Rattle.torcheck_run.specs.declared.unsaid.Unsaid.{Unsaid}
 use Rattle.torcheck_run.specs.declared.unsaid.Unsaid.TheVariants as unsaid

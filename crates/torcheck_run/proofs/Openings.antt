@@ -1,5 +1,5 @@
 -- Which files a check opened, and what it says of files of which nothing is known.
-use Rattle.std.proofs.Common.{◌≡◌, ◌≤◌, ◌<◌, ◌⊎◌, inl, inr, ℕ, zero, suc, List, [], ◌∷◌, ◌++◌, length, take, Option, Some, option_map, refl, sym, ap, subst, ◌∙◌, append_assoc, arith}
+use Rattle.std.proofs.Common.{◌≡◌, ◌<◌, ◌⊎◌, inl, inr, ℕ, zero, suc, List, [], ◌∷◌, ◌++◌, length, Option, Some, option_map, refl, sym, ap, subst, ◌∙◌, append_assoc, arith}
 use Rattle.dump_read.specs.declared.taking.Taken.{Taken}
 use Rattle.result_text.specs.declared.file.ResultFile.{ResultFile}
 use Rattle.result_rules.specs.declared.verdict.Verdict.{Verdict}
@@ -15,13 +15,13 @@ use Rattle.run_base.specs.declared.status.Status.{Status}
 use Rattle.run_base.specs.declared.status.Status.TheVariants as status
 use Rattle.run_base.specs.declared.whole_file.Unread.{Unread}
 use Rattle.run_base.specs.Answers.{note_in}
-use Rattle.run_base.specs.Opening.{Named, FilesEnd, AllRead, EndedAt, EndsSo, OpensDumps, OpensInOrder, OpensUpTo, RefusalEnds}
+use Rattle.run_base.specs.Opening.{FilesEnd, AllRead, EndedAt, EndsSo, OpensDumps, OpensInOrder}
 use Rattle.run_base.specs.Reading.{nothing, IsOfSomeDumps}
 use Rattle.run_base.proofs.Openings.{first_opened, opens_weaker, refusal_ends, stop_behind, unread_ends}
 use Rattle.torcheck_run.specs.declared.judging.Unjudged.{Unjudged}
 use Rattle.torcheck_run.specs.declared.judging.Unjudged.TheVariants as unjudged
 use Rattle.torcheck_run.specs.CheckAnswer.{status_of}
-use Rattle.torcheck_run.specs.Judging.{BreaksRule, IsAccepted}
+use Rattle.torcheck_run.specs.Judging.{BreaksRule}
 use Rattle.torcheck_run.specs.Opening.{CheckEndsSo, IsVerdictOfSome, JudgesBySome, JudgesOpening, UnjudgedEnds, files_named, named_in}
 use Rattle.torcheck_run.specs.Unjudging.{AnswersUnjudged}
 

@@ -1,5 +1,6 @@
 //! What is graded: known relationships, and the paths of dumps.
-ghost use Rattle.std.specs.Prelude.{◌≡◌, ◌≤◌, ◌-◌, ◌<◌, ◌++◌, Ok, Err, Some, IfOk, IfErr, OnOk, IfSome, IsNone, IsErrAnd, IsOk, length, take};
+ghost use Rattle.std.specs.Prelude.{◌≡◌, ◌≤◌, ◌-◌, ◌<◌, ◌++◌, Ok, Err, Some, IfOk};
+ghost use Rattle.std.specs.Prelude.{IfErr, OnOk, IfSome, IsNone, IsErrAnd, IsOk, length, take};
 ghost use Rattle.std.specs.Io.KnownBytes.{IsAtEnd};
 ghost use Rattle.tor_arena.specs.Limits.{max_paths};
 ghost use Rattle.path_clean.specs.declared.cleaned.Sets.TheVariants.{Cut};
@@ -162,7 +163,8 @@ fn graded_in<H: Shelf>(
     ensures ungraded { IfErr result (IsUngradedIn settings.now (H.files shelf.old) (H.steady shelf.old)) }
     ensures no_words { IfErr result (λ u. IsOfGradeWords u → ⊥) }
     ensures reach { IfErr result (IsUngradedInReach settings.now (H.files shelf.old) (H.left shelf.new)) }
-    ensures opens { OnOk result (OpensInOrder (Some (named_in settings.now)) (λ end. end ≡ AllRead) (H.opens shelf.old) (H.opens shelf.new)) }
+    ensures opens { OnOk result (
+        OpensInOrder (Some (named_in settings.now)) (λ end. end ≡ AllRead) (H.opens shelf.old) (H.opens shelf.new)) }
     ensures opens_stop { IfErr result (λ u.
         OpensInOrder (Some (named_in settings.now)) (UngradedEnds u) (H.opens shelf.old) (H.opens shelf.new)) }
     ensures read_out { OnOk result (IsAtEnd (H.left shelf.new)) }

@@ -122,8 +122,10 @@ pub(crate) fn seen_asked<H: Shelf>(
     ensures settled { IsNone (view_settings_given words.now) → IsErrAnd result IsOfAskingWords }
     ensures read_out { OnOk result (IsAtEnd (H.left shelf.new)) }
 
-    ensures opens { OnOk result (OpensInOrder (files_asked viewing words.now) (λ end. end ≡ AllRead) (H.opens shelf.old) (H.opens shelf.new)) }
-    ensures opens_stop { IfErr result (λ u. OpensInOrder (files_asked viewing words.now) (UnsaidEnds u) (H.opens shelf.old) (H.opens shelf.new)) }
+    ensures opens { OnOk result (
+        OpensInOrder (files_asked viewing words.now) (λ end. end ≡ AllRead) (H.opens shelf.old) (H.opens shelf.new)) }
+    ensures opens_stop { IfErr result (λ u.
+        OpensInOrder (files_asked viewing words.now) (UnsaidEnds u) (H.opens shelf.old) (H.opens shelf.new)) }
     ensures untouched { IfErr result (λ u. IsOfAskingWords u → shelf.new ≡ shelf.old) }
     ensures reads_shelf { ReadsShelf H.Shelf (IsErrAnd result IsFailedRead) shelf.old shelf.new }
 {

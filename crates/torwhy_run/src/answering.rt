@@ -116,7 +116,8 @@ pub fn why<H: Shelf, O: Sink, E: Sink>(
     ensures note { IsNoted (IsSayingNote telling words.now (H.files shelf.old) (H.steady shelf.old) (H.left shelf.new) result)
         (E.faults err.old) (E.faults err.new) (E.held err.old) (E.held err.new) }
     // And which file was opened: the result that the words name, once, and no other.
-    ensures opens { IsNoted (λ note. OpensInOrder (files_asked telling words.now) (EndsSo result note) (H.opens shelf.old) (H.opens shelf.new))
+    ensures opens { IsNoted (λ note.
+        OpensInOrder (files_asked telling words.now) (EndsSo result note) (H.opens shelf.old) (H.opens shelf.new))
         (E.faults err.old) (E.faults err.new) (E.held err.old) (E.held err.new) }
     ensures silent { result ≡ Status.Done → E.held err.new ≡ E.held err.old }
 {

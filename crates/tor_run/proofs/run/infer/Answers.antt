@@ -12,7 +12,7 @@ use Rattle.run_base.proofs.Statuses.{not_text}
 use Rattle.dump_read.specs.Seen.{Absent, Malformed, Limit}
 use Rattle.tor_output.specs.First.{NoFile, TooLong, BadLine}
 use Rattle.tor_output.specs.Seen.{Reads, Joins, Holds, Stops, Ends}
-use Rattle.tor_output.proofs.Always.{always, always_broken, leads_absent, leads_broken, leads_limit, leads_malformed}
+use Rattle.tor_output.proofs.Always.{always, always_broken, asks_to_resume, leads_absent, leads_broken, leads_limit, leads_malformed}
 use Rattle.tor_output.proofs.GradingLemmas.{gains_grading}
 use Rattle.tor_output.proofs.Resumings.{gains_resumed}
 use Rattle.tor_run.proofs.run.infer.Goals as goal
@@ -226,3 +226,18 @@ returns-clause-resumed g c = λ is asks.
     let a = c.answer-answer in
     IfSome_then (known_by words (g.H.Shelf.files c.args.shelf.now)) (a.ensures.done is)
     (λ files gains. gains_resumed c.bounds_law.ensures words files (out c.args.out.now) (out a.new.out) (note_in a.result) asks gains)
+
+pub returns-clause-opens : goal.returns-clause-opens
+returns-clause-opens g c =
+    let err = g.E.Sink in
+    noted _ c.write_all.result (err.faults c.args.err.now) (err.faults c.write_all.new.sink) (err.held c.args.err.now) (err.held c.write_all.new.sink)
+    c.note.result.now (note_in c.answer-answer.result)
+    c.answer-answer.ensures.opens c.note.ensures c.write_all.ensures.cause c.write_all.ensures.all c.write_all.ensures.prefix
+
+pub returns-clause-no_other : goal.returns-clause-no_other
+returns-clause-no_other g c =
+    let shelf = g.H.Shelf in
+    let words = c.args.words.now in
+    let old = c.args.shelf.now in
+    let a = c.answer-answer in
+    asks_to_resume words (known_by words (shelf.files old)) (shelf.steady old) (shelf.left a.new.shelf) a.result.status (note_in a.result) a.ensures.note c.bounds_law.ensures
