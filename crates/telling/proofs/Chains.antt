@@ -35,7 +35,7 @@ only : (p q : ℕ × ℕ) → Contains (q ∷ []) p → q ≡ p
 only p q (zero, lt, e) = e
 only p q (suc k, lt, e) = absurd (omega (arith, lt))
 
-same_begin : (ases : List ℕ) (a b c d : ℕ) → BeginsWith ases a b → BeginsWith ases c d → (a ≡ c) × (b ≡ d)
+pub same_begin : (ases : List ℕ) (a b c d : ℕ) → BeginsWith ases a b → BeginsWith ases c d → (a ≡ c) × (b ≡ d)
 same_begin ases a b c d h k =
     let e : a ∷ b ∷ h.0 ≡ c ∷ d ∷ k.0 = sym h.1 ∙ k.1 in
     (ap (λ (l : List ℕ). get_or l 0 0) e, ap (λ (l : List ℕ). get_or l 1 0) e)

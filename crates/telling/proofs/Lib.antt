@@ -3,6 +3,7 @@ pub mod Decided
 pub mod DownLemmas
 pub mod EitherLemmas
 pub mod LabelLemmas
+pub mod OneProof
 pub mod PathLemmas
 pub mod ProvingLemmas
 pub mod ReachLemmas
@@ -10,3 +11,4 @@ pub mod SlopeLemmas
 pub mod TextLemmas
 pub mod Vectors
 pub mod WalkTextLemmas
+pub mod WayLemmas

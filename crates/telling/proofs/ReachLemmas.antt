@@ -1,10 +1,10 @@
 -- What is reached down from the order of a label, and the walk back.
-use Rattle.std.proofs.Common.{◌≡◌, ◌≢◌, inl, inr, min, max, ℕ, zero, suc, ◌+◌, ◌<◌, ◌≤◌, List, [], ◌∷◌, ◌++◌, length, map, true, Some, slice_get, refl, sym, ap, ◌∙◌, subst, arith}
+use Rattle.std.proofs.Common.{◌≡◌, ◌≢◌, inl, inr, min, max, ℕ, zero, suc, ◌+◌, ◌-◌, ◌<◌, ◌≤◌, List, [], ◌∷◌, ◌++◌, length, map, true, Some, slice_get, refl, sym, ap, ap₂, ◌∙◌, subst, arith}
 use Rattle.std.proofs.Common.{Contains, IsTrue, IsNone, Option, None, length-append}
 use Rattle.std.proofs.lemmas.Bool.{false≢true, cases_lt}
 use Rattle.std.proofs.lemmas.List.Elements.{All-append, All-contains, Contains-append_cases}
 use Rattle.std.proofs.lemmas.Option.{same_Some, slice_get_within}
-use Rattle.tor_arena.proofs.Gets.{Contains-from_has, Contains-none, slice_get-some, Contains-map, has-from_Contains, slice_get-unmap}
+use Rattle.tor_arena.proofs.Gets.{Contains-from_has, Contains-none, slice_get-some, Contains-map, has-from_Contains, slice_get-map, slice_get-push_cases, slice_get-unmap}
 use Rattle.relationships.specs.declared.label.End.{End}
 use Rattle.relationships.specs.declared.label.Label.{Label}
 use Rattle.relationships.specs.declared.label.Label.TheVariants as label
@@ -27,6 +27,7 @@ use Rattle.relationships.proofs.Checked.{over_low, over_high}
 use Rattle.relationships.proofs.Closures.{reversed_triple}
 use Rattle.relationships.proofs.GivenLemmas.{three_on, any_there, edge_back, returns_differ}
 use Rattle.relationships.proofs.GivenWalks.{same_closure_law}
+use Rattle.tor_digraph.specs.Closing.{IsOnce}
 use Rattle.tor_digraph.specs.Walks.{Net, IsArc, HasArc}
 use Rattle.tor_digraph.specs.Reached.{Reach}
 use Rattle.result_text.specs.declared.file.EdgeLine.{EdgeLine}
@@ -39,9 +40,10 @@ use Rattle.result_rules.proofs.Accepted.{edges_listed}
 use Rattle.result_rules.proofs.GivenLines.{name_two, labels_agree}
 use Rattle.result_rules.proofs.MarkLaws.{marks_are_borne_out, probes_serve}
 use Rattle.telling.specs.Proving.{HasOrder}
-use Rattle.telling.specs.Told.{edge_on, IsAgainst, IsReached, IsPeering, IsUndecided}
+use Rattle.telling.specs.Told.{edge_on, IsAgainst, IsFirstTo, IsWithoutLoop, IsReached, IsPeering, IsUndecided}
 use Rattle.telling.specs.Downs.{HaveLabels, HasOver, HasDowns, AreDowns}
-use Rattle.telling.specs.Reaching.{IsReachOf, IsPlainWay, IsOpposed, IsUnopposed, IsBack}
+use Rattle.telling.specs.Labelling.{HasStep}
+use Rattle.telling.specs.Reaching.{IsReachOf, IsPlainWay, IsOpposed, IsUnopposed, NoneTo, IsBack}
 use Rattle.telling.proofs.EitherLemmas.{either_law, peers_law}
 use Rattle.telling.proofs.LabelLemmas.{rises, its_label, kept_edges, kept_differ, near, near_free}
 use Rattle.telling.proofs.PathLemmas.{own_edge}
@@ -75,6 +77,17 @@ ends_more ases before x y z e = (before ++ x ∷ [], ap (λ (l : List ℕ). l ++
     shifted : (l : List ℕ) → (l ++ (x ∷ y ∷ [])) ++ z ∷ [] ≡ (l ++ x ∷ []) ++ (y ∷ z ∷ [])
     shifted [] = refl
     shifted (a ∷ l) = ap (λ (m : List ℕ). a ∷ m) (shifted l)
+
+-- the last of a walk
+ends_at : (ases : List ℕ) (y x : ℕ) → EndsWith ases y x → (i : ℕ) → length ases ≡ i + 1 → slice_get ases i ≡ Some x
+ends_at ases y x (before, e) i many = subst (λ (l : List ℕ). slice_get l i ≡ Some x) (sym e) (last before i (ap length (sym e) ∙ many))
+  where
+    last : (l : List ℕ) (i : ℕ) → length (l ++ (y ∷ x ∷ [])) ≡ i + 1 → slice_get (l ++ (y ∷ x ∷ [])) i ≡ Some x
+    last [] zero n = absurd (omega (arith, n))
+    last [] (suc zero) n = refl
+    last [] (suc (suc i)) n = absurd (omega (arith, n))
+    last (a ∷ l) zero n = absurd (omega (arith, n, length-append l (y ∷ x ∷ [])))
+    last (a ∷ l) (suc i) n = last l i (omega (arith, n))
 
 begins_more : (ases : List ℕ) (x y z : ℕ) → BeginsWith ases x y → BeginsWith (ases ++ z ∷ []) x y
 begins_more ases x y z b = (b.0 ++ z ∷ [], ap (λ (l : List ℕ). l ++ z ∷ []) b.1)
@@ -122,8 +135,37 @@ module _ (file : ResultFile) (es : List Edge) (net : Net ℕ) (named : List Link
             (linked_more (its_givens file) (its_kept file) old.ases old.links back.y back.x x link back.linked back.ends.0 back.ends.1 (inr fits)));
         begins = subst (λ ases. BeginsWith ases over under) (sym a) (begins_more old.ases over under x back.begins);
         ends = subst (λ ases. EndsWith ases back.x x) (sym a) (ends_more old.ases back.ends.0 back.y back.x x back.ends.1);
+        long = omega (arith, back.long, ap length a, length-append old.ases (x ∷ []));
+        orders = subst AreBack (sym a)
+            (orders_more back (subst (λ n. HasOver (its_labels file) es from n back.x) (sym x_is) (subst (λ n. HasOver (its_labels file) es from d.x n) order.0 d.from)));
       }
     where
+      -- each order of the walk is the opposite of that of an edge of the way
+      AreBack : List ℕ → Type 0
+      AreBack ases = (i a b : ℕ) → HasStep ases i a b → (u : ℕ) × (slice_get way (length way - (i + 1)) ≡ Some u) × HasOver (its_labels file) es u b a
+
+      orders_more : (back : IsBack file es way over under (k + 1) old) → HasOver (its_labels file) es from x back.x → AreBack (old.ases ++ x ∷ [])
+      orders_more back has i a b (at_a, at_b) = elim (slice_get-push_cases old.ases x (i + 1) b at_b) [
+        | inl old_b ↦ (
+            let lt = slice_get_within old.ases (i + 1) b old_b in
+            elim (slice_get-push_cases old.ases x i a at_a) [
+              | inl old_a ↦ back.orders i a b (old_a, old_b)
+              | inr new_a ↦ absurd (omega (arith, lt, new_a.0))
+            ]
+            )
+        | inr new_b ↦ elim (slice_get-push_cases old.ases x i a at_a) [
+          | inl old_a ↦ (
+              let e : k ≡ length way - (i + 1) = omega (arith, back.long, new_b.0) in
+              let last : a ≡ back.x = same_Some a back.x (sym old_a ∙ ends_at old.ases back.y back.x back.ends i (sym new_b.0)) in (
+                from,
+                subst (λ n. slice_get way n ≡ Some from) e from_at,
+                subst (λ n. HasOver (its_labels file) es from b n) (sym last) (subst (λ n. HasOver (its_labels file) es from n back.x) (sym new_b.1) has),
+              )
+              )
+          | inr new_a ↦ absurd (omega (arith, new_a.0, new_b.0))
+        ]
+      ]
+
       same : (m n : Link) → Some m ≡ Some n → m ≡ n
       same m n e = cc
 
@@ -131,9 +173,9 @@ module _ (file : ResultFile) (es : List Edge) (net : Net ℕ) (named : List Link
       turned n a b c (path, i, inl s) = (path, i, inr s)
       turned n a b c (path, i, inr s) = (path, i, inl s)
 
-pub back_begun : (file : ResultFile) (es : List Edge) (way : List ℕ) (over under k edge : ℕ) (walk : Walk) → slice_get way k ≡ Some edge →
+pub back_begun : (file : ResultFile) (es : List Edge) (way : List ℕ) (over under k edge : ℕ) (walk : Walk) → length way ≡ k + 1 → slice_get way k ≡ Some edge →
     HasOver (its_labels file) es edge under over → walk.ases ≡ over ∷ under ∷ [] → walk.links ≡ [] → IsBack file es way over under k walk
-back_begun file es way over under k edge walk at has a l = record {
+back_begun file es way over under k edge walk many at has a l = record {
   edge = edge;
   at = at;
   x = under;
@@ -143,7 +185,18 @@ back_begun file es way over under k edge walk at has a l = record {
       (subst (λ links. IsLinkedWith (its_givens file) (its_kept file) (over ∷ under ∷ []) links) (sym l) tt);
   begins = ([], a);
   ends = ([], a);
+  long = omega (arith, many, ap length a);
+  orders = subst (λ (ases : List ℕ). (i x y : ℕ) → HasStep ases i x y → (u : ℕ) × (slice_get way (length way - (i + 1)) ≡ Some u) × HasOver (its_labels file) es u y x) (sym a) first;
 }
+  where
+    first : (i x y : ℕ) → HasStep (over ∷ under ∷ []) i x y → (u : ℕ) × (slice_get way (length way - (i + 1)) ≡ Some u) × HasOver (its_labels file) es u y x
+    first zero x y (at_x, at_y) =
+        let e : k ≡ length way - (0 + 1) = omega (arith, many) in (
+          edge,
+          subst (λ n. slice_get way n ≡ Some edge) e at,
+          subst (λ n. HasOver (its_labels file) es edge n x) (same_Some under y at_y) (subst (λ n. HasOver (its_labels file) es edge under n) (same_Some over x at_x) has),
+        )
+    first (suc i) x y (at_x, at_y) = let lt = slice_get_within (over ∷ under ∷ []) (suc i + 1) y at_y in absurd (omega (arith, lt))
 
 -- ---- what an open line leads to
 
@@ -241,6 +294,46 @@ module _ (file : ResultFile) (accepts : Accepts file) where
         by_mark : (m : Mark) → line.mark ≡ m → line.mark ≡ mark.Open
         by_mark mark.Open e = e
         by_mark mark.Forced e = absurd (not_forced e)
+
+-- the open line that is the first to be opposed
+at_own : {file : ResultFile} {es : List Edge} {nodes : List ℕ} {over under u : ℕ} → (found : IsOpposed file es nodes over under u) → slice_get (its_probes file) found.place ≡ Some (over, under)
+at_own {file = file} {over = over} {under = under} found =
+    slice_get-map {Y = ℕ × ℕ} (λ (q : Probe). (q.over, q.under)) file.probes found.place found.probe found.at
+    ∙ ap₂ (λ (a b : ℕ). Some (a, b)) found.is_over found.is_under
+
+its_own : {file : ResultFile} {es : List Edge} {nodes : List ℕ} {over under u : ℕ} → IsOpposed file es nodes over under u → Contains (its_probes file) (over, under)
+its_own {file = file} {over = over} {under = under} found = Contains-from_has (its_probes file) (over, under) (found.place, at_own found)
+
+-- an order against a label, in the closure of an open line, leaves the edge undecided
+swapped : (paths : List (List ℕ)) (a b : ℕ) → CanBeEither paths a b → CanBeEither paths b a
+swapped paths a b c = record {
+  one = c.other;
+  one_serves = c.other_serves;
+  one_order = c.other_order;
+  other = c.one;
+  other_serves = c.one_serves;
+  other_order = c.one_order;
+}
+
+module _ (file : ResultFile) (accepts : Accepts file) (line : EdgeLine) (there : Contains file.edges line) where
+  listed_line : Contains (its_edges file) (edge_of line.low line.high)
+  listed_line =
+      let i = has-from_Contains file.edges line there in
+      subst (Contains (its_edges file)) (sym (own_edge file accepts i.0 line i.1)) (Contains-map {Y = Edge} edge_on file.edges line there)
+
+  pub undecided_so : (a b : ℕ) → Contains (its_probes file) (a, b) → (over under : ℕ) → IsAgainst line over under → Closure (its_served file) a b over under → IsUndecided file line
+  undecided_so a b own over under (inl (low, f, g)) closed =
+      let lt = rises file accepts line there in
+      let reached : Closure (its_served file) a b line.high line.low = subst (λ n. Closure (its_served file) a b n line.low) f (subst (λ n. Closure (its_served file) a b over n) g closed) in
+      let edge = subst (λ (es : List Edge). Contains es (edge_of a b)) (edges_listed file (accepts EdgesListed))
+      (begins_listed file accepts a b reached (listed_back file accepts line.low line.high listed_line)) in
+      swapped (near file accepts) line.high line.low
+      (either file accepts a b own edge line.high line.low reached (over-low (its_labels file) line.low line.high lt (ap is_low (its_label file accepts line there ∙ low))))
+  undecided_so a b own over under (inr (high, f, g)) closed =
+      let lt = rises file accepts line there in
+      let reached : Closure (its_served file) a b line.low line.high = subst (λ n. Closure (its_served file) a b n line.high) f (subst (λ n. Closure (its_served file) a b over n) g closed) in
+      let edge = subst (λ (es : List Edge). Contains es (edge_of a b)) (edges_listed file (accepts EdgesListed)) (begins_listed file accepts a b reached listed_line) in
+      either file accepts a b own edge line.low line.high reached (over-high (its_labels file) line.low line.high lt (ap is_high (its_label file accepts line there ∙ high)))
 
 -- ---- what is reached
 
@@ -368,18 +461,8 @@ module _ (file : ResultFile) (accepts : Accepts file) where
               along (its_givens file) (its_kept file) (λ a b. Closure (its_served file) over under a b)
               (λ link a b c fits h. imply h (triple_served (its_givens file) (its_kept file) link a b c fits)) walk over under y x leads start
 
-          swapped : (paths : List (List ℕ)) (a b : ℕ) → CanBeEither paths a b → CanBeEither paths b a
-          swapped paths a b c = record {
-            one = c.other;
-            one_serves = c.other_serves;
-            one_order = c.other_order;
-            other = c.one;
-            other_serves = c.one_serves;
-            other_order = c.one_order;
-          }
-
           against_label : CanBeEither (near file accepts) y x
-          against_label = either file accepts over under found.there edge y x closed has.over
+          against_label = either file accepts over under (its_own found) edge y x closed has.over
 
           undecided : IsAgainst line y x → IsUndecided file line
           undecided (inl (low, f, g)) =
@@ -387,14 +470,15 @@ module _ (file : ResultFile) (accepts : Accepts file) where
               (subst (λ n. CanBeEither (near file accepts) line.high n) g (subst (λ n. CanBeEither (near file accepts) n x) f against_label))
           undecided (inr (high, f, g)) = subst (λ n. CanBeEither (near file accepts) line.low n) g (subst (λ n. CanBeEither (near file accepts) n x) f against_label)
 
-          pub reached_so : IsReached file line (over, under) walk
-          reached_so = record {
+          pub reached_so : IsFirstTo file (over, under) y x → IsWithoutLoop walk → IsReached file line (over, under) walk
+          reached_so first once = record {
             is_open = is_open;
-            there = found.there;
             over = y;
             under = x;
             order = against x y has;
+            first = first;
             reached = leads;
+            without_loop = once;
             undecided = undecided (against x y has);
           }
 
@@ -409,6 +493,35 @@ back_leads file es way over under begin walk first back = (
     same : (m n : ℕ) → Some m ≡ Some n → m ≡ n
     same m n e = cc
 
+-- it is the first whose closure has the order against the label
+module _ (file : ResultFile) (accepts : Accepts file) (es : List Edge) (labels : List Label) (have : HaveLabels file es labels) (net : Net ℕ) (begin : ℕ) (r : Reach ℕ ℕ) (is : IsReachOf net begin r)
+    (all : (path : List ℕ) → Contains (paths_of (its_kept file)) path → HasDowns (its_labels file) es net.arcs path) where
+  first_so : (over under u : ℕ) (found : IsOpposed file es r.nodes over under u) (x y : ℕ) → Reached file accepts es labels have net begin r is all x y → IsFirstTo file (over, under) y x
+  first_so over under u found x y reached = record {
+    place = found.place;
+    at = at_own found;
+    none_before = none_before;
+  }
+    where
+      none_before : (k : ℕ) (earlier : ℕ × ℕ) → k < found.place → slice_get (its_probes file) k ≡ Some earlier → Closure (its_served file) earlier.0 earlier.1 y x → ⊥
+      none_before k earlier lt at closed =
+          let w = slice_get-unmap {Y = ℕ × ℕ} (λ (q : Probe). (q.over, q.under)) file.probes k earlier at in
+          let back = back_to file accepts es labels have net begin r is all earlier.0 earlier.1 (Contains-from_has (its_probes file) earlier (k, at)) closed reached in
+          let not = subst (λ (p : ℕ × ℕ). IsUnopposed file es r.nodes p.0 p.1) w.2 (found.earlier k w.0 lt w.1) in
+          not back.0 back.1 back.2
+
+-- no order stands twice on the walk back along a way on which no edge does
+no_loop : (file : ResultFile) (es : List Edge) (labels : List Label) → HaveLabels file es labels → (way : List ℕ) → IsOnce way → (over under : ℕ) (walk : Walk) →
+    IsBack file es way over under 0 walk → IsWithoutLoop walk
+no_loop file es labels have way once over under walk back i j x y at other =
+    let (u, there, has) = back.orders i x y at in
+    let (v, there', has') = back.orders j x y other in
+    let same : u ≡ v = have.once u v (edge_of y x) has.at has'.at in
+    let place = once (length way - (i + 1)) (length way - (j + 1)) v (subst (λ n. slice_get way (length way - (i + 1)) ≡ Some n) same there) there' in
+    let lt = slice_get_within walk.ases (i + 1) y at.1 in
+    let lt' = slice_get_within walk.ases (j + 1) y other.1 in
+    omega (arith, back.long, place, lt, lt')
+
 -- ---- what is told
 
 module _ (file : ResultFile) (accepts : Accepts file) (line : EdgeLine) (there : Contains file.edges line) (is_open : line.mark ≡ mark.Open) where
@@ -420,18 +533,17 @@ module _ (file : ResultFile) (accepts : Accepts file) (line : EdgeLine) (there :
   }
 
   pub found_so : (es : List Edge) (labels : List Label) → HaveLabels file es labels → (begin : ℕ) → slice_get es begin ≡ Some (edge_of line.low line.high) →
-      (over under u : ℕ) (nodes : List ℕ) → IsOpposed file es nodes over under u → (way : List ℕ) → slice_get way 0 ≡ Some begin → (walk : Walk) →
+      (net : Net ℕ) (r : Reach ℕ ℕ) → IsReachOf net begin r → ((path : List ℕ) → Contains (paths_of (its_kept file)) path → HasDowns (its_labels file) es net.arcs path) →
+      (over under u : ℕ) → IsOpposed file es r.nodes over under u → (way : List ℕ) → slice_get way 0 ≡ Some begin → IsOnce way → (walk : Walk) →
       IsBack file es way over under 0 walk → IsReached file line (over, under) walk
-  found_so es labels have begin at over under u nodes found way first walk back =
-      let r = back_leads file es way over under begin walk first back in
-      reached_so file accepts es labels have line there begin at is_open over under u nodes found back.x back.y r.0 walk r.1
+  found_so es labels have begin at net r is all over under u found way first once walk back =
+      let b = back_leads file es way over under begin walk first back in
+      reached_so file accepts es labels have line there begin at is_open over under u r.nodes found back.x back.y b.0 walk b.1
+      (first_so file accepts es labels have net begin r is all over under u found back.x back.y (begin, is.begun, b.0))
+      (no_loop file es labels have way once over under walk back)
 
 module _ (file : ResultFile) (es : List Edge) (nodes : List ℕ) where
-  -- none of the first open lines has its opposite here
-  abbrev pub NoneTo : ℕ → Type 0
-  NoneTo end = (k : ℕ) (p : Probe) → k < end → slice_get file.probes k ≡ Some p → IsUnopposed file es nodes p.over p.under
-
-  pub none_next : (i : ℕ) (p : Probe) → slice_get file.probes i ≡ Some p → IsUnopposed file es nodes p.over p.under → NoneTo i → NoneTo (i + 1)
+  pub none_next : (i : ℕ) (p : Probe) → slice_get file.probes i ≡ Some p → IsUnopposed file es nodes p.over p.under → NoneTo file es nodes i → NoneTo file es nodes (i + 1)
   none_next i p at none before k q lt there = elim (cases_lt k i) [
     | inl less ↦ before k q less there
     | inr ge ↦
@@ -440,7 +552,7 @@ module _ (file : ResultFile) (es : List Edge) (nodes : List ℕ) where
         subst (λ (r : Probe). IsUnopposed file es nodes r.over r.under) same none
   ]
 
-  pub none_all : (end : ℕ) → length file.probes ≤ end → NoneTo end → (p : ℕ × ℕ) → Contains (its_probes file) p → IsUnopposed file es nodes p.0 p.1
+  pub none_all : (end : ℕ) → length file.probes ≤ end → NoneTo file es nodes end → (p : ℕ × ℕ) → Contains (its_probes file) p → IsUnopposed file es nodes p.0 p.1
   none_all end le none p c =
       let k = has-from_Contains (its_probes file) p c in
       let w = slice_get-unmap {Y = ℕ × ℕ} (λ (q : Probe). (q.over, q.under)) file.probes k.0 p k.1 in

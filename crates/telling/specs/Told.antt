@@ -6,13 +6,14 @@ use Rattle.relationships.specs.declared.fate.Fate.TheVariants as fate
 use Rattle.relationships.specs.declared.walk.Walk.{Walk}
 use Rattle.relationships.specs.Relationship.{Slope, Up, Down, Flat, slopes}
 use Rattle.relationships.specs.Graph.{Edge, edge_of}
-use Rattle.relationships.specs.Evidence.{paths_of}
+use Rattle.relationships.specs.Evidence.{paths_of, Closure}
 use Rattle.relationships.specs.GivenEvidence.{RefutesWith}
 use Rattle.relationships.specs.Checking.{OtherOrder}
 use Rattle.result_text.specs.declared.file.EdgeLine.{EdgeLine}
 use Rattle.result_text.specs.declared.file.PathLine.{PathLine}
 use Rattle.result_text.specs.declared.file.ResultFile.{ResultFile}
 use Rattle.result_rules.specs.File.{its_givens, its_kept, its_edges, its_labels, its_probes, its_returns, kept_before, claim_on}
+use Rattle.result_rules.specs.Rules.{its_served}
 use Rattle.telling.specs.declared.told.Going.{Going}
 use Rattle.telling.specs.declared.told.Question.{Question}
 use Rattle.telling.specs.declared.told.Told.{Told}
@@ -20,6 +21,7 @@ use Rattle.telling.specs.declared.told.Going.TheVariants as going
 use Rattle.telling.specs.declared.told.Question.TheVariants as question
 use Rattle.telling.specs.declared.told.Told.TheVariants as told
 use Rattle.relationships.specs.Telling.{Leads, CanBeEither}
+use Rattle.telling.specs.Labelling.{HasStep}
 use Rattle.telling.specs.Proving.{HasOrder, ProveTogether}
 
 -- ---- edges
@@ -36,27 +38,41 @@ IsLineOf file one other line = Contains file.edges line × (edge_on line ≡ edg
 abbrev pub IsAgainst : EdgeLine → (over under : ℕ) → Type 0
 IsAgainst line over under = OtherOrder (claim_on line) over under
 
--- the edge is forced, and the why lines prove the order of its label
+-- the edge is forced, and these why lines and no others prove the order of its label
 pub record IsProved (file : ResultFile) (line : EdgeLine) (whys : List ℕ) : Type 0 where
   pub is_forced : line.mark ≡ mark.Forced
   pub over : ℕ
   pub under : ℕ
   pub order : HasOrder line over under
   pub proof : ProveTogether file whys over under
+  pub only : (others : List ℕ) → ProveTogether file others over under → others ≡ whys
 
 -- either order of the edge is possible: an orientation that agrees with the givens and serves the kept paths has the one, and one that
 -- does has the other
 abbrev pub IsUndecided : ResultFile → EdgeLine → Type 0
 IsUndecided file line = CanBeEither (its_returns file ++ paths_of (its_kept file)) line.low line.high
 
--- the edge is open and no peering, and the walk leads from the order of an open line to the order against the label
+-- this open line is the first whose closure has "over over under", if its closure has that
+pub record IsFirstTo (file : ResultFile) (probe : ℕ × ℕ) (over under : ℕ) : Type 0 where
+  pub place : ℕ
+  pub at : slice_get (its_probes file) place ≡ Some probe
+  pub none_before : (k : ℕ) (earlier : ℕ × ℕ) → k < place → slice_get (its_probes file) k ≡ Some earlier →
+      Closure (its_served file) earlier.0 earlier.1 over under → ⊥
+
+-- no order stands on the walk twice
+abbrev pub IsWithoutLoop : Walk → Type 0
+IsWithoutLoop walk = (i j x y : ℕ) → HasStep walk.ases i x y → HasStep walk.ases j x y → i ≡ j
+
+-- the edge is open and no peering, and the walk leads without a loop from the order of an open line to the order against the label. The
+-- open line is the first whose closure has that order
 pub record IsReached (file : ResultFile) (line : EdgeLine) (probe : ℕ × ℕ) (walk : Walk) : Type 0 where
   pub is_open : line.mark ≡ mark.Open
-  pub there : Contains (its_probes file) probe
   pub over : ℕ
   pub under : ℕ
   pub order : IsAgainst line over under
+  pub first : IsFirstTo file probe over under
   pub reached : Leads (its_givens file) (its_kept file) walk probe.0 probe.1 over under
+  pub without_loop : IsWithoutLoop walk
   pub undecided : IsUndecided file line
 
 -- the edge is a peering

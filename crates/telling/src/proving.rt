@@ -88,7 +88,8 @@ pub(crate) fn order_of(line: &EdgeLine) -> Option<(u32, u32)>
     }
 }
 
-/// The why lines that prove the order of the label of a forced edge, in the order in which they are told. NoMemory where memory ran out.
+/// The why lines that prove the order of the label of a forced edge, in the order in which they are told: no others prove it. NoMemory
+/// where memory ran out.
 pub fn proof_of(alloc: Global, file: &ResultFile, line: &EdgeLine) -> Result<List<WalkId>, NoMemory>
     requires accepted { Accepts file.now }
     requires there { Contains file.now.edges line.now }

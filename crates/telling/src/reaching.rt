@@ -6,6 +6,7 @@ ghost use Rattle.relationships.specs.Graph.{edge_of};
 ghost use Rattle.relationships.specs.declared.label.Label.TheVariants as label;
 ghost use Rattle.relationships.specs.declared.mark.Mark.TheVariants as mark;
 ghost use Rattle.relationships.specs.Evidence.{paths_of};
+ghost use Rattle.tor_digraph.specs.Closing.{IsOnce};
 ghost use Rattle.tor_digraph.specs.Walks.{Net};
 ghost use Rattle.tor_digraph.specs.Found.{IsRoot};
 ghost use Rattle.tor_digraph.specs.Reached.{IsFlooded};
@@ -156,7 +157,7 @@ fn way_to(
 ) -> Result<Way<EdgeId, ArcId>, NoMemory>
     requires { Contains reached.now.nodes edge }
     ensures { IfOk result (λ way. (net : Net ℕ) (begin : ℕ) → IsReachOf net begin reached.now →
-        IsPlainWay net.arcs begin edge way.nodes way.arcs) }
+        IsPlainWay net.arcs begin edge way.nodes way.arcs × IsOnce way.nodes) }
 {
     match reached.walk_to(alloc, edge)? {
         Some(way) => Ok(way),
@@ -344,8 +345,9 @@ fn walk_among(
     found
 }
 
-/// The order of an open line, and a walk from there to the order against the label of an open edge, which is no peering. It is looked
-/// for the other way round, from the label's order to the opposite of an open line's. NoMemory where memory ran out.
+/// The order of the first open line whose closure has the order against the label of an open edge, which is no peering, and a walk from
+/// the one to the other, on which no order stands twice. It is looked for the other way round, from the label's order to the opposite of
+/// an open line's. NoMemory where memory ran out.
 pub(crate) fn walk_against(
     alloc: Global,
     keys: Keys,

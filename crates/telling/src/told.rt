@@ -16,12 +16,13 @@ pub enum Question {
 /// What is told of an edge or of a path of a result.
 #[derive(Drop)]
 pub enum Told {
-    /// The edge is forced: by these why lines, in the order in which they are told.
+    /// The edge is forced: by these why lines and no others, in the order in which they are told.
     Forced {
         line: EdgeLine,
         whys: List<WalkId>,
     },
-    /// The edge is open and no peering: from the order of this open line the walk leads to the order against the label.
+    /// The edge is open and no peering: from the order of this open line, the first whose closure has the order against the label, the
+    /// walk leads to that. No order stands on it twice.
     Open {
         line: EdgeLine,
         probe: Probe,

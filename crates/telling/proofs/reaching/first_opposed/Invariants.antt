@@ -1,4 +1,4 @@
-use Rattle.telling.proofs.ReachLemmas.{NoneTo}
+use Rattle.telling.specs.Reaching.{NoneTo}
 use Rattle.telling.proofs.reaching.first_opposed.Given as goal
 
 -- no open line before this one has its opposite among what is reached

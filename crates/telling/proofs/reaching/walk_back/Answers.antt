@@ -13,7 +13,7 @@ loop-at-init c =
     let e = c.len-at.ensures in (
       omega (arith, e),
       subst (λ n. IsBack file es nodes c.args.probe.now.over c.args.probe.now.under n walk) (sym e)
-          (back_begun file es nodes c.args.probe.now.over c.args.probe.now.under (length c.args.way.now.arcs) v walk way.last has c.in_ok-walk.ensures.ases c.in_ok-walk.ensures.links),
+          (back_begun file es nodes c.args.probe.now.over c.args.probe.now.under (length c.args.way.now.arcs) v walk way.one_more way.last has c.in_ok-walk.ensures.ases c.in_ok-walk.ensures.links),
     )
 
 pub step_back-requires-clause-way : goal.step_back-requires-clause-way
