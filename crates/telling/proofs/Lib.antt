@@ -1,3 +1,4 @@
+pub mod AnswerLemmas
 pub mod Chains
 pub mod Decided
 pub mod DownLemmas
@@ -7,6 +8,7 @@ pub mod OneProof
 pub mod PathLemmas
 pub mod ProvingLemmas
 pub mod ReachLemmas
+pub mod SimpleWalks
 pub mod SlopeLemmas
 pub mod TextLemmas
 pub mod Vectors

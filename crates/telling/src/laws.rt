@@ -1,6 +1,6 @@
 //! Laws over the definitions in `specs/`, each as the contract of a function that does nothing.
 
-ghost use Rattle.telling.specs.Laws.Telling.{ProvingLaw, EitherLaw, PeersLaw};
+ghost use Rattle.telling.specs.Laws.Telling.{ProvingLaw, EitherLaw, PeersLaw, AnswerLaw};
 
 /// What walks prove holds in every orientation that agrees with the givens and serves the paths.
 pub fn proving_law()
@@ -15,4 +15,9 @@ pub fn either_law()
 /// Where labels have two ASes as peers, either order of the two is possible.
 pub fn peers_law()
     ensures { PeersLaw }
+{}
+
+/// Each question about a result that meets all rules has an answer: something is told of each edge that is there, and of each path.
+pub fn answer_law()
+    ensures { AnswerLaw }
 {}

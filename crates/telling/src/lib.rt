@@ -18,7 +18,7 @@ mod writing;
 
 pub use answer::tell;
 pub use edges::line_of;
-pub use laws::{either_law, peers_law, proving_law};
+pub use laws::{answer_law, either_law, peers_law, proving_law};
 pub use paths::tell_path;
 pub use proving::{proof_of, whys_for};
 pub use told::{Going, Question, Told};

@@ -1,6 +1,6 @@
 -- What a telling shows.
 -- Each law is proved as the contract of a function in src/laws.rt.
-use Rattle.std.specs.Prelude.{◌≡◌, ◌≢◌, ℕ, ◌<◌, List, All, IsTrue}
+use Rattle.std.specs.Prelude.{◌≡◌, ◌≢◌, ℕ, ◌<◌, List, All, IsTrue, Option}
 use Rattle.relationships.specs.declared.label.Label.{Label}
 use Rattle.relationships.specs.declared.given.Given.{Given}
 use Rattle.relationships.specs.declared.walk.Walk.{Walk}
@@ -9,6 +9,11 @@ use Rattle.relationships.specs.Evidence.{NeighboursDiffer, Numbered, paths_of, C
 use Rattle.relationships.specs.Givens.{NameTwo}
 use Rattle.relationships.specs.GivenEvidence.{served_with}
 use Rattle.relationships.specs.Telling.{Prove, CanBeEither}
+use Rattle.result_text.specs.declared.file.ResultFile.{ResultFile}
+use Rattle.result_rules.specs.Rules.{Accepts}
+use Rattle.telling.specs.declared.told.Question.{Question}
+use Rattle.telling.specs.declared.told.Told.{Told}
+use Rattle.telling.specs.Told.{Answers}
 
 -- what walks prove holds in every orientation that agrees with the givens and serves the paths
 abbrev pub ProvingLaw : Type 0
@@ -28,3 +33,7 @@ abbrev pub PeersLaw : Type 0
 PeersLaw =
     (L : Labelling) (paths : List (List ℕ)) (low high : ℕ) → All (ValleyFree L) paths → low < high → L low high ≡ Label.Peer →
     CanBeEither paths low high
+
+-- each question about a result that meets all rules has an answer: something is told, or the edge or the path isn't there
+abbrev pub AnswerLaw : Type 0
+AnswerLaw = (file : ResultFile) → Accepts file → (question : Question) → (answer : Option Told) × Answers file question answer
