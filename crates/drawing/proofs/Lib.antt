@@ -7,6 +7,7 @@ pub mod Numbering
 pub mod Perching
 pub mod Rising
 pub mod Seats
+pub mod SomePicture
 pub mod Sorting
 pub mod Tidying
 pub mod Towering

@@ -1,5 +1,6 @@
 pub mod Entries
 pub mod Generations
+pub mod Laws
 pub mod Neighbours
 pub mod Order
 pub mod Page

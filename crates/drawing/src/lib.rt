@@ -5,6 +5,7 @@
 mod drawing;
 mod generation;
 mod group;
+mod laws;
 mod neighbours;
 mod page;
 mod printing;
@@ -13,5 +14,6 @@ mod tower;
 
 pub use drawing::{BoxEntry, Drawing, Item, Post, RisingLine, draw_neighbours};
 pub use group::{Group, Neighbour, NeighbourCounts, Tally};
+pub use laws::picture_law;
 pub use page::{PageLine, Rect, Spot};
 pub use printing::svg_of;
