@@ -1,3 +1,4 @@
+pub mod AcceptedGradings
 pub mod Agreeing
 pub mod EqualLengths
 pub mod JoinedRows

@@ -38,7 +38,8 @@ abbrev pub AgreementLaw : Type 0
 AgreementLaw =
     (words : List (List ℕ)) (settings : Settings) (files : Files) (known : Option (List Given)) (taken : Taken) (output : Written) →
     settings_given words ≡ Some settings → settings.mode ≡ Labels → ComesTo settings files (Reads known taken) →
-    IsOutput settings (Reads known taken) output → IsAgreedOn settings.dumps files output.text
+    IsOutput settings (Reads known taken) output → (later : Files) → KeepDumps settings.dumps files later →
+    IsAgreedOn settings.dumps later output.text
 
 -- all results that are faithful to what is known and to what dumps gave have the same summary
 abbrev pub OneSummaryLaw : Type 0

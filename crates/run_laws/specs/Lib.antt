@@ -1,3 +1,4 @@
+pub mod AcceptedGrading
 pub mod Agreement
 pub mod ResumeLaws
 pub mod SelfGrading

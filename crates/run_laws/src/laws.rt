@@ -4,6 +4,7 @@ ghost use Rattle.tor_output.specs.Accepting.{FaithfulLaw, TableLaw};
 ghost use Rattle.tor_output.specs.Grading.{GradingLaw, ResultEndsLaw};
 ghost use Rattle.tor_output.specs.Seen.{OneOutcomeLaw};
 ghost use Rattle.tor_output.specs.SeenLaw.{DumpsLaw, SeenLaw, DumpsReadableLaw, ReadableLaw};
+ghost use Rattle.run_laws.specs.AcceptedGrading.{AcceptedGradingLaw};
 ghost use Rattle.run_laws.specs.Agreement.{AgreementLaw, MigrateLaw, OneSummaryLaw};
 ghost use Rattle.run_laws.specs.ResumeLaws.{OfDumpsLaw, ResumeLaw, InPartsLaw, ResumedAcceptanceLaw};
 ghost use Rattle.run_laws.specs.SelfGrading.{SelfGradingLaw};
@@ -101,3 +102,9 @@ pub fn resume_law()
     bounds_law();
     self_acceptance_law();
 }
+
+/// Every accepted result grades itself: of each result that meets all rules, whoever made it, exactly the kept paths are free under the lines
+/// of its edges, and none is unknown.
+pub fn accepted_grading_law()
+    ensures { AcceptedGradingLaw }
+{}

@@ -5,6 +5,6 @@
 mod laws;
 
 pub use laws::{
-    agreement_law, faithful_law, grading_law, migrate_law, one_outcome_law, one_summary_law,
-    readable_law, resume_law, seen_law, self_grading_law,
+    accepted_grading_law, agreement_law, faithful_law, grading_law, migrate_law, one_outcome_law,
+    one_summary_law, readable_law, resume_law, seen_law, self_grading_law,
 };
