@@ -255,7 +255,7 @@ bound (Ok t) f g same = same t
 bound (Err e) f g same = refl
 
 -- what dumps give doesn't depend on other files
-pub seen_same : (sets : Sets) (dump : ℕ) (taken : Taken) (names : List (List ℕ)) (files later : Files) → KeepDumps names files later →
+seen_same : (sets : Sets) (dump : ℕ) (taken : Taken) (names : List (List ℕ)) (files later : Files) → KeepDumps names files later →
     seen_from sets dump taken names files ≡ seen_from sets dump taken names later
 seen_same sets dump taken [] files later keep = refl
 seen_same sets dump taken (name ∷ names) files later keep =
