@@ -1,5 +1,5 @@
 -- Exactly the kept paths of a result that meets all rules are free under its labels.
-use Rattle.std.proofs.Common.{◌≡◌, ℕ, List, [], ◌∷◌, All, map, is_none, refl, ap, ap₂, subst}
+use Rattle.std.proofs.Common.{◌≡◌, List, [], ◌∷◌, All, map, is_none, refl, ap, ap₂, subst}
 use Rattle.std.specs.List.{items_where_true}
 use Rattle.relationships.specs.declared.label.Label.{Label}
 use Rattle.relationships.specs.Givens.{AgreesWith}
@@ -11,7 +11,6 @@ use Rattle.relationships.proofs.Selecting.{paths_of-kept_from}
 use Rattle.relationships.proofs.Serving.{all_differ_if_distinct}
 use Rattle.result_text.specs.EdgeLabels.{labels_in}
 use Rattle.result_text.specs.declared.file.EdgeLine.{EdgeLine}
-use Rattle.result_text.specs.declared.file.ResultFile.{ResultFile}
 use Rattle.result_rules.specs.declared.rule.Rule.TheVariants.{PathsCleaned, EdgesListed}
 use Rattle.result_rules.specs.File.{claim_on, its_givens, its_paths, its_walks}
 use Rattle.result_rules.proofs.Acceptance.{acceptance_law}

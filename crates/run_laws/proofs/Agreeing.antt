@@ -24,9 +24,9 @@ use Rattle.run_base.specs.Reading.{nothing, seen_from}
 use Rattle.tor_output.specs.Accepting.{FaithfulLaw, TableLaw}
 use Rattle.tor_output.specs.Seen.{seen, seen_in}
 use Rattle.tor_output.specs.Output.{IsOutputIn, Faithful}
+use Rattle.tor_output.proofs.Joining.{seen_by}
 use Rattle.tor_output.proofs.WiderLimit.{widened, all_files}
 use Rattle.run_laws.specs.Agreement.{AgreementLaw, IsAgreedOn}
-use Rattle.run_laws.proofs.Migrating.{seen_same}
 
 -- dumps that give what a result has bear it out
 by_dumps : (file : ResultFile) (dumps : List (List ℕ)) (files : Files) (taken : Taken) → seen_for file dumps files ≡ Ok taken
@@ -91,13 +91,13 @@ of_files (source.Result name) mode labels written = let e : Labels ≡ Migrate =
 of_files (source.Earlier name) mode labels written = let e : Labels ≡ Resume = sym labels ∙ written in absurd cc
 
 pub agreement : OneValue → BoundsLaw → FaithfulLaw → TableLaw → AgreementLaw
-agreement law bounds faithful_is table_is words settings files known taken output given labels comes asked later keep =
+agreement law bounds faithful_is table_is words settings files known taken output given labels comes asked names later same =
     let (file, faithful, text, note) = subst (λ (m : Mode). IsOutputIn m settings known taken output) labels asked in
     let within = bounds words settings given in
     let from = of_files settings.source settings.mode labels within.written in
     let gives : seen settings files ≡ Ok taken = subst (λ (s : Source). seen_in s settings files ≡ Ok taken) from comes.1 in
     let rows = table_is words settings files known taken given comes in
     let accepted = (faithful_is words settings known taken file given rows.1 rows.0 faithful).accepted in
-    agreed_beside law later file output.text (record { text = text; rules = accepted }) settings.dumps (widened max_paths taken)
-    (sym (seen_same file.sets 1 (nothing max_paths) settings.dumps files later keep) ∙ sees settings files known taken file within.most gives faithful)
+    agreed_beside law later file output.text (record { text = text; rules = accepted }) names (widened max_paths taken)
+    (seen_by file.sets 1 (nothing max_paths) names settings.dumps later files same ∙ sees settings files known taken file within.most gives faithful)
     (faithful.its_counts, faithful.paths)

@@ -1,5 +1,6 @@
 -- The result of dumps on top of an earlier one is that of one run over all of them, and a checker accepts it.
-use Rattle.std.proofs.Common.{◌≡◌, ◌≤◌, ℕ, ◌+◌, List, ◌++◌, Option, Ok, inl, inr, refl, sym, ap, subst, ◌∙◌, arith}
+use Rattle.std.proofs.Common.{◌≡◌, ◌≤◌, ℕ, ◌+◌, List, [], ◌∷◌, ◌++◌, map, Option, Some, Ok, inl, inr, refl, sym, ap, ap₂, subst, ◌∙◌, arith}
+use Rattle.std.proofs.lemmas.List.{map-append}
 use Rattle.std.proofs.lemmas.Bool.{cases_order}
 use Rattle.path_clean.specs.declared.cleaned.Sets.{Sets}
 use Rattle.path_clean.specs.Counts.{CauseCounts}
@@ -16,18 +17,20 @@ use Rattle.rel_infer.specs.GivenResults.{IsResultWith}
 use Rattle.rel_infer.specs.SelfAcceptance.{SelfAcceptanceLaw}
 use Rattle.rel_infer.proofs.Acceptance.{same_givens}
 use Rattle.rel_infer.proofs.OneGivenResult.{given_result_law}
-use Rattle.run_base.specs.Reading.{nothing, seen_from}
+use Rattle.run_base.specs.Reading.{nothing, seen_from, seen_of}
 use Rattle.run_base.proofs.Values as values
 use Rattle.tor_words.specs.declared.settings.Settings.{Settings}
 use Rattle.tor_words.specs.Given.{BoundsLaw}
-use Rattle.torcheck_run.specs.Judging.{IsAccepted}
+use Rattle.torcheck_run.specs.Judging.{IsAccepted, seen_for}
 use Rattle.torcheck_run.proofs.Comings.{OneValue}
 use Rattle.tor_output.specs.First.{First, Nothing, Givens, Result, Earlier, TakesUp, first_in}
 use Rattle.tor_output.specs.Output.{IsResumed}
 use Rattle.tor_output.specs.Seen.{joined, taken_up}
-use Rattle.tor_output.proofs.Joining.{behind, dumps_of_both, files_beside, made_of, of_both, wider}
+use Rattle.tor_output.specs.Resuming.{Hold, IsOfDumps}
+use Rattle.tor_output.proofs.Joining.{behind, by_octets, dumps_of_both, files_beside, held, joined_by, made_of, octets_of, of_both, seen_by, wider}
 use Rattle.tor_output.proofs.ReadableLemmas.{beside}
 use Rattle.tor_output.proofs.WiderLimit.{widened, all_files}
+use Rattle.run_laws.specs.Agreement.{IsAgreedOn}
 use Rattle.run_laws.specs.ResumeLaws.{AreSameButEvidence, IsAsOfOneRun, OfDumpsLaw, ResumeLaw, InPartsLaw, ResumedAcceptanceLaw}
 use Rattle.run_laws.proofs.Agreeing.{agreed_alone, agreed_beside, sees}
 use Rattle.run_laws.proofs.JoinedRows.{joined_rows}
@@ -65,7 +68,9 @@ one_result known' known sets' sets ratio' ratio rows' rows counts' counts file o
 
 pub of_dumps_law : BoundsLaw → OfDumpsLaw
 of_dumps_law bounds words settings files known taken file given gives faithful =
-    (widened max_paths taken, sees settings files known taken file (bounds words settings given).most gives faithful, sym faithful.paths, sym faithful.its_counts)
+    let sees_all = sees settings files known taken file (bounds words settings given).most gives faithful in
+    let (dumps, hold) = octets_of file.sets 1 (nothing max_paths) (widened max_paths taken) settings.dumps files sees_all in
+    (dumps, hold, (widened max_paths taken, sym (held file.sets 1 (nothing max_paths) settings.dumps dumps files hold) ∙ sees_all, sym faithful.paths, sym faithful.its_counts))
 
 -- under two limits that aren't met dumps give the same
 under_wider : (sets : Sets) (limit most : ℕ) (dumps : List (List ℕ)) (files : Files) (a b : Taken) → limit ≤ most → seen_from sets 1 (nothing limit) dumps files ≡ Ok a
@@ -87,14 +92,15 @@ under_any sets limit other dumps files a b gives gives' = elim (cases_order limi
 
 as_of_one_run : (settings : Settings) (files : Files) (earlier : ResultFile) (taken : Taken) (file : ResultFile) → settings.max_paths ≤ max_paths
     → joined earlier settings.max_paths settings.dumps files ≡ Ok taken → IsResumed settings earlier taken file → IsAsOfOneRun settings files earlier file
-as_of_one_run settings files earlier taken file few joins_to resumed names before whole gave other sets ratio dumps sees faithful =
-    let (first, gives, first_rows, first_counts) = before in
+as_of_one_run settings files earlier taken file few joins_to resumed before dumps is_of hold whole other_files gave other sets ratio all sees faithful =
+    let (first, gives, first_rows, first_counts) = is_of in
     let (after, sees_both, rows, counts) =
-    dumps_of_both earlier settings.max_paths names settings.dumps files first taken few gives first_rows first_counts joins_to in
-    let sees_all : seen_from earlier.sets 1 (nothing whole.max_paths) (names ++ settings.dumps) files ≡ Ok gave =
-    subst (λ (ds : List (List ℕ)). seen_from earlier.sets 1 (nothing whole.max_paths) ds files ≡ Ok gave) dumps
-    (subst (λ (s : Sets). seen_from s 1 (nothing whole.max_paths) whole.dumps files ≡ Ok gave) sets sees) in
-    let same = under_any earlier.sets whole.max_paths max_paths (names ++ settings.dumps) files gave after sees_all sees_both in
+    dumps_of_both earlier settings.max_paths before dumps Some first taken few (by_octets earlier.sets 1 (nothing max_paths) before ∙ gives) first_rows first_counts
+    (sym (joined_by earlier settings.max_paths settings.dumps dumps files hold) ∙ joins_to) in
+    let sees_all : seen_from earlier.sets 1 (nothing whole.max_paths) (before ++ dumps) Some ≡ Ok gave =
+    sym (seen_by earlier.sets 1 (nothing whole.max_paths) whole.dumps (before ++ dumps) other_files Some all)
+    ∙ subst (λ (s : Sets). seen_from s 1 (nothing whole.max_paths) whole.dumps other_files ≡ Ok gave) sets sees in
+    let same = under_any earlier.sets whole.max_paths max_paths (before ++ dumps) Some gave after sees_all sees_both in
     one_result earlier.givens earlier.givens whole.sets earlier.sets whole.ratio settings.ratio gave.table.rows taken.table.rows gave.counts taken.counts file other
     refl sets ratio (same.0 ∙ rows) (same.1 ∙ counts) resumed.0 faithful
 
@@ -106,23 +112,28 @@ resume_law bounds words settings files earlier taken file given comes resumed =
 -- ---- two runs
 
 pub in_parts_law : InPartsLaw
-in_parts_law first second whole files earlier between file other some rest all joins_some resumed joins_rest resumed_again ratio dumps joins_all resumed_all =
+in_parts_law first second whole files later other_files earlier between file other some rest all joins_some resumed joins_rest resumed_again ratio dumps joins_all resumed_all =
     let mine = resumed.0 in
     let most = first.max_paths + second.max_paths + whole.max_paths in
-    let gives_some = wider earlier first.max_paths most first.dumps files some (omega arith) joins_some in
-    let gives_rest : seen_from earlier.sets 1 (taken_up between most) second.dumps files ≡ Ok (widened most rest) =
-    subst (λ (s : Sets). seen_from s 1 (taken_up between most) second.dumps files ≡ Ok (widened most rest)) mine.its_sets
-    (wider between second.max_paths most second.dumps files rest (omega arith) joins_rest) in
-    let gives_all : seen_from earlier.sets 1 (taken_up earlier most) (first.dumps ++ second.dumps) files ≡ Ok (widened most all) =
-    subst (λ (ds : List (List ℕ)). seen_from earlier.sets 1 (taken_up earlier most) ds files ≡ Ok (widened most all)) dumps
-    (wider earlier whole.max_paths most whole.dumps files all (omega arith) joins_all) in
-    let on = behind earlier.sets 1 (taken_up earlier most) (widened most some) first.dumps second.dumps files gives_some in
+    let gives_first = wider earlier first.max_paths most first.dumps files some (omega arith) joins_some in
+    let gives_second : seen_from earlier.sets 1 (taken_up between most) second.dumps later ≡ Ok (widened most rest) =
+    subst (λ (s : Sets). seen_from s 1 (taken_up between most) second.dumps later ≡ Ok (widened most rest)) mine.its_sets
+    (wider between second.max_paths most second.dumps later rest (omega arith) joins_rest) in
+    let gives_whole = wider earlier whole.max_paths most whole.dumps other_files all (omega arith) joins_all in
+    let (one, hold_one) = octets_of earlier.sets 1 (taken_up earlier most) (widened most some) first.dumps files gives_first in
+    let (two, hold_two) = octets_of earlier.sets 1 (taken_up between most) (widened most rest) second.dumps later gives_second in
+    let both : map other_files whole.dumps ≡ map Some (one ++ two) =
+    dumps ∙ ap₂ (λ (x y : List (Option (List ℕ))). x ++ y) hold_one hold_two ∙ sym (map-append (λ (o : List ℕ). Some o) one two) in
+    let gives_some = sym (seen_by earlier.sets 1 (taken_up earlier most) first.dumps one files Some hold_one) ∙ gives_first in
+    let gives_rest = sym (seen_by earlier.sets 1 (taken_up between most) second.dumps two later Some hold_two) ∙ gives_second in
+    let gives_all = sym (seen_by earlier.sets 1 (taken_up earlier most) whole.dumps (one ++ two) other_files Some both) ∙ gives_whole in
+    let on = behind earlier.sets 1 (taken_up earlier most) (widened most some) one two Some gives_some in
     let same_some = made_of (widened most some) between most refl (sym mine.paths) (sym mine.its_counts) in
-    let more = files_beside earlier.sets 1 on.0 some.files (taken_up between most) (widened most rest) second.dumps files gives_rest in
-    let gives_both : seen_from earlier.sets 1 (taken_up earlier most) (first.dumps ++ second.dumps) files ≡ Ok (beside more.0 (widened most rest)) =
-    on.1 ∙ ap (λ (t : Taken). seen_from earlier.sets on.0 t second.dumps files) same_some ∙ more.1 in
+    let more = files_beside earlier.sets 1 on.0 some.files (taken_up between most) (widened most rest) two Some gives_rest in
+    let gives_both : seen_from earlier.sets 1 (taken_up earlier most) (one ++ two) Some ≡ Ok (beside more.0 (widened most rest)) =
+    on.1 ∙ ap (λ (t : Taken). seen_from earlier.sets on.0 t two Some) same_some ∙ more.1 in
     let same : widened most all ≡ beside more.0 (widened most rest) =
-    values.ok_is (seen_from earlier.sets 1 (taken_up earlier most) (first.dumps ++ second.dumps) files) (widened most all) (beside more.0 (widened most rest)) gives_all gives_both in
+    values.ok_is (seen_from earlier.sets 1 (taken_up earlier most) (one ++ two) Some) (widened most all) (beside more.0 (widened most rest)) gives_all gives_both in
     one_result earlier.givens between.givens earlier.sets between.sets whole.ratio second.ratio all.table.rows rest.table.rows all.counts rest.counts file other
     (sym mine.its_givens) (sym mine.its_sets) ratio (ap (λ (t : Taken). t.table.rows) same) (ap (λ (t : Taken). t.counts) same) resumed_again.0 resumed_all.0
 
@@ -133,6 +144,19 @@ is_accepted Nothing files file takes = absurd takes
 is_accepted (Givens name) files file takes = absurd takes
 is_accepted (Result name) files file takes = absurd takes
 is_accepted (Earlier name) files file takes = (takes.0, takes.2)
+
+-- the octets of files are determined
+some_same : (xs ys : List (List ℕ)) → map (λ (o : List ℕ). Some o) xs ≡ map (λ (o : List ℕ). Some o) ys → xs ≡ ys
+some_same [] [] e = refl
+some_same [] (y ∷ ys) e = absurd cc
+some_same (x ∷ xs) [] e = absurd cc
+some_same (x ∷ xs) (y ∷ ys) e = ap₂ (λ (o : List ℕ) (os : List (List ℕ)). o ∷ os) (first e) (some_same xs ys (rest e))
+  where
+    first : map (λ (o : List ℕ). Some o) (x ∷ xs) ≡ map (λ (o : List ℕ). Some o) (y ∷ ys) → x ≡ y
+    first h = cc
+
+    rest : map (λ (o : List ℕ). Some o) (x ∷ xs) ≡ map (λ (o : List ℕ). Some o) (y ∷ ys) → map (λ (o : List ℕ). Some o) xs ≡ map (λ (o : List ℕ). Some o) ys
+    rest h = cc
 
 pub acceptance_law : BoundsLaw → SelfAcceptanceLaw → OneValue → ResumedAcceptanceLaw
 acceptance_law bounds accept law words settings files earlier taken file text given comes resumed is_text =
@@ -146,8 +170,17 @@ acceptance_law bounds accept law words settings files earlier taken file text gi
     record {
       rows = rows;
       vouched = vouched;
-      alone = agreed_alone law files file text accepted;
-      beside = λ names before.
-          let (all, sees, its_rows_are, its_counts_are) = of_both settings files earlier taken file within.most comes.1 resumed names before in
-          agreed_beside law files file text accepted (names ++ settings.dumps) all sees (sym its_counts_are, sym its_rows_are);
+      alone = λ later. agreed_alone law later file text accepted;
+      beside = beside accepted;
     }
+  where
+    beside : IsAccepted file text → (before dumps : List (List ℕ)) → IsOfDumps earlier before → Hold files settings.dumps dumps → (names : List (List ℕ)) (later : Files)
+        → Hold later names (before ++ dumps) → IsAgreedOn names later text
+    beside accepted before dumps is_of hold names later all =
+        let (now, hold_now, on) = of_both settings files earlier taken file (bounds words settings given).most comes.1 resumed in
+        let same : now ≡ dumps = some_same now dumps (sym hold_now ∙ hold) in
+        let (gave, sees, its_rows_are, its_counts_are) = on before is_of in
+        let sees_later : seen_for file names later ≡ Ok gave =
+        held file.sets 1 (nothing max_paths) names (before ++ dumps) later all
+        ∙ subst (λ (ds : List (List ℕ)). seen_of file.sets 1 (nothing max_paths) (before ++ ds) ≡ Ok gave) same sees in
+        agreed_beside law later file text accepted names gave sees_later (sym its_counts_are, sym its_rows_are)

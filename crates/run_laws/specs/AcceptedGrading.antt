@@ -1,5 +1,5 @@
 -- What a grading by its own labels says of the paths of any result that meets all rules.
-use Rattle.std.specs.Prelude.{List, map}
+use Rattle.std.specs.Prelude.{map}
 use Rattle.as_rel.specs.Keeping.{ExactlyKeptAreFree}
 use Rattle.as_rel.specs.Labelled.{line_of_edge}
 use Rattle.result_rules.specs.File.{its_givens, its_paths}

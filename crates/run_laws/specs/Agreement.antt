@@ -1,5 +1,5 @@
 -- What a check says of a result that was made of dumps, and that its summary is one.
-use Rattle.std.specs.Prelude.{◌≡◌, ◌≤◌, ◌⊎◌, ◌↔◌, ℕ, List, [], length, Option, Some}
+use Rattle.std.specs.Prelude.{◌≡◌, ◌≤◌, ◌⊎◌, ◌↔◌, ℕ, List, [], length, map, Option, Some}
 use Rattle.tor_io.specs.Contents.{Files}
 use Rattle.relationships.specs.declared.given.Given.{Given}
 use Rattle.dump_read.specs.declared.taking.Taken.{Taken}
@@ -33,13 +33,13 @@ pub record IsAgreedOn (dumps : List (List ℕ)) (files : Files) (text : List ℕ
   pub takes_up : (name : List ℕ) (later : Files) → later name ≡ Some text → length text ≤ max_result →
       (file : ResultFile) × TakesUp (Earlier name) later file
 
--- so it is beside the dumps that the result was made of, whether relationships are known or not
+-- so it is beside the dumps that the result was made of, later on and under whatever names, whether relationships are known or not
 abbrev pub AgreementLaw : Type 0
 AgreementLaw =
     (words : List (List ℕ)) (settings : Settings) (files : Files) (known : Option (List Given)) (taken : Taken) (output : Written) →
     settings_given words ≡ Some settings → settings.mode ≡ Labels → ComesTo settings files (Reads known taken) →
-    IsOutput settings (Reads known taken) output → (later : Files) → KeepDumps settings.dumps files later →
-    IsAgreedOn settings.dumps later output.text
+    IsOutput settings (Reads known taken) output → (names : List (List ℕ)) (later : Files) →
+    map later names ≡ map files settings.dumps → IsAgreedOn names later output.text
 
 -- all results that are faithful to what is known and to what dumps gave have the same summary
 abbrev pub OneSummaryLaw : Type 0

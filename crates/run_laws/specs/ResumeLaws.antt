@@ -12,7 +12,7 @@ use Rattle.rel_infer.specs.SelfAcceptance.{AreTableRows, IsVouchedFor}
 use Rattle.tor_words.specs.declared.settings.Settings.{Settings}
 use Rattle.tor_words.specs.Given.{settings_given}
 use Rattle.tor_output.specs.Output.{Faithful, IsResumed}
-use Rattle.tor_output.specs.Resuming.{IsOfBoth, IsOfDumps}
+use Rattle.tor_output.specs.Resuming.{Hold, IsOfBoth, IsOfDumps}
 use Rattle.tor_output.specs.Seen.{ComesTo, Joins, joined, seen}
 use Rattle.run_laws.specs.Agreement.{IsAgreedOn}
 
@@ -27,20 +27,21 @@ pub record AreSameButEvidence (file other : ResultFile) : Type 0 where
   pub edges : file.edges ≡ other.edges
   pub totals : file.totals ≡ other.totals
 
--- a result that a run makes of dumps is of these
+-- a result that a run makes of dumps is of their octets
 abbrev pub OfDumpsLaw : Type 0
 OfDumpsLaw =
     (words : List (List ℕ)) (settings : Settings) (files : Files) (known : Option (List Given)) (taken : Taken) (file : ResultFile) →
     settings_given words ≡ Some settings → seen settings files ≡ Ok taken → Faithful settings known taken file →
-    IsOfDumps file settings.dumps files
+    (dumps : List (List ℕ)) × Hold files settings.dumps dumps × IsOfDumps file dumps
 
--- so it is with the result of a run over all these dumps, with the same sets, ratio and givens, whatever limit on paths it has
+-- so it is with the result of a run over all these dumps, at another time and under other names, with the same sets, ratio and givens,
+-- whatever limit on paths it has
 abbrev pub IsAsOfOneRun : Settings → Files → (earlier file : ResultFile) → Type 0
 IsAsOfOneRun settings files earlier file =
-    (names : List (List ℕ)) → IsOfDumps earlier names files →
-    (whole : Settings) (taken : Taken) (other : ResultFile) → whole.sets ≡ earlier.sets → whole.ratio ≡ settings.ratio →
-    whole.dumps ≡ names ++ settings.dumps → seen whole files ≡ Ok taken → Faithful whole earlier.givens taken other →
-    AreSameButEvidence file other
+    (before dumps : List (List ℕ)) → IsOfDumps earlier before → Hold files settings.dumps dumps →
+    (whole : Settings) (other_files : Files) (taken : Taken) (other : ResultFile) → whole.sets ≡ earlier.sets →
+    whole.ratio ≡ settings.ratio → Hold other_files whole.dumps (before ++ dumps) → seen whole other_files ≡ Ok taken →
+    Faithful whole earlier.givens taken other → AreSameButEvidence file other
 
 -- resuming a result of some dumps with further ones gives what one run over all of them gives
 abbrev pub ResumeLaw : Type 0
@@ -50,23 +51,24 @@ ResumeLaw =
     IsOfBoth settings files earlier file × IsAsOfOneRun settings files earlier file
 
 -- resuming a result, of whatever dumps it is, with some dumps and the one that comes of it with others gives what resuming it with all of
--- them gives, with the ratio of the second run, whatever limits on paths the runs have
+-- them gives, with the ratio of the second run, whatever limits on paths the runs have, and wherever each of them finds the dumps
 abbrev pub InPartsLaw : Type 0
 InPartsLaw =
-    (first second whole : Settings) (files : Files) (earlier between file other : ResultFile) (some rest all : Taken) →
+    (first second whole : Settings) (files later other_files : Files) (earlier between file other : ResultFile) (some rest all : Taken) →
     joined earlier first.max_paths first.dumps files ≡ Ok some → IsResumed first earlier some between →
-    joined between second.max_paths second.dumps files ≡ Ok rest → IsResumed second between rest file →
-    whole.ratio ≡ second.ratio → whole.dumps ≡ first.dumps ++ second.dumps →
-    joined earlier whole.max_paths whole.dumps files ≡ Ok all → IsResumed whole earlier all other → AreSameButEvidence file other
+    joined between second.max_paths second.dumps later ≡ Ok rest → IsResumed second between rest file →
+    whole.ratio ≡ second.ratio → map other_files whole.dumps ≡ map files first.dumps ++ map later second.dumps →
+    joined earlier whole.max_paths whole.dumps other_files ≡ Ok all → IsResumed whole earlier all other → AreSameButEvidence file other
 
 -- the text of such a result is accepted as every result is, so that it can be taken up again; and where the earlier result is of some
--- dumps, a check says yes to it beside these and the new ones
+-- dumps, a check says yes to it beside these and the new ones, whenever that is, and under whatever names
 pub record IsAcceptedAnew (settings : Settings) (files : Files) (earlier : ResultFile) (taken : Taken) (file : ResultFile)
     (text : List ℕ) : Type 0 where
   pub rows : AreTableRows taken.table.rows
   pub vouched : IsVouchedFor settings.ratio taken.table.rows taken.counts file
-  pub alone : IsAgreedOn [] files text
-  pub beside : (names : List (List ℕ)) → IsOfDumps earlier names files → IsAgreedOn (names ++ settings.dumps) files text
+  pub alone : (later : Files) → IsAgreedOn [] later text
+  pub beside : (before dumps : List (List ℕ)) → IsOfDumps earlier before → Hold files settings.dumps dumps →
+      (names : List (List ℕ)) (later : Files) → Hold later names (before ++ dumps) → IsAgreedOn names later text
 
 -- so it is with each result that resumes an earlier one
 abbrev pub ResumedAcceptanceLaw : Type 0

@@ -36,7 +36,8 @@ pub fn faithful_law()
 }
 
 /// What `torcheck` says of a result that `tor` has written, with known relationships or without: yes and nothing else, alone and beside the
-/// same dumps, whatever limit on paths they were read under. And each that isn't too long it can judge, and `tor --resume` can take up.
+/// same dumps, at whatever time and under whatever names, and whatever limit on paths they were read under. And each that isn't too long
+/// it can judge, and `tor --resume` can take up.
 pub fn agreement_law()
     ensures { AgreementLaw }
 {
@@ -95,7 +96,8 @@ pub fn self_grading_law()
 /// What resuming gives: where the earlier result is of some dumps, as each is that a run makes of dumps, the one that is written has the
 /// paths, times and counts of these and then the new ones, and is the same in all but its evidence as that of one run over all of them,
 /// with the same sets, ratio and givens. Resuming in two runs gives what resuming in one gives. What is written is accepted as every result
-/// is, so that it can be taken up again, and alone and beside all these dumps it is judged yes and nothing else.
+/// is, so that it can be taken up again, and alone and beside all these dumps it is judged yes and nothing else. Dumps are meant by their
+/// octets, so that those of the earlier result needn't be there, and no two runs need to find a dump under the same name.
 pub fn resume_law()
     ensures begun { OfDumpsLaw }
     ensures resumed { ResumeLaw }

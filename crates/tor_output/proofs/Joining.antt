@@ -1,5 +1,5 @@
 -- What dumps give on top of a result of other dumps is what all these dumps give, one after the other.
-use Rattle.std.proofs.Common.{◌≡◌, ◌≤◌, ℕ, ◌+◌, Bool, true, false, List, [], ◌∷◌, ◌++◌, length, Option, Some, None, Result, Ok, Err, if◌then◌else◌, refl, sym, ap, subst, ◌∙◌, arith}
+use Rattle.std.proofs.Common.{◌≡◌, ◌≤◌, ℕ, ◌+◌, Bool, true, false, List, [], ◌∷◌, ◌++◌, length, Option, Some, None, Result, Ok, Err, if◌then◌else◌, refl, sym, ap, ap₂, map, subst, ◌∙◌, arith}
 use Rattle.std.specs.Prelude.{nat_lt}
 use Rattle.std.proofs.lemmas.Bool.{ltb-false}
 use Rattle.std.proofs.lemmas.List.{length-map}
@@ -17,17 +17,17 @@ use Rattle.dump_read.specs.declared.taking.Taken.{Taken}
 use Rattle.dump_read.specs.Files.{file_counts}
 use Rattle.dump_read.specs.Reading.{file_reading}
 use Rattle.dump_read.specs.Routes.{Route}
-use Rattle.dump_read.specs.Seen.{DumpsEnd, Limit, of_file}
+use Rattle.dump_read.specs.Seen.{DumpsEnd, Limit, of_file, of_octets}
 use Rattle.dump_read.specs.Taking.{take_route, take_routes, Takes}
 use Rattle.dump_read.proofs.LimitLemmas.{same_limit}
 use Rattle.dump_read.proofs.TakingLemmas as taking
 use Rattle.result_text.specs.declared.file.ResultFile.{ResultFile}
 use Rattle.result_rules.specs.Against.{its_rows, row_of}
-use Rattle.run_base.specs.Reading.{nothing, seen_from}
+use Rattle.run_base.specs.Reading.{nothing, seen_from, seen_of}
 use Rattle.tor_words.specs.declared.settings.Settings.{Settings}
 use Rattle.torcheck_run.specs.Judging.{seen_for}
 use Rattle.tor_output.specs.Output.{IsResumed}
-use Rattle.tor_output.specs.Resuming.{IsOfBoth}
+use Rattle.tor_output.specs.Resuming.{Hold, IsOfBoth, IsOfDumps}
 use Rattle.tor_output.specs.Seen.{joined, taken_up}
 use Rattle.tor_output.proofs.ReadableLemmas.{beside, routes_beside, one_seen, one_taken}
 use Rattle.tor_output.proofs.SeenLemmas.{same, adds}
@@ -151,15 +151,87 @@ dumps_of_both earlier limit names dumps files before taken few gives rows counts
     let more = files_beside earlier.sets 1 on.0 before.files (taken_up earlier max_paths) (widened max_paths taken) dumps files wide in
     (beside more.0 (widened max_paths taken), on.1 ∙ ap (λ (t : Taken). seen_from earlier.sets on.0 t dumps files) same_before ∙ more.1, refl, refl)
 
+-- ---- dumps by their octets
+
+-- what dumps give is what their octets give, under whatever names
+pub seen_by : (sets : Sets) (dump : ℕ) (taken : Taken) (names others : List (List ℕ)) (files later : Files) → map files names ≡ map later others
+    → seen_from sets dump taken names files ≡ seen_from sets dump taken others later
+seen_by sets dump taken [] [] files later same = refl
+seen_by sets dump taken [] (other ∷ others) files later same = absurd cc
+seen_by sets dump taken (name ∷ names) [] files later same = absurd cc
+seen_by sets dump taken (name ∷ names) (other ∷ others) files later same =
+    ap (λ (f : Option (List ℕ)). of_file sets dump taken f >>= λ further. seen_from sets (dump + 1) further names files) (first same)
+    ∙ bound (of_file sets dump taken (later other)) (λ further. seen_by sets (dump + 1) further names others files later (rest same))
+  where
+    first : map files (name ∷ names) ≡ map later (other ∷ others) → files name ≡ later other
+    first e = cc
+
+    rest : map files (name ∷ names) ≡ map later (other ∷ others) → map files names ≡ map later others
+    rest e = cc
+
+    bound : (r : Result Taken DumpsEnd) → ((t : Taken) → seen_from sets (dump + 1) t names files ≡ seen_from sets (dump + 1) t others later)
+        → (r >>= λ t. seen_from sets (dump + 1) t names files) ≡ (r >>= λ t. seen_from sets (dump + 1) t others later)
+    bound (Ok t) each = each t
+    bound (Err end) each = refl
+
+-- dumps that are named by their octets
+pub by_octets : (sets : Sets) (dump : ℕ) (taken : Taken) (dumps : List (List ℕ)) → seen_from sets dump taken dumps Some ≡ seen_of sets dump taken dumps
+by_octets sets dump taken [] = refl
+by_octets sets dump taken (octets ∷ rest) = bound (of_octets sets dump taken octets) (λ t. by_octets sets (dump + 1) t rest)
+  where
+    bound : (r : Result Taken DumpsEnd) → ((t : Taken) → seen_from sets (dump + 1) t rest Some ≡ seen_of sets (dump + 1) t rest)
+        → (r >>= λ t. seen_from sets (dump + 1) t rest Some) ≡ (r >>= λ t. seen_of sets (dump + 1) t rest)
+    bound (Ok t) each = each t
+    bound (Err end) each = refl
+
+-- files that have these octets give what these give
+pub held : (sets : Sets) (dump : ℕ) (taken : Taken) (names dumps : List (List ℕ)) (files : Files) → Hold files names dumps
+    → seen_from sets dump taken names files ≡ seen_of sets dump taken dumps
+held sets dump taken names dumps files hold = seen_by sets dump taken names dumps files Some hold ∙ by_octets sets dump taken dumps
+
+-- dumps that are all taken in have octets
+pub octets_of : (sets : Sets) (dump : ℕ) (old new : Taken) (names : List (List ℕ)) (files : Files) → seen_from sets dump old names files ≡ Ok new
+    → (dumps : List (List ℕ)) × Hold files names dumps
+octets_of sets dump old new [] files e = ([], refl)
+octets_of sets dump old new (name ∷ names) files e =
+    by (files name) refl e (λ further. octets_of sets (dump + 1) further new names files)
+  where
+    by : (file : Option (List ℕ)) → files name ≡ file → (of_file sets dump old file >>= λ further. seen_from sets (dump + 1) further names files) ≡ Ok new
+        → ((further : Taken) → seen_from sets (dump + 1) further names files ≡ Ok new → (dumps : List (List ℕ)) × Hold files names dumps)
+        → (dumps : List (List ℕ)) × Hold files (name ∷ names) dumps
+    by None is e rest = absurd cc
+    by (Some octets) is e rest = taken_in (of_octets sets dump old octets) e
+      where
+        taken_in : (one : Result Taken DumpsEnd) → (one >>= λ further. seen_from sets (dump + 1) further names files) ≡ Ok new
+            → (dumps : List (List ℕ)) × Hold files (name ∷ names) dumps
+        taken_in (Err end) e = absurd cc
+        taken_in (Ok further) e =
+            let more = rest further e in
+            (octets ∷ more.0, ap₂ (λ (f : Option (List ℕ)) (fs : List (Option (List ℕ))). f ∷ fs) is more.1)
+
+-- on top of a result they give the same, too
+pub joined_by : (earlier : ResultFile) (limit : ℕ) (names dumps : List (List ℕ)) (files : Files) → Hold files names dumps
+    → joined earlier limit names files ≡ joined earlier limit dumps Some
+joined_by earlier limit names dumps files hold =
+    ap (λ (r : Result Taken DumpsEnd). if nat_lt limit (length earlier.paths) then Err (Limit Paths 0) else r)
+    (seen_by earlier.sets 1 (taken_up earlier limit) names dumps files Some hold)
+
 pub of_both : (settings : Settings) (files : Files) (earlier : ResultFile) (taken : Taken) (file : ResultFile) → settings.max_paths ≤ max_paths
     → joined earlier settings.max_paths settings.dumps files ≡ Ok taken → IsResumed settings earlier taken file → IsOfBoth settings files earlier file
-of_both settings files earlier taken file few joins_to resumed names before =
-    let (gave, gives, rows, counts) = before in
-    let (after, sees, its_rows_are, its_counts_are) =
-    dumps_of_both earlier settings.max_paths names settings.dumps files gave taken few gives rows counts joins_to in
-    let is = resumed.0 in (
-      after,
-      subst (λ (s : Sets). seen_from s 1 (nothing max_paths) (names ++ settings.dumps) files ≡ Ok after) (sym is.its_sets) sees,
-      its_rows_are ∙ sym is.paths,
-      its_counts_are ∙ sym is.its_counts,
-    )
+of_both settings files earlier taken file few joins_to resumed = (dumps.0, dumps.1, both)
+  where
+    dumps : (dumps : List (List ℕ)) × Hold files settings.dumps dumps
+    dumps = octets_of earlier.sets 1 (taken_up earlier settings.max_paths) taken settings.dumps files (joins earlier settings.max_paths settings.dumps files taken joins_to).1
+
+    both : (before : List (List ℕ)) → IsOfDumps earlier before → IsOfDumps file (before ++ dumps.0)
+    both before (gave, gives, rows, counts) =
+        let (after, sees, its_rows_are, its_counts_are) =
+        dumps_of_both earlier settings.max_paths before dumps.0 Some gave taken few (by_octets earlier.sets 1 (nothing max_paths) before ∙ gives) rows counts
+        (sym (joined_by earlier settings.max_paths settings.dumps dumps.0 files dumps.1) ∙ joins_to) in
+        let is = resumed.0 in (
+          after,
+          subst (λ (s : Sets). seen_of s 1 (nothing max_paths) (before ++ dumps.0) ≡ Ok after) (sym is.its_sets)
+              (sym (by_octets earlier.sets 1 (nothing max_paths) (before ++ dumps.0)) ∙ sees),
+          its_rows_are ∙ sym is.paths,
+          its_counts_are ∙ sym is.its_counts,
+        )

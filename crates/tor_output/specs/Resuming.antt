@@ -1,7 +1,8 @@
 -- What is gained where a result is taken up: where the earlier result is of some dumps, the one that is written is of these and then of the
 -- new ones.
-use Rattle.std.specs.Prelude.{◌≡◌, ℕ, List, ◌++◌, Option, Some, Ok}
+use Rattle.std.specs.Prelude.{◌≡◌, ℕ, List, ◌++◌, map, Option, Some, Ok}
 use Rattle.std.specs.Io.KnownBytes.{append_known}
+use Rattle.tor_arena.specs.Limits.{max_paths}
 use Rattle.tor_io.specs.Contents.{Files}
 use Rattle.dump_read.specs.declared.taking.Taken.{Taken}
 use Rattle.result_text.specs.declared.file.ResultFile.{ResultFile}
@@ -10,26 +11,30 @@ use Rattle.result_rules.specs.Against.{its_rows}
 use Rattle.tor_words.specs.declared.settings.Mode.TheVariants.{Resume}
 use Rattle.tor_words.specs.declared.settings.Settings.{Settings}
 use Rattle.tor_words.specs.Given.{settings_given}
-use Rattle.torcheck_run.specs.Judging.{seen_for}
+use Rattle.run_base.specs.Reading.{nothing, seen_of}
 use Rattle.tor_output.specs.First.{TakesUp, first_in}
 use Rattle.tor_output.specs.Output.{IsResumed}
 
--- the paths of the result with their times, and its counts, are what these dumps give, read with its sets
-abbrev pub IsOfDumps : ResultFile → List (List ℕ) → Files → Type 0
-IsOfDumps file dumps files = (taken : Taken) × (seen_for file dumps files ≡ Ok taken) × (taken.table.rows ≡ its_rows file) ×
-    (taken.counts ≡ file.asides)
+-- the paths of the result with their times, and its counts, are what dumps of these octets give, read with its sets
+abbrev pub IsOfDumps : ResultFile → List (List ℕ) → Type 0
+IsOfDumps file dumps = (taken : Taken) × (seen_of file.sets 1 (nothing max_paths) dumps ≡ Ok taken) ×
+    (taken.table.rows ≡ its_rows file) × (taken.counts ≡ file.asides)
 
--- where the earlier result is of some dumps, this one is of these and then of the dumps that the words name
+-- the files of these names have these octets, in order
+abbrev pub Hold : Files → (names dumps : List (List ℕ)) → Type 0
+Hold files names dumps = map files names ≡ map Some dumps
+
+-- where the earlier result is of some dumps, wherever they are, this one is of these and then of the dumps that the words name
 abbrev pub IsOfBoth : Settings → Files → (earlier file : ResultFile) → Type 0
-IsOfBoth settings files earlier file =
-    (names : List (List ℕ)) → IsOfDumps earlier names files → IsOfDumps file (names ++ settings.dumps) files
+IsOfBoth settings files earlier file = (dumps : List (List ℕ)) × Hold files settings.dumps dumps ×
+    ((before : List (List ℕ)) → IsOfDumps earlier before → IsOfDumps file (before ++ dumps))
 
 -- the words ask to take up a result
 abbrev pub AsksToResume : List (List ℕ) → Type 0
 AsksToResume words = (settings : Settings) × (settings_given words ≡ Some settings) × (settings.mode ≡ Resume)
 
--- the words name a result that is taken up, and a sink gained the text of one that resumes it: where the earlier one is of some dumps, it
--- is of these and then of those that the words name
+-- the words name a result that is taken up, and a sink gained the text of one that resumes it: where the earlier one is of some dumps,
+-- wherever they are, it is of these and then of those that the words name
 pub record GainsResumed (words : List (List ℕ)) (files : Files) (old new : Option (List ℕ)) : Type 0 where
   pub settings : Settings
   pub given : settings_given words ≡ Some settings

@@ -12,7 +12,7 @@ ghost use Rattle.tor_output.specs.Reach.{IsFirstInReach};
 ghost use Rattle.tor_output.specs.Refusals.{AreGivensIn, TakesUpIn, IsUnwrittenAtFirst, IsFailedRead};
 
 use crate::unwritten::Unwritten;
-use as_rel::{RelError, parse_given};
+use as_rel::{MAX_REL, RelError, parse_given};
 use relationships::Given;
 use result_text::ResultFile;
 use run_base::{FirstFile, Refusal, read_whole};
@@ -21,9 +21,6 @@ use tor_arena::{Keys, List};
 use tor_io::Shelf;
 use tor_words::Name;
 use torcheck_run::{MAX_RESULT, NoResult, Ruling, read_result, ruling_of_file};
-
-/// The most octets of a file of known relationships.
-const MAX_GIVEN: usize = 1 << 28;
 
 // The relationships that the octets say. The octets are let go.
 fn parse_givens(alloc: Global, keys: Keys, bytes: List<u8>) -> Result<List<Given>, RelError>
@@ -57,7 +54,7 @@ pub(crate) fn givens_in<H: Shelf>(
 
     ensures reads_shelf { ReadsShelf H.Shelf (IsErrAnd result IsFailedRead) shelf.old shelf.new }
 {
-    match read_whole(alloc, shelf, name.as_text(), MAX_GIVEN) {
+    match read_whole(alloc, shelf, name.as_text(), MAX_REL) {
         Ok(bytes) => match parse_givens(alloc, keys, bytes) {
             Ok(givens) => Ok(givens),
             Err(RelError::BadLine(line)) => Err(Unwritten::BadLine(FirstFile::Given, line)),

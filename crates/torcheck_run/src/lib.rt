@@ -12,7 +12,7 @@ mod unsaid;
 mod verdicts;
 
 pub use checking::check;
-pub use laws::one_file_verdict_law;
+pub use laws::{limits_law, one_file_verdict_law};
 pub use met::result_met;
 pub use reading::{NoResult, read_result};
 pub use ruling::{MAX_RESULT, Ruling, ruling_of_file};

@@ -1,6 +1,6 @@
 -- The bound on a file of known relationships.
 use Rattle.std.specs.Prelude.{ℕ}
-use Rattle.torgrade_run.specs.declared.asking.TheConstants.{MAX_REL}
+use Rattle.as_rel.specs.declared.limits.TheConstants.{MAX_REL}
 
 -- how many octets it may have
 abbrev pub max_rel : ℕ

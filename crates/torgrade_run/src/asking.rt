@@ -20,7 +20,7 @@ ghost use Rattle.torgrade_run.specs.Ungrading.{IsKnown, IsGradedFrom, IsGradedIn
 ghost use Rattle.torgrade_run.specs.Ungrading.{IsUngradedIn, IsUngraded, IsFailedRead, IsOfGradeWords, AnswersUngraded, text_of};
 
 use crate::cones::{Cone, cone_asked};
-use as_rel::{Rel, RelError, parse_rel};
+use as_rel::{MAX_REL, Rel, RelError, parse_rel};
 use dump_read::Taken;
 use path_clean::Sets;
 use run_base::{
@@ -31,9 +31,6 @@ use std::alloc::Global;
 use tor_arena::{Keys, List, MAX_PATHS, NoMemory};
 use tor_io::Shelf;
 use tor_words::{GradeSettings, Name, grade_settings_of};
-
-/// The most octets of a file of known relationships.
-const MAX_REL: usize = 1 << 28;
 
 /// Known relationships, and the cone that is asked for.
 #[derive(Drop)]
