@@ -5,3 +5,5 @@ pub mod Loops
 pub mod Skips
 mod TableDumpVectors
 mod Vectors
+pub mod FaultLemmas
+pub mod FaultLaws

@@ -4,3 +4,4 @@ pub mod PeerTable
 pub mod Rib
 pub mod Encoding
 pub mod Reading
+pub mod Faults

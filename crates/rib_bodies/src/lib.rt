@@ -10,7 +10,7 @@ mod rib;
 mod route;
 
 pub use error::RibError;
-pub use laws::{peer_table_law, rib_law, table_dump_law};
+pub use laws::{fault_law, peer_table_law, rib_law, table_dump_law};
 pub use peer_table::{Peers, read_peers};
 pub use reader::EntryReader;
 pub use rib::{Entry, EntryCursor, read_rib};
