@@ -1,4 +1,6 @@
 //! The laws of the definitions. Each is the contract of a function that does nothing.
+ghost use Rattle.std.specs.Prelude.{◌≡◌, ◌^◌};
+ghost use Rattle.mrt_frame.specs.Limits.{max_file};
 ghost use Rattle.mrt_frame.specs.Encoding.{EncodingLaw, OneReadingLaw};
 ghost use Rattle.mrt_frame.specs.Reach.{ReachLaw};
 ghost use Rattle.mrt_frame.specs.Counted.{FileCountsLaw, CountsTogetherLaw};
@@ -16,4 +18,9 @@ pub fn encoding_law()
 pub fn counts_law()
     ensures file { FileCountsLaw }
     ensures together { CountsTogetherLaw }
+{}
+
+/// How many octets a file may have: each of its records ends at offset 2^40 or before.
+pub fn limits_law()
+    ensures file { max_file ≡ 2 ^ 40 }
 {}
