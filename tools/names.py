@@ -15,8 +15,9 @@ import sys
 
 MOST = 91
 
-# A type or function of the code, and the definition of the same name that its contract cites.
-MEANT = {'Edge', 'Orientation', 'edge_line', 'given_line', 'last_line', 'path_line', 'why_line'}
+# A type or function of the code, and the definition of the same name that its contract cites; and what each crate says of its own limits or
+# words.
+MEANT = {'Edge', 'Orientation', 'edge_line', 'files_named', 'given_line', 'last_line', 'limits_law', 'path_line', 'why_line'}
 
 CODE = re.compile(r'^pub (?:struct|enum|trait|type|fn) (\w+)', re.MULTILINE)
 WORDS = re.compile(r'^(?:(?:abbrev|unfoldable) (?:pub )?|(?:pub )?(?:record|data) )(\S+)', re.MULTILINE)

@@ -13,7 +13,7 @@ use Rattle.rib_bodies.specs.declared.rib.Entry.{Entry}
 use Rattle.rib_bodies.specs.PeerTable.{behind_peer, behind_peers, peers_of}
 use Rattle.rib_bodies.specs.Rib.{Fields, path_id_octets, head, entry_fields, entry, entries_of, rib_of}
 use Rattle.rib_bodies.specs.TableDump.{behind_fields, route_of}
-use Rattle.rib_bodies.specs.Faults.{TellsTail, TellsCut, TailLaw, CutLaw}
+use Rattle.rib_bodies.specs.Faults.{TellsTail, TellsCut, TailFaultLaw, CutFaultLaw}
 use Rattle.rib_bodies.proofs.TableDumpEncodings.{table_dump_law}
 use Rattle.rib_bodies.proofs.PeerEncodings.{peer_table_law}
 use Rattle.rib_bodies.proofs.RibEncodings.{rib_law}
@@ -141,14 +141,14 @@ tells_tail read Encodes is law body = (
 tells_cut : {A : Type 0} (read : List ℕ → Result A RibFault) → IsReading read → TellsCut read
 tells_cut read is = record { goes_on = λ body e. is.goes_on body; stays = is.stays }
 
-pub tail_law : TailLaw
+pub tail_law : TailFaultLaw
 tail_law = record {
   table_dump = λ family. tells_tail (route_of family) _ (route_reading family) (table_dump_law family);
   peer_table = tells_tail peers_of _ table_reading peer_table_law;
   rib = λ form peers. tells_tail (rib_of form (Some peers)) _ (rib_reading form (Some peers)) (rib_law form peers);
 }
 
-pub cut_law : CutLaw
+pub cut_law : CutFaultLaw
 cut_law = record {
   table_dump = λ family. tells_cut (route_of family) (route_reading family);
   peer_table = tells_cut peers_of table_reading;

@@ -29,12 +29,12 @@ pub record TellsCut {A : Type 0} (read : List ℕ → Result A RibFault) : Type 
   pub stays : (body more : List ℕ) (fault : RibFault) → read body ≡ Err fault → fault ≢ Cut → read (body ++ more) ≡ Err fault
 
 -- the bodies of TABLE_DUMP records, peer tables and RIBs
-pub record TailLaw : Type 0 where
+pub record TailFaultLaw : Type 0 where
   pub table_dump : (family : Family) → TellsTail (route_of family) (IsTableDump family)
   pub peer_table : TellsTail peers_of IsPeerTable
   pub rib : (form : RibForm) (peers : ℕ) → TellsTail (rib_of form (Some peers)) (IsRib form peers)
 
-pub record CutLaw : Type 0 where
+pub record CutFaultLaw : Type 0 where
   pub table_dump : (family : Family) → TellsCut (route_of family)
   pub peer_table : TellsCut peers_of
   pub rib : (form : RibForm) (peers : Option ℕ) → TellsCut (rib_of form peers)

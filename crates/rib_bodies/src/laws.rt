@@ -1,6 +1,6 @@
 //! The laws of the definitions. Each is the contract of a function that does nothing.
 ghost use Rattle.rib_bodies.specs.Encoding.{PeerTableLaw, RibLaw};
-ghost use Rattle.rib_bodies.specs.Faults.{CutLaw, TailLaw};
+ghost use Rattle.rib_bodies.specs.Faults.{CutFaultLaw, TailFaultLaw};
 ghost use Rattle.rib_bodies.specs.TableDumpEncoding.{TableDumpLaw};
 
 /// A body gives a route of these attributes exactly if it is the encoding of a TABLE_DUMP record with them (RFC 6396, section 4.2).
@@ -22,6 +22,6 @@ pub fn rib_law()
 /// Which fault a body has: `Tail` exactly if a proper prefix of it encodes a body; `Cut` only if octets behind it could give another
 /// answer, while every other fault stays, whatever follows.
 pub fn fault_law()
-    ensures tail { TailLaw }
-    ensures cut { CutLaw }
+    ensures tail { TailFaultLaw }
+    ensures cut { CutFaultLaw }
 {}

@@ -17,17 +17,17 @@ pub record Named : Type 0 where
   pub first : Option (List ℕ)
   pub dumps : List (List ℕ)
 
-abbrev pub first_of : Option (List ℕ) → List (List ℕ)
-first_of None = []
-first_of (Some name) = name ∷ []
+abbrev pub first_named : Option (List ℕ) → List (List ℕ)
+first_named None = []
+first_named (Some name) = name ∷ []
 
 -- all of them, in their order
 abbrev pub all_of : Named → List (List ℕ)
-all_of named = first_of named.first ++ named.dumps
+all_of named = first_named named.first ++ named.dumps
 
 -- those up to the dump of this number, from 1; up to 0 is the file that is read first
 abbrev pub up_to : ℕ → Named → List (List ℕ)
-up_to number named = first_of named.first ++ take number named.dumps
+up_to number named = first_named named.first ++ take number named.dumps
 
 -- one of them has this number: a dump's, or 0
 abbrev pub IsNumber : Named → ℕ → Type 0

@@ -16,7 +16,7 @@ use Rattle.run_base.proofs.Notings.{answer_not, no_memory_not}
 use Rattle.run_base.proofs.Values as values
 use Rattle.torgrade_run.specs.declared.asking.Ungraded.{Ungraded}
 use Rattle.torgrade_run.specs.declared.asking.Ungraded.TheVariants as ungraded
-use Rattle.torgrade_run.specs.Limits.{max_rel}
+use Rattle.as_rel.specs.Limits.{max_rel}
 use Rattle.torgrade_run.specs.Outcomes.{LongRel, LeavesRestOf}
 use Rattle.torgrade_run.specs.GradeAnswer.{LeadsTo, bad_line_note}
 use Rattle.torgrade_run.specs.Reach.{StaysUngradedInReach}

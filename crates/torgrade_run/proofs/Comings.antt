@@ -10,7 +10,7 @@ use Rattle.run_base.specs.declared.status.Status.{Status}
 use Rattle.run_base.specs.declared.status.Status.TheVariants as status
 use Rattle.run_base.specs.WholeFile.{IsLongFile}
 use Rattle.run_base.proofs.Values as values
-use Rattle.torgrade_run.specs.Limits.{max_rel}
+use Rattle.as_rel.specs.Limits.{max_rel}
 use Rattle.torgrade_run.specs.Outcomes.{Outcome, Reads, NoRel, LongRel, BadRel, Ends, ComesTo, Gives, IsRel, OneOutcomeLaw, seen_by}
 
 -- the status that an outcome asks for

@@ -19,7 +19,7 @@ use Rattle.run_base.specs.Reach.{IsDumpInReach}
 use Rattle.run_base.specs.WholeFile.{LeavesRest, LeavesOnly}
 use Rattle.torgrade_run.specs.declared.asking.Ungraded.{Ungraded}
 use Rattle.torgrade_run.specs.declared.asking.Ungraded.TheVariants as ungraded
-use Rattle.torgrade_run.specs.Limits.{max_rel}
+use Rattle.as_rel.specs.Limits.{max_rel}
 use Rattle.torgrade_run.specs.Reach.{IsUngradedInReach, StaysUngradedInReach, GradingEndsInReach}
 use Rattle.torgrade_run.specs.Ungrading.{AnswersUngraded}
 

@@ -19,7 +19,7 @@ use Rattle.run_base.specs.Answers.{AnswersStop, AnswersWith, IsNoMemory, note_in
 use Rattle.torgrade_run.specs.declared.asking.Graded.{Graded}
 use Rattle.torgrade_run.specs.declared.asking.Ungraded.{Ungraded}
 use Rattle.torgrade_run.specs.declared.asking.Ungraded.TheVariants as ungraded
-use Rattle.torgrade_run.specs.Limits.{max_rel}
+use Rattle.as_rel.specs.Limits.{max_rel}
 use Rattle.torgrade_run.specs.Outcomes.{Outcome, NoRel, LongRel, BadRel, Ends, ComesTo, IsRel, seen_by}
 use Rattle.torgrade_run.specs.GradeAnswer.{LeadsTo, HoldsBefore, IsGraded, IsGradedOfSome, IsGradeNote, bad_line_note, long_rel_note}
 use Rattle.torgrade_run.specs.Reach.{StaysUngradedInReach}

@@ -23,7 +23,7 @@ use Rattle.run_base.specs.Reading.{nothing, IsOfSomeDumps}
 use Rattle.run_base.specs.WholeFile.{LeavesOnly}
 use Rattle.torgrade_run.specs.declared.cones.Cone.{Cone}
 use Rattle.torgrade_run.specs.GradeText.{IsConeAsked, grading_text}
-use Rattle.torgrade_run.specs.Limits.{max_rel}
+use Rattle.as_rel.specs.Limits.{max_rel}
 use Rattle.torgrade_run.specs.Outcomes.{Outcome, Reads, NoRel, LongRel, BadRel, Ends, Gives, IsRel, seen_by}
 
 -- what the words and the files give, where these are known

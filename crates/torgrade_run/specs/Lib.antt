@@ -1,6 +1,5 @@
 pub mod GradeAnswer
 pub mod GradeText
-pub mod Limits
 pub mod Opening
 pub mod Outcomes
 pub mod Reach

@@ -11,7 +11,7 @@ use Rattle.tor_words.specs.declared.grade_settings.GradeSettings.{GradeSettings}
 use Rattle.tor_words.specs.GradeGiven.{grade_settings_given}
 use Rattle.run_base.specs.Reading.{nothing, seen_from}
 use Rattle.run_base.specs.WholeFile.{IsFile, IsLongFile, LeavesRest}
-use Rattle.torgrade_run.specs.Limits.{max_rel}
+use Rattle.as_rel.specs.Limits.{max_rel}
 
 -- what the dumps give: sets are cut, and the limit on paths is the greatest
 abbrev pub seen_by : List (List ℕ) → Files → Result Taken DumpsEnd

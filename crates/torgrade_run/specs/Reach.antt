@@ -17,7 +17,7 @@ use Rattle.run_base.specs.WholeFile.{LeavesRest, LeavesOnly}
 use Rattle.torgrade_run.specs.declared.asking.Ungraded.{Ungraded}
 use Rattle.torgrade_run.specs.declared.asking.Ungraded.TheVariants as ungraded
 use Rattle.torgrade_run.specs.GradeAnswer.{bad_line_note, long_rel_note}
-use Rattle.torgrade_run.specs.Limits.{max_rel}
+use Rattle.as_rel.specs.Limits.{max_rel}
 
 -- with these settings nothing is graded for this, and so far it was read: a file of known relationships with a bad line whole, of one
 -- that is too long no more than shows it, and of one of which a read failed at most as much; and a dump as far as is said of dumps

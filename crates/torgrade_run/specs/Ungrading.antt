@@ -27,7 +27,7 @@ use Rattle.torgrade_run.specs.declared.asking.Ungraded.{Ungraded}
 use Rattle.torgrade_run.specs.declared.asking.Ungraded.TheVariants as ungraded
 use Rattle.torgrade_run.specs.GradeAnswer.{bad_line_note}
 use Rattle.torgrade_run.specs.GradeText.{IsConeAsked, grading_text}
-use Rattle.torgrade_run.specs.Limits.{max_rel}
+use Rattle.as_rel.specs.Limits.{max_rel}
 use Rattle.torgrade_run.specs.Outcomes.{IsRel, seen_by}
 
 -- ---- what is graded
