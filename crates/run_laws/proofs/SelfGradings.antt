@@ -1,5 +1,5 @@
 -- A grading by the relationships that were found for the same paths.
-use Rattle.std.proofs.Common.{◌≡◌, ◌↔◌, ℕ, suc, ◌+◌, ◌≤◌, Bool, false, cond, List, [], ◌∷◌, ◌++◌, map, Some, Result, Ok, Err, Contains, IsTrue, refl, sym, ap, ap₂, ◌∙◌, subst, arith, if◌then◌else◌}
+use Rattle.std.proofs.Common.{◌≡◌, ◌↔◌, ℕ, suc, ◌+◌, ◌≤◌, Bool, false, cond, List, [], ◌∷◌, ◌++◌, map, Some, Result, Ok, Contains, IsTrue, refl, sym, ap, ap₂, ◌∙◌, subst, arith, if◌then◌else◌}
 use Rattle.std.proofs.Common.{unwrap_or}
 use Rattle.std.specs.Prelude.{count_by, slice_get}
 use Rattle.std.proofs.lemmas.Bool.{false_from_ne_true}
@@ -11,8 +11,7 @@ use Rattle.path_clean.specs.declared.cleaned.Sets.{Sets}
 use Rattle.path_clean.specs.declared.cleaned.Sets.TheVariants.{Cut}
 use Rattle.path_table.specs.Rows.{Counted, row_paths}
 use Rattle.dump_read.specs.declared.taking.Taken.{Taken}
-use Rattle.dump_read.specs.Seen.{DumpsEnd, of_file}
-use Rattle.path_attrs.specs.Fields.{◌>>=◌}
+use Rattle.dump_read.specs.Seen.{DumpsEnd}
 use Rattle.relationships.specs.Givens.{returns}
 use Rattle.relationships.specs.Selection.{KeepsFrom}
 use Rattle.run_base.specs.Reading.{nothing, seen_from}
@@ -33,7 +32,8 @@ use Rattle.torgrade_run.specs.GradeText.{is_free, is_unknown, cone_text, grades_
 use Rattle.torgrade_run.specs.Outcomes.{seen_by}
 use Rattle.tor_output.specs.Seen.{seen, seen_in}
 use Rattle.tor_output.proofs.WiderLimit.{widened, all_files}
-use Rattle.run_laws.specs.SelfGrading.{KeepDumps, SelfGradingLaw}
+use Rattle.tor_output.proofs.Joining as joining
+use Rattle.run_laws.specs.SelfGrading.{SelfGradingLaw}
 
 -- ---- the grades of paths
 
@@ -83,11 +83,10 @@ same_taken : (a b : Taken) → ◌≡◌ {A = Result Taken DumpsEnd} (Ok a) (Ok 
 same_taken a b e = cc
 
 sees_all : (settings : Settings) (files : Files) (taken : Taken) (dumps : List (List ℕ)) → settings.max_paths ≤ max_paths → settings.sets ≡ Cut →
-    seen_from settings.sets 1 (nothing settings.max_paths) settings.dumps files ≡ Ok taken → dumps ≡ settings.dumps → seen_by dumps files ≡ Ok (widened max_paths taken)
-sees_all settings files taken dumps few cut sees same =
-    subst (λ (ds : List (List ℕ)). seen_by ds files ≡ Ok (widened max_paths taken)) (sym same)
-    (all_files settings.max_paths max_paths Cut 1 (nothing settings.max_paths) taken settings.dumps files (record { same = refl; few = omega arith; less = few })
-    (subst (λ (s : Sets). seen_from s 1 (nothing settings.max_paths) settings.dumps files ≡ Ok taken) cut sees))
+    seen_from settings.sets 1 (nothing settings.max_paths) dumps files ≡ Ok taken → seen_by dumps files ≡ Ok (widened max_paths taken)
+sees_all settings files taken dumps few cut sees =
+    all_files settings.max_paths max_paths Cut 1 (nothing settings.max_paths) taken dumps files (record { same = refl; few = omega arith; less = few })
+    (subst (λ (s : Sets). seen_from s 1 (nothing settings.max_paths) dumps files ≡ Ok taken) cut sees)
 
 -- lines of serial-1 are written of files, and of no sample
 of_files : (source : Source) (mode : Mode) (settings : Settings) (files : Files) (taken : Taken) → IsWrittenOf source mode → mode ≡ Serial →
@@ -97,29 +96,16 @@ of_files (source.Sample seed) mode settings files taken written is sees = let e 
 of_files (source.Result name) mode settings files taken written is sees = sees
 of_files (source.Earlier name) mode settings files taken written is sees = sees
 
-then_same : (r : Result Taken DumpsEnd) (f g : Taken → Result Taken DumpsEnd) → ((t : Taken) → f t ≡ g t) → (r >>= f) ≡ (r >>= g)
-then_same (Ok t) f g same = same t
-then_same (Err end) f g same = refl
-
--- dumps that are kept give the same later
-same_later : (sets : Sets) (dump : ℕ) (taken : Taken) (names : List (List ℕ)) (files later : Files) → KeepDumps names files later →
-    seen_from sets dump taken names later ≡ seen_from sets dump taken names files
-same_later sets dump taken [] files later keep = refl
-same_later sets dump taken (name ∷ names) files later keep =
-    ap (λ octets. of_file sets dump taken octets >>= λ further. seen_from sets (dump + 1) further names later) (keep name (0, omega arith, refl)) ∙
-    then_same (of_file sets dump taken (files name)) (λ further. seen_from sets (dump + 1) further names later) (λ further. seen_from sets (dump + 1) further names files)
-    (λ further. same_later sets (dump + 1) further names files later (λ n c. keep n (suc c.0, omega (arith, c.1), c.2)))
-
 pub self_grading : BoundsLaw → SelfGradingLaw
-self_grading bounds words settings files known taken rel given serial cut comes_to exact grade_words grading later text graded_given there dumps keep is =
-    let sees = same_later settings.sets 1 (nothing settings.max_paths) settings.dumps files later keep
+self_grading bounds words settings files known taken rel given serial cut comes_to exact grade_words grading later text graded_given there dumps is =
+    let sees = joining.seen_by settings.sets 1 (nothing settings.max_paths) grading.dumps settings.dumps later files dumps
     ∙ of_files settings.source settings.mode settings files taken (bounds words settings given).written serial comes_to.1 in
     let (g, g_given, comes) = is.reads in
     let (bytes, is_rel, read, gave) = comes in
     let same : g ≡ grading = same_Some g grading (sym g_given ∙ graded_given) in
     let bytes_same : bytes ≡ rel = same_Some bytes rel (sym is_rel.there ∙ ap (λ (s : GradeSettings). later s.rel) same ∙ there) in
     let lines_same : is.rel ≡ exact.lines = same_lines is.rel exact.lines (sym read ∙ ap rel_in bytes_same ∙ exact.read) in
-    let wide = sees_all settings later taken grading.dumps (bounds words settings given).most cut sees dumps in
+    let wide = sees_all settings later taken grading.dumps (bounds words settings given).most cut sees in
     let gives : seen_by grading.dumps later ≡ Ok is.taken = subst (λ (s : GradeSettings). seen_by s.dumps later ≡ Ok is.taken) same gave in
     let taken_same : is.taken ≡ widened max_paths taken = same_taken is.taken (widened max_paths taken) (sym gives ∙ wide) in
     record {

@@ -33,14 +33,14 @@ pub record IsGradedAsKept (givens : List Given) (rows : List Counted) (text : Li
 abbrev pub KeepDumps : List (List ℕ) → (files later : Files) → Type 0
 KeepDumps dumps files later = (name : List ℕ) → Contains dumps name → later name ≡ files name
 
--- so grades each grading of the same dumps, later on, whose file of known relationships is a text under which exactly the kept paths are
--- free, as a run with `--serial1` that cuts sets has written it
+-- so grades each grading of the same dumps, later on and under whatever names, whose file of known relationships is a text under which
+-- exactly the kept paths are free, as a run with `--serial1` that cuts sets has written it
 abbrev pub SelfGradingLaw : Type 0
 SelfGradingLaw =
     (words : List (List ℕ)) (settings : Settings) (files : Files) (known : Option (List Given)) (taken : Taken) (rel : List ℕ) →
     settings_given words ≡ Some settings → settings.mode ≡ Serial → settings.sets ≡ Cut → ComesTo settings files (Reads known taken) →
     GradesExactly (unwrap_or known []) (row_paths taken.table.rows) rel →
     (grade_words : List (List ℕ)) (grading : GradeSettings) (later : Files) (text : List ℕ) →
-    grade_settings_given grade_words ≡ Some grading → later grading.rel ≡ Some rel → grading.dumps ≡ settings.dumps →
-    KeepDumps settings.dumps files later → IsGraded grade_words later text →
+    grade_settings_given grade_words ≡ Some grading → later grading.rel ≡ Some rel →
+    map later grading.dumps ≡ map files settings.dumps → IsGraded grade_words later text →
     IsGradedAsKept (unwrap_or known []) taken.table.rows text

@@ -85,8 +85,9 @@ pub fn grading_law()
 {}
 
 /// What `torgrade` says of paths by the relationships that `tor` found for them: where its file of known relationships is a text under
-/// which exactly the kept paths of the dumps are free, as each is that `tor` writes, a grading of the same dumps says of exactly the kept
-/// ones that they are free, and of none that it is unknown. Both read the dumps with sets cut, under whatever limit on paths.
+/// which exactly the kept paths of the dumps are free, as each is that `tor` writes, a grading of the same dumps, later on and under
+/// whatever names, says of exactly the kept ones that they are free, and of none that it is unknown. Both read the dumps with sets cut,
+/// under whatever limit on paths.
 pub fn self_grading_law()
     ensures { SelfGradingLaw }
 {
