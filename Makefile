@@ -1,5 +1,6 @@
 # make quick      builds the programs into quick/ in two minutes, checked as they run and not proved, and runs every command of the README
-# make            proves and builds the programs into bin/, compares pages, results, names and documents with them, and runs the README
+# make            proves and builds the programs into bin/, compares pages, results, names and documents with them, tries their ends that touch
+#                 the system, and runs the README
 # make install    puts what make built where a shell finds it: PREFIX=/usr/local, NAME=tor (another name: programs NAME, NAMEcheck ..)
 # make dist       makes an archive of it for machines without the kit
 # make tour       runs every command of the README in a fresh folder, over bin/
@@ -8,7 +9,7 @@
 #
 # Outside the gate:
 # make samples    compares the lists of two real tables with what other readers give, and checks, grades and resumes their results
-# make system     tries the programs on full devices, closed pipes, folders and the like
+# make system     the ends alone: full devices, closed pipes, folders and the like
 # make memory     tries them with each of their allocations refused
 # make container  tries the archive of make dist on a bare system
 
@@ -34,7 +35,7 @@ SOURCES = crates.txt tools/unproved.py tools/libraries.py tools/quick.rs $(shell
 .PHONY: all quick kit proved pages results documents names tour install dist test samples system memory container clean
 .DELETE_ON_ERROR:
 
-all: tour documents names
+all: tour system documents names
 	@echo "bin/ has $(PROGRAMS), proved"
 
 quick: quick/tor
