@@ -8,3 +8,4 @@ pub mod Scans
 pub mod Trailing
 pub mod Trials
 pub mod Ways
+pub mod Shortening

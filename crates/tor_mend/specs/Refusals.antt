@@ -1,5 +1,5 @@
 -- Triples that were refused alone, and why a later path with one of them is lost by the same walk.
-use Rattle.std.specs.Prelude.{◌≡◌, ◌⊎◌, ℕ, ◌+◌, ◌==◌, List, [], ◌∷◌, ◌++◌, Some, map, slice_get, slice_set, if◌then◌else◌}
+use Rattle.std.specs.Prelude.{◌≡◌, ◌≤◌, ◌⊎◌, ℕ, ◌+◌, ◌==◌, List, [], ◌∷◌, ◌++◌, Some, map, slice_get, slice_set, if◌then◌else◌}
 use Rattle.relationships.specs.declared.walk.Link.{Link}
 use Rattle.relationships.specs.declared.walk.Walk.{Walk}
 use Rattle.relationships.specs.declared.fate.Fate.{Fate}
@@ -70,6 +70,7 @@ pub record IsSameTriple (old new : Refusal) : Type 0 where
   pub first : new.first ≡ old.first
   pub second : new.second ≡ old.second
   pub path : new.path ≡ old.path
+  pub links : new.links ≡ old.links
 
 -- only what is counted of the refusal at this place may be another
 abbrev pub UsesAt : ℕ → List Refusal → List Refusal → Type 0
@@ -78,6 +79,10 @@ UsesAt place old new = (r s : Refusal) × (slice_get old place ≡ Some r) × Is
 -- the refusal goes last, or in the place of another
 abbrev pub IsPut : Refusal → List Refusal → List Refusal → Type 0
 IsPut r old new = (new ≡ old ++ r ∷ []) ⊎ ((place : ℕ) × (new ≡ slice_set old place r))
+
+-- no refusal is forgotten, and none has a longer walk than before
+abbrev pub NoneGrows : List Refusal → List Refusal → Type 0
+NoneGrows old new = (place : ℕ) (r : Refusal) → slice_get old place ≡ Some r → (s : Refusal) × (slice_get new place ≡ Some s) × (s.links ≤ r.links)
 
 -- the refusals with one of this path, whose walk has no link into it but of the triple
 pub record Puts (graph : List (List ℕ)) (path : ℕ) (w : Walk) (old new : List Refusal) : Type 0 where

@@ -6,7 +6,7 @@ ghost use Rattle.relationships.specs.declared.walk.Walk.{Walk as Evidence};
 ghost use Rattle.relationships.specs.Graph.{edges};
 ghost use Rattle.tor_arena.specs.Limits.{max_numbers};
 ghost use Rattle.tor_mend.specs.Refusals.{node_at, AreSatisfiedOn, relink, relinked, NamesOnly, IsMetWith, HasRefusedTriple};
-ghost use Rattle.tor_mend.specs.Refusals.{IsSameTriple, IsPut, UsesAt, IsOfPath, Remembers};
+ghost use Rattle.tor_mend.specs.Refusals.{IsSameTriple, IsPut, UsesAt, IsOfPath, NoneGrows, Remembers};
 
 use crate::known::LONGEST;
 use as_graph::{AsGraph, Step};
@@ -174,8 +174,11 @@ impl Refusals {
     }
 
     /// Adds a refusal, or puts it in the place of the one of its triple, if there is one with a longer walk.
+    #[tactic(auto, using(crate::proofs::Shortening::none_changes, crate::proofs::Shortening::one_more, crate::proofs::Shortening::one_shorter))]
     fn put(&mut self, refusal: Refusal) -> Result<(), NoMemory>
-        ensures { OnOk result ((self.new.items.items ≡ self.old.items.items) ⊎ IsPut refusal self.old.items.items self.new.items.items) }
+        ensures put { OnOk result ((self.new.items.items ≡ self.old.items.items) ⊎
+            IsPut refusal self.old.items.items self.new.items.items) }
+        ensures shorter { OnOk result (NoneGrows self.old.items.items self.new.items.items) }
     {
         let pair = (refusal.first, refusal.second);
         let place = self.pairs.add(number_of(pair))?;
@@ -189,9 +192,11 @@ impl Refusals {
     }
 
     /// Remembers that a path was lost, if no link of its walk leads into the path but to one triple. The only error is that memory ran out.
+    #[tactic(auto, using(crate::proofs::Shortening::none_changes))]
     pub fn remember(&mut self, graph: &AsGraph, path: PathId, fate: &Fate) -> Result<(), NoMemory>
         requires { path < length graph.now }
-        ensures { OnOk result (Remembers graph.now path fate.now self.old.items.items self.new.items.items) }
+        ensures remembers { OnOk result (Remembers graph.now path fate.now self.old.items.items self.new.items.items) }
+        ensures shorter { OnOk result (NoneGrows self.old.items.items self.new.items.items) }
     {
         graph.facts();
         let Fate::Lost(walk) = fate else {
