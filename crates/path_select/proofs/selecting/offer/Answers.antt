@@ -45,4 +45,4 @@ returns-clause-refused c =
     let e = c.in_ok-fate.ensures.offered in
     let fate = c.in_ok-fate.fate in
     offered c.args.graph.now c.args.selector.now.formula.paths c.args.path c.args.fates.now fate c.offer_new.new.self.formula.paths c.lost_again.new.refusals.items.items
-    c.remember.new.self.items.items c.requires.next e.kept (same_paths fate c.offer_new.new.self c.args.selector.now e.lost) e.walk c.lost_again.ensures.refused c.in_ok-remember.ensures
+    c.remember.new.self.items.items c.requires.next e.kept (same_paths fate c.offer_new.new.self c.args.selector.now e.lost) e.walk c.lost_again.ensures.refused c.in_ok-remember.ensures.remembers
