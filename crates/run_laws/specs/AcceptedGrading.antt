@@ -8,4 +8,5 @@ use Rattle.result_text.specs.declared.file.ResultFile.{ResultFile}
 
 -- under the lines of its edges exactly its kept paths are free, and none is unknown
 abbrev pub AcceptedGradingLaw : Type 0
-AcceptedGradingLaw = (file : ResultFile) → Accepts file → ExactlyKeptAreFree (its_givens file) (its_paths file) (map line_of_edge file.edges)
+AcceptedGradingLaw =
+    (file : ResultFile) → Accepts file → ExactlyKeptAreFree (its_givens file) (its_paths file) (map line_of_edge file.edges)

@@ -140,8 +140,8 @@ pub fn any_dump_order_law()
     any_order_law();
 }
 
-/// Every accepted result grades itself: of each result that meets all rules, whoever made it, exactly the kept paths are free under the lines
-/// of its edges, and none is unknown.
+/// Every accepted result grades itself: of each result that meets all rules, whoever made it, exactly the kept paths are free under the
+/// lines of its edges, and none is unknown.
 pub fn accepted_grading_law()
     ensures { AcceptedGradingLaw }
 {}
