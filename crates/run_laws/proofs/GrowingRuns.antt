@@ -25,10 +25,11 @@ use Rattle.result_laws.specs.Growing.{ForcedStaysLaw}
 use Rattle.run_base.specs.Reading.{nothing, seen_from, seen_of}
 use Rattle.run_base.proofs.Values as values
 use Rattle.tor_words.specs.Given.{BoundsLaw}
+use Rattle.tor_output.specs.Resuming.{IsOfDumps}
 use Rattle.tor_output.specs.Accepting.{TableLaw}
 use Rattle.tor_output.specs.First.{first_in}
 use Rattle.tor_output.proofs.Resumings.{Begins, octets_begin}
-use Rattle.run_laws.specs.Growing.{ResumedStaysLaw, OctetsLaw, AddedStaysLaw, SomeFaithfulLaw}
+use Rattle.run_laws.specs.Growing.{ResumedStaysLaw, AddedStaysLaw, SomeFaithfulLaw}
 use Rattle.run_laws.proofs.JoinedRows.{joined_rows}
 use Rattle.run_laws.proofs.ResumeLemmas.{is_accepted}
 
@@ -101,30 +102,6 @@ added_stays_law stays dumps more earlier later accepts accepts' before after set
           take_all (length earlier.paths) (its_paths earlier) (omega (arith, many));
       givens = givens;
     })
-
--- ---- octets of dumps
-
-octets_of : (sets : Sets) (dump : ℕ) (old new : Taken) (names : List (List ℕ)) (files : Files) → seen_from sets dump old names files ≡ Ok new →
-    (dumps : List (List ℕ)) × (map files names ≡ map Some dumps) × (seen_of sets dump old dumps ≡ Ok new)
-octets_of sets dump old new [] files e = ([], refl, e)
-octets_of sets dump old new (name ∷ names) files e =
-    by (files name) (of_file sets dump old (files name)) refl refl e (λ further. octets_of sets (dump + 1) further new names files)
-  where
-    by : (found : Option (List ℕ)) (one : Result Taken DumpsEnd) → files name ≡ found → of_file sets dump old (files name) ≡ one →
-        (one >>= λ further. seen_from sets (dump + 1) further names files) ≡ Ok new →
-        ((further : Taken) → seen_from sets (dump + 1) further names files ≡ Ok new → (dumps : List (List ℕ)) × (map files names ≡ map Some dumps) ×
-        (seen_of sets (dump + 1) further dumps ≡ Ok new)) → (dumps : List (List ℕ)) × (files name ∷ map files names ≡ map Some dumps) × (seen_of sets dump old dumps ≡ Ok new)
-    by found (Err end) there is e rest = absurd cc
-    by None (Ok further) there is e rest = let gone : of_file sets dump old None ≡ Ok further = subst (λ o. of_file sets dump old o ≡ Ok further) there is in absurd cc
-    by (Some octets) (Ok further) there is e rest =
-        let one : of_octets sets dump old octets ≡ Ok further = subst (λ o. of_file sets dump old o ≡ Ok further) there is in
-        let more = rest further e in
-        (octets ∷ more.0, ap₂ (λ (o : Option (List ℕ)) os. o ∷ os) there more.1, ap (λ (r : Result Taken DumpsEnd). r >>= λ further. seen_of sets (dump + 1) further more.0) one ∙ more.2)
-
-pub octets_law : OctetsLaw
-octets_law file names files (taken, gives, rows, counts) =
-    let r = octets_of file.sets 1 (nothing max_paths) taken names files gives in
-    (r.0, r.1, (taken, r.2, rows, counts))
 
 -- ---- some result
 

@@ -23,9 +23,9 @@ use Rattle.result_laws.specs.Orders.{AnyOrderLaw}
 use Rattle.result_laws.proofs.SettlingLemmas.{behind_first, first_one, first_or_behind}
 use Rattle.run_base.specs.Reading.{nothing, seen_of}
 use Rattle.run_base.proofs.Values as values
+use Rattle.tor_output.specs.Resuming.{IsOfDumps}
 use Rattle.tor_output.proofs.TableRows.{eq_true}
 use Rattle.run_laws.specs.AnyOrder.{AnyDumpOrderLaw}
-use Rattle.run_laws.specs.Growing.{IsOfOctets}
 use Rattle.run_laws.proofs.GrowingRuns.{rows_paths}
 
 -- ---- distinct paths
@@ -122,13 +122,13 @@ taken_of law sets d before old new (octets ∷ dumps) so_far e =
         let taken = subst (λ (o : List ℕ). IsTakenOf sets (routes_in_files (before ++ o ∷ [])) further) (sym (same_Some octets more.octets more.there)) more.taken in
         subst (λ ds. IsTakenOf sets (routes_in_files ds) new) (append_assoc before (octets ∷ []) dumps) (rest further taken e)
 
-paths_of_octets : DumpLaw → (file : ResultFile) (dumps : List (List ℕ)) → IsOfOctets file dumps → its_paths file ≡ distinct_paths (paths_in file.sets dumps)
+paths_of_octets : DumpLaw → (file : ResultFile) (dumps : List (List ℕ)) → IsOfDumps file dumps → its_paths file ≡ distinct_paths (paths_in file.sets dumps)
 paths_of_octets law file dumps (taken, gives, rows, counts) =
     let start = law.first file.sets (nothing max_paths) (record { rows = refl; counts = refl }) in
     let all = taken_of law file.sets 1 [] (nothing max_paths) taken dumps start gives in
     sym (rows_paths file.paths) ∙ ap row_paths (sym rows ∙ all.rows) ∙ counted_paths (times (paths_in file.sets dumps)) (distinct_paths (paths_in file.sets dumps))
 
-paths_there : DumpLaw → (file other : ResultFile) (dumps dumps' : List (List ℕ)) → IsOfOctets file dumps → IsOfOctets other dumps' → other.sets ≡ file.sets →
+paths_there : DumpLaw → (file other : ResultFile) (dumps dumps' : List (List ℕ)) → IsOfDumps file dumps → IsOfDumps other dumps' → other.sets ≡ file.sets →
     ((octets : List ℕ) → Contains dumps octets → Contains dumps' octets) → (path : List ℕ) → Contains (its_paths file) path → Contains (its_paths other) path
 paths_there law file other dumps dumps' of of' sets sub path c =
     let here = distinct_there (paths_in file.sets dumps) path (subst (λ ps. Contains ps path) (paths_of_octets law file dumps of) c) in

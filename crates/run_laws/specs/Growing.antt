@@ -1,15 +1,12 @@
 -- What a result has decided stays so, whatever dumps are added.
-use Rattle.std.specs.Prelude.{◌≡◌, ℕ, List, ◌++◌, map, Option, Some, Ok}
-use Rattle.tor_arena.specs.Limits.{max_paths}
+use Rattle.std.specs.Prelude.{◌≡◌, ℕ, List, ◌++◌, Option, Some, Ok}
 use Rattle.tor_io.specs.Contents.{Files}
 use Rattle.dump_read.specs.declared.taking.Taken.{Taken}
 use Rattle.relationships.specs.declared.given.Given.{Given}
 use Rattle.result_text.specs.declared.file.ResultFile.{ResultFile}
 use Rattle.result_rules.specs.File.{its_givens}
-use Rattle.result_rules.specs.Against.{its_rows}
 use Rattle.result_rules.specs.Rules.{Accepts}
 use Rattle.result_laws.specs.Growing.{StaysDecided}
-use Rattle.run_base.specs.Reading.{nothing, seen_of}
 use Rattle.tor_words.specs.declared.settings.Settings.{Settings}
 use Rattle.tor_words.specs.Given.{settings_given}
 use Rattle.tor_output.specs.Output.{Faithful, IsResumed}
@@ -23,23 +20,12 @@ ResumedStaysLaw =
     settings_given words ≡ Some settings → ComesTo settings files (Joins earlier taken) → IsResumed settings earlier taken file →
     StaysDecided earlier file
 
--- the paths of the result with their times, and its counts, are what dumps of these octets give, read with its sets
-abbrev pub IsOfOctets : ResultFile → List (List ℕ) → Type 0
-IsOfOctets file dumps = (taken : Taken) × (seen_of file.sets 1 (nothing max_paths) dumps ≡ Ok taken) ×
-    (taken.table.rows ≡ its_rows file) × (taken.counts ≡ file.asides)
-
--- a result of dumps is of the octets that these have
-abbrev pub OctetsLaw : Type 0
-OctetsLaw =
-    (file : ResultFile) (names : List (List ℕ)) (files : Files) → IsOfDumps file names files →
-    (dumps : List (List ℕ)) × (map files names ≡ map Some dumps) × IsOfOctets file dumps
-
--- and so it stays where a result is of the dumps of an earlier one and then of others, with its sets and its givens, whether it was made of
+-- and so it stays where a result is of the octets of an earlier one's dumps and then of others, with its sets and its givens, whether it was made of
 -- all of them in one run or not
 abbrev pub AddedStaysLaw : Type 0
 AddedStaysLaw =
-    (dumps more : List (List ℕ)) (earlier later : ResultFile) → Accepts earlier → Accepts later → IsOfOctets earlier dumps →
-    IsOfOctets later (dumps ++ more) → later.sets ≡ earlier.sets → its_givens later ≡ its_givens earlier → StaysDecided earlier later
+    (dumps more : List (List ℕ)) (earlier later : ResultFile) → Accepts earlier → Accepts later → IsOfDumps earlier dumps →
+    IsOfDumps later (dumps ++ more) → later.sets ≡ earlier.sets → its_givens later ≡ its_givens earlier → StaysDecided earlier later
 
 -- there is always a result: some is faithful to what is known and to what dumps or a sample gave
 abbrev pub SomeFaithfulLaw : Type 0

@@ -7,7 +7,7 @@ ghost use Rattle.tor_output.specs.SeenLaw.{DumpsLaw, SeenLaw, DumpsReadableLaw, 
 ghost use Rattle.run_laws.specs.AcceptedGrading.{AcceptedGradingLaw};
 ghost use Rattle.run_laws.specs.Agreement.{AgreementLaw, MigrateLaw, OneSummaryLaw};
 ghost use Rattle.run_laws.specs.AnyOrder.{AnyDumpOrderLaw};
-ghost use Rattle.run_laws.specs.Growing.{ResumedStaysLaw, OctetsLaw, AddedStaysLaw, SomeFaithfulLaw};
+ghost use Rattle.run_laws.specs.Growing.{ResumedStaysLaw, AddedStaysLaw, SomeFaithfulLaw};
 ghost use Rattle.run_laws.specs.ResumeLaws.{OfDumpsLaw, ResumeLaw, InPartsLaw, ResumedAcceptanceLaw};
 ghost use Rattle.run_laws.specs.SelfGrading.{SelfGradingLaw};
 
@@ -115,7 +115,6 @@ pub fn resume_law()
 /// Of the dumps only their octets count.
 pub fn growing_law()
     ensures resumed { ResumedStaysLaw }
-    ensures octets { OctetsLaw }
     ensures added { AddedStaysLaw }
 {
     bounds_law();

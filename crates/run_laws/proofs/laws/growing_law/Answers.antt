@@ -4,8 +4,5 @@ use Rattle.run_laws.proofs.laws.growing_law.Goals as goal
 pub returns-clause-resumed : goal.returns-clause-resumed
 returns-clause-resumed c = lemmas.resumed_stays_law c.bounds_law.ensures c.self_acceptance_law.ensures c.forced_stays_law.ensures
 
-pub returns-clause-octets : goal.returns-clause-octets
-returns-clause-octets c = lemmas.octets_law
-
 pub returns-clause-added : goal.returns-clause-added
 returns-clause-added c = lemmas.added_stays_law c.forced_stays_law.ensures
