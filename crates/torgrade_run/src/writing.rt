@@ -7,7 +7,7 @@ ghost use Rattle.run_base.specs.Answers.{note_in};
 ghost use Rattle.run_base.specs.Frames.{RunLeavesOut};
 ghost use Rattle.run_base.specs.Notes.{plain_note};
 ghost use Rattle.torgrade_run.specs.GradeText.{grade_line, graded_lines, grades_of, grades_text, totals_of, totals_line, cone_text};
-ghost use Rattle.torgrade_run.specs.Ungrading.{text_of};
+ghost use Rattle.torgrade_run.specs.Grading.{text_of};
 
 use crate::asking::Graded;
 use crate::cones::Cone;
