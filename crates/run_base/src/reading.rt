@@ -92,7 +92,7 @@ pub fn read_onto<H: Shelf>(
     sets: Sets,
     start: Taken,
 ) -> Result<Taken, Stopped>
-    ensures reads { ReadsDumps H.Shelf sets dumps.now start result shelf.old shelf.new }
+    ensures { ReadsDumps H.Shelf sets dumps.now start result shelf.old shelf.new }
 {
     let mut taken = start;
     match read_dumps(alloc, shelf, dumps, sets, &mut taken) {

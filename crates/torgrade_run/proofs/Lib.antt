@@ -1,4 +1,4 @@
-mod Asking
+mod Stops
 pub mod Comings
 pub mod GradeLines
 mod Vectors

@@ -21,7 +21,7 @@ fn answer_in<H: Shelf, O: Sink>(
     out: &mut O,
 ) -> Answer
     requires named { 0 < length settings.now.dumps }
-    ensures ends { EndsIn grading settings.now H.Shelf O.Sink result.status (note_in result) shelf.old shelf.new out.old out.new }
+    ensures { EndsIn grading settings.now H.Shelf O.Sink result.status (note_in result) shelf.old shelf.new out.old out.new }
 {
     match graded_of(alloc, keys, settings, shelf) {
         Ok(graded) => write_graded(alloc, &graded, out),
@@ -37,7 +37,7 @@ fn answer<H: Shelf, O: Sink>(
     shelf: &mut H,
     out: &mut O,
 ) -> Answer
-    ensures ends { RunEnds grading words.now H.Shelf O.Sink result.status (note_in result) shelf.old shelf.new out.old out.new }
+    ensures { RunEnds grading words.now H.Shelf O.Sink result.status (note_in result) shelf.old shelf.new out.old out.new }
 {
     match grade_settings_of(alloc, words) {
         Ok(settings) => answer_in(alloc, keys, &settings, shelf, out),

@@ -3,10 +3,10 @@ use Rattle.run_base.proofs.Endings.{refused_words}
 use Rattle.torgrade_run.specs.Grading.{grading}
 use Rattle.torgrade_run.proofs.grading.answer.Goals as goal
 
-pub returns-in-Ok-clause-ends : goal.returns-in-Ok-clause-ends
-returns-in-Ok-clause-ends g c = inr (c.in-Ok.settings, c.in-Ok.ensures.given, c.answer_in.ensures)
+pub returns-in-Ok : goal.returns-in-Ok
+returns-in-Ok g c = inr (c.in-Ok.settings, c.in-Ok.ensures.given, c.answer_in.ensures)
 
-pub returns-in-Err-clause-ends : goal.returns-in-Err-clause-ends
-returns-in-Err-clause-ends g c =
+pub returns-in-Err : goal.returns-in-Err
+returns-in-Err g c =
     refused_words grading c.args.words.now g.H.Shelf g.O.Sink c.in-Err.refused c.answer_of_words.result c.args.shelf.now c.args.out.now
     c.in-Err.ensures.refused c.in-Err.ensures.text c.answer_of_words.ensures

@@ -3,9 +3,9 @@ use Rattle.torgrade_run.specs.Grading.{grading}
 use Rattle.torgrade_run.proofs.Comings.{one_outcome}
 use Rattle.torgrade_run.proofs.grading.grade.Goals as goal
 
-pub returns-clause-promises : goal.returns-clause-promises
-returns-clause-promises g c =
+pub returns : goal.returns
+returns g c =
     let n = c.note_answer in
     let a = c.answer-answer in
-    kept grading c.args.words.now g.H.Shelf g.O.Sink g.E.Sink a.result n.result c.args.shelf.now a.new.shelf c.args.out.now a.new.out c.args.err.now n.new.err
-    one_outcome a.ensures n.ensures.status n.ensures.noted n.ensures.later
+    record { promises = kept grading c.args.words.now g.H.Shelf g.O.Sink g.E.Sink a.result n.result c.args.shelf.now a.new.shelf c.args.out.now a.new.out c.args.err.now n.new.err
+    one_outcome a.ensures n.ensures.status n.ensures.noted n.ensures.later; }
