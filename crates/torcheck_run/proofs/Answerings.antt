@@ -5,7 +5,7 @@ use Rattle.std.specs.Io.KnownBytes.{IsAtEnd}
 use Rattle.tor_io.specs.Contents.{Files}
 use Rattle.result_text.specs.declared.file.ResultFile.{ResultFile}
 use Rattle.run_base.specs.declared.whole_file.Unread.TheVariants as unread
-use Rattle.torcheck_run.specs.Ruled.{HasOctets}
+use Rattle.result_file.specs.Ruled.{HasOctets}
 use Rattle.torcheck_run.specs.declared.unsaid.Unsaid.{Unsaid}
 use Rattle.torcheck_run.specs.declared.unsaid.Unsaid.TheVariants as unsaid
 use Rattle.torcheck_run.specs.Asking.{Asking, AnswersIn, Says, Gives, GivesIn}

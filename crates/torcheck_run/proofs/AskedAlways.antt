@@ -8,7 +8,7 @@ use Rattle.run_base.specs.declared.status.Status.{Status}
 use Rattle.run_base.specs.declared.status.Status.TheVariants as status
 use Rattle.run_base.proofs.Statuses.{Asks, IsOfText}
 use Rattle.run_base.proofs.Statuses as statuses
-use Rattle.torcheck_run.proofs.Comings.{OneValue}
+use Rattle.result_file.proofs.OneRuling.{OneValue}
 use Rattle.torcheck_run.specs.Asking.{Asking, Outcome, NoResult, TooLong, Breaks, Lacks, Says, Gives}
 use Rattle.torcheck_run.specs.Saying.{GainsAnswer, GainsAnswerPrefix, IsNo, IsSayingNote}
 use Rattle.torcheck_run.proofs.AskedComings.{NotBoth, one_status, status_for}

@@ -9,7 +9,7 @@ use Rattle.run_base.specs.declared.whole_file.Unread.TheVariants as unread
 use Rattle.run_base.specs.Answers.{IsNoMemory}
 use Rattle.run_base.specs.Notes.{read_fault_note}
 use Rattle.run_base.proofs.Notings.{answer_not, no_memory_not}
-use Rattle.torcheck_run.specs.CheckAnswer.{no_text}
+use Rattle.result_file.specs.VerdictText.{no_text}
 use Rattle.torcheck_run.specs.declared.unsaid.Unsaid.{Unsaid}
 use Rattle.torcheck_run.specs.declared.unsaid.Unsaid.TheVariants as unsaid
 use Rattle.torcheck_run.specs.Asking.{Asking, LeavesRestOf}

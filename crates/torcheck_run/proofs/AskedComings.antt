@@ -8,10 +8,9 @@ use Rattle.run_base.specs.declared.status.Status.{Status}
 use Rattle.run_base.specs.declared.status.Status.TheVariants as status
 use Rattle.run_base.specs.WholeFile.{IsLongFile}
 use Rattle.run_base.proofs.Values as values
-use Rattle.torcheck_run.specs.Judging.{BreaksRule}
-use Rattle.torcheck_run.specs.Limits.{max_result}
-use Rattle.torcheck_run.specs.Ruled.{HasOctets}
-use Rattle.torcheck_run.proofs.Comings.{OneValue, none_broken, same_file}
+use Rattle.result_file.specs.Ruled.{BreaksRule, HasOctets}
+use Rattle.result_file.specs.Limits.{max_result}
+use Rattle.result_file.proofs.OneRuling.{OneValue, none_broken, same_file}
 use Rattle.torcheck_run.specs.Asking.{Asking, AnswersIn, Outcome, NoResult, TooLong, Breaks, Lacks, Says, Gives, GivesIn}
 
 -- the status that an outcome asks for

@@ -11,7 +11,7 @@ use Rattle.run_base.specs.Opening.{Named, FilesEnd, AllRead, EndedAt, EndsSo, Op
 use Rattle.run_base.proofs.Openings.{first_opened, no_ends, none_opened, opens_weaker, refusal_ends, unread_ends}
 use Rattle.torcheck_run.specs.declared.unsaid.Unsaid.{Unsaid}
 use Rattle.torcheck_run.specs.declared.unsaid.Unsaid.TheVariants as unsaid
-use Rattle.torcheck_run.specs.CheckAnswer.{no_text}
+use Rattle.result_file.specs.VerdictText.{no_text}
 use Rattle.torcheck_run.specs.Asking.{Asking}
 use Rattle.torcheck_run.specs.AskedOpening.{UnsaidEnds, files_asked}
 use Rattle.torcheck_run.specs.Unsaying.{AnswersUnsaid, IsOfAskingWords}

@@ -10,7 +10,8 @@ use Rattle.run_base.specs.declared.status.Status.TheVariants as status
 use Rattle.run_base.specs.declared.whole_file.Unread.TheVariants as unread
 use Rattle.run_base.specs.Answers.{AnswersWith, IsNoMemory, note_in, note_text}
 use Rattle.run_base.specs.Notes.{read_fault_note}
-use Rattle.torcheck_run.specs.CheckAnswer.{no_text, result_note}
+use Rattle.result_file.specs.VerdictText.{no_text}
+use Rattle.result_file.specs.Limits.{result_note}
 use Rattle.torcheck_run.specs.declared.unsaid.Unsaid.{Unsaid}
 use Rattle.torcheck_run.specs.declared.unsaid.Unsaid.TheVariants as unsaid
 use Rattle.torcheck_run.specs.Asking.{Asking}

@@ -4,9 +4,8 @@ use Rattle.tor_io.specs.Contents.{Files}
 use Rattle.result_text.specs.declared.file.ResultFile.{ResultFile}
 use Rattle.result_rules.specs.declared.verdict.Verdict.TheVariants.{No}
 use Rattle.run_base.specs.WholeFile.{IsLongFile, LeavesRest}
-use Rattle.torcheck_run.specs.Judging.{BreaksRule, IsAccepted}
-use Rattle.torcheck_run.specs.Limits.{max_result}
-use Rattle.torcheck_run.specs.Ruled.{HasOctets}
+use Rattle.result_file.specs.Ruled.{BreaksRule, IsAccepted, HasOctets}
+use Rattle.result_file.specs.Limits.{max_result}
 
 -- what a program asks: the settings that its words give, the name of the result file that they have, what answers of a result that meets
 -- the rules 0 to 10, which is a text or that it isn't there, and the note where it isn't

@@ -7,8 +7,8 @@ use Rattle.run_base.specs.declared.status.Status.{Status}
 use Rattle.run_base.specs.declared.status.Status.TheVariants as status
 use Rattle.run_base.specs.Notes.{plain_note, read_fault_note}
 use Rattle.run_base.specs.WholeFile.{LeavesOnly}
-use Rattle.torcheck_run.specs.CheckAnswer.{no_text, result_note}
-use Rattle.torcheck_run.specs.Limits.{max_result}
+use Rattle.result_file.specs.VerdictText.{no_text}
+use Rattle.result_file.specs.Limits.{result_note, max_result}
 use Rattle.torcheck_run.specs.Asking.{Asking, NoResult, TooLong, Breaks, Lacks, Says, Gives}
 
 -- ---- out

@@ -13,10 +13,9 @@ use Rattle.run_base.specs.declared.status.Status.TheVariants as status
 use Rattle.run_base.specs.declared.whole_file.Unread.TheVariants as unread
 use Rattle.run_base.specs.Answers.{Answers, AnswersUnread, AnswersWith, note_in}
 use Rattle.run_base.specs.WholeFile.{IsLongFile, LeavesRest, LeavesOnly}
-use Rattle.torcheck_run.specs.CheckAnswer.{no_text}
-use Rattle.torcheck_run.specs.Judging.{BreaksRule, IsAccepted}
-use Rattle.torcheck_run.specs.Limits.{max_result}
-use Rattle.torcheck_run.specs.Ruled.{HasOctets}
+use Rattle.result_file.specs.VerdictText.{no_text}
+use Rattle.result_file.specs.Ruled.{BreaksRule, IsAccepted, HasOctets}
+use Rattle.result_file.specs.Limits.{max_result}
 use Rattle.torcheck_run.specs.declared.unsaid.Unsaid.{Unsaid}
 use Rattle.torcheck_run.specs.declared.unsaid.Unsaid.TheVariants as unsaid
 use Rattle.torcheck_run.specs.Asking.{Asking, NoResult, TooLong, Breaks, Lacks, GivesIn}

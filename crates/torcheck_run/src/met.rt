@@ -4,8 +4,8 @@ ghost use Rattle.std.specs.Io.KnownBytes.{IsAtEnd};
 ghost use Rattle.run_base.specs.Frames.{ReadsShelf};
 ghost use Rattle.torcheck_run.specs.Unsaying.{IsMet, IsUnmet, IsUnmetInReach, IsFailedRead};
 
-use crate::ruling::{Ruling, ruling_of_file};
 use crate::unsaid::Unsaid;
+use result_file::{Ruling, ruling_of_file};
 use result_text::ResultFile;
 use std::alloc::Global;
 use tor_arena::Keys;

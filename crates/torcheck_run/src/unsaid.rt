@@ -1,7 +1,7 @@
 //! Why there is no text to write, and the answer then.
 ghost use Rattle.torcheck_run.specs.Unsaying.{AnswersUnsaid};
 
-use crate::verdicts::verdict_text;
+use result_file::verdict_text;
 use result_rules::Verdict;
 use run_base::{Answer, FirstFile, Note, Refusal, Status, Unread, answer_to, answer_to_unread};
 use std::alloc::Global;

@@ -4,7 +4,7 @@ use Rattle.std.proofs.lemmas.List.{append-nil}
 use Rattle.tor_io.specs.Contents.{Files, Opens}
 use Rattle.result_text.specs.declared.taking.Parser.{Parser}
 use Rattle.result_text.specs.Taking.{HasTaken, Takes}
-use Rattle.torcheck_run.specs.FileText.{IsRead, AreLeft, AreOf}
+use Rattle.result_file.specs.FileText.{IsRead, AreLeft, AreOf}
 
 -- no part changes what was taken
 pub takes_none : (p : Parser) → Takes p p []

@@ -7,8 +7,8 @@ ghost use Rattle.tor_io.specs.Contents.{LacksFile};
 ghost use Rattle.run_base.specs.WholeFile.{IsLong, IsLongFile, LeavesRest, LeavesOnly, IsRestOf};
 ghost use Rattle.result_text.specs.Grammar.{IsTextOf};
 ghost use Rattle.result_text.specs.Taking.{HasTaken, Takes};
-ghost use Rattle.torcheck_run.specs.FileText.{IsRead, AreLeft, AreOf, IsRefusal, IsNoText, IsBad};
-ghost use Rattle.torcheck_run.specs.declared.reading.NoResult.TheVariants.{Unread as unread};
+ghost use Rattle.result_file.specs.FileText.{IsRead, AreLeft, AreOf, IsRefusal, IsNoText, IsBad};
+ghost use Rattle.result_file.specs.declared.reading.NoResult.TheVariants.{Unread as unread};
 
 use result_text::{ParseError, Parser, ResultFile};
 use run_base::{STEP, Unread, read_prefix};

@@ -3,8 +3,8 @@ use Rattle.std.specs.Prelude.{◌≡◌, ℕ, ◌≤◌, List, length, Option, S
 use Rattle.tor_io.specs.Contents.{Files}
 use Rattle.result_text.specs.Grammar.{IsBadLine}
 use Rattle.run_base.specs.declared.whole_file.Unread.TheVariants as reasons
-use Rattle.torcheck_run.specs.declared.reading.NoResult.{NoResult}
-use Rattle.torcheck_run.specs.declared.reading.NoResult.TheVariants as errors
+use Rattle.result_file.specs.declared.reading.NoResult.{NoResult}
+use Rattle.result_file.specs.declared.reading.NoResult.TheVariants as errors
 
 -- octets, at most so many, that stand there, and of which this is true
 pub record IsRead (most : ℕ) (Stand Such : List ℕ → Type 0) : Type 0 where

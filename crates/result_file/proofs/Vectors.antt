@@ -2,7 +2,7 @@
 use Rattle.std.proofs.Common.{◌≡◌, codes, refl}
 use Rattle.std.specs.Fmt.{digits}
 use Rattle.result_rules.specs.declared.verdict.Verdict.TheVariants.{Yes, No}
-use Rattle.torcheck_run.specs.CheckAnswer.{verdict_text}
+use Rattle.result_file.specs.VerdictText.{verdict_text}
 
 verdict_text-yes : verdict_text Yes ≡ codes "yes\n"
 verdict_text-yes = refl

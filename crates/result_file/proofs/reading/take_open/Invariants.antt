@@ -1,7 +1,7 @@
 use Rattle.std.proofs.Common.{◌≡◌, ◌≤◌, ◌-◌, ◌+◌, ℕ, List, length, vec_len}
 use Rattle.std.specs.Io.KnownBytes.{prepend_known}
 use Rattle.result_text.specs.Taking.{Takes}
-use Rattle.torcheck_run.proofs.reading.take_open.Given as goal
+use Rattle.result_file.proofs.reading.take_open.Given as goal
 
 -- the octets that were taken stood before what is left, and no call on the shelf failed
 abbrev pub invariant-parts : goal.invariant-parts

@@ -2,8 +2,8 @@ use Rattle.std.proofs.Common.{◌≡◌, ◌++◌, ℕ, List, length, take, drop
 use Rattle.std.proofs.lemmas.List.{length-append, length-take, length-take-le, take_at}
 use Rattle.run_base.proofs.Gathered.{gathered_more, gathered_some}
 use Rattle.result_text.specs.Taking.{Takes}
-use Rattle.torcheck_run.proofs.Takings.{takes_more}
-use Rattle.torcheck_run.proofs.reading.take_open.Goals as goal
+use Rattle.result_file.proofs.Takings.{takes_more}
+use Rattle.result_file.proofs.reading.take_open.Goals as goal
 
 pub parts-preserved : goal.parts-preserved
 parts-preserved g c =

@@ -7,7 +7,7 @@ use Rattle.result_text.specs.declared.line.Line.TheVariants as line
 use Rattle.result_text.specs.declared.line.Version.{Version}
 use Rattle.result_text.specs.Grammar.{IsTextOf}
 use Rattle.result_text.specs.Text.{version_of, its_givens, fields, fields_of, line_text, text_of_lines, head_lines, body_lines, lines_of}
-use Rattle.torcheck_run.specs.Limits.{max_result}
+use Rattle.result_file.specs.Limits.{max_result}
 
 line_has_some : (v : Version) (l : Line) → 1 ≤ length (line_text v l)
 unfolding line_text

@@ -6,8 +6,8 @@ ghost use Rattle.result_rules.specs.Judging.{Judges};
 ghost use Rattle.run_base.specs.Frames.{ReadsShelf};
 ghost use Rattle.run_base.specs.WholeFile.{LeavesRest, LeavesOnly};
 ghost use Rattle.run_base.specs.declared.whole_file.Unread.TheVariants.{Failed as failed};
-ghost use Rattle.torcheck_run.specs.Ruled.{IsRulingOf, IsRulingIn, IsOfFewLines, IsUnruled};
-ghost use Rattle.torcheck_run.specs.Limits.{max_result};
+ghost use Rattle.result_file.specs.Ruled.{IsRulingOf, IsRulingIn, IsOfFewLines, IsUnruled};
+ghost use Rattle.result_file.specs.Limits.{max_result};
 
 use crate::reading::{NoResult, read_result};
 use rel_checker::check_file;

@@ -1,5 +1,5 @@
-use Rattle.torcheck_run.proofs.FewLines.{few_lines}
-use Rattle.torcheck_run.proofs.ruling.ruling_of_file.Goals as goal
+use Rattle.result_file.proofs.FewLines.{few_lines}
+use Rattle.result_file.proofs.ruling.ruling_of_file.Goals as goal
 
 pub ruling_of-requires : goal.ruling_of-requires
 ruling_of-requires g c =

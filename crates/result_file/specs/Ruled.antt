@@ -1,17 +1,31 @@
 -- What the rules 0 to 10 say of a result file.
-use Rattle.std.specs.Prelude.{◌≡◌, ◌≤◌, ℕ, List, length, Option, None, Some, IfSome}
+use Rattle.std.specs.Prelude.{◌≡◌, ◌≤◌, ◌⊎◌, ℕ, List, length, Option, None, Some, IfSome}
 use Rattle.tor_io.specs.Contents.{Files}
 use Rattle.result_text.specs.declared.file.ResultFile.{ResultFile}
-use Rattle.result_rules.specs.declared.verdict.Verdict.TheVariants.{No}
+use Rattle.result_text.specs.Grammar.{IsTextOf, IsBadLine}
+use Rattle.result_rules.specs.declared.verdict.Verdict.{Verdict}
+use Rattle.result_rules.specs.declared.verdict.Verdict.TheVariants.{Yes, No}
 use Rattle.result_rules.specs.File.{HasFewLines}
 use Rattle.result_rules.specs.Rules.{Accepts, IsRefused}
 use Rattle.run_base.specs.declared.whole_file.Unread.{Unread}
 use Rattle.run_base.specs.declared.whole_file.Unread.TheVariants as unread
 use Rattle.run_base.specs.WholeFile.{IsLongFile}
-use Rattle.torcheck_run.specs.declared.ruling.Ruling.{Ruling}
-use Rattle.torcheck_run.specs.declared.ruling.Ruling.TheVariants as ruling
-use Rattle.torcheck_run.specs.Judging.{BreaksRule, IsAccepted}
-use Rattle.torcheck_run.specs.Limits.{max_result}
+use Rattle.result_file.specs.declared.ruling.Ruling.{Ruling}
+use Rattle.result_file.specs.declared.ruling.Ruling.TheVariants as ruling
+use Rattle.result_file.specs.Limits.{max_result}
+
+-- ---- the octets alone
+
+-- they are the text of this result, which meets the rules 1 to 10
+pub record IsAccepted (file : ResultFile) (bytes : List ℕ) : Type 0 where
+  pub text : IsTextOf file bytes
+  pub rules : Accepts file
+
+-- rule 0 says that they are a text. The least rule that is broken, and its first line
+abbrev pub BreaksRule : List ℕ → Verdict → Type 0
+BreaksRule bytes Yes = ⊥
+BreaksRule bytes (No line rule) =
+    ((rule ≡ 0) × IsBadLine line bytes) ⊎ ((file : ResultFile) × IsTextOf file bytes × IsRefused file line rule)
 
 -- the ruling is that of the rules 1 to 10 on this result
 abbrev pub IsRulingOf : ResultFile → Ruling → Type 0

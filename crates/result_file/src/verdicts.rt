@@ -1,9 +1,8 @@
-//! What a verdict writes, and the status of a run that has written it.
-ghost use Rattle.std.specs.Prelude.{◌≡◌, ◌≢◌, IfOk, string_bytes};
-ghost use Rattle.torcheck_run.specs.CheckAnswer.{verdict_text, no_text, status_of};
+//! The text of a verdict.
+ghost use Rattle.std.specs.Prelude.{◌≡◌, IfOk, string_bytes};
+ghost use Rattle.result_file.specs.VerdictText.{verdict_text, no_text};
 
 use result_rules::Verdict;
-use run_base::Status;
 use std::alloc::{AllocError, Global};
 
 /// The text of a verdict, as a line. The only error is that memory ran out.
@@ -26,17 +25,5 @@ fn no_text(alloc: Global, line: u64, rule: u8) -> Result<String, AllocError>
             drop(text);
             Err(error)
         }
-    }
-}
-
-/// The status of a run that has written this verdict.
-pub(crate) fn status_of(verdict: Verdict) -> Status
-    ensures status { result ≡ status_of verdict }
-    ensures whole { result ≢ Status.WriteFault }
-    ensures known { result ≢ Status.NoMemory }
-{
-    match verdict {
-        Verdict::Yes => Status::Done,
-        Verdict::No { .. } => Status::No,
     }
 }
