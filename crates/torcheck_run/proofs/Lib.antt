@@ -1,13 +1,7 @@
 pub mod Always
-pub mod Answerings
-pub mod AskedAlways
-pub mod AskedBounds
-pub mod AskedComings
-pub mod AskedOpenings
 pub mod Bounds
 pub mod Comings
 pub mod Judgings
 pub mod Openings
 pub mod Reaching
 pub mod Unjudgings
-pub mod Unsayings

@@ -1,9 +1,5 @@
-pub mod AskedOpening
-pub mod Asking
 pub mod CheckAnswer
 pub mod Judging
 pub mod Opening
 pub mod Reach
-pub mod Saying
 pub mod Unjudging
-pub mod Unsaying
