@@ -19,6 +19,7 @@ use Rattle.result_file.specs.Ruled.{IsAccepted}
 use Rattle.torcheck_run.specs.Judging.{IsVerdict, JudgesByDumps, seen_for, Outcome, Judged, NoResult, TooLong, Ends, IsResult, SettingsGive, WordsGive, IsVouched}
 use Rattle.run_base.specs.WholeFile.{IsLongFile}
 use Rattle.run_base.proofs.Values as values
+use Rattle.result_file.proofs.OneRuling.{OneValue, none_broken, one_broken, same_file}
 use Rattle.torcheck_run.specs.CheckAnswer.{KnownFilesGive, status_of}
 use Rattle.result_file.specs.Limits.{max_result}
 

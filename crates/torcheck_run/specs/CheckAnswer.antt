@@ -15,8 +15,9 @@ use Rattle.tor_words.specs.CheckGiven.{check_settings_given}
 use Rattle.run_base.specs.declared.status.Status.{Status}
 use Rattle.run_base.specs.declared.status.Status.TheVariants as status
 use Rattle.run_base.specs.Notes.{malformed_note, limit_note, read_fault_note, plain_note}
-use Rattle.result_file.specs.Limits.{max_result}
 use Rattle.torcheck_run.specs.Judging.{Outcome, Judged, NoResult, TooLong, Ends, WordsGive, IsResult, seen_for}
+use Rattle.result_file.specs.Limits.{max_result, result_note}
+use Rattle.result_file.specs.VerdictText.{verdict_text}
 use Rattle.result_file.specs.Ruled.{IsAccepted}
 use Rattle.run_base.specs.WholeFile.{LeavesOnly}
 

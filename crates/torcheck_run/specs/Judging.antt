@@ -13,6 +13,7 @@ use Rattle.tor_words.specs.declared.check_settings.CheckSettings.{CheckSettings}
 use Rattle.tor_words.specs.CheckGiven.{check_settings_given}
 use Rattle.run_base.specs.Reading.{nothing, seen_from}
 use Rattle.result_file.specs.Limits.{max_result}
+use Rattle.result_file.specs.Ruled.{BreaksRule, IsAccepted}
 use Rattle.tor_arena.specs.Limits.{max_paths}
 use Rattle.run_base.specs.WholeFile.{IsFile, IsLongFile, LeavesRest, LeavesOnly}
 
